@@ -1,0 +1,8 @@
+/// A piece between line feeds. Lines are numbered from 1, and `whole` says that a line feed ended it.
+#[derive(Clone, Copy, Debug)]
+pub struct Line {
+    pub number: u32,
+    pub start: usize,
+    pub end: usize,
+    pub whole: bool,
+}
