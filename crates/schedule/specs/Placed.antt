@@ -1,0 +1,34 @@
+-- Placements: sets of pairs of a chunk and a node that holds it (Cai et al., PPoPP 2021, section on collectives).
+use Rattle.std.specs.Prelude.{◌≡◌, ◌==◌, ◌&&◌, ◌||◌, ℕ, Bool, List, [], map, filter}
+use Rattle.std.specs.List.{list_any, flat_map, range_with_len}
+
+-- how many chunks and nodes there are, and the pairs, ascending and each once
+pub record PlacementValue : Type 0 where
+  pub chunks : ℕ
+  pub nodes : ℕ
+  pub pairs : List (ℕ × ℕ)
+
+abbrev pub same_pair : ℕ × ℕ → ℕ × ℕ → Bool
+same_pair a b = a.0 == b.0 && a.1 == b.1
+
+-- the node has the chunk
+abbrev pub holds : PlacementValue → ℕ × ℕ → Bool
+holds p pair = list_any (same_pair pair) p.pairs
+
+-- every pair, by chunk and then by node
+abbrev pub all_pairs : ℕ → ℕ → List (ℕ × ℕ)
+all_pairs chunks nodes = flat_map (λ chunk. map (λ node. (chunk, node)) (range_with_len 0 nodes)) (range_with_len 0 chunks)
+
+-- the placement of the pairs that pass a test
+abbrev pub placed : ℕ → ℕ → (ℕ × ℕ → Bool) → PlacementValue
+placed chunks nodes test = record { chunks = chunks; nodes = nodes; pairs = filter test (all_pairs chunks nodes) }
+
+-- a placement is the set of its own pairs, each in range
+abbrev pub IsPlacement : PlacementValue → Type 0
+IsPlacement p = p ≡ placed p.chunks p.nodes (holds p)
+
+abbrev pub empty_placement : ℕ → ℕ → PlacementValue
+empty_placement chunks nodes = record { chunks = chunks; nodes = nodes; pairs = [] }
+
+abbrev pub with_pair : PlacementValue → ℕ × ℕ → PlacementValue
+with_pair p pair = placed p.chunks p.nodes (λ other. same_pair pair other || holds p other)
