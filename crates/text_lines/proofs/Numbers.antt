@@ -2,6 +2,7 @@
 use Rattle.std.proofs.Common.{◌≡◌, ◌≢◌, ℕ, zero, suc, ◌+◌, ◌-◌, ◌*◌, ◌^◌, ◌<◌, ◌≤◌, Bool, true, false, ◌&&◌, ◌⊎◌, cond, leb, List, length, get_or, take, Option, None, Some, refl, sym, ap, ◌∙◌, subst, inl, inr, arith}
 use Rattle.std.specs.Prelude.{decimal, bytes_eq, IfSome, IfNone}
 use Rattle.std.specs.Char.{digit_value}
+use Rattle.std.specs.Int.{IsInRange}
 use Rattle.std.specs.Str.Parse.{AllDigits, digits_value}
 use Rattle.std.proofs.lemmas.Bool.{and_parts, and_from, and_left, and_right, leb-true, le-leb, lt-leb, cases_Bool, cases_lt, cond-true, cond-false, false_from_ne_true}
 use Rattle.std.proofs.lemmas.Bool.Decides.{nat_tests}
@@ -41,10 +42,28 @@ large_not token i value n small h read low high large e =
     let all : digits_value 10 token ≡ n = ap (digits_value 10) e ∙ value_of_decimal n small in
     omega arith
 
+-- the next byte is no digit, or the number with it doesn't fit
+pub next_not : (token : List ℕ) (i value byte n : ℕ) → i < length token → value ≡ digits_value 10 (take i token) → byte ≡ get_or token i 0 → (digit_value byte < 10 → 2 ^ 64 ≤ value * 10 + digit_value byte) → n < 2 ^ 64 → token ≢ decimal n
+next_not token i value byte n h read here fails small e =
+    let more = digits_value_more 10 token i h in
+    let digit : IsInRange 48 57 (get_or (decimal n) i 0) = digit_at (decimal n) i (decimal_is_IsNumeral n small).0.1 (omega (arith, ap length e)) in
+    let same : byte ≡ get_or (decimal n) i 0 = here ∙ ap (λ t. get_or t i 0) e in
+    let is_digit = digit_is byte (omega arith) (omega arith) in
+    let large = fails (omega arith) in
+    let part = digits_value-take-le 10 token (i + 1) (omega arith) in
+    let all : digits_value 10 token ≡ n = ap (digits_value 10) e ∙ value_of_decimal n small in
+    let as_read : digit_value byte ≡ digit_value (get_or token i 0) = ap digit_value here in
+    omega arith
+
 pub greater_not : (token : List ℕ) (n greatest : ℕ) → n < 2 ^ 64 → n ≤ greatest → greatest < digits_value 10 token → token ≢ decimal n
 greater_not token n greatest small fits greater e =
     let all : digits_value 10 token ≡ n = ap (digits_value 10) e ∙ value_of_decimal n small in
     omega arith
+
+pub larger_not : (token : List ℕ) (number greatest n : ℕ) → token ≡ decimal number → number < 2 ^ 64 → greatest < number → n ≤ greatest → token ≢ decimal n
+larger_not token number greatest n spelled small larger fits e =
+    let value : digits_value 10 token ≡ number = ap (digits_value 10) spelled ∙ value_of_decimal number small in
+    greater_not token n greatest (omega arith) fits (omega arith) e
 
 pub spells : (token : List ℕ) → AllDigits 10 token → 0 < length token → (get_or token 0 0 ≡ 48 → length token ≡ 1) → digits_value 10 token < 2 ^ 64 → token ≡ decimal (digits_value 10 token)
 spells token digits some lead small = sym (decimal-digits_value (numerals_by_value (AllDigits 10) tells_digits) token digits some lead small)

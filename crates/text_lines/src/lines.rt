@@ -84,6 +84,7 @@ fn line_after(line: Line) -> usize
     if line.whole { line.end + 1 } else { line.end }
 }
 
+#[tactic(auto, using(crate::proofs::Rows::rows_step, crate::proofs::Rows::rows_end_at))]
 fn line_at(text: &[u8], at: usize, number: u32) -> Option<Line>
     requires { at ≤ length text.now }
     ensures none { IfNone result (at ≡ length text.now) }

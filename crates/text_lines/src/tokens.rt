@@ -51,6 +51,7 @@ pub fn tokens_of(text: &[u8], line: Line) -> Tokens<'_>
 
 impl<'a> Tokens<'a> {
     /// Takes the next token. `None` comes exactly after the last one, and then nothing changes.
+    #[tactic(auto, using(crate::proofs::Rows::parts_step, crate::proofs::Rows::parts_end_at))]
     pub fn next(&mut self) -> Option<Token>
         ensures text { self.new.text ≡ self.old.text }
         ensures none { IfNone result (self.old.words ≡ []) }
