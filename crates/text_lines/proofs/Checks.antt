@@ -65,6 +65,7 @@ part_err_at {A} {C} check p e h = failed (check (first p.rows)) h
   where
     next : A → Result (A × Place) (C × ℕ)
     next y = Ok (y, behind p)
+
     failed : (r : Result A C) → (at_line p.number r >>= next) ≡ Err e → (r ≡ Err e.0) × (e.1 ≡ p.number)
     failed (Ok y) k = absurd (cc)
     failed (Err c) k = let same : (c, p.number) ≡ e = cc in (ap (λ z. Err z.0) same, sym (ap (λ z. z.1) same))

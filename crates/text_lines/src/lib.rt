@@ -12,12 +12,8 @@ mod tokens;
 
 pub use line::Line;
 pub use lines::Lines;
-pub use number::push_number;
-pub use number::push_word;
-pub use number::read_number;
+pub use number::{push_number, push_word, read_number};
 pub use scan::end_of;
 pub use std::alloc::AllocError as OutOfMemory;
 pub use stop::Stop;
-pub use tokens::Token;
-pub use tokens::Tokens;
-pub use tokens::tokens_of;
+pub use tokens::{Token, Tokens, tokens_of};
