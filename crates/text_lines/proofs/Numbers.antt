@@ -82,6 +82,12 @@ up_to_none greatest token no_number = cond-false _ (Some (digits_value 10 token)
         let (spelled, fits) = and_parts (bytes_eq token (decimal (digits_value 10 token))) (leb (digits_value 10 token) greatest) t in
         no_number (digits_value 10 token) (leb-true (digits_value 10 token) greatest fits) ((bytes_eq-Decides token (decimal (digits_value 10 token))).0 spelled)
 
+pub up_to_larger : (greatest n : ℕ) (token : List ℕ) → token ≡ decimal n → n < 2 ^ 64 → greatest < n → number_up_to greatest token ≡ None
+up_to_larger greatest n token spelled small larger = up_to_none greatest token (λ m fits. larger_not token n greatest m spelled small larger fits)
+
+pub up_to_absent : (greatest : ℕ) (token : List ℕ) → greatest < 2 ^ 64 → ((n : ℕ) → n < 2 ^ 64 → token ≢ decimal n) → number_up_to greatest token ≡ None
+up_to_absent greatest token room absent = up_to_none greatest token (λ m fits. absent m (omega arith))
+
 pub number_is : (greatest : ℕ) (token : List ℕ) (r : Option ℕ) → greatest < 2 ^ 64 → IfSome r (λ n. (token ≡ decimal n) × (n ≤ greatest)) → IfNone r ((n : ℕ) → n ≤ greatest → token ≢ decimal n) → r ≡ number_up_to greatest token
 number_is greatest token (Some n) room some none = sym (up_to_some greatest n token room some.0 some.1)
 number_is greatest token None room some none = sym (up_to_none greatest token none)

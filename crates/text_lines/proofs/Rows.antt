@@ -85,6 +85,13 @@ parts_end_at separator text from at to ordered before end within apart =
     ap (λ n. slice_split (λ b. eqb b separator) (slice_range text from n)) last
     ∙ slice_split_none (λ b. eqb b separator) (slice_range text from at) (no_separator text from at separator ordered (omega arith) apart)
 
+-- the same at a space
+pub words_step : (text : List ℕ) (from at to : ℕ) → from ≤ at → at < to → to ≤ length text → ((k : ℕ) → from ≤ k → k < at → get_or text k 0 ≢ 32) → get_or text at 0 ≡ 32 → words_of (slice_range text from to) ≡ slice_range text from at ∷ words_of (slice_range text (at + 1) to)
+words_step text from at to ordered before within apart here = parts_step 32 text from at to ordered before within apart here
+
+pub words_end_at : (text : List ℕ) (from at to : ℕ) → from ≤ at → at ≤ to → to ≤ at → to ≤ length text → ((k : ℕ) → from ≤ k → k < at → get_or text k 0 ≢ 32) → words_of (slice_range text from to) ≡ slice_range text from at ∷ []
+words_end_at text from at to ordered before end within apart = parts_end_at 32 text from at to ordered before end within apart
+
 -- ---- from lines to their text and back
 
 -- bytes above the space

@@ -59,6 +59,7 @@ impl<'a> Lines<'a> {
     }
 
     /// Takes the next line. `None` comes exactly after the last byte, and then nothing changes.
+    /// The number of the next line is to be below 2^32 - 1, so that the one after it has a number too.
     pub fn next(&mut self) -> Option<Line>
         requires { self.old.place.number + 1 < 2 ^ 32 }
         ensures text { self.new.text ≡ self.old.text }

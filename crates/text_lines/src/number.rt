@@ -10,16 +10,9 @@ use std::alloc::AllocError;
 
 /// The number that the token spells in decimal, without sign or leading zero, if it is at most `greatest`.
 /// `None` comes exactly where the token spells no such number.
+#[tactic(auto, using(crate::proofs::Numbers::up_to_some, crate::proofs::Numbers::up_to_larger, crate::proofs::Numbers::up_to_absent, crate::proofs::Numbers::larger_not))]
 pub fn read_number(token: &[u8], greatest: u64) -> Option<u64>
     ensures value { result ≡ number_up_to greatest token.now }
-    ensures some { IfSome result (λ n. (token.now ≡ decimal n) × (n ≤ greatest)) }
-    ensures none { IfNone result ((n : ℕ) → n ≤ greatest → token.now ≢ decimal n) }
-{
-    bounded_number(token, greatest)
-}
-
-#[tactic(auto, using(crate::proofs::Numbers::larger_not))]
-fn bounded_number(token: &[u8], greatest: u64) -> Option<u64>
     ensures some { IfSome result (λ n. (token.now ≡ decimal n) × (n ≤ greatest)) }
     ensures none { IfNone result ((n : ℕ) → n ≤ greatest → token.now ≢ decimal n) }
 {

@@ -1,6 +1,6 @@
 //! The tokens of a line, one after the other.
 
-ghost use Rattle.std.specs.Prelude.{◌≡◌, ◌≤◌, [], ◌∷◌, length, slice_range, IfSome, IfNone};
+ghost use Rattle.std.specs.Prelude.{◌≡◌, ◌+◌, ◌<◌, ◌≤◌, [], ◌∷◌, length, slice_range, IfSome, IfNone};
 ghost use Rattle.text_lines.specs.Text.{words_of};
 ghost use Rattle.text_lines.specs.Line.{IsIn, row_at};
 
@@ -51,7 +51,6 @@ pub fn tokens_of(text: &[u8], line: Line) -> Tokens<'_>
 
 impl<'a> Tokens<'a> {
     /// Takes the next token. `None` comes exactly after the last one, and then nothing changes.
-    #[tactic(auto, using(crate::proofs::Rows::parts_step, crate::proofs::Rows::parts_end_at))]
     pub fn next(&mut self) -> Option<Token>
         ensures text { self.new.text ≡ self.old.text }
         ensures none { IfNone result (self.old.words ≡ []) }
@@ -63,13 +62,9 @@ impl<'a> Tokens<'a> {
         if self.done {
             return None;
         }
-        let end = end_of(self.text, self.at, self.end, b' ');
-        let token = Token {
-            start: self.at,
-            end,
-        };
-        if end < self.end {
-            self.at = end + 1;
+        let token = token_at(self.text, self.at, self.end);
+        if token.end < self.end {
+            self.at = token.end + 1;
         } else {
             self.done = true;
         }
@@ -86,5 +81,21 @@ impl<'a> Tokens<'a> {
         let token = self.next()?;
         let text = self.text;
         Some(&text[token.start..token.end])
+    }
+}
+
+#[tactic(auto, using(crate::proofs::Rows::words_step, crate::proofs::Rows::words_end_at))]
+fn token_at(text: &[u8], at: usize, end: usize) -> Token
+    requires ordered { at ≤ end }
+    requires within { end ≤ length text.now }
+    ensures start { result.start ≡ at }
+    ensures after { at ≤ result.end }
+    ensures before { result.end ≤ end }
+    ensures more { result.end < end → words_of (slice_range text.now at end) ≡ slice_range text.now at result.end ∷ words_of (slice_range text.now (result.end + 1) end) }
+    ensures last { end ≤ result.end → words_of (slice_range text.now at end) ≡ slice_range text.now at result.end ∷ [] }
+{
+    Token {
+        start: at,
+        end: end_of(text, at, end, b' '),
     }
 }
