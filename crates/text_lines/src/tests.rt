@@ -50,6 +50,14 @@ fn tokens_of_lines(rt: HostRuntime) {
     assert_eq!(rt; end_of(b"a>b", 2, 3, b'>'), 3);
 }
 
+fn push_all(out: &mut Vec<u8>) -> Result<(), Stop<u8>> {
+    push_word(out, b"width ")?;
+    push_number(out, 0)?;
+    out.push(b' ')?;
+    push_number(out, 18446744073709551615)?;
+    Ok(())
+}
+
 #[test]
 fn numbers_in_decimal(rt: HostRuntime) -> Result<(), Fail> {
     let table: [(&[u8], u64, Option<u64>); 12] = [
@@ -74,10 +82,7 @@ fn numbers_in_decimal(rt: HostRuntime) -> Result<(), Fail> {
         assert_eq!(rt; read_number(token, greatest), want);
     }
     let mut out = Vec::new(rt.alloc());
-    push_word(&mut out, b"width ")?;
-    push_number(&mut out, 0)?;
-    push_word(&mut out, b" ")?;
-    push_number(&mut out, 18446744073709551615)?;
+    push_all(&mut out)?;
     assert_eq!(rt; out.as_slice(), b"width 0 18446744073709551615".as_slice());
     Ok(())
 }
