@@ -2,8 +2,18 @@
 #![tactic(auto)]
 
 mod line;
+mod lines;
+mod number;
+mod scan;
 mod stop;
+#[cfg(test)]
+mod tests;
+mod tokens;
 
 pub use line::Line;
+pub use lines::Lines;
+pub use number::{push_number, push_word, read_number};
+pub use scan::end_of;
 pub use std::alloc::AllocError as OutOfMemory;
 pub use stop::Stop;
+pub use tokens::{Token, Tokens, tokens_of};
