@@ -1,5 +1,5 @@
 -- Bandwidth (Cai et al., PPoPP 2021, section on bandwidth constraints).
-use Rattle.std.specs.Prelude.{◌≡◌, ◌==◌, ◌&&◌, ℕ, ◌-◌, ◌*◌, ◌<◌, ◌≤◌, Bool, true, List, length, All, slice_index_or, count_by}
+use Rattle.std.specs.Prelude.{◌≡◌, ◌==◌, ◌&&◌, ℕ, ◌-◌, ◌*◌, ◌<◌, ◌≤◌, true, List, length, All, slice_index_or, count_by}
 use Rattle.schedule.specs.declared.hop.Hop.{Hop}
 use Rattle.schedule.specs.Links.{GroupValue, TopologyValue, has_link, is_usable}
 use Rattle.schedule.specs.Sends.{ScheduleValue, link_of}

@@ -1,7 +1,11 @@
 pub mod Links
 pub mod Sends
 pub mod Placed
+pub mod Cells
 pub mod Running
 pub mod Fitting
 pub mod Solving
 pub mod Judging
+pub mod Failing
+pub mod Rows
+pub mod Tables

@@ -1,5 +1,5 @@
 -- Placements: sets of pairs of a chunk and a node that holds it (Cai et al., PPoPP 2021, section on collectives).
-use Rattle.std.specs.Prelude.{◌≡◌, ◌==◌, ◌&&◌, ◌||◌, ℕ, Bool, List, [], map, filter}
+use Rattle.std.specs.Prelude.{◌≡◌, ◌==◌, ◌&&◌, ◌||◌, ℕ, Bool, not, List, [], map, filter}
 use Rattle.std.specs.List.{list_any, flat_map, range_with_len}
 
 -- how many chunks and nodes there are, and the pairs, ascending and each once
@@ -14,6 +14,10 @@ same_pair a b = a.0 == b.0 && a.1 == b.1
 -- the node has the chunk
 abbrev pub holds : PlacementValue → ℕ × ℕ → Bool
 holds p pair = list_any (same_pair pair) p.pairs
+
+-- the pair is in a placement and not in another
+abbrev pub lacks : PlacementValue → PlacementValue → ℕ × ℕ → Bool
+lacks post last pair = holds post pair && not (holds last pair)
 
 -- every pair, by chunk and then by node
 abbrev pub all_pairs : ℕ → ℕ → List (ℕ × ℕ)

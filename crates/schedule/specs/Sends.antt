@@ -1,5 +1,5 @@
 -- Schedules: rounds for each step, and sends (Cai et al., PPoPP 2021, section on k-synchronous algorithms).
-use Rattle.std.specs.Prelude.{◌≡◌, ◌==◌, ◌&&◌, ◌||◌, ℕ, ◌<◌, ◌≤◌, Bool, true, List, length, sum, nat_lt, All, AllPairs}
+use Rattle.std.specs.Prelude.{◌≡◌, ◌==◌, ◌&&◌, ◌||◌, ℕ, ◌<◌, ◌≤◌, Bool, true, List, length, nat_lt, All, AllPairs}
 use Rattle.schedule.specs.declared.hop.Hop.{Hop}
 
 -- the number of rounds of each step, and the sends

@@ -1,9 +1,29 @@
 //! Topologies, placements and schedules, and the verdict on a schedule.
 #![tactic(auto)]
 
+mod bandwidth;
+mod group;
 mod hop;
+mod judge;
+pub mod laws;
+mod links;
+mod placement;
+mod range;
+mod run;
+mod schedule;
+#[cfg(test)]
+mod tests;
+mod topology;
+pub mod vectors;
 mod verdict;
 
+pub use group::Group;
 pub use hop::Hop;
+pub use judge::solves;
+pub use placement::Placement;
+pub use range::in_range;
+pub use run::run_steps;
+pub use schedule::Schedule;
 pub use std::alloc::AllocError as OutOfMemory;
+pub use topology::Topology;
 pub use verdict::Verdict;

@@ -1,0 +1,4 @@
+pub mod Costing
+pub mod Rows
+pub mod Ranks
+pub mod Orders

@@ -1,0 +1,20 @@
+//! Candidates of a search, their costs, and the order in which they are tried.
+#![tactic(auto)]
+
+mod candidate;
+mod laws;
+mod limits;
+mod listing;
+mod order;
+#[cfg(test)]
+mod tests;
+
+pub use candidate::Candidate;
+pub use laws::{
+    before_is_irreflexive, before_is_total, before_is_transitive, better_comes_before,
+    listed_are_within, no_worse_is_reflexive, no_worse_is_transitive,
+};
+pub use limits::Limits;
+pub use listing::list;
+pub use order::{better, cost_cmp, no_worse};
+pub use std::alloc::AllocError as OutOfMemory;

@@ -1,0 +1,44 @@
+ghost use Rattle.std.specs.Prelude.{◌≡◌, ◌+◌, ◌<◌, ◌≤◌, ◌↔◌, map, All, AllPairs, Contains, IfOk};
+ghost use Rattle.std.specs.List.{range_with_len};
+ghost use Rattle.std.specs.List.Sorted.{IsStrictlyIncreasing};
+ghost use Rattle.itertools.specs.Product.{rows};
+ghost use Rattle.candidate_order.specs.Costs.{Before};
+ghost use Rattle.candidate_order.specs.Listed.{IsListed, IsCount, candidate_at};
+
+use crate::OutOfMemory;
+use crate::candidate::Candidate;
+use crate::limits::Limits;
+use crate::order::search_cmp;
+use itertools::Itertools;
+use std::alloc::Global;
+
+/// Each number of rounds with each chunk count.
+fn pairs(alloc: Global, step: u8, k: u8, allowed: &[u8]) -> Result<Vec<Candidate>, OutOfMemory>
+    requires { step + k < 255 }
+    ensures { IfOk result (λ v. v.items ≡ map (candidate_at step) (rows (range_with_len step (k + 1)) allowed.now)) }
+{
+    (step..step + k + 1)
+        .cartesian_product(allowed.iter().copied())
+        .map(|(r, c)| Candidate { s: step, r, c })
+        .collect(alloc)
+}
+
+/// The candidates of a step, in the order of the search. The chunk counts are `allowed`, in ascending order.
+#[tactic(auto, using(crate::proofs::Costing::upto_trans))]
+pub fn list(
+    alloc: Global,
+    limits: &Limits,
+    step: u8,
+    allowed: &[u8],
+) -> Result<Vec<Candidate>, OutOfMemory>
+    requires some_step { 1 ≤ step }
+    requires step { step ≤ limits.now.max_s }
+    requires ascending { IsStrictlyIncreasing allowed.now }
+    requires counts { All (IsCount limits.now.max_c) allowed.now }
+    ensures members { IfOk result (λ v. (x : Candidate) → Contains v.items x ↔ IsListed limits.now.k step allowed.now x) }
+    ensures order { IfOk result (λ v. AllPairs Before v.items) }
+{
+    let mut candidates = pairs(alloc, step, limits.k(), allowed)?;
+    candidates.sort_unstable_by(|a, b| search_cmp(*a, *b));
+    Ok(candidates)
+}

@@ -1,0 +1,105 @@
+ghost use Rattle.std.specs.Prelude.{◌≡◌, IsSome, IfSome};
+ghost use Rattle.collective_spec.specs.Kinds.{number_of, word_of, takes_root, allows};
+
+/// A collective operation.
+#[derive(Clone, Copy, Debug, PartialEq, Eq)]
+pub enum Kind {
+    /// The root's chunks go to every node.
+    Broadcast,
+    /// Each node's chunks go to the root.
+    Gather,
+    /// Each node's chunks go to every node.
+    Allgather,
+    /// The root's chunks go to one node each.
+    Scatter,
+    /// Each node's chunks go to one node each.
+    Alltoall,
+    /// The sums over all nodes go to the root.
+    Reduce,
+    /// The sums over all nodes go to one node each.
+    Reducescatter,
+    /// The sums over all nodes go to every node.
+    Allreduce,
+}
+
+impl Kind {
+    /// The number of the kind, from 0 to 7 in the order of the variants.
+    pub fn number(self) -> u32
+        ensures { result ≡ number_of self }
+    {
+        self as u32
+    }
+
+    /// The kind with this number; `None` exactly where the number is above 7.
+    pub fn of_number(number: u32) -> Option<Kind>
+        ensures numbered { IfSome result (λ kind. number_of kind ≡ number) }
+        ensures known { (kind : Kind) → number_of kind ≡ number → result ≡ Some kind }
+    {
+        match number {
+            0 => Some(Kind::Broadcast),
+            1 => Some(Kind::Gather),
+            2 => Some(Kind::Allgather),
+            3 => Some(Kind::Scatter),
+            4 => Some(Kind::Alltoall),
+            5 => Some(Kind::Reduce),
+            6 => Some(Kind::Reducescatter),
+            7 => Some(Kind::Allreduce),
+            _ => None,
+        }
+    }
+
+    /// The name of the kind, in lower case.
+    pub fn word(self) -> &'static str
+        ensures { result.now ≡ word_of self }
+    {
+        match self {
+            Kind::Broadcast => "broadcast",
+            Kind::Gather => "gather",
+            Kind::Allgather => "allgather",
+            Kind::Scatter => "scatter",
+            Kind::Alltoall => "alltoall",
+            Kind::Reduce => "reduce",
+            Kind::Reducescatter => "reducescatter",
+            Kind::Allreduce => "allreduce",
+        }
+    }
+
+    /// The kind with this name; `None` exactly where no kind has it.
+    pub fn of_word(word: &str) -> Option<Kind>
+        ensures named { IfSome result (λ kind. word_of kind ≡ word.now) }
+        ensures known { (kind : Kind) → word_of kind ≡ word.now → result ≡ Some kind }
+    {
+        match word {
+            "broadcast" => Some(Kind::Broadcast),
+            "gather" => Some(Kind::Gather),
+            "allgather" => Some(Kind::Allgather),
+            "scatter" => Some(Kind::Scatter),
+            "alltoall" => Some(Kind::Alltoall),
+            "reduce" => Some(Kind::Reduce),
+            "reducescatter" => Some(Kind::Reducescatter),
+            "allreduce" => Some(Kind::Allreduce),
+            _ => None,
+        }
+    }
+}
+
+/// Whether one node is the root of such a collective.
+pub fn takes_root(kind: Kind) -> bool
+    ensures { result ≡ takes_root kind }
+{
+    matches!(
+        kind,
+        Kind::Broadcast | Kind::Gather | Kind::Scatter | Kind::Reduce
+    )
+}
+
+/// Whether such a collective may have the chunk count `c`: it is at least 1, and for an
+/// all-to-all a multiple of the number of nodes.
+pub fn allows(kind: Kind, nodes: u8, c: u8) -> bool
+    ensures { result ≡ allows kind nodes c }
+{
+    match kind {
+        Kind::Alltoall => c >= 1 && c.is_multiple_of(nodes),
+        _ => c >= 1,
+    }
+}

@@ -1,0 +1,17 @@
+pub mod Front
+pub mod SendLines
+pub mod HolderLines
+pub mod Owed
+pub mod Tokens
+pub mod SearchWords
+pub mod PointWords
+pub mod SendOrder
+pub mod SendWords
+pub mod SendsTaken
+pub mod NumberedNames
+pub mod WholeLines
+pub mod ReportEnd
+pub mod ReportLaws
+pub mod ReaderAnswers
+pub mod Room
+pub mod InRange

@@ -1,0 +1,9 @@
+pub mod Fields
+pub mod Reports
+pub mod Form
+pub mod FirstForm
+pub mod Spelling
+pub mod Replay
+pub mod Range
+pub mod Inside
+pub mod Run

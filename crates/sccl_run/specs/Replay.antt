@@ -1,0 +1,38 @@
+-- The text of a replay: who holds which chunk after each step, and the verdict.
+use Rattle.std.specs.Prelude.{ℕ, ◌+◌, List, [], ◌∷◌, ◌++◌, map, filter, codes, decimal}
+use Rattle.std.specs.List.{range_with_len}
+use Rattle.schedule.specs.Placed.{PlacementValue, holds}
+use Rattle.schedule.specs.declared.verdict.Verdict.{Verdict}
+use Rattle.schedule.specs.declared.verdict.Verdict.TheVariants.{Solves, Overfull, Lacking, NoLink}
+use Rattle.text_lines.specs.Text.{text_of}
+use Rattle.topology_text.specs.Spelling.{name_at}
+
+-- the chunks that a node holds, ascending
+abbrev pub held_by : PlacementValue → ℕ → List ℕ
+held_by p node = filter (λ chunk. holds p (chunk, node)) (range_with_len 0 p.chunks)
+
+-- a node's name, and its chunks
+abbrev pub holder_words : List (List ℕ) → PlacementValue → ℕ → List (List ℕ)
+holder_words names p node = name_at names node ∷ map decimal (held_by p node)
+
+abbrev pub step_lines : List (List ℕ) → ℕ → PlacementValue → List (List (List ℕ))
+step_lines names step p = (codes "step" ∷ decimal step ∷ []) ∷ map (holder_words names p) (range_with_len 0 p.nodes)
+
+-- the placements after this step and the later ones
+abbrev pub run_lines : List (List ℕ) → ℕ → List PlacementValue → List (List (List ℕ))
+run_lines names step [] = []
+run_lines names step (p ∷ ps) = step_lines names step p ++ run_lines names (step + 1) ps
+
+-- nodes by name, groups by number
+abbrev pub verdict_words : List (List ℕ) → Verdict → List (List ℕ)
+verdict_words names Solves = codes "holds" ∷ []
+verdict_words names (NoLink h) = codes "nolink" ∷ decimal h.chunk ∷ name_at names h.from ∷ name_at names h.to ∷ decimal h.step ∷ []
+verdict_words names (Overfull step group count) = codes "overfull" ∷ decimal step ∷ decimal group ∷ decimal count ∷ []
+verdict_words names (Lacking chunk node) = codes "lacking" ∷ decimal chunk ∷ name_at names node ∷ []
+
+abbrev pub replay_lines : ℕ → List (List ℕ) → List PlacementValue → Verdict → List (List (List ℕ))
+replay_lines number names run verdict =
+    (codes "replay" ∷ decimal number ∷ []) ∷ (run_lines names 0 run ++ (verdict_words names verdict ∷ (codes "end" ∷ []) ∷ []))
+
+unfoldable pub replay_text : ℕ → List (List ℕ) → List PlacementValue → Verdict → List ℕ
+replay_text number names run verdict = text_of (replay_lines number names run verdict)

@@ -1,0 +1,32 @@
+//! The statuses with which the program ends.
+
+ghost use Rattle.std.specs.Prelude.{◌≡◌};
+ghost use Rattle.sccl_run.specs.Run.{number_of};
+
+/// How a run ended. The number of a status is the program's exit status.
+#[derive(Clone, Copy, Debug, PartialEq, Eq)]
+pub enum Status {
+    /// What the command asks for was written.
+    Done = 0,
+    /// Memory ran out; nothing was written.
+    OutOfMemory = 1,
+    /// The words are no command that is known.
+    BadWords = 2,
+    /// The source failed; nothing was written.
+    SourceFailed = 4,
+    /// The sink failed; a part of the text may have been written.
+    SinkFailed = 5,
+    /// The text that was read is not a report that the command takes.
+    BadReport = 7,
+    /// More than 1,048,576 bytes came.
+    TooLong = 11,
+}
+
+impl Status {
+    /// The exit status: 0, 1, 2, 4, 5, 7 or 11.
+    pub fn number(self) -> u8
+        ensures { result ≡ number_of self }
+    {
+        self as u8
+    }
+}

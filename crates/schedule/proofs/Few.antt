@@ -1,0 +1,79 @@
+-- How many sends a schedule has at most, since each stands in it once.
+use Rattle.std.proofs.Common.{◌≡◌, ℕ, zero, suc, ◌+◌, ◌*◌, ◌<◌, ◌≤◌, ◌^◌, true, ◌&&◌, ◌||◌, eqb, ltb, List, length, get_or, ⊎_elim, arith}
+use Rattle.std.specs.List.{All, AllPairs}
+use Rattle.std.proofs.lemmas.Bool.{and_parts, and_from, or_cases, ltb-true, lt-ltb, eqb-true, cases_lt}
+use Rattle.std.proofs.lemmas.List.Elements.{All-weaker}
+use Rattle.schedule.specs.declared.hop.Hop.{Hop}
+use Rattle.schedule.specs.Links.{TopologyValue, IsTopology}
+use Rattle.schedule.specs.Sends.{ScheduleValue, IsSchedule, IsInRange, hop_before, is_hop_below, link_of}
+use Rattle.schedule.specs.Tables.{IsTabled}
+use Rattle.schedule.proofs.Joining.{IsHopBelow, hop_below}
+
+-- each send has its link in a table, and their number fits 32 bits
+pub record IsNarrow (s : ScheduleValue) : Type 0 where
+  pub links : All (λ h. IsTabled (link_of h)) s.sends
+  pub few : length s.sends < 2 ^ 32
+
+-- a number for each send, in their order
+rank : Hop → ℕ
+rank h = h.step * 16777216 + (h.chunk * 256 + (h.from * 16 + h.to))
+
+rank_rises : (a b : Hop) → IsHopBelow 65536 16 a → IsHopBelow 65536 16 b → hop_before a b ≡ true → rank a < rank b
+unfolding rank
+rank_rises a b below_a below_b before =
+    ⊎_elim
+    (λ (step : ltb a.step b.step ≡ true). omega (arith, ltb-true a.step b.step step, below_a.chunk, below_a.from, below_a.to))
+    (λ (steps : (eqb a.step b.step && (ltb a.chunk b.chunk || (eqb a.chunk b.chunk && (ltb a.from b.from || (eqb a.from b.from && ltb a.to b.to))))) ≡ true).
+    let step = and_parts _ _ steps in
+    ⊎_elim
+    (λ (chunk : ltb a.chunk b.chunk ≡ true). omega (arith, eqb-true a.step b.step step.0, ltb-true a.chunk b.chunk chunk, below_a.from, below_a.to))
+    (λ (chunks : (eqb a.chunk b.chunk && (ltb a.from b.from || (eqb a.from b.from && ltb a.to b.to))) ≡ true).
+    let chunk = and_parts _ _ chunks in
+    ⊎_elim
+    (λ (from : ltb a.from b.from ≡ true). omega (arith, eqb-true a.step b.step step.0, eqb-true a.chunk b.chunk chunk.0, ltb-true a.from b.from from, below_a.to))
+    (λ (froms : (eqb a.from b.from && ltb a.to b.to) ≡ true).
+    let from = and_parts _ _ froms in
+    omega (arith, eqb-true a.step b.step step.0, eqb-true a.chunk b.chunk chunk.0, eqb-true a.from b.from from.0, ltb-true a.to b.to from.1))
+    (or_cases _ _ chunk.1))
+    (or_cases _ _ step.1))
+    (or_cases _ _ before)
+
+rank_small : (h : Hop) → IsHopBelow 65536 16 h → h.step ≤ 16 → rank h < 285212672
+unfolding rank
+rank_small h below step = omega (arith, below.chunk, below.from, below.to)
+
+-- the rank of a send is at least its place
+rank_from : (sends : List Hop) (d : Hop) → All (IsHopBelow 65536 16) sends → AllPairs (λ a b. hop_before a b ≡ true) sends → (i : ℕ) → i < length sends → i ≤ rank (get_or sends i d)
+rank_from sends d below ascending zero inside = omega arith
+rank_from sends d below ascending (suc i) inside =
+    let before : i ≤ rank (get_or sends i d) = rank_from sends d below ascending i (omega arith) in
+    omega (arith, rank_rises (get_or sends i d) (get_or sends (suc i) d) (below i d (omega arith)) (below (suc i) d inside) (ascending i (suc i) d (omega arith) inside))
+
+few_sends : (s : ScheduleValue) → IsSchedule s → All (IsHopBelow 65536 16) s.sends → length s.sends < 2 ^ 32
+few_sends s is below =
+    let d : Hop = record { chunk = 0; from = 0; to = 0; step = 0 } in
+    ⊎_elim
+    (λ (many : 285212672 < length s.sends).
+    let place : 285212672 ≤ rank (get_or s.sends 285212672 d) = rank_from s.sends d below is.ascending 285212672 many in
+    absurd (omega (arith, rank_small (get_or s.sends 285212672 d) (below 285212672 d many) (omega (arith, is.few, (is.steps 285212672 d many).to)))))
+    (λ (few : length s.sends ≤ 285212672). omega arith)
+    (cases_lt 285212672 (length s.sends))
+
+pub narrow : (s : ScheduleValue) → IsSchedule s → IsInRange 65536 16 s → IsNarrow s
+narrow s is range =
+    let below : All (IsHopBelow 65536 16) s.sends = All-weaker (λ h. is_hop_below 65536 16 h ≡ true) (IsHopBelow 65536 16) (hop_below 65536 16) s.sends range in
+    record { links = All-weaker (IsHopBelow 65536 16) (λ h. IsTabled (link_of h)) (λ h b. (b.from, b.to)) s.sends below; few = few_sends s is below }
+
+-- a schedule stays in range where there are more chunks and nodes
+pub range_wider : (few_chunks chunks few_nodes nodes : ℕ) (s : ScheduleValue) → few_chunks ≤ chunks → few_nodes ≤ nodes → IsInRange few_chunks few_nodes s → IsInRange chunks nodes s
+range_wider few_chunks chunks few_nodes nodes s more_chunks more_nodes =
+    All-weaker (λ h. is_hop_below few_chunks few_nodes h ≡ true) (λ h. is_hop_below chunks nodes h ≡ true) (λ h is.
+    let below = hop_below few_chunks few_nodes h is in
+    let chunk : h.chunk < chunks = omega (arith, below.chunk) in
+    let from : h.from < nodes = omega (arith, below.from) in
+    let to : h.to < nodes = omega (arith, below.to) in
+    and_from _ _ (lt-ltb h.chunk chunks chunk) (and_from _ _ (lt-ltb h.from nodes from) (lt-ltb h.to nodes to))) s.sends
+
+-- so does one that is in range of a topology, for tables
+pub range_tabled : (t : TopologyValue) (s : ScheduleValue) → IsTopology t → IsInRange 65536 t.nodes s → IsInRange 65536 16 s
+range_tabled t s is = range_wider 65536 65536 t.nodes 16 s (omega arith) (omega (arith, is.few))

@@ -1,0 +1,128 @@
+-- The first element of a list in order that passes a test.
+use Rattle.std.proofs.Common.{◌≡◌, ℕ, zero, suc, ◌<◌, Bool, true, false, cond, List, [], ◌∷◌, ◌++◌, length, get_or, Some, None, ◌⊎◌, inl, inr, ⊎_elim, refl, sym, ap, ◌∙◌, arith}
+use Rattle.std.specs.List.{find, filter, AllPairs, AllByRecursion, Contains}
+use Rattle.std.proofs.lemmas.Bool.{cases_Bool}
+use Rattle.std.proofs.lemmas.List.Elements.{recursion_from_All}
+
+-- x is among the elements
+abbrev pub Among : {X : Type 0} → X → List X → Type 0
+Among x [] = ⊥
+Among x (y ∷ ys) = (y ≡ x) ⊎ Among x ys
+
+-- each element comes before those after it
+abbrev pub InOrder : {X : Type 0} → (X → X → Bool) → List X → Type 0
+InOrder before [] = Unit {0}
+InOrder before (x ∷ xs) = AllByRecursion (λ y. before x y ≡ true) xs × InOrder before xs
+
+-- no two elements come before each other
+abbrev pub OneWay : {X : Type 0} → (X → X → Bool) → Type 0
+OneWay {X} before = (a b : X) → before a b ≡ true → before b a ≡ true → ⊥
+
+pub among_each : {X : Type 0} (P : X → Type 0) (x : X) (xs : List X) → AllByRecursion P xs → Among x xs → P x
+among_each P x [] each among = absurd among
+among_each P x (y ∷ ys) each among =
+    ⊎_elim
+    (λ (here : y ≡ x). let Q : _ → Type 0 = P in rw (← here) each.0)
+    (λ (later : Among x ys). among_each P x ys each.1 later)
+    among
+
+pub each_among : {X : Type 0} (P : X → Type 0) (xs : List X) → ((x : X) → Among x xs → P x) → AllByRecursion P xs
+each_among P [] each = tt
+each_among P (x ∷ xs) each = (each x (inl refl), each_among P xs (λ y later. each y (inr later)))
+
+pub each_weaker : {X : Type 0} (P Q : X → Type 0) → ((x : X) → P x → Q x) → (xs : List X) → AllByRecursion P xs → AllByRecursion Q xs
+each_weaker P Q weaker [] each = tt
+each_weaker P Q weaker (x ∷ xs) each = (weaker x each.0, each_weaker P Q weaker xs each.1)
+
+pub Contains-from_Among : {X : Type 0} (x : X) (xs : List X) → Among x xs → Contains xs x
+Contains-from_Among x [] among = absurd among
+Contains-from_Among x (y ∷ ys) among =
+    ⊎_elim
+    (λ (here : y ≡ x). (0, omega arith, here))
+    (λ (later : Among x ys). let found = Contains-from_Among x ys later in (suc found.0, omega (arith, found.1), found.2))
+    among
+
+among_place : {X : Type 0} (x : X) (xs : List X) (k : ℕ) → k < length xs → get_or xs k x ≡ x → Among x xs
+among_place x [] k inside is = absurd (omega arith)
+among_place x (y ∷ ys) zero inside is = inl is
+among_place x (y ∷ ys) (suc k) inside is = inr (among_place x ys k (omega arith) is)
+
+pub Among-from_Contains : {X : Type 0} (x : X) (xs : List X) → Contains xs x → Among x xs
+Among-from_Contains x xs found = among_place x xs found.0 found.1 found.2
+
+pub InOrder-from_pairs : {X : Type 0} (before : X → X → Bool) (xs : List X) → AllPairs (λ a b. before a b ≡ true) xs → InOrder before xs
+InOrder-from_pairs before [] pairs = tt
+InOrder-from_pairs before (x ∷ xs) pairs =
+    (recursion_from_All (λ y. before x y ≡ true) xs (λ k d inside. pairs 0 (suc k) d (omega arith) (omega arith)), InOrder-from_pairs before xs (λ i j d low high. pairs (suc i) (suc j) d (omega arith) (omega arith)))
+
+each_filter : {X : Type 0} (P : X → Type 0) (p : X → Bool) (xs : List X) → AllByRecursion P xs → AllByRecursion P (filter p xs)
+each_filter P p [] each = tt
+each_filter P p (x ∷ xs) each =
+    elim (p x) as (λ b. AllByRecursion P (cond b (x ∷ filter p xs) (filter p xs)))
+    [ true ↦ (each.0, each_filter P p xs each.1) | false ↦ each_filter P p xs each.1 ]
+
+pub InOrder-filter : {X : Type 0} (before : X → X → Bool) (p : X → Bool) (xs : List X) → InOrder before xs → InOrder before (filter p xs)
+InOrder-filter before p [] order = tt
+InOrder-filter before p (x ∷ xs) order =
+    elim (p x) as (λ b. InOrder before (cond b (x ∷ filter p xs) (filter p xs)))
+    [ true ↦ (each_filter (λ y. before x y ≡ true) p xs order.0, InOrder-filter before p xs order.1) | false ↦ InOrder-filter before p xs order.1 ]
+
+pub InOrder-append : {X : Type 0} (before : X → X → Bool) (xs ys : List X) → InOrder before xs → InOrder before ys → AllByRecursion (λ x. AllByRecursion (λ y. before x y ≡ true) ys) xs → InOrder before (xs ++ ys)
+InOrder-append before [] ys left right across = right
+InOrder-append before (x ∷ xs) ys left right across =
+    (both (λ y. before x y ≡ true) xs ys left.0 across.0, InOrder-append before xs ys left.1 right across.1)
+  where
+    both : {X : Type 0} (P : X → Type 0) (xs ys : List X) → AllByRecursion P xs → AllByRecursion P ys → AllByRecursion P (xs ++ ys)
+    both P [] ys a b = b
+    both P (x ∷ xs) ys a b = (a.0, both P xs ys a.1 b)
+
+-- the first that passes: it is among the elements, it passes, and none before it does
+pub record IsFirst {X : Type 0} (before : X → X → Bool) (p : X → Bool) (xs : List X) (x : X) : Type 0 where
+  pub among : Among x xs
+  pub passes : p x ≡ true
+  pub earlier : AllByRecursion (λ y. before y x ≡ true → p y ≡ false) xs
+
+pub found_first : {X : Type 0} (before : X → X → Bool) (p : X → Bool) (xs : List X) (x : X) → OneWay before → InOrder before xs → find p xs ≡ Some x → IsFirst before p xs x
+found_first before p [] x one_way order found = absurd cc
+found_first before p (y ∷ ys) x one_way order found =
+    ⊎_elim
+    (λ (passes : p y ≡ true).
+    let found_here : Some y ≡ Some x = rw passes at found in
+    let is : y ≡ x = cc in
+    let none : AllByRecursion (λ z. before z x ≡ true → p z ≡ false) ys = each_weaker (λ z. before y z ≡ true) (λ z. before z x ≡ true → p z ≡ false) (λ z after back. absurd (one_way y z after (is_before z is back))) ys order.0 in
+    record { among = inl is; passes = ap p (sym is) ∙ passes; earlier = (λ itself. absurd (one_way y x itself (is_self is itself)), none) })
+    (λ (fails : p y ≡ false).
+    let found_later : find p ys ≡ Some x = rw fails at found in
+    let rest = found_first before p ys x one_way order.1 found_later in
+    record { among = inr rest.among; passes = rest.passes; earlier = (λ itself. fails, rest.earlier) })
+    (cases_Bool (p y))
+  where
+    is_before : (z : _) → y ≡ x → before z x ≡ true → before z y ≡ true
+    is_before z is back = ap (before z) is ∙ back
+
+    is_self : y ≡ x → before y x ≡ true → before x y ≡ true
+    is_self is itself = ap (λ z. before z y) (sym is) ∙ (ap (before y) is ∙ itself)
+
+pub first_found : {X : Type 0} (before : X → X → Bool) (p : X → Bool) (xs : List X) (x : X) → InOrder before xs → IsFirst before p xs x → find p xs ≡ Some x
+first_found before p [] x order first = absurd first.among
+first_found before p (y ∷ ys) x order first =
+    ⊎_elim
+    (λ (here : y ≡ x).
+    let passes : p y ≡ true = ap p here ∙ first.passes in
+    rw passes (ap Some here))
+    (λ (later : Among x ys).
+    let fails : p y ≡ false = first.earlier.0 (among_each (λ z. before y z ≡ true) x ys order.0 later) in
+    rw fails (first_found before p ys x order.1 (record { among = later; passes = first.passes; earlier = first.earlier.1 })))
+    first.among
+
+pub found_none : {X : Type 0} (p : X → Bool) (xs : List X) → find p xs ≡ None → AllByRecursion (λ x. p x ≡ false) xs
+found_none p [] none = tt
+found_none p (x ∷ xs) none =
+    ⊎_elim
+    (λ (passes : p x ≡ true). let found : Some x ≡ None = rw passes at none in absurd cc)
+    (λ (fails : p x ≡ false). (fails, found_none p xs (rw fails at none)))
+    (cases_Bool (p x))
+
+pub none_found : {X : Type 0} (p : X → Bool) (xs : List X) → AllByRecursion (λ x. p x ≡ false) xs → find p xs ≡ None
+none_found p [] fail = refl
+none_found p (x ∷ xs) fail = rw fail.0 (none_found p xs fail.1)

@@ -1,0 +1,15 @@
+pub mod Placing
+pub mod Marked
+pub mod Steps
+pub mod Grids
+pub mod Tabled
+pub mod Lacking
+pub mod Overfull
+pub mod Loads
+pub mod Joining
+pub mod Stepping
+pub mod Few
+pub mod First
+pub mod Ordered
+pub mod Verdicts
+pub mod Reversing

@@ -1,0 +1,93 @@
+-- Pairs by rows and then by columns: which stand in a grid, and that they stand there in order.
+use Rattle.std.proofs.Common.{◌≡◌, ℕ, zero, suc, ◌+◌, ◌<◌, ◌≤◌, true, ◌&&◌, eqb, ltb, List, [], ◌∷◌, ◌++◌, map, inl, inr, ⊎_elim, refl, sym, ap, ◌∙◌, arith}
+use Rattle.std.specs.List.{list_any, flat_map, range_with_len, filter, AllByRecursion}
+use Rattle.std.proofs.lemmas.Bool.{and_parts, and_from, or_cases, or_left, or_right, ltb-true, lt-ltb, eqb-true, eq-eqb}
+use Rattle.schedule.specs.Failing.{pair_before}
+use Rattle.schedule.specs.Placed.{PlacementValue, IsPlacement, same_pair, holds, all_pairs}
+use Rattle.schedule.proofs.Placing.{pair_is, pair_itself, in_rows}
+use Rattle.schedule.proofs.First.{Among, InOrder, OneWay, InOrder-append, InOrder-filter, each_weaker}
+
+pub pairs_one_way : OneWay pair_before
+pairs_one_way a b there back =
+    ⊎_elim
+    (λ (row : ltb a.0 b.0 ≡ true).
+    ⊎_elim
+    (λ (other : ltb b.0 a.0 ≡ true). omega (arith, ltb-true a.0 b.0 row, ltb-true b.0 a.0 other))
+    (λ (other : (eqb b.0 a.0 && ltb b.1 a.1) ≡ true). omega (arith, ltb-true a.0 b.0 row, eqb-true b.0 a.0 (and_parts _ _ other).0))
+    (or_cases _ _ back))
+    (λ (column : (eqb a.0 b.0 && ltb a.1 b.1) ≡ true).
+    let mine = and_parts _ _ column in
+    ⊎_elim
+    (λ (other : ltb b.0 a.0 ≡ true). omega (arith, eqb-true a.0 b.0 mine.0, ltb-true b.0 a.0 other))
+    (λ (other : (eqb b.0 a.0 && ltb b.1 a.1) ≡ true). omega (arith, ltb-true a.1 b.1 mine.1, ltb-true b.1 a.1 (and_parts _ _ other).1))
+    (or_cases _ _ back))
+    (or_cases _ _ there)
+
+-- what a test for the pair finds is the pair
+pub among_from_any : (pair : ℕ × ℕ) (xs : List (ℕ × ℕ)) → list_any (same_pair pair) xs ≡ true → Among pair xs
+among_from_any pair [] found = absurd cc
+among_from_any pair (x ∷ xs) found =
+    ⊎_elim
+    (λ (here : same_pair pair x ≡ true). inl (sym (pair_is pair x here)))
+    (λ (later : list_any (same_pair pair) xs ≡ true). inr (among_from_any pair xs later))
+    (or_cases _ _ found)
+
+pub any_from_among : (pair : ℕ × ℕ) (xs : List (ℕ × ℕ)) → Among pair xs → list_any (same_pair pair) xs ≡ true
+any_from_among pair [] among = absurd among
+any_from_among pair (x ∷ xs) among =
+    ⊎_elim
+    (λ (here : x ≡ pair). or_left _ _ (ap (same_pair pair) here ∙ pair_itself pair))
+    (λ (later : Among pair xs). or_right _ _ (any_from_among pair xs later))
+    among
+
+-- a pair of one of so many rows from one on, and of one of so many columns
+pub record IsCell (low rows columns : ℕ) (pair : ℕ × ℕ) : Type 0 where
+  pub from : low ≤ pair.0
+  pub to : pair.0 < low + rows
+  pub column : pair.1 < columns
+
+abbrev pub grid : ℕ → ℕ → ℕ → List (ℕ × ℕ)
+grid low rows columns = flat_map (λ row. map (λ column. (row, column)) (range_with_len 0 columns)) (range_with_len low rows)
+
+pub in_grid : (low rows columns : ℕ) (pair : ℕ × ℕ) → IsCell low rows columns pair → Among pair (grid low rows columns)
+in_grid low rows columns (row, column) is = among_from_any (row, column) (grid low rows columns) (in_rows row column columns low rows is.column is.from is.to)
+
+each-append : {X : Type 0} (P : X → Type 0) (xs ys : List X) → AllByRecursion P xs → AllByRecursion P ys → AllByRecursion P (xs ++ ys)
+each-append P [] ys a b = b
+each-append P (x ∷ xs) ys a b = (a.0, each-append P xs ys a.1 b)
+
+row_cells : (row from count columns : ℕ) → from + count ≤ columns → AllByRecursion (IsCell row 1 columns) (map (λ column. (row, column)) (range_with_len from count))
+row_cells row from zero columns fits = tt
+row_cells row from (suc count) columns fits =
+    (record { from = omega arith; to = omega arith; column = omega arith }, row_cells row (from + 1) count columns (omega arith))
+
+pub grid_cells : (low rows columns : ℕ) → AllByRecursion (IsCell low rows columns) (grid low rows columns)
+grid_cells low zero columns = tt
+grid_cells low (suc rows) columns =
+    each-append (IsCell low (suc rows) columns) _ _
+    (each_weaker (IsCell low 1 columns) (IsCell low (suc rows) columns) (λ pair is. record { from = is.from; to = omega (arith, is.to); column = is.column }) _ (row_cells low 0 columns columns (omega arith)))
+    (each_weaker (IsCell (low + 1) rows columns) (IsCell low (suc rows) columns) (λ pair is. record { from = omega (arith, is.from); to = omega (arith, is.to); column = is.column }) _ (grid_cells (low + 1) rows columns))
+
+column_after : (row column from count : ℕ) → column < from → AllByRecursion (λ pair. pair_before (row, column) pair ≡ true) (map (λ c. (row, c)) (range_with_len from count))
+column_after row column from zero below = tt
+column_after row column from (suc count) below =
+    (or_right _ _ (and_from _ _ (eq-eqb row row refl) (lt-ltb column from below)), column_after row column (from + 1) count (omega arith))
+
+row_order : (row from count : ℕ) → InOrder pair_before (map (λ column. (row, column)) (range_with_len from count))
+row_order row from zero = tt
+row_order row from (suc count) = (column_after row from (from + 1) count (omega arith), row_order row (from + 1) count)
+
+pub grid_order : (low rows columns : ℕ) → InOrder pair_before (grid low rows columns)
+grid_order low zero columns = tt
+grid_order low (suc rows) columns =
+    let later : List (ℕ × ℕ) = grid (low + 1) rows columns in
+    InOrder-append pair_before _ later (row_order low 0 columns) (grid_order (low + 1) rows columns)
+    (each_weaker (IsCell low 1 columns) (λ pair. AllByRecursion (λ other. pair_before pair other ≡ true) later)
+    (λ pair is. each_weaker (IsCell (low + 1) rows columns) (λ other. pair_before pair other ≡ true) (λ other after. or_left _ _ (lt-ltb pair.0 other.0 (omega (arith, is.to, after.from)))) later (grid_cells (low + 1) rows columns))
+    _ (row_cells low 0 columns columns (omega arith)))
+
+-- the pairs of a placement stand in order
+pub placement_order : (p : PlacementValue) → IsPlacement p → InOrder pair_before p.pairs
+placement_order p is =
+    let pairs : p.pairs ≡ filter (holds p) (all_pairs p.chunks p.nodes) = ap (λ (q : PlacementValue). q.pairs) is in
+    rw pairs (InOrder-filter pair_before (holds p) (all_pairs p.chunks p.nodes) (grid_order 0 p.chunks p.nodes))

@@ -1,0 +1,85 @@
+-- The sends of a step stand side by side.
+use Rattle.std.proofs.Common.{◌≡◌, ℕ, ◌+◌, ◌≤◌, Bool, true, false, ◌&&◌, ◌||◌, eqb, ltb, leb, List, [], ◌∷◌, ◌++◌, length, get_or, take, drop, refl, sym, ap, ◌∙◌, ⊎_elim, arith, length-drop}
+use Rattle.std.specs.List.{filter, All, AllPairs, AllWithin, AllByRecursion}
+use Rattle.std.specs.List.Sorted.{IsNonDecreasingBy, IsPartitionPoint}
+use Rattle.std.proofs.lemmas.Bool.{ltb-true, ltb-false, leb-true, leb-false, eqb-true, eq-eqb, ne_eqb, and_parts, or_cases, cases_eq}
+use Rattle.std.proofs.lemmas.List.{append-nil, get_or-take, get_or-drop, take-append-drop, length-take-le}
+use Rattle.std.proofs.lemmas.List.Elements.{filter-append, recursion_from_All}
+use Rattle.schedule.specs.declared.hop.Hop.{Hop}
+use Rattle.schedule.specs.Sends.{hop_before}
+
+-- the order of sends is an order by step first
+pub steps_ordered : (a b : Hop) → hop_before a b ≡ true → a.step ≤ b.step
+steps_ordered a b h =
+    ⊎_elim
+    (λ (less : ltb a.step b.step ≡ true). omega (arith, ltb-true a.step b.step less))
+    (λ (other : (eqb a.step b.step && (ltb a.chunk b.chunk || (eqb a.chunk b.chunk && (ltb a.from b.from || (eqb a.from b.from && ltb a.to b.to))))) ≡ true). omega (arith, eqb-true a.step b.step (and_parts _ _ other).0))
+    (or_cases _ _ h)
+
+pub steps_ascend : (sends : List Hop) → AllPairs (λ a b. hop_before a b ≡ true) sends → IsNonDecreasingBy (λ h. h.step) sends
+steps_ascend sends ascending i j d le inside =
+    ⊎_elim
+    (λ (same : i ≡ j). rw same (omega arith))
+    (λ (apart : i ≡ j → ⊥). steps_ordered (get_or sends i d) (get_or sends j d) (ascending i j d (omega arith) inside))
+    (cases_eq i j)
+
+pub steps_ascend-take : (sends : List Hop) (n : ℕ) → n ≤ length sends → IsNonDecreasingBy (λ h. h.step) sends → IsNonDecreasingBy (λ h. h.step) (take n sends)
+steps_ascend-take sends n small ascend i j d le inside =
+    let size : length (take n sends) ≡ n = length-take-le n sends small in
+    rw (get_or-take n sends i d (omega arith), get_or-take n sends j d (omega arith)) (ascend i j d le (omega arith))
+
+filter_whole : {X : Type 0} (p : X → Bool) (xs : List X) → AllByRecursion (λ x. p x ≡ true) xs → filter p xs ≡ xs
+filter_whole p [] a = refl
+filter_whole p (x ∷ xs) a = rw (a.0, filter_whole p xs a.1) refl
+
+filter_none : {X : Type 0} (p : X → Bool) (xs : List X) → AllByRecursion (λ x. p x ≡ false) xs → filter p xs ≡ []
+filter_none p [] a = refl
+filter_none p (x ∷ xs) a = rw a.0 (filter_none p xs a.1)
+
+front_fails : (p : Hop → Bool) (xs : List Hop) (i : ℕ) → i ≤ length xs → AllWithin (λ x. p x ≡ false) xs 0 i → filter p (take i xs) ≡ []
+front_fails p xs i small fails =
+    let size : length (take i xs) ≡ i = length-take-le i xs small in
+    let each : All (λ x. p x ≡ false) (take i xs) = λ k d inside. rw (get_or-take i xs k d (omega arith)) (fails k d (omega arith) (omega arith)) in
+    filter_none p (take i xs) (recursion_from_All (λ x. p x ≡ false) (take i xs) each)
+
+back_fails : (p : Hop → Bool) (xs : List Hop) (i : ℕ) → i ≤ length xs → AllWithin (λ x. p x ≡ false) xs i (length xs) → filter p (drop i xs) ≡ []
+back_fails p xs i small fails =
+    let each : All (λ x. p x ≡ false) (drop i xs) = λ k d inside. rw (get_or-drop i xs k d) (fails (i + k) d (omega arith) (omega (arith, length-drop i xs))) in
+    filter_none p (drop i xs) (recursion_from_All (λ x. p x ≡ false) (drop i xs) each)
+
+back_passes : (p : Hop → Bool) (xs : List Hop) (i : ℕ) → i ≤ length xs → AllWithin (λ x. p x ≡ true) xs i (length xs) → filter p (drop i xs) ≡ drop i xs
+back_passes p xs i small passes =
+    let each : All (λ x. p x ≡ true) (drop i xs) = λ k d inside. rw (get_or-drop i xs k d) (passes (i + k) d (omega arith) (omega (arith, length-drop i xs))) in
+    filter_whole p (drop i xs) (recursion_from_All (λ x. p x ≡ true) (drop i xs) each)
+
+-- what is left between the sends of earlier steps and of later ones
+pub between : (sends : List Hop) (step to from : ℕ) → to ≤ length sends → from ≤ length (take to sends)
+    → IsPartitionPoint (λ h. leb h.step step ≡ true) (λ h. leb h.step step ≡ false) sends to
+    → IsPartitionPoint (λ h. ltb h.step step ≡ true) (λ h. ltb h.step step ≡ false) (take to sends) from
+    → drop from (take to sends) ≡ filter (λ h. eqb h.step step) sends
+between sends step to from to_in from_in late early =
+    let mine : Hop → Bool = λ h. eqb h.step step in
+    let until : List Hop = take to sends in
+    let size : length until ≡ to = length-take-le to sends to_in in
+    let after : filter mine (drop to sends) ≡ [] = back_fails mine sends to to_in (λ k d low high. ne_eqb _ _ (λ same. omega (arith, leb-false _ _ (late.1 k d low high)))) in
+    let before : filter mine (take from until) ≡ [] = front_fails mine until from from_in (λ k d low high. ne_eqb _ _ (λ same. omega (arith, ltb-true _ _ (early.0 k d low high)))) in
+    let these : filter mine (drop from until) ≡ drop from until = back_passes mine until from from_in (λ k d low high.
+    let not_late : get_or until k d ≡ get_or sends k d = get_or-take to sends k d (omega arith) in
+    let up : (get_or sends k d).step ≤ step = leb-true _ _ (late.0 k d (omega arith) (omega arith)) in
+    let down : step ≤ (get_or until k d).step = ltb-false _ _ (early.1 k d low high) in
+    eq-eqb _ _ (omega (arith, ap (λ (h : Hop). h.step) not_late))) in
+    let inner : filter mine until ≡ drop from until =
+    ap (filter mine) (sym (take-append-drop from until)) ∙ (filter-append mine (take from until) (drop from until) ∙ (ap (λ front. front ++ filter mine (drop from until)) before ∙ these)) in
+    let outer : filter mine sends ≡ filter mine until =
+    ap (filter mine) (sym (take-append-drop to sends)) ∙ (filter-append mine until (drop to sends) ∙ (ap (λ back. filter mine until ++ back) after ∙ append-nil (filter mine until))) in
+    sym (outer ∙ inner)
+
+-- the same, where the lists have names
+pub step_found : (all sends until these : List Hop) (step to from : ℕ) → sends ≡ all → until ≡ take to sends → these ≡ drop from until → to ≤ length sends → from ≤ length until
+    → IsPartitionPoint (λ h. leb h.step step ≡ true) (λ h. leb h.step step ≡ false) sends to
+    → IsPartitionPoint (λ h. ltb h.step step ≡ true) (λ h. ltb h.step step ≡ false) until from
+    → these ≡ filter (λ h. eqb h.step step) all
+step_found all sends until these step to from is_all is_until is_these to_in from_in late early =
+    let here : IsPartitionPoint (λ h. ltb h.step step ≡ true) (λ h. ltb h.step step ≡ false) (take to sends) from = rw is_until at early in
+    let size : from ≤ length (take to sends) = rw is_until at from_in in
+    is_these ∙ (ap (drop from) is_until ∙ (between sends step to from to_in size late here ∙ ap (filter (λ h. eqb h.step step)) is_all))

@@ -1,0 +1,238 @@
+-- What the verdict says, from the first send, the first turn and the first pair that fail.
+use Rattle.std.proofs.Common.{◌≡◌, ℕ, ◌*◌, ◌<◌, ◌≤◌, Bool, true, false, not, ◌&&◌, ◌||◌, eqb, ltb, List, length, get_or, Option, Some, None, ⊎_elim, refl, sym, ap, ◌∙◌, arith}
+use Rattle.std.specs.List.{find, All}
+use Rattle.std.proofs.lemmas.Bool.{and_parts, or_cases, ltb-true, ltb-false, lt-ltb, le-ltb, eqb-true, not-true, not-false, not_from_true, not_from_false}
+use Rattle.std.proofs.lemmas.List.{get_or_default}
+use Rattle.std.proofs.lemmas.List.Elements.{All-from_recursion, recursion_from_All}
+use Rattle.schedule.specs.declared.hop.Hop.{Hop}
+use Rattle.schedule.specs.declared.verdict.Verdict.{Verdict}
+use Rattle.schedule.specs.declared.verdict.Verdict.TheVariants as verdict
+use Rattle.schedule.specs.Links.{GroupValue, TopologyValue, is_usable}
+use Rattle.schedule.specs.Sends.{ScheduleValue, IsSchedule, IsStep, hop_before, link_of}
+use Rattle.schedule.specs.Placed.{PlacementValue, IsPlacement, holds}
+use Rattle.schedule.specs.Running.{after}
+use Rattle.schedule.specs.Fitting.{Fits, load, rounds_at}
+use Rattle.schedule.specs.Judging.{first_unlinked, first_overfull, first_lacking, group_at, turns, is_overfull, judged, verdict_of}
+use Rattle.schedule.specs.Failing.{AllUsable, IsFirstUnlinked, IsFirstOverfull, IsFirstLacking, pair_before, TellsSolves, TellsNoLink, TellsOverfull, TellsLacking}
+use Rattle.schedule.proofs.First.{OneWay, IsFirst, InOrder-from_pairs, Among-from_Contains, Contains-from_Among, among_each, each_weaker, found_first, first_found, found_none, none_found}
+use Rattle.schedule.proofs.Ordered.{IsCell, in_grid, grid_cells, grid_order, pairs_one_way, placement_order, among_from_any, any_from_among}
+
+-- of two orders by a number first, both ways round, the number decides neither
+tied : (a b : ℕ) (there back : Bool) → (ltb a b || (eqb a b && there)) ≡ true → (ltb b a || (eqb b a && back)) ≡ true → (there ≡ true) × (back ≡ true)
+tied a b there back first second =
+    ⊎_elim
+    (λ (less : ltb a b ≡ true).
+    ⊎_elim
+    (λ (more : ltb b a ≡ true). absurd (omega (arith, ltb-true a b less, ltb-true b a more)))
+    (λ (same : (eqb b a && back) ≡ true). absurd (omega (arith, ltb-true a b less, eqb-true b a (and_parts _ _ same).0)))
+    (or_cases _ _ second))
+    (λ (same : (eqb a b && there) ≡ true).
+    ⊎_elim
+    (λ (more : ltb b a ≡ true). absurd (omega (arith, eqb-true a b (and_parts _ _ same).0, ltb-true b a more)))
+    (λ (also : (eqb b a && back) ≡ true). ((and_parts _ _ same).1, (and_parts _ _ also).1))
+    (or_cases _ _ second))
+    (or_cases _ _ first)
+
+sends_one_way : OneWay hop_before
+sends_one_way a b there back =
+    let chunks = tied a.step b.step _ _ there back in
+    let froms = tied a.chunk b.chunk _ _ chunks.0 chunks.1 in
+    let tos = tied a.from b.from _ _ froms.0 froms.1 in
+    omega (arith, ltb-true a.to b.to tos.0, ltb-true b.to a.to tos.1)
+
+abbrev unlinked : TopologyValue → Hop → Bool
+unlinked t h = not (is_usable t (link_of h))
+
+unlinked_is : (t : TopologyValue) (s : ScheduleValue) (hop : Hop) → IsSchedule s → first_unlinked t s ≡ Some hop → IsFirstUnlinked t s hop
+unlinked_is t s hop is found =
+    let first : IsFirst hop_before (unlinked t) s.sends hop = found_first hop_before (unlinked t) s.sends hop sends_one_way (InOrder-from_pairs hop_before s.sends is.ascending) found in
+    record {
+      sent = Contains-from_Among hop s.sends first.among;
+      unlinked = not-true _ first.passes;
+      before = All-from_recursion (λ h. hop_before h hop ≡ true → is_usable t (link_of h) ≡ true) s.sends (each_weaker (λ h. hop_before h hop ≡ true → unlinked t h ≡ false) (λ h. hop_before h hop ≡ true → is_usable t (link_of h) ≡ true) (λ h fails earlier. not-false _ (fails earlier)) s.sends first.earlier);
+    }
+
+is_unlinked : (t : TopologyValue) (s : ScheduleValue) (hop : Hop) → IsSchedule s → IsFirstUnlinked t s hop → first_unlinked t s ≡ Some hop
+is_unlinked t s hop is first =
+    first_found hop_before (unlinked t) s.sends hop (InOrder-from_pairs hop_before s.sends is.ascending) (record {
+      among = Among-from_Contains hop s.sends first.sent;
+      passes = not_from_false _ first.unlinked;
+      earlier = each_weaker (λ h. hop_before h hop ≡ true → is_usable t (link_of h) ≡ true) (λ h. hop_before h hop ≡ true → unlinked t h ≡ false) (λ h usable earlier. not_from_true _ (usable earlier)) s.sends (recursion_from_All (λ h. hop_before h hop ≡ true → is_usable t (link_of h) ≡ true) s.sends first.before);
+    })
+
+usable_is : (t : TopologyValue) (s : ScheduleValue) → first_unlinked t s ≡ None → AllUsable t s
+usable_is t s none =
+    All-from_recursion (λ h. is_usable t (link_of h) ≡ true) s.sends (each_weaker (λ h. unlinked t h ≡ false) (λ h. is_usable t (link_of h) ≡ true) (λ h fails. not-false _ fails) s.sends (found_none (unlinked t) s.sends none))
+
+is_usable_none : (t : TopologyValue) (s : ScheduleValue) → AllUsable t s → first_unlinked t s ≡ None
+is_usable_none t s all =
+    none_found (unlinked t) s.sends (each_weaker (λ h. is_usable t (link_of h) ≡ true) (λ h. unlinked t h ≡ false) (λ h usable. not_from_true _ usable) s.sends (recursion_from_All (λ h. is_usable t (link_of h) ≡ true) s.sends all))
+
+-- a step and a group of the schedule and the topology
+turn_cell : (t : TopologyValue) (s : ScheduleValue) (step group : ℕ) → IsStep (length s.rounds) step → group < length t.groups → IsCell 1 (length s.rounds) (length t.groups) (step, group)
+turn_cell t s step group is below = record { from = omega (arith, is.from); to = omega (arith, is.to); column = below }
+
+cell_step : (t : TopologyValue) (s : ScheduleValue) (turn : ℕ × ℕ) → IsCell 1 (length s.rounds) (length t.groups) turn → IsStep (length s.rounds) turn.0
+cell_step t s turn is = record { from = omega (arith, is.from); to = omega (arith, is.to) }
+
+overfull_is : (t : TopologyValue) (s : ScheduleValue) (step group count : ℕ) → first_overfull t s ≡ Some (step, group) → count ≡ load (group_at t group) step s.sends → IsFirstOverfull t s step group count
+overfull_is t s step group count found loaded =
+    let first : IsFirst pair_before (is_overfull t s) (turns t s) (step, group) = found_first pair_before (is_overfull t s) (turns t s) (step, group) pairs_one_way (grid_order 1 (length s.rounds) (length t.groups)) found in
+    let cell : IsCell 1 (length s.rounds) (length t.groups) (step, group) = among_each (IsCell 1 (length s.rounds) (length t.groups)) (step, group) (turns t s) (grid_cells 1 (length s.rounds) (length t.groups)) first.among in
+    record {
+      step_is = cell_step t s (step, group) cell;
+      group_is = cell.column;
+      load_is = loaded;
+      over = omega (arith, ltb-true _ _ first.passes);
+      before = λ i g is below earlier. ltb-false _ _ (among_each (λ turn. pair_before turn (step, group) ≡ true → is_overfull t s turn ≡ false) (i, g) (turns t s) first.earlier (in_grid 1 (length s.rounds) (length t.groups) (i, g) (turn_cell t s i g is below)) earlier);
+    }
+
+is_first_overfull : (t : TopologyValue) (s : ScheduleValue) (step group count : ℕ) → IsFirstOverfull t s step group count → first_overfull t s ≡ Some (step, group)
+is_first_overfull t s step group count first =
+    first_found pair_before (is_overfull t s) (turns t s) (step, group) (grid_order 1 (length s.rounds) (length t.groups)) (record {
+      among = in_grid 1 (length s.rounds) (length t.groups) (step, group) (turn_cell t s step group first.step_is first.group_is);
+      passes = lt-ltb _ _ (omega (arith, first.over, first.load_is));
+      earlier = each_weaker (IsCell 1 (length s.rounds) (length t.groups)) (λ turn. pair_before turn (step, group) ≡ true → is_overfull t s turn ≡ false) (λ turn cell earlier. le-ltb _ _ (first.before turn.0 turn.1 (cell_step t s turn cell) cell.column earlier)) (turns t s) (grid_cells 1 (length s.rounds) (length t.groups));
+    })
+
+-- each group is within its bandwidth in each step
+abbrev AllWithinBandwidth : TopologyValue → ScheduleValue → Type 0
+AllWithinBandwidth t s = (step : ℕ) → 0 < step → step ≤ length s.rounds → All (λ group. load group step s.sends ≤ group.width * rounds_at s step) t.groups
+
+within_is : (t : TopologyValue) (s : ScheduleValue) → first_overfull t s ≡ None → AllWithinBandwidth t s
+within_is t s none step from to k d inside =
+    let fails : is_overfull t s (step, k) ≡ false = among_each (λ turn. is_overfull t s turn ≡ false) (step, k) (turns t s) (found_none (is_overfull t s) (turns t s) none) (in_grid 1 (length s.rounds) (length t.groups) (step, k) (turn_cell t s step k (record { from = from; to = to }) inside)) in
+    let group : group_at t k ≡ get_or t.groups k d = get_or_default t.groups k _ d inside in
+    let P : GroupValue → Type 0 = λ g. load g step s.sends ≤ g.width * rounds_at s step in
+    let mine : P (group_at t k) = ltb-false _ _ fails in
+    rw (← group) mine
+
+is_within : (t : TopologyValue) (s : ScheduleValue) → AllWithinBandwidth t s → first_overfull t s ≡ None
+is_within t s within =
+    none_found (is_overfull t s) (turns t s) (each_weaker (IsCell 1 (length s.rounds) (length t.groups)) (λ turn. is_overfull t s turn ≡ false) (λ turn cell. le-ltb _ _ (within turn.0 (omega (arith, cell.from)) (omega (arith, cell.to)) turn.1 _ cell.column)) (turns t s) (grid_cells 1 (length s.rounds) (length t.groups)))
+
+lacking_is : (last post : PlacementValue) (pair : ℕ × ℕ) → IsPlacement post → find (λ p. not (holds last p)) post.pairs ≡ Some pair → IsFirstLacking post last pair
+lacking_is last post pair is found =
+    let first : IsFirst pair_before (λ p. not (holds last p)) post.pairs pair = found_first pair_before (λ p. not (holds last p)) post.pairs pair pairs_one_way (placement_order post is) found in
+    record {
+      demanded = any_from_among pair post.pairs first.among;
+      lacking = not-true _ first.passes;
+      before = All-from_recursion (λ other. pair_before other pair ≡ true → holds last other ≡ true) post.pairs (each_weaker (λ other. pair_before other pair ≡ true → not (holds last other) ≡ false) (λ other. pair_before other pair ≡ true → holds last other ≡ true) (λ other fails earlier. not-false _ (fails earlier)) post.pairs first.earlier);
+    }
+
+is_lacking : (last post : PlacementValue) (pair : ℕ × ℕ) → IsPlacement post → IsFirstLacking post last pair → find (λ p. not (holds last p)) post.pairs ≡ Some pair
+is_lacking last post pair is first =
+    first_found pair_before (λ p. not (holds last p)) post.pairs pair (placement_order post is) (record {
+      among = among_from_any pair post.pairs first.demanded;
+      passes = not_from_false _ first.lacking;
+      earlier = each_weaker (λ other. pair_before other pair ≡ true → holds last other ≡ true) (λ other. pair_before other pair ≡ true → not (holds last other) ≡ false) (λ other held earlier. not_from_true _ (held earlier)) post.pairs (recursion_from_All (λ other. pair_before other pair ≡ true → holds last other ≡ true) post.pairs first.before);
+    })
+
+delivered_is : (last post : PlacementValue) → find (λ p. not (holds last p)) post.pairs ≡ None → All (λ pair. holds last pair ≡ true) post.pairs
+delivered_is last post none =
+    All-from_recursion (λ pair. holds last pair ≡ true) post.pairs (each_weaker (λ pair. not (holds last pair) ≡ false) (λ pair. holds last pair ≡ true) (λ pair fails. not-false _ fails) post.pairs (found_none (λ p. not (holds last p)) post.pairs none))
+
+is_delivered : (last post : PlacementValue) → All (λ pair. holds last pair ≡ true) post.pairs → find (λ p. not (holds last p)) post.pairs ≡ None
+is_delivered last post all =
+    none_found (λ p. not (holds last p)) post.pairs (each_weaker (λ pair. holds last pair ≡ true) (λ pair. not (holds last pair) ≡ false) (λ pair held. not_from_true _ held) post.pairs (recursion_from_All (λ pair. holds last pair ≡ true) post.pairs all))
+
+-- which part of the three comes out
+judged_solves : (t : TopologyValue) (s : ScheduleValue) (h : Option Hop) (turn pair : Option (ℕ × ℕ)) → judged t s h turn pair ≡ verdict.Solves → (h ≡ None) × (turn ≡ None) × (pair ≡ None)
+judged_solves t s (Some h) turn pair is = absurd cc
+judged_solves t s None (Some turn) pair is = absurd cc
+judged_solves t s None None (Some pair) is = absurd cc
+judged_solves t s None None None is = (refl, refl, refl)
+
+judged_no_link : (t : TopologyValue) (s : ScheduleValue) (h : Option Hop) (turn pair : Option (ℕ × ℕ)) (hop : Hop) → judged t s h turn pair ≡ verdict.NoLink hop → h ≡ Some hop
+judged_no_link t s (Some h) turn pair hop is = cc
+judged_no_link t s None (Some turn) pair hop is = absurd cc
+judged_no_link t s None None (Some pair) hop is = absurd cc
+judged_no_link t s None None None hop is = absurd cc
+
+judged_overfull : (t : TopologyValue) (s : ScheduleValue) (h : Option Hop) (turn pair : Option (ℕ × ℕ)) (step group count : ℕ) → judged t s h turn pair ≡ verdict.Overfull step group count → (h ≡ None) × (turn ≡ Some (step, group)) × (count ≡ load (group_at t group) step s.sends)
+judged_overfull t s (Some h) turn pair step group count is = absurd cc
+judged_overfull t s None (Some (i, g)) pair step group count is =
+    let step_is : i ≡ step = cc in
+    let group_is : g ≡ group = cc in
+    let count_is : load (group_at t g) i s.sends ≡ count = cc in
+    (refl, ap (λ a. Some (a, g)) step_is ∙ ap (λ b. Some (step, b)) group_is, sym count_is ∙ (ap (λ a. load (group_at t g) a s.sends) step_is ∙ ap (λ b. load (group_at t b) step s.sends) group_is))
+judged_overfull t s None None (Some pair) step group count is = absurd cc
+judged_overfull t s None None None step group count is = absurd cc
+
+judged_lacking : (t : TopologyValue) (s : ScheduleValue) (h : Option Hop) (turn pair : Option (ℕ × ℕ)) (chunk node : ℕ) → judged t s h turn pair ≡ verdict.Lacking chunk node → (h ≡ None) × (turn ≡ None) × (pair ≡ Some (chunk, node))
+judged_lacking t s (Some h) turn pair chunk node is = absurd cc
+judged_lacking t s None (Some turn) pair chunk node is = absurd cc
+judged_lacking t s None None (Some (c, n)) chunk node is =
+    let chunk_is : c ≡ chunk = cc in
+    let node_is : n ≡ node = cc in
+    (refl, refl, ap (λ a. Some (a, n)) chunk_is ∙ ap (λ b. Some (chunk, b)) node_is)
+judged_lacking t s None None None chunk node is = absurd cc
+
+fits_is : (t : TopologyValue) (s : ScheduleValue) → first_unlinked t s ≡ None → first_overfull t s ≡ None → Fits t s
+fits_is t s linked within = record { usable = usable_is t s linked; within = within_is t s within }
+
+pub tells_solves : (t : TopologyValue) (pre post : PlacementValue) (s : ScheduleValue) (v : Verdict) → v ≡ verdict_of t pre post s → TellsSolves t pre post s v
+tells_solves t pre post s v is = (
+  λ said.
+      let none = judged_solves t s (first_unlinked t s) (first_overfull t s) (first_lacking pre post s) (sym is ∙ said) in
+      record { steps_are = refl; rounds_are = refl; fits = fits_is t s none.0 none.1; delivers = delivered_is (after pre s (length s.rounds)) post none.2 },
+  λ solves. is ∙ rw (is_usable_none t s solves.fits.usable, is_within t s solves.fits.within, is_delivered (after pre s (length s.rounds)) post solves.delivers) refl,
+)
+
+pub tells_no_link : (t : TopologyValue) (pre post : PlacementValue) (s : ScheduleValue) (v : Verdict) → IsSchedule s → v ≡ verdict_of t pre post s → TellsNoLink t s v
+tells_no_link t pre post s v valid is hop = (
+  λ said. unlinked_is t s hop valid (judged_no_link t s (first_unlinked t s) (first_overfull t s) (first_lacking pre post s) hop (sym is ∙ said)),
+  λ first. is ∙ rw (is_unlinked t s hop valid first) refl,
+)
+
+pub tells_overfull : (t : TopologyValue) (pre post : PlacementValue) (s : ScheduleValue) (v : Verdict) → v ≡ verdict_of t pre post s → TellsOverfull t s v
+tells_overfull t pre post s v is step group count = (
+  λ said.
+      let found = judged_overfull t s (first_unlinked t s) (first_overfull t s) (first_lacking pre post s) step group count (sym is ∙ said) in
+      (usable_is t s found.0, overfull_is t s step group count found.1 found.2),
+  λ first. is ∙ rw (is_usable_none t s first.0, is_first_overfull t s step group count first.1) (ap (verdict.Overfull step group) (sym first.1.load_is)),
+)
+
+pub tells_lacking : (t : TopologyValue) (pre post : PlacementValue) (s : ScheduleValue) (v : Verdict) → IsPlacement post → v ≡ verdict_of t pre post s → TellsLacking t pre post s v
+tells_lacking t pre post s v valid is chunk node = (
+  λ said.
+      let found = judged_lacking t s (first_unlinked t s) (first_overfull t s) (first_lacking pre post s) chunk node (sym is ∙ said) in
+      (fits_is t s found.0 found.1, lacking_is (after pre s (length s.rounds)) post (chunk, node) valid found.2),
+  λ first. is ∙ rw (is_usable_none t s first.0.usable, is_within t s first.0.within, is_lacking (after pre s (length s.rounds)) post (chunk, node) valid first.1) refl,
+)
+
+-- all that is promised of a verdict
+pub record Told (t : TopologyValue) (pre post : PlacementValue) (s : ScheduleValue) (v : Verdict) : Type 0 where
+  pub exact : v ≡ verdict_of t pre post s
+  pub solves : TellsSolves t pre post s v
+  pub no_link : TellsNoLink t s v
+  pub overfull : TellsOverfull t s v
+  pub lacking : TellsLacking t pre post s v
+
+pub told : (t : TopologyValue) (pre post : PlacementValue) (s : ScheduleValue) (v : Verdict) → IsSchedule s → IsPlacement post → v ≡ verdict_of t pre post s → Told t pre post s v
+told t pre post s v valid placed is =
+    record { exact = is; solves = tells_solves t pre post s v is; no_link = tells_no_link t pre post s v valid is; overfull = tells_overfull t pre post s v is; lacking = tells_lacking t pre post s v placed is }
+
+first_is : (t : TopologyValue) (s : ScheduleValue) (sends : List Hop) (first : Option Hop) → sends ≡ s.sends → first ≡ find (unlinked t) sends → first_unlinked t s ≡ first
+first_is t s sends first is found = sym (found ∙ ap (find (unlinked t)) is)
+
+pub verdict_no_link : (t : TopologyValue) (pre post : PlacementValue) (s : ScheduleValue) (sends : List Hop) (hop : Hop) → sends ≡ s.sends → Some hop ≡ find (λ h. not (is_usable t (link_of h))) sends → verdict.NoLink hop ≡ verdict_of t pre post s
+verdict_no_link t pre post s sends hop is found = rw (first_is t s sends (Some hop) is found) refl
+
+pub verdict_overfull : (t : TopologyValue) (pre post : PlacementValue) (s : ScheduleValue) (sends : List Hop) (step group count : ℕ) (carrier : GroupValue) → sends ≡ s.sends → None ≡ find (λ h. not (is_usable t (link_of h))) sends → first_overfull t s ≡ Some (step, group) → carrier ≡ group_at t group → count ≡ load carrier step s.sends → verdict.Overfull step group count ≡ verdict_of t pre post s
+verdict_overfull t pre post s sends step group count carrier is linked found carries loaded =
+    rw (first_is t s sends None is linked, found) (ap (verdict.Overfull step group) (loaded ∙ ap (λ g. load g step s.sends) carries))
+
+pub verdict_lacking : (t : TopologyValue) (pre post last : PlacementValue) (s : ScheduleValue) (sends : List Hop) (chunk node : ℕ) → sends ≡ s.sends → None ≡ find (λ h. not (is_usable t (link_of h))) sends → None ≡ first_overfull t s → last ≡ after pre s (length s.rounds) → find (λ p. not (holds last p)) post.pairs ≡ Some (chunk, node) → verdict.Lacking chunk node ≡ verdict_of t pre post s
+verdict_lacking t pre post last s sends chunk node is linked within ends found =
+    let lacking : first_lacking pre post s ≡ Some (chunk, node) = ap (λ p. find (λ pair. not (holds p pair)) post.pairs) (sym ends) ∙ found in
+    rw (first_is t s sends None is linked, sym within, lacking) refl
+
+pub verdict_solves : (t : TopologyValue) (pre post last : PlacementValue) (s : ScheduleValue) (sends : List Hop) → sends ≡ s.sends → None ≡ find (λ h. not (is_usable t (link_of h))) sends → None ≡ first_overfull t s → last ≡ after pre s (length s.rounds) → None ≡ find (λ p. not (holds last p)) post.pairs → verdict.Solves ≡ verdict_of t pre post s
+verdict_solves t pre post last s sends is linked within ends found =
+    let delivered : first_lacking pre post s ≡ None = ap (λ p. find (λ pair. not (holds p pair)) post.pairs) (sym ends) ∙ sym found in
+    rw (first_is t s sends None is linked, sym within, delivered) refl
+
+-- the group that is over its bandwidth is one of the topology's
+pub overfull_below : (t : TopologyValue) (s : ScheduleValue) (step group : ℕ) → first_overfull t s ≡ Some (step, group) → group < length t.groups
+overfull_below t s step group found = (overfull_is t s step group _ found refl).group_is

@@ -1,0 +1,45 @@
+-- Small topologies, placements and schedules whose runs and verdicts are known.
+use Rattle.std.specs.Prelude.{ℕ, ◌==◌, true, List, [], ◌∷◌}
+use Rattle.schedule.specs.declared.hop.Hop.{Hop}
+use Rattle.schedule.specs.declared.verdict.Verdict.{Verdict}
+use Rattle.schedule.specs.Links.{GroupValue, TopologyValue}
+use Rattle.schedule.specs.Sends.{ScheduleValue}
+use Rattle.schedule.specs.Placed.{PlacementValue, placed}
+use Rattle.schedule.specs.Judging.{verdict_of}
+
+-- a group of one link
+abbrev pub only : ℕ → ℕ → ℕ → GroupValue
+only from to width = record { links = (from, to) ∷ []; width = width }
+
+-- nodes in a row, neighbours joined both ways, one chunk a round
+abbrev pub line_of_2 : TopologyValue
+line_of_2 = record { nodes = 2; groups = only 0 1 1 ∷ only 1 0 1 ∷ [] }
+
+abbrev pub line_of_3 : TopologyValue
+line_of_3 = record { nodes = 3; groups = only 0 1 1 ∷ only 1 0 1 ∷ only 1 2 1 ∷ only 2 1 1 ∷ [] }
+
+-- two nodes with the link back alone
+abbrev pub back_of_2 : TopologyValue
+back_of_2 = record { nodes = 2; groups = only 1 0 1 ∷ [] }
+
+-- the link from 0 to 1 in two groups, the second narrower
+abbrev pub twice_grouped : TopologyValue
+twice_grouped = record { nodes = 2; groups = only 0 1 2 ∷ only 0 1 1 ∷ [] }
+
+-- node 0 has every chunk
+abbrev pub at_root : ℕ → ℕ → PlacementValue
+at_root chunks nodes = placed chunks nodes (λ pair. pair.1 == 0)
+
+-- every node has every chunk
+abbrev pub everywhere : ℕ → ℕ → PlacementValue
+everywhere chunks nodes = placed chunks nodes (λ pair. true)
+
+abbrev pub send : ℕ → ℕ → ℕ → ℕ → Hop
+send chunk from to step = record { chunk = chunk; from = from; to = to; step = step }
+
+abbrev pub plan : List ℕ → List Hop → ScheduleValue
+plan rounds sends = record { rounds = rounds; sends = sends }
+
+-- the verdict on so many chunks of node 0 that go to every node
+abbrev pub broadcast : TopologyValue → ℕ → List ℕ → List Hop → Verdict
+broadcast t chunks rounds sends = verdict_of t (at_root chunks t.nodes) (everywhere chunks t.nodes) (plan rounds sends)

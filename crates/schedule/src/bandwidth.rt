@@ -1,0 +1,51 @@
+ghost use Rattle.std.specs.Prelude.{◌≡◌, ◌<◌, ◌≤◌, ◌^◌, All, find, length};
+ghost use Rattle.std.specs.List.{range_with_len};
+ghost use Rattle.schedule.specs.Links.{IsBelow};
+ghost use Rattle.schedule.specs.Sends.{IsInRange, IsStep};
+ghost use Rattle.schedule.specs.Fitting.{load};
+ghost use Rattle.schedule.specs.Judging.{is_overfull, first_overfull};
+
+use crate::group::Group;
+use crate::links::LinkTable;
+use crate::schedule::Schedule;
+use crate::topology::Topology;
+
+/// The first step, and the first group in it, that is over its bandwidth.
+pub(crate) fn first_overfull(topology: &Topology, schedule: &Schedule) -> Option<(u8, u16)>
+    requires { IsInRange 65536 topology.now.nodes schedule.now }
+    ensures { result ≡ first_overfull topology.now schedule.now }
+{
+    for index in 0..schedule.rounds().len() as u8 {
+        let step = index + 1;
+        if let Some(group) = overfull_group(topology, schedule, step) {
+            return Some((step, group));
+        }
+    }
+    None
+}
+
+/// The first group that is over its bandwidth in a step.
+fn overfull_group(topology: &Topology, schedule: &Schedule, step: u8) -> Option<u16>
+    requires in_range { IsInRange 65536 topology.now.nodes schedule.now }
+    requires step { IsStep (length schedule.now.rounds) step }
+    ensures { result ≡ find (λ group. is_overfull topology.now schedule.now (step, group))
+        (range_with_len 0 (length topology.now.groups)) }
+{
+    let rounds = schedule.rounds()[step as usize - 1];
+    for (number, group) in topology.groups().iter().enumerate() {
+        let bandwidth = u32::from(group.width()) * u32::from(rounds);
+        if load_of(group, schedule, step) > bandwidth {
+            return Some(number as u16);
+        }
+    }
+    None
+}
+
+/// How many sends of the step have their link in the group.
+pub(crate) fn load_of(group: &Group, schedule: &Schedule, step: u8) -> u32
+    requires in_range { IsInRange 65536 16 schedule.now }
+    requires links { All (IsBelow 16) group.now.links }
+    ensures { result ≡ load group.now step schedule.now.sends }
+{
+    LinkTable::of(group).count(schedule.sends_of(step))
+}

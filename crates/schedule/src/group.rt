@@ -1,0 +1,47 @@
+ghost use Rattle.std.specs.Prelude.{◌≡◌};
+ghost use Rattle.schedule.specs.Links.{GroupValue, IsGroup};
+
+use std::marker::Model;
+
+/// Directed links that share a width. A link is a pair of the nodes that it leaves and enters.
+#[derive(Clone, Debug, Drop)]
+pub struct Group {
+    links: Vec<(u8, u8)>,
+    width: u8,
+}
+
+impl Model for Group {
+    ghost use Rattle.schedule.specs.Links.{GroupValue, IsGroup};
+
+    ghost Value = { GroupValue };
+
+    ghost view = { λ g. record { links = g.links.items; width = g.width } };
+
+    ghost invariant = { λ g. IsGroup (record { links = g.links.items; width = g.width }) };
+}
+
+impl Group {
+    /// The group of these links, each once and between two different nodes, with a width from 1 to 16.
+    pub fn new(links: Vec<(u8, u8)>, width: u8) -> Group
+        requires { IsGroup (record { links = links.items; width = width }) }
+        ensures { result ≡ record { links = links.items; width = width } }
+    {
+        Group { links, width }
+    }
+
+    /// The links, in the order in which they were given.
+    pub fn links(&self) -> &[(u8, u8)]
+        ensures links { result.now ≡ self.now.links }
+        ensures limits { IsGroup self.now }
+    {
+        &self.links
+    }
+
+    /// How many chunks may cross the links together in one round, from 1 to 16.
+    pub fn width(&self) -> u8
+        ensures width { result ≡ self.now.width }
+        ensures limits { IsGroup self.now }
+    {
+        self.width
+    }
+}

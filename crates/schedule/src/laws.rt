@@ -1,0 +1,42 @@
+//! Laws of placements, runs and topologies, for those who build on the definitions.
+
+ghost use Rattle.std.specs.Prelude.{◌≡◌, ◌<◌, ◌≤◌, ◌||◌, ℕ, Bool, length, slice_index_or};
+ghost use Rattle.schedule.specs.Links.{TopologyValue, reversed_of};
+ghost use Rattle.schedule.specs.Placed.{PlacementValue, IsPlacement, holds, placed, same_pair, with_pair};
+ghost use Rattle.schedule.specs.Running.{after, run_of};
+ghost use Rattle.schedule.specs.Sends.{ScheduleValue};
+
+/// The placement of a test holds the pairs in range that pass it.
+pub fn a_test_gives_a_placement()
+    ensures held { (chunks nodes : ℕ) (test : ℕ × ℕ → Bool) (pair : ℕ × ℕ) → pair.0 < chunks → pair.1 < nodes
+        → holds (placed chunks nodes test) pair ≡ test pair }
+    ensures placement { (chunks nodes : ℕ) (test : ℕ × ℕ → Bool) → IsPlacement (placed chunks nodes test) }
+{}
+
+/// A pair that was added is held, and every other as before.
+pub fn an_added_pair_is_held()
+    ensures held { (p : PlacementValue) (added pair : ℕ × ℕ) → pair.0 < p.chunks → pair.1 < p.nodes
+        → holds (with_pair p added) pair ≡ (same_pair added pair || holds p pair) }
+    ensures placement { (p : PlacementValue) (added : ℕ × ℕ) → IsPlacement (with_pair p added) }
+{}
+
+/// Placements of one size that hold the same pairs are the same.
+pub fn placements_are_sets()
+    ensures { (p q : PlacementValue) → IsPlacement p → IsPlacement q → p.chunks ≡ q.chunks → p.nodes ≡ q.nodes
+        → ((pair : ℕ × ℕ) → pair.0 < p.chunks → pair.1 < p.nodes → holds p pair ≡ holds q pair) → p ≡ q }
+{}
+
+/// Each placement of a run is what is held after its step, and has the size of the first.
+pub fn a_run_keeps_the_size()
+    ensures each { (pre last : PlacementValue) (s : ScheduleValue) (n : ℕ) → n ≤ length s.rounds
+        → slice_index_or (run_of pre s) n last ≡ after pre s n }
+    ensures chunks { (pre : PlacementValue) (s : ScheduleValue) (n : ℕ) → (after pre s n).chunks ≡ pre.chunks }
+    ensures nodes { (pre : PlacementValue) (s : ScheduleValue) (n : ℕ) → (after pre s n).nodes ≡ pre.nodes }
+    ensures placement { (pre : PlacementValue) (s : ScheduleValue) (n : ℕ) → IsPlacement pre
+        → IsPlacement (after pre s n) }
+{}
+
+/// Turning each link round twice gives the topology back.
+pub fn reversing_twice_changes_nothing()
+    ensures { (t : TopologyValue) → reversed_of (reversed_of t) ≡ t }
+{}

@@ -1,0 +1,78 @@
+ghost use Rattle.std.specs.Prelude.{◌≡◌, ◌<◌, ◌^◌, All, count_by, length};
+ghost use Rattle.schedule.specs.Links.{IsBelow, IsTopology, has_link, is_usable};
+ghost use Rattle.schedule.specs.Sends.{link_of};
+ghost use Rattle.schedule.specs.Tables.{Marks, AddsLinks, IsTabled, marked_at};
+
+use crate::group::Group;
+use crate::hop::Hop;
+use crate::topology::Topology;
+
+/// The most nodes that a topology has.
+const NODES: usize = 16;
+
+/// A set of links between nodes below 16, with a cell for each.
+#[derive(Drop)]
+pub(crate) struct LinkTable {
+    cells: [bool; 256],
+}
+
+impl LinkTable {
+    /// The links of a group.
+    pub(crate) fn of(group: &Group) -> LinkTable
+        requires { All (IsBelow 16) group.now.links }
+        ensures { Marks result.cells (has_link group.now) }
+    {
+        let mut table = LinkTable {
+            cells: [false; 256],
+        };
+        table.add(group.links());
+        table
+    }
+
+    /// The links that stand in some group.
+    pub(crate) fn usable(topology: &Topology) -> LinkTable
+        ensures marks { Marks result.cells (is_usable topology.now) }
+        ensures limits { IsTopology topology.now }
+    {
+        let mut table = LinkTable {
+            cells: [false; 256],
+        };
+        for group in topology.groups() {
+            table.add(group.links());
+        }
+        table
+    }
+
+    fn add(&mut self, links: &[(u8, u8)])
+        requires { All (IsBelow 16) links.now }
+        ensures { AddsLinks self.old.cells self.new.cells links.now }
+    {
+        for &(from, to) in links {
+            self.cells[from as usize * NODES + to as usize] = true;
+        }
+    }
+
+    /// Whether the send's link is among them.
+    pub(crate) fn has(&self, hop: &Hop) -> bool
+        requires from { hop.now.from < 16 }
+        requires to { hop.now.to < 16 }
+        ensures { result ≡ marked_at self.now.cells (link_of hop.now) }
+    {
+        self.cells[hop.from as usize * NODES + hop.to as usize]
+    }
+
+    /// How many of the sends have their link among them.
+    pub(crate) fn count(&self, sends: &[Hop]) -> u32
+        requires links { All (λ h. IsTabled (link_of h)) sends.now }
+        requires few { length sends.now < 2 ^ 32 }
+        ensures { result ≡ count_by (λ h. marked_at self.now.cells (link_of h)) sends.now }
+    {
+        let mut count = 0;
+        for hop in sends {
+            if self.has(hop) {
+                count += 1;
+            }
+        }
+        count
+    }
+}

@@ -1,0 +1,71 @@
+//! Worked rows: what the definitions say of small schedules whose runs are known.
+
+ghost use Rattle.std.specs.Prelude.{◌≡◌, [], ◌∷◌};
+ghost use Rattle.schedule.specs.Links.{IsTopology, reversed_of};
+ghost use Rattle.schedule.specs.Sends.{IsSchedule};
+ghost use Rattle.schedule.specs.Placed.{IsPlacement, empty_placement};
+ghost use Rattle.schedule.specs.Running.{run_of};
+ghost use Rattle.schedule.specs.Solving.{Solvable, Tight};
+ghost use Rattle.schedule.specs.Rows.{line_of_2, line_of_3, back_of_2, twice_grouped, only};
+ghost use Rattle.schedule.specs.Rows.{at_root, everywhere, send, plan, broadcast};
+
+use crate::verdict::Verdict;
+
+/// One send brings the chunk of node 0 to node 1.
+pub fn one_send_brings_its_chunk()
+    ensures run { run_of (at_root 1 2) (plan (1 ∷ []) (send 0 0 1 1 ∷ []))
+        ≡ at_root 1 2 ∷ everywhere 1 2 ∷ [] }
+    ensures solves { broadcast line_of_2 1 (1 ∷ []) (send 0 0 1 1 ∷ []) ≡ Verdict.Solves }
+{}
+
+/// Without it, and with it turned round, node 1 lacks the chunk.
+pub fn no_send_brings_nothing()
+    ensures none { broadcast line_of_2 1 (1 ∷ []) [] ≡ Verdict.Lacking 0 1 }
+    ensures turned { broadcast line_of_2 1 (1 ∷ []) (send 0 1 0 1 ∷ []) ≡ Verdict.Lacking 0 1 }
+{}
+
+/// A send needs a link, in its own direction.
+pub fn a_send_needs_its_link()
+    ensures { broadcast back_of_2 1 (1 ∷ []) (send 0 0 1 1 ∷ []) ≡ Verdict.NoLink (send 0 0 1 1) }
+{}
+
+/// Two chunks do not cross a link of width 1 in one round, but do in two.
+pub fn a_link_carries_its_width_in_each_round()
+    ensures one_round { broadcast line_of_2 2 (1 ∷ []) (send 0 0 1 1 ∷ send 1 0 1 1 ∷ [])
+        ≡ Verdict.Overfull 1 0 2 }
+    ensures two_rounds { broadcast line_of_2 2 (2 ∷ []) (send 0 0 1 1 ∷ send 1 0 1 1 ∷ [])
+        ≡ Verdict.Solves }
+{}
+
+/// A link that stands in two groups is charged in each.
+pub fn a_link_is_charged_in_each_group()
+    ensures { broadcast twice_grouped 2 (1 ∷ []) (send 0 0 1 1 ∷ send 1 0 1 1 ∷ [])
+        ≡ Verdict.Overfull 1 1 2 }
+{}
+
+/// A chunk is passed on in a later step than that in which it came, and not in the same.
+pub fn a_chunk_is_passed_on_later()
+    ensures later { broadcast line_of_3 1 (1 ∷ 1 ∷ []) (send 0 0 1 1 ∷ send 0 1 2 2 ∷ [])
+        ≡ Verdict.Solves }
+    ensures same { broadcast line_of_3 1 (1 ∷ []) (send 0 0 1 1 ∷ send 0 1 2 1 ∷ [])
+        ≡ Verdict.Lacking 0 2 }
+{}
+
+/// The topology with its links turned round.
+pub fn a_reversed_topology_has_its_links_turned()
+    ensures { reversed_of back_of_2 ≡ record { nodes = 2; groups = only 0 1 1 ∷ [] } }
+{}
+
+/// The one send is tight, and it shows that the instance can be solved in one step of one round.
+pub fn one_send_is_tight()
+    ensures tight { Tight (at_root 1 2) (plan (1 ∷ []) (send 0 0 1 1 ∷ [])) }
+    ensures solvable { Solvable line_of_2 (at_root 1 2) (everywhere 1 2) 1 1 }
+{}
+
+/// The limits of the types have values.
+pub fn the_limits_can_be_met()
+    ensures topology { IsTopology line_of_2 }
+    ensures schedule { IsSchedule (plan (1 ∷ []) (send 0 0 1 1 ∷ [])) }
+    ensures placement { IsPlacement (at_root 1 2) }
+    ensures none { IsPlacement (empty_placement 1 2) }
+{}

@@ -1,0 +1,166 @@
+-- The lines of the header and of the nodes: what is read stands there, and what stands there is read.
+use Rattle.std.proofs.Common.{◌≡◌, ℕ, ◌<◌, ◌≤◌, Bool, true, false, ◌&&◌, ◌||◌, not, cond, eqb, leb, ltb, List, [], ◌∷◌, ◌++◌, length, drop, Option, None, Some, Result, Ok, ◌⊎◌, inl, inr, refl, sym, ap, ◌∙◌, subst, append_assoc, arith}
+use Rattle.std.specs.Prelude.{bytes_eq, codes, nat_le}
+use Rattle.std.specs.List.{All, list_all, list_any}
+use Rattle.std.proofs.lemmas.Bool.{and_parts, or_parts, not-false, leb-true, leb-false, ltb-true, lt-leb, cond-true, or_cases, eqb-true, ne_eqb, false_from_ne_true}
+use Rattle.std.proofs.lemmas.List.{append-nil, length-append}
+use Rattle.std.proofs.lemmas.List.Elements.{All-nil, All-push, All-weaker, All-head, All-tail}
+use Rattle.std.proofs.lemmas.List.Splits.{length-slice_split}
+use Rattle.std.proofs.lemmas.List.Sums.{AllPass-from_list_all}
+use Rattle.std.proofs.lemmas.Slice.Eq.{bytes_eq-Decides}
+use Rattle.text_lines.specs.Text.{Row, words_of}
+use Rattle.text_lines.specs.Check.{◌>>=◌, refuse, need}
+use Rattle.text_lines.proofs.Checks.{refuse_ok, refuse_alone, need_ok, ok_is}
+use Rattle.text_lines.proofs.Distinct.{AreDistinct, distinct_nil, distinct_push, none_before, next_has}
+use Rattle.text_lines.proofs.Rows.{row_of, row_back, words_again}
+use Rattle.text_lines.proofs.Words.{IsWord, AreWords, literal, tokens_from, none_empty, begins_is}
+use Rattle.topology_text.specs.declared.fault.TopologyCode.{TopologyCode}
+use Rattle.topology_text.specs.declared.fault.TopologyCode.TheVariants.{BadHeader, BadLine, BadName, NameTwice, TooManyNodes, NoNodes}
+use Rattle.topology_text.specs.Names.{is_name_byte, is_name, name_of, AreNames}
+use Rattle.topology_text.specs.Spelling.{header_words, nodes_words}
+use Rattle.topology_text.specs.Reading.{begins, has_empty, header_line, names_from, nodes_row, nodes_line}
+
+-- ---- line 1
+
+pub header_takes : (o : Option Row) (u : Unit {0}) → header_line o ≡ Ok u → o ≡ Some (row_of header_words)
+header_takes None u e = absurd (cc)
+header_takes (Some r) u e =
+    let (whole, same) = or_parts (not r.whole) (not (bytes_eq r.bytes (codes "topology 1"))) (refuse_alone (not r.whole || not (bytes_eq r.bytes (codes "topology 1"))) BadHeader u e) in
+    let bytes : r.bytes ≡ codes "topology 1" = (bytes_eq-Decides r.bytes (codes "topology 1")).0 (not-false (bytes_eq r.bytes (codes "topology 1")) same) in
+    ap (λ row. Some row) (row_back r header_words (not-false r.whole whole) (ap words_of bytes))
+
+pub header_again : header_line (Some (row_of header_words)) ≡ Ok tt
+header_again = refl
+
+-- ---- names
+
+-- names that were read, of which there may be none
+pub record Names (names : List (List ℕ)) : Type 0 where
+  pub few : length names ≤ 16
+  pub each : All (λ n. is_name n ≡ true) names
+  pub distinct : AreDistinct names
+
+pub names_nil : Names []
+names_nil = record { few = omega arith; each = All-nil (λ n. is_name n ≡ true); distinct = distinct_nil }
+
+pub name_of_is : (word name : List ℕ) → name_of word ≡ Some name → (is_name word ≡ true) × (name ≡ word)
+name_of_is word name e = by_test (is_name word) refl e
+  where
+    by_test : (t : Bool) → is_name word ≡ t → cond t (Some word) None ≡ Some name → (is_name word ≡ true) × (name ≡ word)
+    by_test true is k = let same : name ≡ word = cc in (is, same)
+    by_test false is k = absurd (cc)
+
+pub name_of_name : (word : List ℕ) → is_name word ≡ true → name_of word ≡ Some word
+name_of_name word is = cond-true (is_name word) (Some word) None is
+
+push_name : (before : List (List ℕ)) (name : List ℕ) → leb 16 (length before) ≡ false → is_name name ≡ true → list_any (bytes_eq name) before ≡ false → Names before → Names (before ++ name ∷ [])
+push_name before name room is fresh ok = record {
+  few = omega (arith, leb-false 16 (length before) room, length-append before (name ∷ []));
+  each = All-push (λ n. is_name n ≡ true) before name ok.each is;
+  distinct = distinct_push bytes_eq bytes_eq-Decides before name fresh ok.distinct;
+}
+
+-- what is left of the checks of a name after each of its steps
+abbrev after_name : List (List ℕ) → List (List ℕ) → List ℕ → Result (List (List ℕ)) TopologyCode
+after_name before words name = refuse (list_any (bytes_eq name) before) NameTwice >>= (λ u. names_from (before ++ name ∷ []) words)
+
+pub names_take : (before words names : List (List ℕ)) → names_from before words ≡ Ok names → Names before → (names ≡ before ++ words) × Names names
+names_take before [] names e ok =
+    let same : before ≡ names = ok_is {C = TopologyCode} before names e in
+    let P : List (List ℕ) → Type 0 = λ n. Names n in
+    (sym same ∙ sym (append-nil before), subst P same ok)
+names_take before (word ∷ words) names e ok =
+    let (room, e1) = refuse_ok (nat_le 16 (length before)) TooManyNodes (λ u. need (name_of word) BadName >>= after_name before words) names e in
+    let (name, found, e2) = need_ok (name_of word) BadName (after_name before words) names e1 in
+    let (fresh, e3) = refuse_ok (list_any (bytes_eq name) before) NameTwice (λ u. names_from (before ++ name ∷ []) words) names e2 in
+    let (is, same) = name_of_is word name found in
+    let is_too : is_name name ≡ true = ap is_name same ∙ is in
+    let (all, valid) = names_take (before ++ name ∷ []) words names e3 (push_name before name room is_too fresh ok) in
+    (all ∙ append_assoc before (name ∷ []) words ∙ ap (λ n. before ++ n ∷ words) same, valid)
+
+pub names_again : (before words : List (List ℕ)) → Names (before ++ words) → names_from before words ≡ Ok (before ++ words)
+names_again before [] ok = ap (λ n. Ok n) (sym (append-nil before))
+names_again before (word ∷ words) ok =
+    let room : leb 16 (length before) ≡ false = lt-leb 16 (length before) (omega (arith, ok.few, length-append before (word ∷ words))) in
+    let is : is_name word ≡ true = next_has (λ n. is_name n ≡ true) before word words ok.each in
+    let fresh : list_any (bytes_eq word) before ≡ false = none_before bytes_eq bytes_eq-Decides before word words ok.distinct in
+    let P : List (List ℕ) → Type 0 = λ n. Names n in
+    let rest = names_again (before ++ word ∷ []) words (subst P (sym (append_assoc before (word ∷ []) words)) ok) in
+    rw (room, is, fresh) (rest ∙ ap (λ n. Ok n) (append_assoc before (word ∷ []) words))
+
+name_byte_is : (b : ℕ) → is_name_byte b ≡ true → (32 < b) × (eqb b 62 ≡ false)
+name_byte_is b e = by_kind (or_cases ((leb 97 b && leb b 122) || (leb 48 b && leb b 57)) (eqb b 95) e)
+  where
+    between : (low high : ℕ) → (leb low b && leb b high) ≡ true → (low ≤ b) × (b ≤ high)
+    between low high h = let (above, below) = and_parts (leb low b) (leb b high) h in (leb-true low b above, leb-true b high below)
+
+    found : (32 < b) → (b ≡ 62 → ⊥) → (32 < b) × (eqb b 62 ≡ false)
+    found above other = (above, ne_eqb b 62 other)
+
+    letter_or_digit : ((leb 97 b && leb b 122) ≡ true) ⊎ ((leb 48 b && leb b 57) ≡ true) → (32 < b) × (eqb b 62 ≡ false)
+    letter_or_digit (inl h) = let (low, high) = between 97 122 h in found (omega arith) (λ k. omega arith)
+    letter_or_digit (inr h) = let (low, high) = between 48 57 h in found (omega arith) (λ k. omega arith)
+
+    by_kind : (((leb 97 b && leb b 122) || (leb 48 b && leb b 57)) ≡ true) ⊎ (eqb b 95 ≡ true) → (32 < b) × (eqb b 62 ≡ false)
+    by_kind (inl h) = letter_or_digit (or_cases (leb 97 b && leb b 122) (leb 48 b && leb b 57) h)
+    by_kind (inr h) = let same = eqb-true b 95 h in found (omega arith) (λ k. omega arith)
+
+pub name_word : (name : List ℕ) → is_name name ≡ true → IsWord name
+name_word name is =
+    let (sizes, bytes) = and_parts (ltb 0 (length name) && leb (length name) 16) (list_all is_name_byte name) is in
+    let (some, few) = and_parts (ltb 0 (length name)) (leb (length name) 16) sizes in
+    (ltb-true 0 (length name) some, All-weaker (λ b. is_name_byte b ≡ true) (λ b. 32 < b) (λ b h. (name_byte_is b h).0) name (AllPass-from_list_all is_name_byte name bytes))
+
+pub name_free : (name : List ℕ) → is_name name ≡ true → All (λ b. eqb b 62 ≡ false) name
+name_free name is =
+    let (sizes, bytes) = and_parts (ltb 0 (length name) && leb (length name) 16) (list_all is_name_byte name) is in
+    All-weaker (λ b. is_name_byte b ≡ true) (λ b. eqb b 62 ≡ false) (λ b h. (name_byte_is b h).1) name (AllPass-from_list_all is_name_byte name bytes)
+
+pub names_are_words : (names : List (List ℕ)) → All (λ n. is_name n ≡ true) names → AreWords names
+names_are_words [] each = tt
+names_are_words (name ∷ names) each = (name_word name (All-head (λ n. is_name n ≡ true) name names each), names_are_words names (All-tail (λ n. is_name n ≡ true) name names each))
+
+pub nodes_are_words : (names : List (List ℕ)) → AreNames names → AreWords (nodes_words names)
+nodes_are_words names ok = (literal (codes "nodes") refl, names_are_words names ok.each)
+
+-- ---- line 2
+
+pub nodes_take : (r : Row) (names : List (List ℕ)) → nodes_row r ≡ Ok names → (r ≡ row_of (nodes_words names)) × AreNames names
+nodes_take r names e =
+    let listed : Unit {0} → Result (List (List ℕ)) TopologyCode = λ u. names_from [] (drop 1 (words_of r.bytes)) in
+    let shape : Bool = not (begins (codes "nodes ") r.bytes) || has_empty (words_of r.bytes) in
+    let shaped : Unit {0} → Result (List (List ℕ)) TopologyCode = λ u. refuse shape BadLine >>= listed in
+    let some_names : Unit {0} → Result (List (List ℕ)) TopologyCode = λ u. refuse (bytes_eq r.bytes (codes "nodes")) NoNodes >>= shaped in
+    let (whole, e1) = refuse_ok (not r.whole) BadLine some_names names e in
+    let (other, e2) = refuse_ok (bytes_eq r.bytes (codes "nodes")) NoNodes shaped names e1 in
+    let (fits, e3) = refuse_ok shape BadLine listed names e2 in
+    let (front, full) = or_parts (not (begins (codes "nodes ") r.bytes)) (has_empty (words_of r.bytes)) fits in
+    let (all, ok) = names_take [] (drop 1 (words_of r.bytes)) names e3 names_nil in
+    let rest = drop 6 r.bytes in
+    let words : words_of r.bytes ≡ codes "nodes" ∷ words_of rest = begins_is (codes "nodes") r.bytes refl (not-false (begins (codes "nodes ") r.bytes) front) in
+    let named : names ≡ words_of rest = all ∙ ap (drop 1) words in
+    let some : 0 < length names = omega (arith, ap length named, length-slice_split (λ b. eqb b 32) rest) in (
+      row_back r (nodes_words names) (not-false r.whole whole) (words ∙ ap (λ n. codes "nodes" ∷ n) (sym named)),
+      record { some = some; few = ok.few; each = ok.each; distinct = ok.distinct },
+    )
+
+pub nodes_line_take : (o : Option Row) (names : List (List ℕ)) → nodes_line o ≡ Ok names → (o ≡ Some (row_of (nodes_words names))) × AreNames names
+nodes_line_take None names e = absurd (cc)
+nodes_line_take (Some r) names e =
+    let (row, ok) = nodes_take r names e in
+    (ap (λ x. Some x) row, ok)
+
+nodes_at : (r : Row) (names : List (List ℕ)) → r.whole ≡ true → begins (codes "nodes ") r.bytes ≡ true → words_of r.bytes ≡ nodes_words names → AreNames names → nodes_row r ≡ Ok names
+nodes_at r names whole front words ok =
+    let long : (bytes_eq r.bytes (codes "nodes") ≡ true) → ⊥ = λ t.
+    let alone : words_of r.bytes ≡ codes "nodes" ∷ [] = ap words_of ((bytes_eq-Decides r.bytes (codes "nodes")).0 t) in
+    let some = ok.some in
+    omega (arith, ap length (sym words ∙ alone)) in
+    let other = false_from_ne_true (bytes_eq r.bytes (codes "nodes")) long in
+    let full : has_empty (words_of r.bytes) ≡ false = ap has_empty words ∙ none_empty (nodes_words names) (nodes_are_words names ok) in
+    let listed : names_from [] (drop 1 (words_of r.bytes)) ≡ Ok names = ap (λ w. names_from [] (drop 1 w)) words ∙ names_again [] names (record { few = ok.few; each = ok.each; distinct = ok.distinct }) in
+    rw (whole, other, front, full) listed
+
+pub nodes_again : (names : List (List ℕ)) → AreNames names → nodes_row (row_of (nodes_words names)) ≡ Ok names
+nodes_again [] ok = let some = ok.some in absurd (omega arith)
+nodes_again (name ∷ names) ok = nodes_at (row_of (nodes_words (name ∷ names))) (name ∷ names) refl refl (words_again (nodes_words (name ∷ names)) (tokens_from (nodes_words (name ∷ names)) (omega arith) (nodes_are_words (name ∷ names) ok))) ok

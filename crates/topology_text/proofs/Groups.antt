@@ -1,0 +1,232 @@
+-- The lines of groups: what is read stands there, and what stands there is read.
+use Rattle.std.proofs.Common.{◌≡◌, ℕ, ◌+◌, ◌<◌, ◌≤◌, Bool, true, false, ◌||◌, not, cond, leb, ltb, List, [], ◌∷◌, ◌++◌, map, length, drop, Some, Result, Ok, Err, refl, sym, ap, ◌∙◌, subst, append_assoc, arith}
+use Rattle.std.specs.Prelude.{codes, decimal, slice_index_or}
+use Rattle.std.specs.List.{All}
+use Rattle.std.proofs.lemmas.Bool.{or_parts, or_from, not-false, not_from_true, leb-false, lt-leb, le-ltb, cond-true, cond-false, ltb-false}
+use Rattle.std.proofs.lemmas.List.{append-nil, length-append, length-map}
+use Rattle.std.proofs.lemmas.List.Elements.{All-nil, All-push, All-get_or, All-head, All-tail}
+use Rattle.text_lines.specs.Text.{Row, Place, words_of}
+use Rattle.text_lines.specs.Check.{◌>>=◌, refuse, at_line, first}
+use Rattle.text_lines.proofs.Checks.{bind_ok, refuse_ok, at_line_ok, ok_is}
+use Rattle.text_lines.proofs.Distinct.{next_has}
+use Rattle.text_lines.proofs.Rows.{row_of, row_back, words_again}
+use Rattle.text_lines.proofs.Words.{IsWord, AreWords, literal, tokens_from, none_empty, begins_is, decimal_word, token-append}
+use Rattle.schedule.specs.Links.{GroupValue, IsBelow, IsGroup}
+use Rattle.topology_text.specs.declared.fault.TopologyCode.{TopologyCode}
+use Rattle.topology_text.specs.declared.fault.TopologyCode.TheVariants.{BadLine, TooManyGroups}
+use Rattle.topology_text.specs.Names.{is_name}
+use Rattle.topology_text.specs.Spelling.{name_at, link_word, group_words}
+use Rattle.topology_text.specs.Reading.{begins, has_empty, width_of, links_from, group_row, groups_from}
+use Rattle.topology_text.proofs.Front.{Names, name_word}
+use Rattle.topology_text.proofs.Links.{links_nil, links_take, links_again, width_take, width_again}
+
+-- ---- words of links
+
+link_is_word : (names : List (List ℕ)) (link : ℕ × ℕ) → Names names → IsBelow (length names) link → IsWord (link_word names link)
+link_is_word names link ok below =
+    let (some, token) = name_word (name_at names link.0) (All-get_or (λ n. is_name n ≡ true) names link.0 [] below.from ok.each) in
+    let (some_too, token_too) = name_word (name_at names link.1) (All-get_or (λ n. is_name n ≡ true) names link.1 [] below.to ok.each) in
+    let (mark, mark_token) = literal (62 ∷ []) refl in (
+      omega (arith, length-append (name_at names link.0) (62 ∷ name_at names link.1)),
+      token-append (name_at names link.0) (62 ∷ name_at names link.1) token (token-append (62 ∷ []) (name_at names link.1) mark_token token_too),
+    )
+
+links_are_words : (names : List (List ℕ)) (links : List (ℕ × ℕ)) → Names names → All (IsBelow (length names)) links → AreWords (map (link_word names) links)
+links_are_words names [] ok below = tt
+links_are_words names (link ∷ links) ok below =
+    (link_is_word names link ok (All-head (IsBelow (length names)) link links below), links_are_words names links ok (All-tail (IsBelow (length names)) link links below))
+
+pub group_is_words : (names : List (List ℕ)) (g : GroupValue) → Names names → IsGroup g → All (IsBelow (length names)) g.links → AreWords (group_words names g)
+group_is_words names g ok valid below =
+    let narrow = valid.narrow in
+    (literal (codes "group") refl, (decimal_word g.width (omega arith), links_are_words names g.links ok below))
+
+-- ---- one line
+
+pub record GroupTaken (names : List (List ℕ)) (before : ℕ) (r : Row) (g : GroupValue) : Type 0 where
+  pub spelled : r ≡ row_of (group_words names g)
+  pub valid : IsGroup g
+  pub below : All (IsBelow (length names)) g.links
+  pub room : before < 256
+
+abbrev made : ℕ → List (ℕ × ℕ) → GroupValue
+made width links = record { links = links; width = width }
+
+abbrev after_width : List (List ℕ) → Row → ℕ → Result GroupValue TopologyCode
+after_width names r width = links_from names [] (drop 2 (words_of r.bytes)) >>= (λ links. Ok (made width links))
+
+abbrev is_misshapen : Row → Bool
+is_misshapen r = not r.whole || has_empty (words_of r.bytes) || ltb (length (words_of r.bytes)) 3
+
+abbrev after_room : List (List ℕ) → Row → Unit {0} → Result GroupValue TopologyCode
+after_room names r u = width_of (slice_index_or (words_of r.bytes) 1 []) >>= after_width names r
+
+abbrev after_shape : List (List ℕ) → ℕ → Row → Unit {0} → Result GroupValue TopologyCode
+after_shape names before r u = refuse (leb 256 before) TooManyGroups >>= after_room names r
+
+-- a list of three or more, by its first two
+parted : (words : List (List ℕ)) → 3 ≤ length words → (a : List ℕ) × (b : List ℕ) × (rest : List (List ℕ)) × (words ≡ a ∷ b ∷ rest) × (0 < length rest)
+parted [] long = absurd (omega arith)
+parted (a ∷ []) long = absurd (omega arith)
+parted (a ∷ b ∷ rest) long = (a, b, rest, refl, omega arith)
+
+pub group_take : (names : List (List ℕ)) (before : ℕ) (r : Row) (g : GroupValue) → begins (codes "group ") r.bytes ≡ true → group_row names before r ≡ Ok g → GroupTaken names before r g
+group_take names before r g front e =
+    let (shaped, e1) = refuse_ok (is_misshapen r) BadLine (after_shape names before r) g e in
+    let (room, e2) = refuse_ok (leb 256 before) TooManyGroups (after_room names r) g e1 in
+    let (width, wide, e3) = bind_ok (width_of (slice_index_or (words_of r.bytes) 1 [])) (after_width names r) g e2 in
+    let (links, read, e4) = bind_ok (links_from names [] (drop 2 (words_of r.bytes))) (λ l. Ok (made width l)) g e3 in
+    let same : made width links ≡ g = ok_is {C = TopologyCode} (made width links) g e4 in
+    let (halves, enough) = or_parts (not r.whole || has_empty (words_of r.bytes)) (ltb (length (words_of r.bytes)) 3) shaped in
+    let (whole, full) = or_parts (not r.whole) (has_empty (words_of r.bytes)) halves in
+    let (a, b, rest, words, some) = parted (words_of r.bytes) (ltb-false (length (words_of r.bytes)) 3 enough) in
+    let head = begins_is (codes "group") r.bytes refl front in
+    let named : a ≡ codes "group" = ap (λ ws. slice_index_or ws 0 []) (sym words ∙ head) in
+    let wide_too : width_of b ≡ Ok width = ap (λ ws. width_of (slice_index_or ws 1 [])) (sym words) ∙ wide in
+    let read_too : links_from names [] rest ≡ Ok links = ap (λ ws. links_from names [] (drop 2 ws)) (sym words) ∙ read in
+    let (spelled, positive, narrow) = width_take b width wide_too in
+    let (all, valid) = links_take names [] rest links read_too (links_nil (length names)) in
+    let line : words_of r.bytes ≡ group_words names (made width links) =
+    words ∙ ap (λ w. w ∷ b ∷ rest) named ∙ ap (λ w. codes "group" ∷ w ∷ rest) spelled ∙ ap (λ ws. codes "group" ∷ decimal width ∷ ws) (sym all) in
+    let P : GroupValue → Type 0 = λ x. GroupTaken names before r x in
+    subst P same (record {
+      spelled = row_back r (group_words names (made width links)) (not-false r.whole whole) line;
+      valid = record { positive = positive; narrow = narrow; some = omega (arith, ap length all, length-map links (link_word names)); each = valid.each; distinct = valid.distinct };
+      below = valid.below;
+      room = leb-false 256 before room;
+    })
+
+group_again_at : (names : List (List ℕ)) (before : ℕ) (r : Row) (g : GroupValue) → r.whole ≡ true → words_of r.bytes ≡ group_words names g → Names names → IsGroup g → All (IsBelow (length names)) g.links → before < 256 → group_row names before r ≡ Ok g
+group_again_at names before r g whole words ok valid below room =
+    let full : has_empty (words_of r.bytes) ≡ false = ap has_empty words ∙ none_empty (group_words names g) (group_is_words names g ok valid below) in
+    let some = valid.some in
+    let long : ltb (length (words_of r.bytes)) 3 ≡ false = le-ltb (length (words_of r.bytes)) 3 (omega (arith, ap length words, length-map g.links (link_word names))) in
+    let shaped : is_misshapen r ≡ false = or_from (not r.whole || has_empty (words_of r.bytes)) (ltb (length (words_of r.bytes)) 3) (or_from (not r.whole) (has_empty (words_of r.bytes)) (not_from_true r.whole whole) full) long in
+    let space : leb 256 before ≡ false = lt-leb 256 before room in
+    let wide : width_of (slice_index_or (words_of r.bytes) 1 []) ≡ Ok g.width = ap (λ ws. width_of (slice_index_or ws 1 [])) words ∙ width_again g.width valid.positive valid.narrow in
+    let read : links_from names [] (drop 2 (words_of r.bytes)) ≡ Ok g.links = ap (λ ws. links_from names [] (drop 2 ws)) words ∙ links_again names [] g.links ok (record { each = valid.each; below = below; distinct = valid.distinct }) in
+    ap (λ t. refuse t BadLine >>= after_shape names before r) shaped ∙ ap (λ t. refuse t TooManyGroups >>= after_room names r) space
+    ∙ ap (λ w. w >>= after_width names r) wide ∙ ap (λ l. l >>= (λ links. Ok (made g.width links))) read
+
+pub group_again : (names : List (List ℕ)) (before : ℕ) (g : GroupValue) → Names names → IsGroup g → All (IsBelow (length names)) g.links → before < 256 → group_row names before (row_of (group_words names g)) ≡ Ok g
+group_again names before g ok valid below room =
+    group_again_at names before (row_of (group_words names g)) g refl (words_again (group_words names g) (tokens_from (group_words names g) (omega arith) (group_is_words names g ok valid below))) ok valid below room
+
+pub group_begins : (names : List (List ℕ)) (g : GroupValue) → begins (codes "group ") (row_of (group_words names g)).bytes ≡ true
+group_begins names g = begun (map (link_word names) g.links)
+  where
+    begun : (ws : List (List ℕ)) → begins (codes "group ") (row_of (codes "group" ∷ decimal g.width ∷ ws)).bytes ≡ true
+    begun [] = refl
+    begun (w ∷ ws) = refl
+
+-- ---- the lines of groups
+
+-- groups that were read, of which there may be none
+pub record Groups (nodes : ℕ) (groups : List GroupValue) : Type 0 where
+  pub few : length groups ≤ 256
+  pub each : All IsGroup groups
+  pub below : All (λ g. All (IsBelow nodes) g.links) groups
+
+pub groups_nil : (nodes : ℕ) → Groups nodes []
+groups_nil nodes = record { few = omega arith; each = All-nil IsGroup; below = All-nil (λ g. All (IsBelow nodes) g.links) }
+
+abbrev pub group_rows : List (List ℕ) → List GroupValue → List Row
+group_rows names groups = map (λ g. row_of (group_words names g)) groups
+
+abbrev pub place : ℕ → List Row → Place
+place n rows = record { number = n; rows = rows }
+
+-- the next line doesn't begin a group
+abbrev pub EndsGroups : List Row → Type 0
+EndsGroups [] = Unit {0}
+EndsGroups (r ∷ rows) = begins (codes "group ") r.bytes ≡ false
+
+-- the groups that were read behind those before them, and the lines that they stand on
+pub record GroupsTaken (names : List (List ℕ)) (before groups : List GroupValue) (n : ℕ) (rows : List Row) (rest : Place) : Type 0 where
+  pub more : List GroupValue
+  pub all : groups ≡ before ++ more
+  pub lines : rows ≡ group_rows names more ++ rest.rows
+  pub valid : Groups (length names) groups
+  pub number : rest.number ≡ n + length more
+  pub ends : EndsGroups rest.rows
+
+pub push_group : (names : List (List ℕ)) (before : List GroupValue) (r : Row) (g : GroupValue) → GroupTaken names (length before) r g → Groups (length names) before → Groups (length names) (before ++ g ∷ [])
+push_group names before r g taken ok =
+    let room = taken.room in
+    record {
+      few = omega (arith, length-append before (g ∷ []));
+      each = All-push IsGroup before g ok.each taken.valid;
+      below = All-push (λ x. All (IsBelow (length names)) x.links) before g ok.below taken.below;
+    }
+
+abbrev pub answer : List GroupValue → Place → Result (List GroupValue × Place) (TopologyCode × ℕ)
+answer groups p = Ok (groups, p)
+
+abbrev pub after_group : List (List ℕ) → List GroupValue → ℕ → List Row → GroupValue → Result (List GroupValue × Place) (TopologyCode × ℕ)
+after_group names before n rows g = groups_from names (before ++ g ∷ []) (n + 1) rows
+
+stays : (names : List (List ℕ)) (before groups : List GroupValue) (n : ℕ) (rows : List Row) (rest : Place) → EndsGroups rows → answer before (place n rows) ≡ answer groups rest → Groups (length names) before → GroupsTaken names before groups n rows rest
+stays names before groups n rows rest ends e ok =
+    let same : (before, place n rows) ≡ (groups, rest) = ok_is {C = TopologyCode × ℕ} (before, place n rows) (groups, rest) e in
+    let P : List GroupValue × Place → Type 0 = λ x. GroupsTaken names before x.0 n rows x.1 in
+    subst P same (record { more = []; all = sym (append-nil before); lines = refl; valid = ok; number = omega arith; ends = ends })
+
+pub groups_take : (names : List (List ℕ)) (before : List GroupValue) (n : ℕ) (rows : List Row) (groups : List GroupValue) (rest : Place) → groups_from names before n rows ≡ Ok (groups, rest) → Groups (length names) before → GroupsTaken names before groups n rows rest
+groups_take names before n [] groups rest e ok = stays names before groups n [] rest tt e ok
+groups_take names before n (r ∷ rows) groups rest e ok = by_test (begins (codes "group ") r.bytes) refl e (λ g k valid. groups_take names (before ++ g ∷ []) (n + 1) rows groups rest k valid)
+  where
+    Later : GroupValue → Type 0
+    Later g = after_group names before n rows g ≡ Ok (groups, rest) → Groups (length names) (before ++ g ∷ []) → GroupsTaken names (before ++ g ∷ []) groups (n + 1) rows rest
+
+    by_test : (t : Bool) → begins (codes "group ") r.bytes ≡ t → cond t (at_line n (group_row names (length before) r) >>= after_group names before n rows) (answer before (place n (r ∷ rows))) ≡ Ok (groups, rest) → ((g : GroupValue) → Later g) → GroupsTaken names before groups n (r ∷ rows) rest
+    by_test false t k again = stays names before groups n (r ∷ rows) rest t k ok
+    by_test true t k again =
+        let (g, read, k1) = bind_ok (at_line n (group_row names (length before) r)) (after_group names before n rows) (groups, rest) k in
+        let taken = group_take names (length before) r g t (at_line_ok n (group_row names (length before) r) g read) in
+        let later = again g k1 (push_group names before r g taken ok) in
+        record {
+          more = g ∷ later.more;
+          all = later.all ∙ append_assoc before (g ∷ []) later.more;
+          lines = ap (λ x. x ∷ rows) taken.spelled ∙ ap (λ xs. row_of (group_words names g) ∷ xs) later.lines;
+          valid = later.valid;
+          number = omega (arith, later.number);
+          ends = later.ends;
+        }
+
+pub groups_end : (names : List (List ℕ)) (before : List GroupValue) (n : ℕ) (rows : List Row) → EndsGroups rows → groups_from names before n rows ≡ Ok (before, place n rows)
+groups_end names before n [] ends = refl
+groups_end names before n (r ∷ rows) ends = cond-false (begins (codes "group ") r.bytes) (at_line n (group_row names (length before) r) >>= after_group names before n rows) (answer before (place n (r ∷ rows))) ends
+
+pub groups_again : (names : List (List ℕ)) (before more : List GroupValue) (n : ℕ) (rest : List Row) → Names names → Groups (length names) (before ++ more) → EndsGroups rest → groups_from names before n (group_rows names more ++ rest) ≡ Ok (before ++ more, place (n + length more) rest)
+groups_again names before [] n rest ok valid ends = groups_end names before n rest ends ∙ ap (λ x. answer x (place n rest)) (sym (append-nil before)) ∙ ap (λ k. answer (before ++ []) (place k rest)) (omega arith)
+groups_again names before (g ∷ more) n rest ok valid ends =
+    let below_all = valid.below in
+    let few = valid.few in
+    let rows = group_rows names more ++ rest in
+    let read : group_row names (length before) (row_of (group_words names g)) ≡ Ok g =
+    group_again names (length before) g ok (next_has IsGroup before g more valid.each) (next_has (λ x. All (IsBelow (length names)) x.links) before g more below_all) (omega (arith, length-append before (g ∷ more))) in
+    let P : List GroupValue → Type 0 = λ x. Groups (length names) x in
+    let later = groups_again names (before ++ g ∷ []) more (n + 1) rest ok (subst P (sym (append_assoc before (g ∷ []) more)) valid) ends in
+    cond-true (begins (codes "group ") (row_of (group_words names g)).bytes) (at_line n (group_row names (length before) (row_of (group_words names g))) >>= after_group names before n rows) (answer before (place n (row_of (group_words names g) ∷ rows))) (group_begins names g)
+    ∙ ap (λ x. at_line n x >>= after_group names before n rows) read
+    ∙ later ∙ ap (λ x. answer x (place (n + 1 + length more) rest)) (append_assoc before (g ∷ []) more)
+    ∙ ap (λ k. answer (before ++ g ∷ more) (place k rest)) (omega arith)
+
+-- ---- what the loop over the lines needs
+
+pub groups_refused : (names : List (List ℕ)) (before : List GroupValue) (n : ℕ) (rows : List Row) (r : Row) (code : TopologyCode) → first rows ≡ Some r → begins (codes "group ") r.bytes ≡ true → group_row names (length before) r ≡ Err code → groups_from names before n rows ≡ Err (code, n)
+groups_refused names before n [] r code here front e = absurd (cc)
+groups_refused names before n (x ∷ rows) r code here front e =
+    let same : x ≡ r = cc in
+    let begun : begins (codes "group ") x.bytes ≡ true = ap (λ y. begins (codes "group ") y.bytes) same ∙ front in
+    let read : group_row names (length before) x ≡ Err code = ap (group_row names (length before)) same ∙ e in
+    cond-true (begins (codes "group ") x.bytes) (at_line n (group_row names (length before) x) >>= after_group names before n rows) (answer before (place n (x ∷ rows))) begun
+    ∙ ap (λ y. at_line n y >>= after_group names before n rows) read
+
+pub none_ends : (rows : List Row) → rows ≡ [] → EndsGroups rows
+none_ends [] e = tt
+none_ends (r ∷ rows) e = absurd (cc)
+
+pub other_ends : (rows : List Row) (r : Row) → first rows ≡ Some r → begins (codes "group ") r.bytes ≡ false → EndsGroups rows
+other_ends [] r here other = absurd (cc)
+other_ends (x ∷ rows) r here other = let same : x ≡ r = cc in ap (λ y. begins (codes "group ") y.bytes) same ∙ other

@@ -1,0 +1,9 @@
+pub mod Kept
+pub mod Sides
+pub mod Front
+pub mod Links
+pub mod Groups
+pub mod Laws
+pub mod Printed
+pub mod FamilyLaws
+pub mod FirstFault

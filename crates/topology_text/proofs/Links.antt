@@ -1,0 +1,180 @@
+-- The links and the width of a group's line: what is read stands there, and what stands there is read.
+use Rattle.std.proofs.Common.{◌≡◌, ℕ, ◌<◌, ◌≤◌, true, false, eqb, ltb, List, [], ◌∷◌, ◌++◌, map, length, get_or, None, Some, Result, Ok, refl, sym, ap, ◌∙◌, subst, append_assoc, arith}
+use Rattle.std.specs.Prelude.{bytes_eq, decimal}
+use Rattle.std.specs.Bool.{Decides}
+use Rattle.std.specs.List.{All, list_any, join_with_byte, position_or_len}
+use Rattle.std.proofs.lemmas.Bool.{and_parts, and_from, eqb-true, eqb-false, eq-eqb, ne_eqb, cond-true, lt-ltb, false_from_ne_true}
+use Rattle.std.proofs.lemmas.List.{append-nil, length-map}
+use Rattle.std.proofs.lemmas.List.Elements.{All-nil, All-push, All-get_or}
+use Rattle.std.proofs.lemmas.List.Quantifiers.{position-Some}
+use Rattle.std.proofs.lemmas.List.Splits.{slice_split_at, slice_split_none, join_with_byte-slice_split}
+use Rattle.std.proofs.lemmas.List.Sums.{position_or_len_is}
+use Rattle.std.proofs.lemmas.Slice.Eq.{bytes_eq-Decides}
+use Rattle.text_lines.specs.Check.{◌>>=◌, refuse, need}
+use Rattle.text_lines.specs.Number.{number_up_to}
+use Rattle.text_lines.proofs.Checks.{bind_ok, refuse_ok, need_ok, ok_is}
+use Rattle.text_lines.proofs.Distinct.{AreDistinct, distinct_nil, distinct_push, none_before, next_has}
+use Rattle.text_lines.proofs.Numbers.{up_to_found, up_to_some}
+use Rattle.schedule.specs.Links.{same_link, IsLink, IsBelow, IsGroup}
+use Rattle.topology_text.specs.declared.fault.TopologyCode.{TopologyCode}
+use Rattle.topology_text.specs.declared.fault.TopologyCode.TheVariants.{UnknownNode, SelfLink, LinkTwice, WidthRange}
+use Rattle.topology_text.specs.Names.{is_name}
+use Rattle.topology_text.specs.Spelling.{name_at, link_word}
+use Rattle.topology_text.specs.Reading.{both_sides, node_of, link_of, links_from, width_of}
+use Rattle.topology_text.proofs.Front.{Names, name_free}
+use Rattle.topology_text.proofs.Sides.{pieces, sides}
+
+-- ---- nodes
+
+pub node_is : (names : List (List ℕ)) (name : List ℕ) (i : ℕ) → node_of names name ≡ Some i → (i < length names) × (name_at names i ≡ name)
+node_is names name i e =
+    let (within, passes, earlier) = position-Some (bytes_eq name) names i [] e in
+    (within, sym ((bytes_eq-Decides name (get_or names i [])).0 passes))
+
+pub node_again : (names : List (List ℕ)) (i : ℕ) → AreDistinct names → i < length names → node_of names (name_at names i) ≡ Some i
+node_again names i distinct within =
+    let name : List ℕ = get_or names i [] in
+    let earlier : (k : ℕ) → k < i → bytes_eq name (get_or names k []) ≡ false = λ k h. false_from_ne_true (bytes_eq name (get_or names k [])) (λ t. distinct k i [] h within (sym ((bytes_eq-Decides name (get_or names k [])).0 t))) in
+    let here : bytes_eq name name ≡ true = (bytes_eq-Decides name name).1 refl in
+    let place : position_or_len (bytes_eq name) names ≡ i = position_or_len_is (bytes_eq name) names i [] (omega arith) earlier (λ h. here) in
+    let inside : ltb (position_or_len (bytes_eq name) names) (length names) ≡ true = lt-ltb (position_or_len (bytes_eq name) names) (length names) (omega arith) in
+    cond-true (ltb (position_or_len (bytes_eq name) names) (length names)) (Some (position_or_len (bytes_eq name) names)) None inside ∙ ap (λ k. Some k) place
+
+-- ---- one link
+
+sides_are : (parts : List (List ℕ)) (x : List ℕ × List ℕ) → both_sides parts ≡ Ok x → parts ≡ x.0 ∷ x.1 ∷ []
+sides_are [] x e = absurd (cc)
+sides_are (a ∷ []) x e = absurd (cc)
+sides_are (a ∷ b ∷ []) x e = let same : (a, b) ≡ x = ok_is {C = TopologyCode} (a, b) x e in ap (λ y. y.0 ∷ y.1 ∷ []) same
+sides_are (a ∷ b ∷ c ∷ parts) x e = absurd (cc)
+
+-- what is left of the checks of a link after each of its steps
+abbrev after_to : ℕ → ℕ → Result (ℕ × ℕ) TopologyCode
+after_to from to = refuse (eqb from to) SelfLink >>= (λ u. Ok (from, to))
+
+abbrev after_from : List (List ℕ) → List ℕ × List ℕ → ℕ → Result (ℕ × ℕ) TopologyCode
+after_from names x from = need (node_of names x.1) UnknownNode >>= after_to from
+
+abbrev after_sides : List (List ℕ) → List ℕ × List ℕ → Result (ℕ × ℕ) TopologyCode
+after_sides names x = need (node_of names x.0) UnknownNode >>= after_from names x
+
+pub record Taken (names : List (List ℕ)) (word : List ℕ) (link : ℕ × ℕ) : Type 0 where
+  pub apart : IsLink link
+  pub below : IsBelow (length names) link
+  pub spelled : word ≡ link_word names link
+
+pub link_take : (names : List (List ℕ)) (word : List ℕ) (link : ℕ × ℕ) → link_of names word ≡ Ok link → Taken names word link
+link_take names word link e =
+    let (x, cut, e1) = bind_ok (sides word) (after_sides names) link e in
+    let (from, first, e2) = need_ok (node_of names x.0) UnknownNode (after_from names x) link e1 in
+    let (to, second, e3) = need_ok (node_of names x.1) UnknownNode (after_to from) link e2 in
+    let (differ, e4) = refuse_ok (eqb from to) SelfLink (λ u. Ok (from, to)) link e3 in
+    let same : (from, to) ≡ link = ok_is {C = TopologyCode} (from, to) link e4 in
+    let (low, spelled) = node_is names x.0 from first in
+    let (high, spelled_too) = node_is names x.1 to second in
+    let parts : word ≡ x.0 ++ 62 ∷ x.1 = sym (join_with_byte-slice_split 62 word) ∙ ap (join_with_byte 62) (sides_are (pieces word) x cut) in
+    let words : x.0 ++ 62 ∷ x.1 ≡ link_word names (from, to) = ap (λ a. a ++ 62 ∷ x.1) (sym spelled) ∙ ap (λ b. name_at names from ++ 62 ∷ b) (sym spelled_too) in
+    let P : ℕ × ℕ → Type 0 = λ l. Taken names word l in
+    subst P same (record { apart = record { apart = eqb-false from to differ }; below = record { from = low; to = high }; spelled = parts ∙ words })
+
+pub link_again : (names : List (List ℕ)) (link : ℕ × ℕ) → Names names → IsLink link → IsBelow (length names) link → link_of names (link_word names link) ≡ Ok link
+link_again names link ok apart below =
+    let from_name : List ℕ = name_at names link.0 in
+    let to_name : List ℕ = name_at names link.1 in
+    let free = name_free from_name (All-get_or (λ n. is_name n ≡ true) names link.0 [] below.from ok.each) in
+    let free_too = name_free to_name (All-get_or (λ n. is_name n ≡ true) names link.1 [] below.to ok.each) in
+    let cut : pieces (link_word names link) ≡ from_name ∷ to_name ∷ [] =
+    slice_split_at (λ b. eqb b 62) from_name 62 to_name free refl ∙ ap (λ ps. from_name ∷ ps) (slice_split_none (λ b. eqb b 62) to_name free_too) in
+    let first = node_again names link.0 ok.distinct below.from in
+    let second = node_again names link.1 ok.distinct below.to in
+    let differ : eqb link.0 link.1 ≡ false = ne_eqb link.0 link.1 apart.apart in
+    ap (λ ps. both_sides ps >>= after_sides names) cut ∙ ap (λ o. need o UnknownNode >>= after_from names (from_name, to_name)) first
+    ∙ ap (λ o. need o UnknownNode >>= after_to link.0) second ∙ ap (λ t. refuse t SelfLink >>= (λ u. Ok link)) differ
+
+-- ---- the links of a group
+
+pub same_link-Decides : (a b : ℕ × ℕ) → Decides (same_link a b) (a ≡ b)
+same_link-Decides a b = (both, again)
+  where
+    both : same_link a b ≡ true → a ≡ b
+    both t =
+        let (from, to) = and_parts (eqb a.0 b.0) (eqb a.1 b.1) t in
+        λ i. (eqb-true a.0 b.0 from i, eqb-true a.1 b.1 to i)
+
+    again : a ≡ b → same_link a b ≡ true
+    again e = and_from (eqb a.0 b.0) (eqb a.1 b.1) (eq-eqb a.0 b.0 (ap (λ l. l.0) e)) (eq-eqb a.1 b.1 (ap (λ l. l.1) e))
+
+-- links that were read, of which there may be none
+pub record Links (nodes : ℕ) (links : List (ℕ × ℕ)) : Type 0 where
+  pub each : All IsLink links
+  pub below : All (IsBelow nodes) links
+  pub distinct : AreDistinct links
+
+pub links_nil : (nodes : ℕ) → Links nodes []
+links_nil nodes = record { each = All-nil IsLink; below = All-nil (IsBelow nodes); distinct = distinct_nil }
+
+push_link : (nodes : ℕ) (before : List (ℕ × ℕ)) (link : ℕ × ℕ) → IsLink link → IsBelow nodes link → list_any (same_link link) before ≡ false → Links nodes before → Links nodes (before ++ link ∷ [])
+push_link nodes before link apart below fresh ok = record {
+  each = All-push IsLink before link ok.each apart;
+  below = All-push (IsBelow nodes) before link ok.below below;
+  distinct = distinct_push same_link same_link-Decides before link fresh ok.distinct;
+}
+
+abbrev after_link : List (List ℕ) → List (ℕ × ℕ) → List (List ℕ) → ℕ × ℕ → Result (List (ℕ × ℕ)) TopologyCode
+after_link names before words link = refuse (list_any (same_link link) before) LinkTwice >>= (λ u. links_from names (before ++ link ∷ []) words)
+
+map_push : (f : ℕ × ℕ → List ℕ) (before : List (ℕ × ℕ)) (link : ℕ × ℕ) → map f (before ++ link ∷ []) ≡ map f before ++ f link ∷ []
+map_push f [] link = refl
+map_push f (x ∷ xs) link = ap (λ ys. f x ∷ ys) (map_push f xs link)
+
+pub links_take : (names : List (List ℕ)) (before : List (ℕ × ℕ)) (words : List (List ℕ)) (links : List (ℕ × ℕ)) → links_from names before words ≡ Ok links → Links (length names) before → (map (link_word names) links ≡ map (link_word names) before ++ words) × Links (length names) links
+links_take names before [] links e ok =
+    let same : before ≡ links = ok_is {C = TopologyCode} before links e in
+    let P : List (ℕ × ℕ) → Type 0 = λ l. Links (length names) l in
+    (ap (map (link_word names)) (sym same) ∙ sym (append-nil (map (link_word names) before)), subst P same ok)
+links_take names before (word ∷ words) links e ok =
+    let (link, read, e1) = bind_ok (link_of names word) (after_link names before words) links e in
+    let (fresh, e2) = refuse_ok (list_any (same_link link) before) LinkTwice (λ u. links_from names (before ++ link ∷ []) words) links e1 in
+    let taken = link_take names word link read in
+    let (all, valid) = links_take names (before ++ link ∷ []) words links e2 (push_link (length names) before link taken.apart taken.below fresh ok) in (
+      all ∙ ap (λ ws. ws ++ words) (map_push (link_word names) before link) ∙ append_assoc (map (link_word names) before) (link_word names link ∷ []) words
+          ∙ ap (λ w. map (link_word names) before ++ w ∷ words) (sym taken.spelled),
+      valid,
+    )
+
+pub links_again : (names : List (List ℕ)) (before rest : List (ℕ × ℕ)) → Names names → Links (length names) (before ++ rest) → links_from names before (map (link_word names) rest) ≡ Ok (before ++ rest)
+links_again names before [] ok valid = ap (λ l. Ok l) (sym (append-nil before))
+links_again names before (link ∷ rest) ok valid =
+    let read = link_again names link ok (next_has IsLink before link rest valid.each) (next_has (IsBelow (length names)) before link rest valid.below) in
+    let fresh = none_before same_link same_link-Decides before link rest valid.distinct in
+    let P : List (ℕ × ℕ) → Type 0 = λ l. Links (length names) l in
+    let more = links_again names (before ++ link ∷ []) rest ok (subst P (sym (append_assoc before (link ∷ []) rest)) valid) in
+    ap (λ r. r >>= after_link names before (map (link_word names) rest)) read
+    ∙ ap (λ t. refuse t LinkTwice >>= (λ u. links_from names (before ++ link ∷ []) (map (link_word names) rest))) fresh
+    ∙ more ∙ ap (λ l. Ok l) (append_assoc before (link ∷ []) rest)
+
+-- ---- the width
+
+pub width_take : (word : List ℕ) (w : ℕ) → width_of word ≡ Ok w → (word ≡ decimal w) × (0 < w) × (w ≤ 16)
+width_take word w e =
+    let checked : ℕ → Result ℕ TopologyCode = λ n. refuse (eqb n 0) WidthRange >>= (λ u. Ok n) in
+    let (n, found, e1) = need_ok (number_up_to 16 word) WidthRange checked w e in
+    let (positive, e2) = refuse_ok (eqb n 0) WidthRange (λ u. Ok n) w e1 in
+    let same : n ≡ w = ok_is {C = TopologyCode} n w e2 in
+    let (spelled, small) = up_to_found 16 n word found in
+    let some = eqb-false n 0 positive in
+    (spelled ∙ ap decimal same, omega arith, omega arith)
+
+pub width_again : (w : ℕ) → 0 < w → w ≤ 16 → width_of (decimal w) ≡ Ok w
+width_again w some small =
+    let found = up_to_some 16 w (decimal w) (omega arith) refl small in
+    let positive : eqb w 0 ≡ false = ne_eqb w 0 (λ e. omega arith) in
+    ap (λ o. need o WidthRange >>= (λ n. refuse (eqb n 0) WidthRange >>= (λ u. Ok n))) found ∙ ap (λ t. refuse t WidthRange >>= (λ u. Ok w)) positive
+
+-- ---- what was read is a group
+
+pub group_valid : (names : List (List ℕ)) (word : List ℕ) (words : List (List ℕ)) (w : ℕ) (links : List (ℕ × ℕ)) → width_of word ≡ Ok w → links_from names [] words ≡ Ok links → 0 < length words → IsGroup (record { links = links; width = w })
+group_valid names word words w links wide read some =
+    let (spelled, positive, narrow) = width_take word w wide in
+    let (all, valid) = links_take names [] words links read (links_nil (length names)) in
+    record { positive = positive; narrow = narrow; some = omega (arith, ap length all, length-map links (link_word names)); each = valid.each; distinct = valid.distinct }

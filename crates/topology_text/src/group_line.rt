@@ -1,0 +1,99 @@
+//! The line of one group.
+
+ghost use Rattle.std.specs.Prelude.{◌≡◌, ◌<◌, ◌≤◌, [], length, IfOk, nat_le};
+ghost use Rattle.std.specs.List.{list_any};
+ghost use Rattle.text_lines.specs.Text.{words_of};
+ghost use Rattle.text_lines.specs.Line.{IsIn, row_at};
+ghost use Rattle.text_lines.specs.Check.{Gives};
+ghost use Rattle.schedule.specs.Links.{same_link};
+ghost use Rattle.topology_text.specs.Reading.{links_from, width_of, group_row};
+
+use crate::fault::TopologyCode;
+use crate::link_word::link_of;
+use crate::name::Name;
+use crate::nodes_line::has_empty_token;
+use indexmap::IndexSet;
+use schedule::Group;
+use std::alloc::Global;
+use text_lines::{Line, Stop, Tokens, read_number, tokens_of};
+
+/// The most groups that a topology has.
+const GROUPS: usize = 256;
+
+/// The greatest width of a group.
+const WIDTH: u64 = 16;
+
+fn has_three_tokens(text: &[u8], line: Line) -> bool
+    requires { IsIn text.now line }
+    ensures { result ≡ nat_le 3 (length (words_of (row_at text.now line).bytes)) }
+{
+    let mut tokens = tokens_of(text, line);
+    let _ = tokens.next_word();
+    let _ = tokens.next_word();
+    tokens.next_word().is_some()
+}
+
+fn has_link(links: &[(u8, u8)], link: (u8, u8)) -> bool
+    ensures { result ≡ list_any (same_link link) links.now }
+{
+    for other in links {
+        if link.0 == other.0 && link.1 == other.1 {
+            return true;
+        }
+    }
+    false
+}
+
+fn links_of(
+    alloc: Global,
+    names: &IndexSet<Name>,
+    tokens: &mut Tokens<'_>,
+) -> Result<Vec<(u8, u8)>, Stop<TopologyCode>>
+    requires { length names.now.keys ≤ 16 }
+    ensures { Gives (λ v. v.items) result (links_from names.now.keys [] tokens.old.words) }
+{
+    let mut links = Vec::new(alloc);
+    while let Some(word) = tokens.next_word() {
+        let link = link_of(names, word)?;
+        if has_link(&links, link) {
+            return Err(Stop::Refused(TopologyCode::LinkTwice));
+        }
+        links.push(link)?;
+    }
+    Ok(links)
+}
+
+fn width_of(word: &[u8]) -> Result<u8, Stop<TopologyCode>>
+    ensures { Gives (λ x. x) result (width_of word.now) }
+{
+    match read_number(word, WIDTH) {
+        Some(width) if width > 0 => Ok(width as u8),
+        _ => Err(Stop::Refused(TopologyCode::WidthRange)),
+    }
+}
+
+/// Reads a line that begins `group `, after so many groups.
+pub(crate) fn group_on(
+    alloc: Global,
+    text: &[u8],
+    line: Line,
+    names: &IndexSet<Name>,
+    before: usize,
+) -> Result<Group, Stop<TopologyCode>>
+    requires span { IsIn text.now line }
+    requires few { length names.now.keys ≤ 16 }
+    ensures read { Gives (λ g. g) result (group_row names.now.keys before (row_at text.now line)) }
+    ensures room { IfOk result (λ _. before < 256) }
+{
+    if !line.whole || has_empty_token(text, line) || !has_three_tokens(text, line) {
+        return Err(Stop::Refused(TopologyCode::BadLine));
+    }
+    if before >= GROUPS {
+        return Err(Stop::Refused(TopologyCode::TooManyGroups));
+    }
+    let mut tokens = tokens_of(text, line);
+    let _ = tokens.next_word();
+    let width = width_of(tokens.next_word().unwrap_or(&[]))?;
+    let links = links_of(alloc, names, &mut tokens)?;
+    Ok(Group::new(links, width))
+}

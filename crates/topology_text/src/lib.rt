@@ -1,0 +1,26 @@
+//! Topologies whose nodes have names: their one spelling, read and printed, and the families that are often met.
+#![tactic(auto)]
+
+mod families;
+mod family_kind;
+mod fault;
+mod group_line;
+mod link_word;
+mod name;
+mod named_topology;
+mod nodes_line;
+mod parts;
+mod printing;
+mod reading;
+#[cfg(test)]
+mod tests;
+
+pub use families::family;
+pub use family_kind::{FamilyKind, family_allows};
+pub use fault::{TopologyCode, TopologyFault};
+pub use name::Name;
+pub use named_topology::NamedTopology;
+pub use parts::{groups_part, header_part, nodes_part};
+pub use printing::{print_topology, push_topology};
+pub use reading::{read_topology, topology_part};
+pub use std::alloc::AllocError as OutOfMemory;

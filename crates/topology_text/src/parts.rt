@@ -1,0 +1,96 @@
+//! The parts of a topology text, each taken off the front of the lines.
+
+ghost use Rattle.std.specs.Prelude.{◌≡◌, ◌+◌, ◌^◌, ◌<◌, ◌≤◌, ◌&&◌, length, OnOk, IfOk, bytes_eq, codes};
+ghost use Rattle.text_lines.specs.Line.{IsIn, row_at};
+ghost use Rattle.text_lines.specs.Check.{Gives, line_part};
+ghost use Rattle.topology_text.specs.Reading.{header_line, nodes_line, groups_at, begins};
+
+use crate::fault::TopologyCode;
+use crate::group_line::group_on;
+use crate::name::Name;
+use crate::nodes_line::nodes_on;
+use indexmap::IndexSet;
+use schedule::Group;
+use std::alloc::Global;
+use text_lines::{Line, Lines, Stop};
+
+/// Takes the header's line. A refusal comes with the number of its line.
+pub fn header_part(text: &[u8], lines: &mut Lines<'_>) -> Result<(), Stop<(TopologyCode, u32)>>
+    requires same { lines.old.text ≡ text.now }
+    requires room { lines.old.place.number + 1 < 2 ^ 32 }
+    ensures read { Gives (λ _. (tt, lines.new.place)) result (line_part header_line lines.old.place) }
+    ensures text { lines.new.text ≡ lines.old.text }
+{
+    let number = lines.number();
+    match lines.next() {
+        Some(line) if is_header(text, line) => Ok(()),
+        _ => Err(Stop::Refused((TopologyCode::BadHeader, number))),
+    }
+}
+
+fn is_header(text: &[u8], line: Line) -> bool
+    requires { IsIn text.now line }
+    ensures { result ≡ (line.whole && bytes_eq (row_at text.now line).bytes (codes "topology 1")) }
+{
+    line.whole && &text[line.start..line.end] == b"topology 1".as_slice()
+}
+
+/// Takes the line of the nodes, and gives their names in the order of the line.
+pub fn nodes_part(
+    alloc: Global,
+    text: &[u8],
+    lines: &mut Lines<'_>,
+) -> Result<IndexSet<Name>, Stop<(TopologyCode, u32)>>
+    requires same { lines.old.text ≡ text.now }
+    requires room { lines.old.place.number + 1 < 2 ^ 32 }
+    ensures read { Gives (λ s. (s.keys, lines.new.place)) result (line_part nodes_line lines.old.place) }
+    ensures few { IfOk result (λ s. length s.keys ≤ 16) }
+    ensures text { lines.new.text ≡ lines.old.text }
+{
+    let number = lines.number();
+    let Some(line) = lines.next() else {
+        return Err(Stop::Refused((TopologyCode::NoNodes, number)));
+    };
+    match nodes_on(alloc, text, line) {
+        Ok(names) => Ok(names),
+        Err(Stop::Memory) => Err(Stop::Memory),
+        Err(Stop::Refused(code)) => Err(Stop::Refused((code, number))),
+    }
+}
+
+fn begins_group(text: &[u8], line: Line) -> bool
+    requires { IsIn text.now line }
+    ensures { result ≡ begins (codes "group ") (row_at text.now line).bytes }
+{
+    text[line.start..line.end].starts_with(b"group ")
+}
+
+/// Takes the lines that begin `group `, up to the first that doesn't.
+pub fn groups_part(
+    alloc: Global,
+    text: &[u8],
+    names: &IndexSet<Name>,
+    lines: &mut Lines<'_>,
+) -> Result<Vec<Group>, Stop<(TopologyCode, u32)>>
+    requires same { lines.old.text ≡ text.now }
+    requires few { length names.now.keys ≤ 16 }
+    requires room { lines.old.place.number + 257 < 2 ^ 32 }
+    ensures read { Gives (λ v. (v.items, lines.new.place)) result (groups_at names.now.keys lines.old.place) }
+    ensures text { lines.new.text ≡ lines.old.text }
+    ensures moved { OnOk result (lines.new.place.number ≤ lines.old.place.number + 256) }
+{
+    let mut groups = Vec::new(alloc);
+    while let Some(line) = lines.peek() {
+        if !begins_group(text, line) {
+            break;
+        }
+        let group = match group_on(alloc, text, line, names, groups.len()) {
+            Ok(group) => group,
+            Err(Stop::Memory) => return Err(Stop::Memory),
+            Err(Stop::Refused(code)) => return Err(Stop::Refused((code, line.number))),
+        };
+        groups.push(group)?;
+        let _ = lines.next();
+    }
+    Ok(groups)
+}

@@ -1,0 +1,74 @@
+//! Topologies that a text spells.
+
+ghost use Rattle.std.specs.Prelude.{◌≡◌, ◌≢◌, ◌+◌, ◌^◌, ◌<◌, ◌≤◌, Ok, OnOk, IfOk, IfErr};
+ghost use Rattle.text_lines.specs.Check.{Gives};
+ghost use Rattle.topology_text.specs.declared.fault.TopologyCode.{TopologyCode};
+ghost use Rattle.topology_text.specs.Value.{NamedTopologyValue, IsNamed};
+ghost use Rattle.topology_text.specs.Spelling.{spelling};
+ghost use Rattle.topology_text.specs.Reading.{topology_at, topology_of};
+ghost use Rattle.topology_text.specs.First.{FailsFirstAt};
+ghost use Rattle.topology_text.specs.Answer.{Answers};
+
+use crate::fault::{TopologyCode, TopologyFault};
+use crate::named_topology::NamedTopology;
+use crate::parts::{groups_part, header_part, nodes_part};
+use std::alloc::Global;
+use text_lines::{Lines, Stop};
+
+/// Takes a topology off the front of the lines: its groups end at the first line that doesn't begin `group `.
+#[tactic(auto, unfolding(crate::specs::Reading::topology_at))]
+pub fn topology_part(
+    alloc: Global,
+    text: &[u8],
+    lines: &mut Lines<'_>,
+) -> Result<NamedTopology, Stop<(TopologyCode, u32)>>
+    requires same { lines.old.text ≡ text.now }
+    requires room { lines.old.place.number + 259 < 2 ^ 32 }
+    ensures read { Gives (λ t. (t, lines.new.place)) result (topology_at lines.old.place) }
+    ensures text { lines.new.text ≡ lines.old.text }
+    ensures moved { OnOk result (lines.new.place.number ≤ lines.old.place.number + 258) }
+{
+    header_part(text, lines)?;
+    let names = nodes_part(alloc, text, lines)?;
+    let groups = groups_part(alloc, text, &names, lines)?;
+    Ok(NamedTopology::from_parts(alloc, &names, groups)?)
+}
+
+#[tactic(auto, unfolding(crate::specs::Reading::topology_of))]
+fn whole_topology(alloc: Global, text: &[u8]) -> Result<NamedTopology, Stop<(TopologyCode, u32)>>
+    ensures { Gives (λ t. t) result (topology_of text.now) }
+{
+    let mut lines = Lines::new(text);
+    let topology = topology_part(alloc, text, &mut lines)?;
+    match lines.peek() {
+        None => Ok(topology),
+        Some(line) => Err(Stop::Refused((TopologyCode::BadLine, line.number))),
+    }
+}
+
+fn answered(alloc: Global, bytes: &[u8]) -> Result<NamedTopology, TopologyFault>
+    ensures { Answers result (topology_of bytes.now) }
+{
+    match whole_topology(alloc, bytes) {
+        Ok(topology) => Ok(topology),
+        Err(Stop::Memory) => Err(TopologyFault {
+            code: TopologyCode::OutOfMemory,
+            line: 0,
+        }),
+        Err(Stop::Refused((code, line))) => Err(TopologyFault { code, line }),
+    }
+}
+
+/// The topology that the text spells, all of the text. A fault names the first check that fails, and its line.
+pub fn read_topology(alloc: Global, bytes: &[u8]) -> Result<NamedTopology, TopologyFault>
+    // What is read is spelled so.
+    ensures found { IfOk result (λ t. IsNamed t × (bytes.now ≡ spelling t)) }
+    // What is spelled so is read, unless memory runs out.
+    ensures only { (t : NamedTopologyValue) → IsNamed t → bytes.now ≡ spelling t → Answers result (Ok t) }
+    // Which check fails first, and on which line.
+    ensures exact { Answers result (topology_of bytes.now) }
+    // Up to that line the text could still be a topology's, and with it no longer.
+    ensures first { IfErr result (λ fault. fault.code ≢ TopologyCode.OutOfMemory → FailsFirstAt bytes.now fault.line) }
+{
+    answered(alloc, bytes)
+}
