@@ -1,8 +1,7 @@
 -- The lines of a replay, one after the other.
-use Rattle.std.proofs.Common.{◌≡◌, ℕ, zero, suc, ◌+◌, ◌<◌, ◌∷◌, [], ◌++◌, List, Bool, true, false, if◌then◌else◌, codes, decimal, map, filter, take, length, refl, ◌∙◌, sym, ap, arith, add-one, add-zero, zero-add, append-nil, append_assoc, slice_index_or}
-use Rattle.std.specs.List.{flat_map, range_with_len, join_with_byte}
+use Rattle.std.proofs.Common.{◌≡◌, ℕ, zero, suc, ◌+◌, ◌∷◌, [], ◌++◌, List, Bool, true, false, if◌then◌else◌, codes, decimal, map, filter, take, length, refl, ◌∙◌, sym, ap, arith, add-one, add-zero, zero-add, append-nil, append_assoc}
+use Rattle.std.specs.List.{flat_map, range_with_len}
 use Rattle.std.proofs.lemmas.Grind.{flat_map-append}
-use Rattle.std.proofs.lemmas.List.{map-append}
 use Rattle.std.proofs.lemmas.List.Elements.{filter-append}
 use Rattle.std.proofs.lemmas.List.Folds.{flat_map-map}
 use Rattle.std.proofs.lemmas.List.FromFn.{map-range_with_len_more}

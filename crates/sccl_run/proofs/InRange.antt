@@ -1,12 +1,12 @@
 -- What a replay names is there to be named.
-use Rattle.std.proofs.Common.{◌≡◌, ℕ, zero, suc, ◌+◌, ◌<◌, Bool, true, false, if◌then◌else◌, List, [], ◌∷◌, length, map, filter, find, not, All, get_or, Option, None, Some, IfSome, refl, sym, ap, ◌∙◌, subst, arith}
+use Rattle.std.proofs.Common.{◌≡◌, ℕ, zero, suc, ◌+◌, ◌<◌, Bool, true, false, if◌then◌else◌, List, [], ◌∷◌, length, filter, find, not, All, get_or, Option, None, Some, IfSome, refl, sym, ap, ◌∙◌}
 use Rattle.std.specs.List.{AllByRecursion, range_with_len}
 use Rattle.std.proofs.lemmas.List.Elements.{All-map, All-from_recursion, recursion_from_All}
 use Rattle.schedule.specs.declared.hop.Hop.{Hop}
 use Rattle.schedule.specs.declared.verdict.Verdict.{Verdict}
 use Rattle.schedule.specs.Links.{TopologyValue, is_usable}
-use Rattle.schedule.specs.Sends.{ScheduleValue, IsInRange, is_hop_below, link_of}
-use Rattle.schedule.specs.Placed.{PlacementValue, holds, placed, all_pairs}
+use Rattle.schedule.specs.Sends.{ScheduleValue, IsInRange, link_of}
+use Rattle.schedule.specs.Placed.{PlacementValue, holds, all_pairs}
 use Rattle.schedule.specs.Running.{after, run_of}
 use Rattle.schedule.specs.Judging.{judged, verdict_of, first_unlinked, first_overfull, first_lacking}
 use Rattle.schedule.proofs.Placing.{IsBelow, all_below}

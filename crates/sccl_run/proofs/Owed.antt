@@ -1,5 +1,5 @@
 -- What is due with each status.
-use Rattle.std.proofs.Common.{◌≡◌, ℕ, ◌<◌, List, length, refl}
+use Rattle.std.proofs.Common.{◌≡◌, ℕ, ◌<◌, List, length}
 use Rattle.sccl_run.specs.declared.status.Status.{Status}
 use Rattle.sccl_run.specs.declared.status.Status.TheVariants.{TooLong}
 use Rattle.sccl_run.specs.Run.{Due, IsCommand, limit, refusal}

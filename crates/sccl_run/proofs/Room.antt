@@ -1,5 +1,5 @@
 -- A text that is not too long has few lines.
-use Rattle.std.proofs.Common.{◌≡◌, ◌==◌, ℕ, ◌+◌, ◌<◌, ◌≤◌, ◌^◌, Bool, true, false, if◌then◌else◌, List, [], ◌∷◌, ◌++◌, length, drop, Ok, sym, ap, ◌∙◌, arith, length-append, length-drop}
+use Rattle.std.proofs.Common.{◌≡◌, ◌==◌, ℕ, ◌+◌, ◌<◌, ◌≤◌, ◌^◌, true, false, if◌then◌else◌, List, [], ◌∷◌, length, drop, Ok, ap, arith, length-append, length-drop}
 use Rattle.text_lines.specs.Text.{Row, Place, rows_of, onto_row, start, behind}
 use Rattle.topology_text.specs.Value.{NamedTopologyValue}
 use Rattle.topology_text.specs.Reading.{topology_at}

@@ -1,5 +1,5 @@
 -- The loop over the lines of the sends, one turn at a time.
-use Rattle.std.proofs.Common.{◌≡◌, ℕ, ◌+◌, ◌∷◌, [], ◌++◌, List, Bool, true, false, Option, None, Some, IfNone, IfSome, Ok, Err, Result, codes, drop, nat_eq, refl, ◌∙◌, sym, ap, subst, arith}
+use Rattle.std.proofs.Common.{◌≡◌, ℕ, ◌+◌, ◌∷◌, [], ◌++◌, List, Bool, true, false, Option, None, Some, IfNone, IfSome, Ok, Err, Result, codes, drop, nat_eq, refl, ◌∙◌, sym}
 use Rattle.std.specs.List.{starts_with, last_or}
 use Rattle.schedule.specs.declared.hop.Hop.{Hop}
 use Rattle.text_lines.specs.Text.{Row, Place}

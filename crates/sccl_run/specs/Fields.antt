@@ -1,5 +1,5 @@
 -- The checks of a line's tokens, from left to right.
-use Rattle.std.specs.Prelude.{◌==◌, not, ℕ, List, [], ◌∷◌, length, drop, nat_eq, nat_lt, bytes_eq, Result, Ok, Err}
+use Rattle.std.specs.Prelude.{not, ℕ, List, [], ◌∷◌, length, drop, nat_eq, nat_lt, bytes_eq, Result, Ok, Err}
 use Rattle.std.specs.List.{starts_with}
 use Rattle.text_lines.specs.Check.{◌>>=◌, refuse, need}
 use Rattle.text_lines.specs.Number.{number_up_to}

@@ -1,5 +1,5 @@
 -- A report of the first form, by its parts in the code.
-use Rattle.std.specs.Prelude.{ℕ, List, [], ◌∷◌, codes}
+use Rattle.std.specs.Prelude.{ℕ, [], ◌∷◌, codes}
 use Rattle.schedule.specs.Sends.{ScheduleValue}
 use Rattle.topology_text.specs.Value.{NamedTopologyValue}
 use Rattle.sccl_run.specs.declared.limits.Limits.{Limits}

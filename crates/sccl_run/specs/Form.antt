@@ -1,11 +1,10 @@
 -- The checks of a report of the first form, line by line, each line's from left to right.
-use Rattle.std.specs.Prelude.{◌==◌, ◌&&◌, not, ℕ, ◌+◌, ◌-◌, Bool, true, false, if◌then◌else◌, List, [], ◌∷◌, ◌++◌, length, drop, sum, codes, decimal, nat_eq, nat_lt, nat_le, bytes_eq, Option, None, Some, Result, Ok, Err}
+use Rattle.std.specs.Prelude.{◌==◌, ◌&&◌, not, ℕ, ◌+◌, ◌-◌, Bool, true, if◌then◌else◌, List, [], ◌∷◌, ◌++◌, length, sum, codes, nat_eq, nat_le, bytes_eq, Option, None, Some, Result, Ok, Err}
 use Rattle.std.specs.List.{starts_with, last_or}
 use Rattle.schedule.specs.declared.hop.Hop.{Hop}
-use Rattle.schedule.specs.Sends.{ScheduleValue, hop_before}
+use Rattle.schedule.specs.Sends.{hop_before}
 use Rattle.text_lines.specs.Text.{Row, Place, start, words_of}
 use Rattle.text_lines.specs.Check.{◌>>=◌, refuse, need, at_line, line_part}
-use Rattle.text_lines.specs.Number.{number_up_to}
 use Rattle.sccl_run.specs.Fields.{fixed_word, number_in, keyed_number, no_more}
 use Rattle.topology_text.specs.declared.fault.TopologyCode.{TopologyCode}
 use Rattle.topology_text.specs.Family.{numbered_name}
@@ -13,7 +12,7 @@ use Rattle.topology_text.specs.Value.{NamedTopologyValue}
 use Rattle.topology_text.specs.Reading.{node_of, topology_at}
 use Rattle.sccl_run.specs.declared.code.FormCode.{FormCode}
 use Rattle.sccl_run.specs.declared.code.FormCode.TheVariants.{NotFirstForm}
-use Rattle.sccl_run.specs.Reports.{WordsValue, PointValue, CandidateValue, ReportValue}
+use Rattle.sccl_run.specs.Reports.{WordsValue, CandidateValue, ReportValue}
 
 -- ---- lines
 

@@ -1,5 +1,5 @@
 -- Reports, as values: the words that were asked, the topology, and the frontier that answers them.
-use Rattle.std.specs.Prelude.{◌≡◌, ℕ, ◌+◌, ◌<◌, ◌≤◌, List, [], ◌∷◌, ◌++◌, length, map, sum, codes, decimal}
+use Rattle.std.specs.Prelude.{◌≡◌, ℕ, ◌+◌, ◌<◌, ◌≤◌, List, [], ◌∷◌, length, map, sum, codes}
 use Rattle.std.specs.List.{range_with_len}
 use Rattle.schedule.specs.Sends.{ScheduleValue, IsSchedule, IsInRange}
 use Rattle.topology_text.specs.Family.{numbered_name}

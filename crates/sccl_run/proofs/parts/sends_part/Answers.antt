@@ -1,4 +1,4 @@
-use Rattle.std.proofs.Common.{◌≡◌, ◌∙◌, sym, ap, None, ◌+◌, length, refl, arith, rules}
+use Rattle.std.proofs.Common.{◌≡◌, ◌∙◌, sym, ap, None, ◌+◌, length, arith, rules}
 use Rattle.text_lines.specs.Text.{Place, behind}
 use Rattle.text_lines.specs.Line.{row_at}
 use Rattle.sccl_run.specs.FirstForm.{candidate_value}

@@ -1,4 +1,4 @@
-use Rattle.std.proofs.Common.{◌≡◌, ◌≤◌, ◌+◌, ◌<◌, ◌^◌, None, length}
+use Rattle.std.proofs.Common.{◌≡◌, ◌+◌, None, length}
 use Rattle.std.specs.List.{last_or}
 use Rattle.sccl_run.specs.Form.{sends_from, sends_at}
 use Rattle.sccl_run.specs.FirstForm.{candidate_value}

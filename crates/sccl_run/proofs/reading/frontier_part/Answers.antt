@@ -1,5 +1,5 @@
-use Rattle.std.proofs.Common.{refl, sym, ap, arith}
-use Rattle.sccl_run.specs.FirstForm.{candidate_value, words, report, point}
+use Rattle.std.proofs.Common.{refl}
+use Rattle.sccl_run.specs.FirstForm.{candidate_value, words}
 use Rattle.sccl_run.proofs.ReaderAnswers.{parts_point}
 use Rattle.sccl_run.proofs.NumberedNames.{numbered_take}
 use Rattle.sccl_run.proofs.Room.{room_after}

@@ -1,4 +1,3 @@
-use Rattle.std.proofs.Common.{sym, ◌∙◌, arith}
 use Rattle.sccl_run.specs.FirstForm.{words}
 use Rattle.sccl_run.proofs.ReaderAnswers.{synth_part_valid, topology_part_valid}
 use Rattle.sccl_run.proofs.Room.{room_left}

@@ -1,4 +1,4 @@
-use Rattle.std.proofs.Common.{◌++◌, ◌∷◌, codes, decimal}
+use Rattle.std.proofs.Common.{◌∷◌, codes, decimal}
 use Rattle.text_lines.specs.Text.{line, text_of}
 use Rattle.sccl_run.specs.Replay.{run_lines, verdict_words}
 use Rattle.sccl_run.proofs.HolderLines.{appends_six, replay_is}

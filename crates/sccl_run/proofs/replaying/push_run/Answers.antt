@@ -1,4 +1,4 @@
-use Rattle.std.proofs.Common.{sym, ap, ◌∙◌, take, arith, length, length-take}
+use Rattle.std.proofs.Common.{sym, ap, ◌∙◌, take, arith, length-take}
 use Rattle.std.proofs.lemmas.List.{take_more}
 use Rattle.text_lines.specs.Text.{text_of}
 use Rattle.sccl_run.specs.Replay.{run_lines, step_lines}
