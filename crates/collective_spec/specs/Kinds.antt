@@ -1,5 +1,5 @@
 -- The kinds of collectives (Cai et al., PPoPP 2021, table of collectives).
-use Rattle.std.specs.Prelude.{ℕ, ◌%◌, ◌==◌, ◌&&◌, Bool, true, false, List, nat_le, codes}
+use Rattle.std.specs.Prelude.{ℕ, ◌%◌, ◌==◌, ◌&&◌, Bool, true, false, List, [], ◌∷◌, nat_le, codes}
 use Rattle.collective_spec.specs.declared.kind.Kind.{Kind}
 use Rattle.collective_spec.specs.declared.kind.Kind.TheVariants.{Broadcast, Gather, Allgather, Scatter, Alltoall, Reduce, Reducescatter, Allreduce}
 
@@ -24,6 +24,12 @@ word_of Alltoall = codes "alltoall"
 word_of Reduce = codes "reduce"
 word_of Reducescatter = codes "reducescatter"
 word_of Allreduce = codes "allreduce"
+
+-- each kind's word, with its number
+abbrev pub kind_rows : List (List ℕ × ℕ)
+kind_rows =
+    (codes "broadcast", 0) ∷ (codes "gather", 1) ∷ (codes "allgather", 2) ∷ (codes "scatter", 3)
+    ∷ (codes "alltoall", 4) ∷ (codes "reduce", 5) ∷ (codes "reducescatter", 6) ∷ (codes "allreduce", 7) ∷ []
 
 -- the kind has all chunks, or all sums, at one node at one end
 abbrev pub takes_root : Kind → Bool

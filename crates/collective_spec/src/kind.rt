@@ -1,5 +1,7 @@
 ghost use Rattle.std.specs.Prelude.{◌≡◌, IsSome, IfSome};
-ghost use Rattle.collective_spec.specs.Kinds.{number_of, word_of, takes_root, allows};
+ghost use Rattle.collective_spec.specs.Kinds.{number_of, word_of, kind_rows, takes_root, allows};
+
+use case_table::{Table, table};
 
 /// A collective operation.
 #[derive(Clone, Copy, Debug, PartialEq, Eq)]
@@ -22,6 +24,7 @@ pub enum Kind {
     Allreduce,
 }
 
+#[tactic(auto, using(crate::proofs::KindRows::number_found, crate::proofs::KindRows::word_found))]
 impl Kind {
     /// The number of the kind, from 0 to 7 in the order of the variants.
     pub fn number(self) -> u32
@@ -52,16 +55,7 @@ impl Kind {
     pub fn word(self) -> &'static str
         ensures { result.now ≡ word_of self }
     {
-        match self {
-            Kind::Broadcast => "broadcast",
-            Kind::Gather => "gather",
-            Kind::Allgather => "allgather",
-            Kind::Scatter => "scatter",
-            Kind::Alltoall => "alltoall",
-            Kind::Reduce => "reduce",
-            Kind::Reducescatter => "reducescatter",
-            Kind::Allreduce => "allreduce",
-        }
+        words().word_of(self.number()).unwrap()
     }
 
     /// The kind with this name; `None` exactly where no kind has it.
@@ -69,18 +63,27 @@ impl Kind {
         ensures named { IfSome result (λ kind. word_of kind ≡ word.now) }
         ensures known { (kind : Kind) → word_of kind ≡ word.now → result ≡ Some kind }
     {
-        match word {
-            "broadcast" => Some(Kind::Broadcast),
-            "gather" => Some(Kind::Gather),
-            "allgather" => Some(Kind::Allgather),
-            "scatter" => Some(Kind::Scatter),
-            "alltoall" => Some(Kind::Alltoall),
-            "reduce" => Some(Kind::Reduce),
-            "reducescatter" => Some(Kind::Reducescatter),
-            "allreduce" => Some(Kind::Allreduce),
-            _ => None,
+        match words().find(word) {
+            Some(number) => Kind::of_number(number),
+            None => None,
         }
     }
+}
+
+/// The names of the kinds, and their numbers.
+fn words() -> Table
+    ensures { result ≡ kind_rows }
+{
+    table![
+        "broadcast" => 0,
+        "gather" => 1,
+        "allgather" => 2,
+        "scatter" => 3,
+        "alltoall" => 4,
+        "reduce" => 5,
+        "reducescatter" => 6,
+        "allreduce" => 7,
+    ]
 }
 
 /// Whether one node is the root of such a collective.
