@@ -12,7 +12,7 @@ use crate::order::search_cmp;
 use itertools::Itertools;
 use std::alloc::Global;
 
-/// Each number of rounds with each chunk count.
+/// Each number of rounds, from `step` to `step + k`, with each chunk count.
 fn pairs(alloc: Global, step: u8, k: u8, allowed: &[u8]) -> Result<Vec<Candidate>, OutOfMemory>
     requires { step + k < 255 }
     ensures { IfOk result (λ v. v.items ≡ map (candidate_at step) (rows (range_with_len step (k + 1)) allowed.now)) }
@@ -23,8 +23,9 @@ fn pairs(alloc: Global, step: u8, k: u8, allowed: &[u8]) -> Result<Vec<Candidate
         .collect(alloc)
 }
 
-/// The candidates of a step, in the order of the search. The chunk counts are `allowed`, in ascending order.
-#[tactic(auto, using(crate::proofs::Costing::upto_trans))]
+/// The candidates of `step` steps, from 1 to `max_s`: each number of rounds from `step` to `step + k`
+/// with each chunk count of `allowed`, which ascend and are from 1 to `max_c`. They stand in the order
+/// of the search, each once.
 pub fn list(
     alloc: Global,
     limits: &Limits,
@@ -36,6 +37,8 @@ pub fn list(
     requires ascending { IsStrictlyIncreasing allowed.now }
     requires counts { All (IsCount limits.now.max_c) allowed.now }
     ensures members { IfOk result (λ v. (x : Candidate) → Contains v.items x ↔ IsListed limits.now.k step allowed.now x) }
+
+    // No candidate comes before itself, so each stands once.
     ensures order { IfOk result (λ v. AllPairs Before v.items) }
 {
     let mut candidates = pairs(alloc, step, limits.k(), allowed)?;
