@@ -1,0 +1,5 @@
+//! Clauses that count how many literals are true.
+#![tactic(auto)]
+
+mod laws;
+mod vectors;

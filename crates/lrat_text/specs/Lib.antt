@@ -1,0 +1,3 @@
+pub mod Printing
+pub mod Tokens
+pub mod Reading

@@ -1,0 +1,69 @@
+-- What the rounds of a step allow, and the formula of a candidate (Cai et al., PPoPP 2021, section on the encoding).
+use Rattle.std.specs.Prelude.{ℕ, ◌+◌, ◌-◌, ◌*◌, if◌then◌else◌, List, [], ◌∷◌, ◌++◌, map, flat_map, nat_lt}
+use Rattle.std.specs.List.{range_with_len, position_or_len}
+use Rattle.schedule.specs.Links.{GroupValue, TopologyValue, same_link}
+use Rattle.schedule.specs.Placed.{PlacementValue}
+use Rattle.cnf_formula.specs.Literals.{LitValue, negation}
+use Rattle.cnf_formula.specs.Formulas.{FormulaValue}
+use Rattle.cardinality.specs.Counting.{output}
+use Rattle.cardinality.specs.Counters.{counter_of}
+use Rattle.round_encoding.specs.declared.encoding.Encoding.{Encoding}
+use Rattle.round_encoding.specs.Variables.{SendMapValue, Frame, map_of, frame_of, extra_from, chunks_of, steps_of, extra_of, sent, extra_round, own_variables}
+use Rattle.round_encoding.specs.Sending.{sending}
+
+-- a step with j + 1 extra rounds has j of them
+abbrev pub extra_in_order : Frame → List (List LitValue)
+extra_in_order f = flat_map (λ s. map (λ j. negation (extra_round f s (j + 1)) ∷ extra_round f s j ∷ []) (range_with_len 1 (f.extra - 1))) (steps_of f.map)
+
+-- literals that are counted up to a bound, and what is said of the outputs, numbered from 1
+pub record Count : Type 0 where
+  pub inputs : List LitValue
+  pub bound : ℕ
+  pub says : (ℕ → LitValue) → List (List LitValue)
+
+-- the steps have no more extra rounds together than there are
+abbrev pub count_of_rounds : Frame → Count
+count_of_rounds f = record {
+  inputs = flat_map (λ s. map (extra_round f s) (extra_of f)) (steps_of f.map);
+  bound = f.extra;
+  says = λ o. (negation (o (f.extra + 1)) ∷ []) ∷ [];
+}
+
+abbrev pub number_of : SendMapValue → ℕ × ℕ → ℕ
+number_of m link = position_or_len (same_link link) m.links
+
+-- a group carries its width in a step's first round, and in each extra round that the step has
+abbrev pub count_of_group : Frame → ℕ → GroupValue → Count
+count_of_group f s group = record {
+  inputs = flat_map (λ c. map (λ link. sent f.map c (number_of f.map link) s) group.links) (chunks_of f.map);
+  bound = group.width * (1 + f.extra);
+  says = λ o. map (λ j. negation (o (group.width * j + 1)) ∷ extra_round f s j ∷ []) (extra_of f) ++ (negation (o (group.width * (1 + f.extra) + 1)) ∷ []) ∷ [];
+}
+
+abbrev pub counts_of : Frame → TopologyValue → List Count
+counts_of f t = (if nat_lt 0 f.extra then count_of_rounds f ∷ [] else []) ++ flat_map (λ s. map (count_of_group f s) t.groups) (steps_of f.map)
+
+-- the counters in their order, each with the next free variables
+abbrev pub counted : ℕ → List Count → FormulaValue
+counted before [] = record { vars = before; clauses = [] }
+counted before (count ∷ counts) =
+    let counter = counter_of before count.inputs count.bound in
+    let later = counted (before + counter.vars) counts in
+    record { vars = later.vars; clauses = counter.clauses ++ count.says (output counter) ++ later.clauses }
+
+-- the formula of a candidate of so many steps and rounds
+abbrev pub formula_of : TopologyValue → PlacementValue → PlacementValue → ℕ → ℕ → FormulaValue
+formula_of t pre post steps rounds =
+    let f = frame_of t pre steps rounds in
+    let counters = counted (own_variables f) (counts_of f t) in
+    record { vars = counters.vars; clauses = sending f.map pre post ++ extra_in_order f ++ counters.clauses }
+
+-- the formula, with what its variables stand for
+abbrev pub encoding_of : TopologyValue → PlacementValue → PlacementValue → ℕ → ℕ → Encoding
+encoding_of t pre post steps rounds = record {
+  formula = formula_of t pre post steps rounds;
+  map = map_of t pre steps;
+  extra_from = extra_from (map_of t pre steps);
+  steps = steps;
+  extra = rounds - steps;
+}
