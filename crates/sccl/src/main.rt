@@ -3,12 +3,10 @@
 
 mod words;
 
-use std::process::ExitCode;
-
+use crate::words::words_of;
 use outer_ports::{ReaderSource, WriterSink};
 use sccl_run::run;
-
-use crate::words::words_of;
+use std::process::ExitCode;
 
 fn main(rt: HostRuntime) -> ExitCode {
     match words_of(&rt) {

@@ -1,10 +1,9 @@
 //! The words of the command line.
 
+use sccl_run::Status;
 use std::env;
 use std::env::Env;
 use std::io::ErrorKind;
-
-use sccl_run::Status;
 
 /// The words behind the program's name. Words that are not UTF-8 are no command; where memory runs out there are none.
 pub fn words_of<R: Env + AllocGlobal>(rt: &R) -> Result<Vec<String>, Status> {
