@@ -1,0 +1,5 @@
+pub mod Programs
+pub mod Bags
+pub mod Machines
+pub mod Runs
+pub mod Relay

@@ -1,0 +1,33 @@
+-- The programs of the nodes of a schedule (this project's own).
+use Rattle.std.specs.Prelude.{◌==◌, ◌&&◌, ℕ, if◌then◌else◌, List, ◌++◌, length, map, filter, nat_le}
+use Rattle.std.specs.List.{flat_map, range_with_len}
+use Rattle.schedule.specs.declared.hop.Hop.{Hop}
+use Rattle.schedule.specs.Sends.{ScheduleValue}
+use Rattle.node_programs.specs.declared.op.Op.{Op}
+use Rattle.node_programs.specs.declared.op.Op.TheVariants.{Send, Take}
+use Rattle.node_programs.specs.declared.op.Mode.{Mode}
+use Rattle.node_programs.specs.declared.op.Mode.TheVariants as mode
+
+-- takes of the first so many steps add, and later ones copy
+abbrev pub mode_at : ℕ → ℕ → Mode
+mode_at adding step = if nat_le step adding then mode.Add else mode.Copy
+
+abbrev pub send_of : Hop → Op
+send_of h = Send h.chunk h.to h.step
+
+abbrev pub take_of : ℕ → Hop → Op
+take_of adding h = Take h.chunk h.from h.step (mode_at adding h.step)
+
+-- in a step a node first sends, by chunk and receiver, and then takes, by chunk and sender: the order of the schedule's sends
+abbrev pub step_of : List Hop → ℕ → ℕ → ℕ → List Op
+step_of sends adding node step =
+    map send_of (filter (λ h. h.step == step && h.from == node) sends)
+    ++ map (take_of adding) (filter (λ h. h.step == step && h.to == node) sends)
+
+-- a node's operations, step by step
+abbrev pub program_of : ScheduleValue → ℕ → ℕ → List Op
+program_of s adding node = flat_map (step_of s.sends adding node) (range_with_len 1 (length s.rounds))
+
+-- the program of each node
+abbrev pub programs_of : ℕ → ScheduleValue → ℕ → List (List Op)
+programs_of nodes s adding = map (program_of s adding) (range_with_len 0 nodes)

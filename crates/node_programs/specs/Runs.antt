@@ -1,0 +1,46 @@
+-- Runs of the machine, in any order and in the order that a seed draws (this project's own).
+use Rattle.std.specs.Prelude.{◌≡◌, ℕ, zero, suc, ◌+◌, ◌*◌, ◌/◌, ◌%◌, ◌^◌, List, [], ◌∷◌, length, map, filter, sum, Option, None, Some, slice_index_or}
+use Rattle.std.specs.List.{range_with_len}
+use Rattle.node_programs.specs.Machines.{State, event, is_enabled}
+
+-- the nodes move in this order, each enabled in its turn
+abbrev pub LegalRun : State → List ℕ → Type 0
+LegalRun s [] = Unit {0}
+LegalRun s (node ∷ nodes) = (next : State) × (event s node ≡ Some next) × LegalRun next nodes
+
+-- the state that they lead to, if each is
+abbrev pub run_of : State → List ℕ → Option State
+run_of s [] = Some s
+run_of s (node ∷ nodes) = elim (event s node) [ None ↦ None | Some next ↦ run_of next nodes ]
+
+-- how many operations there are still to do
+abbrev pub operations : State → ℕ
+operations s = sum (map (λ ops. length ops) s.left)
+
+abbrev pub enabled : State → List ℕ
+enabled s = filter (is_enabled s) (range_with_len 0 (length s.left))
+
+-- the next state of the generator, modulo 2^64
+abbrev pub next_draw : ℕ → ℕ
+next_draw x = (6364136223846793005 * x + 1442695040888963407) % 2 ^ 64
+
+-- what is drawn: the state without its lowest 33 bits
+abbrev pub drawn : ℕ → ℕ
+drawn x = x / 2 ^ 33
+
+-- the node of that rank among those that are enabled, if there are any
+abbrev pub ranked : List ℕ → ℕ → Option ℕ
+ranked [] x = None
+ranked (node ∷ nodes) x = Some (slice_index_or (node ∷ nodes) (drawn x % length (node ∷ nodes)) node)
+
+-- the next so many nodes that the generator picks, until none is enabled
+abbrev pub picked : ℕ → State → ℕ → List ℕ
+picked zero s x = []
+picked (suc n) s x = elim (ranked (enabled s) (next_draw x)) [
+  | None ↦ []
+  | Some node ↦ elim (event s node) [ None ↦ [] | Some next ↦ node ∷ picked n next (next_draw x) ]
+]
+
+-- the order that a seed draws: no run has more events than there are operations
+abbrev pub chosen : State → ℕ → List ℕ
+chosen s seed = picked (operations s) s seed

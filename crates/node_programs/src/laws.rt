@@ -1,0 +1,16 @@
+//! What the definitions say of every machine.
+
+ghost use Rattle.std.specs.Prelude.{◌≡◌, ℕ, ◌<◌, Some, [], true, false, length};
+ghost use Rattle.node_programs.specs.Machines.{State, event, is_enabled, is_finished};
+ghost use Rattle.node_programs.specs.Runs.{LegalRun, run_of};
+
+/// No event leaves the machine as it is.
+pub fn no_event_is_a_legal_run()
+    ensures legal { (s : State) → LegalRun s [] }
+    ensures stays { (s : State) → run_of s [] ≡ Some s }
+{}
+
+/// Where every program is at its end, no node is enabled.
+pub fn a_finished_machine_stays()
+    ensures { (s : State) → is_finished s ≡ true → (node : ℕ) → node < length s.left → is_enabled s node ≡ false }
+{}

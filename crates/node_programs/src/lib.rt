@@ -1,0 +1,10 @@
+//! Programs of the nodes: their operations, and the machine that carries them out.
+#![tactic(auto)]
+
+mod laws;
+mod op;
+mod vectors;
+
+pub use laws::{a_finished_machine_stays, no_event_is_a_legal_run};
+pub use op::{Mode, Op};
+pub use vectors::{first_draw, relay_and_its_events, relay_in_programs, two_nodes_at_once};
