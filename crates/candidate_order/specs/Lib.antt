@@ -1,3 +1,4 @@
 pub mod Ranges
 pub mod Costs
 pub mod Listed
+pub mod Frontiers

@@ -2,19 +2,26 @@
 #![tactic(auto)]
 
 mod candidate;
+mod frontier_laws;
 mod laws;
 mod limits;
 mod listing;
+mod mark;
 mod order;
 #[cfg(test)]
 mod tests;
 
 pub use candidate::Candidate;
+pub use frontier_laws::{
+    better_than_optimal_is_refuted, no_point_settles_a_later_one,
+    nothing_said_is_right_only_of_nothing,
+};
 pub use laws::{
     before_is_irreflexive, before_is_total, before_is_transitive, better_comes_before,
     listed_are_within, no_worse_is_reflexive, no_worse_is_transitive,
 };
 pub use limits::Limits;
 pub use listing::list;
+pub use mark::Mark;
 pub use order::{better, cost_cmp, no_worse};
 pub use std::alloc::AllocError as OutOfMemory;

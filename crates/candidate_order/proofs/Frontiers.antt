@@ -1,0 +1,30 @@
+-- What a right frontier says, drawn out.
+use Rattle.std.proofs.Common.{◌≡◌, inl, inr, List, [], arith}
+use Rattle.std.specs.Prelude.{Contains, map}
+use Rattle.std.proofs.lemmas.List.Elements.{All-contains}
+use Rattle.candidate_order.specs.declared.candidate.Candidate.{Candidate}
+use Rattle.candidate_order.specs.declared.mark.Mark.TheVariants.{Optimal}
+use Rattle.candidate_order.specs.Costs.{NoWorse, Better, Before}
+use Rattle.candidate_order.specs.Frontiers.{QuestionValue, PointValue, FrontierValue, solved, IsWithin, IsPoint, RightFrontier, Searched}
+use Rattle.candidate_order.proofs.Rows.{Contains-map}
+
+none-contained : {X : Type 0} → (xs : List X) (x : X) → xs ≡ [] → Contains xs x → ⊥
+none-contained xs x e h = absurd (let lt = rw e at h.1 in omega (arith, lt))
+
+pub bare_right : (q : QuestionValue) (f : FrontierValue) → RightFrontier q f → f.points ≡ [] → f.refuted ≡ [] → f.unknown ≡ [] → (x : Candidate) → IsWithin q x → ⊥
+bare_right q f right points refuted unknown x w =
+    elim (right.whole x w) [
+      | inl h ↦ (let lt = rw points at h.2 in absurd (omega (arith, lt)))
+      | inr (inl h) ↦ none-contained f.refuted x refuted h
+      | inr (inr h) ↦ none-contained (map (λ u. u.candidate) f.unknown) x (rw unknown) h
+    ]
+
+pub better_refuted : (q : QuestionValue) (f : FrontierValue) → RightFrontier q f → (p : PointValue) → Contains f.points p → p.mark ≡ Optimal → (x : Candidate) → IsWithin q x → Better x p.candidate → Contains f.refuted x
+better_refuted q f right p h e x w b = let point : IsPoint q f.refuted p = All-contains (IsPoint q f.refuted) f.points p right.points h in (point.optimal.0 e) x w b
+
+pub points_differ : (q : QuestionValue) (f : FrontierValue) → RightFrontier q f → Searched q f → (p : PointValue) → Contains f.points p → (x : Candidate) → Contains (solved f) x → Before x p.candidate → NoWorse x p.candidate → ⊥
+points_differ q f right searched p h x at before no_worse =
+    let point : IsPoint q f.refuted p = All-contains (IsPoint q f.refuted) f.points p right.points h in
+    let tried = inl (Contains-map (λ a. a.candidate) f.points p h) in
+    let worth = (searched.tried p.candidate point.within).0 tried in
+    All-contains (λ a. Before a p.candidate → NoWorse a p.candidate → ⊥) (solved f) x worth at before no_worse

@@ -1,0 +1,94 @@
+-- What a search says of a topology and a collective, and when that is right (Cai et al., PPoPP 2021, Pareto-optimal schedules). For the collectives that copy.
+use Rattle.std.specs.Prelude.{◌≡◌, ◌↔◌, ◌⊎◌, ℕ, false, List, map, All, Any, AllPairs, Contains}
+use Rattle.schedule.specs.Links.{TopologyValue}
+use Rattle.schedule.specs.Sends.{ScheduleValue}
+use Rattle.schedule.specs.Solving.{Solves, Solvable, Tight}
+use Rattle.collective_spec.specs.declared.collective.Collective.{Collective}
+use Rattle.collective_spec.specs.Collectives.{instance_of, reduces}
+use Rattle.candidate_order.specs.declared.candidate.Candidate.{Candidate}
+use Rattle.candidate_order.specs.declared.mark.Mark.{Mark}
+use Rattle.candidate_order.specs.declared.mark.Mark.TheVariants.{Optimal, Open}
+use Rattle.candidate_order.specs.Ranges.{LimitsValue}
+use Rattle.candidate_order.specs.Costs.{NoWorse, Better, Before}
+use Rattle.candidate_order.specs.Listed.{Within}
+
+-- what is asked for
+pub record QuestionValue : Type 0 where
+  pub topology : TopologyValue
+  pub collective : Collective
+  pub limits : LimitsValue
+
+-- a candidate, a schedule for it, and what is claimed of it
+pub record PointValue : Type 0 where
+  pub candidate : Candidate
+  pub schedule : ScheduleValue
+  pub mark : Mark
+
+-- a candidate that was given up after so many conflicts
+pub record UnknownValue : Type 0 where
+  pub candidate : Candidate
+  pub conflicts : ℕ
+
+pub record FrontierValue : Type 0 where
+  pub points : List PointValue
+  pub refuted : List Candidate
+  pub unknown : List UnknownValue
+
+abbrev pub solved : FrontierValue → List Candidate
+solved f = map (λ p. p.candidate) f.points
+
+abbrev pub left : FrontierValue → List Candidate
+left f = map (λ u. u.candidate) f.unknown
+
+abbrev pub IsWithin : QuestionValue → Candidate → Type 0
+IsWithin q x = Within q.limits q.collective.kind q.topology.nodes x
+
+-- the schedule solves the collective's instance in the candidate's steps, rounds and chunk count
+abbrev pub IsSolvedBy : QuestionValue → Candidate → ScheduleValue → Type 0
+IsSolvedBy q x s = let i = instance_of q.collective q.topology.nodes x.c in Solves q.topology i.pre i.post s x.s x.r
+
+-- some schedule does
+abbrev pub IsSolvable : QuestionValue → Candidate → Type 0
+IsSolvable q x = let i = instance_of q.collective q.topology.nodes x.c in Solvable q.topology i.pre i.post x.s x.r
+
+-- a point is within the limits, its schedule solves it, and it is optimal exactly where every better candidate within the limits is refuted
+pub record IsPoint (q : QuestionValue) (refuted : List Candidate) (p : PointValue) : Type 0 where
+  pub within : IsWithin q p.candidate
+  pub solves : IsSolvedBy q p.candidate p.schedule
+  pub optimal : (p.mark ≡ Optimal) ↔ ((x : Candidate) → IsWithin q x → Better x p.candidate → Contains refuted x)
+  pub or_open : (p.mark ≡ Optimal) ⊎ (p.mark ≡ Open)
+
+-- an unknown candidate is within the limits, and was given up after all the conflicts that they allow
+pub record IsUnknown (q : QuestionValue) (u : UnknownValue) : Type 0 where
+  pub within : IsWithin q u.candidate
+  pub conflicts : u.conflicts ≡ q.limits.conflicts
+
+-- a point is no worse, as a point is than itself; or the candidate is refuted, or left unknown
+abbrev pub IsAnswered : FrontierValue → Candidate → Type 0
+IsAnswered f x = Any (λ p. NoWorse p.candidate x) f.points ⊎ (Contains f.refuted x ⊎ Contains (left f) x)
+
+-- what is said is right, and no candidate within the limits is passed over
+pub record RightFrontier (q : QuestionValue) (f : FrontierValue) : Type 0 where
+  pub copies : reduces q.collective.kind ≡ false
+  pub points : All (IsPoint q f.refuted) f.points
+  pub refuted : All (λ x. IsSolvable q x → ⊥) f.refuted
+  pub unknown : All (IsUnknown q) f.unknown
+  pub whole : (x : Candidate) → IsWithin q x → IsAnswered f x
+
+-- the candidate stands in one of the three lists
+abbrev pub IsTried : FrontierValue → Candidate → Type 0
+IsTried f x = Contains (solved f) x ⊎ (Contains f.refuted x ⊎ Contains (left f) x)
+
+-- no point before the candidate is no worse
+abbrev pub IsWorthTrying : FrontierValue → Candidate → Type 0
+IsWorthTrying f x = All (λ p. Before p x → NoWorse p x → ⊥) (solved f)
+
+-- the search tried just the candidates that no earlier point settles, each once and in its order, and no schedule wastes a send
+pub record Searched (q : QuestionValue) (f : FrontierValue) : Type 0 where
+  pub points_ascend : AllPairs Before (solved f)
+  pub refuted_ascend : AllPairs Before f.refuted
+  pub unknown_ascend : AllPairs Before (left f)
+  pub points_apart : All (λ x. (Contains f.refuted x ⊎ Contains (left f) x) → ⊥) (solved f)
+  pub refuted_apart : All (λ x. Contains (left f) x → ⊥) f.refuted
+  pub tried : (x : Candidate) → IsWithin q x → IsTried f x ↔ IsWorthTrying f x
+  pub tight : All (λ p. Tight (instance_of q.collective q.topology.nodes p.candidate.c).pre p.schedule) f.points

@@ -1,0 +1,23 @@
+//! What a right frontier says.
+
+ghost use Rattle.std.specs.Prelude.{◌≡◌, [], Contains};
+ghost use Rattle.candidate_order.specs.Costs.{NoWorse, Better, Before};
+ghost use Rattle.candidate_order.specs.Frontiers.{QuestionValue, PointValue, FrontierValue, solved, IsWithin, RightFrontier, Searched};
+
+use crate::candidate::Candidate;
+use crate::mark::Mark;
+
+/// A frontier that says nothing is right only where no candidate is within the limits.
+pub fn nothing_said_is_right_only_of_nothing()
+    ensures { (q : QuestionValue) (f : FrontierValue) → RightFrontier q f → f.points ≡ [] → f.refuted ≡ [] → f.unknown ≡ [] → (x : Candidate) → IsWithin q x → ⊥ }
+{}
+
+/// Every candidate within the limits that is better than an optimal point is refuted.
+pub fn better_than_optimal_is_refuted()
+    ensures { (q : QuestionValue) (f : FrontierValue) → RightFrontier q f → (p : PointValue) → Contains f.points p → p.mark ≡ Mark.Optimal → (x : Candidate) → IsWithin q x → Better x p.candidate → Contains f.refuted x }
+{}
+
+/// No point of a searched frontier is no worse than a later one.
+pub fn no_point_settles_a_later_one()
+    ensures { (q : QuestionValue) (f : FrontierValue) → RightFrontier q f → Searched q f → (p : PointValue) → Contains f.points p → (x : Candidate) → Contains (solved f) x → Before x p.candidate → NoWorse x p.candidate → ⊥ }
+{}
