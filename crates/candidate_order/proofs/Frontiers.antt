@@ -5,7 +5,7 @@ use Rattle.std.proofs.lemmas.List.Elements.{All-contains}
 use Rattle.candidate_order.specs.declared.candidate.Candidate.{Candidate}
 use Rattle.candidate_order.specs.declared.mark.Mark.TheVariants.{Optimal}
 use Rattle.candidate_order.specs.Costs.{NoWorse, Better, Before}
-use Rattle.candidate_order.specs.Frontiers.{QuestionValue, PointValue, FrontierValue, solved, IsWithin, IsPoint, RightFrontier, Searched}
+use Rattle.candidate_order.specs.Frontiers.{QuestionValue, PointValue, FrontierValue, solved, IsWithin, IsSolvable, IsPoint, RightFrontier, Searched}
 use Rattle.candidate_order.proofs.Rows.{Contains-map}
 
 none-contained : {X : Type 0} → (xs : List X) (x : X) → xs ≡ [] → Contains xs x → ⊥
@@ -28,3 +28,9 @@ points_differ q f right searched p h x at before no_worse =
     let tried = inl (Contains-map (λ a. a.candidate) f.points p h) in
     let worth = (searched.tried p.candidate point.within).0 tried in
     All-contains (λ a. Before a p.candidate → NoWorse a p.candidate → ⊥) (solved f) x worth at before no_worse
+
+pub never_both : (q : QuestionValue) (f : FrontierValue) → RightFrontier q f → (p : PointValue) → Contains f.points p → Contains f.refuted p.candidate → ⊥
+never_both q f right p h r =
+    let point : IsPoint q f.refuted p = All-contains (IsPoint q f.refuted) f.points p right.points h in
+    let by = point.solves in
+    All-contains (λ x. IsSolvable q x → ⊥) f.refuted p.candidate right.refuted r (record { schedule = p.schedule; valid = by.valid; in_range = by.in_range; solves = by.solves })

@@ -1,9 +1,10 @@
 -- What a search says of a topology and a collective, and when that is right (Cai et al., PPoPP 2021, Pareto-optimal schedules). For the collectives that copy.
 use Rattle.std.specs.Prelude.{◌≡◌, ◌↔◌, ◌⊎◌, ℕ, false, List, map, All, Any, AllPairs, Contains}
 use Rattle.schedule.specs.Links.{TopologyValue}
-use Rattle.schedule.specs.Sends.{ScheduleValue}
+use Rattle.schedule.specs.Sends.{ScheduleValue, IsSchedule, IsInRange}
 use Rattle.schedule.specs.Solving.{Solves, Solvable, Tight}
 use Rattle.collective_spec.specs.declared.collective.Collective.{Collective}
+use Rattle.collective_spec.specs.declared.instance.Instance.{Instance}
 use Rattle.collective_spec.specs.Collectives.{instance_of, reduces}
 use Rattle.candidate_order.specs.declared.candidate.Candidate.{Candidate}
 use Rattle.candidate_order.specs.declared.mark.Mark.{Mark}
@@ -37,19 +38,24 @@ pub record FrontierValue : Type 0 where
 abbrev pub solved : FrontierValue → List Candidate
 solved f = map (λ p. p.candidate) f.points
 
-abbrev pub left : FrontierValue → List Candidate
-left f = map (λ u. u.candidate) f.unknown
+abbrev pub given_up : FrontierValue → List Candidate
+given_up f = map (λ u. u.candidate) f.unknown
 
 abbrev pub IsWithin : QuestionValue → Candidate → Type 0
 IsWithin q x = Within q.limits q.collective.kind q.topology.nodes x
 
--- the schedule solves the collective's instance in the candidate's steps, rounds and chunk count
-abbrev pub IsSolvedBy : QuestionValue → Candidate → ScheduleValue → Type 0
-IsSolvedBy q x s = let i = instance_of q.collective q.topology.nodes x.c in Solves q.topology i.pre i.post s x.s x.r
+abbrev pub instance_for : QuestionValue → Candidate → Instance
+instance_for q x = instance_of q.collective q.topology.nodes x.c
+
+-- a valid schedule of the instance's chunks and nodes solves it in the candidate's steps and rounds
+pub record IsSolvedBy (q : QuestionValue) (x : Candidate) (s : ScheduleValue) : Type 0 where
+  pub valid : IsSchedule s
+  pub in_range : IsInRange (instance_for q x).pre.chunks (instance_for q x).pre.nodes s
+  pub solves : Solves q.topology (instance_for q x).pre (instance_for q x).post s x.s x.r
 
 -- some schedule does
 abbrev pub IsSolvable : QuestionValue → Candidate → Type 0
-IsSolvable q x = let i = instance_of q.collective q.topology.nodes x.c in Solvable q.topology i.pre i.post x.s x.r
+IsSolvable q x = Solvable q.topology (instance_for q x).pre (instance_for q x).post x.s x.r
 
 -- a point is within the limits, its schedule solves it, and it is optimal exactly where every better candidate within the limits is refuted
 pub record IsPoint (q : QuestionValue) (refuted : List Candidate) (p : PointValue) : Type 0 where
@@ -65,7 +71,7 @@ pub record IsUnknown (q : QuestionValue) (u : UnknownValue) : Type 0 where
 
 -- a point is no worse, as a point is than itself; or the candidate is refuted, or left unknown
 abbrev pub IsAnswered : FrontierValue → Candidate → Type 0
-IsAnswered f x = Any (λ p. NoWorse p.candidate x) f.points ⊎ (Contains f.refuted x ⊎ Contains (left f) x)
+IsAnswered f x = Any (λ p. NoWorse p.candidate x) f.points ⊎ (Contains f.refuted x ⊎ Contains (given_up f) x)
 
 -- what is said is right, and no candidate within the limits is passed over
 pub record RightFrontier (q : QuestionValue) (f : FrontierValue) : Type 0 where
@@ -77,7 +83,7 @@ pub record RightFrontier (q : QuestionValue) (f : FrontierValue) : Type 0 where
 
 -- the candidate stands in one of the three lists
 abbrev pub IsTried : FrontierValue → Candidate → Type 0
-IsTried f x = Contains (solved f) x ⊎ (Contains f.refuted x ⊎ Contains (left f) x)
+IsTried f x = Contains (solved f) x ⊎ (Contains f.refuted x ⊎ Contains (given_up f) x)
 
 -- no point before the candidate is no worse
 abbrev pub IsWorthTrying : FrontierValue → Candidate → Type 0
@@ -87,8 +93,8 @@ IsWorthTrying f x = All (λ p. Before p x → NoWorse p x → ⊥) (solved f)
 pub record Searched (q : QuestionValue) (f : FrontierValue) : Type 0 where
   pub points_ascend : AllPairs Before (solved f)
   pub refuted_ascend : AllPairs Before f.refuted
-  pub unknown_ascend : AllPairs Before (left f)
-  pub points_apart : All (λ x. (Contains f.refuted x ⊎ Contains (left f) x) → ⊥) (solved f)
-  pub refuted_apart : All (λ x. Contains (left f) x → ⊥) f.refuted
+  pub unknown_ascend : AllPairs Before (given_up f)
+  pub points_apart : All (λ x. (Contains f.refuted x ⊎ Contains (given_up f) x) → ⊥) (solved f)
+  pub refuted_apart : All (λ x. Contains (given_up f) x → ⊥) f.refuted
   pub tried : (x : Candidate) → IsWithin q x → IsTried f x ↔ IsWorthTrying f x
-  pub tight : All (λ p. Tight (instance_of q.collective q.topology.nodes p.candidate.c).pre p.schedule) f.points
+  pub tight : All (λ p. Tight (instance_for q p.candidate).pre p.schedule) f.points

@@ -21,3 +21,8 @@ pub fn better_than_optimal_is_refuted()
 pub fn no_point_settles_a_later_one()
     ensures { (q : QuestionValue) (f : FrontierValue) → RightFrontier q f → Searched q f → (p : PointValue) → Contains f.points p → (x : Candidate) → Contains (solved f) x → Before x p.candidate → NoWorse x p.candidate → ⊥ }
 {}
+
+/// No candidate of a right frontier is both a point and refuted.
+pub fn no_point_is_refuted()
+    ensures { (q : QuestionValue) (f : FrontierValue) → RightFrontier q f → (p : PointValue) → Contains f.points p → Contains f.refuted p.candidate → ⊥ }
+{}

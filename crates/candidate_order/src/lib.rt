@@ -13,7 +13,7 @@ mod tests;
 
 pub use candidate::Candidate;
 pub use frontier_laws::{
-    better_than_optimal_is_refuted, no_point_settles_a_later_one,
+    better_than_optimal_is_refuted, no_point_is_refuted, no_point_settles_a_later_one,
     nothing_said_is_right_only_of_nothing,
 };
 pub use laws::{
