@@ -1,0 +1,48 @@
+-- Small reports.
+use Rattle.std.specs.Prelude.{ℕ, List, [], ◌∷◌, codes}
+use Rattle.outer_ports.specs.declared.part.Part.TheVariants.{Whole, Reduce, Gather}
+use Rattle.schedule.specs.declared.hop.Hop.{Hop}
+use Rattle.schedule.specs.Rows.{line_of_2, plan, send}
+use Rattle.collective_spec.specs.declared.kind.Kind.{Kind}
+use Rattle.collective_spec.specs.declared.kind.Kind.TheVariants.{Broadcast, Allreduce}
+use Rattle.candidate_order.specs.declared.mark.Mark.{Mark}
+use Rattle.candidate_order.specs.declared.mark.Mark.TheVariants as mark
+use Rattle.candidate_order.specs.Frontiers.{PointValue, FrontierValue}
+use Rattle.topology_text.specs.Value.{NamedTopologyValue}
+use Rattle.frontier_report.specs.Reports.{WordsValue, ReportValue}
+
+-- two nodes in a row
+abbrev pub two_nodes : NamedTopologyValue
+two_nodes = record { names = codes "n0" ∷ codes "n1" ∷ []; topology = line_of_2 }
+
+-- no extra rounds, one step, one chunk, a thousand conflicts
+abbrev pub smallest_words : Kind → WordsValue
+smallest_words kind = record { collective = record { kind = kind; root = 0 }; limits = record { k = 0; max_s = 1; max_c = 1; conflicts = 1000 } }
+
+abbrev pub point : ℕ → ℕ → Mark → List ℕ → List Hop → PointValue
+point s r mark rounds sends = record { candidate = record { s = s; r = r; c = 1 }; schedule = plan rounds sends; mark = mark }
+
+-- a frontier of one point
+abbrev pub one_point : PointValue → FrontierValue
+one_point p = record { points = p ∷ []; refuted = []; unknown = [] }
+
+-- the broadcast of one chunk
+abbrev pub broadcast_report : ReportValue
+broadcast_report = record {
+  words = smallest_words Broadcast;
+  topology = two_nodes;
+  frontiers = (Whole, one_point (point 1 1 mark.Optimal (1 ∷ []) (send 0 0 1 1 ∷ []))) ∷ [];
+  joined = [];
+}
+
+-- each node sums up one of two chunks, and then sends it to the other
+abbrev pub allreduce_report : ReportValue
+allreduce_report = record {
+  words = smallest_words Allreduce;
+  topology = two_nodes;
+  frontiers =
+      (Reduce, one_point (point 1 1 mark.Optimal (1 ∷ []) (send 0 1 0 1 ∷ send 1 0 1 1 ∷ [])))
+      ∷ (Gather, one_point (point 1 1 mark.Optimal (1 ∷ []) (send 0 0 1 1 ∷ send 1 1 0 1 ∷ [])))
+      ∷ [];
+  joined = point 2 2 (mark.Joined 1) (1 ∷ 1 ∷ []) (send 0 1 0 1 ∷ send 1 0 1 1 ∷ send 0 0 1 2 ∷ send 1 1 0 2 ∷ []) ∷ [];
+}
