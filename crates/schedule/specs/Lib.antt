@@ -5,6 +5,10 @@ pub mod Cells
 pub mod Running
 pub mod Fitting
 pub mod Solving
+pub mod Bags
+pub mod Summing
+pub mod JoinedRuns
+pub mod Inverse
 pub mod Judging
 pub mod Failing
 pub mod Rows

@@ -26,6 +26,17 @@ back_of_2 = record { nodes = 2; groups = only 1 0 1 ∷ [] }
 abbrev pub twice_grouped : TopologyValue
 twice_grouped = record { nodes = 2; groups = only 0 1 2 ∷ only 0 1 1 ∷ [] }
 
+-- four nodes in a ring, neighbours joined both ways, one chunk a round
+abbrev pub ring_of_4 : TopologyValue
+ring_of_4 = record {
+  nodes = 4;
+  groups = only 0 1 1 ∷ only 0 3 1 ∷ only 1 0 1 ∷ only 1 2 1 ∷ only 2 1 1 ∷ only 2 3 1 ∷ only 3 0 1 ∷ only 3 2 1 ∷ [];
+}
+
+-- two nodes without a link
+abbrev pub two_alone : TopologyValue
+two_alone = record { nodes = 2; groups = [] }
+
 -- node 0 has every chunk
 abbrev pub at_root : ℕ → ℕ → PlacementValue
 at_root chunks nodes = placed chunks nodes (λ pair. pair.1 == 0)
@@ -43,3 +54,19 @@ plan rounds sends = record { rounds = rounds; sends = sends }
 -- the verdict on so many chunks of node 0 that go to every node
 abbrev pub broadcast : TopologyValue → ℕ → List ℕ → List Hop → Verdict
 broadcast t chunks rounds sends = verdict_of t (at_root chunks t.nodes) (everywhere chunks t.nodes) (plan rounds sends)
+
+-- on the ring of 4, two chunks go from node 0 to every node, opposite ways
+abbrev pub ring_broadcast : ScheduleValue
+ring_broadcast = plan (1 ∷ 1 ∷ []) (send 0 0 1 1 ∷ send 1 0 3 1 ∷ send 0 0 3 2 ∷ send 0 1 2 2 ∷ send 1 0 1 2 ∷ send 1 3 2 2 ∷ [])
+
+-- on the ring of 4, two chunks are added up at node 0
+abbrev pub ring_reduce : ScheduleValue
+ring_reduce = plan (1 ∷ 1 ∷ []) (send 0 2 1 1 ∷ send 0 3 0 1 ∷ send 1 1 0 1 ∷ send 1 2 3 1 ∷ send 0 1 0 2 ∷ send 1 3 0 2 ∷ [])
+
+-- each of two nodes adds up one of two chunks, and then sends it to the other
+abbrev pub pair_allreduce : ScheduleValue
+pair_allreduce = plan (1 ∷ 1 ∷ []) (send 0 1 0 1 ∷ send 1 0 1 1 ∷ send 0 0 1 2 ∷ send 1 1 0 2 ∷ [])
+
+-- node 0 gets a chunk from both its neighbours in one step
+abbrev pub met_from_both : ScheduleValue
+met_from_both = plan (1 ∷ []) (send 0 1 0 1 ∷ send 0 3 0 1 ∷ [])

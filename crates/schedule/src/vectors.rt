@@ -1,13 +1,18 @@
 //! Worked rows: what the definitions say of small schedules whose runs are known.
 
-ghost use Rattle.std.specs.Prelude.{◌≡◌, [], ◌∷◌};
+ghost use Rattle.std.specs.Prelude.{◌≡◌, [], ◌∷◌, Some, None};
 ghost use Rattle.schedule.specs.Links.{IsTopology, reversed_of};
 ghost use Rattle.schedule.specs.Sends.{IsSchedule};
 ghost use Rattle.schedule.specs.Placed.{IsPlacement, empty_placement};
 ghost use Rattle.schedule.specs.Running.{run_of};
 ghost use Rattle.schedule.specs.Solving.{Solvable, Tight};
 ghost use Rattle.schedule.specs.Rows.{line_of_2, line_of_3, back_of_2, twice_grouped, only};
+ghost use Rattle.schedule.specs.Bags.{contributions, held_at_2, listed, of_placement};
+ghost use Rattle.schedule.specs.Summing.{Sums, SummedSolvable, bags_after};
+ghost use Rattle.schedule.specs.JoinedRuns.{first_clash, joined_after};
+ghost use Rattle.schedule.specs.Inverse.{inverse_of};
 ghost use Rattle.schedule.specs.Rows.{at_root, everywhere, send, plan, broadcast};
+ghost use Rattle.schedule.specs.Rows.{ring_broadcast, ring_reduce, pair_allreduce, met_from_both};
 
 use crate::verdict::Verdict;
 
@@ -68,4 +73,47 @@ pub fn the_limits_can_be_met()
     ensures schedule { IsSchedule (plan (1 ∷ []) (send 0 0 1 1 ∷ [])) }
     ensures placement { IsPlacement (at_root 1 2) }
     ensures none { IsPlacement (empty_placement 1 2) }
+{}
+
+/// Where two nodes send each other their chunks twice over, they count twice.
+pub fn bags_count_contributions()
+    ensures held { listed 1 2 (of_placement (at_root 1 2)) ≡ (1 ∷ 0 ∷ []) ∷ (0 ∷ 0 ∷ []) ∷ [] }
+    ensures at_2 { held_at_2 (0 ∷ 1 ∷ 2 ∷ 7 ∷ []) ≡ 0 ∷ 1 ∷ 2 ∷ 2 ∷ [] }
+    ensures again { listed 1 2 (bags_after (contributions 2) (send 0 1 0 1 ∷ send 0 1 0 2 ∷ []) 2)
+        ≡ (1 ∷ 2 ∷ []) ∷ (0 ∷ 1 ∷ []) ∷ [] }
+    ensures same_step { listed 1 2 (bags_after (contributions 2) (send 0 0 1 1 ∷ send 0 1 0 1 ∷ []) 1)
+        ≡ (1 ∷ 1 ∷ []) ∷ (1 ∷ 1 ∷ []) ∷ [] }
+{}
+
+/// Two nodes add up a chunk each, and then send each other the sums.
+pub fn two_nodes_add_and_then_copy()
+    ensures step_0 { listed 2 2 (joined_after (contributions 2) pair_allreduce 1 0)
+        ≡ (1 ∷ 0 ∷ []) ∷ (0 ∷ 1 ∷ []) ∷ (1 ∷ 0 ∷ []) ∷ (0 ∷ 1 ∷ []) ∷ [] }
+    ensures step_1 { listed 2 2 (joined_after (contributions 2) pair_allreduce 1 1)
+        ≡ (1 ∷ 1 ∷ []) ∷ (0 ∷ 1 ∷ []) ∷ (1 ∷ 0 ∷ []) ∷ (1 ∷ 1 ∷ []) ∷ [] }
+    ensures step_2 { listed 2 2 (joined_after (contributions 2) pair_allreduce 1 2)
+        ≡ (1 ∷ 1 ∷ []) ∷ (1 ∷ 1 ∷ []) ∷ (1 ∷ 1 ∷ []) ∷ (1 ∷ 1 ∷ []) ∷ [] }
+{}
+
+/// Of two senders the greater is copied, if its bag is not empty, and the two clash. Where the step adds, they don't.
+pub fn the_greatest_sender_is_copied()
+    ensures copied { joined_after (contributions 4) met_from_both 0 1 (0, 0) ≡ 0 ∷ 0 ∷ 0 ∷ 1 ∷ [] }
+    ensures filled { joined_after (of_placement (at_root 1 2)) (plan (1 ∷ []) (send 0 0 1 1 ∷ send 0 1 1 1 ∷ [])) 0 1 (0, 1)
+        ≡ 1 ∷ 0 ∷ [] }
+    ensures clash { first_clash 1 4 met_from_both 0 ≡ Some (1, 0, 0) }
+    ensures adding { first_clash 1 4 met_from_both 1 ≡ None }
+{}
+
+/// The broadcast of two chunks on the ring of 4 is the inverse of their sum, and the other way round.
+pub fn a_broadcast_inverts_a_reduce()
+    ensures forth { inverse_of ring_broadcast ≡ ring_reduce }
+    ensures back { inverse_of (inverse_of ring_broadcast) ≡ ring_broadcast }
+    ensures rounds { inverse_of (plan (2 ∷ 1 ∷ []) (send 0 0 1 1 ∷ send 0 1 2 2 ∷ []))
+        ≡ plan (1 ∷ 2 ∷ []) (send 0 2 1 1 ∷ send 0 1 0 2 ∷ []) }
+{}
+
+/// One send adds the chunk of node 1 to that of node 0: so the sum at node 0 can be had in one step of one round.
+pub fn one_send_sums()
+    ensures sums { Sums line_of_2 (at_root 1 2) (plan (1 ∷ []) (send 0 1 0 1 ∷ [])) 1 1 }
+    ensures solvable { SummedSolvable line_of_2 (at_root 1 2) 1 1 }
 {}
