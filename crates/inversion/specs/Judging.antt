@@ -1,0 +1,47 @@
+-- The verdict on a schedule that adds up: the first part of the claim that it sums that does not hold (this project's own order).
+use Rattle.std.specs.Prelude.{◌==◌, ℕ, Bool, not, if◌then◌else◌, List, length, map, Option, None, Some, find, slice_index_or}
+use Rattle.std.specs.List.{flat_map, range_with_len}
+use Rattle.schedule.specs.declared.hop.Hop.{Hop}
+use Rattle.schedule.specs.Links.{TopologyValue}
+use Rattle.schedule.specs.Sends.{ScheduleValue}
+use Rattle.schedule.specs.Placed.{PlacementValue}
+use Rattle.schedule.specs.Fitting.{load}
+use Rattle.schedule.specs.Judging.{first_unlinked, first_overfull, group_at}
+use Rattle.schedule.specs.Bags.{Bags, contributions}
+use Rattle.schedule.specs.Summing.{bags_after}
+use Rattle.inversion.specs.declared.verdict.SumVerdict.{SumVerdict}
+use Rattle.inversion.specs.declared.verdict.SumVerdict.TheVariants.{Sums, Missing, Twice, Overfull, NoLink, Clash}
+
+-- each of these pairs of a chunk and a node, with each of so many nodes that contribute
+abbrev pub counts_due : ℕ → List (ℕ × ℕ) → List (ℕ × ℕ × ℕ)
+counts_due nodes pairs = flat_map (λ pair. map (λ node. (pair.0, pair.1, node)) (range_with_len 0 nodes)) pairs
+
+-- how often the third, a node, has contributed to the chunk at the node
+abbrev pub count_of : Bags → ℕ × ℕ × ℕ → ℕ
+count_of bags due = slice_index_or (bags (due.0, due.1)) due.2 0
+
+-- the first count at these pairs that is not 1
+abbrev pub first_uneven : Bags → ℕ → List (ℕ × ℕ) → Option (ℕ × ℕ × ℕ)
+first_uneven bags nodes pairs = find (λ due. not (count_of bags due == 1)) (counts_due nodes pairs)
+
+-- a count other than 1 is missing, or at least 2
+abbrev pub uneven_verdict : Bags → ℕ × ℕ × ℕ → SumVerdict
+uneven_verdict bags due = if count_of bags due == 0 then Missing due.0 due.1 due.2 else Twice due.0 due.1 due.2
+
+-- links first, then bandwidth, then clashes, and then the counts of the last bags
+abbrev pub sum_judged : TopologyValue → ScheduleValue → Bags → Option Hop → Option (ℕ × ℕ) → Option (ℕ × ℕ × ℕ) → Option (ℕ × ℕ × ℕ) → SumVerdict
+sum_judged t s last (Some h) over clash uneven = NoLink h
+sum_judged t s last None (Some turn) clash uneven = Overfull turn.0 turn.1 (load (group_at t turn.1) turn.0 s.sends)
+sum_judged t s last None None (Some clash) uneven = Clash clash.1 clash.2 clash.0
+sum_judged t s last None None None (Some due) = uneven_verdict last due
+sum_judged t s last None None None None = Sums
+
+-- the bags after the last step, where every step adds
+abbrev pub last_bags : TopologyValue → ScheduleValue → Bags
+last_bags t s = bags_after (contributions t.nodes) s.sends (length s.rounds)
+
+-- where every step adds, nothing clashes
+abbrev pub sum_verdict_of : TopologyValue → PlacementValue → ScheduleValue → SumVerdict
+sum_verdict_of t demand s =
+    let last = last_bags t s in
+    sum_judged t s last (first_unlinked t s) (first_overfull t s) None (first_uneven last t.nodes demand.pairs)
