@@ -1,5 +1,5 @@
 -- The verdict on a schedule that adds up: the first part of the claim that it sums that does not hold (this project's own order).
-use Rattle.std.specs.Prelude.{◌==◌, ℕ, Bool, not, if◌then◌else◌, List, length, map, Option, None, Some, find, slice_index_or}
+use Rattle.std.specs.Prelude.{◌==◌, ℕ, not, if◌then◌else◌, List, length, map, Option, None, Some, find, slice_index_or}
 use Rattle.std.specs.List.{flat_map, range_with_len}
 use Rattle.schedule.specs.declared.hop.Hop.{Hop}
 use Rattle.schedule.specs.Links.{TopologyValue}

@@ -3,7 +3,7 @@ use Rattle.std.specs.Prelude.{◌≡◌, ◌&&◌, ℕ, zero, suc, ◌+◌, ◌<
 use Rattle.std.specs.List.{flat_map, range_with_len, reduce}
 use Rattle.schedule.specs.declared.hop.Hop.{Hop}
 use Rattle.schedule.specs.Links.{TopologyValue}
-use Rattle.schedule.specs.Sends.{ScheduleValue, IsStep}
+use Rattle.schedule.specs.Sends.{ScheduleValue}
 use Rattle.schedule.specs.Placed.{all_pairs}
 use Rattle.schedule.specs.Fitting.{Fits}
 use Rattle.schedule.specs.Bags.{Bag, Bags, is_empty, contributions, one_of_each}

@@ -1,0 +1,45 @@
+-- An allreduce as a reducescatter and then an allgather (Cai et al., PPoPP 2021, allreduce). That a join keeps the chunk count is this project's own way of counting.
+use Rattle.std.specs.Prelude.{◌≡◌, ◌==◌, ℕ, ◌+◌, List, ◌++◌, map, filter, All}
+use Rattle.std.specs.List.{flat_map}
+use Rattle.schedule.specs.declared.hop.Hop.{Hop}
+use Rattle.schedule.specs.Links.{TopologyValue}
+use Rattle.schedule.specs.Sends.{ScheduleValue}
+use Rattle.schedule.specs.JoinedRuns.{AllSummed}
+use Rattle.collective_spec.specs.declared.kind.Kind.TheVariants as kind
+use Rattle.collective_spec.specs.Collectives.{chunks_of}
+use Rattle.candidate_order.specs.declared.candidate.Candidate.{Candidate}
+use Rattle.candidate_order.specs.declared.mark.Mark.TheVariants as mark
+use Rattle.candidate_order.specs.Frontiers.{PointValue}
+
+-- a send so many steps later
+abbrev pub later : ℕ → Hop → Hop
+later steps h = record { chunk = h.chunk; from = h.from; to = h.to; step = h.step + steps }
+
+-- one schedule of so many steps, and then the other
+abbrev pub one_after : ℕ → ScheduleValue → ScheduleValue → ScheduleValue
+one_after steps first second = record { rounds = first.rounds ++ second.rounds; sends = first.sends ++ map (later steps) second.sends }
+
+-- the steps and the rounds of both, and the chunk count of the first
+abbrev pub both_costs : Candidate → Candidate → Candidate
+both_costs a b = record { s = a.s + b.s; r = a.r + b.r; c = a.c }
+
+-- the first point's schedule, which adds, and then the second's, which copies
+abbrev pub join_of : PointValue → PointValue → PointValue
+join_of p q = record {
+  candidate = both_costs p.candidate q.candidate;
+  schedule = one_after p.candidate.s p.schedule q.schedule;
+  mark = mark.Joined p.candidate.s;
+}
+
+-- each point of the first list with each of the second that has its chunk count
+abbrev pub pairs_of : List PointValue → List PointValue → List (PointValue × PointValue)
+pairs_of reduce gather = flat_map (λ p. map (λ q. (p, q)) (filter (λ q. q.candidate.c == p.candidate.c) gather)) reduce
+
+-- on this topology the join of the two sums every chunk of an allreduce at every node
+abbrev pub IsJoin : TopologyValue → PointValue × PointValue → Type 0
+IsJoin t pair = AllSummed t (chunks_of kind.Allreduce t.nodes pair.0.candidate.c) (join_of pair.0 pair.1).schedule pair.0.candidate.s
+
+-- the joined points are the joins of all pairs of one chunk count, in their order, and each is a join on this topology
+pub record Joins (t : TopologyValue) (reduce gather joined : List PointValue) : Type 0 where
+  pub in_order : joined ≡ map (λ pair. join_of pair.0 pair.1) (pairs_of reduce gather)
+  pub summed : All (IsJoin t) (pairs_of reduce gather)

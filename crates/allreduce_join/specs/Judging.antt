@@ -1,0 +1,20 @@
+-- The verdict on a schedule whose first steps add and whose later ones copy (this project's own order).
+use Rattle.std.specs.Prelude.{ℕ, length}
+use Rattle.schedule.specs.Links.{TopologyValue}
+use Rattle.schedule.specs.Sends.{ScheduleValue}
+use Rattle.schedule.specs.Placed.{all_pairs}
+use Rattle.schedule.specs.Judging.{first_unlinked, first_overfull}
+use Rattle.schedule.specs.Bags.{Bags, contributions}
+use Rattle.schedule.specs.JoinedRuns.{first_clash, joined_after}
+use Rattle.inversion.specs.declared.verdict.SumVerdict.{SumVerdict}
+use Rattle.inversion.specs.Judging.{first_uneven, sum_judged}
+
+-- the bags after the last step
+abbrev pub joined_bags : TopologyValue → ScheduleValue → ℕ → Bags
+joined_bags t s adding = joined_after (contributions t.nodes) s adding (length s.rounds)
+
+-- links first, then bandwidth, then clashes, and then the counts of every chunk at every node
+abbrev pub joined_verdict_of : TopologyValue → ℕ → ScheduleValue → ℕ → SumVerdict
+joined_verdict_of t chunks s adding =
+    let last = joined_bags t s adding in
+    sum_judged t s last (first_unlinked t s) (first_overfull t s) (first_clash chunks t.nodes s adding) (first_uneven last t.nodes (all_pairs chunks t.nodes))
