@@ -1,6 +1,9 @@
 //! What a right frontier says.
 
-ghost use Rattle.std.specs.Prelude.{◌≡◌, [], Contains};
+ghost use Rattle.std.specs.Prelude.{◌≡◌, true, false, [], Contains};
+ghost use Rattle.schedule.specs.Solving.{Solves};
+ghost use Rattle.schedule.specs.Summing.{Sums};
+ghost use Rattle.collective_spec.specs.Collectives.{demand_of, instance_of, reduces};
 ghost use Rattle.candidate_order.specs.Costs.{NoWorse, Better, Before};
 ghost use Rattle.candidate_order.specs.Frontiers.{QuestionValue, PointValue, FrontierValue, solved, IsWithin, RightFrontier, Searched};
 
@@ -25,4 +28,15 @@ pub fn no_point_settles_a_later_one()
 /// No candidate of a right frontier is both a point and refuted.
 pub fn no_point_is_refuted()
     ensures { (q : QuestionValue) (f : FrontierValue) → RightFrontier q f → (p : PointValue) → Contains f.points p → Contains f.refuted p.candidate → ⊥ }
+{}
+
+/// The schedule of each point of a right frontier does what its collective asks, in the point's steps and rounds.
+pub fn each_point_does_what_is_asked()
+    ensures copies { (q : QuestionValue) (f : FrontierValue) → RightFrontier q f → (p : PointValue) → Contains f.points p → reduces q.collective.kind ≡ false → Solves q.topology (instance_of q.collective q.topology.nodes p.candidate.c).pre (instance_of q.collective q.topology.nodes p.candidate.c).post p.schedule p.candidate.s p.candidate.r }
+    ensures adds { (q : QuestionValue) (f : FrontierValue) → RightFrontier q f → (p : PointValue) → Contains f.points p → reduces q.collective.kind ≡ true → Sums q.topology (demand_of q.collective q.topology.nodes p.candidate.c) p.schedule p.candidate.s p.candidate.r }
+{}
+
+/// A point of a right frontier is not left open where every better candidate within the limits is refuted.
+pub fn open_points_may_be_bettered()
+    ensures { (q : QuestionValue) (f : FrontierValue) → RightFrontier q f → (p : PointValue) → Contains f.points p → p.mark ≡ Mark.Open → ((x : Candidate) → IsWithin q x → Better x p.candidate → Contains f.refuted x) → ⊥ }
 {}
