@@ -2,3 +2,4 @@ pub mod Ranges
 pub mod Costs
 pub mod Listed
 pub mod Frontiers
+pub mod Rows

@@ -10,6 +10,7 @@ mod mark;
 mod order;
 #[cfg(test)]
 mod tests;
+mod vectors;
 
 pub use candidate::Candidate;
 pub use frontier_laws::{
@@ -26,3 +27,4 @@ pub use listing::list;
 pub use mark::Mark;
 pub use order::{better, cost_cmp, no_worse};
 pub use std::alloc::AllocError as OutOfMemory;
+pub use vectors::{one_node_has_gathered, one_send_broadcasts, one_send_reduces};

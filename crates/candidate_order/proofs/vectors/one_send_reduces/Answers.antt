@@ -1,0 +1,27 @@
+use Rattle.std.proofs.Common.{true, [], ◌∷◌, refl, rules}
+use Rattle.std.proofs.lemmas.List.Elements.{All-from_recursion}
+use Rattle.schedule.specs.Rows.{line_of_2, plan, send}
+use Rattle.collective_spec.specs.declared.kind.Kind.TheVariants.{Reduce}
+use Rattle.candidate_order.specs.Frontiers.{IsInverseOfTight, WastesNothing}
+use Rattle.candidate_order.specs.Rows.{asked, smallest, solved_by}
+use Rattle.candidate_order.proofs.vectors.one_send_reduces.Goals as goal
+
+forth : IsInverseOfTight (asked line_of_2 Reduce) smallest (plan (1 ∷ []) (send 0 1 0 1 ∷ []))
+forth = record {
+  copied = plan (1 ∷ []) (send 0 0 1 1 ∷ []);
+  valid = search rules;
+  in_range = search rules;
+  tight = search rules;
+  inverse = refl;
+}
+
+pub returns-clause-searched : goal.returns-clause-searched
+returns-clause-searched c = record {
+  points_ascend = search rules;
+  refuted_ascend = search rules;
+  unknown_ascend = search rules;
+  points_apart = search rules;
+  refuted_apart = search rules;
+  tried = search rules;
+  tight = All-from_recursion (WastesNothing true (asked line_of_2 Reduce)) (solved_by (plan (1 ∷ []) (send 0 1 0 1 ∷ []))).points (forth, tt);
+}

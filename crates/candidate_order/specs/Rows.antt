@@ -1,0 +1,29 @@
+-- Small questions, whose answers are known.
+use Rattle.std.specs.Prelude.{[], ◌∷◌}
+use Rattle.schedule.specs.Links.{TopologyValue}
+use Rattle.schedule.specs.Sends.{ScheduleValue}
+use Rattle.collective_spec.specs.declared.kind.Kind.{Kind}
+use Rattle.candidate_order.specs.declared.candidate.Candidate.{Candidate}
+use Rattle.candidate_order.specs.declared.mark.Mark.TheVariants.{Optimal}
+use Rattle.candidate_order.specs.Ranges.{LimitsValue}
+use Rattle.candidate_order.specs.Frontiers.{QuestionValue, FrontierValue}
+
+-- no extra rounds, one step, one chunk, a thousand conflicts
+abbrev pub smallest_limits : LimitsValue
+smallest_limits = record { k = 0; max_s = 1; max_c = 1; conflicts = 1000 }
+
+-- one step of one round for one chunk, the only candidate within these limits
+abbrev pub smallest : Candidate
+smallest = record { s = 1; r = 1; c = 1 }
+
+-- the question within these limits, with node 0 as the root where there is one
+abbrev pub asked : TopologyValue → Kind → QuestionValue
+asked t kind = record { topology = t; collective = record { kind = kind; root = 0 }; limits = smallest_limits }
+
+-- the one candidate is an optimal point with this schedule
+abbrev pub solved_by : ScheduleValue → FrontierValue
+solved_by s = record { points = record { candidate = smallest; schedule = s; mark = Optimal } ∷ []; refuted = []; unknown = [] }
+
+-- a node without links
+abbrev pub one_node : TopologyValue
+one_node = record { nodes = 1; groups = [] }

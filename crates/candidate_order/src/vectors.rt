@@ -1,0 +1,26 @@
+//! Small frontiers that are right, and are those of a search.
+
+ghost use Rattle.std.specs.Prelude.{◌≡◌, [], ◌∷◌, ◌<◌};
+ghost use Rattle.schedule.specs.Rows.{line_of_2, plan, send};
+ghost use Rattle.candidate_order.specs.Frontiers.{RightFrontier, Searched};
+ghost use Rattle.candidate_order.specs.Rows.{asked, one_node, solved_by};
+
+use collective_spec::Kind;
+
+/// A node that is alone has gathered its one chunk in a step without sends.
+pub fn one_node_has_gathered()
+    ensures right { RightFrontier (asked one_node Kind.Allgather) (solved_by (plan (1 ∷ []) [])) }
+    ensures searched { Searched (asked one_node Kind.Allgather) (solved_by (plan (1 ∷ []) [])) }
+{}
+
+/// On the line of 2 one send brings the chunk of node 0 to node 1.
+pub fn one_send_broadcasts()
+    ensures right { RightFrontier (asked line_of_2 Kind.Broadcast) (solved_by (plan (1 ∷ []) (send 0 0 1 1 ∷ []))) }
+    ensures searched { Searched (asked line_of_2 Kind.Broadcast) (solved_by (plan (1 ∷ []) (send 0 0 1 1 ∷ []))) }
+{}
+
+/// On the line of 2 the send back adds the chunk of node 1 to that of node 0.
+pub fn one_send_reduces()
+    ensures right { RightFrontier (asked line_of_2 Kind.Reduce) (solved_by (plan (1 ∷ []) (send 0 1 0 1 ∷ []))) }
+    ensures searched { Searched (asked line_of_2 Kind.Reduce) (solved_by (plan (1 ∷ []) (send 0 1 0 1 ∷ []))) }
+{}
