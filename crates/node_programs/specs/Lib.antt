@@ -1,4 +1,5 @@
 pub mod Programs
+pub mod Printing
 pub mod Bags
 pub mod Machines
 pub mod Runs

@@ -6,7 +6,8 @@ use Rattle.node_programs.specs.declared.op.Op.{Op}
 use Rattle.node_programs.specs.declared.op.Op.TheVariants.{Send, Take}
 use Rattle.node_programs.specs.declared.op.Mode.{Mode}
 use Rattle.node_programs.specs.declared.op.Mode.TheVariants as mode
-use Rattle.node_programs.specs.Bags.{Bag, Bags, is_empty, added}
+use Rattle.schedule.specs.Bags.{Bag, Bags, is_empty}
+use Rattle.node_programs.specs.Bags.{added_at_2}
 
 -- a bag on its way
 pub record Message : Type 0 where
@@ -36,7 +37,7 @@ with_entry f pair x other = if same_pair pair other then x else f other
 
 -- the bag that a message leaves
 abbrev pub received : Mode → Bag → Bag → Bag
-received mode.Add old bag = added old bag
+received mode.Add old bag = added_at_2 old bag
 received mode.Copy old bag = if is_empty bag then old else bag
 
 -- a take finds a message of its chunk and step at the head of its queue

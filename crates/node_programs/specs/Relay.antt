@@ -2,7 +2,7 @@
 use Rattle.std.specs.Prelude.{[], ◌∷◌}
 use Rattle.schedule.specs.Rows.{at_root, plan, send}
 use Rattle.node_programs.specs.Programs.{programs_of}
-use Rattle.node_programs.specs.Bags.{of_contributions, of_placement}
+use Rattle.schedule.specs.Bags.{contributions, of_placement}
 use Rattle.node_programs.specs.Machines.{State, start_of}
 
 -- a chunk of node 0 goes along the line of three nodes
@@ -11,4 +11,4 @@ relay = start_of (programs_of 3 (plan (1 ∷ 1 ∷ []) (send 0 0 1 1 ∷ send 0 
 
 -- each of two nodes sends its chunk to the other
 abbrev pub exchange : State
-exchange = start_of (programs_of 2 (plan (1 ∷ []) (send 0 0 1 1 ∷ send 1 1 0 1 ∷ [])) 0) (of_contributions 2)
+exchange = start_of (programs_of 2 (plan (1 ∷ []) (send 0 0 1 1 ∷ send 1 1 0 1 ∷ [])) 0) (contributions 2)

@@ -2,12 +2,17 @@
 
 ghost use Rattle.std.specs.Prelude.{◌≡◌, ℕ, ◌<◌, Some, [], true, false, length};
 ghost use Rattle.node_programs.specs.Machines.{State, event, is_enabled, is_finished};
-ghost use Rattle.node_programs.specs.Runs.{LegalRun, run_of};
+ghost use Rattle.node_programs.specs.Runs.{LegalRun, chosen, run_of};
 
 /// No event leaves the machine as it is.
 pub fn no_event_is_a_legal_run()
     ensures legal { (s : State) → LegalRun s [] }
     ensures stays { (s : State) → run_of s [] ≡ Some s }
+{}
+
+/// The order that a seed draws is a run of the machine.
+pub fn chosen_runs_are_legal()
+    ensures { (s : State) (seed : ℕ) → LegalRun s (chosen s seed) }
 {}
 
 /// Where every program is at its end, no node is enabled.

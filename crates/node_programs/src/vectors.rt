@@ -1,11 +1,12 @@
 //! Worked programs and runs.
 
-ghost use Rattle.std.specs.Prelude.{◌≡◌, [], ◌∷◌, true, false, Some, is_some, slice_get};
+ghost use Rattle.std.specs.Prelude.{◌≡◌, [], ◌∷◌, true, false, Some, is_some, slice_get, codes};
 ghost use Rattle.std.specs.Option.{option_map};
-ghost use Rattle.schedule.specs.Rows.{at_root, plan, send};
+ghost use Rattle.schedule.specs.Rows.{pair_allreduce, plan, send};
 ghost use Rattle.node_programs.specs.Programs.{programs_of};
-ghost use Rattle.node_programs.specs.Bags.{of_contributions, of_placement};
-ghost use Rattle.node_programs.specs.Machines.{is_enabled, is_finished, start_of};
+ghost use Rattle.node_programs.specs.Printing.{programs_text};
+ghost use Rattle.node_programs.specs.Bags.{added_at_2};
+ghost use Rattle.node_programs.specs.Machines.{is_enabled, is_finished};
 ghost use Rattle.node_programs.specs.Runs.{chosen, drawn, next_draw, run_of};
 ghost use Rattle.node_programs.specs.Relay.{exchange, relay};
 
@@ -15,6 +16,19 @@ use crate::op::{Mode, Op};
 pub fn relay_in_programs()
     ensures { programs_of 3 (plan (1 ∷ 1 ∷ []) (send 0 0 1 1 ∷ send 0 1 2 2 ∷ [])) 0
         ≡ (Op.Send 0 1 1 ∷ []) ∷ (Op.Take 0 0 1 Mode.Copy ∷ Op.Send 0 2 2 ∷ []) ∷ (Op.Take 0 1 2 Mode.Copy ∷ []) ∷ [] }
+{}
+
+/// The text of its programs, and that of two nodes that add and then copy.
+pub fn programs_in_text()
+    ensures relay { programs_text 1 (codes "n0" ∷ codes "n1" ∷ codes "n2" ∷ []) (programs_of 3 (plan (1 ∷ 1 ∷ []) (send 0 0 1 1 ∷ send 0 1 2 2 ∷ [])) 0)
+        ≡ codes "programs 1\nnode n0\n1 send 0 n1\nnode n1\n1 take 0 n0 copy\n2 send 0 n2\nnode n2\n2 take 0 n1 copy\nend\n" }
+    ensures joined { programs_text 3 (codes "a" ∷ codes "b" ∷ []) (programs_of 2 pair_allreduce 1)
+        ≡ codes "programs 3\nnode a\n1 send 1 b\n1 take 0 b add\n2 send 0 b\n2 take 1 b copy\nnode b\n1 send 0 a\n1 take 1 a add\n2 send 1 a\n2 take 0 a copy\nend\n" }
+{}
+
+/// Counts stop at 2.
+pub fn counts_stop_at_2()
+    ensures { added_at_2 (1 ∷ 1 ∷ 2 ∷ []) (0 ∷ 1 ∷ 2 ∷ []) ≡ 1 ∷ 2 ∷ 2 ∷ [] }
 {}
 
 /// Its nodes can move in this order and no other.
