@@ -13,3 +13,5 @@ pub mod First
 pub mod Ordered
 pub mod Verdicts
 pub mod Reversing
+pub mod Bagging
+pub mod Clashing

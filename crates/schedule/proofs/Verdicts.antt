@@ -1,5 +1,6 @@
 -- What the verdict says, from the first send, the first turn and the first pair that fail.
 use Rattle.std.proofs.Common.{◌≡◌, ℕ, ◌*◌, ◌<◌, ◌≤◌, Bool, true, false, not, ◌&&◌, ◌||◌, eqb, ltb, List, length, get_or, Option, Some, None, ⊎_elim, refl, sym, ap, ◌∙◌, arith}
+use Rattle.std.specs.Prelude.{◌↔◌}
 use Rattle.std.specs.List.{find, All}
 use Rattle.std.proofs.lemmas.Bool.{and_parts, or_cases, ltb-true, ltb-false, lt-ltb, le-ltb, eqb-true, not-true, not-false, not_from_true, not_from_false}
 use Rattle.std.proofs.lemmas.List.{get_or_default}
@@ -170,6 +171,9 @@ judged_lacking t s None None None chunk node is = absurd cc
 
 fits_is : (t : TopologyValue) (s : ScheduleValue) → first_unlinked t s ≡ None → first_overfull t s ≡ None → Fits t s
 fits_is t s linked within = record { usable = usable_is t s linked; within = within_is t s within }
+
+pub fits_exactly : (t : TopologyValue) (s : ScheduleValue) → Fits t s ↔ ((first_unlinked t s ≡ None) × (first_overfull t s ≡ None))
+fits_exactly t s = (λ fits. (is_usable_none t s fits.usable, is_within t s fits.within), λ none. fits_is t s none.0 none.1)
 
 pub tells_solves : (t : TopologyValue) (pre post : PlacementValue) (s : ScheduleValue) (v : Verdict) → v ≡ verdict_of t pre post s → TellsSolves t pre post s v
 tells_solves t pre post s v is = (

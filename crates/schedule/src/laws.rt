@@ -1,10 +1,18 @@
 //! Laws of placements, runs and topologies, for those who build on the definitions.
 
-ghost use Rattle.std.specs.Prelude.{◌≡◌, ◌<◌, ◌≤◌, ◌||◌, ℕ, Bool, length, slice_index_or};
+ghost use Rattle.std.specs.Prelude.{◌≡◌, ◌↔◌, ◌<◌, ◌≤◌, ◌||◌, ℕ, Bool, List, None, length, slice_index_or};
 ghost use Rattle.schedule.specs.Links.{TopologyValue, reversed_of};
 ghost use Rattle.schedule.specs.Placed.{PlacementValue, IsPlacement, holds, placed, same_pair, with_pair};
 ghost use Rattle.schedule.specs.Running.{after, run_of};
-ghost use Rattle.schedule.specs.Sends.{ScheduleValue};
+ghost use Rattle.schedule.specs.Sends.{ScheduleValue, IsSchedule, IsInRange};
+ghost use Rattle.schedule.specs.Fitting.{Fits};
+ghost use Rattle.schedule.specs.Judging.{first_unlinked, first_overfull};
+ghost use Rattle.schedule.specs.Bags.{contributions};
+ghost use Rattle.schedule.specs.Summing.{SummedSolvable, bags_after};
+ghost use Rattle.schedule.specs.JoinedRuns.{Clashes, first_clash, joined_after};
+ghost use Rattle.schedule.specs.Rows.{at_root, two_alone};
+
+use crate::hop::Hop;
 
 /// The placement of a test holds the pairs in range that pass it.
 pub fn a_test_gives_a_placement()
@@ -39,4 +47,26 @@ pub fn a_run_keeps_the_size()
 /// Turning each link round twice gives the topology back.
 pub fn reversing_twice_changes_nothing()
     ensures { (t : TopologyValue) → reversed_of (reversed_of t) ≡ t }
+{}
+
+/// A schedule fits exactly where no send lacks its link, and no group is over its bandwidth.
+pub fn a_schedule_fits_where_nothing_fails()
+    ensures { (t : TopologyValue) (s : ScheduleValue) → Fits t s ↔ ((first_unlinked t s ≡ None) × (first_overfull t s ≡ None)) }
+{}
+
+/// A bag always has a count for each node.
+pub fn a_bag_counts_each_node()
+    ensures adding { (nodes : ℕ) (sends : List Hop) (n : ℕ) (pair : ℕ × ℕ) → length (bags_after (contributions nodes) sends n pair) ≡ nodes }
+    ensures joined { (nodes : ℕ) (s : ScheduleValue) (adding n : ℕ) (pair : ℕ × ℕ) → length (joined_after (contributions nodes) s adding n pair) ≡ nodes }
+{}
+
+/// Two nodes without a link add nothing up, however many steps and rounds there are.
+pub fn nothing_sums_without_links()
+    ensures { (steps rounds : ℕ) → SummedSolvable two_alone (at_root 1 2) steps rounds → ⊥ }
+{}
+
+/// The first clash is found exactly where there is one.
+pub fn a_clash_is_found()
+    ensures { (chunks nodes : ℕ) (s : ScheduleValue) (adding : ℕ) → IsSchedule s → IsInRange chunks nodes s
+        → (first_clash chunks nodes s adding ≡ None) ↔ (Clashes s adding → ⊥) }
 {}

@@ -1,0 +1,79 @@
+-- The first clash is found exactly where there is one.
+use Rattle.std.proofs.Common.{◌≡◌, ℕ, zero, suc, ◌+◌, ◌<◌, ◌≤◌, ◌⊎◌, inl, inr, ⊎_elim, Bool, true, false, ◌&&◌, eqb, leb, ltb, List, [], ◌∷◌, ◌++◌, length, map, None, refl, sym, ap, ◌∙◌, arith}
+use Rattle.std.specs.Prelude.{count_by}
+use Rattle.std.specs.List.{All, AllByRecursion, flat_map, range_with_len}
+use Rattle.std.proofs.lemmas.Bool.{and_parts, and_from, cases_Bool, eqb-true, leb-true, ltb-true, lt-ltb, le-leb}
+use Rattle.std.proofs.lemmas.List.Elements.{recursion_from_All}
+use Rattle.schedule.specs.declared.hop.Hop.{Hop}
+use Rattle.schedule.specs.Sends.{ScheduleValue, IsSchedule, IsInRange, IsStep, is_hop_below}
+use Rattle.schedule.specs.Placed.{all_pairs}
+use Rattle.schedule.specs.Summing.{goes_to}
+use Rattle.schedule.specs.JoinedRuns.{Clashes, first_clash, is_clash}
+use Rattle.schedule.proofs.First.{Among, among_each, each_among, found_none, none_found}
+use Rattle.schedule.proofs.Ordered.{in_grid}
+
+among_map : {X Y : Type 0} (f : X → Y) (x : X) (xs : List X) → Among x xs → Among (f x) (map f xs)
+among_map f x [] among = absurd among
+among_map f x (y ∷ ys) among = ⊎_elim (λ (here : y ≡ x). inl (ap f here)) (λ (later : Among x ys). inr (among_map f x ys later)) among
+
+among_left : {X : Type 0} (x : X) (xs ys : List X) → Among x xs → Among x (xs ++ ys)
+among_left x [] ys among = absurd among
+among_left x (y ∷ xs) ys among = ⊎_elim (λ (here : y ≡ x). inl here) (λ (later : Among x xs). inr (among_left x xs ys later)) among
+
+among_right : {X : Type 0} (x : X) (xs ys : List X) → Among x ys → Among x (xs ++ ys)
+among_right x [] ys among = among
+among_right x (y ∷ xs) ys among = inr (among_right x xs ys among)
+
+-- what stands in the part of one of the numbers
+among_parts : {Y : Type 0} (f : ℕ → List Y) (y : Y) (i a n : ℕ) → a ≤ i → i < a + n → Among y (f i) → Among y (flat_map f (range_with_len a n))
+among_parts f y i a zero from to among = absurd (omega arith)
+among_parts f y i a (suc n) from to among =
+    elim (a_or_later a i from) [
+      | inl here ↦ among_left y (f a) (flat_map f (range_with_len (a + 1) n)) (rw here among)
+      | inr later ↦ among_right y (f a) (flat_map f (range_with_len (a + 1) n)) (among_parts f y i (a + 1) n (omega (arith, later)) (omega (arith, to)) among)
+    ]
+  where
+    a_or_later : (a i : ℕ) → a ≤ i → (a ≡ i) ⊎ (a < i)
+    a_or_later a i from = grind arith
+
+-- where some pass, one does
+found_passing : {X : Type 0} (p : X → Bool) (xs : List X) → 0 < count_by p xs → (x : X) × Among x xs × (p x ≡ true)
+found_passing p [] some = absurd (omega arith)
+found_passing p (x ∷ xs) some =
+    ⊎_elim
+    (λ (passes : p x ≡ true). (x, inl refl, passes))
+    (λ (fails : p x ≡ false).
+    let rest : 0 < count_by p xs = rw fails at some in
+    let found = found_passing p xs rest in
+    (found.0, inr found.1, found.2))
+    (cases_Bool (p x))
+
+pub no_clash_from_none : (chunks nodes : ℕ) (s : ScheduleValue) (adding : ℕ) → IsSchedule s → IsInRange chunks nodes s → first_clash chunks nodes s adding ≡ None → Clashes s adding → ⊥
+no_clash_from_none chunks nodes s adding valid in_range none clash =
+    let found = found_passing (goes_to clash.step (clash.chunk, clash.node)) s.sends (omega (arith, clash.twice)) in
+    let h : Hop = found.0 in
+    let goes = and_parts _ _ found.2 in
+    let there = and_parts _ _ goes.1 in
+    let at_step : h.step ≡ clash.step = eqb-true _ _ goes.0 in
+    let of_chunk : h.chunk ≡ clash.chunk = eqb-true _ _ there.0 in
+    let to_node : h.to ≡ clash.node = eqb-true _ _ there.1 in
+    let step_is : IsStep (length s.rounds) h.step = among_each (λ h. IsStep (length s.rounds) h.step) h s.sends (recursion_from_All (λ h. IsStep (length s.rounds) h.step) s.sends valid.steps) found.1 in
+    let below = among_each (λ h. is_hop_below chunks nodes h ≡ true) h s.sends (recursion_from_All (λ h. is_hop_below chunks nodes h ≡ true) s.sends in_range) found.1 in
+    let chunk_below : h.chunk < chunks = ltb-true _ _ (and_parts _ _ below).0 in
+    let node_below : h.to < nodes = ltb-true _ _ (and_parts _ _ (and_parts _ _ below).1).1 in
+    let pair = in_grid 0 chunks nodes (clash.chunk, clash.node) (record { from = omega arith; to = omega (arith, of_chunk, chunk_below); column = omega (arith, to_node, node_below) }) in
+    let turn = among_parts (λ step. map (λ pair. (step, pair.0, pair.1)) (all_pairs chunks nodes)) (clash.step, clash.chunk, clash.node) clash.step 1 (length s.rounds) (omega (arith, at_step, step_is.from)) (omega (arith, at_step, step_is.to)) (among_map (λ pair. (clash.step, pair.0, pair.1)) (clash.chunk, clash.node) (all_pairs chunks nodes) pair) in
+    let fails : is_clash s adding (clash.step, clash.chunk, clash.node) ≡ false = among_each (λ turn. is_clash s adding turn ≡ false) (clash.step, clash.chunk, clash.node) _ (found_none (is_clash s adding) _ none) turn in
+    let passes : is_clash s adding (clash.step, clash.chunk, clash.node) ≡ true = and_from _ _ (lt-ltb _ _ clash.copies) (le-leb _ _ clash.twice) in
+    let impossible : true ≡ false = sym passes ∙ fails in
+    absurd cc
+
+pub none_from_no_clash : (chunks nodes : ℕ) (s : ScheduleValue) (adding : ℕ) → (Clashes s adding → ⊥) → first_clash chunks nodes s adding ≡ None
+none_from_no_clash chunks nodes s adding no_clash =
+    none_found (is_clash s adding) _ (each_among (λ turn. is_clash s adding turn ≡ false) _ (λ turn among.
+    ⊎_elim
+    (λ (passes : is_clash s adding turn ≡ true).
+    let parts = and_parts _ _ passes in
+    absurd (no_clash (record { step = turn.0; chunk = turn.1; node = turn.2; copies = ltb-true _ _ parts.0; twice = leb-true _ _ parts.1 })))
+    (λ (fails : is_clash s adding turn ≡ false). fails)
+    (cases_Bool (is_clash s adding turn))))
