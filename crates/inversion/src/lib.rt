@@ -1,7 +1,8 @@
 //! The verdict on a schedule that adds up.
 #![tactic(auto)]
 
-mod vectors;
+pub mod laws;
+pub mod vectors;
 mod verdict;
 
 pub use verdict::SumVerdict;

@@ -1,0 +1,91 @@
+-- No count is uneven exactly where each bag has one of each node.
+use Rattle.std.proofs.Common.{◌≡◌, ◌⊎◌, inl, inr, ℕ, zero, suc, ◌+◌, ◌<◌, ◌≤◌, false, not, eqb, List, [], ◌∷◌, ◌++◌, length, map, get_or, None, refl, ap, ◌∙◌, arith}
+use Rattle.std.specs.Prelude.{All}
+use Rattle.std.specs.List.{AllByRecursion, range_with_len}
+use Rattle.std.proofs.lemmas.Bool.{eqb-true, eq-eqb, not-false, not_from_true}
+use Rattle.std.proofs.lemmas.List.Elements.{All-from_recursion, recursion_from_All}
+use Rattle.schedule.specs.Bags.{Bag, Bags, one_of_each}
+use Rattle.schedule.proofs.First.{found_none, none_found}
+use Rattle.inversion.specs.Judging.{count_of, counts_due, first_uneven}
+
+each_split : {X : Type 0} (P : X → Type 0) (xs ys : List X) → AllByRecursion P (xs ++ ys) → AllByRecursion P xs × AllByRecursion P ys
+each_split P [] ys each = (tt, each)
+each_split P (x ∷ xs) ys each = let rest = each_split P xs ys each.1 in ((each.0, rest.0), rest.1)
+
+each_joined : {X : Type 0} (P : X → Type 0) (xs ys : List X) → AllByRecursion P xs → AllByRecursion P ys → AllByRecursion P (xs ++ ys)
+each_joined P [] ys left right = right
+each_joined P (x ∷ xs) ys left right = (left.0, each_joined P xs ys left.1 right)
+
+-- in a row of counts each is even
+abbrev IsEven : Bag → ℕ → Type 0
+IsEven bag node = not (eqb (get_or bag node 0) 1) ≡ false
+
+abbrev IsDueEven : Bags → ℕ × ℕ × ℕ → Type 0
+IsDueEven bags due = not (eqb (count_of bags due) 1) ≡ false
+
+unmapped : (bags : Bags) (pair : ℕ × ℕ) (nodes : List ℕ) → AllByRecursion (IsDueEven bags) (map (λ node. (pair.0, pair.1, node)) nodes) → AllByRecursion (IsEven (bags pair)) nodes
+unmapped bags pair [] each = tt
+unmapped bags pair (n ∷ nodes) each = (each.0, unmapped bags pair nodes each.1)
+
+mapped : (bags : Bags) (pair : ℕ × ℕ) (nodes : List ℕ) → AllByRecursion (IsEven (bags pair)) nodes → AllByRecursion (IsDueEven bags) (map (λ node. (pair.0, pair.1, node)) nodes)
+mapped bags pair [] each = tt
+mapped bags pair (n ∷ nodes) each = (each.0, mapped bags pair nodes each.1)
+
+row_ones : (bag : Bag) (a n : ℕ) → AllByRecursion (IsEven bag) (range_with_len a n) → (i : ℕ) → a ≤ i → i < a + n → get_or bag i 0 ≡ 1
+row_ones bag a zero each i from to = absurd (omega arith)
+row_ones bag a (suc n) each i from to =
+    elim (here_or_later a i from) [
+      | inl here ↦ (let first : get_or bag a 0 ≡ 1 = eqb-true _ _ (not-false _ each.0) in rw (← here) first)
+      | inr later ↦ row_ones bag (a + 1) n each.1 i (omega (arith, later)) (omega (arith, to))
+    ]
+  where
+    here_or_later : (a i : ℕ) → a ≤ i → (a ≡ i) ⊎ (a < i)
+    here_or_later a i from = grind arith
+
+ones_row : (bag : Bag) (a n : ℕ) → ((i : ℕ) → a ≤ i → i < a + n → get_or bag i 0 ≡ 1) → AllByRecursion (IsEven bag) (range_with_len a n)
+ones_row bag a zero ones = tt
+ones_row bag a (suc n) ones =
+    (not_from_true _ (eq-eqb _ _ (ones a (omega arith) (omega arith))), ones_row bag (a + 1) n (λ i from to. ones i (omega (arith, from)) (omega (arith, to))))
+
+-- a list of ones, by its counts
+all_ones : (bag : Bag) (a : ℕ) → ((i : ℕ) → i < length bag → get_or bag i 0 ≡ 1) → bag ≡ map (λ _. 1) (range_with_len a (length bag))
+all_ones [] a ones = refl
+all_ones (x ∷ bag) a ones =
+    let first : x ≡ 1 = ones 0 (omega arith) in
+    let rest : bag ≡ map (λ _. 1) (range_with_len (a + 1) (length bag)) = all_ones bag (a + 1) (λ i inside. ones (suc i) (omega (arith, inside))) in
+    ap (λ y. y ∷ bag) first ∙ ap (λ ys. 1 ∷ ys) rest
+
+abbrev ones_from : ℕ → ℕ → Bag
+ones_from a n = map (λ _. 1) (range_with_len a n)
+
+counts_of_ones : (a n i : ℕ) → i < n → get_or (ones_from a n) i 0 ≡ 1
+counts_of_ones a zero i inside = absurd (omega arith)
+counts_of_ones a (suc n) zero inside = refl
+counts_of_ones a (suc n) (suc i) inside = counts_of_ones (a + 1) n i (omega arith)
+
+whole_row : (nodes : ℕ) (bag : Bag) → length bag ≡ nodes → AllByRecursion (IsEven bag) (range_with_len 0 nodes) → bag ≡ one_of_each nodes
+whole_row nodes bag counted each =
+    all_ones bag 0 (λ i inside. row_ones bag 0 nodes each i (omega arith) (omega (arith, inside, counted)))
+    ∙ ap (λ n. one_of_each n) counted
+
+row_whole : (nodes : ℕ) (bag : Bag) → bag ≡ one_of_each nodes → AllByRecursion (IsEven bag) (range_with_len 0 nodes)
+row_whole nodes bag is = ones_row bag 0 nodes (λ i from to. ap (λ b. get_or b i 0) is ∙ counts_of_ones 0 nodes i (omega (arith, to)))
+
+rows_whole : (bags : Bags) (nodes : ℕ) → ((pair : ℕ × ℕ) → length (bags pair) ≡ nodes) → (pairs : List (ℕ × ℕ)) → AllByRecursion (IsDueEven bags) (counts_due nodes pairs) → AllByRecursion (λ pair. bags pair ≡ one_of_each nodes) pairs
+rows_whole bags nodes counted [] each = tt
+rows_whole bags nodes counted (pair ∷ pairs) each =
+    let parts = each_split (IsDueEven bags) (map (λ node. (pair.0, pair.1, node)) (range_with_len 0 nodes)) (counts_due nodes pairs) each in
+    (whole_row nodes (bags pair) (counted pair) (unmapped bags pair (range_with_len 0 nodes) parts.0), rows_whole bags nodes counted pairs parts.1)
+
+whole_rows : (bags : Bags) (nodes : ℕ) (pairs : List (ℕ × ℕ)) → AllByRecursion (λ pair. bags pair ≡ one_of_each nodes) pairs → AllByRecursion (IsDueEven bags) (counts_due nodes pairs)
+whole_rows bags nodes [] each = tt
+whole_rows bags nodes (pair ∷ pairs) each =
+    each_joined (IsDueEven bags) (map (λ node. (pair.0, pair.1, node)) (range_with_len 0 nodes)) (counts_due nodes pairs) (mapped bags pair (range_with_len 0 nodes) (row_whole nodes (bags pair) each.0)) (whole_rows bags nodes pairs each.1)
+
+pub even_everywhere : (bags : Bags) (nodes : ℕ) (pairs : List (ℕ × ℕ)) → ((pair : ℕ × ℕ) → length (bags pair) ≡ nodes) → first_uneven bags nodes pairs ≡ None → All (λ pair. bags pair ≡ one_of_each nodes) pairs
+even_everywhere bags nodes pairs counted none =
+    All-from_recursion (λ pair. bags pair ≡ one_of_each nodes) pairs (rows_whole bags nodes counted pairs (found_none (λ due. not (eqb (count_of bags due) 1)) (counts_due nodes pairs) none))
+
+pub none_uneven : (bags : Bags) (nodes : ℕ) (pairs : List (ℕ × ℕ)) → All (λ pair. bags pair ≡ one_of_each nodes) pairs → first_uneven bags nodes pairs ≡ None
+none_uneven bags nodes pairs all =
+    none_found (λ due. not (eqb (count_of bags due) 1)) (counts_due nodes pairs) (whole_rows bags nodes pairs (recursion_from_All (λ pair. bags pair ≡ one_of_each nodes) pairs all))
