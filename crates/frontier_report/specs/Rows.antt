@@ -1,8 +1,8 @@
 -- Small reports.
-use Rattle.std.specs.Prelude.{ℕ, List, [], ◌∷◌, codes}
+use Rattle.std.specs.Prelude.{ℕ, List, [], ◌∷◌, ◌++◌, codes}
 use Rattle.outer_ports.specs.declared.part.Part.TheVariants.{Whole, Reduce, Gather}
 use Rattle.schedule.specs.declared.hop.Hop.{Hop}
-use Rattle.schedule.specs.Rows.{line_of_2, plan, send}
+use Rattle.schedule.specs.Rows.{line_of_2, line_of_3, plan, send}
 use Rattle.collective_spec.specs.declared.kind.Kind.{Kind}
 use Rattle.collective_spec.specs.declared.kind.Kind.TheVariants.{Broadcast, Allreduce}
 use Rattle.candidate_order.specs.declared.mark.Mark.{Mark}
@@ -46,3 +46,31 @@ allreduce_report = record {
       ∷ [];
   joined = point 2 2 (mark.Joined 1) (1 ∷ 1 ∷ []) (send 0 1 0 1 ∷ send 1 0 1 1 ∷ send 0 0 1 2 ∷ send 1 1 0 2 ∷ []) ∷ [];
 }
+
+-- the relay of one chunk along three nodes, in two steps; one step is not enough
+abbrev pub relay_report : ReportValue
+relay_report = record {
+  words = record { collective = record { kind = Broadcast; root = 0 }; limits = record { k = 0; max_s = 2; max_c = 1; conflicts = 1000 } };
+  topology = record { names = codes "n0" ∷ codes "n1" ∷ codes "n2" ∷ []; topology = line_of_3 };
+  frontiers = (
+    Whole,
+    record {
+      points = point 2 2 mark.Optimal (1 ∷ 1 ∷ []) (send 0 0 1 1 ∷ send 0 1 2 2 ∷ []) ∷ [];
+      refuted = record { s = 1; r = 1; c = 1 } ∷ [];
+      unknown = [];
+    },
+  ) ∷ [];
+  joined = [];
+}
+
+-- ---- pieces of texts
+
+-- the first seven lines of the broadcast's report
+abbrev pub broadcast_head : List ℕ
+broadcast_head = codes "sccl 1\nsynth collective=broadcast k=0 steps=1 chunks=1 conflicts=1000 root=n0\ntopology 1\nnodes n0 n1\ngroup 1 n0>n1\ngroup 1 n1>n0\nfrontier whole\n"
+
+-- the relay's report with another conflicts number and root on its second line, and other lines from line 10 on
+abbrev pub relay_text : List ℕ → List ℕ → List ℕ → List ℕ
+relay_text conflicts root rest =
+    codes "sccl 1\nsynth collective=broadcast k=0 steps=2 chunks=1 conflicts=" ++ conflicts ++ codes " root=" ++ root
+    ++ codes "\ntopology 1\nnodes n0 n1 n2\ngroup 1 n0>n1\ngroup 1 n1>n0\ngroup 1 n1>n2\ngroup 1 n2>n1\nfrontier whole\n" ++ rest

@@ -1,6 +1,11 @@
-//! Reports of a search: their values and their text.
+//! Reports of a search: their values, their text, and the checks of a text.
 #![tactic(auto)]
 
+mod fault;
 mod vectors;
 
-pub use vectors::texts;
+pub use fault::{ReportCode, ReportFault};
+pub use vectors::{
+    broadcasts_refused, numbers_checked, order_of_checks, order_of_lines, relays_refused, texts,
+    texts_read,
+};

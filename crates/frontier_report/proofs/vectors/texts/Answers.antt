@@ -10,3 +10,7 @@ returns-clause-broadcast c = refl
 pub returns-clause-allreduce : goal.returns-clause-allreduce
 unfolding digits report_text
 returns-clause-allreduce c = refl
+
+pub returns-clause-relay : goal.returns-clause-relay
+unfolding digits report_text
+returns-clause-relay c = refl
