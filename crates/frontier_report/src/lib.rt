@@ -2,9 +2,11 @@
 #![tactic(auto)]
 
 mod fault;
+mod laws;
 mod vectors;
 
 pub use fault::{ReportCode, ReportFault};
+pub use laws::tests_decide;
 pub use vectors::{
     broadcasts_refused, numbers_checked, order_of_checks, order_of_lines, relays_refused, texts,
     texts_read,

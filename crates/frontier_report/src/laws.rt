@@ -1,0 +1,18 @@
+//! Laws of the checks of a report.
+
+ghost use Rattle.std.specs.Prelude.{Decides};
+ghost use Rattle.candidate_order.specs.Ranges.{LimitsValue, IsLimits};
+ghost use Rattle.candidate_order.specs.Costs.{NoWorse, Better, Before};
+ghost use Rattle.candidate_order.specs.Frontiers.{QuestionValue, IsWithin};
+ghost use Rattle.frontier_report.specs.Tests.{are_limits, is_within, is_no_worse, is_better, is_before};
+
+use candidate_order::Candidate;
+
+/// Each test of limits and of candidates is true exactly where what it tests holds.
+pub fn tests_decide()
+    ensures limits { (l : LimitsValue) → Decides (are_limits l) (IsLimits l) }
+    ensures within { (q : QuestionValue) (x : Candidate) → Decides (is_within q x) (IsWithin q x) }
+    ensures no_worse { (a b : Candidate) → Decides (is_no_worse a b) (NoWorse a b) }
+    ensures better { (a b : Candidate) → Decides (is_better a b) (Better a b) }
+    ensures before { (a b : Candidate) → Decides (is_before a b) (Before a b) }
+{}
