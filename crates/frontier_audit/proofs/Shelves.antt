@@ -1,31 +1,46 @@
 -- What a right shelf says, drawn out.
-use Rattle.std.proofs.Common.{◌≡◌, List}
-use Rattle.std.specs.Prelude.{Contains, Option, None, Some, codes}
+use Rattle.std.proofs.Common.{◌≡◌}
+use Rattle.std.specs.Prelude.{Contains, Option, None, Some}
 use Rattle.std.proofs.lemmas.List.Elements.{All-contains}
+use Rattle.outer_ports.specs.declared.part.Part.{Part}
+use Rattle.outer_ports.specs.declared.proof_name.FileKind.TheVariants.{Cnf, Lrat, Partial}
+use Rattle.outer_ports.specs.Files.{Files}
 use Rattle.cnf_formula.specs.Formulas.{Satisfiable}
 use Rattle.candidate_order.specs.declared.candidate.Candidate.{Candidate}
 use Rattle.candidate_order.specs.Frontiers.{QuestionValue, FrontierValue, UnknownValue}
 use Rattle.lrat_checker.proofs.Sound.{never_refuted}
-use Rattle.frontier_audit.specs.declared.part.Part.{Part}
-use Rattle.frontier_audit.specs.Shelves.{FileValue, file_at, file_name, formula_for, HasRefutation, HasLog, ShelfRight}
+use Rattle.frontier_report.specs.Reports.{ReportValue, question_of}
+use Rattle.frontier_audit.specs.Shelves.{file_of, formula_for, HasRefutation, HasLog, PartRight, ShelfRight}
 
 not_both : {A : Type 0} (o : Option A) (a : A) → o ≡ None → o ≡ Some a → ⊥
 not_both o a e f = absurd (cc)
 
-refutation_of : (part : Part) (q : QuestionValue) (f : FrontierValue) (files : List FileValue) (x : Candidate) → ShelfRight part q f files → Contains f.refuted x → HasRefutation part q files x
-refutation_of part q f files x right at = All-contains (HasRefutation part q files) f.refuted x right.refuted at
+abbrev question : ReportValue → Part → QuestionValue
+question r part = question_of r.words r.topology part
 
-log_of : (part : Part) (q : QuestionValue) (f : FrontierValue) (files : List FileValue) (u : UnknownValue) → ShelfRight part q f files → Contains f.unknown u → HasLog part q files u
-log_of part q f files u right at = All-contains (HasLog part q files) f.unknown u right.unknown at
+part_of : (r : ReportValue) (files : Files) (part : Part) (f : FrontierValue) → ShelfRight r files → Contains r.frontiers (part, f) → PartRight part (question r part) f files
+part_of r files part f right at = All-contains (λ x. PartRight x.0 (question_of r.words r.topology x.0) x.1 files) r.frontiers (part, f) right at
 
-pub has_formula : (part : Part) (q : QuestionValue) (f : FrontierValue) (files : List FileValue) (x : Candidate) → ShelfRight part q f files → Contains f.refuted x → file_at files (file_name part x (codes "cnf")) ≡ None → ⊥
-has_formula part q f files x right at e = let has = refutation_of part q f files x right at in not_both _ _ e has.formula
+refutation_of : (r : ReportValue) (files : Files) (part : Part) (f : FrontierValue) (x : Candidate) → ShelfRight r files → Contains r.frontiers (part, f) → Contains f.refuted x → HasRefutation part (question r part) files x
+refutation_of r files part f x right at of =
+    let p = part_of r files part f right at in
+    All-contains (HasRefutation part (question r part) files) f.refuted x p.refuted of
 
-pub has_proof : (part : Part) (q : QuestionValue) (f : FrontierValue) (files : List FileValue) (x : Candidate) → ShelfRight part q f files → Contains f.refuted x → file_at files (file_name part x (codes "lrat")) ≡ None → ⊥
-has_proof part q f files x right at e = let has = refutation_of part q f files x right at in not_both _ _ e has.holds.found
+log_of : (r : ReportValue) (files : Files) (part : Part) (f : FrontierValue) (u : UnknownValue) → ShelfRight r files → Contains r.frontiers (part, f) → Contains f.unknown u → HasLog part (question r part) files u
+log_of r files part f u right at of =
+    let p = part_of r files part f right at in
+    All-contains (HasLog part (question r part) files) f.unknown u p.unknown of
 
-pub has_log : (part : Part) (q : QuestionValue) (f : FrontierValue) (files : List FileValue) (u : UnknownValue) → ShelfRight part q f files → Contains f.unknown u → file_at files (file_name part u.candidate (codes "partial")) ≡ None → ⊥
-has_log part q f files u right at e = let has = log_of part q f files u right at in not_both _ _ e has.holds.found
+pub has_formula : (r : ReportValue) (files : Files) (part : Part) (f : FrontierValue) (x : Candidate) → ShelfRight r files → Contains r.frontiers (part, f) → Contains f.refuted x → files (file_of Cnf part x) ≡ None → ⊥
+has_formula r files part f x right at of e = let has = refutation_of r files part f x right at of in not_both _ _ e has.formula
 
-pub unsatisfiable : (part : Part) (q : QuestionValue) (f : FrontierValue) (files : List FileValue) (x : Candidate) → ShelfRight part q f files → Contains f.refuted x → Satisfiable (formula_for q x) → ⊥
-unsatisfiable part q f files x right at s = let has = refutation_of part q f files x right at in never_refuted (formula_for q x) has.lines s has.refutes
+pub has_proof : (r : ReportValue) (files : Files) (part : Part) (f : FrontierValue) (x : Candidate) → ShelfRight r files → Contains r.frontiers (part, f) → Contains f.refuted x → files (file_of Lrat part x) ≡ None → ⊥
+has_proof r files part f x right at of e = let has = refutation_of r files part f x right at of in not_both _ _ e has.holds.found
+
+pub has_log : (r : ReportValue) (files : Files) (part : Part) (f : FrontierValue) (u : UnknownValue) → ShelfRight r files → Contains r.frontiers (part, f) → Contains f.unknown u → files (file_of Partial part u.candidate) ≡ None → ⊥
+has_log r files part f u right at of e = let has = log_of r files part f u right at of in not_both _ _ e has.holds.found
+
+pub unsatisfiable : (r : ReportValue) (files : Files) (part : Part) (f : FrontierValue) (x : Candidate) → ShelfRight r files → Contains r.frontiers (part, f) → Contains f.refuted x → Satisfiable (formula_for (question_of r.words r.topology part) x) → ⊥
+unsatisfiable r files part f x right at of s =
+    let has = refutation_of r files part f x right at of in
+    never_refuted (formula_for (question_of r.words r.topology part) x) has.lines s has.refutes

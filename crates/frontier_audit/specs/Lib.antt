@@ -1,2 +1,9 @@
 pub mod Proofs
 pub mod Shelves
+pub mod Denials
+pub mod Proving
+pub mod Candidates
+pub mod Solutions
+pub mod Joining
+pub mod Auditing
+pub mod Rows

@@ -1,8 +1,13 @@
-//! When the files beside a report prove what it says of its refuted and its unknown candidates.
+//! Whether a report and the files beside it are right: the checks of an audit, in their order.
 #![tactic(auto)]
 
 mod laws;
-mod part;
 mod vectors;
+mod verdict;
 
-pub use part::Part;
+pub use laws::{refuted_has_files, refuted_is_unsatisfiable, unknown_has_a_log};
+pub use vectors::{
+    allreduce_audited, altered_files_audited, candidates, formula_of_one_step, lines,
+    relay_audited, unknown_audited,
+};
+pub use verdict::{AuditFault, AuditVerdict, Reason};

@@ -1,20 +1,23 @@
-//! What the definitions give on small names and texts.
+//! What the definitions give on small reports, files and texts.
 
-ghost use Rattle.std.specs.Prelude.{◌≡◌, [], ◌∷◌, Ok, Err, codes, pos};
+ghost use Rattle.std.specs.Prelude.{◌≡◌, [], ◌∷◌, ◌++◌, Ok, Err, codes, pos};
+ghost use Rattle.schedule.specs.Rows.{send};
 ghost use Rattle.cnf_formula.specs.Literals.{yes};
+ghost use Rattle.lrat_text.specs.Printing.{cnf_text};
+ghost use Rattle.frontier_report.specs.Reports.{question_of};
+ghost use Rattle.frontier_report.specs.Rows.{point, relay_report, allreduce_report};
 ghost use Rattle.frontier_audit.specs.Proofs.{lines_of_text};
-ghost use Rattle.frontier_audit.specs.Shelves.{file_name};
+ghost use Rattle.frontier_audit.specs.Shelves.{file_of, formula_for};
+ghost use Rattle.frontier_audit.specs.Candidates.{candidates_within};
+ghost use Rattle.frontier_audit.specs.Auditing.{audit_of};
+ghost use Rattle.frontier_audit.specs.Rows.{shelf, one_step, rest_of_one_step, cnf_of_one_step, proof_of_one_step, beside_one_step, log_of_one_step, sized, words, four_nodes, relay, joined_sends, allreduce};
 
-use crate::part::Part;
+use crate::verdict::{AuditVerdict, Reason};
+use candidate_order::Mark;
 use cnf_formula::LratLine;
+use collective_spec::Kind;
 use lrat_text::LratTextFault;
-
-/// Names of files, of each part and of each kind of file.
-pub fn names()
-    ensures formula { file_name Part.Whole (record { s = 1; r = 1; c = 1 }) (codes "cnf") ≡ codes "1-1-1.cnf" }
-    ensures proof { file_name Part.Reduce (record { s = 2; r = 3; c = 16 }) (codes "lrat") ≡ codes "reduce-2-3-16.lrat" }
-    ensures log { file_name Part.Gather (record { s = 8; r = 16; c = 4 }) (codes "partial") ≡ codes "gather-8-16-4.partial" }
-{}
+use outer_ports::{FileKind, Part};
 
 /// Proof lines of whole texts: a comment and an empty line are passed over, the last line may lack its line feed, and the
 /// first fault is told.
@@ -22,4 +25,63 @@ pub fn lines()
     ensures nothing { lines_of_text [] ≡ Ok [] }
     ensures two { lines_of_text (codes "c 1\n5 1 0 2 0\n\n5 d 1 0") ≡ Ok (LratLine.Addition (record { id = 5; lits = yes 1 ∷ []; hints = pos 2 ∷ [] }) ∷ LratLine.Deletion (record { id = 5; ids = 1 ∷ [] }) ∷ []) }
     ensures fault { lines_of_text (codes "5 1 0 2 0\n6 0 3") ≡ Err LratTextFault.Truncated }
+{}
+
+/// The text of the formula of one step, from the question of the relay's report.
+pub fn formula_of_one_step()
+    ensures { cnf_text (formula_for (question_of relay_report.words relay_report.topology Part.Whole) one_step) ≡ cnf_of_one_step }
+{}
+
+/// The audit of the relay's report, with its files and with one thing changed.
+pub fn relay_audited()
+    ensures verified { audit_of relay_report (beside_one_step cnf_of_one_step proof_of_one_step) ≡ AuditVerdict.Verified }
+    ensures hint_lacks { audit_of relay_report (beside_one_step cnf_of_one_step (codes "34 0 2 3 16 24 0\n")) ≡ AuditVerdict.Denied Reason.ProofRefused Part.Whole one_step }
+    ensures proof_empty { audit_of relay_report (beside_one_step cnf_of_one_step []) ≡ AuditVerdict.Denied Reason.ProofRefused Part.Whole one_step }
+    ensures proof_lacks { audit_of relay_report (shelf ((file_of FileKind.Cnf Part.Whole one_step, cnf_of_one_step) ∷ [])) ≡ AuditVerdict.Denied Reason.ProofMissing Part.Whole one_step }
+    ensures formula_differs { audit_of relay_report (beside_one_step (codes "p cnf 18 33\n-1 0\n" ++ rest_of_one_step) proof_of_one_step) ≡ AuditVerdict.Denied Reason.CnfDiffers Part.Whole one_step }
+    ensures mark { audit_of (relay Mark.Open (send 0 1 2 2) (one_step ∷ []) []) (beside_one_step cnf_of_one_step proof_of_one_step) ≡ AuditVerdict.Denied Reason.MarkWrong Part.Whole (record { s = 2; r = 2; c = 1 }) }
+    ensures candidate_lacks { audit_of (relay Mark.Optimal (send 0 1 2 2) [] []) (beside_one_step cnf_of_one_step proof_of_one_step) ≡ AuditVerdict.Denied Reason.CandidateMissing Part.Whole one_step }
+    ensures schedule_wrong { audit_of (relay Mark.Optimal (send 0 0 2 2) (one_step ∷ []) []) (beside_one_step cnf_of_one_step proof_of_one_step) ≡ AuditVerdict.Denied Reason.ScheduleWrong Part.Whole (record { s = 2; r = 2; c = 1 }) }
+{}
+
+/// The candidates within small limits, in the order of the search; an all-to-all takes only multiples of the nodes.
+pub fn candidates()
+    ensures ring { candidates_within (question_of (words Kind.Allgather 1 3 2) four_nodes Part.Whole)
+        ≡ sized 1 1 2 ∷ sized 1 1 1 ∷ sized 1 2 2 ∷ sized 1 2 1
+        ∷ sized 2 2 2 ∷ sized 2 3 2 ∷ sized 2 2 1 ∷ sized 2 3 1
+        ∷ sized 3 3 2 ∷ sized 3 4 2 ∷ sized 3 3 1 ∷ sized 3 4 1 ∷ [] }
+    ensures alltoall { candidates_within (question_of (words Kind.Alltoall 0 1 9) four_nodes Part.Whole) ≡ sized 1 1 8 ∷ sized 1 1 4 ∷ [] }
+    ensures nothing { candidates_within (question_of (words Kind.Alltoall 1 2 3) four_nodes Part.Whole) ≡ [] }
+{}
+
+/// The candidate of one step left unknown: its log has to stand there, and has to have as many lines as it was given
+/// conflicts, each with a literal and none that says no more than a held clause. One line is the log of one conflict.
+pub fn unknown_audited()
+    ensures log_lacks { audit_of (relay Mark.Open (send 0 1 2 2) [] (record { candidate = one_step; conflicts = 1000 } ∷ [])) (beside_one_step cnf_of_one_step proof_of_one_step) ≡ AuditVerdict.Denied Reason.ProofMissing Part.Whole one_step }
+    ensures log_refutes { audit_of (relay Mark.Open (send 0 1 2 2) [] (record { candidate = one_step; conflicts = 1000 } ∷ [])) (log_of_one_step proof_of_one_step) ≡ AuditVerdict.Denied Reason.PartialRefused Part.Whole one_step }
+    ensures log_short { audit_of (relay Mark.Open (send 0 1 2 2) [] (record { candidate = one_step; conflicts = 1000 } ∷ [])) (log_of_one_step (codes "34 -1 0 2 3 9 16 24 0\n")) ≡ AuditVerdict.Denied Reason.PartialRefused Part.Whole one_step }
+    ensures log_stale { audit_of (relay Mark.Open (send 0 1 2 2) [] (record { candidate = one_step; conflicts = 1 } ∷ [])) (log_of_one_step (codes "34 1 0 2 3 9 16 24 0\n")) ≡ AuditVerdict.Denied Reason.PartialRefused Part.Whole one_step }
+    ensures verified { audit_of (relay Mark.Open (send 0 1 2 2) [] (record { candidate = one_step; conflicts = 1 } ∷ [])) (log_of_one_step (codes "34 -1 0 2 3 9 16 24 0\n")) ≡ AuditVerdict.Verified }
+{}
+
+/// Proofs by hand, cut off or altered, and a formula with one byte too many.
+pub fn altered_files_audited()
+    ensures by_hand { audit_of relay_report (beside_one_step cnf_of_one_step (codes "c by hand\n34  0 2 3 9 16 24 0\r\n")) ≡ AuditVerdict.Verified }
+    ensures deleted_after { audit_of relay_report (beside_one_step cnf_of_one_step (codes "34 0 2 3 9 16 24 0\n35 d 1 0\n")) ≡ AuditVerdict.Verified }
+    ensures deleted_before { audit_of relay_report (beside_one_step cnf_of_one_step (codes "34 d 24 0\n35 0 2 3 9 16 24 0\n")) ≡ AuditVerdict.Denied Reason.ProofRefused Part.Whole one_step }
+    ensures old_number { audit_of relay_report (beside_one_step cnf_of_one_step (codes "33 0 2 3 9 16 24 0\n")) ≡ AuditVerdict.Denied Reason.ProofRefused Part.Whole one_step }
+    ensures no_line_feed { audit_of relay_report (beside_one_step cnf_of_one_step (codes "34 0 2 3 9 16 24 0")) ≡ AuditVerdict.Verified }
+    ensures cut { audit_of relay_report (beside_one_step cnf_of_one_step (codes "34 0 2 3 9 16 24")) ≡ AuditVerdict.Denied Reason.ProofRefused Part.Whole one_step }
+    ensures zero_twice { audit_of relay_report (beside_one_step cnf_of_one_step (codes "34 0 2 3 9 16 24 0 0\n")) ≡ AuditVerdict.Denied Reason.ProofRefused Part.Whole one_step }
+    ensures negative { audit_of relay_report (beside_one_step cnf_of_one_step (codes "34 0 2 3 9 16 -24 0\n")) ≡ AuditVerdict.Denied Reason.ProofRefused Part.Whole one_step }
+    ensures bad_line_later { audit_of relay_report (beside_one_step cnf_of_one_step (codes "34 0 2 3 9 16 24 0\nx\n")) ≡ AuditVerdict.Denied Reason.ProofRefused Part.Whole one_step }
+    ensures formula_longer { audit_of relay_report (beside_one_step (cnf_of_one_step ++ codes "\n") proof_of_one_step) ≡ AuditVerdict.Denied Reason.CnfDiffers Part.Whole one_step }
+{}
+
+/// An allreduce needs no file where nothing is refuted, and its joined points are the joins of its parts' points.
+pub fn allreduce_audited()
+    ensures verified { audit_of allreduce_report (shelf []) ≡ AuditVerdict.Verified }
+    ensures join_lacks { audit_of (allreduce []) (shelf []) ≡ AuditVerdict.Denied Reason.JoinWrong Part.Joined (sized 2 2 1) }
+    ensures join_differs { audit_of (allreduce (point 2 3 (Mark.Joined 1) (2 ∷ 1 ∷ []) joined_sends ∷ [])) (shelf []) ≡ AuditVerdict.Denied Reason.JoinWrong Part.Joined (sized 2 2 1) }
+    ensures surplus { audit_of (allreduce (point 2 2 (Mark.Joined 1) (1 ∷ 1 ∷ []) joined_sends ∷ point 3 3 (Mark.Joined 1) (1 ∷ 1 ∷ 1 ∷ []) joined_sends ∷ [])) (shelf []) ≡ AuditVerdict.Denied Reason.JoinWrong Part.Joined (sized 3 3 1) }
 {}

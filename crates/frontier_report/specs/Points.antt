@@ -1,10 +1,10 @@
 -- The checks of a point: its candidate and mark, its rounds, and its sends. This project's own text.
-use Rattle.std.specs.Prelude.{◌==◌, ◌&&◌, ◌+◌, ◌*◌, not, ℕ, Bool, true, if◌then◌else◌, List, [], ◌∷◌, ◌++◌, length, map, sum, codes, nat_lt, nat_le, bytes_eq, Option, None, Some, Result, Ok}
+use Rattle.std.specs.Prelude.{◌==◌, ◌&&◌, ◌+◌, ◌*◌, not, ℕ, Bool, true, if◌then◌else◌, List, [], ◌∷◌, length, map, sum, codes, nat_lt, nat_le, bytes_eq, Option, None, Some, Result, Ok}
 use Rattle.std.specs.List.{list_all, last_or}
 use Rattle.text_lines.specs.Text.{Row, Place}
 use Rattle.text_lines.specs.Check.{◌>>=◌, refuse, need, line_part}
 use Rattle.schedule.specs.declared.hop.Hop.{Hop}
-use Rattle.schedule.specs.Sends.{ScheduleValue, hop_before}
+use Rattle.schedule.specs.Sends.{hop_before}
 use Rattle.collective_spec.specs.Collectives.{chunks_of}
 use Rattle.candidate_order.specs.declared.candidate.Candidate.{Candidate}
 use Rattle.candidate_order.specs.declared.mark.Mark.{Mark}

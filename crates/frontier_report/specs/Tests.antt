@@ -1,5 +1,5 @@
 -- Tests of candidates (Cai et al., PPoPP 2021, k-synchronous schedules and their costs).
-use Rattle.std.specs.Prelude.{◌==◌, ◌&&◌, ◌||◌, ◌+◌, ◌*◌, ℕ, Bool, true, List, nat_lt, nat_le, Option, None, Some}
+use Rattle.std.specs.Prelude.{◌==◌, ◌&&◌, ◌||◌, ◌+◌, ◌*◌, Bool, true, nat_lt, nat_le, Option, None, Some}
 use Rattle.collective_spec.specs.Kinds.{allows}
 use Rattle.candidate_order.specs.declared.candidate.Candidate.{Candidate}
 use Rattle.candidate_order.specs.Ranges.{LimitsValue}

@@ -1,0 +1,7 @@
+use Rattle.std.proofs.Common.{refl}
+use Rattle.std.specs.Fmt.{digits}
+use Rattle.frontier_audit.proofs.vectors.formula_of_one_step.Goals as goal
+
+pub returns : goal.returns
+unfolding digits
+returns c = refl

@@ -1,0 +1,86 @@
+-- Reports with the files beside them.
+use Rattle.std.specs.Prelude.{ℕ, ◌==◌, ◌&&◌, Bool, if◌then◌else◌, List, [], ◌∷◌, ◌++◌, None, Some, codes}
+use Rattle.outer_ports.specs.declared.part.Part.{Part}
+use Rattle.outer_ports.specs.declared.part.Part.TheVariants.{Whole, Reduce, Gather, Joined}
+use Rattle.outer_ports.specs.declared.proof_name.FileKind.{FileKind}
+use Rattle.outer_ports.specs.declared.proof_name.FileKind.TheVariants.{Cnf, Lrat, Partial}
+use Rattle.outer_ports.specs.declared.proof_name.ProofName.{ProofName}
+use Rattle.outer_ports.specs.Files.{Files}
+use Rattle.schedule.specs.declared.hop.Hop.{Hop}
+use Rattle.schedule.specs.Rows.{send}
+use Rattle.candidate_order.specs.declared.candidate.Candidate.{Candidate}
+use Rattle.candidate_order.specs.declared.mark.Mark.{Mark}
+use Rattle.candidate_order.specs.Frontiers.{PointValue, UnknownValue}
+use Rattle.collective_spec.specs.declared.kind.Kind.{Kind}
+use Rattle.topology_text.specs.declared.family_kind.FamilyKind.TheVariants.{Ring}
+use Rattle.topology_text.specs.Family.{family_of}
+use Rattle.topology_text.specs.Value.{NamedTopologyValue}
+use Rattle.frontier_report.specs.Reports.{WordsValue, ReportValue}
+use Rattle.frontier_report.specs.Rows.{point, relay_report, allreduce_report}
+use Rattle.frontier_audit.specs.Shelves.{file_of}
+
+abbrev pub part_number : Part → ℕ
+part_number Whole = 0
+part_number Reduce = 1
+part_number Gather = 2
+part_number Joined = 3
+
+abbrev pub kind_number : FileKind → ℕ
+kind_number Cnf = 0
+kind_number Lrat = 1
+kind_number Partial = 2
+
+abbrev pub same_name : ProofName → ProofName → Bool
+same_name a b = kind_number a.kind == kind_number b.kind && part_number a.part == part_number b.part && a.s == b.s && a.r == b.r && a.c == b.c
+
+-- the files of a list of names and bytes
+abbrev pub shelf : List (ProofName × List ℕ) → Files
+shelf [] name = None
+shelf (entry ∷ entries) name = if same_name entry.0 name then Some entry.1 else shelf entries name
+
+-- so many steps, rounds and chunks
+abbrev pub sized : ℕ → ℕ → ℕ → Candidate
+sized s r c = record { s = s; r = r; c = c }
+
+abbrev pub one_step : Candidate
+one_step = sized 1 1 1
+
+-- a search of this kind, with so many extra rounds, steps and chunks
+abbrev pub words : Kind → ℕ → ℕ → ℕ → WordsValue
+words kind k steps chunks = record { collective = record { kind = kind; root = 0 }; limits = record { k = k; max_s = steps; max_c = chunks; conflicts = 1000 } }
+
+-- the ring of four nodes
+abbrev pub four_nodes : NamedTopologyValue
+four_nodes = family_of Ring 4
+
+-- the text of the formula of one step on the line of three nodes, behind its first clause
+abbrev pub rest_of_one_step : List ℕ
+rest_of_one_step = codes "-3 0\n-5 0\n-1 2 0\n-3 4 0\n-5 6 0\n2 0\n4 0\n6 0\n-7 1 0\n-7 -3 0\n-7 4 0\n-8 3 0\n-8 -1 0\n-8 2 0\n-9 3 0\n-9 -5 0\n-9 6 0\n-10 5 0\n-10 -3 0\n-10 4 0\n1 -2 8 0\n3 -4 7 10 0\n5 -6 9 0\n-7 -10 0\n-7 11 0\n-12 0\n-8 13 0\n-14 0\n-9 15 0\n-16 0\n-10 17 0\n-18 0\n"
+
+abbrev pub cnf_of_one_step : List ℕ
+cnf_of_one_step = codes "p cnf 18 33\n1 0\n" ++ rest_of_one_step
+
+abbrev pub proof_of_one_step : List ℕ
+proof_of_one_step = codes "34 0 2 3 9 16 24 0\n"
+
+-- a formula and a proof beside the candidate of one step
+abbrev pub beside_one_step : List ℕ → List ℕ → Files
+beside_one_step formula proof = shelf ((file_of Cnf Whole one_step, formula) ∷ (file_of Lrat Whole one_step, proof) ∷ [])
+
+-- a log beside the candidate of one step
+abbrev pub log_of_one_step : List ℕ → Files
+log_of_one_step log = shelf ((file_of Cnf Whole one_step, cnf_of_one_step) ∷ (file_of Partial Whole one_step, log) ∷ [])
+
+-- the relay's report with another mark, last send, and candidates
+abbrev pub relay : Mark → Hop → List Candidate → List UnknownValue → ReportValue
+relay mark last refuted unknown = record relay_report {
+  frontiers = (Whole, record { points = point 2 2 mark (1 ∷ 1 ∷ []) (send 0 0 1 1 ∷ last ∷ []) ∷ []; refuted = refuted; unknown = unknown }) ∷ [];
+}
+
+-- each node sends the chunk that the other adds up, and then its own
+abbrev pub joined_sends : List Hop
+joined_sends = send 0 1 0 1 ∷ send 1 0 1 1 ∷ send 0 0 1 2 ∷ send 1 1 0 2 ∷ []
+
+-- the allreduce's report with other joined points
+abbrev pub allreduce : List PointValue → ReportValue
+allreduce joined = record allreduce_report { joined = joined }

@@ -1,0 +1,41 @@
+-- The checks of a point's schedule and of its mark (Cai et al., PPoPP 2021, Pareto-optimal schedules; marks are this project's own).
+use Rattle.std.specs.Prelude.{◌||◌, not, Bool, true, false, if◌then◌else◌}
+use Rattle.std.specs.List.{list_all}
+use Rattle.schedule.specs.declared.verdict.Verdict.{Verdict}
+use Rattle.schedule.specs.declared.verdict.Verdict.TheVariants as verdict
+use Rattle.schedule.specs.Judging.{verdict_of}
+use Rattle.inversion.specs.declared.verdict.SumVerdict.{SumVerdict}
+use Rattle.inversion.specs.declared.verdict.SumVerdict.TheVariants as sums
+use Rattle.inversion.specs.Judging.{sum_verdict_of}
+use Rattle.collective_spec.specs.Collectives.{instance_of, demand_of, reduces}
+use Rattle.candidate_order.specs.declared.candidate.Candidate.{Candidate}
+use Rattle.candidate_order.specs.declared.mark.Mark.{Mark}
+use Rattle.candidate_order.specs.declared.mark.Mark.TheVariants as mark
+use Rattle.candidate_order.specs.Frontiers.{QuestionValue, PointValue, FrontierValue}
+use Rattle.frontier_report.specs.Tests.{is_better}
+use Rattle.frontier_audit.specs.Candidates.{is_listed, candidates_within}
+
+abbrev pub says_solves : Verdict → Bool
+says_solves verdict.Solves = true
+says_solves _ = false
+
+abbrev pub says_sums : SumVerdict → Bool
+says_sums sums.Sums = true
+says_sums _ = false
+
+-- the schedule solves the collective's instance, or for a reduction sums what it demands
+abbrev pub is_solution : QuestionValue → PointValue → Bool
+is_solution q p =
+    let i = instance_of q.collective q.topology.nodes p.candidate.c in
+    let demand = demand_of q.collective q.topology.nodes p.candidate.c in
+    if reduces q.collective.kind then says_sums (sum_verdict_of q.topology demand p.schedule) else says_solves (verdict_of q.topology i.pre i.post p.schedule)
+
+-- every better candidate within the limits is refuted
+abbrev pub is_optimal : QuestionValue → FrontierValue → Candidate → Bool
+is_optimal q f x = list_all (λ y. not (is_better y x) || is_listed f.refuted y) (candidates_within q)
+
+-- the mark says whether that is so
+abbrev pub is_mark : Bool → Mark → Bool
+is_mark true mark.Optimal = true
+is_mark false mark.Open = true
+is_mark _ _ = false
