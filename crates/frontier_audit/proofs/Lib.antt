@@ -1,1 +1,4 @@
 pub mod Shelves
+pub mod Passing
+pub mod Proved
+pub mod Beside
