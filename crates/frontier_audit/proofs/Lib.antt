@@ -2,3 +2,4 @@ pub mod Shelves
 pub mod Passing
 pub mod Proved
 pub mod Beside
+pub mod Audited

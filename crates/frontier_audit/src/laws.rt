@@ -29,3 +29,8 @@ pub fn unknown_has_a_log()
 pub fn refuted_is_unsatisfiable()
     ensures { (r : ReportValue) (files : Files) (part : Part) (f : FrontierValue) (x : Candidate) → ShelfRight r files → Contains r.frontiers (part, f) → Contains f.refuted x → Satisfiable (formula_for (question_of r.words r.topology part) x) → ⊥ }
 {}
+
+/// Where an audit finds nothing to deny, the shelf is right.
+pub fn verified_shelf_is_right()
+    ensures { (r : ReportValue) (files : Files) → IsReport r → audit_of r files ≡ AuditVerdict.Verified → ShelfRight r files }
+{}

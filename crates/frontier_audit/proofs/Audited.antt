@@ -1,0 +1,98 @@
+-- What an audit that finds nothing to deny has found.
+use Rattle.std.proofs.Common.{◌≡◌, ℕ, List, [], ◌∷◌, Ok, get_or, refl, sym, ap, ◌∙◌}
+use Rattle.std.specs.Prelude.{All, not}
+use Rattle.text_lines.specs.Check.{◌>>=◌, refuse}
+use Rattle.outer_ports.specs.declared.part.Part.{Part}
+use Rattle.outer_ports.specs.Files.{Files}
+use Rattle.candidate_order.specs.Frontiers.{QuestionValue, PointValue, FrontierValue, UnknownValue, IsUnknown}
+use Rattle.frontier_report.specs.Reports.{ReportValue, IsReport, IsFrontier, question_of}
+use Rattle.frontier_audit.specs.declared.verdict.AuditVerdict.TheVariants.{Verified}
+use Rattle.frontier_audit.specs.Denials.{Denial, Checked, each, in_part}
+use Rattle.frontier_audit.specs.Shelves.{HasRefutation, HasLog, PartRight, ShelfRight}
+use Rattle.frontier_audit.specs.Candidates.{candidates_within}
+use Rattle.frontier_audit.specs.Joining.{joined_checked}
+use Rattle.frontier_audit.specs.Auditing.{point_checked, refuted_checked, unknown_checked, candidate_checked, mark_checked, frontier_checked, report_checked, audit_of}
+use Rattle.frontier_audit.proofs.Passing.{then_ok, ok_then, each_ok, ok_each, in_part_ok, ok_in_part, verified_ok, ok_verified}
+use Rattle.frontier_audit.proofs.Beside.{has_refutation, passes_refutation, has_log_of, passes_log}
+
+-- each check of a part passes
+pub record Passes (part : Part) (q : QuestionValue) (files : Files) (f : FrontierValue) : Type 0 where
+  pub points : All (λ p. point_checked q p ≡ Ok tt) f.points
+  pub refuted : All (λ x. refuted_checked part q files x ≡ Ok tt) f.refuted
+  pub unknown : All (λ u. unknown_checked part q files u ≡ Ok tt) f.unknown
+  pub candidates : All (λ x. candidate_checked f x ≡ Ok tt) (candidates_within q)
+  pub marks : All (λ p. mark_checked q f p ≡ Ok tt) f.points
+
+pub passes : (part : Part) (q : QuestionValue) (files : Files) (f : FrontierValue) → frontier_checked part q files f ≡ Ok tt → Passes part q files f
+passes part q files f e =
+    let points = each (point_checked q) f.points in
+    let refuted = each (refuted_checked part q files) f.refuted in
+    let unknown = each (unknown_checked part q files) f.unknown in
+    let candidates = each (candidate_checked f) (candidates_within q) in
+    let marks = each (mark_checked q f) f.points in
+    let one = then_ok points (refuted >>= (λ _. unknown >>= (λ _. candidates >>= (λ _. marks)))) e in
+    let two = then_ok refuted (unknown >>= (λ _. candidates >>= (λ _. marks))) one.1 in
+    let three = then_ok unknown (candidates >>= (λ _. marks)) two.1 in
+    let four = then_ok candidates marks three.1 in
+    record {
+      points = each_ok (point_checked q) f.points one.0;
+      refuted = each_ok (refuted_checked part q files) f.refuted two.0;
+      unknown = each_ok (unknown_checked part q files) f.unknown three.0;
+      candidates = each_ok (candidate_checked f) (candidates_within q) four.0;
+      marks = each_ok (mark_checked q f) f.points four.1;
+    }
+
+pub all_pass : (part : Part) (q : QuestionValue) (files : Files) (f : FrontierValue) → Passes part q files f → frontier_checked part q files f ≡ Ok tt
+all_pass part q files f p =
+    let points = each (point_checked q) f.points in
+    let refuted = each (refuted_checked part q files) f.refuted in
+    let unknown = each (unknown_checked part q files) f.unknown in
+    let candidates = each (candidate_checked f) (candidates_within q) in
+    let marks = each (mark_checked q f) f.points in
+    ok_then points (refuted >>= (λ _. unknown >>= (λ _. candidates >>= (λ _. marks)))) (ok_each (point_checked q) f.points p.points)
+    (ok_then refuted (unknown >>= (λ _. candidates >>= (λ _. marks))) (ok_each (refuted_checked part q files) f.refuted p.refuted)
+    (ok_then unknown (candidates >>= (λ _. marks)) (ok_each (unknown_checked part q files) f.unknown p.unknown)
+    (ok_then candidates marks (ok_each (candidate_checked f) (candidates_within q) p.candidates) (ok_each (mark_checked q f) f.points p.marks))))
+
+abbrev pub PartPasses : ReportValue → Files → Part × FrontierValue → Type 0
+PartPasses r files x = Passes x.0 (question_of r.words r.topology x.0) files x.1
+
+abbrev part_checked : ReportValue → Files → Part × FrontierValue → Checked (Part × Denial)
+part_checked r files x = in_part x.0 (frontier_checked x.0 (question_of r.words r.topology x.0) files x.1)
+
+-- each check of a report passes
+pub record ReportPasses (r : ReportValue) (files : Files) : Type 0 where
+  pub parts : All (PartPasses r files) r.frontiers
+  pub joined : joined_checked r.words.collective.kind r ≡ Ok tt
+
+part_passes : (r : ReportValue) (files : Files) (x : Part × FrontierValue) → part_checked r files x ≡ Ok tt → PartPasses r files x
+part_passes r files x e = passes x.0 (question_of r.words r.topology x.0) files x.1 (in_part_ok x.0 (frontier_checked x.0 (question_of r.words r.topology x.0) files x.1) e)
+
+part_passed : (r : ReportValue) (files : Files) (x : Part × FrontierValue) → PartPasses r files x → part_checked r files x ≡ Ok tt
+part_passed r files x p = ok_in_part x.0 (frontier_checked x.0 (question_of r.words r.topology x.0) files x.1) (all_pass x.0 (question_of r.words r.topology x.0) files x.1 p)
+
+pub report_passes : (r : ReportValue) (files : Files) → audit_of r files ≡ Verified → ReportPasses r files
+report_passes r files e =
+    let parts = then_ok (each (part_checked r files) r.frontiers) (joined_checked r.words.collective.kind r) (verified_ok (report_checked r files) e) in
+    let every = each_ok (part_checked r files) r.frontiers parts.0 in
+    record { parts = λ k d w. part_passes r files (get_or r.frontiers k d) (every k d w); joined = parts.1 }
+
+pub report_passed : (r : ReportValue) (files : Files) → ReportPasses r files → audit_of r files ≡ Verified
+report_passed r files p =
+    ok_verified (report_checked r files)
+    (ok_then (each (part_checked r files) r.frontiers) (joined_checked r.words.collective.kind r)
+        (ok_each (part_checked r files) r.frontiers (λ k d w. part_passed r files (get_or r.frontiers k d) (p.parts k d w))) p.joined)
+
+-- ---- the files
+
+pub part_right : (part : Part) (q : QuestionValue) (files : Files) (f : FrontierValue) → All (IsUnknown q) f.unknown → Passes part q files f → PartRight part q f files
+part_right part q files f stated p = record {
+  refuted = λ k d w. has_refutation part q files (get_or f.refuted k d) (p.refuted k d w);
+  unknown = λ k d w. let u = stated k d w in has_log_of part q files (get_or f.unknown k d) u.conflicts (p.unknown k d w);
+}
+
+pub shelf_right : (r : ReportValue) (files : Files) → IsReport r → audit_of r files ≡ Verified → ShelfRight r files
+shelf_right r files valid e k d w =
+    let x = get_or r.frontiers k d in
+    let frontier = valid.frontiers k d w in
+    part_right x.0 (question_of r.words r.topology x.0) files x.1 frontier.unknown ((report_passes r files e).parts k d w)
