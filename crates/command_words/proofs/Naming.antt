@@ -1,0 +1,31 @@
+-- Words found among the names of values.
+use Rattle.std.proofs.Common.{◌≡◌, ◌∙◌, sym, refl, ℕ, Bool, true, false, cond, List, [], ◌∷◌, Option, Some, None, IfSome, find, bytes_eq, subst}
+use Rattle.std.specs.Cmp.Lexicographic.{bytes_decides}
+use Rattle.std.proofs.lemmas.Option.{none-some}
+use Rattle.collective_spec.specs.declared.kind.Kind.{Kind}
+use Rattle.collective_spec.specs.declared.kind.Kind.TheVariants.{Broadcast, Gather, Allgather, Scatter, Alltoall, Reduce, Reducescatter, Allreduce}
+use Rattle.collective_spec.specs.Kinds.{word_of}
+use Rattle.command_words.specs.Tables.{named, collectives}
+
+-- no value has a word that none is named by
+not_named : {V : Type 0} (name : V → List ℕ) (values : List V) (word : List ℕ) → ((v : V) → ¬ (name v ≡ word)) → named name values word ≡ None
+not_named name [] word none = refl
+not_named name (v ∷ vs) word none =
+    elim (bytes_eq (name v) word) as (λ b. bytes_eq (name v) word ≡ b → cond b (Some v) (named name vs word) ≡ None)
+    [ true ↦ (λ e. absurd (none v ((bytes_decides (name v) word).0 e))) | false ↦ (λ _. not_named name vs word none) ] refl
+
+-- each kind of collective is found by its word
+kind_found : (kind : Kind) → named word_of collectives (word_of kind) ≡ Some kind
+kind_found Broadcast = refl
+kind_found Gather = refl
+kind_found Allgather = refl
+kind_found Scatter = refl
+kind_found Alltoall = refl
+kind_found Reduce = refl
+kind_found Reducescatter = refl
+kind_found Allreduce = refl
+
+-- what is found by the word that each kind has is what the table says
+pub kind_named : (word : List ℕ) (result : Option Kind) → IfSome result (λ kind. word_of kind ≡ word) → ((kind : Kind) → word_of kind ≡ word → result ≡ Some kind) → result ≡ named word_of collectives word
+kind_named word (Some kind) found known = subst (λ w. Some kind ≡ named word_of collectives w) found (sym (kind_found kind))
+kind_named word None found known = sym (not_named word_of collectives word (λ kind e. none-some kind (known kind e)))

@@ -1,0 +1,52 @@
+//! What the words ask for.
+
+use candidate_order::Limits;
+use collective_spec::Kind;
+use topology_text::{FamilyKind, Name};
+
+/// The value of a word `root=NAME`, and the word's index.
+#[derive(Clone, Copy, Debug, PartialEq, Eq)]
+pub struct RootWord {
+    pub name: Name,
+    /// The index of the word, the command being word 0.
+    pub word: u32,
+}
+
+/// A command, with the values of its words.
+#[derive(Clone, Copy, Debug, PartialEq, Eq)]
+pub enum Command {
+    /// Searches schedules of a collective within the limits.
+    Synth {
+        kind: Kind,
+        limits: Limits,
+        /// The root, where one is named. Only a kind that takes a root has one.
+        root: Option<RootWord>,
+    },
+    /// Checks a report, with the files beside it.
+    Check,
+    /// Runs the schedule of a point of a report.
+    Replay {
+        /// The point's number, from 1 to 65,535.
+        point: u32,
+        /// The index of the word `point`.
+        point_word: u32,
+        /// What the order is drawn from in which the nodes run.
+        order: Option<u64>,
+    },
+    /// Gives the node programs of a point of a report.
+    Programs {
+        /// The point's number, from 1 to 65,535.
+        point: u32,
+        /// The index of the word `point`.
+        point_word: u32,
+    },
+    /// Gives a topology of a family. The kind allows the size.
+    Family {
+        kind: FamilyKind,
+        size: u8,
+    },
+    /// Tries the solver on formulas, as many as `n` says, at most 4095.
+    Trial {
+        n: u16,
+    },
+}

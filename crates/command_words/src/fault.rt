@@ -1,0 +1,47 @@
+//! Why words are refused, and where.
+
+ghost use Rattle.std.specs.Prelude.{◌≡◌};
+ghost use Rattle.command_words.specs.Codes.{number_of};
+
+/// Why words are refused.
+#[derive(Clone, Copy, Debug, PartialEq, Eq)]
+pub enum WordCode {
+    /// There is no word.
+    NoCommand = 1,
+    /// The first word is no command.
+    UnknownCommand = 2,
+    /// A word has no `=`, or a key that the command doesn't have.
+    UnknownKey = 3,
+    /// A key stood before.
+    KeyTwice = 4,
+    /// A key is lacking that the command requires.
+    KeyMissing = 5,
+    /// A value is none that its key takes, or the kind of family has no topology of this size.
+    BadValue = 6,
+    /// A root is named, and the collective takes none.
+    RootNotTaken = 7,
+    /// The root is no node of the topology.
+    UnknownRoot = 8,
+    /// The report has no point of this number.
+    UnknownPoint = 9,
+    /// Memory ran out, and nothing is said of the words.
+    OutOfMemory = 10,
+    /// The command isn't built yet.
+    NotBuilt = 11,
+}
+
+impl WordCode {
+    /// The number by which a refusal names the code, from 1 to 11 in the order of the variants.
+    pub fn number(self) -> u8
+        ensures { result ≡ number_of self }
+    {
+        self as u8
+    }
+}
+
+/// The refusal that counts, and the index of its word, the command being word 0.
+#[derive(Clone, Copy, Debug, PartialEq, Eq)]
+pub struct WordFault {
+    pub code: WordCode,
+    pub word: u32,
+}

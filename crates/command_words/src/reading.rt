@@ -1,0 +1,106 @@
+//! The words, read from left to right.
+
+ghost use Rattle.std.specs.Prelude.{◌≡◌, ◌+◌, ◌≤◌, length, IfOk, option_map};
+ghost use Rattle.command_words.specs.Values.{AreProper};
+ghost use Rattle.command_words.specs.Commands.{IsProper, command_given};
+ghost use Rattle.command_words.specs.Counting.{count_of};
+ghost use Rattle.command_words.specs.Words.{at_word, command_of, cut, nothing, texts, values_from, with_word};
+
+use crate::building::command_from;
+use crate::command::Command;
+use crate::fault::{WordCode, WordFault};
+use crate::key::Key;
+use crate::values::Values;
+use crate::verb::Verb;
+
+/// The key and the value of a word: what stands before its first `=`, and what stands behind it.
+fn cut(word: &str) -> Option<(&str, &str)>
+    ensures { option_map (λ parts. (parts.0.now, parts.1.now)) result ≡ cut word.now }
+{
+    word.split_once('=')
+}
+
+/// The values with that of the word with this index.
+fn with_word(verb: Verb, values: Values, index: u32, word: &str) -> Result<Values, WordCode>
+    requires { AreProper values }
+    ensures read { result ≡ with_word verb values index word.now }
+    ensures proper { IfOk result AreProper }
+    ensures counted { IfOk result (λ more. count_of more ≡ count_of values + 1) }
+{
+    let (key, value) = cut(word).ok_or(WordCode::UnknownKey)?;
+    let key = Key::of_word(key).ok_or(WordCode::UnknownKey)?;
+    if !verb.has(key) {
+        return Err(WordCode::UnknownKey);
+    }
+    if values.has(key) {
+        return Err(WordCode::KeyTwice);
+    }
+    values.with(key, value, index)
+}
+
+/// The values with that of the word with this index, or the refusal of the word.
+fn take_word(verb: Verb, values: Values, index: u32, word: &str) -> Result<Values, WordFault>
+    requires { AreProper values }
+    ensures read { result ≡ at_word index (with_word verb values index word.now) }
+    ensures proper { IfOk result AreProper }
+    ensures counted { IfOk result (λ more. count_of more ≡ count_of values + 1) }
+{
+    match with_word(verb, values, index, word) {
+        Ok(more) => Ok(more),
+        Err(code) => Err(WordFault { code, word: index }),
+    }
+}
+
+/// The values of the words behind the first, of which there are at most 11.
+fn values_from(verb: Verb, words: &[String]) -> Result<Values, WordFault>
+    ensures read { result ≡ values_from verb nothing 1 (texts words.now) }
+    ensures proper { IfOk result AreProper }
+    ensures few { IfOk result (λ _. length words.now ≤ 11) }
+{
+    let mut values = Values::default();
+    let mut index: u32 = 1;
+    for word in words {
+        values = take_word(verb, values, index, word)?;
+        index += 1;
+    }
+    Ok(values)
+}
+
+/// The command of the values that words gave, if they are not refused. There are `count` words.
+fn command_given(
+    verb: Verb,
+    values: Result<Values, WordFault>,
+    count: usize,
+) -> Result<Command, WordFault>
+    requires proper { IfOk values AreProper }
+    requires few { IfOk values (λ _. count ≤ 12) }
+    ensures read { result ≡ command_given verb values count }
+    ensures proper { IfOk result IsProper }
+{
+    match values {
+        Ok(values) => command_from(verb, values, count as u32),
+        Err(fault) => Err(fault),
+    }
+}
+
+/// The command that the words are: the first is the command's name, and every other a key, `=` and a
+/// value, in any order. An `Err` has the first refusal that applies: of the first word, of the other words from
+/// left to right, of a key that is lacking, of a size that the kind of family doesn't have, of a root that the
+/// collective doesn't take. It takes no memory.
+#[tactic(auto, unfolding(crate::specs::Words::command_of))]
+pub fn read_words(words: &[String]) -> Result<Command, WordFault>
+    ensures read { result ≡ command_of (texts words.now) }
+    ensures proper { IfOk result IsProper }
+{
+    let Some((first, rest)) = words.split_first() else {
+        return Err(WordFault {
+            code: WordCode::NoCommand,
+            word: 0,
+        });
+    };
+    let verb = Verb::of_word(first).ok_or(WordFault {
+        code: WordCode::UnknownCommand,
+        word: 0,
+    })?;
+    command_given(verb, values_from(verb, rest), words.len())
+}

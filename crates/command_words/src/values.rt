@@ -1,0 +1,120 @@
+//! The values of the words.
+
+ghost use Rattle.std.specs.Prelude.{◌≡◌, ◌≤◌, ◌+◌, false, IfOk};
+ghost use Rattle.command_words.specs.Values.{AreProper, is_given, name_from, number_from, with_value};
+ghost use Rattle.command_words.specs.Tables.{collectives, families, family_word, named};
+ghost use Rattle.command_words.specs.Counting.{count_of};
+
+use crate::command::RootWord;
+use crate::family_word::family_of_word;
+use crate::fault::WordCode;
+use crate::key::Key;
+use crate::kind_word::kind_of_word;
+use collective_spec::Kind;
+use text_lines::read_number;
+use topology_text::{FamilyKind, Name};
+
+/// The number of a point, and the index of its word.
+#[derive(Clone, Copy, Debug, PartialEq, Eq)]
+pub struct PointWord {
+    pub point: u32,
+    pub word: u32,
+}
+
+/// The size of a family, and the index of its word.
+#[derive(Clone, Copy, Debug, PartialEq, Eq)]
+pub struct SizeWord {
+    pub size: u8,
+    pub word: u32,
+}
+
+/// A value for each key that was given.
+#[derive(Clone, Copy, Debug, Default)]
+pub struct Values {
+    pub collective: Option<Kind>,
+    pub k: Option<u8>,
+    pub steps: Option<u8>,
+    pub chunks: Option<u8>,
+    pub conflicts: Option<u32>,
+    pub root: Option<RootWord>,
+    pub point: Option<PointWord>,
+    pub order: Option<u64>,
+    pub kind: Option<FamilyKind>,
+    pub size: Option<SizeWord>,
+    pub n: Option<u16>,
+}
+
+/// The number that a value spells, from `least` to `greatest`.
+fn number_from(least: u64, greatest: u64, text: &str) -> Result<u64, WordCode>
+    ensures read { result ≡ number_from least greatest text.now }
+    ensures least { IfOk result (λ n. least ≤ n) }
+    ensures greatest { IfOk result (λ n. n ≤ greatest) }
+{
+    match read_number(text.as_bytes(), greatest) {
+        Some(number) if number >= least => Ok(number),
+        _ => Err(WordCode::BadValue),
+    }
+}
+
+impl Values {
+    /// Whether there is a value for the key.
+    pub fn has(&self, key: Key) -> bool
+        ensures { result ≡ is_given key self.now }
+    {
+        match key {
+            Key::Collective => self.collective.is_some(),
+            Key::K => self.k.is_some(),
+            Key::Steps => self.steps.is_some(),
+            Key::Chunks => self.chunks.is_some(),
+            Key::Conflicts => self.conflicts.is_some(),
+            Key::Root => self.root.is_some(),
+            Key::Point => self.point.is_some(),
+            Key::Order => self.order.is_some(),
+            Key::Kind => self.kind.is_some(),
+            Key::Size => self.size.is_some(),
+            Key::N => self.n.is_some(),
+        }
+    }
+
+    /// The values with that of one more key, which stands in the word with this index.
+    pub fn with(self, key: Key, text: &str, word: u32) -> Result<Values, WordCode>
+        requires proper { AreProper self }
+        requires first { is_given key self ≡ false }
+        ensures read { result ≡ with_value key text.now word self }
+        ensures proper { IfOk result AreProper }
+        ensures counted { IfOk result (λ values. count_of values ≡ count_of self + 1) }
+    {
+        let mut values = self;
+        match key {
+            Key::Collective => values.collective = Some(kind_of_word(text).ok_or(
+                WordCode::BadValue,
+            )?),
+            Key::K => values.k = Some(number_from(0, 8, text)? as u8),
+            Key::Steps => values.steps = Some(number_from(1, 8, text)? as u8),
+            Key::Chunks => values.chunks = Some(number_from(1, 16, text)? as u8),
+            Key::Conflicts => values.conflicts = Some(number_from(1, 100_000, text)? as u32),
+            Key::Root => values.root = Some(RootWord {
+                name: name_from(text)?,
+                word,
+            }),
+            Key::Point => values.point = Some(PointWord {
+                point: number_from(1, 65_535, text)? as u32,
+                word,
+            }),
+            Key::Order => values.order = Some(number_from(0, u64::MAX, text)?),
+            Key::Kind => values.kind = Some(family_of_word(text).ok_or(WordCode::BadValue)?),
+            Key::Size => values.size = Some(SizeWord {
+                size: number_from(1, 16, text)? as u8,
+                word,
+            }),
+            Key::N => values.n = Some(number_from(0, 4095, text)? as u16),
+        }
+        Ok(values)
+    }
+}
+
+fn name_from(text: &str) -> Result<Name, WordCode>
+    ensures { result ≡ name_from text.now }
+{
+    Name::of_bytes(text.as_bytes()).ok_or(WordCode::BadValue)
+}

@@ -1,0 +1,93 @@
+//! What the words of command lines are.
+
+ghost use Rattle.std.specs.Prelude.{◌≡◌, [], Ok, Err, Some, None, codes};
+ghost use Rattle.text_lines.specs.Text.{words_of};
+ghost use Rattle.command_words.specs.Words.{command_of};
+
+use crate::command::Command;
+use crate::fault::WordCode;
+use collective_spec::Kind;
+use topology_text::FamilyKind;
+
+/// Each code, and the index of the word that is blamed.
+pub fn refusals()
+    ensures no_command { command_of [] ≡ Err (record { code = WordCode.NoCommand; word = 0 }) }
+    ensures unknown_command { command_of (words_of (codes "sing")) ≡ Err (record { code = WordCode.UnknownCommand; word = 0 }) }
+    ensures unknown_key { command_of (words_of (codes "check x=1")) ≡ Err (record { code = WordCode.UnknownKey; word = 1 }) }
+    ensures key_twice { command_of (words_of (codes "synth k=0 k=0")) ≡ Err (record { code = WordCode.KeyTwice; word = 2 }) }
+    ensures key_missing { command_of (words_of (codes "synth k=0")) ≡ Err (record { code = WordCode.KeyMissing; word = 2 }) }
+    ensures bad_value { command_of (words_of (codes "synth k=00")) ≡ Err (record { code = WordCode.BadValue; word = 1 }) }
+    ensures size_of_no_cube { command_of (words_of (codes "family kind=cube size=6")) ≡ Err (record { code = WordCode.BadValue; word = 2 }) }
+    ensures root_not_taken { command_of (words_of (codes "synth collective=alltoall k=0 steps=1 chunks=2 conflicts=1000 root=n0")) ≡ Err (record { code = WordCode.RootNotTaken; word = 6 }) }
+{}
+
+/// A text of each command, and of one the keys in another order.
+pub fn commands_are_read()
+    ensures synth { command_of (words_of (codes "synth collective=broadcast k=0 steps=1 chunks=1 conflicts=1000")) ≡ Ok (Command.Synth Kind.Broadcast (record { k = 0; max_s = 1; max_c = 1; conflicts = 1000 }) None) }
+    ensures root { command_of (words_of (codes "synth root=n0 conflicts=100000 chunks=16 steps=8 k=8 collective=reduce")) ≡ Ok (Command.Synth Kind.Reduce (record { k = 8; max_s = 8; max_c = 16; conflicts = 100000 }) (Some (record { name = codes "n0"; word = 1 }))) }
+    ensures check { command_of (words_of (codes "check")) ≡ Ok Command.Check }
+    ensures replay { command_of (words_of (codes "replay point=1")) ≡ Ok (Command.Replay 1 1 None) }
+    ensures order { command_of (words_of (codes "replay order=0 point=65535")) ≡ Ok (Command.Replay 65535 2 (Some 0)) }
+    ensures programs { command_of (words_of (codes "programs point=1")) ≡ Ok (Command.Programs 1 1) }
+    ensures family { command_of (words_of (codes "family kind=line size=1")) ≡ Ok (Command.Family FamilyKind.Line 1) }
+    ensures cube { command_of (words_of (codes "family size=16 kind=cube")) ≡ Ok (Command.Family FamilyKind.Cube 16) }
+    ensures trial { command_of (words_of (codes "trial n=3333")) ≡ Ok (Command.Trial 3333) }
+{}
+
+/// Each number at the ends of its range, and beyond them. A value that is taken leaves keys lacking.
+pub fn numbers_in_their_ranges()
+    ensures k_least { command_of (words_of (codes "synth k=0")) ≡ Err (record { code = WordCode.KeyMissing; word = 2 }) }
+    ensures k_greatest { command_of (words_of (codes "synth k=8")) ≡ Err (record { code = WordCode.KeyMissing; word = 2 }) }
+    ensures k_above { command_of (words_of (codes "synth k=9")) ≡ Err (record { code = WordCode.BadValue; word = 1 }) }
+    ensures steps_least { command_of (words_of (codes "synth steps=1")) ≡ Err (record { code = WordCode.KeyMissing; word = 2 }) }
+    ensures steps_greatest { command_of (words_of (codes "synth steps=8")) ≡ Err (record { code = WordCode.KeyMissing; word = 2 }) }
+    ensures steps_below { command_of (words_of (codes "synth steps=0")) ≡ Err (record { code = WordCode.BadValue; word = 1 }) }
+    ensures steps_above { command_of (words_of (codes "synth steps=9")) ≡ Err (record { code = WordCode.BadValue; word = 1 }) }
+    ensures chunks_least { command_of (words_of (codes "synth chunks=1")) ≡ Err (record { code = WordCode.KeyMissing; word = 2 }) }
+    ensures chunks_greatest { command_of (words_of (codes "synth chunks=16")) ≡ Err (record { code = WordCode.KeyMissing; word = 2 }) }
+    ensures chunks_below { command_of (words_of (codes "synth chunks=0")) ≡ Err (record { code = WordCode.BadValue; word = 1 }) }
+    ensures chunks_above { command_of (words_of (codes "synth chunks=17")) ≡ Err (record { code = WordCode.BadValue; word = 1 }) }
+    ensures conflicts_least { command_of (words_of (codes "synth conflicts=1")) ≡ Err (record { code = WordCode.KeyMissing; word = 2 }) }
+    ensures conflicts_greatest { command_of (words_of (codes "synth conflicts=100000")) ≡ Err (record { code = WordCode.KeyMissing; word = 2 }) }
+    ensures conflicts_below { command_of (words_of (codes "synth conflicts=0")) ≡ Err (record { code = WordCode.BadValue; word = 1 }) }
+    ensures conflicts_above { command_of (words_of (codes "synth conflicts=100001")) ≡ Err (record { code = WordCode.BadValue; word = 1 }) }
+    ensures point_least { command_of (words_of (codes "programs point=1")) ≡ Ok (Command.Programs 1 1) }
+    ensures point_greatest { command_of (words_of (codes "programs point=65535")) ≡ Ok (Command.Programs 65535 1) }
+    ensures point_below { command_of (words_of (codes "programs point=0")) ≡ Err (record { code = WordCode.BadValue; word = 1 }) }
+    ensures point_above { command_of (words_of (codes "programs point=65536")) ≡ Err (record { code = WordCode.BadValue; word = 1 }) }
+    ensures order_least { command_of (words_of (codes "replay order=0")) ≡ Err (record { code = WordCode.KeyMissing; word = 2 }) }
+    ensures order_greatest { command_of (words_of (codes "replay order=18446744073709551615")) ≡ Err (record { code = WordCode.KeyMissing; word = 2 }) }
+    ensures order_above { command_of (words_of (codes "replay order=18446744073709551616")) ≡ Err (record { code = WordCode.BadValue; word = 1 }) }
+    ensures size_least { command_of (words_of (codes "family size=1")) ≡ Err (record { code = WordCode.KeyMissing; word = 2 }) }
+    ensures size_greatest { command_of (words_of (codes "family size=16")) ≡ Err (record { code = WordCode.KeyMissing; word = 2 }) }
+    ensures size_below { command_of (words_of (codes "family size=0")) ≡ Err (record { code = WordCode.BadValue; word = 1 }) }
+    ensures size_above { command_of (words_of (codes "family size=17")) ≡ Err (record { code = WordCode.BadValue; word = 1 }) }
+    ensures n_least { command_of (words_of (codes "trial n=0")) ≡ Ok (Command.Trial 0) }
+    ensures n_greatest { command_of (words_of (codes "trial n=4095")) ≡ Ok (Command.Trial 4095) }
+    ensures n_above { command_of (words_of (codes "trial n=4096")) ≡ Err (record { code = WordCode.BadValue; word = 1 }) }
+{}
+
+/// A word has a key that ends at its first `=`, and the value may hold more of them.
+pub fn words_without_a_key()
+    ensures empty { command_of (words_of (codes "check ")) ≡ Err (record { code = WordCode.UnknownKey; word = 1 }) }
+    ensures no_sign { command_of (words_of (codes "replay point")) ≡ Err (record { code = WordCode.UnknownKey; word = 1 }) }
+    ensures no_key { command_of (words_of (codes "replay =1")) ≡ Err (record { code = WordCode.UnknownKey; word = 1 }) }
+    ensures sign_in_the_value { command_of (words_of (codes "synth root=a=b")) ≡ Err (record { code = WordCode.BadValue; word = 1 }) }
+    ensures two_signs { command_of (words_of (codes "replay point==1")) ≡ Err (record { code = WordCode.BadValue; word = 1 }) }
+    ensures no_value { command_of (words_of (codes "replay point=")) ≡ Err (record { code = WordCode.BadValue; word = 1 }) }
+    ensures key_of_another { command_of (words_of (codes "programs point=1 order=0")) ≡ Err (record { code = WordCode.UnknownKey; word = 2 }) }
+    ensures empty_command { command_of (words_of (codes "")) ≡ Err (record { code = WordCode.UnknownCommand; word = 0 }) }
+{}
+
+/// Words are refused from left to right, then a key that is lacking, then what two keys say together.
+pub fn first_refusal_counts()
+    ensures left_first { command_of (words_of (codes "synth k=9 k=1 x=1")) ≡ Err (record { code = WordCode.BadValue; word = 1 }) }
+    ensures twice_before_value { command_of (words_of (codes "synth k=1 k=9")) ≡ Err (record { code = WordCode.KeyTwice; word = 2 }) }
+    ensures words_before_missing { command_of (words_of (codes "replay order=0 x=1")) ≡ Err (record { code = WordCode.UnknownKey; word = 2 }) }
+    ensures words_before_size { command_of (words_of (codes "family kind=cube size=6 x=1")) ≡ Err (record { code = WordCode.UnknownKey; word = 3 }) }
+    ensures missing_before_size { command_of (words_of (codes "family size=6")) ≡ Err (record { code = WordCode.KeyMissing; word = 2 }) }
+    ensures missing_before_root { command_of (words_of (codes "synth root=n0 collective=allgather")) ≡ Err (record { code = WordCode.KeyMissing; word = 3 }) }
+    ensures at_the_size { command_of (words_of (codes "family size=2 kind=ring")) ≡ Err (record { code = WordCode.BadValue; word = 1 }) }
+    ensures custom { command_of (words_of (codes "synth collective=custom")) ≡ Err (record { code = WordCode.BadValue; word = 1 }) }
+    ensures long_name { command_of (words_of (codes "synth root=abcdefghijklmnopq")) ≡ Err (record { code = WordCode.BadValue; word = 1 }) }
+{}

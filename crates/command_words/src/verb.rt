@@ -1,0 +1,76 @@
+//! The first word: what is to be done.
+
+ghost use Rattle.std.specs.Prelude.{◌≡◌, Some, map};
+ghost use Rattle.command_words.specs.Tables.{has_key, named, numbered, verb_number, verb_word, verbs};
+
+use crate::key::Key;
+use case_table::{Table, table};
+
+/// The first word of a command.
+#[derive(Clone, Copy, Debug, PartialEq, Eq)]
+pub enum Verb {
+    Synth,
+    Check,
+    Replay,
+    Programs,
+    Family,
+    Trial,
+}
+
+impl Verb {
+    /// The verb with this number; `None` exactly where the number is above 5.
+    fn of_number(number: u32) -> Option<Verb>
+        ensures { result ≡ numbered verb_number verbs number }
+    {
+        match number {
+            0 => Some(Verb::Synth),
+            1 => Some(Verb::Check),
+            2 => Some(Verb::Replay),
+            3 => Some(Verb::Programs),
+            4 => Some(Verb::Family),
+            5 => Some(Verb::Trial),
+            _ => None,
+        }
+    }
+
+    /// The verb with this name.
+    pub fn of_word(word: &str) -> Option<Verb>
+        ensures { result ≡ named verb_word verbs word.now }
+    {
+        match words().find(word) {
+            Some(number) => Verb::of_number(number),
+            None => None,
+        }
+    }
+
+    /// Whether the command takes the key.
+    pub fn has(self, key: Key) -> bool
+        ensures { result ≡ has_key self key }
+    {
+        match self {
+            Verb::Synth => matches!(
+                key,
+                Key::Collective | Key::K | Key::Steps | Key::Chunks | Key::Conflicts | Key::Root
+            ),
+            Verb::Check => false,
+            Verb::Replay => matches!(key, Key::Point | Key::Order),
+            Verb::Programs => matches!(key, Key::Point),
+            Verb::Family => matches!(key, Key::Kind | Key::Size),
+            Verb::Trial => matches!(key, Key::N),
+        }
+    }
+}
+
+/// The names of the verbs, and their numbers.
+fn words() -> Table
+    ensures { result ≡ map (λ verb. (verb_word verb, verb_number verb)) verbs }
+{
+    table![
+        "synth" => 0,
+        "check" => 1,
+        "replay" => 2,
+        "programs" => 3,
+        "family" => 4,
+        "trial" => 5,
+    ]
+}
