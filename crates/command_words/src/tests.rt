@@ -1,6 +1,6 @@
 //! Words as a caller has them.
 
-use crate::{Command, RootWord, read_words};
+use crate::{Command, RootWord, WordFault, read_words};
 use candidate_order::Limits;
 use collective_spec::Kind;
 use std::alloc::{AllocError, Global};
@@ -87,6 +87,14 @@ fn root_of_a_broadcast(rt: HostRuntime) -> Result<(), Fail> {
     Ok(())
 }
 
+/// The number of the code, and the index of the word.
+fn refusal_of(read: Result<Command, WordFault>) -> Option<(u8, u32)> {
+    match read {
+        Ok(_) => None,
+        Err(fault) => Some((fault.code.number(), fault.word)),
+    }
+}
+
 #[test]
 fn refusals_have_their_numbers(rt: HostRuntime) -> Result<(), Fail> {
     let table: [(&[&str], u8, u32); 8] = [
@@ -112,9 +120,9 @@ fn refusals_have_their_numbers(rt: HostRuntime) -> Result<(), Fail> {
         ),
     ];
     for (line, number, word) in table {
-        let refusal = read_words(&words(rt.alloc(), line)?).err();
-        let found = refusal.map(|fault| (fault.code.number(), fault.word));
-        assert_eq!(rt; found, Some((number, word)), "{line:?}");
+        let words = words(rt.alloc(), line)?;
+        let refusal = refusal_of(read_words(&words));
+        assert_eq!(rt; refusal, Some((number, word)), "{line:?}");
     }
     Ok(())
 }
