@@ -1,5 +1,5 @@
 -- An allreduce as a reducescatter and then an allgather (Cai et al., PPoPP 2021, allreduce). That a join keeps the chunk count is this project's own way of counting.
-use Rattle.std.specs.Prelude.{◌≡◌, ◌==◌, ℕ, ◌+◌, List, ◌++◌, map, filter, All}
+use Rattle.std.specs.Prelude.{◌≡◌, ◌==◌, ℕ, ◌+◌, List, ◌++◌, map, filter, All, Contains}
 use Rattle.std.specs.List.{flat_map}
 use Rattle.schedule.specs.declared.hop.Hop.{Hop}
 use Rattle.schedule.specs.Links.{TopologyValue}
@@ -43,3 +43,13 @@ IsJoin t pair = AllSummed t (chunks_of kind.Allreduce t.nodes pair.0.candidate.c
 pub record Joins (t : TopologyValue) (reduce gather joined : List PointValue) : Type 0 where
   pub in_order : joined ≡ map (λ pair. join_of pair.0 pair.1) (pairs_of reduce gather)
   pub summed : All (IsJoin t) (pairs_of reduce gather)
+
+-- the point is the join of two points of these lists that have one chunk count, and it is a join on this topology
+pub record IsJoinedPoint (t : TopologyValue) (reduce gather : List PointValue) (p : PointValue) : Type 0 where
+  pub first : PointValue
+  pub second : PointValue
+  pub of_reduce : Contains reduce first
+  pub of_gather : Contains gather second
+  pub same_count : second.candidate.c ≡ first.candidate.c
+  pub joined : p ≡ join_of first second
+  pub summed : AllSummed t (chunks_of kind.Allreduce t.nodes p.candidate.c) p.schedule first.candidate.s

@@ -1,4 +1,5 @@
 //! Points of an allreduce: a reducescatter and then an allgather.
 #![tactic(auto)]
 
-mod vectors;
+pub mod laws;
+pub mod vectors;

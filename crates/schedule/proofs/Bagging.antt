@@ -1,15 +1,15 @@
 -- Bags keep a count for each node, and nothing adds up without links.
-use Rattle.std.proofs.Common.{◌≡◌, ℕ, zero, suc, ◌+◌, ◌<◌, Bool, true, false, cond, List, [], ◌∷◌, length, map, get_or, Option, Some, None, refl, sym, ap, ◌∙◌, arith}
-use Rattle.std.specs.List.{All, filter, fold, reduce, zip}
+use Rattle.std.proofs.Common.{◌≡◌, ℕ, zero, suc, ◌+◌, Bool, true, false, cond, List, [], ◌∷◌, length, map, get_or, Option, Some, None, refl, sym, ap, ◌∙◌, arith}
+use Rattle.std.specs.List.{All, filter, fold, zip}
 use Rattle.std.proofs.lemmas.List.{length-map}
 use Rattle.std.proofs.lemmas.List.FromFn.{length-map-range_with_len}
 use Rattle.std.proofs.lemmas.Slice.Zip.{length-zip}
 use Rattle.schedule.specs.declared.hop.Hop.{Hop}
-use Rattle.schedule.specs.Links.{TopologyValue, is_usable}
+use Rattle.schedule.specs.Links.{is_usable}
 use Rattle.schedule.specs.Sends.{ScheduleValue, link_of}
 use Rattle.schedule.specs.Bags.{Bag, Bags, added, contributions, one_of_each}
 use Rattle.schedule.specs.Summing.{SummedSolvable, bags_after, goes_to, summed_step}
-use Rattle.schedule.specs.JoinedRuns.{copied_step, filled_senders, joined_after, joined_step, replaced}
+use Rattle.schedule.specs.JoinedRuns.{copied_step, joined_after, replaced}
 use Rattle.schedule.specs.Rows.{at_root, two_alone}
 
 -- each of the bags has so many counts

@@ -1,7 +1,6 @@
 -- The first clash is found exactly where there is one.
-use Rattle.std.proofs.Common.{◌≡◌, ℕ, zero, suc, ◌+◌, ◌<◌, ◌≤◌, ◌⊎◌, inl, inr, ⊎_elim, Bool, true, false, ◌&&◌, eqb, leb, ltb, List, [], ◌∷◌, ◌++◌, length, map, None, refl, sym, ap, ◌∙◌, arith}
+use Rattle.std.proofs.Common.{◌≡◌, ℕ, ◌<◌, inl, inr, ⊎_elim, Bool, true, false, List, [], ◌∷◌, length, map, None, refl, sym, ◌∙◌, arith}
 use Rattle.std.specs.Prelude.{count_by}
-use Rattle.std.specs.List.{All, AllByRecursion, flat_map, range_with_len}
 use Rattle.std.proofs.lemmas.Bool.{and_parts, and_from, cases_Bool, eqb-true, leb-true, ltb-true, lt-ltb, le-leb}
 use Rattle.std.proofs.lemmas.List.Elements.{recursion_from_All}
 use Rattle.schedule.specs.declared.hop.Hop.{Hop}
@@ -9,32 +8,8 @@ use Rattle.schedule.specs.Sends.{ScheduleValue, IsSchedule, IsInRange, IsStep, i
 use Rattle.schedule.specs.Placed.{all_pairs}
 use Rattle.schedule.specs.Summing.{goes_to}
 use Rattle.schedule.specs.JoinedRuns.{Clashes, first_clash, is_clash}
-use Rattle.schedule.proofs.First.{Among, among_each, each_among, found_none, none_found}
+use Rattle.schedule.proofs.First.{Among, among_each, among_map, among_parts, each_among, found_none, none_found}
 use Rattle.schedule.proofs.Ordered.{in_grid}
-
-among_map : {X Y : Type 0} (f : X → Y) (x : X) (xs : List X) → Among x xs → Among (f x) (map f xs)
-among_map f x [] among = absurd among
-among_map f x (y ∷ ys) among = ⊎_elim (λ (here : y ≡ x). inl (ap f here)) (λ (later : Among x ys). inr (among_map f x ys later)) among
-
-among_left : {X : Type 0} (x : X) (xs ys : List X) → Among x xs → Among x (xs ++ ys)
-among_left x [] ys among = absurd among
-among_left x (y ∷ xs) ys among = ⊎_elim (λ (here : y ≡ x). inl here) (λ (later : Among x xs). inr (among_left x xs ys later)) among
-
-among_right : {X : Type 0} (x : X) (xs ys : List X) → Among x ys → Among x (xs ++ ys)
-among_right x [] ys among = among
-among_right x (y ∷ xs) ys among = inr (among_right x xs ys among)
-
--- what stands in the part of one of the numbers
-among_parts : {Y : Type 0} (f : ℕ → List Y) (y : Y) (i a n : ℕ) → a ≤ i → i < a + n → Among y (f i) → Among y (flat_map f (range_with_len a n))
-among_parts f y i a zero from to among = absurd (omega arith)
-among_parts f y i a (suc n) from to among =
-    elim (a_or_later a i from) [
-      | inl here ↦ among_left y (f a) (flat_map f (range_with_len (a + 1) n)) (rw here among)
-      | inr later ↦ among_right y (f a) (flat_map f (range_with_len (a + 1) n)) (among_parts f y i (a + 1) n (omega (arith, later)) (omega (arith, to)) among)
-    ]
-  where
-    a_or_later : (a i : ℕ) → a ≤ i → (a ≡ i) ⊎ (a < i)
-    a_or_later a i from = grind arith
 
 -- where some pass, one does
 found_passing : {X : Type 0} (p : X → Bool) (xs : List X) → 0 < count_by p xs → (x : X) × Among x xs × (p x ≡ true)

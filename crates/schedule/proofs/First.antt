@@ -1,6 +1,6 @@
 -- The first element of a list in order that passes a test.
-use Rattle.std.proofs.Common.{◌≡◌, ℕ, zero, suc, ◌<◌, Bool, true, false, cond, List, [], ◌∷◌, ◌++◌, length, get_or, Some, None, ◌⊎◌, inl, inr, ⊎_elim, refl, sym, ap, ◌∙◌, arith}
-use Rattle.std.specs.List.{find, filter, AllPairs, AllByRecursion, Contains}
+use Rattle.std.proofs.Common.{◌≡◌, ℕ, zero, suc, ◌+◌, ◌<◌, ◌≤◌, map, Bool, true, false, cond, List, [], ◌∷◌, ◌++◌, length, get_or, Some, None, ◌⊎◌, inl, inr, ⊎_elim, refl, sym, ap, ◌∙◌, arith}
+use Rattle.std.specs.List.{find, filter, flat_map, range_with_len, AllPairs, AllByRecursion, Contains}
 use Rattle.std.proofs.lemmas.Bool.{cases_Bool}
 use Rattle.std.proofs.lemmas.List.Elements.{recursion_from_All}
 
@@ -41,6 +41,30 @@ Contains-from_Among x (y ∷ ys) among =
     (λ (here : y ≡ x). (0, omega arith, here))
     (λ (later : Among x ys). let found = Contains-from_Among x ys later in (suc found.0, omega (arith, found.1), found.2))
     among
+
+pub among_map : {X Y : Type 0} (f : X → Y) (x : X) (xs : List X) → Among x xs → Among (f x) (map f xs)
+among_map f x [] among = absurd among
+among_map f x (y ∷ ys) among = ⊎_elim (λ (here : y ≡ x). inl (ap f here)) (λ (later : Among x ys). inr (among_map f x ys later)) among
+
+pub among_left : {X : Type 0} (x : X) (xs ys : List X) → Among x xs → Among x (xs ++ ys)
+among_left x [] ys among = absurd among
+among_left x (y ∷ xs) ys among = ⊎_elim (λ (here : y ≡ x). inl here) (λ (later : Among x xs). inr (among_left x xs ys later)) among
+
+pub among_right : {X : Type 0} (x : X) (xs ys : List X) → Among x ys → Among x (xs ++ ys)
+among_right x [] ys among = among
+among_right x (y ∷ xs) ys among = inr (among_right x xs ys among)
+
+-- what stands in the part of one of the numbers
+pub among_parts : {Y : Type 0} (f : ℕ → List Y) (y : Y) (i a n : ℕ) → a ≤ i → i < a + n → Among y (f i) → Among y (flat_map f (range_with_len a n))
+among_parts f y i a zero from to among = absurd (omega arith)
+among_parts f y i a (suc n) from to among =
+    elim (a_or_later a i from) [
+      | inl here ↦ among_left y (f a) (flat_map f (range_with_len (a + 1) n)) (rw here among)
+      | inr later ↦ among_right y (f a) (flat_map f (range_with_len (a + 1) n)) (among_parts f y i (a + 1) n (omega (arith, later)) (omega (arith, to)) among)
+    ]
+  where
+    a_or_later : (a i : ℕ) → a ≤ i → (a ≡ i) ⊎ (a < i)
+    a_or_later a i from = grind arith
 
 among_place : {X : Type 0} (x : X) (xs : List X) (k : ℕ) → k < length xs → get_or xs k x ≡ x → Among x xs
 among_place x [] k inside is = absurd (omega arith)
