@@ -8,7 +8,7 @@ abbrev LegalFrom : ℕ → Type 0
 LegalFrom n = (s : State) (x : ℕ) → LegalRun s (picked n s x)
 
 -- what comes of one event of this node
-abbrev moved : ℕ → State → ℕ → ℕ → Option State → List ℕ
+abbrev pub moved : ℕ → State → ℕ → ℕ → Option State → List ℕ
 moved n s x node None = []
 moved n s x node (Some next) = node ∷ picked n next (next_draw x)
 
@@ -17,7 +17,7 @@ legal_moved n legal s x node None is = tt
 legal_moved n legal s x node (Some next) is = (next, is, legal next (next_draw x))
 
 -- what comes of one pick
-abbrev drawn_first : ℕ → State → ℕ → Option ℕ → List ℕ
+abbrev pub drawn_first : ℕ → State → ℕ → Option ℕ → List ℕ
 drawn_first n s x None = []
 drawn_first n s x (Some node) = moved n s x node (event s node)
 

@@ -15,6 +15,12 @@ pub fn chosen_runs_are_legal()
     ensures { (s : State) (seed : ℕ) → LegalRun s (chosen s seed) }
 {}
 
+/// It goes on until no node can move.
+pub fn chosen_runs_go_to_the_end()
+    ensures { (s : State) (seed : ℕ) (last : State) → run_of s (chosen s seed) ≡ Some last
+        → (node : ℕ) → node < length last.left → is_enabled last node ≡ false }
+{}
+
 /// Where every program is at its end, no node is enabled.
 pub fn a_finished_machine_stays()
     ensures { (s : State) → is_finished s ≡ true → (node : ℕ) → node < length s.left → is_enabled s node ≡ false }
