@@ -4,7 +4,7 @@ use Rattle.std.specs.Prelude.{Contains, filter}
 use Rattle.std.proofs.lemmas.Bool.{cases_Bool, eqb-true, eq-eqb}
 use Rattle.std.proofs.lemmas.List.Elements.{All-contains}
 use Rattle.schedule.specs.Links.{TopologyValue}
-use Rattle.schedule.proofs.First.{Among, Among-from_Contains, Contains-from_Among, among_left, among_map, among_right}
+use Rattle.schedule.proofs.First.{Among, Among-from_Contains, Contains-from_Among, among_left, among_map, among_right, map_among}
 use Rattle.candidate_order.specs.Frontiers.{PointValue}
 use Rattle.allreduce_join.specs.Joins.{IsJoin, IsJoinedPoint, Joins, join_of, pairs_of}
 
@@ -35,14 +35,6 @@ filter_among test x (y ∷ ys) among =
     let rest = filter_among test x ys found in
     (inr rest.0, rest.1))
     (cases_Bool (test y))
-
-map_among : {X Y : Type 0} (f : X → Y) (y : Y) (xs : List X) → Among y (map f xs) → (x : X) × Among x xs × (f x ≡ y)
-map_among f y [] among = absurd among
-map_among f y (x ∷ xs) among =
-    ⊎_elim
-    (λ (here : f x ≡ y). (x, inl refl, here))
-    (λ (later : Among y (map f xs)). let rest = map_among f y xs later in (rest.0, inr rest.1, rest.2))
-    among
 
 append_among : {X : Type 0} (x : X) (xs ys : List X) → Among x (xs ++ ys) → Among x xs ⊎ Among x ys
 append_among x [] ys among = inr among

@@ -46,6 +46,14 @@ pub among_map : {X Y : Type 0} (f : X → Y) (x : X) (xs : List X) → Among x x
 among_map f x [] among = absurd among
 among_map f x (y ∷ ys) among = ⊎_elim (λ (here : y ≡ x). inl (ap f here)) (λ (later : Among x ys). inr (among_map f x ys later)) among
 
+pub map_among : {X Y : Type 0} (f : X → Y) (y : Y) (xs : List X) → Among y (map f xs) → (x : X) × Among x xs × (f x ≡ y)
+map_among f y [] among = absurd among
+map_among f y (x ∷ xs) among =
+    ⊎_elim
+    (λ (here : f x ≡ y). (x, inl refl, here))
+    (λ (later : Among y (map f xs)). let rest = map_among f y xs later in (rest.0, inr rest.1, rest.2))
+    among
+
 pub among_left : {X : Type 0} (x : X) (xs ys : List X) → Among x xs → Among x (xs ++ ys)
 among_left x [] ys among = absurd among
 among_left x (y ∷ xs) ys among = ⊎_elim (λ (here : y ≡ x). inl here) (λ (later : Among x xs). inr (among_left x xs ys later)) among

@@ -15,3 +15,5 @@ pub mod Verdicts
 pub mod Reversing
 pub mod Bagging
 pub mod Clashing
+pub mod HopOrder
+pub mod Inverting

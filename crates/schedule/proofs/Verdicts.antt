@@ -34,7 +34,7 @@ tied a b there back first second =
     (or_cases _ _ second))
     (or_cases _ _ first)
 
-sends_one_way : OneWay hop_before
+pub sends_one_way : OneWay hop_before
 sends_one_way a b there back =
     let chunks = tied a.step b.step _ _ there back in
     let froms = tied a.chunk b.chunk _ _ chunks.0 chunks.1 in

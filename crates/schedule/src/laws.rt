@@ -1,6 +1,6 @@
 //! Laws of placements, runs and topologies, for those who build on the definitions.
 
-ghost use Rattle.std.specs.Prelude.{◌≡◌, ◌↔◌, ◌<◌, ◌≤◌, ◌||◌, ℕ, Bool, List, None, length, slice_index_or};
+ghost use Rattle.std.specs.Prelude.{◌≡◌, ◌↔◌, ◌<◌, ◌≤◌, ◌||◌, ℕ, Bool, List, None, length, sum, slice_index_or};
 ghost use Rattle.schedule.specs.Links.{TopologyValue, reversed_of};
 ghost use Rattle.schedule.specs.Placed.{PlacementValue, IsPlacement, holds, placed, same_pair, with_pair};
 ghost use Rattle.schedule.specs.Running.{after, run_of};
@@ -10,6 +10,7 @@ ghost use Rattle.schedule.specs.Judging.{first_unlinked, first_overfull};
 ghost use Rattle.schedule.specs.Bags.{contributions};
 ghost use Rattle.schedule.specs.Summing.{SummedSolvable, bags_after};
 ghost use Rattle.schedule.specs.JoinedRuns.{Clashes, first_clash, joined_after};
+ghost use Rattle.schedule.specs.Inverse.{inverse_of};
 ghost use Rattle.schedule.specs.Rows.{at_root, two_alone};
 
 use crate::hop::Hop;
@@ -69,4 +70,17 @@ pub fn nothing_sums_without_links()
 pub fn a_clash_is_found()
     ensures { (chunks nodes : ℕ) (s : ScheduleValue) (adding : ℕ) → IsSchedule s → IsInRange chunks nodes s
         → (first_clash chunks nodes s adding ≡ None) ↔ (Clashes s adding → ⊥) }
+{}
+
+/// The inverse of a schedule has as many steps and rounds, and the same chunks and nodes. That of a valid one is valid.
+pub fn an_inverse_is_a_schedule()
+    ensures steps { (s : ScheduleValue) → length (inverse_of s).rounds ≡ length s.rounds }
+    ensures rounds { (s : ScheduleValue) → sum (inverse_of s).rounds ≡ sum s.rounds }
+    ensures in_range { (chunks nodes : ℕ) (s : ScheduleValue) → IsInRange chunks nodes s → IsInRange chunks nodes (inverse_of s) }
+    ensures valid { (s : ScheduleValue) → IsSchedule s → IsSchedule (inverse_of s) }
+{}
+
+/// The inverse of the inverse of a valid schedule is the schedule.
+pub fn inverting_twice_changes_nothing()
+    ensures { (s : ScheduleValue) → IsSchedule s → inverse_of (inverse_of s) ≡ s }
 {}
