@@ -24,6 +24,10 @@ asked t kind = record { topology = t; collective = record { kind = kind; root = 
 abbrev pub solved_by : ScheduleValue → FrontierValue
 solved_by s = record { points = record { candidate = smallest; schedule = s; mark = Optimal } ∷ []; refuted = []; unknown = [] }
 
+-- the one candidate is refuted
+abbrev pub all_refuted : FrontierValue
+all_refuted = record { points = []; refuted = smallest ∷ []; unknown = [] }
+
 -- a node without links
 abbrev pub one_node : TopologyValue
 one_node = record { nodes = 1; groups = [] }

@@ -27,4 +27,6 @@ pub use listing::list;
 pub use mark::Mark;
 pub use order::{better, cost_cmp, no_worse};
 pub use std::alloc::AllocError as OutOfMemory;
-pub use vectors::{one_node_has_gathered, one_send_broadcasts, one_send_reduces};
+pub use vectors::{
+    one_node_has_gathered, one_send_broadcasts, one_send_reduces, two_nodes_alone_do_nothing,
+};

@@ -1,9 +1,9 @@
 //! Small frontiers that are right, and are those of a search.
 
-ghost use Rattle.std.specs.Prelude.{◌≡◌, [], ◌∷◌, ◌<◌};
-ghost use Rattle.schedule.specs.Rows.{line_of_2, plan, send};
+ghost use Rattle.std.specs.Prelude.{[], ◌∷◌};
+ghost use Rattle.schedule.specs.Rows.{line_of_2, plan, send, two_alone};
 ghost use Rattle.candidate_order.specs.Frontiers.{RightFrontier, Searched};
-ghost use Rattle.candidate_order.specs.Rows.{asked, one_node, solved_by};
+ghost use Rattle.candidate_order.specs.Rows.{all_refuted, asked, one_node, solved_by};
 
 use collective_spec::Kind;
 
@@ -23,4 +23,12 @@ pub fn one_send_broadcasts()
 pub fn one_send_reduces()
     ensures right { RightFrontier (asked line_of_2 Kind.Reduce) (solved_by (plan (1 ∷ []) (send 0 1 0 1 ∷ []))) }
     ensures searched { Searched (asked line_of_2 Kind.Reduce) (solved_by (plan (1 ∷ []) (send 0 1 0 1 ∷ []))) }
+{}
+
+/// Between two nodes without a link the one candidate is refuted, for a broadcast and for a sum.
+pub fn two_nodes_alone_do_nothing()
+    ensures broadcast { RightFrontier (asked two_alone Kind.Broadcast) all_refuted }
+    ensures broadcast_searched { Searched (asked two_alone Kind.Broadcast) all_refuted }
+    ensures reduce { RightFrontier (asked two_alone Kind.Reduce) all_refuted }
+    ensures reduce_searched { Searched (asked two_alone Kind.Reduce) all_refuted }
 {}

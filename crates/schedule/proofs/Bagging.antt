@@ -1,16 +1,14 @@
--- Bags keep a count for each node, and nothing adds up without links.
-use Rattle.std.proofs.Common.{◌≡◌, ℕ, zero, suc, ◌+◌, Bool, true, false, cond, List, [], ◌∷◌, length, map, get_or, Option, Some, None, refl, sym, ap, ◌∙◌, arith}
-use Rattle.std.specs.List.{All, filter, fold, zip}
+-- Bags keep a count for each node.
+use Rattle.std.proofs.Common.{◌≡◌, ℕ, zero, suc, ◌+◌, Bool, true, false, cond, List, [], ◌∷◌, length, map, Option, Some, None, arith}
+use Rattle.std.specs.List.{filter, fold, zip}
 use Rattle.std.proofs.lemmas.List.{length-map}
 use Rattle.std.proofs.lemmas.List.FromFn.{length-map-range_with_len}
 use Rattle.std.proofs.lemmas.Slice.Zip.{length-zip}
 use Rattle.schedule.specs.declared.hop.Hop.{Hop}
-use Rattle.schedule.specs.Links.{is_usable}
-use Rattle.schedule.specs.Sends.{ScheduleValue, link_of}
-use Rattle.schedule.specs.Bags.{Bag, Bags, added, contributions, one_of_each}
-use Rattle.schedule.specs.Summing.{SummedSolvable, bags_after, goes_to, summed_step}
+use Rattle.schedule.specs.Sends.{ScheduleValue}
+use Rattle.schedule.specs.Bags.{Bag, Bags, added, contributions}
+use Rattle.schedule.specs.Summing.{bags_after, goes_to, summed_step}
 use Rattle.schedule.specs.JoinedRuns.{copied_step, joined_after, replaced}
-use Rattle.schedule.specs.Rows.{at_root, two_alone}
 
 -- each of the bags has so many counts
 abbrev Counted : ℕ → Bags → Type 0
@@ -45,22 +43,3 @@ counted_joined nodes sends before step counted false pair = counted_replaced nod
 pub counted_run : (nodes : ℕ) (s : ScheduleValue) (adding n : ℕ) (pair : ℕ × ℕ) → length (joined_after (contributions nodes) s adding n pair) ≡ nodes
 counted_run nodes s adding zero pair = counted_start nodes pair
 counted_run nodes s adding (suc n) pair = counted_joined nodes s.sends (joined_after (contributions nodes) s adding n) (n + 1) (counted_run nodes s adding n) _ pair
-
--- without a group no send has a usable link
-none_usable : (nodes : ℕ) (hops : List Hop) → All (λ h. is_usable (record { nodes = nodes; groups = [] }) (link_of h) ≡ true) hops → hops ≡ []
-none_usable nodes [] usable = refl
-none_usable nodes (h ∷ hops) usable = let impossible : false ≡ true = usable 0 h (omega arith) in absurd cc
-
--- without sends every bag stays
-still : (start : Bags) (n : ℕ) (pair : ℕ × ℕ) → bags_after start [] n pair ≡ start pair
-still start zero pair = refl
-still start (suc n) pair = still start n pair
-
-pub alone_never_sums : (steps rounds : ℕ) → SummedSolvable two_alone (at_root 1 2) steps rounds → ⊥
-alone_never_sums steps rounds solvable =
-    let s = solvable.schedule in
-    let none : s.sends ≡ [] = none_usable 2 s.sends solvable.sums.fits.usable in
-    let ends : bags_after (contributions 2) s.sends (length s.rounds) (0, 0) ≡ one_of_each 2 = solvable.sums.sums 0 (0, 0) (omega arith) in
-    let same : contributions 2 (0, 0) ≡ one_of_each 2 = sym (still (contributions 2) (length s.rounds) (0, 0)) ∙ (ap (λ hops. bags_after (contributions 2) hops (length s.rounds) (0, 0)) (sym none) ∙ ends) in
-    let counts : 0 ≡ 1 = ap (λ bag. get_or bag 1 0) same in
-    absurd (omega (arith, counts))

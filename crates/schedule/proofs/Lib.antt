@@ -14,6 +14,7 @@ pub mod Ordered
 pub mod Verdicts
 pub mod Reversing
 pub mod Bagging
+pub mod Alone
 pub mod Clashing
 pub mod HopOrder
 pub mod Inverting

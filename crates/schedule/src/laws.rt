@@ -7,11 +7,12 @@ ghost use Rattle.schedule.specs.Running.{after, run_of};
 ghost use Rattle.schedule.specs.Sends.{ScheduleValue, IsSchedule, IsInRange};
 ghost use Rattle.schedule.specs.Fitting.{Fits};
 ghost use Rattle.schedule.specs.Judging.{first_unlinked, first_overfull};
+ghost use Rattle.schedule.specs.Solving.{Solvable};
 ghost use Rattle.schedule.specs.Bags.{contributions};
 ghost use Rattle.schedule.specs.Summing.{SummedSolvable, bags_after};
 ghost use Rattle.schedule.specs.JoinedRuns.{Clashes, first_clash, joined_after};
 ghost use Rattle.schedule.specs.Inverse.{inverse_of};
-ghost use Rattle.schedule.specs.Rows.{at_root, two_alone};
+ghost use Rattle.schedule.specs.Rows.{at_root, everywhere, two_alone};
 
 use crate::hop::Hop;
 
@@ -61,9 +62,10 @@ pub fn a_bag_counts_each_node()
     ensures joined { (nodes : ℕ) (s : ScheduleValue) (adding n : ℕ) (pair : ℕ × ℕ) → length (joined_after (contributions nodes) s adding n pair) ≡ nodes }
 {}
 
-/// Two nodes without a link add nothing up, however many steps and rounds there are.
-pub fn nothing_sums_without_links()
-    ensures { (steps rounds : ℕ) → SummedSolvable two_alone (at_root 1 2) steps rounds → ⊥ }
+/// Between two nodes without a link no chunk is brought and no sum is had, however many steps and rounds there are.
+pub fn nothing_is_done_without_links()
+    ensures brought { (steps rounds : ℕ) → Solvable two_alone (at_root 1 2) (everywhere 1 2) steps rounds → ⊥ }
+    ensures summed { (steps rounds : ℕ) → SummedSolvable two_alone (at_root 1 2) steps rounds → ⊥ }
 {}
 
 /// The first clash is found exactly where there is one.

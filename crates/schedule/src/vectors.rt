@@ -1,6 +1,6 @@
 //! Worked rows: what the definitions say of small schedules whose runs are known.
 
-ghost use Rattle.std.specs.Prelude.{◌≡◌, [], ◌∷◌, Some, None};
+ghost use Rattle.std.specs.Prelude.{◌≡◌, [], ◌∷◌, Some, None, map};
 ghost use Rattle.schedule.specs.Links.{IsTopology, reversed_of};
 ghost use Rattle.schedule.specs.Sends.{IsSchedule};
 ghost use Rattle.schedule.specs.Placed.{IsPlacement, empty_placement};
@@ -9,7 +9,7 @@ ghost use Rattle.schedule.specs.Solving.{Solvable, Tight};
 ghost use Rattle.schedule.specs.Rows.{line_of_2, line_of_3, back_of_2, twice_grouped, only};
 ghost use Rattle.schedule.specs.Bags.{contributions, held_at_2, listed, of_placement};
 ghost use Rattle.schedule.specs.Summing.{Sums, SummedSolvable, bags_after};
-ghost use Rattle.schedule.specs.JoinedRuns.{first_clash, joined_after};
+ghost use Rattle.schedule.specs.JoinedRuns.{AllSummed, Clashes, first_clash, joined_after, joined_run};
 ghost use Rattle.schedule.specs.Inverse.{inverse_of};
 ghost use Rattle.schedule.specs.Rows.{at_root, everywhere, send, plan, broadcast};
 ghost use Rattle.schedule.specs.Rows.{ring_broadcast, ring_reduce, pair_allreduce, met_from_both};
@@ -95,11 +95,19 @@ pub fn two_nodes_add_and_then_copy()
         ≡ (1 ∷ 1 ∷ []) ∷ (1 ∷ 1 ∷ []) ∷ (1 ∷ 1 ∷ []) ∷ (1 ∷ 1 ∷ []) ∷ [] }
 {}
 
+/// What node 0 has in their run, and that both chunks are summed at both nodes.
+pub fn two_nodes_sum_everything()
+    ensures run { map (listed 2 1) (joined_run (contributions 2) pair_allreduce 1)
+        ≡ ((1 ∷ 0 ∷ []) ∷ (1 ∷ 0 ∷ []) ∷ []) ∷ ((1 ∷ 1 ∷ []) ∷ (1 ∷ 0 ∷ []) ∷ []) ∷ ((1 ∷ 1 ∷ []) ∷ (1 ∷ 1 ∷ []) ∷ []) ∷ [] }
+    ensures all { AllSummed line_of_2 2 pair_allreduce 1 }
+{}
+
 /// Of two senders the greater is copied, if its bag is not empty, and the two clash. Where the step adds, they don't.
 pub fn the_greatest_sender_is_copied()
     ensures copied { joined_after (contributions 4) met_from_both 0 1 (0, 0) ≡ 0 ∷ 0 ∷ 0 ∷ 1 ∷ [] }
     ensures filled { joined_after (of_placement (at_root 1 2)) (plan (1 ∷ []) (send 0 0 1 1 ∷ send 0 1 1 1 ∷ [])) 0 1 (0, 1)
         ≡ 1 ∷ 0 ∷ [] }
+    ensures clashes { Clashes met_from_both 0 }
     ensures clash { first_clash 1 4 met_from_both 0 ≡ Some (1, 0, 0) }
     ensures adding { first_clash 1 4 met_from_both 1 ≡ None }
 {}

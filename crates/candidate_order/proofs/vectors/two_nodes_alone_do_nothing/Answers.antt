@@ -1,0 +1,26 @@
+use Rattle.std.proofs.Common.{[], ◌∷◌, rules}
+use Rattle.std.proofs.lemmas.List.Elements.{All-from_recursion}
+use Rattle.schedule.specs.Rows.{two_alone}
+use Rattle.schedule.proofs.Alone.{alone_never_solves, alone_never_sums}
+use Rattle.collective_spec.specs.declared.kind.Kind.TheVariants.{Broadcast, Reduce}
+use Rattle.candidate_order.specs.Frontiers.{IsSolvable}
+use Rattle.candidate_order.specs.Rows.{asked, smallest}
+use Rattle.candidate_order.proofs.vectors.two_nodes_alone_do_nothing.Goals as goal
+
+pub returns-clause-broadcast : goal.returns-clause-broadcast
+returns-clause-broadcast c = record {
+  single = search rules;
+  points = search rules;
+  refuted = All-from_recursion (λ x. IsSolvable (asked two_alone Broadcast) x → ⊥) (smallest ∷ []) (alone_never_solves 1 1, tt);
+  unknown = search rules;
+  whole = search rules;
+}
+
+pub returns-clause-reduce : goal.returns-clause-reduce
+returns-clause-reduce c = record {
+  single = search rules;
+  points = search rules;
+  refuted = All-from_recursion (λ x. IsSolvable (asked two_alone Reduce) x → ⊥) (smallest ∷ []) (alone_never_sums 1 1, tt);
+  unknown = search rules;
+  whole = search rules;
+}
