@@ -18,3 +18,4 @@ pub mod Alone
 pub mod Clashing
 pub mod HopOrder
 pub mod Inverting
+pub mod Turning

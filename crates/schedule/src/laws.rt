@@ -86,3 +86,8 @@ pub fn an_inverse_is_a_schedule()
 pub fn inverting_twice_changes_nothing()
     ensures { (s : ScheduleValue) → IsSchedule s → inverse_of (inverse_of s) ≡ s }
 {}
+
+/// A valid schedule fits the links turned round exactly where its inverse fits the links as they are.
+pub fn an_inverse_fits_the_links_turned_round()
+    ensures { (t : TopologyValue) (s : ScheduleValue) → IsSchedule s → Fits (reversed_of t) s ↔ Fits t (inverse_of s) }
+{}

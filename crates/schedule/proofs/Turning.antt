@@ -1,0 +1,127 @@
+-- A schedule fits the links turned round exactly where its inverse fits the links.
+use Rattle.std.proofs.Common.{◌≡◌, ℕ, ◌+◌, ◌-◌, ◌*◌, ◌<◌, ◌≤◌, Bool, true, false, ◌&&◌, ◌||◌, cond, eqb, List, [], ◌∷◌, length, get_or, map, refl, sym, ap, ◌∙◌, ⊎_elim, subst, arith}
+use Rattle.std.specs.Prelude.{◌↔◌, count_by}
+use Rattle.std.specs.List.{AllByRecursion, list_any}
+use Rattle.std.proofs.lemmas.Bool.{cases_Bool}
+use Rattle.std.proofs.lemmas.Bool.Decides.{nat_tests}
+use Rattle.std.proofs.lemmas.List.{length-reverse, get_or-reverse}
+use Rattle.std.proofs.lemmas.List.Elements.{All-from_recursion, recursion_from_All}
+use Rattle.std.proofs.lemmas.List.Sums.{sum_by-cons}
+use Rattle.schedule.specs.declared.hop.Hop.{Hop}
+use Rattle.schedule.specs.Links.{GroupValue, TopologyValue, has_link, is_usable, reversed_group, reversed_of, same_link, turned}
+use Rattle.schedule.specs.Sends.{ScheduleValue, IsSchedule, IsStep, hop_before, link_of}
+use Rattle.schedule.specs.Fitting.{Fits, load, rounds_at}
+use Rattle.schedule.specs.Inverse.{in_order, inverse_hop, inverse_of, with_hop}
+use Rattle.schedule.proofs.HopOrder.{each_in_order}
+use Rattle.schedule.proofs.Inverting.{inverse_inverse, valid_inverse}
+use Rattle.schedule.proofs.Reversing.{reversed-reversed}
+
+-- ---- links turned round
+
+both_ways : (a b : Bool) → (a && b) ≡ (b && a)
+both_ways true true = refl
+both_ways true false = refl
+both_ways false true = refl
+both_ways false false = refl
+
+turned_link : (links : List (ℕ × ℕ)) (link : ℕ × ℕ) → list_any (same_link link) (map turned links) ≡ list_any (same_link (turned link)) links
+turned_link [] link = refl
+turned_link (l ∷ links) link =
+    ap (λ b. b || list_any (same_link link) (map turned links)) (both_ways (eqb link.0 l.1) (eqb link.1 l.0))
+    ∙ ap (λ b. same_link (turned link) l || b) (turned_link links link)
+
+turned_has : (group : GroupValue) (link : ℕ × ℕ) → has_link (reversed_group group) link ≡ has_link group (turned link)
+turned_has group link = turned_link group.links link
+
+turned_usable : (groups : List GroupValue) (link : ℕ × ℕ) → list_any (λ group. has_link group link) (map reversed_group groups) ≡ list_any (λ group. has_link group (turned link)) groups
+turned_usable [] link = refl
+turned_usable (g ∷ groups) link =
+    ap (λ b. b || list_any (λ group. has_link group link) (map reversed_group groups)) (turned_has g link)
+    ∙ ap (λ b. has_link g (turned link) || b) (turned_usable groups link)
+
+-- ---- how many sends pass a test
+
+counted_with : (p : Hop → Bool) (h : Hop) (hops : List Hop) → count_by p (with_hop h hops) ≡ cond (p h) 1 0 + count_by p hops
+counted_with p h [] = sum_by-cons (λ x. cond (p x) 1 0) h []
+counted_with p h (o ∷ hops) =
+    ⊎_elim
+    (λ (first : hop_before h o ≡ true). rw first (sum_by-cons (λ x. cond (p x) 1 0) h (o ∷ hops)))
+    (λ (later : hop_before h o ≡ false).
+    let inside : count_by p (with_hop h hops) ≡ cond (p h) 1 0 + count_by p hops = counted_with p h hops in
+    let whole : count_by p (o ∷ with_hop h hops) ≡ cond (p o) 1 0 + count_by p (with_hop h hops) = sum_by-cons (λ x. cond (p x) 1 0) o (with_hop h hops) in
+    let other : count_by p (o ∷ hops) ≡ cond (p o) 1 0 + count_by p hops = sum_by-cons (λ x. cond (p x) 1 0) o hops in
+    let same : count_by p (o ∷ with_hop h hops) ≡ cond (p h) 1 0 + count_by p (o ∷ hops) = omega (arith, inside, whole, other) in
+    rw later same)
+    (cases_Bool (hop_before h o))
+
+counted_in_order : (p : Hop → Bool) (hops : List Hop) → count_by p (in_order hops) ≡ count_by p hops
+counted_in_order p [] = refl
+counted_in_order p (h ∷ hops) =
+    let rest : count_by p (in_order hops) ≡ count_by p hops = counted_in_order p hops in
+    let one : count_by p (with_hop h (in_order hops)) ≡ cond (p h) 1 0 + count_by p (in_order hops) = counted_with p h (in_order hops) in
+    let whole : count_by p (h ∷ hops) ≡ cond (p h) 1 0 + count_by p hops = sum_by-cons (λ x. cond (p x) 1 0) h hops in
+    omega (arith, rest, one, whole)
+
+abbrev one_if : Bool → ℕ
+one_if passes = cond passes 1 0
+
+-- the sends that pass a test and those whose images pass another
+counted_images : (p q : Hop → Bool) (f : Hop → Hop) (hops : List Hop) → AllByRecursion (λ h. p (f h) ≡ q h) hops → count_by p (map f hops) ≡ count_by q hops
+counted_images p q f [] same = refl
+counted_images p q f (h ∷ hops) same =
+    let rest : count_by p (map f hops) ≡ count_by q hops = counted_images p q f hops same.1 in
+    let image : count_by p (f h ∷ map f hops) ≡ cond (p (f h)) 1 0 + count_by p (map f hops) = sum_by-cons (λ x. cond (p x) 1 0) (f h) (map f hops) in
+    let here : one_if (p (f h)) ≡ one_if (q h) = ap one_if same.0 in
+    let whole : count_by q (h ∷ hops) ≡ cond (q h) 1 0 + count_by q hops = sum_by-cons (λ x. cond (q x) 1 0) h hops in
+    omega (arith, rest, image, here, whole)
+
+-- ---- loads and rounds
+
+same_turn : (steps i step : ℕ) → 0 < i → i ≤ steps → IsStep steps step → eqb (steps + 1 - step) i ≡ eqb step (steps + 1 - i)
+same_turn steps i step from to is = at from to is.from is.to
+  where
+    at : 0 < i → i ≤ steps → 0 < step → step ≤ steps → eqb (steps + 1 - step) i ≡ eqb step (steps + 1 - i)
+    at a b c d = grind (arith, nat_tests)
+
+each_turned : (steps i : ℕ) (group : GroupValue) (hops : List Hop) → 0 < i → i ≤ steps → AllByRecursion (λ h. IsStep steps h.step) hops → AllByRecursion (λ h. (eqb (inverse_hop steps h).step i && has_link group (link_of (inverse_hop steps h))) ≡ (eqb h.step (steps + 1 - i) && has_link (reversed_group group) (link_of h))) hops
+each_turned steps i group [] from to each = tt
+each_turned steps i group (h ∷ hops) from to each =
+    (ap (λ b. b && has_link group (h.to, h.from)) (same_turn steps i h.step from to each.0) ∙ ap (λ b. eqb h.step (steps + 1 - i) && b) (sym (turned_has group (h.from, h.to))), each_turned steps i group hops from to each.1)
+
+turned_load : (s : ScheduleValue) (i : ℕ) (group : GroupValue) → IsSchedule s → 0 < i → i ≤ length s.rounds → load group i (inverse_of s).sends ≡ load (reversed_group group) (length s.rounds + 1 - i) s.sends
+turned_load s i group valid from to =
+    let steps = length s.rounds in
+    let test : Hop → Bool = λ h. eqb h.step i && has_link group (link_of h) in
+    counted_in_order test (map (inverse_hop steps) s.sends)
+    ∙ counted_images test (λ h. eqb h.step (steps + 1 - i) && has_link (reversed_group group) (link_of h)) (inverse_hop steps) s.sends (each_turned steps i group s.sends from to (recursion_from_All (λ h. IsStep steps h.step) s.sends valid.steps))
+
+turned_rounds : (s : ScheduleValue) (i : ℕ) → 0 < i → i ≤ length s.rounds → rounds_at (inverse_of s) i ≡ rounds_at s (length s.rounds + 1 - i)
+turned_rounds s i from to =
+    let place : length s.rounds - 1 - (i - 1) ≡ length s.rounds + 1 - i - 1 = omega arith in
+    get_or-reverse s.rounds (i - 1) 0 (omega arith) ∙ ap (λ k. get_or s.rounds k 0) place
+
+each_usable : (t : TopologyValue) (steps : ℕ) (hops : List Hop) → AllByRecursion (λ h. is_usable (reversed_of t) (link_of h) ≡ true) hops → AllByRecursion (λ h. is_usable t (link_of h) ≡ true) (map (inverse_hop steps) hops)
+each_usable t steps [] each = tt
+each_usable t steps (h ∷ hops) each = (sym (turned_usable t.groups (h.from, h.to)) ∙ each.0, each_usable t steps hops each.1)
+
+each_within : (s : ScheduleValue) (i : ℕ) (groups : List GroupValue) → IsSchedule s → 0 < i → i ≤ length s.rounds → AllByRecursion (λ group. load group (length s.rounds + 1 - i) s.sends ≤ group.width * rounds_at s (length s.rounds + 1 - i)) (map reversed_group groups) → AllByRecursion (λ group. load group i (inverse_of s).sends ≤ group.width * rounds_at (inverse_of s) i) groups
+each_within s i [] valid from to each = tt
+each_within s i (g ∷ groups) valid from to each =
+    (rw (turned_load s i g valid from to, turned_rounds s i from to) each.0, each_within s i groups valid from to each.1)
+
+pub fits_turned : (t : TopologyValue) (s : ScheduleValue) → IsSchedule s → Fits (reversed_of t) s → Fits t (inverse_of s)
+fits_turned t s valid fits = record {
+  usable = All-from_recursion (λ h. is_usable t (link_of h) ≡ true) (inverse_of s).sends (each_in_order (λ h. is_usable t (link_of h) ≡ true) (map (inverse_hop (length s.rounds)) s.sends) (each_usable t (length s.rounds) s.sends (recursion_from_All (λ h. is_usable (reversed_of t) (link_of h) ≡ true) s.sends fits.usable)));
+  within = λ i from to.
+      let below : i ≤ length s.rounds = omega (arith, to, length-reverse s.rounds) in
+      let k = length s.rounds + 1 - i in
+      All-from_recursion (λ group. load group i (inverse_of s).sends ≤ group.width * rounds_at (inverse_of s) i) t.groups (each_within s i t.groups valid from below (recursion_from_All (λ group. load group k s.sends ≤ group.width * rounds_at s k) (map reversed_group t.groups) (fits.within k (omega arith) (omega arith))));
+}
+
+pub fits_both_ways : (t : TopologyValue) (s : ScheduleValue) → IsSchedule s → Fits (reversed_of t) s ↔ Fits t (inverse_of s)
+fits_both_ways t s valid = (
+  fits_turned t s valid,
+  λ fits.
+      let again : Fits (reversed_of (reversed_of t)) (inverse_of s) = subst (λ u. Fits u (inverse_of s)) (sym (reversed-reversed t)) fits in
+      subst (λ z. Fits (reversed_of t) z) (inverse_inverse s valid) (fits_turned (reversed_of t) (inverse_of s) (valid_inverse s valid) again),
+)
