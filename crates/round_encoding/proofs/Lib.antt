@@ -1,1 +1,4 @@
 pub mod Starting
+pub mod Everywhere
+pub mod About
+pub mod Counted

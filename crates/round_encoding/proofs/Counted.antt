@@ -1,0 +1,154 @@
+-- A candidate's formula is about its own variables and those of its counters.
+use Rattle.std.proofs.Common.{◌≡◌, ℕ, ◌+◌, ◌-◌, ◌*◌, ◌<◌, ◌≤◌, Bool, true, false, List, [], ◌∷◌, ◌++◌, length, map, get_or, refl, sym, ◌∙◌, arith}
+use Rattle.std.specs.Prelude.{if◌then◌else◌, flat_map, nat_lt, All}
+use Rattle.std.specs.List.{list_any, range_with_len}
+use Rattle.std.proofs.lemmas.Bool.{ltb-true}
+use Rattle.std.proofs.lemmas.List.Elements.{All-nil, All-cons, All-head, All-tail, All-append, All-filter}
+use Rattle.std.proofs.lemmas.List.Folds.{list_any_at}
+use Rattle.std.proofs.lemmas.List.FromFn.{length-map-range_with_len}
+use Rattle.std.proofs.Math.Nat.{mul-le-mul_left}
+use Rattle.schedule.specs.Links.{GroupValue, TopologyValue, IsTopology, IsBelow, same_link, has_link, is_usable}
+use Rattle.schedule.specs.Placed.{PlacementValue, all_pairs}
+use Rattle.schedule.proofs.Placing.{all_below, holds-placed, pair_itself}
+use Rattle.cnf_formula.specs.Literals.{LitValue, yes, negation}
+use Rattle.cnf_formula.specs.Formulas.{IsAbout, IsClause, IsFormula}
+use Rattle.cardinality.specs.Counting.{output}
+use Rattle.cardinality.specs.Counters.{reached, counter_of}
+use Rattle.cardinality.proofs.Ranges.{outputs_in_range, clauses_in_range}
+use Rattle.round_encoding.specs.Variables.{SendMapValue, Frame, map_of, frame_of, usable_links, chunks_of, steps_of, extra_of, sent, extra_round, own_variables}
+use Rattle.round_encoding.specs.Sending.{sending}
+use Rattle.round_encoding.specs.Rounding.{Count, count_of_rounds, count_of_group, counts_of, counted, formula_of, number_of, extra_in_order}
+use Rattle.round_encoding.proofs.Everywhere.{by_recursion, in_map, in_flat, From, in_range, some_in_flat, place_below}
+use Rattle.round_encoding.proofs.About.{about_not, one, two, only_clause, wider, wider_clause, wider_clauses, JoinsNodes, IsStepOf, sent_about, extra_about, sending_about, order_about}
+
+-- ---- counts in a row
+
+-- a count of literals about the first so many variables, that says something about its outputs and these
+pub record IsCount (own : ℕ) (count : Count) : Type 0 where
+  pub some : 0 < length count.inputs
+  pub about : IsClause own count.inputs
+  pub says : (w : ℕ) (o : ℕ → LitValue) → own ≤ w → ((t : ℕ) → 0 < t → t ≤ count.bound + 1 → IsAbout w (o t)) → All (IsClause w) (count.says o)
+
+pub more_variables : (before : ℕ) (counts : List Count) → before ≤ (counted before counts).vars
+more_variables before [] = omega arith
+more_variables before (count ∷ counts) =
+    let rest = more_variables (before + (counter_of before count.inputs count.bound).vars) counts in
+    omega (arith, rest)
+
+output_about : (before : ℕ) (count : Count) → 0 < length count.inputs → (t : ℕ) → 0 < t → t ≤ count.bound + 1 → IsAbout (before + (counter_of before count.inputs count.bound).vars) (output (counter_of before count.inputs count.bound) t)
+output_about before count some t low high =
+    let counter = counter_of before count.inputs count.bound in
+    let many : length counter.outputs ≡ count.bound + 1 = length-map-range_with_len (reached before (count.bound + 1) (length count.inputs)) 1 (count.bound + 1) in
+    outputs_in_range before count.inputs count.bound some (t - 1) (yes 0) (omega (arith, many, low, high))
+
+pub counts_about : (own before : ℕ) (counts : List Count) → own ≤ before → All (IsCount own) counts → All (IsClause (counted before counts).vars) (counted before counts).clauses
+counts_about own before [] le a = All-nil (IsClause before)
+counts_about own before (count ∷ counts) le a =
+    let here = All-head (IsCount own) count counts a in
+    let counter = counter_of before count.inputs count.bound in
+    let next : ℕ = before + counter.vars in
+    let later = counted next counts in
+    let v : ℕ = later.vars in
+    let more : next ≤ v = more_variables next counts in
+    let inputs : All (IsAbout before) count.inputs = wider_clause own before count.inputs le here.about in
+    let first = wider_clauses next v counter.clauses more (clauses_in_range before count.inputs count.bound inputs) in
+    let told = here.says v (output counter) (omega (arith, le, more)) (λ t low high. wider next v (output counter t) more (output_about before count here.some t low high)) in
+    let rest = counts_about own next counts (omega (arith, le)) (All-tail (IsCount own) count counts a) in
+    All-append (IsClause v) (counter.clauses ++ count.says (output counter)) later.clauses
+    (All-append (IsClause v) counter.clauses (count.says (output counter)) first told) rest
+
+-- ---- the counts of a candidate
+
+module _ (f : Frame) where
+  abbrev m : SendMapValue
+  m = f.map
+
+  abbrev v : ℕ
+  v = own_variables f
+
+  some_range : (a n : ℕ) → 0 < n → 0 < length (map (extra_round f a) (range_with_len 1 n))
+  some_range a n some = let many = length-map-range_with_len (extra_round f a) 1 n in omega (arith, many, some)
+
+  rounds_counted : 0 < m.steps → 0 < f.extra → IsCount v (count_of_rounds f)
+  rounds_counted steps extra = record {
+    some = some_in_flat (λ s. map (extra_round f s) (extra_of f)) 1 m.steps steps (λ s. some_range s f.extra extra);
+    about = in_flat (IsAbout v) (IsStepOf m) (λ s. map (extra_round f s) (extra_of f)) (steps_of m)
+        (λ s step. in_map (IsAbout v) (From 1 f.extra) (extra_round f s) (extra_of f) (λ j at. extra_about f s j step at) (in_range 1 f.extra)) (in_range 1 m.steps);
+    says = λ w o le outs. only_clause w (negation (o (f.extra + 1)) ∷ []) (one w (negation (o (f.extra + 1))) (about_not w (o (f.extra + 1)) (outs (f.extra + 1) (omega arith) (omega arith))));
+  }
+
+  some_links : (c s : ℕ) (links : List (ℕ × ℕ)) → 0 < length links → 0 < length (map (λ link. sent m c (number_of m link) s) links)
+  some_links c s [] some = absurd (omega (arith, some))
+  some_links c s (link ∷ links) some = omega arith
+
+  group_counted : (s : ℕ) (group : GroupValue) → IsStepOf m s → 0 < m.chunks → 0 < length group.links → All (λ link. number_of m link < length m.links) group.links → IsCount v (count_of_group f s group)
+  group_counted s group step chunks some places = record {
+    some = some_in_flat (λ c. map (λ link. sent m c (number_of m link) s) group.links) 0 m.chunks chunks (λ c. some_links c s group.links some);
+    about = in_flat (IsAbout v) (From 0 m.chunks) (λ c. map (λ link. sent m c (number_of m link) s) group.links) (chunks_of m)
+        (λ c low. in_map (IsAbout v) (λ link. number_of m link < length m.links) (λ link. sent m c (number_of m link) s) group.links
+        (λ link at. sent_about f c (number_of m link) s (omega (arith, low.1)) at step) places) (in_range 0 m.chunks);
+    says = λ w o le outs.
+        let last : ℕ = group.width * (1 + f.extra) + 1 in
+        All-append (IsClause w) (map (λ j. negation (o (group.width * j + 1)) ∷ extra_round f s j ∷ []) (extra_of f)) ((negation (o last) ∷ []) ∷ [])
+        (in_map (IsClause w) (From 1 f.extra) (λ j. negation (o (group.width * j + 1)) ∷ extra_round f s j ∷ []) (extra_of f)
+        (λ j at.
+        let product : group.width * j ≤ group.width * (1 + f.extra) = mul-le-mul_left group.width (omega (arith, at.1)) in
+        two w (negation (o (group.width * j + 1))) (extra_round f s j)
+        (about_not w (o (group.width * j + 1)) (outs (group.width * j + 1) (omega arith) (omega (arith, product))))
+        (wider v w (extra_round f s j) le (extra_about f s j step at))) (in_range 1 f.extra))
+        (only_clause w (negation (o last) ∷ []) (one w (negation (o last)) (about_not w (o last) (outs last (omega arith) (omega arith)))));
+  }
+
+-- ---- a topology's links
+
+links_join : (t : TopologyValue) (pre : PlacementValue) (steps : ℕ) → All (JoinsNodes (map_of t pre steps)) (usable_links t)
+links_join t pre steps = All-filter (is_usable t) (JoinsNodes (map_of t pre steps)) (all_pairs t.nodes t.nodes) (by_recursion (JoinsNodes (map_of t pre steps)) (all_pairs t.nodes t.nodes) (all_below t.nodes t.nodes))
+
+link_listed : (t : TopologyValue) (link : ℕ × ℕ) → IsBelow t.nodes link → is_usable t link ≡ true → list_any (same_link link) (usable_links t) ≡ true
+link_listed t link below usable = holds-placed t.nodes t.nodes (is_usable t) link below.from below.to ∙ usable
+
+in_group : (t : TopologyValue) (k j : ℕ) (d : GroupValue) (e : ℕ × ℕ) → k < length t.groups → j < length (get_or t.groups k d).links → is_usable t (get_or (get_or t.groups k d).links j e) ≡ true
+in_group t k j d e low few =
+    let group = get_or t.groups k d in
+    let link = get_or group.links j e in
+    list_any_at (λ g. has_link g link) t.groups k d low (list_any_at (same_link link) group.links j e few (pair_itself link))
+
+placed_links : (t : TopologyValue) (pre : PlacementValue) (steps k : ℕ) (d : GroupValue) → IsTopology t → k < length t.groups → All (λ link. number_of (map_of t pre steps) link < length (usable_links t)) (get_or t.groups k d).links
+placed_links t pre steps k d ok low = λ j e few.
+    let link = get_or (get_or t.groups k d).links j e in
+    place_below (same_link link) (usable_links t) (link_listed t link (ok.nodes k d low j e few) (in_group t k j d e low few))
+
+-- a group has links, and each has its number
+abbrev Carries : TopologyValue → PlacementValue → ℕ → GroupValue → Type 0
+Carries t pre steps group = (0 < length group.links) × All (λ link. number_of (map_of t pre steps) link < length (usable_links t)) group.links
+
+groups_carry : (t : TopologyValue) (pre : PlacementValue) (steps : ℕ) → IsTopology t → All (Carries t pre steps) t.groups
+groups_carry t pre steps ok k d low = let group = ok.groups k d low in (group.some, placed_links t pre steps k d ok low)
+
+-- ---- the formula
+
+all_counts : (t : TopologyValue) (pre : PlacementValue) (steps rounds : ℕ) → IsTopology t → 0 < pre.chunks → 0 < steps → All (IsCount (own_variables (frame_of t pre steps rounds))) (counts_of (frame_of t pre steps rounds) t)
+all_counts t pre steps rounds ok chunks some =
+    let f = frame_of t pre steps rounds in
+    All-append (IsCount (own_variables f)) (if nat_lt 0 f.extra then count_of_rounds f ∷ [] else []) (flat_map (λ s. map (count_of_group f s) t.groups) (steps_of f.map))
+    (rounds_if (nat_lt 0 f.extra) refl)
+    (in_flat (IsCount (own_variables f)) (IsStepOf f.map) (λ s. map (count_of_group f s) t.groups) (steps_of f.map)
+    (λ s step. in_map (IsCount (own_variables f)) (Carries t pre steps) (count_of_group f s) t.groups
+    (λ group carries. group_counted f s group step chunks carries.0 carries.1) (groups_carry t pre steps ok)) (in_range 1 steps))
+  where
+    rounds_if : (b : Bool) → b ≡ nat_lt 0 (rounds - steps) → All (IsCount (own_variables (frame_of t pre steps rounds))) (if b then count_of_rounds (frame_of t pre steps rounds) ∷ [] else [])
+    rounds_if true e = All-cons (IsCount (own_variables (frame_of t pre steps rounds))) (count_of_rounds (frame_of t pre steps rounds)) [] (rounds_counted (frame_of t pre steps rounds) some (ltb-true 0 (rounds - steps) (sym e))) (All-nil (IsCount (own_variables (frame_of t pre steps rounds))))
+    rounds_if false e = All-nil (IsCount (own_variables (frame_of t pre steps rounds)))
+
+pub is_formula : (t : TopologyValue) (pre post : PlacementValue) (steps rounds : ℕ) → IsTopology t → 0 < pre.chunks → 0 < steps → IsFormula (formula_of t pre post steps rounds)
+is_formula t pre post steps rounds ok chunks some =
+    let f = frame_of t pre steps rounds in
+    let own : ℕ = own_variables f in
+    let counters = counted own (counts_of f t) in
+    let v : ℕ = counters.vars in
+    let more : own ≤ v = more_variables own (counts_of f t) in
+    let sends = wider_clauses own v (sending f.map pre post) more (sending_about f (links_join t pre steps) pre post) in
+    let order = wider_clauses own v (extra_in_order f) more (order_about f) in
+    let counts = counts_about own own (counts_of f t) (omega arith) (all_counts t pre steps rounds ok chunks some) in
+    All-append (IsClause v) (sending f.map pre post ++ extra_in_order f) counters.clauses
+    (All-append (IsClause v) (sending f.map pre post) (extra_in_order f) sends order) counts
