@@ -1,19 +1,19 @@
 -- What an audit that finds nothing to deny has found.
-use Rattle.std.proofs.Common.{◌≡◌, ℕ, List, [], ◌∷◌, Ok, get_or, refl, sym, ap, ◌∙◌}
-use Rattle.std.specs.Prelude.{All, not}
-use Rattle.text_lines.specs.Check.{◌>>=◌, refuse}
+use Rattle.std.proofs.Common.{◌≡◌, Ok, get_or}
+use Rattle.std.specs.Prelude.{All}
+use Rattle.text_lines.specs.Check.{◌>>=◌}
 use Rattle.outer_ports.specs.declared.part.Part.{Part}
 use Rattle.outer_ports.specs.Files.{Files}
-use Rattle.candidate_order.specs.Frontiers.{QuestionValue, PointValue, FrontierValue, UnknownValue, IsUnknown}
-use Rattle.frontier_report.specs.Reports.{ReportValue, IsReport, IsFrontier, question_of}
+use Rattle.candidate_order.specs.Frontiers.{QuestionValue, FrontierValue, IsUnknown}
+use Rattle.frontier_report.specs.Reports.{ReportValue, IsReport, question_of}
 use Rattle.frontier_audit.specs.declared.verdict.AuditVerdict.TheVariants.{Verified}
 use Rattle.frontier_audit.specs.Denials.{Denial, Checked, each, in_part}
-use Rattle.frontier_audit.specs.Shelves.{HasRefutation, HasLog, PartRight, ShelfRight}
+use Rattle.frontier_audit.specs.Shelves.{PartRight, ShelfRight}
 use Rattle.frontier_audit.specs.Candidates.{candidates_within}
 use Rattle.frontier_audit.specs.Joining.{joined_checked}
 use Rattle.frontier_audit.specs.Auditing.{point_checked, refuted_checked, unknown_checked, candidate_checked, mark_checked, frontier_checked, report_checked, audit_of}
 use Rattle.frontier_audit.proofs.Passing.{then_ok, ok_then, each_ok, ok_each, in_part_ok, ok_in_part, verified_ok, ok_verified}
-use Rattle.frontier_audit.proofs.Beside.{has_refutation, passes_refutation, has_log_of, passes_log}
+use Rattle.frontier_audit.proofs.Beside.{has_refutation, has_log_of}
 
 -- each check of a part passes
 pub record Passes (part : Part) (q : QuestionValue) (files : Files) (f : FrontierValue) : Type 0 where
@@ -81,7 +81,7 @@ pub report_passed : (r : ReportValue) (files : Files) → ReportPasses r files �
 report_passed r files p =
     ok_verified (report_checked r files)
     (ok_then (each (part_checked r files) r.frontiers) (joined_checked r.words.collective.kind r)
-        (ok_each (part_checked r files) r.frontiers (λ k d w. part_passed r files (get_or r.frontiers k d) (p.parts k d w))) p.joined)
+    (ok_each (part_checked r files) r.frontiers (λ k d w. part_passed r files (get_or r.frontiers k d) (p.parts k d w))) p.joined)
 
 -- ---- the files
 

@@ -1,6 +1,6 @@
 -- The checks of a candidate's files pass exactly where the files are what they have to be.
-use Rattle.std.proofs.Common.{◌≡◌, ℕ, ◌≤◌, Bool, true, false, List, [], ◌∷◌, length, Result, Ok, Err, Option, None, Some, refl, sym, ap, ◌∙◌}
-use Rattle.std.specs.Prelude.{◌&&◌, not, nat_le, bytes_eq, map}
+use Rattle.std.proofs.Common.{◌≡◌, ℕ, true, List, length, Ok, Option, None, Some, refl, sym, ap, ◌∙◌}
+use Rattle.std.specs.Prelude.{not, nat_le, bytes_eq}
 use Rattle.std.proofs.lemmas.Bool.{and_parts, leb-true, le-leb}
 use Rattle.std.proofs.lemmas.Slice.Eq.{bytes_eq-Decides}
 use Rattle.text_lines.specs.Check.{◌>>=◌, refuse, need}
@@ -9,7 +9,6 @@ use Rattle.outer_ports.specs.declared.part.Part.{Part}
 use Rattle.outer_ports.specs.declared.proof_name.FileKind.TheVariants.{Cnf, Lrat, Partial}
 use Rattle.outer_ports.specs.Files.{Files}
 use Rattle.cnf_formula.specs.Formulas.{FormulaValue}
-use Rattle.cnf_formula.specs.declared.line.LratLine.TheVariants.{Addition}
 use Rattle.lrat_text.specs.Printing.{cnf_text}
 use Rattle.candidate_order.specs.declared.candidate.Candidate.{Candidate}
 use Rattle.candidate_order.specs.Frontiers.{QuestionValue, UnknownValue}
@@ -52,8 +51,8 @@ passes_beside : (cnf lrat : Option (List ℕ)) (f : FormulaValue) (x : Candidate
 passes_beside cnf lrat f x b =
     needs cnf (ProofMissing, x) (behind_formula lrat f x) (cnf_text f) b.formula
     (ok_then (refuse (not (bytes_eq (cnf_text f) (cnf_text f))) (CnfDiffers, x)) (need lrat (ProofMissing, x) >>= (λ proof. refuse (not (is_refutation f proof)) (ProofRefused, x)))
-        (not_refused (bytes_eq (cnf_text f) (cnf_text f)) (CnfDiffers, x) ((bytes_eq-Decides (cnf_text f) (cnf_text f)).1 refl))
-        (needs lrat (ProofMissing, x) (λ bytes. refuse (not (is_refutation f bytes)) (ProofRefused, x)) b.proof b.there (not_refused (is_refutation f b.proof) (ProofRefused, x) b.refutes)))
+    (not_refused (bytes_eq (cnf_text f) (cnf_text f)) (CnfDiffers, x) ((bytes_eq-Decides (cnf_text f) (cnf_text f)).1 refl))
+    (needs lrat (ProofMissing, x) (λ bytes. refuse (not (is_refutation f bytes)) (ProofRefused, x)) b.proof b.there (not_refused (is_refutation f b.proof) (ProofRefused, x) b.refutes)))
 
 pub has_refutation : (part : Part) (q : QuestionValue) (files : Files) (x : Candidate) → refuted_checked part q files x ≡ Ok tt → HasRefutation part q files x
 has_refutation part q files x e =
@@ -75,8 +74,8 @@ passes_refutation part q files x h =
       proof = h.holds.bytes;
       there = h.holds.found;
       refutes = both_true (nat_le (length h.holds.bytes) longest_proof) (do_refute (formula_for q x) (lines_of_text h.holds.bytes))
-        (le-leb (length h.holds.bytes) longest_proof h.holds.short)
-        (by_refuting (formula_for q x) (lines_of_text h.holds.bytes) h.lines h.holds.reads h.refutes);
+          (le-leb (length h.holds.bytes) longest_proof h.holds.short)
+          (by_refuting (formula_for q x) (lines_of_text h.holds.bytes) h.lines h.holds.reads h.refutes);
     })
 
 -- ---- an unknown candidate
@@ -98,6 +97,6 @@ passes_log part q files u same h =
     let f = formula_for q u.candidate in
     needs (files (file_of Partial part u.candidate)) (ProofMissing, u.candidate) (λ bytes. refuse (not (is_spent_log f u.conflicts bytes)) (PartialRefused, u.candidate)) h.holds.bytes h.holds.found
     (not_refused (is_spent_log f u.conflicts h.holds.bytes) (PartialRefused, u.candidate)
-        (both_true (nat_le (length h.holds.bytes) longest_proof) (do_spend f u.conflicts (lines_of_text h.holds.bytes))
-            (le-leb (length h.holds.bytes) longest_proof h.holds.short)
-            (by_spending f u.conflicts (lines_of_text h.holds.bytes) h.lines h.holds.reads (record { count = h.spent.count ∙ sym same; accepted = h.spent.accepted; fresh = h.spent.fresh }))))
+    (both_true (nat_le (length h.holds.bytes) longest_proof) (do_spend f u.conflicts (lines_of_text h.holds.bytes))
+    (le-leb (length h.holds.bytes) longest_proof h.holds.short)
+    (by_spending f u.conflicts (lines_of_text h.holds.bytes) h.lines h.holds.reads (record { count = h.spent.count ∙ sym same; accepted = h.spent.accepted; fresh = h.spent.fresh }))))

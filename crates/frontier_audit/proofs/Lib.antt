@@ -3,3 +3,8 @@ pub mod Passing
 pub mod Proved
 pub mod Beside
 pub mod Audited
+pub mod Tried
+pub mod Marked
+pub mod Solved
+pub mod Joined
+pub mod Right

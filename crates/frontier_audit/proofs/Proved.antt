@@ -1,7 +1,7 @@
 -- Tests of files pass exactly where the files are what they have to be.
-use Rattle.std.proofs.Common.{◌≡◌, ℕ, suc, ◌≤◌, Bool, true, false, List, [], ◌∷◌, length, Result, Ok, Err, Option, None, Some, refl, sym, ap, ◌∙◌}
-use Rattle.std.specs.Prelude.{◌&&◌, ◌==◌, ◌↔◌, if◌then◌else◌, map, nat_le, bytes_eq}
-use Rattle.std.proofs.lemmas.Bool.{and_parts, leb-true, le-leb, eqb-true, eq-eqb}
+use Rattle.std.proofs.Common.{◌≡◌, ℕ, suc, Bool, true, false, List, [], ◌∷◌, length, Result, Ok, Err, Option, None, Some, refl, sym, ap, ◌∙◌}
+use Rattle.std.specs.Prelude.{◌&&◌, ◌==◌, if◌then◌else◌, map}
+use Rattle.std.proofs.lemmas.Bool.{and_parts, eqb-true, eq-eqb}
 use Rattle.cnf_formula.specs.Formulas.{FormulaValue}
 use Rattle.cnf_formula.specs.Lines.{ProofLineValue}
 use Rattle.cnf_formula.specs.declared.line.LratLine.{LratLine}
@@ -12,9 +12,7 @@ use Rattle.lrat_checker.specs.Held.{CheckerValue, start_of}
 use Rattle.lrat_checker.specs.Judging.{verdict_of}
 use Rattle.lrat_checker.specs.Refuting.{verdict_on, with_accepted, with_line, is_fresh, AllAccepted, AllFresh, after, Refutes, SpentLog}
 use Rattle.lrat_text.specs.declared.fault.LratTextFault.{LratTextFault}
-use Rattle.frontier_audit.specs.Proofs.{lines_of_text}
-use Rattle.frontier_audit.specs.Shelves.{longest_proof}
-use Rattle.frontier_audit.specs.Proving.{is_accepted, checker_after, is_refuted, do_refute, is_refutation, are_learned, do_spend, is_spent_log}
+use Rattle.frontier_audit.specs.Proving.{is_accepted, checker_after, is_refuted, do_refute, are_learned, do_spend}
 
 accepted_is : (v : LineVerdict) → is_accepted v ≡ true → v ≡ Accepted
 accepted_is Accepted e = refl

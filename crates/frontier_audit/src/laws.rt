@@ -1,17 +1,19 @@
 //! What a right shelf says, and what an audit does.
 
-ghost use Rattle.std.specs.Prelude.{◌≡◌, ◌↔◌, List, ℕ, None, Contains, AllPairs};
+ghost use Rattle.std.specs.Prelude.{◌≡◌, ◌↔◌, None, All, Contains};
 ghost use Rattle.outer_ports.specs.Files.{Files};
 ghost use Rattle.cnf_formula.specs.Formulas.{Satisfiable};
-ghost use Rattle.candidate_order.specs.Costs.{Before};
-ghost use Rattle.candidate_order.specs.Frontiers.{QuestionValue, PointValue, FrontierValue, UnknownValue, IsWithin, IsAnswered};
+ghost use Rattle.candidate_order.specs.Frontiers.{QuestionValue, FrontierValue, UnknownValue, IsWithin, IsSolvable, RightFrontier};
+ghost use Rattle.allreduce_join.specs.Joins.{Joins};
 ghost use Rattle.frontier_report.specs.Reports.{ReportValue, IsReport, question_of};
 ghost use Rattle.frontier_audit.specs.Shelves.{file_of, formula_for, ShelfRight};
 ghost use Rattle.frontier_audit.specs.Candidates.{candidates_within};
+ghost use Rattle.frontier_audit.specs.Joining.{is_reduce, is_gather, points_of};
 ghost use Rattle.frontier_audit.specs.Auditing.{audit_of};
 
 use crate::verdict::AuditVerdict;
 use candidate_order::Candidate;
+use collective_spec::Kind;
 use outer_ports::{FileKind, Part};
 
 /// A shelf that lacks a refuted candidate's formula or its proof is not right.
@@ -33,4 +35,26 @@ pub fn refuted_is_unsatisfiable()
 /// Where an audit finds nothing to deny, the shelf is right.
 pub fn verified_shelf_is_right()
     ensures { (r : ReportValue) (files : Files) → IsReport r → audit_of r files ≡ AuditVerdict.Verified → ShelfRight r files }
+{}
+
+/// The candidates that an audit goes through are just those within the limits.
+pub fn candidates_are_those_within()
+    ensures { (q : QuestionValue) (x : Candidate) → Contains (candidates_within q) x ↔ IsWithin q x }
+{}
+
+/// Where an audit finds nothing to deny, each frontier is right, as far as its refuted candidates have no solution, and the
+/// joined points of an allreduce are the joins of its parts.
+pub fn verified_is_right()
+    ensures frontiers { (r : ReportValue) (files : Files) → IsReport r → audit_of r files ≡ AuditVerdict.Verified → (part : Part) (f : FrontierValue) → Contains r.frontiers (part, f)
+        → All (λ x. IsSolvable (question_of r.words r.topology part) x → ⊥) f.refuted → RightFrontier (question_of r.words r.topology part) f }
+    ensures joins { (r : ReportValue) (files : Files) → IsReport r → audit_of r files ≡ AuditVerdict.Verified → r.words.collective.kind ≡ Kind.Allreduce
+        → Joins r.topology.topology (points_of is_reduce r.frontiers) (points_of is_gather r.frontiers) r.joined }
+{}
+
+/// A report with right frontiers, a right shelf and the joins of its parts is verified.
+pub fn right_is_verified()
+    ensures { (r : ReportValue) (files : Files) → IsReport r → ShelfRight r files
+        → ((part : Part) (f : FrontierValue) → Contains r.frontiers (part, f) → RightFrontier (question_of r.words r.topology part) f)
+        → (r.words.collective.kind ≡ Kind.Allreduce → Joins r.topology.topology (points_of is_reduce r.frontiers) (points_of is_gather r.frontiers) r.joined)
+        → audit_of r files ≡ AuditVerdict.Verified }
 {}

@@ -5,7 +5,10 @@ mod laws;
 mod vectors;
 mod verdict;
 
-pub use laws::{refuted_has_files, refuted_is_unsatisfiable, unknown_has_a_log, verified_shelf_is_right};
+pub use laws::{
+    candidates_are_those_within, refuted_has_files, refuted_is_unsatisfiable, right_is_verified,
+    unknown_has_a_log, verified_is_right, verified_shelf_is_right,
+};
 pub use vectors::{
     allreduce_audited, altered_files_audited, candidates, formula_of_one_step, lines,
     relay_audited, unknown_audited,

@@ -1,0 +1,95 @@
+-- The checks of candidates and of marks pass exactly where all are answered and the marks are right.
+use Rattle.std.proofs.Common.{◌≡◌, Bool, true, false, List, [], ◌∷◌, refl, ◌⊎◌, inl, inr}
+use Rattle.std.specs.Prelude.{◌||◌, ◌↔◌, not, All, Any, Contains, Decides}
+use Rattle.std.specs.List.{list_all, list_any}
+use Rattle.std.proofs.lemmas.Bool.{and_parts}
+use Rattle.std.proofs.lemmas.Bool.Decides.{Decides-or}
+use Rattle.std.proofs.lemmas.List.Elements.{All-nil, All-cons, All-head, All-tail, All-contains}
+use Rattle.std.proofs.lemmas.List.Folds.{Any-from_list_any, list_any-from_Any}
+use Rattle.candidate_order.specs.declared.candidate.Candidate.{Candidate}
+use Rattle.candidate_order.specs.declared.mark.Mark.{Mark}
+use Rattle.candidate_order.specs.declared.mark.Mark.TheVariants as mark
+use Rattle.candidate_order.specs.Costs.{NoWorse, Better}
+use Rattle.candidate_order.specs.Frontiers.{QuestionValue, PointValue, FrontierValue, IsWithin, IsAnswered, given_up}
+use Rattle.frontier_report.specs.Tests.{is_better, is_no_worse}
+use Rattle.frontier_report.proofs.Tested.{decides_no_worse, decides_better}
+use Rattle.frontier_audit.specs.Candidates.{is_listed, candidates_within}
+use Rattle.frontier_audit.specs.Solutions.{is_optimal, is_mark}
+use Rattle.frontier_audit.specs.Auditing.{is_answered}
+use Rattle.frontier_audit.proofs.Proved.{both_true}
+use Rattle.frontier_audit.proofs.Tried.{listed_contains, contains_listed, within_listed, each_within}
+
+-- ---- tests of lists
+
+pub each_of : {X : Type 0} (p : X → Bool) (xs : List X) → list_all p xs ≡ true → All (λ x. p x ≡ true) xs
+each_of p [] e = All-nil (λ x. p x ≡ true)
+each_of p (x ∷ xs) e = let parts = and_parts (p x) (list_all p xs) e in All-cons (λ y. p y ≡ true) x xs parts.0 (each_of p xs parts.1)
+
+pub of_each : {X : Type 0} (p : X → Bool) (xs : List X) → All (λ x. p x ≡ true) xs → list_all p xs ≡ true
+of_each p [] a = refl
+of_each p (x ∷ xs) a = both_true (p x) (list_all p xs) (All-head (λ y. p y ≡ true) x xs a) (of_each p xs (All-tail (λ y. p y ≡ true) x xs a))
+
+-- ---- answers
+
+listed_decides : (xs : List Candidate) (x : Candidate) → Decides (is_listed xs x) (Contains xs x)
+listed_decides xs x = (listed_contains xs x, contains_listed xs x)
+
+settled_decides : (ps : List PointValue) (x : Candidate) → Decides (list_any (λ p. is_no_worse p.candidate x) ps) (Any (λ p. NoWorse p.candidate x) ps)
+settled_decides ps x = (
+  λ e. let (k, p, low, at, same) = Any-from_list_any (λ (y : PointValue). is_no_worse y.candidate x) ps e in (k, p, low, at, (decides_no_worse p.candidate x).0 same),
+  λ a. let (k, p, low, at, better) = a in list_any-from_Any (λ (y : PointValue). is_no_worse y.candidate x) ps (k, p, low, at, (decides_no_worse p.candidate x).1 better),
+)
+
+grouped : {A B C : Type 0} → ((A ⊎ B) ⊎ C) ↔ (A ⊎ (B ⊎ C))
+grouped = (λ h. elim h [ inl (inl a) ↦ inl a | inl (inr b) ↦ inr (inl b) | inr c ↦ inr (inr c) ], λ h. elim h [ inl a ↦ inl (inl a) | inr (inl b) ↦ inl (inr b) | inr (inr c) ↦ inr c ])
+
+pub answered_decides : (f : FrontierValue) (x : Candidate) → Decides (is_answered f x) (IsAnswered f x)
+answered_decides f x =
+    let settled = list_any (λ (p : PointValue). is_no_worse p.candidate x) f.points in
+    let d = Decides-or (settled || is_listed f.refuted x) (is_listed (given_up f) x) (Decides-or settled (is_listed f.refuted x) (settled_decides f.points x) (listed_decides f.refuted x)) (listed_decides (given_up f) x) in
+    (λ e. grouped.0 (d.0 e), λ a. d.1 (grouped.1 a))
+
+-- ---- marks
+
+abbrev pub AllBetterRefuted : QuestionValue → FrontierValue → Candidate → Type 0
+AllBetterRefuted q f x = (y : Candidate) → IsWithin q y → Better y x → Contains f.refuted y
+
+implied : (b l : Bool) → (not b || l) ≡ true → b ≡ true → l ≡ true
+implied true l e h = e
+implied false l e h = absurd (cc)
+
+implies : (b l : Bool) → (b ≡ true → l ≡ true) → (not b || l) ≡ true
+implies true l h = h refl
+implies false l h = refl
+
+pub optimal_decides : (q : QuestionValue) (f : FrontierValue) (x : Candidate) → Decides (is_optimal q f x) (AllBetterRefuted q f x)
+optimal_decides q f x = (one_way, back)
+  where
+    test : Candidate → Bool
+    test y = not (is_better y x) || is_listed f.refuted y
+
+    one_way : is_optimal q f x ≡ true → AllBetterRefuted q f x
+    one_way e y w b =
+        let passes = All-contains (λ (z : Candidate). (not (is_better z x) || is_listed f.refuted z) ≡ true) (candidates_within q) y (each_of (λ z. not (is_better z x) || is_listed f.refuted z) (candidates_within q) e) (listed_contains (candidates_within q) y (within_listed q y w)) in
+        listed_contains f.refuted y (implied (is_better y x) (is_listed f.refuted y) passes ((decides_better y x).1 b))
+
+    back : AllBetterRefuted q f x → is_optimal q f x ≡ true
+    back h = of_each (λ z. not (is_better z x) || is_listed f.refuted z) (candidates_within q)
+        (λ k d low. let w = each_within q k d low in implies _ _ (λ b. contains_listed f.refuted _ (h _ w ((decides_better _ x).0 b))))
+
+pub mark_by : (b : Bool) (m : Mark) → is_mark b m ≡ true → ((m ≡ mark.Optimal) ↔ (b ≡ true)) × ((m ≡ mark.Optimal) ⊎ (m ≡ mark.Open))
+mark_by true mark.Optimal e = ((λ h. refl, λ h. refl), inl refl)
+mark_by true mark.Open e = absurd (cc)
+mark_by true (mark.Joined n) e = absurd (cc)
+mark_by false mark.Optimal e = absurd (cc)
+mark_by false mark.Open e = ((λ h. absurd (cc), λ h. absurd (cc)), inr refl)
+mark_by false (mark.Joined n) e = absurd (cc)
+
+pub by_mark : (b : Bool) (m : Mark) → (m ≡ mark.Optimal) ↔ (b ≡ true) → (m ≡ mark.Optimal) ⊎ (m ≡ mark.Open) → is_mark b m ≡ true
+by_mark true mark.Optimal h o = refl
+by_mark true mark.Open h o = absurd (let e = h.1 refl in cc)
+by_mark true (mark.Joined n) h o = absurd (let e = h.1 refl in cc)
+by_mark false mark.Optimal h o = absurd (let e = h.0 refl in cc)
+by_mark false mark.Open h o = refl
+by_mark false (mark.Joined n) h (inl e) = absurd (cc)
+by_mark false (mark.Joined n) h (inr e) = absurd (cc)

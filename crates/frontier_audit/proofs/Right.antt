@@ -1,0 +1,146 @@
+-- An audit finds nothing to deny exactly where the frontiers, the files and the joined points are right.
+use Rattle.std.proofs.Common.{◌≡◌, true, List, [], ◌∷◌, map, get_or, Ok, refl, sym, ap, ◌∙◌, subst}
+use Rattle.std.specs.Prelude.{◌≢◌, All, Contains}
+use Rattle.std.proofs.lemmas.List.Elements.{All-nil, All-cons, All-head, All-tail, All-contains, All-contains_itself}
+use Rattle.outer_ports.specs.declared.part.Part.{Part}
+use Rattle.outer_ports.specs.declared.part.Part.TheVariants as part
+use Rattle.outer_ports.specs.Files.{Files}
+use Rattle.schedule.specs.Sends.{IsInRange}
+use Rattle.collective_spec.specs.Collectives.{chunks_of}
+use Rattle.collective_spec.specs.declared.kind.Kind.{Kind}
+use Rattle.collective_spec.specs.declared.kind.Kind.TheVariants as kind
+use Rattle.candidate_order.specs.Frontiers.{QuestionValue, FrontierValue, IsSolvable, IsPoint, RightFrontier}
+use Rattle.allreduce_join.specs.Joins.{Joins, pairs_of}
+use Rattle.frontier_report.specs.Reports.{ReportValue, IsReport, IsFrontier, parts_of, kind_of, question_of}
+use Rattle.frontier_audit.specs.declared.verdict.AuditVerdict.TheVariants.{Verified}
+use Rattle.frontier_audit.specs.declared.verdict.Reason.TheVariants.{ScheduleWrong, MarkWrong, CandidateMissing}
+use Rattle.frontier_audit.specs.Shelves.{PartRight, ShelfRight}
+use Rattle.frontier_audit.specs.Candidates.{candidates_within}
+use Rattle.frontier_audit.specs.Solutions.{is_solution, is_optimal, is_mark}
+use Rattle.frontier_audit.specs.Joining.{joins_checked, joined_checked, is_reduce, is_gather, points_of}
+use Rattle.frontier_audit.specs.Auditing.{is_answered, audit_of}
+use Rattle.frontier_audit.proofs.Passing.{refused_not, not_refused, in_part_ok, ok_in_part}
+use Rattle.frontier_audit.proofs.Beside.{passes_refutation, passes_log}
+use Rattle.frontier_audit.proofs.Audited.{Passes, PartPasses, report_passes, report_passed}
+use Rattle.frontier_audit.proofs.Tried.{listed_contains, within_listed, each_within}
+use Rattle.frontier_audit.proofs.Marked.{answered_decides, optimal_decides, mark_by, by_mark}
+use Rattle.frontier_audit.proofs.Solved.{solved_by, by_solution}
+use Rattle.frontier_audit.proofs.Joined.{IsJoinable, are_joined, joined_are}
+
+-- ---- a part
+
+checked_point : (part : Part) (q : QuestionValue) (files : Files) (f : FrontierValue) → IsFrontier q f → Passes part q files f → All (IsPoint q f.refuted) f.points
+checked_point part q files f ok p k d low =
+    let x = get_or f.points k d in
+    let point = ok.points k d low in
+    let marked = mark_by (is_optimal q f x.candidate) x.mark (refused_not (is_mark (is_optimal q f x.candidate) x.mark) (MarkWrong, x.candidate) (p.marks k d low)) in
+    let decides = optimal_decides q f x.candidate in
+    record {
+      within = point.within;
+      solves = solved_by q x point.has (refused_not (is_solution q x) (ScheduleWrong, x.candidate) (p.points k d low));
+      optimal = (λ e. decides.0 (marked.0.0 e), λ h. marked.0.1 (decides.1 h));
+      or_open = marked.1;
+    }
+
+pub right_part : (part : Part) (q : QuestionValue) (files : Files) (f : FrontierValue) → q.collective.kind ≢ kind.Allreduce → IsFrontier q f → Passes part q files f → All (λ x. IsSolvable q x → ⊥) f.refuted → RightFrontier q f
+right_part part q files f single ok p unsolvable = record {
+  single = single;
+  points = checked_point part q files f ok p;
+  refuted = unsolvable;
+  unknown = ok.unknown;
+  whole = λ x w.
+      let at = listed_contains (candidates_within q) x (within_listed q x w) in
+      let passes = All-contains (λ y. is_answered f y ≡ true) (candidates_within q) x (λ k d low. refused_not (is_answered f (get_or (candidates_within q) k d)) (CandidateMissing, get_or (candidates_within q) k d) (p.candidates k d low)) at in
+      (answered_decides f x).0 passes;
+}
+
+pub part_passes : (part : Part) (q : QuestionValue) (files : Files) (f : FrontierValue) → RightFrontier q f → PartRight part q f files → Passes part q files f
+part_passes part q files f right shelf = record {
+  points = λ k d low. let p = right.points k d low in not_refused (is_solution q (get_or f.points k d)) (ScheduleWrong, (get_or f.points k d).candidate) (by_solution q (get_or f.points k d) p.solves);
+  refuted = λ k d low. passes_refutation part q files (get_or f.refuted k d) (shelf.refuted k d low);
+  unknown = λ k d low. let u = right.unknown k d low in passes_log part q files (get_or f.unknown k d) u.conflicts (shelf.unknown k d low);
+  candidates = λ k d low.
+      let x = get_or (candidates_within q) k d in
+      not_refused (is_answered f x) (CandidateMissing, x) ((answered_decides f x).1 (right.whole x (each_within q k d low)));
+  marks = λ k d low.
+      let x = get_or f.points k d in
+      let p = right.points k d low in
+      let decides = optimal_decides q f x.candidate in
+      not_refused (is_mark (is_optimal q f x.candidate) x.mark) (MarkWrong, x.candidate)
+      (by_mark (is_optimal q f x.candidate) x.mark (λ e. decides.1 (p.optimal.0 e), λ e. p.optimal.1 (decides.0 e)) p.or_open);
+}
+
+-- ---- no part is an allreduce
+
+apart : (k : Kind) → All (λ x. kind_of k x ≢ kind.Allreduce) (parts_of k)
+apart kind.Broadcast = All-cons (λ x. kind_of kind.Broadcast x ≢ kind.Allreduce) part.Whole [] (λ e. absurd (cc)) (All-nil (λ x. kind_of kind.Broadcast x ≢ kind.Allreduce))
+apart kind.Gather = All-cons (λ x. kind_of kind.Gather x ≢ kind.Allreduce) part.Whole [] (λ e. absurd (cc)) (All-nil (λ x. kind_of kind.Gather x ≢ kind.Allreduce))
+apart kind.Allgather = All-cons (λ x. kind_of kind.Allgather x ≢ kind.Allreduce) part.Whole [] (λ e. absurd (cc)) (All-nil (λ x. kind_of kind.Allgather x ≢ kind.Allreduce))
+apart kind.Scatter = All-cons (λ x. kind_of kind.Scatter x ≢ kind.Allreduce) part.Whole [] (λ e. absurd (cc)) (All-nil (λ x. kind_of kind.Scatter x ≢ kind.Allreduce))
+apart kind.Alltoall = All-cons (λ x. kind_of kind.Alltoall x ≢ kind.Allreduce) part.Whole [] (λ e. absurd (cc)) (All-nil (λ x. kind_of kind.Alltoall x ≢ kind.Allreduce))
+apart kind.Reduce = All-cons (λ x. kind_of kind.Reduce x ≢ kind.Allreduce) part.Whole [] (λ e. absurd (cc)) (All-nil (λ x. kind_of kind.Reduce x ≢ kind.Allreduce))
+apart kind.Reducescatter = All-cons (λ x. kind_of kind.Reducescatter x ≢ kind.Allreduce) part.Whole [] (λ e. absurd (cc)) (All-nil (λ x. kind_of kind.Reducescatter x ≢ kind.Allreduce))
+apart kind.Allreduce =
+    All-cons (λ x. kind_of kind.Allreduce x ≢ kind.Allreduce) part.Reduce (part.Gather ∷ []) (λ e. absurd (cc))
+    (All-cons (λ x. kind_of kind.Allreduce x ≢ kind.Allreduce) part.Gather [] (λ e. absurd (cc)) (All-nil (λ x. kind_of kind.Allreduce x ≢ kind.Allreduce)))
+
+of_mapped : {X Y : Type 0} (P : Y → Type 0) (f : X → Y) (xs : List X) → All P (map f xs) → All (λ x. P (f x)) xs
+of_mapped P f [] a = All-nil (λ x. P (f x))
+of_mapped P f (x ∷ xs) a = All-cons (λ y. P (f y)) x xs (All-head P (f x) (map f xs) a) (of_mapped P f xs (All-tail P (f x) (map f xs) a))
+
+pub each_apart : (r : ReportValue) → IsReport r → All (λ x. kind_of r.words.collective.kind x.0 ≢ kind.Allreduce) r.frontiers
+each_apart r ok =
+    of_mapped (λ x. kind_of r.words.collective.kind x ≢ kind.Allreduce) (λ x. x.0) r.frontiers
+    (subst (λ parts. All (λ x. kind_of r.words.collective.kind x ≢ kind.Allreduce) parts) (sym ok.parts) (apart r.words.collective.kind))
+
+-- ---- a report
+
+abbrev question : ReportValue → Part → QuestionValue
+question r part = question_of r.words r.topology part
+
+pub verified_right : (r : ReportValue) (files : Files) → IsReport r → audit_of r files ≡ Verified → (part : Part) (f : FrontierValue) → Contains r.frontiers (part, f) → All (λ x. IsSolvable (question r part) x → ⊥) f.refuted → RightFrontier (question r part) f
+verified_right r files ok e part f at unsolvable =
+    let passes = All-contains (PartPasses r files) r.frontiers (part, f) (report_passes r files e).parts at in
+    let frontier = All-contains (λ x. IsFrontier (question_of r.words r.topology x.0) x.1) r.frontiers (part, f) ok.frontiers at in
+    let single = All-contains (λ x. kind_of r.words.collective.kind x.0 ≢ kind.Allreduce) r.frontiers (part, f) (each_apart r ok) at in
+    right_part part (question r part) files f single frontier passes unsolvable
+
+joinable : (r : ReportValue) → IsReport r → r.words.collective.kind ≡ kind.Allreduce → All (IsJoinable r.topology.topology) r.joined
+joinable r ok e k d low =
+    let p = ok.joined k d low in
+    let x = get_or r.joined k d in
+    record { schedule = p.has.schedule; in_range = subst (λ w. IsInRange (chunks_of w r.topology.topology.nodes x.candidate.c) r.topology.topology.nodes x.schedule) e p.has.in_range }
+
+abbrev JoinsOf : ReportValue → Type 0
+JoinsOf r = Joins r.topology.topology (points_of is_reduce r.frontiers) (points_of is_gather r.frontiers) r.joined
+
+only_then : (k : Kind) (r : ReportValue) → k ≡ kind.Allreduce → joined_checked k r ≡ Ok tt → joins_checked r.topology.topology (pairs_of (points_of is_reduce r.frontiers) (points_of is_gather r.frontiers)) r.joined ≡ Ok tt
+only_then k r same e =
+    in_part_ok part.Joined (joins_checked r.topology.topology (pairs_of (points_of is_reduce r.frontiers) (points_of is_gather r.frontiers)) r.joined) (ap (λ x. joined_checked x r) (sym same) ∙ e)
+
+pub verified_joins : (r : ReportValue) (files : Files) → IsReport r → audit_of r files ≡ Verified → r.words.collective.kind ≡ kind.Allreduce → JoinsOf r
+verified_joins r files ok e same =
+    let pairs = pairs_of (points_of is_reduce r.frontiers) (points_of is_gather r.frontiers) in
+    let are = are_joined r.topology.topology pairs r.joined (joinable r ok same) (only_then r.words.collective.kind r same (report_passes r files e).joined) in
+    record { in_order = are.in_order; summed = are.summed }
+
+joined_passes : (k : Kind) (r : ReportValue) → (k ≡ kind.Allreduce → joins_checked r.topology.topology (pairs_of (points_of is_reduce r.frontiers) (points_of is_gather r.frontiers)) r.joined ≡ Ok tt) → joined_checked k r ≡ Ok tt
+joined_passes kind.Broadcast r h = refl
+joined_passes kind.Gather r h = refl
+joined_passes kind.Allgather r h = refl
+joined_passes kind.Scatter r h = refl
+joined_passes kind.Alltoall r h = refl
+joined_passes kind.Reduce r h = refl
+joined_passes kind.Reducescatter r h = refl
+joined_passes kind.Allreduce r h = ok_in_part part.Joined (joins_checked r.topology.topology (pairs_of (points_of is_reduce r.frontiers) (points_of is_gather r.frontiers)) r.joined) (h refl)
+
+pub right_verified : (r : ReportValue) (files : Files) → IsReport r → ShelfRight r files → ((part : Part) (f : FrontierValue) → Contains r.frontiers (part, f) → RightFrontier (question r part) f) → (r.words.collective.kind ≡ kind.Allreduce → JoinsOf r) → audit_of r files ≡ Verified
+right_verified r files ok shelf right joins =
+    report_passed r files (record {
+      parts = λ k d low.
+          let x = get_or r.frontiers k d in
+          part_passes x.0 (question r x.0) files x.1 (right x.0 x.1 (All-contains_itself r.frontiers k d low)) (shelf k d low);
+      joined = joined_passes r.words.collective.kind r (λ same.
+          let j = joins same in
+          joined_are r.topology.topology (pairs_of (points_of is_reduce r.frontiers) (points_of is_gather r.frontiers)) r.joined (joinable r ok same) (record { in_order = j.in_order; summed = j.summed }));
+    })

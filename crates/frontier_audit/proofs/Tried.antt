@@ -1,0 +1,137 @@
+-- The candidates of a search are just those within the limits.
+use Rattle.std.proofs.Common.{◌≡◌, ℕ, zero, suc, ◌+◌, ◌<◌, ◌≤◌, Bool, true, false, List, [], ◌∷◌, map, refl, sym, ap, ◌∙◌, subst, ⊎_elim, arith}
+use Rattle.std.specs.Prelude.{◌&&◌, ◌||◌, ◌==◌, ◌↔◌, if◌then◌else◌, flat_map, filter, nat_le, All, Contains}
+use Rattle.std.specs.List.{list_any, range_with_len}
+use Rattle.std.proofs.lemmas.Bool.{and_parts, eqb-true, eq-eqb, cases_eq, or_left, or_right, leb-true}
+use Rattle.std.proofs.lemmas.List.Elements.{All-nil, All-cons, All-head, All-tail, All-contains}
+use Rattle.std.proofs.lemmas.List.Folds.{list_any-append, list_any_at, Any-from_list_any}
+use Rattle.collective_spec.specs.Kinds.{allows}
+use Rattle.candidate_order.specs.declared.candidate.Candidate.{Candidate}
+use Rattle.candidate_order.specs.Listed.{candidate_at}
+use Rattle.candidate_order.specs.Frontiers.{QuestionValue, IsWithin}
+use Rattle.frontier_report.specs.Tests.{is_before}
+use Rattle.round_encoding.proofs.Everywhere.{in_map, in_flat, From, in_range}
+use Rattle.frontier_audit.specs.Candidates.{same_candidate, is_listed, counts_of, candidates_of_step, put_in_order, in_search_order, candidates_within}
+use Rattle.frontier_audit.proofs.Proved.{both_true}
+
+-- ---- the test of the same candidate
+
+pub same_is : (a b : Candidate) → same_candidate a b ≡ true → a ≡ b
+same_is a b e =
+    let outer = and_parts (a.s == b.s && a.r == b.r) (a.c == b.c) e in
+    let inner = and_parts (a.s == b.s) (a.r == b.r) outer.0 in
+    let s : a.s ≡ b.s = eqb-true a.s b.s inner.0 in
+    let r : a.r ≡ b.r = eqb-true a.r b.r inner.1 in
+    let c : a.c ≡ b.c = eqb-true a.c b.c outer.1 in
+    ap (λ n. candidate_at n (a.r, a.c)) s ∙ (ap (λ n. candidate_at b.s (n, a.c)) r ∙ ap (λ n. candidate_at b.s (b.r, n)) c)
+
+pub same_itself : (a : Candidate) → same_candidate a a ≡ true
+same_itself a = both_true (a.s == a.s && a.r == a.r) (a.c == a.c) (both_true (a.s == a.s) (a.r == a.r) (eq-eqb a.s a.s refl) (eq-eqb a.r a.r refl)) (eq-eqb a.c a.c refl)
+
+pub listed_contains : (xs : List Candidate) (x : Candidate) → is_listed xs x ≡ true → Contains xs x
+listed_contains xs x e =
+    let (k, y, low, at, same) = Any-from_list_any (same_candidate x) xs e in
+    let is : x ≡ y = same_is x y same in
+    subst (λ z. Contains xs z) (sym is) (k, low, at)
+
+pub contains_listed : (xs : List Candidate) (x : Candidate) → Contains xs x → is_listed xs x ≡ true
+contains_listed xs x (k, low, at) = list_any_at (same_candidate x) xs k x low (ap (same_candidate x) at ∙ same_itself x)
+
+-- ---- a search's order leaves the same candidates
+
+swapped : (a b c : Bool) → (a || (b || c)) ≡ (b || (a || c))
+swapped true true c = refl
+swapped true false c = refl
+swapped false b c = refl
+
+any_put : (p : Candidate → Bool) (x : Candidate) (ys : List Candidate) → list_any p (put_in_order x ys) ≡ (p x || list_any p ys)
+any_put p x [] = refl
+any_put p x (y ∷ ys) = chosen (is_before x y) (any_put p x ys)
+  where
+    chosen : (b : Bool) → list_any p (put_in_order x ys) ≡ (p x || list_any p ys) → list_any p (if b then x ∷ y ∷ ys else y ∷ put_in_order x ys) ≡ (p x || (p y || list_any p ys))
+    chosen true later = refl
+    chosen false later = ap (λ rest. p y || rest) later ∙ swapped (p y) (p x) (list_any p ys)
+
+any_ordered : (p : Candidate → Bool) (xs : List Candidate) → list_any p (in_search_order xs) ≡ list_any p xs
+any_ordered p [] = refl
+any_ordered p (x ∷ xs) = any_put p x (in_search_order xs) ∙ ap (λ rest. p x || rest) (any_ordered p xs)
+
+all_put : (P : Candidate → Type 0) (x : Candidate) (ys : List Candidate) → P x → All P ys → All P (put_in_order x ys)
+all_put P x [] h a = All-cons P x [] h (All-nil P)
+all_put P x (y ∷ ys) h a = chosen (is_before x y) (all_put P x ys h (All-tail P y ys a))
+  where
+    chosen : (b : Bool) → All P (put_in_order x ys) → All P (if b then x ∷ y ∷ ys else y ∷ put_in_order x ys)
+    chosen true later = All-cons P x (y ∷ ys) h a
+    chosen false later = All-cons P y (put_in_order x ys) (All-head P y ys a) later
+
+all_ordered : (P : Candidate → Type 0) (xs : List Candidate) → All P xs → All P (in_search_order xs)
+all_ordered P [] a = All-nil P
+all_ordered P (x ∷ xs) a = all_put P x (in_search_order xs) (All-head P x xs a) (all_ordered P xs (All-tail P x xs a))
+
+-- ---- each of them is within the limits
+
+all_passing : (P : ℕ → Type 0) (p : ℕ → Bool) (cs : List ℕ) → All P cs → All (λ c. P c × (p c ≡ true)) (filter p cs)
+all_passing P p [] a = All-nil (λ c. P c × (p c ≡ true))
+all_passing P p (c ∷ cs) a = chosen (p c) refl (all_passing P p cs (All-tail P c cs a))
+  where
+    chosen : (b : Bool) → b ≡ p c → All (λ n. P n × (p n ≡ true)) (filter p cs) → All (λ n. P n × (p n ≡ true)) (if b then c ∷ filter p cs else filter p cs)
+    chosen true e rest = All-cons (λ n. P n × (p n ≡ true)) c (filter p cs) (All-head P c cs a, sym e) rest
+    chosen false e rest = rest
+
+abbrev IsCountOf : QuestionValue → ℕ → Type 0
+IsCountOf q c = From 1 q.limits.max_c c × (allows q.collective.kind q.topology.nodes c ≡ true)
+
+counts_allowed : (q : QuestionValue) → All (IsCountOf q) (counts_of q)
+counts_allowed q = all_passing (From 1 q.limits.max_c) (allows q.collective.kind q.topology.nodes) (range_with_len 1 q.limits.max_c) (in_range 1 q.limits.max_c)
+
+step_within : (q : QuestionValue) (s : ℕ) → From 1 q.limits.max_s s → All (IsWithin q) (candidates_of_step q s)
+step_within q s step = in_flat (IsWithin q) (From s (q.limits.k + 1)) (λ r. map (λ c. candidate_at s (r, c)) (counts_of q)) (range_with_len s (q.limits.k + 1))
+    (λ r rounds. in_map (IsWithin q) (IsCountOf q) (λ c. candidate_at s (r, c)) (counts_of q)
+    (λ c count. record { some_steps = step.0; steps = omega (arith, step.1); all_rounds = rounds.0; rounds = omega (arith, rounds.1); chunks = omega (arith, count.0.1); allowed = count.1 }) (counts_allowed q)) (in_range s (q.limits.k + 1))
+
+pub each_within : (q : QuestionValue) → All (IsWithin q) (candidates_within q)
+each_within q = in_flat (IsWithin q) (From 1 q.limits.max_s) (λ s. in_search_order (candidates_of_step q s)) (range_with_len 1 q.limits.max_s)
+    (λ s step. all_ordered (IsWithin q) (candidates_of_step q s) (step_within q s step)) (in_range 1 q.limits.max_s)
+
+-- ---- and each within the limits is one of them
+
+any_of_range : {X : Type 0} (p : X → Bool) (f : ℕ → List X) (a n j : ℕ) → a ≤ j → j < a + n → list_any p (f j) ≡ true → list_any p (flat_map f (range_with_len a n)) ≡ true
+any_of_range p f a zero j low high h = absurd (omega (arith, low, high))
+any_of_range p f a (suc n) j low high h =
+    list_any-append p (f a) (flat_map f (range_with_len (a + 1) n))
+    ∙ ⊎_elim
+    (λ e. or_left (list_any p (f a)) (list_any p (flat_map f (range_with_len (a + 1) n))) (subst (λ k. list_any p (f k) ≡ true) (sym e) h))
+    (λ ne. or_right (list_any p (f a)) (list_any p (flat_map f (range_with_len (a + 1) n))) (any_of_range p f (a + 1) n j (omega (arith, low, ne)) (omega (arith, high)) h))
+    (cases_eq a j)
+
+any_passing : {X : Type 0} (p : X → Bool) (g : ℕ → X) (keep : ℕ → Bool) (a n j : ℕ) → a ≤ j → j < a + n → keep j ≡ true → p (g j) ≡ true → list_any p (map g (filter keep (range_with_len a n))) ≡ true
+any_passing p g keep a zero j low high k h = absurd (omega (arith, low, high))
+any_passing p g keep a (suc n) j low high k h = ⊎_elim
+    (λ (e : a ≡ j). first (keep a) (ap keep e ∙ k) (ap (λ i. p (g i)) e ∙ h))
+    (λ ne. later (keep a) (any_passing p g keep (a + 1) n j (omega (arith, low, ne)) (omega (arith, high)) k h))
+    (cases_eq a j)
+  where
+    others : List ℕ
+    others = filter keep (range_with_len (a + 1) n)
+
+    first : (b : Bool) → b ≡ true → p (g a) ≡ true → list_any p (map g (if b then a ∷ others else others)) ≡ true
+    first true e d = or_left (p (g a)) (list_any p (map g others)) d
+    first false e d = absurd (cc)
+
+    later : (b : Bool) → list_any p (map g others) ≡ true → list_any p (map g (if b then a ∷ others else others)) ≡ true
+    later true d = or_right (p (g a)) (list_any p (map g others)) d
+    later false d = d
+
+pub within_listed : (q : QuestionValue) (x : Candidate) → IsWithin q x → is_listed (candidates_within q) x ≡ true
+within_listed q x w =
+    let p : Candidate → Bool = same_candidate x in
+    any_of_range p (λ s. in_search_order (candidates_of_step q s)) 1 q.limits.max_s x.s w.some_steps (omega (arith, w.steps))
+    (any_ordered p (candidates_of_step q x.s)
+    ∙ any_of_range p (λ r. map (λ c. candidate_at x.s (r, c)) (counts_of q)) x.s (q.limits.k + 1) x.r w.all_rounds (omega (arith, w.rounds))
+    (any_passing p (λ c. candidate_at x.s (x.r, c)) (allows q.collective.kind q.topology.nodes) 1 q.limits.max_c x.c (some_chunks w.allowed) (omega (arith, w.chunks)) w.allowed (same_itself x)))
+  where
+    some_chunks : allows q.collective.kind q.topology.nodes x.c ≡ true → 1 ≤ x.c
+    some_chunks e = let parts = and_parts (nat_le 1 x.c) _ e in leb-true 1 x.c parts.0
+
+pub candidates_exactly : (q : QuestionValue) (x : Candidate) → Contains (candidates_within q) x ↔ IsWithin q x
+candidates_exactly q x = (λ at. All-contains (IsWithin q) (candidates_within q) x (each_within q) at, λ w. listed_contains (candidates_within q) x (within_listed q x w))
