@@ -1,5 +1,5 @@
 -- A word cut at its first `=`.
-use Rattle.std.proofs.Common.{◌≡◌, ◌≢◌, ◌==◌, ◌<◌, ◌+◌, ℕ, refl, true, false, List, [], ◌∷◌, length, get_or, Option, Some, None, arith, Bor}
+use Rattle.std.proofs.Common.{◌≡◌, ◌≢◌, ◌==◌, ◌<◌, ◌+◌, ℕ, refl, false, List, [], ◌∷◌, length, get_or, Option, Some, None, arith, Bor}
 use Rattle.std.specs.List.{list_any, before_first, after_first, position_or_len}
 use Rattle.std.specs.Option.{option_map}
 use Rattle.std.proofs.lemmas.Str.Pattern.{IsSplitOnceResult, split_once_first, split_parts}

@@ -1,5 +1,5 @@
 -- Words found among the names of values.
-use Rattle.std.proofs.Common.{◌≡◌, ◌∙◌, sym, refl, ℕ, Bool, true, false, cond, List, [], ◌∷◌, Option, Some, None, IfSome, find, bytes_eq, subst}
+use Rattle.std.proofs.Common.{◌≡◌, sym, refl, ℕ, true, false, cond, List, [], ◌∷◌, Option, Some, None, IfSome, bytes_eq, subst}
 use Rattle.std.specs.Cmp.Lexicographic.{bytes_decides}
 use Rattle.std.proofs.lemmas.Option.{none-some}
 use Rattle.collective_spec.specs.declared.kind.Kind.{Kind}

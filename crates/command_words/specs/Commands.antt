@@ -1,5 +1,5 @@
 -- The command of given values: the keys that it requires, and the checks that concern two keys. This project's own.
-use Rattle.std.specs.Prelude.{◌≡◌, ℕ, ◌≤◌, not, true, Option, Some, None, Result, Ok, Err, IfSome}
+use Rattle.std.specs.Prelude.{◌≡◌, ℕ, ◌≤◌, not, true, Option, Some, None, Result, Ok, IfSome}
 use Rattle.text_lines.specs.Check.{◌>>=◌, refuse, need}
 use Rattle.candidate_order.specs.Ranges.{IsLimits}
 use Rattle.collective_spec.specs.declared.kind.Kind.{Kind}

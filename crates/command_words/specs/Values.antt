@@ -1,8 +1,10 @@
 -- The values of the words, each in the table of its key. This project's own.
-use Rattle.std.specs.Prelude.{ℕ, ◌≤◌, ◌^◌, ◌-◌, Bool, List, Option, Some, IfSome, Result, Ok, Err, is_some, nat_lt}
+use Rattle.std.specs.Prelude.{ℕ, ◌≤◌, ◌^◌, ◌-◌, Bool, List, Some, IfSome, Result, Ok, is_some, nat_lt}
 use Rattle.text_lines.specs.Check.{◌>>=◌, refuse, need}
 use Rattle.text_lines.specs.Number.{number_up_to}
+use Rattle.collective_spec.specs.declared.kind.Kind.{Kind}
 use Rattle.collective_spec.specs.Kinds.{word_of}
+use Rattle.topology_text.specs.declared.family_kind.FamilyKind.{FamilyKind}
 use Rattle.topology_text.specs.Names.{name_of}
 use Rattle.command_words.specs.declared.fault.WordCode.{WordCode}
 use Rattle.command_words.specs.declared.fault.WordCode.TheVariants.{BadValue}
@@ -36,10 +38,18 @@ number_from least greatest text = do
 abbrev pub name_from : List ℕ → Result (List ℕ) WordCode
 name_from text = need (name_of text) BadValue
 
+-- a kind of collective
+abbrev pub collective_from : List ℕ → Result Kind WordCode
+collective_from text = need (named word_of collectives text) BadValue
+
+-- a kind of family
+abbrev pub kind_from : List ℕ → Result FamilyKind WordCode
+kind_from text = need (named family_word families text) BadValue
+
 -- the values with that of one more key, which stands in the word with this index
 abbrev pub with_value : Key → List ℕ → ℕ → Values → Result Values WordCode
 with_value key.Collective text word v = do
-  kind ← need (named word_of collectives text) BadValue
+  kind ← collective_from text
   Ok (record v { collective = Some kind })
 with_value key.K text word v = do
   k ← number_from 0 8 text
@@ -63,7 +73,7 @@ with_value key.Order text word v = do
   order ← number_from 0 (2 ^ 64 - 1) text
   Ok (record v { order = Some order })
 with_value key.Kind text word v = do
-  kind ← need (named family_word families text) BadValue
+  kind ← kind_from text
   Ok (record v { kind = Some kind })
 with_value key.Size text word v = do
   size ← number_from 1 16 text

@@ -1,8 +1,7 @@
 //! The values of the words.
 
 ghost use Rattle.std.specs.Prelude.{◌≡◌, ◌≤◌, ◌+◌, false, IfOk};
-ghost use Rattle.command_words.specs.Values.{AreProper, is_given, name_from, number_from, with_value};
-ghost use Rattle.command_words.specs.Tables.{collectives, families, family_word, named};
+ghost use Rattle.command_words.specs.Values.{AreProper, collective_from, is_given, kind_from, name_from, number_from, with_value};
 ghost use Rattle.command_words.specs.Counting.{count_of};
 
 use crate::command::RootWord;
@@ -56,6 +55,27 @@ fn number_from(least: u64, greatest: u64, text: &str) -> Result<u64, WordCode>
     }
 }
 
+/// The name that a value is.
+fn name_from(text: &str) -> Result<Name, WordCode>
+    ensures { result ≡ name_from text.now }
+{
+    Name::of_bytes(text.as_bytes()).ok_or(WordCode::BadValue)
+}
+
+/// The kind of collective that a value names.
+fn collective_from(text: &str) -> Result<Kind, WordCode>
+    ensures { result ≡ collective_from text.now }
+{
+    kind_of_word(text).ok_or(WordCode::BadValue)
+}
+
+/// The kind of family that a value names.
+fn kind_from(text: &str) -> Result<FamilyKind, WordCode>
+    ensures { result ≡ kind_from text.now }
+{
+    family_of_word(text).ok_or(WordCode::BadValue)
+}
+
 impl Values {
     /// Whether there is a value for the key.
     pub fn has(&self, key: Key) -> bool
@@ -86,9 +106,7 @@ impl Values {
     {
         let mut values = self;
         match key {
-            Key::Collective => values.collective = Some(kind_of_word(text).ok_or(
-                WordCode::BadValue,
-            )?),
+            Key::Collective => values.collective = Some(collective_from(text)?),
             Key::K => values.k = Some(number_from(0, 8, text)? as u8),
             Key::Steps => values.steps = Some(number_from(1, 8, text)? as u8),
             Key::Chunks => values.chunks = Some(number_from(1, 16, text)? as u8),
@@ -102,7 +120,7 @@ impl Values {
                 word,
             }),
             Key::Order => values.order = Some(number_from(0, u64::MAX, text)?),
-            Key::Kind => values.kind = Some(family_of_word(text).ok_or(WordCode::BadValue)?),
+            Key::Kind => values.kind = Some(kind_from(text)?),
             Key::Size => values.size = Some(SizeWord {
                 size: number_from(1, 16, text)? as u8,
                 word,
@@ -111,10 +129,4 @@ impl Values {
         }
         Ok(values)
     }
-}
-
-fn name_from(text: &str) -> Result<Name, WordCode>
-    ensures { result ≡ name_from text.now }
-{
-    Name::of_bytes(text.as_bytes()).ok_or(WordCode::BadValue)
 }
