@@ -1,3 +1,4 @@
 pub mod Naming
 pub mod Cutting
 pub mod Taking
+pub mod Refusing
