@@ -1,0 +1,5 @@
+pub mod FirstForm
+pub mod Fields
+pub mod Form
+pub mod Parts
+pub mod Inside
