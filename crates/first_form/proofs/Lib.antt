@@ -1,1 +1,12 @@
-
+pub mod CopyingKinds
+pub mod SendLines
+pub mod Tokens
+pub mod PointWords
+pub mod SendOrder
+pub mod SendWords
+pub mod SendsTaken
+pub mod WholeLines
+pub mod PointLines
+pub mod FormParts
+pub mod ReaderAnswers
+pub mod Room

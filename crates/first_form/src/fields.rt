@@ -1,8 +1,9 @@
 //! The tokens of a line, taken off its front one by one.
 
-ghost use Rattle.std.specs.Prelude.{◌≡◌, ◌≤◌, ◌<◌, ◌^◌, length, IfOk};
+ghost use Rattle.std.specs.Prelude.{◌≡◌, ◌≤◌, ◌<◌, ◌^◌, length, IfOk, not};
+ghost use Rattle.collective_spec.specs.Collectives.{reduces};
 ghost use Rattle.text_lines.specs.Check.{Gives};
-ghost use Rattle.first_form.specs.Fields.{fixed_word, keyed_kind, keyed_name, keyed_number, keyed_value, next_node, no_more, number_in};
+ghost use Rattle.first_form.specs.Fields.{copying_kind, fixed_word, keyed_kind, keyed_name, keyed_number, keyed_value, next_node, no_more, number_in};
 
 use crate::code::FormCode;
 use collective_spec::Kind;
@@ -60,14 +61,29 @@ pub fn keyed_number(
     number_in(value, least, greatest)
 }
 
+/// Whether such a collective copies, and doesn't add up.
+fn copies(kind: Kind) -> bool
+    ensures { result ≡ not (reduces kind) }
+{
+    !matches!(kind, Kind::Reduce | Kind::Reducescatter | Kind::Allreduce)
+}
+
 /// The kind with this name, if it copies.
 fn copying_kind(word: &[u8]) -> Option<Kind>
     ensures { result ≡ copying_kind word.now }
 {
-    let word = std::str::from_utf8(word).ok()?;
+    match std::str::from_utf8(word) {
+        Ok(word) => named_kind(word),
+        Err(_) => None,
+    }
+}
+
+fn named_kind(word: &str) -> Option<Kind>
+    ensures { result ≡ copying_kind word.now }
+{
     match Kind::of_word(word) {
-        Some(Kind::Reduce | Kind::Reducescatter | Kind::Allreduce) => None,
-        kind => kind,
+        Some(kind) if copies(kind) => Some(kind),
+        _ => None,
     }
 }
 

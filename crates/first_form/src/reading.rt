@@ -2,6 +2,7 @@
 
 ghost use Rattle.std.specs.Prelude.{◌≡◌, ◌≤◌, ◌<◌, ◌+◌, ◌^◌, false, Ok, length, IfOk, OnOk};
 ghost use Rattle.collective_spec.specs.Collectives.{reduces};
+ghost use Rattle.candidate_order.specs.Ranges.{IsLimits};
 ghost use Rattle.candidate_order.specs.Frontiers.{PointValue};
 ghost use Rattle.text_lines.specs.Check.{Gives, at_line};
 ghost use Rattle.topology_text.specs.Value.{IsNamed};
@@ -97,6 +98,7 @@ fn point_part(
     requires room { lines.old.place.number + length lines.old.place.rows + 4 < 2 ^ 32 }
     requires few { length names.now.keys ≤ 16 }
     requires some { 1 ≤ bounds.now.nodes }
+    requires limits { IsLimits bounds.now.limits }
     ensures read { Gives (λ point. ((point.candidate, point.schedule), lines.new.place)) result (point_at bounds.now names.now.keys lines.old.place) }
     ensures text { lines.new.text ≡ lines.old.text }
     ensures moved { OnOk result (lines.new.place.number + length lines.new.place.rows ≤ lines.old.place.number + length lines.old.place.rows + 2) }
