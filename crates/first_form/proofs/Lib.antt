@@ -1,12 +1,15 @@
 pub mod CopyingKinds
-pub mod SendLines
 pub mod Tokens
+pub mod AskedWords
 pub mod PointWords
+pub mod SendLines
 pub mod SendOrder
 pub mod SendWords
 pub mod SendsTaken
 pub mod WholeLines
 pub mod PointLines
 pub mod FormParts
+pub mod ReportEnd
+pub mod ReportLaws
 pub mod ReaderAnswers
 pub mod Room
