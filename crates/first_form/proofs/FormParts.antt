@@ -1,5 +1,5 @@
 -- A report of the first form, made of its parts and taken apart.
-use Rattle.std.proofs.Common.{◌≡◌, ℕ, ◌<◌, true, false, List, [], ◌∷◌, length, ◌⊎◌, inl, inr, refl, sym, ap, ◌∙◌, subst, arith}
+use Rattle.std.proofs.Common.{◌≡◌, ℕ, ◌<◌, ◌≤◌, true, false, IsTrue, List, [], ◌∷◌, length, get_or, ◌⊎◌, inl, inr, refl, sym, ap, ◌∙◌, subst, arith}
 use Rattle.std.specs.List.{All, AllPairs}
 use Rattle.std.proofs.lemmas.List.Elements.{All-nil, All-push, All-head}
 use Rattle.outer_ports.specs.declared.part.Part.{Part}
@@ -7,6 +7,7 @@ use Rattle.outer_ports.specs.declared.part.Part.TheVariants.{Whole, Joined}
 use Rattle.schedule.specs.Sends.{ScheduleValue, IsInRange}
 use Rattle.collective_spec.specs.declared.kind.Kind.{Kind}
 use Rattle.collective_spec.specs.declared.kind.Kind.TheVariants as kind
+use Rattle.collective_spec.specs.Kinds.{allows}
 use Rattle.collective_spec.specs.Collectives.{chunks_of, reduces}
 use Rattle.candidate_order.specs.declared.candidate.Candidate.{Candidate}
 use Rattle.candidate_order.specs.declared.mark.Mark.TheVariants.{Optimal}
@@ -118,3 +119,31 @@ form_parts r p form =
         in_range = subst P (sym named.as_many) ok.has.in_range;
       };
     }
+
+-- ---- what callers ask of it
+
+pub form_root : (r : ReportValue) (p : PointValue) → IsFirstForm r p → r.words.collective.root < r.topology.topology.nodes
+form_root r p form =
+    let P : ℕ → Type 0 = λ n. r.words.collective.root < n in
+    subst P form.report.topology.as_many form.report.words.root
+
+pub form_count : (r : ReportValue) (p : PointValue) → IsFirstForm r p → p.candidate.c ≤ 16
+form_count r p form =
+    let within = (point_within r p form).within.chunks in
+    let most = form.report.words.limits.chunks in
+    omega arith
+
+pub form_allowed : (r : ReportValue) (p : PointValue) → IsFirstForm r p → IsTrue (allows r.words.collective.kind r.topology.topology.nodes p.candidate.c)
+form_allowed r p form = (point_within r p form).within.allowed
+
+pub form_in_range : (r : ReportValue) (p : PointValue) → IsFirstForm r p → IsInRange (chunks_of r.words.collective.kind r.topology.topology.nodes p.candidate.c) r.topology.topology.nodes p.schedule
+form_in_range r p form = (point_within r p form).has.in_range
+
+-- the first point of the first part
+abbrev pub first_point : PointValue → List (Part × FrontierValue) → PointValue
+first_point p [] = p
+first_point p (x ∷ xs) = get_or x.1.points 0 p
+
+-- a report has one such point
+pub same_point : (r : ReportValue) (p q : PointValue) → IsFirstForm r p → IsFirstForm r q → p ≡ q
+same_point r p q first second = ap (first_point p) (sym first.frontiers ∙ second.frontiers)

@@ -13,3 +13,4 @@ pub mod ReportEnd
 pub mod ReportLaws
 pub mod ReaderAnswers
 pub mod Room
+pub mod FormLaws

@@ -3,3 +3,4 @@ pub mod Fields
 pub mod Form
 pub mod Parts
 pub mod Inside
+pub mod Rows

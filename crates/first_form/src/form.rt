@@ -61,16 +61,22 @@ impl FirstForm {
         &self.topology
     }
 
-    /// The collective of the report.
+    /// The collective of the report, with its root.
+    #[tactic(auto, using(crate::proofs::FormParts::form_root))]
     pub fn collective(&self) -> Collective
-        ensures { result ≡ self.now.words.collective }
+        ensures collective { result ≡ self.now.words.collective }
+        ensures copies { reduces result.kind ≡ false }
+        ensures root { result.root < self.now.topology.topology.nodes }
     {
         self.collective
     }
 
     /// The chunk count of the point, and its schedule.
     pub fn point(&self) -> (u8, &Schedule)
-        ensures { HasPoint self.now result.0 result.1.now }
+        ensures point { HasPoint self.now result.0 result.1.now }
+        ensures count { result.0 ≤ 16 }
+        ensures allowed { IsTrue (allows self.now.words.collective.kind self.now.topology.topology.nodes result.0) }
+        ensures in_range { IsInRange (chunks_of self.now.words.collective.kind self.now.topology.topology.nodes result.0) self.now.topology.topology.nodes result.1.now }
     {
         (self.point.candidate.c, &self.point.schedule)
     }
