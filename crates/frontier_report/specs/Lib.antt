@@ -9,3 +9,4 @@ pub mod Asked
 pub mod Points
 pub mod Reading
 pub mod First
+pub mod Numbered

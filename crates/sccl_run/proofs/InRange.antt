@@ -1,27 +1,32 @@
 -- What a replay names is there to be named.
-use Rattle.std.proofs.Common.{◌≡◌, ℕ, zero, suc, ◌+◌, ◌<◌, Bool, true, false, if◌then◌else◌, List, [], ◌∷◌, length, filter, find, not, All, get_or, Option, None, Some, IfSome, refl, sym, ap, ◌∙◌}
+use Rattle.std.proofs.Common.{◌≡◌, ℕ, zero, suc, ◌+◌, ◌<◌, Bool, true, false, if◌then◌else◌, List, [], ◌∷◌, length, filter, find, not, All, get_or, Option, None, Some, IfSome, ltb, ◌&&◌, refl, sym, ap, subst, ◌∙◌}
 use Rattle.std.specs.List.{AllByRecursion, range_with_len}
+use Rattle.std.proofs.lemmas.Bool.{and_parts, ltb-true}
 use Rattle.std.proofs.lemmas.List.Elements.{All-map, All-from_recursion, recursion_from_All}
 use Rattle.schedule.specs.declared.hop.Hop.{Hop}
 use Rattle.schedule.specs.declared.verdict.Verdict.{Verdict}
 use Rattle.schedule.specs.Links.{TopologyValue, is_usable}
-use Rattle.schedule.specs.Sends.{ScheduleValue, IsInRange, link_of}
+use Rattle.schedule.specs.Sends.{ScheduleValue, IsInRange, is_hop_below, link_of}
 use Rattle.schedule.specs.Placed.{PlacementValue, holds, all_pairs}
 use Rattle.schedule.specs.Running.{after, run_of}
 use Rattle.schedule.specs.Judging.{judged, verdict_of, first_unlinked, first_overfull, first_lacking}
 use Rattle.schedule.proofs.Placing.{IsBelow, all_below}
 use Rattle.collective_spec.specs.declared.instance.Instance.{Instance}
-use Rattle.collective_spec.specs.Collectives.{instance_of}
+use Rattle.collective_spec.specs.declared.collective.Collective.{Collective}
+use Rattle.collective_spec.specs.Collectives.{instance_of, ends_of, chunks_of}
 use Rattle.collective_spec.specs.declared.layout.Layout.{Layout}
-use Rattle.collective_spec.specs.declared.layout.Layout.TheVariants as layout
 use Rattle.topology_text.specs.Value.{NamedTopologyValue}
-use Rattle.sccl_run.specs.FirstForm.{point}
 use Rattle.sccl_run.specs.Replay.{replay_text}
-use Rattle.sccl_run.specs.Run.{broadcast, point_replay, replay_of}
+use Rattle.sccl_run.specs.Run.{point_replay}
 use Rattle.collective_spec.specs.Layouts.{laid_out, stands}
-use Rattle.sccl_run.specs.Reports.{PointValue, ReportValue, IsFirstForm}
 use Rattle.sccl_run.specs.Range.{IsFor, IsVerdictFor}
-use Rattle.sccl_run.proofs.SendWords.{send_in}
+
+-- the nodes of a send are below the number of nodes
+send_in : (chunks nodes : ℕ) (h : Hop) → is_hop_below chunks nodes h ≡ true → (h.from < nodes) × (h.to < nodes)
+send_in chunks nodes h e =
+    let (chunk, ends) = and_parts (ltb h.chunk chunks) (ltb h.from nodes && ltb h.to nodes) e in
+    let (from, to) = and_parts (ltb h.from nodes) (ltb h.to nodes) ends in
+    (ltb-true h.from nodes from, ltb-true h.to nodes to)
 
 pub after_nodes : (pre : PlacementValue) (s : ScheduleValue) (n : ℕ) → (after pre s n).nodes ≡ pre.nodes
 after_nodes pre s zero = refl
@@ -51,35 +56,26 @@ verdict_is_for t pre last chunks n s in_range =
     let post : PlacementValue = laid_out last chunks n in
     let within : Hop → Type 0 = λ h. (h.from < n) × (h.to < n) in
     let below : ℕ × ℕ → Type 0 = λ pair. pair.1 < n in
-    let sends : AllByRecursion within s.sends = recursion_from_All within s.sends (λ k d at. let ends = send_in chunks n (get_or s.sends k d) (in_range k d at) in (ends.from, ends.to)) in
+    let sends : AllByRecursion within s.sends = recursion_from_All within s.sends (λ k d at. send_in chunks n (get_or s.sends k d) (in_range k d at)) in
     let pairs : AllByRecursion below post.pairs = filter_each below (stands last n) (all_pairs chunks n) (recursion_from_All below (all_pairs chunks n) (λ k d at. (All-from_recursion (IsBelow chunks n) (all_pairs chunks n) (all_below chunks n) k d at).1)) in
     judged_for t s n (first_unlinked t s) (first_overfull t s) (first_lacking pre post s)
     (find_each within (λ h. not (is_usable t (link_of h))) s.sends sends)
     (find_each below (λ pair. not (holds (after pre s (length s.rounds)) pair)) post.pairs pairs)
 
--- the one point of a report
-pub same_point : (r : ReportValue) (p q : PointValue) → IsFirstForm r p → IsFirstForm r q → p ≡ q
-same_point r p q first second = let e : p ∷ [] ≡ q ∷ [] = sym first.points ∙ second.points in cc
+-- ---- the parts of a replay, over the instance of a collective
 
--- ---- the parts of a replay
+pub nodes_are : (instance : Instance) (pre : PlacementValue) (collective : Collective) (nodes c n : ℕ) → pre ≡ instance.pre → instance ≡ instance_of collective nodes c → nodes ≡ n → pre.nodes ≡ n
+nodes_are instance pre collective nodes c n e i m = ap (λ (p : PlacementValue). p.nodes) e ∙ ap (λ (x : Instance). x.pre.nodes) i ∙ m
 
-pub nodes_are : (instance : Instance) (pre : PlacementValue) (nodes c n : ℕ) → pre ≡ instance.pre → instance ≡ instance_of (broadcast 0) nodes c → nodes ≡ n → pre.nodes ≡ n
-nodes_are instance pre nodes c n e i m = ap (λ (p : PlacementValue). p.nodes) e ∙ ap (λ (x : Instance). x.pre.nodes) i ∙ m
+pub verdict_for : (t : TopologyValue) (instance : Instance) (pre post : PlacementValue) (collective : Collective) (nodes c n : ℕ) (s : ScheduleValue) (v : Verdict) → v ≡ verdict_of t pre post s → post ≡ instance.post → instance ≡ instance_of collective nodes c → nodes ≡ n → IsInRange (chunks_of collective.kind nodes c) nodes s → IsVerdictFor n v
+verdict_for t instance pre post collective nodes c n s v e p i m in_range =
+    let last = (ends_of collective).1 in
+    let whole : post ≡ laid_out last (chunks_of collective.kind n c) n = p ∙ ap (λ (x : Instance). x.post) i ∙ ap (λ k. laid_out last (chunks_of collective.kind k c) k) m in
+    let below : IsInRange (chunks_of collective.kind n c) n s = subst (λ k. IsInRange (chunks_of collective.kind k c) k s) m in_range in
+    rw (e, whole) (verdict_is_for t pre last (chunks_of collective.kind n c) n s below)
 
-pub verdict_for : (t : TopologyValue) (instance : Instance) (pre post : PlacementValue) (nodes c n : ℕ) (s : ScheduleValue) (v : Verdict) → v ≡ verdict_of t pre post s → post ≡ instance.post → instance ≡ instance_of (broadcast 0) nodes c → nodes ≡ n → IsInRange c n s → IsVerdictFor n v
-verdict_for t instance pre post nodes c n s v e p i m in_range =
-    let whole : post ≡ laid_out layout.All c n = p ∙ ap (λ (x : Instance). x.post) i ∙ ap (laid_out layout.All c) m in
-    rw (e, whole) (verdict_is_for t pre layout.All c n s in_range)
-
-pub replay_is_point : (t : NamedTopologyValue) (topology : TopologyValue) (instance : Instance) (pre post : PlacementValue) (nodes c : ℕ) (s : ScheduleValue) (names : List (List ℕ)) (run : List PlacementValue) (v : Verdict) → names ≡ t.names → topology ≡ t.topology → run ≡ run_of pre s → v ≡ verdict_of topology pre post s → pre ≡ instance.pre → post ≡ instance.post → instance ≡ instance_of (broadcast 0) nodes c → nodes ≡ length t.names → replay_text 1 names run v ≡ point_replay t (broadcast 0) c s
-replay_is_point t topology instance pre post nodes c s names run v n o r e p q i m =
-    let first : pre ≡ (instance_of (broadcast 0) (length t.names) c).pre = p ∙ ap (λ (x : Instance). x.pre) (i ∙ ap (λ k. instance_of (broadcast 0) k c) m) in
-    let last : post ≡ (instance_of (broadcast 0) (length t.names) c).post = q ∙ ap (λ (x : Instance). x.post) (i ∙ ap (λ k. instance_of (broadcast 0) k c) m) in
+pub replay_is_point : (t : NamedTopologyValue) (topology : TopologyValue) (instance : Instance) (pre post : PlacementValue) (collective : Collective) (nodes c : ℕ) (s : ScheduleValue) (names : List (List ℕ)) (run : List PlacementValue) (v : Verdict) → names ≡ t.names → topology ≡ t.topology → run ≡ run_of pre s → v ≡ verdict_of topology pre post s → pre ≡ instance.pre → post ≡ instance.post → instance ≡ instance_of collective nodes c → nodes ≡ length t.names → replay_text 1 names run v ≡ point_replay t collective c s
+replay_is_point t topology instance pre post collective nodes c s names run v n o r e p q i m =
+    let first : pre ≡ (instance_of collective (length t.names) c).pre = p ∙ ap (λ (x : Instance). x.pre) (i ∙ ap (λ k. instance_of collective k c) m) in
+    let last : post ≡ (instance_of collective (length t.names) c).post = q ∙ ap (λ (x : Instance). x.post) (i ∙ ap (λ k. instance_of collective k c) m) in
     rw (n, r, e, o, first, last) refl
-
--- the replay of the point that a report has is that of the report
-pub replay_of_point : (r : ReportValue) (p : PointValue) (c : ℕ) (s : ScheduleValue) → IsFirstForm r p → IsFirstForm r (point c s) → point_replay r.topology (broadcast 0) c s ≡ replay_of r p
-replay_of_point r p c s form known =
-    let root : r.words.root ≡ 0 = form.root in
-    let same : p ≡ point c s = same_point r p (point c s) form known in
-    rw (same, root) refl

@@ -1,21 +1,30 @@
 //! The answer that is due for the words and for what was read.
 
-ghost use Rattle.std.specs.Prelude.{◌≡◌, ◌<◌, ◌≤◌, ◌↔◌, length, string_bytes, IsTrue, IfOk};
+ghost use Rattle.std.specs.Prelude.{◌≡◌, ◌<◌, ◌≤◌, false, length, IsTrue, IfOk};
 ghost use Rattle.schedule.specs.Sends.{IsInRange};
+ghost use Rattle.collective_spec.specs.Kinds.{allows};
+ghost use Rattle.collective_spec.specs.Collectives.{chunks_of, reduces};
 ghost use Rattle.topology_text.specs.Value.{IsNamed};
-ghost use Rattle.sccl_run.specs.Reports.{IsFirstForm, PointValue};
-ghost use Rattle.sccl_run.specs.Run.{Answers, IsCommand, OwesBadWords, broadcast, limit, number_of, point_replay, refusal, replay_of, texts};
+ghost use Rattle.topology_text.specs.Family.{is_allowed};
+ghost use Rattle.candidate_order.specs.Frontiers.{PointValue};
+ghost use Rattle.command_words.specs.Words.{texts};
+ghost use Rattle.first_form.specs.FirstForm.{IsFirstForm};
+ghost use Rattle.sccl_run.specs.Statuses.{number_of};
+ghost use Rattle.sccl_run.specs.Refusals.{refused_at, refusal_line};
+ghost use Rattle.sccl_run.specs.Asked.{asked, AsksFamily, Refuses};
+ghost use Rattle.sccl_run.specs.Run.{OwesBadWords, OwesFamily, limit, point_replay, replay_of, too_long_line};
+ghost use Rattle.sccl_run.specs.Answering.{Answers};
 
 use crate::OutOfMemory;
-use crate::form::FirstForm;
-use crate::reading::read_first_form;
 use crate::replaying::print_replay;
 use crate::status::Status;
-use collective_spec::{Collective, Instance, Kind, instance_of};
+use collective_spec::{Collective, Instance, instance_of};
+use command_words::WordFault;
+use first_form::{FirstForm, read_first_form};
 use schedule::{Schedule, run_steps, solves};
 use std::alloc::Global;
 use text_lines::{Stop, push_number, push_word};
-use topology_text::NamedTopology;
+use topology_text::{FamilyKind, NamedTopology, family, print_topology};
 
 /// The greatest number of bytes that are read.
 pub const LIMIT: usize = 1_048_576;
@@ -27,26 +36,10 @@ pub struct Answer {
     pub text: Vec<u8>,
 }
 
-/// The words are those of the one command that is taken.
-pub fn is_command(words: &[String]) -> bool
-    ensures { IsTrue result ↔ IsCommand (texts words.now) }
-{
-    match words {
-        [command, point] => is_word(command, "replay") && is_word(point, "point=1"),
-        _ => false,
-    }
-}
-
-fn is_word(word: &String, text: &str) -> bool
-    ensures { IsTrue result ↔ (string_bytes word.now ≡ text.now) }
-{
-    word.as_str() == text
-}
-
 /// The line of a refusal.
 fn refusal(alloc: Global, status: Status, code: u64, place: u64) -> Result<Answer, OutOfMemory>
     ensures status { IfOk result (λ a. a.status ≡ status) }
-    ensures text { IfOk result (λ a. a.text.items ≡ refusal (number_of status) code place) }
+    ensures text { IfOk result (λ a. a.text.items ≡ refusal_line (refused_at status code place)) }
 {
     let mut text = Vec::new(alloc);
     push_word(&mut text, b"refused ")?;
@@ -59,24 +52,66 @@ fn refusal(alloc: Global, status: Status, code: u64, place: u64) -> Result<Answe
     Ok(Answer { status, text })
 }
 
-/// The replay of a point: the run of its schedule from the broadcast's start, and the verdict.
+/// The refusal of the words.
+pub fn bad_words(alloc: Global, words: &[String], fault: WordFault) -> Result<Answer, OutOfMemory>
+    requires { Refuses (texts words.now) fault.code fault.word }
+    ensures status { IfOk result (λ a. a.status ≡ Status.BadWords) }
+    ensures owed { IfOk result (λ a. OwesBadWords (texts words.now) a.text.items) }
+{
+    refusal(
+        alloc,
+        Status::BadWords,
+        u64::from(fault.code.number()),
+        u64::from(fault.word),
+    )
+}
+
+/// The topology of a family.
+pub fn family_answer(
+    alloc: Global,
+    words: &[String],
+    kind: FamilyKind,
+    size: u8,
+) -> Result<Answer, OutOfMemory>
+    requires allowed { IsTrue (is_allowed kind size) }
+    requires asked { AsksFamily (texts words.now) kind size }
+    ensures status { IfOk result (λ a. a.status ≡ Status.Done) }
+    ensures owed { IfOk result (λ a. OwesFamily (texts words.now) a.text.items) }
+{
+    let topology = family(alloc, kind, size)?;
+    let text = print_topology(alloc, &topology)?;
+    Ok(Answer {
+        status: Status::Done,
+        text,
+    })
+}
+
+/// The refusal of a text that is too long.
+pub fn too_long(alloc: Global) -> Result<Answer, OutOfMemory>
+    ensures status { IfOk result (λ a. a.status ≡ Status.TooLong) }
+    ensures text { IfOk result (λ a. a.text.items ≡ too_long_line) }
+{
+    refusal(alloc, Status::TooLong, 0, LIMIT as u64)
+}
+
+/// The replay of a point: the run of its schedule from the collective's start, and the verdict.
 fn replay_point(
     alloc: Global,
     topology: &NamedTopology,
+    collective: Collective,
     c: u8,
     schedule: &Schedule,
 ) -> Result<Vec<u8>, OutOfMemory>
     requires named { IsNamed topology.now }
-    requires some { 0 < c }
+    requires allowed { IsTrue (allows collective.kind topology.now.topology.nodes c) }
+    requires copies { reduces collective.kind ≡ false }
+    requires root { collective.root < topology.now.topology.nodes }
     requires few { c ≤ 16 }
-    requires in_range { IsInRange c (length topology.now.names) schedule.now }
-    ensures { IfOk result (λ text. text.items ≡ point_replay topology.now (broadcast 0) c schedule.now) }
+    requires in_range { IsInRange (chunks_of collective.kind topology.now.topology.nodes c) topology.now.topology.nodes schedule.now }
+    ensures { IfOk result (λ text. text.items ≡ point_replay topology.now collective c schedule.now) }
 {
-    let broadcast = Collective {
-        kind: Kind::Broadcast,
-        root: 0,
-    };
-    let Instance { pre, post, .. } = instance_of(alloc, broadcast, topology.topology().nodes(), c)?;
+    let nodes = topology.topology().nodes();
+    let Instance { pre, post, .. } = instance_of(alloc, collective, nodes, c)?;
     let run = run_steps(alloc, &pre, schedule)?;
     let verdict = solves(alloc, topology.topology(), &pre, &post, schedule)?;
     let text = print_replay(alloc, 1, topology.names(), &run, verdict)?;
@@ -88,25 +123,8 @@ fn replay(alloc: Global, report: &FirstForm) -> Result<Vec<u8>, OutOfMemory>
     ensures { (p : PointValue) → IsFirstForm report.now p → IfOk result (λ text. text.items ≡ replay_of report.now p) }
 {
     let (c, schedule) = report.point();
-    let text = replay_point(alloc, report.topology(), c, schedule)?;
+    let text = replay_point(alloc, report.topology(), report.collective(), c, schedule)?;
     Ok(text)
-}
-
-/// The refusal of words that are no command.
-pub fn bad_words(alloc: Global, words: &[String]) -> Result<Answer, OutOfMemory>
-    requires { ¬ IsCommand (texts words.now) }
-    ensures status { IfOk result (λ a. a.status ≡ Status.BadWords) }
-    ensures owed { IfOk result (λ a. OwesBadWords (texts words.now) a.text.items) }
-{
-    refusal(alloc, Status::BadWords, 11, 0)
-}
-
-/// The refusal of a text that is too long.
-pub fn too_long(alloc: Global) -> Result<Answer, OutOfMemory>
-    ensures status { IfOk result (λ a. a.status ≡ Status.TooLong) }
-    ensures text { IfOk result (λ a. a.text.items ≡ refusal 11 0 limit) }
-{
-    refusal(alloc, Status::TooLong, 0, LIMIT as u64)
 }
 
 /// The answer to a text that came whole: the replay of the report that it spells, or its refusal.

@@ -2,19 +2,18 @@
 #![tactic(auto)]
 
 mod answer;
-mod code;
-mod fields;
-mod form;
-mod limits;
-mod lines;
-mod parts;
-mod reading;
+mod asked;
+mod laws;
 mod replaying;
 mod status;
 #[cfg(test)]
 mod tests;
 mod toplevel;
+mod vectors;
 
+pub use command_words::{Command, RootWord, WordCode, WordFault, read_words};
+pub use laws::{optimal_has_no_better, refused_is_not_done};
 pub use status::Status;
 pub use std::alloc::AllocError as OutOfMemory;
 pub use toplevel::run;
+pub use vectors::{replays, reports_due, searches_due, sizes, trials, words_due};

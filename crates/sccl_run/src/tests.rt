@@ -19,6 +19,24 @@ fn words(alloc: Global, all: &[&str]) -> Result<Vec<String>, AllocError> {
     Ok(words)
 }
 
+/// Runs words over a source of these bytes, and compares the status and what is written.
+fn runs(
+    rt: &(impl Abort + AllocGlobal),
+    all: &[&str],
+    bytes: &[u8],
+    status: Status,
+    text: &[u8],
+) -> Result<(), AllocError> {
+    let alloc = rt.alloc();
+    let words = words(alloc, all)?;
+    let mut source = SureSource::new(Vec::from_slice(alloc, bytes)?);
+    let mut sink = MemorySink::new(alloc, 4096, Vec::new(alloc))?;
+    let ended = run(alloc, &words, &mut source, &mut sink);
+    assert_eq!(rt; ended, status);
+    assert_eq!(rt; sink.bytes(), text);
+    Ok(())
+}
+
 /// Replays a report, and compares the status and what is written.
 fn replays(
     rt: &(impl Abort + AllocGlobal),
@@ -26,12 +44,17 @@ fn replays(
     status: Status,
     text: &[u8],
 ) -> Result<(), AllocError> {
+    runs(rt, &["replay", "point=1"], report, status, text)
+}
+
+/// Runs words that are refused, over a source that would fail if it were read.
+fn refuses(rt: &(impl Abort + AllocGlobal), all: &[&str], text: &[u8]) -> Result<(), AllocError> {
     let alloc = rt.alloc();
-    let words = words(alloc, &["replay", "point=1"])?;
-    let mut source = SureSource::new(Vec::from_slice(alloc, report)?);
-    let mut sink = MemorySink::new(alloc, 4096, Vec::new(alloc))?;
+    let words = words(alloc, all)?;
+    let mut source = MemorySource::new(Vec::new(alloc), 1, vec![in alloc; 0]?);
+    let mut sink = MemorySink::new(alloc, 7, Vec::new(alloc))?;
     let ended = run(alloc, &words, &mut source, &mut sink);
-    assert_eq!(rt; ended, status);
+    assert_eq!(rt; ended, Status::BadWords);
     assert_eq!(rt; sink.bytes(), text);
     Ok(())
 }
@@ -93,8 +116,8 @@ fn texts_that_are_no_report(rt: HostRuntime) -> Result<(), Fail> {
         (b"k=0", b"k=9"),
         (b"k=0", b"k=00"),
         (b"collective=broadcast", b"collective=breadcast"),
-        (b"root=n0", b"root=n1"),
-        (b"nodes n0 n1", b"nodes n0 n2"),
+        (b"root=n0", b"root=n9"),
+        (b" root=n0", b""),
         (b"group 1 n0>n1", b"group 0 n0>n1"),
         (b"n0>n1", b"n0>n0"),
         (b"point 1 1 1 optimal", b"point 1 2 1 optimal"),
@@ -114,25 +137,173 @@ fn texts_that_are_no_report(rt: HostRuntime) -> Result<(), Fail> {
 }
 
 #[test]
-fn refusals_of_words_and_length(rt: HostRuntime) -> Result<(), Fail> {
-    let alloc = rt.alloc();
-    let table: [&[&str]; 6] = [
-        &[],
-        &["replay"],
-        &["replay", "point=2"],
-        &["replay", "point=01"],
-        &["replay", "point=1", "point=1"],
-        &["sing"],
+fn refusals_of_words(rt: HostRuntime) -> Result<(), Fail> {
+    let alltoall = [
+        "synth",
+        "collective=alltoall",
+        "k=0",
+        "steps=1",
+        "chunks=2",
+        "conflicts=1000",
+        "root=n0",
     ];
-    for all in table {
-        let words = words(alloc, all)?;
-        let mut source = SureSource::new(Vec::from_slice(alloc, REPORT)?);
-        let mut sink = MemorySink::new(alloc, 7, Vec::new(alloc))?;
-        let ended = run(alloc, &words, &mut source, &mut sink);
-        assert_eq!(rt; ended, Status::BadWords);
-        assert_eq!(rt; sink.bytes(), b"refused 2 11 0\n".as_slice());
+    let table: [(&[&str], &[u8]); 24] = [
+        (&[], b"refused 2 1 0\n"),
+        (&["sing"], b"refused 2 2 0\n"),
+        (&[""], b"refused 2 2 0\n"),
+        (&["--help"], b"refused 2 2 0\n"),
+        (&["check", "x=1"], b"refused 2 3 1\n"),
+        (&["check", ""], b"refused 2 3 1\n"),
+        (&["replay", "point"], b"refused 2 3 1\n"),
+        (&["synth", "k=0", "k=0"], b"refused 2 4 2\n"),
+        (&["synth", "k=0"], b"refused 2 5 2\n"),
+        (&["replay"], b"refused 2 5 1\n"),
+        (&["synth", "k=00"], b"refused 2 6 1\n"),
+        (&["replay", "point=1=1"], b"refused 2 6 1\n"),
+        (&["family", "kind=cube", "size=6"], b"refused 2 6 2\n"),
+        (&["family", "size=6", "kind=cube"], b"refused 2 6 1\n"),
+        (&["family", "size=17", "kind=cone"], b"refused 2 6 1\n"),
+        (&alltoall, b"refused 2 7 6\n"),
+        (
+            &[
+                "synth",
+                "chunks=1",
+                "root=n0",
+                "steps=1",
+                "k=0",
+                "conflicts=1",
+                "collective=gather",
+            ],
+            b"refused 2 11 0\n",
+        ),
+        (&["synth", "chunks=17"], b"refused 2 6 1\n"),
+        (&["trial", "n=4095"], b"refused 2 11 0\n"),
+        (&["trial", "n=4096"], b"refused 2 6 1\n"),
+        (&["check"], b"refused 2 11 0\n"),
+        (&["programs", "point=65535"], b"refused 2 11 0\n"),
+        (&["replay", "point=2"], b"refused 2 11 0\n"),
+        (
+            &["replay", "order=18446744073709551615", "point=1"],
+            b"refused 2 11 0\n",
+        ),
+    ];
+    for (all, text) in table {
+        refuses(&rt, all, text)?;
     }
-    let long = vec![in alloc; b'\n'; 1048577]?;
+    Ok(())
+}
+
+/// Words that are accepted, of a command that is not built.
+const NOT_BUILT: &[u8] = b"refused 2 11 0\n";
+
+#[test]
+fn numbers_at_both_ends(rt: HostRuntime) -> Result<(), Fail> {
+    // each number within its range, at both ends, and past them; the other words stand before it
+    let table: [(&[&str], [&str; 4]); 7] = [
+        (
+            &[
+                "synth",
+                "collective=gather",
+                "steps=1",
+                "chunks=1",
+                "conflicts=1",
+            ],
+            ["k=0", "k=8", "k=", "k=9"],
+        ),
+        (
+            &[
+                "synth",
+                "collective=gather",
+                "k=0",
+                "chunks=1",
+                "conflicts=1",
+            ],
+            ["steps=1", "steps=8", "steps=0", "steps=9"],
+        ),
+        (
+            &[
+                "synth",
+                "collective=gather",
+                "k=0",
+                "steps=1",
+                "conflicts=1",
+            ],
+            ["chunks=1", "chunks=16", "chunks=0", "chunks=17"],
+        ),
+        (
+            &["synth", "collective=gather", "k=0", "steps=1", "chunks=1"],
+            [
+                "conflicts=1",
+                "conflicts=100000",
+                "conflicts=0",
+                "conflicts=100001",
+            ],
+        ),
+        (
+            &["programs"],
+            ["point=1", "point=65535", "point=0", "point=65536"],
+        ),
+        (
+            &["replay", "point=1"],
+            [
+                "order=0",
+                "order=18446744073709551615",
+                "order=-1",
+                "order=18446744073709551616",
+            ],
+        ),
+        (&["trial"], ["n=0", "n=4095", "n=00", "n=4096"]),
+    ];
+    for (before, [least, greatest, below, above]) in table {
+        let places = [
+            b"refused 2 6 0\n",
+            b"refused 2 6 1\n",
+            b"refused 2 6 2\n",
+            b"refused 2 6 3\n",
+            b"refused 2 6 4\n",
+            b"refused 2 6 5\n",
+        ];
+        assert!(rt; before.len() < places.len());
+        let refused = places[before.len()].as_slice();
+        let due = [
+            (least, NOT_BUILT),
+            (greatest, NOT_BUILT),
+            (below, refused),
+            (above, refused),
+        ];
+        for (word, text) in due {
+            let mut all = Vec::from_slice(rt.alloc(), before)?;
+            all.push(word)?;
+            refuses(&rt, &all, text)?;
+        }
+    }
+    Ok(())
+}
+
+#[test]
+fn families(rt: HostRuntime) -> Result<(), Fail> {
+    let ring: &[u8] =
+        b"topology 1\nnodes n0 n1 n2\ngroup 1 n0>n1\ngroup 1 n0>n2\ngroup 1 n1>n0\ngroup 1 n1>n2\ngroup 1 n2>n0\ngroup 1 n2>n1\n";
+    runs(
+        &rt,
+        &["family", "kind=line", "size=1"],
+        b"",
+        Status::Done,
+        b"topology 1\nnodes n0\n",
+    )?;
+    runs(
+        &rt,
+        &["family", "size=3", "kind=ring"],
+        b"",
+        Status::Done,
+        ring,
+    )?;
+    Ok(())
+}
+
+#[test]
+fn length(rt: HostRuntime) -> Result<(), Fail> {
+    let long = vec![in rt.alloc(); b'\n'; 1048577]?;
     replays(&rt, &long, Status::TooLong, b"refused 11 0 1048576\n")?;
     replays(&rt, &long[1..], Status::BadReport, b"refused 7 5 0\n")?;
     Ok(())

@@ -1,4 +1,4 @@
-use Rattle.sccl_run.proofs.ReaderAnswers.{read_and_replayed}
+use Rattle.sccl_run.proofs.ReportReplayed.{read_and_replayed}
 use Rattle.sccl_run.proofs.answer.answer_to.Goals as goal
 
 pub returns-in_ok-text-in-Ok : goal.returns-in_ok-text-in-Ok

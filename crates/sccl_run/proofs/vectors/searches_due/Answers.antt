@@ -1,0 +1,19 @@
+use Rattle.std.proofs.Common.{refl}
+use Rattle.sccl_run.specs.Tasks.{due}
+use Rattle.command_words.specs.Words.{command_of}
+use Rattle.topology_text.specs.Reading.{topology_of}
+use Rattle.topology_text.specs.Reading.{topology_at}
+use Rattle.std.specs.Fmt.{digits}
+use Rattle.sccl_run.proofs.vectors.searches_due.Goals as goal
+
+pub returns-clause-text : goal.returns-clause-text
+unfolding due command_of topology_of topology_at digits
+returns-clause-text c = refl
+
+pub returns-clause-root : goal.returns-clause-root
+unfolding due command_of topology_of topology_at digits
+returns-clause-root c = refl
+
+pub returns-clause-candidates : goal.returns-clause-candidates
+unfolding due command_of topology_of topology_at digits
+returns-clause-candidates c = refl
