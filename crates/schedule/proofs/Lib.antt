@@ -19,3 +19,4 @@ pub mod Clashing
 pub mod HopOrder
 pub mod Inverting
 pub mod Turning
+pub mod Spreading
