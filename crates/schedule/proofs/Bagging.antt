@@ -14,7 +14,7 @@ use Rattle.schedule.specs.JoinedRuns.{copied_step, joined_after, replaced}
 abbrev Counted : ℕ → Bags → Type 0
 Counted nodes bags = (pair : ℕ × ℕ) → length (bags pair) ≡ nodes
 
-counted_sum : (nodes : ℕ) (a b : Bag) → length a ≡ nodes → length b ≡ nodes → length (added a b) ≡ nodes
+pub counted_sum : (nodes : ℕ) (a b : Bag) → length a ≡ nodes → length b ≡ nodes → length (added a b) ≡ nodes
 counted_sum nodes a b first second = omega (arith, first, second, length-map (zip a b) (λ (x, y). x + y), length-zip a b)
 
 counted_fold : (nodes : ℕ) (before : Bags) → Counted nodes before → (hops : List Hop) (bag : Bag) → length bag ≡ nodes → length (fold added bag (map (λ h. before (h.chunk, h.from)) hops)) ≡ nodes

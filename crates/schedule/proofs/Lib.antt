@@ -20,3 +20,4 @@ pub mod HopOrder
 pub mod Inverting
 pub mod Turning
 pub mod Spreading
+pub mod Returning

@@ -77,7 +77,7 @@ counted_images p q f (h ∷ hops) same =
 
 -- ---- loads and rounds
 
-same_turn : (steps i step : ℕ) → 0 < i → i ≤ steps → IsStep steps step → eqb (steps + 1 - step) i ≡ eqb step (steps + 1 - i)
+pub same_turn : (steps i step : ℕ) → 0 < i → i ≤ steps → IsStep steps step → eqb (steps + 1 - step) i ≡ eqb step (steps + 1 - i)
 same_turn steps i step from to is = at from to is.from is.to
   where
     at : 0 < i → i ≤ steps → 0 < step → step ≤ steps → eqb (steps + 1 - step) i ≡ eqb step (steps + 1 - i)
