@@ -21,3 +21,4 @@ pub mod Inverting
 pub mod Turning
 pub mod Spreading
 pub mod Returning
+pub mod Gathering
