@@ -5,6 +5,7 @@ use Rattle.std.specs.List.{AllByRecursion, range_with_len}
 use Rattle.std.proofs.lemmas.Bool.{eqb-true, eq-eqb, not-false, not_from_true}
 use Rattle.std.proofs.lemmas.List.Elements.{All-from_recursion, recursion_from_All}
 use Rattle.schedule.specs.Bags.{Bag, Bags, one_of_each}
+use Rattle.schedule.proofs.Bagging.{one_each}
 use Rattle.schedule.proofs.First.{found_none, none_found}
 use Rattle.inversion.specs.Judging.{count_of, counts_due, first_uneven}
 
@@ -47,14 +48,6 @@ ones_row bag a zero ones = tt
 ones_row bag a (suc n) ones =
     (not_from_true _ (eq-eqb _ _ (ones a (omega arith) (omega arith))), ones_row bag (a + 1) n (λ i from to. ones i (omega (arith, from)) (omega (arith, to))))
 
--- a list of ones, by its counts
-all_ones : (bag : Bag) (a : ℕ) → ((i : ℕ) → i < length bag → get_or bag i 0 ≡ 1) → bag ≡ map (λ _. 1) (range_with_len a (length bag))
-all_ones [] a ones = refl
-all_ones (x ∷ bag) a ones =
-    let first : x ≡ 1 = ones 0 (omega arith) in
-    let rest : bag ≡ map (λ _. 1) (range_with_len (a + 1) (length bag)) = all_ones bag (a + 1) (λ i inside. ones (suc i) (omega (arith, inside))) in
-    ap (λ y. y ∷ bag) first ∙ ap (λ ys. 1 ∷ ys) rest
-
 abbrev ones_from : ℕ → ℕ → Bag
 ones_from a n = map (λ _. 1) (range_with_len a n)
 
@@ -64,9 +57,7 @@ counts_of_ones a (suc n) zero inside = refl
 counts_of_ones a (suc n) (suc i) inside = counts_of_ones (a + 1) n i (omega arith)
 
 whole_row : (nodes : ℕ) (bag : Bag) → length bag ≡ nodes → AllByRecursion (IsEven bag) (range_with_len 0 nodes) → bag ≡ one_of_each nodes
-whole_row nodes bag counted each =
-    all_ones bag 0 (λ i inside. row_ones bag 0 nodes each i (omega arith) (omega (arith, inside, counted)))
-    ∙ ap (λ n. one_of_each n) counted
+whole_row nodes bag counted each = one_each nodes bag counted (λ i inside. row_ones bag 0 nodes each i (omega arith) (omega (arith, inside)))
 
 row_whole : (nodes : ℕ) (bag : Bag) → bag ≡ one_of_each nodes → AllByRecursion (IsEven bag) (range_with_len 0 nodes)
 row_whole nodes bag is = ones_row bag 0 nodes (λ i from to. ap (λ b. get_or b i 0) is ∙ counts_of_ones 0 nodes i (omega (arith, to)))

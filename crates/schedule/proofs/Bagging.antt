@@ -1,12 +1,12 @@
 -- Bags keep a count for each node.
-use Rattle.std.proofs.Common.{◌≡◌, ℕ, zero, suc, ◌+◌, Bool, true, false, cond, List, [], ◌∷◌, length, map, Option, Some, None, arith}
-use Rattle.std.specs.List.{filter, fold, zip}
+use Rattle.std.proofs.Common.{◌≡◌, ℕ, zero, suc, ◌+◌, Bool, true, false, cond, List, [], ◌∷◌, length, map, Option, Some, None, arith, ◌<◌, get_or, ap, ◌∙◌, refl}
+use Rattle.std.specs.List.{filter, fold, zip, range_with_len}
 use Rattle.std.proofs.lemmas.List.{length-map}
 use Rattle.std.proofs.lemmas.List.FromFn.{length-map-range_with_len}
 use Rattle.std.proofs.lemmas.Slice.Zip.{length-zip}
 use Rattle.schedule.specs.declared.hop.Hop.{Hop}
 use Rattle.schedule.specs.Sends.{ScheduleValue}
-use Rattle.schedule.specs.Bags.{Bag, Bags, added, contributions}
+use Rattle.schedule.specs.Bags.{Bag, Bags, added, contributions, one_of_each}
 use Rattle.schedule.specs.Summing.{bags_after, goes_to, summed_step}
 use Rattle.schedule.specs.JoinedRuns.{copied_step, joined_after, replaced}
 
@@ -43,3 +43,16 @@ counted_joined nodes sends before step counted false pair = counted_replaced nod
 pub counted_run : (nodes : ℕ) (s : ScheduleValue) (adding n : ℕ) (pair : ℕ × ℕ) → length (joined_after (contributions nodes) s adding n pair) ≡ nodes
 counted_run nodes s adding zero pair = counted_start nodes pair
 counted_run nodes s adding (suc n) pair = counted_joined nodes s.sends (joined_after (contributions nodes) s adding n) (n + 1) (counted_run nodes s adding n) _ pair
+
+-- a list of ones, by its counts
+all_ones : (bag : Bag) (a : ℕ) → ((i : ℕ) → i < length bag → get_or bag i 0 ≡ 1) → bag ≡ map (λ _. 1) (range_with_len a (length bag))
+all_ones [] a ones = refl
+all_ones (x ∷ bag) a ones =
+    let first : x ≡ 1 = ones 0 (omega arith) in
+    let rest : bag ≡ map (λ _. 1) (range_with_len (a + 1) (length bag)) = all_ones bag (a + 1) (λ i inside. ones (suc i) (omega (arith, inside))) in
+    ap (λ y. y ∷ bag) first ∙ ap (λ ys. 1 ∷ ys) rest
+
+-- a bag with one of each node, by its counts
+pub one_each : (nodes : ℕ) (bag : Bag) → length bag ≡ nodes → ((i : ℕ) → i < nodes → get_or bag i 0 ≡ 1) → bag ≡ one_of_each nodes
+one_each nodes bag counted ones =
+    all_ones bag 0 (λ i inside. ones i (omega (arith, inside, counted))) ∙ ap one_of_each counted

@@ -87,7 +87,7 @@ InOrder-from_pairs before [] pairs = tt
 InOrder-from_pairs before (x ∷ xs) pairs =
     (recursion_from_All (λ y. before x y ≡ true) xs (λ k d inside. pairs 0 (suc k) d (omega arith) (omega arith)), InOrder-from_pairs before xs (λ i j d low high. pairs (suc i) (suc j) d (omega arith) (omega arith)))
 
-each_filter : {X : Type 0} (P : X → Type 0) (p : X → Bool) (xs : List X) → AllByRecursion P xs → AllByRecursion P (filter p xs)
+pub each_filter : {X : Type 0} (P : X → Type 0) (p : X → Bool) (xs : List X) → AllByRecursion P xs → AllByRecursion P (filter p xs)
 each_filter P p [] each = tt
 each_filter P p (x ∷ xs) each =
     elim (p x) as (λ b. AllByRecursion P (cond b (x ∷ filter p xs) (filter p xs)))

@@ -22,3 +22,4 @@ pub mod Turning
 pub mod Spreading
 pub mod Returning
 pub mod Gathering
+pub mod Inverted

@@ -1,5 +1,5 @@
 -- Placements: sets of pairs of a chunk and a node that holds it (Cai et al., PPoPP 2021, section on collectives).
-use Rattle.std.specs.Prelude.{◌≡◌, ◌==◌, ◌&&◌, ◌||◌, ℕ, Bool, not, List, [], map, filter}
+use Rattle.std.specs.Prelude.{◌≡◌, ◌==◌, ◌&&◌, ◌||◌, ℕ, Bool, true, not, List, [], map, filter}
 use Rattle.std.specs.List.{list_any, flat_map, range_with_len}
 
 -- how many chunks and nodes there are, and the pairs, ascending and each once
@@ -36,3 +36,7 @@ empty_placement chunks nodes = record { chunks = chunks; nodes = nodes; pairs = 
 
 abbrev pub with_pair : PlacementValue → ℕ × ℕ → PlacementValue
 with_pair p pair = placed p.chunks p.nodes (λ other. same_pair pair other || holds p other)
+
+-- no chunk is held by two nodes
+abbrev pub HeldByOne : PlacementValue → Type 0
+HeldByOne p = (chunk a b : ℕ) → holds p (chunk, a) ≡ true → holds p (chunk, b) ≡ true → a ≡ b

@@ -2,14 +2,14 @@
 
 ghost use Rattle.std.specs.Prelude.{◌≡◌, ◌↔◌, ◌<◌, ◌≤◌, ◌||◌, ℕ, Bool, List, None, length, sum, slice_index_or};
 ghost use Rattle.schedule.specs.Links.{TopologyValue, reversed_of};
-ghost use Rattle.schedule.specs.Placed.{PlacementValue, IsPlacement, holds, placed, same_pair, with_pair};
+ghost use Rattle.schedule.specs.Placed.{PlacementValue, HeldByOne, IsPlacement, holds, placed, same_pair, with_pair};
 ghost use Rattle.schedule.specs.Running.{after, run_of};
 ghost use Rattle.schedule.specs.Sends.{ScheduleValue, IsSchedule, IsInRange};
 ghost use Rattle.schedule.specs.Fitting.{Fits};
 ghost use Rattle.schedule.specs.Judging.{first_unlinked, first_overfull};
-ghost use Rattle.schedule.specs.Solving.{Solvable};
+ghost use Rattle.schedule.specs.Solving.{Solvable, Solves, Tight};
 ghost use Rattle.schedule.specs.Bags.{contributions};
-ghost use Rattle.schedule.specs.Summing.{SummedSolvable, bags_after};
+ghost use Rattle.schedule.specs.Summing.{SummedSolvable, Sums, bags_after};
 ghost use Rattle.schedule.specs.JoinedRuns.{Clashes, first_clash, joined_after};
 ghost use Rattle.schedule.specs.Inverse.{inverse_of};
 ghost use Rattle.schedule.specs.Rows.{at_root, everywhere, two_alone};
@@ -90,4 +90,12 @@ pub fn inverting_twice_changes_nothing()
 /// A valid schedule fits the links turned round exactly where its inverse fits the links as they are.
 pub fn an_inverse_fits_the_links_turned_round()
     ensures { (t : TopologyValue) (s : ScheduleValue) → IsSchedule s → Fits (reversed_of t) s ↔ Fits t (inverse_of s) }
+{}
+
+/// A schedule that wastes no send and brings each chunk from its one holder to every node, over the links turned round:
+/// its inverse adds each chunk up at its holder, over the links as they are.
+pub fn an_inverse_sums()
+    ensures { (t : TopologyValue) (pre : PlacementValue) (s : ScheduleValue) (steps rounds : ℕ) → IsPlacement pre → pre.nodes ≡ t.nodes → HeldByOne pre
+        → IsSchedule s → IsInRange pre.chunks pre.nodes s → Tight pre s → Solves (reversed_of t) pre (everywhere pre.chunks pre.nodes) s steps rounds
+        → Sums t pre (inverse_of s) steps rounds }
 {}

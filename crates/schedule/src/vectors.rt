@@ -5,14 +5,14 @@ ghost use Rattle.schedule.specs.Links.{IsTopology, reversed_of};
 ghost use Rattle.schedule.specs.Sends.{IsSchedule};
 ghost use Rattle.schedule.specs.Placed.{IsPlacement, empty_placement};
 ghost use Rattle.schedule.specs.Running.{run_of};
-ghost use Rattle.schedule.specs.Solving.{Solvable, Tight};
+ghost use Rattle.schedule.specs.Solving.{Solvable, Solves, Tight};
 ghost use Rattle.schedule.specs.Rows.{line_of_2, line_of_3, back_of_2, twice_grouped, only};
 ghost use Rattle.schedule.specs.Bags.{contributions, held_at_2, listed, of_placement};
 ghost use Rattle.schedule.specs.Summing.{Sums, SummedSolvable, bags_after};
 ghost use Rattle.schedule.specs.JoinedRuns.{AllSummed, Clashes, first_clash, joined_after, joined_run};
 ghost use Rattle.schedule.specs.Inverse.{inverse_of};
 ghost use Rattle.schedule.specs.Rows.{at_root, everywhere, send, plan, broadcast};
-ghost use Rattle.schedule.specs.Rows.{ring_broadcast, ring_reduce, pair_allreduce, met_from_both};
+ghost use Rattle.schedule.specs.Rows.{ring_broadcast, ring_of_4, ring_reduce, pair_allreduce, met_from_both};
 
 use crate::verdict::Verdict;
 
@@ -116,6 +116,8 @@ pub fn the_greatest_sender_is_copied()
 pub fn a_broadcast_inverts_a_reduce()
     ensures forth { inverse_of ring_broadcast ≡ ring_reduce }
     ensures back { inverse_of (inverse_of ring_broadcast) ≡ ring_broadcast }
+    ensures tight { Tight (at_root 2 4) ring_broadcast }
+    ensures solves { Solves (reversed_of ring_of_4) (at_root 2 4) (everywhere 2 4) ring_broadcast 2 2 }
     ensures rounds { inverse_of (plan (2 ∷ 1 ∷ []) (send 0 0 1 1 ∷ send 0 1 2 2 ∷ []))
         ≡ plan (1 ∷ 2 ∷ []) (send 0 2 1 1 ∷ send 0 1 0 2 ∷ []) }
 {}
