@@ -1,7 +1,7 @@
 -- The inverse of a schedule that wastes no send adds everything up at the one holder.
-use Rattle.std.proofs.Common.{◌≡◌, ℕ, zero, suc, ◌+◌, ◌-◌, ◌<◌, ◌≤◌, Bool, true, false, ◌&&◌, ◌||◌, cond, eqb, List, [], ◌∷◌, length, map, get_or, refl, sym, ap, ◌∙◌, ⊎_elim, subst, arith}
+use Rattle.std.proofs.Common.{◌≡◌, ℕ, zero, suc, ◌+◌, ◌-◌, ◌<◌, Bool, true, false, ◌&&◌, ◌||◌, cond, eqb, List, [], ◌∷◌, length, refl, sym, ap, ◌∙◌, ⊎_elim, subst, arith}
 use Rattle.std.specs.Prelude.{nat_lt, sum_by}
-use Rattle.std.specs.List.{All, AllByRecursion, AllPairs, list_any, range_with_len}
+use Rattle.std.specs.List.{AllByRecursion, AllPairs, list_any, range_with_len}
 use Rattle.std.proofs.lemmas.Bool.{and_parts, cases_Bool, eqb-true, eq-eqb, ltb-true, ne_eqb}
 use Rattle.std.proofs.lemmas.Bool.Decides.{nat_tests}
 use Rattle.std.proofs.lemmas.List.Elements.{recursion_from_All}
@@ -82,10 +82,12 @@ apart_ends a b c d x apart first second = grind (arith, nat_tests)
 
 once_of : (step chunk : ℕ) (hops : List Hop) → AllPairs (λ a b. same_pair (a.chunk, a.to) (b.chunk, b.to) ≡ false) hops → Once (sends_now step chunk) hops
 once_of step chunk [] pairs = tt
-once_of step chunk (h ∷ hops) pairs =
-    (each_weaker (λ o. same_pair (h.chunk, h.to) (o.chunk, o.to) ≡ false) (λ o. sends_now step chunk h ≡ true → sends_now step chunk o ≡ true → eqb o.to h.to ≡ false)
-    (λ o apart now now_too. apart_ends h.chunk o.chunk h.to o.to chunk apart (eqb-true h.chunk chunk (and_parts (eqb h.step step) (eqb h.chunk chunk) now).1) (eqb-true o.chunk chunk (and_parts (eqb o.step step) (eqb o.chunk chunk) now_too).1))
-    hops (recursion_from_All (λ o. same_pair (h.chunk, h.to) (o.chunk, o.to) ≡ false) hops (λ k d inside. pairs 0 (suc k) d (omega arith) (omega arith))), once_of step chunk hops (λ i j d low high. pairs (suc i) (suc j) d (omega arith) (omega arith)))
+once_of step chunk (h ∷ hops) pairs = (
+  each_weaker (λ o. same_pair (h.chunk, h.to) (o.chunk, o.to) ≡ false) (λ o. sends_now step chunk h ≡ true → sends_now step chunk o ≡ true → eqb o.to h.to ≡ false)
+      (λ o apart now now_too. apart_ends h.chunk o.chunk h.to o.to chunk apart (eqb-true h.chunk chunk (and_parts (eqb h.step step) (eqb h.chunk chunk) now).1) (eqb-true o.chunk chunk (and_parts (eqb o.step step) (eqb o.chunk chunk) now_too).1))
+      hops (recursion_from_All (λ o. same_pair (h.chunk, h.to) (o.chunk, o.to) ≡ false) hops (λ k d inside. pairs 0 (suc k) d (omega arith) (omega arith))),
+  once_of step chunk hops (λ i j d low high. pairs (suc i) (suc j) d (omega arith) (omega arith)),
+)
 
 -- ---- what the holders have of one node's contribution is always one
 
@@ -119,11 +121,11 @@ weight_before pre s chunk m k j is below turn =
     let holders : AllByRecursion (HoldsAt pre s) s.sends = recursion_from_All (HoldsAt pre s) s.sends is.tight.sender in
     let useful = all_useful pre s k chunk s.sends (recursion_from_All (λ h. is_hop_below pre.chunks pre.nodes h ≡ true) s.sends is.in_range) holders (recursion_from_All (LacksAt pre s) s.sends is.tight.receiver) in
     let back : weight pre s chunk m k (suc j) ≡ back_sum pre.nodes now held g s.sends =
-        sum_alike (λ v. if_so (held v) (own (returned pre.nodes s (suc j)) chunk m v)) (λ v. if_so (held v) (g v + spread now g v s.sends)) 0 pre.nodes (λ v from to.
-        ap (λ x. if_so (held v) x) (returned_more pre.nodes m chunk v j s is.valid below (omega (arith, turn)) ∙ ap (λ step. g v + spread (sends_now step chunk) g v s.sends) step_is)) in
+    sum_alike (λ v. if_so (held v) (own (returned pre.nodes s (suc j)) chunk m v)) (λ v. if_so (held v) (g v + spread now g v s.sends)) 0 pre.nodes (λ v from to.
+    ap (λ x. if_so (held v) x) (returned_more pre.nodes m chunk v j s is.valid below (omega (arith, turn)) ∙ ap (λ step. g v + spread (sends_now step chunk) g v s.sends) step_is)) in
     let on : on_sum pre.nodes now held g s.sends ≡ weight pre s chunk m (suc k) j =
-        sum_alike (λ v. if_so (held v || reached now v s.sends) (g v)) (λ v. if_so (holds (after pre s (suc k)) (chunk, v)) (g v)) 0 pre.nodes (λ v from to.
-        ap (λ b. if_so b (g v)) (sym (holds_more pre s k chunk v (senders_of pre s k s.sends holders) is.chunk_is (omega (arith, to))))) in
+    sum_alike (λ v. if_so (held v || reached now v s.sends) (g v)) (λ v. if_so (holds (after pre s (suc k)) (chunk, v)) (g v)) 0 pre.nodes (λ v from to.
+    ap (λ b. if_so b (g v)) (sym (holds_more pre s k chunk v (senders_of pre s k s.sends holders) is.chunk_is (omega (arith, to))))) in
     back ∙ (one_step pre.nodes now held g s.sends useful (once_of (k + 1) chunk s.sends is.tight.once) ∙ on)
 
 weight_is : (pre : PlacementValue) (s : ScheduleValue) (chunk m j k : ℕ) → Brings pre s chunk → m < pre.nodes → k + j ≡ length s.rounds → weight pre s chunk m k j ≡ 1
@@ -138,7 +140,7 @@ pub one_at_holder : (pre : PlacementValue) (s : ScheduleValue) (chunk n m : ℕ)
 one_at_holder pre s chunk n m is inside holder only below =
     let g : ℕ → ℕ = own (returned pre.nodes s (length s.rounds)) chunk m in
     let all : weight pre s chunk m 0 (length s.rounds) ≡ sum_by (only_at n g) (range_with_len 0 pre.nodes) =
-        sum_alike (λ v. if_so (holds pre (chunk, v)) (g v)) (only_at n g) 0 pre.nodes (λ v from to. ap (λ b. if_so b (g v)) (alone v (omega (arith, to)))) in
+    sum_alike (λ v. if_so (holds pre (chunk, v)) (g v)) (only_at n g) 0 pre.nodes (λ v from to. ap (λ b. if_so b (g v)) (alone v (omega (arith, to)))) in
     let mine : sum_by (only_at n g) (range_with_len 0 pre.nodes) ≡ g n = sum_at n g 0 pre.nodes (omega arith) (omega (arith, inside)) in
     let one : weight pre s chunk m 0 (length s.rounds) ≡ 1 = weight_is pre s chunk m (length s.rounds) 0 is below (omega arith) in
     omega (arith, all, mine, one)

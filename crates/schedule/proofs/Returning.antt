@@ -1,9 +1,8 @@
 -- The bags of an inverse's run, count by count: a step gives each sender back what its receivers had.
-use Rattle.std.proofs.Common.{◌≡◌, ℕ, zero, suc, ◌+◌, ◌-◌, ◌<◌, ◌≤◌, Bool, true, false, ◌&&◌, ◌||◌, cond, eqb, List, [], ◌∷◌, length, map, get_or, refl, sym, ap, ◌∙◌, ⊎_elim, subst, arith}
+use Rattle.std.proofs.Common.{◌≡◌, ℕ, zero, suc, ◌+◌, ◌-◌, ◌<◌, ◌≤◌, Bool, true, false, ◌&&◌, cond, eqb, List, [], ◌∷◌, length, map, get_or, refl, sym, ap, ◌∙◌, ⊎_elim, subst, arith}
 use Rattle.std.specs.Prelude.{filter, fold, sum_by}
-use Rattle.std.specs.List.{All, AllByRecursion, list_any, range_with_len}
+use Rattle.std.specs.List.{AllByRecursion}
 use Rattle.std.proofs.lemmas.Bool.{and_parts, cases_Bool, eqb-true}
-use Rattle.std.proofs.lemmas.Bool.Decides.{nat_tests}
 use Rattle.std.proofs.lemmas.List.Elements.{recursion_from_All}
 use Rattle.std.proofs.lemmas.List.Sums.{sum_by-cons}
 use Rattle.schedule.specs.declared.hop.Hop.{Hop}
@@ -126,7 +125,7 @@ returned_more nodes m chunk v j s valid below inside =
     let kept : sum_by (brought before m) (filter test (inverse_of s).sends) ≡ sum_by (λ h. if_so (test h) (brought before m h)) (inverse_of s).sends = sum_kept test (brought before m) (inverse_of s).sends in
     let unordered : sum_by (λ h. if_so (test h) (brought before m h)) (inverse_of s).sends ≡ sum_by (λ h. if_so (test h) (brought before m h)) (map (inverse_hop steps) s.sends) = sum_in_order (λ h. if_so (test h) (brought before m h)) (map (inverse_hop steps) s.sends) in
     let images : sum_by (λ h. if_so (test h) (brought before m h)) (map (inverse_hop steps) s.sends) ≡ spread (sends_now (steps + 1 - (j + 1)) chunk) (own before chunk m) v s.sends =
-        sum_images (λ h. if_so (test h) (brought before m h)) (λ h. if_so (sends_now (steps + 1 - (j + 1)) chunk h && eqb h.from v) (own before chunk m h.to)) (inverse_hop steps) s.sends (each_returned before steps (j + 1) chunk m v s.sends (omega arith) (omega (arith, inside)) (recursion_from_All (λ h. IsStep steps h.step) s.sends valid.steps)) in
+    sum_images (λ h. if_so (test h) (brought before m h)) (λ h. if_so (sends_now (steps + 1 - (j + 1)) chunk h && eqb h.from v) (own before chunk m h.to)) (inverse_hop steps) s.sends (each_returned before steps (j + 1) chunk m v s.sends (omega arith) (omega (arith, inside)) (recursion_from_All (λ h. IsStep steps h.step) s.sends valid.steps)) in
     let turn : steps + 1 - (j + 1) ≡ steps - j = omega arith in
     let whole : own (returned nodes s (suc j)) chunk m v ≡ own before chunk m v + spread (sends_now (steps + 1 - (j + 1)) chunk) (own before chunk m) v s.sends = omega (arith, counts, kept, unordered, images) in
     subst (λ k. own (returned nodes s (suc j)) chunk m v ≡ own before chunk m v + spread (sends_now k chunk) (own before chunk m) v s.sends) turn whole

@@ -32,9 +32,9 @@ sum_at w g a zero from to = absurd (omega arith)
 sum_at w g a (suc n) from to =
     elim (here_or_later a w from) [
       | inl here ↦ (let mine : only_at w g a ≡ g w = rw (eq-eqb w a (sym here)) (ap g here) in
-        omega (arith, mine, sum_past w g (a + 1) n (omega (arith, here)), sum_by-cons (only_at w g) a (range_with_len (a + 1) n)))
+          omega (arith, mine, sum_past w g (a + 1) n (omega (arith, here)), sum_by-cons (only_at w g) a (range_with_len (a + 1) n)))
       | inr later ↦ (let other : only_at w g a ≡ 0 = rw (ne_eqb w a (λ same. omega (arith, later, same))) refl in
-        omega (arith, other, sum_at w g (a + 1) n (omega (arith, later)) (omega (arith, to)), sum_by-cons (only_at w g) a (range_with_len (a + 1) n)))
+          omega (arith, other, sum_at w g (a + 1) n (omega (arith, later)) (omega (arith, to)), sum_by-cons (only_at w g) a (range_with_len (a + 1) n)))
     ]
   where
     here_or_later : (a i : ℕ) → a ≤ i → (a ≡ i) ⊎ (a < i)
@@ -115,26 +115,26 @@ spread_idle now g v h hops idle =
 idle_send : (nodes : ℕ) (now : Hop → Bool) (held : ℕ → Bool) (g : ℕ → ℕ) (h : Hop) (hops : List Hop) → now h ≡ false → back_sum nodes now held g hops ≡ on_sum nodes now held g hops → back_sum nodes now held g (h ∷ hops) ≡ on_sum nodes now held g (h ∷ hops)
 idle_send nodes now held g h hops idle rest =
     let left : back_sum nodes now held g (h ∷ hops) ≡ back_sum nodes now held g hops =
-        sum_alike (λ v. cond (held v) (g v + spread now g v (h ∷ hops)) 0) (λ v. cond (held v) (g v + spread now g v hops) 0) 0 nodes (λ v from to.
-        ap (λ x. if_so (held v) (g v + x)) (spread_idle now g v h hops idle)) in
+    sum_alike (λ v. cond (held v) (g v + spread now g v (h ∷ hops)) 0) (λ v. cond (held v) (g v + spread now g v hops) 0) 0 nodes (λ v from to.
+    ap (λ x. if_so (held v) (g v + x)) (spread_idle now g v h hops idle)) in
     let right : on_sum nodes now held g (h ∷ hops) ≡ on_sum nodes now held g hops =
-        sum_alike (λ v. cond (held v || reached now v (h ∷ hops)) (g v) 0) (λ v. cond (held v || reached now v hops) (g v) 0) 0 nodes (λ v from to.
-        ap (λ b. cond (held v || ((b && eqb h.to v) || reached now v hops)) (g v) 0) idle) in
+    sum_alike (λ v. cond (held v || reached now v (h ∷ hops)) (g v) 0) (λ v. cond (held v || reached now v hops) (g v) 0) 0 nodes (λ v from to.
+    ap (λ b. cond (held v || ((b && eqb h.to v) || reached now v hops)) (g v) 0) idle) in
     left ∙ (rest ∙ sym right)
 
 busy_send : (nodes : ℕ) (now : Hop → Bool) (held : ℕ → Bool) (g : ℕ → ℕ) (h : Hop) (hops : List Hop) → now h ≡ true → IsUseful nodes now held h → reached now h.to hops ≡ false → back_sum nodes now held g hops ≡ on_sum nodes now held g hops → back_sum nodes now held g (h ∷ hops) ≡ on_sum nodes now held g (h ∷ hops)
 busy_send nodes now held g h hops busy useful alone rest =
     let sent : ℕ → ℕ = λ v. cond (eqb h.from v) (g h.to) 0 in
     let left : back_sum nodes now held g (h ∷ hops) ≡ sum_by (λ v. cond (held v) (g v + spread now g v hops) 0 + sent v) (range_with_len 0 nodes) =
-        sum_alike (λ v. cond (held v) (g v + spread now g v (h ∷ hops)) 0) (λ v. cond (held v) (g v + spread now g v hops) 0 + sent v) 0 nodes (λ v from to.
-        ap (λ x. cond (held v) (g v + x) 0) (sum_by-cons (λ h. cond (now h && eqb h.from v) (g h.to) 0) h hops ∙ ap (λ b. cond (b && eqb h.from v) (g h.to) 0 + spread now g v hops) busy)
-        ∙ (split_part (held v) (g v) (sent v) (spread now g v hops)
-        ∙ ap (λ x. cond (held v) (g v + spread now g v hops) 0 + x) (sender_part (held v) (eqb h.from v) (g h.to) (λ same. subst (λ n. held n ≡ true) (eqb-true h.from v same) (useful.sender busy))))) in
+    sum_alike (λ v. cond (held v) (g v + spread now g v (h ∷ hops)) 0) (λ v. cond (held v) (g v + spread now g v hops) 0 + sent v) 0 nodes (λ v from to.
+    ap (λ x. cond (held v) (g v + x) 0) (sum_by-cons (λ h. cond (now h && eqb h.from v) (g h.to) 0) h hops ∙ ap (λ b. cond (b && eqb h.from v) (g h.to) 0 + spread now g v hops) busy)
+    ∙ (split_part (held v) (g v) (sent v) (spread now g v hops)
+    ∙ ap (λ x. cond (held v) (g v + spread now g v hops) 0 + x) (sender_part (held v) (eqb h.from v) (g h.to) (λ same. subst (λ n. held n ≡ true) (eqb-true h.from v same) (useful.sender busy))))) in
     let right : on_sum nodes now held g (h ∷ hops) ≡ sum_by (λ v. cond (held v || reached now v hops) (g v) 0 + only_at h.to g v) (range_with_len 0 nodes) =
-        sum_alike (λ v. cond (held v || reached now v (h ∷ hops)) (g v) 0) (λ v. cond (held v || reached now v hops) (g v) 0 + only_at h.to g v) 0 nodes (λ v from to.
-        ap (λ b. cond (held v || ((b && eqb h.to v) || reached now v hops)) (g v) 0) busy
-        ∙ joined_part (held v) (eqb h.to v) (reached now v hops) (g v) (λ same.
-        (subst (λ n. held n ≡ false) (eqb-true h.to v same) (useful.receiver busy), subst (λ n. reached now n hops ≡ false) (eqb-true h.to v same) alone))) in
+    sum_alike (λ v. cond (held v || reached now v (h ∷ hops)) (g v) 0) (λ v. cond (held v || reached now v hops) (g v) 0 + only_at h.to g v) 0 nodes (λ v from to.
+    ap (λ b. cond (held v || ((b && eqb h.to v) || reached now v hops)) (g v) 0) busy
+    ∙ joined_part (held v) (eqb h.to v) (reached now v hops) (g v) (λ same.
+    (subst (λ n. held n ≡ false) (eqb-true h.to v same) (useful.receiver busy), subst (λ n. reached now n hops ≡ false) (eqb-true h.to v same) alone))) in
     let given : sum_by sent (range_with_len 0 nodes) ≡ g h.to = sum_at h.from (λ _. g h.to) 0 nodes (omega arith) (omega (arith, useful.from busy)) in
     let taken : sum_by (only_at h.to g) (range_with_len 0 nodes) ≡ g h.to = sum_at h.to g 0 nodes (omega arith) (omega (arith, useful.to busy)) in
     let lefts = sum_both (λ v. cond (held v) (g v + spread now g v hops) 0) sent (range_with_len 0 nodes) in
