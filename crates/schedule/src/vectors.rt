@@ -3,7 +3,7 @@
 ghost use Rattle.std.specs.Prelude.{◌≡◌, [], ◌∷◌, Some, None, map};
 ghost use Rattle.schedule.specs.Links.{IsTopology, reversed_of};
 ghost use Rattle.schedule.specs.Sends.{IsSchedule};
-ghost use Rattle.schedule.specs.Placed.{IsPlacement, empty_placement};
+ghost use Rattle.schedule.specs.Placed.{HeldByOne, IsPlacement, empty_placement};
 ghost use Rattle.schedule.specs.Running.{run_of};
 ghost use Rattle.schedule.specs.Solving.{Solvable, Solves, Tight};
 ghost use Rattle.schedule.specs.Rows.{line_of_2, line_of_3, back_of_2, twice_grouped, only};
@@ -116,6 +116,7 @@ pub fn the_greatest_sender_is_copied()
 pub fn a_broadcast_inverts_a_reduce()
     ensures forth { inverse_of ring_broadcast ≡ ring_reduce }
     ensures back { inverse_of (inverse_of ring_broadcast) ≡ ring_broadcast }
+    ensures alone { HeldByOne (at_root 2 4) }
     ensures tight { Tight (at_root 2 4) ring_broadcast }
     ensures solves { Solves (reversed_of ring_of_4) (at_root 2 4) (everywhere 2 4) ring_broadcast 2 2 }
     ensures rounds { inverse_of (plan (2 ∷ 1 ∷ []) (send 0 0 1 1 ∷ send 0 1 2 2 ∷ []))
