@@ -1,9 +1,12 @@
 //! Laws of the checks of a report.
 
-ghost use Rattle.std.specs.Prelude.{Decides};
+ghost use Rattle.std.specs.Prelude.{◌≡◌, ℕ, List, Ok, Decides};
 ghost use Rattle.candidate_order.specs.Ranges.{LimitsValue, IsLimits};
 ghost use Rattle.candidate_order.specs.Costs.{NoWorse, Better, Before};
 ghost use Rattle.candidate_order.specs.Frontiers.{QuestionValue, IsWithin};
+ghost use Rattle.frontier_report.specs.Reports.{ReportValue, IsReport};
+ghost use Rattle.frontier_report.specs.Spelling.{report_text};
+ghost use Rattle.frontier_report.specs.Reading.{report_of};
 ghost use Rattle.frontier_report.specs.Tests.{are_limits, is_within, is_no_worse, is_better, is_before};
 
 use candidate_order::Candidate;
@@ -15,4 +18,10 @@ pub fn tests_decide()
     ensures no_worse { (a b : Candidate) → Decides (is_no_worse a b) (NoWorse a b) }
     ensures better { (a b : Candidate) → Decides (is_better a b) (Better a b) }
     ensures before { (a b : Candidate) → Decides (is_before a b) (Before a b) }
+{}
+
+/// What the checks of a text give is a valid report, and the text is its one spelling.
+pub fn what_is_read_is_spelled()
+    ensures valid { (text : List ℕ) (r : ReportValue) → report_of text ≡ Ok r → IsReport r }
+    ensures spelled { (text : List ℕ) (r : ReportValue) → report_of text ≡ Ok r → text ≡ report_text r }
 {}
