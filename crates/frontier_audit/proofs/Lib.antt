@@ -8,3 +8,4 @@ pub mod Marked
 pub mod Solved
 pub mod Joined
 pub mod Right
+pub mod InOrder

@@ -56,7 +56,7 @@ any_ordered : (p : Candidate → Bool) (xs : List Candidate) → list_any p (in_
 any_ordered p [] = refl
 any_ordered p (x ∷ xs) = any_put p x (in_search_order xs) ∙ ap (λ rest. p x || rest) (any_ordered p xs)
 
-all_put : (P : Candidate → Type 0) (x : Candidate) (ys : List Candidate) → P x → All P ys → All P (put_in_order x ys)
+pub all_put : (P : Candidate → Type 0) (x : Candidate) (ys : List Candidate) → P x → All P ys → All P (put_in_order x ys)
 all_put P x [] h a = All-cons P x [] h (All-nil P)
 all_put P x (y ∷ ys) h a = chosen (is_before x y) (all_put P x ys h (All-tail P y ys a))
   where
@@ -64,7 +64,7 @@ all_put P x (y ∷ ys) h a = chosen (is_before x y) (all_put P x ys h (All-tail 
     chosen true later = All-cons P x (y ∷ ys) h a
     chosen false later = All-cons P y (put_in_order x ys) (All-head P y ys a) later
 
-all_ordered : (P : Candidate → Type 0) (xs : List Candidate) → All P xs → All P (in_search_order xs)
+pub all_ordered : (P : Candidate → Type 0) (xs : List Candidate) → All P xs → All P (in_search_order xs)
 all_ordered P [] a = All-nil P
 all_ordered P (x ∷ xs) a = all_put P x (in_search_order xs) (All-head P x xs a) (all_ordered P xs (All-tail P x xs a))
 
@@ -84,7 +84,7 @@ IsCountOf q c = From 1 q.limits.max_c c × (allows q.collective.kind q.topology.
 counts_allowed : (q : QuestionValue) → All (IsCountOf q) (counts_of q)
 counts_allowed q = all_passing (From 1 q.limits.max_c) (allows q.collective.kind q.topology.nodes) (range_with_len 1 q.limits.max_c) (in_range 1 q.limits.max_c)
 
-step_within : (q : QuestionValue) (s : ℕ) → From 1 q.limits.max_s s → All (IsWithin q) (candidates_of_step q s)
+pub step_within : (q : QuestionValue) (s : ℕ) → From 1 q.limits.max_s s → All (IsWithin q) (candidates_of_step q s)
 step_within q s step = in_flat (IsWithin q) (From s (q.limits.k + 1)) (λ r. map (λ c. candidate_at s (r, c)) (counts_of q)) (range_with_len s (q.limits.k + 1))
     (λ r rounds. in_map (IsWithin q) (IsCountOf q) (λ c. candidate_at s (r, c)) (counts_of q)
     (λ c count. record { some_steps = step.0; steps = omega (arith, step.1); all_rounds = rounds.0; rounds = omega (arith, rounds.1); chunks = omega (arith, count.0.1); allowed = count.1 }) (counts_allowed q)) (in_range s (q.limits.k + 1))

@@ -1,8 +1,9 @@
 //! What a right shelf says, and what an audit does.
 
-ghost use Rattle.std.specs.Prelude.{◌≡◌, ◌↔◌, None, All, Contains};
+ghost use Rattle.std.specs.Prelude.{◌≡◌, ◌↔◌, None, All, AllPairs, Contains};
 ghost use Rattle.outer_ports.specs.Files.{Files};
 ghost use Rattle.cnf_formula.specs.Formulas.{Satisfiable};
+ghost use Rattle.candidate_order.specs.Costs.{Before};
 ghost use Rattle.candidate_order.specs.Frontiers.{QuestionValue, FrontierValue, UnknownValue, IsWithin, IsSolvable, RightFrontier};
 ghost use Rattle.allreduce_join.specs.Joins.{Joins};
 ghost use Rattle.frontier_report.specs.Reports.{ReportValue, IsReport, question_of};
@@ -37,9 +38,10 @@ pub fn verified_shelf_is_right()
     ensures { (r : ReportValue) (files : Files) → IsReport r → audit_of r files ≡ AuditVerdict.Verified → ShelfRight r files }
 {}
 
-/// The candidates that an audit goes through are just those within the limits.
+/// The candidates that an audit goes through are just those within the limits, in the order of the search.
 pub fn candidates_are_those_within()
-    ensures { (q : QuestionValue) (x : Candidate) → Contains (candidates_within q) x ↔ IsWithin q x }
+    ensures members { (q : QuestionValue) (x : Candidate) → Contains (candidates_within q) x ↔ IsWithin q x }
+    ensures order { (q : QuestionValue) → AllPairs Before (candidates_within q) }
 {}
 
 /// Where an audit finds nothing to deny, each frontier is right, as far as its refuted candidates have no solution, and the
