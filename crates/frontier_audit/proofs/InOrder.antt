@@ -1,20 +1,20 @@
 -- The candidates of a search come in its order.
-use Rattle.std.proofs.Common.{◌≡◌, ℕ, zero, suc, ◌+◌, ◌<◌, ◌≤◌, Bool, true, false, List, [], ◌∷◌, ◌++◌, length, map, get_or, ◌⊎◌, inl, inr, refl, sym, ap, ◌∙◌, arith}
-use Rattle.std.specs.Prelude.{◌≢◌, if◌then◌else◌, flat_map, filter, nat_le, All, AllPairs}
+use Rattle.std.proofs.Common.{◌≡◌, ℕ, zero, suc, ◌+◌, ◌<◌, ◌≤◌, Bool, true, false, List, [], ◌∷◌, ◌++◌, length, map, get_or, inl, inr, refl, sym, ap, ◌∙◌, arith}
+use Rattle.std.specs.Prelude.{◌≢◌, if◌then◌else◌, flat_map, filter, All, AllPairs}
 use Rattle.std.specs.List.{range_with_len}
-use Rattle.std.proofs.lemmas.Bool.{and_parts, leb-true, not-true, false≢true}
+use Rattle.std.proofs.lemmas.Bool.{false≢true}
 use Rattle.std.proofs.lemmas.List.Elements.{All-nil, All-cons, All-head, All-tail, All-append, All-filter}
-use Rattle.collective_spec.specs.Kinds.{allows, divides_evenly}
+use Rattle.collective_spec.specs.Kinds.{allows}
 use Rattle.candidate_order.specs.declared.candidate.Candidate.{Candidate}
 use Rattle.candidate_order.specs.Costs.{Before}
 use Rattle.candidate_order.specs.Listed.{candidate_at}
-use Rattle.candidate_order.specs.Frontiers.{QuestionValue, IsWithin}
+use Rattle.candidate_order.specs.Frontiers.{QuestionValue}
 use Rattle.candidate_order.proofs.Orders.{Before-trans, Before-total}
 use Rattle.frontier_report.specs.Tests.{is_before}
 use Rattle.frontier_report.proofs.Tested.{decides_before}
 use Rattle.round_encoding.proofs.Everywhere.{in_map, in_flat, From, in_range}
 use Rattle.frontier_audit.specs.Candidates.{counts_of, candidates_of_step, put_in_order, in_search_order, candidates_within}
-use Rattle.frontier_audit.proofs.Tried.{all_put, all_ordered, step_within}
+use Rattle.frontier_audit.proofs.Tried.{all_put, all_ordered}
 
 -- ---- pairs of a list
 
@@ -50,7 +50,7 @@ pairs_of_range {X} R K f kinds inner apart a (suc n) =
     all_by [] h = All-nil (λ x. All (R x) (flat_map f (range_with_len (a + 1) n)))
     all_by (x ∷ xs) h = All-cons (λ z. All (R z) (flat_map f (range_with_len (a + 1) n))) x xs
         (in_flat (R x) (From (a + 1) n) f (range_with_len (a + 1) n)
-            (λ j at k d low. apart a j x (get_or (f j) k d) (omega (arith, at.0)) (All-head (K a) x xs h) (kinds j k d low)) (in_range (a + 1) n))
+        (λ j at k d low. apart a j x (get_or (f j) k d) (omega (arith, at.0)) (All-head (K a) x xs h) (kinds j k d low)) (in_range (a + 1) n))
         (all_by xs (All-tail (K a) x xs h))
 
 -- ---- a list in the order of the search

@@ -57,7 +57,6 @@ hop_before_trans a b c first second =
 
 -- ---- the last send
 
-
 -- ---- the last of a list
 
 pub last_is : {A : Type 0} (xs : List A) (o : Option A) (k : ℕ) (d : A) → length xs ≡ suc k → last_or o xs ≡ Some (get_or xs k d)

@@ -1,5 +1,5 @@
 -- What the checks of the line that says what was asked took stands there, and is valid.
-use Rattle.std.proofs.Common.{◌≡◌, ℕ, ◌<◌, ◌≤◌, ◌^◌, Bool, true, false, not, List, [], ◌∷◌, ◌++◌, length, drop, Option, None, Some, Result, Ok, Err, refl, sym, ap, ◌∙◌, subst, arith}
+use Rattle.std.proofs.Common.{◌≡◌, ℕ, ◌<◌, Bool, true, false, not, List, [], ◌∷◌, ◌++◌, length, drop, Option, None, Some, Result, Ok, refl, sym, ap, ◌∙◌, subst, arith}
 use Rattle.std.specs.Prelude.{codes, decimal, bytes_eq, find, if◌then◌else◌}
 use Rattle.std.proofs.lemmas.Slice.Eq.{bytes_eq-Decides}
 use Rattle.text_lines.specs.Text.{Place}
@@ -15,14 +15,14 @@ use Rattle.topology_text.specs.Reading.{node_of}
 use Rattle.topology_text.proofs.Links.{node_is}
 use Rattle.frontier_report.specs.declared.fault.ReportCode.{ReportCode}
 use Rattle.frontier_report.specs.declared.fault.ReportCode.TheVariants as code
-use Rattle.frontier_report.specs.Reports.{WordsValue, IsWords}
-use Rattle.frontier_report.specs.Spelling.{root_words, synth_words}
+use Rattle.frontier_report.specs.Reports.{IsWords}
+use Rattle.frontier_report.specs.Spelling.{synth_words}
 use Rattle.frontier_report.specs.Tests.{are_limits}
 use Rattle.frontier_report.specs.Fields.{any_number, behind_key, next_keyed, fixed_word, no_more}
 use Rattle.frontier_report.specs.Asked.{AskedValue, every_kind, kind_named, limits_from, root_from, asked_from, asked_line, root_of, words_from}
 use Rattle.frontier_report.proofs.Tested.{decides_limits}
-use Rattle.frontier_report.proofs.Tokens.{WordTaken, word_take, fixed_take, no_more_take, keyed_is, any_number_is, if_some, some_is}
-use Rattle.frontier_report.proofs.LineTaken.{on_words, words_part_take, ruled}
+use Rattle.frontier_report.proofs.Tokens.{word_take, fixed_take, no_more_take, keyed_is, any_number_is, if_some, some_is}
+use Rattle.frontier_report.proofs.LineTaken.{words_part_take, ruled}
 
 -- ---- keys
 
@@ -79,9 +79,9 @@ limits_take words x e =
     let most_c = ok.chunks in
     let most_n = ok.conflicts in
     t1.stands ∙ (ap (λ v. (codes "k=" ++ v) ∷ k.1) (any_number_is t1.value k.0 t1.read_as (omega (arith, most_k)))
-        ∙ ap (λ ws. (codes "k=" ++ decimal k.0) ∷ ws) (t2.stands ∙ (ap (λ v. (codes "steps=" ++ v) ∷ s.1) (any_number_is t2.value s.0 t2.read_as (omega (arith, most_s)))
-        ∙ ap (λ ws. (codes "steps=" ++ decimal s.0) ∷ ws) (t3.stands ∙ (ap (λ v. (codes "chunks=" ++ v) ∷ c.1) (any_number_is t3.value c.0 t3.read_as (omega (arith, most_c)))
-        ∙ ap (λ ws. (codes "chunks=" ++ decimal c.0) ∷ ws) (t4.stands ∙ ap (λ v. (codes "conflicts=" ++ v) ∷ n.1) (any_number_is t4.value n.0 t4.read_as (omega (arith, most_n))))))))))
+    ∙ ap (λ ws. (codes "k=" ++ decimal k.0) ∷ ws) (t2.stands ∙ (ap (λ v. (codes "steps=" ++ v) ∷ s.1) (any_number_is t2.value s.0 t2.read_as (omega (arith, most_s)))
+    ∙ ap (λ ws. (codes "steps=" ++ decimal s.0) ∷ ws) (t3.stands ∙ (ap (λ v. (codes "chunks=" ++ v) ∷ c.1) (any_number_is t3.value c.0 t3.read_as (omega (arith, most_c)))
+    ∙ ap (λ ws. (codes "chunks=" ++ decimal c.0) ∷ ws) (t4.stands ∙ ap (λ v. (codes "conflicts=" ++ v) ∷ n.1) (any_number_is t4.value n.0 t4.read_as (omega (arith, most_n))))))))))
 
 -- ---- the root
 

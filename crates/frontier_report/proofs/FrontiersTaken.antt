@@ -1,9 +1,9 @@
 -- What the checks of a report's parts took stands there, and is valid.
-use Rattle.std.proofs.Common.{◌≡◌, ℕ, List, [], ◌∷◌, ◌++◌, map, length, Result, Ok, refl, sym, ap, ◌∙◌, subst, append_assoc}
+use Rattle.std.proofs.Common.{◌≡◌, ℕ, List, [], ◌∷◌, ◌++◌, map, length, Ok, refl, sym, ap, ◌∙◌, subst, append_assoc}
 use Rattle.std.specs.Prelude.{◌≢◌, codes, flat_map, All}
 use Rattle.std.proofs.lemmas.List.Elements.{All-nil, All-cons}
 use Rattle.text_lines.specs.Text.{Row, Place, words_of}
-use Rattle.text_lines.specs.Check.{◌>>=◌, first, line_part}
+use Rattle.text_lines.specs.Check.{◌>>=◌, line_part}
 use Rattle.text_lines.proofs.Checks.{bind_ok, ok_is}
 use Rattle.text_lines.proofs.Rows.{row_of}
 use Rattle.outer_ports.specs.declared.part.Part.{Part}
@@ -20,7 +20,7 @@ use Rattle.frontier_report.specs.Spelling.{point_lines, refuted_words, unknown_w
 use Rattle.frontier_report.specs.Lines.{fixed_line, lines_at, parts_at}
 use Rattle.frontier_report.specs.Points.{point_at, joined_point_at}
 use Rattle.frontier_report.specs.Reading.{refuted_line, unknown_line, part_bytes, frontier_at, frontiers_from, joined_at}
-use Rattle.frontier_report.proofs.LineTaken.{LineTaken, fixed_part_take, lines_take, parts_take, map_both}
+use Rattle.frontier_report.proofs.LineTaken.{fixed_part_take, lines_take, parts_take, map_both}
 use Rattle.frontier_report.proofs.ListsTaken.{AreListed, none_listed, refuted_takes, AreUnknown, none_unknown, unknown_takes}
 use Rattle.frontier_report.proofs.PointsTaken.{ArePoints, no_points, point_takes}
 use Rattle.frontier_report.proofs.JoinedTaken.{joined_takes, no_joined}

@@ -1,14 +1,13 @@
 -- What the checks of a joined point took stands there, and is valid.
-use Rattle.std.proofs.Common.{◌≡◌, ℕ, ◌+◌, ◌*◌, ◌<◌, ◌≤◌, Bool, true, false, ◌&&◌, not, List, [], ◌∷◌, ◌++◌, map, length, Option, Result, Ok, refl, sym, ap, ◌∙◌, subst, arith}
+use Rattle.std.proofs.Common.{◌≡◌, ℕ, ◌+◌, ◌*◌, ◌<◌, ◌≤◌, true, ◌&&◌, not, List, [], ◌∷◌, ◌++◌, map, length, Result, Ok, sym, ap, ◌∙◌, subst, arith}
 use Rattle.std.specs.Prelude.{nat_le, nat_lt, All}
 use Rattle.std.proofs.lemmas.Bool.{and_parts, not-false, leb-true, ltb-true}
 use Rattle.std.proofs.lemmas.List.Elements.{All-push, All-nil}
-use Rattle.text_lines.specs.Text.{Row, Place}
+use Rattle.text_lines.specs.Text.{Place}
 use Rattle.text_lines.specs.Check.{◌>>=◌, refuse, line_part}
 use Rattle.text_lines.proofs.Checks.{bind_ok, refuse_ok, ok_is}
 use Rattle.text_lines.proofs.Rows.{row_of}
 use Rattle.candidate_order.specs.declared.candidate.Candidate.{Candidate}
-use Rattle.candidate_order.specs.declared.mark.Mark.{Mark}
 use Rattle.candidate_order.specs.declared.mark.Mark.TheVariants as mark
 use Rattle.candidate_order.specs.Ranges.{IsLimits}
 use Rattle.candidate_order.specs.Frontiers.{QuestionValue, PointValue}
@@ -19,7 +18,7 @@ use Rattle.frontier_report.specs.Spelling.{point_words, point_lines}
 use Rattle.frontier_report.specs.Points.{HeadValue, may_join, joined_head_from, joined_head_line, schedule_at, joined_point_at}
 use Rattle.frontier_report.proofs.LineTaken.{words_part_take, TakesPart}
 use Rattle.frontier_report.proofs.Shapes.{joined_head_take}
-use Rattle.frontier_report.proofs.PointsTaken.{point_of, ScheduleTaken, schedule_take}
+use Rattle.frontier_report.proofs.PointsTaken.{point_of, schedule_take}
 
 abbrev joined_of : Candidate × ℕ → HeadValue
 joined_of x = record { candidate = x.0; mark = mark.Joined x.1 }

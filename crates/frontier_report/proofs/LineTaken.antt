@@ -1,5 +1,5 @@
 -- What the checks of lines took stands there.
-use Rattle.std.proofs.Common.{◌≡◌, ℕ, zero, suc, ◌+◌, Bool, true, false, not, cond, List, [], ◌∷◌, ◌++◌, map, length, drop, Option, None, Some, Result, Ok, Err, refl, sym, ap, ◌∙◌, subst, append_assoc}
+use Rattle.std.proofs.Common.{◌≡◌, ℕ, zero, suc, ◌+◌, Bool, true, false, not, List, [], ◌∷◌, ◌++◌, map, drop, Option, None, Some, Result, Ok, Err, refl, sym, ap, ◌∙◌, subst, append_assoc}
 use Rattle.std.specs.Prelude.{bytes_eq, if◌then◌else◌, flat_map}
 use Rattle.std.proofs.lemmas.Bool.{not-false}
 use Rattle.std.proofs.lemmas.Slice.Eq.{bytes_eq-Decides}
@@ -12,7 +12,7 @@ use Rattle.topology_text.specs.Reading.{begins}
 use Rattle.topology_text.proofs.Groups.{place}
 use Rattle.frontier_report.specs.declared.fault.ReportCode.{ReportCode}
 use Rattle.frontier_report.specs.declared.fault.ReportCode.TheVariants.{BadLine, Truncated}
-use Rattle.frontier_report.specs.Lines.{whole_line, tokens_line, fixed_line, no_line, row_begins, lines_from, lines_at, parts_from, parts_at}
+use Rattle.frontier_report.specs.Lines.{whole_line, tokens_line, fixed_line, no_line, row_begins, lines_from, parts_from}
 
 pub record WholeTaken (line : Option Row) (row : Row) : Type 0 where
   pub is : line ≡ Some row

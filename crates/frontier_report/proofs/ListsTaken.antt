@@ -1,13 +1,12 @@
 -- What the checks of refuted and unknown candidates took stands there, and is valid.
-use Rattle.std.proofs.Common.{◌≡◌, ℕ, ◌+◌, ◌<◌, ◌≤◌, ◌^◌, Bool, true, false, ◌&&◌, not, List, [], ◌∷◌, ◌++◌, map, Option, None, Some, Result, Ok, refl, sym, ap, ◌∙◌, subst, arith}
+use Rattle.std.proofs.Common.{◌≡◌, ℕ, Bool, true, ◌&&◌, not, List, [], ◌∷◌, ◌++◌, map, None, Some, Result, Ok, sym, ap, ◌∙◌, subst, arith}
 use Rattle.std.specs.Prelude.{◌==◌, decimal, codes, nat_le, All, AllPairs}
 use Rattle.std.specs.List.{last_or}
 use Rattle.std.proofs.lemmas.Bool.{and_parts, eqb-true, leb-true}
 use Rattle.std.proofs.lemmas.List.Elements.{All-push, All-nil}
-use Rattle.text_lines.specs.Text.{Row, Place}
 use Rattle.text_lines.specs.Check.{◌>>=◌, refuse}
 use Rattle.text_lines.proofs.Rows.{row_of}
-use Rattle.collective_spec.specs.Kinds.{allows, divides_evenly}
+use Rattle.collective_spec.specs.Kinds.{divides_evenly}
 use Rattle.candidate_order.specs.declared.candidate.Candidate.{Candidate}
 use Rattle.candidate_order.specs.Ranges.{IsLimits}
 use Rattle.candidate_order.specs.Costs.{Before}
@@ -20,7 +19,7 @@ use Rattle.frontier_report.specs.Reading.{refuted_from, refuted_line, unknown_fr
 use Rattle.frontier_report.proofs.Tested.{decides_within}
 use Rattle.frontier_report.proofs.Ascending.{HasChunk, push_candidate, nothing_ascends}
 use Rattle.frontier_report.proofs.Tokens.{any_number_is}
-use Rattle.frontier_report.proofs.LineTaken.{on_words, on_words_take, Takes, ruled, row_is, map_both}
+use Rattle.frontier_report.proofs.LineTaken.{on_words_take, Takes, ruled, row_is, map_both}
 use Rattle.frontier_report.proofs.Shapes.{refuted_take, unknown_take}
 
 pub has_chunk : (q : QuestionValue) (x : Candidate) → IsWithin q x → HasChunk x

@@ -1,15 +1,15 @@
 -- What the checks of a point took stands there, and is valid.
-use Rattle.std.proofs.Common.{◌≡◌, ℕ, ◌+◌, ◌*◌, ◌<◌, ◌≤◌, Bool, true, false, ◌&&◌, not, ltb, List, [], ◌∷◌, ◌++◌, map, length, sum, get_or, Option, None, Some, Result, Ok, ◌⊎◌, refl, sym, ap, ◌∙◌, subst, arith}
+use Rattle.std.proofs.Common.{◌≡◌, ℕ, ◌≤◌, Bool, true, ◌&&◌, not, ltb, List, [], ◌∷◌, ◌++◌, map, length, sum, None, Some, Result, Ok, ◌⊎◌, refl, sym, ap, ◌∙◌, subst, arith}
 use Rattle.std.specs.Prelude.{◌==◌, codes, nat_le, nat_lt, All, AllPairs}
 use Rattle.std.specs.List.{last_or, list_all}
-use Rattle.std.proofs.lemmas.Bool.{and_parts, and_from, eqb-true, leb-true, ltb-true, lt-ltb}
+use Rattle.std.proofs.lemmas.Bool.{and_parts, and_from, eqb-true, leb-true, lt-ltb}
 use Rattle.std.proofs.lemmas.List.Elements.{All-push, All-nil, All-cons}
-use Rattle.text_lines.specs.Text.{Row, Place}
+use Rattle.text_lines.specs.Text.{Place}
 use Rattle.text_lines.specs.Check.{◌>>=◌, refuse, line_part}
 use Rattle.text_lines.proofs.Checks.{bind_ok, ok_is}
 use Rattle.text_lines.proofs.Rows.{row_of}
 use Rattle.schedule.specs.declared.hop.Hop.{Hop}
-use Rattle.schedule.specs.Sends.{ScheduleValue, IsSchedule, IsRound, IsStep, IsInRange, is_hop_below}
+use Rattle.schedule.specs.Sends.{IsRound, IsStep, is_hop_below}
 use Rattle.collective_spec.specs.Collectives.{chunks_of}
 use Rattle.candidate_order.specs.declared.candidate.Candidate.{Candidate}
 use Rattle.candidate_order.specs.declared.mark.Mark.{Mark}
@@ -18,15 +18,15 @@ use Rattle.candidate_order.specs.Ranges.{IsLimits}
 use Rattle.candidate_order.specs.Frontiers.{QuestionValue, PointValue, IsWithin}
 use Rattle.frontier_report.specs.declared.fault.ReportCode.{ReportCode}
 use Rattle.frontier_report.specs.declared.fault.ReportCode.TheVariants as code
-use Rattle.frontier_report.specs.Reports.{HasSchedule, IsPoint, IsJoinedPoint}
+use Rattle.frontier_report.specs.Reports.{HasSchedule, IsPoint}
 use Rattle.frontier_report.specs.Spelling.{rounds_words, send_words, point_words, point_lines}
 use Rattle.frontier_report.specs.Tests.{is_within, comes_next}
 use Rattle.frontier_report.specs.Lines.{lines_at}
-use Rattle.frontier_report.specs.Points.{HeadValue, head_from, head_line, may_join, joined_head_from, joined_head_line, rounds_from, are_rounds, rounds_line, send_from, follows, may_be_sent, send_line, schedule_at, point_at, joined_point_at}
+use Rattle.frontier_report.specs.Points.{HeadValue, head_from, head_line, rounds_from, are_rounds, rounds_line, send_from, follows, may_be_sent, send_line, schedule_at, point_at}
 use Rattle.frontier_report.proofs.Tested.{decides_within}
 use Rattle.frontier_report.proofs.Ascending.{HopBefore, push_hop, nothing_ascends}
-use Rattle.frontier_report.proofs.LineTaken.{on_words, on_words_take, words_part_take, Takes, TakesPart, lines_take, ruled, row_is, map_both}
-use Rattle.frontier_report.proofs.Shapes.{head_take, joined_head_take, rounds_take, send_take}
+use Rattle.frontier_report.proofs.LineTaken.{on_words_take, words_part_take, Takes, TakesPart, lines_take, ruled, row_is, map_both}
+use Rattle.frontier_report.proofs.Shapes.{head_take, rounds_take, send_take}
 use Rattle.frontier_report.proofs.ListsTaken.{AreListed, none_listed, push_listed}
 
 each_of : {X : Type 0} (p : X → Bool) (P : X → Type 0) (h : (x : X) → p x ≡ true → P x) (xs : List X) → list_all p xs ≡ true → All P xs
@@ -99,7 +99,7 @@ module _ (names : List (List ℕ)) (chunks steps : ℕ) where
           steps_are = All-push (λ k. IsStep steps k.step) before h are.steps_are (record { from = omega (arith, low); to = leb-true h.step steps outer.1 });
           below = All-push (λ k. is_hop_below chunks (length names) k ≡ true) before h are.below
               (and_from (ltb h.chunk chunks) (ltb h.from (length names) && ltb h.to (length names)) inner.0
-                  (and_from (ltb h.from (length names)) (ltb h.to (length names)) (lt-ltb h.from (length names) taken.from) (lt-ltb h.to (length names) taken.to)));
+              (and_from (ltb h.from (length names)) (ltb h.to (length names)) (lt-ltb h.from (length names) taken.from) (lt-ltb h.to (length names) taken.to)));
           ascending = push_hop before h are.ascending parts.1;
         };
   }

@@ -1,22 +1,21 @@
 -- A text that the checks take is the text of the report that they give, which is valid.
-use Rattle.std.proofs.Common.{◌≡◌, ℕ, ◌+◌, ◌<◌, Bool, List, [], ◌∷◌, ◌++◌, map, length, Result, Ok, Err, refl, sym, ap, ◌∙◌, subst, append_assoc}
-use Rattle.std.specs.Prelude.{codes, flat_map, All}
-use Rattle.text_lines.specs.Text.{Row, Place, words_of, rows_of, start, text_of}
-use Rattle.text_lines.specs.Check.{◌>>=◌, refuse, at_line, first, line_part}
+use Rattle.std.proofs.Common.{◌≡◌, ℕ, List, [], ◌∷◌, ◌++◌, map, length, Result, Ok, Err, refl, sym, ap, ◌∙◌, subst}
+use Rattle.std.specs.Prelude.{codes, flat_map}
+use Rattle.text_lines.specs.Text.{Row, Place, rows_of, start}
+use Rattle.text_lines.specs.Check.{◌>>=◌, at_line, line_part}
 use Rattle.text_lines.proofs.Checks.{bind_ok, at_line_ok, ok_is}
 use Rattle.text_lines.proofs.Rows.{row_of, text_back}
 use Rattle.schedule.specs.Links.{GroupValue}
 use Rattle.outer_ports.specs.declared.part.Part.{Part}
-use Rattle.outer_ports.specs.declared.part.Part.TheVariants as part
 use Rattle.candidate_order.specs.Ranges.{IsLimits}
 use Rattle.candidate_order.specs.Frontiers.{PointValue, FrontierValue}
 use Rattle.topology_text.specs.declared.fault.TopologyCode.{TopologyCode}
 use Rattle.topology_text.specs.Value.{NamedTopologyValue, IsNamed, named}
 use Rattle.topology_text.specs.Spelling.{lines_of}
 use Rattle.topology_text.specs.Reading.{header_line, nodes_line, groups_at, topology_at}
-use Rattle.topology_text.proofs.Laws.{topology_rows, TopologyTaken, topology_take, after_header, after_names, after_groups}
+use Rattle.topology_text.proofs.Laws.{topology_rows, topology_take, after_header, after_names, after_groups}
 use Rattle.frontier_report.specs.declared.fault.ReportCode.{ReportCode}
-use Rattle.frontier_report.specs.Reports.{WordsValue, ReportValue, IsWords, IsReport, IsFrontier, IsJoinedPoint, parts_of, question_of}
+use Rattle.frontier_report.specs.Reports.{WordsValue, ReportValue, IsWords, IsReport, parts_of}
 use Rattle.frontier_report.specs.Spelling.{synth_words, frontier_lines, joined_lines, body_lines, report_lines, report_text}
 use Rattle.frontier_report.specs.Lines.{fixed_line, no_line, among}
 use Rattle.frontier_report.specs.Asked.{AskedValue, asked_line, root_of, words_from}

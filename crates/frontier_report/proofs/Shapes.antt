@@ -1,8 +1,8 @@
 -- What the checks of a line's shape took stands there.
-use Rattle.std.proofs.Common.{◌≡◌, ℕ, ◌<◌, ◌≤◌, ◌^◌, Bool, true, false, List, [], ◌∷◌, ◌++◌, map, length, drop, Option, None, Some, Result, Ok, ◌⊎◌, inl, inr, refl, sym, ap, ◌∙◌, subst, arith}
+use Rattle.std.proofs.Common.{◌≡◌, ℕ, ◌<◌, Bool, true, false, List, [], ◌∷◌, ◌++◌, map, length, None, Some, Ok, ◌⊎◌, inl, inr, refl, sym, ap, ◌∙◌, subst}
 use Rattle.std.specs.Prelude.{codes, decimal, bytes_eq, if◌then◌else◌}
 use Rattle.std.proofs.lemmas.Slice.Eq.{bytes_eq-Decides}
-use Rattle.text_lines.specs.Check.{◌>>=◌, need}
+use Rattle.text_lines.specs.Check.{◌>>=◌}
 use Rattle.text_lines.proofs.Checks.{bind_ok, need_ok, ok_is}
 use Rattle.text_lines.proofs.Numbers.{up_to_found}
 use Rattle.schedule.specs.declared.hop.Hop.{Hop}
@@ -17,7 +17,7 @@ use Rattle.frontier_report.specs.Spelling.{candidate_words, mark_words, rounds_w
 use Rattle.frontier_report.specs.Fields.{any_number, small_number, next_word, next_number, next_node, fixed_word, no_more}
 use Rattle.frontier_report.specs.Points.{HeadValue, candidate_from, mark_named, head_from, joined_head_from, numbers_from, rounds_from, send_from}
 use Rattle.frontier_report.specs.Reading.{refuted_from, unknown_from}
-use Rattle.frontier_report.proofs.Tokens.{WordTaken, word_take, fixed_take, no_more_take, number_take, node_take, any_number_is}
+use Rattle.frontier_report.proofs.Tokens.{word_take, fixed_take, no_more_take, number_take, node_take}
 
 -- ---- a candidate
 
@@ -115,8 +115,8 @@ joined_head_take words x e =
     let same : (y.0, n.0) ≡ x = ok_is {C = ReportCode} (y.0, n.0) x e5 in
     let P : Candidate × ℕ → Type 0 = λ z. words ≡ codes "point" ∷ candidate_words z.0 ++ mark_words (mark.Joined z.1) in
     subst P same (fixed_take (codes "point") words a r1 ∙ ap (λ ws. codes "point" ∷ ws) (candidate_take a y r2
-        ∙ ap (λ ws. decimal y.0.s ∷ decimal y.0.r ∷ decimal y.0.c ∷ ws) (fixed_take (codes "joined") y.1 d r3
-        ∙ ap (λ ws. codes "joined" ∷ ws) (number_take d n r4 ∙ ap (λ ws. decimal n.0 ∷ ws) (no_more_take n.1 u r5)))))
+    ∙ ap (λ ws. decimal y.0.s ∷ decimal y.0.r ∷ decimal y.0.c ∷ ws) (fixed_take (codes "joined") y.1 d r3
+    ∙ ap (λ ws. codes "joined" ∷ ws) (number_take d n r4 ∙ ap (λ ws. decimal n.0 ∷ ws) (no_more_take n.1 u r5)))))
 
 -- ---- rounds and sends
 

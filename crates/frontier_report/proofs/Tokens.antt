@@ -1,13 +1,11 @@
 -- What the checks of tokens took stands there.
-use Rattle.std.proofs.Common.{◌≡◌, ℕ, ◌<◌, ◌≤◌, ◌^◌, Bool, true, false, ◌&&◌, not, eqb, List, [], ◌∷◌, ◌++◌, length, get_or, drop, Option, None, Some, Result, Ok, refl, sym, ap, ◌∙◌, subst, arith}
+use Rattle.std.proofs.Common.{◌≡◌, ℕ, ◌<◌, ◌^◌, Bool, true, false, ◌&&◌, not, List, [], ◌∷◌, ◌++◌, length, drop, Option, None, Some, Result, Ok, refl, sym, ap, ◌∙◌, subst, arith}
 use Rattle.std.specs.Prelude.{◌==◌, if◌then◌else◌, bytes_eq, decimal, nat_eq, nat_le}
 use Rattle.std.specs.List.{starts_with, list_all}
 use Rattle.std.specs.Str.Parse.{AllDigits, digits_value}
-use Rattle.std.specs.Char.{digit_value}
 use Rattle.std.proofs.lemmas.Bool.{and_parts, not-true, not-false, leb-true, eqb-false}
 use Rattle.std.proofs.lemmas.Bool.Decides.{Decides-eqb}
 use Rattle.std.proofs.lemmas.Slice.Eq.{bytes_eq-Decides, starts_is}
-use Rattle.text_lines.specs.Check.{◌>>=◌, refuse, need}
 use Rattle.text_lines.proofs.Checks.{need_ok, refuse_ok, ok_is}
 use Rattle.text_lines.proofs.Numbers.{up_to_found, spells, digit_is}
 use Rattle.topology_text.specs.Spelling.{name_at}
@@ -15,7 +13,7 @@ use Rattle.topology_text.specs.Reading.{begins, node_of}
 use Rattle.topology_text.proofs.Links.{node_is}
 use Rattle.frontier_report.specs.declared.fault.ReportCode.{ReportCode}
 use Rattle.frontier_report.specs.declared.fault.ReportCode.TheVariants.{BadLine}
-use Rattle.frontier_report.specs.Fields.{is_digit, is_number, any_number, small_number, next_word, behind_key, next_keyed, fixed_word, next_number, next_node, no_more}
+use Rattle.frontier_report.specs.Fields.{is_digit, is_number, any_number, small_number, next_word, behind_key, fixed_word, next_number, next_node, no_more}
 
 -- ---- one token
 
