@@ -9,3 +9,4 @@ pub mod AskedTaken
 pub mod JoinedTaken
 pub mod FrontiersTaken
 pub mod ReportTaken
+pub mod Blamed

@@ -1,12 +1,13 @@
 //! Laws of the checks of a report.
 
-ghost use Rattle.std.specs.Prelude.{◌≡◌, ℕ, List, Ok, Decides};
+ghost use Rattle.std.specs.Prelude.{◌≡◌, ℕ, List, [], Ok, Decides};
 ghost use Rattle.candidate_order.specs.Ranges.{LimitsValue, IsLimits};
 ghost use Rattle.candidate_order.specs.Costs.{NoWorse, Better, Before};
 ghost use Rattle.candidate_order.specs.Frontiers.{QuestionValue, IsWithin};
 ghost use Rattle.frontier_report.specs.Reports.{ReportValue, IsReport};
 ghost use Rattle.frontier_report.specs.Spelling.{report_text};
 ghost use Rattle.frontier_report.specs.Reading.{report_of};
+ghost use Rattle.frontier_report.specs.First.{FailsFirstAt};
 ghost use Rattle.frontier_report.specs.Tests.{are_limits, is_within, is_no_worse, is_better, is_before};
 
 use candidate_order::Candidate;
@@ -24,4 +25,10 @@ pub fn tests_decide()
 pub fn what_is_read_is_spelled()
     ensures valid { (text : List ℕ) (r : ReportValue) → report_of text ≡ Ok r → IsReport r }
     ensures spelled { (text : List ℕ) (r : ReportValue) → report_of text ≡ Ok r → text ≡ report_text r }
+{}
+
+/// At most one line of a text is the first at which the text can no longer be a report's; of the empty text it is line 1.
+pub fn one_line_fails_first()
+    ensures unique { (text : List ℕ) (m n : ℕ) → FailsFirstAt text m → FailsFirstAt text n → m ≡ n }
+    ensures empty { FailsFirstAt [] 1 }
 {}

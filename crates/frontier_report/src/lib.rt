@@ -6,7 +6,7 @@ mod laws;
 mod vectors;
 
 pub use fault::{ReportCode, ReportFault};
-pub use laws::{tests_decide, what_is_read_is_spelled};
+pub use laws::{one_line_fails_first, tests_decide, what_is_read_is_spelled};
 pub use vectors::{
     broadcasts_refused, numbers_checked, order_of_checks, order_of_lines, relays_refused, texts,
     texts_read,
