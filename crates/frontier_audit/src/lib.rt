@@ -11,6 +11,6 @@ pub use laws::{
 };
 pub use vectors::{
     allreduce_audited, altered_files_audited, candidates, formula_of_one_step, lines,
-    relay_audited, unknown_audited,
+    order_of_audit, relay_audited, unknown_audited,
 };
 pub use verdict::{AuditFault, AuditVerdict, Reason};

@@ -85,3 +85,13 @@ pub fn allreduce_audited()
     ensures join_differs { audit_of (allreduce (point 2 3 (Mark.Joined 1) (2 ∷ 1 ∷ []) joined_sends ∷ [])) (shelf []) ≡ AuditVerdict.Denied Reason.JoinWrong Part.Joined (sized 2 2 1) }
     ensures surplus { audit_of (allreduce (point 2 2 (Mark.Joined 1) (1 ∷ 1 ∷ []) joined_sends ∷ point 3 3 (Mark.Joined 1) (1 ∷ 1 ∷ 1 ∷ []) joined_sends ∷ [])) (shelf []) ≡ AuditVerdict.Denied Reason.JoinWrong Part.Joined (sized 3 3 1) }
 {}
+
+/// Where several checks fail, the first counts: schedules come before files, files before candidates and marks, and a
+/// formula before its proof.
+pub fn order_of_audit()
+    ensures schedule_before_files { audit_of (relay Mark.Open (send 0 0 2 2) (one_step ∷ []) []) (shelf []) ≡ AuditVerdict.Denied Reason.ScheduleWrong Part.Whole (sized 2 2 1) }
+    ensures files_before_mark { audit_of (relay Mark.Open (send 0 1 2 2) (one_step ∷ []) []) (shelf []) ≡ AuditVerdict.Denied Reason.ProofMissing Part.Whole one_step }
+    ensures formula_before_proof { audit_of relay_report (shelf ((file_of FileKind.Cnf Part.Whole one_step, []) ∷ [])) ≡ AuditVerdict.Denied Reason.CnfDiffers Part.Whole one_step }
+    ensures refuted_before_unknown { audit_of (relay Mark.Open (send 0 1 2 2) (one_step ∷ []) (record { candidate = sized 2 2 1; conflicts = 1000 } ∷ [])) (beside_one_step cnf_of_one_step []) ≡ AuditVerdict.Denied Reason.ProofRefused Part.Whole one_step }
+    ensures candidates_before_marks { audit_of (relay Mark.Optimal (send 0 1 2 2) [] []) (shelf []) ≡ AuditVerdict.Denied Reason.CandidateMissing Part.Whole one_step }
+{}

@@ -1,9 +1,9 @@
 -- At most one line of a text is the first at which it can no longer be a report's.
-use Rattle.std.proofs.Common.{◌≡◌, ℕ, zero, suc, ◌-◌, ◌<◌, ◌≤◌, ◌⊎◌, inl, inr, List, [], ◌∷◌, refl, sym, ap, ◌∙◌, arith}
+use Rattle.std.proofs.Common.{◌≡◌, ℕ, zero, suc, ◌-◌, ◌<◌, ◌≤◌, inl, inr, List, [], ◌∷◌, refl, sym, ap, ◌∙◌, arith}
 use Rattle.std.specs.Prelude.{take, Ok}
 use Rattle.std.specs.Fmt.{digits}
 use Rattle.std.proofs.lemmas.Bool.{cases_order}
-use Rattle.text_lines.specs.Text.{Row, rows_of}
+use Rattle.text_lines.specs.Text.{rows_of}
 use Rattle.frontier_report.specs.Reports.{ReportValue, IsReport}
 use Rattle.frontier_report.specs.Spelling.{report_text}
 use Rattle.frontier_report.specs.Reading.{report_of, body_of}

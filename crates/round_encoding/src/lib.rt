@@ -8,5 +8,6 @@ mod send_map;
 mod vectors;
 
 pub use encoding::Encoding;
+pub use laws::{arrivals_start_right, formula_has_its_variables};
 pub use send_map::SendMap;
 pub use std::alloc::AllocError as OutOfMemory;
