@@ -1,12 +1,15 @@
 -- Which codes words are refused with, and at which words.
-use Rattle.std.proofs.Common.{◌≡◌, ◌≤◌, ◌+◌, ℕ, Bool, true, false, not, arith, refl, List, [], ◌∷◌, length, Option, Some, None, IfSome, Result, Ok, Err, IfOk, IfErr, nat_lt}
+use Rattle.std.proofs.Common.{◌≡◌, ◌≤◌, ◌+◌, ℕ, Bool, true, false, not, arith, List, [], ◌∷◌, length, Option, Some, None, IfSome, Result, Ok, Err, IfOk, IfErr, nat_lt, sym, subst}
+use Rattle.std.specs.declared.string.String.{String}
+use Rattle.std.specs.String.{string_bytes}
+use Rattle.std.proofs.lemmas.List.{length-map}
 use Rattle.text_lines.specs.Check.{◌>>=◌, refuse, need}
 use Rattle.text_lines.specs.Number.{number_up_to}
 use Rattle.topology_text.specs.Family.{is_allowed}
 use Rattle.command_words.specs.declared.command.Command.{Command}
 use Rattle.command_words.specs.declared.command.RootWord.{RootWord}
 use Rattle.command_words.specs.declared.fault.WordCode.{WordCode}
-use Rattle.command_words.specs.declared.fault.WordCode.TheVariants.{NoCommand, UnknownCommand, UnknownKey, KeyTwice, KeyMissing, BadValue, RootNotTaken}
+use Rattle.command_words.specs.declared.fault.WordCode.TheVariants.{UnknownCommand, UnknownKey, KeyTwice, KeyMissing, BadValue}
 use Rattle.command_words.specs.declared.fault.WordFault.{WordFault}
 use Rattle.command_words.specs.declared.key.Key.{Key}
 use Rattle.command_words.specs.declared.key.Key.TheVariants as key
@@ -19,7 +22,7 @@ use Rattle.command_words.specs.Codes.{number_of}
 use Rattle.command_words.specs.Tables.{named, verbs, verb_word, keys, key_word, has_key}
 use Rattle.command_words.specs.Values.{collective_from, kind_from, name_from, number_from, is_given, with_value}
 use Rattle.command_words.specs.Commands.{required, root_taken, command_from, command_given}
-use Rattle.command_words.specs.Words.{cut, with_word, at_word, values_from, nothing, command_of}
+use Rattle.command_words.specs.Words.{cut, with_word, at_word, values_from, nothing, texts, command_of}
 
 -- a refusal of checks in a row is one of theirs
 err_then : {A B C : Type 0} (P : C → Type 0) (r : Result A C) (f : A → Result B C) → IfErr r P → ((x : A) → IfErr (f x) P) → IfErr (r >>= f) P
@@ -96,7 +99,7 @@ word_within n verb v index word in_n before =
     (λ _. value_within n k parts.1 index v in_n before))))
 
 -- a refusal by one of the codes 1 to 7, at most at the nth word
-abbrev pub Meets : ℕ → WordFault → Type 0
+abbrev Meets : ℕ → WordFault → Type 0
 Meets n fault = (number_of fault.code ≤ 7) × (fault.word ≤ n)
 
 -- what the words gave is within them, and a refusal meets
@@ -151,10 +154,17 @@ given_right n verb (Ok v) count in_n right = command_right n verb v count in_n r
 given_right n verb (Err e) count in_n right = right.0
 
 -- every refusal is by one of the codes 1 to 7, at a word or behind the last
-pub command_refused : (words : List (List ℕ)) → IfErr (command_of words) (λ fault. (number_of fault.code ≤ 7) × (fault.word ≤ length words))
+command_refused : (words : List (List ℕ)) → IfErr (command_of words) (λ fault. (number_of fault.code ≤ 7) × (fault.word ≤ length words))
 unfolding command_of
 command_refused [] = (omega arith, omega arith)
 command_refused (first ∷ words) =
     let n = length (first ∷ words) in
     err_then (Meets n) (need (named verb_word verbs first) (record { code = UnknownCommand; word = 0 })) (λ verb. command_given verb (values_from verb nothing 1 words) (length words + 1)) (err_need (Meets n) (named verb_word verbs first) (record { code = UnknownCommand; word = 0 }) (omega arith, omega arith))
     (λ verb. given_right n verb (values_from verb nothing 1 words) (length words + 1) (omega arith) (values_right n verb nothing 1 words (omega arith) (record { root = tt; size = tt })))
+
+-- the same of what is read of words
+pub refused_at : {Z : Type 0} (words : List (String Z)) (read : Result Command WordFault) → read ≡ command_of (texts words) → IfErr read (λ fault. number_of fault.code ≤ 7) × IfErr read (λ fault. fault.word ≤ length words)
+refused_at words (Ok command) same = (tt, tt)
+refused_at words (Err fault) same =
+    let meets = subst (λ r. IfErr r (λ f. (number_of f.code ≤ 7) × (f.word ≤ length (texts words)))) (sym same) (command_refused (texts words)) in
+    (meets.0, rw (sym (length-map words (λ word. string_bytes word))) meets.1)

@@ -30,7 +30,7 @@ pub enum Command {
         point: u32,
         /// The index of the word `point`.
         point_word: u32,
-        /// What the order is drawn from in which the nodes run.
+        /// The seed from which the order of the nodes' events is drawn, where one is given.
         order: Option<u64>,
     },
     /// Gives the node programs of a point of a report.
@@ -45,7 +45,7 @@ pub enum Command {
         kind: FamilyKind,
         size: u8,
     },
-    /// Tries the solver on formulas, as many as `n` says, at most 4095.
+    /// Makes the trial of this number, at most 4095: a small search, its check and its replays.
     Trial {
         n: u16,
     },

@@ -6,7 +6,7 @@ ghost use Rattle.command_words.specs.Tables.{key_number, key_word, keys, named, 
 use case_table::{Table, table};
 
 /// What stands before the `=` of a word.
-#[derive(Clone, Copy, Debug, PartialEq, Eq)]
+#[derive(Clone, Copy)]
 pub enum Key {
     Collective,
     K,

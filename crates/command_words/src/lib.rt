@@ -7,7 +7,6 @@ mod family_word;
 mod fault;
 mod key;
 mod kind_word;
-mod laws;
 mod reading;
 #[cfg(test)]
 mod tests;
@@ -17,8 +16,8 @@ mod verb;
 
 pub use command::{Command, RootWord};
 pub use fault::{WordCode, WordFault};
-pub use laws::refusals_of_words_have_codes_1_to_7;
 pub use reading::read_words;
 pub use vectors::{
-    commands_are_read, first_refusal_counts, numbers_in_their_ranges, refusals, words_without_a_key,
+    codes_are_numbered, commands_are_read, first_refusal_counts, numbers_in_their_ranges, refusals,
+    words_without_a_key,
 };

@@ -1,6 +1,7 @@
 //! The words, read from left to right.
 
-ghost use Rattle.std.specs.Prelude.{◌≡◌, ◌+◌, ◌≤◌, length, IfOk, option_map};
+ghost use Rattle.std.specs.Prelude.{◌≡◌, ◌+◌, ◌≤◌, length, IfOk, IfErr, option_map};
+ghost use Rattle.command_words.specs.Codes.{number_of};
 ghost use Rattle.command_words.specs.Values.{AreProper};
 ghost use Rattle.command_words.specs.Commands.{IsProper, command_given};
 ghost use Rattle.command_words.specs.Counting.{count_of};
@@ -91,6 +92,8 @@ fn command_given(
 pub fn read_words(words: &[String]) -> Result<Command, WordFault>
     ensures read { result ≡ command_of (texts words.now) }
     ensures proper { IfOk result IsProper }
+    ensures coded { IfErr result (λ fault. number_of fault.code ≤ 7) }
+    ensures placed { IfErr result (λ fault. fault.word ≤ length words.now) }
 {
     let Some((first, rest)) = words.split_first() else {
         return Err(WordFault {

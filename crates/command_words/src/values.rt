@@ -14,21 +14,21 @@ use text_lines::read_number;
 use topology_text::{FamilyKind, Name};
 
 /// The number of a point, and the index of its word.
-#[derive(Clone, Copy, Debug, PartialEq, Eq)]
+#[derive(Clone, Copy)]
 pub struct PointWord {
     pub point: u32,
     pub word: u32,
 }
 
 /// The size of a family, and the index of its word.
-#[derive(Clone, Copy, Debug, PartialEq, Eq)]
+#[derive(Clone, Copy)]
 pub struct SizeWord {
     pub size: u8,
     pub word: u32,
 }
 
 /// A value for each key that was given.
-#[derive(Clone, Copy, Debug, Default)]
+#[derive(Clone, Copy, Default)]
 pub struct Values {
     pub collective: Option<Kind>,
     pub k: Option<u8>,

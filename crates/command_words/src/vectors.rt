@@ -1,13 +1,19 @@
 //! What the words of command lines are.
 
-ghost use Rattle.std.specs.Prelude.{◌≡◌, [], Ok, Err, Some, None, codes};
+ghost use Rattle.std.specs.Prelude.{◌≡◌, [], ◌∷◌, map, Ok, Err, Some, None, codes};
 ghost use Rattle.text_lines.specs.Text.{words_of};
+ghost use Rattle.command_words.specs.Codes.{number_of};
 ghost use Rattle.command_words.specs.Words.{command_of};
 
 use crate::command::Command;
 use crate::fault::WordCode;
 use collective_spec::Kind;
 use topology_text::FamilyKind;
+
+/// The codes in their order.
+pub fn codes_are_numbered()
+    ensures { map number_of (WordCode.NoCommand ∷ WordCode.UnknownCommand ∷ WordCode.UnknownKey ∷ WordCode.KeyTwice ∷ WordCode.KeyMissing ∷ WordCode.BadValue ∷ WordCode.RootNotTaken ∷ WordCode.UnknownRoot ∷ WordCode.UnknownPoint ∷ WordCode.OutOfMemory ∷ WordCode.NotBuilt ∷ []) ≡ 1 ∷ 2 ∷ 3 ∷ 4 ∷ 5 ∷ 6 ∷ 7 ∷ 8 ∷ 9 ∷ 10 ∷ 11 ∷ [] }
+{}
 
 /// Each code, and the index of the word that is blamed.
 pub fn refusals()

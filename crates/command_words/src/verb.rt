@@ -7,7 +7,7 @@ use crate::key::Key;
 use case_table::{Table, table};
 
 /// The first word of a command.
-#[derive(Clone, Copy, Debug, PartialEq, Eq)]
+#[derive(Clone, Copy)]
 pub enum Verb {
     Synth,
     Check,
