@@ -23,6 +23,7 @@ abbrev pub root_taken : Kind → Option RootWord → Result (Unit {0}) WordFault
 root_taken kind None = Ok tt
 root_taken kind (Some root) = refuse (not (takes_root kind)) (record { code = RootNotTaken; word = root.word })
 
+-- a search requires all of its keys but the root
 abbrev pub synth_from : Values → ℕ → Result Command WordFault
 synth_from v count = do
   kind ← required v.collective count
@@ -33,16 +34,19 @@ synth_from v count = do
   _ ← root_taken kind v.root
   Ok (command.Synth kind (record { k = k; max_s = steps; max_c = chunks; conflicts = conflicts }) v.root)
 
+-- a replay requires the point, and may have an order
 abbrev pub replay_from : Values → ℕ → Result Command WordFault
 replay_from v count = do
   point ← required v.point count
   Ok (command.Replay point.point point.word v.order)
 
+-- node programs require the point
 abbrev pub programs_from : Values → ℕ → Result Command WordFault
 programs_from v count = do
   point ← required v.point count
   Ok (command.Programs point.point point.word)
 
+-- a family requires its kind and its size, which the kind allows
 abbrev pub family_from : Values → ℕ → Result Command WordFault
 family_from v count = do
   kind ← required v.kind count
@@ -50,6 +54,7 @@ family_from v count = do
   _ ← refuse (not (is_allowed kind size.size)) (record { code = BadValue; word = size.word })
   Ok (command.Family kind size.size)
 
+-- a trial requires its number
 abbrev pub trial_from : Values → ℕ → Result Command WordFault
 trial_from v count = do
   n ← required v.n count

@@ -7,5 +7,6 @@ abbrev pub one : {T : Type 0} → Option T → ℕ
 one None = 0
 one (Some _) = 1
 
+-- the keys that have a value, counted
 abbrev pub count_of : Values → ℕ
 count_of v = one v.collective + one v.k + one v.steps + one v.chunks + one v.conflicts + one v.root + one v.point + one v.order + one v.kind + one v.size + one v.n

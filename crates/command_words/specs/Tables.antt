@@ -18,9 +18,11 @@ abbrev pub numbered : {V : Type 0} → (V → ℕ) → List V → ℕ → Option
 numbered number values n = find (λ v. number v == n) values
 
 -- ---- commands
+-- the commands, in the order of their numbers
 abbrev pub verbs : List Verb
 verbs = Synth ∷ Check ∷ Replay ∷ Programs ∷ Family ∷ Trial ∷ []
 
+-- the word of a command
 abbrev pub verb_word : Verb → List ℕ
 verb_word Synth = codes "synth"
 verb_word Check = codes "check"
@@ -29,6 +31,7 @@ verb_word Programs = codes "programs"
 verb_word Family = codes "family"
 verb_word Trial = codes "trial"
 
+-- the number of a command in its table
 abbrev pub verb_number : Verb → ℕ
 verb_number Synth = 0
 verb_number Check = 1
@@ -38,11 +41,13 @@ verb_number Family = 4
 verb_number Trial = 5
 
 -- ---- keys
+-- the keys, in the order of their numbers
 abbrev pub keys : List Key
 keys =
     key.Collective ∷ key.K ∷ key.Steps ∷ key.Chunks ∷ key.Conflicts ∷ key.Root
     ∷ key.Point ∷ key.Order ∷ key.Kind ∷ key.Size ∷ key.N ∷ []
 
+-- the word of a key
 abbrev pub key_word : Key → List ℕ
 key_word key.Collective = codes "collective"
 key_word key.K = codes "k"
@@ -56,6 +61,7 @@ key_word key.Kind = codes "kind"
 key_word key.Size = codes "size"
 key_word key.N = codes "n"
 
+-- the number of a key in its table
 abbrev pub key_number : Key → ℕ
 key_number key.Collective = 0
 key_number key.K = 1
@@ -86,14 +92,17 @@ has_key Trial key.N = true
 has_key _ _ = false
 
 -- ---- words of values
+-- the kinds of collectives
 abbrev pub collectives : List Kind
 collectives =
     kind.Broadcast ∷ kind.Gather ∷ kind.Allgather ∷ kind.Scatter
     ∷ kind.Alltoall ∷ kind.Reduce ∷ kind.Reducescatter ∷ kind.Allreduce ∷ []
 
+-- the kinds of families, in the order of their numbers
 abbrev pub families : List FamilyKind
 families = Line ∷ Ring ∷ Complete ∷ Shared ∷ Cube ∷ []
 
+-- the word of a kind of family
 abbrev pub family_word : FamilyKind → List ℕ
 family_word Line = codes "line"
 family_word Ring = codes "ring"
