@@ -1,5 +1,5 @@
 -- The kinds that copy, by their names.
-use Rattle.std.proofs.Common.{◌≡◌, ℕ, Bool, true, false, ltb, ◌<◌, if◌then◌else◌, List, [], ◌∷◌, Option, None, Some, IsSome, IfSome, IfNone, find, bytes_eq, refl, sym, ap, ◌∙◌, subst}
+use Rattle.std.proofs.Common.{◌≡◌, ℕ, Bool, true, false, ltb, ◌<◌, if◌then◌else◌, List, [], ◌∷◌, Option, None, Some, find, bytes_eq, refl, sym, ap, ◌∙◌, subst}
 use Rattle.std.specs.List.{AllByRecursion, list_all}
 use Rattle.std.proofs.lemmas.Bool.{and_parts, ltb-true}
 use Rattle.std.proofs.lemmas.List.Elements.{All-from_recursion}

@@ -1,10 +1,8 @@
 -- Which reports are of the first form.
-use Rattle.std.proofs.Common.{◌≡◌, ℕ, true, false, List, [], ◌∷◌, length, get_or, arith, refl, sym, ap, ◌∙◌, subst}
+use Rattle.std.proofs.Common.{◌≡◌, ℕ, true, false, List, [], ◌∷◌, length, arith, refl, sym, ap, ◌∙◌, subst}
 use Rattle.std.specs.Prelude.{codes, Ok}
 use Rattle.std.specs.Fmt.{digits}
 use Rattle.outer_ports.specs.declared.part.Part.{Part}
-use Rattle.candidate_order.specs.declared.candidate.Candidate.{Candidate}
-use Rattle.candidate_order.specs.declared.mark.Mark.{Mark}
 use Rattle.candidate_order.specs.declared.mark.Mark.TheVariants.{Optimal, Open}
 use Rattle.candidate_order.specs.Frontiers.{PointValue, FrontierValue}
 use Rattle.topology_text.specs.Reading.{topology_at}

@@ -1,5 +1,5 @@
 -- A report of the first form, made of its parts and taken apart.
-use Rattle.std.proofs.Common.{◌≡◌, ℕ, ◌<◌, ◌≤◌, true, false, IsTrue, List, [], ◌∷◌, length, get_or, ◌⊎◌, inl, inr, refl, sym, ap, ◌∙◌, subst, arith}
+use Rattle.std.proofs.Common.{◌≡◌, ℕ, ◌<◌, ◌≤◌, true, false, IsTrue, List, [], ◌∷◌, length, get_or, inl, refl, sym, ap, ◌∙◌, subst, arith}
 use Rattle.std.specs.List.{All, AllPairs}
 use Rattle.std.proofs.lemmas.List.Elements.{All-nil, All-push, All-head}
 use Rattle.outer_ports.specs.declared.part.Part.{Part}
@@ -10,11 +10,10 @@ use Rattle.collective_spec.specs.declared.kind.Kind.TheVariants as kind
 use Rattle.collective_spec.specs.Kinds.{allows}
 use Rattle.collective_spec.specs.Collectives.{chunks_of, reduces}
 use Rattle.candidate_order.specs.declared.candidate.Candidate.{Candidate}
-use Rattle.candidate_order.specs.declared.mark.Mark.TheVariants.{Optimal}
 use Rattle.candidate_order.specs.Costs.{Before}
-use Rattle.candidate_order.specs.Frontiers.{QuestionValue, PointValue, UnknownValue, FrontierValue, IsWithin, IsUnknown}
+use Rattle.candidate_order.specs.Frontiers.{QuestionValue, PointValue, FrontierValue, IsWithin, IsUnknown}
 use Rattle.topology_text.specs.Value.{NamedTopologyValue, IsNamed}
-use Rattle.frontier_report.specs.Reports.{WordsValue, ReportValue, parts_of, question_of, IsWords, HasSchedule, IsPoint, IsFrontier, IsJoinedPoint, IsReport}
+use Rattle.frontier_report.specs.Reports.{WordsValue, ReportValue, parts_of, question_of, IsWords, HasSchedule, IsPoint, IsFrontier, IsJoinedPoint}
 use Rattle.first_form.specs.FirstForm.{IsFirstForm}
 use Rattle.first_form.specs.Parts.{optimal_point, report_with, bounds_of}
 use Rattle.first_form.proofs.PointLines.{IsPointOf}

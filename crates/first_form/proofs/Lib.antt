@@ -1,5 +1,6 @@
 pub mod CopyingKinds
 pub mod Tokens
+pub mod SearchLimits
 pub mod AskedWords
 pub mod PointWords
 pub mod SendLines

@@ -1,13 +1,12 @@
 -- The lines of a point: what is taken stands there, and what stands there is taken.
-use Rattle.std.proofs.Common.{◌≡◌, ℕ, ◌+◌, ◌*◌, ◌<◌, ◌≤◌, true, List, [], ◌∷◌, ◌++◌, map, length, Result, Ok, refl, sym, ap, ◌∙◌, subst, append_assoc, arith}
+use Rattle.std.proofs.Common.{◌≡◌, ℕ, ◌+◌, ◌*◌, ◌≤◌, true, List, [], ◌∷◌, ◌++◌, map, length, Result, Ok, refl, sym, ap, ◌∙◌, subst, arith}
 use Rattle.std.proofs.Math.Nat.{one-le-mul}
 use Rattle.std.proofs.lemmas.Nat.{mul-le}
-use Rattle.std.specs.Prelude.{codes, decimal, sum}
+use Rattle.std.specs.Prelude.{sum}
 use Rattle.std.specs.List.{All, AllByRecursion}
-use Rattle.std.proofs.lemmas.List.{map-append}
 use Rattle.std.proofs.lemmas.List.Elements.{All-weaker}
 use Rattle.schedule.specs.declared.hop.Hop.{Hop}
-use Rattle.schedule.specs.Sends.{ScheduleValue, IsSchedule, IsInRange, IsRound, IsStep, is_hop_below}
+use Rattle.schedule.specs.Sends.{ScheduleValue, IsSchedule, IsInRange, IsStep, is_hop_below}
 use Rattle.collective_spec.specs.declared.kind.Kind.{Kind}
 use Rattle.collective_spec.specs.declared.kind.Kind.TheVariants.{Broadcast, Gather, Allgather, Scatter, Alltoall, Reduce, Reducescatter, Allreduce}
 use Rattle.collective_spec.specs.Collectives.{chunks_of}
@@ -20,7 +19,7 @@ use Rattle.text_lines.proofs.Rows.{AreTokens, row_of}
 use Rattle.text_lines.proofs.Words.{tokens_from}
 use Rattle.topology_text.specs.Names.{AreNames}
 use Rattle.topology_text.proofs.Groups.{place}
-use Rattle.frontier_report.specs.Spelling.{point_words, rounds_words, send_words, point_lines}
+use Rattle.frontier_report.specs.Spelling.{rounds_words, point_lines}
 use Rattle.first_form.specs.declared.point.Bounds.{Bounds}
 use Rattle.first_form.specs.declared.point.Extent.{Extent}
 use Rattle.first_form.specs.declared.code.FormCode.{FormCode}

@@ -1,5 +1,5 @@
 -- What the parts of a reader make of a report, and what its answer says of the text.
-use Rattle.std.proofs.Common.{◌≡◌, ℕ, ◌≤◌, false, List, length, Result, Ok, Err, sym, ap, ◌∙◌}
+use Rattle.std.proofs.Common.{◌≡◌, ℕ, ◌≤◌, false, List, length, Ok, Err, sym, ap, ◌∙◌}
 use Rattle.schedule.specs.declared.hop.Hop.{Hop}
 use Rattle.schedule.specs.Sends.{ScheduleValue}
 use Rattle.collective_spec.specs.Collectives.{reduces}

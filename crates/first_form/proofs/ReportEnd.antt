@@ -1,5 +1,5 @@
 -- The lines behind a report's topology: what is taken stands there, and what stands there is taken.
-use Rattle.std.proofs.Common.{◌≡◌, ℕ, ◌+◌, ◌≤◌, false, List, [], ◌∷◌, ◌++◌, map, length, Result, Ok, refl, sym, ap, ◌∙◌, subst, append_assoc, arith}
+use Rattle.std.proofs.Common.{◌≡◌, ℕ, ◌+◌, ◌≤◌, false, List, [], ◌∷◌, ◌++◌, map, length, Result, Ok, refl, sym, ap, ◌∙◌, subst, arith}
 use Rattle.std.specs.Prelude.{codes}
 use Rattle.std.specs.List.{AllByRecursion}
 use Rattle.std.proofs.lemmas.List.{append-nil, map-append}
@@ -8,7 +8,6 @@ use Rattle.collective_spec.specs.declared.kind.Kind.{Kind}
 use Rattle.collective_spec.specs.declared.kind.Kind.TheVariants.{Broadcast, Gather, Allgather, Scatter, Alltoall, Reduce, Reducescatter, Allreduce}
 use Rattle.collective_spec.specs.Collectives.{reduces}
 use Rattle.candidate_order.specs.declared.candidate.Candidate.{Candidate}
-use Rattle.candidate_order.specs.Frontiers.{PointValue}
 use Rattle.text_lines.specs.Text.{Row, Place}
 use Rattle.text_lines.specs.Check.{◌>>=◌, line_part}
 use Rattle.text_lines.proofs.Checks.{bind_ok, ok_is}
@@ -22,7 +21,7 @@ use Rattle.first_form.specs.declared.code.FormCode.{FormCode}
 use Rattle.first_form.specs.Form.{fixed_line, nothing}
 use Rattle.first_form.specs.Parts.{optimal_point, report_with, bounds_of, point_at, frontier_from}
 use Rattle.first_form.proofs.WholeLines.{LineTaken, fixed_part_take, nothing_take}
-use Rattle.first_form.proofs.PointLines.{IsPointOf, PointLinesTaken, point_rows, point_at_take, point_at_again, point_are_tokens}
+use Rattle.first_form.proofs.PointLines.{IsPointOf, point_rows, point_at_take, point_at_again, point_are_tokens}
 
 abbrev pub of_point : WordsValue → NamedTopologyValue → Candidate → ScheduleValue → ReportValue
 of_point words topology x s = report_with words topology (optimal_point x s)

@@ -1,18 +1,16 @@
 -- Reports of the first form: what is read is spelled so, and what is spelled so is read.
-use Rattle.std.proofs.Common.{◌≡◌, ℕ, ◌+◌, ◌<◌, false, List, [], ◌∷◌, ◌++◌, map, length, Option, Result, Ok, refl, sym, ap, ◌∙◌, subst, arith}
+use Rattle.std.proofs.Common.{◌≡◌, ℕ, ◌+◌, ◌<◌, List, [], ◌∷◌, ◌++◌, map, length, Result, Ok, refl, sym, ap, ◌∙◌, subst, arith}
 use Rattle.std.specs.Prelude.{codes}
 use Rattle.std.specs.List.{AllByRecursion}
 use Rattle.std.proofs.lemmas.List.{map-append}
-use Rattle.schedule.specs.Sends.{ScheduleValue}
 use Rattle.collective_spec.specs.Kinds.{takes_root}
-use Rattle.candidate_order.specs.declared.candidate.Candidate.{Candidate}
 use Rattle.candidate_order.specs.Frontiers.{PointValue}
 use Rattle.text_lines.specs.Text.{Row, Place, rows_of, start}
 use Rattle.text_lines.specs.Check.{◌>>=◌, at_line, line_part}
 use Rattle.text_lines.proofs.Checks.{bind_ok, at_line_ok}
 use Rattle.text_lines.proofs.Rows.{AreTokens, row_of, rows_again, text_back}
 use Rattle.text_lines.proofs.Words.{literal, tokens_from}
-use Rattle.topology_text.specs.Value.{NamedTopologyValue, IsNamed}
+use Rattle.topology_text.specs.Value.{NamedTopologyValue}
 use Rattle.topology_text.specs.Spelling.{lines_of}
 use Rattle.topology_text.specs.Reading.{topology_at}
 use Rattle.topology_text.proofs.Groups.{place}
@@ -24,10 +22,10 @@ use Rattle.first_form.specs.declared.code.FormCode.{FormCode}
 use Rattle.first_form.specs.FirstForm.{IsFirstForm}
 use Rattle.first_form.specs.Form.{fixed_line, asked_row, asked_line}
 use Rattle.first_form.specs.Parts.{optimal_point, within, root_in, frontier_from, report_of}
-use Rattle.first_form.proofs.AskedWords.{AskedTaken, words_asked, SynthTaken, asked_words, asked_take, root_in_take, asked_of, synth_again, root_in_again, synth_are_words}
+use Rattle.first_form.proofs.AskedWords.{AskedTaken, words_asked, SynthTaken, asked_take, root_in_take, asked_of, synth_again, root_in_again, synth_are_words}
 use Rattle.first_form.proofs.FormParts.{FormParts, form_is, form_parts}
 use Rattle.first_form.proofs.WholeLines.{LineTaken, words_part_take, words_part_again, fixed_part_take, within_ok}
-use Rattle.first_form.proofs.ReportEnd.{of_point, end_lines, EndTaken, end_take, end_again, tokens-append, end_are_tokens}
+use Rattle.first_form.proofs.ReportEnd.{of_point, end_lines, end_take, end_again, tokens-append, end_are_tokens}
 
 -- what is left of the checks after each part
 abbrev after_root : Asked → NamedTopologyValue × Place → ℕ → Result ReportValue (FormCode × ℕ)

@@ -16,7 +16,6 @@ use Rattle.topology_text.specs.declared.fault.TopologyCode.{TopologyCode}
 use Rattle.topology_text.specs.Value.{NamedTopologyValue}
 use Rattle.topology_text.specs.Reading.{node_of, topology_at}
 use Rattle.frontier_report.specs.Reports.{WordsValue, ReportValue}
-use Rattle.first_form.specs.declared.asked.Asked.{Asked}
 use Rattle.first_form.specs.declared.point.Bounds.{Bounds}
 use Rattle.first_form.specs.declared.code.FormCode.{FormCode}
 use Rattle.first_form.specs.declared.code.FormCode.TheVariants.{NotFirstForm}

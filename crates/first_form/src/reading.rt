@@ -108,7 +108,10 @@ fn point_part(
     let extent = Extent::of(*bounds, candidate);
     let sends = sends_part(alloc, text, names, extent, lines)?;
     let schedule = Schedule::new(rounds, sends);
-    Ok(Point { candidate, schedule })
+    Ok(Point {
+        candidate,
+        schedule,
+    })
 }
 
 /// Takes the frontier of one point and the report's end, which is the rest of the text.

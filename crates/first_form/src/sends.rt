@@ -62,10 +62,7 @@ fn send_of(
 }
 
 /// Takes the names of the sender and the receiver, and gives their numbers.
-fn next_ends(
-    tokens: &mut Tokens<'_>,
-    names: &IndexSet<Name>,
-) -> Result<(u8, u8), Stop<FormCode>>
+fn next_ends(tokens: &mut Tokens<'_>, names: &IndexSet<Name>) -> Result<(u8, u8), Stop<FormCode>>
     requires { length names.now.keys ≤ 16 }
     ensures read { Gives (λ ends. (ends, tokens.new.words)) result (ends_from names.now.keys tokens.old.words) }
     ensures text { tokens.new.text ≡ tokens.old.text }

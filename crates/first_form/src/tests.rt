@@ -63,7 +63,8 @@ fn refuses(rt: &(impl Abort + AllocGlobal), text: &[u8]) -> Result<(), AllocErro
 
 #[test]
 fn one_report_of_each_collective(rt: HostRuntime) -> Result<(), Fail> {
-    let other: &[u8] = b"topology 1\nnodes left_1 right\ngroup 2 left_1>right right>left_1\nfrontier whole\n";
+    let other: &[u8] =
+        b"topology 1\nnodes left_1 right\ngroup 2 left_1>right right>left_1\nfrontier whole\n";
     let table: [(Kind, u8, u8, usize, &[u8], &[u8], &[u8]); 8] = [
         (
             Kind::Broadcast,
@@ -157,8 +158,14 @@ fn collectives_and_roots_that_do_not_fit(rt: HostRuntime) -> Result<(), Fail> {
         (b"gather k=0 steps=1 chunks=1 conflicts=1000 root=", one),
         (b"scatter k=0 steps=1 chunks=1 conflicts=1000 root=n2", one),
         (b"scatter k=0 steps=1 chunks=1 conflicts=1000 root=N0", one),
-        (b"scatter k=0 steps=1 chunks=1 conflicts=1000 root=n0 root=n0", one),
-        (b"allgather k=0 steps=1 chunks=1 conflicts=1000 root=n0", one),
+        (
+            b"scatter k=0 steps=1 chunks=1 conflicts=1000 root=n0 root=n0",
+            one,
+        ),
+        (
+            b"allgather k=0 steps=1 chunks=1 conflicts=1000 root=n0",
+            one,
+        ),
         (b"alltoall k=0 steps=1 chunks=1 conflicts=1000 root=n0", one),
         // collectives that don't copy, or are none
         (b"reduce k=0 steps=1 chunks=1 conflicts=1000 root=n0", one),
