@@ -7,7 +7,7 @@ use Rattle.collective_spec.specs.Kinds.{takes_root}
 use Rattle.candidate_order.specs.Frontiers.{PointValue}
 use Rattle.text_lines.specs.Text.{Row, Place, rows_of, start}
 use Rattle.text_lines.specs.Check.{◌>>=◌, at_line, line_part}
-use Rattle.text_lines.proofs.Checks.{bind_ok, at_line_ok}
+use Rattle.text_lines.proofs.Checks.{bind_ok, ok_is, at_line_ok}
 use Rattle.text_lines.proofs.Rows.{AreTokens, row_of, rows_again, text_back}
 use Rattle.text_lines.proofs.Words.{literal, tokens_from}
 use Rattle.topology_text.specs.Value.{NamedTopologyValue}
@@ -155,3 +155,7 @@ report_again v p form =
     let r : ReportValue = of_point v.words v.topology p.candidate p.schedule in
     let P : ReportValue → Type 0 = λ x. report_of (report_text x) ≡ Ok x in
     subst P parts.value (report_is (report_text r) ∙ ap (λ rows. report_at (place 1 rows)) (rows_of_text v p parts) ∙ rows_read v p parts)
+
+-- a text is that of one report
+pub same_report : (r s : ReportValue) (p q : PointValue) → IsFirstForm r p → IsFirstForm s q → report_text r ≡ report_text s → r ≡ s
+same_report r s p q first second same = ok_is {C = FormCode × ℕ} r s (sym (report_again r p first) ∙ ap report_of same ∙ report_again s q second)
