@@ -1,16 +1,14 @@
 -- No refusal has the status of what is done.
-use Rattle.std.proofs.Common.{◌≡◌, ◌≢◌, ℕ, Bool, true, false, if◌then◌else◌, ◌==◌, nat_lt, length, List, Option, None, Some, Result, Ok, Err}
-use Rattle.outer_ports.specs.declared.part.Part.{Part}
+use Rattle.std.proofs.Common.{◌≡◌, ◌≢◌, ℕ, Bool, true, false, ◌==◌, nat_lt, length, List, Option, None, Some, Result, Ok, Err}
 use Rattle.outer_ports.specs.Files.{Files}
 use Rattle.text_lines.specs.Check.{◌>>=◌, refuse, need}
 use Rattle.candidate_order.specs.Ranges.{LimitsValue}
-use Rattle.candidate_order.specs.Frontiers.{QuestionValue, PointValue}
+use Rattle.candidate_order.specs.Frontiers.{QuestionValue}
 use Rattle.collective_spec.specs.declared.kind.Kind.{Kind}
 use Rattle.topology_text.specs.Answer.{code_number as topology_number}
-use Rattle.topology_text.specs.Reading.{topology_of, node_of}
+use Rattle.topology_text.specs.Reading.{topology_of}
 use Rattle.frontier_report.specs.Answer.{code_number as report_number}
 use Rattle.frontier_report.specs.Reports.{ReportValue}
-use Rattle.frontier_report.specs.Numbered.{point_at}
 use Rattle.frontier_report.specs.Reading.{report_of}
 use Rattle.frontier_audit.specs.declared.verdict.AuditVerdict.{AuditVerdict}
 use Rattle.frontier_audit.specs.declared.verdict.AuditVerdict.TheVariants as audit
@@ -25,7 +23,7 @@ use Rattle.sccl_run.specs.declared.status.Status.TheVariants.{Done, BadTopology,
 use Rattle.frontier_audit.specs.Candidates.{counts_of}
 use Rattle.sccl_run.specs.Size.{size_limit, size_of}
 use Rattle.sccl_run.specs.Refusals.{Refusal, refused_at, refused_as}
-use Rattle.sccl_run.specs.Tasks.{Task, due, task_of, words_asked, words_for, whole_text, whole_question, root_in, searchable, synthesis_of, read_report, not_denied, audited, point_in, replayed, programmed}
+use Rattle.sccl_run.specs.Tasks.{due, task_of, words_asked, words_for, whole_text, whole_question, root_in, searchable, synthesis_of, read_report, not_denied, audited, point_in}
 
 Refusing : {A : Type 0} → Result A Refusal → Type 0
 Refusing (Ok x) = Unit {0}

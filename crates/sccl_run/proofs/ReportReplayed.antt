@@ -1,5 +1,5 @@
 -- What the answer to a report says of its text.
-use Rattle.std.proofs.Common.{◌≡◌, List, ℕ, Result, Ok, ap}
+use Rattle.std.proofs.Common.{◌≡◌, List, ℕ, Result, Ok}
 use Rattle.text_lines.proofs.Checks.{ok_is}
 use Rattle.candidate_order.specs.Frontiers.{PointValue}
 use Rattle.frontier_report.specs.Reports.{ReportValue}

@@ -1,17 +1,14 @@
 -- What a right run of the top call says, drawn out.
-use Rattle.std.proofs.Common.{◌≡◌, inl, inr, Result, Ok, Err, sym, ◌∙◌}
-use Rattle.std.specs.Prelude.{Contains, ◌⊎◌}
+use Rattle.std.proofs.Common.{◌≡◌, inl, inr, Ok, Err, sym, ◌∙◌}
 use Rattle.std.proofs.lemmas.List.Elements.{All-contains}
-use Rattle.outer_ports.specs.declared.part.Part.{Part}
 use Rattle.topology_text.specs.Value.{NamedTopologyValue}
-use Rattle.candidate_order.specs.declared.candidate.Candidate.{Candidate}
-use Rattle.candidate_order.specs.Frontiers.{PointValue, FrontierValue, RightFrontier, IsSolvable}
+use Rattle.candidate_order.specs.Frontiers.{RightFrontier, IsSolvable}
 use Rattle.candidate_order.proofs.Frontiers.{better_refuted}
 use Rattle.frontier_report.specs.Reports.{WordsValue, ReportValue, question_of}
 use Rattle.sccl_run.specs.declared.status.Status.{Status}
 use Rattle.sccl_run.specs.declared.status.Status.TheVariants.{Done}
 use Rattle.sccl_run.specs.Refusals.{Refusal}
-use Rattle.sccl_run.specs.Tasks.{Task, Synthesise}
+use Rattle.sccl_run.specs.Tasks.{Synthesise}
 use Rattle.sccl_run.specs.Owed.{RunValue, IsRight, IsRightPart, Synthesises}
 use Rattle.sccl_run.specs.TopCall.{CountValue, IsRun, IsFree, due_in}
 use Rattle.sccl_run.proofs.Refused.{never_done}

@@ -1,5 +1,5 @@
 -- What is owed for a task that was done: the synthesis theorem, and the theorems of the other commands.
-use Rattle.std.specs.Prelude.{◌≡◌, ◌⊎◌, ℕ, List, [], ◌∷◌, All, Any, codes}
+use Rattle.std.specs.Prelude.{◌≡◌, ℕ, List, [], ◌∷◌, All, Any, codes}
 use Rattle.outer_ports.specs.declared.part.Part.{Part}
 use Rattle.outer_ports.specs.declared.part.Part.TheVariants.{Reduce, Gather}
 use Rattle.outer_ports.specs.declared.proof_name.ProofName.{ProofName}
@@ -7,8 +7,7 @@ use Rattle.outer_ports.specs.Files.{Files}
 use Rattle.text_lines.specs.Text.{line}
 use Rattle.lrat_checker.specs.Refuting.{Exhausted}
 use Rattle.allreduce_join.specs.Joins.{Joins}
-use Rattle.candidate_order.specs.declared.candidate.Candidate.{Candidate}
-use Rattle.candidate_order.specs.Frontiers.{QuestionValue, PointValue, UnknownValue, FrontierValue, RightFrontier, Searched, IsTried}
+use Rattle.candidate_order.specs.Frontiers.{PointValue, FrontierValue, RightFrontier, Searched, IsTried}
 use Rattle.topology_text.specs.Value.{NamedTopologyValue}
 use Rattle.topology_text.specs.Family.{family_of}
 use Rattle.topology_text.specs.Spelling.{spelling}
@@ -19,7 +18,7 @@ use Rattle.frontier_report.specs.Spelling.{report_text}
 use Rattle.frontier_audit.specs.Shelves.{ShelfRight, formula_for}
 use Rattle.sccl_run.specs.declared.status.Status.{Status}
 use Rattle.sccl_run.specs.Tasks.{Task, Synthesise, Audit, Replay, Program, Family, Try}
-use Rattle.sccl_run.specs.Showing.{Shown, shown_in, shown_text, nodes_of, adding_of}
+use Rattle.sccl_run.specs.Showing.{shown_in, shown_text, nodes_of, adding_of}
 use Rattle.sccl_run.specs.Trials.{trial_words, trial_topology, trial_text}
 
 -- a run of the top call over ports that tell their contents: its words; the bytes that the source had, and those that it has left; what was written;

@@ -1,15 +1,9 @@
 -- Small runs.
-use Rattle.std.specs.Prelude.{ℕ, List, [], ◌∷◌, Option, None, codes}
-use Rattle.outer_ports.specs.declared.proof_name.ProofName.{ProofName}
-use Rattle.outer_ports.specs.declared.part.Part.{Part}
+use Rattle.std.specs.Prelude.{ℕ, List, [], ◌∷◌, None, codes}
 use Rattle.outer_ports.specs.declared.part.Part.TheVariants.{Whole, Joined}
 use Rattle.outer_ports.specs.Files.{Files}
-use Rattle.topology_text.specs.Value.{NamedTopologyValue}
-use Rattle.topology_text.specs.Family.{family_of}
-use Rattle.topology_text.specs.declared.family_kind.FamilyKind.TheVariants.{Line}
 use Rattle.candidate_order.specs.declared.candidate.Candidate.{Candidate}
 use Rattle.candidate_order.specs.declared.mark.Mark.TheVariants as mark
-use Rattle.candidate_order.specs.Frontiers.{PointValue, FrontierValue}
 use Rattle.schedule.specs.Rows.{plan, send, pair_allreduce}
 use Rattle.frontier_report.specs.Reports.{ReportValue}
 use Rattle.frontier_report.specs.Rows.{broadcast_report, allreduce_report}

@@ -1,5 +1,5 @@
 -- What the top call owes, for the commands that are built: which status comes, and what is written with it.
-use Rattle.std.specs.Prelude.{◌≡◌, ◌⊎◌, ℕ, ◌<◌, ◌≤◌, List, [], ◌++◌, length, take, Result, Ok, Err}
+use Rattle.std.specs.Prelude.{◌≡◌, ◌⊎◌, ℕ, ◌<◌, ◌≤◌, List, [], ◌++◌, length, take}
 use Rattle.collective_spec.specs.declared.collective.Collective.{Collective}
 use Rattle.collective_spec.specs.Collectives.{instance_of}
 use Rattle.schedule.specs.Sends.{ScheduleValue}
@@ -16,7 +16,7 @@ use Rattle.frontier_report.specs.Reports.{ReportValue}
 use Rattle.frontier_report.specs.Spelling.{report_text}
 use Rattle.first_form.specs.FirstForm.{IsFirstForm}
 use Rattle.sccl_run.specs.declared.status.Status.{Status}
-use Rattle.sccl_run.specs.declared.status.Status.TheVariants.{Done, OutOfMemory, BadWords, BadTopology, SourceFailed, SinkFailed, ShelfFailed, BadReport, Denied, TooLarge, NoCandidate, TooLong}
+use Rattle.sccl_run.specs.declared.status.Status.TheVariants.{OutOfMemory, BadWords, BadTopology, SourceFailed, SinkFailed, ShelfFailed, BadReport, Denied, TooLarge, NoCandidate, TooLong}
 use Rattle.sccl_run.specs.Refusals.{refused_at, refusal_line}
 use Rattle.sccl_run.specs.Asked.{AsksReplay, AsksFamily, Refuses}
 use Rattle.sccl_run.specs.Replay.{replay_text}

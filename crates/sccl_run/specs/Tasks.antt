@@ -1,5 +1,5 @@
 -- What the words and the text that is read ask for, or the first check that refuses them: words, length, text, root or point, size, candidates, audit.
-use Rattle.std.specs.Prelude.{ℕ, ◌==◌, List, [], ◌∷◌, length, nat_lt, Option, None, Some, Result, Ok, Err}
+use Rattle.std.specs.Prelude.{ℕ, ◌==◌, List, length, nat_lt, Option, None, Some, Result, Ok, Err}
 use Rattle.outer_ports.specs.declared.part.Part.{Part}
 use Rattle.outer_ports.specs.Files.{Files, candidate_word}
 use Rattle.text_lines.specs.Check.{◌>>=◌, refuse, need}

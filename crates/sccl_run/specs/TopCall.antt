@@ -7,7 +7,7 @@ use Rattle.command_words.specs.declared.command.Command.{Command}
 use Rattle.command_words.specs.declared.command.Command.TheVariants as command
 use Rattle.command_words.specs.Words.{command_of}
 use Rattle.sccl_run.specs.declared.status.Status.{Status}
-use Rattle.sccl_run.specs.declared.status.Status.TheVariants.{Done, OutOfMemory, BadWords, BadTopology, SourceFailed, SinkFailed, ShelfFailed, BadReport, Denied, TooLarge, NoCandidate, TooLong}
+use Rattle.sccl_run.specs.declared.status.Status.TheVariants.{Done, OutOfMemory, SourceFailed, SinkFailed, ShelfFailed}
 use Rattle.sccl_run.specs.Refusals.{Refusal, refusal_line}
 use Rattle.sccl_run.specs.Tasks.{Task, due}
 use Rattle.sccl_run.specs.Owed.{RunValue, Owed}

@@ -9,10 +9,9 @@ ghost use Rattle.topology_text.specs.Family.{is_allowed};
 ghost use Rattle.candidate_order.specs.Frontiers.{PointValue};
 ghost use Rattle.command_words.specs.Words.{texts};
 ghost use Rattle.first_form.specs.FirstForm.{IsFirstForm};
-ghost use Rattle.sccl_run.specs.Statuses.{number_of};
 ghost use Rattle.sccl_run.specs.Refusals.{refused_at, refusal_line};
 ghost use Rattle.sccl_run.specs.Asked.{asked, AsksFamily, Refuses};
-ghost use Rattle.sccl_run.specs.Run.{OwesBadWords, OwesFamily, limit, point_replay, replay_of, too_long_line};
+ghost use Rattle.sccl_run.specs.Run.{OwesBadWords, OwesFamily, point_replay, replay_of, too_long_line};
 ghost use Rattle.sccl_run.specs.Answering.{Answers};
 
 use crate::OutOfMemory;

@@ -1,11 +1,8 @@
 //! What a right run of the top call says.
 
-ghost use Rattle.std.specs.Prelude.{◌≡◌, Ok, Err, Contains};
-ghost use Rattle.outer_ports.specs.declared.part.Part.{Part};
+ghost use Rattle.std.specs.Prelude.{◌≡◌, Ok, Err};
 ghost use Rattle.topology_text.specs.Value.{NamedTopologyValue};
-ghost use Rattle.candidate_order.specs.Costs.{Better};
-ghost use Rattle.candidate_order.specs.Frontiers.{PointValue, FrontierValue, IsSolvable, IsWithin};
-ghost use Rattle.frontier_report.specs.Reports.{WordsValue, ReportValue, question_of};
+ghost use Rattle.frontier_report.specs.Reports.{WordsValue};
 ghost use Rattle.sccl_run.specs.Refusals.{Refusal};
 ghost use Rattle.sccl_run.specs.Tasks.{Synthesise};
 ghost use Rattle.sccl_run.specs.Owed.{RunValue};
