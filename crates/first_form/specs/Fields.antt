@@ -25,6 +25,7 @@ keyed_value key (w ∷ ws) = do
   _ ← refuse (not (starts_with nat_eq w key)) NotFirstForm
   Ok (drop (length key) w, ws)
 
+-- the number that the token spells, in a range
 abbrev pub number_in : ℕ → ℕ → List ℕ → Result ℕ FormCode
 number_in least greatest token = do
   n ← need (number_up_to greatest token) NotFirstForm
@@ -67,6 +68,7 @@ next_node names (w ∷ ws) = do
   node ← need (node_of names w) NotFirstForm
   Ok (node, ws)
 
+-- no token is left
 abbrev pub no_more : List (List ℕ) → Result (Unit {0}) FormCode
 no_more [] = Ok tt
 no_more (w ∷ ws) = Err NotFirstForm

@@ -24,6 +24,7 @@ whole_line (Some row) = do
   _ ← refuse (not row.whole) NotFirstForm
   Ok row
 
+-- a line that is known
 abbrev pub fixed_line : List ℕ → Option Row → Result (Unit {0}) FormCode
 fixed_line bytes line = do
   row ← whole_line line
@@ -58,6 +59,7 @@ root_from kind words = do
   _ ← no_more root.1
   Ok root.0
 
+-- what is asked for, and nothing behind it
 abbrev pub asked_row : List (List ℕ) → Result Asked FormCode
 asked_row words = do
   a ← fixed_word (codes "synth") words
@@ -66,6 +68,7 @@ asked_row words = do
   root ← root_from kind.0 limits.1
   Ok (record { kind = kind.0; limits = limits.0; root = root })
 
+-- the line of the words
 abbrev pub asked_line : Option Row → Result Asked FormCode
 asked_line line = do
   row ← whole_line line
@@ -82,6 +85,7 @@ candidate_from bounds words = do
   _ ← refuse (not (allows bounds.kind bounds.nodes c.0)) NotFirstForm
   Ok (record { s = s.0; r = r.0; c = c.0 }, c.1)
 
+-- a candidate that is marked optimal, and nothing behind it
 abbrev pub point_row : Bounds → List (List ℕ) → Result Candidate FormCode
 point_row bounds words = do
   a ← fixed_word (codes "point") words
@@ -90,6 +94,7 @@ point_row bounds words = do
   _ ← no_more rest
   Ok candidate.0
 
+-- the line of the point
 abbrev pub point_line : Bounds → Option Row → Result Candidate FormCode
 point_line bounds line = do
   row ← whole_line line
@@ -111,6 +116,7 @@ rounds_row candidate words = do
   _ ← refuse (not (length rounds == candidate.s && sum rounds == candidate.r)) NotFirstForm
   Ok rounds
 
+-- the line of its rounds
 abbrev pub rounds_line : Candidate → Option Row → Result (List ℕ) FormCode
 rounds_line candidate line = do
   row ← whole_line line
@@ -134,6 +140,7 @@ ends_from names words = do
   to ← next_node names from.1
   Ok ((from.0, to.0), to.1)
 
+-- a send of that extent, and nothing behind it
 abbrev pub send_words_of : List (List ℕ) → Extent → List (List ℕ) → Result Hop FormCode
 send_words_of names extent words = do
   a ← fixed_word (codes "send") words
@@ -143,6 +150,7 @@ send_words_of names extent words = do
   _ ← no_more step.1
   Ok (record { chunk = chunk.0; from = ends.0.0; to = ends.0.1; step = step.0 })
 
+-- the line of a send, behind the last one
 abbrev pub send_row : List (List ℕ) → Extent → Option Hop → Row → Result Hop FormCode
 send_row names extent last row = do
   _ ← refuse (not row.whole) NotFirstForm
@@ -157,5 +165,6 @@ sends_from names extent before n (row ∷ rows) = if starts_with nat_eq row.byte
   h ← at_line n (send_row names extent (last_or None before) row)
   sends_from names extent (before ++ h ∷ []) (n + 1) rows) else Ok (before, record { number = n; rows = row ∷ rows })
 
+-- the sends from this place on
 abbrev pub sends_at : List (List ℕ) → Extent → Place → Result (List Hop × Place) (FormCode × ℕ)
 sends_at names extent p = sends_from names extent [] p.number p.rows

@@ -36,9 +36,11 @@ abbrev pub within : {A : Type 0} → Result A (TopologyCode × ℕ) → Result A
 within (Ok x) = Ok x
 within (Err e) = Err (NotFirstForm, e.1)
 
+-- a point that is marked optimal
 abbrev pub optimal_point : Candidate → ScheduleValue → PointValue
 optimal_point candidate schedule = record { candidate = candidate; schedule = schedule; mark = Optimal }
 
+-- what is asked for, of a collective within limits
 abbrev pub words_with : Collective → LimitsValue → WordsValue
 words_with collective limits = record { collective = collective; limits = limits }
 
@@ -77,9 +79,11 @@ abbrev pub root_in : List (List ℕ) → Option (List ℕ) → Result ℕ FormCo
 root_in names None = Ok 0
 root_in names (Some name) = need (node_of names name) NotFirstForm
 
+-- a collective of that kind, from or to that node
 abbrev pub collective_with : Kind → ℕ → Collective
 collective_with kind root = record { kind = kind; root = root }
 
+-- a whole text
 unfoldable pub report_of : List ℕ → Result ReportValue (FormCode × ℕ)
 report_of text = do
   head ← line_part (fixed_line (codes "sccl 1")) (start text)
