@@ -18,10 +18,9 @@ pub struct Instance {
     pub post: Placement,
 }
 
-/// The number of all chunks where the chunk count is `c`.
-fn chunks_of(kind: Kind, nodes: u8, c: u8) -> u16
-    requires nodes { nodes ≤ 16 }
-    requires count { c ≤ 16 }
+/// The number of all chunks where the chunk count is `c`: `c` for a broadcast and a reduce, else `c`
+/// for each node.
+pub fn chunks_of(kind: Kind, nodes: u8, c: u8) -> u16
     ensures { result ≡ chunks_of kind nodes c }
 {
     match kind {

@@ -10,7 +10,7 @@ mod layout;
 mod tests;
 
 pub use collective::Collective;
-pub use instance::{Instance, demand_of, instance_of};
+pub use instance::{Instance, chunks_of, demand_of, instance_of};
 pub use kind::{Kind, allows, takes_root};
 pub use laws::{
     reduce_inverts_broadcast, reducescatter_inverts_allgather, root_counts_where_taken,

@@ -1,11 +1,10 @@
 //! A point, and what bounds its numbers.
 
-ghost use Rattle.std.specs.Prelude.{◌≡◌, ◌≤◌, ◌<◌, ◌*◌};
-ghost use Rattle.collective_spec.specs.Collectives.{chunks_of};
+ghost use Rattle.std.specs.Prelude.{◌≡◌};
 ghost use Rattle.first_form.specs.Form.{extent_of};
 
 use candidate_order::{Candidate, Limits};
-use collective_spec::Kind;
+use collective_spec::{Kind, chunks_of};
 use schedule::Schedule;
 
 /// What a candidate keeps to.
@@ -28,16 +27,6 @@ pub struct Extent {
 pub struct Point {
     pub candidate: Candidate,
     pub schedule: Schedule,
-}
-
-/// The number of all chunks where the chunk count is `c`.
-fn chunks_of(kind: Kind, nodes: u8, c: u8) -> u16
-    ensures { result ≡ chunks_of kind nodes c }
-{
-    match kind {
-        Kind::Broadcast | Kind::Reduce => u16::from(c),
-        _ => u16::from(nodes) * u16::from(c),
-    }
 }
 
 impl Extent {
