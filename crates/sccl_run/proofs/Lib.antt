@@ -5,3 +5,4 @@ pub mod FormPoint
 pub mod ReportReplayed
 pub mod Refused
 pub mod RightRuns
+pub mod FamilyRun

@@ -7,6 +7,8 @@ use Rattle.candidate_order.specs.declared.mark.Mark.TheVariants as mark
 use Rattle.schedule.specs.Rows.{plan, send, pair_allreduce}
 use Rattle.frontier_report.specs.Reports.{ReportValue}
 use Rattle.frontier_report.specs.Rows.{broadcast_report, allreduce_report}
+use Rattle.sccl_run.specs.declared.status.Status.TheVariants.{Done}
+use Rattle.sccl_run.specs.Owed.{RunValue}
 use Rattle.sccl_run.specs.Showing.{Shown, shown_in}
 use Rattle.sccl_run.specs.Trials.{trial_words, trial_topology}
 
@@ -51,4 +53,16 @@ refuted_trial n refuted = record {
   topology = trial_topology n;
   frontiers = (Whole, record { points = []; refuted = refuted; unknown = [] }) ∷ [];
   joined = [];
+}
+
+-- the family of two nodes in a row is asked for and written, and four bytes of the source stay there
+abbrev pub family_run : RunValue
+family_run = record {
+  words = codes "family" ∷ codes "kind=line" ∷ codes "size=2" ∷ [];
+  bytes = codes "left";
+  left = codes "left";
+  written = two_nodes_text;
+  files = no_files;
+  files_after = no_files;
+  status = Done;
 }

@@ -12,7 +12,10 @@ mod toplevel;
 mod vectors;
 
 pub use command_words::{Command, RootWord, WordCode, WordFault, read_words};
-pub use laws::{optimal_has_no_better, refused_is_not_done};
+pub use laws::{
+    a_family_that_is_left_out_is_wrong, a_family_that_is_written_is_right, optimal_has_no_better,
+    refused_is_not_done,
+};
 pub use status::Status;
 pub use std::alloc::AllocError as OutOfMemory;
 pub use toplevel::run;
