@@ -60,6 +60,7 @@ family_is_right source sink shelf = record {
     sink_rose = λ e. absurd (not_sink e);
     shelf_rose = λ e. absurd (not_shelf e);
     shelf_opened = λ e. absurd (not_shelf e);
+    shelf_last = λ e. absurd (not_shelf e);
   };
   text = record {
     line = λ r e _. absurd (no_refusal r e);

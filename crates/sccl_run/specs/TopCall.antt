@@ -7,7 +7,7 @@ use Rattle.command_words.specs.declared.command.Command.{Command}
 use Rattle.command_words.specs.declared.command.Command.TheVariants as command
 use Rattle.command_words.specs.Words.{command_of}
 use Rattle.sccl_run.specs.declared.status.Status.{Status}
-use Rattle.sccl_run.specs.declared.status.Status.TheVariants.{Done, OutOfMemory, SourceFailed, SinkFailed, ShelfFailed}
+use Rattle.sccl_run.specs.declared.status.Status.TheVariants.{Done, OutOfMemory, SourceFailed, SinkFailed, ShelfFailed, Denied}
 use Rattle.sccl_run.specs.Refusals.{Refusal, refusal_line}
 use Rattle.sccl_run.specs.Tasks.{Task, due}
 use Rattle.sccl_run.specs.Owed.{RunValue, Owed}
@@ -58,13 +58,14 @@ pub record StatusIsDue (x : RunValue) : Type 0 where
   pub refused : (r : Refusal) → due_in x ≡ Err r → (x.status ≡ r.status) ⊎ IsFree x.status
   pub done : (t : Task) → due_in x ≡ Ok t → (x.status ≡ Done) ⊎ IsFree x.status
 
--- a port's fault comes only where its count rose, and only where the command uses the port
+-- a port's fault comes only where its count rose, and only where the command uses the port; the shelf is opened last, so of the refusals only a denial may give way to its fault
 pub record FaultsHaveCauses (x : RunValue) (source sink shelf : CountValue) : Type 0 where
   pub source_rose : x.status ≡ SourceFailed → HasRisen source
   pub source_read : x.status ≡ SourceFailed → IsFor Reads x
   pub sink_rose : x.status ≡ SinkFailed → HasRisen sink
   pub shelf_rose : x.status ≡ ShelfFailed → HasRisen shelf
   pub shelf_opened : x.status ≡ ShelfFailed → IsFor OpensFiles x
+  pub shelf_last : x.status ≡ ShelfFailed → (r : Refusal) → due_in x ≡ Err r → r.status ≡ Denied
 
 -- ---- what is written
 
