@@ -1,5 +1,6 @@
 -- Lists that are moved piece by piece.
-use Rattle.std.proofs.Common.{◌≡◌, ◌∙◌, sym, ap, ℕ, ◌+◌, ◌-◌, ◌≤◌, List, ◌++◌, length, take, drop, min, arith, append_assoc, length-drop}
+use Rattle.std.specs.Option.{unwrap_or}
+use Rattle.std.proofs.Common.{◌≡◌, ◌∙◌, refl, sym, ap, ℕ, ◌+◌, ◌-◌, ◌≤◌, Option, Some, List, [], ◌++◌, length, take, drop, min, arith, append_assoc, length-drop}
 use Rattle.std.proofs.Math.Seq.{take-add, take-append-add, take-append_seam, drop-drop}
 use Rattle.std.proofs.lemmas.List.{take-append-drop, take_all, take_min}
 
@@ -8,9 +9,14 @@ rest-all : (done : ℕ) (whole : List ℕ) → take (length whole - done) (drop 
 rest-all done whole = take_all (length whole - done) (drop done whole) (grind (arith, length-drop))
 
 -- one piece more of the whole is behind the start
-pub appended-more : (start whole before now : List ℕ) (done n : ℕ) → before ≡ start ++ take done whole → now ≡ before ++ take n (take (length whole - done) (drop done whole)) → now ≡ start ++ take (done + n) whole
-appended-more start whole before now done n was more =
+pub appended_more : (start whole before now : List ℕ) (done n : ℕ) → before ≡ start ++ take done whole → now ≡ before ++ take n (take (length whole - done) (drop done whole)) → now ≡ start ++ take (done + n) whole
+appended_more start whole before now done n was more =
     rw (more, was, rest-all done whole, take-add done n whole) (append_assoc start (take done whole) (take n (drop done whole)))
+
+-- the same of a file, whose bytes those were
+pub appended_to_file : (before whole : List ℕ) (old now : Option (List ℕ)) (done n : ℕ) → old ≡ Some (before ++ take done whole) → now ≡ Some (unwrap_or old [] ++ take n (take (length whole - done) (drop done whole))) → now ≡ Some (before ++ take (done + n) whole)
+appended_to_file before whole old now done n was more =
+    more ∙ ap (λ bytes. Some bytes) (appended_more before whole (unwrap_or old []) _ done n (ap (λ file. unwrap_or file []) was) refl)
 
 -- a piece that was copied from the bytes left, and the bytes left behind it
 pub given : (bytes piece rest : List ℕ) (taken n : ℕ) → length piece ≡ n → piece ≡ take n (take (length bytes - taken) (drop taken bytes)) → drop taken bytes ≡ take n (piece ++ rest) ++ drop (taken + n) bytes

@@ -1,3 +1,6 @@
 pub mod Port
 pub mod Memory
 pub mod Files
+pub mod Shelf
+pub mod FileMaps
+pub mod MemoryShelves

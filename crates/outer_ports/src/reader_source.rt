@@ -58,7 +58,7 @@ impl<R: Read> Source for ReaderSource<R> {
     }
 }
 
-fn read_retrying<R: Read>(reader: &mut R, buf: &mut [u8]) -> io::Result<usize>
+pub(crate) fn read_retrying<R: Read>(reader: &mut R, buf: &mut [u8]) -> io::Result<usize>
     ensures { IfOk result (λ n. n ≤ length buf.new) }
 {
     for _ in 0..u64::MAX {

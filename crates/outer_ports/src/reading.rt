@@ -1,6 +1,6 @@
 //! Reading to the end.
 
-ghost use Rattle.std.specs.Prelude.{◌≡◌, ℕ, ◌+◌, ◌<◌, ◌≤◌, [], ◌++◌, length, take, drop, IfOk, IsTrue, OnErr, OnOk, vec_capacity, vec_len};
+ghost use Rattle.std.specs.Prelude.{◌≡◌, ◌≢◌, ℕ, ◌+◌, ◌<◌, ◌≤◌, [], ◌++◌, length, take, drop, IfOk, IsTrue, OnErr, OnOk, vec_capacity, vec_len};
 ghost use Rattle.outer_ports.specs.Port.{failed, HasCause, Tells};
 
 use crate::failed::Failed;
@@ -14,8 +14,9 @@ const PIECE: usize = 4096;
 ///
 /// The memory for them is taken before the first read, so [`ReadFault::OutOfMemory`] leaves the
 /// source as it was. [`ReadFault::Failed`] comes only where the source's count of faults rose in
-/// this call, or stands at its last value. [`ReadFault::TooLong`] comes exactly where more than
-/// `limit` bytes came, of which `limit` and one more are taken.
+/// this call, or stands at its last value, and at most `limit` bytes are taken then; each other
+/// answer leaves the count as it was. [`ReadFault::TooLong`] comes exactly where more than `limit`
+/// bytes came, of which `limit` and one more are taken.
 pub fn read_all<I: Source>(
     alloc: Global,
     source: &mut I,
@@ -24,6 +25,7 @@ pub fn read_all<I: Source>(
     requires { limit ≤ 1048576 }
     ensures told { Tells (I.tells source.old) (I.tells source.new) }
     ensures cause { HasCause ReadFault.Failed (I.faults source.old) (I.faults source.new) result }
+    ensures kept { result ≢ Err ReadFault.Failed → I.faults source.new ≡ I.faults source.old }
     ensures memory { result ≡ Err ReadFault.OutOfMemory → source.new ≡ source.old }
 
     // Where all bytes came, there are at most `limit`.
@@ -39,7 +41,10 @@ pub fn read_all<I: Source>(
     ensures one_more { IsTrue (I.tells source.new) →
         result ≡ Err ReadFault.TooLong → I.left source.new ≡ drop (limit + 1) (I.left source.old) }
 
-    // After an error, what is left is the end of what was left.
+    // After an error, what is left is the end of what was left, and after a fault the bytes that
+    // came before it are taken.
+    ensures failed { IsTrue (I.tells source.new) → result ≡ Err ReadFault.Failed →
+        (k : ℕ) × (k ≤ limit) × (I.left source.new ≡ drop k (I.left source.old)) }
     ensures rest { IsTrue (I.tells source.new) →
         OnErr result ((k : ℕ) × (k ≤ limit + 1) × (I.left source.new ≡ drop k (I.left source.old))) }
 {
@@ -64,6 +69,7 @@ fn read_piece<I: Source>(
     requires room { vec_len bytes.old + length buffer.old ≤ vec_capacity bytes.old }
     ensures told { Tells (I.tells source.old) (I.tells source.new) }
     ensures cause { HasCause failed (I.faults source.old) (I.faults source.new) result }
+    ensures kept { OnOk result (I.faults source.new ≡ I.faults source.old) }
     ensures capacity { vec_capacity bytes.old ≤ vec_capacity bytes.new }
     ensures count { IfOk result (λ n. (n ≤ length buffer.old) × (vec_len bytes.new ≡ vec_len bytes.old + n)) }
     ensures moved { IsTrue (I.tells source.new) →

@@ -1,6 +1,6 @@
 //! What bytes are written to.
 
-ghost use Rattle.std.specs.Prelude.{ℕ, ◌<◌, ◌≤◌, Bool, List, length, IfOk, IsTrue};
+ghost use Rattle.std.specs.Prelude.{◌≡◌, ℕ, ◌<◌, ◌≤◌, Bool, List, length, IfOk, IsTrue, OnOk};
 ghost use Rattle.outer_ports.specs.Port.{failed, Appends, HasCause, Tells};
 
 use crate::failed::Failed;
@@ -20,12 +20,13 @@ pub trait Sink {
     /// and at least 1 for a nonempty `piece`.
     ///
     /// [`Failed`] comes only where the count of faults rose in this call, or stands at its last
-    /// value; nothing is written then.
+    /// value; nothing is written then. An answer that is no fault leaves the count as it was.
     fn write(&mut self, piece: &[u8]) -> Result<usize, Failed>
         ensures within { IfOk result (λ n. n ≤ length piece.now) }
         ensures some { 0 < length piece.now → IfOk result (λ n. 0 < n) }
         ensures told { Tells (tells self.old) (tells self.new) }
         ensures appended { IsTrue (tells self.new) →
             Appends (written self.old) (written self.new) piece.now result }
-        ensures cause { HasCause failed (faults self.old) (faults self.new) result };
+        ensures cause { HasCause failed (faults self.old) (faults self.new) result }
+        ensures kept { OnOk result (faults self.new ≡ faults self.old) };
 }

@@ -1,6 +1,6 @@
 //! What bytes are read from.
 
-ghost use Rattle.std.specs.Prelude.{ℕ, ◌≤◌, Bool, List, length, IfOk, IsTrue};
+ghost use Rattle.std.specs.Prelude.{◌≡◌, ℕ, ◌≤◌, Bool, List, length, IfOk, IsTrue, OnOk};
 ghost use Rattle.outer_ports.specs.Port.{failed, HasCause, Takes, Tells};
 
 use crate::failed::Failed;
@@ -20,11 +20,12 @@ pub trait Source {
     /// 0 for a nonempty `buf` only at the end.
     ///
     /// [`Failed`] comes only where the count of faults rose in this call, or stands at its last
-    /// value; nothing is taken then.
+    /// value; nothing is taken then. An answer that is no fault leaves the count as it was.
     fn read(&mut self, buf: &mut [u8]) -> Result<usize, Failed>
         ensures within { IfOk result (λ n. n ≤ length buf.new) }
         ensures told { Tells (tells self.old) (tells self.new) }
         ensures taken { IsTrue (tells self.new) →
             Takes (left self.old) (left self.new) buf.new result }
-        ensures cause { HasCause failed (faults self.old) (faults self.new) result };
+        ensures cause { HasCause failed (faults self.old) (faults self.new) result }
+        ensures kept { OnOk result (faults self.new ≡ faults self.old) };
 }

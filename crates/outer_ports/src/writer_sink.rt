@@ -69,7 +69,7 @@ fn write_flushed<W: Write>(writer: &mut W, piece: &[u8]) -> io::Result<usize>
     Ok(count)
 }
 
-fn write_retrying<W: Write>(writer: &mut W, piece: &[u8]) -> io::Result<usize>
+pub(crate) fn write_retrying<W: Write>(writer: &mut W, piece: &[u8]) -> io::Result<usize>
     ensures { IfOk result (λ n. n ≤ length piece.now) }
 {
     for _ in 0..u64::MAX {

@@ -9,7 +9,7 @@ invariant-loop-buffer g l =
       within : vec_len l.bytes ≤ l.limit + 1;
       room : l.limit + 1 ≤ vec_capacity l.bytes;
       told : Tells (I.tells l.initial.source) (I.tells l.source);
-      later : I.faults l.initial.source ≤ I.faults l.source;
+      kept : I.faults l.source ≡ I.faults l.initial.source;
       taken : IsTrue (I.tells l.source) → l.bytes.items ++ I.left l.source ≡ I.left l.initial.source;
     }
 

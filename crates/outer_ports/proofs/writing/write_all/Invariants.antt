@@ -8,7 +8,7 @@ invariant-loop-done g l =
     record {
       within : l.done ≤ length l.bytes;
       told : Tells (O.tells l.initial.sink) (O.tells l.sink);
-      later : O.faults l.initial.sink ≤ O.faults l.sink;
+      kept : O.faults l.sink ≡ O.faults l.initial.sink;
       written : IsTrue (O.tells l.sink) → O.written l.sink ≡ O.written l.initial.sink ++ take l.done l.bytes;
     }
 
