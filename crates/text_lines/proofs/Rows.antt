@@ -1,12 +1,12 @@
 -- How a text falls into lines, and a line into tokens, and how they give the text back.
-use Rattle.std.proofs.Common.{◌≡◌, ◌≢◌, ℕ, ◌+◌, ◌<◌, ◌≤◌, Bool, true, false, cond, eqb, List, [], ◌∷◌, ◌++◌, map, length, get_or, drop, slice_range, refl, sym, ap, ◌∙◌, subst, arith}
+use Rattle.std.proofs.Common.{◌≡◌, ◌≢◌, ℕ, ◌+◌, ◌-◌, ◌<◌, ◌≤◌, Bool, true, false, cond, eqb, List, [], ◌∷◌, ◌++◌, map, length, get_or, drop, slice_range, refl, sym, ap, ◌∙◌, subst, arith}
 use Rattle.std.specs.List.{All, AllByRecursion, flat_map, join_with_byte, slice_split}
 use Rattle.std.proofs.lemmas.Bool.{ne_eqb, eq-eqb, eqb-true}
-use Rattle.std.proofs.lemmas.List.{append_assoc, length-drop, drop_all, drop_more, take_rest}
+use Rattle.std.proofs.lemmas.List.{append_assoc, length-take, length-drop, drop_all, drop_more, take_rest}
 use Rattle.std.proofs.lemmas.List.Folds.{drop_split}
 use Rattle.std.proofs.lemmas.List.Elements.{All-nil, All-cons, All-head, All-tail, All-append, All-weaker}
 use Rattle.std.proofs.lemmas.List.Splits.{slice_split_none, slice_split_at, join_with_byte-slice_split}
-use Rattle.text_lines.specs.Text.{Row, onto_row, rows_of, words_of, line, text_of}
+use Rattle.text_lines.specs.Text.{Row, onto_row, rows_of, row_text, StartsLine, words_of, StartsToken, line, text_of}
 use Rattle.text_lines.proofs.Cut.{IsApart, no_separator, cut_at}
 
 abbrev pub row : List ℕ → Bool → Row
@@ -32,10 +32,6 @@ one_row : (xs : List ℕ) → 0 < length xs → IsApart 10 xs → rows_of xs ≡
 one_row [] some apart = absurd (omega arith)
 one_row (x ∷ xs) some apart = rows_last x xs apart
 
--- the text of a line
-abbrev pub row_text : Row → List ℕ
-row_text r = cond r.whole (r.bytes ++ 10 ∷ []) r.bytes
-
 onto_text : (b : ℕ) (rows : List Row) → flat_map row_text (onto_row b rows) ≡ b ∷ flat_map row_text rows
 onto_text b [] = refl
 onto_text b (r ∷ rs) =
@@ -51,6 +47,10 @@ byte_back b bs rest = by_test (eqb b 10) refl
 pub rows_back : (text : List ℕ) → flat_map row_text (rows_of text) ≡ text
 rows_back [] = refl
 rows_back (b ∷ bs) = byte_back b bs (rows_back bs)
+
+-- a line starts where the lines before it end
+pub rows_left : (text : List ℕ) (at : ℕ) → at ≤ length text → StartsLine text (rows_of (drop at text)) at
+rows_left text at within = omega (arith, ap length (rows_back (drop at text)), length-drop at text)
 
 pub rows_step : (text : List ℕ) (from at : ℕ) → from ≤ at → at < length text → ((k : ℕ) → from ≤ k → k < at → get_or text k 0 ≢ 10) → get_or text at 0 ≡ 10 → rows_of (drop from text) ≡ row (slice_range text from at) true ∷ rows_of (drop (at + 1) text)
 rows_step text from at ordered within apart here =
@@ -91,6 +91,11 @@ words_step text from at to ordered before within apart here = parts_step 32 text
 
 pub words_end_at : (text : List ℕ) (from at to : ℕ) → from ≤ at → at ≤ to → to ≤ at → to ≤ length text → ((k : ℕ) → from ≤ k → k < at → get_or text k 0 ≢ 32) → words_of (slice_range text from to) ≡ slice_range text from at ∷ []
 words_end_at text from at to ordered before end within apart = parts_end_at 32 text from at to ordered before end within apart
+
+-- a token starts where the tokens before it end
+pub words_left : (text : List ℕ) (at end : ℕ) → at ≤ end → end ≤ length text → StartsToken end (words_of (slice_range text at end)) at
+words_left text at end ordered within =
+    omega (arith, ap length (join_with_byte-slice_split 32 (slice_range text at end)), length-take (end - at) (drop at text), length-drop at text)
 
 -- ---- from lines to their text and back
 

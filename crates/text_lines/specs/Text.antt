@@ -1,5 +1,5 @@
 -- A text as its lines, and a line as its tokens; and how lines and tokens are spelled.
-use Rattle.std.specs.Prelude.{ℕ, ◌+◌, ◌==◌, Bool, true, false, if◌then◌else◌, List, [], ◌∷◌, ◌++◌, drop}
+use Rattle.std.specs.Prelude.{◌≡◌, ℕ, ◌+◌, ◌==◌, Bool, true, false, if◌then◌else◌, List, [], ◌∷◌, ◌++◌, length, drop}
 use Rattle.std.specs.List.{slice_split, flat_map, join_with_byte}
 
 -- a line without its line feed, and whether one ended it
@@ -17,9 +17,21 @@ abbrev pub rows_of : List ℕ → List Row
 rows_of [] = []
 rows_of (b ∷ bs) = if b == 10 then record { bytes = []; whole = true } ∷ rows_of bs else onto_row b (rows_of bs)
 
+-- the text of a line, with the line feed that ended it
+abbrev pub row_text : Row → List ℕ
+row_text r = if r.whole then r.bytes ++ 10 ∷ [] else r.bytes
+
+-- a line starts here: behind it stands the text of the lines that are still to be read, and nothing else
+abbrev pub StartsLine : List ℕ → List Row → ℕ → Type 0
+StartsLine text rows place = place + length (flat_map row_text rows) ≡ length text
+
 -- the tokens of a line: the pieces between its spaces, so that two spaces in a row have an empty one between them
 abbrev pub words_of : List ℕ → List (List ℕ)
 words_of bytes = slice_split (λ b. b == 32) bytes
+
+-- a token starts here, in a line that ends there: behind it stand the tokens that are still to be read, and nothing else
+abbrev pub StartsToken : ℕ → List (List ℕ) → ℕ → Type 0
+StartsToken end words place = place + length (join_with_byte 32 words) ≡ end
 
 -- the line of these tokens, ended by a line feed
 abbrev pub line : List (List ℕ) → List ℕ
@@ -47,7 +59,8 @@ pub record Reading : Type 0 where
   pub text : List ℕ
   pub place : Place
 
--- a text, and the tokens of one of its lines that are still to be read
+-- a text, the end of one of its lines, and the tokens of that line that are still to be read
 pub record Words : Type 0 where
   pub text : List ℕ
+  pub end : ℕ
   pub words : List (List ℕ)

@@ -1,7 +1,7 @@
 //! The lines of a text, one after the other.
 
 ghost use Rattle.std.specs.Prelude.{◌≡◌, ◌+◌, ◌^◌, ◌<◌, ◌≤◌, [], ◌∷◌, length, drop, Some, IfSome, IfNone};
-ghost use Rattle.text_lines.specs.Text.{rows_of, start, behind};
+ghost use Rattle.text_lines.specs.Text.{rows_of, start, behind, StartsLine};
 ghost use Rattle.text_lines.specs.Line.{IsIn, row_at, after};
 ghost use Rattle.text_lines.specs.Check.{first};
 
@@ -48,17 +48,20 @@ impl<'a> Lines<'a> {
         self.number
     }
 
-    /// The next line, which stays to be read. `None` comes exactly after the last byte.
+    /// The next line, which stays to be read. `None` comes exactly after the last byte. The place of the line, also of an
+    /// empty one, is where it stands in the text.
     pub fn peek(&self) -> Option<Line>
         ensures none { IfNone result (self.now.place.rows ≡ []) }
         ensures span { IfSome result (IsIn self.now.text) }
+        ensures starts { IfSome result (λ line. StartsLine self.now.text self.now.place.rows line.start) }
         ensures number { IfSome result (λ line. line.number ≡ self.now.place.number) }
         ensures some { IfSome result (λ line. first self.now.place.rows ≡ Some (row_at self.now.text line)) }
     {
         line_at(self.text, self.at, self.number)
     }
 
-    /// Takes the next line. `None` comes exactly after the last byte, and then nothing changes.
+    /// Takes the next line. `None` comes exactly after the last byte, and then nothing changes. The place of the line, also
+    /// of an empty one, is where it stands in the text.
     /// The number of the next line is to be below 2^32 - 1, so that the one after it has a number too.
     pub fn next(&mut self) -> Option<Line>
         requires { self.old.place.number + 1 < 2 ^ 32 }
@@ -66,6 +69,7 @@ impl<'a> Lines<'a> {
         ensures none { IfNone result (self.old.place.rows ≡ []) }
         ensures unchanged { IfNone result (self.new ≡ self.old) }
         ensures span { IfSome result (IsIn self.old.text) }
+        ensures starts { IfSome result (λ line. StartsLine self.old.text self.old.place.rows line.start) }
         ensures number { IfSome result (λ line. line.number ≡ self.old.place.number) }
         ensures some { IfSome result (λ line. first self.old.place.rows ≡ Some (row_at self.old.text line)) }
         ensures moves { IfSome result (λ _. self.new.place ≡ behind self.old.place) }
@@ -85,13 +89,14 @@ fn line_after(line: Line) -> usize
     if line.whole { line.end + 1 } else { line.end }
 }
 
-#[tactic(auto, using(crate::proofs::Rows::rows_step, crate::proofs::Rows::rows_end_at))]
+#[tactic(auto, using(crate::proofs::Rows::rows_step, crate::proofs::Rows::rows_end_at, crate::proofs::Rows::rows_left))]
 fn line_at(text: &[u8], at: usize, number: u32) -> Option<Line>
     requires { at ≤ length text.now }
     ensures none { IfNone result (at ≡ length text.now) }
     ensures span { IfSome result (IsIn text.now) }
     ensures within { IfSome result (λ line. after line ≤ length text.now) }
     ensures number { IfSome result (λ line. line.number ≡ number) }
+    ensures starts { IfSome result (λ line. StartsLine text.now (rows_of (drop at text.now)) line.start) }
     ensures some { IfSome result (λ line. rows_of (drop at text.now) ≡ row_at text.now line ∷ rows_of (drop (after line) text.now)) }
 {
     if at == text.len() {

@@ -1,7 +1,7 @@
 //! The tokens of a line, one after the other.
 
 ghost use Rattle.std.specs.Prelude.{◌≡◌, ◌+◌, ◌<◌, ◌≤◌, [], ◌∷◌, length, slice_range, IfSome, IfNone};
-ghost use Rattle.text_lines.specs.Text.{words_of};
+ghost use Rattle.text_lines.specs.Text.{words_of, StartsToken};
 ghost use Rattle.text_lines.specs.Line.{IsIn, row_at};
 
 use crate::line::Line;
@@ -30,7 +30,7 @@ impl<'a> Model for Tokens<'a> {
 
     ghost Value = { Words };
 
-    ghost view = { λ t. record { text = t.text.now; words = if t.done then [] else words_of (slice_range t.text.now t.at t.end) } };
+    ghost view = { λ t. record { text = t.text.now; end = t.end; words = if t.done then [] else words_of (slice_range t.text.now t.at t.end) } };
 
     ghost invariant = { λ t. (t.at ≤ t.end) × (t.end ≤ length t.text.now) };
 }
@@ -39,6 +39,7 @@ impl<'a> Model for Tokens<'a> {
 pub fn tokens_of(text: &[u8], line: Line) -> Tokens<'_>
     requires { IsIn text.now line }
     ensures text { result.text ≡ text.now }
+    ensures end { result.end ≡ line.end }
     ensures words { result.words ≡ words_of (row_at text.now line).bytes }
 {
     Tokens {
@@ -50,13 +51,16 @@ pub fn tokens_of(text: &[u8], line: Line) -> Tokens<'_>
 }
 
 impl<'a> Tokens<'a> {
-    /// Takes the next token. `None` comes exactly after the last one, and then nothing changes.
+    /// Takes the next token. `None` comes exactly after the last one, and then nothing changes. The place of the token, also
+    /// of an empty one, is where it stands in the text.
     pub fn next(&mut self) -> Option<Token>
         ensures text { self.new.text ≡ self.old.text }
+        ensures end { self.new.end ≡ self.old.end }
         ensures none { IfNone result (self.old.words ≡ []) }
         ensures unchanged { IfNone result (self.new ≡ self.old) }
         ensures ordered { IfSome result (λ token. token.start ≤ token.end) }
         ensures span { IfSome result (λ token. token.end ≤ length self.old.text) }
+        ensures starts { IfSome result (λ token. StartsToken self.old.end self.old.words token.start) }
         ensures some { IfSome result (λ token. self.old.words ≡ slice_range self.old.text token.start token.end ∷ self.new.words) }
     {
         if self.done {
@@ -74,6 +78,7 @@ impl<'a> Tokens<'a> {
     /// Takes the next token, and gives its bytes. `None` comes exactly after the last one, and then nothing changes.
     pub fn next_word(&mut self) -> Option<&'a [u8]>
         ensures text { self.new.text ≡ self.old.text }
+        ensures end { self.new.end ≡ self.old.end }
         ensures none { IfNone result (self.old.words ≡ []) }
         ensures unchanged { IfNone result (self.new ≡ self.old) }
         ensures some { IfSome result (λ word. self.old.words ≡ word.now ∷ self.new.words) }
@@ -84,11 +89,12 @@ impl<'a> Tokens<'a> {
     }
 }
 
-#[tactic(auto, using(crate::proofs::Rows::words_step, crate::proofs::Rows::words_end_at))]
+#[tactic(auto, using(crate::proofs::Rows::words_step, crate::proofs::Rows::words_end_at, crate::proofs::Rows::words_left))]
 fn token_at(text: &[u8], at: usize, end: usize) -> Token
     requires ordered { at ≤ end }
     requires within { end ≤ length text.now }
     ensures start { result.start ≡ at }
+    ensures starts { StartsToken end (words_of (slice_range text.now at end)) result.start }
     ensures after { at ≤ result.end }
     ensures before { result.end ≤ end }
     ensures more { result.end < end → words_of (slice_range text.now at end) ≡ slice_range text.now at result.end ∷ words_of (slice_range text.now (result.end + 1) end) }
