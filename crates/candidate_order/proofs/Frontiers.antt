@@ -3,8 +3,12 @@ use Rattle.std.proofs.Common.{◌≡◌, subst, Bool, true, false, inl, inr, Lis
 use Rattle.std.specs.Prelude.{Contains, map}
 use Rattle.std.proofs.lemmas.List.Elements.{All-contains}
 use Rattle.candidate_order.specs.declared.candidate.Candidate.{Candidate}
+use Rattle.schedule.specs.Links.{TopologyValue}
 use Rattle.schedule.specs.Sends.{ScheduleValue, IsSchedule}
-use Rattle.collective_spec.specs.Collectives.{reduces}
+use Rattle.collective_spec.specs.Collectives.{adds_up}
+use Rattle.collective_spec.specs.declared.spec.Spec.{Spec}
+use Rattle.collective_spec.specs.declared.spec.Spec.TheVariants.{Standard, Custom}
+use Rattle.candidate_order.specs.Ranges.{LimitsValue}
 use Rattle.candidate_order.specs.declared.mark.Mark.TheVariants.{Optimal, Open}
 use Rattle.candidate_order.specs.Costs.{NoWorse, Better, Before}
 use Rattle.candidate_order.specs.Frontiers.{QuestionValue, PointValue, FrontierValue, solved, IsWithin, IsSized, Achieves, Achievable, IsSolvable, IsPoint, RightFrontier, Searched}
@@ -32,23 +36,25 @@ points_differ q f right searched p h x at before no_worse =
     All-contains (λ a. Before a p.candidate → NoWorse a p.candidate → ⊥) (solved f) x worth at before no_worse
 
 -- a schedule that does what is asked shows that it can be done
-shown : (adds : Bool) (q : QuestionValue) (x : Candidate) (s : ScheduleValue) → IsSchedule s → IsSized q x s → Achieves adds q x s → Achievable adds q x
-shown true q x s valid in_range sums = record { schedule = s; valid = valid; in_range = in_range; sums = sums }
-shown false q x s valid in_range solves = record { schedule = s; valid = valid; in_range = in_range; solves = solves }
+shown : (adds : Bool) (t : TopologyValue) (spec : Spec) (l : LimitsValue) (x : Candidate) (s : ScheduleValue) → let q : QuestionValue = record { topology = t; spec = spec; limits = l } in IsSchedule s → IsSized q x s → Achieves adds q x s → Achievable adds q x
+shown true t (Standard collective) l x s valid in_range sums = record { schedule = s; valid = valid; in_range = in_range; sums = sums }
+shown true t (Custom p) l x s valid in_range sums = record { schedule = s; valid = valid; in_range = in_range; sums = sums }
+shown false t (Standard collective) l x s valid in_range solves = record { schedule = s; valid = valid; in_range = in_range; solves = solves }
+shown false t (Custom p) l x s valid in_range solves = record { schedule = s; valid = valid; in_range = in_range; solves = solves }
 
 pub never_both : (q : QuestionValue) (f : FrontierValue) → RightFrontier q f → (p : PointValue) → Contains f.points p → Contains f.refuted p.candidate → ⊥
 never_both q f right p h r =
     let point : IsPoint q f.refuted p = All-contains (IsPoint q f.refuted) f.points p right.points h in
     let by = point.solves in
-    All-contains (λ x. IsSolvable q x → ⊥) f.refuted p.candidate right.refuted r (shown (reduces q.collective.kind) q p.candidate p.schedule by.valid by.in_range by.achieves)
+    All-contains (λ x. IsSolvable q x → ⊥) f.refuted p.candidate right.refuted r (shown (adds_up q.spec) q.topology q.spec q.limits p.candidate p.schedule by.valid by.in_range by.achieves)
 
-pub point_achieves : (q : QuestionValue) (f : FrontierValue) → RightFrontier q f → (p : PointValue) → Contains f.points p → Achieves (reduces q.collective.kind) q p.candidate p.schedule
+pub point_achieves : (q : QuestionValue) (f : FrontierValue) → RightFrontier q f → (p : PointValue) → Contains f.points p → Achieves (adds_up q.spec) q p.candidate p.schedule
 point_achieves q f right p h = let point : IsPoint q f.refuted p = All-contains (IsPoint q f.refuted) f.points p right.points h in point.solves.achieves
 
-pub point_sums : (q : QuestionValue) (f : FrontierValue) → RightFrontier q f → (p : PointValue) → Contains f.points p → reduces q.collective.kind ≡ true → Achieves true q p.candidate p.schedule
+pub point_sums : (q : QuestionValue) (f : FrontierValue) → RightFrontier q f → (p : PointValue) → Contains f.points p → adds_up q.spec ≡ true → Achieves true q p.candidate p.schedule
 point_sums q f right p h adds = subst (λ adding. Achieves adding q p.candidate p.schedule) adds (point_achieves q f right p h)
 
-pub point_solves : (q : QuestionValue) (f : FrontierValue) → RightFrontier q f → (p : PointValue) → Contains f.points p → reduces q.collective.kind ≡ false → Achieves false q p.candidate p.schedule
+pub point_solves : (q : QuestionValue) (f : FrontierValue) → RightFrontier q f → (p : PointValue) → Contains f.points p → adds_up q.spec ≡ false → Achieves false q p.candidate p.schedule
 point_solves q f right p h copies = subst (λ adding. Achieves adding q p.candidate p.schedule) copies (point_achieves q f right p h)
 
 pub open_not_all : (q : QuestionValue) (f : FrontierValue) → RightFrontier q f → (p : PointValue) → Contains f.points p → p.mark ≡ Open → ((x : Candidate) → IsWithin q x → Better x p.candidate → Contains f.refuted x) → ⊥

@@ -1,8 +1,10 @@
 -- Small questions, whose answers are known.
-use Rattle.std.specs.Prelude.{[], ◌∷◌}
+use Rattle.std.specs.Prelude.{ℕ, [], ◌∷◌}
 use Rattle.schedule.specs.Links.{TopologyValue}
 use Rattle.schedule.specs.Sends.{ScheduleValue}
+use Rattle.schedule.specs.Placed.{PlacementValue}
 use Rattle.collective_spec.specs.declared.kind.Kind.{Kind}
+use Rattle.collective_spec.specs.declared.spec.Spec.TheVariants.{Standard, Custom}
 use Rattle.candidate_order.specs.declared.candidate.Candidate.{Candidate}
 use Rattle.candidate_order.specs.declared.mark.Mark.TheVariants.{Optimal}
 use Rattle.candidate_order.specs.Ranges.{LimitsValue}
@@ -18,7 +20,13 @@ smallest = record { s = 1; r = 1; c = 1 }
 
 -- the question within these limits, with node 0 as the root where there is one
 abbrev pub asked : TopologyValue → Kind → QuestionValue
-asked t kind = record { topology = t; collective = record { kind = kind; root = 0 }; limits = smallest_limits }
+asked t kind = record { topology = t; spec = Standard (record { kind = kind; root = 0 }); limits = smallest_limits }
+
+-- the question of a chunk that is to go from node 0 to node 1
+abbrev pub asked_to_move : TopologyValue → QuestionValue
+asked_to_move t =
+    let at : ℕ → PlacementValue = λ node. record { chunks = 1; nodes = t.nodes; pairs = (0, node) ∷ [] } in
+    record { topology = t; spec = Custom (record { base = 1; before = at 0; after = at 1 }); limits = smallest_limits }
 
 -- the one candidate is an optimal point with this schedule
 abbrev pub solved_by : ScheduleValue → FrontierValue

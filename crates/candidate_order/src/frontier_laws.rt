@@ -3,7 +3,7 @@
 ghost use Rattle.std.specs.Prelude.{◌≡◌, true, false, [], Contains};
 ghost use Rattle.schedule.specs.Solving.{Solves};
 ghost use Rattle.schedule.specs.Summing.{Sums};
-ghost use Rattle.collective_spec.specs.Collectives.{demand_of, instance_of, reduces};
+ghost use Rattle.collective_spec.specs.Collectives.{adds_up, spec_demand, spec_instance};
 ghost use Rattle.candidate_order.specs.Costs.{NoWorse, Better, Before};
 ghost use Rattle.candidate_order.specs.Frontiers.{QuestionValue, PointValue, FrontierValue, solved, IsWithin, RightFrontier, Searched};
 
@@ -32,8 +32,8 @@ pub fn no_point_is_refuted()
 
 /// The schedule of each point of a right frontier does what its collective asks, in the point's steps and rounds.
 pub fn each_point_does_what_is_asked()
-    ensures copies { (q : QuestionValue) (f : FrontierValue) → RightFrontier q f → (p : PointValue) → Contains f.points p → reduces q.collective.kind ≡ false → Solves q.topology (instance_of q.collective q.topology.nodes p.candidate.c).pre (instance_of q.collective q.topology.nodes p.candidate.c).post p.schedule p.candidate.s p.candidate.r }
-    ensures adds { (q : QuestionValue) (f : FrontierValue) → RightFrontier q f → (p : PointValue) → Contains f.points p → reduces q.collective.kind ≡ true → Sums q.topology (demand_of q.collective q.topology.nodes p.candidate.c) p.schedule p.candidate.s p.candidate.r }
+    ensures copies { (q : QuestionValue) (f : FrontierValue) → RightFrontier q f → (p : PointValue) → Contains f.points p → adds_up q.spec ≡ false → Solves q.topology (spec_instance q.spec q.topology.nodes p.candidate.c).pre (spec_instance q.spec q.topology.nodes p.candidate.c).post p.schedule p.candidate.s p.candidate.r }
+    ensures adds { (q : QuestionValue) (f : FrontierValue) → RightFrontier q f → (p : PointValue) → Contains f.points p → adds_up q.spec ≡ true → Sums q.topology (spec_demand q.spec q.topology.nodes p.candidate.c) p.schedule p.candidate.s p.candidate.r }
 {}
 
 /// A point of a right frontier is not left open where every better candidate within the limits is refuted.

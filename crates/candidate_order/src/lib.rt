@@ -2,17 +2,20 @@
 #![tactic(auto)]
 
 mod candidate;
+mod frontier;
 mod frontier_laws;
 mod laws;
 mod limits;
 mod listing;
 mod mark;
 mod order;
+mod point;
 #[cfg(test)]
 mod tests;
 mod vectors;
 
 pub use candidate::Candidate;
+pub use frontier::{Frontier, Unknown};
 pub use frontier_laws::{
     better_than_optimal_is_refuted, each_point_does_what_is_asked, no_point_is_refuted,
     no_point_settles_a_later_one, nothing_said_is_right_only_of_nothing,
@@ -26,7 +29,9 @@ pub use limits::Limits;
 pub use listing::list;
 pub use mark::Mark;
 pub use order::{better, cost_cmp, no_worse};
+pub use point::Point;
 pub use std::alloc::AllocError as OutOfMemory;
 pub use vectors::{
-    one_node_has_gathered, one_send_broadcasts, one_send_reduces, two_nodes_alone_do_nothing,
+    one_node_has_gathered, one_send_broadcasts, one_send_moves_a_given_chunk, one_send_reduces,
+    two_nodes_alone_do_nothing,
 };

@@ -3,7 +3,7 @@
 ghost use Rattle.std.specs.Prelude.{[], ◌∷◌};
 ghost use Rattle.schedule.specs.Rows.{line_of_2, plan, send, two_alone};
 ghost use Rattle.candidate_order.specs.Frontiers.{RightFrontier, Searched};
-ghost use Rattle.candidate_order.specs.Rows.{all_refuted, asked, one_node, solved_by};
+ghost use Rattle.candidate_order.specs.Rows.{all_refuted, asked, asked_to_move, one_node, solved_by};
 
 use collective_spec::Kind;
 
@@ -17,6 +17,12 @@ pub fn one_node_has_gathered()
 pub fn one_send_broadcasts()
     ensures right { RightFrontier (asked line_of_2 Kind.Broadcast) (solved_by (plan (1 ∷ []) (send 0 0 1 1 ∷ []))) }
     ensures searched { Searched (asked line_of_2 Kind.Broadcast) (solved_by (plan (1 ∷ []) (send 0 0 1 1 ∷ []))) }
+{}
+
+/// On the line of 2 one send brings a chunk to where users want it.
+pub fn one_send_moves_a_given_chunk()
+    ensures right { RightFrontier (asked_to_move line_of_2) (solved_by (plan (1 ∷ []) (send 0 0 1 1 ∷ []))) }
+    ensures searched { Searched (asked_to_move line_of_2) (solved_by (plan (1 ∷ []) (send 0 0 1 1 ∷ []))) }
 {}
 
 /// On the line of 2 the send back adds the chunk of node 1 to that of node 0.

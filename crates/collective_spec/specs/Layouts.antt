@@ -15,6 +15,6 @@ stands Transpose nodes pair = pair.1 == pair.0 / nodes % nodes
 abbrev pub laid_out : Layout → ℕ → ℕ → PlacementValue
 laid_out layout chunks nodes = placed chunks nodes (stands layout nodes)
 
--- a placement with the pairs of one more chunk
-abbrev pub with_chunk : Layout → PlacementValue → ℕ → PlacementValue
-with_chunk layout p chunk = placed p.chunks p.nodes (λ pair. (pair.0 == chunk && stands layout p.nodes pair) || holds p pair)
+-- a placement with those pairs of one more chunk that pass a test
+abbrev pub with_row : (ℕ × ℕ → Bool) → PlacementValue → ℕ → PlacementValue
+with_row test p chunk = placed p.chunks p.nodes (λ pair. (pair.0 == chunk && test pair) || holds p pair)

@@ -1,6 +1,6 @@
-ghost use Rattle.std.specs.Prelude.{◌≡◌, ◌≢◌, ◌<◌, ◌≤◌, IsTrue, IfOk};
-ghost use Rattle.collective_spec.specs.Kinds.{allows};
-ghost use Rattle.collective_spec.specs.Collectives.{chunks_of, before, after, ends_of, instance_of, demand_of};
+ghost use Rattle.std.specs.Prelude.{◌≡◌, ◌≢◌, ◌<◌, ◌≤◌, IsTrue, false, IfOk};
+ghost use Rattle.collective_spec.specs.Kinds.{allows, is_custom};
+ghost use Rattle.collective_spec.specs.Collectives.{reduces, chunks_of, before, after, ends_of, instance_of, demand_of};
 
 use crate::OutOfMemory;
 use crate::collective::Collective;
@@ -19,14 +19,27 @@ pub struct Instance {
 }
 
 /// The number of all chunks where the chunk count is `c`: `c` for a broadcast and a reduce, else `c`
-/// for each node.
+/// for each node. Of a collective that users give the kind alone does not tell it: `Spec::chunks` does.
 pub fn chunks_of(kind: Kind, nodes: u8, c: u8) -> u16
     ensures { result ≡ chunks_of kind nodes c }
 {
     match kind {
         Kind::Broadcast | Kind::Reduce => u16::from(c),
-        _ => u16::from(nodes) * u16::from(c),
+        Kind::Gather
+        | Kind::Allgather
+        | Kind::Scatter
+        | Kind::Alltoall
+        | Kind::Reducescatter
+        | Kind::Allreduce => u16::from(nodes) * u16::from(c),
+        Kind::Custom => 0,
     }
+}
+
+/// Whether such a collective adds up what the nodes contribute.
+pub fn reduces(kind: Kind) -> bool
+    ensures { result ≡ reduces kind }
+{
+    matches!(kind, Kind::Reduce | Kind::Reducescatter | Kind::Allreduce)
 }
 
 /// Where the chunks are before; of a reduction, which node contributes to which.
@@ -36,7 +49,7 @@ fn before(collective: Collective) -> Layout
     match collective.kind {
         Kind::Broadcast | Kind::Scatter => Layout::Root(collective.root),
         Kind::Gather | Kind::Allgather | Kind::Alltoall => Layout::Scattered,
-        Kind::Reduce | Kind::Reducescatter | Kind::Allreduce => Layout::All,
+        Kind::Reduce | Kind::Reducescatter | Kind::Allreduce | Kind::Custom => Layout::All,
     }
 }
 
@@ -45,7 +58,7 @@ fn after(collective: Collective) -> Layout
     ensures { result ≡ after collective.kind collective.root }
 {
     match collective.kind {
-        Kind::Broadcast | Kind::Allgather | Kind::Allreduce => Layout::All,
+        Kind::Broadcast | Kind::Allgather | Kind::Allreduce | Kind::Custom => Layout::All,
         Kind::Gather | Kind::Reduce => Layout::Root(collective.root),
         Kind::Scatter | Kind::Reducescatter => Layout::Scattered,
         Kind::Alltoall => Layout::Transpose,
@@ -57,15 +70,15 @@ fn ends_of(collective: Collective) -> (Layout, Layout)
     ensures { result ≡ ends_of collective }
 {
     let (first, last) = (before(collective), after(collective));
-    match collective.kind {
-        // A reduction is the inverse of a copying collective.
-        Kind::Reduce | Kind::Reducescatter | Kind::Allreduce => (last, first),
-        _ => (first, last),
+    // A reduction is the inverse of a copying collective.
+    if reduces(collective.kind) {
+        (last, first)
+    } else {
+        (first, last)
     }
 }
 
-/// The instance of a collective on so many nodes, from 1 to 16, with the chunk count `c`, at most
-/// 16. Of a reduction it is that of the copying collective of which it is the inverse: broadcast
+/// The instance of a standard collective on so many nodes with the chunk count `c`, at most 16. Of a reduction it is that of the copying collective of which it is the inverse: broadcast
 /// for reduce, and allgather for reducescatter.
 pub fn instance_of(
     alloc: Global,
@@ -75,8 +88,8 @@ pub fn instance_of(
 ) -> Result<Instance, OutOfMemory>
     requires allowed { IsTrue (allows collective.kind nodes c) }
     requires single { collective.kind ≢ Kind.Allreduce }
+    requires standard { is_custom collective.kind ≡ false }
     requires root { collective.root < nodes }
-    requires nodes { nodes ≤ 16 }
     requires count { c ≤ 16 }
     ensures { IfOk result (λ instance. instance ≡ instance_of collective nodes c) }
 {
@@ -88,15 +101,15 @@ pub fn instance_of(
 }
 
 /// The pairs of a chunk and a node that the collective has to reach: where the chunks have to be
-/// after, or where the sums have to be. The nodes are 1 to 16, and `c` is at most 16.
+/// after, or where the sums have to be. The collective is a standard one, and `c` is at most 16.
 pub fn demand_of(
     alloc: Global,
     collective: Collective,
     nodes: u8,
     c: u8,
 ) -> Result<Placement, OutOfMemory>
+    requires standard { is_custom collective.kind ≡ false }
     requires root { collective.root < nodes }
-    requires nodes { nodes ≤ 16 }
     requires count { c ≤ 16 }
     ensures { IfOk result (λ demand. demand ≡ demand_of collective nodes c) }
 {

@@ -1,5 +1,5 @@
 ghost use Rattle.std.specs.Prelude.{◌≡◌, IsSome, IfSome};
-ghost use Rattle.collective_spec.specs.Kinds.{number_of, word_of, kind_rows, takes_root, allows};
+ghost use Rattle.collective_spec.specs.Kinds.{number_of, word_of, kind_rows, takes_root, is_custom, allows};
 
 use case_table::{Table, table};
 
@@ -22,18 +22,20 @@ pub enum Kind {
     Reducescatter,
     /// The sums over all nodes go to every node.
     Allreduce,
+    /// Chunks go from the nodes that users say to the nodes that they say.
+    Custom,
 }
 
 #[tactic(auto, using(crate::proofs::KindRows::number_found, crate::proofs::KindRows::word_found))]
 impl Kind {
-    /// The number of the kind, from 0 to 7 in the order of the variants.
+    /// The number of the kind, from 0 to 8 in the order of the variants.
     pub fn number(self) -> u32
         ensures { result ≡ number_of self }
     {
         self as u32
     }
 
-    /// The kind with this number; `None` exactly where the number is above 7.
+    /// The kind with this number; `None` exactly where the number is above 8.
     pub fn of_number(number: u32) -> Option<Kind>
         ensures numbered { IfSome result (λ kind. number_of kind ≡ number) }
         ensures known { (kind : Kind) → number_of kind ≡ number → result ≡ Some kind }
@@ -47,6 +49,7 @@ impl Kind {
             5 => Some(Kind::Reduce),
             6 => Some(Kind::Reducescatter),
             7 => Some(Kind::Allreduce),
+            8 => Some(Kind::Custom),
             _ => None,
         }
     }
@@ -83,6 +86,7 @@ fn words() -> Table
         "reduce" => 5,
         "reducescatter" => 6,
         "allreduce" => 7,
+        "custom" => 8,
     ]
 }
 
@@ -96,6 +100,13 @@ pub fn takes_root(kind: Kind) -> bool
     )
 }
 
+/// Whether users give where the chunks of such a collective are before, and where they have to be after.
+pub fn is_custom(kind: Kind) -> bool
+    ensures { result ≡ is_custom kind }
+{
+    matches!(kind, Kind::Custom)
+}
+
 /// Whether such a collective may have the chunk count `c`: it is at least 1, and for an
 /// all-to-all a multiple of the number of nodes.
 pub fn allows(kind: Kind, nodes: u8, c: u8) -> bool
@@ -103,6 +114,13 @@ pub fn allows(kind: Kind, nodes: u8, c: u8) -> bool
 {
     match kind {
         Kind::Alltoall => c >= 1 && c.is_multiple_of(nodes),
-        _ => c >= 1,
+        Kind::Broadcast
+        | Kind::Gather
+        | Kind::Allgather
+        | Kind::Scatter
+        | Kind::Reduce
+        | Kind::Reducescatter
+        | Kind::Allreduce
+        | Kind::Custom => c >= 1,
     }
 }

@@ -1,5 +1,5 @@
 ghost use Rattle.std.specs.Prelude.{◌≡◌, ◌<◌, ◌≤◌, ◌*◌, ◌^◌, IfOk};
-ghost use Rattle.collective_spec.specs.Layouts.{stands, laid_out, with_chunk};
+ghost use Rattle.collective_spec.specs.Layouts.{stands, laid_out, with_row};
 ghost use Rattle.schedule.specs.Placed.{IsPlacement};
 
 use crate::OutOfMemory;
@@ -39,7 +39,7 @@ impl Layout {
         requires chunk { chunk < placement.old.chunks }
         requires nodes { 1 ≤ placement.old.nodes }
         requires limits { IsPlacement placement.old }
-        ensures placed { placement.new ≡ with_chunk self placement.old chunk }
+        ensures placed { placement.new ≡ with_row (stands self placement.old.nodes) placement.old chunk }
     {
         let nodes = placement.nodes();
         for node in 0..nodes {

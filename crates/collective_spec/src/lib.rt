@@ -6,14 +6,20 @@ mod instance;
 mod kind;
 mod laws;
 mod layout;
+mod pattern;
+mod spec;
 #[cfg(test)]
 mod tests;
 
 pub use collective::Collective;
-pub use instance::{Instance, chunks_of, demand_of, instance_of};
-pub use kind::{Kind, allows, takes_root};
+pub use instance::{Instance, chunks_of, demand_of, instance_of, reduces};
+pub use kind::{Kind, allows, is_custom, takes_root};
 pub use laws::{
+    copies_stand_where_the_pattern_does, one_copy_is_the_pattern, patterns_are_copied,
     reduce_inverts_broadcast, reducescatter_inverts_allgather, root_counts_where_taken,
+    what_fits_is_a_spec, what_is_asked_has_its_size,
 };
 pub use layout::Layout;
+pub use pattern::Pattern;
+pub use spec::{Spec, spec_demand, spec_instance};
 pub use std::alloc::AllocError as OutOfMemory;

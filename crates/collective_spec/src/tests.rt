@@ -1,9 +1,12 @@
-use crate::{Collective, Instance, Kind, OutOfMemory, allows, demand_of, instance_of, takes_root};
+use crate::{
+    Collective, Instance, Kind, OutOfMemory, Pattern, Spec, allows, demand_of, instance_of,
+    is_custom, spec_demand, spec_instance, takes_root,
+};
 use schedule::Placement;
 use std::alloc::Global;
 use std::test::Fail;
 
-const KINDS: [(Kind, &str, bool); 8] = [
+const KINDS: [(Kind, &str, bool); 9] = [
     (Kind::Broadcast, "broadcast", true),
     (Kind::Gather, "gather", true),
     (Kind::Allgather, "allgather", false),
@@ -12,6 +15,7 @@ const KINDS: [(Kind, &str, bool); 8] = [
     (Kind::Reduce, "reduce", true),
     (Kind::Reducescatter, "reducescatter", false),
     (Kind::Allreduce, "allreduce", false),
+    (Kind::Custom, "custom", false),
 ];
 
 #[test]
@@ -25,7 +29,7 @@ fn kinds_have_numbers_and_words(rt: HostRuntime) {
         assert_eq!(rt; takes_root(kind), rooted);
         number = kind.number() + 1;
     }
-    assert_eq!(rt; Kind::of_number(8), None);
+    assert_eq!(rt; Kind::of_number(9), None);
     assert_eq!(rt; Kind::of_word("allgathers"), None);
 }
 
@@ -40,6 +44,8 @@ fn chunk_counts(rt: HostRuntime) {
         (Kind::Alltoall, 4, 6, false),
         (Kind::Alltoall, 4, 8, true),
         (Kind::Allreduce, 4, 1, true),
+        (Kind::Custom, 4, 0, false),
+        (Kind::Custom, 4, 3, true),
     ];
     for (kind, nodes, c, allowed) in cases {
         assert_eq!(rt;
@@ -88,6 +94,7 @@ fn instances_on_three_nodes(rt: HostRuntime) -> Result<(), Fail> {
     for (kind, c, before, after) in cases {
         assert!(rt; allows(kind, 3, c) && c <= 16);
         assert_ne!(rt; kind, Kind::Allreduce);
+        assert!(rt; !is_custom(kind));
         let Instance { chunks, pre, post } = instance_of(
             rt.alloc(),
             Collective { kind, root: 1 },
@@ -124,5 +131,31 @@ fn demands_on_three_nodes(rt: HostRuntime) -> Result<(), Fail> {
             "of {kind:?}"
         );
     }
+    Ok(())
+}
+
+/// Two chunks are given, and copied: chunk 1 of the second copy is the last of four.
+#[test]
+fn a_pattern_is_copied(rt: HostRuntime) -> Result<(), Fail> {
+    let mut before = Placement::empty(rt.alloc(), 2, 3)?;
+    before.insert(0, 0);
+    before.insert(1, 1);
+    before.insert(1, 2);
+    let mut after = Placement::empty(rt.alloc(), 2, 3)?;
+    after.insert(0, 2);
+    let spec = Spec::of(
+        Collective {
+            kind: Kind::Custom,
+            root: 0,
+        },
+        Some(Pattern::new(2, before, after)),
+    );
+    let Instance { chunks, pre, post } = spec_instance(rt.alloc(), &spec, 3, 2)?;
+    let demand = spec_demand(rt.alloc(), &spec, 3, 2)?;
+    assert_eq!(rt; chunks, 4);
+    assert_eq!(rt; chunks, spec.chunks(3, 2));
+    assert_eq!(rt; picture(rt.alloc(), &pre)?.as_str(), "x.. .xx x.. .xx ");
+    assert_eq!(rt; picture(rt.alloc(), &post)?.as_str(), "..x ... ..x ... ");
+    assert_eq!(rt; picture(rt.alloc(), &demand)?.as_str(), "..x ... ..x ... ");
     Ok(())
 }

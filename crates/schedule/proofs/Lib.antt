@@ -23,3 +23,6 @@ pub mod Spreading
 pub mod Returning
 pub mod Gathering
 pub mod Inverted
+pub mod Usable
+pub mod Turned
+pub mod Wasting

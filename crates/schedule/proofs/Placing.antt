@@ -66,7 +66,7 @@ rows_below chunks nodes from (suc len) c =
 pub all_below : (chunks nodes : ℕ) → AllByRecursion (IsBelow chunks nodes) (all_pairs chunks nodes)
 all_below chunks nodes = rows_below chunks nodes 0 chunks (omega arith)
 
-filter_alike : {X : Type 0} (P : X → Type 0) (f g : X → Bool) → ((x : X) → P x → f x ≡ g x) → (xs : List X) → AllByRecursion P xs → filter f xs ≡ filter g xs
+pub filter_alike : {X : Type 0} (P : X → Type 0) (f g : X → Bool) → ((x : X) → P x → f x ≡ g x) → (xs : List X) → AllByRecursion P xs → filter f xs ≡ filter g xs
 filter_alike P f g same [] a = refl
 filter_alike P f g same (x ∷ xs) a =
     let rest = filter_alike P f g same xs a.1 in

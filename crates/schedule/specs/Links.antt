@@ -1,6 +1,7 @@
 -- Topologies: nodes, and groups of directed links that share a width (Cai et al., PPoPP 2021, section on topologies).
-use Rattle.std.specs.Prelude.{◌≢◌, ◌==◌, ◌&&◌, ℕ, ◌<◌, ◌≤◌, Bool, List, length, map, All, AllPairs}
+use Rattle.std.specs.Prelude.{◌≢◌, ◌==◌, ◌&&◌, ℕ, ◌<◌, ◌≤◌, Bool, List, length, map, filter, All, AllPairs}
 use Rattle.std.specs.List.{list_any}
+use Rattle.schedule.specs.Placed.{all_pairs}
 
 -- links that share a width: at most so many chunks cross them together in one round
 pub record GroupValue : Type 0 where
@@ -21,6 +22,10 @@ has_link group link = list_any (same_link link) group.links
 -- a link is usable where it stands in some group
 abbrev pub is_usable : TopologyValue → ℕ × ℕ → Bool
 is_usable t link = list_any (λ group. has_link group link) t.groups
+
+-- the usable links, each once, ascending by the node that they leave and then the one that they enter
+abbrev pub usable_links : TopologyValue → List (ℕ × ℕ)
+usable_links t = filter (is_usable t) (all_pairs t.nodes t.nodes)
 
 -- a link joins two different nodes
 pub record IsLink (link : ℕ × ℕ) : Type 0 where

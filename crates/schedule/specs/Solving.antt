@@ -1,5 +1,6 @@
 -- When a schedule solves an instance (Cai et al., PPoPP 2021, section on the synthesis problem).
-use Rattle.std.specs.Prelude.{◌≡◌, ℕ, ◌-◌, true, false, length, sum, All, AllPairs}
+use Rattle.std.specs.Prelude.{◌≡◌, ◌&&◌, ℕ, ◌-◌, Bool, true, false, not, length, sum, All, AllPairs}
+use Rattle.schedule.specs.declared.hop.Hop.{Hop}
 use Rattle.schedule.specs.Links.{TopologyValue}
 use Rattle.schedule.specs.Sends.{ScheduleValue, IsSchedule, IsInRange}
 use Rattle.schedule.specs.Placed.{PlacementValue, holds, same_pair}
@@ -19,6 +20,10 @@ pub record Solvable (t : TopologyValue) (pre post : PlacementValue) (steps round
   pub valid : IsSchedule schedule
   pub in_range : IsInRange pre.chunks pre.nodes schedule
   pub solves : Solves t pre post schedule steps rounds
+
+-- the sender holds the chunk, and the receiver lacks it
+abbrev pub moves : PlacementValue → Hop → Bool
+moves before h = holds before (h.chunk, h.from) && not (holds before (h.chunk, h.to))
 
 -- no send is wasted: each sender holds the chunk before its step, each receiver lacks it, and receives it once
 pub record Tight (pre : PlacementValue) (s : ScheduleValue) : Type 0 where

@@ -1,6 +1,7 @@
-ghost use Rattle.std.specs.Prelude.{◌≡◌};
-ghost use Rattle.schedule.specs.Links.{GroupValue, IsGroup};
+ghost use Rattle.std.specs.Prelude.{◌≡◌, IfOk};
+ghost use Rattle.schedule.specs.Links.{GroupValue, IsGroup, reversed_group};
 
+use crate::OutOfMemory;
 use std::marker::Model;
 
 /// Directed links that share a width. A link is a pair of the nodes that it leaves and enters.
@@ -43,5 +44,20 @@ impl Group {
         ensures limits { IsGroup self.now }
     {
         self.width
+    }
+
+    /// The group with each link turned round in its place. The only error is want of memory.
+    #[tactic(auto, using(crate::proofs::Turned::pushes_mapped, crate::proofs::Turned::turned_group))]
+    pub(crate) fn reversed(&self) -> Result<Group, OutOfMemory>
+        ensures { IfOk result (λ g. g ≡ reversed_group self.now) }
+    {
+        let mut links = Vec::new(*self.links.allocator());
+        for &(from, to) in &self.links {
+            links.push((to, from))?;
+        }
+        Ok(Group {
+            links,
+            width: self.width,
+        })
     }
 }

@@ -13,6 +13,7 @@ mod run;
 mod schedule;
 #[cfg(test)]
 mod tests;
+mod tight;
 mod topology;
 pub mod vectors;
 mod verdict;
@@ -25,5 +26,6 @@ pub use range::in_range;
 pub use run::run_steps;
 pub use schedule::Schedule;
 pub use std::alloc::AllocError as OutOfMemory;
+pub use tight::is_tight;
 pub use topology::Topology;
 pub use verdict::Verdict;

@@ -1,11 +1,15 @@
-ghost use Rattle.std.specs.Prelude.{◌≡◌, ◌<◌, ◌^◌, All, count_by, length};
+ghost use Rattle.std.specs.Prelude.{◌≡◌, ◌<◌, ◌≤◌, ◌^◌, ◌++◌, [], ◌∷◌, if◌then◌else◌, All, count_by, filter, length, map, IfOk, OnOk};
+ghost use Rattle.std.specs.List.{range_with_len};
 ghost use Rattle.schedule.specs.Links.{IsBelow, IsTopology, has_link, is_usable};
+ghost use Rattle.schedule.specs.Placed.{all_pairs};
 ghost use Rattle.schedule.specs.Sends.{link_of};
 ghost use Rattle.schedule.specs.Tables.{Marks, AddsLinks, IsTabled, marked_at};
 
+use crate::OutOfMemory;
 use crate::group::Group;
 use crate::hop::Hop;
 use crate::topology::Topology;
+use std::alloc::Global;
 
 /// The most nodes that a topology has.
 const NODES: usize = 16;
@@ -59,6 +63,44 @@ impl LinkTable {
         ensures { result ≡ marked_at self.now.cells (link_of hop.now) }
     {
         self.cells[hop.from as usize * NODES + hop.to as usize]
+    }
+
+    /// Its links between nodes below `nodes`, each once, ascending by the node that they leave and then the one that they
+    /// enter.
+    #[tactic(auto, using(crate::proofs::Usable::rows_more))]
+    pub(crate) fn between(&self, alloc: Global, nodes: u8) -> Result<Vec<(u8, u8)>, OutOfMemory>
+        requires { nodes ≤ 16 }
+        ensures { IfOk result (λ links. links.items ≡ filter (marked_at self.now.cells) (all_pairs nodes nodes)) }
+    {
+        let mut links = Vec::new(alloc);
+        for from in 0..nodes {
+            self.push_from(&mut links, from, nodes)?;
+        }
+        Ok(links)
+    }
+
+    #[tactic(auto, using(crate::proofs::Usable::row_more))]
+    fn push_from(&self, links: &mut Vec<(u8, u8)>, from: u8, nodes: u8) -> Result<(), OutOfMemory>
+        requires from { from < 16 }
+        requires nodes { nodes ≤ 16 }
+        ensures { OnOk result (links.new.items ≡ links.old.items ++ filter (marked_at self.now.cells) (map (λ to. (from, to)) (range_with_len 0 nodes))) }
+    {
+        for to in 0..nodes {
+            self.push_link(links, from, to)?;
+        }
+        Ok(())
+    }
+
+    /// The link, where it is among them, after others.
+    fn push_link(&self, links: &mut Vec<(u8, u8)>, from: u8, to: u8) -> Result<(), OutOfMemory>
+        requires from { from < 16 }
+        requires to { to < 16 }
+        ensures { OnOk result (links.new.items ≡ links.old.items ++ (if marked_at self.now.cells (from, to) then (from, to) ∷ [] else [])) }
+    {
+        if self.cells[from as usize * NODES + to as usize] {
+            links.push((from, to))?;
+        }
+        Ok(())
     }
 
     /// How many of the sends have their link among them.

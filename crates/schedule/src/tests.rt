@@ -4,7 +4,8 @@ ghost use Rattle.schedule.specs.Rows.{only};
 ghost use Rattle.schedule.specs.Sends.{IsSchedule};
 
 use crate::{
-    Group, Hop, OutOfMemory, Placement, Schedule, Topology, Verdict, in_range, run_steps, solves,
+    Group, Hop, OutOfMemory, Placement, Schedule, Topology, Verdict, in_range, is_tight, run_steps,
+    solves,
 };
 use std::alloc::Global;
 use std::test::Fail;
@@ -141,5 +142,17 @@ fn a_run_has_a_placement_for_each_step(rt: HostRuntime) -> Result<(), Fail> {
     assert!(rt; !in_range(&forth, 1, 1));
     let run = run_steps(alloc, &at_root(alloc, 1)?, &forth)?;
     assert_eq!(rt; run.len(), 2);
+    Ok(())
+}
+
+#[test]
+fn links_and_wasted_sends(rt: HostRuntime) -> Result<(), Fail> {
+    let alloc = rt.alloc();
+    let back = back_of_2(alloc)?;
+    assert_eq!(rt; back.links()?.as_slice(), [(1, 0)].as_slice());
+    assert_eq!(rt; back.reversed()?.links()?.as_slice(), [(0, 1)].as_slice());
+    let forth = one_step(alloc, vec![in alloc; FORTH]?)?;
+    assert!(rt; is_tight(alloc, &at_root(alloc, 1)?, &forth)?);
+    assert!(rt; !is_tight(alloc, &everywhere(alloc, 1)?, &forth)?);
     Ok(())
 }

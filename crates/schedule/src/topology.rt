@@ -1,7 +1,9 @@
-ghost use Rattle.std.specs.Prelude.{◌≡◌};
-ghost use Rattle.schedule.specs.Links.{TopologyValue, IsTopology};
+ghost use Rattle.std.specs.Prelude.{◌≡◌, IfOk};
+ghost use Rattle.schedule.specs.Links.{TopologyValue, IsTopology, usable_links, reversed_of};
 
+use crate::OutOfMemory;
 use crate::group::Group;
+use crate::links::LinkTable;
 use std::marker::Model;
 
 /// Nodes, numbered from 0, and groups of directed links between them. A link may stand in several groups, and is
@@ -45,5 +47,29 @@ impl Topology {
         ensures limits { IsTopology self.now }
     {
         &self.groups
+    }
+
+    /// The usable links, each once, ascending by the node that they leave and then the one that they enter. The only error
+    /// is want of memory.
+    #[tactic(auto, using(crate::proofs::Usable::marked_usable))]
+    pub fn links(&self) -> Result<Vec<(u8, u8)>, OutOfMemory>
+        ensures { IfOk result (λ links. links.items ≡ usable_links self.now) }
+    {
+        LinkTable::usable(self).between(*self.groups.allocator(), self.nodes)
+    }
+
+    /// The topology with each link turned round in its place. The only error is want of memory.
+    #[tactic(auto, using(crate::proofs::Turned::pushes_mapped, crate::proofs::Turned::turned_topology))]
+    pub fn reversed(&self) -> Result<Topology, OutOfMemory>
+        ensures { IfOk result (λ t. t ≡ reversed_of self.now) }
+    {
+        let mut groups = Vec::new(*self.groups.allocator());
+        for group in &self.groups {
+            groups.push(group.reversed()?)?;
+        }
+        Ok(Topology {
+            nodes: self.nodes,
+            groups,
+        })
     }
 }
