@@ -1,5 +1,5 @@
 -- Families are topologies.
-use Rattle.std.proofs.Common.{◌≡◌, ◌≢◌, ℕ, zero, suc, ◌+◌, ◌*◌, ◌/◌, ◌%◌, ◌<◌, ◌≤◌, Bool, true, false, ◌&&◌, ◌||◌, cond, eqb, leb, List, [], ◌∷◌, ◌++◌, map, length, get_or, drop, Some, ◌⊎◌, inl, inr, refl, sym, ap, ◌∙◌, subst, arith}
+use Rattle.std.proofs.Common.{◌≡◌, ◌≢◌, ℕ, zero, suc, ◌+◌, ◌*◌, ◌/◌, ◌%◌, ◌<◌, ◌≤◌, Bool, true, false, ◌&&◌, ◌||◌, cond, eqb, leb, List, [], ◌∷◌, ◌++◌, map, length, get_or, drop, None, Some, ◌⊎◌, inl, inr, refl, sym, ap, ◌∙◌, subst, arith}
 use Rattle.std.specs.Prelude.{bit_xor}
 use Rattle.std.specs.Fmt.{digits}
 use Rattle.std.specs.Int.Bits.{xor_self}
@@ -264,9 +264,10 @@ family_topology kind size ok =
     let groups = family_groups_are kind size ok in
     record { some = sizes.some; few = sizes.few; limit = groups.few; groups = groups.each; nodes = groups.below }
 
-pub family_named : (kind : FamilyKind) (size : ℕ) → is_allowed kind size ≡ true → IsNamed (record { names = map numbered_name (range_with_len 0 size); topology = record { nodes = size; groups = family_groups kind size } })
+pub family_named : (kind : FamilyKind) (size : ℕ) → is_allowed kind size ≡ true → IsNamed (record { names = map numbered_name (range_with_len 0 size); topology = record { nodes = size; groups = family_groups kind size }; custom = None })
 family_named kind size ok = record {
   names = names_named size (allowed_size kind size ok);
   topology = family_topology kind size ok;
   as_many = length-map (range_with_len 0 size) numbered_name ∙ length-range_with_len 0 size;
+  custom = tt;
 }

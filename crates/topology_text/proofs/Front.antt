@@ -1,6 +1,7 @@
 -- The lines of the header and of the nodes: what is read stands there, and what stands there is read.
 use Rattle.std.proofs.Common.{◌≡◌, ℕ, ◌<◌, ◌≤◌, Bool, true, false, ◌&&◌, ◌||◌, not, cond, eqb, leb, ltb, List, [], ◌∷◌, ◌++◌, length, drop, Option, None, Some, Result, Ok, ◌⊎◌, inl, inr, refl, sym, ap, ◌∙◌, subst, append_assoc, arith}
 use Rattle.std.specs.Prelude.{bytes_eq, codes, nat_le}
+use Rattle.std.specs.Option.{is_some}
 use Rattle.std.specs.List.{All, list_all, list_any}
 use Rattle.std.proofs.lemmas.Bool.{and_parts, or_parts, not-false, leb-true, leb-false, ltb-true, lt-leb, cond-true, or_cases, eqb-true, ne_eqb, false_from_ne_true}
 use Rattle.std.proofs.lemmas.List.{append-nil, length-append}
@@ -10,27 +11,57 @@ use Rattle.std.proofs.lemmas.List.Sums.{AllPass-from_list_all}
 use Rattle.std.proofs.lemmas.Slice.Eq.{bytes_eq-Decides}
 use Rattle.text_lines.specs.Text.{Row, words_of}
 use Rattle.text_lines.specs.Check.{◌>>=◌, refuse, need}
-use Rattle.text_lines.proofs.Checks.{refuse_ok, refuse_alone, need_ok, ok_is}
+use Rattle.text_lines.proofs.Checks.{refuse_ok, need_ok, ok_is}
 use Rattle.text_lines.proofs.Distinct.{AreDistinct, distinct_nil, distinct_push, none_before, next_has}
 use Rattle.text_lines.proofs.Rows.{row_of, row_back, words_again}
 use Rattle.text_lines.proofs.Words.{IsWord, AreWords, literal, tokens_from, none_empty, begins_is}
+use Rattle.collective_spec.specs.Patterns.{PatternValue}
 use Rattle.topology_text.specs.declared.fault.TopologyCode.{TopologyCode}
 use Rattle.topology_text.specs.declared.fault.TopologyCode.TheVariants.{BadHeader, BadLine, BadName, NameTwice, TooManyNodes, NoNodes}
 use Rattle.topology_text.specs.Names.{is_name_byte, is_name, name_of, AreNames}
 use Rattle.topology_text.specs.Spelling.{header_words, nodes_words}
-use Rattle.topology_text.specs.Reading.{begins, has_empty, header_line, names_from, nodes_row, nodes_line}
+use Rattle.topology_text.specs.Reading.{begins, has_empty, version_of, header_line, names_from, nodes_row, nodes_line}
 
 -- ---- line 1
 
-pub header_takes : (o : Option Row) (u : Unit {0}) → header_line o ≡ Ok u → o ≡ Some (row_of header_words)
-header_takes None u e = absurd (cc)
-header_takes (Some r) u e =
-    let (whole, same) = or_parts (not r.whole) (not (bytes_eq r.bytes (codes "topology 1"))) (refuse_alone (not r.whole || not (bytes_eq r.bytes (codes "topology 1"))) BadHeader u e) in
-    let bytes : r.bytes ≡ codes "topology 1" = (bytes_eq-Decides r.bytes (codes "topology 1")).0 (not-false (bytes_eq r.bytes (codes "topology 1")) same) in
-    ap (λ row. Some row) (row_back r header_words (not-false r.whole whole) (ap words_of bytes))
+-- the words of the header, by whether a pattern follows the groups
+abbrev pub head_words : Bool → List (List ℕ)
+head_words false = codes "topology" ∷ codes "1" ∷ []
+head_words true = codes "topology" ∷ codes "2" ∷ []
 
-pub header_again : header_line (Some (row_of header_words)) ≡ Ok tt
-header_again = refl
+version_is : (bytes : List ℕ) (patterned : Bool) → version_of bytes ≡ Some patterned → words_of bytes ≡ head_words patterned
+version_is bytes patterned e = by_first (bytes_eq bytes (codes "topology 1")) refl e
+  where
+    found : (word : List ℕ) (b : Bool) → Some b ≡ Some patterned → bytes_eq bytes word ≡ true → words_of word ≡ head_words b → words_of bytes ≡ head_words patterned
+    found word b is same words = let it : b ≡ patterned = cc in ap words_of ((bytes_eq-Decides bytes word).0 same) ∙ words ∙ ap head_words it
+
+    by_second : (t : Bool) → bytes_eq bytes (codes "topology 2") ≡ t → cond t (Some true) None ≡ Some patterned → words_of bytes ≡ head_words patterned
+    by_second true same k = found (codes "topology 2") true k same refl
+    by_second false same k = absurd (cc)
+
+    by_first : (t : Bool) → bytes_eq bytes (codes "topology 1") ≡ t → cond t (Some false) (cond (bytes_eq bytes (codes "topology 2")) (Some true) None) ≡ Some patterned → words_of bytes ≡ head_words patterned
+    by_first true same k = found (codes "topology 1") false k same refl
+    by_first false same k = by_second (bytes_eq bytes (codes "topology 2")) refl k
+
+pub header_takes : (o : Option Row) (patterned : Bool) → header_line o ≡ Ok patterned → o ≡ Some (row_of (head_words patterned))
+header_takes None patterned e = absurd (cc)
+header_takes (Some r) patterned e =
+    let (whole, e1) = refuse_ok (not r.whole) BadHeader (λ u. need (version_of r.bytes) BadHeader) patterned e in
+    let version = needed (version_of r.bytes) e1 in
+    ap (λ row. Some row) (row_back r (head_words patterned) (not-false r.whole whole) (version_is r.bytes patterned version))
+  where
+    needed : (o : Option Bool) → need o BadHeader ≡ Ok patterned → o ≡ Some patterned
+    needed None k = absurd (cc)
+    needed (Some b) k = let it : b ≡ patterned = ok_is {C = TopologyCode} b patterned k in ap (λ x. Some x) it
+
+pub header_again : (patterned : Bool) → header_line (Some (row_of (head_words patterned))) ≡ Ok patterned
+header_again true = refl
+header_again false = refl
+
+-- the words of the header of a topology
+pub head_is : (custom : Option PatternValue) → header_words custom ≡ head_words (is_some custom)
+head_is None = refl
+head_is (Some p) = refl
 
 -- ---- names
 

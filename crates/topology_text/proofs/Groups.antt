@@ -1,13 +1,13 @@
 -- The lines of groups: what is read stands there, and what stands there is read.
-use Rattle.std.proofs.Common.{◌≡◌, ℕ, ◌+◌, ◌<◌, ◌≤◌, Bool, true, false, ◌||◌, not, cond, leb, ltb, List, [], ◌∷◌, ◌++◌, map, length, drop, Some, Result, Ok, Err, refl, sym, ap, ◌∙◌, subst, append_assoc, arith}
+use Rattle.std.proofs.Common.{◌≡◌, ℕ, ◌+◌, ◌<◌, ◌≤◌, Bool, true, false, ◌||◌, not, cond, leb, ltb, List, [], ◌∷◌, ◌++◌, map, length, drop, Option, Some, Result, Ok, Err, refl, sym, ap, ◌∙◌, subst, append_assoc, arith}
 use Rattle.std.specs.Prelude.{codes, decimal, slice_index_or}
 use Rattle.std.specs.List.{All}
 use Rattle.std.proofs.lemmas.Bool.{or_parts, or_from, not-false, not_from_true, leb-false, lt-leb, le-ltb, cond-true, cond-false, ltb-false}
 use Rattle.std.proofs.lemmas.List.{append-nil, length-append, length-map}
 use Rattle.std.proofs.lemmas.List.Elements.{All-nil, All-push, All-get_or, All-head, All-tail}
 use Rattle.text_lines.specs.Text.{Row, Place, words_of}
-use Rattle.text_lines.specs.Check.{◌>>=◌, refuse, at_line, first}
-use Rattle.text_lines.proofs.Checks.{bind_ok, refuse_ok, at_line_ok, ok_is}
+use Rattle.text_lines.specs.Check.{◌>>=◌, refuse, at_line, first, line_part}
+use Rattle.text_lines.proofs.Checks.{bind_ok, refuse_ok, at_line_ok, ok_is, first_is, part_ok}
 use Rattle.text_lines.proofs.Distinct.{next_has}
 use Rattle.text_lines.proofs.Rows.{row_of, row_back, words_again}
 use Rattle.text_lines.proofs.Words.{IsWord, AreWords, literal, tokens_from, none_empty, begins_is, decimal_word, token-append}
@@ -135,6 +135,20 @@ group_rows names groups = map (λ g. row_of (group_words names g)) groups
 
 abbrev pub place : ℕ → List Row → Place
 place n rows = record { number = n; rows = rows }
+
+-- what a line's check took, and the lines behind it
+pub line_taken : {A : Type 0} (check : Option Row → Result A TopologyCode) (p : Place) (x : A × Place) (row : Row) → line_part check p ≡ Ok x → ((y : A) → check (first p.rows) ≡ Ok y → first p.rows ≡ Some row) → (p.rows ≡ row ∷ x.1.rows) × (x.1.number ≡ p.number + 1)
+line_taken {A} check p x row e takes =
+    let (passed, place_is) = part_ok check p x e in
+    let (more, rows) = first_is p.rows row (takes x.0 passed) in
+    let rest : x.1.rows ≡ more = ap (λ q. q.rows) place_is ∙ ap (drop 1) rows in
+    (rows ∙ ap (λ xs. row ∷ xs) (sym rest), ap (λ q. q.number) place_is)
+
+-- a line that passes its check is taken
+pub part_again : {A : Type 0} (check : Option Row → Result A TopologyCode) (n : ℕ) (row : Row) (rows : List Row) (x : A) → check (Some row) ≡ Ok x → line_part check (place n (row ∷ rows)) ≡ Ok (x, place (n + 1) rows)
+part_again {A} check n row rows x passed =
+    let next : A → Result (A × Place) (TopologyCode × ℕ) = λ y. Ok (y, place (n + 1) rows) in
+    ap (λ r. at_line n r >>= next) passed
 
 -- the next line doesn't begin a group
 abbrev pub EndsGroups : List Row → Type 0

@@ -1,44 +1,46 @@
 -- Whole topologies: what is read stands there, and what stands there is read.
-use Rattle.std.proofs.Common.{◌≡◌, ℕ, ◌+◌, List, [], ◌∷◌, ◌++◌, map, length, drop, Option, Some, Result, Ok, Err, refl, sym, ap, ◌∙◌, subst, arith}
-use Rattle.std.specs.Prelude.{IfOk, codes}
+use Rattle.std.proofs.Common.{◌≡◌, ℕ, ◌+◌, Bool, List, [], ◌∷◌, ◌++◌, map, length, Option, None, Some, Result, Ok, Err, refl, sym, ap, ◌∙◌, subst, append_assoc, arith}
+use Rattle.std.specs.Prelude.{IfOk, IfSome, codes}
+use Rattle.std.specs.Option.{is_some}
 use Rattle.std.specs.List.{All, AllByRecursion}
-use Rattle.std.proofs.lemmas.List.{append-nil, length-map}
+use Rattle.std.proofs.lemmas.List.{append-nil, length-append, length-map, map-append}
 use Rattle.std.proofs.lemmas.List.Elements.{All-head, All-tail}
 use Rattle.text_lines.specs.Text.{Row, Place, rows_of, start}
-use Rattle.text_lines.specs.Check.{◌>>=◌, at_line, first, line_part}
-use Rattle.text_lines.proofs.Checks.{bind_ok, ok_is, first_is, part_ok}
+use Rattle.text_lines.specs.Check.{◌>>=◌, first, line_part}
+use Rattle.text_lines.proofs.Checks.{bind_ok, ok_is, part_ok}
 use Rattle.text_lines.proofs.Rows.{AreTokens, row_of, rows_again, text_back}
 use Rattle.text_lines.proofs.Words.{literal, tokens_from}
 use Rattle.schedule.specs.Links.{GroupValue, IsGroup, IsBelow}
+use Rattle.collective_spec.specs.Patterns.{PatternValue, IsPattern}
 use Rattle.topology_text.specs.declared.fault.TopologyCode.{TopologyCode}
 use Rattle.topology_text.specs.declared.fault.TopologyFault.{TopologyFault}
 use Rattle.topology_text.specs.Names.{AreNames}
-use Rattle.topology_text.specs.Value.{NamedTopologyValue, IsNamed, named}
-use Rattle.topology_text.specs.Spelling.{header_words, nodes_words, group_words, lines_of, spelling}
-use Rattle.topology_text.specs.Reading.{header_line, nodes_line, groups_at, topology_at, no_line, topology_of}
+use Rattle.topology_text.specs.Value.{NamedTopologyValue, IsNamed, named_with}
+use Rattle.topology_text.specs.Spelling.{header_words, nodes_words, group_words, custom_lines, lines_of, spelling}
+use Rattle.topology_text.specs.Reading.{header_line, nodes_line, groups_at, pattern_at, topology_at, no_line, topology_of}
 use Rattle.topology_text.specs.Answer.{Answers}
-use Rattle.topology_text.proofs.Front.{Names, header_takes, nodes_line_take, nodes_again, nodes_are_words}
-use Rattle.topology_text.proofs.Groups.{Groups, groups_nil, group_rows, place, EndsGroups, groups_take, groups_again, group_is_words}
+use Rattle.topology_text.proofs.Front.{Names, head_words, head_is, header_takes, header_again, nodes_line_take, nodes_again, nodes_are_words}
+use Rattle.topology_text.proofs.Groups.{Groups, groups_nil, group_rows, place, line_taken, part_again, EndsGroups, groups_take, groups_again, group_is_words}
+use Rattle.topology_text.proofs.Patterns.{pattern_take, pattern_again, pattern_ends, custom_are_words}
 
 -- ---- parts
 
 pub names_are : (names : List (List ℕ)) → AreNames names → Names names
 names_are names ok = record { few = ok.few; each = ok.each; distinct = ok.distinct }
 
-pub named_valid : (names : List (List ℕ)) (groups : List GroupValue) → AreNames names → Groups (length names) groups → IsNamed (named names groups)
-named_valid names groups ok valid = record {
+pub named_valid : (names : List (List ℕ)) (groups : List GroupValue) (custom : Option PatternValue) → AreNames names → Groups (length names) groups → IfSome custom (IsPattern (length names)) → IsNamed (named_with names groups custom)
+named_valid names groups custom ok valid pattern = record {
   names = ok;
   topology = record { some = ok.some; few = ok.few; limit = valid.few; groups = valid.each; nodes = valid.below };
   as_many = refl;
+  custom = pattern;
 }
 
--- what a line's check took, and the lines behind it
-pub line_taken : {A : Type 0} (check : Option Row → Result A TopologyCode) (p : Place) (x : A × Place) (row : Row) → line_part check p ≡ Ok x → ((y : A) → check (first p.rows) ≡ Ok y → first p.rows ≡ Some row) → (p.rows ≡ row ∷ x.1.rows) × (x.1.number ≡ p.number + 1)
-line_taken {A} check p x row e takes =
-    let (passed, place_is) = part_ok check p x e in
-    let (more, rows) = first_is p.rows row (takes x.0 passed) in
-    let rest : x.1.rows ≡ more = ap (λ q. q.rows) place_is ∙ ap (drop 1) rows in
-    (rows ∙ ap (λ xs. row ∷ xs) (sym rest), ap (λ q. q.number) place_is)
+pub header_taken : (p : Place) (x : Bool × Place) → line_part header_line p ≡ Ok x → (p.rows ≡ row_of (head_words x.0) ∷ x.1.rows) × (x.1.number ≡ p.number + 1)
+header_taken p x e =
+    let (passed, place_is) = part_ok header_line p x e in
+    let row = header_takes (first p.rows) x.0 passed in
+    line_taken header_line p x (row_of (head_words x.0)) e (λ y read. row)
 
 pub names_taken : (p : Place) (x : List (List ℕ) × Place) → line_part nodes_line p ≡ Ok x → AreNames x.0
 names_taken p x e =
@@ -51,11 +53,11 @@ nodes_taken p x e =
     let row = (nodes_line_take (first p.rows) x.0 passed).0 in
     line_taken nodes_line p x (row_of (nodes_words x.0)) e (λ y read. row)
 
-pub parts_are : (p q : Place) (names : List (List ℕ)) (groups : List GroupValue) (rest : Place) → line_part nodes_line p ≡ Ok (names, q) → groups_at names q ≡ Ok (groups, rest) → IsNamed (named names groups)
-parts_are p q names groups rest e1 e2 =
+pub parts_are : (p q : Place) (names : List (List ℕ)) (groups : List GroupValue) (custom : Option PatternValue) (rest : Place) → line_part nodes_line p ≡ Ok (names, q) → groups_at names q ≡ Ok (groups, rest) → IfSome custom (IsPattern (length names)) → IsNamed (named_with names groups custom)
+parts_are p q names groups custom rest e1 e2 pattern =
     let ok = names_taken p (names, q) e1 in
     let taken = groups_take names [] q.number q.rows groups rest e2 (groups_nil (length names)) in
-    named_valid names groups ok taken.valid
+    named_valid names groups custom ok taken.valid pattern
 
 -- ---- a topology and what follows
 
@@ -70,72 +72,97 @@ pub record TopologyTaken (p : Place) (t : NamedTopologyValue) (rest : Place) : T
   pub valid : IsNamed t
   pub lines : p.rows ≡ topology_rows t ++ rest.rows
   pub number : rest.number ≡ p.number + length (topology_rows t)
-  pub ends : EndsGroups rest.rows
 
 -- what is left of the reading after each part
-abbrev pub after_groups : List (List ℕ) → List GroupValue × Place → Result (NamedTopologyValue × Place) (TopologyCode × ℕ)
-after_groups names groups = Ok (named names groups.0, groups.1)
+abbrev pub after_pattern : List (List ℕ) → List GroupValue → Option PatternValue × Place → Result (NamedTopologyValue × Place) (TopologyCode × ℕ)
+after_pattern names groups pattern = Ok (named_with names groups pattern.0, pattern.1)
 
-abbrev pub after_names : List (List ℕ) × Place → Result (NamedTopologyValue × Place) (TopologyCode × ℕ)
-after_names names = groups_at names.0 names.1 >>= after_groups names.0
+abbrev pub after_groups : Bool → List (List ℕ) → List GroupValue × Place → Result (NamedTopologyValue × Place) (TopologyCode × ℕ)
+after_groups patterned names groups = pattern_at patterned names groups.1 >>= after_pattern names groups.0
 
-abbrev pub after_header : Unit {0} × Place → Result (NamedTopologyValue × Place) (TopologyCode × ℕ)
-after_header header = line_part nodes_line header.1 >>= after_names
+abbrev pub after_names : Bool → List (List ℕ) × Place → Result (NamedTopologyValue × Place) (TopologyCode × ℕ)
+after_names patterned names = groups_at names.0 names.1 >>= after_groups patterned names.0
 
--- the header's line, the line of the nodes, and the lines of groups before the rest
-lines_join : (x y : Row) (rows second third groups rest : List Row) → rows ≡ x ∷ second → second ≡ y ∷ third → third ≡ groups ++ rest → rows ≡ (x ∷ y ∷ groups) ++ rest
-lines_join x y rows second third groups rest a b c = a ∙ ap (λ r. x ∷ r) b ∙ ap (λ r. x ∷ y ∷ r) c
+abbrev pub after_header : Bool × Place → Result (NamedTopologyValue × Place) (TopologyCode × ℕ)
+after_header header = line_part nodes_line header.1 >>= after_names header.0
 
-group_lines : (names : List (List ℕ)) (groups more : List GroupValue) (rows rest : List Row) → groups ≡ [] ++ more → rows ≡ group_rows names more ++ rest → rows ≡ map row_of (map (group_words names) groups) ++ rest
+pub group_lines : (names : List (List ℕ)) (groups more : List GroupValue) (rows rest : List Row) → groups ≡ [] ++ more → rows ≡ group_rows names more ++ rest → rows ≡ map row_of (map (group_words names) groups) ++ rest
 group_lines names groups more rows rest all lines = lines ∙ ap (λ x. group_rows names x ++ rest) (sym all) ∙ ap (λ x. x ++ rest) (rows_same names groups)
 
-lines_counted : (names : List (List ℕ)) (groups more : List GroupValue) (a b c d : ℕ) → groups ≡ [] ++ more → b ≡ a + 1 → c ≡ b + 1 → d ≡ c + length more → d ≡ a + length (topology_rows (named names groups))
-lines_counted names groups more a b c d all second third last = omega (arith, ap length all, length-map (map (group_words names) groups) row_of, length-map groups (group_words names))
+-- the lines of the groups and of the pattern before the rest
+body_join : (groups custom : List (List (List ℕ))) (rows more rest : List Row) → rows ≡ map row_of groups ++ more → more ≡ map row_of custom ++ rest → rows ≡ map row_of (groups ++ custom) ++ rest
+body_join groups custom rows more rest a b =
+    a ∙ ap (λ r. map row_of groups ++ r) b ∙ sym (append_assoc (map row_of groups) (map row_of custom) rest) ∙ ap (λ r. r ++ rest) (sym (map-append row_of groups custom))
+
+-- behind the lines of the header and of the nodes
+lines_join : (x y : Row) (rows second third body rest : List Row) → rows ≡ x ∷ second → second ≡ y ∷ third → third ≡ body ++ rest → rows ≡ (x ∷ y ∷ body) ++ rest
+lines_join x y rows second third body rest a b c = a ∙ ap (λ r. x ∷ r) b ∙ ap (λ r. x ∷ y ∷ r) c
+
+pub length-topology_rows : (t : NamedTopologyValue) → length (topology_rows t) ≡ 2 + (length t.topology.groups + length (custom_lines t.names t.custom))
+length-topology_rows t =
+    omega (arith, length-map (lines_of t) row_of, length-append (map (group_words t.names) t.topology.groups) (custom_lines t.names t.custom), length-map t.topology.groups (group_words t.names))
 
 pub topology_take : (p : Place) (t : NamedTopologyValue) (rest : Place) → topology_at p ≡ Ok (t, rest) → TopologyTaken p t rest
 unfolding topology_at
 topology_take p t rest e =
     let (h, e1, k1) = bind_ok (line_part header_line p) after_header (t, rest) e in
-    let (n, e2, k2) = bind_ok (line_part nodes_line h.1) after_names (t, rest) k1 in
-    let (g, e3, k3) = bind_ok (groups_at n.0 n.1) (after_groups n.0) (t, rest) k2 in
-    let same : (named n.0 g.0, g.1) ≡ (t, rest) = ok_is {C = TopologyCode × ℕ} (named n.0 g.0, g.1) (t, rest) k3 in
-    let (head, second) = line_taken header_line p h (row_of header_words) e1 (header_takes (first p.rows)) in
+    let (n, e2, k2) = bind_ok (line_part nodes_line h.1) (after_names h.0) (t, rest) k1 in
+    let (g, e3, k3) = bind_ok (groups_at n.0 n.1) (after_groups h.0 n.0) (t, rest) k2 in
+    let (c, e4, k4) = bind_ok (pattern_at h.0 n.0 g.1) (after_pattern n.0 g.0) (t, rest) k3 in
+    let made : NamedTopologyValue = named_with n.0 g.0 c.0 in
+    let same : (made, c.1) ≡ (t, rest) = ok_is {C = TopologyCode × ℕ} (made, c.1) (t, rest) k4 in
+    let (head, second) = header_taken p h e1 in
     let (nodes, third) = nodes_taken h.1 n e2 in
     let taken = groups_take n.0 [] n.1.number n.1.rows g.0 g.1 e3 (groups_nil (length n.0)) in
+    let pattern = pattern_take h.0 n.0 g.1 c e4 in
+    let first_row : row_of (head_words h.0) ≡ row_of (header_words c.0) = ap (λ b. row_of (head_words b)) (sym pattern.shown) ∙ ap row_of (sym (head_is c.0)) in
     let groups = group_lines n.0 g.0 taken.more n.1.rows g.1.rows taken.all taken.lines in
+    let body = body_join (map (group_words n.0) g.0) (custom_lines n.0 c.0) n.1.rows g.1.rows c.1.rows groups pattern.lines in
     let P : NamedTopologyValue × Place → Type 0 = λ x. TopologyTaken p x.0 x.1 in
     subst P same (record {
-      valid = named_valid n.0 g.0 (names_taken h.1 n e2) taken.valid;
-      lines = lines_join (row_of header_words) (row_of (nodes_words n.0)) p.rows h.1.rows n.1.rows (map row_of (map (group_words n.0) g.0)) g.1.rows head nodes groups;
-      number = lines_counted n.0 g.0 taken.more p.number h.1.number n.1.number g.1.number taken.all second third taken.number;
-      ends = taken.ends;
+      valid = named_valid n.0 g.0 c.0 (names_taken h.1 n e2) taken.valid pattern.valid;
+      lines = lines_join (row_of (header_words c.0)) (row_of (nodes_words n.0)) p.rows h.1.rows n.1.rows (map row_of (map (group_words n.0) g.0 ++ custom_lines n.0 c.0)) c.1.rows (head ∙ ap (λ r. r ∷ h.1.rows) first_row) nodes body;
+      number = omega (arith, second, third, taken.number, pattern.number, ap length taken.all, length-topology_rows made);
     })
 
-pub header_part_again : (n : ℕ) (rows : List Row) → line_part header_line (place n (row_of header_words ∷ rows)) ≡ Ok (tt, place (n + 1) rows)
-header_part_again n rows = refl
+pub header_part_again : (patterned : Bool) (n : ℕ) (rows : List Row) → line_part header_line (place n (row_of (head_words patterned) ∷ rows)) ≡ Ok (patterned, place (n + 1) rows)
+header_part_again patterned n rows = part_again header_line n (row_of (head_words patterned)) rows patterned (header_again patterned)
 
 pub nodes_part_again : (n : ℕ) (names : List (List ℕ)) (rows : List Row) → AreNames names → line_part nodes_line (place n (row_of (nodes_words names) ∷ rows)) ≡ Ok (names, place (n + 1) rows)
-nodes_part_again n names rows ok =
-    let next : List (List ℕ) → Result (List (List ℕ) × Place) (TopologyCode × ℕ) = λ x. Ok (x, place (n + 1) rows) in
-    ap (λ r. at_line n r >>= next) (nodes_again names ok)
+nodes_part_again n names rows ok = part_again nodes_line n (row_of (nodes_words names)) rows names (nodes_again names ok)
 
 pub groups_are : (t : NamedTopologyValue) → IsNamed t → Groups (length t.names) t.topology.groups
 groups_are t ok =
     let P : ℕ → Type 0 = λ n. All (λ g. All (IsBelow n) g.links) t.topology.groups in
     record { few = ok.topology.limit; each = ok.topology.groups; below = subst P (sym ok.as_many) ok.topology.nodes }
 
-pub topology_again : (n : ℕ) (t : NamedTopologyValue) (rest : List Row) → IsNamed t → EndsGroups rest → topology_at (place n (topology_rows t ++ rest)) ≡ Ok (t, place (n + 1 + 1 + length t.topology.groups) rest)
+pub pattern_is : (t : NamedTopologyValue) → IsNamed t → IfSome t.custom (IsPattern (length t.names))
+pattern_is t ok =
+    let P : ℕ → Type 0 = λ n. IfSome t.custom (IsPattern n) in
+    subst P (sym ok.as_many) ok.custom
+
+pub topology_again : (n : ℕ) (t : NamedTopologyValue) (rest : List Row) → IsNamed t → EndsGroups rest → topology_at (place n (topology_rows t ++ rest)) ≡ Ok (t, place (n + length (topology_rows t)) rest)
 unfolding topology_at
 topology_again n t rest ok ends =
     let groups = t.topology.groups in
-    let rows = map row_of (map (group_words t.names) groups) ++ rest in
-    let read : groups_at t.names (place (n + 1 + 1) rows) ≡ Ok (groups, place (n + 1 + 1 + length groups) rest) =
-    ap (λ x. groups_at t.names (place (n + 1 + 1) (x ++ rest))) (sym (rows_same t.names groups)) ∙ groups_again t.names [] groups (n + 1 + 1) rest (names_are t.names ok.names) (groups_are t ok) ends in
-    let same : named t.names groups ≡ t = λ i. record { names = t.names; topology = record { nodes = ok.as_many i; groups = groups } } in
-    ap (λ r. r >>= after_header) (header_part_again n (row_of (nodes_words t.names) ∷ rows))
-    ∙ ap (λ r. r >>= after_names) (nodes_part_again (n + 1) t.names rows ok.names)
-    ∙ ap (λ r. r >>= after_groups t.names) read
-    ∙ ap (λ x. Ok (x, place (n + 1 + 1 + length groups) rest)) same
+    let names = t.names in
+    let shown = is_some t.custom in
+    let last = map row_of (custom_lines names t.custom) ++ rest in
+    let body = map row_of (map (group_words names) groups ++ custom_lines names t.custom) ++ rest in
+    let cut : body ≡ group_rows names groups ++ last =
+    ap (λ r. r ++ rest) (map-append row_of (map (group_words names) groups) (custom_lines names t.custom)) ∙ append_assoc (map row_of (map (group_words names) groups)) (map row_of (custom_lines names t.custom)) rest ∙ ap (λ r. r ++ last) (sym (rows_same names groups)) in
+    let read : groups_at names (place (n + 1 + 1) body) ≡ Ok (groups, place (n + 1 + 1 + length groups) last) =
+    ap (λ r. groups_at names (place (n + 1 + 1) r)) cut ∙ groups_again names [] groups (n + 1 + 1) last (names_are names ok.names) (groups_are t ok) (pattern_ends names t.custom rest ends) in
+    let pattern = pattern_again names t.custom (n + 1 + 1 + length groups) rest (names_are names ok.names) (pattern_is t ok) in
+    let same : named_with names groups t.custom ≡ t = λ i. record { names = names; topology = record { nodes = ok.as_many i; groups = groups }; custom = t.custom } in
+    let size : n + 1 + 1 + length groups + length (custom_lines names t.custom) ≡ n + length (topology_rows t) = omega (arith, length-topology_rows t) in
+    ap (λ w. topology_at (place n (row_of w ∷ row_of (nodes_words names) ∷ body))) (head_is t.custom)
+    ∙ ap (λ r. r >>= after_header) (header_part_again shown n (row_of (nodes_words names) ∷ body))
+    ∙ ap (λ r. r >>= after_names shown) (nodes_part_again (n + 1) names body ok.names)
+    ∙ ap (λ r. r >>= after_groups shown names) read
+    ∙ ap (λ r. r >>= after_pattern names groups) pattern
+    ∙ ap (λ k. Ok (named_with names groups t.custom, place k rest)) size
+    ∙ ap (λ x. Ok (x, place (n + length (topology_rows t)) rest)) same
 
 -- ---- a topology and nothing else
 
@@ -146,13 +173,22 @@ groups_are_words names (g ∷ groups) ok valid below = (
   groups_are_words names groups ok (All-tail IsGroup g groups valid) (All-tail (λ x. All (IsBelow (length names)) x.links) g groups below),
 )
 
+both_are_words : (xs ys : List (List (List ℕ))) → AllByRecursion AreTokens xs → AllByRecursion AreTokens ys → AllByRecursion AreTokens (xs ++ ys)
+both_are_words [] ys one two = two
+both_are_words (x ∷ xs) ys one two = (one.0, both_are_words xs ys one.1 two)
+
+header_are_words : (custom : Option PatternValue) → AreTokens (header_words custom)
+header_are_words None = tokens_from (header_words None) (omega arith) (literal (codes "topology") refl, (literal (codes "1") refl, tt))
+header_are_words (Some p) = tokens_from (header_words (Some p)) (omega arith) (literal (codes "topology") refl, (literal (codes "2") refl, tt))
+
 pub lines_are_words : (t : NamedTopologyValue) → IsNamed t → AllByRecursion AreTokens (lines_of t)
 lines_are_words t ok =
-    let valid = groups_are t ok in (
-      tokens_from header_words (omega arith) (literal (codes "topology") refl, (literal (codes "1") refl, tt)),
+    let valid = groups_are t ok in
+    let names = names_are t.names ok.names in (
+      header_are_words t.custom,
       (
         tokens_from (nodes_words t.names) (omega arith) (nodes_are_words t.names ok.names),
-        groups_are_words t.names t.topology.groups (names_are t.names ok.names) valid.each valid.below,
+        both_are_words (map (group_words t.names) t.topology.groups) (custom_lines t.names t.custom) (groups_are_words t.names t.topology.groups names valid.each valid.below) (custom_are_words t.names t.custom names (pattern_is t ok)),
       ),
     )
 
@@ -184,7 +220,7 @@ pub all_again : (t : NamedTopologyValue) → IsNamed t → topology_of (spelling
 unfolding topology_of after_topology
 all_again t ok =
     let rows : rows_of (spelling t) ≡ topology_rows t ++ [] = rows_of_spelling t ok ∙ sym (append-nil (topology_rows t)) in
-    let read : topology_at (start (spelling t)) ≡ Ok (t, place (1 + 1 + 1 + length t.topology.groups) []) = ap (λ x. topology_at (place 1 x)) rows ∙ topology_again 1 t [] ok tt in
+    let read : topology_at (start (spelling t)) ≡ Ok (t, place (1 + length (topology_rows t)) []) = ap (λ x. topology_at (place 1 x)) rows ∙ topology_again 1 t [] ok tt in
     ap (λ r. r >>= after_topology) read
 
 pub is_found : (text : List ℕ) (r : Result NamedTopologyValue TopologyFault) → Answers r (topology_of text) → IfOk r (λ t. IsNamed t × (text ≡ spelling t))

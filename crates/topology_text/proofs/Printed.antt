@@ -1,12 +1,18 @@
 -- What the printer appends is the spelling.
-use Rattle.std.proofs.Common.{◌≡◌, ℕ, List, [], ◌∷◌, ◌++◌, map, sym, ap, ◌∙◌, append_assoc}
-use Rattle.std.specs.Prelude.{codes, decimal, Result, Ok, Err, OnOk}
-use Rattle.std.specs.List.{flat_map, join_with_byte}
+use Rattle.std.proofs.Common.{◌≡◌, ℕ, ◌+◌, Bool, true, false, cond, List, [], ◌∷◌, ◌++◌, map, length, take, ◌≤◌, Option, None, Some, refl, sym, ap, ◌∙◌, append_assoc, arith}
+use Rattle.std.specs.Prelude.{codes, decimal, Result, Ok, Err, OnOk, OnErr}
+use Rattle.std.specs.Io.{StartsWith}
+use Rattle.std.specs.List.{filter, flat_map, join_with_byte, range_with_len}
+use Rattle.std.proofs.lemmas.Grind.{flat_map-append}
+use Rattle.std.proofs.Math.Seq.{take-append_seam}
+use Rattle.std.proofs.lemmas.List.{append-nil, length-take, map-append, map-id, take-take, take_all}
+use Rattle.std.proofs.lemmas.List.FromFn.{filter_of_map_range_with_len_more, map-range_with_len_more}
 use Rattle.text_lines.specs.Text.{line, text_of}
 use Rattle.text_lines.proofs.Words.{join_fields}
 use Rattle.schedule.specs.Links.{GroupValue}
+use Rattle.collective_spec.specs.Patterns.{PatternValue}
 use Rattle.topology_text.specs.Value.{NamedTopologyValue}
-use Rattle.topology_text.specs.Spelling.{link_word, nodes_words, group_words, spelling}
+use Rattle.topology_text.specs.Spelling.{name_at, link_word, header_words, nodes_words, group_words, holder_words, custom_lines, spelling}
 
 -- a space before each word
 abbrev pub fields : List (List ℕ) → List ℕ
@@ -20,19 +26,107 @@ appended a b c d e x y z w all hb hc hd he whole =
     let third : e ≡ a ++ (((x ++ y) ++ z) ++ w) = he ∙ ap (λ t. t ++ w) second ∙ append_assoc a ((x ++ y) ++ z) w in
     third ∙ ap (λ t. a ++ t) (append_assoc (x ++ y) z w ∙ append_assoc x y (z ++ w) ∙ whole)
 
+-- three pieces
+pub appended_three : (a b c d x y z all : List ℕ) → b ≡ a ++ x → c ≡ b ++ y → d ≡ c ++ z → x ++ (y ++ z) ≡ all → d ≡ a ++ all
+appended_three a b c d x y z all hb hc hd whole =
+    let second : c ≡ a ++ (x ++ y) = hc ∙ ap (λ t. t ++ y) hb ∙ append_assoc a x y in
+    hd ∙ ap (λ t. t ++ z) second ∙ append_assoc a (x ++ y) z ∙ ap (λ t. a ++ t) (append_assoc x y z ∙ whole)
+
 pub group_is : (names : List (List ℕ)) (g : GroupValue) → codes "group " ++ (decimal g.width ++ (fields (map (link_word names) g.links) ++ codes "\n")) ≡ line (group_words names g)
 group_is names g =
     let words : List (List ℕ) = map (link_word names) g.links in
     let joined : join_with_byte 32 (group_words names g) ≡ codes "group" ++ (32 ∷ decimal g.width ++ fields words) = join_fields (codes "group") (decimal g.width ∷ words) in
     sym (ap (λ t. t ++ 10 ∷ []) joined ∙ append_assoc (codes "group") (32 ∷ decimal g.width ++ fields words) (10 ∷ []) ∙ ap (λ t. codes "group" ++ t) (append_assoc (32 ∷ decimal g.width) (fields words) (10 ∷ [])))
 
-pub spelling_is : (t : NamedTopologyValue) → codes "topology 1\nnodes" ++ (fields t.names ++ (codes "\n" ++ text_of (map (group_words t.names) t.topology.groups))) ≡ spelling t
+-- the first two lines, but for the names and the end of the second
+abbrev pub front_text : Option PatternValue → List ℕ
+front_text None = codes "topology 1\nnodes"
+front_text (Some p) = codes "topology 2\nnodes"
+
+front_is : (custom : Option PatternValue) → front_text custom ≡ line (header_words custom) ++ codes "nodes"
+front_is None = refl
+front_is (Some p) = refl
+
+pub front_lines : (names : List (List ℕ)) (custom : Option PatternValue) → front_text custom ++ (fields names ++ codes "\n") ≡ text_of (header_words custom ∷ nodes_words names ∷ [])
+front_lines names custom =
+    let second : codes "nodes" ++ (fields names ++ codes "\n") ≡ line (nodes_words names) ++ [] = sym (append-nil (line (nodes_words names)) ∙ ap (λ w. w ++ 10 ∷ []) (join_fields (codes "nodes") names) ∙ append_assoc (codes "nodes") (fields names) (10 ∷ [])) in
+    ap (λ f. f ++ (fields names ++ codes "\n")) (front_is custom) ∙ append_assoc (line (header_words custom)) (codes "nodes") (fields names ++ codes "\n") ∙ ap (λ r. line (header_words custom) ++ r) second
+
+pub holders_is : (word : List ℕ) (g : ℕ) (names : List (List ℕ)) → word ++ (codes " " ++ (decimal g ++ (fields names ++ codes "\n"))) ≡ line (word ∷ decimal g ∷ names)
+holders_is word g names =
+    sym (ap (λ t. t ++ 10 ∷ []) (join_fields word (decimal g ∷ names)) ∙ append_assoc word (32 ∷ decimal g ++ fields names) (10 ∷ []) ∙ ap (λ t. word ++ t) (append_assoc (32 ∷ decimal g) (fields names) (10 ∷ [])))
+
+pub base_is : (base : ℕ) → codes "custom " ++ (decimal base ++ codes "\n") ≡ line (codes "custom" ∷ decimal base ∷ [])
+base_is base = sym (append_assoc (codes "custom ") (decimal base) (10 ∷ []))
+
+-- one more of the numbers that pass a test
+pub passing_more : (p : ℕ → Bool) (n : ℕ) → filter p (range_with_len 0 (n + 1)) ≡ filter p (range_with_len 0 n) ++ cond (p n) (n ∷ []) []
+passing_more p n =
+    ap (filter p) (sym (map-id (range_with_len 0 (n + 1)))) ∙ filter_of_map_range_with_len_more p (λ k. k) 0 n n (omega arith) ∙ ap (λ r. filter p r ++ cond (p n) (n ∷ []) []) (map-id (range_with_len 0 n))
+
+-- what a node's name adds behind those of the nodes before it
+pub name_more : (names : List (List ℕ)) (p : ℕ → Bool) (n : ℕ) → p n ≡ true → fields (map (name_at names) (filter p (range_with_len 0 (n + 1)))) ≡ fields (map (name_at names) (filter p (range_with_len 0 n))) ++ (32 ∷ name_at names n)
+name_more names p n passes =
+    let before = filter p (range_with_len 0 n) in
+    ap (λ l. fields (map (name_at names) l)) (passing_more p n ∙ ap (λ b. before ++ cond b (n ∷ []) []) passes)
+    ∙ ap fields (map-append (name_at names) before (n ∷ [])) ∙ flat_map-append (λ w. 32 ∷ w) (map (name_at names) before) (name_at names n ∷ [])
+    ∙ ap (λ w. fields (map (name_at names) before) ++ 32 ∷ w) (append-nil (name_at names n))
+
+pub name_skipped : (p : ℕ → Bool) (n : ℕ) → p n ≡ false → filter p (range_with_len 0 (n + 1)) ≡ filter p (range_with_len 0 n)
+name_skipped p n fails =
+    let before = filter p (range_with_len 0 n) in
+    passing_more p n ∙ ap (λ b. before ++ cond b (n ∷ []) []) fails ∙ append-nil before
+
+-- the two lines of a chunk
+abbrev pub chunk_lines : List (List ℕ) → PatternValue → ℕ → List (List (List ℕ))
+chunk_lines names p g = holder_words names (codes "before") p.before g ∷ holder_words names (codes "after") p.after g ∷ []
+
+pub chunk_more : (names : List (List ℕ)) (p : PatternValue) (n : ℕ) → text_of (flat_map (chunk_lines names p) (range_with_len 0 (n + 1))) ≡ text_of (flat_map (chunk_lines names p) (range_with_len 0 n)) ++ (line (holder_words names (codes "before") p.before n) ++ line (holder_words names (codes "after") p.after n))
+chunk_more names p n =
+    let before = range_with_len 0 n in
+    let all : range_with_len 0 (n + 1) ≡ before ++ n ∷ [] = sym (map-id (range_with_len 0 (n + 1))) ∙ map-range_with_len_more (λ k. k) 0 n n (omega arith) ∙ ap (λ r. r ++ n ∷ []) (map-id before) in
+    let second : List ℕ = line (holder_words names (codes "after") p.after n) in
+    ap (λ r. text_of (flat_map (chunk_lines names p) r)) all ∙ ap text_of (flat_map-append (chunk_lines names p) before (n ∷ []))
+    ∙ flat_map-append line (flat_map (chunk_lines names p) before) (chunk_lines names p n)
+    ∙ ap (λ r. text_of (flat_map (chunk_lines names p) before) ++ (line (holder_words names (codes "before") p.before n) ++ r)) (append-nil second)
+
+-- the lines of a text one after the other
+pub spelling_is : (t : NamedTopologyValue) → text_of (header_words t.custom ∷ nodes_words t.names ∷ []) ++ (text_of (map (group_words t.names) t.topology.groups) ++ text_of (custom_lines t.names t.custom)) ≡ spelling t
 unfolding spelling
 spelling_is t =
-    let groups : List ℕ = text_of (map (group_words t.names) t.topology.groups) in
-    let joined : line (nodes_words t.names) ++ groups ≡ codes "nodes" ++ (fields t.names ++ (10 ∷ [] ++ groups)) =
-    ap (λ w. (w ++ 10 ∷ []) ++ groups) (join_fields (codes "nodes") t.names) ∙ append_assoc (codes "nodes" ++ fields t.names) (10 ∷ []) groups ∙ append_assoc (codes "nodes") (fields t.names) (10 ∷ groups) in
-    sym (ap (λ w. codes "topology 1\n" ++ w) joined)
+    let front : List (List (List ℕ)) = header_words t.custom ∷ nodes_words t.names ∷ [] in
+    let groups = map (group_words t.names) t.topology.groups in
+    let custom = custom_lines t.names t.custom in
+    ap (λ r. text_of front ++ r) (sym (flat_map-append line groups custom)) ∙ sym (flat_map-append line front (groups ++ custom))
+
+-- ---- what stays in front where memory runs out
+
+pub kept_same : (new old : List ℕ) → new ≡ old → StartsWith new old
+kept_same new old e = ap (take (length old)) e ∙ take_all (length old) old (omega arith)
+
+pub kept_more : (new old more : List ℕ) → new ≡ old ++ more → StartsWith new old
+kept_more new old more e = ap (take (length old)) e ∙ take-append_seam old more
+
+pub kept_on : (new middle old : List ℕ) → StartsWith new middle → StartsWith middle old → StartsWith new old
+kept_on new middle old later earlier =
+    let short : length old ≤ length middle = omega (arith, ap length earlier, length-take (length old) middle) in
+    sym (take-take (length old) (length middle) new short) ∙ ap (take (length old)) later ∙ earlier
+
+pub ruleset kept_rules = (kept_same, kept_more, kept_on)
+
+pub kept_behind : (new middle old more : List ℕ) → StartsWith new middle → middle ≡ old ++ more → StartsWith new old
+kept_behind new middle old more later e = kept_on new middle old later (kept_more middle old more e)
+
+pub front_kept : (out first second third x y z : List ℕ) → first ≡ out ++ x → second ≡ first ++ y → third ≡ second ++ z → StartsWith third out
+front_kept out first second third x y z a b c = kept_on third second out (kept_more third second z c) (kept_on second first out (kept_more second first y b) (kept_more first out x a))
+
+pub at_err : {A E : Type 0} (r : Result A E) (P : Type 0) → P → OnErr r P
+at_err (Ok x) P p = tt
+at_err (Err e) P p = p
+
+pub on_err : {A E : Type 0} (r : Result A E) (P Q : Type 0) → (P → Q) → OnErr r P → OnErr r Q
+on_err (Ok x) P Q f p = tt
+on_err (Err e) P Q f p = f p
 
 pub on_ok : {A E : Type 0} (r : Result A E) (P Q : Type 0) → (P → Q) → OnOk r P → OnOk r Q
 on_ok (Ok x) P Q f p = f p

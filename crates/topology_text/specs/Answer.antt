@@ -1,7 +1,7 @@
 -- What a reader's answer says.
 use Rattle.std.specs.Prelude.{◌≡◌, ℕ, Result, Ok, Err, ◌⊎◌}
 use Rattle.topology_text.specs.declared.fault.TopologyCode.{TopologyCode}
-use Rattle.topology_text.specs.declared.fault.TopologyCode.TheVariants.{BadHeader, BadLine, BadName, NameTwice, UnknownNode, SelfLink, LinkTwice, WidthRange, TooManyNodes, TooManyGroups, NoNodes, OutOfMemory}
+use Rattle.topology_text.specs.declared.fault.TopologyCode.TheVariants.{BadHeader, BadLine, BadName, NameTwice, UnknownNode, SelfLink, LinkTwice, WidthRange, TooManyNodes, TooManyGroups, NoNodes, OutOfMemory, BaseRange, NameOrder}
 use Rattle.topology_text.specs.declared.fault.TopologyFault.{TopologyFault}
 use Rattle.topology_text.specs.Value.{NamedTopologyValue}
 
@@ -9,6 +9,11 @@ use Rattle.topology_text.specs.Value.{NamedTopologyValue}
 abbrev pub Answers : Result NamedTopologyValue TopologyFault → Result NamedTopologyValue (TopologyCode × ℕ) → Type 0
 Answers (Ok t) read = read ≡ Ok t
 Answers (Err fault) read = ((fault.code ≡ OutOfMemory) × (fault.line ≡ 0)) ⊎ (read ≡ Err (fault.code, fault.line))
+
+-- what a reader that takes no memory returned, seen by view, is what the checks give
+abbrev pub Tells : {X Y C : Type 0} → (X → Y) → Result X C → Result Y C → Type 0
+Tells view (Ok x) read = read ≡ Ok (view x)
+Tells view (Err code) read = read ≡ Err code
 
 -- the numbers of the codes, by which reports name them
 abbrev pub code_number : TopologyCode → ℕ
@@ -24,3 +29,5 @@ code_number TooManyNodes = 9
 code_number TooManyGroups = 10
 code_number NoNodes = 11
 code_number OutOfMemory = 12
+code_number BaseRange = 13
+code_number NameOrder = 14

@@ -1,15 +1,16 @@
 -- The checks of a topology text (this project's own), line by line, each line's from left to right. The first that fails
 -- gives the code and the line.
-use Rattle.std.specs.Prelude.{ℕ, ◌+◌, ◌==◌, ◌||◌, not, Bool, if◌then◌else◌, List, [], ◌∷◌, ◌++◌, length, drop, slice_index_or, position, Option, Some, None, Result, Ok, Err, nat_eq, nat_lt, nat_le, bytes_eq, codes}
-use Rattle.std.specs.List.{list_any, starts_with, slice_split}
+use Rattle.std.specs.Prelude.{ℕ, ◌+◌, ◌==◌, ◌||◌, ◌&&◌, not, Bool, true, false, if◌then◌else◌, List, [], ◌∷◌, ◌++◌, length, drop, slice_index_or, position, Option, Some, None, Result, Ok, Err, nat_eq, nat_lt, nat_le, bytes_eq, codes, decimal, map, zero, suc}
+use Rattle.std.specs.List.{list_any, list_all, starts_with, slice_split}
 use Rattle.text_lines.specs.Text.{Row, Place, words_of, start}
 use Rattle.text_lines.specs.Check.{◌>>=◌, refuse, need, at_line, line_part}
 use Rattle.text_lines.specs.Number.{number_up_to}
 use Rattle.schedule.specs.Links.{GroupValue, same_link}
 use Rattle.topology_text.specs.declared.fault.TopologyCode.{TopologyCode}
-use Rattle.topology_text.specs.declared.fault.TopologyCode.TheVariants.{BadHeader, BadLine, BadName, NameTwice, UnknownNode, SelfLink, LinkTwice, WidthRange, TooManyNodes, TooManyGroups, NoNodes}
+use Rattle.topology_text.specs.declared.fault.TopologyCode.TheVariants.{BadHeader, BadLine, BadName, NameTwice, UnknownNode, SelfLink, LinkTwice, WidthRange, TooManyNodes, TooManyGroups, NoNodes, BaseRange, NameOrder}
 use Rattle.topology_text.specs.Names.{name_of}
-use Rattle.topology_text.specs.Value.{NamedTopologyValue, named}
+use Rattle.collective_spec.specs.Patterns.{PatternValue}
+use Rattle.topology_text.specs.Value.{NamedTopologyValue, named_with}
 
 -- the line begins with the word
 abbrev pub begins : List ℕ → List ℕ → Bool
@@ -21,9 +22,15 @@ has_empty words = list_any (λ w. length w == 0) words
 
 -- ---- line 1
 
-abbrev pub header_line : Option Row → Result (Unit {0}) TopologyCode
+-- whether a pattern stands behind the groups, as in version 2
+abbrev pub version_of : List ℕ → Option Bool
+version_of bytes = if bytes_eq bytes (codes "topology 1") then Some false else (if bytes_eq bytes (codes "topology 2") then Some true else None)
+
+abbrev pub header_line : Option Row → Result Bool TopologyCode
 header_line None = Err BadHeader
-header_line (Some row) = refuse (not row.whole || not (bytes_eq row.bytes (codes "topology 1"))) BadHeader
+header_line (Some row) = do
+  _ ← refuse (not row.whole) BadHeader
+  need (version_of row.bytes) BadHeader
 
 -- ---- line 2
 
@@ -102,6 +109,75 @@ groups_from names before n (row ∷ rows) = if begins (codes "group ") row.bytes
 abbrev pub groups_at : List (List ℕ) → Place → Result (List GroupValue × Place) (TopologyCode × ℕ)
 groups_at names p = groups_from names [] p.number p.rows
 
+-- ---- the pattern
+
+-- a number from 1 to 16
+abbrev pub base_of : List ℕ → Result ℕ TopologyCode
+base_of word = do
+  base ← need (number_up_to 16 word) BaseRange
+  _ ← refuse (base == 0) BaseRange
+  Ok base
+
+-- a line of two tokens that begins `custom `: how many chunks the pattern has
+abbrev pub custom_line : Option Row → Result ℕ TopologyCode
+custom_line None = Err BadLine
+custom_line (Some row) = do
+  _ ← refuse (not row.whole || not (begins (codes "custom ") row.bytes) || not (length (words_of row.bytes) == 2)) BadLine
+  base_of (slice_index_or (words_of row.bytes) 1 [])
+
+-- the nodes that were read before, ascending, and the tokens that are left
+abbrev pub holders_from : List (List ℕ) → List ℕ → List (List ℕ) → Result (List ℕ) TopologyCode
+holders_from names before [] = Ok before
+holders_from names before (word ∷ words) = do
+  node ← need (node_of names word) UnknownNode
+  _ ← refuse (not (list_all (λ other. nat_lt other node) before)) NameOrder
+  holders_from names (before ++ node ∷ []) words
+
+-- the line begins with these two tokens
+abbrev pub has_front : List ℕ → List ℕ → List (List ℕ) → Bool
+has_front a b (x ∷ y ∷ words) = bytes_eq a x && bytes_eq b y
+has_front a b _ = false
+
+-- `before` or `after`, the number of a chunk, and the names of the nodes that hold it
+abbrev pub holders_line : List (List ℕ) → List ℕ → ℕ → Option Row → Result (List ℕ) TopologyCode
+holders_line names word g None = Err BadLine
+holders_line names word g (Some row) = do
+  _ ← refuse (not row.whole || not (has_front word (decimal g) (words_of row.bytes)) || has_empty (words_of row.bytes)) BadLine
+  holders_from names [] (drop 2 (words_of row.bytes))
+
+-- the pairs of a chunk and a node that were read, before and after
+pub record Pairs : Type 0 where
+  pub before : List (ℕ × ℕ)
+  pub after : List (ℕ × ℕ)
+
+-- the pairs of one chunk
+abbrev pub row_of_pairs : ℕ → List ℕ → List (ℕ × ℕ)
+row_of_pairs g nodes = map (λ n. (g, n)) nodes
+
+-- the two lines of each of so many chunks, from chunk g on, behind the pairs that were read before
+abbrev pub holders_at : List (List ℕ) → ℕ → ℕ → Pairs → Place → Result (Pairs × Place) (TopologyCode × ℕ)
+holders_at names zero g found p = Ok (found, p)
+holders_at names (suc left) g found p = do
+  x ← line_part (holders_line names (codes "before") g) p
+  y ← line_part (holders_line names (codes "after") g) x.1
+  holders_at names left (g + 1) (record { before = found.before ++ row_of_pairs g x.0; after = found.after ++ row_of_pairs g y.0 }) y.1
+
+-- the pattern of so many chunks at so many nodes
+abbrev pub pattern_of : ℕ → ℕ → Pairs → PatternValue
+pattern_of base nodes found = record {
+  base = base;
+  before = record { chunks = base; nodes = nodes; pairs = found.before };
+  after = record { chunks = base; nodes = nodes; pairs = found.after };
+}
+
+-- the pattern of a text that has one, behind the groups
+unfoldable pub pattern_at : Bool → List (List ℕ) → Place → Result (Option PatternValue × Place) (TopologyCode × ℕ)
+pattern_at false names p = Ok (None, p)
+pattern_at true names p = do
+  base ← line_part custom_line p
+  found ← holders_at names base.0 0 (record { before = []; after = [] }) base.1
+  Ok (Some (pattern_of base.0 (length names) found.0), found.1)
+
 -- ---- a topology at a place, and the place behind it
 
 unfoldable pub topology_at : Place → Result (NamedTopologyValue × Place) (TopologyCode × ℕ)
@@ -109,9 +185,10 @@ topology_at p = do
   header ← line_part header_line p
   names ← line_part nodes_line header.1
   groups ← groups_at names.0 names.1
-  Ok (named names.0 groups.0, groups.1)
+  pattern ← pattern_at header.0 names.0 groups.1
+  Ok (named_with names.0 groups.0 pattern.0, pattern.1)
 
--- nothing follows the groups
+-- nothing follows the topology
 abbrev pub no_line : Option Row → Result (Unit {0}) TopologyCode
 no_line None = Ok tt
 no_line (Some row) = Err BadLine

@@ -90,5 +90,5 @@ pub fn family(alloc: Global, kind: FamilyKind, size: u8) -> Result<NamedTopology
 {
     let names = numbered_names(alloc, size)?;
     let groups = family_groups(alloc, kind, size)?;
-    Ok(NamedTopology::new(names, Topology::new(size, groups)))
+    Ok(NamedTopology::new(names, Topology::new(size, groups), None))
 }

@@ -6,7 +6,7 @@ ghost use Rattle.topology_text.specs.Answer.{code_number};
 /// Why a text is no topology's, or was not read.
 #[derive(Clone, Copy, Debug, PartialEq, Eq)]
 pub enum TopologyCode {
-    /// The first line is not `topology 1`.
+    /// The first line is neither `topology 1` nor `topology 2`.
     BadHeader,
     /// A line lacks its line feed, or is not made of the tokens that it should have.
     BadLine,
@@ -14,7 +14,7 @@ pub enum TopologyCode {
     BadName,
     /// Two nodes have one name.
     NameTwice,
-    /// A link names no node of the second line.
+    /// A link or a pattern names no node of the second line.
     UnknownNode,
     /// A link leaves and enters the same node.
     SelfLink,
@@ -30,10 +30,14 @@ pub enum TopologyCode {
     NoNodes,
     /// Memory ran out, and nothing is said of the text.
     OutOfMemory,
+    /// The number of a pattern's chunks is no number from 1 to 16 in canonical decimal.
+    BaseRange,
+    /// The nodes that hold a chunk are not named in ascending order, each once.
+    NameOrder,
 }
 
 impl TopologyCode {
-    /// The number by which reports name the code, from 1 to 12 in the order of the variants.
+    /// The number by which reports name the code, from 1 to 14 in the order of the variants.
     pub fn number(self) -> u32
         ensures { result ≡ code_number self }
     {
@@ -50,6 +54,8 @@ impl TopologyCode {
             TopologyCode::TooManyGroups => 10,
             TopologyCode::NoNodes => 11,
             TopologyCode::OutOfMemory => 12,
+            TopologyCode::BaseRange => 13,
+            TopologyCode::NameOrder => 14,
         }
     }
 }

@@ -54,7 +54,7 @@ fn links_of(
 {
     let mut links = Vec::new(alloc);
     while let Some(word) = tokens.next_word() {
-        let link = link_of(names, word)?;
+        let link = link_of(names, word).map_err(Stop::Refused)?;
         if has_link(&links, link) {
             return Err(Stop::Refused(TopologyCode::LinkTwice));
         }
@@ -63,12 +63,12 @@ fn links_of(
     Ok(links)
 }
 
-fn width_of(word: &[u8]) -> Result<u8, Stop<TopologyCode>>
-    ensures { Gives (λ x. x) result (width_of word.now) }
+fn width_of(word: &[u8]) -> Result<u8, TopologyCode>
+    ensures { result ≡ width_of word.now }
 {
     match read_number(word, WIDTH) {
         Some(width) if width > 0 => Ok(width as u8),
-        _ => Err(Stop::Refused(TopologyCode::WidthRange)),
+        _ => Err(TopologyCode::WidthRange),
     }
 }
 
@@ -93,7 +93,7 @@ pub(crate) fn group_on(
     }
     let mut tokens = tokens_of(text, line);
     let _ = tokens.next_word();
-    let width = width_of(tokens.next_word().unwrap_or(&[]))?;
+    let width = width_of(tokens.next_word().unwrap_or(&[])).map_err(Stop::Refused)?;
     let links = links_of(alloc, names, &mut tokens)?;
     Ok(Group::new(links, width))
 }

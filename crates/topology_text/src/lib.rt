@@ -1,4 +1,5 @@
-//! Topologies whose nodes have names: their one spelling, read and printed, and the families that are often met.
+//! Topologies whose nodes have names, with the pattern of a collective where one is given: their one spelling, read and
+//! printed, and the families that are often met.
 #![tactic(auto)]
 
 mod families;
@@ -10,6 +11,8 @@ mod name;
 mod named_topology;
 mod nodes_line;
 mod parts;
+mod pattern;
+mod pattern_lines;
 mod printing;
 mod reading;
 #[cfg(test)]
@@ -21,6 +24,7 @@ pub use fault::{TopologyCode, TopologyFault};
 pub use name::Name;
 pub use named_topology::NamedTopology;
 pub use parts::{groups_part, header_part, nodes_part};
+pub use pattern::pattern_part;
 pub use printing::{print_topology, push_topology};
 pub use reading::{read_topology, topology_part};
 pub use std::alloc::AllocError as OutOfMemory;

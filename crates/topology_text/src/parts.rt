@@ -1,9 +1,10 @@
-//! The parts of a topology text, each taken off the front of the lines.
+//! The header, the nodes and the groups of a topology text, each taken off the front of the lines.
 
-ghost use Rattle.std.specs.Prelude.{◌≡◌, ◌+◌, ◌^◌, ◌<◌, ◌≤◌, ◌&&◌, length, OnOk, IfOk, bytes_eq, codes};
+ghost use Rattle.std.specs.Prelude.{◌≡◌, ◌+◌, ◌^◌, ◌<◌, ◌≤◌, length, OnOk, IfOk, codes};
 ghost use Rattle.text_lines.specs.Line.{IsIn, row_at};
 ghost use Rattle.text_lines.specs.Check.{Gives, line_part};
-ghost use Rattle.topology_text.specs.Reading.{header_line, nodes_line, groups_at, begins};
+ghost use Rattle.topology_text.specs.Reading.{version_of, header_line, nodes_line, groups_at, begins};
+ghost use Rattle.topology_text.specs.Answer.{Tells};
 
 use crate::fault::TopologyCode;
 use crate::group_line::group_on;
@@ -14,25 +15,37 @@ use schedule::Group;
 use std::alloc::Global;
 use text_lines::{Line, Lines, Stop};
 
-/// Takes the header's line. A refusal comes with the number of its line.
-pub fn header_part(text: &[u8], lines: &mut Lines<'_>) -> Result<(), Stop<(TopologyCode, u32)>>
-    requires same { lines.old.text ≡ text.now }
-    requires room { lines.old.place.number + 1 < 2 ^ 32 }
-    ensures read { Gives (λ _. (tt, lines.new.place)) result (line_part header_line lines.old.place) }
-    ensures text { lines.new.text ≡ lines.old.text }
+fn version_of(bytes: &[u8]) -> Option<bool>
+    ensures { result ≡ version_of bytes.now }
 {
-    let number = lines.number();
-    match lines.next() {
-        Some(line) if is_header(text, line) => Ok(()),
-        _ => Err(Stop::Refused((TopologyCode::BadHeader, number))),
+    if bytes == b"topology 1".as_slice() {
+        return Some(false);
     }
+    if bytes == b"topology 2".as_slice() {
+        return Some(true);
+    }
+    None
 }
 
-fn is_header(text: &[u8], line: Line) -> bool
-    requires { IsIn text.now line }
-    ensures { result ≡ (line.whole && bytes_eq (row_at text.now line).bytes (codes "topology 1")) }
+/// Takes the header's line, and tells whether a pattern follows the groups, as in version 2. A refusal comes with the
+/// number of its line.
+pub fn header_part(text: &[u8], lines: &mut Lines<'_>) -> Result<bool, (TopologyCode, u32)>
+    requires same { lines.old.text ≡ text.now }
+    requires room { lines.old.place.number + 1 < 2 ^ 32 }
+    ensures read { Tells (λ patterned. (patterned, lines.new.place)) result (line_part header_line lines.old.place) }
+    ensures text { lines.new.text ≡ lines.old.text }
 {
-    line.whole && &text[line.start..line.end] == b"topology 1".as_slice()
+    let refused = Err((TopologyCode::BadHeader, lines.number()));
+    let Some(line) = lines.next() else {
+        return refused;
+    };
+    if !line.whole {
+        return refused;
+    }
+    match version_of(&text[line.start..line.end]) {
+        Some(patterned) => Ok(patterned),
+        None => refused,
+    }
 }
 
 /// Takes the line of the nodes, and gives their names in the order of the line.

@@ -12,10 +12,12 @@ ghost use Rattle.topology_text.specs.Answer.{Answers};
 use crate::fault::{TopologyCode, TopologyFault};
 use crate::named_topology::NamedTopology;
 use crate::parts::{groups_part, header_part, nodes_part};
+use crate::pattern::pattern_part;
 use std::alloc::Global;
 use text_lines::{Lines, Stop};
 
-/// Takes a topology off the front of the lines: its groups end at the first line that doesn't begin `group `.
+/// Takes a topology off the front of the lines: its groups end at the first line that doesn't begin `group `, and in
+/// version 2 its pattern follows.
 #[tactic(auto, unfolding(crate::specs::Reading::topology_at))]
 pub fn topology_part(
     alloc: Global,
@@ -23,15 +25,16 @@ pub fn topology_part(
     lines: &mut Lines<'_>,
 ) -> Result<NamedTopology, Stop<(TopologyCode, u32)>>
     requires same { lines.old.text ≡ text.now }
-    requires room { lines.old.place.number + 259 < 2 ^ 32 }
+    requires room { lines.old.place.number + 292 < 2 ^ 32 }
     ensures read { Gives (λ t. (t, lines.new.place)) result (topology_at lines.old.place) }
     ensures text { lines.new.text ≡ lines.old.text }
-    ensures moved { OnOk result (lines.new.place.number ≤ lines.old.place.number + 258) }
+    ensures moved { OnOk result (lines.new.place.number ≤ lines.old.place.number + 291) }
 {
-    header_part(text, lines)?;
+    let patterned = header_part(text, lines).map_err(Stop::Refused)?;
     let names = nodes_part(alloc, text, lines)?;
     let groups = groups_part(alloc, text, &names, lines)?;
-    Ok(NamedTopology::from_parts(alloc, &names, groups)?)
+    let custom = pattern_part(alloc, text, patterned, &names, lines)?;
+    Ok(NamedTopology::from_parts(alloc, &names, groups, custom)?)
 }
 
 #[tactic(auto, unfolding(crate::specs::Reading::topology_of))]

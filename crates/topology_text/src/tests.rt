@@ -1,17 +1,36 @@
-ghost use Rattle.std.specs.Prelude.{IsTrue};
+ghost use Rattle.std.specs.Prelude.{◌<◌, IsTrue};
 ghost use Rattle.topology_text.specs.Family.{is_allowed};
 
 use super::*;
+use schedule::Placement;
 use std::alloc::Global;
 use std::process::Abort;
 use std::test::Fail;
-use text_lines::Lines;
+use text_lines::{Lines, push_number, push_word};
 
 const FRONT: &[u8] = b"topology 1\nnodes n0 n1\n";
 
+const GIVEN: &[u8] = b"topology 2\nnodes a b c\ngroup 1 a>b\ngroup 1 b>c\n";
+
+fn refused(
+    rt: &impl Abort,
+    alloc: Global,
+    front: &[u8],
+    back: &[u8],
+    code: u32,
+    line: u32,
+) -> Result<(), Fail> {
+    let mut text = Vec::from_slice(alloc, front)?;
+    text.extend_from_slice(back)?;
+    let fault = read_topology(alloc, &text).expect_err(rt, "a refusal");
+    assert_eq!(rt; fault.code.number(), code);
+    assert_eq!(rt; fault.line, line);
+    Ok(())
+}
+
 #[test]
 fn refusals(rt: HostRuntime) -> Result<(), Fail> {
-    let table: [(&[u8], &[u8], u32, u32); 35] = [
+    let table: [(&[u8], &[u8], u32, u32); 36] = [
         (FRONT, b"group 1 n0>n2\n", 5, 3),
         (FRONT, b"group 1 n0>n0\n", 6, 3),
         (FRONT, b"group 1 n0>n1 n0>n1\n", 7, 3),
@@ -31,7 +50,8 @@ fn refusals(rt: HostRuntime) -> Result<(), Fail> {
         ),
         // Lines that are cut, or of another shape.
         (b"topology 1", b"", 1, 1),
-        (b"topology 2\n", b"nodes n0\n", 1, 1),
+        (b"topology 3\n", b"nodes n0\n", 1, 1),
+        (b"topology 2", b"", 1, 1),
         (b"topology 1 \n", b"nodes n0\n", 1, 1),
         (b"topology 1\n", b"nodes", 2, 2),
         (b"topology 1\n", b"nodes n0 \n", 2, 2),
@@ -67,11 +87,51 @@ fn refusals(rt: HostRuntime) -> Result<(), Fail> {
         (b"topology 1\nnodes n0 n0\n", b"group 0 n0>n1\n", 4, 2),
     ];
     for (front, back, code, line) in table {
-        let mut text = Vec::from_slice(rt.alloc(), front)?;
-        text.extend_from_slice(back)?;
-        let fault = read_topology(rt.alloc(), &text).expect_err(&rt, "a refusal");
-        assert_eq!(rt; fault.code.number(), code);
-        assert_eq!(rt; fault.line, line);
+        refused(&rt, rt.alloc(), front, back, code, line)?;
+    }
+    Ok(())
+}
+
+#[test]
+fn refused_patterns(rt: HostRuntime) -> Result<(), Fail> {
+    let table: [(&[u8], &[u8], u32, u32); 25] = [
+        // No pattern in version 1.
+        (FRONT, b"custom 1\nbefore 0\nafter 0\n", 2, 3),
+        // The line of a pattern's number of chunks.
+        (GIVEN, b"", 2, 5),
+        (GIVEN, b"custom 1", 2, 5),
+        (GIVEN, b"custom\n", 2, 5),
+        (GIVEN, b"customs 1\n", 2, 5),
+        (GIVEN, b"custom 1 \n", 2, 5),
+        (GIVEN, b"custom  1\n", 2, 5),
+        (GIVEN, b"nodes 1\n", 2, 5),
+        (GIVEN, b"custom \n", 13, 5),
+        (GIVEN, b"custom 0\n", 13, 5),
+        (GIVEN, b"custom 17\n", 13, 5),
+        (GIVEN, b"custom 01\n", 13, 5),
+        (GIVEN, b"group 1 a>b\ncustom 17\n", 13, 6),
+        // The lines of a pattern.
+        (GIVEN, b"custom 1\nbefore 0 a\n", 2, 7),
+        (GIVEN, b"custom 1\nbefore 0 a\nafter 0 c", 2, 7),
+        (GIVEN, b"custom 1\nafter 0 a\nbefore 0 c\n", 2, 6),
+        (GIVEN, b"custom 1\nbefore 1 a\nafter 0 c\n", 2, 6),
+        (GIVEN, b"custom 1\nbefore 00 a\nafter 0 c\n", 2, 6),
+        (GIVEN, b"custom 1\nbefore 0 a \nafter 0 c\n", 2, 6),
+        (GIVEN, b"custom 1\nbefore 0 d\nafter 0 c\n", 5, 6),
+        (GIVEN, b"custom 1\nbefore 0 c a\nafter 0 c\n", 14, 6),
+        (GIVEN, b"custom 1\nbefore 0 a\nafter 0 c c\n", 14, 7),
+        (GIVEN, b"custom 1\nbefore 0 c a d\nafter 0 c\n", 14, 6),
+        (
+            GIVEN,
+            b"custom 2\nbefore 0 a\nafter 0 c\nbefore 1 a\nafter 2 a\n",
+            2,
+            9,
+        ),
+        // A line behind the last of a pattern.
+        (GIVEN, b"custom 1\nbefore 0 a\nafter 0 c\nbefore 1\n", 2, 8),
+    ];
+    for (front, back, code, line) in table {
+        refused(&rt, rt.alloc(), front, back, code, line)?;
     }
     Ok(())
 }
@@ -107,6 +167,70 @@ fn a_text_is_read_and_printed(rt: HostRuntime) -> Result<(), Fail> {
     assert!(rt; groups[1].links() == [(2, 0)].as_slice());
     assert!(rt; print_topology(rt.alloc(), &value)?.as_slice() == text.as_slice());
     Ok(())
+}
+
+/// Whether the node holds the chunk, if there are such.
+fn held(placement: &Placement, chunk: u16, node: u8) -> Option<bool> {
+    if chunk >= placement.chunks() || node >= placement.nodes() {
+        return None;
+    }
+    Some(placement.holds(chunk, node))
+}
+
+#[test]
+fn a_pattern_is_read_and_printed(rt: HostRuntime) -> Result<(), Fail> {
+    let text =
+        b"topology 2\nnodes a b c\ngroup 1 a>b\ncustom 2\nbefore 0 a c\nafter 0\nbefore 1\nafter 1 a b c\n";
+    let value = read_topology(rt.alloc(), text).expect(&rt, "a topology");
+    let pattern = value.custom().expect(&rt, "a pattern");
+    assert_eq!(rt; pattern.base(), 2);
+    assert_eq!(rt; held(pattern.before(), 0, 0), Some(true));
+    assert_eq!(rt; held(pattern.before(), 0, 1), Some(false));
+    assert_eq!(rt; held(pattern.before(), 1, 0), Some(false));
+    assert_eq!(rt; held(pattern.after(), 0, 2), Some(false));
+    assert_eq!(rt; held(pattern.after(), 1, 2), Some(true));
+    assert_eq!(rt; held(pattern.after(), 2, 0), None);
+    assert_eq!(rt; held(pattern.after(), 1, 3), None);
+    assert!(rt; print_topology(rt.alloc(), &value)?.as_slice() == text.as_slice());
+    Ok(())
+}
+
+/// Appends the lines of a chunk that stands before at the node of its number, and has to stand after at all nodes.
+fn push_chunk(out: &mut Vec<u8>, chunk: u8) -> Result<(), OutOfMemory>
+    requires { chunk < 16 }
+{
+    push_word(out, b"before ")?;
+    push_number(out, u64::from(chunk))?;
+    push_word(out, &[b' ', b'a' + chunk])?;
+    push_word(out, b"\nafter ")?;
+    push_number(out, u64::from(chunk))?;
+    push_word(out, b" a b c d e f g h i j k l m n o p\n")
+}
+
+fn read_and_printed(
+    rt: &impl Abort,
+    alloc: Global,
+    text: &[u8],
+    patterned: bool,
+) -> Result<(), Fail> {
+    let value = read_topology(alloc, text).expect(rt, "a topology");
+    assert_eq!(rt; value.topology().nodes(), 16);
+    assert_eq!(rt; value.custom().is_some(), patterned);
+    assert!(rt; print_topology(alloc, &value)?.as_slice() == text);
+    Ok(())
+}
+
+/// Sixteen nodes, and in version 2 sixteen chunks.
+#[test]
+fn the_largest_texts(rt: HostRuntime) -> Result<(), Fail> {
+    let plain = b"topology 1\nnodes a b c d e f g h i j k l m n o p\n";
+    read_and_printed(&rt, rt.alloc(), plain, false)?;
+    let front = b"topology 2\nnodes a b c d e f g h i j k l m n o p\ncustom 16\n";
+    let mut given = Vec::from_slice(rt.alloc(), front)?;
+    for chunk in 0..16u8 {
+        push_chunk(&mut given, chunk)?;
+    }
+    read_and_printed(&rt, rt.alloc(), &given, true)
 }
 
 #[test]

@@ -1,7 +1,8 @@
-use Rattle.std.proofs.Common.{◌≡◌, ◌≤◌, length, drop, ap, arith, rules}
+use Rattle.std.proofs.Common.{◌≡◌, ◌≤◌, length, drop, Ok, ap, arith, rules}
 use Rattle.std.proofs.lemmas.List.{length-drop}
 use Rattle.text_lines.specs.Text.{words_of}
 use Rattle.text_lines.specs.Line.{row_at}
+use Rattle.topology_text.specs.Reading.{width_of}
 use Rattle.topology_text.proofs.Links.{group_valid}
 use Rattle.topology_text.proofs.group_line.group_on.Goals as goal
 
@@ -10,4 +11,5 @@ new-requires c =
     let all = words_of (row_at c.args.text.now c.args.line).bytes in
     let rest : c.next_word-2.new.self.words ≡ drop 2 all = search rules in
     let three : 3 ≤ length all = search rules in
-    group_valid c.args.names.now.keys c.unwrap_or.result.now c.next_word-2.new.self.words c.in_ok-width.width c.in_ok-links.links.items c.in_ok-width.ensures c.in_ok-links.ensures (omega (arith, length-drop 2 all, ap length rest))
+    let wide : width_of c.unwrap_or.result.now ≡ Ok c.in_ok-width.width = search rules in
+    group_valid c.args.names.now.keys c.unwrap_or.result.now c.next_word-2.new.self.words c.in_ok-width.width c.in_ok-links.links.items wide c.in_ok-links.ensures (omega (arith, length-drop 2 all, ap length rest))

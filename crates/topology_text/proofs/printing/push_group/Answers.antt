@@ -5,8 +5,8 @@ use Rattle.topology_text.specs.Spelling.{link_word, group_words}
 use Rattle.topology_text.proofs.Printed.{fields, appended, group_is, on_ok}
 use Rattle.topology_text.proofs.printing.push_group.Goals as goal
 
-pub returns : goal.returns
-returns c =
+pub returns-clause-appended : goal.returns-clause-appended
+returns-clause-appended c =
     let names = c.args.names.now in
     let group = c.args.group.now in
     let first = c.push_word.new.out.items in

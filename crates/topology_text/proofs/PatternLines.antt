@@ -1,0 +1,191 @@
+-- The lines of a pattern: what is read stands there, and what stands there is read.
+use Rattle.std.proofs.Common.{◌≡◌, ℕ, ◌+◌, ◌^◌, ◌<◌, ◌≤◌, Bool, true, false, ◌||◌, not, eqb, List, [], ◌∷◌, ◌++◌, map, length, get_or, drop, Option, None, Some, Result, Ok, Err, refl, sym, ap, ◌∙◌, subst, append_assoc, arith}
+use Rattle.std.specs.Prelude.{bytes_eq, codes, decimal, nat_lt, slice_index_or}
+use Rattle.std.specs.List.{list_all}
+use Rattle.std.proofs.lemmas.Bool.{and_parts, and_from, eqb-true, eqb-false, ne_eqb, false_from_ne_true, not-false, or_parts}
+use Rattle.std.proofs.lemmas.Fmt.{decimal_injective}
+use Rattle.std.proofs.lemmas.List.{append-nil}
+use Rattle.std.proofs.lemmas.List.Elements.{All-get_or}
+use Rattle.std.proofs.lemmas.Slice.Eq.{bytes_eq-Decides}
+use Rattle.text_lines.specs.Text.{Row, words_of}
+use Rattle.text_lines.specs.Check.{◌>>=◌, refuse, need}
+use Rattle.text_lines.specs.Number.{number_up_to}
+use Rattle.text_lines.proofs.Checks.{refuse_ok, need_ok, ok_is}
+use Rattle.text_lines.proofs.Numbers.{up_to_found, up_to_some}
+use Rattle.text_lines.proofs.Rows.{row_of, row_back, words_again}
+use Rattle.text_lines.proofs.Words.{IsWord, AreWords, literal, tokens_from, none_empty, begins_is, decimal_word}
+use Rattle.topology_text.specs.declared.fault.TopologyCode.{TopologyCode}
+use Rattle.topology_text.specs.declared.fault.TopologyCode.TheVariants.{BadLine, UnknownNode, BaseRange, NameOrder}
+use Rattle.topology_text.specs.Names.{is_name}
+use Rattle.topology_text.specs.Spelling.{name_at}
+use Rattle.topology_text.specs.Reading.{begins, has_empty, node_of, base_of, custom_line, holders_from, has_front, holders_line}
+use Rattle.topology_text.proofs.Front.{Names, name_word}
+use Rattle.topology_text.proofs.Links.{node_is, node_again}
+use Rattle.topology_text.proofs.Held.{Ascends, ascends_push, ascends_next, ascends_above}
+
+-- ---- the number of chunks
+
+pub base_take : (word : List ℕ) (base : ℕ) → base_of word ≡ Ok base → (word ≡ decimal base) × (0 < base) × (base ≤ 16)
+base_take word base e =
+    let checked : ℕ → Result ℕ TopologyCode = λ n. refuse (eqb n 0) BaseRange >>= (λ u. Ok n) in
+    let (n, found, e1) = need_ok (number_up_to 16 word) BaseRange checked base e in
+    let (positive, e2) = refuse_ok (eqb n 0) BaseRange (λ u. Ok n) base e1 in
+    let same : n ≡ base = ok_is {C = TopologyCode} n base e2 in
+    let (spelled, small) = up_to_found 16 n word found in
+    let some = eqb-false n 0 positive in
+    (spelled ∙ ap decimal same, omega arith, omega arith)
+
+pub base_again : (base : ℕ) → 0 < base → base ≤ 16 → base_of (decimal base) ≡ Ok base
+base_again base some small =
+    let found = up_to_some 16 base (decimal base) (omega arith) refl small in
+    let positive : eqb base 0 ≡ false = ne_eqb base 0 (λ e. omega arith) in
+    ap (λ o. need o BaseRange >>= (λ n. refuse (eqb n 0) BaseRange >>= (λ u. Ok n))) found ∙ ap (λ t. refuse t BaseRange >>= (λ u. Ok base)) positive
+
+abbrev pub base_words : ℕ → List (List ℕ)
+base_words base = codes "custom" ∷ decimal base ∷ []
+
+pub base_are_words : (base : ℕ) → base ≤ 16 → AreWords (base_words base)
+base_are_words base few = (literal (codes "custom") refl, (decimal_word base (omega arith), tt))
+
+-- the line of the number of chunks, and its number
+pub record BaseTaken (o : Option Row) (base : ℕ) : Type 0 where
+  pub spelled : o ≡ Some (row_of (base_words base))
+  pub some : 0 < base
+  pub few : base ≤ 16
+
+two_words : (words : List (List ℕ)) → eqb (length words) 2 ≡ true → words ≡ get_or words 0 [] ∷ get_or words 1 [] ∷ []
+two_words [] e = absurd (omega (arith, eqb-true 0 2 e))
+two_words (a ∷ []) e = absurd (omega (arith, eqb-true 1 2 e))
+two_words (a ∷ b ∷ []) e = refl
+two_words (a ∷ b ∷ c ∷ words) e = absurd (omega (arith, eqb-true (length (a ∷ b ∷ c ∷ words)) 2 e))
+
+pub custom_take : (o : Option Row) (base : ℕ) → custom_line o ≡ Ok base → BaseTaken o base
+custom_take None base e = absurd (cc)
+custom_take (Some r) base e =
+    let words = words_of r.bytes in
+    let front : Bool = begins (codes "custom ") r.bytes in
+    let two : Bool = eqb (length words) 2 in
+    let (shape, e1) = refuse_ok (not r.whole || not front || not two) BadLine (λ u. base_of (slice_index_or words 1 [])) base e in
+    let (early, pair) = or_parts (not r.whole || not front) (not two) shape in
+    let (whole, begun) = or_parts (not r.whole) (not front) early in
+    let (spelled, some, few) = base_take (slice_index_or words 1 []) base e1 in
+    let parts = two_words words (not-false two pair) in
+    let rest = drop 7 r.bytes in
+    let first : words ≡ codes "custom" ∷ words_of rest = begins_is (codes "custom") r.bytes refl (not-false front begun) in
+    let line : words ≡ base_words base = parts ∙ ap (λ w. get_or w 0 [] ∷ get_or words 1 [] ∷ []) first ∙ ap (λ w. codes "custom" ∷ w ∷ []) spelled in
+    record { spelled = ap (λ x. Some x) (row_back r (base_words base) (not-false r.whole whole) line); some = some; few = few }
+
+custom_at : (r : Row) (base : ℕ) → r.whole ≡ true → begins (codes "custom ") r.bytes ≡ true → words_of r.bytes ≡ base_words base → 0 < base → base ≤ 16 → custom_line (Some r) ≡ Ok base
+custom_at r base whole front words some few =
+    let two : eqb (length (words_of r.bytes)) 2 ≡ true = ap (λ w. eqb (length w) 2) words in
+    let read : base_of (slice_index_or (words_of r.bytes) 1 []) ≡ Ok base = ap (λ w. base_of (slice_index_or w 1 [])) words ∙ base_again base some few in
+    rw (whole, front, two) read
+
+pub custom_begins : (base : ℕ) → begins (codes "custom ") (row_of (base_words base)).bytes ≡ true
+custom_begins base = refl
+
+pub custom_again : (base : ℕ) → 0 < base → base ≤ 16 → custom_line (Some (row_of (base_words base))) ≡ Ok base
+custom_again base some few = custom_at (row_of (base_words base)) base refl (custom_begins base) (words_again (base_words base) (tokens_from (base_words base) (omega arith) (base_are_words base few))) some few
+
+-- ---- the nodes that hold a chunk
+
+abbrev after_node : List (List ℕ) → List ℕ → List (List ℕ) → ℕ → Result (List ℕ) TopologyCode
+after_node names before words node = refuse (not (list_all (λ other. nat_lt other node) before)) NameOrder >>= (λ u. holders_from names (before ++ node ∷ []) words)
+
+pub out_of_order : (names : List (List ℕ)) (before : List ℕ) (word : List ℕ) (words : List (List ℕ)) (node : ℕ) → Some node ≡ node_of names word → list_all (λ other. nat_lt other node) before ≡ false → holders_from names before (word ∷ words) ≡ Err NameOrder
+out_of_order names before word words node found behind =
+    ap (λ o. need o UnknownNode >>= after_node names before words) (sym found) ∙ ap (λ t. refuse (not t) NameOrder >>= (λ u. holders_from names (before ++ node ∷ []) words)) behind
+
+map_push : (f : ℕ → List ℕ) (before : List ℕ) (node : ℕ) → map f (before ++ node ∷ []) ≡ map f before ++ f node ∷ []
+map_push f [] node = refl
+map_push f (x ∷ xs) node = ap (λ ys. f x ∷ ys) (map_push f xs node)
+
+pub holders_take : (names : List (List ℕ)) (before : List ℕ) (words : List (List ℕ)) (nodes : List ℕ) → holders_from names before words ≡ Ok nodes → Ascends 0 (length names) before → (map (name_at names) nodes ≡ map (name_at names) before ++ words) × Ascends 0 (length names) nodes
+holders_take names before [] nodes e ok =
+    let same : before ≡ nodes = ok_is {C = TopologyCode} before nodes e in
+    let P : List ℕ → Type 0 = λ ns. Ascends 0 (length names) ns in
+    (ap (map (name_at names)) (sym same) ∙ sym (append-nil (map (name_at names) before)), subst P same ok)
+holders_take names before (word ∷ words) nodes e ok =
+    let (node, found, e1) = need_ok (node_of names word) UnknownNode (after_node names before words) nodes e in
+    let above : Bool = list_all (λ other. nat_lt other node) before in
+    let (behind, e2) = refuse_ok (not above) NameOrder (λ u. holders_from names (before ++ node ∷ []) words) nodes e1 in
+    let (within, named) = node_is names word node found in
+    let (all, valid) = holders_take names (before ++ node ∷ []) words nodes e2 (ascends_push 0 (length names) before node ok (omega arith) within (not-false above behind)) in (
+      all ∙ ap (λ ws. ws ++ words) (map_push (name_at names) before node) ∙ append_assoc (map (name_at names) before) (name_at names node ∷ []) words
+          ∙ ap (λ w. map (name_at names) before ++ w ∷ words) named,
+      valid,
+    )
+
+pub holders_again : (names : List (List ℕ)) (before more : List ℕ) → Names names → Ascends 0 (length names) (before ++ more) → holders_from names before (map (name_at names) more) ≡ Ok (before ++ more)
+holders_again names before [] ok valid = ap (λ ns. Ok ns) (sym (append-nil before))
+holders_again names before (node ∷ more) ok valid =
+    let (low, within) = ascends_next 0 (length names) before node more valid in
+    let found = node_again names node ok.distinct within in
+    let above : not (list_all (λ other. nat_lt other node) before) ≡ false = ap not (ascends_above 0 (length names) before node more valid) in
+    let P : List ℕ → Type 0 = λ ns. Ascends 0 (length names) ns in
+    let rest = holders_again names (before ++ node ∷ []) more ok (subst P (sym (append_assoc before (node ∷ []) more)) valid) in
+    ap (λ o. need o UnknownNode >>= after_node names before (map (name_at names) more)) found
+    ∙ ap (λ t. refuse t NameOrder >>= (λ u. holders_from names (before ++ node ∷ []) (map (name_at names) more))) above
+    ∙ rest ∙ ap (λ ns. Ok ns) (append_assoc before (node ∷ []) more)
+
+-- ---- the number of a chunk
+
+pub same_number : (word : List ℕ) (read number : ℕ) → word ≡ decimal read → read < 2 ^ 64 → number < 2 ^ 64 → eqb read number ≡ bytes_eq (decimal number) word
+same_number word read number spelled small small_too = by_test (eqb read number) refl
+  where
+    by_test : (b : Bool) → eqb read number ≡ b → b ≡ bytes_eq (decimal number) word
+    by_test true e = sym ((bytes_eq-Decides (decimal number) word).1 (ap decimal (sym (eqb-true read number e)) ∙ sym spelled))
+    by_test false e = sym (false_from_ne_true (bytes_eq (decimal number) word) (λ t. eqb-false read number e (decimal_injective read number small small_too (sym spelled ∙ sym ((bytes_eq-Decides (decimal number) word).0 t)))))
+
+pub no_number : (word : List ℕ) (number : ℕ) → (word ≡ decimal number → ⊥) → false ≡ bytes_eq (decimal number) word
+no_number word number other = sym (false_from_ne_true (bytes_eq (decimal number) word) (λ t. other (sym ((bytes_eq-Decides (decimal number) word).0 t))))
+
+-- ---- a line of holders
+
+-- a word, the number of the chunk, and the names of these nodes
+abbrev pub named_words : List (List ℕ) → List ℕ → ℕ → List ℕ → List (List ℕ)
+named_words names word g nodes = word ∷ decimal g ∷ map (name_at names) nodes
+
+nodes_are_words : (names : List (List ℕ)) (lo : ℕ) (nodes : List ℕ) → Names names → Ascends lo (length names) nodes → AreWords (map (name_at names) nodes)
+nodes_are_words names lo [] ok valid = tt
+nodes_are_words names lo (node ∷ nodes) ok valid =
+    let (low, within) = valid.0 in
+    (name_word (name_at names node) (All-get_or (λ n. is_name n ≡ true) names node [] within ok.each), nodes_are_words names (node + 1) nodes ok valid.1)
+
+pub named_are_words : (names : List (List ℕ)) (word : List ℕ) (g : ℕ) (nodes : List ℕ) → IsWord word → g < 2 ^ 64 → Names names → Ascends 0 (length names) nodes → AreWords (named_words names word g nodes)
+named_are_words names word g nodes is small ok valid = (is, (decimal_word g small, nodes_are_words names 0 nodes ok valid))
+
+front_is : (word number : List ℕ) (words : List (List ℕ)) → has_front word number words ≡ true → words ≡ word ∷ number ∷ drop 2 words
+front_is word number [] e = absurd (cc)
+front_is word number (a ∷ []) e = absurd (cc)
+front_is word number (a ∷ b ∷ words) e =
+    let (first, second) = and_parts (bytes_eq word a) (bytes_eq number b) e in
+    ap (λ x. x ∷ b ∷ words) (sym ((bytes_eq-Decides word a).0 first)) ∙ ap (λ y. word ∷ y ∷ words) (sym ((bytes_eq-Decides number b).0 second))
+
+pub record HoldersLineTaken (names : List (List ℕ)) (word : List ℕ) (g : ℕ) (o : Option Row) (nodes : List ℕ) : Type 0 where
+  pub spelled : o ≡ Some (row_of (named_words names word g nodes))
+  pub valid : Ascends 0 (length names) nodes
+
+pub holders_line_take : (names : List (List ℕ)) (word : List ℕ) (g : ℕ) (o : Option Row) (nodes : List ℕ) → holders_line names word g o ≡ Ok nodes → HoldersLineTaken names word g o nodes
+holders_line_take names word g None nodes e = absurd (cc)
+holders_line_take names word g (Some r) nodes e =
+    let words = words_of r.bytes in
+    let front : Bool = has_front word (decimal g) words in
+    let (shape, e1) = refuse_ok (not r.whole || not front || has_empty words) BadLine (λ u. holders_from names [] (drop 2 words)) nodes e in
+    let (early, full) = or_parts (not r.whole || not front) (has_empty words) shape in
+    let (whole, begun) = or_parts (not r.whole) (not front) early in
+    let (all, valid) = holders_take names [] (drop 2 words) nodes e1 tt in
+    let line : words ≡ named_words names word g nodes = front_is word (decimal g) words (not-false front begun) ∙ ap (λ ws. word ∷ decimal g ∷ ws) (sym all) in
+    record { spelled = ap (λ x. Some x) (row_back r (named_words names word g nodes) (not-false r.whole whole) line); valid = valid }
+
+holders_at_row : (names : List (List ℕ)) (word : List ℕ) (g : ℕ) (r : Row) (nodes : List ℕ) → r.whole ≡ true → words_of r.bytes ≡ named_words names word g nodes → IsWord word → g < 2 ^ 64 → Names names → Ascends 0 (length names) nodes → holders_line names word g (Some r) ≡ Ok nodes
+holders_at_row names word g r nodes whole words is small ok valid =
+    let itself : (w : List ℕ) → bytes_eq w w ≡ true = λ w. (bytes_eq-Decides w w).1 refl in
+    let front : has_front word (decimal g) (words_of r.bytes) ≡ true = ap (has_front word (decimal g)) words ∙ and_from (bytes_eq word word) (bytes_eq (decimal g) (decimal g)) (itself word) (itself (decimal g)) in
+    let full : has_empty (words_of r.bytes) ≡ false = ap has_empty words ∙ none_empty (named_words names word g nodes) (named_are_words names word g nodes is small ok valid) in
+    let read : holders_from names [] (drop 2 (words_of r.bytes)) ≡ Ok nodes = ap (λ ws. holders_from names [] (drop 2 ws)) words ∙ holders_again names [] nodes ok valid in
+    rw (whole, front, full) read
+
+pub holders_line_again : (names : List (List ℕ)) (word : List ℕ) (g : ℕ) (nodes : List ℕ) → IsWord word → g < 2 ^ 64 → Names names → Ascends 0 (length names) nodes → holders_line names word g (Some (row_of (named_words names word g nodes))) ≡ Ok nodes
+holders_line_again names word g nodes is small ok valid =
+    holders_at_row names word g (row_of (named_words names word g nodes)) nodes refl (words_again (named_words names word g nodes) (tokens_from (named_words names word g nodes) (omega arith) (named_are_words names word g nodes is small ok valid))) is small ok valid

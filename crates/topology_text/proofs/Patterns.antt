@@ -1,0 +1,201 @@
+-- Patterns: what is read stands there, and what stands there is read.
+use Rattle.std.proofs.Common.{◌≡◌, ℕ, zero, suc, ◌+◌, ◌≤◌, Bool, true, false, List, [], ◌∷◌, ◌++◌, map, length, get_or, drop, Option, None, Some, Result, Ok, refl, sym, ap, ◌∙◌, subst, arith}
+use Rattle.std.specs.Prelude.{codes, IfSome}
+use Rattle.std.specs.Option.{is_some}
+use Rattle.std.specs.List.{AllByRecursion, flat_map, range_with_len}
+use Rattle.std.proofs.lemmas.List.{length-map}
+use Rattle.text_lines.specs.Text.{Row, Place}
+use Rattle.text_lines.specs.Check.{◌>>=◌, first, line_part}
+use Rattle.text_lines.proofs.Checks.{bind_ok, part_ok, ok_is}
+use Rattle.text_lines.proofs.Rows.{AreTokens, row_of}
+use Rattle.text_lines.proofs.Words.{tokens_from}
+use Rattle.schedule.specs.Placed.{PlacementValue, holds}
+use Rattle.collective_spec.specs.Patterns.{PatternValue, IsPattern}
+use Rattle.topology_text.specs.declared.fault.TopologyCode.{TopologyCode}
+use Rattle.topology_text.specs.Spelling.{holder_words, custom_lines}
+use Rattle.topology_text.specs.Reading.{custom_line, Pairs, holders_at, pattern_of, pattern_at}
+use Rattle.topology_text.proofs.Front.{Names}
+use Rattle.topology_text.proofs.Groups.{place, EndsGroups, line_taken, part_again}
+use Rattle.topology_text.proofs.Held.{EachAscends, pairs_from, nodes_with, held_by, held_ascends, placement_from, rows_held, rows_placement, placement_rows}
+use Rattle.topology_text.proofs.PatternLines.{base_words, base_are_words, custom_take, custom_again, named_words}
+use Rattle.topology_text.proofs.HolderLines.{Holders, befores, afters, AreHeld, befores_ascend, afters_ascend, holder_lines, length-holder_lines, holder_lines_are_words, with_holders, no_pairs, holders_at_take, holders_at_again}
+
+-- ---- the pattern of these chunks
+
+abbrev pub pattern_from : ℕ → ℕ → List Holders → PatternValue
+pattern_from base nodes hs = pattern_of base nodes (with_holders no_pairs 0 hs)
+
+pub pattern_valid : (base nodes : ℕ) (hs : List Holders) → length hs ≡ base → 1 ≤ base → base ≤ 16 → AreHeld nodes hs → IsPattern nodes (pattern_from base nodes hs)
+pattern_valid base nodes hs many some few held = record {
+  some = some;
+  few = few;
+  before = rows_placement base nodes (befores hs) (length-map hs (λ h. h.0) ∙ many) (befores_ascend nodes hs held);
+  before_chunks = refl;
+  before_nodes = refl;
+  after = rows_placement base nodes (afters hs) (length-map hs (λ h. h.1) ∙ many) (afters_ascend nodes hs held);
+  after_chunks = refl;
+  after_nodes = refl;
+}
+
+-- who holds the chunks of two placements
+abbrev held_in : PlacementValue → PlacementValue → ℕ → ℕ → List Holders
+held_in p q g zero = []
+held_in p q g (suc len) = (nodes_with (holds p) p.nodes g, nodes_with (holds q) q.nodes g) ∷ held_in p q (g + 1) len
+
+length-held_in : (p q : PlacementValue) (g len : ℕ) → length (held_in p q g len) ≡ len
+length-held_in p q g zero = refl
+length-held_in p q g (suc len) = ap suc (length-held_in p q (g + 1) len)
+
+befores_in : (p q : PlacementValue) (g len : ℕ) → befores (held_in p q g len) ≡ held_by (holds p) p.nodes g len
+befores_in p q g zero = refl
+befores_in p q g (suc len) = ap (λ x. nodes_with (holds p) p.nodes g ∷ x) (befores_in p q (g + 1) len)
+
+afters_in : (p q : PlacementValue) (g len : ℕ) → afters (held_in p q g len) ≡ held_by (holds q) q.nodes g len
+afters_in p q g zero = refl
+afters_in p q g (suc len) = ap (λ x. nodes_with (holds q) q.nodes g ∷ x) (afters_in p q (g + 1) len)
+
+both_held : (nodes : ℕ) (hs : List Holders) → EachAscends nodes (befores hs) → EachAscends nodes (afters hs) → AreHeld nodes hs
+both_held nodes [] one two = tt
+both_held nodes (h ∷ hs) one two = ((one.0, two.0), both_held nodes hs one.1 two.1)
+
+-- each pattern is that of its chunks
+pub record PatternHeld (nodes : ℕ) (p : PatternValue) : Type 0 where
+  pub held : List Holders
+  pub many : length held ≡ p.base
+  pub valid : AreHeld nodes held
+  pub is : p ≡ pattern_from p.base nodes held
+
+pub pattern_held : (nodes : ℕ) (p : PatternValue) → IsPattern nodes p → PatternHeld nodes p
+pattern_held nodes p ok =
+    let hs = held_in p.before p.after 0 p.base in
+    let P : ℕ → Type 0 = λ n. EachAscends n (befores hs) in
+    let Q : ℕ → Type 0 = λ n. EachAscends n (afters hs) in
+    let R : List (List ℕ) → Type 0 = λ rows. EachAscends p.before.nodes rows in
+    let S : List (List ℕ) → Type 0 = λ rows. EachAscends p.after.nodes rows in
+    let one = subst P ok.before_nodes (subst R (sym (befores_in p.before p.after 0 p.base)) (held_ascends (holds p.before) p.before.nodes 0 p.base)) in
+    let two = subst Q ok.after_nodes (subst S (sym (afters_in p.before p.after 0 p.base)) (held_ascends (holds p.after) p.after.nodes 0 p.base)) in
+    let before : p.before.pairs ≡ pairs_from 0 (befores hs) = placement_rows p.before ok.before ∙ ap (λ c. pairs_from 0 (held_by (holds p.before) p.before.nodes 0 c)) ok.before_chunks ∙ ap (pairs_from 0) (sym (befores_in p.before p.after 0 p.base)) in
+    let after : p.after.pairs ≡ pairs_from 0 (afters hs) = placement_rows p.after ok.after ∙ ap (λ c. pairs_from 0 (held_by (holds p.after) p.after.nodes 0 c)) ok.after_chunks ∙ ap (pairs_from 0) (sym (afters_in p.before p.after 0 p.base)) in
+    record {
+      held = hs;
+      many = length-held_in p.before p.after 0 p.base;
+      valid = both_held nodes hs one two;
+      is = λ i. record {
+        base = p.base;
+        before = record { chunks = ok.before_chunks i; nodes = ok.before_nodes i; pairs = before i };
+        after = record { chunks = ok.after_chunks i; nodes = ok.after_nodes i; pairs = after i };
+      };
+    }
+
+-- the lines of placements that hold these chunks so
+lines_spelled : (names : List (List ℕ)) (p q : PlacementValue) (g : ℕ) (hs : List Holders) → held_by (holds p) p.nodes g (length hs) ≡ befores hs → held_by (holds q) q.nodes g (length hs) ≡ afters hs
+    → flat_map (λ k. holder_words names (codes "before") p k ∷ holder_words names (codes "after") q k ∷ []) (range_with_len g (length hs)) ≡ holder_lines names g hs
+lines_spelled names p q g [] one two = refl
+lines_spelled names p q g (h ∷ hs) one two =
+    let here : nodes_with (holds p) p.nodes g ≡ h.0 = ap (λ l. get_or l 0 []) one in
+    let there : nodes_with (holds q) q.nodes g ≡ h.1 = ap (λ l. get_or l 0 []) two in
+    let rest = lines_spelled names p q (g + 1) hs (ap (drop 1) one) (ap (drop 1) two) in
+    ap (λ b. named_words names (codes "before") g b ∷ holder_words names (codes "after") q g ∷ flat_map (λ k. holder_words names (codes "before") p k ∷ holder_words names (codes "after") q k ∷ []) (range_with_len (g + 1) (length hs))) here
+    ∙ ap (λ a. named_words names (codes "before") g h.0 ∷ named_words names (codes "after") g a ∷ flat_map (λ k. holder_words names (codes "before") p k ∷ holder_words names (codes "after") q k ∷ []) (range_with_len (g + 1) (length hs))) there
+    ∙ ap (λ r. named_words names (codes "before") g h.0 ∷ named_words names (codes "after") g h.1 ∷ r) rest
+
+pub pattern_spelled : (names : List (List ℕ)) (base nodes : ℕ) (hs : List Holders) → length hs ≡ base → AreHeld nodes hs → custom_lines names (Some (pattern_from base nodes hs)) ≡ base_words base ∷ holder_lines names 0 hs
+pattern_spelled names base nodes hs many held =
+    let p = placement_from base nodes (befores hs) in
+    let q = placement_from base nodes (afters hs) in
+    let one = ap (held_by (holds p) nodes 0) (sym (length-map hs (λ h. h.0))) ∙ rows_held base nodes (befores hs) (length-map hs (λ h. h.0) ∙ many) (befores_ascend nodes hs held) in
+    let two = ap (held_by (holds q) nodes 0) (sym (length-map hs (λ h. h.1))) ∙ rows_held base nodes (afters hs) (length-map hs (λ h. h.1) ∙ many) (afters_ascend nodes hs held) in
+    ap (λ n. base_words base ∷ flat_map (λ k. holder_words names (codes "before") p k ∷ holder_words names (codes "after") q k ∷ []) (range_with_len 0 n)) (sym many)
+    ∙ ap (λ r. base_words base ∷ r) (lines_spelled names p q 0 hs one two)
+
+-- ---- a pattern at a place
+
+pub lines_valid : (names : List (List ℕ)) (p : Place) (base : ℕ) (q : Place) (found : Pairs) (rest : Place) → line_part custom_line p ≡ Ok (base, q) → holders_at names base 0 no_pairs q ≡ Ok (found, rest) → IsPattern (length names) (pattern_of base (length names) found)
+lines_valid names p base q found rest e1 e2 =
+    let (passed, at) = part_ok custom_line p (base, q) e1 in
+    let head = custom_take (first p.rows) base passed in
+    let taken = holders_at_take names base 0 no_pairs q (found, rest) e2 in
+    let P : Pairs → Type 0 = λ f. IsPattern (length names) (pattern_of base (length names) f) in
+    subst P (sym taken.pairs) (pattern_valid base (length names) taken.held taken.many head.some head.few taken.valid)
+
+pub pattern_made : (nodes base count : ℕ) (found : Pairs) (b a : PlacementValue) → IsPattern nodes (pattern_of base nodes found) → nodes ≡ count → b ≡ record { chunks = base; nodes = count; pairs = found.before } → a ≡ record { chunks = base; nodes = count; pairs = found.after } → IsPattern b.nodes (record { base = base; before = b; after = a })
+pattern_made nodes base count found b a ok same one two =
+    let P : ℕ → Type 0 = λ n. IsPattern n (pattern_of base n found) in
+    let Q : PlacementValue → Type 0 = λ x. IsPattern x.nodes (record { base = base; before = x; after = record { chunks = base; nodes = count; pairs = found.after } }) in
+    let R : PlacementValue → Type 0 = λ y. IsPattern b.nodes (record { base = base; before = b; after = y }) in
+    subst R (sym two) (subst Q (sym one) (subst P same ok))
+
+abbrev pub behind_holders : List (List ℕ) → ℕ → Pairs × Place → Result (Option PatternValue × Place) (TopologyCode × ℕ)
+behind_holders names base found = Ok (Some (pattern_of base (length names) found.0), found.1)
+
+abbrev pub behind_base : List (List ℕ) → ℕ × Place → Result (Option PatternValue × Place) (TopologyCode × ℕ)
+behind_base names base = holders_at names base.0 0 no_pairs base.1 >>= behind_holders names base.0
+
+pub record PatternTaken (names : List (List ℕ)) (patterned : Bool) (p : Place) (x : Option PatternValue × Place) : Type 0 where
+  pub valid : IfSome x.0 (IsPattern (length names))
+  pub shown : is_some x.0 ≡ patterned
+  pub lines : p.rows ≡ map row_of (custom_lines names x.0) ++ x.1.rows
+  pub number : x.1.number ≡ p.number + length (custom_lines names x.0)
+
+pub pattern_take : (patterned : Bool) (names : List (List ℕ)) (p : Place) (x : Option PatternValue × Place) → pattern_at patterned names p ≡ Ok x → PatternTaken names patterned p x
+unfolding pattern_at
+pattern_take false names p x e =
+    let none : Option PatternValue × Place = (None, p) in
+    let same : none ≡ x = ok_is {C = TopologyCode × ℕ} none x e in
+    let P : Option PatternValue × Place → Type 0 = λ y. PatternTaken names false p y in
+    subst P same (record { valid = tt; shown = refl; lines = refl; number = omega arith })
+pattern_take true names p x e =
+    let (base, e1, k1) = bind_ok (line_part custom_line p) (behind_base names) x e in
+    let (found, e2, k2) = bind_ok (holders_at names base.0 0 no_pairs base.1) (behind_holders names base.0) x k1 in
+    let (passed, at) = part_ok custom_line p base e1 in
+    let head = custom_take (first p.rows) base.0 passed in
+    let (rows, number) = line_taken custom_line p base (row_of (base_words base.0)) e1 (λ y read. head.spelled) in
+    let taken = holders_at_take names base.0 0 no_pairs base.1 found e2 in
+    let hs = taken.held in
+    let made : Option PatternValue × Place = (Some (pattern_from base.0 (length names) hs), found.1) in
+    let same : made ≡ x = ap (λ f. (Some (pattern_of base.0 (length names) f), found.1)) (sym taken.pairs) ∙ ok_is {C = TopologyCode × ℕ} (Some (pattern_of base.0 (length names) found.0), found.1) x k2 in
+    let spelled = pattern_spelled names base.0 (length names) hs taken.many taken.valid in
+    let P : Option PatternValue × Place → Type 0 = λ y. PatternTaken names true p y in
+    subst P same (record {
+      valid = pattern_valid base.0 (length names) hs taken.many head.some head.few taken.valid;
+      shown = refl;
+      lines = rows ∙ ap (λ r. row_of (base_words base.0) ∷ r) taken.lines ∙ ap (λ l. map row_of l ++ found.1.rows) (sym spelled);
+      number = omega (arith, number, taken.number, taken.many, ap length spelled, length-holder_lines names 0 hs);
+    })
+
+pub pattern_again : (names : List (List ℕ)) (custom : Option PatternValue) (n : ℕ) (rest : List Row) → Names names → IfSome custom (IsPattern (length names))
+    → pattern_at (is_some custom) names (place n (map row_of (custom_lines names custom) ++ rest)) ≡ Ok (custom, place (n + length (custom_lines names custom)) rest)
+unfolding pattern_at
+pattern_again names None n rest ok valid = ap (λ k. Ok (None, place k rest)) (omega arith)
+pattern_again names (Some p) n rest ok valid =
+    let h = pattern_held (length names) p valid in
+    let base = p.base in
+    let hs = h.held in
+    let made = pattern_from base (length names) hs in
+    let spelled : custom_lines names (Some p) ≡ base_words base ∷ holder_lines names 0 hs = ap (λ q. custom_lines names (Some q)) h.is ∙ pattern_spelled names base (length names) hs h.many h.valid in
+    let rows = map row_of (holder_lines names 0 hs) ++ rest in
+    let size : n + 1 + (length hs + length hs) ≡ n + length (custom_lines names (Some p)) = omega (arith, ap length spelled, length-holder_lines names 0 hs) in
+    let few : 0 + length hs ≤ 16 = omega (arith, h.many, valid.few) in
+    let P : ℕ → Type 0 = λ m. holders_at names m 0 no_pairs (place (n + 1) rows) ≡ Ok (with_holders no_pairs 0 hs, place (n + 1 + (length hs + length hs)) rest) in
+    let read = subst P h.many (holders_at_again names 0 hs no_pairs (n + 1) rest ok h.valid few) in
+    ap (λ l. pattern_at true names (place n (map row_of l ++ rest))) spelled
+    ∙ ap (λ r. r >>= behind_base names) (part_again custom_line n (row_of (base_words base)) rows base (custom_again base valid.some valid.few))
+    ∙ ap (λ r. r >>= behind_holders names base) read
+    ∙ ap (λ k. Ok (Some made, place k rest)) size
+    ∙ ap (λ q. Ok (Some q, place (n + length (custom_lines names (Some p))) rest)) (sym h.is)
+
+pub custom_are_words : (names : List (List ℕ)) (custom : Option PatternValue) → Names names → IfSome custom (IsPattern (length names)) → AllByRecursion AreTokens (custom_lines names custom)
+custom_are_words names None ok valid = tt
+custom_are_words names (Some p) ok valid =
+    let h = pattern_held (length names) p valid in
+    let spelled : custom_lines names (Some p) ≡ base_words p.base ∷ holder_lines names 0 h.held = ap (λ q. custom_lines names (Some q)) h.is ∙ pattern_spelled names p.base (length names) h.held h.many h.valid in
+    let P : List (List (List ℕ)) → Type 0 = λ l. AllByRecursion AreTokens l in
+    subst P (sym spelled) (
+      tokens_from (base_words p.base) (omega arith) (base_are_words p.base valid.few),
+      holder_lines_are_words names 0 h.held ok h.valid (omega (arith, h.many, valid.few)),
+    )
+
+-- no line of a pattern begins a group
+pub pattern_ends : (names : List (List ℕ)) (custom : Option PatternValue) (rest : List Row) → EndsGroups rest → EndsGroups (map row_of (custom_lines names custom) ++ rest)
+pattern_ends names None rest ends = ends
+pattern_ends names (Some p) rest ends = refl

@@ -1,0 +1,21 @@
+use Rattle.std.proofs.Common.{ap, ◌∙◌, arith}
+use Rattle.schedule.specs.Placed.{empty_placement}
+use Rattle.topology_text.proofs.Inserted.{pair_below, none_inserted, one_inserted}
+use Rattle.topology_text.proofs.pattern.placement_of.Goals as goal
+
+pub loop-chunk-init : goal.loop-chunk-init
+loop-chunk-init c = c.in_ok-placement.ensures ∙ ap (λ n. empty_placement n c.args.nodes) c.from.ensures ∙ none_inserted c.args.chunks c.args.nodes
+
+pub insert-requires-clause-chunk : goal.insert-requires-clause-chunk
+insert-requires-clause-chunk c =
+    let (chunk, node) = pair_below c.args.chunks c.args.nodes c.args.pairs.now c.loop-chunk.chunk-index (0, 0) c.requires c.loop-chunk-test.true in
+    omega (arith, chunk, ap (λ p. p.chunks) c.loop-chunk.invariant)
+
+pub insert-requires-clause-node : goal.insert-requires-clause-node
+insert-requires-clause-node c =
+    let (chunk, node) = pair_below c.args.chunks c.args.nodes c.args.pairs.now c.loop-chunk.chunk-index (0, 0) c.requires c.loop-chunk-test.true in
+    omega (arith, node, ap (λ p. p.nodes) c.loop-chunk.invariant)
+
+pub loop-chunk-preserved : goal.loop-chunk-preserved
+loop-chunk-preserved c =
+    c.insert.ensures.inserted ∙ one_inserted c.args.chunks c.args.nodes c.loop-chunk.placement c.args.pairs.now c.loop-chunk.chunk-index (0, 0) c.loop-chunk.invariant c.loop-chunk-test.true
