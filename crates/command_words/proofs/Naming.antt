@@ -3,9 +3,9 @@ use Rattle.std.proofs.Common.{◌≡◌, sym, refl, ℕ, true, false, cond, List
 use Rattle.std.specs.Cmp.Lexicographic.{bytes_decides}
 use Rattle.std.proofs.lemmas.Option.{none-some}
 use Rattle.collective_spec.specs.declared.kind.Kind.{Kind}
-use Rattle.collective_spec.specs.declared.kind.Kind.TheVariants.{Broadcast, Gather, Allgather, Scatter, Alltoall, Reduce, Reducescatter, Allreduce}
-use Rattle.collective_spec.specs.Kinds.{word_of}
-use Rattle.command_words.specs.Tables.{named, collectives}
+use Rattle.collective_spec.specs.declared.kind.Kind.TheVariants.{Broadcast, Gather, Allgather, Scatter, Alltoall, Reduce, Reducescatter, Allreduce, Custom}
+use Rattle.collective_spec.specs.Kinds.{word_of, every_kind}
+use Rattle.command_words.specs.Tables.{named}
 
 -- no value has a word that none is named by
 not_named : {V : Type 0} (name : V → List ℕ) (values : List V) (word : List ℕ) → ((v : V) → ¬ (name v ≡ word)) → named name values word ≡ None
@@ -15,7 +15,7 @@ not_named name (v ∷ vs) word none =
     [ true ↦ (λ e. absurd (none v ((bytes_decides (name v) word).0 e))) | false ↦ (λ _. not_named name vs word none) ] refl
 
 -- each kind of collective is found by its word
-kind_found : (kind : Kind) → named word_of collectives (word_of kind) ≡ Some kind
+kind_found : (kind : Kind) → named word_of every_kind (word_of kind) ≡ Some kind
 kind_found Broadcast = refl
 kind_found Gather = refl
 kind_found Allgather = refl
@@ -24,8 +24,9 @@ kind_found Alltoall = refl
 kind_found Reduce = refl
 kind_found Reducescatter = refl
 kind_found Allreduce = refl
+kind_found Custom = refl
 
 -- what is found by the word that each kind has is what the table says
-pub kind_named : (word : List ℕ) (result : Option Kind) → IfSome result (λ kind. word_of kind ≡ word) → ((kind : Kind) → word_of kind ≡ word → result ≡ Some kind) → result ≡ named word_of collectives word
-kind_named word (Some kind) found known = subst (λ w. Some kind ≡ named word_of collectives w) found (sym (kind_found kind))
-kind_named word None found known = sym (not_named word_of collectives word (λ kind e. none-some kind (known kind e)))
+pub kind_named : (word : List ℕ) (result : Option Kind) → IfSome result (λ kind. word_of kind ≡ word) → ((kind : Kind) → word_of kind ≡ word → result ≡ Some kind) → result ≡ named word_of every_kind word
+kind_named word (Some kind) found known = subst (λ w. Some kind ≡ named word_of every_kind w) found (sym (kind_found kind))
+kind_named word None found known = sym (not_named word_of every_kind word (λ kind e. none-some kind (known kind e)))

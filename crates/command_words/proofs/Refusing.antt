@@ -139,7 +139,7 @@ command_right n Synth v count in_n within =
     (λ k. err_then (Meets n) (required v.steps count) _ (missing n v.steps count in_n)
     (λ steps. err_then (Meets n) (required v.chunks count) _ (missing n v.chunks count in_n)
     (λ chunks. err_then (Meets n) (required v.conflicts count) _ (missing n v.conflicts count in_n)
-    (λ conflicts. err_then (Meets n) (root_taken kind v.root) _ (root_right n kind v.root within.root) (λ _. tt))))))
+    (λ conflicts. err_then (Meets n) (root_taken kind.kind v.root) _ (root_right n kind.kind v.root within.root) (λ _. tt))))))
 command_right n Check v count in_n within = tt
 command_right n Replay v count in_n within = err_then (Meets n) (required v.point count) _ (missing n v.point count in_n) (λ _. tt)
 command_right n Programs v count in_n within = err_then (Meets n) (required v.point count) _ (missing n v.point count in_n) (λ _. tt)

@@ -40,14 +40,15 @@ fn synth_from(values: Values, count: u32) -> Result<Command, WordFault>
     ensures read { result ≡ synth_from values count }
     ensures proper { IfOk result IsProper }
 {
-    let kind = required(values.collective, count)?;
+    let collective = required(values.collective, count)?;
     let k = required(values.k, count)?;
     let steps = required(values.steps, count)?;
     let chunks = required(values.chunks, count)?;
     let conflicts = required(values.conflicts, count)?;
-    root_taken(kind, values.root)?;
+    root_taken(collective.kind, values.root)?;
     Ok(Command::Synth {
-        kind,
+        kind: collective.kind,
+        kind_word: collective.word,
         limits: Limits::new(k, steps, chunks, conflicts),
         root: values.root,
     })

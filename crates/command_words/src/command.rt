@@ -18,6 +18,8 @@ pub enum Command {
     /// Searches schedules of a collective within the limits.
     Synth {
         kind: Kind,
+        /// The index of the word `collective`.
+        kind_word: u32,
         limits: Limits,
         /// The root, where one is named. Only a kind that takes a root has one.
         root: Option<RootWord>,

@@ -53,6 +53,7 @@ fn commands(rt: HostRuntime) -> Result<(), Fail> {
             ],
             Command::Synth {
                 kind: Kind::Allgather,
+                kind_word: 1,
                 limits: Limits::new(1, 3, 2, 1000),
                 root: None,
             },
@@ -79,6 +80,7 @@ fn root_of_a_broadcast(rt: HostRuntime) -> Result<(), Fail> {
     let root = Name::of_bytes(b"n_9").map(|name| RootWord { name, word: 4 });
     let command = Command::Synth {
         kind: Kind::Broadcast,
+        kind_word: 1,
         limits: Limits::new(0, 1, 1, 1000),
         root,
     };

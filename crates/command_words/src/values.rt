@@ -13,6 +13,13 @@ use collective_spec::Kind;
 use text_lines::read_number;
 use topology_text::{FamilyKind, Name};
 
+/// The kind of a collective, and the index of its word.
+#[derive(Clone, Copy)]
+pub struct KindWord {
+    pub kind: Kind,
+    pub word: u32,
+}
+
 /// The number of a point, and the index of its word.
 #[derive(Clone, Copy)]
 pub struct PointWord {
@@ -30,7 +37,7 @@ pub struct SizeWord {
 /// A value for each key that was given.
 #[derive(Clone, Copy, Default)]
 pub struct Values {
-    pub collective: Option<Kind>,
+    pub collective: Option<KindWord>,
     pub k: Option<u8>,
     pub steps: Option<u8>,
     pub chunks: Option<u8>,
@@ -106,7 +113,10 @@ impl Values {
     {
         let mut values = self;
         match key {
-            Key::Collective => values.collective = Some(collective_from(text)?),
+            Key::Collective => values.collective = Some(KindWord {
+                kind: collective_from(text)?,
+                word,
+            }),
             Key::K => values.k = Some(number_from(0, 8, text)? as u8),
             Key::Steps => values.steps = Some(number_from(1, 8, text)? as u8),
             Key::Chunks => values.chunks = Some(number_from(1, 16, text)? as u8),

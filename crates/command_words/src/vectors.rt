@@ -12,7 +12,7 @@ use topology_text::FamilyKind;
 
 /// The codes in their order.
 pub fn codes_are_numbered()
-    ensures { map number_of (WordCode.NoCommand ∷ WordCode.UnknownCommand ∷ WordCode.UnknownKey ∷ WordCode.KeyTwice ∷ WordCode.KeyMissing ∷ WordCode.BadValue ∷ WordCode.RootNotTaken ∷ WordCode.UnknownRoot ∷ WordCode.UnknownPoint ∷ WordCode.OutOfMemory ∷ WordCode.NotBuilt ∷ []) ≡ 1 ∷ 2 ∷ 3 ∷ 4 ∷ 5 ∷ 6 ∷ 7 ∷ 8 ∷ 9 ∷ 10 ∷ 11 ∷ [] }
+    ensures { map number_of (WordCode.NoCommand ∷ WordCode.UnknownCommand ∷ WordCode.UnknownKey ∷ WordCode.KeyTwice ∷ WordCode.KeyMissing ∷ WordCode.BadValue ∷ WordCode.RootNotTaken ∷ WordCode.UnknownRoot ∷ WordCode.UnknownPoint ∷ WordCode.OutOfMemory ∷ WordCode.NotBuilt ∷ WordCode.CustomMismatch ∷ []) ≡ 1 ∷ 2 ∷ 3 ∷ 4 ∷ 5 ∷ 6 ∷ 7 ∷ 8 ∷ 9 ∷ 10 ∷ 11 ∷ 12 ∷ [] }
 {}
 
 /// Each code, and the index of the word that is blamed.
@@ -29,8 +29,9 @@ pub fn refusals()
 
 /// A text of each command, and of one the keys in another order.
 pub fn commands_are_read()
-    ensures synth { command_of (words_of (codes "synth collective=broadcast k=0 steps=1 chunks=1 conflicts=1000")) ≡ Ok (Command.Synth Kind.Broadcast (record { k = 0; max_s = 1; max_c = 1; conflicts = 1000 }) None) }
-    ensures root { command_of (words_of (codes "synth root=n0 conflicts=100000 chunks=16 steps=8 k=8 collective=reduce")) ≡ Ok (Command.Synth Kind.Reduce (record { k = 8; max_s = 8; max_c = 16; conflicts = 100000 }) (Some (record { name = codes "n0"; word = 1 }))) }
+    ensures synth { command_of (words_of (codes "synth collective=broadcast k=0 steps=1 chunks=1 conflicts=1000")) ≡ Ok (Command.Synth Kind.Broadcast 1 (record { k = 0; max_s = 1; max_c = 1; conflicts = 1000 }) None) }
+    ensures root { command_of (words_of (codes "synth root=n0 conflicts=100000 chunks=16 steps=8 k=8 collective=reduce")) ≡ Ok (Command.Synth Kind.Reduce 6 (record { k = 8; max_s = 8; max_c = 16; conflicts = 100000 }) (Some (record { name = codes "n0"; word = 1 }))) }
+    ensures custom { command_of (words_of (codes "synth k=0 collective=custom steps=2 chunks=1 conflicts=1000")) ≡ Ok (Command.Synth Kind.Custom 2 (record { k = 0; max_s = 2; max_c = 1; conflicts = 1000 }) None) }
     ensures check { command_of (words_of (codes "check")) ≡ Ok Command.Check }
     ensures replay { command_of (words_of (codes "replay point=1")) ≡ Ok (Command.Replay 1 1 None) }
     ensures order { command_of (words_of (codes "replay order=0 point=65535")) ≡ Ok (Command.Replay 65535 2 (Some 0)) }
@@ -94,6 +95,8 @@ pub fn first_refusal_counts()
     ensures missing_before_size { command_of (words_of (codes "family size=6")) ≡ Err (record { code = WordCode.KeyMissing; word = 2 }) }
     ensures missing_before_root { command_of (words_of (codes "synth root=n0 collective=allgather")) ≡ Err (record { code = WordCode.KeyMissing; word = 3 }) }
     ensures at_the_size { command_of (words_of (codes "family size=2 kind=ring")) ≡ Err (record { code = WordCode.BadValue; word = 1 }) }
-    ensures custom { command_of (words_of (codes "synth collective=custom")) ≡ Err (record { code = WordCode.BadValue; word = 1 }) }
+    ensures custom { command_of (words_of (codes "synth collective=custom")) ≡ Err (record { code = WordCode.KeyMissing; word = 2 }) }
+    ensures customs { command_of (words_of (codes "synth collective=customs")) ≡ Err (record { code = WordCode.BadValue; word = 1 }) }
+    ensures custom_root { command_of (words_of (codes "synth collective=custom k=0 steps=2 chunks=1 conflicts=1000 root=a")) ≡ Err (record { code = WordCode.RootNotTaken; word = 6 }) }
     ensures long_name { command_of (words_of (codes "synth root=abcdefghijklmnopq")) ≡ Err (record { code = WordCode.BadValue; word = 1 }) }
 {}

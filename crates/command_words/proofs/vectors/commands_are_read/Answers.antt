@@ -8,6 +8,7 @@ unfolding digits command_of
 returns c = record {
   synth = refl;
   root = refl;
+  custom = refl;
   check = refl;
   replay = refl;
   order = refl;

@@ -14,5 +14,7 @@ returns c = record {
   missing_before_root = refl;
   at_the_size = refl;
   custom = refl;
+  customs = refl;
+  custom_root = refl;
   long_name = refl;
 }
