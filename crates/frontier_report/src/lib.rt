@@ -1,13 +1,33 @@
-//! Reports of a search: their values, their text, and the checks of a text.
+//! Reports of a search: their values, the printer and the reader.
 #![tactic(auto)]
 
-mod fault;
-mod laws;
-mod vectors;
+mod asked;
+mod candidates;
+mod digits;
+mod fields;
+mod frontiers;
+mod halt;
+mod heads;
+mod lines;
+mod listed;
+mod numbered;
+mod points;
+mod printing;
+mod question;
+mod reading;
+mod report;
+mod rounds;
+mod sends;
+#[cfg(test)]
+mod tests;
+mod topology;
+mod wide;
+mod words;
 
-pub use fault::{ReportCode, ReportFault};
-pub use laws::{one_line_fails_first, tests_decide, what_is_read_is_spelled};
-pub use vectors::{
-    broadcasts_refused, numbers_checked, order_of_checks, order_of_lines, relays_refused, texts,
-    texts_read,
-};
+pub use numbered::point_at;
+pub use printing::print_report;
+pub use reading::read_report;
+pub use report::Report;
+pub use report_form::{ReportCode, ReportFault};
+pub use std::alloc::AllocError as OutOfMemory;
+pub use words::Words;

@@ -1,8 +1,0 @@
-use Rattle.frontier_report.proofs.Blamed.{one_line, empty_fails}
-use Rattle.frontier_report.proofs.laws.one_line_fails_first.Goals as goal
-
-pub returns-clause-unique : goal.returns-clause-unique
-returns-clause-unique c = one_line
-
-pub returns-clause-empty : goal.returns-clause-empty
-returns-clause-empty c = empty_fails

@@ -1,0 +1,19 @@
+use Rattle.std.proofs.Common.{◌≡◌, ◌+◌, ◌≤◌, None, length, map}
+use Rattle.std.specs.Prelude.{codes}
+use Rattle.std.specs.List.{last_or}
+use Rattle.report_form.specs.Lines.{lines_from, lines_at}
+use Rattle.report_form.specs.Reading.{unknown_line}
+use Rattle.frontier_report.specs.Asking.{asks}
+use Rattle.frontier_report.proofs.listed.unknown_part.Given as goal
+
+abbrev pub invariant-loop-line : goal.invariant-loop-line
+invariant-loop-line l = record {
+  read : lines_from (codes "unknown ") (unknown_line (asks l.question)) l.unknown.items l.lines.place.number l.lines.place.rows ≡ lines_at (codes "unknown ") (unknown_line (asks l.question)) l.initial.lines.place;
+  last : l.last ≡ last_or None (map (λ u. u.candidate) l.unknown.items);
+  text : l.lines.text ≡ l.text;
+  number : l.lines.place.number + length l.lines.place.rows ≡ l.initial.lines.place.number + length l.initial.lines.place.rows;
+  fewer : length l.lines.place.rows ≤ length l.initial.lines.place.rows;
+}
+
+abbrev pub decreases-loop-line : goal.decreases-loop-line
+decreases-loop-line l = length l.lines.place.rows

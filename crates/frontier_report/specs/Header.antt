@@ -1,0 +1,26 @@
+-- The topology's header among a report's lines, and refusals of the topology. This project's own.
+use Rattle.std.specs.Prelude.{ℕ, ◌-◌, not, Bool, List, Result, Ok, slice_get}
+use Rattle.text_lines.specs.Text.{Row, Place, rows_of}
+use Rattle.text_lines.specs.Check.{◌>>=◌, refuse, at_line, line_part}
+use Rattle.text_lines.specs.declared.stop.Stop.{Stop}
+use Rattle.text_lines.specs.declared.stop.Stop.TheVariants as stop
+use Rattle.topology_text.specs.declared.fault.TopologyCode.{TopologyCode}
+use Rattle.topology_text.specs.Reading.{header_line}
+use Rattle.report_form.specs.declared.fault.ReportCode.{ReportCode}
+use Rattle.report_form.specs.declared.fault.ReportCode.TheVariants as code
+use Rattle.report_form.specs.Lines.{among, blamed, whole_line}
+use Rattle.report_form.specs.Reading.{is_same}
+use Rattle.frontier_report.specs.declared.halt.Halt.{Halt}
+use Rattle.frontier_report.specs.declared.halt.Halt.TheVariants.{Memory, Refused}
+
+-- the header, of the report's version
+abbrev pub header_at : List Row → Bool → Place → Result Place (ReportCode × ℕ)
+header_at rows patterned p = do
+  header ← among rows (line_part header_line p)
+  _ ← at_line p.number (refuse (not (is_same header.0 patterned)) code.BadLine)
+  Ok header.1
+
+-- a refusal of the topology's text, as one of the report's
+abbrev pub halted : List ℕ → Stop (TopologyCode × ℕ) → Halt
+halted text stop.Memory = Memory
+halted text (stop.Refused e) = Refused (record { code = blamed (whole_line (slice_get (rows_of text) (e.1 - 1))); line = e.1 })

@@ -1,0 +1,166 @@
+//! The parts of a report, and what follows them.
+
+ghost use Rattle.std.specs.Prelude.{◌≡◌, ◌≤◌, ◌+◌, length, OnOk};
+ghost use Rattle.report_form.specs.Reports.{parts_of};
+ghost use Rattle.report_form.specs.Reading.{body_of, frontier_at, frontiers_from, joined_at, part_bytes};
+ghost use Rattle.frontier_report.specs.Asking.{asks};
+ghost use Rattle.frontier_report.specs.Bodies.{body_value};
+ghost use Rattle.frontier_report.specs.Gives.{Reads};
+ghost use Rattle.frontier_report.specs.Room.{HasRoom, Onward};
+
+use crate::halt::Halt;
+use crate::lines::{fixed_part, last_part};
+use crate::listed::{refuted_part, unknown_part};
+use crate::points::{joined_points_part, points_part};
+use crate::question::Question;
+use crate::words::Words;
+use candidate_order::{Frontier, Point};
+use collective_spec::Kind;
+use indexmap::IndexSet;
+use outer_ports::Part;
+use std::alloc::Global;
+use text_lines::Lines;
+use topology_text::{Name, NamedTopology};
+
+/// The frontier of each part, and the joined points.
+#[derive(Drop)]
+pub struct Body {
+    pub frontiers: Vec<(Part, Frontier)>,
+    pub joined: Vec<Point>,
+}
+
+/// The line that begins a part.
+fn part_bytes(part: Part) -> &'static [u8]
+    ensures { result.now ≡ part_bytes part }
+{
+    match part {
+        Part::Whole => b"frontier whole",
+        Part::Reduce => b"frontier reduce",
+        Part::Gather => b"frontier gather",
+        Part::Joined => b"joined",
+    }
+}
+
+/// The parts that have a frontier, in the order of the text.
+fn parts_of(kind: Kind) -> &'static [Part]
+    ensures { result.now ≡ parts_of kind }
+{
+    match kind {
+        Kind::Allreduce => &[Part::Reduce, Part::Gather],
+        _ => &[Part::Whole],
+    }
+}
+
+/// Takes a frontier: its points, then what is refuted, then what is unknown.
+#[tactic(auto, unfolding(report_form::specs::Reading::frontier_at))]
+fn frontier_part(
+    alloc: Global,
+    text: &[u8],
+    lines: &mut Lines<'_>,
+    names: &IndexSet<Name>,
+    question: &Question<'_>,
+) -> Result<Frontier, Halt>
+    requires same { lines.old.text ≡ text.now }
+    requires room { HasRoom lines.old.place }
+    requires few { length names.now.keys ≤ 16 }
+    requires names { length names.now.keys ≡ (asks question.now).topology.nodes }
+    ensures read { Reads (λ frontier. (frontier, lines.new.place)) result (frontier_at names.now.keys (asks question.now) question.now.part lines.old.place) }
+    ensures text { lines.new.text ≡ lines.old.text }
+    ensures onward { OnOk result (Onward lines.old.place lines.new.place) }
+{
+    fixed_part(text, lines, part_bytes(question.part))?;
+    let points = points_part(alloc, text, lines, names, question)?;
+    let refuted = refuted_part(alloc, text, lines, question)?;
+    let unknown = unknown_part(alloc, text, lines, question)?;
+    Ok(Frontier::new(points, refuted, unknown))
+}
+
+/// Takes a frontier for each of these parts.
+fn frontiers_of(
+    alloc: Global,
+    text: &[u8],
+    lines: &mut Lines<'_>,
+    names: &IndexSet<Name>,
+    words: Words,
+    topology: &NamedTopology,
+    parts: &[Part],
+) -> Result<Vec<(Part, Frontier)>, Halt>
+    requires same { lines.old.text ≡ text.now }
+    requires room { HasRoom lines.old.place }
+    requires few { length names.now.keys ≤ 16 }
+    requires names { names.now.keys ≡ topology.now.names }
+    requires nodes { length names.now.keys ≡ topology.now.topology.nodes }
+    ensures read { Reads (λ v. (v.items, lines.new.place)) result (frontiers_from words topology.now parts.now lines.old.place) }
+    ensures text { lines.new.text ≡ lines.old.text }
+    ensures onward { OnOk result (Onward lines.old.place lines.new.place) }
+{
+    let mut frontiers: Vec<(Part, Frontier)> = Vec::new(alloc);
+    for part in parts {
+        let part = *part;
+        let question = Question {
+            words,
+            topology,
+            part,
+        };
+        let frontier = frontier_part(alloc, text, lines, names, &question)?;
+        frontiers.push((part, frontier))?;
+    }
+    Ok(frontiers)
+}
+
+/// Takes the joined points, which only an allreduce has.
+fn joined_part(
+    alloc: Global,
+    text: &[u8],
+    lines: &mut Lines<'_>,
+    names: &IndexSet<Name>,
+    words: Words,
+    topology: &NamedTopology,
+) -> Result<Vec<Point>, Halt>
+    requires same { lines.old.text ≡ text.now }
+    requires room { HasRoom lines.old.place }
+    requires few { length names.now.keys ≤ 16 }
+    requires names { names.now.keys ≡ topology.now.names }
+    requires nodes { length names.now.keys ≡ topology.now.topology.nodes }
+    ensures read { Reads (λ v. (v.items, lines.new.place)) result (joined_at words.collective.kind words topology.now lines.old.place) }
+    ensures text { lines.new.text ≡ lines.old.text }
+    ensures onward { OnOk result (Onward lines.old.place lines.new.place) }
+{
+    match words.collective().kind {
+        Kind::Allreduce => {
+            let question = Question {
+                words,
+                topology,
+                part: Part::Joined,
+            };
+            fixed_part(text, lines, part_bytes(Part::Joined))?;
+            joined_points_part(alloc, text, lines, names, &question)
+        }
+        _ => Ok(Vec::new(alloc)),
+    }
+}
+
+/// Takes all that stands behind the topology.
+#[tactic(auto, unfolding(report_form::specs::Reading::body_of))]
+pub fn body_part(
+    alloc: Global,
+    text: &[u8],
+    lines: &mut Lines<'_>,
+    names: &IndexSet<Name>,
+    words: Words,
+    topology: &NamedTopology,
+) -> Result<Body, Halt>
+    requires same { lines.old.text ≡ text.now }
+    requires room { HasRoom lines.old.place }
+    requires few { length names.now.keys ≤ 16 }
+    requires names { names.now.keys ≡ topology.now.names }
+    requires nodes { length names.now.keys ≡ topology.now.topology.nodes }
+    ensures { Reads (body_value words topology.now) result (body_of words topology.now lines.old.place) }
+{
+    let parts = parts_of(words.collective().kind);
+    let frontiers = frontiers_of(alloc, text, lines, names, words, topology, parts)?;
+    let joined = joined_part(alloc, text, lines, names, words, topology)?;
+    fixed_part(text, lines, b"end")?;
+    last_part(lines)?;
+    Ok(Body { frontiers, joined })
+}

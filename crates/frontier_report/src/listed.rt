@@ -1,0 +1,144 @@
+//! The lines of refuted and of unknown candidates.
+
+ghost use Rattle.std.specs.Prelude.{◌≡◌, ◌≤◌, ◌+◌, Some, codes, length, OnOk};
+ghost use Rattle.text_lines.specs.Line.{IsIn, row_at};
+ghost use Rattle.report_form.specs.Lines.{lines_at};
+ghost use Rattle.report_form.specs.Reading.{refuted_line, unknown_line};
+ghost use Rattle.frontier_report.specs.After.{refuted_after, unknown_after};
+ghost use Rattle.frontier_report.specs.Asking.{asks};
+ghost use Rattle.frontier_report.specs.Gives.{Reads, Tells};
+ghost use Rattle.frontier_report.specs.Room.{HasRoom, Onward};
+
+use crate::candidates::{candidate_of, comes_next, within};
+use crate::digits::{next_digits, spells};
+use crate::fields::{fixed_word, no_more};
+use crate::halt::Halt;
+use crate::lines::{begins, tokens_on};
+use crate::question::Question;
+use candidate_order::{Candidate, Unknown};
+use report_form::{ReportCode, ReportFault};
+use std::alloc::Global;
+use text_lines::{Line, Lines, Tokens};
+
+/// A refuted candidate, behind the last one.
+fn refuted_on(
+    text: &[u8],
+    line: Line,
+    question: &Question<'_>,
+    last: Option<Candidate>,
+) -> Result<Candidate, ReportCode>
+    requires { IsIn text.now line }
+    ensures { Tells (λ x. x) result (refuted_after (asks question.now) last (Some (row_at text.now line))) }
+{
+    let mut tokens = tokens_on(text, line)?;
+    fixed_word(&mut tokens, b"refuted")?;
+    let x = candidate_of(&mut tokens)?;
+    no_more(&mut tokens)?;
+    let Some(candidate) = within(question, x) else {
+        return Err(ReportCode::Limits);
+    };
+    if !comes_next(last, candidate) {
+        return Err(ReportCode::Limits);
+    }
+    Ok(candidate)
+}
+
+/// Takes the lines of refuted candidates, up to the first line that is none.
+pub fn refuted_part(
+    alloc: Global,
+    text: &[u8],
+    lines: &mut Lines<'_>,
+    question: &Question<'_>,
+) -> Result<Vec<Candidate>, Halt>
+    requires same { lines.old.text ≡ text.now }
+    requires room { HasRoom lines.old.place }
+    ensures read { Reads (λ v. (v.items, lines.new.place)) result (lines_at (codes "refuted ") (refuted_line (asks question.now)) lines.old.place) }
+    ensures text { lines.new.text ≡ lines.old.text }
+    ensures onward { OnOk result (Onward lines.old.place lines.new.place) }
+{
+    let mut refuted = Vec::new(alloc);
+    let mut last = None;
+    while let Some(line) = lines.peek() {
+        if !begins(text, line, b"refuted ") {
+            break;
+        }
+        match refuted_on(text, line, question, last) {
+            Ok(candidate) => {
+                refuted.push(candidate)?;
+                last = Some(candidate);
+            }
+            Err(code) => {
+                return Err(Halt::Refused(ReportFault {
+                    code,
+                    line: line.number,
+                }));
+            }
+        }
+        let _ = lines.next();
+    }
+    Ok(refuted)
+}
+
+/// An unknown candidate, behind the last one.
+fn unknown_on(
+    text: &[u8],
+    line: Line,
+    question: &Question<'_>,
+    last: Option<Candidate>,
+) -> Result<Unknown, ReportCode>
+    requires { IsIn text.now line }
+    ensures { Tells (λ u. u) result (unknown_after (asks question.now) last (Some (row_at text.now line))) }
+{
+    let mut tokens = tokens_on(text, line)?;
+    fixed_word(&mut tokens, b"unknown")?;
+    let x = candidate_of(&mut tokens)?;
+    let digits = next_digits(&mut tokens)?;
+    no_more(&mut tokens)?;
+    let conflicts = question.limits().conflicts();
+    let Some(candidate) = within(question, x) else {
+        return Err(ReportCode::Limits);
+    };
+    if !comes_next(last, candidate) {
+        return Err(ReportCode::Limits);
+    }
+    if !spells(digits, conflicts) {
+        return Err(ReportCode::Limits);
+    }
+    Ok(Unknown::new(candidate, conflicts))
+}
+
+/// Takes the lines of unknown candidates, up to the first line that is none.
+pub fn unknown_part(
+    alloc: Global,
+    text: &[u8],
+    lines: &mut Lines<'_>,
+    question: &Question<'_>,
+) -> Result<Vec<Unknown>, Halt>
+    requires same { lines.old.text ≡ text.now }
+    requires room { HasRoom lines.old.place }
+    ensures read { Reads (λ v. (v.items, lines.new.place)) result (lines_at (codes "unknown ") (unknown_line (asks question.now)) lines.old.place) }
+    ensures text { lines.new.text ≡ lines.old.text }
+    ensures onward { OnOk result (Onward lines.old.place lines.new.place) }
+{
+    let mut unknown: Vec<Unknown> = Vec::new(alloc);
+    let mut last = None;
+    while let Some(line) = lines.peek() {
+        if !begins(text, line, b"unknown ") {
+            break;
+        }
+        match unknown_on(text, line, question, last) {
+            Ok(candidate) => {
+                last = Some(candidate.candidate());
+                unknown.push(candidate)?;
+            }
+            Err(code) => {
+                return Err(Halt::Refused(ReportFault {
+                    code,
+                    line: line.number,
+                }));
+            }
+        }
+        let _ = lines.next();
+    }
+    Ok(unknown)
+}

@@ -1,0 +1,154 @@
+//! The points of a report, each of several lines.
+
+ghost use Rattle.std.specs.Prelude.{◌≡◌, [], ◌≤◌, ◌<◌, ◌+◌, codes, length, OnOk};
+ghost use Rattle.report_form.specs.Lines.{parts_at};
+ghost use Rattle.report_form.specs.Points.{frontier_point_at, joined_point_at, schedule_at};
+ghost use Rattle.frontier_report.specs.After.{point_after};
+ghost use Rattle.frontier_report.specs.Asking.{asks};
+ghost use Rattle.frontier_report.specs.Gives.{Reads};
+ghost use Rattle.frontier_report.specs.Heads.{head_value};
+ghost use Rattle.frontier_report.specs.Room.{HasRoom, Onward};
+
+use crate::halt::Halt;
+use crate::heads::{Head, head_part, joined_head_part};
+use crate::lines::next_begins;
+use crate::question::Question;
+use crate::rounds::rounds_part;
+use crate::sends::{Extent, sends_part};
+use candidate_order::{Candidate, Point};
+use indexmap::IndexSet;
+use schedule::Schedule;
+use std::alloc::Global;
+use text_lines::Lines;
+use topology_text::Name;
+
+/// Takes the lines behind that of the candidate.
+#[tactic(auto, unfolding(report_form::specs::Points::schedule_at))]
+fn schedule_part(
+    alloc: Global,
+    text: &[u8],
+    lines: &mut Lines<'_>,
+    names: &IndexSet<Name>,
+    question: &Question<'_>,
+    head: Head,
+) -> Result<Point, Halt>
+    requires same { lines.old.text ≡ text.now }
+    requires room { HasRoom lines.old.place }
+    requires few { length names.now.keys ≤ 16 }
+    requires names { length names.now.keys ≡ (asks question.now).topology.nodes }
+    requires some { 1 ≤ head.candidate.s }
+    requires steps { head.candidate.s ≤ 16 }
+    ensures read { Reads (λ point. (point, lines.new.place)) result (schedule_at names.now.keys (asks question.now) (head_value head) lines.old.place) }
+    ensures text { lines.new.text ≡ lines.old.text }
+    ensures onward { OnOk result (Onward lines.old.place lines.new.place) }
+    ensures fewer { OnOk result (length lines.new.place.rows ≤ length lines.old.place.rows) }
+{
+    let rounds = rounds_part(alloc, text, lines, head.candidate)?;
+    let extent = Extent {
+        chunks: question.chunks(head.candidate.c),
+        steps: head.candidate.s,
+    };
+    let sends = sends_part(alloc, text, lines, names, extent)?;
+    let schedule = Schedule::new(rounds, sends);
+    Ok(Point::new(head.candidate, schedule, head.mark))
+}
+
+/// Takes a point of a frontier, behind the last one.
+fn point_part(
+    alloc: Global,
+    text: &[u8],
+    lines: &mut Lines<'_>,
+    names: &IndexSet<Name>,
+    question: &Question<'_>,
+    last: Option<Candidate>,
+) -> Result<Point, Halt>
+    requires same { lines.old.text ≡ text.now }
+    requires room { HasRoom lines.old.place }
+    requires few { length names.now.keys ≤ 16 }
+    requires names { length names.now.keys ≡ (asks question.now).topology.nodes }
+    ensures read { Reads (λ point. (point, lines.new.place)) result (point_after names.now.keys (asks question.now) last lines.old.place) }
+    ensures text { lines.new.text ≡ lines.old.text }
+    ensures onward { OnOk result (Onward lines.old.place lines.new.place) }
+    ensures fewer { OnOk result (length lines.new.place.rows < length lines.old.place.rows) }
+{
+    let head = head_part(text, lines, question, last)?;
+    schedule_part(alloc, text, lines, names, question, head)
+}
+
+/// Takes the points of a frontier, up to the first line that begins none.
+pub fn points_part(
+    alloc: Global,
+    text: &[u8],
+    lines: &mut Lines<'_>,
+    names: &IndexSet<Name>,
+    question: &Question<'_>,
+) -> Result<Vec<Point>, Halt>
+    requires same { lines.old.text ≡ text.now }
+    requires room { HasRoom lines.old.place }
+    requires few { length names.now.keys ≤ 16 }
+    requires names { length names.now.keys ≡ (asks question.now).topology.nodes }
+    ensures read { Reads (λ v. (v.items, lines.new.place)) result (parts_at (codes "point ") (frontier_point_at names.now.keys (asks question.now)) lines.old.place) }
+    ensures text { lines.new.text ≡ lines.old.text }
+    ensures onward { OnOk result (Onward lines.old.place lines.new.place) }
+{
+    let mut points: Vec<Point> = Vec::new(alloc);
+    let mut last = None;
+    while next_begins(text, lines, b"point ") {
+        let point = match point_part(alloc, text, lines, names, question, last) {
+            Ok(point) => point,
+            Err(halt) => return Err(halt),
+        };
+        last = Some(point.candidate());
+        points.push(point)?;
+    }
+    Ok(points)
+}
+
+/// Takes a joined point.
+#[tactic(auto, unfolding(report_form::specs::Points::joined_point_at))]
+fn joined_point_part(
+    alloc: Global,
+    text: &[u8],
+    lines: &mut Lines<'_>,
+    names: &IndexSet<Name>,
+    question: &Question<'_>,
+) -> Result<Point, Halt>
+    requires same { lines.old.text ≡ text.now }
+    requires room { HasRoom lines.old.place }
+    requires few { length names.now.keys ≤ 16 }
+    requires names { length names.now.keys ≡ (asks question.now).topology.nodes }
+    ensures read { Reads (λ point. (point, lines.new.place)) result (joined_point_at names.now.keys (asks question.now) [] lines.old.place) }
+    ensures text { lines.new.text ≡ lines.old.text }
+    ensures onward { OnOk result (Onward lines.old.place lines.new.place) }
+    ensures fewer { OnOk result (length lines.new.place.rows < length lines.old.place.rows) }
+{
+    let head = joined_head_part(text, lines, question)?;
+    schedule_part(alloc, text, lines, names, question, head)
+}
+
+/// Takes the joined points, up to the first line that begins none.
+pub fn joined_points_part(
+    alloc: Global,
+    text: &[u8],
+    lines: &mut Lines<'_>,
+    names: &IndexSet<Name>,
+    question: &Question<'_>,
+) -> Result<Vec<Point>, Halt>
+    requires same { lines.old.text ≡ text.now }
+    requires room { HasRoom lines.old.place }
+    requires few { length names.now.keys ≤ 16 }
+    requires names { length names.now.keys ≡ (asks question.now).topology.nodes }
+    ensures read { Reads (λ v. (v.items, lines.new.place)) result (parts_at (codes "point ") (joined_point_at names.now.keys (asks question.now)) lines.old.place) }
+    ensures text { lines.new.text ≡ lines.old.text }
+    ensures onward { OnOk result (Onward lines.old.place lines.new.place) }
+{
+    let mut points: Vec<Point> = Vec::new(alloc);
+    while next_begins(text, lines, b"point ") {
+        let point = match joined_point_part(alloc, text, lines, names, question) {
+            Ok(point) => point,
+            Err(halt) => return Err(halt),
+        };
+        points.push(point)?;
+    }
+    Ok(points)
+}

@@ -1,0 +1,94 @@
+//! The reader of reports.
+
+ghost use Rattle.std.specs.Prelude.{◌≡◌, ◌≢◌, ◌<◌, ◌^◌, Ok, length, IfOk, IfErr};
+ghost use Rattle.report_form.specs.Reports.{ReportValue, IsReport};
+ghost use Rattle.report_form.specs.Spelling.{report_text};
+ghost use Rattle.report_form.specs.Reading.{report_of};
+ghost use Rattle.report_form.specs.Answer.{Answers};
+ghost use Rattle.report_form.specs.First.{FailsFirstAt};
+ghost use Rattle.frontier_report.specs.Bodies.{parts_value};
+ghost use Rattle.frontier_report.specs.Gives.{Reads};
+
+use crate::asked::asked_part;
+use crate::frontiers::{Body, body_part};
+use crate::halt::Halt;
+use crate::lines::version_part;
+use crate::report::Report;
+use crate::topology::{groups_in, header_at, names_at, pattern_in, root_at};
+use crate::words::Words;
+use collective_spec::Collective;
+use report_form::{ReportCode, ReportFault};
+use std::alloc::Global;
+use text_lines::Lines;
+use topology_text::NamedTopology;
+
+/// What was read of a report.
+#[derive(Drop)]
+struct Parts {
+    words: Words,
+    topology: NamedTopology,
+    body: Body,
+}
+
+#[tactic(auto, unfolding(report_form::specs::Reading::report_of))]
+fn parts_of(alloc: Global, text: &[u8]) -> Result<Parts, Halt>
+    requires { length text.now < 2 ^ 31 }
+    ensures { Reads parts_value result (report_of text.now) }
+{
+    let mut lines = Lines::new(text);
+    let patterned = version_part(text, &mut lines)?;
+    let asked = asked_part(text, &mut lines, patterned)?;
+    header_at(text, &mut lines, patterned)?;
+    let number = lines.number();
+    let names = names_at(alloc, text, &mut lines)?;
+    let root = root_at(&names, asked.root, number)?;
+    let groups = groups_in(alloc, text, &mut lines, &names)?;
+    let pattern = pattern_in(alloc, text, &mut lines, patterned, &names)?;
+    let topology = NamedTopology::from_parts(alloc, &names, groups, pattern)?;
+    let collective = Collective {
+        kind: asked.kind,
+        root,
+    };
+    let words = Words::new(collective, asked.limits);
+    let body = body_part(alloc, text, &mut lines, &names, words, &topology)?;
+    Ok(Parts {
+        words,
+        topology,
+        body,
+    })
+}
+
+fn answered(alloc: Global, bytes: &[u8]) -> Result<Report, ReportFault>
+    requires { length bytes.now < 2 ^ 31 }
+    ensures { Answers result (report_of bytes.now) }
+{
+    match parts_of(alloc, bytes) {
+        Ok(parts) => Ok(Report::new(
+            parts.words,
+            parts.topology,
+            parts.body.frontiers,
+            parts.body.joined,
+        )),
+        Err(Halt::Memory) => Err(ReportFault {
+            code: ReportCode::OutOfMemory,
+            line: 0,
+        }),
+        Err(Halt::Refused(fault)) => Err(fault),
+    }
+}
+
+/// The report that the text spells, all of the text, which is shorter than 2 GiB, so that its lines have numbers. A
+/// fault names the first check that fails, and its line.
+pub fn read_report(alloc: Global, bytes: &[u8]) -> Result<Report, ReportFault>
+    requires { length bytes.now < 2 ^ 31 }
+    // What is read is spelled so.
+    ensures found { IfOk result (λ r. IsReport r × (bytes.now ≡ report_text r)) }
+    // What is spelled so is read, unless memory runs out.
+    ensures only { (r : ReportValue) → IsReport r → bytes.now ≡ report_text r → Answers result (Ok r) }
+    // Which check fails first, and on which line.
+    ensures exact { Answers result (report_of bytes.now) }
+    // Up to that line the text could still be a report's, and with it no longer.
+    ensures first { IfErr result (λ fault. fault.code ≢ ReportCode.OutOfMemory → FailsFirstAt bytes.now fault.line) }
+{
+    answered(alloc, bytes)
+}

@@ -1,0 +1,153 @@
+//! The topology's lines among those of a report.
+
+ghost use Rattle.std.specs.Prelude.{◌≡◌, ◌≤◌, ◌+◌, ◌-◌, length, slice_get, IfOk, IfSome, OnOk};
+ghost use Rattle.text_lines.specs.Text.{rows_of};
+ghost use Rattle.text_lines.specs.Check.{at_line, line_part};
+ghost use Rattle.collective_spec.specs.Patterns.{IsPattern};
+ghost use Rattle.topology_text.specs.Reading.{groups_at, header_line, nodes_line, pattern_at};
+ghost use Rattle.report_form.specs.Asked.{root_of};
+ghost use Rattle.report_form.specs.Lines.{among, blamed, whole_line};
+ghost use Rattle.frontier_report.specs.Gives.{Reads, TellsAt};
+ghost use Rattle.frontier_report.specs.Header.{halted, header_at};
+ghost use Rattle.frontier_report.specs.Room.{HasMuchRoom, Onward};
+
+use crate::halt::Halt;
+use collective_spec::Pattern;
+use indexmap::IndexSet;
+use report_form::{ReportCode, ReportFault};
+use schedule::Group;
+use std::alloc::Global;
+use text_lines::{Lines, Stop};
+use topology_text::{Name, TopologyCode, groups_part, header_part, nodes_part, pattern_part};
+
+/// Why a line at which the topology's checks fail is refused: it may be lacking, or lack its line feed.
+fn blame(text: &[u8], number: u32) -> ReportCode
+    ensures { result ≡ blamed (whole_line (slice_get (rows_of text.now) (number - 1))) }
+{
+    let mut lines = Lines::new(text);
+    while lines.number() < number {
+        if lines.next().is_none() {
+            break;
+        }
+    }
+    match lines.peek() {
+        Some(line) if line.whole => ReportCode::BadLine,
+        _ => ReportCode::Truncated,
+    }
+}
+
+/// A refusal of the topology's text, as one of the report's.
+fn among(text: &[u8], fault: (TopologyCode, u32)) -> ReportFault
+    ensures { result ≡ record { code = blamed (whole_line (slice_get (rows_of text.now) (fault.1 - 1))); line = fault.1 } }
+{
+    ReportFault {
+        code: blame(text, fault.1),
+        line: fault.1,
+    }
+}
+
+fn halted(text: &[u8], stop: Stop<(TopologyCode, u32)>) -> Halt
+    ensures { result ≡ halted text.now stop }
+{
+    match stop {
+        Stop::Memory => Halt::Memory,
+        Stop::Refused(fault) => Halt::Refused(among(text, fault)),
+    }
+}
+
+/// Takes the topology's header, which is to be of the report's version.
+pub fn header_at(text: &[u8], lines: &mut Lines<'_>, patterned: bool) -> Result<(), ReportFault>
+    requires same { lines.old.text ≡ text.now }
+    requires room { HasMuchRoom lines.old.place }
+    ensures read { TellsAt (λ _. lines.new.place) result (header_at (rows_of text.now) patterned lines.old.place) }
+    ensures text { lines.new.text ≡ lines.old.text }
+    ensures onward { OnOk result (Onward lines.old.place lines.new.place) }
+{
+    let number = lines.number();
+    let said = match header_part(text, lines) {
+        Ok(said) => said,
+        Err(fault) => return Err(among(text, fault)),
+    };
+    if said == patterned {
+        Ok(())
+    } else {
+        Err(ReportFault {
+            code: ReportCode::BadLine,
+            line: number,
+        })
+    }
+}
+
+/// Takes the names of the nodes.
+pub fn names_at(alloc: Global, text: &[u8], lines: &mut Lines<'_>) -> Result<IndexSet<Name>, Halt>
+    requires same { lines.old.text ≡ text.now }
+    requires room { HasMuchRoom lines.old.place }
+    ensures read { Reads (λ names. (names.keys, lines.new.place)) result (among (rows_of text.now) (line_part nodes_line lines.old.place)) }
+    ensures few { IfOk result (λ names. length names.keys ≤ 16) }
+    ensures text { lines.new.text ≡ lines.old.text }
+    ensures onward { OnOk result (Onward lines.old.place lines.new.place) }
+{
+    match nodes_part(alloc, text, lines) {
+        Ok(names) => Ok(names),
+        Err(stop) => Err(halted(text, stop)),
+    }
+}
+
+/// The node of the root; 0 where the collective takes none. The names stand on that line.
+pub fn root_at(names: &IndexSet<Name>, root: Option<Name>, line: u32) -> Result<u8, ReportFault>
+    requires { length names.now.keys ≤ 16 }
+    ensures { TellsAt (λ root. root) result (at_line line (root_of names.now.keys root)) }
+{
+    let Some(name) = root else {
+        return Ok(0);
+    };
+    match names.get_index_of(name.as_bytes()) {
+        Some(node) => Ok(node as u8),
+        None => Err(ReportFault {
+            code: ReportCode::Limits,
+            line,
+        }),
+    }
+}
+
+/// Takes the groups of links.
+pub fn groups_in(
+    alloc: Global,
+    text: &[u8],
+    lines: &mut Lines<'_>,
+    names: &IndexSet<Name>,
+) -> Result<Vec<Group>, Halt>
+    requires same { lines.old.text ≡ text.now }
+    requires room { HasMuchRoom lines.old.place }
+    requires few { length names.now.keys ≤ 16 }
+    ensures read { Reads (λ v. (v.items, lines.new.place)) result (among (rows_of text.now) (groups_at names.now.keys lines.old.place)) }
+    ensures text { lines.new.text ≡ lines.old.text }
+    ensures onward { OnOk result (Onward lines.old.place lines.new.place) }
+{
+    match groups_part(alloc, text, names, lines) {
+        Ok(groups) => Ok(groups),
+        Err(stop) => Err(halted(text, stop)),
+    }
+}
+
+/// Takes the pattern, which a report of version 2 has.
+pub fn pattern_in(
+    alloc: Global,
+    text: &[u8],
+    lines: &mut Lines<'_>,
+    patterned: bool,
+    names: &IndexSet<Name>,
+) -> Result<Option<Pattern>, Halt>
+    requires same { lines.old.text ≡ text.now }
+    requires room { HasMuchRoom lines.old.place }
+    requires few { length names.now.keys ≤ 16 }
+    ensures read { Reads (λ pattern. (pattern, lines.new.place)) result (among (rows_of text.now) (pattern_at patterned names.now.keys lines.old.place)) }
+    ensures limits { IfOk result (λ pattern. IfSome pattern (IsPattern (length names.now.keys))) }
+    ensures text { lines.new.text ≡ lines.old.text }
+    ensures onward { OnOk result (Onward lines.old.place lines.new.place) }
+{
+    match pattern_part(alloc, text, patterned, names, lines) {
+        Ok(pattern) => Ok(pattern),
+        Err(stop) => Err(halted(text, stop)),
+    }
+}

@@ -1,0 +1,12 @@
+pub mod Tested
+pub mod Ascending
+pub mod Tokens
+pub mod LineTaken
+pub mod Shapes
+pub mod ListsTaken
+pub mod PointsTaken
+pub mod AskedTaken
+pub mod JoinedTaken
+pub mod FrontiersTaken
+pub mod ReportTaken
+pub mod Blamed

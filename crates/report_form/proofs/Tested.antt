@@ -1,0 +1,68 @@
+-- Each test of limits and of candidates is true exactly where what it tests holds.
+use Rattle.std.proofs.Common.{ℕ, ◌+◌, ◌*◌, ◌≤◌}
+use Rattle.std.specs.Prelude.{◌==◌, ◌&&◌, ◌||◌, ◌⊎◌, Bool, nat_le, nat_lt, IsTrue, Decides}
+use Rattle.std.proofs.lemmas.Bool.{leb-true, le-leb}
+use Rattle.std.proofs.lemmas.Bool.Decides.{Decides-and, Decides-or, Decides-eqb, Decides-ltb}
+use Rattle.collective_spec.specs.Kinds.{allows}
+use Rattle.collective_spec.specs.Collectives.{kind_in}
+use Rattle.candidate_order.specs.declared.candidate.Candidate.{Candidate}
+use Rattle.candidate_order.specs.Ranges.{LimitsValue, IsLimits}
+use Rattle.candidate_order.specs.Costs.{NoWorse, Better, Before}
+use Rattle.candidate_order.specs.Frontiers.{QuestionValue, IsWithin}
+use Rattle.report_form.specs.Tests.{are_limits, is_within, is_no_worse, is_better, is_before}
+
+leb_decides : (a b : ℕ) → Decides (nat_le a b) (a ≤ b)
+leb_decides a b = (leb-true a b, le-leb a b)
+
+by_parts : {P Q : Type 0} (r : Bool) → Decides r P → (P → Q) → (Q → P) → Decides r Q
+by_parts r d to from = (λ e. to (d.0 e), λ q. d.1 (from q))
+
+itself : (b : Bool) → Decides b (IsTrue b)
+itself b = (λ e. e, λ e. e)
+
+-- two tests, and the rest
+both : {P Q : Type 0} (x y : Bool) → Decides x P → Decides y Q → Decides (x && y) (P × Q)
+both x y dx dy = Decides-and x y dx dy
+
+either : {P Q : Type 0} (x y : Bool) → Decides x P → Decides y Q → Decides (x || y) (P ⊎ Q)
+either x y dx dy = Decides-or x y dx dy
+
+pub decides_no_worse : (a b : Candidate) → Decides (is_no_worse a b) (NoWorse a b)
+decides_no_worse a b = both (nat_le a.s b.s) (nat_le (a.r * b.c) (b.r * a.c)) (leb_decides _ _) (leb_decides _ _)
+
+pub decides_better : (a b : Candidate) → Decides (is_better a b) (Better a b)
+decides_better a b = both (is_no_worse a b) (nat_lt a.s b.s || nat_lt (a.r * b.c) (b.r * a.c)) (decides_no_worse a b)
+    (either (nat_lt a.s b.s) (nat_lt (a.r * b.c) (b.r * a.c)) (Decides-ltb _ _) (Decides-ltb _ _))
+
+pub decides_before : (a b : Candidate) → Decides (is_before a b) (Before a b)
+decides_before a b =
+    let chunks = both (a.r * b.c == b.r * a.c) (nat_lt a.c b.c) (Decides-eqb _ _) (Decides-ltb _ _) in
+    let costs = either (nat_lt (a.r * b.c) (b.r * a.c)) (a.r * b.c == b.r * a.c && nat_lt a.c b.c) (Decides-ltb _ _) chunks in
+    let steps = both (a.s == b.s) (nat_lt (a.r * b.c) (b.r * a.c) || (a.r * b.c == b.r * a.c && nat_lt a.c b.c)) (Decides-eqb _ _) costs in
+    either (nat_lt a.s b.s) (a.s == b.s && (nat_lt (a.r * b.c) (b.r * a.c) || (a.r * b.c == b.r * a.c && nat_lt a.c b.c))) (Decides-ltb _ _) steps
+
+-- six tests in a row
+six : {P Q R S T U : Type 0} (p q r s t u : Bool) → Decides p P → Decides q Q → Decides r R → Decides s S → Decides t T → Decides u U
+    → Decides (p && q && r && s && t && u) (((((P × Q) × R) × S) × T) × U)
+six p q r s t u dp dq dr ds dt du =
+    both (p && q && r && s && t) u
+    (both (p && q && r && s) t
+    (both (p && q && r) s
+    (both (p && q) r (both p q dp dq) dr) ds) dt) du
+
+pub decides_within : (q : QuestionValue) (x : Candidate) → Decides (is_within q x) (IsWithin q x)
+decides_within q x =
+    by_parts (is_within q x)
+    (six (nat_le 1 x.s) (nat_le x.s q.limits.max_s) (nat_le x.s x.r) (nat_le x.r (x.s + q.limits.k)) (nat_le x.c q.limits.max_c) (allows (kind_in q.spec) q.topology.nodes x.c)
+    (leb_decides _ _) (leb_decides _ _) (leb_decides _ _) (leb_decides _ _) (leb_decides _ _) (itself _))
+    (λ h. record { some_steps = h.0.0.0.0.0; steps = h.0.0.0.0.1; all_rounds = h.0.0.0.1; rounds = h.0.0.1; chunks = h.0.1; allowed = h.1 })
+    (λ h. (((((h.some_steps, h.steps), h.all_rounds), h.rounds), h.chunks), h.allowed))
+
+pub decides_limits : (l : LimitsValue) → Decides (are_limits l) (IsLimits l)
+decides_limits l =
+    by_parts (are_limits l)
+    (both (nat_le l.k 8 && nat_le 1 l.max_s && nat_le l.max_s 8 && nat_le 1 l.max_c && nat_le l.max_c 16 && nat_le 1 l.conflicts) (nat_le l.conflicts 100000)
+    (six (nat_le l.k 8) (nat_le 1 l.max_s) (nat_le l.max_s 8) (nat_le 1 l.max_c) (nat_le l.max_c 16) (nat_le 1 l.conflicts)
+    (leb_decides _ _) (leb_decides _ _) (leb_decides _ _) (leb_decides _ _) (leb_decides _ _) (leb_decides _ _)) (leb_decides _ _))
+    (λ h. record { k = h.0.0.0.0.0.0; some_steps = h.0.0.0.0.0.1; steps = h.0.0.0.0.1; some_chunks = h.0.0.0.1; chunks = h.0.0.1; some_conflicts = h.0.1; conflicts = h.1 })
+    (λ h. ((((((h.k, h.some_steps), h.steps), h.some_chunks), h.chunks), h.some_conflicts), h.conflicts))

@@ -1,0 +1,99 @@
+-- What the checks of tokens took stands there.
+use Rattle.std.proofs.Common.{◌≡◌, ℕ, ◌<◌, ◌^◌, Bool, true, false, ◌&&◌, not, List, [], ◌∷◌, ◌++◌, length, drop, Option, None, Some, Result, Ok, refl, sym, ap, ◌∙◌, subst, arith}
+use Rattle.std.specs.Prelude.{◌==◌, if◌then◌else◌, bytes_eq, decimal, nat_eq, nat_le}
+use Rattle.std.specs.List.{starts_with, list_all}
+use Rattle.std.specs.Str.Parse.{AllDigits, digits_value}
+use Rattle.std.proofs.lemmas.Bool.{and_parts, not-true, not-false, leb-true, eqb-false}
+use Rattle.std.proofs.lemmas.Bool.Decides.{Decides-eqb}
+use Rattle.std.proofs.lemmas.Slice.Eq.{bytes_eq-Decides, starts_is}
+use Rattle.text_lines.proofs.Checks.{need_ok, refuse_ok, ok_is}
+use Rattle.text_lines.proofs.Numbers.{up_to_found, spells, digit_is}
+use Rattle.topology_text.specs.Spelling.{name_at}
+use Rattle.topology_text.specs.Reading.{begins, node_of}
+use Rattle.topology_text.proofs.Links.{node_is}
+use Rattle.report_form.specs.declared.fault.ReportCode.{ReportCode}
+use Rattle.report_form.specs.declared.fault.ReportCode.TheVariants.{BadLine}
+use Rattle.report_form.specs.Fields.{is_digit, is_number, any_number, small_number, next_word, behind_key, fixed_word, next_number, next_node, no_more}
+
+-- ---- one token
+
+pub record WordTaken {A : Type 0} (read : List ℕ → Option A) (words : List (List ℕ)) (x : A × List (List ℕ)) : Type 0 where
+  pub word : List ℕ
+  pub stands : words ≡ word ∷ x.1
+  pub read_as : read word ≡ Some x.0
+
+abbrev with_rest : {A : Type 0} → List (List ℕ) → A → Result (A × List (List ℕ)) ReportCode
+with_rest ws x = Ok (x, ws)
+
+pub word_take : {A : Type 0} (read : List ℕ → Option A) (words : List (List ℕ)) (x : A × List (List ℕ)) → next_word read words ≡ Ok x → WordTaken read words x
+word_take read [] x e = absurd (cc)
+word_take {A} read (w ∷ ws) x e =
+    let (y, found, e1) = need_ok (read w) BadLine (with_rest ws) x e in
+    let same : (y, ws) ≡ x = ok_is {C = ReportCode} (y, ws) x e1 in
+    let P : A × List (List ℕ) → Type 0 = λ z. WordTaken read (w ∷ ws) z in
+    subst P same (record { word = w; stands = refl; read_as = found })
+
+pub fixed_take : (word : List ℕ) (words rest : List (List ℕ)) → fixed_word word words ≡ Ok rest → words ≡ word ∷ rest
+fixed_take word [] rest e = absurd (cc)
+fixed_take word (w ∷ ws) rest e =
+    let (same, e1) = refuse_ok (not (bytes_eq w word)) BadLine (λ u. Ok ws) rest e in
+    let is : w ≡ word = (bytes_eq-Decides w word).0 (not-false (bytes_eq w word) same) in
+    let left : ws ≡ rest = ok_is {C = ReportCode} ws rest e1 in
+    ap (λ x. x ∷ ws) is ∙ ap (λ xs. word ∷ xs) left
+
+pub no_more_take : (words : List (List ℕ)) (u : Unit {0}) → no_more words ≡ Ok u → words ≡ []
+no_more_take [] u e = refl
+no_more_take (w ∷ ws) u e = absurd (cc)
+
+-- ---- numbers and names
+
+pub number_take : (words : List (List ℕ)) (x : ℕ × List (List ℕ)) → next_number words ≡ Ok x → words ≡ decimal x.0 ∷ x.1
+number_take words x e =
+    let t = word_take small_number words x e in
+    t.stands ∙ ap (λ w. w ∷ x.1) (up_to_found 65535 x.0 t.word t.read_as).0
+
+pub node_take : (names words : List (List ℕ)) (x : ℕ × List (List ℕ)) → next_node names words ≡ Ok x → (words ≡ name_at names x.0 ∷ x.1) × (x.0 < length names)
+node_take names words x e =
+    let t = word_take (node_of names) words x e in
+    let (below, named) = node_is names t.word x.0 t.read_as in
+    (t.stands ∙ ap (λ w. w ∷ x.1) (sym named), below)
+
+pub if_some : {A : Type 0} (b : Bool) (o : Option A) (x : A) → (if b then o else None) ≡ Some x → (b ≡ true) × (o ≡ Some x)
+if_some true o x e = (refl, e)
+if_some false o x e = absurd (cc)
+
+pub some_is : {A : Type 0} (x y : A) → Some x ≡ Some y → x ≡ y
+some_is x y e = cc
+
+digits_all : (bs : List ℕ) → list_all is_digit bs ≡ true → AllDigits 10 bs
+digits_all [] e = tt
+digits_all (b ∷ bs) e =
+    let parts = and_parts (is_digit b) (list_all is_digit bs) e in
+    let range = and_parts (nat_le 48 b) (nat_le b 57) parts.0 in
+    let low = leb-true 48 b range.0 in
+    let high = leb-true b 57 range.1 in
+    let is = digit_is b low high in
+    (omega (arith, is, low, high), digits_all bs parts.1)
+
+-- a canonical number that is small enough is spelled by its digits
+pub canonical : (token : List ℕ) → is_number token ≡ true → digits_value 10 token < 2 ^ 64 → token ≡ decimal (digits_value 10 token)
+canonical [] e small = absurd (cc)
+canonical (b ∷ []) e small = spells (b ∷ []) (digits_all (b ∷ []) (one e)) (omega arith) (λ zero_first. refl) small
+  where
+    one : is_digit b ≡ true → (is_digit b && true) ≡ true
+    one h = ap (λ x. x && true) h
+canonical (b ∷ c ∷ bs) e small =
+    let parts = and_parts (not (b == 48)) (list_all is_digit (b ∷ c ∷ bs)) e in
+    spells (b ∷ c ∷ bs) (digits_all (b ∷ c ∷ bs) parts.1) (omega arith) (λ zero_first. absurd (eqb-false b 48 (not-true (b == 48) parts.0) zero_first)) small
+
+pub any_number_is : (token : List ℕ) (n : ℕ) → any_number token ≡ Some n → n < 2 ^ 64 → token ≡ decimal n
+any_number_is token n e small =
+    let (canon, value) = if_some (is_number token) (Some (digits_value 10 token)) n e in
+    let same : digits_value 10 token ≡ n = some_is (digits_value 10 token) n value in
+    canonical token canon (omega (arith, same, small)) ∙ ap decimal same
+
+-- a key and what stands behind it
+pub keyed_is : {A : Type 0} (key : List ℕ) (read : List ℕ → Option A) (w : List ℕ) (x : A) → behind_key key read w ≡ Some x → (w ≡ key ++ drop (length key) w) × (read (drop (length key) w) ≡ Some x)
+keyed_is key read w x e =
+    let (front, found) = if_some (begins key w) (read (drop (length key) w)) x e in
+    ((starts_is Decides-eqb w key (starts_with nat_eq w key) refl).0 front, found)

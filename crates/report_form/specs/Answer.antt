@@ -1,0 +1,18 @@
+-- What a reader's answer says.
+use Rattle.std.specs.Prelude.{◌≡◌, ℕ, Result, Ok, Err, ◌⊎◌}
+use Rattle.report_form.specs.declared.fault.ReportCode.{ReportCode}
+use Rattle.report_form.specs.declared.fault.ReportCode.TheVariants.{BadLine, Truncated, Limits, OutOfMemory}
+use Rattle.report_form.specs.declared.fault.ReportFault.{ReportFault}
+use Rattle.report_form.specs.Reports.{ReportValue}
+
+-- the numbers of the codes, by which refusals name them
+abbrev pub code_number : ReportCode → ℕ
+code_number BadLine = 1
+code_number Truncated = 2
+code_number Limits = 3
+code_number OutOfMemory = 4
+
+-- the answer is what the checks give, unless memory ran out
+abbrev pub Answers : Result ReportValue ReportFault → Result ReportValue (ReportCode × ℕ) → Type 0
+Answers (Ok r) read = read ≡ Ok r
+Answers (Err fault) read = ((fault.code ≡ OutOfMemory) × (fault.line ≡ 0)) ⊎ (read ≡ Err (fault.code, fault.line))

@@ -1,0 +1,74 @@
+-- The checks of the line that says what was asked. This project's own text.
+use Rattle.std.specs.Prelude.{ℕ, ◌&&◌, ◌||◌, not, Bool, if◌then◌else◌, List, codes, find, bytes_eq, Option, None, Some, Result, Ok}
+use Rattle.text_lines.specs.Text.{Row}
+use Rattle.text_lines.specs.Check.{◌>>=◌, refuse, need}
+use Rattle.collective_spec.specs.declared.kind.Kind.{Kind}
+use Rattle.collective_spec.specs.Kinds.{word_of, takes_root, is_custom, standard_kinds, every_kind}
+use Rattle.candidate_order.specs.Ranges.{LimitsValue}
+use Rattle.topology_text.specs.Names.{name_of}
+use Rattle.topology_text.specs.Reading.{node_of}
+use Rattle.report_form.specs.declared.fault.ReportCode.{ReportCode}
+use Rattle.report_form.specs.declared.fault.ReportCode.TheVariants as code
+use Rattle.report_form.specs.Reports.{WordsValue}
+use Rattle.report_form.specs.Fields.{any_number, next_keyed, fixed_word, no_more}
+use Rattle.report_form.specs.Lines.{tokens_line}
+use Rattle.report_form.specs.Tests.{are_limits}
+
+-- what was asked, with the root by its name, where the collective takes one
+pub record AskedValue : Type 0 where
+  pub kind : Kind
+  pub limits : LimitsValue
+  pub root : Option (List ℕ)
+
+-- the kinds that the line may name: in version 2 also the one whose pairs are given
+abbrev pub kinds_of : Bool → List Kind
+kinds_of patterned = if patterned then every_kind else standard_kinds
+
+-- the kind that the word names
+abbrev pub kind_named : Bool → List ℕ → Option Kind
+kind_named patterned word = find (λ kind. bytes_eq (word_of kind) word) (kinds_of patterned)
+
+-- the numbers of the search, of any size, and the tokens behind them
+abbrev pub limits_from : List (List ℕ) → Result (LimitsValue × List (List ℕ)) ReportCode
+limits_from words = do
+  k ← next_keyed (codes "k=") any_number words
+  steps ← next_keyed (codes "steps=") any_number k.1
+  chunks ← next_keyed (codes "chunks=") any_number steps.1
+  conflicts ← next_keyed (codes "conflicts=") any_number chunks.1
+  Ok (record { k = k.0; max_s = steps.0; max_c = chunks.0; conflicts = conflicts.0 }, conflicts.1)
+
+-- the name of the root, which stands there exactly where the collective takes one
+abbrev pub root_from : Kind → List (List ℕ) → Result (Option (List ℕ) × List (List ℕ)) ReportCode
+root_from kind words = if takes_root kind then (do
+  name ← next_keyed (codes "root=") name_of words
+  Ok (Some name.0, name.1)) else Ok (None, words)
+
+-- the shape of the line
+abbrev pub asked_from : Bool → List (List ℕ) → Result AskedValue ReportCode
+asked_from patterned words = do
+  a ← fixed_word (codes "synth") words
+  kind ← next_keyed (codes "collective=") (kind_named patterned) a
+  limits ← limits_from kind.1
+  root ← root_from kind.0 limits.1
+  _ ← no_more root.1
+  Ok (record { kind = kind.0; limits = limits.0; root = root.0 })
+
+-- the limits are in their ranges, and in version 2 the collective is the one whose pairs are given
+abbrev pub may_be_asked : Bool → AskedValue → Bool
+may_be_asked patterned asked = are_limits asked.limits && (not patterned || is_custom asked.kind)
+
+abbrev pub asked_line : Bool → Option Row → Result AskedValue ReportCode
+asked_line patterned line = do
+  words ← tokens_line line
+  asked ← asked_from patterned words
+  _ ← refuse (not (may_be_asked patterned asked)) code.Limits
+  Ok asked
+
+-- the node of the root; 0 where the collective takes none
+abbrev pub root_of : List (List ℕ) → Option (List ℕ) → Result ℕ ReportCode
+root_of names None = Ok 0
+root_of names (Some name) = need (node_of names name) code.Limits
+
+-- what was asked, with the root by its number
+abbrev pub words_from : AskedValue → ℕ → WordsValue
+words_from asked root = record { collective = record { kind = asked.kind; root = root }; limits = asked.limits }

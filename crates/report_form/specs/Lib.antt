@@ -1,0 +1,12 @@
+pub mod Reports
+pub mod Spelling
+pub mod Rows
+pub mod Answer
+pub mod Tests
+pub mod Fields
+pub mod Lines
+pub mod Asked
+pub mod Points
+pub mod Reading
+pub mod First
+pub mod Numbered

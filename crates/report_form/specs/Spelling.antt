@@ -1,0 +1,82 @@
+-- The one spelling of a report. This project's own.
+use Rattle.std.specs.Prelude.{ℕ, if◌then◌else◌, List, [], ◌∷◌, ◌++◌, map, codes, decimal}
+use Rattle.std.specs.List.{flat_map}
+use Rattle.outer_ports.specs.declared.part.Part.{Part}
+use Rattle.outer_ports.specs.declared.part.Part.TheVariants as part
+use Rattle.schedule.specs.declared.hop.Hop.{Hop}
+use Rattle.collective_spec.specs.declared.kind.Kind.{Kind}
+use Rattle.collective_spec.specs.declared.kind.Kind.TheVariants as kind
+use Rattle.collective_spec.specs.Kinds.{word_of, takes_root}
+use Rattle.candidate_order.specs.declared.candidate.Candidate.{Candidate}
+use Rattle.candidate_order.specs.declared.mark.Mark.{Mark}
+use Rattle.candidate_order.specs.declared.mark.Mark.TheVariants as mark
+use Rattle.candidate_order.specs.Frontiers.{PointValue, UnknownValue, FrontierValue}
+use Rattle.text_lines.specs.Text.{text_of}
+use Rattle.topology_text.specs.Spelling.{lines_of, name_at, version_word}
+use Rattle.report_form.specs.Reports.{WordsValue, ReportValue}
+
+-- the root by its name, where the collective takes one
+abbrev pub root_words : List (List ℕ) → WordsValue → List (List ℕ)
+root_words names w = if takes_root w.collective.kind then (codes "root=" ++ name_at names w.collective.root) ∷ [] else []
+
+-- `synth`, and each key with its value
+abbrev pub synth_words : List (List ℕ) → WordsValue → List (List ℕ)
+synth_words names w =
+    codes "synth" ∷ (codes "collective=" ++ word_of w.collective.kind) ∷ (codes "k=" ++ decimal w.limits.k) ∷ (codes "steps=" ++ decimal w.limits.max_s)
+    ∷ (codes "chunks=" ++ decimal w.limits.max_c) ∷ (codes "conflicts=" ++ decimal w.limits.conflicts) ∷ root_words names w
+
+abbrev pub mark_words : Mark → List (List ℕ)
+mark_words mark.Optimal = codes "optimal" ∷ []
+mark_words mark.Open = codes "open" ∷ []
+mark_words (mark.Joined adding) = codes "joined" ∷ decimal adding ∷ []
+
+-- the steps, the rounds and the chunk count
+abbrev pub candidate_words : Candidate → List (List ℕ)
+candidate_words x = decimal x.s ∷ decimal x.r ∷ decimal x.c ∷ []
+
+abbrev pub point_words : PointValue → List (List ℕ)
+point_words p = codes "point" ∷ candidate_words p.candidate ++ mark_words p.mark
+
+abbrev pub rounds_words : List ℕ → List (List ℕ)
+rounds_words rounds = codes "rounds" ∷ map decimal rounds
+
+abbrev pub send_words : List (List ℕ) → Hop → List (List ℕ)
+send_words names h = codes "send" ∷ decimal h.chunk ∷ name_at names h.from ∷ name_at names h.to ∷ decimal h.step ∷ []
+
+abbrev pub point_lines : List (List ℕ) → PointValue → List (List (List ℕ))
+point_lines names p = point_words p ∷ rounds_words p.schedule.rounds ∷ map (send_words names) p.schedule.sends
+
+abbrev pub refuted_words : Candidate → List (List ℕ)
+refuted_words x = codes "refuted" ∷ candidate_words x
+
+abbrev pub unknown_words : UnknownValue → List (List ℕ)
+unknown_words u = codes "unknown" ∷ candidate_words u.candidate ++ decimal u.conflicts ∷ []
+
+-- the line that begins a part
+abbrev pub part_words : Part → List (List ℕ)
+part_words part.Whole = codes "frontier" ∷ codes "whole" ∷ []
+part_words part.Reduce = codes "frontier" ∷ codes "reduce" ∷ []
+part_words part.Gather = codes "frontier" ∷ codes "gather" ∷ []
+part_words part.Joined = codes "joined" ∷ []
+
+-- a part: its points, then what is refuted, then what is unknown
+abbrev pub frontier_lines : List (List ℕ) → Part × FrontierValue → List (List (List ℕ))
+frontier_lines names x =
+    part_words x.0 ∷ (flat_map (point_lines names) x.1.points ++ (map refuted_words x.1.refuted ++ map unknown_words x.1.unknown))
+
+-- only an allreduce has joined points
+abbrev pub joined_lines : List (List ℕ) → Kind → List PointValue → List (List (List ℕ))
+joined_lines names kind.Allreduce joined = part_words part.Joined ∷ flat_map (point_lines names) joined
+joined_lines names _ joined = []
+
+abbrev pub body_lines : ReportValue → List (List (List ℕ))
+body_lines r = flat_map (frontier_lines r.topology.names) r.frontiers ++ joined_lines r.topology.names r.words.collective.kind r.joined
+
+-- the tokens of each line
+abbrev pub report_lines : ReportValue → List (List (List ℕ))
+report_lines r =
+    (codes "sccl" ∷ version_word r.topology.custom ∷ []) ∷ synth_words r.topology.names r.words
+    ∷ (lines_of r.topology ++ (body_lines r ++ (codes "end" ∷ []) ∷ []))
+
+unfoldable pub report_text : ReportValue → List ℕ
+report_text r = text_of (report_lines r)

@@ -1,0 +1,13 @@
+//! Reports of a search: their values, their text, and the checks of a text.
+#![tactic(auto)]
+
+mod fault;
+mod laws;
+mod vectors;
+
+pub use fault::{ReportCode, ReportFault};
+pub use laws::{one_line_fails_first, tests_decide, what_is_read_is_spelled};
+pub use vectors::{
+    broadcasts_refused, numbers_checked, order_of_checks, order_of_lines, patterns_refused,
+    relays_refused, texts, texts_read, versions_refused,
+};

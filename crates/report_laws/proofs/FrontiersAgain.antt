@@ -1,0 +1,198 @@
+-- The lines of a report's parts that are spelled are read.
+use Rattle.std.proofs.Common.{◌≡◌, ℕ, ◌+◌, ◌≤◌, List, [], ◌∷◌, ◌++◌, map, length, Result, Ok, refl, sym, ap, ◌∙◌, arith}
+use Rattle.std.specs.Prelude.{◌≢◌, codes, flat_map, All, IfSome}
+use Rattle.std.proofs.lemmas.List.{length-append, length-map}
+use Rattle.std.proofs.lemmas.List.Elements.{All-head, All-tail, All-map, All-weaker}
+use Rattle.text_lines.specs.Text.{Row, Place}
+use Rattle.text_lines.specs.Check.{◌>>=◌}
+use Rattle.text_lines.proofs.Rows.{row_of}
+use Rattle.outer_ports.specs.declared.part.Part.{Part}
+use Rattle.outer_ports.specs.declared.part.Part.TheVariants as part
+use Rattle.collective_spec.specs.declared.kind.Kind.{Kind}
+use Rattle.collective_spec.specs.declared.kind.Kind.TheVariants as kind
+use Rattle.collective_spec.specs.Patterns.{IsPattern}
+use Rattle.candidate_order.specs.declared.candidate.Candidate.{Candidate}
+use Rattle.candidate_order.specs.Ranges.{IsLimits}
+use Rattle.candidate_order.specs.Frontiers.{QuestionValue, PointValue, UnknownValue, FrontierValue, IsWithin, IsUnknown}
+use Rattle.topology_text.specs.Value.{NamedTopologyValue}
+use Rattle.topology_text.specs.Names.{AreNames}
+use Rattle.topology_text.proofs.Groups.{place, EndsGroups}
+use Rattle.report_form.specs.declared.fault.ReportCode.{ReportCode}
+use Rattle.report_form.specs.Reports.{WordsValue, IsPoint, IsFrontier, IsJoinedPoint, question_of}
+use Rattle.report_form.specs.Spelling.{point_lines, refuted_words, unknown_words, part_words, frontier_lines, joined_lines}
+use Rattle.report_form.specs.Lines.{lines_at, parts_at}
+use Rattle.report_form.specs.Points.{frontier_point_at, joined_point_at}
+use Rattle.report_form.specs.Reading.{refuted_line, unknown_line, part_bytes, frontier_at, frontiers_from, joined_at}
+use Rattle.report_form.proofs.ListsTaken.{AreListed, AreUnknown}
+use Rattle.report_form.proofs.PointsTaken.{ArePoints}
+use Rattle.report_form.proofs.FrontiersTaken.{rows_split}
+use Rattle.report_laws.proofs.LinesAgain.{fixed_part_again, Reads, Ends, lines_again, parts_again}
+use Rattle.report_laws.proofs.ListsAgain.{behind_lines, refuted_reads, unknown_reads}
+use Rattle.report_laws.proofs.PointsAgain.{FewBase, base_of, point_reads}
+use Rattle.report_laws.proofs.JoinedAgain.{joined_reads}
+
+-- ---- what follows a part
+
+-- the next line goes on with nothing that a part or a topology has
+pub record EndsPart (rows : List Row) : Type 0 where
+  pub group : Ends (codes "group ") rows
+  pub custom : Ends (codes "custom ") rows
+  pub point : Ends (codes "point ") rows
+  pub send : Ends (codes "send ") rows
+  pub refuted : Ends (codes "refuted ") rows
+  pub unknown : Ends (codes "unknown ") rows
+
+pub end_ends : (rows : List Row) → EndsPart (row_of (codes "end" ∷ []) ∷ rows)
+end_ends rows = record { group = refl; custom = refl; point = refl; send = refl; refuted = refl; unknown = refl }
+
+pub part_ends : (x : Part) (rows : List Row) → EndsPart (row_of (part_words x) ∷ rows)
+part_ends part.Whole rows = record { group = refl; custom = refl; point = refl; send = refl; refuted = refl; unknown = refl }
+part_ends part.Reduce rows = record { group = refl; custom = refl; point = refl; send = refl; refuted = refl; unknown = refl }
+part_ends part.Gather rows = record { group = refl; custom = refl; point = refl; send = refl; refuted = refl; unknown = refl }
+part_ends part.Joined rows = record { group = refl; custom = refl; point = refl; send = refl; refuted = refl; unknown = refl }
+
+pub groups_end : (rows : List Row) → Ends (codes "group ") rows → EndsGroups rows
+groups_end [] ends = tt
+groups_end (row ∷ rows) ends = ends
+
+part_line : (x : Part) → (row_of (part_words x)).bytes ≡ part_bytes x
+part_line part.Whole = refl
+part_line part.Reduce = refl
+part_line part.Gather = refl
+part_line part.Joined = refl
+
+-- there are no more parts than lines
+parts_fit : {A : Type 0} (spell : A → List (List (List ℕ))) → ((x : A) → 1 ≤ length (spell x)) → (xs : List A) (rest : List Row) → length xs ≤ length (map row_of (flat_map spell xs) ++ rest)
+parts_fit spell some [] rest = omega arith
+parts_fit spell some (x ∷ xs) rest =
+    let later = parts_fit spell some xs rest in
+    let all = length-append (map row_of (flat_map spell (x ∷ xs))) rest in
+    let more = length-append (map row_of (flat_map spell xs)) rest in
+    let both = length-append (spell x) (flat_map spell xs) in
+    let left = length-map (flat_map spell (x ∷ xs)) row_of in
+    let right = length-map (flat_map spell xs) row_of in
+    omega (arith, later, all, more, both, left, right, some x)
+
+points_fit : (names : List (List ℕ)) (ps : List PointValue) (rest : List Row) → length ps ≤ length (map row_of (flat_map (point_lines names) ps) ++ rest)
+points_fit names ps rest = parts_fit (point_lines names) (λ p. omega arith) ps rest
+
+abbrev frontier : List PointValue → List Candidate → List UnknownValue → FrontierValue
+frontier points refuted unknown = record { points = points; refuted = refuted; unknown = unknown }
+
+-- ---- one frontier
+
+module _ (names : List (List ℕ)) (q : QuestionValue) (as_many : length names ≡ q.topology.nodes) (named : AreNames names) (ok : IsLimits q.limits) (base : FewBase q.spec) where
+  abbrev after_unknown : List PointValue → List Candidate → List UnknownValue × Place → Result (FrontierValue × Place) (ReportCode × ℕ)
+  after_unknown points refuted c = Ok (frontier points refuted c.0, c.1)
+
+  abbrev after_refuted : List PointValue → List Candidate × Place → Result (FrontierValue × Place) (ReportCode × ℕ)
+  after_refuted points b = lines_at (codes "unknown ") (unknown_line q) b.1 >>= after_unknown points b.0
+
+  abbrev after_points : List PointValue × Place → Result (FrontierValue × Place) (ReportCode × ℕ)
+  after_points a = lines_at (codes "refuted ") (refuted_line q) a.1 >>= after_refuted a.0
+
+  abbrev after_head : Unit {0} × Place → Result (FrontierValue × Place) (ReportCode × ℕ)
+  after_head h = parts_at (codes "point ") (frontier_point_at names q) h.1 >>= after_points
+
+  points_are : (f : FrontierValue) → IsFrontier q f → ArePoints names q as_many f.points
+  points_are f is = record { each = is.points; listed = record { within = All-map (IsWithin q) (λ p. p.candidate) f.points (All-weaker (IsPoint q) (λ p. IsWithin q p.candidate) (λ p i. i.within) f.points is.points); ascending = is.points_ascend } }
+
+  pub frontier_again : (x : Part) (f : FrontierValue) (n : ℕ) (rest : List Row) → IsFrontier q f → EndsPart rest → Reads (frontier_at names q x (place n (map row_of (frontier_lines names (x, f)) ++ rest))) f rest
+  unfolding frontier_at
+  frontier_again x f n rest is ends =
+      let points : List (List (List ℕ)) = flat_map (point_lines names) f.points in
+      let refuted : List (List (List ℕ)) = map refuted_words f.refuted in
+      let unknown : List (List (List ℕ)) = map unknown_words f.unknown in
+      let third : List Row = map row_of unknown ++ rest in
+      let second : List Row = map row_of refuted ++ third in
+      let rows : List Row = map row_of points ++ second in
+      let split : map row_of (points ++ (refuted ++ unknown)) ++ rest ≡ rows = rows_split points (refuted ++ unknown) rest ∙ ap (λ rs. map row_of points ++ rs) (rows_split refuted unknown rest) in
+      let t1 = parts_again (codes "point ") (frontier_point_at names q) (point_lines names) (ArePoints names q as_many) (Ends (codes "send ")) (point_reads names q as_many named ok base) (length rows) [] f.points (n + 1) second (points_fit names f.points second) (points_are f is)
+      (behind_lines (codes "point ") refuted_words f.refuted third (λ y. refl) (behind_lines (codes "point ") unknown_words f.unknown rest (λ y. refl) ends.point))
+      (behind_lines (codes "send ") refuted_words f.refuted third (λ y. refl) (behind_lines (codes "send ") unknown_words f.unknown rest (λ y. refl) ends.send)) in
+      let t2 = lines_again (codes "refuted ") (refuted_line q) refuted_words (AreListed q) (refuted_reads q ok) [] f.refuted t1.number third (record { within = is.refuted; ascending = is.refuted_ascend })
+      (behind_lines (codes "refuted ") unknown_words f.unknown rest (λ y. refl) ends.refuted) in
+      let t3 = lines_again (codes "unknown ") (unknown_line q) unknown_words (AreUnknown q) (unknown_reads q ok) [] f.unknown t2.number rest
+      (record { each = is.unknown; listed = record { within = All-map (IsWithin q) (λ u. u.candidate) f.unknown (All-weaker (IsUnknown q) (λ u. IsWithin q u.candidate) (λ u i. i.within) f.unknown is.unknown); ascending = is.unknown_ascend } }) ends.unknown in
+      record {
+        number = t3.number;
+        is = ap (λ rs. frontier_at names q x (place n (row_of (part_words x) ∷ rs))) split
+            ∙ ap (λ r. r >>= after_head) (fixed_part_again (part_bytes x) (part_words x) n rows (part_line x))
+            ∙ ap (λ r. r >>= after_points) t1.is
+            ∙ ap (λ r. r >>= after_refuted f.points) t2.is
+            ∙ ap (λ r. r >>= after_unknown f.points f.refuted) t3.is;
+      }
+
+-- ---- all frontiers
+
+abbrev IsFrontierOf : WordsValue → NamedTopologyValue → Part × FrontierValue → Type 0
+IsFrontierOf words t x = IsFrontier (question_of words t x.0) x.1
+
+-- what follows a frontier: the next one, or what follows them all
+pub frontiers_end : (names : List (List ℕ)) (fs : List (Part × FrontierValue)) (rest : List Row) → EndsPart rest → EndsPart (map row_of (flat_map (frontier_lines names) fs) ++ rest)
+frontiers_end names [] rest ends = ends
+frontiers_end names (x ∷ fs) rest ends =
+    part_ends x.0 (map row_of ((flat_map (point_lines names) x.1.points ++ (map refuted_words x.1.refuted ++ map unknown_words x.1.unknown)) ++ flat_map (frontier_lines names) fs) ++ rest)
+
+module _ (words : WordsValue) (t : NamedTopologyValue) (as_many : length t.names ≡ t.topology.nodes) (named : AreNames t.names) (ok : IsLimits words.limits) (pattern : IfSome t.custom (IsPattern t.topology.nodes)) where
+  abbrev after_rest : Part → FrontierValue → List (Part × FrontierValue) × Place → Result (List (Part × FrontierValue) × Place) (ReportCode × ℕ)
+  after_rest x f rest = Ok ((x, f) ∷ rest.0, rest.1)
+
+  abbrev after_first : Part → List Part → FrontierValue × Place → Result (List (Part × FrontierValue) × Place) (ReportCode × ℕ)
+  after_first x parts f = frontiers_from words t parts f.1 >>= after_rest x f.0
+
+  pub frontiers_again : (fs : List (Part × FrontierValue)) (n : ℕ) (rest : List Row) → All (λ x. IsFrontier (question_of words t x.0) x.1) fs → EndsPart rest
+      → Reads (frontiers_from words t (map (λ x. x.0) fs) (place n (map row_of (flat_map (frontier_lines t.names) fs) ++ rest))) fs rest
+  frontiers_again [] n rest all ends = record { number = n; is = refl }
+  frontiers_again (x ∷ fs) n rest all ends =
+      let behind : List Row = map row_of (flat_map (frontier_lines t.names) fs) ++ rest in
+      let parts : List Part = map (λ y. y.0) fs in
+      let one = frontier_again t.names (question_of words t x.0) as_many named ok (base_of words t x.0 pattern) x.0 x.1 n behind (All-head (IsFrontierOf words t) x fs all) (frontiers_end t.names fs rest ends) in
+      let later = frontiers_again fs one.number rest (All-tail (IsFrontierOf words t) x fs all) ends in
+      record {
+        number = later.number;
+        is = ap (λ rs. frontiers_from words t (x.0 ∷ parts) (place n rs)) (rows_split (frontier_lines t.names (x.0, x.1)) (flat_map (frontier_lines t.names) fs) rest)
+            ∙ ap (λ r. r >>= after_first x.0 parts) one.is
+            ∙ ap (λ r. r >>= after_rest x.0 x.1) later.is;
+      }
+
+  -- ---- joined points
+
+  abbrev no_points : Place → Result (List PointValue × Place) (ReportCode × ℕ)
+  no_points p = Ok ([], p)
+
+  abbrev stay : Place → List PointValue → Result (List PointValue × Place) (ReportCode × ℕ)
+  stay p js = Ok (js, p)
+
+  -- a kind that joins no points has no line of them
+  none_again : (js : List PointValue) (n : ℕ) (rest : List Row) → js ≡ [] → Reads (no_points (place n rest)) js rest
+  none_again js n rest none = record { number = n; is = ap (stay (place n rest)) (sym none) }
+
+  pub joined_again : (k : Kind) (js : List PointValue) (n : ℕ) (rest : List Row) → All (IsJoinedPoint (question_of words t part.Joined)) js → (k ≢ kind.Allreduce → js ≡ []) → EndsPart rest
+      → Reads (joined_at k words t (place n (map row_of (joined_lines t.names k js) ++ rest))) js rest
+  joined_again kind.Broadcast js n rest all only ends = none_again js n rest (only (λ e. cc))
+  joined_again kind.Gather js n rest all only ends = none_again js n rest (only (λ e. cc))
+  joined_again kind.Allgather js n rest all only ends = none_again js n rest (only (λ e. cc))
+  joined_again kind.Scatter js n rest all only ends = none_again js n rest (only (λ e. cc))
+  joined_again kind.Alltoall js n rest all only ends = none_again js n rest (only (λ e. cc))
+  joined_again kind.Reduce js n rest all only ends = none_again js n rest (only (λ e. cc))
+  joined_again kind.Reducescatter js n rest all only ends = none_again js n rest (only (λ e. cc))
+  joined_again kind.Custom js n rest all only ends = none_again js n rest (only (λ e. cc))
+  joined_again kind.Allreduce js n rest all only ends =
+      let q = question_of words t part.Joined in
+      let rows : List Row = map row_of (flat_map (point_lines t.names) js) ++ rest in
+      let after : Unit {0} × Place → Result (List PointValue × Place) (ReportCode × ℕ) = λ h. parts_at (codes "point ") (joined_point_at t.names q) h.1 in
+      let points = parts_again (codes "point ") (joined_point_at t.names q) (point_lines t.names) (λ ps. All (IsJoinedPoint q) ps) (Ends (codes "send ")) (joined_reads t.names q as_many named ok (base_of words t part.Joined pattern)) (length rows) [] js (n + 1) rest (points_fit t.names js rest) all ends.point ends.send in
+      record { number = points.number; is = ap (λ r. r >>= after) (fixed_part_again (part_bytes part.Joined) (part_words part.Joined) n rows refl) ∙ points.is }
+
+  -- what follows the frontiers: the line of the joined points, or what follows them
+  pub joined_end : (k : Kind) (js : List PointValue) (rest : List Row) → EndsPart rest → EndsPart (map row_of (joined_lines t.names k js) ++ rest)
+  joined_end kind.Broadcast js rest ends = ends
+  joined_end kind.Gather js rest ends = ends
+  joined_end kind.Allgather js rest ends = ends
+  joined_end kind.Scatter js rest ends = ends
+  joined_end kind.Alltoall js rest ends = ends
+  joined_end kind.Reduce js rest ends = ends
+  joined_end kind.Reducescatter js rest ends = ends
+  joined_end kind.Custom js rest ends = ends
+  joined_end kind.Allreduce js rest ends = part_ends part.Joined (map row_of (flat_map (point_lines t.names) js) ++ rest)

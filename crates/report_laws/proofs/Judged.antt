@@ -1,0 +1,101 @@
+-- A line, and a check of what it says that needs what stands before it and is told at this line, as one part.
+use Rattle.std.proofs.Common.{◌≡◌, ℕ, ◌≤◌, List, length, Option, Result, Ok, Err, ◌⊎◌, inl, inr, refl, sym, ap, ◌∙◌, subst, arith}
+use Rattle.text_lines.specs.Text.{Row, Place}
+use Rattle.text_lines.specs.Check.{◌>>=◌, at_line, line_part}
+use Rattle.text_lines.proofs.Checks.{bind_ok, bind_err, line_err, at_line_ok, ok_is}
+use Rattle.topology_text.specs.declared.fault.TopologyCode.{TopologyCode}
+use Rattle.topology_text.proofs.Local.{Same, FailsAt, ReadsTo, line_reads_here}
+use Rattle.topology_text.proofs.Steady.{Moves, Alike, Steady, steady_line}
+use Rattle.report_form.specs.declared.fault.ReportCode.{ReportCode}
+use Rattle.report_form.specs.Lines.{among}
+use Rattle.report_form.proofs.ReportTaken.{among_ok}
+use Rattle.report_laws.proofs.SteadyLists.{steady_among}
+
+abbrev pub with_later : {A B : Type 0} → A × Place → B → Result ((A × B) × Place) (ReportCode × ℕ)
+with_later x y = Ok ((x.0, y), x.1)
+
+-- the line's check, and the later check of its value
+module _ {A B : Type 0} (check : Option Row → Result A TopologyCode) (later : A → Result B ReportCode) where
+  abbrev later_at : ℕ → A × Place → Result ((A × B) × Place) (ReportCode × ℕ)
+  later_at line x = at_line line (later x.0) >>= with_later x
+
+  abbrev pub judged : List Row → Place → Result ((A × B) × Place) (ReportCode × ℕ)
+  judged rows p = among rows (line_part check p) >>= later_at p.number
+
+  -- the later check fails
+  record Unfit (at : ℕ) (x : A × Place) (e : ReportCode × ℕ) : Type 0 where
+    why : later x.0 ≡ Err e.0
+    line : e.1 ≡ at
+
+  unfit_at : (at : ℕ) (x : A × Place) (e : ReportCode × ℕ) → later_at at x ≡ Err e → Unfit at x e
+  unfit_at at x e there = by_step (bind_err (at_line at (later x.0)) (with_later x) e there)
+    where
+      by_step : (at_line at (later x.0) ≡ Err e) ⊎ ((y : B) × (at_line at (later x.0) ≡ Ok y) × (with_later x y ≡ Err e)) → Unfit at x e
+      by_step (inl here) = let (why, line) = line_err at (later x.0) e here in record { why = why; line = line }
+      by_step (inr (y, fit, rest)) = absurd (cc)
+
+  module _ (rows others : List Row) where
+    checked_line : Steady (λ p. among rows (line_part check p)) (λ p. among others (line_part check p))
+    checked_line = steady_among rows others (line_part check) (line_part check) (steady_line check)
+
+    judged_moves : (p : Place) → Moves (judged rows p) p
+    judged_moves p =
+        let m = checked_line.moves p in record {
+          late = λ e failed. by_step e m.late (bind_err (among rows (line_part check p)) (later_at p.number) e failed);
+          onward = λ x read.
+              let (n, named, rest) = bind_ok (among rows (line_part check p)) (later_at p.number) x read in
+              let (root, rooted, last) = bind_ok (at_line p.number (later n.0)) (with_later n) x rest in
+              let same : ((n.0, root), n.1) ≡ x = ok_is {C = ReportCode × ℕ} ((n.0, root), n.1) x last in
+              let P : (A × B) × Place → Type 0 = λ z. (p.number ≤ z.1.number) × (length z.1.rows ≤ length p.rows) in
+              subst P same (m.onward n named);
+        }
+      where
+        by_step : (e : ReportCode × ℕ) → ((f : ReportCode × ℕ) → among rows (line_part check p) ≡ Err f → p.number ≤ f.1)
+            → (among rows (line_part check p) ≡ Err e) ⊎ ((n : A × Place) × (among rows (line_part check p) ≡ Ok n) × (later_at p.number n ≡ Err e)) → p.number ≤ e.1
+        by_step e late (inl here) = late e here
+        by_step e late (inr (n, named, there)) = let f = unfit_at p.number n e there in let at = f.line in omega (arith, at)
+
+    judged_alike : (p q : Place) → Alike (judged rows p) (judged others q) p q
+    judged_alike p q =
+        let a = checked_line.alike p q in
+        let m = checked_line.moves p in record {
+          fails = λ e same failed. by_step e same a.fails (bind_err (among rows (line_part check p)) (later_at p.number) e failed);
+          reads = λ k x same low read.
+              let (n, named, rest) = bind_ok (among rows (line_part check p)) (later_at p.number) x read in
+              let (root, rooted, last) = bind_ok (at_line p.number (later n.0)) (with_later n) x rest in
+              let is : ((n.0, root), n.1) ≡ x = ok_is {C = ReportCode × ℕ} ((n.0, root), n.1) x last in
+              let to = a.reads k n same (omega (arith, ap (λ z. z.1.number) is, low)) named in
+              let P : (A × B) × Place → Type 0 = λ z. ReadsTo k (judged others q) z in
+              subst P is (record {
+                rest = to.rest;
+                is = ap (λ r. r >>= later_at q.number) to.is ∙ ap (λ r. at_line q.number r >>= with_later (n.0, to.rest)) (at_line_ok p.number (later n.0) root rooted);
+                same = to.same;
+              });
+        }
+      where
+        by_step : (e : ReportCode × ℕ) → Same e.1 p q → ((f : ReportCode × ℕ) → Same f.1 p q → among rows (line_part check p) ≡ Err f → FailsAt (among others (line_part check q)) f.1)
+            → (among rows (line_part check p) ≡ Err e) ⊎ ((n : A × Place) × (among rows (line_part check p) ≡ Ok n) × (later_at p.number n ≡ Err e)) → FailsAt (judged others q) e.1
+        by_step e same fails (inl here) = let f = fails e same here in record { why = f.why; is = ap (λ r. r >>= later_at q.number) f.is }
+        by_step e same fails (inr (n, named, there)) =
+            let f = unfit_at p.number n e there in
+            let at = f.line in
+            let to = line_reads_here check p q e.1 n same (omega (arith, at)) (among_ok rows (line_part check p) n named) in
+            let wrong : ℕ → Result B (ReportCode × ℕ) = λ k. Err (e.0, k) in
+            record {
+              why = e.0;
+              is = ap (λ r. among others r >>= later_at q.number) to.is ∙ ap (λ r. at_line q.number r >>= with_later (n.0, to.rest)) f.why
+                  ∙ ap (λ k. wrong k >>= with_later (n.0, to.rest)) (sym same.number ∙ sym at);
+            }
+
+    pub steady_judged : Steady (judged rows) (judged others)
+    steady_judged = record { moves = judged_moves; alike = judged_alike }
+
+-- the line and its later check, one after the other and as one part
+pub judged_passed : {A B C : Type 0} (later : A → Result B ReportCode) (n : ℕ) (r : Result (A × Place) (ReportCode × ℕ)) (next : A → B → Place → Result C (ReportCode × ℕ)) → (r >>= (λ x. at_line n (later x.0) >>= (λ y. next x.0 y x.1)))
+    ≡ ((r >>= (λ x. at_line n (later x.0) >>= with_later {A = A} {B = B} x)) >>= (λ z. next z.0.0 z.0.1 z.1))
+judged_passed {A} {B} {C} later n (Err e) next = refl
+judged_passed {A} {B} {C} later n (Ok x) next = inner (at_line n (later x.0))
+  where
+    inner : (s : Result B (ReportCode × ℕ)) → (s >>= (λ y. next x.0 y x.1)) ≡ ((s >>= with_later {A = A} {B = B} x) >>= (λ z. next z.0.0 z.0.1 z.1))
+    inner (Ok y) = refl
+    inner (Err e) = refl

@@ -1,0 +1,133 @@
+-- The lines of refuted and unknown candidates that are spelled are read.
+use Rattle.std.proofs.Common.{◌≡◌, ℕ, suc, ◌≤◌, ◌^◌, Bool, true, false, ◌&&◌, not, List, [], ◌∷◌, ◌++◌, map, length, get_or, Option, None, Some, IfSome, Result, Ok, refl, sym, ap, ◌∙◌, subst, arith}
+use Rattle.std.specs.Prelude.{◌==◌, codes, All, AllPairs}
+use Rattle.std.specs.List.{last_or, AllByRecursion}
+use Rattle.std.proofs.lemmas.Bool.{and_from, eq-eqb}
+use Rattle.std.proofs.lemmas.List.{length-append, get_or_append_left, get_or_at}
+use Rattle.std.proofs.lemmas.List.Elements.{All-head, All-tail}
+use Rattle.text_lines.specs.Text.{Row}
+use Rattle.text_lines.specs.Check.{◌>>=◌, refuse}
+use Rattle.text_lines.proofs.Distinct.{next_has}
+use Rattle.text_lines.proofs.Rows.{AreTokens, row_of}
+use Rattle.text_lines.proofs.Words.{tokens_from}
+use Rattle.topology_text.specs.Reading.{begins}
+use Rattle.candidate_order.specs.declared.candidate.Candidate.{Candidate}
+use Rattle.candidate_order.specs.Ranges.{IsLimits}
+use Rattle.candidate_order.specs.Costs.{Before}
+use Rattle.candidate_order.specs.Frontiers.{QuestionValue, UnknownValue, IsWithin, IsUnknown}
+use Rattle.report_form.specs.declared.fault.ReportCode.{ReportCode}
+use Rattle.report_form.specs.declared.fault.ReportCode.TheVariants as code
+use Rattle.report_form.specs.Spelling.{refuted_words, unknown_words}
+use Rattle.report_form.specs.Tests.{is_within, comes_next}
+use Rattle.report_form.specs.Reading.{refuted_from, refuted_line, unknown_from, unknown_line}
+use Rattle.report_form.proofs.Tested.{decides_within, decides_before}
+use Rattle.report_form.proofs.Ascending.{last_is}
+use Rattle.report_form.proofs.LineTaken.{map_both}
+use Rattle.report_form.proofs.ListsTaken.{AreListed, AreUnknown}
+use Rattle.report_laws.proofs.LinesAgain.{on_words_again, Ends, ReadsLine}
+use Rattle.report_laws.proofs.ShapesAgain.{IsSmall, refuted_again, refuted_are_words, unknown_again, unknown_are_words}
+
+-- a shape that is read, and a rule that is kept
+pub ruled_again : {A : Type 0} (shape : Result A ReportCode) (rule : A → Bool) (why : ReportCode) (x : A) → shape ≡ Ok x → rule x ≡ true → (shape >>= (λ a. refuse (not (rule a)) why >>= (λ u. Ok a))) ≡ Ok x
+ruled_again {A} shape rule why x read kept =
+    let next : A → Result A ReportCode = λ a. refuse (not (rule a)) why >>= (λ u. Ok a) in
+    ap (λ r. r >>= next) read ∙ ap (λ t. refuse (not t) why >>= (λ u. Ok x)) kept
+
+-- ---- the element before the next
+
+-- in an ascending list, each element is behind the one before it
+pub next_follows : {A : Type 0} (R : A → A → Type 0) (before : List A) (x : A) (more : List A) → AllPairs R (before ++ x ∷ more) → IfSome (last_or None before) (λ l. R l x)
+next_follows R [] x more pairs = tt
+next_follows {A} R (y ∷ ys) x more pairs =
+    let before : List A = y ∷ ys in
+    let end : ℕ = length ys in
+    let first : get_or (before ++ x ∷ more) end x ≡ get_or before end x = get_or_append_left before (x ∷ more) x end (omega arith) in
+    let second : get_or (before ++ x ∷ more) (suc end) x ≡ x = get_or_at before x more x (suc end) refl in
+    let pair : R (get_or (before ++ x ∷ more) end x) (get_or (before ++ x ∷ more) (suc end) x) = pairs end (suc end) x (omega arith) (omega (arith, length-append before (x ∷ more))) in
+    let left : R (get_or before end x) (get_or (before ++ x ∷ more) (suc end) x) = subst (λ (a : A). R a (get_or (before ++ x ∷ more) (suc end) x)) first pair in
+    let here : R (get_or before end x) x = subst (λ (a : A). R (get_or before end x) a) second left in
+    subst (λ (o : Option A). IfSome o (λ l. R l x)) (sym (last_is before None end x refl)) here
+
+comes_from : (o : Option Candidate) (x : Candidate) → IfSome o (λ l. Before l x) → comes_next o x ≡ true
+comes_from None x h = refl
+comes_from (Some l) x h = (decides_before l x).1 h
+
+pub comes_again : (before : List Candidate) (x : Candidate) (more : List Candidate) → AllPairs Before (before ++ x ∷ more) → comes_next (last_or None before) x ≡ true
+comes_again before x more pairs = comes_from (last_or None before) x (next_follows Before before x more pairs)
+
+-- the same by a part of each element
+pub part_comes_again : {A : Type 0} (part : A → Candidate) (before : List A) (x : A) (more : List A) → AllPairs Before (map part (before ++ x ∷ more)) → comes_next (last_or None (map part before)) (part x) ≡ true
+part_comes_again part before x more pairs = comes_again (map part before) (part x) (map part more) (subst (AllPairs Before) (map_both part before (x ∷ more)) pairs)
+
+-- ---- what follows lines
+
+-- lines that do not begin with a word, before others that do not
+pub behind_lines : {A : Type 0} (word : List ℕ) (spell : A → List (List ℕ)) (xs : List A) (rest : List Row) → ((x : A) → begins word (row_of (spell x)).bytes ≡ false) → Ends word rest → Ends word (map row_of (map spell xs) ++ rest)
+behind_lines word spell [] rest each last = last
+behind_lines word spell (x ∷ xs) rest each last = each x
+
+-- the lines of valid values are made of tokens
+pub lines_are_tokens : {A : Type 0} (P : A → Type 0) (spell : A → List (List ℕ)) → ((x : A) → P x → AreTokens (spell x)) → (xs : List A) → All P xs → AllByRecursion AreTokens (map spell xs)
+lines_are_tokens P spell each [] valid = tt
+lines_are_tokens P spell each (x ∷ xs) valid = (each x (All-head P x xs valid), lines_are_tokens P spell each xs (All-tail P x xs valid))
+
+-- ---- candidates
+
+module _ (q : QuestionValue) (ok : IsLimits q.limits) where
+  pub within_small : (x : Candidate) → IsWithin q x → IsSmall x
+  within_small x w =
+      let a = w.steps in
+      let b = w.rounds in
+      let c = w.chunks in
+      let most_s = ok.steps in
+      let most_k = ok.k in
+      let most_c = ok.chunks in
+      record { steps = omega (arith, a, most_s); rounds = omega (arith, a, b, most_s, most_k); chunks = omega (arith, c, most_c) }
+
+  pub refuted_tokens : (x : Candidate) → IsWithin q x → AreTokens (refuted_words x)
+  refuted_tokens x w = tokens_from (refuted_words x) (omega arith) (refuted_are_words x (within_small x w))
+
+  abbrev refuted_rule : List Candidate → Candidate → Bool
+  refuted_rule before x = is_within q x && comes_next (last_or None before) x
+
+  abbrev refuted_check : List Candidate → List (List ℕ) → Result Candidate ReportCode
+  refuted_check before words = refuted_from words >>= (λ x. refuse (not (refuted_rule before x)) code.Limits >>= (λ u. Ok x))
+
+  pub refuted_reads : ReadsLine (codes "refuted ") (refuted_line q) refuted_words (AreListed q)
+  refuted_reads = record {
+    line = λ before x more are.
+        let w = next_has (IsWithin q) before x more are.within in
+        let next = comes_again before x more are.ascending in
+        let kept = and_from (is_within q x) (comes_next (last_or None before) x) ((decides_within q x).1 w) next in
+        on_words_again (refuted_check before) (refuted_words x) x (refuted_tokens x w)
+        (ruled_again (refuted_from (refuted_words x)) (refuted_rule before) code.Limits x (refuted_again x (within_small x w)) kept);
+    starts = λ x. refl;
+  }
+
+  abbrev unknown_rule : List UnknownValue → UnknownValue → Bool
+  unknown_rule before u = is_within q u.candidate && comes_next (last_or None (map (λ v. v.candidate) before)) u.candidate && u.conflicts == q.limits.conflicts
+
+  abbrev unknown_check : List UnknownValue → List (List ℕ) → Result UnknownValue ReportCode
+  unknown_check before words = unknown_from words >>= (λ u. refuse (not (unknown_rule before u)) code.Limits >>= (λ v. Ok u))
+
+  unknown_few : (u : UnknownValue) → IsUnknown q u → suc u.conflicts ≤ 2 ^ 64
+  unknown_few u is =
+      let same = is.conflicts in
+      let most = ok.conflicts in
+      omega (arith, same, most)
+
+  pub unknown_tokens : (u : UnknownValue) → IsUnknown q u → AreTokens (unknown_words u)
+  unknown_tokens u is = let few = unknown_few u is in tokens_from (unknown_words u) (omega arith) (unknown_are_words u (within_small u.candidate is.within) (omega (arith, few)))
+
+  pub unknown_reads : ReadsLine (codes "unknown ") (unknown_line q) unknown_words (AreUnknown q)
+  unknown_reads = record {
+    line = λ before u more are.
+        let is = next_has (IsUnknown q) before u more are.each in
+        let few = unknown_few u is in
+        let next = part_comes_again (λ v. v.candidate) before u more are.listed.ascending in
+        let front = and_from (is_within q u.candidate) (comes_next (last_or None (map (λ v. v.candidate) before)) u.candidate) ((decides_within q u.candidate).1 is.within) next in
+        let kept = and_from (is_within q u.candidate && comes_next (last_or None (map (λ v. v.candidate) before)) u.candidate) (u.conflicts == q.limits.conflicts) front (eq-eqb u.conflicts q.limits.conflicts is.conflicts) in
+        on_words_again (unknown_check before) (unknown_words u) u (unknown_tokens u is)
+        (ruled_again (unknown_from (unknown_words u)) (unknown_rule before) code.Limits u (unknown_again u (within_small u.candidate is.within) (omega (arith, few))) kept);
+    starts = λ u. refl;
+  }

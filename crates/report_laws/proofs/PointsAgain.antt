@@ -1,0 +1,166 @@
+-- The lines of points that are spelled are read.
+use Rattle.std.proofs.Common.{◌≡◌, ℕ, ◌+◌, ◌≤◌, Bool, true, ◌&&◌, not, List, [], ◌∷◌, ◌++◌, map, length, Option, None, Some, Result, Ok, ◌⊎◌, inl, inr, refl, sym, ap, ◌∙◌, subst, arith}
+use Rattle.std.specs.Prelude.{codes, All, IfSome}
+use Rattle.std.specs.List.{last_or, AllByRecursion}
+use Rattle.std.proofs.lemmas.Bool.{and_from}
+use Rattle.std.proofs.lemmas.Nat.{mul-le}
+use Rattle.text_lines.specs.Text.{Row, Place}
+use Rattle.text_lines.specs.Check.{◌>>=◌, refuse}
+use Rattle.text_lines.proofs.Distinct.{next_has}
+use Rattle.text_lines.proofs.Rows.{AreTokens, row_of}
+use Rattle.text_lines.proofs.Words.{tokens_from}
+use Rattle.schedule.specs.declared.hop.Hop.{Hop}
+use Rattle.schedule.specs.Sends.{IsStep, is_hop_below}
+use Rattle.collective_spec.specs.declared.kind.Kind.{Kind}
+use Rattle.collective_spec.specs.declared.kind.Kind.TheVariants as kind
+use Rattle.collective_spec.specs.Collectives.{chunks_of, chunks_in, spec_of}
+use Rattle.collective_spec.specs.Patterns.{PatternValue, IsPattern}
+use Rattle.collective_spec.specs.declared.spec.Spec.{Spec}
+use Rattle.collective_spec.specs.declared.spec.Spec.TheVariants as spec
+use Rattle.outer_ports.specs.declared.part.Part.{Part}
+use Rattle.candidate_order.specs.declared.candidate.Candidate.{Candidate}
+use Rattle.candidate_order.specs.declared.mark.Mark.{Mark}
+use Rattle.candidate_order.specs.declared.mark.Mark.TheVariants as mark
+use Rattle.candidate_order.specs.Ranges.{IsLimits}
+use Rattle.candidate_order.specs.Frontiers.{QuestionValue, PointValue, IsWithin}
+use Rattle.topology_text.specs.Value.{NamedTopologyValue}
+use Rattle.topology_text.specs.Names.{AreNames}
+use Rattle.topology_text.proofs.Groups.{place}
+use Rattle.report_form.specs.declared.fault.ReportCode.{ReportCode}
+use Rattle.report_form.specs.declared.fault.ReportCode.TheVariants as code
+use Rattle.report_form.specs.Reports.{WordsValue, HasSchedule, IsPoint, kind_of}
+use Rattle.report_form.specs.Spelling.{rounds_words, send_words, point_words, point_lines}
+use Rattle.report_form.specs.Tests.{is_within, comes_next}
+use Rattle.report_form.specs.Lines.{lines_at}
+use Rattle.report_form.specs.Points.{HeadValue, head_from, rounds_from, are_rounds, send_line, schedule_at, frontier_point_at}
+use Rattle.report_form.proofs.Tested.{decides_within}
+use Rattle.report_form.proofs.PointsTaken.{AreSends, ArePoints}
+use Rattle.report_laws.proofs.LinesAgain.{words_part_again, Reads, Ends, lines_again, ReadsPart}
+use Rattle.report_laws.proofs.ShapesAgain.{MarkIsSmall, head_again, head_are_words, rounds_again}
+use Rattle.report_laws.proofs.ListsAgain.{ruled_again, part_comes_again, within_small}
+use Rattle.report_laws.proofs.SendsAgain.{rounds_small, rounds_kept, rounds_check, rounds_tokens, send_reads, sends_are_tokens}
+
+-- ---- a schedule behind the head of its point
+
+-- a pattern has at most 16 chunks
+abbrev pub FewBase : Spec → Type 0
+FewBase (spec.Standard collective) = Unit {0}
+FewBase (spec.Custom p) = p.base ≤ 16
+
+pub base_of : (words : WordsValue) (t : NamedTopologyValue) (x : Part) → IfSome t.custom (IsPattern t.topology.nodes) → FewBase (spec_of (record { kind = kind_of words.collective.kind x; root = words.collective.root }) t.custom)
+base_of words t x given = by_pattern t.custom given
+  where
+    by_pattern : (o : Option PatternValue) → IfSome o (IsPattern t.topology.nodes) → FewBase (spec_of (record { kind = kind_of words.collective.kind x; root = words.collective.root }) o)
+    by_pattern None none = tt
+    by_pattern (Some p) is = is.few
+
+standard_few : (k : Kind) (nodes c : ℕ) → nodes ≤ 16 → c ≤ 16 → chunks_of k nodes c ≤ 256
+standard_few kind.Broadcast nodes c few small = omega (arith, small)
+standard_few kind.Reduce nodes c few small = omega (arith, small)
+standard_few kind.Gather nodes c few small = mul-le nodes c 16 16 few small
+standard_few kind.Allgather nodes c few small = mul-le nodes c 16 16 few small
+standard_few kind.Scatter nodes c few small = mul-le nodes c 16 16 few small
+standard_few kind.Alltoall nodes c few small = mul-le nodes c 16 16 few small
+standard_few kind.Reducescatter nodes c few small = mul-le nodes c 16 16 few small
+standard_few kind.Allreduce nodes c few small = mul-le nodes c 16 16 few small
+standard_few kind.Custom nodes c few small = omega arith
+
+-- there are at most 16 nodes or chunks of a pattern, and 16 chunks of a candidate, so at most 256 in all
+pub chunks_few : (s : Spec) (nodes c : ℕ) → nodes ≤ 16 → c ≤ 16 → FewBase s → chunks_in s nodes c ≤ 256
+chunks_few (spec.Standard collective) nodes c few small base = standard_few collective.kind nodes c few small
+chunks_few (spec.Custom p) nodes c few small base = mul-le p.base c 16 16 base small
+
+abbrev pub head_of : PointValue → HeadValue
+head_of p = record { candidate = p.candidate; mark = p.mark }
+
+abbrev pub schedule_lines : List (List ℕ) → PointValue → List (List (List ℕ))
+schedule_lines names p = rounds_words p.schedule.rounds ∷ map (send_words names) p.schedule.sends
+
+module _ (names : List (List ℕ)) (q : QuestionValue) (as_many : length names ≡ q.topology.nodes) (named : AreNames names) (ok : IsLimits q.limits) (base : FewBase q.spec) where
+  abbrev chunks_at : PointValue → ℕ
+  chunks_at p = chunks_in q.spec q.topology.nodes p.candidate.c
+
+  few_chunks_at : (p : PointValue) → p.candidate.c ≤ 16 → chunks_at p ≤ 65535
+  few_chunks_at p small =
+      let few = named.few in
+      let most = chunks_few q.spec q.topology.nodes p.candidate.c (omega (arith, as_many, few)) small base in
+      omega (arith, most)
+
+  few_steps_at : (p : PointValue) → HasSchedule q p → p.candidate.s ≤ 65535
+  few_steps_at p has =
+      let few = has.schedule.few in
+      let many = has.steps in
+      omega (arith, few, many)
+
+  sends_are : (p : PointValue) → HasSchedule q p → AreSends names (chunks_at p) p.candidate.s p.schedule.sends
+  sends_are p has =
+      let S : ℕ → Type 0 = λ n. All (λ h. IsStep n h.step) p.schedule.sends in
+      let N : ℕ → Type 0 = λ n. All (λ h. is_hop_below (chunks_at p) n h ≡ true) p.schedule.sends in
+      record { steps_are = subst S has.steps has.schedule.steps; below = subst N (sym as_many) has.in_range; ascending = has.schedule.ascending }
+
+  pub schedule_again : (p : PointValue) (n : ℕ) (rest : List Row) → HasSchedule q p → p.candidate.c ≤ 16 → Ends (codes "send ") rest → Reads (schedule_at names q (head_of p) (place n (map row_of (schedule_lines names p) ++ rest))) p rest
+  unfolding schedule_at
+  schedule_again p n rest has small ends =
+      let check = send_line names (chunks_at p) p.candidate.s in
+      let rounds : List ℕ = p.schedule.rounds in
+      let behind : List Row = map row_of (map (send_words names) p.schedule.sends) ++ rest in
+      let finish : List Hop × Place → Result (PointValue × Place) (ReportCode × ℕ) = λ z. Ok (record { candidate = p.candidate; schedule = record { rounds = rounds; sends = z.0 }; mark = p.mark }, z.1) in
+      let next : List ℕ × Place → Result (PointValue × Place) (ReportCode × ℕ) = λ y. lines_at (codes "send ") check y.1 >>= (λ z. Ok (record { candidate = p.candidate; schedule = record { rounds = y.0; sends = z.0 }; mark = p.mark }, z.1)) in
+      let first = words_part_again (rounds_check p.candidate) (rounds_words rounds) rounds n behind (rounds_tokens rounds has.schedule.rounds)
+      (ruled_again (rounds_from (rounds_words rounds)) (are_rounds p.candidate) code.Limits rounds (rounds_again rounds (rounds_small rounds has.schedule.rounds)) (rounds_kept p.candidate rounds has.steps has.schedule.rounds has.rounds)) in
+      let sends = lines_again (codes "send ") check (send_words names) (AreSends names (chunks_at p) p.candidate.s) (send_reads names named (chunks_at p) p.candidate.s (few_chunks_at p small) (few_steps_at p has)) [] p.schedule.sends (n + 1) rest (sends_are p has) ends in
+      record { number = sends.number; is = ap (λ r. r >>= next) first ∙ ap (λ r. r >>= finish) sends.is }
+
+  pub schedule_are_tokens : (p : PointValue) → HasSchedule q p → p.candidate.c ≤ 16 → AllByRecursion AreTokens (schedule_lines names p)
+  schedule_are_tokens p has small =
+      let are = sends_are p has in
+      (rounds_tokens p.schedule.rounds has.schedule.rounds, sends_are_tokens names named (chunks_at p) p.candidate.s (few_chunks_at p small) (few_steps_at p has) p.schedule.sends are.steps_are are.below)
+
+  -- ---- points of a frontier
+
+  abbrev solved_by : List PointValue → List Candidate
+  solved_by ps = map (λ p. p.candidate) ps
+
+  abbrev head_rule : List PointValue → HeadValue → Bool
+  head_rule before h = is_within q h.candidate && comes_next (last_or None (solved_by before)) h.candidate
+
+  abbrev head_check : List PointValue → List (List ℕ) → Result HeadValue ReportCode
+  head_check before words = head_from words >>= (λ h. refuse (not (head_rule before h)) code.Limits >>= (λ u. Ok h))
+
+  few_chunks : (x : Candidate) → IsWithin q x → x.c ≤ 16
+  few_chunks x w =
+      let c = w.chunks in
+      let most = ok.chunks in
+      omega (arith, c, most)
+
+  mark_small : (p : PointValue) → IsPoint q p → MarkIsSmall p.mark
+  mark_small p is = plain p.mark is.mark
+    where
+      plain : (m : Mark) → (m ≡ mark.Optimal) ⊎ (m ≡ mark.Open) → MarkIsSmall m
+      plain mark.Optimal which = tt
+      plain mark.Open which = tt
+      plain (mark.Joined n) (inl e) = absurd (cc)
+      plain (mark.Joined n) (inr e) = absurd (cc)
+
+  head_tokens : (p : PointValue) → IsPoint q p → AreTokens (point_words p)
+  head_tokens p is = tokens_from (point_words p) (omega arith) (head_are_words p.candidate p.mark (within_small q ok p.candidate is.within) (mark_small p is))
+
+  pub point_reads : ReadsPart (codes "point ") (frontier_point_at names q) (point_lines names) (ArePoints names q as_many) (Ends (codes "send "))
+  unfolding frontier_point_at
+  point_reads = record {
+    part = λ before p more n rest are ends.
+        let is = next_has (IsPoint q) before p more are.each in
+        let next = part_comes_again (λ y. y.candidate) before p more are.listed.ascending in
+        let kept = and_from (is_within q p.candidate) (comes_next (last_or None (solved_by before)) p.candidate) ((decides_within q p.candidate).1 is.within) next in
+        let behind : List Row = map row_of (schedule_lines names p) ++ rest in
+        let after : HeadValue × Place → Result (PointValue × Place) (ReportCode × ℕ) = λ h. schedule_at names q h.0 h.1 in
+        let first = words_part_again (head_check before) (point_words p) (head_of p) n behind (head_tokens p is)
+        (ruled_again (head_from (point_words p)) (head_rule before) code.Limits (head_of p) (head_again p.candidate p.mark (within_small q ok p.candidate is.within) is.mark) kept) in
+        let rest_read = schedule_again p (n + 1) rest is.has (few_chunks p.candidate is.within) ends in
+        record { number = rest_read.number; is = ap (λ r. r >>= after) first ∙ rest_read.is };
+    starts = λ p rest. refl;
+    stops = λ p rest. refl;
+  }
+
+  pub point_are_tokens : (p : PointValue) → IsPoint q p → AllByRecursion AreTokens (point_lines names p)
+  point_are_tokens p is = (head_tokens p is, schedule_are_tokens p is.has (few_chunks p.candidate is.within))

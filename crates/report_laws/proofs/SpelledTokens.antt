@@ -1,0 +1,94 @@
+-- The lines of a valid report are made of tokens, so that its text falls into them.
+use Rattle.std.proofs.Common.{◌≡◌, ℕ, List, [], ◌∷◌, ◌++◌, map, length, Option, None, Some, refl, arith}
+use Rattle.std.specs.Prelude.{codes, flat_map, All}
+use Rattle.std.specs.List.{AllByRecursion}
+use Rattle.std.proofs.lemmas.List.Elements.{All-head, All-tail}
+use Rattle.text_lines.specs.Text.{rows_of}
+use Rattle.text_lines.proofs.Rows.{AreTokens, row_of, rows_again}
+use Rattle.text_lines.proofs.Words.{literal, tokens_from}
+use Rattle.outer_ports.specs.declared.part.Part.{Part}
+use Rattle.outer_ports.specs.declared.part.Part.TheVariants as part
+use Rattle.collective_spec.specs.declared.kind.Kind.{Kind}
+use Rattle.collective_spec.specs.declared.kind.Kind.TheVariants as kind
+use Rattle.collective_spec.specs.Patterns.{PatternValue}
+use Rattle.candidate_order.specs.Ranges.{IsLimits}
+use Rattle.candidate_order.specs.Frontiers.{QuestionValue, PointValue, FrontierValue, IsWithin, IsUnknown}
+use Rattle.topology_text.specs.Names.{AreNames}
+use Rattle.topology_text.specs.Value.{NamedTopologyValue}
+use Rattle.topology_text.specs.Spelling.{lines_of, version_word}
+use Rattle.topology_text.proofs.Laws.{lines_are_words}
+use Rattle.report_form.specs.Reports.{WordsValue, ReportValue, IsPoint, IsFrontier, IsJoinedPoint, IsReport, question_of}
+use Rattle.report_form.specs.Spelling.{point_lines, refuted_words, unknown_words, part_words, frontier_lines, joined_lines, body_lines, report_lines, report_text}
+use Rattle.report_laws.proofs.ListsAgain.{lines_are_tokens, refuted_tokens, unknown_tokens}
+use Rattle.report_laws.proofs.PointsAgain.{FewBase, base_of, point_are_tokens}
+use Rattle.report_laws.proofs.JoinedAgain.{joined_are_tokens}
+use Rattle.report_laws.proofs.AskedAgain.{synth_tokens}
+
+pub tokens_both : (a b : List (List (List ℕ))) → AllByRecursion AreTokens a → AllByRecursion AreTokens b → AllByRecursion AreTokens (a ++ b)
+tokens_both [] b first second = second
+tokens_both (line ∷ a) b first second = (first.0, tokens_both a b first.1 second)
+
+-- the lines of valid parts are made of tokens
+pub parts_are_tokens : {A : Type 0} (P : A → Type 0) (spell : A → List (List (List ℕ))) → ((x : A) → P x → AllByRecursion AreTokens (spell x)) → (xs : List A) → All P xs → AllByRecursion AreTokens (flat_map spell xs)
+parts_are_tokens P spell each [] valid = tt
+parts_are_tokens P spell each (x ∷ xs) valid = tokens_both (spell x) (flat_map spell xs) (each x (All-head P x xs valid)) (parts_are_tokens P spell each xs (All-tail P x xs valid))
+
+part_tokens : (x : Part) → AreTokens (part_words x)
+part_tokens part.Whole = tokens_from (codes "frontier" ∷ codes "whole" ∷ []) (omega arith) (literal (codes "frontier") refl, (literal (codes "whole") refl, tt))
+part_tokens part.Reduce = tokens_from (codes "frontier" ∷ codes "reduce" ∷ []) (omega arith) (literal (codes "frontier") refl, (literal (codes "reduce") refl, tt))
+part_tokens part.Gather = tokens_from (codes "frontier" ∷ codes "gather" ∷ []) (omega arith) (literal (codes "frontier") refl, (literal (codes "gather") refl, tt))
+part_tokens part.Joined = tokens_from (codes "joined" ∷ []) (omega arith) (literal (codes "joined") refl, tt)
+
+module _ (names : List (List ℕ)) (q : QuestionValue) (as_many : length names ≡ q.topology.nodes) (named : AreNames names) (ok : IsLimits q.limits) (base : FewBase q.spec) where
+  pub frontier_are_tokens : (x : Part) (f : FrontierValue) → IsFrontier q f → AllByRecursion AreTokens (frontier_lines names (x, f))
+  frontier_are_tokens x f is = (
+    part_tokens x,
+    tokens_both (flat_map (point_lines names) f.points) (map refuted_words f.refuted ++ map unknown_words f.unknown)
+        (parts_are_tokens (IsPoint q) (point_lines names) (point_are_tokens names q as_many named ok base) f.points is.points)
+        (tokens_both (map refuted_words f.refuted) (map unknown_words f.unknown)
+        (lines_are_tokens (IsWithin q) refuted_words (refuted_tokens q ok) f.refuted is.refuted)
+        (lines_are_tokens (IsUnknown q) unknown_words (unknown_tokens q ok) f.unknown is.unknown)),
+  )
+
+  pub joined_lines_are_tokens : (k : Kind) (js : List PointValue) → All (IsJoinedPoint q) js → AllByRecursion AreTokens (joined_lines names k js)
+  joined_lines_are_tokens kind.Broadcast js all = tt
+  joined_lines_are_tokens kind.Gather js all = tt
+  joined_lines_are_tokens kind.Allgather js all = tt
+  joined_lines_are_tokens kind.Scatter js all = tt
+  joined_lines_are_tokens kind.Alltoall js all = tt
+  joined_lines_are_tokens kind.Reduce js all = tt
+  joined_lines_are_tokens kind.Reducescatter js all = tt
+  joined_lines_are_tokens kind.Custom js all = tt
+  joined_lines_are_tokens kind.Allreduce js all =
+      (part_tokens part.Joined, parts_are_tokens (IsJoinedPoint q) (point_lines names) (joined_are_tokens names q as_many named ok base) js all)
+
+version_tokens : (c : Option PatternValue) → AreTokens (codes "sccl" ∷ version_word c ∷ [])
+version_tokens None = tokens_from (codes "sccl" ∷ codes "1" ∷ []) (omega arith) (literal (codes "sccl") refl, (literal (codes "1") refl, tt))
+version_tokens (Some p) = tokens_from (codes "sccl" ∷ codes "2" ∷ []) (omega arith) (literal (codes "sccl") refl, (literal (codes "2") refl, tt))
+
+pub report_are_tokens : (r : ReportValue) → IsReport r → AllByRecursion AreTokens (report_lines r)
+report_are_tokens r is =
+    let names = r.topology.names in
+    let named = is.topology.names in
+    let as_many = is.topology.as_many in
+    let ok = is.words.limits in
+    let w : WordsValue = r.words in
+    let t : NamedTopologyValue = r.topology in
+    let frontiers = flat_map (frontier_lines names) r.frontiers in
+    let joined = joined_lines names w.collective.kind r.joined in (
+      version_tokens t.custom,
+      (
+        synth_tokens names w named is.words,
+        tokens_both (lines_of t) (body_lines r ++ (codes "end" ∷ []) ∷ []) (lines_are_words t is.topology)
+            (tokens_both (body_lines r) ((codes "end" ∷ []) ∷ [])
+            (tokens_both frontiers joined
+            (parts_are_tokens (λ x. IsFrontier (question_of w t x.0) x.1) (frontier_lines names) (λ x. frontier_are_tokens names (question_of w t x.0) as_many named ok (base_of w t x.0 is.topology.custom) x.0 x.1) r.frontiers is.frontiers)
+            (joined_lines_are_tokens names (question_of w t part.Joined) as_many named ok (base_of w t part.Joined is.topology.custom) w.collective.kind r.joined is.joined))
+            (tokens_from (codes "end" ∷ []) (omega arith) (literal (codes "end") refl, tt), tt)),
+      ),
+    )
+
+-- the text of a valid report falls into the lines that it was made of
+pub rows_of_report : (r : ReportValue) → IsReport r → rows_of (report_text r) ≡ map row_of (report_lines r)
+unfolding report_text
+rows_of_report r is = rows_again (report_lines r) (report_are_tokens r is)

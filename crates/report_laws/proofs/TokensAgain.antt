@@ -1,0 +1,73 @@
+-- Tokens that are spelled are taken, and give back what they spell.
+use Rattle.std.proofs.Common.{◌≡◌, ◌≢◌, ℕ, suc, ◌<◌, ◌≤◌, ◌^◌, Bool, true, false, ◌&&◌, not, List, [], ◌∷◌, ◌++◌, length, get_or, drop, Option, None, Some, Result, Ok, refl, ap, ◌∙◌, arith}
+use Rattle.std.specs.Prelude.{◌==◌, decimal, nat_eq, nat_le}
+use Rattle.std.specs.List.{starts_with, list_all}
+use Rattle.std.specs.Str.Parse.{digits_value}
+use Rattle.std.proofs.Math.Seq.{drop-append_seam}
+use Rattle.std.proofs.lemmas.Bool.{and_from, cond-true, le-leb, ne_eqb}
+use Rattle.std.proofs.lemmas.Bool.Decides.{Decides-eqb}
+use Rattle.std.proofs.lemmas.Fmt.{decimal_is_IsNumeral, decimal_nonempty}
+use Rattle.std.proofs.lemmas.Slice.Eq.{bytes_eq-Decides, starts_is}
+use Rattle.std.proofs.lemmas.Str.Parse.{digit_at}
+use Rattle.text_lines.specs.Check.{◌>>=◌, refuse, need}
+use Rattle.text_lines.proofs.Distinct.{AreDistinct}
+use Rattle.text_lines.proofs.Numbers.{up_to_some, zero_not}
+use Rattle.topology_text.specs.Spelling.{name_at}
+use Rattle.topology_text.specs.Reading.{begins, node_of}
+use Rattle.topology_text.proofs.Links.{node_again}
+use Rattle.report_form.specs.declared.fault.ReportCode.{ReportCode}
+use Rattle.report_form.specs.declared.fault.ReportCode.TheVariants.{BadLine}
+use Rattle.report_form.specs.Fields.{is_digit, is_number, any_number, small_number, next_word, behind_key, next_keyed, fixed_word, next_number, next_node}
+
+-- ---- one token
+
+-- a token that is read so is taken, and those behind it are left
+pub word_again : {A : Type 0} (read : List ℕ → Option A) (w : List ℕ) (ws : List (List ℕ)) (x : A) → read w ≡ Some x → next_word read (w ∷ ws) ≡ Ok (x, ws)
+word_again {A} read w ws x e =
+    let next : A → Result (A × List (List ℕ)) ReportCode = λ y. Ok (y, ws) in
+    ap (λ o. need o BadLine >>= next) e
+
+pub fixed_again : (word : List ℕ) (rest : List (List ℕ)) → fixed_word word (word ∷ rest) ≡ Ok rest
+fixed_again word rest = ap (λ t. refuse (not t) BadLine >>= (λ u. Ok rest)) ((bytes_eq-Decides word word).1 refl)
+
+-- a key and a value that is read so
+pub keyed_again : {A : Type 0} (key : List ℕ) (read : List ℕ → Option A) (value : List ℕ) (rest : List (List ℕ)) (x : A) → read value ≡ Some x → next_keyed key read ((key ++ value) ∷ rest) ≡ Ok (x, rest)
+keyed_again key read value rest x e =
+    let w : List ℕ = key ++ value in
+    let front : begins key w ≡ true = (starts_is Decides-eqb w key (starts_with nat_eq w key) refl).1 value refl in
+    word_again (behind_key key read) w rest x (cond-true (begins key w) (read (drop (length key) w)) None front ∙ ap read (drop-append_seam key value) ∙ e)
+
+-- ---- numbers and names
+
+pub small_again : (n : ℕ) → n ≤ 65535 → small_number (decimal n) ≡ Some n
+small_again n low = up_to_some 65535 n (decimal n) (omega arith) refl low
+
+pub number_again : (n : ℕ) (rest : List (List ℕ)) → n ≤ 65535 → next_number (decimal n ∷ rest) ≡ Ok (n, rest)
+number_again n rest low = word_again small_number (decimal n) rest n (small_again n low)
+
+pub next_node_again : (names : List (List ℕ)) (node : ℕ) (rest : List (List ℕ)) → AreDistinct names → node < length names → next_node names (name_at names node ∷ rest) ≡ Ok (node, rest)
+next_node_again names node rest distinct below = word_again (node_of names) (name_at names node) rest node (node_again names node distinct below)
+
+digits_pass : (bs : List ℕ) → ((i : ℕ) → i < length bs → (48 ≤ get_or bs i 0) × (get_or bs i 0 ≤ 57)) → list_all is_digit bs ≡ true
+digits_pass [] digit = refl
+digits_pass (b ∷ bs) digit =
+    let here = digit 0 (omega arith) in
+    and_from (is_digit b) (list_all is_digit bs) (and_from (nat_le 48 b) (nat_le b 57) (le-leb 48 b here.0) (le-leb b 57 here.1))
+    (digits_pass bs (λ i h. digit (suc i) (omega (arith, h))))
+
+-- digits, of which the first is no 0 unless it is alone
+number_pass : (bs : List ℕ) → 0 < length bs → list_all is_digit bs ≡ true → (1 < length bs → get_or bs 0 0 ≢ 48) → is_number bs ≡ true
+number_pass [] some digits lead = absurd (omega arith)
+number_pass (b ∷ []) some digits lead = one (is_digit b) digits
+  where
+    one : (t : Bool) → (t && true) ≡ true → t ≡ true
+    one true h = refl
+    one false h = h
+number_pass (b ∷ c ∷ bs) some digits lead = and_from (not (b == 48)) (list_all is_digit (b ∷ c ∷ bs)) (ap not (ne_eqb b 48 (lead (omega arith)))) digits
+
+pub any_number_again : (n : ℕ) → n < 2 ^ 64 → any_number (decimal n) ≡ Some n
+any_number_again n small =
+    let numeral = decimal_is_IsNumeral n small in
+    let digits = digits_pass (decimal n) (λ i h. let d = digit_at (decimal n) i numeral.0.1 h in (omega (arith, d), omega (arith, d))) in
+    let canonical = number_pass (decimal n) (decimal_nonempty n small) digits (λ long lead. zero_not (decimal n) n small long lead refl) in
+    cond-true (is_number (decimal n)) (Some (digits_value 10 (decimal n))) None canonical ∙ ap (λ v. Some v) numeral.1
