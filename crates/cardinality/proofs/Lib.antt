@@ -1,5 +1,6 @@
-pub mod Rows
-pub mod Reached
 pub mod Ranges
-pub mod Extended
 pub mod Pairs
+pub mod Wider
+pub mod Joins
+pub mod Totals
+pub mod Sides

@@ -4,16 +4,16 @@ ghost use Rattle.std.specs.Prelude.{ℕ, ◌<◌, ◌≤◌, Bool, List, length,
 ghost use Rattle.cnf_formula.specs.Literals.{LitValue, all_hold};
 ghost use Rattle.cnf_formula.specs.Formulas.{IsAbout};
 ghost use Rattle.cardinality.specs.Counting.{IsCounter, true_inputs, at_most_one_of};
-ghost use Rattle.cardinality.specs.Counters.{counter_of};
-
-/// The sequential counter counts: where its clauses hold, each output is true for which enough inputs are, and each
-/// assignment of the variables before it extends to one in which the outputs are true exactly there.
-pub fn sequential_counter_counts()
-    ensures { (before : ℕ) (inputs : List LitValue) (bound : ℕ) → 0 < length inputs → All (IsAbout before) inputs → IsCounter before inputs bound (counter_of before inputs bound) }
-{}
+ghost use Rattle.cardinality.specs.Totalizers.{totalizer_of};
 
 /// The clauses of pairs hold exactly where at most one of the inputs is true.
 #[tactic(auto, using(crate::proofs::Pairs::pairs_decide))]
 pub fn pairs_leave_at_most_one()
     ensures { (values : List Bool) (inputs : List LitValue) → Decides (all_hold values (at_most_one_of inputs)) (true_inputs values inputs ≤ 1) }
+{}
+
+/// The totalizer counts: where its clauses hold, each output is true for which enough inputs are, and each assignment of
+/// the variables before it extends to one in which the outputs are true exactly there.
+pub fn totalizer_counts()
+    ensures { (before : ℕ) (inputs : List LitValue) (bound : ℕ) → 0 < length inputs → All (IsAbout before) inputs → IsCounter before inputs bound (totalizer_of before inputs bound) }
 {}

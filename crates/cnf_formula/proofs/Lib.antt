@@ -1,1 +1,4 @@
 pub mod Clauses
+pub mod Codes
+pub mod Growing
+pub mod Keeping

@@ -1,4 +1,13 @@
+ghost use Rattle.std.specs.Prelude.{◌≡◌, ◌+◌, ◌<◌, [], ◌∷◌, length, OnOk, OnErr, Decides};
+ghost use Rattle.cnf_formula.specs.Literals.{LitValue, all_hold};
+ghost use Rattle.cnf_formula.specs.Formulas.{FormulaValue, IsFormula, IsClause, Satisfies, with_clauses};
+
+use crate::OutOfMemory;
+use crate::assignment::Assignment;
 use crate::clause::Clause;
+use crate::lit::Lit;
+use smallvec::SmallVec;
+use std::alloc::Global;
 use std::marker::Model;
 
 /// A formula in conjunctive normal form: variables numbered from 1 to `vars`, and clauses over them.
@@ -16,4 +25,74 @@ impl Model for Formula {
     ghost view = { λ f. record { vars = f.vars; clauses = f.clauses.items } };
 
     ghost invariant = { λ f. IsFormula (record { vars = f.vars; clauses = f.clauses.items }) };
+}
+
+impl Formula {
+    /// The formula of so many variables and no clause.
+    pub fn new(alloc: Global, vars: u32) -> Formula
+        ensures { result ≡ record { vars = vars; clauses = [] } }
+    {
+        Formula {
+            vars,
+            clauses: Vec::new(alloc),
+        }
+    }
+
+    /// How many variables there are.
+    pub fn vars(&self) -> u32
+        ensures vars { result ≡ self.now.vars }
+        ensures limits { IsFormula self.now }
+    {
+        self.vars
+    }
+
+    /// Adds a variable, and gives its number.
+    pub fn fresh_var(&mut self) -> u32
+        requires { self.old.vars < 2147483647 }
+        ensures number { result ≡ self.old.vars + 1 }
+        ensures added { self.new ≡ record { vars = self.old.vars + 1; clauses = self.old.clauses } }
+    {
+        self.vars += 1;
+        self.vars
+    }
+
+    /// Adds a clause of these literals, about the formula's variables. An `Err` comes only where memory runs out, and then
+    /// the formula is as before.
+    pub fn add(&mut self, lits: &[Lit]) -> Result<(), OutOfMemory>
+        requires { IsClause self.old.vars lits.now }
+        ensures added { OnOk result (self.new ≡ with_clauses self.old (lits.now ∷ [])) }
+        ensures kept { OnErr result (self.new ≡ self.old) }
+    {
+        let lits = SmallVec::from_slice(*self.clauses.allocator(), lits)?;
+        self.clauses.push(Clause::of(lits))?;
+        Ok(())
+    }
+
+    /// The clauses, in the order in which they were added.
+    pub fn clauses(&self) -> &[Clause]
+        ensures clauses { result.now ≡ self.now.clauses }
+        ensures limits { IsFormula self.now }
+    {
+        &self.clauses
+    }
+
+    /// Whether every clause has a literal that is true in the assignment, which has a value for each variable.
+    pub fn holds(&self, assignment: &Assignment) -> bool
+        requires { length assignment.now ≡ self.now.vars }
+        ensures { Decides result (Satisfies assignment.now self.now) }
+    {
+        self.clauses_hold(&assignment.values)
+    }
+
+    fn clauses_hold(&self, values: &[bool]) -> bool
+        requires { length values.now ≡ self.now.vars }
+        ensures { result ≡ all_hold values.now self.now.clauses }
+    {
+        for clause in self.clauses() {
+            if !clause.holds(values) {
+                return false;
+            }
+        }
+        true
+    }
 }

@@ -1,0 +1,33 @@
+-- A literal and its number give each other.
+use Rattle.std.proofs.Common.{◌≡◌, ℕ, ◌+◌, ◌*◌, ◌/◌, ◌%◌, ◌<◌, Bool, true, false, cond, eqb, refl, ap, sym, ◌∙◌, arith}
+use Rattle.std.proofs.lemmas.Bool.{eqb-true, eqb-false}
+use Rattle.std.proofs.lemmas.Nat.{div-add-mod', mod_below, div-mul-add, mod-mul-add}
+use Rattle.cnf_formula.specs.Literals.{LitValue, code_of, literal_of}
+
+-- the last digit of a number in base 2
+digit : (n : ℕ) (b : Bool) → eqb (n % 2) 0 ≡ b → n % 2 ≡ cond b 0 1
+digit n true e = eqb-true (n % 2) 0 e
+digit n false e = let no : n % 2 ≡ 0 → ⊥ = eqb-false (n % 2) 0 e in omega (arith, no, mod_below n 2 (omega arith))
+
+pub code-literal : (n : ℕ) → code_of (literal_of n) ≡ n
+code-literal n =
+    let low : n % 2 ≡ cond (eqb (n % 2) 0) 0 1 = digit n (eqb (n % 2) 0) refl in
+    let whole : n / 2 * 2 + n % 2 ≡ n = div-add-mod' n 2 in
+    omega (arith, low, whole)
+
+-- the number of a variable and a sign
+pub halves : (v d : ℕ) → d < 2 → ((2 * v + d) / 2 ≡ v) × ((2 * v + d) % 2 ≡ d)
+halves v d small =
+    let turned : 2 * v + d ≡ v * 2 + d = omega arith in
+    (ap (λ n. n / 2) turned ∙ div-mul-add v 2 d small, ap (λ n. n % 2) turned ∙ mod-mul-add v 2 d small)
+
+pub literal-code : (l : LitValue) → literal_of (code_of l) ≡ l
+literal-code l = go l.var l.positive
+  where
+    go : (v : ℕ) (p : Bool) → literal_of (code_of (record { var = v; positive = p })) ≡ record { var = v; positive = p }
+    go v true = let h = halves v 0 (omega arith) in λ i. record { var = h.0 i; positive = eqb (h.1 i) 0 }
+    go v false = let h = halves v 1 (omega arith) in λ i. record { var = h.0 i; positive = eqb (h.1 i) 0 }
+
+-- literals with one number are one
+pub same_code : (l m : LitValue) → code_of l ≡ code_of m → l ≡ m
+same_code l m e = sym (literal-code l) ∙ ap literal_of e ∙ literal-code m
