@@ -3,23 +3,26 @@ use Rattle.std.proofs.Common.{◌≡◌, ℕ, ◌+◌, ◌-◌, ◌*◌, ◌<◌
 use Rattle.std.specs.Prelude.{if◌then◌else◌, flat_map, nat_lt, All}
 use Rattle.std.specs.List.{list_any, range_with_len}
 use Rattle.std.proofs.lemmas.Bool.{ltb-true}
-use Rattle.std.proofs.lemmas.List.Elements.{All-nil, All-cons, All-head, All-tail, All-append, All-filter}
+use Rattle.std.proofs.lemmas.List.Elements.{All-nil, All-cons, All-head, All-tail, All-append}
 use Rattle.std.proofs.lemmas.List.Folds.{list_any_at}
 use Rattle.std.proofs.lemmas.List.FromFn.{length-map-range_with_len}
 use Rattle.std.proofs.Math.Nat.{mul-le-mul_left}
-use Rattle.schedule.specs.Links.{GroupValue, TopologyValue, IsTopology, IsBelow, same_link, has_link, is_usable}
-use Rattle.schedule.specs.Placed.{PlacementValue, all_pairs}
-use Rattle.schedule.proofs.Placing.{all_below, holds-placed, pair_itself}
+use Rattle.schedule.specs.Links.{GroupValue, TopologyValue, IsTopology, IsBelow, same_link, has_link, is_usable, usable_links}
+use Rattle.schedule.specs.Placed.{PlacementValue}
+use Rattle.schedule.proofs.Placing.{holds-placed, pair_itself}
 use Rattle.cnf_formula.specs.Literals.{LitValue, yes, negation}
 use Rattle.cnf_formula.specs.Formulas.{IsAbout, IsClause, IsFormula}
 use Rattle.cardinality.specs.Counting.{output}
-use Rattle.cardinality.specs.Counters.{reached, counter_of}
-use Rattle.cardinality.proofs.Ranges.{outputs_in_range, clauses_in_range}
-use Rattle.round_encoding.specs.Variables.{SendMapValue, Frame, map_of, frame_of, usable_links, chunks_of, steps_of, extra_of, sent, extra_round, own_variables}
-use Rattle.round_encoding.specs.Sending.{sending}
-use Rattle.round_encoding.specs.Rounding.{Count, count_of_rounds, count_of_group, counts_of, counted, formula_of, number_of, extra_in_order}
-use Rattle.round_encoding.proofs.Everywhere.{by_recursion, in_map, in_flat, From, in_range, some_in_flat, place_below}
-use Rattle.round_encoding.proofs.About.{about_not, one, two, only_clause, wider, wider_clause, wider_clauses, JoinsNodes, IsStepOf, sent_about, extra_about, sending_about, order_about}
+use Rattle.cardinality.specs.Totalizers.{totalizer_of}
+use Rattle.cardinality.proofs.Totals.{totalizer_is_counter}
+use Rattle.send_encoding.specs.Variables.{SendMapValue, map_of, chunks_of, steps_of, sent, number_of}
+use Rattle.round_encoding.specs.Frames.{Frame, frame_of, extra_of, extra_round, own_variables}
+use Rattle.send_encoding.specs.Sending.{sending}
+use Rattle.round_encoding.specs.Rounding.{Count, count_of_rounds, count_of_group, counts_of, counted, formula_of, extra_in_order}
+use Rattle.send_encoding.proofs.Everywhere.{in_map, in_flat, From, in_range, some_in_flat, place_below}
+use Rattle.send_encoding.proofs.Mapped.{links_join}
+use Rattle.send_encoding.proofs.About.{about_not, one, two, only_clause, wider, wider_clause, wider_clauses, IsStepOf}
+use Rattle.round_encoding.proofs.Extras.{sent_about, extra_about, sending_about, order_about}
 
 -- ---- counts in a row
 
@@ -32,27 +35,26 @@ pub record IsCount (own : ℕ) (count : Count) : Type 0 where
 pub more_variables : (before : ℕ) (counts : List Count) → before ≤ (counted before counts).vars
 more_variables before [] = omega arith
 more_variables before (count ∷ counts) =
-    let rest = more_variables (before + (counter_of before count.inputs count.bound).vars) counts in
+    let rest = more_variables (before + (totalizer_of before count.inputs count.bound).vars) counts in
     omega (arith, rest)
 
-output_about : (before : ℕ) (count : Count) → 0 < length count.inputs → (t : ℕ) → 0 < t → t ≤ count.bound + 1 → IsAbout (before + (counter_of before count.inputs count.bound).vars) (output (counter_of before count.inputs count.bound) t)
-output_about before count some t low high =
-    let counter = counter_of before count.inputs count.bound in
-    let many : length counter.outputs ≡ count.bound + 1 = length-map-range_with_len (reached before (count.bound + 1) (length count.inputs)) 1 (count.bound + 1) in
-    outputs_in_range before count.inputs count.bound some (t - 1) (yes 0) (omega (arith, many, low, high))
+output_about : (before : ℕ) (count : Count) → 0 < length count.inputs → All (IsAbout before) count.inputs → (t : ℕ) → 0 < t → t ≤ count.bound + 1 → IsAbout (before + (totalizer_of before count.inputs count.bound).vars) (output (totalizer_of before count.inputs count.bound) t)
+output_about before count some about t low high =
+    let counts = totalizer_is_counter before count.inputs count.bound some about in
+    counts.outputs_about (t - 1) (yes 0) (omega (arith, counts.outputs_are, low, high))
 
 pub counts_about : (own before : ℕ) (counts : List Count) → own ≤ before → All (IsCount own) counts → All (IsClause (counted before counts).vars) (counted before counts).clauses
 counts_about own before [] le a = All-nil (IsClause before)
 counts_about own before (count ∷ counts) le a =
     let here = All-head (IsCount own) count counts a in
-    let counter = counter_of before count.inputs count.bound in
+    let counter = totalizer_of before count.inputs count.bound in
     let next : ℕ = before + counter.vars in
     let later = counted next counts in
     let v : ℕ = later.vars in
     let more : next ≤ v = more_variables next counts in
     let inputs : All (IsAbout before) count.inputs = wider_clause own before count.inputs le here.about in
-    let first = wider_clauses next v counter.clauses more (clauses_in_range before count.inputs count.bound inputs) in
-    let told = here.says v (output counter) (omega (arith, le, more)) (λ t low high. wider next v (output counter t) more (output_about before count here.some t low high)) in
+    let first = wider_clauses next v counter.clauses more (totalizer_is_counter before count.inputs count.bound here.some inputs).clauses_about in
+    let told = here.says v (output counter) (omega (arith, le, more)) (λ t low high. wider next v (output counter t) more (output_about before count here.some inputs t low high)) in
     let rest = counts_about own next counts (omega (arith, le)) (All-tail (IsCount own) count counts a) in
     All-append (IsClause v) (counter.clauses ++ count.says (output counter)) later.clauses
     (All-append (IsClause v) counter.clauses (count.says (output counter)) first told) rest
@@ -69,7 +71,7 @@ module _ (f : Frame) where
   some_range : (a n : ℕ) → 0 < n → 0 < length (map (extra_round f a) (range_with_len 1 n))
   some_range a n some = let many = length-map-range_with_len (extra_round f a) 1 n in omega (arith, many, some)
 
-  rounds_counted : 0 < m.steps → 0 < f.extra → IsCount v (count_of_rounds f)
+  pub rounds_counted : 0 < m.steps → 0 < f.extra → IsCount v (count_of_rounds f)
   rounds_counted steps extra = record {
     some = some_in_flat (λ s. map (extra_round f s) (extra_of f)) 1 m.steps steps (λ s. some_range s f.extra extra);
     about = in_flat (IsAbout v) (IsStepOf m) (λ s. map (extra_round f s) (extra_of f)) (steps_of m)
@@ -81,7 +83,7 @@ module _ (f : Frame) where
   some_links c s [] some = absurd (omega (arith, some))
   some_links c s (link ∷ links) some = omega arith
 
-  group_counted : (s : ℕ) (group : GroupValue) → IsStepOf m s → 0 < m.chunks → 0 < length group.links → All (λ link. number_of m link < length m.links) group.links → IsCount v (count_of_group f s group)
+  pub group_counted : (s : ℕ) (group : GroupValue) → IsStepOf m s → 0 < m.chunks → 0 < length group.links → All (λ link. number_of m link < length m.links) group.links → IsCount v (count_of_group f s group)
   group_counted s group step chunks some places = record {
     some = some_in_flat (λ c. map (λ link. sent m c (number_of m link) s) group.links) 0 m.chunks chunks (λ c. some_links c s group.links some);
     about = in_flat (IsAbout v) (From 0 m.chunks) (λ c. map (λ link. sent m c (number_of m link) s) group.links) (chunks_of m)
@@ -101,9 +103,6 @@ module _ (f : Frame) where
 
 -- ---- a topology's links
 
-links_join : (t : TopologyValue) (pre : PlacementValue) (steps : ℕ) → All (JoinsNodes (map_of t pre steps)) (usable_links t)
-links_join t pre steps = All-filter (is_usable t) (JoinsNodes (map_of t pre steps)) (all_pairs t.nodes t.nodes) (by_recursion (JoinsNodes (map_of t pre steps)) (all_pairs t.nodes t.nodes) (all_below t.nodes t.nodes))
-
 link_listed : (t : TopologyValue) (link : ℕ × ℕ) → IsBelow t.nodes link → is_usable t link ≡ true → list_any (same_link link) (usable_links t) ≡ true
 link_listed t link below usable = holds-placed t.nodes t.nodes (is_usable t) link below.from below.to ∙ usable
 
@@ -113,7 +112,7 @@ in_group t k j d e low few =
     let link = get_or group.links j e in
     list_any_at (λ g. has_link g link) t.groups k d low (list_any_at (same_link link) group.links j e few (pair_itself link))
 
-placed_links : (t : TopologyValue) (pre : PlacementValue) (steps k : ℕ) (d : GroupValue) → IsTopology t → k < length t.groups → All (λ link. number_of (map_of t pre steps) link < length (usable_links t)) (get_or t.groups k d).links
+pub placed_links : (t : TopologyValue) (pre : PlacementValue) (steps k : ℕ) (d : GroupValue) → IsTopology t → k < length t.groups → All (λ link. number_of (map_of t pre steps) link < length (usable_links t)) (get_or t.groups k d).links
 placed_links t pre steps k d ok low = λ j e few.
     let link = get_or (get_or t.groups k d).links j e in
     place_below (same_link link) (usable_links t) (link_listed t link (ok.nodes k d low j e few) (in_group t k j d e low few))
@@ -127,7 +126,7 @@ groups_carry t pre steps ok k d low = let group = ok.groups k d low in (group.so
 
 -- ---- the formula
 
-all_counts : (t : TopologyValue) (pre : PlacementValue) (steps rounds : ℕ) → IsTopology t → 0 < pre.chunks → 0 < steps → All (IsCount (own_variables (frame_of t pre steps rounds))) (counts_of (frame_of t pre steps rounds) t)
+pub all_counts : (t : TopologyValue) (pre : PlacementValue) (steps rounds : ℕ) → IsTopology t → 0 < pre.chunks → 0 < steps → All (IsCount (own_variables (frame_of t pre steps rounds))) (counts_of (frame_of t pre steps rounds) t)
 all_counts t pre steps rounds ok chunks some =
     let f = frame_of t pre steps rounds in
     All-append (IsCount (own_variables f)) (if nat_lt 0 f.extra then count_of_rounds f ∷ [] else []) (flat_map (λ s. map (count_of_group f s) t.groups) (steps_of f.map))

@@ -1,15 +1,16 @@
 -- What the rounds of a step allow, and the formula of a candidate (Cai et al., PPoPP 2021, section on the encoding).
-use Rattle.std.specs.Prelude.{ℕ, ◌+◌, ◌-◌, ◌*◌, if◌then◌else◌, List, [], ◌∷◌, ◌++◌, map, flat_map, nat_lt}
-use Rattle.std.specs.List.{range_with_len, position_or_len}
-use Rattle.schedule.specs.Links.{GroupValue, TopologyValue, same_link}
+use Rattle.std.specs.Prelude.{ℕ, ◌+◌, ◌-◌, ◌*◌, if◌then◌else◌, List, [], ◌∷◌, ◌++◌, map, flat_map, nat_lt, slice_index_or}
+use Rattle.std.specs.List.{range_with_len}
+use Rattle.schedule.specs.Links.{GroupValue, TopologyValue}
 use Rattle.schedule.specs.Placed.{PlacementValue}
-use Rattle.cnf_formula.specs.Literals.{LitValue, negation}
+use Rattle.cnf_formula.specs.Literals.{LitValue, yes, negation}
 use Rattle.cnf_formula.specs.Formulas.{FormulaValue}
 use Rattle.cardinality.specs.Counting.{output}
-use Rattle.cardinality.specs.Counters.{counter_of}
+use Rattle.cardinality.specs.Totalizers.{totalizer_of}
 use Rattle.round_encoding.specs.declared.encoding.Encoding.{Encoding}
-use Rattle.round_encoding.specs.Variables.{SendMapValue, Frame, map_of, frame_of, extra_from, chunks_of, steps_of, extra_of, sent, extra_round, own_variables}
-use Rattle.round_encoding.specs.Sending.{sending}
+use Rattle.send_encoding.specs.Variables.{map_of, number_of, chunks_of, steps_of, sent}
+use Rattle.round_encoding.specs.Frames.{Frame, frame_of, extra_from, extra_of, extra_round, own_variables}
+use Rattle.send_encoding.specs.Sending.{sending}
 
 -- a step with j + 1 extra rounds has j of them
 abbrev pub extra_in_order : Frame → List (List LitValue)
@@ -29,15 +30,19 @@ count_of_rounds f = record {
   says = λ o. (negation (o (f.extra + 1)) ∷ []) ∷ [];
 }
 
-abbrev pub number_of : SendMapValue → ℕ × ℕ → ℕ
-number_of m link = position_or_len (same_link link) m.links
+-- output t of a list, from 1
+abbrev pub output_at : List LitValue → ℕ → LitValue
+output_at outputs t = slice_index_or outputs (t - 1) (yes 0)
+
+abbrev pub said_of_group : Frame → ℕ → ℕ → (ℕ → LitValue) → List (List LitValue)
+said_of_group f s width o = map (λ j. negation (o (width * j + 1)) ∷ extra_round f s j ∷ []) (extra_of f) ++ (negation (o (width * (1 + f.extra) + 1)) ∷ []) ∷ []
 
 -- a group carries its width in a step's first round, and in each extra round that the step has
 abbrev pub count_of_group : Frame → ℕ → GroupValue → Count
 count_of_group f s group = record {
   inputs = flat_map (λ c. map (λ link. sent f.map c (number_of f.map link) s) group.links) (chunks_of f.map);
   bound = group.width * (1 + f.extra);
-  says = λ o. map (λ j. negation (o (group.width * j + 1)) ∷ extra_round f s j ∷ []) (extra_of f) ++ (negation (o (group.width * (1 + f.extra) + 1)) ∷ []) ∷ [];
+  says = said_of_group f s group.width;
 }
 
 abbrev pub counts_of : Frame → TopologyValue → List Count
@@ -47,9 +52,15 @@ counts_of f t = (if nat_lt 0 f.extra then count_of_rounds f ∷ [] else []) ++ f
 abbrev pub counted : ℕ → List Count → FormulaValue
 counted before [] = record { vars = before; clauses = [] }
 counted before (count ∷ counts) =
-    let counter = counter_of before count.inputs count.bound in
+    let counter = totalizer_of before count.inputs count.bound in
     let later = counted (before + counter.vars) counts in
     record { vars = later.vars; clauses = counter.clauses ++ count.says (output counter) ++ later.clauses }
+
+-- the formula with one more counter, and what is said of it
+abbrev pub with_count : FormulaValue → Count → FormulaValue
+with_count f count =
+    let counter = totalizer_of f.vars count.inputs count.bound in
+    record { vars = f.vars + counter.vars; clauses = f.clauses ++ counter.clauses ++ count.says (output counter) }
 
 -- the formula of a candidate of so many steps and rounds
 abbrev pub formula_of : TopologyValue → PlacementValue → PlacementValue → ℕ → ℕ → FormulaValue

@@ -2,12 +2,18 @@
 //! instance.
 #![tactic(auto)]
 
+mod carrying;
 mod encoding;
+mod extra;
+mod grouping;
 mod laws;
-mod send_map;
+mod rounding;
+mod schedule_said;
+#[cfg(test)]
+mod tests;
 mod vectors;
 
-pub use encoding::Encoding;
-pub use laws::{arrivals_start_right, formula_has_its_variables};
-pub use send_map::SendMap;
+pub use encoding::{Encoding, encode};
+pub use laws::{formula_has_its_variables, layouts_make_candidates};
+pub use schedule_said::decode;
 pub use std::alloc::AllocError as OutOfMemory;

@@ -1,0 +1,43 @@
+-- A group's counter, in the order in which it is made.
+use Rattle.std.proofs.Common.{◌≡◌, ℕ, zero, suc, ◌+◌, ◌*◌, ◌<◌, ◌≤◌, List, [], ◌∷◌, map, length, refl, ap, ◌∙◌, arith, length-append}
+use Rattle.std.specs.Prelude.{flat_map, All}
+use Rattle.std.specs.List.{range_with_len}
+use Rattle.schedule.specs.Links.{GroupValue, IsGroup}
+use Rattle.schedule.specs.Sends.{IsStep}
+use Rattle.cnf_formula.specs.Literals.{LitValue}
+use Rattle.cnf_formula.specs.Formulas.{FormulaValue, IsClause, with_clauses}
+use Rattle.cardinality.specs.Counting.{CounterValue, with_counter}
+use Rattle.cardinality.specs.Totalizers.{totalizer_of}
+use Rattle.round_encoding.specs.Frames.{Frame, own_variables}
+use Rattle.send_encoding.specs.Variables.{sent, number_of}
+use Rattle.round_encoding.specs.Rounding.{count_of_group, output_at, said_of_group, with_count}
+use Rattle.send_encoding.proofs.About.{wider_clause}
+use Rattle.round_encoding.proofs.Counted.{group_counted}
+
+rows_length : {X : Type 0} (g : ℕ → List X) (m a n : ℕ) → ((j : ℕ) → length (g j) ≡ m) → length (flat_map g (range_with_len a n)) ≡ n * m
+rows_length g m a zero h = omega arith
+rows_length g m a (suc n) h = length-append (g a) (flat_map g (range_with_len (a + 1) n)) ∙ omega (arith, h a, rows_length g m (a + 1) n h)
+
+mapped_length : {X Y : Type 0} (g : X → Y) (xs : List X) → length (map g xs) ≡ length xs
+mapped_length g [] = refl
+mapped_length g (x ∷ xs) = ap (λ n. suc n) (mapped_length g xs)
+
+module _ (f : Frame) (s : ℕ) (group : GroupValue) where
+  abbrev inputs : List LitValue
+  inputs = (count_of_group f s group).inputs
+
+  pub inputs_length : length inputs ≡ f.map.chunks * length group.links
+  inputs_length = rows_length (λ c. map (λ link. sent f.map c (number_of f.map link) s) group.links) (length group.links) 0 f.map.chunks (λ c. mapped_length (λ link. sent f.map c (number_of f.map link) s) group.links)
+
+  pub inputs_about : (v : ℕ) → own_variables f ≤ v → IsStep f.map.steps s → 0 < f.map.chunks → IsGroup group → All (λ link. number_of f.map link < length f.map.links) group.links → IsClause v inputs
+  inputs_about v le step chunks ok places =
+      wider_clause (own_variables f) v inputs le (group_counted f s group (omega (arith, step.from), omega (arith, step.to)) chunks ok.some places).about
+
+  pub counts_grow : (f0 f1 f2 : FormulaValue) (ys outs : List LitValue) (width bound : ℕ) → ys ≡ inputs → width ≡ group.width → bound ≡ width * (1 + f.extra) → f1 ≡ with_counter f0 (totalizer_of f0.vars ys bound) → outs ≡ (totalizer_of f0.vars ys bound).outputs
+      → f2 ≡ with_clauses f1 (said_of_group f s width (output_at outs)) → f2 ≡ with_count f0 (count_of_group f s group)
+  counts_grow f0 f1 f2 ys outs width bound ey ew eb e1 eo e2 =
+      let counter : List LitValue → ℕ → CounterValue = λ x b. totalizer_of f0.vars x b in
+      let at : CounterValue → ℕ → FormulaValue = λ k w. with_clauses (with_counter f0 k) (said_of_group f s w (output_at k.outputs)) in
+      e2 ∙ ap (λ x. with_clauses x (said_of_group f s width (output_at outs))) e1
+      ∙ ap (λ o. with_clauses (with_counter f0 (counter ys bound)) (said_of_group f s width (output_at o))) eo
+      ∙ ap (λ y. at (counter y bound) width) ey ∙ ap (λ b. at (counter inputs b) width) eb ∙ ap (λ w. at (counter inputs (w * (1 + f.extra))) w) ew

@@ -1,0 +1,10 @@
+use Rattle.std.proofs.Common.{◌≡◌, ◌+◌, ◌*◌, ◌∷◌, [], map}
+use Rattle.std.specs.List.{range_with_len}
+use Rattle.cnf_formula.specs.Literals.{negation}
+use Rattle.cnf_formula.specs.Formulas.{with_clauses}
+use Rattle.round_encoding.specs.Frames.{extra_round}
+use Rattle.round_encoding.specs.Rounding.{output_at}
+use Rattle.round_encoding.proofs.carrying.push_said.Given as goal
+
+abbrev pub invariant-loop-index : goal.invariant-loop-index
+invariant-loop-index l = l.formula ≡ with_clauses l.initial.formula (map (λ j. negation (output_at l.outputs (l.width * j + 1)) ∷ extra_round (record { map = l.variables; extra = l.extra }) l.step j ∷ []) (range_with_len 1 l.index))

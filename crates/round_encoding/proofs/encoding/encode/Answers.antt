@@ -1,0 +1,64 @@
+use Rattle.std.proofs.Common.{◌≡◌, ℕ, ◌+◌, ◌-◌, ◌*◌, ◌<◌, Bool, List, sym, subst}
+use Rattle.std.specs.Prelude.{◌↔◌, sum_by}
+use Rattle.schedule.specs.Sends.{ScheduleValue, IsSchedule, IsInRange}
+use Rattle.schedule.specs.Solving.{Solves, Solvable}
+use Rattle.cnf_formula.specs.Formulas.{Satisfies, Satisfiable}
+use Rattle.send_encoding.specs.Variables.{SendMapValue, map_of}
+use Rattle.send_encoding.specs.Agreeing.{SatisfiesAs}
+use Rattle.round_encoding.specs.declared.encoding.Encoding.{Encoding}
+use Rattle.round_encoding.specs.Decoding.{decoded}
+use Rattle.round_encoding.specs.Candidates.{IsTightSolution}
+use Rattle.round_encoding.specs.Counts.{HasLinks, room}
+use Rattle.round_encoding.specs.Frames.{own_variables}
+use Rattle.round_encoding.proofs.Counted.{placed_links}
+use Rattle.round_encoding.proofs.Encoded.{encoded}
+use Rattle.round_encoding.proofs.Exactly.{sound, exactly, completely}
+use Rattle.round_encoding.proofs.Sizes.{few_sends, few_variables}
+use Rattle.round_encoding.proofs.encoding.encode.Goals as goal
+
+pub encode_sends-requires-clause-few : goal.encode_sends-requires-clause-few
+encode_sends-requires-clause-few c = few_sends c.args.topology.now c.args.instance.now.pre c.args.instance.now.post c.args.steps c.args.rounds c.requires.candidate c.requires.size
+
+pub encode_rounds-requires-clause-links : goal.encode_rounds-requires-clause-links
+encode_rounds-requires-clause-links c =
+    let t = c.args.topology.now in
+    let pre = c.args.instance.now.pre in
+    let is : c.in_ok-map.map ≡ map_of t pre c.args.steps = c.in_ok-map.ensures.map in
+    subst (λ m. HasLinks m t) (sym is) (λ k d low. placed_links t pre c.args.steps k d c.requires.candidate.topology low)
+
+pub encode_rounds-requires-clause-small : goal.encode_rounds-requires-clause-small
+encode_rounds-requires-clause-small c =
+    let t = c.args.topology.now in
+    let pre = c.args.instance.now.pre in
+    let extra : ℕ = c.args.rounds - c.args.steps in
+    let is : c.in_ok-map.map ≡ map_of t pre c.args.steps = c.in_ok-map.ensures.map in
+    subst (λ (m : SendMapValue). own_variables (record { map = m; extra = extra }) + m.steps * extra * (extra + 1) + m.steps * sum_by (room (record { map = m; extra = extra })) t.groups < 2147483648) (sym is)
+    (few_variables t pre c.args.instance.now.post c.args.steps c.args.rounds c.requires.candidate c.requires.size)
+
+pub returns-clause-encoding : goal.returns-clause-encoding
+returns-clause-encoding c =
+    encoded c.args.topology.now c.args.instance.now.pre c.args.instance.now.post c.args.steps c.args.rounds c.in_ok-map.map c.vars-extra_from.result c.encode_sends.new.formula c.encode_rounds.new.formula
+    c.in_ok-map.ensures.map c.in_ok-map.ensures.formula c.vars-extra_from.ensures.vars c.in_ok-encode_rounds.ensures
+
+pub returns-clause-exactly : goal.returns-clause-exactly
+returns-clause-exactly c =
+    let t = c.args.topology.now in
+    let pre = c.args.instance.now.pre in
+    let post = c.args.instance.now.post in
+    subst (λ (e : Encoding). Satisfiable e.formula ↔ Solvable t pre post c.args.steps c.args.rounds) (sym (returns-clause-encoding c)) (exactly t pre post c.args.steps c.args.rounds c.requires.candidate)
+
+pub returns-clause-sound : goal.returns-clause-sound
+returns-clause-sound c =
+    let t = c.args.topology.now in
+    let pre = c.args.instance.now.pre in
+    let post = c.args.instance.now.post in
+    subst (λ (e : Encoding). (values : List Bool) → Satisfies values e.formula → IsTightSolution t pre post (decoded (record { map = e.map; extra = e.extra }) values) c.args.steps c.args.rounds) (sym (returns-clause-encoding c))
+    (λ values satisfies. sound t pre post c.args.steps c.args.rounds values c.requires.candidate satisfies)
+
+pub returns-clause-complete : goal.returns-clause-complete
+returns-clause-complete c =
+    let t = c.args.topology.now in
+    let pre = c.args.instance.now.pre in
+    let post = c.args.instance.now.post in
+    subst (λ (e : Encoding). (schedule : ScheduleValue) → IsSchedule schedule → IsInRange pre.chunks pre.nodes schedule → Solves t pre post schedule c.args.steps c.args.rounds → SatisfiesAs e.map pre schedule e.formula) (sym (returns-clause-encoding c))
+    (λ schedule valid range solves. completely t pre post schedule c.args.steps c.args.rounds c.requires.candidate valid range solves)

@@ -1,0 +1,7 @@
+use Rattle.std.proofs.Common.{◌≡◌, map}
+use Rattle.std.specs.List.{flat_map, range_with_len}
+use Rattle.round_encoding.specs.Frames.{extra_round}
+use Rattle.round_encoding.proofs.rounding.all_extra.Given as goal
+
+abbrev pub invariant-loop-index : goal.invariant-loop-index
+invariant-loop-index l = l.inputs.items ≡ flat_map (λ s. map (extra_round (record { map = l.variables; extra = l.extra }) s) (range_with_len 1 l.extra)) (range_with_len 1 l.index)

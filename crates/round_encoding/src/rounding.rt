@@ -1,0 +1,156 @@
+//! Extra rounds: in their order, and together no more than there are.
+
+ghost use Rattle.std.specs.Prelude.{◌≡◌, ◌+◌, ◌-◌, ◌*◌, ◌<◌, ◌≤◌, ◌∷◌, ◌++◌, [], if◌then◌else◌, length, map, nat_lt, OnOk, IfOk};
+ghost use Rattle.std.specs.List.{flat_map, range_with_len};
+ghost use Rattle.schedule.specs.Sends.{IsStep};
+ghost use Rattle.cnf_formula.specs.Literals.{LitValue, negation};
+ghost use Rattle.cnf_formula.specs.Formulas.{FormulaValue, IsClause, with_clauses};
+ghost use Rattle.send_encoding.specs.Variables.{SendMapValue, IsSendMap};
+ghost use Rattle.round_encoding.specs.Frames.{extra_round, own_variables};
+ghost use Rattle.round_encoding.specs.Rounding.{extra_in_order, count_of_rounds, output_at, with_count};
+ghost use Rattle.round_encoding.specs.Counts.{with_counts};
+
+use crate::OutOfMemory;
+use crate::extra::extra_round;
+use cardinality::count_up_to;
+use cnf_formula::{Formula, Lit};
+use send_encoding::SendMap;
+use std::alloc::Global;
+
+/// A step with an extra round has the one before it.
+fn order_at(
+    formula: &mut Formula,
+    variables: &SendMap,
+    extra: u8,
+    step: u8,
+    number: u8,
+) -> Result<(), OutOfMemory>
+    requires vars { own_variables (record { map = variables.now; extra = extra }) ≤ formula.old.vars }
+    requires small { formula.old.vars < 2147483648 }
+    requires step { IsStep variables.now.steps step }
+    requires from { 0 < number }
+    requires to { number < extra }
+    requires few { extra ≤ 8 }
+    ensures { OnOk result (formula.new ≡ with_clauses formula.old ((negation (extra_round (record { map = variables.now; extra = extra }) step (number + 1)) ∷ extra_round (record { map = variables.now; extra = extra }) step number ∷ []) ∷ [])) }
+{
+    let next = extra_round(variables, extra, step, number + 1);
+    formula.add(&[next.negated(), extra_round(variables, extra, step, number)])
+}
+
+#[tactic(auto, using(cnf_formula::proofs::Growing::grows_by_one))]
+fn step_in_order(
+    formula: &mut Formula,
+    variables: &SendMap,
+    extra: u8,
+    step: u8,
+) -> Result<(), OutOfMemory>
+    requires vars { own_variables (record { map = variables.now; extra = extra }) ≤ formula.old.vars }
+    requires small { formula.old.vars < 2147483648 }
+    requires step { IsStep variables.now.steps step }
+    requires few { extra ≤ 8 }
+    ensures { OnOk result (formula.new ≡ with_clauses formula.old (map (λ j. negation (extra_round (record { map = variables.now; extra = extra }) step (j + 1)) ∷ extra_round (record { map = variables.now; extra = extra }) step j ∷ []) (range_with_len 1 (extra - 1)))) }
+{
+    for index in 0..extra.saturating_sub(1) {
+        order_at(formula, variables, extra, step, index + 1)?;
+    }
+    Ok(())
+}
+
+/// The extra rounds of each step are used in their order.
+#[tactic(auto, using(cnf_formula::proofs::Growing::grows_more))]
+pub(crate) fn extra_in_order(
+    formula: &mut Formula,
+    variables: &SendMap,
+    extra: u8,
+) -> Result<(), OutOfMemory>
+    requires vars { own_variables (record { map = variables.now; extra = extra }) ≤ formula.old.vars }
+    requires small { formula.old.vars < 2147483648 }
+    requires few { extra ≤ 8 }
+    ensures { OnOk result (formula.new ≡ with_clauses formula.old (extra_in_order (record { map = variables.now; extra = extra }))) }
+{
+    for index in 0..variables.steps() {
+        step_in_order(formula, variables, extra, index + 1)?;
+    }
+    Ok(())
+}
+
+/// The extra rounds of a step, after other literals.
+#[tactic(auto, using(send_encoding::proofs::Picking::pushes_after))]
+fn push_extra(
+    inputs: &mut Vec<Lit>,
+    variables: &SendMap,
+    extra: u8,
+    step: u8,
+) -> Result<(), OutOfMemory>
+    requires step { IsStep variables.now.steps step }
+    requires few { extra ≤ 8 }
+    ensures { OnOk result (inputs.new.items ≡ inputs.old.items ++ map (extra_round (record { map = variables.now; extra = extra }) step) (range_with_len 1 extra)) }
+{
+    for index in 0..extra {
+        inputs.push(extra_round(variables, extra, step, index + 1))?;
+    }
+    Ok(())
+}
+
+/// The extra rounds of all steps.
+#[tactic(auto, using(cnf_formula::proofs::Growing::appends_more))]
+fn all_extra(alloc: Global, variables: &SendMap, extra: u8) -> Result<Vec<Lit>, OutOfMemory>
+    requires few { extra ≤ 8 }
+    ensures { IfOk result (λ v. v.items ≡ (count_of_rounds (record { map = variables.now; extra = extra })).inputs) }
+{
+    let mut inputs = Vec::new(alloc);
+    for index in 0..variables.steps() {
+        push_extra(&mut inputs, variables, extra, index + 1)?;
+    }
+    Ok(inputs)
+}
+
+/// The last of so many outputs and one more is false.
+fn push_limit(formula: &mut Formula, outputs: &[Lit], extra: u8) -> Result<(), OutOfMemory>
+    requires outputs { IsClause formula.old.vars outputs.now }
+    requires many { length outputs.now ≡ extra + 1 }
+    ensures { OnOk result (formula.new ≡ with_clauses formula.old ((negation (output_at outputs.now (extra + 1)) ∷ []) ∷ [])) }
+{
+    formula.add(&[outputs[extra as usize].negated()])
+}
+
+/// Counts the extra rounds, and holds them to as many as there are.
+fn count_extra(
+    alloc: Global,
+    formula: &mut Formula,
+    variables: &SendMap,
+    extra: u8,
+) -> Result<(), OutOfMemory>
+    requires vars { own_variables (record { map = variables.now; extra = extra }) ≤ formula.old.vars }
+    requires small { formula.old.vars + variables.now.steps * extra * (extra + 1) < 2147483648 }
+    requires steps { 0 < variables.now.steps }
+    requires some { 0 < extra }
+    requires few { extra ≤ 8 }
+    ensures formula { OnOk result (formula.new ≡ with_count formula.old (count_of_rounds (record { map = variables.now; extra = extra }))) }
+    ensures few { OnOk result (formula.new.vars ≤ formula.old.vars + variables.now.steps * extra * (extra + 1)) }
+{
+    let inputs = all_extra(alloc, variables, extra)?;
+    let outputs = count_up_to(alloc, formula, &inputs, u32::from(extra))?;
+    push_limit(formula, &outputs, extra)
+}
+
+/// Where there are extra rounds, the steps have no more of them together.
+pub(crate) fn count_rounds(
+    alloc: Global,
+    formula: &mut Formula,
+    variables: &SendMap,
+    extra: u8,
+) -> Result<(), OutOfMemory>
+    requires vars { own_variables (record { map = variables.now; extra = extra }) ≤ formula.old.vars }
+    requires small { formula.old.vars + variables.now.steps * extra * (extra + 1) < 2147483648 }
+    requires steps { 0 < variables.now.steps }
+    requires few { extra ≤ 8 }
+    ensures formula { OnOk result (formula.new ≡ with_counts formula.old (if nat_lt 0 extra then count_of_rounds (record { map = variables.now; extra = extra }) ∷ [] else [])) }
+    ensures few { OnOk result (formula.new.vars ≤ formula.old.vars + variables.now.steps * extra * (extra + 1)) }
+    ensures more { OnOk result (formula.old.vars ≤ formula.new.vars) }
+{
+    if extra > 0 {
+        count_extra(alloc, formula, variables, extra)?;
+    }
+    Ok(())
+}

@@ -1,0 +1,130 @@
+-- The usable links ascend, and so do the sends that an assignment says.
+use Rattle.std.proofs.Common.{◌≡◌, ℕ, ◌<◌, Bool, true, false, List, [], ◌∷◌, map, length, get_or, eqb, ltb, refl, sym, ap, ◌∙◌, subst, ◌⊎◌, inl, inr, ⊎_elim, arith}
+use Rattle.std.specs.Prelude.{◌||◌, ◌&&◌, if◌then◌else◌, flat_map, All, AllPairs}
+use Rattle.std.specs.List.{list_any, range_with_len, position_or_len}
+use Rattle.std.proofs.lemmas.Bool.{and_parts, and_from, or_left, or_right, or_cases, ltb-true, lt-ltb, eq-eqb, cases_lt}
+use Rattle.std.proofs.lemmas.List.Elements.{All-nil, All-cons}
+use Rattle.std.proofs.lemmas.List.Folds.{list_any_at}
+use Rattle.std.proofs.lemmas.List.Kept.{AllPairs-filter}
+use Rattle.schedule.specs.declared.hop.Hop.{Hop}
+use Rattle.schedule.specs.Links.{TopologyValue, is_usable, same_link, usable_links}
+use Rattle.schedule.specs.Placed.{all_pairs}
+use Rattle.schedule.specs.Sends.{hop_before, link_of}
+use Rattle.schedule.proofs.Placing.{pair_is, pair_itself}
+use Rattle.cnf_formula.specs.Literals.{is_true}
+use Rattle.send_encoding.specs.Variables.{SendMapValue, chunks_of, steps_of, numbered_links, sent}
+use Rattle.send_encoding.specs.Sent.{sends_of}
+use Rattle.send_encoding.proofs.Everywhere.{in_map, in_flat, place_below}
+use Rattle.send_encoding.proofs.Members.{passes_at}
+use Rattle.send_encoding.proofs.Orders.{no_pairs, one_pairs, flat_pairs, map_pairs, range_pairs, numbered_pairs}
+
+-- by the first number, and then the second
+abbrev pub LinkBefore : ℕ × ℕ → ℕ × ℕ → Type 0
+LinkBefore a b = (a.0 < b.0) ⊎ ((a.0 ≡ b.0) × (a.1 < b.1))
+
+never_before_itself : (a b : ℕ × ℕ) → LinkBefore a b → a ≡ b → ⊥
+never_before_itself a b before same =
+    ⊎_elim (λ less. omega (arith, less, ap (λ l. l.0) same)) (λ (here : (a.0 ≡ b.0) × (a.1 < b.1)). omega (arith, here.1, ap (λ l. l.1) same)) before
+
+all_every : {X : Type 0} (P : X → Type 0) (xs : List X) → ((x : X) → P x) → All P xs
+all_every P xs h = λ k d low. h (get_or xs k d)
+
+all_pairs_ascend : (rows columns : ℕ) → AllPairs LinkBefore (all_pairs rows columns)
+all_pairs_ascend rows columns =
+    let row : ℕ → List (ℕ × ℕ) = λ c. map (λ n. (c, n)) (range_with_len 0 columns) in
+    flat_pairs (λ i j. i < j) LinkBefore (λ c p. p.0 ≡ c) row
+    (λ c. map_pairs (λ i j. i < j) LinkBefore (λ n. (c, n)) (λ i j less. inr (refl, less)) (range_with_len 0 columns) (range_pairs 0 columns))
+    (λ c. in_map (λ p. p.0 ≡ c) (λ n. Unit {0}) (λ n. (c, n)) (range_with_len 0 columns) (λ n _. refl) (λ i d low. tt))
+    (λ c e a b less pa pb. inl (omega (arith, less, pa, pb))) (range_with_len 0 rows) (range_pairs 0 rows)
+
+pub links_ascend : (t : TopologyValue) → AllPairs LinkBefore (usable_links t)
+links_ascend t = AllPairs-filter LinkBefore (is_usable t) (all_pairs t.nodes t.nodes) (all_pairs_ascend t.nodes t.nodes)
+
+-- a link of an ascending list has one place
+pub place_is : (links : List (ℕ × ℕ)) → AllPairs LinkBefore links → (link : ℕ × ℕ) (e : ℕ) → e < length links → link ≡ get_or links e (0, 0) → position_or_len (same_link link) links ≡ e
+place_is links ascend link e low is =
+    let here : same_link link (get_or links e (0, 0)) ≡ true = ap (same_link link) (sym is) ∙ pair_itself link in
+    let listed : list_any (same_link link) links ≡ true = list_any_at (same_link link) links e (0, 0) low here in
+    let p : ℕ = position_or_len (same_link link) links in
+    let few : p < length links = place_below (same_link link) links listed in
+    let at : link ≡ get_or links p (0, 0) = pair_is link (get_or links p (0, 0)) (passes_at (same_link link) links (0, 0) listed) in
+    let same : get_or links p (0, 0) ≡ get_or links e (0, 0) = sym at ∙ is in
+    ⊎_elim (λ less. absurd (never_before_itself (get_or links p (0, 0)) (get_or links e (0, 0)) (ascend p e (0, 0) less low) same))
+    (λ not_less. ⊎_elim (λ more. absurd (never_before_itself (get_or links e (0, 0)) (get_or links p (0, 0)) (ascend e p (0, 0) more few) (sym same)))
+    (λ not_more. omega (arith, not_less, not_more)) (cases_lt e p)) (cases_lt p e)
+
+-- ---- sends
+
+by_step : (a b : Hop) → a.step < b.step → hop_before a b ≡ true
+by_step a b less = or_left _ _ (lt-ltb a.step b.step less)
+
+by_chunk : (a b : Hop) → a.step ≡ b.step → a.chunk < b.chunk → hop_before a b ≡ true
+by_chunk a b step less = or_right _ _ (and_from _ _ (eq-eqb a.step b.step step) (or_left _ _ (lt-ltb a.chunk b.chunk less)))
+
+by_link : (a b : Hop) → a.step ≡ b.step → a.chunk ≡ b.chunk → LinkBefore (link_of a) (link_of b) → hop_before a b ≡ true
+by_link a b step chunk before =
+    let rest : (ltb a.from b.from || (eqb a.from b.from && ltb a.to b.to)) ≡ true =
+    ⊎_elim (λ less. or_left _ _ (lt-ltb a.from b.from less)) (λ (here : (a.from ≡ b.from) × (a.to < b.to)). or_right _ _ (and_from _ _ (eq-eqb a.from b.from here.0) (lt-ltb a.to b.to here.1))) before in
+    or_right _ _ (and_from _ _ (eq-eqb a.step b.step step) (or_right _ _ (and_from _ _ (eq-eqb a.chunk b.chunk chunk) rest)))
+
+-- no send stands before one of the same numbers
+pub never_twice : (a b : Hop) → hop_before a b ≡ true → a.step ≡ b.step → a.chunk ≡ b.chunk → a.from ≡ b.from → a.to ≡ b.to → ⊥
+never_twice a b h step chunk from to =
+    ⊎_elim (λ l. omega (arith, ltb-true a.step b.step l, step))
+    (λ r. ⊎_elim (λ l. omega (arith, ltb-true a.chunk b.chunk l, chunk))
+    (λ r. ⊎_elim (λ l. omega (arith, ltb-true a.from b.from l, from))
+    (λ r. omega (arith, ltb-true a.to b.to (and_parts (eqb a.from b.from) (ltb a.to b.to) r).1, to))
+    (or_cases (ltb a.from b.from) (eqb a.from b.from && ltb a.to b.to) (and_parts (eqb a.chunk b.chunk) (ltb a.from b.from || (eqb a.from b.from && ltb a.to b.to)) r).1))
+    (or_cases (ltb a.chunk b.chunk) (eqb a.chunk b.chunk && (ltb a.from b.from || (eqb a.from b.from && ltb a.to b.to))) (and_parts (eqb a.step b.step) (ltb a.chunk b.chunk || (eqb a.chunk b.chunk && (ltb a.from b.from || (eqb a.from b.from && ltb a.to b.to)))) r).1))
+    (or_cases (ltb a.step b.step) (eqb a.step b.step && (ltb a.chunk b.chunk || (eqb a.chunk b.chunk && (ltb a.from b.from || (eqb a.from b.from && ltb a.to b.to))))) h)
+
+module _ (m : SendMapValue) (values : List Bool) (ascend : AllPairs LinkBefore m.links) where
+  abbrev Before : Hop → Hop → Type 0
+  Before a b = hop_before a b ≡ true
+
+  abbrev hop : ℕ → ℕ → ℕ × (ℕ × ℕ) → Hop
+  hop k c z = record { chunk = c; from = z.1.0; to = z.1.1; step = k }
+
+  abbrev at_link : ℕ → ℕ → ℕ × (ℕ × ℕ) → List Hop
+  at_link k c (e, link) = if is_true values (sent m c e k) then record { chunk = c; from = link.0; to = link.1; step = k } ∷ [] else []
+
+  abbrev of_chunk : ℕ → ℕ → List Hop
+  of_chunk k c = flat_map (at_link k c) (numbered_links m)
+
+  abbrev of_step : ℕ → List Hop
+  of_step k = flat_map (of_chunk k) (chunks_of m)
+
+  if_pairs : (h : Hop) (b : Bool) → AllPairs Before (if b then h ∷ [] else [])
+  if_pairs h true = one_pairs Before h
+  if_pairs h false = no_pairs Before
+
+  if_is : (P : Hop → Type 0) (h : Hop) → P h → (b : Bool) → All P (if b then h ∷ [] else [])
+  if_is P h at true = All-cons P h [] at (All-nil P)
+  if_is P h at false = All-nil P
+
+  chunk_all : (P : Hop → Type 0) (k c : ℕ) → ((z : ℕ × (ℕ × ℕ)) → P (hop k c z)) → All P (of_chunk k c)
+  chunk_all P k c h =
+      in_flat P (λ z. Unit {0}) (at_link k c) (numbered_links m) (λ z _. if_is P (hop k c z) (h z) (is_true values (sent m c z.0 k))) (all_every (λ z. Unit {0}) (numbered_links m) (λ z. tt))
+
+  chunk_ascends : (k c : ℕ) → AllPairs Before (of_chunk k c)
+  chunk_ascends k c =
+      flat_pairs (λ y z. LinkBefore y.1 z.1) Before (λ z h. h ≡ hop k c z) (at_link k c) (λ z. if_pairs (hop k c z) (is_true values (sent m c z.0 k)))
+      (λ z. if_is (λ h. h ≡ hop k c z) (hop k c z) refl (is_true values (sent m c z.0 k)))
+      (λ y z a b before pa pb.
+      by_link a b (ap (λ (h : Hop). h.step) pa ∙ sym (ap (λ (h : Hop). h.step) pb)) (ap (λ (h : Hop). h.chunk) pa ∙ sym (ap (λ (h : Hop). h.chunk) pb))
+      (subst (λ l. LinkBefore l (link_of b)) (sym (ap link_of pa)) (subst (LinkBefore y.1) (sym (ap link_of pb)) before)))
+      (numbered_links m) (numbered_pairs LinkBefore 0 m.links ascend)
+
+  step_ascends : (k : ℕ) → AllPairs Before (of_step k)
+  step_ascends k =
+      flat_pairs (λ i j. i < j) Before (λ c h. (h.step ≡ k) × (h.chunk ≡ c)) (of_chunk k) (chunk_ascends k)
+      (λ c. chunk_all (λ h. (h.step ≡ k) × (h.chunk ≡ c)) k c (λ z. (refl, refl)))
+      (λ c d a b less pa pb. by_chunk a b (pa.0 ∙ sym pb.0) (omega (arith, less, pa.1, pb.1)))
+      (chunks_of m) (range_pairs 0 m.chunks)
+
+  pub sends_ascend : AllPairs Before (sends_of m values)
+  sends_ascend =
+      flat_pairs (λ i j. i < j) Before (λ k h. h.step ≡ k) of_step step_ascends
+      (λ k. in_flat (λ h. h.step ≡ k) (λ c. Unit {0}) (of_chunk k) (chunks_of m) (λ c _. chunk_all (λ h. h.step ≡ k) k c (λ z. refl)) (all_every (λ c. Unit {0}) (chunks_of m) (λ c. tt)))
+      (λ k l a b less pa pb. by_step a b (omega (arith, less, pa, pb)))
+      (steps_of m) (range_pairs 1 m.steps)

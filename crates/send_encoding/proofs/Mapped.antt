@@ -1,0 +1,45 @@
+-- The links of a topology make a map of arrivals and sends.
+use Rattle.std.proofs.Common.{◌≡◌, ℕ, zero, suc, ◌+◌, ◌*◌, ◌<◌, ◌≤◌, Bool, true, false, cond, List, [], ◌∷◌, map, length, ◌∙◌, arith, length-append}
+use Rattle.std.specs.Prelude.{flat_map, filter, All}
+use Rattle.std.specs.List.{range_with_len}
+use Rattle.std.proofs.lemmas.List.Elements.{All-filter}
+use Rattle.std.proofs.lemmas.List.FromFn.{length-map-range_with_len}
+use Rattle.std.proofs.Math.Nat.{mul-le-mul_left}
+use Rattle.schedule.specs.Links.{TopologyValue, IsTopology, is_usable, usable_links}
+use Rattle.schedule.specs.Placed.{PlacementValue, all_pairs, empty_placement}
+use Rattle.schedule.proofs.Placing.{all_below}
+use Rattle.send_encoding.specs.Variables.{map_of, IsSendMap, arrivals, sends}
+use Rattle.send_encoding.proofs.Everywhere.{by_recursion}
+use Rattle.send_encoding.proofs.About.{JoinsNodes}
+
+fewer : {X : Type 0} (p : X → Bool) (xs : List X) → length (filter p xs) ≤ length xs
+fewer p [] = omega arith
+fewer {X = X} p (x ∷ xs) = go (p x) (fewer p xs)
+  where
+    go : (b : Bool) → length (filter p xs) ≤ length xs → length (cond b (x ∷ filter p xs) (filter p xs)) ≤ suc (length xs)
+    go true le = omega (arith, le)
+    go false le = omega (arith, le)
+
+pub rows : {X : Type 0} (g : ℕ → List X) (m a n : ℕ) → ((j : ℕ) → length (g j) ≡ m) → length (flat_map g (range_with_len a n)) ≡ n * m
+rows g m a zero h = omega arith
+rows g m a (suc n) h = length-append (g a) (flat_map g (range_with_len (a + 1) n)) ∙ omega (arith, h a, rows g m (a + 1) n h)
+
+square : (n : ℕ) → n ≤ 16 → n * n ≤ 256
+square n le =
+    let one : n * n ≤ n * 16 = mul-le-mul_left n le in
+    omega (arith, one, le)
+
+pub links_join : (t : TopologyValue) (pre : PlacementValue) (steps : ℕ) → All (JoinsNodes (map_of t pre steps)) (usable_links t)
+links_join t pre steps = All-filter (is_usable t) (JoinsNodes (map_of t pre steps)) (all_pairs t.nodes t.nodes) (by_recursion (JoinsNodes (map_of t pre steps)) (all_pairs t.nodes t.nodes) (all_below t.nodes t.nodes))
+
+pub links_make_map : (t : TopologyValue) (chunks steps : ℕ) (links : List (ℕ × ℕ)) → IsTopology t → links ≡ usable_links t
+    → arrivals (record { chunks = chunks; nodes = t.nodes; links = usable_links t; steps = steps }) + sends (record { chunks = chunks; nodes = t.nodes; links = usable_links t; steps = steps }) < 2097152 → steps ≤ 255
+    → IsSendMap (record { chunks = chunks; nodes = t.nodes; links = usable_links t; steps = steps })
+links_make_map t chunks steps links ok is few short =
+    let all : length (all_pairs t.nodes t.nodes) ≡ t.nodes * t.nodes = rows (λ c. map (λ n. (c, n)) (range_with_len 0 t.nodes)) t.nodes 0 t.nodes (λ c. length-map-range_with_len (λ n. (c, n)) 0 t.nodes) in
+    record {
+      links = λ k d h. let at = links_join t (empty_placement 0 t.nodes) steps k d h in record { from = at.0; to = at.1 };
+      many = omega (arith, fewer (is_usable t) (all_pairs t.nodes t.nodes), all, square t.nodes ok.few);
+      few = few;
+      short = short;
+    }

@@ -1,0 +1,17 @@
+use Rattle.std.proofs.Common.{◌≡◌, ◌∷◌, [], arith, ap, ◌∙◌}
+use Rattle.std.specs.Prelude.{if◌then◌else◌}
+use Rattle.schedule.specs.Placed.{holds}
+use Rattle.cnf_formula.specs.Literals.{negation}
+use Rattle.cnf_formula.specs.Formulas.{with_clauses}
+use Rattle.send_encoding.specs.Variables.{arrival, pairs_of}
+use Rattle.send_encoding.specs.Parts.{node_starts}
+use Rattle.send_encoding.proofs.Picking.{pairs_of_loops, singly}
+use Rattle.send_encoding.proofs.placing.at_start.Goals as goal
+
+pub returns : goal.returns
+returns c =
+    let m = c.args.map.now in
+    let pre = c.args.pre.now in
+    let end : c.loop-chunk.chunk ≡ m.chunks = omega (arith, c.chunks-chunk-end.ensures.chunks) in
+    pairs_of_loops c.args.formula.now c.loop-chunk.formula (node_starts m c.args.pre.now) m.chunks m.nodes c.loop-chunk.chunk end c.loop-chunk.invariant
+    ∙ ap (with_clauses c.args.formula.now) (singly (λ (c, n). (if holds pre (c, n) then arrival m c n 0 else negation (arrival m c n 0)) ∷ []) (pairs_of m))

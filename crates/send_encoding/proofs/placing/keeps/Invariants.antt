@@ -1,0 +1,8 @@
+use Rattle.std.proofs.Common.{◌≡◌}
+use Rattle.std.specs.List.{flat_map, range_with_len}
+use Rattle.cnf_formula.specs.Formulas.{with_clauses}
+use Rattle.send_encoding.specs.Parts.{node_keeps}
+use Rattle.send_encoding.proofs.placing.keeps.Given as goal
+
+abbrev pub invariant-loop-chunk : goal.invariant-loop-chunk
+invariant-loop-chunk l = l.formula ≡ with_clauses l.initial.formula (flat_map (λ c. flat_map (λ n. node_keeps l.map (c, n)) (range_with_len 0 l.map.nodes)) (range_with_len 0 l.chunk))

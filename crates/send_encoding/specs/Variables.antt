@@ -1,0 +1,63 @@
+-- The variables of arrivals and sends, in the order of their numbers (Cai et al., PPoPP 2021, section on the encoding; the numbers are this project's own).
+use Rattle.std.specs.Prelude.{ℕ, ◌+◌, ◌-◌, ◌*◌, ◌/◌, ◌%◌, ◌==◌, ◌<◌, ◌≤◌, List, length, map, filter, All}
+use Rattle.std.specs.List.{range_with_len, enumerate_from, position_or_len}
+use Rattle.schedule.specs.Links.{TopologyValue, IsBelow, same_link, usable_links}
+use Rattle.schedule.specs.Placed.{PlacementValue, all_pairs}
+use Rattle.cnf_formula.specs.Literals.{LitValue, yes}
+
+-- so many chunks and nodes, the usable links in ascending order, and so many steps
+pub record SendMapValue : Type 0 where
+  pub chunks : ℕ
+  pub nodes : ℕ
+  pub links : List (ℕ × ℕ)
+  pub steps : ℕ
+
+abbrev pub map_of : TopologyValue → PlacementValue → ℕ → SendMapValue
+map_of t pre steps = record { chunks = pre.chunks; nodes = t.nodes; links = usable_links t; steps = steps }
+
+-- chunks, nodes and links are numbered from 0, and steps from 1
+abbrev pub chunks_of : SendMapValue → List ℕ
+chunks_of m = range_with_len 0 m.chunks
+
+abbrev pub steps_of : SendMapValue → List ℕ
+steps_of m = range_with_len 1 m.steps
+
+-- each chunk with each node, by chunk
+abbrev pub pairs_of : SendMapValue → List (ℕ × ℕ)
+pairs_of m = all_pairs m.chunks m.nodes
+
+-- the links with their numbers, and those of them that lead into a node
+abbrev pub numbered_links : SendMapValue → List (ℕ × (ℕ × ℕ))
+numbered_links m = enumerate_from 0 m.links
+
+abbrev pub links_into : SendMapValue → ℕ → List (ℕ × (ℕ × ℕ))
+links_into m node = filter (λ (e, link). link.1 == node) (numbered_links m)
+
+-- the node has the chunk after the step; step 0 is the start
+abbrev pub arrival : SendMapValue → ℕ → ℕ → ℕ → LitValue
+arrival m chunk node step = yes (1 + (chunk * m.nodes + node) * (m.steps + 1) + step)
+
+abbrev pub arrivals : SendMapValue → ℕ
+arrivals m = m.chunks * m.nodes * (m.steps + 1)
+
+-- the chunk is sent over the link of this number at the step
+abbrev pub sent : SendMapValue → ℕ → ℕ → ℕ → LitValue
+sent m chunk e step = yes (arrivals m + 1 + (chunk * length m.links + e) * m.steps + (step - 1))
+
+abbrev pub sends : SendMapValue → ℕ
+sends m = m.chunks * length m.links * m.steps
+
+-- the links join nodes, and there are not too many variables
+pub record IsSendMap (m : SendMapValue) : Type 0 where
+  pub links : All (IsBelow m.nodes) m.links
+  pub many : length m.links ≤ 256
+  pub few : arrivals m + sends m < 2097152
+  pub short : m.steps ≤ 255
+
+-- the number of a link, or that of all where it is not usable
+abbrev pub number_of : SendMapValue → ℕ × ℕ → ℕ
+number_of m link = position_or_len (same_link link) m.links
+
+-- the number of each link between nodes below 16, among these
+abbrev pub numbers_among : List (ℕ × ℕ) → List ℕ
+numbers_among links = map (λ k. position_or_len (same_link (k / 16, k % 16)) links) (range_with_len 0 256)

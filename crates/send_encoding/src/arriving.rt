@@ -1,0 +1,175 @@
+//! The clauses that tie sends and arrivals.
+
+ghost use Rattle.std.specs.Prelude.{◌≡◌, ◌+◌, ◌<◌, ◌≤◌, ◌-◌, ◌∷◌, ◌++◌, [], length, OnOk};
+ghost use Rattle.std.specs.List.{flat_map, range_with_len};
+ghost use Rattle.schedule.specs.Links.{IsBelow};
+ghost use Rattle.schedule.specs.Sends.{IsStep};
+ghost use Rattle.cnf_formula.specs.Literals.{LitValue, negation};
+ghost use Rattle.cnf_formula.specs.Formulas.{FormulaValue, with_clauses};
+ghost use Rattle.send_encoding.specs.Variables.{SendMapValue, arrival, arrivals, sends, steps_of, numbered_links};
+ghost use Rattle.send_encoding.specs.Sending.{send_over, sends_arrive, sends_into, node_arrives, arrives_by_sends};
+
+use crate::OutOfMemory;
+use crate::send_map::SendMap;
+use cnf_formula::{Formula, Lit};
+use std::alloc::Global;
+
+/// A send goes from a node that has the chunk to one that lacks it, which then has it.
+fn send_over(
+    formula: &mut Formula,
+    map: &SendMap,
+    chunk: u16,
+    number: usize,
+    link: (u8, u8),
+    step: u8,
+) -> Result<(), OutOfMemory>
+    requires vars { arrivals map.now + sends map.now ≤ formula.old.vars }
+    requires chunk { chunk < map.now.chunks }
+    requires number { number < length map.now.links }
+    requires link { IsBelow map.now.nodes link }
+    requires step { IsStep map.now.steps step }
+    ensures { OnOk result (formula.new ≡ with_clauses formula.old (send_over map.now chunk (number, link) step)) }
+{
+    let (from, to) = link;
+    let idle = map.sent_over(chunk, number, step).negated();
+    formula.add(&[idle, map.arrival(chunk, from, step - 1)])?;
+    formula.add(&[idle, map.arrival(chunk, to, step - 1).negated()])?;
+    formula.add(&[idle, map.arrival(chunk, to, step)])
+}
+
+#[tactic(auto, using(cnf_formula::proofs::Growing::grows_more))]
+fn sends_over(
+    formula: &mut Formula,
+    map: &SendMap,
+    chunk: u16,
+    number: usize,
+    link: (u8, u8),
+) -> Result<(), OutOfMemory>
+    requires vars { arrivals map.now + sends map.now ≤ formula.old.vars }
+    requires chunk { chunk < map.now.chunks }
+    requires number { number < length map.now.links }
+    requires link { IsBelow map.now.nodes link }
+    ensures { OnOk result (formula.new ≡ with_clauses formula.old (flat_map (send_over map.now chunk (number, link)) (steps_of map.now))) }
+{
+    for index in 0..map.steps() {
+        send_over(formula, map, chunk, number, link, index + 1)?;
+    }
+    Ok(())
+}
+
+fn sends_of_chunk(formula: &mut Formula, map: &SendMap, chunk: u16) -> Result<(), OutOfMemory>
+    requires vars { arrivals map.now + sends map.now ≤ formula.old.vars }
+    requires chunk { chunk < map.now.chunks }
+    ensures { OnOk result (formula.new ≡ with_clauses formula.old (flat_map (λ link. flat_map (send_over map.now chunk link) (steps_of map.now)) (numbered_links map.now))) }
+{
+    for (number, link) in map.links().iter().enumerate() {
+        sends_over(formula, map, chunk, number, *link)?;
+    }
+    Ok(())
+}
+
+/// The clauses of every send.
+#[tactic(auto, using(cnf_formula::proofs::Growing::grows_more))]
+pub(crate) fn sends_arrive(formula: &mut Formula, map: &SendMap) -> Result<(), OutOfMemory>
+    requires vars { arrivals map.now + sends map.now ≤ formula.old.vars }
+    ensures { OnOk result (formula.new ≡ with_clauses formula.old (sends_arrive map.now)) }
+{
+    for chunk in 0..map.chunks() {
+        sends_of_chunk(formula, map, chunk)?;
+    }
+    Ok(())
+}
+
+/// The literals of the sends of a chunk that bring it to a node at a step, after those of a clause.
+pub(crate) fn push_sends_into(
+    clause: &mut Vec<Lit>,
+    map: &SendMap,
+    chunk: u16,
+    node: u8,
+    step: u8,
+) -> Result<(), OutOfMemory>
+    requires chunk { chunk < map.now.chunks }
+    requires step { IsStep map.now.steps step }
+    ensures { OnOk result (clause.new.items ≡ clause.old.items ++ sends_into map.now chunk node step) }
+{
+    for (number, link) in map.links().iter().enumerate() {
+        if link.1 == node {
+            clause.push(map.sent_over(chunk, number, step))?;
+        }
+    }
+    Ok(())
+}
+
+/// A node that has a chunk after a step had it before, or was sent it.
+fn arrives_at(
+    alloc: Global,
+    formula: &mut Formula,
+    map: &SendMap,
+    chunk: u16,
+    node: u8,
+    step: u8,
+) -> Result<(), OutOfMemory>
+    requires vars { arrivals map.now + sends map.now ≤ formula.old.vars }
+    requires chunk { chunk < map.now.chunks }
+    requires node { node < map.now.nodes }
+    requires step { IsStep map.now.steps step }
+    ensures { OnOk result (formula.new ≡ with_clauses formula.old ((arrival map.now chunk node (step - 1) ∷ negation (arrival map.now chunk node step) ∷ sends_into map.now chunk node step) ∷ [])) }
+{
+    let before = map.arrival(chunk, node, step - 1);
+    let after = map.arrival(chunk, node, step);
+    let mut clause = vec![in alloc; before, after.negated()]?;
+    push_sends_into(&mut clause, map, chunk, node, step)?;
+    formula.add(&clause)
+}
+
+#[tactic(auto, using(cnf_formula::proofs::Growing::grows_by_one))]
+fn arrives_at_node(
+    alloc: Global,
+    formula: &mut Formula,
+    map: &SendMap,
+    chunk: u16,
+    node: u8,
+) -> Result<(), OutOfMemory>
+    requires vars { arrivals map.now + sends map.now ≤ formula.old.vars }
+    requires chunk { chunk < map.now.chunks }
+    requires node { node < map.now.nodes }
+    ensures { OnOk result (formula.new ≡ with_clauses formula.old (node_arrives map.now (chunk, node))) }
+{
+    for index in 0..map.steps() {
+        arrives_at(alloc, formula, map, chunk, node, index + 1)?;
+    }
+    Ok(())
+}
+
+#[tactic(auto, using(cnf_formula::proofs::Growing::grows_more))]
+fn chunk_arrives(
+    alloc: Global,
+    formula: &mut Formula,
+    map: &SendMap,
+    chunk: u16,
+) -> Result<(), OutOfMemory>
+    requires vars { arrivals map.now + sends map.now ≤ formula.old.vars }
+    requires chunk { chunk < map.now.chunks }
+    ensures { OnOk result (formula.new ≡ with_clauses formula.old (flat_map (λ n. node_arrives map.now (chunk, n)) (range_with_len 0 map.now.nodes))) }
+{
+    for node in 0..map.nodes() {
+        arrives_at_node(alloc, formula, map, chunk, node)?;
+    }
+    Ok(())
+}
+
+/// The clauses of every arrival.
+#[tactic(auto, using(cnf_formula::proofs::Growing::grows_more))]
+pub(crate) fn arrives_by_sends(
+    alloc: Global,
+    formula: &mut Formula,
+    map: &SendMap,
+) -> Result<(), OutOfMemory>
+    requires vars { arrivals map.now + sends map.now ≤ formula.old.vars }
+    ensures { OnOk result (formula.new ≡ with_clauses formula.old (arrives_by_sends map.now)) }
+{
+    for chunk in 0..map.chunks() {
+        chunk_arrives(alloc, formula, map, chunk)?;
+    }
+    Ok(())
+}

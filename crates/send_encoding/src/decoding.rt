@@ -1,0 +1,98 @@
+//! The sends that an assignment says.
+
+ghost use Rattle.std.specs.Prelude.{◌≡◌, ◌+◌, ◌<◌, ◌≤◌, ◌++◌, ◌∷◌, [], ℕ, if◌then◌else◌, length, OnOk, IfOk};
+ghost use Rattle.std.specs.List.{flat_map};
+ghost use Rattle.schedule.specs.declared.hop.Hop.{Hop};
+ghost use Rattle.schedule.specs.Sends.{IsStep};
+ghost use Rattle.cnf_formula.specs.Literals.{LitValue};
+ghost use Rattle.send_encoding.specs.Variables.{SendMapValue, arrivals, sends, sent, chunks_of, numbered_links};
+ghost use Rattle.send_encoding.specs.Sent.{sends_of, hop_over};
+
+use crate::OutOfMemory;
+use crate::send_map::SendMap;
+use cnf_formula::Assignment;
+use schedule::Hop;
+use std::alloc::Global;
+
+/// The send over a link, if it is true, after others.
+fn push_send(
+    hops: &mut Vec<Hop>,
+    map: &SendMap,
+    assignment: &Assignment,
+    step: u8,
+    chunk: u16,
+    number: usize,
+    link: (u8, u8),
+) -> Result<(), OutOfMemory>
+    requires vars { arrivals map.now + sends map.now ≤ length assignment.now }
+    requires chunk { chunk < map.now.chunks }
+    requires number { number < length map.now.links }
+    requires step { IsStep map.now.steps step }
+    ensures { OnOk result (hops.new.items ≡ hops.old.items ++ hop_over map.now assignment.now step chunk (number, link)) }
+{
+    let (from, to) = link;
+    if map
+        .sent_over(chunk, number, step)
+        .is_true(&assignment.values)
+    {
+        hops.push(Hop {
+            chunk,
+            from,
+            to,
+            step,
+        })?;
+    }
+    Ok(())
+}
+
+fn push_sends_of(
+    hops: &mut Vec<Hop>,
+    map: &SendMap,
+    assignment: &Assignment,
+    step: u8,
+    chunk: u16,
+) -> Result<(), OutOfMemory>
+    requires vars { arrivals map.now + sends map.now ≤ length assignment.now }
+    requires chunk { chunk < map.now.chunks }
+    requires step { IsStep map.now.steps step }
+    ensures { OnOk result (hops.new.items ≡ hops.old.items ++ flat_map (hop_over map.now assignment.now step chunk) (numbered_links map.now)) }
+{
+    for (number, link) in map.links().iter().enumerate() {
+        push_send(hops, map, assignment, step, chunk, number, *link)?;
+    }
+    Ok(())
+}
+
+#[tactic(auto, using(crate::proofs::Picking::appends_after))]
+fn push_sends_at(
+    hops: &mut Vec<Hop>,
+    map: &SendMap,
+    assignment: &Assignment,
+    step: u8,
+) -> Result<(), OutOfMemory>
+    requires vars { arrivals map.now + sends map.now ≤ length assignment.now }
+    requires step { IsStep map.now.steps step }
+    ensures { OnOk result (hops.new.items ≡ hops.old.items ++ flat_map (λ c. flat_map (hop_over map.now assignment.now step c) (numbered_links map.now)) (chunks_of map.now)) }
+{
+    for chunk in 0..map.chunks() {
+        push_sends_of(hops, map, assignment, step, chunk)?;
+    }
+    Ok(())
+}
+
+/// The sends that are true, by step, chunk and link.
+#[tactic(auto, using(cnf_formula::proofs::Growing::appends_more))]
+pub fn sends_of(
+    alloc: Global,
+    map: &SendMap,
+    assignment: &Assignment,
+) -> Result<Vec<Hop>, OutOfMemory>
+    requires vars { arrivals map.now + sends map.now ≤ length assignment.now }
+    ensures { IfOk result (λ v. v.items ≡ sends_of map.now assignment.now) }
+{
+    let mut hops = Vec::new(alloc);
+    for index in 0..map.steps() {
+        push_sends_at(&mut hops, map, assignment, index + 1)?;
+    }
+    Ok(hops)
+}

@@ -1,0 +1,91 @@
+//! A node is sent a chunk at most once in a step.
+
+ghost use Rattle.std.specs.Prelude.{◌≡◌, ◌+◌, ◌<◌, ◌≤◌, OnOk};
+ghost use Rattle.std.specs.List.{flat_map, range_with_len};
+ghost use Rattle.schedule.specs.Sends.{IsStep};
+ghost use Rattle.cnf_formula.specs.Formulas.{FormulaValue, with_clauses};
+ghost use Rattle.cardinality.specs.Counting.{at_most_one_of};
+ghost use Rattle.send_encoding.specs.Variables.{SendMapValue, arrivals, sends};
+ghost use Rattle.send_encoding.specs.Sending.{sends_into, arrives_once};
+ghost use Rattle.send_encoding.specs.Parts.{node_once};
+
+use crate::OutOfMemory;
+use crate::arriving::push_sends_into;
+use crate::send_map::SendMap;
+use cardinality::at_most_one;
+use cnf_formula::Formula;
+use std::alloc::Global;
+
+/// A node is sent a chunk at a step at most once.
+fn once_at(
+    alloc: Global,
+    formula: &mut Formula,
+    map: &SendMap,
+    chunk: u16,
+    node: u8,
+    step: u8,
+) -> Result<(), OutOfMemory>
+    requires vars { arrivals map.now + sends map.now ≤ formula.old.vars }
+    requires chunk { chunk < map.now.chunks }
+    requires node { node < map.now.nodes }
+    requires step { IsStep map.now.steps step }
+    ensures { OnOk result (formula.new ≡ with_clauses formula.old (at_most_one_of (sends_into map.now chunk node step))) }
+{
+    let steps = map.steps();
+    let _ = steps;
+    let mut into = Vec::new(alloc);
+    push_sends_into(&mut into, map, chunk, node, step)?;
+    at_most_one(formula, &into)
+}
+
+#[tactic(auto, using(cnf_formula::proofs::Growing::grows_more))]
+fn node_once(
+    alloc: Global,
+    formula: &mut Formula,
+    map: &SendMap,
+    chunk: u16,
+    node: u8,
+) -> Result<(), OutOfMemory>
+    requires vars { arrivals map.now + sends map.now ≤ formula.old.vars }
+    requires chunk { chunk < map.now.chunks }
+    requires node { node < map.now.nodes }
+    ensures { OnOk result (formula.new ≡ with_clauses formula.old (node_once map.now (chunk, node))) }
+{
+    for index in 0..map.steps() {
+        once_at(alloc, formula, map, chunk, node, index + 1)?;
+    }
+    Ok(())
+}
+
+#[tactic(auto, using(cnf_formula::proofs::Growing::grows_more))]
+fn chunk_once(
+    alloc: Global,
+    formula: &mut Formula,
+    map: &SendMap,
+    chunk: u16,
+) -> Result<(), OutOfMemory>
+    requires vars { arrivals map.now + sends map.now ≤ formula.old.vars }
+    requires chunk { chunk < map.now.chunks }
+    ensures { OnOk result (formula.new ≡ with_clauses formula.old (flat_map (λ n. node_once map.now (chunk, n)) (range_with_len 0 map.now.nodes))) }
+{
+    for node in 0..map.nodes() {
+        node_once(alloc, formula, map, chunk, node)?;
+    }
+    Ok(())
+}
+
+/// A node is sent a chunk at most once in a step.
+#[tactic(auto, using(cnf_formula::proofs::Growing::grows_more))]
+pub(crate) fn arrives_once(
+    alloc: Global,
+    formula: &mut Formula,
+    map: &SendMap,
+) -> Result<(), OutOfMemory>
+    requires vars { arrivals map.now + sends map.now ≤ formula.old.vars }
+    ensures { OnOk result (formula.new ≡ with_clauses formula.old (arrives_once map.now)) }
+{
+    for chunk in 0..map.chunks() {
+        chunk_once(alloc, formula, map, chunk)?;
+    }
+    Ok(())
+}

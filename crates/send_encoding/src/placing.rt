@@ -1,0 +1,189 @@
+//! The clauses of what the nodes have: at the start, from step to step, and at the end.
+
+ghost use Rattle.std.specs.Prelude.{◌≡◌, ◌+◌, ◌<◌, ◌≤◌, ◌-◌, ◌∷◌, [], if◌then◌else◌, OnOk};
+ghost use Rattle.std.specs.List.{flat_map, range_with_len};
+ghost use Rattle.schedule.specs.Placed.{PlacementValue, holds};
+ghost use Rattle.schedule.specs.Sends.{IsStep};
+ghost use Rattle.cnf_formula.specs.Literals.{LitValue, negation};
+ghost use Rattle.cnf_formula.specs.Formulas.{FormulaValue, with_clauses};
+ghost use Rattle.send_encoding.specs.Variables.{SendMapValue, arrival, arrivals, sends};
+ghost use Rattle.send_encoding.specs.Sending.{at_start, keeps, at_end};
+ghost use Rattle.send_encoding.specs.Parts.{node_starts, node_keeps, node_ends};
+
+use crate::OutOfMemory;
+use crate::send_map::SendMap;
+use cnf_formula::Formula;
+use schedule::Placement;
+
+/// At the start a node has what it has before.
+fn node_starts(
+    formula: &mut Formula,
+    map: &SendMap,
+    pre: &Placement,
+    chunk: u16,
+    node: u8,
+) -> Result<(), OutOfMemory>
+    requires vars { arrivals map.now + sends map.now ≤ formula.old.vars }
+    requires chunk { chunk < map.now.chunks }
+    requires node { node < map.now.nodes }
+    requires chunks { pre.now.chunks ≡ map.now.chunks }
+    requires nodes { pre.now.nodes ≡ map.now.nodes }
+    ensures { OnOk result (formula.new ≡ with_clauses formula.old (node_starts map.now pre.now (chunk, node))) }
+{
+    let start = map.arrival(chunk, node, 0);
+    if pre.holds(chunk, node) {
+        formula.add(&[start])
+    } else {
+        formula.add(&[start.negated()])
+    }
+}
+
+#[tactic(auto, using(cnf_formula::proofs::Growing::grows_more))]
+fn chunk_starts(
+    formula: &mut Formula,
+    map: &SendMap,
+    pre: &Placement,
+    chunk: u16,
+) -> Result<(), OutOfMemory>
+    requires vars { arrivals map.now + sends map.now ≤ formula.old.vars }
+    requires chunk { chunk < map.now.chunks }
+    requires chunks { pre.now.chunks ≡ map.now.chunks }
+    requires nodes { pre.now.nodes ≡ map.now.nodes }
+    ensures { OnOk result (formula.new ≡ with_clauses formula.old (flat_map (λ n. node_starts map.now pre.now (chunk, n)) (range_with_len 0 map.now.nodes))) }
+{
+    for node in 0..map.nodes() {
+        node_starts(formula, map, pre, chunk, node)?;
+    }
+    Ok(())
+}
+
+/// At the start the nodes have what they have before.
+#[tactic(auto, using(cnf_formula::proofs::Growing::grows_more))]
+pub(crate) fn at_start(
+    formula: &mut Formula,
+    map: &SendMap,
+    pre: &Placement,
+) -> Result<(), OutOfMemory>
+    requires vars { arrivals map.now + sends map.now ≤ formula.old.vars }
+    requires chunks { pre.now.chunks ≡ map.now.chunks }
+    requires nodes { pre.now.nodes ≡ map.now.nodes }
+    ensures { OnOk result (formula.new ≡ with_clauses formula.old (at_start map.now pre.now)) }
+{
+    for chunk in 0..map.chunks() {
+        chunk_starts(formula, map, pre, chunk)?;
+    }
+    Ok(())
+}
+
+/// What a node has before a step it has after it.
+fn keeps_at(
+    formula: &mut Formula,
+    map: &SendMap,
+    chunk: u16,
+    node: u8,
+    step: u8,
+) -> Result<(), OutOfMemory>
+    requires vars { arrivals map.now + sends map.now ≤ formula.old.vars }
+    requires chunk { chunk < map.now.chunks }
+    requires node { node < map.now.nodes }
+    requires step { IsStep map.now.steps step }
+    ensures { OnOk result (formula.new ≡ with_clauses formula.old ((negation (arrival map.now chunk node (step - 1)) ∷ arrival map.now chunk node step ∷ []) ∷ [])) }
+{
+    let before = map.arrival(chunk, node, step - 1);
+    formula.add(&[before.negated(), map.arrival(chunk, node, step)])
+}
+
+#[tactic(auto, using(cnf_formula::proofs::Growing::grows_by_one))]
+fn node_keeps(formula: &mut Formula, map: &SendMap, chunk: u16, node: u8) -> Result<(), OutOfMemory>
+    requires vars { arrivals map.now + sends map.now ≤ formula.old.vars }
+    requires chunk { chunk < map.now.chunks }
+    requires node { node < map.now.nodes }
+    ensures { OnOk result (formula.new ≡ with_clauses formula.old (node_keeps map.now (chunk, node))) }
+{
+    for index in 0..map.steps() {
+        keeps_at(formula, map, chunk, node, index + 1)?;
+    }
+    Ok(())
+}
+
+#[tactic(auto, using(cnf_formula::proofs::Growing::grows_more))]
+fn chunk_keeps(formula: &mut Formula, map: &SendMap, chunk: u16) -> Result<(), OutOfMemory>
+    requires vars { arrivals map.now + sends map.now ≤ formula.old.vars }
+    requires chunk { chunk < map.now.chunks }
+    ensures { OnOk result (formula.new ≡ with_clauses formula.old (flat_map (λ n. node_keeps map.now (chunk, n)) (range_with_len 0 map.now.nodes))) }
+{
+    for node in 0..map.nodes() {
+        node_keeps(formula, map, chunk, node)?;
+    }
+    Ok(())
+}
+
+/// What a node has it keeps.
+#[tactic(auto, using(cnf_formula::proofs::Growing::grows_more))]
+pub(crate) fn keeps(formula: &mut Formula, map: &SendMap) -> Result<(), OutOfMemory>
+    requires vars { arrivals map.now + sends map.now ≤ formula.old.vars }
+    ensures { OnOk result (formula.new ≡ with_clauses formula.old (keeps map.now)) }
+{
+    for chunk in 0..map.chunks() {
+        chunk_keeps(formula, map, chunk)?;
+    }
+    Ok(())
+}
+
+/// At the end a node has what it has after.
+fn node_ends(
+    formula: &mut Formula,
+    map: &SendMap,
+    post: &Placement,
+    chunk: u16,
+    node: u8,
+) -> Result<(), OutOfMemory>
+    requires vars { arrivals map.now + sends map.now ≤ formula.old.vars }
+    requires chunk { chunk < map.now.chunks }
+    requires node { node < map.now.nodes }
+    requires chunks { post.now.chunks ≡ map.now.chunks }
+    requires nodes { post.now.nodes ≡ map.now.nodes }
+    ensures { OnOk result (formula.new ≡ with_clauses formula.old (node_ends map.now post.now (chunk, node))) }
+{
+    if post.holds(chunk, node) {
+        formula.add(&[map.arrival(chunk, node, map.steps())])?;
+    }
+    Ok(())
+}
+
+#[tactic(auto, using(cnf_formula::proofs::Growing::grows_more))]
+fn chunk_ends(
+    formula: &mut Formula,
+    map: &SendMap,
+    post: &Placement,
+    chunk: u16,
+) -> Result<(), OutOfMemory>
+    requires vars { arrivals map.now + sends map.now ≤ formula.old.vars }
+    requires chunk { chunk < map.now.chunks }
+    requires chunks { post.now.chunks ≡ map.now.chunks }
+    requires nodes { post.now.nodes ≡ map.now.nodes }
+    ensures { OnOk result (formula.new ≡ with_clauses formula.old (flat_map (λ n. node_ends map.now post.now (chunk, n)) (range_with_len 0 map.now.nodes))) }
+{
+    for node in 0..map.nodes() {
+        node_ends(formula, map, post, chunk, node)?;
+    }
+    Ok(())
+}
+
+/// At the end the nodes have what they have after.
+#[tactic(auto, using(cnf_formula::proofs::Growing::grows_more))]
+pub(crate) fn at_end(
+    formula: &mut Formula,
+    map: &SendMap,
+    post: &Placement,
+) -> Result<(), OutOfMemory>
+    requires vars { arrivals map.now + sends map.now ≤ formula.old.vars }
+    requires chunks { post.now.chunks ≡ map.now.chunks }
+    requires nodes { post.now.nodes ≡ map.now.nodes }
+    ensures { OnOk result (formula.new ≡ with_clauses formula.old (at_end map.now post.now)) }
+{
+    for chunk in 0..map.chunks() {
+        chunk_ends(formula, map, post, chunk)?;
+    }
+    Ok(())
+}
