@@ -1,19 +1,19 @@
 -- What is held stays held under more additions, and so does a conflict.
-use Rattle.std.proofs.Common.{ap, sym, ◌∙◌, ◌≡◌, ℕ, suc, ◌≤◌, max, List, [], ◌∷◌, ◌++◌, length, Some, refl, subst, ⊎_elim, arith}
-use Rattle.std.specs.Prelude.{◌==◌, ℤ, map}
+use Rattle.std.proofs.Common.{ap, sym, ◌∙◌, ◌≡◌, ℕ, suc, max, List, [], ◌∷◌, ◌++◌, length, Some, refl, subst, ⊎_elim, arith}
+use Rattle.std.specs.Prelude.{◌==◌, true, map}
 use Rattle.std.proofs.lemmas.Bool.{cases_Bool}
 use Rattle.std.proofs.lemmas.List.Elements.{All-nil}
 use Rattle.cnf_formula.specs.Literals.{LitValue, negation}
-use Rattle.cnf_formula.specs.Formulas.{FormulaValue}
+use Rattle.cnf_formula.specs.Formulas.{FormulaValue, IsAbout}
 use Rattle.cnf_formula.specs.Lines.{ProofLineValue}
 use Rattle.cnf_formula.specs.declared.line.LratLine.{LratLine}
 use Rattle.cnf_formula.specs.declared.line.LratLine.TheVariants.{Addition, Deletion}
 use Rattle.lrat_checker.specs.declared.verdict.LineVerdict.TheVariants.{Accepted as AcceptedVerdict}
 use Rattle.lrat_checker.specs.Held.{Entry, CheckerValue, start_of, clause_at}
 use Rattle.lrat_checker.specs.Judging.{verdict_of}
-use Rattle.lrat_checker.specs.Accepting.{Names, Conflicts, Accepted}
-use Rattle.lrat_checker.specs.Refuting.{with_line, verdict_on, with_accepted, AllAccepted, after, IsChecker, Exhausted}
-use Rattle.lrat_checker.proofs.Verdicts.{accepted_by, verdict_by}
+use Rattle.lrat_checker.specs.Accepting.{Conflicts, Implied, leading}
+use Rattle.lrat_checker.specs.Refuting.{with_line, is_accepted, verdict_on, with_accepted, AllAccepted, after, IsChecker, Exhausted}
+use Rattle.lrat_checker.proofs.Verdicts.{implied_by, by_implied}
 
 abbrev pub Keeps : List Entry → List Entry → Type 0
 Keeps held more = (id : ℕ) (clause : List LitValue) → clause_at held id ≡ Some clause → clause_at more id ≡ Some clause
@@ -25,40 +25,41 @@ keeps_append (entry ∷ held) more id clause h =
     (λ e. rw e (keeps_append held more id clause (rw e at h)))
     (cases_Bool (entry.0 == id))
 
-names_kept : (held more : List Entry) → Keeps held more → (hint : ℤ) (clause : List LitValue) → Names held hint clause → Names more hint clause
-names_kept held more k hint clause n = record { id = n.id; positive = n.positive; holds = k n.id clause n.holds }
-
-pub conflict_kept : (held more : List Entry) → Keeps held more → (falses : List LitValue) (hints : List ℤ) → Conflicts held falses hints → Conflicts more falses hints
+pub conflict_kept : (held more : List Entry) → Keeps held more → (falses : List LitValue) (ids : List ℕ) → Conflicts held falses ids → Conflicts more falses ids
 conflict_kept held more k falses [] c = c
-conflict_kept held more k falses (hint ∷ []) c = record { clause = c.clause; names = names_kept held more k hint c.clause c.names; each = c.each }
-conflict_kept held more k falses (hint ∷ next ∷ hints) c =
+conflict_kept held more k falses (id ∷ []) c = record { clause = c.clause; names = k id c.clause c.names; each = c.each }
+conflict_kept held more k falses (id ∷ next ∷ ids) c =
     let t = c.1 in (
       c.0,
-      record { clause = t.clause; names = names_kept held more k hint t.clause t.names; stands = t.stands; not_false = t.not_false; others = t.others },
-      conflict_kept held more k (negation c.0 ∷ falses) (next ∷ hints) c.2,
+      record { clause = t.clause; names = k id t.clause t.names; stands = t.stands; not_false = t.not_false; others = t.others },
+      conflict_kept held more k (negation c.0 ∷ falses) (next ∷ ids) c.2,
     )
 
 pub additions_keep : (lines : List ProofLineValue) (c : CheckerValue) → Keeps c.held (after c (map Addition lines)).held
 additions_keep [] c id clause h = h
 additions_keep (line ∷ lines) c id clause h = additions_keep lines (with_line c line) id clause (keeps_append c.held ((line.id, line.lits) ∷ []) id clause h)
 
-pub never_exhausted : (f : FormulaValue) (line : ProofLineValue) (n : ℕ) → line.lits ≡ [] → verdict_of (start_of f) line ≡ AcceptedVerdict → Exhausted f n → ⊥
+pub never_exhausted : (f : FormulaValue) (line : ProofLineValue) (n : ℕ) → line.lits ≡ [] → verdict_of (start_of f) line ≡ AcceptedVerdict true → Exhausted f n → ⊥
 never_exhausted f line n e v x =
     let end = after (start_of f) (map Addition x.lines) in
-    let conflict = subst (λ lits. Conflicts (start_of f).held lits line.hints) e (accepted_by (start_of f) line v).conflict in
+    let i = implied_by (start_of f) line v in
+    let conflict = subst (λ lits. Conflicts (start_of f).held lits (leading line.hints)) e i.conflict in
     let again : ProofLineValue = record { id = suc (max (length end.formula.clauses) end.greatest); lits = []; hints = line.hints } in
-    let accepted : Accepted end again = record {
-      above_formula = omega arith;
-      above_lines = omega arith;
-      in_range = All-nil (λ l. l.var ≤ end.formula.vars);
-      once = λ i j d a b. absurd (omega (arith, b));
-      conflict = conflict_kept (start_of f).held end.held (additions_keep x.lines (start_of f)) [] line.hints conflict;
+    let implied : Implied end again = record {
+      new = record {
+        above_formula = omega arith;
+        above_lines = omega arith;
+        in_range = All-nil (IsAbout end.formula.vars);
+        once = λ i j d a b. absurd (omega (arith, b));
+      };
+      no_groups = i.no_groups;
+      conflict = conflict_kept (start_of f).held end.held (additions_keep x.lines (start_of f)) [] (leading line.hints) conflict;
     } in
-    x.not_closed again refl (verdict_by end again accepted)
+    x.not_closed again refl (by_implied end again implied)
 
 -- ---- checkers
 
-more_accepted : (lines : List LratLine) (c : CheckerValue) (line : LratLine) → AllAccepted c lines → verdict_on (after c lines) line ≡ AcceptedVerdict → AllAccepted c (lines ++ line ∷ [])
+more_accepted : (lines : List LratLine) (c : CheckerValue) (line : LratLine) → AllAccepted c lines → is_accepted (verdict_on (after c lines) line) ≡ true → AllAccepted c (lines ++ line ∷ [])
 more_accepted [] c line a v = (v, tt)
 more_accepted (l ∷ lines) c line a v = (a.0, more_accepted lines (with_accepted c l) line a.1 v)
 
@@ -73,9 +74,9 @@ same_formula : (c : CheckerValue) (line : LratLine) → (with_accepted c line).f
 same_formula c (Addition line) = refl
 same_formula c (Deletion deletion) = refl
 
-pub stays_checker : (c : CheckerValue) (line : LratLine) → IsChecker c → verdict_on c line ≡ AcceptedVerdict → IsChecker (with_accepted c line)
+pub stays_checker : (c : CheckerValue) (line : LratLine) → IsChecker c → is_accepted (verdict_on c line) ≡ true → IsChecker (with_accepted c line)
 stays_checker c line i v =
-    let accepted : AllAccepted (start_of c.formula) (i.lines ++ line ∷ []) = more_accepted i.lines (start_of c.formula) line i.accepted (ap (λ d. verdict_on d line) i.is ∙ v) in
+    let accepted : AllAccepted (start_of c.formula) (i.lines ++ line ∷ []) = more_accepted i.lines (start_of c.formula) line i.accepted (ap (λ d. is_accepted (verdict_on d line)) i.is ∙ v) in
     let is : after (start_of c.formula) (i.lines ++ line ∷ []) ≡ with_accepted c line = after_more i.lines (start_of c.formula) line ∙ ap (λ d. with_accepted d line) i.is in
     let e : c.formula ≡ (with_accepted c line).formula = sym (same_formula c line) in
     record {

@@ -7,7 +7,7 @@ use Rattle.cnf_formula.specs.Lines.{ProofLineValue, DeletionValue}
 use Rattle.cnf_formula.specs.declared.line.LratLine.{LratLine}
 use Rattle.cnf_formula.specs.declared.line.LratLine.TheVariants.{Addition, Deletion}
 use Rattle.lrat_checker.specs.declared.verdict.LineVerdict.{LineVerdict}
-use Rattle.lrat_checker.specs.declared.verdict.LineVerdict.TheVariants.{Accepted}
+use Rattle.lrat_checker.specs.declared.verdict.LineVerdict.TheVariants.{Accepted, Refused}
 use Rattle.lrat_checker.specs.Held.{CheckerValue, start_of}
 use Rattle.lrat_checker.specs.Judging.{verdict_of, deletion_verdict}
 
@@ -35,15 +35,24 @@ abbrev pub with_accepted : CheckerValue → LratLine → CheckerValue
 with_accepted c (Addition line) = with_line c line
 with_accepted c (Deletion deletion) = without c deletion
 
+-- accepted, whether implied or not
+abbrev pub is_accepted : LineVerdict → Bool
+is_accepted (Accepted implied) = true
+is_accepted (Refused code hint) = false
+
 -- each line is accepted in its turn
 abbrev pub AllAccepted : CheckerValue → List LratLine → Type 0
 AllAccepted c [] = Unit {0}
-AllAccepted c (line ∷ lines) = (verdict_on c line ≡ Accepted) × AllAccepted (with_accepted c line) lines
+AllAccepted c (line ∷ lines) = (is_accepted (verdict_on c line) ≡ true) × AllAccepted (with_accepted c line) lines
 
 -- the checker after them
 abbrev pub after : CheckerValue → List LratLine → CheckerValue
 after c [] = c
 after c (line ∷ lines) = after (with_accepted c line) lines
+
+-- the clauses that are held after them, as a formula of the same variables
+abbrev pub formula_after : FormulaValue → List LratLine → FormulaValue
+formula_after f lines = record { vars = f.vars; clauses = map (λ entry. entry.1) (after (start_of f) lines).held }
 
 -- some lines, accepted in their turn, lead from the formula's clauses to this
 pub record IsChecker (c : CheckerValue) : Type 0 where
@@ -56,6 +65,8 @@ pub record Refutes (lines : List LratLine) (f : FormulaValue) : Type 0 where
   pub accepted : AllAccepted (start_of f) lines
   pub refuted : (after (start_of f) lines).refuted ≡ true
 
+-- ---- spent logs
+
 -- a clause that no held clause states already: it has a literal, and is a superset of none
 abbrev pub is_fresh : CheckerValue → List LitValue → Bool
 is_fresh c clause = not (is_empty clause || list_any (λ entry. is_superset clause entry.1) c.held)
@@ -65,14 +76,19 @@ abbrev pub AllFresh : CheckerValue → List ProofLineValue → Type 0
 AllFresh c [] = Unit {0}
 AllFresh c (line ∷ lines) = (is_fresh c line.lits ≡ true) × AllFresh (with_line c line) lines
 
--- so many additions, each accepted and fresh in its turn
+-- each addition follows from what is held in its turn
+abbrev pub AllImplied : CheckerValue → List ProofLineValue → Type 0
+AllImplied c [] = Unit {0}
+AllImplied c (line ∷ lines) = (verdict_of c line ≡ Accepted true) × AllImplied (with_line c line) lines
+
+-- so many additions, each implied and fresh in its turn
 pub record SpentLog (lines : List ProofLineValue) (f : FormulaValue) (n : ℕ) : Type 0 where
   pub count : length lines ≡ n
-  pub accepted : AllAccepted (start_of f) (map Addition lines)
+  pub implied : AllImplied (start_of f) lines
   pub fresh : AllFresh (start_of f) lines
 
--- some spent log of so many lines, after which no addition without a literal is accepted
+-- some spent log of so many lines, after which no addition without a literal is implied
 pub record Exhausted (f : FormulaValue) (n : ℕ) : Type 0 where
   pub lines : List ProofLineValue
   pub spent : SpentLog lines f n
-  pub not_closed : (line : ProofLineValue) → line.lits ≡ [] → verdict_of (after (start_of f) (map Addition lines)) line ≡ Accepted → ⊥
+  pub not_closed : (line : ProofLineValue) → line.lits ≡ [] → verdict_of (after (start_of f) (map Addition lines)) line ≡ Accepted true → ⊥

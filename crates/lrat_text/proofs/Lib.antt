@@ -1,3 +1,4 @@
+pub mod Trailed
 pub mod Cutting
 pub mod Spelled
 pub mod Printed

@@ -1,5 +1,6 @@
 -- The text of a formula (DIMACS CNF) and of proof lines (LRAT: Cruz-Filipe et al. 2017), as tokens of lines.
 use Rattle.std.specs.Prelude.{ℕ, ◌+◌, ◌<◌, ◌≤◌, All, if◌then◌else◌, List, [], ◌∷◌, ◌++◌, length, map, ℤ, pos, negsuc, decimal, codes}
+use Rattle.std.specs.List.{flat_map}
 use Rattle.text_lines.specs.Text.{text_of}
 use Rattle.cnf_formula.specs.Literals.{LitValue, IsLit}
 use Rattle.cnf_formula.specs.Formulas.{FormulaValue}
@@ -17,6 +18,10 @@ hint_word (negsuc n) = 45 ∷ decimal (n + 1)
 -- tokens, and the zero that closes them
 abbrev pub closed : List (List ℕ) → List (List ℕ)
 closed words = words ++ codes "0" ∷ []
+
+-- words with a space behind each
+abbrev pub trailed : List (List ℕ) → List ℕ
+trailed words = flat_map (λ word. word ++ 32 ∷ []) words
 
 -- the line `p cnf V M`, and a line for each clause
 abbrev pub cnf_text : FormulaValue → List ℕ

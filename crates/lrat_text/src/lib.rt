@@ -3,7 +3,9 @@
 
 mod fault;
 mod laws;
+mod printing;
 mod vectors;
 
 pub use cnf_formula::LratLine;
 pub use fault::LratTextFault;
+pub use printing::{print_cnf, print_deletion, print_line};

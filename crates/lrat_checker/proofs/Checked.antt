@@ -1,0 +1,118 @@
+-- A checker stays one, line by line.
+use Rattle.std.proofs.Common.{◌≡◌, ℕ, ◌<◌, ◌≤◌, max, Bool, true, false, List, [], ◌∷◌, ◌++◌, length, take, Result, Ok, Err, refl, sym, ap, ◌∙◌, subst, arith}
+use Rattle.std.specs.Prelude.{◌&&◌, ◌||◌, ◌==◌, not, filter, IfOk, if◌then◌else◌}
+use Rattle.std.specs.List.{list_any}
+use Rattle.std.proofs.lemmas.Bool.{false≢true, and_parts, not-true, lt-leb, ne_eqb}
+use Rattle.std.proofs.lemmas.List.{take-append-le, length-take-le, length_push}
+use Rattle.cnf_formula.specs.Formulas.{IsClause}
+use Rattle.cnf_formula.specs.Lines.{ProofLineValue, DeletionValue}
+use Rattle.cnf_formula.specs.Literals.{LitValue}
+use Rattle.cnf_formula.specs.declared.line.LratLine.TheVariants.{Addition, Deletion}
+use Rattle.lrat_checker.specs.declared.verdict.LineVerdict.{LineVerdict}
+use Rattle.lrat_checker.specs.declared.verdict.LineVerdict.TheVariants.{Accepted, Refused}
+use Rattle.lrat_checker.specs.declared.verdict.LineCode.TheVariants.{IdNotGreater, VariableRange, VariableTwice, UnknownDeletion}
+use Rattle.lrat_checker.specs.Held.{Entry, CheckerValue}
+use Rattle.lrat_checker.specs.Judging.{verdict_of, deletion_verdict, are_held, has_number_twice, is_foreign, has_variable_twice, led_verdict}
+use Rattle.lrat_checker.specs.Accepting.{IsNew}
+use Rattle.lrat_checker.specs.Marking.{MarksValue}
+use Rattle.lrat_checker.specs.Stored.{TableValue}
+use Rattle.lrat_checker.specs.Checking.{checker_of, CanCheck}
+use Rattle.lrat_checker.specs.Refuting.{is_accepted, is_empty, with_line, IsChecker}
+use Rattle.lrat_checker.proofs.Kept.{stays_checker}
+use Rattle.lrat_checker.proofs.Verdicts.{implied_by, redundant_by}
+
+accepted_new : (c : CheckerValue) (line : ProofLineValue) → is_accepted (verdict_of c line) ≡ true → IsNew c line
+accepted_new c line a = go (verdict_of c line) refl a
+  where
+    go : (v : LineVerdict) → verdict_of c line ≡ v → is_accepted v ≡ true → IsNew c line
+    go (Accepted true) e a = (implied_by c line e).new
+    go (Accepted false) e a = (redundant_by c line e).new
+    go (Refused code hint) e a = absurd (false≢true a)
+
+-- ---- one line more
+
+abbrev pub table_with : TableValue → ProofLineValue → TableValue
+table_with table line = record { vars = table.vars; clauses = table.clauses ++ line.lits ∷ []; held = table.held ++ (line.id, line.lits) ∷ []; last = line.id }
+
+pub with_line_is : (table : TableValue) (o g : ℕ) (r : Bool) (line : ProofLineValue) → o ≤ length table.clauses → checker_of (table_with table line) o line.id (r || is_empty line.lits) ≡ with_line (checker_of table o g r) line
+with_line_is table o g r line w =
+    let make : List (List LitValue) → CheckerValue = λ cs. record { formula = record { vars = table.vars; clauses = cs }; held = table.held ++ (line.id, line.lits) ∷ []; greatest = line.id; refuted = r || is_empty line.lits } in
+    ap make (take-append-le o table.clauses (line.lits ∷ []) w)
+
+pub can_add : (table : TableValue) (marks : MarksValue) (o g : ℕ) (r : Bool) (line : ProofLineValue) → CanCheck table marks o g r → is_accepted (verdict_of (checker_of table o g r) line) ≡ true
+    → CanCheck (table_with table line) marks o line.id (r || is_empty line.lits)
+can_add table marks o g r line c a =
+    let n = accepted_new (checker_of table o g r) line a in
+    let long : length (take o table.clauses) ≡ o = length-take-le o table.clauses c.many in
+    let high : o < line.id = let h = n.above_formula in omega (arith, h, long) in
+    let m = c.many in
+    let p = length_push table.clauses line.lits in
+    record {
+      unmarked = c.unmarked;
+      same = c.same;
+      many = omega (arith, m, p);
+      last = omega (arith, high);
+      checker = subst IsChecker (sym (with_line_is table o g r line c.many)) (stays_checker (checker_of table o g r) (Addition line) c.checker a);
+    }
+
+-- an accepted line may be put into the table
+pub above_last : (table : TableValue) (marks : MarksValue) (o g : ℕ) (r : Bool) (line : ProofLineValue) → CanCheck table marks o g r → is_accepted (verdict_of (checker_of table o g r) line) ≡ true → table.last < line.id
+above_last table marks o g r line c a =
+    let n = accepted_new (checker_of table o g r) line a in
+    let long : length (take o table.clauses) ≡ o = length-take-le o table.clauses c.many in
+    let f = n.above_formula in
+    let l = n.above_lines in
+    let e = c.last in
+    omega (arith, f, l, long, e)
+
+pub in_range : (c : CheckerValue) (line : ProofLineValue) → is_accepted (verdict_of c line) ≡ true → IsClause c.formula.vars line.lits
+in_range c line a = (accepted_new c line a).in_range
+
+-- ---- some clauses fewer
+
+abbrev pub table_without : TableValue → List ℕ → TableValue
+table_without table ids = record { vars = table.vars; clauses = table.clauses; held = filter (λ entry. not (list_any (λ id. id == entry.0) ids)) table.held; last = table.last }
+
+pub deletion_accepted : (c : CheckerValue) (deletion : DeletionValue) → (are_held c.held deletion.ids && not (has_number_twice deletion.ids)) ≡ true → deletion_verdict c deletion ≡ Accepted false
+deletion_accepted c deletion h =
+    let parts = and_parts (are_held c.held deletion.ids) (not (has_number_twice deletion.ids)) h in
+    ap (λ a. if not a || has_number_twice deletion.ids then Refused UnknownDeletion 0 else Accepted false) parts.0
+    ∙ ap (λ b. if b then Refused UnknownDeletion 0 else Accepted false) (not-true (has_number_twice deletion.ids) parts.1)
+
+pub deletion_refused : (c : CheckerValue) (deletion : DeletionValue) → (are_held c.held deletion.ids && not (has_number_twice deletion.ids)) ≡ false → deletion_verdict c deletion ≡ Refused UnknownDeletion 0
+deletion_refused c deletion h = go (are_held c.held deletion.ids) (has_number_twice deletion.ids) h
+  where
+    go : (a b : Bool) → (a && not b) ≡ false → (if not a || b then Refused UnknownDeletion 0 else Accepted false) ≡ Refused UnknownDeletion 0
+    go true true h = refl
+    go true false h = absurd (false≢true (sym h))
+    go false b h = refl
+
+pub can_delete : (table : TableValue) (marks : MarksValue) (o g : ℕ) (r : Bool) (deletion : DeletionValue) → CanCheck table marks o g r → (are_held table.held deletion.ids && not (has_number_twice deletion.ids)) ≡ true
+    → CanCheck (table_without table deletion.ids) marks o g r
+can_delete table marks o g r deletion c h = record {
+  unmarked = c.unmarked;
+  same = c.same;
+  many = c.many;
+  last = c.last;
+  checker = stays_checker (checker_of table o g r) (Deletion deletion) c.checker (ap is_accepted (deletion_accepted (checker_of table o g r) deletion h));
+}
+
+-- ---- the verdict
+
+abbrev pub judged : ℕ → List Entry → ProofLineValue → LineVerdict
+judged vars held line =
+    if list_any (λ l. is_foreign vars l) line.lits then Refused VariableRange 0
+    else if has_variable_twice line.lits then Refused VariableTwice 0
+    else led_verdict held line
+
+pub judged_ok : {E : Type 0} (table : TableValue) (o g : ℕ) (r : Bool) (line : ProofLineValue) (result : Result LineVerdict E) → o ≤ length table.clauses → max g o < line.id
+    → IfOk result (λ v. v ≡ judged table.vars table.held line) → IfOk result (λ v. v ≡ verdict_of (checker_of table o g r) line)
+judged_ok table o g r line (Ok v) w high h =
+    let long : length (take o table.clauses) ≡ o = length-take-le o table.clauses w in
+    let low : max (length (take o table.clauses)) g < line.id = omega (arith, long, high) in
+    h ∙ sym (ap (λ b. if b then Refused IdNotGreater 0 else judged table.vars table.held line) (lt-leb line.id (max (length (take o table.clauses)) g) low))
+judged_ok table o g r line (Err e) w high h = tt
+
+pub empty_is : (xs : List LitValue) → (length xs == 0) ≡ is_empty xs
+empty_is [] = refl
+empty_is (x ∷ xs) = ne_eqb (length (x ∷ xs)) 0 (λ e. omega (arith, e))

@@ -1,0 +1,93 @@
+-- Groups one after another.
+use Rattle.std.proofs.Common.{◌≡◌, ℕ, ◌+◌, ◌<◌, ◌≤◌, Bool, true, false, List, [], ◌∷◌, length, drop, get_or, Option, Some, None, refl, sym, ap, ◌∙◌, arith}
+use Rattle.std.specs.Prelude.{◌==◌, ◌||◌, ℤ, pos, negsuc}
+use Rattle.std.specs.List.{list_any}
+use Rattle.std.specs.BTreeSet.{BTreeSet, contains}
+use Rattle.std.specs.Ordering.{nat_cmp}
+use Rattle.std.proofs.lemmas.Bool.{false≢true}
+use Rattle.std.specs.Prelude.{is_some}
+use Rattle.std.proofs.lemmas.Int.{to_z-of_z}
+use lib.IntN.{nat_abs}
+use mir.Syntax.{w64}
+use mir.Val.{SFits, of_z, to_z}
+use Rattle.std.proofs.lemmas.List.{drop_all, drop_more}
+use Rattle.cnf_formula.specs.Literals.{LitValue}
+use Rattle.lrat_checker.specs.Held.{Entry, clause_at}
+use Rattle.lrat_checker.specs.Judging.{Fault, group_fault, groups_fault}
+use Rattle.lrat_checker.specs.Accepting.{Group, leading, groups_from, groups_of}
+use Rattle.lrat_checker.specs.Steps.{Names, Same}
+
+-- the groups before this place have no fault, and their clauses are in the set
+pub record Left (held : List Entry) (pivot : LitValue) (start : List LitValue) (hints : List ℤ) (named : BTreeSet ℕ) (at : ℕ) : Type 0 where
+  pub earlier : List ℕ
+  pub same : Same named earlier
+  pub fault : groups_fault held pivot start [] (groups_of hints) ≡ groups_fault held pivot start earlier (groups_from at (drop at hints))
+  pub names : (id : ℕ) → list_any (λ group. group.named == id) (groups_of hints) ≡ (list_any (λ other. other == id) earlier || list_any (λ group. group.named == id) (groups_from at (drop at hints)))
+
+module _ (held : List Entry) (pivot : LitValue) (start : List LitValue) (hints : List ℤ) where
+  abbrev pub group_at : ℕ → ℕ → Group
+  group_at at id = record { place = at; named = id; hints = leading (drop (at + 1) hints) }
+
+  pub at_first : (named : BTreeSet ℕ) (at : ℕ) → Same named [] → groups_from 0 (drop 0 hints) ≡ groups_from at (drop at hints) → Left held pivot start hints named at
+  at_first named at s e = record {
+    earlier = [];
+    same = s;
+    fault = ap (groups_fault held pivot start []) e;
+    names = λ id. ap (list_any (λ group. group.named == id)) e;
+  }
+
+  pub group_here : (at n : ℕ) → drop at hints ≡ negsuc n ∷ drop (at + 1) hints → groups_from at (drop at hints) ≡ group_at at (n + 1) ∷ groups_from (at + 1) (drop (at + 1) hints)
+  group_here at n e = ap (groups_from at) e
+
+  pub faulty : (named : BTreeSet ℕ) (at n : ℕ) (fault : Fault) (l : Left held pivot start hints named at) → drop at hints ≡ negsuc n ∷ drop (at + 1) hints
+      → group_fault held pivot start l.earlier (group_at at (n + 1)) (clause_at held (n + 1)) ≡ Some fault → groups_fault held pivot start [] (groups_of hints) ≡ Some fault
+  faulty named at n fault l e f = l.fault ∙ ap (groups_fault held pivot start l.earlier) (group_here at n e) ∙ rw (f, groups_fault) refl
+
+  swap : (a b c : Bool) → (a || (b || c)) ≡ ((b || a) || c)
+  swap true true c = refl
+  swap true false c = refl
+  swap false true c = refl
+  swap false false c = refl
+
+  pub passes : (named named' : BTreeSet ℕ) (at n next : ℕ) (l : Left held pivot start hints named at) → drop at hints ≡ negsuc n ∷ drop (at + 1) hints
+      → group_fault held pivot start l.earlier (group_at at (n + 1)) (clause_at held (n + 1)) ≡ None → ((k : ℕ) → contains nat_cmp named' k ≡ (n + 1 == k || contains nat_cmp named k))
+      → groups_from (at + 1) (drop (at + 1) hints) ≡ groups_from next (drop next hints) → Left held pivot start hints named' next
+  passes named named' at n next l e f s g = record {
+    earlier = (n + 1) ∷ l.earlier;
+    same = λ k. s k ∙ ap (λ b. n + 1 == k || b) (l.same k);
+    fault = l.fault ∙ ap (groups_fault held pivot start l.earlier) (group_here at n e) ∙ rw (f, groups_fault) (ap (groups_fault held pivot start ((n + 1) ∷ l.earlier)) g);
+    names = λ id.
+        l.names id ∙ ap (λ gs. list_any (λ other. other == id) l.earlier || list_any (λ group. group.named == id) gs) (group_here at n e)
+        ∙ ap (λ gs. list_any (λ other. other == id) l.earlier || (n + 1 == id || list_any (λ group. group.named == id) gs)) g
+        ∙ swap (list_any (λ other. other == id) l.earlier) (n + 1 == id) (list_any (λ group. group.named == id) (groups_from next (drop next hints)));
+  }
+
+  or_none : (a : Bool) → (a || false) ≡ a
+  or_none true = refl
+  or_none false = refl
+
+  pub no_fault_left : (named : BTreeSet ℕ) (at : ℕ) → length hints ≤ at → Left held pivot start hints named at → groups_fault held pivot start [] (groups_of hints) ≡ None
+  no_fault_left named at w l = l.fault ∙ ap (λ hs. groups_fault held pivot start l.earlier (groups_from at hs)) (drop_all at hints w)
+
+  pub all_named : (named : BTreeSet ℕ) (at : ℕ) → length hints ≤ at → Left held pivot start hints named at → Names named (groups_of hints)
+  all_named named at w l id =
+      l.same id ∙ sym (or_none (list_any (λ other. other == id) l.earlier))
+      ∙ ap (λ hs. list_any (λ other. other == id) l.earlier || list_any (λ group. group.named == id) (groups_from at hs)) (sym (drop_all at hints w)) ∙ sym (l.names id)
+
+  pub faulty_any : (named : BTreeSet ℕ) (at n : ℕ) (o : Option Fault) (l : Left held pivot start hints named at) → is_some o ≡ true → drop at hints ≡ negsuc n ∷ drop (at + 1) hints
+      → o ≡ group_fault held pivot start l.earlier (group_at at (n + 1)) (clause_at held (n + 1)) → o ≡ groups_fault held pivot start [] (groups_of hints)
+  faulty_any named at n (Some fault) l s e f = sym (faulty named at n fault l e (sym f))
+  faulty_any named at n None l s e f = absurd (false≢true s)
+
+pub none_from : {A : Type 0} (o : Option A) → is_some o ≡ false → o ≡ None
+none_from None e = refl
+none_from (Some x) e = absurd (false≢true (sym e))
+
+negative_is : (z : ℤ) (rest rest' : List ℤ) (n : ℕ) → z ∷ rest ≡ negsuc n ∷ rest' → nat_abs z ≡ n + 1
+negative_is (pos k) rest rest' n e = absurd (cc)
+negative_is (negsuc k) rest rest' n e = let same : k ≡ n = cc in omega (arith, same)
+
+pub group_number : (hints : List ℤ) (at n id : ℕ) → at < length hints → SFits w64 (get_or hints at (pos 0)) → drop at hints ≡ negsuc n ∷ drop (at + 1) hints → id ≡ nat_abs (to_z w64 (of_z w64 (get_or hints at (pos 0)))) → id ≡ n + 1
+group_number hints at n id w f e h =
+    let z = get_or hints at (pos 0) in
+    h ∙ ap nat_abs (to_z-of_z w64 z f) ∙ negative_is z (drop (at + 1) hints) (drop (at + 1) hints) n (sym (drop_more hints at (pos 0) w) ∙ e)

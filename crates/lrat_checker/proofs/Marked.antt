@@ -1,0 +1,144 @@
+-- Marks on literals, counted in a table.
+use Rattle.std.proofs.Common.{◌≡◌, ℕ, ◌+◌, ◌-◌, ◌*◌, ◌<◌, ◌≤◌, Bool, true, false, cond, List, [], ◌∷◌, ◌++◌, length, take, drop, get_or, set, refl, sym, ap, ◌∙◌, subst, ⊎_elim, arith}
+use Rattle.std.specs.Prelude.{◌||◌, nat_lt, All, reverse}
+use Rattle.std.proofs.lemmas.Bool.{false≢true, cases_Bool, lt-ltb}
+use Rattle.std.proofs.lemmas.List.{length-set, get_or_append_left, get_or-set_same, get_or-set_other, length_push, take_at, take-take, reverse-append, length-reverse, take-append-drop, drop_at, length-drop, get_or_read}
+use Rattle.std.proofs.lemmas.List.Elements.{All-head, All-tail, All-push}
+use Rattle.cnf_formula.specs.Literals.{LitValue, same_literal, has_literal, code_of}
+use Rattle.cnf_formula.specs.Formulas.{IsAbout}
+use Rattle.cnf_formula.proofs.Clauses.{same_is}
+use Rattle.cnf_formula.proofs.Codes.{same_code}
+use Rattle.lrat_checker.specs.Marking.{times, IsCounted}
+use Rattle.lrat_checker.proofs.Taking.{same_itself}
+
+-- ---- how often a literal stands in a list
+
+abbrev once : LitValue → LitValue → ℕ
+once l x = cond (same_literal l x) 1 0
+
+times-push : (l x : LitValue) (xs : List LitValue) → times l (xs ++ x ∷ []) ≡ times l xs + once l x
+times-push l x [] = omega arith
+times-push l x (y ∷ xs) = let e = times-push l x xs in omega (arith, e)
+
+once_small : (l x : LitValue) → once l x ≤ 1
+once_small l x = go (same_literal l x)
+  where
+    go : (b : Bool) → cond {A = ℕ} b 1 0 ≤ 1
+    go true = omega arith
+    go false = omega arith
+
+pub times_few : (l : LitValue) (xs : List LitValue) → times l xs ≤ length xs
+times_few l [] = omega arith
+times_few l (x ∷ xs) = let a = times_few l xs in let b = once_small l x in omega (arith, a, b)
+
+pub has_times : (l : LitValue) (xs : List LitValue) → has_literal xs l ≡ nat_lt 0 (times l xs)
+has_times l [] = refl
+has_times l (x ∷ xs) =
+    ⊎_elim (λ t. let some : 0 < cond {A = ℕ} (same_literal l x) 1 0 + times l xs = rw t (omega arith) in ap (λ b. b || has_literal xs l) t ∙ sym (lt-ltb 0 (cond {A = ℕ} (same_literal l x) 1 0 + times l xs) some))
+    (λ f. let none : cond {A = ℕ} (same_literal l x) 1 0 + times l xs ≡ times l xs = rw f (omega arith) in ap (λ b. b || has_literal xs l) f ∙ has_times l xs ∙ ap (nat_lt 0) (sym none))
+    (cases_Bool (same_literal l x))
+
+has-append : (l : LitValue) (xs ys : List LitValue) → has_literal (xs ++ ys) l ≡ (has_literal xs l || has_literal ys l)
+has-append l [] ys = refl
+has-append l (x ∷ xs) ys = let e = has-append l xs ys in ⊎_elim (λ t. rw t refl) (λ f. rw f e) (cases_Bool (same_literal l x))
+
+or_comm : (a b : Bool) → (a || b) ≡ (b || a)
+or_comm true true = refl
+or_comm true false = refl
+or_comm false true = refl
+or_comm false false = refl
+
+pub has-reverse : (l : LitValue) (xs : List LitValue) → has_literal (reverse xs) l ≡ has_literal xs l
+has-reverse l [] = refl
+has-reverse l (x ∷ xs) =
+    ap (λ ys. has_literal ys l) (reverse-append (x ∷ []) xs) ∙ has-append l (reverse xs) (x ∷ []) ∙ or_comm (has_literal (reverse xs) l) (has_literal (x ∷ []) l)
+    ∙ ap (λ b. has_literal (x ∷ []) l || b) (has-reverse l xs) ∙ sym (has-append l (x ∷ []) xs)
+
+-- ---- the table
+
+pub code_within : (vars : ℕ) (l : LitValue) → IsAbout vars l → code_of l < 2 * vars + 2
+code_within vars l a = go l.positive
+  where
+    go : (b : Bool) → 2 * l.var + cond {A = ℕ} b 0 1 < 2 * vars + 2
+    go true = let w = a.within in omega (arith, w)
+    go false = let w = a.within in omega (arith, w)
+
+apart : (l x : LitValue) → same_literal l x ≡ false → code_of l ≡ code_of x → ⊥
+apart l x f e = false≢true (sym f ∙ subst (λ y. same_literal l y ≡ true) (same_code l x e) (same_itself l))
+
+pub counted_more : (vars : ℕ) (counts : List ℕ) (marked : List LitValue) (x : LitValue) (n : ℕ) → IsCounted vars counts marked → IsAbout vars x → n ≡ get_or counts (code_of x) 0 → IsCounted vars (set counts (code_of x) (n + 1)) (marked ++ x ∷ [])
+counted_more vars counts marked x n c a e = record {
+  long = length-set counts (code_of x) (n + 1) ∙ c.long;
+  about = All-push (IsAbout vars) marked x c.about a;
+  each = λ l b. ⊎_elim
+      (λ t.
+      let is = same_is l x t in
+      let here : get_or (set counts (code_of x) (n + 1)) (code_of l) 0 ≡ n + 1 =
+      ap (λ y. get_or (set counts (code_of x) (n + 1)) (code_of y) 0) is ∙ get_or-set_same counts (code_of x) (n + 1) 0 (let w = code_within vars x a in omega (arith, w, c.long)) in
+      let old : n ≡ times l marked = e ∙ ap (λ y. get_or counts (code_of y) 0) (sym is) ∙ c.each l b in
+      let more : times l (marked ++ x ∷ []) ≡ times l marked + 1 = rw t at (times-push l x marked) in
+      here ∙ ap (λ k. k + 1) old ∙ sym more)
+      (λ f.
+      let more : times l (marked ++ x ∷ []) ≡ times l marked + 0 = rw f at (times-push l x marked) in
+      let none : times l marked ≡ times l marked + 0 = omega arith in
+      get_or-set_other counts (code_of x) (code_of l) (n + 1) 0 (apart l x f) ∙ c.each l b ∙ none ∙ sym more)
+      (cases_Bool (same_literal l x));
+}
+
+pub some_times : (marked : List LitValue) (x : LitValue) → times x (marked ++ x ∷ []) ≡ times x marked + 1
+some_times marked x = rw (same_itself x) at (times-push x x marked)
+
+pub about_last : (vars : ℕ) (ms : List LitValue) (x : LitValue) → All (IsAbout vars) (ms ++ x ∷ []) → IsAbout vars x
+about_last vars [] x h = All-head (IsAbout vars) x [] h
+about_last vars (m ∷ ms) x h = about_last vars ms x (All-tail (IsAbout vars) m (ms ++ x ∷ []) h)
+
+pub counted_fewer : (vars : ℕ) (counts : List ℕ) (marked : List LitValue) (x : LitValue) (n : ℕ) → IsCounted vars counts (marked ++ x ∷ []) → n ≡ get_or counts (code_of x) 0 → IsCounted vars (set counts (code_of x) (n - 1)) marked
+counted_fewer vars counts marked x n c e =
+    let last : length marked < length (marked ++ x ∷ []) = omega (arith, length_push marked x) in
+    let a : IsAbout vars x = about_last vars marked x c.about in
+    record {
+      long = length-set counts (code_of x) (n - 1) ∙ c.long;
+      about = about_front marked c.about;
+      each = λ l b. ⊎_elim
+          (λ t.
+          let is = same_is l x t in
+          let here : get_or (set counts (code_of x) (n - 1)) (code_of l) 0 ≡ n - 1 =
+          ap (λ y. get_or (set counts (code_of x) (n - 1)) (code_of y) 0) is ∙ get_or-set_same counts (code_of x) (n - 1) 0 (let w = code_within vars x a in omega (arith, w, c.long)) in
+          let old : n ≡ times l (marked ++ x ∷ []) = e ∙ ap (λ y. get_or counts (code_of y) 0) (sym is) ∙ c.each l b in
+          let more : times l (marked ++ x ∷ []) ≡ times l marked + 1 = rw t at (times-push l x marked) in
+          omega (arith, here, old, more))
+          (λ f.
+          let more : times l (marked ++ x ∷ []) ≡ times l marked + 0 = rw f at (times-push l x marked) in
+          let other = get_or-set_other counts (code_of x) (code_of l) (n - 1) 0 (apart l x f) in
+          let old = c.each l b in
+          omega (arith, other, old, more))
+          (cases_Bool (same_literal l x));
+    }
+  where
+    about_front : (ms : List LitValue) → All (IsAbout vars) (ms ++ x ∷ []) → All (IsAbout vars) ms
+    about_front ms h = λ k d w. subst (IsAbout vars) (get_or_append_left ms (x ∷ []) d k w) (h k d (omega (arith, w, length_push ms x)))
+
+-- ---- marks are taken back
+
+-- one literal fewer at the front of a list
+pub shorter : (ls xs ys : List LitValue) (x : LitValue) → ls ≡ xs ++ x ∷ [] → ls ≡ take (length ls) ys → xs ≡ take (length xs) ys
+shorter ls xs ys x e f =
+    let n : length ls ≡ length xs + 1 = ap length e ∙ length_push xs x in
+    let g : take (length xs) ls ≡ xs = ap (take (length xs)) e ∙ take_at xs (x ∷ []) (length xs) refl in
+    sym g ∙ ap (take (length xs)) f ∙ take-take (length xs) (length ls) ys (omega (arith, n))
+
+pub reverse-take : (k : ℕ) (xs : List LitValue) → k ≤ length xs → reverse (take k xs) ≡ drop (length xs - k) (reverse xs)
+reverse-take k xs w =
+    let parts : reverse xs ≡ reverse (drop k xs) ++ reverse (take k xs) = ap reverse (sym (take-append-drop k xs)) ∙ reverse-append (take k xs) (drop k xs) in
+    let n : length (reverse (drop k xs)) ≡ length xs - k = length-reverse (drop k xs) ∙ length-drop k xs in
+    sym (ap (drop (length xs - k)) parts ∙ drop_at (reverse (drop k xs)) (reverse (take k xs)) (length xs - k) n)
+
+-- ---- what is read
+
+pub at_code : (vars : ℕ) (counts : List ℕ) (marked : List LitValue) (l : LitValue) (code n : ℕ) → IsCounted vars counts marked → IsAbout vars l → code ≡ code_of l → n ≡ get_or counts code n → n ≡ get_or counts (code_of l) 0
+at_code vars counts marked l code n c a e h =
+    let w = code_within vars l a in
+    get_or_read counts code n (omega (arith, w, c.long, e)) h 0 ∙ ap (λ k. get_or counts k 0) e
+
+pub read_times : (vars : ℕ) (counts : List ℕ) (marked : List LitValue) (l : LitValue) (code n : ℕ) → IsCounted vars counts marked → IsAbout vars l → code ≡ code_of l → n ≡ get_or counts code n → n ≡ times l marked
+read_times vars counts marked l code n c a e h = at_code vars counts marked l code n c a e h ∙ c.each l a

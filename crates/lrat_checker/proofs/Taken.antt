@@ -1,0 +1,116 @@
+-- One hint after another.
+use Rattle.std.proofs.Common.{◌≡◌, ℕ, ◌+◌, ◌<◌, true, false, List, [], ◌∷◌, ◌++◌, length, drop, get_or, Option, Some, None, Result, Ok, Err, refl, sym, ap, ◌∙◌, subst, ⊎_elim, append_assoc}
+use Rattle.std.specs.Prelude.{if◌then◌else◌, ℤ, pos, negsuc, not, All}
+use Rattle.std.specs.List.{list_all}
+use Rattle.std.proofs.lemmas.Int.{to_z-of_z}
+use lib.IntN.{nat_abs}
+use lib.Signed.{lt_z}
+use mir.Syntax.{w64}
+use mir.Val.{SFits, of_z, to_z}
+use Rattle.std.proofs.lemmas.Bool.{false≢true, or_cases}
+use Rattle.std.proofs.lemmas.List.{drop_more}
+use Rattle.cnf_formula.specs.Literals.{LitValue, same_literal, has_literal, negation}
+use Rattle.lrat_checker.specs.declared.verdict.LineCode.{LineCode}
+use Rattle.lrat_checker.specs.declared.verdict.LineCode.TheVariants.{HintNotUnit, UnknownHint}
+use Rattle.lrat_checker.specs.Held.{Entry, clause_at, open_literals}
+use Rattle.lrat_checker.specs.Judging.{given_by, after_conflict, led_to}
+use Rattle.lrat_checker.specs.Accepting.{leading, groups_from}
+use Rattle.lrat_checker.specs.Marking.{Extends}
+use Rattle.cnf_formula.specs.Formulas.{IsAbout}
+use Rattle.cnf_formula.proofs.Clauses.{same_is}
+use Rattle.std.proofs.lemmas.List.Elements.{All-head, All-tail}
+use Rattle.lrat_checker.proofs.Taking.{gives_some, first_open}
+
+-- ---- the literals of a clause
+
+-- what is given where this was open so far, and these are open behind it
+abbrev pub goes_on : Option LitValue → List LitValue → Result (Option LitValue) LineCode
+goes_on None ls = given_by ls
+goes_on (Some l) ls = if list_all (same_literal l) ls then Ok (Some l) else Err HintNotUnit
+
+pub given_end : (o : Option LitValue) → goes_on o [] ≡ Ok o
+given_end None = refl
+given_end (Some l) = refl
+
+module _ (falses : List LitValue) (clause : List LitValue) (k : ℕ) (x : LitValue) (h : drop k clause ≡ x ∷ drop (k + 1) clause) where
+  pub passed_over : (o : Option LitValue) → has_literal falses x ≡ true → goes_on o (open_literals falses (drop k clause)) ≡ goes_on o (open_literals falses (drop (k + 1) clause))
+  passed_over o f = ap (λ ys. goes_on o (open_literals falses ys)) h ∙ ap (λ b. goes_on o (if not b then x ∷ open_literals falses (drop (k + 1) clause) else open_literals falses (drop (k + 1) clause))) f
+
+  open_here : (o : Option LitValue) → has_literal falses x ≡ false → goes_on o (open_literals falses (drop k clause)) ≡ goes_on o (x ∷ open_literals falses (drop (k + 1) clause))
+  open_here o f = ap (λ ys. goes_on o (open_literals falses ys)) h ∙ ap (λ b. goes_on o (if not b then x ∷ open_literals falses (drop (k + 1) clause) else open_literals falses (drop (k + 1) clause))) f
+
+  pub first_open_one : has_literal falses x ≡ false → goes_on None (open_literals falses (drop k clause)) ≡ goes_on (Some x) (open_literals falses (drop (k + 1) clause))
+  first_open_one f = open_here None f
+
+  pub same_open : (l : LitValue) → same_literal l x ≡ true → has_literal falses x ≡ false → goes_on (Some l) (open_literals falses (drop k clause)) ≡ goes_on (Some l) (open_literals falses (drop (k + 1) clause))
+  same_open l s f = open_here (Some l) f ∙ rw s refl
+
+  pub two_open : (l : LitValue) → same_literal l x ≡ false → has_literal falses x ≡ false → goes_on (Some l) (open_literals falses (drop k clause)) ≡ Err HintNotUnit
+  two_open l s f = open_here (Some l) f ∙ rw s refl
+
+-- ---- hints
+
+module _ (held : List Entry) (falses : List LitValue) (hints : List ℤ) (place : ℕ) where
+  pub stops_at_group : (n : ℕ) → drop place hints ≡ negsuc n ∷ drop (place + 1) hints → led_to held falses place (leading (drop place hints)) ≡ Ok (Some falses)
+  stops_at_group n h = ap (λ hs. led_to held falses place (leading hs)) h
+
+  pub stops_at_end : drop place hints ≡ [] → led_to held falses place (leading (drop place hints)) ≡ Ok (Some falses)
+  stops_at_end h = ap (λ hs. led_to held falses place (leading hs)) h
+
+  module _ (id : ℕ) (h : drop place hints ≡ pos id ∷ drop (place + 1) hints) where
+    pub unknown_hint : clause_at held id ≡ None → led_to held falses place (leading (drop place hints)) ≡ Err (UnknownHint, place)
+    unknown_hint e = ap (λ hs. led_to held falses place (leading hs)) h ∙ rw (e, led_to) refl
+
+    pub failing_hint : (clause : List LitValue) (code : LineCode) → clause_at held id ≡ Some clause → given_by (open_literals falses clause) ≡ Err code → led_to held falses place (leading (drop place hints)) ≡ Err (code, place)
+    failing_hint clause code e g = ap (λ hs. led_to held falses place (leading hs)) h ∙ rw (e, g, led_to) refl
+
+    pub conflicting_hint : (clause : List LitValue) → clause_at held id ≡ Some clause → given_by (open_literals falses clause) ≡ Ok None → led_to held falses place (leading (drop place hints)) ≡ after_conflict (place + 1) (leading (drop (place + 1) hints))
+    conflicting_hint clause e g = ap (λ hs. led_to held falses place (leading hs)) h ∙ rw (e, g, led_to) refl
+
+    pub unit_hint : (clause : List LitValue) (l : LitValue) → clause_at held id ≡ Some clause → given_by (open_literals falses clause) ≡ Ok (Some l) → led_to held falses place (leading (drop place hints)) ≡ led_to held (negation l ∷ falses) (place + 1) (leading (drop (place + 1) hints))
+    unit_hint clause l e g = ap (λ hs. led_to held falses place (leading hs)) h ∙ rw (e, g, led_to) refl
+
+-- ---- groups
+
+module _ (hints : List ℤ) (place : ℕ) where
+  pub no_group_here : (id : ℕ) → drop place hints ≡ pos id ∷ drop (place + 1) hints → groups_from place (drop place hints) ≡ groups_from (place + 1) (drop (place + 1) hints)
+  no_group_here id h = ap (groups_from place) h
+
+-- ---- more literals
+
+pub extends_itself : (falses : List LitValue) → Extends falses falses
+extends_itself falses = record { more = []; is = refl }
+
+pub extends_more : (base falses : List LitValue) (l : LitValue) → Extends base falses → Extends base (l ∷ falses)
+extends_more base falses l e = record { more = l ∷ e.more; is = ap (λ fs. l ∷ fs) e.is }
+
+pub extends_both : (a b c : List LitValue) → Extends a b → Extends b c → Extends a c
+extends_both a b c e f = record { more = f.more ++ e.more; is = f.is ∙ ap (λ bs. f.more ++ bs) e.is ∙ sym (append_assoc f.more e.more a) }
+
+-- ---- what is given is about the clause's variables
+
+stands_about : (vars : ℕ) (clause : List LitValue) (l : LitValue) → All (IsAbout vars) clause → has_literal clause l ≡ true → IsAbout vars l
+stands_about vars [] l a h = absurd (false≢true h)
+stands_about vars (x ∷ clause) l a h =
+    ⊎_elim (λ s. subst (IsAbout vars) (sym (same_is l x s)) (All-head (IsAbout vars) x clause a)) (λ r. stands_about vars clause l (All-tail (IsAbout vars) x clause a) r)
+    (or_cases (same_literal l x) (has_literal clause l) h)
+
+pub negated_about : (vars : ℕ) (l : LitValue) → IsAbout vars l → IsAbout vars (negation l)
+negated_about vars l a = record { some = a.some; within = a.within }
+
+pub given_about : (vars : ℕ) (falses clause : List LitValue) (l : LitValue) → All (IsAbout vars) clause → given_by (open_literals falses clause) ≡ Ok (Some l) → IsAbout vars l
+given_about vars falses clause l a h =
+    let s = gives_some (open_literals falses clause) l h in
+    stands_about vars clause l a (first_open falses clause l s.0 s.1).0
+
+-- ---- a hint that is read
+
+hint_is : (z : ℤ) (id : ℕ) → lt_z z (pos 0) ≡ false → id ≡ nat_abs z → z ≡ pos id
+hint_is (pos n) id h e = ap pos (sym e)
+hint_is (negsuc n) id h e = absurd (cc)
+
+pub hint_here : (hints : List ℤ) (place id : ℕ) → place < length hints → SFits w64 (get_or hints place (pos 0)) → lt_z (to_z w64 (of_z w64 (get_or hints place (pos 0)))) (pos 0) ≡ false → id ≡ nat_abs (to_z w64 (of_z w64 (get_or hints place (pos 0)))) → drop place hints ≡ pos id ∷ drop (place + 1) hints
+hint_here hints place id w f h e =
+    let z = get_or hints place (pos 0) in
+    let same : to_z w64 (of_z w64 z) ≡ z = to_z-of_z w64 z f in
+    drop_more hints place (pos 0) w ∙ ap (λ y. y ∷ drop (place + 1) hints) (hint_is z id (ap (λ y. lt_z y (pos 0)) (sym same) ∙ h) (e ∙ ap nat_abs same))

@@ -1,0 +1,6 @@
+use Rattle.std.proofs.Common.{◌≡◌, drop}
+use Rattle.lrat_checker.specs.Accepting.{groups_from}
+use Rattle.lrat_checker.proofs.leading.next_group.Given as goal
+
+abbrev pub invariant-loop-place : goal.invariant-loop-place
+invariant-loop-place l = groups_from l.from (drop l.from l.hints) ≡ groups_from l.place (drop l.place l.hints)

@@ -1,0 +1,11 @@
+use Rattle.std.proofs.Common.{◌≡◌, take}
+use Rattle.std.specs.List.{enumerate_from}
+use Rattle.lrat_checker.proofs.table.ClauseTable.new.Given as goal
+
+abbrev pub invariant-loop-place : goal.invariant-loop-place
+invariant-loop-place l = record {
+  vars : l.table.vars ≡ l.formula.vars;
+  clauses : l.table.clauses ≡ take l.place l.clause-items;
+  held : l.table.held ≡ enumerate_from 1 (take l.place l.clause-items);
+  last : l.table.last ≡ l.place;
+}

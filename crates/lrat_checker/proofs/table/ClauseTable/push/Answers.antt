@@ -1,0 +1,49 @@
+use Rattle.std.proofs.Common.{◌≡◌, ◌<◌, ℕ, Bool, true, List, [], ◌∷◌, ◌++◌, length, map, sym, ap, ◌∙◌, subst, arith}
+use Rattle.std.proofs.lemmas.List.{map_push, length-map}
+use Rattle.std.specs.Prelude.{Contains}
+use Rattle.cnf_formula.specs.Literals.{LitValue, code_of}
+use Rattle.cnf_formula.specs.Formulas.{IsClause}
+use Rattle.lrat_checker.specs.Held.{Entry}
+use Rattle.lrat_checker.specs.Stored.{TableValue, held_of, last_of, list_at}
+use Rattle.lrat_checker.proofs.Placed.{held_push, last_push}
+use Rattle.lrat_checker.proofs.Noted.{stored_push}
+use Rattle.lrat_checker.proofs.table.ClauseTable.push.Goals as goal
+
+pub invariant_of-self-2 : goal.invariant_of-self-2
+invariant_of-self-2 c =
+    let i = c.self.inside in
+    let id = c.args.id in
+    let lits = c.args.lits.now in
+    let clauses = map (λ v. v.items) i.clauses.items in
+    let ids : c.push_reserved.new.self.items ≡ i.ids.items ++ id ∷ [] = c.push_reserved.ensures.items ∙ ap (λ xs. xs ++ id ∷ []) c.in_ok-reserve.ensures.items in
+    let live : c.push_reserved-2.new.self.items ≡ i.live.items ++ true ∷ [] = c.push_reserved-2.ensures.items ∙ ap (λ xs. xs ++ true ∷ []) c.in_ok-reserve-2.ensures.items in
+    let more : map (λ v. v.items) c.push_reserved-3.new.self.items ≡ clauses ++ lits ∷ [] =
+    ap (map (λ v. v.items)) (c.push_reserved-3.ensures.items ∙ ap (λ xs. xs ++ c.in_ok-clause.clause ∷ []) c.in_ok-reserve-3.ensures.items) ∙ map_push (λ v. v.items) i.clauses.items c.in_ok-clause.clause ∙ ap (λ l. clauses ++ l ∷ []) c.in_ok-clause.ensures.ok in
+    let above : last_of i.ids.items < id = omega (arith, ap (λ t. t.last) c.self.view_is, c.requires.above) in
+    let about : IsClause i.vars lits = subst (λ n. IsClause n lits) (sym (ap (λ t. t.vars) c.self.view_is)) c.requires.about in
+    let old = map (λ v. v.items) i.lists.items in
+    let lists = map (λ v. v.items) c.note.new.lists.items in
+    let long : length lists ≡ length old = omega (arith, length-map c.note.new.lists.items (λ v. v.items), length-map i.lists.items (λ v. v.items), c.note.ensures.long) in
+    let place : c.len.result ≡ length i.ids.items = omega (arith, c.len.ensures, ap length c.in_ok-reserve.ensures.items) in
+    let s = stored_push i.vars i.ids.items i.live.items clauses old lists id lits c.self.invariant above about long c.note.ensures.kept (λ l h. subst (Contains (list_at lists (code_of l))) place (c.in_ok-note.ensures.noted l h)) in
+    rw (ids, live, more) s
+
+pub returns-clause-added : goal.returns-clause-added
+returns-clause-added c =
+    let i = c.self.inside in
+    let id = c.args.id in
+    let lits = c.args.lits.now in
+    let clauses = map (λ v. v.items) i.clauses.items in
+    let ids : c.push_reserved.new.self.items ≡ i.ids.items ++ id ∷ [] = c.push_reserved.ensures.items ∙ ap (λ xs. xs ++ id ∷ []) c.in_ok-reserve.ensures.items in
+    let live : c.push_reserved-2.new.self.items ≡ i.live.items ++ true ∷ [] = c.push_reserved-2.ensures.items ∙ ap (λ xs. xs ++ true ∷ []) c.in_ok-reserve-2.ensures.items in
+    let more : map (λ v. v.items) c.push_reserved-3.new.self.items ≡ clauses ++ lits ∷ [] =
+    ap (map (λ v. v.items)) (c.push_reserved-3.ensures.items ∙ ap (λ xs. xs ++ c.in_ok-clause.clause ∷ []) c.in_ok-reserve-3.ensures.items) ∙ map_push (λ v. v.items) i.clauses.items c.in_ok-clause.clause ∙ ap (λ l. clauses ++ l ∷ []) c.in_ok-clause.ensures.ok in
+    let make : List ℕ → List Bool → List (List LitValue) → TableValue = λ xs bs cs. record { vars = i.vars; clauses = cs; held = held_of xs bs cs; last = last_of xs } in
+    let grow : TableValue → TableValue = λ t. record { vars = t.vars; clauses = t.clauses ++ lits ∷ []; held = t.held ++ (id, lits) ∷ []; last = id } in
+    let fill : List Entry → ℕ → TableValue = λ h n. record { vars = i.vars; clauses = clauses ++ lits ∷ []; held = h; last = n } in
+    ap (λ xs. make xs c.push_reserved-2.new.self.items (map (λ v. v.items) c.push_reserved-3.new.self.items)) ids
+    ∙ ap (λ bs. make (i.ids.items ++ id ∷ []) bs (map (λ v. v.items) c.push_reserved-3.new.self.items)) live
+    ∙ ap (make (i.ids.items ++ id ∷ []) (i.live.items ++ true ∷ [])) more
+    ∙ ap (λ h. fill h (last_of (i.ids.items ++ id ∷ []))) (held_push i.ids.items i.live.items clauses id lits c.self.invariant.lives c.self.invariant.many)
+    ∙ ap (fill (held_of i.ids.items i.live.items clauses ++ (id, lits) ∷ [])) (last_push i.ids.items id)
+    ∙ ap grow c.self.view_is

@@ -1,0 +1,7 @@
+use Rattle.std.proofs.Common.{◌≡◌, drop}
+use Rattle.std.specs.List.{list_any}
+use Rattle.lrat_checker.specs.Accepting.{is_made_true, without_negated}
+use Rattle.lrat_checker.proofs.table.has_other_true.Given as goal
+
+abbrev pub invariant-loop-lit : goal.invariant-loop-lit
+invariant-loop-lit l = list_any (is_made_true l.marks.falses) (without_negated l.pivot l.clause) ≡ list_any (is_made_true l.marks.falses) (without_negated l.pivot (drop l.lit-index l.clause))

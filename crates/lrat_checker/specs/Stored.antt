@@ -1,0 +1,53 @@
+-- Clauses in a table by their numbers, and the lists in which a literal's clauses are found.
+use Rattle.std.specs.Prelude.{◌≡◌, ◌==◌, ◌&&◌, ◌||◌, not, ℕ, ◌+◌, ◌*◌, ◌-◌, ◌<◌, Bool, true, false, List, [], ◌∷◌, length, slice_index, slice_index_or, All, Contains, if◌then◌else◌}
+use Rattle.std.specs.List.{list_any}
+use Rattle.cnf_formula.specs.Literals.{LitValue, has_literal, code_of}
+use Rattle.cnf_formula.specs.Formulas.{IsClause}
+use Rattle.lrat_checker.specs.Held.{Entry}
+
+-- every clause that was ever put into it, those that are held, and the greatest number of any, or 0
+pub record TableValue : Type 0 where
+  pub vars : ℕ
+  pub clauses : List (List LitValue)
+  pub held : List Entry
+  pub last : ℕ
+
+-- beside each number stands whether its clause is held
+abbrev pub held_of : List ℕ → List Bool → List (List LitValue) → List Entry
+held_of [] live clauses = []
+held_of (id ∷ ids) [] clauses = []
+held_of (id ∷ ids) (b ∷ live) [] = []
+held_of (id ∷ ids) (b ∷ live) (clause ∷ clauses) = if b then (id, clause) ∷ held_of ids live clauses else held_of ids live clauses
+
+-- a clause is held under the number
+abbrev pub is_live : List ℕ → List Bool → ℕ → Bool
+is_live [] live id = false
+is_live (x ∷ ids) [] id = false
+is_live (x ∷ ids) (b ∷ live) id = (b && x == id) || is_live ids live id
+
+-- what stays held without the clauses of these numbers
+abbrev pub kept_live : List ℕ → List Bool → List ℕ → List Bool
+kept_live [] live gone = []
+kept_live (x ∷ ids) [] gone = []
+kept_live (x ∷ ids) (b ∷ live) gone = (b && not (list_any (λ id. id == x) gone)) ∷ kept_live ids live gone
+
+abbrev pub last_of : List ℕ → ℕ
+last_of ids = slice_index ids (length ids - 1)
+
+abbrev pub Rises : List ℕ → Type 0
+Rises ids = (i j : ℕ) → i < j → j < length ids → slice_index ids i < slice_index ids j
+
+abbrev pub list_at : List (List ℕ) → ℕ → List ℕ
+list_at lists code = slice_index_or lists code []
+
+-- each clause is in the list of each of its literals
+pub record IsIndexed (vars : ℕ) (clauses : List (List LitValue)) (lists : List (List ℕ)) : Type 0 where
+  pub long : length lists ≡ 2 * vars + 2
+  pub each : (k : ℕ) (l : LitValue) → k < length clauses → has_literal (slice_index_or clauses k []) l ≡ true → Contains (list_at lists (code_of l)) k
+
+pub record IsStored (vars : ℕ) (ids : List ℕ) (live : List Bool) (clauses : List (List LitValue)) (lists : List (List ℕ)) : Type 0 where
+  pub rises : Rises ids
+  pub lives : length live ≡ length ids
+  pub many : length clauses ≡ length ids
+  pub about : All (IsClause vars) clauses
+  pub indexed : IsIndexed vars clauses lists

@@ -1,0 +1,126 @@
+//! The checker of proof lines.
+
+ghost use Rattle.std.specs.Prelude.{◌≡◌, Ok, IfOk, OnOk, OnErr, true, false};
+ghost use Rattle.cnf_formula.specs.Formulas.{Satisfiable};
+ghost use Rattle.lrat_checker.specs.Held.{start_of};
+ghost use Rattle.lrat_checker.specs.Judging.{verdict_of, deletion_verdict};
+ghost use Rattle.lrat_checker.specs.Accepting.{Implied, Redundant};
+ghost use Rattle.lrat_checker.specs.Refuting.{is_accepted, with_line, without};
+
+use crate::judging::judge;
+use crate::marks::Marks;
+use crate::table::ClauseTable;
+use crate::verdict::{LineCode, LineVerdict};
+use cnf_formula::{Deletion, Formula, OutOfMemory, ProofLine};
+use std::alloc::Global;
+use std::marker::Model;
+
+/// A formula, the clauses that are held by number, and what was accepted. It is seen as that: between two calls no literal
+/// is marked.
+#[derive(Drop)]
+pub struct Checker {
+    table: ClauseTable,
+    marks: Marks,
+    /// How many clauses the formula has.
+    originals: usize,
+    greatest: u64,
+    refuted: bool,
+}
+
+impl Model for Checker {
+    ghost use Rattle.lrat_checker.specs.Held.{CheckerValue};
+    ghost use Rattle.lrat_checker.specs.Checking.{checker_of, CanCheck};
+
+    ghost Value = { CheckerValue };
+
+    ghost view = { λ c. checker_of c.table c.originals c.greatest c.refuted };
+
+    ghost invariant = { λ c. CanCheck c.table c.marks c.originals c.greatest c.refuted };
+}
+
+impl Checker {
+    /// A checker of lines about a formula, which holds its clauses under the numbers from 1.
+    pub fn new(alloc: Global, formula: &Formula) -> Result<Checker, OutOfMemory>
+        ensures { IfOk result (λ checker. checker ≡ start_of formula.now) }
+    {
+        Ok(Checker {
+            table: ClauseTable::new(alloc, formula)?,
+            marks: Marks::new(alloc, formula.vars())?,
+            originals: formula.clauses().len(),
+            greatest: 0,
+            refuted: false,
+        })
+    }
+
+    /// The verdict on an addition, which changes nothing.
+    fn verdict(&mut self, line: &ProofLine) -> Result<LineVerdict, OutOfMemory>
+        ensures verdict { IfOk result (λ verdict. verdict ≡ verdict_of self.old line.now) }
+        ensures same { self.new ≡ self.old }
+    {
+        if line.id <= self.greatest.max(self.originals as u64) {
+            return Ok(LineVerdict::Refused {
+                code: LineCode::IdNotGreater,
+                hint: 0,
+            });
+        }
+        let verdict = judge(&self.table, &mut self.marks, line);
+        self.marks.back_to(0);
+        verdict
+    }
+
+    /// Holds the clause of an accepted addition. An `Err` comes only where memory runs out, and then nothing changes.
+    fn hold(&mut self, line: &ProofLine) -> Result<(), OutOfMemory>
+        requires { is_accepted (verdict_of self.old line.now) ≡ true }
+        ensures held { OnOk result (self.new ≡ with_line self.old line.now) }
+        ensures kept { OnErr result (self.new ≡ self.old) }
+    {
+        let refuted = self.refuted || line.lits.is_empty();
+        self.table.push(line.id, &line.lits)?;
+        self.greatest = line.id;
+        self.refuted = refuted;
+        Ok(())
+    }
+
+    /// Judges an addition by the rules of LRAT (Cruz-Filipe et al. 2017), with groups for the clauses that hold the negation
+    /// of its first literal. An accepted line is held from then on under its number; a refused one changes nothing, and the
+    /// code is that of its first check that fails. `Err` comes only where memory runs out, and then nothing changes.
+    pub fn add(&mut self, line: &ProofLine) -> Result<LineVerdict, OutOfMemory>
+        ensures verdict { IfOk result (λ verdict. verdict ≡ verdict_of self.old line.now) }
+        ensures accepted { IfOk result (λ verdict. is_accepted verdict ≡ true → self.new ≡ with_line self.old line.now) }
+        ensures refused { IfOk result (λ verdict. is_accepted verdict ≡ false → self.new ≡ self.old) }
+        ensures kept { OnErr result (self.new ≡ self.old) }
+        ensures implied { result ≡ Ok (LineVerdict.Accepted true) → Implied self.old line.now }
+        ensures redundant { result ≡ Ok (LineVerdict.Accepted false) → Redundant self.old line.now }
+    {
+        let verdict = self.verdict(line)?;
+        if verdict.is_accepted() {
+            self.hold(line)?;
+        }
+        Ok(verdict)
+    }
+
+    /// Lets the clauses of these numbers go, if each is held and they differ. Otherwise the deletion is refused and nothing
+    /// changes.
+    pub fn delete(&mut self, deletion: &Deletion) -> LineVerdict
+        ensures verdict { result ≡ deletion_verdict self.old deletion.now }
+        ensures accepted { is_accepted result ≡ true → self.new ≡ without self.old deletion.now }
+        ensures refused { is_accepted result ≡ false → self.new ≡ self.old }
+    {
+        if self.table.remove(&deletion.ids) {
+            LineVerdict::Accepted { implied: false }
+        } else {
+            LineVerdict::Refused {
+                code: LineCode::UnknownDeletion,
+                hint: 0,
+            }
+        }
+    }
+
+    /// Whether an accepted line had no literal. Then no assignment satisfies the formula.
+    pub fn refuted(&self) -> bool
+        ensures is { result ≡ self.now.refuted }
+        ensures unsatisfiable { result ≡ true → Satisfiable self.now.formula → ⊥ }
+    {
+        self.refuted
+    }
+}

@@ -1,0 +1,239 @@
+//! Clauses by number.
+
+ghost use Rattle.std.specs.Prelude.{◌≡◌, ◌≢◌, ◌==◌, ℕ, ◌+◌, ◌<◌, ◌||◌, ◌&&◌, not, [], ◌∷◌, ◌++◌, Bool, false, List, length, map, filter, All, Contains, IfOk, IfSome, IsTrue, OnOk, OnErr, MatchOption, slice_index, true};
+ghost use Rattle.std.specs.List.{list_any, list_all, enumerate_from};
+ghost use Rattle.std.specs.Option.{option_copied};
+ghost use Rattle.cnf_formula.specs.Literals.{LitValue, code_of, has_literal};
+ghost use Rattle.cnf_formula.specs.Formulas.{IsAbout, IsClause};
+ghost use Rattle.lrat_checker.specs.Held.{Entry, clause_at};
+ghost use Rattle.lrat_checker.specs.Judging.{are_held, has_number_twice};
+ghost use Rattle.lrat_checker.specs.Accepting.{Group, is_made_true, without_negated};
+ghost use Rattle.lrat_checker.specs.Stored.{TableValue, Rises, list_at, is_live, kept_live};
+ghost use Rattle.lrat_checker.specs.Steps.{Names};
+
+use crate::marks::Marks;
+use cnf_formula::{Formula, Lit, OutOfMemory};
+use smallvec::SmallVec;
+use std::alloc::Global;
+use std::collections::BTreeSet;
+use std::marker::Model;
+
+/// Clauses by ascending numbers, whether each is held, and for each literal the places of the clauses in which it
+/// stands. A clause that is no longer held stays in its place.
+#[derive(Drop)]
+pub(crate) struct ClauseTable {
+    vars: u32,
+    ids: Vec<u64>,
+    live: Vec<bool>,
+    clauses: Vec<SmallVec<Lit, 4>>,
+    lists: Vec<Vec<usize>>,
+}
+
+impl Model for ClauseTable {
+    ghost use Rattle.std.specs.Prelude.{map};
+    ghost use Rattle.lrat_checker.specs.Stored.{TableValue, IsStored, held_of, last_of};
+
+    ghost Value = { TableValue };
+
+    ghost view = { λ t. record {
+      vars = t.vars;
+      clauses = map (λ c. c.items) t.clauses.items;
+      held = held_of t.ids.items t.live.items (map (λ c. c.items) t.clauses.items);
+      last = last_of t.ids.items;
+    } };
+
+    ghost invariant = { λ t. IsStored t.vars t.ids.items t.live.items (map (λ c. c.items) t.clauses.items) (map (λ l. l.items) t.lists.items) };
+}
+
+/// The place of a number among ascending ones. Mostly they are 1, 2, 3 and so on, and it is found at once.
+fn place_of(ids: &[u64], id: u64) -> Option<usize>
+    requires { Rises ids.now }
+    ensures { MatchOption result (All (λ other. other ≢ id) ids.now) (λ place. (place < length ids.now) × (slice_index ids.now place ≡ id)) }
+{
+    let guess = id.saturating_sub(1) as usize;
+    if guess < ids.len() && ids[guess] == id {
+        return Some(guess);
+    }
+    match ids.binary_search(&id) {
+        Ok(place) => Some(place),
+        Err(_) => None,
+    }
+}
+
+/// Holds the clauses of these numbers again.
+fn restore(ids: &[u64], live: &mut [bool], gone: &[u64])
+    requires rises { Rises ids.now }
+    requires lives { length live.old ≡ length ids.now }
+    ensures { (before : List Bool) → length before ≡ length ids.now → live.old ≡ kept_live ids.now before gone.now → All (λ id. is_live ids.now before id ≡ true) gone.now → live.new ≡ before }
+{
+    for id in gone {
+        if let Some(place) = place_of(ids, *id) {
+            live[place] = true;
+        }
+    }
+}
+
+/// Lets the clauses of these numbers go, if each is held and they differ. Otherwise nothing changes.
+fn let_go(ids: &[u64], live: &mut [bool], gone: &[u64]) -> bool
+    requires rises { Rises ids.now }
+    requires lives { length live.old ≡ length ids.now }
+    ensures answer { result ≡ (list_all (λ id. is_live ids.now live.old id) gone.now && not (has_number_twice gone.now)) }
+    ensures gone { result ≡ true → live.new ≡ kept_live ids.now live.old gone.now }
+    ensures kept { result ≡ false → live.new ≡ live.old }
+{
+    for (taken, id) in gone.iter().enumerate() {
+        match place_of(ids, *id) {
+            Some(place) if live[place] => live[place] = false,
+            _ => {
+                restore(ids, live, &gone[..taken]);
+                return false;
+            }
+        }
+    }
+    true
+}
+
+/// Whether another literal of the clause than the negated pivot is true.
+fn has_other_true(clause: &[Lit], pivot: Lit, marks: &Marks) -> bool
+    requires about { IsClause marks.now.vars clause.now }
+    ensures { result ≡ list_any (is_made_true marks.now.falses) (without_negated pivot clause.now) }
+{
+    for lit in clause {
+        if *lit != pivot.negated() && marks.is_true(*lit) {
+            return true;
+        }
+    }
+    false
+}
+
+/// Whether a held clause is answered: it lacks the negated pivot, has a group, or is true without one.
+fn is_answered(id: u64, clause: &[Lit], pivot: Lit, marks: &Marks, named: &BTreeSet<u64>) -> bool
+    requires about { IsClause marks.now.vars clause.now }
+    ensures { (groups : List Group) → Names named.now groups → result ≡ Rattle.lrat_checker.specs.Accepting.is_answered pivot marks.now.falses groups (id, clause.now) }
+{
+    !has_negated(pivot, clause) || named.contains(&id) || has_other_true(clause, pivot, marks)
+}
+
+/// Puts a clause's place into the lists of its literals. An `Err` comes only where memory runs out.
+fn note(lists: &mut Vec<Vec<usize>>, lits: &[Lit], place: usize) -> Result<(), OutOfMemory>
+    requires { All (λ l. code_of l < length lists.old.items) lits.now }
+    ensures long { length lists.new.items ≡ length lists.old.items }
+    ensures kept { (code k : ℕ) → Contains (list_at (map (λ l. l.items) lists.old.items) code) k → Contains (list_at (map (λ l. l.items) lists.new.items) code) k }
+    ensures noted { OnOk result ((l : LitValue) → has_literal lits.now l ≡ true → Contains (list_at (map (λ l. l.items) lists.new.items) (code_of l)) place) }
+{
+    for lit in lits {
+        let list = &mut lists[lit.code()];
+        list.push(place)?;
+    }
+    Ok(())
+}
+
+/// Whether the clause has the negation of the pivot.
+pub(crate) fn has_negated(pivot: Lit, clause: &[Lit]) -> bool
+    ensures { result ≡ Rattle.lrat_checker.specs.Accepting.has_negated pivot clause.now }
+{
+    for lit in clause {
+        if *lit == pivot.negated() {
+            return true;
+        }
+    }
+    false
+}
+
+impl ClauseTable {
+    /// No clause, over so many variables.
+    fn empty(alloc: Global, vars: u32) -> Result<ClauseTable, OutOfMemory>
+        ensures { IfOk result (λ t. t ≡ record { vars = vars; clauses = []; held = []; last = 0 }) }
+    {
+        let count = 2 * vars as usize + 2;
+        let mut lists = Vec::with_capacity(alloc, count)?;
+        for _ in 0..count {
+            lists.push_reserved(Vec::new(alloc));
+        }
+        Ok(ClauseTable {
+            vars,
+            ids: Vec::new(alloc),
+            live: Vec::new(alloc),
+            clauses: Vec::new(alloc),
+            lists,
+        })
+    }
+
+    /// The clauses of a formula, numbered from 1.
+    pub(crate) fn new(alloc: Global, formula: &Formula) -> Result<ClauseTable, OutOfMemory>
+        ensures { IfOk result (λ t. t ≡ record { vars = formula.now.vars; clauses = formula.now.clauses; held = enumerate_from 1 formula.now.clauses; last = length formula.now.clauses }) }
+    {
+        let mut table = ClauseTable::empty(alloc, formula.vars())?;
+        for (place, clause) in formula.clauses().iter().enumerate() {
+            table.push(place as u64 + 1, clause.lits())?;
+        }
+        Ok(table)
+    }
+
+    /// How many variables there are.
+    pub(crate) fn vars(&self) -> u32
+        ensures { result ≡ self.now.vars }
+    {
+        self.vars
+    }
+
+    /// The clause that is held under a number.
+    pub(crate) fn clause(&self, id: u64) -> Option<&[Lit]>
+        ensures held { option_copied result ≡ clause_at self.now.held id }
+        ensures about { IfSome result (λ clause. IsClause self.now.vars clause.now) }
+    {
+        let place = place_of(&self.ids, id)?;
+        if self.live[place] {
+            Some(self.clauses[place].as_slice())
+        } else {
+            None
+        }
+    }
+
+    /// Puts a clause in under a number greater than all before. An `Err` comes only where memory runs out, and then
+    /// nothing changes.
+    pub(crate) fn push(&mut self, id: u64, lits: &[Lit]) -> Result<(), OutOfMemory>
+        requires above { self.old.last < id }
+        requires about { IsClause self.old.vars lits.now }
+        ensures added { OnOk result (self.new ≡ record { vars = self.old.vars; clauses = self.old.clauses ++ lits.now ∷ []; held = self.old.held ++ (id, lits.now) ∷ []; last = id }) }
+        ensures kept { OnErr result (self.new ≡ self.old) }
+    {
+        let clause = SmallVec::from_slice(*self.ids.allocator(), lits)?;
+        self.ids.reserve(1)?;
+        self.live.reserve(1)?;
+        self.clauses.reserve(1)?;
+        note(&mut self.lists, lits, self.ids.len())?;
+        self.ids.push_reserved(id);
+        self.live.push_reserved(true);
+        self.clauses.push_reserved(clause);
+        Ok(())
+    }
+    /// Lets the clauses of these numbers go, and says that it did: if each is held and they differ. Otherwise nothing
+    /// changes.
+    pub(crate) fn remove(&mut self, gone: &[u64]) -> bool
+        ensures answer { result ≡ (are_held self.old.held gone.now && not (has_number_twice gone.now)) }
+        ensures removed { result ≡ true → self.new ≡ record self.old { held = filter (λ entry. not (list_any (λ id. id == entry.0) gone.now)) self.old.held } }
+        ensures kept { result ≡ false → self.new ≡ self.old }
+    {
+        let_go(&self.ids, &mut self.live, gone)
+    }
+
+    /// Whether each held clause with the negation of the pivot has a group or is true without one. It looks at no clause
+    /// but those in the list of that literal.
+    pub(crate) fn all_answered(&self, pivot: Lit, marks: &Marks, named: &BTreeSet<u64>) -> bool
+        requires pivot { IsAbout self.now.vars pivot }
+        requires same { marks.now.vars ≡ self.now.vars }
+        ensures { (groups : List Group) → Names named.now groups → result ≡ list_all (Rattle.lrat_checker.specs.Accepting.is_answered pivot marks.now.falses groups) self.now.held }
+    {
+        for place in &self.lists[pivot.negated().code()] {
+            let place = *place;
+            if place < self.ids.len() && self.live[place] {
+                let clause = self.clauses[place].as_slice();
+                if !is_answered(self.ids[place], clause, pivot, marks, named) {
+                    return false;
+                }
+            }
+        }
+        true
+    }
+}
