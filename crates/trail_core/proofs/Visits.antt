@@ -1,0 +1,197 @@
+-- One visit of a clause that watches a literal which is false.
+use Rattle.std.proofs.Common.{◌≡◌, ◌≢◌, ℕ, ◌+◌, ◌-◌, ◌<◌, Bool, true, false, List, [], ◌∷◌, ◌++◌, Some, length, get_or, set, eqb, refl, sym, ap, ◌∙◌, subst, inl, inr, ⊎_elim, arith}
+use Rattle.std.specs.Prelude.{◌⊎◌, ◌&&◌, Contains, swap_remove}
+use Rattle.std.proofs.lemmas.Bool.{false≢true, and_parts, and_from, eqb-true, eqb-false, eq-eqb, cases_lt, cases_eq}
+use Rattle.std.proofs.lemmas.List.{get_or-set_same, get_or-set_other, get_or-take, get_or_default, length-set, length-map, get_or-map, get_or_past, map_push}
+use Rattle.cnf_formula.specs.Literals.{LitValue, code_of}
+use Rattle.trail_core.specs.Assigned.{IsFalse, IsOpen}
+use Rattle.trail_core.specs.Trails.{StepValue, TrailValue, lits_of}
+use Rattle.trail_core.specs.Watching.{RowValue, ListsValue, no_row, watch_count, row_at, list_at, IsWatched, IsRow, AreRows}
+use Rattle.trail_core.specs.Search.{IsUnit, Implied, HasLit, clauses_of, Scanned}
+use Rattle.trail_core.specs.Search.Implied.{none, more}
+use Rattle.trail_core.proofs.Maps.{same_map}
+use Rattle.trail_core.proofs.Watching.{code_same, hit, hit_yes, hit_no, count_long, watch_long, watch_which, watch_within, entry_watches, occurs, room_in_list, shifted, moved}
+
+-- the clause and the two literals that it watches, of which one is false
+pub record Pair (rows : List RowValue) (id : ℕ) (falsified other : LitValue) : Type 0 where
+  pub within : id < length rows
+  pub long : 1 < length (row_at rows id).lits
+  pub own : Contains (row_at rows id).lits other
+  pub own_false : Contains (row_at rows id).lits falsified
+  pub apart : other ≢ falsified
+  pub counts : (k : ℕ) → watch_count (row_at rows id) k ≡ hit (code_of falsified) k + hit (code_of other) k
+
+-- which of the two is the other
+abbrev pub IsOther : LitValue → LitValue → LitValue → LitValue → Type 0
+IsOther first second falsified other = ((first ≡ falsified) × (other ≡ second)) ⊎ ((first ≢ falsified) × (other ≡ first))
+
+pub pair_is : (vars : ℕ) (rows : List RowValue) (w : ListsValue) (id place : ℕ) (falsified first second other : LitValue) → AreRows vars rows → IsWatched rows w → place < length (list_at w.lists (code_of falsified)) → id ≡ get_or (list_at w.lists (code_of falsified)) place 0
+    → first ≡ (row_at rows id).first → second ≡ (row_at rows id).second → IsOther first second falsified other → Pair rows id falsified other
+pair_is vars rows w id place falsified first second other are i p at f s o =
+    let watches : 0 < watch_count (row_at rows id) (code_of falsified) = subst (λ e. 0 < watch_count (row_at rows e) (code_of falsified)) (sym at) (entry_watches rows w (code_of falsified) place i p) in
+    let within = watch_within rows id (code_of falsified) watches in
+    let row = are id within in
+    let long = watch_long (row_at rows id) (code_of falsified) watches in
+    let counts = λ (k : ℕ). count_long (row_at rows id) k long in
+    ⊎_elim
+    (λ q.
+    let is-first : (row_at rows id).first ≡ falsified = sym f ∙ q.0 in
+    let is-second : (row_at rows id).second ≡ other = sym s ∙ sym q.1 in
+    record {
+      within = within;
+      long = long;
+      own = subst (λ l. Contains (row_at rows id).lits l) is-second (row.second long);
+      own_false = subst (λ l. Contains (row_at rows id).lits l) is-first (row.first long);
+      apart = λ e. row.differ long (is-first ∙ sym e ∙ sym is-second);
+      counts = λ k. counts k ∙ ap (λ l. hit (code_of l) k + hit (code_of (row_at rows id).second) k) is-first ∙ ap (λ l. hit (code_of falsified) k + hit (code_of l) k) is-second;
+    })
+    (λ q.
+    let is-first : (row_at rows id).first ≡ other = sym f ∙ sym q.1 in
+    let is-second : (row_at rows id).second ≡ falsified =
+    ⊎_elim (λ e. absurd (q.0 (f ∙ code_same (row_at rows id).first falsified e))) (λ e. code_same (row_at rows id).second falsified e) (watch_which (row_at rows id) (code_of falsified) watches) in
+    record {
+      within = within;
+      long = long;
+      own = subst (λ l. Contains (row_at rows id).lits l) is-first (row.first long);
+      own_false = subst (λ l. Contains (row_at rows id).lits l) is-second (row.second long);
+      apart = λ e. row.differ long (is-first ∙ e ∙ sym is-second);
+      counts = λ k.
+          let n = counts k in
+          omega (arith, n, ap (λ l. hit (code_of l) k) is-first, ap (λ l. hit (code_of l) k) is-second);
+    })
+    o
+
+-- a row's clause
+pub lits_at : (rows : List RowValue) (e : ℕ) → (row_at rows e).lits ≡ get_or (clauses_of rows) e []
+lits_at rows e =
+    ⊎_elim
+    (λ w. sym (get_or-map (λ r. r.lits) rows e no_row [] w))
+    (λ w. ap (λ r. r.lits) (get_or_past rows e no_row w) ∙ sym (get_or_past (clauses_of rows) e [] (omega (arith, w, length-map rows (λ r. r.lits)))))
+    (cases_lt e (length rows))
+
+pub scanned_same : (by : LitValue) (rows : List RowValue) (t : TrailValue) → Scanned by rows t rows t
+scanned_same by rows t = record {
+  vars = refl;
+  limits = refl;
+  count = refl;
+  same = refl;
+  watches = λ e k h. inl h;
+  implied = none t.steps;
+}
+
+-- a literal that is not false watches in place of one that is
+pub record Found (trues : List LitValue) (clause : List LitValue) (other x : LitValue) : Type 0 where
+  pub stands : Contains clause x
+  pub differs : x ≢ other
+  pub not_false : IsFalse trues x → ⊥
+
+abbrev pub rewatched : List RowValue → ℕ → LitValue → LitValue → List RowValue
+rewatched rows id other x = set rows id (record { lits = (row_at rows id).lits; first = other; second = x })
+
+new_counts : (rows : List RowValue) (id : ℕ) (falsified other x : LitValue) → Pair rows id falsified other → (k : ℕ) → watch_count (record { lits = (row_at rows id).lits; first = other; second = x }) k ≡ hit (code_of other) k + hit (code_of x) k
+new_counts rows id falsified other x p k = count_long (record { lits = (row_at rows id).lits; first = other; second = x }) k p.long
+
+pub codes_differ : (a b : LitValue) → a ≢ b → code_of a ≢ code_of b
+codes_differ a b d e = d (code_same a b e)
+
+not_the_false : (trues clause : List LitValue) (falsified other x : LitValue) → IsFalse trues falsified → Found trues clause other x → x ≢ falsified
+not_the_false trues clause falsified other x f n e = n.not_false (subst (λ l. IsFalse trues l) (sym e) f)
+
+pub found_apart : (trues clause : List LitValue) (falsified other x : LitValue) → IsFalse trues falsified → Found trues clause other x → code_of falsified ≢ code_of x
+found_apart trues clause falsified other x f n e = not_the_false trues clause falsified other x f n (sym (code_same falsified x e))
+
+pub found_room : (rows : List RowValue) (w : ListsValue) (trues : List LitValue) (id : ℕ) (falsified other x : LitValue) → IsWatched rows w → Pair rows id falsified other → IsFalse trues falsified → Found trues (row_at rows id).lits other x → length (list_at w.lists (code_of x)) < get_or w.rooms (code_of x) 0
+found_room rows w trues id falsified other x i p f n =
+    let zero' : watch_count (row_at rows id) (code_of x) ≡ 0 = omega (arith, p.counts (code_of x), hit_no (code_of falsified) (code_of x) (found_apart trues (row_at rows id).lits falsified other x f n), hit_no (code_of other) (code_of x) (codes_differ other x (λ e. n.differs (sym e)))) in
+    room_in_list rows w id (code_of x) i p.within (occurs (row_at rows id).lits x n.stands) zero'
+
+pub rewatched_is : (rows : List RowValue) (w : ListsValue) (trues : List LitValue) (id place : ℕ) (falsified other x : LitValue) → IsWatched rows w → Pair rows id falsified other → IsFalse trues falsified → Found trues (row_at rows id).lits other x
+    → code_of falsified < length w.lists → code_of x < length w.lists → place < length (list_at w.lists (code_of falsified)) → get_or (list_at w.lists (code_of falsified)) place 0 ≡ id
+    → IsWatched (rewatched rows id other x) (record { lists = shifted w.lists (code_of falsified) place (code_of x) id; rooms = w.rooms; uses = w.uses })
+rewatched_is rows w trues id place falsified other x i p f n wa wb wp at =
+    let a = code_of falsified in
+    let b = code_of x in
+    let ab : a ≢ b = found_apart trues (row_at rows id).lits falsified other x f n in
+    let oa : code_of other ≢ a = codes_differ other falsified p.apart in
+    let ob : code_of other ≢ b = codes_differ other x (λ e. n.differs (sym e)) in
+    let new = new_counts rows id falsified other x p in
+    moved rows w id a b place (record { lits = (row_at rows id).lits; first = other; second = x }) i p.within wa wb ab wp at refl
+    (omega (arith, p.counts a, hit_yes a a refl, hit_no (code_of other) a oa))
+    (omega (arith, new a, hit_no (code_of other) a oa, hit_no b a (λ e. ab (sym e))))
+    (omega (arith, p.counts b, hit_no a b ab, hit_no (code_of other) b ob))
+    (omega (arith, new b, hit_no (code_of other) b ob, hit_yes b b refl))
+    (λ k na nb. omega (arith, new k, p.counts k, hit_no a k (λ e. na (sym e)), hit_no b k (λ e. nb (sym e))))
+    (occurs (row_at rows id).lits x n.stands)
+
+pub rewatched_rows : (vars : ℕ) (rows : List RowValue) (trues : List LitValue) (id : ℕ) (falsified other x : LitValue) → AreRows vars rows → Pair rows id falsified other → Found trues (row_at rows id).lits other x → AreRows vars (rewatched rows id other x)
+rewatched_rows vars rows trues id falsified other x are p n e w =
+    ⊎_elim
+    (λ s. subst (λ r. IsRow vars r) (sym (ap (row_at (rewatched rows id other x)) s ∙ get_or-set_same rows id _ no_row p.within)) (record {
+      within = (are id p.within).within;
+      first = λ h. p.own;
+      second = λ h. n.stands;
+      differ = λ h q. n.differs (sym q);
+    }))
+    (λ d. subst (λ r. IsRow vars r) (sym (get_or-set_other rows id e _ no_row d)) (are e (omega (arith, w, length-set rows id (record { lits = (row_at rows id).lits; first = other; second = x })))))
+    (cases_eq e id)
+
+pub rewatched_scanned : (rows : List RowValue) (t : TrailValue) (id : ℕ) (falsified other x : LitValue) → Pair rows id falsified other → Found (lits_of t.steps) (row_at rows id).lits other x → Scanned falsified rows t (rewatched rows id other x) t
+rewatched_scanned rows t id falsified other x p n = record {
+  vars = refl;
+  limits = refl;
+  count = length-set rows id (record { lits = (row_at rows id).lits; first = other; second = x });
+  same = same_map (λ r. r.lits) rows id (row_at rows id) (record { lits = (row_at rows id).lits; first = other; second = x }) p.within (get_or_default rows id no_row (row_at rows id) p.within) refl;
+  watches = λ e k h. ⊎_elim
+      (λ s.
+      let r : watch_count (row_at (rewatched rows id other x) e) k ≡ hit (code_of other) k + hit (code_of x) k =
+      ap (λ m. watch_count (row_at (rewatched rows id other x) m) k) s ∙ ap (λ r. watch_count r k) (get_or-set_same rows id _ no_row p.within) ∙ new_counts rows id falsified other x p k in
+      ⊎_elim
+      (λ y. inr (λ l q f. n.not_false (subst (λ z. IsFalse (lits_of t.steps) z) (code_same l x (q ∙ sym y)) f)))
+      (λ y. inl (omega (arith, h, r, hit_no (code_of x) k y, p.counts k, ap (λ m. watch_count (row_at rows m) k) s)))
+      (cases_eq (code_of x) k))
+      (λ d. inl (subst (λ r. 0 < watch_count r k) (get_or-set_other rows id e _ no_row d) h))
+      (cases_eq e id);
+  implied = none t.steps;
+}
+
+pub rewatched_not : (rows : List RowValue) (trues : List LitValue) (id : ℕ) (falsified other x : LitValue) → Pair rows id falsified other → IsFalse trues falsified → Found trues (row_at rows id).lits other x → watch_count (row_at (rewatched rows id other x) id) (code_of falsified) ≡ 0
+rewatched_not rows trues id falsified other x p f n =
+    let a = code_of falsified in
+    let r = ap (λ r. watch_count r a) (get_or-set_same rows id (record { lits = (row_at rows id).lits; first = other; second = x }) no_row p.within) in
+    omega (arith, r, new_counts rows id falsified other x p a, hit_no (code_of other) a (codes_differ other falsified p.apart), hit_no (code_of x) a (λ e. found_apart trues (row_at rows id).lits falsified other x f n (sym e)))
+
+-- below the place that is taken out the list stays
+pub removed_front : (xs : List ℕ) (place c j : ℕ) → place < length xs → j < place → get_or (swap_remove xs place c) j 0 ≡ get_or xs j 0
+removed_front xs place c j w h =
+    let d : j ≢ place = λ e. absurd (omega (arith, h, e)) in
+    get_or-take (length xs - 1) (set xs place (get_or xs (length xs - 1) c)) j 0 (omega (arith, w, h)) ∙ get_or-set_other xs place j (get_or xs (length xs - 1) c) 0 d
+
+-- the other literal becomes true
+pub pushed_scanned : (rows : List RowValue) (t t' : TrailValue) (id : ℕ) (falsified other : LitValue) → Pair rows id falsified other → IsOpen (lits_of t.steps) other → ((o : LitValue) → Contains (row_at rows id).lits o → (o ≡ other) ⊎ IsFalse (lits_of t.steps) o)
+    → t' ≡ record t { steps = t.steps ++ record { lit = other; reason = Some id } ∷ [] } → Scanned falsified rows t rows t'
+pushed_scanned rows t t' id falsified other p o others e = record {
+  vars = ap (λ u. u.vars) e;
+  limits = ap (λ u. u.limits) e;
+  count = refl;
+  same = refl;
+  watches = λ n k h. inl h;
+  implied = subst (λ ss. Implied (clauses_of rows) (HasLit falsified) t.steps ss) (sym (ap (λ u. u.steps) e))
+      (more t.steps t.steps (record { lit = other; reason = Some id }) (none t.steps) (record {
+        id = id;
+        reason = refl;
+        within = omega (arith, p.within, length-map rows (λ r. r.lits));
+        unit = subst (λ xs. IsUnit (lits_of t.steps) xs other) (lits_at rows id) (record { stands = p.own; open_ = o; others = others });
+        was_due = subst (λ xs. Contains xs falsified) (lits_at rows id) p.own_false;
+      }));
+}
+
+pub lits_push : (steps : List StepValue) (s : StepValue) → lits_of (steps ++ s ∷ []) ≡ lits_of steps ++ s.lit ∷ []
+lits_push steps s = map_push (λ x. x.lit) steps s
+
+-- ---- equal literals
+
+pub same_lit : (a b : LitValue) → eqb (code_of a) (code_of b) ≡ true → a ≡ b
+same_lit a b e = code_same a b (eqb-true (code_of a) (code_of b) e)
+
+pub other_lit : (a b : LitValue) → eqb (code_of a) (code_of b) ≡ false → a ≢ b
+other_lit a b e s = eqb-false (code_of a) (code_of b) e (ap code_of s)

@@ -1,0 +1,83 @@
+//! What a clause needs when it is added: room in the lists of its literals, and two literals to watch.
+
+ghost use Rattle.std.specs.Prelude.{◌≡◌, ◌≢◌, ◌↔◌, ◌⊎◌, ◌==◌, ℕ, ◌+◌, ◌*◌, ◌<◌, ◌≤◌, IsTrue, List, [], ◌∷◌, ◌++◌, Option, Some, None, MatchOption, length, get_or, map, Contains, All, AllPairs, count_by, OnOk, slice_index};
+ghost use Rattle.cnf_formula.specs.Literals.{LitValue, negation, code_of};
+ghost use Rattle.cnf_formula.specs.Formulas.{IsAbout};
+ghost use Rattle.trail_core.specs.Assigned.{IsFalse, IsOpen};
+ghost use Rattle.trail_core.specs.Trails.{lits_of};
+ghost use Rattle.trail_core.specs.Watching.{AreLists, HasRoom, list_at};
+ghost use Rattle.trail_core.specs.Kept.{IsRecent, CanAddTo};
+
+use crate::lists::WatchLists;
+use crate::trail::Trail;
+use cnf_formula::Lit;
+use std::alloc::AllocError;
+
+/// Makes room for a clause in the lists of its literals.
+pub fn admit_all(lists: &mut WatchLists, lits: &[Lit], vars: u32) -> Result<(), AllocError>
+    requires lists { AreLists vars lists.old }
+    requires within { All (IsAbout vars) lits.now }
+    requires room { HasRoom lists.old }
+    ensures lists { lists.new.lists ≡ lists.old.lists }
+    ensures are_lists { AreLists vars lists.new }
+    ensures room { HasRoom lists.new }
+    ensures more { (k : ℕ) → slice_index lists.old.uses k ≤ slice_index lists.new.uses k }
+    ensures ok { OnOk result ((k : ℕ) → slice_index lists.old.uses k + count_by (λ l. code_of l == k) lits.now ≤ slice_index lists.new.uses k) }
+{
+    for lit in lits {
+        lists.admit(*lit)?;
+    }
+    Ok(())
+}
+
+/// The first literal that is open, or else the one given.
+fn an_open(lits: &[Lit], trail: &Trail, other: Lit) -> Lit
+    requires within { All (IsAbout trail.now.vars) lits.now }
+    requires stands { Contains lits.now other }
+    ensures stands { Contains lits.now result }
+    ensures open { (l : LitValue) → Contains lits.now l → IsOpen (lits_of trail.now.steps) l → IsOpen (lits_of trail.now.steps) result }
+{
+    for lit in lits {
+        if !trail.is_true(*lit) && !trail.is_false(*lit) {
+            return *lit;
+        }
+    }
+    other
+}
+
+/// The first literal that became false on the present level, or else the one given.
+fn a_recent(lits: &[Lit], trail: &Trail, other: Lit) -> Lit
+    requires within { All (IsAbout trail.now.vars) lits.now }
+    requires stands { Contains lits.now other }
+    ensures stands { Contains lits.now result }
+    ensures recent { (l : LitValue) → Contains lits.now l → IsRecent trail.now l → IsRecent trail.now result }
+{
+    for lit in lits {
+        if trail.is_false(*lit) && trail.level(lit.negated()) == trail.depth() {
+            return *lit;
+        }
+    }
+    other
+}
+
+/// The two literals that a new clause watches.
+pub fn watches(lits: &[Lit], trail: &Trail) -> (Lit, Lit)
+    requires within { All (IsAbout trail.now.vars) lits.now }
+    requires once { AllPairs (λ a b. a ≢ b) lits.now }
+    requires place { CanAddTo trail.now lits.now }
+    ensures first { 1 < length lits.now → Contains lits.now result.0 }
+    ensures second { 1 < length lits.now → Contains lits.now result.1 }
+    ensures differ { 1 < length lits.now → result.0 ≢ result.1 }
+    ensures above { 0 < length trail.now.limits → IsOpen (lits_of trail.now.steps) result.0 × IsRecent trail.now result.1 × (1 < length lits.now) }
+{
+    match lits {
+        [first, second, ..] => {
+            if trail.depth() == 0 {
+                (*first, *second)
+            } else {
+                (an_open(lits, trail, *first), a_recent(lits, trail, *second))
+            }
+        }
+        _ => (Lit::new(1, true), Lit::new(1, false)),
+    }
+}

@@ -1,0 +1,111 @@
+//! For each literal the list of the clauses that watch it.
+
+ghost use Rattle.std.specs.Prelude.{◌-◌, ◌≡◌, ◌↔◌, ℕ, ◌+◌, ◌*◌, ◌<◌, ◌≤◌, IsTrue, List, [], ◌∷◌, ◌++◌, Option, length, get_or, slice_set, slice_index, swap_remove, Contains, IfOk, OnErr, OnOk, IsOk};
+ghost use Rattle.cnf_formula.specs.Literals.{LitValue, negation, code_of};
+ghost use Rattle.trail_core.specs.Watching.{ListsValue, list_at};
+
+use cnf_formula::Lit;
+use std::alloc::{AllocError, Global};
+use std::marker::Model;
+
+/// Lists of clause numbers, by literal.
+#[derive(Drop)]
+pub struct WatchLists {
+    lists: Vec<Vec<u32>>,
+    /// How many clauses each list may come to hold.
+    uses: Vec<u32>,
+}
+
+impl Model for WatchLists {
+    ghost use Rattle.std.specs.Prelude.{map, vec_capacity};
+    ghost use Rattle.trail_core.specs.Watching.{ListsValue};
+
+    ghost Value = { ListsValue };
+
+    ghost view = { λ a. record { lists = map (λ v. v.items) a.lists.items; rooms = map (λ v. vec_capacity v) a.lists.items; uses = a.uses.items } };
+}
+
+impl WatchLists {
+    /// Empty lists for the literals of so many variables.
+    pub fn new(alloc: Global, vars: u32) -> Result<WatchLists, AllocError>
+        ensures { IfOk result (λ w. (length w.lists ≡ 2 * vars + 2) × (length w.rooms ≡ 2 * vars + 2) × ((k : ℕ) → list_at w.lists k ≡ []) × (length w.uses ≡ 2 * vars + 2) × ((k : ℕ) → slice_index w.uses k ≡ 0)) }
+    {
+        let count = 2 * vars as usize + 2;
+        let mut lists = Vec::with_capacity(alloc, count)?;
+        for _ in 0..count {
+            lists.push_reserved(Vec::new(alloc));
+        }
+        Ok(WatchLists {
+            lists,
+            uses: vec![in alloc; 0u32; count]?,
+        })
+    }
+
+    /// How many clauses watch a literal.
+    pub fn count(&self, lit: Lit) -> usize
+        requires { code_of lit < length self.now.lists }
+        ensures { result ≡ length (list_at self.now.lists (code_of lit)) }
+    {
+        self.lists[lit.code()].len()
+    }
+
+    /// The clause at a place of a literal's list.
+    pub fn entry(&self, lit: Lit, place: usize) -> u32
+        requires known { code_of lit < length self.now.lists }
+        requires within { place < length (list_at self.now.lists (code_of lit)) }
+        ensures { result ≡ slice_index (list_at self.now.lists (code_of lit)) place }
+    {
+        self.lists[lit.code()][place]
+    }
+
+    /// Takes the clause at a place out of a literal's list, and adds it to another's.
+    pub fn shift(&mut self, from: Lit, place: usize, to: Lit)
+        requires from_known { code_of from < length self.old.lists }
+        requires to_known { code_of to < length self.old.lists }
+        requires within { place < length (list_at self.old.lists (code_of from)) }
+        requires room { length (list_at self.old.lists (code_of to)) < slice_index self.old.rooms (code_of to) }
+        requires differ { code_of from ≡ code_of to → ⊥ }
+        ensures lists { let id = slice_index (list_at self.old.lists (code_of from)) place in self.new.lists ≡ slice_set (slice_set self.old.lists (code_of from) (swap_remove (list_at self.old.lists (code_of from)) place id)) (code_of to) (list_at self.old.lists (code_of to) ++ id ∷ []) }
+        ensures rooms { self.new.rooms ≡ self.old.rooms }
+        ensures uses { self.new.uses ≡ self.old.uses }
+    {
+        let list = &mut self.lists[from.code()];
+        let id = list.swap_remove(place);
+        let list = &mut self.lists[to.code()];
+        list.push_reserved(id);
+    }
+
+    /// Makes room in a literal's list for one clause more.
+    pub fn admit(&mut self, lit: Lit) -> Result<(), AllocError>
+        requires known { code_of lit < length self.old.lists }
+        requires uses { code_of lit < length self.old.uses }
+        requires few { length (list_at self.old.lists (code_of lit)) ≤ slice_index self.old.uses (code_of lit) }
+        ensures lists { self.new.lists ≡ self.old.lists }
+        ensures rooms { (k : ℕ) → slice_index self.old.rooms k ≤ slice_index self.new.rooms k }
+        ensures len { length self.new.rooms ≡ length self.old.rooms }
+        ensures err { OnErr result (self.new.uses ≡ self.old.uses) }
+        ensures ok { OnOk result ((self.new.uses ≡ slice_set self.old.uses (code_of lit) (slice_index self.old.uses (code_of lit) + 1)) × (slice_index self.old.uses (code_of lit) + 1 ≤ slice_index self.new.rooms (code_of lit))) }
+    {
+        let code = lit.code();
+        let uses = self.uses[code];
+        if uses == u32::MAX {
+            return Err(AllocError);
+        }
+        let list = &mut self.lists[code];
+        list.reserve(uses as usize + 1 - list.len())?;
+        self.uses[code] = uses + 1;
+        Ok(())
+    }
+
+    /// Adds a clause to a literal's list.
+    pub fn add(&mut self, lit: Lit, id: u32)
+        requires known { code_of lit < length self.old.lists }
+        requires room { length (list_at self.old.lists (code_of lit)) < slice_index self.old.rooms (code_of lit) }
+        ensures lists { self.new.lists ≡ slice_set self.old.lists (code_of lit) (list_at self.old.lists (code_of lit) ++ id ∷ []) }
+        ensures rooms { self.new.rooms ≡ self.old.rooms }
+        ensures uses { self.new.uses ≡ self.old.uses }
+    {
+        let list = &mut self.lists[lit.code()];
+        list.push_reserved(id);
+    }
+}
