@@ -1,0 +1,154 @@
+-- What the files of a ledger on a shelf become.
+use Rattle.std.proofs.Common.{◌≡◌, ℕ, Bool, true, false, List, [], ◌∷◌, ◌++◌, Option, take, drop, refl, sym, ap, ◌∙◌, subst, inl, inr, ⊎_elim, arith}
+use Rattle.std.specs.Prelude.{◌≢◌, ◌⊎◌, IsTrue, Some, Contains, map, not}
+use Rattle.std.specs.List.{list_any}
+use Rattle.std.proofs.lemmas.Bool.{cases_Bool, false≢true, or_left, or_right}
+use Rattle.std.proofs.lemmas.List.{append_assoc, take-append-drop}
+use Rattle.std.proofs.lemmas.List.Folds.{list_any_at}
+use Rattle.std.proofs.lemmas.List.Elements.{Contains-append_left, Contains-push}
+use Rattle.cnf_formula.specs.Literals.{LitValue, is_superset}
+use Rattle.cnf_formula.specs.Formulas.{FormulaValue}
+use Rattle.cnf_formula.specs.Lines.{ProofLineValue}
+use Rattle.cnf_formula.specs.declared.line.LratLine.TheVariants.{Addition}
+use Rattle.lrat_checker.specs.declared.verdict.LineVerdict.TheVariants.{Accepted}
+use Rattle.lrat_checker.specs.Held.{Entry, CheckerValue, start_of}
+use Rattle.lrat_checker.specs.Judging.{verdict_of}
+use Rattle.lrat_checker.specs.Refuting.{is_empty, is_fresh, with_line, after, AllImplied}
+use Rattle.text_lines.specs.Text.{line as text_line}
+use Rattle.lrat_text.specs.Printing.{line_words}
+use Rattle.outer_ports.specs.declared.proof_name.ProofName.{ProofName}
+use Rattle.outer_ports.specs.Port.{Tells}
+use Rattle.outer_ports.specs.Files.{Files}
+use Rattle.outer_ports.specs.Shelf.{OthersStay}
+use Rattle.conflict_ledger.specs.Logs.{checker_of, learned}
+use Rattle.conflict_ledger.specs.Shelved.{log_text, IsBegun, ShelfMoves, ShelfAgrees, ShelfMoves-trans}
+
+-- ---- one line more
+
+pub implied_more : (lines : List ProofLineValue) (c : CheckerValue) (line : ProofLineValue) → AllImplied c lines → verdict_of (after c (map Addition lines)) line ≡ Accepted true → AllImplied c (lines ++ line ∷ [])
+implied_more [] c line a v = (v, tt)
+implied_more (l ∷ lines) c line a v = (a.0, implied_more lines (with_line c l) line a.1 v)
+
+pub text_more : (lines : List ProofLineValue) (line : ProofLineValue) → log_text (lines ++ line ∷ []) ≡ log_text lines ++ log_text (line ∷ [])
+text_more [] line = refl
+text_more (l ∷ lines) line =
+    let own = text_line (line_words (Addition l)) in
+    ap (λ bytes. own ++ bytes) (text_more lines line) ∙ sym (append_assoc own (log_text lines) (log_text (line ∷ [])))
+
+-- ---- a fresh clause is learned while nothing closes
+
+still_held : (lines : List ProofLineValue) (c : CheckerValue) (entry : Entry) → Contains c.held entry → Contains (after c (map Addition lines)).held entry
+still_held [] c entry i = i
+still_held (line ∷ lines) c entry i = still_held lines (with_line c line) entry (Contains-append_left c.held ((line.id, line.lits) ∷ []) entry i)
+
+any_by : (p : Entry → Bool) (xs : List Entry) (x : Entry) → Contains xs x → p x ≡ true → list_any p xs ≡ true
+any_by p xs x c h = list_any_at p xs c.0 x c.1 (ap p c.2 ∙ h)
+
+-- where an empty clause is held no clause is fresh
+none_fresh : (c : CheckerValue) (clause : List LitValue) (entry : Entry) → Contains c.held entry → entry.1 ≡ [] → is_fresh c clause ≡ true → ⊥
+none_fresh c clause entry i e f =
+    let s : is_superset clause entry.1 ≡ true = ap (is_superset clause) e in
+    false≢true (sym (ap not (or_right (is_empty clause) (list_any (λ x. is_superset clause x.1) c.held) (any_by (λ x. is_superset clause x.1) c.held entry i s))) ∙ f)
+
+some_or_none : (clause : List LitValue) → (not (is_empty clause) ≡ true) ⊎ (clause ≡ [])
+some_or_none [] = inr refl
+some_or_none (l ∷ clause) = inl refl
+
+pub all_learned : (lines : List ProofLineValue) (c : CheckerValue) (clause : List LitValue) → is_fresh (after c (map Addition lines)) clause ≡ true → learned lines ≡ lines
+all_learned [] c clause f = refl
+all_learned (line ∷ lines) c clause f = ⊎_elim
+    (λ s. rw s (ap (λ ls. line ∷ ls) (all_learned lines (with_line c line) clause f)))
+    (λ e. absurd (none_fresh (after (with_line c line) (map Addition lines)) clause (line.id, line.lits) (still_held lines (with_line c line) (line.id, line.lits) (Contains-push c.held (line.id, line.lits))) e f))
+    (some_or_none line.lits)
+
+-- ---- the files
+
+-- what a put of a line's text does to a file that has a log
+abbrev pub IsPut : ProofName → Bool → Files → Files → List ℕ → Type 0
+IsPut name told files now text = IsTrue told → (before : List ℕ) → files name ≡ Some before → (k : ℕ) × (now name ≡ Some (before ++ take k text))
+
+begun_by : (base : FormulaValue) (lines : List ProofLineValue) (line : ProofLineValue) (name : ProofName) (told : Bool) (files now : Files) (text : List ℕ) → AllImplied (start_of base) (lines ++ line ∷ []) → text ≡ log_text (line ∷ []) → files name ≡ Some (log_text lines) → IsPut name told files now text → IsTrue told → IsBegun base (now name)
+begun_by base lines line name told files now text a e old put t =
+    let p = put t (log_text lines) old in
+    record {
+      lines = lines ++ line ∷ [];
+      implied = a;
+      front = log_text lines ++ take p.0 text;
+      rest = drop p.0 text;
+      is = p.1;
+      text = append_assoc (log_text lines) (take p.0 text) (drop p.0 text) ∙ ap (λ bytes. log_text lines ++ bytes) (take-append-drop p.0 text ∙ e) ∙ sym (text_more lines line);
+    }
+
+-- the line goes to the whole log
+pub moves_whole : (base : FormulaValue) (lines : List ProofLineValue) (line : ProofLineValue) (lrat partial : ProofName) (told now_told : Bool) (files now : Files) (text : List ℕ) → AllImplied (start_of base) (lines ++ line ∷ []) → text ≡ log_text (line ∷ []) → ShelfAgrees base lines lrat partial told files → lrat ≢ partial
+    → Tells told now_told → IsPut lrat now_told files now text → (IsTrue now_told → OthersStay lrat files now) → ShelfMoves base base lrat lrat partial partial told now_told files now
+moves_whole base lines line lrat partial told now_told files now text a e agrees apart tells put others = record {
+  same_base = refl;
+  same_lrat = refl;
+  same_partial = refl;
+  tells = tells;
+  others = λ t name x y. others t name x;
+  whole_log = λ t. inr (begun_by base lines line lrat now_told files now text a e (agrees.whole_log (tells t)) put t);
+  learned_log = λ t. inl (others t partial (λ e. apart (sym e)));
+}
+
+-- and then to the log of what was learned
+pub moves_learned : (base : FormulaValue) (lines : List ProofLineValue) (line : ProofLineValue) (lrat partial : ProofName) (told now_told : Bool) (files now : Files) (text : List ℕ) → AllImplied (start_of base) (lines ++ line ∷ []) → text ≡ log_text (line ∷ []) → (IsTrue told → files partial ≡ Some (log_text lines)) → lrat ≢ partial
+    → Tells told now_told → IsPut partial now_told files now text → (IsTrue now_told → OthersStay partial files now) → ShelfMoves base base lrat lrat partial partial told now_told files now
+moves_learned base lines line lrat partial told now_told files now text a e old apart tells put others = record {
+  same_base = refl;
+  same_lrat = refl;
+  same_partial = refl;
+  tells = tells;
+  others = λ t name x y. others t name y;
+  whole_log = λ t. inl (others t lrat apart);
+  learned_log = λ t. inr (begun_by base lines line partial now_told files now text a e (old (tells t)) put t);
+}
+
+abbrev pub IsWhole : ProofName → Bool → Files → Files → List ℕ → Type 0
+IsWhole name told files now text = IsTrue told → (before : List ℕ) → files name ≡ Some before → now name ≡ Some (before ++ text)
+
+-- both, one after the other
+pub moves_both : (base : FormulaValue) (lines : List ProofLineValue) (line : ProofLineValue) (lrat partial : ProofName) (t0 t1 t2 : Bool) (f0 f1 f2 : Files) (text : List ℕ) → AllImplied (start_of base) (lines ++ line ∷ []) → learned lines ≡ lines → text ≡ log_text (line ∷ []) → ShelfAgrees base lines lrat partial t0 f0 → lrat ≢ partial
+    → Tells t0 t1 → IsPut lrat t1 f0 f1 text → (IsTrue t1 → OthersStay lrat f0 f1) → Tells t1 t2 → IsPut partial t2 f1 f2 text → (IsTrue t2 → OthersStay partial f1 f2) → ShelfMoves base base lrat lrat partial partial t0 t2 f0 f2
+moves_both base lines line lrat partial t0 t1 t2 f0 f1 f2 text a all e agrees apart tells put others tells' put' others' =
+    let old : IsTrue t1 → f1 partial ≡ Some (log_text lines) = λ t. others t partial (λ i. apart (sym i)) ∙ agrees.learned_log (tells t) ∙ ap (λ ls. Some (log_text ls)) all in
+    ShelfMoves-trans base base base lrat lrat lrat partial partial partial t0 t1 t2 f0 f1 f2
+    (moves_whole base lines line lrat partial t0 t1 f0 f1 text a e agrees apart tells put others)
+    (moves_learned base lines line lrat partial t1 t2 f1 f2 text a e old apart tells' put' others')
+
+learned_last : (lines : List ProofLineValue) (line : ProofLineValue) → not (is_empty line.lits) ≡ true → learned (lines ++ line ∷ []) ≡ learned lines ++ line ∷ []
+learned_last [] line s = rw s refl
+learned_last (l ∷ lines) line s =
+    let more = learned_last lines line s in
+    ⊎_elim (λ b. rw b (ap (λ ls. l ∷ ls) more)) (λ b. rw b more) (cases_Bool (not (is_empty l.lits)))
+
+learned_but : (lines : List ProofLineValue) (line : ProofLineValue) → line.lits ≡ [] → learned (lines ++ line ∷ []) ≡ learned lines
+learned_but [] line e = rw e refl
+learned_but (l ∷ lines) line e =
+    let more = learned_but lines line e in
+    ⊎_elim (λ b. rw b (ap (λ ls. l ∷ ls) more)) (λ b. rw b more) (cases_Bool (not (is_empty l.lits)))
+
+pub agrees_learned : (base : FormulaValue) (lines : List ProofLineValue) (line : ProofLineValue) (lrat partial : ProofName) (t0 t1 t2 : Bool) (f0 f1 f2 : Files) (text : List ℕ) → AllImplied (start_of base) (lines ++ line ∷ []) → learned lines ≡ lines → not (is_empty line.lits) ≡ true → text ≡ log_text (line ∷ []) → ShelfAgrees base lines lrat partial t0 f0 → lrat ≢ partial
+    → Tells t0 t1 → IsWhole lrat t1 f0 f1 text → (IsTrue t1 → OthersStay lrat f0 f1) → Tells t1 t2 → IsWhole partial t2 f1 f2 text → (IsTrue t2 → OthersStay partial f1 f2) → ShelfAgrees base (lines ++ line ∷ []) lrat partial t2 f2
+agrees_learned base lines line lrat partial t0 t1 t2 f0 f1 f2 text a all some e agrees apart tells put others tells' put' others' =
+    let now : learned (lines ++ line ∷ []) ≡ lines ++ line ∷ [] = learned_last lines line some ∙ ap (λ ls. ls ++ line ∷ []) all in
+    let told : log_text lines ++ text ≡ log_text (lines ++ line ∷ []) = ap (λ bytes. log_text lines ++ bytes) e ∙ sym (text_more lines line) in
+    let old : IsTrue t1 → f1 partial ≡ Some (log_text lines) = λ t. others t partial (λ i. apart (sym i)) ∙ agrees.learned_log (tells t) ∙ ap (λ ls. Some (log_text ls)) all in
+    record {
+      implied = a;
+      learned_implied = subst (AllImplied (start_of base)) (sym now) a;
+      whole_log = λ t. others' t lrat apart ∙ put (tells' t) (log_text lines) (agrees.whole_log (tells (tells' t))) ∙ ap Some told;
+      learned_log = λ t. put' t (log_text lines) (old (tells' t)) ∙ ap Some (told ∙ ap log_text (sym now));
+    }
+
+pub agrees_closed : (base : FormulaValue) (lines : List ProofLineValue) (line : ProofLineValue) (lrat partial : ProofName) (t0 t1 : Bool) (f0 f1 : Files) (text : List ℕ) → AllImplied (start_of base) (lines ++ line ∷ []) → line.lits ≡ [] → text ≡ log_text (line ∷ []) → ShelfAgrees base lines lrat partial t0 f0 → lrat ≢ partial
+    → Tells t0 t1 → IsWhole lrat t1 f0 f1 text → (IsTrue t1 → OthersStay lrat f0 f1) → ShelfAgrees base (lines ++ line ∷ []) lrat partial t1 f1
+agrees_closed base lines line lrat partial t0 t1 f0 f1 text a none e agrees apart tells put others =
+    let now : learned (lines ++ line ∷ []) ≡ learned lines = learned_but lines line none in
+    record {
+      implied = a;
+      learned_implied = subst (AllImplied (start_of base)) (sym now) agrees.learned_implied;
+      whole_log = λ t. put t (log_text lines) (agrees.whole_log (tells t)) ∙ ap Some (ap (λ bytes. log_text lines ++ bytes) e ∙ sym (text_more lines line));
+      learned_log = λ t. others t partial (λ i. apart (sym i)) ∙ agrees.learned_log (tells t) ∙ ap (λ ls. Some (log_text ls)) (sym now);
+    }

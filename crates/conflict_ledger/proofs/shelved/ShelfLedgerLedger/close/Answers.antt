@@ -1,0 +1,72 @@
+use Rattle.std.proofs.Common.{◌≡◌, [], ◌∷◌, ◌++◌, List, sym, ap, ◌∙◌, subst}
+use Rattle.cnf_formula.specs.Lines.{ProofLineValue}
+use Rattle.lrat_checker.specs.Held.{start_of}
+use Rattle.lrat_checker.specs.Refuting.{AllImplied}
+use Rattle.conflict_ledger.specs.Logs.{learned}
+use Rattle.conflict_ledger.specs.Shelved.{log_text, ShelfMoves, ShelfAgrees}
+use Rattle.conflict_ledger.proofs.Shelving.{IsPut, IsWhole, implied_more, moves_whole, agrees_closed}
+use Rattle.conflict_ledger.proofs.shelved.ShelfLedgerLedger.close.Goals as goal
+
+pub returns-in_err-put-clause-moves : goal.returns-in_err-put-clause-moves
+returns-in_err-put-clause-moves g c =
+    let T = g.H.Shelf.tells in
+    let F = g.H.Shelf.file in
+    let a = c.args.self.now in
+    let base = a.kept.base in
+    let lines : List ProofLineValue = a.kept.lines.items in
+    let line = c.args.line.now in
+    let text = c.in_ok-text.text.items in
+    let s0 = c.args.store.now in
+    let s1 = c.put.new.shelf in
+    let all : AllImplied (start_of base) (lines ++ line ∷ []) = implied_more lines (start_of base) line c.requires.agrees.implied c.requires.implied in
+    let front = subst (IsPut a.lrat (T s1) (F s0) (F s1)) c.deref.ensures.value c.put.ensures.front in
+    moves_whole base lines line a.lrat a.partial (T s0) (T s1) (F s0) (F s1) text all c.in_ok-text.ensures c.requires.agrees a.apart c.put.ensures.told front c.put.ensures.others
+
+pub returns-in_err-close-clause-moves : goal.returns-in_err-close-clause-moves
+returns-in_err-close-clause-moves g c =
+    let T = g.H.Shelf.tells in
+    let F = g.H.Shelf.file in
+    let a = c.args.self.now in
+    let base = a.kept.base in
+    let lines : List ProofLineValue = a.kept.lines.items in
+    let line = c.args.line.now in
+    let text = c.in_ok-text.text.items in
+    let s0 = c.args.store.now in
+    let s1 = c.put.new.shelf in
+    let all : AllImplied (start_of base) (lines ++ line ∷ []) = implied_more lines (start_of base) line c.requires.agrees.implied c.requires.implied in
+    let front = subst (IsPut a.lrat (T s1) (F s0) (F s1)) c.deref.ensures.value c.put.ensures.front in
+    subst (λ b. ShelfMoves base b a.lrat a.lrat a.partial a.partial (T s0) (T s1) (F s0) (F s1)) (sym c.close.ensures.base)
+    (moves_whole base lines line a.lrat a.partial (T s0) (T s1) (F s0) (F s1) text all c.in_ok-text.ensures c.requires.agrees a.apart c.put.ensures.told front c.put.ensures.others)
+
+pub returns-clause-moves : goal.returns-clause-moves
+returns-clause-moves g c =
+    let T = g.H.Shelf.tells in
+    let F = g.H.Shelf.file in
+    let a = c.args.self.now in
+    let base = a.kept.base in
+    let lines : List ProofLineValue = a.kept.lines.items in
+    let line = c.args.line.now in
+    let text = c.in_ok-text.text.items in
+    let s0 = c.args.store.now in
+    let s1 = c.put.new.shelf in
+    let all : AllImplied (start_of base) (lines ++ line ∷ []) = implied_more lines (start_of base) line c.requires.agrees.implied c.requires.implied in
+    let front = subst (IsPut a.lrat (T s1) (F s0) (F s1)) c.deref.ensures.value c.put.ensures.front in
+    subst (λ b. ShelfMoves base b a.lrat a.lrat a.partial a.partial (T s0) (T s1) (F s0) (F s1)) (sym c.close.ensures.base)
+    (moves_whole base lines line a.lrat a.partial (T s0) (T s1) (F s0) (F s1) text all c.in_ok-text.ensures c.requires.agrees a.apart c.put.ensures.told front c.put.ensures.others)
+
+pub returns-clause-agrees : goal.returns-clause-agrees
+returns-clause-agrees g c =
+    let T = g.H.Shelf.tells in
+    let F = g.H.Shelf.file in
+    let a = c.args.self.now in
+    let base = a.kept.base in
+    let lines : List ProofLineValue = a.kept.lines.items in
+    let line = c.args.line.now in
+    let text = c.in_ok-text.text.items in
+    let s0 = c.args.store.now in
+    let s1 = c.put.new.shelf in
+    let all : AllImplied (start_of base) (lines ++ line ∷ []) = implied_more lines (start_of base) line c.requires.agrees.implied c.requires.implied in
+    let front = subst (IsPut a.lrat (T s1) (F s0) (F s1)) c.deref.ensures.value c.put.ensures.front in
+    let whole = subst (IsWhole a.lrat (T s1) (F s0) (F s1)) c.deref.ensures.value c.in_ok-put.ensures.whole in
+    subst (λ b. ShelfAgrees b c.close.new.self.lines.items a.lrat a.partial (T s1) (F s1)) (sym c.close.ensures.base) (subst (λ ls. ShelfAgrees base ls a.lrat a.partial (T s1) (F s1)) (sym c.in_ok-close.ensures.lines)
+    (agrees_closed base lines line a.lrat a.partial (T s0) (T s1) (F s0) (F s1) text all c.requires.empty c.in_ok-text.ensures c.requires.agrees a.apart c.put.ensures.told whole c.put.ensures.others))

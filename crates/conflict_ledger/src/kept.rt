@@ -1,0 +1,107 @@
+//! A ledger that keeps its lines in memory.
+
+ghost use Rattle.std.specs.Prelude.{◌≡◌, ◌≤◌, [], ◌∷◌, length, refl, IfOk};
+ghost use Rattle.conflict_ledger.specs.Logs.{learned};
+ghost use Rattle.conflict_ledger.specs.Shelved.{log_text};
+
+use crate::copying::{copy_of_formula, copy_of_line};
+use crate::fault::LedgerFault;
+use crate::ledger::{Ledger, LedgerView};
+use cnf_formula::{Formula, OutOfMemory, ProofLine};
+use lrat_text::print_line;
+use std::alloc::Global;
+
+/// Keeps its lines in memory, and writes nothing: it works beside any store.
+#[derive(Drop)]
+pub struct KeptLedger {
+    base: Formula,
+    lines: Vec<ProofLine>,
+    spent: u32,
+    limit: u32,
+    ghost within: { spent ≤ limit },
+    ghost charged: { spent ≡ length (learned lines.items) },
+}
+
+impl KeptLedger {
+    /// A ledger of a formula without a line, which takes at most `limit` learned lines.
+    pub fn new(alloc: Global, formula: &Formula, limit: u32) -> Result<KeptLedger, OutOfMemory>
+        ensures base { IfOk result (λ ledger. ⟦<KeptLedger as LedgerView>⟧.base ledger ≡ formula.now) }
+        ensures lines { IfOk result (λ ledger. ⟦<KeptLedger as LedgerView>⟧.lines ledger ≡ []) }
+        ensures limit { IfOk result (λ ledger. ⟦<KeptLedger as LedgerView>⟧.limit ledger ≡ limit) }
+    {
+        Ok(KeptLedger {
+            base: copy_of_formula(alloc, formula)?,
+            lines: Vec::new(alloc),
+            spent: 0,
+            limit,
+        })
+    }
+
+    /// The text of a line (LRAT, Cruz-Filipe et al. 2017).
+    pub(crate) fn text_of(&self, line: &ProofLine) -> Result<Vec<u8>, OutOfMemory>
+        ensures { IfOk result (λ text. text.items ≡ log_text (line.now ∷ [])) }
+    {
+        let mut text = Vec::new(*self.lines.allocator());
+        print_line(&mut text, line)?;
+        Ok(text)
+    }
+
+    /// The lines, in the order in which they were added.
+    pub fn lines(&self) -> &[ProofLine]
+        ensures { result.now ≡ ⟦<KeptLedger as LedgerView>⟧.lines self.now }
+    {
+        &self.lines
+    }
+
+    /// The lines, in the order in which they were added.
+    pub fn into_lines(self) -> Vec<ProofLine>
+        ensures { result.items ≡ ⟦<KeptLedger as LedgerView>⟧.lines self }
+    {
+        self.lines
+    }
+}
+
+impl LedgerView for KeptLedger {
+    ghost base = { λ ledger. ledger.base };
+
+    ghost lines = { λ ledger. ledger.lines.items };
+
+    ghost spent = { λ ledger. ledger.spent };
+
+    ghost limit = { λ ledger. ledger.limit };
+
+    fn room(&self) -> bool {
+        self.spent < self.limit
+    }
+
+    ghost within = { λ ledger. ledger.within };
+
+    ghost charged = { λ ledger. ledger.charged };
+}
+
+impl<T> Ledger<T> for KeptLedger {
+    ghost use Rattle.std.proofs.Common.{◌∙◌};
+
+    ghost faults = { λ _ _. 0 };
+
+    ghost agrees = { λ _ _. Unit {0} };
+
+    ghost moves = { λ _ before _ now. now ≡ before };
+
+    fn learn(&mut self, store: &mut T, line: &ProofLine) -> Result<(), LedgerFault> {
+        let copy = copy_of_line(*self.lines.allocator(), line)?;
+        self.lines.push(copy)?;
+        self.spent += 1;
+        Ok(())
+    }
+
+    fn close(&mut self, store: &mut T, line: &ProofLine) -> Result<(), LedgerFault> {
+        let copy = copy_of_line(*self.lines.allocator(), line)?;
+        self.lines.push(copy)?;
+        Ok(())
+    }
+
+    ghost moves_refl = { λ _ _. refl };
+
+    ghost moves_trans = { λ _ _ _ _ _ _ first second. second ∙ first };
+}

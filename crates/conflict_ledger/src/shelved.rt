@@ -1,0 +1,137 @@
+//! A ledger that writes its lines to a shelf.
+
+ghost use Rattle.std.specs.Prelude.{◌≡◌, ◌≢◌, ◌⊎◌, ℕ, ◌<◌, ◌++◌, [], ◌∷◌, List, Some, IsTrue, length, take, IfOk, OnOk};
+ghost use Rattle.outer_ports.specs.Port.{HasCause, Tells};
+ghost use Rattle.outer_ports.specs.Shelf.{OthersStay};
+ghost use Rattle.conflict_ledger.specs.Shelved.{log_name};
+
+use crate::fault::LedgerFault;
+use crate::kept::KeptLedger;
+use crate::ledger::{Ledger, LedgerView};
+use cnf_formula::{Formula, ProofLine};
+use outer_ports::{FileKind, Part, ProofName, Shelf, append_all};
+use std::alloc::Global;
+
+/// Writes each line to the refutation of a candidate on a shelf, and each learned line to the log of its search too, before
+/// it answers. It keeps its lines in memory as well.
+#[derive(Drop)]
+pub struct ShelfLedger {
+    kept: KeptLedger,
+    lrat: ProofName,
+    partial: ProofName,
+    ghost apart: { lrat ≢ partial },
+}
+
+/// Appends a text to a file. After a fault a part of the text was appended, from its front.
+fn put<H: Shelf>(shelf: &mut H, name: ProofName, text: &[u8]) -> Result<(), LedgerFault>
+    ensures told { Tells (H.tells shelf.old) (H.tells shelf.new) }
+    ensures whole { IsTrue (H.tells shelf.new) → (before : List ℕ) → H.file shelf.old name ≡ Some before → OnOk result (H.file shelf.new name ≡ Some (before ++ text.now)) }
+    ensures front { IsTrue (H.tells shelf.new) → (before : List ℕ) → H.file shelf.old name ≡ Some before → (k : ℕ) × (H.file shelf.new name ≡ Some (before ++ take k text.now)) }
+    ensures others { IsTrue (H.tells shelf.new) → OthersStay name (H.file shelf.old) (H.file shelf.new) }
+    ensures cause { HasCause LedgerFault.Failed (H.faults shelf.old) (H.faults shelf.new) result }
+{
+    append_all(shelf, name, text)?;
+    Ok(())
+}
+
+impl ShelfLedger {
+    /// A ledger of a formula without a line, which takes at most `limit` learned lines. Its two files, the refutation and the
+    /// log of the candidate of this part, are made or emptied; every other file stays, whatever is answered, and after a fault
+    /// each of the two is as before or empty.
+    pub fn new<H: Shelf>(
+        alloc: Global,
+        formula: &Formula,
+        limit: u32,
+        shelf: &mut H,
+        part: Part,
+        candidate: (u8, u8, u8),
+    ) -> Result<ShelfLedger, LedgerFault>
+        requires { part ≢ Part.Joined }
+        ensures base { IfOk result (λ ledger. ⟦<ShelfLedger as LedgerView>⟧.base ledger ≡ formula.now) }
+        ensures lines { IfOk result (λ ledger. ⟦<ShelfLedger as LedgerView>⟧.lines ledger ≡ []) }
+        ensures limit { IfOk result (λ ledger. ⟦<ShelfLedger as LedgerView>⟧.limit ledger ≡ limit) }
+        ensures agrees { IfOk result (λ ledger. ⟦<ShelfLedger as Ledger<H>>⟧.agrees ledger shelf.new) }
+        ensures told { Tells (H.tells shelf.old) (H.tells shelf.new) }
+        ensures others { IsTrue (H.tells shelf.new) → (name : ProofName) → name ≢ log_name FileKind.Lrat part candidate → name ≢ log_name FileKind.Partial part candidate → H.file shelf.new name ≡ H.file shelf.old name }
+        ensures files { IsTrue (H.tells shelf.new) → (kind : FileKind) → let name = log_name kind part candidate in (H.file shelf.new name ≡ H.file shelf.old name) ⊎ (H.file shelf.new name ≡ Some []) }
+        ensures cause { HasCause LedgerFault.Failed (H.faults shelf.old) (H.faults shelf.new) result }
+    {
+        let kept = KeptLedger::new(alloc, formula, limit)?;
+        let (s, r, c) = candidate;
+        let lrat = ProofName {
+            kind: FileKind::Lrat,
+            part,
+            s,
+            r,
+            c,
+        };
+        let partial = ProofName {
+            kind: FileKind::Partial,
+            part,
+            s,
+            r,
+            c,
+        };
+        shelf.begin(lrat)?;
+        shelf.begin(partial)?;
+        Ok(ShelfLedger {
+            kept,
+            lrat,
+            partial,
+        })
+    }
+
+    /// The lines, in the order in which they were added.
+    pub fn into_lines(self) -> Vec<ProofLine>
+        ensures { result.items ≡ ⟦<ShelfLedger as LedgerView>⟧.lines self }
+    {
+        self.kept.into_lines()
+    }
+}
+
+impl LedgerView for ShelfLedger {
+    ghost base = { λ ledger. ⟦<KeptLedger as LedgerView>⟧.base ledger.kept };
+
+    ghost lines = { λ ledger. ⟦<KeptLedger as LedgerView>⟧.lines ledger.kept };
+
+    ghost spent = { λ ledger. ⟦<KeptLedger as LedgerView>⟧.spent ledger.kept };
+
+    ghost limit = { λ ledger. ⟦<KeptLedger as LedgerView>⟧.limit ledger.kept };
+
+    fn room(&self) -> bool {
+        self.kept.room()
+    }
+
+    ghost within = { λ ledger. ledger.kept.within };
+
+    ghost charged = { λ ledger. ledger.kept.charged };
+}
+
+impl<H: Shelf> Ledger<H> for ShelfLedger {
+    ghost use Rattle.conflict_ledger.specs.Shelved.{ShelfAgrees, ShelfMoves, ShelfMoves-refl, ShelfMoves-trans};
+
+    ghost faults = { λ _ shelf. H.faults shelf };
+
+    ghost agrees = { λ a shelf. ShelfAgrees (⟦<KeptLedger as LedgerView>⟧.base a.kept) (⟦<KeptLedger as LedgerView>⟧.lines a.kept) a.lrat a.partial (H.tells shelf) (H.file shelf) };
+
+    ghost moves = { λ a shelf b now. ShelfMoves (⟦<KeptLedger as LedgerView>⟧.base a.kept) (⟦<KeptLedger as LedgerView>⟧.base b.kept) a.lrat b.lrat a.partial b.partial (H.tells shelf) (H.tells now) (H.file shelf) (H.file now) };
+
+    fn learn(&mut self, store: &mut H, line: &ProofLine) -> Result<(), LedgerFault> {
+        let text = self.kept.text_of(line)?;
+        put(store, self.lrat, &text)?;
+        put(store, self.partial, &text)?;
+        self.kept.learn(&mut (), line)?;
+        Ok(())
+    }
+
+    fn close(&mut self, store: &mut H, line: &ProofLine) -> Result<(), LedgerFault> {
+        let text = self.kept.text_of(line)?;
+        put(store, self.lrat, &text)?;
+        self.kept.close(&mut (), line)?;
+        Ok(())
+    }
+
+    ghost moves_refl = { λ a shelf. ShelfMoves-refl (⟦<KeptLedger as LedgerView>⟧.base a.kept) a.lrat a.partial (H.tells shelf) (H.file shelf) };
+
+    ghost moves_trans = { λ a r b s c t first second. ShelfMoves-trans (⟦<KeptLedger as LedgerView>⟧.base a.kept) (⟦<KeptLedger as LedgerView>⟧.base b.kept) (⟦<KeptLedger as LedgerView>⟧.base c.kept) a.lrat b.lrat c.lrat a.partial b.partial c.partial (H.tells r) (H.tells s) (H.tells t) (H.file r) (H.file s) (H.file t) first second };
+}
