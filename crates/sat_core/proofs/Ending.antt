@@ -1,0 +1,27 @@
+-- Where a search has learned as many lines as may be, they are a spent log.
+use Rattle.std.proofs.Common.{◌≡◌, ℕ, ◌<◌, ◌^◌, List, [], ◌∷◌, length, refl, sym, ap, ◌∙◌, subst}
+use Rattle.std.specs.Prelude.{true, false, not}
+use Rattle.std.proofs.lemmas.Bool.{false≢true}
+use Rattle.cnf_formula.specs.Formulas.{FormulaValue}
+use Rattle.cnf_formula.specs.Lines.{ProofLineValue}
+use Rattle.cnf_formula.specs.Literals.{LitValue}
+use Rattle.lrat_checker.specs.Held.{CheckerValue, start_of}
+use Rattle.lrat_checker.specs.Refuting.{is_empty, is_fresh, with_line, AllFresh, SpentLog}
+use Rattle.conflict_ledger.specs.Logs.{learned}
+use Rattle.sat_core.specs.Ready.{AreWritten, IsOver}
+
+-- each fresh line was learned
+all_learned : (lines : List ProofLineValue) (c : CheckerValue) → AllFresh c lines → learned lines ≡ lines
+all_learned [] c f = refl
+all_learned (line ∷ lines) c f = rw (some line.lits f.0) (ap (λ ls. line ∷ ls) (all_learned lines (with_line c line) f.1))
+  where
+    some : (clause : List LitValue) → is_fresh c clause ≡ true → not (is_empty clause) ≡ true
+    some [] h = absurd (false≢true h)
+    some (l ∷ clause) h = refl
+
+pub log_by : (base formula : FormulaValue) (lines : List ProofLineValue) (spent limit : ℕ) → base ≡ formula → AreWritten base lines → IsOver base lines → spent ≡ length (learned lines) → spent ≡ limit → SpentLog lines formula limit
+log_by base formula lines spent limit e w o charged full = subst (λ f. SpentLog lines f limit) e (record {
+  count = sym (ap length (all_learned lines (start_of base) o.fresh)) ∙ sym charged ∙ full;
+  implied = w.implied;
+  fresh = o.fresh;
+})

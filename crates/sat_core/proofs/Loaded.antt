@@ -1,0 +1,169 @@
+-- Clauses of a formula, each literal once, make a core that is ready.
+use Rattle.std.proofs.Common.{◌≡◌, ℕ, ◌+◌, ◌*◌, ◌<◌, ◌≤◌, Bool, true, false, List, [], ◌∷◌, ◌++◌, length, get_or, take, set, eqb, refl, sym, ap, ◌∙◌, subst, ⊎_elim, arith}
+use Rattle.std.specs.Prelude.{◌≢◌, ◌⊎◌, Contains, Some, All, AllPairs, if◌then◌else◌}
+use Rattle.std.specs.List.{enumerate_from}
+use Rattle.std.proofs.lemmas.Bool.{cases_lt, cases_Bool, eqb-true, eqb-false}
+use Rattle.std.proofs.lemmas.List.{get_or_append_left, get_or_push, length_push, get_or-take, get_or_default, length-take-le, get_or-set_same, get_or-set_other, set-get_or}
+use Rattle.std.proofs.lemmas.List.FromFn.{length-enumerate_from, get_or-enumerate_from}
+use Rattle.std.proofs.lemmas.List.Elements.{Contains-push, Contains-push_cases, Contains-append_left, Contains-get_or, All-push, All-nil, All-contains}
+use Rattle.cnf_formula.specs.Literals.{LitValue, IsLit, code_of}
+use Rattle.cnf_formula.specs.Formulas.{FormulaValue, IsAbout, IsClause}
+use Rattle.cnf_formula.proofs.Codes.{same_code}
+use Rattle.lrat_checker.specs.Held.{Entry, start_of, clause_at}
+use Rattle.lrat_checker.proofs.Numbered.{start_numbered}
+use Rattle.trail_core.specs.Meaning.{CoreValue}
+use Rattle.sat_core.specs.Learning.{IsSame, AreHeld}
+use Rattle.sat_core.specs.Loading.{own_of, IsLoaded}
+use Rattle.sat_core.specs.Ready.{IsReady}
+use Rattle.sat_core.proofs.Members.{all_by}
+
+-- ---- a clause with each literal once
+
+-- the literals that were kept are those that were passed, each once, and exactly their numbers have the mark
+pub record IsKeeping (passed kept : List LitValue) (marks : List ℕ) (mark : ℕ) : Type 0 where
+  pub into : (l : LitValue) → Contains passed l → Contains kept l
+  pub from : (l : LitValue) → Contains kept l → Contains passed l
+  pub marked : (l : LitValue) → Contains kept l → get_or marks (code_of l) 0 ≡ mark
+  pub known : (l : LitValue) → get_or marks (code_of l) 0 ≡ mark → Contains kept l
+  pub once : AllPairs (λ a b. a ≢ b) kept
+  pub lits : All IsLit kept
+
+pub keeping_none : (marks : List ℕ) (mark : ℕ) → ((k : ℕ) → get_or marks k 0 < mark) → IsKeeping [] [] marks mark
+keeping_none marks mark u = record {
+  into = λ l c. c;
+  from = λ l c. c;
+  marked = λ l c. absurd (omega (arith, c.1));
+  known = λ l e. let b = u (code_of l) in absurd (omega (arith, b, e));
+  once = λ i j d p q. absurd (omega (arith, q));
+  lits = All-nil IsLit;
+}
+
+-- a literal that has the mark is passed by
+pub keeping_old : (passed kept : List LitValue) (marks : List ℕ) (mark : ℕ) (l : LitValue) → IsKeeping passed kept marks mark → get_or marks (code_of l) 0 ≡ mark → IsKeeping (passed ++ l ∷ []) kept (set marks (code_of l) mark) mark
+keeping_old passed kept marks mark l k e =
+    let same : set marks (code_of l) mark ≡ marks = ap (set marks (code_of l)) (sym e) ∙ set-get_or marks (code_of l) 0 in
+    subst (λ ms. IsKeeping (passed ++ l ∷ []) kept ms mark) (sym same) (record {
+      into = λ o c. ⊎_elim (λ d. k.into o d) (λ i. subst (Contains kept) i (k.known l e)) (Contains-push_cases passed l o c);
+      from = λ o c. Contains-append_left passed (l ∷ []) o (k.from o c);
+      marked = k.marked;
+      known = k.known;
+      once = k.once;
+      lits = k.lits;
+    })
+
+-- a mark more leaves none above it
+pub marks_below : (marks : List ℕ) (place mark : ℕ) → place < length marks → ((k : ℕ) → get_or marks k 0 ≤ mark) → (k : ℕ) → get_or (set marks place mark) k 0 ≤ mark
+marks_below marks place mark w b k = ⊎_elim
+    (λ e. let is : k ≡ place = eqb-true k place e in omega (arith, ap (λ i. get_or (set marks place mark) i 0) is, get_or-set_same marks place mark 0 w))
+    (λ e. let old = b k in omega (arith, old, get_or-set_other marks place k mark 0 (eqb-false k place e)))
+    (cases_Bool (eqb k place))
+
+pairs_push : (xs : List LitValue) (x : LitValue) → AllPairs (λ a b. a ≢ b) xs → (Contains xs x → ⊥) → AllPairs (λ a b. a ≢ b) (xs ++ x ∷ [])
+pairs_push xs x p n i j d lt w e = ⊎_elim
+    (λ v. p i j d lt v (sym (get_or_append_left xs (x ∷ []) d i (omega (arith, lt, v))) ∙ e ∙ get_or_append_left xs (x ∷ []) d j v))
+    (λ v.
+    let at : length xs ≡ j = omega (arith, v, w, length_push xs x) in
+    let i< : i < length xs = omega (arith, lt, at) in
+    let is : get_or xs i d ≡ x = sym (get_or_append_left xs (x ∷ []) d i i<) ∙ e ∙ get_or_push xs x d j at in
+    n (subst (Contains xs) is (Contains-get_or xs i d i<)))
+    (cases_lt j (length xs))
+
+-- another is kept, and its number marked
+pub keeping_new : (passed kept : List LitValue) (marks : List ℕ) (mark : ℕ) (l : LitValue) → IsKeeping passed kept marks mark → code_of l < length marks → (get_or marks (code_of l) 0 ≡ mark → ⊥) → IsLit l → IsKeeping (passed ++ l ∷ []) (kept ++ l ∷ []) (set marks (code_of l) mark) mark
+keeping_new passed kept marks mark l k w new lit = record {
+  into = λ o c. ⊎_elim (λ d. Contains-append_left kept (l ∷ []) o (k.into o d)) (λ i. subst (Contains (kept ++ l ∷ [])) i (Contains-push kept l)) (Contains-push_cases passed l o c);
+  from = λ o c. ⊎_elim (λ d. Contains-append_left passed (l ∷ []) o (k.from o d)) (λ i. subst (Contains (passed ++ l ∷ [])) i (Contains-push passed l)) (Contains-push_cases kept l o c);
+  marked = λ o c. ⊎_elim
+      (λ d. let e = k.marked o d in get_or-set_other marks (code_of l) (code_of o) mark 0 (λ i. new (ap (λ n. get_or marks n 0) (sym i) ∙ e)) ∙ e)
+      (λ i. subst (λ x. get_or (set marks (code_of l) mark) (code_of x) 0 ≡ mark) i (get_or-set_same marks (code_of l) mark 0 w))
+      (Contains-push_cases kept l o c);
+  known = λ o e. ⊎_elim
+      (λ b. subst (Contains (kept ++ l ∷ [])) (same_code l o (sym (eqb-true (code_of o) (code_of l) b))) (Contains-push kept l))
+      (λ b. Contains-append_left kept (l ∷ []) o (k.known o (sym (get_or-set_other marks (code_of l) (code_of o) mark 0 (eqb-false (code_of o) (code_of l) b)) ∙ e)))
+      (cases_Bool (eqb (code_of o) (code_of l)));
+  once = pairs_push kept l k.once (λ c. new (k.marked l c));
+  lits = All-push IsLit kept l k.lits lit;
+}
+
+pub keeping_same : (lits kept : List LitValue) (marks : List ℕ) (mark : ℕ) → IsKeeping lits kept marks mark → IsSame lits kept
+keeping_same lits kept marks mark k = record { into = k.into; from = k.from }
+
+-- ---- its literals are about the variables of the core
+
+own_about : (vars : ℕ) (l : LitValue) → IsAbout vars l → IsLit l → IsAbout (own_of vars) l
+own_about vars l a i = record { some = a.some; within = omega (arith, a.within, i.small) }
+
+pub code_own : (vars own : ℕ) (clause : List LitValue) → own ≡ own_of vars → IsClause vars clause → (l : LitValue) → IsLit l → Contains clause l → code_of l < 2 * own + 2
+code_own vars own clause e a l i c =
+    let o = own_about vars l (All-contains (IsAbout vars) clause l a c) i in
+    let s = sign_small l.positive in
+    omega (arith, o.within, e, s)
+  where
+    sign_small : (p : Bool) → (if p then 0 else 1) ≤ 1
+    sign_small true = omega arith
+    sign_small false = omega arith
+
+pub kept_about : (vars own : ℕ) (clause kept : List LitValue) → own ≡ own_of vars → IsClause vars clause → IsSame clause kept → All IsLit kept → IsClause own kept
+kept_about vars own clause kept e a s i = subst (λ n. IsClause n kept) (sym e) (all_by (IsAbout (own_of vars)) kept (λ l c. own_about vars l (All-contains (IsAbout vars) clause l a (s.from l c)) (All-contains IsLit kept l i c)))
+
+-- ---- a core with them
+
+pub loaded_none : (core : CoreValue) → core.clauses ≡ [] → IsLoaded [] core
+loaded_none core e = record { count = ap length e; same = λ k w. absurd (omega (arith, w)) }
+
+pub loaded_more : (clauses : List (List LitValue)) (k : ℕ) (core core' : CoreValue) (kept : List LitValue) → IsLoaded (take k clauses) core → k < length clauses → IsSame (get_or clauses k []) kept → core'.clauses ≡ core.clauses ++ kept ∷ [] → IsLoaded (take (k + 1) clauses) core'
+loaded_more clauses k core core' kept l w s e =
+    let n : length (take k clauses) ≡ k = length-take-le k clauses (omega (arith, w)) in
+    let m : length (take (k + 1) clauses) ≡ k + 1 = length-take-le (k + 1) clauses (omega (arith, w)) in
+    let c : length core.clauses ≡ k = omega (arith, l.count, n) in
+    record {
+      count = omega (arith, ap length e, length_push core.clauses kept, c, m);
+      same = λ i v. ⊎_elim
+          (λ lt.
+          let old : IsSame (get_or (take k clauses) i []) (get_or core.clauses i []) = l.same i (omega (arith, lt, n)) in
+          let a : get_or (take k clauses) i [] ≡ get_or (take (k + 1) clauses) i [] = get_or-take k clauses i [] lt ∙ sym (get_or-take (k + 1) clauses i [] (omega (arith, lt))) in
+          let b : get_or core.clauses i [] ≡ get_or core'.clauses i [] = sym (get_or_append_left core.clauses (kept ∷ []) [] i (omega (arith, lt, c))) ∙ ap (λ xs. get_or xs i []) (sym e) in
+          subst (IsSame (get_or (take (k + 1) clauses) i [])) b (subst (λ x. IsSame x (get_or core.clauses i [])) a old))
+          (λ ge.
+          let at : k ≡ i = omega (arith, ge, v, m) in
+          let a : get_or clauses k [] ≡ get_or (take (k + 1) clauses) i [] = ap (λ j. get_or clauses j []) at ∙ sym (get_or-take (k + 1) clauses i [] (omega (arith, at))) in
+          let b : kept ≡ get_or core'.clauses i [] = sym (get_or_push core.clauses kept [] i (omega (arith, c, at))) ∙ ap (λ xs. get_or xs i []) (sym e) in
+          subst (IsSame (get_or (take (k + 1) clauses) i [])) b (subst (λ x. IsSame x kept) a s))
+          (cases_lt i k);
+    }
+
+-- ---- the search is ready
+
+-- each clause is held under its number
+pub loaded_held : (clauses : List (List LitValue)) (core : CoreValue) → IsLoaded clauses core → AreHeld (enumerate_from 1 clauses) core.clauses
+loaded_held clauses core l = record {
+  named = λ id w.
+      let v : id < length clauses = omega (arith, w, l.count) in
+      let d : Entry = (0, []) in
+      let at : get_or (enumerate_from 1 clauses) id d ≡ (1 + id, get_or clauses id []) = get_or-enumerate_from 1 clauses id d v in
+      let found = (start_numbered clauses).found id d (omega (arith, v, length-enumerate_from 1 clauses)) in
+      let here : clause_at (enumerate_from 1 clauses) (1 + id) ≡ Some (get_or clauses id []) = subst (λ e. clause_at (enumerate_from 1 clauses) e.0 ≡ Some (e.1)) at found in
+      let turned : 1 + id ≡ id + 1 = omega arith in
+      (get_or clauses id [], subst (λ n. clause_at (enumerate_from 1 clauses) n ≡ Some (get_or clauses id [])) turned here, l.same id v);
+  only = λ entry c.
+      let v : c.0 < length clauses = omega (arith, c.1, length-enumerate_from 1 clauses) in
+      let at : (1 + c.0, get_or clauses c.0 entry.1) ≡ entry = sym (get_or-enumerate_from 1 clauses c.0 entry v) ∙ c.2 in
+      let is : get_or clauses c.0 [] ≡ entry.1 = get_or_default clauses c.0 [] entry.1 v ∙ ap (λ e. e.1) at in
+      (get_or core.clauses c.0 [], Contains-get_or core.clauses c.0 [] (omega (arith, v, l.count)), subst (λ x. IsSame x (get_or core.clauses c.0 [])) is (l.same c.0 v));
+}
+
+pub ready_loaded : (base : FormulaValue) (core : CoreValue) → IsLoaded base.clauses core → core.vars ≤ base.vars → IsReady base [] core
+ready_loaded base core l vars =
+    let b = (start_numbered base.clauses).below in
+    record {
+      holding = record {
+        agree = record { vars = vars; held = loaded_held base.clauses core l };
+        formula = refl;
+        below = λ k d w. let n = b k d w in omega (arith, n, l.count);
+        greatest = omega arith;
+        many = omega (arith, l.count);
+      };
+      written = record { implied = tt; numbered = λ k d w. absurd (omega (arith, w)); short = All-nil (λ line. length line.hints ≤ base.vars + 1) };
+      fresh = tt;
+      count = omega (arith, l.count);
+    }

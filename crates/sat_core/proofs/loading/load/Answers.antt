@@ -1,0 +1,56 @@
+use Rattle.std.proofs.Common.{◌≡◌, ℕ, ◌+◌, ◌*◌, ◌<◌, ◌≤◌, [], ◌∷◌, ◌++◌, List, length, get_or, take, sym, ap, ◌∙◌, subst, arith}
+use Rattle.std.specs.Prelude.{Contains, All}
+use Rattle.std.proofs.lemmas.List.{take_all, get_or_default}
+use Rattle.std.proofs.lemmas.List.Elements.{Contains-get_or, All-contains}
+use Rattle.cnf_formula.specs.Formulas.{IsAbout, IsClause}
+use Rattle.cnf_formula.specs.Literals.{LitValue, IsLit, code_of}
+use Rattle.sat_core.specs.Learning.{IsSame}
+use Rattle.sat_core.specs.Loading.{IsLoaded}
+use Rattle.sat_core.proofs.Loaded.{code_own, kept_about, loaded_more, ready_loaded}
+use Rattle.sat_core.proofs.loading.load.Goals as goal
+
+-- a clause that was read is one of the formula's
+read_about : (vars k : ℕ) (clauses read : List (List LitValue)) (clause lits : List LitValue) → All (IsClause vars) clauses → read ≡ clauses → k < length read → clause ≡ get_or read k clause → lits ≡ clause → IsClause vars lits
+read_about vars k clauses read clause lits a e w is l =
+    let i : k < length clauses = omega (arith, w, ap length e) in
+    subst (IsClause vars) (sym (l ∙ is ∙ ap (λ xs. get_or xs k clause) e)) (All-contains (IsClause vars) clauses (get_or clauses k clause) a (Contains-get_or clauses k clause i))
+
+pub once_each-requires-clause-room : goal.once_each-requires-clause-room
+once_each-requires-clause-room c = λ l i h.
+    let base = c.args.formula.now in
+    let about = read_about base.vars c.loop-number.number base.clauses c.clauses-clauses.result.now c.index-clauses-number.result c.lits.result.now c.clauses-clauses.ensures.limits c.clauses-clauses.ensures.clauses c.loop-number-test.true c.index-clauses-number.is c.lits.ensures in
+    let small = code_own base.vars c.args.own c.lits.result.now c.requires about l i h in
+    omega (arith, small, c.loop-number.invariant.len)
+
+pub add_clause-requires-clause-within : goal.add_clause-requires-clause-within
+add_clause-requires-clause-within c =
+    let base = c.args.formula.now in
+    let about = read_about base.vars c.loop-number.number base.clauses c.clauses-clauses.result.now c.index-clauses-number.result c.lits.result.now c.clauses-clauses.ensures.limits c.clauses-clauses.ensures.clauses c.loop-number-test.true c.index-clauses-number.is c.lits.ensures in
+    let own = kept_about base.vars c.args.own c.lits.result.now c.in_ok-lits.lits.items c.requires about c.in_ok-lits.ensures.same c.in_ok-lits.ensures.lits in
+    subst (λ n. IsClause n c.deref.result.now) (sym c.loop-number.invariant.vars) (subst (IsClause c.args.own) (sym c.deref.ensures.value) own)
+
+pub loop-number-preserved : goal.loop-number-preserved
+loop-number-preserved c =
+    let base = c.args.formula.now in
+    let k = c.loop-number.number in
+    let core = c.loop-number.core in
+    let ok = c.in_ok-add_clause.ensures.ok.1 in
+    let e : c.clauses-clauses.result.now ≡ base.clauses = c.clauses-clauses.ensures.clauses in
+    let w : k < length base.clauses = omega (arith, c.loop-number-test.true, ap length e) in
+    let clause = c.index-clauses-number.result in
+    let is : get_or base.clauses k [] ≡ c.lits.result.now = get_or_default base.clauses k [] clause w ∙ sym (c.lits.ensures ∙ c.index-clauses-number.is ∙ ap (λ xs. get_or xs k clause) e) in
+    let same : IsSame (get_or base.clauses k []) c.deref.result.now = subst (λ xs. IsSame xs c.deref.result.now) (sym is) (subst (IsSame c.lits.result.now) (sym c.deref.ensures.value) c.in_ok-lits.ensures.same) in
+    record {
+      vars = ap (λ x. x.vars) ok ∙ c.loop-number.invariant.vars;
+      bottom = ap (λ x. length x.limits) ok ∙ c.loop-number.invariant.bottom;
+      len = c.once_each.ensures.len ∙ c.loop-number.invariant.len;
+      below = c.once_each.ensures.marked;
+      loaded = loaded_more base.clauses k core c.add_clause.new.self c.deref.result.now c.loop-number.invariant.loaded w same (ap (λ x. x.clauses) ok);
+    }
+
+pub returns-clause-ready : goal.returns-clause-ready
+returns-clause-ready c =
+    let base = c.args.formula.now in
+    let k = c.loop-number.number in
+    let all : take k base.clauses ≡ base.clauses = take_all k base.clauses (omega (arith, c.loop-number-test.false, ap length c.clauses-clauses.ensures.clauses)) in
+    ready_loaded base c.loop-number.core (subst (λ xs. IsLoaded xs c.loop-number.core) all c.loop-number.invariant.loaded) (omega (arith, c.loop-number.invariant.vars, c.requires))

@@ -1,0 +1,39 @@
+-- A core at a conflict, the line that is learned from it, and the core after it was gone back one level.
+use Rattle.std.specs.Prelude.{ℕ, ◌+◌, ◌-◌, ◌*◌, ◌<◌, ◌≤◌, [], length, get_or, take}
+use Rattle.cnf_formula.specs.Lines.{ProofLineValue}
+use Rattle.lrat_checker.specs.Held.{CheckerValue}
+use Rattle.trail_core.specs.Search.{IsFalsified}
+use Rattle.trail_core.specs.Meaning.{CoreValue, trues, IsClosedBelow}
+use Rattle.trail_core.specs.Kept.{AreGrounded}
+use Rattle.trail_core.specs.Formed.{IsTrail}
+use Rattle.sat_core.specs.Learning.{has_reason, hints_to, denied, AreHeld}
+
+-- a clause is falsified
+pub record IsConflict (core : CoreValue) (conflict : ℕ) : Type 0 where
+  pub grounded : AreGrounded core
+  pub formed : IsTrail core.vars core.trail core.limits
+  pub closed_below : IsClosedBelow core
+  pub within : conflict < length core.clauses
+  pub falsified : IsFalsified (trues core) (get_or core.clauses conflict [])
+
+-- the core's clauses are those that the checker holds, and its variables are some of the formula's
+pub record Agree (c : CheckerValue) (core : CoreValue) : Type 0 where
+  pub vars : core.vars ≤ c.formula.vars
+  pub held : AreHeld c.held core.clauses
+
+-- the number is greater than each before
+pub record IsNext (c : CheckerValue) (id : ℕ) : Type 0 where
+  pub above_formula : length c.formula.clauses < id
+  pub above_lines : c.greatest < id
+
+-- some decision is wrong, by the reasons of all implied steps and the falsified clause
+abbrev pub line_of : CoreValue → ℕ → ℕ → ProofLineValue
+line_of core conflict id = record { id = id; lits = denied core.trail; hints = hints_to has_reason core.trail conflict }
+
+-- the core after the levels from a number on were taken back
+abbrev pub gone_back : CoreValue → ℕ → CoreValue
+gone_back core level = record core { trail = take (get_or core.limits level 0) core.trail; limits = take level core.limits }
+
+-- what is left to do: conflicts first, then open variables
+abbrev pub remaining : ℕ → ℕ → ℕ → ℕ → ℕ
+remaining limit spent vars len = (limit - spent) * (vars + 2) + (vars - len)

@@ -1,0 +1,9 @@
+-- Why a search could not end.
+use Rattle.conflict_ledger.specs.declared.fault.LedgerFault.{LedgerFault}
+use Rattle.conflict_ledger.specs.declared.fault.LedgerFault.TheVariants.{Failed, OutOfMemory as NoMemory}
+use Rattle.sat_core.specs.declared.fault.SolveFault.{SolveFault}
+use Rattle.sat_core.specs.declared.fault.SolveFault.TheVariants.{LedgerFailed, OutOfMemory}
+
+abbrev pub fault_of : LedgerFault → SolveFault
+fault_of Failed = LedgerFailed
+fault_of NoMemory = OutOfMemory

@@ -1,0 +1,69 @@
+-- What is learned from a conflict: a clause, and the hints by which it is accepted.
+use Rattle.std.specs.Prelude.{◌≡◌, ◌⊎◌, ℕ, ◌+◌, ◌<◌, Bool, true, false, not, List, [], ◌++◌, ◌∷◌, Option, None, Some, Contains, length, get_or, take, map, filter, ℤ, pos}
+use Rattle.cnf_formula.specs.Literals.{LitValue, negation}
+use Rattle.lrat_checker.specs.Held.{Entry, clause_at}
+use Rattle.trail_core.specs.Assigned.{IsFalse}
+use Rattle.trail_core.specs.Trails.{StepValue, lits_of}
+
+abbrev pub is_some : Option ℕ → Bool
+is_some None = false
+is_some (Some id) = true
+
+-- the step is no decision
+abbrev pub has_reason : StepValue → Bool
+has_reason s = is_some s.reason
+
+abbrev pub is_decision : StepValue → Bool
+is_decision s = not (has_reason s)
+
+-- the number of a reason; clauses are held under numbers from 1
+abbrev pub number_of : Option ℕ → ℕ
+number_of None = 0
+number_of (Some id) = id + 1
+
+-- the numbers of the reasons of the resolved steps, in the order of the trail
+abbrev pub numbers_of : (StepValue → Bool) → List StepValue → List ℕ
+numbers_of resolved steps = map (λ s. number_of s.reason) (filter resolved steps)
+
+-- these, and then the number of the falsified clause
+abbrev pub numbers_to : (StepValue → Bool) → List StepValue → ℕ → List ℕ
+numbers_to resolved steps conflict = numbers_of resolved steps ++ (conflict + 1) ∷ []
+
+-- the same as hints
+abbrev pub hints_of : (StepValue → Bool) → List StepValue → List ℤ
+hints_of resolved steps = map (λ s. pos (number_of s.reason)) (filter resolved steps)
+
+abbrev pub hints_to : (StepValue → Bool) → List StepValue → ℕ → List ℤ
+hints_to resolved steps conflict = hints_of resolved steps ++ pos (conflict + 1) ∷ []
+
+-- the clause of plain analysis: some decision is wrong
+abbrev pub denied : List StepValue → List LitValue
+denied steps = map (λ s. negation s.lit) (filter is_decision steps)
+
+pub record IsSame (clause other : List LitValue) : Type 0 where
+  pub into : (l : LitValue) → Contains clause l → Contains other l
+  pub from : (l : LitValue) → Contains other l → Contains clause l
+
+-- each clause of the core is held under its number, and no other is held
+pub record AreHeld (held : List Entry) (clauses : List (List LitValue)) : Type 0 where
+  pub named : (id : ℕ) → id < length clauses → (clause : List LitValue) × (clause_at held (id + 1) ≡ Some clause) × IsSame clause (get_or clauses id [])
+  pub only : (entry : Entry) → Contains held entry → (clause : List LitValue) × Contains clauses clause × IsSame entry.1 clause
+
+-- the literal is one of the clause, or a resolved step made it false
+abbrev pub IsOut : (StepValue → Bool) → List StepValue → List LitValue → LitValue → Type 0
+IsOut resolved before clause o = Contains clause o ⊎ ((s : StepValue) × Contains before s × (resolved s ≡ true) × (s.lit ≡ negation o))
+
+-- the step has a reason, whose other literals are out before it
+pub record IsResolved (clauses : List (List LitValue)) (resolved : StepValue → Bool) (clause : List LitValue) (before : List StepValue) (step : StepValue) : Type 0 where
+  pub id : ℕ
+  pub reason : step.reason ≡ Some id
+  pub within : id < length clauses
+  pub stands : Contains (get_or clauses id []) step.lit
+  pub others : (o : LitValue) → Contains (get_or clauses id []) o → (o ≡ step.lit) ⊎ IsOut resolved before clause o
+
+-- the clause is what remains of a falsified clause where the resolved steps are taken for their reasons
+pub record IsAnalysis (clauses : List (List LitValue)) (steps : List StepValue) (resolved : StepValue → Bool) (conflict : ℕ) (clause : List LitValue) : Type 0 where
+  pub each : (k : ℕ) (d : StepValue) → k < length steps → resolved (get_or steps k d) ≡ true → IsResolved clauses resolved clause (take k steps) (get_or steps k d)
+  pub within : conflict < length clauses
+  pub last : (o : LitValue) → Contains (get_or clauses conflict []) o → IsOut resolved steps clause o
+  pub falses : (o : LitValue) → Contains clause o → IsFalse (lits_of steps) o

@@ -1,0 +1,44 @@
+-- What holds between the turns of a search, and where it ends.
+use Rattle.std.specs.Prelude.{◌≡◌, ℕ, ◌+◌, ◌<◌, ◌≤◌, true, List, [], length, get_or, All}
+use Rattle.cnf_formula.specs.Formulas.{FormulaValue}
+use Rattle.cnf_formula.specs.Lines.{ProofLineValue}
+use Rattle.lrat_checker.specs.declared.verdict.LineVerdict.TheVariants.{Accepted}
+use Rattle.lrat_checker.specs.Held.{CheckerValue, start_of}
+use Rattle.lrat_checker.specs.Judging.{verdict_of}
+use Rattle.lrat_checker.specs.Refuting.{AllImplied, AllFresh}
+use Rattle.conflict_ledger.specs.Logs.{checker_of}
+use Rattle.trail_core.specs.Meaning.{CoreValue}
+use Rattle.sat_core.specs.Conflicts.{Agree}
+
+-- the checker holds the core's clauses under their numbers, and no number above them
+pub record IsHolding (base : FormulaValue) (c : CheckerValue) (core : CoreValue) : Type 0 where
+  pub agree : Agree c core
+  pub formula : c.formula ≡ base
+  pub below : All (λ entry. entry.0 ≤ length core.clauses) c.held
+  pub greatest : c.greatest ≤ length core.clauses
+  pub many : length base.clauses ≤ length core.clauses
+
+-- the lines are numbered on from the clauses of the formula
+abbrev pub AreNumbered : ℕ → List ProofLineValue → Type 0
+AreNumbered clauses lines = (k : ℕ) (d : ProofLineValue) → k < length lines → (get_or lines k d).id ≡ clauses + 1 + k
+
+-- each line has at most one hint more than there are variables
+abbrev pub AreShort : ℕ → List ProofLineValue → Type 0
+AreShort vars lines = All (λ line. length line.hints ≤ vars + 1) lines
+
+-- what the lines of a search are, however it ends
+pub record AreWritten (base : FormulaValue) (lines : List ProofLineValue) : Type 0 where
+  pub implied : AllImplied (start_of base) lines
+  pub numbered : AreNumbered (length base.clauses) lines
+  pub short : AreShort base.vars lines
+
+pub record IsReady (base : FormulaValue) (lines : List ProofLineValue) (core : CoreValue) : Type 0 where
+  pub holding : IsHolding base (checker_of base lines) core
+  pub written : AreWritten base lines
+  pub fresh : AllFresh (start_of base) lines
+  pub count : length core.clauses ≡ length base.clauses + length lines
+
+-- each line was learned, and after them no line without a literal is implied
+pub record IsOver (base : FormulaValue) (lines : List ProofLineValue) : Type 0 where
+  pub fresh : AllFresh (start_of base) lines
+  pub not_closed : (line : ProofLineValue) → line.lits ≡ [] → verdict_of (checker_of base lines) line ≡ Accepted true → ⊥

@@ -1,0 +1,68 @@
+//! The search: turn after turn, until it ends.
+
+ghost use Rattle.std.specs.Prelude.{◌≡◌, ℕ, ◌+◌, ◌<◌, length, map, Ok, OnOk};
+ghost use Rattle.sat_core.specs.Ready.{AreWritten, IsReady, IsOver};
+ghost use Rattle.cnf_formula.specs.declared.line.LratLine.TheVariants.{Addition};
+ghost use Rattle.lrat_checker.specs.Refuting.{Refutes};
+ghost use Rattle.outer_ports.specs.Port.{HasCause};
+ghost use Rattle.sat_core.specs.Totals.{IsTotal};
+
+use crate::fault::SolveFault;
+use crate::step::{Step, advance};
+use crate::turn::{Turn, at_conflict};
+use conflict_ledger::Ledger;
+use std::alloc::Global;
+use trail_core::Core;
+
+/// Every variable has a value and no clause is falsified; or the formula is refuted, or what may be spent is spent.
+#[derive(Debug, Drop)]
+pub enum End {
+    Total,
+    Refuted,
+    Spent,
+}
+
+/// Searches from where the core holds the clauses of the ledger's formula and lines; the next line has the number `id`.
+pub fn search<T, L: Ledger<T>>(
+    alloc: Global,
+    ledger: &mut L,
+    store: &mut T,
+    core: &mut Core,
+    vars: u32,
+    id: u64,
+) -> Result<End, SolveFault>
+    requires ready { IsReady (L.base ledger.old) (L.lines ledger.old) core.old }
+    requires id { id ≡ length core.old.clauses + 1 }
+    requires agrees { L.agrees ledger.old store.old }
+    requires vars { vars ≡ core.old.vars }
+    requires small { vars < 2147483648 }
+    ensures vars { core.new.vars ≡ core.old.vars }
+    ensures written { AreWritten (L.base ledger.new) (L.lines ledger.new) }
+    ensures moves { L.moves ledger.old store.old ledger.new store.new }
+    ensures agrees { OnOk result (L.agrees ledger.new store.new) }
+    ensures base { L.base ledger.new ≡ L.base ledger.old }
+    ensures limit { L.limit ledger.new ≡ L.limit ledger.old }
+    ensures ready { result ≡ Ok End.Total → IsReady (L.base ledger.new) (L.lines ledger.new) core.new }
+    ensures total { result ≡ Ok End.Total → IsTotal core.new }
+    ensures refuted { result ≡ Ok End.Refuted → Refutes (map Addition (L.lines ledger.new)) (L.base ledger.new) }
+    ensures spent { result ≡ Ok End.Spent → L.spent ledger.new ≡ L.limit ledger.new }
+    ensures over { result ≡ Ok End.Spent → IsOver (L.base ledger.new) (L.lines ledger.new) }
+    ensures cause { HasCause SolveFault.LedgerFailed (L.faults ledger.old store.old) (L.faults ledger.new store.new) result }
+{
+    let mut next = id;
+    loop {
+        match advance(core, vars) {
+            Step::Conflict(conflict) => {
+                match at_conflict(alloc, ledger, store, core, conflict, next)? {
+                    Turn::Goes(after) => {
+                        next = after;
+                    }
+                    Turn::Refuted => return Ok(End::Refuted),
+                    Turn::Spent => return Ok(End::Spent),
+                }
+            }
+            Step::Decided => {}
+            Step::Total => return Ok(End::Total),
+        }
+    }
+}

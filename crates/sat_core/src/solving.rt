@@ -1,0 +1,75 @@
+//! The search for a model of a formula, or for a refutation.
+
+ghost use Rattle.std.specs.Prelude.{◌≡◌, ℕ, ◌<◌, ◌^◌, true, Bool, List, [], length, map, Ok, OnOk};
+ghost use Rattle.cnf_formula.specs.Formulas.{Satisfies};
+ghost use Rattle.cnf_formula.specs.Lines.{ProofLineValue};
+ghost use Rattle.cnf_formula.specs.declared.line.LratLine.TheVariants.{Addition};
+ghost use Rattle.lrat_checker.specs.declared.verdict.LineVerdict.TheVariants.{Accepted};
+ghost use Rattle.lrat_checker.specs.Judging.{verdict_of};
+ghost use Rattle.lrat_checker.specs.Refuting.{Refutes, SpentLog};
+ghost use Rattle.outer_ports.specs.Port.{HasCause};
+ghost use Rattle.conflict_ledger.specs.Logs.{checker_of};
+ghost use Rattle.sat_core.specs.Ready.{AreNumbered, AreShort};
+
+use crate::fault::SolveFault;
+use crate::loading::load;
+use crate::model::model_of;
+use crate::searching::{End, search};
+use cnf_formula::{Assignment, Formula};
+use conflict_ledger::Ledger;
+use std::alloc::Global;
+
+/// How a search ended.
+#[derive(Debug, Drop)]
+pub enum SatAnswer {
+    /// The assignment satisfies the formula.
+    Model(Assignment),
+    /// The ledger's lines refute the formula.
+    Refuted,
+    /// As many lines were learned as may be.
+    Spent,
+}
+
+/// The last variable that a literal can name.
+const LAST_VARIABLE: u32 = 2_147_483_647;
+
+/// Searches for an assignment that satisfies the formula, or for lines that refute it, by learning a clause from each
+/// conflict (Marques-Silva and Sakallah 1999). The lines go to the ledger, which has none yet; they are numbered on from the
+/// formula's clauses, and have at most one hint more than the formula has variables.
+///
+/// `Spent` comes only where the ledger's limit is reached and no line without a literal follows from what is held, so never
+/// where the limit is at least 3 to the number of variables. [`SolveFault::LedgerFailed`] comes only where the ledger's
+/// store failed.
+pub fn solve<T, L: Ledger<T>>(
+    alloc: Global,
+    formula: &Formula,
+    ledger: &mut L,
+    store: &mut T,
+) -> Result<SatAnswer, SolveFault>
+    requires base { L.base ledger.old ≡ formula.now }
+    requires empty { L.lines ledger.old ≡ [] }
+    requires agrees { L.agrees ledger.old store.old }
+    ensures model { (values : List Bool) → result ≡ Ok (SatAnswer.Model values) → Satisfies values formula.now }
+    ensures refuted { result ≡ Ok SatAnswer.Refuted → Refutes (map Addition (L.lines ledger.new)) formula.now }
+    ensures spent { result ≡ Ok SatAnswer.Spent → L.spent ledger.new ≡ L.limit ledger.new }
+    ensures log { result ≡ Ok SatAnswer.Spent → SpentLog (L.lines ledger.new) formula.now (L.limit ledger.new) }
+    ensures not_closed { result ≡ Ok SatAnswer.Spent → (line : ProofLineValue) → line.lits ≡ []
+        → verdict_of (checker_of formula.now (L.lines ledger.new)) line ≡ Accepted true → ⊥ }
+    ensures few { result ≡ Ok SatAnswer.Spent → L.limit ledger.new < 3 ^ formula.now.vars }
+    ensures numbered { AreNumbered (length formula.now.clauses) (L.lines ledger.new) }
+    ensures short { AreShort formula.now.vars (L.lines ledger.new) }
+    ensures moves { L.moves ledger.old store.old ledger.new store.new }
+    ensures agrees { OnOk result (L.agrees ledger.new store.new) }
+    ensures base { L.base ledger.new ≡ L.base ledger.old }
+    ensures limit { L.limit ledger.new ≡ L.limit ledger.old }
+    ensures cause { HasCause SolveFault.LedgerFailed (L.faults ledger.old store.old) (L.faults ledger.new store.new) result }
+{
+    let own = formula.vars().min(LAST_VARIABLE);
+    let mut core = load(alloc, formula, own)?;
+    let next = formula.clauses().len() as u64 + 1;
+    match search(alloc, ledger, store, &mut core, own, next)? {
+        End::Total => Ok(SatAnswer::Model(model_of(alloc, &core, own, formula.vars())?)),
+        End::Refuted => Ok(SatAnswer::Refuted),
+        End::Spent => Ok(SatAnswer::Spent),
+    }
+}

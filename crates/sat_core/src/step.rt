@@ -1,0 +1,66 @@
+//! Propagation, and then a decision.
+
+ghost use Rattle.std.specs.Prelude.{◌≡◌, ℕ, ◌+◌, ◌<◌, ◌≤◌, length, MatchOption};
+ghost use Rattle.cnf_formula.specs.Literals.{LitValue, no};
+ghost use Rattle.trail_core.specs.Assigned.{IsOpen};
+ghost use Rattle.trail_core.specs.Meaning.{trues};
+ghost use Rattle.sat_core.specs.Conflicts.{IsConflict};
+ghost use Rattle.sat_core.specs.Totals.{IsTotal};
+
+use cnf_formula::Lit;
+use trail_core::{ClauseId, Core};
+
+/// What a step of the search came to.
+#[derive(Debug, Drop)]
+pub enum Step {
+    Conflict(ClauseId),
+    Decided,
+    Total,
+}
+
+/// An open variable, as false.
+fn an_open(core: &Core, vars: u32) -> Option<Lit>
+    requires vars { vars ≡ core.now.vars }
+    requires small { vars < 2147483648 }
+    ensures { MatchOption result
+        ((v : ℕ) → 0 < v → v ≤ core.now.vars → IsOpen (trues core.now) (no v) → ⊥)
+        (λ lit. IsOpen (trues core.now) lit × (lit.var ≤ core.now.vars)) }
+{
+    for index in 0..vars {
+        let lit = Lit::new(index + 1, false);
+        if core.value(lit).is_none() {
+            return Some(lit);
+        }
+    }
+    None
+}
+
+/// Propagates, and decides a variable where no clause is falsified.
+pub fn advance(core: &mut Core, vars: u32) -> Step
+    requires vars { vars ≡ core.old.vars }
+    requires small { vars < 2147483648 }
+    ensures vars { core.new.vars ≡ core.old.vars }
+    ensures clauses { core.new.clauses ≡ core.old.clauses }
+    ensures conflict { (id : ℕ) → result ≡ Step.Conflict id → IsConflict core.new id }
+    ensures longer { result ≡ Step.Decided → length core.old.trail < length core.new.trail }
+    ensures few { result ≡ Step.Decided → length core.new.trail ≤ core.new.vars }
+    ensures total { result ≡ Step.Total → IsTotal core.new }
+{
+    match core.propagate() {
+        Some(conflict) => {
+            let _known = core.trail();
+            Step::Conflict(conflict)
+        }
+        None => match an_open(core, vars) {
+            Some(lit) => {
+                core.assume(lit);
+                let _known = core.trail();
+                Step::Decided
+            }
+            None => {
+                let _known = core.trail();
+                Step::Total
+            }
+        },
+    }
+}

@@ -1,0 +1,62 @@
+//! One turn of the search at a conflict.
+
+ghost use Rattle.std.specs.Prelude.{◌≡◌, ℕ, ◌+◌, ◌<◌, length, map, Ok, OnOk};
+ghost use Rattle.sat_core.specs.Conflicts.{IsConflict};
+ghost use Rattle.sat_core.specs.Ready.{AreWritten, IsReady, IsOver};
+ghost use Rattle.cnf_formula.specs.declared.line.LratLine.TheVariants.{Addition};
+ghost use Rattle.lrat_checker.specs.Refuting.{Refutes};
+ghost use Rattle.outer_ports.specs.Port.{HasCause};
+
+use crate::analysis::{go_back, line_at};
+use crate::fault::SolveFault;
+use conflict_ledger::Ledger;
+use std::alloc::Global;
+use trail_core::{ClauseId, Core};
+
+/// What a turn at a conflict came to.
+#[derive(Debug, Drop)]
+pub enum Turn {
+    Goes(u64),
+    Refuted,
+    Spent,
+}
+
+/// Learns from a conflict: closes on level 0, else adds a line where there is room for it.
+pub fn at_conflict<T, L: Ledger<T>>(
+    alloc: Global,
+    ledger: &mut L,
+    store: &mut T,
+    core: &mut Core,
+    conflict: ClauseId,
+    id: u64,
+) -> Result<Turn, SolveFault>
+    requires ready { IsReady (L.base ledger.old) (L.lines ledger.old) core.old }
+    requires conflict { IsConflict core.old conflict }
+    requires id { id ≡ length core.old.clauses + 1 }
+    requires agrees { L.agrees ledger.old store.old }
+    ensures written { AreWritten (L.base ledger.new) (L.lines ledger.new) }
+    ensures moves { L.moves ledger.old store.old ledger.new store.new }
+    ensures agrees { OnOk result (L.agrees ledger.new store.new) }
+    ensures base { L.base ledger.new ≡ L.base ledger.old }
+    ensures limit { L.limit ledger.new ≡ L.limit ledger.old }
+    ensures vars { core.new.vars ≡ core.old.vars }
+    ensures ready { (next : ℕ) → result ≡ Ok (Turn.Goes next) → IsReady (L.base ledger.new) (L.lines ledger.new) core.new }
+    ensures next { (next : ℕ) → result ≡ Ok (Turn.Goes next) → next ≡ length core.new.clauses + 1 }
+    ensures paid { (next : ℕ) → result ≡ Ok (Turn.Goes next) → L.spent ledger.new ≡ L.spent ledger.old + 1 }
+    ensures refuted { result ≡ Ok Turn.Refuted → Refutes (map Addition (L.lines ledger.new)) (L.base ledger.new) }
+    ensures spent { result ≡ Ok Turn.Spent → L.spent ledger.new ≡ L.limit ledger.new }
+    ensures over { result ≡ Ok Turn.Spent → IsOver (L.base ledger.new) (L.lines ledger.new) }
+    ensures cause { HasCause SolveFault.LedgerFailed (L.faults ledger.old store.old) (L.faults ledger.new store.new) result }
+{
+    let line = line_at(alloc, core, conflict, id)?;
+    if line.lits.is_empty() {
+        ledger.close(store, &line)?;
+        return Ok(Turn::Refuted);
+    }
+    if !ledger.room() {
+        return Ok(Turn::Spent);
+    }
+    ledger.learn(store, &line)?;
+    let next = go_back(core, &line, conflict)?;
+    Ok(Turn::Goes(next))
+}
