@@ -5,7 +5,7 @@ use Rattle.text_lines.specs.Check.{◌>>=◌}
 use Rattle.outer_ports.specs.declared.part.Part.{Part}
 use Rattle.outer_ports.specs.Files.{Files}
 use Rattle.candidate_order.specs.Frontiers.{QuestionValue, FrontierValue, IsUnknown}
-use Rattle.frontier_report.specs.Reports.{ReportValue, IsReport, question_of}
+use Rattle.report_form.specs.Reports.{ReportValue, IsReport, question_of}
 use Rattle.frontier_audit.specs.declared.verdict.AuditVerdict.TheVariants.{Verified}
 use Rattle.frontier_audit.specs.Denials.{Denial, Checked, each, in_part}
 use Rattle.frontier_audit.specs.Shelves.{PartRight, ShelfRight}

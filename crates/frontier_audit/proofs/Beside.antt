@@ -89,7 +89,7 @@ has_log_of part q files u same e =
     record {
       lines = by.added;
       holds = record { bytes = log; found = there; short = leb-true (length log) longest_proof parts.0; reads = by.says };
-      spent = record { count = by.spent.count ∙ same; accepted = by.spent.accepted; fresh = by.spent.fresh };
+      spent = record { count = by.spent.count ∙ same; implied = by.spent.implied; fresh = by.spent.fresh };
     }
 
 pub passes_log : (part : Part) (q : QuestionValue) (files : Files) (u : UnknownValue) → u.conflicts ≡ q.limits.conflicts → HasLog part q files u → unknown_checked part q files u ≡ Ok tt
@@ -99,4 +99,4 @@ passes_log part q files u same h =
     (not_refused (is_spent_log f u.conflicts h.holds.bytes) (PartialRefused, u.candidate)
     (both_true (nat_le (length h.holds.bytes) longest_proof) (do_spend f u.conflicts (lines_of_text h.holds.bytes))
     (le-leb (length h.holds.bytes) longest_proof h.holds.short)
-    (by_spending f u.conflicts (lines_of_text h.holds.bytes) h.lines h.holds.reads (record { count = h.spent.count ∙ sym same; accepted = h.spent.accepted; fresh = h.spent.fresh }))))
+    (by_spending f u.conflicts (lines_of_text h.holds.bytes) h.lines h.holds.reads (record { count = h.spent.count ∙ sym same; implied = h.spent.implied; fresh = h.spent.fresh }))))

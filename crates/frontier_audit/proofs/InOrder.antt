@@ -5,14 +5,15 @@ use Rattle.std.specs.List.{range_with_len}
 use Rattle.std.proofs.lemmas.Bool.{false≢true}
 use Rattle.std.proofs.lemmas.List.Elements.{All-nil, All-cons, All-head, All-tail, All-append, All-filter}
 use Rattle.collective_spec.specs.Kinds.{allows}
+use Rattle.collective_spec.specs.Collectives.{kind_in}
 use Rattle.candidate_order.specs.declared.candidate.Candidate.{Candidate}
 use Rattle.candidate_order.specs.Costs.{Before}
 use Rattle.candidate_order.specs.Listed.{candidate_at}
 use Rattle.candidate_order.specs.Frontiers.{QuestionValue}
 use Rattle.candidate_order.proofs.Orders.{Before-trans, Before-total}
-use Rattle.frontier_report.specs.Tests.{is_before}
-use Rattle.frontier_report.proofs.Tested.{decides_before}
-use Rattle.round_encoding.proofs.Everywhere.{in_map, in_flat, From, in_range}
+use Rattle.report_form.specs.Tests.{is_before}
+use Rattle.report_form.proofs.Tested.{decides_before}
+use Rattle.send_encoding.proofs.Everywhere.{in_map, in_flat, From, in_range}
 use Rattle.frontier_audit.specs.Candidates.{counts_of, candidates_of_step, put_in_order, in_search_order, candidates_within}
 use Rattle.frontier_audit.proofs.Tried.{all_put, all_ordered}
 
@@ -123,7 +124,7 @@ of_rounds s r (c ∷ cs) = All-cons (OfRounds r) (candidate_at s (r, c)) (map (�
 
 step_apart : (q : QuestionValue) (s : ℕ) → AllPairs (λ x y. x ≢ y) (candidates_of_step q s)
 step_apart q s = pairs_of_range (λ x y. x ≢ y) OfRounds (λ r. map (λ c. candidate_at s (r, c)) (counts_of q)) (λ r. of_rounds s r (counts_of q))
-    (λ r. counted_apart s r (counts_of q) (kept_ascends (allows q.collective.kind q.topology.nodes) (range_with_len 1 q.limits.max_c) (range_ascends 1 q.limits.max_c)))
+    (λ r. counted_apart s r (counts_of q) (kept_ascends (allows (kind_in q.spec) q.topology.nodes) (range_with_len 1 q.limits.max_c) (range_ascends 1 q.limits.max_c)))
     (λ i j x y less a b e. let same : x.r ≡ y.r = ap (λ z. z.r) e in omega (arith, less, a, b, same)) s (q.limits.k + 1)
 
 -- ---- and all of them ascend
@@ -133,7 +134,7 @@ OfSteps s x = x.s ≡ s
 
 with_chunks : (q : QuestionValue) (s : ℕ) → All HasChunk (candidates_of_step q s)
 with_chunks q s = in_flat HasChunk (λ r. Unit {0}) (λ r. map (λ c. candidate_at s (r, c)) (counts_of q)) (range_with_len s (q.limits.k + 1))
-    (λ r u. in_map HasChunk (λ c. 1 ≤ c) (λ c. candidate_at s (r, c)) (counts_of q) (λ c h. h) (All-filter (allows q.collective.kind q.topology.nodes) (λ c. 1 ≤ c) (range_with_len 1 q.limits.max_c) (λ k d low. let at = in_range 1 q.limits.max_c k d low in at.0))) (λ k d low. tt)
+    (λ r u. in_map HasChunk (λ c. 1 ≤ c) (λ c. candidate_at s (r, c)) (counts_of q) (λ c h. h) (All-filter (allows (kind_in q.spec) q.topology.nodes) (λ c. 1 ≤ c) (range_with_len 1 q.limits.max_c) (λ k d low. let at = in_range 1 q.limits.max_c k d low in at.0))) (λ k d low. tt)
 
 of_steps : (q : QuestionValue) (s : ℕ) → All (OfSteps s) (candidates_of_step q s)
 of_steps q s = in_flat (OfSteps s) (λ r. Unit {0}) (λ r. map (λ c. candidate_at s (r, c)) (counts_of q)) (range_with_len s (q.limits.k + 1))

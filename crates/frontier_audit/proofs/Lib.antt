@@ -1,4 +1,5 @@
 pub mod Shelves
+pub mod Unique
 pub mod Passing
 pub mod Proved
 pub mod Beside
@@ -8,4 +9,5 @@ pub mod Marked
 pub mod Solved
 pub mod Joined
 pub mod Right
+pub mod Unsolvable
 pub mod InOrder

@@ -11,8 +11,8 @@ use Rattle.candidate_order.specs.declared.mark.Mark.{Mark}
 use Rattle.candidate_order.specs.declared.mark.Mark.TheVariants as mark
 use Rattle.candidate_order.specs.Costs.{NoWorse, Better}
 use Rattle.candidate_order.specs.Frontiers.{QuestionValue, PointValue, FrontierValue, IsWithin, IsAnswered, given_up}
-use Rattle.frontier_report.specs.Tests.{is_better, is_no_worse}
-use Rattle.frontier_report.proofs.Tested.{decides_no_worse, decides_better}
+use Rattle.report_form.specs.Tests.{is_better, is_no_worse}
+use Rattle.report_form.proofs.Tested.{decides_no_worse, decides_better}
 use Rattle.frontier_audit.specs.Candidates.{is_listed, candidates_within}
 use Rattle.frontier_audit.specs.Solutions.{is_optimal, is_mark}
 use Rattle.frontier_audit.specs.Auditing.{is_answered}

@@ -10,38 +10,37 @@ use Rattle.lrat_checker.specs.declared.verdict.LineVerdict.{LineVerdict}
 use Rattle.lrat_checker.specs.declared.verdict.LineVerdict.TheVariants.{Accepted, Refused}
 use Rattle.lrat_checker.specs.Held.{CheckerValue, start_of}
 use Rattle.lrat_checker.specs.Judging.{verdict_of}
-use Rattle.lrat_checker.specs.Refuting.{verdict_on, with_accepted, with_line, is_fresh, AllAccepted, AllFresh, after, Refutes, SpentLog}
+use Rattle.lrat_checker.specs.Refuting.{verdict_on, with_accepted, with_line, is_accepted, is_fresh, AllAccepted, AllImplied, AllFresh, after, Refutes, SpentLog}
 use Rattle.lrat_text.specs.declared.fault.LratTextFault.{LratTextFault}
-use Rattle.frontier_audit.specs.Proving.{is_accepted, checker_after, is_refuted, do_refute, are_learned, do_spend}
+use Rattle.frontier_audit.specs.Proving.{is_implied, checker_after, is_refuted, do_refute, are_learned, do_spend}
 
-accepted_is : (v : LineVerdict) → is_accepted v ≡ true → v ≡ Accepted
-accepted_is Accepted e = refl
-accepted_is (Refused code hint) e = absurd (cc)
+implied_is : (v : LineVerdict) → is_implied v ≡ true → v ≡ Accepted true
+implied_is (Accepted implied) e = ap (λ b. Accepted b) e
+implied_is (Refused code hint) e = absurd (cc)
 
-is_so : (v : LineVerdict) → v ≡ Accepted → is_accepted v ≡ true
-is_so Accepted e = refl
-is_so (Refused code hint) e = absurd (cc)
+is_so : (v : LineVerdict) → v ≡ Accepted true → is_implied v ≡ true
+is_so v e = ap is_implied e
 
 -- ---- refutations
 
-taken : (v : LineVerdict) (o : Option CheckerValue) (d : CheckerValue) → (if is_accepted v then o else None) ≡ Some d → (v ≡ Accepted) × (o ≡ Some d)
-taken Accepted o d e = (refl, e)
-taken (Refused code hint) o d e = absurd (cc)
+taken : (b : Bool) (o : Option CheckerValue) (d : CheckerValue) → (if b then o else None) ≡ Some d → (b ≡ true) × (o ≡ Some d)
+taken true o d e = (refl, e)
+taken false o d e = absurd (cc)
 
-take_up : (v : LineVerdict) (o : Option CheckerValue) (d : CheckerValue) → v ≡ Accepted → o ≡ Some d → (if is_accepted v then o else None) ≡ Some d
-take_up Accepted o d a e = e
-take_up (Refused code hint) o d a e = absurd (cc)
+take_up : (b : Bool) (o : Option CheckerValue) (d : CheckerValue) → b ≡ true → o ≡ Some d → (if b then o else None) ≡ Some d
+take_up true o d a e = e
+take_up false o d a e = absurd (cc)
 
 pub accepted_after : (c d : CheckerValue) (lines : List LratLine) → checker_after c lines ≡ Some d → AllAccepted c lines × (after c lines ≡ d)
 accepted_after c d [] e = let same : c ≡ d = cc in (tt, same)
 accepted_after c d (line ∷ lines) e =
-    let (now, later) = taken (verdict_on c line) (checker_after (with_accepted c line) lines) d e in
+    let (now, later) = taken (is_accepted (verdict_on c line)) (checker_after (with_accepted c line) lines) d e in
     let (rest, is) = accepted_after (with_accepted c line) d lines later in
     ((now, rest), is)
 
 pub after_accepted : (c : CheckerValue) (lines : List LratLine) → AllAccepted c lines → checker_after c lines ≡ Some (after c lines)
 after_accepted c [] a = refl
-after_accepted c (line ∷ lines) a = take_up (verdict_on c line) (checker_after (with_accepted c line) lines) (after (with_accepted c line) lines) a.0 (after_accepted (with_accepted c line) lines a.1)
+after_accepted c (line ∷ lines) a = take_up (is_accepted (verdict_on c line)) (checker_after (with_accepted c line) lines) (after (with_accepted c line) lines) a.0 (after_accepted (with_accepted c line) lines a.1)
 
 refuted_some : (o : Option CheckerValue) → is_refuted o ≡ true → (d : CheckerValue) × (o ≡ Some d) × (d.refuted ≡ true)
 refuted_some None e = absurd (cc)
@@ -62,20 +61,20 @@ by_refuting f said lines e h = ap (do_refute f) e ∙ (ap is_refuted (after_acce
 pub record LearnedBy (c : CheckerValue) (lines : List LratLine) : Type 0 where
   pub added : List ProofLineValue
   pub are : lines ≡ map Addition added
-  pub accepted : AllAccepted c (map Addition added)
+  pub implied : AllImplied c added
   pub fresh : AllFresh c added
 
 pub learned_by : (c : CheckerValue) (lines : List LratLine) → are_learned c lines ≡ true → LearnedBy c lines
-learned_by c [] e = record { added = []; are = refl; accepted = tt; fresh = tt }
+learned_by c [] e = record { added = []; are = refl; implied = tt; fresh = tt }
 learned_by c (Deletion deletion ∷ lines) e = absurd (cc)
 learned_by c (Addition line ∷ lines) e =
-    let parts = and_parts (is_accepted (verdict_of c line) && is_fresh c line.lits) (are_learned (with_line c line) lines) e in
-    let front = and_parts (is_accepted (verdict_of c line)) (is_fresh c line.lits) parts.0 in
+    let parts = and_parts (is_implied (verdict_of c line) && is_fresh c line.lits) (are_learned (with_line c line) lines) e in
+    let front = and_parts (is_implied (verdict_of c line)) (is_fresh c line.lits) parts.0 in
     let rest = learned_by (with_line c line) lines parts.1 in
     record {
       added = line ∷ rest.added;
       are = ap (λ ls. Addition line ∷ ls) rest.are;
-      accepted = (accepted_is (verdict_of c line) front.0, rest.accepted);
+      implied = (implied_is (verdict_of c line) front.0, rest.implied);
       fresh = (front.1, rest.fresh);
     }
 
@@ -84,11 +83,11 @@ both_true true true p q = refl
 both_true true false p q = absurd (cc)
 both_true false b p q = absurd (cc)
 
-pub by_learning : (c : CheckerValue) (added : List ProofLineValue) → AllAccepted c (map Addition added) → AllFresh c added → are_learned c (map Addition added) ≡ true
+pub by_learning : (c : CheckerValue) (added : List ProofLineValue) → AllImplied c added → AllFresh c added → are_learned c (map Addition added) ≡ true
 by_learning c [] a f = refl
 by_learning c (line ∷ added) a f =
-    both_true (is_accepted (verdict_of c line) && is_fresh c line.lits) (are_learned (with_line c line) (map Addition added))
-    (both_true (is_accepted (verdict_of c line)) (is_fresh c line.lits) (is_so (verdict_of c line) a.0) f.0)
+    both_true (is_implied (verdict_of c line) && is_fresh c line.lits) (are_learned (with_line c line) (map Addition added))
+    (both_true (is_implied (verdict_of c line)) (is_fresh c line.lits) (is_so (verdict_of c line) a.0) f.0)
     (by_learning (with_line c line) added a.1 f.1)
 
 map_length : (added : List ProofLineValue) → length (map Addition added) ≡ length added
@@ -108,7 +107,7 @@ spent_by f n (Ok lines) e =
     record {
       added = by.added;
       says = ap (λ ls. Ok ls) by.are;
-      spent = record { count = sym (map_length by.added) ∙ (ap length (sym by.are) ∙ eqb-true (length lines) n parts.0); accepted = by.accepted; fresh = by.fresh };
+      spent = record { count = sym (map_length by.added) ∙ (ap length (sym by.are) ∙ eqb-true (length lines) n parts.0); implied = by.implied; fresh = by.fresh };
     }
 
 pub by_spending : (f : FormulaValue) (n : ℕ) (said : Result (List LratLine) LratTextFault) (added : List ProofLineValue) → said ≡ Ok (map Addition added) → SpentLog added f n → do_spend f n said ≡ true
@@ -116,4 +115,4 @@ by_spending f n said added e s =
     ap (do_spend f n) e
     ∙ both_true (length (map Addition added) == n) (are_learned (start_of f) (map Addition added))
     (eq-eqb (length (map Addition added)) n (map_length added ∙ s.count))
-    (by_learning (start_of f) added s.accepted s.fresh)
+    (by_learning (start_of f) added s.implied s.fresh)

@@ -1,17 +1,20 @@
 -- An audit finds nothing to deny exactly where the frontiers, the files and the joined points are right.
-use Rattle.std.proofs.Common.{◌≡◌, true, List, [], ◌∷◌, map, get_or, Ok, refl, sym, ap, ◌∙◌, subst}
+use Rattle.std.proofs.Common.{◌≡◌, true, List, [], ◌∷◌, map, get_or, Option, None, Some, Ok, refl, sym, ap, ◌∙◌, subst}
 use Rattle.std.specs.Prelude.{◌≢◌, All, Contains}
 use Rattle.std.proofs.lemmas.List.Elements.{All-nil, All-cons, All-head, All-tail, All-contains, All-contains_itself}
 use Rattle.outer_ports.specs.declared.part.Part.{Part}
 use Rattle.outer_ports.specs.declared.part.Part.TheVariants as part
 use Rattle.outer_ports.specs.Files.{Files}
 use Rattle.schedule.specs.Sends.{IsInRange}
-use Rattle.collective_spec.specs.Collectives.{chunks_of}
+use Rattle.collective_spec.specs.Collectives.{kind_in, chunks_in, spec_of, fits_kind}
+use Rattle.collective_spec.specs.declared.collective.Collective.{Collective}
+use Rattle.collective_spec.specs.declared.spec.Spec.TheVariants as spec
+use Rattle.collective_spec.specs.Patterns.{PatternValue}
 use Rattle.collective_spec.specs.declared.kind.Kind.{Kind}
 use Rattle.collective_spec.specs.declared.kind.Kind.TheVariants as kind
 use Rattle.candidate_order.specs.Frontiers.{QuestionValue, FrontierValue, IsSolvable, IsPoint, RightFrontier}
 use Rattle.allreduce_join.specs.Joins.{Joins, pairs_of}
-use Rattle.frontier_report.specs.Reports.{ReportValue, IsReport, IsFrontier, parts_of, kind_of, question_of}
+use Rattle.report_form.specs.Reports.{ReportValue, IsReport, IsFrontier, parts_of, kind_of, question_of}
 use Rattle.frontier_audit.specs.declared.verdict.AuditVerdict.TheVariants.{Verified}
 use Rattle.frontier_audit.specs.declared.verdict.Reason.TheVariants.{ScheduleWrong, MarkWrong, CandidateMissing}
 use Rattle.frontier_audit.specs.Shelves.{PartRight, ShelfRight}
@@ -42,7 +45,7 @@ checked_point part q files f ok p k d low =
       or_open = marked.1;
     }
 
-pub right_part : (part : Part) (q : QuestionValue) (files : Files) (f : FrontierValue) → q.collective.kind ≢ kind.Allreduce → IsFrontier q f → Passes part q files f → All (λ x. IsSolvable q x → ⊥) f.refuted → RightFrontier q f
+pub right_part : (part : Part) (q : QuestionValue) (files : Files) (f : FrontierValue) → kind_in q.spec ≢ kind.Allreduce → IsFrontier q f → Passes part q files f → All (λ x. IsSolvable q x → ⊥) f.refuted → RightFrontier q f
 right_part part q files f single ok p unsolvable = record {
   single = single;
   points = checked_point part q files f ok p;
@@ -80,11 +83,12 @@ apart kind.Scatter = All-cons (λ x. kind_of kind.Scatter x ≢ kind.Allreduce) 
 apart kind.Alltoall = All-cons (λ x. kind_of kind.Alltoall x ≢ kind.Allreduce) part.Whole [] (λ e. absurd (cc)) (All-nil (λ x. kind_of kind.Alltoall x ≢ kind.Allreduce))
 apart kind.Reduce = All-cons (λ x. kind_of kind.Reduce x ≢ kind.Allreduce) part.Whole [] (λ e. absurd (cc)) (All-nil (λ x. kind_of kind.Reduce x ≢ kind.Allreduce))
 apart kind.Reducescatter = All-cons (λ x. kind_of kind.Reducescatter x ≢ kind.Allreduce) part.Whole [] (λ e. absurd (cc)) (All-nil (λ x. kind_of kind.Reducescatter x ≢ kind.Allreduce))
+apart kind.Custom = All-cons (λ x. kind_of kind.Custom x ≢ kind.Allreduce) part.Whole [] (λ e. absurd (cc)) (All-nil (λ x. kind_of kind.Custom x ≢ kind.Allreduce))
 apart kind.Allreduce =
     All-cons (λ x. kind_of kind.Allreduce x ≢ kind.Allreduce) part.Reduce (part.Gather ∷ []) (λ e. absurd (cc))
     (All-cons (λ x. kind_of kind.Allreduce x ≢ kind.Allreduce) part.Gather [] (λ e. absurd (cc)) (All-nil (λ x. kind_of kind.Allreduce x ≢ kind.Allreduce)))
 
-of_mapped : {X Y : Type 0} (P : Y → Type 0) (f : X → Y) (xs : List X) → All P (map f xs) → All (λ x. P (f x)) xs
+pub of_mapped : {X Y : Type 0} (P : Y → Type 0) (f : X → Y) (xs : List X) → All P (map f xs) → All (λ x. P (f x)) xs
 of_mapped P f [] a = All-nil (λ x. P (f x))
 of_mapped P f (x ∷ xs) a = All-cons (λ y. P (f y)) x xs (All-head P (f x) (map f xs) a) (of_mapped P f xs (All-tail P (f x) (map f xs) a))
 
@@ -98,18 +102,31 @@ each_apart r ok =
 abbrev question : ReportValue → Part → QuestionValue
 question r part = question_of r.words r.topology part
 
+-- a pattern is no allreduce
+apart_in : (c : Collective) (o : Option PatternValue) → c.kind ≢ kind.Allreduce → kind_in (spec_of c o) ≢ kind.Allreduce
+apart_in c None apart e = apart e
+apart_in c (Some p) apart e = absurd (cc)
+
+-- an allreduce has no pattern
+unpatterned : (o : Option PatternValue) → fits_kind kind.Allreduce o ≡ true → o ≡ None
+unpatterned None e = refl
+unpatterned (Some p) e = absurd (cc)
+
 pub verified_right : (r : ReportValue) (files : Files) → IsReport r → audit_of r files ≡ Verified → (part : Part) (f : FrontierValue) → Contains r.frontiers (part, f) → All (λ x. IsSolvable (question r part) x → ⊥) f.refuted → RightFrontier (question r part) f
 verified_right r files ok e part f at unsolvable =
     let passes = All-contains (PartPasses r files) r.frontiers (part, f) (report_passes r files e).parts at in
     let frontier = All-contains (λ x. IsFrontier (question_of r.words r.topology x.0) x.1) r.frontiers (part, f) ok.frontiers at in
     let single = All-contains (λ x. kind_of r.words.collective.kind x.0 ≢ kind.Allreduce) r.frontiers (part, f) (each_apart r ok) at in
-    right_part part (question r part) files f single frontier passes unsolvable
+    right_part part (question r part) files f (apart_in (record { kind = kind_of r.words.collective.kind part; root = r.words.collective.root }) r.topology.custom single) frontier passes unsolvable
 
 joinable : (r : ReportValue) → IsReport r → r.words.collective.kind ≡ kind.Allreduce → All (IsJoinable r.topology.topology) r.joined
 joinable r ok e k d low =
     let p = ok.joined k d low in
     let x = get_or r.joined k d in
-    record { schedule = p.has.schedule; in_range = subst (λ w. IsInRange (chunks_of w r.topology.topology.nodes x.candidate.c) r.topology.topology.nodes x.schedule) e p.has.in_range }
+    let none = unpatterned r.topology.custom (ap (λ k. fits_kind k r.topology.custom) (sym e) ∙ ok.pattern) in
+    let spec_is : (question r part.Joined).spec ≡ spec.Standard (record { kind = kind.Allreduce; root = r.words.collective.root }) =
+    ap (λ o. spec_of (record { kind = r.words.collective.kind; root = r.words.collective.root }) o) none ∙ ap (λ k. spec.Standard (record { kind = k; root = r.words.collective.root })) e in
+    record { schedule = p.has.schedule; in_range = subst (λ s. IsInRange (chunks_in s r.topology.topology.nodes x.candidate.c) r.topology.topology.nodes x.schedule) spec_is p.has.in_range }
 
 abbrev JoinsOf : ReportValue → Type 0
 JoinsOf r = Joins r.topology.topology (points_of is_reduce r.frontiers) (points_of is_gather r.frontiers) r.joined
@@ -132,6 +149,7 @@ joined_passes kind.Scatter r h = refl
 joined_passes kind.Alltoall r h = refl
 joined_passes kind.Reduce r h = refl
 joined_passes kind.Reducescatter r h = refl
+joined_passes kind.Custom r h = refl
 joined_passes kind.Allreduce r h = ok_in_part part.Joined (joins_checked r.topology.topology (pairs_of (points_of is_reduce r.frontiers) (points_of is_gather r.frontiers)) r.joined) (h refl)
 
 pub right_verified : (r : ReportValue) (files : Files) → IsReport r → ShelfRight r files → ((part : Part) (f : FrontierValue) → Contains r.frontiers (part, f) → RightFrontier (question r part) f) → (r.words.collective.kind ≡ kind.Allreduce → JoinsOf r) → audit_of r files ≡ Verified

@@ -8,8 +8,8 @@ use Rattle.outer_ports.specs.Files.{Files}
 use Rattle.cnf_formula.specs.Formulas.{Satisfiable}
 use Rattle.candidate_order.specs.declared.candidate.Candidate.{Candidate}
 use Rattle.candidate_order.specs.Frontiers.{QuestionValue, FrontierValue, UnknownValue}
-use Rattle.lrat_checker.proofs.Sound.{never_refuted}
-use Rattle.frontier_report.specs.Reports.{ReportValue, question_of}
+use Rattle.lrat_checker.proofs.Calm.{never_refuted}
+use Rattle.report_form.specs.Reports.{ReportValue, question_of}
 use Rattle.frontier_audit.specs.Shelves.{file_of, formula_for, HasRefutation, HasLog, PartRight, ShelfRight}
 
 not_both : {A : Type 0} (o : Option A) (a : A) → o ≡ None → o ≡ Some a → ⊥

@@ -14,9 +14,9 @@ use Rattle.inversion.specs.declared.verdict.SumVerdict.{SumVerdict}
 use Rattle.inversion.specs.declared.verdict.SumVerdict.TheVariants as sums
 use Rattle.inversion.specs.Judging.{sum_verdict_of}
 use Rattle.inversion.proofs.Told.{sums_exactly}
-use Rattle.collective_spec.specs.Collectives.{reduces}
+use Rattle.collective_spec.specs.Collectives.{adds_up}
 use Rattle.candidate_order.specs.Frontiers.{QuestionValue, PointValue, IsSolvedBy, Achieves, instance_for, demand_for}
-use Rattle.frontier_report.specs.Reports.{HasSchedule}
+use Rattle.report_form.specs.Reports.{HasSchedule}
 use Rattle.frontier_audit.specs.Solutions.{says_solves, says_sums, is_solution}
 
 solves_said : (v : Verdict) → says_solves v ≡ true → v ≡ verdict.Solves
@@ -62,7 +62,7 @@ module _ (q : QuestionValue) (p : PointValue) where
   by_achieving false a = by_solving q.topology (instance_for q p.candidate).pre (instance_for q p.candidate).post p.schedule p.candidate.s p.candidate.r a
 
   pub solved_by : HasSchedule q p → is_solution q p ≡ true → IsSolvedBy q p.candidate p.schedule
-  solved_by h e = record { valid = h.schedule; in_range = h.in_range; achieves = achieves_by h (reduces q.collective.kind) e }
+  solved_by h e = record { valid = h.schedule; in_range = h.in_range; achieves = achieves_by h (adds_up q.spec) e }
 
   pub by_solution : IsSolvedBy q p.candidate p.schedule → is_solution q p ≡ true
-  by_solution h = by_achieving (reduces q.collective.kind) h.achieves
+  by_solution h = by_achieving (adds_up q.spec) h.achieves

@@ -6,11 +6,12 @@ use Rattle.std.proofs.lemmas.Bool.{and_parts, eqb-true, eq-eqb, cases_eq, or_lef
 use Rattle.std.proofs.lemmas.List.Elements.{All-nil, All-cons, All-head, All-tail, All-contains}
 use Rattle.std.proofs.lemmas.List.Folds.{list_any-append, list_any_at, Any-from_list_any}
 use Rattle.collective_spec.specs.Kinds.{allows}
+use Rattle.collective_spec.specs.Collectives.{kind_in}
 use Rattle.candidate_order.specs.declared.candidate.Candidate.{Candidate}
 use Rattle.candidate_order.specs.Listed.{candidate_at}
 use Rattle.candidate_order.specs.Frontiers.{QuestionValue, IsWithin}
-use Rattle.frontier_report.specs.Tests.{is_before}
-use Rattle.round_encoding.proofs.Everywhere.{in_map, in_flat, From, in_range}
+use Rattle.report_form.specs.Tests.{is_before}
+use Rattle.send_encoding.proofs.Everywhere.{in_map, in_flat, From, in_range}
 use Rattle.frontier_audit.specs.Candidates.{same_candidate, is_listed, counts_of, candidates_of_step, put_in_order, in_search_order, candidates_within}
 use Rattle.frontier_audit.proofs.Proved.{both_true}
 
@@ -79,10 +80,10 @@ all_passing P p (c ∷ cs) a = chosen (p c) refl (all_passing P p cs (All-tail P
     chosen false e rest = rest
 
 abbrev IsCountOf : QuestionValue → ℕ → Type 0
-IsCountOf q c = From 1 q.limits.max_c c × (allows q.collective.kind q.topology.nodes c ≡ true)
+IsCountOf q c = From 1 q.limits.max_c c × (allows (kind_in q.spec) q.topology.nodes c ≡ true)
 
 counts_allowed : (q : QuestionValue) → All (IsCountOf q) (counts_of q)
-counts_allowed q = all_passing (From 1 q.limits.max_c) (allows q.collective.kind q.topology.nodes) (range_with_len 1 q.limits.max_c) (in_range 1 q.limits.max_c)
+counts_allowed q = all_passing (From 1 q.limits.max_c) (allows (kind_in q.spec) q.topology.nodes) (range_with_len 1 q.limits.max_c) (in_range 1 q.limits.max_c)
 
 pub step_within : (q : QuestionValue) (s : ℕ) → From 1 q.limits.max_s s → All (IsWithin q) (candidates_of_step q s)
 step_within q s step = in_flat (IsWithin q) (From s (q.limits.k + 1)) (λ r. map (λ c. candidate_at s (r, c)) (counts_of q)) (range_with_len s (q.limits.k + 1))
@@ -128,9 +129,9 @@ within_listed q x w =
     any_of_range p (λ s. in_search_order (candidates_of_step q s)) 1 q.limits.max_s x.s w.some_steps (omega (arith, w.steps))
     (any_ordered p (candidates_of_step q x.s)
     ∙ any_of_range p (λ r. map (λ c. candidate_at x.s (r, c)) (counts_of q)) x.s (q.limits.k + 1) x.r w.all_rounds (omega (arith, w.rounds))
-    (any_passing p (λ c. candidate_at x.s (x.r, c)) (allows q.collective.kind q.topology.nodes) 1 q.limits.max_c x.c (some_chunks w.allowed) (omega (arith, w.chunks)) w.allowed (same_itself x)))
+    (any_passing p (λ c. candidate_at x.s (x.r, c)) (allows (kind_in q.spec) q.topology.nodes) 1 q.limits.max_c x.c (some_chunks w.allowed) (omega (arith, w.chunks)) w.allowed (same_itself x)))
   where
-    some_chunks : allows q.collective.kind q.topology.nodes x.c ≡ true → 1 ≤ x.c
+    some_chunks : allows (kind_in q.spec) q.topology.nodes x.c ≡ true → 1 ≤ x.c
     some_chunks e = let parts = and_parts (nat_le 1 x.c) _ e in leb-true 1 x.c parts.0
 
 pub candidates_exactly : (q : QuestionValue) (x : Candidate) → Contains (candidates_within q) x ↔ IsWithin q x

@@ -8,8 +8,8 @@ use Rattle.outer_ports.specs.Files.{Files}
 use Rattle.candidate_order.specs.declared.candidate.Candidate.{Candidate}
 use Rattle.candidate_order.specs.Frontiers.{QuestionValue, PointValue, UnknownValue, FrontierValue, given_up}
 use Rattle.lrat_text.specs.Printing.{cnf_text}
-use Rattle.frontier_report.specs.Tests.{is_no_worse}
-use Rattle.frontier_report.specs.Reports.{ReportValue, question_of}
+use Rattle.report_form.specs.Tests.{is_no_worse}
+use Rattle.report_form.specs.Reports.{ReportValue, question_of}
 use Rattle.frontier_audit.specs.declared.verdict.AuditVerdict.{AuditVerdict}
 use Rattle.frontier_audit.specs.declared.verdict.Reason.TheVariants.{ScheduleWrong, MarkWrong, CandidateMissing, ProofMissing, ProofRefused, CnfDiffers, PartialRefused}
 use Rattle.frontier_audit.specs.Denials.{Denial, Checked, each, in_part, verdict_from}

@@ -2,10 +2,11 @@
 use Rattle.std.specs.Prelude.{◌+◌, ◌==◌, ◌&&◌, ℕ, Bool, if◌then◌else◌, List, [], ◌∷◌, map, filter}
 use Rattle.std.specs.List.{list_any, flat_map, range_with_len}
 use Rattle.collective_spec.specs.Kinds.{allows}
+use Rattle.collective_spec.specs.Collectives.{kind_in}
 use Rattle.candidate_order.specs.declared.candidate.Candidate.{Candidate}
 use Rattle.candidate_order.specs.Listed.{candidate_at}
 use Rattle.candidate_order.specs.Frontiers.{QuestionValue}
-use Rattle.frontier_report.specs.Tests.{is_before}
+use Rattle.report_form.specs.Tests.{is_before}
 
 abbrev pub same_candidate : Candidate → Candidate → Bool
 same_candidate a b = a.s == b.s && a.r == b.r && a.c == b.c
@@ -16,7 +17,7 @@ is_listed xs x = list_any (same_candidate x) xs
 
 -- the chunk counts that the limits and the collective allow
 abbrev pub counts_of : QuestionValue → List ℕ
-counts_of q = filter (allows q.collective.kind q.topology.nodes) (range_with_len 1 q.limits.max_c)
+counts_of q = filter (allows (kind_in q.spec) q.topology.nodes) (range_with_len 1 q.limits.max_c)
 
 -- the candidates of a step, by rounds and then by chunk count
 abbrev pub candidates_of_step : QuestionValue → ℕ → List Candidate

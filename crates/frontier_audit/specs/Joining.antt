@@ -16,7 +16,7 @@ use Rattle.candidate_order.specs.declared.mark.Mark.TheVariants as mark
 use Rattle.candidate_order.specs.Frontiers.{PointValue, FrontierValue}
 use Rattle.allreduce_join.specs.Joins.{join_of, pairs_of}
 use Rattle.allreduce_join.specs.Judging.{joined_verdict_of}
-use Rattle.frontier_report.specs.Reports.{ReportValue}
+use Rattle.report_form.specs.Reports.{ReportValue}
 use Rattle.frontier_audit.specs.declared.verdict.Reason.TheVariants.{JoinWrong}
 use Rattle.frontier_audit.specs.Denials.{Denial, Checked, in_part}
 use Rattle.frontier_audit.specs.Candidates.{same_candidate}

@@ -7,14 +7,15 @@ use Rattle.lrat_checker.specs.declared.verdict.LineVerdict.{LineVerdict}
 use Rattle.lrat_checker.specs.declared.verdict.LineVerdict.TheVariants.{Accepted, Refused}
 use Rattle.lrat_checker.specs.Held.{CheckerValue, start_of}
 use Rattle.lrat_checker.specs.Judging.{verdict_of}
-use Rattle.lrat_checker.specs.Refuting.{verdict_on, with_accepted, with_line, is_fresh}
+use Rattle.lrat_checker.specs.Refuting.{verdict_on, with_accepted, with_line, is_accepted, is_fresh}
 use Rattle.lrat_text.specs.declared.fault.LratTextFault.{LratTextFault}
 use Rattle.frontier_audit.specs.Proofs.{lines_of_text}
 use Rattle.frontier_audit.specs.Shelves.{longest_proof}
 
-abbrev pub is_accepted : LineVerdict → Bool
-is_accepted Accepted = true
-is_accepted (Refused code hint) = false
+-- an addition that follows from what is held
+abbrev pub is_implied : LineVerdict → Bool
+is_implied (Accepted implied) = implied
+is_implied (Refused code hint) = false
 
 -- the checker after these lines, where each is accepted in its turn
 abbrev pub checker_after : CheckerValue → List LratLine → Option CheckerValue
@@ -34,11 +35,11 @@ do_refute f (Ok lines) = is_refuted (checker_after (start_of f) lines)
 abbrev pub is_refutation : FormulaValue → List ℕ → Bool
 is_refutation f bytes = nat_le (length bytes) longest_proof && do_refute f (lines_of_text bytes)
 
--- each line is an addition that is accepted and fresh in its turn
+-- each line is an addition that is implied and fresh in its turn
 abbrev pub are_learned : CheckerValue → List LratLine → Bool
 are_learned c [] = true
 are_learned c (Deletion deletion ∷ lines) = false
-are_learned c (Addition line ∷ lines) = is_accepted (verdict_of c line) && is_fresh c line.lits && are_learned (with_line c line) lines
+are_learned c (Addition line ∷ lines) = is_implied (verdict_of c line) && is_fresh c line.lits && are_learned (with_line c line) lines
 
 -- so many lines are a spent log of the formula
 abbrev pub do_spend : FormulaValue → ℕ → Result (List LratLine) LratTextFault → Bool

@@ -7,16 +7,19 @@ use Rattle.outer_ports.specs.declared.proof_name.FileKind.TheVariants.{Cnf, Lrat
 use Rattle.outer_ports.specs.declared.proof_name.ProofName.{ProofName}
 use Rattle.outer_ports.specs.Files.{Files}
 use Rattle.schedule.specs.declared.hop.Hop.{Hop}
+use Rattle.schedule.specs.Placed.{PlacementValue}
 use Rattle.schedule.specs.Rows.{send}
 use Rattle.candidate_order.specs.declared.candidate.Candidate.{Candidate}
 use Rattle.candidate_order.specs.declared.mark.Mark.{Mark}
+use Rattle.candidate_order.specs.declared.mark.Mark.TheVariants.{Optimal}
 use Rattle.candidate_order.specs.Frontiers.{PointValue, UnknownValue}
 use Rattle.collective_spec.specs.declared.kind.Kind.{Kind}
+use Rattle.collective_spec.specs.declared.kind.Kind.TheVariants.{Custom}
 use Rattle.topology_text.specs.declared.family_kind.FamilyKind.TheVariants.{Ring}
 use Rattle.topology_text.specs.Family.{family_of}
 use Rattle.topology_text.specs.Value.{NamedTopologyValue}
-use Rattle.frontier_report.specs.Reports.{WordsValue, ReportValue}
-use Rattle.frontier_report.specs.Rows.{point, relay_report, allreduce_report}
+use Rattle.report_form.specs.Reports.{WordsValue, ReportValue}
+use Rattle.report_form.specs.Rows.{point, relay_report, allreduce_report}
 use Rattle.frontier_audit.specs.Shelves.{file_of}
 
 abbrev pub part_number : Part → ℕ
@@ -84,3 +87,22 @@ joined_sends = send 0 1 0 1 ∷ send 1 0 1 1 ∷ send 0 0 1 2 ∷ send 1 1 0 2 �
 -- the allreduce's report with other joined points
 abbrev pub allreduce : List PointValue → ReportValue
 allreduce joined = record allreduce_report { joined = joined }
+
+-- two nodes, a link of width 2 from the first to the second, and the one chunk that is to go over it
+abbrev pub wide_link : NamedTopologyValue
+wide_link =
+    let at : ℕ → PlacementValue = λ node. record { chunks = 1; nodes = 2; pairs = (0, node) ∷ [] } in
+    record {
+      names = codes "n0" ∷ codes "n1" ∷ [];
+      topology = record { nodes = 2; groups = record { links = (0, 1) ∷ []; width = 2 } ∷ [] };
+      custom = Some (record { base = 1; before = at 0; after = at 1 });
+    }
+
+-- one point of two copies, in one step, with these sends
+abbrev pub two_copies : List Hop → ReportValue
+two_copies sends = record {
+  words = words Custom 0 1 2;
+  topology = wide_link;
+  frontiers = (Whole, record { points = record { candidate = sized 1 1 2; schedule = record { rounds = 1 ∷ []; sends = sends }; mark = Optimal } ∷ []; refuted = []; unknown = [] }) ∷ [];
+  joined = [];
+}

@@ -6,7 +6,7 @@ use Rattle.outer_ports.specs.declared.proof_name.FileKind.TheVariants.{Cnf, Lrat
 use Rattle.outer_ports.specs.declared.proof_name.ProofName.{ProofName}
 use Rattle.outer_ports.specs.Files.{Files}
 use Rattle.schedule.specs.Links.{TopologyValue, reversed_of}
-use Rattle.collective_spec.specs.Collectives.{instance_of, reduces}
+use Rattle.collective_spec.specs.Collectives.{spec_instance, adds_up}
 use Rattle.candidate_order.specs.declared.candidate.Candidate.{Candidate}
 use Rattle.candidate_order.specs.Frontiers.{QuestionValue, UnknownValue, FrontierValue}
 use Rattle.cnf_formula.specs.Formulas.{FormulaValue}
@@ -16,7 +16,7 @@ use Rattle.cnf_formula.specs.declared.line.LratLine.TheVariants.{Addition}
 use Rattle.lrat_checker.specs.Refuting.{Refutes, SpentLog}
 use Rattle.lrat_text.specs.Printing.{cnf_text}
 use Rattle.round_encoding.specs.Rounding.{formula_of}
-use Rattle.frontier_report.specs.Reports.{ReportValue, question_of}
+use Rattle.report_form.specs.Reports.{ReportValue, question_of}
 use Rattle.frontier_audit.specs.Proofs.{lines_of_text}
 
 -- the name of a candidate's file
@@ -25,10 +25,10 @@ file_of kind part x = record { kind = kind; part = part; s = x.s; r = x.r; c = x
 
 -- a reduction is sought as the copying collective of which it is the inverse, over the links turned round
 abbrev pub searched_on : QuestionValue → TopologyValue
-searched_on q = if reduces q.collective.kind then reversed_of q.topology else q.topology
+searched_on q = if adds_up q.spec then reversed_of q.topology else q.topology
 
 abbrev pub formula_for : QuestionValue → Candidate → FormulaValue
-formula_for q x = let i = instance_of q.collective q.topology.nodes x.c in formula_of (searched_on q) i.pre i.post x.s x.r
+formula_for q x = let i = spec_instance q.spec q.topology.nodes x.c in formula_of (searched_on q) i.pre i.post x.s x.r
 
 -- the bytes that a file of proof lines has at most
 abbrev pub longest_proof : ℕ

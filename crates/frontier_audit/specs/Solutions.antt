@@ -7,12 +7,12 @@ use Rattle.schedule.specs.Judging.{verdict_of}
 use Rattle.inversion.specs.declared.verdict.SumVerdict.{SumVerdict}
 use Rattle.inversion.specs.declared.verdict.SumVerdict.TheVariants as sums
 use Rattle.inversion.specs.Judging.{sum_verdict_of}
-use Rattle.collective_spec.specs.Collectives.{instance_of, demand_of, reduces}
+use Rattle.collective_spec.specs.Collectives.{spec_instance, spec_demand, adds_up}
 use Rattle.candidate_order.specs.declared.candidate.Candidate.{Candidate}
 use Rattle.candidate_order.specs.declared.mark.Mark.{Mark}
 use Rattle.candidate_order.specs.declared.mark.Mark.TheVariants as mark
 use Rattle.candidate_order.specs.Frontiers.{QuestionValue, PointValue, FrontierValue}
-use Rattle.frontier_report.specs.Tests.{is_better}
+use Rattle.report_form.specs.Tests.{is_better}
 use Rattle.frontier_audit.specs.Candidates.{is_listed, candidates_within}
 
 abbrev pub says_solves : Verdict → Bool
@@ -26,9 +26,9 @@ says_sums _ = false
 -- the schedule solves the collective's instance, or for a reduction sums what it demands
 abbrev pub is_solution : QuestionValue → PointValue → Bool
 is_solution q p =
-    let i = instance_of q.collective q.topology.nodes p.candidate.c in
-    let demand = demand_of q.collective q.topology.nodes p.candidate.c in
-    if reduces q.collective.kind then says_sums (sum_verdict_of q.topology demand p.schedule) else says_solves (verdict_of q.topology i.pre i.post p.schedule)
+    let i = spec_instance q.spec q.topology.nodes p.candidate.c in
+    let demand = spec_demand q.spec q.topology.nodes p.candidate.c in
+    if adds_up q.spec then says_sums (sum_verdict_of q.topology demand p.schedule) else says_solves (verdict_of q.topology i.pre i.post p.schedule)
 
 -- every better candidate within the limits is refuted
 abbrev pub is_optimal : QuestionValue → FrontierValue → Candidate → Bool

@@ -1,12 +1,14 @@
 //! What a right shelf says, and what an audit does.
 
-ghost use Rattle.std.specs.Prelude.{◌≡◌, ◌↔◌, None, All, AllPairs, Contains};
+ghost use Rattle.std.specs.Prelude.{◌≡◌, ◌↔◌, true, false, List, None, All, AllPairs, Contains};
 ghost use Rattle.outer_ports.specs.Files.{Files};
 ghost use Rattle.cnf_formula.specs.Formulas.{Satisfiable};
+ghost use Rattle.schedule.specs.Sends.{hop_before};
+ghost use Rattle.collective_spec.specs.Collectives.{adds_up};
 ghost use Rattle.candidate_order.specs.Costs.{Before};
 ghost use Rattle.candidate_order.specs.Frontiers.{QuestionValue, FrontierValue, UnknownValue, IsWithin, IsSolvable, RightFrontier};
 ghost use Rattle.allreduce_join.specs.Joins.{Joins};
-ghost use Rattle.frontier_report.specs.Reports.{ReportValue, IsReport, question_of};
+ghost use Rattle.report_form.specs.Reports.{ReportValue, IsReport, question_of};
 ghost use Rattle.frontier_audit.specs.Shelves.{file_of, formula_for, ShelfRight};
 ghost use Rattle.frontier_audit.specs.Candidates.{candidates_within};
 ghost use Rattle.frontier_audit.specs.Joining.{is_reduce, is_gather, points_of};
@@ -16,6 +18,7 @@ use crate::verdict::AuditVerdict;
 use candidate_order::Candidate;
 use collective_spec::Kind;
 use outer_ports::{FileKind, Part};
+use schedule::Hop;
 
 /// A shelf that lacks a refuted candidate's formula or its proof is not right.
 pub fn refuted_has_files()
@@ -44,6 +47,13 @@ pub fn candidates_are_those_within()
     ensures order { (q : QuestionValue) → AllPairs Before (candidates_within q) }
 {}
 
+/// Two lists in the order of the search that have the same candidates are one list, and so are two lists of sends in their
+/// order that have the same sends.
+pub fn ascending_lists_are_told_by_their_members()
+    ensures candidates { (xs ys : List Candidate) → AllPairs Before xs → AllPairs Before ys → ((x : Candidate) → Contains xs x ↔ Contains ys x) → xs ≡ ys }
+    ensures sends { (xs ys : List Hop) → AllPairs (λ a b. hop_before a b ≡ true) xs → AllPairs (λ a b. hop_before a b ≡ true) ys → ((h : Hop) → Contains xs h ↔ Contains ys h) → xs ≡ ys }
+{}
+
 /// Where an audit finds nothing to deny, each frontier is right, as far as its refuted candidates have no solution, and the
 /// joined points of an allreduce are the joins of its parts.
 pub fn verified_is_right()
@@ -51,6 +61,18 @@ pub fn verified_is_right()
         → All (λ x. IsSolvable (question_of r.words r.topology part) x → ⊥) f.refuted → RightFrontier (question_of r.words r.topology part) f }
     ensures joins { (r : ReportValue) (files : Files) → IsReport r → audit_of r files ≡ AuditVerdict.Verified → r.words.collective.kind ≡ Kind.Allreduce
         → Joins r.topology.topology (points_of is_reduce r.frontiers) (points_of is_gather r.frontiers) r.joined }
+{}
+
+/// On a right shelf no refuted candidate of a part that copies has a schedule.
+pub fn refuted_has_no_schedule()
+    ensures { (r : ReportValue) (files : Files) (part : Part) (f : FrontierValue) (x : Candidate) → IsReport r → ShelfRight r files → Contains r.frontiers (part, f) → Contains f.refuted x
+        → adds_up (question_of r.words r.topology part).spec ≡ false → IsSolvable (question_of r.words r.topology part) x → ⊥ }
+{}
+
+/// Where an audit finds nothing to deny, each frontier of a part that copies is right.
+pub fn verified_copies_are_right()
+    ensures { (r : ReportValue) (files : Files) → IsReport r → audit_of r files ≡ AuditVerdict.Verified → (part : Part) (f : FrontierValue) → Contains r.frontiers (part, f)
+        → adds_up (question_of r.words r.topology part).spec ≡ false → RightFrontier (question_of r.words r.topology part) f }
 {}
 
 /// A report with right frontiers, a right shelf and the joins of its parts is verified.

@@ -6,11 +6,12 @@ mod vectors;
 mod verdict;
 
 pub use laws::{
-    candidates_are_those_within, refuted_has_files, refuted_is_unsatisfiable, right_is_verified,
-    unknown_has_a_log, verified_is_right, verified_shelf_is_right,
+    ascending_lists_are_told_by_their_members, candidates_are_those_within, refuted_has_files,
+    refuted_has_no_schedule, refuted_is_unsatisfiable, right_is_verified, unknown_has_a_log,
+    verified_copies_are_right, verified_is_right, verified_shelf_is_right,
 };
 pub use vectors::{
-    allreduce_audited, altered_files_audited, candidates, formula_of_one_step, lines,
-    order_of_audit, relay_audited, unknown_audited,
+    allreduce_audited, altered_files_audited, candidates, copies_audited, formula_of_one_step,
+    lines, order_of_audit, relay_audited, unknown_audited,
 };
 pub use verdict::{AuditFault, AuditVerdict, Reason};

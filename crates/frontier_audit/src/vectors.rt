@@ -4,13 +4,13 @@ ghost use Rattle.std.specs.Prelude.{◌≡◌, [], ◌∷◌, ◌++◌, Ok, Err,
 ghost use Rattle.schedule.specs.Rows.{send};
 ghost use Rattle.cnf_formula.specs.Literals.{yes};
 ghost use Rattle.lrat_text.specs.Printing.{cnf_text};
-ghost use Rattle.frontier_report.specs.Reports.{question_of};
-ghost use Rattle.frontier_report.specs.Rows.{point, relay_report, allreduce_report};
+ghost use Rattle.report_form.specs.Reports.{question_of};
+ghost use Rattle.report_form.specs.Rows.{point, relay_report, allreduce_report};
 ghost use Rattle.frontier_audit.specs.Proofs.{lines_of_text};
 ghost use Rattle.frontier_audit.specs.Shelves.{file_of, formula_for};
 ghost use Rattle.frontier_audit.specs.Candidates.{candidates_within};
 ghost use Rattle.frontier_audit.specs.Auditing.{audit_of};
-ghost use Rattle.frontier_audit.specs.Rows.{shelf, one_step, rest_of_one_step, cnf_of_one_step, proof_of_one_step, beside_one_step, log_of_one_step, sized, words, four_nodes, relay, joined_sends, allreduce};
+ghost use Rattle.frontier_audit.specs.Rows.{shelf, one_step, rest_of_one_step, cnf_of_one_step, proof_of_one_step, beside_one_step, log_of_one_step, sized, words, four_nodes, relay, joined_sends, allreduce, wide_link, two_copies};
 
 use crate::verdict::{AuditVerdict, Reason};
 use candidate_order::Mark;
@@ -55,16 +55,19 @@ pub fn candidates()
 {}
 
 /// The candidate of one step left unknown: its log has to stand there, and has to have as many lines as it was given
-/// conflicts, each with a literal and none that says no more than a held clause. One line is the log of one conflict.
+/// conflicts, each implied by what is held, with a literal, and none that says no more than a held clause. One line is the
+/// log of one conflict.
 pub fn unknown_audited()
     ensures log_lacks { audit_of (relay Mark.Open (send 0 1 2 2) [] (record { candidate = one_step; conflicts = 1000 } ∷ [])) (beside_one_step cnf_of_one_step proof_of_one_step) ≡ AuditVerdict.Denied Reason.ProofMissing Part.Whole one_step }
     ensures log_refutes { audit_of (relay Mark.Open (send 0 1 2 2) [] (record { candidate = one_step; conflicts = 1000 } ∷ [])) (log_of_one_step proof_of_one_step) ≡ AuditVerdict.Denied Reason.PartialRefused Part.Whole one_step }
     ensures log_short { audit_of (relay Mark.Open (send 0 1 2 2) [] (record { candidate = one_step; conflicts = 1000 } ∷ [])) (log_of_one_step (codes "34 -1 0 2 3 9 16 24 0\n")) ≡ AuditVerdict.Denied Reason.PartialRefused Part.Whole one_step }
     ensures log_stale { audit_of (relay Mark.Open (send 0 1 2 2) [] (record { candidate = one_step; conflicts = 1 } ∷ [])) (log_of_one_step (codes "34 1 0 2 3 9 16 24 0\n")) ≡ AuditVerdict.Denied Reason.PartialRefused Part.Whole one_step }
+    ensures log_redundant { audit_of (relay Mark.Open (send 0 1 2 2) [] (record { candidate = one_step; conflicts = 1 } ∷ [])) (log_of_one_step (codes "34 17 0 0\n")) ≡ AuditVerdict.Denied Reason.PartialRefused Part.Whole one_step }
     ensures verified { audit_of (relay Mark.Open (send 0 1 2 2) [] (record { candidate = one_step; conflicts = 1 } ∷ [])) (log_of_one_step (codes "34 -1 0 2 3 9 16 24 0\n")) ≡ AuditVerdict.Verified }
 {}
 
-/// Proofs by hand, cut off or altered, and a formula with one byte too many.
+/// Proofs by hand, cut off or altered, one with a line that is not implied but redundant, and a formula with one byte too
+/// many.
 pub fn altered_files_audited()
     ensures by_hand { audit_of relay_report (beside_one_step cnf_of_one_step (codes "c by hand\n34  0 2 3 9 16 24 0\r\n")) ≡ AuditVerdict.Verified }
     ensures deleted_after { audit_of relay_report (beside_one_step cnf_of_one_step (codes "34 0 2 3 9 16 24 0\n35 d 1 0\n")) ≡ AuditVerdict.Verified }
@@ -75,6 +78,7 @@ pub fn altered_files_audited()
     ensures zero_twice { audit_of relay_report (beside_one_step cnf_of_one_step (codes "34 0 2 3 9 16 24 0 0\n")) ≡ AuditVerdict.Denied Reason.ProofRefused Part.Whole one_step }
     ensures negative { audit_of relay_report (beside_one_step cnf_of_one_step (codes "34 0 2 3 9 16 -24 0\n")) ≡ AuditVerdict.Denied Reason.ProofRefused Part.Whole one_step }
     ensures bad_line_later { audit_of relay_report (beside_one_step cnf_of_one_step (codes "34 0 2 3 9 16 24 0\nx\n")) ≡ AuditVerdict.Denied Reason.ProofRefused Part.Whole one_step }
+    ensures redundant_line { audit_of relay_report (beside_one_step cnf_of_one_step (codes "34 17 0 0\n35 0 2 3 9 16 24 0\n")) ≡ AuditVerdict.Verified }
     ensures formula_longer { audit_of relay_report (beside_one_step (cnf_of_one_step ++ codes "\n") proof_of_one_step) ≡ AuditVerdict.Denied Reason.CnfDiffers Part.Whole one_step }
 {}
 
@@ -84,6 +88,13 @@ pub fn allreduce_audited()
     ensures join_lacks { audit_of (allreduce []) (shelf []) ≡ AuditVerdict.Denied Reason.JoinWrong Part.Joined (sized 2 2 1) }
     ensures join_differs { audit_of (allreduce (point 2 3 (Mark.Joined 1) (2 ∷ 1 ∷ []) joined_sends ∷ [])) (shelf []) ≡ AuditVerdict.Denied Reason.JoinWrong Part.Joined (sized 2 2 1) }
     ensures surplus { audit_of (allreduce (point 2 2 (Mark.Joined 1) (1 ∷ 1 ∷ []) joined_sends ∷ point 3 3 (Mark.Joined 1) (1 ∷ 1 ∷ 1 ∷ []) joined_sends ∷ [])) (shelf []) ≡ AuditVerdict.Denied Reason.JoinWrong Part.Joined (sized 3 3 1) }
+{}
+
+/// A pattern of one chunk: at the chunk count 2 both copies have to arrive, and the candidate of one copy costs no less.
+pub fn copies_audited()
+    ensures verified { audit_of (two_copies (send 0 0 1 1 ∷ send 1 0 1 1 ∷ [])) (shelf []) ≡ AuditVerdict.Verified }
+    ensures one_lacks { audit_of (two_copies (send 0 0 1 1 ∷ [])) (shelf []) ≡ AuditVerdict.Denied Reason.ScheduleWrong Part.Whole (sized 1 1 2) }
+    ensures candidates { candidates_within (question_of (words Kind.Custom 0 1 2) wide_link Part.Whole) ≡ sized 1 1 2 ∷ sized 1 1 1 ∷ [] }
 {}
 
 /// Where several checks fail, the first counts: schedules come before files, files before candidates and marks, and a

@@ -38,6 +38,10 @@ pub returns-clause-bad_line_later : goal.returns-clause-bad_line_later
 unfolding digits
 returns-clause-bad_line_later c = refl
 
+pub returns-clause-redundant_line : goal.returns-clause-redundant_line
+unfolding digits
+returns-clause-redundant_line c = refl
+
 pub returns-clause-formula_longer : goal.returns-clause-formula_longer
 unfolding digits
 returns-clause-formula_longer c = refl

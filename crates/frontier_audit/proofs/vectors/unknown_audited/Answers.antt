@@ -18,6 +18,10 @@ pub returns-clause-log_stale : goal.returns-clause-log_stale
 unfolding digits
 returns-clause-log_stale c = refl
 
+pub returns-clause-log_redundant : goal.returns-clause-log_redundant
+unfolding digits
+returns-clause-log_redundant c = refl
+
 pub returns-clause-verified : goal.returns-clause-verified
 unfolding digits
 returns-clause-verified c = refl

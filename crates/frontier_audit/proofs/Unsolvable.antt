@@ -1,0 +1,148 @@
+-- A refuted candidate of a collective that copies has no schedule, since its formula is satisfiable where it has one.
+use Rattle.std.proofs.Common.{◌≡◌, ℕ, ◌<◌, ◌≤◌, true, false, [], ◌∷◌, get_or, Option, None, Some, refl, sym, ap, ◌∙◌, subst, arith}
+use Rattle.std.specs.Prelude.{All, Contains, if◌then◌else◌}
+use Rattle.std.proofs.Math.Nat.{mul-pos}
+use Rattle.std.proofs.lemmas.Nat.{mul-le}
+use Rattle.std.proofs.lemmas.List.Elements.{All-nil, All-cons, All-contains, All-contains_itself}
+use Rattle.outer_ports.specs.declared.part.Part.{Part}
+use Rattle.outer_ports.specs.declared.part.Part.TheVariants as part
+use Rattle.outer_ports.specs.Files.{Files}
+use Rattle.schedule.specs.Links.{TopologyValue, reversed_of}
+use Rattle.collective_spec.specs.declared.kind.Kind.{Kind}
+use Rattle.collective_spec.specs.declared.kind.Kind.TheVariants as kind
+use Rattle.collective_spec.specs.declared.spec.Spec.{Spec}
+use Rattle.collective_spec.specs.declared.spec.Spec.TheVariants as spec
+use Rattle.collective_spec.specs.Kinds.{is_custom}
+use Rattle.collective_spec.specs.Patterns.{PatternValue}
+use Rattle.collective_spec.specs.Collectives.{IsSpec, chunks_of, chunks_in, adds_up, fits_kind}
+use Rattle.collective_spec.proofs.Sized.{before_among, after_among, fitting_spec}
+use Rattle.candidate_order.specs.declared.candidate.Candidate.{Candidate}
+use Rattle.candidate_order.specs.Frontiers.{QuestionValue, FrontierValue, IsWithin, Achievable, IsSolvable, RightFrontier, instance_for}
+use Rattle.round_encoding.specs.Candidates.{IsCandidate}
+use Rattle.round_encoding.specs.Rounding.{formula_of}
+use Rattle.round_encoding.proofs.Exactly.{exactly}
+use Rattle.cnf_formula.specs.Formulas.{Satisfiable}
+use Rattle.report_form.specs.Reports.{ReportValue, IsReport, IsFrontier, parts_of, kind_of, question_of}
+use Rattle.report_form.proofs.ListsTaken.{has_chunk}
+use Rattle.frontier_audit.specs.declared.verdict.AuditVerdict.TheVariants.{Verified}
+use Rattle.frontier_audit.specs.Shelves.{ShelfRight, formula_for}
+use Rattle.frontier_audit.specs.Auditing.{audit_of}
+use Rattle.frontier_audit.proofs.Shelves.{unsatisfiable}
+use Rattle.frontier_audit.proofs.Audited.{shelf_right}
+use Rattle.frontier_audit.proofs.Right.{of_mapped, verified_right}
+
+-- ---- the number of all chunks
+
+standard_some : (k : Kind) (nodes c : ℕ) → is_custom k ≡ false → 0 < nodes → 0 < c → 0 < chunks_of k nodes c
+standard_some kind.Broadcast nodes c standard some one = one
+standard_some kind.Reduce nodes c standard some one = one
+standard_some kind.Gather nodes c standard some one = mul-pos some one
+standard_some kind.Allgather nodes c standard some one = mul-pos some one
+standard_some kind.Scatter nodes c standard some one = mul-pos some one
+standard_some kind.Alltoall nodes c standard some one = mul-pos some one
+standard_some kind.Reducescatter nodes c standard some one = mul-pos some one
+standard_some kind.Allreduce nodes c standard some one = mul-pos some one
+standard_some kind.Custom nodes c standard some one = absurd (cc)
+
+standard_few : (k : Kind) (nodes c : ℕ) → nodes ≤ 16 → c ≤ 16 → chunks_of k nodes c ≤ 256
+standard_few kind.Broadcast nodes c few small = omega (arith, small)
+standard_few kind.Reduce nodes c few small = omega (arith, small)
+standard_few kind.Gather nodes c few small = mul-le nodes c 16 16 few small
+standard_few kind.Allgather nodes c few small = mul-le nodes c 16 16 few small
+standard_few kind.Scatter nodes c few small = mul-le nodes c 16 16 few small
+standard_few kind.Alltoall nodes c few small = mul-le nodes c 16 16 few small
+standard_few kind.Reducescatter nodes c few small = mul-le nodes c 16 16 few small
+standard_few kind.Allreduce nodes c few small = mul-le nodes c 16 16 few small
+standard_few kind.Custom nodes c few small = omega arith
+
+chunks_some : (s : Spec) (nodes c : ℕ) → IsSpec nodes s → 0 < nodes → 0 < c → 0 < chunks_in s nodes c
+chunks_some (spec.Standard collective) nodes c is some one = standard_some collective.kind nodes c is.0 some one
+chunks_some (spec.Custom p) nodes c is some one = mul-pos (let base = is.some in omega (arith, base)) one
+
+chunks_few : (s : Spec) (nodes c : ℕ) → IsSpec nodes s → nodes ≤ 16 → c ≤ 16 → chunks_in s nodes c ≤ 256
+chunks_few (spec.Standard collective) nodes c is few small = standard_few collective.kind nodes c few small
+chunks_few (spec.Custom p) nodes c is few small = mul-le p.base c 16 16 is.few small
+
+-- ---- the spec of a part
+
+-- a part has a pattern where the whole has one
+parts_fit : (k : Kind) (c : Option PatternValue) → fits_kind k c ≡ true → All (λ x. fits_kind (kind_of k x) c ≡ true) (parts_of k)
+parts_fit kind.Broadcast c e = All-cons (λ x. fits_kind (kind_of kind.Broadcast x) c ≡ true) part.Whole [] e (All-nil (λ x. fits_kind (kind_of kind.Broadcast x) c ≡ true))
+parts_fit kind.Gather c e = All-cons (λ x. fits_kind (kind_of kind.Gather x) c ≡ true) part.Whole [] e (All-nil (λ x. fits_kind (kind_of kind.Gather x) c ≡ true))
+parts_fit kind.Allgather c e = All-cons (λ x. fits_kind (kind_of kind.Allgather x) c ≡ true) part.Whole [] e (All-nil (λ x. fits_kind (kind_of kind.Allgather x) c ≡ true))
+parts_fit kind.Scatter c e = All-cons (λ x. fits_kind (kind_of kind.Scatter x) c ≡ true) part.Whole [] e (All-nil (λ x. fits_kind (kind_of kind.Scatter x) c ≡ true))
+parts_fit kind.Alltoall c e = All-cons (λ x. fits_kind (kind_of kind.Alltoall x) c ≡ true) part.Whole [] e (All-nil (λ x. fits_kind (kind_of kind.Alltoall x) c ≡ true))
+parts_fit kind.Reduce c e = All-cons (λ x. fits_kind (kind_of kind.Reduce x) c ≡ true) part.Whole [] e (All-nil (λ x. fits_kind (kind_of kind.Reduce x) c ≡ true))
+parts_fit kind.Reducescatter c e = All-cons (λ x. fits_kind (kind_of kind.Reducescatter x) c ≡ true) part.Whole [] e (All-nil (λ x. fits_kind (kind_of kind.Reducescatter x) c ≡ true))
+parts_fit kind.Custom c e = All-cons (λ x. fits_kind (kind_of kind.Custom x) c ≡ true) part.Whole [] e (All-nil (λ x. fits_kind (kind_of kind.Custom x) c ≡ true))
+parts_fit kind.Allreduce None e =
+    All-cons (λ x. fits_kind (kind_of kind.Allreduce x) None ≡ true) part.Reduce (part.Gather ∷ []) refl
+    (All-cons (λ x. fits_kind (kind_of kind.Allreduce x) None ≡ true) part.Gather [] refl (All-nil (λ x. fits_kind (kind_of kind.Allreduce x) None ≡ true)))
+parts_fit kind.Allreduce (Some p) e = absurd (cc)
+
+abbrev question : ReportValue → Part → QuestionValue
+question r part = question_of r.words r.topology part
+
+spec_is : (r : ReportValue) (part : Part) (f : FrontierValue) → IsReport r → Contains r.frontiers (part, f) → IsSpec r.topology.topology.nodes (question r part).spec
+spec_is r part f ok at =
+    let k : Kind = r.words.collective.kind in
+    let F : Part → Type 0 = λ x. fits_kind (kind_of k x) r.topology.custom ≡ true in
+    let each = of_mapped F (λ x. x.0) r.frontiers (subst (λ ps. All F ps) (sym ok.parts) (parts_fit k r.topology.custom ok.pattern)) in
+    let fits = All-contains (λ x. F x.0) r.frontiers (part, f) each at in
+    let root = ok.words.root in
+    let many = ok.topology.as_many in
+    fitting_spec r.topology.topology.nodes (record { kind = kind_of k part; root = r.words.collective.root }) r.topology.custom fits (omega (arith, root, many)) ok.topology.custom
+
+-- ---- the candidate of a formula
+
+candidate_is : (r : ReportValue) (part : Part) (f : FrontierValue) (x : Candidate) → IsReport r → Contains r.frontiers (part, f) → IsWithin (question r part) x
+    → IsCandidate r.topology.topology (instance_for (question r part) x).pre (instance_for (question r part) x).post x.s x.r
+candidate_is r part f x ok at w =
+    let t : TopologyValue = r.topology.topology in
+    let s : Spec = (question r part).spec in
+    let is = spec_is r part f ok at in
+    let before = before_among s t.nodes x.c in
+    let after = after_among s t.nodes x.c in
+    let limits = ok.words.limits in
+    let topology = ok.topology.topology in
+    let counted = before.of_chunks in
+    let least = has_chunk (question r part) x w in
+    let one : 0 < x.c = omega (arith, least) in
+    let some = chunks_some s t.nodes x.c is topology.some one in
+    let few = chunks_few s t.nodes x.c is topology.few (let c = w.chunks in let most = limits.chunks in omega (arith, c, most)) in
+    let steps = w.some_steps in
+    let most_steps = w.steps in
+    let rounds = w.rounds in
+    let max_s = limits.steps in
+    let max_k = limits.k in
+    record {
+      topology = topology;
+      wanted = after.placement;
+      nodes = before.of_nodes;
+      nodes_wanted = after.of_nodes ∙ sym before.of_nodes;
+      chunks = omega (arith, counted, some);
+      few_chunks = omega (arith, counted, few);
+      chunks_wanted = after.of_chunks ∙ sym before.of_chunks;
+      some = omega (arith, steps);
+      few = omega (arith, most_steps, max_s);
+      least = w.all_rounds;
+      most = omega (arith, rounds, max_k);
+    }
+
+-- ---- refuted candidates
+
+-- a collective that copies is sought over its own links
+copied_formula : (q : QuestionValue) (x : Candidate) → adds_up q.spec ≡ false → formula_for q x ≡ formula_of q.topology (instance_for q x).pre (instance_for q x).post x.s x.r
+copied_formula q x e = ap (λ b. formula_of (if b then reversed_of q.topology else q.topology) (instance_for q x).pre (instance_for q x).post x.s x.r) e
+
+pub no_schedule : (r : ReportValue) (files : Files) (part : Part) (f : FrontierValue) (x : Candidate) → IsReport r → ShelfRight r files → Contains r.frontiers (part, f) → Contains f.refuted x → adds_up (question r part).spec ≡ false → IsSolvable (question r part) x → ⊥
+no_schedule r files part f x ok shelf at of copies solvable =
+    let q = question r part in
+    let frontier = All-contains (λ y. IsFrontier (question_of r.words r.topology y.0) y.1) r.frontiers (part, f) ok.frontiers at in
+    let within = All-contains (IsWithin q) f.refuted x frontier.refuted of in
+    let own = subst (λ b. Achievable b q x) copies solvable in
+    let some = (exactly q.topology (instance_for q x).pre (instance_for q x).post x.s x.r (candidate_is r part f x ok at within)).1 own in
+    unsatisfiable r files part f x shelf at of (subst Satisfiable (sym (copied_formula q x copies)) some)
+
+pub verified_copies : (r : ReportValue) (files : Files) → IsReport r → audit_of r files ≡ Verified → (part : Part) (f : FrontierValue) → Contains r.frontiers (part, f) → adds_up (question r part).spec ≡ false → RightFrontier (question r part) f
+verified_copies r files ok e part f at copies = verified_right r files ok e part f at (λ k d low. no_schedule r files part f (get_or f.refuted k d) ok (shelf_right r files ok e) at (All-contains_itself f.refuted k d low) copies)
