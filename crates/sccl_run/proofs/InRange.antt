@@ -1,24 +1,15 @@
 -- What a replay names is there to be named.
-use Rattle.std.proofs.Common.{◌≡◌, ℕ, zero, suc, ◌+◌, ◌<◌, Bool, true, false, if◌then◌else◌, List, [], ◌∷◌, length, filter, find, not, All, get_or, Option, None, Some, IfSome, ltb, ◌&&◌, refl, ap, subst, ◌∙◌}
+use Rattle.std.proofs.Common.{◌≡◌, ℕ, zero, suc, ◌+◌, ◌<◌, Bool, true, false, if◌then◌else◌, List, [], ◌∷◌, length, filter, find, not, All, get_or, Option, None, Some, IfSome, ltb, ◌&&◌, refl, ◌∙◌}
 use Rattle.std.specs.List.{AllByRecursion, range_with_len}
 use Rattle.std.proofs.lemmas.Bool.{and_parts, ltb-true}
 use Rattle.std.proofs.lemmas.List.Elements.{All-map, All-from_recursion, recursion_from_All}
 use Rattle.schedule.specs.declared.hop.Hop.{Hop}
-use Rattle.schedule.specs.declared.verdict.Verdict.{Verdict}
 use Rattle.schedule.specs.Links.{TopologyValue, is_usable}
 use Rattle.schedule.specs.Sends.{ScheduleValue, IsInRange, is_hop_below, link_of}
-use Rattle.schedule.specs.Placed.{PlacementValue, holds, all_pairs}
+use Rattle.schedule.specs.Placed.{PlacementValue, holds, all_pairs, placed}
 use Rattle.schedule.specs.Running.{after, run_of}
 use Rattle.schedule.specs.Judging.{judged, verdict_of, first_unlinked, first_overfull, first_lacking}
 use Rattle.schedule.proofs.Placing.{IsBelow, all_below}
-use Rattle.collective_spec.specs.declared.instance.Instance.{Instance}
-use Rattle.collective_spec.specs.declared.collective.Collective.{Collective}
-use Rattle.collective_spec.specs.Collectives.{instance_of, ends_of, chunks_of}
-use Rattle.collective_spec.specs.declared.layout.Layout.{Layout}
-use Rattle.topology_text.specs.Value.{NamedTopologyValue}
-use Rattle.sccl_run.specs.Replay.{replay_text}
-use Rattle.sccl_run.specs.Run.{point_replay}
-use Rattle.collective_spec.specs.Layouts.{laid_out, stands}
 use Rattle.sccl_run.specs.Range.{IsFor, IsVerdictFor}
 
 -- the nodes of a send are below the number of nodes
@@ -51,31 +42,13 @@ judged_for t s n None None (Some pair) first last = last
 judged_for t s n None None None first last = tt
 
 -- the verdict names nodes of the topology
-pub verdict_is_for : (t : TopologyValue) (pre : PlacementValue) (last : Layout) (chunks n : ℕ) (s : ScheduleValue) → IsInRange chunks n s → IsVerdictFor n (verdict_of t pre (laid_out last chunks n) s)
-verdict_is_for t pre last chunks n s in_range =
-    let post : PlacementValue = laid_out last chunks n in
+pub verdict_is_for : (t : TopologyValue) (pre : PlacementValue) (test : ℕ × ℕ → Bool) (chunks n : ℕ) (s : ScheduleValue) → IsInRange chunks n s → IsVerdictFor n (verdict_of t pre (placed chunks n test) s)
+verdict_is_for t pre test chunks n s in_range =
+    let post : PlacementValue = placed chunks n test in
     let within : Hop → Type 0 = λ h. (h.from < n) × (h.to < n) in
     let below : ℕ × ℕ → Type 0 = λ pair. pair.1 < n in
     let sends : AllByRecursion within s.sends = recursion_from_All within s.sends (λ k d at. send_in chunks n (get_or s.sends k d) (in_range k d at)) in
-    let pairs : AllByRecursion below post.pairs = filter_each below (stands last n) (all_pairs chunks n) (recursion_from_All below (all_pairs chunks n) (λ k d at. (All-from_recursion (IsBelow chunks n) (all_pairs chunks n) (all_below chunks n) k d at).1)) in
+    let pairs : AllByRecursion below post.pairs = filter_each below test (all_pairs chunks n) (recursion_from_All below (all_pairs chunks n) (λ k d at. (All-from_recursion (IsBelow chunks n) (all_pairs chunks n) (all_below chunks n) k d at).1)) in
     judged_for t s n (first_unlinked t s) (first_overfull t s) (first_lacking pre post s)
     (find_each within (λ h. not (is_usable t (link_of h))) s.sends sends)
     (find_each below (λ pair. not (holds (after pre s (length s.rounds)) pair)) post.pairs pairs)
-
--- ---- the parts of a replay, over the instance of a collective
-
-pub nodes_are : (instance : Instance) (pre : PlacementValue) (collective : Collective) (nodes c n : ℕ) → pre ≡ instance.pre → instance ≡ instance_of collective nodes c → nodes ≡ n → pre.nodes ≡ n
-nodes_are instance pre collective nodes c n e i m = ap (λ (p : PlacementValue). p.nodes) e ∙ ap (λ (x : Instance). x.pre.nodes) i ∙ m
-
-pub verdict_for : (t : TopologyValue) (instance : Instance) (pre post : PlacementValue) (collective : Collective) (nodes c n : ℕ) (s : ScheduleValue) (v : Verdict) → v ≡ verdict_of t pre post s → post ≡ instance.post → instance ≡ instance_of collective nodes c → nodes ≡ n → IsInRange (chunks_of collective.kind nodes c) nodes s → IsVerdictFor n v
-verdict_for t instance pre post collective nodes c n s v e p i m in_range =
-    let last = (ends_of collective).1 in
-    let whole : post ≡ laid_out last (chunks_of collective.kind n c) n = p ∙ ap (λ (x : Instance). x.post) i ∙ ap (λ k. laid_out last (chunks_of collective.kind k c) k) m in
-    let below : IsInRange (chunks_of collective.kind n c) n s = subst (λ k. IsInRange (chunks_of collective.kind k c) k s) m in_range in
-    rw (e, whole) (verdict_is_for t pre last (chunks_of collective.kind n c) n s below)
-
-pub replay_is_point : (t : NamedTopologyValue) (topology : TopologyValue) (instance : Instance) (pre post : PlacementValue) (collective : Collective) (nodes c : ℕ) (s : ScheduleValue) (names : List (List ℕ)) (run : List PlacementValue) (v : Verdict) → names ≡ t.names → topology ≡ t.topology → run ≡ run_of pre s → v ≡ verdict_of topology pre post s → pre ≡ instance.pre → post ≡ instance.post → instance ≡ instance_of collective nodes c → nodes ≡ length t.names → replay_text 1 names run v ≡ point_replay t collective c s
-replay_is_point t topology instance pre post collective nodes c s names run v n o r e p q i m =
-    let first : pre ≡ (instance_of collective (length t.names) c).pre = p ∙ ap (λ (x : Instance). x.pre) (i ∙ ap (λ k. instance_of collective k c) m) in
-    let last : post ≡ (instance_of collective (length t.names) c).post = q ∙ ap (λ (x : Instance). x.post) (i ∙ ap (λ k. instance_of collective k c) m) in
-    rw (n, r, e, o, first, last) refl

@@ -1,8 +1,11 @@
 pub mod HolderLines
-pub mod Owed
 pub mod InRange
-pub mod FormPoint
-pub mod ReportReplayed
+pub mod Pointed
 pub mod Refused
+pub mod DueWords
+pub mod Ending
+pub mod ReportsDue
 pub mod RightRuns
 pub mod FamilyRun
+pub mod Verified
+pub mod WrongRuns

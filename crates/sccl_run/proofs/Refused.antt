@@ -1,113 +1,145 @@
--- No refusal has the status of what is done.
-use Rattle.std.proofs.Common.{◌≡◌, ◌≢◌, ℕ, Bool, true, false, ◌==◌, nat_lt, length, List, Option, None, Some, Result, Ok, Err}
-use Rattle.outer_ports.specs.Files.{Files}
+-- The statuses of what is refused.
+use Rattle.std.proofs.Common.{inl, inr, ◌≡◌, ◌≢◌, ℕ, subst, Bool, true, false, ◌==◌, ◌||◌, not, nat_lt, length, List, Option, None, Some, Result, Ok, Err}
 use Rattle.text_lines.specs.Check.{◌>>=◌, refuse, need}
 use Rattle.candidate_order.specs.Ranges.{LimitsValue}
 use Rattle.candidate_order.specs.Frontiers.{QuestionValue}
 use Rattle.collective_spec.specs.declared.kind.Kind.{Kind}
+use Rattle.collective_spec.specs.Collectives.{fits_kind}
 use Rattle.topology_text.specs.Answer.{code_number as topology_number}
 use Rattle.topology_text.specs.Reading.{topology_of}
-use Rattle.frontier_report.specs.Answer.{code_number as report_number}
-use Rattle.frontier_report.specs.Reports.{ReportValue}
-use Rattle.frontier_report.specs.Reading.{report_of}
-use Rattle.frontier_audit.specs.declared.verdict.AuditVerdict.{AuditVerdict}
-use Rattle.frontier_audit.specs.declared.verdict.AuditVerdict.TheVariants as audit
-use Rattle.frontier_audit.specs.Auditing.{audit_of}
+use Rattle.report_form.specs.Answer.{code_number as report_number}
+use Rattle.report_form.specs.Reports.{ReportValue}
+use Rattle.report_form.specs.Reading.{report_of}
+use Rattle.frontier_audit.specs.Candidates.{counts_of}
 use Rattle.command_words.specs.declared.command.RootWord.{RootWord}
 use Rattle.command_words.specs.declared.command.Command.{Command}
 use Rattle.command_words.specs.declared.command.Command.TheVariants as command
 use Rattle.command_words.specs.declared.fault.WordFault.{WordFault}
-use Rattle.command_words.specs.Words.{command_of}
 use Rattle.sccl_run.specs.declared.status.Status.{Status}
-use Rattle.sccl_run.specs.declared.status.Status.TheVariants.{Done, BadTopology, BadReport, TooLarge, NoCandidate}
-use Rattle.frontier_audit.specs.Candidates.{counts_of}
-use Rattle.sccl_run.specs.Size.{size_limit, size_of}
-use Rattle.sccl_run.specs.Refusals.{Refusal, refused_at, refused_as}
-use Rattle.sccl_run.specs.Tasks.{due, task_of, words_asked, words_for, whole_text, whole_question, root_in, searchable, synthesis_of, read_report, not_denied, audited, point_in}
+use Rattle.sccl_run.specs.declared.status.Status.TheVariants.{Done, BadWords, BadTopology, BadReport, TooLarge, NoCandidate, TooLong}
+use Rattle.sccl_run.specs.Built.{Built}
+use Rattle.sccl_run.specs.Asked.{asked as command_asked}
+use Rattle.round_encoding.specs.Candidates.{size_limit}
+use Rattle.sccl_run.specs.Size.{size_of}
+use Rattle.sccl_run.specs.Showing.{shown_in, is_copied}
+use Rattle.sccl_run.specs.TopCall.{IsFree}
+use Rattle.sccl_run.specs.Refusals.{Refusal, refused_as}
+use Rattle.sccl_run.specs.Tasks.{due, task_of, words_asked, words_for, whole_question, root_in, searchable, synthesis_of, read_report, point_in, replay_in, replayed}
 
-Refusing : {A : Type 0} → Result A Refusal → Type 0
-Refusing (Ok x) = Unit {0}
-Refusing (Err r) = r.status ≢ Done
+-- what is refused is refused with such a status
+abbrev pub With : {A : Type 0} → (Status → Type 0) → Result A Refusal → Type 0
+With P (Ok x) = Unit {0}
+With P (Err r) = P r.status
 
-bind : {A B : Type 0} (x : Result A Refusal) (f : A → Result B Refusal) → Refusing x → ((a : A) → Refusing (f a)) → Refusing (x >>= f)
-unfolding Refusing
-bind (Ok a) f h g = g a
-bind (Err r) f h g = h
+module _ (P : Status → Type 0) where
+  bind : {A B : Type 0} (x : Result A Refusal) (f : A → Result B Refusal) → With P x → ((a : A) → With P (f a)) → With P (x >>= f)
+  bind (Ok a) f h g = g a
+  bind (Err r) f h g = h
 
-refused : (b : Bool) (r : Refusal) → r.status ≢ Done → Refusing (refuse b r)
-unfolding Refusing
-refused true r h = h
-refused false r h = tt
+  refused : (b : Bool) (r : Refusal) → P r.status → With P (refuse b r)
+  refused true r h = h
+  refused false r h = tt
 
-needed : {A : Type 0} (o : Option A) (r : Refusal) → r.status ≢ Done → Refusing (need o r)
-unfolding Refusing
-needed None r h = h
-needed (Some x) r h = tt
+  needed : {A : Type 0} (o : Option A) (r : Refusal) → P r.status → With P (need o r)
+  needed None r h = h
+  needed (Some x) r h = tt
 
-coded : {A C : Type 0} (s : Status) (number : C → ℕ) (x : Result A (C × ℕ)) → s ≢ Done → Refusing (refused_as s number x)
-unfolding Refusing
-coded s number (Ok x) h = tt
-coded s number (Err e) h = h
+  coded : {A C : Type 0} (s : Status) (number : C → ℕ) (x : Result A (C × ℕ)) → P s → With P (refused_as s number x)
+  coded s number (Ok x) h = tt
+  coded s number (Err e) h = h
 
-whole : (bytes : List ℕ) → Refusing (whole_text bytes)
-whole bytes = refused _ _ (λ e. cc)
+  report_read : P TooLong → P BadReport → (bytes : List ℕ) → With P (read_report bytes)
+  report_read long bad bytes = bind _ _ (refused (nat_lt _ (length bytes)) _ long) (λ _. coded BadReport report_number (report_of bytes) bad)
 
-rooted : (names : List (List ℕ)) (root : Option RootWord) → Refusing (root_in names root)
-unfolding Refusing
-rooted names None = tt
-rooted names (Some root) = needed _ _ (λ e. cc)
+  pointed : P BadWords → (r : ReportValue) (number word : ℕ) → With P (point_in r number word)
+  pointed bad r number word = needed _ _ bad
 
-large : TooLarge ≢ Done
-large e = cc
+  replay_made : P BadWords → (built : Built) (r : ReportValue) (number word : ℕ) (order : Option ℕ) → With P (replay_in built r number word order)
+  replay_made bad built r number word order =
+      bind _ _ (pointed bad r number word) (λ p. bind _ _ (refused (not (built.adding || is_copied (shown_in r p))) _ bad) (λ _. tt))
 
-none : NoCandidate ≢ Done
-none e = cc
+  pub replay_ends : P TooLong → P BadReport → P BadWords → (built : Built) (number word : ℕ) (order : Option ℕ) (bytes : List ℕ) → With P (replayed built number word order bytes)
+  replay_ends long bad words built number word order bytes = bind _ _ (report_read long bad bytes) (λ r. replay_made words built r number word order)
 
-searched : (q : QuestionValue) → Refusing (searchable q)
-searched q =
-    bind _ _ (refused (nat_lt size_limit (size_of q)) (refused_at TooLarge 0 (size_of q)) large)
-    (λ _. refused (length (counts_of q) == 0) (refused_at NoCandidate 0 0) none)
+  sized : P TooLarge → P NoCandidate → (q : QuestionValue) → With P (searchable q)
+  sized large none q = bind _ _ (refused (nat_lt size_limit (size_of q)) _ large) (λ _. refused (length (counts_of q) == 0) _ none)
 
-ok : {A : Type 0} (x : A) → Refusing (Ok x)
-unfolding Refusing
-ok x = tt
+  rooted : P BadWords → (names : List (List ℕ)) (root : Option RootWord) → With P (root_in names root)
+  rooted bad names None = tt
+  rooted bad names (Some root) = needed _ _ bad
 
-synthesised : (kind : Kind) (limits : LimitsValue) (root : Option RootWord) (bytes : List ℕ) → Refusing (synthesis_of kind limits root bytes)
-synthesised kind limits root bytes =
-    bind _ _ (whole bytes) (λ _. bind _ _ (coded BadTopology topology_number (topology_of bytes) (λ e. cc)) (λ t. bind _ _ (rooted t.names root) (λ node. bind _ _ (searched (whole_question (words_for kind limits node) t)) (λ _. ok _))))
+  module _ (long : P TooLong) (bad : P BadWords) (topology : P BadTopology) (report : P BadReport) (large : P TooLarge) (none : P NoCandidate) where
+    synthesised : (kind : Kind) (word : ℕ) (limits : LimitsValue) (root : Option RootWord) (bytes : List ℕ) → With P (synthesis_of kind word limits root bytes)
+    synthesised kind word limits root bytes =
+        bind _ _ (refused (nat_lt _ (length bytes)) _ long) (λ _. bind _ _ (coded BadTopology topology_number (topology_of bytes) topology) (λ t.
+        bind _ _ (refused (not (fits_kind kind t.custom)) _ bad) (λ _. bind _ _ (rooted bad t.names root) (λ node.
+        bind _ _ (sized large none (whole_question (words_for kind limits node) t)) (λ _. tt)))))
 
-read : (bytes : List ℕ) → Refusing (read_report bytes)
-read bytes = bind _ _ (whole bytes) (λ _. coded BadReport report_number (report_of bytes) (λ e. cc))
+    tasked : (built : Built) (c : Command) (bytes : List ℕ) → With P (task_of built c bytes)
+    tasked built (command.Synth kind word limits root) bytes = synthesised kind word limits root bytes
+    tasked built command.Check bytes = bind _ _ (report_read long report bytes) (λ r. bind _ _ (sized large none (whole_question r.words r.topology)) (λ _. tt))
+    tasked built (command.Replay number word order) bytes = replay_ends long report bad built number word order bytes
+    tasked built (command.Programs number word) bytes = bind _ _ (report_read long report bytes) (λ r. bind _ _ (pointed bad r number word) (λ _. tt))
+    tasked built (command.Family kind size) bytes = tt
+    tasked built (command.Trial n) bytes = tt
 
-denied : (v : AuditVerdict) → Refusing (not_denied v)
-unfolding Refusing
-denied audit.Verified = tt
-denied (audit.Denied reason part x) = λ e. cc
+    asked_with : (x : Result Command WordFault) → With P (words_asked x)
+    asked_with (Ok c) = tt
+    asked_with (Err fault) = bad
 
-checked : (bytes : List ℕ) (files : Files) → Refusing (audited bytes files)
-checked bytes files = bind _ _ (read bytes) (λ r. bind _ _ (searched (whole_question r.words r.topology)) (λ _. bind _ _ (denied (audit_of r files)) (λ _. ok _)))
+    pub due_with : (built : Built) (words : List (List ℕ)) (bytes : List ℕ) → With P (due built words bytes)
+    unfolding due
+    due_with built words bytes = bind _ _ (asked_with (command_asked built words)) (λ c. tasked built c bytes)
 
-pointed : (r : ReportValue) (number word : ℕ) → Refusing (point_in r number word)
-pointed r number word = needed _ _ (λ e. cc)
+-- a status that is not free, and not that of what is done
+given : Status → Type 0
+given status = (IsFree status → ⊥) × (status ≢ Done)
 
-tasked : (c : Command) (bytes : List ℕ) (files : Files) → Refusing (task_of c bytes files)
-tasked (command.Synth kind limits root) bytes files = synthesised kind limits root bytes
-tasked command.Check bytes files = checked bytes files
-tasked (command.Replay number word order) bytes files = bind _ _ (read bytes) (λ r. bind _ _ (pointed r number word) (λ _. ok _))
-tasked (command.Programs number word) bytes files = bind _ _ (read bytes) (λ r. bind _ _ (pointed r number word) (λ _. ok _))
-tasked (command.Family kind size) bytes files = ok _
-tasked (command.Trial n) bytes files = ok _
+is_given : (built : Built) (words : List (List ℕ)) (bytes : List ℕ) → With given (due built words bytes)
+unfolding given
+is_given = due_with given (no_long, λ e. cc) (no_words, λ e. cc) (no_topology, λ e. cc) (no_report, λ e. cc) (no_large, λ e. cc) (no_none, λ e. cc)
+  where
+    no_long : IsFree TooLong → ⊥
+    no_long (inl e) = cc
+    no_long (inr (inl e)) = cc
+    no_long (inr (inr (inl e))) = cc
+    no_long (inr (inr (inr e))) = cc
 
-asked : (x : Result Command WordFault) → Refusing (words_asked x)
-unfolding Refusing
-asked (Ok c) = tt
-asked (Err fault) = λ e. cc
+    no_words : IsFree BadWords → ⊥
+    no_words (inl e) = cc
+    no_words (inr (inl e)) = cc
+    no_words (inr (inr (inl e))) = cc
+    no_words (inr (inr (inr e))) = cc
 
-due_refuses : (words : List (List ℕ)) (bytes : List ℕ) (files : Files) → Refusing (due words bytes files)
-unfolding due
-due_refuses words bytes files = bind _ _ (asked (command_of words)) (λ c. tasked c bytes files)
+    no_topology : IsFree BadTopology → ⊥
+    no_topology (inl e) = cc
+    no_topology (inr (inl e)) = cc
+    no_topology (inr (inr (inl e))) = cc
+    no_topology (inr (inr (inr e))) = cc
 
--- what is due is no refusal with the status of what is done
-pub never_done : (words : List (List ℕ)) (bytes : List ℕ) (files : Files) (r : Refusal) → due words bytes files ≡ Err r → r.status ≢ Done
-unfolding Refusing
-never_done words bytes files r e = rw e at (due_refuses words bytes files)
+    no_report : IsFree BadReport → ⊥
+    no_report (inl e) = cc
+    no_report (inr (inl e)) = cc
+    no_report (inr (inr (inl e))) = cc
+    no_report (inr (inr (inr e))) = cc
+
+    no_large : IsFree TooLarge → ⊥
+    no_large (inl e) = cc
+    no_large (inr (inl e)) = cc
+    no_large (inr (inr (inl e))) = cc
+    no_large (inr (inr (inr e))) = cc
+
+    no_none : IsFree NoCandidate → ⊥
+    no_none (inl e) = cc
+    no_none (inr (inl e)) = cc
+    no_none (inr (inr (inl e))) = cc
+    no_none (inr (inr (inr e))) = cc
+
+-- what is due is no refusal with a free status, or with that of what is done
+pub never_free : (built : Built) (words : List (List ℕ)) (bytes : List ℕ) (r : Refusal) → due built words bytes ≡ Err r → IsFree r.status → ⊥
+unfolding given
+never_free built words bytes r e = (subst (With given) e (is_given built words bytes)).0
+
+pub never_done : (built : Built) (words : List (List ℕ)) (bytes : List ℕ) (r : Refusal) → due built words bytes ≡ Err r → r.status ≢ Done
+unfolding given
+never_done built words bytes r e = (subst (With given) e (is_given built words bytes)).1

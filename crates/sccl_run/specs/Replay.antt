@@ -15,13 +15,23 @@ held_by p node = filter (λ chunk. holds p (chunk, node)) (range_with_len 0 p.ch
 abbrev pub holder_words : List (List ℕ) → PlacementValue → ℕ → List (List ℕ)
 holder_words names p node = name_at names node ∷ map decimal (held_by p node)
 
-abbrev pub step_lines : List (List ℕ) → ℕ → PlacementValue → List (List (List ℕ))
-step_lines names step p = (codes "step" ∷ decimal step ∷ []) ∷ map (holder_words names p) (range_with_len 0 p.nodes)
+-- the lines of the nodes
+abbrev pub node_lines : List (List ℕ) → PlacementValue → List (List (List ℕ))
+node_lines names p = map (holder_words names p) (range_with_len 0 p.nodes)
 
--- the placements after this step and the later ones
+abbrev pub step_head : ℕ → List (List ℕ)
+step_head step = codes "step" ∷ decimal step ∷ []
+
+abbrev pub step_lines : List (List ℕ) → ℕ → PlacementValue → List (List (List ℕ))
+step_lines names step p = step_head step ∷ node_lines names p
+
+-- the lines of the nodes after this step and the later ones
+abbrev pub numbered_steps : ℕ → List (List (List (List ℕ))) → List (List (List ℕ))
+numbered_steps step [] = []
+numbered_steps step (lines ∷ more) = step_head step ∷ lines ++ numbered_steps (step + 1) more
+
 abbrev pub run_lines : List (List ℕ) → ℕ → List PlacementValue → List (List (List ℕ))
-run_lines names step [] = []
-run_lines names step (p ∷ ps) = step_lines names step p ++ run_lines names (step + 1) ps
+run_lines names step ps = numbered_steps step (map (node_lines names) ps)
 
 -- nodes by name, groups by number
 abbrev pub verdict_words : List (List ℕ) → Verdict → List (List ℕ)
@@ -30,9 +40,11 @@ verdict_words names (NoLink h) = codes "nolink" ∷ decimal h.chunk ∷ name_at 
 verdict_words names (Overfull step group count) = codes "overfull" ∷ decimal step ∷ decimal group ∷ decimal count ∷ []
 verdict_words names (Lacking chunk node) = codes "lacking" ∷ decimal chunk ∷ name_at names node ∷ []
 
-abbrev pub replay_lines : ℕ → List (List ℕ) → List PlacementValue → Verdict → List (List (List ℕ))
-replay_lines number names run verdict =
-    (codes "replay" ∷ decimal number ∷ []) ∷ (run_lines names 0 run ++ (verdict_words names verdict ∷ (codes "end" ∷ []) ∷ []))
+-- the number of the point, its steps, the verdict, and what stands behind it
+abbrev pub replay_lines : ℕ → List (List (List (List ℕ))) → List (List ℕ) → List (List (List ℕ)) → List (List (List ℕ))
+replay_lines number steps verdict more =
+    (codes "replay" ∷ decimal number ∷ []) ∷ (numbered_steps 0 steps ++ (verdict ∷ (more ++ (codes "end" ∷ []) ∷ [])))
 
+-- the replay of a point that copies, without an order
 unfoldable pub replay_text : ℕ → List (List ℕ) → List PlacementValue → Verdict → List ℕ
-replay_text number names run verdict = text_of (replay_lines number names run verdict)
+replay_text number names run verdict = text_of (replay_lines number (map (node_lines names) run) (verdict_words names verdict) [])

@@ -1,14 +1,19 @@
 -- Small runs.
-use Rattle.std.specs.Prelude.{ℕ, List, [], ◌∷◌, None, codes}
+use Rattle.std.specs.Prelude.{ℕ, true, List, [], ◌∷◌, None, Some, codes}
 use Rattle.outer_ports.specs.declared.part.Part.TheVariants.{Whole, Joined}
+use Rattle.outer_ports.specs.declared.proof_name.FileKind.{FileKind}
+use Rattle.outer_ports.specs.declared.proof_name.ProofName.{ProofName}
 use Rattle.outer_ports.specs.Files.{Files}
 use Rattle.candidate_order.specs.declared.candidate.Candidate.{Candidate}
 use Rattle.candidate_order.specs.declared.mark.Mark.TheVariants as mark
 use Rattle.schedule.specs.Rows.{plan, send, pair_allreduce}
-use Rattle.frontier_report.specs.Reports.{ReportValue}
-use Rattle.frontier_report.specs.Rows.{broadcast_report, allreduce_report}
-use Rattle.sccl_run.specs.declared.status.Status.TheVariants.{Done}
-use Rattle.sccl_run.specs.Owed.{RunValue}
+use Rattle.report_form.specs.Reports.{ReportValue}
+use Rattle.report_form.specs.Rows.{broadcast_report, allreduce_report}
+use Rattle.report_form.specs.Spelling.{report_text}
+use Rattle.frontier_audit.specs.Shelves.{file_of}
+use Rattle.sccl_run.specs.declared.status.Status.{Status}
+use Rattle.sccl_run.specs.declared.status.Status.TheVariants.{Done, BadReport}
+use Rattle.sccl_run.specs.TopCall.{RunValue, ToldValue}
 use Rattle.sccl_run.specs.Showing.{Shown, shown_in}
 use Rattle.sccl_run.specs.Trials.{trial_words, trial_topology}
 
@@ -19,6 +24,10 @@ no_files name = None
 -- the text of the topology of two nodes in a row
 abbrev pub two_nodes_text : List ℕ
 two_nodes_text = codes "topology 1\nnodes n0 n1\ngroup 1 n0>n1\ngroup 1 n1>n0\n"
+
+-- one chunk is to go from the first of three nodes to the last
+abbrev pub moved_text : List ℕ
+moved_text = codes "topology 2\nnodes a b c\ngroup 1 a>b\ngroup 1 b>c\ncustom 1\nbefore 0 a\nafter 0 c\n"
 
 -- the words of a search with one step and one chunk
 abbrev pub search : List ℕ → List (List ℕ) → List (List ℕ)
@@ -55,14 +64,62 @@ refuted_trial n refuted = record {
   joined = [];
 }
 
+-- every port tells
+abbrev pub all_tell : ToldValue
+all_tell = record { source = true; sink = true; shelf = true }
+
 -- the family of two nodes in a row is asked for and written, and four bytes of the source stay there
 abbrev pub family_run : RunValue
 family_run = record {
   words = codes "family" ∷ codes "kind=line" ∷ codes "size=2" ∷ [];
+  status = Done;
   bytes = codes "left";
   left = codes "left";
-  written = two_nodes_text;
+  before = [];
+  now = two_nodes_text;
   files = no_files;
   files_after = no_files;
-  status = Done;
 }
+
+-- the search of a broadcast on two nodes ends so, and the file of every name is gone
+abbrev pub failed_search : Status → RunValue
+failed_search status = record {
+  words = search (codes "collective=broadcast") [];
+  status = status;
+  bytes = two_nodes_text;
+  left = [];
+  before = [];
+  now = [];
+  files = λ name. Some [];
+  files_after = no_files;
+}
+
+-- a text that is no report is refused, and this is left of it
+abbrev pub refused_check : List ℕ → RunValue
+refused_check left = record {
+  words = codes "check" ∷ [];
+  status = BadReport;
+  bytes = codes "x\n";
+  left = left;
+  before = [];
+  now = codes "refused 7 1 1\n";
+  files = no_files;
+  files_after = no_files;
+}
+
+-- the search of a broadcast on two nodes ends well, and leaves these files
+abbrev pub done_search : Files → RunValue
+done_search files_after = record {
+  words = search (codes "collective=broadcast") [];
+  status = Done;
+  bytes = two_nodes_text;
+  left = [];
+  before = [];
+  now = report_text broadcast_report;
+  files = no_files;
+  files_after = files_after;
+}
+
+-- a file of its one candidate
+abbrev pub own_file : FileKind → ProofName
+own_file kind = file_of kind Whole (record { s = 1; r = 1; c = 1 })

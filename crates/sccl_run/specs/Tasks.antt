@@ -1,19 +1,20 @@
--- What the words and the text that is read ask for, or the first check that refuses them: words, length, text, root or point, size, candidates, audit.
-use Rattle.std.specs.Prelude.{ℕ, ◌==◌, List, length, nat_lt, Option, None, Some, Result, Ok, Err}
+-- What the words and the text that is read ask for, or the first check that refuses them: words, length, text, root or point, size, candidates.
+use Rattle.std.specs.Prelude.{ℕ, ◌==◌, ◌||◌, not, List, length, nat_lt, Option, None, Some, Result, Ok, Err}
 use Rattle.outer_ports.specs.declared.part.Part.{Part}
 use Rattle.outer_ports.specs.Files.{Files, candidate_word}
 use Rattle.text_lines.specs.Check.{◌>>=◌, refuse, need}
 use Rattle.collective_spec.specs.declared.kind.Kind.{Kind}
+use Rattle.collective_spec.specs.Collectives.{spec_of, fits_kind}
 use Rattle.candidate_order.specs.Ranges.{LimitsValue}
 use Rattle.candidate_order.specs.Frontiers.{QuestionValue, PointValue}
 use Rattle.topology_text.specs.declared.family_kind.FamilyKind.{FamilyKind}
 use Rattle.topology_text.specs.Value.{NamedTopologyValue}
 use Rattle.topology_text.specs.Answer.{code_number as topology_number}
 use Rattle.topology_text.specs.Reading.{topology_of, node_of}
-use Rattle.frontier_report.specs.Reports.{WordsValue, ReportValue}
-use Rattle.frontier_report.specs.Numbered.{point_at}
-use Rattle.frontier_report.specs.Answer.{code_number as report_number}
-use Rattle.frontier_report.specs.Reading.{report_of}
+use Rattle.report_form.specs.Reports.{WordsValue, ReportValue}
+use Rattle.report_form.specs.Numbered.{point_at}
+use Rattle.report_form.specs.Answer.{code_number as report_number}
+use Rattle.report_form.specs.Reading.{report_of}
 use Rattle.frontier_audit.specs.declared.verdict.AuditVerdict.{AuditVerdict}
 use Rattle.frontier_audit.specs.declared.verdict.AuditVerdict.TheVariants as audit
 use Rattle.frontier_audit.specs.Denials.{reason_number}
@@ -24,11 +25,17 @@ use Rattle.command_words.specs.declared.command.Command.{Command}
 use Rattle.command_words.specs.declared.command.Command.TheVariants as command
 use Rattle.command_words.specs.declared.fault.WordFault.{WordFault}
 use Rattle.command_words.specs.Codes.{number_of as word_number}
-use Rattle.command_words.specs.Words.{command_of}
 use Rattle.sccl_run.specs.declared.status.Status.TheVariants.{BadWords, BadTopology, BadReport, Denied, TooLarge, NoCandidate, TooLong}
 use Rattle.sccl_run.specs.Refusals.{Refusal, refused_at, refused_as}
-use Rattle.sccl_run.specs.Run.{limit}
-use Rattle.sccl_run.specs.Size.{size_limit, size_of}
+use Rattle.sccl_run.specs.Built.{Built}
+use Rattle.sccl_run.specs.Asked.{asked}
+use Rattle.round_encoding.specs.Candidates.{size_limit}
+use Rattle.sccl_run.specs.Size.{size_of}
+use Rattle.sccl_run.specs.Showing.{shown_in, is_copied}
+
+-- the greatest number of bytes that are read
+abbrev pub limit : ℕ
+limit = 1048576
 
 -- what is to be done, with all that it needs
 pub data Task : Type 0 where
@@ -55,15 +62,17 @@ searchable q = do
 
 -- what is asked for in all
 abbrev pub whole_question : WordsValue → NamedTopologyValue → QuestionValue
-whole_question w t = record { topology = t.topology; collective = w.collective; limits = w.limits }
+whole_question w t = record { topology = t.topology; spec = spec_of w.collective t.custom; limits = w.limits }
 
 abbrev pub words_for : Kind → LimitsValue → ℕ → WordsValue
 words_for kind limits root = record { collective = record { kind = kind; root = root }; limits = limits }
 
-abbrev pub synthesis_of : Kind → LimitsValue → Option RootWord → List ℕ → Result Task Refusal
-synthesis_of kind limits root bytes = do
+-- a topology with a pattern is for the kind custom, and only it
+abbrev pub synthesis_of : Kind → ℕ → LimitsValue → Option RootWord → List ℕ → Result Task Refusal
+synthesis_of kind kind_word limits root bytes = do
   _ ← whole_text bytes
   topology ← refused_as BadTopology topology_number (topology_of bytes)
+  _ ← refuse (not (fits_kind kind topology.custom)) (refused_at BadWords 12 kind_word)
   node ← root_in topology.names root
   _ ← searchable (whole_question (words_for kind limits node) topology)
   Ok (Synthesise (words_for kind limits node) topology)
@@ -73,27 +82,28 @@ read_report bytes = do
   _ ← whole_text bytes
   refused_as BadReport report_number (report_of bytes)
 
--- a report that is denied is refused with the reason and the candidate
-abbrev pub not_denied : AuditVerdict → Result (Unit {0}) Refusal
-not_denied audit.Verified = Ok tt
-not_denied (audit.Denied reason part x) = Err (record { status = Denied; code = reason_number reason; place = candidate_word part x.s x.r x.c })
-
-abbrev pub audited : List ℕ → Files → Result Task Refusal
-audited bytes files = do
+-- the report whose files are to be looked at
+abbrev pub audit_asked : List ℕ → Result Task Refusal
+audit_asked bytes = do
   report ← read_report bytes
   _ ← searchable (whole_question report.words report.topology)
-  _ ← not_denied (audit_of report files)
   Ok (Audit report)
 
 -- the point that the word asks for
 abbrev pub point_in : ReportValue → ℕ → ℕ → Result (Part × PointValue) Refusal
 point_in report number word = need (point_at report number) (refused_at BadWords 9 word)
 
-abbrev pub replayed : ℕ → ℕ → Option ℕ → List ℕ → Result Task Refusal
-replayed number word order bytes = do
-  report ← read_report bytes
+-- the replay of a point of this report
+abbrev pub replay_in : Built → ReportValue → ℕ → ℕ → Option ℕ → Result Task Refusal
+replay_in built report number word order = do
   point ← point_in report number word
+  _ ← refuse (not (built.adding || is_copied (shown_in report point))) (refused_at BadWords 11 word)
   Ok (Replay report number point order)
+
+abbrev pub replayed : Built → ℕ → ℕ → Option ℕ → List ℕ → Result Task Refusal
+replayed built number word order bytes = do
+  report ← read_report bytes
+  replay_in built report number word order
 
 abbrev pub programmed : ℕ → ℕ → List ℕ → Result Task Refusal
 programmed number word bytes = do
@@ -101,22 +111,33 @@ programmed number word bytes = do
   point ← point_in report number word
   Ok (Program report number point)
 
--- what a command asks for, over these bytes and files
-abbrev pub task_of : Command → List ℕ → Files → Result Task Refusal
-task_of (command.Synth kind limits root) bytes files = synthesis_of kind limits root bytes
-task_of command.Check bytes files = audited bytes files
-task_of (command.Replay number word order) bytes files = replayed number word order bytes
-task_of (command.Programs number word) bytes files = programmed number word bytes
-task_of (command.Family kind size) bytes files = Ok (Family kind size)
-task_of (command.Trial n) bytes files = Ok (Try n)
+-- what a command asks for, over these bytes
+abbrev pub task_of : Built → Command → List ℕ → Result Task Refusal
+task_of built (command.Synth kind word limits root) bytes = synthesis_of kind word limits root bytes
+task_of built command.Check bytes = audit_asked bytes
+task_of built (command.Replay number word order) bytes = replayed built number word order bytes
+task_of built (command.Programs number word) bytes = programmed number word bytes
+task_of built (command.Family kind size) bytes = Ok (Family kind size)
+task_of built (command.Trial n) bytes = Ok (Try n)
 
 -- the words are a command, or are refused
 abbrev pub words_asked : Result Command WordFault → Result Command Refusal
 words_asked (Ok c) = Ok c
 words_asked (Err fault) = Err (refused_at BadWords (word_number fault.code) fault.word)
 
--- the task, or the first refusal
-unfoldable pub due : List (List ℕ) → List ℕ → Files → Result Task Refusal
-due words bytes files = do
-  command ← words_asked (command_of words)
-  task_of command bytes files
+-- the task, or the first refusal, as far as words and bytes decide
+unfoldable pub due : Built → List (List ℕ) → List ℕ → Result Task Refusal
+due built words bytes = do
+  command ← words_asked (asked built words)
+  task_of built command bytes
+
+-- ---- what the files decide
+
+-- a report that is denied is refused with the reason and the candidate
+abbrev pub not_denied : AuditVerdict → Result (Unit {0}) Refusal
+not_denied audit.Verified = Ok tt
+not_denied (audit.Denied reason part x) = Err (record { status = Denied; code = reason_number reason; place = candidate_word part x.s x.r x.c })
+
+-- the audit of a report over these files
+unfoldable pub audited : ReportValue → Files → Result (Unit {0}) Refusal
+audited report files = not_denied (audit_of report files)

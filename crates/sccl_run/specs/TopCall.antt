@@ -1,103 +1,147 @@
--- The whole theorem of the top call, over ports that tell their contents: which status comes, what is written with it, and what is taken and changed.
-use Rattle.std.specs.Prelude.{◌≡◌, ◌⊎◌, ℕ, ◌≤◌, List, [], ◌∷◌, length, take, codes, Result, Ok, Err}
-use Rattle.sccl_run.specs.Run.{limit}
-use Rattle.outer_ports.specs.declared.proof_name.ProofName.{ProofName}
+-- The theorem of the top call, in layers: what every run says; what is said where the source tells its bytes; where the sink tells what was written; where the shelf tells its files.
+use Rattle.std.specs.Prelude.{◌≡◌, ◌≢◌, ◌⊎◌, ℕ, ◌+◌, ◌≤◌, Bool, IsTrue, List, [], ◌∷◌, ◌++◌, take, drop, Contains, Result, Ok, Err}
+use Rattle.outer_ports.specs.Files.{Files}
+use Rattle.outer_ports.specs.Shelf.{FilesStay}
 use Rattle.outer_ports.specs.Port.{Rose}
 use Rattle.command_words.specs.declared.command.Command.{Command}
 use Rattle.command_words.specs.declared.command.Command.TheVariants as command
-use Rattle.command_words.specs.Words.{command_of}
+use Rattle.command_words.specs.declared.fault.WordFault.{WordFault}
+use Rattle.topology_text.specs.Value.{NamedTopologyValue}
+use Rattle.report_form.specs.Reports.{WordsValue, ReportValue}
+use Rattle.report_form.specs.Spelling.{report_text}
+use Rattle.frontier_audit.specs.Shelves.{ShelfRight}
 use Rattle.sccl_run.specs.declared.status.Status.{Status}
-use Rattle.sccl_run.specs.declared.status.Status.TheVariants.{Done, OutOfMemory, SourceFailed, SinkFailed, ShelfFailed, Denied}
+use Rattle.sccl_run.specs.declared.status.Status.TheVariants.{Done, OutOfMemory, BadWords, BadTopology, SourceFailed, SinkFailed, ShelfFailed, BadReport, Denied, TooLarge, NoCandidate, TooLong}
+use Rattle.sccl_run.specs.Built.{Built}
+use Rattle.sccl_run.specs.Asked.{Ask, Reads, Opens, Changes, asked}
 use Rattle.sccl_run.specs.Refusals.{Refusal, refusal_line}
-use Rattle.sccl_run.specs.Tasks.{Task, due}
-use Rattle.sccl_run.specs.Owed.{RunValue, Owed}
+use Rattle.sccl_run.specs.Tasks.{Task, Synthesise, Audit, limit, due, audited}
+use Rattle.sccl_run.specs.Owed.{Owed, IsRight}
+use Rattle.sccl_run.specs.OwedFiles.{Proves, BreaksOff}
+
+-- ---- every run, whatever the ports tell
 
 -- a count of faults before and after
 pub record CountValue : Type 0 where
   pub before : ℕ
   pub now : ℕ
 
-abbrev pub HasRisen : CountValue → Type 0
-HasRisen count = Rose count.before count.now
+-- a fault of this port ends the run with this status, and nothing else does
+pub record EndsIfItFails (failed status : Status) (count : CountValue) : Type 0 where
+  pub only : status ≡ failed → Rose count.before count.now
+  pub kept : status ≢ failed → count.now ≡ count.before
 
--- the task or the refusal that is due
-abbrev pub due_in : RunValue → Result Task Refusal
-due_in x = due x.words x.bytes x.files
+-- where there is no shelf, nothing of it fails
+abbrev pub no_shelf : CountValue
+no_shelf = record { before = 0; now = 0 }
 
--- these commands read the source
-abbrev pub Reads : Command → Type 0
-Reads (command.Family kind size) = ⊥
-Reads (command.Trial n) = ⊥
-Reads _ = Unit {0}
+-- the statuses with which the words can end, beside want of memory and a failing sink
+abbrev pub ends_of : Result Command WordFault → List Status
+ends_of (Err fault) = BadWords ∷ []
+ends_of (Ok (command.Synth kind word limits root)) = Done ∷ BadWords ∷ BadTopology ∷ SourceFailed ∷ ShelfFailed ∷ TooLarge ∷ NoCandidate ∷ TooLong ∷ []
+ends_of (Ok command.Check) = Done ∷ SourceFailed ∷ ShelfFailed ∷ BadReport ∷ Denied ∷ TooLarge ∷ NoCandidate ∷ TooLong ∷ []
+ends_of (Ok (command.Replay number word order)) = Done ∷ BadWords ∷ SourceFailed ∷ BadReport ∷ TooLong ∷ []
+ends_of (Ok (command.Programs number word)) = Done ∷ BadWords ∷ SourceFailed ∷ BadReport ∷ TooLong ∷ []
+ends_of (Ok (command.Family kind size)) = Done ∷ []
+ends_of (Ok (command.Trial n)) = Done ∷ []
 
--- and these the shelf
-abbrev pub OpensFiles : Command → Type 0
-OpensFiles (command.Synth kind limits root) = Unit {0}
-OpensFiles command.Check = Unit {0}
-OpensFiles _ = ⊥
+-- with these nothing is written
+abbrev pub IsSilent : Status → Type 0
+IsSilent status = (status ≡ OutOfMemory) ⊎ ((status ≡ SourceFailed) ⊎ (status ≡ ShelfFailed))
 
-abbrev pub ChangesFiles : Command → Type 0
-ChangesFiles (command.Synth kind limits root) = Unit {0}
-ChangesFiles _ = ⊥
+pub record IsCall (built : Built) (words : List (List ℕ)) (status : Status) (source sink shelf : CountValue) (SourceStays SinkStays ShelfStays : Type 0) : Type 0 where
+  pub ends : Contains (OutOfMemory ∷ SinkFailed ∷ ends_of (asked built words)) status
+  pub source_fails : EndsIfItFails SourceFailed status source
+  pub sink_fails : EndsIfItFails SinkFailed status sink
+  pub shelf_fails : EndsIfItFails ShelfFailed status shelf
+  pub unread : ¬ Ask Reads built words → SourceStays
+  pub unopened : ¬ Ask Opens built words → ShelfStays
+  pub silent : IsSilent status → SinkStays
 
-abbrev pub IsFor : (Command → Type 0) → RunValue → Type 0
-IsFor P x = (c : Command) × (command_of x.words ≡ Ok c) × P c
+-- ---- where the source tells its bytes, or is not read
 
--- a status that the words, the bytes and the files don't decide: memory ran out, or a port failed
+abbrev pub Knows : Bool → Built → List (List ℕ) → Type 0
+Knows tells built words = IsTrue tells ⊎ ¬ Ask Reads built words
+
+-- a status that words and bytes don't decide: memory ran out, or a port failed
 abbrev pub IsFree : Status → Type 0
-IsFree OutOfMemory = Unit {0}
-IsFree SourceFailed = Unit {0}
-IsFree SinkFailed = Unit {0}
-IsFree ShelfFailed = Unit {0}
-IsFree _ = ⊥
+IsFree status = (status ≡ OutOfMemory) ⊎ ((status ≡ SourceFailed) ⊎ ((status ≡ SinkFailed) ⊎ (status ≡ ShelfFailed)))
 
--- ---- which status comes
+-- what is done ends well; a report that is checked may be denied
+abbrev pub EndsTask : Task → Status → Type 0
+EndsTask (Audit r) status = (status ≡ Done) ⊎ ((status ≡ Denied) ⊎ IsFree status)
+EndsTask _ status = (status ≡ Done) ⊎ IsFree status
 
-pub record StatusIsDue (x : RunValue) : Type 0 where
-  -- exactly where it is due, but for a free one
-  pub refused : (r : Refusal) → due_in x ≡ Err r → (x.status ≡ r.status) ⊎ IsFree x.status
-  pub done : (t : Task) → due_in x ≡ Ok t → (x.status ≡ Done) ⊎ IsFree x.status
+-- the first refusal gives the status; the shelf is opened behind all of them
+pub record StatusIsDue (built : Built) (words : List (List ℕ)) (bytes : List ℕ) (status : Status) : Type 0 where
+  pub refused : (r : Refusal) → due built words bytes ≡ Err r → (status ≡ r.status) ⊎ IsFree status
+  pub done : (t : Task) → due built words bytes ≡ Ok t → EndsTask t status
+  pub shelf_last : (r : Refusal) → due built words bytes ≡ Err r → status ≢ ShelfFailed
 
--- a port's fault comes only where its count rose, and only where the command uses the port; the shelf is opened last, so of the refusals only a denial may give way to its fault
-pub record FaultsHaveCauses (x : RunValue) (source sink shelf : CountValue) : Type 0 where
-  pub source_rose : x.status ≡ SourceFailed → HasRisen source
-  pub source_read : x.status ≡ SourceFailed → IsFor Reads x
-  pub sink_rose : x.status ≡ SinkFailed → HasRisen sink
-  pub shelf_rose : x.status ≡ ShelfFailed → HasRisen shelf
-  pub shelf_opened : x.status ≡ ShelfFailed → IsFor OpensFiles x
-  pub shelf_last : x.status ≡ ShelfFailed → (r : Refusal) → due_in x ≡ Err r → r.status ≡ Denied
+-- what is left of the source: all but the first `limit + 1` bytes, which is nothing where no more than `limit` came; all, where memory ran out before they were read
+pub record LeftIsDue (built : Built) (words : List (List ℕ)) (bytes left : List ℕ) (status : Status) : Type 0 where
+  pub read : Ask Reads built words → status ≢ OutOfMemory → status ≢ SourceFailed → left ≡ drop (limit + 1) bytes
+  pub memory : status ≡ OutOfMemory → (left ≡ bytes) ⊎ (left ≡ drop (limit + 1) bytes)
+  pub failed : status ≡ SourceFailed → (count : ℕ) × (count ≤ limit + 1) × (left ≡ drop count bytes)
 
--- ---- what is written
+-- ---- where the sink tells too
 
--- a text that is due: the line of the refusal, or a text that the task allows
-abbrev pub IsDue : RunValue → List ℕ → Result Task Refusal → Type 0
-IsDue x text (Err r) = text ≡ refusal_line r
-IsDue x text (Ok t) = Owed t (record x { written = text; status = Done })
+-- a denial's line
+pub record IsDenial (text : List ℕ) : Type 0 where
+  pub refusal : Refusal
+  pub denied : refusal.status ≡ Denied
+  pub line : text ≡ refusal_line refusal
 
-pub record TextIsDue (x : RunValue) : Type 0 where
-  pub line : (r : Refusal) → due_in x ≡ Err r → x.status ≡ r.status → x.written ≡ refusal_line r
-  pub owed : (t : Task) → due_in x ≡ Ok t → x.status ≡ Done → Owed t x
-  pub nothing : ((x.status ≡ OutOfMemory) ⊎ ((x.status ≡ SourceFailed) ⊎ (x.status ≡ ShelfFailed))) → x.written ≡ []
-  pub prefix : x.status ≡ SinkFailed → (text : List ℕ) × (count : ℕ) × IsDue x text (due_in x) × (x.written ≡ take count text)
+-- the texts that are due: the line of the refusal, or one that the task allows
+abbrev pub IsDue : Result Task Refusal → List ℕ → Type 0
+IsDue (Err r) text = text ≡ refusal_line r
+IsDue (Ok (Audit r)) text = Owed (Audit r) text ⊎ IsDenial text
+IsDue (Ok t) text = Owed t text
 
--- ---- what is taken and changed
+-- what was appended to the sink
+pub record TextIsDue (built : Built) (words : List (List ℕ)) (bytes before now : List ℕ) (status : Status) : Type 0 where
+  pub line : (r : Refusal) → due built words bytes ≡ Err r → status ≡ r.status → now ≡ before ++ refusal_line r
+  pub owed : (t : Task) → due built words bytes ≡ Ok t → status ≡ Done → (text : List ℕ) × Owed t text × (now ≡ before ++ text)
+  pub denial : status ≡ Denied → (text : List ℕ) × IsDenial text × (now ≡ before ++ text)
+  pub prefix : status ≡ SinkFailed → (text : List ℕ) × (count : ℕ) × IsDue (due built words bytes) text × (now ≡ before ++ take count text)
 
-pub record OthersStay (x : RunValue) : Type 0 where
-  pub unread : (IsFor Reads x → ⊥) → x.left ≡ x.bytes
-  pub files : (IsFor ChangesFiles x → ⊥) → (name : ProofName) → x.files_after name ≡ x.files name
-  pub refused : (r : Refusal) → due_in x ≡ Err r → (name : ProofName) → x.files_after name ≡ x.files name
+-- ---- where the shelf tells too
 
--- a report that a search wrote, if it is not too long, is verified over the files that the search left
-pub record IsVerifiedAfter (search check : RunValue) : Type 0 where
-  pub verified :
-      IsFor ChangesFiles search → search.status ≡ Done →
-      check.words ≡ codes "check" ∷ [] → check.bytes ≡ search.written → length check.bytes ≤ limit →
-      ((name : ProofName) → check.files name ≡ search.files_after name) →
-      (check.status ≡ Done) ⊎ IsFree check.status
+pub record FilesAreDue (built : Built) (words : List (List ℕ)) (bytes before now : List ℕ) (files files_after : Files) (status : Status) : Type 0 where
+  pub unchanged : ¬ Ask Changes built words → FilesStay files files_after
+  pub refused : (r : Refusal) → due built words bytes ≡ Err r → FilesStay files files_after
+  pub unread : status ≡ SourceFailed → FilesStay files files_after
+  -- a search that ends well leaves the files that prove its report; one that breaks off has begun some
+  pub proved : (w : WordsValue) (t : NamedTopologyValue) → due built words bytes ≡ Ok (Synthesise w t) → status ≡ Done →
+      (report : ReportValue) → report.words ≡ w → report.topology ≡ t → IsRight report → now ≡ before ++ report_text report → Proves report files files_after
+  pub broken_off : (w : WordsValue) (t : NamedTopologyValue) → due built words bytes ≡ Ok (Synthesise w t) → status ≢ Done → BreaksOff w t files files_after
+  -- a report is denied exactly where its audit over the files denies it
+  pub denied : (r : ReportValue) (why : Refusal) → due built words bytes ≡ Ok (Audit r) → audited r files ≡ Err why → ((status ≡ Denied) × (now ≡ before ++ refusal_line why)) ⊎ IsFree status
+  pub verified : (r : ReportValue) → due built words bytes ≡ Ok (Audit r) → audited r files ≡ Ok tt → (status ≡ Done) ⊎ IsFree status
+  pub shelf : (r : ReportValue) → due built words bytes ≡ Ok (Audit r) → status ≡ Done → ShelfRight r files
 
--- the theorem of the top call
-pub record IsRun (x : RunValue) (source sink shelf : CountValue) : Type 0 where
-  pub status : StatusIsDue x
-  pub causes : FaultsHaveCauses x source sink shelf
-  pub text : TextIsDue x
-  pub others : OthersStay x
+-- ---- the whole theorem, over the values of one run
+
+-- its words and its status; the bytes that the source had, and those that it has left; what had been written before, and what now; the files before and after
+pub record RunValue : Type 0 where
+  pub words : List (List ℕ)
+  pub status : Status
+  pub bytes : List ℕ
+  pub left : List ℕ
+  pub before : List ℕ
+  pub now : List ℕ
+  pub files : Files
+  pub files_after : Files
+
+-- whether the ports tell
+pub record ToldValue : Type 0 where
+  pub source : Bool
+  pub sink : Bool
+  pub shelf : Bool
+
+pub record IsRun (built : Built) (x : RunValue) (told : ToldValue) (source sink shelf : CountValue) : Type 0 where
+  pub call : IsCall built x.words x.status source sink shelf (x.left ≡ x.bytes) (x.now ≡ x.before) (FilesStay x.files x.files_after)
+  pub status : Knows told.source built x.words → StatusIsDue built x.words x.bytes x.status
+  pub left : IsTrue told.source → LeftIsDue built x.words x.bytes x.left x.status
+  pub text : Knows told.source built x.words → IsTrue told.sink → TextIsDue built x.words x.bytes x.before x.now x.status
+  pub files : Knows told.source built x.words → IsTrue told.sink → IsTrue told.shelf → FilesAreDue built x.words x.bytes x.before x.now x.files x.files_after x.status

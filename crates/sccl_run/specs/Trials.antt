@@ -7,9 +7,9 @@ use Rattle.topology_text.specs.declared.family_kind.FamilyKind.TheVariants.{Line
 use Rattle.topology_text.specs.Value.{NamedTopologyValue}
 use Rattle.topology_text.specs.Family.{family_of}
 use Rattle.text_lines.specs.Text.{text_of}
-use Rattle.frontier_report.specs.Reports.{WordsValue, ReportValue}
-use Rattle.frontier_report.specs.Spelling.{synth_words}
-use Rattle.frontier_report.specs.Numbered.{points_of}
+use Rattle.report_form.specs.Reports.{WordsValue, ReportValue}
+use Rattle.report_form.specs.Spelling.{synth_words}
+use Rattle.report_form.specs.Numbered.{points_of}
 use Rattle.command_words.specs.Tables.{family_word}
 use Rattle.node_programs.specs.Runs.{operations}
 use Rattle.sccl_run.specs.Showing.{shown_in, machine_of}

@@ -1,29 +1,23 @@
 //! The answer that is due for the words and for what was read.
 
-ghost use Rattle.std.specs.Prelude.{◌≡◌, ◌<◌, ◌≤◌, false, length, IsTrue, IfOk};
-ghost use Rattle.schedule.specs.Sends.{IsInRange};
-ghost use Rattle.collective_spec.specs.Kinds.{allows};
-ghost use Rattle.collective_spec.specs.Collectives.{chunks_of, reduces};
-ghost use Rattle.topology_text.specs.Value.{IsNamed};
+ghost use Rattle.std.specs.Prelude.{◌≢◌, ◌≤◌, length, IsTrue, IfOk, None, Ok, Err};
 ghost use Rattle.topology_text.specs.Family.{is_allowed};
-ghost use Rattle.candidate_order.specs.Frontiers.{PointValue};
-ghost use Rattle.command_words.specs.Words.{texts};
-ghost use Rattle.first_form.specs.FirstForm.{IsFirstForm};
-ghost use Rattle.sccl_run.specs.Refusals.{refused_at, refusal_line};
-ghost use Rattle.sccl_run.specs.Asked.{asked, AsksFamily, Refuses};
-ghost use Rattle.sccl_run.specs.Run.{OwesBadWords, OwesFamily, point_replay, replay_of, too_long_line};
-ghost use Rattle.sccl_run.specs.Answering.{Answers};
+ghost use Rattle.command_words.specs.Codes.{number_of as word_number};
+ghost use Rattle.report_form.specs.Answer.{code_number as report_number};
+ghost use Rattle.sccl_run.specs.Built.{so_far};
+ghost use Rattle.sccl_run.specs.Refusals.{refused_at};
+ghost use Rattle.sccl_run.specs.Tasks.{Family, limit, replay_in, replayed};
+ghost use Rattle.sccl_run.specs.Answering.{Says};
 
 use crate::OutOfMemory;
-use crate::replaying::print_replay;
+use crate::point::replay_point;
 use crate::status::Status;
-use collective_spec::{Collective, Instance, instance_of};
-use command_words::WordFault;
-use first_form::{FirstForm, read_first_form};
-use schedule::{Schedule, run_steps, solves};
+use command_words::WordCode;
+use frontier_report::{Report, point_at, read_report};
+use report_form::{ReportCode, ReportFault};
 use std::alloc::Global;
-use text_lines::{Stop, push_number, push_word};
-use topology_text::{FamilyKind, NamedTopology, family, print_topology};
+use text_lines::{push_number, push_word};
+use topology_text::{FamilyKind, family, print_topology};
 
 /// The greatest number of bytes that are read.
 pub const LIMIT: usize = 1_048_576;
@@ -36,9 +30,8 @@ pub struct Answer {
 }
 
 /// The line of a refusal.
-fn refusal(alloc: Global, status: Status, code: u64, place: u64) -> Result<Answer, OutOfMemory>
-    ensures status { IfOk result (λ a. a.status ≡ status) }
-    ensures text { IfOk result (λ a. a.text.items ≡ refusal_line (refused_at status code place)) }
+pub fn refusal(alloc: Global, status: Status, code: u64, place: u64) -> Result<Answer, OutOfMemory>
+    ensures { IfOk result (λ a. Says (Err (refused_at status code place)) a.status a.text.items) }
 {
     let mut text = Vec::new(alloc);
     push_word(&mut text, b"refused ")?;
@@ -51,31 +44,29 @@ fn refusal(alloc: Global, status: Status, code: u64, place: u64) -> Result<Answe
     Ok(Answer { status, text })
 }
 
-/// The refusal of the words.
-pub fn bad_words(alloc: Global, words: &[String], fault: WordFault) -> Result<Answer, OutOfMemory>
-    requires { Refuses (texts words.now) fault.code fault.word }
-    ensures status { IfOk result (λ a. a.status ≡ Status.BadWords) }
-    ensures owed { IfOk result (λ a. OwesBadWords (texts words.now) a.text.items) }
+/// The refusal of a word.
+pub fn refused_word(alloc: Global, code: WordCode, word: u32) -> Result<Answer, OutOfMemory>
+    ensures { IfOk result (λ a. Says (Err (refused_at Status.BadWords (word_number code) word)) a.status a.text.items) }
 {
     refusal(
         alloc,
         Status::BadWords,
-        u64::from(fault.code.number()),
-        u64::from(fault.word),
+        u64::from(code.number()),
+        u64::from(word),
     )
 }
 
+/// The refusal of a text that is too long.
+pub fn too_long(alloc: Global) -> Result<Answer, OutOfMemory>
+    ensures { IfOk result (λ a. Says (Err (refused_at Status.TooLong 0 limit)) a.status a.text.items) }
+{
+    refusal(alloc, Status::TooLong, 0, LIMIT as u64)
+}
+
 /// The topology of a family.
-pub fn family_answer(
-    alloc: Global,
-    words: &[String],
-    kind: FamilyKind,
-    size: u8,
-) -> Result<Answer, OutOfMemory>
-    requires allowed { IsTrue (is_allowed kind size) }
-    requires asked { AsksFamily (texts words.now) kind size }
-    ensures status { IfOk result (λ a. a.status ≡ Status.Done) }
-    ensures owed { IfOk result (λ a. OwesFamily (texts words.now) a.text.items) }
+pub fn family_answer(alloc: Global, kind: FamilyKind, size: u8) -> Result<Answer, OutOfMemory>
+    requires { IsTrue (is_allowed kind size) }
+    ensures { IfOk result (λ a. Says (Ok (Family kind size)) a.status a.text.items) }
 {
     let topology = family(alloc, kind, size)?;
     let text = print_topology(alloc, &topology)?;
@@ -85,61 +76,56 @@ pub fn family_answer(
     })
 }
 
-/// The refusal of a text that is too long.
-pub fn too_long(alloc: Global) -> Result<Answer, OutOfMemory>
-    ensures status { IfOk result (λ a. a.status ≡ Status.TooLong) }
-    ensures text { IfOk result (λ a. a.text.items ≡ too_long_line) }
-{
-    refusal(alloc, Status::TooLong, 0, LIMIT as u64)
-}
-
-/// The replay of a point: the run of its schedule from the collective's start, and the verdict.
-fn replay_point(
+/// The replay of the point of this number, where there is one and it copies. The index of the word that asks for it is
+/// for its refusal.
+fn point_answer(
     alloc: Global,
-    topology: &NamedTopology,
-    collective: Collective,
-    c: u8,
-    schedule: &Schedule,
-) -> Result<Vec<u8>, OutOfMemory>
-    requires named { IsNamed topology.now }
-    requires allowed { IsTrue (allows collective.kind topology.now.topology.nodes c) }
-    requires copies { reduces collective.kind ≡ false }
-    requires root { collective.root < topology.now.topology.nodes }
-    requires few { c ≤ 16 }
-    requires in_range { IsInRange (chunks_of collective.kind topology.now.topology.nodes c) topology.now.topology.nodes schedule.now }
-    ensures { IfOk result (λ text. text.items ≡ point_replay topology.now collective c schedule.now) }
+    report: &Report,
+    number: u32,
+    word: u32,
+) -> Result<Answer, OutOfMemory>
+    ensures { IfOk result (λ a. Says (replay_in so_far report.now number word None) a.status a.text.items) }
 {
-    let nodes = topology.topology().nodes();
-    let Instance { pre, post, .. } = instance_of(alloc, collective, nodes, c)?;
-    let run = run_steps(alloc, &pre, schedule)?;
-    let verdict = solves(alloc, topology.topology(), &pre, &post, schedule)?;
-    let text = print_replay(alloc, 1, topology.names(), &run, verdict)?;
-    Ok(text)
+    let Some((part, point)) = point_at(report, number) else {
+        return refused_word(alloc, WordCode::UnknownPoint, word);
+    };
+    let Some(text) = replay_point(alloc, report, number, part, point)? else {
+        return refused_word(alloc, WordCode::NotBuilt, word);
+    };
+    Ok(Answer {
+        status: Status::Done,
+        text,
+    })
 }
 
-/// The replay of the report's one point.
-fn replay(alloc: Global, report: &FirstForm) -> Result<Vec<u8>, OutOfMemory>
-    ensures { (p : PointValue) → IsFirstForm report.now p → IfOk result (λ text. text.items ≡ replay_of report.now p) }
+/// The refusal of a text that is no report.
+fn bad_report(alloc: Global, fault: ReportFault) -> Result<Answer, OutOfMemory>
+    ensures code { IfOk result (λ _. fault.code ≢ ReportCode.OutOfMemory) }
+    ensures says { IfOk result (λ a. Says (Err (refused_at Status.BadReport (report_number fault.code) fault.line)) a.status a.text.items) }
 {
-    let (c, schedule) = report.point();
-    let text = replay_point(alloc, report.topology(), report.collective(), c, schedule)?;
-    Ok(text)
+    match fault.code {
+        ReportCode::OutOfMemory => Err(OutOfMemory),
+        code => refusal(
+            alloc,
+            Status::BadReport,
+            u64::from(code.number()),
+            u64::from(fault.line),
+        ),
+    }
 }
 
-/// The answer to a text that came whole: the replay of the report that it spells, or its refusal.
-pub fn answer_to(alloc: Global, text: &[u8]) -> Result<Answer, OutOfMemory>
-    requires { length text.now ≤ LIMIT }
-    ensures answered { IfOk result (λ a. Answers a.status text.now a.text.items) }
+/// The answer to a text that came whole: the replay of a point of the report that it spells, or its refusal.
+pub fn report_answer(
+    alloc: Global,
+    bytes: &[u8],
+    number: u32,
+    word: u32,
+) -> Result<Answer, OutOfMemory>
+    requires { length bytes.now ≤ limit }
+    ensures { IfOk result (λ a. Says (replayed so_far number word None bytes.now) a.status a.text.items) }
 {
-    match read_first_form(alloc, text) {
-        Ok(report) => {
-            let text = replay(alloc, &report)?;
-            Ok(Answer {
-                status: Status::Done,
-                text,
-            })
-        }
-        Err(Stop::Memory) => Err(OutOfMemory),
-        Err(Stop::Refused(code)) => refusal(alloc, Status::BadReport, u64::from(code.number()), 0),
+    match read_report(alloc, bytes) {
+        Ok(report) => point_answer(alloc, &report, number, word),
+        Err(fault) => bad_report(alloc, fault),
     }
 }

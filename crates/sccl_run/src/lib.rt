@@ -2,8 +2,8 @@
 #![tactic(auto)]
 
 mod answer;
-mod asked;
 mod laws;
+mod point;
 mod replaying;
 mod status;
 #[cfg(test)]
@@ -13,8 +13,10 @@ mod vectors;
 
 pub use command_words::{Command, RootWord, WordCode, WordFault, read_words};
 pub use laws::{
-    a_family_that_is_left_out_is_wrong, a_family_that_is_written_is_right, optimal_has_no_better,
-    refused_is_not_done,
+    a_family_that_is_left_out_is_wrong, a_family_that_is_written_is_right,
+    a_refusal_that_takes_nothing_is_wrong, a_search_that_loses_files_is_wrong,
+    a_search_with_other_files_is_wrong, optimal_has_no_better, refused_is_not_done,
+    replays_are_due, what_a_search_wrote_is_verified,
 };
 pub use status::Status;
 pub use std::alloc::AllocError as OutOfMemory;

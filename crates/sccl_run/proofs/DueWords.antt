@@ -1,0 +1,59 @@
+-- What is due, by the command that the words ask for.
+use Rattle.std.proofs.Common.{◌≡◌, ℕ, ◌<◌, ◌≤◌, ◌+◌, List, [], Option, not, true, false, nat_lt, length, drop, Result, Ok, Err, refl, sym, subst, ap, arith, ◌∙◌}
+use Rattle.std.proofs.lemmas.Bool.{lt-ltb}
+use Rattle.std.proofs.lemmas.List.{drop_all}
+use Rattle.text_lines.specs.Check.{◌>>=◌, refuse}
+use Rattle.command_words.specs.declared.command.Command.{Command}
+use Rattle.command_words.specs.declared.fault.WordFault.{WordFault}
+use Rattle.command_words.specs.declared.fault.WordCode.TheVariants.{NotBuilt}
+use Rattle.command_words.specs.Words.{command_of}
+use Rattle.command_words.specs.Codes.{number_of as word_number}
+use Rattle.sccl_run.specs.declared.status.Status.{Status}
+use Rattle.sccl_run.specs.declared.status.Status.TheVariants.{BadWords, TooLong}
+use Rattle.sccl_run.specs.Built.{Built, is_built, so_far}
+use Rattle.sccl_run.specs.Asked.{Ask, asked}
+use Rattle.sccl_run.specs.Answering.{Says}
+use Rattle.sccl_run.specs.Refusals.{Refusal, refused_at}
+use Rattle.sccl_run.specs.Tasks.{Task, due, limit, replayed, task_of, words_asked}
+
+pub due_refused : (built : Built) (words : List (List ℕ)) (bytes : List ℕ) (fault : WordFault) → asked built words ≡ Err fault → due built words bytes ≡ Err (refused_at BadWords (word_number fault.code) fault.word)
+unfolding due
+due_refused built words bytes fault e = ap (λ x. words_asked x >>= (λ c. task_of built c bytes)) e
+
+pub due_command : (built : Built) (words : List (List ℕ)) (bytes : List ℕ) (c : Command) → asked built words ≡ Ok c → due built words bytes ≡ task_of built c bytes
+unfolding due
+due_command built words bytes c e = ap (λ x. words_asked x >>= (λ d. task_of built d bytes)) e
+
+-- the command that is read is asked for where it is built
+pub asked_built : (words : List (List ℕ)) (c : Command) → command_of words ≡ Ok c → is_built c ≡ true → asked so_far words ≡ Ok c
+asked_built words c read built =
+    ap (λ x. x >>= (λ d. refuse (not (is_built d)) (record { code = NotBuilt; word = 0 }) >>= (λ _. Ok d))) read
+    ∙ ap (λ b. refuse (not b) (record { code = NotBuilt; word = 0 }) >>= (λ _. Ok c)) built
+
+pub asked_unbuilt : (words : List (List ℕ)) (c : Command) → command_of words ≡ Ok c → is_built c ≡ false → asked so_far words ≡ Err (record { code = NotBuilt; word = 0 })
+asked_unbuilt words c read built =
+    ap (λ x. x >>= (λ d. refuse (not (is_built d)) (record { code = NotBuilt; word = 0 }) >>= (λ _. Ok d))) read
+    ∙ ap (λ b. refuse (not b) (record { code = NotBuilt; word = 0 }) >>= (λ _. Ok c)) built
+
+pub asked_refused : (words : List (List ℕ)) (fault : WordFault) → command_of words ≡ Err fault → asked so_far words ≡ Err fault
+asked_refused words fault read = ap (λ x. x >>= (λ d. refuse (not (is_built d)) (record { code = NotBuilt; word = 0 }) >>= (λ _. Ok d))) read
+
+-- words that are refused ask for nothing
+pub refused_asks_nothing : (P : Command → Type 0) (built : Built) (words : List (List ℕ)) (fault : WordFault) → asked built words ≡ Err fault → Ask P built words → ⊥
+refused_asks_nothing P built words fault refused ask = let e : Err fault ≡ Ok ask.command = sym refused ∙ ask.is in absurd (cc)
+
+-- and words that ask for a command ask for nothing else
+pub asks_one : (P : Command → Type 0) (built : Built) (words : List (List ℕ)) (c : Command) → asked built words ≡ Ok c → Ask P built words → P c
+asks_one P built words c is ask = let e : Ok ask.command ≡ Ok c = sym ask.is ∙ is in let same : ask.command ≡ c = cc in subst P same ask.such
+
+-- what is owed for the same due
+pub says_as : (x y : Result Task Refusal) (status : Status) (text : List ℕ) → x ≡ y → Says y status text → Says x status text
+says_as x y status text e says = subst (λ z. Says z status text) (sym e) says
+
+-- a text that is too long is refused before it is looked at
+pub too_long_replayed : (built : Built) (number word : ℕ) (order : Option ℕ) (bytes : List ℕ) → limit < length bytes → replayed built number word order bytes ≡ Err (refused_at TooLong 0 limit)
+too_long_replayed built number word order bytes long = let test : nat_lt limit (length bytes) ≡ true = lt-ltb limit (length bytes) long in rw test refl
+
+-- nothing is left behind a text that is not too long
+pub nothing_behind : (bytes : List ℕ) → length bytes ≤ limit → drop (limit + 1) bytes ≡ []
+nothing_behind bytes short = drop_all (limit + 1) bytes (omega (arith, short))

@@ -1,0 +1,209 @@
+-- How a run ends, from what its answer says.
+use Rattle.std.proofs.Common.{◌≡◌, ◌≢◌, ◌++◌, ℕ, suc, ◌+◌, List, ◌∷◌, take, None, Contains, inl, inr, Result, Ok, Err, refl, sym, subst, ap, arith, ◌∙◌}
+use Rattle.outer_ports.specs.Port.{Rose}
+use Rattle.command_words.specs.declared.command.Command.{Command}
+use Rattle.command_words.specs.declared.command.Command.TheVariants as command
+use Rattle.command_words.specs.declared.fault.WordFault.{WordFault}
+use Rattle.sccl_run.specs.declared.status.Status.{Status}
+use Rattle.sccl_run.specs.declared.status.Status.TheVariants.{Done, OutOfMemory, BadWords, SourceFailed, SinkFailed, ShelfFailed, BadReport, Denied, TooLong}
+use Rattle.sccl_run.specs.Built.{Built}
+use Rattle.sccl_run.specs.Asked.{Ask, Reads, asked}
+use Rattle.sccl_run.specs.Refusals.{Refusal, refusal_line}
+use Rattle.sccl_run.specs.Tasks.{Task, Synthesise, Audit, Replay, Program, Family, Try, due, replayed}
+use Rattle.sccl_run.specs.Owed.{Owed}
+use Rattle.sccl_run.specs.TopCall.{CountValue, EndsIfItFails, EndsTask, IsCall, IsDenial, IsDue, IsFree, IsSilent, StatusIsDue, TextIsDue, ends_of, no_shelf}
+use Rattle.sccl_run.specs.Answering.{Ends, Says}
+use Rattle.sccl_run.proofs.Refused.{With, replay_ends, never_free}
+
+-- ---- with which status an answer ends
+
+says_with : (P : Status → Type 0) (x : Result Task Refusal) (status : Status) (text : List ℕ) → With P x → P Done → Says x status text → P status
+says_with P (Ok t) status text held done says = subst P (sym says.0) done
+says_with P (Err r) status text held done says = subst P (sym says.0) held
+
+not_free : (status : Status) → status ≢ OutOfMemory → status ≢ SourceFailed → status ≢ SinkFailed → status ≢ ShelfFailed → IsFree status → ⊥
+not_free status a b c d (inl e) = a e
+not_free status a b c d (inr (inl e)) = b e
+not_free status a b c d (inr (inr (inl e))) = c e
+not_free status a b c d (inr (inr (inr e))) = d e
+
+-- an answer to a replay
+pub replay_ends_so : (built : Built) (number word : ℕ) (bytes : List ℕ) (status : Status) (text : List ℕ) → Says (replayed built number word None bytes) status text → Ends (Ok (command.Replay number word None)) status
+replay_ends_so built number word bytes status text says =
+    let P : Status → Type 0 = Ends (Ok (command.Replay number word None)) in
+    let done : P Done = record { one = (0, omega arith, refl); given = not_free Done (λ e. cc) (λ e. cc) (λ e. cc) (λ e. cc) } in
+    let words : P BadWords = record { one = (1, omega arith, refl); given = not_free BadWords (λ e. cc) (λ e. cc) (λ e. cc) (λ e. cc) } in
+    let report : P BadReport = record { one = (3, omega arith, refl); given = not_free BadReport (λ e. cc) (λ e. cc) (λ e. cc) (λ e. cc) } in
+    let long : P TooLong = record { one = (4, omega arith, refl); given = not_free TooLong (λ e. cc) (λ e. cc) (λ e. cc) (λ e. cc) } in
+    says_with P (replayed built number word None bytes) status text (replay_ends P long report words built number word None bytes) done says
+
+pub long_ends_so : (number word : ℕ) (status : Status) → status ≡ TooLong → Ends (Ok (command.Replay number word None)) status
+long_ends_so number word status e =
+    let own : Ends (Ok (command.Replay number word None)) TooLong = record { one = (4, omega arith, refl); given = not_free TooLong (λ e. cc) (λ e. cc) (λ e. cc) (λ e. cc) } in
+    subst (Ends (Ok (command.Replay number word None))) (sym e) own
+
+pub words_end_so : (built : Built) (words : List (List ℕ)) (fault : WordFault) (status : Status) → asked built words ≡ Err fault → status ≡ BadWords → Ends (asked built words) status
+words_end_so built words fault status refused e =
+    let own : Ends (Err fault) BadWords = record { one = (0, omega arith, refl); given = not_free BadWords (λ e. cc) (λ e. cc) (λ e. cc) (λ e. cc) } in
+    subst (λ x. Ends x status) (sym refused) (subst (Ends (Err fault)) (sym e) own)
+
+pub family_ends_so : (built : Built) (words : List (List ℕ)) (kind : _) (size : ℕ) (status : Status) → asked built words ≡ Ok (command.Family kind size) → status ≡ Done → Ends (asked built words) status
+family_ends_so built words kind size status family e =
+    let own : Ends (Ok (command.Family kind size)) Done = record { one = (0, omega arith, refl); given = not_free Done (λ e. cc) (λ e. cc) (λ e. cc) (λ e. cc) } in
+    subst (λ x. Ends x status) (sym family) (subst (Ends (Ok (command.Family kind size))) (sym e) own)
+
+-- ---- every run
+
+behind_two : (a b x : Status) (xs : List Status) → Contains xs x → Contains (a ∷ b ∷ xs) x
+behind_two a b x xs there = (suc (suc there.0), omega (arith, there.1), there.2)
+
+-- words that read the source can end by its fault
+may_fail : (c : Command) → Reads c → Contains (ends_of (Ok c)) SourceFailed
+may_fail (command.Synth kind word limits root) reads = (3, omega arith, refl)
+may_fail command.Check reads = (1, omega arith, refl)
+may_fail (command.Replay number word order) reads = (2, omega arith, refl)
+may_fail (command.Programs number word) reads = (2, omega arith, refl)
+may_fail (command.Family kind size) reads = absurd reads
+may_fail (command.Trial n) reads = absurd reads
+
+quiet : (failed status : Status) (count : CountValue) → status ≢ failed → count.now ≡ count.before → EndsIfItFails failed status count
+quiet failed status count other same = record { only = λ e. absurd (other e); kept = λ _. same }
+
+module _ (built : Built) (words : List (List ℕ)) (source sink : CountValue) (SourceStays SinkStays : Type 0) where
+  pub call_ended : (status : Status) → Ends (asked built words) status → source.now ≡ source.before → sink.now ≡ sink.before → (¬ Ask Reads built words → SourceStays)
+      → IsCall built words status source sink no_shelf SourceStays SinkStays (Unit {0})
+  call_ended status ends read written unread = record {
+    ends = behind_two OutOfMemory SinkFailed status (ends_of (asked built words)) ends.one;
+    source_fails = quiet SourceFailed status source (λ e. ends.given (inr (inl e))) read;
+    sink_fails = quiet SinkFailed status sink (λ e. ends.given (inr (inr (inl e)))) written;
+    shelf_fails = quiet ShelfFailed status no_shelf (λ e. ends.given (inr (inr (inr e)))) refl;
+    unread = unread;
+    unopened = λ _. tt;
+    silent = λ silent. absurd (ends.given (free silent));
+  }
+    where
+      free : IsSilent status → IsFree status
+      free (inl e) = inl e
+      free (inr (inl e)) = inr (inl e)
+      free (inr (inr e)) = inr (inr (inr e))
+
+  pub call_unwritten : source.now ≡ source.before → Rose sink.before sink.now → (¬ Ask Reads built words → SourceStays)
+      → IsCall built words SinkFailed source sink no_shelf SourceStays SinkStays (Unit {0})
+  call_unwritten read rose unread = record {
+    ends = (1, omega arith, refl);
+    source_fails = quiet SourceFailed SinkFailed source (λ e. cc) read;
+    sink_fails = record { only = λ _. rose; kept = λ other. absurd (other refl) };
+    shelf_fails = quiet ShelfFailed SinkFailed no_shelf (λ e. cc) refl;
+    unread = unread;
+    unopened = λ _. tt;
+    silent = λ silent. absurd (heard silent);
+  }
+    where
+      heard : IsSilent SinkFailed → ⊥
+      heard (inl e) = cc
+      heard (inr (inl e)) = cc
+      heard (inr (inr e)) = cc
+
+  pub call_without_memory : source.now ≡ source.before → sink.now ≡ sink.before → SinkStays → (¬ Ask Reads built words → SourceStays)
+      → IsCall built words OutOfMemory source sink no_shelf SourceStays SinkStays (Unit {0})
+  call_without_memory read written stays unread = record {
+    ends = (0, omega arith, refl);
+    source_fails = quiet SourceFailed OutOfMemory source (λ e. cc) read;
+    sink_fails = quiet SinkFailed OutOfMemory sink (λ e. cc) written;
+    shelf_fails = quiet ShelfFailed OutOfMemory no_shelf (λ e. cc) refl;
+    unread = unread;
+    unopened = λ _. tt;
+    silent = λ _. stays;
+  }
+
+  pub call_unread : Ask Reads built words → Rose source.before source.now → sink.now ≡ sink.before → SinkStays
+      → IsCall built words SourceFailed source sink no_shelf SourceStays SinkStays (Unit {0})
+  call_unread ask rose written stays = record {
+    ends = behind_two OutOfMemory SinkFailed SourceFailed (ends_of (asked built words)) (subst (λ x. Contains (ends_of x) SourceFailed) (sym ask.is) (may_fail ask.command ask.such));
+    source_fails = record { only = λ _. rose; kept = λ other. absurd (other refl) };
+    sink_fails = quiet SinkFailed SourceFailed sink (λ e. cc) written;
+    shelf_fails = quiet ShelfFailed SourceFailed no_shelf (λ e. cc) refl;
+    unread = λ none. absurd (none ask);
+    unopened = λ _. tt;
+    silent = λ _. stays;
+  }
+
+-- ---- which status, and which text
+
+says_refused : (x : Result Task Refusal) (status : Status) (text : List ℕ) (r : Refusal) → Says x status text → x ≡ Err r → (status ≡ r.status) × (text ≡ refusal_line r)
+says_refused x status text r says e = subst (λ y. Says y status text) e says
+
+says_done : (x : Result Task Refusal) (status : Status) (text : List ℕ) (t : Task) → Says x status text → x ≡ Ok t → (status ≡ Done) × Owed t text
+says_done x status text t says e = subst (λ y. Says y status text) e says
+
+ends_well : (t : Task) (status : Status) → status ≡ Done → EndsTask t status
+ends_well (Synthesise w t) status e = inl e
+ends_well (Audit r) status e = inl e
+ends_well (Replay r n p o) status e = inl e
+ends_well (Program r n p) status e = inl e
+ends_well (Family k n) status e = inl e
+ends_well (Try n) status e = inl e
+
+ends_freely : (t : Task) (status : Status) → IsFree status → EndsTask t status
+ends_freely (Synthesise w t) status e = inr e
+ends_freely (Audit r) status e = inr (inr e)
+ends_freely (Replay r n p o) status e = inr e
+ends_freely (Program r n p) status e = inr e
+ends_freely (Family k n) status e = inr e
+ends_freely (Try n) status e = inr e
+
+is_due : (x : Result Task Refusal) (status : Status) (text : List ℕ) → Says x status text → IsDue x text
+is_due (Err r) status text says = says.1
+is_due (Ok (Audit r)) status text says = inl says.1
+is_due (Ok (Synthesise w t)) status text says = says.1
+is_due (Ok (Replay r n p o)) status text says = says.1
+is_due (Ok (Program r n p)) status text says = says.1
+is_due (Ok (Family k n)) status text says = says.1
+is_due (Ok (Try n)) status text says = says.1
+
+denial_of : (x : Result Task Refusal) (status : Status) (text : List ℕ) → Says x status text → status ≡ Denied → IsDenial text
+denial_of (Err r) status text says e = record { refusal = r; denied = sym says.0 ∙ e; line = says.1 }
+denial_of (Ok t) status text says e = let f : Done ≡ Denied = sym says.0 ∙ e in absurd (cc)
+
+module _ (built : Built) (words : List (List ℕ)) (bytes : List ℕ) where
+  pub status_ended : (status : Status) (text : List ℕ) → Ends (asked built words) status → Says (due built words bytes) status text → StatusIsDue built words bytes status
+  status_ended status text ends says = record {
+    refused = λ r e. inl (says_refused _ status text r says e).0;
+    done = λ t e. ends_well t status (says_done _ status text t says e).0;
+    shelf_last = λ r _ e. ends.given (inr (inr (inr e)));
+  }
+
+  pub status_free : (status : Status) → IsFree status → status ≢ ShelfFailed → StatusIsDue built words bytes status
+  status_free status free shelf = record { refused = λ r _. inr free; done = λ t _. ends_freely t status free; shelf_last = λ r _. shelf }
+
+  pub text_ended : (before now : List ℕ) (status : Status) (text : List ℕ) → Ends (asked built words) status → Says (due built words bytes) status text → now ≡ before ++ text → TextIsDue built words bytes before now status
+  text_ended before now status text ends says written = record {
+    line = λ r e _. written ∙ ap (λ end. before ++ end) (says_refused _ status text r says e).1;
+    owed = λ t e _. (text, (says_done _ status text t says e).1, written);
+    denial = λ e. (text, denial_of _ status text says e, written);
+    prefix = λ e. absurd (ends.given (inr (inr (inl e))));
+  }
+
+  pub text_unwritten : (before now : List ℕ) (status : Status) (text : List ℕ) (count : ℕ) → Says (due built words bytes) status text → now ≡ before ++ take count text → TextIsDue built words bytes before now SinkFailed
+  text_unwritten before now status text count says written = record {
+    line = λ r e s. absurd (never_free built words bytes r e (inr (inr (inl (sym s)))));
+    owed = λ t _ s. absurd (cc);
+    denial = λ s. absurd (cc);
+    prefix = λ _. (text, count, is_due _ status text says, written);
+  }
+
+  pub text_without_memory : (before now : List ℕ) → TextIsDue built words bytes before now OutOfMemory
+  text_without_memory before now = record {
+    line = λ r e s. absurd (never_free built words bytes r e (inl (sym s)));
+    owed = λ t _ s. absurd (cc);
+    denial = λ s. absurd (cc);
+    prefix = λ s. absurd (cc);
+  }
+
+  pub text_unread : (before now : List ℕ) → TextIsDue built words bytes before now SourceFailed
+  text_unread before now = record {
+    line = λ r e s. absurd (never_free built words bytes r e (inr (inl (sym s))));
+    owed = λ t _ s. absurd (cc);
+    denial = λ s. absurd (cc);
+    prefix = λ s. absurd (cc);
+  }
