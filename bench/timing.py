@@ -1,0 +1,56 @@
+"""Times the program itself, not its launcher, on reports of two sizes, beside a run that does next to nothing."""
+import os
+import subprocess
+import sys
+import time
+
+ROOT = os.path.dirname(os.path.dirname(os.path.abspath(__file__)))
+LIMIT = 1048576
+
+
+def program():
+    """The program as the launcher left it, which proves and builds it first where it is not current."""
+    if subprocess.run([os.path.join(ROOT, "sccl"), "family", "kind=line", "size=1"], stdout=subprocess.DEVNULL).returncode:
+        sys.exit("there is no program to time")
+    return os.path.join(ROOT, "out", "sccl")
+
+
+def report(name, nodes, groups, chunks, sends):
+    """A report of a broadcast over nodes that are called name(0), name(1) and so on; the groups are lists of links."""
+    steps, spelled = 8, lambda link: f"{name(link[0])}>{name(link[1])}"
+    lines = ["sccl 1", f"synth collective=broadcast k=8 steps={steps} chunks=16 conflicts=1000 root={name(0)}", "topology 1"]
+    lines.append("nodes " + " ".join(name(it) for it in range(nodes)))
+    lines += ["group 16 " + " ".join(map(spelled, it)) for it in groups]
+    lines += ["frontier whole", f"point {steps} {2 * steps} {chunks} optimal", "rounds " + " ".join(["2"] * steps)]
+    lines += [f"send {chunk} {name(a)} {name(b)} {step}" for step, chunk, (a, b) in sends]
+    return "\n".join([*lines, "end", ""]).encode()
+
+
+def all_links(nodes):
+    return [(a, b) for a in range(nodes) for b in range(nodes) if a != b]
+
+
+def seconds(words, text, verdict=b""):
+    """The best of 25 runs. The last line but one of the output has to begin with the verdict."""
+    times = []
+    for _ in range(25):
+        start = time.perf_counter()
+        done = subprocess.run(words, input=text, capture_output=True)
+        times.append(time.perf_counter() - start)
+        if done.returncode or verdict not in done.stdout[-40:]:
+            sys.exit(f"status {done.returncode}: {done.stdout[-40:]!r}")
+    return min(times)
+
+
+def compare(sizes, verdict):
+    """Prints the seconds for each of two sizes, each said in words beside its text, and how they grow beside the texts."""
+    run = program()
+    empty = seconds([run, "family", "kind=line", "size=1"], b"")
+    print(f"empty run: {empty:.4f} s")
+    measured = []
+    for what, text in sizes:
+        assert len(text) <= LIMIT, len(text)
+        measured.append((len(text), seconds([run, "replay", "point=1"], text, verdict)))
+        print(f"{what}, {len(text)} bytes: {measured[-1][1]:.4f} s")
+    (small, fast), (large, slow) = measured
+    print(f"the text grows {large / small:.2f} times, the time above the empty run {(slow - empty) / (fast - empty):.2f} times")
