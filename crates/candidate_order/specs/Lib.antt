@@ -2,4 +2,5 @@ pub mod Ranges
 pub mod Costs
 pub mod Listed
 pub mod Frontiers
+pub mod Copied
 pub mod Rows

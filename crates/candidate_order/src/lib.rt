@@ -9,6 +9,7 @@ mod limits;
 mod listing;
 mod mark;
 mod order;
+mod outcome;
 mod point;
 #[cfg(test)]
 mod tests;
@@ -29,6 +30,7 @@ pub use limits::Limits;
 pub use listing::list;
 pub use mark::Mark;
 pub use order::{better, cost_cmp, no_worse};
+pub use outcome::Outcome;
 pub use point::Point;
 pub use std::alloc::AllocError as OutOfMemory;
 pub use vectors::{

@@ -51,12 +51,7 @@ impl Layout {
 
     /// The placement of all pairs of the layout.
     #[tactic(auto, using(crate::proofs::Laying::layout_rules))]
-    pub(crate) fn placement(
-        self,
-        alloc: Global,
-        chunks: u16,
-        nodes: u8,
-    ) -> Result<Placement, OutOfMemory>
+    pub fn placement(self, alloc: Global, chunks: u16, nodes: u8) -> Result<Placement, OutOfMemory>
         requires { 1 ≤ nodes }
         ensures { IfOk result (λ p. p ≡ laid_out self chunks nodes) }
     {

@@ -22,7 +22,7 @@ counted_fold nodes before counted [] bag is = is
 counted_fold nodes before counted (h ∷ hops) bag is =
     counted_fold nodes before counted hops (added bag (before (h.chunk, h.from))) (counted_sum nodes bag (before (h.chunk, h.from)) is (counted (h.chunk, h.from)))
 
-counted_summed : (nodes : ℕ) (sends : List Hop) (before : Bags) (step : ℕ) → Counted nodes before → Counted nodes (summed_step sends before step)
+pub counted_summed : (nodes : ℕ) (sends : List Hop) (before : Bags) (step : ℕ) → Counted nodes before → Counted nodes (summed_step sends before step)
 counted_summed nodes sends before step counted pair = counted_fold nodes before counted (filter (goes_to step pair) sends) (before pair) (counted pair)
 
 counted_start : (nodes : ℕ) → Counted nodes (contributions nodes)

@@ -31,7 +31,7 @@ same_hop a b chunks froms tos steps =
     ∙ (ap (λ t. record { chunk = b.chunk; from = b.from; to = t; step = a.step }) tos
     ∙ ap (λ i. record { chunk = b.chunk; from = b.from; to = b.to; step = i }) steps))
 
-neither_before : (a b : Hop) → hop_before a b ≡ false → hop_before b a ≡ false → a ≡ b
+pub neither_before : (a b : Hop) → hop_before a b ≡ false → hop_before b a ≡ false → a ≡ b
 neither_before a b there back =
     let steps = untied a.step b.step _ _ there back in
     let chunks = untied a.chunk b.chunk _ _ steps.1 steps.2 in

@@ -65,7 +65,7 @@ each_apart : (steps : ℕ) (h : Hop) (hops : List Hop) → IsStep steps h.step �
 each_apart steps h [] is each apart = tt
 each_apart steps h (o ∷ hops) is each apart = (apart_again steps h o is each.0 apart.0, each_apart steps h hops is each.1 apart.1)
 
-apart_inverses : (steps : ℕ) (hops : List Hop) → StepsIn steps hops → Apart hops → Apart (map (inverse_hop steps) hops)
+pub apart_inverses : (steps : ℕ) (hops : List Hop) → StepsIn steps hops → Apart hops → Apart (map (inverse_hop steps) hops)
 apart_inverses steps [] each apart = tt
 apart_inverses steps (h ∷ hops) each apart = (each_apart steps h hops each.0 each.1 apart.0, apart_inverses steps hops each.1 apart.1)
 
@@ -82,7 +82,7 @@ inverse_below steps chunks nodes (h ∷ hops) each =
 
 -- ---- whole schedules
 
-pairs_from_InOrder : (hops : List Hop) → InOrder hop_before hops → AllPairs (λ a b. hop_before a b ≡ true) hops
+pub pairs_from_InOrder : (hops : List Hop) → InOrder hop_before hops → AllPairs (λ a b. hop_before a b ≡ true) hops
 pairs_from_InOrder [] order i j d low high = absurd (omega arith)
 pairs_from_InOrder (h ∷ hops) order zero zero d low high = absurd (omega arith)
 pairs_from_InOrder (h ∷ hops) order zero (suc j) d low high = All-from_recursion (λ y. hop_before h y ≡ true) hops order.0 j d (omega arith)

@@ -33,7 +33,7 @@ turned_link (l ∷ links) link =
 turned_has : (group : GroupValue) (link : ℕ × ℕ) → has_link (reversed_group group) link ≡ has_link group (turned link)
 turned_has group link = turned_link group.links link
 
-turned_usable : (groups : List GroupValue) (link : ℕ × ℕ) → list_any (λ group. has_link group link) (map reversed_group groups) ≡ list_any (λ group. has_link group (turned link)) groups
+pub turned_usable : (groups : List GroupValue) (link : ℕ × ℕ) → list_any (λ group. has_link group link) (map reversed_group groups) ≡ list_any (λ group. has_link group (turned link)) groups
 turned_usable [] link = refl
 turned_usable (g ∷ groups) link =
     ap (λ b. b || list_any (λ group. has_link group link) (map reversed_group groups)) (turned_has g link)

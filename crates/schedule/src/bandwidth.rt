@@ -11,7 +11,7 @@ use crate::schedule::Schedule;
 use crate::topology::Topology;
 
 /// The first step, and the first group in it, that is over its bandwidth.
-pub(crate) fn first_overfull(topology: &Topology, schedule: &Schedule) -> Option<(u8, u16)>
+pub fn first_overfull(topology: &Topology, schedule: &Schedule) -> Option<(u8, u16)>
     requires { IsInRange 65536 topology.now.nodes schedule.now }
     ensures { result ≡ first_overfull topology.now schedule.now }
 {
@@ -42,7 +42,7 @@ fn overfull_group(topology: &Topology, schedule: &Schedule, step: u8) -> Option<
 }
 
 /// How many sends of the step have their link in the group.
-pub(crate) fn load_of(group: &Group, schedule: &Schedule, step: u8) -> u32
+pub fn load_of(group: &Group, schedule: &Schedule, step: u8) -> u32
     requires in_range { IsInRange 65536 16 schedule.now }
     requires links { All (IsBelow 16) group.now.links }
     ensures { result ≡ load group.now step schedule.now.sends }

@@ -54,7 +54,7 @@ pub fn solves(
 }
 
 /// The first send whose link stands in no group.
-fn first_unlinked(topology: &Topology, sends: &[Hop]) -> Option<Hop>
+pub fn first_unlinked(topology: &Topology, sends: &[Hop]) -> Option<Hop>
     requires { All (λ h. is_hop_below 65536 topology.now.nodes h ≡ true) sends.now }
     ensures { result ≡ find (λ h. not (is_usable topology.now (link_of h))) sends.now }
 {

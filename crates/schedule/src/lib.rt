@@ -18,9 +18,10 @@ mod topology;
 pub mod vectors;
 mod verdict;
 
+pub use bandwidth::{first_overfull, load_of};
 pub use group::Group;
 pub use hop::Hop;
-pub use judge::solves;
+pub use judge::{first_unlinked, solves};
 pub use placement::Placement;
 pub use range::in_range;
 pub use run::run_steps;

@@ -47,7 +47,7 @@ impl Schedule {
     }
 
     /// The sends of a step, which stand side by side.
-    pub(crate) fn sends_of(&self, step: u8) -> &[Hop]
+    pub fn sends_of(&self, step: u8) -> &[Hop]
         ensures sends { result.now ≡ filter (λ h. h.step == step) self.now.sends }
         ensures limits { IsSchedule self.now }
     {
