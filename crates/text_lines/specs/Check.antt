@@ -36,6 +36,11 @@ abbrev pub Gives : {X Y C : Type 0} → (X → Y) → Result X (Stop C) → Resu
 Gives view (Ok x) read = read ≡ Ok (view x)
 Gives view (Err e) read = Fails e read
 
+-- the same of a reader that takes no memory
+abbrev pub Tells : {X Y C : Type 0} → (X → Y) → Result X C → Result Y C → Type 0
+Tells view (Ok x) read = read ≡ Ok (view x)
+Tells view (Err code) read = read ≡ Err code
+
 -- the first line, checked, and the place behind it
 abbrev pub line_part : {A C : Type 0} → (Option Row → Result A C) → Place → Result (A × Place) (C × ℕ)
 line_part check p = do

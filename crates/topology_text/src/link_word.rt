@@ -3,7 +3,7 @@
 ghost use Rattle.std.specs.Prelude.{◌≡◌, ◌≤◌, ◌==◌, length};
 ghost use Rattle.std.specs.List.{slice_split};
 ghost use Rattle.topology_text.specs.Reading.{both_sides, node_of, link_of};
-ghost use Rattle.topology_text.specs.Answer.{Tells};
+ghost use Rattle.text_lines.specs.Check.{Tells};
 
 use crate::fault::TopologyCode;
 use crate::name::Name;

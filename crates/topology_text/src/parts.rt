@@ -2,9 +2,8 @@
 
 ghost use Rattle.std.specs.Prelude.{◌≡◌, ◌+◌, ◌^◌, ◌<◌, ◌≤◌, length, OnOk, IfOk, codes};
 ghost use Rattle.text_lines.specs.Line.{IsIn, row_at};
-ghost use Rattle.text_lines.specs.Check.{Gives, line_part};
+ghost use Rattle.text_lines.specs.Check.{Gives, line_part, Tells};
 ghost use Rattle.topology_text.specs.Reading.{version_of, header_line, nodes_line, groups_at, begins};
-ghost use Rattle.topology_text.specs.Answer.{Tells};
 
 use crate::fault::TopologyCode;
 use crate::group_line::group_on;

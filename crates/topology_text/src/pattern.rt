@@ -1,11 +1,10 @@
 //! The pattern of a topology text, taken off the front of the lines.
 
 ghost use Rattle.std.specs.Prelude.{◌≡◌, ◌+◌, ◌*◌, ◌^◌, ◌<◌, ◌≤◌, ◌++◌, [], length, IfOk, IfSome, OnOk};
-ghost use Rattle.text_lines.specs.Check.{Gives, line_part};
+ghost use Rattle.text_lines.specs.Check.{Gives, line_part, Tells};
 ghost use Rattle.schedule.specs.Placed.{IsPlacement};
 ghost use Rattle.collective_spec.specs.Patterns.{IsPattern};
 ghost use Rattle.topology_text.specs.Reading.{custom_line, holders_line, row_of_pairs, holders_at, pattern_at};
-ghost use Rattle.topology_text.specs.Answer.{Tells};
 
 use crate::fault::TopologyCode;
 use crate::name::Name;

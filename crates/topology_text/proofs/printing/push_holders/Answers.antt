@@ -5,9 +5,8 @@ use Rattle.std.proofs.lemmas.List.{get_or_default}
 use Rattle.text_lines.specs.Text.{line}
 use Rattle.schedule.specs.Placed.{holds}
 use Rattle.topology_text.specs.Spelling.{name_at, holder_words}
-use Rattle.topology_text.proofs.Printed.{fields, appended, holders_is, name_more, name_skipped, on_ok}
+use Rattle.topology_text.proofs.Printed.{fields, appended, holders_is, name_more, name_skipped, on_ok, kept_on, kept_behind, front_kept, at_err}
 use Rattle.std.specs.Io.{StartsWith}
-use Rattle.topology_text.proofs.Printed.{kept_on, kept_behind, front_kept, at_err}
 use Rattle.topology_text.proofs.printing.push_holders.Goals as goal
 use Rattle.topology_text.proofs.printing.push_holders.Goals.{then-holds+in_ok-push_name, else-holds}
 

@@ -2,9 +2,8 @@ use Rattle.std.proofs.Common.{◌≡◌, ◌++◌, ◌∷◌, ◌≤◌, [], len
 use Rattle.std.proofs.lemmas.List.{append-nil, take_all}
 use Rattle.text_lines.specs.Text.{text_of}
 use Rattle.topology_text.specs.Spelling.{header_words, nodes_words, group_words, custom_lines, spelling}
-use Rattle.topology_text.proofs.Printed.{appended_three, spelling_is, on_ok}
+use Rattle.topology_text.proofs.Printed.{appended_three, spelling_is, on_ok, kept_more, kept_on, kept_behind, at_err, on_err}
 use Rattle.std.specs.Io.{StartsWith}
-use Rattle.topology_text.proofs.Printed.{kept_more, kept_on, kept_behind, at_err, on_err}
 use Rattle.topology_text.proofs.printing.push_topology.Goals as goal
 
 pub returns-in-None-clause-appended : goal.returns-in-None-clause-appended
