@@ -1,14 +1,10 @@
-pub mod InRange
-pub mod Keyed
-pub mod Ruled
 pub mod Turns
 pub mod Parted
 pub mod After
 pub mod Walk
 pub mod Numbers
-pub mod PointNumbers
+pub mod ListedLines
 pub mod Onward
 pub mod FrontierTurns
 pub mod Scheduled
-pub mod Pieces
 pub mod ReaderAnswers

@@ -10,7 +10,7 @@ use Rattle.topology_text.specs.declared.fault.TopologyCode.{TopologyCode}
 use Rattle.topology_text.specs.Reading.{begins, header_line, nodes_line, group_row, groups_from, groups_at, custom_line, holders_line, row_of_pairs, holders_at, Pairs, pattern_of, pattern_at}
 use Rattle.report_form.specs.declared.fault.ReportCode.{ReportCode}
 use Rattle.report_form.specs.Lines.{among}
-use Rattle.frontier_report.specs.Room.{Onward}
+use Rattle.report_lines.specs.Room.{Onward}
 
 pub among_is : {A : Type 0} (rows : List Row) (r : Result A (TopologyCode × ℕ)) (x : A) → among rows r ≡ Ok x → r ≡ Ok x
 among_is rows (Ok y) x e = let same : y ≡ x = ok_is {C = ReportCode × ℕ} y x e in ap (λ z. Ok z) same

@@ -1,19 +1,8 @@
 -- What a function of the reader answers: what the checks give, seen by a view. This project's own.
 use Rattle.std.specs.Prelude.{◌≡◌, ℕ, Result, Ok, Err}
 use Rattle.report_form.specs.declared.fault.ReportCode.{ReportCode}
-use Rattle.report_form.specs.declared.fault.ReportFault.{ReportFault}
 use Rattle.frontier_report.specs.declared.halt.Halt.{Halt}
 use Rattle.frontier_report.specs.declared.halt.Halt.TheVariants.{Memory, Refused}
-
--- checks of tokens and of a line, which take no memory
-abbrev pub Tells : {X Y C : Type 0} → (X → Y) → Result X C → Result Y C → Type 0
-Tells view (Ok x) read = read ≡ Ok (view x)
-Tells view (Err code) read = read ≡ Err code
-
--- checks that tell the line
-abbrev pub TellsAt : {X Y : Type 0} → (X → Y) → Result X ReportFault → Result Y (ReportCode × ℕ) → Type 0
-TellsAt view (Ok x) read = read ≡ Ok (view x)
-TellsAt view (Err fault) read = read ≡ Err (fault.code, fault.line)
 
 -- a check failed where the checks say so; nothing is said where memory ran out
 abbrev pub Halts : {Y : Type 0} → Halt → Result Y (ReportCode × ℕ) → Type 0

@@ -1,10 +1,5 @@
 pub mod Gives
 pub mod Wide
-pub mod Asking
-pub mod Spelled
-pub mod Room
-pub mod Heads
 pub mod After
 pub mod Bodies
 pub mod Header
-pub mod Printed

@@ -3,21 +3,20 @@
 ghost use Rattle.std.specs.Prelude.{◌≡◌, ◌≤◌, ◌+◌, length, OnOk};
 ghost use Rattle.report_form.specs.Reports.{parts_of};
 ghost use Rattle.report_form.specs.Reading.{body_of, frontier_at, frontiers_from, joined_at, part_bytes};
-ghost use Rattle.frontier_report.specs.Asking.{asks};
+ghost use Rattle.report_lines.specs.Asking.{asks};
 ghost use Rattle.frontier_report.specs.Bodies.{body_value};
 ghost use Rattle.frontier_report.specs.Gives.{Reads};
-ghost use Rattle.frontier_report.specs.Room.{HasRoom, Onward};
+ghost use Rattle.report_lines.specs.Room.{HasRoom, Onward};
 
 use crate::halt::Halt;
-use crate::lines::{fixed_part, last_part};
 use crate::listed::{refuted_part, unknown_part};
 use crate::points::{joined_points_part, points_part};
-use crate::question::Question;
-use crate::words::Words;
 use candidate_order::{Frontier, Point};
 use collective_spec::Kind;
 use indexmap::IndexSet;
 use outer_ports::Part;
+use report_form::Words;
+use report_lines::{Question, fixed_part, last_part};
 use std::alloc::Global;
 use text_lines::Lines;
 use topology_text::{Name, NamedTopology};

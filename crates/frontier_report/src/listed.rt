@@ -5,18 +5,18 @@ ghost use Rattle.text_lines.specs.Line.{IsIn, row_at};
 ghost use Rattle.report_form.specs.Lines.{lines_at};
 ghost use Rattle.report_form.specs.Reading.{refuted_line, unknown_line};
 ghost use Rattle.frontier_report.specs.After.{refuted_after, unknown_after};
-ghost use Rattle.frontier_report.specs.Asking.{asks};
-ghost use Rattle.frontier_report.specs.Gives.{Reads, Tells};
-ghost use Rattle.frontier_report.specs.Room.{HasRoom, Onward};
+ghost use Rattle.report_lines.specs.Asking.{asks};
+ghost use Rattle.frontier_report.specs.Gives.{Reads};
+ghost use Rattle.text_lines.specs.Check.{Tells};
+ghost use Rattle.report_lines.specs.Room.{HasRoom, Onward};
 
-use crate::candidates::{candidate_of, comes_next, within};
-use crate::digits::{next_digits, spells};
-use crate::fields::{fixed_word, no_more};
 use crate::halt::Halt;
-use crate::lines::{begins, tokens_on};
-use crate::question::Question;
 use candidate_order::{Candidate, Unknown};
 use report_form::{ReportCode, ReportFault};
+use report_lines::{
+    Question, begins, candidate_of, comes_next, fixed_word, next_digits, no_more, spells,
+    tokens_on, within,
+};
 use std::alloc::Global;
 use text_lines::{Line, Lines, Tokens};
 

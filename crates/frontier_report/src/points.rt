@@ -4,19 +4,17 @@ ghost use Rattle.std.specs.Prelude.{◌≡◌, [], ◌≤◌, ◌<◌, ◌+◌, 
 ghost use Rattle.report_form.specs.Lines.{parts_at};
 ghost use Rattle.report_form.specs.Points.{frontier_point_at, joined_point_at, schedule_at};
 ghost use Rattle.frontier_report.specs.After.{point_after};
-ghost use Rattle.frontier_report.specs.Asking.{asks};
+ghost use Rattle.report_lines.specs.Asking.{asks};
 ghost use Rattle.frontier_report.specs.Gives.{Reads};
-ghost use Rattle.frontier_report.specs.Heads.{head_value};
-ghost use Rattle.frontier_report.specs.Room.{HasRoom, Onward};
+ghost use Rattle.report_lines.specs.Heads.{head_value};
+ghost use Rattle.report_lines.specs.Room.{HasRoom, Onward};
 
 use crate::halt::Halt;
-use crate::heads::{Head, head_part, joined_head_part};
-use crate::lines::next_begins;
-use crate::question::Question;
 use crate::rounds::rounds_part;
 use crate::sends::{Extent, sends_part};
 use candidate_order::{Candidate, Point};
 use indexmap::IndexSet;
+use report_lines::{Head, Question, head_part, joined_head_part, next_begins};
 use schedule::Schedule;
 use std::alloc::Global;
 use text_lines::Lines;

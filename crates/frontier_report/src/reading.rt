@@ -9,15 +9,12 @@ ghost use Rattle.report_form.specs.First.{FailsFirstAt};
 ghost use Rattle.frontier_report.specs.Bodies.{parts_value};
 ghost use Rattle.frontier_report.specs.Gives.{Reads};
 
-use crate::asked::asked_part;
 use crate::frontiers::{Body, body_part};
 use crate::halt::Halt;
-use crate::lines::version_part;
-use crate::report::Report;
 use crate::topology::{groups_in, header_at, names_at, pattern_in, root_at};
-use crate::words::Words;
 use collective_spec::Collective;
-use report_form::{ReportCode, ReportFault};
+use report_form::{Report, ReportCode, ReportFault, Words};
+use report_lines::{asked_part, version_part};
 use std::alloc::Global;
 use text_lines::Lines;
 use topology_text::NamedTopology;

@@ -6,13 +6,12 @@ ghost use Rattle.text_lines.specs.Line.{IsIn, row_at};
 ghost use Rattle.text_lines.specs.Check.{Gives, line_part};
 ghost use Rattle.report_form.specs.Points.{are_rounds, numbers_from, rounds_line};
 ghost use Rattle.frontier_report.specs.Gives.{Reads};
-ghost use Rattle.frontier_report.specs.Room.{HasRoom, Onward};
+ghost use Rattle.report_lines.specs.Room.{HasRoom, Onward};
 
-use crate::fields::{fixed_word, small_number};
 use crate::halt::Halt;
-use crate::lines::{next_line, tokens_on};
 use candidate_order::Candidate;
 use report_form::{ReportCode, ReportFault};
+use report_lines::{fixed_word, next_line, small_number, tokens_on};
 use std::alloc::{AllocError, Global};
 use text_lines::{Line, Lines, Stop, Tokens};
 

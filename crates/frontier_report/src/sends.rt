@@ -6,20 +6,29 @@ ghost use Rattle.schedule.specs.Sends.{hop_before};
 ghost use Rattle.report_form.specs.Lines.{lines_at};
 ghost use Rattle.report_form.specs.Points.{follows, may_be_sent, send_from, send_line};
 ghost use Rattle.frontier_report.specs.After.{send_after};
-ghost use Rattle.frontier_report.specs.Gives.{Reads, Tells};
-ghost use Rattle.frontier_report.specs.Room.{HasRoom, Onward};
+ghost use Rattle.frontier_report.specs.Gives.{Reads};
+ghost use Rattle.text_lines.specs.Check.{Tells};
+ghost use Rattle.report_lines.specs.Room.{HasRoom, Onward};
 ghost use Rattle.frontier_report.specs.Wide.{hop_of};
 
-use crate::fields::{fixed_word, next_node, next_number, no_more};
 use crate::halt::Halt;
-use crate::lines::{begins, tokens_on};
-use crate::wide::WideHop;
 use indexmap::IndexSet;
 use report_form::{ReportCode, ReportFault};
+use report_lines::{begins, fixed_word, next_node, next_number, no_more, tokens_on};
 use schedule::Hop;
 use std::alloc::Global;
 use text_lines::{Line, Lines, Tokens};
 use topology_text::Name;
+
+/// A send between two nodes of the topology, as a line spells it: its numbers are at most 65,535, and no rule was tested
+/// yet.
+#[derive(Clone, Copy, Debug)]
+pub struct WideHop {
+    pub chunk: u16,
+    pub from: u8,
+    pub to: u8,
+    pub step: u16,
+}
 
 /// What the sends of a schedule keep to: chunks are numbered from 0, steps from 1.
 #[derive(Clone, Copy, Debug)]

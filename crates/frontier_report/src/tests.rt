@@ -1,6 +1,8 @@
 //! Texts that are read and printed again, and texts that are refused.
 
-use crate::{ReportCode, ReportFault, print_report, read_report};
+use crate::read_report;
+use report_form::{ReportCode, ReportFault};
+use report_printing::print_report;
 use std::alloc::{AllocError, Global};
 use std::process::Abort;
 use std::test::Fail;

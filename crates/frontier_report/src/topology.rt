@@ -7,9 +7,10 @@ ghost use Rattle.collective_spec.specs.Patterns.{IsPattern};
 ghost use Rattle.topology_text.specs.Reading.{groups_at, header_line, nodes_line, pattern_at};
 ghost use Rattle.report_form.specs.Asked.{root_of};
 ghost use Rattle.report_form.specs.Lines.{among, blamed, whole_line};
-ghost use Rattle.frontier_report.specs.Gives.{Reads, TellsAt};
-ghost use Rattle.frontier_report.specs.Header.{halted, header_at};
-ghost use Rattle.frontier_report.specs.Room.{HasMuchRoom, Onward};
+ghost use Rattle.frontier_report.specs.Gives.{Reads};
+ghost use Rattle.report_lines.specs.Gives.{TellsAt};
+ghost use Rattle.frontier_report.specs.Header.{halted, header_at, HasMuchRoom};
+ghost use Rattle.report_lines.specs.Room.{Onward};
 
 use crate::halt::Halt;
 use collective_spec::Pattern;

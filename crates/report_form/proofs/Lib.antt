@@ -10,3 +10,4 @@ pub mod JoinedTaken
 pub mod FrontiersTaken
 pub mod ReportTaken
 pub mod Blamed
+pub mod PointNumbers

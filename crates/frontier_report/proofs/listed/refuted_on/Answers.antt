@@ -1,9 +1,10 @@
 use Rattle.std.proofs.Common.{◌≡◌, Some, sym, ap, ◌∙◌}
 use Rattle.text_lines.specs.Line.{row_at}
 use Rattle.report_form.specs.Tests.{is_within, comes_next}
-use Rattle.frontier_report.specs.Asking.{asks}
-use Rattle.frontier_report.specs.Wide.{candidate_of}
-use Rattle.frontier_report.proofs.Ruled.{refuted_is, tested_in, ruled_in, ruled_out}
+use Rattle.report_lines.specs.Asking.{asks}
+use Rattle.report_lines.specs.Wide.{candidate_of}
+use Rattle.frontier_report.proofs.ListedLines.{refuted_is}
+use Rattle.report_lines.proofs.Ruled.{tested_in, ruled_in, ruled_out}
 use Rattle.frontier_report.proofs.listed.refuted_on.Goals as goal
 
 pub returns-then-not-comes_next : goal.returns-then-not-comes_next

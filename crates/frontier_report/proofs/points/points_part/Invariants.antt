@@ -3,7 +3,7 @@ use Rattle.std.specs.Prelude.{codes}
 use Rattle.std.specs.List.{last_or}
 use Rattle.report_form.specs.Lines.{parts_from, parts_at}
 use Rattle.report_form.specs.Points.{frontier_point_at}
-use Rattle.frontier_report.specs.Asking.{asks}
+use Rattle.report_lines.specs.Asking.{asks}
 use Rattle.frontier_report.proofs.points.points_part.Given as goal
 
 abbrev pub invariant-loop-alloc : goal.invariant-loop-alloc

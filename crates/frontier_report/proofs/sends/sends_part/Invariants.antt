@@ -3,7 +3,7 @@ use Rattle.std.specs.Prelude.{codes}
 use Rattle.std.specs.List.{last_or}
 use Rattle.report_form.specs.Lines.{lines_from, lines_at}
 use Rattle.report_form.specs.Points.{send_line}
-use Rattle.frontier_report.specs.Asking.{asks}
+use Rattle.report_lines.specs.Asking.{asks}
 use Rattle.frontier_report.proofs.sends.sends_part.Given as goal
 
 abbrev pub invariant-loop-line : goal.invariant-loop-line

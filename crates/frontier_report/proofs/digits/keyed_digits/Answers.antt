@@ -1,7 +1,0 @@
-use Rattle.std.specs.Str.Parse.{digits_value}
-use Rattle.report_form.specs.Fields.{any_number}
-use Rattle.frontier_report.proofs.Keyed.{keyed_tells}
-use Rattle.frontier_report.proofs.digits.keyed_digits.Goals as goal
-
-pub returns-clause-read : goal.returns-clause-read
-returns-clause-read c = keyed_tells c.args.key.now any_number c.args.tokens.now.words c.next_value.new.tokens.words c.in_ok-value.value.now (λ digits. digits_value 10 digits.now) c.digits.result c.in_ok-value.ensures c.digits.ensures.read

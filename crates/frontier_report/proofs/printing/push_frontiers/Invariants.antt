@@ -1,7 +1,0 @@
-use Rattle.std.proofs.Common.{◌≡◌, ◌++◌, map, take}
-use Rattle.std.specs.List.{flat_map}
-use Rattle.frontier_report.specs.Printed.{frontier_text}
-use Rattle.frontier_report.proofs.printing.push_frontiers.Given as goal
-
-abbrev pub invariant-loop-part : goal.invariant-loop-part
-invariant-loop-part l = l.out.items ≡ l.initial.out.items ++ flat_map (frontier_text l.names) (take l.part-index l.frontiers)

@@ -1,7 +1,0 @@
-use Rattle.std.proofs.Common.{◌≡◌, ◌++◌, map, take}
-use Rattle.std.specs.List.{flat_map}
-use Rattle.frontier_report.specs.Printed.{point_text}
-use Rattle.frontier_report.proofs.printing.push_points.Given as goal
-
-abbrev pub invariant-loop-point : goal.invariant-loop-point
-invariant-loop-point l = l.out.items ≡ l.initial.out.items ++ flat_map (point_text l.names) (take l.point-index l.points)

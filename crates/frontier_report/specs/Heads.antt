@@ -1,6 +1,0 @@
--- The line that begins a point. This project's own.
-use Rattle.report_form.specs.Points.{HeadValue}
-use Rattle.frontier_report.specs.declared.heads.Head.{Head}
-
-abbrev pub head_value : Head → HeadValue
-head_value h = record { candidate = h.candidate; mark = h.mark }

@@ -1,0 +1,27 @@
+use Rattle.std.proofs.Common.{◌≡◌, Some, sym, ap, ◌∙◌}
+use Rattle.text_lines.specs.Line.{row_at}
+use Rattle.report_form.specs.Tests.{is_within, comes_next}
+use Rattle.report_lines.specs.Asking.{asks}
+use Rattle.report_lines.specs.Wide.{candidate_of}
+use Rattle.report_lines.proofs.Ruled.{head, head_is, tested_in, ruled_in, ruled_out}
+use Rattle.report_lines.proofs.heads.head_on.Goals as goal
+
+pub returns-then-not-comes_next-clause-read : goal.returns-then-not-comes_next-clause-read
+returns-then-not-comes_next-clause-read c =
+    let q = asks c.args.question.now in
+    let x = candidate_of c.in_ok-x.x in
+    let t = tested_in (is_within q x) x c.in-Some.candidate c.in-Some.ensures.tested in
+    let next : comes_next c.args.last x ≡ c.comes_next.result = ap (comes_next c.args.last) (sym t.1) ∙ sym c.comes_next.ensures in
+    let shape = head_is q c.args.last (Some (row_at c.args.text.now c.args.line)) c.in_ok-tokens.tokens.words c.fixed_word.new.tokens.words c.candidate_of.new.tokens.words c.next_mark.new.tokens.words x c.in_ok-mark.mark _
+    c.in_ok-tokens.ensures c.in_ok-fixed_word.ensures c.in_ok-x.ensures c.in_ok-mark.ensures c.in_ok-no_more.ensures in
+    shape ∙ ruled_out (is_within q x) (comes_next c.args.last x) (head x c.in_ok-mark.mark) t.0 (next ∙ c.if-not-comes_next.true)
+
+pub returns-clause-read : goal.returns-clause-read
+returns-clause-read c =
+    let q = asks c.args.question.now in
+    let x = candidate_of c.in_ok-x.x in
+    let t = tested_in (is_within q x) x c.in-Some.candidate c.in-Some.ensures.tested in
+    let next : comes_next c.args.last x ≡ c.comes_next.result = ap (comes_next c.args.last) (sym t.1) ∙ sym c.comes_next.ensures in
+    let shape = head_is q c.args.last (Some (row_at c.args.text.now c.args.line)) c.in_ok-tokens.tokens.words c.fixed_word.new.tokens.words c.candidate_of.new.tokens.words c.next_mark.new.tokens.words x c.in_ok-mark.mark _
+    c.in_ok-tokens.ensures c.in_ok-fixed_word.ensures c.in_ok-x.ensures c.in_ok-mark.ensures c.in_ok-no_more.ensures in
+    rw t.1 (shape ∙ ruled_in (is_within q x) (comes_next c.args.last x) (head x c.in_ok-mark.mark) t.0 (next ∙ c.if-not-comes_next.false))

@@ -1,0 +1,6 @@
+//! The printer of reports.
+#![tactic(auto)]
+
+mod printing;
+
+pub use printing::print_report;

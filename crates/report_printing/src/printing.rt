@@ -1,0 +1,302 @@
+//! The one spelling of a report.
+
+ghost use Rattle.std.specs.Prelude.{◌≡◌, ◌++◌, ◌∷◌, [], codes, decimal, map, OnOk, IfOk};
+ghost use Rattle.std.specs.List.{flat_map};
+ghost use Rattle.text_lines.specs.Text.{line, text_of};
+ghost use Rattle.topology_text.specs.Spelling.{name_at, version_word};
+ghost use Rattle.report_form.specs.Spelling.{candidate_words, joined_lines, mark_words, part_words, point_words, refuted_words, report_text, root_words, rounds_words, send_words, synth_words, unknown_words};
+ghost use Rattle.report_printing.specs.Printed.{fields, frontier_text, limits_text, point_text};
+
+use candidate_order::{Candidate, Frontier, Limits, Mark, Point, Unknown};
+use collective_spec::{Kind, takes_root};
+use outer_ports::Part;
+use report_form::{Report, Words};
+use schedule::Hop;
+use std::alloc::{AllocError, Global};
+use text_lines::{push_number, push_word};
+use topology_text::{Name, NamedTopology, push_topology};
+
+/// The name of a node.
+fn name_at(names: &[Name], node: u8) -> &[u8]
+    ensures { result.now ≡ name_at names.now node }
+{
+    match names.get(usize::from(node)) {
+        Some(name) => name.as_bytes(),
+        None => &[],
+    }
+}
+
+/// Appends a space and a word.
+fn push_field(out: &mut Vec<u8>, word: &[u8]) -> Result<(), AllocError>
+    ensures { OnOk result (out.new.items ≡ out.old.items ++ 32 ∷ word.now) }
+{
+    push_word(out, b" ")?;
+    push_word(out, word)?;
+    Ok(())
+}
+
+/// Appends a space and a number.
+fn push_number_field(out: &mut Vec<u8>, value: u64) -> Result<(), AllocError>
+    ensures { OnOk result (out.new.items ≡ out.old.items ++ 32 ∷ decimal value) }
+{
+    push_word(out, b" ")?;
+    push_number(out, value)?;
+    Ok(())
+}
+
+/// Appends the steps, the rounds and the chunk count.
+fn push_candidate(out: &mut Vec<u8>, x: Candidate) -> Result<(), AllocError>
+    ensures { OnOk result (out.new.items ≡ out.old.items ++ fields (candidate_words x)) }
+{
+    push_number_field(out, u64::from(x.s))?;
+    push_number_field(out, u64::from(x.r))?;
+    push_number_field(out, u64::from(x.c))?;
+    Ok(())
+}
+
+fn push_mark(out: &mut Vec<u8>, mark: Mark) -> Result<(), AllocError>
+    ensures { OnOk result (out.new.items ≡ out.old.items ++ fields (mark_words mark)) }
+{
+    match mark {
+        Mark::Optimal => push_word(out, b" optimal"),
+        Mark::Open => push_word(out, b" open"),
+        Mark::Joined { adding } => {
+            push_word(out, b" joined")?;
+            push_number_field(out, u64::from(adding))?;
+            Ok(())
+        }
+    }
+}
+
+fn push_head(out: &mut Vec<u8>, point: &Point) -> Result<(), AllocError>
+    ensures { OnOk result (out.new.items ≡ out.old.items ++ line (point_words point.now)) }
+{
+    push_word(out, b"point")?;
+    push_candidate(out, point.candidate())?;
+    push_mark(out, point.mark())?;
+    push_word(out, b"\n")?;
+    Ok(())
+}
+
+fn push_numbers(out: &mut Vec<u8>, numbers: &[u8]) -> Result<(), AllocError>
+    ensures { OnOk result (out.new.items ≡ out.old.items ++ fields (map decimal numbers.now)) }
+{
+    for number in numbers {
+        push_number_field(out, u64::from(*number))?;
+    }
+    Ok(())
+}
+
+fn push_rounds(out: &mut Vec<u8>, rounds: &[u8]) -> Result<(), AllocError>
+    ensures { OnOk result (out.new.items ≡ out.old.items ++ line (rounds_words rounds.now)) }
+{
+    push_word(out, b"rounds")?;
+    push_numbers(out, rounds)?;
+    push_word(out, b"\n")?;
+    Ok(())
+}
+
+fn push_send(out: &mut Vec<u8>, names: &[Name], hop: Hop) -> Result<(), AllocError>
+    ensures { OnOk result (out.new.items ≡ out.old.items ++ line (send_words names.now hop)) }
+{
+    push_word(out, b"send")?;
+    push_number_field(out, u64::from(hop.chunk))?;
+    push_field(out, name_at(names, hop.from))?;
+    push_field(out, name_at(names, hop.to))?;
+    push_number_field(out, u64::from(hop.step))?;
+    push_word(out, b"\n")?;
+    Ok(())
+}
+
+fn push_sends(out: &mut Vec<u8>, names: &[Name], sends: &[Hop]) -> Result<(), AllocError>
+    ensures { OnOk result (out.new.items ≡ out.old.items ++ text_of (map (send_words names.now) sends.now)) }
+{
+    for hop in sends {
+        push_send(out, names, *hop)?;
+    }
+    Ok(())
+}
+
+fn push_point(out: &mut Vec<u8>, names: &[Name], point: &Point) -> Result<(), AllocError>
+    ensures { OnOk result (out.new.items ≡ out.old.items ++ point_text names.now point.now) }
+{
+    push_head(out, point)?;
+    push_rounds(out, point.schedule().rounds())?;
+    push_sends(out, names, point.schedule().sends())?;
+    Ok(())
+}
+
+fn push_points(out: &mut Vec<u8>, names: &[Name], points: &[Point]) -> Result<(), AllocError>
+    ensures { OnOk result (out.new.items ≡ out.old.items ++ flat_map (point_text names.now) points.now) }
+{
+    for point in points {
+        push_point(out, names, point)?;
+    }
+    Ok(())
+}
+
+fn push_refuted(out: &mut Vec<u8>, x: Candidate) -> Result<(), AllocError>
+    ensures { OnOk result (out.new.items ≡ out.old.items ++ line (refuted_words x)) }
+{
+    push_word(out, b"refuted")?;
+    push_candidate(out, x)?;
+    push_word(out, b"\n")?;
+    Ok(())
+}
+
+fn push_all_refuted(out: &mut Vec<u8>, refuted: &[Candidate]) -> Result<(), AllocError>
+    ensures { OnOk result (out.new.items ≡ out.old.items ++ text_of (map refuted_words refuted.now)) }
+{
+    for x in refuted {
+        push_refuted(out, *x)?;
+    }
+    Ok(())
+}
+
+fn push_unknown(out: &mut Vec<u8>, x: &Unknown) -> Result<(), AllocError>
+    ensures { OnOk result (out.new.items ≡ out.old.items ++ line (unknown_words x.now)) }
+{
+    push_word(out, b"unknown")?;
+    push_candidate(out, x.candidate())?;
+    push_number_field(out, u64::from(x.conflicts()))?;
+    push_word(out, b"\n")?;
+    Ok(())
+}
+
+fn push_all_unknown(out: &mut Vec<u8>, unknown: &[Unknown]) -> Result<(), AllocError>
+    ensures { OnOk result (out.new.items ≡ out.old.items ++ text_of (map unknown_words unknown.now)) }
+{
+    for x in unknown {
+        push_unknown(out, x)?;
+    }
+    Ok(())
+}
+
+fn part_bytes(part: Part) -> &'static [u8]
+    ensures { result.now ≡ line (part_words part) }
+{
+    match part {
+        Part::Whole => b"frontier whole\n",
+        Part::Reduce => b"frontier reduce\n",
+        Part::Gather => b"frontier gather\n",
+        Part::Joined => b"joined\n",
+    }
+}
+
+fn push_frontier(
+    out: &mut Vec<u8>,
+    names: &[Name],
+    part: Part,
+    frontier: &Frontier,
+) -> Result<(), AllocError>
+    ensures { OnOk result (out.new.items ≡ out.old.items ++ frontier_text names.now (part, frontier.now)) }
+{
+    push_word(out, part_bytes(part))?;
+    push_points(out, names, frontier.points())?;
+    push_all_refuted(out, frontier.refuted())?;
+    push_all_unknown(out, frontier.unknown())?;
+    Ok(())
+}
+
+fn push_frontiers(
+    out: &mut Vec<u8>,
+    names: &[Name],
+    frontiers: &[(Part, Frontier)],
+) -> Result<(), AllocError>
+    ensures { OnOk result (out.new.items ≡ out.old.items ++ flat_map (frontier_text names.now) frontiers.now) }
+{
+    for (part, frontier) in frontiers {
+        push_frontier(out, names, *part, frontier)?;
+    }
+    Ok(())
+}
+
+fn push_joined(
+    out: &mut Vec<u8>,
+    names: &[Name],
+    kind: Kind,
+    joined: &[Point],
+) -> Result<(), AllocError>
+    ensures { OnOk result (out.new.items ≡ out.old.items ++ text_of (joined_lines names.now kind joined.now)) }
+{
+    match kind {
+        Kind::Allreduce => {
+            push_word(out, b"joined\n")?;
+            push_points(out, names, joined)?;
+            Ok(())
+        }
+        _ => Ok(()),
+    }
+}
+
+/// Appends a key and a number.
+fn push_keyed(out: &mut Vec<u8>, key: &[u8], value: u64) -> Result<(), AllocError>
+    ensures { OnOk result (out.new.items ≡ out.old.items ++ (key.now ++ decimal value)) }
+{
+    push_word(out, key)?;
+    push_number(out, value)?;
+    Ok(())
+}
+
+fn push_limits(out: &mut Vec<u8>, limits: Limits) -> Result<(), AllocError>
+    ensures { OnOk result (out.new.items ≡ out.old.items ++ limits_text limits) }
+{
+    push_keyed(out, b" k=", u64::from(limits.k()))?;
+    push_keyed(out, b" steps=", u64::from(limits.max_s()))?;
+    push_keyed(out, b" chunks=", u64::from(limits.max_c()))?;
+    push_keyed(out, b" conflicts=", u64::from(limits.conflicts()))?;
+    Ok(())
+}
+
+fn push_root(out: &mut Vec<u8>, names: &[Name], words: Words) -> Result<(), AllocError>
+    ensures { OnOk result (out.new.items ≡ out.old.items ++ fields (root_words names.now words)) }
+{
+    if takes_root(words.collective().kind) {
+        push_word(out, b" root=")?;
+        push_word(out, name_at(names, words.collective().root))?;
+    }
+    Ok(())
+}
+
+/// Appends the line of what was asked.
+fn push_asked(out: &mut Vec<u8>, names: &[Name], words: Words) -> Result<(), AllocError>
+    ensures { OnOk result (out.new.items ≡ out.old.items ++ line (synth_words names.now words)) }
+{
+    push_word(out, b"synth collective=")?;
+    push_word(out, words.collective().kind.word().as_bytes())?;
+    push_limits(out, words.limits())?;
+    push_root(out, names, words)?;
+    push_word(out, b"\n")?;
+    Ok(())
+}
+
+/// The first line: version 2 is that of reports with a pattern.
+fn version_bytes(topology: &NamedTopology) -> &'static [u8]
+    ensures { result.now ≡ line (codes "sccl" ∷ version_word topology.now.custom ∷ []) }
+{
+    match topology.custom() {
+        None => b"sccl 1\n",
+        Some(_) => b"sccl 2\n",
+    }
+}
+
+/// The one spelling of the report. An `Err` comes only where memory runs out.
+pub fn print_report(alloc: Global, report: &Report) -> Result<Vec<u8>, AllocError>
+    ensures { IfOk result (λ v. v.items ≡ report_text report.now) }
+{
+    let mut out = Vec::new(alloc);
+    let topology = report.topology();
+    let names = topology.names();
+    push_word(&mut out, version_bytes(topology))?;
+    push_asked(&mut out, names, report.words())?;
+    push_topology(&mut out, topology)?;
+    push_frontiers(&mut out, names, report.frontiers())?;
+    push_joined(
+        &mut out,
+        names,
+        report.words().collective().kind,
+        report.joined(),
+    )?;
+    push_word(&mut out, b"end\n")?;
+    Ok(out)
+}
