@@ -17,3 +17,6 @@ pub mod Exactly
 pub mod Sizes
 pub mod Decodes
 pub mod Instances
+pub mod LowCounts
+pub mod FewCounters
+pub mod FewClauses

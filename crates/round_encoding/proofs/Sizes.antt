@@ -24,7 +24,7 @@ one_group f group =
     let w : ℕ = group.width * (1 + f.extra) + 1 in
     sym (mul_assoc s (g * l) w) ∙ ap (λ k. k * w) (mul_comm s (g * l) ∙ ap (λ k. k * s) (mul_comm g l))
 
-all_groups : (f : Frame) (groups : List GroupValue) → f.map.steps * sum_by (room f) groups ≡ sum_by (group_size f.map.chunks f.map.steps f.extra) groups
+pub all_groups : (f : Frame) (groups : List GroupValue) → f.map.steps * sum_by (room f) groups ≡ sum_by (group_size f.map.chunks f.map.steps f.extra) groups
 all_groups f [] = omega arith
 all_groups f (group ∷ groups) =
     let s : ℕ = f.map.steps in
@@ -36,7 +36,7 @@ all_groups f (group ∷ groups) =
     omega (arith, split, both, sizes, one_group f group, all_groups f groups)
 
 module _ (t : TopologyValue) (pre post : PlacementValue) (steps rounds : ℕ) (ok : IsCandidate t pre post steps rounds) (size : size_of t pre steps rounds ≤ 2000000) where
-  cells : pre.chunks * t.nodes ≤ 256 * 16
+  pub cells : pre.chunks * t.nodes ≤ 256 * 16
   cells = row_most pre.chunks 256 t.nodes 16 ok.few_chunks ok.topology.few
 
   few_arrivals : arrivals (map_of t pre steps) ≤ 256 * 16 * 17
@@ -45,11 +45,11 @@ module _ (t : TopologyValue) (pre post : PlacementValue) (steps rounds : ℕ) (o
   few_extra : steps * (rounds - steps) ≤ 16 * 8
   few_extra = row_most steps 16 (rounds - steps) 8 ok.few (omega (arith, ok.most))
 
-  few_counted : steps * (rounds - steps) * (rounds - steps + 1) ≤ 16 * 8 * 9
+  pub few_counted : steps * (rounds - steps) * (rounds - steps + 1) ≤ 16 * 8 * 9
   few_counted = row_most (steps * (rounds - steps)) (16 * 8) (rounds - steps + 1) 9 few_extra (omega (arith, ok.most))
 
   pub few_sends : arrivals (map_of t pre steps) + sends (map_of t pre steps) < 2097152
   few_sends = omega (arith, few_arrivals, size)
 
-  pub few_variables : own_variables (frame_of t pre steps rounds) + steps * (rounds - steps) * (rounds - steps + 1) + steps * sum_by (room (frame_of t pre steps rounds)) t.groups < 2147483648
+  pub few_variables : own_variables (frame_of t pre steps rounds) + steps * (rounds - steps) * (rounds - steps + 1) + steps * sum_by (room (frame_of t pre steps rounds)) t.groups < 2097152
   few_variables = omega (arith, few_arrivals, few_extra, few_counted, all_groups (frame_of t pre steps rounds) t.groups, size)

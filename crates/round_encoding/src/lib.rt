@@ -14,6 +14,6 @@ mod tests;
 mod vectors;
 
 pub use encoding::{Encoding, encode};
-pub use laws::{formula_has_its_variables, layouts_make_candidates};
+pub use laws::{formula_has_its_variables, formulas_are_small, layouts_make_candidates};
 pub use schedule_said::decode;
 pub use std::alloc::AllocError as OutOfMemory;

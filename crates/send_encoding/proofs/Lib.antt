@@ -18,3 +18,5 @@ pub mod Tightened
 pub mod Agreed
 pub mod Decided
 pub mod Places
+pub mod Entering
+pub mod FewClauses

@@ -4,6 +4,7 @@
 
 mod arriving;
 mod decoding;
+mod laws;
 mod link_numbers;
 mod once;
 mod placing;
@@ -11,6 +12,7 @@ mod send_map;
 mod sending;
 
 pub use decoding::sends_of;
+pub use laws::sends_have_few_clauses;
 pub use send_map::SendMap;
 pub use sending::{add_variables, encode_sends};
 pub use std::alloc::AllocError as OutOfMemory;

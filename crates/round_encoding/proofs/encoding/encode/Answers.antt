@@ -1,4 +1,4 @@
-use Rattle.std.proofs.Common.{◌≡◌, ℕ, ◌+◌, ◌-◌, ◌*◌, ◌<◌, Bool, List, sym, subst}
+use Rattle.std.proofs.Common.{◌≡◌, ℕ, ◌+◌, ◌-◌, ◌*◌, ◌<◌, Bool, List, sym, subst, arith}
 use Rattle.std.specs.Prelude.{◌↔◌, sum_by}
 use Rattle.schedule.specs.Sends.{ScheduleValue, IsSchedule, IsInRange}
 use Rattle.schedule.specs.Solving.{Solves, Solvable}
@@ -33,7 +33,7 @@ encode_rounds-requires-clause-small c =
     let extra : ℕ = c.args.rounds - c.args.steps in
     let is : c.in_ok-map.map ≡ map_of t pre c.args.steps = c.in_ok-map.ensures.map in
     subst (λ (m : SendMapValue). own_variables (record { map = m; extra = extra }) + m.steps * extra * (extra + 1) + m.steps * sum_by (room (record { map = m; extra = extra })) t.groups < 2147483648) (sym is)
-    (few_variables t pre c.args.instance.now.post c.args.steps c.args.rounds c.requires.candidate c.requires.size)
+    (omega (arith, few_variables t pre c.args.instance.now.post c.args.steps c.args.rounds c.requires.candidate c.requires.size))
 
 pub returns-clause-encoding : goal.returns-clause-encoding
 returns-clause-encoding c =

@@ -1,0 +1,79 @@
+-- The counters of a candidate are small.
+use Rattle.std.proofs.Common.{◌≡◌, ℕ, zero, suc, ◌+◌, ◌*◌, ◌<◌, ◌≤◌, Bool, true, false, List, [], ◌∷◌, map, length, refl, sym, ap, arith, length-append}
+use Rattle.std.specs.Prelude.{if◌then◌else◌, flat_map, nat_lt, sum_by, All}
+use Rattle.std.specs.List.{range_with_len}
+use Rattle.std.proofs.Math.Nat.{mul-le-mul_left, mul-le-mul_right}
+use Rattle.std.proofs.lemmas.Bool.{ltb-true}
+use Rattle.std.proofs.lemmas.List.Elements.{All-nil, All-cons, All-append}
+use Rattle.std.proofs.lemmas.List.FromFn.{length-map-range_with_len}
+use Rattle.std.proofs.lemmas.List.Sums.{sum_by-cons, sum_by-append}
+use Rattle.std.proofs.lemmas.Nat.{mul-le}
+use Rattle.schedule.specs.Links.{GroupValue, TopologyValue, IsGroup}
+use Rattle.cnf_formula.specs.Literals.{LitValue, negation}
+use Rattle.send_encoding.specs.Variables.{steps_of}
+use Rattle.send_encoding.proofs.Everywhere.{in_map, in_flat, From, in_range}
+use Rattle.send_encoding.proofs.Mapped.{rows}
+use Rattle.round_encoding.specs.Counts.{room}
+use Rattle.round_encoding.specs.Frames.{Frame, extra_of, extra_round}
+use Rattle.round_encoding.specs.Rounding.{Count, count_of_rounds, count_of_group, counts_of}
+use Rattle.round_encoding.proofs.Carried.{inputs_length}
+use Rattle.round_encoding.proofs.Counted.{rounds_counted}
+use Rattle.round_encoding.proofs.LowCounts.{space, IsLow}
+
+module _ (f : Frame) (few : f.extra ≤ 8) where
+  rounds_low : 0 < f.map.steps → 0 < f.extra → IsLow (count_of_rounds f)
+  rounds_low steps extra = record { some = (rounds_counted f steps extra).some; low = omega (arith, few); says = λ o. omega arith }
+
+  group_low : (s : ℕ) (group : GroupValue) → 0 < f.map.chunks → IsGroup group → IsLow (count_of_group f s group)
+  group_low s group chunks ok =
+      let all = inputs_length f s group in
+      let links : f.map.chunks * 1 ≤ f.map.chunks * length group.links = mul-le-mul_left f.map.chunks ok.some in
+      let carried : 1 * (1 + f.extra) ≤ group.width * (1 + f.extra) = mul-le-mul_right (1 + f.extra) ok.positive in
+      record {
+        some = omega (arith, all, links, chunks);
+        low = omega (arith, mul-le group.width (1 + f.extra) 16 9 ok.narrow (omega (arith, few)));
+        says = λ o.
+            let each : List (List LitValue) = map (λ j. negation (o (group.width * j + 1)) ∷ extra_round f s j ∷ []) (extra_of f) in
+            let many : length each ≡ f.extra = length-map-range_with_len _ 1 f.extra in
+            omega (arith, length-append each ((negation (o (group.width * (1 + f.extra) + 1)) ∷ []) ∷ []), many, carried);
+      }
+
+-- ---- together
+
+space_of_rounds : (f : Frame) → space (count_of_rounds f) ≡ f.map.steps * f.extra * (f.extra + 1)
+space_of_rounds f = ap (λ n. n * (f.extra + 1)) (rows (λ s. map (extra_round f s) (extra_of f)) f.extra 1 f.map.steps (λ s. length-map-range_with_len (extra_round f s) 1 f.extra))
+
+space_of_groups : (f : Frame) (s : ℕ) (groups : List GroupValue) → sum_by space (map (count_of_group f s) groups) ≡ sum_by (room f) groups
+space_of_groups f s [] = refl
+space_of_groups f s (group ∷ groups) =
+    let here : space (count_of_group f s group) ≡ room f group = ap (λ n. n * (group.width * (1 + f.extra) + 1)) (inputs_length f s group) in
+    omega (arith, sum_by-cons space (count_of_group f s group) (map (count_of_group f s) groups), sum_by-cons (room f) group groups, here, space_of_groups f s groups)
+
+space_of_steps : (f : Frame) (groups : List GroupValue) (a n : ℕ) → sum_by space (flat_map (λ s. map (count_of_group f s) groups) (range_with_len a n)) ≡ n * sum_by (room f) groups
+space_of_steps f groups a zero = omega arith
+space_of_steps f groups a (suc n) =
+    omega (arith, sum_by-append space (map (count_of_group f a) groups) (flat_map (λ s. map (count_of_group f s) groups) (range_with_len (a + 1) n)), space_of_groups f a groups, space_of_steps f groups (a + 1) n)
+
+module _ (f : Frame) (t : TopologyValue) where
+  abbrev own_rounds : Bool → List Count
+  own_rounds b = if b then count_of_rounds f ∷ [] else []
+
+  abbrev all_groups : List Count
+  all_groups = flat_map (λ s. map (count_of_group f s) t.groups) (steps_of f.map)
+
+  space_if : (b : Bool) → sum_by space (own_rounds b) ≤ f.map.steps * f.extra * (f.extra + 1)
+  space_if true = omega (arith, sum_by-cons space (count_of_rounds f) [], space_of_rounds f)
+  space_if false = omega arith
+
+  pub counts_space : sum_by space (counts_of f t) ≤ f.map.steps * f.extra * (f.extra + 1) + f.map.steps * sum_by (room f) t.groups
+  counts_space = omega (arith, sum_by-append space (own_rounds (nat_lt 0 f.extra)) all_groups, space_if (nat_lt 0 f.extra), space_of_steps f t.groups 1 f.map.steps)
+
+  pub counts_low : f.extra ≤ 8 → 0 < f.map.steps → 0 < f.map.chunks → All IsGroup t.groups → All IsLow (counts_of f t)
+  counts_low few steps chunks ok =
+      All-append IsLow (own_rounds (nat_lt 0 f.extra)) all_groups (low_if (nat_lt 0 f.extra) refl)
+      (in_flat IsLow (From 1 f.map.steps) (λ s. map (count_of_group f s) t.groups) (steps_of f.map)
+      (λ s at. in_map IsLow IsGroup (count_of_group f s) t.groups (λ group is. group_low f few s group chunks is) ok) (in_range 1 f.map.steps))
+    where
+      low_if : (b : Bool) → b ≡ nat_lt 0 f.extra → All IsLow (own_rounds b)
+      low_if true e = All-cons IsLow (count_of_rounds f) [] (rounds_low f few steps (ltb-true 0 f.extra (sym e))) (All-nil IsLow)
+      low_if false e = All-nil IsLow

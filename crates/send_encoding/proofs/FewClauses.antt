@@ -1,0 +1,104 @@
+-- Arrivals and sends have few clauses.
+use Rattle.std.proofs.Common.{◌≡◌, ℕ, ◌+◌, ◌*◌, ◌≤◌, List, ◌++◌, length, map, ap, sym, ◌∙◌, arith, length-append}
+use Rattle.std.specs.Prelude.{flat_map, filter}
+use Rattle.std.specs.List.{range_with_len}
+use Rattle.std.proofs.Math.Nat.{mul_assoc, mul-add}
+use Rattle.std.proofs.lemmas.List.{length-map}
+use Rattle.std.proofs.lemmas.List.FromFn.{length-range_with_len, length-map-range_with_len, length-enumerate_from}
+use Rattle.std.proofs.lemmas.List.Sums.{length-filter, count_by-le-length}
+use Rattle.std.proofs.lemmas.Nat.{mul-le}
+use Rattle.schedule.specs.Links.{TopologyValue}
+use Rattle.schedule.specs.Placed.{PlacementValue, holds}
+use Rattle.cnf_formula.specs.Literals.{LitValue}
+use Rattle.cardinality.specs.Counting.{at_most_one_of}
+use Rattle.cardinality.proofs.FewClauses.{pairs_are_few}
+use Rattle.cardinality.proofs.Lengths.{flat_length}
+use Rattle.send_encoding.specs.Variables.{SendMapValue, map_of, chunks_of, steps_of, pairs_of, numbered_links, links_into, sends}
+use Rattle.send_encoding.specs.Sending.{at_start, keeps, at_end, send_over, sends_arrive, sends_into, node_arrives, arrives_by_sends, arrives_once, sending}
+use Rattle.send_encoding.specs.Parts.{node_keeps, node_once}
+use Rattle.send_encoding.proofs.Entering.{few_enter}
+use Rattle.send_encoding.proofs.Mapped.{rows}
+
+six_lists : {X : Type 0} (a b c d e f : List X) → length (a ++ b ++ c ++ d ++ e ++ f) ≡ length a + length b + length c + length d + length e + length f
+six_lists a b c d e f =
+    omega (arith, length-append (a ++ b ++ c ++ d ++ e) f, length-append (a ++ b ++ c ++ d) e, length-append (a ++ b ++ c) d, length-append (a ++ b) c, length-append a b)
+
+spread : (a s q : ℕ) → a * (2 + s * (2 + q)) ≡ a * 2 + (a * s * 2 + a * (s * q))
+spread a s q =
+    let inner : a * (s * (2 + q)) ≡ a * (s * 2) + a * (s * q) = ap (λ n. a * n) (mul-add s 2 q) ∙ mul-add a (s * 2) (s * q) in
+    omega (arith, mul-add a 2 (s * (2 + q)), inner, mul_assoc a s 2)
+
+module _ (m : SendMapValue) where
+  abbrev cells : ℕ
+  cells = m.chunks * m.nodes
+
+  all_cells : length (pairs_of m) ≡ cells
+  all_cells = rows (λ c. map (λ n. (c, n)) (range_with_len 0 m.nodes)) m.nodes 0 m.chunks (λ c. length-map-range_with_len (λ n. (c, n)) 0 m.nodes)
+
+  all_steps : length (steps_of m) ≡ m.steps
+  all_steps = length-range_with_len 1 m.steps
+
+  many_starts : (pre : PlacementValue) → length (at_start m pre) ≡ cells
+  many_starts pre = length-map (pairs_of m) _ ∙ all_cells
+
+  few_keeps : length (keeps m) ≤ cells * m.steps
+  few_keeps =
+      let same : (x : ℕ × ℕ) → length (node_keeps m x) ≡ length (steps_of m) = λ x. length-map (steps_of m) _ in
+      let each : (x : ℕ × ℕ) → length (node_keeps m x) ≤ m.steps = λ x. omega (arith, same x, all_steps) in
+      omega (arith, flat_length (node_keeps m) m.steps (pairs_of m) each, ap (λ n. n * m.steps) all_cells)
+
+  few_ends : (post : PlacementValue) → length (at_end m post) ≤ cells
+  few_ends post =
+      let wanted : List (ℕ × ℕ) = filter (holds post) (pairs_of m) in
+      let same : length (at_end m post) ≡ length wanted = length-map wanted _ in
+      omega (arith, same, length-filter (holds post) (pairs_of m), count_by-le-length (holds post) (pairs_of m), all_cells)
+
+  few_sends : length (sends_arrive m) ≤ sends m * 3
+  few_sends =
+      let links : ℕ = length m.links in
+      let over : ℕ → ℕ × (ℕ × ℕ) → List (List LitValue) = λ c link. flat_map (send_over m c link) (steps_of m) in
+      let link_few : (c : ℕ) (link : ℕ × (ℕ × ℕ)) → length (over c link) ≤ m.steps * 3 = λ c link. omega (arith, flat_length (send_over m c link) 3 (steps_of m) (λ s. omega arith), all_steps) in
+      let chunk_few : (c : ℕ) → length (flat_map (over c) (numbered_links m)) ≤ links * (m.steps * 3) =
+      λ c. omega (arith, flat_length (over c) (m.steps * 3) (numbered_links m) (link_few c), ap (λ n. n * (m.steps * 3)) (length-enumerate_from 0 m.links)) in
+      let all = flat_length (λ c. flat_map (over c) (numbered_links m)) (links * (m.steps * 3)) (chunks_of m) chunk_few in
+      let product : m.chunks * (links * (m.steps * 3)) ≡ sends m * 3 = sym (mul_assoc m.chunks links (m.steps * 3)) ∙ sym (mul_assoc (m.chunks * links) m.steps 3) in
+      omega (arith, all, ap (λ n. n * (links * (m.steps * 3))) (length-range_with_len 0 m.chunks), product)
+
+  few_arrivals : length (arrives_by_sends m) ≤ cells * m.steps
+  few_arrivals =
+      let same : (x : ℕ × ℕ) → length (node_arrives m x) ≡ length (steps_of m) = λ x. length-map (steps_of m) _ in
+      let each : (x : ℕ × ℕ) → length (node_arrives m x) ≤ m.steps = λ x. omega (arith, same x, all_steps) in
+      omega (arith, flat_length (node_arrives m) m.steps (pairs_of m) each, ap (λ n. n * m.steps) all_cells)
+
+  module _ (few_into : (n : ℕ) → length (links_into m n) ≤ m.nodes) where
+    few_pairs : (c n s : ℕ) → length (at_most_one_of (sends_into m c n s)) ≤ m.nodes * m.nodes
+    few_pairs c n s =
+        let into : ℕ = length (sends_into m c n s) in
+        let same : into ≡ length (links_into m n) = length-map (links_into m n) _ in
+        let few : into ≤ m.nodes = omega (arith, same, few_into n) in
+        omega (arith, pairs_are_few (sends_into m c n s), mul-le into into m.nodes m.nodes few few)
+
+    few_once : length (arrives_once m) ≤ cells * (m.steps * (m.nodes * m.nodes))
+    few_once =
+        let most : ℕ = m.nodes * m.nodes in
+        let each : (x : ℕ × ℕ) → length (node_once m x) ≤ m.steps * most =
+        λ x. omega (arith, flat_length (λ s. at_most_one_of (sends_into m x.0 x.1 s)) most (steps_of m) (few_pairs x.0 x.1), ap (λ n. n * most) all_steps) in
+        omega (arith, flat_length (node_once m) (m.steps * most) (pairs_of m) each, ap (λ n. n * (m.steps * most)) all_cells)
+
+    few_sending : (pre post : PlacementValue) → length (sending m pre post) ≤ cells * (2 + m.steps * (2 + m.nodes * m.nodes)) + sends m * 3
+    few_sending pre post =
+        omega (
+          arith,
+          six_lists (at_start m pre) (keeps m) (at_end m post) (sends_arrive m) (arrives_by_sends m) (arrives_once m),
+          spread cells m.steps (m.nodes * m.nodes),
+          many_starts pre,
+          few_keeps,
+          few_ends post,
+          few_sends,
+          few_arrivals,
+          few_once,
+        )
+
+pub few_clauses : (t : TopologyValue) (pre post : PlacementValue) (steps : ℕ)
+    → length (sending (map_of t pre steps) pre post) ≤ pre.chunks * t.nodes * (2 + steps * (2 + t.nodes * t.nodes)) + sends (map_of t pre steps) * 3
+few_clauses t pre post steps = few_sending (map_of t pre steps) (few_enter t pre steps) pre post
