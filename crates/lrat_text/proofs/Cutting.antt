@@ -11,12 +11,12 @@ use Rattle.lrat_text.specs.Reading.{row_says, size_of, Said, nothing_said, said_
 -- ---- the first line
 
 -- a whole line stays the first, and takes its bytes off the front
-record FirstLine (bytes piece : List ℕ) (row : Row) (rows : List Row) : Type 0 where
-  rest : List ℕ
-  rows_are : rows ≡ rows_of rest
-  more : rows_of (bytes ++ piece) ≡ row ∷ rows_of (rest ++ piece)
-  behind : drop (size_of row) bytes ≡ rest
-  within : size_of row ≤ length bytes
+pub record FirstLine (bytes piece : List ℕ) (row : Row) (rows : List Row) : Type 0 where
+  pub rest : List ℕ
+  pub rows_are : rows ≡ rows_of rest
+  pub more : rows_of (bytes ++ piece) ≡ row ∷ rows_of (rest ++ piece)
+  pub behind : drop (size_of row) bytes ≡ rest
+  pub within : size_of row ≤ length bytes
 
 abbrev IsFirst : List ℕ → List Row → Type 0
 IsFirst bytes [] = Unit {0}
@@ -42,7 +42,7 @@ first_line (b ∷ bytes) =
     (λ e. rw e (onto_first b bytes (rows_of bytes) e refl (first_line bytes)))
     (cases_Bool (b == 10))
 
-first_of : (bytes piece : List ℕ) (row : Row) (rows : List Row) → rows_of bytes ≡ row ∷ rows → row.whole ≡ true → FirstLine bytes piece row rows
+pub first_of : (bytes piece : List ℕ) (row : Row) (rows : List Row) → rows_of bytes ≡ row ∷ rows → row.whole ≡ true → FirstLine bytes piece row rows
 first_of bytes piece row rows e w = let first : IsFirst bytes (row ∷ rows) = subst (IsFirst bytes) e (first_line bytes) in first w piece
 
 -- ---- what is said
@@ -140,7 +140,7 @@ said_free r e unfinished =
     let free : said_to r ≡ said_by r.finished r.place (rows_of r.rest) = rw (e, said_to) refl in
     free ∙ ap (λ f. said_by f r.place (rows_of r.rest)) unfinished
 
-said_fault : (r : ReaderValue) (fault : LratTextFault) → r.fault ≡ Some fault → said_to r ≡ record { answer = Err fault; taken = 0 }
+pub said_fault : (r : ReaderValue) (fault : LratTextFault) → r.fault ≡ Some fault → said_to r ≡ record { answer = Err fault; taken = 0 }
 said_fault r fault e = rw (e, said_to) refl
 
 pub said_whatever_follows : (r : ReaderValue) (piece : List ℕ) → r.finished ≡ false → ((said_to r).answer ≡ Ok None → ⊥) → said_to (fed r piece) ≡ said_to r

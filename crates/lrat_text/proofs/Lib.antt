@@ -2,3 +2,9 @@ pub mod Trailed
 pub mod Cutting
 pub mod Spelled
 pub mod Printed
+pub mod Blanks
+pub mod Digits
+pub mod Listed
+pub mod Passing
+pub mod Memory
+pub mod Remaining

@@ -18,7 +18,7 @@ use Rattle.lrat_text.specs.Tokens.{Token, placed_from, tokens_from, content, id_
 use Rattle.lrat_text.specs.Reading.{up_to_zero, no_more, addition_of, deletion_of, behind_id, line_of, row_says, size_of, Said, said_at, said_by}
 use Rattle.lrat_text.proofs.Spelled.{IsWord, ReadsAs, id_reads, literal_reads, hint_reads, token, no_comment}
 
-abbrev whole : List ℕ → Row
+abbrev pub whole : List ℕ → Row
 whole bytes = record { bytes = bytes; whole = true }
 
 -- ---- a line of words
@@ -196,15 +196,23 @@ tokens_of_line : (line : LratLine) (place : ℕ) → IsReadable line → tokens_
 tokens_of_line (Addition line) place r = tokens_are (decimal line.id) (closed (map literal_word line.lits) ++ closed (map hint_word line.hints)) place (words_are (Addition line) r)
 tokens_of_line (Deletion deletion) place r = tokens_are (decimal deletion.id) (codes "d" ∷ closed (map decimal deletion.ids)) place (words_are (Deletion deletion) r)
 
+-- a line is a row of its own, whatever follows
+pub row_of_line : (l : LratLine) (more : List ℕ) → IsReadable l → rows_of (line (line_words l) ++ more) ≡ whole (join_with_byte 32 (line_words l)) ∷ rows_of more
+row_of_line l more r =
+    let bytes = join_with_byte 32 (line_words l) in
+    ap rows_of (append_assoc bytes (10 ∷ []) more) ∙ rows_whole bytes more (joined_control (line_words l) (words_are l r))
+
+-- and says the line
+pub row_says_line : (l : LratLine) (place : ℕ) → IsReadable l → row_says place (whole (join_with_byte 32 (line_words l))) ≡ Some (Ok l)
+row_says_line l place r =
+    let bytes = join_with_byte 32 (line_words l) in
+    let lack = BadToken (place + length bytes) in
+    ap (λ bs. line_of lack (tokens_from place bs)) (all_content bytes (joined_control (line_words l) (words_are l r))) ∙ ap (line_of lack) (tokens_of_line l place r) ∙ tokens_say lack place l r
+
 pub read_back : (l : LratLine) (more : List ℕ) (finished : Bool) (place : ℕ) → IsReadable l → said_by finished place (rows_of (line (line_words l) ++ more)) ≡ record { answer = Ok (Some l); taken = length (line (line_words l)) }
 read_back l more finished place r =
     let bytes = join_with_byte 32 (line_words l) in
-    let clean = joined_control (line_words l) (words_are l r) in
-    let lack = BadToken (place + length bytes) in
-    let rows : rows_of ((bytes ++ 10 ∷ []) ++ more) ≡ whole bytes ∷ rows_of more = ap rows_of (append_assoc bytes (10 ∷ []) more) ∙ rows_whole bytes more clean in
-    let says : row_says place (whole bytes) ≡ Some (Ok l) =
-    ap (λ bs. line_of lack (tokens_from place bs)) (all_content bytes clean) ∙ ap (line_of lack) (tokens_of_line l place r) ∙ tokens_say lack place l r in
     let later = said_by finished (place + size_of (whole bytes)) (rows_of more) in
     let size : size_of (whole bytes) ≡ length (bytes ++ 10 ∷ []) = sym (length-append bytes (10 ∷ [])) in
     let made : ℕ → Said = λ n. record { answer = Ok (Some l); taken = n } in
-    ap (said_by finished place) rows ∙ ap (λ q. said_at q (size_of (whole bytes)) later) says ∙ ap made size
+    ap (said_by finished place) (row_of_line l more r) ∙ ap (λ q. said_at q (size_of (whole bytes)) later) (row_says_line l place r) ∙ ap made size

@@ -1,3 +1,4 @@
 pub mod Printing
 pub mod Tokens
 pub mod Reading
+pub mod Holding

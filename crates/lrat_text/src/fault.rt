@@ -1,3 +1,8 @@
+ghost use Rattle.std.specs.Prelude.{◌≡◌};
+ghost use Rattle.lrat_text.specs.declared.fault.LratTextFault.TheVariants.{OutOfMemory};
+
+use std::alloc::AllocError;
+
 /// Why a text is no list of proof lines. A place is the offset of a byte from the first byte that was fed.
 #[derive(Clone, Copy, Debug, PartialEq, Eq)]
 pub enum LratTextFault {
@@ -9,4 +14,12 @@ pub enum LratTextFault {
     Truncated,
     /// Memory ran out.
     OutOfMemory,
+}
+
+impl From<AllocError> for LratTextFault {
+    ghost from_gives = { λ _ fault. fault ≡ OutOfMemory };
+
+    fn from(_error: AllocError) -> LratTextFault {
+        LratTextFault::OutOfMemory
+    }
 }

@@ -1,0 +1,56 @@
+-- The number that digits spell, and how it is read.
+use Rattle.std.proofs.Common.{◌≡◌, ◌≢◌, ℕ, ◌^◌, ◌<◌, ◌≤◌, true, List, [], ◌∷◌, length, get_or, refl, ap, ◌∙◌, ⊎_elim, arith}
+use Rattle.std.specs.Prelude.{◌==◌, ◌&&◌, not, Ok, Err, decimal, nat_le, nat_lt}
+use Rattle.std.specs.List.{list_all}
+use Rattle.std.specs.Str.Parse.{AllDigits, digits_value}
+use Rattle.std.proofs.lemmas.Bool.{and_parts, leb-true, lt-ltb, cases_lt, not-true, eqb-false, ltb-true}
+use Rattle.std.proofs.lemmas.Fmt.{decimal_digit}
+use Rattle.text_lines.proofs.Numbers.{digit_is, spells}
+use Rattle.lrat_text.specs.declared.fault.LratTextFault.TheVariants.{NumberRange}
+use Rattle.lrat_text.specs.Tokens.{is_number, number_from}
+use Rattle.lrat_text.proofs.Spelled.{number_read}
+
+-- what a number is made of
+record IsSpelled (digits : List ℕ) : Type 0 where
+  some : 0 < length digits
+  each : AllDigits 10 digits
+  lead : get_or digits 0 0 ≢ 48
+
+all_digits : (digits : List ℕ) → list_all (λ b. nat_le 48 b && nat_le b 57) digits ≡ true → AllDigits 10 digits
+all_digits [] e = tt
+all_digits (c ∷ digits) e =
+    let (here, rest) = and_parts (nat_le 48 c && nat_le c 57) (list_all (λ b. nat_le 48 b && nat_le b 57) digits) e in
+    let (low, high) = and_parts (nat_le 48 c) (nat_le c 57) here in
+    let value = digit_is c (leb-true 48 c low) (leb-true c 57 high) in
+    (omega (arith, value, leb-true c 57 high), all_digits digits rest)
+
+spelled : (digits : List ℕ) → is_number digits ≡ true → IsSpelled digits
+spelled digits e =
+    let tests = nat_lt 0 (length digits) && list_all (λ b. nat_le 48 b && nat_le b 57) digits in
+    let (front, lead) = and_parts tests (not (get_or digits 0 0 == 48)) e in
+    let (some, each) = and_parts (nat_lt 0 (length digits)) (list_all (λ b. nat_le 48 b && nat_le b 57) digits) front in
+    record {
+      some = ltb-true 0 (length digits) some;
+      each = all_digits digits each;
+      lead = eqb-false (get_or digits 0 0) 48 (not-true (get_or digits 0 0 == 48) lead);
+    }
+
+pub number_some : (n : ℕ) (digits : List ℕ) → is_number digits ≡ true → digits ≡ decimal n → 0 < n
+number_some n digits e s = ⊎_elim (λ some. some) none (cases_lt 0 n)
+  where
+    none : n ≤ 0 → 0 < n
+    none h =
+        let zero : n ≡ 0 = omega arith in
+        let lead : get_or digits 0 0 ≡ 48 = ap (λ ds. get_or ds 0 0) (s ∙ ap decimal zero ∙ decimal_digit 0 (omega arith)) in
+        absurd ((spelled digits e).lead lead)
+
+pub number_found : (place greatest n : ℕ) (digits : List ℕ) → is_number digits ≡ true → digits ≡ decimal n → n ≤ greatest → greatest < 2 ^ 64 → number_from place greatest digits ≡ Ok n
+number_found place greatest n digits e s fits room = ap (number_from place greatest) s ∙ number_read n (number_some n digits e s) (omega arith) place greatest fits
+
+pub number_large : (place greatest : ℕ) (digits : List ℕ) → is_number digits ≡ true → ((n : ℕ) → n ≤ greatest → digits ≢ decimal n) → greatest < 2 ^ 64 → number_from place greatest digits ≡ Err (NumberRange place)
+number_large place greatest digits e none room = ⊎_elim (λ above. let large = lt-ltb greatest (digits_value 10 digits) above in rw (e, number_from) (rw large refl)) small (cases_lt greatest (digits_value 10 digits))
+  where
+    small : digits_value 10 digits ≤ greatest → number_from place greatest digits ≡ Err (NumberRange place)
+    small fits =
+        let s = spelled digits e in
+        absurd (none (digits_value 10 digits) fits (spells digits s.each s.some (λ zero. absurd (s.lead zero)) (omega arith)))

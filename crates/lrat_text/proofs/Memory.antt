@@ -1,0 +1,105 @@
+-- No text is at fault for want of memory.
+use Rattle.std.proofs.Common.{◌≡◌, ◌≢◌, ℕ, ◌+◌, Bool, true, false, cond, List, [], ◌∷◌, length, Option, None, Some, Result, Ok, Err, ap}
+use Rattle.std.specs.Prelude.{◌==◌, ◌||◌, not, nat_lt, codes, slice_index}
+use Rattle.std.specs.Str.Parse.{digits_value}
+use Rattle.text_lines.specs.Text.{Row}
+use Rattle.text_lines.specs.Check.{◌>>=◌, refuse}
+use Rattle.cnf_formula.specs.declared.line.LratLine.{LratLine}
+use Rattle.lrat_text.specs.declared.fault.LratTextFault.{LratTextFault}
+use Rattle.lrat_text.specs.declared.fault.LratTextFault.TheVariants.{BadToken, NumberRange, Truncated, OutOfMemory}
+use Rattle.lrat_text.specs.Tokens.{Token, tokens_from, content, is_word, is_number, number_from, after_minus, id_of, literal_of, hint_of}
+use Rattle.lrat_text.specs.Reading.{up_to_zero, no_more, addition_of, deletion_of, behind_id, line_of, row_says, size_of, Said, nothing_said, said_at, said_by}
+
+abbrev IsToldOf : {A : Type 0} → Result A LratTextFault → Type 0
+IsToldOf r = r ≢ Err OutOfMemory
+
+bind_told : {A B : Type 0} (r : Result A LratTextFault) (f : A → Result B LratTextFault) → IsToldOf r → ((x : A) → IsToldOf (f x)) → IsToldOf (r >>= f)
+bind_told (Ok x) f first rest = rest x
+bind_told (Err e) f first rest = λ h. let same : e ≡ OutOfMemory = cc in first (ap (λ c. Err c) same)
+
+refuse_told : (b : Bool) (code : LratTextFault) → code ≢ OutOfMemory → IsToldOf (refuse b code)
+refuse_told true code ne = λ h. let same : code ≡ OutOfMemory = cc in ne same
+refuse_told false code ne = λ h. absurd (cc)
+
+number_told : (place greatest : ℕ) (digits : List ℕ) → IsToldOf (number_from place greatest digits)
+number_told place greatest digits =
+    bind_told (refuse (not (is_number digits)) (BadToken place)) _ (refuse_told (not (is_number digits)) (BadToken place) (λ h. absurd (cc)))
+    (λ u. bind_told (refuse (nat_lt greatest (digits_value 10 digits)) (NumberRange place)) _ (refuse_told (nat_lt greatest (digits_value 10 digits)) (NumberRange place) (λ h. absurd (cc))) (λ v h. absurd (cc)))
+
+id_told : (t : Token) → IsToldOf (id_of t)
+id_told t = number_told t.place 4294967295 t.bytes
+
+literal_told : (t : Token) → IsToldOf (literal_of t)
+literal_told t = bind_told (number_from t.place 2147483647 (after_minus t)) _ (number_told t.place 2147483647 (after_minus t)) (λ v h. absurd (cc))
+
+hint_told : (t : Token) → IsToldOf (hint_of t)
+hint_told t = bind_told (number_from t.place 4294967295 (after_minus t)) _ (number_told t.place 4294967295 (after_minus t)) (λ v h. absurd (cc))
+
+module _ (lack : LratTextFault) (ne : lack ≢ OutOfMemory) where
+  list_told : {A : Type 0} (read : Token → Result A LratTextFault) → ((t : Token) → IsToldOf (read t)) → (ts : List Token) → IsToldOf (up_to_zero read lack ts)
+  list_told read told [] = λ h. let same : lack ≡ OutOfMemory = cc in ne same
+  list_told {A} read told (t ∷ ts) = go (list_told read told ts) (is_word (codes "0") t)
+    where
+      next : A → Result (List A × List Token) LratTextFault
+      next x = up_to_zero read lack ts >>= λ more. Ok (x ∷ more.0, more.1)
+
+      go : IsToldOf (up_to_zero read lack ts) → (b : Bool) → IsToldOf (cond b (Ok ([], ts)) (read t >>= next))
+      go rest true = λ h. absurd (cc)
+      go rest false = bind_told (read t) next (told t) (λ x. bind_told (up_to_zero read lack ts) _ rest (λ more h. absurd (cc)))
+
+  no_more_told : (ts : List Token) → IsToldOf (no_more ts)
+  no_more_told [] = λ h. absurd (cc)
+  no_more_told (t ∷ ts) = λ h. absurd (cc)
+
+  addition_told : (id : ℕ) (ts : List Token) → IsToldOf (addition_of lack id ts)
+  addition_told id ts =
+      bind_told (up_to_zero literal_of lack ts) _ (list_told literal_of literal_told ts)
+      (λ lits. bind_told (up_to_zero hint_of lack lits.1) _ (list_told hint_of hint_told lits.1) (λ hints. bind_told (no_more hints.1) _ (no_more_told hints.1) (λ u h. absurd (cc))))
+
+  deletion_told : (id : ℕ) (ts : List Token) → IsToldOf (deletion_of lack id ts)
+  deletion_told id ts = bind_told (up_to_zero id_of lack ts) _ (list_told id_of id_told ts) (λ ids. bind_told (no_more ids.1) _ (no_more_told ids.1) (λ u h. absurd (cc)))
+
+  behind_told : (id : ℕ) (ts : List Token) → IsToldOf (behind_id lack id ts)
+  behind_told id [] = λ h. let same : lack ≡ OutOfMemory = cc in ne same
+  behind_told id (t ∷ ts) = go (is_word (codes "d") t)
+    where
+      go : (b : Bool) → IsToldOf (cond b (deletion_of lack id ts) (addition_of lack id (t ∷ ts)))
+      go true = deletion_told id ts
+      go false = addition_told id (t ∷ ts)
+
+  line_told : (ts : List Token) → line_of lack ts ≢ Some (Err OutOfMemory)
+  line_told [] = λ h. absurd (cc)
+  line_told (t ∷ ts) = go (slice_index t.bytes 0 == 99)
+    where
+      read : Result LratLine LratTextFault
+      read = id_of t >>= λ id. behind_id lack id ts
+
+      go : (b : Bool) → cond b None (Some read) ≢ Some (Err OutOfMemory)
+      go true = λ h. absurd (cc)
+      go false = λ h. let same : read ≡ Err OutOfMemory = cc in bind_told (id_of t) _ (id_told t) (λ id. behind_told id ts) same
+
+row_told : (place : ℕ) (row : Row) → row_says place row ≢ Some (Err OutOfMemory)
+row_told place row = line_told (lack row.whole) (ne row.whole) (tokens_from place (content row))
+  where
+    lack : Bool → LratTextFault
+    lack whole = cond whole (BadToken (place + length row.bytes)) Truncated
+
+    ne : (whole : Bool) → lack whole ≢ OutOfMemory
+    ne true = λ h. absurd (cc)
+    ne false = λ h. absurd (cc)
+
+at_told : (r : Option (Result LratLine LratTextFault)) (size : ℕ) (later : Said) → r ≢ Some (Err OutOfMemory) → later.answer ≢ Err OutOfMemory → (said_at r size later).answer ≢ Err OutOfMemory
+at_told None size later here behind = behind
+at_told (Some (Ok line)) size later here behind = λ h. absurd (cc)
+at_told (Some (Err fault)) size later here behind = λ h. let same : fault ≡ OutOfMemory = cc in here (ap (λ f. Some (Err f)) same)
+
+pub said_told : (finished : Bool) (place : ℕ) (rows : List Row) → (said_by finished place rows).answer ≢ Err OutOfMemory
+said_told finished place [] = λ h. absurd (cc)
+said_told finished place (row ∷ rows) = go (said_told finished (place + size_of row) rows) (row.whole || finished)
+  where
+    first : Said
+    first = said_at (row_says place row) (size_of row) (said_by finished (place + size_of row) rows)
+
+    go : (said_by finished (place + size_of row) rows).answer ≢ Err OutOfMemory → (b : Bool) → (cond b first nothing_said).answer ≢ Err OutOfMemory
+    go behind true = at_told (row_says place row) (size_of row) (said_by finished (place + size_of row) rows) (row_told place row) behind
+    go behind false = λ h. absurd (cc)

@@ -1,0 +1,121 @@
+-- Lines that are passed over, one after the other.
+use Rattle.std.proofs.Common.{◌≡◌, ℕ, ◌+◌, ◌-◌, ◌^◌, ◌<◌, ◌≤◌, Bool, true, false, List, length, get_or, drop, slice_range, Option, Some, None, Result, Ok, Err, refl, sym, ap, ◌∙◌, ⊎_elim, arith}
+use Rattle.std.proofs.lemmas.Bool.{cases_lt}
+use Rattle.std.proofs.lemmas.List.{drop-drop, drop_all, get_or-drop, length-take, length-drop}
+use Rattle.text_lines.specs.Text.{Row, rows_of}
+use Rattle.text_lines.proofs.Rows.{rows_step, rows_end_at}
+use Rattle.cnf_formula.specs.declared.line.LratLine.{LratLine}
+use Rattle.lrat_text.specs.declared.fault.LratTextFault.{LratTextFault}
+use Rattle.lrat_text.specs.declared.holding.HeldLine.{HeldLine}
+use Rattle.lrat_text.specs.Reading.{row_says, size_of, Said, nothing_said, said_at, said_by}
+use Rattle.lrat_text.specs.Holding.{IsClear, row_at, IsFirstFrom, IsHolding}
+
+-- ---- the first line
+
+abbrev held : ℕ → ℕ → Bool → HeldLine
+held end behind whole = record { end = end; behind = behind; whole = whole }
+
+part_size : (bytes : List ℕ) (from end : ℕ) → from ≤ end → end ≤ length bytes → length (slice_range bytes from end) ≡ end - from
+part_size bytes from end ordered within = omega (arith, length-take (end - from) (drop from bytes), length-drop from bytes)
+
+pub clear_through : (bytes : List ℕ) (from searched end : ℕ) → IsClear bytes from searched → IsClear bytes searched end → IsClear bytes from end
+clear_through bytes from searched end before after = λ k low high. ⊎_elim (λ early. before k low early) (λ late. after k late high) (cases_lt k searched)
+
+pub whole_line : (bytes : List ℕ) (finished : Bool) (from searched end : ℕ) → from ≤ searched → searched ≤ end → end < length bytes → IsClear bytes from searched → IsClear bytes searched end → get_or bytes end 0 ≡ 10 → IsFirstFrom bytes finished from (held end (end + 1) true)
+whole_line bytes finished from searched end ordered on low before after here =
+    let size = part_size bytes from end (omega arith) (omega arith) in
+    record {
+      rows = rows_step bytes from end (omega arith) low (clear_through bytes from searched end before after) here;
+      ended = refl;
+      ordered = omega arith;
+      after = omega arith;
+      some = omega arith;
+      within = omega arith;
+      size = omega (arith, size);
+    }
+
+pub last_line : (bytes : List ℕ) (finished : Bool) (from searched end : ℕ) → finished ≡ true → from ≤ searched → searched ≤ end → end ≤ length bytes → length bytes ≤ end → from < end → IsClear bytes from searched → IsClear bytes searched end → IsFirstFrom bytes finished from (held end end false)
+last_line bytes finished from searched end last ordered on within all some before after =
+    let size = part_size bytes from end (omega arith) within in
+    record {
+      rows = rows_end_at bytes from end within all (omega arith) (λ e. absurd (omega arith)) (clear_through bytes from searched end before after);
+      ended = last;
+      ordered = omega arith;
+      after = omega arith;
+      some = omega arith;
+      within = within;
+      size = omega (arith, size);
+    }
+
+pub nothing_left : (bytes : List ℕ) (finished : Bool) (from place : ℕ) → length bytes ≤ from → said_by finished place (rows_of (drop from bytes)) ≡ nothing_said
+nothing_left bytes finished from place all = ap (λ bs. said_by finished place (rows_of bs)) (drop_all from bytes all)
+
+pub no_line : (bytes : List ℕ) (finished : Bool) (from searched end place : ℕ) → finished ≡ false → from < end → from ≤ searched → searched ≤ end → end ≤ length bytes → length bytes ≤ end → IsClear bytes from searched → IsClear bytes searched end
+    → said_by finished place (rows_of (drop from bytes)) ≡ nothing_said
+no_line bytes finished from searched end place more some ordered on within all before after =
+    ap (said_by finished place) (rows_end_at bytes from end within all (omega arith) (λ e. absurd (omega arith)) (clear_through bytes from searched end before after)) ∙ rw more refl
+
+-- ---- lines that say nothing
+
+-- what is said behind so many bytes
+abbrev behind_bytes : ℕ → Said → Said
+behind_bytes taken said = record { answer = said.answer; taken = taken + said.taken }
+
+-- the lines in front say nothing, so that what the text says is said behind them
+pub record IsPassed (finished : Bool) (place : ℕ) (bytes : List ℕ) (taken : ℕ) : Type 0 where
+  pub same : said_by finished place (rows_of bytes) ≡ behind_bytes taken (said_by finished (place + taken) (rows_of (drop taken bytes)))
+
+pub passed_none : (finished : Bool) (place : ℕ) (bytes : List ℕ) → IsPassed finished place bytes 0
+passed_none finished place bytes =
+    let here : place ≡ place + 0 = omega arith in
+    let zero : (said : Said) → said ≡ behind_bytes 0 said = λ said. let e : said.taken ≡ 0 + said.taken = omega arith in ap (λ n. record { answer = said.answer; taken = n }) e in
+    record { same = zero (said_by finished place (rows_of bytes)) ∙ ap (λ p. behind_bytes 0 (said_by finished p (rows_of bytes))) here }
+
+module _ (finished : Bool) (place : ℕ) (bytes : List ℕ) (taken : ℕ) (line : HeldLine) (p : IsPassed finished place bytes taken) (f : IsFirstFrom bytes finished taken line) where
+  abbrev row : Row
+  row = row_at bytes taken line
+
+  here : said_by finished (place + taken) (rows_of (drop taken bytes)) ≡ said_at (row_says (place + taken) row) (size_of row) (said_by finished (place + taken + size_of row) (rows_of (drop line.behind bytes)))
+  here = ap (said_by finished (place + taken)) f.rows ∙ rw f.ended refl
+
+  says : (r : Option (Result LratLine LratTextFault)) → row_says (place + taken) row ≡ r → said_by finished place (rows_of bytes) ≡ behind_bytes taken (said_at r (size_of row) (said_by finished (place + taken + size_of row) (rows_of (drop line.behind bytes))))
+  says r e = p.same ∙ ap (behind_bytes taken) (here ∙ ap (λ x. said_at x (size_of row) (said_by finished (place + taken + size_of row) (rows_of (drop line.behind bytes)))) e)
+
+  pub passed_more : row_says (place + taken) row ≡ None → IsPassed finished place bytes line.behind
+  passed_more e =
+      let at : place + taken + size_of row ≡ place + line.behind = omega (arith, f.size) in
+      let sum : (n : ℕ) → taken + (size_of row + n) ≡ line.behind + n = λ n. omega (arith, f.size) in
+      let later = λ (q : ℕ). said_by finished q (rows_of (drop line.behind bytes)) in
+      record {
+        same = says None e ∙ ap (λ q. behind_bytes taken (said_at None (size_of row) (later q))) at
+            ∙ ap (λ n. record { answer = (later (place + line.behind)).answer; taken = n }) (sum (later (place + line.behind)).taken);
+      }
+
+  pub said_line : (l : LratLine) → row_says (place + taken) row ≡ Some (Ok l) → said_by finished place (rows_of bytes) ≡ record { answer = Ok (Some l); taken = line.behind }
+  said_line l e =
+      let size : taken + size_of row ≡ line.behind = omega (arith, f.size) in
+      says (Some (Ok l)) e ∙ ap (λ n. record { answer = Ok (Some l); taken = n }) size
+
+  pub said_fault : (fault : LratTextFault) → row_says (place + taken) row ≡ Some (Err fault) → said_by finished place (rows_of bytes) ≡ record { answer = Err fault; taken = taken }
+  said_fault fault e =
+      let none : taken + 0 ≡ taken = omega arith in
+      says (Some (Err fault)) e ∙ ap (λ n. record { answer = Err fault; taken = n }) none
+
+pub said_nothing : (finished : Bool) (place : ℕ) (bytes : List ℕ) (taken : ℕ) → IsPassed finished place bytes taken → said_by finished (place + taken) (rows_of (drop taken bytes)) ≡ nothing_said → said_by finished place (rows_of bytes) ≡ record { answer = Ok None; taken = taken }
+said_nothing finished place bytes taken p none =
+    let zero : taken + 0 ≡ taken = omega arith in
+    p.same ∙ ap (behind_bytes taken) none ∙ ap (λ n. record { answer = Ok None; taken = n }) zero
+
+-- ---- a reader behind what was taken
+
+pub taken_off : (bytes rest : List ℕ) (start before place taken searched : ℕ) → IsHolding bytes start before place → rest ≡ drop start bytes → taken ≤ searched → searched ≤ length rest → IsClear rest taken searched → IsHolding bytes (start + taken) (searched - taken) (place + taken)
+taken_off bytes rest start before place taken searched held same ordered within clear =
+    let left : drop taken rest ≡ drop (start + taken) bytes = ap (drop taken) same ∙ drop-drop taken start bytes in
+    let size : length rest ≡ length bytes - start = ap length same ∙ length-drop start bytes in
+    let size_left : length (drop (start + taken) bytes) ≡ length bytes - (start + taken) = length-drop (start + taken) bytes in
+    let room : place + (length bytes - start) < 2 ^ 64 = omega (arith, held.room, length-drop start bytes) in
+    record {
+      within = omega (arith, held.within, size, within, ordered);
+      clear = λ k low high e. clear (taken + k) (omega arith) (omega arith) (sym (get_or-drop taken rest k 0) ∙ ap (λ bs. get_or bs k 0) left ∙ e);
+      room = omega (arith, size_left, room, held.within, size, within, ordered);
+    }

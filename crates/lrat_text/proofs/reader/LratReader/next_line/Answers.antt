@@ -1,0 +1,20 @@
+use Rattle.std.proofs.Common.{drop, length, slice_range, ap, ◌∙◌}
+use Rattle.std.proofs.lemmas.List.{take_rest}
+use Rattle.text_lines.specs.Text.{rows_of}
+use Rattle.lrat_text.proofs.Memory.{said_told}
+use Rattle.lrat_text.proofs.Passing.{taken_off}
+use Rattle.lrat_text.proofs.reader.LratReader.next_line.Goals as goal
+
+pub invariant_of-self : goal.invariant_of-self
+invariant_of-self c =
+    let i = c.self.inside in
+    let bytes = c.deref.result.now in
+    let a = c.in_ok-answered.answered in
+    let rest = take_rest bytes i.start ∙ ap (drop i.start) c.deref.ensures.value in
+    taken_off i.bytes.items (slice_range bytes i.start (length bytes)) i.start i.searched i.place a.taken a.searched c.self.invariant rest c.in_ok-answered.ensures.ordered c.in_ok-answered.ensures.within c.in_ok-answered.ensures.clear
+
+pub returns-clause-kept : goal.returns-clause-kept
+returns-clause-kept c = λ h.
+    let i = c.self.inside in
+    let rows = rows_of (slice_range c.deref.result.now i.start (length c.deref.result.now)) in
+    absurd (said_told i.finished i.place rows (ap (λ s. s.answer) c.in_ok-answered.ensures.said ∙ h))
