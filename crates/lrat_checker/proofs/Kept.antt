@@ -1,5 +1,6 @@
 -- What is held stays held under more additions, and so does a conflict.
 use Rattle.std.proofs.Common.{ap, sym, ◌∙◌, ◌≡◌, ℕ, suc, max, List, [], ◌∷◌, ◌++◌, length, Some, refl, subst, ⊎_elim, arith}
+use Rattle.std.proofs.Math.Logic.{∥∥₁_elim}
 use Rattle.std.specs.Prelude.{◌==◌, true, map}
 use Rattle.std.proofs.lemmas.Bool.{cases_Bool}
 use Rattle.std.proofs.lemmas.List.Elements.{All-nil}
@@ -12,7 +13,7 @@ use Rattle.lrat_checker.specs.declared.verdict.LineVerdict.TheVariants.{Accepted
 use Rattle.lrat_checker.specs.Held.{Entry, CheckerValue, start_of, clause_at}
 use Rattle.lrat_checker.specs.Judging.{verdict_of}
 use Rattle.lrat_checker.specs.Accepting.{Conflicts, Implied, leading}
-use Rattle.lrat_checker.specs.Refuting.{with_line, is_accepted, verdict_on, with_accepted, AllAccepted, after, IsChecker, Exhausted}
+use Rattle.lrat_checker.specs.Refuting.{with_line, is_accepted, verdict_on, with_accepted, AllAccepted, after, IsChecker, Exhaustion, Exhausted}
 use Rattle.lrat_checker.proofs.Verdicts.{implied_by, by_implied}
 
 abbrev pub Keeps : List Entry → List Entry → Type 0
@@ -39,8 +40,8 @@ pub additions_keep : (lines : List ProofLineValue) (c : CheckerValue) → Keeps 
 additions_keep [] c id clause h = h
 additions_keep (line ∷ lines) c id clause h = additions_keep lines (with_line c line) id clause (keeps_append c.held ((line.id, line.lits) ∷ []) id clause h)
 
-pub never_exhausted : (f : FormulaValue) (line : ProofLineValue) (n : ℕ) → line.lits ≡ [] → verdict_of (start_of f) line ≡ AcceptedVerdict true → Exhausted f n → ⊥
-never_exhausted f line n e v x =
+no_exhaustion : (f : FormulaValue) (line : ProofLineValue) (n : ℕ) → line.lits ≡ [] → verdict_of (start_of f) line ≡ AcceptedVerdict true → Exhaustion f n → ⊥
+no_exhaustion f line n e v x =
     let end = after (start_of f) (map Addition x.lines) in
     let i = implied_by (start_of f) line v in
     let conflict = subst (λ lits. Conflicts (start_of f).held lits (leading line.hints)) e i.conflict in
@@ -56,6 +57,9 @@ never_exhausted f line n e v x =
       conflict = conflict_kept (start_of f).held end.held (additions_keep x.lines (start_of f)) [] (leading line.hints) conflict;
     } in
     x.not_closed again refl (by_implied end again implied)
+
+pub never_exhausted : (f : FormulaValue) (line : ProofLineValue) (n : ℕ) → line.lits ≡ [] → verdict_of (start_of f) line ≡ AcceptedVerdict true → Exhausted f n → ⊥
+never_exhausted f line n e v x = ∥∥₁_elim x (λ a b. absurd a) (no_exhaustion f line n e v)
 
 -- ---- checkers
 

@@ -1,6 +1,7 @@
 pub mod Assumed
 pub mod Calm
 pub mod Checked
+pub mod Covered
 pub mod Grouped
 pub mod Groups
 pub mod Hints

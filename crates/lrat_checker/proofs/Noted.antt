@@ -71,9 +71,9 @@ module _ (pivot : LitValue) (start : List LitValue) (groups : List Group) where
 -- ---- one clause more
 
 pub stored_push : (vars : ℕ) (ids : List ℕ) (live : List Bool) (clauses : List (List LitValue)) (lists lists' : List (List ℕ)) (id : ℕ) (lits : List LitValue) → IsStored vars ids live clauses lists → last_of ids < id → IsClause vars lits
-    → length lists' ≡ length lists → ((code k : ℕ) → Contains (list_at lists code) k → Contains (list_at lists' code) k) → ((l : LitValue) → has_literal lits l ≡ true → Contains (list_at lists' (code_of l)) (length ids))
+    → length lists' ≡ length lists → ((code k : ℕ) → Contains (list_at lists code) k → Contains (list_at lists' code) k) → ((l : LitValue) → has_literal lits l ≡ true → Contains (list_at lists' (code_of l)) (length ids)) → (lits ≡ [] → Contains (list_at lists' 0) (length ids))
     → IsStored vars (ids ++ id ∷ []) (live ++ true ∷ []) (clauses ++ lits ∷ []) lists'
-stored_push vars ids live clauses lists lists' id lits s above about long kept noted =
+stored_push vars ids live clauses lists lists' id lits s above about long kept noted none =
     let n = length_push ids id in
     let a = length_push live true in
     let b = length_push clauses lits in
@@ -92,6 +92,12 @@ stored_push vars ids live clauses lists lists' id lits s above about long kept n
             let at : length clauses ≡ k = omega (arith, u, w, b) in
             let place : length ids ≡ k = omega (arith, at, m) in
             subst (Contains (list_at lists' (code_of x))) place (noted x (subst (λ c. has_literal c x ≡ true) (get_or_push clauses lits [] k at) h)))
+            (cases_lt k (length clauses));
+        none = λ k w e. ⊎_elim (λ u. kept 0 k (s.indexed.none k u (sym (get_or_append_left clauses (lits ∷ []) [] k u) ∙ e)))
+            (λ u.
+            let at : length clauses ≡ k = omega (arith, u, w, b) in
+            let place : length ids ≡ k = omega (arith, at, m) in
+            subst (Contains (list_at lists' 0)) place (none (sym (get_or_push clauses lits [] k at) ∙ e)))
             (cases_lt k (length clauses));
       };
     }

@@ -40,6 +40,11 @@ abbrev pub is_accepted : LineVerdict → Bool
 is_accepted (Accepted implied) = true
 is_accepted (Refused code hint) = false
 
+-- accepted as an addition that follows from what is held
+abbrev pub is_implied : LineVerdict → Bool
+is_implied (Accepted implied) = implied
+is_implied (Refused code hint) = false
+
 -- each line is accepted in its turn
 abbrev pub AllAccepted : CheckerValue → List LratLine → Type 0
 AllAccepted c [] = Unit {0}
@@ -87,8 +92,12 @@ pub record SpentLog (lines : List ProofLineValue) (f : FormulaValue) (n : ℕ) :
   pub implied : AllImplied (start_of f) lines
   pub fresh : AllFresh (start_of f) lines
 
--- some spent log of so many lines, after which no addition without a literal is implied
-pub record Exhausted (f : FormulaValue) (n : ℕ) : Type 0 where
+-- a spent log of so many lines, after which no addition without a literal is implied
+pub record Exhaustion (f : FormulaValue) (n : ℕ) : Type 0 where
   pub lines : List ProofLineValue
   pub spent : SpentLog lines f n
   pub not_closed : (line : ProofLineValue) → line.lits ≡ [] → verdict_of (after (start_of f) (map Addition lines)) line ≡ Accepted true → ⊥
+
+-- there is such a log
+abbrev pub Exhausted : FormulaValue → ℕ → Type 0
+Exhausted f n = ∥ Exhaustion f n ∥₁

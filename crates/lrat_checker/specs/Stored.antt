@@ -1,7 +1,7 @@
 -- Clauses in a table by their numbers, and the lists in which a literal's clauses are found.
 use Rattle.std.specs.Prelude.{◌≡◌, ◌==◌, ◌&&◌, ◌||◌, not, ℕ, ◌+◌, ◌*◌, ◌-◌, ◌<◌, Bool, true, false, List, [], ◌∷◌, length, slice_index, slice_index_or, All, Contains, if◌then◌else◌}
 use Rattle.std.specs.List.{list_any}
-use Rattle.cnf_formula.specs.Literals.{LitValue, has_literal, code_of}
+use Rattle.cnf_formula.specs.Literals.{LitValue, has_literal, is_superset, code_of}
 use Rattle.cnf_formula.specs.Formulas.{IsClause}
 use Rattle.lrat_checker.specs.Held.{Entry}
 
@@ -40,10 +40,15 @@ Rises ids = (i j : ℕ) → i < j → j < length ids → slice_index ids i < sli
 abbrev pub list_at : List (List ℕ) → ℕ → List ℕ
 list_at lists code = slice_index_or lists code []
 
--- each clause is in the list of each of its literals
+-- each clause is in the list of each of its literals, and one without a literal in the first list, which is no literal's
 pub record IsIndexed (vars : ℕ) (clauses : List (List LitValue)) (lists : List (List ℕ)) : Type 0 where
   pub long : length lists ≡ 2 * vars + 2
   pub each : (k : ℕ) (l : LitValue) → k < length clauses → has_literal (slice_index_or clauses k []) l ≡ true → Contains (list_at lists (code_of l)) k
+  pub none : (k : ℕ) → k < length clauses → slice_index_or clauses k [] ≡ [] → Contains (list_at lists 0) k
+
+-- the clause at a place is held, and every literal of it stands among these
+abbrev pub covers : List Bool → List (List LitValue) → List LitValue → ℕ → Bool
+covers live clauses lits k = slice_index_or live k false && is_superset lits (slice_index_or clauses k [])
 
 pub record IsStored (vars : ℕ) (ids : List ℕ) (live : List Bool) (clauses : List (List LitValue)) (lists : List (List ℕ)) : Type 0 where
   pub rises : Rises ids

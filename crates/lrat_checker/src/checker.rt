@@ -1,17 +1,18 @@
 //! The checker of proof lines.
 
-ghost use Rattle.std.specs.Prelude.{◌≡◌, Ok, IfOk, OnOk, OnErr, true, false};
-ghost use Rattle.cnf_formula.specs.Formulas.{Satisfiable};
+ghost use Rattle.std.specs.Prelude.{◌≡◌, ◌≢◌, ◌&&◌, Ok, IfOk, OnOk, OnErr, true, false};
+ghost use Rattle.cnf_formula.specs.Formulas.{IsClause, Satisfiable};
 ghost use Rattle.lrat_checker.specs.Held.{start_of};
 ghost use Rattle.lrat_checker.specs.Judging.{verdict_of, deletion_verdict};
 ghost use Rattle.lrat_checker.specs.Accepting.{Implied, Redundant};
-ghost use Rattle.lrat_checker.specs.Refuting.{is_accepted, with_line, without};
+ghost use Rattle.lrat_checker.specs.Refuting.{is_accepted, is_implied, is_fresh as is_fresh_for, with_line, without};
 
+use crate::freshness::is_fresh;
 use crate::judging::judge;
 use crate::marks::Marks;
 use crate::table::ClauseTable;
 use crate::verdict::{LineCode, LineVerdict};
-use cnf_formula::{Deletion, Formula, OutOfMemory, ProofLine};
+use cnf_formula::{Deletion, Formula, Lit, OutOfMemory, ProofLine};
 use std::alloc::Global;
 use std::marker::Model;
 
@@ -97,6 +98,36 @@ impl Checker {
             self.hold(line)?;
         }
         Ok(verdict)
+    }
+
+    /// Whether a clause of the formula's variables is fresh: it has a literal, and is a superset of no held clause. Nothing
+    /// changes.
+    fn has_no_subset(&mut self, lits: &[Lit]) -> Result<bool, OutOfMemory>
+        requires about { IsClause self.old.formula.vars lits.now }
+        ensures fresh { IfOk result (λ fresh. fresh ≡ is_fresh_for self.old lits.now) }
+        ensures same { self.new ≡ self.old }
+    {
+        let fresh = is_fresh(&self.table, &mut self.marks, lits);
+        self.marks.back_to(0);
+        fresh
+    }
+
+    /// Takes an addition as a line of a spent log: if it follows from what is held, and its clause has a literal and is a
+    /// superset of no held clause. Then it is held from then on under its number, and otherwise nothing changes. `Err` comes
+    /// only where memory runs out, and then nothing changes.
+    pub fn learn(&mut self, line: &ProofLine) -> Result<bool, OutOfMemory>
+        ensures learned { IfOk result (λ learned. learned ≡ (is_implied (verdict_of self.old line.now) && is_fresh_for self.old line.now.lits)) }
+        ensures held { result ≡ Ok true → self.new ≡ with_line self.old line.now }
+        ensures kept { result ≢ Ok true → self.new ≡ self.old }
+    {
+        let verdict = self.verdict(line)?;
+        if verdict != (LineVerdict::Accepted { implied: true })
+            || !self.has_no_subset(&line.lits)?
+        {
+            return Ok(false);
+        }
+        self.hold(line)?;
+        Ok(true)
     }
 
     /// Lets the clauses of these numbers go, if each is held and they differ. Otherwise the deletion is refused and nothing

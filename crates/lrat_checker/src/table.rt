@@ -3,12 +3,12 @@
 ghost use Rattle.std.specs.Prelude.{◌≡◌, ◌≢◌, ◌==◌, ℕ, ◌+◌, ◌<◌, ◌||◌, ◌&&◌, not, [], ◌∷◌, ◌++◌, Bool, false, List, length, map, filter, All, Contains, IfOk, IfSome, IsTrue, OnOk, OnErr, MatchOption, slice_index, true};
 ghost use Rattle.std.specs.List.{list_any, list_all, enumerate_from};
 ghost use Rattle.std.specs.Option.{option_copied};
-ghost use Rattle.cnf_formula.specs.Literals.{LitValue, code_of, has_literal};
+ghost use Rattle.cnf_formula.specs.Literals.{LitValue, code_of, has_literal, is_superset};
 ghost use Rattle.cnf_formula.specs.Formulas.{IsAbout, IsClause};
 ghost use Rattle.lrat_checker.specs.Held.{Entry, clause_at};
 ghost use Rattle.lrat_checker.specs.Judging.{are_held, has_number_twice};
 ghost use Rattle.lrat_checker.specs.Accepting.{Group, is_made_true, without_negated};
-ghost use Rattle.lrat_checker.specs.Stored.{TableValue, Rises, list_at, is_live, kept_live};
+ghost use Rattle.lrat_checker.specs.Stored.{TableValue, Rises, list_at, is_live, kept_live, covers};
 ghost use Rattle.lrat_checker.specs.Steps.{Names};
 
 use crate::marks::Marks;
@@ -115,7 +115,7 @@ fn is_answered(id: u64, clause: &[Lit], pivot: Lit, marks: &Marks, named: &BTree
 }
 
 /// Puts a clause's place into the lists of its literals. An `Err` comes only where memory runs out.
-fn note(lists: &mut Vec<Vec<usize>>, lits: &[Lit], place: usize) -> Result<(), OutOfMemory>
+fn note_literals(lists: &mut Vec<Vec<usize>>, lits: &[Lit], place: usize) -> Result<(), OutOfMemory>
     requires { All (λ l. code_of l < length lists.old.items) lits.now }
     ensures long { length lists.new.items ≡ length lists.old.items }
     ensures kept { (code k : ℕ) → Contains (list_at (map (λ l. l.items) lists.old.items) code) k → Contains (list_at (map (λ l. l.items) lists.new.items) code) k }
@@ -126,6 +126,51 @@ fn note(lists: &mut Vec<Vec<usize>>, lits: &[Lit], place: usize) -> Result<(), O
         list.push(place)?;
     }
     Ok(())
+}
+
+/// Puts a clause's place into the lists of its literals, or into the first list where it has none. An `Err` comes only
+/// where memory runs out.
+fn note(lists: &mut Vec<Vec<usize>>, lits: &[Lit], place: usize) -> Result<(), OutOfMemory>
+    requires some { 0 < length lists.old.items }
+    requires about { All (λ l. code_of l < length lists.old.items) lits.now }
+    ensures long { length lists.new.items ≡ length lists.old.items }
+    ensures kept { (code k : ℕ) → Contains (list_at (map (λ l. l.items) lists.old.items) code) k → Contains (list_at (map (λ l. l.items) lists.new.items) code) k }
+    ensures noted { OnOk result ((l : LitValue) → has_literal lits.now l ≡ true → Contains (list_at (map (λ l. l.items) lists.new.items) (code_of l)) place) }
+    ensures none { OnOk result (lits.now ≡ [] → Contains (list_at (map (λ l. l.items) lists.new.items) 0) place) }
+{
+    if lits.is_empty() {
+        lists[0].push(place)?;
+        return Ok(());
+    }
+    note_literals(lists, lits, place)
+}
+
+/// Whether every literal of the clause is marked.
+fn is_marked(clause: &[Lit], marks: &Marks) -> bool
+    requires about { IsClause marks.now.vars clause.now }
+    ensures { result ≡ is_superset marks.now.falses clause.now }
+{
+    for lit in clause {
+        if !marks.is_false(*lit) {
+            return false;
+        }
+    }
+    true
+}
+
+/// Whether some place of the list is that of a held clause of which every literal is marked.
+fn has_marked(live: &[bool], clauses: &[SmallVec<Lit, 4>], list: &[usize], marks: &Marks) -> bool
+    requires lives { length live.now ≡ length clauses.now }
+    requires about { All (IsClause marks.now.vars) (map (λ c. c.items) clauses.now) }
+    ensures { result ≡ list_any (covers live.now (map (λ c. c.items) clauses.now) marks.now.falses) list.now }
+{
+    for place in list {
+        let place = *place;
+        if place < live.len() && live[place] && is_marked(clauses[place].as_slice(), marks) {
+            return true;
+        }
+    }
+    false
 }
 
 /// Whether the clause has the negation of the pivot.
@@ -235,5 +280,25 @@ impl ClauseTable {
             }
         }
         true
+    }
+
+    /// Whether every literal of some held clause is marked, where just these literals are. It looks at no clause but those
+    /// in the lists of these literals, and those without a literal.
+    pub(crate) fn has_subset(&self, lits: &[Lit], marks: &Marks) -> bool
+        requires about { IsClause self.now.vars lits.now }
+        requires same { marks.now.vars ≡ self.now.vars }
+        requires marked { marks.now.falses ≡ lits.now }
+        ensures { result ≡ list_any (λ entry. is_superset lits.now entry.1) self.now.held }
+    {
+        if has_marked(&self.live, &self.clauses, &self.lists[0], marks) {
+            return true;
+        }
+        for lit in lits {
+            let list = &self.lists[lit.code()];
+            if has_marked(&self.live, &self.clauses, list, marks) {
+                return true;
+            }
+        }
+        false
     }
 }

@@ -25,7 +25,7 @@ invariant_of-self-2 c =
     let lists = map (λ v. v.items) c.note.new.lists.items in
     let long : length lists ≡ length old = omega (arith, length-map c.note.new.lists.items (λ v. v.items), length-map i.lists.items (λ v. v.items), c.note.ensures.long) in
     let place : c.len.result ≡ length i.ids.items = omega (arith, c.len.ensures, ap length c.in_ok-reserve.ensures.items) in
-    let s = stored_push i.vars i.ids.items i.live.items clauses old lists id lits c.self.invariant above about long c.note.ensures.kept (λ l h. subst (Contains (list_at lists (code_of l))) place (c.in_ok-note.ensures.noted l h)) in
+    let s = stored_push i.vars i.ids.items i.live.items clauses old lists id lits c.self.invariant above about long c.note.ensures.kept (λ l h. subst (Contains (list_at lists (code_of l))) place (c.in_ok-note.ensures.noted l h)) (λ e. subst (Contains (list_at lists 0)) place (c.in_ok-note.ensures.none e)) in
     rw (ids, live, more) s
 
 pub returns-clause-added : goal.returns-clause-added

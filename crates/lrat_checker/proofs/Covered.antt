@@ -1,0 +1,103 @@
+-- Held clauses of which every literal stands in a clause.
+use Rattle.std.proofs.Common.{◌≡◌, ℕ, zero, suc, ◌+◌, ◌<◌, Bool, true, false, List, [], ◌∷◌, ◌++◌, length, take, get_or, refl, sym, ap, ◌∙◌, ⊎_elim, arith}
+use Rattle.std.specs.Prelude.{◌&&◌, ◌||◌, Contains}
+use Rattle.std.specs.List.{list_any}
+use Rattle.std.proofs.lemmas.Bool.{false≢true, cases_Bool, cases_lt, and_parts, or_left, or_right, or_from, or_parts, or_cases}
+use Rattle.std.proofs.lemmas.List.{get_or_default, get_or_past, take_more}
+use Rattle.std.proofs.lemmas.List.Folds.{list_any-append}
+use Rattle.cnf_formula.specs.Literals.{LitValue, same_literal, has_literal, is_superset, code_of}
+use Rattle.cnf_formula.proofs.Clauses.{same_is}
+use Rattle.lrat_checker.specs.Stored.{list_at, IsIndexed, held_of, covers}
+use Rattle.lrat_checker.specs.Held.{Entry}
+use Rattle.lrat_checker.proofs.Taking.{same_itself}
+use Rattle.lrat_checker.proofs.Placed.{held_true, held_false}
+
+-- ---- a test of what is held, by places
+
+module _ (test : Entry → Bool) where
+  pub any_by_place : (ids : List ℕ) (live : List Bool) (clauses : List (List LitValue)) (k : ℕ) → length live ≡ length ids → length clauses ≡ length ids → k < length ids → get_or live k false ≡ true → test (get_or ids k 0, get_or clauses k []) ≡ true → list_any test (held_of ids live clauses) ≡ true
+  any_by_place [] live clauses k l m w t f = absurd (omega (arith, w))
+  any_by_place (x ∷ ids) [] clauses k l m w t f = absurd (omega (arith, l))
+  any_by_place (x ∷ ids) (b ∷ live) [] k l m w t f = absurd (omega (arith, m))
+  any_by_place (x ∷ ids) (b ∷ live) (c ∷ clauses) zero l m w t f = rw (t, f) refl
+  any_by_place (x ∷ ids) (b ∷ live) (c ∷ clauses) (suc k) l m w t f =
+      let rest = any_by_place ids live clauses k (omega (arith, l)) (omega (arith, m)) (omega (arith, w)) t f in
+      ⊎_elim (λ y. ap (list_any test) (held_true x ids b live c clauses y) ∙ or_right (test (x, c)) (list_any test (held_of ids live clauses)) rest) (λ n. ap (list_any test) (held_false x ids b live c clauses n) ∙ rest) (cases_Bool b)
+
+  pub none_by_place : (ids : List ℕ) (live : List Bool) (clauses : List (List LitValue)) → ((k : ℕ) → k < length ids → get_or live k false ≡ true → test (get_or ids k 0, get_or clauses k []) ≡ false) → list_any test (held_of ids live clauses) ≡ false
+  none_by_place [] live clauses h = refl
+  none_by_place (x ∷ ids) [] clauses h = refl
+  none_by_place (x ∷ ids) (b ∷ live) [] h = refl
+  none_by_place (x ∷ ids) (b ∷ live) (c ∷ clauses) h =
+      let rest = none_by_place ids live clauses (λ k w t. h (suc k) (omega (arith, w)) t) in
+      ⊎_elim (λ t. rw t (or_from (test (x, c)) (list_any test (held_of ids live clauses)) (h 0 (omega arith) t) rest)) (λ f. rw f rest) (cases_Bool b)
+
+-- ---- a member of a list that passes, and one that can't
+
+some_passes : (test : ℕ → Bool) (xs : List ℕ) → list_any test xs ≡ true → (j : ℕ) × (j < length xs) × (test (get_or xs j 0) ≡ true)
+some_passes test [] h = absurd (false≢true h)
+some_passes test (x ∷ xs) h =
+    ⊎_elim (λ t. (0, omega arith, t))
+    (λ f.
+    let later : list_any test xs ≡ true = sym (ap (λ b. b || list_any test xs) f) ∙ h in
+    let (j, w, t) = some_passes test xs later in
+    (suc j, omega (arith, w), t))
+    (cases_Bool (test x))
+
+none_passes : (test : ℕ → Bool) (xs : List ℕ) → list_any test xs ≡ false → (j : ℕ) → j < length xs → test (get_or xs j 0) ≡ false
+none_passes test [] h j w = absurd (omega (arith, w))
+none_passes test (x ∷ xs) h zero w = (or_parts (test x) (list_any test xs) h).0
+none_passes test (x ∷ xs) h (suc j) w = none_passes test xs (or_parts (test x) (list_any test xs) h).1 j (omega (arith, w))
+
+-- ---- what is held by a table
+
+module _ (lits : List LitValue) (ids : List ℕ) (live : List Bool) (clauses : List (List LitValue)) (l : length live ≡ length ids) (m : length clauses ≡ length ids) where
+  abbrev subset : Entry → Bool
+  subset entry = is_superset lits entry.1
+
+  abbrev has_one : List ℕ → Bool
+  has_one list = list_any (covers live clauses lits) list
+
+  held_within : (k : ℕ) → get_or live k false ≡ true → k < length ids
+  held_within k t = ⊎_elim (λ lt. omega (arith, lt, l)) (λ ge. absurd (false≢true (sym (get_or_past live k false ge) ∙ t))) (cases_lt k (length live))
+
+  pub one_covered : (list : List ℕ) → has_one list ≡ true → list_any subset (held_of ids live clauses) ≡ true
+  one_covered list h =
+      let (j, w, t) = some_passes (covers live clauses lits) list h in
+      let k = get_or list j 0 in
+      let parts = and_parts (get_or live k false) (is_superset lits (get_or clauses k [])) t in
+      any_by_place subset ids live clauses k l m (held_within k parts.0) parts.0 parts.1
+
+  covered_at : (list : List ℕ) (k : ℕ) → has_one list ≡ false → Contains list k → get_or live k false ≡ true → is_superset lits (get_or clauses k []) ≡ false
+  covered_at list k none (j, w, at) t =
+      let is : get_or list j 0 ≡ k = get_or_default list j 0 k w ∙ at in
+      let here : covers live clauses lits k ≡ false = ap (covers live clauses lits) (sym is) ∙ none_passes (covers live clauses lits) list none j w in
+      sym (ap (λ b. b && is_superset lits (get_or clauses k [])) t) ∙ here
+
+  -- it is enough to look at the first list and at those of the literals
+  pub none_covered : (vars : ℕ) (lists : List (List ℕ)) → IsIndexed vars clauses lists → has_one (list_at lists 0) ≡ false → ((x : LitValue) → has_literal lits x ≡ true → has_one (list_at lists (code_of x)) ≡ false)
+      → list_any subset (held_of ids live clauses) ≡ false
+  none_covered vars lists i first each = none_by_place subset ids live clauses (λ k w t. one k w t (get_or clauses k []) refl)
+    where
+      one : (k : ℕ) → k < length ids → get_or live k false ≡ true → (c : List LitValue) → get_or clauses k [] ≡ c → is_superset lits c ≡ false
+      one k w t [] e = ap (is_superset lits) (sym e) ∙ covered_at (list_at lists 0) k first (i.none k (omega (arith, w, m)) e) t
+      one k w t (x ∷ xs) e =
+          ⊎_elim (λ y.
+          let has = and_parts (has_literal lits x) (is_superset lits xs) y in
+          let here : has_literal (x ∷ xs) x ≡ true = or_left (same_literal x x) (has_literal xs x) (same_itself x) in
+          let stands = i.each k x (omega (arith, w, m)) (ap (λ clause. has_literal clause x) e ∙ here) in
+          ap (is_superset lits) (sym e) ∙ covered_at (list_at lists (code_of x)) k (each x has.0) stands t)
+          (λ n. n) (cases_Bool (is_superset lits (x ∷ xs)))
+
+-- ---- one literal more
+
+pub searched_more : (test : LitValue → Bool) (lits : List LitValue) (j : ℕ) (lit : LitValue) → ((d : LitValue) → get_or lits j d ≡ lit) → j < length lits → test lit ≡ false → ((x : LitValue) → has_literal (take j lits) x ≡ true → test x ≡ false)
+    → (x : LitValue) → has_literal (take (j + 1) lits) x ≡ true → test x ≡ false
+searched_more test lits j lit at w none old x h =
+    let split : (has_literal (take j lits) x || has_literal (lit ∷ []) x) ≡ true =
+    sym (ap (λ ys. has_literal ys x) (take_more lits j lit w ∙ ap (λ y. take j lits ++ y ∷ []) (at lit)) ∙ list_any-append (same_literal x) (take j lits) (lit ∷ [])) ∙ h in
+    ⊎_elim (λ before. old x before)
+    (λ here.
+    let is : x ≡ lit = same_is x lit (⊎_elim (λ s. s) (λ n. absurd (false≢true n)) (or_cases (same_literal x lit) false here)) in
+    ap test is ∙ none)
+    (or_cases (has_literal (take j lits) x) (has_literal (lit ∷ []) x) split)
