@@ -1,6 +1,6 @@
 //! What a search writes its lines to.
 
-ghost use Rattle.std.specs.Prelude.{◌≡◌, ◌↔◌, ℕ, ◌+◌, ◌<◌, ◌≤◌, IsTrue, true, List, [], ◌∷◌, ◌++◌, length, OnOk, OnErr};
+ghost use Rattle.std.specs.Prelude.{◌≡◌, ◌≢◌, ◌↔◌, ℕ, ◌+◌, ◌<◌, ◌≤◌, IsTrue, true, List, [], ◌∷◌, ◌++◌, length, Err, OnOk, OnErr};
 ghost use Rattle.cnf_formula.specs.Formulas.{FormulaValue};
 ghost use Rattle.cnf_formula.specs.Lines.{ProofLineValue};
 ghost use Rattle.lrat_checker.specs.declared.verdict.LineVerdict.TheVariants.{Accepted};
@@ -43,7 +43,7 @@ pub trait Ledger<T>: LedgerView {
     ghost moves: { Self → T → Self → T → Type 0 };
 
     /// Adds a line that follows from what is held and that no held clause states already, and charges one.
-    /// [`LedgerFault::Failed`] comes only where the count of faults rose.
+    /// [`LedgerFault::Failed`] comes only where the count of faults rose, and each other answer leaves the count as it was.
     fn learn(&mut self, store: &mut T, line: &ProofLine) -> Result<(), LedgerFault>
         requires room { Self.spent self.old < Self.limit self.old }
         requires implied { verdict_of (checker_of (Self.base self.old) (Self.lines self.old)) line.now ≡ Accepted true }
@@ -56,10 +56,11 @@ pub trait Ledger<T>: LedgerView {
         ensures kept { OnErr result ((Self.lines self.new ≡ Self.lines self.old) × (Self.spent self.new ≡ Self.spent self.old)) }
         ensures base { Self.base self.new ≡ Self.base self.old }
         ensures limit { Self.limit self.new ≡ Self.limit self.old }
-        ensures cause { HasCause LedgerFault.Failed (faults self.old store.old) (faults self.new store.new) result };
+        ensures cause { HasCause LedgerFault.Failed (faults self.old store.old) (faults self.new store.new) result }
+        ensures steady { result ≢ Err LedgerFault.Failed → faults self.new store.new ≡ faults self.old store.old };
 
     /// Adds a line without a literal that follows from what is held, and charges nothing. [`LedgerFault::Failed`] comes
-    /// only where the count of faults rose.
+    /// only where the count of faults rose, and each other answer leaves the count as it was.
     fn close(&mut self, store: &mut T, line: &ProofLine) -> Result<(), LedgerFault>
         requires implied { verdict_of (checker_of (Self.base self.old) (Self.lines self.old)) line.now ≡ Accepted true }
         requires empty { line.now.lits ≡ [] }
@@ -71,7 +72,8 @@ pub trait Ledger<T>: LedgerView {
         ensures kept { OnErr result (Self.lines self.new ≡ Self.lines self.old) }
         ensures base { Self.base self.new ≡ Self.base self.old }
         ensures limit { Self.limit self.new ≡ Self.limit self.old }
-        ensures cause { HasCause LedgerFault.Failed (faults self.old store.old) (faults self.new store.new) result };
+        ensures cause { HasCause LedgerFault.Failed (faults self.old store.old) (faults self.new store.new) result }
+        ensures steady { result ≢ Err LedgerFault.Failed → faults self.new store.new ≡ faults self.old store.old };
 
     ghost moves_refl: { (ledger : Self) (store : T) → moves ledger store ledger store };
 

@@ -1,6 +1,6 @@
 //! A ledger that writes its lines to a shelf.
 
-ghost use Rattle.std.specs.Prelude.{◌≡◌, ◌≢◌, ◌⊎◌, ℕ, ◌<◌, ◌++◌, [], ◌∷◌, List, Some, IsTrue, length, take, IfOk, OnOk};
+ghost use Rattle.std.specs.Prelude.{◌≡◌, ◌≢◌, ◌⊎◌, ℕ, ◌<◌, ◌++◌, [], ◌∷◌, List, Some, IsTrue, length, take, Err, IfOk, OnOk};
 ghost use Rattle.outer_ports.specs.Port.{HasCause, Tells};
 ghost use Rattle.outer_ports.specs.Shelf.{OthersStay};
 ghost use Rattle.conflict_ledger.specs.Shelved.{log_name};
@@ -29,6 +29,7 @@ fn put<H: Shelf>(shelf: &mut H, name: ProofName, text: &[u8]) -> Result<(), Ledg
     ensures front { IsTrue (H.tells shelf.new) → (before : List ℕ) → H.file shelf.old name ≡ Some before → (k : ℕ) × (H.file shelf.new name ≡ Some (before ++ take k text.now)) }
     ensures others { IsTrue (H.tells shelf.new) → OthersStay name (H.file shelf.old) (H.file shelf.new) }
     ensures cause { HasCause LedgerFault.Failed (H.faults shelf.old) (H.faults shelf.new) result }
+    ensures steady { result ≢ Err LedgerFault.Failed → H.faults shelf.new ≡ H.faults shelf.old }
 {
     append_all(shelf, name, text)?;
     Ok(())
@@ -50,11 +51,14 @@ impl ShelfLedger {
         ensures base { IfOk result (λ ledger. ⟦<ShelfLedger as LedgerView>⟧.base ledger ≡ formula.now) }
         ensures lines { IfOk result (λ ledger. ⟦<ShelfLedger as LedgerView>⟧.lines ledger ≡ []) }
         ensures limit { IfOk result (λ ledger. ⟦<ShelfLedger as LedgerView>⟧.limit ledger ≡ limit) }
+        ensures lrat { IfOk result (λ ledger. ledger.lrat ≡ log_name FileKind.Lrat part candidate) }
+        ensures partial { IfOk result (λ ledger. ledger.partial ≡ log_name FileKind.Partial part candidate) }
         ensures agrees { IfOk result (λ ledger. ⟦<ShelfLedger as Ledger<H>>⟧.agrees ledger shelf.new) }
         ensures told { Tells (H.tells shelf.old) (H.tells shelf.new) }
         ensures others { IsTrue (H.tells shelf.new) → (name : ProofName) → name ≢ log_name FileKind.Lrat part candidate → name ≢ log_name FileKind.Partial part candidate → H.file shelf.new name ≡ H.file shelf.old name }
         ensures files { IsTrue (H.tells shelf.new) → (kind : FileKind) → let name = log_name kind part candidate in (H.file shelf.new name ≡ H.file shelf.old name) ⊎ (H.file shelf.new name ≡ Some []) }
         ensures cause { HasCause LedgerFault.Failed (H.faults shelf.old) (H.faults shelf.new) result }
+        ensures steady { result ≢ Err LedgerFault.Failed → H.faults shelf.new ≡ H.faults shelf.old }
     {
         let kept = KeptLedger::new(alloc, formula, limit)?;
         let (s, r, c) = candidate;

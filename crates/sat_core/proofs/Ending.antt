@@ -1,7 +1,8 @@
--- Where a search has learned as many lines as may be, they are a spent log.
-use Rattle.std.proofs.Common.{◌≡◌, ℕ, ◌<◌, ◌^◌, List, [], ◌∷◌, length, refl, sym, ap, ◌∙◌, subst}
+-- Where a search has learned as many lines as may be, they are a spent log; where it closes, there is one line more at most.
+use Rattle.std.proofs.Common.{◌≡◌, ℕ, ◌+◌, ◌<◌, ◌≤◌, ◌^◌, List, [], ◌∷◌, ◌++◌, length, refl, sym, ap, ◌∙◌, subst, arith}
 use Rattle.std.specs.Prelude.{true, false, not}
 use Rattle.std.proofs.lemmas.Bool.{false≢true}
+use Rattle.std.proofs.lemmas.List.{length-append}
 use Rattle.cnf_formula.specs.Formulas.{FormulaValue}
 use Rattle.cnf_formula.specs.Lines.{ProofLineValue}
 use Rattle.cnf_formula.specs.Literals.{LitValue}
@@ -11,7 +12,7 @@ use Rattle.conflict_ledger.specs.Logs.{learned}
 use Rattle.sat_core.specs.Ready.{AreWritten, IsOver}
 
 -- each fresh line was learned
-all_learned : (lines : List ProofLineValue) (c : CheckerValue) → AllFresh c lines → learned lines ≡ lines
+pub all_learned : (lines : List ProofLineValue) (c : CheckerValue) → AllFresh c lines → learned lines ≡ lines
 all_learned [] c f = refl
 all_learned (line ∷ lines) c f = rw (some line.lits f.0) (ap (λ ls. line ∷ ls) (all_learned lines (with_line c line) f.1))
   where
@@ -25,3 +26,11 @@ log_by base formula lines spent limit e w o charged full = subst (λ f. SpentLog
   implied = w.implied;
   fresh = o.fresh;
 })
+
+-- of the lines, all but one that closes were learned
+pub closed_few : (base : FormulaValue) (lines now : List ProofLineValue) (line : ProofLineValue) (spent limit : ℕ) → AllFresh (start_of base) lines → spent ≡ length (learned lines) → spent ≤ limit → now ≡ lines ++ line ∷ [] → length now ≤ limit + 1
+closed_few base lines now line spent limit fresh charged within added =
+    let all = ap length (all_learned lines (start_of base) fresh) in
+    let many = ap length added in
+    let more = length-append lines (line ∷ []) in
+    omega (arith, all, many, more, charged, within)

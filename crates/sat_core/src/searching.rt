@@ -1,6 +1,6 @@
 //! The search: turn after turn, until it ends.
 
-ghost use Rattle.std.specs.Prelude.{◌≡◌, ℕ, ◌+◌, ◌<◌, length, map, Ok, OnOk};
+ghost use Rattle.std.specs.Prelude.{◌≡◌, ◌≢◌, ℕ, ◌+◌, ◌<◌, ◌≤◌, length, map, Ok, Err, OnOk};
 ghost use Rattle.sat_core.specs.Ready.{AreWritten, IsReady, IsOver};
 ghost use Rattle.cnf_formula.specs.declared.line.LratLine.TheVariants.{Addition};
 ghost use Rattle.lrat_checker.specs.Refuting.{Refutes};
@@ -45,9 +45,11 @@ pub fn search<T, L: Ledger<T>>(
     ensures ready { result ≡ Ok End.Total → IsReady (L.base ledger.new) (L.lines ledger.new) core.new }
     ensures total { result ≡ Ok End.Total → IsTotal core.new }
     ensures refuted { result ≡ Ok End.Refuted → Refutes (map Addition (L.lines ledger.new)) (L.base ledger.new) }
+    ensures closed { result ≡ Ok End.Refuted → length (L.lines ledger.new) ≤ L.limit ledger.new + 1 }
     ensures spent { result ≡ Ok End.Spent → L.spent ledger.new ≡ L.limit ledger.new }
     ensures over { result ≡ Ok End.Spent → IsOver (L.base ledger.new) (L.lines ledger.new) }
     ensures cause { HasCause SolveFault.LedgerFailed (L.faults ledger.old store.old) (L.faults ledger.new store.new) result }
+    ensures steady { result ≢ Err SolveFault.LedgerFailed → L.faults ledger.new store.new ≡ L.faults ledger.old store.old }
 {
     let mut next = id;
     loop {

@@ -1,6 +1,6 @@
 //! The search for a model of a formula, or for a refutation.
 
-ghost use Rattle.std.specs.Prelude.{◌≡◌, ℕ, ◌<◌, ◌^◌, true, Bool, List, [], length, map, Ok, OnOk};
+ghost use Rattle.std.specs.Prelude.{◌≡◌, ◌≢◌, ℕ, ◌+◌, ◌<◌, ◌≤◌, ◌^◌, true, Bool, List, [], length, map, Ok, Err, OnOk};
 ghost use Rattle.cnf_formula.specs.Formulas.{Satisfies};
 ghost use Rattle.cnf_formula.specs.Lines.{ProofLineValue};
 ghost use Rattle.cnf_formula.specs.declared.line.LratLine.TheVariants.{Addition};
@@ -51,6 +51,7 @@ pub fn solve<T, L: Ledger<T>>(
     requires agrees { L.agrees ledger.old store.old }
     ensures model { (values : List Bool) → result ≡ Ok (SatAnswer.Model values) → Satisfies values formula.now }
     ensures refuted { result ≡ Ok SatAnswer.Refuted → Refutes (map Addition (L.lines ledger.new)) formula.now }
+    ensures closed { result ≡ Ok SatAnswer.Refuted → length (L.lines ledger.new) ≤ L.limit ledger.new + 1 }
     ensures spent { result ≡ Ok SatAnswer.Spent → L.spent ledger.new ≡ L.limit ledger.new }
     ensures log { result ≡ Ok SatAnswer.Spent → SpentLog (L.lines ledger.new) formula.now (L.limit ledger.new) }
     ensures not_closed { result ≡ Ok SatAnswer.Spent → (line : ProofLineValue) → line.lits ≡ []
@@ -63,6 +64,7 @@ pub fn solve<T, L: Ledger<T>>(
     ensures base { L.base ledger.new ≡ L.base ledger.old }
     ensures limit { L.limit ledger.new ≡ L.limit ledger.old }
     ensures cause { HasCause SolveFault.LedgerFailed (L.faults ledger.old store.old) (L.faults ledger.new store.new) result }
+    ensures steady { result ≢ Err SolveFault.LedgerFailed → L.faults ledger.new store.new ≡ L.faults ledger.old store.old }
 {
     let own = formula.vars().min(LAST_VARIABLE);
     let mut core = load(alloc, formula, own)?;

@@ -1,6 +1,6 @@
 //! One turn of the search at a conflict.
 
-ghost use Rattle.std.specs.Prelude.{◌≡◌, ℕ, ◌+◌, ◌<◌, length, map, Ok, OnOk};
+ghost use Rattle.std.specs.Prelude.{◌≡◌, ◌≢◌, ℕ, ◌+◌, ◌<◌, ◌≤◌, length, map, Ok, Err, OnOk};
 ghost use Rattle.sat_core.specs.Conflicts.{IsConflict};
 ghost use Rattle.sat_core.specs.Ready.{AreWritten, IsReady, IsOver};
 ghost use Rattle.cnf_formula.specs.declared.line.LratLine.TheVariants.{Addition};
@@ -44,9 +44,11 @@ pub fn at_conflict<T, L: Ledger<T>>(
     ensures next { (next : ℕ) → result ≡ Ok (Turn.Goes next) → next ≡ length core.new.clauses + 1 }
     ensures paid { (next : ℕ) → result ≡ Ok (Turn.Goes next) → L.spent ledger.new ≡ L.spent ledger.old + 1 }
     ensures refuted { result ≡ Ok Turn.Refuted → Refutes (map Addition (L.lines ledger.new)) (L.base ledger.new) }
+    ensures closed { result ≡ Ok Turn.Refuted → length (L.lines ledger.new) ≤ L.limit ledger.new + 1 }
     ensures spent { result ≡ Ok Turn.Spent → L.spent ledger.new ≡ L.limit ledger.new }
     ensures over { result ≡ Ok Turn.Spent → IsOver (L.base ledger.new) (L.lines ledger.new) }
     ensures cause { HasCause SolveFault.LedgerFailed (L.faults ledger.old store.old) (L.faults ledger.new store.new) result }
+    ensures steady { result ≢ Err SolveFault.LedgerFailed → L.faults ledger.new store.new ≡ L.faults ledger.old store.old }
 {
     let line = line_at(alloc, core, conflict, id)?;
     if line.lits.is_empty() {

@@ -3,6 +3,7 @@ use Rattle.std.specs.Prelude.{vec_len}
 use Rattle.std.proofs.lemmas.Bool.{eqb-true, eqb-false}
 use Rattle.std.proofs.lemmas.List.{nil_from_length}
 use Rattle.sat_core.proofs.Turning.{positive, IsTurn, turn_accepted, turn_written, turn_same, turn_refuted, turn_above, turn_fresh, turn_over, turn_ready}
+use Rattle.sat_core.proofs.Ending.{closed_few}
 use Rattle.sat_core.proofs.turn.at_conflict.Goals as goal
 
 pub close-requires-clause-implied : goal.close-requires-clause-implied
@@ -104,3 +105,11 @@ returns-in_err-next-clause-written g c =
     let line = c.in_ok-line.line in
     let t : IsTurn base lines core c.args.conflict c.args.id line = record { ready = c.requires.ready; conflicts = c.requires.conflict; number = c.requires.id; is = c.in_ok-line.ensures } in
     turn_written base _ lines _ core c.args.conflict c.args.id line t c.learn.ensures.base c.in_ok-learn.ensures.lines
+
+pub returns-then-is_empty-clause-closed : goal.returns-then-is_empty-clause-closed
+returns-then-is_empty-clause-closed g c = λ h.
+    let L = g.L.LedgerView in
+    let old = c.args.ledger.now in
+    let limit = c.close.ensures.limit in
+    let few = closed_few (L.base old) (L.lines old) (L.lines c.close.new.self) c.in_ok-line.line (L.spent old) (L.limit old) c.requires.ready.fresh (g.met.L.LedgerView.charged old) (g.met.L.LedgerView.within old) c.in_ok-close.ensures.lines in
+    omega (arith, few, limit)
