@@ -1,0 +1,93 @@
+-- The chunk counts that are allowed.
+use Rattle.std.proofs.Common.{◌≡◌, inl, inr, ℕ, ◌+◌, ◌-◌, ◌≤◌, Bool, true, false, cond, List, [], ◌∷◌, ◌++◌, map-id, refl, sym, ap, ◌∙◌, subst, arith, append-nil}
+use Rattle.std.specs.Prelude.{◌↔◌, IsTrue, All, filter, nat_le}
+use Rattle.std.specs.List.{range_with_len}
+use Rattle.std.specs.List.Sorted.{IsStrictlyIncreasing}
+use Rattle.std.proofs.lemmas.Bool.{and_parts, leb-true}
+use Rattle.std.proofs.lemmas.List.Elements.{All-nil, All-cons, All-filter, All-contains}
+use Rattle.std.proofs.lemmas.List.FromFn.{length-range_with_len, get_or-range_with_len, filter_of_map_range_with_len_more}
+use Rattle.std.proofs.lemmas.List.Kept.{IsStrictlyIncreasing-filter}
+use Rattle.schedule.proofs.First.{Among, Among-from_Contains, Contains-from_Among}
+use Rattle.collective_spec.specs.declared.kind.Kind.{Kind}
+use Rattle.collective_spec.specs.Kinds.{allows, divides_evenly}
+use Rattle.candidate_order.specs.Ranges.{LimitsValue}
+use Rattle.candidate_order.specs.Listed.{AreAllowed}
+use Rattle.candidate_order.proofs.Rows.{Contains-range}
+use Rattle.send_encoding.proofs.Everywhere.{From, in_range}
+use Rattle.candidate_formula.specs.Counts.{allowed_up_to}
+
+-- ---- one count more
+
+filter_more : (p : ℕ → Bool) (a n j : ℕ) → a + n ≡ j → filter p (range_with_len a (n + 1)) ≡ filter p (range_with_len a n) ++ cond (p j) (j ∷ []) []
+filter_more p a n j e =
+    ap (filter p) (sym (map-id (range_with_len a (n + 1)))) ∙ filter_of_map_range_with_len_more p (λ x. x) a n j e
+    ∙ ap (λ r. filter p r ++ cond (p j) (j ∷ []) []) (map-id (range_with_len a n))
+
+allowed_more : (kind : Kind) (nodes c : ℕ) → 1 ≤ c → allowed_up_to (c + 1 - 1) kind nodes ≡ allowed_up_to (c - 1) kind nodes ++ cond (allows kind nodes c) (c ∷ []) []
+allowed_more kind nodes c some =
+    let next : c + 1 - 1 ≡ c - 1 + 1 = omega (arith, some) in
+    let here : 1 + (c - 1) ≡ c = omega (arith, some) in
+    ap (λ n. allowed_up_to n kind nodes) next ∙ filter_more (allows kind nodes) 1 (c - 1) c here
+
+pub kept_more : (kind : Kind) (nodes c : ℕ) (before after : List ℕ) → 1 ≤ c → allows kind nodes c ≡ true → before ≡ allowed_up_to (c - 1) kind nodes → after ≡ before ++ c ∷ [] → after ≡ allowed_up_to (c + 1 - 1) kind nodes
+kept_more kind nodes c before after some ok b a =
+    a ∙ ap (λ xs. xs ++ c ∷ []) b ∙ sym (allowed_more kind nodes c some ∙ ap (λ t. allowed_up_to (c - 1) kind nodes ++ cond t (c ∷ []) []) ok)
+
+pub passed_more : (kind : Kind) (nodes c : ℕ) (before : List ℕ) → 1 ≤ c → allows kind nodes c ≡ false → before ≡ allowed_up_to (c - 1) kind nodes → before ≡ allowed_up_to (c + 1 - 1) kind nodes
+passed_more kind nodes c before some not_allowed b =
+    b ∙ sym (allowed_more kind nodes c some ∙ ap (λ t. allowed_up_to (c - 1) kind nodes ++ cond t (c ∷ []) []) not_allowed ∙ append-nil (allowed_up_to (c - 1) kind nodes))
+
+-- ---- all of them
+
+range_increases : (a n : ℕ) → IsStrictlyIncreasing (range_with_len a n)
+range_increases a n k low =
+    let many = length-range_with_len a n in
+    let at = get_or-range_with_len a n k 0 (omega (arith, many, low)) in
+    let next = get_or-range_with_len a n (k + 1) 0 (omega (arith, many, low)) in
+    omega (arith, at, next)
+
+allowed_increases : (greatest : ℕ) (kind : Kind) (nodes : ℕ) → IsStrictlyIncreasing (allowed_up_to greatest kind nodes)
+allowed_increases greatest kind nodes = IsStrictlyIncreasing-filter (allows kind nodes) (range_with_len 1 greatest) (range_increases 1 greatest)
+
+passing : {X : Type 0} (p : X → Bool) (xs : List X) → All (λ x. p x ≡ true) (filter p xs)
+passing p [] = All-nil (λ x. p x ≡ true)
+passing {X} p (x ∷ xs) = by_test (p x) refl (passing p xs)
+  where
+    by_test : (b : Bool) → p x ≡ b → All (λ y. p y ≡ true) (filter p xs) → All (λ y. p y ≡ true) (cond b (x ∷ filter p xs) (filter p xs))
+    by_test true e rest = All-cons (λ y. p y ≡ true) x (filter p xs) e rest
+    by_test false e rest = rest
+
+among_kept : {X : Type 0} (p : X → Bool) (xs : List X) (x : X) → Among x xs → p x ≡ true → Among x (filter p xs)
+among_kept p [] x among t = absurd among
+among_kept p (y ∷ ys) x (inl is) t = let passes : p y ≡ true = ap p is ∙ t in rw passes (inl is)
+among_kept p (y ∷ ys) x (inr later) t =
+    let rest = among_kept p ys x later t in
+    elim (p y) as (λ b. Among x (cond b (y ∷ filter p ys) (filter p ys))) [ true ↦ inr rest | false ↦ rest ]
+
+allowed_all : (limits : LimitsValue) (kind : Kind) (nodes : ℕ) → AreAllowed limits kind nodes (allowed_up_to limits.max_c kind nodes)
+allowed_all limits kind nodes = λ c.
+    let p : ℕ → Bool = allows kind nodes in
+    let range = range_with_len 1 limits.max_c in (
+      λ at.
+          let within = All-contains (From 1 limits.max_c) (filter p range) c (All-filter p (From 1 limits.max_c) range (in_range 1 limits.max_c)) at in
+          (omega (arith, within.1), All-contains (λ x. p x ≡ true) (filter p range) c (passing p range) at),
+      λ ok.
+          let some = leb-true 1 c (and_parts (nat_le 1 c) (divides_evenly kind nodes c) ok.1).0 in
+          Contains-from_Among c (filter p range) (among_kept p range c (Among-from_Contains c range (Contains-range 1 limits.max_c c some (let most = ok.0 in omega (arith, most)))) ok.1),
+    )
+
+-- ---- the counts that are given
+
+pub are_increasing : (kind : Kind) (nodes greatest : ℕ) (counts : List ℕ) → counts ≡ allowed_up_to greatest kind nodes → IsStrictlyIncreasing counts
+are_increasing kind nodes greatest counts is = subst IsStrictlyIncreasing (sym is) (allowed_increases greatest kind nodes)
+
+pub are_allowed : (limits : LimitsValue) (kind : Kind) (nodes greatest : ℕ) (counts : List ℕ) → greatest ≡ limits.max_c → counts ≡ allowed_up_to greatest kind nodes → AreAllowed limits kind nodes counts
+are_allowed limits kind nodes greatest counts most is = subst (AreAllowed limits kind nodes) (sym (is ∙ ap (λ n. allowed_up_to n kind nodes) most)) (allowed_all limits kind nodes)
+
+-- there is none where no count is allowed
+pub none_allowed : (limits : LimitsValue) (kind : Kind) (nodes : ℕ) (counts : List ℕ) → AreAllowed limits kind nodes counts → (counts ≡ []) ↔ ((c : ℕ) → c ≤ limits.max_c → IsTrue (allows kind nodes c) → ⊥)
+none_allowed limits kind nodes [] allowed = (λ e c most ok. let at = (allowed c).1 (most, ok) in omega (arith, at.1), λ none. refl)
+none_allowed limits kind nodes (c ∷ counts) allowed = (
+  λ e. absurd (cc),
+  λ none. let ok = (allowed c).0 (0, omega arith, refl) in absurd (none c ok.0 ok.1),
+)

@@ -1,0 +1,13 @@
+pub mod Chunks
+pub mod Sought
+pub mod Bounded
+pub mod Exact
+pub mod Copying
+pub mod Encoded
+pub mod Asked
+pub mod ReadBack
+pub mod Short
+pub mod Links
+pub mod Sizes
+pub mod Allowed
+pub mod TurnedSize

@@ -1,0 +1,93 @@
+-- A search over links that are turned round is as large.
+use Rattle.std.proofs.Common.{◌≡◌, ℕ, ◌+◌, ◌*◌, Bool, true, false, cond, List, [], ◌∷◌, ◌++◌, length, map, refl, sym, ap, ◌∙◌, arith, length-append}
+use Rattle.std.specs.Prelude.{filter, sum_by}
+use Rattle.std.specs.List.{flat_map, range_with_len}
+use Rattle.std.proofs.lemmas.List.{length-map}
+use Rattle.std.proofs.lemmas.List.Elements.{filter-append}
+use Rattle.std.proofs.lemmas.List.Sums.{sum_by-cons}
+use Rattle.schedule.specs.Links.{GroupValue, TopologyValue, is_usable, usable_links, turned, reversed_group, reversed_of}
+use Rattle.schedule.proofs.Turning.{turned_usable}
+use Rattle.candidate_order.specs.Frontiers.{QuestionValue}
+use Rattle.candidate_order.specs.Copied.{copied_question}
+use Rattle.round_encoding.specs.Candidates.{group_size}
+use Rattle.candidate_formula.specs.Sizes.{most_chunks, size_of}
+use Rattle.candidate_formula.proofs.Asked.{same_size}
+
+-- ---- how many pairs of a grid pass a test
+
+abbrev kept : {X : Type 0} → (X → Bool) → List X → ℕ
+kept p xs = length (filter p xs)
+
+abbrev one_where : Bool → ℕ
+one_where b = cond b 1 0
+
+kept_first : {X : Type 0} (p : X → Bool) (x : X) (xs : List X) → kept p (x ∷ xs) ≡ one_where (p x) + kept p xs
+kept_first p x xs = elim (p x) as (λ b. length (cond b (x ∷ filter p xs) (filter p xs)) ≡ one_where b + kept p xs) [ true ↦ omega arith | false ↦ omega arith ]
+
+kept_append : {X : Type 0} (p : X → Bool) (xs ys : List X) → kept p (xs ++ ys) ≡ kept p xs + kept p ys
+kept_append p xs ys = ap length (filter-append p xs ys) ∙ length-append (filter p xs) (filter p ys)
+
+kept_alike : {X : Type 0} (p q : X → Bool) → ((x : X) → p x ≡ q x) → (xs : List X) → kept p xs ≡ kept q xs
+kept_alike p q same [] = refl
+kept_alike p q same (x ∷ xs) =
+    let one : one_where (p x) ≡ one_where (q x) = ap one_where (same x) in
+    omega (arith, kept_first p x xs, kept_first q x xs, one, kept_alike p q same xs)
+
+-- the pairs of one, and those of many, with so many others
+abbrev row : ℕ → List ℕ → List (ℕ × ℕ)
+row a bs = map (λ b. (a, b)) bs
+
+abbrev grid : List ℕ → List ℕ → List (ℕ × ℕ)
+grid xs ys = flat_map (λ x. row x ys) xs
+
+kept_row : (p : ℕ × ℕ → Bool) (a : ℕ) (bs : List ℕ) → kept p (row a bs) ≡ kept (λ b. p (a, b)) bs
+kept_row p a [] = refl
+kept_row p a (b ∷ bs) = omega (arith, kept_first p (a, b) (row a bs), kept_first (λ c. p (a, c)) b bs, kept_row p a bs)
+
+kept_none : (p : ℕ × ℕ → Bool) (xs : List ℕ) → kept p (grid xs []) ≡ 0
+kept_none p [] = refl
+kept_none p (x ∷ xs) = kept_none p xs
+
+-- one column more
+kept_column : (p : ℕ × ℕ → Bool) (xs : List ℕ) (y : ℕ) (ys : List ℕ) → kept p (grid xs (y ∷ ys)) ≡ kept (λ x. p (x, y)) xs + kept p (grid xs ys)
+kept_column p [] y ys = omega arith
+kept_column p (x ∷ xs) y ys = omega (
+  arith,
+  kept_append p (row x (y ∷ ys)) (grid xs (y ∷ ys)),
+  kept_first p (x, y) (row x ys),
+  kept_column p xs y ys,
+  kept_first (λ z. p (z, y)) x xs,
+  kept_append p (row x ys) (grid xs ys),
+)
+
+kept_turned : (p : ℕ × ℕ → Bool) (xs ys : List ℕ) → kept p (grid xs ys) ≡ kept (λ l. p (turned l)) (grid ys xs)
+kept_turned p xs [] = kept_none p xs
+kept_turned p xs (y ∷ ys) = omega (
+  arith,
+  kept_column p xs y ys,
+  kept_turned p xs ys,
+  kept_append (λ l. p (turned l)) (row y xs) (grid ys xs),
+  kept_row (λ l. p (turned l)) y xs,
+)
+
+-- ---- links and groups
+
+as_many_links : (t : TopologyValue) → length (usable_links (reversed_of t)) ≡ length (usable_links t)
+as_many_links t =
+    let range = range_with_len 0 t.nodes in
+    kept_alike (is_usable (reversed_of t)) (λ l. is_usable t (turned l)) (turned_usable t.groups) (grid range range) ∙ sym (kept_turned (is_usable t) range range)
+
+same_groups : (chunks steps extra : ℕ) (groups : List GroupValue) → sum_by (group_size chunks steps extra) (map reversed_group groups) ≡ sum_by (group_size chunks steps extra) groups
+same_groups chunks steps extra [] = refl
+same_groups chunks steps extra (g ∷ groups) =
+    let size : GroupValue → ℕ = group_size chunks steps extra in
+    let first : size (reversed_group g) ≡ size g = ap (λ n. n * chunks * steps * (g.width * (1 + extra) + 1)) (length-map g.links turned) in
+    omega (arith, sum_by-cons size (reversed_group g) (map reversed_group groups), sum_by-cons size g groups, first, same_groups chunks steps extra groups)
+
+pub copied_size : (q : QuestionValue) → size_of (copied_question q) ≡ size_of q
+copied_size q =
+    let g : ℕ = most_chunks q in
+    let s : ℕ = q.limits.max_s in
+    same_size (reversed_of q.topology) q.spec q.limits
+    ∙ ap (λ l. g * l * s + sum_by (group_size g s q.limits.k) (map reversed_group q.topology.groups)) (as_many_links q.topology)
+    ∙ ap (λ n. g * length (usable_links q.topology) * s + n) (same_groups g s q.limits.k q.topology.groups)

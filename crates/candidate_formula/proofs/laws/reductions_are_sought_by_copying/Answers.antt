@@ -1,0 +1,24 @@
+use Rattle.std.proofs.Common.{sym}
+use Rattle.candidate_order.specs.Copied.{copied_spec}
+use Rattle.candidate_formula.proofs.Copying.{same_allowed, copied_stays}
+use Rattle.candidate_formula.proofs.Asked.{small_by_copying, within_by, reduced_formula}
+use Rattle.candidate_formula.proofs.TurnedSize.{copied_size}
+use Rattle.candidate_formula.proofs.laws.reductions_are_sought_by_copying.Goals as goal
+
+pub returns-clause-small : goal.returns-clause-small
+returns-clause-small c = small_by_copying
+
+pub returns-clause-within : goal.returns-clause-within
+returns-clause-within c = λ q x. (
+  within_by q.topology q.limits x (copied_spec q.spec) q.spec (same_allowed q.spec q.topology.nodes x.c),
+  within_by q.topology q.limits x q.spec (copied_spec q.spec) (sym (same_allowed q.spec q.topology.nodes x.c)),
+)
+
+pub returns-clause-formula : goal.returns-clause-formula
+returns-clause-formula c = reduced_formula
+
+pub returns-clause-stays : goal.returns-clause-stays
+returns-clause-stays c = copied_stays
+
+pub returns-clause-size : goal.returns-clause-size
+returns-clause-size c = copied_size

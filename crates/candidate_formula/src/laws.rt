@@ -1,0 +1,49 @@
+//! Laws of the formula of a candidate.
+
+ghost use Rattle.std.specs.Prelude.{◌≡◌, ◌≢◌, ◌≤◌, ◌↔◌, true, false};
+ghost use Rattle.schedule.specs.Links.{TopologyValue, IsTopology};
+ghost use Rattle.schedule.specs.Sends.{ScheduleValue};
+ghost use Rattle.collective_spec.specs.declared.spec.Spec.{Spec};
+ghost use Rattle.collective_spec.specs.Collectives.{IsSpec, adds_up, kind_in};
+ghost use Rattle.candidate_order.specs.Ranges.{LimitsValue, IsLimits};
+ghost use Rattle.candidate_order.specs.Copied.{copied_spec, copied_question};
+ghost use Rattle.candidate_order.specs.Frontiers.{QuestionValue, IsWithin, IsSolvable, IsSolvedBy, instance_for};
+ghost use Rattle.cnf_formula.specs.Formulas.{Satisfiable};
+ghost use Rattle.round_encoding.specs.Candidates.{IsCandidate, IsTightSolution, size_of as candidate_size, size_limit};
+ghost use Rattle.candidate_formula.specs.Formulas.{formula_for};
+ghost use Rattle.candidate_formula.specs.Sizes.{size_of};
+ghost use Rattle.candidate_formula.specs.Questions.{IsSmallQuestion, copying_question};
+
+use candidate_order::Candidate;
+use collective_spec::Kind;
+
+/// The formula of a candidate within the limits of a small question is satisfiable exactly where some schedule solves the
+/// candidate.
+pub fn formulas_are_exact()
+    ensures { (q : QuestionValue) (x : Candidate) → IsSmallQuestion q → IsWithin q x → Satisfiable (formula_for q x) ↔ IsSolvable q x }
+{}
+
+/// A candidate within the limits of a small question is a candidate for the question's instance, and no larger than the
+/// question.
+pub fn candidates_are_small()
+    ensures candidate { (q : QuestionValue) (x : Candidate) → IsSmallQuestion q → IsWithin q x → IsCandidate q.topology (instance_for q x).pre (instance_for q x).post x.s x.r }
+    ensures size { (q : QuestionValue) (x : Candidate) → IsSmallQuestion q → IsWithin q x → candidate_size q.topology (instance_for q x).pre x.s x.r ≤ size_limit }
+{}
+
+/// A schedule that solves the instance of a candidate and wastes no send solves the candidate.
+pub fn tight_solutions_solve()
+    ensures { (q : QuestionValue) (x : Candidate) (schedule : ScheduleValue) → adds_up q.spec ≡ false
+        → IsTightSolution q.topology (instance_for q x).pre (instance_for q x).post schedule x.s x.r → IsSolvedBy q x schedule }
+{}
+
+/// Every collective but allreduce may be sought by one that copies: over the links as they are where it copies itself, and
+/// over the links turned round where it is a reduction. The question that copies is as large, and has the same candidates and
+/// the same formulas.
+pub fn reductions_are_sought_by_copying()
+    ensures small { (t : TopologyValue) (s : Spec) (limits : LimitsValue) → IsTopology t → IsSpec t.nodes s → kind_in s ≢ Kind.Allreduce → IsLimits limits
+        → size_of (record { topology = t; spec = s; limits = limits }) ≤ size_limit → IsSmallQuestion (copying_question t s limits) }
+    ensures within { (q : QuestionValue) (x : Candidate) → IsWithin (copying_question q.topology q.spec q.limits) x ↔ IsWithin q x }
+    ensures formula { (q : QuestionValue) (x : Candidate) → adds_up q.spec ≡ true → kind_in q.spec ≢ Kind.Allreduce → formula_for (copied_question q) x ≡ formula_for q x }
+    ensures size { (q : QuestionValue) → size_of (copied_question q) ≡ size_of q }
+    ensures stays { (s : Spec) → adds_up s ≡ false → copied_spec s ≡ s }
+{}

@@ -1,0 +1,21 @@
+//! Laws of the texts of proof lines.
+
+ghost use Rattle.std.specs.Prelude.{◌≡◌, ◌≤◌, List, Ok, All, length, map};
+ghost use Rattle.cnf_formula.specs.Lines.{ProofLineValue};
+ghost use Rattle.cnf_formula.specs.declared.line.LratLine.{LratLine};
+ghost use Rattle.cnf_formula.specs.declared.line.LratLine.TheVariants.{Addition};
+ghost use Rattle.lrat_text.specs.Printing.{lrat_text, IsReadable};
+ghost use Rattle.candidate_formula.specs.Lines.{lines_of_text};
+ghost use Rattle.candidate_formula.specs.Files.{longest_proof};
+ghost use Rattle.candidate_formula.specs.Logs.{IsShortLine, most_lines};
+
+/// The text of lines whose numbers a reader takes says just these lines.
+pub fn logs_are_read_back()
+    ensures { (lines : List LratLine) → All IsReadable lines → lines_of_text (lrat_text lines) ≡ Ok lines }
+{}
+
+/// The text of at most 100,001 additions, each with at most 2,097,152 literals and at most one hint more, is not too long for
+/// a file of proof lines.
+pub fn logs_are_short()
+    ensures { (lines : List ProofLineValue) → All IsReadable (map Addition lines) → All IsShortLine lines → length lines ≤ most_lines → length (lrat_text (map Addition lines)) ≤ longest_proof }
+{}
