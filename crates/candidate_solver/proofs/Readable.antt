@@ -1,0 +1,147 @@
+-- The lines of a search are read back from their text: their numbers are small.
+use Rattle.std.proofs.Common.{suc, ◌≡◌, ℕ, ◌+◌, ◌<◌, ◌≤◌, true, false, eqb, List, [], ◌∷◌, ◌++◌, length, get_or, ℤ, pos, negsuc, subst, ⊎_elim, arith}
+use Rattle.std.specs.Prelude.{◌≢◌, ◌==◌, Contains, All, AllPairs, Some, map}
+use Rattle.std.specs.List.{list_any, enumerate_from, IsDistinct, AllByRecursion}
+use Rattle.std.proofs.lemmas.Bool.{cases_Bool, eqb-true, ne_eqb}
+use Rattle.std.proofs.lemmas.List.{length-map}
+use Rattle.std.proofs.lemmas.List.Elements.{All-nil, All-cons, Contains-push_cases}
+use Rattle.std.proofs.lemmas.Map.Steps.{length-le_from_distinct_below}
+use Rattle.cnf_formula.specs.Literals.{LitValue, IsLit}
+use Rattle.cnf_formula.specs.Formulas.{FormulaValue, IsClause}
+use Rattle.cnf_formula.specs.Lines.{ProofLineValue}
+use Rattle.cnf_formula.specs.declared.line.LratLine.TheVariants.{Addition}
+use Rattle.lrat_checker.specs.Held.{Entry, CheckerValue, start_of, clause_at}
+use Rattle.lrat_checker.specs.Accepting.{Conflicts, Implied, leading, groups_from}
+use Rattle.lrat_checker.specs.Refuting.{AllImplied, with_line}
+use Rattle.lrat_checker.proofs.Verdicts.{implied_by}
+use Rattle.lrat_text.specs.Printing.{IsId, IsHint, IsReadable}
+use Rattle.outer_ports.specs.declared.proof_name.ProofName.{ProofName}
+use Rattle.outer_ports.specs.Files.{Files}
+use Rattle.conflict_ledger.specs.Shelved.{log_text}
+use Rattle.sat_core.specs.Ready.{AreNumbered, AreShort}
+use Rattle.candidate_formula.specs.Files.{HoldsLines}
+use Rattle.candidate_formula.specs.Logs.{IsShortLine}
+use Rattle.candidate_formula.proofs.ReadBack.{text_says}
+use Rattle.candidate_formula.proofs.Short.{log_short}
+use Rattle.sat_core.proofs.Members.{here, there, cons_cases}
+
+-- what is held is held under numbers that a reader takes
+abbrev pub AreIds : List Entry → Type 0
+AreIds held = (entry : Entry) → Contains held entry → IsId entry.0
+
+-- ---- hints
+
+named_entry : (held : List Entry) (id : ℕ) (clause : List LitValue) → clause_at held id ≡ Some clause → (entry : Entry) × Contains held entry × (entry.0 ≡ id)
+named_entry [] id clause h = absurd (cc)
+named_entry (entry ∷ held) id clause h = ⊎_elim
+    (λ e. (entry, here entry held, eqb-true entry.0 id e))
+    (λ e. let r = named_entry held id clause (rw e at h) in (r.0, there entry held r.0 r.1, r.2))
+    (cases_Bool (entry.0 == id))
+
+named_id : (held : List Entry) → AreIds held → (id : ℕ) (clause : List LitValue) → clause_at held id ≡ Some clause → IsId id
+named_id held ids id clause h = let r = named_entry held id clause h in subst IsId r.2 (ids r.0 r.1)
+
+hints_read : (held : List Entry) → AreIds held → (hints : List ℤ) (place : ℕ) (falses : List LitValue) → groups_from place hints ≡ [] → Conflicts held falses (leading hints) → All IsHint hints
+hints_read held ids [] place falses g c = absurd c
+hints_read held ids (negsuc n ∷ hints) place falses g c = absurd (cc)
+hints_read held ids (pos id ∷ []) place falses g c = All-cons IsHint (pos id) [] (named_id held ids id c.clause c.names) (All-nil IsHint)
+hints_read held ids (pos id ∷ negsuc n ∷ hints) place falses g c = absurd (cc)
+hints_read held ids (pos id ∷ pos next ∷ hints) place falses g c =
+    All-cons IsHint (pos id) (pos next ∷ hints) (named_id held ids id c.1.clause c.1.names)
+    (hints_read held ids (pos next ∷ hints) (place + 1) _ g c.2)
+
+-- ---- literals
+
+lits_read : (vars : ℕ) (lits : List LitValue) → vars < 2097152 → IsClause vars lits → All IsLit lits
+lits_read vars lits few about k d w =
+    let l = about k d w in
+    let within = l.within in
+    record { some = l.some; small = omega (arith, within, few) }
+
+named_once : (lits : List LitValue) → AllPairs (λ l other. l.var ≢ other.var) lits → IsDistinct eqb (map (λ l. l.var) lits)
+unfolding IsDistinct
+named_once [] once = tt
+named_once (l ∷ lits) once = (
+  apart lits (λ k d w. once 0 (suc k) d (omega arith) (omega (arith, w))),
+  named_once lits (λ i j d a b. once (suc i) (suc j) d (omega (arith, a)) (omega (arith, b))),
+)
+  where
+    apart : (xs : List LitValue) → ((k : ℕ) (d : LitValue) → k < length xs → l.var ≢ (get_or xs k d).var) → AllByRecursion (λ y. eqb l.var y ≡ false) (map (λ x. x.var) xs)
+    apart [] n = tt
+    apart (x ∷ xs) n = (ne_eqb l.var x.var (n 0 x (omega arith)), apart xs (λ k d w. n (suc k) d (omega (arith, w))))
+
+few_lits : (vars : ℕ) (lits : List LitValue) → vars < 2097152 → IsClause vars lits → AllPairs (λ l other. l.var ≢ other.var) lits → length lits ≤ 2097152
+few_lits vars lits few about once =
+    let numbers : List ℕ = map (λ l. l.var) lits in
+    let bound = length-le_from_distinct_below numbers (vars + 1) (named_once lits once) (below lits about) in
+    let same = length-map lits (λ l. l.var) in
+    omega (arith, bound, same, few)
+  where
+    below : (xs : List LitValue) → IsClause vars xs → (q : ℕ) → list_any (eqb q) (map (λ l. l.var) xs) ≡ true → q < vars + 1
+    below [] a q h = absurd (cc)
+    below (x ∷ xs) a q h = ⊎_elim
+        (λ e. let here' = eqb-true q x.var e in let within = (a 0 x (omega arith)).within in omega (arith, here', within))
+        (λ e. below xs (λ k d w. a (suc k) d (omega (arith, w))) q (rw e at h))
+        (cases_Bool (eqb q x.var))
+
+-- ---- lines
+
+-- a reader takes the line's numbers, and it is not long
+record IsKept (line : ProofLineValue) : Type 0 where
+  readable : IsReadable (Addition line)
+  short : IsShortLine line
+
+line_read : (c : CheckerValue) (line : ProofLineValue) → c.formula.vars < 2097152 → AreIds c.held → line.id ≤ 4294967295 → length line.hints ≤ 2097153 → Implied c line → IsKept line
+line_read c line few ids small hints i =
+    let n = i.new in
+    let above = n.above_formula in
+    record {
+      readable = (
+        record { some = omega (arith, above); small = small },
+        lits_read c.formula.vars line.lits few n.in_range,
+        hints_read c.held ids line.hints 0 line.lits i.no_groups i.conflict,
+      );
+      short = record { lits = few_lits c.formula.vars line.lits few n.in_range n.once; hints = hints };
+    }
+
+held_more : (held : List Entry) (id : ℕ) (lits : List LitValue) → AreIds held → IsId id → AreIds (held ++ (id, lits) ∷ [])
+held_more held id lits ids is entry at = ⊎_elim (ids entry) (λ e. subst (λ x. IsId x.0) e is) (Contains-push_cases held (id, lits) entry at)
+
+lines_read : (lines : List ProofLineValue) (c : CheckerValue) → c.formula.vars < 2097152 → AreIds c.held → AllImplied c lines
+    → All (λ line. line.id ≤ 4294967295) lines → All (λ line. length line.hints ≤ 2097153) lines → All IsReadable (map Addition lines) × All IsShortLine lines
+lines_read [] c few ids implied small hints = (All-nil IsReadable, All-nil IsShortLine)
+lines_read (line ∷ lines) c few ids implied small hints =
+    let own = line_read c line few ids (small 0 line (omega arith)) (hints 0 line (omega arith)) (implied_by c line implied.0) in
+    let more = lines_read lines (with_line c line) few (held_more c.held line.id line.lits ids own.readable.0) implied.1
+    (λ k d w. small (suc k) d (omega (arith, w))) (λ k d w. hints (suc k) d (omega (arith, w))) in
+    (All-cons IsReadable (Addition line) (map Addition lines) own.readable more.0, All-cons IsShortLine line lines own.short more.1)
+
+start_ids : (from : ℕ) (clauses : List (List LitValue)) → 0 < from → from + length clauses ≤ 4294967296 → AreIds (enumerate_from from clauses)
+start_ids from [] some few entry at = absurd (omega (arith, at.1))
+start_ids from (clause ∷ clauses) some few entry at = ⊎_elim
+    (λ e. subst (λ x. IsId x.0) e (record { some = some; small = omega (arith, few) }))
+    (start_ids (from + 1) clauses (omega arith) (omega (arith, few)) entry)
+    (cons_cases (from, clause) (enumerate_from (from + 1) clauses) entry at)
+
+-- ---- files
+
+-- a formula of which each line of a search can be read
+pub record IsSmall (f : FormulaValue) : Type 0 where
+  pub few_vars : f.vars < 2097152
+  pub few_clauses : length f.clauses < 1000000000
+
+-- the text of the lines of a search of it says these lines, and is short
+pub holds_lines : (f : FormulaValue) (lines : List ProofLineValue) (files : Files) (name : ProofName) → IsSmall f → length lines ≤ 100001 → AllImplied (start_of f) lines → AreNumbered (length f.clauses) lines → AreShort f.vars lines
+    → files name ≡ Some (log_text lines) → HoldsLines files name (map Addition lines)
+holds_lines f lines files name small few implied numbered short found =
+    let vars = small.few_vars in
+    let clauses = small.few_clauses in
+    let read = lines_read lines (start_of f) vars (start_ids 1 f.clauses (omega arith) (omega (arith, clauses))) implied
+    (λ k d w. let e = numbered k d w in omega (arith, e, w, few, clauses))
+    (λ k d w. let s = short k d w in omega (arith, s, vars)) in
+    record {
+      bytes = log_text lines;
+      found = found;
+      short = log_short lines read.0 read.1 few;
+      reads = text_says (map Addition lines) read.0;
+    }

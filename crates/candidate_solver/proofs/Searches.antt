@@ -1,0 +1,34 @@
+-- What a search says, by what was said of its result.
+use Rattle.std.proofs.Common.{◌≡◌, ℕ, ◌+◌, ◌≤◌, true, Bool, List, [], length, ap, ◌∙◌}
+use Rattle.std.specs.Prelude.{map, Result, Ok}
+use Rattle.cnf_formula.specs.Formulas.{FormulaValue, Satisfies}
+use Rattle.cnf_formula.specs.Lines.{ProofLineValue}
+use Rattle.cnf_formula.specs.declared.line.LratLine.TheVariants.{Addition}
+use Rattle.lrat_checker.specs.declared.verdict.LineVerdict.TheVariants.{Accepted}
+use Rattle.lrat_checker.specs.Judging.{verdict_of}
+use Rattle.lrat_checker.specs.Refuting.{Refutes, SpentLog}
+use Rattle.conflict_ledger.specs.Logs.{checker_of}
+use Rattle.sat_core.specs.declared.fault.SolveFault.{SolveFault}
+use Rattle.sat_core.specs.declared.solving.SatAnswer.{SatAnswer}
+use Rattle.sat_core.specs.declared.solving.SatAnswer.TheVariants.{Model, Refuted, Spent}
+use Rattle.sat_core.specs.Ready.{AreNumbered, AreShort}
+use Rattle.candidate_solver.specs.Trying.{IsSearch}
+
+-- what `solve` says of its result, beside a ledger with this limit and these lines
+pub record IsSolved (f : FormulaValue) (limit : ℕ) (lines : List ProofLineValue) (result : Result SatAnswer SolveFault) : Type 0 where
+  pub model : (values : List Bool) → result ≡ Ok (Model values) → Satisfies values f
+  pub refuted : result ≡ Ok Refuted → Refutes (map Addition lines) f
+  pub closed : result ≡ Ok Refuted → length lines ≤ limit + 1
+  pub log : result ≡ Ok Spent → SpentLog lines f limit
+  pub not_closed : result ≡ Ok Spent → (line : ProofLineValue) → line.lits ≡ [] → verdict_of (checker_of f lines) line ≡ Accepted true → ⊥
+  pub numbered : AreNumbered (length f.clauses) lines
+  pub short : AreShort f.vars lines
+
+pub is_search : (f : FormulaValue) (limit : ℕ) (lines : List ProofLineValue) (said : SatAnswer) (result : Result SatAnswer SolveFault) → result ≡ Ok said → IsSolved f limit lines result → IsSearch f limit lines said
+is_search f limit lines said result ok s = record {
+  model = λ values e. s.model values (ok ∙ ap Ok e);
+  refuted = λ e. record { refutes = s.refuted (ok ∙ ap Ok e); few = s.closed (ok ∙ ap Ok e) };
+  spent = λ e. record { spent = s.log (ok ∙ ap Ok e); not_closed = s.not_closed (ok ∙ ap Ok e) };
+  numbered = s.numbered;
+  short = s.short;
+}

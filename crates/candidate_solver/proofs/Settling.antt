@@ -1,0 +1,182 @@
+-- One candidate more in the record, and the files beside it.
+use Rattle.std.proofs.Common.{◌≡◌, List, [], ◌∷◌, ◌++◌, get_or, refl, sym, ap, ◌∙◌, subst, inl, inr, ⊎_elim}
+use Rattle.std.specs.Prelude.{◌⊎◌, Bool, IsTrue, Option, None, Some, Contains, map}
+use Rattle.std.proofs.lemmas.List.{append-nil}
+use Rattle.std.proofs.lemmas.List.Elements.{All-push, Contains-get_or, Contains-push, Contains-push_cases}
+use Rattle.cnf_formula.specs.Formulas.{FormulaValue}
+use Rattle.cnf_formula.specs.Lines.{ProofLineValue}
+use Rattle.cnf_formula.specs.declared.line.LratLine.TheVariants.{Addition}
+use Rattle.lrat_checker.specs.Refuting.{Exhausted, Refutes}
+use Rattle.lrat_checker.proofs.Calm.{never_refuted}
+use Rattle.outer_ports.specs.declared.part.Part.{Part}
+use Rattle.outer_ports.specs.declared.proof_name.FileKind.{FileKind}
+use Rattle.outer_ports.specs.declared.proof_name.FileKind.TheVariants.{Cnf, Lrat, Partial}
+use Rattle.outer_ports.specs.declared.proof_name.ProofName.{ProofName}
+use Rattle.outer_ports.specs.Port.{Tells}
+use Rattle.outer_ports.specs.Files.{Files}
+use Rattle.candidate_order.specs.declared.candidate.Candidate.{Candidate}
+use Rattle.candidate_order.specs.Frontiers.{QuestionValue, IsWithin, IsSolvable}
+use Rattle.candidate_formula.specs.Files.{file_of, candidate_of, HoldsLines}
+use Rattle.candidate_formula.specs.Formulas.{formula_for}
+use Rattle.candidate_formula.specs.Questions.{IsSmallQuestion}
+use Rattle.candidate_formula.proofs.Exact.{formula_exact}
+use Rattle.candidate_formula.specs.Begun.{Begins}
+use Rattle.cnf_formula.specs.declared.line.LratLine.{LratLine}
+use Rattle.candidate_solver.specs.declared.settled.Settled.{Settled}
+use Rattle.candidate_solver.specs.declared.settled.Settled.TheVariants as settled
+use Rattle.candidate_order.specs.declared.outcome.Outcome.{Outcome}
+use Rattle.candidate_order.specs.declared.outcome.Outcome.TheVariants as outcome
+use Rattle.candidate_solver.specs.Outcomes.{RecordValue, IsNew, SpentOn, IsProved, kind_of}
+use Rattle.candidate_solver.specs.Kept.{HasFiles, KeptAgrees, IsTouched, IsBegun, KeptMoves}
+use Rattle.candidate_solver.specs.Trying.{BeginsOwn, IsOutcome}
+
+-- ---- the record
+
+pub not_solvable : (q : QuestionValue) (x : Candidate) (lines : List ProofLineValue) → IsSmallQuestion q → IsWithin q x → Refutes (map Addition lines) (formula_for q x) → IsSolvable q x → ⊥
+not_solvable q x lines small within refutes solvable = never_refuted (formula_for q x) (map Addition lines) ((formula_exact q x small within).1 solvable) refutes
+
+pub right_more : (q : QuestionValue) (entries now : RecordValue) (x : Candidate) (kind : Settled) (lines : List ProofLineValue) → now ≡ entries ++ (x, kind) ∷ [] → IsSmallQuestion q → IsWithin q x → IsProved q x lines kind
+    → ((y : Candidate) → Contains entries (y, settled.Refuted) → IsSolvable q y → ⊥) → (y : Candidate) → Contains now (y, settled.Refuted) → IsSolvable q y → ⊥
+right_more q entries now x kind lines added small within proved old y at solvable = ⊎_elim
+    (λ e. old y e solvable)
+    (λ e.
+    let own : x ≡ y = ap (λ p. p.0) e in
+    not_solvable q x lines small within (proved.refuted (ap (λ p. p.1) e)) (subst (IsSolvable q) (sym own) solvable))
+    (Contains-push_cases entries (x, kind) (y, settled.Refuted) (subst (λ r. Contains r (y, settled.Refuted)) added at))
+
+pub exhausted_more : (q : QuestionValue) (entries now : RecordValue) (x : Candidate) (kind : Settled) (lines : List ProofLineValue) → now ≡ entries ++ (x, kind) ∷ [] → IsProved q x lines kind
+    → ((y : Candidate) → Contains entries (y, settled.Unknown) → Exhausted (formula_for q y) q.limits.conflicts) → (y : Candidate) → Contains now (y, settled.Unknown) → Exhausted (formula_for q y) q.limits.conflicts
+exhausted_more q entries now x kind lines added proved old y at = ⊎_elim
+    (λ e. old y e)
+    (λ e.
+    let over = proved.unknown (ap (λ p. p.1) e) in
+    subst (λ y. Exhausted (formula_for q y) q.limits.conflicts) (ap (λ p. p.0) e) ∣ record { lines = lines; spent = over.spent; not_closed = over.not_closed } ∣₁)
+    (Contains-push_cases entries (x, kind) (y, settled.Unknown) (subst (λ r. Contains r (y, settled.Unknown)) added at))
+
+-- the last of some entries
+last_or : Candidate × Settled → RecordValue → Candidate × Settled
+last_or d [] = d
+last_or d (entry ∷ entries) = last_or entry entries
+
+last_pushed : (d : Candidate × Settled) (entries : RecordValue) (entry : Candidate × Settled) → last_or d (entries ++ entry ∷ []) ≡ entry
+unfolding last_or
+last_pushed d [] entry = refl
+last_pushed d (e ∷ entries) entry = last_pushed e entries entry
+
+pub proved_last : (q : QuestionValue) (entries now : RecordValue) (x : Candidate) (kind : Settled) (lines : List ProofLineValue) → now ≡ entries ++ (x, kind) ∷ [] → IsProved q x lines kind
+    → (before : RecordValue) (y : Candidate) → now ≡ before ++ (y, settled.Refuted) ∷ [] → Refutes (map Addition lines) (formula_for q y)
+proved_last q entries now x kind lines added proved before y is =
+    let d : Candidate × Settled = (x, kind) in
+    let e : (x, kind) ≡ (y, settled.Refuted) = sym (last_pushed d entries (x, kind)) ∙ ap (last_or d) (sym added ∙ is) ∙ last_pushed d before (y, settled.Refuted) in
+    subst (λ y. Refutes (map Addition lines) (formula_for q y)) (ap (λ p. p.0) e) (proved.refuted (ap (λ p. p.1) e))
+
+-- ---- the files
+
+holds_still : (before now : Files) (name : ProofName) (lines : List LratLine) → now name ≡ before name → HoldsLines before name lines → HoldsLines now name lines
+holds_still before now name lines e h = record { bytes = h.bytes; found = e ∙ h.found; short = h.short; reads = h.reads }
+
+-- a candidate whose files stay has them still
+has_still : (part : Part) (q : QuestionValue) (before now : Files) (y : Candidate) (kind : Settled) → ((k : FileKind) → now (file_of k part y) ≡ before (file_of k part y)) → HasFiles part q before (y, kind) → HasFiles part q now (y, kind)
+has_still part q before now y settled.Solved e h = (e Cnf ∙ h.0, e Lrat ∙ h.1, e Partial ∙ h.2)
+has_still part q before now y settled.Refuted e h = (
+  record { formula = e Cnf ∙ h.0.formula; lines = h.0.lines; holds = holds_still before now (file_of Lrat part y) h.0.lines (e Lrat) h.0.holds; refutes = h.0.refutes },
+  e Partial ∙ h.1,
+)
+has_still part q before now y settled.Unknown e h = (
+  e Cnf ∙ h.0,
+  e Lrat ∙ h.1,
+  record { lines = h.2.lines; holds = holds_still before now (file_of Partial part y) (map Addition h.2.lines) (e Partial) h.2.holds; spent = h.2.spent },
+)
+
+-- the files of another candidate stay
+others_stay : (f : FormulaValue) (part : Part) (x y : Candidate) (before now : Files) → BeginsOwn f part x before now → (y ≡ x → ⊥) → (k : FileKind) → now (file_of k part y) ≡ before (file_of k part y)
+others_stay f part x y before now own apart k = ⊎_elim (λ e. e) (λ i. absurd (apart i.0.of_candidate)) (own.each (file_of k part y))
+
+agrees_more : (f : FormulaValue) (part : Part) (q : QuestionValue) (entries : RecordValue) (x : Candidate) (kind : Settled) (told now_told : Bool) (before now : Files) → KeptAgrees part q entries told before → Tells told now_told
+    → (IsTrue now_told → BeginsOwn f part x before now) → IsNew entries x → (IsTrue now_told → HasFiles part q now (x, kind)) → KeptAgrees part q (entries ++ (x, kind) ∷ []) now_told now
+agrees_more f part q entries x kind told now_told before now agrees tells own new has = λ t. All-push (HasFiles part q now) entries (x, kind)
+    (λ k d w.
+    let entry = get_or entries k d in
+    has_still part q before now entry.0 entry.1
+    (others_stay f part x entry.0 before now (own t) (λ e. new entry.1 (subst (λ y. Contains entries (y, entry.1)) e (Contains-get_or entries k d w))))
+    (agrees (tells t) k d w))
+    (has t)
+
+-- ---- what a call may have changed
+
+begun : (q : QuestionValue) (part : Part) (x : Candidate) (before now : Files) → BeginsOwn (formula_for q x) part x before now → (entries after : RecordValue) (stopped : Option Candidate)
+    → ((name : ProofName) → candidate_of name ≡ x → ((kind : Settled) × Contains after (candidate_of name, kind) × IsNew entries (candidate_of name)) ⊎ (stopped ≡ Some (candidate_of name)))
+    → (name : ProofName) → (now name ≡ before name) ⊎ (IsTouched part entries after stopped name × IsBegun q now name)
+begun q part x before now own entries after stopped why name = ⊎_elim
+    (λ e. inl e)
+    (λ i. inr (
+      record { of_part = i.0.of_part; of_candidate = why name i.0.of_candidate },
+      record { bytes = i.1.front; stands = i.1.is; begins = subst (λ y. Begins (formula_for q y) name.kind i.1.front) (sym i.0.of_candidate) i.1.begins },
+    ))
+    (own.each name)
+
+-- ---- the calls
+
+-- an engine's part, question, record and stopped candidate
+pub record EngineValue : Type 0 where
+  pub part : Part
+  pub question : QuestionValue
+  pub entries : RecordValue
+  pub stopped : Option Candidate
+
+-- a call that settled a candidate
+pub record IsSettled (a b : EngineValue) (x : Candidate) (kind : Settled) (told now_told : Bool) (before now : Files) : Type 0 where
+  pub part : b.part ≡ a.part
+  pub question : b.question ≡ a.question
+  pub entries : b.entries ≡ a.entries ++ (x, kind) ∷ []
+  pub running : a.stopped ≡ None
+  pub new : IsNew a.entries x
+  pub tells : Tells told now_told
+  pub begins : IsTrue now_told → BeginsOwn (formula_for a.question x) a.part x before now
+
+pub settled_moves : (a b : EngineValue) (x : Candidate) (kind : Settled) (told now_told : Bool) (before now : Files) → IsSettled a b x kind told now_told before now
+    → KeptMoves a.part b.part a.question b.question a.entries b.entries a.stopped b.stopped told now_told before now
+settled_moves a b x kind told now_told before now s = record {
+  same_part = s.part;
+  same_question = s.question;
+  more = (x, kind) ∷ [];
+  added = s.entries;
+  stays = λ y e. let never : None ≡ Some y = sym s.running ∙ e in absurd (cc);
+  tells = s.tells;
+  each = λ t. begun a.question a.part x before now (s.begins t) a.entries b.entries b.stopped
+      (λ name e. inl (
+        kind,
+        subst (λ r. Contains r (candidate_of name, kind)) (sym s.entries) (subst (λ y. Contains (a.entries ++ (x, kind) ∷ []) (y, kind)) (sym e) (Contains-push a.entries (x, kind))),
+        subst (IsNew a.entries) (sym e) s.new,
+      ));
+}
+
+pub settled_agrees : (a b : EngineValue) (x : Candidate) (kind : Settled) (told now_told : Bool) (before now : Files) → IsSettled a b x kind told now_told before now
+    → KeptAgrees a.part a.question a.entries told before → (IsTrue now_told → HasFiles a.part a.question now (x, kind)) → KeptAgrees b.part b.question b.entries now_told now
+settled_agrees a b x kind told now_told before now s agrees has =
+    subst (λ part. KeptAgrees part b.question b.entries now_told now) (sym s.part)
+    (subst (λ q. KeptAgrees a.part q b.entries now_told now) (sym s.question)
+    (subst (λ r. KeptAgrees a.part a.question r now_told now) (sym s.entries)
+    (agrees_more (formula_for a.question x) a.part a.question a.entries x kind told now_told before now agrees s.tells s.begins s.new has)))
+
+pub failed_moves : (part : Part) (q : QuestionValue) (x : Candidate) (entries after : RecordValue) (stopped : Option Candidate) (told now_told : Bool) (before now : Files) → after ≡ entries → stopped ≡ None → Tells told now_told
+    → (IsTrue now_told → BeginsOwn (formula_for q x) part x before now) → KeptMoves part part q q entries after stopped (Some x) told now_told before now
+failed_moves part q x entries after stopped told now_told before now same running tells own = record {
+  same_part = refl;
+  same_question = refl;
+  more = [];
+  added = same ∙ sym (append-nil entries);
+  stays = λ y e. let never : None ≡ Some y = sym running ∙ e in absurd (cc);
+  tells = tells;
+  each = λ t. begun q part x before now (own t) entries after (Some x) (λ name e. inr (ap Some (sym e)));
+}
+
+-- ---- what is said of the candidate
+
+pub proved_by : (q : QuestionValue) (x : Candidate) (lines : List ProofLineValue) (out : Outcome) (kind : Settled) → kind ≡ kind_of out → IsOutcome q x lines out → IsProved q x lines kind
+proved_by q x lines (outcome.Solved s) kind e o = record { refuted = λ r. absurd (cc); unknown = λ u. absurd (cc) }
+proved_by q x lines outcome.Refuted kind e o = record { refuted = λ r. o.refuted refl; unknown = λ u. absurd (cc) }
+proved_by q x lines (outcome.Unknown n) kind e o = record {
+  refuted = λ r. absurd (cc);
+  unknown = λ u. let over = o.unknown n refl in subst (SpentOn (formula_for q x) lines) over.0 over.1;
+}

@@ -1,0 +1,119 @@
+-- What a try at a candidate says, and the files that it leaves.
+use Rattle.std.proofs.Common.{◌≡◌, ℕ, ◌≤◌, List, refl, sym, ap, ◌∙◌, subst, arith}
+use Rattle.std.specs.Prelude.{Some, map, Result, Ok, Err, IfOk}
+use Rattle.schedule.specs.Links.{TopologyValue}
+use Rattle.schedule.specs.Placed.{PlacementValue}
+use Rattle.schedule.specs.Sends.{ScheduleValue}
+use Rattle.cnf_formula.specs.Lines.{ProofLineValue}
+use Rattle.cnf_formula.specs.declared.line.LratLine.TheVariants.{Addition}
+use Rattle.lrat_checker.specs.Held.{start_of}
+use Rattle.lrat_checker.specs.Refuting.{AllImplied, Refutes}
+use Rattle.lrat_text.specs.Printing.{cnf_text}
+use Rattle.outer_ports.specs.declared.part.Part.{Part}
+use Rattle.outer_ports.specs.declared.proof_name.FileKind.TheVariants.{Cnf, Lrat, Partial}
+use Rattle.outer_ports.specs.Files.{Files}
+use Rattle.conflict_ledger.specs.Shelved.{log_text}
+use Rattle.sat_core.specs.declared.solving.SatAnswer.{SatAnswer}
+use Rattle.sat_core.specs.declared.solving.SatAnswer.TheVariants as answer
+use Rattle.sat_core.proofs.Ending.{all_learned}
+use Rattle.round_encoding.specs.declared.encoding.Encoding.{Encoding}
+use Rattle.round_encoding.specs.Candidates.{IsEncodingOf, IsTightSolution}
+use Rattle.candidate_order.specs.declared.candidate.Candidate.{Candidate}
+use Rattle.candidate_order.specs.declared.outcome.Outcome.{Outcome}
+use Rattle.candidate_order.specs.declared.outcome.Outcome.TheVariants as outcome
+use Rattle.candidate_order.specs.Frontiers.{QuestionValue, instance_for}
+use Rattle.candidate_formula.specs.Files.{file_of, HasRefutation, HasLog}
+use Rattle.candidate_formula.specs.Formulas.{formula_for}
+use Rattle.candidate_formula.specs.Questions.{IsSmallQuestion}
+use Rattle.candidate_formula.proofs.Exact.{tight_solves}
+use Rattle.candidate_solver.specs.Kept.{HasFiles}
+use Rattle.candidate_solver.specs.Outcomes.{kind_of, SpentOn}
+use Rattle.candidate_solver.specs.Trying.{HasText, HasLines, IsTidy, IsSearch, Says, IsOutcome}
+use Rattle.candidate_solver.proofs.Readable.{IsSmall, holds_lines}
+
+-- ---- what outcomes say
+
+schedule_in : ScheduleValue → Outcome → ScheduleValue
+schedule_in d (outcome.Solved schedule) = schedule
+schedule_in d outcome.Refuted = d
+schedule_in d (outcome.Unknown n) = d
+
+pub says_solved : (e : Encoding) (said : SatAnswer) (limit : ℕ) (s : ScheduleValue)
+    → ((t : TopologyValue) (pre post : PlacementValue) (steps rounds : ℕ) → IsEncodingOf t pre post steps rounds e → IsTightSolution t pre post s steps rounds) → Says e said limit (outcome.Solved s)
+unfolding schedule_in
+says_solved e said limit s h = record {
+  solved = λ schedule same t pre post steps rounds is. subst (λ s. IsTightSolution t pre post s steps rounds) (ap (schedule_in s) same) (h t pre post steps rounds is);
+  refuted = λ same. absurd (cc);
+  unknown = λ n same. absurd (cc);
+}
+
+pub outcome_by : (q : QuestionValue) (x : Candidate) (e : Encoding) (lines : List ProofLineValue) (said : SatAnswer) (limit : ℕ) (out : Outcome) → IsSmallQuestion q → e.formula ≡ formula_for q x → limit ≡ q.limits.conflicts
+    → IsEncodingOf q.topology (instance_for q x).pre (instance_for q x).post x.s x.r e → IsSearch e.formula limit lines said → Says e said limit out → IsOutcome q x lines out
+outcome_by q x e lines said limit out small same limited is search says = record {
+  solved = λ schedule o.
+      let tight = says.solved schedule o q.topology (instance_for q x).pre (instance_for q x).post x.s x.r is in
+      record { solves = tight_solves q x schedule small.copies tight; tight = tight.tight };
+  refuted = λ o. subst (Refutes (map Addition lines)) same (search.refuted (says.refuted o)).refutes;
+  unknown = λ n o.
+      let u = says.unknown n o in (
+        u.1 ∙ limited,
+        subst (λ f. SpentOn f lines n) same (subst (SpentOn e.formula lines) (sym u.1) (search.spent u.0)),
+      );
+}
+
+-- ---- the files that it leaves
+
+-- the formula and the lines of a search, of which the files were tidied
+pub record IsLeft (q : QuestionValue) (part : Part) (x : Candidate) (e : Encoding) (lines : List ProofLineValue) (said : SatAnswer) (middle now : Files) : Type 0 where
+  pub same : e.formula ≡ formula_for q x
+  pub small : IsSmall e.formula
+  pub limited : q.limits.conflicts ≤ 100000
+  pub text : HasText e.formula part x middle
+  pub kept : now (file_of Cnf part x) ≡ middle (file_of Cnf part x)
+  pub has : HasLines part x lines middle
+  pub implied : AllImplied (start_of e.formula) lines
+  pub search : IsSearch e.formula q.limits.conflicts lines said
+
+has_formula : (q : QuestionValue) (part : Part) (x : Candidate) (e : Encoding) (lines : List ProofLineValue) (said : SatAnswer) (middle now : Files) → IsLeft q part x e lines said middle now → now (file_of Cnf part x) ≡ Some (cnf_text (formula_for q x))
+has_formula q part x e lines said middle now left = left.kept ∙ left.text ∙ ap (λ f. Some (cnf_text f)) left.same
+
+has_refutation : (q : QuestionValue) (part : Part) (x : Candidate) (e : Encoding) (lines : List ProofLineValue) (said : SatAnswer) (middle now : Files) → IsLeft q part x e lines said middle now
+    → said ≡ answer.Refuted → now (file_of Lrat part x) ≡ middle (file_of Lrat part x) → HasRefutation part q now x
+has_refutation q part x e lines said middle now left refuted stays =
+    let closes = left.search.refuted refuted in
+    let few = closes.few in
+    let limited = left.limited in
+    record {
+      formula = has_formula q part x e lines said middle now left;
+      lines = map Addition lines;
+      holds = holds_lines e.formula lines now (file_of Lrat part x) left.small (omega (arith, few, limited)) left.implied left.search.numbered left.search.short (stays ∙ left.has.whole);
+      refutes = subst (Refutes (map Addition lines)) left.same closes.refutes;
+    }
+
+has_log : (q : QuestionValue) (part : Part) (x : Candidate) (e : Encoding) (lines : List ProofLineValue) (said : SatAnswer) (middle now : Files) → IsLeft q part x e lines said middle now
+    → said ≡ answer.Spent → now (file_of Partial part x) ≡ middle (file_of Partial part x) → HasLog part q now (record { candidate = x; conflicts = q.limits.conflicts })
+has_log q part x e lines said middle now left spent stays =
+    let over = left.search.spent spent in
+    let count = over.spent.count in
+    let limited = left.limited in
+    let all = all_learned lines (start_of e.formula) over.spent.fresh in
+    record {
+      lines = lines;
+      holds = holds_lines e.formula lines now (file_of Partial part x) left.small (omega (arith, count, limited)) left.implied left.search.numbered left.search.short (stays ∙ left.has.log ∙ ap (λ ls. Some (log_text ls)) all);
+      spent = (subst (λ f. SpentOn f lines q.limits.conflicts) left.same over).spent;
+    }
+
+pub has_files : (q : QuestionValue) (part : Part) (x : Candidate) (e : Encoding) (lines : List ProofLineValue) (said : SatAnswer) (out : Outcome) (middle now : Files) → IsLeft q part x e lines said middle now
+    → Says e said q.limits.conflicts out → IsTidy (kind_of out) part x middle now → HasFiles part q now (x, kind_of out)
+has_files q part x e lines said (outcome.Solved s) middle now left says tidy = (has_formula q part x e lines said middle now left, tidy.0, tidy.1)
+has_files q part x e lines said outcome.Refuted middle now left says tidy = (has_refutation q part x e lines said middle now left (says.refuted refl) tidy.0, tidy.1)
+has_files q part x e lines said (outcome.Unknown n) middle now left says tidy = (
+  has_formula q part x e lines said middle now left,
+  tidy.0,
+  has_log q part x e lines said middle now left (says.unknown n refl).0 tidy.1,
+)
+
+-- what is said of a result twice
+pub both_ok : {T E : Type 0} (r : Result T E) (P Q R : T → Type 0) → ((x : T) → P x → Q x → R x) → IfOk r P → IfOk r Q → IfOk r R
+both_ok (Ok x) P Q R h p q = h x p q
+both_ok (Err e) P Q R h p q = tt

@@ -1,0 +1,127 @@
+use Rattle.std.proofs.Common.{◌≡◌, [], ◌∷◌, ◌++◌, sym, ap, ◌∙◌, subst}
+use Rattle.std.specs.Prelude.{Contains}
+use Rattle.candidate_order.specs.declared.candidate.Candidate.{Candidate}
+use Rattle.candidate_order.specs.declared.outcome.Outcome.TheVariants as outcome
+use Rattle.candidate_order.specs.Frontiers.{QuestionValue}
+use Rattle.candidate_formula.specs.Formulas.{formula_for}
+use Rattle.candidate_solver.specs.Asked.{asked}
+use Rattle.candidate_solver.specs.declared.settled.Settled.{Settled}
+use Rattle.candidate_solver.specs.declared.settled.Settled.TheVariants as settled
+use Rattle.candidate_solver.specs.Outcomes.{RecordValue, SpentOn}
+use Rattle.candidate_solver.specs.Kept.{HasFiles}
+use Rattle.candidate_solver.proofs.Begun.{begins_refl}
+use Rattle.candidate_solver.proofs.Settling.{EngineValue, IsSettled, settled_moves, settled_agrees, failed_moves, proved_by, not_solvable}
+use Rattle.candidate_solver.proofs.kept.SatEngineEngine.settle.Goals as goal
+
+pub returns-in_default-clause-moves : goal.returns-in_default-clause-moves
+returns-in_default-clause-moves g c =
+    let T = g.H.Shelf.tells in
+    let F = g.H.Shelf.file in
+    let e = c.args.self.now in
+    let q : QuestionValue = asked e.question in
+    let x = c.args.candidate in
+    let store = c.args.store.now in
+    failed_moves e.part q x e.entries.items c.reserve.new.self.items e.stopped (T store) (T store) (F store) (F store) c.reserve.ensures.items c.requires.running
+    (λ t. t) (λ t. begins_refl (formula_for q x) e.part x (F store))
+
+pub returns-in-Err-clause-moves : goal.returns-in-Err-clause-moves
+returns-in-Err-clause-moves g c =
+    let T = g.H.Shelf.tells in
+    let F = g.H.Shelf.file in
+    let e = c.args.self.now in
+    let q : QuestionValue = asked e.question in
+    let x = c.args.candidate in
+    let store = c.args.store.now in
+    let end = c.try_candidate.new.store in
+    failed_moves e.part q x e.entries.items c.reserve.new.self.items e.stopped (T store) (T end) (F store) (F end) c.reserve.ensures.items c.requires.running
+    c.try_candidate.ensures.told c.try_candidate.ensures.begins
+
+-- the reserve leaves the record as it was
+pub invariant_of-self-in-Ok-try_candidate : goal.invariant_of-self-in-Ok-try_candidate
+invariant_of-self-in-Ok-try_candidate g c =
+    let e = c.args.self.now in
+    let now : RecordValue = c.reserve.new.self.items in
+    let same : now ≡ e.entries.items = c.reserve.ensures.items in
+    record {
+      named = e.named;
+      right = λ x at. e.right x (subst (λ r. Contains r (x, settled.Refuted)) same at);
+      exhausted = λ x at. e.exhausted x (subst (λ r. Contains r (x, settled.Unknown)) same at);
+      proved = λ before x is. e.proved before x (sym same ∙ is);
+    }
+
+pub note-requires-clause-proved : goal.note-requires-clause-proved
+note-requires-clause-proved g c =
+    let e = c.args.self.now in
+    let q : QuestionValue = asked e.question in
+    let attempt = c.in-Ok-try_candidate.field-0 in
+    proved_by q c.args.candidate attempt.lines.items attempt.outcome c.of.result c.of.ensures c.in-Ok-try_candidate.ensures.outcome
+
+pub returns-in-Ok-try_candidate-clause-solved : goal.returns-in-Ok-try_candidate-clause-solved
+returns-in-Ok-try_candidate-clause-solved g c = λ schedule e.
+    let same : c.in-Ok-try_candidate.field-0.outcome ≡ outcome.Solved schedule = cc in
+    (c.in-Ok-try_candidate.ensures.outcome.solved schedule same, tt)
+
+pub returns-in-Ok-try_candidate-clause-refuted : goal.returns-in-Ok-try_candidate-clause-refuted
+returns-in-Ok-try_candidate-clause-refuted g c = λ e.
+    let engine = c.args.self.now in
+    let q : QuestionValue = asked engine.question in
+    let attempt = c.in-Ok-try_candidate.field-0 in
+    let same : attempt.outcome ≡ outcome.Refuted = cc in
+    not_solvable q c.args.candidate attempt.lines.items engine.question.small c.requires.within (c.in-Ok-try_candidate.ensures.outcome.refuted same)
+
+pub returns-in-Ok-try_candidate-clause-unknown : goal.returns-in-Ok-try_candidate-clause-unknown
+returns-in-Ok-try_candidate-clause-unknown g c = λ n e.
+    let engine = c.args.self.now in
+    let q : QuestionValue = asked engine.question in
+    let same : c.in-Ok-try_candidate.field-0.outcome ≡ outcome.Unknown n = cc in
+    let u = c.in-Ok-try_candidate.ensures.outcome.unknown n same in
+    (u.0, subst (λ ls. SpentOn (formula_for q c.args.candidate) ls n) (sym c.note.ensures.log) u.1)
+
+pub returns-in-Ok-try_candidate-clause-formula : goal.returns-in-Ok-try_candidate-clause-formula
+returns-in-Ok-try_candidate-clause-formula g c = λ x. ap (λ p. formula_for (asked p) x) c.note.ensures.question
+
+pub returns-in-Ok-try_candidate-clause-moves : goal.returns-in-Ok-try_candidate-clause-moves
+returns-in-Ok-try_candidate-clause-moves g c =
+    let T = g.H.Shelf.tells in
+    let F = g.H.Shelf.file in
+    let e = c.args.self.now in
+    let n = c.note.new.self in
+    let store = c.args.store.now in
+    let end = c.try_candidate.new.store in
+    let a : EngineValue = record { part = e.part; question = asked e.question; entries = e.entries.items; stopped = e.stopped } in
+    let b : EngineValue = record { part = n.part; question = asked n.question; entries = n.entries.items; stopped = n.stopped } in
+    let reserved = c.reserve.ensures.items in
+    let entry : Candidate × Settled = (c.args.candidate, c.of.result) in
+    settled_moves a b c.args.candidate c.of.result (T store) (T end) (F store) (F end) (record {
+      part = c.note.ensures.part;
+      question = ap asked c.note.ensures.question;
+      entries = c.note.ensures.entries ∙ ap (λ r. r ++ entry ∷ []) reserved;
+      running = c.requires.running;
+      new = c.requires.fresh;
+      tells = c.try_candidate.ensures.told;
+      begins = c.try_candidate.ensures.begins;
+    })
+
+pub returns-in-Ok-try_candidate-clause-agrees : goal.returns-in-Ok-try_candidate-clause-agrees
+returns-in-Ok-try_candidate-clause-agrees g c =
+    let T = g.H.Shelf.tells in
+    let F = g.H.Shelf.file in
+    let e = c.args.self.now in
+    let n = c.note.new.self in
+    let store = c.args.store.now in
+    let end = c.try_candidate.new.store in
+    let a : EngineValue = record { part = e.part; question = asked e.question; entries = e.entries.items; stopped = e.stopped } in
+    let b : EngineValue = record { part = n.part; question = asked n.question; entries = n.entries.items; stopped = n.stopped } in
+    let reserved = c.reserve.ensures.items in
+    let entry : Candidate × Settled = (c.args.candidate, c.of.result) in
+    let s : IsSettled a b c.args.candidate c.of.result (T store) (T end) (F store) (F end) = record {
+      part = c.note.ensures.part;
+      question = ap asked c.note.ensures.question;
+      entries = c.note.ensures.entries ∙ ap (λ r. r ++ entry ∷ []) reserved;
+      running = c.requires.running;
+      new = c.requires.fresh;
+      tells = c.try_candidate.ensures.told;
+      begins = c.try_candidate.ensures.begins;
+    } in
+    settled_agrees a b c.args.candidate c.of.result (T store) (T end) (F store) (F end) s c.requires.agrees
+    (λ t. subst (λ kind. HasFiles a.part a.question (F end) (c.args.candidate, kind)) (sym c.of.ensures) (c.in-Ok-try_candidate.ensures.files t))

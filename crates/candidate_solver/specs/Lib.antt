@@ -1,0 +1,8 @@
+pub mod Outcomes
+pub mod Kept
+pub mod Faults
+pub mod Trying
+pub mod Single
+pub mod Laws
+pub mod Examples
+pub mod Asked

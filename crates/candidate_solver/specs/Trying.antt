@@ -1,0 +1,93 @@
+-- One try at a candidate: what it may do to the files, and what its search says.
+use Rattle.std.specs.Prelude.{◌≡◌, ◌⊎◌, ℕ, ◌+◌, ◌≤◌, Bool, List, length, map, Option, Some}
+use Rattle.cnf_formula.specs.Formulas.{FormulaValue, Satisfies}
+use Rattle.cnf_formula.specs.Lines.{ProofLineValue}
+use Rattle.cnf_formula.specs.declared.line.LratLine.TheVariants.{Addition}
+use Rattle.lrat_checker.specs.Refuting.{Refutes}
+use Rattle.lrat_text.specs.Printing.{cnf_text}
+use Rattle.outer_ports.specs.declared.part.Part.{Part}
+use Rattle.outer_ports.specs.declared.proof_name.FileKind.{FileKind}
+use Rattle.outer_ports.specs.declared.proof_name.FileKind.TheVariants.{Cnf, Lrat, Partial}
+use Rattle.outer_ports.specs.declared.proof_name.ProofName.{ProofName}
+use Rattle.outer_ports.specs.Files.{Files}
+use Rattle.conflict_ledger.specs.Logs.{learned}
+use Rattle.conflict_ledger.specs.Shelved.{log_text}
+use Rattle.sat_core.specs.declared.solving.SatAnswer.{SatAnswer}
+use Rattle.sat_core.specs.declared.solving.SatAnswer.TheVariants as answer
+use Rattle.sat_core.specs.Ready.{AreNumbered, AreShort}
+use Rattle.candidate_order.specs.declared.candidate.Candidate.{Candidate}
+use Rattle.candidate_order.specs.declared.outcome.Outcome.{Outcome}
+use Rattle.candidate_order.specs.declared.outcome.Outcome.TheVariants as outcome
+use Rattle.candidate_order.specs.Frontiers.{QuestionValue}
+use Rattle.schedule.specs.Links.{TopologyValue}
+use Rattle.schedule.specs.Placed.{PlacementValue}
+use Rattle.schedule.specs.Sends.{ScheduleValue}
+use Rattle.round_encoding.specs.declared.encoding.Encoding.{Encoding}
+use Rattle.round_encoding.specs.Candidates.{IsEncodingOf, IsTightSolution}
+use Rattle.candidate_formula.specs.Formulas.{formula_for}
+use Rattle.candidate_formula.specs.Files.{file_of, candidate_of, IsEmptied}
+use Rattle.candidate_formula.specs.Begun.{Begins}
+use Rattle.candidate_solver.specs.Outcomes.{SolvesTightly, SpentOn}
+use Rattle.candidate_solver.specs.declared.settled.Settled.{Settled}
+use Rattle.candidate_solver.specs.declared.settled.Settled.TheVariants as settled
+
+-- ---- files
+
+-- the file is one of the candidate's for this part
+pub record IsOwn (part : Part) (x : Candidate) (name : ProofName) : Type 0 where
+  pub of_part : name.part ≡ part
+  pub of_candidate : candidate_of name ≡ x
+
+-- what stands there begins what such a file of the formula is to hold
+pub record HasBegun (f : FormulaValue) (kind : FileKind) (bytes : Option (List ℕ)) : Type 0 where
+  pub front : List ℕ
+  pub is : bytes ≡ Some front
+  pub begins : Begins f kind front
+
+-- each file is as before, or is one of the candidate's and was begun
+pub record BeginsOwn (f : FormulaValue) (part : Part) (x : Candidate) (before now : Files) : Type 0 where
+  pub each : (name : ProofName) → (now name ≡ before name) ⊎ (IsOwn part x name × HasBegun f name.kind (now name))
+
+-- the text of the formula stands there
+abbrev pub HasText : FormulaValue → Part → Candidate → Files → Type 0
+HasText f part x files = files (file_of Cnf part x) ≡ Some (cnf_text f)
+
+-- the texts of the lines stand there, of all of them and of those that were learned
+pub record HasLines (part : Part) (x : Candidate) (lines : List ProofLineValue) (files : Files) : Type 0 where
+  pub whole : files (file_of Lrat part x) ≡ Some (log_text lines)
+  pub log : files (file_of Partial part x) ≡ Some (log_text (learned lines))
+
+-- of the two files of lines each is empty that does not prove such an outcome, and the other is as before
+abbrev pub IsTidy : Settled → Part → Candidate → Files → Files → Type 0
+IsTidy settled.Solved part x before now = IsEmptied Lrat part now x × IsEmptied Partial part now x
+IsTidy settled.Refuted part x before now = (now (file_of Lrat part x) ≡ before (file_of Lrat part x)) × IsEmptied Partial part now x
+IsTidy settled.Unknown part x before now = IsEmptied Lrat part now x × (now (file_of Partial part x) ≡ before (file_of Partial part x))
+
+-- ---- searches
+
+-- the lines refute the formula, and at most one of them was not learned
+pub record Closes (f : FormulaValue) (limit : ℕ) (lines : List ProofLineValue) : Type 0 where
+  pub refutes : Refutes (map Addition lines) f
+  pub few : length lines ≤ limit + 1
+
+-- what a search of a formula says, by lines of which so many may be learned
+pub record IsSearch (f : FormulaValue) (limit : ℕ) (lines : List ProofLineValue) (said : SatAnswer) : Type 0 where
+  pub model : (values : List Bool) → said ≡ answer.Model values → Satisfies values f
+  pub refuted : said ≡ answer.Refuted → Closes f limit lines
+  pub spent : said ≡ answer.Spent → SpentOn f lines limit
+  pub numbered : AreNumbered (length f.clauses) lines
+  pub short : AreShort f.vars lines
+
+-- ---- outcomes
+
+-- what an outcome says of the answer of a search by this encoding, where so many lines could be learned
+pub record Says (e : Encoding) (said : SatAnswer) (limit : ℕ) (out : Outcome) : Type 0 where
+  pub solved : (schedule : ScheduleValue) → out ≡ outcome.Solved schedule → (t : TopologyValue) (pre post : PlacementValue) (steps rounds : ℕ) → IsEncodingOf t pre post steps rounds e → IsTightSolution t pre post schedule steps rounds
+  pub refuted : out ≡ outcome.Refuted → said ≡ answer.Refuted
+  pub unknown : (n : ℕ) → out ≡ outcome.Unknown n → (said ≡ answer.Spent) × (n ≡ limit)
+
+-- what an outcome says of the candidate, by the lines of its search
+pub record IsOutcome (q : QuestionValue) (x : Candidate) (lines : List ProofLineValue) (said : Outcome) : Type 0 where
+  pub solved : (schedule : ScheduleValue) → said ≡ outcome.Solved schedule → SolvesTightly q x schedule
+  pub refuted : said ≡ outcome.Refuted → Refutes (map Addition lines) (formula_for q x)
+  pub unknown : (n : ℕ) → said ≡ outcome.Unknown n → (n ≡ q.limits.conflicts) × SpentOn (formula_for q x) lines n

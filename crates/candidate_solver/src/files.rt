@@ -1,0 +1,79 @@
+//! The files of a candidate.
+
+ghost use Rattle.std.specs.Prelude.{◌≡◌, ◌≢◌, IsTrue, Err, OnOk};
+ghost use Rattle.outer_ports.specs.Port.{HasCause, Tells};
+ghost use Rattle.outer_ports.specs.Shelf.{OthersStay};
+ghost use Rattle.candidate_formula.specs.Files.{file_of, IsEmptied};
+ghost use Rattle.cnf_formula.specs.Formulas.{FormulaValue};
+ghost use Rattle.candidate_solver.specs.Trying.{BeginsOwn, HasText, IsTidy};
+
+use crate::fault::EngineFault;
+use crate::settled::Settled;
+use candidate_formula::file_name;
+use candidate_order::Candidate;
+use cnf_formula::Formula;
+use lrat_text::print_cnf;
+use outer_ports::{FileKind, Part, Shelf, write_file};
+use std::alloc::Global;
+
+/// Writes the formula of a candidate to its file.
+pub(crate) fn write_formula<H: Shelf>(
+    alloc: Global,
+    formula: &Formula,
+    store: &mut H,
+    part: Part,
+    candidate: Candidate,
+) -> Result<(), EngineFault>
+    ensures told { Tells (H.tells store.old) (H.tells store.new) }
+    ensures text { IsTrue (H.tells store.new) → OnOk result (HasText formula.now part candidate (H.file store.new)) }
+    ensures begins { IsTrue (H.tells store.new) → BeginsOwn formula.now part candidate (H.file store.old) (H.file store.new) }
+    ensures cause { HasCause EngineFault.ShelfFailed (H.faults store.old) (H.faults store.new) result }
+    ensures steady { result ≢ Err EngineFault.ShelfFailed → H.faults store.new ≡ H.faults store.old }
+{
+    let text = print_cnf(alloc, formula)?;
+    write_file(store, file_name(FileKind::Cnf, part, candidate), &text)?;
+    Ok(())
+}
+
+/// Empties a file of a candidate that holds lines.
+fn empty<H: Shelf>(
+    store: &mut H,
+    kind: FileKind,
+    part: Part,
+    candidate: Candidate,
+) -> Result<(), EngineFault>
+    requires { kind ≢ FileKind.Cnf }
+    ensures told { Tells (H.tells store.old) (H.tells store.new) }
+    ensures emptied { IsTrue (H.tells store.new) → OnOk result (IsEmptied kind part (H.file store.new) candidate) }
+    ensures others { IsTrue (H.tells store.new) → OthersStay (file_of kind part candidate) (H.file store.old) (H.file store.new) }
+    ensures begins { IsTrue (H.tells store.new) → (f : FormulaValue) → BeginsOwn f part candidate (H.file store.old) (H.file store.new) }
+    ensures cause { HasCause EngineFault.ShelfFailed (H.faults store.old) (H.faults store.new) result }
+    ensures steady { result ≢ Err EngineFault.ShelfFailed → H.faults store.new ≡ H.faults store.old }
+{
+    store.begin(file_name(kind, part, candidate))?;
+    Ok(())
+}
+
+/// Empties the files of a candidate that do not prove such an outcome.
+pub(crate) fn tidy<H: Shelf>(
+    store: &mut H,
+    part: Part,
+    candidate: Candidate,
+    kind: Settled,
+) -> Result<(), EngineFault>
+    ensures told { Tells (H.tells store.old) (H.tells store.new) }
+    ensures tidy { IsTrue (H.tells store.new) → OnOk result (IsTidy kind part candidate (H.file store.old) (H.file store.new)) }
+    ensures formula { IsTrue (H.tells store.new) → H.file store.new (file_of FileKind.Cnf part candidate) ≡ H.file store.old (file_of FileKind.Cnf part candidate) }
+    ensures begins { IsTrue (H.tells store.new) → (f : FormulaValue) → BeginsOwn f part candidate (H.file store.old) (H.file store.new) }
+    ensures cause { HasCause EngineFault.ShelfFailed (H.faults store.old) (H.faults store.new) result }
+    ensures steady { result ≢ Err EngineFault.ShelfFailed → H.faults store.new ≡ H.faults store.old }
+{
+    match kind {
+        Settled::Solved => {
+            empty(store, FileKind::Lrat, part, candidate)?;
+            empty(store, FileKind::Partial, part, candidate)
+        }
+        Settled::Refuted => empty(store, FileKind::Partial, part, candidate),
+        Settled::Unknown => empty(store, FileKind::Lrat, part, candidate),
+    }
+}

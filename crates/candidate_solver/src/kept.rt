@@ -1,0 +1,163 @@
+//! An engine that searches, and keeps formulas and proofs on a shelf.
+
+ghost use Rattle.std.specs.Prelude.{◌≡◌, ◌≢◌, ◌<◌, ◌≤◌, [], ◌∷◌, ◌++◌, None, Contains, IfOk, map, vec_len, vec_capacity};
+ghost use Rattle.schedule.specs.Sends.{ScheduleValue};
+ghost use Rattle.cnf_formula.specs.declared.line.LratLine.TheVariants.{Addition};
+ghost use Rattle.lrat_checker.specs.Refuting.{Exhausted, Refutes};
+ghost use Rattle.collective_spec.specs.Collectives.{IsSpec, kind_in};
+ghost use Rattle.round_encoding.specs.Candidates.{size_limit};
+ghost use Rattle.outer_ports.specs.declared.part.Part.TheVariants as part_named;
+ghost use Rattle.candidate_order.specs.declared.candidate.Candidate.{Candidate};
+ghost use Rattle.candidate_order.specs.Copied.{copied_spec};
+ghost use Rattle.candidate_order.specs.Frontiers.{IsSolvable, IsWithin};
+ghost use Rattle.candidate_formula.specs.Formulas.{formula_for};
+ghost use Rattle.candidate_solver.specs.Asked.{asked};
+ghost use Rattle.candidate_formula.specs.Sizes.{size_of};
+ghost use Rattle.candidate_solver.specs.declared.settled.Settled.TheVariants as settled;
+ghost use Rattle.candidate_solver.specs.Outcomes.{RecordValue, IsProved};
+ghost use Rattle.candidate_solver.specs.Single.{proved-prop};
+
+use crate::engine::{Engine, EngineView};
+use crate::fault::EngineFault;
+use crate::question::Question;
+use crate::settled::Settled;
+use crate::trying::{Attempt, try_candidate};
+use candidate_order::{Candidate, Limits, Outcome};
+use cnf_formula::{OutOfMemory, ProofLine};
+use collective_spec::{Kind, Spec};
+use outer_ports::{Part, Shelf};
+use schedule::Topology;
+use std::alloc::Global;
+
+/// Searches for a schedule of each candidate by its formula. On the shelf that is lent to it stand the formula of each
+/// candidate that it settles, the refutation of each that has no schedule, and the log of each that it gives up.
+#[derive(Drop)]
+pub struct SatEngine {
+    question: Question,
+    part: Part,
+    checked: bool,
+    entries: Vec<(Candidate, Settled)>,
+    stopped: Option<Candidate>,
+    log: Vec<ProofLine>,
+    ghost named: { part ≢ part_named.Joined },
+    ghost right: { (x : Candidate) → Contains entries.items (x, settled.Refuted) → IsSolvable (asked question) x → ⊥ },
+    ghost exhausted: { (x : Candidate) → Contains entries.items (x, settled.Unknown) → Exhausted (formula_for (asked question) x) question.limits.conflicts },
+    pub ghost proved: { (before : RecordValue) (x : Candidate) → entries.items ≡ before ++ (x, settled.Refuted) ∷ [] → Refutes (map Addition log.items) (formula_for (asked question) x) } by { proved-prop entries.items log.items (formula_for (asked question)) },
+}
+
+impl SatEngine {
+    /// An engine for the candidates of a topology and a collective, within the limits; of a reduction it settles those of
+    /// the copying collective of which it is the inverse, so that the topology is then the one turned round. The files are
+    /// those of the part. With `checked` each proof line is checked before it is kept.
+    pub fn new(
+        alloc: Global,
+        topology: &Topology,
+        spec: &Spec,
+        limits: Limits,
+        part: Part,
+        checked: bool,
+    ) -> Result<SatEngine, OutOfMemory>
+        requires spec { IsSpec topology.now.nodes spec.now }
+        requires single { kind_in spec.now ≢ Kind.Allreduce }
+        requires part { part ≢ Part.Joined }
+        requires size { size_of (record { topology = topology.now; spec = spec.now; limits = limits }) ≤ size_limit }
+        ensures question { IfOk result (λ e. ⟦<SatEngine as EngineView>⟧.question e ≡ record { topology = topology.now; spec = copied_spec spec.now; limits = limits }) }
+        ensures entries { IfOk result (λ e. ⟦<SatEngine as EngineView>⟧.entries e ≡ []) }
+        ensures stopped { IfOk result (λ e. ⟦<SatEngine as EngineView>⟧.stopped e ≡ None) }
+        ensures formula { IfOk result (λ e. (x : Candidate) → ⟦<SatEngine as EngineView>⟧.formula e x ≡ formula_for (⟦<SatEngine as EngineView>⟧.question e) x) }
+        ensures suits { IfOk result (λ e. (x : Candidate) (schedule : ScheduleValue) → ⟦<SatEngine as EngineView>⟧.suits e x schedule) }
+        ensures part { IfOk result (λ e. e.part ≡ part) }
+    {
+        Ok(SatEngine {
+            question: Question::new(alloc, topology, spec, limits)?,
+            part,
+            checked,
+            entries: Vec::new(alloc),
+            stopped: None,
+            log: Vec::new(alloc),
+        })
+    }
+
+    /// Adds a candidate to the record, for which there is room, and keeps the lines of its search.
+    fn note(&mut self, candidate: Candidate, kind: Settled, lines: Vec<ProofLine>)
+        requires room { vec_len self.old.entries < vec_capacity self.old.entries }
+        requires within { IsWithin (asked self.old.question) candidate }
+        requires proved { IsProved (asked self.old.question) candidate lines.items kind }
+        ensures entries { self.new.entries.items ≡ self.old.entries.items ++ (candidate, kind) ∷ [] }
+        ensures log { self.new.log.items ≡ lines.items }
+        ensures question { self.new.question ≡ self.old.question }
+        ensures part { self.new.part ≡ self.old.part }
+        ensures stopped { self.new.stopped ≡ self.old.stopped }
+    {
+        self.entries.push_reserved((candidate, kind));
+        self.log = lines;
+    }
+}
+
+impl EngineView for SatEngine {
+    ghost use Rattle.candidate_formula.proofs.Exact.{formula_exact};
+
+    ghost question = { λ e. asked e.question };
+
+    ghost entries = { λ e. e.entries.items };
+
+    ghost stopped = { λ e. e.stopped };
+
+    ghost log_lines = { λ e. e.log.items };
+
+    ghost formula = { λ e x. formula_for (asked e.question) x };
+
+    ghost suits = { λ e x schedule. Unit {0} };
+
+    fn log(&self) -> &[ProofLine] {
+        &self.log
+    }
+
+    ghost copies = { λ e. e.question.small.copies };
+
+    ghost exact = { λ e x within. formula_exact (asked e.question) x e.question.small within };
+
+    ghost right = { λ e x refuted. e.right x refuted };
+
+    ghost exhausted = { λ e x unknown. e.exhausted x unknown };
+}
+
+impl<H: Shelf> Engine<H> for SatEngine {
+    ghost use Rattle.candidate_solver.specs.Kept.{KeptAgrees, KeptMoves};
+    ghost use Rattle.candidate_solver.specs.Laws.{KeptMoves-refl, KeptMoves-trans};
+
+    ghost faults = { λ _ shelf. H.faults shelf };
+
+    ghost agrees = { λ e shelf. KeptAgrees e.part (asked e.question) e.entries.items (H.tells shelf) (H.file shelf) };
+
+    ghost moves = { λ a r b s. KeptMoves a.part b.part (asked a.question) (asked b.question) a.entries.items b.entries.items a.stopped b.stopped (H.tells r) (H.tells s) (H.file r) (H.file s) };
+
+    fn settle(&mut self, store: &mut H, candidate: Candidate) -> Result<Outcome, EngineFault> {
+        let Ok(()) = self.entries.reserve(1) else {
+            self.stopped = Some(candidate);
+            return Err(EngineFault::OutOfMemory);
+        };
+        let alloc = *self.entries.allocator();
+        match try_candidate(
+            alloc,
+            &self.question,
+            self.part,
+            self.checked,
+            store,
+            candidate,
+        ) {
+            Ok(Attempt { outcome, lines }) => {
+                self.note(candidate, Settled::of(&outcome), lines);
+                Ok(outcome)
+            }
+            Err(fault) => {
+                self.stopped = Some(candidate);
+                Err(fault)
+            }
+        }
+    }
+
+    ghost moves_refl = { λ e shelf. KeptMoves-refl e.part (asked e.question) e.entries.items e.stopped (H.tells shelf) (H.file shelf) };
+
+    ghost moves_trans = { λ a r b s c t first second. KeptMoves-trans a.part b.part c.part (asked a.question) (asked b.question) (asked c.question) a.entries.items b.entries.items c.entries.items a.stopped b.stopped c.stopped (H.tells r) (H.tells s) (H.tells t) (H.file r) (H.file s) (H.file t) first second };
+}

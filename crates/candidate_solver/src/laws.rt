@@ -1,0 +1,18 @@
+//! Laws of an engine that keeps proofs.
+
+ghost use Rattle.std.specs.Prelude.{◌≡◌, [], ◌∷◌, ◌++◌, map};
+ghost use Rattle.cnf_formula.specs.declared.line.LratLine.TheVariants.{Addition};
+ghost use Rattle.lrat_checker.specs.Refuting.{Refutes};
+ghost use Rattle.candidate_solver.specs.declared.kept.SatEngine.{SatEngine};
+ghost use Rattle.candidate_solver.specs.declared.settled.Settled.TheVariants as settled;
+ghost use Rattle.candidate_solver.specs.Outcomes.{RecordValue};
+
+use crate::engine::EngineView;
+use crate::kept::SatEngine;
+use candidate_order::Candidate;
+
+/// Where the candidate that was settled last was refuted, the engine's log refutes its formula, whatever the shelf tells.
+pub fn the_log_refutes_the_last_candidate()
+    ensures { (e : SatEngine) (before : RecordValue) (x : Candidate) → ⟦<SatEngine as EngineView>⟧.entries e ≡ before ++ (x, settled.Refuted) ∷ []
+        → Refutes (map Addition (⟦<SatEngine as EngineView>⟧.log_lines e)) (⟦<SatEngine as EngineView>⟧.formula e x) }
+{}

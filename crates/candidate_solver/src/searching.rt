@@ -1,0 +1,104 @@
+//! The search for a candidate's schedule by its formula, whose lines are kept on a shelf.
+
+ghost use Rattle.std.specs.Prelude.{◌≡◌, ◌≢◌, [], IsTrue, Err, IfOk};
+ghost use Rattle.outer_ports.specs.Port.{HasCause, Tells};
+ghost use Rattle.conflict_ledger.specs.Shelved.{ShelfAgrees, ShelfMoves};
+ghost use Rattle.candidate_formula.specs.Files.{file_of};
+ghost use Rattle.candidate_solver.specs.Trying.{BeginsOwn, HasLines, IsSearch};
+ghost use Rattle.lrat_checker.specs.Held.{start_of};
+ghost use Rattle.lrat_checker.specs.Refuting.{AllImplied};
+
+use crate::fault::EngineFault;
+use candidate_order::Candidate;
+use cnf_formula::{Formula, ProofLine};
+use conflict_ledger::{CheckedLedger, Ledger, LedgerView, PairLedger, ShelfLedger};
+use outer_ports::{FileKind, Part, Shelf};
+use sat_core::{SatAnswer, solve};
+use std::alloc::Global;
+
+/// What a search says, and the lines of its proof.
+#[derive(Drop)]
+pub(crate) struct Found {
+    pub(crate) answer: SatAnswer,
+    pub(crate) lines: Vec<ProofLine>,
+}
+
+/// A search whose lines are not checked.
+fn search_plain<H: Shelf>(
+    alloc: Global,
+    formula: &Formula,
+    ledger: ShelfLedger,
+    store: &mut H,
+) -> Result<Found, EngineFault>
+    requires base { ⟦<ShelfLedger as LedgerView>⟧.base ledger ≡ formula.now }
+    requires empty { ⟦<ShelfLedger as LedgerView>⟧.lines ledger ≡ [] }
+    requires agrees { ⟦<ShelfLedger as Ledger<H>>⟧.agrees ledger store.old }
+    ensures moves { ShelfMoves formula.now formula.now ledger.lrat ledger.lrat ledger.partial ledger.partial (H.tells store.old) (H.tells store.new) (H.file store.old) (H.file store.new) }
+    ensures agrees { IfOk result (λ found. ShelfAgrees formula.now found.lines.items ledger.lrat ledger.partial (H.tells store.new) (H.file store.new)) }
+    ensures search { IfOk result (λ found. IsSearch formula.now (⟦<ShelfLedger as LedgerView>⟧.limit ledger) found.lines.items found.answer) }
+    ensures cause { HasCause EngineFault.ShelfFailed (H.faults store.old) (H.faults store.new) result }
+    ensures steady { result ≢ Err EngineFault.ShelfFailed → H.faults store.new ≡ H.faults store.old }
+{
+    let mut ledger = ledger;
+    let answer = solve(alloc, formula, &mut ledger, store)?;
+    Ok(Found {
+        answer,
+        lines: ledger.into_lines(),
+    })
+}
+
+/// A search each of whose lines is checked before it is kept.
+fn search_checked<H: Shelf>(
+    alloc: Global,
+    formula: &Formula,
+    ledger: ShelfLedger,
+    limit: u32,
+    store: &mut H,
+) -> Result<Found, EngineFault>
+    requires base { ⟦<ShelfLedger as LedgerView>⟧.base ledger ≡ formula.now }
+    requires empty { ⟦<ShelfLedger as LedgerView>⟧.lines ledger ≡ [] }
+    requires limit { ⟦<ShelfLedger as LedgerView>⟧.limit ledger ≡ limit }
+    requires agrees { ⟦<ShelfLedger as Ledger<H>>⟧.agrees ledger store.old }
+    ensures moves { ShelfMoves formula.now formula.now ledger.lrat ledger.lrat ledger.partial ledger.partial (H.tells store.old) (H.tells store.new) (H.file store.old) (H.file store.new) }
+    ensures agrees { IfOk result (λ found. ShelfAgrees formula.now found.lines.items ledger.lrat ledger.partial (H.tells store.new) (H.file store.new)) }
+    ensures search { IfOk result (λ found. IsSearch formula.now limit found.lines.items found.answer) }
+    ensures cause { HasCause EngineFault.ShelfFailed (H.faults store.old) (H.faults store.new) result }
+    ensures steady { result ≢ Err EngineFault.ShelfFailed → H.faults store.new ≡ H.faults store.old }
+{
+    let mut pair = PairLedger::new(CheckedLedger::new(alloc, formula, limit)?, ledger);
+    let answer = solve(alloc, formula, &mut pair, store)?;
+    Ok(Found {
+        answer,
+        lines: pair.into_second().into_lines(),
+    })
+}
+
+/// Searches for a model of a candidate's formula, or a refutation, and learns at most so many lines. The candidate's two
+/// files of lines hold those of the search.
+pub(crate) fn search<H: Shelf>(
+    alloc: Global,
+    formula: &Formula,
+    limit: u32,
+    checked: bool,
+    store: &mut H,
+    part: Part,
+    candidate: Candidate,
+) -> Result<Found, EngineFault>
+    requires { part ≢ Part.Joined }
+    ensures told { Tells (H.tells store.old) (H.tells store.new) }
+    ensures begins { IsTrue (H.tells store.new) → BeginsOwn formula.now part candidate (H.file store.old) (H.file store.new) }
+    ensures formula { IsTrue (H.tells store.new) → H.file store.new (file_of FileKind.Cnf part candidate) ≡ H.file store.old (file_of FileKind.Cnf part candidate) }
+    ensures lines { IsTrue (H.tells store.new) → IfOk result (λ found. HasLines part candidate found.lines.items (H.file store.new)) }
+    ensures implied { IfOk result (λ found. AllImplied (start_of formula.now) found.lines.items) }
+    ensures search { IfOk result (λ found. IsSearch formula.now limit found.lines.items found.answer) }
+    ensures cause { HasCause EngineFault.ShelfFailed (H.faults store.old) (H.faults store.new) result }
+    ensures steady { result ≢ Err EngineFault.ShelfFailed → H.faults store.new ≡ H.faults store.old }
+{
+    let place = (candidate.s, candidate.r, candidate.c);
+    let ledger = ShelfLedger::new(alloc, formula, limit, store, part, place)?;
+    if checked {
+        search_checked(alloc, formula, ledger, limit, store)
+    } else {
+        search_plain(alloc, formula, ledger, store)
+    }
+}

@@ -1,0 +1,141 @@
+//! One try at a candidate.
+
+ghost use Rattle.std.specs.Prelude.{◌≡◌, ◌≢◌, Bool, List, IsTrue, Err, IfOk};
+ghost use Rattle.cnf_formula.specs.Formulas.{FormulaValue, Satisfies};
+ghost use Rattle.lrat_checker.specs.Held.{start_of};
+ghost use Rattle.lrat_checker.specs.Refuting.{AllImplied};
+ghost use Rattle.outer_ports.specs.Port.{HasCause, Tells};
+ghost use Rattle.round_encoding.specs.Candidates.{IsEncoding};
+ghost use Rattle.candidate_order.specs.Frontiers.{IsWithin};
+ghost use Rattle.candidate_formula.specs.Files.{file_of};
+ghost use Rattle.candidate_formula.specs.Formulas.{formula_for};
+ghost use Rattle.candidate_solver.specs.Asked.{asked};
+ghost use Rattle.candidate_solver.specs.Kept.{HasFiles};
+ghost use Rattle.candidate_solver.specs.Outcomes.{kind_of};
+ghost use Rattle.candidate_solver.specs.Trying.{BeginsOwn, HasLines, HasText, IsOutcome, IsSearch, IsTidy, Says};
+
+use crate::fault::EngineFault;
+use crate::files::{tidy, write_formula};
+use crate::question::Question;
+use crate::searching::{Found, search};
+use crate::settled::Settled;
+use candidate_formula::encode_candidate;
+use candidate_order::{Candidate, Outcome};
+use cnf_formula::{Formula, ProofLine};
+use outer_ports::{FileKind, Part, Shelf};
+use round_encoding::{Encoding, decode};
+use sat_core::SatAnswer;
+use std::alloc::Global;
+
+/// What came of a candidate, and the lines of its search.
+#[derive(Drop)]
+pub(crate) struct Attempt {
+    pub(crate) outcome: Outcome,
+    pub(crate) lines: Vec<ProofLine>,
+}
+
+/// What the answer of a search says of the candidate that was encoded, where so many lines could be learned.
+fn outcome_of(
+    alloc: Global,
+    encoding: &Encoding,
+    answer: SatAnswer,
+    conflicts: u32,
+) -> Result<Outcome, EngineFault>
+    requires encoding { IsEncoding encoding.now }
+    requires model { (values : List Bool) → answer ≡ SatAnswer.Model values → Satisfies values encoding.now.formula }
+    ensures says { IfOk result (λ outcome. Says encoding.now answer conflicts outcome) }
+    ensures fault { result ≢ Err EngineFault.ShelfFailed }
+{
+    match answer {
+        SatAnswer::Model(values) => {
+            let schedule = decode(alloc, encoding, &values)?;
+            Ok(Outcome::Solved(schedule))
+        }
+        SatAnswer::Refuted => Ok(Outcome::Refuted),
+        SatAnswer::Spent => Ok(Outcome::Unknown { conflicts }),
+    }
+}
+
+/// Writes the formula of a candidate, and searches by it.
+fn find<H: Shelf>(
+    alloc: Global,
+    formula: &Formula,
+    limit: u32,
+    checked: bool,
+    store: &mut H,
+    part: Part,
+    candidate: Candidate,
+) -> Result<Found, EngineFault>
+    requires { part ≢ Part.Joined }
+    ensures told { Tells (H.tells store.old) (H.tells store.new) }
+    ensures begins { IsTrue (H.tells store.new) → BeginsOwn formula.now part candidate (H.file store.old) (H.file store.new) }
+    ensures text { IsTrue (H.tells store.new) → IfOk result (λ _. HasText formula.now part candidate (H.file store.new)) }
+    ensures lines { IsTrue (H.tells store.new) → IfOk result (λ found. HasLines part candidate found.lines.items (H.file store.new)) }
+    ensures implied { IfOk result (λ found. AllImplied (start_of formula.now) found.lines.items) }
+    ensures search { IfOk result (λ found. IsSearch formula.now limit found.lines.items found.answer) }
+    ensures cause { HasCause EngineFault.ShelfFailed (H.faults store.old) (H.faults store.new) result }
+    ensures steady { result ≢ Err EngineFault.ShelfFailed → H.faults store.new ≡ H.faults store.old }
+{
+    write_formula(alloc, formula, store, part, candidate)?;
+    search(alloc, formula, limit, checked, store, part, candidate)
+}
+
+/// The outcome of a search of a candidate's formula. Of the candidate's files those that do not prove it are emptied.
+fn keep<H: Shelf>(
+    alloc: Global,
+    encoding: &Encoding,
+    limit: u32,
+    found: Found,
+    store: &mut H,
+    part: Part,
+    candidate: Candidate,
+) -> Result<Attempt, EngineFault>
+    requires encoding { IsEncoding encoding.now }
+    requires search { IsSearch encoding.now.formula limit found.lines.items found.answer }
+    ensures told { Tells (H.tells store.old) (H.tells store.new) }
+    ensures begins { IsTrue (H.tells store.new) → (f : FormulaValue) → BeginsOwn f part candidate (H.file store.old) (H.file store.new) }
+    ensures formula { IsTrue (H.tells store.new) → H.file store.new (file_of FileKind.Cnf part candidate) ≡ H.file store.old (file_of FileKind.Cnf part candidate) }
+    ensures tidy { IsTrue (H.tells store.new) → IfOk result (λ attempt. IsTidy (kind_of attempt.outcome) part candidate (H.file store.old) (H.file store.new)) }
+    ensures says { IfOk result (λ attempt. Says encoding.now found.answer limit attempt.outcome) }
+    ensures lines { IfOk result (λ attempt. attempt.lines.items ≡ found.lines.items) }
+    ensures cause { HasCause EngineFault.ShelfFailed (H.faults store.old) (H.faults store.new) result }
+    ensures steady { result ≢ Err EngineFault.ShelfFailed → H.faults store.new ≡ H.faults store.old }
+{
+    let Found { answer, lines } = found;
+    let outcome = outcome_of(alloc, encoding, answer, limit)?;
+    tidy(store, part, candidate, Settled::of(&outcome))?;
+    Ok(Attempt { outcome, lines })
+}
+
+/// Searches for a schedule of a candidate, and keeps its formula and the lines that prove the outcome on the shelf. No file
+/// but those of the candidate is changed.
+pub(crate) fn try_candidate<H: Shelf>(
+    alloc: Global,
+    question: &Question,
+    part: Part,
+    checked: bool,
+    store: &mut H,
+    candidate: Candidate,
+) -> Result<Attempt, EngineFault>
+    requires part { part ≢ Part.Joined }
+    requires within { IsWithin (asked question.now) candidate }
+    ensures told { Tells (H.tells store.old) (H.tells store.new) }
+    ensures begins { IsTrue (H.tells store.new) → BeginsOwn (formula_for (asked question.now) candidate) part candidate (H.file store.old) (H.file store.new) }
+    ensures files { IsTrue (H.tells store.new) → IfOk result (λ attempt. HasFiles part (asked question.now) (H.file store.new) (candidate, kind_of attempt.outcome)) }
+    ensures outcome { IfOk result (λ attempt. IsOutcome (asked question.now) candidate attempt.lines.items attempt.outcome) }
+    ensures cause { HasCause EngineFault.ShelfFailed (H.faults store.old) (H.faults store.new) result }
+    ensures steady { result ≢ Err EngineFault.ShelfFailed → H.faults store.new ≡ H.faults store.old }
+{
+    let encoding = encode_candidate(alloc, &question.topology, &question.spec, candidate)?;
+    let limit = question.limits.conflicts();
+    let found = find(
+        alloc,
+        &encoding.formula,
+        limit,
+        checked,
+        store,
+        part,
+        candidate,
+    )?;
+    keep(alloc, &encoding, limit, found, store, part, candidate)
+}
