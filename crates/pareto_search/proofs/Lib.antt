@@ -1,0 +1,6 @@
+pub mod Costs
+pub mod Records
+pub mod Passed
+pub mod Steps
+pub mod Places
+pub mod Finished

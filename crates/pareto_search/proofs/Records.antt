@@ -1,0 +1,102 @@
+-- A record that ascends: each candidate stands there once, and in the list of its kind.
+use Rattle.std.proofs.Common.{◌≡◌, inl, inr, zero, suc, Bool, true, cond, List, [], ◌∷◌, ◌++◌, length, map, subst, ap, sym, ◌∙◌, refl, arith}
+use Rattle.std.specs.Prelude.{All, AllPairs, Contains, filter, slice_index_or}
+use Rattle.std.specs.List.Sorted.{IsPermutation}
+use Rattle.std.proofs.lemmas.Bool.{cases_order, cond_both}
+use Rattle.std.proofs.lemmas.List.{get_or-map, get_or_default, length-map, map-append}
+use Rattle.std.proofs.lemmas.List.Elements.{All-map, All-filter, All-contains_itself, filter_passes, filter-append}
+use Rattle.std.proofs.lemmas.List.Kept.{AllPairs-filter}
+use Rattle.std.proofs.lemmas.List.Sorted.{IsPermutation-refl, IsPermutation-sym, IsPermutation-cons, IsPermutation-trans, IsPermutation-append_left, IsPermutation-middle}
+use Rattle.candidate_order.proofs.Rows.{Contains-map}
+use Rattle.candidate_order.specs.declared.candidate.Candidate.{Candidate}
+use Rattle.candidate_order.specs.Costs.{Before}
+use Rattle.candidate_solver.specs.declared.settled.Settled.{Settled}
+use Rattle.candidate_solver.specs.declared.settled.Settled.TheVariants.{Solved, Refuted, Unknown}
+use Rattle.candidate_solver.specs.Outcomes.{RecordValue}
+use Rattle.pareto_search.specs.Passing.{is_same, of_kind}
+use Rattle.pareto_search.proofs.Costs.{Before-irrefl}
+
+Contains-filter : {X : Type 0} (p : X → Bool) (xs : List X) (x : X) → p x ≡ true → Contains xs x → Contains (filter p xs) x
+Contains-filter p [] x holds h = absurd (omega (arith, h.1))
+Contains-filter p (y ∷ xs) x holds (zero, below, at) =
+    subst (λ b. Contains (cond b (y ∷ filter p xs) (filter p xs)) x) (sym (ap p at ∙ holds)) (0, omega arith, at)
+Contains-filter p (y ∷ xs) x holds (suc k, below, at) =
+    let rest = Contains-filter p xs x holds (k, omega arith, at) in
+    cond_both (p y) (y ∷ filter p xs) (filter p xs) (λ l. Contains l x) (λ _. (suc rest.0, omega (arith, rest.1), rest.2)) (λ _. rest)
+
+AllPairs-map : {X Y : Type 0} (R : Y → Y → Type 0) (f : X → Y) (xs : List X) → AllPairs (λ a b. R (f a) (f b)) xs → AllPairs R (map f xs)
+AllPairs-map R f [] pairs i j d before below = absurd (omega arith)
+AllPairs-map R f (x ∷ xs) pairs i j d before below =
+    let size : length (map f (x ∷ xs)) ≡ length (x ∷ xs) = length-map (x ∷ xs) f in
+    rw (get_or-map f (x ∷ xs) i x d (omega arith), get_or-map f (x ∷ xs) j x d (omega arith)) (pairs i j x before (omega arith))
+
+kind_from_same : (a b : Settled) → is_same a b ≡ true → a ≡ b
+kind_from_same Solved Solved h = refl
+kind_from_same Refuted Refuted h = refl
+kind_from_same Unknown Unknown h = refl
+kind_from_same Solved Refuted h = absurd cc
+kind_from_same Solved Unknown h = absurd cc
+kind_from_same Refuted Solved h = absurd cc
+kind_from_same Refuted Unknown h = absurd cc
+kind_from_same Unknown Solved h = absurd cc
+kind_from_same Unknown Refuted h = absurd cc
+
+same_kind : (a : Settled) → is_same a a ≡ true
+same_kind Solved = refl
+same_kind Refuted = refl
+same_kind Unknown = refl
+
+-- a candidate of a kind is in the record with that kind
+pub of_kind-settled : (kind : Settled) (entries : RecordValue) → All (λ x. Contains entries (x, kind)) (of_kind kind entries)
+of_kind-settled kind entries =
+    let test : Candidate × Settled → Bool = λ e. is_same kind e.1 in
+    All-map (λ x. Contains entries (x, kind)) (λ e. e.0) (filter test entries) (λ i d below.
+    let e = slice_index_or (filter test entries) i d in
+    let same = kind_from_same kind e.1 (filter_passes test entries i d below) in
+    let inside = All-filter test (Contains entries) entries (All-contains_itself entries) i d below in
+    subst (λ k. Contains entries (e.0, k)) (sym same) inside)
+
+pub Contains-of_kind : (kind : Settled) (entries : RecordValue) (x : Candidate) → Contains entries (x, kind) → Contains (of_kind kind entries) x
+Contains-of_kind kind entries x h =
+    Contains-map (λ e. e.0) _ (x, kind) (Contains-filter (λ e. is_same kind e.1) entries (x, kind) (same_kind kind) h)
+
+pub of_kind-append : (kind : Settled) (xs ys : RecordValue) → of_kind kind (xs ++ ys) ≡ of_kind kind xs ++ of_kind kind ys
+of_kind-append kind xs ys =
+    let test : Candidate × Settled → Bool = λ e. is_same kind e.1 in
+    let fst : Candidate × Settled → Candidate = λ e. e.0 in
+    ap (map fst) (filter-append test xs ys) ∙ map-append fst (filter test xs) (filter test ys)
+
+abbrev pub Ascends : RecordValue → Type 0
+Ascends entries = AllPairs (λ a b. Before a.0 b.0) entries
+
+pub of_kind-ascends : (kind : Settled) (entries : RecordValue) → Ascends entries → AllPairs Before (of_kind kind entries)
+of_kind-ascends kind entries up =
+    AllPairs-map Before (λ e. e.0) _ (AllPairs-filter (λ a b. Before a.0 b.0) (λ e. is_same kind e.1) entries up)
+
+-- a candidate stands there with one kind
+pub one_kind : (entries : RecordValue) (x : Candidate) (k l : Settled) → Ascends entries → Contains entries (x, k) → Contains entries (x, l) → k ≡ l
+one_kind entries x k l up (i, below_i, at_i) (j, below_j, at_j) =
+    let there = get_or_default entries j (x, k) (x, l) below_j ∙ at_j in
+    elim (cases_order i j) [
+      | inl same ↦ ap (λ (e : Candidate × Settled). e.1) (sym at_i ∙ rw (← same) at there)
+      | inr (inl before) ↦ absurd (Before-irrefl x (rw (at_i, there) at (up i j (x, k) before below_j)))
+      | inr (inr after) ↦ absurd (Before-irrefl x (rw (at_i, there) at (up j i (x, k) after below_i)))
+    ]
+
+-- the candidates of each kind, with their kinds, are the record
+abbrev pub by_kind : RecordValue → RecordValue
+by_kind entries = map (λ x. (x, Solved)) (of_kind Solved entries) ++ map (λ x. (x, Refuted)) (of_kind Refuted entries) ++ map (λ x. (x, Unknown)) (of_kind Unknown entries)
+
+pub by_kind-shuffles : (entries : RecordValue) → IsPermutation entries (by_kind entries)
+by_kind-shuffles [] = IsPermutation-refl []
+by_kind-shuffles ((x, Solved) ∷ entries) = IsPermutation-cons (x, Solved) entries (by_kind entries) (by_kind-shuffles entries)
+by_kind-shuffles ((x, Refuted) ∷ entries) =
+    let solved : RecordValue = map (λ x. (x, Solved)) (of_kind Solved entries) in
+    let refuted : RecordValue = map (λ x. (x, Refuted)) (of_kind Refuted entries) in
+    let unknown : RecordValue = map (λ x. (x, Unknown)) (of_kind Unknown entries) in
+    IsPermutation-trans _ _ _ (IsPermutation-cons (x, Refuted) entries (by_kind entries) (by_kind-shuffles entries)) (IsPermutation-sym _ _ (IsPermutation-append_left unknown _ _ (IsPermutation-middle solved (x, Refuted) refuted)))
+by_kind-shuffles ((x, Unknown) ∷ entries) =
+    let solved : RecordValue = map (λ x. (x, Solved)) (of_kind Solved entries) in
+    let refuted : RecordValue = map (λ x. (x, Refuted)) (of_kind Refuted entries) in
+    let unknown : RecordValue = map (λ x. (x, Unknown)) (of_kind Unknown entries) in
+    IsPermutation-trans _ _ _ (IsPermutation-cons (x, Unknown) entries (by_kind entries) (by_kind-shuffles entries)) (IsPermutation-sym _ _ (IsPermutation-middle (solved ++ refuted) (x, Unknown) unknown))
