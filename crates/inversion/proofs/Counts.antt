@@ -13,7 +13,7 @@ each_split : {X : Type 0} (P : X → Type 0) (xs ys : List X) → AllByRecursion
 each_split P [] ys each = (tt, each)
 each_split P (x ∷ xs) ys each = let rest = each_split P xs ys each.1 in ((each.0, rest.0), rest.1)
 
-each_joined : {X : Type 0} (P : X → Type 0) (xs ys : List X) → AllByRecursion P xs → AllByRecursion P ys → AllByRecursion P (xs ++ ys)
+pub each_joined : {X : Type 0} (P : X → Type 0) (xs ys : List X) → AllByRecursion P xs → AllByRecursion P ys → AllByRecursion P (xs ++ ys)
 each_joined P [] ys left right = right
 each_joined P (x ∷ xs) ys left right = (left.0, each_joined P xs ys left.1 right)
 

@@ -28,13 +28,26 @@ first_uneven bags nodes pairs = find (λ due. not (count_of bags due == 1)) (cou
 abbrev pub uneven_verdict : Bags → ℕ × ℕ × ℕ → SumVerdict
 uneven_verdict bags due = if count_of bags due == 0 then Missing due.0 due.1 due.2 else Twice due.0 due.1 due.2
 
+-- it sums, unless a count is uneven
+abbrev pub counts_judged : Bags → Option (ℕ × ℕ × ℕ) → SumVerdict
+counts_judged last None = Sums
+counts_judged last (Some due) = uneven_verdict last due
+
+-- what is said of the first send without a link, or else of the first step and group over the bandwidth
+abbrev pub misfit_at : TopologyValue → ScheduleValue → Option Hop → Option (ℕ × ℕ) → Option SumVerdict
+misfit_at t s (Some h) over = Some (NoLink h)
+misfit_at t s None (Some turn) = Some (Overfull turn.0 turn.1 (load (group_at t turn.1) turn.0 s.sends))
+misfit_at t s None None = None
+
+abbrev pub misfit_of : TopologyValue → ScheduleValue → Option SumVerdict
+misfit_of t s = misfit_at t s (first_unlinked t s) (first_overfull t s)
+
 -- links first, then bandwidth, then clashes, and then the counts of the last bags
 abbrev pub sum_judged : TopologyValue → ScheduleValue → Bags → Option Hop → Option (ℕ × ℕ) → Option (ℕ × ℕ × ℕ) → Option (ℕ × ℕ × ℕ) → SumVerdict
 sum_judged t s last (Some h) over clash uneven = NoLink h
 sum_judged t s last None (Some turn) clash uneven = Overfull turn.0 turn.1 (load (group_at t turn.1) turn.0 s.sends)
 sum_judged t s last None None (Some clash) uneven = Clash clash.1 clash.2 clash.0
-sum_judged t s last None None None (Some due) = uneven_verdict last due
-sum_judged t s last None None None None = Sums
+sum_judged t s last None None None uneven = counts_judged last uneven
 
 -- the bags after the last step, where every step adds
 abbrev pub last_bags : TopologyValue → ScheduleValue → Bags

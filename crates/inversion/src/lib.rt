@@ -1,8 +1,18 @@
-//! The verdict on a schedule that adds up.
+//! Schedules that add up: the inverses of those that copy, and the verdict on one.
 #![tactic(auto)]
 
+mod bag_table;
+pub mod frontier_laws;
+mod held_bag;
+mod invert;
+mod judge;
 pub mod laws;
+pub mod reduction_laws;
+#[cfg(test)]
+mod tests;
 pub mod vectors;
 mod verdict;
 
+pub use invert::{invert_frontier, invert_schedule};
+pub use judge::{first_misfit, judge_counts, sums};
 pub use verdict::SumVerdict;

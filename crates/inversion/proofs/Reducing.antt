@@ -1,0 +1,131 @@
+-- The questions of a reduction and of the collective that copies fit, over links turned round.
+use Rattle.std.proofs.Common.{◌≡◌, ℕ, ◌*◌, ◌<◌, true, refl, sym, ap, ◌∙◌, arith}
+use Rattle.std.specs.Prelude.{◌≢◌, ◌%◌, filter}
+use Rattle.std.proofs.Math.Nat.{mod-lt}
+use Rattle.std.proofs.lemmas.Bool.{eqb-true, eq-eqb}
+use Rattle.schedule.specs.Links.{TopologyValue, reversed_of}
+use Rattle.schedule.specs.Sends.{ScheduleValue, IsSchedule, IsInRange}
+use Rattle.schedule.specs.Placed.{HeldByOne, all_pairs, holds}
+use Rattle.schedule.specs.Solving.{Solvable, Solves, Tight}
+use Rattle.schedule.specs.Summing.{SummedSolvable, Sums}
+use Rattle.schedule.specs.Inverse.{inverse_of}
+use Rattle.inversion.specs.Reductions.{HeldBySome}
+use Rattle.schedule.specs.Rows.{everywhere}
+use Rattle.inversion.proofs.Delivering.{solvable_back}
+use Rattle.schedule.proofs.First.{among_each}
+use Rattle.inversion.proofs.Firsts.{each_passes}
+use Rattle.schedule.proofs.Inverted.{inverse_sums}
+use Rattle.schedule.proofs.Inverting.{inverse_in_range, valid_inverse}
+use Rattle.schedule.proofs.Ordered.{among_from_any}
+use Rattle.schedule.proofs.Placing.{holds-placed, placement-placed}
+use Rattle.collective_spec.specs.declared.layout.Layout.{Layout}
+use Rattle.collective_spec.specs.declared.layout.Layout.TheVariants.{Root, Scattered}
+use Rattle.collective_spec.specs.declared.kind.Kind.{Kind}
+use Rattle.collective_spec.specs.declared.kind.Kind.TheVariants as kind
+use Rattle.collective_spec.specs.declared.spec.Spec.{Spec}
+use Rattle.collective_spec.specs.declared.spec.Spec.TheVariants as spec
+use Rattle.collective_spec.specs.Collectives.{IsSpec, adds_up, reduces}
+use Rattle.collective_spec.specs.Layouts.{laid_out, stands}
+use Rattle.candidate_order.specs.Ranges.{LimitsValue}
+use Rattle.candidate_order.specs.Frontiers.{QuestionValue, FrontierValue, RightFrontier, Searched}
+use Rattle.candidate_order.specs.Copied.{copied_kind, copied_question}
+use Rattle.inversion.specs.Inverted.{inverted_frontier}
+use Rattle.inversion.proofs.Inverted.{Inverts, right_inverted, searched_inverted}
+
+-- ---- layouts that place each chunk at one node
+
+-- what is held stands in the layout
+held_stands : (layout : Layout) (chunks nodes : ℕ) (pair : ℕ × ℕ) → holds (laid_out layout chunks nodes) pair ≡ true → stands layout nodes pair ≡ true
+held_stands layout chunks nodes pair held =
+    among_each (λ p. stands layout nodes p ≡ true) pair (filter (stands layout nodes) (all_pairs chunks nodes)) (each_passes (stands layout nodes) (all_pairs chunks nodes)) (among_from_any pair (filter (stands layout nodes) (all_pairs chunks nodes)) held)
+
+pub root_alone : (root chunks nodes : ℕ) → HeldByOne (laid_out (Root root) chunks nodes)
+root_alone root chunks nodes chunk a b first second =
+    eqb-true a root (held_stands (Root root) chunks nodes (chunk, a) first) ∙ sym (eqb-true b root (held_stands (Root root) chunks nodes (chunk, b) second))
+
+pub scattered_alone : (chunks nodes : ℕ) → HeldByOne (laid_out Scattered chunks nodes)
+scattered_alone chunks nodes chunk a b first second =
+    eqb-true a (chunk % nodes) (held_stands Scattered chunks nodes (chunk, a) first) ∙ sym (eqb-true b (chunk % nodes) (held_stands Scattered chunks nodes (chunk, b) second))
+
+pub root_some : (root chunks nodes : ℕ) → root < nodes → HeldBySome (laid_out (Root root) chunks nodes)
+root_some root chunks nodes below chunk c =
+    (root, below, holds-placed chunks nodes (stands (Root root) nodes) (chunk, root) c below ∙ eq-eqb root root refl)
+
+pub scattered_some : (chunks nodes : ℕ) → 0 < nodes → HeldBySome (laid_out Scattered chunks nodes)
+scattered_some chunks nodes some chunk c =
+    let below : chunk % nodes < nodes = mod-lt chunk some in
+    (chunk % nodes, below, holds-placed chunks nodes (stands Scattered nodes) (chunk, chunk % nodes) c below ∙ eq-eqb (chunk % nodes) (chunk % nodes) refl)
+
+-- ---- the two questions
+
+abbrev question : Kind → ℕ → TopologyValue → LimitsValue → QuestionValue
+question k root t limits = record { topology = t; spec = spec.Standard (record { kind = k; root = root }); limits = limits }
+
+module _ (layout : Layout) (chunks : ℕ) (t : TopologyValue) (steps rounds : ℕ) where
+  abbrev at_demand : Type 0
+  at_demand = HeldByOne (laid_out layout chunks t.nodes)
+
+  inverse_adds : (s : ScheduleValue) → at_demand → IsSchedule s → IsInRange chunks t.nodes s → Tight (laid_out layout chunks t.nodes) s → Solves (reversed_of t) (laid_out layout chunks t.nodes) (everywhere chunks t.nodes) s steps rounds → Sums t (laid_out layout chunks t.nodes) (inverse_of s) steps rounds
+  inverse_adds s alone valid in_range tight solves =
+      inverse_sums t (laid_out layout chunks t.nodes) s steps rounds (placement-placed chunks t.nodes (stands layout t.nodes)) refl alone valid in_range tight solves
+
+  copies_back : HeldBySome (laid_out layout chunks t.nodes) → SummedSolvable t (laid_out layout chunks t.nodes) steps rounds → Solvable (reversed_of t) (laid_out layout chunks t.nodes) (everywhere chunks t.nodes) steps rounds
+  copies_back some summed = solvable_back t (laid_out layout chunks t.nodes) steps rounds refl some summed
+
+reduce_inverts : (root : ℕ) (t : TopologyValue) (limits : LimitsValue) → root < t.nodes → Inverts (question kind.Reduce root t limits) (copied_question (question kind.Reduce root t limits))
+reduce_inverts root t limits below = record {
+  single = λ is. cc;
+  there = λ x w. record { some_steps = w.some_steps; steps = w.steps; all_rounds = w.all_rounds; rounds = w.rounds; chunks = w.chunks; allowed = w.allowed };
+  back = λ x w. record { some_steps = w.some_steps; steps = w.steps; all_rounds = w.all_rounds; rounds = w.rounds; chunks = w.chunks; allowed = w.allowed };
+  conflicts = refl;
+  solved = λ a by tight. record {
+    valid = valid_inverse a.schedule by.valid;
+    in_range = inverse_in_range a.candidate.c t.nodes a.schedule by.in_range;
+    achieves = inverse_adds (Root root) a.candidate.c t a.candidate.s a.candidate.r a.schedule (root_alone root a.candidate.c t.nodes) by.valid by.in_range tight by.achieves;
+  };
+  solvable = λ x summed. copies_back (Root root) x.c t x.s x.r (root_some root x.c t.nodes below) summed;
+  wastes = λ a by tight. record { copied = a.schedule; valid = by.valid; in_range = by.in_range; tight = tight; inverse = refl };
+}
+
+reducescatter_inverts : (root : ℕ) (t : TopologyValue) (limits : LimitsValue) → root < t.nodes → Inverts (question kind.Reducescatter root t limits) (copied_question (question kind.Reducescatter root t limits))
+reducescatter_inverts root t limits below = record {
+  single = λ is. cc;
+  there = λ x w. record { some_steps = w.some_steps; steps = w.steps; all_rounds = w.all_rounds; rounds = w.rounds; chunks = w.chunks; allowed = w.allowed };
+  back = λ x w. record { some_steps = w.some_steps; steps = w.steps; all_rounds = w.all_rounds; rounds = w.rounds; chunks = w.chunks; allowed = w.allowed };
+  conflicts = refl;
+  solved = λ a by tight. record {
+    valid = valid_inverse a.schedule by.valid;
+    in_range = inverse_in_range (t.nodes * a.candidate.c) t.nodes a.schedule by.in_range;
+    achieves = inverse_adds Scattered (t.nodes * a.candidate.c) t a.candidate.s a.candidate.r a.schedule (scattered_alone (t.nodes * a.candidate.c) t.nodes) by.valid by.in_range tight by.achieves;
+  };
+  solvable = λ x summed. copies_back Scattered (t.nodes * x.c) t x.s x.r (scattered_some (t.nodes * x.c) t.nodes (omega (arith, below))) summed;
+  wastes = λ a by tight. record { copied = a.schedule; valid = by.valid; in_range = by.in_range; tight = tight; inverse = refl };
+}
+
+-- the question of a reduction to one node for each chunk
+inverts : (k : Kind) (root : ℕ) (t : TopologyValue) (limits : LimitsValue) → reduces k ≡ true → k ≢ kind.Allreduce → root < t.nodes → Inverts (question k root t limits) (copied_question (question k root t limits))
+inverts kind.Broadcast root t limits adds single below = absurd cc
+inverts kind.Gather root t limits adds single below = absurd cc
+inverts kind.Allgather root t limits adds single below = absurd cc
+inverts kind.Scatter root t limits adds single below = absurd cc
+inverts kind.Alltoall root t limits adds single below = absurd cc
+inverts kind.Reduce root t limits adds single below = reduce_inverts root t limits below
+inverts kind.Reducescatter root t limits adds single below = reducescatter_inverts root t limits below
+inverts kind.Allreduce root t limits adds single below = absurd (single refl)
+inverts kind.Custom root t limits adds single below = absurd cc
+
+-- a frontier of an allreduce is none, whichever way it is asked
+single_kind : (k : Kind) (root : ℕ) (t : TopologyValue) (limits : LimitsValue) (f : FrontierValue) → RightFrontier (copied_question (question k root t limits)) f → k ≢ kind.Allreduce
+single_kind k root t limits f right is = right.single (ap copied_kind is)
+
+-- the question of any reduction, where a frontier of its copy is right
+pub spec_inverts : (t : TopologyValue) (asked : Spec) (limits : LimitsValue) (f : FrontierValue) → adds_up asked ≡ true → IsSpec t.nodes asked → RightFrontier (copied_question (record { topology = t; spec = asked; limits = limits })) f → Inverts (record { topology = t; spec = asked; limits = limits }) (copied_question (record { topology = t; spec = asked; limits = limits }))
+spec_inverts t (spec.Standard collective) limits f adds is right =
+    inverts collective.kind collective.root t limits adds (single_kind collective.kind collective.root t limits f right) is.1
+spec_inverts t (spec.Custom p) limits f adds is right = absurd cc
+
+pub reduction_right : (q : QuestionValue) (f : FrontierValue) → adds_up q.spec ≡ true → IsSpec q.topology.nodes q.spec → RightFrontier (copied_question q) f → Searched (copied_question q) f → RightFrontier q (inverted_frontier f)
+reduction_right q f adds is right searched = right_inverted q (copied_question q) f (spec_inverts q.topology q.spec q.limits f adds is right) right searched
+
+pub reduction_searched : (q : QuestionValue) (f : FrontierValue) → adds_up q.spec ≡ true → IsSpec q.topology.nodes q.spec → RightFrontier (copied_question q) f → Searched (copied_question q) f → Searched q (inverted_frontier f)
+reduction_searched q f adds is right searched = searched_inverted q (copied_question q) f (spec_inverts q.topology q.spec q.limits f adds is right) right searched

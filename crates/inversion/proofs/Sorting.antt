@@ -1,0 +1,139 @@
+-- Sends that are sorted: the images of a schedule's sends, in ascending order, are the sends of its inverse.
+use Rattle.std.proofs.Common.{◌≡◌, ℕ, Bool, true, false, not, ◌&&◌, ◌||◌, eqb, ltb, cond, List, [], ◌∷◌, length, map, get_or, refl, sym, ap, ◌∙◌, ⊎_elim, arith}
+use Rattle.std.specs.Prelude.{◌≢◌, reverse, AllPairs, IsPermutation}
+use Rattle.std.specs.Cmp.{IsStrictWeakOrder}
+use Rattle.std.specs.List.{IsDistinct}
+use Rattle.std.specs.List.Sorted.{IsSortedBy}
+use Rattle.std.specs.Ordering.{nat_cmp, ordering_then, is_lt}
+use Rattle.std.specs.declared.cmp.Ordering.{Ordering}
+use Rattle.std.specs.declared.cmp.Ordering.TheVariants.{Less, Equal, Greater}
+use Rattle.std.proofs.lemmas.Bool.{and_parts, and_from, cases_Bool, both_ways, not-true}
+use Rattle.std.proofs.lemmas.List.Elements.{recursion_from_All}
+use Rattle.std.proofs.lemmas.List.Sorted.{Contains-permutation, IsPermutation-sym, sorted_far}
+use Rattle.std.proofs.lemmas.Map.Keys.{IsDistinct-IsPermutation, IsDistinct-cons, apart_from_distinct}
+use Rattle.schedule.specs.declared.hop.Hop.{Hop}
+use Rattle.schedule.specs.Sends.{ScheduleValue, IsSchedule, IsStep, hop_before}
+use Rattle.schedule.specs.Inverse.{in_order, inverse_hop, inverse_of}
+use Rattle.schedule.proofs.First.{Among-from_Contains, Contains-from_Among, InOrder-from_pairs, each_weaker}
+use Rattle.schedule.proofs.HopOrder.{Apart, among_in_order, ascending_apart, before_all, in_order_among, neither_before}
+use Rattle.schedule.proofs.Inverting.{apart_inverses, one_order, valid_inverse}
+use Rattle.schedule.proofs.Verdicts.{sends_one_way}
+use Rattle.inversion.specs.Order.{hop_cmp}
+
+-- ---- the comparison tells the order
+
+then_grouped : (a b c : Ordering) → ordering_then (ordering_then a b) c ≡ ordering_then a (ordering_then b c)
+then_grouped Less b c = refl
+then_grouped Equal b c = refl
+then_grouped Greater b c = refl
+
+less_first : (less same : Bool) (rest : Ordering) → is_lt (ordering_then (cond less Less (cond same Equal Greater)) rest) ≡ (less || (same && is_lt rest))
+less_first true same rest = refl
+less_first false true rest = refl
+less_first false false rest = refl
+
+less_last : (less same : Bool) → is_lt (cond less Less (cond same Equal Greater)) ≡ less
+less_last true same = refl
+less_last false true = refl
+less_last false false = refl
+
+-- the first comes before the second
+abbrev pub comes : Hop → Hop → Bool
+comes a b = is_lt (hop_cmp a b)
+
+comes_is : (a b : Hop) → comes a b ≡ hop_before a b
+comes_is a b =
+    let step : Ordering = nat_cmp a.step b.step in
+    let chunk : Ordering = nat_cmp a.chunk b.chunk in
+    let from : Ordering = nat_cmp a.from b.from in
+    let to : Ordering = nat_cmp a.to b.to in
+    ap is_lt (then_grouped (ordering_then step chunk) from to ∙ then_grouped step chunk (ordering_then from to))
+    ∙ (less_first (ltb a.step b.step) (eqb a.step b.step) (ordering_then chunk (ordering_then from to))
+    ∙ ap (λ x. ltb a.step b.step || (eqb a.step b.step && x)) (less_first (ltb a.chunk b.chunk) (eqb a.chunk b.chunk) (ordering_then from to)
+    ∙ ap (λ x. ltb a.chunk b.chunk || (eqb a.chunk b.chunk && x)) (less_first (ltb a.from b.from) (eqb a.from b.from) to
+    ∙ ap (λ x. ltb a.from b.from || (eqb a.from b.from && x)) (less_last (ltb a.to b.to) (eqb a.to b.to)))))
+
+-- ---- the order is one that a sort can use
+
+one_way : (a b : Hop) → hop_before a b ≡ true → hop_before b a ≡ false
+one_way a b there =
+    ⊎_elim (λ (back : hop_before b a ≡ true). absurd (sends_one_way a b there back)) (λ (not_so : hop_before b a ≡ false). not_so) (cases_Bool (hop_before b a))
+
+chain : (a b c : Hop) → hop_before a b ≡ false → hop_before b c ≡ false → hop_before a c ≡ false
+chain a b c first second =
+    ⊎_elim
+    (λ (there : hop_before a c ≡ true).
+    ⊎_elim
+    (λ (back : hop_before b a ≡ true). absurd (both_ways _ second (before_all b a c back there)))
+    (λ (neither : hop_before b a ≡ false). absurd (both_ways _ second (ap (λ h. hop_before h c) (neither_before b a neither first) ∙ there)))
+    (cases_Bool (hop_before b a)))
+    (λ (not_so : hop_before a c ≡ false). not_so)
+    (cases_Bool (hop_before a c))
+
+pub comes_is_order : IsStrictWeakOrder comes
+comes_is_order = record {
+  one_way = λ a b there. comes_is b a ∙ one_way a b (sym (comes_is a b) ∙ there);
+  chain = λ a b c first second. comes_is a c ∙ chain a b c (sym (comes_is a b) ∙ first) (sym (comes_is b c) ∙ second);
+}
+
+-- ---- sends that differ ascend where they are sorted
+
+-- neither comes before the other
+abbrev tie : Hop → Hop → Bool
+tie a b = not (hop_before a b) && not (hop_before b a)
+
+and_flips : (a b : Bool) → (a && b) ≡ (b && a)
+and_flips true true = refl
+and_flips true false = refl
+and_flips false true = refl
+and_flips false false = refl
+
+never_tie : (a b : Hop) → (a ≢ b) → tie a b ≡ false
+never_tie a b apart =
+    ⊎_elim
+    (λ (tied : tie a b ≡ true).
+    let parts = and_parts (not (hop_before a b)) (not (hop_before b a)) tied in
+    absurd (apart (neither_before a b (not-true _ parts.0) (not-true _ parts.1))))
+    (λ (not_so : tie a b ≡ false). not_so)
+    (cases_Bool (tie a b))
+
+distinct : (hops : List Hop) → Apart hops → IsDistinct tie hops
+unfolding IsDistinct
+distinct [] apart = tt
+distinct (h ∷ hops) apart = IsDistinct-cons tie h hops (each_weaker (λ o. h ≢ o) (λ o. tie h o ≡ false) (λ o other. never_tie h o other) hops apart.0) (distinct hops apart.1)
+
+before_or_tie : (a b : Hop) → hop_before b a ≡ false → tie a b ≡ false → hop_before a b ≡ true
+before_or_tie a b not_back not_tied =
+    ⊎_elim
+    (λ (there : hop_before a b ≡ true). there)
+    (λ (neither : hop_before a b ≡ false). absurd (both_ways _ not_tied (and_from _ _ (ap not neither) (ap not not_back))))
+    (cases_Bool (hop_before a b))
+
+sorted_ascends : (xs ys : List Hop) → Apart xs → IsPermutation xs ys → IsSortedBy comes ys → AllPairs (λ a b. hop_before a b ≡ true) ys
+sorted_ascends xs ys apart moved sorted i j d before within =
+    let a : Hop = get_or ys i d in
+    let b : Hop = get_or ys j d in
+    let later : comes b a ≡ false = sorted_far comes comes_is_order ys sorted i j d (omega (arith, before)) within in
+    let other : tie a b ≡ false = apart_from_distinct tie ys i j d (IsDistinct-IsPermutation tie (λ x y. and_flips (not (hop_before x y)) (not (hop_before y x))) xs ys moved (distinct xs apart)) before within in
+    before_or_tie a b (sym (comes_is b a) ∙ later) other
+
+-- ---- the sends of the inverse
+
+images_apart : (s : ScheduleValue) → IsSchedule s → Apart (map (inverse_hop (length s.rounds)) s.sends)
+images_apart s valid =
+    apart_inverses (length s.rounds) s.sends (recursion_from_All (λ h. IsStep (length s.rounds) h.step) s.sends valid.steps) (ascending_apart s.sends (InOrder-from_pairs hop_before s.sends valid.ascending))
+
+pub sorted_inverse : (s : ScheduleValue) (ys : List Hop) → IsSchedule s → IsPermutation (map (inverse_hop (length s.rounds)) s.sends) ys → IsSortedBy comes ys → ys ≡ (inverse_of s).sends
+sorted_inverse s ys valid moved sorted =
+    let xs : List Hop = map (inverse_hop (length s.rounds)) s.sends in
+    one_order ys (in_order xs)
+    (InOrder-from_pairs hop_before ys (sorted_ascends xs ys (images_apart s valid) moved sorted))
+    (InOrder-from_pairs hop_before (in_order xs) (valid_inverse s valid).ascending)
+    (λ h among. among_in_order h xs (Among-from_Contains h xs (Contains-permutation ys xs h (IsPermutation-sym xs ys moved) (Contains-from_Among h ys among))))
+    (λ h among. Among-from_Contains h ys (Contains-permutation xs ys h moved (Contains-from_Among h xs (in_order_among h xs among))))
+
+-- the reversed rounds with the sorted images are the inverse
+pub inverse_made : (s : ScheduleValue) (rounds : List ℕ) (ys : List Hop) → IsSchedule s → rounds ≡ reverse s.rounds → IsPermutation (map (inverse_hop (length s.rounds)) s.sends) ys → IsSortedBy comes ys → record { rounds = rounds; sends = ys } ≡ inverse_of s
+inverse_made s rounds ys valid back moved sorted =
+    let made : List ℕ → List Hop → ScheduleValue = λ r h. record { rounds = r; sends = h } in
+    ap (λ r. made r ys) back ∙ ap (made (reverse s.rounds)) (sorted_inverse s ys valid moved sorted)

@@ -1,0 +1,100 @@
+-- The first uneven count, row by row and node by node.
+use Rattle.std.proofs.Common.{◌≡◌, ℕ, ◌+◌, ◌-◌, ◌<◌, ◌≤◌, Bool, true, false, not, cond, eqb, List, [], ◌∷◌, ◌++◌, map, get_or, Option, Some, None, refl, sym, ap, ◌∙◌}
+use Rattle.std.specs.List.{filter, find, flat_map, range_with_len}
+use Rattle.std.specs.Option.{option_map, option_or}
+use Rattle.std.proofs.lemmas.List.Elements.{filter-append}
+use Rattle.std.proofs.lemmas.List.Concat.{flat_map-append}
+use Rattle.std.proofs.lemmas.List.Folds.{find-append}
+use Rattle.schedule.specs.Placed.{PlacementValue, IsPlacement, all_pairs, holds}
+use Rattle.schedule.specs.Bags.{Bag, Bags}
+use Rattle.schedule.proofs.Grids.{range_more, range_none, rows_from, rows_start}
+use Rattle.inversion.specs.Judging.{count_of, counts_due, first_uneven}
+
+-- the first that passes, of what a function makes
+pub find_made : {X Y : Type 0} (test : Y → Bool) (f : X → Y) (xs : List X) → find test (map f xs) ≡ option_map f (find (λ x. test (f x)) xs)
+find_made test f [] = refl
+find_made test f (x ∷ xs) =
+    elim (test (f x)) as (λ b. cond b (Some (f x)) (find test (map f xs)) ≡ option_map f (cond b (Some x) (find (λ y. test (f y)) xs)))
+    [ true ↦ refl | false ↦ find_made test f xs ]
+
+-- the first node that has not contributed to the bag exactly once
+abbrev pub uneven_node : Bag → ℕ → Option ℕ
+uneven_node bag nodes = find (λ of. not (eqb (get_or bag of 0) 1)) (range_with_len 0 nodes)
+
+-- where there is one at a pair, it is the first
+pub uneven_cons : (bags : Bags) (nodes : ℕ) (pair : ℕ × ℕ) (pairs : List (ℕ × ℕ)) → first_uneven bags nodes (pair ∷ pairs) ≡ option_or (option_map (λ of. (pair.0, pair.1, of)) (uneven_node (bags pair) nodes)) (first_uneven bags nodes pairs)
+uneven_cons bags nodes pair pairs =
+    let test : ℕ × ℕ × ℕ → Bool = λ due. not (eqb (count_of bags due) 1) in
+    find-append test (map (λ node. (pair.0, pair.1, node)) (range_with_len 0 nodes)) (counts_due nodes pairs)
+    ∙ ap (λ first. option_or first (first_uneven bags nodes pairs)) (find_made test (λ node. (pair.0, pair.1, node)) (range_with_len 0 nodes))
+
+dues_split : (nodes : ℕ) (xs ys : List (ℕ × ℕ)) → counts_due nodes (xs ++ ys) ≡ counts_due nodes xs ++ counts_due nodes ys
+dues_split nodes xs ys = flat_map-append (λ pair. map (λ node. (pair.0, pair.1, node)) (range_with_len 0 nodes)) xs ys
+
+uneven_split : (bags : Bags) (nodes : ℕ) (xs ys : List (ℕ × ℕ)) → first_uneven bags nodes (xs ++ ys) ≡ option_or (first_uneven bags nodes xs) (first_uneven bags nodes ys)
+uneven_split bags nodes xs ys =
+    let test : ℕ × ℕ × ℕ → Bool = λ due. not (eqb (count_of bags due) 1) in
+    ap (find test) (dues_split nodes xs ys) ∙ find-append test (counts_due nodes xs) (counts_due nodes ys)
+
+-- ---- one row, from a node on
+
+abbrev pub row_from : Bags → ℕ → (ℕ × ℕ → Bool) → ℕ → ℕ → Option (ℕ × ℕ × ℕ)
+row_from bags nodes held chunk node = first_uneven bags nodes (filter held (map (λ n. (chunk, n)) (range_with_len node (nodes - node))))
+
+-- what is said of one pair
+abbrev pub uneven_here : Bags → ℕ → (ℕ × ℕ → Bool) → ℕ × ℕ → Option ℕ
+uneven_here bags nodes held pair = cond (held pair) (uneven_node (bags pair) nodes) None
+
+row_more : (bags : Bags) (nodes : ℕ) (held : ℕ × ℕ → Bool) (chunk node : ℕ) → node < nodes → row_from bags nodes held chunk node ≡ option_or (option_map (λ of. (chunk, node, of)) (uneven_here bags nodes held (chunk, node))) (row_from bags nodes held chunk (node + 1))
+row_more bags nodes held chunk node below =
+    let rest : List (ℕ × ℕ) = map (λ n. (chunk, n)) (range_with_len (node + 1) (nodes - (node + 1))) in
+    ap (λ ns. first_uneven bags nodes (filter held (map (λ n. (chunk, n)) ns))) (range_more node nodes below)
+    ∙ (elim (held (chunk, node)) as (λ b. first_uneven bags nodes (cond b ((chunk, node) ∷ filter held rest) (filter held rest)) ≡ option_or (option_map (λ of. (chunk, node, of)) (cond b (uneven_node (bags (chunk, node)) nodes) None)) (first_uneven bags nodes (filter held rest)))
+    [ true ↦ uneven_cons bags nodes (chunk, node) (filter held rest) | false ↦ refl ])
+
+pub row_here : (bags : Bags) (nodes : ℕ) (held : ℕ × ℕ → Bool) (chunk node of : ℕ) → node < nodes → Some of ≡ uneven_here bags nodes held (chunk, node) → row_from bags nodes held chunk node ≡ Some (chunk, node, of)
+row_here bags nodes held chunk node of below found =
+    row_more bags nodes held chunk node below
+    ∙ ap (λ first. option_or (option_map (λ of. (chunk, node, of)) first) (row_from bags nodes held chunk (node + 1))) (sym found)
+
+pub row_later : (bags : Bags) (nodes : ℕ) (held : ℕ × ℕ → Bool) (chunk node : ℕ) → node < nodes → None ≡ uneven_here bags nodes held (chunk, node) → row_from bags nodes held chunk node ≡ row_from bags nodes held chunk (node + 1)
+row_later bags nodes held chunk node below none =
+    row_more bags nodes held chunk node below
+    ∙ ap (λ first. option_or (option_map (λ of. (chunk, node, of)) first) (row_from bags nodes held chunk (node + 1))) (sym none)
+
+pub row_past : (bags : Bags) (nodes : ℕ) (held : ℕ × ℕ → Bool) (chunk node : ℕ) → nodes ≤ node → row_from bags nodes held chunk node ≡ None
+row_past bags nodes held chunk node past = ap (λ ns. first_uneven bags nodes (filter held (map (λ n. (chunk, n)) ns))) (range_none node nodes past)
+
+-- ---- all rows, from one on
+
+abbrev pub grid_from : Bags → ℕ → (ℕ × ℕ → Bool) → ℕ → ℕ → Option (ℕ × ℕ × ℕ)
+grid_from bags nodes held low high = first_uneven bags nodes (filter held (rows_from low high nodes))
+
+-- what is said of a row
+abbrev pub whole_row : Bags → ℕ → (ℕ × ℕ → Bool) → ℕ → Option (ℕ × ℕ × ℕ)
+whole_row bags nodes held chunk = first_uneven bags nodes (filter held (map (λ node. (chunk, node)) (range_with_len 0 nodes)))
+
+pub grid_more : (bags : Bags) (nodes : ℕ) (held : ℕ × ℕ → Bool) (low high : ℕ) → low < high → grid_from bags nodes held low high ≡ option_or (whole_row bags nodes held low) (grid_from bags nodes held (low + 1) high)
+grid_more bags nodes held low high below =
+    let row : List (ℕ × ℕ) = map (λ node. (low, node)) (range_with_len 0 nodes) in
+    ap (λ rs. first_uneven bags nodes (filter held (flat_map (λ r. map (λ c. (r, c)) (range_with_len 0 nodes)) rs))) (range_more low high below)
+    ∙ (ap (first_uneven bags nodes) (filter-append held row (rows_from (low + 1) high nodes))
+    ∙ uneven_split bags nodes (filter held row) (filter held (rows_from (low + 1) high nodes)))
+
+pub grid_here : (bags : Bags) (nodes : ℕ) (held : ℕ × ℕ → Bool) (low high : ℕ) (due : ℕ × ℕ × ℕ) → low < high → Some due ≡ whole_row bags nodes held low → grid_from bags nodes held low high ≡ Some due
+grid_here bags nodes held low high due below found = grid_more bags nodes held low high below ∙ ap (λ first. option_or first (grid_from bags nodes held (low + 1) high)) (sym found)
+
+pub grid_later : (bags : Bags) (nodes : ℕ) (held : ℕ × ℕ → Bool) (low high : ℕ) → low < high → None ≡ whole_row bags nodes held low → grid_from bags nodes held low high ≡ grid_from bags nodes held (low + 1) high
+grid_later bags nodes held low high below none = grid_more bags nodes held low high below ∙ ap (λ first. option_or first (grid_from bags nodes held (low + 1) high)) (sym none)
+
+pub grid_past : (bags : Bags) (nodes : ℕ) (held : ℕ × ℕ → Bool) (low high : ℕ) → high ≤ low → grid_from bags nodes held low high ≡ None
+grid_past bags nodes held low high past =
+    ap (λ rs. first_uneven bags nodes (filter held (flat_map (λ r. map (λ c. (r, c)) (range_with_len 0 nodes)) rs))) (range_none low high past)
+
+-- all rows hold the pairs of a placement
+pub grid_start : (bags : Bags) (demand : PlacementValue) (chunks nodes : ℕ) → demand.chunks ≡ chunks → demand.nodes ≡ nodes → IsPlacement demand → grid_from bags nodes (holds demand) 0 chunks ≡ first_uneven bags nodes demand.pairs
+grid_start bags demand chunks nodes chunks_are nodes_are is =
+    ap (λ pairs. first_uneven bags nodes (filter (holds demand) pairs)) (rows_start chunks nodes)
+    ∙ (ap (λ c. first_uneven bags nodes (filter (holds demand) (all_pairs c nodes))) (sym chunks_are)
+    ∙ (ap (λ n. first_uneven bags nodes (filter (holds demand) (all_pairs demand.chunks n))) (sym nodes_are)
+    ∙ ap (λ (p : PlacementValue). first_uneven bags nodes p.pairs) (sym is)))

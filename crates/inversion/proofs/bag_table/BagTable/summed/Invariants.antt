@@ -1,0 +1,10 @@
+use Rattle.std.proofs.Common.{◌≡◌, ◌*◌, length, take}
+use Rattle.schedule.specs.Summing.{summed_step}
+use Rattle.inversion.specs.Tables.{Steps, with_bags}
+use Rattle.inversion.proofs.bag_table.BagTable.summed.Given as goal
+
+abbrev pub invariant-loop-hop : goal.invariant-loop-hop
+invariant-loop-hop l = record {
+  size : length l.bags.items ≡ l.self.chunks * l.self.nodes;
+  steps : Steps (λ bags. summed_step (take l.hop-index l.hop-items) bags l.step) l.self (with_bags l.self l.bags.items);
+}
