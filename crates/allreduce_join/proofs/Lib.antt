@@ -1,2 +1,11 @@
-pub mod Paired
 pub mod Told
+pub mod Paired
+pub mod Parts
+pub mod Copying
+pub mod Summed
+pub mod Sequence
+pub mod Frontiers
+pub mod Meeting
+pub mod Clashed
+pub mod Judged
+pub mod Bounded

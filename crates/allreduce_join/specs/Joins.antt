@@ -1,5 +1,5 @@
 -- An allreduce as a reducescatter and then an allgather (Cai et al., PPoPP 2021, allreduce). That a join keeps the chunk count is this project's own way of counting.
-use Rattle.std.specs.Prelude.{◌≡◌, ◌==◌, ℕ, ◌+◌, List, ◌++◌, map, filter, All, Contains}
+use Rattle.std.specs.Prelude.{◌≡◌, ◌==◌, ℕ, ◌+◌, ◌≤◌, List, ◌++◌, length, map, filter, sum, All, Contains}
 use Rattle.std.specs.List.{flat_map}
 use Rattle.schedule.specs.declared.hop.Hop.{Hop}
 use Rattle.schedule.specs.Links.{TopologyValue}
@@ -10,6 +10,12 @@ use Rattle.collective_spec.specs.Collectives.{chunks_of}
 use Rattle.candidate_order.specs.declared.candidate.Candidate.{Candidate}
 use Rattle.candidate_order.specs.declared.mark.Mark.TheVariants as mark
 use Rattle.candidate_order.specs.Frontiers.{PointValue}
+
+-- the point has the steps and the rounds of its schedule, and at most 8 steps
+pub record IsJoinable (p : PointValue) : Type 0 where
+  pub steps : length p.schedule.rounds ≡ p.candidate.s
+  pub rounds : sum p.schedule.rounds ≡ p.candidate.r
+  pub few : p.candidate.s ≤ 8
 
 -- a send so many steps later
 abbrev pub later : ℕ → Hop → Hop

@@ -1,3 +1,4 @@
 pub mod Judging
 pub mod Joins
+pub mod Parts
 pub mod Rows

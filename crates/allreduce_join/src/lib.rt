@@ -1,5 +1,14 @@
 //! Points of an allreduce: a reducescatter and then an allgather.
 #![tactic(auto)]
 
+mod clash;
+mod join;
+pub mod join_laws;
+mod judge;
 pub mod laws;
+#[cfg(test)]
+mod tests;
 pub mod vectors;
+
+pub use join::join_points;
+pub use judge::all_summed;

@@ -1,0 +1,69 @@
+-- The first clash, step by step.
+use Rattle.std.proofs.Common.{◌≡◌, ℕ, ◌+◌, ◌-◌, ◌<◌, ◌≤◌, Bool, false, ◌&&◌, cond, leb, List, [], ◌∷◌, length, map, Option, Some, None, refl, sym, ap, ◌∙◌, arith}
+use Rattle.std.specs.List.{AllByRecursion, find, flat_map, range_with_len}
+use Rattle.std.specs.Option.{option_map, option_or}
+use Rattle.std.proofs.lemmas.Bool.{le-ltb, lt-ltb}
+use Rattle.std.proofs.lemmas.List.Folds.{find-append}
+use Rattle.schedule.specs.Sends.{ScheduleValue}
+use Rattle.schedule.specs.Placed.{PlacementValue, all_pairs, holds}
+use Rattle.schedule.specs.JoinedRuns.{first_clash, is_clash}
+use Rattle.schedule.proofs.First.{each_among, none_found}
+use Rattle.schedule.proofs.Grids.{range_more, range_none}
+use Rattle.schedule.proofs.Placing.{IsBelow, all_below, holds-placed}
+use Rattle.inversion.proofs.Uneven.{find_made}
+use Rattle.allreduce_join.proofs.Meeting.{arrivals, met_by}
+
+-- the first clash of a step
+abbrev pub clash_in : ℕ → ℕ → ScheduleValue → ℕ → ℕ → Option (ℕ × ℕ)
+clash_in chunks nodes s adding step = find (λ pair. is_clash s adding (step, pair.0, pair.1)) (all_pairs chunks nodes)
+
+-- the first of the steps behind so many
+abbrev pub clash_from : ℕ → ℕ → ScheduleValue → ℕ → ℕ → Option (ℕ × ℕ × ℕ)
+clash_from chunks nodes s adding index = find (is_clash s adding) (flat_map (λ step. map (λ pair. (step, pair.0, pair.1)) (all_pairs chunks nodes)) (range_with_len (index + 1) (length s.rounds + 1 - (index + 1))))
+
+module _ (chunks nodes : ℕ) (s : ScheduleValue) (adding : ℕ) where
+  abbrev turns : List ℕ → List (ℕ × ℕ × ℕ)
+  turns steps = flat_map (λ step. map (λ pair. (step, pair.0, pair.1)) (all_pairs chunks nodes)) steps
+
+  clash_more : (index : ℕ) → index < length s.rounds → clash_from chunks nodes s adding index ≡ option_or (option_map (λ (pair : ℕ × ℕ). (index + 1, pair.0, pair.1)) (clash_in chunks nodes s adding (index + 1))) (clash_from chunks nodes s adding (index + 1))
+  clash_more index below =
+      ap (λ steps. find (is_clash s adding) (turns steps)) (range_more (index + 1) (length s.rounds + 1) (omega (arith, below)))
+      ∙ (find-append (is_clash s adding) (map (λ pair. (index + 1, pair.0, pair.1)) (all_pairs chunks nodes)) (turns (range_with_len (index + 1 + 1) (length s.rounds + 1 - (index + 1 + 1))))
+      ∙ ap (λ first. option_or first (clash_from chunks nodes s adding (index + 1))) (find_made (is_clash s adding) (λ (pair : ℕ × ℕ). (index + 1, pair.0, pair.1)) (all_pairs chunks nodes)))
+
+  pub clash_start : clash_from chunks nodes s adding 0 ≡ first_clash chunks nodes s adding
+  clash_start =
+      let count : length s.rounds + 1 - (0 + 1) ≡ length s.rounds = omega arith in
+      ap (λ n. find (is_clash s adding) (turns (range_with_len 1 n))) count
+
+  pub clash_here : (index : ℕ) (pair : ℕ × ℕ) → index < length s.rounds → Some pair ≡ clash_in chunks nodes s adding (index + 1) → clash_from chunks nodes s adding index ≡ Some (index + 1, pair.0, pair.1)
+  clash_here index pair below found =
+      clash_more index below ∙ ap (λ first. option_or (option_map (λ (p : ℕ × ℕ). (index + 1, p.0, p.1)) first) (clash_from chunks nodes s adding (index + 1))) (sym found)
+
+  pub clash_later : (index : ℕ) → index < length s.rounds → None ≡ clash_in chunks nodes s adding (index + 1) → clash_from chunks nodes s adding index ≡ clash_from chunks nodes s adding (index + 1)
+  clash_later index below none =
+      clash_more index below ∙ ap (λ first. option_or (option_map (λ (p : ℕ × ℕ). (index + 1, p.0, p.1)) first) (clash_from chunks nodes s adding (index + 1))) (sym none)
+
+  pub clash_past : (index : ℕ) → length s.rounds ≤ index → clash_from chunks nodes s adding index ≡ None
+  clash_past index past = ap (λ steps. find (is_clash s adding) (turns steps)) (range_none (index + 1) (length s.rounds + 1) (omega (arith, past)))
+
+-- ---- one step
+
+and_false : (b : Bool) → (false && b) ≡ false
+and_false b = refl
+
+-- a step that adds has none
+pub clash_adding : (chunks nodes : ℕ) (s : ScheduleValue) (adding step : ℕ) → step ≤ adding → None ≡ clash_in chunks nodes s adding step
+clash_adding chunks nodes s adding step small =
+    sym (none_found (λ pair. is_clash s adding (step, pair.0, pair.1)) (all_pairs chunks nodes) (each_among (λ pair. is_clash s adding (step, pair.0, pair.1) ≡ false) (all_pairs chunks nodes) (λ pair among. ap (λ b. b && leb 2 (arrivals step (pair.0, pair.1) s.sends)) (le-ltb adding step small))))
+
+find_alike : {X : Type 0} (P : X → Type 0) (p q : X → Bool) → ((x : X) → P x → p x ≡ q x) → (xs : List X) → AllByRecursion P xs → find p xs ≡ find q xs
+find_alike P p q same [] each = refl
+find_alike P p q same (x ∷ xs) each = ap (λ b. cond b (Some x) (find p xs)) (same x each.0) ∙ ap (cond (q x) (Some x)) (find_alike P p q same xs each.1)
+
+-- in one that copies it is the first pair that is met twice
+pub clash_copying : (chunks nodes : ℕ) (s : ScheduleValue) (adding step : ℕ) (twice : PlacementValue) → adding < step → twice ≡ met_by 2 chunks nodes step s.sends → find (holds twice) (all_pairs chunks twice.nodes) ≡ clash_in chunks nodes s adding step
+clash_copying chunks nodes s adding step twice past is =
+    ap (λ (p : PlacementValue). find (holds p) (all_pairs chunks p.nodes)) is
+    ∙ find_alike (IsBelow chunks nodes) (holds (met_by 2 chunks nodes step s.sends)) (λ pair. is_clash s adding (step, pair.0, pair.1)) (λ pair below.
+    holds-placed chunks nodes (λ p. leb 2 (arrivals step p s.sends)) pair below.0 below.1 ∙ sym (ap (λ b. b && leb 2 (arrivals step (pair.0, pair.1) s.sends)) (lt-ltb adding step past))) (all_pairs chunks nodes) (all_below chunks nodes)

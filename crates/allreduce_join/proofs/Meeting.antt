@@ -1,0 +1,151 @@
+-- Chunks that come to a node twice, send by send.
+use Rattle.std.proofs.Common.{◌≡◌, ℕ, suc, ◌+◌, ◌<◌, ◌≤◌, Bool, true, false, ◌&&◌, ◌||◌, cond, eqb, leb, List, [], ◌∷◌, ◌++◌, length, get_or, take, refl, sym, ap, ◌∙◌, ⊎_elim, subst, arith}
+use Rattle.std.specs.Prelude.{count_by}
+use Rattle.std.specs.List.{filter}
+use Rattle.std.proofs.lemmas.Bool.{and_parts, cases_Bool, eq-eqb, both_ways}
+use Rattle.std.proofs.lemmas.Bool.Decides.{nat_tests}
+use Rattle.std.proofs.lemmas.List.{take_more, take_all}
+use Rattle.std.proofs.lemmas.List.Sums.{sum_by-append, sum_by-cons}
+use Rattle.schedule.specs.declared.hop.Hop.{Hop}
+use Rattle.schedule.specs.Placed.{PlacementValue, empty_placement, holds, placed, same_pair, with_pair}
+use Rattle.schedule.specs.Summing.{goes_to}
+use Rattle.schedule.proofs.Joining.{step_alone}
+use Rattle.schedule.proofs.Placing.{holds-placed, pair_is, placed-alike, placed-none}
+
+abbrev pub arrivals : ℕ → ℕ × ℕ → List Hop → ℕ
+arrivals step pair hops = count_by (goes_to step pair) hops
+
+-- the pairs to which so many of the sends come
+abbrev pub met_by : ℕ → ℕ → ℕ → ℕ → List Hop → PlacementValue
+met_by least chunks nodes step hops = placed chunks nodes (λ pair. leb least (arrivals step pair hops))
+
+pub met_none : (least chunks nodes step : ℕ) → empty_placement chunks nodes ≡ met_by (suc least) chunks nodes step []
+met_none least chunks nodes step = sym (placed-none chunks nodes (λ pair. leb (suc least) (arrivals step pair [])) (λ pair c n. none least))
+  where
+    none : (least : ℕ) → leb (suc least) 0 ≡ false
+    none least = grind (arith, nat_tests)
+
+-- ---- one more send of the step
+
+abbrev comes_to : Hop → ℕ × ℕ → Bool
+comes_to h pair = same_pair (h.chunk, h.to) pair
+
+arrivals_more : (step : ℕ) (pair : ℕ × ℕ) (hops : List Hop) (h : Hop) → h.step ≡ step → arrivals step pair (hops ++ h ∷ []) ≡ arrivals step pair hops + cond (comes_to h pair) 1 0
+arrivals_more step pair hops h now =
+    let one : arrivals step pair (h ∷ []) ≡ cond {A = ℕ} (goes_to step pair h) 1 0 + 0 = sum_by-cons (λ o. cond (goes_to step pair o) 1 0) h [] in
+    let mine : cond {A = ℕ} (goes_to step pair h) 1 0 ≡ cond (comes_to h pair) 1 0 = ap (λ b. cond {A = ℕ} (b && comes_to h pair) 1 0) (eq-eqb h.step step now) in
+    omega (arith, one, mine, sum_by-append (λ o. cond (goes_to step pair o) 1 0) hops (h ∷ []))
+
+leb_one : (least n m : ℕ) → m ≡ n + 1 → leb (suc least) m ≡ (leb (suc least) n || leb least n)
+leb_one least n m is = grind (arith, nat_tests)
+
+leb_same : (least n m : ℕ) → m ≡ n + 0 → leb (suc least) m ≡ leb (suc least) n
+leb_same least n m is = ap (leb (suc least)) (omega (arith, is))
+
+or_true : (b : Bool) → (b || true) ≡ true
+or_true true = refl
+or_true false = refl
+
+-- where the send's pair is met so often, it is met once more
+pub met_added : (least chunks nodes step : ℕ) (hops : List Hop) (h : Hop) → h.step ≡ step → leb least (arrivals step (h.chunk, h.to) hops) ≡ true → with_pair (met_by (suc least) chunks nodes step hops) (h.chunk, h.to) ≡ met_by (suc least) chunks nodes step (hops ++ h ∷ [])
+met_added least chunks nodes step hops h now met =
+    placed-alike chunks nodes _ _ (λ pair c n.
+    ap (λ b. comes_to h pair || b) (holds-placed chunks nodes (λ p. leb (suc least) (arrivals step p hops)) pair c n) ∙ at pair)
+  where
+    at : (pair : ℕ × ℕ) → (comes_to h pair || leb (suc least) (arrivals step pair hops)) ≡ leb (suc least) (arrivals step pair (hops ++ h ∷ []))
+    at pair =
+        ⊎_elim
+        (λ (same : comes_to h pair ≡ true).
+        let aim : (h.chunk, h.to) ≡ pair = pair_is (h.chunk, h.to) pair same in
+        let often : leb least (arrivals step pair hops) ≡ true = subst (λ (p : ℕ × ℕ). leb least (arrivals step p hops) ≡ true) aim met in
+        let more : arrivals step pair (hops ++ h ∷ []) ≡ arrivals step pair hops + 1 = arrivals_more step pair hops h now ∙ ap (λ b. arrivals step pair hops + cond {A = ℕ} b 1 0) same in
+        ap (λ b. b || leb (suc least) (arrivals step pair hops)) same
+        ∙ (sym (or_true (leb (suc least) (arrivals step pair hops)))
+        ∙ (ap (λ b. leb (suc least) (arrivals step pair hops) || b) (sym often) ∙ sym (leb_one least (arrivals step pair hops) (arrivals step pair (hops ++ h ∷ [])) more))))
+        (λ (other : comes_to h pair ≡ false).
+        let stays : arrivals step pair (hops ++ h ∷ []) ≡ arrivals step pair hops + 0 = arrivals_more step pair hops h now ∙ ap (λ b. arrivals step pair hops + cond {A = ℕ} b 1 0) other in
+        ap (λ b. b || leb (suc least) (arrivals step pair hops)) other ∙ sym (leb_same least (arrivals step pair hops) (arrivals step pair (hops ++ h ∷ [])) stays))
+        (cases_Bool (comes_to h pair))
+
+or_settled : (a b : Bool) → (b ≡ true → a ≡ true) → a ≡ (a || b)
+or_settled true b settled = refl
+or_settled false true settled = settled refl
+or_settled false false settled = refl
+
+-- where the send's pair is met that often already, or not nearly, nothing changes
+pub met_kept : (least chunks nodes step : ℕ) (hops : List Hop) (h : Hop) → h.step ≡ step → (leb least (arrivals step (h.chunk, h.to) hops) ≡ true → leb (suc least) (arrivals step (h.chunk, h.to) hops) ≡ true) → met_by (suc least) chunks nodes step hops ≡ met_by (suc least) chunks nodes step (hops ++ h ∷ [])
+met_kept least chunks nodes step hops h now settled = placed-alike chunks nodes _ _ (λ pair c n. at pair)
+  where
+    at : (pair : ℕ × ℕ) → leb (suc least) (arrivals step pair hops) ≡ leb (suc least) (arrivals step pair (hops ++ h ∷ []))
+    at pair =
+        ⊎_elim
+        (λ (same : comes_to h pair ≡ true).
+        let aim : (h.chunk, h.to) ≡ pair = pair_is (h.chunk, h.to) pair same in
+        let more : arrivals step pair (hops ++ h ∷ []) ≡ arrivals step pair hops + 1 = arrivals_more step pair hops h now ∙ ap (λ b. arrivals step pair hops + cond {A = ℕ} b 1 0) same in
+        or_settled (leb (suc least) (arrivals step pair hops)) (leb least (arrivals step pair hops)) (subst (λ (p : ℕ × ℕ). leb least (arrivals step p hops) ≡ true → leb (suc least) (arrivals step p hops) ≡ true) aim settled)
+        ∙ sym (leb_one least (arrivals step pair hops) (arrivals step pair (hops ++ h ∷ [])) more))
+        (λ (other : comes_to h pair ≡ false).
+        let stays : arrivals step pair (hops ++ h ∷ []) ≡ arrivals step pair hops + 0 = arrivals_more step pair hops h now ∙ ap (λ b. arrivals step pair hops + cond {A = ℕ} b 1 0) other in
+        sym (leb_same least (arrivals step pair hops) (arrivals step pair (hops ++ h ∷ [])) stays))
+        (cases_Bool (comes_to h pair))
+
+-- ---- the loop over the sends of a step
+
+-- the pairs that are met, and those that are met twice
+pub record IsMet (chunks nodes step : ℕ) (hops : List Hop) (met twice : PlacementValue) : Type 0 where
+  pub met_is : met ≡ met_by 1 chunks nodes step hops
+  pub twice_is : twice ≡ met_by 2 chunks nodes step hops
+
+at_least_none : (n : ℕ) → leb 0 n ≡ true
+at_least_none n = grind (arith, nat_tests)
+
+-- one more whose pair is met already
+pub again : (chunks nodes step : ℕ) (all sends : List Hop) (i : ℕ) (d : Hop) (met twice more : PlacementValue) → sends ≡ filter (λ h. eqb h.step step) all → i < length sends → (get_or sends i d).chunk < chunks → (get_or sends i d).to < nodes
+    → IsMet chunks nodes step (take i sends) met twice → holds met ((get_or sends i d).chunk, (get_or sends i d).to) ≡ true → more ≡ with_pair twice ((get_or sends i d).chunk, (get_or sends i d).to) → IsMet chunks nodes step (take (i + 1) sends) met more
+again chunks nodes step all sends i d met twice more mine inside c n so_far held is =
+    let h : Hop = get_or sends i d in
+    let target : ℕ × ℕ = (h.chunk, h.to) in
+    let hops : List Hop = take i sends in
+    let now : h.step ≡ step = step_alone step all sends mine i d inside in
+    let once : leb 1 (arrivals step target hops) ≡ true = sym (ap (λ p. holds p target) so_far.met_is ∙ holds-placed chunks nodes (λ p. leb 1 (arrivals step p hops)) target c n) ∙ held in
+    let longer : hops ++ h ∷ [] ≡ take (i + 1) sends = sym (take_more sends i d inside) in
+    record {
+      met_is = so_far.met_is ∙ (met_kept 0 chunks nodes step hops h now (λ some. once) ∙ ap (met_by 1 chunks nodes step) longer);
+      twice_is = is ∙ (ap (λ p. with_pair p target) so_far.twice_is ∙ (met_added 1 chunks nodes step hops h now once ∙ ap (met_by 2 chunks nodes step) longer));
+    }
+
+-- one more whose pair is not
+pub first_time : (chunks nodes step : ℕ) (all sends : List Hop) (i : ℕ) (d : Hop) (met twice more : PlacementValue) → sends ≡ filter (λ h. eqb h.step step) all → i < length sends → (get_or sends i d).chunk < chunks → (get_or sends i d).to < nodes
+    → IsMet chunks nodes step (take i sends) met twice → holds met ((get_or sends i d).chunk, (get_or sends i d).to) ≡ false → more ≡ with_pair met ((get_or sends i d).chunk, (get_or sends i d).to) → IsMet chunks nodes step (take (i + 1) sends) more twice
+first_time chunks nodes step all sends i d met twice more mine inside c n so_far lacks is =
+    let h : Hop = get_or sends i d in
+    let target : ℕ × ℕ = (h.chunk, h.to) in
+    let hops : List Hop = take i sends in
+    let now : h.step ≡ step = step_alone step all sends mine i d inside in
+    let never : leb 1 (arrivals step target hops) ≡ false = sym (ap (λ p. holds p target) so_far.met_is ∙ holds-placed chunks nodes (λ p. leb 1 (arrivals step p hops)) target c n) ∙ lacks in
+    let longer : hops ++ h ∷ [] ≡ take (i + 1) sends = sym (take_more sends i d inside) in
+    record {
+      met_is = is ∙ (ap (λ p. with_pair p target) so_far.met_is ∙ (met_added 0 chunks nodes step hops h now (at_least_none (arrivals step target hops)) ∙ ap (met_by 1 chunks nodes step) longer));
+      twice_is = so_far.twice_is ∙ (met_kept 1 chunks nodes step hops h now (λ once. absurd (both_ways _ never once)) ∙ ap (met_by 2 chunks nodes step) longer);
+    }
+
+-- the sends of other steps come to nothing
+count_within : (p q : Hop → Bool) → ((h : Hop) → p h ≡ true → q h ≡ true) → (hops : List Hop) → count_by p (filter q hops) ≡ count_by p hops
+count_within p q weaker [] = refl
+count_within p q weaker (h ∷ hops) =
+    let whole : count_by p (h ∷ hops) ≡ cond {A = ℕ} (p h) 1 0 + count_by p hops = sum_by-cons (λ x. cond (p x) 1 0) h hops in
+    ⊎_elim
+    (λ (kept : q h ≡ true).
+    let front : count_by p (h ∷ filter q hops) ≡ cond {A = ℕ} (p h) 1 0 + count_by p (filter q hops) = sum_by-cons (λ x. cond (p x) 1 0) h (filter q hops) in
+    ap (λ b. count_by p (cond b (h ∷ filter q hops) (filter q hops))) kept ∙ omega (arith, whole, front, count_within p q weaker hops))
+    (λ (dropped : q h ≡ false).
+    let fails : p h ≡ false = ⊎_elim (λ (passes : p h ≡ true). absurd (both_ways _ dropped (weaker h passes))) (λ (not_so : p h ≡ false). not_so) (cases_Bool (p h)) in
+    let none : cond {A = ℕ} (p h) 1 0 ≡ 0 = ap (λ b. cond {A = ℕ} b 1 0) fails in
+    ap (λ b. count_by p (cond b (h ∷ filter q hops) (filter q hops))) dropped ∙ omega (arith, whole, none, count_within p q weaker hops))
+    (cases_Bool (q h))
+
+pub met_all : (chunks nodes step : ℕ) (all sends : List Hop) (i : ℕ) (met twice : PlacementValue) → sends ≡ filter (λ h. eqb h.step step) all → length sends ≤ i → IsMet chunks nodes step (take i sends) met twice → twice ≡ met_by 2 chunks nodes step all
+met_all chunks nodes step all sends i met twice mine past so_far =
+    so_far.twice_is
+    ∙ (ap (met_by 2 chunks nodes step) (take_all i sends past ∙ mine)
+    ∙ placed-alike chunks nodes _ _ (λ pair c n. ap (leb 2) (count_within (goes_to step pair) (λ h. eqb h.step step) (λ h goes. (and_parts _ _ goes).0) all)))
