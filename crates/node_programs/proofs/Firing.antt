@@ -1,0 +1,214 @@
+-- The machine as it is kept: what an event makes of it, and that it stays right.
+use Rattle.std.proofs.Common.{◌≡◌, ℕ, zero, suc, ◌+◌, ◌*◌, ◌<◌, ◌≤◌, Bool, true, false, cond, eqb, List, [], ◌∷◌, ◌++◌, length, map, get_or, set, drop, Some, None, ⊎_elim, refl, sym, ap, subst, ◌∙◌, arith, get_or-set_same, get_or-set_other}
+use Rattle.std.specs.Prelude.{option_and_then, slice_get, unwrap_or}
+use Rattle.std.specs.List.{AllByRecursion}
+use Rattle.std.proofs.lemmas.Bool.{and_from, eq-eqb}
+use Rattle.std.proofs.lemmas.List.{get_or-map, length-set, map-append, map-set}
+use Rattle.std.proofs.lemmas.Nat.{mul-add-lt}
+use Rattle.node_programs.specs.declared.op.Op.{Op}
+use Rattle.node_programs.specs.declared.op.Op.TheVariants.{Send, Take}
+use Rattle.node_programs.specs.declared.op.Mode.{Mode}
+use Rattle.node_programs.specs.declared.message.Message.{Message as Parcel}
+use Rattle.node_programs.specs.Machines.{Message, State, StoreValue, bag_in, event, got, performed, queue_in, received, sent, taken, with_bag}
+use Rattle.node_programs.specs.Below.{IsOpBelow}
+use Rattle.node_programs.specs.Kept.{counted}
+use Rattle.node_programs.specs.Queues.{IsMachine, QueueValue, message_in, messages_in, no_queue, queue_of, sends_to, with_message, without_first}
+use Rattle.node_programs.proofs.Cells.{cell_below, cell_beside, cell_here, differ, same_or_not}
+
+-- ---- lists of lists
+
+module _ {X : Type 0} (P : X → Type 0) where
+  head_each : (xs : List X) (x : X) → AllByRecursion P xs → slice_get xs 0 ≡ Some x → P x
+  head_each [] x all is = absurd cc
+  head_each (y ∷ ys) x all is = let same : y ≡ x = cc in subst P same all.0
+
+  tail_each : (xs : List X) → AllByRecursion P xs → AllByRecursion P (drop 1 xs)
+  tail_each [] all = tt
+  tail_each (x ∷ xs) all = all.1
+
+  each_at : (xss : List (List X)) (i : ℕ) → AllByRecursion (AllByRecursion P) xss → AllByRecursion P (get_or xss i [])
+  each_at [] i all = tt
+  each_at (xs ∷ xss) zero all = all.0
+  each_at (xs ∷ xss) (suc i) all = each_at xss i all.1
+
+  each_set : (xs : List X) (i : ℕ) (x : X) → AllByRecursion P xs → P x → AllByRecursion P (set xs i x)
+  each_set [] i x all here = tt
+  each_set (y ∷ ys) zero x all here = (here, all.1)
+  each_set (y ∷ ys) (suc i) x all here = (all.0, each_set ys i x all.1 here)
+
+head_some : {X : Type 0} (xs : List X) (x : X) → slice_get xs 0 ≡ Some x → 0 < length xs
+head_some [] x is = absurd cc
+head_some (y ∷ ys) x is = omega arith
+
+-- ---- what a next operation sends
+
+sends_head : (ops : List Op) (chunk to step other : ℕ) → slice_get ops 0 ≡ Some (Send chunk to step) → sends_to other ops ≡ sends_to other (drop 1 ops) + cond (eqb to other) 1 zero
+sends_head [] chunk to step other is = absurd cc
+sends_head (op ∷ ops) chunk to step other is =
+    let same : op ≡ Send chunk to step = cc in
+    ap (λ o. sends_to other (o ∷ ops)) same ∙ go (eqb to other)
+  where
+    go : (b : Bool) → cond b (sends_to other ops + 1) (sends_to other ops) ≡ sends_to other ops + cond b 1 zero
+    go true = refl
+    go false = omega arith
+
+takes_head : (ops : List Op) (chunk from step : ℕ) (how : Mode) (other : ℕ) → slice_get ops 0 ≡ Some (Take chunk from step how) → sends_to other ops ≡ sends_to other (drop 1 ops)
+takes_head [] chunk from step how other is = absurd cc
+takes_head (op ∷ ops) chunk from step how other is = let same : op ≡ Take chunk from step how = cc in ap (λ o. sends_to other (o ∷ ops)) same
+
+few : (b : Bool) → cond b 1 zero ≤ 1
+few true = omega arith
+few false = omega arith
+
+-- ---- the machine
+
+module _ (chunks nodes : ℕ) (programs : List (List Op)) (queues : List QueueValue) (kept : IsMachine chunks nodes programs queues) where
+  pub place_inside : (from to : ℕ) → from < nodes → to < nodes → from * nodes + to < length queues
+  place_inside from to low high = omega (arith, kept.pairs, mul-add-lt from nodes to nodes low high)
+
+  pub next_below : (node : ℕ) (op : Op) → slice_get (get_or programs node []) 0 ≡ Some op → IsOpBelow chunks nodes op
+  next_below node op is = head_each (IsOpBelow chunks nodes) (get_or programs node []) op (each_at (IsOpBelow chunks nodes) programs node kept.in_range) is
+
+  pub room_for : (node chunk to step : ℕ) → node < nodes → slice_get (get_or programs node []) 0 ≡ Some (Send chunk to step) → 0 < (queue_of queues nodes node to).room
+  room_for node chunk to step inside is =
+      let below = next_below node (Send chunk to step) is in
+      let counts : cond (eqb to to) 1 zero ≡ 1 = ap (λ b. cond b 1 zero) (eq-eqb to to refl) in
+      omega (arith, kept.room node to inside below.1, sends_head (get_or programs node []) chunk to step to is, counts)
+
+  module _ (node : ℕ) (inside : node < nodes) where
+    abbrev ops : List Op
+    ops = get_or programs node []
+
+    -- the node has done its next operation
+    abbrev pub moved : List (List Op)
+    moved = set programs node (drop 1 ops)
+
+    left_here : get_or moved node [] ≡ drop 1 ops
+    left_here = get_or-set_same programs node (drop 1 ops) [] (omega (arith, inside, kept.nodes_are))
+
+    left_beside : (u : ℕ) → eqb u node ≡ false → get_or moved u [] ≡ get_or programs u []
+    left_beside u apart = get_or-set_other programs node u (drop 1 ops) [] (differ u node apart)
+
+    fewer : ((v : ℕ) → sends_to v (drop 1 ops) ≤ sends_to v ops) → (u v : ℕ) → sends_to v (get_or moved u []) ≤ sends_to v (get_or programs u [])
+    fewer less u v =
+        ⊎_elim
+        (λ (same : u ≡ node). let here : sends_to v (get_or moved u []) ≡ sends_to v (drop 1 ops) = ap (λ k. sends_to v (get_or moved k [])) same ∙ ap (sends_to v) left_here in
+        let own : sends_to v (get_or programs u []) ≡ sends_to v ops = ap (λ k. sends_to v (get_or programs k [])) same in
+        omega (arith, here, own, less v))
+        (λ (apart : eqb u node ≡ false). omega (arith, ap (sends_to v) (left_beside u apart)))
+        (same_or_not u node)
+
+    -- one queue changed, with room for what is still sent through it
+    kept_event : (from to : ℕ) (q : QueueValue) → from < nodes → to < nodes → ((v : ℕ) → sends_to v (drop 1 ops) ≤ sends_to v ops) → sends_to to (get_or moved from []) ≤ q.room
+        → IsMachine chunks nodes moved (set queues (from * nodes + to) q)
+    kept_event from to q low high less enough = record {
+      nodes_are = length-set programs node (drop 1 ops) ∙ kept.nodes_are;
+      pairs = length-set queues (from * nodes + to) q ∙ kept.pairs;
+      in_range = each_set (AllByRecursion (IsOpBelow chunks nodes)) programs node (drop 1 ops) kept.in_range (tail_each (IsOpBelow chunks nodes) ops (each_at (IsOpBelow chunks nodes) programs node kept.in_range));
+      room = room;
+    }
+      where
+        unchanged : (u v : ℕ) → u < nodes → v < nodes → queue_of (set queues (from * nodes + to) q) nodes u v ≡ queue_of queues nodes u v → sends_to v (get_or moved u []) ≤ (queue_of (set queues (from * nodes + to) q) nodes u v).room
+        unchanged u v low high same = omega (arith, fewer less u v, kept.room u v low high, ap (λ x. x.room) same)
+
+        room : (u v : ℕ) → u < nodes → v < nodes → sends_to v (get_or moved u []) ≤ (queue_of (set queues (from * nodes + to) q) nodes u v).room
+        room u v low_u low_v =
+            ⊎_elim
+            (λ (same : u ≡ from).
+            ⊎_elim
+            (λ (same_too : v ≡ to).
+            let own : queue_of (set queues (from * nodes + to) q) nodes u v ≡ q = ap (λ i. get_or (set queues (from * nodes + to) q) (i * nodes + v) no_queue) same ∙ ap (λ i. get_or (set queues (from * nodes + to) q) (from * nodes + i) no_queue) same_too ∙ cell_here queues nodes nodes no_queue from to q kept.pairs low high in
+            let sends : sends_to v (get_or moved u []) ≡ sends_to to (get_or moved from []) = ap (λ i. sends_to v (get_or moved i [])) same ∙ ap (λ i. sends_to i (get_or moved from [])) same_too in
+            omega (arith, enough, sends, ap (λ x. x.room) own))
+            (λ (apart : eqb v to ≡ false). unchanged u v low_u low_v (cell_beside queues nodes nodes no_queue from to u v q high low_v (differ v to apart)))
+            (same_or_not v to))
+            (λ (apart : eqb u from ≡ false). unchanged u v low_u low_v (cell_below queues nodes nodes no_queue from to u v q high low_v (differ u from apart)))
+            (same_or_not u from)
+
+    pub kept_send : (chunk to step : ℕ) (m : Parcel) → slice_get ops 0 ≡ Some (Send chunk to step) → IsMachine chunks nodes moved (set queues (node * nodes + to) (with_message (queue_of queues nodes node to) m))
+    kept_send chunk to step m is =
+        let below = next_below node (Send chunk to step) is in
+        let counts : cond (eqb to to) 1 zero ≡ 1 = ap (λ b. cond b 1 zero) (eq-eqb to to refl) in
+        kept_event node to (with_message (queue_of queues nodes node to) m) inside below.1
+        (λ v. omega (arith, sends_head ops chunk to step v is))
+        (omega (arith, ap (sends_to to) left_here, kept.room node to inside below.1, sends_head ops chunk to step to is, counts))
+
+    pub kept_take : (chunk from step : ℕ) (how : Mode) → slice_get ops 0 ≡ Some (Take chunk from step how) → IsMachine chunks nodes moved (set queues (from * nodes + node) (without_first (queue_of queues nodes from node)))
+    kept_take chunk from step how is =
+        let below = next_below node (Take chunk from step how) is in
+        kept_event from node (without_first (queue_of queues nodes from node)) below.1 inside
+        (λ v. omega (arith, takes_head ops chunk from step how v is))
+        (omega (arith, fewer (λ v. omega (arith, takes_head ops chunk from step how v is)) from node, kept.room from node below.1 inside))
+
+-- ---- what it stands for
+
+abbrev pub state_of : List (List Op) → StoreValue → List QueueValue → State
+state_of programs store queues = record { left = programs; store = store; queues = map (messages_in store.nodes) queues }
+
+same_state : (a b : List (List Op)) (s : StoreValue) (c d : List (List Message)) → a ≡ b → c ≡ d → ◌≡◌ {A = State} (record { left = a; store = s; queues = c }) (record { left = b; store = s; queues = d })
+same_state a b s c d left queues =
+    let first : List (List Op) → State = λ x. record { left = x; store = s; queues = c } in
+    let second : List (List Message) → State = λ x. record { left = b; store = s; queues = x } in
+    ap first left ∙ ap second queues
+
+queue_at : (nodes : ℕ) (queues : List QueueValue) (place : ℕ) → place < length queues → get_or (map (messages_in nodes) queues) place [] ≡ messages_in nodes (get_or queues place no_queue)
+queue_at nodes queues place inside = get_or-map (messages_in nodes) queues place no_queue [] inside
+
+first_dropped : (nodes : ℕ) (ms : List Parcel) → map (message_in nodes) (drop 1 ms) ≡ drop 1 (map (message_in nodes) ms)
+first_dropped nodes [] = refl
+first_dropped nodes (m ∷ ms) = refl
+
+head_mapped : (nodes : ℕ) (ms : List Parcel) (m : Parcel) → slice_get ms 0 ≡ Some m → slice_get (map (message_in nodes) ms) 0 ≡ Some (message_in nodes m)
+head_mapped nodes [] m is = absurd cc
+head_mapped nodes (x ∷ xs) m is = let same : x ≡ m = cc in ap (λ y. Some (message_in nodes y)) same
+
+module _ (programs : List (List Op)) (store : StoreValue) (queues : List QueueValue) (node : ℕ) where
+  abbrev s : State
+  s = state_of programs store queues
+
+  pub state_sent : (chunk to step : ℕ) (bag : List ℕ) (left : List (List Op)) (new : List QueueValue) → node * store.nodes + to < length queues → left ≡ set programs node (drop 1 (get_or programs node []))
+      → new ≡ set queues (node * store.nodes + to) (with_message (get_or queues (node * store.nodes + to) no_queue) (record { chunk = chunk; step = step; bag = bag }))
+      → counted store.nodes bag ≡ bag_in store chunk node → state_of left store new ≡ sent s node chunk to step
+  state_sent chunk to step bag left new inside is_left is_new is_bag =
+      let place : ℕ = node * store.nodes + to in
+      let m : Parcel = record { chunk = chunk; step = step; bag = bag } in
+      let message : List ℕ → Message = λ b. record { chunk = chunk; step = step; bag = b } in
+      same_state left (set programs node (drop 1 (get_or programs node []))) store (map (messages_in store.nodes) new) _ is_left
+      (ap (map (messages_in store.nodes)) is_new
+      ∙ map-set (messages_in store.nodes) queues place (with_message (get_or queues place no_queue) m)
+      ∙ ap (set (map (messages_in store.nodes) queues) place)
+      (map-append (message_in store.nodes) (get_or queues place no_queue).messages (m ∷ [])
+      ∙ ap (λ b. messages_in store.nodes (get_or queues place no_queue) ++ message b ∷ []) is_bag
+      ∙ ap (λ ms. ms ++ message (bag_in store chunk node) ∷ []) (sym (queue_at store.nodes queues place inside))))
+
+  module _ (chunk from step : ℕ) (how : Mode) (bag : List ℕ) (inside : from * store.nodes + node < length queues) where
+    abbrev place : ℕ
+    place = from * store.nodes + node
+
+    state_got : (left : List (List Op)) (after : StoreValue) (new : List QueueValue) → left ≡ set programs node (drop 1 (get_or programs node []))
+        → after ≡ with_bag store chunk node (received how (bag_in store chunk node) (counted store.nodes bag))
+        → new ≡ set queues place (without_first (get_or queues place no_queue)) → state_of left after new ≡ got s node chunk from how (counted store.nodes bag)
+    state_got left after new is_left is_after is_new =
+        ap (λ x. state_of left x new) is_after
+        ∙ same_state left (set programs node (drop 1 (get_or programs node []))) (with_bag store chunk node (received how (bag_in store chunk node) (counted store.nodes bag))) (map (messages_in store.nodes) new) _ is_left
+        (ap (map (messages_in store.nodes)) is_new
+        ∙ map-set (messages_in store.nodes) queues place (without_first (get_or queues place no_queue))
+        ∙ ap (set (map (messages_in store.nodes) queues) place)
+        (first_dropped store.nodes (get_or queues place no_queue).messages
+        ∙ ap (drop 1) (sym (queue_at store.nodes queues place inside))))
+
+    event_got : slice_get (get_or programs node []) 0 ≡ Some (Take chunk from step how) → slice_get (get_or queues place no_queue).messages 0 ≡ Some (record { chunk = chunk; step = step; bag = bag })
+        → event s node ≡ Some (got s node chunk from how (counted store.nodes bag))
+    event_got next head =
+        let m : Parcel = record { chunk = chunk; step = step; bag = bag } in
+        let first : slice_get (queue_in s from node) 0 ≡ Some (message_in store.nodes m) = ap (λ ms. slice_get ms 0) (queue_at store.nodes queues place inside) ∙ head_mapped store.nodes (get_or queues place no_queue).messages m head in
+        ap (option_and_then (performed s node)) next
+        ∙ ap (taken s node chunk from step how) first
+        ∙ ap (λ b. cond b (Some (got s node chunk from how (counted store.nodes bag))) None) (and_from _ _ (eq-eqb chunk chunk refl) (eq-eqb step step refl))
+
+    pub state_taken : (left : List (List Op)) (after : StoreValue) (new : List QueueValue) → slice_get (get_or programs node []) 0 ≡ Some (Take chunk from step how)
+        → slice_get (get_or queues place no_queue).messages 0 ≡ Some (record { chunk = chunk; step = step; bag = bag })
+        → left ≡ set programs node (drop 1 (get_or programs node [])) → after ≡ with_bag store chunk node (received how (bag_in store chunk node) (counted store.nodes bag))
+        → new ≡ set queues place (without_first (get_or queues place no_queue)) → state_of left after new ≡ unwrap_or (event s node) s
+    state_taken left after new next head is_left is_after is_new =
+        state_got left after new is_left is_after is_new ∙ sym (ap (λ e. unwrap_or e s) (event_got next head))

@@ -1,0 +1,49 @@
+-- The programs of a schedule in range name chunks and nodes in range.
+use Rattle.std.proofs.Common.{◌≡◌, ℕ, true, ◌&&◌, eqb, List, [], ◌∷◌, ◌++◌, length, map}
+use Rattle.std.specs.Prelude.{filter}
+use Rattle.std.specs.List.{AllByRecursion, flat_map, range_with_len}
+use Rattle.std.proofs.lemmas.List.Elements.{recursion_from_All}
+use Rattle.schedule.specs.Sends.{IsInRange, ScheduleValue, is_hop_below}
+use Rattle.schedule.proofs.First.{each_filter, each_weaker}
+use Rattle.schedule.proofs.Joining.{IsHopBelow, hop_below}
+use Rattle.node_programs.specs.Programs.{program_of, programs_of, send_of, step_of, take_of}
+use Rattle.node_programs.specs.Below.{AreBelow, IsOpBelow}
+
+module _ {X : Type 0} (P : X → Type 0) where
+  pub each_append : (xs ys : List X) → AllByRecursion P xs → AllByRecursion P ys → AllByRecursion P (xs ++ ys)
+  each_append [] ys a b = b
+  each_append (x ∷ xs) ys a b = (a.0, each_append xs ys a.1 b)
+
+  pub each_flat : {Y : Type 0} (f : Y → List X) → ((y : Y) → AllByRecursion P (f y)) → (ys : List Y) → AllByRecursion P (flat_map f ys)
+  each_flat f every [] = tt
+  each_flat f every (y ∷ ys) = each_append (f y) (flat_map f ys) (every y) (each_flat f every ys)
+
+pub each_map : {X Y : Type 0} (P : X → Type 0) (Q : Y → Type 0) (f : X → Y) → ((x : X) → P x → Q (f x)) → (xs : List X) → AllByRecursion P xs → AllByRecursion Q (map f xs)
+each_map P Q f on [] a = tt
+each_map P Q f on (x ∷ xs) a = (on x a.0, each_map P Q f on xs a.1)
+
+every_map : {X Y : Type 0} (Q : Y → Type 0) (f : X → Y) → ((x : X) → Q (f x)) → (xs : List X) → AllByRecursion Q (map f xs)
+every_map Q f on [] = tt
+every_map Q f on (x ∷ xs) = (on x, every_map Q f on xs)
+
+pub programs_below : (nodes : ℕ) (s : ScheduleValue) (adding chunks : ℕ) → IsInRange chunks nodes s → AreBelow chunks nodes (programs_of nodes s adding)
+programs_below nodes s adding chunks range = every_map (AllByRecursion (IsOpBelow chunks nodes)) (program_of s adding) program (range_with_len 0 nodes)
+  where
+    below : AllByRecursion (IsHopBelow chunks nodes) s.sends
+    below = each_weaker (λ h. is_hop_below chunks nodes h ≡ true) (IsHopBelow chunks nodes) (hop_below chunks nodes) s.sends (recursion_from_All (λ h. is_hop_below chunks nodes h ≡ true) s.sends range)
+
+    sends : (node step : ℕ) → AllByRecursion (IsOpBelow chunks nodes) (map send_of (filter (λ h. eqb h.step step && eqb h.from node) s.sends))
+    sends node step =
+        each_map (IsHopBelow chunks nodes) (IsOpBelow chunks nodes) send_of (λ h is. (is.chunk, is.to)) (filter (λ h. eqb h.step step && eqb h.from node) s.sends)
+        (each_filter (IsHopBelow chunks nodes) (λ h. eqb h.step step && eqb h.from node) s.sends below)
+
+    takes : (node step : ℕ) → AllByRecursion (IsOpBelow chunks nodes) (map (take_of adding) (filter (λ h. eqb h.step step && eqb h.to node) s.sends))
+    takes node step =
+        each_map (IsHopBelow chunks nodes) (IsOpBelow chunks nodes) (take_of adding) (λ h is. (is.chunk, is.from)) (filter (λ h. eqb h.step step && eqb h.to node) s.sends)
+        (each_filter (IsHopBelow chunks nodes) (λ h. eqb h.step step && eqb h.to node) s.sends below)
+
+    program : (node : ℕ) → AllByRecursion (IsOpBelow chunks nodes) (program_of s adding node)
+    program node =
+        each_flat (IsOpBelow chunks nodes) (step_of s.sends adding node)
+        (λ step. each_append (IsOpBelow chunks nodes) (map send_of (filter (λ h. eqb h.step step && eqb h.from node) s.sends)) (map (take_of adding) (filter (λ h. eqb h.step step && eqb h.to node) s.sends)) (sends node step) (takes node step))
+        (range_with_len 1 (length s.rounds))

@@ -1,0 +1,107 @@
+-- Operations pushed behind those of a node, and how the programs of a schedule come about step by step.
+use Rattle.std.proofs.Common.{◌≡◌, ℕ, ◌+◌, ◌<◌, ◌≤◌, Bool, true, false, ◌&&◌, cond, eqb, List, [], ◌∷◌, ◌++◌, length, map, get_or, set, take, refl, sym, ap, ◌∙◌, subst, append_assoc, arith}
+use Rattle.std.specs.Prelude.{filter}
+use Rattle.std.specs.List.{flat_map, range_with_len}
+use Rattle.std.proofs.lemmas.Bool.{eq-eqb}
+use Rattle.std.proofs.lemmas.Grind.{flat_map-append}
+use Rattle.std.proofs.lemmas.List.{append-nil, map-append, take_all, map-id}
+use Rattle.std.proofs.lemmas.List.Elements.{filter_more}
+use Rattle.std.proofs.lemmas.List.FromFn.{get_or-map-range_with_len, map-range_with_len_more}
+use Rattle.schedule.specs.declared.hop.Hop.{Hop}
+use Rattle.schedule.specs.Sends.{ScheduleValue}
+use Rattle.node_programs.specs.declared.op.Op.{Op}
+use Rattle.node_programs.specs.Programs.{send_of, step_of, take_of}
+use Rattle.node_programs.proofs.Arrivals.{filter_both}
+use Rattle.node_programs.proofs.Each.{flipped, set_each}
+use Rattle.node_programs.proofs.Counting.{map_alike}
+
+-- a program for each of so many nodes
+abbrev pub each : ℕ → (ℕ → List Op) → List (List Op)
+each nodes begun = map begun (range_with_len 0 nodes)
+
+-- an operation for a node, where it is this one
+abbrev for_node : ℕ → ℕ → Op → List Op
+for_node v node op = cond (eqb v node) (op ∷ []) []
+
+-- one operation pushed behind those of a node
+pushed : (nodes v : ℕ) (begun : ℕ → List Op) (op : Op) → set (each nodes begun) v (get_or (each nodes begun) v [] ++ op ∷ []) ≡ each nodes (λ node. begun node ++ for_node v node op)
+pushed nodes v begun op =
+    set_each nodes v begun (λ node. begun node ++ for_node v node op) []
+    (λ k apart. sym (ap (λ b. begun k ++ cond b (op ∷ []) []) (flipped k v apart) ∙ append-nil (begun k)))
+    (get_or (each nodes begun) v [] ++ op ∷ [])
+    (λ inside. ap (λ ops. ops ++ op ∷ []) (get_or-map-range_with_len begun 0 nodes v v [] inside (omega arith)) ∙ ap (λ b. begun v ++ cond b (op ∷ []) []) (sym (eq-eqb v v refl)))
+
+-- ---- an operation for each of a step's sends
+
+module _ (op_of : Hop → Op) (node_of : Hop → ℕ) where
+  -- those that are a node's
+  abbrev pub among : List Hop → ℕ → List Op
+  among hops node = map op_of (filter (λ h. eqb (node_of h) node) hops)
+
+  one_or_none : (b : Bool) (h : Hop) → map op_of (cond b (h ∷ []) []) ≡ cond b (op_of h ∷ []) []
+  one_or_none true h = refl
+  one_or_none false h = refl
+
+  among_more : (hops : List Hop) (i node : ℕ) (d : Hop) → i < length hops → among (take (i + 1) hops) node ≡ among (take i hops) node ++ for_node (node_of (get_or hops i d)) node (op_of (get_or hops i d))
+  among_more hops i node d inside =
+      let p : Hop → Bool = λ o. eqb (node_of o) node in
+      let h : Hop = get_or hops i d in
+      ap (map op_of) (filter_more p hops i d inside)
+      ∙ map-append op_of (filter p (take i hops)) (cond (p h) (h ∷ []) [])
+      ∙ ap (λ ops. among (take i hops) node ++ ops) (one_or_none (p h) h)
+
+  -- what has been pushed of the first so many
+  abbrev pub Pushed : List (List Op) → List (List Op) → List Hop → Type 0
+  Pushed old new hops = (nodes : ℕ) (begun : ℕ → List Op) → old ≡ each nodes begun → new ≡ each nodes (λ node. begun node ++ among hops node)
+
+  pub pushed_none : (old : List (List Op)) → Pushed old old []
+  pushed_none old nodes begun is = is ∙ map_alike begun (λ node. begun node ++ []) (λ node. sym (append-nil (begun node))) (range_with_len 0 nodes)
+
+  pub pushed_more : (old now new : List (List Op)) (hops : List Hop) (i : ℕ) (d : Hop) → Pushed old now (take i hops) → i < length hops
+      → new ≡ set now (node_of (get_or hops i d)) (get_or now (node_of (get_or hops i d)) [] ++ op_of (get_or hops i d) ∷ []) → Pushed old new (take (i + 1) hops)
+  pushed_more old now new hops i d so_far inside more nodes begun from =
+      let h : Hop = get_or hops i d in
+      let then : ℕ → List Op = λ node. begun node ++ among (take i hops) node in
+      more
+      ∙ ap (λ ps. set ps (node_of h) (get_or ps (node_of h) [] ++ op_of h ∷ [])) (so_far nodes begun from)
+      ∙ pushed nodes (node_of h) then (op_of h)
+      ∙ map_alike (λ node. then node ++ for_node (node_of h) node (op_of h)) (λ node. begun node ++ among (take (i + 1) hops) node)
+      (λ node. append_assoc (begun node) (among (take i hops) node) (for_node (node_of h) node (op_of h)) ∙ ap (λ ops. begun node ++ ops) (sym (among_more hops i node d inside)))
+      (range_with_len 0 nodes)
+
+  pub pushed_all : (old new : List (List Op)) (hops : List Hop) (i : ℕ) → Pushed old new (take i hops) → length hops ≤ i → Pushed old new hops
+  pushed_all old new hops i so_far past = let P : List Hop → Type 0 = λ hs. Pushed old new hs in subst P (take_all i hops past) so_far
+
+-- ---- steps
+
+-- the operations of the first so many steps
+abbrev pub first_steps : ScheduleValue → ℕ → ℕ → ℕ → List Op
+first_steps s adding n node = flat_map (step_of s.sends adding node) (range_with_len 1 n)
+
+steps_more : (s : ScheduleValue) (adding n node : ℕ) → first_steps s adding (n + 1) node ≡ first_steps s adding n node ++ step_of s.sends adding node (n + 1)
+steps_more s adding n node =
+    let range : range_with_len 1 (n + 1) ≡ range_with_len 1 n ++ (n + 1) ∷ [] =
+    sym (map-id (range_with_len 1 (n + 1))) ∙ map-range_with_len_more (λ k. k) 1 n (n + 1) (omega arith) ∙ ap (λ r. r ++ (n + 1) ∷ []) (map-id (range_with_len 1 n)) in
+    ap (flat_map (step_of s.sends adding node)) range
+    ∙ flat_map-append (step_of s.sends adding node) (range_with_len 1 n) ((n + 1) ∷ [])
+    ∙ ap (λ ops. first_steps s adding n node ++ ops) (append-nil (step_of s.sends adding node (n + 1)))
+
+-- the sends of a step pushed, and then its takes
+abbrev pub StepPushed : ℕ → List (List Op) → List (List Op) → List Hop → Type 0
+StepPushed adding old new hops = (nodes : ℕ) (begun : ℕ → List Op) → old ≡ each nodes begun → new ≡ each nodes (λ node. (begun node ++ among send_of (λ h. h.from) hops node) ++ among (take_of adding) (λ h. h.to) hops node)
+
+pub step_pushed : (s : ScheduleValue) (adding n nodes : ℕ) (hops : List Hop) (now next : List (List Op)) → hops ≡ filter (λ h. eqb h.step (n + 1)) s.sends
+    → now ≡ each nodes (first_steps s adding n) → StepPushed adding now next hops → next ≡ each nodes (first_steps s adding (n + 1))
+step_pushed s adding n nodes hops now next is so_far pushed_both =
+    pushed_both nodes (first_steps s adding n) so_far
+    ∙ map_alike (λ node. (first_steps s adding n node ++ among send_of (λ h. h.from) hops node) ++ among (take_of adding) (λ h. h.to) hops node) (first_steps s adding (n + 1)) at (range_with_len 0 nodes)
+  where
+    of_step : (p : Hop → Bool) → filter p hops ≡ filter (λ h. eqb h.step (n + 1) && p h) s.sends
+    of_step p = ap (filter p) is ∙ filter_both (λ h. eqb h.step (n + 1)) p (λ h. eqb h.step (n + 1) && p h) (λ h. refl) s.sends
+
+    at : (node : ℕ) → (first_steps s adding n node ++ among send_of (λ h. h.from) hops node) ++ among (take_of adding) (λ h. h.to) hops node ≡ first_steps s adding (n + 1) node
+    at node =
+        append_assoc (first_steps s adding n node) (among send_of (λ h. h.from) hops node) (among (take_of adding) (λ h. h.to) hops node)
+        ∙ ap (λ hs. first_steps s adding n node ++ (map send_of hs ++ among (take_of adding) (λ h. h.to) hops node)) (of_step (λ h. eqb h.from node))
+        ∙ ap (λ hs. first_steps s adding n node ++ (map send_of (filter (λ h. eqb h.step (n + 1) && eqb h.from node) s.sends) ++ map (take_of adding) hs)) (of_step (λ h. eqb h.to node))
+        ∙ sym (steps_more s adding n node)

@@ -1,0 +1,6 @@
+use Rattle.std.proofs.Common.{◌≡◌, [], map}
+use Rattle.std.specs.List.{range_with_len}
+use Rattle.node_programs.proofs.programming.no_operations.Given as goal
+
+abbrev pub invariant-loop-node : goal.invariant-loop-node
+invariant-loop-node l = l.programs.items ≡ map (λ node. []) (range_with_len 0 l._node)

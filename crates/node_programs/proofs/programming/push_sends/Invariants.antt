@@ -1,0 +1,7 @@
+use Rattle.std.proofs.Common.{take}
+use Rattle.node_programs.specs.Programs.{send_of}
+use Rattle.node_programs.proofs.Pushing.{Pushed}
+use Rattle.node_programs.proofs.programming.push_sends.Given as goal
+
+abbrev pub invariant-loop-hop : goal.invariant-loop-hop
+invariant-loop-hop l = Pushed send_of (λ h. h.from) l.initial.programs.items l.programs.items (take l.hop-index l.sends)
