@@ -1,0 +1,6 @@
+pub mod Drawn
+pub mod Moving
+pub mod Ended
+pub mod Arriving
+pub mod Stepping
+pub mod Valid

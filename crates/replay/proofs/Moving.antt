@@ -1,0 +1,83 @@
+-- Runs of a machine, one event more.
+use Rattle.std.proofs.Common.{◌≡◌, ℕ, zero, suc, ◌+◌, ◌-◌, ◌<◌, ◌≤◌, true, false, List, [], ◌∷◌, ◌++◌, length, drop, get_or, Option, Some, None, refl, sym, ap, ◌∙◌, append_assoc, arith}
+use Rattle.std.specs.Prelude.{is_some, option_and_then, slice_get, unwrap_or}
+use Rattle.std.proofs.lemmas.List.{append-nil, drop_more, get_or_past}
+use Rattle.node_programs.specs.Machines.{State, event, is_enabled, performed}
+use Rattle.node_programs.specs.Runs.{enabled, next_draw, picked, ranked, run_of}
+use Rattle.node_programs.specs.Stops.{StopValue, stop_of}
+use Rattle.node_programs.proofs.Ends.{run_by}
+use Rattle.node_programs.proofs.Legal.{drawn_first, moved}
+
+-- ---- what an event gives
+
+given : (after : Option State) (s : State) → is_some after ≡ true → after ≡ Some (unwrap_or after s)
+given None s is = absurd cc
+given (Some next) s is = refl
+
+not_given : (after : Option State) → is_some after ≡ false → after ≡ None
+not_given None is = refl
+not_given (Some next) is = absurd cc
+
+pub event_some : (s next : State) (node : ℕ) → is_enabled s node ≡ true → next ≡ unwrap_or (event s node) s → event s node ≡ Some next
+event_some s next node enabled is = given (event s node) s enabled ∙ ap (λ x. Some x) (sym is)
+
+pub event_none : (s : State) (node : ℕ) → is_enabled s node ≡ false → event s node ≡ None
+event_none s node fails = not_given (event s node) fails
+
+-- a number that is no node's does not move
+pub beyond_none : (s : State) (node : ℕ) → length s.left ≤ node → event s node ≡ None
+beyond_none s node past = ap (λ ops. option_and_then (performed s node) (slice_get ops 0)) (get_or_past s.left node [] past)
+
+-- ---- runs
+
+pub run_more : (order : List ℕ) (s now next : State) (node : ℕ) → run_of s order ≡ Some now → event now node ≡ Some next → run_of s (order ++ node ∷ []) ≡ Some next
+run_more [] s now next node ran is =
+    let same : s ≡ now = cc in
+    ap (λ x. run_by (event x node) []) same ∙ ap (λ after. run_by after []) is
+run_more (v ∷ order) s now next node ran is = onward (event s v) ran (λ after. run_more order after now next node)
+  where
+    onward : (after : Option State) → run_by after order ≡ Some now → ((x : State) → run_of x order ≡ Some now → event now node ≡ Some next → run_of x (order ++ node ∷ []) ≡ Some next) → run_by after (order ++ node ∷ []) ≡ Some next
+    onward None rest later = absurd cc
+    onward (Some x) rest later = later x rest is
+
+-- ---- what the generator picks
+
+pub picked_more : (n : ℕ) (s next : State) (x node : ℕ) → Some node ≡ ranked (enabled s) (next_draw x) → event s node ≡ Some next → picked (suc n) s x ≡ node ∷ picked n next (next_draw x)
+picked_more n s next x node drawn is = ap (drawn_first n s x) (sym drawn) ∙ ap (moved n s x node) is
+
+pub picked_none : (n : ℕ) (s : State) (x : ℕ) → None ≡ ranked (enabled s) (next_draw x) → picked n s x ≡ []
+picked_none zero s x none = refl
+picked_none (suc n) s x none = ap (drawn_first n s x) (sym none)
+
+-- what was picked so far, and what is still to be picked
+abbrev pub IsPicked : ℕ → State → ℕ → List ℕ → ℕ → State → ℕ → Type 0
+IsPicked count first seed moves left s x = moves ++ picked left s x ≡ picked count first seed
+
+pub picked_on : (count : ℕ) (first : State) (seed : ℕ) (moves new : List ℕ) (turn : ℕ) (s next : State) (x node : ℕ) → turn < count → IsPicked count first seed moves (count - turn) s x
+    → Some node ≡ ranked (enabled s) (next_draw x) → event s node ≡ Some next → new ≡ moves ++ node ∷ [] → IsPicked count first seed new (count - (turn + 1)) next (next_draw x)
+picked_on count first seed moves new turn s next x node low so_far drawn is more =
+    let left : count - turn ≡ suc (count - (turn + 1)) = omega arith in
+    ap (λ ms. ms ++ picked (count - (turn + 1)) next (next_draw x)) more
+    ∙ append_assoc moves (node ∷ []) (picked (count - (turn + 1)) next (next_draw x))
+    ∙ ap (λ ms. moves ++ ms) (sym (ap (λ n. picked n s x) left ∙ picked_more (count - (turn + 1)) s next x node drawn is))
+    ∙ so_far
+
+pub picked_ends : (count : ℕ) (first : State) (seed : ℕ) (moves : List ℕ) (left : ℕ) (s : State) (x : ℕ) → IsPicked count first seed moves left s x → picked left s x ≡ [] → moves ≡ picked count first seed
+picked_ends count first seed moves left s x so_far none = sym (append-nil moves) ∙ ap (λ ms. moves ++ ms) (sym none) ∙ so_far
+
+-- ---- lists of events
+
+-- the stop by what the first event gives
+abbrev stop_after : State → ℕ → List ℕ → Option State → StopValue
+stop_after s node rest after = elim after [ None ↦ record { state = s; left = node ∷ rest } | Some next ↦ stop_of next rest ]
+
+abbrev stopped : State → List ℕ → StopValue
+stopped s nodes = record { state = s; left = nodes }
+
+pub stop_on : (s next : State) (nodes : List ℕ) (place d : ℕ) (whole : StopValue) → place < length nodes → whole ≡ stop_of s (drop place nodes) → event s (get_or nodes place d) ≡ Some next → whole ≡ stop_of next (drop (place + 1) nodes)
+stop_on s next nodes place d whole inside so_far is =
+    so_far ∙ ap (stop_of s) (drop_more nodes place d inside) ∙ ap (stop_after s (get_or nodes place d) (drop (place + 1) nodes)) is
+
+pub stop_here : (s : State) (nodes : List ℕ) (place d : ℕ) (whole : StopValue) → place < length nodes → whole ≡ stop_of s (drop place nodes) → event s (get_or nodes place d) ≡ None → whole ≡ stopped s (drop place nodes)
+stop_here s nodes place d whole inside so_far is =
+    so_far ∙ ap (stop_of s) (drop_more nodes place d inside) ∙ ap (stop_after s (get_or nodes place d) (drop (place + 1) nodes)) is ∙ ap (stopped s) (sym (drop_more nodes place d inside))
