@@ -1,0 +1,4 @@
+pub mod Lines
+pub mod Showable
+pub mod Ordered
+pub mod Bodies

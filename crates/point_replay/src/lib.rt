@@ -1,0 +1,19 @@
+//! The replay of a point of a report: what each node has after each step, the verdict on the schedule, and the run of its programs in an order.
+#![tactic(auto)]
+
+mod asked;
+mod bags;
+mod order;
+mod placements;
+mod point;
+mod programs;
+mod runs;
+mod vectors;
+mod verdicts;
+mod words;
+
+pub use asked::is_copied_part;
+pub use point::{replay_copied_point, replay_point};
+pub use programs::{count_point_operations, print_point_programs};
+pub use std::alloc::AllocError as OutOfMemory;
+pub use vectors::replays;
