@@ -14,12 +14,13 @@ use Rattle.candidate_order.specs.declared.candidate.Candidate.{Candidate}
 use Rattle.candidate_order.specs.Frontiers.{QuestionValue, UnknownValue}
 use Rattle.frontier_audit.specs.declared.verdict.Reason.TheVariants.{ProofMissing, ProofRefused, CnfDiffers, PartialRefused}
 use Rattle.frontier_audit.specs.Denials.{Denial, Checked}
-use Rattle.frontier_audit.specs.Proofs.{lines_of_text}
-use Rattle.frontier_audit.specs.Shelves.{file_of, formula_for, longest_proof, HasRefutation, HasLog}
-use Rattle.frontier_audit.specs.Proving.{do_refute, do_spend, is_refutation, is_spent_log}
+use Rattle.candidate_formula.specs.Lines.{lines_of_text}
+use Rattle.candidate_formula.specs.Formulas.{formula_for}
+use Rattle.candidate_formula.specs.Files.{file_of, longest_proof, HasRefutation, HasLog}
+use Rattle.proof_audit.specs.Proving.{do_refute, do_spend, is_refutation, is_spent_log}
 use Rattle.frontier_audit.specs.Auditing.{refuted_checked, unknown_checked}
 use Rattle.frontier_audit.proofs.Passing.{then_ok, ok_then, refused_not, not_refused}
-use Rattle.frontier_audit.proofs.Proved.{refutes_by, by_refuting, spent_by, by_spending, both_true}
+use Rattle.proof_audit.proofs.Proved.{refutes_by, by_refuting, spent_by, by_spending, both_true}
 
 -- ---- a refuted candidate
 

@@ -19,11 +19,11 @@ use Rattle.allreduce_join.specs.Joins.{join_of, IsJoin}
 use Rattle.allreduce_join.specs.Judging.{joined_verdict_of}
 use Rattle.allreduce_join.proofs.Told.{all_summed_exactly}
 use Rattle.frontier_audit.specs.declared.verdict.Reason.TheVariants.{JoinWrong}
-use Rattle.frontier_audit.specs.Solutions.{says_sums}
+use Rattle.inversion.specs.Saying.{says_sums}
 use Rattle.frontier_audit.specs.Candidates.{same_candidate}
 use Rattle.frontier_audit.specs.Joining.{same_hop, same_schedule, same_mark, same_point, is_join, joins_checked}
 use Rattle.frontier_audit.proofs.Passing.{then_ok, ok_then, refused_not, not_refused}
-use Rattle.frontier_audit.proofs.Proved.{both_true}
+use Rattle.proof_audit.proofs.Proved.{both_true}
 use Rattle.frontier_audit.proofs.Tried.{same_is, same_itself}
 use Rattle.frontier_audit.proofs.Solved.{sums_said}
 

@@ -1,7 +1,6 @@
 pub mod Shelves
 pub mod Unique
 pub mod Passing
-pub mod Proved
 pub mod Beside
 pub mod Audited
 pub mod Tried

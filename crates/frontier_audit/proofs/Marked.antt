@@ -16,7 +16,7 @@ use Rattle.report_form.proofs.Tested.{decides_no_worse, decides_better}
 use Rattle.frontier_audit.specs.Candidates.{is_listed, candidates_within}
 use Rattle.frontier_audit.specs.Solutions.{is_optimal, is_mark}
 use Rattle.frontier_audit.specs.Auditing.{is_answered}
-use Rattle.frontier_audit.proofs.Proved.{both_true}
+use Rattle.proof_audit.proofs.Proved.{both_true}
 use Rattle.frontier_audit.proofs.Tried.{listed_contains, contains_listed, within_listed, each_within}
 
 -- ---- tests of lists

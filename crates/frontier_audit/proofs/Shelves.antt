@@ -10,7 +10,9 @@ use Rattle.candidate_order.specs.declared.candidate.Candidate.{Candidate}
 use Rattle.candidate_order.specs.Frontiers.{QuestionValue, FrontierValue, UnknownValue}
 use Rattle.lrat_checker.proofs.Calm.{never_refuted}
 use Rattle.report_form.specs.Reports.{ReportValue, question_of}
-use Rattle.frontier_audit.specs.Shelves.{file_of, formula_for, HasRefutation, HasLog, PartRight, ShelfRight}
+use Rattle.candidate_formula.specs.Formulas.{formula_for}
+use Rattle.candidate_formula.specs.Files.{file_of, HasRefutation, HasLog}
+use Rattle.frontier_audit.specs.Shelves.{PartRight, ShelfRight}
 
 not_both : {A : Type 0} (o : Option A) (a : A) → o ≡ None → o ≡ Some a → ⊥
 not_both o a e f = absurd (cc)

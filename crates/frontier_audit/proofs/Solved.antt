@@ -17,7 +17,8 @@ use Rattle.inversion.proofs.Told.{sums_exactly}
 use Rattle.collective_spec.specs.Collectives.{adds_up}
 use Rattle.candidate_order.specs.Frontiers.{QuestionValue, PointValue, IsSolvedBy, Achieves, instance_for, demand_for}
 use Rattle.report_form.specs.Reports.{HasSchedule}
-use Rattle.frontier_audit.specs.Solutions.{says_solves, says_sums, is_solution}
+use Rattle.inversion.specs.Saying.{says_solves, says_sums}
+use Rattle.frontier_audit.specs.Solutions.{is_solution}
 
 solves_said : (v : Verdict) → says_solves v ≡ true → v ≡ verdict.Solves
 solves_said verdict.Solves e = refl

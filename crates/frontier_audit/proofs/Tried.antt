@@ -13,7 +13,7 @@ use Rattle.candidate_order.specs.Frontiers.{QuestionValue, IsWithin}
 use Rattle.report_form.specs.Tests.{is_before}
 use Rattle.send_encoding.proofs.Everywhere.{in_map, in_flat, From, in_range}
 use Rattle.frontier_audit.specs.Candidates.{same_candidate, is_listed, counts_of, candidates_of_step, put_in_order, in_search_order, candidates_within}
-use Rattle.frontier_audit.proofs.Proved.{both_true}
+use Rattle.proof_audit.proofs.Proved.{both_true}
 
 -- ---- the test of the same candidate
 

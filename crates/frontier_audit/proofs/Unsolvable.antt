@@ -25,7 +25,8 @@ use Rattle.cnf_formula.specs.Formulas.{Satisfiable}
 use Rattle.report_form.specs.Reports.{ReportValue, IsReport, IsFrontier, parts_of, kind_of, question_of}
 use Rattle.report_form.proofs.ListsTaken.{has_chunk}
 use Rattle.frontier_audit.specs.declared.verdict.AuditVerdict.TheVariants.{Verified}
-use Rattle.frontier_audit.specs.Shelves.{ShelfRight, formula_for}
+use Rattle.candidate_formula.specs.Formulas.{formula_for}
+use Rattle.frontier_audit.specs.Shelves.{ShelfRight}
 use Rattle.frontier_audit.specs.Auditing.{audit_of}
 use Rattle.frontier_audit.proofs.Shelves.{unsatisfiable}
 use Rattle.frontier_audit.proofs.Audited.{shelf_right}

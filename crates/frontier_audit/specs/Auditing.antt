@@ -13,8 +13,9 @@ use Rattle.report_form.specs.Reports.{ReportValue, question_of}
 use Rattle.frontier_audit.specs.declared.verdict.AuditVerdict.{AuditVerdict}
 use Rattle.frontier_audit.specs.declared.verdict.Reason.TheVariants.{ScheduleWrong, MarkWrong, CandidateMissing, ProofMissing, ProofRefused, CnfDiffers, PartialRefused}
 use Rattle.frontier_audit.specs.Denials.{Denial, Checked, each, in_part, verdict_from}
-use Rattle.frontier_audit.specs.Shelves.{file_of, formula_for}
-use Rattle.frontier_audit.specs.Proving.{is_refutation, is_spent_log}
+use Rattle.candidate_formula.specs.Formulas.{formula_for}
+use Rattle.candidate_formula.specs.Files.{file_of}
+use Rattle.proof_audit.specs.Proving.{is_refutation, is_spent_log}
 use Rattle.frontier_audit.specs.Candidates.{is_listed, candidates_within}
 use Rattle.frontier_audit.specs.Solutions.{is_solution, is_optimal, is_mark}
 use Rattle.frontier_audit.specs.Joining.{joined_checked}

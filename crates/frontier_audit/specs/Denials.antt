@@ -7,8 +7,6 @@ use Rattle.frontier_audit.specs.declared.verdict.Reason.{Reason}
 use Rattle.frontier_audit.specs.declared.verdict.Reason.TheVariants.{ScheduleWrong, MarkWrong, CandidateMissing, ProofMissing, ProofRefused, CnfDiffers, PartialRefused, JoinWrong}
 use Rattle.frontier_audit.specs.declared.verdict.AuditVerdict.{AuditVerdict}
 use Rattle.frontier_audit.specs.declared.verdict.AuditVerdict.TheVariants.{Verified, Denied}
-use Rattle.frontier_audit.specs.declared.verdict.AuditFault.{AuditFault}
-use Rattle.frontier_audit.specs.declared.verdict.AuditFault.TheVariants.{ShelfFailed, OutOfMemory}
 
 -- the numbers of the reasons, by which refusals name them
 abbrev pub reason_number : Reason → ℕ
@@ -20,10 +18,6 @@ reason_number ProofRefused = 5
 reason_number CnfDiffers = 6
 reason_number PartialRefused = 7
 reason_number JoinWrong = 8
-
-abbrev pub fault_number : AuditFault → ℕ
-fault_number ShelfFailed = 1
-fault_number OutOfMemory = 2
 
 -- why, and at which candidate
 abbrev pub Denial : Type 0

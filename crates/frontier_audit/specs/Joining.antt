@@ -20,7 +20,7 @@ use Rattle.report_form.specs.Reports.{ReportValue}
 use Rattle.frontier_audit.specs.declared.verdict.Reason.TheVariants.{JoinWrong}
 use Rattle.frontier_audit.specs.Denials.{Denial, Checked, in_part}
 use Rattle.frontier_audit.specs.Candidates.{same_candidate}
-use Rattle.frontier_audit.specs.Solutions.{says_sums}
+use Rattle.inversion.specs.Saying.{says_sums}
 
 abbrev pub same_hop : Hop → Hop → Bool
 same_hop a b = a.chunk == b.chunk && a.from == b.from && a.to == b.to && a.step == b.step

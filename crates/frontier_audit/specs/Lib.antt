@@ -1,7 +1,5 @@
-pub mod Proofs
 pub mod Shelves
 pub mod Denials
-pub mod Proving
 pub mod Candidates
 pub mod Solutions
 pub mod Joining

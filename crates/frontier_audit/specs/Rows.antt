@@ -20,7 +20,7 @@ use Rattle.topology_text.specs.Family.{family_of}
 use Rattle.topology_text.specs.Value.{NamedTopologyValue}
 use Rattle.report_form.specs.Reports.{WordsValue, ReportValue}
 use Rattle.report_form.specs.Rows.{point, relay_report, allreduce_report}
-use Rattle.frontier_audit.specs.Shelves.{file_of}
+use Rattle.candidate_formula.specs.Files.{file_of}
 
 abbrev pub part_number : Part → ℕ
 part_number Whole = 0

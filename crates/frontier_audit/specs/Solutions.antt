@@ -1,12 +1,9 @@
 -- The checks of a point's schedule and of its mark (Cai et al., PPoPP 2021, Pareto-optimal schedules; marks are this project's own).
 use Rattle.std.specs.Prelude.{◌||◌, not, Bool, true, false, if◌then◌else◌}
 use Rattle.std.specs.List.{list_all}
-use Rattle.schedule.specs.declared.verdict.Verdict.{Verdict}
-use Rattle.schedule.specs.declared.verdict.Verdict.TheVariants as verdict
 use Rattle.schedule.specs.Judging.{verdict_of}
-use Rattle.inversion.specs.declared.verdict.SumVerdict.{SumVerdict}
-use Rattle.inversion.specs.declared.verdict.SumVerdict.TheVariants as sums
 use Rattle.inversion.specs.Judging.{sum_verdict_of}
+use Rattle.inversion.specs.Saying.{says_solves, says_sums}
 use Rattle.collective_spec.specs.Collectives.{spec_instance, spec_demand, adds_up}
 use Rattle.candidate_order.specs.declared.candidate.Candidate.{Candidate}
 use Rattle.candidate_order.specs.declared.mark.Mark.{Mark}
@@ -14,14 +11,6 @@ use Rattle.candidate_order.specs.declared.mark.Mark.TheVariants as mark
 use Rattle.candidate_order.specs.Frontiers.{QuestionValue, PointValue, FrontierValue}
 use Rattle.report_form.specs.Tests.{is_better}
 use Rattle.frontier_audit.specs.Candidates.{is_listed, candidates_within}
-
-abbrev pub says_solves : Verdict → Bool
-says_solves verdict.Solves = true
-says_solves _ = false
-
-abbrev pub says_sums : SumVerdict → Bool
-says_sums sums.Sums = true
-says_sums _ = false
 
 -- the schedule solves the collective's instance, or for a reduction sums what it demands
 abbrev pub is_solution : QuestionValue → PointValue → Bool

@@ -10,8 +10,9 @@ pub use laws::{
     refuted_has_no_schedule, refuted_is_unsatisfiable, right_is_verified, unknown_has_a_log,
     verified_copies_are_right, verified_is_right, verified_shelf_is_right,
 };
+pub use proof_audit::AuditFault;
 pub use vectors::{
     allreduce_audited, altered_files_audited, candidates, copies_audited, formula_of_one_step,
     lines, order_of_audit, relay_audited, unknown_audited,
 };
-pub use verdict::{AuditFault, AuditVerdict, Reason};
+pub use verdict::{AuditVerdict, Reason};

@@ -1,7 +1,7 @@
 //! What an audit answers.
 
 ghost use Rattle.std.specs.Prelude.{◌≡◌};
-ghost use Rattle.frontier_audit.specs.Denials.{reason_number, fault_number};
+ghost use Rattle.frontier_audit.specs.Denials.{reason_number};
 
 use candidate_order::Candidate;
 use outer_ports::Part;
@@ -54,25 +54,4 @@ pub enum AuditVerdict {
         part: Part,
         candidate: Candidate,
     },
-}
-
-/// Why a report was not audited.
-#[derive(Clone, Copy, Debug, PartialEq, Eq)]
-pub enum AuditFault {
-    /// The shelf had a fault.
-    ShelfFailed,
-    /// Memory ran out.
-    OutOfMemory,
-}
-
-impl AuditFault {
-    /// The number of the fault, from 1 to 2 in the order of the variants.
-    pub fn number(self) -> u32
-        ensures { result ≡ fault_number self }
-    {
-        match self {
-            AuditFault::ShelfFailed => 1,
-            AuditFault::OutOfMemory => 2,
-        }
-    }
 }

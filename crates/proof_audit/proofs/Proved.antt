@@ -10,9 +10,9 @@ use Rattle.lrat_checker.specs.declared.verdict.LineVerdict.{LineVerdict}
 use Rattle.lrat_checker.specs.declared.verdict.LineVerdict.TheVariants.{Accepted, Refused}
 use Rattle.lrat_checker.specs.Held.{CheckerValue, start_of}
 use Rattle.lrat_checker.specs.Judging.{verdict_of}
-use Rattle.lrat_checker.specs.Refuting.{verdict_on, with_accepted, with_line, is_accepted, is_fresh, AllAccepted, AllImplied, AllFresh, after, Refutes, SpentLog}
+use Rattle.lrat_checker.specs.Refuting.{verdict_on, with_accepted, with_line, is_accepted, is_implied, is_fresh, AllAccepted, AllImplied, AllFresh, after, Refutes, SpentLog}
 use Rattle.lrat_text.specs.declared.fault.LratTextFault.{LratTextFault}
-use Rattle.frontier_audit.specs.Proving.{is_implied, checker_after, is_refuted, do_refute, are_learned, do_spend}
+use Rattle.proof_audit.specs.Proving.{checker_after, is_refuted, do_refute, are_learned, do_spend}
 
 implied_is : (v : LineVerdict) → is_implied v ≡ true → v ≡ Accepted true
 implied_is (Accepted implied) e = ap (λ b. Accepted b) e

@@ -1,21 +1,14 @@
--- The checks of the files beside a report (LRAT: Cruz-Filipe et al. 2017; logs are this project's own).
+-- The tests of files of proof lines (LRAT: Cruz-Filipe et al. 2017; logs are this project's own).
 use Rattle.std.specs.Prelude.{◌==◌, ◌&&◌, ℕ, Bool, true, false, if◌then◌else◌, List, [], ◌∷◌, length, Option, None, Some, Result, Ok, Err, nat_le}
 use Rattle.cnf_formula.specs.Formulas.{FormulaValue}
 use Rattle.cnf_formula.specs.declared.line.LratLine.{LratLine}
 use Rattle.cnf_formula.specs.declared.line.LratLine.TheVariants.{Addition, Deletion}
-use Rattle.lrat_checker.specs.declared.verdict.LineVerdict.{LineVerdict}
-use Rattle.lrat_checker.specs.declared.verdict.LineVerdict.TheVariants.{Accepted, Refused}
 use Rattle.lrat_checker.specs.Held.{CheckerValue, start_of}
 use Rattle.lrat_checker.specs.Judging.{verdict_of}
-use Rattle.lrat_checker.specs.Refuting.{verdict_on, with_accepted, with_line, is_accepted, is_fresh}
+use Rattle.lrat_checker.specs.Refuting.{verdict_on, with_accepted, with_line, is_accepted, is_implied, is_fresh}
 use Rattle.lrat_text.specs.declared.fault.LratTextFault.{LratTextFault}
-use Rattle.frontier_audit.specs.Proofs.{lines_of_text}
-use Rattle.frontier_audit.specs.Shelves.{longest_proof}
-
--- an addition that follows from what is held
-abbrev pub is_implied : LineVerdict → Bool
-is_implied (Accepted implied) = implied
-is_implied (Refused code hint) = false
+use Rattle.candidate_formula.specs.Lines.{lines_of_text}
+use Rattle.candidate_formula.specs.Files.{longest_proof}
 
 -- the checker after these lines, where each is accepted in its turn
 abbrev pub checker_after : CheckerValue → List LratLine → Option CheckerValue

@@ -1,0 +1,5 @@
+pub mod Compared
+pub mod Pieces
+pub mod Proved
+pub mod Saying
+pub mod Whole

@@ -1,0 +1,120 @@
+-- A file that is judged piece by piece.
+use Rattle.std.proofs.Common.{◌≡◌, ◌∙◌, refl, sym, ap, ℕ, ◌+◌, ◌<◌, ◌≤◌, Bool, true, false, Option, None, Some, Ok, List, [], ◌++◌, length, take, drop, subst, arith, append_assoc, IsTrue}
+use Rattle.std.specs.Prelude.{◌&&◌, IfSome, nat_le, if◌then◌else◌}
+use Rattle.std.proofs.Math.Seq.{take-add}
+use Rattle.std.proofs.lemmas.Bool.{le-leb, lt-leb, and_from}
+use Rattle.std.proofs.lemmas.List.{take-append-drop, take_all, length-append, length-take, length-take-le, append-nil}
+use Rattle.outer_ports.specs.Port.{Tells}
+use Rattle.outer_ports.specs.Files.{Files}
+use Rattle.outer_ports.specs.Shelf.{FilesStay, HoldsBytes, ReadsAt}
+use Rattle.outer_ports.specs.declared.proof_name.ProofName.{ProofName}
+use Rattle.outer_ports.specs.declared.shelf_fault.ShelfFault.{ShelfFault}
+use Rattle.proof_audit.specs.declared.verdict.FileVerdict.{FileVerdict}
+use Rattle.proof_audit.specs.declared.verdict.FileVerdict.TheVariants.{Missing, Refused, Stands}
+use Rattle.proof_audit.specs.Files.{file_verdict, short_and, SomePass}
+
+-- the bytes that a judge took, and which are those of the file in front of a place, where the shelf tells it
+pub record IsFront (before now : List ℕ → Bool) (tells : Bool) (file : Option (List ℕ)) (place : ℕ) : Type 0 where
+  pub bytes : List ℕ
+  pub long : length bytes ≡ place
+  pub same : (more : List ℕ) → before (bytes ++ more) ≡ now more
+  pub front : IsTrue tells → (whole : List ℕ) → file ≡ Some whole → bytes ≡ take place whole
+  pub there : IsTrue tells → file ≡ None → place ≡ 0
+
+pub none_taken : (before : List ℕ → Bool) (tells : Bool) (file : Option (List ℕ)) → IsFront before before tells file 0
+none_taken before tells file = record { bytes = []; long = refl; same = λ more. refl; front = λ t whole e. refl; there = λ t e. refl }
+
+-- the piece that comes at a place of the file
+pub record IsPiece (tells : Bool) (file : Option (List ℕ)) (place : ℕ) (piece : List ℕ) : Type 0 where
+  pub there : IsTrue tells → file ≡ None → ⊥
+  pub is : IsTrue tells → (whole : List ℕ) → file ≡ Some whole → piece ≡ take (length piece) (drop place whole)
+
+pub more_taken : (before now next : List ℕ → Bool) (told tells : Bool) (file : Option (List ℕ)) (place n : ℕ) (piece : List ℕ) → IsFront before now told file place → Tells told tells → IsPiece tells file place piece → length piece ≡ n
+    → ((more : List ℕ) → now (piece ++ more) ≡ next more) → IsFront before next tells file (place + n)
+more_taken before now next told tells file place n piece f still p long goes = record {
+  bytes = f.bytes ++ piece;
+  long = omega (arith, length-append f.bytes piece, f.long, long);
+  same = λ more. ap before (append_assoc f.bytes piece more) ∙ f.same (piece ++ more) ∙ goes more;
+  front = λ t whole e. ap (λ bs. bs ++ piece) (f.front (still t) whole e) ∙ ap (λ bs. take place whole ++ bs) (p.is t whole e ∙ ap (λ k. take k (drop place whole)) long) ∙ sym (take-add place n whole);
+  there = λ t e. absurd (p.there t e);
+}
+
+-- what a call of a shelf gave of a file, which is as it was at the start
+module _ (tells : Bool) (at_start files : Files) (name : ProofName) (place : ℕ) (buffer : List ℕ) (answer : Option ℕ) (count : ℕ)
+    (stay : IsTrue tells → FilesStay at_start files) (read : IsTrue tells → ReadsAt {E = ShelfFault} files name place buffer (Ok answer)) (is : answer ≡ Some count) where
+  pub has_file : IsTrue tells → at_start name ≡ None → ⊥
+  has_file t e = let none : answer ≡ None = (read t).none.1 (stay t name ∙ e) in absurd (cc)
+
+  held : IsTrue tells → (whole : List ℕ) → at_start name ≡ Some whole → HoldsBytes whole place buffer count
+  held t whole e = subst (λ o. IfSome o (HoldsBytes whole place buffer)) is ((read t).some whole (stay t name ∙ e))
+
+  pub piece_read : count ≤ length buffer → IsPiece tells (at_start name) place (take count buffer)
+  piece_read within = record {
+    there = has_file;
+    is = λ t whole e. (held t whole e).copied ∙ ap (λ k. take k (drop place whole)) (sym (length-take-le count buffer within));
+  }
+
+  pub end_read : count ≡ 0 → 0 < length buffer → IsTrue tells → (whole : List ℕ) → at_start name ≡ Some whole → length whole ≤ place
+  end_read zero room t whole e = ((held t whole e).end room).0 zero
+
+-- ---- verdicts
+
+by_file : (test : List ℕ → Bool) (file : Option (List ℕ)) (v : FileVerdict) → (file ≡ None → v ≡ Missing) → ((whole : List ℕ) → file ≡ Some whole → v ≡ (if test whole then Stands else Refused)) → v ≡ file_verdict test file
+by_file test None v none some = none refl
+by_file test (Some whole) v none some = some whole refl
+
+pub missing_is : (test : List ℕ → Bool) (file : Option (List ℕ)) → file ≡ None → Missing ≡ file_verdict test file
+missing_is test file e = sym (ap (file_verdict test) e)
+
+failing : (test : List ℕ → Bool) (whole : List ℕ) → test whole ≡ false → Refused ≡ (if test whole then Stands else Refused)
+failing test whole e = sym (ap (λ b. if b then Stands else Refused) e)
+
+none_and : (a : Bool) → (a && false) ≡ false
+none_and true = refl
+none_and false = refl
+
+module _ (before now : List ℕ → Bool) (told : Bool) (file : Option (List ℕ)) (place limit : ℕ) (f : IsFront before now told file place) where
+  -- the piece can't begin what passes
+  pub refused_piece : (tells : Bool) (piece : List ℕ) → Tells told tells → IsPiece tells file place piece → ((more : List ℕ) → now (piece ++ more) ≡ false) → IsTrue tells → Refused ≡ file_verdict (short_and limit before) file
+  refused_piece tells piece still p over t = by_file (short_and limit before) file Refused (λ e. absurd (p.there t e)) some
+    where
+      some : (whole : List ℕ) → file ≡ Some whole → Refused ≡ (if short_and limit before whole then Stands else Refused)
+      some whole e =
+          let rest = drop (length piece) (drop place whole) in
+          let behind : piece ++ rest ≡ drop place whole = ap (λ bs. bs ++ rest) (p.is t whole e) ∙ take-append-drop (length piece) (drop place whole) in
+          let all : f.bytes ++ (piece ++ rest) ≡ whole = ap (λ bs. f.bytes ++ bs) behind ∙ ap (λ bs. bs ++ drop place whole) (f.front (still t) whole e) ∙ take-append-drop place whole in
+          let fails : before whole ≡ false = ap before (sym all) ∙ f.same (piece ++ rest) ∙ over rest in
+          failing (short_and limit before) whole (ap (λ b. nat_le (length whole) limit && b) fails ∙ none_and (nat_le (length whole) limit))
+
+  -- more bytes came than may
+  pub refused_length : limit < place → IsTrue told → Refused ≡ file_verdict (short_and limit before) file
+  refused_length more t = by_file (short_and limit before) file Refused (λ e. let z = f.there t e in absurd (omega (arith, z, more))) some
+    where
+      some : (whole : List ℕ) → file ≡ Some whole → Refused ≡ (if short_and limit before whole then Stands else Refused)
+      some whole e =
+          let size = ap length (f.front t whole e) in
+          let long : limit < length whole = omega (arith, size, f.long, length-take place whole, more) in
+          failing (short_and limit before) whole (ap (λ b. b && before whole) (lt-leb (length whole) limit long))
+
+  -- no more bytes come
+  pub ended : (tells : Bool) (passed : Bool) → Tells told tells → (IsTrue tells → file ≡ None → ⊥) → (IsTrue tells → (whole : List ℕ) → file ≡ Some whole → length whole ≤ place) → place ≤ limit → passed ≡ now [] → IsTrue tells
+      → (if passed then Stands else Refused) ≡ file_verdict (short_and limit before) file
+  ended tells passed still there end within is t = by_file (short_and limit before) file (if passed then Stands else Refused) (λ e. absurd (there t e)) some
+    where
+      some : (whole : List ℕ) → file ≡ Some whole → (if passed then Stands else Refused) ≡ (if short_and limit before whole then Stands else Refused)
+      some whole e =
+          let last = end t whole e in
+          let all : f.bytes ≡ whole = f.front (still t) whole e ∙ take_all place whole last in
+          let same : now [] ≡ before whole = sym (f.same []) ∙ ap before (append-nil f.bytes ∙ all) in
+          let short : nat_le (length whole) limit ≡ true = le-leb (length whole) limit (omega (arith, last, within)) in
+          ap (λ b. if b then Stands else Refused) (is ∙ same ∙ sym (ap (λ b. b && before whole) short))
+
+  pub some_passed : (passed : Bool) → place ≤ limit → passed ≡ now [] → (if passed then Stands else Refused) ≡ Stands → SomePass (short_and limit before)
+  some_passed passed within is stands = record {
+    bytes = f.bytes;
+    pass = and_from (nat_le (length f.bytes) limit) (before f.bytes) (le-leb (length f.bytes) limit (omega (arith, f.long, within))) (ap before (sym (append-nil f.bytes)) ∙ f.same [] ∙ sym is ∙ stood passed stands);
+  }
+    where
+      stood : (b : Bool) → (if b then Stands else Refused) ≡ Stands → b ≡ true
+      stood true e = refl
+      stood false e = absurd (cc)

@@ -1,0 +1,64 @@
+-- What is said of a whole file of proof lines.
+use Rattle.std.proofs.Common.{◌≡◌, ◌∙◌, refl, sym, ap, ℕ, Bool, List, length, Option, None, Some, Result, Ok, Err}
+use Rattle.std.specs.Prelude.{◌&&◌, ◌==◌, IfOk, nat_le, if◌then◌else◌}
+use Rattle.std.proofs.lemmas.Bool.{and_parts}
+use Rattle.cnf_formula.specs.Formulas.{FormulaValue, Satisfiable}
+use Rattle.cnf_formula.specs.declared.line.LratLine.{LratLine}
+use Rattle.lrat_checker.specs.Held.{start_of}
+use Rattle.lrat_checker.proofs.Calm.{never_refuted}
+use Rattle.lrat_text.specs.declared.fault.LratTextFault.{LratTextFault}
+use Rattle.lrat_text.specs.Reading.{new_reader}
+use Rattle.candidate_formula.specs.Lines.{lines_of_text}
+use Rattle.candidate_formula.specs.Files.{longest_proof}
+use Rattle.proof_audit.specs.declared.fault.AuditFault.{AuditFault}
+use Rattle.proof_audit.specs.declared.verdict.FileVerdict.{FileVerdict}
+use Rattle.proof_audit.specs.declared.verdict.FileVerdict.TheVariants.{Stands, Refused}
+use Rattle.proof_audit.specs.Proving.{is_refuted, checker_after, do_refute, is_refutation, are_learned, do_spend, is_spent_log}
+use Rattle.proof_audit.specs.Files.{file_verdict, short_and, SomePass, HasSpentLog}
+use Rattle.proof_audit.specs.Lines.{left_says, lines_pass}
+use Rattle.proof_audit.proofs.Proved.{refutes_by, spent_by}
+
+-- ---- tests that agree
+
+module _ (test other : List ℕ → Bool) (same : (bytes : List ℕ) → test bytes ≡ other bytes) where
+  same_verdict : (file : Option (List ℕ)) → file_verdict test file ≡ file_verdict other file
+  same_verdict None = refl
+  same_verdict (Some bytes) = ap (λ b. if b then Stands else Refused) (same bytes)
+
+  pub verdict_as : (file : Option (List ℕ)) (result : Result FileVerdict AuditFault) → IfOk result (λ v. v ≡ file_verdict test file) → IfOk result (λ v. v ≡ file_verdict other file)
+  verdict_as file (Ok v) is = is ∙ same_verdict file
+  verdict_as file (Err fault) is = tt
+
+  pub some_as : SomePass test → SomePass other
+  some_as some = record { bytes = some.bytes; pass = sym (same some.bytes) ∙ some.pass }
+
+-- ---- refutations
+
+module _ (f : FormulaValue) (passes : List ℕ → Bool) (test : List LratLine → Bool) (by_lines : (bytes : List ℕ) → passes bytes ≡ lines_pass test (left_says new_reader bytes)) where
+  pub refutation_is : ((lines : List LratLine) → test lines ≡ is_refuted (checker_after (start_of f) lines)) → (bytes : List ℕ) → short_and longest_proof passes bytes ≡ is_refutation f bytes
+  refutation_is refutes bytes = ap (λ b. nat_le (length bytes) longest_proof && b) (by_lines bytes ∙ go (lines_of_text bytes))
+    where
+      go : (said : Result (List LratLine) LratTextFault) → lines_pass test said ≡ do_refute f said
+      go (Ok lines) = refutes lines
+      go (Err fault) = refl
+
+  pub log_is : (n : ℕ) → ((lines : List LratLine) → test lines ≡ (length lines == n && are_learned (start_of f) lines)) → (bytes : List ℕ) → short_and longest_proof passes bytes ≡ is_spent_log f n bytes
+  log_is n learned bytes = ap (λ b. nat_le (length bytes) longest_proof && b) (by_lines bytes ∙ go (lines_of_text bytes))
+    where
+      go : (said : Result (List LratLine) LratTextFault) → lines_pass test said ≡ do_spend f n said
+      go (Ok lines) = learned lines
+      go (Err fault) = refl
+
+-- bytes that refute a formula leave it no satisfying assignment
+pub never_satisfied : (f : FormulaValue) → SomePass (is_refutation f) → Satisfiable f → ⊥
+never_satisfied f some s =
+    let parts = and_parts (nat_le (length some.bytes) longest_proof) (do_refute f (lines_of_text some.bytes)) some.pass in
+    let (lines, says, refutes) = refutes_by f (lines_of_text some.bytes) parts.1 in
+    never_refuted f lines s refutes
+
+-- bytes that are a log give one
+pub has_log : (f : FormulaValue) (n : ℕ) → SomePass (is_spent_log f n) → HasSpentLog f n
+has_log f n some =
+    let parts = and_parts (nat_le (length some.bytes) longest_proof) (do_spend f n (lines_of_text some.bytes)) some.pass in
+    let by = spent_by f n (lines_of_text some.bytes) parts.1 in
+    ∣ record { lines = by.added; spent = by.spent } ∣₁

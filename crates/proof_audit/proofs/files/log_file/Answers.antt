@@ -1,0 +1,15 @@
+use Rattle.proof_audit.specs.Proving.{is_spent_log}
+use Rattle.proof_audit.proofs.Whole.{verdict_as, some_as, log_is, has_log}
+use Rattle.proof_audit.proofs.files.log_file.Goals as goal
+
+pub returns-clause-exact : goal.returns-clause-exact
+returns-clause-exact g c = λ t.
+    let f = c.args.formula.now in
+    let same = log_is f _ _ c.in_ok-judge.ensures.passes c.args.count c.in_ok-test.ensures in
+    verdict_as _ (is_spent_log f c.args.count) same (g.H.Shelf.file c.args.shelf.now c.args.name) c.judge_file.result (c.judge_file.ensures.exact t)
+
+pub returns-clause-log : goal.returns-clause-log
+returns-clause-log g c = λ e.
+    let f = c.args.formula.now in
+    let same = log_is f _ _ c.in_ok-judge.ensures.passes c.args.count c.in_ok-test.ensures in
+    has_log f c.args.count (some_as _ (is_spent_log f c.args.count) same (c.judge_file.ensures.some e))

@@ -1,0 +1,4 @@
+pub mod Proving
+pub mod Faults
+pub mod Files
+pub mod Lines

@@ -1,0 +1,18 @@
+//! Whether a file beside a report is what it has to be: the text of a formula, a refutation of it, or a spent log of it.
+#![tactic(auto)]
+
+mod fault;
+mod files;
+mod judge;
+mod line_test;
+mod lines_judge;
+mod log_test;
+mod refutation_test;
+#[cfg(test)]
+mod tests;
+mod text_judge;
+mod verdict;
+
+pub use fault::AuditFault;
+pub use files::{formula_file, log_file, refutation_file};
+pub use verdict::FileVerdict;
