@@ -1,19 +1,22 @@
 -- How a run ends, from what its answer says.
-use Rattle.std.proofs.Common.{◌≡◌, ◌≢◌, ◌++◌, ℕ, suc, ◌+◌, List, ◌∷◌, take, None, Contains, inl, inr, Result, Ok, Err, refl, sym, subst, ap, arith, ◌∙◌}
+use Rattle.std.proofs.Common.{◌≡◌, ◌≢◌, ◌++◌, ℕ, suc, ◌+◌, List, ◌∷◌, take, Option, None, Contains, inl, inr, Result, Ok, Err, refl, sym, subst, ap, arith, ◌∙◌}
 use Rattle.outer_ports.specs.Port.{Rose}
+use Rattle.collective_spec.specs.declared.kind.Kind.{Kind}
+use Rattle.candidate_order.specs.Ranges.{LimitsValue}
+use Rattle.command_words.specs.declared.command.RootWord.{RootWord}
 use Rattle.command_words.specs.declared.command.Command.{Command}
 use Rattle.command_words.specs.declared.command.Command.TheVariants as command
 use Rattle.command_words.specs.declared.fault.WordFault.{WordFault}
 use Rattle.sccl_run.specs.declared.status.Status.{Status}
-use Rattle.sccl_run.specs.declared.status.Status.TheVariants.{Done, OutOfMemory, BadWords, SourceFailed, SinkFailed, ShelfFailed, BadReport, Denied, TooLong}
+use Rattle.sccl_run.specs.declared.status.Status.TheVariants.{Done, OutOfMemory, BadWords, BadTopology, SourceFailed, SinkFailed, ShelfFailed, BadReport, Denied, TooLarge, NoCandidate, TooLong}
 use Rattle.sccl_run.specs.Built.{Built}
-use Rattle.sccl_run.specs.Asked.{Ask, Reads, asked}
+use Rattle.sccl_run.specs.Asked.{Ask, Changes, Opens, Reads, asked}
 use Rattle.sccl_run.specs.Refusals.{Refusal, refusal_line}
-use Rattle.sccl_run.specs.Tasks.{Task, Synthesise, Audit, Replay, Program, Family, Try, due, replayed}
+use Rattle.sccl_run.specs.Tasks.{Task, Synthesise, Audit, Replay, Program, Family, Try, due, replayed, synthesis_of}
 use Rattle.sccl_run.specs.Owed.{Owed}
-use Rattle.sccl_run.specs.TopCall.{CountValue, EndsIfItFails, EndsTask, IsCall, IsDenial, IsDue, IsFree, IsSilent, StatusIsDue, TextIsDue, ends_of, no_shelf}
+use Rattle.sccl_run.specs.TopCall.{CountValue, EndsIfItFails, EndsTask, IsCall, IsDenial, IsDue, IsFree, IsSilent, StatusIsDue, TextIsDue, ends_of}
 use Rattle.sccl_run.specs.Answering.{Ends, Says}
-use Rattle.sccl_run.proofs.Refused.{With, replay_ends, never_free}
+use Rattle.sccl_run.proofs.Refused.{With, replay_ends, synth_ends, never_free}
 
 -- ---- with which status an answer ends
 
@@ -36,6 +39,28 @@ replay_ends_so built number word bytes status text says =
     let report : P BadReport = record { one = (3, omega arith, refl); given = not_free BadReport (λ e. cc) (λ e. cc) (λ e. cc) (λ e. cc) } in
     let long : P TooLong = record { one = (4, omega arith, refl); given = not_free TooLong (λ e. cc) (λ e. cc) (λ e. cc) (λ e. cc) } in
     says_with P (replayed built number word None bytes) status text (replay_ends P long report words built number word None bytes) done says
+
+-- an answer to a search
+module _ (kind : Kind) (word : ℕ) (limits : LimitsValue) (root : Option RootWord) where
+  Sought : Status → Type 0
+  Sought = Ends (Ok (command.Synth kind word limits root))
+
+  pub synth_ends_so : (bytes : List ℕ) (status : Status) (text : List ℕ) → Says (synthesis_of kind word limits root bytes) status text → Ends (Ok (command.Synth kind word limits root)) status
+  unfolding Sought
+  synth_ends_so bytes status text says =
+      let done : Sought Done = record { one = (0, omega arith, refl); given = not_free Done (λ e. cc) (λ e. cc) (λ e. cc) (λ e. cc) } in
+      let words : Sought BadWords = record { one = (1, omega arith, refl); given = not_free BadWords (λ e. cc) (λ e. cc) (λ e. cc) (λ e. cc) } in
+      let topology : Sought BadTopology = record { one = (2, omega arith, refl); given = not_free BadTopology (λ e. cc) (λ e. cc) (λ e. cc) (λ e. cc) } in
+      let large : Sought TooLarge = record { one = (5, omega arith, refl); given = not_free TooLarge (λ e. cc) (λ e. cc) (λ e. cc) (λ e. cc) } in
+      let none : Sought NoCandidate = record { one = (6, omega arith, refl); given = not_free NoCandidate (λ e. cc) (λ e. cc) (λ e. cc) (λ e. cc) } in
+      let long : Sought TooLong = record { one = (7, omega arith, refl); given = not_free TooLong (λ e. cc) (λ e. cc) (λ e. cc) (λ e. cc) } in
+      says_with Sought (synthesis_of kind word limits root bytes) status text (synth_ends Sought long words topology large none kind word limits root bytes) done says
+
+  pub long_search_ends_so : (status : Status) → status ≡ TooLong → Ends (Ok (command.Synth kind word limits root)) status
+  unfolding Sought
+  long_search_ends_so status e =
+      let own : Sought TooLong = record { one = (7, omega arith, refl); given = not_free TooLong (λ e. cc) (λ e. cc) (λ e. cc) (λ e. cc) } in
+      subst Sought (sym e) own
 
 pub long_ends_so : (number word : ℕ) (status : Status) → status ≡ TooLong → Ends (Ok (command.Replay number word None)) status
 long_ends_so number word status e =
@@ -66,69 +91,113 @@ may_fail (command.Programs number word) reads = (2, omega arith, refl)
 may_fail (command.Family kind size) reads = absurd reads
 may_fail (command.Trial n) reads = absurd reads
 
+-- and words that change files can end by a fault of the shelf
+may_fail_shelf : (c : Command) → Changes c → Contains (ends_of (Ok c)) ShelfFailed
+may_fail_shelf (command.Synth kind word limits root) changes = (4, omega arith, refl)
+may_fail_shelf command.Check changes = absurd changes
+may_fail_shelf (command.Replay number word order) changes = absurd changes
+may_fail_shelf (command.Programs number word) changes = absurd changes
+may_fail_shelf (command.Family kind size) changes = absurd changes
+may_fail_shelf (command.Trial n) changes = absurd changes
+
+-- what changes files reads the source and opens files
+change_opens : (c : Command) → Changes c → Reads c × Opens c
+change_opens (command.Synth kind word limits root) changes = (tt, tt)
+change_opens command.Check changes = absurd changes
+change_opens (command.Replay number word order) changes = absurd changes
+change_opens (command.Programs number word) changes = absurd changes
+change_opens (command.Family kind size) changes = absurd changes
+change_opens (command.Trial n) changes = absurd changes
+
+pub asks_reads : (built : Built) (words : List (List ℕ)) → Ask Changes built words → Ask Reads built words
+asks_reads built words ask = record { command = ask.command; is = ask.is; such = (change_opens ask.command ask.such).0 }
+
+asks_opens : (built : Built) (words : List (List ℕ)) → Ask Changes built words → Ask Opens built words
+asks_opens built words ask = record { command = ask.command; is = ask.is; such = (change_opens ask.command ask.such).1 }
+
 quiet : (failed status : Status) (count : CountValue) → status ≢ failed → count.now ≡ count.before → EndsIfItFails failed status count
 quiet failed status count other same = record { only = λ e. absurd (other e); kept = λ _. same }
 
-module _ (built : Built) (words : List (List ℕ)) (source sink : CountValue) (SourceStays SinkStays : Type 0) where
-  pub call_ended : (status : Status) → Ends (asked built words) status → source.now ≡ source.before → sink.now ≡ sink.before → (¬ Ask Reads built words → SourceStays)
-      → IsCall built words status source sink no_shelf SourceStays SinkStays (Unit {0})
-  call_ended status ends read written unread = record {
+heard : IsSilent SinkFailed → ⊥
+heard (inl e) = absurd (cc)
+heard (inr (inl e)) = absurd (cc)
+heard (inr (inr e)) = absurd (cc)
+
+free : (status : Status) → IsSilent status → IsFree status
+free status (inl e) = inl e
+free status (inr (inl e)) = inr (inl e)
+free status (inr (inr e)) = inr (inr (inr e))
+
+module _ (built : Built) (words : List (List ℕ)) (source sink shelf : CountValue) (SourceStays SinkStays ShelfStays : Type 0) where
+  pub call_ended : (status : Status) → Ends (asked built words) status → source.now ≡ source.before → sink.now ≡ sink.before → shelf.now ≡ shelf.before → (¬ Ask Reads built words → SourceStays) → (¬ Ask Changes built words → ShelfStays)
+      → IsCall built words status source sink shelf SourceStays SinkStays ShelfStays
+  call_ended status ends read written kept unread unchanged = record {
     ends = behind_two OutOfMemory SinkFailed status (ends_of (asked built words)) ends.one;
     source_fails = quiet SourceFailed status source (λ e. ends.given (inr (inl e))) read;
     sink_fails = quiet SinkFailed status sink (λ e. ends.given (inr (inr (inl e)))) written;
-    shelf_fails = quiet ShelfFailed status no_shelf (λ e. ends.given (inr (inr (inr e)))) refl;
+    shelf_fails = quiet ShelfFailed status shelf (λ e. ends.given (inr (inr (inr e)))) kept;
     unread = unread;
-    unopened = λ _. tt;
-    silent = λ silent. absurd (ends.given (free silent));
+    unopened = λ none. unchanged (λ ask. none (asks_opens built words ask));
+    silent = λ silent. absurd (ends.given (free status silent));
   }
-    where
-      free : IsSilent status → IsFree status
-      free (inl e) = inl e
-      free (inr (inl e)) = inr (inl e)
-      free (inr (inr e)) = inr (inr (inr e))
 
-  pub call_unwritten : source.now ≡ source.before → Rose sink.before sink.now → (¬ Ask Reads built words → SourceStays)
-      → IsCall built words SinkFailed source sink no_shelf SourceStays SinkStays (Unit {0})
-  call_unwritten read rose unread = record {
+  pub call_unwritten : source.now ≡ source.before → Rose sink.before sink.now → shelf.now ≡ shelf.before → (¬ Ask Reads built words → SourceStays) → (¬ Ask Changes built words → ShelfStays)
+      → IsCall built words SinkFailed source sink shelf SourceStays SinkStays ShelfStays
+  call_unwritten read rose kept unread unchanged = record {
     ends = (1, omega arith, refl);
     source_fails = quiet SourceFailed SinkFailed source (λ e. cc) read;
     sink_fails = record { only = λ _. rose; kept = λ other. absurd (other refl) };
-    shelf_fails = quiet ShelfFailed SinkFailed no_shelf (λ e. cc) refl;
+    shelf_fails = quiet ShelfFailed SinkFailed shelf (λ e. cc) kept;
     unread = unread;
-    unopened = λ _. tt;
+    unopened = λ none. unchanged (λ ask. none (asks_opens built words ask));
     silent = λ silent. absurd (heard silent);
   }
-    where
-      heard : IsSilent SinkFailed → ⊥
-      heard (inl e) = cc
-      heard (inr (inl e)) = cc
-      heard (inr (inr e)) = cc
 
-  pub call_without_memory : source.now ≡ source.before → sink.now ≡ sink.before → SinkStays → (¬ Ask Reads built words → SourceStays)
-      → IsCall built words OutOfMemory source sink no_shelf SourceStays SinkStays (Unit {0})
-  call_without_memory read written stays unread = record {
+  pub call_without_memory : source.now ≡ source.before → sink.now ≡ sink.before → shelf.now ≡ shelf.before → SinkStays → (¬ Ask Reads built words → SourceStays) → (¬ Ask Changes built words → ShelfStays)
+      → IsCall built words OutOfMemory source sink shelf SourceStays SinkStays ShelfStays
+  call_without_memory read written kept stays unread unchanged = record {
     ends = (0, omega arith, refl);
     source_fails = quiet SourceFailed OutOfMemory source (λ e. cc) read;
     sink_fails = quiet SinkFailed OutOfMemory sink (λ e. cc) written;
-    shelf_fails = quiet ShelfFailed OutOfMemory no_shelf (λ e. cc) refl;
+    shelf_fails = quiet ShelfFailed OutOfMemory shelf (λ e. cc) kept;
     unread = unread;
-    unopened = λ _. tt;
+    unopened = λ none. unchanged (λ ask. none (asks_opens built words ask));
     silent = λ _. stays;
   }
 
-  pub call_unread : Ask Reads built words → Rose source.before source.now → sink.now ≡ sink.before → SinkStays
-      → IsCall built words SourceFailed source sink no_shelf SourceStays SinkStays (Unit {0})
-  call_unread ask rose written stays = record {
+  pub call_unread : Ask Reads built words → Rose source.before source.now → sink.now ≡ sink.before → shelf.now ≡ shelf.before → SinkStays → ShelfStays
+      → IsCall built words SourceFailed source sink shelf SourceStays SinkStays ShelfStays
+  call_unread ask rose written kept stays untouched = record {
     ends = behind_two OutOfMemory SinkFailed SourceFailed (ends_of (asked built words)) (subst (λ x. Contains (ends_of x) SourceFailed) (sym ask.is) (may_fail ask.command ask.such));
     source_fails = record { only = λ _. rose; kept = λ other. absurd (other refl) };
     sink_fails = quiet SinkFailed SourceFailed sink (λ e. cc) written;
-    shelf_fails = quiet ShelfFailed SourceFailed no_shelf (λ e. cc) refl;
+    shelf_fails = quiet ShelfFailed SourceFailed shelf (λ e. cc) kept;
     unread = λ none. absurd (none ask);
-    unopened = λ _. tt;
+    unopened = λ _. untouched;
+    silent = λ _. stays;
+  }
+
+  pub call_unshelved : Ask Changes built words → source.now ≡ source.before → sink.now ≡ sink.before → Rose shelf.before shelf.now → SinkStays
+      → IsCall built words ShelfFailed source sink shelf SourceStays SinkStays ShelfStays
+  call_unshelved ask read written rose stays = record {
+    ends = behind_two OutOfMemory SinkFailed ShelfFailed (ends_of (asked built words)) (subst (λ x. Contains (ends_of x) ShelfFailed) (sym ask.is) (may_fail_shelf ask.command ask.such));
+    source_fails = quiet SourceFailed ShelfFailed source (λ e. cc) read;
+    sink_fails = quiet SinkFailed ShelfFailed sink (λ e. cc) written;
+    shelf_fails = record { only = λ _. rose; kept = λ other. absurd (other refl) };
+    unread = λ none. absurd (none (asks_reads built words ask));
+    unopened = λ none. absurd (none (asks_opens built words ask));
     silent = λ _. stays;
   }
 
 -- ---- which status, and which text
+
+-- what was appended is the text
+pub appended_as : (before now text other : List ℕ) → now ≡ before ++ other → other ≡ text → now ≡ before ++ text
+appended_as before now text other appended same = subst (λ end. now ≡ before ++ end) same appended
+
+-- and so is the part of it
+pub part_appended_as : (before now text other : List ℕ) (count : ℕ) → now ≡ before ++ take count other → other ≡ text → now ≡ before ++ take count text
+part_appended_as before now text other count appended same = subst (λ end. now ≡ before ++ take count end) same appended
 
 says_refused : (x : Result Task Refusal) (status : Status) (text : List ℕ) (r : Refusal) → Says x status text → x ≡ Err r → (status ≡ r.status) × (text ≡ refusal_line r)
 says_refused x status text r says e = subst (λ y. Says y status text) e says
@@ -176,6 +245,10 @@ module _ (built : Built) (words : List (List ℕ)) (bytes : List ℕ) where
   pub status_free : (status : Status) → IsFree status → status ≢ ShelfFailed → StatusIsDue built words bytes status
   status_free status free shelf = record { refused = λ r _. inr free; done = λ t _. ends_freely t status free; shelf_last = λ r _. shelf }
 
+  -- the shelf failed behind every refusal
+  pub status_unshelved : ((r : Refusal) → due built words bytes ≡ Err r → ⊥) → StatusIsDue built words bytes ShelfFailed
+  status_unshelved last = record { refused = λ r e. absurd (last r e); done = λ t _. ends_freely t ShelfFailed (inr (inr (inr refl))); shelf_last = λ r e. absurd (last r e) }
+
   pub text_ended : (before now : List ℕ) (status : Status) (text : List ℕ) → Ends (asked built words) status → Says (due built words bytes) status text → now ≡ before ++ text → TextIsDue built words bytes before now status
   text_ended before now status text ends says written = record {
     line = λ r e _. written ∙ ap (λ end. before ++ end) (says_refused _ status text r says e).1;
@@ -203,6 +276,14 @@ module _ (built : Built) (words : List (List ℕ)) (bytes : List ℕ) where
   pub text_unread : (before now : List ℕ) → TextIsDue built words bytes before now SourceFailed
   text_unread before now = record {
     line = λ r e s. absurd (never_free built words bytes r e (inr (inl (sym s))));
+    owed = λ t _ s. absurd (cc);
+    denial = λ s. absurd (cc);
+    prefix = λ s. absurd (cc);
+  }
+
+  pub text_unshelved : (before now : List ℕ) → TextIsDue built words bytes before now ShelfFailed
+  text_unshelved before now = record {
+    line = λ r e s. absurd (never_free built words bytes r e (inr (inr (inr (sym s)))));
     owed = λ t _ s. absurd (cc);
     denial = λ s. absurd (cc);
     prefix = λ s. absurd (cc);

@@ -1,9 +1,11 @@
-pub mod HolderLines
-pub mod InRange
-pub mod Pointed
 pub mod Refused
 pub mod DueWords
+pub mod IfDue
+pub mod Recorded
+pub mod Planned
+pub mod Reported
 pub mod Ending
+pub mod FilesEnding
 pub mod ReportsDue
 pub mod RightRuns
 pub mod FamilyRun

@@ -8,7 +8,8 @@ use Rattle.collective_spec.specs.Collectives.{fits_kind}
 use Rattle.topology_text.specs.Answer.{code_number as topology_number}
 use Rattle.topology_text.specs.Reading.{topology_of}
 use Rattle.report_form.specs.Answer.{code_number as report_number}
-use Rattle.report_form.specs.Reports.{ReportValue}
+use Rattle.topology_text.specs.Value.{NamedTopologyValue}
+use Rattle.report_form.specs.Reports.{WordsValue, ReportValue}
 use Rattle.report_form.specs.Reading.{report_of}
 use Rattle.frontier_audit.specs.Candidates.{counts_of}
 use Rattle.command_words.specs.declared.command.RootWord.{RootWord}
@@ -20,11 +21,11 @@ use Rattle.sccl_run.specs.declared.status.Status.TheVariants.{Done, BadWords, Ba
 use Rattle.sccl_run.specs.Built.{Built}
 use Rattle.sccl_run.specs.Asked.{asked as command_asked}
 use Rattle.round_encoding.specs.Candidates.{size_limit}
-use Rattle.sccl_run.specs.Size.{size_of}
-use Rattle.sccl_run.specs.Showing.{shown_in, is_copied}
+use Rattle.candidate_formula.specs.Sizes.{size_of}
+use Rattle.point_replay.specs.Showing.{shown_in, is_copied}
 use Rattle.sccl_run.specs.TopCall.{IsFree}
 use Rattle.sccl_run.specs.Refusals.{Refusal, refused_as}
-use Rattle.sccl_run.specs.Tasks.{due, task_of, words_asked, words_for, whole_question, root_in, searchable, synthesis_of, read_report, point_in, replay_in, replayed}
+use Rattle.sccl_run.specs.Tasks.{due, task_of, words_asked, words_for, whole_question, root_in, searchable, search_for, synthesis_of, read_report, point_in, replay_in, replayed}
 
 -- what is refused is refused with such a status
 abbrev pub With : {A : Type 0} → (Status → Type 0) → Result A Refusal → Type 0
@@ -68,15 +69,18 @@ module _ (P : Status → Type 0) where
   rooted bad names None = tt
   rooted bad names (Some root) = needed _ _ bad
 
-  module _ (long : P TooLong) (bad : P BadWords) (topology : P BadTopology) (report : P BadReport) (large : P TooLarge) (none : P NoCandidate) where
-    synthesised : (kind : Kind) (word : ℕ) (limits : LimitsValue) (root : Option RootWord) (bytes : List ℕ) → With P (synthesis_of kind word limits root bytes)
-    synthesised kind word limits root bytes =
-        bind _ _ (refused (nat_lt _ (length bytes)) _ long) (λ _. bind _ _ (coded BadTopology topology_number (topology_of bytes) topology) (λ t.
-        bind _ _ (refused (not (fits_kind kind t.custom)) _ bad) (λ _. bind _ _ (rooted bad t.names root) (λ node.
-        bind _ _ (sized large none (whole_question (words_for kind limits node) t)) (λ _. tt)))))
+  module _ (long : P TooLong) (bad : P BadWords) (topology : P BadTopology) (large : P TooLarge) (none : P NoCandidate) where
+    sought : (w : WordsValue) (t : NamedTopologyValue) → With P (search_for w t)
+    sought w t = bind _ _ (sized large none (whole_question w t)) (λ _. tt)
 
+    pub synth_ends : (kind : Kind) (word : ℕ) (limits : LimitsValue) (root : Option RootWord) (bytes : List ℕ) → With P (synthesis_of kind word limits root bytes)
+    synth_ends kind word limits root bytes =
+        bind _ _ (refused (nat_lt _ (length bytes)) _ long) (λ _. bind _ _ (coded BadTopology topology_number (topology_of bytes) topology) (λ t.
+        bind _ _ (refused (not (fits_kind kind t.custom)) _ bad) (λ _. bind _ _ (rooted bad t.names root) (λ node. sought (words_for kind limits node) t))))
+
+  module _ (long : P TooLong) (bad : P BadWords) (topology : P BadTopology) (report : P BadReport) (large : P TooLarge) (none : P NoCandidate) where
     tasked : (built : Built) (c : Command) (bytes : List ℕ) → With P (task_of built c bytes)
-    tasked built (command.Synth kind word limits root) bytes = synthesised kind word limits root bytes
+    tasked built (command.Synth kind word limits root) bytes = synth_ends long bad topology large none kind word limits root bytes
     tasked built command.Check bytes = bind _ _ (report_read long report bytes) (λ r. bind _ _ (sized large none (whole_question r.words r.topology)) (λ _. tt))
     tasked built (command.Replay number word order) bytes = replay_ends long report bad built number word order bytes
     tasked built (command.Programs number word) bytes = bind _ _ (report_read long report bytes) (λ r. bind _ _ (pointed bad r number word) (λ _. tt))

@@ -20,13 +20,13 @@ use Rattle.sccl_run.specs.declared.status.Status.TheVariants.{BadWords, BadRepor
 use Rattle.sccl_run.specs.Answering.{Says}
 use Rattle.sccl_run.specs.Built.{Built, so_far}
 use Rattle.sccl_run.specs.Refusals.{Refusal, refused_at, refused_as}
-use Rattle.sccl_run.specs.Showing.{is_copied, shown_in}
+use Rattle.point_replay.specs.Showing.{is_copied, shown_in}
 use Rattle.sccl_run.specs.Tasks.{Task, Replay, due, limit, read_report, replay_in, replayed, whole_text}
 use Rattle.sccl_run.specs.Reporting.{AskReplay, IsRefusedText, IsTextOf}
 use Rattle.sccl_run.proofs.DueWords.{due_command, says_as}
 
 -- a text that is not too long passes
-short_passes : (bytes : List ℕ) → length bytes ≤ limit → whole_text bytes ≡ Ok tt
+pub short_passes : (bytes : List ℕ) → length bytes ≤ limit → whole_text bytes ≡ Ok tt
 short_passes bytes short = let test : nat_lt limit (length bytes) ≡ false = le-ltb limit (length bytes) short in rw test refl
 
 pub report_due : (bytes : List ℕ) (x : Result ReportValue (ReportCode × ℕ)) → length bytes ≤ limit → report_of bytes ≡ x → read_report bytes ≡ refused_as BadReport code_number x

@@ -39,14 +39,10 @@ use Rattle.sccl_run.specs.OwedFiles.{Proves}
 use Rattle.sccl_run.specs.TopCall.{CountValue, IsFree, IsRun, RunValue}
 use Rattle.sccl_run.specs.Rows.{all_tell}
 use Rattle.sccl_run.proofs.DueWords.{due_command}
+use Rattle.sccl_run.proofs.IfDue.{IfDue, then}
 use Rattle.sccl_run.proofs.ReportsDue.{report_due}
 
 -- ---- a search that is due is small enough, and has a candidate
-
--- of a task that is due
-IfDue : {A : Type 0} → (A → Type 0) → Result A Refusal → Type 0
-IfDue P (Ok x) = P x
-IfDue P (Err r) = Unit {0}
 
 Fits : Task → Type 0
 Fits (Synthesise w t) = searchable (whole_question w t) ≡ Ok tt
@@ -56,20 +52,15 @@ Fits (Program r n p) = Unit {0}
 Fits (Family k n) = Unit {0}
 Fits (Try n) = Unit {0}
 
-then : {A B : Type 0} (P : B → Type 0) (x : Result A Refusal) (f : A → Result B Refusal) → ((a : A) → x ≡ Ok a → IfDue P (f a)) → IfDue P (x >>= f)
-unfolding IfDue
-then P (Ok a) f h = h a refl
-then P (Err r) f h = tt
-
 search_fits : (kind : Kind) (word : ℕ) (limits : LimitsValue) (root : Option RootWord) (bytes : List ℕ) → IfDue Fits (synthesis_of kind word limits root bytes)
-unfolding IfDue Fits
+unfolding Fits
 search_fits kind word limits root bytes =
     then Fits (whole_text bytes) _ (λ _ _. then Fits (refused_as BadTopology topology_number (topology_of bytes)) _ (λ t _.
     then Fits (refuse (not (fits_kind kind t.custom)) (refused_at BadWords 12 word)) _ (λ _ _. then Fits (root_in t.names root) _ (λ node _.
     then Fits (searchable (whole_question (words_for kind limits node) t)) _ (λ u e. e)))))
 
 tasks_fit : (c : Command) (bytes : List ℕ) → IfDue Fits (task_of everything c bytes)
-unfolding IfDue Fits
+unfolding Fits
 tasks_fit (command.Synth kind word limits root) bytes = search_fits kind word limits root bytes
 tasks_fit command.Check bytes = then Fits (read_report bytes) _ (λ r _. then Fits (searchable (whole_question r.words r.topology)) _ (λ _ _. tt))
 tasks_fit (command.Replay number word order) bytes = then Fits (read_report bytes) _ (λ r _. then Fits (point_in r number word) _ (λ p _. tt))
@@ -82,7 +73,7 @@ unfolding due
 due_fits words bytes = then Fits (words_asked (asked everything words)) _ (λ c _. tasks_fit c bytes)
 
 searched : (words : List (List ℕ)) (bytes : List ℕ) (w : WordsValue) (t : NamedTopologyValue) → due everything words bytes ≡ Ok (Synthesise w t) → searchable (whole_question w t) ≡ Ok tt
-unfolding IfDue Fits
+unfolding Fits
 searched words bytes w t e = subst (IfDue Fits) e (due_fits words bytes)
 
 -- ---- the check of its report

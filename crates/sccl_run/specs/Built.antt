@@ -1,5 +1,6 @@
 -- Which commands are built. The theorem of the top call is stated for any set of them: `everything` is the whole product, `so_far` what `run` does today.
-use Rattle.std.specs.Prelude.{Bool, true, false, None}
+use Rattle.std.specs.Prelude.{Bool, true, false, not, None}
+use Rattle.collective_spec.specs.Collectives.{reduces}
 use Rattle.command_words.specs.declared.command.Command.{Command}
 use Rattle.command_words.specs.declared.command.Command.TheVariants as command
 
@@ -12,9 +13,9 @@ pub record Built : Type 0 where
 abbrev pub everything : Built
 everything = record { commands = λ c. true; adding = true }
 
--- replays without an order, and the families
+-- searches of collectives that copy, replays without an order, and the families
 abbrev pub is_built : Command → Bool
-is_built (command.Synth kind word limits root) = false
+is_built (command.Synth kind word limits root) = not (reduces kind)
 is_built command.Check = false
 is_built (command.Replay number word None) = true
 is_built (command.Replay number word order) = false

@@ -6,17 +6,17 @@ use Rattle.outer_ports.specs.Files.{Files}
 use Rattle.text_lines.specs.Text.{line}
 use Rattle.lrat_checker.specs.Refuting.{Exhausted}
 use Rattle.allreduce_join.specs.Joins.{Joins}
-use Rattle.candidate_order.specs.Frontiers.{PointValue, FrontierValue, RightFrontier, Searched}
+use Rattle.candidate_order.specs.Frontiers.{FrontierValue, RightFrontier, Searched}
 use Rattle.topology_text.specs.Value.{NamedTopologyValue}
 use Rattle.topology_text.specs.Family.{family_of}
 use Rattle.topology_text.specs.Spelling.{spelling}
-use Rattle.node_programs.specs.Programs.{programs_of}
-use Rattle.node_programs.specs.Printing.{programs_text}
 use Rattle.report_form.specs.Reports.{WordsValue, ReportValue, IsReport, question_of}
 use Rattle.report_form.specs.Spelling.{report_text}
-use Rattle.frontier_audit.specs.Shelves.{ShelfRight, formula_for}
+use Rattle.candidate_formula.specs.Formulas.{formula_for}
+use Rattle.frontier_audit.specs.Shelves.{ShelfRight}
 use Rattle.sccl_run.specs.Tasks.{Task, Synthesise, Audit, Replay, Program, Family, Try}
-use Rattle.sccl_run.specs.Showing.{shown_in, shown_text, nodes_of, adding_of}
+use Rattle.point_replay.specs.Showing.{shown_in, shown_text}
+use Rattle.point_replay.specs.Points.{programs_of_point}
 use Rattle.sccl_run.specs.Trials.{trial_words, trial_topology, trial_text}
 
 -- ---- what a report says is right
@@ -60,9 +60,6 @@ pub record Synthesises (w : WordsValue) (t : NamedTopologyValue) (text : List �
 pub record Verifies (r : ReportValue) (text : List ℕ) : Type 0 where
   pub written : text ≡ line (codes "verified" ∷ [])
   pub right : IsRight r
-
-abbrev pub programs_of_point : ReportValue → ℕ → Part × PointValue → List ℕ
-programs_of_point r number p = let s = shown_in r p in programs_text number r.topology.names (programs_of (nodes_of s) p.1.schedule (adding_of s))
 
 -- a search of its own, with files of its own, is summed up
 pub record Tries (n : ℕ) (text : List ℕ) : Type 0 where

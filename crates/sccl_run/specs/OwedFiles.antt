@@ -1,39 +1,24 @@
 -- What a search owes of the files: what it leaves where it was done, and where it broke off.
-use Rattle.std.specs.Prelude.{◌≡◌, ◌⊎◌, ℕ, List, [], ◌++◌, All, Any, Contains, Some}
-use Rattle.outer_ports.specs.declared.part.Part.{Part}
-use Rattle.outer_ports.specs.declared.proof_name.FileKind.{FileKind}
-use Rattle.outer_ports.specs.declared.proof_name.FileKind.TheVariants.{Cnf, Lrat, Partial}
+use Rattle.std.specs.Prelude.{◌≡◌, ◌⊎◌, ℕ, List, All, Any, Contains, Some}
+use Rattle.outer_ports.specs.declared.proof_name.FileKind.TheVariants.{Lrat, Partial}
 use Rattle.outer_ports.specs.declared.proof_name.ProofName.{ProofName}
+use Rattle.outer_ports.specs.declared.part.Part.{Part}
 use Rattle.outer_ports.specs.Files.{Files}
-use Rattle.cnf_formula.specs.Formulas.{FormulaValue}
-use Rattle.cnf_formula.specs.declared.line.LratLine.{LratLine}
-use Rattle.lrat_checker.specs.Held.{start_of}
-use Rattle.lrat_checker.specs.Refuting.{AllAccepted}
-use Rattle.lrat_text.specs.Printing.{cnf_text, lrat_text}
-use Rattle.candidate_order.specs.declared.candidate.Candidate.{Candidate}
 use Rattle.candidate_order.specs.Frontiers.{QuestionValue, FrontierValue, IsTried, IsWithin, solved, given_up}
+use Rattle.candidate_formula.specs.Formulas.{formula_for}
+use Rattle.candidate_formula.specs.Files.{candidate_of, HasFormula, IsEmptied}
+use Rattle.candidate_formula.specs.Begun.{Begins}
 use Rattle.topology_text.specs.Value.{NamedTopologyValue}
 use Rattle.report_form.specs.Reports.{WordsValue, ReportValue, parts_of, question_of}
-use Rattle.frontier_audit.specs.Shelves.{ShelfRight, file_of, formula_for}
+use Rattle.frontier_audit.specs.Shelves.{ShelfRight}
 
 -- ---- a search that was done
-
--- the text of the candidate's formula stands there
-abbrev pub HasFormula : Part → QuestionValue → Files → Candidate → Type 0
-HasFormula part q files x = files (file_of Cnf part x) ≡ Some (cnf_text (formula_for q x))
-
--- the file stands there, and nothing is in it
-abbrev pub IsEmptied : FileKind → Part → Files → Candidate → Type 0
-IsEmptied kind part files x = files (file_of kind part x) ≡ Some []
 
 -- each candidate that was settled has its formula there, and what it needs no more is emptied
 pub record IsKept (part : Part) (q : QuestionValue) (files : Files) (f : FrontierValue) : Type 0 where
   pub solved : All (λ x. HasFormula part q files x × IsEmptied Lrat part files x × IsEmptied Partial part files x) (solved f)
   pub refuted : All (λ x. HasFormula part q files x × IsEmptied Partial part files x) f.refuted
   pub unknown : All (λ x. HasFormula part q files x × IsEmptied Lrat part files x) (given_up f)
-
-abbrev pub candidate_of : ProofName → Candidate
-candidate_of name = record { s = name.s; r = name.r; c = name.c }
 
 -- the file belongs to a candidate that a part of the report tells of
 abbrev pub IsOf : ReportValue → ProofName → Type 0
@@ -46,21 +31,6 @@ pub record Proves (report : ReportValue) (before after : Files) : Type 0 where
   pub others : (name : ProofName) → (IsOf report name → ⊥) → after name ≡ before name
 
 -- ---- a search that broke off
-
-pub record IsPrefix (part whole : List ℕ) : Type 0 where
-  pub rest : List ℕ
-  pub is : part ++ rest ≡ whole
-
--- the bytes begin the text of lines that are accepted in their turn
-pub record BeginsLines (f : FormulaValue) (bytes : List ℕ) : Type 0 where
-  pub lines : List LratLine
-  pub accepted : AllAccepted (start_of f) lines
-  pub prefix : IsPrefix bytes (lrat_text lines)
-
-abbrev pub Begins : FormulaValue → FileKind → List ℕ → Type 0
-Begins f Cnf bytes = IsPrefix bytes (cnf_text f)
-Begins f Lrat bytes = BeginsLines f bytes
-Begins f Partial bytes = BeginsLines f bytes
 
 -- the file belongs to a part of the search and to a candidate within its limits, and what stands there was begun by a search
 pub record IsBegun (w : WordsValue) (t : NamedTopologyValue) (files : Files) (name : ProofName) : Type 0 where

@@ -1,20 +1,17 @@
 -- Small runs.
 use Rattle.std.specs.Prelude.{ℕ, true, List, [], ◌∷◌, None, Some, codes}
-use Rattle.outer_ports.specs.declared.part.Part.TheVariants.{Whole, Joined}
+use Rattle.outer_ports.specs.declared.part.Part.TheVariants.{Whole}
 use Rattle.outer_ports.specs.declared.proof_name.FileKind.{FileKind}
 use Rattle.outer_ports.specs.declared.proof_name.ProofName.{ProofName}
 use Rattle.outer_ports.specs.Files.{Files}
 use Rattle.candidate_order.specs.declared.candidate.Candidate.{Candidate}
-use Rattle.candidate_order.specs.declared.mark.Mark.TheVariants as mark
-use Rattle.schedule.specs.Rows.{plan, send, pair_allreduce}
 use Rattle.report_form.specs.Reports.{ReportValue}
-use Rattle.report_form.specs.Rows.{broadcast_report, allreduce_report}
+use Rattle.report_form.specs.Rows.{broadcast_report}
 use Rattle.report_form.specs.Spelling.{report_text}
-use Rattle.frontier_audit.specs.Shelves.{file_of}
+use Rattle.candidate_formula.specs.Files.{file_of}
 use Rattle.sccl_run.specs.declared.status.Status.{Status}
 use Rattle.sccl_run.specs.declared.status.Status.TheVariants.{Done, BadReport}
 use Rattle.sccl_run.specs.TopCall.{RunValue, ToldValue}
-use Rattle.sccl_run.specs.Showing.{Shown, shown_in}
 use Rattle.sccl_run.specs.Trials.{trial_words, trial_topology}
 
 -- a shelf without files
@@ -32,28 +29,6 @@ moved_text = codes "topology 2\nnodes a b c\ngroup 1 a>b\ngroup 1 b>c\ncustom 1\
 -- the words of a search with one step and one chunk
 abbrev pub search : List ℕ → List (List ℕ) → List (List ℕ)
 search collective more = codes "synth" ∷ collective ∷ codes "k=0" ∷ codes "steps=1" ∷ codes "chunks=1" ∷ codes "conflicts=1000" ∷ more
-
--- the broadcast of one chunk on two nodes
-abbrev pub broadcast_point : Shown
-broadcast_point = shown_in broadcast_report (
-  Whole,
-  record {
-    candidate = record { s = 1; r = 1; c = 1 };
-    schedule = plan (1 ∷ []) (send 0 0 1 1 ∷ []);
-    mark = mark.Optimal;
-  },
-)
-
--- the joined point of an allreduce on two nodes
-abbrev pub joined_point : Shown
-joined_point = shown_in allreduce_report (
-  Joined,
-  record {
-    candidate = record { s = 2; r = 2; c = 1 };
-    schedule = pair_allreduce;
-    mark = mark.Joined 1;
-  },
-)
 
 -- the report of the trial that the number stands for, with these refuted candidates and no point
 abbrev pub refuted_trial : ℕ → List Candidate → ReportValue

@@ -30,8 +30,8 @@ use Rattle.sccl_run.specs.Refusals.{Refusal, refused_at, refused_as}
 use Rattle.sccl_run.specs.Built.{Built}
 use Rattle.sccl_run.specs.Asked.{asked}
 use Rattle.round_encoding.specs.Candidates.{size_limit}
-use Rattle.sccl_run.specs.Size.{size_of}
-use Rattle.sccl_run.specs.Showing.{shown_in, is_copied}
+use Rattle.candidate_formula.specs.Sizes.{size_of}
+use Rattle.point_replay.specs.Showing.{shown_in, is_copied}
 
 -- the greatest number of bytes that are read
 abbrev pub limit : ℕ
@@ -67,15 +67,24 @@ whole_question w t = record { topology = t.topology; spec = spec_of w.collective
 abbrev pub words_for : Kind → LimitsValue → ℕ → WordsValue
 words_for kind limits root = record { collective = record { kind = kind; root = root }; limits = limits }
 
+-- the search, where it is small enough and has a candidate
+abbrev pub search_for : WordsValue → NamedTopologyValue → Result Task Refusal
+search_for w t = do
+  _ ← searchable (whole_question w t)
+  Ok (Synthesise w t)
+
 -- a topology with a pattern is for the kind custom, and only it
+abbrev pub search_over : Kind → ℕ → LimitsValue → Option RootWord → NamedTopologyValue → Result Task Refusal
+search_over kind kind_word limits root topology = do
+  _ ← refuse (not (fits_kind kind topology.custom)) (refused_at BadWords 12 kind_word)
+  node ← root_in topology.names root
+  search_for (words_for kind limits node) topology
+
 abbrev pub synthesis_of : Kind → ℕ → LimitsValue → Option RootWord → List ℕ → Result Task Refusal
 synthesis_of kind kind_word limits root bytes = do
   _ ← whole_text bytes
   topology ← refused_as BadTopology topology_number (topology_of bytes)
-  _ ← refuse (not (fits_kind kind topology.custom)) (refused_at BadWords 12 kind_word)
-  node ← root_in topology.names root
-  _ ← searchable (whole_question (words_for kind limits node) topology)
-  Ok (Synthesise (words_for kind limits node) topology)
+  search_over kind kind_word limits root topology
 
 abbrev pub read_report : List ℕ → Result ReportValue Refusal
 read_report bytes = do

@@ -10,11 +10,11 @@ ghost use Rattle.sccl_run.specs.Tasks.{Family, limit, replay_in, replayed};
 ghost use Rattle.sccl_run.specs.Answering.{Says};
 
 use crate::OutOfMemory;
-use crate::point::replay_point;
 use crate::status::Status;
 use command_words::WordCode;
-use frontier_report::{Report, point_at, read_report};
-use report_form::{ReportCode, ReportFault};
+use frontier_report::read_report;
+use point_replay::replay_copied_point as replay_point;
+use report_form::{Report, ReportCode, ReportFault, point_at};
 use std::alloc::Global;
 use text_lines::{push_number, push_word};
 use topology_text::{FamilyKind, family, print_topology};

@@ -12,7 +12,7 @@ ghost use Rattle.report_form.specs.Spelling.{report_text};
 ghost use Rattle.sccl_run.specs.Built.{Built, everything, so_far};
 ghost use Rattle.sccl_run.specs.Refusals.{Refusal, refused_at};
 ghost use Rattle.sccl_run.specs.Reporting.{AskReplay, IsRefusedText, IsTextOf};
-ghost use Rattle.sccl_run.specs.Showing.{is_copied, shown_in};
+ghost use Rattle.point_replay.specs.Showing.{is_copied, shown_in};
 ghost use Rattle.sccl_run.specs.Tasks.{Replay, Synthesise, due, limit};
 ghost use Rattle.sccl_run.specs.TopCall.{CountValue, IsFree, IsRun, RunValue, StatusIsDue, TextIsDue};
 ghost use Rattle.sccl_run.specs.Rows.{all_tell, done_search, failed_search, family_run, own_file, refused_check};

@@ -2,10 +2,13 @@
 #![tactic(auto)]
 
 mod answer;
+mod halt;
+mod jobs;
 mod laws;
-mod point;
-mod replaying;
+mod planning;
+mod reading;
 mod status;
+mod synth;
 #[cfg(test)]
 mod tests;
 mod toplevel;
@@ -21,4 +24,4 @@ pub use laws::{
 pub use status::Status;
 pub use std::alloc::AllocError as OutOfMemory;
 pub use toplevel::run;
-pub use vectors::{replays, reports_due, searches_due, sizes, trials, words_due};
+pub use vectors::{reports_due, searches_due, sizes, trials, words_due};

@@ -1,10 +1,12 @@
 //! Whole runs over ports in memory.
 
 use crate::{Status, run};
-use outer_ports::{MemorySink, MemorySource, SureSink, SureSource};
+use outer_ports::{MemorySink, MemorySource, SureShelf, SureSink, SureSource};
 use std::alloc::{AllocError, Global};
 use std::process::Abort;
 use std::test::Fail;
+
+mod searches;
 
 const REPORT: &[u8] =
     b"sccl 1\nsynth collective=broadcast k=0 steps=1 chunks=1 conflicts=1000 root=n0\ntopology 1\nnodes n0 n1\ngroup 1 n0>n1\ngroup 1 n1>n0\nfrontier whole\npoint 1 1 1 optimal\nrounds 1\nsend 0 n0 n1 1\nend\n";
@@ -31,7 +33,8 @@ fn runs(
     let words = words(alloc, all)?;
     let mut source = SureSource::new(Vec::from_slice(alloc, bytes)?);
     let mut sink = MemorySink::new(alloc, 4096, Vec::new(alloc))?;
-    let ended = run(alloc, &words, &mut source, &mut sink);
+    let mut shelf = SureShelf::new(alloc)?;
+    let ended = run(alloc, &words, &mut source, &mut sink, &mut shelf);
     assert_eq!(rt; ended, status);
     assert_eq!(rt; sink.bytes(), text);
     Ok(())
@@ -53,7 +56,8 @@ fn refuses(rt: &(impl Abort + AllocGlobal), all: &[&str], text: &[u8]) -> Result
     let words = words(alloc, all)?;
     let mut source = MemorySource::new(Vec::new(alloc), 1, vec![in alloc; 0]?);
     let mut sink = MemorySink::new(alloc, 7, Vec::new(alloc))?;
-    let ended = run(alloc, &words, &mut source, &mut sink);
+    let mut shelf = SureShelf::new(alloc)?;
+    let ended = run(alloc, &words, &mut source, &mut sink, &mut shelf);
     assert_eq!(rt; ended, Status::BadWords);
     assert_eq!(rt; sink.bytes(), text);
     Ok(())
@@ -256,8 +260,9 @@ fn prefixes_of_a_report(rt: HostRuntime) -> Result<(), Fail> {
     for end in 0..TWO_POINTS.len() {
         let mut source = SureSource::new(Vec::from_slice(alloc, &TWO_POINTS[..end])?);
         let mut sink = SureSink::new(alloc)?;
+        let mut shelf = SureShelf::new(alloc)?;
         assert_eq!(rt;
-            run(alloc, &words, &mut source, &mut sink),
+            run(alloc, &words, &mut source, &mut sink, &mut shelf),
             Status::BadReport
         );
     }
@@ -300,7 +305,7 @@ fn refusals_of_words(rt: HostRuntime) -> Result<(), Fail> {
                 "steps=1",
                 "k=0",
                 "conflicts=1",
-                "collective=gather",
+                "collective=reduce",
             ],
             b"refused 2 11 0\n",
         ),
@@ -311,7 +316,7 @@ fn refusals_of_words(rt: HostRuntime) -> Result<(), Fail> {
         (
             &[
                 "synth",
-                "collective=custom",
+                "collective=allreduce",
                 "k=0",
                 "steps=1",
                 "chunks=1",
@@ -341,7 +346,7 @@ fn numbers_at_both_ends(rt: HostRuntime) -> Result<(), Fail> {
         (
             &[
                 "synth",
-                "collective=gather",
+                "collective=reduce",
                 "steps=1",
                 "chunks=1",
                 "conflicts=1",
@@ -351,7 +356,7 @@ fn numbers_at_both_ends(rt: HostRuntime) -> Result<(), Fail> {
         (
             &[
                 "synth",
-                "collective=gather",
+                "collective=reduce",
                 "k=0",
                 "chunks=1",
                 "conflicts=1",
@@ -361,7 +366,7 @@ fn numbers_at_both_ends(rt: HostRuntime) -> Result<(), Fail> {
         (
             &[
                 "synth",
-                "collective=gather",
+                "collective=reduce",
                 "k=0",
                 "steps=1",
                 "conflicts=1",
@@ -369,7 +374,7 @@ fn numbers_at_both_ends(rt: HostRuntime) -> Result<(), Fail> {
             ["chunks=1", "chunks=16", "chunks=0", "chunks=17"],
         ),
         (
-            &["synth", "collective=gather", "k=0", "steps=1", "chunks=1"],
+            &["synth", "collective=reduce", "k=0", "steps=1", "chunks=1"],
             [
                 "conflicts=1",
                 "conflicts=100000",
@@ -550,7 +555,8 @@ fn fails(
     let report = Vec::from_slice(alloc, REPORT)?;
     let mut source = MemorySource::new(report, piece, vec![in alloc; read]?);
     let mut sink = MemorySink::new(alloc, piece, vec![in alloc; written]?)?;
-    let ended = run(alloc, &words, &mut source, &mut sink);
+    let mut shelf = SureShelf::new(alloc)?;
+    let ended = run(alloc, &words, &mut source, &mut sink, &mut shelf);
     assert!(rt; REPLAY.starts_with(sink.bytes()));
     Ok(ended)
 }

@@ -1,93 +1,31 @@
 //! The top call.
 
-ghost use Rattle.std.specs.Prelude.{◌≡◌, ◌≢◌, ◌⊎◌, ◌+◌, ◌≤◌, ℕ, IsTrue, true, false, None, Err, Ok, IfOk, IfSome, IfNone, drop};
-ghost use Rattle.sccl_run.specs.declared.toplevel.Halt.TheVariants.{Memory};
+ghost use Rattle.std.specs.Prelude.{◌≡◌, ◌≢◌, ◌⊎◌, ◌+◌, ◌≤◌, ℕ, IsTrue, Err, IfOk, drop};
 ghost use Rattle.outer_ports.specs.Port.{Rose, Tells};
-ghost use Rattle.command_words.specs.declared.command.Command.TheVariants as command;
 ghost use Rattle.command_words.specs.Words.{texts};
-ghost use Rattle.sccl_run.specs.Built.{is_built, so_far};
-ghost use Rattle.sccl_run.specs.Jobs.{command_of_job};
-ghost use Rattle.sccl_run.specs.Asked.{Ask, Reads, asked};
-ghost use Rattle.sccl_run.specs.Tasks.{due, limit, replayed};
-ghost use Rattle.sccl_run.specs.Answering.{Ends, Says};
-ghost use Rattle.sccl_run.specs.TopCall.{IsCall, Knows, LeftIsDue, StatusIsDue, TextIsDue, no_shelf};
+ghost use Rattle.sccl_run.specs.Built.{so_far};
+ghost use Rattle.sccl_run.specs.Refusals.{Refusal};
+ghost use Rattle.sccl_run.specs.Asked.{Ask, Changes, Reads, asked};
+ghost use Rattle.sccl_run.specs.Tasks.{due, limit};
+ghost use Rattle.sccl_run.specs.Answering.{BeginsDue, Ends, ProvesDue, Says};
+ghost use Rattle.sccl_run.specs.TopCall.{FilesAreDue, IsCall, Knows, LeftIsDue, StatusIsDue, TextIsDue};
 
-use crate::answer::{Answer, LIMIT, family_answer, refused_word, report_answer, too_long};
+use crate::answer::{Answer, family_answer, refused_word};
+use crate::halt::Halt;
+use crate::jobs::{Job, job_of};
+use crate::reading::{replay_answer, synth_answer};
 use crate::status::Status;
-use command_words::{Command, WordCode, read_words};
-use outer_ports::{Failed, ReadFault, Sink, Source, read_all, write_all};
-use std::alloc::{AllocError, Global};
-use topology_text::FamilyKind;
-
-/// Why there is no answer.
-#[derive(Drop)]
-enum Halt {
-    Memory,
-    Source,
-}
-
-impl From<AllocError> for Halt {
-    ghost from_gives = { λ _ halt. halt ≡ Memory };
-
-    fn from(_e: AllocError) -> Halt {
-        Halt::Memory
-    }
-}
-
-/// What is done of what the words can ask for: the commands that are built.
-enum Job {
-    Family { kind: FamilyKind, size: u8 },
-    Replay { point: u32, word: u32 },
-}
-
-/// The job of a command; `None` exactly where the command is not built.
-fn job_of(command: &Command) -> Option<Job>
-    ensures built { IfSome result (λ job. (is_built command.now ≡ true) × (command.now ≡ command_of_job job)) }
-    ensures not_built { IfNone result (is_built command.now ≡ false) }
-{
-    match command {
-        Command::Family { kind, size } => Some(Job::Family {
-            kind: *kind,
-            size: *size,
-        }),
-        Command::Replay {
-            point,
-            point_word,
-            order: None,
-        } => Some(Job::Replay {
-            point: *point,
-            word: *point_word,
-        }),
-        _ => None,
-    }
-}
-
-/// The answer to a replay, over what the source gives.
-fn replay_answer<I: Source>(
-    alloc: Global,
-    source: &mut I,
-    number: u32,
-    word: u32,
-) -> Result<Answer, Halt>
-    ensures told { Tells (I.tells source.old) (I.tells source.new) }
-    ensures failed { result ≡ Err Halt.Source → Rose (I.faults source.old) (I.faults source.new) }
-    ensures kept { result ≢ Err Halt.Source → I.faults source.new ≡ I.faults source.old }
-    ensures ends { IfOk result (λ a. Ends (Ok (command.Replay number word None)) a.status) }
-    ensures says { IsTrue (I.tells source.new) → IfOk result (λ a. Says (replayed so_far number word None (I.left source.old)) a.status a.text.items) }
-    ensures read { IsTrue (I.tells source.new) → IfOk result (λ _. I.left source.new ≡ drop (limit + 1) (I.left source.old)) }
-    ensures memory { IsTrue (I.tells source.new) → result ≡ Err Halt.Memory → (I.left source.new ≡ I.left source.old) ⊎ (I.left source.new ≡ drop (limit + 1) (I.left source.old)) }
-    ensures part { IsTrue (I.tells source.new) → result ≡ Err Halt.Source → (count : ℕ) × (count ≤ limit + 1) × (I.left source.new ≡ drop count (I.left source.old)) }
-{
-    match read_all(alloc, source, LIMIT) {
-        Ok(text) => Ok(report_answer(alloc, &text, number, word)?),
-        Err(ReadFault::TooLong) => Ok(too_long(alloc)?),
-        Err(ReadFault::Failed) => Err(Halt::Source),
-        Err(ReadFault::OutOfMemory) => Err(Halt::Memory),
-    }
-}
+use command_words::{WordCode, read_words};
+use outer_ports::{Failed, Shelf, Sink, Source, write_all};
+use std::alloc::Global;
 
 /// The answer to the words and to what the source gives.
-fn answer<I: Source>(alloc: Global, words: &[String], source: &mut I) -> Result<Answer, Halt>
+fn answer<I: Source, H: Shelf>(
+    alloc: Global,
+    words: &[String],
+    source: &mut I,
+    shelf: &mut H,
+) -> Result<Answer, Halt>
     ensures told { Tells (I.tells source.old) (I.tells source.new) }
     ensures failed { result ≡ Err Halt.Source → Rose (I.faults source.old) (I.faults source.new) }
     ensures kept { result ≢ Err Halt.Source → I.faults source.new ≡ I.faults source.old }
@@ -98,11 +36,22 @@ fn answer<I: Source>(alloc: Global, words: &[String], source: &mut I) -> Result<
     ensures read { IsTrue (I.tells source.new) → Ask Reads so_far (texts words.now) → IfOk result (λ _. I.left source.new ≡ drop (limit + 1) (I.left source.old)) }
     ensures memory { IsTrue (I.tells source.new) → result ≡ Err Halt.Memory → (I.left source.new ≡ I.left source.old) ⊎ (I.left source.new ≡ drop (limit + 1) (I.left source.old)) }
     ensures part { IsTrue (I.tells source.new) → result ≡ Err Halt.Source → (count : ℕ) × (count ≤ limit + 1) × (I.left source.new ≡ drop count (I.left source.old)) }
+    ensures behind { IsTrue (I.tells source.new) → result ≡ Err Halt.Shelf → I.left source.new ≡ drop (limit + 1) (I.left source.old) }
+    ensures shelf_told { Tells (H.tells shelf.old) (H.tells shelf.new) }
+    ensures shelf_failed { result ≡ Err Halt.Shelf → Rose (H.faults shelf.old) (H.faults shelf.new) }
+    ensures shelf_kept { result ≢ Err Halt.Shelf → H.faults shelf.new ≡ H.faults shelf.old }
+    ensures changes { result ≡ Err Halt.Shelf → Ask Changes so_far (texts words.now) }
+    ensures unchanged { ¬ Ask Changes so_far (texts words.now) → shelf.new ≡ shelf.old }
+    ensures unopened { result ≡ Err Halt.Source → shelf.new ≡ shelf.old }
+    ensures begins { Knows (I.tells source.new) so_far (texts words.now) → IsTrue (H.tells shelf.new) → BeginsDue (due so_far (texts words.now) (I.left source.old)) (H.file shelf.old) (H.file shelf.new) }
+    ensures proves { Knows (I.tells source.new) so_far (texts words.now) → IsTrue (H.tells shelf.new) → IfOk result (λ a. ProvesDue (due so_far (texts words.now) (I.left source.old)) a.text.items (H.file shelf.old) (H.file shelf.new)) }
+    ensures last { Knows (I.tells source.new) so_far (texts words.now) → result ≡ Err Halt.Shelf → (r : Refusal) → due so_far (texts words.now) (I.left source.old) ≡ Err r → ⊥ }
 {
     match read_words(words) {
         Ok(command) => match job_of(&command) {
             Some(Job::Family { kind, size }) => Ok(family_answer(alloc, kind, size)?),
             Some(Job::Replay { point, word }) => replay_answer(alloc, source, point, word),
+            Some(Job::Synth(asked)) => synth_answer(alloc, source, shelf, asked),
             None => Ok(refused_word(alloc, WordCode::NotBuilt, 0)?),
         },
         Err(fault) => Ok(refused_word(alloc, fault.code, fault.word)?),
@@ -112,17 +61,20 @@ fn answer<I: Source>(alloc: Global, words: &[String], source: &mut I) -> Result<
 /// Does what the words ask for, and writes one text to the sink: what the command gives, or the line of a refusal. The
 /// status says how it ended.
 ///
-/// Two commands are built. `family` writes the topology text of a family, and reads nothing. `replay point=N` reads a
-/// report from the source, and writes the replay of its point, where that point copies.
-pub fn run<I: Source, O: Sink>(
+/// Three commands are built. `synth` reads a topology from the source, searches the schedules of a collective that copies,
+/// writes the report, and keeps the formulas and the proofs on the shelf. `replay point=N` reads a report from the source,
+/// and writes the replay of its point, where that point copies. `family` writes the topology text of a family, and reads
+/// nothing.
+pub fn run<I: Source, O: Sink, H: Shelf>(
     alloc: Global,
     words: &[String],
     source: &mut I,
     sink: &mut O,
+    shelf: &mut H,
 ) -> Status
     // Whatever the ports tell: how the words can end, that a fault of a port ends the run and nothing else gives its
     // status, and what is not touched.
-    ensures call { IsCall so_far (texts words.now) result (record { before = I.faults source.old; now = I.faults source.new }) (record { before = O.faults sink.old; now = O.faults sink.new }) no_shelf (source.new ≡ source.old) (sink.new ≡ sink.old) (Unit {0}) }
+    ensures call { IsCall so_far (texts words.now) result (record { before = I.faults source.old; now = I.faults source.new }) (record { before = O.faults sink.old; now = O.faults sink.new }) (record { before = H.faults shelf.old; now = H.faults shelf.new }) (source.new ≡ source.old) (sink.new ≡ sink.old) (shelf.new ≡ shelf.old) }
 
     // Where the source tells its bytes, or is not read: which status comes, and what is left of the source.
     ensures status { Knows (I.tells source.new) so_far (texts words.now) → StatusIsDue so_far (texts words.now) (I.left source.old) result }
@@ -131,16 +83,21 @@ pub fn run<I: Source, O: Sink>(
     // Where the sink tells too: what is written.
     ensures text { Knows (I.tells source.new) so_far (texts words.now) → IsTrue (O.tells sink.new) → TextIsDue so_far (texts words.now) (I.left source.old) (O.written sink.old) (O.written sink.new) result }
 
+    // Where the shelf tells too: what stands on it.
+    ensures files { Knows (I.tells source.new) so_far (texts words.now) → IsTrue (O.tells sink.new) → IsTrue (H.tells shelf.new) → FilesAreDue so_far (texts words.now) (I.left source.old) (O.written sink.old) (O.written sink.new) (H.file shelf.old) (H.file shelf.new) result }
+
     // What a port tells after the run it told before.
     ensures source_told { Tells (I.tells source.old) (I.tells source.new) }
     ensures sink_told { Tells (O.tells sink.old) (O.tells sink.new) }
+    ensures shelf_told { Tells (H.tells shelf.old) (H.tells shelf.new) }
 {
-    match answer(alloc, words, source) {
+    match answer(alloc, words, source, shelf) {
         Ok(answer) => match write_all(sink, &answer.text) {
             Ok(()) => answer.status,
             Err(Failed) => Status::SinkFailed,
         },
         Err(Halt::Memory) => Status::OutOfMemory,
         Err(Halt::Source) => Status::SourceFailed,
+        Err(Halt::Shelf) => Status::ShelfFailed,
     }
 }

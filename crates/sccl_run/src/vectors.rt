@@ -5,13 +5,12 @@ ghost use Rattle.topology_text.specs.Family.{family_of};
 ghost use Rattle.report_form.specs.Spelling.{report_text};
 ghost use Rattle.report_form.specs.Rows.{allreduce_report, broadcast_report, relay_report};
 ghost use Rattle.frontier_audit.specs.Rows.{beside_one_step, cnf_of_one_step};
-ghost use Rattle.sccl_run.specs.Size.{size_of};
+ghost use Rattle.candidate_formula.specs.Sizes.{size_of};
 ghost use Rattle.sccl_run.specs.Refusals.{refusal_line, refused_at};
-ghost use Rattle.sccl_run.specs.Showing.{shown_text};
 ghost use Rattle.sccl_run.specs.Trials.{trial_text, trial_topology, trial_words};
 ghost use Rattle.sccl_run.specs.Built.{everything, so_far};
 ghost use Rattle.sccl_run.specs.Tasks.{Try, audited, due, searchable};
-ghost use Rattle.sccl_run.specs.Rows.{broadcast_point, joined_point, no_files, moved_text, refuted_trial, search, two_nodes_text};
+ghost use Rattle.sccl_run.specs.Rows.{no_files, moved_text, refuted_trial, search, two_nodes_text};
 
 use crate::status::Status;
 use collective_spec::{Kind, Spec};
@@ -32,12 +31,13 @@ pub fn words_due()
     ensures not_built { due so_far (codes "trial" ∷ codes "n=3333" ∷ []) [] ≡ Err (refused_at Status.BadWords 11 0) }
 {}
 
-/// Searches that are refused for the text, the root, and the chunk counts.
+/// Searches that are refused for the text, the root, the collective, and the chunk counts.
 pub fn searches_due()
     ensures text { due everything (search (codes "collective=broadcast") []) (codes "topology 3\n") ≡ Err (refused_at Status.BadTopology 1 1) }
     ensures root { due everything (search (codes "collective=broadcast") (codes "root=n9" ∷ [])) two_nodes_text ≡ Err (refused_at Status.BadWords 8 6) }
     ensures no_pattern { due everything (search (codes "collective=custom") []) two_nodes_text ≡ Err (refused_at Status.BadWords 12 1) }
     ensures pattern { due everything (search (codes "collective=broadcast") (codes "root=n9" ∷ [])) moved_text ≡ Err (refused_at Status.BadWords 12 1) }
+    ensures reduction { due so_far (search (codes "collective=reduce") []) two_nodes_text ≡ Err (refused_at Status.BadWords 11 0) }
     ensures candidates { due everything (search (codes "collective=alltoall") []) two_nodes_text ≡ Err (refused_at Status.NoCandidate 0 0) }
 {}
 
@@ -48,12 +48,6 @@ pub fn reports_due()
     ensures point { due everything (codes "replay" ∷ codes "point=2" ∷ []) (report_text broadcast_report) ≡ Err (refused_at Status.BadWords 9 1) }
     ensures denied { audited relay_report (beside_one_step cnf_of_one_step []) ≡ Err (record { status = Status.Denied; code = 5; place = codes "1-1-1" }) }
     ensures line { refusal_line (record { status = Status.Denied; code = 5; place = codes "1-1-1" }) ≡ codes "refused 8 5 1-1-1\n" }
-{}
-
-/// The replay of a broadcast in an order, and that of the joined point of an allreduce.
-pub fn replays()
-    ensures broadcast { shown_text 1 broadcast_point (Some 0) ≡ codes "replay 1\nstep 0\nn0 0\nn1\nstep 1\nn0 0\nn1 0\nholds\norder 0\nevents 2\nmoves n0 n1\nn0 0\nn1 0\nend\n" }
-    ensures joined { shown_text 3 joined_point None ≡ codes "replay 3\nstep 0\nn0 0=10 1=10\nn1 0=01 1=01\nstep 1\nn0 0=11 1=10\nn1 0=01 1=11\nstep 2\nn0 0=11 1=11\nn1 0=11 1=11\nholds\nend\n" }
 {}
 
 /// The searches of two trials, and the text of the first.

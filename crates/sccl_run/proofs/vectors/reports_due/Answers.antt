@@ -1,12 +1,10 @@
 use Rattle.std.proofs.Common.{refl}
 use Rattle.sccl_run.specs.Tasks.{audited, due}
 use Rattle.command_words.specs.Words.{command_of}
-use Rattle.report_form.specs.Reading.{report_of}
-use Rattle.report_form.specs.Reading.{body_of}
+use Rattle.report_form.specs.Reading.{report_of, body_of, frontier_at}
 use Rattle.report_form.specs.Spelling.{report_text}
 use Rattle.topology_text.specs.Reading.{pattern_at}
 use Rattle.report_form.specs.Points.{schedule_at, frontier_point_at, joined_point_at}
-use Rattle.report_form.specs.Reading.{frontier_at}
 use Rattle.std.specs.Fmt.{digits}
 use Rattle.sccl_run.proofs.vectors.reports_due.Goals as goal
 

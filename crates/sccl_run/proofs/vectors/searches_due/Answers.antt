@@ -1,9 +1,7 @@
 use Rattle.std.proofs.Common.{refl}
 use Rattle.sccl_run.specs.Tasks.{due}
 use Rattle.command_words.specs.Words.{command_of}
-use Rattle.topology_text.specs.Reading.{topology_of}
-use Rattle.topology_text.specs.Reading.{topology_at}
-use Rattle.topology_text.specs.Reading.{pattern_at}
+use Rattle.topology_text.specs.Reading.{topology_of, topology_at, pattern_at}
 use Rattle.std.specs.Fmt.{digits}
 use Rattle.sccl_run.proofs.vectors.searches_due.Goals as goal
 
@@ -26,3 +24,7 @@ returns-clause-no_pattern c = refl
 pub returns-clause-pattern : goal.returns-clause-pattern
 unfolding due command_of topology_of topology_at pattern_at digits
 returns-clause-pattern c = refl
+
+pub returns-clause-reduction : goal.returns-clause-reduction
+unfolding due command_of topology_of topology_at pattern_at digits
+returns-clause-reduction c = refl

@@ -1,0 +1,9 @@
+-- Why there is no answer.
+use Rattle.candidate_solver.specs.declared.fault.EngineFault.{EngineFault}
+use Rattle.candidate_solver.specs.declared.fault.EngineFault.TheVariants.{ShelfFailed, OutOfMemory}
+use Rattle.sccl_run.specs.declared.halt.Halt.{Halt}
+use Rattle.sccl_run.specs.declared.halt.Halt.TheVariants.{Memory, Shelf}
+
+abbrev pub halt_of : EngineFault → Halt
+halt_of ShelfFailed = Shelf
+halt_of OutOfMemory = Memory

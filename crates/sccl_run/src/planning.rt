@@ -1,0 +1,181 @@
+//! What a search is asked for, and whether it is to be done: the checks of its text, its root, its size and its chunk counts.
+
+ghost use Rattle.std.specs.Prelude.{◌≡◌, ◌≢◌, ◌<◌, ◌≤◌, length, true, false, IfErr, IfOk, Ok, Err};
+ghost use Rattle.collective_spec.specs.Collectives.{fits_kind, reduces, spec_of};
+ghost use Rattle.command_words.specs.declared.command.Command.TheVariants as command;
+ghost use Rattle.command_words.specs.Commands.{IsProper};
+ghost use Rattle.topology_text.specs.Answer.{code_number as topology_number};
+ghost use Rattle.topology_text.specs.Reading.{node_of};
+ghost use Rattle.report_form.specs.Reports.{IsWords};
+ghost use Rattle.sccl_run.specs.Refusals.{refused_at};
+ghost use Rattle.sccl_run.specs.Answering.{Says};
+ghost use Rattle.sccl_run.specs.Tasks.{limit, root_in, search_for, search_over, synthesis_of};
+ghost use Rattle.sccl_run.specs.Searches.{IsPlanned};
+
+use crate::OutOfMemory;
+use crate::answer::{Answer, refusal, refused_word};
+use crate::status::Status;
+use candidate_formula::{allowed_counts, size_number};
+use candidate_order::Limits;
+use collective_spec::{Collective, Kind, Spec, is_custom};
+use command_words::{RootWord, WordCode};
+use report_form::Words;
+use std::alloc::Global;
+use topology_text::{Name, NamedTopology, TopologyCode, TopologyFault, read_topology};
+
+/// The greatest size of a search.
+const SIZE_LIMIT: u64 = 2_000_000;
+
+/// What the words of a search ask for.
+#[derive(Clone, Copy, Debug, PartialEq, Eq)]
+pub struct SearchWords {
+    pub kind: Kind,
+    /// The index of the word `collective`.
+    pub kind_word: u32,
+    pub limits: Limits,
+    pub root: Option<RootWord>,
+}
+
+/// A search that is to be done.
+#[derive(Drop)]
+pub struct Search {
+    pub words: Words,
+    pub topology: NamedTopology,
+    /// The collective of the words, with the pattern of the topology.
+    pub spec: Spec,
+    /// The chunk counts that the collective and the limits allow, ascending.
+    pub counts: Vec<u8>,
+}
+
+/// The search that is due, or the answer that refuses it.
+#[derive(Drop)]
+pub enum Plan {
+    Due(Search),
+    Refused(Answer),
+}
+
+/// Whether a topology with a pattern comes with the kind of given pairs, and only with it.
+fn fits(kind: Kind, topology: &NamedTopology) -> bool
+    ensures { result ≡ fits_kind kind topology.now.custom }
+{
+    match topology.custom() {
+        None => !is_custom(kind),
+        Some(_) => is_custom(kind),
+    }
+}
+
+/// The number of the node with this name.
+fn node_of(names: &[Name], name: Name) -> Option<usize>
+    ensures { result ≡ node_of names.now name }
+{
+    names.iter().position(|other| name == *other)
+}
+
+/// The node that the word names, or the first where there is no word. An `Err` has the index of a word that names none.
+fn root_of(names: &[Name], root: Option<RootWord>) -> Result<u8, u32>
+    requires some { 1 ≤ length names.now }
+    requires few { length names.now ≤ 16 }
+    ensures node { IfOk result (λ node. root_in names.now root ≡ Ok node) }
+    ensures below { IfOk result (λ node. node < length names.now) }
+    ensures none { IfErr result (λ word. root_in names.now root ≡ Err (refused_at Status.BadWords 8 word)) }
+{
+    let Some(root) = root else {
+        return Ok(0);
+    };
+    match node_of(names, root.name) {
+        Some(node) => Ok(node as u8),
+        None => Err(root.word),
+    }
+}
+
+/// The collective, with the pattern of the topology where it has one.
+fn spec_over(collective: Collective, topology: &NamedTopology) -> Result<Spec, OutOfMemory>
+    ensures { IfOk result (λ spec. spec ≡ spec_of collective topology.now.custom) }
+{
+    let pattern = match topology.custom() {
+        None => None,
+        Some(pattern) => Some(pattern.clone()?),
+    };
+    Ok(Spec::of(collective, pattern))
+}
+
+/// The search of these words over the topology, where it is small enough and has a candidate.
+fn plan_for(alloc: Global, words: Words, topology: NamedTopology) -> Result<Plan, OutOfMemory>
+    requires words { IsWords (length topology.names) words }
+    requires fits { fits_kind words.collective.kind topology.custom ≡ true }
+    requires copies { reduces words.collective.kind ≡ false }
+    ensures { IfOk result (λ plan. IsPlanned (search_for words topology) plan) }
+{
+    let collective = words.collective();
+    let limits = words.limits();
+    let spec = spec_over(collective, &topology)?;
+    let size = size_number(topology.topology(), &spec, &limits)?;
+    if size > SIZE_LIMIT {
+        return Ok(Plan::Refused(refusal(alloc, Status::TooLarge, 0, size)?));
+    }
+    let counts = allowed_counts(alloc, topology.topology().nodes(), collective.kind, &limits)?;
+    if counts.is_empty() {
+        return Ok(Plan::Refused(refusal(alloc, Status::NoCandidate, 0, 0)?));
+    }
+    Ok(Plan::Due(Search {
+        words,
+        topology,
+        spec,
+        counts,
+    }))
+}
+
+/// The search over the topology, where the words fit it.
+fn plan_over(
+    alloc: Global,
+    asked: SearchWords,
+    topology: NamedTopology,
+) -> Result<Plan, OutOfMemory>
+    requires proper { IsProper (command.Synth asked.kind asked.kind_word asked.limits asked.root) }
+    requires copies { reduces asked.kind ≡ false }
+    ensures { IfOk result (λ plan. IsPlanned (search_over asked.kind asked.kind_word asked.limits asked.root topology) plan) }
+{
+    if !fits(asked.kind, &topology) {
+        let answer = refused_word(alloc, WordCode::CustomMismatch, asked.kind_word)?;
+        return Ok(Plan::Refused(answer));
+    }
+    match root_of(topology.names(), asked.root) {
+        Ok(root) => {
+            let collective = Collective {
+                kind: asked.kind,
+                root,
+            };
+            plan_for(alloc, Words::new(collective, asked.limits), topology)
+        }
+        Err(word) => Ok(Plan::Refused(refused_word(alloc, WordCode::UnknownRoot, word)?)),
+    }
+}
+
+/// The refusal of a text that is no topology.
+fn bad_topology(alloc: Global, fault: TopologyFault) -> Result<Answer, OutOfMemory>
+    ensures code { IfOk result (λ _. fault.code ≢ TopologyCode.OutOfMemory) }
+    ensures says { IfOk result (λ a. Says (Err (refused_at Status.BadTopology (topology_number fault.code) fault.line)) a.status a.text.items) }
+{
+    match fault.code {
+        TopologyCode::OutOfMemory => Err(OutOfMemory),
+        code => refusal(
+            alloc,
+            Status::BadTopology,
+            u64::from(code.number()),
+            u64::from(fault.line),
+        ),
+    }
+}
+
+/// The search that the words ask for over a text that came whole.
+pub fn plan_over_text(alloc: Global, asked: SearchWords, bytes: &[u8]) -> Result<Plan, OutOfMemory>
+    requires short { length bytes.now ≤ limit }
+    requires proper { IsProper (command.Synth asked.kind asked.kind_word asked.limits asked.root) }
+    requires copies { reduces asked.kind ≡ false }
+    ensures { IfOk result (λ plan. IsPlanned (synthesis_of asked.kind asked.kind_word asked.limits asked.root bytes.now) plan) }
+{
+    match read_topology(alloc, bytes) {
+        Ok(topology) => plan_over(alloc, asked, topology),
+        Err(fault) => Ok(Plan::Refused(bad_topology(alloc, fault)?)),
+    }
+}
