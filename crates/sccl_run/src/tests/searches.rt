@@ -425,25 +425,28 @@ fn fails(
 #[test]
 fn ports_that_fail_a_search(rt: HostRuntime) -> Result<(), Fail> {
     let never = u64::MAX;
-    fails(
-        &rt,
-        (8, never),
-        (10, never),
-        never,
-        Status::Done,
-        PAIR_REPORT,
-    )?;
-    fails(
-        &rt,
-        (8, never),
-        (10, 1),
-        never,
-        Status::SinkFailed,
-        b"sccl 1\nsyn",
-    )?;
-    fails(&rt, (8, 1), (10, never), never, Status::SourceFailed, b"")?;
-    for call in 0..4 {
-        fails(&rt, (8, never), (10, never), call, Status::ShelfFailed, b"")?;
+    for piece in [1, 7, 4096] {
+        let whole = (piece, never);
+        fails(&rt, whole, whole, never, Status::Done, PAIR_REPORT)?;
+        for call in 0..6 {
+            fails(&rt, whole, whole, call, Status::ShelfFailed, b"")?;
+        }
+    }
+    let whole = (4096, never);
+    for call in 0..PAIR.len() + 1 {
+        let source = (1, call as u64);
+        fails(&rt, source, whole, never, Status::SourceFailed, b"")?;
+    }
+    for call in 0..PAIR_REPORT.len() {
+        let sink = (1, call as u64);
+        fails(
+            &rt,
+            whole,
+            sink,
+            never,
+            Status::SinkFailed,
+            &PAIR_REPORT[..call],
+        )?;
     }
     Ok(())
 }
