@@ -4,4 +4,6 @@ pub mod Candidates
 pub mod Solutions
 pub mod Joining
 pub mod Auditing
+pub mod Rights
+pub mod OwedFiles
 pub mod Rows

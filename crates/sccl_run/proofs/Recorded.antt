@@ -29,7 +29,7 @@ use Rattle.candidate_solver.specs.Outcomes.{RecordValue, IsNew}
 use Rattle.candidate_solver.specs.Kept.{HasFiles, IsBegun, IsTouched, KeptAgrees, KeptMoves}
 use Rattle.pareto_search.specs.Recorded.{IsStoppedWithin, StaysWithin, entries_of}
 use Rattle.frontier_audit.specs.Shelves.{PartRight}
-use Rattle.sccl_run.specs.OwedFiles.{IsKept}
+use Rattle.frontier_audit.specs.OwedFiles.{IsKept}
 use Rattle.sccl_run.specs.Searches.{IsBegunFor, IsFound, IsShelved, MayHaveBegun}
 
 -- what holds of each that the list contains holds of all

@@ -27,8 +27,9 @@ use Rattle.report_laws.proofs.ReportAgain.{report_again}
 use Rattle.frontier_audit.specs.Shelves.{PartRight}
 use Rattle.sccl_run.specs.declared.status.Status.TheVariants.{Done}
 use Rattle.sccl_run.specs.Answering.{ProvesText, Says}
-use Rattle.sccl_run.specs.Owed.{IsExhaustedPart, IsRight, IsRightPart, IsSearchedPart, Synthesises}
-use Rattle.sccl_run.specs.OwedFiles.{BreaksOff, IsKept, IsOf, Proves}
+use Rattle.sccl_run.specs.Owed.{Synthesises}
+use Rattle.frontier_audit.specs.Rights.{IsExhaustedPart, IsRight, IsRightPart, IsSearchedPart}
+use Rattle.frontier_audit.specs.OwedFiles.{BreaksOff, IsKept, IsOf, Proves}
 use Rattle.sccl_run.specs.Searches.{IsBegunFor, IsFound, IsSearch, IsShelved, MayHaveBegun, whole_report}
 use Rattle.sccl_run.proofs.Recorded.{each}
 

@@ -10,7 +10,8 @@ use Rattle.sccl_run.specs.declared.status.Status.TheVariants.{Done}
 use Rattle.sccl_run.specs.Built.{Built}
 use Rattle.sccl_run.specs.Refusals.{Refusal}
 use Rattle.sccl_run.specs.Tasks.{Synthesise, due}
-use Rattle.sccl_run.specs.Owed.{IsRight, IsRightPart, Synthesises}
+use Rattle.sccl_run.specs.Owed.{Synthesises}
+use Rattle.frontier_audit.specs.Rights.{IsRight, IsRightPart}
 use Rattle.sccl_run.specs.TopCall.{IsFree, StatusIsDue, TextIsDue}
 use Rattle.sccl_run.proofs.Refused.{never_done}
 use Rattle.sccl_run.specs.Laws.{WritesWith, NoneIsBetter}

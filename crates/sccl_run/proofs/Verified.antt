@@ -34,8 +34,9 @@ use Rattle.sccl_run.specs.Built.{everything}
 use Rattle.sccl_run.specs.Asked.{asked}
 use Rattle.sccl_run.specs.Refusals.{Refusal, refused_at, refused_as}
 use Rattle.sccl_run.specs.Tasks.{Task, Synthesise, Audit, Replay, Program, Family, Try, audited, due, limit, not_denied, point_in, read_report, root_in, searchable, synthesis_of, task_of, whole_question, whole_text, words_asked, words_for}
-use Rattle.sccl_run.specs.Owed.{AreJoined, IsRight, IsRightPart, Synthesises}
-use Rattle.sccl_run.specs.OwedFiles.{Proves}
+use Rattle.sccl_run.specs.Owed.{Synthesises}
+use Rattle.frontier_audit.specs.Rights.{AreJoined, IsRight, IsRightPart}
+use Rattle.frontier_audit.specs.OwedFiles.{Proves}
 use Rattle.sccl_run.specs.TopCall.{CountValue, IsFree, IsRun, RunValue}
 use Rattle.sccl_run.specs.Rows.{all_tell}
 use Rattle.sccl_run.proofs.DueWords.{due_command}

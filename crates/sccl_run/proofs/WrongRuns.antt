@@ -26,7 +26,7 @@ use Rattle.sccl_run.specs.declared.status.Status.TheVariants.{Done, SourceFailed
 use Rattle.sccl_run.specs.Built.{everything}
 use Rattle.sccl_run.specs.Asked.{Ask, Reads}
 use Rattle.sccl_run.specs.Tasks.{Synthesise, due}
-use Rattle.sccl_run.specs.OwedFiles.{IsKept, Proves}
+use Rattle.frontier_audit.specs.OwedFiles.{IsKept, Proves}
 use Rattle.sccl_run.specs.TopCall.{CountValue, IsRun}
 use Rattle.sccl_run.specs.Rows.{all_tell, done_search, failed_search, no_files, own_file, refused_check}
 

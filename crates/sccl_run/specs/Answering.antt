@@ -9,8 +9,9 @@ use Rattle.sccl_run.specs.declared.status.Status.{Status}
 use Rattle.sccl_run.specs.declared.status.Status.TheVariants.{Done}
 use Rattle.sccl_run.specs.Refusals.{Refusal, refusal_line}
 use Rattle.sccl_run.specs.Tasks.{Task, Synthesise}
-use Rattle.sccl_run.specs.Owed.{Owed, IsRight}
-use Rattle.sccl_run.specs.OwedFiles.{Proves, BreaksOff}
+use Rattle.sccl_run.specs.Owed.{Owed}
+use Rattle.frontier_audit.specs.Rights.{IsRight}
+use Rattle.frontier_audit.specs.OwedFiles.{Proves, BreaksOff}
 use Rattle.sccl_run.specs.TopCall.{IsFree, ends_of}
 use Rattle.command_words.specs.declared.command.Command.{Command}
 use Rattle.command_words.specs.declared.fault.WordFault.{WordFault}

@@ -6,7 +6,6 @@ pub mod Asked
 pub mod Trials
 pub mod Tasks
 pub mod Owed
-pub mod OwedFiles
 pub mod TopCall
 pub mod Answering
 pub mod Searches

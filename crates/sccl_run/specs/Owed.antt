@@ -1,49 +1,18 @@
 -- What is owed for a task that was done, as far as its text says it: the synthesis theorem, and the theorems of the other commands.
-use Rattle.std.specs.Prelude.{◌≡◌, ℕ, List, [], ◌∷◌, All, codes}
-use Rattle.outer_ports.specs.declared.part.Part.{Part}
-use Rattle.outer_ports.specs.declared.part.Part.TheVariants.{Reduce, Gather}
+use Rattle.std.specs.Prelude.{◌≡◌, ℕ, List, [], ◌∷◌, codes}
 use Rattle.outer_ports.specs.Files.{Files}
 use Rattle.text_lines.specs.Text.{line}
-use Rattle.lrat_checker.specs.Refuting.{Exhausted}
-use Rattle.allreduce_join.specs.Joins.{Joins}
-use Rattle.candidate_order.specs.Frontiers.{FrontierValue, RightFrontier, Searched}
 use Rattle.topology_text.specs.Value.{NamedTopologyValue}
 use Rattle.topology_text.specs.Family.{family_of}
 use Rattle.topology_text.specs.Spelling.{spelling}
-use Rattle.report_form.specs.Reports.{WordsValue, ReportValue, IsReport, question_of}
+use Rattle.report_form.specs.Reports.{WordsValue, ReportValue}
 use Rattle.report_form.specs.Spelling.{report_text}
-use Rattle.candidate_formula.specs.Formulas.{formula_for}
 use Rattle.frontier_audit.specs.Shelves.{ShelfRight}
+use Rattle.frontier_audit.specs.Rights.{IsRight, IsSearched}
 use Rattle.sccl_run.specs.Tasks.{Task, Synthesise, Audit, Replay, Program, Family, Try}
 use Rattle.point_replay.specs.Showing.{shown_in, shown_text}
 use Rattle.point_replay.specs.Points.{programs_of_point}
 use Rattle.sccl_run.specs.Trials.{trial_words, trial_topology, trial_text}
-
--- ---- what a report says is right
-
-abbrev pub IsRightPart : ReportValue → Part × FrontierValue → Type 0
-IsRightPart r x = RightFrontier (question_of r.words r.topology x.0) x.1
-
-abbrev pub IsSearchedPart : ReportValue → Part × FrontierValue → Type 0
-IsSearchedPart r x = Searched (question_of r.words r.topology x.0) x.1
-
--- the formula of each unknown candidate is exhausted by the conflicts that are stated
-abbrev pub IsExhaustedPart : ReportValue → Part × FrontierValue → Type 0
-IsExhaustedPart r x = All (λ u. Exhausted (formula_for (question_of r.words r.topology x.0) u.candidate) u.conflicts) x.1.unknown
-
--- the joined points are the joins of the two parts of an allreduce
-abbrev pub AreJoined : ReportValue → List (Part × FrontierValue) → Type 0
-AreJoined r ((Reduce, f) ∷ (Gather, h) ∷ []) = Joins r.topology.topology f.points h.points r.joined
-AreJoined r _ = r.joined ≡ []
-
-pub record IsRight (r : ReportValue) : Type 0 where
-  pub valid : IsReport r
-  pub parts : All (IsRightPart r) r.frontiers
-  pub joined : AreJoined r r.frontiers
-
-pub record IsSearched (r : ReportValue) : Type 0 where
-  pub parts : All (IsSearchedPart r) r.frontiers
-  pub exhausted : All (IsExhaustedPart r) r.frontiers
 
 -- ---- what each command owes
 

@@ -23,7 +23,7 @@ use Rattle.sccl_run.specs.declared.planning.Plan.TheVariants.{Due, Refused}
 use Rattle.sccl_run.specs.Refusals.{Refusal}
 use Rattle.sccl_run.specs.Tasks.{Task, Synthesise, whole_question}
 use Rattle.sccl_run.specs.Answering.{Says}
-use Rattle.sccl_run.specs.OwedFiles.{IsKept}
+use Rattle.frontier_audit.specs.OwedFiles.{IsKept}
 
 -- ---- what is asked
 

@@ -16,8 +16,9 @@ use Rattle.sccl_run.specs.Built.{Built}
 use Rattle.sccl_run.specs.Asked.{Ask, Reads, Opens, Changes, asked}
 use Rattle.sccl_run.specs.Refusals.{Refusal, refusal_line}
 use Rattle.sccl_run.specs.Tasks.{Task, Synthesise, Audit, limit, due, audited}
-use Rattle.sccl_run.specs.Owed.{Owed, IsRight}
-use Rattle.sccl_run.specs.OwedFiles.{Proves, BreaksOff}
+use Rattle.sccl_run.specs.Owed.{Owed}
+use Rattle.frontier_audit.specs.Rights.{IsRight}
+use Rattle.frontier_audit.specs.OwedFiles.{Proves, BreaksOff}
 
 -- ---- every run, whatever the ports tell
 

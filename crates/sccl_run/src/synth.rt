@@ -14,7 +14,7 @@ ghost use Rattle.pareto_search.specs.Recorded.{entries_of};
 ghost use Rattle.report_form.specs.Reports.{question_of};
 ghost use Rattle.report_form.specs.Spelling.{report_text};
 ghost use Rattle.sccl_run.specs.Answering.{BeginsDue, ProvesDue, ProvesText, Says};
-ghost use Rattle.sccl_run.specs.OwedFiles.{BreaksOff};
+ghost use Rattle.frontier_audit.specs.OwedFiles.{BreaksOff};
 ghost use Rattle.sccl_run.specs.Searches.{IsFound, IsSearch, IsShelved, MayHaveBegun, whole_report};
 ghost use Rattle.sccl_run.specs.Refusals.{Refusal};
 ghost use Rattle.sccl_run.specs.Tasks.{Synthesise, limit, synthesis_of};

@@ -1,0 +1,34 @@
+-- What a report says, and when that is right (Cai et al., PPoPP 2021, Pareto-optimal schedules and allreduce).
+use Rattle.std.specs.Prelude.{◌≡◌, List, [], ◌∷◌, All}
+use Rattle.outer_ports.specs.declared.part.Part.{Part}
+use Rattle.outer_ports.specs.declared.part.Part.TheVariants.{Reduce, Gather}
+use Rattle.lrat_checker.specs.Refuting.{Exhausted}
+use Rattle.allreduce_join.specs.Joins.{Joins}
+use Rattle.candidate_order.specs.Frontiers.{FrontierValue, RightFrontier, Searched}
+use Rattle.report_form.specs.Reports.{ReportValue, IsReport, question_of}
+use Rattle.candidate_formula.specs.Formulas.{formula_for}
+
+-- the frontier of a part is right
+abbrev pub IsRightPart : ReportValue → Part × FrontierValue → Type 0
+IsRightPart r x = RightFrontier (question_of r.words r.topology x.0) x.1
+
+abbrev pub IsSearchedPart : ReportValue → Part × FrontierValue → Type 0
+IsSearchedPart r x = Searched (question_of r.words r.topology x.0) x.1
+
+-- the formula of each unknown candidate is exhausted by the conflicts that are stated
+abbrev pub IsExhaustedPart : ReportValue → Part × FrontierValue → Type 0
+IsExhaustedPart r x = All (λ u. Exhausted (formula_for (question_of r.words r.topology x.0) u.candidate) u.conflicts) x.1.unknown
+
+-- the joined points are the joins of the two parts of an allreduce
+abbrev pub AreJoined : ReportValue → List (Part × FrontierValue) → Type 0
+AreJoined r ((Reduce, f) ∷ (Gather, h) ∷ []) = Joins r.topology.topology f.points h.points r.joined
+AreJoined r _ = r.joined ≡ []
+
+pub record IsRight (r : ReportValue) : Type 0 where
+  pub valid : IsReport r
+  pub parts : All (IsRightPart r) r.frontiers
+  pub joined : AreJoined r r.frontiers
+
+pub record IsSearched (r : ReportValue) : Type 0 where
+  pub parts : All (IsSearchedPart r) r.frontiers
+  pub exhausted : All (IsExhaustedPart r) r.frontiers
