@@ -4,10 +4,10 @@ use Rattle.std.specs.Prelude.{map, Result, Ok}
 use Rattle.cnf_formula.specs.Formulas.{FormulaValue, Satisfies}
 use Rattle.cnf_formula.specs.Lines.{ProofLineValue}
 use Rattle.cnf_formula.specs.declared.line.LratLine.TheVariants.{Addition}
-use Rattle.lrat_checker.specs.declared.verdict.LineVerdict.TheVariants.{Accepted}
-use Rattle.lrat_checker.specs.Judging.{verdict_of}
-use Rattle.lrat_checker.specs.Refuting.{Refutes, SpentLog}
-use Rattle.conflict_ledger.specs.Logs.{checker_of}
+use Rattle.proof_rules.specs.declared.verdict.LineVerdict.TheVariants.{Accepted}
+use Rattle.proof_rules.specs.Judging.{verdict_of}
+use Rattle.proof_rules.specs.Refuting.{Refutes, SpentLog}
+use Rattle.ledger_rules.specs.Logs.{checker_of}
 use Rattle.sat_core.specs.declared.fault.SolveFault.{SolveFault}
 use Rattle.sat_core.specs.declared.solving.SatAnswer.{SatAnswer}
 use Rattle.sat_core.specs.declared.solving.SatAnswer.TheVariants.{Model, Refuted, Spent}

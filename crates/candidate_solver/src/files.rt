@@ -7,8 +7,8 @@ ghost use Rattle.candidate_formula.specs.Files.{file_of, IsEmptied};
 ghost use Rattle.cnf_formula.specs.Formulas.{FormulaValue};
 ghost use Rattle.candidate_solver.specs.Trying.{BeginsOwn, HasText, IsTidy};
 
-use crate::fault::EngineFault;
-use crate::settled::Settled;
+use engine_rules::EngineFault;
+use engine_rules::Settled;
 use candidate_formula::file_name;
 use candidate_order::Candidate;
 use cnf_formula::Formula;

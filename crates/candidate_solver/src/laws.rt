@@ -2,12 +2,12 @@
 
 ghost use Rattle.std.specs.Prelude.{◌≡◌, [], ◌∷◌, ◌++◌, map};
 ghost use Rattle.cnf_formula.specs.declared.line.LratLine.TheVariants.{Addition};
-ghost use Rattle.lrat_checker.specs.Refuting.{Refutes};
+ghost use Rattle.proof_rules.specs.Refuting.{Refutes};
 ghost use Rattle.candidate_solver.specs.declared.kept.SatEngine.{SatEngine};
-ghost use Rattle.candidate_solver.specs.declared.settled.Settled.TheVariants as settled;
-ghost use Rattle.candidate_solver.specs.Outcomes.{RecordValue};
+ghost use Rattle.engine_rules.specs.declared.settled.Settled.TheVariants as settled;
+ghost use Rattle.engine_rules.specs.Outcomes.{RecordValue};
 
-use crate::engine::EngineView;
+use engine_rules::EngineView;
 use crate::kept::SatEngine;
 use candidate_order::Candidate;
 
