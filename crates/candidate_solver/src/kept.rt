@@ -18,14 +18,12 @@ ghost use Rattle.engine_rules.specs.Outcomes.{RecordValue};
 ghost use Rattle.candidate_solver.specs.Proved.{IsProved};
 ghost use Rattle.candidate_solver.specs.Single.{proved-prop};
 
-use engine_rules::{Engine, EngineView};
-use engine_rules::EngineFault;
 use crate::question::Question;
-use engine_rules::Settled;
 use crate::trying::{Attempt, try_candidate};
 use candidate_order::{Candidate, Limits, Outcome};
 use cnf_formula::{OutOfMemory, ProofLine};
 use collective_spec::{Kind, Spec};
+use engine_rules::{Engine, EngineFault, EngineView, Settled};
 use outer_ports::{Part, Shelf};
 use schedule::Topology;
 use std::alloc::Global;

@@ -7,9 +7,9 @@ ghost use Rattle.candidate_solver.specs.declared.kept.SatEngine.{SatEngine};
 ghost use Rattle.engine_rules.specs.declared.settled.Settled.TheVariants as settled;
 ghost use Rattle.engine_rules.specs.Outcomes.{RecordValue};
 
-use engine_rules::EngineView;
 use crate::kept::SatEngine;
 use candidate_order::Candidate;
+use engine_rules::EngineView;
 
 /// Where the candidate that was settled last was refuted, the engine's log refutes its formula, whatever the shelf tells.
 pub fn the_log_refutes_the_last_candidate()

@@ -9,10 +9,10 @@ ghost use Rattle.candidate_solver.specs.Trying.{BeginsOwn, HasLines, IsSearch};
 ghost use Rattle.proof_rules.specs.Held.{start_of};
 ghost use Rattle.proof_rules.specs.Refuting.{AllImplied};
 
-use engine_rules::EngineFault;
 use candidate_order::Candidate;
 use cnf_formula::{Formula, ProofLine};
 use conflict_ledger::{CheckedLedger, Ledger, LedgerView, PairLedger, ShelfLedger};
+use engine_rules::EngineFault;
 use outer_ports::{FileKind, Part, Shelf};
 use sat_core::{SatAnswer, SolveFault, solve};
 use std::alloc::Global;

@@ -14,14 +14,13 @@ ghost use Rattle.candidate_solver.specs.Kept.{HasFiles};
 ghost use Rattle.engine_rules.specs.Outcomes.{kind_of};
 ghost use Rattle.candidate_solver.specs.Trying.{BeginsOwn, HasLines, HasText, IsOutcome, IsSearch, IsTidy, Says};
 
-use engine_rules::EngineFault;
 use crate::files::{tidy, write_formula};
 use crate::question::Question;
 use crate::searching::{Found, search};
-use engine_rules::Settled;
 use candidate_formula::encode_candidate;
 use candidate_order::{Candidate, Outcome};
 use cnf_formula::{Formula, ProofLine};
+use engine_rules::{EngineFault, Settled};
 use outer_ports::{FileKind, Part, Shelf};
 use round_encoding::{Encoding, decode};
 use sat_core::SatAnswer;
