@@ -1,10 +1,9 @@
 -- The chunk counts of a collective are those of what copies in its place.
 use Rattle.std.proofs.Common.{◌≡◌, ℕ, List, sym, subst}
-use Rattle.std.specs.Prelude.{◌↔◌, ◌≤◌, Contains, IsTrue}
+use Rattle.std.specs.Prelude.{IsTrue}
 use Rattle.collective_spec.specs.declared.kind.Kind.{Kind}
 use Rattle.collective_spec.specs.declared.spec.Spec.{Spec}
 use Rattle.collective_spec.specs.Collectives.{kind_in}
-use Rattle.collective_spec.specs.Kinds.{allows}
 use Rattle.candidate_order.specs.Copied.{copied_spec}
 use Rattle.candidate_order.specs.Frontiers.{QuestionValue}
 use Rattle.candidate_order.specs.Listed.{AreAllowed}

@@ -1,7 +1,6 @@
 -- Where a search breaks off, each file is as before, or was begun.
-use Rattle.std.proofs.Common.{◌≡◌, ◌⊎◌, inl, inr, Contains, refl, sym, subst, ◌∙◌}
+use Rattle.std.proofs.Common.{◌≡◌, inl, inr, Contains, refl, sym, subst, ◌∙◌}
 use Rattle.outer_ports.specs.declared.part.Part.{Part}
-use Rattle.outer_ports.specs.declared.proof_name.ProofName.{ProofName}
 use Rattle.outer_ports.specs.Files.{Files}
 use Rattle.schedule.specs.Links.{TopologyValue}
 use Rattle.collective_spec.specs.declared.spec.Spec.{Spec}

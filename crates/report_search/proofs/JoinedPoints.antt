@@ -1,5 +1,5 @@
 -- The joins of what was found in the two parts of an allreduce: they keep the rules of reports, and are all that are due.
-use Rattle.std.proofs.Common.{◌≡◌, ℕ, ◌+◌, ◌*◌, ◌<◌, ◌≤◌, map, List, All, Option, None, refl, sym, ap, subst, ◌∙◌, arith}
+use Rattle.std.proofs.Common.{◌≡◌, ℕ, ◌*◌, List, All, Option, None, refl, sym, ap, subst, ◌∙◌, arith}
 use Rattle.std.proofs.lemmas.List.Elements.{All-contains, All-from_recursion, All-map, All-weaker}
 use Rattle.outer_ports.specs.declared.part.Part.TheVariants.{Reduce, Gather, Joined}
 use Rattle.schedule.specs.Sends.{IsSchedule, IsInRange}

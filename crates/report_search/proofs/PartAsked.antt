@@ -1,13 +1,16 @@
 -- What is asked of a part can be searched.
-use Rattle.std.proofs.Common.{◌≡◌, ◌≢◌, ◌⊎◌, inl, inr, ℕ, ◌<◌, ◌≤◌, true, List, [], ◌∷◌, length, Contains, Option, None, Some, refl, sym, ap, subst, ◌∙◌}
+use Rattle.std.proofs.Common.{◌≡◌, ◌≢◌, ◌⊎◌, inl, inr, ℕ, ◌<◌, ◌≤◌, true, [], ◌∷◌, Contains, Option, None, Some, refl, sym, ap, subst, ◌∙◌}
 use Rattle.std.proofs.lemmas.List.Elements.{All-contains, All-cons, All-nil}
 use Rattle.outer_ports.specs.declared.part.Part.{Part}
 use Rattle.outer_ports.specs.declared.part.Part.TheVariants.{Whole, Reduce, Gather, Joined}
+use Rattle.schedule.specs.Links.{TopologyValue}
+use Rattle.collective_spec.specs.declared.spec.Spec.{Spec}
 use Rattle.collective_spec.specs.declared.kind.Kind.{Kind}
 use Rattle.collective_spec.specs.declared.kind.Kind.TheVariants as kind
 use Rattle.collective_spec.specs.Patterns.{PatternValue}
 use Rattle.collective_spec.specs.Collectives.{IsSpec, fits_kind, kind_in, spec_of}
 use Rattle.collective_spec.proofs.Sized.{fitting_kind, fitting_spec}
+use Rattle.candidate_order.specs.Ranges.{LimitsValue}
 use Rattle.candidate_order.specs.Frontiers.{QuestionValue}
 use Rattle.round_encoding.specs.Candidates.{size_limit}
 use Rattle.candidate_formula.specs.Sizes.{size_of}
@@ -96,7 +99,7 @@ module _ (w : WordsValue) (t : NamedTopologyValue) (asked : IsAsked w t) where
     gather_can : CanBeSearched Gather (question_of w t Gather)
     gather_can = part_can Gather kind.Allgather (λ e. absurd cc) (λ e. absurd cc) refl refl
 
-  pub part_can_be_searched : (part : Part) → Contains (parts_of w.collective.kind) part → CanBeSearched part (question_of w t part)
+  part_can_be_searched : (part : Part) → Contains (parts_of w.collective.kind) part → CanBeSearched part (question_of w t part)
   part_can_be_searched part at = elim (parts_are w.collective.kind) [
     | inl one ↦ subst (λ p. CanBeSearched p (question_of w t p)) (sym (in_one part (subst (λ parts. Contains parts part) one.1 at))) (whole_can one.0)
     | inr two ↦ elim (in_two part (subst (λ parts. Contains parts part) two.1 at)) [
@@ -104,3 +107,11 @@ module _ (w : WordsValue) (t : NamedTopologyValue) (asked : IsAsked w t) where
       | inr gather ↦ subst (λ p. CanBeSearched p (question_of w t p)) (sym gather) (gather_can two.0)
     ]
   ]
+
+  -- as the code has it: of what it asks for in the part
+  pub asked_for : (part : Part) (links : TopologyValue) (spec : Spec) (limits : LimitsValue) → links ≡ t.topology → spec ≡ (question_of w t part).spec → limits ≡ w.limits → Contains (parts_of w.collective.kind) part
+      → CanBeSearched part (record { topology = links; spec = spec; limits = limits })
+  asked_for part links spec limits over is within among =
+      let given : QuestionValue = record { topology = links; spec = spec; limits = limits } in
+      let same : given ≡ question_of w t part = rw (over, is, within) refl in
+      subst (CanBeSearched part) (sym same) (part_can_be_searched part among)

@@ -1,5 +1,5 @@
 -- What an engine's record says of the frontier that its search gave, and of the files.
-use Rattle.std.proofs.Common.{◌≡◌, ◌⊎◌, inl, inr, ℕ, IsTrue, Bool, false, List, ◌++◌, map, All, Contains, Option, None, Some, refl, sym, ap, subst, ◌∙◌}
+use Rattle.std.proofs.Common.{◌≡◌, ◌⊎◌, inl, inr, ℕ, IsTrue, Bool, List, ◌++◌, map, All, Contains, Option, None, Some, refl, sym, ap, subst, ◌∙◌}
 use Rattle.std.specs.List.Sorted.{IsPermutation}
 use Rattle.std.proofs.lemmas.List.Elements.{All-contains, All-contains_itself, All-map, Contains-append_cases, Contains-append_left, Contains-append_right}
 use Rattle.std.proofs.lemmas.List.Sorted.{Contains-permutation, IsPermutation-sym}
@@ -17,12 +17,12 @@ use Rattle.candidate_formula.specs.Files.{HasFormula, HasLog, HasRefutation, IsE
 use Rattle.candidate_solver.specs.declared.settled.Settled.{Settled}
 use Rattle.candidate_solver.specs.declared.settled.Settled.TheVariants.{Solved, Refuted, Unknown}
 use Rattle.candidate_solver.specs.Outcomes.{RecordValue, IsNew}
-use Rattle.candidate_solver.specs.Kept.{HasFiles, IsBegun, IsTouched, KeptAgrees, KeptMoves}
+use Rattle.candidate_solver.specs.Kept.{HasFiles, KeptAgrees, KeptMoves}
 use Rattle.pareto_search.specs.Recorded.{IsStoppedWithin, StaysWithin, entries_of}
 use Rattle.frontier_audit.specs.Shelves.{PartRight}
 use Rattle.frontier_audit.specs.OwedFiles.{IsKept}
 use Rattle.report_search.specs.Found.{IsFound}
-use Rattle.report_search.specs.Shelved.{IsBegunFor, IsShelved, MayHaveBegun}
+use Rattle.report_search.specs.Shelved.{IsShelved, MayHaveBegun}
 
 -- what holds of each that the list contains holds of all
 pub each : {X : Type 0} (P : X → Type 0) (xs : List X) → ((x : X) → Contains xs x → P x) → All P xs

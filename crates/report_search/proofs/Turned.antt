@@ -1,16 +1,16 @@
 -- What was found for what copies over the links turned round, as the reduction has it.
-use Rattle.std.proofs.Common.{◌≡◌, ◌≢◌, ◌⊎◌, inl, inr, ℕ, true, List, [], ◌∷◌, map, All, Contains, Some, refl, sym, ap, subst, ◌∙◌, ◌≤◌}
+use Rattle.std.proofs.Common.{◌≡◌, ◌≢◌, inl, inr, true, false, List, [], ◌∷◌, map, All, Contains, Some, refl, sym, ap, subst, ◌∙◌, ◌≤◌}
 use Rattle.std.proofs.lemmas.List.Elements.{All-weaker}
 use Rattle.outer_ports.specs.declared.part.Part.{Part}
 use Rattle.outer_ports.specs.declared.proof_name.FileKind.TheVariants.{Cnf, Lrat, Partial}
-use Rattle.outer_ports.specs.declared.proof_name.ProofName.{ProofName}
 use Rattle.outer_ports.specs.Files.{Files}
 use Rattle.collective_spec.specs.declared.kind.Kind.TheVariants as kind
+use Rattle.collective_spec.specs.declared.spec.Spec.{Spec}
 use Rattle.collective_spec.specs.Collectives.{IsSpec, adds_up, kind_in}
 use Rattle.candidate_order.specs.declared.candidate.Candidate.{Candidate}
 use Rattle.candidate_order.specs.Copied.{copied_question, copied_spec}
+use Rattle.candidate_order.specs.Ranges.{LimitsValue}
 use Rattle.candidate_order.specs.Frontiers.{QuestionValue, FrontierValue, PointValue, UnknownValue, RightFrontier, Searched, IsTried, IsWithin, solved, given_up}
-use Rattle.cnf_formula.specs.Formulas.{FormulaValue}
 use Rattle.lrat_checker.specs.Refuting.{Exhausted, Refutes, SpentLog}
 use Rattle.lrat_text.specs.Printing.{cnf_text}
 use Rattle.candidate_formula.specs.Begun.{Begins}
@@ -22,12 +22,12 @@ use Rattle.candidate_formula.specs.Questions.{copying_question}
 use Rattle.candidate_formula.specs.Sizes.{size_of}
 use Rattle.round_encoding.specs.Candidates.{size_limit}
 use Rattle.schedule.specs.Links.{TopologyValue, reversed_of}
-use Rattle.candidate_formula.proofs.Copying.{same_allowed}
+use Rattle.candidate_formula.proofs.Copying.{copied_stays, same_allowed}
 use Rattle.inversion.specs.Inverted.{inverted_frontier, inverted_point}
 use Rattle.frontier_audit.specs.OwedFiles.{IsKept}
 use Rattle.frontier_audit.specs.Shelves.{PartRight}
 use Rattle.report_search.specs.Found.{IsFound}
-use Rattle.report_search.specs.Shelved.{IsBegunFor, IsShelved, MayHaveBegun}
+use Rattle.report_search.specs.Shelved.{IsShelved, MayHaveBegun}
 
 -- ---- the candidates are as before
 
@@ -38,6 +38,10 @@ same_points (p ∷ points) = ap (λ xs. p.candidate ∷ xs) (same_points points)
 tried_turned : (f : FrontierValue) (x : Candidate) → IsTried f x → IsTried (inverted_frontier f) x
 tried_turned f x (inl at) = inl (subst (λ xs. Contains xs x) (sym (same_points f.points)) at)
 tried_turned f x (inr later) = inr later
+
+-- what copies is sought as it is
+pub copies_itself : (t : TopologyValue) (spec : Spec) (limits : LimitsValue) → adds_up spec ≡ false → copying_question t spec limits ≡ record { topology = t; spec = spec; limits = limits }
+copies_itself t spec limits copies = ap (λ s. record { topology = t; spec = s; limits = limits }) (copied_stays spec copies)
 
 -- a search over links that are turned round is as large
 pub small_turned : (q : QuestionValue) (turned : TopologyValue) → turned ≡ reversed_of q.topology → size_of q ≤ size_limit → size_of (record { topology = turned; spec = q.spec; limits = q.limits }) ≤ size_limit

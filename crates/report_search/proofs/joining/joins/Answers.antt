@@ -1,4 +1,4 @@
-use Rattle.std.proofs.Common.{sym, subst, ◌++◌, ap, ◌∙◌}
+use Rattle.std.proofs.Common.{◌++◌, ap, ◌∙◌}
 use Rattle.report_search.proofs.JoinsAdded.{joins_more, joined_with}
 use Rattle.report_search.proofs.joining.joins.Goals as goal
 
