@@ -10,8 +10,8 @@ ghost use Rattle.report_search.specs.Shelved.{IsShelved, MayHaveBegun};
 
 use crate::copying::copied_frontier;
 use candidate_order::{Frontier, Limits};
-use engine_rules::EngineFault;
 use collective_spec::{Kind, Spec};
+use engine_rules::EngineFault;
 use inversion::invert_frontier;
 use outer_ports::{Part, Shelf};
 use schedule::Topology;
