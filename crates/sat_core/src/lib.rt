@@ -15,8 +15,6 @@ mod restarts;
 mod searching;
 mod solving;
 mod step;
-#[cfg(test)]
-mod tests;
 mod turn;
 mod walk;
 

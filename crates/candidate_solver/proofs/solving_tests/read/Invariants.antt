@@ -1,7 +1,7 @@
 use Rattle.std.proofs.Common.{◌≡◌}
 use Rattle.std.specs.Prelude.{All}
 use Rattle.cnf_formula.specs.Formulas.{IsAbout}
-use Rattle.sat_core.proofs.tests.read.Given as goal
+use Rattle.candidate_solver.proofs.solving_tests.read.Given as goal
 
 abbrev pub invariant-loop-number : goal.invariant-loop-number
 invariant-loop-number l = record {

@@ -1,9 +1,12 @@
+//! The search over each ledger: pigeons in holes, random clauses, and the files of a shelf.
+
 ghost use Rattle.std.specs.Prelude.{◌≡◌, IfOk};
 
-use crate::{SatAnswer, solve};
+
 use cnf_formula::{Formula, Lit};
 use conflict_ledger::{CheckedLedger, KeptLedger, PairLedger, ShelfLedger};
 use outer_ports::{FileKind, MemoryShelf, Part, ProofName};
+use sat_core::{SatAnswer, solve};
 use std::alloc::Global;
 use std::test::Fail;
 
