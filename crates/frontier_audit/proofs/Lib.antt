@@ -10,3 +10,7 @@ pub mod Joined
 pub mod Right
 pub mod Unsolvable
 pub mod InOrder
+pub mod Walking
+pub mod Merging
+pub mod Said
+pub mod Asking

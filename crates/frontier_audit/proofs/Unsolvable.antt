@@ -67,7 +67,7 @@ chunks_few (spec.Custom p) nodes c is few small = mul-le p.base c 16 16 is.few s
 -- ---- the spec of a part
 
 -- a part has a pattern where the whole has one
-parts_fit : (k : Kind) (c : Option PatternValue) → fits_kind k c ≡ true → All (λ x. fits_kind (kind_of k x) c ≡ true) (parts_of k)
+pub parts_fit : (k : Kind) (c : Option PatternValue) → fits_kind k c ≡ true → All (λ x. fits_kind (kind_of k x) c ≡ true) (parts_of k)
 parts_fit kind.Broadcast c e = All-cons (λ x. fits_kind (kind_of kind.Broadcast x) c ≡ true) part.Whole [] e (All-nil (λ x. fits_kind (kind_of kind.Broadcast x) c ≡ true))
 parts_fit kind.Gather c e = All-cons (λ x. fits_kind (kind_of kind.Gather x) c ≡ true) part.Whole [] e (All-nil (λ x. fits_kind (kind_of kind.Gather x) c ≡ true))
 parts_fit kind.Allgather c e = All-cons (λ x. fits_kind (kind_of kind.Allgather x) c ≡ true) part.Whole [] e (All-nil (λ x. fits_kind (kind_of kind.Allgather x) c ≡ true))
