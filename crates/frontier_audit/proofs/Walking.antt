@@ -1,7 +1,8 @@
 -- Checks of a list, item by item.
-use Rattle.std.proofs.Common.{◌≡◌, ℕ, ◌+◌, ◌<◌, List, [], ◌∷◌, length, drop, get_or, Option, None, Some, Ok, Err, refl, sym, ap, ◌∙◌}
+use Rattle.std.proofs.Common.{◌≡◌, ℕ, ◌+◌, ◌<◌, Bool, true, false, List, [], ◌∷◌, length, drop, get_or, Option, None, Some, Ok, Err, refl, sym, ap, ◌∙◌}
 use Rattle.std.proofs.lemmas.List.{drop_more}
-use Rattle.text_lines.specs.Check.{◌>>=◌}
+use Rattle.std.specs.Prelude.{not}
+use Rattle.text_lines.specs.Check.{◌>>=◌, refuse}
 use Rattle.frontier_audit.specs.Denials.{Checked, each}
 use Rattle.frontier_audit.specs.Beside.{denial_of}
 
@@ -13,6 +14,15 @@ first_decides (Err x) rest d e = e
 pub rest_decides : {E : Type 0} (first rest : Checked E) → denial_of first ≡ None → (first >>= (λ _. rest)) ≡ rest
 rest_decides (Ok u) rest e = refl
 rest_decides (Err x) rest e = absurd (cc)
+
+-- a check that refuses where a test fails
+pub failing_denies : {C : Type 0} (b : Bool) (code : C) → b ≡ false → Some code ≡ denial_of (refuse (not b) code)
+failing_denies true code e = absurd (cc)
+failing_denies false code e = refl
+
+pub passing_denies_none : {C : Type 0} (b : Bool) (code : C) → b ≡ true → denial_of (refuse (not b) code) ≡ None
+passing_denies_none true code e = refl
+passing_denies_none false code e = absurd (cc)
 
 -- the item at a place, and those behind it
 pub here_on : {X : Type 0} (xs : List X) (i : ℕ) (x : X) → i < length xs → x ≡ get_or xs i x → drop i xs ≡ x ∷ drop (i + 1) xs

@@ -8,7 +8,7 @@ use Rattle.schedule.specs.Links.{TopologyValue}
 use Rattle.collective_spec.specs.declared.kind.Kind.{Kind}
 use Rattle.collective_spec.specs.declared.kind.Kind.TheVariants.{Allreduce}
 use Rattle.candidate_order.specs.declared.candidate.Candidate.{Candidate}
-use Rattle.candidate_order.specs.Frontiers.{QuestionValue, PointValue, FrontierValue, given_up}
+use Rattle.candidate_order.specs.Frontiers.{QuestionValue, PointValue, UnknownValue, FrontierValue}
 use Rattle.allreduce_join.specs.Joins.{join_of, pairs_of}
 use Rattle.report_form.specs.Tests.{is_better, is_no_worse}
 use Rattle.report_form.specs.Reports.{ReportValue, question_of}
@@ -17,7 +17,7 @@ use Rattle.proof_audit.specs.declared.verdict.FileVerdict.TheVariants.{Missing, 
 use Rattle.frontier_audit.specs.declared.verdict.Reason.{Reason}
 use Rattle.frontier_audit.specs.declared.verdict.Reason.TheVariants.{CandidateMissing, JoinWrong, MarkWrong, ProofMissing}
 use Rattle.frontier_audit.specs.Denials.{Denial, Checked, each, in_part}
-use Rattle.frontier_audit.specs.Candidates.{candidates_within, is_listed}
+use Rattle.frontier_audit.specs.Candidates.{candidates_within, is_listed, same_candidate}
 use Rattle.frontier_audit.specs.Solutions.{is_mark}
 use Rattle.frontier_audit.specs.Joining.{is_gather, is_join, is_reduce, joins_checked, points_of, same_point}
 use Rattle.frontier_audit.specs.Auditing.{candidate_checked, frontier_checked, mark_checked}
@@ -44,13 +44,23 @@ is_settled points x = list_any (λ p. is_no_worse p.candidate x) points
 abbrev pub is_bettered : List Candidate → Candidate → Bool
 is_bettered others x = list_any (λ y. is_better y x) others
 
--- a candidate that is not refuted has to be settled or unknown
+-- it was given up
+abbrev pub is_given_up : List UnknownValue → Candidate → Bool
+is_given_up unknown x = list_any (λ u. same_candidate x u.candidate) unknown
+
+-- a candidate that is not refuted has to be settled or given up
+abbrev pub is_left_answered : FrontierValue → Candidate → Bool
+is_left_answered f x = is_settled f.points x || is_given_up f.unknown x
+
 abbrev pub left_checked : FrontierValue → Candidate → Checked Denial
-left_checked f x = refuse (not (is_settled f.points x || is_listed (given_up f) x)) (CandidateMissing, x)
+left_checked f x = refuse (not (is_left_answered f x)) (CandidateMissing, x)
 
 -- a mark says whether none of these is better
+abbrev pub has_mark_among : List Candidate → PointValue → Bool
+has_mark_among left p = is_mark (not (is_bettered left p.candidate)) p.mark
+
 abbrev pub marked_among : List Candidate → PointValue → Checked Denial
-marked_among left p = refuse (not (is_mark (not (is_bettered left p.candidate)) p.mark)) (MarkWrong, p.candidate)
+marked_among left p = refuse (not (has_mark_among left p)) (MarkWrong, p.candidate)
 
 -- the candidates of a part, and then its marks
 abbrev pub answers_checked : QuestionValue → FrontierValue → Checked Denial

@@ -1,12 +1,11 @@
 //! The candidates within the limits: whether each is answered, and whether the marks of the points are right.
 
 ghost use Rattle.std.specs.Prelude.{◌≡◌, ◌++◌, IfOk, OnOk};
-ghost use Rattle.std.specs.List.{list_any};
 ghost use Rattle.frontier_audit.specs.Denials.{each};
 ghost use Rattle.frontier_audit.specs.Candidates.{candidates_within, is_listed, same_candidate};
 ghost use Rattle.frontier_audit.specs.Solutions.{is_mark};
 ghost use Rattle.frontier_audit.specs.Beside.{denial_of};
-ghost use Rattle.frontier_audit.specs.Steps.{is_bettered, is_settled, left_checked, marked_among, unrefuted_among};
+ghost use Rattle.frontier_audit.specs.Steps.{has_mark_among, is_bettered, is_given_up, is_left_answered, is_settled, left_checked, marked_among, unrefuted_among};
 
 use crate::asked::Asked;
 use crate::verdict::Reason;
@@ -73,13 +72,18 @@ pub(crate) fn passed_over(
     ensures { result ≡ denial_of (each (left_checked frontier.now) unrefuted.now) }
 {
     for candidate in unrefuted {
-        let answered =
-            is_settled(frontier.points(), *candidate) || is_given_up(frontier.unknown(), *candidate);
-        if !answered {
+        if !is_answered(frontier, *candidate) {
             return Some((Reason::CandidateMissing, *candidate));
         }
     }
     None
+}
+
+/// Whether a candidate that is not refuted is settled by a point, or was given up.
+fn is_answered(frontier: &Frontier, candidate: Candidate) -> bool
+    ensures { result ≡ is_left_answered frontier.now candidate }
+{
+    is_settled(frontier.points(), candidate) || is_given_up(frontier.unknown(), candidate)
 }
 
 /// Whether one of the points is no worse.
@@ -93,7 +97,7 @@ fn is_settled(points: &[Point], candidate: Candidate) -> bool
 
 /// Whether the candidate is one of those that were given up.
 fn is_given_up(unknown: &[Unknown], candidate: Candidate) -> bool
-    ensures { result ≡ list_any (λ u. same_candidate candidate u.candidate) unknown.now }
+    ensures { result ≡ is_given_up unknown.now candidate }
 {
     unknown
         .iter()
@@ -108,12 +112,18 @@ pub(crate) fn marks_denied(
     ensures { result ≡ denial_of (each (marked_among unrefuted.now) points.now) }
 {
     for point in points {
-        let optimal = !is_bettered(unrefuted, point.candidate());
-        if !is_mark(optimal, point.mark()) {
+        if !has_right_mark(point, unrefuted) {
             return Some((Reason::MarkWrong, point.candidate()));
         }
     }
     None
+}
+
+/// Whether the mark of a point says whether none of these is better.
+fn has_right_mark(point: &Point, unrefuted: &[Candidate]) -> bool
+    ensures { result ≡ has_mark_among unrefuted.now point.now }
+{
+    is_mark(!is_bettered(unrefuted, point.candidate()), point.mark())
 }
 
 /// Whether one of these is better than the candidate.
