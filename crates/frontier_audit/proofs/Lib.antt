@@ -14,3 +14,5 @@ pub mod Walking
 pub mod Merging
 pub mod Said
 pub mod Asking
+pub mod Listing
+pub mod Answering
