@@ -121,3 +121,10 @@ module _ (r : ReportValue) (ok : IsReport r) (p : Part) (has : Contains (parts_o
         limits = ok.words.limits;
         size = subst (λ n. n ≤ size_limit) (sym sized_alike) small;
       }
+
+-- what the calls gave is what is asked
+pub made_of : (t : TopologyValue) (s : Spec) (l : LimitsValue) (q : QuestionValue) → t ≡ q.topology → s ≡ q.spec → l ≡ q.limits → record { topology = t; spec = s; limits = l } ≡ q
+made_of t s l q a b c = λ i. record { topology = a i; spec = b i; limits = c i }
+
+pub searched_is : (t named searched : TopologyValue) (s : Spec) (l : LimitsValue) → t ≡ named → searched ≡ (if adds_up s then reversed_of named else named) → searched ≡ searched_on (record { topology = t; spec = s; limits = l })
+searched_is t named searched s l same e = e ∙ ap (λ n. if adds_up s then reversed_of n else n) (sym same)

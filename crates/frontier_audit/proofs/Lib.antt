@@ -16,3 +16,4 @@ pub mod Said
 pub mod Asking
 pub mod Listing
 pub mod Answering
+pub mod Parting

@@ -90,6 +90,9 @@ later told tells shelf check d still a = record { files = a.files; told = λ t. 
 pub since : {E : Type 0} (tells : Bool) (before shelf : Files) (check : Files → Checked E) (d : Option E) → (IsTrue tells → FilesStay before shelf) → AnswersBeside tells shelf check d → AnswersBeside tells before check d
 since tells before shelf check d stay a = record { files = a.files; told = λ t name. a.told t name ∙ stay t name; is = a.is }
 
+pub reworded : {X E : Type 0} (tells : Bool) (shelf : Files) (check : Files → X → Checked E) (xs ys : List X) (d e : Option E) → xs ≡ ys → d ≡ e → AnswersBeside tells shelf (λ files. each (check files) xs) d → AnswersBeside tells shelf (λ files. each (check files) ys) e
+reworded tells shelf check xs ys d e same is a = record { files = a.files; told = a.told; is = sym is ∙ a.is ∙ ap (λ zs. denial_of (each (check a.files) zs)) same }
+
 -- ---- items of a list
 
 -- what answers the items from a place on answers all

@@ -53,7 +53,7 @@ impl Asked {
         let spec = spec_of_part(report, part)?;
         let searched = searched_on(topology, &spec)?;
         Ok(Asked {
-            topology: topology.clone()?,
+            topology: copied(topology)?,
             searched,
             spec,
             limits: report.words().limits(),
@@ -129,6 +129,13 @@ fn searched_on(topology: &Topology, spec: &Spec) -> Result<Topology, OutOfMemory
     if spec.adds_up() {
         topology.reversed()
     } else {
-        topology.clone()
+        copied(topology)
     }
+}
+
+/// The same topology. The only error is want of memory.
+fn copied(topology: &Topology) -> Result<Topology, OutOfMemory>
+    ensures { IfOk result (λ copy. copy ≡ topology.now) }
+{
+    topology.clone()
 }
