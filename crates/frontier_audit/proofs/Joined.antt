@@ -75,7 +75,7 @@ mark_itself mark.Optimal = refl
 mark_itself mark.Open = refl
 mark_itself (mark.Joined a) = eq-eqb a a refl
 
-point_is : (a b : PointValue) → same_point a b ≡ true → a ≡ b
+pub point_is : (a b : PointValue) → same_point a b ≡ true → a ≡ b
 point_is a b e =
     let outer = and_parts (same_candidate a.candidate b.candidate && same_schedule a.schedule b.schedule) (same_mark a.mark b.mark) e in
     let inner = and_parts (same_candidate a.candidate b.candidate) (same_schedule a.schedule b.schedule) outer.0 in

@@ -17,3 +17,5 @@ pub mod Asking
 pub mod Listing
 pub mod Answering
 pub mod Parting
+pub mod Pairing
+pub mod Jointly

@@ -119,7 +119,7 @@ verified_right r files ok e part f at unsolvable =
     let single = All-contains (λ x. kind_of r.words.collective.kind x.0 ≢ kind.Allreduce) r.frontiers (part, f) (each_apart r ok) at in
     right_part part (question r part) files f (apart_in (record { kind = kind_of r.words.collective.kind part; root = r.words.collective.root }) r.topology.custom single) frontier passes unsolvable
 
-joinable : (r : ReportValue) → IsReport r → r.words.collective.kind ≡ kind.Allreduce → All (IsSummable r.topology.topology) r.joined
+pub joinable : (r : ReportValue) → IsReport r → r.words.collective.kind ≡ kind.Allreduce → All (IsSummable r.topology.topology) r.joined
 joinable r ok e k d low =
     let p = ok.joined k d low in
     let x = get_or r.joined k d in

@@ -1,5 +1,5 @@
 -- The checks of an audit as its steps do them.
-use Rattle.std.specs.Prelude.{◌==◌, ◌&&◌, ◌||◌, not, Bool, List, Option, None, Some, filter, map, Ok, Err}
+use Rattle.std.specs.Prelude.{◌≡◌, ◌==◌, ◌&&◌, ◌||◌, ◌++◌, not, ℕ, Bool, List, Option, None, Some, drop, filter, map, Ok, Err}
 use Rattle.std.specs.List.{list_any}
 use Rattle.text_lines.specs.Check.{◌>>=◌, refuse}
 use Rattle.outer_ports.specs.declared.part.Part.{Part}
@@ -21,6 +21,7 @@ use Rattle.frontier_audit.specs.Candidates.{candidates_within, is_listed, same_c
 use Rattle.frontier_audit.specs.Solutions.{is_mark}
 use Rattle.frontier_audit.specs.Joining.{is_gather, is_join, is_reduce, joins_checked, points_of, same_point}
 use Rattle.frontier_audit.specs.Auditing.{candidate_checked, frontier_checked, mark_checked}
+use Rattle.frontier_audit.specs.Beside.{denial_of}
 
 -- ---- files
 
@@ -87,6 +88,11 @@ pairs_with p gather = map (λ q. (p, q)) (filter (λ q. q.candidate.c == p.candi
 abbrev pub join_checked : TopologyValue → PointValue × PointValue → Option PointValue → Checked Denial
 join_checked t pair None = Err (JoinWrong, (join_of pair.0 pair.1).candidate)
 join_checked t pair (Some p) = refuse (not (is_join t pair && same_point (join_of pair.0 pair.1) p)) (JoinWrong, (join_of pair.0 pair.1).candidate)
+
+-- the joins of these pairs are printed from one place to another; or they stop with this denial
+abbrev pub JoinsSay : TopologyValue → List (PointValue × PointValue) → List PointValue → ℕ → ℕ → Option Denial → Type 0
+JoinsSay t pairs joined before now None = (more : List (PointValue × PointValue)) → joins_checked t (pairs ++ more) (drop before joined) ≡ joins_checked t more (drop now joined)
+JoinsSay t pairs joined before now (Some d) = (more : List (PointValue × PointValue)) → denial_of (joins_checked t (pairs ++ more) (drop before joined)) ≡ Some d
 
 -- only an allreduce joins
 abbrev pub joins_of : Kind → ReportValue → Checked Denial

@@ -1,14 +1,13 @@
 //! The joined points of an allreduce.
 
-ghost use Rattle.std.specs.Prelude.{◌≡◌, ◌++◌, ◌<◌, ◌≤◌, All, List, Some, IfOk, IfSome, IfNone, length, slice_get, drop};
+ghost use Rattle.std.specs.Prelude.{◌≡◌, ◌&&◌, ◌<◌, [], ◌∷◌, All, IfOk, IfNone, length, slice_get};
 ghost use Rattle.collective_spec.specs.Collectives.{chunks_of};
-ghost use Rattle.candidate_order.specs.Frontiers.{PointValue};
-ghost use Rattle.allreduce_join.specs.Joins.{IsJoinable, join_of, pairs_of};
+ghost use Rattle.allreduce_join.specs.Joins.{IsJoinable, pairs_of};
 ghost use Rattle.allreduce_join.specs.Judging.{joined_verdict_of};
 ghost use Rattle.inversion.specs.Saying.{says_sums};
-ghost use Rattle.frontier_audit.specs.Joining.{IsSummable, is_join, joins_checked, same_mark, same_point, same_schedule};
+ghost use Rattle.frontier_audit.specs.Joining.{IsSummable, joins_checked, same_mark, same_point, same_schedule};
 ghost use Rattle.frontier_audit.specs.Beside.{denial_of};
-ghost use Rattle.frontier_audit.specs.Steps.{join_checked, joins_of, pairs_with};
+ghost use Rattle.frontier_audit.specs.Steps.{JoinsSay, join_checked, joins_of, pairs_with};
 
 use crate::answered::is_same;
 use crate::verdict::Reason;
@@ -66,9 +65,10 @@ fn pairs_denied(
             return Ok(Some(denial));
         }
     }
-    Ok(joined
-        .get(place)
-        .map(|point| (Reason::JoinWrong, point.candidate())))
+    match joined.get(place) {
+        None => Ok(None),
+        Some(surplus) => Ok(Some((Reason::JoinWrong, surplus.candidate()))),
+    }
 }
 
 /// The first joined point, from a place on, that is not the join of this point with one of those that have its chunk count.
@@ -84,21 +84,38 @@ fn gathered_denied(
     requires first { IsJoinable first.now }
     requires gather { All IsJoinable gather.now }
     requires joined { All (IsSummable topology.now) joined.now }
-    requires place { place.old ≤ length joined.now }
-    ensures denied { IfOk result (λ denied. IfSome denied (λ denial. (pairs : List (PointValue × PointValue)) → denial_of (joins_checked topology.now (pairs_with first.now gather.now ++ pairs) (drop place.old joined.now)) ≡ Some denial)) }
-    ensures passed { IfOk result (λ denied. IfNone denied ((pairs : List (PointValue × PointValue)) → joins_checked topology.now (pairs_with first.now gather.now ++ pairs) (drop place.old joined.now) ≡ joins_checked topology.now pairs (drop place.new joined.now))) }
-    ensures place { IfOk result (λ denied. IfNone denied (place.new ≤ length joined.now)) }
+    ensures { IfOk result (JoinsSay topology.now (pairs_with first.now gather.now) joined.now place.old place.new) }
 {
     for second in gather {
-        if second.candidate().c == first.candidate().c {
-            if let Some(denial) =
-                join_denied(alloc, topology, first, second, joined, *place)?
-            {
-                return Ok(Some(denial));
-            }
-            *place += 1;
+        if let Some(denial) = pair_denied(alloc, topology, first, second, joined, place)? {
+            return Ok(Some(denial));
         }
     }
+    Ok(None)
+}
+
+/// Whether the joined point at a place is the join of these two, where they have one chunk count; the place behind it is the
+/// next. The only error is want of memory.
+fn pair_denied(
+    alloc: Global,
+    topology: &Topology,
+    first: &Point,
+    second: &Point,
+    joined: &[Point],
+    place: &mut usize,
+) -> Result<Option<(Reason, Candidate)>, OutOfMemory>
+    requires first { IsJoinable first.now }
+    requires second { IsJoinable second.now }
+    requires joined { All (IsSummable topology.now) joined.now }
+    ensures { IfOk result (JoinsSay topology.now (pairs_with first.now (second.now ∷ [])) joined.now place.old place.new) }
+{
+    if second.candidate().c != first.candidate().c {
+        return Ok(None);
+    }
+    if let Some(denial) = join_denied(alloc, topology, first, second, joined, *place)? {
+        return Ok(Some(denial));
+    }
+    *place += 1;
     Ok(None)
 }
 
@@ -115,19 +132,36 @@ fn join_denied(
     requires first { IsJoinable first.now }
     requires second { IsJoinable second.now }
     requires joined { All (IsSummable topology.now) joined.now }
-    ensures { IfOk result (λ denied. denied ≡ denial_of (join_checked topology.now (first.now, second.now) (slice_get joined.now place))) }
+    ensures denied { IfOk result (λ denied. denied ≡ denial_of (join_checked topology.now (first.now, second.now) (slice_get joined.now place))) }
+    ensures place { IfOk result (λ denied. IfNone denied (place < length joined.now)) }
 {
     let due = join_points(alloc, first, second)?;
-    let right = match joined.get(place) {
-        None => false,
-        Some(point) => {
-            is_same_point(&due, point) && does_join(alloc, topology, point, first.candidate().s)?
-        }
+    let Some(printed) = joined.get(place) else {
+        return Ok(Some((Reason::JoinWrong, due.candidate())));
     };
-    if right {
+    if is_due(alloc, topology, &due, printed, first.candidate().s)? {
         Ok(None)
     } else {
         Ok(Some((Reason::JoinWrong, due.candidate())))
+    }
+}
+
+/// Whether a printed point is the one that is due, and sums everything where so many first steps add. The only error is
+/// want of memory.
+fn is_due(
+    alloc: Global,
+    topology: &Topology,
+    due: &Point,
+    printed: &Point,
+    adding: u8,
+) -> Result<bool, OutOfMemory>
+    requires { IsSummable topology.now printed.now }
+    ensures { IfOk result (λ is. is ≡ (same_point due.now printed.now && says_sums (joined_verdict_of topology.now (chunks_of Kind.Allreduce topology.now.nodes printed.now.candidate.c) printed.now.schedule adding))) }
+{
+    if is_same_point(due, printed) {
+        does_join(alloc, topology, printed, adding)
+    } else {
+        Ok(false)
     }
 }
 
