@@ -19,3 +19,4 @@ pub mod Answering
 pub mod Parting
 pub mod Pairing
 pub mod Jointly
+pub mod Verified

@@ -27,9 +27,20 @@ pub(crate) fn joins_denied(
 ) -> Result<Option<(Reason, Candidate)>, OutOfMemory>
     ensures { IfOk result (λ denied. denied ≡ denial_of (joins_of report.now.words.collective.kind report.now)) }
 {
-    if report.words().collective().kind != Kind::Allreduce {
-        return Ok(None);
+    match report.words().collective().kind {
+        Kind::Allreduce => parts_joined(alloc, report),
+        _ => Ok(None),
     }
+}
+
+/// The same of an allreduce, which has two parts.
+fn parts_joined(
+    alloc: Global,
+    report: &Report,
+) -> Result<Option<(Reason, Candidate)>, OutOfMemory>
+    requires { report.now.words.collective.kind ≡ Kind.Allreduce }
+    ensures { IfOk result (λ denied. denied ≡ denial_of (joins_of report.now.words.collective.kind report.now)) }
+{
     let topology = report.topology().topology();
     match report.frontiers() {
         [(_, reduce), (_, gather)] => pairs_denied(
