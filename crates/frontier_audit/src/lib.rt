@@ -9,8 +9,6 @@ mod joins;
 mod laws;
 mod parts;
 mod solutions;
-#[cfg(test)]
-mod tests;
 mod vectors;
 mod verdict;
 
