@@ -10,8 +10,8 @@ ghost use Rattle.frontier_audit.specs.Auditing.{frontier_checked};
 ghost use Rattle.frontier_audit.specs.Beside.{AnswersBeside, denial_of};
 ghost use Rattle.frontier_audit.specs.Steps.{answers_checked, parts_checked};
 
-use crate::asked::Asked;
 use crate::answered::{marks_denied, passed_over, unrefuted};
+use crate::asked::Asked;
 use crate::files::{refuted_denied, unknown_denied};
 use crate::solutions::points_denied;
 use crate::verdict::Reason;
