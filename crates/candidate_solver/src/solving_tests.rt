@@ -2,7 +2,6 @@
 
 ghost use Rattle.std.specs.Prelude.{◌≡◌, IfOk};
 
-
 use cnf_formula::{Formula, Lit};
 use conflict_ledger::{CheckedLedger, KeptLedger, PairLedger, ShelfLedger};
 use outer_ports::{FileKind, MemoryShelf, Part, ProofName};
