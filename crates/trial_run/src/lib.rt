@@ -1,0 +1,11 @@
+//! Trials: each number stands for a search, which is done, audited and replayed, and summed up in a text.
+#![tactic(auto)]
+
+mod asked;
+mod counts;
+mod replays;
+mod summary;
+mod vectors;
+
+pub use std::alloc::AllocError as OutOfMemory;
+pub use vectors::trials;
