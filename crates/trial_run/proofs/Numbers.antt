@@ -1,5 +1,5 @@
 -- The points of a report, one number after the other.
-use Rattle.std.proofs.Common.{◌≡◌, arith, ℕ, zero, suc, ◌+◌, ◌-◌, ◌*◌, ◌≤◌, inl, inr, List, length, take, get_or, Option, None, Some, slice_get, sym, ap, ◌∙◌, subst}
+use Rattle.std.proofs.Common.{◌≡◌, arith, ℕ, zero, suc, ◌+◌, ◌-◌, ◌*◌, ◌≤◌, inl, inr, length, take, get_or, None, Some, slice_get, sym, ap, ◌∙◌}
 use Rattle.std.specs.Prelude.{sum_by}
 use Rattle.std.proofs.Math.Seq.{take-length}
 use Rattle.std.proofs.lemmas.List.Sums.{sum_by_more}
@@ -36,8 +36,8 @@ sum_more f r n m a b d x some next e so_far share more =
 pub all_numbered : (r : ReportValue) (n : ℕ) → 1 ≤ n → n - 1 ≤ length (points_of r) → point_at r n ≡ None → n - 1 ≡ length (points_of r)
 all_numbered r n some within e =
     elim ((slice_get_cases (points_of r) (n - 1)).1) [
-      inl (x, low, at, _) ↦ absurd (let is : Some x ≡ None = sym at ∙ sym (at_place r n some) ∙ e in cc)
-    | inr (past, _) ↦ omega (arith, past)
+      | inl (x, low, at, _) ↦ absurd (let is : Some x ≡ None = sym at ∙ sym (at_place r n some) ∙ e in cc)
+      | inr (past, _) ↦ omega (arith, past)
     ]
 
 pub four_each : (r : ReportValue) (n a : ℕ) → n - 1 ≡ length (points_of r) → a ≡ 4 * (n - 1) → a ≡ 4 * length (points_of r)

@@ -5,7 +5,11 @@ mod asked;
 mod counts;
 mod replays;
 mod summary;
+#[cfg(test)]
+mod tests;
+mod trial;
 mod vectors;
 
 pub use std::alloc::AllocError as OutOfMemory;
+pub use trial::try_out;
 pub use vectors::trials;

@@ -14,7 +14,7 @@ loop-part-preserved c =
       within = within_more r c.loop-part.number c.in_ok-number.number _ at.some next c.in-Some.ensures.some;
       count = four_more c.loop-part.number c.in_ok-number.number c.loop-part.count c.in_ok-count.count at.some next at.count c.in_ok-count.ensures;
       events = sum_more (λ p. operations (machine_of (shown_in r p))) r c.loop-part.number c.in_ok-number.number c.loop-part.events c.in_ok-events.events c.in_ok-replay_in_orders.field-0 _
-      at.some next c.in-Some.ensures.some at.events c.in_ok-replay_in_orders.ensures c.in_ok-events.ensures;
+          at.some next c.in-Some.ensures.some at.events c.in_ok-replay_in_orders.ensures c.in_ok-events.ensures;
     }
 
 pub returns-clause-count : goal.returns-clause-count

@@ -1,4 +1,4 @@
-use Rattle.std.proofs.Common.{◌≡◌, ◌∙◌, ap, length}
+use Rattle.std.proofs.Common.{◌∙◌, ap, length}
 use Rattle.topology_text.specs.Value.{NamedTopologyValue}
 use Rattle.trial_run.proofs.Lines.{appended, lines_of_trial}
 use Rattle.trial_run.proofs.summary.print_trial.Goals as goal
