@@ -193,14 +193,6 @@ jump_due core lits level j =
     due_by (below core.vars core.trail core.limits level) lits (jump_can core lits level j)
     (below_limits core.limits (length core.trail) level (length (take (get_or core.limits level 0) core.trail)) j.formed.levels j.above (length-take-le (get_or core.limits level 0) core.trail (omega (arith, top))))
 
--- ---- after the clause was added
-
-abbrev pub added : CoreValue → List LitValue → CoreValue
-added core lits = record core { clauses = core.clauses ++ lits ∷ [] }
-
-pub added_at : (core : CoreValue) (lits : List LitValue) (id : ℕ) → id ≡ length core.clauses → get_or (core.clauses ++ lits ∷ []) id [] ≡ lits
-added_at core lits id e = get_or_push core.clauses lits [] id (sym e)
-
 -- what is learned is so backed
 pub learned_backed : (core : CoreValue) (conflict : ℕ) (line : ProofLineValue) → 0 < length core.limits → IsLearned core conflict line → IsBacked core line.lits
 learned_backed core conflict line some l = record { pointed = l.points some; once = l.once; falses = l.analysis.falses }

@@ -103,21 +103,18 @@ filter_none p (x ∷ xs) h = let e : p x ≡ false = h 0 (omega arith) in rw e (
 
 -- nothing was met
 pub record IsBegun (core : CoreValue) (w : WalkValue) : Type 0 where
-  pub rested : IsRested core.vars (length core.clauses) w.marks
-  pub stamp : w.stamp ≡ 4 * (length core.clauses + 1)
+  pub len : length w.marks ≡ core.vars + 1
+  pub low : (v : ℕ) → get_or w.marks v 0 < w.stamp
   pub lits : w.lits ≡ []
   pub hints : w.hints ≡ []
   pub open_ : w.open_ ≡ 0
   pub zeros : w.zeros ≡ 0
 
-pub begun_low : (core : CoreValue) (w : WalkValue) (v : ℕ) → IsBegun core w → get_or w.marks v 0 < w.stamp
-begun_low core w v b = let r = b.rested.below v in omega (arith, r, b.stamp)
-
 pub begun_sorted : (core : CoreValue) (w : WalkValue) → IsBegun core w → IsSorted core w
 begun_sorted core w b = record {
   marked = record {
-    len = b.rested.len;
-    over = λ v. let r = begun_low core w v b in omega (arith, r);
+    len = b.len;
+    over = λ v. let r = b.low v in omega (arith, r);
     placed = λ v h. absurd (low v h);
     low = λ k v e. absurd (low (lit_at core k).var (omega (arith, e)));
     top = λ k v e. absurd (low (lit_at core k).var (omega (arith, e)));
@@ -133,12 +130,12 @@ begun_sorted core w b = record {
 }
   where
     low : (v : ℕ) → w.stamp ≤ get_or w.marks v 0 → ⊥
-    low v h = let r = begun_low core w v b in omega (arith, r, h)
+    low v h = let r = b.low v in omega (arith, r, h)
 
 -- the conflict was met: nothing is resolved
 pub met_unresolved : (core : CoreValue) (clause : List LitValue) (a b : WalkValue) (v : ℕ) → IsBegun core a → HasMet core clause a b → get_or b.marks v 0 ≢ b.stamp + 2
 met_unresolved core clause a b v begun m e = ⊎_elim
-    (λ g. let r = begun_low core a v begun in omega (arith, r, g))
+    (λ g. let r = begun.low v in omega (arith, r, g))
     (λ q. q.3 (omega (arith, e, m.stamp)))
     (m.new v (omega (arith, e, m.stamp)))
 
@@ -205,12 +202,9 @@ point_on core w w' l s p = record {
 
 -- ---- as the analysis reads it
 
-pub begun_by : (core : CoreValue) (w : WalkValue) (marks : List ℕ) → IsRested core.vars (length core.clauses) marks → w.marks ≡ marks → w.stamp ≡ 4 * (length core.clauses + 1) → w.lits ≡ [] → w.hints ≡ [] → w.open_ ≡ 0 → w.zeros ≡ 0 → IsBegun core w
-begun_by core w marks r e stamp lits hints opens bottoms = record { rested = subst (IsRested core.vars (length core.clauses)) (sym e) r; stamp = stamp; lits = lits; hints = hints; open_ = opens; zeros = bottoms }
-
 pub conflict_within : (core : CoreValue) (conflict : ℕ) → IsConflict core conflict → (o : LitValue) → Contains (get_or core.clauses conflict []) o → o.var ≤ core.vars
 conflict_within core conflict c o h = (All-contains (IsAbout core.vars) (trues core) (negation o) c.formed.within (c.falsified o h)).within
 
--- no mark is of the next analysis
-pub rested_next : (core : CoreValue) (w : WalkValue) → IsSorted core w → w.stamp ≡ 4 * (length core.clauses + 1) → IsRested core.vars (length core.clauses + 1) w.marks
-rested_next core w s e = record { len = s.marked.len; below = λ v. let o = s.marked.over v in omega (arith, o, e) }
+-- no mark is above those of this analysis
+pub rested_after : (core : CoreValue) (w : WalkValue) → IsSorted core w → IsRested core.vars w.stamp w.marks
+rested_after core w s = record { len = s.marked.len; below = λ v. let o = s.marked.over v in omega (arith, o) }

@@ -92,10 +92,8 @@ positive n h = ⊎_elim (λ w. w) (λ z. absurd (h (omega (arith, z)))) (cases_l
 
 -- ---- what is kept beside the core
 
-pub guided_more : (core core' : CoreValue) (lits : List LitValue) (guide : Guide) → IsRested core.vars (length core.clauses + 1) guide.walk.marks.items → guide.decider ≡ core.vars → core'.vars ≡ core.vars → core'.clauses ≡ core.clauses ++ lits ∷ [] → IsGuided core' guide
-guided_more core core' lits guide r d vars clauses =
-    let n : length core'.clauses ≡ length core.clauses + 1 = ap length clauses ∙ length_push core.clauses lits in
-    record {
-      rested = record { len = r.len ∙ ap (λ m. m + 1) (sym vars); below = λ v. let b = r.below v in omega (arith, b, n) };
-      decider = d ∙ sym vars;
-    }
+pub guided_more : (core core' : CoreValue) (guide : Guide) → IsRested core.vars guide.walk.stamp guide.walk.marks.items → guide.decider ≡ core.vars → core'.vars ≡ core.vars → IsGuided core' guide
+guided_more core core' guide r d vars = record {
+  rested = record { len = r.len ∙ ap (λ m. m + 1) (sym vars); below = r.below };
+  decider = d ∙ sym vars;
+}

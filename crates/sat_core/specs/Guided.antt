@@ -4,7 +4,7 @@ use Rattle.trail_core.specs.Meaning.{CoreValue}
 use Rattle.sat_core.specs.declared.guide.Guide.{Guide}
 use Rattle.sat_core.specs.Met.{IsRested}
 
--- its tables are of the core's variables, and no mark is of the next analysis
+-- its tables are of the core's variables, and no mark is above those of the last analysis
 pub record IsGuided (core : CoreValue) (guide : Guide) : Type 0 where
-  pub rested : IsRested core.vars (length core.clauses) guide.walk.marks.items
+  pub rested : IsRested core.vars guide.walk.stamp guide.walk.marks.items
   pub decider : guide.decider ≡ core.vars

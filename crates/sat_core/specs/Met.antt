@@ -1,5 +1,5 @@
 -- What an analysis knows on its walk down the trail: of each variable what becomes of its literal, as a mark above a stamp.
-use Rattle.std.specs.Prelude.{◌≡◌, ◌≢◌, ◌⊎◌, ◌==◌, ℕ, ◌+◌, ◌*◌, ◌<◌, ◌≤◌, Bool, List, [], None, Some, Contains, AllPairs, length, get_or, take, count_by, reverse, ℤ}
+use Rattle.std.specs.Prelude.{◌≡◌, ◌≢◌, ◌⊎◌, ◌==◌, ℕ, ◌+◌, ◌<◌, ◌≤◌, Bool, List, [], None, Some, Contains, AllPairs, length, get_or, take, count_by, reverse, ℤ}
 use Rattle.cnf_formula.specs.Literals.{LitValue}
 use Rattle.trail_core.specs.Assigned.{IsFalse, level_at}
 use Rattle.trail_core.specs.Trails.{StepValue, lits_of}
@@ -93,10 +93,10 @@ pub record IsOnward (w w' : WalkValue) : Type 0 where
   pub stamp : w'.stamp ≡ w.stamp
   pub seen : (o : LitValue) → IsSeen w o → IsSeen w' o
 
--- no mark is of the analysis that comes next, where so many clauses are held
-pub record IsRested (vars clauses : ℕ) (marks : List ℕ) : Type 0 where
+-- no mark is above those of the last analysis
+pub record IsRested (vars stamp : ℕ) (marks : List ℕ) : Type 0 where
   pub len : length marks ≡ vars + 1
-  pub below : (v : ℕ) → get_or marks v 0 < 4 * (clauses + 1)
+  pub below : (v : ℕ) → get_or marks v 0 < stamp + 4
 
 -- the literal stands on the trail, and its step is the one of the last level that waits
 pub record IsPoint (core : CoreValue) (w : WalkValue) (l : LitValue) : Type 0 where

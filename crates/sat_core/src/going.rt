@@ -54,8 +54,7 @@ fn jump(core: &mut Core, lits: &[Lit], level: u32) -> Result<(), OutOfMemory>
     ensures added { OnOk result (core.new.clauses ≡ core.old.clauses ++ lits.now ∷ []) }
 {
     core.back_to(level);
-    let id = core.add_clause(lits)?;
-    core.assert(lits[lits.len() - 1], id);
+    core.learn(lits, lits[lits.len() - 1])?;
     Ok(())
 }
 

@@ -22,7 +22,7 @@ impl Guide {
     pub fn new(alloc: Global, vars: u32) -> Result<Guide, OutOfMemory>
         requires { vars < 2147483648 }
         ensures decider { IfOk result (λ guide. guide.decider ≡ vars) }
-        ensures rested { (clauses : ℕ) → IfOk result (λ guide. IsRested vars clauses guide.walk.marks.items) }
+        ensures rested { IfOk result (λ guide. IsRested vars guide.walk.stamp guide.walk.marks.items) }
     {
         Ok(Guide {
             walk: Walk::new(alloc, vars)?,

@@ -24,7 +24,7 @@ pub fn hint(id: ClauseId) -> i64
 fn meet(core: &Core, walk: &mut Walk, lit: Lit) -> Result<(), OutOfMemory>
     requires formed { IsTrail core.now.vars core.now.trail core.now.limits }
     requires sorted { IsSorted core.now (value_of walk.old) }
-    requires few { walk.old.stamp < 4611686018427387904 }
+    requires few { walk.old.stamp ≤ 251 }
     requires met { IsSeen (value_of walk.old) lit ⊎ IsFalse (trues core.now) lit }
     requires within { lit.var ≤ core.now.vars }
     ensures { OnOk result (HasMet core.now (lit ∷ []) (value_of walk.old) (value_of walk.new)) }
@@ -54,7 +54,7 @@ fn meet(core: &Core, walk: &mut Walk, lit: Lit) -> Result<(), OutOfMemory>
 pub fn meet_all(core: &Core, walk: &mut Walk, id: ClauseId) -> Result<(), OutOfMemory>
     requires formed { IsTrail core.now.vars core.now.trail core.now.limits }
     requires sorted { IsSorted core.now (value_of walk.old) }
-    requires few { walk.old.stamp < 4611686018427387904 }
+    requires few { walk.old.stamp ≤ 251 }
     requires id { id < length core.now.clauses }
     requires met { (o : LitValue) → Contains (get_or core.now.clauses id []) o → IsSeen (value_of walk.old) o ⊎ IsFalse (trues core.now) o }
     requires within { (o : LitValue) → Contains (get_or core.now.clauses id []) o → o.var ≤ core.now.vars }
@@ -69,7 +69,7 @@ pub fn meet_all(core: &Core, walk: &mut Walk, id: ClauseId) -> Result<(), OutOfM
 /// Takes a step for its reason.
 pub fn resolve(core: &Core, walk: &mut Walk, place: usize) -> Result<(), OutOfMemory>
     requires formed { IsTrail core.now.vars core.now.trail core.now.limits }
-    requires few { walk.old.stamp < 4611686018427387904 }
+    requires few { walk.old.stamp ≤ 251 }
     requires place { place < length core.now.trail }
     requires implied { IsImplied core.now.clauses (IsDue core.now.limits) (take place core.now.trail) (step_at core.now place) }
     requires marked { AreMarks core.now walk.old.stamp walk.old.marks.items }

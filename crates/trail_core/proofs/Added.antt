@@ -1,10 +1,10 @@
 -- What a core keeps, as a clause is added.
-use Rattle.std.proofs.Common.{zero, suc, ◌≡◌, ◌≢◌, ◌==◌, ℕ, ◌+◌, ◌-◌, ◌*◌, ◌<◌, ◌≤◌, List, [], ◌∷◌, ◌++◌, length, get_or, set, take, leb, cond, count_by, sum_by, refl, sym, ap, ◌∙◌, subst, inl, inr, ⊎_elim, arith}
+use Rattle.std.proofs.Common.{zero, suc, ◌≡◌, ◌≢◌, ◌==◌, ℕ, ◌+◌, ◌-◌, ◌*◌, ◌<◌, ◌≤◌, List, [], ◌∷◌, ◌++◌, length, get_or, set, take, Some, leb, cond, count_by, sum_by, refl, sym, ap, ◌∙◌, subst, inl, inr, ⊎_elim, arith}
 use Rattle.std.specs.Prelude.{◌⊎◌, Contains, All}
 use Rattle.std.proofs.lemmas.Bool.{cases_lt, cases_eq, le-leb, lt-leb}
-use Rattle.std.proofs.lemmas.List.{get_or_past, get_or_append_left, get_or_push, get_or-take, get_or_default, length_push, map_push, length-take-le, get_or-set_same, get_or-set_other, length-set}
+use Rattle.std.proofs.lemmas.List.{get_or_past, get_or_append_left, get_or_push, get_or-take, get_or_default, length_push, map_push, length-take-le, get_or-set_same, get_or-set_other, length-set, length-map, take-append-le}
 use Rattle.std.proofs.lemmas.List.Sums.{sum_by_push, sum_by-cons, count_by-le-length}
-use Rattle.std.proofs.lemmas.List.Elements.{All-push}
+use Rattle.std.proofs.lemmas.List.Elements.{All-push, Contains-push, Contains-append_left}
 use Rattle.cnf_formula.specs.Literals.{LitValue, negation, code_of}
 use Rattle.trail_core.specs.Assigned.{IsFalse, IsOpen, level_at}
 use Rattle.trail_core.specs.Trails.{StepValue, TrailValue, lits_of}
@@ -13,6 +13,7 @@ use Rattle.trail_core.specs.Search.{IsSatisfied, IsUnit, clauses_of, CanScan}
 use Rattle.trail_core.specs.Kept.{IsDue, IsGrounded, IsShort, IsKept, IsRecent}
 use Rattle.trail_core.proofs.Watching.{code_same, hit, hit_yes, hit_no, count_long, count_short, watch_which, occurs}
 use Rattle.trail_core.proofs.Keeping.{in_front, lits_length}
+use Rattle.trail_core.proofs.Levels.{kept_assert}
 
 -- ---- rows with one more
 
@@ -243,6 +244,47 @@ kept_lists rows w w' t head short k a i = record {
   grounded = k.grounded;
   short_true = k.short_true;
 }
+
+-- the clause makes a literal true, and so nothing waits on its account
+pub kept_learned : (rows : List RowValue) (r : RowValue) (w w' : ListsValue) (t : TrailValue) (head below : ℕ) (short short' : List ℕ) (x : LitValue) → IsKept rows w t head short → IsKept (rows ++ r ∷ []) w' t below short' → IsUnit (lits_of t.steps) r.lits x → IsDue t.limits t.steps r.lits
+    → IsKept (rows ++ r ∷ []) w' (record { vars = t.vars; steps = t.steps ++ record { lit = x; reason = Some (length rows) } ∷ []; limits = t.limits }) head short'
+kept_learned rows r w w' t head below short short' x old new u d = record {
+  can = k.can;
+  head_within = omega (arith, old.head_within, length_push t.steps step);
+  excused = λ e l h f. ⊎_elim
+      (λ lt.
+      let s = old.excused e l (subst (λ y. 0 < watch_count y (code_of l)) (row_old rows r e lt) h) (subst (λ xs. IsFalse xs l) front f) in
+      subst (IsSatisfied (lits_of (t.steps ++ step ∷ []))) (ap (λ y. y.lits) (sym (row_old rows r e lt))) (s.0, s.1, further s.0 s.2))
+      (λ ge. ⊎_elim
+      (λ eq. subst (λ n. IsSatisfied (lits_of (t.steps ++ step ∷ [])) (row_at (rows ++ r ∷ []) n).lits) (sym eq) (subst (λ y. IsSatisfied (lits_of (t.steps ++ step ∷ [])) y.lits) (sym (row_new rows r)) (x, u.stands, subst (λ xs. Contains xs x) (sym pushed) (Contains-push (lits_of t.steps) x))))
+      (λ ne. absurd (omega (arith, h, ap (λ y. watch_count y (code_of l)) (row_past rows r e (omega (arith, ge, ne))), none_watch (code_of l))))
+      (cases_eq e (length rows)))
+      (cases_lt e (length rows));
+  head_above = old.head_above;
+  settled = k.settled;
+  short_known = k.short_known;
+  short_within = k.short_within;
+  grounded = k.grounded;
+  short_true = k.short_true;
+}
+  where
+    step : StepValue
+    step = record { lit = x; reason = Some (length rows) }
+
+    pushed : lits_of (t.steps ++ step ∷ []) ≡ lits_of t.steps ++ x ∷ []
+    pushed = map_push (λ s. s.lit) t.steps step
+
+    here' : get_or (clauses_of (rows ++ r ∷ [])) (length rows) [] ≡ r.lits
+    here' = ap (λ xs. get_or xs (length rows) []) (map_push (λ y. y.lits) rows r) ∙ get_or_push (clauses_of rows) r.lits [] (length rows) (length-map rows (λ y. y.lits))
+
+    k : IsKept (rows ++ r ∷ []) w' (record { vars = t.vars; steps = t.steps ++ step ∷ []; limits = t.limits }) below short'
+    k = kept_assert (rows ++ r ∷ []) w' t below short' x (length rows) new (omega (arith, length-map (rows ++ r ∷ []) (λ y. y.lits), length_push rows r)) (subst (λ xs. IsUnit (lits_of t.steps) xs x) (sym here') u) (subst (IsDue t.limits t.steps) (sym here') d)
+
+    front : take head (lits_of (t.steps ++ step ∷ [])) ≡ take head (lits_of t.steps)
+    front = ap (take head) pushed ∙ take-append-le head (lits_of t.steps) (x ∷ []) (omega (arith, old.head_within, lits_length t.steps))
+
+    further : (l : LitValue) → Contains (lits_of t.steps) l → Contains (lits_of (t.steps ++ step ∷ [])) l
+    further l c = subst (λ xs. Contains xs l) (sym pushed) (Contains-append_left (lits_of t.steps) (x ∷ []) l c)
 
 -- rows with one that is a row
 pub rows_add : (vars : ℕ) (rows : List RowValue) (r : RowValue) → AreRows vars rows → IsRow vars r → AreRows vars (rows ++ r ∷ [])

@@ -5,7 +5,7 @@ use Rattle.std.proofs.lemmas.List.{length-map, get_or-map}
 use Rattle.cnf_formula.specs.Literals.{LitValue}
 use Rattle.cnf_formula.specs.Formulas.{IsAbout, IsClause}
 use Rattle.trail_core.specs.Formed.{IsTrail}
-use Rattle.trail_core.specs.Trails.{StepValue, lits_of, step_of, IsAssigned, IsLeveled}
+use Rattle.trail_core.specs.Trails.{lits_of, step_of, IsAssigned, IsLeveled}
 use Rattle.trail_core.specs.Search.{clauses_of}
 use Rattle.trail_core.specs.Watching.{RowValue, no_row, AreRows}
 use Rattle.trail_core.proofs.Trails.{lits-steps}

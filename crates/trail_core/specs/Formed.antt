@@ -1,6 +1,5 @@
 -- What callers know of a trail beside why its literals are true.
 use Rattle.std.specs.Prelude.{◌≢◌, ℕ, ◌≤◌, List, All, AllPairs, length}
-use Rattle.cnf_formula.specs.Literals.{LitValue}
 use Rattle.cnf_formula.specs.Formulas.{IsAbout}
 use Rattle.trail_core.specs.Assigned.{AreLimits}
 use Rattle.trail_core.specs.Trails.{StepValue, lits_of}

@@ -1,5 +1,5 @@
 -- What a core keeps in its fields.
-use Rattle.std.specs.Prelude.{◌≡◌, ◌⊎◌, ℕ, ◌<◌, ◌≤◌, List, None, Contains, All, length, get_or, take}
+use Rattle.std.specs.Prelude.{◌≡◌, ◌⊎◌, ℕ, ◌<◌, ◌≤◌, List, [], ◌∷◌, ◌++◌, None, Contains, All, length, get_or, take}
 use Rattle.cnf_formula.specs.Literals.{LitValue, negation, code_of}
 use Rattle.trail_core.specs.Assigned.{IsFalse, level_at}
 use Rattle.trail_core.specs.Trails.{StepValue, TrailValue, lits_of}
@@ -41,6 +41,12 @@ pub record IsKept (rows : List RowValue) (w : ListsValue) (t : TrailValue) (head
   pub short_within : All (IsShort rows) short
   pub grounded : (k : ℕ) (d : StepValue) → k < length t.steps → IsGrounded (clauses_of rows) t.limits (take k t.steps) (get_or t.steps k d)
   pub short_true : (j : ℕ) → j < length t.limits → ShortTrue rows (take (get_or t.limits j 0) (lits_of t.steps))
+
+-- a clause was added
+pub record IsHeld (rows : List RowValue) (clause : List LitValue) (rows' : List RowValue) : Type 0 where
+  pub row : RowValue
+  pub lits : row.lits ≡ clause
+  pub is : rows' ≡ rows ++ row ∷ []
 
 -- all of the trail was propagated
 pub record IsDone (rows : List RowValue) (t : TrailValue) (head : ℕ) : Type 0 where

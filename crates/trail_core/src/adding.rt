@@ -1,14 +1,15 @@
 //! What a clause needs when it is added: room in the lists of its literals, and two literals to watch.
 
-ghost use Rattle.std.specs.Prelude.{◌≡◌, ◌≢◌, ◌↔◌, ◌⊎◌, ◌==◌, ℕ, ◌+◌, ◌*◌, ◌<◌, ◌≤◌, IsTrue, List, [], ◌∷◌, ◌++◌, Option, Some, None, MatchOption, length, get_or, map, Contains, All, AllPairs, count_by, OnOk, slice_index};
+ghost use Rattle.std.specs.Prelude.{◌≡◌, ◌≢◌, ◌↔◌, ◌⊎◌, ◌==◌, ℕ, ◌+◌, ◌*◌, ◌<◌, ◌≤◌, IsTrue, List, [], ◌∷◌, ◌++◌, Option, Some, None, MatchOption, length, get_or, map, Contains, All, AllPairs, count_by, IfOk, OnErr, OnOk, slice_index};
 ghost use Rattle.cnf_formula.specs.Literals.{LitValue, negation, code_of};
 ghost use Rattle.cnf_formula.specs.Formulas.{IsAbout};
 ghost use Rattle.trail_core.specs.Assigned.{IsFalse, IsOpen};
 ghost use Rattle.trail_core.specs.Trails.{lits_of};
 ghost use Rattle.trail_core.specs.Watching.{AreLists, HasRoom, list_at};
-ghost use Rattle.trail_core.specs.Kept.{IsRecent, CanAddTo};
+ghost use Rattle.trail_core.specs.Kept.{IsRecent, IsKept, IsHeld, CanAddTo};
 
 use crate::lists::WatchLists;
+use crate::store::ClauseStore;
 use crate::trail::Trail;
 use cnf_formula::Lit;
 use std::alloc::AllocError;
@@ -80,4 +81,36 @@ pub fn watches(lits: &[Lit], trail: &Trail) -> (Lit, Lit)
         }
         _ => (Lit::new(1, true), Lit::new(1, false)),
     }
+}
+
+/// Holds a clause under the next number, and puts back to where the present level begins what waits to be propagated. `Err`
+/// comes only where memory runs out or the numbers do, and then the clauses are as before.
+pub fn hold(
+    store: &mut ClauseStore,
+    lists: &mut WatchLists,
+    trail: &Trail,
+    head: &mut u32,
+    short: &mut Vec<u32>,
+    lits: &[Lit],
+) -> Result<u32, AllocError>
+    requires kept { IsKept store.old lists.old trail.now head.old short.old.items }
+    requires within { All (IsAbout trail.now.vars) lits.now }
+    requires once { AllPairs (λ a b. a ≢ b) lits.now }
+    requires place { CanAddTo trail.now lits.now }
+    ensures kept { IsKept store.new lists.new trail.now head.new short.new.items }
+    ensures ok { IfOk result (λ id. (id ≡ length store.old) × IsHeld store.old lits.now store.new) }
+    ensures err { OnErr result (store.new ≡ store.old) }
+{
+    short.reserve(1)?;
+    admit_all(lists, lits, trail.vars())?;
+    let (first, second) = watches(lits, trail);
+    let number = store.push(lits, first, second)?;
+    if lits.len() > 1 {
+        lists.add(first, number);
+        lists.add(second, number);
+    } else {
+        short.push_reserved(number);
+    }
+    *head = trail.bottom();
+    Ok(number)
 }

@@ -10,7 +10,7 @@ ghost use Rattle.trail_core.specs.Kept.{IsDue, AreGrounded, CanAdd};
 ghost use Rattle.trail_core.specs.Meaning.{CoreValue, trues, IsClosed, IsClosedBelow};
 ghost use Rattle.trail_core.specs.Formed.{IsTrail};
 
-use crate::adding::{admit_all, watches};
+use crate::adding::hold;
 use crate::lists::WatchLists;
 use crate::search::propagate_all;
 use crate::store::ClauseStore;
@@ -223,17 +223,40 @@ impl Core {
         ensures ok { IfOk result (λ id. (id ≡ length self.old.clauses) × (self.new ≡ record self.old { clauses = self.old.clauses ++ lits.now ∷ [] })) }
         ensures err { OnErr result (self.new ≡ self.old) }
     {
-        self.short.reserve(1)?;
-        admit_all(&mut self.lists, lits, self.trail.vars())?;
-        let (first, second) = watches(lits, &self.trail);
-        let number = self.store.push(lits, first, second)?;
-        if lits.len() > 1 {
-            self.lists.add(first, number);
-            self.lists.add(second, number);
-        } else {
-            self.short.push_reserved(number);
-        }
-        self.head = self.trail.bottom();
+        let number = hold(
+            &mut self.store,
+            &mut self.lists,
+            &self.trail,
+            &mut self.head,
+            &mut self.short,
+            lits,
+        )?;
+        Ok(ClauseId { number })
+    }
+
+    /// Adds a clause with no literal twice, above level 0, and makes true the one of its literals that is open; the others are
+    /// false, and one of these became false on the present level. `Err` is as for `add_clause`.
+    pub fn learn(&mut self, lits: &[Lit], lit: Lit) -> Result<ClauseId, AllocError>
+        requires within { All (IsAbout self.old.vars) lits.now }
+        requires once { AllPairs (λ a b. a ≢ b) lits.now }
+        requires place { CanAdd self.old lits.now }
+        requires alone { IsUnit (trues self.old) lits.now lit }
+        requires due { IsDue self.old.limits self.old.trail lits.now }
+        ensures ok { IfOk result (λ id. (id ≡ length self.old.clauses) × (self.new ≡ record self.old { clauses = self.old.clauses ++ lits.now ∷ []; trail = self.old.trail ++ record { lit = lit; reason = Some id } ∷ [] })) }
+        ensures err { OnErr result (self.new ≡ self.old) }
+    {
+        let head = self.head;
+        let number = hold(
+            &mut self.store,
+            &mut self.lists,
+            &self.trail,
+            &mut self.head,
+            &mut self.short,
+            lits,
+        )?;
+        self.trail.push(lit, Some(number));
+        // The clause is satisfied now, so nothing waits on its account.
+        self.head = head;
         Ok(ClauseId { number })
     }
 }

@@ -23,7 +23,7 @@ pub search-requires-clause-guided : goal.search-requires-clause-guided
 search-requires-clause-guided g c =
     let vars : c.in_ok-core.core.vars ≡ c.min-own.result = c.in_ok-core.ensures.vars in
     record {
-      rested = subst (λ n. IsRested n (length c.in_ok-core.core.clauses) c.in_ok-guide.guide.walk.marks.items) (sym vars) (c.in_ok-guide.ensures.rested (length c.in_ok-core.core.clauses));
+      rested = subst (λ n. IsRested n c.in_ok-guide.guide.walk.stamp c.in_ok-guide.guide.walk.marks.items) (sym vars) c.in_ok-guide.ensures.rested;
       decider = c.in_ok-guide.ensures.decider ∙ sym vars;
     }
 

@@ -93,7 +93,7 @@ returns-clause-ready g c =
 
 pub returns-clause-guided : goal.returns-clause-guided
 returns-clause-guided g c = λ h.
-    guided_more c.args.core.now c.go_back.new.core _ _ c.in_ok-line.ensures.rested (c.go_back.ensures.decider ∙ c.learn-2.ensures ∙ c.requires.guided.decider) c.go_back.ensures.vars c.in_ok-go_back.ensures.added
+    guided_more c.args.core.now c.go_back.new.core _ c.in_ok-line.ensures.rested (c.go_back.ensures.decider ∙ c.learn-2.ensures ∙ c.requires.guided.decider) c.go_back.ensures.vars
 
 pub returns-then-is_empty-clause-written : goal.returns-then-is_empty-clause-written
 returns-then-is_empty-clause-written g c =
