@@ -1,6 +1,7 @@
 pub mod Refused
 pub mod DueWords
 pub mod IfDue
+pub mod Tasked
 pub mod Recorded
 pub mod Planned
 pub mod Reported

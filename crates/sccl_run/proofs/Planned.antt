@@ -1,17 +1,16 @@
 -- What is due for the words of a search, check by check.
-use Rattle.std.proofs.Common.{◌≡◌, ◌<◌, ◌≤◌, ◌==◌, ◌⊎◌, inl, inr, ℕ, Bool, true, false, not, nat_lt, length, List, [], Option, None, Some, IfSome, Result, Ok, Err, refl, sym, subst, ap, arith, ◌∙◌}
-use Rattle.std.proofs.lemmas.Bool.{lt-ltb, le-ltb, eqb-true, eqb-false}
+use Rattle.std.proofs.Common.{◌≡◌, ◌<◌, ◌≤◌, ◌==◌, ◌⊎◌, inl, inr, ℕ, Bool, true, false, not, nat_lt, length, List, Option, Result, Ok, Err, refl, sym, subst, ap, ◌∙◌}
+use Rattle.std.proofs.lemmas.Bool.{lt-ltb, le-ltb}
 use Rattle.std.specs.List.Sorted.{IsStrictlyIncreasing}
-use Rattle.text_lines.specs.Check.{◌>>=◌, refuse, need}
+use Rattle.text_lines.specs.Check.{◌>>=◌, refuse}
 use Rattle.schedule.specs.Links.{TopologyValue}
 use Rattle.collective_spec.specs.declared.kind.Kind.{Kind}
 use Rattle.collective_spec.specs.declared.collective.Collective.{Collective}
 use Rattle.collective_spec.specs.declared.spec.Spec.{Spec}
-use Rattle.collective_spec.specs.Kinds.{takes_root}
-use Rattle.collective_spec.specs.Collectives.{fits_kind, kind_in, reduces, spec_of}
+use Rattle.collective_spec.specs.Collectives.{fits_kind, reduces, spec_of}
 use Rattle.collective_spec.proofs.Sized.{fitting_kind}
 use Rattle.candidate_order.specs.Listed.{AreAllowed}
-use Rattle.candidate_order.specs.Ranges.{LimitsValue, IsLimits}
+use Rattle.candidate_order.specs.Ranges.{LimitsValue}
 use Rattle.candidate_formula.specs.Counts.{allowed_up_to}
 use Rattle.candidate_formula.specs.Sizes.{size_of}
 use Rattle.round_encoding.specs.Candidates.{size_limit}
@@ -19,16 +18,14 @@ use Rattle.topology_text.specs.declared.fault.TopologyCode.{TopologyCode}
 use Rattle.topology_text.specs.declared.fault.TopologyCode.TheVariants.{OutOfMemory}
 use Rattle.topology_text.specs.Value.{NamedTopologyValue, IsNamed}
 use Rattle.topology_text.specs.Answer.{code_number as topology_number}
-use Rattle.topology_text.specs.Reading.{node_of, topology_of}
+use Rattle.topology_text.specs.Reading.{topology_of}
 use Rattle.command_words.specs.declared.command.RootWord.{RootWord}
 use Rattle.report_form.specs.Reports.{WordsValue, IsWords}
 use Rattle.frontier_audit.specs.Candidates.{counts_of}
 use Rattle.sccl_run.specs.declared.planning.Plan.{Plan}
-use Rattle.sccl_run.specs.declared.status.Status.{Status}
 use Rattle.sccl_run.specs.declared.status.Status.TheVariants.{BadWords, BadTopology, TooLarge, NoCandidate, TooLong}
-use Rattle.sccl_run.specs.Answering.{Says}
 use Rattle.sccl_run.specs.Refusals.{Refusal, refused_as, refused_at}
-use Rattle.sccl_run.specs.Tasks.{Task, Synthesise, limit, root_in, search_for, search_over, searchable, synthesis_of, whole_question, words_for}
+use Rattle.sccl_run.specs.Tasks.{Task, Synthesise, limit, root_in, search_for, search_over, synthesis_of, whole_question, words_for}
 use Rattle.sccl_run.specs.Searches.{IsPlanned, IsSearch}
 use Rattle.sccl_run.proofs.ReportsDue.{short_passes}
 

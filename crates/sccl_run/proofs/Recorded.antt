@@ -26,11 +26,11 @@ use Rattle.candidate_formula.specs.Files.{HasFormula, HasLog, HasRefutation, IsE
 use Rattle.candidate_solver.specs.declared.settled.Settled.{Settled}
 use Rattle.candidate_solver.specs.declared.settled.Settled.TheVariants.{Solved, Refuted, Unknown}
 use Rattle.candidate_solver.specs.Outcomes.{RecordValue, IsNew}
-use Rattle.candidate_solver.specs.Kept.{HasFiles, IsBegun, IsTouched, KeptAgrees, KeptMoves}
+use Rattle.candidate_solver.specs.Kept.{HasFiles, KeptAgrees, KeptMoves}
 use Rattle.pareto_search.specs.Recorded.{IsStoppedWithin, StaysWithin, entries_of}
 use Rattle.frontier_audit.specs.Shelves.{PartRight}
 use Rattle.frontier_audit.specs.OwedFiles.{IsKept}
-use Rattle.sccl_run.specs.Searches.{IsBegunFor, IsFound, IsShelved, MayHaveBegun}
+use Rattle.sccl_run.specs.Searches.{IsFound, IsShelved, MayHaveBegun}
 
 -- what holds of each that the list contains holds of all
 pub each : {X : Type 0} (P : X → Type 0) (xs : List X) → ((x : X) → Contains xs x → P x) → All P xs

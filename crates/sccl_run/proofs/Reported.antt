@@ -1,5 +1,5 @@
 -- The report of a search, what it says, and that its files prove it.
-use Rattle.std.proofs.Common.{◌≡◌, ◌⊎◌, inl, inr, ℕ, Bool, true, false, arith, List, [], ◌∷◌, length, map, sum, All, Any, Contains, Result, Ok, refl, sym, ap, subst, ◌∙◌}
+use Rattle.std.proofs.Common.{◌≡◌, inl, inr, ℕ, Bool, true, false, arith, List, [], ◌∷◌, length, sum, Contains, Ok, refl, sym, ap, subst, ◌∙◌}
 use Rattle.std.proofs.lemmas.List.Elements.{All-cons, All-contains, All-nil}
 use Rattle.outer_ports.specs.declared.part.Part.{Part}
 use Rattle.outer_ports.specs.declared.part.Part.TheVariants.{Whole, Joined}
@@ -20,17 +20,16 @@ use Rattle.candidate_formula.specs.Formulas.{formula_for}
 use Rattle.candidate_formula.specs.Files.{candidate_of}
 use Rattle.candidate_formula.specs.Begun.{Begins}
 use Rattle.topology_text.specs.Value.{NamedTopologyValue}
-use Rattle.report_form.specs.Reports.{WordsValue, ReportValue, IsFrontier, IsPoint, IsReport, HasSchedule, IsJoinedPoint, parts_of, question_of}
+use Rattle.report_form.specs.Reports.{WordsValue, ReportValue, IsFrontier, IsPoint, IsReport, IsJoinedPoint, parts_of, question_of}
 use Rattle.report_form.specs.Reading.{report_of}
 use Rattle.report_form.specs.Spelling.{report_text}
 use Rattle.report_laws.proofs.ReportAgain.{report_again}
 use Rattle.frontier_audit.specs.Shelves.{PartRight}
-use Rattle.sccl_run.specs.declared.status.Status.TheVariants.{Done}
-use Rattle.sccl_run.specs.Answering.{ProvesText, Says}
+use Rattle.sccl_run.specs.Answering.{ProvesText}
 use Rattle.sccl_run.specs.Owed.{Synthesises}
 use Rattle.frontier_audit.specs.Rights.{IsExhaustedPart, IsRight, IsRightPart, IsSearchedPart}
 use Rattle.frontier_audit.specs.OwedFiles.{BreaksOff, IsKept, IsOf, Proves}
-use Rattle.sccl_run.specs.Searches.{IsBegunFor, IsFound, IsSearch, IsShelved, MayHaveBegun, whole_report}
+use Rattle.sccl_run.specs.Searches.{IsFound, IsSearch, IsShelved, MayHaveBegun, whole_report}
 use Rattle.sccl_run.proofs.Recorded.{each}
 
 -- ---- what is asked, as the code has it

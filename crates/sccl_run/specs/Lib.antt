@@ -8,6 +8,7 @@ pub mod Tasks
 pub mod Owed
 pub mod TopCall
 pub mod Answering
+pub mod ReportTexts
 pub mod Searches
 pub mod Halts
 pub mod Reporting

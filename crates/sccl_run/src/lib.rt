@@ -6,7 +6,11 @@ mod halt;
 mod jobs;
 mod laws;
 mod planning;
+mod points;
+mod programming;
 mod reading;
+mod replaying;
+mod report_text;
 mod status;
 mod synth;
 #[cfg(test)]

@@ -1,4 +1,4 @@
-use Rattle.std.proofs.Common.{◌≡◌, ◌==◌, ◌∙◌, ap, refl, sym}
+use Rattle.std.proofs.Common.{◌≡◌, ◌==◌, ◌∙◌, ap, sym}
 use Rattle.schedule.specs.Links.{TopologyValue}
 use Rattle.candidate_formula.specs.Sizes.{size_of}
 use Rattle.sccl_run.specs.declared.status.Status.TheVariants.{NoCandidate, TooLarge}

@@ -1,4 +1,4 @@
-use Rattle.std.proofs.Common.{◌≡◌, ◌∙◌, ap, false, true, subst, sym, IfOk, Ok, Err}
+use Rattle.std.proofs.Common.{◌≡◌, ◌∙◌, true, subst, sym, IfOk, Ok, Err}
 use Rattle.collective_spec.specs.Collectives.{fits_kind}
 use Rattle.sccl_run.specs.declared.status.Status.TheVariants.{BadWords}
 use Rattle.sccl_run.specs.Refusals.{refused_at}

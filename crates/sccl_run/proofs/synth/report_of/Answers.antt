@@ -1,5 +1,5 @@
-use Rattle.std.proofs.Common.{◌≡◌, ◌∷◌, [], subst, sym}
-use Rattle.report_form.specs.Reports.{IsReport, ReportValue}
+use Rattle.std.proofs.Common.{[], subst, sym}
+use Rattle.report_form.specs.Reports.{IsReport}
 use Rattle.sccl_run.specs.Searches.{whole_report}
 use Rattle.sccl_run.proofs.Reported.{valid_report}
 use Rattle.sccl_run.proofs.synth.report_of.Goals as goal

@@ -1,6 +1,5 @@
-use Rattle.std.proofs.Common.{◌≡◌, ◌∙◌, ap, refl, subst, sym}
+use Rattle.std.proofs.Common.{refl, subst}
 use Rattle.outer_ports.specs.declared.part.Part.TheVariants.{Whole}
-use Rattle.topology_text.specs.Value.{NamedTopologyValue}
 use Rattle.report_form.specs.Reports.{question_of}
 use Rattle.sccl_run.specs.Searches.{IsFound, IsShelved, MayHaveBegun}
 use Rattle.sccl_run.proofs.Reported.{breaks_off, report_synthesises, same_counts, same_question, text_proves}
