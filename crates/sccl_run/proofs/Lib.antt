@@ -2,7 +2,7 @@ pub mod Refused
 pub mod DueWords
 pub mod IfDue
 pub mod Tasked
-pub mod Recorded
+pub mod Searchable
 pub mod Planned
 pub mod Reported
 pub mod Ending

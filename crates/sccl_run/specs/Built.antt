@@ -1,6 +1,5 @@
 -- Which commands are built. The theorem of the top call is stated for any set of them: `everything` is the whole product, `so_far` what `run` does today.
-use Rattle.std.specs.Prelude.{Bool, true, false, not}
-use Rattle.collective_spec.specs.Collectives.{reduces}
+use Rattle.std.specs.Prelude.{Bool, true, false}
 use Rattle.command_words.specs.declared.command.Command.{Command}
 use Rattle.command_words.specs.declared.command.Command.TheVariants as command
 
@@ -11,9 +10,9 @@ pub record Built : Type 0 where
 abbrev pub everything : Built
 everything = record { commands = λ c. true }
 
--- searches of collectives that copy, replays and programs of points, and the families
+-- searches, replays and programs of points, and the families
 abbrev pub is_built : Command → Bool
-is_built (command.Synth kind word limits root) = not (reduces kind)
+is_built (command.Synth kind word limits root) = true
 is_built command.Check = false
 is_built (command.Replay number word order) = true
 is_built (command.Programs number word) = true

@@ -9,7 +9,8 @@ pub mod Owed
 pub mod TopCall
 pub mod Answering
 pub mod ReportTexts
-pub mod Searches
+pub mod Searchable
+pub mod Plans
 pub mod Halts
 pub mod Reporting
 pub mod Rows

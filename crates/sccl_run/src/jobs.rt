@@ -6,7 +6,6 @@ ghost use Rattle.sccl_run.specs.Jobs.{command_of_job};
 
 use crate::planning::SearchWords;
 use crate::points::PointWord;
-use collective_spec::reduces;
 use command_words::Command;
 use topology_text::FamilyKind;
 
@@ -39,7 +38,7 @@ pub fn job_of(command: &Command) -> Option<Job>
             kind_word,
             limits,
             root,
-        } if !reduces(kind) => Some(Job::Text(TextJob::Synth(SearchWords {
+        } => Some(Job::Text(TextJob::Synth(SearchWords {
             kind,
             kind_word,
             limits,
@@ -55,6 +54,6 @@ pub fn job_of(command: &Command) -> Option<Job>
             point_word: word,
         } => Some(Job::Text(TextJob::Programs(PointWord { point, word }))),
         Command::Family { kind, size } => Some(Job::Family { kind, size }),
-        Command::Synth { .. } | Command::Check | Command::Trial { .. } => None,
+        Command::Check | Command::Trial { .. } => None,
     }
 }

@@ -16,6 +16,7 @@ mod synth;
 #[cfg(test)]
 mod tests;
 mod toplevel;
+mod unsearchable;
 mod vectors;
 
 pub use command_words::{Command, RootWord, WordCode, WordFault, read_words};

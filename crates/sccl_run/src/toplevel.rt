@@ -62,8 +62,8 @@ fn answer<I: Source, H: Shelf>(
 /// Does what the words ask for, and writes one text to the sink: what the command gives, or the line of a refusal. The
 /// status says how it ended.
 ///
-/// Four commands are built. `synth` reads a topology from the source, searches the schedules of a collective that copies,
-/// writes the report, and keeps the formulas and the proofs on the shelf. `replay point=N` reads a report from the source,
+/// Four commands are built. `synth` reads a topology from the source, searches the schedules of a collective, writes the
+/// report, and keeps the formulas and the proofs on the shelf. `replay point=N` reads a report from the source,
 /// and writes the replay of its point, with `order=SEED` in the order that the seed draws too. `programs point=N` writes
 /// the programs that carry its point out. `family` writes the topology text of a family, and reads nothing.
 pub fn run<I: Source, O: Sink, H: Shelf>(

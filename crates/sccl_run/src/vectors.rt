@@ -37,7 +37,6 @@ pub fn searches_due()
     ensures root { due everything (search (codes "collective=broadcast") (codes "root=n9" ∷ [])) two_nodes_text ≡ Err (refused_at Status.BadWords 8 6) }
     ensures no_pattern { due everything (search (codes "collective=custom") []) two_nodes_text ≡ Err (refused_at Status.BadWords 12 1) }
     ensures pattern { due everything (search (codes "collective=broadcast") (codes "root=n9" ∷ [])) moved_text ≡ Err (refused_at Status.BadWords 12 1) }
-    ensures reduction { due so_far (search (codes "collective=reduce") []) two_nodes_text ≡ Err (refused_at Status.BadWords 11 0) }
     ensures candidates { due everything (search (codes "collective=alltoall") []) two_nodes_text ≡ Err (refused_at Status.NoCandidate 0 0) }
 {}
 

@@ -1,5 +1,6 @@
 //! Searches over ports in memory, on small topologies whose frontiers are known.
 
+use super::reports::ALLREDUCE;
 use super::{runs, words};
 use crate::{Status, run};
 use outer_ports::{MemorySink, SureShelf, SureSource};
@@ -41,7 +42,7 @@ pub const PAIR_WORDS: [&str; 6] = [
 
 #[test]
 fn whole_reports(rt: HostRuntime) -> Result<(), Fail> {
-    let table: [(&[&str], &[u8], &[u8]); 7] = [
+    let table: [(&[&str], &[u8], &[u8]); 8] = [
         (&PAIR_WORDS, PAIR, PAIR_REPORT),
         (
             &[
@@ -92,6 +93,18 @@ fn whole_reports(rt: HostRuntime) -> Result<(), Fail> {
             ],
             PAIR,
             b"sccl 1\nsynth collective=alltoall k=0 steps=1 chunks=2 conflicts=1000\ntopology 1\nnodes n0 n1\ngroup 1 n0>n1\ngroup 1 n1>n0\nfrontier whole\npoint 1 1 2 optimal\nrounds 1\nsend 1 n1 n0 1\nsend 2 n0 n1 1\nend\n",
+        ),
+        (
+            &[
+                "synth",
+                "collective=allreduce",
+                "k=0",
+                "steps=1",
+                "chunks=1",
+                "conflicts=1000",
+            ],
+            PAIR,
+            ALLREDUCE,
         ),
         (
             &[
@@ -182,7 +195,7 @@ fn finds(
 
 #[test]
 fn frontiers(rt: HostRuntime) -> Result<(), Fail> {
-    let table: [([&str; 2], [&str; 4], &[u8], usize); 7] = [
+    let table: [([&str; 2], [&str; 4], &[u8], usize); 8] = [
         (
             ["kind=ring", "size=4"],
             ["collective=allgather", "k=1", "steps=3", "chunks=2"],
@@ -192,6 +205,12 @@ fn frontiers(rt: HostRuntime) -> Result<(), Fail> {
         (
             ["kind=ring", "size=4"],
             ["collective=broadcast", "k=1", "steps=3", "chunks=2"],
+            b"point 2 2 2 optimal\nrefuted 1 1 2\nrefuted 1 1 1\nrefuted 1 2 2\nrefuted 1 2 1\n",
+            6,
+        ),
+        (
+            ["kind=ring", "size=4"],
+            ["collective=reduce", "k=1", "steps=3", "chunks=2"],
             b"point 2 2 2 optimal\nrefuted 1 1 2\nrefuted 1 1 1\nrefuted 1 2 2\nrefuted 1 2 1\n",
             6,
         ),
