@@ -1,22 +1,19 @@
 -- How a run ends, from what its answer says.
-use Rattle.std.proofs.Common.{◌≡◌, ◌≢◌, ◌++◌, ℕ, suc, ◌+◌, List, ◌∷◌, take, Option, None, Contains, inl, inr, Result, Ok, Err, refl, sym, subst, ap, arith, ◌∙◌}
+use Rattle.std.proofs.Common.{◌≡◌, ◌≢◌, ◌++◌, ℕ, suc, List, ◌∷◌, take, Contains, inl, inr, Result, Ok, Err, refl, sym, subst, ap, arith, ◌∙◌}
 use Rattle.outer_ports.specs.Port.{Rose}
-use Rattle.collective_spec.specs.declared.kind.Kind.{Kind}
-use Rattle.candidate_order.specs.Ranges.{LimitsValue}
-use Rattle.command_words.specs.declared.command.RootWord.{RootWord}
 use Rattle.command_words.specs.declared.command.Command.{Command}
 use Rattle.command_words.specs.declared.command.Command.TheVariants as command
 use Rattle.command_words.specs.declared.fault.WordFault.{WordFault}
 use Rattle.sccl_run.specs.declared.status.Status.{Status}
 use Rattle.sccl_run.specs.declared.status.Status.TheVariants.{Done, OutOfMemory, BadWords, BadTopology, SourceFailed, SinkFailed, ShelfFailed, BadReport, Denied, TooLarge, NoCandidate, TooLong}
 use Rattle.sccl_run.specs.Built.{Built}
-use Rattle.sccl_run.specs.Asked.{Ask, Changes, Opens, Reads, asked}
+use Rattle.sccl_run.specs.Asked.{Ask, Opens, Reads, asked}
 use Rattle.sccl_run.specs.Refusals.{Refusal, refusal_line}
-use Rattle.sccl_run.specs.Tasks.{Task, Synthesise, Audit, Replay, Program, Family, Try, due, replayed, synthesis_of}
+use Rattle.sccl_run.specs.Tasks.{Task, Synthesise, Audit, Replay, Program, Family, Try, audit_asked, due, programmed, replayed, synthesis_of, task_of}
 use Rattle.sccl_run.specs.Owed.{Owed}
 use Rattle.sccl_run.specs.TopCall.{CountValue, EndsIfItFails, EndsTask, IsCall, IsDenial, IsDue, IsFree, IsSilent, StatusIsDue, TextIsDue, ends_of}
 use Rattle.sccl_run.specs.Answering.{Ends, Says}
-use Rattle.sccl_run.proofs.Refused.{With, replay_ends, synth_ends, never_free}
+use Rattle.sccl_run.proofs.Refused.{With, check_ends, done_given, large_given, long_given, never_free, none_given, programs_end, replay_ends, report_given, synth_ends, topology_given, words_given}
 
 -- ---- with which status an answer ends
 
@@ -24,57 +21,62 @@ says_with : (P : Status → Type 0) (x : Result Task Refusal) (status : Status) 
 says_with P (Ok t) status text held done says = subst P (sym says.0) done
 says_with P (Err r) status text held done says = subst P (sym says.0) held
 
-not_free : (status : Status) → status ≢ OutOfMemory → status ≢ SourceFailed → status ≢ SinkFailed → status ≢ ShelfFailed → IsFree status → ⊥
-not_free status a b c d (inl e) = a e
-not_free status a b c d (inr (inl e)) = b e
-not_free status a b c d (inr (inr (inl e))) = c e
-not_free status a b c d (inr (inr (inr e))) = d e
+-- an answer to a text
+pub text_ends_so : (c : Command) (bytes : List ℕ) (status : Status) (text : List ℕ) → Reads c → Says (task_of c bytes) status text → Ends (Ok c) status
+text_ends_so (command.Synth kind word limits root) bytes status text reads says =
+    let P : Status → Type 0 = Ends (Ok (command.Synth kind word limits root)) in
+    let done : P Done = record { one = (0, omega arith, refl); given = done_given } in
+    let words : P BadWords = record { one = (1, omega arith, refl); given = words_given } in
+    let topology : P BadTopology = record { one = (2, omega arith, refl); given = topology_given } in
+    let large : P TooLarge = record { one = (5, omega arith, refl); given = large_given } in
+    let none : P NoCandidate = record { one = (6, omega arith, refl); given = none_given } in
+    let long : P TooLong = record { one = (7, omega arith, refl); given = long_given } in
+    says_with P (synthesis_of kind word limits root bytes) status text (synth_ends P long words topology large none kind word limits root bytes) done says
+text_ends_so command.Check bytes status text reads says =
+    let P : Status → Type 0 = Ends (Ok command.Check) in
+    let done : P Done = record { one = (0, omega arith, refl); given = done_given } in
+    let report : P BadReport = record { one = (3, omega arith, refl); given = report_given } in
+    let large : P TooLarge = record { one = (5, omega arith, refl); given = large_given } in
+    let none : P NoCandidate = record { one = (6, omega arith, refl); given = none_given } in
+    let long : P TooLong = record { one = (7, omega arith, refl); given = long_given } in
+    says_with P (audit_asked bytes) status text (check_ends P long report large none bytes) done says
+text_ends_so (command.Replay number word order) bytes status text reads says =
+    let P : Status → Type 0 = Ends (Ok (command.Replay number word order)) in
+    let done : P Done = record { one = (0, omega arith, refl); given = done_given } in
+    let words : P BadWords = record { one = (1, omega arith, refl); given = words_given } in
+    let report : P BadReport = record { one = (3, omega arith, refl); given = report_given } in
+    let long : P TooLong = record { one = (4, omega arith, refl); given = long_given } in
+    says_with P (replayed number word order bytes) status text (replay_ends P long report words number word order bytes) done says
+text_ends_so (command.Programs number word) bytes status text reads says =
+    let P : Status → Type 0 = Ends (Ok (command.Programs number word)) in
+    let done : P Done = record { one = (0, omega arith, refl); given = done_given } in
+    let words : P BadWords = record { one = (1, omega arith, refl); given = words_given } in
+    let report : P BadReport = record { one = (3, omega arith, refl); given = report_given } in
+    let long : P TooLong = record { one = (4, omega arith, refl); given = long_given } in
+    says_with P (programmed number word bytes) status text (programs_end P long report words number word bytes) done says
+text_ends_so (command.Family kind size) bytes status text reads says = absurd reads
+text_ends_so (command.Trial n) bytes status text reads says = absurd reads
 
--- an answer to a replay
-pub replay_ends_so : (built : Built) (number word : ℕ) (bytes : List ℕ) (status : Status) (text : List ℕ) → Says (replayed built number word None bytes) status text → Ends (Ok (command.Replay number word None)) status
-replay_ends_so built number word bytes status text says =
-    let P : Status → Type 0 = Ends (Ok (command.Replay number word None)) in
-    let done : P Done = record { one = (0, omega arith, refl); given = not_free Done (λ e. cc) (λ e. cc) (λ e. cc) (λ e. cc) } in
-    let words : P BadWords = record { one = (1, omega arith, refl); given = not_free BadWords (λ e. cc) (λ e. cc) (λ e. cc) (λ e. cc) } in
-    let report : P BadReport = record { one = (3, omega arith, refl); given = not_free BadReport (λ e. cc) (λ e. cc) (λ e. cc) (λ e. cc) } in
-    let long : P TooLong = record { one = (4, omega arith, refl); given = not_free TooLong (λ e. cc) (λ e. cc) (λ e. cc) (λ e. cc) } in
-    says_with P (replayed built number word None bytes) status text (replay_ends P long report words built number word None bytes) done says
-
--- an answer to a search
-module _ (kind : Kind) (word : ℕ) (limits : LimitsValue) (root : Option RootWord) where
-  Sought : Status → Type 0
-  Sought = Ends (Ok (command.Synth kind word limits root))
-
-  pub synth_ends_so : (bytes : List ℕ) (status : Status) (text : List ℕ) → Says (synthesis_of kind word limits root bytes) status text → Ends (Ok (command.Synth kind word limits root)) status
-  unfolding Sought
-  synth_ends_so bytes status text says =
-      let done : Sought Done = record { one = (0, omega arith, refl); given = not_free Done (λ e. cc) (λ e. cc) (λ e. cc) (λ e. cc) } in
-      let words : Sought BadWords = record { one = (1, omega arith, refl); given = not_free BadWords (λ e. cc) (λ e. cc) (λ e. cc) (λ e. cc) } in
-      let topology : Sought BadTopology = record { one = (2, omega arith, refl); given = not_free BadTopology (λ e. cc) (λ e. cc) (λ e. cc) (λ e. cc) } in
-      let large : Sought TooLarge = record { one = (5, omega arith, refl); given = not_free TooLarge (λ e. cc) (λ e. cc) (λ e. cc) (λ e. cc) } in
-      let none : Sought NoCandidate = record { one = (6, omega arith, refl); given = not_free NoCandidate (λ e. cc) (λ e. cc) (λ e. cc) (λ e. cc) } in
-      let long : Sought TooLong = record { one = (7, omega arith, refl); given = not_free TooLong (λ e. cc) (λ e. cc) (λ e. cc) (λ e. cc) } in
-      says_with Sought (synthesis_of kind word limits root bytes) status text (synth_ends Sought long words topology large none kind word limits root bytes) done says
-
-  pub long_search_ends_so : (status : Status) → status ≡ TooLong → Ends (Ok (command.Synth kind word limits root)) status
-  unfolding Sought
-  long_search_ends_so status e =
-      let own : Sought TooLong = record { one = (7, omega arith, refl); given = not_free TooLong (λ e. cc) (λ e. cc) (λ e. cc) (λ e. cc) } in
-      subst Sought (sym e) own
-
-pub long_ends_so : (number word : ℕ) (status : Status) → status ≡ TooLong → Ends (Ok (command.Replay number word None)) status
-long_ends_so number word status e =
-    let own : Ends (Ok (command.Replay number word None)) TooLong = record { one = (4, omega arith, refl); given = not_free TooLong (λ e. cc) (λ e. cc) (λ e. cc) (λ e. cc) } in
-    subst (Ends (Ok (command.Replay number word None))) (sym e) own
+-- the answer to a text that is too long
+pub long_ends_so : (c : Command) (status : Status) → Reads c → status ≡ TooLong → Ends (Ok c) status
+long_ends_so c status reads e = subst (Ends (Ok c)) (sym e) (record { one = may_be_long c reads; given = long_given })
+  where
+    may_be_long : (c : Command) → Reads c → Contains (ends_of (Ok c)) TooLong
+    may_be_long (command.Synth kind word limits root) reads = (7, omega arith, refl)
+    may_be_long command.Check reads = (7, omega arith, refl)
+    may_be_long (command.Replay number word order) reads = (4, omega arith, refl)
+    may_be_long (command.Programs number word) reads = (4, omega arith, refl)
+    may_be_long (command.Family kind size) reads = absurd reads
+    may_be_long (command.Trial n) reads = absurd reads
 
 pub words_end_so : (built : Built) (words : List (List ℕ)) (fault : WordFault) (status : Status) → asked built words ≡ Err fault → status ≡ BadWords → Ends (asked built words) status
 words_end_so built words fault status refused e =
-    let own : Ends (Err fault) BadWords = record { one = (0, omega arith, refl); given = not_free BadWords (λ e. cc) (λ e. cc) (λ e. cc) (λ e. cc) } in
+    let own : Ends (Err fault) BadWords = record { one = (0, omega arith, refl); given = words_given } in
     subst (λ x. Ends x status) (sym refused) (subst (Ends (Err fault)) (sym e) own)
 
 pub family_ends_so : (built : Built) (words : List (List ℕ)) (kind : _) (size : ℕ) (status : Status) → asked built words ≡ Ok (command.Family kind size) → status ≡ Done → Ends (asked built words) status
 family_ends_so built words kind size status family e =
-    let own : Ends (Ok (command.Family kind size)) Done = record { one = (0, omega arith, refl); given = not_free Done (λ e. cc) (λ e. cc) (λ e. cc) (λ e. cc) } in
+    let own : Ends (Ok (command.Family kind size)) Done = record { one = (0, omega arith, refl); given = done_given } in
     subst (λ x. Ends x status) (sym family) (subst (Ends (Ok (command.Family kind size))) (sym e) own)
 
 -- ---- every run
@@ -91,29 +93,26 @@ may_fail (command.Programs number word) reads = (2, omega arith, refl)
 may_fail (command.Family kind size) reads = absurd reads
 may_fail (command.Trial n) reads = absurd reads
 
--- and words that change files can end by a fault of the shelf
-may_fail_shelf : (c : Command) → Changes c → Contains (ends_of (Ok c)) ShelfFailed
-may_fail_shelf (command.Synth kind word limits root) changes = (4, omega arith, refl)
-may_fail_shelf command.Check changes = absurd changes
-may_fail_shelf (command.Replay number word order) changes = absurd changes
-may_fail_shelf (command.Programs number word) changes = absurd changes
-may_fail_shelf (command.Family kind size) changes = absurd changes
-may_fail_shelf (command.Trial n) changes = absurd changes
+-- and words that open files can end by a fault of the shelf
+may_fail_shelf : (c : Command) → Opens c → Contains (ends_of (Ok c)) ShelfFailed
+may_fail_shelf (command.Synth kind word limits root) opens = (4, omega arith, refl)
+may_fail_shelf command.Check opens = (2, omega arith, refl)
+may_fail_shelf (command.Replay number word order) opens = absurd opens
+may_fail_shelf (command.Programs number word) opens = absurd opens
+may_fail_shelf (command.Family kind size) opens = absurd opens
+may_fail_shelf (command.Trial n) opens = absurd opens
 
--- what changes files reads the source and opens files
-change_opens : (c : Command) → Changes c → Reads c × Opens c
-change_opens (command.Synth kind word limits root) changes = (tt, tt)
-change_opens command.Check changes = absurd changes
-change_opens (command.Replay number word order) changes = absurd changes
-change_opens (command.Programs number word) changes = absurd changes
-change_opens (command.Family kind size) changes = absurd changes
-change_opens (command.Trial n) changes = absurd changes
+-- what opens files reads the source
+open_reads : (c : Command) → Opens c → Reads c
+open_reads (command.Synth kind word limits root) opens = tt
+open_reads command.Check opens = tt
+open_reads (command.Replay number word order) opens = absurd opens
+open_reads (command.Programs number word) opens = absurd opens
+open_reads (command.Family kind size) opens = absurd opens
+open_reads (command.Trial n) opens = absurd opens
 
-pub asks_reads : (built : Built) (words : List (List ℕ)) → Ask Changes built words → Ask Reads built words
-asks_reads built words ask = record { command = ask.command; is = ask.is; such = (change_opens ask.command ask.such).0 }
-
-asks_opens : (built : Built) (words : List (List ℕ)) → Ask Changes built words → Ask Opens built words
-asks_opens built words ask = record { command = ask.command; is = ask.is; such = (change_opens ask.command ask.such).1 }
+pub asks_reads : (built : Built) (words : List (List ℕ)) → Ask Opens built words → Ask Reads built words
+asks_reads built words ask = record { command = ask.command; is = ask.is; such = open_reads ask.command ask.such }
 
 quiet : (failed status : Status) (count : CountValue) → status ≢ failed → count.now ≡ count.before → EndsIfItFails failed status count
 quiet failed status count other same = record { only = λ e. absurd (other e); kept = λ _. same }
@@ -129,39 +128,39 @@ free status (inr (inl e)) = inr (inl e)
 free status (inr (inr e)) = inr (inr (inr e))
 
 module _ (built : Built) (words : List (List ℕ)) (source sink shelf : CountValue) (SourceStays SinkStays ShelfStays : Type 0) where
-  pub call_ended : (status : Status) → Ends (asked built words) status → source.now ≡ source.before → sink.now ≡ sink.before → shelf.now ≡ shelf.before → (¬ Ask Reads built words → SourceStays) → (¬ Ask Changes built words → ShelfStays)
+  pub call_ended : (status : Status) → Ends (asked built words) status → source.now ≡ source.before → sink.now ≡ sink.before → shelf.now ≡ shelf.before → (¬ Ask Reads built words → SourceStays) → (¬ Ask Opens built words → ShelfStays)
       → IsCall built words status source sink shelf SourceStays SinkStays ShelfStays
-  call_ended status ends read written kept unread unchanged = record {
+  call_ended status ends read written kept unread unopened = record {
     ends = behind_two OutOfMemory SinkFailed status (ends_of (asked built words)) ends.one;
     source_fails = quiet SourceFailed status source (λ e. ends.given (inr (inl e))) read;
     sink_fails = quiet SinkFailed status sink (λ e. ends.given (inr (inr (inl e)))) written;
     shelf_fails = quiet ShelfFailed status shelf (λ e. ends.given (inr (inr (inr e)))) kept;
     unread = unread;
-    unopened = λ none. unchanged (λ ask. none (asks_opens built words ask));
+    unopened = unopened;
     silent = λ silent. absurd (ends.given (free status silent));
   }
 
-  pub call_unwritten : source.now ≡ source.before → Rose sink.before sink.now → shelf.now ≡ shelf.before → (¬ Ask Reads built words → SourceStays) → (¬ Ask Changes built words → ShelfStays)
+  pub call_unwritten : source.now ≡ source.before → Rose sink.before sink.now → shelf.now ≡ shelf.before → (¬ Ask Reads built words → SourceStays) → (¬ Ask Opens built words → ShelfStays)
       → IsCall built words SinkFailed source sink shelf SourceStays SinkStays ShelfStays
-  call_unwritten read rose kept unread unchanged = record {
+  call_unwritten read rose kept unread unopened = record {
     ends = (1, omega arith, refl);
     source_fails = quiet SourceFailed SinkFailed source (λ e. cc) read;
     sink_fails = record { only = λ _. rose; kept = λ other. absurd (other refl) };
     shelf_fails = quiet ShelfFailed SinkFailed shelf (λ e. cc) kept;
     unread = unread;
-    unopened = λ none. unchanged (λ ask. none (asks_opens built words ask));
+    unopened = unopened;
     silent = λ silent. absurd (heard silent);
   }
 
-  pub call_without_memory : source.now ≡ source.before → sink.now ≡ sink.before → shelf.now ≡ shelf.before → SinkStays → (¬ Ask Reads built words → SourceStays) → (¬ Ask Changes built words → ShelfStays)
+  pub call_without_memory : source.now ≡ source.before → sink.now ≡ sink.before → shelf.now ≡ shelf.before → SinkStays → (¬ Ask Reads built words → SourceStays) → (¬ Ask Opens built words → ShelfStays)
       → IsCall built words OutOfMemory source sink shelf SourceStays SinkStays ShelfStays
-  call_without_memory read written kept stays unread unchanged = record {
+  call_without_memory read written kept stays unread unopened = record {
     ends = (0, omega arith, refl);
     source_fails = quiet SourceFailed OutOfMemory source (λ e. cc) read;
     sink_fails = quiet SinkFailed OutOfMemory sink (λ e. cc) written;
     shelf_fails = quiet ShelfFailed OutOfMemory shelf (λ e. cc) kept;
     unread = unread;
-    unopened = λ none. unchanged (λ ask. none (asks_opens built words ask));
+    unopened = unopened;
     silent = λ _. stays;
   }
 
@@ -177,7 +176,7 @@ module _ (built : Built) (words : List (List ℕ)) (source sink shelf : CountVal
     silent = λ _. stays;
   }
 
-  pub call_unshelved : Ask Changes built words → source.now ≡ source.before → sink.now ≡ sink.before → Rose shelf.before shelf.now → SinkStays
+  pub call_unshelved : Ask Opens built words → source.now ≡ source.before → sink.now ≡ sink.before → Rose shelf.before shelf.now → SinkStays
       → IsCall built words ShelfFailed source sink shelf SourceStays SinkStays ShelfStays
   call_unshelved ask read written rose stays = record {
     ends = behind_two OutOfMemory SinkFailed ShelfFailed (ends_of (asked built words)) (subst (λ x. Contains (ends_of x) ShelfFailed) (sym ask.is) (may_fail_shelf ask.command ask.such));
@@ -185,7 +184,7 @@ module _ (built : Built) (words : List (List ℕ)) (source sink shelf : CountVal
     sink_fails = quiet SinkFailed ShelfFailed sink (λ e. cc) written;
     shelf_fails = record { only = λ _. rose; kept = λ other. absurd (other refl) };
     unread = λ none. absurd (none (asks_reads built words ask));
-    unopened = λ none. absurd (none (asks_opens built words ask));
+    unopened = λ none. absurd (none ask);
     silent = λ _. stays;
   }
 

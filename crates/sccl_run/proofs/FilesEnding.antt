@@ -1,17 +1,10 @@
 -- What a run leaves of the files, from what its answer says.
-use Rattle.std.proofs.Common.{◌≡◌, ◌≢◌, ◌++◌, ℕ, Bool, true, false, not, ◌||◌, List, None, Option, Result, Ok, Err, IfOk, inl, refl, sym, subst, ap, ◌∙◌}
+use Rattle.std.proofs.Common.{◌≡◌, ◌≢◌, ◌++◌, ℕ, Bool, true, false, not, List, Result, Ok, Err, IfOk, inl, refl, sym, subst, ap, ◌∙◌}
 use Rattle.std.proofs.lemmas.List.{append_cancel_left}
-use Rattle.text_lines.specs.Check.{◌>>=◌, refuse, need}
+use Rattle.text_lines.specs.Check.{◌>>=◌, refuse}
 use Rattle.outer_ports.specs.Files.{Files}
 use Rattle.outer_ports.specs.Shelf.{FilesStay}
-use Rattle.collective_spec.specs.declared.kind.Kind.{Kind}
-use Rattle.collective_spec.specs.Collectives.{fits_kind}
-use Rattle.candidate_order.specs.Ranges.{LimitsValue}
-use Rattle.topology_text.specs.declared.family_kind.FamilyKind.{FamilyKind}
 use Rattle.topology_text.specs.Value.{NamedTopologyValue}
-use Rattle.topology_text.specs.Answer.{code_number as topology_number}
-use Rattle.topology_text.specs.Reading.{topology_of}
-use Rattle.command_words.specs.declared.command.RootWord.{RootWord}
 use Rattle.command_words.specs.declared.command.Command.{Command}
 use Rattle.command_words.specs.declared.command.Command.TheVariants as command
 use Rattle.command_words.specs.declared.fault.WordFault.{WordFault}
@@ -20,42 +13,25 @@ use Rattle.command_words.specs.Words.{command_of}
 use Rattle.report_form.specs.Reports.{WordsValue, ReportValue}
 use Rattle.report_form.specs.Spelling.{report_text}
 use Rattle.sccl_run.specs.declared.status.Status.{Status}
-use Rattle.sccl_run.specs.declared.status.Status.TheVariants.{Done, BadTopology, BadWords, SourceFailed}
+use Rattle.sccl_run.specs.declared.status.Status.TheVariants.{Done, SourceFailed}
 use Rattle.sccl_run.specs.Built.{is_built, so_far}
 use Rattle.sccl_run.specs.Asked.{Ask, Changes, asked}
-use Rattle.sccl_run.specs.Refusals.{Refusal, refused_as, refused_at}
-use Rattle.sccl_run.specs.Tasks.{Task, Synthesise, Audit, Replay, Program, Family, Try, due, point_in, read_report, replayed, root_in, searchable, synthesis_of, task_of, whole_question, whole_text, words_asked, words_for}
-use Rattle.point_replay.specs.Showing.{is_copied, shown_in}
+use Rattle.sccl_run.specs.Refusals.{Refusal}
+use Rattle.sccl_run.specs.Tasks.{Task, Synthesise, Audit, due, task_of, words_asked}
 use Rattle.sccl_run.specs.Answering.{BeginsDue, ProvesDue}
 use Rattle.sccl_run.specs.TopCall.{FilesAreDue}
 use Rattle.sccl_run.proofs.IfDue.{IfDue, then}
+use Rattle.sccl_run.proofs.Tasked.{Checks, NotAudit, NotSearch, no_audit, no_search}
 
 -- ---- no report is audited as long as that is not built
 
-NotAudit : Task → Type 0
-NotAudit (Synthesise w t) = Unit {0}
-NotAudit (Audit r) = ⊥
-NotAudit (Replay r n p o) = Unit {0}
-NotAudit (Program r n p) = Unit {0}
-NotAudit (Family k n) = Unit {0}
-NotAudit (Try n) = Unit {0}
-
-search_no_audit : (kind : Kind) (word : ℕ) (limits : LimitsValue) (root : Option RootWord) (bytes : List ℕ) → IfDue NotAudit (synthesis_of kind word limits root bytes)
-unfolding NotAudit
-search_no_audit kind word limits root bytes =
-    then NotAudit (whole_text bytes) _ (λ _ _. then NotAudit (refused_as BadTopology topology_number (topology_of bytes)) _ (λ t _.
-    then NotAudit (refuse (not (fits_kind kind t.custom)) (refused_at BadWords 12 word)) _ (λ _ _. then NotAudit (root_in t.names root) _ (λ node _.
-    then NotAudit (searchable (whole_question (words_for kind limits node) t)) _ (λ _ _. tt)))))
-
-no_audit : (c : Command) (bytes : List ℕ) → is_built c ≡ true → IfDue NotAudit (task_of so_far c bytes)
-unfolding NotAudit
-no_audit (command.Synth kind word limits root) bytes built = search_no_audit kind word limits root bytes
-no_audit command.Check bytes built = absurd (cc)
-no_audit (command.Replay number word order) bytes built =
-    then NotAudit (read_report bytes) _ (λ r _. then NotAudit (point_in r number word) _ (λ p _. then NotAudit (refuse (not (so_far.adding || is_copied (shown_in r p))) (refused_at BadWords 11 word)) (λ _. Ok (Replay r number p order)) (λ _ _. tt)))
-no_audit (command.Programs number word) bytes built = then NotAudit (read_report bytes) _ (λ r _. then NotAudit (point_in r number word) _ (λ p _. tt))
-no_audit (command.Family kind size) bytes built = tt
-no_audit (command.Trial n) bytes built = tt
+unchecked : (c : Command) → is_built c ≡ true → ¬ Checks c
+unchecked (command.Synth kind word limits root) built checks = checks
+unchecked command.Check built checks = absurd (cc)
+unchecked (command.Replay number word order) built checks = checks
+unchecked (command.Programs number word) built checks = checks
+unchecked (command.Family kind size) built checks = checks
+unchecked (command.Trial n) built checks = checks
 
 -- the command that is asked for is built
 abbrev gate : Bool → Command → Result Command WordFault
@@ -71,14 +47,13 @@ built_of (Err fault) c e = absurd (cc)
 
 due_no_audit : (words : List (List ℕ)) (bytes : List ℕ) → IfDue NotAudit (due so_far words bytes)
 unfolding due
-due_no_audit words bytes = then NotAudit (words_asked (asked so_far words)) _ (λ c e. no_audit c bytes (built_of (command_of words) c (asked_ok (asked so_far words) c e)))
+due_no_audit words bytes = then NotAudit (words_asked (asked so_far words)) _ (λ c e. no_audit c bytes (unchecked c (built_of (command_of words) c (asked_ok (asked so_far words) c e))))
   where
     asked_ok : (x : Result Command WordFault) (c : Command) → words_asked x ≡ Ok c → x ≡ Ok c
     asked_ok (Ok d) c e = let same : d ≡ c = cc in ap Ok same
     asked_ok (Err fault) c e = absurd (cc)
 
 not_audited : (words : List (List ℕ)) (bytes : List ℕ) (r : ReportValue) → due so_far words bytes ≡ Ok (Audit r) → ⊥
-unfolding NotAudit
 not_audited words bytes r e = subst (IfDue NotAudit) e (due_no_audit words bytes)
 
 -- ---- the files
@@ -131,33 +106,16 @@ proves_as x y text files after e proves = subst (λ due. ProvesDue due text file
 pub nothing_begun : (x : Result Task Refusal) (files after : Files) → FilesStay files after → BeginsDue x files after
 nothing_begun x files after stay = record { refused = λ r _. stay; begun = λ w t _ name. inl (stay name) }
 
-pub nothing_proved : (x : Result Task Refusal) (text : List ℕ) (files after : Files) → ((w : WordsValue) (t : NamedTopologyValue) → x ≡ Ok (Synthesise w t) → ⊥) → ProvesDue x text files after
+nothing_proved : (x : Result Task Refusal) (text : List ℕ) (files after : Files) → ((w : WordsValue) (t : NamedTopologyValue) → x ≡ Ok (Synthesise w t) → ⊥) → ProvesDue x text files after
 nothing_proved x text files after other w t e = absurd (other w t e)
 
-pub if_any : {A E : Type 0} (P : A → Type 0) (x : Result A E) → ((a : A) → P a) → IfOk x P
-if_any P (Ok a) holds = holds a
-if_any P (Err e) holds = tt
+pub if_ok : {A E : Type 0} (x : Result A E) (P Q : A → Type 0) → ((a : A) → P a → Q a) → IfOk x P → IfOk x Q
+if_ok (Ok a) P Q follows holds = follows a holds
+if_ok (Err e) P Q follows holds = tt
 
 pub refused_proves : (x : Result Task Refusal) (r : Refusal) (text : List ℕ) (files after : Files) → x ≡ Err r → ProvesDue x text files after
 refused_proves x r text files after e = nothing_proved x text files after (λ w t is. let f : Err r ≡ Ok (Synthesise w t) = sym e ∙ is in absurd (cc))
 
-pub family_proves : (x : Result Task Refusal) (kind : FamilyKind) (size : ℕ) (text : List ℕ) (files after : Files) → x ≡ Ok (Family kind size) → ProvesDue x text files after
-family_proves x kind size text files after e = nothing_proved x text files after (λ w t is. let f : Ok (Family kind size) ≡ Ok (Synthesise w t) = sym e ∙ is in let g : Family kind size ≡ Synthesise w t = cc in absurd (cc))
-
-NotSearch : Task → Type 0
-NotSearch (Synthesise w t) = ⊥
-NotSearch (Audit r) = Unit {0}
-NotSearch (Replay r n p o) = Unit {0}
-NotSearch (Program r n p) = Unit {0}
-NotSearch (Family k n) = Unit {0}
-NotSearch (Try n) = Unit {0}
-
-replay_no_search : (number word : ℕ) (order : Option ℕ) (bytes : List ℕ) → IfDue NotSearch (replayed so_far number word order bytes)
-unfolding NotSearch
-replay_no_search number word order bytes =
-    then NotSearch (read_report bytes) _ (λ r _. then NotSearch (point_in r number word) _ (λ p _. then NotSearch (refuse (not (so_far.adding || is_copied (shown_in r p))) (refused_at BadWords 11 word)) (λ _. Ok (Replay r number p order)) (λ _ _. tt)))
-
-pub replay_proves : (x : Result Task Refusal) (number word : ℕ) (order : Option ℕ) (bytes text : List ℕ) (files after : Files) → x ≡ replayed so_far number word order bytes → ProvesDue x text files after
-unfolding NotSearch
-replay_proves x number word order bytes text files after e =
-    nothing_proved x text files after (λ w t is. let f : replayed so_far number word order bytes ≡ Ok (Synthesise w t) = sym e ∙ is in subst (IfDue NotSearch) f (replay_no_search number word order bytes))
+-- a command that changes no files proves nothing by them
+pub unchanged_proves : (c : Command) (bytes text : List ℕ) (files after : Files) → ¬ Changes c → ProvesDue (task_of c bytes) text files after
+unchanged_proves c bytes text files after other = nothing_proved (task_of c bytes) text files after (λ w t is. subst (IfDue NotSearch) is (no_search c bytes other))

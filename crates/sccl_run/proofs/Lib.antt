@@ -1,7 +1,8 @@
 pub mod Refused
 pub mod DueWords
 pub mod IfDue
-pub mod Recorded
+pub mod Tasked
+pub mod Searchable
 pub mod Planned
 pub mod Reported
 pub mod Ending

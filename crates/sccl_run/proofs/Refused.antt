@@ -1,5 +1,5 @@
 -- The statuses of what is refused.
-use Rattle.std.proofs.Common.{inl, inr, ◌≡◌, ◌≢◌, ℕ, subst, Bool, true, false, ◌==◌, ◌||◌, not, nat_lt, length, List, Option, None, Some, Result, Ok, Err}
+use Rattle.std.proofs.Common.{inl, inr, ◌≡◌, ◌≢◌, ℕ, subst, Bool, true, false, ◌==◌, not, nat_lt, length, List, Option, None, Some, Result, Ok, Err}
 use Rattle.text_lines.specs.Check.{◌>>=◌, refuse, need}
 use Rattle.candidate_order.specs.Ranges.{LimitsValue}
 use Rattle.candidate_order.specs.Frontiers.{QuestionValue}
@@ -17,15 +17,14 @@ use Rattle.command_words.specs.declared.command.Command.{Command}
 use Rattle.command_words.specs.declared.command.Command.TheVariants as command
 use Rattle.command_words.specs.declared.fault.WordFault.{WordFault}
 use Rattle.sccl_run.specs.declared.status.Status.{Status}
-use Rattle.sccl_run.specs.declared.status.Status.TheVariants.{Done, BadWords, BadTopology, BadReport, TooLarge, NoCandidate, TooLong}
+use Rattle.sccl_run.specs.declared.status.Status.TheVariants.{Done, OutOfMemory, BadWords, BadTopology, SourceFailed, SinkFailed, ShelfFailed, BadReport, TooLarge, NoCandidate, TooLong}
 use Rattle.sccl_run.specs.Built.{Built}
 use Rattle.sccl_run.specs.Asked.{asked as command_asked}
 use Rattle.round_encoding.specs.Candidates.{size_limit}
 use Rattle.candidate_formula.specs.Sizes.{size_of}
-use Rattle.point_replay.specs.Showing.{shown_in, is_copied}
 use Rattle.sccl_run.specs.TopCall.{IsFree}
 use Rattle.sccl_run.specs.Refusals.{Refusal, refused_as}
-use Rattle.sccl_run.specs.Tasks.{due, task_of, words_asked, words_for, whole_question, root_in, searchable, search_for, synthesis_of, read_report, point_in, replay_in, replayed}
+use Rattle.sccl_run.specs.Tasks.{audit_asked, due, programmed, task_of, words_asked, words_for, whole_question, root_in, searchable, search_for, synthesis_of, read_report, point_in, replayed}
 
 -- what is refused is refused with such a status
 abbrev pub With : {A : Type 0} → (Status → Type 0) → Result A Refusal → Type 0
@@ -55,15 +54,18 @@ module _ (P : Status → Type 0) where
   pointed : P BadWords → (r : ReportValue) (number word : ℕ) → With P (point_in r number word)
   pointed bad r number word = needed _ _ bad
 
-  replay_made : P BadWords → (built : Built) (r : ReportValue) (number word : ℕ) (order : Option ℕ) → With P (replay_in built r number word order)
-  replay_made bad built r number word order =
-      bind _ _ (pointed bad r number word) (λ p. bind _ _ (refused (not (built.adding || is_copied (shown_in r p))) _ bad) (λ _. tt))
+  -- behind a report that is read and a point that is found nothing is refused
+  pub replay_ends : P TooLong → P BadReport → P BadWords → (number word : ℕ) (order : Option ℕ) (bytes : List ℕ) → With P (replayed number word order bytes)
+  replay_ends long bad words number word order bytes = bind _ _ (report_read long bad bytes) (λ r. bind _ _ (pointed words r number word) (λ _. tt))
 
-  pub replay_ends : P TooLong → P BadReport → P BadWords → (built : Built) (number word : ℕ) (order : Option ℕ) (bytes : List ℕ) → With P (replayed built number word order bytes)
-  replay_ends long bad words built number word order bytes = bind _ _ (report_read long bad bytes) (λ r. replay_made words built r number word order)
+  pub programs_end : P TooLong → P BadReport → P BadWords → (number word : ℕ) (bytes : List ℕ) → With P (programmed number word bytes)
+  programs_end long bad words number word bytes = bind _ _ (report_read long bad bytes) (λ r. bind _ _ (pointed words r number word) (λ _. tt))
 
   sized : P TooLarge → P NoCandidate → (q : QuestionValue) → With P (searchable q)
   sized large none q = bind _ _ (refused (nat_lt size_limit (size_of q)) _ large) (λ _. refused (length (counts_of q) == 0) _ none)
+
+  pub check_ends : P TooLong → P BadReport → P TooLarge → P NoCandidate → (bytes : List ℕ) → With P (audit_asked bytes)
+  check_ends long bad large none bytes = bind _ _ (report_read long bad bytes) (λ r. bind _ _ (sized large none (whole_question r.words r.topology)) (λ _. tt))
 
   rooted : P BadWords → (names : List (List ℕ)) (root : Option RootWord) → With P (root_in names root)
   rooted bad names None = tt
@@ -79,13 +81,13 @@ module _ (P : Status → Type 0) where
         bind _ _ (refused (not (fits_kind kind t.custom)) _ bad) (λ _. bind _ _ (rooted bad t.names root) (λ node. sought (words_for kind limits node) t))))
 
   module _ (long : P TooLong) (bad : P BadWords) (topology : P BadTopology) (report : P BadReport) (large : P TooLarge) (none : P NoCandidate) where
-    tasked : (built : Built) (c : Command) (bytes : List ℕ) → With P (task_of built c bytes)
-    tasked built (command.Synth kind word limits root) bytes = synth_ends long bad topology large none kind word limits root bytes
-    tasked built command.Check bytes = bind _ _ (report_read long report bytes) (λ r. bind _ _ (sized large none (whole_question r.words r.topology)) (λ _. tt))
-    tasked built (command.Replay number word order) bytes = replay_ends long report bad built number word order bytes
-    tasked built (command.Programs number word) bytes = bind _ _ (report_read long report bytes) (λ r. bind _ _ (pointed bad r number word) (λ _. tt))
-    tasked built (command.Family kind size) bytes = tt
-    tasked built (command.Trial n) bytes = tt
+    tasked : (c : Command) (bytes : List ℕ) → With P (task_of c bytes)
+    tasked (command.Synth kind word limits root) bytes = synth_ends long bad topology large none kind word limits root bytes
+    tasked command.Check bytes = check_ends long report large none bytes
+    tasked (command.Replay number word order) bytes = replay_ends long report bad number word order bytes
+    tasked (command.Programs number word) bytes = programs_end long report bad number word bytes
+    tasked (command.Family kind size) bytes = tt
+    tasked (command.Trial n) bytes = tt
 
     asked_with : (x : Result Command WordFault) → With P (words_asked x)
     asked_with (Ok c) = tt
@@ -93,7 +95,36 @@ module _ (P : Status → Type 0) where
 
     pub due_with : (built : Built) (words : List (List ℕ)) (bytes : List ℕ) → With P (due built words bytes)
     unfolding due
-    due_with built words bytes = bind _ _ (asked_with (command_asked built words)) (λ c. tasked built c bytes)
+    due_with built words bytes = bind _ _ (asked_with (command_asked built words)) (λ c. tasked c bytes)
+
+-- ---- what is refused is neither free nor done
+
+pub not_free : (status : Status) → status ≢ OutOfMemory → status ≢ SourceFailed → status ≢ SinkFailed → status ≢ ShelfFailed → IsFree status → ⊥
+not_free status a b c d (inl e) = a e
+not_free status a b c d (inr (inl e)) = b e
+not_free status a b c d (inr (inr (inl e))) = c e
+not_free status a b c d (inr (inr (inr e))) = d e
+
+pub done_given : IsFree Done → ⊥
+done_given = not_free Done (λ e. cc) (λ e. cc) (λ e. cc) (λ e. cc)
+
+pub long_given : IsFree TooLong → ⊥
+long_given = not_free TooLong (λ e. cc) (λ e. cc) (λ e. cc) (λ e. cc)
+
+pub words_given : IsFree BadWords → ⊥
+words_given = not_free BadWords (λ e. cc) (λ e. cc) (λ e. cc) (λ e. cc)
+
+pub topology_given : IsFree BadTopology → ⊥
+topology_given = not_free BadTopology (λ e. cc) (λ e. cc) (λ e. cc) (λ e. cc)
+
+pub report_given : IsFree BadReport → ⊥
+report_given = not_free BadReport (λ e. cc) (λ e. cc) (λ e. cc) (λ e. cc)
+
+pub large_given : IsFree TooLarge → ⊥
+large_given = not_free TooLarge (λ e. cc) (λ e. cc) (λ e. cc) (λ e. cc)
+
+pub none_given : IsFree NoCandidate → ⊥
+none_given = not_free NoCandidate (λ e. cc) (λ e. cc) (λ e. cc) (λ e. cc)
 
 -- a status that is not free, and not that of what is done
 given : Status → Type 0
@@ -101,43 +132,7 @@ given status = (IsFree status → ⊥) × (status ≢ Done)
 
 is_given : (built : Built) (words : List (List ℕ)) (bytes : List ℕ) → With given (due built words bytes)
 unfolding given
-is_given = due_with given (no_long, λ e. cc) (no_words, λ e. cc) (no_topology, λ e. cc) (no_report, λ e. cc) (no_large, λ e. cc) (no_none, λ e. cc)
-  where
-    no_long : IsFree TooLong → ⊥
-    no_long (inl e) = cc
-    no_long (inr (inl e)) = cc
-    no_long (inr (inr (inl e))) = cc
-    no_long (inr (inr (inr e))) = cc
-
-    no_words : IsFree BadWords → ⊥
-    no_words (inl e) = cc
-    no_words (inr (inl e)) = cc
-    no_words (inr (inr (inl e))) = cc
-    no_words (inr (inr (inr e))) = cc
-
-    no_topology : IsFree BadTopology → ⊥
-    no_topology (inl e) = cc
-    no_topology (inr (inl e)) = cc
-    no_topology (inr (inr (inl e))) = cc
-    no_topology (inr (inr (inr e))) = cc
-
-    no_report : IsFree BadReport → ⊥
-    no_report (inl e) = cc
-    no_report (inr (inl e)) = cc
-    no_report (inr (inr (inl e))) = cc
-    no_report (inr (inr (inr e))) = cc
-
-    no_large : IsFree TooLarge → ⊥
-    no_large (inl e) = cc
-    no_large (inr (inl e)) = cc
-    no_large (inr (inr (inl e))) = cc
-    no_large (inr (inr (inr e))) = cc
-
-    no_none : IsFree NoCandidate → ⊥
-    no_none (inl e) = cc
-    no_none (inr (inl e)) = cc
-    no_none (inr (inr (inl e))) = cc
-    no_none (inr (inr (inr e))) = cc
+is_given = due_with given (long_given, λ e. cc) (words_given, λ e. cc) (topology_given, λ e. cc) (report_given, λ e. cc) (large_given, λ e. cc) (none_given, λ e. cc)
 
 -- what is due is no refusal with a free status, or with that of what is done
 pub never_free : (built : Built) (words : List (List ℕ)) (bytes : List ℕ) (r : Refusal) → due built words bytes ≡ Err r → IsFree r.status → ⊥

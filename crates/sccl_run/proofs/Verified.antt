@@ -1,5 +1,5 @@
 -- What a search wrote, checked over the files that it left.
-use Rattle.std.proofs.Common.{◌≡◌, ◌⊎◌, ◌≤◌, ◌++◌, inl, ℕ, not, List, [], ◌∷◌, length, Option, Result, Ok, Err, codes, map, refl, append-nil, sym, subst, ap, ◌∙◌}
+use Rattle.std.proofs.Common.{◌≡◌, ◌⊎◌, ◌≤◌, ◌++◌, inl, ℕ, not, List, [], ◌∷◌, length, Option, Ok, codes, map, refl, append-nil, sym, subst, ap, ◌∙◌}
 use Rattle.std.proofs.lemmas.List.{append_cancel_left}
 use Rattle.std.proofs.lemmas.List.Elements.{All-contains}
 use Rattle.std.specs.Fmt.{digits}
@@ -25,14 +25,13 @@ use Rattle.report_form.specs.Reports.{ReportValue, WordsValue, parts_of}
 use Rattle.report_form.specs.Reading.{report_of}
 use Rattle.report_form.specs.Spelling.{report_text}
 use Rattle.report_laws.proofs.ReportAgain.{report_again}
-use Rattle.frontier_audit.specs.declared.verdict.AuditVerdict.TheVariants as audit
 use Rattle.frontier_audit.specs.Joining.{is_reduce, is_gather, points_of}
 use Rattle.frontier_audit.specs.Shelves.{ShelfRight}
 use Rattle.frontier_audit.proofs.Right.{right_verified}
 use Rattle.sccl_run.specs.declared.status.Status.TheVariants.{Done, BadWords, BadTopology}
 use Rattle.sccl_run.specs.Built.{everything}
 use Rattle.sccl_run.specs.Asked.{asked}
-use Rattle.sccl_run.specs.Refusals.{Refusal, refused_at, refused_as}
+use Rattle.sccl_run.specs.Refusals.{refused_at, refused_as}
 use Rattle.sccl_run.specs.Tasks.{Task, Synthesise, Audit, Replay, Program, Family, Try, audited, due, limit, not_denied, point_in, read_report, root_in, searchable, synthesis_of, task_of, whole_question, whole_text, words_asked, words_for}
 use Rattle.sccl_run.specs.Owed.{Synthesises}
 use Rattle.frontier_audit.specs.Rights.{AreJoined, IsRight, IsRightPart}
@@ -60,7 +59,7 @@ search_fits kind word limits root bytes =
     then Fits (refuse (not (fits_kind kind t.custom)) (refused_at BadWords 12 word)) _ (λ _ _. then Fits (root_in t.names root) _ (λ node _.
     then Fits (searchable (whole_question (words_for kind limits node) t)) _ (λ u e. e)))))
 
-tasks_fit : (c : Command) (bytes : List ℕ) → IfDue Fits (task_of everything c bytes)
+tasks_fit : (c : Command) (bytes : List ℕ) → IfDue Fits (task_of c bytes)
 unfolding Fits
 tasks_fit (command.Synth kind word limits root) bytes = search_fits kind word limits root bytes
 tasks_fit command.Check bytes = then Fits (read_report bytes) _ (λ r _. then Fits (searchable (whole_question r.words r.topology)) _ (λ _ _. tt))

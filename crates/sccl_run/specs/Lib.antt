@@ -8,7 +8,9 @@ pub mod Tasks
 pub mod Owed
 pub mod TopCall
 pub mod Answering
-pub mod Searches
+pub mod ReportTexts
+pub mod Searchable
+pub mod Plans
 pub mod Halts
 pub mod Reporting
 pub mod Rows

@@ -1,5 +1,5 @@
 -- What is due for the words of a replay, in words of reports and their texts.
-use Rattle.std.specs.Prelude.{◌≡◌, ◌≤◌, ℕ, List, length, None, Ok, Err}
+use Rattle.std.specs.Prelude.{◌≡◌, ◌≤◌, ℕ, List, length, Option, Ok, Err}
 use Rattle.command_words.specs.declared.command.Command.TheVariants as command
 use Rattle.report_form.specs.declared.fault.ReportCode.{ReportCode}
 use Rattle.report_form.specs.Answer.{code_number}
@@ -12,9 +12,9 @@ use Rattle.sccl_run.specs.Asked.{asked}
 use Rattle.sccl_run.specs.Refusals.{refused_at}
 use Rattle.sccl_run.specs.Tasks.{due, limit}
 
--- the words ask for the replay of the point of this number; that number is the word at this index
-pub record AskReplay (built : Built) (words : List (List ℕ)) (number word : ℕ) : Type 0 where
-  pub is : asked built words ≡ Ok (command.Replay number word None)
+-- the words ask for the replay of the point of this number, in this order; that number is the word at this index
+pub record AskReplay (built : Built) (words : List (List ℕ)) (number word : ℕ) (order : Option ℕ) : Type 0 where
+  pub is : asked built words ≡ Ok (command.Replay number word order)
 
 -- the text of a valid report, which is not too long
 pub record IsTextOf (r : ReportValue) (bytes : List ℕ) : Type 0 where

@@ -1,5 +1,5 @@
 -- What the words and the text that is read ask for, or the first check that refuses them: words, length, text, root or point, size, candidates.
-use Rattle.std.specs.Prelude.{ℕ, ◌==◌, ◌||◌, not, List, length, nat_lt, Option, None, Some, Result, Ok, Err}
+use Rattle.std.specs.Prelude.{ℕ, ◌==◌, not, List, length, nat_lt, Option, None, Some, Result, Ok, Err}
 use Rattle.outer_ports.specs.declared.part.Part.{Part}
 use Rattle.outer_ports.specs.Files.{Files, candidate_word}
 use Rattle.text_lines.specs.Check.{◌>>=◌, refuse, need}
@@ -31,7 +31,6 @@ use Rattle.sccl_run.specs.Built.{Built}
 use Rattle.sccl_run.specs.Asked.{asked}
 use Rattle.round_encoding.specs.Candidates.{size_limit}
 use Rattle.candidate_formula.specs.Sizes.{size_of}
-use Rattle.point_replay.specs.Showing.{shown_in, is_copied}
 
 -- the greatest number of bytes that are read
 abbrev pub limit : ℕ
@@ -103,31 +102,35 @@ abbrev pub point_in : ReportValue → ℕ → ℕ → Result (Part × PointValue
 point_in report number word = need (point_at report number) (refused_at BadWords 9 word)
 
 -- the replay of a point of this report
-abbrev pub replay_in : Built → ReportValue → ℕ → ℕ → Option ℕ → Result Task Refusal
-replay_in built report number word order = do
+abbrev pub replay_in : ReportValue → ℕ → ℕ → Option ℕ → Result Task Refusal
+replay_in report number word order = do
   point ← point_in report number word
-  _ ← refuse (not (built.adding || is_copied (shown_in report point))) (refused_at BadWords 11 word)
   Ok (Replay report number point order)
 
-abbrev pub replayed : Built → ℕ → ℕ → Option ℕ → List ℕ → Result Task Refusal
-replayed built number word order bytes = do
+abbrev pub replayed : ℕ → ℕ → Option ℕ → List ℕ → Result Task Refusal
+replayed number word order bytes = do
   report ← read_report bytes
-  replay_in built report number word order
+  replay_in report number word order
+
+-- the programs of a point of this report
+abbrev pub programs_in : ReportValue → ℕ → ℕ → Result Task Refusal
+programs_in report number word = do
+  point ← point_in report number word
+  Ok (Program report number point)
 
 abbrev pub programmed : ℕ → ℕ → List ℕ → Result Task Refusal
 programmed number word bytes = do
   report ← read_report bytes
-  point ← point_in report number word
-  Ok (Program report number point)
+  programs_in report number word
 
 -- what a command asks for, over these bytes
-abbrev pub task_of : Built → Command → List ℕ → Result Task Refusal
-task_of built (command.Synth kind word limits root) bytes = synthesis_of kind word limits root bytes
-task_of built command.Check bytes = audit_asked bytes
-task_of built (command.Replay number word order) bytes = replayed built number word order bytes
-task_of built (command.Programs number word) bytes = programmed number word bytes
-task_of built (command.Family kind size) bytes = Ok (Family kind size)
-task_of built (command.Trial n) bytes = Ok (Try n)
+abbrev pub task_of : Command → List ℕ → Result Task Refusal
+task_of (command.Synth kind word limits root) bytes = synthesis_of kind word limits root bytes
+task_of command.Check bytes = audit_asked bytes
+task_of (command.Replay number word order) bytes = replayed number word order bytes
+task_of (command.Programs number word) bytes = programmed number word bytes
+task_of (command.Family kind size) bytes = Ok (Family kind size)
+task_of (command.Trial n) bytes = Ok (Try n)
 
 -- the words are a command, or are refused
 abbrev pub words_asked : Result Command WordFault → Result Command Refusal
@@ -138,7 +141,7 @@ words_asked (Err fault) = Err (refused_at BadWords (word_number fault.code) faul
 unfoldable pub due : Built → List (List ℕ) → List ℕ → Result Task Refusal
 due built words bytes = do
   command ← words_asked (asked built words)
-  task_of built command bytes
+  task_of command bytes
 
 -- ---- what the files decide
 

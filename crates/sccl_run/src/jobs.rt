@@ -5,15 +5,26 @@ ghost use Rattle.sccl_run.specs.Built.{is_built};
 ghost use Rattle.sccl_run.specs.Jobs.{command_of_job};
 
 use crate::planning::SearchWords;
-use collective_spec::reduces;
+use crate::points::PointWord;
 use command_words::Command;
 use topology_text::FamilyKind;
 
+/// What is done with a text that the source gives.
+#[derive(Clone, Copy, Debug, PartialEq, Eq)]
+pub enum TextJob {
+    /// Searches over the topology.
+    Synth(SearchWords),
+    /// Replays a point of the report, in the order of a seed where there is one.
+    Replay(PointWord, Option<u64>),
+    /// Gives the programs of a point of the report.
+    Programs(PointWord),
+}
+
 /// What is done of what the words can ask for: the commands that are built.
+#[derive(Clone, Copy, Debug, PartialEq, Eq)]
 pub enum Job {
     Family { kind: FamilyKind, size: u8 },
-    Replay { point: u32, word: u32 },
-    Synth(SearchWords),
+    Text(TextJob),
 }
 
 /// The job of a command; `None` exactly where the command is not built.
@@ -21,30 +32,28 @@ pub fn job_of(command: &Command) -> Option<Job>
     ensures built { IfSome result (λ job. (is_built command.now ≡ true) × (command.now ≡ command_of_job job)) }
     ensures not_built { IfNone result (is_built command.now ≡ false) }
 {
-    match command {
+    match *command {
         Command::Synth {
             kind,
             kind_word,
             limits,
             root,
-        } if !reduces(*kind) => Some(Job::Synth(SearchWords {
-            kind: *kind,
-            kind_word: *kind_word,
-            limits: *limits,
-            root: *root,
-        })),
-        Command::Family { kind, size } => Some(Job::Family {
-            kind: *kind,
-            size: *size,
-        }),
+        } => Some(Job::Text(TextJob::Synth(SearchWords {
+            kind,
+            kind_word,
+            limits,
+            root,
+        }))),
         Command::Replay {
             point,
-            point_word,
-            order: None,
-        } => Some(Job::Replay {
-            point: *point,
-            word: *point_word,
-        }),
-        _ => None,
+            point_word: word,
+            order,
+        } => Some(Job::Text(TextJob::Replay(PointWord { point, word }, order))),
+        Command::Programs {
+            point,
+            point_word: word,
+        } => Some(Job::Text(TextJob::Programs(PointWord { point, word }))),
+        Command::Family { kind, size } => Some(Job::Family { kind, size }),
+        Command::Check | Command::Trial { .. } => None,
     }
 }

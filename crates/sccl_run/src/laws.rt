@@ -1,6 +1,6 @@
 //! What a right run of the top call says.
 
-ghost use Rattle.std.specs.Prelude.{◌≡◌, ◌⊎◌, ◌≤◌, ◌∷◌, ◌++◌, ℕ, List, [], codes, length, true, false, None, Some, Ok, Err};
+ghost use Rattle.std.specs.Prelude.{◌≡◌, ◌⊎◌, ◌≤◌, ◌∷◌, ◌++◌, ℕ, List, [], codes, length, Option, None, Some, Ok, Err};
 ghost use Rattle.topology_text.specs.Value.{NamedTopologyValue};
 ghost use Rattle.outer_ports.specs.declared.part.Part.{Part};
 ghost use Rattle.outer_ports.specs.Files.{Files};
@@ -9,10 +9,9 @@ ghost use Rattle.candidate_order.specs.Frontiers.{PointValue};
 ghost use Rattle.report_form.specs.Reports.{IsReport, ReportValue, WordsValue};
 ghost use Rattle.report_form.specs.Numbered.{point_at};
 ghost use Rattle.report_form.specs.Spelling.{report_text};
-ghost use Rattle.sccl_run.specs.Built.{Built, everything, so_far};
+ghost use Rattle.sccl_run.specs.Built.{Built, everything};
 ghost use Rattle.sccl_run.specs.Refusals.{Refusal, refused_at};
 ghost use Rattle.sccl_run.specs.Reporting.{AskReplay, IsRefusedText, IsTextOf};
-ghost use Rattle.point_replay.specs.Showing.{is_copied, shown_in};
 ghost use Rattle.sccl_run.specs.Tasks.{Replay, Synthesise, due, limit};
 ghost use Rattle.sccl_run.specs.TopCall.{CountValue, IsFree, IsRun, RunValue, StatusIsDue, TextIsDue};
 ghost use Rattle.sccl_run.specs.Rows.{all_tell, done_search, failed_search, family_run, own_file, refused_check};
@@ -55,15 +54,13 @@ pub fn a_refusal_that_takes_nothing_is_wrong()
 {}
 
 /// What is due for the words of a replay: where the bytes are the text of a valid report, that its point is replayed where
-/// there is one and it copies; and where they are that of none, a refusal at the first line at which they can no longer be one.
+/// there is one; and where they are that of none, a refusal at the first line at which they can no longer be one.
 pub fn replays_are_due()
-    ensures replayed { (built : Built) (words : List (List ℕ)) (number word : ℕ) → AskReplay built words number word → (bytes : List ℕ) (r : ReportValue) (p : Part × PointValue)
-        → IsTextOf r bytes → point_at r number ≡ Some p → is_copied (shown_in r p) ≡ true → due built words bytes ≡ Ok (Replay r number p None) }
-    ensures unknown { (built : Built) (words : List (List ℕ)) (number word : ℕ) → AskReplay built words number word → (bytes : List ℕ) (r : ReportValue)
+    ensures replayed { (built : Built) (words : List (List ℕ)) (number word : ℕ) (order : Option ℕ) → AskReplay built words number word order → (bytes : List ℕ) (r : ReportValue) (p : Part × PointValue)
+        → IsTextOf r bytes → point_at r number ≡ Some p → due built words bytes ≡ Ok (Replay r number p order) }
+    ensures unknown { (built : Built) (words : List (List ℕ)) (number word : ℕ) (order : Option ℕ) → AskReplay built words number word order → (bytes : List ℕ) (r : ReportValue)
         → IsTextOf r bytes → point_at r number ≡ None → due built words bytes ≡ Err (refused_at Status.BadWords 9 word) }
-    ensures adds { (words : List (List ℕ)) (number word : ℕ) → AskReplay so_far words number word → (bytes : List ℕ) (r : ReportValue) (p : Part × PointValue)
-        → IsTextOf r bytes → point_at r number ≡ Some p → is_copied (shown_in r p) ≡ false → due so_far words bytes ≡ Err (refused_at Status.BadWords 11 word) }
-    ensures no_report { (built : Built) (words : List (List ℕ)) (number word : ℕ) → AskReplay built words number word → (bytes : List ℕ)
+    ensures no_report { (built : Built) (words : List (List ℕ)) (number word : ℕ) (order : Option ℕ) → AskReplay built words number word order → (bytes : List ℕ)
         → length bytes ≤ limit → ((r : ReportValue) → IsReport r → bytes ≡ report_text r → ⊥) → IsRefusedText built words bytes }
 {}
 

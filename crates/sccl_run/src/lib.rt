@@ -6,12 +6,17 @@ mod halt;
 mod jobs;
 mod laws;
 mod planning;
+mod points;
+mod programming;
 mod reading;
+mod replaying;
+mod report_text;
 mod status;
 mod synth;
 #[cfg(test)]
 mod tests;
 mod toplevel;
+mod unsearchable;
 mod vectors;
 
 pub use command_words::{Command, RootWord, WordCode, WordFault, read_words};

@@ -1,7 +1,7 @@
-//! What a search is asked for, and whether it is to be done: the checks of its text, its root, its size and its chunk counts.
+//! What a search is asked for, and whether it is to be done: the checks of its text, its pattern and its root.
 
-ghost use Rattle.std.specs.Prelude.{◌≡◌, ◌≢◌, ◌<◌, ◌≤◌, length, true, false, IfErr, IfOk, Ok, Err};
-ghost use Rattle.collective_spec.specs.Collectives.{fits_kind, reduces, spec_of};
+ghost use Rattle.std.specs.Prelude.{◌≡◌, ◌≢◌, ◌<◌, ◌≤◌, length, true, IfErr, IfOk, Ok, Err};
+ghost use Rattle.collective_spec.specs.Collectives.{fits_kind};
 ghost use Rattle.command_words.specs.declared.command.Command.TheVariants as command;
 ghost use Rattle.command_words.specs.Commands.{IsProper};
 ghost use Rattle.topology_text.specs.Answer.{code_number as topology_number};
@@ -10,21 +10,18 @@ ghost use Rattle.report_form.specs.Reports.{IsWords};
 ghost use Rattle.sccl_run.specs.Refusals.{refused_at};
 ghost use Rattle.sccl_run.specs.Answering.{Says};
 ghost use Rattle.sccl_run.specs.Tasks.{limit, root_in, search_for, search_over, synthesis_of};
-ghost use Rattle.sccl_run.specs.Searches.{IsPlanned};
+ghost use Rattle.sccl_run.specs.Plans.{IsPlanned};
 
 use crate::OutOfMemory;
 use crate::answer::{Answer, refusal, refused_word};
 use crate::status::Status;
-use candidate_formula::{allowed_counts, size_number};
+use crate::unsearchable::unsearchable;
 use candidate_order::Limits;
-use collective_spec::{Collective, Kind, Spec, is_custom};
+use collective_spec::{Collective, Kind, is_custom};
 use command_words::{RootWord, WordCode};
 use report_form::Words;
 use std::alloc::Global;
 use topology_text::{Name, NamedTopology, TopologyCode, TopologyFault, read_topology};
-
-/// The greatest size of a search.
-const SIZE_LIMIT: u64 = 2_000_000;
 
 /// What the words of a search ask for.
 #[derive(Clone, Copy, Debug, PartialEq, Eq)]
@@ -41,10 +38,6 @@ pub struct SearchWords {
 pub struct Search {
     pub words: Words,
     pub topology: NamedTopology,
-    /// The collective of the words, with the pattern of the topology.
-    pub spec: Spec,
-    /// The chunk counts that the collective and the limits allow, ascending.
-    pub counts: Vec<u8>,
 }
 
 /// The search that is due, or the answer that refuses it.
@@ -88,41 +81,16 @@ fn root_of(names: &[Name], root: Option<RootWord>) -> Result<u8, u32>
     }
 }
 
-/// The collective, with the pattern of the topology where it has one.
-fn spec_over(collective: Collective, topology: &NamedTopology) -> Result<Spec, OutOfMemory>
-    ensures { IfOk result (λ spec. spec ≡ spec_of collective topology.now.custom) }
-{
-    let pattern = match topology.custom() {
-        None => None,
-        Some(pattern) => Some(pattern.clone()?),
-    };
-    Ok(Spec::of(collective, pattern))
-}
-
 /// The search of these words over the topology, where it is small enough and has a candidate.
 fn plan_for(alloc: Global, words: Words, topology: NamedTopology) -> Result<Plan, OutOfMemory>
     requires words { IsWords (length topology.names) words }
     requires fits { fits_kind words.collective.kind topology.custom ≡ true }
-    requires copies { reduces words.collective.kind ≡ false }
     ensures { IfOk result (λ plan. IsPlanned (search_for words topology) plan) }
 {
-    let collective = words.collective();
-    let limits = words.limits();
-    let spec = spec_over(collective, &topology)?;
-    let size = size_number(topology.topology(), &spec, &limits)?;
-    if size > SIZE_LIMIT {
-        return Ok(Plan::Refused(refusal(alloc, Status::TooLarge, 0, size)?));
+    match unsearchable(alloc, words, &topology)? {
+        Some(answer) => Ok(Plan::Refused(answer)),
+        None => Ok(Plan::Due(Search { words, topology })),
     }
-    let counts = allowed_counts(alloc, topology.topology().nodes(), collective.kind, &limits)?;
-    if counts.is_empty() {
-        return Ok(Plan::Refused(refusal(alloc, Status::NoCandidate, 0, 0)?));
-    }
-    Ok(Plan::Due(Search {
-        words,
-        topology,
-        spec,
-        counts,
-    }))
 }
 
 /// The search over the topology, where the words fit it.
@@ -132,7 +100,6 @@ fn plan_over(
     topology: NamedTopology,
 ) -> Result<Plan, OutOfMemory>
     requires proper { IsProper (command.Synth asked.kind asked.kind_word asked.limits asked.root) }
-    requires copies { reduces asked.kind ≡ false }
     ensures { IfOk result (λ plan. IsPlanned (search_over asked.kind asked.kind_word asked.limits asked.root topology) plan) }
 {
     if !fits(asked.kind, &topology) {
@@ -171,7 +138,6 @@ fn bad_topology(alloc: Global, fault: TopologyFault) -> Result<Answer, OutOfMemo
 pub fn plan_over_text(alloc: Global, asked: SearchWords, bytes: &[u8]) -> Result<Plan, OutOfMemory>
     requires short { length bytes.now ≤ limit }
     requires proper { IsProper (command.Synth asked.kind asked.kind_word asked.limits asked.root) }
-    requires copies { reduces asked.kind ≡ false }
     ensures { IfOk result (λ plan. IsPlanned (synthesis_of asked.kind asked.kind_word asked.limits asked.root bytes.now) plan) }
 {
     match read_topology(alloc, bytes) {

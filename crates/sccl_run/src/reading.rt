@@ -1,18 +1,21 @@
 //! The answers to what the source gives.
 
-ghost use Rattle.std.specs.Prelude.{◌≡◌, ◌≢◌, ◌⊎◌, ◌+◌, ◌<◌, ◌≤◌, ℕ, false, length, IsTrue, None, Err, Ok, IfOk, IfSome, IfNone, OnOk, drop};
-ghost use Rattle.outer_ports.specs.Port.{Rose, Tells};
-ghost use Rattle.collective_spec.specs.Collectives.{reduces};
-ghost use Rattle.command_words.specs.declared.command.Command.TheVariants as command;
+ghost use Rattle.std.specs.Prelude.{◌≡◌, ◌≢◌, ◌⊎◌, ◌+◌, ◌<◌, ◌≤◌, ℕ, true, length, IsTrue, Err, Ok, IfOk, IfSome, IfNone, OnOk, drop};
+ghost use Rattle.outer_ports.specs.Port.{HasCause, Rose, Tells};
+ghost use Rattle.outer_ports.specs.Shelf.{FilesStay};
 ghost use Rattle.command_words.specs.Commands.{IsProper};
 ghost use Rattle.sccl_run.specs.Answering.{BeginsDue, Ends, ProvesDue, Says};
-ghost use Rattle.sccl_run.specs.Built.{so_far};
+ghost use Rattle.sccl_run.specs.Asked.{Changes, Opens};
+ghost use Rattle.sccl_run.specs.Built.{is_built};
+ghost use Rattle.sccl_run.specs.Jobs.{command_of_text};
 ghost use Rattle.sccl_run.specs.Refusals.{Refusal};
-ghost use Rattle.sccl_run.specs.Tasks.{limit, replayed, synthesis_of};
+ghost use Rattle.sccl_run.specs.Tasks.{limit, task_of};
 
-use crate::answer::{Answer, LIMIT, report_answer, too_long};
+use crate::answer::{Answer, LIMIT, too_long};
 use crate::halt::Halt;
-use crate::planning::SearchWords;
+use crate::jobs::TextJob;
+use crate::programming::programs_answer;
+use crate::replaying::replay_answer;
 use crate::synth::synth_text_answer;
 use outer_ports::{ReadFault, Shelf, Source, read_all};
 use std::alloc::Global;
@@ -38,44 +41,49 @@ fn read_text<I: Source>(alloc: Global, source: &mut I) -> Result<Option<Vec<u8>>
     }
 }
 
-/// The answer to a replay, over what the source gives.
-pub fn replay_answer<I: Source>(
+/// The answer to a text that came whole. Files are kept on the shelf where a search is due, and it is opened by no other job.
+fn text_answer<H: Shelf>(
     alloc: Global,
-    source: &mut I,
-    number: u32,
-    word: u32,
+    job: TextJob,
+    bytes: &[u8],
+    shelf: &mut H,
 ) -> Result<Answer, Halt>
-    ensures told { Tells (I.tells source.old) (I.tells source.new) }
-    ensures failed { result ≡ Err Halt.Source → Rose (I.faults source.old) (I.faults source.new) }
-    ensures kept { result ≢ Err Halt.Source → I.faults source.new ≡ I.faults source.old }
-    ensures shelf { result ≢ Err Halt.Shelf }
-    ensures ends { IfOk result (λ a. Ends (Ok (command.Replay number word None)) a.status) }
-    ensures says { IsTrue (I.tells source.new) → IfOk result (λ a. Says (replayed so_far number word None (I.left source.old)) a.status a.text.items) }
-    ensures read { IsTrue (I.tells source.new) → IfOk result (λ _. I.left source.new ≡ drop (limit + 1) (I.left source.old)) }
-    ensures memory { IsTrue (I.tells source.new) → result ≡ Err Halt.Memory → (I.left source.new ≡ I.left source.old) ⊎ (I.left source.new ≡ drop (limit + 1) (I.left source.old)) }
-    ensures part { IsTrue (I.tells source.new) → result ≡ Err Halt.Source → (count : ℕ) × (count ≤ limit + 1) × (I.left source.new ≡ drop count (I.left source.old)) }
+    requires short { length bytes.now ≤ limit }
+    requires proper { IsProper (command_of_text job) }
+    requires built { is_built (command_of_text job) ≡ true }
+    ensures source { result ≢ Err Halt.Source }
+    ensures says { IfOk result (λ a. Says (task_of (command_of_text job) bytes.now) a.status a.text.items) }
+    ensures told { Tells (H.tells shelf.old) (H.tells shelf.new) }
+    ensures unopened { ¬ Opens (command_of_text job) → shelf.new ≡ shelf.old }
+    ensures opens { result ≡ Err Halt.Shelf → Opens (command_of_text job) }
+    ensures stay { IsTrue (H.tells shelf.new) → ¬ Changes (command_of_text job) → FilesStay (H.file shelf.old) (H.file shelf.new) }
+    ensures begins { IsTrue (H.tells shelf.new) → BeginsDue (task_of (command_of_text job) bytes.now) (H.file shelf.old) (H.file shelf.new) }
+    ensures proves { IsTrue (H.tells shelf.new) → IfOk result (λ a. ProvesDue (task_of (command_of_text job) bytes.now) a.text.items (H.file shelf.old) (H.file shelf.new)) }
+    ensures last { result ≡ Err Halt.Shelf → (r : Refusal) → task_of (command_of_text job) bytes.now ≡ Err r → ⊥ }
+    ensures cause { HasCause Halt.Shelf (H.faults shelf.old) (H.faults shelf.new) result }
+    ensures steady { result ≢ Err Halt.Shelf → H.faults shelf.new ≡ H.faults shelf.old }
 {
-    match read_text(alloc, source)? {
-        Some(text) => Ok(report_answer(alloc, &text, number, word)?),
-        None => Ok(too_long(alloc)?),
+    match job {
+        TextJob::Synth(asked) => Ok(synth_text_answer(alloc, asked, bytes, shelf)?),
+        TextJob::Replay(asked, order) => Ok(replay_answer(alloc, bytes, asked, order)?),
+        TextJob::Programs(asked) => Ok(programs_answer(alloc, bytes, asked)?),
     }
 }
 
-/// The answer to a search, over what the source gives. Its files are kept on the shelf, which is looked at only where the
-/// search is due.
-pub fn synth_answer<I: Source, H: Shelf>(
+/// The answer to what the source gives.
+pub fn source_answer<I: Source, H: Shelf>(
     alloc: Global,
+    job: TextJob,
     source: &mut I,
     shelf: &mut H,
-    asked: SearchWords,
 ) -> Result<Answer, Halt>
-    requires proper { IsProper (command.Synth asked.kind asked.kind_word asked.limits asked.root) }
-    requires copies { reduces asked.kind ≡ false }
+    requires proper { IsProper (command_of_text job) }
+    requires built { is_built (command_of_text job) ≡ true }
     ensures told { Tells (I.tells source.old) (I.tells source.new) }
     ensures failed { result ≡ Err Halt.Source → Rose (I.faults source.old) (I.faults source.new) }
     ensures kept { result ≢ Err Halt.Source → I.faults source.new ≡ I.faults source.old }
-    ensures ends { IfOk result (λ a. Ends (Ok (command.Synth asked.kind asked.kind_word asked.limits asked.root)) a.status) }
-    ensures says { IsTrue (I.tells source.new) → IfOk result (λ a. Says (synthesis_of asked.kind asked.kind_word asked.limits asked.root (I.left source.old)) a.status a.text.items) }
+    ensures ends { IfOk result (λ a. Ends (Ok (command_of_text job)) a.status) }
+    ensures says { IsTrue (I.tells source.new) → IfOk result (λ a. Says (task_of (command_of_text job) (I.left source.old)) a.status a.text.items) }
     ensures read { IsTrue (I.tells source.new) → IfOk result (λ _. I.left source.new ≡ drop (limit + 1) (I.left source.old)) }
     ensures memory { IsTrue (I.tells source.new) → result ≡ Err Halt.Memory → (I.left source.new ≡ I.left source.old) ⊎ (I.left source.new ≡ drop (limit + 1) (I.left source.old)) }
     ensures part { IsTrue (I.tells source.new) → result ≡ Err Halt.Source → (count : ℕ) × (count ≤ limit + 1) × (I.left source.new ≡ drop count (I.left source.old)) }
@@ -83,13 +91,16 @@ pub fn synth_answer<I: Source, H: Shelf>(
     ensures shelf_told { Tells (H.tells shelf.old) (H.tells shelf.new) }
     ensures shelf_failed { result ≡ Err Halt.Shelf → Rose (H.faults shelf.old) (H.faults shelf.new) }
     ensures shelf_kept { result ≢ Err Halt.Shelf → H.faults shelf.new ≡ H.faults shelf.old }
-    ensures unopened { result ≡ Err Halt.Source → shelf.new ≡ shelf.old }
-    ensures begins { IsTrue (I.tells source.new) → IsTrue (H.tells shelf.new) → BeginsDue (synthesis_of asked.kind asked.kind_word asked.limits asked.root (I.left source.old)) (H.file shelf.old) (H.file shelf.new) }
-    ensures proves { IsTrue (I.tells source.new) → IsTrue (H.tells shelf.new) → IfOk result (λ a. ProvesDue (synthesis_of asked.kind asked.kind_word asked.limits asked.root (I.left source.old)) a.text.items (H.file shelf.old) (H.file shelf.new)) }
-    ensures last { IsTrue (I.tells source.new) → result ≡ Err Halt.Shelf → (r : Refusal) → synthesis_of asked.kind asked.kind_word asked.limits asked.root (I.left source.old) ≡ Err r → ⊥ }
+    ensures unread { result ≡ Err Halt.Source → shelf.new ≡ shelf.old }
+    ensures unopened { ¬ Opens (command_of_text job) → shelf.new ≡ shelf.old }
+    ensures opens { result ≡ Err Halt.Shelf → Opens (command_of_text job) }
+    ensures stay { IsTrue (H.tells shelf.new) → ¬ Changes (command_of_text job) → FilesStay (H.file shelf.old) (H.file shelf.new) }
+    ensures begins { IsTrue (I.tells source.new) → IsTrue (H.tells shelf.new) → BeginsDue (task_of (command_of_text job) (I.left source.old)) (H.file shelf.old) (H.file shelf.new) }
+    ensures proves { IsTrue (I.tells source.new) → IsTrue (H.tells shelf.new) → IfOk result (λ a. ProvesDue (task_of (command_of_text job) (I.left source.old)) a.text.items (H.file shelf.old) (H.file shelf.new)) }
+    ensures last { IsTrue (I.tells source.new) → result ≡ Err Halt.Shelf → (r : Refusal) → task_of (command_of_text job) (I.left source.old) ≡ Err r → ⊥ }
 {
     match read_text(alloc, source)? {
-        Some(text) => Ok(synth_text_answer(alloc, asked, &text, shelf)?),
+        Some(text) => text_answer(alloc, job, &text, shelf),
         None => Ok(too_long(alloc)?),
     }
 }

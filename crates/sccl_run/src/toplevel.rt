@@ -2,10 +2,11 @@
 
 ghost use Rattle.std.specs.Prelude.{◌≡◌, ◌≢◌, ◌⊎◌, ◌+◌, ◌≤◌, ℕ, IsTrue, Err, IfOk, drop};
 ghost use Rattle.outer_ports.specs.Port.{Rose, Tells};
+ghost use Rattle.outer_ports.specs.Shelf.{FilesStay};
 ghost use Rattle.command_words.specs.Words.{texts};
 ghost use Rattle.sccl_run.specs.Built.{so_far};
 ghost use Rattle.sccl_run.specs.Refusals.{Refusal};
-ghost use Rattle.sccl_run.specs.Asked.{Ask, Changes, Reads, asked};
+ghost use Rattle.sccl_run.specs.Asked.{Ask, Changes, Opens, Reads, asked};
 ghost use Rattle.sccl_run.specs.Tasks.{due, limit};
 ghost use Rattle.sccl_run.specs.Answering.{BeginsDue, Ends, ProvesDue, Says};
 ghost use Rattle.sccl_run.specs.TopCall.{FilesAreDue, IsCall, Knows, LeftIsDue, StatusIsDue, TextIsDue};
@@ -13,7 +14,7 @@ ghost use Rattle.sccl_run.specs.TopCall.{FilesAreDue, IsCall, Knows, LeftIsDue, 
 use crate::answer::{Answer, family_answer, refused_word};
 use crate::halt::Halt;
 use crate::jobs::{Job, job_of};
-use crate::reading::{replay_answer, synth_answer};
+use crate::reading::source_answer;
 use crate::status::Status;
 use command_words::{WordCode, read_words};
 use outer_ports::{Failed, Shelf, Sink, Source, write_all};
@@ -30,7 +31,7 @@ fn answer<I: Source, H: Shelf>(
     ensures failed { result ≡ Err Halt.Source → Rose (I.faults source.old) (I.faults source.new) }
     ensures kept { result ≢ Err Halt.Source → I.faults source.new ≡ I.faults source.old }
     ensures reads { result ≡ Err Halt.Source → Ask Reads so_far (texts words.now) }
-    ensures unread { ¬ Ask Reads so_far (texts words.now) → source.new ≡ source.old }
+    ensures untouched { ¬ Ask Reads so_far (texts words.now) → source.new ≡ source.old }
     ensures ends { IfOk result (λ a. Ends (asked so_far (texts words.now)) a.status) }
     ensures says { Knows (I.tells source.new) so_far (texts words.now) → IfOk result (λ a. Says (due so_far (texts words.now) (I.left source.old)) a.status a.text.items) }
     ensures read { IsTrue (I.tells source.new) → Ask Reads so_far (texts words.now) → IfOk result (λ _. I.left source.new ≡ drop (limit + 1) (I.left source.old)) }
@@ -40,9 +41,10 @@ fn answer<I: Source, H: Shelf>(
     ensures shelf_told { Tells (H.tells shelf.old) (H.tells shelf.new) }
     ensures shelf_failed { result ≡ Err Halt.Shelf → Rose (H.faults shelf.old) (H.faults shelf.new) }
     ensures shelf_kept { result ≢ Err Halt.Shelf → H.faults shelf.new ≡ H.faults shelf.old }
-    ensures changes { result ≡ Err Halt.Shelf → Ask Changes so_far (texts words.now) }
-    ensures unchanged { ¬ Ask Changes so_far (texts words.now) → shelf.new ≡ shelf.old }
-    ensures unopened { result ≡ Err Halt.Source → shelf.new ≡ shelf.old }
+    ensures opens { result ≡ Err Halt.Shelf → Ask Opens so_far (texts words.now) }
+    ensures unopened { ¬ Ask Opens so_far (texts words.now) → shelf.new ≡ shelf.old }
+    ensures unread { result ≡ Err Halt.Source → shelf.new ≡ shelf.old }
+    ensures unchanged { IsTrue (H.tells shelf.new) → ¬ Ask Changes so_far (texts words.now) → FilesStay (H.file shelf.old) (H.file shelf.new) }
     ensures begins { Knows (I.tells source.new) so_far (texts words.now) → IsTrue (H.tells shelf.new) → BeginsDue (due so_far (texts words.now) (I.left source.old)) (H.file shelf.old) (H.file shelf.new) }
     ensures proves { Knows (I.tells source.new) so_far (texts words.now) → IsTrue (H.tells shelf.new) → IfOk result (λ a. ProvesDue (due so_far (texts words.now) (I.left source.old)) a.text.items (H.file shelf.old) (H.file shelf.new)) }
     ensures last { Knows (I.tells source.new) so_far (texts words.now) → result ≡ Err Halt.Shelf → (r : Refusal) → due so_far (texts words.now) (I.left source.old) ≡ Err r → ⊥ }
@@ -50,8 +52,7 @@ fn answer<I: Source, H: Shelf>(
     match read_words(words) {
         Ok(command) => match job_of(&command) {
             Some(Job::Family { kind, size }) => Ok(family_answer(alloc, kind, size)?),
-            Some(Job::Replay { point, word }) => replay_answer(alloc, source, point, word),
-            Some(Job::Synth(asked)) => synth_answer(alloc, source, shelf, asked),
+            Some(Job::Text(job)) => source_answer(alloc, job, source, shelf),
             None => Ok(refused_word(alloc, WordCode::NotBuilt, 0)?),
         },
         Err(fault) => Ok(refused_word(alloc, fault.code, fault.word)?),
@@ -61,10 +62,10 @@ fn answer<I: Source, H: Shelf>(
 /// Does what the words ask for, and writes one text to the sink: what the command gives, or the line of a refusal. The
 /// status says how it ended.
 ///
-/// Three commands are built. `synth` reads a topology from the source, searches the schedules of a collective that copies,
-/// writes the report, and keeps the formulas and the proofs on the shelf. `replay point=N` reads a report from the source,
-/// and writes the replay of its point, where that point copies. `family` writes the topology text of a family, and reads
-/// nothing.
+/// Four commands are built. `synth` reads a topology from the source, searches the schedules of a collective, writes the
+/// report, and keeps the formulas and the proofs on the shelf. `replay point=N` reads a report from the source,
+/// and writes the replay of its point, with `order=SEED` in the order that the seed draws too. `programs point=N` writes
+/// the programs that carry its point out. `family` writes the topology text of a family, and reads nothing.
 pub fn run<I: Source, O: Sink, H: Shelf>(
     alloc: Global,
     words: &[String],

@@ -3,7 +3,7 @@
 ghost use Rattle.std.specs.Prelude.{◌≡◌, [], ◌∷◌, None, Some, Ok, Err, codes};
 ghost use Rattle.topology_text.specs.Family.{family_of};
 ghost use Rattle.report_form.specs.Spelling.{report_text};
-ghost use Rattle.report_form.specs.Rows.{allreduce_report, broadcast_report, relay_report};
+ghost use Rattle.report_form.specs.Rows.{broadcast_report, relay_report};
 ghost use Rattle.frontier_audit.specs.Rows.{beside_one_step, cnf_of_one_step};
 ghost use Rattle.candidate_formula.specs.Sizes.{size_of};
 ghost use Rattle.sccl_run.specs.Refusals.{refusal_line, refused_at};
@@ -37,14 +37,12 @@ pub fn searches_due()
     ensures root { due everything (search (codes "collective=broadcast") (codes "root=n9" ∷ [])) two_nodes_text ≡ Err (refused_at Status.BadWords 8 6) }
     ensures no_pattern { due everything (search (codes "collective=custom") []) two_nodes_text ≡ Err (refused_at Status.BadWords 12 1) }
     ensures pattern { due everything (search (codes "collective=broadcast") (codes "root=n9" ∷ [])) moved_text ≡ Err (refused_at Status.BadWords 12 1) }
-    ensures reduction { due so_far (search (codes "collective=reduce") []) two_nodes_text ≡ Err (refused_at Status.BadWords 11 0) }
     ensures candidates { due everything (search (codes "collective=alltoall") []) two_nodes_text ≡ Err (refused_at Status.NoCandidate 0 0) }
 {}
 
 /// Reports that are refused for their text, for the point that is asked for, and by the audit.
 pub fn reports_due()
     ensures text { due everything (codes "replay" ∷ codes "point=1" ∷ []) (codes "sccl 1\n") ≡ Err (refused_at Status.BadReport 2 2) }
-    ensures adds { due so_far (codes "replay" ∷ codes "point=1" ∷ []) (report_text allreduce_report) ≡ Err (refused_at Status.BadWords 11 1) }
     ensures point { due everything (codes "replay" ∷ codes "point=2" ∷ []) (report_text broadcast_report) ≡ Err (refused_at Status.BadWords 9 1) }
     ensures denied { audited relay_report (beside_one_step cnf_of_one_step []) ≡ Err (record { status = Status.Denied; code = 5; place = codes "1-1-1" }) }
     ensures line { refusal_line (record { status = Status.Denied; code = 5; place = codes "1-1-1" }) ≡ codes "refused 8 5 1-1-1\n" }

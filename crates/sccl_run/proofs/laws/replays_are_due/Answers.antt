@@ -1,4 +1,4 @@
-use Rattle.sccl_run.proofs.ReportsDue.{replayed_is_due, unknown_is_due, adding_is_refused, no_report_is_refused}
+use Rattle.sccl_run.proofs.ReportsDue.{replayed_is_due, unknown_is_due, no_report_is_refused}
 use Rattle.sccl_run.proofs.laws.replays_are_due.Goals as goal
 
 pub returns-clause-replayed : goal.returns-clause-replayed
@@ -6,9 +6,6 @@ returns-clause-replayed c = replayed_is_due
 
 pub returns-clause-unknown : goal.returns-clause-unknown
 returns-clause-unknown c = unknown_is_due
-
-pub returns-clause-adds : goal.returns-clause-adds
-returns-clause-adds c = adding_is_refused
 
 pub returns-clause-no_report : goal.returns-clause-no_report
 returns-clause-no_report c = no_report_is_refused

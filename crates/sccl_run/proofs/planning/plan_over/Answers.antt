@@ -1,8 +1,8 @@
-use Rattle.std.proofs.Common.{◌≡◌, ◌∙◌, ap, false, true, subst, sym, IfOk, Ok, Err}
+use Rattle.std.proofs.Common.{◌≡◌, ◌∙◌, true, subst, sym, IfOk, Ok, Err}
 use Rattle.collective_spec.specs.Collectives.{fits_kind}
 use Rattle.sccl_run.specs.declared.status.Status.TheVariants.{BadWords}
 use Rattle.sccl_run.specs.Refusals.{refused_at}
-use Rattle.sccl_run.specs.Searches.{IsPlanned}
+use Rattle.sccl_run.specs.Plans.{IsPlanned}
 use Rattle.sccl_run.specs.Tasks.{root_in, search_for}
 use Rattle.sccl_run.proofs.Planned.{misfits, no_root, some_root}
 use Rattle.sccl_run.proofs.planning.plan_over.Goals as goal

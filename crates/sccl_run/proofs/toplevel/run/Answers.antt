@@ -3,12 +3,12 @@ use Rattle.command_words.specs.Words.{texts}
 use Rattle.sccl_run.specs.Built.{so_far}
 use Rattle.sccl_run.specs.declared.status.Status.TheVariants.{OutOfMemory, SinkFailed}
 use Rattle.sccl_run.proofs.Ending.{appended_as, call_ended, call_unread, call_unshelved, call_unwritten, part_appended_as, status_ended, text_ended, text_unread, text_unwritten, text_without_memory}
-use Rattle.sccl_run.proofs.FilesEnding.{files_broken, files_ended, files_kept}
+use Rattle.sccl_run.proofs.FilesEnding.{files_broken, files_ended}
 use Rattle.sccl_run.proofs.toplevel.run.Goals as goal
 
 pub returns-in-Ok-write_all-clause-call : goal.returns-in-Ok-write_all-clause-call
 returns-in-Ok-write_all-clause-call g c =
-    call_ended so_far (texts c.args.words.now) _ _ _ _ _ _ c.in-Ok.answer.status c.in-Ok.ensures.ends (c.in-Ok.ensures.kept (λ e. cc)) c.in-Ok-write_all.ensures.kept (c.in-Ok.ensures.shelf_kept (λ e. cc)) c.in-Ok.ensures.unread c.in-Ok.ensures.unchanged
+    call_ended so_far (texts c.args.words.now) _ _ _ _ _ _ c.in-Ok.answer.status c.in-Ok.ensures.ends (c.in-Ok.ensures.kept (λ e. cc)) c.in-Ok-write_all.ensures.kept (c.in-Ok.ensures.shelf_kept (λ e. cc)) c.in-Ok.ensures.untouched c.in-Ok.ensures.unopened
 
 pub returns-in-Ok-write_all-clause-status : goal.returns-in-Ok-write_all-clause-status
 returns-in-Ok-write_all-clause-status g c = λ known. status_ended so_far (texts c.args.words.now) _ c.in-Ok.answer.status c.in-Ok.answer.text.items c.in-Ok.ensures.ends (c.in-Ok.ensures.says known)
@@ -23,12 +23,12 @@ pub returns-in-Ok-write_all-clause-files : goal.returns-in-Ok-write_all-clause-f
 returns-in-Ok-write_all-clause-files g c = λ known told shelf_told.
     let before = g.O.Sink.written c.args.sink.now in
     files_ended (texts c.args.words.now) _ before (g.O.Sink.written c.write_all.new.sink) (g.H.Shelf.file c.args.shelf.now) (g.H.Shelf.file c.answer.new.shelf) c.in-Ok.answer.status c.in-Ok.answer.text.items (λ e. c.in-Ok.ensures.ends.given (inr (inl e)))
-    (λ none. files_kept g.H.Shelf.file c.args.shelf.now c.answer.new.shelf (c.in-Ok.ensures.unchanged none)) (c.in-Ok.ensures.begins known shelf_told) (c.in-Ok.ensures.proves known shelf_told)
+    (c.in-Ok.ensures.unchanged shelf_told) (c.in-Ok.ensures.begins known shelf_told) (c.in-Ok.ensures.proves known shelf_told)
     (appended_as before (g.O.Sink.written c.write_all.new.sink) c.in-Ok.answer.text.items _ (c.in-Ok-write_all.ensures.whole told) c.deref.ensures.value)
 
 pub returns-in-Ok-clause-call : goal.returns-in-Ok-clause-call
 returns-in-Ok-clause-call g c =
-    call_unwritten so_far (texts c.args.words.now) _ _ _ _ _ _ (c.in-Ok.ensures.kept (λ e. cc)) (c.in-Err.ensures.cause.rose refl) (c.in-Ok.ensures.shelf_kept (λ e. cc)) c.in-Ok.ensures.unread c.in-Ok.ensures.unchanged
+    call_unwritten so_far (texts c.args.words.now) _ _ _ _ _ _ (c.in-Ok.ensures.kept (λ e. cc)) (c.in-Err.ensures.cause.rose refl) (c.in-Ok.ensures.shelf_kept (λ e. cc)) c.in-Ok.ensures.untouched c.in-Ok.ensures.unopened
 
 pub returns-in-Ok-clause-text : goal.returns-in-Ok-clause-text
 returns-in-Ok-clause-text g c = λ known told.
@@ -39,7 +39,7 @@ returns-in-Ok-clause-text g c = λ known told.
 pub returns-in-Ok-clause-files : goal.returns-in-Ok-clause-files
 returns-in-Ok-clause-files g c = λ known told shelf_told.
     files_broken (texts c.args.words.now) _ (g.O.Sink.written c.args.sink.now) (g.O.Sink.written c.write_all.new.sink) (g.H.Shelf.file c.args.shelf.now) (g.H.Shelf.file c.answer.new.shelf) SinkFailed (λ e. cc)
-    (λ none. files_kept g.H.Shelf.file c.args.shelf.now c.answer.new.shelf (c.in-Ok.ensures.unchanged none)) (λ e. absurd (cc)) (c.in-Ok.ensures.begins known shelf_told)
+    (c.in-Ok.ensures.unchanged shelf_told) (λ e. absurd (cc)) (c.in-Ok.ensures.begins known shelf_told)
 
 pub returns-in-Err-Memory-clause-text : goal.returns-in-Err-Memory-clause-text
 returns-in-Err-Memory-clause-text g c = λ known told. text_without_memory so_far (texts c.args.words.now) _ _ _
@@ -47,12 +47,12 @@ returns-in-Err-Memory-clause-text g c = λ known told. text_without_memory so_fa
 pub returns-in-Err-Memory-clause-files : goal.returns-in-Err-Memory-clause-files
 returns-in-Err-Memory-clause-files g c = λ known told shelf_told.
     files_broken (texts c.args.words.now) _ (g.O.Sink.written c.args.sink.now) (g.O.Sink.written c.args.sink.now) (g.H.Shelf.file c.args.shelf.now) (g.H.Shelf.file c.answer.new.shelf) OutOfMemory (λ e. cc)
-    (λ none. files_kept g.H.Shelf.file c.args.shelf.now c.answer.new.shelf (c.in-Err-Memory.ensures.unchanged none)) (λ e. absurd (cc)) (c.in-Err-Memory.ensures.begins known shelf_told)
+    (c.in-Err-Memory.ensures.unchanged shelf_told) (λ e. absurd (cc)) (c.in-Err-Memory.ensures.begins known shelf_told)
 
 pub returns-in-Err-Source-clause-call : goal.returns-in-Err-Source-clause-call
 returns-in-Err-Source-clause-call g c =
     let failed = ap Err c.in-Err-Source.field-0-is in
-    call_unread so_far (texts c.args.words.now) _ _ _ _ _ _ (c.in-Err-Source.ensures.reads failed) (c.in-Err-Source.ensures.failed failed) refl (c.in-Err-Source.ensures.shelf_kept (λ e. cc)) refl (c.in-Err-Source.ensures.unopened failed)
+    call_unread so_far (texts c.args.words.now) _ _ _ _ _ _ (c.in-Err-Source.ensures.reads failed) (c.in-Err-Source.ensures.failed failed) refl (c.in-Err-Source.ensures.shelf_kept (λ e. cc)) refl (c.in-Err-Source.ensures.unread failed)
 
 pub returns-in-Err-Source-clause-text : goal.returns-in-Err-Source-clause-text
 returns-in-Err-Source-clause-text g c = λ known told. text_unread so_far (texts c.args.words.now) _ _ _
@@ -60,4 +60,4 @@ returns-in-Err-Source-clause-text g c = λ known told. text_unread so_far (texts
 pub returns-clause-call : goal.returns-clause-call
 returns-clause-call g c =
     let failed = ap Err c.in-Err-Shelf.field-0-is in
-    call_unshelved so_far (texts c.args.words.now) _ _ _ _ _ _ (c.in-Err-Shelf.ensures.changes failed) (c.in-Err-Shelf.ensures.kept (λ e. cc)) refl (c.in-Err-Shelf.ensures.shelf_failed failed) refl
+    call_unshelved so_far (texts c.args.words.now) _ _ _ _ _ _ (c.in-Err-Shelf.ensures.opens failed) (c.in-Err-Shelf.ensures.kept (λ e. cc)) refl (c.in-Err-Shelf.ensures.shelf_failed failed) refl

@@ -23,7 +23,3 @@ returns-clause-denied c = refl
 pub returns-clause-line : goal.returns-clause-line
 unfolding due command_of report_of body_of report_text pattern_at schedule_at frontier_point_at joined_point_at frontier_at digits
 returns-clause-line c = refl
-
-pub returns-clause-adds : goal.returns-clause-adds
-unfolding due command_of report_of body_of report_text pattern_at schedule_at frontier_point_at joined_point_at frontier_at digits
-returns-clause-adds c = refl

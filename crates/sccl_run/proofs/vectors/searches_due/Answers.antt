@@ -24,7 +24,3 @@ returns-clause-no_pattern c = refl
 pub returns-clause-pattern : goal.returns-clause-pattern
 unfolding due command_of topology_of topology_at pattern_at digits
 returns-clause-pattern c = refl
-
-pub returns-clause-reduction : goal.returns-clause-reduction
-unfolding due command_of topology_of topology_at pattern_at digits
-returns-clause-reduction c = refl

@@ -1,0 +1,27 @@
+use Rattle.std.proofs.Common.{subst, sym}
+use Rattle.command_words.specs.declared.command.Command.TheVariants as command
+use Rattle.sccl_run.specs.Answering.{ProvesDue}
+use Rattle.sccl_run.specs.Jobs.{command_of_text}
+use Rattle.sccl_run.specs.Tasks.{task_of}
+use Rattle.sccl_run.proofs.FilesEnding.{unchanged_proves}
+use Rattle.sccl_run.proofs.reading.text_answer.Goals as goal
+
+pub returns-in_ok-synth_text_answer-in-Synth-clause-proves : goal.returns-in_ok-synth_text_answer-in-Synth-clause-proves
+returns-in_ok-synth_text_answer-in-Synth-clause-proves g c = λ told.
+    let answer = c.in_ok-synth_text_answer-in-Synth.field-0 in
+    subst (λ job. ProvesDue (task_of (command_of_text job) c.args.bytes.now) answer.text.items (g.H.Shelf.file c.args.shelf.now) (g.H.Shelf.file c.synth_text_answer.new.shelf)) (sym c.in-Synth.is)
+    (c.in_ok-synth_text_answer-in-Synth.ensures.proves told)
+
+pub returns-in_ok-replay_answer-in-Replay-clause-proves : goal.returns-in_ok-replay_answer-in-Replay-clause-proves
+returns-in_ok-replay_answer-in-Replay-clause-proves g c = λ told.
+    let files = g.H.Shelf.file c.args.shelf.now in
+    let text = c.in_ok-replay_answer-in-Replay.field-0.text.items in
+    let asked = command.Replay c.in-Replay.asked.point c.in-Replay.asked.word c.in-Replay.order in
+    subst (λ job. ProvesDue (task_of (command_of_text job) c.args.bytes.now) text files files) (sym c.in-Replay.is) (unchanged_proves asked c.args.bytes.now text files files (λ no. no))
+
+pub returns-in_ok-programs_answer-in-Programs-clause-proves : goal.returns-in_ok-programs_answer-in-Programs-clause-proves
+returns-in_ok-programs_answer-in-Programs-clause-proves g c = λ told.
+    let files = g.H.Shelf.file c.args.shelf.now in
+    let text = c.in_ok-programs_answer-in-Programs.field-0.text.items in
+    let asked = command.Programs c.in-Programs.asked.point c.in-Programs.asked.word in
+    subst (λ job. ProvesDue (task_of (command_of_text job) c.args.bytes.now) text files files) (sym c.in-Programs.is) (unchanged_proves asked c.args.bytes.now text files files (λ no. no))
