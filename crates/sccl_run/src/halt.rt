@@ -1,6 +1,6 @@
 //! Why there is no answer.
 
-use candidate_solver::EngineFault;
+use engine_rules::EngineFault;
 use std::alloc::AllocError;
 
 /// Why there is no answer.
