@@ -1,8 +1,7 @@
 //! Which variable is decided next, and as what.
 
-ghost use Rattle.std.specs.Prelude.{◌≡◌, ℕ, ◌+◌, ◌<◌, ◌≤◌, Contains, length, IfOk, MatchOption};
-ghost use Rattle.cnf_formula.specs.Literals.{LitValue, no};
-ghost use Rattle.cnf_formula.specs.Formulas.{IsAbout};
+ghost use Rattle.std.specs.Prelude.{◌≡◌, ℕ, ◌+◌, ◌<◌, ◌≤◌, length, IfOk, MatchOption};
+ghost use Rattle.cnf_formula.specs.Literals.{no};
 ghost use Rattle.trail_core.specs.Assigned.{IsOpen};
 ghost use Rattle.trail_core.specs.Meaning.{trues};
 

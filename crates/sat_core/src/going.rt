@@ -1,13 +1,12 @@
 //! Going back from a conflict, and adding what was learned from it.
 
-ghost use Rattle.std.specs.Prelude.{◌≡◌, ◌≢◌, ℕ, ◌+◌, ◌<◌, ◌≤◌, [], ◌∷◌, ◌++◌, Contains, AllPairs, All, length, OnOk};
+ghost use Rattle.std.specs.Prelude.{◌≡◌, ◌≢◌, ◌+◌, ◌<◌, ◌≤◌, [], ◌∷◌, ◌++◌, Contains, AllPairs, All, length, OnOk};
 ghost use Rattle.cnf_formula.specs.Literals.{LitValue};
 ghost use Rattle.cnf_formula.specs.Formulas.{IsAbout};
 ghost use Rattle.trail_core.specs.Assigned.{IsFalse};
 ghost use Rattle.trail_core.specs.Meaning.{trues};
 ghost use Rattle.trail_core.specs.Formed.{IsTrail};
-ghost use Rattle.sat_core.specs.Conflicts.{IsConflict};
-ghost use Rattle.sat_core.specs.Learned.{HasLevel, AreUpTo, IsBacked, IsLearned, front_of};
+ghost use Rattle.sat_core.specs.Learned.{HasLevel, AreUpTo, IsBacked, front_of};
 
 use crate::deciding::Decider;
 use cnf_formula::{Lit, OutOfMemory, ProofLine};

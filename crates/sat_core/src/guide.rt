@@ -1,6 +1,6 @@
 //! What a search keeps from turn to turn beside its core.
 
-ghost use Rattle.std.specs.Prelude.{◌≡◌, ℕ, ◌<◌, IfOk};
+ghost use Rattle.std.specs.Prelude.{◌≡◌, ◌<◌, IfOk};
 ghost use Rattle.sat_core.specs.Met.{IsRested};
 
 use crate::deciding::Decider;

@@ -1,7 +1,7 @@
 //! Laws of what is learned at a conflict.
 
-ghost use Rattle.std.specs.Prelude.{◌≡◌, ◌≢◌, ◌↔◌, ℕ, ◌+◌, ◌<◌, ◌≤◌, ◌++◌, ◌^◌, Bool, true, List, [], length, get_or, take, Contains, All, AllPairs};
-ghost use Rattle.cnf_formula.specs.Literals.{LitValue, negation, has_literal};
+ghost use Rattle.std.specs.Prelude.{◌≡◌, ◌≢◌, ◌↔◌, ℕ, ◌+◌, ◌<◌, ◌≤◌, ◌^◌, Bool, true, List, [], length, Contains, All, AllPairs};
+ghost use Rattle.cnf_formula.specs.Literals.{LitValue, has_literal};
 ghost use Rattle.cnf_formula.specs.Lines.{ProofLineValue};
 ghost use Rattle.proof_rules.specs.declared.verdict.LineVerdict.TheVariants.{Accepted};
 ghost use Rattle.proof_rules.specs.Held.{Entry, CheckerValue};

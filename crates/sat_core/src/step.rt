@@ -1,9 +1,7 @@
 //! Propagation, and then a decision.
 
-ghost use Rattle.std.specs.Prelude.{◌≡◌, ℕ, ◌+◌, ◌<◌, ◌≤◌, length, MatchOption};
-ghost use Rattle.cnf_formula.specs.Literals.{LitValue, no};
-ghost use Rattle.trail_core.specs.Assigned.{IsOpen};
-ghost use Rattle.trail_core.specs.Meaning.{trues};
+ghost use Rattle.std.specs.Prelude.{◌≡◌, ℕ, ◌<◌, ◌≤◌, length};
+ghost use Rattle.cnf_formula.specs.Literals.{no};
 ghost use Rattle.sat_core.specs.Conflicts.{IsConflict};
 ghost use Rattle.sat_core.specs.Totals.{IsTotal};
 
