@@ -1,18 +1,14 @@
 -- The two parts of an allreduce, and what their points are joined by.
-use Rattle.std.proofs.Common.{◌≡◌, ◌≢◌, ℕ, ◌<◌, ◌≤◌, List, [], ◌∷◌, ◌++◌, length, map, get_or, Option, None, Some, Result, Ok, Err, append-nil, refl, sym, ap, ◌∙◌, subst, arith}
-use Rattle.std.specs.Prelude.{All, IfOk}
+use Rattle.std.proofs.Common.{◌≡◌, ◌≢◌, ℕ, ◌<◌, List, [], ◌∷◌, length, map, get_or, append-nil, refl, sym, ap, ◌∙◌, arith}
+use Rattle.std.specs.Prelude.{All}
 use Rattle.outer_ports.specs.declared.part.Part.{Part}
 use Rattle.outer_ports.specs.declared.part.Part.TheVariants as part
 use Rattle.schedule.specs.Links.{TopologyValue}
-use Rattle.collective_spec.specs.declared.kind.Kind.{Kind}
 use Rattle.collective_spec.specs.declared.kind.Kind.TheVariants as kind
-use Rattle.candidate_order.specs.Frontiers.{QuestionValue, PointValue, FrontierValue}
-use Rattle.allreduce_join.specs.Joins.{IsJoinable, Joins, pairs_of}
-use Rattle.report_form.specs.Reports.{ReportValue, IsReport, IsFrontier, parts_of, question_of}
-use Rattle.frontier_audit.specs.Denials.{Denial, Checked, in_part}
-use Rattle.frontier_audit.specs.Joining.{is_gather, is_reduce, joined_checked, joins_checked, points_of}
-use Rattle.frontier_audit.specs.Beside.{denial_of}
-use Rattle.frontier_audit.specs.Rights.{AreJoined}
+use Rattle.candidate_order.specs.Frontiers.{PointValue, FrontierValue}
+use Rattle.allreduce_join.specs.Joins.{IsJoinable, pairs_of}
+use Rattle.report_form.specs.Reports.{ReportValue, IsReport, parts_of, question_of}
+use Rattle.frontier_audit.specs.Joining.{is_gather, is_reduce, joins_checked, points_of}
 use Rattle.frontier_audit.specs.Steps.{joins_of}
 use Rattle.frontier_audit.proofs.Parting.{here_frontier}
 
