@@ -1,15 +1,12 @@
 -- The two parts of an allreduce, and what their points are joined by.
-use Rattle.std.proofs.Common.{◌≡◌, ◌≢◌, ℕ, ◌<◌, List, [], ◌∷◌, length, map, get_or, append-nil, refl, sym, ap, ◌∙◌, arith}
+use Rattle.std.proofs.Common.{◌≡◌, ℕ, ◌<◌, List, [], ◌∷◌, length, map, get_or, refl, ap, ◌∙◌, arith}
 use Rattle.std.specs.Prelude.{All}
 use Rattle.outer_ports.specs.declared.part.Part.{Part}
 use Rattle.outer_ports.specs.declared.part.Part.TheVariants as part
-use Rattle.schedule.specs.Links.{TopologyValue}
 use Rattle.collective_spec.specs.declared.kind.Kind.TheVariants as kind
-use Rattle.candidate_order.specs.Frontiers.{PointValue, FrontierValue}
-use Rattle.allreduce_join.specs.Joins.{IsJoinable, pairs_of}
+use Rattle.candidate_order.specs.Frontiers.{FrontierValue}
+use Rattle.allreduce_join.specs.Joins.{IsJoinable}
 use Rattle.report_form.specs.Reports.{ReportValue, IsReport, parts_of, question_of}
-use Rattle.frontier_audit.specs.Joining.{is_gather, is_reduce, joins_checked, points_of}
-use Rattle.frontier_audit.specs.Steps.{joins_of}
 use Rattle.frontier_audit.proofs.Parting.{here_frontier}
 
 -- ---- the parts
