@@ -1,7 +1,7 @@
 -- The candidates that are not refuted tell which candidates are answered, and which marks are right.
 use Rattle.std.proofs.Common.{◌≡◌, Bool, true, false, List, [], ◌∷◌, map, Option, None, Some, Ok, refl, sym, ap, ◌∙◌}
-use Rattle.std.specs.Prelude.{◌||◌, ◌&&◌, not, if◌then◌else◌, filter}
-use Rattle.std.specs.List.{list_all, list_any}
+use Rattle.std.specs.Prelude.{◌||◌, ◌&&◌, not, if◌then◌else◌}
+use Rattle.std.specs.List.{list_all}
 use Rattle.text_lines.specs.Check.{◌>>=◌, refuse}
 use Rattle.candidate_order.specs.declared.candidate.Candidate.{Candidate}
 use Rattle.candidate_order.specs.Frontiers.{QuestionValue, PointValue, UnknownValue, FrontierValue, given_up}
@@ -9,10 +9,10 @@ use Rattle.report_form.specs.Tests.{is_better}
 use Rattle.frontier_audit.specs.declared.verdict.Reason.TheVariants.{CandidateMissing, MarkWrong}
 use Rattle.frontier_audit.specs.Denials.{Denial, Checked, each}
 use Rattle.frontier_audit.specs.Candidates.{candidates_within, is_listed, same_candidate}
-use Rattle.frontier_audit.specs.Solutions.{is_mark, is_optimal}
-use Rattle.frontier_audit.specs.Auditing.{candidate_checked, is_answered, mark_checked}
+use Rattle.frontier_audit.specs.Solutions.{is_mark}
+use Rattle.frontier_audit.specs.Auditing.{candidate_checked, mark_checked}
 use Rattle.frontier_audit.specs.Beside.{denial_of}
-use Rattle.frontier_audit.specs.Steps.{answers_checked, is_bettered, is_given_up, is_left_answered, is_settled, left_checked, marked_among, unrefuted_among}
+use Rattle.frontier_audit.specs.Steps.{answers_checked, is_bettered, is_given_up, is_settled, left_checked, marked_among, unrefuted_among}
 use Rattle.frontier_audit.proofs.Walking.{first_decides, rest_decides}
 
 -- ---- candidates

@@ -4,22 +4,22 @@ use Rattle.std.specs.Prelude.{if◌then◌else◌, All, Contains, sum_by}
 use Rattle.std.proofs.lemmas.List.Elements.{All-nil, All-cons, All-contains}
 use Rattle.outer_ports.specs.declared.part.Part.{Part}
 use Rattle.outer_ports.specs.declared.part.Part.TheVariants as part
-use Rattle.schedule.specs.Links.{TopologyValue, IsTopology, usable_links, reversed_of}
+use Rattle.schedule.specs.Links.{TopologyValue, usable_links, reversed_of}
 use Rattle.schedule.proofs.Turned.{turned_topology}
 use Rattle.collective_spec.specs.declared.kind.Kind.{Kind}
 use Rattle.collective_spec.specs.declared.kind.Kind.TheVariants as kind
 use Rattle.collective_spec.specs.declared.spec.Spec.{Spec}
 use Rattle.collective_spec.specs.Patterns.{PatternValue}
-use Rattle.collective_spec.specs.Collectives.{IsSpec, adds_up, chunks_in, fits_kind, kind_in, spec_of}
+use Rattle.collective_spec.specs.Collectives.{adds_up, chunks_in, fits_kind, spec_of}
 use Rattle.collective_spec.proofs.Sized.{fitting_spec}
 use Rattle.candidate_order.specs.declared.candidate.Candidate.{Candidate}
 use Rattle.candidate_order.specs.Ranges.{LimitsValue}
 use Rattle.candidate_order.specs.Frontiers.{QuestionValue, IsWithin}
-use Rattle.candidate_order.specs.Copied.{copied_spec, copied_question}
+use Rattle.candidate_order.specs.Copied.{copied_spec}
 use Rattle.round_encoding.specs.Candidates.{group_size, size_limit}
 use Rattle.report_form.specs.Reports.{ReportValue, IsReport, kind_of, parts_of, question_of}
 use Rattle.candidate_formula.specs.Formulas.{formula_for, searched_on}
-use Rattle.candidate_formula.specs.Sizes.{most_chunks, size_of}
+use Rattle.candidate_formula.specs.Sizes.{size_of}
 use Rattle.candidate_formula.specs.Questions.{IsSmallQuestion, IsSought, copying_question}
 use Rattle.candidate_formula.proofs.Asked.{same_size, small_by_copying, within_by, reduced_formula}
 use Rattle.candidate_formula.proofs.Copying.{same_allowed, copied_stays}

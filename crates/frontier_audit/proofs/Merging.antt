@@ -1,6 +1,6 @@
 -- Answers that are given beside different files are given beside one shelf, where each looks at names of its own.
 use Rattle.std.proofs.Common.{◌≡◌, ℕ, ◌+◌, ◌<◌, Bool, true, false, List, [], ◌∷◌, length, drop, get_or, Option, None, Some, refl, sym, ap, ◌∙◌, subst, arith}
-use Rattle.std.specs.Prelude.{◌≢◌, not, if◌then◌else◌, IsTrue, All, AllPairs}
+use Rattle.std.specs.Prelude.{not, if◌then◌else◌, IsTrue, All, AllPairs}
 use Rattle.std.proofs.lemmas.List.{get_or-drop, get_or_default, length-drop}
 use Rattle.std.proofs.lemmas.List.Elements.{All-head, All-tail}
 use Rattle.text_lines.specs.Check.{◌>>=◌}

@@ -1,12 +1,10 @@
 -- The joined points of an allreduce, pair by pair.
-use Rattle.std.proofs.Common.{◌≡◌, ◌≢◌, ℕ, zero, suc, ◌+◌, ◌<◌, ◌≤◌, Bool, true, false, List, [], ◌∷◌, ◌++◌, length, map, take, drop, get_or, Option, None, Some, Ok, Err, add-one, append_assoc, append-nil, refl, sym, ap, ◌∙◌, subst, arith}
-use Rattle.std.specs.Prelude.{◌==◌, ◌&&◌, not, if◌then◌else◌, filter, slice_get}
-use Rattle.std.specs.List.{flat_map}
+use Rattle.std.proofs.Common.{◌≡◌, ◌≢◌, ℕ, zero, suc, ◌+◌, ◌<◌, ◌≤◌, Bool, true, false, List, [], ◌∷◌, ◌++◌, length, map, take, drop, get_or, Option, None, Some, add-one, append_assoc, append-nil, refl, sym, ap, ◌∙◌, subst, arith}
+use Rattle.std.specs.Prelude.{◌==◌, ◌&&◌, if◌then◌else◌, filter, slice_get}
 use Rattle.std.proofs.lemmas.Bool.{eq-eqb, ne_eqb}
 use Rattle.std.proofs.lemmas.List.{map-append, take-append-drop, take_more, take_all}
 use Rattle.std.proofs.lemmas.List.Elements.{filter-append}
 use Rattle.std.proofs.lemmas.Option.{slice_get-get_or}
-use Rattle.text_lines.specs.Check.{◌>>=◌, refuse}
 use Rattle.schedule.specs.Links.{TopologyValue}
 use Rattle.collective_spec.specs.declared.kind.Kind.TheVariants as kind
 use Rattle.collective_spec.specs.Collectives.{chunks_of}
@@ -15,7 +13,7 @@ use Rattle.allreduce_join.specs.Joins.{join_of, pairs_of}
 use Rattle.allreduce_join.specs.Judging.{joined_verdict_of}
 use Rattle.inversion.specs.Saying.{says_sums}
 use Rattle.frontier_audit.specs.declared.verdict.Reason.TheVariants.{JoinWrong}
-use Rattle.frontier_audit.specs.Denials.{Denial, Checked}
+use Rattle.frontier_audit.specs.Denials.{Denial}
 use Rattle.frontier_audit.specs.Joining.{is_join, joins_checked, same_point}
 use Rattle.frontier_audit.specs.Beside.{denial_of}
 use Rattle.frontier_audit.specs.Steps.{JoinsSay, join_checked, pairs_with}

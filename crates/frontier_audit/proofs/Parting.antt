@@ -1,6 +1,6 @@
 -- The checks of a part, one after the other, and of the parts.
 use Rattle.std.proofs.Common.{◌≡◌, ℕ, ◌<◌, Bool, true, false, List, [], ◌∷◌, length, map, get_or, Option, None, Some, Ok, Err, refl, sym, ap, ◌∙◌, subst}
-use Rattle.std.specs.Prelude.{◌==◌, not, All, AllPairs, Contains}
+use Rattle.std.specs.Prelude.{◌==◌, not, AllPairs, Contains}
 use Rattle.std.proofs.Math.ListN.{get_or-map}
 use Rattle.std.proofs.lemmas.List.{length-map}
 use Rattle.std.proofs.lemmas.List.Elements.{All-nil, All-cons}
@@ -16,10 +16,9 @@ use Rattle.collective_spec.specs.declared.kind.Kind.{Kind}
 use Rattle.collective_spec.specs.declared.kind.Kind.TheVariants as kind
 use Rattle.candidate_order.specs.Frontiers.{QuestionValue, FrontierValue}
 use Rattle.report_form.specs.Reports.{ReportValue, IsReport, IsFrontier, parts_of, question_of}
-use Rattle.send_encoding.proofs.Orders.{no_pairs, one_pairs}
+use Rattle.send_encoding.proofs.Orders.{one_pairs}
 use Rattle.frontier_audit.specs.Denials.{Denial, Checked, each, in_part}
-use Rattle.frontier_audit.specs.Candidates.{candidates_within}
-use Rattle.frontier_audit.specs.Auditing.{point_checked, refuted_checked, unknown_checked, candidate_checked, mark_checked, frontier_checked}
+use Rattle.frontier_audit.specs.Auditing.{point_checked, refuted_checked, unknown_checked, frontier_checked}
 use Rattle.frontier_audit.specs.Beside.{denial_of, AnswersBeside}
 use Rattle.frontier_audit.specs.Rows.{part_number}
 use Rattle.frontier_audit.specs.Steps.{answers_checked, part_checked}

@@ -1,7 +1,6 @@
 -- What is said of the files of a candidate, and what it denies.
 use Rattle.std.proofs.Common.{◌≡◌, ℕ, Bool, true, false, List, Option, None, Some, refl, sym, ap, ◌∙◌, subst}
-use Rattle.std.specs.Prelude.{◌≢◌, not, if◌then◌else◌, bytes_eq, IsTrue, All}
-use Rattle.std.proofs.lemmas.Bool.{cases_Bool}
+use Rattle.std.specs.Prelude.{not, if◌then◌else◌, bytes_eq, IsTrue}
 use Rattle.text_lines.specs.Check.{◌>>=◌, refuse, need}
 use Rattle.outer_ports.specs.declared.part.Part.{Part}
 use Rattle.outer_ports.specs.declared.proof_name.FileKind.{FileKind}
@@ -18,7 +17,7 @@ use Rattle.candidate_order.specs.Frontiers.{QuestionValue, UnknownValue}
 use Rattle.candidate_formula.specs.Formulas.{formula_for}
 use Rattle.candidate_formula.specs.Files.{candidate_of, file_of}
 use Rattle.proof_audit.specs.declared.verdict.FileVerdict.{FileVerdict}
-use Rattle.proof_audit.specs.declared.verdict.FileVerdict.TheVariants.{Missing, Refused, Stands}
+use Rattle.proof_audit.specs.declared.verdict.FileVerdict.TheVariants.{Refused, Stands}
 use Rattle.proof_audit.specs.Proving.{is_refutation, is_spent_log}
 use Rattle.proof_audit.specs.Files.{file_verdict, IsFileVerdict}
 use Rattle.frontier_audit.specs.declared.verdict.Reason.TheVariants.{ProofMissing, ProofRefused, CnfDiffers, PartialRefused}

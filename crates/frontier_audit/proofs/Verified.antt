@@ -1,8 +1,7 @@
 -- What a verified report says, and the verdict on a report from the answers of its checks.
-use Rattle.std.proofs.Common.{◌≡◌, ◌≢◌, Bool, List, [], ◌∷◌, ◌++◌, map, get_or, Option, None, Some, Ok, Err, append-nil, refl, sym, ap, ◌∙◌, subst}
-use Rattle.std.specs.Prelude.{All, IsTrue}
+use Rattle.std.proofs.Common.{◌≡◌, Bool, List, [], ◌∷◌, ◌++◌, map, get_or, Option, None, Some, Ok, Err, append-nil, refl, sym, ap, ◌∙◌, subst}
+use Rattle.std.specs.Prelude.{IsTrue}
 use Rattle.std.proofs.lemmas.List.Elements.{All-contains_itself}
-use Rattle.text_lines.specs.Check.{◌>>=◌}
 use Rattle.outer_ports.specs.declared.part.Part.{Part}
 use Rattle.outer_ports.specs.declared.part.Part.TheVariants as part
 use Rattle.outer_ports.specs.Files.{Files}

@@ -1,4 +1,4 @@
-use Rattle.std.proofs.Common.{get_or, sym, ap, ◌∙◌}
+use Rattle.std.proofs.Common.{get_or, sym, ◌∙◌}
 use Rattle.std.proofs.lemmas.List.{get_or_default}
 use Rattle.candidate_order.specs.declared.candidate.Candidate.{Candidate}
 use Rattle.frontier_audit.specs.declared.verdict.Reason.TheVariants.{CandidateMissing}

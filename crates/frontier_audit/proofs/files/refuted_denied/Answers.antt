@@ -1,4 +1,4 @@
-use Rattle.std.proofs.Common.{◌≡◌, get_or, Some, None, refl, subst, ◌∙◌}
+use Rattle.std.proofs.Common.{get_or, refl, subst, ◌∙◌}
 use Rattle.std.proofs.lemmas.List.{drop_all, get_or_default}
 use Rattle.candidate_order.specs.declared.candidate.Candidate.{Candidate}
 use Rattle.candidate_order.specs.Costs.{Before}

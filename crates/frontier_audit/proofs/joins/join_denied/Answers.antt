@@ -1,4 +1,4 @@
-use Rattle.std.proofs.Common.{Some, sym, ap, ◌∙◌}
+use Rattle.std.proofs.Common.{Some, ap, ◌∙◌}
 use Rattle.std.specs.Prelude.{◌&&◌, slice_get}
 use Rattle.collective_spec.specs.declared.kind.Kind.TheVariants as kind
 use Rattle.collective_spec.specs.Collectives.{chunks_of}

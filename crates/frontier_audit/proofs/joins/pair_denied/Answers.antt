@@ -1,8 +1,7 @@
-use Rattle.std.proofs.Common.{◌≡◌, ◌+◌, [], ◌∷◌, None, Some, sym, subst, ap, ◌∙◌}
+use Rattle.std.proofs.Common.{◌+◌, None, Some, sym, subst, ap, ◌∙◌}
 use Rattle.candidate_order.specs.declared.candidate.Candidate.{Candidate}
-use Rattle.frontier_audit.specs.Beside.{denial_of}
-use Rattle.frontier_audit.specs.Steps.{JoinsSay, join_checked}
-use Rattle.frontier_audit.proofs.Pairing.{none_say, one_goes, one_stops, with_other, with_same}
+use Rattle.frontier_audit.specs.Steps.{JoinsSay}
+use Rattle.frontier_audit.proofs.Pairing.{one_goes, one_stops, with_same}
 use Rattle.frontier_audit.proofs.joins.pair_denied.Goals as goal
 
 pub returns-in-Some : goal.returns-in-Some

@@ -1,5 +1,4 @@
-use Rattle.std.proofs.Common.{List, sym, ap, ◌∙◌}
-use Rattle.candidate_order.specs.declared.candidate.Candidate.{Candidate}
+use Rattle.std.proofs.Common.{sym, ap, ◌∙◌}
 use Rattle.frontier_audit.specs.Candidates.{candidates_within}
 use Rattle.frontier_audit.specs.Denials.{each}
 use Rattle.frontier_audit.specs.Beside.{denial_of}

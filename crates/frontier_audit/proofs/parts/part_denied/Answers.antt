@@ -1,11 +1,10 @@
-use Rattle.std.proofs.Common.{◌≡◌, List, Option, sym, subst, ap, ◌∙◌}
+use Rattle.std.proofs.Common.{List, sym, subst, ap, ◌∙◌}
 use Rattle.std.specs.Prelude.{AllPairs}
 use Rattle.candidate_order.specs.Costs.{Before}
 use Rattle.candidate_order.specs.Frontiers.{PointValue, UnknownValue}
 use Rattle.frontier_audit.specs.Denials.{each}
 use Rattle.frontier_audit.specs.Auditing.{point_checked, refuted_checked, unknown_checked}
 use Rattle.frontier_audit.specs.Beside.{denial_of}
-use Rattle.frontier_audit.specs.Steps.{answers_checked}
 use Rattle.frontier_audit.proofs.Merging.{later, reworded, since}
 use Rattle.frontier_audit.proofs.Parting.{answers_decide, points_decide, refuted_decide, unknown_decide, unnamed_pairs}
 use Rattle.frontier_audit.proofs.parts.part_denied.Goals as goal
