@@ -134,7 +134,9 @@ module _ (tells : Bool) (shelf : Files) (r : ReportValue) where
   verified_some a = record { files = a.files; is = sym (ap verdict_of a.is ∙ same_verdict (report_checked r a.files)) }
 
   pub verified_rights : IsReport r → Answers None → IsRight r
+  unfolding verified_some
   verified_rights ok a = report_right r a.files ok (verified_some a).is
 
   pub verified_logs : IsReport r → Answers None → HasLogs r
+  unfolding verified_some
   verified_logs ok a = report_logs r a.files ok (verified_some a).is

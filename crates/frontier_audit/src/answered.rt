@@ -105,10 +105,7 @@ fn is_given_up(unknown: &[Unknown], candidate: Candidate) -> bool
 }
 
 /// The first point whose mark does not say whether every better candidate is refuted.
-pub(crate) fn marks_denied(
-    points: &[Point],
-    unrefuted: &[Candidate],
-) -> Option<(Reason, Candidate)>
+pub(crate) fn marks_denied(points: &[Point], unrefuted: &[Candidate]) -> Option<(Reason, Candidate)>
     ensures { result ≡ denial_of (each (marked_among unrefuted.now) points.now) }
 {
     for point in points {

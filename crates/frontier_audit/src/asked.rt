@@ -99,7 +99,7 @@ impl Asked {
 }
 
 /// What a part of a report asks for. The only error is want of memory.
-fn spec_of_part(report: &Report, part: Part) -> Result<Spec, OutOfMemory>
+pub(crate) fn spec_of_part(report: &Report, part: Part) -> Result<Spec, OutOfMemory>
     ensures { IfOk result (λ spec. spec ≡ (question_of report.now.words report.now.topology part).spec) }
 {
     let whole = report.words().collective();

@@ -34,10 +34,7 @@ pub(crate) fn joins_denied(
 }
 
 /// The same of an allreduce, which has two parts.
-fn parts_joined(
-    alloc: Global,
-    report: &Report,
-) -> Result<Option<(Reason, Candidate)>, OutOfMemory>
+fn parts_joined(alloc: Global, report: &Report) -> Result<Option<(Reason, Candidate)>, OutOfMemory>
     requires { report.now.words.collective.kind ≡ Kind.Allreduce }
     ensures { IfOk result (λ denied. denied ≡ denial_of (joins_of report.now.words.collective.kind report.now)) }
 {
@@ -70,9 +67,7 @@ fn pairs_denied(
 {
     let mut place = 0;
     for first in reduce {
-        if let Some(denial) =
-            gathered_denied(alloc, topology, first, gather, joined, &mut place)?
-        {
+        if let Some(denial) = gathered_denied(alloc, topology, first, gather, joined, &mut place)? {
             return Ok(Some(denial));
         }
     }

@@ -1,17 +1,17 @@
 //! The parts of a report.
 
-ghost use Rattle.std.specs.Prelude.{◌≡◌, ◌≢◌, ◌≤◌, Contains, Err, IfOk, IsTrue};
+ghost use Rattle.std.specs.Prelude.{◌≡◌, ◌≢◌, ◌≤◌, Err, IfOk, IsTrue};
 ghost use Rattle.outer_ports.specs.Port.{HasCause, Tells};
 ghost use Rattle.outer_ports.specs.Shelf.{FilesStay};
-ghost use Rattle.report_form.specs.Reports.{IsFrontier, parts_of, question_of};
+ghost use Rattle.report_form.specs.Reports.{IsFrontier, IsReport, question_of};
 ghost use Rattle.round_encoding.specs.Candidates.{size_limit};
 ghost use Rattle.candidate_formula.specs.Sizes.{size_of};
 ghost use Rattle.frontier_audit.specs.Auditing.{frontier_checked};
 ghost use Rattle.frontier_audit.specs.Beside.{AnswersBeside, denial_of};
 ghost use Rattle.frontier_audit.specs.Steps.{answers_checked, parts_checked};
 
-use crate::asked::Asked;
 use crate::answered::{marks_denied, passed_over, unrefuted};
+use crate::asked::Asked;
 use crate::files::{refuted_denied, unknown_denied};
 use crate::solutions::points_denied;
 use crate::verdict::Reason;
@@ -31,6 +31,7 @@ pub(crate) fn parts_denied<H: Shelf>(
     ensures told { Tells (H.tells shelf.old) (H.tells shelf.new) }
     ensures stay { IsTrue (H.tells shelf.new) → FilesStay (H.file shelf.old) (H.file shelf.new) }
     ensures beside { IfOk result (AnswersBeside (H.tells shelf.new) (H.file shelf.old) (λ files. parts_checked report.now files report.now.frontiers)) }
+    ensures valid { IsReport report.now }
     ensures cause { HasCause AuditFault.ShelfFailed (H.faults shelf.old) (H.faults shelf.new) result }
     ensures kept { result ≢ Err AuditFault.ShelfFailed → H.faults shelf.new ≡ H.faults shelf.old }
 {
