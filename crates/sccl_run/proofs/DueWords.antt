@@ -55,6 +55,7 @@ knows_told tells words c is reads (inr none) = absurd (none (record { command = 
 -- every job over a text reads the source
 pub text_reads : (t : TextJob) → Reads (command_of_text t)
 text_reads (text_job.Synth w) = tt
+text_reads text_job.Check = tt
 text_reads (text_job.Replay w order) = tt
 text_reads (text_job.Programs w) = tt
 

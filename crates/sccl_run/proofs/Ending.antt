@@ -4,6 +4,7 @@ use Rattle.outer_ports.specs.Port.{Rose}
 use Rattle.command_words.specs.declared.command.Command.{Command}
 use Rattle.command_words.specs.declared.command.Command.TheVariants as command
 use Rattle.command_words.specs.declared.fault.WordFault.{WordFault}
+use Rattle.report_form.specs.Reports.{ReportValue}
 use Rattle.sccl_run.specs.declared.status.Status.{Status}
 use Rattle.sccl_run.specs.declared.status.Status.TheVariants.{Done, OutOfMemory, BadWords, BadTopology, SourceFailed, SinkFailed, ShelfFailed, BadReport, Denied, TooLarge, NoCandidate, TooLong}
 use Rattle.sccl_run.specs.Built.{Built}
@@ -13,13 +14,31 @@ use Rattle.sccl_run.specs.Tasks.{Task, Synthesise, Audit, Replay, Program, Famil
 use Rattle.sccl_run.specs.Owed.{Owed}
 use Rattle.sccl_run.specs.TopCall.{CountValue, EndsIfItFails, EndsTask, IsCall, IsDenial, IsDue, IsFree, IsSilent, StatusIsDue, TextIsDue, ends_of}
 use Rattle.sccl_run.specs.Answering.{Ends, Says}
-use Rattle.sccl_run.proofs.Refused.{With, check_ends, done_given, large_given, long_given, never_free, none_given, programs_end, replay_ends, report_given, synth_ends, topology_given, words_given}
+use Rattle.sccl_run.proofs.IfDue.{IfDue}
+use Rattle.sccl_run.proofs.Tasked.{NotAudit, no_audit}
+use Rattle.sccl_run.proofs.Refused.{With, check_ends, denied_given, done_given, large_given, long_given, never_free, none_given, programs_end, replay_ends, report_given, synth_ends, topology_given, words_given}
 
 -- ---- with which status an answer ends
 
-says_with : (P : Status → Type 0) (x : Result Task Refusal) (status : Status) (text : List ℕ) → With P x → P Done → Says x status text → P status
-says_with P (Ok t) status text held done says = subst P (sym says.0) done
-says_with P (Err r) status text held done says = subst P (sym says.0) held
+says_with : (P : Status → Type 0) (x : Result Task Refusal) (status : Status) (text : List ℕ) → With P x → IfDue NotAudit x → P Done → Says x status text → P status
+says_with P (Ok (Synthesise w t)) status text held other done says = subst P (sym says.0) done
+says_with P (Ok (Audit r)) status text held other done says = absurd other
+says_with P (Ok (Replay r n p o)) status text held other done says = subst P (sym says.0) done
+says_with P (Ok (Program r n p)) status text held other done says = subst P (sym says.0) done
+says_with P (Ok (Family k n)) status text held other done says = subst P (sym says.0) done
+says_with P (Ok (Try n)) status text held other done says = subst P (sym says.0) done
+says_with P (Err r) status text held other done says = subst P (sym says.0) held
+
+-- or it denies
+denies_with : (P : Status → Type 0) (x : Result Task Refusal) (status : Status) (text : List ℕ) → With P x → P Done → P Denied → Says x status text → P status
+denies_with P (Ok (Synthesise w t)) status text held done denied says = subst P (sym says.0) done
+denies_with P (Ok (Audit r)) status text held done denied (inl says) = subst P (sym says.0) done
+denies_with P (Ok (Audit r)) status text held done denied (inr says) = subst P (sym says.0) denied
+denies_with P (Ok (Replay r n p o)) status text held done denied says = subst P (sym says.0) done
+denies_with P (Ok (Program r n p)) status text held done denied says = subst P (sym says.0) done
+denies_with P (Ok (Family k n)) status text held done denied says = subst P (sym says.0) done
+denies_with P (Ok (Try n)) status text held done denied says = subst P (sym says.0) done
+denies_with P (Err r) status text held done denied says = subst P (sym says.0) held
 
 -- an answer to a text
 pub text_ends_so : (c : Command) (bytes : List ℕ) (status : Status) (text : List ℕ) → Reads c → Says (task_of c bytes) status text → Ends (Ok c) status
@@ -31,29 +50,30 @@ text_ends_so (command.Synth kind word limits root) bytes status text reads says 
     let large : P TooLarge = record { one = (5, omega arith, refl); given = large_given } in
     let none : P NoCandidate = record { one = (6, omega arith, refl); given = none_given } in
     let long : P TooLong = record { one = (7, omega arith, refl); given = long_given } in
-    says_with P (synthesis_of kind word limits root bytes) status text (synth_ends P long words topology large none kind word limits root bytes) done says
+    says_with P (synthesis_of kind word limits root bytes) status text (synth_ends P long words topology large none kind word limits root bytes) (no_audit (command.Synth kind word limits root) bytes (λ no. no)) done says
 text_ends_so command.Check bytes status text reads says =
     let P : Status → Type 0 = Ends (Ok command.Check) in
     let done : P Done = record { one = (0, omega arith, refl); given = done_given } in
     let report : P BadReport = record { one = (3, omega arith, refl); given = report_given } in
+    let denied : P Denied = record { one = (4, omega arith, refl); given = denied_given } in
     let large : P TooLarge = record { one = (5, omega arith, refl); given = large_given } in
     let none : P NoCandidate = record { one = (6, omega arith, refl); given = none_given } in
     let long : P TooLong = record { one = (7, omega arith, refl); given = long_given } in
-    says_with P (audit_asked bytes) status text (check_ends P long report large none bytes) done says
+    denies_with P (audit_asked bytes) status text (check_ends P long report large none bytes) done denied says
 text_ends_so (command.Replay number word order) bytes status text reads says =
     let P : Status → Type 0 = Ends (Ok (command.Replay number word order)) in
     let done : P Done = record { one = (0, omega arith, refl); given = done_given } in
     let words : P BadWords = record { one = (1, omega arith, refl); given = words_given } in
     let report : P BadReport = record { one = (3, omega arith, refl); given = report_given } in
     let long : P TooLong = record { one = (4, omega arith, refl); given = long_given } in
-    says_with P (replayed number word order bytes) status text (replay_ends P long report words number word order bytes) done says
+    says_with P (replayed number word order bytes) status text (replay_ends P long report words number word order bytes) (no_audit (command.Replay number word order) bytes (λ no. no)) done says
 text_ends_so (command.Programs number word) bytes status text reads says =
     let P : Status → Type 0 = Ends (Ok (command.Programs number word)) in
     let done : P Done = record { one = (0, omega arith, refl); given = done_given } in
     let words : P BadWords = record { one = (1, omega arith, refl); given = words_given } in
     let report : P BadReport = record { one = (3, omega arith, refl); given = report_given } in
     let long : P TooLong = record { one = (4, omega arith, refl); given = long_given } in
-    says_with P (programmed number word bytes) status text (programs_end P long report words number word bytes) done says
+    says_with P (programmed number word bytes) status text (programs_end P long report words number word bytes) (no_audit (command.Programs number word) bytes (λ no. no)) done says
 text_ends_so (command.Family kind size) bytes status text reads says = absurd reads
 text_ends_so (command.Trial n) bytes status text reads says = absurd reads
 
@@ -201,16 +221,24 @@ part_appended_as before now text other count appended same = subst (λ end. now 
 says_refused : (x : Result Task Refusal) (status : Status) (text : List ℕ) (r : Refusal) → Says x status text → x ≡ Err r → (status ≡ r.status) × (text ≡ refusal_line r)
 says_refused x status text r says e = subst (λ y. Says y status text) e says
 
-says_done : (x : Result Task Refusal) (status : Status) (text : List ℕ) (t : Task) → Says x status text → x ≡ Ok t → (status ≡ Done) × Owed t text
-says_done x status text t says e = subst (λ y. Says y status text) e says
+-- what is done ends well, or denies
+ends_well : (t : Task) (status : Status) (text : List ℕ) → Says (Ok t) status text → EndsTask t status
+ends_well (Synthesise w t) status text says = inl says.0
+ends_well (Audit r) status text (inl says) = inl says.0
+ends_well (Audit r) status text (inr says) = inr (inl says.0)
+ends_well (Replay r n p o) status text says = inl says.0
+ends_well (Program r n p) status text says = inl says.0
+ends_well (Family k n) status text says = inl says.0
+ends_well (Try n) status text says = inl says.0
 
-ends_well : (t : Task) (status : Status) → status ≡ Done → EndsTask t status
-ends_well (Synthesise w t) status e = inl e
-ends_well (Audit r) status e = inl e
-ends_well (Replay r n p o) status e = inl e
-ends_well (Program r n p) status e = inl e
-ends_well (Family k n) status e = inl e
-ends_well (Try n) status e = inl e
+done_owed : (t : Task) (status : Status) (text : List ℕ) → Says (Ok t) status text → status ≡ Done → Owed t text
+done_owed (Synthesise w t) status text says done = says.1
+done_owed (Audit r) status text (inl says) done = says.1
+done_owed (Audit r) status text (inr says) done = let e : Denied ≡ Done = sym says.0 ∙ done in absurd (cc)
+done_owed (Replay r n p o) status text says done = says.1
+done_owed (Program r n p) status text says done = says.1
+done_owed (Family k n) status text says done = says.1
+done_owed (Try n) status text says done = says.1
 
 ends_freely : (t : Task) (status : Status) → IsFree status → EndsTask t status
 ends_freely (Synthesise w t) status e = inr e
@@ -222,22 +250,23 @@ ends_freely (Try n) status e = inr e
 
 is_due : (x : Result Task Refusal) (status : Status) (text : List ℕ) → Says x status text → IsDue x text
 is_due (Err r) status text says = says.1
-is_due (Ok (Audit r)) status text says = inl says.1
+is_due (Ok (Audit r)) status text (inl says) = inl says.1
+is_due (Ok (Audit r)) status text (inr says) = inr says.1
 is_due (Ok (Synthesise w t)) status text says = says.1
 is_due (Ok (Replay r n p o)) status text says = says.1
 is_due (Ok (Program r n p)) status text says = says.1
 is_due (Ok (Family k n)) status text says = says.1
 is_due (Ok (Try n)) status text says = says.1
 
-denial_of : (x : Result Task Refusal) (status : Status) (text : List ℕ) → Says x status text → status ≡ Denied → IsDenial text
-denial_of (Err r) status text says e = record { refusal = r; denied = sym says.0 ∙ e; line = says.1 }
-denial_of (Ok t) status text says e = let f : Done ≡ Denied = sym says.0 ∙ e in absurd (cc)
+denial_of : (r : ReportValue) (status : Status) (text : List ℕ) → Says (Ok (Audit r)) status text → status ≡ Denied → IsDenial r text
+denial_of r status text (inl says) e = let f : Done ≡ Denied = sym says.0 ∙ e in absurd (cc)
+denial_of r status text (inr says) e = says.1
 
 module _ (built : Built) (words : List (List ℕ)) (bytes : List ℕ) where
   pub status_ended : (status : Status) (text : List ℕ) → Ends (asked built words) status → Says (due built words bytes) status text → StatusIsDue built words bytes status
   status_ended status text ends says = record {
     refused = λ r e. inl (says_refused _ status text r says e).0;
-    done = λ t e. ends_well t status (says_done _ status text t says e).0;
+    done = λ t e. ends_well t status text (subst (λ x. Says x status text) e says);
     shelf_last = λ r _ e. ends.given (inr (inr (inr e)));
   }
 
@@ -251,8 +280,8 @@ module _ (built : Built) (words : List (List ℕ)) (bytes : List ℕ) where
   pub text_ended : (before now : List ℕ) (status : Status) (text : List ℕ) → Ends (asked built words) status → Says (due built words bytes) status text → now ≡ before ++ text → TextIsDue built words bytes before now status
   text_ended before now status text ends says written = record {
     line = λ r e _. written ∙ ap (λ end. before ++ end) (says_refused _ status text r says e).1;
-    owed = λ t e _. (text, (says_done _ status text t says e).1, written);
-    denial = λ e. (text, denial_of _ status text says e, written);
+    owed = λ t e done. (text, done_owed t status text (subst (λ x. Says x status text) e says) done, written);
+    denial = λ r e denied. (text, denial_of r status text (subst (λ x. Says x status text) e says) denied, written);
     prefix = λ e. absurd (ends.given (inr (inr (inl e))));
   }
 
@@ -260,7 +289,7 @@ module _ (built : Built) (words : List (List ℕ)) (bytes : List ℕ) where
   text_unwritten before now status text count says written = record {
     line = λ r e s. absurd (never_free built words bytes r e (inr (inr (inl (sym s)))));
     owed = λ t _ s. absurd (cc);
-    denial = λ s. absurd (cc);
+    denial = λ r _ s. absurd (cc);
     prefix = λ _. (text, count, is_due _ status text says, written);
   }
 
@@ -268,7 +297,7 @@ module _ (built : Built) (words : List (List ℕ)) (bytes : List ℕ) where
   text_without_memory before now = record {
     line = λ r e s. absurd (never_free built words bytes r e (inl (sym s)));
     owed = λ t _ s. absurd (cc);
-    denial = λ s. absurd (cc);
+    denial = λ r _ s. absurd (cc);
     prefix = λ s. absurd (cc);
   }
 
@@ -276,7 +305,7 @@ module _ (built : Built) (words : List (List ℕ)) (bytes : List ℕ) where
   text_unread before now = record {
     line = λ r e s. absurd (never_free built words bytes r e (inr (inl (sym s))));
     owed = λ t _ s. absurd (cc);
-    denial = λ s. absurd (cc);
+    denial = λ r _ s. absurd (cc);
     prefix = λ s. absurd (cc);
   }
 
@@ -284,6 +313,6 @@ module _ (built : Built) (words : List (List ℕ)) (bytes : List ℕ) where
   text_unshelved before now = record {
     line = λ r e s. absurd (never_free built words bytes r e (inr (inr (inr (sym s)))));
     owed = λ t _ s. absurd (cc);
-    denial = λ s. absurd (cc);
+    denial = λ r _ s. absurd (cc);
     prefix = λ s. absurd (cc);
   }

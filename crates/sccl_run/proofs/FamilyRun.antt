@@ -10,7 +10,7 @@ use Rattle.command_words.specs.declared.command.Command.TheVariants as command
 use Rattle.command_words.specs.Words.{command_of}
 use Rattle.report_form.specs.Reports.{WordsValue, ReportValue}
 use Rattle.sccl_run.specs.declared.status.Status.{Status}
-use Rattle.sccl_run.specs.declared.status.Status.TheVariants.{Done, OutOfMemory, SourceFailed, SinkFailed, ShelfFailed, Denied}
+use Rattle.sccl_run.specs.declared.status.Status.TheVariants.{Done, OutOfMemory, SourceFailed, SinkFailed, ShelfFailed}
 use Rattle.sccl_run.specs.Refusals.{Refusal}
 use Rattle.sccl_run.specs.Built.{everything}
 use Rattle.sccl_run.specs.Asked.{Ask, Reads, asked}
@@ -78,9 +78,6 @@ not_shelf e = absurd (cc)
 not_memory : Done ≢ OutOfMemory
 not_memory e = absurd (cc)
 
-not_denied : Done ≢ Denied
-not_denied e = absurd (cc)
-
 ends : Contains (OutOfMemory ∷ SinkFailed ∷ ends_of (asked everything family_run.words)) Done
 ends =
     let own : Contains (OutOfMemory ∷ SinkFailed ∷ ends_of (Ok (command.Family Line 2))) Done = (2, omega arith, refl) in
@@ -106,7 +103,7 @@ family_is_right n = record {
   text = λ _ _. record {
     line = λ r e _. absurd (no_refusal r e);
     owed = λ t e _. owed t e;
-    denial = λ e. absurd (not_denied e);
+    denial = λ r e _. absurd (not_audit r e);
     prefix = λ e. absurd (not_sink e);
   };
   files = λ _ _ _. record {

@@ -17,7 +17,7 @@ use Rattle.command_words.specs.declared.command.Command.{Command}
 use Rattle.command_words.specs.declared.command.Command.TheVariants as command
 use Rattle.command_words.specs.declared.fault.WordFault.{WordFault}
 use Rattle.sccl_run.specs.declared.status.Status.{Status}
-use Rattle.sccl_run.specs.declared.status.Status.TheVariants.{Done, OutOfMemory, BadWords, BadTopology, SourceFailed, SinkFailed, ShelfFailed, BadReport, TooLarge, NoCandidate, TooLong}
+use Rattle.sccl_run.specs.declared.status.Status.TheVariants.{Done, OutOfMemory, BadWords, BadTopology, SourceFailed, SinkFailed, ShelfFailed, BadReport, Denied, TooLarge, NoCandidate, TooLong}
 use Rattle.sccl_run.specs.Built.{Built}
 use Rattle.sccl_run.specs.Asked.{asked as command_asked}
 use Rattle.round_encoding.specs.Candidates.{size_limit}
@@ -107,6 +107,9 @@ not_free status a b c d (inr (inr (inr e))) = d e
 
 pub done_given : IsFree Done → ⊥
 done_given = not_free Done (λ e. cc) (λ e. cc) (λ e. cc) (λ e. cc)
+
+pub denied_given : IsFree Denied → ⊥
+denied_given = not_free Denied (λ e. cc) (λ e. cc) (λ e. cc) (λ e. cc)
 
 pub long_given : IsFree TooLong → ⊥
 long_given = not_free TooLong (λ e. cc) (λ e. cc) (λ e. cc) (λ e. cc)

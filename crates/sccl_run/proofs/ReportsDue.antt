@@ -90,8 +90,8 @@ read_refused bytes code line short (inl memory) other = absurd (other memory.0)
 read_refused bytes code line short (inr e) other = report_due bytes (Err (code, line)) short e
 
 -- what is said of the report that was read is said of its text
-pub said_of_text : (f : ReportValue → Result Task Refusal) (read : Result ReportValue Refusal) (r : ReportValue) (status : Status) (text : List ℕ) → read ≡ Ok r → Says (f r) status text → Says (read >>= f) status text
+pub said_of_text : {A : Type 0} (f : A → Result Task Refusal) (read : Result A Refusal) (r : A) (status : Status) (text : List ℕ) → read ≡ Ok r → Says (f r) status text → Says (read >>= f) status text
 said_of_text f read r status text e says = says_as _ _ status text (ap (λ x. x >>= f) e) says
 
-pub refused_of_text : (f : ReportValue → Result Task Refusal) (read : Result ReportValue Refusal) (r : Refusal) (status : Status) (text : List ℕ) → read ≡ Err r → Says (Err r) status text → Says (read >>= f) status text
+pub refused_of_text : {A : Type 0} (f : A → Result Task Refusal) (read : Result A Refusal) (r : Refusal) (status : Status) (text : List ℕ) → read ≡ Err r → Says (Err r) status text → Says (read >>= f) status text
 refused_of_text f read r status text e says = says_as _ _ status text (ap (λ x. x >>= f) e) says

@@ -10,10 +10,10 @@ pub record Built : Type 0 where
 abbrev pub everything : Built
 everything = record { commands = λ c. true }
 
--- searches, replays and programs of points, and the families
+-- searches, checks, replays and programs of points, and the families
 abbrev pub is_built : Command → Bool
 is_built (command.Synth kind word limits root) = true
-is_built command.Check = false
+is_built command.Check = true
 is_built (command.Replay number word order) = true
 is_built (command.Programs number word) = true
 is_built (command.Family kind size) = true

@@ -8,6 +8,7 @@ use Rattle.sccl_run.specs.declared.jobs.TextJob.TheVariants as text_job
 
 abbrev pub command_of_text : TextJob → Command
 command_of_text (text_job.Synth w) = command.Synth w.kind w.kind_word w.limits w.root
+command_of_text text_job.Check = command.Check
 command_of_text (text_job.Replay w order) = command.Replay w.point w.word order
 command_of_text (text_job.Programs w) = command.Programs w.point w.word
 

@@ -8,7 +8,7 @@ use Rattle.topology_text.specs.Spelling.{spelling}
 use Rattle.report_form.specs.Reports.{WordsValue, ReportValue}
 use Rattle.report_form.specs.Spelling.{report_text}
 use Rattle.frontier_audit.specs.Shelves.{ShelfRight}
-use Rattle.frontier_audit.specs.Rights.{IsRight, IsSearched}
+use Rattle.frontier_audit.specs.Rights.{HasLogs, IsRight, IsSearched}
 use Rattle.sccl_run.specs.Tasks.{Task, Synthesise, Audit, Replay, Program, Family, Try}
 use Rattle.point_replay.specs.Showing.{shown_in, shown_text}
 use Rattle.point_replay.specs.Points.{programs_of_point}
@@ -25,10 +25,11 @@ pub record Synthesises (w : WordsValue) (t : NamedTopologyValue) (text : List �
   pub right : IsRight report
   pub searched : IsSearched report
 
--- whoever made the report, what it says is right
+-- whoever made the report, what it says is right, and there is a spent log of each candidate that it calls unknown
 pub record Verifies (r : ReportValue) (text : List ℕ) : Type 0 where
   pub written : text ≡ line (codes "verified" ∷ [])
   pub right : IsRight r
+  pub logs : HasLogs r
 
 -- a search of its own, with files of its own, is summed up
 pub record Tries (n : ℕ) (text : List ℕ) : Type 0 where

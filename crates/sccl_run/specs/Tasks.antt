@@ -90,12 +90,17 @@ read_report bytes = do
   _ ← whole_text bytes
   refused_as BadReport report_number (report_of bytes)
 
+-- the report, where its search can be done
+abbrev pub audit_in : ReportValue → Result Task Refusal
+audit_in report = do
+  _ ← searchable (whole_question report.words report.topology)
+  Ok (Audit report)
+
 -- the report whose files are to be looked at
 abbrev pub audit_asked : List ℕ → Result Task Refusal
 audit_asked bytes = do
   report ← read_report bytes
-  _ ← searchable (whole_question report.words report.topology)
-  Ok (Audit report)
+  audit_in report
 
 -- the point that the word asks for
 abbrev pub point_in : ReportValue → ℕ → ℕ → Result (Part × PointValue) Refusal

@@ -87,23 +87,24 @@ pub record LeftIsDue (built : Built) (words : List (List ℕ)) (bytes left : Lis
 
 -- ---- where the sink tells too
 
--- a denial's line
-pub record IsDenial (text : List ℕ) : Type 0 where
-  pub refusal : Refusal
-  pub denied : refusal.status ≡ Denied
-  pub line : text ≡ refusal_line refusal
+-- the line of a denial: there are files beside which the audit of the report denies so
+pub record IsDenial (r : ReportValue) (text : List ℕ) : Type 0 where
+  pub files : Files
+  pub why : Refusal
+  pub is : audited r files ≡ Err why
+  pub line : text ≡ refusal_line why
 
 -- the texts that are due: the line of the refusal, or one that the task allows
 abbrev pub IsDue : Result Task Refusal → List ℕ → Type 0
 IsDue (Err r) text = text ≡ refusal_line r
-IsDue (Ok (Audit r)) text = Owed (Audit r) text ⊎ IsDenial text
+IsDue (Ok (Audit r)) text = Owed (Audit r) text ⊎ IsDenial r text
 IsDue (Ok t) text = Owed t text
 
 -- what was appended to the sink
 pub record TextIsDue (built : Built) (words : List (List ℕ)) (bytes before now : List ℕ) (status : Status) : Type 0 where
   pub line : (r : Refusal) → due built words bytes ≡ Err r → status ≡ r.status → now ≡ before ++ refusal_line r
   pub owed : (t : Task) → due built words bytes ≡ Ok t → status ≡ Done → (text : List ℕ) × Owed t text × (now ≡ before ++ text)
-  pub denial : status ≡ Denied → (text : List ℕ) × IsDenial text × (now ≡ before ++ text)
+  pub denial : (r : ReportValue) → due built words bytes ≡ Ok (Audit r) → status ≡ Denied → (text : List ℕ) × IsDenial r text × (now ≡ before ++ text)
   pub prefix : status ≡ SinkFailed → (text : List ℕ) × (count : ℕ) × IsDue (due built words bytes) text × (now ≡ before ++ take count text)
 
 -- ---- where the shelf tells too

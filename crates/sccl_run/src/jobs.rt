@@ -14,6 +14,8 @@ use topology_text::FamilyKind;
 pub enum TextJob {
     /// Searches over the topology.
     Synth(SearchWords),
+    /// Checks the report, and the files beside it.
+    Check,
     /// Replays a point of the report, in the order of a seed where there is one.
     Replay(PointWord, Option<u64>),
     /// Gives the programs of a point of the report.
@@ -44,6 +46,7 @@ pub fn job_of(command: &Command) -> Option<Job>
             limits,
             root,
         }))),
+        Command::Check => Some(Job::Text(TextJob::Check)),
         Command::Replay {
             point,
             point_word: word,
@@ -54,6 +57,6 @@ pub fn job_of(command: &Command) -> Option<Job>
             point_word: word,
         } => Some(Job::Text(TextJob::Programs(PointWord { point, word }))),
         Command::Family { kind, size } => Some(Job::Family { kind, size }),
-        Command::Check | Command::Trial { .. } => None,
+        Command::Trial { .. } => None,
     }
 }

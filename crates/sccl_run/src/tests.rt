@@ -5,6 +5,7 @@ use outer_ports::{MemorySink, SureShelf, SureSource};
 use std::alloc::{AllocError, Global};
 use std::process::Abort;
 
+mod checks;
 mod families;
 mod numbers;
 mod ports;

@@ -8,7 +8,7 @@ ghost use Rattle.sccl_run.specs.Built.{so_far};
 ghost use Rattle.sccl_run.specs.Refusals.{Refusal};
 ghost use Rattle.sccl_run.specs.Asked.{Ask, Changes, Opens, Reads, asked};
 ghost use Rattle.sccl_run.specs.Tasks.{due, limit};
-ghost use Rattle.sccl_run.specs.Answering.{BeginsDue, Ends, ProvesDue, Says};
+ghost use Rattle.sccl_run.specs.Answering.{AuditsDue, BeginsDue, Ends, ProvesDue, Says};
 ghost use Rattle.sccl_run.specs.TopCall.{FilesAreDue, IsCall, Knows, LeftIsDue, StatusIsDue, TextIsDue};
 
 use crate::answer::{Answer, family_answer, refused_word};
@@ -47,6 +47,7 @@ fn answer<I: Source, H: Shelf>(
     ensures unchanged { IsTrue (H.tells shelf.new) → ¬ Ask Changes so_far (texts words.now) → FilesStay (H.file shelf.old) (H.file shelf.new) }
     ensures begins { Knows (I.tells source.new) so_far (texts words.now) → IsTrue (H.tells shelf.new) → BeginsDue (due so_far (texts words.now) (I.left source.old)) (H.file shelf.old) (H.file shelf.new) }
     ensures proves { Knows (I.tells source.new) so_far (texts words.now) → IsTrue (H.tells shelf.new) → IfOk result (λ a. ProvesDue (due so_far (texts words.now) (I.left source.old)) a.text.items (H.file shelf.old) (H.file shelf.new)) }
+    ensures audits { Knows (I.tells source.new) so_far (texts words.now) → IsTrue (H.tells shelf.new) → IfOk result (λ a. AuditsDue (due so_far (texts words.now) (I.left source.old)) a.status a.text.items (H.file shelf.old)) }
     ensures last { Knows (I.tells source.new) so_far (texts words.now) → result ≡ Err Halt.Shelf → (r : Refusal) → due so_far (texts words.now) (I.left source.old) ≡ Err r → ⊥ }
 {
     match read_words(words) {
@@ -62,10 +63,11 @@ fn answer<I: Source, H: Shelf>(
 /// Does what the words ask for, and writes one text to the sink: what the command gives, or the line of a refusal. The
 /// status says how it ended.
 ///
-/// Four commands are built. `synth` reads a topology from the source, searches the schedules of a collective, writes the
-/// report, and keeps the formulas and the proofs on the shelf. `replay point=N` reads a report from the source,
-/// and writes the replay of its point, with `order=SEED` in the order that the seed draws too. `programs point=N` writes
-/// the programs that carry its point out. `family` writes the topology text of a family, and reads nothing.
+/// Five commands are built. `synth` reads a topology from the source, searches the schedules of a collective, writes the
+/// report, and keeps the formulas and the proofs on the shelf. `check` reads a report from the source and the files beside it
+/// from the shelf, and writes whether they are right. `replay point=N` reads a report, and writes the replay of its point,
+/// with `order=SEED` in the order that the seed draws too. `programs point=N` writes the programs that carry its point out.
+/// `family` writes the topology text of a family, and reads nothing.
 pub fn run<I: Source, O: Sink, H: Shelf>(
     alloc: Global,
     words: &[String],

@@ -4,11 +4,12 @@ use Rattle.command_words.specs.Words.{texts}
 use Rattle.sccl_run.specs.Built.{so_far}
 use Rattle.sccl_run.specs.Jobs.{command_of_job, command_of_text}
 use Rattle.sccl_run.specs.Asked.{Reads, asked}
-use Rattle.sccl_run.specs.Answering.{ProvesDue, Says}
+use Rattle.sccl_run.specs.Answering.{AuditsDue, ProvesDue, Says}
 use Rattle.sccl_run.specs.Refusals.{Refusal}
 use Rattle.sccl_run.specs.declared.halt.Halt.TheVariants.{Shelf}
 use Rattle.sccl_run.proofs.DueWords.{asked_refused, asked_unbuilt, asks_job, asks_one, due_command, due_refused, knows_told, refused_asks_nothing, says_as, text_reads}
-use Rattle.sccl_run.proofs.FilesEnding.{begins_as, proves_as, refused_proves, unchanged_proves}
+use Rattle.sccl_run.proofs.FilesEnding.{begins_as, proves_as, refused_proves, unchanged_proves, unchecked_audits}
+use Rattle.sccl_run.proofs.Checked.{audits_as, refused_audits}
 use Rattle.sccl_run.proofs.toplevel.answer.Goals as goal
 
 -- ---- a family
@@ -33,6 +34,14 @@ returns-in_ok-family_answer-in-Some-Family-clause-proves g c = λ known shelf_to
     let job = command.Family c.in-Some-Family.kind c.in-Some-Family.size in
     let is : asked so_far words ≡ Ok job = asks_job words c.in-Ok.command job c.in-Ok.ensures.read c.in-Some-Family.ensures.built.0 (c.in-Some-Family.ensures.built.1 ∙ ap command_of_job c.in-Some-Family.field-0-is) in
     proves_as _ _ _ _ _ (due_command so_far words (g.I.Source.left c.args.source.now) job is) (unchanged_proves job (g.I.Source.left c.args.source.now) c.in_ok-family_answer-in-Some-Family.field-0.text.items (g.H.Shelf.file c.args.shelf.now) (g.H.Shelf.file c.args.shelf.now) (λ none. none))
+
+pub returns-in_ok-family_answer-in-Some-Family-clause-audits : goal.returns-in_ok-family_answer-in-Some-Family-clause-audits
+returns-in_ok-family_answer-in-Some-Family-clause-audits g c = λ known shelf_told.
+    let words = texts c.args.words.now in
+    let job = command.Family c.in-Some-Family.kind c.in-Some-Family.size in
+    let is : asked so_far words ≡ Ok job = asks_job words c.in-Ok.command job c.in-Ok.ensures.read c.in-Some-Family.ensures.built.0 (c.in-Some-Family.ensures.built.1 ∙ ap command_of_job c.in-Some-Family.field-0-is) in
+    audits_as _ _ _ _ _ (due_command so_far words (g.I.Source.left c.args.source.now) job is)
+    (unchecked_audits job (g.I.Source.left c.args.source.now) c.in_ok-family_answer-in-Some-Family.field-0.status c.in_ok-family_answer-in-Some-Family.field-0.text.items (g.H.Shelf.file c.args.shelf.now) (λ no. no))
 
 -- ---- what is done with a text
 
@@ -60,6 +69,15 @@ returns-in-Some-Text-clause-proves g c = λ known shelf_told.
     let is : asked so_far words ≡ Ok job = asks_job words c.in-Ok.command job c.in-Ok.ensures.read c.in-Some-Text.ensures.built.0 (c.in-Some-Text.ensures.built.1 ∙ ap command_of_job c.in-Some-Text.field-0-is) in
     subst (λ x. IfOk c.source_answer.result (λ answer. ProvesDue x answer.text.items files after)) (sym (due_command so_far words (g.I.Source.left c.args.source.now) job is))
     (c.source_answer.ensures.proves (knows_told _ words job is (text_reads c.in-Some-Text.job) known) shelf_told)
+
+pub returns-in-Some-Text-clause-audits : goal.returns-in-Some-Text-clause-audits
+returns-in-Some-Text-clause-audits g c = λ known shelf_told.
+    let words = texts c.args.words.now in
+    let files = g.H.Shelf.file c.args.shelf.now in
+    let job = command_of_text c.in-Some-Text.job in
+    let is : asked so_far words ≡ Ok job = asks_job words c.in-Ok.command job c.in-Ok.ensures.read c.in-Some-Text.ensures.built.0 (c.in-Some-Text.ensures.built.1 ∙ ap command_of_job c.in-Some-Text.field-0-is) in
+    subst (λ x. IfOk c.source_answer.result (λ answer. AuditsDue x answer.status answer.text.items files)) (sym (due_command so_far words (g.I.Source.left c.args.source.now) job is))
+    (c.source_answer.ensures.audits (knows_told _ words job is (text_reads c.in-Some-Text.job) known) shelf_told)
 
 pub returns-in-Some-Text-clause-last : goal.returns-in-Some-Text-clause-last
 returns-in-Some-Text-clause-last g c = λ known.
@@ -96,3 +114,13 @@ pub returns-in_ok-refused_word-in-Err-clause-proves : goal.returns-in_ok-refused
 returns-in_ok-refused_word-in-Err-clause-proves g c = λ known shelf_told.
     let words = texts c.args.words.now in
     refused_proves _ _ _ _ _ (due_refused so_far words (g.I.Source.left c.args.source.now) c.in-Err.fault (asked_refused words c.in-Err.fault (sym c.in-Err.ensures.read)))
+
+pub returns-in_ok-refused_word-in-None-clause-audits : goal.returns-in_ok-refused_word-in-None-clause-audits
+returns-in_ok-refused_word-in-None-clause-audits g c = λ known shelf_told.
+    let words = texts c.args.words.now in
+    refused_audits _ _ _ _ _ (due_refused so_far words (g.I.Source.left c.args.source.now) _ (asked_unbuilt words c.in-Ok.command (sym c.in-Ok.ensures.read) c.in-None.ensures.not_built))
+
+pub returns-in_ok-refused_word-in-Err-clause-audits : goal.returns-in_ok-refused_word-in-Err-clause-audits
+returns-in_ok-refused_word-in-Err-clause-audits g c = λ known shelf_told.
+    let words = texts c.args.words.now in
+    refused_audits _ _ _ _ _ (due_refused so_far words (g.I.Source.left c.args.source.now) c.in-Err.fault (asked_refused words c.in-Err.fault (sym c.in-Err.ensures.read)))

@@ -23,7 +23,7 @@ pub returns-in-Ok-write_all-clause-files : goal.returns-in-Ok-write_all-clause-f
 returns-in-Ok-write_all-clause-files g c = λ known told shelf_told.
     let before = g.O.Sink.written c.args.sink.now in
     files_ended (texts c.args.words.now) _ before (g.O.Sink.written c.write_all.new.sink) (g.H.Shelf.file c.args.shelf.now) (g.H.Shelf.file c.answer.new.shelf) c.in-Ok.answer.status c.in-Ok.answer.text.items (λ e. c.in-Ok.ensures.ends.given (inr (inl e)))
-    (c.in-Ok.ensures.unchanged shelf_told) (c.in-Ok.ensures.begins known shelf_told) (c.in-Ok.ensures.proves known shelf_told)
+    (c.in-Ok.ensures.unchanged shelf_told) (c.in-Ok.ensures.begins known shelf_told) (c.in-Ok.ensures.proves known shelf_told) (c.in-Ok.ensures.audits known shelf_told)
     (appended_as before (g.O.Sink.written c.write_all.new.sink) c.in-Ok.answer.text.items _ (c.in-Ok-write_all.ensures.whole told) c.deref.ensures.value)
 
 pub returns-in-Ok-clause-call : goal.returns-in-Ok-clause-call
@@ -38,7 +38,7 @@ returns-in-Ok-clause-text g c = λ known told.
 
 pub returns-in-Ok-clause-files : goal.returns-in-Ok-clause-files
 returns-in-Ok-clause-files g c = λ known told shelf_told.
-    files_broken (texts c.args.words.now) _ (g.O.Sink.written c.args.sink.now) (g.O.Sink.written c.write_all.new.sink) (g.H.Shelf.file c.args.shelf.now) (g.H.Shelf.file c.answer.new.shelf) SinkFailed (λ e. cc)
+    files_broken (texts c.args.words.now) _ (g.O.Sink.written c.args.sink.now) (g.O.Sink.written c.write_all.new.sink) (g.H.Shelf.file c.args.shelf.now) (g.H.Shelf.file c.answer.new.shelf) SinkFailed (inr (inr (inl refl))) (λ e. cc)
     (c.in-Ok.ensures.unchanged shelf_told) (λ e. absurd (cc)) (c.in-Ok.ensures.begins known shelf_told)
 
 pub returns-in-Err-Memory-clause-text : goal.returns-in-Err-Memory-clause-text
@@ -46,7 +46,7 @@ returns-in-Err-Memory-clause-text g c = λ known told. text_without_memory so_fa
 
 pub returns-in-Err-Memory-clause-files : goal.returns-in-Err-Memory-clause-files
 returns-in-Err-Memory-clause-files g c = λ known told shelf_told.
-    files_broken (texts c.args.words.now) _ (g.O.Sink.written c.args.sink.now) (g.O.Sink.written c.args.sink.now) (g.H.Shelf.file c.args.shelf.now) (g.H.Shelf.file c.answer.new.shelf) OutOfMemory (λ e. cc)
+    files_broken (texts c.args.words.now) _ (g.O.Sink.written c.args.sink.now) (g.O.Sink.written c.args.sink.now) (g.H.Shelf.file c.args.shelf.now) (g.H.Shelf.file c.answer.new.shelf) OutOfMemory (inl refl) (λ e. cc)
     (c.in-Err-Memory.ensures.unchanged shelf_told) (λ e. absurd (cc)) (c.in-Err-Memory.ensures.begins known shelf_told)
 
 pub returns-in-Err-Source-clause-call : goal.returns-in-Err-Source-clause-call
