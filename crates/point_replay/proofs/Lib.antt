@@ -2,3 +2,4 @@ pub mod Lines
 pub mod Showable
 pub mod Ordered
 pub mod Bodies
+pub mod Machined

@@ -1,9 +1,9 @@
 -- What a report keeps of each of its points, and the instance that its part asks for.
 use Rattle.std.proofs.Common.{◌≡◌, ◌≢◌, arith, ◌≤◌, ◌<◌, ℕ, zero, suc, Bool, true, false, not, List, [], ◌∷◌, ◌++◌, map, All, Option, None, Some, IfSome, IsTrue, slice_get, refl, subst}
-use Rattle.std.specs.Prelude.{nat_le}
+use Rattle.std.specs.Prelude.{nat_le, Contains}
 use Rattle.std.specs.List.{AllByRecursion, flat_map}
 use Rattle.std.proofs.lemmas.Bool.{and_parts, leb-true}
-use Rattle.std.proofs.lemmas.List.Elements.{recursion_from_All}
+use Rattle.std.proofs.lemmas.List.Elements.{All-contains, All-from_recursion, recursion_from_All}
 use Rattle.outer_ports.specs.declared.part.Part.{Part}
 use Rattle.outer_ports.specs.declared.part.Part.TheVariants as part
 use Rattle.collective_spec.specs.declared.kind.Kind.{Kind}
@@ -101,6 +101,10 @@ module _ (r : ReportValue) (valid : IsReport r) where
   pub numbered_shows : (n : ℕ) (x : Part × PointValue) → point_at r n ≡ Some x → IsShowable (shown_in r x)
   numbered_shows zero x e = absurd (cc)
   numbered_shows (suc n) x e = get_has Shows (points_of r) n x all_show e
+
+  -- and so is each that stands among them
+  pub listed_shows : (x : Part × PointValue) → Contains (points_of r) x → IsShowable (shown_in r x)
+  listed_shows x at = All-contains Shows (points_of r) x (All-from_recursion Shows (points_of r) all_show) at
 
 pub single : (x : Spec) → adds_up x ≡ false → kind_in x ≢ kind.Allreduce
 single (spec.Standard collective) copies e = let f : reduces kind.Allreduce ≡ false = subst (λ k. reduces k ≡ false) e copies in absurd (cc)

@@ -7,6 +7,7 @@ mod order;
 mod placements;
 mod point;
 mod programs;
+mod running;
 mod runs;
 mod vectors;
 mod verdicts;
@@ -14,6 +15,7 @@ mod words;
 
 pub use asked::is_copied_part;
 pub use point::{replay_copied_point, replay_point};
-pub use programs::{count_point_operations, print_point_programs};
+pub use programs::print_point_programs;
+pub use running::run_point;
 pub use std::alloc::AllocError as OutOfMemory;
 pub use vectors::replays;

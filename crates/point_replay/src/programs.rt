@@ -1,9 +1,10 @@
 //! The programs that carry the schedule of a point out.
 
-ghost use Rattle.std.specs.Prelude.{◌≡◌, length, IfOk};
+ghost use Rattle.std.specs.Prelude.{◌≡◌, ℕ, length, IfOk};
+ghost use Rattle.schedule.specs.Sends.{IsInRange};
+ghost use Rattle.node_programs.specs.Below.{AreBelow};
 ghost use Rattle.node_programs.specs.Programs.{programs_of};
-ghost use Rattle.node_programs.specs.Runs.{operations};
-ghost use Rattle.point_replay.specs.Showing.{adding_of, machine_of, nodes_of, shown_in};
+ghost use Rattle.point_replay.specs.Showing.{adding_of, nodes_of, shown_in};
 ghost use Rattle.point_replay.specs.Points.{programs_of_point};
 
 use crate::OutOfMemory;
@@ -26,7 +27,7 @@ fn adding_steps(report: &Report, part: Part, point: &Point) -> Result<u8, OutOfM
 }
 
 /// The programs of a point.
-fn point_programs(
+pub(crate) fn point_programs(
     alloc: Global,
     report: &Report,
     part: Part,
@@ -34,6 +35,7 @@ fn point_programs(
 ) -> Result<Programs, OutOfMemory>
     ensures programs { let x = shown_in report.now (part, point.now) in IfOk result (λ programs. programs ≡ programs_of (nodes_of x) point.now.schedule (adding_of x)) }
     ensures nodes { IfOk result (λ programs. length programs ≡ report.now.topology.topology.nodes) }
+    ensures in_range { let x = shown_in report.now (part, point.now) in IfOk result (λ programs. (chunks : ℕ) → IsInRange chunks (nodes_of x) point.now.schedule → AreBelow chunks (nodes_of x) programs) }
 {
     let adding = adding_steps(report, part, point)?;
     let nodes = report.topology().topology().nodes();
@@ -54,17 +56,4 @@ pub fn print_point_programs(
     let programs = point_programs(alloc, report, part, point)?;
     let named = report.topology();
     print_programs(alloc, number, &programs, named.names())
-}
-
-/// How many operations the programs of a point have in all. The only error is want of memory.
-pub fn count_point_operations(
-    alloc: Global,
-    report: &Report,
-    part: Part,
-    point: &Point,
-) -> Result<usize, OutOfMemory>
-    ensures { IfOk result (λ count. count ≡ operations (machine_of (shown_in report.now (part, point.now)))) }
-{
-    let programs = point_programs(alloc, report, part, point)?;
-    programs.operations().ok_or(OutOfMemory)
 }

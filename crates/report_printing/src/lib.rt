@@ -3,4 +3,4 @@
 
 mod printing;
 
-pub use printing::print_report;
+pub use printing::{print_report, push_asked};

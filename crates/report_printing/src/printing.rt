@@ -258,8 +258,9 @@ fn push_root(out: &mut Vec<u8>, names: &[Name], words: Words) -> Result<(), Allo
     Ok(())
 }
 
-/// Appends the line of what was asked.
-fn push_asked(out: &mut Vec<u8>, names: &[Name], words: Words) -> Result<(), AllocError>
+/// Appends the line of what was asked: `synth`, and each key with its value, nodes by their names. An `Err` comes only where
+/// memory runs out.
+pub fn push_asked(out: &mut Vec<u8>, names: &[Name], words: Words) -> Result<(), AllocError>
     ensures { OnOk result (out.new.items ≡ out.old.items ++ line (synth_words names.now words)) }
 {
     push_word(out, b"synth collective=")?;

@@ -19,6 +19,7 @@ use std::alloc::Global;
 
 /// The frontier of a reduction: that of the collective of which it is the inverse, over the links turned round, with each
 /// schedule inverted.
+#[tactic(auto, using(crate::proofs::Turned::small_turned))]
 fn reduced_frontier<H: Shelf>(
     alloc: Global,
     topology: &Topology,

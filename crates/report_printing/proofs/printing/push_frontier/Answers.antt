@@ -1,4 +1,4 @@
-use Rattle.std.proofs.Common.{◌≡◌, ◌++◌, ◌∙◌, ap, map, rules}
+use Rattle.std.proofs.Common.{◌≡◌, ◌++◌, ◌∙◌, ap, map}
 use Rattle.std.specs.List.{flat_map}
 use Rattle.text_lines.specs.Text.{line, text_of}
 use Rattle.report_form.specs.Spelling.{part_words, refuted_words, unknown_words}

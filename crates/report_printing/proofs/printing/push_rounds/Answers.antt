@@ -1,4 +1,4 @@
-use Rattle.std.proofs.Common.{◌≡◌, ◌++◌, ◌∙◌, ap, map, rules}
+use Rattle.std.proofs.Common.{◌++◌, ◌∙◌, ap, map}
 use Rattle.std.specs.Prelude.{codes, decimal}
 use Rattle.report_printing.specs.Printed.{fields}
 use Rattle.report_printing.proofs.Pieces.{before, line_is}

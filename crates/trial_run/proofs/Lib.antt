@@ -1,0 +1,6 @@
+mod Lines
+mod Numbers
+mod Searchable
+mod Small
+mod Tried
+mod Verified

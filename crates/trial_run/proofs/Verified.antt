@@ -1,0 +1,27 @@
+-- A right report is verified beside files that prove it.
+use Rattle.std.proofs.Common.{◌≡◌, List, [], ◌∷◌, ◌++◌, map, append-nil, sym, ap, ◌∙◌, subst}
+use Rattle.std.proofs.lemmas.List.Elements.{All-contains}
+use Rattle.outer_ports.specs.Files.{Files}
+use Rattle.outer_ports.specs.declared.part.Part.{Part}
+use Rattle.outer_ports.specs.declared.part.Part.TheVariants.{Reduce, Gather}
+use Rattle.allreduce_join.specs.Joins.{Joins}
+use Rattle.candidate_order.specs.Frontiers.{FrontierValue, PointValue}
+use Rattle.report_form.specs.Reports.{ReportValue, parts_of}
+use Rattle.frontier_audit.specs.declared.verdict.AuditVerdict.TheVariants.{Verified}
+use Rattle.frontier_audit.specs.Auditing.{audit_of}
+use Rattle.frontier_audit.specs.Joining.{is_gather, is_reduce, points_of}
+use Rattle.frontier_audit.specs.Rights.{AreJoined, IsRight, IsRightPart}
+use Rattle.frontier_audit.specs.Shelves.{ShelfRight}
+use Rattle.frontier_audit.proofs.Right.{right_verified}
+
+-- the joins of the two parts are those of the points that the audit picks
+parts_joined : (r : ReportValue) (xs : List (Part × FrontierValue)) → map (λ x. x.0) xs ≡ Reduce ∷ Gather ∷ [] → AreJoined r xs → Joins r.topology.topology (points_of is_reduce xs) (points_of is_gather xs) r.joined
+parts_joined r ((Reduce, f) ∷ (Gather, g) ∷ []) e joined =
+    let P : List PointValue → List PointValue → Type 0 = λ a b. Joins r.topology.topology a b r.joined in
+    subst (λ a. P a (g.points ++ [])) (sym (append-nil f.points)) (subst (P f.points) (sym (append-nil g.points)) joined)
+parts_joined r _ e joined = absurd (cc)
+
+pub own_verified : (r : ReportValue) (files : Files) → IsRight r → ShelfRight r files → audit_of r files ≡ Verified
+own_verified r files right shelf =
+    right_verified r files right.valid shelf (λ part f at. All-contains (IsRightPart r) r.frontiers (part, f) right.parts at)
+    (λ kind. parts_joined r r.frontiers (right.valid.parts ∙ ap parts_of kind) right.joined)

@@ -1,0 +1,15 @@
+//! Trials: each number stands for a search, which is done, audited and replayed, and summed up in a text.
+#![tactic(auto)]
+
+mod asked;
+mod counts;
+mod replays;
+mod summary;
+#[cfg(test)]
+mod tests;
+mod trial;
+mod vectors;
+
+pub use std::alloc::AllocError as OutOfMemory;
+pub use trial::try_out;
+pub use vectors::trials;
