@@ -4,11 +4,11 @@ use Rattle.outer_ports.specs.Port.{Rose}
 use Rattle.command_words.specs.declared.command.Command.{Command}
 use Rattle.command_words.specs.declared.command.Command.TheVariants as command
 use Rattle.command_words.specs.declared.fault.WordFault.{WordFault}
+use Rattle.command_words.specs.Words.{command_of}
 use Rattle.report_form.specs.Reports.{ReportValue}
 use Rattle.sccl_run.specs.declared.status.Status.{Status}
 use Rattle.sccl_run.specs.declared.status.Status.TheVariants.{Done, OutOfMemory, BadWords, BadTopology, SourceFailed, SinkFailed, ShelfFailed, BadReport, Denied, TooLarge, NoCandidate, TooLong}
-use Rattle.sccl_run.specs.Built.{Built}
-use Rattle.sccl_run.specs.Asked.{Ask, Opens, Reads, asked}
+use Rattle.sccl_run.specs.Asked.{Ask, Opens, Reads}
 use Rattle.sccl_run.specs.Refusals.{Refusal, refusal_line}
 use Rattle.sccl_run.specs.Tasks.{Task, Synthesise, Audit, Replay, Program, Family, Try, audit_asked, due, programmed, replayed, synthesis_of, task_of}
 use Rattle.sccl_run.specs.Owed.{Owed}
@@ -89,13 +89,13 @@ long_ends_so c status reads e = subst (Ends (Ok c)) (sym e) (record { one = may_
     may_be_long (command.Family kind size) reads = absurd reads
     may_be_long (command.Trial n) reads = absurd reads
 
-pub words_end_so : (built : Built) (words : List (List ℕ)) (fault : WordFault) (status : Status) → asked built words ≡ Err fault → status ≡ BadWords → Ends (asked built words) status
-words_end_so built words fault status refused e =
+pub words_end_so : (words : List (List ℕ)) (fault : WordFault) (status : Status) → command_of words ≡ Err fault → status ≡ BadWords → Ends (command_of words) status
+words_end_so words fault status refused e =
     let own : Ends (Err fault) BadWords = record { one = (0, omega arith, refl); given = words_given } in
     subst (λ x. Ends x status) (sym refused) (subst (Ends (Err fault)) (sym e) own)
 
-pub family_ends_so : (built : Built) (words : List (List ℕ)) (kind : _) (size : ℕ) (status : Status) → asked built words ≡ Ok (command.Family kind size) → status ≡ Done → Ends (asked built words) status
-family_ends_so built words kind size status family e =
+pub family_ends_so : (words : List (List ℕ)) (kind : _) (size : ℕ) (status : Status) → command_of words ≡ Ok (command.Family kind size) → status ≡ Done → Ends (command_of words) status
+family_ends_so words kind size status family e =
     let own : Ends (Ok (command.Family kind size)) Done = record { one = (0, omega arith, refl); given = done_given } in
     subst (λ x. Ends x status) (sym family) (subst (Ends (Ok (command.Family kind size))) (sym e) own)
 
@@ -131,8 +131,8 @@ open_reads (command.Programs number word) opens = absurd opens
 open_reads (command.Family kind size) opens = absurd opens
 open_reads (command.Trial n) opens = absurd opens
 
-pub asks_reads : (built : Built) (words : List (List ℕ)) → Ask Opens built words → Ask Reads built words
-asks_reads built words ask = record { command = ask.command; is = ask.is; such = open_reads ask.command ask.such }
+pub asks_reads : (words : List (List ℕ)) → Ask Opens words → Ask Reads words
+asks_reads words ask = record { command = ask.command; is = ask.is; such = open_reads ask.command ask.such }
 
 quiet : (failed status : Status) (count : CountValue) → status ≢ failed → count.now ≡ count.before → EndsIfItFails failed status count
 quiet failed status count other same = record { only = λ e. absurd (other e); kept = λ _. same }
@@ -147,11 +147,11 @@ free status (inl e) = inl e
 free status (inr (inl e)) = inr (inl e)
 free status (inr (inr e)) = inr (inr (inr e))
 
-module _ (built : Built) (words : List (List ℕ)) (source sink shelf : CountValue) (SourceStays SinkStays ShelfStays : Type 0) where
-  pub call_ended : (status : Status) → Ends (asked built words) status → source.now ≡ source.before → sink.now ≡ sink.before → shelf.now ≡ shelf.before → (¬ Ask Reads built words → SourceStays) → (¬ Ask Opens built words → ShelfStays)
-      → IsCall built words status source sink shelf SourceStays SinkStays ShelfStays
+module _ (words : List (List ℕ)) (source sink shelf : CountValue) (SourceStays SinkStays ShelfStays : Type 0) where
+  pub call_ended : (status : Status) → Ends (command_of words) status → source.now ≡ source.before → sink.now ≡ sink.before → shelf.now ≡ shelf.before → (¬ Ask Reads words → SourceStays) → (¬ Ask Opens words → ShelfStays)
+      → IsCall words status source sink shelf SourceStays SinkStays ShelfStays
   call_ended status ends read written kept unread unopened = record {
-    ends = behind_two OutOfMemory SinkFailed status (ends_of (asked built words)) ends.one;
+    ends = behind_two OutOfMemory SinkFailed status (ends_of (command_of words)) ends.one;
     source_fails = quiet SourceFailed status source (λ e. ends.given (inr (inl e))) read;
     sink_fails = quiet SinkFailed status sink (λ e. ends.given (inr (inr (inl e)))) written;
     shelf_fails = quiet ShelfFailed status shelf (λ e. ends.given (inr (inr (inr e)))) kept;
@@ -160,8 +160,8 @@ module _ (built : Built) (words : List (List ℕ)) (source sink shelf : CountVal
     silent = λ silent. absurd (ends.given (free status silent));
   }
 
-  pub call_unwritten : source.now ≡ source.before → Rose sink.before sink.now → shelf.now ≡ shelf.before → (¬ Ask Reads built words → SourceStays) → (¬ Ask Opens built words → ShelfStays)
-      → IsCall built words SinkFailed source sink shelf SourceStays SinkStays ShelfStays
+  pub call_unwritten : source.now ≡ source.before → Rose sink.before sink.now → shelf.now ≡ shelf.before → (¬ Ask Reads words → SourceStays) → (¬ Ask Opens words → ShelfStays)
+      → IsCall words SinkFailed source sink shelf SourceStays SinkStays ShelfStays
   call_unwritten read rose kept unread unopened = record {
     ends = (1, omega arith, refl);
     source_fails = quiet SourceFailed SinkFailed source (λ e. cc) read;
@@ -172,8 +172,8 @@ module _ (built : Built) (words : List (List ℕ)) (source sink shelf : CountVal
     silent = λ silent. absurd (heard silent);
   }
 
-  pub call_without_memory : source.now ≡ source.before → sink.now ≡ sink.before → shelf.now ≡ shelf.before → SinkStays → (¬ Ask Reads built words → SourceStays) → (¬ Ask Opens built words → ShelfStays)
-      → IsCall built words OutOfMemory source sink shelf SourceStays SinkStays ShelfStays
+  pub call_without_memory : source.now ≡ source.before → sink.now ≡ sink.before → shelf.now ≡ shelf.before → SinkStays → (¬ Ask Reads words → SourceStays) → (¬ Ask Opens words → ShelfStays)
+      → IsCall words OutOfMemory source sink shelf SourceStays SinkStays ShelfStays
   call_without_memory read written kept stays unread unopened = record {
     ends = (0, omega arith, refl);
     source_fails = quiet SourceFailed OutOfMemory source (λ e. cc) read;
@@ -184,10 +184,10 @@ module _ (built : Built) (words : List (List ℕ)) (source sink shelf : CountVal
     silent = λ _. stays;
   }
 
-  pub call_unread : Ask Reads built words → Rose source.before source.now → sink.now ≡ sink.before → shelf.now ≡ shelf.before → SinkStays → ShelfStays
-      → IsCall built words SourceFailed source sink shelf SourceStays SinkStays ShelfStays
+  pub call_unread : Ask Reads words → Rose source.before source.now → sink.now ≡ sink.before → shelf.now ≡ shelf.before → SinkStays → ShelfStays
+      → IsCall words SourceFailed source sink shelf SourceStays SinkStays ShelfStays
   call_unread ask rose written kept stays untouched = record {
-    ends = behind_two OutOfMemory SinkFailed SourceFailed (ends_of (asked built words)) (subst (λ x. Contains (ends_of x) SourceFailed) (sym ask.is) (may_fail ask.command ask.such));
+    ends = behind_two OutOfMemory SinkFailed SourceFailed (ends_of (command_of words)) (subst (λ x. Contains (ends_of x) SourceFailed) (sym ask.is) (may_fail ask.command ask.such));
     source_fails = record { only = λ _. rose; kept = λ other. absurd (other refl) };
     sink_fails = quiet SinkFailed SourceFailed sink (λ e. cc) written;
     shelf_fails = quiet ShelfFailed SourceFailed shelf (λ e. cc) kept;
@@ -196,14 +196,14 @@ module _ (built : Built) (words : List (List ℕ)) (source sink shelf : CountVal
     silent = λ _. stays;
   }
 
-  pub call_unshelved : Ask Opens built words → source.now ≡ source.before → sink.now ≡ sink.before → Rose shelf.before shelf.now → SinkStays
-      → IsCall built words ShelfFailed source sink shelf SourceStays SinkStays ShelfStays
+  pub call_unshelved : Ask Opens words → source.now ≡ source.before → sink.now ≡ sink.before → Rose shelf.before shelf.now → SinkStays
+      → IsCall words ShelfFailed source sink shelf SourceStays SinkStays ShelfStays
   call_unshelved ask read written rose stays = record {
-    ends = behind_two OutOfMemory SinkFailed ShelfFailed (ends_of (asked built words)) (subst (λ x. Contains (ends_of x) ShelfFailed) (sym ask.is) (may_fail_shelf ask.command ask.such));
+    ends = behind_two OutOfMemory SinkFailed ShelfFailed (ends_of (command_of words)) (subst (λ x. Contains (ends_of x) ShelfFailed) (sym ask.is) (may_fail_shelf ask.command ask.such));
     source_fails = quiet SourceFailed ShelfFailed source (λ e. cc) read;
     sink_fails = quiet SinkFailed ShelfFailed sink (λ e. cc) written;
     shelf_fails = record { only = λ _. rose; kept = λ other. absurd (other refl) };
-    unread = λ none. absurd (none (asks_reads built words ask));
+    unread = λ none. absurd (none (asks_reads words ask));
     unopened = λ none. absurd (none ask);
     silent = λ _. stays;
   }
@@ -262,22 +262,22 @@ denial_of : (r : ReportValue) (status : Status) (text : List ℕ) → Says (Ok (
 denial_of r status text (inl says) e = let f : Done ≡ Denied = sym says.0 ∙ e in absurd (cc)
 denial_of r status text (inr says) e = says.1
 
-module _ (built : Built) (words : List (List ℕ)) (bytes : List ℕ) where
-  pub status_ended : (status : Status) (text : List ℕ) → Ends (asked built words) status → Says (due built words bytes) status text → StatusIsDue built words bytes status
+module _ (words : List (List ℕ)) (bytes : List ℕ) where
+  pub status_ended : (status : Status) (text : List ℕ) → Ends (command_of words) status → Says (due words bytes) status text → StatusIsDue words bytes status
   status_ended status text ends says = record {
     refused = λ r e. inl (says_refused _ status text r says e).0;
     done = λ t e. ends_well t status text (subst (λ x. Says x status text) e says);
     shelf_last = λ r _ e. ends.given (inr (inr (inr e)));
   }
 
-  pub status_free : (status : Status) → IsFree status → status ≢ ShelfFailed → StatusIsDue built words bytes status
+  pub status_free : (status : Status) → IsFree status → status ≢ ShelfFailed → StatusIsDue words bytes status
   status_free status free shelf = record { refused = λ r _. inr free; done = λ t _. ends_freely t status free; shelf_last = λ r _. shelf }
 
   -- the shelf failed behind every refusal
-  pub status_unshelved : ((r : Refusal) → due built words bytes ≡ Err r → ⊥) → StatusIsDue built words bytes ShelfFailed
+  pub status_unshelved : ((r : Refusal) → due words bytes ≡ Err r → ⊥) → StatusIsDue words bytes ShelfFailed
   status_unshelved last = record { refused = λ r e. absurd (last r e); done = λ t _. ends_freely t ShelfFailed (inr (inr (inr refl))); shelf_last = λ r e. absurd (last r e) }
 
-  pub text_ended : (before now : List ℕ) (status : Status) (text : List ℕ) → Ends (asked built words) status → Says (due built words bytes) status text → now ≡ before ++ text → TextIsDue built words bytes before now status
+  pub text_ended : (before now : List ℕ) (status : Status) (text : List ℕ) → Ends (command_of words) status → Says (due words bytes) status text → now ≡ before ++ text → TextIsDue words bytes before now status
   text_ended before now status text ends says written = record {
     line = λ r e _. written ∙ ap (λ end. before ++ end) (says_refused _ status text r says e).1;
     owed = λ t e done. (text, done_owed t status text (subst (λ x. Says x status text) e says) done, written);
@@ -285,33 +285,33 @@ module _ (built : Built) (words : List (List ℕ)) (bytes : List ℕ) where
     prefix = λ e. absurd (ends.given (inr (inr (inl e))));
   }
 
-  pub text_unwritten : (before now : List ℕ) (status : Status) (text : List ℕ) (count : ℕ) → Says (due built words bytes) status text → now ≡ before ++ take count text → TextIsDue built words bytes before now SinkFailed
+  pub text_unwritten : (before now : List ℕ) (status : Status) (text : List ℕ) (count : ℕ) → Says (due words bytes) status text → now ≡ before ++ take count text → TextIsDue words bytes before now SinkFailed
   text_unwritten before now status text count says written = record {
-    line = λ r e s. absurd (never_free built words bytes r e (inr (inr (inl (sym s)))));
+    line = λ r e s. absurd (never_free words bytes r e (inr (inr (inl (sym s)))));
     owed = λ t _ s. absurd (cc);
     denial = λ r _ s. absurd (cc);
     prefix = λ _. (text, count, is_due _ status text says, written);
   }
 
-  pub text_without_memory : (before now : List ℕ) → TextIsDue built words bytes before now OutOfMemory
+  pub text_without_memory : (before now : List ℕ) → TextIsDue words bytes before now OutOfMemory
   text_without_memory before now = record {
-    line = λ r e s. absurd (never_free built words bytes r e (inl (sym s)));
+    line = λ r e s. absurd (never_free words bytes r e (inl (sym s)));
     owed = λ t _ s. absurd (cc);
     denial = λ r _ s. absurd (cc);
     prefix = λ s. absurd (cc);
   }
 
-  pub text_unread : (before now : List ℕ) → TextIsDue built words bytes before now SourceFailed
+  pub text_unread : (before now : List ℕ) → TextIsDue words bytes before now SourceFailed
   text_unread before now = record {
-    line = λ r e s. absurd (never_free built words bytes r e (inr (inl (sym s))));
+    line = λ r e s. absurd (never_free words bytes r e (inr (inl (sym s))));
     owed = λ t _ s. absurd (cc);
     denial = λ r _ s. absurd (cc);
     prefix = λ s. absurd (cc);
   }
 
-  pub text_unshelved : (before now : List ℕ) → TextIsDue built words bytes before now ShelfFailed
+  pub text_unshelved : (before now : List ℕ) → TextIsDue words bytes before now ShelfFailed
   text_unshelved before now = record {
-    line = λ r e s. absurd (never_free built words bytes r e (inr (inr (inr (sym s)))));
+    line = λ r e s. absurd (never_free words bytes r e (inr (inr (inr (sym s)))));
     owed = λ t _ s. absurd (cc);
     denial = λ r _ s. absurd (cc);
     prefix = λ s. absurd (cc);

@@ -14,7 +14,6 @@ use Rattle.frontier_audit.specs.Auditing.{audit_of}
 use Rattle.frontier_audit.specs.Denials.{reason_number}
 use Rattle.frontier_audit.specs.Shelves.{ShelfRight}
 use Rattle.sccl_run.specs.declared.status.Status.TheVariants.{Denied, Done, SourceFailed}
-use Rattle.sccl_run.specs.Built.{so_far}
 use Rattle.sccl_run.specs.Asked.{Ask, Changes}
 use Rattle.sccl_run.specs.Refusals.{Refusal, refusal_line}
 use Rattle.sccl_run.specs.Tasks.{Task, Synthesise, Audit, audited, due, not_denied, task_of}
@@ -37,11 +36,11 @@ denial_status r files why e = by_verdict (audit_of r files) e
 module _ (words : List (List ℕ)) (bytes before now : List ℕ) (files after : Files) where
   -- a search that was done has written a text, and the files prove it
   WritesProved : Status → Type 0
-  WritesProved status = (w : WordsValue) (t : NamedTopologyValue) → due so_far words bytes ≡ Ok (Synthesise w t) → status ≡ Done → (text : List ℕ) × ProvesDue (due so_far words bytes) text files after × (now ≡ before ++ text)
+  WritesProved status = (w : WordsValue) (t : NamedTopologyValue) → due words bytes ≡ Ok (Synthesise w t) → status ≡ Done → (text : List ℕ) × ProvesDue (due words bytes) text files after × (now ≡ before ++ text)
 
   -- the audit of a report over the files, told by the status and a text that was written; or the run broke off
   WritesAudit : Status → Type 0
-  WritesAudit status = (r : ReportValue) → due so_far words bytes ≡ Ok (Audit r) → ((text : List ℕ) × Audits r status text files × (now ≡ before ++ text)) ⊎ (IsFree status × (status ≢ Done))
+  WritesAudit status = (r : ReportValue) → due words bytes ≡ Ok (Audit r) → ((text : List ℕ) × Audits r status text files × (now ≡ before ++ text)) ⊎ (IsFree status × (status ≢ Done))
 
   denied_so : (r : ReportValue) (why : Refusal) (status : Status) → audited r files ≡ Err why → ((text : List ℕ) × Audits r status text files × (now ≡ before ++ text)) ⊎ (IsFree status × (status ≢ Done)) → ((status ≡ Denied) × (now ≡ before ++ refusal_line why)) ⊎ IsFree status
   denied_so r why status e (inl wrote) =
@@ -57,8 +56,8 @@ module _ (words : List (List ℕ)) (bytes before now : List ℕ) (files after : 
   shelf_so r status done (inl wrote) = wrote.1.shelf done
   shelf_so r status done (inr free) = absurd (free.1 done)
 
-  files_due : (status : Status) → (¬ Ask Changes so_far words → FilesStay files after) → (status ≡ SourceFailed → FilesStay files after) → BeginsDue (due so_far words bytes) files after → WritesProved status → WritesAudit status
-      → FilesAreDue so_far words bytes before now files after status
+  files_due : (status : Status) → (¬ Ask Changes words → FilesStay files after) → (status ≡ SourceFailed → FilesStay files after) → BeginsDue (due words bytes) files after → WritesProved status → WritesAudit status
+      → FilesAreDue words bytes before now files after status
   unfolding WritesProved WritesAudit
   files_due status unchanged unread begins writes audit = record {
     unchanged = unchanged;
@@ -74,13 +73,13 @@ module _ (words : List (List ℕ)) (bytes before now : List ℕ) (files after : 
     shelf = λ r e done. shelf_so r status done (audit r e);
   }
 
-  pub files_ended : (status : Status) (text : List ℕ) → (status ≢ SourceFailed) → (¬ Ask Changes so_far words → FilesStay files after) → BeginsDue (due so_far words bytes) files after → ProvesDue (due so_far words bytes) text files after → AuditsDue (due so_far words bytes) status text files → now ≡ before ++ text
-      → FilesAreDue so_far words bytes before now files after status
+  pub files_ended : (status : Status) (text : List ℕ) → (status ≢ SourceFailed) → (¬ Ask Changes words → FilesStay files after) → BeginsDue (due words bytes) files after → ProvesDue (due words bytes) text files after → AuditsDue (due words bytes) status text files → now ≡ before ++ text
+      → FilesAreDue words bytes before now files after status
   unfolding WritesProved WritesAudit
   files_ended status text read unchanged begins proves audits written = files_due status unchanged (λ e. absurd (read e)) begins (λ w t asks done. (text, proves, written)) (λ r e. inl (text, audits r e, written))
 
-  pub files_broken : (status : Status) → IsFree status → (status ≢ Done) → (¬ Ask Changes so_far words → FilesStay files after) → (status ≡ SourceFailed → FilesStay files after) → BeginsDue (due so_far words bytes) files after
-      → FilesAreDue so_far words bytes before now files after status
+  pub files_broken : (status : Status) → IsFree status → (status ≢ Done) → (¬ Ask Changes words → FilesStay files after) → (status ≡ SourceFailed → FilesStay files after) → BeginsDue (due words bytes) files after
+      → FilesAreDue words bytes before now files after status
   unfolding WritesProved WritesAudit
   files_broken status free broken unchanged unread begins = files_due status unchanged unread begins (λ w t asks done. absurd (broken done)) (λ r e. inr (free, broken))
 

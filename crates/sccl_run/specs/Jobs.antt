@@ -1,4 +1,4 @@
--- The commands that are built, as the code has them.
+-- What is done, as the code has it.
 use Rattle.command_words.specs.declared.command.Command.{Command}
 use Rattle.command_words.specs.declared.command.Command.TheVariants as command
 use Rattle.sccl_run.specs.declared.jobs.Job.{Job}
@@ -15,3 +15,4 @@ command_of_text (text_job.Programs w) = command.Programs w.point w.word
 abbrev pub command_of_job : Job → Command
 command_of_job (job.Family kind size) = command.Family kind size
 command_of_job (job.Text t) = command_of_text t
+command_of_job (job.Trial n) = command.Trial n

@@ -27,8 +27,7 @@ use Rattle.command_words.specs.declared.fault.WordFault.{WordFault}
 use Rattle.command_words.specs.Codes.{number_of as word_number}
 use Rattle.sccl_run.specs.declared.status.Status.TheVariants.{BadWords, BadTopology, BadReport, Denied, TooLarge, NoCandidate, TooLong}
 use Rattle.sccl_run.specs.Refusals.{Refusal, refused_at, refused_as}
-use Rattle.sccl_run.specs.Built.{Built}
-use Rattle.sccl_run.specs.Asked.{asked}
+use Rattle.command_words.specs.Words.{command_of}
 use Rattle.round_encoding.specs.Candidates.{size_limit}
 use Rattle.candidate_formula.specs.Sizes.{size_of}
 
@@ -143,9 +142,9 @@ words_asked (Ok c) = Ok c
 words_asked (Err fault) = Err (refused_at BadWords (word_number fault.code) fault.word)
 
 -- the task, or the first refusal, as far as words and bytes decide
-unfoldable pub due : Built → List (List ℕ) → List ℕ → Result Task Refusal
-due built words bytes = do
-  command ← words_asked (asked built words)
+unfoldable pub due : List (List ℕ) → List ℕ → Result Task Refusal
+due words bytes = do
+  command ← words_asked (command_of words)
   task_of command bytes
 
 -- ---- what the files decide

@@ -1,12 +1,11 @@
 //! The answers to what the source gives.
 
-ghost use Rattle.std.specs.Prelude.{◌≡◌, ◌≢◌, ◌⊎◌, ◌+◌, ◌<◌, ◌≤◌, ℕ, true, length, IsTrue, Err, Ok, IfOk, IfSome, IfNone, OnOk, drop};
+ghost use Rattle.std.specs.Prelude.{◌≡◌, ◌≢◌, ◌⊎◌, ◌+◌, ◌<◌, ◌≤◌, ℕ, length, IsTrue, Err, Ok, IfOk, IfSome, IfNone, OnOk, drop};
 ghost use Rattle.outer_ports.specs.Port.{HasCause, Rose, Tells};
 ghost use Rattle.outer_ports.specs.Shelf.{FilesStay};
 ghost use Rattle.command_words.specs.Commands.{IsProper};
 ghost use Rattle.sccl_run.specs.Answering.{AuditsDue, BeginsDue, Ends, ProvesDue, Says};
 ghost use Rattle.sccl_run.specs.Asked.{Changes, Opens};
-ghost use Rattle.sccl_run.specs.Built.{is_built};
 ghost use Rattle.sccl_run.specs.Jobs.{command_of_text};
 ghost use Rattle.sccl_run.specs.Refusals.{Refusal};
 ghost use Rattle.sccl_run.specs.Tasks.{limit, task_of};
@@ -52,7 +51,6 @@ fn text_answer<H: Shelf>(
 ) -> Result<Answer, Halt>
     requires short { length bytes.now ≤ limit }
     requires proper { IsProper (command_of_text job) }
-    requires built { is_built (command_of_text job) ≡ true }
     ensures source { result ≢ Err Halt.Source }
     ensures says { IfOk result (λ a. Says (task_of (command_of_text job) bytes.now) a.status a.text.items) }
     ensures told { Tells (H.tells shelf.old) (H.tells shelf.new) }
@@ -81,8 +79,7 @@ pub fn source_answer<I: Source, H: Shelf>(
     source: &mut I,
     shelf: &mut H,
 ) -> Result<Answer, Halt>
-    requires proper { IsProper (command_of_text job) }
-    requires built { is_built (command_of_text job) ≡ true }
+    requires { IsProper (command_of_text job) }
     ensures told { Tells (I.tells source.old) (I.tells source.new) }
     ensures failed { result ≡ Err Halt.Source → Rose (I.faults source.old) (I.faults source.new) }
     ensures kept { result ≢ Err Halt.Source → I.faults source.new ≡ I.faults source.old }

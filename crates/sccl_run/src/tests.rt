@@ -17,6 +17,7 @@ mod reports;
 mod search_files;
 mod searches;
 mod texts;
+mod trials;
 
 fn words(alloc: Global, all: &[&str]) -> Result<Vec<String>, AllocError> {
     let mut words = Vec::new(alloc);
