@@ -4,22 +4,41 @@ use Rattle.outer_ports.specs.Port.{Rose}
 use Rattle.command_words.specs.declared.command.Command.{Command}
 use Rattle.command_words.specs.declared.command.Command.TheVariants as command
 use Rattle.command_words.specs.declared.fault.WordFault.{WordFault}
+use Rattle.command_words.specs.Words.{command_of}
+use Rattle.report_form.specs.Reports.{ReportValue}
 use Rattle.sccl_run.specs.declared.status.Status.{Status}
 use Rattle.sccl_run.specs.declared.status.Status.TheVariants.{Done, OutOfMemory, BadWords, BadTopology, SourceFailed, SinkFailed, ShelfFailed, BadReport, Denied, TooLarge, NoCandidate, TooLong}
-use Rattle.sccl_run.specs.Built.{Built}
-use Rattle.sccl_run.specs.Asked.{Ask, Opens, Reads, asked}
+use Rattle.sccl_run.specs.Asked.{Ask, Opens, Reads}
 use Rattle.sccl_run.specs.Refusals.{Refusal, refusal_line}
 use Rattle.sccl_run.specs.Tasks.{Task, Synthesise, Audit, Replay, Program, Family, Try, audit_asked, due, programmed, replayed, synthesis_of, task_of}
 use Rattle.sccl_run.specs.Owed.{Owed}
 use Rattle.sccl_run.specs.TopCall.{CountValue, EndsIfItFails, EndsTask, IsCall, IsDenial, IsDue, IsFree, IsSilent, StatusIsDue, TextIsDue, ends_of}
 use Rattle.sccl_run.specs.Answering.{Ends, Says}
-use Rattle.sccl_run.proofs.Refused.{With, check_ends, done_given, large_given, long_given, never_free, none_given, programs_end, replay_ends, report_given, synth_ends, topology_given, words_given}
+use Rattle.sccl_run.proofs.IfDue.{IfDue}
+use Rattle.sccl_run.proofs.Tasked.{NotAudit, no_audit}
+use Rattle.sccl_run.proofs.Refused.{With, check_ends, denied_given, done_given, large_given, long_given, never_free, none_given, programs_end, replay_ends, report_given, synth_ends, topology_given, words_given}
 
 -- ---- with which status an answer ends
 
-says_with : (P : Status → Type 0) (x : Result Task Refusal) (status : Status) (text : List ℕ) → With P x → P Done → Says x status text → P status
-says_with P (Ok t) status text held done says = subst P (sym says.0) done
-says_with P (Err r) status text held done says = subst P (sym says.0) held
+says_with : (P : Status → Type 0) (x : Result Task Refusal) (status : Status) (text : List ℕ) → With P x → IfDue NotAudit x → P Done → Says x status text → P status
+says_with P (Ok (Synthesise w t)) status text held other done says = subst P (sym says.0) done
+says_with P (Ok (Audit r)) status text held other done says = absurd other
+says_with P (Ok (Replay r n p o)) status text held other done says = subst P (sym says.0) done
+says_with P (Ok (Program r n p)) status text held other done says = subst P (sym says.0) done
+says_with P (Ok (Family k n)) status text held other done says = subst P (sym says.0) done
+says_with P (Ok (Try n)) status text held other done says = subst P (sym says.0) done
+says_with P (Err r) status text held other done says = subst P (sym says.0) held
+
+-- or it denies
+denies_with : (P : Status → Type 0) (x : Result Task Refusal) (status : Status) (text : List ℕ) → With P x → P Done → P Denied → Says x status text → P status
+denies_with P (Ok (Synthesise w t)) status text held done denied says = subst P (sym says.0) done
+denies_with P (Ok (Audit r)) status text held done denied (inl says) = subst P (sym says.0) done
+denies_with P (Ok (Audit r)) status text held done denied (inr says) = subst P (sym says.0) denied
+denies_with P (Ok (Replay r n p o)) status text held done denied says = subst P (sym says.0) done
+denies_with P (Ok (Program r n p)) status text held done denied says = subst P (sym says.0) done
+denies_with P (Ok (Family k n)) status text held done denied says = subst P (sym says.0) done
+denies_with P (Ok (Try n)) status text held done denied says = subst P (sym says.0) done
+denies_with P (Err r) status text held done denied says = subst P (sym says.0) held
 
 -- an answer to a text
 pub text_ends_so : (c : Command) (bytes : List ℕ) (status : Status) (text : List ℕ) → Reads c → Says (task_of c bytes) status text → Ends (Ok c) status
@@ -31,29 +50,30 @@ text_ends_so (command.Synth kind word limits root) bytes status text reads says 
     let large : P TooLarge = record { one = (5, omega arith, refl); given = large_given } in
     let none : P NoCandidate = record { one = (6, omega arith, refl); given = none_given } in
     let long : P TooLong = record { one = (7, omega arith, refl); given = long_given } in
-    says_with P (synthesis_of kind word limits root bytes) status text (synth_ends P long words topology large none kind word limits root bytes) done says
+    says_with P (synthesis_of kind word limits root bytes) status text (synth_ends P long words topology large none kind word limits root bytes) (no_audit (command.Synth kind word limits root) bytes (λ no. no)) done says
 text_ends_so command.Check bytes status text reads says =
     let P : Status → Type 0 = Ends (Ok command.Check) in
     let done : P Done = record { one = (0, omega arith, refl); given = done_given } in
     let report : P BadReport = record { one = (3, omega arith, refl); given = report_given } in
+    let denied : P Denied = record { one = (4, omega arith, refl); given = denied_given } in
     let large : P TooLarge = record { one = (5, omega arith, refl); given = large_given } in
     let none : P NoCandidate = record { one = (6, omega arith, refl); given = none_given } in
     let long : P TooLong = record { one = (7, omega arith, refl); given = long_given } in
-    says_with P (audit_asked bytes) status text (check_ends P long report large none bytes) done says
+    denies_with P (audit_asked bytes) status text (check_ends P long report large none bytes) done denied says
 text_ends_so (command.Replay number word order) bytes status text reads says =
     let P : Status → Type 0 = Ends (Ok (command.Replay number word order)) in
     let done : P Done = record { one = (0, omega arith, refl); given = done_given } in
     let words : P BadWords = record { one = (1, omega arith, refl); given = words_given } in
     let report : P BadReport = record { one = (3, omega arith, refl); given = report_given } in
     let long : P TooLong = record { one = (4, omega arith, refl); given = long_given } in
-    says_with P (replayed number word order bytes) status text (replay_ends P long report words number word order bytes) done says
+    says_with P (replayed number word order bytes) status text (replay_ends P long report words number word order bytes) (no_audit (command.Replay number word order) bytes (λ no. no)) done says
 text_ends_so (command.Programs number word) bytes status text reads says =
     let P : Status → Type 0 = Ends (Ok (command.Programs number word)) in
     let done : P Done = record { one = (0, omega arith, refl); given = done_given } in
     let words : P BadWords = record { one = (1, omega arith, refl); given = words_given } in
     let report : P BadReport = record { one = (3, omega arith, refl); given = report_given } in
     let long : P TooLong = record { one = (4, omega arith, refl); given = long_given } in
-    says_with P (programmed number word bytes) status text (programs_end P long report words number word bytes) done says
+    says_with P (programmed number word bytes) status text (programs_end P long report words number word bytes) (no_audit (command.Programs number word) bytes (λ no. no)) done says
 text_ends_so (command.Family kind size) bytes status text reads says = absurd reads
 text_ends_so (command.Trial n) bytes status text reads says = absurd reads
 
@@ -69,13 +89,13 @@ long_ends_so c status reads e = subst (Ends (Ok c)) (sym e) (record { one = may_
     may_be_long (command.Family kind size) reads = absurd reads
     may_be_long (command.Trial n) reads = absurd reads
 
-pub words_end_so : (built : Built) (words : List (List ℕ)) (fault : WordFault) (status : Status) → asked built words ≡ Err fault → status ≡ BadWords → Ends (asked built words) status
-words_end_so built words fault status refused e =
+pub words_end_so : (words : List (List ℕ)) (fault : WordFault) (status : Status) → command_of words ≡ Err fault → status ≡ BadWords → Ends (command_of words) status
+words_end_so words fault status refused e =
     let own : Ends (Err fault) BadWords = record { one = (0, omega arith, refl); given = words_given } in
     subst (λ x. Ends x status) (sym refused) (subst (Ends (Err fault)) (sym e) own)
 
-pub family_ends_so : (built : Built) (words : List (List ℕ)) (kind : _) (size : ℕ) (status : Status) → asked built words ≡ Ok (command.Family kind size) → status ≡ Done → Ends (asked built words) status
-family_ends_so built words kind size status family e =
+pub family_ends_so : (words : List (List ℕ)) (kind : _) (size : ℕ) (status : Status) → command_of words ≡ Ok (command.Family kind size) → status ≡ Done → Ends (command_of words) status
+family_ends_so words kind size status family e =
     let own : Ends (Ok (command.Family kind size)) Done = record { one = (0, omega arith, refl); given = done_given } in
     subst (λ x. Ends x status) (sym family) (subst (Ends (Ok (command.Family kind size))) (sym e) own)
 
@@ -111,8 +131,8 @@ open_reads (command.Programs number word) opens = absurd opens
 open_reads (command.Family kind size) opens = absurd opens
 open_reads (command.Trial n) opens = absurd opens
 
-pub asks_reads : (built : Built) (words : List (List ℕ)) → Ask Opens built words → Ask Reads built words
-asks_reads built words ask = record { command = ask.command; is = ask.is; such = open_reads ask.command ask.such }
+pub asks_reads : (words : List (List ℕ)) → Ask Opens words → Ask Reads words
+asks_reads words ask = record { command = ask.command; is = ask.is; such = open_reads ask.command ask.such }
 
 quiet : (failed status : Status) (count : CountValue) → status ≢ failed → count.now ≡ count.before → EndsIfItFails failed status count
 quiet failed status count other same = record { only = λ e. absurd (other e); kept = λ _. same }
@@ -127,11 +147,11 @@ free status (inl e) = inl e
 free status (inr (inl e)) = inr (inl e)
 free status (inr (inr e)) = inr (inr (inr e))
 
-module _ (built : Built) (words : List (List ℕ)) (source sink shelf : CountValue) (SourceStays SinkStays ShelfStays : Type 0) where
-  pub call_ended : (status : Status) → Ends (asked built words) status → source.now ≡ source.before → sink.now ≡ sink.before → shelf.now ≡ shelf.before → (¬ Ask Reads built words → SourceStays) → (¬ Ask Opens built words → ShelfStays)
-      → IsCall built words status source sink shelf SourceStays SinkStays ShelfStays
+module _ (words : List (List ℕ)) (source sink shelf : CountValue) (SourceStays SinkStays ShelfStays : Type 0) where
+  pub call_ended : (status : Status) → Ends (command_of words) status → source.now ≡ source.before → sink.now ≡ sink.before → shelf.now ≡ shelf.before → (¬ Ask Reads words → SourceStays) → (¬ Ask Opens words → ShelfStays)
+      → IsCall words status source sink shelf SourceStays SinkStays ShelfStays
   call_ended status ends read written kept unread unopened = record {
-    ends = behind_two OutOfMemory SinkFailed status (ends_of (asked built words)) ends.one;
+    ends = behind_two OutOfMemory SinkFailed status (ends_of (command_of words)) ends.one;
     source_fails = quiet SourceFailed status source (λ e. ends.given (inr (inl e))) read;
     sink_fails = quiet SinkFailed status sink (λ e. ends.given (inr (inr (inl e)))) written;
     shelf_fails = quiet ShelfFailed status shelf (λ e. ends.given (inr (inr (inr e)))) kept;
@@ -140,8 +160,8 @@ module _ (built : Built) (words : List (List ℕ)) (source sink shelf : CountVal
     silent = λ silent. absurd (ends.given (free status silent));
   }
 
-  pub call_unwritten : source.now ≡ source.before → Rose sink.before sink.now → shelf.now ≡ shelf.before → (¬ Ask Reads built words → SourceStays) → (¬ Ask Opens built words → ShelfStays)
-      → IsCall built words SinkFailed source sink shelf SourceStays SinkStays ShelfStays
+  pub call_unwritten : source.now ≡ source.before → Rose sink.before sink.now → shelf.now ≡ shelf.before → (¬ Ask Reads words → SourceStays) → (¬ Ask Opens words → ShelfStays)
+      → IsCall words SinkFailed source sink shelf SourceStays SinkStays ShelfStays
   call_unwritten read rose kept unread unopened = record {
     ends = (1, omega arith, refl);
     source_fails = quiet SourceFailed SinkFailed source (λ e. cc) read;
@@ -152,8 +172,8 @@ module _ (built : Built) (words : List (List ℕ)) (source sink shelf : CountVal
     silent = λ silent. absurd (heard silent);
   }
 
-  pub call_without_memory : source.now ≡ source.before → sink.now ≡ sink.before → shelf.now ≡ shelf.before → SinkStays → (¬ Ask Reads built words → SourceStays) → (¬ Ask Opens built words → ShelfStays)
-      → IsCall built words OutOfMemory source sink shelf SourceStays SinkStays ShelfStays
+  pub call_without_memory : source.now ≡ source.before → sink.now ≡ sink.before → shelf.now ≡ shelf.before → SinkStays → (¬ Ask Reads words → SourceStays) → (¬ Ask Opens words → ShelfStays)
+      → IsCall words OutOfMemory source sink shelf SourceStays SinkStays ShelfStays
   call_without_memory read written kept stays unread unopened = record {
     ends = (0, omega arith, refl);
     source_fails = quiet SourceFailed OutOfMemory source (λ e. cc) read;
@@ -164,10 +184,10 @@ module _ (built : Built) (words : List (List ℕ)) (source sink shelf : CountVal
     silent = λ _. stays;
   }
 
-  pub call_unread : Ask Reads built words → Rose source.before source.now → sink.now ≡ sink.before → shelf.now ≡ shelf.before → SinkStays → ShelfStays
-      → IsCall built words SourceFailed source sink shelf SourceStays SinkStays ShelfStays
+  pub call_unread : Ask Reads words → Rose source.before source.now → sink.now ≡ sink.before → shelf.now ≡ shelf.before → SinkStays → ShelfStays
+      → IsCall words SourceFailed source sink shelf SourceStays SinkStays ShelfStays
   call_unread ask rose written kept stays untouched = record {
-    ends = behind_two OutOfMemory SinkFailed SourceFailed (ends_of (asked built words)) (subst (λ x. Contains (ends_of x) SourceFailed) (sym ask.is) (may_fail ask.command ask.such));
+    ends = behind_two OutOfMemory SinkFailed SourceFailed (ends_of (command_of words)) (subst (λ x. Contains (ends_of x) SourceFailed) (sym ask.is) (may_fail ask.command ask.such));
     source_fails = record { only = λ _. rose; kept = λ other. absurd (other refl) };
     sink_fails = quiet SinkFailed SourceFailed sink (λ e. cc) written;
     shelf_fails = quiet ShelfFailed SourceFailed shelf (λ e. cc) kept;
@@ -176,14 +196,14 @@ module _ (built : Built) (words : List (List ℕ)) (source sink shelf : CountVal
     silent = λ _. stays;
   }
 
-  pub call_unshelved : Ask Opens built words → source.now ≡ source.before → sink.now ≡ sink.before → Rose shelf.before shelf.now → SinkStays
-      → IsCall built words ShelfFailed source sink shelf SourceStays SinkStays ShelfStays
+  pub call_unshelved : Ask Opens words → source.now ≡ source.before → sink.now ≡ sink.before → Rose shelf.before shelf.now → SinkStays
+      → IsCall words ShelfFailed source sink shelf SourceStays SinkStays ShelfStays
   call_unshelved ask read written rose stays = record {
-    ends = behind_two OutOfMemory SinkFailed ShelfFailed (ends_of (asked built words)) (subst (λ x. Contains (ends_of x) ShelfFailed) (sym ask.is) (may_fail_shelf ask.command ask.such));
+    ends = behind_two OutOfMemory SinkFailed ShelfFailed (ends_of (command_of words)) (subst (λ x. Contains (ends_of x) ShelfFailed) (sym ask.is) (may_fail_shelf ask.command ask.such));
     source_fails = quiet SourceFailed ShelfFailed source (λ e. cc) read;
     sink_fails = quiet SinkFailed ShelfFailed sink (λ e. cc) written;
     shelf_fails = record { only = λ _. rose; kept = λ other. absurd (other refl) };
-    unread = λ none. absurd (none (asks_reads built words ask));
+    unread = λ none. absurd (none (asks_reads words ask));
     unopened = λ none. absurd (none ask);
     silent = λ _. stays;
   }
@@ -201,16 +221,24 @@ part_appended_as before now text other count appended same = subst (λ end. now 
 says_refused : (x : Result Task Refusal) (status : Status) (text : List ℕ) (r : Refusal) → Says x status text → x ≡ Err r → (status ≡ r.status) × (text ≡ refusal_line r)
 says_refused x status text r says e = subst (λ y. Says y status text) e says
 
-says_done : (x : Result Task Refusal) (status : Status) (text : List ℕ) (t : Task) → Says x status text → x ≡ Ok t → (status ≡ Done) × Owed t text
-says_done x status text t says e = subst (λ y. Says y status text) e says
+-- what is done ends well, or denies
+ends_well : (t : Task) (status : Status) (text : List ℕ) → Says (Ok t) status text → EndsTask t status
+ends_well (Synthesise w t) status text says = inl says.0
+ends_well (Audit r) status text (inl says) = inl says.0
+ends_well (Audit r) status text (inr says) = inr (inl says.0)
+ends_well (Replay r n p o) status text says = inl says.0
+ends_well (Program r n p) status text says = inl says.0
+ends_well (Family k n) status text says = inl says.0
+ends_well (Try n) status text says = inl says.0
 
-ends_well : (t : Task) (status : Status) → status ≡ Done → EndsTask t status
-ends_well (Synthesise w t) status e = inl e
-ends_well (Audit r) status e = inl e
-ends_well (Replay r n p o) status e = inl e
-ends_well (Program r n p) status e = inl e
-ends_well (Family k n) status e = inl e
-ends_well (Try n) status e = inl e
+done_owed : (t : Task) (status : Status) (text : List ℕ) → Says (Ok t) status text → status ≡ Done → Owed t text
+done_owed (Synthesise w t) status text says done = says.1
+done_owed (Audit r) status text (inl says) done = says.1
+done_owed (Audit r) status text (inr says) done = let e : Denied ≡ Done = sym says.0 ∙ done in absurd (cc)
+done_owed (Replay r n p o) status text says done = says.1
+done_owed (Program r n p) status text says done = says.1
+done_owed (Family k n) status text says done = says.1
+done_owed (Try n) status text says done = says.1
 
 ends_freely : (t : Task) (status : Status) → IsFree status → EndsTask t status
 ends_freely (Synthesise w t) status e = inr e
@@ -222,68 +250,69 @@ ends_freely (Try n) status e = inr e
 
 is_due : (x : Result Task Refusal) (status : Status) (text : List ℕ) → Says x status text → IsDue x text
 is_due (Err r) status text says = says.1
-is_due (Ok (Audit r)) status text says = inl says.1
+is_due (Ok (Audit r)) status text (inl says) = inl says.1
+is_due (Ok (Audit r)) status text (inr says) = inr says.1
 is_due (Ok (Synthesise w t)) status text says = says.1
 is_due (Ok (Replay r n p o)) status text says = says.1
 is_due (Ok (Program r n p)) status text says = says.1
 is_due (Ok (Family k n)) status text says = says.1
 is_due (Ok (Try n)) status text says = says.1
 
-denial_of : (x : Result Task Refusal) (status : Status) (text : List ℕ) → Says x status text → status ≡ Denied → IsDenial text
-denial_of (Err r) status text says e = record { refusal = r; denied = sym says.0 ∙ e; line = says.1 }
-denial_of (Ok t) status text says e = let f : Done ≡ Denied = sym says.0 ∙ e in absurd (cc)
+denial_of : (r : ReportValue) (status : Status) (text : List ℕ) → Says (Ok (Audit r)) status text → status ≡ Denied → IsDenial r text
+denial_of r status text (inl says) e = let f : Done ≡ Denied = sym says.0 ∙ e in absurd (cc)
+denial_of r status text (inr says) e = says.1
 
-module _ (built : Built) (words : List (List ℕ)) (bytes : List ℕ) where
-  pub status_ended : (status : Status) (text : List ℕ) → Ends (asked built words) status → Says (due built words bytes) status text → StatusIsDue built words bytes status
+module _ (words : List (List ℕ)) (bytes : List ℕ) where
+  pub status_ended : (status : Status) (text : List ℕ) → Ends (command_of words) status → Says (due words bytes) status text → StatusIsDue words bytes status
   status_ended status text ends says = record {
     refused = λ r e. inl (says_refused _ status text r says e).0;
-    done = λ t e. ends_well t status (says_done _ status text t says e).0;
+    done = λ t e. ends_well t status text (subst (λ x. Says x status text) e says);
     shelf_last = λ r _ e. ends.given (inr (inr (inr e)));
   }
 
-  pub status_free : (status : Status) → IsFree status → status ≢ ShelfFailed → StatusIsDue built words bytes status
+  pub status_free : (status : Status) → IsFree status → status ≢ ShelfFailed → StatusIsDue words bytes status
   status_free status free shelf = record { refused = λ r _. inr free; done = λ t _. ends_freely t status free; shelf_last = λ r _. shelf }
 
   -- the shelf failed behind every refusal
-  pub status_unshelved : ((r : Refusal) → due built words bytes ≡ Err r → ⊥) → StatusIsDue built words bytes ShelfFailed
+  pub status_unshelved : ((r : Refusal) → due words bytes ≡ Err r → ⊥) → StatusIsDue words bytes ShelfFailed
   status_unshelved last = record { refused = λ r e. absurd (last r e); done = λ t _. ends_freely t ShelfFailed (inr (inr (inr refl))); shelf_last = λ r e. absurd (last r e) }
 
-  pub text_ended : (before now : List ℕ) (status : Status) (text : List ℕ) → Ends (asked built words) status → Says (due built words bytes) status text → now ≡ before ++ text → TextIsDue built words bytes before now status
+  pub text_ended : (before now : List ℕ) (status : Status) (text : List ℕ) → Ends (command_of words) status → Says (due words bytes) status text → now ≡ before ++ text → TextIsDue words bytes before now status
   text_ended before now status text ends says written = record {
     line = λ r e _. written ∙ ap (λ end. before ++ end) (says_refused _ status text r says e).1;
-    owed = λ t e _. (text, (says_done _ status text t says e).1, written);
-    denial = λ e. (text, denial_of _ status text says e, written);
+    owed = λ t e done. (text, done_owed t status text (subst (λ x. Says x status text) e says) done, written);
+    denial = λ r e denied. (text, denial_of r status text (subst (λ x. Says x status text) e says) denied, written);
     prefix = λ e. absurd (ends.given (inr (inr (inl e))));
   }
 
-  pub text_unwritten : (before now : List ℕ) (status : Status) (text : List ℕ) (count : ℕ) → Says (due built words bytes) status text → now ≡ before ++ take count text → TextIsDue built words bytes before now SinkFailed
+  pub text_unwritten : (before now : List ℕ) (status : Status) (text : List ℕ) (count : ℕ) → Says (due words bytes) status text → now ≡ before ++ take count text → TextIsDue words bytes before now SinkFailed
   text_unwritten before now status text count says written = record {
-    line = λ r e s. absurd (never_free built words bytes r e (inr (inr (inl (sym s)))));
+    line = λ r e s. absurd (never_free words bytes r e (inr (inr (inl (sym s)))));
     owed = λ t _ s. absurd (cc);
-    denial = λ s. absurd (cc);
+    denial = λ r _ s. absurd (cc);
     prefix = λ _. (text, count, is_due _ status text says, written);
   }
 
-  pub text_without_memory : (before now : List ℕ) → TextIsDue built words bytes before now OutOfMemory
+  pub text_without_memory : (before now : List ℕ) → TextIsDue words bytes before now OutOfMemory
   text_without_memory before now = record {
-    line = λ r e s. absurd (never_free built words bytes r e (inl (sym s)));
+    line = λ r e s. absurd (never_free words bytes r e (inl (sym s)));
     owed = λ t _ s. absurd (cc);
-    denial = λ s. absurd (cc);
+    denial = λ r _ s. absurd (cc);
     prefix = λ s. absurd (cc);
   }
 
-  pub text_unread : (before now : List ℕ) → TextIsDue built words bytes before now SourceFailed
+  pub text_unread : (before now : List ℕ) → TextIsDue words bytes before now SourceFailed
   text_unread before now = record {
-    line = λ r e s. absurd (never_free built words bytes r e (inr (inl (sym s))));
+    line = λ r e s. absurd (never_free words bytes r e (inr (inl (sym s))));
     owed = λ t _ s. absurd (cc);
-    denial = λ s. absurd (cc);
+    denial = λ r _ s. absurd (cc);
     prefix = λ s. absurd (cc);
   }
 
-  pub text_unshelved : (before now : List ℕ) → TextIsDue built words bytes before now ShelfFailed
+  pub text_unshelved : (before now : List ℕ) → TextIsDue words bytes before now ShelfFailed
   text_unshelved before now = record {
-    line = λ r e s. absurd (never_free built words bytes r e (inr (inr (inr (sym s)))));
+    line = λ r e s. absurd (never_free words bytes r e (inr (inr (inr (sym s)))));
     owed = λ t _ s. absurd (cc);
-    denial = λ s. absurd (cc);
+    denial = λ r _ s. absurd (cc);
     prefix = λ s. absurd (cc);
   }

@@ -10,20 +10,19 @@ use Rattle.command_words.specs.declared.command.Command.TheVariants as command
 use Rattle.command_words.specs.Words.{command_of}
 use Rattle.report_form.specs.Reports.{WordsValue, ReportValue}
 use Rattle.sccl_run.specs.declared.status.Status.{Status}
-use Rattle.sccl_run.specs.declared.status.Status.TheVariants.{Done, OutOfMemory, SourceFailed, SinkFailed, ShelfFailed, Denied}
+use Rattle.sccl_run.specs.declared.status.Status.TheVariants.{Done, OutOfMemory, SourceFailed, SinkFailed, ShelfFailed}
 use Rattle.sccl_run.specs.Refusals.{Refusal}
-use Rattle.sccl_run.specs.Built.{everything}
-use Rattle.sccl_run.specs.Asked.{Ask, Reads, asked}
+use Rattle.sccl_run.specs.Asked.{Ask, Reads}
 use Rattle.sccl_run.specs.Tasks.{Task, Synthesise, Audit, Family, due}
 use Rattle.sccl_run.specs.Owed.{Owed}
 use Rattle.sccl_run.specs.TopCall.{CountValue, IsRun, IsSilent, EndsTask, EndsIfItFails, ends_of}
 use Rattle.sccl_run.specs.Rows.{all_tell, family_run, two_nodes_text}
 
-is_asked : asked everything family_run.words ≡ Ok (command.Family Line 2)
+is_asked : command_of family_run.words ≡ Ok (command.Family Line 2)
 unfolding command_of digits
 is_asked = refl
 
-is_due : due everything family_run.words family_run.bytes ≡ Ok (Family Line 2)
+is_due : due family_run.words family_run.bytes ≡ Ok (Family Line 2)
 unfolding due command_of digits
 is_due = refl
 
@@ -32,28 +31,28 @@ unfolding spelling digits
 text = refl
 
 -- the words ask for a family alone
-asks_such : (P : Command → Type 0) → (P (command.Family Line 2) → ⊥) → Ask P everything family_run.words → ⊥
+asks_such : (P : Command → Type 0) → (P (command.Family Line 2) → ⊥) → Ask P family_run.words → ⊥
 asks_such P none ask =
     let e : Ok (command.Family Line 2) ≡ Ok ask.command = sym is_asked ∙ ask.is in
     let same : command.Family Line 2 ≡ ask.command = cc in
     none (subst P (sym same) ask.such)
 
-no_refusal : (r : Refusal) → due everything family_run.words family_run.bytes ≡ Err r → ⊥
+no_refusal : (r : Refusal) → due family_run.words family_run.bytes ≡ Err r → ⊥
 no_refusal r e = let f : Ok (Family Line 2) ≡ Err r = sym is_due ∙ e in absurd (cc)
 
-is_family : (t : Task) → due everything family_run.words family_run.bytes ≡ Ok t → Family Line 2 ≡ t
+is_family : (t : Task) → due family_run.words family_run.bytes ≡ Ok t → Family Line 2 ≡ t
 is_family t e = let f : Ok (Family Line 2) ≡ Ok t = sym is_due ∙ e in cc
 
-not_search : (w : WordsValue) (t : NamedTopologyValue) → due everything family_run.words family_run.bytes ≡ Ok (Synthesise w t) → ⊥
+not_search : (w : WordsValue) (t : NamedTopologyValue) → due family_run.words family_run.bytes ≡ Ok (Synthesise w t) → ⊥
 not_search w t e = let f : Family Line 2 ≡ Synthesise w t = is_family _ e in absurd (cc)
 
-not_audit : (r : ReportValue) → due everything family_run.words family_run.bytes ≡ Ok (Audit r) → ⊥
+not_audit : (r : ReportValue) → due family_run.words family_run.bytes ≡ Ok (Audit r) → ⊥
 not_audit r e = let f : Family Line 2 ≡ Audit r = is_family _ e in absurd (cc)
 
-ended : (t : Task) → due everything family_run.words family_run.bytes ≡ Ok t → EndsTask t Done
+ended : (t : Task) → due family_run.words family_run.bytes ≡ Ok t → EndsTask t Done
 ended t e = let own : EndsTask (Family Line 2) Done = inl refl in subst (λ task. EndsTask task Done) (is_family t e) own
 
-owed : (t : Task) → due everything family_run.words family_run.bytes ≡ Ok t → (text : List ℕ) × Owed t text × (two_nodes_text ≡ [] ++ text)
+owed : (t : Task) → due family_run.words family_run.bytes ≡ Ok t → (text : List ℕ) × Owed t text × (two_nodes_text ≡ [] ++ text)
 owed t e =
     let own : Owed (Family Line 2) two_nodes_text = sym text in
     (two_nodes_text, subst (λ task. Owed task two_nodes_text) (is_family t e) own, refl)
@@ -78,15 +77,12 @@ not_shelf e = absurd (cc)
 not_memory : Done ≢ OutOfMemory
 not_memory e = absurd (cc)
 
-not_denied : Done ≢ Denied
-not_denied e = absurd (cc)
-
-ends : Contains (OutOfMemory ∷ SinkFailed ∷ ends_of (asked everything family_run.words)) Done
+ends : Contains (OutOfMemory ∷ SinkFailed ∷ ends_of (command_of family_run.words)) Done
 ends =
     let own : Contains (OutOfMemory ∷ SinkFailed ∷ ends_of (Ok (command.Family Line 2))) Done = (2, omega arith, refl) in
     subst (λ x. Contains (OutOfMemory ∷ SinkFailed ∷ ends_of x) Done) (sym is_asked) own
 
-pub family_is_right : (n : ℕ) → IsRun everything family_run all_tell (record { before = n; now = n }) (record { before = n; now = n }) (record { before = n; now = n })
+pub family_is_right : (n : ℕ) → IsRun family_run all_tell (record { before = n; now = n }) (record { before = n; now = n }) (record { before = n; now = n })
 family_is_right n = record {
   call = record {
     ends = ends;
@@ -106,7 +102,7 @@ family_is_right n = record {
   text = λ _ _. record {
     line = λ r e _. absurd (no_refusal r e);
     owed = λ t e _. owed t e;
-    denial = λ e. absurd (not_denied e);
+    denial = λ r e _. absurd (not_audit r e);
     prefix = λ e. absurd (not_sink e);
   };
   files = λ _ _ _. record {
@@ -121,7 +117,7 @@ family_is_right n = record {
   };
 }
 
-pub left_out_is_wrong : (source sink shelf : CountValue) → IsRun everything (record family_run { now = [] }) all_tell source sink shelf → ⊥
+pub left_out_is_wrong : (source sink shelf : CountValue) → IsRun (record family_run { now = [] }) all_tell source sink shelf → ⊥
 left_out_is_wrong source sink shelf run =
     let written = (run.text (inl refl) refl).owed (Family Line 2) is_due refl in
     let empty : [] ≡ two_nodes_text = written.2 ∙ (written.1 ∙ text) in

@@ -3,6 +3,7 @@ pub mod DueWords
 pub mod IfDue
 pub mod Tasked
 pub mod Searchable
+pub mod Checked
 pub mod Planned
 pub mod Reported
 pub mod Ending

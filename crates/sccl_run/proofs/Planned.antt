@@ -1,5 +1,5 @@
 -- What is due for the words of a search, check by check.
-use Rattle.std.proofs.Common.{◌≡◌, ◌≤◌, ◌⊎◌, inl, inr, ℕ, Bool, true, false, not, length, List, Option, Result, Ok, Err, refl, sym, subst, ap, ◌∙◌}
+use Rattle.std.proofs.Common.{◌≡◌, ◌≤◌, ◌⊎◌, inl, inr, ℕ, Bool, true, false, not, length, List, Option, Result, Ok, Err, sym, subst, ap, ◌∙◌}
 use Rattle.text_lines.specs.Check.{◌>>=◌, refuse}
 use Rattle.collective_spec.specs.declared.kind.Kind.{Kind}
 use Rattle.collective_spec.specs.Collectives.{fits_kind}
@@ -12,7 +12,7 @@ use Rattle.topology_text.specs.Reading.{topology_of}
 use Rattle.command_words.specs.declared.command.RootWord.{RootWord}
 use Rattle.report_form.specs.Reports.{WordsValue}
 use Rattle.sccl_run.specs.declared.planning.Plan.{Plan}
-use Rattle.sccl_run.specs.declared.status.Status.TheVariants.{BadWords, BadTopology, TooLong}
+use Rattle.sccl_run.specs.declared.status.Status.TheVariants.{BadWords, BadTopology}
 use Rattle.sccl_run.specs.Refusals.{Refusal, refused_as, refused_at}
 use Rattle.sccl_run.specs.Tasks.{Task, Synthesise, limit, root_in, search_for, search_over, searchable, synthesis_of, whole_question, words_for}
 use Rattle.sccl_run.specs.Plans.{IsPlanned}

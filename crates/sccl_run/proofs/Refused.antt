@@ -17,9 +17,8 @@ use Rattle.command_words.specs.declared.command.Command.{Command}
 use Rattle.command_words.specs.declared.command.Command.TheVariants as command
 use Rattle.command_words.specs.declared.fault.WordFault.{WordFault}
 use Rattle.sccl_run.specs.declared.status.Status.{Status}
-use Rattle.sccl_run.specs.declared.status.Status.TheVariants.{Done, OutOfMemory, BadWords, BadTopology, SourceFailed, SinkFailed, ShelfFailed, BadReport, TooLarge, NoCandidate, TooLong}
-use Rattle.sccl_run.specs.Built.{Built}
-use Rattle.sccl_run.specs.Asked.{asked as command_asked}
+use Rattle.sccl_run.specs.declared.status.Status.TheVariants.{Done, OutOfMemory, BadWords, BadTopology, SourceFailed, SinkFailed, ShelfFailed, BadReport, Denied, TooLarge, NoCandidate, TooLong}
+use Rattle.command_words.specs.Words.{command_of}
 use Rattle.round_encoding.specs.Candidates.{size_limit}
 use Rattle.candidate_formula.specs.Sizes.{size_of}
 use Rattle.sccl_run.specs.TopCall.{IsFree}
@@ -93,9 +92,9 @@ module _ (P : Status → Type 0) where
     asked_with (Ok c) = tt
     asked_with (Err fault) = bad
 
-    pub due_with : (built : Built) (words : List (List ℕ)) (bytes : List ℕ) → With P (due built words bytes)
+    pub due_with : (words : List (List ℕ)) (bytes : List ℕ) → With P (due words bytes)
     unfolding due
-    due_with built words bytes = bind _ _ (asked_with (command_asked built words)) (λ c. tasked c bytes)
+    due_with words bytes = bind _ _ (asked_with (command_of words)) (λ c. tasked c bytes)
 
 -- ---- what is refused is neither free nor done
 
@@ -107,6 +106,9 @@ not_free status a b c d (inr (inr (inr e))) = d e
 
 pub done_given : IsFree Done → ⊥
 done_given = not_free Done (λ e. cc) (λ e. cc) (λ e. cc) (λ e. cc)
+
+pub denied_given : IsFree Denied → ⊥
+denied_given = not_free Denied (λ e. cc) (λ e. cc) (λ e. cc) (λ e. cc)
 
 pub long_given : IsFree TooLong → ⊥
 long_given = not_free TooLong (λ e. cc) (λ e. cc) (λ e. cc) (λ e. cc)
@@ -130,15 +132,15 @@ none_given = not_free NoCandidate (λ e. cc) (λ e. cc) (λ e. cc) (λ e. cc)
 given : Status → Type 0
 given status = (IsFree status → ⊥) × (status ≢ Done)
 
-is_given : (built : Built) (words : List (List ℕ)) (bytes : List ℕ) → With given (due built words bytes)
+is_given : (words : List (List ℕ)) (bytes : List ℕ) → With given (due words bytes)
 unfolding given
 is_given = due_with given (long_given, λ e. cc) (words_given, λ e. cc) (topology_given, λ e. cc) (report_given, λ e. cc) (large_given, λ e. cc) (none_given, λ e. cc)
 
 -- what is due is no refusal with a free status, or with that of what is done
-pub never_free : (built : Built) (words : List (List ℕ)) (bytes : List ℕ) (r : Refusal) → due built words bytes ≡ Err r → IsFree r.status → ⊥
+pub never_free : (words : List (List ℕ)) (bytes : List ℕ) (r : Refusal) → due words bytes ≡ Err r → IsFree r.status → ⊥
 unfolding given
-never_free built words bytes r e = (subst (With given) e (is_given built words bytes)).0
+never_free words bytes r e = (subst (With given) e (is_given words bytes)).0
 
-pub never_done : (built : Built) (words : List (List ℕ)) (bytes : List ℕ) (r : Refusal) → due built words bytes ≡ Err r → r.status ≢ Done
+pub never_done : (words : List (List ℕ)) (bytes : List ℕ) (r : Refusal) → due words bytes ≡ Err r → r.status ≢ Done
 unfolding given
-never_done built words bytes r e = (subst (With given) e (is_given built words bytes)).1
+never_done words bytes r e = (subst (With given) e (is_given words bytes)).1

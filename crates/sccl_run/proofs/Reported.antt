@@ -1,5 +1,5 @@
 -- The report of a search, what it says, and that its files prove it.
-use Rattle.std.proofs.Common.{◌≡◌, ℕ, List, Ok, refl, sym, ap, subst, ◌∙◌}
+use Rattle.std.proofs.Common.{◌≡◌, ℕ, List, Ok, sym, ap, subst, ◌∙◌}
 use Rattle.outer_ports.specs.Files.{Files}
 use Rattle.topology_text.specs.Value.{NamedTopologyValue}
 use Rattle.report_form.specs.Reports.{WordsValue, ReportValue, IsReport}

@@ -18,7 +18,6 @@ use Rattle.report_laws.proofs.FirstBlamed.{first_is_blamed}
 use Rattle.sccl_run.specs.declared.status.Status.{Status}
 use Rattle.sccl_run.specs.declared.status.Status.TheVariants.{BadWords, BadReport}
 use Rattle.sccl_run.specs.Answering.{Says}
-use Rattle.sccl_run.specs.Built.{Built}
 use Rattle.sccl_run.specs.Refusals.{Refusal, refused_at, refused_as}
 use Rattle.sccl_run.specs.Tasks.{Task, Replay, due, limit, read_report, replay_in, replayed, whole_text}
 use Rattle.sccl_run.specs.Reporting.{AskReplay, IsRefusedText, IsTextOf}
@@ -54,20 +53,20 @@ module _ (r : ReportValue) (number word : ℕ) (order : Option ℕ) where
 
 -- ---- by the words
 
-module _ (built : Built) (words : List (List ℕ)) (number word : ℕ) (order : Option ℕ) (asks : AskReplay built words number word order) (bytes : List ℕ) where
-  due_replayed : due built words bytes ≡ replayed number word order bytes
-  due_replayed = due_command built words bytes (command.Replay number word order) asks.is
+module _ (words : List (List ℕ)) (number word : ℕ) (order : Option ℕ) (asks : AskReplay words number word order) (bytes : List ℕ) where
+  due_replayed : due words bytes ≡ replayed number word order bytes
+  due_replayed = due_command words bytes (command.Replay number word order) asks.is
 
-  of_report : (r : ReportValue) → IsTextOf r bytes → due built words bytes ≡ replay_in r number word order
+  of_report : (r : ReportValue) → IsTextOf r bytes → due words bytes ≡ replay_in r number word order
   of_report r text = due_replayed ∙ replayed_of number word order bytes text.short r (ap report_of text.spelled ∙ report_again r text.valid)
 
-  pub replayed_is_due : (r : ReportValue) (p : Part × PointValue) → IsTextOf r bytes → point_at r number ≡ Some p → due built words bytes ≡ Ok (Replay r number p order)
+  pub replayed_is_due : (r : ReportValue) (p : Part × PointValue) → IsTextOf r bytes → point_at r number ≡ Some p → due words bytes ≡ Ok (Replay r number p order)
   replayed_is_due r p text point = of_report r text ∙ some_point r number word order p point
 
-  pub unknown_is_due : (r : ReportValue) → IsTextOf r bytes → point_at r number ≡ None → due built words bytes ≡ Err (refused_at BadWords 9 word)
+  pub unknown_is_due : (r : ReportValue) → IsTextOf r bytes → point_at r number ≡ None → due words bytes ≡ Err (refused_at BadWords 9 word)
   unknown_is_due r text point = of_report r text ∙ no_point r number word order point
 
-  refused_text : (x : Result ReportValue (ReportCode × ℕ)) → report_of bytes ≡ x → length bytes ≤ limit → ((r : ReportValue) → IsReport r → bytes ≡ report_text r → ⊥) → IsRefusedText built words bytes
+  refused_text : (x : Result ReportValue (ReportCode × ℕ)) → report_of bytes ≡ x → length bytes ≤ limit → ((r : ReportValue) → IsReport r → bytes ≡ report_text r → ⊥) → IsRefusedText words bytes
   refused_text (Ok r) e short none = let taken = report_take bytes r e in absurd (none r taken.valid taken.spelled)
   refused_text (Err (code, line)) e short none = record {
     code = code;
@@ -76,7 +75,7 @@ module _ (built : Built) (words : List (List ℕ)) (number word : ℕ) (order : 
     first = first_is_blamed bytes code line e;
   }
 
-  pub no_report_is_refused : length bytes ≤ limit → ((r : ReportValue) → IsReport r → bytes ≡ report_text r → ⊥) → IsRefusedText built words bytes
+  pub no_report_is_refused : length bytes ≤ limit → ((r : ReportValue) → IsReport r → bytes ≡ report_text r → ⊥) → IsRefusedText words bytes
   no_report_is_refused = refused_text (report_of bytes) refl
 
 -- ---- as the code has it: a report that was read, and what is done with it
@@ -90,8 +89,8 @@ read_refused bytes code line short (inl memory) other = absurd (other memory.0)
 read_refused bytes code line short (inr e) other = report_due bytes (Err (code, line)) short e
 
 -- what is said of the report that was read is said of its text
-pub said_of_text : (f : ReportValue → Result Task Refusal) (read : Result ReportValue Refusal) (r : ReportValue) (status : Status) (text : List ℕ) → read ≡ Ok r → Says (f r) status text → Says (read >>= f) status text
+pub said_of_text : {A : Type 0} (f : A → Result Task Refusal) (read : Result A Refusal) (r : A) (status : Status) (text : List ℕ) → read ≡ Ok r → Says (f r) status text → Says (read >>= f) status text
 said_of_text f read r status text e says = says_as _ _ status text (ap (λ x. x >>= f) e) says
 
-pub refused_of_text : (f : ReportValue → Result Task Refusal) (read : Result ReportValue Refusal) (r : Refusal) (status : Status) (text : List ℕ) → read ≡ Err r → Says (Err r) status text → Says (read >>= f) status text
+pub refused_of_text : {A : Type 0} (f : A → Result Task Refusal) (read : Result A Refusal) (r : Refusal) (status : Status) (text : List ℕ) → read ≡ Err r → Says (Err r) status text → Says (read >>= f) status text
 refused_of_text f read r status text e says = says_as _ _ status text (ap (λ x. x >>= f) e) says

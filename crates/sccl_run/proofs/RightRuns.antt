@@ -7,7 +7,6 @@ use Rattle.candidate_order.proofs.Frontiers.{better_refuted}
 use Rattle.report_form.specs.Reports.{WordsValue, ReportValue, question_of}
 use Rattle.sccl_run.specs.declared.status.Status.{Status}
 use Rattle.sccl_run.specs.declared.status.Status.TheVariants.{Done}
-use Rattle.sccl_run.specs.Built.{Built}
 use Rattle.sccl_run.specs.Refusals.{Refusal}
 use Rattle.sccl_run.specs.Tasks.{Synthesise, due}
 use Rattle.sccl_run.specs.Owed.{Synthesises}
@@ -27,9 +26,9 @@ written_says : (w : WordsValue) (t : NamedTopologyValue) (before now text : List
 written_says w t before now text owed written =
     record { report = owed.report; text = written ∙ ap (λ end. before ++ end) owed.written; says = none_is_better owed.report owed.right }
 
-pub written_is_right : (built : Built) (words : List (List ℕ)) (bytes before now : List ℕ) (status : Status) → TextIsDue built words bytes before now status
-    → (w : WordsValue) (t : NamedTopologyValue) → due built words bytes ≡ Ok (Synthesise w t) → status ≡ Done → WritesWith NoneIsBetter before now
-written_is_right built words bytes before now status text w t asked done =
+pub written_is_right : (words : List (List ℕ)) (bytes before now : List ℕ) (status : Status) → TextIsDue words bytes before now status
+    → (w : WordsValue) (t : NamedTopologyValue) → due words bytes ≡ Ok (Synthesise w t) → status ≡ Done → WritesWith NoneIsBetter before now
+written_is_right words bytes before now status text w t asked done =
     let owed = text.owed (Synthesise w t) asked done in
     written_says w t before now owed.0 owed.1 owed.2
 
@@ -40,9 +39,9 @@ done_not_free status e (inr (inl f)) = absurd (cc)
 done_not_free status e (inr (inr (inl f))) = absurd (cc)
 done_not_free status e (inr (inr (inr f))) = absurd (cc)
 
-pub refused_not_done : (built : Built) (words : List (List ℕ)) (bytes : List ℕ) (status : Status) → StatusIsDue built words bytes status → (r : Refusal) → due built words bytes ≡ Err r → status ≡ Done → ⊥
-refused_not_done built words bytes status is_due r asked done =
+pub refused_not_done : (words : List (List ℕ)) (bytes : List ℕ) (status : Status) → StatusIsDue words bytes status → (r : Refusal) → due words bytes ≡ Err r → status ≡ Done → ⊥
+refused_not_done words bytes status is_due r asked done =
     elim (is_due.refused r asked) [
-      | inl same ↦ never_done built words bytes r asked (sym same ∙ done)
+      | inl same ↦ never_done words bytes r asked (sym same ∙ done)
       | inr free ↦ done_not_free status done free
     ]

@@ -29,8 +29,6 @@ use Rattle.frontier_audit.specs.Joining.{is_reduce, is_gather, points_of}
 use Rattle.frontier_audit.specs.Shelves.{ShelfRight}
 use Rattle.frontier_audit.proofs.Right.{right_verified}
 use Rattle.sccl_run.specs.declared.status.Status.TheVariants.{Done, BadWords, BadTopology}
-use Rattle.sccl_run.specs.Built.{everything}
-use Rattle.sccl_run.specs.Asked.{asked}
 use Rattle.sccl_run.specs.Refusals.{refused_at, refused_as}
 use Rattle.sccl_run.specs.Tasks.{Task, Synthesise, Audit, Replay, Program, Family, Try, audited, due, limit, not_denied, point_in, read_report, root_in, searchable, synthesis_of, task_of, whole_question, whole_text, words_asked, words_for}
 use Rattle.sccl_run.specs.Owed.{Synthesises}
@@ -68,24 +66,24 @@ tasks_fit (command.Programs number word) bytes = then Fits (read_report bytes) _
 tasks_fit (command.Family kind size) bytes = tt
 tasks_fit (command.Trial n) bytes = tt
 
-due_fits : (words : List (List ℕ)) (bytes : List ℕ) → IfDue Fits (due everything words bytes)
+due_fits : (words : List (List ℕ)) (bytes : List ℕ) → IfDue Fits (due words bytes)
 unfolding due
-due_fits words bytes = then Fits (words_asked (asked everything words)) _ (λ c _. tasks_fit c bytes)
+due_fits words bytes = then Fits (words_asked (command_of words)) _ (λ c _. tasks_fit c bytes)
 
-searched : (words : List (List ℕ)) (bytes : List ℕ) (w : WordsValue) (t : NamedTopologyValue) → due everything words bytes ≡ Ok (Synthesise w t) → searchable (whole_question w t) ≡ Ok tt
+searched : (words : List (List ℕ)) (bytes : List ℕ) (w : WordsValue) (t : NamedTopologyValue) → due words bytes ≡ Ok (Synthesise w t) → searchable (whole_question w t) ≡ Ok tt
 unfolding Fits
 searched words bytes w t e = subst (IfDue Fits) e (due_fits words bytes)
 
 -- ---- the check of its report
 
-checks : (words : List (List ℕ)) → words ≡ codes "check" ∷ [] → asked everything words ≡ Ok command.Check
+checks : (words : List (List ℕ)) → words ≡ codes "check" ∷ [] → command_of words ≡ Ok command.Check
 unfolding command_of digits
 checks words e = rw e refl
 
 check_due : (words : List (List ℕ)) (bytes : List ℕ) (r : ReportValue) → words ≡ codes "check" ∷ [] → length bytes ≤ limit → report_of bytes ≡ Ok r → searchable (whole_question r.words r.topology) ≡ Ok tt
-    → due everything words bytes ≡ Ok (Audit r)
+    → due words bytes ≡ Ok (Audit r)
 check_due words bytes r e short read fits =
-    due_command everything words bytes command.Check (checks words e)
+    due_command words bytes command.Check (checks words e)
     ∙ ap (λ x. x >>= (λ s. searchable (whole_question s.words s.topology) >>= (λ _. Ok (Audit s)))) (report_due bytes (Ok r) short read)
     ∙ ap (λ x. x >>= (λ _. Ok (Audit r))) fits
 
@@ -107,8 +105,8 @@ unfolding audited
 nothing_denied r files right shelf =
     ap not_denied (right_verified r files right.valid shelf (λ p f at. All-contains (IsRightPart r) r.frontiers (p, f) right.parts at) (joined_right r right))
 
-pub verified_again : (search check : RunValue) (a b c d e f : CountValue) → IsRun everything search all_tell a b c → IsRun everything check all_tell d e f
-    → (w : WordsValue) (t : NamedTopologyValue) → due everything search.words search.bytes ≡ Ok (Synthesise w t) → search.status ≡ Done
+pub verified_again : (search check : RunValue) (a b c d e f : CountValue) → IsRun search all_tell a b c → IsRun check all_tell d e f
+    → (w : WordsValue) (t : NamedTopologyValue) → due search.words search.bytes ≡ Ok (Synthesise w t) → search.status ≡ Done
     → check.words ≡ codes "check" ∷ [] → search.now ≡ search.before ++ check.bytes → length check.bytes ≤ limit → FilesStay search.files_after check.files
     → (check.status ≡ Done) ⊎ IsFree check.status
 verified_again search check a b c d e f searching checking w t asks done words written short stay =
@@ -119,6 +117,6 @@ verified_again search check a b c d e f searching checking w t asks done words w
     let proves : Proves report search.files search.files_after =
     (searching.files (inl refl) refl refl).proved w t asks done report wrote.words wrote.topology wrote.right (written ∙ ap (λ end. search.before ++ end) text) in
     let fits : searchable (whole_question report.words report.topology) ≡ Ok tt = rw (wrote.words, wrote.topology) (searched search.words search.bytes w t asks) in
-    let is_due : due everything check.words check.bytes ≡ Ok (Audit report) = check_due check.words check.bytes report words short (ap report_of text ∙ report_again report wrote.right.valid) fits in
+    let is_due : due check.words check.bytes ≡ Ok (Audit report) = check_due check.words check.bytes report words short (ap report_of text ∙ report_again report wrote.right.valid) fits in
     let shelf : ShelfRight report check.files = subst (ShelfRight report) (sym (files_are search.files_after check.files stay)) proves.shelf in
     (checking.files (inl refl) refl refl).verified report is_due (nothing_denied report check.files wrote.right shelf)

@@ -23,7 +23,6 @@ use Rattle.report_laws.proofs.ReportAgain.{report_again}
 use Rattle.sccl_run.specs.Owed.{Synthesises}
 use Rattle.sccl_run.specs.declared.status.Status.{Status}
 use Rattle.sccl_run.specs.declared.status.Status.TheVariants.{Done, SourceFailed, OutOfMemory, BadReport}
-use Rattle.sccl_run.specs.Built.{everything}
 use Rattle.sccl_run.specs.Asked.{Ask, Reads}
 use Rattle.sccl_run.specs.Tasks.{Synthesise, due}
 use Rattle.frontier_audit.specs.OwedFiles.{IsKept, Proves}
@@ -39,21 +38,21 @@ nothing_there A x e = absurd (cc)
 asked_words : WordsValue
 asked_words = record { collective = record { kind = Broadcast; root = 0 }; limits = record { k = 0; max_s = 1; max_c = 1; conflicts = 1000 } }
 
-is_search : (status : Status) → due everything (failed_search status).words (failed_search status).bytes ≡ Ok (Synthesise asked_words (family_of Line 2))
+is_search : (status : Status) → due (failed_search status).words (failed_search status).bytes ≡ Ok (Synthesise asked_words (family_of Line 2))
 unfolding due command_of topology_of topology_at pattern_at digits asked_words
 is_search status = refl
 
-pub unread_is_wrong : (source sink shelf : CountValue) → IsRun everything (failed_search SourceFailed) all_tell source sink shelf → ⊥
+pub unread_is_wrong : (source sink shelf : CountValue) → IsRun (failed_search SourceFailed) all_tell source sink shelf → ⊥
 unread_is_wrong source sink shelf run = nothing_there _ _ ((run.files (inl refl) refl refl).unread refl some_name)
 
-pub lost_is_wrong : (status : Status) → status ≢ Done → (source sink shelf : CountValue) → IsRun everything (failed_search status) all_tell source sink shelf → ⊥
+pub lost_is_wrong : (status : Status) → status ≢ Done → (source sink shelf : CountValue) → IsRun (failed_search status) all_tell source sink shelf → ⊥
 lost_is_wrong status broken source sink shelf run =
     elim ((run.files (inl refl) refl refl).broken_off asked_words (family_of Line 2) (is_search status) broken some_name) [
       | inl same ↦ nothing_there _ _ same
       | inr begun ↦ nothing_there _ _ begun.stands
     ]
 
-checks : Ask Reads everything (refused_check []).words
+checks : Ask Reads (refused_check []).words
 unfolding command_of digits
 checks = record { command = command.Check; is = refl; such = tt }
 
@@ -63,14 +62,14 @@ other_than_memory e = absurd (cc)
 other_than_source : BadReport ≢ SourceFailed
 other_than_source e = absurd (cc)
 
-pub not_taken_is_wrong : (source sink shelf : CountValue) (byte : ℕ) (rest : List ℕ) → IsRun everything (refused_check (byte ∷ rest)) all_tell source sink shelf → ⊥
+pub not_taken_is_wrong : (source sink shelf : CountValue) (byte : ℕ) (rest : List ℕ) → IsRun (refused_check (byte ∷ rest)) all_tell source sink shelf → ⊥
 not_taken_is_wrong source sink shelf byte rest run =
     let gone : byte ∷ rest ≡ [] = (run.left refl).read checks other_than_memory other_than_source in
     absurd (cc)
 
 -- ---- a search that ends well
 
-done_is_search : (files : Files) → due everything (done_search files).words (done_search files).bytes ≡ Ok (Synthesise asked_words (family_of Line 2))
+done_is_search : (files : Files) → due (done_search files).words (done_search files).bytes ≡ Ok (Synthesise asked_words (family_of Line 2))
 unfolding due command_of topology_of topology_at pattern_at digits asked_words
 done_is_search files = refl
 
@@ -79,7 +78,7 @@ unfolding report_of body_of report_text pattern_at schedule_at frontier_point_at
 broadcast_read = refl
 
 -- the one report whose text was written has its files there
-kept_there : (files : Files) (source sink shelf : CountValue) → IsRun everything (done_search files) all_tell source sink shelf → Proves broadcast_report no_files files
+kept_there : (files : Files) (source sink shelf : CountValue) → IsRun (done_search files) all_tell source sink shelf → Proves broadcast_report no_files files
 kept_there files source sink shelf run =
     let owed = (run.text (inl refl) refl).owed (Synthesise asked_words (family_of Line 2)) (done_is_search files) refl in
     let wrote : Synthesises asked_words (family_of Line 2) owed.0 = owed.1 in
@@ -95,12 +94,12 @@ broadcast_frontier = one_point (point 1 1 Optimal (1 ∷ []) (send 0 0 1 1 ∷ [
 first_kept : (files : Files) → Proves broadcast_report no_files files → IsKept Whole (question_of broadcast_report.words broadcast_report.topology Whole) files (broadcast_frontier)
 first_kept files proves = proves.kept 0 (Whole, broadcast_frontier) (omega arith)
 
-pub formula_lacks_is_wrong : (files : Files) (source sink shelf : CountValue) → files (own_file Cnf) ≡ None → IsRun everything (done_search files) all_tell source sink shelf → ⊥
+pub formula_lacks_is_wrong : (files : Files) (source sink shelf : CountValue) → files (own_file Cnf) ≡ None → IsRun (done_search files) all_tell source sink shelf → ⊥
 formula_lacks_is_wrong files source sink shelf none run =
     let there = (first_kept files (kept_there files source sink shelf run)).solved 0 (record { s = 1; r = 1; c = 1 }) (omega arith) in
     nothing_there _ _ (sym none ∙ there.0)
 
-pub stale_is_wrong : (files : Files) (byte : ℕ) (rest : List ℕ) (source sink shelf : CountValue) → files (own_file Lrat) ≡ Some (byte ∷ rest) → IsRun everything (done_search files) all_tell source sink shelf → ⊥
+pub stale_is_wrong : (files : Files) (byte : ℕ) (rest : List ℕ) (source sink shelf : CountValue) → files (own_file Lrat) ≡ Some (byte ∷ rest) → IsRun (done_search files) all_tell source sink shelf → ⊥
 stale_is_wrong files byte rest source sink shelf some run =
     let there = (first_kept files (kept_there files source sink shelf run)).solved 0 (record { s = 1; r = 1; c = 1 }) (omega arith) in
     let empty : Some (byte ∷ rest) ≡ Some [] = sym some ∙ there.1 in

@@ -1,19 +1,8 @@
 -- What the words ask for.
-use Rattle.std.specs.Prelude.{◌≡◌, ℕ, not, List, Result, Ok}
-use Rattle.text_lines.specs.Check.{◌>>=◌, refuse}
+use Rattle.std.specs.Prelude.{◌≡◌, ℕ, List, Ok}
 use Rattle.command_words.specs.declared.command.Command.{Command}
 use Rattle.command_words.specs.declared.command.Command.TheVariants as command
-use Rattle.command_words.specs.declared.fault.WordCode.TheVariants.{NotBuilt}
-use Rattle.command_words.specs.declared.fault.WordFault.{WordFault}
 use Rattle.command_words.specs.Words.{command_of}
-use Rattle.sccl_run.specs.Built.{Built}
-
--- the command that the words are; one that is not built is refused at word 0
-abbrev pub asked : Built → List (List ℕ) → Result Command WordFault
-asked built words = do
-  command ← command_of words
-  _ ← refuse (not (built.commands command)) (record { code = NotBuilt; word = 0 })
-  Ok command
 
 -- these commands read the source
 abbrev pub Reads : Command → Type 0
@@ -43,7 +32,7 @@ Changes (command.Family kind size) = ⊥
 Changes (command.Trial n) = ⊥
 
 -- the words ask for such a command
-pub record Ask (P : Command → Type 0) (built : Built) (words : List (List ℕ)) : Type 0 where
+pub record Ask (P : Command → Type 0) (words : List (List ℕ)) : Type 0 where
   pub command : Command
-  pub is : asked built words ≡ Ok command
+  pub is : command_of words ≡ Ok command
   pub such : P command

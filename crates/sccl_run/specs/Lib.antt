@@ -1,9 +1,7 @@
 pub mod Statuses
 pub mod Refusals
-pub mod Built
 pub mod Jobs
 pub mod Asked
-pub mod Trials
 pub mod Tasks
 pub mod Owed
 pub mod TopCall

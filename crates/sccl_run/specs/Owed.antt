@@ -1,18 +1,16 @@
 -- What is owed for a task that was done, as far as its text says it: the synthesis theorem, and the theorems of the other commands.
 use Rattle.std.specs.Prelude.{◌≡◌, ℕ, List, [], ◌∷◌, codes}
-use Rattle.outer_ports.specs.Files.{Files}
 use Rattle.text_lines.specs.Text.{line}
 use Rattle.topology_text.specs.Value.{NamedTopologyValue}
 use Rattle.topology_text.specs.Family.{family_of}
 use Rattle.topology_text.specs.Spelling.{spelling}
 use Rattle.report_form.specs.Reports.{WordsValue, ReportValue}
 use Rattle.report_form.specs.Spelling.{report_text}
-use Rattle.frontier_audit.specs.Shelves.{ShelfRight}
-use Rattle.frontier_audit.specs.Rights.{IsRight, IsSearched}
+use Rattle.frontier_audit.specs.Rights.{HasLogs, IsRight, IsSearched}
 use Rattle.sccl_run.specs.Tasks.{Task, Synthesise, Audit, Replay, Program, Family, Try}
 use Rattle.point_replay.specs.Showing.{shown_in, shown_text}
 use Rattle.point_replay.specs.Points.{programs_of_point}
-use Rattle.sccl_run.specs.Trials.{trial_words, trial_topology, trial_text}
+use Rattle.trial_run.specs.Tries.{Tries}
 
 -- ---- what each command owes
 
@@ -25,21 +23,11 @@ pub record Synthesises (w : WordsValue) (t : NamedTopologyValue) (text : List �
   pub right : IsRight report
   pub searched : IsSearched report
 
--- whoever made the report, what it says is right
+-- whoever made the report, what it says is right, and there is a spent log of each candidate that it calls unknown
 pub record Verifies (r : ReportValue) (text : List ℕ) : Type 0 where
   pub written : text ≡ line (codes "verified" ∷ [])
   pub right : IsRight r
-
--- a search of its own, with files of its own, is summed up
-pub record Tries (n : ℕ) (text : List ℕ) : Type 0 where
-  pub report : ReportValue
-  pub own_files : Files
-  pub words : report.words ≡ trial_words n
-  pub topology : report.topology ≡ trial_topology n
-  pub right : IsRight report
-  pub searched : IsSearched report
-  pub shelf : ShelfRight report own_files
-  pub written : text ≡ trial_text n report
+  pub logs : HasLogs r
 
 abbrev pub Owed : Task → List ℕ → Type 0
 Owed (Synthesise w t) text = Synthesises w t text

@@ -7,14 +7,13 @@ use Rattle.report_form.specs.Reports.{ReportValue, IsReport}
 use Rattle.report_form.specs.Spelling.{report_text}
 use Rattle.report_form.specs.First.{FailsFirstAt}
 use Rattle.sccl_run.specs.declared.status.Status.TheVariants.{BadReport}
-use Rattle.sccl_run.specs.Built.{Built}
-use Rattle.sccl_run.specs.Asked.{asked}
+use Rattle.command_words.specs.Words.{command_of}
 use Rattle.sccl_run.specs.Refusals.{refused_at}
 use Rattle.sccl_run.specs.Tasks.{due, limit}
 
 -- the words ask for the replay of the point of this number, in this order; that number is the word at this index
-pub record AskReplay (built : Built) (words : List (List ℕ)) (number word : ℕ) (order : Option ℕ) : Type 0 where
-  pub is : asked built words ≡ Ok (command.Replay number word order)
+pub record AskReplay (words : List (List ℕ)) (number word : ℕ) (order : Option ℕ) : Type 0 where
+  pub is : command_of words ≡ Ok (command.Replay number word order)
 
 -- the text of a valid report, which is not too long
 pub record IsTextOf (r : ReportValue) (bytes : List ℕ) : Type 0 where
@@ -23,8 +22,8 @@ pub record IsTextOf (r : ReportValue) (bytes : List ℕ) : Type 0 where
   pub short : length bytes ≤ limit
 
 -- a text that is that of no report is refused at the first line at which it can no longer be one
-pub record IsRefusedText (built : Built) (words : List (List ℕ)) (bytes : List ℕ) : Type 0 where
+pub record IsRefusedText (words : List (List ℕ)) (bytes : List ℕ) : Type 0 where
   pub code : ReportCode
   pub line : ℕ
-  pub due : due built words bytes ≡ Err (refused_at BadReport (code_number code) line)
+  pub due : due words bytes ≡ Err (refused_at BadReport (code_number code) line)
   pub first : FailsFirstAt bytes line

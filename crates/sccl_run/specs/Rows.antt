@@ -4,15 +4,12 @@ use Rattle.outer_ports.specs.declared.part.Part.TheVariants.{Whole}
 use Rattle.outer_ports.specs.declared.proof_name.FileKind.{FileKind}
 use Rattle.outer_ports.specs.declared.proof_name.ProofName.{ProofName}
 use Rattle.outer_ports.specs.Files.{Files}
-use Rattle.candidate_order.specs.declared.candidate.Candidate.{Candidate}
-use Rattle.report_form.specs.Reports.{ReportValue}
 use Rattle.report_form.specs.Rows.{broadcast_report}
 use Rattle.report_form.specs.Spelling.{report_text}
 use Rattle.candidate_formula.specs.Files.{file_of}
 use Rattle.sccl_run.specs.declared.status.Status.{Status}
 use Rattle.sccl_run.specs.declared.status.Status.TheVariants.{Done, BadReport}
 use Rattle.sccl_run.specs.TopCall.{RunValue, ToldValue}
-use Rattle.sccl_run.specs.Trials.{trial_words, trial_topology}
 
 -- a shelf without files
 abbrev pub no_files : Files
@@ -29,15 +26,6 @@ moved_text = codes "topology 2\nnodes a b c\ngroup 1 a>b\ngroup 1 b>c\ncustom 1\
 -- the words of a search with one step and one chunk
 abbrev pub search : List ℕ → List (List ℕ) → List (List ℕ)
 search collective more = codes "synth" ∷ collective ∷ codes "k=0" ∷ codes "steps=1" ∷ codes "chunks=1" ∷ codes "conflicts=1000" ∷ more
-
--- the report of the trial that the number stands for, with these refuted candidates and no point
-abbrev pub refuted_trial : ℕ → List Candidate → ReportValue
-refuted_trial n refuted = record {
-  words = trial_words n;
-  topology = trial_topology n;
-  frontiers = (Whole, record { points = []; refuted = refuted; unknown = [] }) ∷ [];
-  joined = [];
-}
 
 -- every port tells
 abbrev pub all_tell : ToldValue

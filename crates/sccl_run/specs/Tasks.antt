@@ -27,8 +27,7 @@ use Rattle.command_words.specs.declared.fault.WordFault.{WordFault}
 use Rattle.command_words.specs.Codes.{number_of as word_number}
 use Rattle.sccl_run.specs.declared.status.Status.TheVariants.{BadWords, BadTopology, BadReport, Denied, TooLarge, NoCandidate, TooLong}
 use Rattle.sccl_run.specs.Refusals.{Refusal, refused_at, refused_as}
-use Rattle.sccl_run.specs.Built.{Built}
-use Rattle.sccl_run.specs.Asked.{asked}
+use Rattle.command_words.specs.Words.{command_of}
 use Rattle.round_encoding.specs.Candidates.{size_limit}
 use Rattle.candidate_formula.specs.Sizes.{size_of}
 
@@ -90,12 +89,17 @@ read_report bytes = do
   _ ← whole_text bytes
   refused_as BadReport report_number (report_of bytes)
 
+-- the report, where its search can be done
+abbrev pub audit_in : ReportValue → Result Task Refusal
+audit_in report = do
+  _ ← searchable (whole_question report.words report.topology)
+  Ok (Audit report)
+
 -- the report whose files are to be looked at
 abbrev pub audit_asked : List ℕ → Result Task Refusal
 audit_asked bytes = do
   report ← read_report bytes
-  _ ← searchable (whole_question report.words report.topology)
-  Ok (Audit report)
+  audit_in report
 
 -- the point that the word asks for
 abbrev pub point_in : ReportValue → ℕ → ℕ → Result (Part × PointValue) Refusal
@@ -138,9 +142,9 @@ words_asked (Ok c) = Ok c
 words_asked (Err fault) = Err (refused_at BadWords (word_number fault.code) fault.word)
 
 -- the task, or the first refusal, as far as words and bytes decide
-unfoldable pub due : Built → List (List ℕ) → List ℕ → Result Task Refusal
-due built words bytes = do
-  command ← words_asked (asked built words)
+unfoldable pub due : List (List ℕ) → List ℕ → Result Task Refusal
+due words bytes = do
+  command ← words_asked (command_of words)
   task_of command bytes
 
 -- ---- what the files decide

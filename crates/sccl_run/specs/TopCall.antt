@@ -6,14 +6,14 @@ use Rattle.outer_ports.specs.Port.{Rose}
 use Rattle.command_words.specs.declared.command.Command.{Command}
 use Rattle.command_words.specs.declared.command.Command.TheVariants as command
 use Rattle.command_words.specs.declared.fault.WordFault.{WordFault}
+use Rattle.command_words.specs.Words.{command_of}
 use Rattle.topology_text.specs.Value.{NamedTopologyValue}
 use Rattle.report_form.specs.Reports.{WordsValue, ReportValue}
 use Rattle.report_form.specs.Spelling.{report_text}
 use Rattle.frontier_audit.specs.Shelves.{ShelfRight}
 use Rattle.sccl_run.specs.declared.status.Status.{Status}
 use Rattle.sccl_run.specs.declared.status.Status.TheVariants.{Done, OutOfMemory, BadWords, BadTopology, SourceFailed, SinkFailed, ShelfFailed, BadReport, Denied, TooLarge, NoCandidate, TooLong}
-use Rattle.sccl_run.specs.Built.{Built}
-use Rattle.sccl_run.specs.Asked.{Ask, Reads, Opens, Changes, asked}
+use Rattle.sccl_run.specs.Asked.{Ask, Reads, Opens, Changes}
 use Rattle.sccl_run.specs.Refusals.{Refusal, refusal_line}
 use Rattle.sccl_run.specs.Tasks.{Task, Synthesise, Audit, limit, due, audited}
 use Rattle.sccl_run.specs.Owed.{Owed}
@@ -50,19 +50,19 @@ ends_of (Ok (command.Trial n)) = Done ∷ []
 abbrev pub IsSilent : Status → Type 0
 IsSilent status = (status ≡ OutOfMemory) ⊎ ((status ≡ SourceFailed) ⊎ (status ≡ ShelfFailed))
 
-pub record IsCall (built : Built) (words : List (List ℕ)) (status : Status) (source sink shelf : CountValue) (SourceStays SinkStays ShelfStays : Type 0) : Type 0 where
-  pub ends : Contains (OutOfMemory ∷ SinkFailed ∷ ends_of (asked built words)) status
+pub record IsCall (words : List (List ℕ)) (status : Status) (source sink shelf : CountValue) (SourceStays SinkStays ShelfStays : Type 0) : Type 0 where
+  pub ends : Contains (OutOfMemory ∷ SinkFailed ∷ ends_of (command_of words)) status
   pub source_fails : EndsIfItFails SourceFailed status source
   pub sink_fails : EndsIfItFails SinkFailed status sink
   pub shelf_fails : EndsIfItFails ShelfFailed status shelf
-  pub unread : ¬ Ask Reads built words → SourceStays
-  pub unopened : ¬ Ask Opens built words → ShelfStays
+  pub unread : ¬ Ask Reads words → SourceStays
+  pub unopened : ¬ Ask Opens words → ShelfStays
   pub silent : IsSilent status → SinkStays
 
 -- ---- where the source tells its bytes, or is not read
 
-abbrev pub Knows : Bool → Built → List (List ℕ) → Type 0
-Knows tells built words = IsTrue tells ⊎ ¬ Ask Reads built words
+abbrev pub Knows : Bool → List (List ℕ) → Type 0
+Knows tells words = IsTrue tells ⊎ ¬ Ask Reads words
 
 -- a status that words and bytes don't decide: memory ran out, or a port failed
 abbrev pub IsFree : Status → Type 0
@@ -74,52 +74,53 @@ EndsTask (Audit r) status = (status ≡ Done) ⊎ ((status ≡ Denied) ⊎ IsFre
 EndsTask _ status = (status ≡ Done) ⊎ IsFree status
 
 -- the first refusal gives the status; the shelf is opened behind all of them
-pub record StatusIsDue (built : Built) (words : List (List ℕ)) (bytes : List ℕ) (status : Status) : Type 0 where
-  pub refused : (r : Refusal) → due built words bytes ≡ Err r → (status ≡ r.status) ⊎ IsFree status
-  pub done : (t : Task) → due built words bytes ≡ Ok t → EndsTask t status
-  pub shelf_last : (r : Refusal) → due built words bytes ≡ Err r → status ≢ ShelfFailed
+pub record StatusIsDue (words : List (List ℕ)) (bytes : List ℕ) (status : Status) : Type 0 where
+  pub refused : (r : Refusal) → due words bytes ≡ Err r → (status ≡ r.status) ⊎ IsFree status
+  pub done : (t : Task) → due words bytes ≡ Ok t → EndsTask t status
+  pub shelf_last : (r : Refusal) → due words bytes ≡ Err r → status ≢ ShelfFailed
 
 -- what is left of the source: all but the first `limit + 1` bytes, which is nothing where no more than `limit` came; all, where memory ran out before they were read
-pub record LeftIsDue (built : Built) (words : List (List ℕ)) (bytes left : List ℕ) (status : Status) : Type 0 where
-  pub read : Ask Reads built words → status ≢ OutOfMemory → status ≢ SourceFailed → left ≡ drop (limit + 1) bytes
+pub record LeftIsDue (words : List (List ℕ)) (bytes left : List ℕ) (status : Status) : Type 0 where
+  pub read : Ask Reads words → status ≢ OutOfMemory → status ≢ SourceFailed → left ≡ drop (limit + 1) bytes
   pub memory : status ≡ OutOfMemory → (left ≡ bytes) ⊎ (left ≡ drop (limit + 1) bytes)
   pub failed : status ≡ SourceFailed → (count : ℕ) × (count ≤ limit + 1) × (left ≡ drop count bytes)
 
 -- ---- where the sink tells too
 
--- a denial's line
-pub record IsDenial (text : List ℕ) : Type 0 where
-  pub refusal : Refusal
-  pub denied : refusal.status ≡ Denied
-  pub line : text ≡ refusal_line refusal
+-- the line of a denial: there are files beside which the audit of the report denies so
+pub record IsDenial (r : ReportValue) (text : List ℕ) : Type 0 where
+  pub files : Files
+  pub why : Refusal
+  pub is : audited r files ≡ Err why
+  pub line : text ≡ refusal_line why
 
 -- the texts that are due: the line of the refusal, or one that the task allows
 abbrev pub IsDue : Result Task Refusal → List ℕ → Type 0
 IsDue (Err r) text = text ≡ refusal_line r
-IsDue (Ok (Audit r)) text = Owed (Audit r) text ⊎ IsDenial text
+IsDue (Ok (Audit r)) text = Owed (Audit r) text ⊎ IsDenial r text
 IsDue (Ok t) text = Owed t text
 
 -- what was appended to the sink
-pub record TextIsDue (built : Built) (words : List (List ℕ)) (bytes before now : List ℕ) (status : Status) : Type 0 where
-  pub line : (r : Refusal) → due built words bytes ≡ Err r → status ≡ r.status → now ≡ before ++ refusal_line r
-  pub owed : (t : Task) → due built words bytes ≡ Ok t → status ≡ Done → (text : List ℕ) × Owed t text × (now ≡ before ++ text)
-  pub denial : status ≡ Denied → (text : List ℕ) × IsDenial text × (now ≡ before ++ text)
-  pub prefix : status ≡ SinkFailed → (text : List ℕ) × (count : ℕ) × IsDue (due built words bytes) text × (now ≡ before ++ take count text)
+pub record TextIsDue (words : List (List ℕ)) (bytes before now : List ℕ) (status : Status) : Type 0 where
+  pub line : (r : Refusal) → due words bytes ≡ Err r → status ≡ r.status → now ≡ before ++ refusal_line r
+  pub owed : (t : Task) → due words bytes ≡ Ok t → status ≡ Done → (text : List ℕ) × Owed t text × (now ≡ before ++ text)
+  pub denial : (r : ReportValue) → due words bytes ≡ Ok (Audit r) → status ≡ Denied → (text : List ℕ) × IsDenial r text × (now ≡ before ++ text)
+  pub prefix : status ≡ SinkFailed → (text : List ℕ) × (count : ℕ) × IsDue (due words bytes) text × (now ≡ before ++ take count text)
 
 -- ---- where the shelf tells too
 
-pub record FilesAreDue (built : Built) (words : List (List ℕ)) (bytes before now : List ℕ) (files files_after : Files) (status : Status) : Type 0 where
-  pub unchanged : ¬ Ask Changes built words → FilesStay files files_after
-  pub refused : (r : Refusal) → due built words bytes ≡ Err r → FilesStay files files_after
+pub record FilesAreDue (words : List (List ℕ)) (bytes before now : List ℕ) (files files_after : Files) (status : Status) : Type 0 where
+  pub unchanged : ¬ Ask Changes words → FilesStay files files_after
+  pub refused : (r : Refusal) → due words bytes ≡ Err r → FilesStay files files_after
   pub unread : status ≡ SourceFailed → FilesStay files files_after
   -- a search that ends well leaves the files that prove its report; one that breaks off has begun some
-  pub proved : (w : WordsValue) (t : NamedTopologyValue) → due built words bytes ≡ Ok (Synthesise w t) → status ≡ Done →
+  pub proved : (w : WordsValue) (t : NamedTopologyValue) → due words bytes ≡ Ok (Synthesise w t) → status ≡ Done →
       (report : ReportValue) → report.words ≡ w → report.topology ≡ t → IsRight report → now ≡ before ++ report_text report → Proves report files files_after
-  pub broken_off : (w : WordsValue) (t : NamedTopologyValue) → due built words bytes ≡ Ok (Synthesise w t) → status ≢ Done → BreaksOff w t files files_after
+  pub broken_off : (w : WordsValue) (t : NamedTopologyValue) → due words bytes ≡ Ok (Synthesise w t) → status ≢ Done → BreaksOff w t files files_after
   -- a report is denied exactly where its audit over the files denies it
-  pub denied : (r : ReportValue) (why : Refusal) → due built words bytes ≡ Ok (Audit r) → audited r files ≡ Err why → ((status ≡ Denied) × (now ≡ before ++ refusal_line why)) ⊎ IsFree status
-  pub verified : (r : ReportValue) → due built words bytes ≡ Ok (Audit r) → audited r files ≡ Ok tt → (status ≡ Done) ⊎ IsFree status
-  pub shelf : (r : ReportValue) → due built words bytes ≡ Ok (Audit r) → status ≡ Done → ShelfRight r files
+  pub denied : (r : ReportValue) (why : Refusal) → due words bytes ≡ Ok (Audit r) → audited r files ≡ Err why → ((status ≡ Denied) × (now ≡ before ++ refusal_line why)) ⊎ IsFree status
+  pub verified : (r : ReportValue) → due words bytes ≡ Ok (Audit r) → audited r files ≡ Ok tt → (status ≡ Done) ⊎ IsFree status
+  pub shelf : (r : ReportValue) → due words bytes ≡ Ok (Audit r) → status ≡ Done → ShelfRight r files
 
 -- ---- the whole theorem, over the values of one run
 
@@ -140,9 +141,9 @@ pub record ToldValue : Type 0 where
   pub sink : Bool
   pub shelf : Bool
 
-pub record IsRun (built : Built) (x : RunValue) (told : ToldValue) (source sink shelf : CountValue) : Type 0 where
-  pub call : IsCall built x.words x.status source sink shelf (x.left ≡ x.bytes) (x.now ≡ x.before) (FilesStay x.files x.files_after)
-  pub status : Knows told.source built x.words → StatusIsDue built x.words x.bytes x.status
-  pub left : IsTrue told.source → LeftIsDue built x.words x.bytes x.left x.status
-  pub text : Knows told.source built x.words → IsTrue told.sink → TextIsDue built x.words x.bytes x.before x.now x.status
-  pub files : Knows told.source built x.words → IsTrue told.sink → IsTrue told.shelf → FilesAreDue built x.words x.bytes x.before x.now x.files x.files_after x.status
+pub record IsRun (x : RunValue) (told : ToldValue) (source sink shelf : CountValue) : Type 0 where
+  pub call : IsCall x.words x.status source sink shelf (x.left ≡ x.bytes) (x.now ≡ x.before) (FilesStay x.files x.files_after)
+  pub status : Knows told.source x.words → StatusIsDue x.words x.bytes x.status
+  pub left : IsTrue told.source → LeftIsDue x.words x.bytes x.left x.status
+  pub text : Knows told.source x.words → IsTrue told.sink → TextIsDue x.words x.bytes x.before x.now x.status
+  pub files : Knows told.source x.words → IsTrue told.sink → IsTrue told.shelf → FilesAreDue x.words x.bytes x.before x.now x.files x.files_after x.status

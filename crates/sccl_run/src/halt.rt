@@ -1,6 +1,7 @@
 //! Why there is no answer.
 
 use engine_rules::EngineFault;
+use frontier_audit::AuditFault;
 use std::alloc::AllocError;
 
 /// Why there is no answer.
@@ -35,6 +36,20 @@ impl From<EngineFault> for Halt {
         match fault {
             EngineFault::ShelfFailed => Halt::Shelf,
             EngineFault::OutOfMemory => Halt::Memory,
+        }
+    }
+}
+
+impl From<AuditFault> for Halt {
+    ghost use Rattle.std.specs.Prelude.{◌≡◌};
+    ghost use Rattle.sccl_run.specs.Halts.{halt_of_audit};
+
+    ghost from_gives = { λ fault halt. halt ≡ halt_of_audit fault };
+
+    fn from(fault: AuditFault) -> Halt {
+        match fault {
+            AuditFault::ShelfFailed => Halt::Shelf,
+            AuditFault::OutOfMemory => Halt::Memory,
         }
     }
 }

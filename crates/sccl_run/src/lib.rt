@@ -2,6 +2,7 @@
 #![tactic(auto)]
 
 mod answer;
+mod checking;
 mod halt;
 mod jobs;
 mod laws;
@@ -16,6 +17,7 @@ mod synth;
 #[cfg(test)]
 mod tests;
 mod toplevel;
+mod trying;
 mod unsearchable;
 mod vectors;
 
@@ -29,4 +31,4 @@ pub use laws::{
 pub use status::Status;
 pub use std::alloc::AllocError as OutOfMemory;
 pub use toplevel::run;
-pub use vectors::{reports_due, searches_due, sizes, trials, words_due};
+pub use vectors::{reports_due, searches_due, sizes, words_due};

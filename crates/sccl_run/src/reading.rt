@@ -1,17 +1,17 @@
 //! The answers to what the source gives.
 
-ghost use Rattle.std.specs.Prelude.{◌≡◌, ◌≢◌, ◌⊎◌, ◌+◌, ◌<◌, ◌≤◌, ℕ, true, length, IsTrue, Err, Ok, IfOk, IfSome, IfNone, OnOk, drop};
+ghost use Rattle.std.specs.Prelude.{◌≡◌, ◌≢◌, ◌⊎◌, ◌+◌, ◌<◌, ◌≤◌, ℕ, length, IsTrue, Err, Ok, IfOk, IfSome, IfNone, OnOk, drop};
 ghost use Rattle.outer_ports.specs.Port.{HasCause, Rose, Tells};
 ghost use Rattle.outer_ports.specs.Shelf.{FilesStay};
 ghost use Rattle.command_words.specs.Commands.{IsProper};
-ghost use Rattle.sccl_run.specs.Answering.{BeginsDue, Ends, ProvesDue, Says};
+ghost use Rattle.sccl_run.specs.Answering.{AuditsDue, BeginsDue, Ends, ProvesDue, Says};
 ghost use Rattle.sccl_run.specs.Asked.{Changes, Opens};
-ghost use Rattle.sccl_run.specs.Built.{is_built};
 ghost use Rattle.sccl_run.specs.Jobs.{command_of_text};
 ghost use Rattle.sccl_run.specs.Refusals.{Refusal};
 ghost use Rattle.sccl_run.specs.Tasks.{limit, task_of};
 
 use crate::answer::{Answer, LIMIT, too_long};
+use crate::checking::check_answer;
 use crate::halt::Halt;
 use crate::jobs::TextJob;
 use crate::programming::programs_answer;
@@ -41,7 +41,8 @@ fn read_text<I: Source>(alloc: Global, source: &mut I) -> Result<Option<Vec<u8>>
     }
 }
 
-/// The answer to a text that came whole. Files are kept on the shelf where a search is due, and it is opened by no other job.
+/// The answer to a text that came whole. Files are kept on the shelf where a search is due, and are read where a report is
+/// to be checked; no other job opens it.
 fn text_answer<H: Shelf>(
     alloc: Global,
     job: TextJob,
@@ -50,7 +51,6 @@ fn text_answer<H: Shelf>(
 ) -> Result<Answer, Halt>
     requires short { length bytes.now ≤ limit }
     requires proper { IsProper (command_of_text job) }
-    requires built { is_built (command_of_text job) ≡ true }
     ensures source { result ≢ Err Halt.Source }
     ensures says { IfOk result (λ a. Says (task_of (command_of_text job) bytes.now) a.status a.text.items) }
     ensures told { Tells (H.tells shelf.old) (H.tells shelf.new) }
@@ -59,12 +59,14 @@ fn text_answer<H: Shelf>(
     ensures stay { IsTrue (H.tells shelf.new) → ¬ Changes (command_of_text job) → FilesStay (H.file shelf.old) (H.file shelf.new) }
     ensures begins { IsTrue (H.tells shelf.new) → BeginsDue (task_of (command_of_text job) bytes.now) (H.file shelf.old) (H.file shelf.new) }
     ensures proves { IsTrue (H.tells shelf.new) → IfOk result (λ a. ProvesDue (task_of (command_of_text job) bytes.now) a.text.items (H.file shelf.old) (H.file shelf.new)) }
+    ensures audits { IsTrue (H.tells shelf.new) → IfOk result (λ a. AuditsDue (task_of (command_of_text job) bytes.now) a.status a.text.items (H.file shelf.old)) }
     ensures last { result ≡ Err Halt.Shelf → (r : Refusal) → task_of (command_of_text job) bytes.now ≡ Err r → ⊥ }
     ensures cause { HasCause Halt.Shelf (H.faults shelf.old) (H.faults shelf.new) result }
     ensures steady { result ≢ Err Halt.Shelf → H.faults shelf.new ≡ H.faults shelf.old }
 {
     match job {
         TextJob::Synth(asked) => Ok(synth_text_answer(alloc, asked, bytes, shelf)?),
+        TextJob::Check => Ok(check_answer(alloc, bytes, shelf)?),
         TextJob::Replay(asked, order) => Ok(replay_answer(alloc, bytes, asked, order)?),
         TextJob::Programs(asked) => Ok(programs_answer(alloc, bytes, asked)?),
     }
@@ -77,8 +79,7 @@ pub fn source_answer<I: Source, H: Shelf>(
     source: &mut I,
     shelf: &mut H,
 ) -> Result<Answer, Halt>
-    requires proper { IsProper (command_of_text job) }
-    requires built { is_built (command_of_text job) ≡ true }
+    requires { IsProper (command_of_text job) }
     ensures told { Tells (I.tells source.old) (I.tells source.new) }
     ensures failed { result ≡ Err Halt.Source → Rose (I.faults source.old) (I.faults source.new) }
     ensures kept { result ≢ Err Halt.Source → I.faults source.new ≡ I.faults source.old }
@@ -97,6 +98,7 @@ pub fn source_answer<I: Source, H: Shelf>(
     ensures stay { IsTrue (H.tells shelf.new) → ¬ Changes (command_of_text job) → FilesStay (H.file shelf.old) (H.file shelf.new) }
     ensures begins { IsTrue (I.tells source.new) → IsTrue (H.tells shelf.new) → BeginsDue (task_of (command_of_text job) (I.left source.old)) (H.file shelf.old) (H.file shelf.new) }
     ensures proves { IsTrue (I.tells source.new) → IsTrue (H.tells shelf.new) → IfOk result (λ a. ProvesDue (task_of (command_of_text job) (I.left source.old)) a.text.items (H.file shelf.old) (H.file shelf.new)) }
+    ensures audits { IsTrue (I.tells source.new) → IsTrue (H.tells shelf.new) → IfOk result (λ a. AuditsDue (task_of (command_of_text job) (I.left source.old)) a.status a.text.items (H.file shelf.old)) }
     ensures last { IsTrue (I.tells source.new) → result ≡ Err Halt.Shelf → (r : Refusal) → task_of (command_of_text job) (I.left source.old) ≡ Err r → ⊥ }
 {
     match read_text(alloc, source)? {

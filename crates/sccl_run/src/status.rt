@@ -10,7 +10,7 @@ pub enum Status {
     Done = 0,
     /// Memory ran out; nothing was written.
     OutOfMemory = 1,
-    /// The words are refused: they are no command, or one that is not built yet.
+    /// The words are refused.
     BadWords = 2,
     /// The text that was read is no topology.
     BadTopology = 3,

@@ -5,6 +5,7 @@ use outer_ports::{MemorySink, SureShelf, SureSource};
 use std::alloc::{AllocError, Global};
 use std::process::Abort;
 
+mod checks;
 mod families;
 mod numbers;
 mod ports;
@@ -16,6 +17,7 @@ mod reports;
 mod search_files;
 mod searches;
 mod texts;
+mod trials;
 
 fn words(alloc: Global, all: &[&str]) -> Result<Vec<String>, AllocError> {
     let mut words = Vec::new(alloc);

@@ -7,10 +7,8 @@ ghost use Rattle.report_form.specs.Rows.{broadcast_report, relay_report};
 ghost use Rattle.frontier_audit.specs.Rows.{beside_one_step, cnf_of_one_step};
 ghost use Rattle.candidate_formula.specs.Sizes.{size_of};
 ghost use Rattle.sccl_run.specs.Refusals.{refusal_line, refused_at};
-ghost use Rattle.sccl_run.specs.Trials.{trial_text, trial_topology, trial_words};
-ghost use Rattle.sccl_run.specs.Built.{everything, so_far};
 ghost use Rattle.sccl_run.specs.Tasks.{Try, audited, due, searchable};
-ghost use Rattle.sccl_run.specs.Rows.{no_files, moved_text, refuted_trial, search, two_nodes_text};
+ghost use Rattle.sccl_run.specs.Rows.{moved_text, search, two_nodes_text};
 
 use crate::status::Status;
 use collective_spec::{Kind, Spec};
@@ -24,33 +22,25 @@ pub fn sizes()
 
 /// Words that are refused before anything is read, and words that ask for a trial.
 pub fn words_due()
-    ensures none { due everything [] [] ≡ Err (refused_at Status.BadWords 1 0) }
-    ensures unknown { due everything (codes "sing" ∷ []) [] ≡ Err (refused_at Status.BadWords 2 0) }
-    ensures missing { due everything (codes "synth" ∷ codes "k=0" ∷ []) [] ≡ Err (refused_at Status.BadWords 5 2) }
-    ensures trial { due everything (codes "trial" ∷ codes "n=3333" ∷ []) [] ≡ Ok (Try 3333) }
-    ensures not_built { due so_far (codes "trial" ∷ codes "n=3333" ∷ []) [] ≡ Err (refused_at Status.BadWords 11 0) }
+    ensures none { due [] [] ≡ Err (refused_at Status.BadWords 1 0) }
+    ensures unknown { due (codes "sing" ∷ []) [] ≡ Err (refused_at Status.BadWords 2 0) }
+    ensures missing { due (codes "synth" ∷ codes "k=0" ∷ []) [] ≡ Err (refused_at Status.BadWords 5 2) }
+    ensures trial { due (codes "trial" ∷ codes "n=3333" ∷ []) [] ≡ Ok (Try 3333) }
 {}
 
 /// Searches that are refused for the text, the root, the collective, and the chunk counts.
 pub fn searches_due()
-    ensures text { due everything (search (codes "collective=broadcast") []) (codes "topology 3\n") ≡ Err (refused_at Status.BadTopology 1 1) }
-    ensures root { due everything (search (codes "collective=broadcast") (codes "root=n9" ∷ [])) two_nodes_text ≡ Err (refused_at Status.BadWords 8 6) }
-    ensures no_pattern { due everything (search (codes "collective=custom") []) two_nodes_text ≡ Err (refused_at Status.BadWords 12 1) }
-    ensures pattern { due everything (search (codes "collective=broadcast") (codes "root=n9" ∷ [])) moved_text ≡ Err (refused_at Status.BadWords 12 1) }
-    ensures candidates { due everything (search (codes "collective=alltoall") []) two_nodes_text ≡ Err (refused_at Status.NoCandidate 0 0) }
+    ensures text { due (search (codes "collective=broadcast") []) (codes "topology 3\n") ≡ Err (refused_at Status.BadTopology 1 1) }
+    ensures root { due (search (codes "collective=broadcast") (codes "root=n9" ∷ [])) two_nodes_text ≡ Err (refused_at Status.BadWords 8 6) }
+    ensures no_pattern { due (search (codes "collective=custom") []) two_nodes_text ≡ Err (refused_at Status.BadWords 12 1) }
+    ensures pattern { due (search (codes "collective=broadcast") (codes "root=n9" ∷ [])) moved_text ≡ Err (refused_at Status.BadWords 12 1) }
+    ensures candidates { due (search (codes "collective=alltoall") []) two_nodes_text ≡ Err (refused_at Status.NoCandidate 0 0) }
 {}
 
 /// Reports that are refused for their text, for the point that is asked for, and by the audit.
 pub fn reports_due()
-    ensures text { due everything (codes "replay" ∷ codes "point=1" ∷ []) (codes "sccl 1\n") ≡ Err (refused_at Status.BadReport 2 2) }
-    ensures point { due everything (codes "replay" ∷ codes "point=2" ∷ []) (report_text broadcast_report) ≡ Err (refused_at Status.BadWords 9 1) }
+    ensures text { due (codes "replay" ∷ codes "point=1" ∷ []) (codes "sccl 1\n") ≡ Err (refused_at Status.BadReport 2 2) }
+    ensures point { due (codes "replay" ∷ codes "point=2" ∷ []) (report_text broadcast_report) ≡ Err (refused_at Status.BadWords 9 1) }
     ensures denied { audited relay_report (beside_one_step cnf_of_one_step []) ≡ Err (record { status = Status.Denied; code = 5; place = codes "1-1-1" }) }
     ensures line { refusal_line (record { status = Status.Denied; code = 5; place = codes "1-1-1" }) ≡ codes "refused 8 5 1-1-1\n" }
-{}
-
-/// The searches of two trials, and the text of the first.
-pub fn trials()
-    ensures topology { trial_topology 3333 ≡ family_of FamilyKind.Ring 4 }
-    ensures words { trial_words 3333 ≡ record { collective = record { kind = Kind.Broadcast; root = 0 }; limits = record { k = 1; max_s = 3; max_c = 2; conflicts = 2000 } } }
-    ensures first { trial_text 0 (refuted_trial 0 (record { s = 1; r = 1; c = 1 } ∷ [])) ≡ codes "trial 0\nsynth collective=broadcast k=0 steps=1 chunks=1 conflicts=2000 root=n0\nfamily line 3\npoints 0 refuted 1 unknown 0 joined 0\ncheck verified\nreplays 0 events 0\nend\n" }
 {}

@@ -36,7 +36,7 @@ fn refusals_of_words(rt: HostRuntime) -> Result<(), Fail> {
         "conflicts=1000",
         "root=n0",
     ];
-    let table: [(&[&str], &[u8]); 20] = [
+    let table: [(&[&str], &[u8]); 18] = [
         (&[], b"refused 2 1 0\n"),
         (&["sing"], b"refused 2 2 0\n"),
         (&[""], b"refused 2 2 0\n"),
@@ -54,9 +54,7 @@ fn refusals_of_words(rt: HostRuntime) -> Result<(), Fail> {
         (&["family", "size=17", "kind=cone"], b"refused 2 6 1\n"),
         (&alltoall, b"refused 2 7 6\n"),
         (&["synth", "chunks=17"], b"refused 2 6 1\n"),
-        (&["trial", "n=4095"], b"refused 2 11 0\n"),
         (&["trial", "n=4096"], b"refused 2 6 1\n"),
-        (&["check"], b"refused 2 11 0\n"),
     ];
     for (all, text) in table {
         unread(&rt, all, Status::BadWords, text)?;

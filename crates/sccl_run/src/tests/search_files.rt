@@ -9,11 +9,11 @@ use std::process::Abort;
 use std::test::Fail;
 
 /// The formula of a broadcast over three nodes in a row in one step and one round.
-const ONE_STEP: &[u8] =
+pub const ONE_STEP: &[u8] =
     b"p cnf 18 33\n1 0\n-3 0\n-5 0\n-1 2 0\n-3 4 0\n-5 6 0\n2 0\n4 0\n6 0\n-7 1 0\n-7 -3 0\n-7 4 0\n-8 3 0\n-8 -1 0\n-8 2 0\n-9 3 0\n-9 -5 0\n-9 6 0\n-10 5 0\n-10 -3 0\n-10 4 0\n1 -2 8 0\n3 -4 7 10 0\n5 -6 9 0\n-7 -10 0\n-7 11 0\n-12 0\n-8 13 0\n-14 0\n-9 15 0\n-16 0\n-10 17 0\n-18 0\n";
 
 /// A file of the candidate of one step, one round and one chunk.
-fn first(kind: FileKind) -> ProofName {
+pub fn first(kind: FileKind) -> ProofName {
     ProofName {
         kind,
         part: Part::Whole,

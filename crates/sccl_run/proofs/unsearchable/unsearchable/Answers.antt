@@ -1,4 +1,4 @@
-use Rattle.std.proofs.Common.{◌≡◌, ◌==◌, ◌∙◌, ap, false, sym, true}
+use Rattle.std.proofs.Common.{◌==◌, ◌∙◌, ap, false, sym, true}
 use Rattle.schedule.specs.Links.{TopologyValue}
 use Rattle.sccl_run.specs.declared.status.Status.TheVariants.{NoCandidate, TooLarge}
 use Rattle.sccl_run.specs.Refusals.{refused_at}

@@ -19,7 +19,3 @@ returns-clause-missing c = refl
 pub returns-clause-trial : goal.returns-clause-trial
 unfolding due command_of digits
 returns-clause-trial c = refl
-
-pub returns-clause-not_built : goal.returns-clause-not_built
-unfolding due command_of digits
-returns-clause-not_built c = refl
