@@ -26,14 +26,12 @@ pub enum WordCode {
     UnknownPoint = 9,
     /// Memory ran out, and nothing is said of the words.
     OutOfMemory = 10,
-    /// The command isn't built yet.
-    NotBuilt = 11,
     /// The collective is `custom` and the topology gives none, or the topology gives one and the collective is another.
     CustomMismatch = 12,
 }
 
 impl WordCode {
-    /// The number by which a refusal names the code, from 1 to 12 in the order of the variants.
+    /// The number by which a refusal names the code, from 1 to 12; there is no 11.
     pub fn number(self) -> u8
         ensures { result ≡ number_of self }
     {

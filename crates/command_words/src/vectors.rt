@@ -12,7 +12,7 @@ use topology_text::FamilyKind;
 
 /// The codes in their order.
 pub fn codes_are_numbered()
-    ensures { map number_of (WordCode.NoCommand ∷ WordCode.UnknownCommand ∷ WordCode.UnknownKey ∷ WordCode.KeyTwice ∷ WordCode.KeyMissing ∷ WordCode.BadValue ∷ WordCode.RootNotTaken ∷ WordCode.UnknownRoot ∷ WordCode.UnknownPoint ∷ WordCode.OutOfMemory ∷ WordCode.NotBuilt ∷ WordCode.CustomMismatch ∷ []) ≡ 1 ∷ 2 ∷ 3 ∷ 4 ∷ 5 ∷ 6 ∷ 7 ∷ 8 ∷ 9 ∷ 10 ∷ 11 ∷ 12 ∷ [] }
+    ensures { map number_of (WordCode.NoCommand ∷ WordCode.UnknownCommand ∷ WordCode.UnknownKey ∷ WordCode.KeyTwice ∷ WordCode.KeyMissing ∷ WordCode.BadValue ∷ WordCode.RootNotTaken ∷ WordCode.UnknownRoot ∷ WordCode.UnknownPoint ∷ WordCode.OutOfMemory ∷ WordCode.CustomMismatch ∷ []) ≡ 1 ∷ 2 ∷ 3 ∷ 4 ∷ 5 ∷ 6 ∷ 7 ∷ 8 ∷ 9 ∷ 10 ∷ 12 ∷ [] }
 {}
 
 /// Each code, and the index of the word that is blamed.
