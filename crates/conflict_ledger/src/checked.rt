@@ -7,9 +7,8 @@ ghost use Rattle.proof_rules.specs.Refuting.{with_line};
 ghost use Rattle.ledger_rules.specs.Logs.{checker_of, learned};
 
 use crate::copying::copy_of_line;
-use ledger_rules::LedgerFault;
-use ledger_rules::{Ledger, LedgerView};
 use cnf_formula::{Formula, OutOfMemory, ProofLine};
+use ledger_rules::{Ledger, LedgerFault, LedgerView};
 use lrat_checker::{Checker, LineVerdict};
 use std::alloc::Global;
 

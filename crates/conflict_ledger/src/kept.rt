@@ -5,9 +5,8 @@ ghost use Rattle.ledger_rules.specs.Logs.{learned};
 ghost use Rattle.conflict_ledger.specs.Shelved.{log_text};
 
 use crate::copying::{copy_of_formula, copy_of_line};
-use ledger_rules::LedgerFault;
-use ledger_rules::{Ledger, LedgerView};
 use cnf_formula::{Formula, OutOfMemory, ProofLine};
+use ledger_rules::{Ledger, LedgerFault, LedgerView};
 use lrat_text::print_line;
 use std::alloc::Global;
 

@@ -4,9 +4,8 @@ ghost use Rattle.std.specs.Prelude.{◌≡◌, []};
 ghost use Rattle.ledger_rules.specs.Logs.{checker_of, learned};
 
 use crate::checked::CheckedLedger;
-use ledger_rules::LedgerFault;
-use ledger_rules::{Ledger, LedgerView};
 use cnf_formula::ProofLine;
+use ledger_rules::{Ledger, LedgerFault, LedgerView};
 
 /// Gives each line to a checked ledger and to another, beside whose stores it works.
 #[derive(Drop)]

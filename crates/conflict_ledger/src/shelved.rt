@@ -5,10 +5,9 @@ ghost use Rattle.outer_ports.specs.Port.{HasCause, Tells};
 ghost use Rattle.outer_ports.specs.Shelf.{OthersStay};
 ghost use Rattle.conflict_ledger.specs.Shelved.{log_name};
 
-use ledger_rules::LedgerFault;
 use crate::kept::KeptLedger;
-use ledger_rules::{Ledger, LedgerView};
 use cnf_formula::{Formula, ProofLine};
+use ledger_rules::{Ledger, LedgerFault, LedgerView};
 use outer_ports::{FileKind, Part, ProofName, Shelf, append_all};
 use std::alloc::Global;
 

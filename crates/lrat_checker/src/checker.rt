@@ -11,8 +11,8 @@ use crate::freshness::is_fresh;
 use crate::judging::judge;
 use crate::marks::Marks;
 use crate::table::ClauseTable;
-use proof_rules::{LineCode, LineVerdict};
 use cnf_formula::{Deletion, Formula, Lit, OutOfMemory, ProofLine};
+use proof_rules::{LineCode, LineVerdict};
 use std::alloc::Global;
 use std::marker::Model;
 

@@ -9,8 +9,8 @@ use crate::leading::{Led, lead, next_group};
 use crate::marks::Marks;
 use crate::redundancy::redundancy;
 use crate::table::ClauseTable;
-use proof_rules::{LineCode, LineVerdict};
 use cnf_formula::{Lit, OutOfMemory, ProofLine};
+use proof_rules::{LineCode, LineVerdict};
 
 /// Whether every literal is about one of so many variables.
 fn in_range(lits: &[Lit], vars: u32) -> bool

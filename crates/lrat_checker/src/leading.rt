@@ -11,8 +11,8 @@ ghost use Rattle.lrat_checker.specs.Steps.{led_as};
 
 use crate::marks::Marks;
 use crate::table::ClauseTable;
-use proof_rules::LineCode;
 use cnf_formula::{Lit, OutOfMemory};
+use proof_rules::LineCode;
 
 /// Where hints in a row lead.
 pub(crate) enum Led {

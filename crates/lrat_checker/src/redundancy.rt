@@ -14,8 +14,8 @@ ghost use Rattle.lrat_checker.specs.Steps.{Names, Same};
 use crate::leading::{Led, lead, next_group};
 use crate::marks::Marks;
 use crate::table::{ClauseTable, has_negated};
-use proof_rules::{LineCode, LineVerdict};
 use cnf_formula::{Lit, OutOfMemory, ProofLine};
+use proof_rules::{LineCode, LineVerdict};
 use std::collections::BTreeSet;
 
 /// Assumes the literals of a clause other than the negated pivot false, in their order, and says that it did. It stops at

@@ -5,8 +5,8 @@ ghost use Rattle.pareto_search.specs.Apart.{AllRefuted};
 
 use crate::search;
 use candidate_order::{Candidate, Limits, Outcome};
-use engine_rules::{Engine, EngineFault, EngineView, Settled};
 use cnf_formula::ProofLine;
+use engine_rules::{Engine, EngineFault, EngineView, Settled};
 use std::test::Fail;
 
 /// Refutes every candidate.
