@@ -24,6 +24,10 @@ def words(collective, k, steps, chunks, conflicts):
     return ["synth", f"collective={collective}", f"k={k}", f"steps={steps}", f"chunks={chunks}", f"conflicts={conflicts}"]
 
 
+def output(program, asked, given, folder):
+    return subprocess.run([program, *asked], input=given, stdout=subprocess.PIPE, cwd=folder).stdout.decode()
+
+
 def search(program, asked, topology, folder, limit=None):
     """The report of a search, whose files are left in the folder `proofs` of this one, and its seconds. There is no report where
     the search took longer than the limit."""
