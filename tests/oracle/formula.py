@@ -47,13 +47,13 @@ class Formula:
     def sending(self):
         has, turns = self.has, self.turns
         places = self.each(self.chunks, self.nodes)
-        for it in places:
-            self.add(has[*it, 0] if it in self.before else -has[*it, 0])
+        for c, n in places:
+            self.add(has[c, n, 0] if (c, n) in self.before else -has[c, n, 0])
         for c, n, s in self.each(self.chunks, self.nodes, turns):
             self.add(-has[c, n, s - 1], has[c, n, s])
-        for it in places:
-            if it in self.after:
-                self.add(has[*it, self.steps])
+        for c, n in places:
+            if (c, n) in self.after:
+                self.add(has[c, n, self.steps])
         for c, (a, b), s in self.each(self.chunks, self.links, turns):
             sent = self.sends[c, (a, b), s]
             self.add(-sent, has[c, a, s - 1])
