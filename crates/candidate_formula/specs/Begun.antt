@@ -4,8 +4,8 @@ use Rattle.outer_ports.specs.declared.proof_name.FileKind.{FileKind}
 use Rattle.outer_ports.specs.declared.proof_name.FileKind.TheVariants.{Cnf, Lrat, Partial}
 use Rattle.cnf_formula.specs.Formulas.{FormulaValue}
 use Rattle.cnf_formula.specs.declared.line.LratLine.{LratLine}
-use Rattle.lrat_checker.specs.Held.{start_of}
-use Rattle.lrat_checker.specs.Refuting.{AllAccepted}
+use Rattle.proof_rules.specs.Held.{start_of}
+use Rattle.proof_rules.specs.Refuting.{AllAccepted}
 use Rattle.lrat_text.specs.Printing.{cnf_text, lrat_text}
 
 pub record IsPrefix (part whole : List ℕ) : Type 0 where

@@ -10,7 +10,7 @@ use Rattle.candidate_order.specs.Frontiers.{QuestionValue, UnknownValue}
 use Rattle.cnf_formula.specs.Lines.{ProofLineValue}
 use Rattle.cnf_formula.specs.declared.line.LratLine.{LratLine}
 use Rattle.cnf_formula.specs.declared.line.LratLine.TheVariants.{Addition}
-use Rattle.lrat_checker.specs.Refuting.{Refutes, SpentLog}
+use Rattle.proof_rules.specs.Refuting.{Refutes, SpentLog}
 use Rattle.lrat_text.specs.Printing.{cnf_text}
 use Rattle.candidate_formula.specs.Formulas.{formula_for}
 use Rattle.candidate_formula.specs.Lines.{lines_of_text}

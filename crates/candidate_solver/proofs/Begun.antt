@@ -5,8 +5,8 @@ use Rattle.std.proofs.lemmas.List.{take-append-drop, append-nil}
 use Rattle.cnf_formula.specs.Formulas.{FormulaValue}
 use Rattle.cnf_formula.specs.Lines.{ProofLineValue}
 use Rattle.cnf_formula.specs.declared.line.LratLine.TheVariants.{Addition}
-use Rattle.lrat_checker.specs.Held.{CheckerValue, start_of}
-use Rattle.lrat_checker.specs.Refuting.{AllAccepted, AllImplied, with_line, is_accepted}
+use Rattle.proof_rules.specs.Held.{CheckerValue, start_of}
+use Rattle.proof_rules.specs.Refuting.{AllAccepted, AllImplied, with_line, is_accepted}
 use Rattle.lrat_text.specs.Printing.{cnf_text}
 use Rattle.outer_ports.specs.declared.part.Part.{Part}
 use Rattle.outer_ports.specs.declared.proof_name.FileKind.{FileKind}

@@ -10,10 +10,10 @@ use Rattle.cnf_formula.specs.Literals.{LitValue, IsLit}
 use Rattle.cnf_formula.specs.Formulas.{FormulaValue, IsClause}
 use Rattle.cnf_formula.specs.Lines.{ProofLineValue}
 use Rattle.cnf_formula.specs.declared.line.LratLine.TheVariants.{Addition}
-use Rattle.lrat_checker.specs.Held.{Entry, CheckerValue, start_of, clause_at}
-use Rattle.lrat_checker.specs.Accepting.{Conflicts, Implied, leading, groups_from}
-use Rattle.lrat_checker.specs.Refuting.{AllImplied, with_line}
-use Rattle.lrat_checker.proofs.Verdicts.{implied_by}
+use Rattle.proof_rules.specs.Held.{Entry, CheckerValue, start_of, clause_at}
+use Rattle.proof_rules.specs.Accepting.{Conflicts, Implied, leading, groups_from}
+use Rattle.proof_rules.specs.Refuting.{AllImplied, with_line}
+use Rattle.proof_rules.proofs.Verdicts.{implied_by}
 use Rattle.lrat_text.specs.Printing.{IsId, IsHint, IsReadable}
 use Rattle.outer_ports.specs.declared.proof_name.ProofName.{ProofName}
 use Rattle.outer_ports.specs.Files.{Files}

@@ -6,8 +6,8 @@ use Rattle.std.proofs.lemmas.List.Elements.{All-push, Contains-get_or, Contains-
 use Rattle.cnf_formula.specs.Formulas.{FormulaValue}
 use Rattle.cnf_formula.specs.Lines.{ProofLineValue}
 use Rattle.cnf_formula.specs.declared.line.LratLine.TheVariants.{Addition}
-use Rattle.lrat_checker.specs.Refuting.{Exhausted, Refutes}
-use Rattle.lrat_checker.proofs.Calm.{never_refuted}
+use Rattle.proof_rules.specs.Refuting.{Exhausted, Refutes}
+use Rattle.proof_rules.proofs.Calm.{never_refuted}
 use Rattle.outer_ports.specs.declared.part.Part.{Part}
 use Rattle.outer_ports.specs.declared.proof_name.FileKind.{FileKind}
 use Rattle.outer_ports.specs.declared.proof_name.FileKind.TheVariants.{Cnf, Lrat, Partial}
@@ -22,11 +22,12 @@ use Rattle.candidate_formula.specs.Questions.{IsSmallQuestion}
 use Rattle.candidate_formula.proofs.Exact.{formula_exact}
 use Rattle.candidate_formula.specs.Begun.{Begins}
 use Rattle.cnf_formula.specs.declared.line.LratLine.{LratLine}
-use Rattle.candidate_solver.specs.declared.settled.Settled.{Settled}
-use Rattle.candidate_solver.specs.declared.settled.Settled.TheVariants as settled
+use Rattle.engine_rules.specs.declared.settled.Settled.{Settled}
+use Rattle.engine_rules.specs.declared.settled.Settled.TheVariants as settled
 use Rattle.candidate_order.specs.declared.outcome.Outcome.{Outcome}
 use Rattle.candidate_order.specs.declared.outcome.Outcome.TheVariants as outcome
-use Rattle.candidate_solver.specs.Outcomes.{RecordValue, IsNew, SpentOn, IsProved, kind_of}
+use Rattle.engine_rules.specs.Outcomes.{RecordValue, IsNew, SpentOn, kind_of}
+use Rattle.candidate_solver.specs.Proved.{IsProved}
 use Rattle.candidate_solver.specs.Kept.{HasFiles, KeptAgrees, IsTouched, IsBegun, KeptMoves}
 use Rattle.candidate_solver.specs.Trying.{BeginsOwn, IsOutcome}
 

@@ -6,8 +6,8 @@ use Rattle.schedule.specs.Placed.{PlacementValue}
 use Rattle.schedule.specs.Sends.{ScheduleValue}
 use Rattle.cnf_formula.specs.Lines.{ProofLineValue}
 use Rattle.cnf_formula.specs.declared.line.LratLine.TheVariants.{Addition}
-use Rattle.lrat_checker.specs.Held.{start_of}
-use Rattle.lrat_checker.specs.Refuting.{AllImplied, Refutes}
+use Rattle.proof_rules.specs.Held.{start_of}
+use Rattle.proof_rules.specs.Refuting.{AllImplied, Refutes}
 use Rattle.lrat_text.specs.Printing.{cnf_text}
 use Rattle.outer_ports.specs.declared.part.Part.{Part}
 use Rattle.outer_ports.specs.declared.proof_name.FileKind.TheVariants.{Cnf, Lrat, Partial}
@@ -27,7 +27,7 @@ use Rattle.candidate_formula.specs.Formulas.{formula_for}
 use Rattle.candidate_formula.specs.Questions.{IsSmallQuestion}
 use Rattle.candidate_formula.proofs.Exact.{tight_solves}
 use Rattle.candidate_solver.specs.Kept.{HasFiles}
-use Rattle.candidate_solver.specs.Outcomes.{kind_of, SpentOn}
+use Rattle.engine_rules.specs.Outcomes.{kind_of, SpentOn}
 use Rattle.candidate_solver.specs.Trying.{HasText, HasLines, IsTidy, IsSearch, Says, IsOutcome}
 use Rattle.candidate_solver.proofs.Readable.{IsSmall, holds_lines}
 

@@ -10,9 +10,9 @@ use Rattle.candidate_order.specs.Frontiers.{QuestionValue}
 use Rattle.candidate_formula.specs.Formulas.{formula_for}
 use Rattle.candidate_formula.specs.Files.{candidate_of, HasFormula, IsEmptied, HasRefutation, HasLog}
 use Rattle.candidate_formula.specs.Begun.{Begins}
-use Rattle.candidate_solver.specs.declared.settled.Settled.{Settled}
-use Rattle.candidate_solver.specs.declared.settled.Settled.TheVariants as settled
-use Rattle.candidate_solver.specs.Outcomes.{RecordValue, IsNew}
+use Rattle.engine_rules.specs.declared.settled.Settled.{Settled}
+use Rattle.engine_rules.specs.declared.settled.Settled.TheVariants as settled
+use Rattle.engine_rules.specs.Outcomes.{RecordValue, IsNew}
 
 -- the formula of a settled candidate stands there, with what proves its outcome; the file that is not needed is empty
 abbrev pub HasFiles : Part → QuestionValue → Files → Candidate × Settled → Type 0

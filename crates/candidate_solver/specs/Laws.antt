@@ -9,7 +9,7 @@ use Rattle.outer_ports.specs.Files.{Files}
 use Rattle.candidate_order.specs.declared.candidate.Candidate.{Candidate}
 use Rattle.candidate_order.specs.Frontiers.{QuestionValue}
 use Rattle.candidate_formula.specs.Files.{candidate_of}
-use Rattle.candidate_solver.specs.Outcomes.{RecordValue, IsNew}
+use Rattle.engine_rules.specs.Outcomes.{RecordValue, IsNew}
 use Rattle.candidate_solver.specs.Kept.{IsTouched, IsBegun, KeptMoves}
 
 pub KeptMoves-refl : (part : Part) (q : QuestionValue) (entries : RecordValue) (stopped : Option Candidate) (told : Bool) (files : Files) → KeptMoves part part q q entries entries stopped stopped told told files files

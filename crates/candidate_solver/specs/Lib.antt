@@ -1,4 +1,4 @@
-pub mod Outcomes
+pub mod Proved
 pub mod Kept
 pub mod Faults
 pub mod Trying

@@ -3,14 +3,14 @@ use Rattle.std.specs.Prelude.{◌≡◌, ◌⊎◌, ℕ, ◌+◌, ◌≤◌, Boo
 use Rattle.cnf_formula.specs.Formulas.{FormulaValue, Satisfies}
 use Rattle.cnf_formula.specs.Lines.{ProofLineValue}
 use Rattle.cnf_formula.specs.declared.line.LratLine.TheVariants.{Addition}
-use Rattle.lrat_checker.specs.Refuting.{Refutes}
+use Rattle.proof_rules.specs.Refuting.{Refutes}
 use Rattle.lrat_text.specs.Printing.{cnf_text}
 use Rattle.outer_ports.specs.declared.part.Part.{Part}
 use Rattle.outer_ports.specs.declared.proof_name.FileKind.{FileKind}
 use Rattle.outer_ports.specs.declared.proof_name.FileKind.TheVariants.{Cnf, Lrat, Partial}
 use Rattle.outer_ports.specs.declared.proof_name.ProofName.{ProofName}
 use Rattle.outer_ports.specs.Files.{Files}
-use Rattle.conflict_ledger.specs.Logs.{learned}
+use Rattle.ledger_rules.specs.Logs.{learned}
 use Rattle.conflict_ledger.specs.Shelved.{log_text}
 use Rattle.sat_core.specs.declared.solving.SatAnswer.{SatAnswer}
 use Rattle.sat_core.specs.declared.solving.SatAnswer.TheVariants as answer
@@ -27,9 +27,9 @@ use Rattle.round_encoding.specs.Candidates.{IsEncodingOf, IsTightSolution}
 use Rattle.candidate_formula.specs.Formulas.{formula_for}
 use Rattle.candidate_formula.specs.Files.{file_of, candidate_of, IsEmptied}
 use Rattle.candidate_formula.specs.Begun.{Begins}
-use Rattle.candidate_solver.specs.Outcomes.{SolvesTightly, SpentOn}
-use Rattle.candidate_solver.specs.declared.settled.Settled.{Settled}
-use Rattle.candidate_solver.specs.declared.settled.Settled.TheVariants as settled
+use Rattle.engine_rules.specs.Outcomes.{SolvesTightly, SpentOn}
+use Rattle.engine_rules.specs.declared.settled.Settled.{Settled}
+use Rattle.engine_rules.specs.declared.settled.Settled.TheVariants as settled
 
 -- ---- files
 

@@ -7,11 +7,10 @@ ghost use Rattle.candidate_formula.specs.Files.{file_of, IsEmptied};
 ghost use Rattle.cnf_formula.specs.Formulas.{FormulaValue};
 ghost use Rattle.candidate_solver.specs.Trying.{BeginsOwn, HasText, IsTidy};
 
-use crate::fault::EngineFault;
-use crate::settled::Settled;
 use candidate_formula::file_name;
 use candidate_order::Candidate;
 use cnf_formula::Formula;
+use engine_rules::{EngineFault, Settled};
 use lrat_text::print_cnf;
 use outer_ports::{FileKind, Part, Shelf, write_file};
 use std::alloc::Global;

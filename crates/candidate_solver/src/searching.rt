@@ -4,16 +4,17 @@ ghost use Rattle.std.specs.Prelude.{◌≡◌, ◌≢◌, [], IsTrue, Err, IfOk}
 ghost use Rattle.outer_ports.specs.Port.{HasCause, Tells};
 ghost use Rattle.conflict_ledger.specs.Shelved.{ShelfAgrees, ShelfMoves};
 ghost use Rattle.candidate_formula.specs.Files.{file_of};
+ghost use Rattle.candidate_solver.specs.Faults.{of_solving};
 ghost use Rattle.candidate_solver.specs.Trying.{BeginsOwn, HasLines, IsSearch};
-ghost use Rattle.lrat_checker.specs.Held.{start_of};
-ghost use Rattle.lrat_checker.specs.Refuting.{AllImplied};
+ghost use Rattle.proof_rules.specs.Held.{start_of};
+ghost use Rattle.proof_rules.specs.Refuting.{AllImplied};
 
-use crate::fault::EngineFault;
 use candidate_order::Candidate;
 use cnf_formula::{Formula, ProofLine};
 use conflict_ledger::{CheckedLedger, Ledger, LedgerView, PairLedger, ShelfLedger};
+use engine_rules::EngineFault;
 use outer_ports::{FileKind, Part, Shelf};
-use sat_core::{SatAnswer, solve};
+use sat_core::{SatAnswer, SolveFault, solve};
 use std::alloc::Global;
 
 /// What a search says, and the lines of its proof.
@@ -21,6 +22,16 @@ use std::alloc::Global;
 pub(crate) struct Found {
     pub(crate) answer: SatAnswer,
     pub(crate) lines: Vec<ProofLine>,
+}
+
+/// The fault of a search, as that of an engine.
+fn engine_fault(fault: SolveFault) -> EngineFault
+    ensures { result ≡ of_solving fault }
+{
+    match fault {
+        SolveFault::LedgerFailed => EngineFault::ShelfFailed,
+        SolveFault::OutOfMemory => EngineFault::OutOfMemory,
+    }
 }
 
 /// A search whose lines are not checked.
@@ -40,7 +51,7 @@ fn search_plain<H: Shelf>(
     ensures steady { result ≢ Err EngineFault.ShelfFailed → H.faults store.new ≡ H.faults store.old }
 {
     let mut ledger = ledger;
-    let answer = solve(alloc, formula, &mut ledger, store)?;
+    let answer = solve(alloc, formula, &mut ledger, store).map_err(engine_fault)?;
     Ok(Found {
         answer,
         lines: ledger.into_lines(),
@@ -66,7 +77,7 @@ fn search_checked<H: Shelf>(
     ensures steady { result ≢ Err EngineFault.ShelfFailed → H.faults store.new ≡ H.faults store.old }
 {
     let mut pair = PairLedger::new(CheckedLedger::new(alloc, formula, limit)?, ledger);
-    let answer = solve(alloc, formula, &mut pair, store)?;
+    let answer = solve(alloc, formula, &mut pair, store).map_err(engine_fault)?;
     Ok(Found {
         answer,
         lines: pair.into_second().into_lines(),

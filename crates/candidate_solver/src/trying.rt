@@ -2,8 +2,8 @@
 
 ghost use Rattle.std.specs.Prelude.{◌≡◌, ◌≢◌, Bool, List, IsTrue, Err, IfOk};
 ghost use Rattle.cnf_formula.specs.Formulas.{FormulaValue, Satisfies};
-ghost use Rattle.lrat_checker.specs.Held.{start_of};
-ghost use Rattle.lrat_checker.specs.Refuting.{AllImplied};
+ghost use Rattle.proof_rules.specs.Held.{start_of};
+ghost use Rattle.proof_rules.specs.Refuting.{AllImplied};
 ghost use Rattle.outer_ports.specs.Port.{HasCause, Tells};
 ghost use Rattle.round_encoding.specs.Candidates.{IsEncoding};
 ghost use Rattle.candidate_order.specs.Frontiers.{IsWithin};
@@ -11,17 +11,16 @@ ghost use Rattle.candidate_formula.specs.Files.{file_of};
 ghost use Rattle.candidate_formula.specs.Formulas.{formula_for};
 ghost use Rattle.candidate_solver.specs.Asked.{asked};
 ghost use Rattle.candidate_solver.specs.Kept.{HasFiles};
-ghost use Rattle.candidate_solver.specs.Outcomes.{kind_of};
+ghost use Rattle.engine_rules.specs.Outcomes.{kind_of};
 ghost use Rattle.candidate_solver.specs.Trying.{BeginsOwn, HasLines, HasText, IsOutcome, IsSearch, IsTidy, Says};
 
-use crate::fault::EngineFault;
 use crate::files::{tidy, write_formula};
 use crate::question::Question;
 use crate::searching::{Found, search};
-use crate::settled::Settled;
 use candidate_formula::encode_candidate;
 use candidate_order::{Candidate, Outcome};
 use cnf_formula::{Formula, ProofLine};
+use engine_rules::{EngineFault, Settled};
 use outer_ports::{FileKind, Part, Shelf};
 use round_encoding::{Encoding, decode};
 use sat_core::SatAnswer;

@@ -5,9 +5,9 @@ use Rattle.std.proofs.lemmas.Bool.{cases_Bool, false≢true}
 use Rattle.cnf_formula.specs.Literals.{LitValue}
 use Rattle.cnf_formula.specs.Lines.{ProofLineValue}
 use Rattle.cnf_formula.specs.declared.line.LratLine.TheVariants.{Addition}
-use Rattle.lrat_checker.specs.Held.{CheckerValue}
-use Rattle.lrat_checker.specs.Refuting.{is_empty, is_fresh, with_line, after}
-use Rattle.conflict_ledger.specs.Logs.{learned}
+use Rattle.proof_rules.specs.Held.{CheckerValue}
+use Rattle.proof_rules.specs.Refuting.{is_empty, is_fresh, with_line, after}
+use Rattle.ledger_rules.specs.Logs.{learned}
 
 -- a fresh clause has a literal
 pub fresh_some : (c : CheckerValue) (clause : List LitValue) → is_fresh c clause ≡ true → not (is_empty clause) ≡ true

@@ -10,17 +10,17 @@ use Rattle.cnf_formula.specs.Literals.{LitValue, is_superset}
 use Rattle.cnf_formula.specs.Formulas.{FormulaValue}
 use Rattle.cnf_formula.specs.Lines.{ProofLineValue}
 use Rattle.cnf_formula.specs.declared.line.LratLine.TheVariants.{Addition}
-use Rattle.lrat_checker.specs.declared.verdict.LineVerdict.TheVariants.{Accepted}
-use Rattle.lrat_checker.specs.Held.{Entry, CheckerValue, start_of}
-use Rattle.lrat_checker.specs.Judging.{verdict_of}
-use Rattle.lrat_checker.specs.Refuting.{is_empty, is_fresh, with_line, after, AllImplied}
+use Rattle.proof_rules.specs.declared.verdict.LineVerdict.TheVariants.{Accepted}
+use Rattle.proof_rules.specs.Held.{Entry, CheckerValue, start_of}
+use Rattle.proof_rules.specs.Judging.{verdict_of}
+use Rattle.proof_rules.specs.Refuting.{is_empty, is_fresh, with_line, after, AllImplied}
 use Rattle.text_lines.specs.Text.{line as text_line}
 use Rattle.lrat_text.specs.Printing.{line_words}
 use Rattle.outer_ports.specs.declared.proof_name.ProofName.{ProofName}
 use Rattle.outer_ports.specs.Port.{Tells}
 use Rattle.outer_ports.specs.Files.{Files}
 use Rattle.outer_ports.specs.Shelf.{OthersStay}
-use Rattle.conflict_ledger.specs.Logs.{checker_of, learned}
+use Rattle.ledger_rules.specs.Logs.{checker_of, learned}
 use Rattle.conflict_ledger.specs.Shelved.{log_text, IsBegun, ShelfMoves, ShelfAgrees, ShelfMoves-trans}
 
 -- ---- one line more

@@ -1,3 +1,1 @@
-pub mod Logs
 pub mod Shelved
-pub mod Faults

@@ -4,15 +4,15 @@ use Rattle.std.proofs.Common.{refl, sym, ◌∙◌, inl, inr, ⊎_elim, subst}
 use Rattle.cnf_formula.specs.Formulas.{FormulaValue}
 use Rattle.cnf_formula.specs.Lines.{ProofLineValue}
 use Rattle.cnf_formula.specs.declared.line.LratLine.TheVariants.{Addition}
-use Rattle.lrat_checker.specs.Held.{start_of}
-use Rattle.lrat_checker.specs.Refuting.{AllImplied}
+use Rattle.proof_rules.specs.Held.{start_of}
+use Rattle.proof_rules.specs.Refuting.{AllImplied}
 use Rattle.lrat_text.specs.Printing.{lrat_text}
 use Rattle.outer_ports.specs.declared.part.Part.{Part}
 use Rattle.outer_ports.specs.declared.proof_name.FileKind.{FileKind}
 use Rattle.outer_ports.specs.declared.proof_name.ProofName.{ProofName}
 use Rattle.outer_ports.specs.Port.{Tells}
 use Rattle.outer_ports.specs.Files.{Files}
-use Rattle.conflict_ledger.specs.Logs.{learned}
+use Rattle.ledger_rules.specs.Logs.{learned}
 
 -- the text of lines, which are all additions
 abbrev pub log_text : List ProofLineValue → List ℕ

@@ -1,14 +1,14 @@
 //! A ledger that checks each line.
 
 ghost use Rattle.std.specs.Prelude.{◌≡◌, ◌≤◌, ◌<◌, ◌+◌, [], ◌∷◌, ◌++◌, true, false, length, vec_len, vec_capacity, refl, IfOk, OnErr, OnOk};
-ghost use Rattle.lrat_checker.specs.declared.verdict.LineVerdict.TheVariants.{Accepted};
-ghost use Rattle.lrat_checker.specs.Judging.{verdict_of};
-ghost use Rattle.lrat_checker.specs.Refuting.{with_line};
-ghost use Rattle.conflict_ledger.specs.Logs.{checker_of, learned};
+ghost use Rattle.proof_rules.specs.declared.verdict.LineVerdict.TheVariants.{Accepted};
+ghost use Rattle.proof_rules.specs.Judging.{verdict_of};
+ghost use Rattle.proof_rules.specs.Refuting.{with_line};
+ghost use Rattle.ledger_rules.specs.Logs.{checker_of, learned};
 
 use crate::copying::copy_of_line;
-use crate::fault::LedgerFault;
-use crate::ledger::{Ledger, LedgerView};
+use ledger_rules::LedgerFault;
+use ledger_rules::{Ledger, LedgerView};
 use cnf_formula::{Formula, OutOfMemory, ProofLine};
 use lrat_checker::{Checker, LineVerdict};
 use std::alloc::Global;

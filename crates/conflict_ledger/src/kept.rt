@@ -1,12 +1,12 @@
 //! A ledger that keeps its lines in memory.
 
 ghost use Rattle.std.specs.Prelude.{◌≡◌, ◌≤◌, [], ◌∷◌, length, refl, IfOk};
-ghost use Rattle.conflict_ledger.specs.Logs.{learned};
+ghost use Rattle.ledger_rules.specs.Logs.{learned};
 ghost use Rattle.conflict_ledger.specs.Shelved.{log_text};
 
 use crate::copying::{copy_of_formula, copy_of_line};
-use crate::fault::LedgerFault;
-use crate::ledger::{Ledger, LedgerView};
+use ledger_rules::LedgerFault;
+use ledger_rules::{Ledger, LedgerView};
 use cnf_formula::{Formula, OutOfMemory, ProofLine};
 use lrat_text::print_line;
 use std::alloc::Global;

@@ -3,17 +3,14 @@
 
 mod checked;
 mod copying;
-mod fault;
 mod kept;
-mod ledger;
 mod pair;
 mod shelved;
 #[cfg(test)]
 mod tests;
 
 pub use checked::CheckedLedger;
-pub use fault::LedgerFault;
 pub use kept::KeptLedger;
-pub use ledger::{Ledger, LedgerView};
+pub use ledger_rules::{Ledger, LedgerFault, LedgerView};
 pub use pair::PairLedger;
 pub use shelved::ShelfLedger;

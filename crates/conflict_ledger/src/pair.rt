@@ -1,11 +1,11 @@
 //! Two ledgers of the same lines.
 
 ghost use Rattle.std.specs.Prelude.{◌≡◌, []};
-ghost use Rattle.conflict_ledger.specs.Logs.{checker_of, learned};
+ghost use Rattle.ledger_rules.specs.Logs.{checker_of, learned};
 
 use crate::checked::CheckedLedger;
-use crate::fault::LedgerFault;
-use crate::ledger::{Ledger, LedgerView};
+use ledger_rules::LedgerFault;
+use ledger_rules::{Ledger, LedgerView};
 use cnf_formula::ProofLine;
 
 /// Gives each line to a checked ledger and to another, beside whose stores it works.

@@ -5,9 +5,9 @@ ghost use Rattle.outer_ports.specs.Port.{HasCause, Tells};
 ghost use Rattle.outer_ports.specs.Shelf.{OthersStay};
 ghost use Rattle.conflict_ledger.specs.Shelved.{log_name};
 
-use crate::fault::LedgerFault;
+use ledger_rules::LedgerFault;
 use crate::kept::KeptLedger;
-use crate::ledger::{Ledger, LedgerView};
+use ledger_rules::{Ledger, LedgerView};
 use cnf_formula::{Formula, ProofLine};
 use outer_ports::{FileKind, Part, ProofName, Shelf, append_all};
 use std::alloc::Global;

@@ -8,7 +8,7 @@ use Rattle.outer_ports.specs.Files.{Files}
 use Rattle.cnf_formula.specs.Formulas.{Satisfiable}
 use Rattle.candidate_order.specs.declared.candidate.Candidate.{Candidate}
 use Rattle.candidate_order.specs.Frontiers.{QuestionValue, FrontierValue, UnknownValue}
-use Rattle.lrat_checker.proofs.Calm.{never_refuted}
+use Rattle.proof_rules.proofs.Calm.{never_refuted}
 use Rattle.report_form.specs.Reports.{ReportValue, question_of}
 use Rattle.candidate_formula.specs.Formulas.{formula_for}
 use Rattle.candidate_formula.specs.Files.{file_of, HasRefutation, HasLog}

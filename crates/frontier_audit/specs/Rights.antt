@@ -2,7 +2,7 @@
 use Rattle.std.specs.Prelude.{◌≡◌, List, [], ◌∷◌, All}
 use Rattle.outer_ports.specs.declared.part.Part.{Part}
 use Rattle.outer_ports.specs.declared.part.Part.TheVariants.{Reduce, Gather}
-use Rattle.lrat_checker.specs.Refuting.{Exhausted}
+use Rattle.proof_rules.specs.Refuting.{Exhausted}
 use Rattle.allreduce_join.specs.Joins.{Joins}
 use Rattle.candidate_order.specs.Frontiers.{FrontierValue, RightFrontier, Searched}
 use Rattle.report_form.specs.Reports.{ReportValue, IsReport, question_of}

@@ -5,8 +5,8 @@ use Rattle.std.specs.List.{list_any}
 use Rattle.std.proofs.lemmas.Bool.{false≢true, cases_Bool, or_cases, or_left, or_right, or_parts, or_from, eq-eqb, eqb-true}
 use Rattle.cnf_formula.specs.Literals.{LitValue, same_sign, same_literal, has_literal, negation, code_of}
 use Rattle.cnf_formula.proofs.Clauses.{same_is}
-use Rattle.lrat_checker.specs.Judging.{has_variable_twice, assumed}
-use Rattle.lrat_checker.specs.Accepting.{without_negated, is_made_true}
+use Rattle.proof_rules.specs.Judging.{has_variable_twice, assumed}
+use Rattle.proof_rules.specs.Accepting.{without_negated, is_made_true}
 
 abbrev pub has_variable : List LitValue → LitValue → Bool
 has_variable ls l = list_any (λ other. other.var == l.var) ls

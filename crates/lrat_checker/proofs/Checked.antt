@@ -8,18 +8,18 @@ use Rattle.cnf_formula.specs.Formulas.{IsClause}
 use Rattle.cnf_formula.specs.Lines.{ProofLineValue, DeletionValue}
 use Rattle.cnf_formula.specs.Literals.{LitValue}
 use Rattle.cnf_formula.specs.declared.line.LratLine.TheVariants.{Addition, Deletion}
-use Rattle.lrat_checker.specs.declared.verdict.LineVerdict.{LineVerdict}
-use Rattle.lrat_checker.specs.declared.verdict.LineVerdict.TheVariants.{Accepted, Refused}
-use Rattle.lrat_checker.specs.declared.verdict.LineCode.TheVariants.{IdNotGreater, VariableRange, VariableTwice, UnknownDeletion}
-use Rattle.lrat_checker.specs.Held.{Entry, CheckerValue}
-use Rattle.lrat_checker.specs.Judging.{verdict_of, deletion_verdict, are_held, has_number_twice, is_foreign, has_variable_twice, led_verdict}
-use Rattle.lrat_checker.specs.Accepting.{IsNew}
+use Rattle.proof_rules.specs.declared.verdict.LineVerdict.{LineVerdict}
+use Rattle.proof_rules.specs.declared.verdict.LineVerdict.TheVariants.{Accepted, Refused}
+use Rattle.proof_rules.specs.declared.verdict.LineCode.TheVariants.{IdNotGreater, VariableRange, VariableTwice, UnknownDeletion}
+use Rattle.proof_rules.specs.Held.{Entry, CheckerValue}
+use Rattle.proof_rules.specs.Judging.{verdict_of, deletion_verdict, are_held, has_number_twice, is_foreign, has_variable_twice, led_verdict}
+use Rattle.proof_rules.specs.Accepting.{IsNew}
 use Rattle.lrat_checker.specs.Marking.{MarksValue}
 use Rattle.lrat_checker.specs.Stored.{TableValue}
 use Rattle.lrat_checker.specs.Checking.{checker_of, CanCheck}
-use Rattle.lrat_checker.specs.Refuting.{is_accepted, is_empty, with_line, IsChecker}
-use Rattle.lrat_checker.proofs.Kept.{stays_checker}
-use Rattle.lrat_checker.proofs.Verdicts.{implied_by, redundant_by}
+use Rattle.proof_rules.specs.Refuting.{is_accepted, is_empty, with_line, IsChecker}
+use Rattle.proof_rules.proofs.Kept.{stays_checker}
+use Rattle.proof_rules.proofs.Verdicts.{implied_by, redundant_by}
 
 accepted_new : (c : CheckerValue) (line : ProofLineValue) → is_accepted (verdict_of c line) ≡ true → IsNew c line
 accepted_new c line a = go (verdict_of c line) refl a

@@ -8,8 +8,8 @@ use Rattle.std.proofs.lemmas.List.Folds.{list_any-append}
 use Rattle.cnf_formula.specs.Literals.{LitValue, same_literal, has_literal, is_superset, code_of}
 use Rattle.cnf_formula.proofs.Clauses.{same_is}
 use Rattle.lrat_checker.specs.Stored.{list_at, IsIndexed, held_of, covers}
-use Rattle.lrat_checker.specs.Held.{Entry}
-use Rattle.lrat_checker.proofs.Taking.{same_itself}
+use Rattle.proof_rules.specs.Held.{Entry}
+use Rattle.proof_rules.proofs.Taking.{same_itself}
 use Rattle.lrat_checker.proofs.Placed.{held_true, held_false}
 
 -- ---- a test of what is held, by places

@@ -12,9 +12,9 @@ use mir.Syntax.{w64}
 use mir.Val.{SFits, of_z, to_z}
 use Rattle.std.proofs.lemmas.List.{drop_all, drop_more}
 use Rattle.cnf_formula.specs.Literals.{LitValue}
-use Rattle.lrat_checker.specs.Held.{Entry, clause_at}
-use Rattle.lrat_checker.specs.Judging.{Fault, group_fault, groups_fault}
-use Rattle.lrat_checker.specs.Accepting.{Group, leading, groups_from, groups_of}
+use Rattle.proof_rules.specs.Held.{Entry, clause_at}
+use Rattle.proof_rules.specs.Judging.{Fault, group_fault, groups_fault}
+use Rattle.proof_rules.specs.Accepting.{Group, leading, groups_from, groups_of}
 use Rattle.lrat_checker.specs.Steps.{Names, Same}
 
 -- the groups before this place have no fault, and their clauses are in the set

@@ -9,7 +9,7 @@ use Rattle.cnf_formula.specs.Formulas.{IsAbout}
 use Rattle.cnf_formula.proofs.Clauses.{same_is}
 use Rattle.cnf_formula.proofs.Codes.{same_code}
 use Rattle.lrat_checker.specs.Marking.{times, IsCounted}
-use Rattle.lrat_checker.proofs.Taking.{same_itself}
+use Rattle.proof_rules.proofs.Taking.{same_itself}
 
 -- ---- how often a literal stands in a list
 

@@ -8,7 +8,7 @@ use Rattle.std.proofs.lemmas.List.Folds.{list_any-append}
 use Rattle.cnf_formula.specs.Literals.{LitValue, same_literal, has_literal, code_of, negation}
 use Rattle.cnf_formula.proofs.Clauses.{same_is}
 use Rattle.lrat_checker.specs.Stored.{list_at, IsIndexed, IsStored, held_of, last_of}
-use Rattle.lrat_checker.specs.Accepting.{Group, has_negated, is_answered}
+use Rattle.proof_rules.specs.Accepting.{Group, has_negated, is_answered}
 use Rattle.lrat_checker.proofs.Placed.{all_by_place, not_all, rises_push}
 use Rattle.std.proofs.lemmas.List.Elements.{All-push}
 use Rattle.cnf_formula.specs.Formulas.{IsClause}

@@ -6,7 +6,7 @@ use Rattle.std.proofs.lemmas.Bool.{eq-eqb, ne_eqb, cases_Bool, cases_lt, and_fro
 use Rattle.std.proofs.lemmas.List.{get_or_default, length_push, get_or_append_left, get_or_push, get_or-map}
 use Rattle.std.proofs.lemmas.List.Elements.{All-head, All-tail}
 use Rattle.cnf_formula.specs.Literals.{LitValue}
-use Rattle.lrat_checker.specs.Held.{Entry, clause_at}
+use Rattle.proof_rules.specs.Held.{Entry, clause_at}
 use Rattle.lrat_checker.specs.Stored.{held_of, last_of, Rises}
 
 -- ---- numbers that ascend

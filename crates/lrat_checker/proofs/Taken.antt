@@ -10,16 +10,16 @@ use mir.Val.{SFits, of_z, to_z}
 use Rattle.std.proofs.lemmas.Bool.{false≢true, or_cases}
 use Rattle.std.proofs.lemmas.List.{drop_more}
 use Rattle.cnf_formula.specs.Literals.{LitValue, same_literal, has_literal, negation}
-use Rattle.lrat_checker.specs.declared.verdict.LineCode.{LineCode}
-use Rattle.lrat_checker.specs.declared.verdict.LineCode.TheVariants.{HintNotUnit, UnknownHint}
-use Rattle.lrat_checker.specs.Held.{Entry, clause_at, open_literals}
-use Rattle.lrat_checker.specs.Judging.{given_by, after_conflict, led_to}
-use Rattle.lrat_checker.specs.Accepting.{leading, groups_from}
+use Rattle.proof_rules.specs.declared.verdict.LineCode.{LineCode}
+use Rattle.proof_rules.specs.declared.verdict.LineCode.TheVariants.{HintNotUnit, UnknownHint}
+use Rattle.proof_rules.specs.Held.{Entry, clause_at, open_literals}
+use Rattle.proof_rules.specs.Judging.{given_by, after_conflict, led_to}
+use Rattle.proof_rules.specs.Accepting.{leading, groups_from}
 use Rattle.lrat_checker.specs.Marking.{Extends}
 use Rattle.cnf_formula.specs.Formulas.{IsAbout}
 use Rattle.cnf_formula.proofs.Clauses.{same_is}
 use Rattle.std.proofs.lemmas.List.Elements.{All-head, All-tail}
-use Rattle.lrat_checker.proofs.Taking.{gives_some, first_open}
+use Rattle.proof_rules.proofs.Taking.{gives_some, first_open}
 
 -- ---- the literals of a clause
 

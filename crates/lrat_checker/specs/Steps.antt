@@ -6,8 +6,8 @@ use Rattle.std.specs.Ordering.{nat_cmp}
 use Rattle.cnf_formula.specs.Literals.{LitValue}
 use Rattle.lrat_checker.specs.declared.leading.Led.{Led}
 use Rattle.lrat_checker.specs.declared.leading.Led.TheVariants.{Conflict, Open, Fault as Faulty}
-use Rattle.lrat_checker.specs.Judging.{Fault}
-use Rattle.lrat_checker.specs.Accepting.{Group}
+use Rattle.proof_rules.specs.Judging.{Fault}
+use Rattle.proof_rules.specs.Accepting.{Group}
 
 -- where hints led, when these literals are false at their end
 abbrev pub led_as : Led → List LitValue → Result (Option (List LitValue)) Fault

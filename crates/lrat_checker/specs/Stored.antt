@@ -3,7 +3,7 @@ use Rattle.std.specs.Prelude.{◌≡◌, ◌==◌, ◌&&◌, ◌||◌, not, ℕ,
 use Rattle.std.specs.List.{list_any}
 use Rattle.cnf_formula.specs.Literals.{LitValue, has_literal, is_superset, code_of}
 use Rattle.cnf_formula.specs.Formulas.{IsClause}
-use Rattle.lrat_checker.specs.Held.{Entry}
+use Rattle.proof_rules.specs.Held.{Entry}
 
 -- every clause that was ever put into it, those that are held, and the greatest number of any, or 0
 pub record TableValue : Type 0 where

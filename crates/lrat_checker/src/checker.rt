@@ -2,16 +2,16 @@
 
 ghost use Rattle.std.specs.Prelude.{◌≡◌, ◌≢◌, ◌&&◌, Ok, IfOk, OnOk, OnErr, true, false};
 ghost use Rattle.cnf_formula.specs.Formulas.{IsClause, Satisfiable};
-ghost use Rattle.lrat_checker.specs.Held.{start_of};
-ghost use Rattle.lrat_checker.specs.Judging.{verdict_of, deletion_verdict};
-ghost use Rattle.lrat_checker.specs.Accepting.{Implied, Redundant};
-ghost use Rattle.lrat_checker.specs.Refuting.{is_accepted, is_implied, is_fresh as is_fresh_for, with_line, without};
+ghost use Rattle.proof_rules.specs.Held.{start_of};
+ghost use Rattle.proof_rules.specs.Judging.{verdict_of, deletion_verdict};
+ghost use Rattle.proof_rules.specs.Accepting.{Implied, Redundant};
+ghost use Rattle.proof_rules.specs.Refuting.{is_accepted, is_implied, is_fresh as is_fresh_for, with_line, without};
 
 use crate::freshness::is_fresh;
 use crate::judging::judge;
 use crate::marks::Marks;
 use crate::table::ClauseTable;
-use crate::verdict::{LineCode, LineVerdict};
+use proof_rules::{LineCode, LineVerdict};
 use cnf_formula::{Deletion, Formula, Lit, OutOfMemory, ProofLine};
 use std::alloc::Global;
 use std::marker::Model;
@@ -29,7 +29,7 @@ pub struct Checker {
 }
 
 impl Model for Checker {
-    ghost use Rattle.lrat_checker.specs.Held.{CheckerValue};
+    ghost use Rattle.proof_rules.specs.Held.{CheckerValue};
     ghost use Rattle.lrat_checker.specs.Checking.{checker_of, CanCheck};
 
     ghost Value = { CheckerValue };

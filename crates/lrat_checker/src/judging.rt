@@ -3,13 +3,13 @@
 ghost use Rattle.std.specs.Prelude.{◌≡◌, ◌∷◌, true, [], not, Ok, IfOk, if◌then◌else◌};
 ghost use Rattle.std.specs.List.{list_any};
 ghost use Rattle.cnf_formula.specs.Formulas.{IsClause};
-ghost use Rattle.lrat_checker.specs.Judging.{is_foreign, has_variable_twice, led_verdict};
+ghost use Rattle.proof_rules.specs.Judging.{is_foreign, has_variable_twice, led_verdict};
 
 use crate::leading::{Led, lead, next_group};
 use crate::marks::Marks;
 use crate::redundancy::redundancy;
 use crate::table::ClauseTable;
-use crate::verdict::{LineCode, LineVerdict};
+use proof_rules::{LineCode, LineVerdict};
 use cnf_formula::{Lit, OutOfMemory, ProofLine};
 
 /// Whether every literal is about one of so many variables.

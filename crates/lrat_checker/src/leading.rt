@@ -3,15 +3,15 @@
 ghost use Rattle.std.specs.Prelude.{◌≡◌, ℕ, ◌+◌, ◌<◌, ◌≤◌, ◌∷◌, List, length, drop, IfOk, negsuc};
 ghost use Rattle.cnf_formula.specs.Literals.{LitValue};
 ghost use Rattle.cnf_formula.specs.Formulas.{IsClause};
-ghost use Rattle.lrat_checker.specs.Held.{open_literals};
-ghost use Rattle.lrat_checker.specs.Judging.{given_by, after_conflict, led_to};
-ghost use Rattle.lrat_checker.specs.Accepting.{leading, groups_from};
+ghost use Rattle.proof_rules.specs.Held.{open_literals};
+ghost use Rattle.proof_rules.specs.Judging.{given_by, after_conflict, led_to};
+ghost use Rattle.proof_rules.specs.Accepting.{leading, groups_from};
 ghost use Rattle.lrat_checker.specs.Marking.{Extends};
 ghost use Rattle.lrat_checker.specs.Steps.{led_as};
 
 use crate::marks::Marks;
 use crate::table::ClauseTable;
-use crate::verdict::LineCode;
+use proof_rules::LineCode;
 use cnf_formula::{Lit, OutOfMemory};
 
 /// Where hints in a row lead.

@@ -3,7 +3,7 @@
 ghost use Rattle.std.specs.Prelude.{◌≡◌, ◌+◌, ◌-◌, ◌≤◌, [], ◌∷◌, length, drop, IfOk, OnOk, OnErr};
 ghost use Rattle.cnf_formula.specs.Literals.{LitValue, has_literal};
 ghost use Rattle.cnf_formula.specs.Formulas.{IsAbout};
-ghost use Rattle.lrat_checker.specs.Accepting.{is_made_true};
+ghost use Rattle.proof_rules.specs.Accepting.{is_made_true};
 ghost use Rattle.lrat_checker.specs.Marking.{MarksValue};
 
 use cnf_formula::{Lit, OutOfMemory};

@@ -5,16 +5,16 @@ ghost use Rattle.std.specs.List.{list_any};
 ghost use Rattle.std.specs.BTreeSet.{contains};
 ghost use Rattle.std.specs.Ordering.{nat_cmp};
 ghost use Rattle.cnf_formula.specs.Formulas.{IsAbout, IsClause};
-ghost use Rattle.lrat_checker.specs.Held.{clause_at};
-ghost use Rattle.lrat_checker.specs.Judging.{assumed, closing_fault, group_fault as fault_of_group, groups_fault as fault_of_groups, redundant_verdict};
-ghost use Rattle.lrat_checker.specs.Accepting.{leading, groups_of, without_negated};
+ghost use Rattle.proof_rules.specs.Held.{clause_at};
+ghost use Rattle.proof_rules.specs.Judging.{assumed, closing_fault, group_fault as fault_of_group, groups_fault as fault_of_groups, redundant_verdict};
+ghost use Rattle.proof_rules.specs.Accepting.{leading, groups_of, without_negated};
 ghost use Rattle.lrat_checker.specs.Marking.{Extends};
 ghost use Rattle.lrat_checker.specs.Steps.{Names, Same};
 
 use crate::leading::{Led, lead, next_group};
 use crate::marks::Marks;
 use crate::table::{ClauseTable, has_negated};
-use crate::verdict::{LineCode, LineVerdict};
+use proof_rules::{LineCode, LineVerdict};
 use cnf_formula::{Lit, OutOfMemory, ProofLine};
 use std::collections::BTreeSet;
 

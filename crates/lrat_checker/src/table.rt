@@ -5,9 +5,9 @@ ghost use Rattle.std.specs.List.{list_any, list_all, enumerate_from};
 ghost use Rattle.std.specs.Option.{option_copied};
 ghost use Rattle.cnf_formula.specs.Literals.{LitValue, code_of, has_literal, is_superset};
 ghost use Rattle.cnf_formula.specs.Formulas.{IsAbout, IsClause};
-ghost use Rattle.lrat_checker.specs.Held.{Entry, clause_at};
-ghost use Rattle.lrat_checker.specs.Judging.{are_held, has_number_twice};
-ghost use Rattle.lrat_checker.specs.Accepting.{Group, is_made_true, without_negated};
+ghost use Rattle.proof_rules.specs.Held.{Entry, clause_at};
+ghost use Rattle.proof_rules.specs.Judging.{are_held, has_number_twice};
+ghost use Rattle.proof_rules.specs.Accepting.{Group, is_made_true, without_negated};
 ghost use Rattle.lrat_checker.specs.Stored.{TableValue, Rises, list_at, is_live, kept_live, covers};
 ghost use Rattle.lrat_checker.specs.Steps.{Names};
 
@@ -109,7 +109,7 @@ fn has_other_true(clause: &[Lit], pivot: Lit, marks: &Marks) -> bool
 /// Whether a held clause is answered: it lacks the negated pivot, has a group, or is true without one.
 fn is_answered(id: u64, clause: &[Lit], pivot: Lit, marks: &Marks, named: &BTreeSet<u64>) -> bool
     requires about { IsClause marks.now.vars clause.now }
-    ensures { (groups : List Group) → Names named.now groups → result ≡ Rattle.lrat_checker.specs.Accepting.is_answered pivot marks.now.falses groups (id, clause.now) }
+    ensures { (groups : List Group) → Names named.now groups → result ≡ Rattle.proof_rules.specs.Accepting.is_answered pivot marks.now.falses groups (id, clause.now) }
 {
     !has_negated(pivot, clause) || named.contains(&id) || has_other_true(clause, pivot, marks)
 }
@@ -175,7 +175,7 @@ fn has_marked(live: &[bool], clauses: &[SmallVec<Lit, 4>], list: &[usize], marks
 
 /// Whether the clause has the negation of the pivot.
 pub(crate) fn has_negated(pivot: Lit, clause: &[Lit]) -> bool
-    ensures { result ≡ Rattle.lrat_checker.specs.Accepting.has_negated pivot clause.now }
+    ensures { result ≡ Rattle.proof_rules.specs.Accepting.has_negated pivot clause.now }
 {
     for lit in clause {
         if *lit == pivot.negated() {
@@ -268,7 +268,7 @@ impl ClauseTable {
     pub(crate) fn all_answered(&self, pivot: Lit, marks: &Marks, named: &BTreeSet<u64>) -> bool
         requires pivot { IsAbout self.now.vars pivot }
         requires same { marks.now.vars ≡ self.now.vars }
-        ensures { (groups : List Group) → Names named.now groups → result ≡ list_all (Rattle.lrat_checker.specs.Accepting.is_answered pivot marks.now.falses groups) self.now.held }
+        ensures { (groups : List Group) → Names named.now groups → result ≡ list_all (Rattle.proof_rules.specs.Accepting.is_answered pivot marks.now.falses groups) self.now.held }
     {
         for place in &self.lists[pivot.negated().code()] {
             let place = *place;

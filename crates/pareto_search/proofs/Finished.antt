@@ -13,9 +13,9 @@ use Rattle.candidate_order.specs.declared.candidate.Candidate.{Candidate}
 use Rattle.candidate_order.specs.Costs.{NoWorse, Better, Before}
 use Rattle.candidate_order.specs.Ranges.{LimitsValue}
 use Rattle.candidate_order.specs.Frontiers.{QuestionValue, PointValue, UnknownValue, FrontierValue, solved, given_up, IsWithin, IsTried, IsPoint, IsUnknown, WastesNothing, RightFrontier, Searched}
-use Rattle.candidate_solver.specs.declared.settled.Settled.{Settled}
-use Rattle.candidate_solver.specs.declared.settled.Settled.TheVariants.{Solved, Refuted, Unknown}
-use Rattle.candidate_solver.specs.Outcomes.{RecordValue}
+use Rattle.engine_rules.specs.declared.settled.Settled.{Settled}
+use Rattle.engine_rules.specs.declared.settled.Settled.TheVariants.{Solved, Refuted, Unknown}
+use Rattle.engine_rules.specs.Outcomes.{RecordValue}
 use Rattle.pareto_search.specs.Passing.{HasFewerSteps, IsSettled, IsFound, HasPassed, of_kind}
 use Rattle.pareto_search.specs.Recorded.{entries_of}
 use Rattle.pareto_search.proofs.Costs.{some_chunk, no_worse_than_better}

@@ -7,8 +7,8 @@ use Rattle.candidate_order.specs.declared.candidate.Candidate.{Candidate}
 use Rattle.candidate_order.specs.declared.mark.Mark.{Mark}
 use Rattle.candidate_order.specs.Costs.{NoWorse, Better, Before}
 use Rattle.candidate_order.specs.Frontiers.{QuestionValue, IsWithin}
-use Rattle.candidate_solver.specs.declared.settled.Settled.{Settled}
-use Rattle.candidate_solver.specs.Outcomes.{RecordValue}
+use Rattle.engine_rules.specs.declared.settled.Settled.{Settled}
+use Rattle.engine_rules.specs.Outcomes.{RecordValue}
 use Rattle.pareto_search.specs.Passing.{IsBefore, IsUpTo, IsSettled, IsMark}
 use Rattle.pareto_search.proofs.Costs.{Before-irrefl, Before-asym, better_first}
 use Rattle.pareto_search.proofs.Records.{Ascends}

@@ -11,9 +11,9 @@ use Rattle.candidate_order.specs.declared.candidate.Candidate.{Candidate}
 use Rattle.candidate_order.specs.declared.mark.Mark.{Mark}
 use Rattle.candidate_order.specs.Costs.{NoWorse, Before}
 use Rattle.candidate_order.specs.Frontiers.{QuestionValue, PointValue, UnknownValue, FrontierValue, solved, given_up, IsWithin, IsSolvable}
-use Rattle.candidate_solver.specs.declared.settled.Settled.{Settled}
-use Rattle.candidate_solver.specs.declared.settled.Settled.TheVariants.{Solved, Refuted, Unknown}
-use Rattle.candidate_solver.specs.Outcomes.{RecordValue, SolvesTightly}
+use Rattle.engine_rules.specs.declared.settled.Settled.{Settled}
+use Rattle.engine_rules.specs.declared.settled.Settled.TheVariants.{Solved, Refuted, Unknown}
+use Rattle.engine_rules.specs.Outcomes.{RecordValue, SolvesTightly}
 use Rattle.pareto_search.specs.Passing.{IsBefore, IsUpTo, IsSettled, IsMark, IsFound, LastSettles, HasPassed, of_kind, with_point, with_refuted, with_unknown}
 use Rattle.pareto_search.specs.Recorded.{StaysWithin, IsStoppedWithin}
 use Rattle.pareto_search.proofs.Costs.{CostsFall, some_chunk, Before-irrefl, steps_upto, settled_by_last}

@@ -17,8 +17,8 @@ use Rattle.collective_spec.specs.declared.spec.Spec.TheVariants.{Standard}
 use Rattle.candidate_order.specs.declared.candidate.Candidate.{Candidate}
 use Rattle.candidate_order.specs.Ranges.{LimitsValue}
 use Rattle.candidate_order.specs.Frontiers.{QuestionValue, IsWithin, IsSolvable}
-use Rattle.candidate_solver.specs.declared.settled.Settled.TheVariants.{Refuted, Unknown}
-use Rattle.candidate_solver.specs.Outcomes.{RecordValue}
+use Rattle.engine_rules.specs.declared.settled.Settled.TheVariants.{Refuted, Unknown}
+use Rattle.engine_rules.specs.Outcomes.{RecordValue}
 
 -- a broadcast from the one to the other
 abbrev pub apart : LimitsValue → QuestionValue

@@ -6,9 +6,9 @@ use Rattle.candidate_order.specs.declared.mark.Mark.{Mark}
 use Rattle.candidate_order.specs.declared.mark.Mark.TheVariants.{Optimal, Open}
 use Rattle.candidate_order.specs.Costs.{NoWorse, Better, Before}
 use Rattle.candidate_order.specs.Frontiers.{QuestionValue, PointValue, UnknownValue, FrontierValue, solved, given_up, IsWithin, IsSolvable, IsAnswered, IsWorthTrying}
-use Rattle.candidate_solver.specs.declared.settled.Settled.{Settled}
-use Rattle.candidate_solver.specs.declared.settled.Settled.TheVariants as settled
-use Rattle.candidate_solver.specs.Outcomes.{RecordValue, SolvesTightly}
+use Rattle.engine_rules.specs.declared.settled.Settled.{Settled}
+use Rattle.engine_rules.specs.declared.settled.Settled.TheVariants as settled
+use Rattle.engine_rules.specs.Outcomes.{RecordValue, SolvesTightly}
 
 -- the candidates within the limits that have fewer steps
 abbrev pub HasFewerSteps : QuestionValue → ℕ → Candidate → Type 0

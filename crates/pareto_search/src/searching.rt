@@ -11,7 +11,7 @@ ghost use Rattle.pareto_search.specs.Recorded.{StaysWithin, entries_of};
 use crate::findings::Findings;
 use crate::trying::try_step;
 use candidate_order::{Candidate, Frontier, Limits};
-use candidate_solver::{Engine, EngineFault};
+use engine_rules::{Engine, EngineFault};
 use std::alloc::Global;
 
 /// Settles the candidates within the limits in the order of the search, each that no point found before settles, and gives

@@ -5,7 +5,7 @@ ghost use Rattle.pareto_search.specs.Apart.{AllRefuted};
 
 use crate::search;
 use candidate_order::{Candidate, Limits, Outcome};
-use candidate_solver::{Engine, EngineFault, EngineView, Settled};
+use engine_rules::{Engine, EngineFault, EngineView, Settled};
 use cnf_formula::ProofLine;
 use std::test::Fail;
 

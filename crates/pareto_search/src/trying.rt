@@ -11,7 +11,7 @@ ghost use Rattle.pareto_search.specs.Recorded.{StaysWithin};
 
 use crate::findings::Findings;
 use candidate_order::{Candidate, Limits, Outcome, list};
-use candidate_solver::{Engine, EngineFault};
+use engine_rules::{Engine, EngineFault};
 use std::alloc::Global;
 
 /// Passes a candidate, after all that come before it: settles it, unless a point found so far is no worse.

@@ -6,11 +6,11 @@ use Rattle.cnf_formula.specs.Formulas.{FormulaValue}
 use Rattle.cnf_formula.specs.Lines.{ProofLineValue}
 use Rattle.cnf_formula.specs.declared.line.LratLine.{LratLine}
 use Rattle.cnf_formula.specs.declared.line.LratLine.TheVariants.{Addition, Deletion}
-use Rattle.lrat_checker.specs.declared.verdict.LineVerdict.{LineVerdict}
-use Rattle.lrat_checker.specs.declared.verdict.LineVerdict.TheVariants.{Accepted, Refused}
-use Rattle.lrat_checker.specs.Held.{CheckerValue, start_of}
-use Rattle.lrat_checker.specs.Judging.{verdict_of}
-use Rattle.lrat_checker.specs.Refuting.{verdict_on, with_accepted, with_line, is_accepted, is_implied, is_fresh, AllAccepted, AllImplied, AllFresh, after, Refutes, SpentLog}
+use Rattle.proof_rules.specs.declared.verdict.LineVerdict.{LineVerdict}
+use Rattle.proof_rules.specs.declared.verdict.LineVerdict.TheVariants.{Accepted, Refused}
+use Rattle.proof_rules.specs.Held.{CheckerValue, start_of}
+use Rattle.proof_rules.specs.Judging.{verdict_of}
+use Rattle.proof_rules.specs.Refuting.{verdict_on, with_accepted, with_line, is_accepted, is_implied, is_fresh, AllAccepted, AllImplied, AllFresh, after, Refutes, SpentLog}
 use Rattle.lrat_text.specs.declared.fault.LratTextFault.{LratTextFault}
 use Rattle.proof_audit.specs.Proving.{checker_after, is_refuted, do_refute, are_learned, do_spend}
 

@@ -4,8 +4,8 @@ use Rattle.std.specs.Prelude.{◌&&◌, ◌==◌, IfOk, nat_le, if◌then◌else
 use Rattle.std.proofs.lemmas.Bool.{and_parts}
 use Rattle.cnf_formula.specs.Formulas.{FormulaValue, Satisfiable}
 use Rattle.cnf_formula.specs.declared.line.LratLine.{LratLine}
-use Rattle.lrat_checker.specs.Held.{start_of}
-use Rattle.lrat_checker.proofs.Calm.{never_refuted}
+use Rattle.proof_rules.specs.Held.{start_of}
+use Rattle.proof_rules.proofs.Calm.{never_refuted}
 use Rattle.lrat_text.specs.declared.fault.LratTextFault.{LratTextFault}
 use Rattle.lrat_text.specs.Reading.{new_reader}
 use Rattle.candidate_formula.specs.Lines.{lines_of_text}

@@ -2,7 +2,7 @@
 use Rattle.std.specs.Prelude.{◌≡◌, ◌&&◌, ℕ, Bool, true, if◌then◌else◌, List, length, Option, None, Some, nat_le}
 use Rattle.cnf_formula.specs.Formulas.{FormulaValue}
 use Rattle.cnf_formula.specs.Lines.{ProofLineValue}
-use Rattle.lrat_checker.specs.Refuting.{SpentLog}
+use Rattle.proof_rules.specs.Refuting.{SpentLog}
 use Rattle.proof_audit.specs.declared.verdict.FileVerdict.{FileVerdict}
 use Rattle.proof_audit.specs.declared.verdict.FileVerdict.TheVariants.{Missing, Refused, Stands}
 

@@ -2,9 +2,9 @@
 
 ghost use Rattle.std.specs.Prelude.{◌≡◌, ◌==◌, ◌&&◌, ◌⊎◌, ◌+◌, true, false, Ok, IfOk, List, length};
 ghost use Rattle.cnf_formula.specs.declared.line.LratLine.{LratLine};
-ghost use Rattle.lrat_checker.specs.Held.{start_of};
-ghost use Rattle.lrat_checker.specs.Judging.{verdict_of};
-ghost use Rattle.lrat_checker.specs.Refuting.{is_implied, is_fresh, with_line};
+ghost use Rattle.proof_rules.specs.Held.{start_of};
+ghost use Rattle.proof_rules.specs.Judging.{verdict_of};
+ghost use Rattle.proof_rules.specs.Refuting.{is_implied, is_fresh, with_line};
 ghost use Rattle.proof_audit.specs.Proving.{are_learned};
 
 use crate::line_test::LineTest;

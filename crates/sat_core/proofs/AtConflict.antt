@@ -4,12 +4,12 @@ use Rattle.std.specs.Prelude.{◌≢◌, All, AllPairs}
 use Rattle.std.proofs.lemmas.List.Elements.{All-contains}
 use Rattle.cnf_formula.specs.Literals.{LitValue, negation}
 use Rattle.cnf_formula.specs.Lines.{ProofLineValue}
-use Rattle.lrat_checker.specs.Held.{CheckerValue}
-use Rattle.lrat_checker.specs.declared.verdict.LineVerdict.TheVariants.{Accepted as AcceptedVerdict}
-use Rattle.lrat_checker.specs.Judging.{verdict_of}
-use Rattle.lrat_checker.specs.Refuting.{is_fresh}
-use Rattle.lrat_checker.proofs.Verdicts.{by_implied}
-use Rattle.lrat_checker.specs.Accepting.{Conflicts}
+use Rattle.proof_rules.specs.Held.{CheckerValue}
+use Rattle.proof_rules.specs.declared.verdict.LineVerdict.TheVariants.{Accepted as AcceptedVerdict}
+use Rattle.proof_rules.specs.Judging.{verdict_of}
+use Rattle.proof_rules.specs.Refuting.{is_fresh}
+use Rattle.proof_rules.proofs.Verdicts.{by_implied}
+use Rattle.proof_rules.specs.Accepting.{Conflicts}
 use Rattle.cnf_formula.specs.Formulas.{IsAbout}
 use Rattle.trail_core.specs.Trails.{StepValue, lits_of}
 use Rattle.trail_core.specs.Search.{IsUnit}

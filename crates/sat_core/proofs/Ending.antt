@@ -6,9 +6,9 @@ use Rattle.std.proofs.lemmas.List.{length-append}
 use Rattle.cnf_formula.specs.Formulas.{FormulaValue}
 use Rattle.cnf_formula.specs.Lines.{ProofLineValue}
 use Rattle.cnf_formula.specs.Literals.{LitValue}
-use Rattle.lrat_checker.specs.Held.{CheckerValue, start_of}
-use Rattle.lrat_checker.specs.Refuting.{is_empty, is_fresh, with_line, AllFresh, SpentLog}
-use Rattle.conflict_ledger.specs.Logs.{learned}
+use Rattle.proof_rules.specs.Held.{CheckerValue, start_of}
+use Rattle.proof_rules.specs.Refuting.{is_empty, is_fresh, with_line, AllFresh, SpentLog}
+use Rattle.ledger_rules.specs.Logs.{learned}
 use Rattle.sat_core.specs.Ready.{AreWritten, IsOver}
 
 -- each fresh line was learned

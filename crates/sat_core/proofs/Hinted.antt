@@ -5,8 +5,8 @@ use Rattle.std.proofs.lemmas.Bool.{false≢true, cases_Bool}
 use Rattle.std.proofs.lemmas.List.{append_assoc, take_at, length-append, get_or-append-add}
 use Rattle.std.proofs.lemmas.List.Elements.{Contains-push_cases, Contains-append_right}
 use Rattle.cnf_formula.specs.Literals.{LitValue, negation}
-use Rattle.lrat_checker.specs.Held.{Entry, clause_at}
-use Rattle.lrat_checker.specs.Accepting.{Takes, Falsifies, Conflicts, leading, groups_from}
+use Rattle.proof_rules.specs.Held.{Entry, clause_at}
+use Rattle.proof_rules.specs.Accepting.{Takes, Falsifies, Conflicts, leading, groups_from}
 use Rattle.trail_core.specs.Assigned.{IsFalse, IsConsistent}
 use Rattle.trail_core.specs.Trails.{StepValue, lits_of}
 use Rattle.trail_core.proofs.Keeping.{negated_twice}

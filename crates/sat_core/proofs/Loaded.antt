@@ -9,8 +9,8 @@ use Rattle.std.proofs.lemmas.List.Elements.{Contains-push, Contains-push_cases, 
 use Rattle.cnf_formula.specs.Literals.{LitValue, IsLit, code_of}
 use Rattle.cnf_formula.specs.Formulas.{FormulaValue, IsAbout, IsClause}
 use Rattle.cnf_formula.proofs.Codes.{same_code}
-use Rattle.lrat_checker.specs.Held.{Entry, start_of, clause_at}
-use Rattle.lrat_checker.proofs.Numbered.{start_numbered}
+use Rattle.proof_rules.specs.Held.{Entry, start_of, clause_at}
+use Rattle.proof_rules.proofs.Numbered.{start_numbered}
 use Rattle.trail_core.specs.Meaning.{CoreValue}
 use Rattle.sat_core.specs.Learning.{IsSame, AreHeld}
 use Rattle.sat_core.specs.Loading.{own_of, IsLoaded}

@@ -9,9 +9,9 @@ use Rattle.cnf_formula.specs.Literals.{LitValue, yes, same_sign, value_of, is_tr
 use Rattle.cnf_formula.specs.Formulas.{FormulaValue, IsAbout, IsClause, Satisfies}
 use Rattle.cnf_formula.specs.Lines.{ProofLineValue}
 use Rattle.cnf_formula.specs.declared.line.LratLine.TheVariants.{Addition}
-use Rattle.lrat_checker.specs.Held.{Entry, CheckerValue, start_of}
-use Rattle.lrat_checker.specs.Refuting.{with_line, after}
-use Rattle.conflict_ledger.specs.Logs.{checker_of}
+use Rattle.proof_rules.specs.Held.{Entry, CheckerValue, start_of}
+use Rattle.proof_rules.specs.Refuting.{with_line, after}
+use Rattle.ledger_rules.specs.Logs.{checker_of}
 use Rattle.trail_core.specs.Meaning.{CoreValue, trues}
 use Rattle.sat_core.specs.Ready.{IsReady}
 use Rattle.sat_core.specs.Totals.{IsTotal, AreValues}

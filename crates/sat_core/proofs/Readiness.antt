@@ -8,12 +8,12 @@ use Rattle.cnf_formula.specs.Literals.{LitValue}
 use Rattle.cnf_formula.specs.Formulas.{FormulaValue}
 use Rattle.cnf_formula.specs.Lines.{ProofLineValue}
 use Rattle.cnf_formula.specs.declared.line.LratLine.TheVariants.{Addition}
-use Rattle.lrat_checker.specs.declared.verdict.LineVerdict.TheVariants.{Accepted as AcceptedVerdict}
-use Rattle.lrat_checker.specs.Held.{Entry, CheckerValue, start_of, clause_at}
-use Rattle.lrat_checker.specs.Judging.{verdict_of}
-use Rattle.lrat_checker.specs.Refuting.{is_empty, is_fresh, is_accepted, with_line, after, AllAccepted, AllImplied, AllFresh, Refutes}
-use Rattle.lrat_checker.proofs.Kept.{keeps_append}
-use Rattle.conflict_ledger.specs.Logs.{checker_of}
+use Rattle.proof_rules.specs.declared.verdict.LineVerdict.TheVariants.{Accepted as AcceptedVerdict}
+use Rattle.proof_rules.specs.Held.{Entry, CheckerValue, start_of, clause_at}
+use Rattle.proof_rules.specs.Judging.{verdict_of}
+use Rattle.proof_rules.specs.Refuting.{is_empty, is_fresh, is_accepted, with_line, after, AllAccepted, AllImplied, AllFresh, Refutes}
+use Rattle.proof_rules.proofs.Kept.{keeps_append}
+use Rattle.ledger_rules.specs.Logs.{checker_of}
 use Rattle.trail_core.specs.Meaning.{CoreValue}
 use Rattle.sat_core.specs.Learning.{IsSame, AreHeld}
 use Rattle.sat_core.specs.Conflicts.{IsNext}

@@ -5,11 +5,11 @@ use Rattle.std.proofs.lemmas.Bool.{cases_Bool}
 use Rattle.std.proofs.lemmas.List.Elements.{All-contains}
 use Rattle.cnf_formula.specs.Literals.{LitValue, negation}
 use Rattle.cnf_formula.specs.Lines.{ProofLineValue}
-use Rattle.lrat_checker.specs.declared.verdict.LineVerdict.TheVariants.{Accepted as AcceptedVerdict}
-use Rattle.lrat_checker.specs.Held.{Entry, CheckerValue, clause_at}
-use Rattle.lrat_checker.specs.Judging.{verdict_of}
-use Rattle.lrat_checker.specs.Accepting.{IsFalse as IsTaken, Conflicts, leading}
-use Rattle.lrat_checker.proofs.Verdicts.{implied_by}
+use Rattle.proof_rules.specs.declared.verdict.LineVerdict.TheVariants.{Accepted as AcceptedVerdict}
+use Rattle.proof_rules.specs.Held.{Entry, CheckerValue, clause_at}
+use Rattle.proof_rules.specs.Judging.{verdict_of}
+use Rattle.proof_rules.specs.Accepting.{IsFalse as IsTaken, Conflicts, leading}
+use Rattle.proof_rules.proofs.Verdicts.{implied_by}
 use Rattle.trail_core.specs.Assigned.{IsFalse}
 use Rattle.trail_core.specs.Meaning.{IsClosed}
 use Rattle.trail_core.proofs.Keeping.{negated_twice}

@@ -11,9 +11,9 @@ use Rattle.std.proofs.lemmas.Map.Steps.{length-le_from_distinct_below}
 use Rattle.cnf_formula.specs.Literals.{LitValue, yes, no, has_literal, is_superset}
 use Rattle.cnf_formula.specs.Formulas.{FormulaValue, IsAbout, IsClause}
 use Rattle.cnf_formula.specs.Lines.{ProofLineValue}
-use Rattle.lrat_checker.specs.Held.{Entry, CheckerValue, start_of}
-use Rattle.lrat_checker.specs.Refuting.{is_empty, with_line, is_fresh, AllImplied, AllFresh, SpentLog}
-use Rattle.lrat_checker.proofs.Verdicts.{implied_by}
+use Rattle.proof_rules.specs.Held.{Entry, CheckerValue, start_of}
+use Rattle.proof_rules.specs.Refuting.{is_empty, with_line, is_fresh, AllImplied, AllFresh, SpentLog}
+use Rattle.proof_rules.proofs.Verdicts.{implied_by}
 use Rattle.sat_core.proofs.Members.{here, there, cons_cases, found_by, stands_by, not_found}
 
 -- ---- a clause as a number in base 3

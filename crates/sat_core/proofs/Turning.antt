@@ -3,12 +3,12 @@ use Rattle.std.proofs.Common.{◌≡◌, ℕ, ◌+◌, ◌-◌, ◌<◌, ◌≤�
 use Rattle.std.proofs.lemmas.Bool.{cases_lt}
 use Rattle.cnf_formula.specs.Formulas.{FormulaValue}
 use Rattle.cnf_formula.specs.Lines.{ProofLineValue}
-use Rattle.lrat_checker.specs.declared.verdict.LineVerdict.TheVariants.{Accepted}
-use Rattle.lrat_checker.specs.Judging.{verdict_of}
-use Rattle.lrat_checker.specs.Refuting.{is_fresh, Refutes}
+use Rattle.proof_rules.specs.declared.verdict.LineVerdict.TheVariants.{Accepted}
+use Rattle.proof_rules.specs.Judging.{verdict_of}
+use Rattle.proof_rules.specs.Refuting.{is_fresh, Refutes}
 use Rattle.std.specs.Prelude.{map}
 use Rattle.cnf_formula.specs.declared.line.LratLine.TheVariants.{Addition}
-use Rattle.conflict_ledger.specs.Logs.{checker_of}
+use Rattle.ledger_rules.specs.Logs.{checker_of}
 use Rattle.trail_core.specs.Meaning.{CoreValue}
 use Rattle.sat_core.specs.Conflicts.{IsConflict, line_of}
 use Rattle.sat_core.specs.Ready.{AreWritten, IsReady, IsOver}

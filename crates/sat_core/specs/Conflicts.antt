@@ -1,7 +1,7 @@
 -- A core at a conflict, the line that is learned from it, and the core after it was gone back one level.
 use Rattle.std.specs.Prelude.{ℕ, ◌+◌, ◌-◌, ◌*◌, ◌<◌, ◌≤◌, [], length, get_or, take}
 use Rattle.cnf_formula.specs.Lines.{ProofLineValue}
-use Rattle.lrat_checker.specs.Held.{CheckerValue}
+use Rattle.proof_rules.specs.Held.{CheckerValue}
 use Rattle.trail_core.specs.Search.{IsFalsified}
 use Rattle.trail_core.specs.Meaning.{CoreValue, trues, IsClosedBelow}
 use Rattle.trail_core.specs.Kept.{AreGrounded}

@@ -1,6 +1,6 @@
 -- Why a search could not end.
-use Rattle.conflict_ledger.specs.declared.fault.LedgerFault.{LedgerFault}
-use Rattle.conflict_ledger.specs.declared.fault.LedgerFault.TheVariants.{Failed, OutOfMemory as NoMemory}
+use Rattle.ledger_rules.specs.declared.fault.LedgerFault.{LedgerFault}
+use Rattle.ledger_rules.specs.declared.fault.LedgerFault.TheVariants.{Failed, OutOfMemory as NoMemory}
 use Rattle.sat_core.specs.declared.fault.SolveFault.{SolveFault}
 use Rattle.sat_core.specs.declared.fault.SolveFault.TheVariants.{LedgerFailed, OutOfMemory}
 

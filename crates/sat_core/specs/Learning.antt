@@ -1,7 +1,7 @@
 -- What is learned from a conflict: a clause, and the hints by which it is accepted.
 use Rattle.std.specs.Prelude.{◌≡◌, ◌⊎◌, ℕ, ◌+◌, ◌<◌, Bool, true, false, not, List, [], ◌++◌, ◌∷◌, Option, None, Some, Contains, length, get_or, take, map, filter, ℤ, pos}
 use Rattle.cnf_formula.specs.Literals.{LitValue, negation}
-use Rattle.lrat_checker.specs.Held.{Entry, clause_at}
+use Rattle.proof_rules.specs.Held.{Entry, clause_at}
 use Rattle.trail_core.specs.Assigned.{IsFalse}
 use Rattle.trail_core.specs.Trails.{StepValue, lits_of}
 

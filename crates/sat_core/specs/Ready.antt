@@ -2,11 +2,11 @@
 use Rattle.std.specs.Prelude.{◌≡◌, ℕ, ◌+◌, ◌<◌, ◌≤◌, true, List, [], length, get_or, All}
 use Rattle.cnf_formula.specs.Formulas.{FormulaValue}
 use Rattle.cnf_formula.specs.Lines.{ProofLineValue}
-use Rattle.lrat_checker.specs.declared.verdict.LineVerdict.TheVariants.{Accepted}
-use Rattle.lrat_checker.specs.Held.{CheckerValue, start_of}
-use Rattle.lrat_checker.specs.Judging.{verdict_of}
-use Rattle.lrat_checker.specs.Refuting.{AllImplied, AllFresh}
-use Rattle.conflict_ledger.specs.Logs.{checker_of}
+use Rattle.proof_rules.specs.declared.verdict.LineVerdict.TheVariants.{Accepted}
+use Rattle.proof_rules.specs.Held.{CheckerValue, start_of}
+use Rattle.proof_rules.specs.Judging.{verdict_of}
+use Rattle.proof_rules.specs.Refuting.{AllImplied, AllFresh}
+use Rattle.ledger_rules.specs.Logs.{checker_of}
 use Rattle.trail_core.specs.Meaning.{CoreValue}
 use Rattle.sat_core.specs.Conflicts.{Agree}
 

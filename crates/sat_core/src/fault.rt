@@ -1,7 +1,7 @@
 //! Why a search could not end.
 
 use cnf_formula::OutOfMemory;
-use conflict_ledger::LedgerFault;
+use ledger_rules::LedgerFault;
 
 /// The ledger failed, or memory ran out.
 #[derive(Clone, Copy, Debug, PartialEq, Eq)]

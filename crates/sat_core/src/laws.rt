@@ -3,11 +3,11 @@
 ghost use Rattle.std.specs.Prelude.{◌≡◌, ◌≢◌, ◌↔◌, ℕ, ◌+◌, ◌<◌, ◌≤◌, ◌++◌, ◌^◌, Bool, true, List, [], length, get_or, take, Contains, All, AllPairs};
 ghost use Rattle.cnf_formula.specs.Literals.{LitValue, negation, has_literal};
 ghost use Rattle.cnf_formula.specs.Lines.{ProofLineValue};
-ghost use Rattle.lrat_checker.specs.declared.verdict.LineVerdict.TheVariants.{Accepted};
-ghost use Rattle.lrat_checker.specs.Held.{Entry, CheckerValue};
-ghost use Rattle.lrat_checker.specs.Judging.{verdict_of};
-ghost use Rattle.lrat_checker.specs.Accepting.{Conflicts};
-ghost use Rattle.lrat_checker.specs.Refuting.{is_fresh, SpentLog};
+ghost use Rattle.proof_rules.specs.declared.verdict.LineVerdict.TheVariants.{Accepted};
+ghost use Rattle.proof_rules.specs.Held.{Entry, CheckerValue};
+ghost use Rattle.proof_rules.specs.Judging.{verdict_of};
+ghost use Rattle.proof_rules.specs.Accepting.{Conflicts};
+ghost use Rattle.proof_rules.specs.Refuting.{is_fresh, SpentLog};
 ghost use Rattle.trail_core.specs.Assigned.{IsConsistent};
 ghost use Rattle.trail_core.specs.Trails.{StepValue, lits_of};
 ghost use Rattle.cnf_formula.specs.Formulas.{FormulaValue, IsAbout, Satisfies};

@@ -3,14 +3,14 @@
 ghost use Rattle.std.specs.Prelude.{◌≡◌, ◌≢◌, ℕ, ◌+◌, ◌<◌, ◌≤◌, length, map, Ok, Err, OnOk};
 ghost use Rattle.sat_core.specs.Ready.{AreWritten, IsReady, IsOver};
 ghost use Rattle.cnf_formula.specs.declared.line.LratLine.TheVariants.{Addition};
-ghost use Rattle.lrat_checker.specs.Refuting.{Refutes};
+ghost use Rattle.proof_rules.specs.Refuting.{Refutes};
 ghost use Rattle.outer_ports.specs.Port.{HasCause};
 ghost use Rattle.sat_core.specs.Totals.{IsTotal};
 
 use crate::fault::SolveFault;
 use crate::step::{Step, advance};
 use crate::turn::{Turn, at_conflict};
-use conflict_ledger::Ledger;
+use ledger_rules::Ledger;
 use std::alloc::Global;
 use trail_core::Core;
 

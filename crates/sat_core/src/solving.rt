@@ -4,11 +4,11 @@ ghost use Rattle.std.specs.Prelude.{◌≡◌, ◌≢◌, ℕ, ◌+◌, ◌<◌,
 ghost use Rattle.cnf_formula.specs.Formulas.{Satisfies};
 ghost use Rattle.cnf_formula.specs.Lines.{ProofLineValue};
 ghost use Rattle.cnf_formula.specs.declared.line.LratLine.TheVariants.{Addition};
-ghost use Rattle.lrat_checker.specs.declared.verdict.LineVerdict.TheVariants.{Accepted};
-ghost use Rattle.lrat_checker.specs.Judging.{verdict_of};
-ghost use Rattle.lrat_checker.specs.Refuting.{Refutes, SpentLog};
+ghost use Rattle.proof_rules.specs.declared.verdict.LineVerdict.TheVariants.{Accepted};
+ghost use Rattle.proof_rules.specs.Judging.{verdict_of};
+ghost use Rattle.proof_rules.specs.Refuting.{Refutes, SpentLog};
 ghost use Rattle.outer_ports.specs.Port.{HasCause};
-ghost use Rattle.conflict_ledger.specs.Logs.{checker_of};
+ghost use Rattle.ledger_rules.specs.Logs.{checker_of};
 ghost use Rattle.sat_core.specs.Ready.{AreNumbered, AreShort};
 
 use crate::fault::SolveFault;
@@ -16,7 +16,7 @@ use crate::loading::load;
 use crate::model::model_of;
 use crate::searching::{End, search};
 use cnf_formula::{Assignment, Formula};
-use conflict_ledger::Ledger;
+use ledger_rules::Ledger;
 use std::alloc::Global;
 
 /// How a search ended.

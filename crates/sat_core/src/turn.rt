@@ -4,12 +4,12 @@ ghost use Rattle.std.specs.Prelude.{◌≡◌, ◌≢◌, ℕ, ◌+◌, ◌<◌,
 ghost use Rattle.sat_core.specs.Conflicts.{IsConflict};
 ghost use Rattle.sat_core.specs.Ready.{AreWritten, IsReady, IsOver};
 ghost use Rattle.cnf_formula.specs.declared.line.LratLine.TheVariants.{Addition};
-ghost use Rattle.lrat_checker.specs.Refuting.{Refutes};
+ghost use Rattle.proof_rules.specs.Refuting.{Refutes};
 ghost use Rattle.outer_ports.specs.Port.{HasCause};
 
 use crate::analysis::{go_back, line_at};
 use crate::fault::SolveFault;
-use conflict_ledger::Ledger;
+use ledger_rules::Ledger;
 use std::alloc::Global;
 use trail_core::{ClauseId, Core};
 

@@ -17,15 +17,15 @@ use Rattle.schedule.specs.Links.{TopologyValue}
 use Rattle.candidate_order.specs.Listed.{AreAllowed}
 use Rattle.candidate_order.specs.Ranges.{LimitsValue}
 use Rattle.cnf_formula.specs.Formulas.{FormulaValue}
-use Rattle.lrat_checker.specs.Refuting.{Exhausted}
+use Rattle.proof_rules.specs.Refuting.{Exhausted}
 use Rattle.candidate_order.specs.declared.candidate.Candidate.{Candidate}
 use Rattle.candidate_order.specs.Copied.{copied_kind, copied_spec}
 use Rattle.candidate_order.specs.Frontiers.{QuestionValue, FrontierValue, UnknownValue, RightFrontier, Searched, IsTried, IsUnknown, IsWithin, solved, given_up}
 use Rattle.candidate_formula.specs.Formulas.{formula_for}
 use Rattle.candidate_formula.specs.Files.{HasFormula, HasLog, HasRefutation, IsEmptied, candidate_of}
-use Rattle.candidate_solver.specs.declared.settled.Settled.{Settled}
-use Rattle.candidate_solver.specs.declared.settled.Settled.TheVariants.{Solved, Refuted, Unknown}
-use Rattle.candidate_solver.specs.Outcomes.{RecordValue, IsNew}
+use Rattle.engine_rules.specs.declared.settled.Settled.{Settled}
+use Rattle.engine_rules.specs.declared.settled.Settled.TheVariants.{Solved, Refuted, Unknown}
+use Rattle.engine_rules.specs.Outcomes.{RecordValue, IsNew}
 use Rattle.candidate_solver.specs.Kept.{HasFiles, IsBegun, IsTouched, KeptAgrees, KeptMoves}
 use Rattle.pareto_search.specs.Recorded.{IsStoppedWithin, StaysWithin, entries_of}
 use Rattle.frontier_audit.specs.Shelves.{PartRight}

@@ -1,6 +1,6 @@
 -- Why there is no answer.
-use Rattle.candidate_solver.specs.declared.fault.EngineFault.{EngineFault}
-use Rattle.candidate_solver.specs.declared.fault.EngineFault.TheVariants.{ShelfFailed, OutOfMemory}
+use Rattle.engine_rules.specs.declared.fault.EngineFault.{EngineFault}
+use Rattle.engine_rules.specs.declared.fault.EngineFault.TheVariants.{ShelfFailed, OutOfMemory}
 use Rattle.sccl_run.specs.declared.halt.Halt.{Halt}
 use Rattle.sccl_run.specs.declared.halt.Halt.TheVariants.{Memory, Shelf}
 

@@ -7,7 +7,7 @@ use Rattle.outer_ports.specs.declared.proof_name.ProofName.{ProofName}
 use Rattle.outer_ports.specs.Files.{Files}
 use Rattle.collective_spec.specs.declared.spec.Spec.{Spec}
 use Rattle.collective_spec.specs.Collectives.{reduces, spec_of, fits_kind}
-use Rattle.lrat_checker.specs.Refuting.{Exhausted}
+use Rattle.proof_rules.specs.Refuting.{Exhausted}
 use Rattle.candidate_order.specs.Listed.{AreAllowed}
 use Rattle.candidate_order.specs.Frontiers.{QuestionValue, FrontierValue, RightFrontier, Searched, IsTried, IsWithin}
 use Rattle.round_encoding.specs.Candidates.{size_limit}

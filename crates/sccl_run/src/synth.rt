@@ -6,7 +6,7 @@ ghost use Rattle.outer_ports.specs.Port.{HasCause, Tells};
 ghost use Rattle.collective_spec.specs.Collectives.{IsSpec, adds_up, kind_in, reduces};
 ghost use Rattle.command_words.specs.declared.command.Command.TheVariants as command;
 ghost use Rattle.command_words.specs.Commands.{IsProper};
-ghost use Rattle.lrat_checker.specs.Refuting.{Exhausted};
+ghost use Rattle.proof_rules.specs.Refuting.{Exhausted};
 ghost use Rattle.round_encoding.specs.Candidates.{size_limit};
 ghost use Rattle.candidate_order.specs.Listed.{AreAllowed};
 ghost use Rattle.candidate_formula.specs.Sizes.{size_of};

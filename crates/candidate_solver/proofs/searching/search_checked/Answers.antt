@@ -1,6 +1,7 @@
 use Rattle.std.proofs.Common.{◌≡◌, sym, ap, ◌∙◌, subst}
+use Rattle.candidate_solver.specs.Faults.{of_solving}
 use Rattle.candidate_solver.specs.Trying.{IsSearch}
-use Rattle.candidate_solver.proofs.Searches.{IsSolved, is_search}
+use Rattle.candidate_solver.proofs.Searches.{IsSolved, is_search, same_answer}
 use Rattle.candidate_solver.proofs.searching.search_checked.Goals as goal
 
 pub returns-clause-search : goal.returns-clause-search
@@ -21,4 +22,4 @@ returns-clause-search g c =
     } in
     let kept : c.into_lines.result.items ≡ lines = c.into_lines.ensures ∙ ap (λ ledger. ledger.kept.lines.items) c.into_second.ensures.second in
     subst (λ ls. IsSearch f limit ls c.in_ok-answer.answer) (sym kept)
-    (is_search f limit lines c.in_ok-answer.answer c.solve.result c.in_ok-answer.was (subst (λ n. IsSolved f n lines c.solve.result) same solved))
+    (is_search f limit lines c.in_ok-answer.answer c.solve.result (same_answer c.solve.result c.map_err.result (λ e fault. fault ≡ of_solving e) c.in_ok-answer.answer c.map_err.ensures.cases c.in_ok-answer.was) (subst (λ n. IsSolved f n lines c.solve.result) same solved))

@@ -2,7 +2,7 @@ use Rattle.std.proofs.Common.{◌≡◌, ◌+◌, ◌-◌, ◌<◌, ◌∷◌, t
 use Rattle.std.specs.Prelude.{not}
 use Rattle.std.proofs.lemmas.List.{drop_more}
 use Rattle.cnf_formula.specs.Literals.{has_literal, negation}
-use Rattle.lrat_checker.specs.Judging.{has_variable_twice}
+use Rattle.proof_rules.specs.Judging.{has_variable_twice}
 use Rattle.lrat_checker.proofs.Assumed.{twice_here, once_here}
 use Rattle.lrat_checker.proofs.judging.assume.Goals as goal
 use Rattle.lrat_checker.proofs.judging.assume.Goals.{then-is_false-via-then-is_false, then-is_false-via-else-is_false+then-is_true}

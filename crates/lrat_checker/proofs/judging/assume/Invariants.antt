@@ -1,5 +1,5 @@
 use Rattle.std.proofs.Common.{◌≡◌, ◌≤◌, false, length, drop}
-use Rattle.lrat_checker.specs.Judging.{has_variable_twice}
+use Rattle.proof_rules.specs.Judging.{has_variable_twice}
 use Rattle.lrat_checker.proofs.judging.assume.Given as goal
 
 abbrev pub invariant-loop-left : goal.invariant-loop-left

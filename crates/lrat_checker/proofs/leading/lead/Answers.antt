@@ -5,8 +5,8 @@ use mir.Syntax.{w64}
 use mir.Val.{SFits, of_z, to_z}
 use Rattle.cnf_formula.specs.Literals.{negation}
 use Rattle.cnf_formula.specs.Formulas.{IsAbout}
-use Rattle.lrat_checker.specs.Judging.{led_to}
-use Rattle.lrat_checker.specs.Accepting.{leading}
+use Rattle.proof_rules.specs.Judging.{led_to}
+use Rattle.proof_rules.specs.Accepting.{leading}
 use Rattle.lrat_checker.specs.Marking.{Extends}
 use Rattle.lrat_checker.proofs.Taken.{unit_hint, hint_here, given_about, negated_about, extends_more}
 use Rattle.lrat_checker.proofs.leading.lead.Goals as goal

@@ -1,6 +1,6 @@
 use Rattle.std.proofs.Common.{◌≡◌, drop}
-use Rattle.lrat_checker.specs.Judging.{led_to}
-use Rattle.lrat_checker.specs.Accepting.{leading}
+use Rattle.proof_rules.specs.Judging.{led_to}
+use Rattle.proof_rules.specs.Accepting.{leading}
 use Rattle.lrat_checker.specs.Marking.{Extends}
 use Rattle.lrat_checker.proofs.leading.lead.Given as goal
 

@@ -1,5 +1,5 @@
 use Rattle.std.proofs.Common.{◌≡◌, drop}
-use Rattle.lrat_checker.specs.Accepting.{groups_from}
+use Rattle.proof_rules.specs.Accepting.{groups_from}
 use Rattle.lrat_checker.proofs.leading.next_group.Given as goal
 
 abbrev pub invariant-loop-place : goal.invariant-loop-place

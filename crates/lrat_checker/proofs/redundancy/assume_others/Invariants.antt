@@ -1,6 +1,6 @@
 use Rattle.std.proofs.Common.{◌≡◌, drop}
-use Rattle.lrat_checker.specs.Judging.{assumed}
-use Rattle.lrat_checker.specs.Accepting.{without_negated}
+use Rattle.proof_rules.specs.Judging.{assumed}
+use Rattle.proof_rules.specs.Accepting.{without_negated}
 use Rattle.lrat_checker.specs.Marking.{Extends}
 use Rattle.lrat_checker.proofs.redundancy.assume_others.Given as goal
 

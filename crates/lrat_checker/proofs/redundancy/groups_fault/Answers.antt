@@ -5,8 +5,8 @@ use mir.Val.{SFits}
 use Rattle.std.specs.BTreeSet.{contains}
 use Rattle.std.specs.Ordering.{nat_cmp}
 use Rattle.cnf_formula.specs.Literals.{LitValue}
-use Rattle.lrat_checker.specs.Held.{clause_at}
-use Rattle.lrat_checker.specs.Judging.{Fault, group_fault}
+use Rattle.proof_rules.specs.Held.{clause_at}
+use Rattle.proof_rules.specs.Judging.{Fault, group_fault}
 use Rattle.lrat_checker.proofs.Grouped.{group_at, faulty_any, passes, none_from, group_number}
 use Rattle.lrat_checker.proofs.redundancy.groups_fault.Goals as goal
 

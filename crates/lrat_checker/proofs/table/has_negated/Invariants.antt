@@ -1,5 +1,5 @@
 use Rattle.std.proofs.Common.{◌≡◌, drop}
-use Rattle.lrat_checker.specs.Accepting.{has_negated}
+use Rattle.proof_rules.specs.Accepting.{has_negated}
 use Rattle.lrat_checker.proofs.table.has_negated.Given as goal
 
 abbrev pub invariant-loop-lit : goal.invariant-loop-lit

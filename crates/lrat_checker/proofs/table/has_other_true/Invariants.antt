@@ -1,6 +1,6 @@
 use Rattle.std.proofs.Common.{◌≡◌, drop}
 use Rattle.std.specs.List.{list_any}
-use Rattle.lrat_checker.specs.Accepting.{is_made_true, without_negated}
+use Rattle.proof_rules.specs.Accepting.{is_made_true, without_negated}
 use Rattle.lrat_checker.proofs.table.has_other_true.Given as goal
 
 abbrev pub invariant-loop-lit : goal.invariant-loop-lit

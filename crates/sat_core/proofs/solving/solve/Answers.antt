@@ -1,6 +1,6 @@
 use Rattle.std.proofs.Common.{◌≡◌, ◌<◌, ◌^◌, Bool, List, [], length, Result, Ok, Err, sym, ap, ◌∙◌, subst}
 use Rattle.cnf_formula.specs.Formulas.{Satisfies}
-use Rattle.lrat_checker.specs.Refuting.{SpentLog}
+use Rattle.proof_rules.specs.Refuting.{SpentLog}
 use Rattle.trail_core.specs.Meaning.{trues}
 use Rattle.sat_core.specs.Totals.{AreValues}
 use Rattle.sat_core.specs.declared.fault.SolveFault.{SolveFault}

@@ -1,4 +1,4 @@
-use Rattle.lrat_checker.specs.Refuting.{Exhausted}
+use Rattle.proof_rules.specs.Refuting.{Exhausted}
 use Rattle.sccl_run.proofs.Recorded.{each_unknown}
 use Rattle.sccl_run.proofs.synth.given_up_is_exhausted.Goals as goal
 

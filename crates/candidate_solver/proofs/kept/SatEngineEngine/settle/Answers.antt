@@ -5,9 +5,9 @@ use Rattle.candidate_order.specs.declared.outcome.Outcome.TheVariants as outcome
 use Rattle.candidate_order.specs.Frontiers.{QuestionValue}
 use Rattle.candidate_formula.specs.Formulas.{formula_for}
 use Rattle.candidate_solver.specs.Asked.{asked}
-use Rattle.candidate_solver.specs.declared.settled.Settled.{Settled}
-use Rattle.candidate_solver.specs.declared.settled.Settled.TheVariants as settled
-use Rattle.candidate_solver.specs.Outcomes.{RecordValue, SpentOn}
+use Rattle.engine_rules.specs.declared.settled.Settled.{Settled}
+use Rattle.engine_rules.specs.declared.settled.Settled.TheVariants as settled
+use Rattle.engine_rules.specs.Outcomes.{RecordValue, SpentOn}
 use Rattle.candidate_solver.specs.Kept.{HasFiles}
 use Rattle.candidate_solver.proofs.Begun.{begins_refl}
 use Rattle.candidate_solver.proofs.Settling.{EngineValue, IsSettled, settled_moves, settled_agrees, failed_moves, proved_by, not_solvable}

@@ -1,6 +1,6 @@
 use Rattle.std.proofs.Common.{sym, ap, ◌∙◌}
-use Rattle.lrat_checker.specs.Held.{start_of}
-use Rattle.lrat_checker.specs.Refuting.{with_line}
+use Rattle.proof_rules.specs.Held.{start_of}
+use Rattle.proof_rules.specs.Refuting.{with_line}
 use Rattle.conflict_ledger.proofs.Learned.{checker_more}
 use Rattle.conflict_ledger.proofs.checked.CheckedLedger.prepare.Goals as goal
 

@@ -1,6 +1,6 @@
 use Rattle.std.proofs.Common.{sym, ap, subst}
 use Rattle.cnf_formula.specs.Formulas.{Satisfiable}
-use Rattle.lrat_checker.proofs.Calm.{never_refuted_after}
+use Rattle.proof_rules.proofs.Calm.{never_refuted_after}
 use Rattle.lrat_checker.specs.Checking.{checker_of}
 use Rattle.lrat_checker.proofs.checker.Checker.refuted.Goals as goal
 

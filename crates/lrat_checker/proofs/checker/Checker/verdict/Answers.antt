@@ -1,6 +1,6 @@
 use Rattle.std.proofs.Common.{◌≡◌, ◌<◌, max, ap, subst, arith}
 use Rattle.std.specs.Prelude.{IfOk}
-use Rattle.lrat_checker.specs.Judging.{verdict_of}
+use Rattle.proof_rules.specs.Judging.{verdict_of}
 use Rattle.lrat_checker.proofs.Checked.{judged_ok}
 use Rattle.lrat_checker.proofs.checker.Checker.verdict.Goals as goal
 

@@ -3,7 +3,7 @@ use Rattle.std.proofs.lemmas.Bool.{false≢true, cases_lt}
 use Rattle.std.proofs.lemmas.List.{get_or_read, length-map}
 use Rattle.cnf_formula.specs.Formulas.{IsClause, IsAbout}
 use Rattle.cnf_formula.specs.Literals.{code_of, negation}
-use Rattle.lrat_checker.specs.Accepting.{is_answered}
+use Rattle.proof_rules.specs.Accepting.{is_answered}
 use Rattle.lrat_checker.specs.Stored.{list_at}
 use Rattle.lrat_checker.proofs.Placed.{read_map}
 use Rattle.lrat_checker.proofs.Marked.{code_within}

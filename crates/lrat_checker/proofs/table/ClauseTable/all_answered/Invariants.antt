@@ -1,5 +1,5 @@
 use Rattle.std.proofs.Common.{◌≡◌, ℕ, ◌<◌, true, false, List, [], length, map, get_or}
-use Rattle.lrat_checker.specs.Accepting.{Group, is_answered}
+use Rattle.proof_rules.specs.Accepting.{Group, is_answered}
 use Rattle.lrat_checker.specs.Steps.{Names}
 use Rattle.lrat_checker.proofs.table.ClauseTable.all_answered.Given as goal
 

@@ -3,7 +3,7 @@ use Rattle.std.specs.Prelude.{if◌then◌else◌}
 use Rattle.std.specs.Option.{option_copied}
 use Rattle.std.proofs.lemmas.List.{get_or_read, length-map}
 use Rattle.cnf_formula.specs.Formulas.{IsClause}
-use Rattle.lrat_checker.specs.Held.{clause_at}
+use Rattle.proof_rules.specs.Held.{clause_at}
 use Rattle.lrat_checker.specs.Stored.{held_of}
 use Rattle.lrat_checker.proofs.Placed.{Others, not_held, held_at, read_map}
 use Rattle.lrat_checker.proofs.table.ClauseTable.clause.Goals as goal

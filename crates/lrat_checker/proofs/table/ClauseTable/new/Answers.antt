@@ -2,7 +2,7 @@ use Rattle.std.proofs.Common.{◌≡◌, ◌+◌, ℕ, List, [], ◌∷◌, ◌+
 use Rattle.std.specs.List.{enumerate_from}
 use Rattle.std.proofs.lemmas.List.{take_more, length-take-le}
 use Rattle.cnf_formula.specs.Literals.{LitValue}
-use Rattle.lrat_checker.specs.Held.{Entry}
+use Rattle.proof_rules.specs.Held.{Entry}
 use Rattle.lrat_checker.proofs.Placed.{enumerate-push}
 use Rattle.lrat_checker.proofs.table.ClauseTable.new.Goals as goal
 

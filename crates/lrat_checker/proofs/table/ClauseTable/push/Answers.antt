@@ -3,7 +3,7 @@ use Rattle.std.proofs.lemmas.List.{map_push, length-map}
 use Rattle.std.specs.Prelude.{Contains}
 use Rattle.cnf_formula.specs.Literals.{LitValue, code_of}
 use Rattle.cnf_formula.specs.Formulas.{IsClause}
-use Rattle.lrat_checker.specs.Held.{Entry}
+use Rattle.proof_rules.specs.Held.{Entry}
 use Rattle.lrat_checker.specs.Stored.{TableValue, held_of, last_of, list_at}
 use Rattle.lrat_checker.proofs.Placed.{held_push, last_push}
 use Rattle.lrat_checker.proofs.Noted.{stored_push}

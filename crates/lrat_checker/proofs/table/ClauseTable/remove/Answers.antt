@@ -2,8 +2,8 @@ use Rattle.std.proofs.Common.{◌≡◌, Bool, List, map, length, sym, ap, ◌�
 use Rattle.std.specs.Prelude.{◌&&◌, not, filter, ◌==◌}
 use Rattle.std.specs.List.{list_any, list_all}
 use Rattle.std.proofs.lemmas.List.{with_items_is}
-use Rattle.lrat_checker.specs.Held.{Entry}
-use Rattle.lrat_checker.specs.Judging.{are_held, has_number_twice}
+use Rattle.proof_rules.specs.Held.{Entry}
+use Rattle.proof_rules.specs.Judging.{are_held, has_number_twice}
 use Rattle.lrat_checker.specs.Stored.{TableValue, held_of, last_of, is_live, kept_live}
 use Rattle.lrat_checker.proofs.Removed.{all_held_live, held_kept, kept_long}
 use Rattle.lrat_checker.proofs.table.ClauseTable.remove.Goals as goal

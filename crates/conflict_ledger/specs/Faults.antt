@@ -1,9 +1,0 @@
--- Why a ledger could not take a line.
-use Rattle.outer_ports.specs.declared.shelf_fault.ShelfFault.{ShelfFault}
-use Rattle.outer_ports.specs.declared.shelf_fault.ShelfFault.TheVariants.{Failed as ShelfFailed, OutOfMemory as NoMemory}
-use Rattle.conflict_ledger.specs.declared.fault.LedgerFault.{LedgerFault}
-use Rattle.conflict_ledger.specs.declared.fault.LedgerFault.TheVariants.{Failed, OutOfMemory}
-
-abbrev pub fault_of : ShelfFault → LedgerFault
-fault_of ShelfFailed = Failed
-fault_of NoMemory = OutOfMemory

@@ -1,0 +1,15 @@
+-- The lines that a ledger holds.
+use Rattle.std.specs.Prelude.{List, map, filter, not}
+use Rattle.cnf_formula.specs.Formulas.{FormulaValue}
+use Rattle.cnf_formula.specs.Lines.{ProofLineValue}
+use Rattle.cnf_formula.specs.declared.line.LratLine.TheVariants.{Addition}
+use Rattle.proof_rules.specs.Held.{CheckerValue, start_of}
+use Rattle.proof_rules.specs.Refuting.{is_empty, after}
+
+-- the checker that has accepted these lines, which are all additions
+abbrev pub checker_of : FormulaValue → List ProofLineValue → CheckerValue
+checker_of base lines = after (start_of base) (map Addition lines)
+
+-- the lines that were learned: a line that closes a refutation has no literal
+abbrev pub learned : List ProofLineValue → List ProofLineValue
+learned lines = filter (λ line. not (is_empty line.lits)) lines

@@ -1,0 +1,90 @@
+-- What is held stays held under more additions, and so does a conflict.
+use Rattle.std.proofs.Common.{ap, sym, ◌∙◌, ◌≡◌, ℕ, suc, max, List, [], ◌∷◌, ◌++◌, length, Some, refl, subst, ⊎_elim, arith}
+use Rattle.std.proofs.Math.Logic.{∥∥₁_elim}
+use Rattle.std.specs.Prelude.{◌==◌, true, map}
+use Rattle.std.proofs.lemmas.Bool.{cases_Bool}
+use Rattle.std.proofs.lemmas.List.Elements.{All-nil}
+use Rattle.cnf_formula.specs.Literals.{LitValue, negation}
+use Rattle.cnf_formula.specs.Formulas.{FormulaValue, IsAbout}
+use Rattle.cnf_formula.specs.Lines.{ProofLineValue}
+use Rattle.cnf_formula.specs.declared.line.LratLine.{LratLine}
+use Rattle.cnf_formula.specs.declared.line.LratLine.TheVariants.{Addition, Deletion}
+use Rattle.proof_rules.specs.declared.verdict.LineVerdict.TheVariants.{Accepted as AcceptedVerdict}
+use Rattle.proof_rules.specs.Held.{Entry, CheckerValue, start_of, clause_at}
+use Rattle.proof_rules.specs.Judging.{verdict_of}
+use Rattle.proof_rules.specs.Accepting.{Conflicts, Implied, leading}
+use Rattle.proof_rules.specs.Refuting.{with_line, is_accepted, verdict_on, with_accepted, AllAccepted, after, IsChecker, Exhaustion, Exhausted}
+use Rattle.proof_rules.proofs.Verdicts.{implied_by, by_implied}
+
+abbrev pub Keeps : List Entry → List Entry → Type 0
+Keeps held more = (id : ℕ) (clause : List LitValue) → clause_at held id ≡ Some clause → clause_at more id ≡ Some clause
+
+pub keeps_append : (held more : List Entry) → Keeps held (held ++ more)
+keeps_append [] more id clause h = absurd (cc)
+keeps_append (entry ∷ held) more id clause h =
+    ⊎_elim (λ e. let here : Some (entry.1) ≡ Some clause = rw e at h in rw e here)
+    (λ e. rw e (keeps_append held more id clause (rw e at h)))
+    (cases_Bool (entry.0 == id))
+
+pub conflict_kept : (held more : List Entry) → Keeps held more → (falses : List LitValue) (ids : List ℕ) → Conflicts held falses ids → Conflicts more falses ids
+conflict_kept held more k falses [] c = c
+conflict_kept held more k falses (id ∷ []) c = record { clause = c.clause; names = k id c.clause c.names; each = c.each }
+conflict_kept held more k falses (id ∷ next ∷ ids) c =
+    let t = c.1 in (
+      c.0,
+      record { clause = t.clause; names = k id t.clause t.names; stands = t.stands; not_false = t.not_false; others = t.others },
+      conflict_kept held more k (negation c.0 ∷ falses) (next ∷ ids) c.2,
+    )
+
+pub additions_keep : (lines : List ProofLineValue) (c : CheckerValue) → Keeps c.held (after c (map Addition lines)).held
+additions_keep [] c id clause h = h
+additions_keep (line ∷ lines) c id clause h = additions_keep lines (with_line c line) id clause (keeps_append c.held ((line.id, line.lits) ∷ []) id clause h)
+
+no_exhaustion : (f : FormulaValue) (line : ProofLineValue) (n : ℕ) → line.lits ≡ [] → verdict_of (start_of f) line ≡ AcceptedVerdict true → Exhaustion f n → ⊥
+no_exhaustion f line n e v x =
+    let end = after (start_of f) (map Addition x.lines) in
+    let i = implied_by (start_of f) line v in
+    let conflict = subst (λ lits. Conflicts (start_of f).held lits (leading line.hints)) e i.conflict in
+    let again : ProofLineValue = record { id = suc (max (length end.formula.clauses) end.greatest); lits = []; hints = line.hints } in
+    let implied : Implied end again = record {
+      new = record {
+        above_formula = omega arith;
+        above_lines = omega arith;
+        in_range = All-nil (IsAbout end.formula.vars);
+        once = λ i j d a b. absurd (omega (arith, b));
+      };
+      no_groups = i.no_groups;
+      conflict = conflict_kept (start_of f).held end.held (additions_keep x.lines (start_of f)) [] (leading line.hints) conflict;
+    } in
+    x.not_closed again refl (by_implied end again implied)
+
+pub never_exhausted : (f : FormulaValue) (line : ProofLineValue) (n : ℕ) → line.lits ≡ [] → verdict_of (start_of f) line ≡ AcceptedVerdict true → Exhausted f n → ⊥
+never_exhausted f line n e v x = ∥∥₁_elim x (λ a b. absurd a) (no_exhaustion f line n e v)
+
+-- ---- checkers
+
+more_accepted : (lines : List LratLine) (c : CheckerValue) (line : LratLine) → AllAccepted c lines → is_accepted (verdict_on (after c lines) line) ≡ true → AllAccepted c (lines ++ line ∷ [])
+more_accepted [] c line a v = (v, tt)
+more_accepted (l ∷ lines) c line a v = (a.0, more_accepted lines (with_accepted c l) line a.1 v)
+
+after_more : (lines : List LratLine) (c : CheckerValue) (line : LratLine) → after c (lines ++ line ∷ []) ≡ with_accepted (after c lines) line
+after_more [] c line = refl
+after_more (l ∷ lines) c line = after_more lines (with_accepted c l) line
+
+pub starts_as_checker : (f : FormulaValue) → IsChecker (start_of f)
+starts_as_checker f = record { lines = []; accepted = tt; is = refl }
+
+same_formula : (c : CheckerValue) (line : LratLine) → (with_accepted c line).formula ≡ c.formula
+same_formula c (Addition line) = refl
+same_formula c (Deletion deletion) = refl
+
+pub stays_checker : (c : CheckerValue) (line : LratLine) → IsChecker c → is_accepted (verdict_on c line) ≡ true → IsChecker (with_accepted c line)
+stays_checker c line i v =
+    let accepted : AllAccepted (start_of c.formula) (i.lines ++ line ∷ []) = more_accepted i.lines (start_of c.formula) line i.accepted (ap (λ d. is_accepted (verdict_on d line)) i.is ∙ v) in
+    let is : after (start_of c.formula) (i.lines ++ line ∷ []) ≡ with_accepted c line = after_more i.lines (start_of c.formula) line ∙ ap (λ d. with_accepted d line) i.is in
+    let e : c.formula ≡ (with_accepted c line).formula = sym (same_formula c line) in
+    record {
+      lines = i.lines ++ line ∷ [];
+      accepted = subst (λ f. AllAccepted (start_of f) (i.lines ++ line ∷ [])) e accepted;
+      is = subst (λ f. after (start_of f) (i.lines ++ line ∷ []) ≡ with_accepted c line) e is;
+    }

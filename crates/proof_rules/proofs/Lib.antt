@@ -1,0 +1,10 @@
+pub mod Calm
+pub mod Groups
+pub mod Hints
+pub mod Kept
+pub mod Numbered
+pub mod Open
+pub mod Sound
+pub mod Taking
+pub mod Together
+pub mod Verdicts

@@ -1,0 +1,105 @@
+-- Each clause that is held is found by its number.
+use Rattle.std.proofs.Common.{◌≡◌, ℕ, ◌+◌, ◌<◌, ◌≤◌, Bool, true, List, [], ◌∷◌, ◌++◌, length, get_or, Some, refl, sym, ap, ◌∙◌, ⊎_elim, arith}
+use Rattle.std.specs.Prelude.{◌==◌, filter, All}
+use Rattle.std.specs.List.{enumerate_from}
+use Rattle.std.proofs.lemmas.Bool.{false≢true, eq-eqb, ne_eqb, cases_Bool}
+use Rattle.std.proofs.lemmas.List.Elements.{All-nil, All-cons, All-head, All-tail, All-append, All-filter}
+use Rattle.cnf_formula.specs.Literals.{LitValue}
+use Rattle.proof_rules.specs.Held.{Entry, clause_at}
+
+abbrev pub Found : List Entry → Entry → Type 0
+Found held entry = clause_at held entry.0 ≡ Some (entry.1)
+
+abbrev pub Below : ℕ → Entry → Type 0
+Below n entry = entry.0 < n
+
+pub record Numbered (held : List Entry) (n : ℕ) : Type 0 where
+  pub found : All (Found held) held
+  pub below : All (Below n) held
+
+-- ---- the clauses of a formula
+
+above : (n : ℕ) (clauses : List (List LitValue)) → All (λ entry. n ≤ entry.0) (enumerate_from n clauses)
+above n [] = All-nil (λ entry. n ≤ entry.0)
+above n (clause ∷ clauses) =
+    let later = above (n + 1) clauses in
+    All-cons (λ entry. n ≤ entry.0) (n, clause) (enumerate_from (n + 1) clauses) (omega arith) (λ k d w. let a = later k d w in omega (arith, a))
+
+below : (n : ℕ) (clauses : List (List LitValue)) → All (Below (n + length clauses)) (enumerate_from n clauses)
+below n [] = All-nil (Below (n + 0))
+below n (clause ∷ clauses) =
+    let later = below (n + 1) clauses in
+    All-cons (Below (n + length (clause ∷ clauses))) (n, clause) (enumerate_from (n + 1) clauses) (omega arith) (λ k d w. let a = later k d w in omega (arith, a))
+
+here : (held : List Entry) (id : ℕ) (clause : List LitValue) → clause_at ((id, clause) ∷ held) id ≡ Some clause
+here held id clause = rw (eq-eqb id id refl) refl
+
+later : (held : List Entry) (entry other : Entry) → (entry.0 ≡ other.0 → ⊥) → Found held other → Found (entry ∷ held) other
+later held entry other apart f = rw (ne_eqb entry.0 other.0 apart) f
+
+start_found : (n : ℕ) (clauses : List (List LitValue)) → All (Found (enumerate_from n clauses)) (enumerate_from n clauses)
+start_found n [] = All-nil (Found [])
+start_found n (clause ∷ clauses) =
+    let rest = enumerate_from (n + 1) clauses in
+    let over = above (n + 1) clauses in
+    let found = start_found (n + 1) clauses in
+    All-cons (Found ((n, clause) ∷ rest)) (n, clause) rest (here rest n clause)
+    (λ k d w. later rest (n, clause) (get_or rest k d) (λ e. let a = over k d w in absurd (omega (arith, a, e))) (found k d w))
+
+pub start_numbered : (clauses : List (List LitValue)) → Numbered (enumerate_from 1 clauses) (length clauses + 1)
+start_numbered clauses =
+    let b = below 1 clauses in
+    record { found = start_found 1 clauses; below = λ k d w. let a = b k d w in omega (arith, a) }
+
+-- ---- one more
+
+kept : (held more : List Entry) (id : ℕ) (clause : List LitValue) → clause_at held id ≡ Some clause → clause_at (held ++ more) id ≡ Some clause
+kept [] more id clause h = absurd (cc)
+kept (entry ∷ held) more id clause h =
+    ⊎_elim (λ e. let found : Some (entry.1) ≡ Some clause = rw e at h in rw e found)
+    (λ e. rw e (kept held more id clause (rw e at h)))
+    (cases_Bool (entry.0 == id))
+
+at_end : (held : List Entry) (id : ℕ) (clause : List LitValue) → All (Below id) held → clause_at (held ++ (id, clause) ∷ []) id ≡ Some clause
+at_end [] id clause b = here [] id clause
+at_end (entry ∷ held) id clause b =
+    let low = All-head (Below id) entry held b in
+    rw (ne_eqb entry.0 id (λ e. absurd (omega (arith, low, e)))) (at_end held id clause (All-tail (Below id) entry held b))
+
+pub more_numbered : (held : List Entry) (n id : ℕ) (clause : List LitValue) → n ≤ id → Numbered held n → Numbered (held ++ (id, clause) ∷ []) (id + 1)
+more_numbered held n id clause high m =
+    let all = held ++ (id, clause) ∷ [] in
+    let under : All (Below id) held = λ k d w. let a = m.below k d w in omega (arith, a, high) in
+    record {
+      found = All-append (Found all) held ((id, clause) ∷ []) (λ k d w. kept held ((id, clause) ∷ []) (get_or held k d).0 (get_or held k d).1 (m.found k d w))
+          (All-cons (Found all) (id, clause) [] (at_end held id clause under) (All-nil (Found all)));
+      below = All-append (Below (id + 1)) held ((id, clause) ∷ []) (λ k d w. let a = under k d w in omega (arith, a))
+          (All-cons (Below (id + 1)) (id, clause) [] (omega arith) (All-nil (Below (id + 1))));
+    }
+
+-- ---- fewer
+
+module _ (stays : ℕ → Bool) where
+  abbrev keep : List Entry → List Entry
+  keep held = filter (λ entry. stays entry.0) held
+
+  same_found : (held : List Entry) (id : ℕ) → stays id ≡ true → clause_at (keep held) id ≡ clause_at held id
+  same_found [] id h = refl
+  same_found (entry ∷ held) id h =
+      ⊎_elim (λ e.
+      rw e (⊎_elim (λ i. rw i refl) (λ i. rw i (same_found held id h)) (cases_Bool (entry.0 == id))))
+      (λ e.
+      let apart : entry.0 ≡ id → ⊥ = λ s. false≢true (sym e ∙ ap stays s ∙ h) in
+      rw (e, ne_eqb entry.0 id apart) (same_found held id h))
+      (cases_Bool (stays entry.0))
+
+  all_found : (full held : List Entry) → All (Found full) held → All (Found (keep full)) (keep held)
+  all_found full [] f = All-nil (Found (keep full))
+  all_found full (entry ∷ held) f =
+      let rest = all_found full held (All-tail (Found full) entry held f) in
+      ⊎_elim (λ e. rw e (All-cons (Found (keep full)) entry (keep held) (same_found full entry.0 e ∙ All-head (Found full) entry held f) rest))
+      (λ e. rw e rest)
+      (cases_Bool (stays entry.0))
+
+  pub fewer_numbered : (held : List Entry) (n : ℕ) → Numbered held n → Numbered (keep held) n
+  fewer_numbered held n m = record { found = all_found held held m.found; below = All-filter (λ entry. stays entry.0) (Below n) held m.below }

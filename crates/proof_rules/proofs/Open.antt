@@ -1,0 +1,56 @@
+-- Where each clause that is held has two literals, nothing falls at once.
+use Rattle.std.proofs.Common.{◌≡◌, ℕ, Bool, true, false, List, [], ◌∷◌, Some, sym, ◌∙◌, subst, ⊎_elim}
+use Rattle.std.specs.Prelude.{◌==◌, not, All}
+use Rattle.std.specs.List.{list_all}
+use Rattle.std.proofs.lemmas.Bool.{false≢true, cases_Bool, and_parts, not_from_true}
+use Rattle.std.proofs.lemmas.List.Elements.{All-head, All-tail}
+use Rattle.cnf_formula.specs.Literals.{LitValue, same_literal}
+use Rattle.cnf_formula.specs.Lines.{ProofLineValue}
+use Rattle.proof_rules.specs.declared.verdict.LineVerdict.TheVariants.{Accepted as AcceptedVerdict}
+use Rattle.proof_rules.specs.Held.{Entry, CheckerValue, clause_at}
+use Rattle.proof_rules.specs.Judging.{verdict_of}
+use Rattle.proof_rules.specs.Accepting.{IsFalse, Conflicts, leading}
+use Rattle.proof_rules.proofs.Taking.{FalseOrIs, same_itself}
+use Rattle.proof_rules.proofs.Verdicts.{implied_by}
+
+-- the first two literals of the clause differ
+abbrev pub has_two : List LitValue → Bool
+has_two [] = false
+has_two (x ∷ []) = false
+has_two (x ∷ y ∷ clause) = not (same_literal x y)
+
+abbrev pub all_two : List Entry → Bool
+all_two held = list_all (λ entry. has_two entry.1) held
+
+found : (held : List Entry) (id : ℕ) (clause : List LitValue) → all_two held ≡ true → clause_at held id ≡ Some clause → has_two clause ≡ true
+found [] id clause a h = absurd (cc)
+found (entry ∷ held) id clause a h =
+    let parts = and_parts (has_two entry.1) (all_two held) a in
+    ⊎_elim (λ e.
+    let here : Some (entry.1) ≡ Some clause = rw e at h in
+    let is : entry.1 ≡ clause = cc in
+    subst (λ c. has_two c ≡ true) is parts.0)
+    (λ e. found held id clause parts.1 (rw e at h))
+    (cases_Bool (entry.0 == id))
+
+none_falsified : (clause : List LitValue) → has_two clause ≡ true → All (IsFalse []) clause → ⊥
+none_falsified [] t f = false≢true t
+none_falsified (x ∷ clause) t f = false≢true (All-head (IsFalse []) x clause f)
+
+none_taken : (clause : List LitValue) (l : LitValue) → has_two clause ≡ true → All (FalseOrIs [] l) clause → ⊥
+none_taken [] l t o = false≢true t
+none_taken (x ∷ []) l t o = false≢true t
+none_taken (x ∷ y ∷ clause) l t o =
+    let same : x ≡ l → y ≡ l → ⊥ = λ a b. false≢true (sym (not_from_true (same_literal x y) (subst (λ z. same_literal x z ≡ true) (a ∙ sym b) (same_itself x))) ∙ t) in
+    ⊎_elim (λ f. false≢true f) (λ a. ⊎_elim (λ f. false≢true f) (same a) (All-head (FalseOrIs [] l) y clause (All-tail (FalseOrIs [] l) x (y ∷ clause) o)))
+    (All-head (FalseOrIs [] l) x (y ∷ clause) o)
+
+no_conflict_at_once : (held : List Entry) (ids : List ℕ) → all_two held ≡ true → Conflicts held [] ids → ⊥
+no_conflict_at_once held [] a c = c
+no_conflict_at_once held (id ∷ []) a c = none_falsified c.clause (found held id c.clause a c.names) c.each
+no_conflict_at_once held (id ∷ next ∷ ids) a c =
+    let t = c.1 in
+    none_taken t.clause c.0 (found held id t.clause a t.names) t.others
+
+pub nothing_falls : (c : CheckerValue) → all_two c.held ≡ true → (line : ProofLineValue) → line.lits ≡ [] → verdict_of c line ≡ AcceptedVerdict true → ⊥
+nothing_falls c a line e v = no_conflict_at_once c.held (leading line.hints) a (subst (λ lits. Conflicts c.held lits (leading line.hints)) e (implied_by c line v).conflict)

@@ -1,0 +1,89 @@
+-- Where some assignment satisfies a formula, some assignment of its variables satisfies all that is held after any accepted lines.
+use Rattle.std.proofs.Common.{◌≡◌, ℕ, ◌+◌, ◌-◌, Bool, true, false, List, [], ◌∷◌, map, refl, ap, ◌∙◌, subst, arith}
+use Rattle.std.specs.Prelude.{◌==◌, not, All}
+use Rattle.std.specs.List.{list_any, enumerate_from, range_with_len}
+use Rattle.std.proofs.lemmas.Bool.{and_from}
+use Rattle.std.proofs.lemmas.List.FromFn.{get_or-map-range_with_len, length-map-range_with_len}
+use Rattle.std.proofs.lemmas.List.Elements.{All-nil, All-cons, All-head, All-tail, All-push, All-filter}
+use Rattle.cnf_formula.specs.Literals.{LitValue, value_of, clause_holds, all_hold}
+use Rattle.cnf_formula.specs.Formulas.{FormulaValue, IsFormula, IsClause, IsAbout, Satisfiable}
+use Rattle.cnf_formula.specs.declared.line.LratLine.{LratLine}
+use Rattle.cnf_formula.specs.declared.line.LratLine.TheVariants.{Addition, Deletion}
+use Rattle.proof_rules.specs.declared.verdict.LineVerdict.{LineVerdict}
+use Rattle.proof_rules.specs.declared.verdict.LineVerdict.TheVariants.{Accepted as AcceptedVerdict, Refused}
+use Rattle.proof_rules.specs.Held.{Entry, CheckerValue, start_of}
+use Rattle.proof_rules.specs.Judging.{verdict_of}
+use Rattle.proof_rules.specs.Refuting.{is_accepted, verdict_on, with_line, with_accepted, AllAccepted, after, formula_after}
+use Rattle.proof_rules.proofs.Verdicts.{implied_by, redundant_by}
+use Rattle.proof_rules.proofs.Sound.{holds, Holds}
+use Rattle.proof_rules.proofs.Calm.{all_calm, starts_calm}
+
+-- ---- what is held is about the formula's variables
+
+abbrev InRange : ℕ → Entry → Type 0
+InRange vars entry = IsClause vars entry.1
+
+start_in_range : (vars : ℕ) (clauses : List (List LitValue)) (n : ℕ) → All (IsClause vars) clauses → All (InRange vars) (enumerate_from n clauses)
+start_in_range vars [] n h = All-nil (InRange vars)
+start_in_range vars (clause ∷ clauses) n h =
+    All-cons (InRange vars) (n, clause) (enumerate_from (n + 1) clauses) (All-head (IsClause vars) clause clauses h)
+    (start_in_range vars clauses (n + 1) (All-tail (IsClause vars) clause clauses h))
+
+-- of the formula that a checker began with, and about its variables
+record Kept (f : FormulaValue) (c : CheckerValue) : Type 0 where
+  same : c.formula ≡ f
+  in_range : All (InRange f.vars) c.held
+
+new_in_range : (c : CheckerValue) (line : LratLine) (vars : ℕ) → c.formula.vars ≡ vars → is_accepted (verdict_on c line) ≡ true → All (InRange vars) c.held → All (InRange vars) (with_accepted c line).held
+new_in_range c (Deletion deletion) vars e a h = All-filter (λ entry. not (list_any (λ id. id == entry.0) deletion.ids)) (InRange vars) c.held h
+new_in_range c (Addition line) vars e a h = go (verdict_of c line) refl a
+  where
+    go : (v : LineVerdict) → verdict_of c line ≡ v → is_accepted v ≡ true → All (InRange vars) (with_line c line).held
+    go (AcceptedVerdict true) is a = All-push (InRange vars) c.held (line.id, line.lits) h (subst (λ n. IsClause n line.lits) e (implied_by c line is).new.in_range)
+    go (AcceptedVerdict false) is a = All-push (InRange vars) c.held (line.id, line.lits) h (subst (λ n. IsClause n line.lits) e (redundant_by c line is).new.in_range)
+    go (Refused code hint) is a = absurd (cc)
+
+same_formula : (c : CheckerValue) (line : LratLine) → (with_accepted c line).formula ≡ c.formula
+same_formula c (Addition line) = refl
+same_formula c (Deletion deletion) = refl
+
+all_kept : (f : FormulaValue) (lines : List LratLine) (c : CheckerValue) → AllAccepted c lines → Kept f c → Kept f (after c lines)
+all_kept f [] c a k = k
+all_kept f (line ∷ lines) c a k =
+    all_kept f lines (with_accepted c line) a.1
+    (record { same = same_formula c line ∙ k.same; in_range = new_in_range c line f.vars (ap (λ g. g.vars) k.same) a.0 k.in_range })
+
+-- ---- a valuation of all numbers as an assignment
+
+abbrev listed : (ℕ → Bool) → ℕ → List Bool
+listed v vars = map v (range_with_len 1 vars)
+
+value_listed : (v : ℕ → Bool) (vars : ℕ) (l : LitValue) → IsAbout vars l → value_of (listed v vars) l.var ≡ v l.var
+value_listed v vars l a =
+    let some = a.some in
+    let within = a.within in
+    get_or-map-range_with_len v 1 vars (l.var - 1) l.var false (omega (arith, some, within)) (omega (arith, some))
+
+clause_listed : (v : ℕ → Bool) (vars : ℕ) (clause : List LitValue) → IsClause vars clause → clause_holds (listed v vars) clause ≡ holds v clause
+clause_listed v vars [] h = refl
+clause_listed v vars (l ∷ clause) h =
+    rw (value_listed v vars l (All-head (IsAbout vars) l clause h), clause_listed v vars clause (All-tail (IsAbout vars) l clause h)) refl
+
+all_listed : (v : ℕ → Bool) (vars : ℕ) (held : List Entry) → All (InRange vars) held → All (Holds v) held → all_hold (listed v vars) (map (λ entry. entry.1) held) ≡ true
+all_listed v vars [] r h = refl
+all_listed v vars (entry ∷ held) r h =
+    and_from (clause_holds (listed v vars) entry.1) (all_hold (listed v vars) (map (λ e. e.1) held))
+    (clause_listed v vars entry.1 (All-head (InRange vars) entry held r) ∙ All-head (Holds v) entry held h)
+    (all_listed v vars held (All-tail (InRange vars) entry held r) (All-tail (Holds v) entry held h))
+
+pub still_satisfiable : (f : FormulaValue) (lines : List LratLine) → IsFormula f → Satisfiable f → AllAccepted (start_of f) lines → Satisfiable (formula_after f lines)
+still_satisfiable f lines i s a =
+    let end = all_calm lines (start_of f) a (starts_calm f s) in
+    let kept = all_kept f lines (start_of f) a (record { same = refl; in_range = start_in_range f.vars f.clauses 1 i }) in
+    record {
+      values = listed end.values f.vars;
+      satisfies = record {
+        values_are = length-map-range_with_len end.values 1 f.vars;
+        holds = all_listed end.values f.vars (after (start_of f) lines).held kept.in_range end.all;
+      };
+    }

@@ -1,0 +1,13 @@
+use Rattle.std.proofs.Common.{[], ◌∷◌, refl}
+use Rattle.proof_rules.specs.Held.{start_of}
+use Rattle.proof_rules.specs.Refuting.{with_line}
+use Rattle.proof_rules.specs.Examples.{eight_clauses, pair_of_eight}
+use Rattle.proof_rules.proofs.Open.{nothing_falls}
+use Rattle.proof_rules.proofs.vectors.exhausted_by_one_line.Goals as goal
+
+pub returns : goal.returns
+returns c = ∣ record {
+  lines = pair_of_eight ∷ [];
+  spent = record { count = refl; implied = (refl, tt); fresh = (refl, tt) };
+  not_closed = nothing_falls (with_line (start_of eight_clauses) pair_of_eight) refl;
+} ∣₁

@@ -1,0 +1,47 @@
+//! Laws of refutations.
+
+ghost use Rattle.std.specs.Prelude.{◌≡◌, ◌↔◌, ℕ, true, false, List, []};
+ghost use Rattle.cnf_formula.specs.Formulas.{FormulaValue, IsFormula, Satisfiable};
+ghost use Rattle.cnf_formula.specs.declared.line.LratLine.{LratLine};
+ghost use Rattle.cnf_formula.specs.Lines.{ProofLineValue};
+ghost use Rattle.proof_rules.specs.Held.{CheckerValue, start_of};
+ghost use Rattle.proof_rules.specs.Judging.{verdict_of};
+ghost use Rattle.proof_rules.specs.Accepting.{Implied, Redundant};
+ghost use Rattle.proof_rules.specs.Refuting.{is_accepted, verdict_on, with_accepted, AllAccepted, formula_after, IsChecker, Refutes, Exhausted};
+
+use crate::verdict::LineVerdict;
+
+/// The checks leave an addition accepted as implied, or as redundant, exactly by the definitions.
+#[tactic(auto, using(crate::proofs::Verdicts::implied_exactly, crate::proofs::Verdicts::redundant_exactly))]
+pub fn additions_are_accepted_exactly()
+    ensures implied { (c : CheckerValue) (line : ProofLineValue) → (verdict_of c line ≡ LineVerdict.Accepted true) ↔ Implied c line }
+    ensures redundant { (c : CheckerValue) (line : ProofLineValue) → (verdict_of c line ≡ LineVerdict.Accepted false) ↔ Redundant c line }
+{}
+
+/// Where some assignment satisfies a formula, some assignment satisfies all that is held after any accepted lines.
+#[tactic(auto, using(crate::proofs::Together::still_satisfiable))]
+pub fn satisfiable_stays_satisfiable()
+    ensures { (f : FormulaValue) (lines : List LratLine) → IsFormula f → Satisfiable f → AllAccepted (start_of f) lines → Satisfiable (formula_after f lines) }
+{}
+
+/// A formula that some assignment satisfies is refuted by no lines.
+#[tactic(auto, using(crate::proofs::Calm::never_refuted))]
+pub fn satisfiable_is_never_refuted()
+    ensures { (f : FormulaValue) (lines : List LratLine) → Satisfiable f → Refutes lines f → ⊥ }
+{}
+
+/// A formula that falls by one line without a literal is exhausted for no number of lines.
+pub fn refuted_at_once_is_never_exhausted()
+    ensures { (f : FormulaValue) (line : ProofLineValue) (n : ℕ) → line.lits ≡ [] → verdict_of (start_of f) line ≡ LineVerdict.Accepted true → Exhausted f n → ⊥ }
+{}
+
+/// A checker begins with the clauses of a formula, and an accepted line leaves a checker.
+pub fn checkers()
+    ensures start { (f : FormulaValue) → IsChecker (start_of f) }
+    ensures next { (c : CheckerValue) (line : LratLine) → IsChecker c → is_accepted (verdict_on c line) ≡ true → IsChecker (with_accepted c line) }
+{}
+
+/// Where a checker has accepted a line without a literal, no assignment satisfies its formula.
+pub fn refuted_is_unsatisfiable()
+    ensures { (c : CheckerValue) → IsChecker c → c.refuted ≡ true → Satisfiable c.formula → ⊥ }
+{}

@@ -1,0 +1,82 @@
+-- The report of an allreduce: it is valid and right, and the files of its two parts prove it.
+use Rattle.std.proofs.Common.{◌≡◌, List, [], ◌∷◌, All, refl, sym, ap, subst, ◌∙◌, arith}
+use Rattle.std.proofs.lemmas.List.Elements.{All-cons, All-nil}
+use Rattle.outer_ports.specs.declared.part.Part.{Part}
+use Rattle.outer_ports.specs.declared.part.Part.TheVariants.{Reduce, Gather}
+use Rattle.outer_ports.specs.declared.proof_name.ProofName.{ProofName}
+use Rattle.outer_ports.specs.Files.{Files}
+use Rattle.collective_spec.specs.declared.kind.Kind.TheVariants as kind
+use Rattle.candidate_order.specs.Frontiers.{FrontierValue, PointValue, IsTried}
+use Rattle.candidate_formula.specs.Files.{candidate_of}
+use Rattle.topology_text.specs.Value.{NamedTopologyValue}
+use Rattle.report_form.specs.Reports.{WordsValue, ReportValue, IsFrontier, IsReport, question_of}
+use Rattle.frontier_audit.specs.Rights.{IsExhaustedPart, IsRight, IsRightPart, IsSearched, IsSearchedPart}
+use Rattle.frontier_audit.specs.OwedFiles.{IsKept, IsOf, Proves}
+use Rattle.frontier_audit.specs.Shelves.{PartRight}
+use Rattle.report_search.specs.Asked.{IsAsked}
+use Rattle.report_search.specs.Found.{IsFound}
+use Rattle.report_search.specs.Shelved.{IsShelved}
+use Rattle.report_search.specs.Reporting.{both_report, joins_of}
+use Rattle.report_search.proofs.PartAsked.{two_parts}
+use Rattle.report_search.proofs.Valid.{valid_frontier}
+use Rattle.report_search.proofs.JoinedPoints.{joined_points, joins_are}
+use Rattle.report_search.proofs.Staying.{kept_stays, right_stays}
+
+module _ (w : WordsValue) (t : NamedTopologyValue) (f g : FrontierValue) where
+  abbrev report : ReportValue
+  report = both_report w t f g
+
+  -- what holds of each of the two
+  two : (P : Part × FrontierValue → Type 0) → P (Reduce, f) → P (Gather, g) → All P ((Reduce, f) ∷ (Gather, g) ∷ [])
+  two P first second = All-cons P (Reduce, f) ((Gather, g) ∷ []) first (All-cons P (Gather, g) [] second (All-nil P))
+
+  module _ (asked : IsAsked w t) (is : w.collective.kind ≡ kind.Allreduce) (found : IsFound (question_of w t Reduce) f) (found_too : IsFound (question_of w t Gather) g) where
+    both_valid : IsReport report
+    both_valid = record {
+      topology = asked.topology;
+      pattern = asked.fits;
+      words = asked.words;
+      parts = sym (two_parts w.collective.kind is);
+      frontiers = two (λ x. IsFrontier (question_of w t x.0) x.1) (valid_frontier (question_of w t Reduce) f found) (valid_frontier (question_of w t Gather) g found_too);
+      joined = joined_points w t asked is f g found found_too;
+      only_allreduce = λ other. absurd (other is);
+    }
+
+    -- as the code has it: of the lists that it made
+    pub both_valid_for : (frontiers : List (Part × FrontierValue)) (joined points more : List PointValue) → frontiers ≡ (Reduce, f) ∷ (Gather, g) ∷ [] → joined ≡ joins_of points more → points ≡ f.points → more ≡ g.points
+        → IsReport (record { words = w; topology = t; frontiers = frontiers; joined = joined })
+    both_valid_for frontiers joined points more parts joins first second =
+        let all : joined ≡ joins_of f.points g.points = joins ∙ ap (λ xs. joins_of xs more) first ∙ ap (joins_of f.points) second in
+        subst (λ xs. IsReport (record { words = w; topology = t; frontiers = frontiers; joined = xs })) (sym all)
+        (subst (λ xs. IsReport (record { words = w; topology = t; frontiers = xs; joined = joins_of f.points g.points })) (sym parts) both_valid)
+
+    pub both_right : (r : ReportValue) → r ≡ report → IsRight r
+    both_right r same = subst IsRight (sym same) (record {
+      valid = both_valid;
+      parts = two (IsRightPart report) found.right found_too.right;
+      joined = joins_are w t asked is f g found found_too;
+    })
+
+    pub both_searched : (r : ReportValue) → r ≡ report → IsSearched r
+    both_searched r same = subst IsSearched (sym same) (record {
+      parts = two (IsSearchedPart report) found.searched found_too.searched;
+      exhausted = two (IsExhaustedPart report) found.exhausted found_too.exhausted;
+    })
+
+  -- ---- its files
+
+  of_first : (name : ProofName) → (name.part ≡ Reduce) × IsTried f (candidate_of name) → IsOf report name
+  of_first name tried = (0, (Reduce, f), omega arith, refl, (sym tried.0, tried.1))
+
+  of_second : (name : ProofName) → (name.part ≡ Gather) × IsTried g (candidate_of name) → IsOf report name
+  of_second name tried = (1, (Gather, g), omega arith, refl, (sym tried.0, tried.1))
+
+  pub both_prove : (r : ReportValue) (before middle after : Files) → r ≡ report → IsShelved Reduce (question_of w t Reduce) f before middle → IsShelved Gather (question_of w t Gather) g middle after → Proves r before after
+  both_prove r before middle after same first second = subst (λ x. Proves x before after) (sym same) (record {
+    shelf = two (λ x. PartRight x.0 (question_of w t x.0) x.1 after) (right_stays Reduce (question_of w t Reduce) middle after stay f first.right) second.right;
+    kept = two (λ x. IsKept x.0 (question_of w t x.0) after x.1) (kept_stays Reduce (question_of w t Reduce) middle after stay f first.kept) second.kept;
+    others = λ name other. second.others name (λ tried. other (of_second name tried)) ∙ first.others name (λ tried. other (of_first name tried));
+  })
+    where
+      stay : (name : ProofName) → name.part ≡ Reduce → after name ≡ middle name
+      stay name reduces = second.others name (λ tried. let both : Gather ≡ Reduce = sym tried.0 ∙ reduces in absurd cc)

@@ -1,0 +1,11 @@
+pub mod Recorded
+pub mod Allowed
+pub mod Turned
+pub mod PartAsked
+pub mod Beginning
+pub mod Valid
+pub mod WholeReport
+pub mod JoinedPoints
+pub mod Staying
+pub mod BothReport
+pub mod JoinsAdded

@@ -1,0 +1,70 @@
+-- The report of a search in one part: it is valid and right, and its files prove it.
+use Rattle.std.proofs.Common.{◌≡◌, ◌≢◌, [], refl, sym, subst, arith}
+use Rattle.std.proofs.lemmas.List.Elements.{All-cons, All-nil}
+use Rattle.outer_ports.specs.declared.part.Part.{Part}
+use Rattle.outer_ports.specs.declared.part.Part.TheVariants.{Whole, Joined}
+use Rattle.outer_ports.specs.declared.proof_name.ProofName.{ProofName}
+use Rattle.outer_ports.specs.Files.{Files}
+use Rattle.collective_spec.specs.declared.kind.Kind.TheVariants as kind
+use Rattle.candidate_order.specs.Frontiers.{FrontierValue, IsTried}
+use Rattle.candidate_formula.specs.Files.{candidate_of}
+use Rattle.topology_text.specs.Value.{NamedTopologyValue}
+use Rattle.report_form.specs.Reports.{WordsValue, ReportValue, IsFrontier, IsReport, IsJoinedPoint, question_of}
+use Rattle.frontier_audit.specs.Rights.{IsExhaustedPart, IsRight, IsRightPart, IsSearched, IsSearchedPart}
+use Rattle.frontier_audit.specs.OwedFiles.{IsKept, IsOf, Proves}
+use Rattle.frontier_audit.specs.Shelves.{PartRight}
+use Rattle.report_search.specs.Asked.{IsAsked}
+use Rattle.report_search.specs.Found.{IsFound}
+use Rattle.report_search.specs.Shelved.{IsShelved}
+use Rattle.report_search.specs.Reporting.{whole_report}
+use Rattle.report_search.proofs.PartAsked.{one_part}
+use Rattle.report_search.proofs.Valid.{valid_frontier}
+
+module _ (w : WordsValue) (t : NamedTopologyValue) (f : FrontierValue) where
+  abbrev report : ReportValue
+  report = whole_report w t f
+
+  abbrev OfFrontier : Part × FrontierValue → Type 0
+  OfFrontier x = IsFrontier (question_of w t x.0) x.1
+
+  pub whole_valid : IsAsked w t → w.collective.kind ≢ kind.Allreduce → IsFound (question_of w t Whole) f → IsReport report
+  whole_valid asked single found = record {
+    topology = asked.topology;
+    pattern = asked.fits;
+    words = asked.words;
+    parts = sym (one_part w.collective.kind single);
+    frontiers = All-cons OfFrontier (Whole, f) [] (valid_frontier (question_of w t Whole) f found) (All-nil OfFrontier);
+    joined = All-nil (IsJoinedPoint (question_of w t Joined));
+    only_allreduce = λ _. refl;
+  }
+
+  pub whole_right : (r : ReportValue) → r ≡ report → IsAsked w t → w.collective.kind ≢ kind.Allreduce → IsFound (question_of w t Whole) f → IsRight r
+  whole_right r is asked single found = subst IsRight (sym is) (record {
+    valid = whole_valid asked single found;
+    parts = All-cons (IsRightPart report) (Whole, f) [] found.right (All-nil (IsRightPart report));
+    joined = refl;
+  })
+
+  pub whole_searched : (r : ReportValue) → r ≡ report → IsFound (question_of w t Whole) f → IsSearched r
+  whole_searched r is found = subst IsSearched (sym is) (record {
+    parts = All-cons (IsSearchedPart report) (Whole, f) [] found.searched (All-nil (IsSearchedPart report));
+    exhausted = All-cons (IsExhaustedPart report) (Whole, f) [] found.exhausted (All-nil (IsExhaustedPart report));
+  })
+
+  -- ---- its files
+
+  of_report : (name : ProofName) → (name.part ≡ Whole) × IsTried f (candidate_of name) → IsOf report name
+  of_report name tried = (0, (Whole, f), omega arith, refl, (sym tried.0, tried.1))
+
+  pub whole_proves : (r : ReportValue) (before after : Files) → r ≡ report → IsShelved Whole (question_of w t Whole) f before after → Proves r before after
+  whole_proves r before after is shelved = subst (λ x. Proves x before after) (sym is) (record {
+    shelf = All-cons RightPart (Whole, f) [] shelved.right (All-nil RightPart);
+    kept = All-cons KeptPart (Whole, f) [] shelved.kept (All-nil KeptPart);
+    others = λ name other. shelved.others name (λ tried. other (of_report name tried));
+  })
+    where
+      RightPart : Part × FrontierValue → Type 0
+      RightPart x = PartRight x.0 (question_of w t x.0) x.1 after
+
+      KeptPart : Part × FrontierValue → Type 0
+      KeptPart x = IsKept x.0 (question_of w t x.0) after x.1

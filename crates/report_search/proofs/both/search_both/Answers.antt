@@ -1,0 +1,34 @@
+use Rattle.std.proofs.Common.{refl, subst, sym, arith, Contains}
+use Rattle.outer_ports.specs.declared.part.Part.TheVariants.{Gather}
+use Rattle.report_search.proofs.Beginning.{breaks_off_later}
+use Rattle.report_search.proofs.BothReport.{both_prove, both_right, both_searched}
+use Rattle.report_search.proofs.PartAsked.{two_parts}
+use Rattle.report_search.proofs.both.search_both.Goals as goal
+
+pub part_frontier-requires-2-clause-part : goal.part_frontier-requires-2-clause-part
+part_frontier-requires-2-clause-part g c = subst (λ parts. Contains parts Gather) (sym (two_parts c.args.words.collective.kind c.requires.kind)) (1, omega arith, refl)
+
+pub returns-in_err-gather-clause-begun : goal.returns-in_err-gather-clause-begun
+returns-in_err-gather-clause-begun g c = λ told.
+    breaks_off_later c.args.words c.args.topology _ (g.H.Shelf.file c.part_frontier.new.shelf) _ (c.part_frontier.ensures.begun (c.part_frontier-2.ensures.told told)) (c.part_frontier-2.ensures.begun told)
+
+pub returns-in_err-report-clause-begun : goal.returns-in_err-report-clause-begun
+returns-in_err-report-clause-begun g c = λ told.
+    breaks_off_later c.args.words c.args.topology _ (g.H.Shelf.file c.part_frontier.new.shelf) _ (c.part_frontier.ensures.begun (c.part_frontier-2.ensures.told told)) (c.part_frontier-2.ensures.begun told)
+
+pub returns-clause-right : goal.returns-clause-right
+returns-clause-right g c =
+    both_right c.args.words c.args.topology c.in_ok-reduce.reduce c.in_ok-gather.gather c.requires.asked c.requires.kind c.in_ok-reduce.ensures.found c.in_ok-gather.ensures.found c.in_ok-report.report c.in_ok-report.ensures
+
+pub returns-clause-searched : goal.returns-clause-searched
+returns-clause-searched g c =
+    both_searched c.args.words c.args.topology c.in_ok-reduce.reduce c.in_ok-gather.gather c.requires.asked c.requires.kind c.in_ok-reduce.ensures.found c.in_ok-gather.ensures.found c.in_ok-report.report c.in_ok-report.ensures
+
+pub returns-clause-proves : goal.returns-clause-proves
+returns-clause-proves g c = λ told.
+    both_prove c.args.words c.args.topology c.in_ok-reduce.reduce c.in_ok-gather.gather c.in_ok-report.report _ (g.H.Shelf.file c.part_frontier.new.shelf) _ c.in_ok-report.ensures (c.in_ok-reduce.ensures.shelved (c.part_frontier-2.ensures.told told))
+    (c.in_ok-gather.ensures.shelved told)
+
+pub returns-clause-begun : goal.returns-clause-begun
+returns-clause-begun g c = λ told.
+    breaks_off_later c.args.words c.args.topology _ (g.H.Shelf.file c.part_frontier.new.shelf) _ (c.part_frontier.ensures.begun (c.part_frontier-2.ensures.told told)) (c.part_frontier-2.ensures.begun told)

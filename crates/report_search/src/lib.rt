@@ -1,0 +1,17 @@
+//! The search of a whole report: the frontier of each part of a collective, the joins of two parts, and the files that prove them.
+#![tactic(auto)]
+
+mod asked;
+mod both;
+mod copying;
+mod joining;
+mod part;
+mod searching;
+#[cfg(test)]
+mod tests;
+mod turning;
+mod whole;
+
+pub use engine_rules::EngineFault;
+pub use searching::search_report;
+pub use std::alloc::AllocError as OutOfMemory;
