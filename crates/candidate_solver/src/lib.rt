@@ -8,6 +8,8 @@ mod laws;
 mod question;
 mod searching;
 #[cfg(test)]
+mod solving_tests;
+#[cfg(test)]
 mod tests;
 mod trying;
 

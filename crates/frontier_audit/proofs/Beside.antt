@@ -24,10 +24,10 @@ use Rattle.proof_audit.proofs.Proved.{refutes_by, by_refuting, spent_by, by_spen
 
 -- ---- a refuted candidate
 
-abbrev behind_formula : Option (List ℕ) → FormulaValue → Candidate → List ℕ → Checked Denial
+abbrev pub behind_formula : Option (List ℕ) → FormulaValue → Candidate → List ℕ → Checked Denial
 behind_formula lrat f x formula = refuse (not (bytes_eq formula (cnf_text f))) (CnfDiffers, x) >>= (λ _. need lrat (ProofMissing, x) >>= (λ proof. refuse (not (is_refutation f proof)) (ProofRefused, x)))
 
-abbrev over_files : Option (List ℕ) → Option (List ℕ) → FormulaValue → Candidate → Checked Denial
+abbrev pub over_files : Option (List ℕ) → Option (List ℕ) → FormulaValue → Candidate → Checked Denial
 over_files cnf lrat f x = need cnf (ProofMissing, x) >>= behind_formula lrat f x
 
 record Beside (cnf lrat : Option (List ℕ)) (f : FormulaValue) : Type 0 where

@@ -140,7 +140,10 @@ of_steps : (q : QuestionValue) (s : ℕ) → All (OfSteps s) (candidates_of_step
 of_steps q s = in_flat (OfSteps s) (λ r. Unit {0}) (λ r. map (λ c. candidate_at s (r, c)) (counts_of q)) (range_with_len s (q.limits.k + 1))
     (λ r u. in_map (OfSteps s) (λ c. Unit {0}) (λ c. candidate_at s (r, c)) (counts_of q) (λ c v. refl) (λ k d low. tt)) (λ k d low. tt)
 
+pub step_ascends : (q : QuestionValue) (s : ℕ) → AllPairs Before (in_search_order (candidates_of_step q s))
+step_ascends q s = ordered_ascends (candidates_of_step q s) (with_chunks q s) (step_apart q s)
+
 pub within_ascends : (q : QuestionValue) → AllPairs Before (candidates_within q)
 within_ascends q = pairs_of_range Before OfSteps (λ s. in_search_order (candidates_of_step q s)) (λ s. all_ordered (OfSteps s) (candidates_of_step q s) (of_steps q s))
-    (λ s. ordered_ascends (candidates_of_step q s) (with_chunks q s) (step_apart q s))
+    (step_ascends q)
     (λ i j x y less a b. inl (omega (arith, less, a, b))) 1 q.limits.max_s

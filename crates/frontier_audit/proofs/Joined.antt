@@ -8,7 +8,7 @@ use Rattle.std.proofs.lemmas.Slice.Eq.{bytes_eq-Decides}
 use Rattle.text_lines.specs.Check.{refuse}
 use Rattle.schedule.specs.declared.hop.Hop.{Hop}
 use Rattle.schedule.specs.Links.{TopologyValue}
-use Rattle.schedule.specs.Sends.{ScheduleValue, IsSchedule, IsInRange}
+use Rattle.schedule.specs.Sends.{ScheduleValue}
 use Rattle.collective_spec.specs.declared.kind.Kind.TheVariants as kind
 use Rattle.collective_spec.specs.Collectives.{chunks_of}
 use Rattle.candidate_order.specs.declared.candidate.Candidate.{Candidate}
@@ -21,7 +21,7 @@ use Rattle.allreduce_join.proofs.Told.{all_summed_exactly}
 use Rattle.frontier_audit.specs.declared.verdict.Reason.TheVariants.{JoinWrong}
 use Rattle.inversion.specs.Saying.{says_sums}
 use Rattle.frontier_audit.specs.Candidates.{same_candidate}
-use Rattle.frontier_audit.specs.Joining.{same_hop, same_schedule, same_mark, same_point, is_join, joins_checked}
+use Rattle.frontier_audit.specs.Joining.{same_hop, same_schedule, same_mark, same_point, is_join, joins_checked, IsSummable}
 use Rattle.frontier_audit.proofs.Passing.{then_ok, ok_then, refused_not, not_refused}
 use Rattle.proof_audit.proofs.Proved.{both_true}
 use Rattle.frontier_audit.proofs.Tried.{same_is, same_itself}
@@ -75,7 +75,7 @@ mark_itself mark.Optimal = refl
 mark_itself mark.Open = refl
 mark_itself (mark.Joined a) = eq-eqb a a refl
 
-point_is : (a b : PointValue) → same_point a b ≡ true → a ≡ b
+pub point_is : (a b : PointValue) → same_point a b ≡ true → a ≡ b
 point_is a b e =
     let outer = and_parts (same_candidate a.candidate b.candidate && same_schedule a.schedule b.schedule) (same_mark a.mark b.mark) e in
     let inner = and_parts (same_candidate a.candidate b.candidate) (same_schedule a.schedule b.schedule) outer.0 in
@@ -99,28 +99,23 @@ point_itself a = both_true (same_candidate a.candidate a.candidate && same_sched
 
 -- ---- the joins
 
--- a schedule that is valid, of so many chunks and the topology's nodes
-pub record IsJoinable (t : TopologyValue) (p : PointValue) : Type 0 where
-  pub schedule : IsSchedule p.schedule
-  pub in_range : IsInRange (chunks_of kind.Allreduce t.nodes p.candidate.c) t.nodes p.schedule
-
 -- the printed points are the joins of these pairs, in their order
 pub record AreJoined (t : TopologyValue) (pairs : List (PointValue × PointValue)) (joined : List PointValue) : Type 0 where
   pub in_order : joined ≡ map (λ pair. join_of pair.0 pair.1) pairs
   pub summed : All (IsJoin t) pairs
 
-joined_by : (t : TopologyValue) (pair : PointValue × PointValue) (p : PointValue) → IsJoinable t p → p ≡ join_of pair.0 pair.1 → is_join t pair ≡ true → IsJoin t pair
+joined_by : (t : TopologyValue) (pair : PointValue × PointValue) (p : PointValue) → IsSummable t p → p ≡ join_of pair.0 pair.1 → is_join t pair ≡ true → IsJoin t pair
 joined_by t pair p ok same e =
-    let due : IsJoinable t (join_of pair.0 pair.1) = subst (IsJoinable t) same ok in
+    let due : IsSummable t (join_of pair.0 pair.1) = subst (IsSummable t) same ok in
     (all_summed_exactly t (chunks_of kind.Allreduce t.nodes pair.0.candidate.c) (join_of pair.0 pair.1).schedule pair.0.candidate.s due.schedule due.in_range).0
     (sums_said (joined_verdict_of t (chunks_of kind.Allreduce t.nodes pair.0.candidate.c) (join_of pair.0 pair.1).schedule pair.0.candidate.s) e)
 
-by_join : (t : TopologyValue) (pair : PointValue × PointValue) (p : PointValue) → IsJoinable t p → p ≡ join_of pair.0 pair.1 → IsJoin t pair → is_join t pair ≡ true
+by_join : (t : TopologyValue) (pair : PointValue × PointValue) (p : PointValue) → IsSummable t p → p ≡ join_of pair.0 pair.1 → IsJoin t pair → is_join t pair ≡ true
 by_join t pair p ok same h =
-    let due : IsJoinable t (join_of pair.0 pair.1) = subst (IsJoinable t) same ok in
+    let due : IsSummable t (join_of pair.0 pair.1) = subst (IsSummable t) same ok in
     ap says_sums ((all_summed_exactly t (chunks_of kind.Allreduce t.nodes pair.0.candidate.c) (join_of pair.0 pair.1).schedule pair.0.candidate.s due.schedule due.in_range).1 h)
 
-pub are_joined : (t : TopologyValue) (pairs : List (PointValue × PointValue)) (joined : List PointValue) → All (IsJoinable t) joined → joins_checked t pairs joined ≡ Ok tt → AreJoined t pairs joined
+pub are_joined : (t : TopologyValue) (pairs : List (PointValue × PointValue)) (joined : List PointValue) → All (IsSummable t) joined → joins_checked t pairs joined ≡ Ok tt → AreJoined t pairs joined
 are_joined t [] [] a e = record { in_order = refl; summed = All-nil (IsJoin t) }
 are_joined t [] (p ∷ ps) a e = absurd (cc)
 are_joined t (pair ∷ pairs) [] a e = absurd (cc)
@@ -129,16 +124,16 @@ are_joined t (pair ∷ pairs) (p ∷ ps) a e =
     let parts = then_ok (refuse (not (is_join t pair && same_point due p)) (JoinWrong, due.candidate)) (joins_checked t pairs ps) e in
     let tests = and_parts (is_join t pair) (same_point due p) (refused_not (is_join t pair && same_point due p) (JoinWrong, due.candidate) parts.0) in
     let same : p ≡ due = sym (point_is due p tests.1) in
-    let rest = are_joined t pairs ps (All-tail (IsJoinable t) p ps a) parts.1 in
+    let rest = are_joined t pairs ps (All-tail (IsSummable t) p ps a) parts.1 in
     record {
       in_order = ap (λ x. x ∷ ps) same ∙ ap (λ xs. due ∷ xs) rest.in_order;
-      summed = All-cons (IsJoin t) pair pairs (joined_by t pair p (All-head (IsJoinable t) p ps a) same tests.0) rest.summed;
+      summed = All-cons (IsJoin t) pair pairs (joined_by t pair p (All-head (IsSummable t) p ps a) same tests.0) rest.summed;
     }
 
 first_of_two : {X : Type 0} (x y : X) (xs ys : List X) → x ∷ xs ≡ y ∷ ys → (x ≡ y) × (xs ≡ ys)
 first_of_two x y xs ys e = (cc, cc)
 
-pub joined_are : (t : TopologyValue) (pairs : List (PointValue × PointValue)) (joined : List PointValue) → All (IsJoinable t) joined → AreJoined t pairs joined → joins_checked t pairs joined ≡ Ok tt
+pub joined_are : (t : TopologyValue) (pairs : List (PointValue × PointValue)) (joined : List PointValue) → All (IsSummable t) joined → AreJoined t pairs joined → joins_checked t pairs joined ≡ Ok tt
 joined_are t [] [] a h = refl
 joined_are t [] (p ∷ ps) a h = absurd (let e = h.in_order in cc)
 joined_are t (pair ∷ pairs) [] a h = absurd (let e = h.in_order in cc)
@@ -147,5 +142,5 @@ joined_are t (pair ∷ pairs) (p ∷ ps) a h =
     let both = first_of_two p due ps (map (λ x. join_of x.0 x.1) pairs) h.in_order in
     ok_then (refuse (not (is_join t pair && same_point due p)) (JoinWrong, due.candidate)) (joins_checked t pairs ps)
     (not_refused (is_join t pair && same_point due p) (JoinWrong, due.candidate)
-    (both_true (is_join t pair) (same_point due p) (by_join t pair p (All-head (IsJoinable t) p ps a) both.0 (All-head (IsJoin t) pair pairs h.summed)) (ap (same_point due) both.0 ∙ point_itself due)))
-    (joined_are t pairs ps (All-tail (IsJoinable t) p ps a) (record { in_order = both.1; summed = All-tail (IsJoin t) pair pairs h.summed }))
+    (both_true (is_join t pair) (same_point due p) (by_join t pair p (All-head (IsSummable t) p ps a) both.0 (All-head (IsJoin t) pair pairs h.summed)) (ap (same_point due) both.0 ∙ point_itself due)))
+    (joined_are t pairs ps (All-tail (IsSummable t) p ps a) (record { in_order = both.1; summed = All-tail (IsJoin t) pair pairs h.summed }))

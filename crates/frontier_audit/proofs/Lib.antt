@@ -10,3 +10,13 @@ pub mod Joined
 pub mod Right
 pub mod Unsolvable
 pub mod InOrder
+pub mod Walking
+pub mod Merging
+pub mod Said
+pub mod Asking
+pub mod Listing
+pub mod Answering
+pub mod Parting
+pub mod Pairing
+pub mod Jointly
+pub mod Verified

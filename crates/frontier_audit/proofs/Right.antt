@@ -20,7 +20,7 @@ use Rattle.frontier_audit.specs.declared.verdict.Reason.TheVariants.{ScheduleWro
 use Rattle.frontier_audit.specs.Shelves.{PartRight, ShelfRight}
 use Rattle.frontier_audit.specs.Candidates.{candidates_within}
 use Rattle.frontier_audit.specs.Solutions.{is_solution, is_optimal, is_mark}
-use Rattle.frontier_audit.specs.Joining.{joins_checked, joined_checked, is_reduce, is_gather, points_of}
+use Rattle.frontier_audit.specs.Joining.{IsSummable, joins_checked, joined_checked, is_reduce, is_gather, points_of}
 use Rattle.frontier_audit.specs.Auditing.{is_answered, audit_of}
 use Rattle.frontier_audit.proofs.Passing.{refused_not, not_refused, in_part_ok, ok_in_part}
 use Rattle.frontier_audit.proofs.Beside.{passes_refutation, passes_log}
@@ -28,7 +28,7 @@ use Rattle.frontier_audit.proofs.Audited.{Passes, PartPasses, report_passes, rep
 use Rattle.frontier_audit.proofs.Tried.{listed_contains, within_listed, each_within}
 use Rattle.frontier_audit.proofs.Marked.{answered_decides, optimal_decides, mark_by, by_mark}
 use Rattle.frontier_audit.proofs.Solved.{solved_by, by_solution}
-use Rattle.frontier_audit.proofs.Joined.{IsJoinable, are_joined, joined_are}
+use Rattle.frontier_audit.proofs.Joined.{are_joined, joined_are}
 
 -- ---- a part
 
@@ -75,7 +75,7 @@ part_passes part q files f right shelf = record {
 
 -- ---- no part is an allreduce
 
-apart : (k : Kind) → All (λ x. kind_of k x ≢ kind.Allreduce) (parts_of k)
+pub apart : (k : Kind) → All (λ x. kind_of k x ≢ kind.Allreduce) (parts_of k)
 apart kind.Broadcast = All-cons (λ x. kind_of kind.Broadcast x ≢ kind.Allreduce) part.Whole [] (λ e. absurd (cc)) (All-nil (λ x. kind_of kind.Broadcast x ≢ kind.Allreduce))
 apart kind.Gather = All-cons (λ x. kind_of kind.Gather x ≢ kind.Allreduce) part.Whole [] (λ e. absurd (cc)) (All-nil (λ x. kind_of kind.Gather x ≢ kind.Allreduce))
 apart kind.Allgather = All-cons (λ x. kind_of kind.Allgather x ≢ kind.Allreduce) part.Whole [] (λ e. absurd (cc)) (All-nil (λ x. kind_of kind.Allgather x ≢ kind.Allreduce))
@@ -103,12 +103,12 @@ abbrev question : ReportValue → Part → QuestionValue
 question r part = question_of r.words r.topology part
 
 -- a pattern is no allreduce
-apart_in : (c : Collective) (o : Option PatternValue) → c.kind ≢ kind.Allreduce → kind_in (spec_of c o) ≢ kind.Allreduce
+pub apart_in : (c : Collective) (o : Option PatternValue) → c.kind ≢ kind.Allreduce → kind_in (spec_of c o) ≢ kind.Allreduce
 apart_in c None apart e = apart e
 apart_in c (Some p) apart e = absurd (cc)
 
 -- an allreduce has no pattern
-unpatterned : (o : Option PatternValue) → fits_kind kind.Allreduce o ≡ true → o ≡ None
+pub unpatterned : (o : Option PatternValue) → fits_kind kind.Allreduce o ≡ true → o ≡ None
 unpatterned None e = refl
 unpatterned (Some p) e = absurd (cc)
 
@@ -119,7 +119,7 @@ verified_right r files ok e part f at unsolvable =
     let single = All-contains (λ x. kind_of r.words.collective.kind x.0 ≢ kind.Allreduce) r.frontiers (part, f) (each_apart r ok) at in
     right_part part (question r part) files f (apart_in (record { kind = kind_of r.words.collective.kind part; root = r.words.collective.root }) r.topology.custom single) frontier passes unsolvable
 
-joinable : (r : ReportValue) → IsReport r → r.words.collective.kind ≡ kind.Allreduce → All (IsJoinable r.topology.topology) r.joined
+pub joinable : (r : ReportValue) → IsReport r → r.words.collective.kind ≡ kind.Allreduce → All (IsSummable r.topology.topology) r.joined
 joinable r ok e k d low =
     let p = ok.joined k d low in
     let x = get_or r.joined k d in

@@ -79,10 +79,10 @@ all_passing P p (c ∷ cs) a = chosen (p c) refl (all_passing P p cs (All-tail P
     chosen true e rest = All-cons (λ n. P n × (p n ≡ true)) c (filter p cs) (All-head P c cs a, sym e) rest
     chosen false e rest = rest
 
-abbrev IsCountOf : QuestionValue → ℕ → Type 0
+abbrev pub IsCountOf : QuestionValue → ℕ → Type 0
 IsCountOf q c = From 1 q.limits.max_c c × (allows (kind_in q.spec) q.topology.nodes c ≡ true)
 
-counts_allowed : (q : QuestionValue) → All (IsCountOf q) (counts_of q)
+pub counts_allowed : (q : QuestionValue) → All (IsCountOf q) (counts_of q)
 counts_allowed q = all_passing (From 1 q.limits.max_c) (allows (kind_in q.spec) q.topology.nodes) (range_with_len 1 q.limits.max_c) (in_range 1 q.limits.max_c)
 
 pub step_within : (q : QuestionValue) (s : ℕ) → From 1 q.limits.max_s s → All (IsWithin q) (candidates_of_step q s)
@@ -123,16 +123,18 @@ any_passing p g keep a (suc n) j low high k h = ⊎_elim
     later true d = or_right (p (g a)) (list_any p (map g others)) d
     later false d = d
 
-pub within_listed : (q : QuestionValue) (x : Candidate) → IsWithin q x → is_listed (candidates_within q) x ≡ true
-within_listed q x w =
+pub step_listed : (q : QuestionValue) (x : Candidate) → IsWithin q x → is_listed (in_search_order (candidates_of_step q x.s)) x ≡ true
+step_listed q x w =
     let p : Candidate → Bool = same_candidate x in
-    any_of_range p (λ s. in_search_order (candidates_of_step q s)) 1 q.limits.max_s x.s w.some_steps (omega (arith, w.steps))
-    (any_ordered p (candidates_of_step q x.s)
+    any_ordered p (candidates_of_step q x.s)
     ∙ any_of_range p (λ r. map (λ c. candidate_at x.s (r, c)) (counts_of q)) x.s (q.limits.k + 1) x.r w.all_rounds (omega (arith, w.rounds))
-    (any_passing p (λ c. candidate_at x.s (x.r, c)) (allows (kind_in q.spec) q.topology.nodes) 1 q.limits.max_c x.c (some_chunks w.allowed) (omega (arith, w.chunks)) w.allowed (same_itself x)))
+    (any_passing p (λ c. candidate_at x.s (x.r, c)) (allows (kind_in q.spec) q.topology.nodes) 1 q.limits.max_c x.c (some_chunks w.allowed) (omega (arith, w.chunks)) w.allowed (same_itself x))
   where
     some_chunks : allows (kind_in q.spec) q.topology.nodes x.c ≡ true → 1 ≤ x.c
     some_chunks e = let parts = and_parts (nat_le 1 x.c) _ e in leb-true 1 x.c parts.0
+
+pub within_listed : (q : QuestionValue) (x : Candidate) → IsWithin q x → is_listed (candidates_within q) x ≡ true
+within_listed q x w = any_of_range (same_candidate x) (λ s. in_search_order (candidates_of_step q s)) 1 q.limits.max_s x.s w.some_steps (omega (arith, w.steps)) (step_listed q x w)
 
 pub candidates_exactly : (q : QuestionValue) (x : Candidate) → Contains (candidates_within q) x ↔ IsWithin q x
 candidates_exactly q x = (λ at. All-contains (IsWithin q) (candidates_within q) x (each_within q) at, λ w. listed_contains (candidates_within q) x (within_listed q x w))

@@ -61,7 +61,7 @@ module _ {X : Type 0} (R : X → X → Type 0) (never_both : (a b : X) → R a b
 
 -- ---- candidates and sends
 
-candidates_apart : (a b : Candidate) → Before a b → Before b a → ⊥
+pub candidates_apart : (a b : Candidate) → Before a b → Before b a → ⊥
 candidates_apart a b one other = grind (arith, one, other)
 
 pub one_list_of_candidates : (xs ys : List Candidate) → AllPairs Before xs → AllPairs Before ys → ((x : Candidate) → Contains xs x ↔ Contains ys x) → xs ≡ ys

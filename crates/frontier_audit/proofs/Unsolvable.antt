@@ -1,36 +1,41 @@
--- A refuted candidate of a collective that copies has no schedule, since its formula is satisfiable where it has one.
-use Rattle.std.proofs.Common.{◌≡◌, ℕ, ◌<◌, ◌≤◌, true, false, [], ◌∷◌, get_or, Option, None, Some, refl, sym, ap, ◌∙◌, subst, arith}
-use Rattle.std.specs.Prelude.{All, Contains, if◌then◌else◌}
+-- A refuted candidate has no solution, since its formula is satisfiable where it has one.
+use Rattle.std.proofs.Common.{◌≡◌, ◌≢◌, ℕ, ◌<◌, ◌≤◌, Bool, true, false, [], ◌∷◌, get_or, Option, None, Some, refl, sym, ap, ◌∙◌, subst, arith}
+use Rattle.std.specs.Prelude.{All, Contains}
 use Rattle.std.proofs.Math.Nat.{mul-pos}
 use Rattle.std.proofs.lemmas.Nat.{mul-le}
 use Rattle.std.proofs.lemmas.List.Elements.{All-nil, All-cons, All-contains, All-contains_itself}
 use Rattle.outer_ports.specs.declared.part.Part.{Part}
 use Rattle.outer_ports.specs.declared.part.Part.TheVariants as part
 use Rattle.outer_ports.specs.Files.{Files}
-use Rattle.schedule.specs.Links.{TopologyValue, reversed_of}
+use Rattle.schedule.specs.Links.{TopologyValue, IsTopology, reversed_of}
+use Rattle.schedule.proofs.Turned.{turned_topology}
 use Rattle.collective_spec.specs.declared.kind.Kind.{Kind}
 use Rattle.collective_spec.specs.declared.kind.Kind.TheVariants as kind
 use Rattle.collective_spec.specs.declared.spec.Spec.{Spec}
 use Rattle.collective_spec.specs.declared.spec.Spec.TheVariants as spec
 use Rattle.collective_spec.specs.Kinds.{is_custom}
 use Rattle.collective_spec.specs.Patterns.{PatternValue}
-use Rattle.collective_spec.specs.Collectives.{IsSpec, chunks_of, chunks_in, adds_up, fits_kind}
+use Rattle.collective_spec.specs.Collectives.{IsSpec, chunks_of, chunks_in, adds_up, fits_kind, kind_in}
 use Rattle.collective_spec.proofs.Sized.{before_among, after_among, fitting_spec}
 use Rattle.candidate_order.specs.declared.candidate.Candidate.{Candidate}
-use Rattle.candidate_order.specs.Frontiers.{QuestionValue, FrontierValue, IsWithin, Achievable, IsSolvable, RightFrontier, instance_for}
+use Rattle.candidate_order.specs.Frontiers.{QuestionValue, FrontierValue, IsWithin, IsSolvable, RightFrontier, instance_for}
+use Rattle.candidate_order.specs.Ranges.{IsLimits}
+use Rattle.candidate_order.specs.Copied.{copied_spec, copied_question}
 use Rattle.round_encoding.specs.Candidates.{IsCandidate}
-use Rattle.round_encoding.specs.Rounding.{formula_of}
-use Rattle.round_encoding.proofs.Exactly.{exactly}
+use Rattle.inversion.proofs.Copied.{solvable_exactly}
 use Rattle.cnf_formula.specs.Formulas.{Satisfiable}
 use Rattle.report_form.specs.Reports.{ReportValue, IsReport, IsFrontier, parts_of, kind_of, question_of}
 use Rattle.report_form.proofs.ListsTaken.{has_chunk}
 use Rattle.frontier_audit.specs.declared.verdict.AuditVerdict.TheVariants.{Verified}
 use Rattle.candidate_formula.specs.Formulas.{formula_for}
+use Rattle.candidate_formula.proofs.Asked.{within_by, reduced_formula}
+use Rattle.candidate_formula.proofs.Copying.{copied_keeps, copies, same_allowed}
+use Rattle.candidate_formula.proofs.Exact.{exact_for}
 use Rattle.frontier_audit.specs.Shelves.{ShelfRight}
 use Rattle.frontier_audit.specs.Auditing.{audit_of}
 use Rattle.frontier_audit.proofs.Shelves.{unsatisfiable}
 use Rattle.frontier_audit.proofs.Audited.{shelf_right}
-use Rattle.frontier_audit.proofs.Right.{of_mapped, verified_right}
+use Rattle.frontier_audit.proofs.Right.{apart_in, each_apart, of_mapped, verified_right}
 
 -- ---- the number of all chunks
 
@@ -67,7 +72,7 @@ chunks_few (spec.Custom p) nodes c is few small = mul-le p.base c 16 16 is.few s
 -- ---- the spec of a part
 
 -- a part has a pattern where the whole has one
-parts_fit : (k : Kind) (c : Option PatternValue) → fits_kind k c ≡ true → All (λ x. fits_kind (kind_of k x) c ≡ true) (parts_of k)
+pub parts_fit : (k : Kind) (c : Option PatternValue) → fits_kind k c ≡ true → All (λ x. fits_kind (kind_of k x) c ≡ true) (parts_of k)
 parts_fit kind.Broadcast c e = All-cons (λ x. fits_kind (kind_of kind.Broadcast x) c ≡ true) part.Whole [] e (All-nil (λ x. fits_kind (kind_of kind.Broadcast x) c ≡ true))
 parts_fit kind.Gather c e = All-cons (λ x. fits_kind (kind_of kind.Gather x) c ≡ true) part.Whole [] e (All-nil (λ x. fits_kind (kind_of kind.Gather x) c ≡ true))
 parts_fit kind.Allgather c e = All-cons (λ x. fits_kind (kind_of kind.Allgather x) c ≡ true) part.Whole [] e (All-nil (λ x. fits_kind (kind_of kind.Allgather x) c ≡ true))
@@ -94,23 +99,18 @@ spec_is r part f ok at =
     let many = ok.topology.as_many in
     fitting_spec r.topology.topology.nodes (record { kind = kind_of k part; root = r.words.collective.root }) r.topology.custom fits (omega (arith, root, many)) ok.topology.custom
 
--- ---- the candidate of a formula
+-- ---- a candidate that has a solution has a satisfiable formula
 
-candidate_is : (r : ReportValue) (part : Part) (f : FrontierValue) (x : Candidate) → IsReport r → Contains r.frontiers (part, f) → IsWithin (question r part) x
-    → IsCandidate r.topology.topology (instance_for (question r part) x).pre (instance_for (question r part) x).post x.s x.r
-candidate_is r part f x ok at w =
-    let t : TopologyValue = r.topology.topology in
-    let s : Spec = (question r part).spec in
-    let is = spec_is r part f ok at in
-    let before = before_among s t.nodes x.c in
-    let after = after_among s t.nodes x.c in
-    let limits = ok.words.limits in
-    let topology = ok.topology.topology in
+candidate_for : (q : QuestionValue) (x : Candidate) → IsTopology q.topology → IsSpec q.topology.nodes q.spec → IsLimits q.limits → IsWithin q x → IsCandidate q.topology (instance_for q x).pre (instance_for q x).post x.s x.r
+candidate_for q x topology is limits w =
+    let nodes : ℕ = q.topology.nodes in
+    let before = before_among q.spec nodes x.c in
+    let after = after_among q.spec nodes x.c in
     let counted = before.of_chunks in
-    let least = has_chunk (question r part) x w in
+    let least = has_chunk q x w in
     let one : 0 < x.c = omega (arith, least) in
-    let some = chunks_some s t.nodes x.c is topology.some one in
-    let few = chunks_few s t.nodes x.c is topology.few (let c = w.chunks in let most = limits.chunks in omega (arith, c, most)) in
+    let some = chunks_some q.spec nodes x.c is topology.some one in
+    let few = chunks_few q.spec nodes x.c is topology.few (let c = w.chunks in let most = limits.chunks in omega (arith, c, most)) in
     let steps = w.some_steps in
     let most_steps = w.steps in
     let rounds = w.rounds in
@@ -130,20 +130,36 @@ candidate_is r part f x ok at w =
       most = omega (arith, rounds, max_k);
     }
 
+module _ (q : QuestionValue) (x : Candidate) (topology : IsTopology q.topology) (is : IsSpec q.topology.nodes q.spec) (single : kind_in q.spec ≢ kind.Allreduce) (limits : IsLimits q.limits) (w : IsWithin q x) where
+  -- of a reduction the formula is that of the collective that copies, over the links turned round
+  turned : QuestionValue
+  turned = copied_question q
+
+  within_turned : IsWithin turned x
+  unfolding turned
+  within_turned = within_by (reversed_of q.topology) q.limits x q.spec (copied_spec q.spec) (sym (same_allowed q.spec q.topology.nodes x.c)) w
+
+  by_kind : (b : Bool) → adds_up q.spec ≡ b → IsSolvable q x → Satisfiable (formula_for q x)
+  unfolding turned
+  by_kind false copying solvable = (exact_for q x copying (candidate_for q x topology is limits w)).1 solvable
+  by_kind true adds solvable =
+      subst Satisfiable (reduced_formula q x adds single)
+      ((exact_for turned x (copies q.spec single) (candidate_for turned x (turned_topology q.topology topology) (copied_keeps q.topology.nodes q.spec is) limits within_turned)).1
+      ((solvable_exactly q x adds single is).0 solvable))
+
+  satisfiable_where_solved : IsSolvable q x → Satisfiable (formula_for q x)
+  satisfiable_where_solved solvable = by_kind (adds_up q.spec) refl solvable
+
 -- ---- refuted candidates
 
--- a collective that copies is sought over its own links
-copied_formula : (q : QuestionValue) (x : Candidate) → adds_up q.spec ≡ false → formula_for q x ≡ formula_of q.topology (instance_for q x).pre (instance_for q x).post x.s x.r
-copied_formula q x e = ap (λ b. formula_of (if b then reversed_of q.topology else q.topology) (instance_for q x).pre (instance_for q x).post x.s x.r) e
-
-pub no_schedule : (r : ReportValue) (files : Files) (part : Part) (f : FrontierValue) (x : Candidate) → IsReport r → ShelfRight r files → Contains r.frontiers (part, f) → Contains f.refuted x → adds_up (question r part).spec ≡ false → IsSolvable (question r part) x → ⊥
-no_schedule r files part f x ok shelf at of copies solvable =
+pub no_solution : (r : ReportValue) (files : Files) (part : Part) (f : FrontierValue) (x : Candidate) → IsReport r → ShelfRight r files → Contains r.frontiers (part, f) → Contains f.refuted x → IsSolvable (question r part) x → ⊥
+no_solution r files part f x ok shelf at of solvable =
     let q = question r part in
     let frontier = All-contains (λ y. IsFrontier (question_of r.words r.topology y.0) y.1) r.frontiers (part, f) ok.frontiers at in
     let within = All-contains (IsWithin q) f.refuted x frontier.refuted of in
-    let own = subst (λ b. Achievable b q x) copies solvable in
-    let some = (exactly q.topology (instance_for q x).pre (instance_for q x).post x.s x.r (candidate_is r part f x ok at within)).1 own in
-    unsatisfiable r files part f x shelf at of (subst Satisfiable (sym (copied_formula q x copies)) some)
+    let single = All-contains (λ y. kind_of r.words.collective.kind y.0 ≢ kind.Allreduce) r.frontiers (part, f) (each_apart r ok) at in
+    let alone = apart_in (record { kind = kind_of r.words.collective.kind part; root = r.words.collective.root }) r.topology.custom single in
+    unsatisfiable r files part f x shelf at of (satisfiable_where_solved q x ok.topology.topology (spec_is r part f ok at) alone ok.words.limits within solvable)
 
-pub verified_copies : (r : ReportValue) (files : Files) → IsReport r → audit_of r files ≡ Verified → (part : Part) (f : FrontierValue) → Contains r.frontiers (part, f) → adds_up (question r part).spec ≡ false → RightFrontier (question r part) f
-verified_copies r files ok e part f at copies = verified_right r files ok e part f at (λ k d low. no_schedule r files part f (get_or f.refuted k d) ok (shelf_right r files ok e) at (All-contains_itself f.refuted k d low) copies)
+pub all_right : (r : ReportValue) (files : Files) → IsReport r → audit_of r files ≡ Verified → (part : Part) (f : FrontierValue) → Contains r.frontiers (part, f) → RightFrontier (question r part) f
+all_right r files ok e part f at = verified_right r files ok e part f at (λ k d low. no_solution r files part f (get_or f.refuted k d) ok (shelf_right r files ok e) at (All-contains_itself f.refuted k d low))

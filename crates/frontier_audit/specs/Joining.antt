@@ -7,7 +7,7 @@ use Rattle.outer_ports.specs.declared.part.Part.{Part}
 use Rattle.outer_ports.specs.declared.part.Part.TheVariants as part
 use Rattle.schedule.specs.declared.hop.Hop.{Hop}
 use Rattle.schedule.specs.Links.{TopologyValue}
-use Rattle.schedule.specs.Sends.{ScheduleValue}
+use Rattle.schedule.specs.Sends.{ScheduleValue, IsSchedule, IsInRange}
 use Rattle.collective_spec.specs.declared.kind.Kind.{Kind}
 use Rattle.collective_spec.specs.declared.kind.Kind.TheVariants as kind
 use Rattle.collective_spec.specs.Collectives.{chunks_of}
@@ -49,6 +49,11 @@ joins_checked t (pair ∷ pairs) [] = Err (JoinWrong, (join_of pair.0 pair.1).ca
 joins_checked t (pair ∷ pairs) (p ∷ ps) = do
   _ ← refuse (not (is_join t pair && same_point (join_of pair.0 pair.1) p)) (JoinWrong, (join_of pair.0 pair.1).candidate)
   joins_checked t pairs ps
+
+-- a schedule that is valid, of so many chunks and the topology's nodes
+pub record IsSummable (t : TopologyValue) (p : PointValue) : Type 0 where
+  pub schedule : IsSchedule p.schedule
+  pub in_range : IsInRange (chunks_of kind.Allreduce t.nodes p.candidate.c) t.nodes p.schedule
 
 abbrev pub is_reduce : Part → Bool
 is_reduce part.Reduce = true

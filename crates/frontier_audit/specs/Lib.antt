@@ -4,6 +4,9 @@ pub mod Candidates
 pub mod Solutions
 pub mod Joining
 pub mod Auditing
+pub mod Asked
+pub mod Beside
+pub mod Steps
 pub mod Rights
 pub mod OwedFiles
 pub mod Rows

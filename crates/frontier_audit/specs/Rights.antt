@@ -7,6 +7,7 @@ use Rattle.allreduce_join.specs.Joins.{Joins}
 use Rattle.candidate_order.specs.Frontiers.{FrontierValue, RightFrontier, Searched}
 use Rattle.report_form.specs.Reports.{ReportValue, IsReport, question_of}
 use Rattle.candidate_formula.specs.Formulas.{formula_for}
+use Rattle.proof_audit.specs.Files.{HasSpentLog}
 
 -- the frontier of a part is right
 abbrev pub IsRightPart : ReportValue → Part × FrontierValue → Type 0
@@ -32,3 +33,10 @@ pub record IsRight (r : ReportValue) : Type 0 where
 pub record IsSearched (r : ReportValue) : Type 0 where
   pub parts : All (IsSearchedPart r) r.frontiers
   pub exhausted : All (IsExhaustedPart r) r.frontiers
+
+-- there is a spent log of the formula of each unknown candidate of a part
+abbrev pub HasLogsOfPart : ReportValue → Part × FrontierValue → Type 0
+HasLogsOfPart r x = All (λ u. HasSpentLog (formula_for (question_of r.words r.topology x.0) u.candidate) u.conflicts) x.1.unknown
+
+abbrev pub HasLogs : ReportValue → Type 0
+HasLogs r = All (HasLogsOfPart r) r.frontiers

@@ -1,10 +1,9 @@
 //! What a right shelf says, and what an audit does.
 
-ghost use Rattle.std.specs.Prelude.{◌≡◌, ◌↔◌, true, false, List, None, All, AllPairs, Contains};
+ghost use Rattle.std.specs.Prelude.{◌≡◌, ◌↔◌, true, List, None, All, AllPairs, Contains};
 ghost use Rattle.outer_ports.specs.Files.{Files};
 ghost use Rattle.cnf_formula.specs.Formulas.{Satisfiable};
 ghost use Rattle.schedule.specs.Sends.{hop_before};
-ghost use Rattle.collective_spec.specs.Collectives.{adds_up};
 ghost use Rattle.candidate_order.specs.Costs.{Before};
 ghost use Rattle.candidate_order.specs.Frontiers.{QuestionValue, FrontierValue, UnknownValue, IsWithin, IsSolvable, RightFrontier};
 ghost use Rattle.allreduce_join.specs.Joins.{Joins};
@@ -12,6 +11,7 @@ ghost use Rattle.report_form.specs.Reports.{ReportValue, IsReport, question_of};
 ghost use Rattle.candidate_formula.specs.Formulas.{formula_for};
 ghost use Rattle.candidate_formula.specs.Files.{file_of};
 ghost use Rattle.frontier_audit.specs.Shelves.{ShelfRight};
+ghost use Rattle.frontier_audit.specs.Rights.{IsRight};
 ghost use Rattle.frontier_audit.specs.Candidates.{candidates_within};
 ghost use Rattle.frontier_audit.specs.Joining.{is_reduce, is_gather, points_of};
 ghost use Rattle.frontier_audit.specs.Auditing.{audit_of};
@@ -56,25 +56,20 @@ pub fn ascending_lists_are_told_by_their_members()
     ensures sends { (xs ys : List Hop) → AllPairs (λ a b. hop_before a b ≡ true) xs → AllPairs (λ a b. hop_before a b ≡ true) ys → ((h : Hop) → Contains xs h ↔ Contains ys h) → xs ≡ ys }
 {}
 
-/// Where an audit finds nothing to deny, each frontier is right, as far as its refuted candidates have no solution, and the
-/// joined points of an allreduce are the joins of its parts.
+/// On a right shelf no refuted candidate has a solution: no schedule solves it, or sums what a reduction demands.
+pub fn refuted_has_no_solution()
+    ensures { (r : ReportValue) (files : Files) (part : Part) (f : FrontierValue) (x : Candidate) → IsReport r → ShelfRight r files → Contains r.frontiers (part, f) → Contains f.refuted x
+        → IsSolvable (question_of r.words r.topology part) x → ⊥ }
+{}
+
+/// Where an audit finds nothing to deny, each frontier is right, and the joined points of an allreduce are the joins of its
+/// parts.
 pub fn verified_is_right()
     ensures frontiers { (r : ReportValue) (files : Files) → IsReport r → audit_of r files ≡ AuditVerdict.Verified → (part : Part) (f : FrontierValue) → Contains r.frontiers (part, f)
-        → All (λ x. IsSolvable (question_of r.words r.topology part) x → ⊥) f.refuted → RightFrontier (question_of r.words r.topology part) f }
+        → RightFrontier (question_of r.words r.topology part) f }
     ensures joins { (r : ReportValue) (files : Files) → IsReport r → audit_of r files ≡ AuditVerdict.Verified → r.words.collective.kind ≡ Kind.Allreduce
         → Joins r.topology.topology (points_of is_reduce r.frontiers) (points_of is_gather r.frontiers) r.joined }
-{}
-
-/// On a right shelf no refuted candidate of a part that copies has a schedule.
-pub fn refuted_has_no_schedule()
-    ensures { (r : ReportValue) (files : Files) (part : Part) (f : FrontierValue) (x : Candidate) → IsReport r → ShelfRight r files → Contains r.frontiers (part, f) → Contains f.refuted x
-        → adds_up (question_of r.words r.topology part).spec ≡ false → IsSolvable (question_of r.words r.topology part) x → ⊥ }
-{}
-
-/// Where an audit finds nothing to deny, each frontier of a part that copies is right.
-pub fn verified_copies_are_right()
-    ensures { (r : ReportValue) (files : Files) → IsReport r → audit_of r files ≡ AuditVerdict.Verified → (part : Part) (f : FrontierValue) → Contains r.frontiers (part, f)
-        → adds_up (question_of r.words r.topology part).spec ≡ false → RightFrontier (question_of r.words r.topology part) f }
+    ensures report { (r : ReportValue) (files : Files) → IsReport r → audit_of r files ≡ AuditVerdict.Verified → IsRight r }
 {}
 
 /// A report with right frontiers, a right shelf and the joins of its parts is verified.

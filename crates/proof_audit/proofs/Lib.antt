@@ -3,3 +3,4 @@ pub mod Pieces
 pub mod Proved
 pub mod Saying
 pub mod Whole
+pub mod Verdicts

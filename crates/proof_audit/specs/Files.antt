@@ -11,6 +11,11 @@ abbrev pub file_verdict : (List ℕ → Bool) → Option (List ℕ) → FileVerd
 file_verdict test None = Missing
 file_verdict test (Some bytes) = if test bytes then Stands else Refused
 
+-- some file, or the lack of one, gives this verdict
+pub record IsFileVerdict (test : List ℕ → Bool) (verdict : FileVerdict) : Type 0 where
+  pub file : Option (List ℕ)
+  pub is : verdict ≡ file_verdict test file
+
 -- at most so many bytes pass the test
 abbrev pub short_and : ℕ → (List ℕ → Bool) → List ℕ → Bool
 short_and limit test bytes = nat_le (length bytes) limit && test bytes

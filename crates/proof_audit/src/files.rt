@@ -6,7 +6,7 @@ ghost use Rattle.outer_ports.specs.Shelf.{FilesStay};
 ghost use Rattle.cnf_formula.specs.Formulas.{Satisfiable};
 ghost use Rattle.lrat_text.specs.Printing.{cnf_text};
 ghost use Rattle.proof_audit.specs.Proving.{is_refutation, is_spent_log};
-ghost use Rattle.proof_audit.specs.Files.{file_verdict, HasSpentLog};
+ghost use Rattle.proof_audit.specs.Files.{file_verdict, HasSpentLog, IsFileVerdict};
 
 use crate::fault::AuditFault;
 use crate::judge::judge_file;
@@ -26,6 +26,7 @@ const LONGEST_PROOF: u64 = 281_474_976_710_656;
 /// Whether a file is the text of a formula, and of no other. No file changes. The file is read in pieces of at most 65,536
 /// bytes; the formula's text is held whole.
 ///
+/// Whatever the shelf tells, some file, or the lack of one, is as the answer says.
 /// [`AuditFault::ShelfFailed`] comes only where the shelf's count of faults rose in this call, or stands at its last value;
 /// each other answer leaves the count as it was.
 pub fn formula_file<H: Shelf>(
@@ -37,6 +38,7 @@ pub fn formula_file<H: Shelf>(
     ensures told { Tells (H.tells shelf.old) (H.tells shelf.new) }
     ensures stay { IsTrue (H.tells shelf.new) → FilesStay (H.file shelf.old) (H.file shelf.new) }
     ensures exact { IsTrue (H.tells shelf.new) → IfOk result (λ verdict. verdict ≡ file_verdict (λ bytes. bytes_eq bytes (cnf_text formula.now)) (H.file shelf.old name)) }
+    ensures some { IfOk result (IsFileVerdict (λ bytes. bytes_eq bytes (cnf_text formula.now))) }
     ensures cause { HasCause AuditFault.ShelfFailed (H.faults shelf.old) (H.faults shelf.new) result }
     ensures kept { result ≢ Err AuditFault.ShelfFailed → H.faults shelf.new ≡ H.faults shelf.old }
 {
@@ -50,7 +52,8 @@ pub fn formula_file<H: Shelf>(
 /// in their turn, of which one has no literal. It is read to its end, in pieces of at most 65,536 bytes, and each line is
 /// checked at once. No file changes.
 ///
-/// Whatever the shelf tells, a file that stands says that no assignment satisfies the formula.
+/// Whatever the shelf tells, some file, or the lack of one, is as the answer says, and a file that stands says that no
+/// assignment satisfies the formula.
 /// [`AuditFault::ShelfFailed`] comes only where the shelf's count of faults rose in this call, or stands at its last value;
 /// each other answer leaves the count as it was.
 pub fn refutation_file<H: Shelf>(
@@ -62,6 +65,7 @@ pub fn refutation_file<H: Shelf>(
     ensures told { Tells (H.tells shelf.old) (H.tells shelf.new) }
     ensures stay { IsTrue (H.tells shelf.new) → FilesStay (H.file shelf.old) (H.file shelf.new) }
     ensures exact { IsTrue (H.tells shelf.new) → IfOk result (λ verdict. verdict ≡ file_verdict (is_refutation formula.now) (H.file shelf.old name)) }
+    ensures some { IfOk result (IsFileVerdict (is_refutation formula.now)) }
     ensures unsatisfiable { result ≡ Ok FileVerdict.Stands → Satisfiable formula.now → ⊥ }
     ensures cause { HasCause AuditFault.ShelfFailed (H.faults shelf.old) (H.faults shelf.new) result }
     ensures kept { result ≢ Err AuditFault.ShelfFailed → H.faults shelf.new ≡ H.faults shelf.old }
@@ -75,7 +79,8 @@ pub fn refutation_file<H: Shelf>(
 /// all additions, each of which follows from what is held in its turn, has a literal, and is a superset of no held clause.
 /// It is read in pieces of at most 65,536 bytes, and each line is checked at once. No file changes.
 ///
-/// Whatever the shelf tells, a file that stands says that there is a spent log of so many lines.
+/// Whatever the shelf tells, some file, or the lack of one, is as the answer says, and a file that stands says that there is
+/// a spent log of so many lines.
 /// [`AuditFault::ShelfFailed`] comes only where the shelf's count of faults rose in this call, or stands at its last value;
 /// each other answer leaves the count as it was.
 pub fn log_file<H: Shelf>(
@@ -88,6 +93,7 @@ pub fn log_file<H: Shelf>(
     ensures told { Tells (H.tells shelf.old) (H.tells shelf.new) }
     ensures stay { IsTrue (H.tells shelf.new) → FilesStay (H.file shelf.old) (H.file shelf.new) }
     ensures exact { IsTrue (H.tells shelf.new) → IfOk result (λ verdict. verdict ≡ file_verdict (is_spent_log formula.now count) (H.file shelf.old name)) }
+    ensures some { IfOk result (IsFileVerdict (is_spent_log formula.now count)) }
     ensures log { result ≡ Ok FileVerdict.Stands → HasSpentLog formula.now count }
     ensures cause { HasCause AuditFault.ShelfFailed (H.faults shelf.old) (H.faults shelf.new) result }
     ensures kept { result ≢ Err AuditFault.ShelfFailed → H.faults shelf.new ≡ H.faults shelf.old }

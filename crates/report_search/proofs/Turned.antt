@@ -44,10 +44,10 @@ pub copies_itself : (t : TopologyValue) (spec : Spec) (limits : LimitsValue) →
 copies_itself t spec limits copies = ap (λ s. record { topology = t; spec = s; limits = limits }) (copied_stays spec copies)
 
 -- a search over links that are turned round is as large
-pub small_turned : (q : QuestionValue) (turned : TopologyValue) → turned ≡ reversed_of q.topology → size_of q ≤ size_limit → size_of (record { topology = turned; spec = q.spec; limits = q.limits }) ≤ size_limit
-small_turned q turned is small =
-    let same : size_of (record { topology = turned; spec = q.spec; limits = q.limits }) ≡ size_of q =
-    ap (λ x. size_of (record { topology = x; spec = q.spec; limits = q.limits })) is ∙ sym (same_size (reversed_of q.topology) q.spec q.limits) ∙ copied_size q in
+pub small_turned : (t turned : TopologyValue) (spec : Spec) (limits : LimitsValue) → turned ≡ reversed_of t → size_of (record { topology = t; spec = spec; limits = limits }) ≤ size_limit → size_of (record { topology = turned; spec = spec; limits = limits }) ≤ size_limit
+small_turned t turned spec limits is small =
+    let asked : QuestionValue = record { topology = t; spec = spec; limits = limits } in
+    let same : size_of (record { topology = turned; spec = spec; limits = limits }) ≡ size_of asked = ap (λ x. size_of (record { topology = x; spec = spec; limits = limits })) is ∙ sym (same_size (reversed_of t) spec limits) ∙ copied_size asked in
     subst (λ n. n ≤ size_limit) (sym same) small
 
 module _ (q : QuestionValue) (adds : adds_up q.spec ≡ true) (single : kind_in q.spec ≢ kind.Allreduce) where

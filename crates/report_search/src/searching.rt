@@ -8,8 +8,8 @@ ghost use Rattle.report_search.specs.Asked.{IsAsked};
 
 use crate::both::search_both;
 use crate::whole::search_whole;
-use engine_rules::EngineFault;
 use collective_spec::Kind;
+use engine_rules::EngineFault;
 use outer_ports::Shelf;
 use report_form::{Report, Words};
 use std::alloc::Global;

@@ -10,8 +10,8 @@ ghost use Rattle.report_search.specs.Shelved.{IsShelved, MayHaveBegun};
 
 use crate::copying::copied_frontier;
 use candidate_order::{Frontier, Limits};
-use engine_rules::EngineFault;
 use collective_spec::{Kind, Spec};
+use engine_rules::EngineFault;
 use inversion::invert_frontier;
 use outer_ports::{Part, Shelf};
 use schedule::Topology;
@@ -19,6 +19,7 @@ use std::alloc::Global;
 
 /// The frontier of a reduction: that of the collective of which it is the inverse, over the links turned round, with each
 /// schedule inverted.
+#[tactic(auto, using(crate::proofs::Turned::small_turned))]
 fn reduced_frontier<H: Shelf>(
     alloc: Global,
     topology: &Topology,

@@ -1,8 +1,8 @@
 -- The reasons of the resolved steps in the order of the trail, and then the falsified clause, are a conflict for what remains.
-use Rattle.std.proofs.Common.{◌≡◌, ℕ, ◌+◌, ◌<◌, Bool, true, false, List, [], ◌∷◌, ◌++◌, length, get_or, take, refl, sym, ap, ◌∙◌, subst, inl, inr, ⊎_elim, arith}
+use Rattle.std.proofs.Common.{◌≡◌, ℕ, ◌+◌, ◌<◌, ◌≤◌, Bool, true, false, List, [], ◌∷◌, ◌++◌, length, get_or, take, refl, sym, ap, ◌∙◌, subst, inl, inr, ⊎_elim, arith}
 use Rattle.std.specs.Prelude.{Contains, Some, map, filter, pos}
 use Rattle.std.proofs.lemmas.Bool.{false≢true, cases_Bool}
-use Rattle.std.proofs.lemmas.List.{append_assoc, take_at, length-append, get_or-append-add}
+use Rattle.std.proofs.lemmas.List.{append_assoc, take_at, length-append, length-map, length_push, get_or-append-add}
 use Rattle.std.proofs.lemmas.List.Elements.{Contains-push_cases, Contains-append_right}
 use Rattle.cnf_formula.specs.Literals.{LitValue, negation}
 use Rattle.proof_rules.specs.Held.{Entry, clause_at}
@@ -10,7 +10,7 @@ use Rattle.proof_rules.specs.Accepting.{Takes, Falsifies, Conflicts, leading, gr
 use Rattle.trail_core.specs.Assigned.{IsFalse, IsConsistent}
 use Rattle.trail_core.specs.Trails.{StepValue, lits_of}
 use Rattle.trail_core.proofs.Keeping.{negated_twice}
-use Rattle.sat_core.specs.Learning.{number_of, numbers_of, numbers_to, hints_to, AreHeld, IsOut, IsResolved, IsAnalysis}
+use Rattle.sat_core.specs.Learning.{number_of, numbers_of, numbers_to, hints_of, hints_to, AreHeld, IsOut, IsResolved, IsAnalysis}
 use Rattle.sat_core.proofs.Members.{here, there, cons_cases, all_by, in_map, found_by, not_found}
 
 -- a hint that leaves one literal, before hints that go on
@@ -113,3 +113,18 @@ no_groups_from (s ∷ steps) conflict place = no_groups_from steps conflict (pla
 
 pub no_groups : (resolved : StepValue → Bool) (steps : List StepValue) (conflict place : ℕ) → groups_from place (hints_to resolved steps conflict) ≡ []
 no_groups resolved steps conflict place = no_groups_from (filter resolved steps) conflict place
+
+-- ---- and so few
+
+few_filtered : {X : Type 0} (p : X → Bool) (xs : List X) → length (filter p xs) ≤ length xs
+few_filtered p [] = omega arith
+few_filtered p (x ∷ xs) =
+    let r = few_filtered p xs in
+    ⊎_elim (λ b. rw b (omega (arith, r))) (λ b. rw b (omega (arith, r))) (cases_Bool (p x))
+
+pub few_hints : (resolved : StepValue → Bool) (steps : List StepValue) (conflict : ℕ) → length (hints_to resolved steps conflict) ≤ length steps + 1
+few_hints resolved steps conflict =
+    let a = few_filtered resolved steps in
+    let b = length-map (filter resolved steps) (λ s. pos (number_of s.reason)) in
+    let c = length_push (hints_of resolved steps) (pos (conflict + 1)) in
+    omega (arith, a, b, c)

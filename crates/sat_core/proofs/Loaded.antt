@@ -1,6 +1,6 @@
 -- Clauses of a formula, each literal once, make a core that is ready.
 use Rattle.std.proofs.Common.{◌≡◌, ℕ, ◌+◌, ◌*◌, ◌<◌, ◌≤◌, Bool, true, false, List, [], ◌∷◌, ◌++◌, length, get_or, take, set, eqb, refl, sym, ap, ◌∙◌, subst, ⊎_elim, arith}
-use Rattle.std.specs.Prelude.{◌≢◌, ◌⊎◌, Contains, Some, All, AllPairs, if◌then◌else◌}
+use Rattle.std.specs.Prelude.{◌≢◌, Contains, Some, All, AllPairs, if◌then◌else◌}
 use Rattle.std.specs.List.{enumerate_from}
 use Rattle.std.proofs.lemmas.Bool.{cases_lt, cases_Bool, eqb-true, eqb-false}
 use Rattle.std.proofs.lemmas.List.{get_or_append_left, get_or_push, length_push, get_or-take, get_or_default, length-take-le, get_or-set_same, get_or-set_other, set-get_or}
@@ -9,7 +9,7 @@ use Rattle.std.proofs.lemmas.List.Elements.{Contains-push, Contains-push_cases, 
 use Rattle.cnf_formula.specs.Literals.{LitValue, IsLit, code_of}
 use Rattle.cnf_formula.specs.Formulas.{FormulaValue, IsAbout, IsClause}
 use Rattle.cnf_formula.proofs.Codes.{same_code}
-use Rattle.proof_rules.specs.Held.{Entry, start_of, clause_at}
+use Rattle.proof_rules.specs.Held.{Entry, clause_at}
 use Rattle.proof_rules.proofs.Numbered.{start_numbered}
 use Rattle.trail_core.specs.Meaning.{CoreValue}
 use Rattle.sat_core.specs.Learning.{IsSame, AreHeld}

@@ -16,7 +16,7 @@ use Rattle.trail_core.specs.Meaning.{CoreValue, trues}
 use Rattle.sat_core.specs.Ready.{IsReady}
 use Rattle.sat_core.specs.Totals.{IsTotal, AreValues}
 use Rattle.sat_core.proofs.Members.{here, there, cons_cases}
-use Rattle.sat_core.proofs.Denied.{consistent_by}
+use Rattle.sat_core.proofs.Once.{consistent_by}
 use Rattle.sat_core.proofs.Totality.{total_satisfied}
 
 -- what was held is held

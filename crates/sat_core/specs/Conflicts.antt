@@ -1,12 +1,11 @@
--- A core at a conflict, the line that is learned from it, and the core after it was gone back one level.
+-- A core at a conflict, the checker beside it, and the core after it was gone back.
 use Rattle.std.specs.Prelude.{ℕ, ◌+◌, ◌-◌, ◌*◌, ◌<◌, ◌≤◌, [], length, get_or, take}
-use Rattle.cnf_formula.specs.Lines.{ProofLineValue}
 use Rattle.proof_rules.specs.Held.{CheckerValue}
 use Rattle.trail_core.specs.Search.{IsFalsified}
 use Rattle.trail_core.specs.Meaning.{CoreValue, trues, IsClosedBelow}
 use Rattle.trail_core.specs.Kept.{AreGrounded}
 use Rattle.trail_core.specs.Formed.{IsTrail}
-use Rattle.sat_core.specs.Learning.{has_reason, hints_to, denied, AreHeld}
+use Rattle.sat_core.specs.Learning.{AreHeld}
 
 -- a clause is falsified
 pub record IsConflict (core : CoreValue) (conflict : ℕ) : Type 0 where
@@ -25,10 +24,6 @@ pub record Agree (c : CheckerValue) (core : CoreValue) : Type 0 where
 pub record IsNext (c : CheckerValue) (id : ℕ) : Type 0 where
   pub above_formula : length c.formula.clauses < id
   pub above_lines : c.greatest < id
-
--- some decision is wrong, by the reasons of all implied steps and the falsified clause
-abbrev pub line_of : CoreValue → ℕ → ℕ → ProofLineValue
-line_of core conflict id = record { id = id; lits = denied core.trail; hints = hints_to has_reason core.trail conflict }
 
 -- the core after the levels from a number on were taken back
 abbrev pub gone_back : CoreValue → ℕ → CoreValue

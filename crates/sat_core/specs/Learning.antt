@@ -1,20 +1,9 @@
 -- What is learned from a conflict: a clause, and the hints by which it is accepted.
-use Rattle.std.specs.Prelude.{◌≡◌, ◌⊎◌, ℕ, ◌+◌, ◌<◌, Bool, true, false, not, List, [], ◌++◌, ◌∷◌, Option, None, Some, Contains, length, get_or, take, map, filter, ℤ, pos}
+use Rattle.std.specs.Prelude.{◌≡◌, ◌⊎◌, ℕ, ◌+◌, ◌<◌, Bool, true, List, [], ◌++◌, ◌∷◌, Option, None, Some, Contains, length, get_or, take, map, filter, ℤ, pos}
 use Rattle.cnf_formula.specs.Literals.{LitValue, negation}
 use Rattle.proof_rules.specs.Held.{Entry, clause_at}
 use Rattle.trail_core.specs.Assigned.{IsFalse}
 use Rattle.trail_core.specs.Trails.{StepValue, lits_of}
-
-abbrev pub is_some : Option ℕ → Bool
-is_some None = false
-is_some (Some id) = true
-
--- the step is no decision
-abbrev pub has_reason : StepValue → Bool
-has_reason s = is_some s.reason
-
-abbrev pub is_decision : StepValue → Bool
-is_decision s = not (has_reason s)
 
 -- the number of a reason; clauses are held under numbers from 1
 abbrev pub number_of : Option ℕ → ℕ
@@ -35,10 +24,6 @@ hints_of resolved steps = map (λ s. pos (number_of s.reason)) (filter resolved 
 
 abbrev pub hints_to : (StepValue → Bool) → List StepValue → ℕ → List ℤ
 hints_to resolved steps conflict = hints_of resolved steps ++ pos (conflict + 1) ∷ []
-
--- the clause of plain analysis: some decision is wrong
-abbrev pub denied : List StepValue → List LitValue
-denied steps = map (λ s. negation s.lit) (filter is_decision steps)
 
 pub record IsSame (clause other : List LitValue) : Type 0 where
   pub into : (l : LitValue) → Contains clause l → Contains other l

@@ -4,3 +4,7 @@ pub mod Ready
 pub mod Faults
 pub mod Totals
 pub mod Loading
+pub mod Met
+pub mod Learned
+pub mod Orders
+pub mod Guided

@@ -13,12 +13,12 @@ ghost use Rattle.trail_core.specs.Trails.{StepValue, lits_of};
 ghost use Rattle.cnf_formula.specs.Formulas.{FormulaValue, IsAbout, Satisfies};
 ghost use Rattle.trail_core.specs.Search.{IsSatisfied, IsUnit};
 ghost use Rattle.trail_core.specs.Meaning.{CoreValue, trues, IsClosed};
-ghost use Rattle.trail_core.specs.Kept.{IsDue, CanAdd};
 ghost use Rattle.trail_core.specs.Formed.{IsTrail};
 ghost use Rattle.sat_core.specs.Totals.{IsTotal, AreValues};
 ghost use Rattle.sat_core.specs.Ready.{IsReady};
-ghost use Rattle.sat_core.specs.Learning.{AreHeld, IsAnalysis, hints_to, numbers_to, denied};
-ghost use Rattle.sat_core.specs.Conflicts.{IsConflict, Agree, IsNext, line_of, gone_back, remaining};
+ghost use Rattle.sat_core.specs.Learning.{AreHeld, IsAnalysis, hints_to, numbers_to};
+ghost use Rattle.sat_core.specs.Conflicts.{IsConflict, Agree, IsNext, remaining};
+ghost use Rattle.sat_core.specs.Learned.{IsLearned};
 
 /// A literal stands in a clause exactly where the test finds it.
 #[tactic(auto, using(crate::proofs::Members::found_exactly))]
@@ -41,31 +41,21 @@ pub fn an_analysis_is_accepted()
         → verdict_of c (record { id = id; lits = clause; hints = hints_to resolved core.trail conflict }) ≡ Accepted true }
 {}
 
-/// The line that some decision is wrong is accepted, and short.
+/// What is learned is accepted, and short.
 pub fn the_learned_line_is_accepted()
-    ensures accepted { (c : CheckerValue) (core : CoreValue) (conflict id : ℕ) → Agree c core → IsConflict core conflict → IsNext c id → verdict_of c (line_of core conflict id) ≡ Accepted true }
-    ensures short { (core : CoreValue) (conflict id : ℕ) → IsConflict core conflict → length (line_of core conflict id).hints ≤ core.vars + 1 }
+    ensures accepted { (c : CheckerValue) (core : CoreValue) (conflict : ℕ) (line : ProofLineValue) → Agree c core → IsConflict core conflict → IsLearned core conflict line → IsNext c line.id → verdict_of c line ≡ Accepted true }
+    ensures short { (core : CoreValue) (conflict : ℕ) (line : ProofLineValue) → IsConflict core conflict → IsLearned core conflict line → length line.hints ≤ core.vars + 1 }
 {}
 
 /// Above level 0 no held clause states it.
 pub fn the_learned_line_is_fresh()
-    ensures fresh { (c : CheckerValue) (core : CoreValue) (conflict last : ℕ) → Agree c core → IsConflict core conflict → last + 1 ≡ length core.limits → is_fresh c (denied core.trail) ≡ true }
+    ensures fresh { (c : CheckerValue) (core : CoreValue) (conflict : ℕ) (line : ProofLineValue) → Agree c core → IsConflict core conflict → 0 < length core.limits → IsLearned core conflict line → is_fresh c line.lits ≡ true }
     ensures unit { (c : CheckerValue) (clauses : List (List LitValue)) (trues clause : List LitValue) (l : LitValue) → AreHeld c.held clauses → IsClosed trues clauses → IsUnit trues clause l → is_fresh c clause ≡ true }
 {}
 
-/// One level below it can be added, and makes a literal true.
-pub fn the_learned_line_is_added_one_level_below()
-    ensures can { (core : CoreValue) (conflict last : ℕ) → IsConflict core conflict → last + 1 ≡ length core.limits → CanAdd (gone_back core last) (denied core.trail) }
-    ensures unit { (core : CoreValue) (conflict last : ℕ) (d : LitValue) → IsConflict core conflict → last + 1 ≡ length core.limits → IsUnit (trues (gone_back core last)) (denied core.trail) (negation (get_or (trues core) (get_or core.limits last 0) d)) }
-    ensures due { (core : CoreValue) (conflict last : ℕ) → IsConflict core conflict → last + 1 ≡ length core.limits → IsDue (gone_back core last).limits (gone_back core last).trail (denied core.trail) }
-    ensures within { (core : CoreValue) (conflict : ℕ) → IsConflict core conflict → All (IsAbout core.vars) (denied core.trail) }
-    ensures differs { (core : CoreValue) (conflict : ℕ) → IsConflict core conflict → AllPairs (λ a b. a ≢ b) (denied core.trail) }
-{}
-
-/// At a conflict on level 0 the line has no literal; at one above level 0 no line without a literal is accepted.
-pub fn a_conflict_closes_exactly_on_level_0()
-    ensures closes { (core : CoreValue) (conflict id : ℕ) → IsConflict core conflict → length core.limits ≡ 0 → (line_of core conflict id).lits ≡ [] }
-    ensures spent { (c : CheckerValue) (core : CoreValue) (conflict : ℕ) → Agree c core → IsConflict core conflict → 0 < length core.limits → (line : ProofLineValue) → line.lits ≡ [] → verdict_of c line ≡ Accepted true → ⊥ }
+/// Above level 0 no line without a literal is accepted.
+pub fn no_line_closes_above_level_0()
+    ensures { (c : CheckerValue) (core : CoreValue) (conflict : ℕ) → Agree c core → IsConflict core conflict → 0 < length core.limits → (line : ProofLineValue) → line.lits ≡ [] → verdict_of c line ≡ Accepted true → ⊥ }
 {}
 
 /// Each conflict that is paid for, and each decision, leaves less to do.

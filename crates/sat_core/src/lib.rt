@@ -2,16 +2,21 @@
 #![tactic(auto)]
 
 mod analysis;
+mod deciding;
 mod fault;
+mod going;
+mod guide;
 mod laws;
 mod loading;
+mod meeting;
 mod model;
+mod order;
+mod restarts;
 mod searching;
 mod solving;
 mod step;
-#[cfg(test)]
-mod tests;
 mod turn;
+mod walk;
 
 pub use fault::SolveFault;
 pub use solving::{SatAnswer, solve};

@@ -1,6 +1,7 @@
 //! The search: turn after turn, until it ends.
 
 ghost use Rattle.std.specs.Prelude.{◌≡◌, ◌≢◌, ℕ, ◌+◌, ◌<◌, ◌≤◌, length, map, Ok, Err, OnOk};
+ghost use Rattle.sat_core.specs.Guided.{IsGuided};
 ghost use Rattle.sat_core.specs.Ready.{AreWritten, IsReady, IsOver};
 ghost use Rattle.cnf_formula.specs.declared.line.LratLine.TheVariants.{Addition};
 ghost use Rattle.proof_rules.specs.Refuting.{Refutes};
@@ -8,6 +9,7 @@ ghost use Rattle.outer_ports.specs.Port.{HasCause};
 ghost use Rattle.sat_core.specs.Totals.{IsTotal};
 
 use crate::fault::SolveFault;
+use crate::guide::Guide;
 use crate::step::{Step, advance};
 use crate::turn::{Turn, at_conflict};
 use ledger_rules::Ledger;
@@ -22,20 +24,17 @@ pub enum End {
     Spent,
 }
 
-/// Searches from where the core holds the clauses of the ledger's formula and lines; the next line has the number `id`.
+/// Searches from where the core holds the clauses of the ledger's formula and lines.
 pub fn search<T, L: Ledger<T>>(
     alloc: Global,
     ledger: &mut L,
     store: &mut T,
     core: &mut Core,
-    vars: u32,
-    id: u64,
+    guide: &mut Guide,
 ) -> Result<End, SolveFault>
     requires ready { IsReady (L.base ledger.old) (L.lines ledger.old) core.old }
-    requires id { id ≡ length core.old.clauses + 1 }
+    requires guided { IsGuided core.old guide.old }
     requires agrees { L.agrees ledger.old store.old }
-    requires vars { vars ≡ core.old.vars }
-    requires small { vars < 2147483648 }
     ensures vars { core.new.vars ≡ core.old.vars }
     ensures written { AreWritten (L.base ledger.new) (L.lines ledger.new) }
     ensures moves { L.moves ledger.old store.old ledger.new store.new }
@@ -51,14 +50,11 @@ pub fn search<T, L: Ledger<T>>(
     ensures cause { HasCause SolveFault.LedgerFailed (L.faults ledger.old store.old) (L.faults ledger.new store.new) result }
     ensures steady { result ≢ Err SolveFault.LedgerFailed → L.faults ledger.new store.new ≡ L.faults ledger.old store.old }
 {
-    let mut next = id;
     loop {
-        match advance(core, vars) {
+        match advance(core, &mut guide.decider) {
             Step::Conflict(conflict) => {
-                match at_conflict(alloc, ledger, store, core, conflict, next)? {
-                    Turn::Goes(after) => {
-                        next = after;
-                    }
+                match at_conflict(alloc, ledger, store, core, guide, conflict)? {
+                    Turn::Goes => {}
                     Turn::Refuted => return Ok(End::Refuted),
                     Turn::Spent => return Ok(End::Spent),
                 }

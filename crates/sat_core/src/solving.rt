@@ -12,6 +12,7 @@ ghost use Rattle.ledger_rules.specs.Logs.{checker_of};
 ghost use Rattle.sat_core.specs.Ready.{AreNumbered, AreShort};
 
 use crate::fault::SolveFault;
+use crate::guide::Guide;
 use crate::loading::load;
 use crate::model::model_of;
 use crate::searching::{End, search};
@@ -68,8 +69,8 @@ pub fn solve<T, L: Ledger<T>>(
 {
     let own = formula.vars().min(LAST_VARIABLE);
     let mut core = load(alloc, formula, own)?;
-    let next = formula.clauses().len() as u64 + 1;
-    match search(alloc, ledger, store, &mut core, own, next)? {
+    let mut guide = Guide::new(alloc, own)?;
+    match search(alloc, ledger, store, &mut core, &mut guide)? {
         End::Total => Ok(SatAnswer::Model(model_of(alloc, &core, own, formula.vars())?)),
         End::Refuted => Ok(SatAnswer::Refuted),
         End::Spent => Ok(SatAnswer::Spent),

@@ -7,7 +7,7 @@ ghost use Rattle.trail_core.specs.Meaning.{trues};
 ghost use Rattle.sat_core.specs.Conflicts.{IsConflict};
 ghost use Rattle.sat_core.specs.Totals.{IsTotal};
 
-use cnf_formula::Lit;
+use crate::deciding::Decider;
 use trail_core::{ClauseId, Core};
 
 /// What a step of the search came to.
@@ -18,27 +18,10 @@ pub enum Step {
     Total,
 }
 
-/// An open variable, as false.
-fn an_open(core: &Core, vars: u32) -> Option<Lit>
-    requires vars { vars ≡ core.now.vars }
-    requires small { vars < 2147483648 }
-    ensures { MatchOption result
-        ((v : ℕ) → 0 < v → v ≤ core.now.vars → IsOpen (trues core.now) (no v) → ⊥)
-        (λ lit. IsOpen (trues core.now) lit × (lit.var ≤ core.now.vars)) }
-{
-    for index in 0..vars {
-        let lit = Lit::new(index + 1, false);
-        if core.value(lit).is_none() {
-            return Some(lit);
-        }
-    }
-    None
-}
-
 /// Propagates, and decides a variable where no clause is falsified.
-pub fn advance(core: &mut Core, vars: u32) -> Step
-    requires vars { vars ≡ core.old.vars }
-    requires small { vars < 2147483648 }
+pub fn advance(core: &mut Core, decider: &mut Decider) -> Step
+    requires { decider.old ≡ core.old.vars }
+    ensures decider { decider.new ≡ decider.old }
     ensures vars { core.new.vars ≡ core.old.vars }
     ensures clauses { core.new.clauses ≡ core.old.clauses }
     ensures conflict { (id : ℕ) → result ≡ Step.Conflict id → IsConflict core.new id }
@@ -51,7 +34,7 @@ pub fn advance(core: &mut Core, vars: u32) -> Step
             let _known = core.trail();
             Step::Conflict(conflict)
         }
-        None => match an_open(core, vars) {
+        None => match decider.choose(core) {
             Some(lit) => {
                 core.assume(lit);
                 let _known = core.trail();

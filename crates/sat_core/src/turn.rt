@@ -2,13 +2,16 @@
 
 ghost use Rattle.std.specs.Prelude.{◌≡◌, ◌≢◌, ℕ, ◌+◌, ◌<◌, ◌≤◌, length, map, Ok, Err, OnOk};
 ghost use Rattle.sat_core.specs.Conflicts.{IsConflict};
+ghost use Rattle.sat_core.specs.Guided.{IsGuided};
 ghost use Rattle.sat_core.specs.Ready.{AreWritten, IsReady, IsOver};
 ghost use Rattle.cnf_formula.specs.declared.line.LratLine.TheVariants.{Addition};
 ghost use Rattle.proof_rules.specs.Refuting.{Refutes};
 ghost use Rattle.outer_ports.specs.Port.{HasCause};
 
-use crate::analysis::{go_back, line_at};
+use crate::analysis::line_at;
 use crate::fault::SolveFault;
+use crate::going::go_back;
+use crate::guide::Guide;
 use ledger_rules::Ledger;
 use std::alloc::Global;
 use trail_core::{ClauseId, Core};
@@ -16,7 +19,7 @@ use trail_core::{ClauseId, Core};
 /// What a turn at a conflict came to.
 #[derive(Debug, Drop)]
 pub enum Turn {
-    Goes(u64),
+    Goes,
     Refuted,
     Spent,
 }
@@ -27,12 +30,12 @@ pub fn at_conflict<T, L: Ledger<T>>(
     ledger: &mut L,
     store: &mut T,
     core: &mut Core,
+    guide: &mut Guide,
     conflict: ClauseId,
-    id: u64,
 ) -> Result<Turn, SolveFault>
     requires ready { IsReady (L.base ledger.old) (L.lines ledger.old) core.old }
     requires conflict { IsConflict core.old conflict }
-    requires id { id ≡ length core.old.clauses + 1 }
+    requires guided { IsGuided core.old guide.old }
     requires agrees { L.agrees ledger.old store.old }
     ensures written { AreWritten (L.base ledger.new) (L.lines ledger.new) }
     ensures moves { L.moves ledger.old store.old ledger.new store.new }
@@ -40,9 +43,9 @@ pub fn at_conflict<T, L: Ledger<T>>(
     ensures base { L.base ledger.new ≡ L.base ledger.old }
     ensures limit { L.limit ledger.new ≡ L.limit ledger.old }
     ensures vars { core.new.vars ≡ core.old.vars }
-    ensures ready { (next : ℕ) → result ≡ Ok (Turn.Goes next) → IsReady (L.base ledger.new) (L.lines ledger.new) core.new }
-    ensures next { (next : ℕ) → result ≡ Ok (Turn.Goes next) → next ≡ length core.new.clauses + 1 }
-    ensures paid { (next : ℕ) → result ≡ Ok (Turn.Goes next) → L.spent ledger.new ≡ L.spent ledger.old + 1 }
+    ensures ready { result ≡ Ok Turn.Goes → IsReady (L.base ledger.new) (L.lines ledger.new) core.new }
+    ensures guided { result ≡ Ok Turn.Goes → IsGuided core.new guide.new }
+    ensures paid { result ≡ Ok Turn.Goes → L.spent ledger.new ≡ L.spent ledger.old + 1 }
     ensures refuted { result ≡ Ok Turn.Refuted → Refutes (map Addition (L.lines ledger.new)) (L.base ledger.new) }
     ensures closed { result ≡ Ok Turn.Refuted → length (L.lines ledger.new) ≤ L.limit ledger.new + 1 }
     ensures spent { result ≡ Ok Turn.Spent → L.spent ledger.new ≡ L.limit ledger.new }
@@ -50,7 +53,7 @@ pub fn at_conflict<T, L: Ledger<T>>(
     ensures cause { HasCause SolveFault.LedgerFailed (L.faults ledger.old store.old) (L.faults ledger.new store.new) result }
     ensures steady { result ≢ Err SolveFault.LedgerFailed → L.faults ledger.new store.new ≡ L.faults ledger.old store.old }
 {
-    let line = line_at(alloc, core, conflict, id)?;
+    let line = line_at(alloc, core, &mut guide.walk, conflict)?;
     if line.lits.is_empty() {
         ledger.close(store, &line)?;
         return Ok(Turn::Refuted);
@@ -59,6 +62,7 @@ pub fn at_conflict<T, L: Ledger<T>>(
         return Ok(Turn::Spent);
     }
     ledger.learn(store, &line)?;
-    let next = go_back(core, &line, conflict)?;
-    Ok(Turn::Goes(next))
+    guide.decider.learn(&guide.walk.met);
+    go_back(core, &mut guide.decider, &line, guide.restarts.is_due())?;
+    Ok(Turn::Goes)
 }

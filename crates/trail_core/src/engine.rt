@@ -90,6 +90,13 @@ impl Core {
         self.store.clause(id.number)
     }
 
+    /// How many clauses there are.
+    pub fn count(&self) -> u32
+        ensures { result ≡ length self.now.clauses }
+    {
+        self.store.len()
+    }
+
     /// The value of a literal, or none where it is open.
     pub fn value(&self, lit: Lit) -> Option<bool>
         requires { lit.var ≤ self.now.vars }
@@ -109,6 +116,22 @@ impl Core {
         let _many = self.trail.len();
         let _clauses = &self.store;
         self.trail.lits()
+    }
+
+    /// The present level.
+    pub fn depth(&self) -> u32
+        ensures { result ≡ length self.now.limits }
+    {
+        self.trail.depth()
+    }
+
+    /// How many literals stay true where all above a level is taken back.
+    pub fn height(&self, level: u32) -> usize
+        requires { level ≤ length self.now.limits }
+        ensures below { level < length self.now.limits → result ≡ slice_index self.now.limits level }
+        ensures all { level ≡ length self.now.limits → result ≡ length self.now.trail }
+    {
+        self.trail.height(level)
     }
 
     /// The level of a true literal.

@@ -130,6 +130,19 @@ impl Trail {
         self.limits.len() as u32
     }
 
+    /// How many literals stay true where all above a level is taken back.
+    pub fn height(&self, level: u32) -> usize
+        requires { level ≤ length self.now.limits }
+        ensures below { level < length self.now.limits → result ≡ slice_index self.now.limits level }
+        ensures all { level ≡ length self.now.limits → result ≡ length self.now.steps }
+    {
+        if (level as usize) < self.limits.len() {
+            self.limits[level as usize] as usize
+        } else {
+            self.lits.len()
+        }
+    }
+
     /// How long the trail was when the present level was opened.
     pub fn bottom(&self) -> u32
         ensures low { length self.now.limits ≡ 0 → result ≡ 0 }

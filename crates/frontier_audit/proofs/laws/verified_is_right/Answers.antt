@@ -1,8 +1,13 @@
-use Rattle.frontier_audit.proofs.Right.{verified_right, verified_joins}
+use Rattle.frontier_audit.proofs.Right.{verified_joins}
+use Rattle.frontier_audit.proofs.Unsolvable.{all_right}
+use Rattle.frontier_audit.proofs.Verified.{report_right}
 use Rattle.frontier_audit.proofs.laws.verified_is_right.Goals as goal
 
 pub returns-clause-frontiers : goal.returns-clause-frontiers
-returns-clause-frontiers c = verified_right
+returns-clause-frontiers c = all_right
 
 pub returns-clause-joins : goal.returns-clause-joins
 returns-clause-joins c = verified_joins
+
+pub returns-clause-report : goal.returns-clause-report
+returns-clause-report c = report_right

@@ -1,4 +1,3 @@
-use Rattle.std.proofs.Common.{◌≡◌}
 use Rattle.cnf_formula.specs.Formulas.{IsClause}
 use Rattle.proof_audit.proofs.tests.add_clause.Given as goal
 

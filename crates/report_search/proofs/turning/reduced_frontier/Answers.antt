@@ -1,9 +1,5 @@
-use Rattle.report_search.proofs.Turned.{begun_over, found_over, shelved_over, small_turned}
+use Rattle.report_search.proofs.Turned.{begun_over, found_over, shelved_over}
 use Rattle.report_search.proofs.turning.reduced_frontier.Goals as goal
-
-pub copied_frontier-requires-clause-small : goal.copied_frontier-requires-clause-small
-copied_frontier-requires-clause-small g c =
-    small_turned (record { topology = c.args.topology.now; spec = c.args.spec.now; limits = c.args.limits }) c.in_ok-turned.turned c.in_ok-turned.ensures c.requires.small
 
 pub returns-in_err-copied-clause-begun : goal.returns-in_err-copied-clause-begun
 returns-in_err-copied-clause-begun g c = λ told.

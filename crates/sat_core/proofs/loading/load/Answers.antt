@@ -1,9 +1,9 @@
-use Rattle.std.proofs.Common.{◌≡◌, ℕ, ◌+◌, ◌*◌, ◌<◌, ◌≤◌, [], ◌∷◌, ◌++◌, List, length, get_or, take, sym, ap, ◌∙◌, subst, arith}
-use Rattle.std.specs.Prelude.{Contains, All}
+use Rattle.std.proofs.Common.{◌≡◌, ℕ, ◌<◌, [], List, length, get_or, take, sym, ap, ◌∙◌, subst, arith}
+use Rattle.std.specs.Prelude.{All}
 use Rattle.std.proofs.lemmas.List.{take_all, get_or_default}
 use Rattle.std.proofs.lemmas.List.Elements.{Contains-get_or, All-contains}
-use Rattle.cnf_formula.specs.Formulas.{IsAbout, IsClause}
-use Rattle.cnf_formula.specs.Literals.{LitValue, IsLit, code_of}
+use Rattle.cnf_formula.specs.Formulas.{IsClause}
+use Rattle.cnf_formula.specs.Literals.{LitValue}
 use Rattle.sat_core.specs.Learning.{IsSame}
 use Rattle.sat_core.specs.Loading.{IsLoaded}
 use Rattle.sat_core.proofs.Loaded.{code_own, kept_about, loaded_more, ready_loaded}

@@ -1,4 +1,4 @@
-use Rattle.std.proofs.Common.{◌≡◌, ℕ, ◌*◌, ◌+◌, ◌≤◌, [], length, get_or, take}
+use Rattle.std.proofs.Common.{◌≡◌, ℕ, ◌*◌, ◌+◌, ◌≤◌, length, get_or, take}
 use Rattle.sat_core.specs.Loading.{IsLoaded}
 use Rattle.sat_core.proofs.loading.load.Given as goal
 

@@ -1,9 +1,9 @@
-use Rattle.std.proofs.Common.{◌≡◌, ℕ, ◌+◌, true, false, Option, sym, ap, ◌∙◌, subst}
-use Rattle.std.specs.Prelude.{Some, None}
+use Rattle.std.proofs.Common.{◌+◌, false, ap, ◌∙◌, subst}
+use Rattle.std.specs.Prelude.{Some}
 use Rattle.cnf_formula.specs.Literals.{LitValue, yes}
 use Rattle.trail_core.specs.Assigned.{IsValue}
 use Rattle.trail_core.specs.Meaning.{trues}
-use Rattle.sat_core.proofs.Denied.{consistent_by}
+use Rattle.sat_core.proofs.Once.{consistent_by}
 use Rattle.sat_core.proofs.model.value_at.Goals as goal
 
 pub returns-in-Some-clause-lacks : goal.returns-in-Some-clause-lacks

@@ -1,7 +1,8 @@
-use Rattle.std.proofs.Common.{◌≡◌, ◌<◌, ◌^◌, Bool, List, [], length, Result, Ok, Err, sym, ap, ◌∙◌, subst}
+use Rattle.std.proofs.Common.{◌≡◌, Bool, List, [], length, Result, Ok, Err, sym, ap, ◌∙◌, subst}
 use Rattle.cnf_formula.specs.Formulas.{Satisfies}
 use Rattle.proof_rules.specs.Refuting.{SpentLog}
 use Rattle.trail_core.specs.Meaning.{trues}
+use Rattle.sat_core.specs.Met.{IsRested}
 use Rattle.sat_core.specs.Totals.{AreValues}
 use Rattle.sat_core.specs.declared.fault.SolveFault.{SolveFault}
 use Rattle.sat_core.specs.declared.solving.SatAnswer.{SatAnswer}
@@ -17,6 +18,14 @@ values_in (Ok (Model values)) = values
 values_in (Ok Refuted) = []
 values_in (Ok Spent) = []
 values_in (Err fault) = []
+
+pub search-requires-clause-guided : goal.search-requires-clause-guided
+search-requires-clause-guided g c =
+    let vars : c.in_ok-core.core.vars ≡ c.min-own.result = c.in_ok-core.ensures.vars in
+    record {
+      rested = subst (λ n. IsRested n (length c.in_ok-core.core.clauses) c.in_ok-guide.guide.walk.marks.items) (sym vars) (c.in_ok-guide.ensures.rested (length c.in_ok-core.core.clauses));
+      decider = c.in_ok-guide.ensures.decider ∙ sym vars;
+    }
 
 pub model_of-requires-clause-own : goal.model_of-requires-clause-own
 model_of-requires-clause-own g c = sym (c.search.ensures.vars ∙ c.in_ok-core.ensures.vars)

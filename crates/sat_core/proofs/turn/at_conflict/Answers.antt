@@ -2,7 +2,8 @@ use Rattle.std.proofs.Common.{◌≡◌, ◌<◌, length, [], sym, ap, ◌∙◌
 use Rattle.std.specs.Prelude.{vec_len}
 use Rattle.std.proofs.lemmas.Bool.{eqb-true, eqb-false}
 use Rattle.std.proofs.lemmas.List.{nil_from_length}
-use Rattle.sat_core.proofs.Turning.{positive, IsTurn, turn_accepted, turn_written, turn_same, turn_refuted, turn_above, turn_fresh, turn_over, turn_ready}
+use Rattle.sat_core.proofs.Turning.{positive, IsTurn, turn_accepted, turn_written, turn_refuted, turn_above, turn_fresh, turn_over, turn_ready, guided_more}
+use Rattle.sat_core.proofs.Jumping.{learned_backed}
 use Rattle.sat_core.proofs.Ending.{closed_few}
 use Rattle.sat_core.proofs.turn.at_conflict.Goals as goal
 
@@ -12,8 +13,8 @@ close-requires-clause-implied g c =
     let lines = g.L.LedgerView.lines c.args.ledger.now in
     let core = c.args.core.now in
     let line = c.in_ok-line.line in
-    let t : IsTurn base lines core c.args.conflict c.args.id line = record { ready = c.requires.ready; conflicts = c.requires.conflict; number = c.requires.id; is = c.in_ok-line.ensures } in
-    turn_accepted base lines core c.args.conflict c.args.id line t
+    let t : IsTurn base lines core c.args.conflict line = record { ready = c.requires.ready; conflicts = c.requires.conflict; is = c.in_ok-line.ensures.learned } in
+    turn_accepted base lines core c.args.conflict line t
 
 pub returns-then-is_empty-clause-refuted : goal.returns-then-is_empty-clause-refuted
 returns-then-is_empty-clause-refuted g c =
@@ -21,10 +22,10 @@ returns-then-is_empty-clause-refuted g c =
     let lines = g.L.LedgerView.lines c.args.ledger.now in
     let core = c.args.core.now in
     let line = c.in_ok-line.line in
-    let t : IsTurn base lines core c.args.conflict c.args.id line = record { ready = c.requires.ready; conflicts = c.requires.conflict; number = c.requires.id; is = c.in_ok-line.ensures } in
+    let t : IsTurn base lines core c.args.conflict line = record { ready = c.requires.ready; conflicts = c.requires.conflict; is = c.in_ok-line.ensures.learned } in
     let none : line.lits ≡ [] = let z : vec_len c.line.inside.lits ≡ 0 = eqb-true _ 0 (sym c.is_empty.ensures ∙ c.if-is_empty.true) in
     nil_from_length line.lits (omega (arith, z, ap (λ l. length l.lits) c.line.view_is)) in
-    λ h. turn_refuted base _ lines _ core c.args.conflict c.args.id line t none c.close.ensures.base c.in_ok-close.ensures.lines
+    λ h. turn_refuted base _ lines _ core c.args.conflict line t none c.close.ensures.base c.in_ok-close.ensures.lines
 
 pub returns-then-not-room-clause-over : goal.returns-then-not-room-clause-over
 returns-then-not-room-clause-over g c =
@@ -32,10 +33,10 @@ returns-then-not-room-clause-over g c =
     let lines = g.L.LedgerView.lines c.args.ledger.now in
     let core = c.args.core.now in
     let line = c.in_ok-line.line in
-    let t : IsTurn base lines core c.args.conflict c.args.id line = record { ready = c.requires.ready; conflicts = c.requires.conflict; number = c.requires.id; is = c.in_ok-line.ensures } in
+    let t : IsTurn base lines core c.args.conflict line = record { ready = c.requires.ready; conflicts = c.requires.conflict; is = c.in_ok-line.ensures.learned } in
     let some : 0 < length line.lits = let z = eqb-false (vec_len c.line.inside.lits) 0 (sym c.is_empty.ensures ∙ c.if-is_empty.false) in
     positive (length line.lits) (λ e. z (omega (arith, e, ap (λ l. length l.lits) c.line.view_is))) in
-    λ h. turn_over base lines core c.args.conflict c.args.id line t some
+    λ h. turn_over base lines core c.args.conflict line t some
 
 pub learn-requires-clause-implied : goal.learn-requires-clause-implied
 learn-requires-clause-implied g c =
@@ -43,8 +44,8 @@ learn-requires-clause-implied g c =
     let lines = g.L.LedgerView.lines c.args.ledger.now in
     let core = c.args.core.now in
     let line = c.in_ok-line.line in
-    let t : IsTurn base lines core c.args.conflict c.args.id line = record { ready = c.requires.ready; conflicts = c.requires.conflict; number = c.requires.id; is = c.in_ok-line.ensures } in
-    turn_accepted base lines core c.args.conflict c.args.id line t
+    let t : IsTurn base lines core c.args.conflict line = record { ready = c.requires.ready; conflicts = c.requires.conflict; is = c.in_ok-line.ensures.learned } in
+    turn_accepted base lines core c.args.conflict line t
 
 pub learn-requires-clause-fresh : goal.learn-requires-clause-fresh
 learn-requires-clause-fresh g c =
@@ -52,10 +53,21 @@ learn-requires-clause-fresh g c =
     let lines = g.L.LedgerView.lines c.args.ledger.now in
     let core = c.args.core.now in
     let line = c.in_ok-line.line in
-    let t : IsTurn base lines core c.args.conflict c.args.id line = record { ready = c.requires.ready; conflicts = c.requires.conflict; number = c.requires.id; is = c.in_ok-line.ensures } in
+    let t : IsTurn base lines core c.args.conflict line = record { ready = c.requires.ready; conflicts = c.requires.conflict; is = c.in_ok-line.ensures.learned } in
     let some : 0 < length line.lits = let z = eqb-false (vec_len c.line.inside.lits) 0 (sym c.is_empty.ensures ∙ c.if-is_empty.false) in
     positive (length line.lits) (λ e. z (omega (arith, e, ap (λ l. length l.lits) c.line.view_is))) in
-    turn_fresh base lines core c.args.conflict c.args.id line t some
+    turn_fresh base lines core c.args.conflict line t some
+
+pub go_back-requires-clause-backed : goal.go_back-requires-clause-backed
+go_back-requires-clause-backed g c =
+    let base = g.L.LedgerView.base c.args.ledger.now in
+    let lines = g.L.LedgerView.lines c.args.ledger.now in
+    let core = c.args.core.now in
+    let line = c.in_ok-line.line in
+    let t : IsTurn base lines core c.args.conflict line = record { ready = c.requires.ready; conflicts = c.requires.conflict; is = c.in_ok-line.ensures.learned } in
+    let some : 0 < length line.lits = let z = eqb-false (vec_len c.line.inside.lits) 0 (sym c.is_empty.ensures ∙ c.if-is_empty.false) in
+    positive (length line.lits) (λ e. z (omega (arith, e, ap (λ l. length l.lits) c.line.view_is))) in
+    learned_backed core c.args.conflict line (turn_above base lines core c.args.conflict line t some) c.in_ok-line.ensures.learned
 
 pub go_back-requires-clause-above : goal.go_back-requires-clause-above
 go_back-requires-clause-above g c =
@@ -63,10 +75,10 @@ go_back-requires-clause-above g c =
     let lines = g.L.LedgerView.lines c.args.ledger.now in
     let core = c.args.core.now in
     let line = c.in_ok-line.line in
-    let t : IsTurn base lines core c.args.conflict c.args.id line = record { ready = c.requires.ready; conflicts = c.requires.conflict; number = c.requires.id; is = c.in_ok-line.ensures } in
+    let t : IsTurn base lines core c.args.conflict line = record { ready = c.requires.ready; conflicts = c.requires.conflict; is = c.in_ok-line.ensures.learned } in
     let some : 0 < length line.lits = let z = eqb-false (vec_len c.line.inside.lits) 0 (sym c.is_empty.ensures ∙ c.if-is_empty.false) in
     positive (length line.lits) (λ e. z (omega (arith, e, ap (λ l. length l.lits) c.line.view_is))) in
-    turn_above base lines core c.args.conflict c.args.id line t some
+    turn_above base lines core c.args.conflict line t some
 
 pub returns-clause-ready : goal.returns-clause-ready
 returns-clause-ready g c =
@@ -74,10 +86,14 @@ returns-clause-ready g c =
     let lines = g.L.LedgerView.lines c.args.ledger.now in
     let core = c.args.core.now in
     let line = c.in_ok-line.line in
-    let t : IsTurn base lines core c.args.conflict c.args.id line = record { ready = c.requires.ready; conflicts = c.requires.conflict; number = c.requires.id; is = c.in_ok-line.ensures } in
+    let t : IsTurn base lines core c.args.conflict line = record { ready = c.requires.ready; conflicts = c.requires.conflict; is = c.in_ok-line.ensures.learned } in
     let some : 0 < length line.lits = let z = eqb-false (vec_len c.line.inside.lits) 0 (sym c.is_empty.ensures ∙ c.if-is_empty.false) in
     positive (length line.lits) (λ e. z (omega (arith, e, ap (λ l. length l.lits) c.line.view_is))) in
-    λ next h. turn_ready base _ lines _ core _ c.args.conflict c.args.id line t some c.learn.ensures.base c.in_ok-learn.ensures.lines c.go_back.ensures.vars c.in_ok-next.ensures.added
+    λ h. turn_ready base _ lines _ core _ c.args.conflict line t some c.learn.ensures.base c.in_ok-learn.ensures.lines c.go_back.ensures.vars c.in_ok-go_back.ensures.added
+
+pub returns-clause-guided : goal.returns-clause-guided
+returns-clause-guided g c = λ h.
+    guided_more c.args.core.now c.go_back.new.core _ _ c.in_ok-line.ensures.rested (c.go_back.ensures.decider ∙ c.learn-2.ensures ∙ c.requires.guided.decider) c.go_back.ensures.vars c.in_ok-go_back.ensures.added
 
 pub returns-then-is_empty-clause-written : goal.returns-then-is_empty-clause-written
 returns-then-is_empty-clause-written g c =
@@ -85,8 +101,8 @@ returns-then-is_empty-clause-written g c =
     let lines = g.L.LedgerView.lines c.args.ledger.now in
     let core = c.args.core.now in
     let line = c.in_ok-line.line in
-    let t : IsTurn base lines core c.args.conflict c.args.id line = record { ready = c.requires.ready; conflicts = c.requires.conflict; number = c.requires.id; is = c.in_ok-line.ensures } in
-    turn_written base _ lines _ core c.args.conflict c.args.id line t c.close.ensures.base c.in_ok-close.ensures.lines
+    let t : IsTurn base lines core c.args.conflict line = record { ready = c.requires.ready; conflicts = c.requires.conflict; is = c.in_ok-line.ensures.learned } in
+    turn_written base _ lines _ core c.args.conflict line t c.close.ensures.base c.in_ok-close.ensures.lines
 
 pub returns-clause-written : goal.returns-clause-written
 returns-clause-written g c =
@@ -94,17 +110,17 @@ returns-clause-written g c =
     let lines = g.L.LedgerView.lines c.args.ledger.now in
     let core = c.args.core.now in
     let line = c.in_ok-line.line in
-    let t : IsTurn base lines core c.args.conflict c.args.id line = record { ready = c.requires.ready; conflicts = c.requires.conflict; number = c.requires.id; is = c.in_ok-line.ensures } in
-    turn_written base _ lines _ core c.args.conflict c.args.id line t c.learn.ensures.base c.in_ok-learn.ensures.lines
+    let t : IsTurn base lines core c.args.conflict line = record { ready = c.requires.ready; conflicts = c.requires.conflict; is = c.in_ok-line.ensures.learned } in
+    turn_written base _ lines _ core c.args.conflict line t c.learn.ensures.base c.in_ok-learn.ensures.lines
 
-pub returns-in_err-next-clause-written : goal.returns-in_err-next-clause-written
-returns-in_err-next-clause-written g c =
+pub returns-in_err-go_back-clause-written : goal.returns-in_err-go_back-clause-written
+returns-in_err-go_back-clause-written g c =
     let base = g.L.LedgerView.base c.args.ledger.now in
     let lines = g.L.LedgerView.lines c.args.ledger.now in
     let core = c.args.core.now in
     let line = c.in_ok-line.line in
-    let t : IsTurn base lines core c.args.conflict c.args.id line = record { ready = c.requires.ready; conflicts = c.requires.conflict; number = c.requires.id; is = c.in_ok-line.ensures } in
-    turn_written base _ lines _ core c.args.conflict c.args.id line t c.learn.ensures.base c.in_ok-learn.ensures.lines
+    let t : IsTurn base lines core c.args.conflict line = record { ready = c.requires.ready; conflicts = c.requires.conflict; is = c.in_ok-line.ensures.learned } in
+    turn_written base _ lines _ core c.args.conflict line t c.learn.ensures.base c.in_ok-learn.ensures.lines
 
 pub returns-then-is_empty-clause-closed : goal.returns-then-is_empty-clause-closed
 returns-then-is_empty-clause-closed g c = λ h.

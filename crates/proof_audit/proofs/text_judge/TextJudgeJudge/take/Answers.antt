@@ -1,4 +1,4 @@
-use Rattle.std.proofs.Common.{◌≡◌, ◌-◌, length, take, drop, sym, ap, ◌∙◌}
+use Rattle.std.proofs.Common.{◌-◌, length, take, drop, sym, ap, ◌∙◌}
 use Rattle.std.specs.Prelude.{bytes_eq}
 use Rattle.proof_audit.proofs.Compared.{not_begun, begun, rest_all}
 use Rattle.proof_audit.proofs.text_judge.TextJudgeJudge.take.Goals as goal

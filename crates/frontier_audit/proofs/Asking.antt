@@ -1,0 +1,130 @@
+-- What is asked in a part of a report, and the formulas of its candidates.
+use Rattle.std.proofs.Common.{◌≡◌, ◌≢◌, ℕ, ◌+◌, ◌*◌, ◌≤◌, Bool, true, false, [], ◌∷◌, Option, None, Some, length, refl, sym, ap, ◌∙◌, subst, arith}
+use Rattle.std.specs.Prelude.{if◌then◌else◌, All, Contains, sum_by}
+use Rattle.std.proofs.lemmas.List.Elements.{All-nil, All-cons, All-contains}
+use Rattle.outer_ports.specs.declared.part.Part.{Part}
+use Rattle.outer_ports.specs.declared.part.Part.TheVariants as part
+use Rattle.schedule.specs.Links.{TopologyValue, IsTopology, usable_links, reversed_of}
+use Rattle.schedule.proofs.Turned.{turned_topology}
+use Rattle.collective_spec.specs.declared.kind.Kind.{Kind}
+use Rattle.collective_spec.specs.declared.kind.Kind.TheVariants as kind
+use Rattle.collective_spec.specs.declared.spec.Spec.{Spec}
+use Rattle.collective_spec.specs.Patterns.{PatternValue}
+use Rattle.collective_spec.specs.Collectives.{IsSpec, adds_up, chunks_in, fits_kind, kind_in, spec_of}
+use Rattle.collective_spec.proofs.Sized.{fitting_spec}
+use Rattle.candidate_order.specs.declared.candidate.Candidate.{Candidate}
+use Rattle.candidate_order.specs.Ranges.{LimitsValue}
+use Rattle.candidate_order.specs.Frontiers.{QuestionValue, IsWithin}
+use Rattle.candidate_order.specs.Copied.{copied_spec, copied_question}
+use Rattle.round_encoding.specs.Candidates.{group_size, size_limit}
+use Rattle.report_form.specs.Reports.{ReportValue, IsReport, kind_of, parts_of, question_of}
+use Rattle.candidate_formula.specs.Formulas.{formula_for, searched_on}
+use Rattle.candidate_formula.specs.Sizes.{most_chunks, size_of}
+use Rattle.candidate_formula.specs.Questions.{IsSmallQuestion, IsSought, copying_question}
+use Rattle.candidate_formula.proofs.Asked.{same_size, small_by_copying, within_by, reduced_formula}
+use Rattle.candidate_formula.proofs.Copying.{same_allowed, copied_stays}
+use Rattle.candidate_formula.proofs.TurnedSize.{copied_size}
+use Rattle.frontier_audit.specs.Asked.{IsAsked}
+use Rattle.frontier_audit.proofs.Right.{apart, apart_in}
+use Rattle.frontier_audit.proofs.Unsolvable.{parts_fit}
+
+-- ---- the links of the formulas
+
+module _ (q : QuestionValue) (asked : IsAsked q) where
+  abbrev links : Bool → TopologyValue
+  links b = if b then reversed_of q.topology else q.topology
+
+  small_over : (b : Bool) → adds_up q.spec ≡ b → IsSmallQuestion (copying_question (links b) q.spec q.limits)
+  small_over true e = small_by_copying (reversed_of q.topology) q.spec q.limits (turned_topology q.topology asked.topology) asked.spec asked.single asked.limits
+      (subst (λ n. n ≤ size_limit) (sym (copied_size q) ∙ same_size (reversed_of q.topology) q.spec q.limits) asked.size)
+  small_over false e = small_by_copying q.topology q.spec q.limits asked.topology asked.spec asked.single asked.limits asked.size
+
+  within_over : (b : Bool) (x : Candidate) → IsWithin q x → IsWithin (copying_question (links b) q.spec q.limits) x
+  within_over true x w = within_by (reversed_of q.topology) q.limits x q.spec (copied_spec q.spec) (sym (same_allowed q.spec q.topology.nodes x.c)) w
+  within_over false x w = within_by q.topology q.limits x q.spec (copied_spec q.spec) (sym (same_allowed q.spec q.topology.nodes x.c)) w
+
+  formula_over : (b : Bool) (x : Candidate) → adds_up q.spec ≡ b → formula_for (copying_question (links b) q.spec q.limits) x ≡ formula_for q x
+  formula_over true x e = reduced_formula q x e asked.single
+  formula_over false x e = ap (λ s. formula_for (record { topology = q.topology; spec = s; limits = q.limits }) x) (copied_stays q.spec e)
+
+  sought_on : (x : Candidate) → IsWithin q x → IsSought (searched_on q) q.spec x
+  sought_on x w = record { limits = q.limits; small = small_over (adds_up q.spec) refl; within = within_over (adds_up q.spec) x w }
+
+  formula_on : (x : Candidate) → formula_for (copying_question (searched_on q) q.spec q.limits) x ≡ formula_for q x
+  formula_on x = formula_over (adds_up q.spec) x refl
+
+-- the parts of what is asked are these
+module _ (t searched : TopologyValue) (s : Spec) (l : LimitsValue) (q : QuestionValue) (is : record { topology = t; spec = s; limits = l } ≡ q)
+    (keeps : IsAsked (record { topology = t; spec = s; limits = l }) × (searched ≡ searched_on (record { topology = t; spec = s; limits = l }))) where
+  pub is_asked : IsAsked q
+  is_asked = subst IsAsked is keeps.0
+
+  pub is_sought : (x : Candidate) → IsWithin q x → IsSought searched s x
+  is_sought x w = subst (λ links. IsSought links s x) (sym keeps.1) (sought_on (record { topology = t; spec = s; limits = l }) keeps.0 x (subst (λ p. IsWithin p x) (sym is) w))
+
+  pub formula_is : (x : Candidate) → formula_for (copying_question searched s l) x ≡ formula_for q x
+  formula_is x = ap (λ links. formula_for (copying_question links s l) x) keeps.1 ∙ (formula_on (record { topology = t; spec = s; limits = l }) keeps.0 x ∙ ap (λ p. formula_for p x) is)
+
+-- ---- the parts of a report
+
+module _ (c : Option PatternValue) (root nodes count : ℕ) where
+  abbrev chunks_at : Kind → Part → ℕ
+  chunks_at k p = chunks_in (spec_of (record { kind = kind_of k p; root = root }) c) nodes count
+
+  reduced_chunks : (o : Option PatternValue) → chunks_in (spec_of (record { kind = kind.Reducescatter; root = root }) o) nodes count ≡ chunks_in (spec_of (record { kind = kind.Allreduce; root = root }) o) nodes count
+  reduced_chunks None = refl
+  reduced_chunks (Some p) = refl
+
+  gathered_chunks : (o : Option PatternValue) → chunks_in (spec_of (record { kind = kind.Allgather; root = root }) o) nodes count ≡ chunks_in (spec_of (record { kind = kind.Allreduce; root = root }) o) nodes count
+  gathered_chunks None = refl
+  gathered_chunks (Some p) = refl
+
+  abbrev Whole : Kind → Part → Type 0
+  Whole k p = chunks_at k p ≡ chunks_at k part.Whole
+
+  alone : (k : Kind) → All (Whole k) (part.Whole ∷ [])
+  alone k = All-cons (Whole k) part.Whole [] refl (All-nil (Whole k))
+
+  as_many : (k : Kind) → All (Whole k) (parts_of k)
+  as_many kind.Broadcast = alone kind.Broadcast
+  as_many kind.Gather = alone kind.Gather
+  as_many kind.Allgather = alone kind.Allgather
+  as_many kind.Scatter = alone kind.Scatter
+  as_many kind.Alltoall = alone kind.Alltoall
+  as_many kind.Reduce = alone kind.Reduce
+  as_many kind.Reducescatter = alone kind.Reducescatter
+  as_many kind.Custom = alone kind.Custom
+  as_many kind.Allreduce =
+      All-cons (Whole kind.Allreduce) part.Reduce (part.Gather ∷ []) (reduced_chunks c)
+      (All-cons (Whole kind.Allreduce) part.Gather [] (gathered_chunks c) (All-nil (Whole kind.Allreduce)))
+
+module _ (r : ReportValue) (ok : IsReport r) (p : Part) (has : Contains (parts_of r.words.collective.kind) p) where
+  abbrev asks : Part → QuestionValue
+  asks x = question_of r.words r.topology x
+
+  sized_alike : size_of (asks p) ≡ size_of (asks part.Whole)
+  sized_alike =
+      let k : Kind = r.words.collective.kind in
+      let same = All-contains (Whole r.topology.custom r.words.collective.root r.topology.topology.nodes r.words.limits.max_c k) (parts_of k) p (as_many r.topology.custom r.words.collective.root r.topology.topology.nodes r.words.limits.max_c k) has in
+      ap (λ n. n * length (usable_links r.topology.topology) * r.words.limits.max_s + sum_by (group_size n r.words.limits.max_s r.words.limits.k) r.topology.topology.groups) same
+
+  pub part_asked : size_of (asks part.Whole) ≤ size_limit → IsAsked (asks p)
+  part_asked small =
+      let k : Kind = r.words.collective.kind in
+      let fits = All-contains (λ x. fits_kind (kind_of k x) r.topology.custom ≡ true) (parts_of k) p (parts_fit k r.topology.custom ok.pattern) has in
+      let root = ok.words.root in
+      let many = ok.topology.as_many in
+      record {
+        topology = ok.topology.topology;
+        spec = fitting_spec r.topology.topology.nodes (record { kind = kind_of k p; root = r.words.collective.root }) r.topology.custom fits (omega (arith, root, many)) ok.topology.custom;
+        single = apart_in (record { kind = kind_of k p; root = r.words.collective.root }) r.topology.custom (All-contains (λ x. kind_of k x ≢ kind.Allreduce) (parts_of k) p (apart k) has);
+        limits = ok.words.limits;
+        size = subst (λ n. n ≤ size_limit) (sym sized_alike) small;
+      }
+
+-- what the calls gave is what is asked
+pub made_of : (t : TopologyValue) (s : Spec) (l : LimitsValue) (q : QuestionValue) → t ≡ q.topology → s ≡ q.spec → l ≡ q.limits → record { topology = t; spec = s; limits = l } ≡ q
+made_of t s l q a b c = λ i. record { topology = a i; spec = b i; limits = c i }
+
+pub searched_is : (t named searched : TopologyValue) (s : Spec) (l : LimitsValue) → t ≡ named → searched ≡ (if adds_up s then reversed_of named else named) → searched ≡ searched_on (record { topology = t; spec = s; limits = l })
+searched_is t named searched s l same e = e ∙ ap (λ n. if adds_up s then reversed_of n else n) (sym same)

@@ -1,0 +1,131 @@
+-- Answers that are given beside different files are given beside one shelf, where each looks at names of its own.
+use Rattle.std.proofs.Common.{◌≡◌, ℕ, ◌+◌, ◌<◌, Bool, true, false, List, [], ◌∷◌, length, drop, get_or, Option, None, Some, refl, sym, ap, ◌∙◌, subst, arith}
+use Rattle.std.specs.Prelude.{◌≢◌, not, if◌then◌else◌, IsTrue, All, AllPairs}
+use Rattle.std.proofs.lemmas.List.{get_or-drop, get_or_default, length-drop}
+use Rattle.std.proofs.lemmas.List.Elements.{All-head, All-tail}
+use Rattle.text_lines.specs.Check.{◌>>=◌}
+use Rattle.outer_ports.specs.declared.proof_name.ProofName.{ProofName}
+use Rattle.outer_ports.specs.Files.{Files}
+use Rattle.outer_ports.specs.Port.{Tells}
+use Rattle.outer_ports.specs.Shelf.{FilesStay}
+use Rattle.frontier_audit.specs.Denials.{Checked, each}
+use Rattle.frontier_audit.specs.Beside.{denial_of, AnswersBeside}
+use Rattle.frontier_audit.proofs.Walking.{first_decides, rest_decides, here_on}
+
+-- the check says the same of files that agree on these names
+abbrev pub LooksAt : {E : Type 0} → (ProofName → Bool) → (Files → Checked E) → Type 0
+LooksAt own check = (f g : Files) → ((name : ProofName) → own name ≡ true → f name ≡ g name) → check f ≡ check g
+
+pub looks_then : {E : Type 0} (own : ProofName → Bool) (first rest : Files → Checked E) → LooksAt own first → LooksAt own rest → LooksAt own (λ files. first files >>= (λ _. rest files))
+looks_then own first rest a b f g same = ap (λ r. r >>= (λ _. rest f)) (a f g same) ∙ ap (λ r. first g >>= (λ _. r)) (b f g same)
+
+pub looks_each : {X E : Type 0} (own : ProofName → Bool) (check : Files → X → Checked E) (xs : List X) → All (λ x. LooksAt own (λ files. check files x)) xs → LooksAt own (λ files. each (check files) xs)
+looks_each own check [] all f g same = refl
+looks_each own check (x ∷ xs) all f g same =
+    looks_then own (λ files. check files x) (λ files. each (check files) xs)
+    (All-head (λ y. LooksAt own (λ files. check files y)) x xs all)
+    (looks_each own check xs (All-tail (λ y. LooksAt own (λ files. check files y)) x xs all)) f g same
+
+-- ---- two shelves put together
+
+-- these names of the first, and the others of the second
+merged : (ProofName → Bool) → Files → Files → Files
+merged own f g name = if own name then f name else g name
+
+is_own : (own : ProofName → Bool) (f g : Files) (name : ProofName) → own name ≡ true → merged own f g name ≡ f name
+unfolding merged
+is_own own f g name e = ap (λ b. if b then f name else g name) e
+
+is_other : (own : ProofName → Bool) (f g : Files) (name : ProofName) → not (own name) ≡ true → merged own f g name ≡ g name
+unfolding merged
+is_other own f g name e = go (own name) e
+  where
+    go : (b : Bool) → not b ≡ true → (if b then f name else g name) ≡ g name
+    go true h = absurd (cc)
+    go false h = refl
+
+merged_stays : (own : ProofName → Bool) (shelf f g : Files) → FilesStay shelf f → FilesStay shelf g → FilesStay shelf (merged own f g)
+unfolding merged
+merged_stays own shelf f g a b name = go (own name)
+  where
+    go : (b : Bool) → (if b then f name else g name) ≡ shelf name
+    go true = a name
+    go false = b name
+
+-- ---- answers
+
+module _ {E : Type 0} (tells : Bool) (shelf : Files) where
+  -- a check that looks at no file
+  pub plain : (check : Checked E) (d : Option E) → d ≡ denial_of check → AnswersBeside tells shelf (λ files. check) d
+  plain check d e = record { files = shelf; told = λ t name. refl; is = e }
+
+  module _ (first rest : Files → Checked E) where
+    pub stops : (d : E) → AnswersBeside tells shelf first (Some d) → AnswersBeside tells shelf (λ files. first files >>= (λ _. rest files)) (Some d)
+    stops d a = record { files = a.files; told = a.told; is = sym (first_decides (first a.files) (rest a.files) d (sym a.is)) }
+
+    -- the second looks at none of the names of the first
+    pub goes_on : (own : ProofName → Bool) (d : Option E) → LooksAt own first → LooksAt (λ name. not (own name)) rest → AnswersBeside tells shelf first None → AnswersBeside tells shelf rest d
+        → AnswersBeside tells shelf (λ files. first files >>= (λ _. rest files)) d
+    goes_on own d one two a b =
+        let files : Files = merged own a.files b.files in
+        let passes : denial_of (first files) ≡ None = ap denial_of (one files a.files (is_own own a.files b.files)) ∙ sym a.is in
+        record {
+          files = files;
+          told = λ t. merged_stays own shelf a.files b.files (a.told t) (b.told t);
+          is = b.is ∙ ap denial_of (sym (two files b.files (is_other own a.files b.files))) ∙ ap denial_of (sym (rest_decides (first files) (rest files) passes));
+        }
+
+  -- after a check that looks at no file, and before one
+  pub plainly_then : (first : Checked E) (rest : Files → Checked E) (d : Option E) → denial_of first ≡ None → AnswersBeside tells shelf rest d → AnswersBeside tells shelf (λ files. first >>= (λ _. rest files)) d
+  plainly_then first rest d e a = record { files = a.files; told = a.told; is = a.is ∙ ap denial_of (sym (rest_decides first (rest a.files) e)) }
+
+  pub then_plainly : (first : Files → Checked E) (rest : Checked E) (d : Option E) → AnswersBeside tells shelf first None → d ≡ denial_of rest → AnswersBeside tells shelf (λ files. first files >>= (λ _. rest)) d
+  then_plainly first rest d a e = record { files = a.files; told = a.told; is = e ∙ ap denial_of (sym (rest_decides (first a.files) rest (sym a.is))) }
+
+-- ---- answers at a later moment, and of an earlier one
+
+pub later : {E : Type 0} (told tells : Bool) (shelf : Files) (check : Files → Checked E) (d : Option E) → Tells told tells → AnswersBeside told shelf check d → AnswersBeside tells shelf check d
+later told tells shelf check d still a = record { files = a.files; told = λ t. a.told (still t); is = a.is }
+
+pub since : {E : Type 0} (tells : Bool) (before shelf : Files) (check : Files → Checked E) (d : Option E) → (IsTrue tells → FilesStay before shelf) → AnswersBeside tells shelf check d → AnswersBeside tells before check d
+since tells before shelf check d stay a = record { files = a.files; told = λ t name. a.told t name ∙ stay t name; is = a.is }
+
+pub reworded : {X E : Type 0} (tells : Bool) (shelf : Files) (check : Files → X → Checked E) (xs ys : List X) (d e : Option E) → xs ≡ ys → d ≡ e → AnswersBeside tells shelf (λ files. each (check files) xs) d → AnswersBeside tells shelf (λ files. each (check files) ys) e
+reworded tells shelf check xs ys d e same is a = record { files = a.files; told = a.told; is = sym is ∙ a.is ∙ ap (λ zs. denial_of (each (check a.files) zs)) same }
+
+-- ---- items of a list
+
+-- what answers the items from a place on answers all
+pub record Leads {X E : Type 0} (tells : Bool) (shelf : Files) (check : Files → X → Checked E) (xs : List X) (i : ℕ) : Type 0 where
+  pub on : (now : Bool) (d : Option E) → Tells tells now → AnswersBeside now shelf (λ files. each (check files) (drop i xs)) d → AnswersBeside now shelf (λ files. each (check files) xs) d
+
+pub leads_from_start : {X E : Type 0} (tells : Bool) (shelf : Files) (check : Files → X → Checked E) (xs : List X) → Leads tells shelf check xs 0
+leads_from_start tells shelf check xs = record { on = λ now d still a. a }
+
+module _ {X E : Type 0} (told tells : Bool) (shelf : Files) (check : Files → X → Checked E) (xs : List X) (i : ℕ) (x : X) (low : i < length xs) (is : x ≡ get_or xs i x) (still : Tells told tells) (leads : Leads told shelf check xs i) where
+  -- the item is denied
+  pub denies_all : (d : E) → AnswersBeside tells shelf (λ files. check files x) (Some d) → AnswersBeside tells shelf (λ files. each (check files) xs) (Some d)
+  denies_all d a =
+      leads.on tells (Some d) still (subst (λ ys. AnswersBeside tells shelf (λ files. each (check files) ys) (Some d)) (sym (here_on xs i x low is)) (stops tells shelf (λ files. check files x) (λ files. each (check files) (drop (i + 1) xs)) d a))
+
+  -- it is not
+  pub leads_on : (own : ProofName → Bool) → LooksAt own (λ files. check files x) → All (λ y. LooksAt (λ name. not (own name)) (λ files. check files y)) (drop (i + 1) xs) → AnswersBeside tells shelf (λ files. check files x) None → Leads tells shelf check xs (i + 1)
+  leads_on own one others a = record {
+    on = λ now d after rest.
+        leads.on now d (λ t. still (after t)) (subst (λ ys. AnswersBeside now shelf (λ files. each (check files) ys) d) (sym (here_on xs i x low is))
+        (goes_on now shelf (λ files. check files x) (λ files. each (check files) (drop (i + 1) xs)) own d one (looks_each (λ name. not (own name)) check (drop (i + 1) xs) others)
+        (later tells now shelf (λ files. check files x) None after a) rest));
+  }
+
+-- the end of the list is reached
+pub leads_to_all : {X E : Type 0} (tells : Bool) (shelf : Files) (check : Files → X → Checked E) (xs : List X) (i : ℕ) → drop i xs ≡ [] → Leads tells shelf check xs i → AnswersBeside tells shelf (λ files. each (check files) xs) None
+leads_to_all tells shelf check xs i end leads =
+    leads.on tells None (λ t. t) (subst (λ ys. AnswersBeside tells shelf (λ files. each (check files) ys) None) (sym end) (record { files = shelf; told = λ t name. refl; is = refl }))
+
+-- what holds of each pair holds of an item and those behind it
+pub behind_pairs : {X : Type 0} (R : X → X → Type 0) (xs : List X) (i : ℕ) (x : X) → i < length xs → x ≡ get_or xs i x → AllPairs R xs → All (R x) (drop (i + 1) xs)
+behind_pairs R xs i x low is pairs k d h =
+    let size = length-drop (i + 1) xs in
+    let at : R (get_or xs i d) (get_or xs (i + 1 + k) d) = pairs i (i + 1 + k) d (omega arith) (omega (arith, size, h)) in
+    let same : get_or xs i d ≡ x = get_or_default xs i d x low ∙ sym is in
+    subst (λ y. R x y) (sym (get_or-drop (i + 1) xs k d)) (subst (λ y. R y (get_or xs (i + 1 + k) d)) same at)

@@ -1,0 +1,8 @@
+use Rattle.std.specs.Prelude.{◌≡◌, ◌++◌}
+use Rattle.frontier_audit.specs.Candidates.{candidates_within}
+use Rattle.frontier_audit.specs.Steps.{unrefuted_among}
+use Rattle.frontier_audit.proofs.Listing.{from_step}
+use Rattle.frontier_audit.proofs.answered.unrefuted.Given as goal
+
+abbrev pub invariant-loop-step : goal.invariant-loop-step
+invariant-loop-step l = l.left.items ++ unrefuted_among l.refuted (from_step l.asked l.step) ≡ unrefuted_among l.refuted (candidates_within l.asked)

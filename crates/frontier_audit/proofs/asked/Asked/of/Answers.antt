@@ -1,0 +1,21 @@
+use Rattle.std.proofs.Common.{sym, subst, ap, ◌∙◌}
+use Rattle.topology_text.specs.Value.{NamedTopologyValue}
+use Rattle.report_form.specs.Reports.{WordsValue, question_of}
+use Rattle.frontier_audit.specs.Asked.{IsAsked}
+use Rattle.frontier_audit.proofs.Asking.{made_of, part_asked, searched_is}
+use Rattle.frontier_audit.proofs.asked.Asked.of.Goals as goal
+
+pub invariant_of-result : goal.invariant_of-result
+invariant_of-result c =
+    let r = c.args.report.now in
+    let named = c.topology-topology.ensures.topology ∙ ap (λ (t : NamedTopologyValue). t.topology) c.topology.ensures.topology in
+    let made = made_of c.in_ok-copied.field-0 c.in_ok-spec.spec c.limits.result (question_of r.words r.topology c.args.part) (c.in_ok-copied.ensures ∙ named) c.in_ok-spec.ensures (c.limits.ensures ∙ ap (λ (w : WordsValue). w.limits) c.words.ensures.words) in (
+      subst IsAsked (sym made) (part_asked r c.words.ensures.limits c.args.part c.requires.part c.requires.small),
+      searched_is c.in_ok-copied.field-0 c.topology-topology.result.now c.in_ok-searched.searched c.in_ok-spec.spec c.limits.result c.in_ok-copied.ensures c.in_ok-searched.ensures,
+    )
+
+pub returns : goal.returns
+returns c =
+    let r = c.args.report.now in
+    let named = c.topology-topology.ensures.topology ∙ ap (λ (t : NamedTopologyValue). t.topology) c.topology.ensures.topology in
+    made_of c.in_ok-copied.field-0 c.in_ok-spec.spec c.limits.result (question_of r.words r.topology c.args.part) (c.in_ok-copied.ensures ∙ named) c.in_ok-spec.ensures (c.limits.ensures ∙ ap (λ (w : WordsValue). w.limits) c.words.ensures.words)

@@ -1,0 +1,142 @@
+//! The candidates within the limits: whether each is answered, and whether the marks of the points are right.
+
+ghost use Rattle.std.specs.Prelude.{◌≡◌, ◌++◌, IfOk, OnOk};
+ghost use Rattle.frontier_audit.specs.Denials.{each};
+ghost use Rattle.frontier_audit.specs.Candidates.{candidates_within, is_listed, same_candidate};
+ghost use Rattle.frontier_audit.specs.Solutions.{is_mark};
+ghost use Rattle.frontier_audit.specs.Beside.{denial_of};
+ghost use Rattle.frontier_audit.specs.Steps.{has_mark_among, is_bettered, is_given_up, is_left_answered, is_settled, left_checked, marked_among, unrefuted_among};
+
+use crate::asked::Asked;
+use crate::verdict::Reason;
+use candidate_formula::allowed_counts;
+use candidate_order::{
+    Candidate, Frontier, Mark, OutOfMemory, Point, Unknown, better, list, no_worse,
+};
+use std::alloc::Global;
+
+/// The candidates within the limits that are not refuted, in the order of the search. The only error is want of memory.
+pub(crate) fn unrefuted(
+    alloc: Global,
+    asked: &Asked,
+    refuted: &[Candidate],
+) -> Result<Vec<Candidate>, OutOfMemory>
+    ensures { IfOk result (λ left. left.items ≡ unrefuted_among refuted.now (candidates_within asked.now)) }
+{
+    let limits = asked.limits();
+    let nodes = asked.topology().nodes();
+    let counts = allowed_counts(alloc, nodes, asked.spec().kind(), limits)?;
+    let mut left = Vec::new(alloc);
+    for step in 1..limits.max_s() + 1 {
+        let candidates = list(alloc, limits, step, &counts)?;
+        push_unrefuted(&mut left, &candidates, refuted)?;
+    }
+    Ok(left)
+}
+
+/// Adds those of the candidates that are not refuted. The only error is want of memory.
+fn push_unrefuted(
+    left: &mut Vec<Candidate>,
+    candidates: &[Candidate],
+    refuted: &[Candidate],
+) -> Result<(), OutOfMemory>
+    ensures { OnOk result (left.new.items ≡ left.old.items ++ unrefuted_among refuted.now candidates.now) }
+{
+    for candidate in candidates {
+        if !is_listed(refuted, *candidate) {
+            left.push(*candidate)?;
+        }
+    }
+    Ok(())
+}
+
+/// Whether the candidate is one of these.
+fn is_listed(candidates: &[Candidate], candidate: Candidate) -> bool
+    ensures { result ≡ is_listed candidates.now candidate }
+{
+    candidates.iter().any(|other| is_same(candidate, *other))
+}
+
+/// Whether two candidates are the same.
+pub(crate) fn is_same(a: Candidate, b: Candidate) -> bool
+    ensures { result ≡ same_candidate a b }
+{
+    a.s == b.s && a.r == b.r && a.c == b.c
+}
+
+/// The first candidate within the limits that is not answered, of those that are not refuted.
+pub(crate) fn passed_over(
+    frontier: &Frontier,
+    unrefuted: &[Candidate],
+) -> Option<(Reason, Candidate)>
+    ensures { result ≡ denial_of (each (left_checked frontier.now) unrefuted.now) }
+{
+    for candidate in unrefuted {
+        if !is_answered(frontier, *candidate) {
+            return Some((Reason::CandidateMissing, *candidate));
+        }
+    }
+    None
+}
+
+/// Whether a candidate that is not refuted is settled by a point, or was given up.
+fn is_answered(frontier: &Frontier, candidate: Candidate) -> bool
+    ensures { result ≡ is_left_answered frontier.now candidate }
+{
+    is_settled(frontier.points(), candidate) || is_given_up(frontier.unknown(), candidate)
+}
+
+/// Whether one of the points is no worse.
+fn is_settled(points: &[Point], candidate: Candidate) -> bool
+    ensures { result ≡ is_settled points.now candidate }
+{
+    points
+        .iter()
+        .any(|point| no_worse(point.candidate(), candidate))
+}
+
+/// Whether the candidate is one of those that were given up.
+fn is_given_up(unknown: &[Unknown], candidate: Candidate) -> bool
+    ensures { result ≡ is_given_up unknown.now candidate }
+{
+    unknown
+        .iter()
+        .any(|unknown| is_same(candidate, unknown.candidate()))
+}
+
+/// The first point whose mark does not say whether every better candidate is refuted.
+pub(crate) fn marks_denied(points: &[Point], unrefuted: &[Candidate]) -> Option<(Reason, Candidate)>
+    ensures { result ≡ denial_of (each (marked_among unrefuted.now) points.now) }
+{
+    for point in points {
+        if !has_right_mark(point, unrefuted) {
+            return Some((Reason::MarkWrong, point.candidate()));
+        }
+    }
+    None
+}
+
+/// Whether the mark of a point says whether none of these is better.
+fn has_right_mark(point: &Point, unrefuted: &[Candidate]) -> bool
+    ensures { result ≡ has_mark_among unrefuted.now point.now }
+{
+    is_mark(!is_bettered(unrefuted, point.candidate()), point.mark())
+}
+
+/// Whether one of these is better than the candidate.
+fn is_bettered(unrefuted: &[Candidate], candidate: Candidate) -> bool
+    ensures { result ≡ is_bettered unrefuted.now candidate }
+{
+    unrefuted.iter().any(|other| better(*other, candidate))
+}
+
+/// Whether the mark says that a point is optimal, where it is, and open, where it is not.
+fn is_mark(optimal: bool, mark: Mark) -> bool
+    ensures { result ≡ is_mark optimal mark }
+{
+    match mark {
+        Mark::Optimal => optimal,
+        Mark::Open => !optimal,
+        Mark::Joined { .. } => false,
+    }
+}

@@ -1,0 +1,141 @@
+//! What is asked for in a part of a report, and the formulas and the candidates of that.
+
+ghost use Rattle.std.specs.Prelude.{◌≡◌, ◌≤◌, Contains, IfOk, if◌then◌else◌};
+ghost use Rattle.schedule.specs.Links.{reversed_of};
+ghost use Rattle.collective_spec.specs.Collectives.{adds_up};
+ghost use Rattle.candidate_order.specs.Frontiers.{IsWithin};
+ghost use Rattle.report_form.specs.Reports.{parts_of, question_of};
+ghost use Rattle.round_encoding.specs.Candidates.{size_limit};
+ghost use Rattle.candidate_formula.specs.Formulas.{formula_for};
+ghost use Rattle.candidate_formula.specs.Sizes.{size_of};
+ghost use Rattle.frontier_audit.specs.Asked.{IsAsked};
+
+use candidate_formula::encode_candidate;
+use candidate_order::{Candidate, Limits, OutOfMemory};
+use cnf_formula::Formula;
+use collective_spec::{Collective, Kind, Spec};
+use outer_ports::Part;
+use report_form::Report;
+use schedule::Topology;
+use std::alloc::Global;
+use std::marker::Model;
+
+/// What is asked for in a part, and the links over which its formulas are.
+#[derive(Drop)]
+pub(crate) struct Asked {
+    topology: Topology,
+    searched: Topology,
+    spec: Spec,
+    limits: Limits,
+}
+
+impl Model for Asked {
+    ghost use Rattle.std.specs.Prelude.{◌≡◌};
+    ghost use Rattle.candidate_order.specs.Frontiers.{QuestionValue};
+    ghost use Rattle.candidate_formula.specs.Formulas.{searched_on};
+    ghost use Rattle.frontier_audit.specs.Asked.{IsAsked};
+
+    ghost Value = { QuestionValue };
+
+    ghost view = { λ a. record { topology = a.topology; spec = a.spec; limits = a.limits } };
+
+    ghost invariant = { λ a. IsAsked (record { topology = a.topology; spec = a.spec; limits = a.limits }) × (a.searched ≡ searched_on (record { topology = a.topology; spec = a.spec; limits = a.limits })) };
+}
+
+impl Asked {
+    /// What a report asks for in one of its parts. The only error is want of memory.
+    pub(crate) fn of(report: &Report, part: Part) -> Result<Asked, OutOfMemory>
+        requires part { Contains (parts_of report.now.words.collective.kind) part }
+        requires small { size_of (question_of report.now.words report.now.topology Part.Whole) ≤ size_limit }
+        ensures { IfOk result (λ asked. asked ≡ question_of report.now.words report.now.topology part) }
+    {
+        let topology = report.topology().topology();
+        let spec = spec_of_part(report, part)?;
+        let searched = searched_on(topology, &spec)?;
+        Ok(Asked {
+            topology: copied(topology)?,
+            searched,
+            spec,
+            limits: report.words().limits(),
+        })
+    }
+
+    /// The topology.
+    pub(crate) fn topology(&self) -> &Topology
+        ensures topology { result.now ≡ self.now.topology }
+        ensures asked { IsAsked self.now }
+    {
+        &self.topology
+    }
+
+    /// The collective.
+    pub(crate) fn spec(&self) -> &Spec
+        ensures spec { result.now ≡ self.now.spec }
+        ensures asked { IsAsked self.now }
+    {
+        &self.spec
+    }
+
+    /// How far the search went.
+    pub(crate) fn limits(&self) -> &Limits
+        ensures limits { result.now ≡ self.now.limits }
+        ensures asked { IsAsked self.now }
+    {
+        &self.limits
+    }
+
+    /// The formula of a candidate within the limits. The only error is want of memory.
+    pub(crate) fn formula(
+        &self,
+        alloc: Global,
+        candidate: Candidate,
+    ) -> Result<Formula, OutOfMemory>
+        requires { IsWithin self.now candidate }
+        ensures { IfOk result (λ formula. formula ≡ formula_for self.now candidate) }
+    {
+        let encoding = encode_candidate(alloc, &self.searched, &self.spec, candidate)?;
+        Ok(encoding.formula)
+    }
+}
+
+/// What a part of a report asks for. The only error is want of memory.
+pub(crate) fn spec_of_part(report: &Report, part: Part) -> Result<Spec, OutOfMemory>
+    ensures { IfOk result (λ spec. spec ≡ (question_of report.now.words report.now.topology part).spec) }
+{
+    let whole = report.words().collective();
+    let kind = match part {
+        Part::Whole | Part::Joined => whole.kind,
+        Part::Reduce => Kind::Reducescatter,
+        Part::Gather => Kind::Allgather,
+    };
+    let pattern = match report.topology().custom() {
+        None => None,
+        Some(pattern) => Some(pattern.clone()?),
+    };
+    Ok(Spec::of(
+        Collective {
+            kind,
+            root: whole.root,
+        },
+        pattern,
+    ))
+}
+
+/// The links over which the formulas of what is asked for are: those of a reduction are turned round. The only error is
+/// want of memory.
+fn searched_on(topology: &Topology, spec: &Spec) -> Result<Topology, OutOfMemory>
+    ensures { IfOk result (λ searched. searched ≡ (if adds_up spec.now then reversed_of topology.now else topology.now)) }
+{
+    if spec.adds_up() {
+        topology.reversed()
+    } else {
+        copied(topology)
+    }
+}
+
+/// The same topology. The only error is want of memory.
+fn copied(topology: &Topology) -> Result<Topology, OutOfMemory>
+    ensures { IfOk result (λ copy. copy ≡ topology.now) }
+{
+    topology.clone()
+}

@@ -1,0 +1,75 @@
+//! The schedules of points.
+
+ghost use Rattle.std.specs.Prelude.{◌≡◌, true, false, All, IfOk};
+ghost use Rattle.collective_spec.specs.Collectives.{adds_up};
+ghost use Rattle.report_form.specs.Reports.{IsPoint};
+ghost use Rattle.frontier_audit.specs.Denials.{each};
+ghost use Rattle.frontier_audit.specs.Solutions.{is_solution};
+ghost use Rattle.frontier_audit.specs.Auditing.{point_checked};
+ghost use Rattle.frontier_audit.specs.Beside.{denial_of};
+
+use crate::asked::Asked;
+use crate::verdict::Reason;
+use candidate_order::{Candidate, OutOfMemory, Point};
+use collective_spec::{Instance, spec_demand, spec_instance};
+use inversion::{SumVerdict, sums};
+use schedule::{Verdict, solves};
+use std::alloc::Global;
+
+/// The first point whose schedule does not do what is asked. The only error is want of memory.
+pub(crate) fn points_denied(
+    alloc: Global,
+    asked: &Asked,
+    points: &[Point],
+) -> Result<Option<(Reason, Candidate)>, OutOfMemory>
+    requires { All (IsPoint asked.now) points.now }
+    ensures { IfOk result (λ denied. denied ≡ denial_of (each (point_checked asked.now) points.now)) }
+{
+    for point in points {
+        if !is_solution(alloc, asked, point)? {
+            return Ok(Some((Reason::ScheduleWrong, point.candidate())));
+        }
+    }
+    Ok(None)
+}
+
+/// Whether a point's schedule solves what is asked, or sums it. The only error is want of memory.
+fn is_solution(alloc: Global, asked: &Asked, point: &Point) -> Result<bool, OutOfMemory>
+    requires { IsPoint asked.now point.now }
+    ensures { IfOk result (λ solution. solution ≡ is_solution asked.now point.now) }
+{
+    if asked.spec().adds_up() {
+        does_sum(alloc, asked, point)
+    } else {
+        does_solve(alloc, asked, point)
+    }
+}
+
+/// Whether a point's schedule brings each chunk where it has to be. The only error is want of memory.
+fn does_solve(alloc: Global, asked: &Asked, point: &Point) -> Result<bool, OutOfMemory>
+    requires point { IsPoint asked.now point.now }
+    requires copies { adds_up asked.now.spec ≡ false }
+    ensures { IfOk result (λ solution. solution ≡ is_solution asked.now point.now) }
+{
+    let topology = asked.topology();
+    let Instance { pre, post, .. } = spec_instance(
+        alloc,
+        asked.spec(),
+        topology.nodes(),
+        point.candidate().c,
+    )?;
+    let verdict = solves(alloc, topology, &pre, &post, point.schedule())?;
+    Ok(matches!(verdict, Verdict::Solves))
+}
+
+/// Whether a point's schedule sums what is demanded. The only error is want of memory.
+fn does_sum(alloc: Global, asked: &Asked, point: &Point) -> Result<bool, OutOfMemory>
+    requires point { IsPoint asked.now point.now }
+    requires adds { adds_up asked.now.spec ≡ true }
+    ensures { IfOk result (λ solution. solution ≡ is_solution asked.now point.now) }
+{
+    let topology = asked.topology();
+    let demand = spec_demand(alloc, asked.spec(), topology.nodes(), point.candidate().c)?;
+    let verdict = sums(alloc, topology, &demand, point.schedule())?;
+    Ok(matches!(verdict, SumVerdict::Sums))
+}

@@ -1,0 +1,10 @@
+-- What a search keeps beside its core.
+use Rattle.std.specs.Prelude.{◌≡◌, length}
+use Rattle.trail_core.specs.Meaning.{CoreValue}
+use Rattle.sat_core.specs.declared.guide.Guide.{Guide}
+use Rattle.sat_core.specs.Met.{IsRested}
+
+-- its tables are of the core's variables, and no mark is of the next analysis
+pub record IsGuided (core : CoreValue) (guide : Guide) : Type 0 where
+  pub rested : IsRested core.vars (length core.clauses) guide.walk.marks.items
+  pub decider : guide.decider ≡ core.vars
