@@ -1,0 +1,4 @@
+"""A second implementation of the texts of docs/FORMATS.md and of what docs/DEFINITIONS.md says of them, for tests alone.
+
+It is written from these two documents, plainly and slowly, and knows nothing of the program.
+"""

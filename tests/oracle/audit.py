@@ -1,0 +1,130 @@
+"""What `check` answers to a report and the files beside it."""
+from .collective import ADDING, allows, chunks, of_part
+from .formula import Formula
+from .proof import is_refutation, is_spent_log
+from .replay import Replay
+from .report import Frontier, Report, in_search_order, whole_report
+from .texts import Refused
+
+LIMIT, LARGEST, LONGEST = 1048576, 2000000, 281474976710656
+VERIFIED = 0, b"verified\n"
+
+
+def refused(status, code, place):
+    return status, f"refused {status} {code} {place}\n".encode()
+
+
+class Denied(Exception):
+    """A check of an audit fails, for this reason and at this candidate, whose word has its part in front."""
+
+    def __init__(self, reason, part, candidate):
+        self.reason, self.word = reason, "-".join(map(str, candidate) if part == "whole" else map(str, [part, *candidate]))
+
+
+def checked(text, files):
+    """The status and the output of `check`; files are bytes by name."""
+    if len(text) > LIMIT:
+        return refused(11, 0, LIMIT)
+    try:
+        report = whole_report(text)
+    except Refused as why:
+        return refused(7, why.code, why.line)
+    if size(report) > LARGEST:
+        return refused(9, 0, size(report))
+    if not list(counts(report, report.kind)):
+        return refused(10, 0, 0)
+    try:
+        for part, frontier in report.frontiers.items():
+            Part(report, part, frontier, files).check()
+        if report.kind == "allreduce":
+            check_joined(report)
+    except Denied as why:
+        return refused(8, why.reason, why.word)
+    return VERIFIED
+
+
+def size(report):
+    most, steps = chunks(report.kind, report.topology, report.limits["chunks"]), report.limits["steps"]
+    groups = sum(len(links) * most * steps * (1 + width * (1 + report.limits["k"])) for width, links in report.topology.groups)
+    return most * len(report.topology.usable()) * steps + groups
+
+
+def counts(report, kind):
+    return (it for it in range(1, report.limits["chunks"] + 1) if allows(kind, len(report.topology.names), it))
+
+
+def is_no_worse(one, other):
+    return one[0] <= other[0] and one[1] * other[2] <= other[1] * one[2]
+
+
+def is_better(one, other):
+    return is_no_worse(one, other) and not is_no_worse(other, one)
+
+
+class Part:
+    """A frontier of a report, with the files of its candidates."""
+
+    def __init__(self, report, part, frontier, files):
+        self.report, self.part, self.frontier, self.files = report, part, frontier, files
+        self.kind = of_part(report.kind, part)
+
+    def need(self, test, reason, candidate):
+        if not test:
+            raise Denied(reason, self.part, candidate)
+
+    def check(self):
+        frontier, places = self.frontier, [it for _, it in self.report.points()]
+        for point in frontier.points:
+            number = 1 + next(place for place, it in enumerate(places) if it is point)
+            self.need(Replay(self.report, number).verdict() == "holds", 1, point.candidate)
+        for it in frontier.refuted:
+            self.check_refuted(it)
+        for it in frontier.unknown:
+            log = self.file(it, "partial")
+            self.need(len(log) <= LONGEST and is_spent_log(self.formula(it)[1], self.report.limits["conflicts"], log), 7, it)
+        for it in self.within():
+            listed = it in frontier.refuted or it in frontier.unknown
+            self.need(listed or any(is_no_worse(point.candidate, it) for point in frontier.points), 3, it)
+        for point in frontier.points:
+            is_optimal = all(it in frontier.refuted for it in self.within() if is_better(it, point.candidate))
+            self.need(point.mark == ("optimal" if is_optimal else "open"), 2, point.candidate)
+
+    def file(self, candidate, kind):
+        word = "-".join(map(str, candidate)) + "." + kind
+        name = word if self.part == "whole" else f"{self.part}-{word}"
+        self.need(name in self.files, 4, candidate)
+        return self.files[name]
+
+    def formula(self, candidate):
+        found = Formula(self.kind, self.report.root, self.report.topology, candidate)
+        return found.text(), (found.variables, found.clauses)
+
+    def check_refuted(self, it):
+        text, formula = self.formula(it)
+        self.need(self.file(it, "cnf") == text, 6, it)
+        proof = self.file(it, "lrat")
+        self.need(len(proof) <= LONGEST and is_refutation(formula, proof), 5, it)
+
+    def within(self):
+        """The candidates within the limits, in the order of the search."""
+        steps, k = self.report.limits["steps"], self.report.limits["k"]
+        found = [(s, r, c) for s in range(1, steps + 1) for r in range(s, s + k + 1) for c in counts(self.report, self.kind)]
+        return sorted(found, key=in_search_order)
+
+
+def check_joined(report):
+    """The joined points are the joins of each point that reduces with each that gathers as many chunks, in order, and each sums."""
+    due = [joined(a, b) for a in report.frontiers["reduce"].points for b in report.frontiers["gather"].points if a.candidate[2] == b.candidate[2]]
+    for place, it in enumerate(due):
+        alone = Report(report.kind, report.limits, report.root, report.topology, {"whole": Frontier()}, [it])
+        if Replay(alone, 1).verdict() != "holds" or report.joined[place:place + 1] != [it]:
+            raise Denied(8, "joined", it.candidate)
+    if len(report.joined) > len(due):
+        raise Denied(8, "joined", report.joined[len(due)].candidate)
+
+
+def joined(a, b):
+    steps = a.candidate[0]
+    later = [(step + steps, *rest) for step, *rest in b.sends]
+    candidate = steps + b.candidate[0], a.candidate[1] + b.candidate[1], a.candidate[2]
+    return type(a)(candidate, "joined", a.rounds + b.rounds, a.sends + later, steps)
