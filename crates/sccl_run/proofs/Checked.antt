@@ -58,6 +58,3 @@ refused_audits due why status text files e = λ other is. let f : Err why ≡ Ok
 
 pub audits_as : (x y : Result Task Refusal) (status : Status) (text : List ℕ) (files : Files) → x ≡ y → AuditsDue y status text files → AuditsDue x status text files
 audits_as x y status text files e audits = subst (λ due. AuditsDue due status text files) (sym e) audits
-
-pub not_refused : (due : Result Task Refusal) (t : Task) → due ≡ Ok t → (r : Refusal) → due ≡ Err r → ⊥
-not_refused due t e r f = let g : Ok t ≡ Err r = sym e ∙ f in absurd (cc)

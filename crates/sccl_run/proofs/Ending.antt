@@ -3,7 +3,6 @@ use Rattle.std.proofs.Common.{◌≡◌, ◌≢◌, ◌++◌, ℕ, suc, List, �
 use Rattle.outer_ports.specs.Port.{Rose}
 use Rattle.command_words.specs.declared.command.Command.{Command}
 use Rattle.command_words.specs.declared.command.Command.TheVariants as command
-use Rattle.command_words.specs.declared.fault.WordFault.{WordFault}
 use Rattle.command_words.specs.Words.{command_of}
 use Rattle.report_form.specs.Reports.{ReportValue}
 use Rattle.sccl_run.specs.declared.status.Status.{Status}
@@ -89,16 +88,6 @@ long_ends_so c status reads e = subst (Ends (Ok c)) (sym e) (record { one = may_
     may_be_long (command.Family kind size) reads = absurd reads
     may_be_long (command.Trial n) reads = absurd reads
 
-pub words_end_so : (words : List (List ℕ)) (fault : WordFault) (status : Status) → command_of words ≡ Err fault → status ≡ BadWords → Ends (command_of words) status
-words_end_so words fault status refused e =
-    let own : Ends (Err fault) BadWords = record { one = (0, omega arith, refl); given = words_given } in
-    subst (λ x. Ends x status) (sym refused) (subst (Ends (Err fault)) (sym e) own)
-
-pub family_ends_so : (words : List (List ℕ)) (kind : _) (size : ℕ) (status : Status) → command_of words ≡ Ok (command.Family kind size) → status ≡ Done → Ends (command_of words) status
-family_ends_so words kind size status family e =
-    let own : Ends (Ok (command.Family kind size)) Done = record { one = (0, omega arith, refl); given = done_given } in
-    subst (λ x. Ends x status) (sym family) (subst (Ends (Ok (command.Family kind size))) (sym e) own)
-
 -- ---- every run
 
 behind_two : (a b x : Status) (xs : List Status) → Contains xs x → Contains (a ∷ b ∷ xs) x
@@ -170,18 +159,6 @@ module _ (words : List (List ℕ)) (source sink shelf : CountValue) (SourceStays
     unread = unread;
     unopened = unopened;
     silent = λ silent. absurd (heard silent);
-  }
-
-  pub call_without_memory : source.now ≡ source.before → sink.now ≡ sink.before → shelf.now ≡ shelf.before → SinkStays → (¬ Ask Reads words → SourceStays) → (¬ Ask Opens words → ShelfStays)
-      → IsCall words OutOfMemory source sink shelf SourceStays SinkStays ShelfStays
-  call_without_memory read written kept stays unread unopened = record {
-    ends = (0, omega arith, refl);
-    source_fails = quiet SourceFailed OutOfMemory source (λ e. cc) read;
-    sink_fails = quiet SinkFailed OutOfMemory sink (λ e. cc) written;
-    shelf_fails = quiet ShelfFailed OutOfMemory shelf (λ e. cc) kept;
-    unread = unread;
-    unopened = unopened;
-    silent = λ _. stays;
   }
 
   pub call_unread : Ask Reads words → Rose source.before source.now → sink.now ≡ sink.before → shelf.now ≡ shelf.before → SinkStays → ShelfStays
@@ -270,13 +247,6 @@ module _ (words : List (List ℕ)) (bytes : List ℕ) where
     shelf_last = λ r _ e. ends.given (inr (inr (inr e)));
   }
 
-  pub status_free : (status : Status) → IsFree status → status ≢ ShelfFailed → StatusIsDue words bytes status
-  status_free status free shelf = record { refused = λ r _. inr free; done = λ t _. ends_freely t status free; shelf_last = λ r _. shelf }
-
-  -- the shelf failed behind every refusal
-  pub status_unshelved : ((r : Refusal) → due words bytes ≡ Err r → ⊥) → StatusIsDue words bytes ShelfFailed
-  status_unshelved last = record { refused = λ r e. absurd (last r e); done = λ t _. ends_freely t ShelfFailed (inr (inr (inr refl))); shelf_last = λ r e. absurd (last r e) }
-
   pub text_ended : (before now : List ℕ) (status : Status) (text : List ℕ) → Ends (command_of words) status → Says (due words bytes) status text → now ≡ before ++ text → TextIsDue words bytes before now status
   text_ended before now status text ends says written = record {
     line = λ r e _. written ∙ ap (λ end. before ++ end) (says_refused _ status text r says e).1;
@@ -304,14 +274,6 @@ module _ (words : List (List ℕ)) (bytes : List ℕ) where
   pub text_unread : (before now : List ℕ) → TextIsDue words bytes before now SourceFailed
   text_unread before now = record {
     line = λ r e s. absurd (never_free words bytes r e (inr (inl (sym s))));
-    owed = λ t _ s. absurd (cc);
-    denial = λ r _ s. absurd (cc);
-    prefix = λ s. absurd (cc);
-  }
-
-  pub text_unshelved : (before now : List ℕ) → TextIsDue words bytes before now ShelfFailed
-  text_unshelved before now = record {
-    line = λ r e s. absurd (never_free words bytes r e (inr (inr (inr (sym s)))));
     owed = λ t _ s. absurd (cc);
     denial = λ r _ s. absurd (cc);
     prefix = λ s. absurd (cc);

@@ -83,10 +83,6 @@ module _ (words : List (List ℕ)) (bytes before now : List ℕ) (files after : 
   unfolding WritesProved WritesAudit
   files_broken status free broken unchanged unread begins = files_due status unchanged unread begins (λ w t asks done. absurd (broken done)) (λ r e. inr (free, broken))
 
--- a shelf that is as it was has its files
-pub files_kept : {H : Type 0} (file : H → Files) (a b : H) → b ≡ a → FilesStay (file a) (file b)
-files_kept file a b e name = ap (λ shelf. file shelf name) e
-
 -- ---- what is owed of the files for the same due
 
 pub begins_as : (x y : Result Task Refusal) (files after : Files) → x ≡ y → BeginsDue y files after → BeginsDue x files after
@@ -94,10 +90,6 @@ begins_as x y files after e begins = subst (λ due. BeginsDue due files after) (
 
 pub proves_as : (x y : Result Task Refusal) (text : List ℕ) (files after : Files) → x ≡ y → ProvesDue y text files after → ProvesDue x text files after
 proves_as x y text files after e proves = subst (λ due. ProvesDue due text files after) (sym e) proves
-
--- what touches no file begins none, and proves what is no search
-pub nothing_begun : (x : Result Task Refusal) (files after : Files) → FilesStay files after → BeginsDue x files after
-nothing_begun x files after stay = record { refused = λ r _. stay; begun = λ w t _ name. inl (stay name) }
 
 nothing_proved : (x : Result Task Refusal) (text : List ℕ) (files after : Files) → ((w : WordsValue) (t : NamedTopologyValue) → x ≡ Ok (Synthesise w t) → ⊥) → ProvesDue x text files after
 nothing_proved x text files after other w t e = absurd (other w t e)

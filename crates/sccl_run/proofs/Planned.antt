@@ -1,5 +1,5 @@
 -- What is due for the words of a search, check by check.
-use Rattle.std.proofs.Common.{◌≡◌, ◌≤◌, ◌⊎◌, inl, inr, ℕ, Bool, true, false, not, length, List, Option, Result, Ok, Err, sym, subst, ap, ◌∙◌}
+use Rattle.std.proofs.Common.{◌≡◌, ◌≤◌, ◌⊎◌, inl, inr, ℕ, Bool, true, false, not, length, List, Option, Result, Ok, Err, ap, ◌∙◌}
 use Rattle.text_lines.specs.Check.{◌>>=◌, refuse}
 use Rattle.collective_spec.specs.declared.kind.Kind.{Kind}
 use Rattle.collective_spec.specs.Collectives.{fits_kind}
@@ -11,20 +11,12 @@ use Rattle.topology_text.specs.Answer.{code_number as topology_number}
 use Rattle.topology_text.specs.Reading.{topology_of}
 use Rattle.command_words.specs.declared.command.RootWord.{RootWord}
 use Rattle.report_form.specs.Reports.{WordsValue}
-use Rattle.sccl_run.specs.declared.planning.Plan.{Plan}
 use Rattle.sccl_run.specs.declared.status.Status.TheVariants.{BadWords, BadTopology}
 use Rattle.sccl_run.specs.Refusals.{Refusal, refused_as, refused_at}
 use Rattle.sccl_run.specs.Tasks.{Task, Synthesise, limit, root_in, search_for, search_over, searchable, synthesis_of, whole_question, words_for}
-use Rattle.sccl_run.specs.Plans.{IsPlanned}
 use Rattle.sccl_run.proofs.ReportsDue.{short_passes}
 
-pub planned_as : (x y : Result Task Refusal) (p : Plan) → x ≡ y → IsPlanned y p → IsPlanned x p
-planned_as x y p e planned = subst (λ due. IsPlanned due p) (sym e) planned
-
 -- ---- what can be searched is due
-
-pub can_search : (w : WordsValue) (t : NamedTopologyValue) → searchable (whole_question w t) ≡ Ok tt → search_for w t ≡ Ok (Synthesise w t)
-can_search w t e = ap (λ x. x >>= (λ _. Ok (Synthesise w t))) e
 
 pub cannot_search : (w : WordsValue) (t : NamedTopologyValue) (r : Refusal) → searchable (whole_question w t) ≡ Err r → search_for w t ≡ Err r
 cannot_search w t r e = ap (λ x. x >>= (λ _. Ok (Synthesise w t))) e
@@ -61,10 +53,6 @@ module _ (kind : Kind) (word : ℕ) (limits : LimitsValue) (root : Option RootWo
   sought_by : (x : Result NamedTopologyValue (TopologyCode × ℕ)) → length bytes ≤ limit → topology_of bytes ≡ x → synthesis_of kind word limits root bytes ≡ read_as x
   unfolding read_as
   sought_by x short e = ap (λ whole. whole >>= (λ _. read_as (topology_of bytes))) (short_passes bytes short) ∙ ap read_as e
-
-  pub sought_over : (t : NamedTopologyValue) → length bytes ≤ limit → topology_of bytes ≡ Ok t → synthesis_of kind word limits root bytes ≡ search_over kind word limits root t
-  unfolding read_as
-  sought_over t short e = sought_by (Ok t) short e
 
   pub no_topology : (code : TopologyCode) (line : ℕ) → length bytes ≤ limit → ((code ≡ OutOfMemory) × (line ≡ 0)) ⊎ (topology_of bytes ≡ Err (code, line)) → (code ≡ OutOfMemory → ⊥)
       → synthesis_of kind word limits root bytes ≡ Err (refused_at BadTopology (topology_number code) line)

@@ -15,13 +15,11 @@ use Rattle.report_form.specs.Reading.{report_of}
 use Rattle.report_form.proofs.ReportTaken.{report_take}
 use Rattle.report_laws.proofs.ReportAgain.{report_again}
 use Rattle.report_laws.proofs.FirstBlamed.{first_is_blamed}
-use Rattle.sccl_run.specs.declared.status.Status.{Status}
 use Rattle.sccl_run.specs.declared.status.Status.TheVariants.{BadWords, BadReport}
-use Rattle.sccl_run.specs.Answering.{Says}
 use Rattle.sccl_run.specs.Refusals.{Refusal, refused_at, refused_as}
 use Rattle.sccl_run.specs.Tasks.{Task, Replay, due, limit, read_report, replay_in, replayed, whole_text}
 use Rattle.sccl_run.specs.Reporting.{AskReplay, IsRefusedText, IsTextOf}
-use Rattle.sccl_run.proofs.DueWords.{due_command, says_as}
+use Rattle.sccl_run.proofs.DueWords.{due_command}
 
 -- a text that is not too long passes
 pub short_passes : (bytes : List ℕ) → length bytes ≤ limit → whole_text bytes ≡ Ok tt
@@ -80,17 +78,7 @@ module _ (words : List (List ℕ)) (number word : ℕ) (order : Option ℕ) (ask
 
 -- ---- as the code has it: a report that was read, and what is done with it
 
-pub read_spelled : (bytes : List ℕ) (r : ReportValue) → length bytes ≤ limit → report_of bytes ≡ Ok r → read_report bytes ≡ Ok r
-read_spelled bytes r short e = report_due bytes (Ok r) short e
-
 pub read_refused : (bytes : List ℕ) (code : ReportCode) (line : ℕ) → length bytes ≤ limit → ((code ≡ OutOfMemory) × (line ≡ 0)) ⊎ (report_of bytes ≡ Err (code, line)) → code ≢ OutOfMemory
     → read_report bytes ≡ Err (refused_at BadReport (code_number code) line)
 read_refused bytes code line short (inl memory) other = absurd (other memory.0)
 read_refused bytes code line short (inr e) other = report_due bytes (Err (code, line)) short e
-
--- what is said of the report that was read is said of its text
-pub said_of_text : {A : Type 0} (f : A → Result Task Refusal) (read : Result A Refusal) (r : A) (status : Status) (text : List ℕ) → read ≡ Ok r → Says (f r) status text → Says (read >>= f) status text
-said_of_text f read r status text e says = says_as _ _ status text (ap (λ x. x >>= f) e) says
-
-pub refused_of_text : {A : Type 0} (f : A → Result Task Refusal) (read : Result A Refusal) (r : Refusal) (status : Status) (text : List ℕ) → read ≡ Err r → Says (Err r) status text → Says (read >>= f) status text
-refused_of_text f read r status text e says = says_as _ _ status text (ap (λ x. x >>= f) e) says

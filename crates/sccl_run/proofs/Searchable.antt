@@ -1,6 +1,6 @@
 -- Whether a search can be done, check by check.
-use Rattle.std.proofs.Common.{◌≡◌, ◌<◌, ◌≤◌, ◌==◌, ℕ, Bool, true, false, nat_lt, length, List, Result, Ok, Err, refl, sym, subst, ap, ◌∙◌}
-use Rattle.std.proofs.lemmas.Bool.{lt-ltb, le-ltb, ltb-false}
+use Rattle.std.proofs.Common.{◌≡◌, ◌<◌, ◌≤◌, ◌==◌, ℕ, Bool, true, length, List, Result, Err, sym, subst, ap, ◌∙◌}
+use Rattle.std.proofs.lemmas.Bool.{lt-ltb, le-ltb}
 use Rattle.text_lines.specs.Check.{◌>>=◌, refuse}
 use Rattle.schedule.specs.Links.{TopologyValue}
 use Rattle.collective_spec.specs.declared.collective.Collective.{Collective}
@@ -32,16 +32,6 @@ module _ (q : QuestionValue) where
   by_counts : (none : Bool) → size_of q ≤ size_limit → (length (counts_of q) == 0) ≡ none → searchable q ≡ refuse none (refused_at NoCandidate 0 0)
   unfolding behind_size
   by_counts none small e = ap behind_size (le-ltb size_limit (size_of q) small) ∙ ap (λ b. refuse b (refused_at NoCandidate 0 0)) e
-
-  small_by : (large : Bool) → nat_lt size_limit (size_of q) ≡ large → behind_size large ≡ Ok tt → size_of q ≤ size_limit
-  unfolding behind_size
-  small_by true test e = absurd (cc)
-  small_by false test e = ltb-false size_limit (size_of q) test
-
-  -- what can be searched is small enough
-  pub small_enough : searchable q ≡ Ok tt → size_of q ≤ size_limit
-  unfolding behind_size
-  small_enough e = small_by (nat_lt size_limit (size_of q)) refl e
 
 -- ---- as the code has it: the parts of the words and of the topology
 
