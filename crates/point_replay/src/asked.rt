@@ -2,9 +2,8 @@
 
 ghost use Rattle.std.specs.Prelude.{◌≡◌, ◌&&◌, not, IfOk, length};
 ghost use Rattle.collective_spec.specs.Collectives.{adds_up};
-ghost use Rattle.candidate_order.specs.Frontiers.{PointValue};
 ghost use Rattle.report_form.specs.Reports.{IsReport, question_of};
-ghost use Rattle.point_replay.specs.Showing.{is_copied, is_joined, shown_in, steps_that_add};
+ghost use Rattle.point_replay.specs.Showing.{is_joined, steps_that_add};
 
 use crate::OutOfMemory;
 use candidate_order::{Mark, Point};
@@ -61,12 +60,4 @@ pub(crate) fn steps_that_add(point: &Point) -> u8
         Mark::Joined { adding } => adding,
         Mark::Optimal | Mark::Open => point.schedule().rounds().len() as u8,
     }
-}
-
-/// Whether the points of this part copy, and do not add up what the nodes contribute. The only error is want of memory.
-pub fn is_copied_part(report: &Report, part: Part) -> Result<bool, OutOfMemory>
-    ensures { IfOk result (λ copied. (p : PointValue) → copied ≡ is_copied (shown_in report.now (part, p))) }
-{
-    let spec = spec_of_part(report, part)?;
-    Ok(copies(part, &spec))
 }

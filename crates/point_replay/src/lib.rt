@@ -13,8 +13,7 @@ mod vectors;
 mod verdicts;
 mod words;
 
-pub use asked::is_copied_part;
-pub use point::{replay_copied_point, replay_point};
+pub use point::replay_point;
 pub use programs::print_point_programs;
 pub use running::run_point;
 pub use std::alloc::AllocError as OutOfMemory;

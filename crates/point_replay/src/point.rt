@@ -1,6 +1,6 @@
 //! The replay of a point of a report.
 
-ghost use Rattle.std.specs.Prelude.{◌≡◌, ◌++◌, true, false, None, Some, IfOk, IfSome, IfNone, OnOk};
+ghost use Rattle.std.specs.Prelude.{◌≡◌, ◌++◌, true, false, Some, IfOk, OnOk};
 ghost use Rattle.schedule.specs.Sends.{IsInRange};
 ghost use Rattle.report_form.specs.Numbered.{point_at};
 ghost use Rattle.text_lines.specs.Text.{text_of};
@@ -8,7 +8,7 @@ ghost use Rattle.point_replay.specs.Showing.{adding_of, chunks_at, is_copied, sh
 ghost use Rattle.point_replay.specs.Points.{IsShowable, body_lines};
 
 use crate::OutOfMemory;
-use crate::asked::{copies, is_copied_part, is_joined, spec_of_part, steps_that_add};
+use crate::asked::{copies, is_joined, spec_of_part, steps_that_add};
 use crate::runs::{push_placed_run, push_stored_run};
 use crate::words::push_numbered;
 use allreduce_join::all_summed;
@@ -150,24 +150,4 @@ pub fn replay_point(
     push_body(alloc, &mut out, report, part, point, &spec, order)?;
     push_word(&mut out, b"end\n")?;
     Ok(out)
-}
-
-/// The replay of a point that copies, without an order. `None` where the point adds up.
-pub fn replay_copied_point(
-    alloc: Global,
-    report: &Report,
-    number: u32,
-    part: Part,
-    point: &Point,
-) -> Result<Option<Vec<u8>>, OutOfMemory>
-    requires { point_at report.now number ≡ Some (part, point.now) }
-    ensures copied { IfOk result (λ text. IfSome text (λ text. (is_copied (shown_in report.now (part, point.now)) ≡ true) × (text.items ≡ shown_text number (shown_in report.now (part, point.now)) None))) }
-    ensures adds { IfOk result (λ text. IfNone text (is_copied (shown_in report.now (part, point.now)) ≡ false)) }
-{
-    if is_copied_part(report, part)? {
-        let text = replay_point(alloc, report, number, part, point, None)?;
-        Ok(Some(text))
-    } else {
-        Ok(None)
-    }
 }

@@ -32,10 +32,6 @@ pub record EndsIfItFails (failed status : Status) (count : CountValue) : Type 0 
   pub only : status ≡ failed → Rose count.before count.now
   pub kept : status ≢ failed → count.now ≡ count.before
 
--- where there is no shelf, nothing of it fails
-abbrev pub no_shelf : CountValue
-no_shelf = record { before = 0; now = 0 }
-
 -- the statuses with which the words can end, beside want of memory and a failing sink
 abbrev pub ends_of : Result Command WordFault → List Status
 ends_of (Err fault) = BadWords ∷ []

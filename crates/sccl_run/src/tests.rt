@@ -10,6 +10,7 @@ mod families;
 mod numbers;
 mod ports;
 mod programs;
+mod proofs;
 mod ranges;
 mod refusals;
 mod replays;

@@ -10,17 +10,17 @@ use std::process::Abort;
 use std::test::Fail;
 
 /// A refutation of one step.
-const PROOF: &[u8] = b"34 0 2 3 9 16 24 0\n";
+pub const PROOF: &[u8] = b"34 0 2 3 9 16 24 0\n";
 
 /// A change of a report: its old part, and the new one.
-type Change = (&'static [u8], &'static [u8]);
+pub type Change = (&'static [u8], &'static [u8]);
 
 /// The files of the candidate of one step.
-type Files = &'static [(FileKind, &'static [u8])];
+pub type Files<'a> = &'a [(FileKind, &'static [u8])];
 
 /// Checks a report beside files of the candidate of one step, on a shelf that moves pieces of this size, and compares the
 /// line that is written.
-fn checks(
+pub fn checks(
     rt: &(impl Abort + AllocGlobal),
     piece: usize,
     report: &[u8],
@@ -52,10 +52,10 @@ const OTHER_FORMULA: &[u8] =
     b"p cnf 18 33\n-1 0\n-3 0\n-5 0\n-1 2 0\n-3 4 0\n-5 6 0\n2 0\n4 0\n6 0\n-7 1 0\n-7 -3 0\n-7 4 0\n-8 3 0\n-8 -1 0\n-8 2 0\n-9 3 0\n-9 -5 0\n-9 6 0\n-10 5 0\n-10 -3 0\n-10 4 0\n1 -2 8 0\n3 -4 7 10 0\n5 -6 9 0\n-7 -10 0\n-7 11 0\n-12 0\n-8 13 0\n-14 0\n-9 15 0\n-16 0\n-10 17 0\n-18 0\n";
 
 /// The formula and the refutation.
-const BOTH: Files = &[(FileKind::Cnf, ONE_STEP), (FileKind::Lrat, PROOF)];
+pub const BOTH: Files = &[(FileKind::Cnf, ONE_STEP), (FileKind::Lrat, PROOF)];
 
 /// The candidate of one step is unknown, and so the point is open.
-const UNKNOWN: Change = (
+pub const UNKNOWN: Change = (
     b"optimal\nrounds 1 1\nsend 0 n0 n1 1\nsend 0 n1 n2 2\nrefuted 1 1 1\n",
     b"open\nrounds 1 1\nsend 0 n0 n1 1\nsend 0 n1 n2 2\nunknown 1 1 1 1000\n",
 );

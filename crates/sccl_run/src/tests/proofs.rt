@@ -1,0 +1,133 @@
+//! Proofs and logs that others wrote, as a check takes them, and shelves that fail it.
+
+use super::checks::{BOTH, PROOF, checks};
+use super::reports::RELAY;
+use super::search_files::{ONE_STEP, first};
+use super::{changed, words};
+use crate::{Status, run};
+use outer_ports::{FileKind, MemoryShelf, MemorySink, SureSource};
+use std::alloc::AllocError;
+use std::process::Abort;
+use std::test::Fail;
+
+const PIECES: [usize; 3] = [1, 7, 4096];
+
+/// Checks the relay's report beside its formula and this proof.
+fn takes(
+    rt: &(impl Abort + AllocGlobal),
+    proof: &'static [u8],
+    line: &[u8],
+) -> Result<(), AllocError> {
+    let files = vec![in rt.alloc(); (FileKind::Cnf, ONE_STEP), (FileKind::Lrat, proof)]?;
+    for piece in PIECES {
+        checks(rt, piece, RELAY, &files, line)?;
+    }
+    Ok(())
+}
+
+#[test]
+fn proofs_of_others(rt: HostRuntime) -> Result<(), Fail> {
+    // a comment, blanks, a carriage return, no line feed at the end, a deletion, and two lines that are redundant
+    let taken: [&[u8]; 7] = [
+        b"c made elsewhere\n34 0 2 3 9 16 24 0\n",
+        b" 34\t0  2 3 9 16 24 0 \n\n",
+        b"34 0 2 3 9 16 24 0\r\n",
+        b"34 0 2 3 9 16 24 0",
+        b"34 d 1 0\n34 0 2 3 9 16 24 0\n",
+        b"34 -18 0 0\n35 0 2 3 9 16 24 0\n",
+        b"34 -17 0 -32 19 3 0\n35 0 2 3 9 16 24 0\n",
+    ];
+    for proof in taken {
+        takes(&rt, proof, b"verified\n")?;
+    }
+    // no closing zero, a token too many, a group of a line without a literal, a line behind the last, a number that is not
+    // greater, deletions of what is needed and of what is not held, and a group that is lacking
+    let refused: [&[u8]; 8] = [
+        b"34 0 2 3 9 16 24\n",
+        b"34 0 2 3 9 16 24 0 0\n",
+        b"34 0 2 3 9 16 -24 0\n",
+        b"34 0 2 3 9 16 24 0\nx\n",
+        b"33 0 2 3 9 16 24 0\n",
+        b"34 d 2 0\n34 0 2 3 9 16 24 0\n",
+        b"34 d 34 0\n34 0 2 3 9 16 24 0\n",
+        b"34 -17 0 0\n35 0 2 3 9 16 24 0\n",
+    ];
+    for proof in refused {
+        takes(&rt, proof, b"refused 8 5 1-1-1\n")?;
+    }
+    Ok(())
+}
+
+/// The words of a report's limit, and the lines of its point's mark and of its unknown candidate.
+type Given = (&'static [u8], &'static [u8]);
+
+const ONE: Given = (
+    b"conflicts=1 ",
+    b"open\nrounds 1 1\nsend 0 n0 n1 1\nsend 0 n1 n2 2\nunknown 1 1 1 1\n",
+);
+
+const TWO: Given = (
+    b"conflicts=2 ",
+    b"open\nrounds 1 1\nsend 0 n0 n1 1\nsend 0 n1 n2 2\nunknown 1 1 1 2\n",
+);
+
+#[test]
+fn logs(rt: HostRuntime) -> Result<(), Fail> {
+    let table: [(Given, &[u8], &[u8]); 6] = [
+        (ONE, b"34 -9 0 2 16 0\n", b"verified\n"),
+        (TWO, b"34 -9 0 2 16 0\n35 -8 0 2 13 0\n", b"verified\n"),
+        (
+            TWO,
+            b"34 -9 0 2 16 0\n35 -9 -8 0 2 16 0\n",
+            b"refused 8 7 1-1-1\n",
+        ),
+        (TWO, b"34 -9 0 2 16 0\n", b"refused 8 7 1-1-1\n"),
+        (ONE, b"34 d 1 0\n", b"refused 8 7 1-1-1\n"),
+        (ONE, PROOF, b"refused 8 7 1-1-1\n"),
+    ];
+    let alloc = rt.alloc();
+    let old = b"optimal\nrounds 1 1\nsend 0 n0 n1 1\nsend 0 n1 n2 2\nrefuted 1 1 1\n";
+    for ((limit, given), log, line) in table {
+        let limited = changed(alloc, RELAY, b"conflicts=1000 ", limit)?;
+        let report = changed(alloc, &limited, old, given)?;
+        let files = vec![in alloc; (FileKind::Partial, log)]?;
+        for piece in PIECES {
+            checks(&rt, piece, &report, &files, line)?;
+        }
+    }
+    Ok(())
+}
+
+/// The status of the check of the relay's report, where this call of the shelf fails, which moves pieces of this size.
+fn fails(rt: &(impl Abort + AllocGlobal), piece: usize, call: u64) -> Result<Status, AllocError> {
+    let alloc = rt.alloc();
+    assert!(rt; piece >= 1);
+    let words = words(alloc, &["check"])?;
+    let mut source = SureSource::new(Vec::from_slice(alloc, RELAY)?);
+    let mut sink = MemorySink::new(alloc, 4096, Vec::new(alloc))?;
+    let mut shelf = MemoryShelf::new(alloc, piece, vec![in alloc; call]?)?;
+    for (kind, bytes) in BOTH {
+        shelf.set(first(*kind), Vec::from_slice(alloc, bytes)?)?;
+    }
+    let status = run(alloc, &words, &mut source, &mut sink, &mut shelf);
+    assert_eq!(rt; sink.bytes().is_empty(), status == Status::ShelfFailed);
+    Ok(status)
+}
+
+#[test]
+fn shelves_that_fail(rt: HostRuntime) -> Result<(), Fail> {
+    for piece in PIECES {
+        // the reading that meets the end of a file is one more
+        let calls = (ONE_STEP.len().div_ceil(piece) + PROOF.len().div_ceil(piece)) as u64 + 2;
+        for call in 0..calls + 2 {
+            let status = fails(&rt, piece, call)?;
+            let due = if call < calls {
+                Status::ShelfFailed
+            } else {
+                Status::Done
+            };
+            assert_eq!(rt; status, due, "piece {piece}, call {call}");
+        }
+    }
+    Ok(())
+}
