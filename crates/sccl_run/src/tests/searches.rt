@@ -195,7 +195,7 @@ fn finds(
 
 #[test]
 fn frontiers(rt: HostRuntime) -> Result<(), Fail> {
-    let table: [([&str; 2], [&str; 4], &[u8], usize); 8] = [
+    let table: [([&str; 2], [&str; 4], &[u8], usize); 9] = [
         (
             ["kind=ring", "size=4"],
             ["collective=allgather", "k=1", "steps=3", "chunks=2"],
@@ -207,6 +207,12 @@ fn frontiers(rt: HostRuntime) -> Result<(), Fail> {
             ["collective=broadcast", "k=1", "steps=3", "chunks=2"],
             b"point 2 2 2 optimal\nrefuted 1 1 2\nrefuted 1 1 1\nrefuted 1 2 2\nrefuted 1 2 1\n",
             6,
+        ),
+        (
+            ["kind=ring", "size=4"],
+            ["collective=allreduce", "k=1", "steps=3", "chunks=2"],
+            b"point 2 3 2 optimal\nrefuted 1 1 2\nrefuted 1 1 1\nrefuted 1 2 2\nrefuted 1 2 1\nrefuted 2 2 2\npoint 2 3 2 optimal\nrefuted 1 1 2\nrefuted 1 1 1\nrefuted 1 2 2\nrefuted 1 2 1\nrefuted 2 2 2\npoint 4 6 2 joined 2\n",
+            96,
         ),
         (
             ["kind=ring", "size=4"],
