@@ -13,9 +13,9 @@ ghost use Rattle.frontier_audit.specs.Asked.{IsAsked};
 use candidate_formula::encode_candidate;
 use candidate_order::{Candidate, Limits, OutOfMemory};
 use cnf_formula::Formula;
-use collective_spec::{Collective, Kind, Spec};
+use collective_spec::Spec;
 use outer_ports::Part;
-use report_form::Report;
+use report_form::{Report, spec_of_part};
 use schedule::Topology;
 use std::alloc::Global;
 use std::marker::Model;
@@ -50,7 +50,7 @@ impl Asked {
         ensures { IfOk result (λ asked. asked ≡ question_of report.now.words report.now.topology part) }
     {
         let topology = report.topology().topology();
-        let spec = spec_of_part(report, part)?;
+        let spec = spec_of_part(report.words(), report.topology(), part)?;
         let searched = searched_on(topology, &spec)?;
         Ok(Asked {
             topology: copied(topology)?,
@@ -96,29 +96,6 @@ impl Asked {
         let encoding = encode_candidate(alloc, &self.searched, &self.spec, candidate)?;
         Ok(encoding.formula)
     }
-}
-
-/// What a part of a report asks for. The only error is want of memory.
-pub(crate) fn spec_of_part(report: &Report, part: Part) -> Result<Spec, OutOfMemory>
-    ensures { IfOk result (λ spec. spec ≡ (question_of report.now.words report.now.topology part).spec) }
-{
-    let whole = report.words().collective();
-    let kind = match part {
-        Part::Whole | Part::Joined => whole.kind,
-        Part::Reduce => Kind::Reducescatter,
-        Part::Gather => Kind::Allgather,
-    };
-    let pattern = match report.topology().custom() {
-        None => None,
-        Some(pattern) => Some(pattern.clone()?),
-    };
-    Ok(Spec::of(
-        Collective {
-            kind,
-            root: whole.root,
-        },
-        pattern,
-    ))
 }
 
 /// The links over which the formulas of what is asked for are: those of a reduction are turned round. The only error is

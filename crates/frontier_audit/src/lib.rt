@@ -8,7 +8,6 @@ mod files;
 mod joins;
 mod laws;
 mod parts;
-mod size;
 mod solutions;
 mod vectors;
 mod verdict;
@@ -20,7 +19,6 @@ pub use laws::{
     verified_is_right, verified_shelf_is_right,
 };
 pub use proof_audit::AuditFault;
-pub use size::search_size;
 pub use vectors::{
     allreduce_audited, altered_files_audited, candidates, copies_audited, formula_of_one_step,
     lines, order_of_audit, relay_audited, unknown_audited,

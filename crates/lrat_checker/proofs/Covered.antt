@@ -4,10 +4,12 @@ use Rattle.std.specs.Prelude.{◌&&◌, ◌||◌, Contains}
 use Rattle.std.specs.List.{list_any}
 use Rattle.std.proofs.lemmas.Bool.{false≢true, cases_Bool, cases_lt, and_parts, or_left, or_right, or_from, or_parts, or_cases}
 use Rattle.std.proofs.lemmas.List.{get_or_default, get_or_past, take_more}
-use Rattle.std.proofs.lemmas.List.Folds.{list_any-append}
+use Rattle.std.proofs.lemmas.List.Elements.{All-contains}
+use Rattle.std.proofs.lemmas.List.Sums.{AllPass-from_list_all}
+use Rattle.std.proofs.lemmas.Map.Views.{Contains-from_any}
 use Rattle.cnf_formula.specs.Literals.{LitValue, same_literal, has_literal, is_superset, code_of}
 use Rattle.cnf_formula.proofs.Clauses.{same_is}
-use Rattle.lrat_checker.specs.Stored.{list_at, IsIndexed, held_of, covers}
+use Rattle.lrat_checker.specs.Stored.{list_at, IsLead, IsLed, held_of, covers}
 use Rattle.proof_rules.specs.Held.{Entry}
 use Rattle.proof_rules.proofs.Taking.{same_itself}
 use Rattle.lrat_checker.proofs.Placed.{held_true, held_false}
@@ -74,30 +76,20 @@ module _ (lits : List LitValue) (ids : List ℕ) (live : List Bool) (clauses : L
       let here : covers live clauses lits k ≡ false = ap (covers live clauses lits) (sym is) ∙ none_passes (covers live clauses lits) list none j w in
       sym (ap (λ b. b && is_superset lits (get_or clauses k [])) t) ∙ here
 
+  -- what leads a clause of which every literal stands among these leads nothing that is held
+  none_led : (leads : List (List ℕ)) → has_one (list_at leads 0) ≡ false → ((x : LitValue) → has_literal lits x ≡ true → has_one (list_at leads (code_of x)) ≡ false)
+      → (c : List LitValue) (code : ℕ) → IsLead c code → is_superset lits c ≡ true → has_one (list_at leads code) ≡ false
+  none_led leads first each [] code e s = ap (λ n. has_one (list_at leads n)) e ∙ first
+  none_led leads first each (x ∷ xs) code (l, has, e) s =
+      let stands = All-contains (λ y. has_literal lits y ≡ true) (x ∷ xs) l (AllPass-from_list_all (has_literal lits) (x ∷ xs) s) (Contains-from_any same_is l (x ∷ xs) has) in
+      ap (λ n. has_one (list_at leads n)) e ∙ each l stands
+
   -- it is enough to look at the first list and at those of the literals
-  pub none_covered : (vars : ℕ) (lists : List (List ℕ)) → IsIndexed vars clauses lists → has_one (list_at lists 0) ≡ false → ((x : LitValue) → has_literal lits x ≡ true → has_one (list_at lists (code_of x)) ≡ false)
+  pub none_covered : (vars : ℕ) (leads : List (List ℕ)) → IsLed vars clauses leads → has_one (list_at leads 0) ≡ false → ((x : LitValue) → has_literal lits x ≡ true → has_one (list_at leads (code_of x)) ≡ false)
       → list_any subset (held_of ids live clauses) ≡ false
-  none_covered vars lists i first each = none_by_place subset ids live clauses (λ k w t. one k w t (get_or clauses k []) refl)
+  none_covered vars leads i first each = none_by_place subset ids live clauses one
     where
-      one : (k : ℕ) → k < length ids → get_or live k false ≡ true → (c : List LitValue) → get_or clauses k [] ≡ c → is_superset lits c ≡ false
-      one k w t [] e = ap (is_superset lits) (sym e) ∙ covered_at (list_at lists 0) k first (i.none k (omega (arith, w, m)) e) t
-      one k w t (x ∷ xs) e =
-          ⊎_elim (λ y.
-          let has = and_parts (has_literal lits x) (is_superset lits xs) y in
-          let here : has_literal (x ∷ xs) x ≡ true = or_left (same_literal x x) (has_literal xs x) (same_itself x) in
-          let stands = i.each k x (omega (arith, w, m)) (ap (λ clause. has_literal clause x) e ∙ here) in
-          ap (is_superset lits) (sym e) ∙ covered_at (list_at lists (code_of x)) k (each x has.0) stands t)
-          (λ n. n) (cases_Bool (is_superset lits (x ∷ xs)))
-
--- ---- one literal more
-
-pub searched_more : (test : LitValue → Bool) (lits : List LitValue) (j : ℕ) (lit : LitValue) → ((d : LitValue) → get_or lits j d ≡ lit) → j < length lits → test lit ≡ false → ((x : LitValue) → has_literal (take j lits) x ≡ true → test x ≡ false)
-    → (x : LitValue) → has_literal (take (j + 1) lits) x ≡ true → test x ≡ false
-searched_more test lits j lit at w none old x h =
-    let split : (has_literal (take j lits) x || has_literal (lit ∷ []) x) ≡ true =
-    sym (ap (λ ys. has_literal ys x) (take_more lits j lit w ∙ ap (λ y. take j lits ++ y ∷ []) (at lit)) ∙ list_any-append (same_literal x) (take j lits) (lit ∷ [])) ∙ h in
-    ⊎_elim (λ before. old x before)
-    (λ here.
-    let is : x ≡ lit = same_is x lit (⊎_elim (λ s. s) (λ n. absurd (false≢true n)) (or_cases (same_literal x lit) false here)) in
-    ap test is ∙ none)
-    (or_cases (has_literal (take j lits) x) (has_literal (lit ∷ []) x) split)
+      one : (k : ℕ) → k < length ids → get_or live k false ≡ true → is_superset lits (get_or clauses k []) ≡ false
+      one k w t =
+          let (code, lead, at) = i.each k (omega (arith, w, m)) in
+          ⊎_elim (λ y. covered_at (list_at leads code) k (none_led leads first each (get_or clauses k []) code lead y) at t) (λ n. n) (cases_Bool (is_superset lits (get_or clauses k [])))

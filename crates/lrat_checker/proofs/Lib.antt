@@ -2,6 +2,7 @@ pub mod Assumed
 pub mod Checked
 pub mod Covered
 pub mod Grouped
+pub mod Led
 pub mod Marked
 pub mod Noted
 pub mod Placed

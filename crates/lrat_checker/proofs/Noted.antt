@@ -7,7 +7,7 @@ use Rattle.std.proofs.lemmas.List.{get_or-set_same, get_or-set_other, take_more,
 use Rattle.std.proofs.lemmas.List.Folds.{list_any-append}
 use Rattle.cnf_formula.specs.Literals.{LitValue, same_literal, has_literal, code_of, negation}
 use Rattle.cnf_formula.proofs.Clauses.{same_is}
-use Rattle.lrat_checker.specs.Stored.{list_at, IsIndexed, IsStored, held_of, last_of}
+use Rattle.lrat_checker.specs.Stored.{list_at, IsIndexed, IsLead, IsLed, IsStored, held_of, last_of}
 use Rattle.proof_rules.specs.Accepting.{Group, has_negated, is_answered}
 use Rattle.lrat_checker.proofs.Placed.{all_by_place, not_all, rises_push}
 use Rattle.std.proofs.lemmas.List.Elements.{All-push}
@@ -25,18 +25,15 @@ grown ls k new w more code x h =
     (λ a. subst (λ xs. Contains xs x) (sym (get_or-set_other ls k code new [] a)) h)
     (cases_eq code k)
 
--- one literal more has the place in its list
-pub noted_more : (lits : List LitValue) (j place k : ℕ) (ls : List (List ℕ)) (lit : LitValue) → ((d : LitValue) → get_or lits j d ≡ lit) → j < length lits → k ≡ code_of lit → k < length ls → ((x : LitValue) → has_literal (take j lits) x ≡ true → Contains (list_at ls (code_of x)) place)
-    → (x : LitValue) → has_literal (take (j + 1) lits) x ≡ true → Contains (list_at (set ls k (list_at ls k ++ place ∷ [])) (code_of x)) place
-noted_more lits j place k ls lit at w e in' old x h =
-    let new = list_at ls k ++ place ∷ [] in
+-- ---- one literal more
+
+pub one_more : (P : LitValue → Type 0) (lits : List LitValue) (j : ℕ) (lit : LitValue) → ((d : LitValue) → get_or lits j d ≡ lit) → j < length lits → P lit → ((x : LitValue) → has_literal (take j lits) x ≡ true → P x)
+    → (x : LitValue) → has_literal (take (j + 1) lits) x ≡ true → P x
+one_more P lits j lit at w new old x h =
     let split : (has_literal (take j lits) x || has_literal (lit ∷ []) x) ≡ true =
     sym (ap (λ ys. has_literal ys x) (take_more lits j lit w ∙ ap (λ y. take j lits ++ y ∷ []) (at lit)) ∙ list_any-append (same_literal x) (take j lits) (lit ∷ [])) ∙ h in
-    ⊎_elim (λ before. grown ls k new in' (λ y c. contains_more (list_at ls k) place y c) (code_of x) place (old x before))
-    (λ here.
-    let is : x ≡ lit = same_is x lit (⊎_elim (λ s. s) (λ n. absurd (false≢true n)) (or_cases (same_literal x lit) false here)) in
-    let code : code_of x ≡ k = ap code_of is ∙ sym e in
-    subst (λ xs. Contains xs place) (sym (ap (λ c. list_at (set ls k new) c) code ∙ get_or-set_same ls k new [] in')) (contains_new (list_at ls k) place))
+    ⊎_elim (λ before. old x before)
+    (λ here. subst P (sym (same_is x lit (⊎_elim (λ s. s) (λ n. absurd (false≢true n)) (or_cases (same_literal x lit) false here)))) new)
     (or_cases (has_literal (take j lits) x) (has_literal (lit ∷ []) x) split)
 
 -- ---- whether all that is held is answered
@@ -68,12 +65,58 @@ module _ (pivot : LitValue) (start : List LitValue) (groups : List Group) where
           (λ f. lacks (get_or ids k 0) (get_or clauses k []) f)
           (cases_Bool (has_negated pivot (get_or clauses k [])))
 
+-- ---- places more in the lists
+
+pub stored_grown : (vars : ℕ) (ids : List ℕ) (live : List Bool) (clauses : List (List LitValue)) (lists lists' leads leads' : List (List ℕ)) → IsStored vars ids live clauses lists leads
+    → length lists' ≡ length lists → ((code k : ℕ) → Contains (list_at lists code) k → Contains (list_at lists' code) k) → length leads' ≡ length leads → ((code k : ℕ) → Contains (list_at leads code) k → Contains (list_at leads' code) k)
+    → IsStored vars ids live clauses lists' leads'
+stored_grown vars ids live clauses lists lists' leads leads' s long kept wide held = record {
+  rises = s.rises;
+  lives = s.lives;
+  many = s.many;
+  about = s.about;
+  indexed = record {
+    long = long ∙ s.indexed.long;
+    each = λ k l w h. kept (code_of l) k (s.indexed.each k l w h);
+  };
+  led = record {
+    long = wide ∙ s.led.long;
+    each = λ k w. let (code, lead, at) = s.led.each k w in (code, lead, held code k at);
+  };
+}
+
 -- ---- one clause more
 
-pub stored_push : (vars : ℕ) (ids : List ℕ) (live : List Bool) (clauses : List (List LitValue)) (lists lists' : List (List ℕ)) (id : ℕ) (lits : List LitValue) → IsStored vars ids live clauses lists → last_of ids < id → IsClause vars lits
-    → length lists' ≡ length lists → ((code k : ℕ) → Contains (list_at lists code) k → Contains (list_at lists' code) k) → ((l : LitValue) → has_literal lits l ≡ true → Contains (list_at lists' (code_of l)) (length ids)) → (lits ≡ [] → Contains (list_at lists' 0) (length ids))
-    → IsStored vars (ids ++ id ∷ []) (live ++ true ∷ []) (clauses ++ lits ∷ []) lists'
-stored_push vars ids live clauses lists lists' id lits s above about long kept noted none =
+-- what holds of each clause by its place holds with one more
+pub by_place_push : (P : ℕ → List LitValue → Type 0) (clauses : List (List LitValue)) (lits : List LitValue) → ((k : ℕ) → k < length clauses → P k (get_or clauses k [])) → P (length clauses) lits → (k : ℕ) → k < length (clauses ++ lits ∷ []) → P k (get_or (clauses ++ lits ∷ []) k [])
+by_place_push P clauses lits old new k w =
+    let n = length_push clauses lits in
+    ⊎_elim (λ u. subst (P k) (sym (get_or_append_left clauses (lits ∷ []) [] k u)) (old k u))
+    (λ u.
+    let at : length clauses ≡ k = omega (arith, u, w, n) in
+    subst (P k) (sym (get_or_push clauses lits [] k at)) (subst (λ j. P j lits) at new))
+    (cases_lt k (length clauses))
+
+pub indexed_push : (vars : ℕ) (clauses : List (List LitValue)) (lists lists' : List (List ℕ)) (lits : List LitValue) → IsIndexed vars clauses lists → length lists' ≡ length lists
+    → ((code k : ℕ) → Contains (list_at lists code) k → Contains (list_at lists' code) k) → ((l : LitValue) → has_literal lits l ≡ true → Contains (list_at lists' (code_of l)) (length clauses))
+    → IsIndexed vars (clauses ++ lits ∷ []) lists'
+indexed_push vars clauses lists lists' lits i long kept noted = record {
+  long = long ∙ i.long;
+  each = λ k x w h. by_place_push (λ k c. (x : LitValue) → has_literal c x ≡ true → Contains (list_at lists' (code_of x)) k) clauses lits (λ k u x h. kept (code_of x) k (i.each k x u h)) noted k w x h;
+}
+
+pub led_push : (vars : ℕ) (clauses : List (List LitValue)) (leads leads' : List (List ℕ)) (lits : List LitValue) (code : ℕ) → IsLed vars clauses leads → length leads' ≡ length leads
+    → ((code k : ℕ) → Contains (list_at leads code) k → Contains (list_at leads' code) k) → IsLead lits code → Contains (list_at leads' code) (length clauses)
+    → IsLed vars (clauses ++ lits ∷ []) leads'
+led_push vars clauses leads leads' lits code i long kept lead noted = record {
+  long = long ∙ i.long;
+  each = by_place_push (λ k c. (code : ℕ) × IsLead c code × Contains (list_at leads' code) k) clauses lits (λ k u. let (old, is, at) = i.each k u in (old, is, kept old k at)) (code, lead, noted);
+}
+
+pub stored_push : (vars : ℕ) (ids : List ℕ) (live : List Bool) (clauses : List (List LitValue)) (lists lists' leads leads' : List (List ℕ)) (id : ℕ) (lits : List LitValue) → IsStored vars ids live clauses lists leads → last_of ids < id → IsClause vars lits
+    → IsIndexed vars (clauses ++ lits ∷ []) lists' → IsLed vars (clauses ++ lits ∷ []) leads'
+    → IsStored vars (ids ++ id ∷ []) (live ++ true ∷ []) (clauses ++ lits ∷ []) lists' leads'
+stored_push vars ids live clauses lists lists' leads leads' id lits s above about indexed led =
     let n = length_push ids id in
     let a = length_push live true in
     let b = length_push clauses lits in
@@ -84,20 +127,6 @@ stored_push vars ids live clauses lists lists' id lits s above about long kept n
       lives = omega (arith, n, a, l);
       many = omega (arith, n, b, m);
       about = All-push (IsClause vars) clauses lits s.about about;
-      indexed = record {
-        long = long ∙ s.indexed.long;
-        each = λ k x w h. ⊎_elim
-            (λ u. kept (code_of x) k (s.indexed.each k x u (subst (λ c. has_literal c x ≡ true) (get_or_append_left clauses (lits ∷ []) [] k u) h)))
-            (λ u.
-            let at : length clauses ≡ k = omega (arith, u, w, b) in
-            let place : length ids ≡ k = omega (arith, at, m) in
-            subst (Contains (list_at lists' (code_of x))) place (noted x (subst (λ c. has_literal c x ≡ true) (get_or_push clauses lits [] k at) h)))
-            (cases_lt k (length clauses));
-        none = λ k w e. ⊎_elim (λ u. kept 0 k (s.indexed.none k u (sym (get_or_append_left clauses (lits ∷ []) [] k u) ∙ e)))
-            (λ u.
-            let at : length clauses ≡ k = omega (arith, u, w, b) in
-            let place : length ids ≡ k = omega (arith, at, m) in
-            subst (Contains (list_at lists' 0)) place (none (sym (get_or_push clauses lits [] k at) ∙ e)))
-            (cases_lt k (length clauses));
-      };
+      indexed = indexed;
+      led = led;
     }

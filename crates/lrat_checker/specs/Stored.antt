@@ -40,19 +40,29 @@ Rises ids = (i j : ℕ) → i < j → j < length ids → slice_index ids i < sli
 abbrev pub list_at : List (List ℕ) → ℕ → List ℕ
 list_at lists code = slice_index_or lists code []
 
--- each clause is in the list of each of its literals, and one without a literal in the first list, which is no literal's
+-- each clause is in the list of each of its literals
 pub record IsIndexed (vars : ℕ) (clauses : List (List LitValue)) (lists : List (List ℕ)) : Type 0 where
   pub long : length lists ≡ 2 * vars + 2
   pub each : (k : ℕ) (l : LitValue) → k < length clauses → has_literal (slice_index_or clauses k []) l ≡ true → Contains (list_at lists (code_of l)) k
-  pub none : (k : ℕ) → k < length clauses → slice_index_or clauses k [] ≡ [] → Contains (list_at lists 0) k
+
+-- a list in which a clause may be found: that of one of its literals, or the first, which is no literal's, where it has none
+abbrev pub IsLead : List LitValue → ℕ → Type 0
+IsLead [] code = code ≡ 0
+IsLead (x ∷ xs) code = (l : LitValue) × (has_literal (x ∷ xs) l ≡ true) × (code ≡ code_of l)
+
+-- each clause is in one such list
+pub record IsLed (vars : ℕ) (clauses : List (List LitValue)) (leads : List (List ℕ)) : Type 0 where
+  pub long : length leads ≡ 2 * vars + 2
+  pub each : (k : ℕ) → k < length clauses → (code : ℕ) × IsLead (slice_index_or clauses k []) code × Contains (list_at leads code) k
 
 -- the clause at a place is held, and every literal of it stands among these
 abbrev pub covers : List Bool → List (List LitValue) → List LitValue → ℕ → Bool
 covers live clauses lits k = slice_index_or live k false && is_superset lits (slice_index_or clauses k [])
 
-pub record IsStored (vars : ℕ) (ids : List ℕ) (live : List Bool) (clauses : List (List LitValue)) (lists : List (List ℕ)) : Type 0 where
+pub record IsStored (vars : ℕ) (ids : List ℕ) (live : List Bool) (clauses : List (List LitValue)) (lists leads : List (List ℕ)) : Type 0 where
   pub rises : Rises ids
   pub lives : length live ≡ length ids
   pub many : length clauses ≡ length ids
   pub about : All (IsClause vars) clauses
   pub indexed : IsIndexed vars clauses lists
+  pub led : IsLed vars clauses leads

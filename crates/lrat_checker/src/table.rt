@@ -8,7 +8,7 @@ ghost use Rattle.cnf_formula.specs.Formulas.{IsAbout, IsClause};
 ghost use Rattle.proof_rules.specs.Held.{Entry, clause_at};
 ghost use Rattle.proof_rules.specs.Judging.{are_held, has_number_twice};
 ghost use Rattle.proof_rules.specs.Accepting.{Group, is_made_true, without_negated};
-ghost use Rattle.lrat_checker.specs.Stored.{TableValue, Rises, list_at, is_live, kept_live, covers};
+ghost use Rattle.lrat_checker.specs.Stored.{TableValue, Rises, list_at, is_live, kept_live, covers, IsLead};
 ghost use Rattle.lrat_checker.specs.Steps.{Names};
 
 use crate::marks::Marks;
@@ -19,7 +19,8 @@ use std::collections::BTreeSet;
 use std::marker::Model;
 
 /// Clauses by ascending numbers, whether each is held, and for each literal the places of the clauses in which it
-/// stands. A clause that is no longer held stays in its place.
+/// stands, and of some of these: each clause is led by one of its literals. A clause that is no longer held stays in its
+/// place.
 #[derive(Drop)]
 pub(crate) struct ClauseTable {
     vars: u32,
@@ -27,6 +28,7 @@ pub(crate) struct ClauseTable {
     live: Vec<bool>,
     clauses: Vec<SmallVec<Lit, 4>>,
     lists: Vec<Vec<usize>>,
+    leads: Vec<Vec<usize>>,
 }
 
 impl Model for ClauseTable {
@@ -42,7 +44,7 @@ impl Model for ClauseTable {
       last = last_of t.ids.items;
     } };
 
-    ghost invariant = { λ t. IsStored t.vars t.ids.items t.live.items (map (λ c. c.items) t.clauses.items) (map (λ l. l.items) t.lists.items) };
+    ghost invariant = { λ t. IsStored t.vars t.ids.items t.live.items (map (λ c. c.items) t.clauses.items) (map (λ l. l.items) t.lists.items) (map (λ l. l.items) t.leads.items) };
 }
 
 /// The place of a number among ascending ones. Mostly they are 1, 2, 3 and so on, and it is found at once.
@@ -114,6 +116,18 @@ fn is_answered(id: u64, clause: &[Lit], pivot: Lit, marks: &Marks, named: &BTree
     !has_negated(pivot, clause) || named.contains(&id) || has_other_true(clause, pivot, marks)
 }
 
+/// Puts a clause's place into a list. An `Err` comes only where memory runs out.
+fn note(lists: &mut Vec<Vec<usize>>, code: usize, place: usize) -> Result<(), OutOfMemory>
+    requires { code < length lists.old.items }
+    ensures long { length lists.new.items ≡ length lists.old.items }
+    ensures kept { (other k : ℕ) → Contains (list_at (map (λ l. l.items) lists.old.items) other) k → Contains (list_at (map (λ l. l.items) lists.new.items) other) k }
+    ensures noted { OnOk result (Contains (list_at (map (λ l. l.items) lists.new.items) code) place) }
+{
+    let list = &mut lists[code];
+    list.push(place)?;
+    Ok(())
+}
+
 /// Puts a clause's place into the lists of its literals. An `Err` comes only where memory runs out.
 fn note_literals(lists: &mut Vec<Vec<usize>>, lits: &[Lit], place: usize) -> Result<(), OutOfMemory>
     requires { All (λ l. code_of l < length lists.old.items) lits.now }
@@ -122,27 +136,24 @@ fn note_literals(lists: &mut Vec<Vec<usize>>, lits: &[Lit], place: usize) -> Res
     ensures noted { OnOk result ((l : LitValue) → has_literal lits.now l ≡ true → Contains (list_at (map (λ l. l.items) lists.new.items) (code_of l)) place) }
 {
     for lit in lits {
-        let list = &mut lists[lit.code()];
-        list.push(place)?;
+        note(lists, lit.code(), place)?;
     }
     Ok(())
 }
 
-/// Puts a clause's place into the lists of its literals, or into the first list where it has none. An `Err` comes only
-/// where memory runs out.
-fn note(lists: &mut Vec<Vec<usize>>, lits: &[Lit], place: usize) -> Result<(), OutOfMemory>
-    requires some { 0 < length lists.old.items }
-    requires about { All (λ l. code_of l < length lists.old.items) lits.now }
-    ensures long { length lists.new.items ≡ length lists.old.items }
-    ensures kept { (code k : ℕ) → Contains (list_at (map (λ l. l.items) lists.old.items) code) k → Contains (list_at (map (λ l. l.items) lists.new.items) code) k }
-    ensures noted { OnOk result ((l : LitValue) → has_literal lits.now l ≡ true → Contains (list_at (map (λ l. l.items) lists.new.items) (code_of l)) place) }
-    ensures none { OnOk result (lits.now ≡ [] → Contains (list_at (map (λ l. l.items) lists.new.items) 0) place) }
+/// The list that a clause is put into: the shortest of its literals' lists, or the first list where it has no literal.
+fn lead_of(leads: &[Vec<usize>], lits: &[Lit]) -> usize
+    requires { All (λ l. code_of l < length leads.now) lits.now }
+    ensures { IsLead lits.now result }
 {
-    if lits.is_empty() {
-        lists[0].push(place)?;
-        return Ok(());
+    let mut lead = 0;
+    for lit in lits {
+        let code = lit.code();
+        if lead == 0 || leads[code].len() < leads[lead].len() {
+            lead = code;
+        }
     }
-    note_literals(lists, lits, place)
+    lead
 }
 
 /// Whether every literal of the clause is marked.
@@ -185,22 +196,30 @@ pub(crate) fn has_negated(pivot: Lit, clause: &[Lit]) -> bool
     false
 }
 
+/// So many lists without places.
+fn empty_lists(alloc: Global, count: usize) -> Result<Vec<Vec<usize>>, OutOfMemory>
+    ensures { IfOk result (λ lists. length lists.items ≡ count) }
+{
+    let mut lists = Vec::with_capacity(alloc, count)?;
+    for _ in 0..count {
+        lists.push_reserved(Vec::new(alloc));
+    }
+    Ok(lists)
+}
+
 impl ClauseTable {
     /// No clause, over so many variables.
     fn empty(alloc: Global, vars: u32) -> Result<ClauseTable, OutOfMemory>
         ensures { IfOk result (λ t. t ≡ record { vars = vars; clauses = []; held = []; last = 0 }) }
     {
         let count = 2 * vars as usize + 2;
-        let mut lists = Vec::with_capacity(alloc, count)?;
-        for _ in 0..count {
-            lists.push_reserved(Vec::new(alloc));
-        }
         Ok(ClauseTable {
             vars,
             ids: Vec::new(alloc),
             live: Vec::new(alloc),
             clauses: Vec::new(alloc),
-            lists,
+            lists: empty_lists(alloc, count)?,
+            leads: empty_lists(alloc, count)?,
         })
     }
 
@@ -247,12 +266,16 @@ impl ClauseTable {
         self.ids.reserve(1)?;
         self.live.reserve(1)?;
         self.clauses.reserve(1)?;
-        note(&mut self.lists, lits, self.ids.len())?;
+        let place = self.ids.len();
+        note_literals(&mut self.lists, lits, place)?;
+        let lead = lead_of(&self.leads, lits);
+        note(&mut self.leads, lead, place)?;
         self.ids.push_reserved(id);
         self.live.push_reserved(true);
         self.clauses.push_reserved(clause);
         Ok(())
     }
+
     /// Lets the clauses of these numbers go, and says that it did: if each is held and they differ. Otherwise nothing
     /// changes.
     pub(crate) fn remove(&mut self, gone: &[u64]) -> bool
@@ -283,18 +306,18 @@ impl ClauseTable {
     }
 
     /// Whether every literal of some held clause is marked, where just these literals are. It looks at no clause but those
-    /// in the lists of these literals, and those without a literal.
+    /// that these literals lead, and those without a literal.
     pub(crate) fn has_subset(&self, lits: &[Lit], marks: &Marks) -> bool
         requires about { IsClause self.now.vars lits.now }
         requires same { marks.now.vars ≡ self.now.vars }
         requires marked { marks.now.falses ≡ lits.now }
         ensures { result ≡ list_any (λ entry. is_superset lits.now entry.1) self.now.held }
     {
-        if has_marked(&self.live, &self.clauses, &self.lists[0], marks) {
+        if has_marked(&self.live, &self.clauses, &self.leads[0], marks) {
             return true;
         }
         for lit in lits {
-            let list = &self.lists[lit.code()];
+            let list = &self.leads[lit.code()];
             if has_marked(&self.live, &self.clauses, list, marks) {
                 return true;
             }

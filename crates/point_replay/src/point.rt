@@ -8,7 +8,7 @@ ghost use Rattle.point_replay.specs.Showing.{adding_of, chunks_at, is_copied, sh
 ghost use Rattle.point_replay.specs.Points.{IsShowable, body_lines};
 
 use crate::OutOfMemory;
-use crate::asked::{copies, is_joined, spec_of_part, steps_that_add};
+use crate::asked::{copies, is_joined, steps_that_add};
 use crate::runs::{push_placed_run, push_stored_run};
 use crate::words::push_numbered;
 use allreduce_join::all_summed;
@@ -17,7 +17,7 @@ use collective_spec::{Instance, Spec, spec_demand, spec_instance};
 use inversion::{SumVerdict, sums};
 use node_programs::Store;
 use outer_ports::Part;
-use report_form::Report;
+use report_form::{Report, spec_of_part};
 use schedule::solves;
 use std::alloc::Global;
 use text_lines::push_word;
@@ -144,7 +144,7 @@ pub fn replay_point(
     requires { point_at report.now number ≡ Some (part, point.now) }
     ensures { IfOk result (λ text. text.items ≡ shown_text number (shown_in report.now (part, point.now)) order) }
 {
-    let spec = spec_of_part(report, part)?;
+    let spec = spec_of_part(report.words(), report.topology(), part)?;
     let mut out = Vec::new(alloc);
     push_numbered(&mut out, b"replay", u64::from(number))?;
     push_body(alloc, &mut out, report, part, point, &spec, order)?;

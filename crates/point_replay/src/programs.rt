@@ -8,18 +8,18 @@ ghost use Rattle.point_replay.specs.Showing.{adding_of, nodes_of, shown_in};
 ghost use Rattle.point_replay.specs.Points.{programs_of_point};
 
 use crate::OutOfMemory;
-use crate::asked::{copies, spec_of_part, steps_that_add};
+use crate::asked::{copies, steps_that_add};
 use candidate_order::Point;
 use node_programs::{Programs, print_programs, programs_of};
 use outer_ports::Part;
-use report_form::Report;
+use report_form::{Report, spec_of_part};
 use std::alloc::Global;
 
 /// How many of the first steps of a point add: none where it copies.
 fn adding_steps(report: &Report, part: Part, point: &Point) -> Result<u8, OutOfMemory>
     ensures { IfOk result (λ adding. adding ≡ adding_of (shown_in report.now (part, point.now))) }
 {
-    let spec = spec_of_part(report, part)?;
+    let spec = spec_of_part(report.words(), report.topology(), part)?;
     if copies(part, &spec) {
         return Ok(0);
     }

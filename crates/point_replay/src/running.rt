@@ -8,14 +8,14 @@ ghost use Rattle.point_replay.specs.Points.{IsShowable};
 ghost use Rattle.point_replay.specs.Showing.{chunks_at, machine_of, nodes_of, shown_in, start_bags};
 
 use crate::OutOfMemory;
-use crate::asked::{copies, spec_of_part};
+use crate::asked::copies;
 use crate::programs::point_programs;
 use candidate_order::Point;
 use collective_spec::{Instance, Spec, spec_instance};
 use node_programs::{Machine, Store};
 use outer_ports::Part;
 use replay::replay_by_order;
-use report_form::Report;
+use report_form::{Report, spec_of_part};
 use std::alloc::Global;
 
 /// What the nodes have before the first step of a point.
@@ -53,7 +53,7 @@ pub fn run_point(
     ensures moves { IfOk result (λ moves. moves.items ≡ chosen (machine_of (shown_in report.now (part, point.now))) seed) }
     ensures count { IfOk result (λ moves. length moves.items ≡ operations (machine_of (shown_in report.now (part, point.now)))) }
 {
-    let spec = spec_of_part(report, part)?;
+    let spec = spec_of_part(report.words(), report.topology(), part)?;
     let start = start_store(alloc, report, part, point, &spec)?;
     let programs = point_programs(alloc, report, part, point)?;
     let mut machine = Machine::new(alloc, programs, start)?;

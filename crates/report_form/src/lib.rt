@@ -4,6 +4,7 @@
 mod fault;
 mod laws;
 mod numbered;
+mod question;
 mod report;
 mod vectors;
 mod words;
@@ -11,6 +12,7 @@ mod words;
 pub use fault::{ReportCode, ReportFault};
 pub use laws::{one_line_fails_first, tests_decide, what_is_read_is_spelled};
 pub use numbered::point_at;
+pub use question::{kind_of_part, spec_of_part};
 pub use report::Report;
 pub use vectors::{
     broadcasts_refused, numbers_checked, order_of_checks, order_of_lines, patterns_refused,

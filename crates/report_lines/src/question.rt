@@ -3,13 +3,12 @@
 ghost use Rattle.std.specs.Prelude.{◌≡◌, ◌≤◌, ◌<◌, ◌*◌, ◌^◌};
 ghost use Rattle.collective_spec.specs.Collectives.{chunks_in, kind_in};
 ghost use Rattle.topology_text.specs.Value.{IsNamed};
-ghost use Rattle.report_form.specs.Reports.{kind_of};
 ghost use Rattle.report_lines.specs.Asking.{asks};
 
 use candidate_order::Limits;
 use collective_spec::{Kind, chunks_of};
 use outer_ports::Part;
-use report_form::Words;
+use report_form::{Words, kind_of_part};
 use topology_text::NamedTopology;
 
 /// A part of what the words ask on a topology.
@@ -18,17 +17,6 @@ pub struct Question<'a> {
     pub words: Words,
     pub topology: &'a NamedTopology,
     pub part: Part,
-}
-
-/// The collective of a part.
-fn kind_of(whole: Kind, part: Part) -> Kind
-    ensures { result ≡ kind_of whole part }
-{
-    match part {
-        Part::Whole | Part::Joined => whole,
-        Part::Reduce => Kind::Reducescatter,
-        Part::Gather => Kind::Allgather,
-    }
 }
 
 impl Question<'_> {
@@ -51,7 +39,7 @@ impl Question<'_> {
         ensures { result ≡ kind_in (asks self.now).spec }
     {
         match self.topology.custom() {
-            None => kind_of(self.words.collective().kind, self.part),
+            None => kind_of_part(self.words.collective().kind, self.part),
             Some(_) => Kind::Custom,
         }
     }
@@ -62,7 +50,7 @@ impl Question<'_> {
     {
         match self.topology.custom() {
             None => chunks_of(
-                kind_of(self.words.collective().kind, self.part),
+                kind_of_part(self.words.collective().kind, self.part),
                 self.nodes(),
                 c,
             ),

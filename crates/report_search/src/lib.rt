@@ -1,7 +1,6 @@
 //! The search of a whole report: the frontier of each part of a collective, the joins of two parts, and the files that prove them.
 #![tactic(auto)]
 
-mod asked;
 mod both;
 mod copying;
 mod joining;

@@ -8,12 +8,11 @@ ghost use Rattle.report_search.specs.Asked.{IsAsked};
 ghost use Rattle.report_search.specs.Found.{IsFound};
 ghost use Rattle.report_search.specs.Shelved.{IsShelved};
 
-use crate::asked::spec_of_part;
 use crate::turning::single_frontier;
 use candidate_order::Frontier;
 use engine_rules::EngineFault;
 use outer_ports::{Part, Shelf};
-use report_form::Words;
+use report_form::{Words, spec_of_part};
 use std::alloc::Global;
 use topology_text::NamedTopology;
 

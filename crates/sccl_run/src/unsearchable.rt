@@ -1,7 +1,7 @@
 //! Searches that are too large, or that have no candidate.
 
 ghost use Rattle.std.specs.Prelude.{◌≡◌, true, IfOk};
-ghost use Rattle.collective_spec.specs.Collectives.{fits_kind, spec_of};
+ghost use Rattle.collective_spec.specs.Collectives.{fits_kind};
 ghost use Rattle.sccl_run.specs.Tasks.{searchable, whole_question};
 ghost use Rattle.sccl_run.specs.Searchable.{IsSearchableAs};
 
@@ -9,24 +9,13 @@ use crate::OutOfMemory;
 use crate::answer::{Answer, refusal};
 use crate::status::Status;
 use candidate_formula::{allowed_counts, size_number};
-use collective_spec::{Collective, Spec};
-use report_form::Words;
+use outer_ports::Part;
+use report_form::{Words, spec_of_part};
 use std::alloc::Global;
 use topology_text::NamedTopology;
 
 /// The greatest size of a search.
 const SIZE_LIMIT: u64 = 2_000_000;
-
-/// The collective, with the pattern of the topology where it has one.
-fn spec_over(collective: Collective, topology: &NamedTopology) -> Result<Spec, OutOfMemory>
-    ensures { IfOk result (λ spec. spec ≡ spec_of collective topology.now.custom) }
-{
-    let pattern = match topology.custom() {
-        None => None,
-        Some(pattern) => Some(pattern.clone()?),
-    };
-    Ok(Spec::of(collective, pattern))
-}
 
 /// The answer that refuses a search of these words over the topology: it is too large, or no chunk count is allowed. `None`
 /// where it can be done.
@@ -40,7 +29,7 @@ pub fn unsearchable(
 {
     let collective = words.collective();
     let limits = words.limits();
-    let spec = spec_over(collective, topology)?;
+    let spec = spec_of_part(words, topology, Part::Whole)?;
     let size = size_number(topology.topology(), &spec, &limits)?;
     if size > SIZE_LIMIT {
         return Ok(Some(refusal(alloc, Status::TooLarge, 0, size)?));

@@ -1,11 +1,10 @@
-//! Proofs and logs that others wrote, as a check takes them, and shelves that fail it.
+//! Proofs and logs that others wrote, as a check takes them.
 
-use super::checks::{BOTH, PROOF, checks};
+use super::checks::{PROOF, checks};
 use super::reports::RELAY;
-use super::search_files::{ONE_STEP, first};
-use super::{changed, words};
-use crate::{Status, run};
-use outer_ports::{FileKind, MemoryShelf, MemorySink, SureSource};
+use super::search_files::ONE_STEP;
+use super::changed;
+use outer_ports::FileKind;
 use std::alloc::AllocError;
 use std::process::Abort;
 use std::test::Fail;
@@ -93,40 +92,6 @@ fn logs(rt: HostRuntime) -> Result<(), Fail> {
         let files = vec![in alloc; (FileKind::Partial, log)]?;
         for piece in PIECES {
             checks(&rt, piece, &report, &files, line)?;
-        }
-    }
-    Ok(())
-}
-
-/// The status of the check of the relay's report, where this call of the shelf fails, which moves pieces of this size.
-fn fails(rt: &(impl Abort + AllocGlobal), piece: usize, call: u64) -> Result<Status, AllocError> {
-    let alloc = rt.alloc();
-    assert!(rt; piece >= 1);
-    let words = words(alloc, &["check"])?;
-    let mut source = SureSource::new(Vec::from_slice(alloc, RELAY)?);
-    let mut sink = MemorySink::new(alloc, 4096, Vec::new(alloc))?;
-    let mut shelf = MemoryShelf::new(alloc, piece, vec![in alloc; call]?)?;
-    for (kind, bytes) in BOTH {
-        shelf.set(first(*kind), Vec::from_slice(alloc, bytes)?)?;
-    }
-    let status = run(alloc, &words, &mut source, &mut sink, &mut shelf);
-    assert_eq!(rt; sink.bytes().is_empty(), status == Status::ShelfFailed);
-    Ok(status)
-}
-
-#[test]
-fn shelves_that_fail(rt: HostRuntime) -> Result<(), Fail> {
-    for piece in PIECES {
-        // the reading that meets the end of a file is one more
-        let calls = (ONE_STEP.len().div_ceil(piece) + PROOF.len().div_ceil(piece)) as u64 + 2;
-        for call in 0..calls + 2 {
-            let status = fails(&rt, piece, call)?;
-            let due = if call < calls {
-                Status::ShelfFailed
-            } else {
-                Status::Done
-            };
-            assert_eq!(rt; status, due, "piece {piece}, call {call}");
         }
     }
     Ok(())

@@ -4,7 +4,7 @@ use Rattle.point_replay.proofs.Showable.{numbered_shows}
 use Rattle.point_replay.proofs.point.replay_point.Goals as goal
 
 pub push_body-requires-clause-showable : goal.push_body-requires-clause-showable
-push_body-requires-clause-showable c = numbered_shows c.args.report.now c.spec_of_part.ensures.limits c.args.number (c.args.part, c.args.point.now) c.requires
+push_body-requires-clause-showable c = numbered_shows c.args.report.now c.words.ensures.limits c.args.number (c.args.part, c.args.point.now) c.requires
 
 pub returns : goal.returns
 returns c =

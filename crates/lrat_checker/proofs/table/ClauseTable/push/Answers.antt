@@ -6,8 +6,24 @@ use Rattle.cnf_formula.specs.Formulas.{IsClause}
 use Rattle.proof_rules.specs.Held.{Entry}
 use Rattle.lrat_checker.specs.Stored.{TableValue, held_of, last_of, list_at}
 use Rattle.lrat_checker.proofs.Placed.{held_push, last_push}
-use Rattle.lrat_checker.proofs.Noted.{stored_push}
+use Rattle.lrat_checker.proofs.Noted.{indexed_push, led_push, stored_grown, stored_push}
+use Rattle.lrat_checker.proofs.Led.{lead_within}
 use Rattle.lrat_checker.proofs.table.ClauseTable.push.Goals as goal
+
+pub note-requires : goal.note-requires
+note-requires c =
+    let i = c.self.inside in
+    let lits = c.args.lits.now in
+    let about : IsClause i.vars lits = subst (λ n. IsClause n lits) (sym (ap (λ t. t.vars) c.self.view_is)) c.requires.about in
+    omega (arith, lead_within i.vars lits c.lead_of-lead.result about c.lead_of-lead.ensures, c.self.invariant.led.long, length-map i.leads.items (λ v. v.items))
+
+pub invariant_of-self-in_err-note : goal.invariant_of-self-in_err-note
+invariant_of-self-in_err-note c =
+    let i = c.self.inside in
+    let long : length (map (λ v. v.items) c.note_literals.new.lists.items) ≡ length (map (λ v. v.items) i.lists.items) = omega (arith, length-map c.note_literals.new.lists.items (λ v. v.items), length-map i.lists.items (λ v. v.items), c.note_literals.ensures.long) in
+    let wide : length (map (λ v. v.items) c.note.new.lists.items) ≡ length (map (λ v. v.items) i.leads.items) = omega (arith, length-map c.note.new.lists.items (λ v. v.items), length-map i.leads.items (λ v. v.items), c.note.ensures.long) in
+    let s = stored_grown i.vars i.ids.items i.live.items (map (λ v. v.items) i.clauses.items) (map (λ v. v.items) i.lists.items) (map (λ v. v.items) c.note_literals.new.lists.items) (map (λ v. v.items) i.leads.items) (map (λ v. v.items) c.note.new.lists.items) c.self.invariant long c.note_literals.ensures.kept wide c.note.ensures.kept in
+    rw (c.in_ok-reserve.ensures.items, c.in_ok-reserve-2.ensures.items, c.in_ok-reserve-3.ensures.items) s
 
 pub invariant_of-self-2 : goal.invariant_of-self-2
 invariant_of-self-2 c =
@@ -22,10 +38,15 @@ invariant_of-self-2 c =
     let above : last_of i.ids.items < id = omega (arith, ap (λ t. t.last) c.self.view_is, c.requires.above) in
     let about : IsClause i.vars lits = subst (λ n. IsClause n lits) (sym (ap (λ t. t.vars) c.self.view_is)) c.requires.about in
     let old = map (λ v. v.items) i.lists.items in
-    let lists = map (λ v. v.items) c.note.new.lists.items in
-    let long : length lists ≡ length old = omega (arith, length-map c.note.new.lists.items (λ v. v.items), length-map i.lists.items (λ v. v.items), c.note.ensures.long) in
-    let place : c.len.result ≡ length i.ids.items = omega (arith, c.len.ensures, ap length c.in_ok-reserve.ensures.items) in
-    let s = stored_push i.vars i.ids.items i.live.items clauses old lists id lits c.self.invariant above about long c.note.ensures.kept (λ l h. subst (Contains (list_at lists (code_of l))) place (c.in_ok-note.ensures.noted l h)) (λ e. subst (Contains (list_at lists 0)) place (c.in_ok-note.ensures.none e)) in
+    let lists = map (λ v. v.items) c.note_literals.new.lists.items in
+    let led = map (λ v. v.items) i.leads.items in
+    let leads = map (λ v. v.items) c.note.new.lists.items in
+    let long : length lists ≡ length old = omega (arith, length-map c.note_literals.new.lists.items (λ v. v.items), length-map i.lists.items (λ v. v.items), c.note_literals.ensures.long) in
+    let wide : length leads ≡ length led = omega (arith, length-map c.note.new.lists.items (λ v. v.items), length-map i.leads.items (λ v. v.items), c.note.ensures.long) in
+    let place : c.len-place.result ≡ length clauses = omega (arith, c.len-place.ensures, ap length c.in_ok-reserve.ensures.items, c.self.invariant.many) in
+    let indexed = indexed_push i.vars clauses old lists lits c.self.invariant.indexed long c.note_literals.ensures.kept (λ l h. subst (Contains (list_at lists (code_of l))) place (c.in_ok-note_literals.ensures.noted l h)) in
+    let leading = led_push i.vars clauses led leads lits c.lead_of-lead.result c.self.invariant.led wide c.note.ensures.kept c.lead_of-lead.ensures (subst (Contains (list_at leads c.lead_of-lead.result)) place c.in_ok-note.ensures.noted) in
+    let s = stored_push i.vars i.ids.items i.live.items clauses old lists led leads id lits c.self.invariant above about indexed leading in
     rw (ids, live, more) s
 
 pub returns-clause-added : goal.returns-clause-added

@@ -3,14 +3,14 @@
 ghost use Rattle.std.specs.Prelude.{◌≡◌, IfOk};
 ghost use Rattle.report_form.specs.Reports.{kind_of, question_of};
 
-use crate::OutOfMemory;
+use crate::Words;
 use collective_spec::{Collective, Kind, Spec};
 use outer_ports::Part;
-use report_form::Words;
+use std::alloc::AllocError;
 use topology_text::NamedTopology;
 
-/// The collective of a part.
-fn kind_of(whole: Kind, part: Part) -> Kind
+/// The collective of a part: the parts of an allreduce reduce and gather.
+pub fn kind_of_part(whole: Kind, part: Part) -> Kind
     ensures { result ≡ kind_of whole part }
 {
     match part {
@@ -20,17 +20,18 @@ fn kind_of(whole: Kind, part: Part) -> Kind
     }
 }
 
-/// The collective of a part, with the pattern of the topology where it has one.
-pub(crate) fn spec_of_part(
+/// What a part of these words asks for, with the pattern of the topology where it has one. The only error is want of
+/// memory.
+pub fn spec_of_part(
     words: Words,
     topology: &NamedTopology,
     part: Part,
-) -> Result<Spec, OutOfMemory>
+) -> Result<Spec, AllocError>
     ensures { IfOk result (λ spec. spec ≡ (question_of words topology.now part).spec) }
 {
     let whole = words.collective();
     let collective = Collective {
-        kind: kind_of(whole.kind, part),
+        kind: kind_of_part(whole.kind, part),
         root: whole.root,
     };
     let pattern = match topology.custom() {

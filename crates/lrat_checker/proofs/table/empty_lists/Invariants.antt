@@ -1,6 +1,6 @@
 use Rattle.std.proofs.Common.{◌≡◌, ◌≤◌, length}
 use Rattle.std.specs.Prelude.{vec_capacity}
-use Rattle.lrat_checker.proofs.table.ClauseTable.empty.Given as goal
+use Rattle.lrat_checker.proofs.table.empty_lists.Given as goal
 
 abbrev pub invariant-loop : goal.invariant-loop
 invariant-loop l = record {
