@@ -49,14 +49,16 @@ impl Asked {
         requires small { size_of (question_of report.now.words report.now.topology Part.Whole) ≤ size_limit }
         ensures { IfOk result (λ asked. asked ≡ question_of report.now.words report.now.topology part) }
     {
-        let topology = report.topology().topology();
-        let spec = spec_of_part(report.words(), report.topology(), part)?;
+        let words = report.words();
+        let named = report.topology();
+        let spec = spec_of_part(words, named, part)?;
+        let topology = named.topology();
         let searched = searched_on(topology, &spec)?;
         Ok(Asked {
             topology: copied(topology)?,
             searched,
             spec,
-            limits: report.words().limits(),
+            limits: words.limits(),
         })
     }
 

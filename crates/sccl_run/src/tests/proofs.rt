@@ -1,9 +1,9 @@
 //! Proofs and logs that others wrote, as a check takes them.
 
+use super::changed;
 use super::checks::{PROOF, checks};
 use super::reports::RELAY;
 use super::search_files::ONE_STEP;
-use super::changed;
 use outer_ports::FileKind;
 use std::alloc::AllocError;
 use std::process::Abort;
