@@ -36,10 +36,10 @@ module _ (q : QuestionValue) where
 -- ---- as the code has it: the parts of the words and of the topology
 
 module _ (w : WordsValue) (t : NamedTopologyValue) (collective : Collective) (limits : LimitsValue) (topology : TopologyValue) (spec : Spec) (same : collective ≡ w.collective) (within : limits ≡ w.limits) (over_links : topology ≡ t.topology)
-    (is : spec ≡ spec_of collective t.custom) (size : ℕ) (sized : size ≡ size_of (record { topology = topology; spec = spec; limits = limits })) where
+    (is : spec ≡ spec_of w.collective t.custom) (size : ℕ) (sized : size ≡ size_of (record { topology = topology; spec = spec; limits = limits })) where
   size_is : size ≡ size_of (whole_question w t)
   size_is =
-      sized ∙ ap (λ x. size_of (record { topology = x; spec = spec; limits = limits })) over_links ∙ ap (λ x. size_of (record { topology = t.topology; spec = x; limits = limits })) (is ∙ ap (λ x. spec_of x t.custom) same)
+      sized ∙ ap (λ x. size_of (record { topology = x; spec = spec; limits = limits })) over_links ∙ ap (λ x. size_of (record { topology = t.topology; spec = x; limits = limits })) is
       ∙ ap (λ x. size_of (record { topology = t.topology; spec = spec_of w.collective t.custom; limits = x })) within
 
   pub large_refused : size_limit < size → searchable (whole_question w t) ≡ Err (refused_at TooLarge 0 size)
