@@ -6,8 +6,6 @@ mod join;
 pub mod join_laws;
 mod judge;
 pub mod laws;
-#[cfg(test)]
-mod tests;
 pub mod vectors;
 
 pub use join::join_points;

@@ -7,8 +7,7 @@ mod laws;
 mod log_laws;
 mod naming;
 mod size;
-#[cfg(test)]
-mod tests;
+mod vectors;
 
 pub use counts::allowed_counts;
 pub use encoding::encode_candidate;
@@ -20,3 +19,4 @@ pub use log_laws::{logs_are_read_back, logs_are_short};
 pub use naming::file_name;
 pub use size::size_number;
 pub use std::alloc::AllocError as OutOfMemory;
+pub use vectors::{counts_on_four_nodes, sizes_on_the_line_of_3};

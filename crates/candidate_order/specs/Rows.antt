@@ -14,6 +14,10 @@ use Rattle.candidate_order.specs.Frontiers.{QuestionValue, FrontierValue}
 abbrev pub smallest_limits : LimitsValue
 smallest_limits = record { k = 0; max_s = 1; max_c = 1; conflicts = 1000 }
 
+-- a candidate by its steps, rounds and chunks
+abbrev pub at : ℕ → ℕ → ℕ → Candidate
+at s r c = record { s = s; r = r; c = c }
+
 -- one step of one round for one chunk, the only candidate within these limits
 abbrev pub smallest : Candidate
 smallest = record { s = 1; r = 1; c = 1 }
@@ -25,8 +29,8 @@ asked t kind = record { topology = t; spec = Standard (record { kind = kind; roo
 -- the question of a chunk that is to go from node 0 to node 1
 abbrev pub asked_to_move : TopologyValue → QuestionValue
 asked_to_move t =
-    let at : ℕ → PlacementValue = λ node. record { chunks = 1; nodes = t.nodes; pairs = (0, node) ∷ [] } in
-    record { topology = t; spec = Custom (record { base = 1; before = at 0; after = at 1 }); limits = smallest_limits }
+    let held : ℕ → PlacementValue = λ node. record { chunks = 1; nodes = t.nodes; pairs = (0, node) ∷ [] } in
+    record { topology = t; spec = Custom (record { base = 1; before = held 0; after = held 1 }); limits = smallest_limits }
 
 -- the one candidate is an optimal point with this schedule
 abbrev pub solved_by : ScheduleValue → FrontierValue

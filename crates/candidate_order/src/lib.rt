@@ -11,8 +11,6 @@ mod mark;
 mod order;
 mod outcome;
 mod point;
-#[cfg(test)]
-mod tests;
 mod vectors;
 
 pub use candidate::Candidate;
@@ -34,6 +32,6 @@ pub use outcome::Outcome;
 pub use point::Point;
 pub use std::alloc::AllocError as OutOfMemory;
 pub use vectors::{
-    one_node_has_gathered, one_send_broadcasts, one_send_moves_a_given_chunk, one_send_reduces,
-    two_nodes_alone_do_nothing,
+    candidates_in_order, costs_of_candidates, one_node_has_gathered, one_send_broadcasts,
+    one_send_moves_a_given_chunk, one_send_reduces, two_nodes_alone_do_nothing,
 };

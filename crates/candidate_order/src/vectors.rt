@@ -1,11 +1,30 @@
-//! Small frontiers that are right, and are those of a search.
+//! Costs of small candidates, and small frontiers that are right and are those of a search.
 
-ghost use Rattle.std.specs.Prelude.{[], ◌∷◌};
+ghost use Rattle.std.specs.Prelude.{AllPairs, [], ◌∷◌};
 ghost use Rattle.schedule.specs.Rows.{line_of_2, plan, send, two_alone};
+ghost use Rattle.candidate_order.specs.Costs.{Before, Better, NoWorse};
 ghost use Rattle.candidate_order.specs.Frontiers.{RightFrontier, Searched};
-ghost use Rattle.candidate_order.specs.Rows.{all_refuted, asked, asked_to_move, one_node, solved_by};
+ghost use Rattle.candidate_order.specs.Rows.{all_refuted, asked, asked_to_move, at, one_node, solved_by};
 
 use collective_spec::Kind;
+
+/// Candidates by their steps, rounds and chunks: costs are compared as rounds for each chunk.
+pub fn costs_of_candidates()
+    ensures cheaper { Better (at 2 3 6) (at 3 4 4) }
+    ensures fewer_steps { Better (at 2 2 2) (at 3 3 3) }
+    ensures fewer_rounds { Better (at 2 3 2) (at 2 5 3) }
+    ensures alike { NoWorse (at 1 1 1) (at 1 2 2) }
+    ensures not_better { ¬ Better (at 1 1 1) (at 1 2 2) }
+    ensures more_steps { ¬ NoWorse (at 3 3 3) (at 2 2 2) }
+    ensures dearer { ¬ NoWorse (at 1 3 1) (at 2 2 1) }
+{}
+
+/// The candidates of one step, two rounds and two chunks at the most, in the order of a search, and those of two steps of an
+/// all-to-all on four nodes.
+pub fn candidates_in_order()
+    ensures one_step { AllPairs Before (at 1 1 2 ∷ at 1 1 1 ∷ at 1 2 2 ∷ at 1 2 1 ∷ []) }
+    ensures alltoall { AllPairs Before (at 2 2 8 ∷ at 2 2 4 ∷ []) }
+{}
 
 /// A node that is alone has gathered its one chunk in a step without sends.
 pub fn one_node_has_gathered()

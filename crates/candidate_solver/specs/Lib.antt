@@ -4,5 +4,4 @@ pub mod Faults
 pub mod Trying
 pub mod Single
 pub mod Laws
-pub mod Examples
 pub mod Asked

@@ -7,10 +7,6 @@ mod kept;
 mod laws;
 mod question;
 mod searching;
-#[cfg(test)]
-mod solving_tests;
-#[cfg(test)]
-mod tests;
 mod trying;
 
 pub use engine_rules::{Engine, EngineFault, EngineView, Settled};

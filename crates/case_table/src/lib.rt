@@ -3,8 +3,6 @@
 
 mod row;
 mod table;
-#[cfg(test)]
-mod tests;
 mod vectors;
 
 pub use row::Row;

@@ -8,8 +8,7 @@ mod laws;
 mod layout;
 mod pattern;
 mod spec;
-#[cfg(test)]
-mod tests;
+mod vectors;
 
 pub use collective::Collective;
 pub use instance::{Instance, chunks_of, demand_of, instance_of, reduces};
@@ -23,3 +22,6 @@ pub use layout::Layout;
 pub use pattern::Pattern;
 pub use spec::{Spec, spec_demand, spec_instance};
 pub use std::alloc::AllocError as OutOfMemory;
+pub use vectors::{
+    a_pattern_is_copied, adding_on_three_nodes, chunk_counts, copying_on_three_nodes,
+};

@@ -8,8 +8,6 @@ mod fault;
 mod key;
 mod kind_word;
 mod reading;
-#[cfg(test)]
-mod tests;
 mod values;
 mod vectors;
 mod verb;

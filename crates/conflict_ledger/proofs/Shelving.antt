@@ -1,8 +1,8 @@
 -- What the files of a ledger on a shelf become.
-use Rattle.std.proofs.Common.{◌≡◌, ℕ, Bool, true, false, List, [], ◌∷◌, ◌++◌, Option, take, drop, refl, sym, ap, ◌∙◌, subst, inl, inr, ⊎_elim, arith}
+use Rattle.std.proofs.Common.{◌≡◌, ℕ, Bool, true, List, [], ◌∷◌, ◌++◌, take, drop, refl, sym, ap, ◌∙◌, subst, inl, inr, ⊎_elim}
 use Rattle.std.specs.Prelude.{◌≢◌, ◌⊎◌, IsTrue, Some, Contains, map, not}
 use Rattle.std.specs.List.{list_any}
-use Rattle.std.proofs.lemmas.Bool.{cases_Bool, false≢true, or_left, or_right}
+use Rattle.std.proofs.lemmas.Bool.{cases_Bool, false≢true, or_right}
 use Rattle.std.proofs.lemmas.List.{append_assoc, take-append-drop}
 use Rattle.std.proofs.lemmas.List.Folds.{list_any_at}
 use Rattle.std.proofs.lemmas.List.Elements.{Contains-append_left, Contains-push}
@@ -20,7 +20,7 @@ use Rattle.outer_ports.specs.declared.proof_name.ProofName.{ProofName}
 use Rattle.outer_ports.specs.Port.{Tells}
 use Rattle.outer_ports.specs.Files.{Files}
 use Rattle.outer_ports.specs.Shelf.{OthersStay}
-use Rattle.ledger_rules.specs.Logs.{checker_of, learned}
+use Rattle.ledger_rules.specs.Logs.{learned}
 use Rattle.conflict_ledger.specs.Shelved.{log_text, IsBegun, ShelfMoves, ShelfAgrees, ShelfMoves-trans}
 
 -- ---- one line more

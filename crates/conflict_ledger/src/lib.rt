@@ -6,8 +6,6 @@ mod copying;
 mod kept;
 mod pair;
 mod shelved;
-#[cfg(test)]
-mod tests;
 
 pub use checked::CheckedLedger;
 pub use kept::KeptLedger;

@@ -1,13 +1,13 @@
 -- No part of the topology leaves more lines and numbers than there were.
 use Rattle.std.proofs.Common.{◌≡◌, ℕ, ◌+◌, ◌^◌, ◌<◌, ◌≤◌, zero, suc, Bool, true, false, List, [], ◌∷◌, ◌++◌, length, drop, Option, None, Some, Result, Ok, Err, refl, sym, ap, ◌∙◌, subst, arith, length-drop}
 use Rattle.std.specs.Prelude.{◌==◌, codes, if◌then◌else◌}
-use Rattle.text_lines.specs.Text.{Row, Place, behind, rows_of, start, onto_row}
+use Rattle.text_lines.specs.Text.{Row, Place, rows_of, start, onto_row}
 use Rattle.text_lines.specs.Check.{◌>>=◌, at_line, first, line_part}
 use Rattle.text_lines.proofs.Checks.{bind_ok, ok_is, part_ok}
 use Rattle.schedule.specs.Links.{GroupValue}
 use Rattle.collective_spec.specs.Patterns.{PatternValue}
 use Rattle.topology_text.specs.declared.fault.TopologyCode.{TopologyCode}
-use Rattle.topology_text.specs.Reading.{begins, header_line, nodes_line, group_row, groups_from, groups_at, custom_line, holders_line, row_of_pairs, holders_at, Pairs, pattern_of, pattern_at}
+use Rattle.topology_text.specs.Reading.{begins, group_row, groups_from, custom_line, holders_line, row_of_pairs, holders_at, Pairs, pattern_of, pattern_at}
 use Rattle.report_form.specs.declared.fault.ReportCode.{ReportCode}
 use Rattle.report_form.specs.Lines.{among}
 use Rattle.report_lines.specs.Room.{Onward}

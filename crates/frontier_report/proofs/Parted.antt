@@ -1,5 +1,5 @@
 -- The loops over parts of several lines, one turn at a time.
-use Rattle.std.proofs.Common.{◌≡◌, ℕ, ◌+◌, ◌-◌, ◌≤◌, ◌<◌, zero, suc, ◌∷◌, [], ◌++◌, List, Bool, true, false, Option, None, Some, Ok, Err, Result, length, refl, ◌∙◌, sym, ap, arith}
+use Rattle.std.proofs.Common.{◌≡◌, ℕ, ◌+◌, ◌-◌, ◌≤◌, ◌<◌, zero, suc, ◌∷◌, [], ◌++◌, List, Bool, true, false, Ok, Err, Result, length, refl, ◌∙◌, sym, ap, arith}
 use Rattle.text_lines.specs.Text.{Row, Place}
 use Rattle.text_lines.specs.Check.{first}
 use Rattle.report_form.specs.declared.fault.ReportCode.{ReportCode}

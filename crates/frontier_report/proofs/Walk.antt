@@ -1,5 +1,5 @@
 -- The walk to a line by its number.
-use Rattle.std.proofs.Common.{◌≡◌, ℕ, ◌+◌, ◌-◌, ◌<◌, ◌≤◌, zero, suc, List, [], ◌∷◌, drop, Option, None, slice_get, refl, sym, ap, ◌∙◌, arith}
+use Rattle.std.proofs.Common.{◌≡◌, ℕ, ◌+◌, ◌-◌, ◌<◌, suc, List, [], ◌∷◌, drop, slice_get, refl, sym, ap, ◌∙◌, arith}
 
 -- a line taken is a line less to walk
 pub walked : {A : Type 0} (rows rest : List A) (n m target : ℕ) → n < target → m ≡ n + 1 → rest ≡ drop 1 rows → slice_get rest (target - m) ≡ slice_get rows (target - n)

@@ -8,8 +8,6 @@ mod points;
 mod reading;
 mod rounds;
 mod sends;
-#[cfg(test)]
-mod tests;
 mod topology;
 
 pub use reading::read_report;

@@ -8,8 +8,6 @@ mod invert;
 mod judge;
 pub mod laws;
 pub mod reduction_laws;
-#[cfg(test)]
-mod tests;
 pub mod vectors;
 mod verdict;
 

@@ -1,17 +1,16 @@
 -- Held clauses of which every literal stands in a clause.
-use Rattle.std.proofs.Common.{◌≡◌, ℕ, zero, suc, ◌+◌, ◌<◌, Bool, true, false, List, [], ◌∷◌, ◌++◌, length, take, get_or, refl, sym, ap, ◌∙◌, ⊎_elim, arith}
+use Rattle.std.proofs.Common.{◌≡◌, ℕ, zero, suc, ◌<◌, Bool, true, false, List, [], ◌∷◌, length, get_or, refl, sym, ap, ◌∙◌, ⊎_elim, arith}
 use Rattle.std.specs.Prelude.{◌&&◌, ◌||◌, Contains}
 use Rattle.std.specs.List.{list_any}
-use Rattle.std.proofs.lemmas.Bool.{false≢true, cases_Bool, cases_lt, and_parts, or_left, or_right, or_from, or_parts, or_cases}
-use Rattle.std.proofs.lemmas.List.{get_or_default, get_or_past, take_more}
+use Rattle.std.proofs.lemmas.Bool.{false≢true, cases_Bool, cases_lt, and_parts, or_right, or_from, or_parts}
+use Rattle.std.proofs.lemmas.List.{get_or_default, get_or_past}
 use Rattle.std.proofs.lemmas.List.Elements.{All-contains}
 use Rattle.std.proofs.lemmas.List.Sums.{AllPass-from_list_all}
 use Rattle.std.proofs.lemmas.Map.Views.{Contains-from_any}
-use Rattle.cnf_formula.specs.Literals.{LitValue, same_literal, has_literal, is_superset, code_of}
+use Rattle.cnf_formula.specs.Literals.{LitValue, has_literal, is_superset, code_of}
 use Rattle.cnf_formula.proofs.Clauses.{same_is}
 use Rattle.lrat_checker.specs.Stored.{list_at, IsLead, IsLed, held_of, covers}
 use Rattle.proof_rules.specs.Held.{Entry}
-use Rattle.proof_rules.proofs.Taking.{same_itself}
 use Rattle.lrat_checker.proofs.Placed.{held_true, held_false}
 
 -- ---- a test of what is held, by places

@@ -1,21 +1,12 @@
 -- The list that a clause is put into.
-use Rattle.std.proofs.Common.{◌≡◌, ◌≢◌, ℕ, ◌+◌, ◌*◌, ◌<◌, true, List, [], ◌∷◌, sym, ap, ◌∙◌, subst, arith}
-use Rattle.std.proofs.lemmas.Bool.{false≢true}
+use Rattle.std.proofs.Common.{ℕ, ◌+◌, ◌*◌, ◌<◌, List, [], ◌∷◌, arith}
 use Rattle.std.proofs.lemmas.List.Elements.{All-contains}
 use Rattle.std.proofs.lemmas.Map.Views.{Contains-from_any}
-use Rattle.cnf_formula.specs.Literals.{LitValue, has_literal, code_of}
+use Rattle.cnf_formula.specs.Literals.{LitValue}
 use Rattle.cnf_formula.specs.Formulas.{IsAbout, IsClause}
 use Rattle.cnf_formula.proofs.Clauses.{same_is}
 use Rattle.lrat_checker.specs.Stored.{IsLead}
 use Rattle.lrat_checker.proofs.Marked.{code_within}
-
-pub is_lead : (lits : List LitValue) (l : LitValue) (code : ℕ) → has_literal lits l ≡ true → code ≡ code_of l → IsLead lits code
-is_lead [] l code h e = absurd (false≢true h)
-is_lead (x ∷ xs) l code h e = (l, h, e)
-
-pub led_by : (lits : List LitValue) (code : ℕ) → IsLead lits code → code ≢ 0 → (l : LitValue) × (has_literal lits l ≡ true) × (code ≡ code_of l)
-led_by [] code e some = absurd (some e)
-led_by (x ∷ xs) code lead some = lead
 
 pub lead_within : (vars : ℕ) (lits : List LitValue) (code : ℕ) → IsClause vars lits → IsLead lits code → code < 2 * vars + 2
 lead_within vars [] code about e = omega (arith, e)

@@ -18,9 +18,8 @@ use std::alloc::Global;
 use std::collections::BTreeSet;
 use std::marker::Model;
 
-/// Clauses by ascending numbers, whether each is held, and for each literal the places of the clauses in which it
-/// stands, and of some of these: each clause is led by one of its literals. A clause that is no longer held stays in its
-/// place.
+/// Clauses by ascending numbers, and whether each is held; one that is no longer held stays in its place. For each literal
+/// there are the places of the clauses in which it stands, and of those that it leads: one literal of a clause leads it.
 #[derive(Drop)]
 pub(crate) struct ClauseTable {
     vars: u32,

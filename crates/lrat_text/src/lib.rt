@@ -9,8 +9,6 @@ mod lines;
 mod numbers;
 mod printing;
 mod reader;
-#[cfg(test)]
-mod tests;
 mod tokens;
 mod vectors;
 

@@ -49,6 +49,3 @@ pub use sure_source::SureSource;
 pub use vectors::file_words;
 pub use writer_sink::WriterSink;
 pub use writing::write_all;
-
-#[cfg(test)]
-mod tests;

@@ -3,8 +3,6 @@
 
 mod findings;
 mod searching;
-#[cfg(test)]
-mod tests;
 mod trying;
 
 pub use searching::search;

@@ -1,7 +1,7 @@
 //! The replay of a point of a report: what each node has after each step, the verdict on the schedule, and the run of its programs in an order.
 #![tactic(auto)]
 
-mod asked;
+mod adding;
 mod bags;
 mod order;
 mod placements;

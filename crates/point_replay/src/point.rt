@@ -8,7 +8,7 @@ ghost use Rattle.point_replay.specs.Showing.{adding_of, chunks_at, is_copied, sh
 ghost use Rattle.point_replay.specs.Points.{IsShowable, body_lines};
 
 use crate::OutOfMemory;
-use crate::asked::{copies, is_joined, steps_that_add};
+use crate::adding::{copies, is_joined, steps_that_add};
 use crate::runs::{push_placed_run, push_stored_run};
 use crate::words::push_numbered;
 use allreduce_join::all_summed;

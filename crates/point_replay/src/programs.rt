@@ -8,7 +8,7 @@ ghost use Rattle.point_replay.specs.Showing.{adding_of, nodes_of, shown_in};
 ghost use Rattle.point_replay.specs.Points.{programs_of_point};
 
 use crate::OutOfMemory;
-use crate::asked::{copies, steps_that_add};
+use crate::adding::{copies, steps_that_add};
 use candidate_order::Point;
 use node_programs::{Programs, print_programs, programs_of};
 use outer_ports::Part;

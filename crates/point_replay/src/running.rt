@@ -8,7 +8,7 @@ ghost use Rattle.point_replay.specs.Points.{IsShowable};
 ghost use Rattle.point_replay.specs.Showing.{chunks_at, machine_of, nodes_of, shown_in, start_bags};
 
 use crate::OutOfMemory;
-use crate::asked::copies;
+use crate::adding::copies;
 use crate::programs::point_programs;
 use candidate_order::Point;
 use collective_spec::{Instance, Spec, spec_instance};

@@ -8,8 +8,6 @@ mod line_test;
 mod lines_judge;
 mod log_test;
 mod refutation_test;
-#[cfg(test)]
-mod tests;
 mod text_judge;
 mod verdict;
 

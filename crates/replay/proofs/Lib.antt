@@ -3,4 +3,3 @@ pub mod Moving
 pub mod Ended
 pub mod Arriving
 pub mod Stepping
-pub mod Valid

@@ -5,8 +5,6 @@ mod by_list;
 mod by_order;
 mod drawing;
 mod steps;
-#[cfg(test)]
-mod tests;
 
 pub use by_list::{ListEnd, replay_by_list};
 pub use by_order::replay_by_order;

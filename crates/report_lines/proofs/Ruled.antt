@@ -1,5 +1,5 @@
 -- Lines of candidates: their shape, and then the rule.
-use Rattle.std.proofs.Common.{◌≡◌, ℕ, Bool, true, false, List, Option, None, Some, Result, Ok, Err, refl, sym, ap, ◌∙◌}
+use Rattle.std.proofs.Common.{◌≡◌, ℕ, Bool, true, false, List, Option, None, Some, Result, Ok, Err, refl}
 use Rattle.std.specs.Prelude.{◌&&◌, not, codes, if◌then◌else◌}
 use Rattle.text_lines.specs.Text.{Row}
 use Rattle.text_lines.specs.Check.{◌>>=◌, refuse}

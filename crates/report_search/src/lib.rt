@@ -6,8 +6,6 @@ mod copying;
 mod joining;
 mod part;
 mod searching;
-#[cfg(test)]
-mod tests;
 mod turning;
 mod whole;
 

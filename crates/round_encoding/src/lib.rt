@@ -9,8 +9,6 @@ mod grouping;
 mod laws;
 mod rounding;
 mod schedule_said;
-#[cfg(test)]
-mod tests;
 mod vectors;
 
 pub use encoding::{Encoding, encode};

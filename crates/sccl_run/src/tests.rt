@@ -6,10 +6,8 @@ use std::alloc::{AllocError, Global};
 use std::process::Abort;
 
 mod checks;
-mod families;
-mod numbers;
+mod commands;
 mod ports;
-mod programs;
 mod proofs;
 mod ranges;
 mod refusals;
@@ -17,8 +15,8 @@ mod replays;
 mod reports;
 mod search_files;
 mod searches;
+mod streams;
 mod texts;
-mod trials;
 
 fn words(alloc: Global, all: &[&str]) -> Result<Vec<String>, AllocError> {
     let mut words = Vec::new(alloc);

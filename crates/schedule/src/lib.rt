@@ -11,8 +11,6 @@ mod placement;
 mod range;
 mod run;
 mod schedule;
-#[cfg(test)]
-mod tests;
 mod tight;
 mod topology;
 pub mod vectors;

@@ -6,8 +6,6 @@ mod lines;
 mod number;
 mod scan;
 mod stop;
-#[cfg(test)]
-mod tests;
 mod tokens;
 
 pub use line::Line;

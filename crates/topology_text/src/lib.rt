@@ -15,8 +15,6 @@ mod pattern;
 mod pattern_lines;
 mod printing;
 mod reading;
-#[cfg(test)]
-mod tests;
 
 pub use families::family;
 pub use family_kind::{FamilyKind, family_allows};

@@ -5,8 +5,6 @@ mod asked;
 mod counts;
 mod replays;
 mod summary;
-#[cfg(test)]
-mod tests;
 mod trial;
 mod vectors;
 

@@ -1,8 +1,8 @@
 //! Checks of reports, over files in memory.
 
-use super::reports::{ALLREDUCE, RELAY};
+use super::reports::RELAY;
 use super::search_files::{ONE_STEP, first};
-use super::{changed, runs, words};
+use super::{changed, words};
 use crate::{Status, run};
 use outer_ports::{FileKind, MemoryShelf, MemorySink, SureSource};
 use std::alloc::AllocError;
@@ -103,45 +103,5 @@ fn verdicts(rt: HostRuntime) -> Result<(), Fail> {
             checks(&rt, piece, &report, files, line)?;
         }
     }
-    Ok(())
-}
-
-#[test]
-fn verdicts_on_joins(rt: HostRuntime) -> Result<(), Fail> {
-    checks(&rt, 7, ALLREDUCE, &[], b"verified\n")?;
-    let report = changed(
-        rt.alloc(),
-        ALLREDUCE,
-        b"point 2 2 1 joined 1\nrounds 1 1\nsend 0 n1 n0 1\nsend 1 n0 n1 1\nsend 0 n0 n1 2\nsend 1 n1 n0 2\n",
-        b"",
-    )?;
-    checks(&rt, 7, &report, &[], b"refused 8 8 joined-2-2-1\n")?;
-    Ok(())
-}
-
-#[test]
-fn refused_checks(rt: HostRuntime) -> Result<(), Fail> {
-    runs(
-        &rt,
-        &["check"],
-        b"sccl 3\n",
-        Status::BadReport,
-        b"refused 7 1 1\n",
-    )?;
-    let long = vec![in rt.alloc(); b'\n'; 1048577]?;
-    runs(
-        &rt,
-        &["check"],
-        &long,
-        Status::TooLong,
-        b"refused 11 0 1048576\n",
-    )?;
-    runs(
-        &rt,
-        &["check"],
-        b"sccl 1\nsynth collective=alltoall k=0 steps=1 chunks=1 conflicts=1000\ntopology 1\nnodes n0 n1\ngroup 1 n0>n1\ngroup 1 n1>n0\nfrontier whole\nend\n",
-        Status::NoCandidate,
-        b"refused 10 0 0\n",
-    )?;
     Ok(())
 }

@@ -1,10 +1,10 @@
 //! Runs of each command over ports that fail at any of their calls.
 
 use super::checks::{BOTH, Files};
+use super::commands::TRIAL_0;
 use super::reports::{ALLREDUCE, RELAY, REPLAY, REPORT};
 use super::search_files::first;
 use super::searches::{LINE, PAIR, PAIR_REPORT, PAIR_WORDS};
-use super::trials::TRIAL_0;
 use super::words;
 use crate::{Status, run};
 use outer_ports::{MemoryShelf, MemorySink, MemorySource};

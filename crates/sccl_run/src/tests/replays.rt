@@ -1,6 +1,5 @@
 //! Replays of points.
 
-use super::numbers::push;
 use super::reports::{ALLREDUCE, CUSTOM, RELAY, REPLAY, REPORT, TWO_POINTS};
 use super::{changed, runs};
 use crate::Status;
@@ -99,65 +98,5 @@ fn any_point(rt: HostRuntime) -> Result<(), Fail> {
     for (point, report, status, text) in table {
         runs(&rt, &["replay", point], report, status, text)?;
     }
-    Ok(())
-}
-
-#[test]
-fn in_an_order(rt: HostRuntime) -> Result<(), Fail> {
-    runs(
-        &rt,
-        &["replay", "point=1", "order=0"],
-        REPORT,
-        Status::Done,
-        b"replay 1\nstep 0\nn0 0\nn1\nstep 1\nn0 0\nn1 0\nholds\norder 0\nevents 2\nmoves n0 n1\nn0 0\nn1 0\nend\n",
-    )?;
-    Ok(())
-}
-
-/// On eight nodes, each joined to each by a wide link, 48 chunks go from their holders to all others at once.
-#[test]
-fn report_of_336_sends(rt: HostRuntime) -> Result<(), Fail> {
-    let alloc = rt.alloc();
-    let mut report = String::from_str(
-        alloc,
-        "sccl 1\nsynth collective=allgather k=0 steps=1 chunks=6 conflicts=1\ntopology 1\nnodes n0 n1 n2 n3 n4 n5 n6 n7\n",
-    )?;
-    for from in 0..8 {
-        for to in 0..8 {
-            if from != to {
-                push(&mut report, "group 16 n", from, ">")?;
-                push(&mut report, "n", to, "\n")?;
-            }
-        }
-    }
-    report.push_str("frontier whole\npoint 1 1 6 open\nrounds 1\n")?;
-    for chunk in 0..48 {
-        for to in 0..8 {
-            if to != chunk % 8 {
-                push(&mut report, "send ", chunk, " n")?;
-                push(&mut report, "", chunk % 8, " n")?;
-                push(&mut report, "", to, " 1\n")?;
-            }
-        }
-    }
-    report.push_str("end\n")?;
-    let mut text = String::from_str(alloc, "replay 1\nstep 0\n")?;
-    for node in 0..8 {
-        push(&mut text, "n", node, "")?;
-        for copy in 0..6 {
-            push(&mut text, " ", 8 * copy + node, "")?;
-        }
-        text.push_str("\n")?;
-    }
-    text.push_str("step 1\n")?;
-    for node in 0..8 {
-        push(&mut text, "n", node, "")?;
-        for chunk in 0..48 {
-            push(&mut text, " ", chunk, "")?;
-        }
-        text.push_str("\n")?;
-    }
-    text.push_str("holds\nend\n")?;
-    replays(&rt, report.as_bytes(), Status::Done, text.as_bytes())?;
     Ok(())
 }

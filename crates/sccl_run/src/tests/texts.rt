@@ -1,11 +1,8 @@
 //! Texts that are no reports.
 
-use super::reports::{CUSTOM, RELAY, REPORT, TWO_POINTS};
-use super::{changed, runs, words};
-use crate::{Status, run};
-use outer_ports::{SureShelf, SureSink, SureSource};
-use std::alloc::AllocError;
-use std::process::Abort;
+use super::reports::{CUSTOM, RELAY, REPORT};
+use super::{changed, runs};
+use crate::Status;
 use std::test::Fail;
 
 /// The words that the texts stand behind.
@@ -94,41 +91,5 @@ fn texts_that_are_no_report(rt: HostRuntime) -> Result<(), Fail> {
         let report = changed(rt.alloc(), report, old, new)?;
         runs(&rt, &ASKED, &report, Status::BadReport, text)?;
     }
-    Ok(())
-}
-
-#[test]
-fn prefixes_of_a_report(rt: HostRuntime) -> Result<(), Fail> {
-    let alloc = rt.alloc();
-    let words = words(alloc, &["replay", "point=2"])?;
-    for end in 0..TWO_POINTS.len() {
-        let mut source = SureSource::new(Vec::from_slice(alloc, &TWO_POINTS[..end])?);
-        let mut sink = SureSink::new(alloc)?;
-        let mut shelf = SureShelf::new(alloc)?;
-        assert_eq!(rt;
-            run(alloc, &words, &mut source, &mut sink, &mut shelf),
-            Status::BadReport
-        );
-    }
-    Ok(())
-}
-
-#[test]
-fn length(rt: HostRuntime) -> Result<(), Fail> {
-    let long = vec![in rt.alloc(); b'\n'; 1048577]?;
-    runs(
-        &rt,
-        &ASKED,
-        &long,
-        Status::TooLong,
-        b"refused 11 0 1048576\n",
-    )?;
-    runs(
-        &rt,
-        &ASKED,
-        &long[1..],
-        Status::BadReport,
-        b"refused 7 1 1\n",
-    )?;
     Ok(())
 }

@@ -1,4 +1,4 @@
-use Rattle.std.proofs.Common.{◌≡◌, ◌+◌, ◌≤◌, None, length, map}
+use Rattle.std.proofs.Common.{◌≡◌, ◌+◌, ◌≤◌, None, length}
 use Rattle.std.specs.Prelude.{codes}
 use Rattle.std.specs.List.{last_or}
 use Rattle.report_form.specs.Lines.{lines_from, lines_at}

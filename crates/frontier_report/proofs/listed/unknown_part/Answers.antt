@@ -1,4 +1,4 @@
-use Rattle.std.proofs.Common.{◌≡◌, ◌∙◌, sym, ap, None, Some, ◌+◌, ◌≤◌, length, map, arith, rules}
+use Rattle.std.proofs.Common.{◌≡◌, ◌∙◌, sym, ap, None, Some, ◌+◌, length, arith, rules}
 use Rattle.std.specs.Prelude.{codes}
 use Rattle.text_lines.specs.Text.{Place, behind}
 use Rattle.text_lines.specs.Line.{row_at}

@@ -1,9 +1,8 @@
-use Rattle.std.proofs.Common.{◌≡◌, ◌∙◌, [], ◌∷◌, sym, ap, None, Some, ◌+◌, ◌-◌, ◌≤◌, length, length-append, arith, rules}
+use Rattle.std.proofs.Common.{◌≡◌, ◌∙◌, [], ◌∷◌, ap, ◌+◌, ◌-◌, length, length-append, arith}
 use Rattle.std.specs.Prelude.{codes}
 use Rattle.report_form.specs.Lines.{parts_from}
 use Rattle.report_form.specs.Points.{joined_point_at}
 use Rattle.report_lines.specs.Asking.{asks}
-use Rattle.frontier_report.proofs.Turns.{last_push_map}
 use Rattle.frontier_report.proofs.Parted.{parts_step, parts_halt, parts_end, one_more}
 use Rattle.frontier_report.proofs.After.{joined_read, joined_halts}
 use Rattle.frontier_report.proofs.points.joined_points_part.Goals as goal

@@ -1,4 +1,4 @@
-use Rattle.std.proofs.Common.{◌≡◌, ◌∙◌, [], ◌∷◌, sym, ap, None, Some, ◌+◌, ◌-◌, ◌≤◌, length, length-append, arith, rules}
+use Rattle.std.proofs.Common.{◌≡◌, ◌∙◌, [], ◌∷◌, sym, ap, None, Some, ◌+◌, ◌-◌, length, length-append, arith}
 use Rattle.std.specs.Prelude.{codes}
 use Rattle.report_form.specs.Lines.{parts_from}
 use Rattle.report_form.specs.Points.{frontier_point_at}

@@ -1,4 +1,4 @@
-use Rattle.std.proofs.Common.{◌≡◌, ◌+◌, ◌^◌, ◌≤◌, length, arith}
+use Rattle.std.proofs.Common.{arith}
 use Rattle.text_lines.specs.Text.{rows_of}
 use Rattle.topology_text.proofs.Laws.{parts_are}
 use Rattle.frontier_report.proofs.Onward.{among_is, room_at_first}

@@ -1,9 +1,8 @@
-use Rattle.std.proofs.Common.{◌≡◌, ◌+◌, ◌≤◌, None, length, map}
+use Rattle.std.proofs.Common.{◌≡◌, ◌+◌, ◌≤◌, None, length}
 use Rattle.std.specs.Prelude.{codes}
 use Rattle.std.specs.List.{last_or}
 use Rattle.report_form.specs.Lines.{lines_from, lines_at}
 use Rattle.report_form.specs.Points.{send_line}
-use Rattle.report_lines.specs.Asking.{asks}
 use Rattle.frontier_report.proofs.sends.sends_part.Given as goal
 
 abbrev pub invariant-loop-line : goal.invariant-loop-line

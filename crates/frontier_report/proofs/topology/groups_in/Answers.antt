@@ -1,6 +1,5 @@
-use Rattle.std.proofs.Common.{[], refl}
-use Rattle.topology_text.specs.Reading.{nodes_line}
-use Rattle.frontier_report.proofs.Onward.{part_onward, groups_onward, pattern_onward}
+use Rattle.std.proofs.Common.{[]}
+use Rattle.frontier_report.proofs.Onward.{groups_onward}
 use Rattle.frontier_report.proofs.topology.groups_in.Goals as goal
 
 pub returns-in-Ok-clause-onward : goal.returns-in-Ok-clause-onward

@@ -1,6 +1,6 @@
-use Rattle.std.proofs.Common.{[], refl}
+use Rattle.std.proofs.Common.{refl}
 use Rattle.topology_text.specs.Reading.{nodes_line}
-use Rattle.frontier_report.proofs.Onward.{part_onward, groups_onward, pattern_onward}
+use Rattle.frontier_report.proofs.Onward.{part_onward}
 use Rattle.frontier_report.proofs.topology.names_at.Goals as goal
 
 pub returns-in-Ok-clause-onward : goal.returns-in-Ok-clause-onward

@@ -1,4 +1,4 @@
-use Rattle.std.proofs.Common.{◌≡◌, sym}
+use Rattle.std.proofs.Common.{sym}
 use Rattle.report_form.specs.Asked.{kind_named}
 use Rattle.report_lines.proofs.Keyed.{keyed_none, keyed_some}
 use Rattle.report_lines.proofs.asked.next_kind.Goals as goal

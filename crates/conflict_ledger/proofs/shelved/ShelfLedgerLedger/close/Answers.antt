@@ -1,9 +1,8 @@
-use Rattle.std.proofs.Common.{◌≡◌, [], ◌∷◌, ◌++◌, List, sym, ap, ◌∙◌, subst}
+use Rattle.std.proofs.Common.{[], ◌∷◌, ◌++◌, List, sym, subst}
 use Rattle.cnf_formula.specs.Lines.{ProofLineValue}
 use Rattle.proof_rules.specs.Held.{start_of}
 use Rattle.proof_rules.specs.Refuting.{AllImplied}
-use Rattle.ledger_rules.specs.Logs.{learned}
-use Rattle.conflict_ledger.specs.Shelved.{log_text, ShelfMoves, ShelfAgrees}
+use Rattle.conflict_ledger.specs.Shelved.{ShelfMoves, ShelfAgrees}
 use Rattle.conflict_ledger.proofs.Shelving.{IsPut, IsWhole, implied_more, moves_whole, agrees_closed}
 use Rattle.conflict_ledger.proofs.shelved.ShelfLedgerLedger.close.Goals as goal
 

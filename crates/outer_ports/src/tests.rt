@@ -1,3 +1,0 @@
-mod folders;
-mod ports;
-mod shelves;

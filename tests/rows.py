@@ -1,0 +1,142 @@
+"""Texts that the program refuses, each with the code and the line of its refusal, and some that it takes."""
+
+FRONT = "topology 1\nnodes n0 n1\n"
+GIVEN = "topology 2\nnodes a b c\ngroup 1 a>b\ngroup 1 b>c\n"
+
+# Topologies: the text, the code and the line.
+TOPOLOGIES = [
+    ("", 1, 1),
+    ("topology 1", 1, 1),
+    ("topology 2", 1, 1),
+    ("topology 3\nnodes n0\n", 1, 1),
+    ("topology 1 \nnodes n0\n", 1, 1),
+    ("topology 1\n", 11, 2),
+    ("topology 1\nnodes\n", 11, 2),
+    ("topology 1\nnodes", 2, 2),
+    ("topology 1\nnodes n0 \n", 2, 2),
+    ("topology 1\nnodes  n0\n", 2, 2),
+    ("topology 1\nnodesn0\n", 2, 2),
+    ("topology 1\nnodes N0\n", 3, 2),
+    ("topology 1\nnodes abcdefghijklmnopq\n", 3, 2),
+    ("topology 1\nnodes n0 n0\n", 4, 2),
+    ("topology 1\nnodes a b c d e f g h i j k l m n o p q\n", 9, 2),
+    (FRONT + "group 1 n0>n1", 2, 3),
+    (FRONT + "group 1\n", 2, 3),
+    (FRONT + "group 1 n0>n1 \n", 2, 3),
+    (FRONT + "\n", 2, 3),
+    (FRONT + "group 1 n0n1\n", 2, 3),
+    (FRONT + "group 1 n0>n1>n0\n", 2, 3),
+    (FRONT + "group 1 n0>n2\n", 5, 3),
+    (FRONT + "group 1 n0>n0\n", 6, 3),
+    (FRONT + "group 1 n0>n1 n0>n1\n", 7, 3),
+    (FRONT + "group 0 n0>n1\n", 8, 3),
+    (FRONT + "group 17 n0>n1\n", 8, 3),
+    (FRONT + "group 01 n0>n1\n", 8, 3),
+    (FRONT + "group 1 n0>n1\n" * 257, 10, 259),
+    # two faults on one line, and on two
+    ("topology 1\nnodes N0 N0\n", 3, 2),
+    ("topology 1\nnodes n0 N1 n0\n", 3, 2),
+    ("topology 1\nnodes a b c d e f g h i j k l m n o p P\n", 9, 2),
+    (FRONT + "group 17 n2>n2\n", 8, 3),
+    (FRONT + "group 1 n2>n2\n", 5, 3),
+    (FRONT + "group 1 n0>n1 n0>n0 n0>n1\n", 6, 3),
+    (FRONT + "group 1 n0>n1 n0>n1 n9\n", 7, 3),
+    (FRONT + "group 1 n0>n1\ngroup 1 n0>n2\ngroup 0 n0>n1\n", 5, 4),
+    ("topology 1\nnodes n0 n0\ngroup 0 n0>n1\n", 4, 2),
+    # version 1 has no pattern, and version 2 has one
+    (FRONT + "custom 1\nbefore 0\nafter 0\n", 2, 3),
+    (GIVEN, 2, 5),
+    (GIVEN + "custom 1", 2, 5),
+    (GIVEN + "custom\n", 2, 5),
+    (GIVEN + "customs 1\n", 2, 5),
+    (GIVEN + "custom 1 \n", 2, 5),
+    (GIVEN + "custom  1\n", 2, 5),
+    (GIVEN + "nodes 1\n", 2, 5),
+    (GIVEN + "custom \n", 13, 5),
+    (GIVEN + "custom 0\n", 13, 5),
+    (GIVEN + "custom 17\n", 13, 5),
+    (GIVEN + "custom 01\n", 13, 5),
+    (GIVEN + "group 1 a>b\ncustom 17\n", 13, 6),
+    (GIVEN + "custom 1\nbefore 0 a\n", 2, 7),
+    (GIVEN + "custom 1\nbefore 0 a\nafter 0 c", 2, 7),
+    (GIVEN + "custom 1\nafter 0 a\nbefore 0 c\n", 2, 6),
+    (GIVEN + "custom 1\nbefore 1 a\nafter 0 c\n", 2, 6),
+    (GIVEN + "custom 1\nbefore 00 a\nafter 0 c\n", 2, 6),
+    (GIVEN + "custom 1\nbefore 0 a \nafter 0 c\n", 2, 6),
+    (GIVEN + "custom 1\nbefore 0 d\nafter 0 c\n", 5, 6),
+    (GIVEN + "custom 1\nbefore 0 c a\nafter 0 c\n", 14, 6),
+    (GIVEN + "custom 1\nbefore 0 a\nafter 0 c c\n", 14, 7),
+    (GIVEN + "custom 1\nbefore 0 c a d\nafter 0 c\n", 14, 6),
+    (GIVEN + "custom 2\nbefore 0 a\nafter 0 c\nbefore 1 a\nafter 2 a\n", 2, 9),
+    (GIVEN + "custom 1\nbefore 0 a\nafter 0 c\nbefore 1\n", 2, 8),
+]
+
+BROADCAST = (
+    "sccl 1\nsynth collective=broadcast k=0 steps=1 chunks=1 conflicts=1000 root=n0\ntopology 1\nnodes n0 n1\ngroup 1 n0>n1\n"
+    "group 1 n1>n0\nfrontier whole\npoint 1 1 1 optimal\nrounds 1\nsend 0 n0 n1 1\nend\n"
+)
+RELAY = (
+    "sccl 1\nsynth collective=broadcast k=0 steps=2 chunks=1 conflicts=1000 root=n0\ntopology 1\nnodes n0 n1 n2\ngroup 1 n0>n1\n"
+    "group 1 n1>n0\ngroup 1 n1>n2\ngroup 1 n2>n1\nfrontier whole\npoint 2 2 1 optimal\nrounds 1 1\nsend 0 n0 n1 1\n"
+    "send 0 n1 n2 2\nrefuted 1 1 1\nend\n"
+)
+ALLGATHER = (
+    "sccl 1\nsynth collective=allgather k=1 steps=2 chunks=2 conflicts=7\ntopology 1\nnodes a b\ngroup 2 a>b b>a\nfrontier whole\n"
+    "point 1 1 1 open\nrounds 1\nsend 0 a b 1\nsend 1 b a 1\npoint 1 2 2 optimal\nrounds 2\nsend 0 a b 1\nrefuted 2 2 2\n"
+    "unknown 2 3 2 7\nend\n"
+)
+ALLREDUCE = (
+    "sccl 1\nsynth collective=allreduce k=0 steps=1 chunks=1 conflicts=1000\ntopology 1\nnodes n0 n1\ngroup 1 n0>n1\n"
+    "group 1 n1>n0\nfrontier reduce\npoint 1 1 1 optimal\nrounds 1\nsend 0 n1 n0 1\nsend 1 n0 n1 1\nfrontier gather\n"
+    "point 1 1 1 optimal\nrounds 1\nsend 0 n0 n1 1\nsend 1 n1 n0 1\njoined\npoint 2 2 1 joined 1\nrounds 1 1\nsend 0 n1 n0 1\n"
+    "send 1 n0 n1 1\nsend 0 n0 n1 2\nsend 1 n1 n0 2\nend\n"
+)
+CUSTOM = (
+    "sccl 2\nsynth collective=custom k=0 steps=2 chunks=1 conflicts=1000\ntopology 2\nnodes a b c\ngroup 1 a>b\ngroup 1 b>c\n"
+    "custom 1\nbefore 0 a\nafter 0 c\nfrontier whole\npoint 2 2 1 optimal\nrounds 1 1\nsend 0 a b 1\nsend 0 b c 2\n"
+    "refuted 1 1 1\nend\n"
+)
+
+# Reports: a text, what is replaced in it by what, and the code and the line.
+REPORTS = [
+    (BROADCAST, "end\n", "", 2, 11),
+    (BROADCAST, "optimal", "best", 1, 8),
+    (BROADCAST, "point 1 1", "point 1 2", 3, 8),
+    (BROADCAST, "rounds 1", "rounds 2", 3, 9),
+    (BROADCAST, "root=n0", "root=n9", 3, 4),
+    (BROADCAST, " root=n0", "", 1, 2),
+    (BROADCAST, "=broadcast", "=custom", 1, 2),
+    (BROADCAST, "topology 1", "topology 2", 1, 3),
+    (BROADCAST, "end\n", "joined\nend\n", 1, 11),
+    (RELAY, "refuted 1 1 1", "refuted 3 3 1", 3, 14),
+    (RELAY, "send 0 n0 n1 1\nsend 0 n1 n2 2\n", "send 0 n1 n2 2\nsend 0 n0 n1 1\n", 3, 13),
+    (RELAY, "send 0", "send 1", 3, 12),
+    (RELAY, "n0 n1 1\n", "n0 n9 1\n", 1, 12),
+    (RELAY, "rounds 1 1", "rounds 1 65536", 1, 11),
+    (RELAY, "end\n", "end\nend\n", 1, 16),
+    (RELAY, "conflicts=1000", "conflicts=0", 3, 2),
+    (RELAY, "root=n0", "root=n9", 3, 4),
+    (ALLGATHER, "unknown 2 3 2 7\n", "unknown 2 3 2 18446744073709551623\n", 3, 15),
+    (ALLGATHER, "=allgather", "=alltoall", 3, 7),
+    (ALLREDUCE, "joined 1\n", "joined 2\n", 3, 18),
+    (CUSTOM, "=custom", "=allgather", 3, 2),
+    (CUSTOM, "topology 2", "topology 1", 1, 3),
+    (CUSTOM, "before 0 a", "before 0 c a", 1, 8),
+]
+
+# Families: the kind, the sizes that there are, and how many links there are at each.
+FAMILIES = {
+    "line": {it: 2 * it - 2 for it in range(1, 17)},
+    "ring": {it: 2 * it for it in range(3, 17)},
+    "complete": {it: it * (it - 1) for it in range(1, 17)},
+    "shared": {it: it * (it - 1) for it in range(2, 17)},
+    "cube": {2: 2, 4: 8, 8: 24, 16: 64},
+}
+FAMILY_TEXTS = {
+    ("line", 3): "topology 1\nnodes n0 n1 n2\ngroup 1 n0>n1\ngroup 1 n1>n0\ngroup 1 n1>n2\ngroup 1 n2>n1\n",
+    ("ring", 3): "topology 1\nnodes n0 n1 n2\ngroup 1 n0>n1\ngroup 1 n0>n2\ngroup 1 n1>n0\ngroup 1 n1>n2\ngroup 1 n2>n0\n"
+    "group 1 n2>n1\n",
+    ("cube", 4): "topology 1\nnodes n0 n1 n2 n3\ngroup 1 n0>n1\ngroup 1 n0>n2\ngroup 1 n1>n0\ngroup 1 n1>n3\ngroup 1 n2>n0\n"
+    "group 1 n2>n3\ngroup 1 n3>n1\ngroup 1 n3>n2\n",
+    ("shared", 3): "topology 1\nnodes n0 n1 n2\ngroup 1 n0>n1 n0>n2 n1>n0 n1>n2 n2>n0 n2>n1\n",
+}
