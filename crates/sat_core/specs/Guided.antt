@@ -1,5 +1,5 @@
 -- What a search keeps beside its core.
-use Rattle.std.specs.Prelude.{◌≡◌, length}
+use Rattle.std.specs.Prelude.{◌≡◌}
 use Rattle.trail_core.specs.Meaning.{CoreValue}
 use Rattle.sat_core.specs.declared.guide.Guide.{Guide}
 use Rattle.sat_core.specs.Met.{IsRested}

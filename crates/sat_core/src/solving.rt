@@ -1,6 +1,6 @@
 //! The search for a model of a formula, or for a refutation.
 
-ghost use Rattle.std.specs.Prelude.{◌≡◌, ◌≢◌, ℕ, ◌+◌, ◌<◌, ◌≤◌, ◌^◌, true, Bool, List, [], length, map, Ok, Err, OnOk};
+ghost use Rattle.std.specs.Prelude.{◌≡◌, ◌≢◌, ◌↔◌, ℕ, ◌+◌, ◌<◌, ◌≤◌, ◌^◌, true, Bool, List, [], length, map, Ok, Err, IsOk, IfOk, OnOk};
 ghost use Rattle.cnf_formula.specs.Formulas.{Satisfies};
 ghost use Rattle.cnf_formula.specs.Lines.{ProofLineValue};
 ghost use Rattle.cnf_formula.specs.declared.line.LratLine.TheVariants.{Addition};
@@ -9,7 +9,11 @@ ghost use Rattle.proof_rules.specs.Judging.{verdict_of};
 ghost use Rattle.proof_rules.specs.Refuting.{Refutes, SpentLog};
 ghost use Rattle.outer_ports.specs.Port.{HasCause};
 ghost use Rattle.ledger_rules.specs.Logs.{checker_of};
-ghost use Rattle.sat_core.specs.Ready.{AreNumbered, AreShort};
+ghost use Rattle.trail_core.specs.Meaning.{trues};
+ghost use Rattle.sat_core.specs.Guided.{IsGuided};
+ghost use Rattle.sat_core.specs.Loading.{own_of};
+ghost use Rattle.sat_core.specs.Ready.{AreNumbered, AreShort, IsReady};
+ghost use Rattle.sat_core.specs.Totals.{AreValues};
 
 use crate::fault::SolveFault;
 use crate::guide::Guide;
@@ -19,6 +23,7 @@ use crate::searching::{End, search};
 use cnf_formula::{Assignment, Formula};
 use ledger_rules::Ledger;
 use std::alloc::Global;
+use trail_core::Core;
 
 /// How a search ended.
 #[derive(Debug, Drop)]
@@ -33,6 +38,44 @@ pub enum SatAnswer {
 
 /// The last variable that a literal can name.
 const LAST_VARIABLE: u32 = 2_147_483_647;
+
+/// What a search begins with: a core with the formula's clauses, and a guide of it.
+fn prepared(alloc: Global, formula: &Formula, own: u32) -> Result<(Core, Guide), SolveFault>
+    requires { own ≡ own_of formula.now.vars }
+    ensures vars { IfOk result (λ both. both.0.vars ≡ own) }
+    ensures ready { IfOk result (λ both. IsReady formula.now [] both.0) }
+    ensures guided { IfOk result (λ both. IsGuided both.0 both.1) }
+    ensures fault { result ≢ Err SolveFault.LedgerFailed }
+{
+    let core = load(alloc, formula, own)?;
+    let guide = Guide::new(alloc, own)?;
+    Ok((core, guide))
+}
+
+/// The answer that a search's end gives: at `Total` the values of `vars` variables by the core, which has the first `own`.
+fn answer_of(
+    alloc: Global,
+    end: Result<End, SolveFault>,
+    core: &Core,
+    own: u32,
+    vars: u32,
+) -> Result<SatAnswer, SolveFault>
+    requires own { own ≡ core.now.vars }
+    requires small { own < 2147483648 }
+    requires some { own ≤ vars }
+    ensures model { (values : List Bool) → result ≡ Ok (SatAnswer.Model values)
+        → (end ≡ Ok End.Total) × (length values ≡ vars) × AreValues (trues core.now) own values }
+    ensures refuted { result ≡ Ok SatAnswer.Refuted → end ≡ Ok End.Refuted }
+    ensures spent { result ≡ Ok SatAnswer.Spent → end ≡ Ok End.Spent }
+    ensures answer { OnOk result (IsOk end) }
+    ensures fault { result ≡ Err SolveFault.LedgerFailed ↔ end ≡ Err SolveFault.LedgerFailed }
+{
+    match end? {
+        End::Total => Ok(SatAnswer::Model(model_of(alloc, core, own, vars)?)),
+        End::Refuted => Ok(SatAnswer::Refuted),
+        End::Spent => Ok(SatAnswer::Spent),
+    }
+}
 
 /// Searches for an assignment that satisfies the formula, or for lines that refute it, by learning a clause from each
 /// conflict (Marques-Silva and Sakallah 1999). The lines go to the ledger, which has none yet; they are numbered on from the
@@ -68,11 +111,7 @@ pub fn solve<T, L: Ledger<T>>(
     ensures steady { result ≢ Err SolveFault.LedgerFailed → L.faults ledger.new store.new ≡ L.faults ledger.old store.old }
 {
     let own = formula.vars().min(LAST_VARIABLE);
-    let mut core = load(alloc, formula, own)?;
-    let mut guide = Guide::new(alloc, own)?;
-    match search(alloc, ledger, store, &mut core, &mut guide)? {
-        End::Total => Ok(SatAnswer::Model(model_of(alloc, &core, own, formula.vars())?)),
-        End::Refuted => Ok(SatAnswer::Refuted),
-        End::Spent => Ok(SatAnswer::Spent),
-    }
+    let (mut core, mut guide) = prepared(alloc, formula, own)?;
+    let end = search(alloc, ledger, store, &mut core, &mut guide);
+    answer_of(alloc, end, &core, own, formula.vars())
 }

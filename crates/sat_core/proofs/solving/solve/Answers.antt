@@ -1,62 +1,120 @@
-use Rattle.std.proofs.Common.{◌≡◌, Bool, List, [], length, Result, Ok, Err, sym, ap, ◌∙◌, subst}
+use Rattle.std.proofs.Common.{◌≡◌, ◌≢◌, ℕ, ◌<◌, ◌≤◌, true, length, map, Result, Ok, Err, refl, sym, ap, ◌∙◌, subst, arith}
+use Rattle.std.specs.Result.{IsErrAnd, IsOk, OnOk}
+use Rattle.std.proofs.lemmas.Result.{err_from_is_err_and}
+use Rattle.std.proofs.lemmas.Bool.{true≢false}
 use Rattle.cnf_formula.specs.Formulas.{Satisfies}
-use Rattle.proof_rules.specs.Refuting.{SpentLog}
+use Rattle.cnf_formula.specs.declared.line.LratLine.TheVariants.{Addition}
+use Rattle.outer_ports.specs.Port.{HasCause}
+use Rattle.proof_rules.specs.declared.verdict.LineVerdict.TheVariants.{Accepted}
+use Rattle.proof_rules.specs.Judging.{verdict_of}
+use Rattle.proof_rules.specs.Refuting.{Refutes, SpentLog}
+use Rattle.ledger_rules.specs.Logs.{checker_of}
 use Rattle.trail_core.specs.Meaning.{trues}
-use Rattle.sat_core.specs.Met.{IsRested}
+use Rattle.sat_core.specs.Ready.{AreNumbered, AreShort, IsReady}
 use Rattle.sat_core.specs.Totals.{AreValues}
-use Rattle.sat_core.specs.declared.fault.SolveFault.{SolveFault}
+use Rattle.sat_core.specs.declared.fault.SolveFault.TheVariants.{LedgerFailed}
 use Rattle.sat_core.specs.declared.solving.SatAnswer.{SatAnswer}
-use Rattle.sat_core.specs.declared.solving.SatAnswer.TheVariants.{Model, Refuted, Spent}
 use Rattle.sat_core.proofs.Ending.{log_by}
 use Rattle.sat_core.proofs.Modelled.{model_satisfies}
 use Rattle.sat_core.proofs.Ternary.{few_spent}
 use Rattle.sat_core.proofs.solving.solve.Goals as goal
 
--- the values of a model
-abbrev values_in : Result SatAnswer SolveFault → List Bool
-values_in (Ok (Model values)) = values
-values_in (Ok Refuted) = []
-values_in (Ok Spent) = []
-values_in (Err fault) = []
+-- `?` hands a fault on as it is
+handed : {T E : Type 0} (r : Result T E) (fault : E) → IsErrAnd r (λ e. e ≡ fault) → r ≡ Err fault
+handed r fault h = let w = err_from_is_err_and r h in w.1 ∙ ap Err w.2
 
-pub search-requires-clause-guided : goal.search-requires-clause-guided
-search-requires-clause-guided g c =
-    let vars : c.in_ok-core.core.vars ≡ c.min-own.result = c.in_ok-core.ensures.vars in
+-- what holds anyway holds of a success
+held : {T E P : Type 0} (r : Result T E) → P → OnOk r P
+held (Ok x) p = p
+held (Err y) p = tt
+
+-- what holds of a success before it holds of a success
+after : {T U E : Type 0} (P : Type 0) (r : Result T E) (s : Result U E) → OnOk r (IsOk s) → OnOk s P → OnOk r P
+after P (Ok x) (Ok y) is p = p
+after P (Ok x) (Err e) is p = absurd (true≢false (sym is))
+after P (Err e) s is p = tt
+
+-- a fault is no answer
+no_answer : {T E : Type 0} {r : Result T E} {fault : E} {answer : T} → r ≡ Err fault → r ≡ Ok answer → ⊥
+no_answer is e = cc
+
+-- two results with one fault
+same_fault : {T U E : Type 0} {r : Result T E} {s : Result U E} {a b : E} → r ≡ Err a → s ≡ Err a → s ≡ Err b → r ≡ Err b
+same_fault r_is s_is s_too = cc
+
+-- a count that did not fall, where the fault was another
+caused : {T E : Type 0} {fault : E} {before now : ℕ} {r : Result T E} → before ≤ now → r ≢ Err fault → HasCause fault before now r
+caused later other = record { later = later; rose = λ e. absurd (other e) }
+
+pub search-end-requires-clause-ready : goal.search-end-requires-clause-ready
+search-end-requires-clause-ready g c =
+    let core = c.in_ok-core.core in
+    subst (λ f. IsReady f (g.L.LedgerView.lines c.args.ledger.now) core) (sym c.requires.base) (subst (λ lines. IsReady c.args.formula.now lines core) (sym c.requires.empty) c.in_ok-core.ensures.ready)
+
+pub search-end-requires-clause-guided : goal.search-end-requires-clause-guided
+search-end-requires-clause-guided g c = c.in_ok-core.ensures.guided
+
+pub search-end-requires-clause-agrees : goal.search-end-requires-clause-agrees
+search-end-requires-clause-agrees g c = c.requires.agrees
+
+pub answer_of-requires-clause-own : goal.answer_of-requires-clause-own
+answer_of-requires-clause-own g c = sym (c.search-end.ensures.vars ∙ c.in_ok-core.ensures.vars)
+
+pub returns : goal.returns
+returns g c =
+    let L = g.L.LedgerView in
+    let now = c.search-end.new.ledger in
+    let formula = c.args.formula.now in
+    let core = c.search-end.new.core in
+    let same : L.base now ≡ formula = c.search-end.ensures.base ∙ c.requires.base in
+    let log : c.answer_of.result ≡ Ok SatAnswer.Spent → SpentLog (L.lines now) formula (L.limit now) =
+    λ e. let done = c.answer_of.ensures.spent e in
+    log_by (L.base now) formula (L.lines now) (L.spent now) (L.limit now) same c.search-end.ensures.written (c.search-end.ensures.over done) (g.met.L.LedgerView.charged now) (c.search-end.ensures.spent done) in
     record {
-      rested = subst (λ n. IsRested n c.in_ok-guide.guide.walk.stamp c.in_ok-guide.guide.walk.marks.items) (sym vars) c.in_ok-guide.ensures.rested;
-      decider = c.in_ok-guide.ensures.decider ∙ sym vars;
+      model = λ values e.
+          let found = c.answer_of.ensures.model values e in
+          let done = found.0 in
+          let own : c.min-own.result ≡ core.vars = sym (c.search-end.ensures.vars ∙ c.in_ok-core.ensures.vars) in
+          let len : length values ≡ (L.base now).vars = found.1 ∙ c.vars-2.ensures.vars ∙ sym (ap (λ f. f.vars) same) in
+          let are : AreValues (trues core) core.vars values = subst (λ n. AreValues (trues core) n values) own found.2 in
+          subst (Satisfies values) same (model_satisfies (L.base now) (L.lines now) core values (c.search-end.ensures.ready done) (c.search-end.ensures.total done) len are);
+      refuted = λ e. subst (Refutes (map Addition (L.lines now))) same (c.search-end.ensures.refuted (c.answer_of.ensures.refuted e));
+      closed = λ e. c.search-end.ensures.closed (c.answer_of.ensures.refuted e);
+      spent = λ e. c.search-end.ensures.spent (c.answer_of.ensures.spent e);
+      log = log;
+      not_closed = λ e line empty accepted.
+          (c.search-end.ensures.over (c.answer_of.ensures.spent e)).not_closed line empty (subst (λ f. verdict_of (checker_of f (L.lines now)) line ≡ Accepted true) (sym same) accepted);
+      few = λ e. few_spent formula (L.lines now) (L.limit now) (log e);
+      numbered = subst (λ f. AreNumbered (length f.clauses) (L.lines now)) same c.search-end.ensures.written.numbered;
+      short = subst (λ f. AreShort f.vars (L.lines now)) same c.search-end.ensures.written.short;
+      moves = c.search-end.ensures.moves;
+      agrees = after (g.L.Ledger.agrees now c.search-end.new.store) c.answer_of.result c.search-end.result c.answer_of.ensures.answer c.search-end.ensures.agrees;
+      base = c.search-end.ensures.base;
+      limit = c.search-end.ensures.limit;
+      cause = record { later = c.search-end.ensures.cause.later; rose = λ e. c.search-end.ensures.cause.rose (c.answer_of.ensures.fault.0 e) };
+      steady = λ other. c.search-end.ensures.steady (λ e. other (c.answer_of.ensures.fault.1 e));
     }
 
-pub model_of-requires-clause-own : goal.model_of-requires-clause-own
-model_of-requires-clause-own g c = sym (c.search.ensures.vars ∙ c.in_ok-core.ensures.vars)
-
-pub returns-in-Total-clause-model : goal.returns-in-Total-clause-model
-returns-in-Total-clause-model g c = λ values e.
-    let formula = c.args.formula.now in
-    let base = g.L.LedgerView.base c.search.new.ledger in
-    let lines = g.L.LedgerView.lines c.search.new.ledger in
-    let core = c.search.new.core in
-    let found : List Bool = c.in_ok-model_of-in-Total.field-0 in
-    let done = c.in_ok-search.was ∙ ap Ok c.in-Total.is in
-    let same : base ≡ formula = c.search.ensures.base ∙ c.requires.base in
-    let own : c.min-own.result ≡ core.vars = sym (c.search.ensures.vars ∙ c.in_ok-core.ensures.vars) in
-    let len : length found ≡ base.vars = c.in_ok-model_of-in-Total.ensures.len ∙ c.vars-in-Total.ensures.vars ∙ sym (ap (λ f. f.vars) same) in
-    let are : AreValues (trues core) core.vars found = subst (λ n. AreValues (trues core) n found) own c.in_ok-model_of-in-Total.ensures.values in
-    let holds = model_satisfies base lines core found (c.search.ensures.ready done) (c.search.ensures.total done) len are in
-    subst (λ x. Satisfies x formula) (ap values_in e) (subst (Satisfies found) same holds)
-
-pub returns-clause-log : goal.returns-clause-log
-returns-clause-log g c = λ e.
-    let L = g.L.LedgerView in
-    let now = c.search.new.ledger in
-    let done = c.in_ok-search.was ∙ ap Ok c.in-Spent.is in
-    log_by (L.base now) c.args.formula.now (L.lines now) (L.spent now) (L.limit now) (c.search.ensures.base ∙ c.requires.base) c.search.ensures.written (c.search.ensures.over done) (g.met.L.LedgerView.charged now) (c.search.ensures.spent done)
-
-pub returns-clause-few : goal.returns-clause-few
-returns-clause-few g c = λ e.
-    let L = g.L.LedgerView in
-    let now = c.search.new.ledger in
-    let done = c.in_ok-search.was ∙ ap Ok c.in-Spent.is in
-    let log : SpentLog (L.lines now) c.args.formula.now (L.limit now) =
-    log_by (L.base now) c.args.formula.now (L.lines now) (L.spent now) (L.limit now) (c.search.ensures.base ∙ c.requires.base) c.search.ensures.written (c.search.ensures.over done) (g.met.L.LedgerView.charged now) (c.search.ensures.spent done) in
-    few_spent c.args.formula.now (L.lines now) (L.limit now) log
+pub returns-in_err-core : goal.returns-in_err-core
+returns-in_err-core g c =
+    let lines = g.L.LedgerView.lines c.args.ledger.now in
+    let is : c.from_residual.result ≡ Err c.in_err-core.field-0.0 = handed c.from_residual.result c.in_err-core.field-0.0 c.from_residual.ensures.1 in
+    let other : c.from_residual.result ≢ Err LedgerFailed = λ e. c.in_err-core.ensures.fault (same_fault refl is e) in
+    let none : (k : ℕ) → k < length lines → ⊥ = λ k lt. omega (arith, lt, ap length c.requires.empty) in
+    record {
+      model = λ values e. absurd (no_answer is e);
+      refuted = λ e. absurd (no_answer is e);
+      closed = λ e. absurd (no_answer is e);
+      spent = λ e. absurd (no_answer is e);
+      log = λ e. absurd (no_answer is e);
+      not_closed = λ e line empty accepted. no_answer is e;
+      few = λ e. absurd (no_answer is e);
+      numbered = λ k d lt. absurd (none k lt);
+      short = λ k d lt. absurd (none k lt);
+      moves = g.met.L.Ledger.moves_refl c.args.ledger.now c.args.store.now;
+      agrees = held c.from_residual.result c.requires.agrees;
+      base = refl;
+      limit = refl;
+      cause = caused (omega arith) other;
+      steady = λ _. refl;
+    }
