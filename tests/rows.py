@@ -99,6 +99,20 @@ CUSTOM = (
 
 # Reports: a text, what is replaced in it by what, and the code and the line.
 REPORTS = [
+    (BROADCAST, BROADCAST, "", 2, 1),
+    (BROADCAST, "sccl 1", "sccl 3", 1, 1),
+    (BROADCAST, "sccl 1", "sccl 2", 3, 2),
+    (BROADCAST, "k=0", "k=9", 3, 2),
+    (BROADCAST, "k=0", "k=00", 1, 2),
+    (BROADCAST, "=broadcast", "=breadcast", 1, 2),
+    (BROADCAST, "group 1 n0>n1", "group 0 n0>n1", 1, 5),
+    (BROADCAST, "n0>n1", "n0>n0", 1, 5),
+    (BROADCAST, "rounds 1\n", "rounds  1\n", 1, 9),
+    (BROADCAST, "send 0", "send 1", 3, 10),
+    (BROADCAST, "n0 n1 1\n", "n0 n1 2\n", 3, 10),
+    (BROADCAST, "end\n", "end\nend\n", 1, 12),
+    (CUSTOM, "before 0 a\n", "", 1, 8),
+    (CUSTOM, "sccl 2", "sccl 1", 1, 2),
     (BROADCAST, "end\n", "", 2, 11),
     (BROADCAST, "optimal", "best", 1, 8),
     (BROADCAST, "point 1 1", "point 1 2", 3, 8),
@@ -140,3 +154,73 @@ FAMILY_TEXTS = {
     "group 1 n2>n3\ngroup 1 n3>n1\ngroup 1 n3>n2\n",
     ("shared", 3): "topology 1\nnodes n0 n1 n2\ngroup 1 n0>n1 n0>n2 n1>n0 n1>n2 n2>n0 n2>n1\n",
 }
+
+# Words, all but one of a command: the last within its range, at both ends, and below and above.
+RANGES = [
+    ("synth collective=broadcast steps=1 chunks=1 conflicts=1", "k=0", "k=8", "k=", "k=9"),
+    ("synth collective=broadcast k=0 chunks=1 conflicts=1", "steps=1", "steps=8", "steps=0", "steps=9"),
+    ("synth collective=broadcast k=0 steps=1 conflicts=1", "chunks=1", "chunks=16", "chunks=0", "chunks=17"),
+    ("synth collective=broadcast k=0 steps=1 chunks=1", "conflicts=1", "conflicts=100000", "conflicts=0", "conflicts=100001"),
+    ("programs", "point=1", "point=65535", "point=0", "point=65536"),
+    ("replay point=1", "order=0", "order=18446744073709551615", "order=-1", "order=18446744073709551616"),
+]
+
+# Words that are refused, with the code and the index of the word.
+WORDS = [
+    ("sing", 2, 0),
+    ("--help", 2, 0),
+    ("check ", 3, 1),
+    ("synth k=0 k=0", 4, 2),
+    ("synth k=0", 5, 2),
+    ("synth k=00", 6, 1),
+    ("synth k=+1", 6, 1),
+    ("replay point=1=1", 6, 1),
+    ("family kind=cube size=6", 6, 2),
+    ("family size=6 kind=cube", 6, 1),
+    ("family size=17 kind=cone", 6, 1),
+    ("synth collective=alltoall k=0 steps=1 chunks=2 conflicts=1000 root=n0", 7, 6),
+    ("synth chunks=17", 6, 1),
+]
+
+LINE_OF_3 = "topology 1\nnodes n0 n1 n2\ngroup 1 n0>n1\ngroup 1 n1>n0\ngroup 1 n1>n2\ngroup 1 n2>n1\n"
+TWO_POINTS = (
+    "sccl 1\nsynth collective=broadcast k=0 steps=3 chunks=2 conflicts=1000 root=n0\n" + LINE_OF_3 + "frontier whole\n"
+    "point 2 2 1 optimal\nrounds 1 1\nsend 0 n0 n1 1\nsend 0 n1 n2 2\npoint 3 3 2 optimal\nrounds 1 1 1\nsend 0 n0 n1 1\n"
+    "send 0 n1 n2 2\nsend 1 n0 n1 2\nsend 1 n1 n2 3\nrefuted 1 1 2\nrefuted 1 1 1\nrefuted 2 2 2\nend\n"
+)
+TWO_CHUNKS = BROADCAST.replace("chunks=1", "chunks=2").replace("point 1 1 1", "point 1 1 2").replace("send 0 n0 n1 1\n", "send 0 n0 n1 1\nsend 1 n0 n1 1\n")
+
+# Replays: the number of the point, the report, and the text.
+REPLAYS = [
+    (1, BROADCAST.replace("send 0 n0 n1 1\n", ""), "replay 1\nstep 0\nn0 0\nn1\nstep 1\nn0 0\nn1\nlacking 0 n1\nend\n"),
+    (1, BROADCAST.replace("send 0 n0 n1 1\n", "send 0 n1 n0 1\n"), "replay 1\nstep 0\nn0 0\nn1\nstep 1\nn0 0\nn1\nlacking 0 n1\nend\n"),
+    (1, TWO_CHUNKS, "replay 1\nstep 0\nn0 0 1\nn1\nstep 1\nn0 0 1\nn1 0 1\noverfull 1 0 2\nend\n"),
+    (1, RELAY, "replay 1\nstep 0\nn0 0\nn1\nn2\nstep 1\nn0 0\nn1 0\nn2\nstep 2\nn0 0\nn1 0\nn2 0\nholds\nend\n"),
+    (2, TWO_POINTS, "replay 2\nstep 0\nn0 0 1\nn1\nn2\nstep 1\nn0 0 1\nn1 0\nn2\nstep 2\nn0 0 1\nn1 0 1\nn2 0\nstep 3\nn0 0 1\nn1 0 1\nn2 0 1\nholds\nend\n"),
+    (2, ALLREDUCE, "replay 2\nstep 0\nn0 0\nn1 1\nstep 1\nn0 0 1\nn1 0 1\nholds\nend\n"),
+    (3, TWO_POINTS, None),
+    (65535, RELAY, None),
+]
+
+# Searches: the family, the words, the lines that tell of candidates, and how many sends there are.
+SEARCHES = [
+    ("ring 4", "allgather 1 3 2", "point 2 3 2 optimal|refuted 1 1 2|refuted 1 1 1|refuted 1 2 2|refuted 1 2 1|refuted 2 2 2", 24),
+    ("ring 4", "broadcast 1 3 2", "point 2 2 2 optimal|refuted 1 1 2|refuted 1 1 1|refuted 1 2 2|refuted 1 2 1", 6),
+    (
+        "ring 4", "allreduce 1 3 2",
+        "point 2 3 2 optimal|refuted 1 1 2|refuted 1 1 1|refuted 1 2 2|refuted 1 2 1|refuted 2 2 2|point 2 3 2 optimal|refuted 1 1 2|"
+        "refuted 1 1 1|refuted 1 2 2|refuted 1 2 1|refuted 2 2 2|point 4 6 2 joined 2", 96,
+    ),
+    ("ring 4", "reduce 1 3 2", "point 2 2 2 optimal|refuted 1 1 2|refuted 1 1 1|refuted 1 2 2|refuted 1 2 1", 6),
+    ("line 3", "broadcast 0 3 2", "point 2 2 1 optimal|point 3 3 2 optimal|refuted 1 1 2|refuted 1 1 1|refuted 2 2 2", 6),
+    ("shared 3", "broadcast 1 2 1", "point 1 2 1 optimal|refuted 1 1 1", 2),
+    ("cube 8", "allgather 0 3 1", "point 3 3 1 optimal|refuted 1 1 1|refuted 2 2 1", 56),
+    ("line 3", "gather 1 2 1", "point 2 2 1 optimal|refuted 1 1 1|refuted 1 2 1", 3),
+    ("line 3", "scatter 1 2 1", "point 2 2 1 optimal|refuted 1 1 1|refuted 1 2 1", 3),
+]
+
+# What no schedule does: a broadcast against the only link, and a chunk that no node has.
+UNSOLVED = [
+    ("broadcast", "topology 1\nnodes a b\ngroup 1 b>a\n"),
+    ("custom", "topology 2\nnodes a b c\ngroup 1 a>b\ngroup 1 b>c\ncustom 1\nbefore 0\nafter 0 c\n"),
+]
