@@ -6,17 +6,12 @@ use std::alloc::{AllocError, Global};
 use std::process::Abort;
 
 mod checks;
-mod commands;
 mod ports;
 mod proofs;
-mod ranges;
-mod refusals;
-mod replays;
 mod reports;
 mod search_files;
 mod searches;
 mod streams;
-mod texts;
 
 fn words(alloc: Global, all: &[&str]) -> Result<Vec<String>, AllocError> {
     let mut words = Vec::new(alloc);

@@ -1,7 +1,6 @@
 //! Runs of each command over ports that fail at any of their calls.
 
 use super::checks::{BOTH, Files};
-use super::commands::TRIAL_0;
 use super::reports::{ALLREDUCE, RELAY, REPLAY, REPORT};
 use super::search_files::first;
 use super::searches::{LINE, PAIR, PAIR_REPORT, PAIR_WORDS};
@@ -11,6 +10,10 @@ use outer_ports::{MemoryShelf, MemorySink, MemorySource};
 use std::alloc::AllocError;
 use std::process::Abort;
 use std::test::Fail;
+
+/// What the first trial prints.
+const TRIAL_0: &[u8] =
+    b"trial 0\nsynth collective=broadcast k=0 steps=1 chunks=1 conflicts=2000 root=n0\nfamily line 3\npoints 0 refuted 1 unknown 0 joined 0\ncheck verified\nreplays 0 events 0\nend\n";
 
 const NEVER: u64 = u64::MAX;
 
