@@ -1,6 +1,7 @@
 """Texts that the program refuses, each with the code and the line of its refusal, and some that it takes."""
 
 FRONT = "topology 1\nnodes n0 n1\n"
+LINE_OF_3 = "topology 1\nnodes n0 n1 n2\ngroup 1 n0>n1\ngroup 1 n1>n0\ngroup 1 n1>n2\ngroup 1 n2>n1\n"
 GIVEN = "topology 2\nnodes a b c\ngroup 1 a>b\ngroup 1 b>c\n"
 
 # Topologies: the text, the code and the line.
@@ -76,9 +77,8 @@ BROADCAST = (
     "group 1 n1>n0\nfrontier whole\npoint 1 1 1 optimal\nrounds 1\nsend 0 n0 n1 1\nend\n"
 )
 RELAY = (
-    "sccl 1\nsynth collective=broadcast k=0 steps=2 chunks=1 conflicts=1000 root=n0\ntopology 1\nnodes n0 n1 n2\ngroup 1 n0>n1\n"
-    "group 1 n1>n0\ngroup 1 n1>n2\ngroup 1 n2>n1\nfrontier whole\npoint 2 2 1 optimal\nrounds 1 1\nsend 0 n0 n1 1\n"
-    "send 0 n1 n2 2\nrefuted 1 1 1\nend\n"
+    "sccl 1\nsynth collective=broadcast k=0 steps=2 chunks=1 conflicts=1000 root=n0\n" + LINE_OF_3 + "frontier whole\n"
+    "point 2 2 1 optimal\nrounds 1 1\nsend 0 n0 n1 1\nsend 0 n1 n2 2\nrefuted 1 1 1\nend\n"
 )
 ALLGATHER = (
     "sccl 1\nsynth collective=allgather k=1 steps=2 chunks=2 conflicts=7\ntopology 1\nnodes a b\ngroup 2 a>b b>a\nfrontier whole\n"
@@ -147,7 +147,7 @@ FAMILIES = {
     "cube": {2: 2, 4: 8, 8: 24, 16: 64},
 }
 FAMILY_TEXTS = {
-    ("line", 3): "topology 1\nnodes n0 n1 n2\ngroup 1 n0>n1\ngroup 1 n1>n0\ngroup 1 n1>n2\ngroup 1 n2>n1\n",
+    ("line", 3): LINE_OF_3,
     ("ring", 3): "topology 1\nnodes n0 n1 n2\ngroup 1 n0>n1\ngroup 1 n0>n2\ngroup 1 n1>n0\ngroup 1 n1>n2\ngroup 1 n2>n0\n"
     "group 1 n2>n1\n",
     ("cube", 4): "topology 1\nnodes n0 n1 n2 n3\ngroup 1 n0>n1\ngroup 1 n0>n2\ngroup 1 n1>n0\ngroup 1 n1>n3\ngroup 1 n2>n0\n"
@@ -182,7 +182,6 @@ WORDS = [
     ("synth chunks=17", 6, 1),
 ]
 
-LINE_OF_3 = "topology 1\nnodes n0 n1 n2\ngroup 1 n0>n1\ngroup 1 n1>n0\ngroup 1 n1>n2\ngroup 1 n2>n1\n"
 TWO_POINTS = (
     "sccl 1\nsynth collective=broadcast k=0 steps=3 chunks=2 conflicts=1000 root=n0\n" + LINE_OF_3 + "frontier whole\n"
     "point 2 2 1 optimal\nrounds 1 1\nsend 0 n0 n1 1\nsend 0 n1 n2 2\npoint 3 3 2 optimal\nrounds 1 1 1\nsend 0 n0 n1 1\n"
