@@ -189,6 +189,17 @@ TWO_POINTS = (
 )
 TWO_CHUNKS = BROADCAST.replace("chunks=1", "chunks=2").replace("point 1 1 1", "point 1 1 2").replace("send 0 n0 n1 1\n", "send 0 n0 n1 1\nsend 1 n0 n1 1\n")
 
+# A sum that takes one contribution twice, and a joined point in which two nodes bring a chunk to one in a step that copies.
+ADDED_TWICE = (
+    "sccl 1\nsynth collective=reduce k=0 steps=2 chunks=1 conflicts=1000 root=n0\ntopology 1\nnodes n0 n1\ngroup 1 n1>n0\n"
+    "frontier whole\npoint 2 2 1 open\nrounds 1 1\nsend 0 n1 n0 1\nsend 0 n1 n0 2\nend\n"
+)
+BROUGHT_TWICE = (
+    "sccl 1\nsynth collective=allreduce k=0 steps=1 chunks=1 conflicts=1000\ntopology 1\nnodes n0 n1 n2\ngroup 1 n1>n0\n"
+    "group 1 n2>n0\nfrontier reduce\nfrontier gather\njoined\npoint 2 2 1 joined 1\nrounds 1 1\nsend 0 n1 n0 2\nsend 0 n2 n0 2\nend\n"
+)
+THREE_APART = "n0 0=100 1=100 2=100\nn1 0=010 1=010 2=010\nn2 0=001 1=001 2=001\n"
+
 # Replays: the number of the point, the report, and the text.
 REPLAYS = [
     (1, BROADCAST.replace("send 0 n0 n1 1\n", ""), "replay 1\nstep 0\nn0 0\nn1\nstep 1\nn0 0\nn1\nlacking 0 n1\nend\n"),
@@ -197,6 +208,11 @@ REPLAYS = [
     (1, RELAY, "replay 1\nstep 0\nn0 0\nn1\nn2\nstep 1\nn0 0\nn1 0\nn2\nstep 2\nn0 0\nn1 0\nn2 0\nholds\nend\n"),
     (2, TWO_POINTS, "replay 2\nstep 0\nn0 0 1\nn1\nn2\nstep 1\nn0 0 1\nn1 0\nn2\nstep 2\nn0 0 1\nn1 0 1\nn2 0\nstep 3\nn0 0 1\nn1 0 1\nn2 0 1\nholds\nend\n"),
     (2, ALLREDUCE, "replay 2\nstep 0\nn0 0\nn1 1\nstep 1\nn0 0 1\nn1 0 1\nholds\nend\n"),
+    (1, ADDED_TWICE, "replay 1\nstep 0\nn0 0=10\nn1 0=01\nstep 1\nn0 0=11\nn1 0=01\nstep 2\nn0 0=12\nn1 0=01\ntwice 0 n0 n1\nend\n"),
+    (
+        1, BROUGHT_TWICE,
+        f"replay 1\nstep 0\n{THREE_APART}step 1\n{THREE_APART}step 2\n{THREE_APART.replace('0=100', '0=001')}clash 0 n0 2\nend\n",
+    ),
     (3, TWO_POINTS, None),
     (65535, RELAY, None),
 ]
@@ -216,6 +232,8 @@ SEARCHES = [
     ("cube 8", "allgather 0 3 1", "point 3 3 1 optimal|refuted 1 1 1|refuted 2 2 1", 56),
     ("line 3", "gather 1 2 1", "point 2 2 1 optimal|refuted 1 1 1|refuted 1 2 1", 3),
     ("line 3", "scatter 1 2 1", "point 2 2 1 optimal|refuted 1 1 1|refuted 1 2 1", 3),
+    ("complete 3", "alltoall 0 1 3", "point 1 1 3 optimal", 6),
+    ("complete 3", "reducescatter 0 1 1", "point 1 1 1 optimal", 6),
 ]
 
 # What no schedule does: a broadcast against the only link, and a chunk that no node has.

@@ -3,3 +3,4 @@ pub mod Moving
 pub mod Ended
 pub mod Arriving
 pub mod Stepping
+pub mod Copied

@@ -11,7 +11,7 @@ use Rattle.sccl_run.specs.Asked.{Ask, Opens, Reads}
 use Rattle.sccl_run.specs.Refusals.{Refusal, refusal_line}
 use Rattle.sccl_run.specs.Tasks.{Task, Synthesise, Audit, Replay, Program, Family, Try, audit_asked, due, programmed, replayed, synthesis_of, task_of}
 use Rattle.sccl_run.specs.Owed.{Owed}
-use Rattle.sccl_run.specs.TopCall.{CountValue, EndsIfItFails, EndsTask, IsCall, IsDenial, IsDue, IsFree, IsSilent, StatusIsDue, TextIsDue, ends_of}
+use Rattle.sccl_run.specs.TopCall.{CountValue, EndsIfItFails, EndsTask, IsCall, IsDenial, IsDue, IsFree, IsRefusal, IsSilent, StatusIsDue, TextIsDue, ends_of}
 use Rattle.sccl_run.specs.Answering.{Ends, Says}
 use Rattle.sccl_run.proofs.IfDue.{IfDue}
 use Rattle.sccl_run.proofs.Tasked.{NotAudit, no_audit}
@@ -137,15 +137,17 @@ free status (inr (inl e)) = inr (inl e)
 free status (inr (inr e)) = inr (inr (inr e))
 
 module _ (words : List (List ℕ)) (source sink shelf : CountValue) (SourceStays SinkStays ShelfStays : Type 0) where
-  pub call_ended : (status : Status) → Ends (command_of words) status → source.now ≡ source.before → sink.now ≡ sink.before → shelf.now ≡ shelf.before → (¬ Ask Reads words → SourceStays) → (¬ Ask Opens words → ShelfStays)
+  pub call_ended : (status : Status) → Ends (command_of words) status → source.now ≡ source.before → sink.now ≡ sink.before → shelf.now ≡ shelf.before → (¬ Ask Reads words → SourceStays) → (¬ Ask Opens words → ShelfStays) → (IsRefusal status → ShelfStays)
       → IsCall words status source sink shelf SourceStays SinkStays ShelfStays
-  call_ended status ends read written kept unread unopened = record {
+  call_ended status ends read written kept unread unopened refused = record {
     ends = behind_two OutOfMemory SinkFailed status (ends_of (command_of words)) ends.one;
     source_fails = quiet SourceFailed status source (λ e. ends.given (inr (inl e))) read;
     sink_fails = quiet SinkFailed status sink (λ e. ends.given (inr (inr (inl e)))) written;
     shelf_fails = quiet ShelfFailed status shelf (λ e. ends.given (inr (inr (inr e)))) kept;
     unread = unread;
     unopened = unopened;
+    behind = λ e. absurd (ends.given (inr (inl e)));
+    refused = refused;
     silent = λ silent. absurd (ends.given (free status silent));
   }
 
@@ -158,6 +160,8 @@ module _ (words : List (List ℕ)) (source sink shelf : CountValue) (SourceStays
     shelf_fails = quiet ShelfFailed SinkFailed shelf (λ e. cc) kept;
     unread = unread;
     unopened = unopened;
+    behind = λ e. absurd (cc);
+    refused = λ no. absurd no;
     silent = λ silent. absurd (heard silent);
   }
 
@@ -170,6 +174,8 @@ module _ (words : List (List ℕ)) (source sink shelf : CountValue) (SourceStays
     shelf_fails = quiet ShelfFailed SourceFailed shelf (λ e. cc) kept;
     unread = λ none. absurd (none ask);
     unopened = λ _. untouched;
+    behind = λ _. untouched;
+    refused = λ _. untouched;
     silent = λ _. stays;
   }
 
@@ -182,6 +188,8 @@ module _ (words : List (List ℕ)) (source sink shelf : CountValue) (SourceStays
     shelf_fails = record { only = λ _. rose; kept = λ other. absurd (other refl) };
     unread = λ none. absurd (none (asks_reads words ask));
     unopened = λ none. absurd (none ask);
+    behind = λ e. absurd (cc);
+    refused = λ no. absurd no;
     silent = λ _. stays;
   }
 

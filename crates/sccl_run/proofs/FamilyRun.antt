@@ -91,6 +91,8 @@ family_is_right n = record {
     shelf_fails = does_not_fail ShelfFailed n not_shelf;
     unread = λ _. refl;
     unopened = λ _ name. refl;
+    behind = λ _ name. refl;
+    refused = λ _ name. refl;
     silent = λ e. absurd (not_silent e);
   };
   status = λ _. record { refused = λ r e. absurd (no_refusal r e); done = ended; shelf_last = λ r e. absurd (no_refusal r e) };
@@ -105,15 +107,20 @@ family_is_right n = record {
     denial = λ r e _. absurd (not_audit r e);
     prefix = λ e. absurd (not_sink e);
   };
-  files = λ _ _ _. record {
-    unchanged = λ _ name. refl;
-    refused = λ r e name. refl;
-    unread = λ e name. refl;
+  stays = λ _ _ name. refl;
+  files = λ _ _. record {
     proved = λ w t e. absurd (not_search w t e);
     broken_off = λ w t e. absurd (not_search w t e);
+    refused = λ r e name. refl;
     denied = λ r why e. absurd (not_audit r e);
     verified = λ r e. absurd (not_audit r e);
     shelf = λ r e. absurd (not_audit r e);
+  };
+  agrees = λ _ _ _. record {
+    proved = λ w t e. absurd (not_search w t e);
+    proved_part = λ w t e. absurd (not_search w t e);
+    verdict = λ r e. absurd (not_audit r e);
+    verdict_part = λ r e. absurd (not_audit r e);
   };
 }
 

@@ -1,28 +1,25 @@
--- What a run leaves of the files, from what its answer says.
-use Rattle.std.proofs.Common.{◌≡◌, ◌≢◌, ◌⊎◌, ◌++◌, ℕ, List, Result, Ok, Err, IfOk, inl, inr, sym, subst, ap, ◌∙◌}
-use Rattle.std.proofs.lemmas.List.{append_cancel_left}
+-- What a run leaves of the files, and how its text agrees with them, from what its answer says.
+use Rattle.std.proofs.Common.{◌≡◌, ◌≢◌, ◌⊎◌, ◌++◌, ℕ, List, take, Result, Ok, Err, IfOk, inl, inr, sym, subst, ap, ◌∙◌}
 use Rattle.outer_ports.specs.Files.{Files, candidate_word}
 use Rattle.outer_ports.specs.Shelf.{FilesStay}
 use Rattle.topology_text.specs.Value.{NamedTopologyValue}
 use Rattle.command_words.specs.declared.command.Command.{Command}
 use Rattle.report_form.specs.Reports.{WordsValue, ReportValue}
-use Rattle.report_form.specs.Spelling.{report_text}
 use Rattle.sccl_run.specs.declared.status.Status.{Status}
 use Rattle.frontier_audit.specs.declared.verdict.AuditVerdict.{AuditVerdict}
 use Rattle.frontier_audit.specs.declared.verdict.AuditVerdict.TheVariants as audit
 use Rattle.frontier_audit.specs.Auditing.{audit_of}
 use Rattle.frontier_audit.specs.Denials.{reason_number}
 use Rattle.frontier_audit.specs.Shelves.{ShelfRight}
-use Rattle.sccl_run.specs.declared.status.Status.TheVariants.{Denied, Done, SourceFailed}
-use Rattle.sccl_run.specs.Asked.{Ask, Changes}
-use Rattle.sccl_run.specs.Refusals.{Refusal, refusal_line}
+use Rattle.sccl_run.specs.declared.status.Status.TheVariants.{Denied, Done, SinkFailed}
+use Rattle.sccl_run.specs.Asked.{Changes}
+use Rattle.sccl_run.specs.Refusals.{Refusal}
 use Rattle.sccl_run.specs.Tasks.{Task, Synthesise, Audit, audited, due, not_denied, task_of}
-use Rattle.sccl_run.specs.Answering.{Audits, AuditsDue, BeginsDue, ProvesDue, SaysVerdict}
-use Rattle.sccl_run.specs.TopCall.{FilesAreDue, IsFree}
+use Rattle.sccl_run.specs.Answering.{Audits, AuditsDue, BeginsDue, ProvesDue, Says, SaysVerdict}
+use Rattle.sccl_run.specs.Owed.{Synthesises}
+use Rattle.sccl_run.specs.TopCall.{FilesAreDue, IsFree, IsSilent, SynthesisesWith, TextAgrees, verdict_text}
 use Rattle.sccl_run.proofs.IfDue.{IfDue}
 use Rattle.sccl_run.proofs.Tasked.{Checks, NotAudit, NotSearch, no_audit, no_search}
-
--- ---- the files
 
 -- a denial has the status of denials
 denial_status : (r : ReportValue) (files : Files) (why : Refusal) → audited r files ≡ Err why → why.status ≡ Denied
@@ -33,55 +30,118 @@ denial_status r files why e = by_verdict (audit_of r files) e
     by_verdict audit.Verified e = absurd (cc)
     by_verdict (audit.Denied reason part x) e = let same : record { status = Denied; code = reason_number reason; place = candidate_word part x.s x.r x.c } ≡ why = cc in sym (ap (λ (r : Refusal). r.status) same)
 
-module _ (words : List (List ℕ)) (bytes before now : List ℕ) (files after : Files) where
-  -- a search that was done has written a text, and the files prove it
-  WritesProved : Status → Type 0
-  WritesProved status = (w : WordsValue) (t : NamedTopologyValue) → due words bytes ≡ Ok (Synthesise w t) → status ≡ Done → (text : List ℕ) × ProvesDue (due words bytes) text files after × (now ≡ before ++ text)
+verdict_of : (x : Result (Unit {0}) Refusal) (status : Status) (text : List ℕ) → SaysVerdict x status text → text ≡ verdict_text x
+verdict_of (Ok x) status text says = says.1
+verdict_of (Err r) status text says = says.1
 
-  -- the audit of a report over the files, told by the status and a text that was written; or the run broke off
-  WritesAudit : Status → Type 0
-  WritesAudit status = (r : ReportValue) → due words bytes ≡ Ok (Audit r) → ((text : List ℕ) × Audits r status text files × (now ≡ before ++ text)) ⊎ (IsFree status × (status ≢ Done))
+-- what a search says, with the files that prove it
+proved_by : (x : Result Task Refusal) (files after : Files) (status : Status) (text : List ℕ) → Says x status text → ProvesDue x text files after
+    → (w : WordsValue) (t : NamedTopologyValue) → x ≡ Ok (Synthesise w t) → SynthesisesWith w t files after text
+proved_by x files after status text says proves w t e =
+    let done : Says (Ok (Synthesise w t)) status text = subst (λ y. Says y status text) e says in
+    let wrote : Synthesises w t text = done.1 in
+    record { says = wrote; proves = proves w t e wrote.report wrote.words wrote.topology wrote.right wrote.written }
 
-  denied_so : (r : ReportValue) (why : Refusal) (status : Status) → audited r files ≡ Err why → ((text : List ℕ) × Audits r status text files × (now ≡ before ++ text)) ⊎ (IsFree status × (status ≢ Done)) → ((status ≡ Denied) × (now ≡ before ++ refusal_line why)) ⊎ IsFree status
-  denied_so r why status e (inl wrote) =
-      let says : SaysVerdict (Err why) status wrote.0 = subst (λ x. SaysVerdict x status wrote.0) e wrote.1.says in
-      inl (says.0 ∙ denial_status r files why e, wrote.2 ∙ ap (λ end. before ++ end) says.1)
+module _ (words : List (List ℕ)) (bytes : List ℕ) (files after : Files) where
+  -- a search that was done has a text, and the files prove it
+  SearchProved : Status → Type 0
+  SearchProved status = (w : WordsValue) (t : NamedTopologyValue) → due words bytes ≡ Ok (Synthesise w t) → status ≡ Done → (text : List ℕ) × SynthesisesWith w t files after text
+
+  -- the audit of a report over the files, told by the status; or the run broke off
+  Audited : ReportValue → Status → Type 0
+  Audited r status = ((text : List ℕ) × Audits r status text files) ⊎ (IsFree status × (status ≢ Done))
+
+  denied_so : (r : ReportValue) (why : Refusal) (status : Status) → audited r files ≡ Err why → Audited r status → (status ≡ Denied) ⊎ IsFree status
+  unfolding Audited
+  denied_so r why status e (inl told) =
+      let says : SaysVerdict (Err why) status told.0 = subst (λ x. SaysVerdict x status told.0) e told.1.says in
+      inl (says.0 ∙ denial_status r files why e)
   denied_so r why status e (inr free) = inr free.0
 
-  verified_so : (r : ReportValue) (status : Status) → audited r files ≡ Ok tt → ((text : List ℕ) × Audits r status text files × (now ≡ before ++ text)) ⊎ (IsFree status × (status ≢ Done)) → (status ≡ Done) ⊎ IsFree status
-  verified_so r status e (inl wrote) = inl (subst (λ x. SaysVerdict x status wrote.0) e wrote.1.says).0
+  verified_so : (r : ReportValue) (status : Status) → audited r files ≡ Ok tt → Audited r status → (status ≡ Done) ⊎ IsFree status
+  unfolding Audited
+  verified_so r status e (inl told) = inl (subst (λ x. SaysVerdict x status told.0) e told.1.says).0
   verified_so r status e (inr free) = inr free.0
 
-  shelf_so : (r : ReportValue) (status : Status) → status ≡ Done → ((text : List ℕ) × Audits r status text files × (now ≡ before ++ text)) ⊎ (IsFree status × (status ≢ Done)) → ShelfRight r files
-  shelf_so r status done (inl wrote) = wrote.1.shelf done
+  shelf_so : (r : ReportValue) (status : Status) → status ≡ Done → Audited r status → ShelfRight r files
+  unfolding Audited
+  shelf_so r status done (inl told) = told.1.shelf done
   shelf_so r status done (inr free) = absurd (free.1 done)
 
-  files_due : (status : Status) → (¬ Ask Changes words → FilesStay files after) → (status ≡ SourceFailed → FilesStay files after) → BeginsDue (due words bytes) files after → WritesProved status → WritesAudit status
-      → FilesAreDue words bytes before now files after status
-  unfolding WritesProved WritesAudit
-  files_due status unchanged unread begins writes audit = record {
-    unchanged = unchanged;
-    refused = begins.refused;
-    unread = unread;
-    proved = λ w t asks done report same_words same_topology right written.
-        let wrote = writes w t asks done in
-        let text : wrote.0 ≡ report_text report = append_cancel_left before wrote.0 (report_text report) (sym wrote.2 ∙ written) in
-        wrote.1 w t asks report same_words same_topology right text;
+  files_due : (status : Status) → BeginsDue (due words bytes) files after → SearchProved status → ((r : ReportValue) → due words bytes ≡ Ok (Audit r) → Audited r status)
+      → FilesAreDue words bytes files after status
+  unfolding SearchProved
+  files_due status begins proved audit = record {
+    proved = proved;
     broken_off = λ w t asks _. begins.begun w t asks;
+    refused = begins.refused;
     denied = λ r why e is. denied_so r why status is (audit r e);
     verified = λ r e is. verified_so r status is (audit r e);
     shelf = λ r e done. shelf_so r status done (audit r e);
   }
 
-  pub files_ended : (status : Status) (text : List ℕ) → (status ≢ SourceFailed) → (¬ Ask Changes words → FilesStay files after) → BeginsDue (due words bytes) files after → ProvesDue (due words bytes) text files after → AuditsDue (due words bytes) status text files → now ≡ before ++ text
-      → FilesAreDue words bytes before now files after status
-  unfolding WritesProved WritesAudit
-  files_ended status text read unchanged begins proves audits written = files_due status unchanged (λ e. absurd (read e)) begins (λ w t asks done. (text, proves, written)) (λ r e. inl (text, audits r e, written))
+  pub files_ended : (status : Status) (text : List ℕ) → Says (due words bytes) status text → BeginsDue (due words bytes) files after → ProvesDue (due words bytes) text files after → AuditsDue (due words bytes) status text files
+      → FilesAreDue words bytes files after status
+  unfolding SearchProved Audited
+  files_ended status text says begins proves audits =
+      files_due status begins (λ w t asks done. (text, proved_by (due words bytes) files after status text says proves w t asks)) (λ r e. inl (text, audits r e))
 
-  pub files_broken : (status : Status) → IsFree status → (status ≢ Done) → (¬ Ask Changes words → FilesStay files after) → (status ≡ SourceFailed → FilesStay files after) → BeginsDue (due words bytes) files after
-      → FilesAreDue words bytes before now files after status
-  unfolding WritesProved WritesAudit
-  files_broken status free broken unchanged unread begins = files_due status unchanged unread begins (λ w t asks done. absurd (broken done)) (λ r e. inr (free, broken))
+  pub files_broken : (status : Status) → IsFree status → (status ≢ Done) → BeginsDue (due words bytes) files after → FilesAreDue words bytes files after status
+  unfolding SearchProved Audited
+  files_broken status free broken begins = files_due status begins (λ w t asks done. absurd (broken done)) (λ r e. inr (free, broken))
+
+  -- ---- and what was written beside them
+
+  module _ (before now : List ℕ) where
+    pub agrees_whole : (status : Status) (text : List ℕ) → (status ≢ SinkFailed) → Says (due words bytes) status text → ProvesDue (due words bytes) text files after → AuditsDue (due words bytes) status text files → now ≡ before ++ text
+        → TextAgrees words bytes before now files after status
+    agrees_whole status text took says proves audits written = record {
+      proved = λ w t e done. (text, proved_by (due words bytes) files after status text says proves w t e, written);
+      proved_part = λ w t e failed. absurd (took failed);
+      verdict = λ r e _. written ∙ ap (λ end. before ++ end) (verdict_of (audited r files) status text (audits r e).says);
+      verdict_part = λ r e failed. absurd (took failed);
+    }
+
+    pub agrees_in_part : (status : Status) (text : List ℕ) (count : ℕ) → Says (due words bytes) status text → ProvesDue (due words bytes) text files after → AuditsDue (due words bytes) status text files → now ≡ before ++ take count text
+        → TextAgrees words bytes before now files after SinkFailed
+    agrees_in_part status text count says proves audits written = record {
+      proved = λ w t e done. absurd (cc);
+      proved_part = λ w t e _. (text, count, proved_by (due words bytes) files after status text says proves w t e, written);
+      verdict = λ r e ended. absurd (neither ended);
+      verdict_part = λ r e _. (count, written ∙ ap (λ end. before ++ take count end) (verdict_of (audited r files) status text (audits r e).says));
+    }
+      where
+        neither : (SinkFailed ≡ Done) ⊎ (SinkFailed ≡ Denied) → ⊥
+        neither (inl e) = absurd (cc)
+        neither (inr e) = absurd (cc)
+
+    -- nothing was
+    pub agrees_silent : (status : Status) → IsSilent status → TextAgrees words bytes before now files after status
+    agrees_silent status silent = record {
+      proved = λ w t e done. absurd (not_done status silent done);
+      proved_part = λ w t e failed. absurd (not_sink status silent failed);
+      verdict = λ r e ended. absurd (not_ended status silent ended);
+      verdict_part = λ r e failed. absurd (not_sink status silent failed);
+    }
+      where
+        not_sink : (status : Status) → IsSilent status → status ≡ SinkFailed → ⊥
+        not_sink status (inl a) e = absurd (cc)
+        not_sink status (inr (inl a)) e = absurd (cc)
+        not_sink status (inr (inr a)) e = absurd (cc)
+
+        not_done : (status : Status) → IsSilent status → status ≡ Done → ⊥
+        not_done status (inl a) e = absurd (cc)
+        not_done status (inr (inl a)) e = absurd (cc)
+        not_done status (inr (inr a)) e = absurd (cc)
+
+        not_denied : (status : Status) → IsSilent status → status ≡ Denied → ⊥
+        not_denied status (inl a) e = absurd (cc)
+        not_denied status (inr (inl a)) e = absurd (cc)
+        not_denied status (inr (inr a)) e = absurd (cc)
+
+        not_ended : (status : Status) → IsSilent status → (status ≡ Done) ⊎ (status ≡ Denied) → ⊥
+        not_ended status silent (inl e) = not_done status silent e
+        not_ended status silent (inr e) = not_denied status silent e
 
 -- ---- what is owed of the files for the same due
 

@@ -110,13 +110,12 @@ pub verified_again : (search check : RunValue) (a b c d e f : CountValue) → Is
     → check.words ≡ codes "check" ∷ [] → search.now ≡ search.before ++ check.bytes → length check.bytes ≤ limit → FilesStay search.files_after check.files
     → (check.status ≡ Done) ⊎ IsFree check.status
 verified_again search check a b c d e f searching checking w t asks done words written short stay =
-    let owed = (searching.text (inl refl) refl).owed (Synthesise w t) asks done in
-    let wrote : Synthesises w t owed.0 = owed.1 in
+    let owed = (searching.agrees (inl refl) refl refl).proved w t asks done in
+    let wrote : Synthesises w t owed.0 = owed.1.says in
     let report = wrote.report in
     let text : check.bytes ≡ report_text report = append_cancel_left search.before check.bytes (report_text report) (sym written ∙ owed.2 ∙ ap (λ end. search.before ++ end) wrote.written) in
-    let proves : Proves report search.files search.files_after =
-    (searching.files (inl refl) refl refl).proved w t asks done report wrote.words wrote.topology wrote.right (written ∙ ap (λ end. search.before ++ end) text) in
+    let proves : Proves report search.files search.files_after = owed.1.proves in
     let fits : searchable (whole_question report.words report.topology) ≡ Ok tt = rw (wrote.words, wrote.topology) (searched search.words search.bytes w t asks) in
     let is_due : due check.words check.bytes ≡ Ok (Audit report) = check_due check.words check.bytes report words short (ap report_of text ∙ report_again report wrote.right.valid) fits in
     let shelf : ShelfRight report check.files = subst (ShelfRight report) (sym (files_are search.files_after check.files stay)) proves.shelf in
-    (checking.files (inl refl) refl refl).verified report is_due (nothing_denied report check.files wrote.right shelf)
+    (checking.files (inl refl) refl).verified report is_due (nothing_denied report check.files wrote.right shelf)

@@ -43,11 +43,11 @@ unfolding due command_of topology_of topology_at pattern_at digits asked_words
 is_search status = refl
 
 pub unread_is_wrong : (source sink shelf : CountValue) → IsRun (failed_search SourceFailed) all_tell source sink shelf → ⊥
-unread_is_wrong source sink shelf run = nothing_there _ _ ((run.files (inl refl) refl refl).unread refl some_name)
+unread_is_wrong source sink shelf run = nothing_there _ _ (run.call.behind refl some_name)
 
 pub lost_is_wrong : (status : Status) → status ≢ Done → (source sink shelf : CountValue) → IsRun (failed_search status) all_tell source sink shelf → ⊥
 lost_is_wrong status broken source sink shelf run =
-    elim ((run.files (inl refl) refl refl).broken_off asked_words (family_of Line 2) (is_search status) broken some_name) [
+    elim ((run.files (inl refl) refl).broken_off asked_words (family_of Line 2) (is_search status) broken some_name) [
       | inl same ↦ nothing_there _ _ same
       | inr begun ↦ nothing_there _ _ begun.stands
     ]
@@ -80,13 +80,12 @@ broadcast_read = refl
 -- the one report whose text was written has its files there
 kept_there : (files : Files) (source sink shelf : CountValue) → IsRun (done_search files) all_tell source sink shelf → Proves broadcast_report no_files files
 kept_there files source sink shelf run =
-    let owed = (run.text (inl refl) refl).owed (Synthesise asked_words (family_of Line 2)) (done_is_search files) refl in
-    let wrote : Synthesises asked_words (family_of Line 2) owed.0 = owed.1 in
+    let owed = (run.agrees (inl refl) refl refl).proved asked_words (family_of Line 2) (done_is_search files) refl in
+    let wrote : Synthesises asked_words (family_of Line 2) owed.0 = owed.1.says in
     let text : report_text broadcast_report ≡ report_text wrote.report = owed.2 ∙ wrote.written in
     let both : Ok wrote.report ≡ Ok broadcast_report = sym (report_again wrote.report wrote.right.valid) ∙ ap report_of (sym text) ∙ broadcast_read in
     let same : wrote.report ≡ broadcast_report = cc in
-    subst (λ r. Proves r no_files files) same
-    ((run.files (inl refl) refl refl).proved asked_words (family_of Line 2) (done_is_search files) refl wrote.report wrote.words wrote.topology wrote.right text)
+    subst (λ r. Proves r no_files files) same owed.1.proves
 
 abbrev broadcast_frontier : FrontierValue
 broadcast_frontier = one_point (point 1 1 Optimal (1 ∷ []) (send 0 0 1 1 ∷ []))

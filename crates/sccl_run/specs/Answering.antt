@@ -1,6 +1,5 @@
 -- What is owed of an answer before it is written: its status, its text, and the files beside it.
-use Rattle.std.specs.Prelude.{◌≡◌, ◌⊎◌, ℕ, List, [], ◌∷◌, Contains, Result, Ok, Err, codes}
-use Rattle.text_lines.specs.Text.{line}
+use Rattle.std.specs.Prelude.{◌≡◌, ◌⊎◌, ℕ, List, Contains, Result, Ok, Err}
 use Rattle.outer_ports.specs.Files.{Files}
 use Rattle.outer_ports.specs.Shelf.{FilesStay}
 use Rattle.topology_text.specs.Value.{NamedTopologyValue}
@@ -14,7 +13,7 @@ use Rattle.sccl_run.specs.Owed.{Owed}
 use Rattle.frontier_audit.specs.Rights.{IsRight}
 use Rattle.frontier_audit.specs.OwedFiles.{Proves, BreaksOff}
 use Rattle.frontier_audit.specs.Shelves.{ShelfRight}
-use Rattle.sccl_run.specs.TopCall.{IsDenial, IsFree, ends_of}
+use Rattle.sccl_run.specs.TopCall.{IsDenial, IsFree, ends_of, verdict_text}
 use Rattle.command_words.specs.declared.command.Command.{Command}
 use Rattle.command_words.specs.declared.fault.WordFault.{WordFault}
 
@@ -26,8 +25,8 @@ Says (Ok t) status text = (status ≡ Done) × Owed t text
 
 -- the status and the text that tell whether an audit denies
 abbrev pub SaysVerdict : Result (Unit {0}) Refusal → Status → List ℕ → Type 0
-SaysVerdict (Ok x) status text = (status ≡ Done) × (text ≡ line (codes "verified" ∷ []))
-SaysVerdict (Err r) status text = (status ≡ r.status) × (text ≡ refusal_line r)
+SaysVerdict (Ok x) status text = (status ≡ Done) × (text ≡ verdict_text (Ok x))
+SaysVerdict (Err r) status text = (status ≡ r.status) × (text ≡ verdict_text (Err r))
 
 -- they tell the audit over these files, which prove a report that is verified
 pub record Audits (r : ReportValue) (status : Status) (text : List ℕ) (files : Files) : Type 0 where

@@ -1,5 +1,6 @@
--- The theorem of the top call, in layers: what every run says; what is said where the source tells its bytes; where the sink tells what was written; where the shelf tells its files.
-use Rattle.std.specs.Prelude.{◌≡◌, ◌≢◌, ◌⊎◌, ℕ, ◌+◌, ◌≤◌, Bool, IsTrue, List, [], ◌∷◌, ◌++◌, take, drop, Contains, Result, Ok, Err}
+-- The theorem of the top call, in layers: what every run says; what is said where the source tells its bytes; where the sink tells what was written too, or the shelf its files; and where all three tell.
+use Rattle.std.specs.Prelude.{◌≡◌, ◌≢◌, ◌⊎◌, ℕ, ◌+◌, ◌≤◌, Bool, IsTrue, List, [], ◌∷◌, ◌++◌, take, drop, Contains, Result, Ok, Err, codes}
+use Rattle.text_lines.specs.Text.{line}
 use Rattle.outer_ports.specs.Files.{Files}
 use Rattle.outer_ports.specs.Shelf.{FilesStay}
 use Rattle.outer_ports.specs.Port.{Rose}
@@ -9,15 +10,13 @@ use Rattle.command_words.specs.declared.fault.WordFault.{WordFault}
 use Rattle.command_words.specs.Words.{command_of}
 use Rattle.topology_text.specs.Value.{NamedTopologyValue}
 use Rattle.report_form.specs.Reports.{WordsValue, ReportValue}
-use Rattle.report_form.specs.Spelling.{report_text}
 use Rattle.frontier_audit.specs.Shelves.{ShelfRight}
 use Rattle.sccl_run.specs.declared.status.Status.{Status}
 use Rattle.sccl_run.specs.declared.status.Status.TheVariants.{Done, OutOfMemory, BadWords, BadTopology, SourceFailed, SinkFailed, ShelfFailed, BadReport, Denied, TooLarge, NoCandidate, TooLong}
 use Rattle.sccl_run.specs.Asked.{Ask, Reads, Opens, Changes}
 use Rattle.sccl_run.specs.Refusals.{Refusal, refusal_line}
 use Rattle.sccl_run.specs.Tasks.{Task, Synthesise, Audit, limit, due, audited}
-use Rattle.sccl_run.specs.Owed.{Owed}
-use Rattle.frontier_audit.specs.Rights.{IsRight}
+use Rattle.sccl_run.specs.Owed.{Owed, Synthesises}
 use Rattle.frontier_audit.specs.OwedFiles.{Proves, BreaksOff}
 
 -- ---- every run, whatever the ports tell
@@ -46,6 +45,16 @@ ends_of (Ok (command.Trial n)) = Done ∷ []
 abbrev pub IsSilent : Status → Type 0
 IsSilent status = (status ≡ OutOfMemory) ⊎ ((status ≡ SourceFailed) ⊎ (status ≡ ShelfFailed))
 
+-- the words, the text or the size of the search are refused, before the shelf is opened
+abbrev pub IsRefusal : Status → Type 0
+IsRefusal BadWords = Unit {0}
+IsRefusal BadTopology = Unit {0}
+IsRefusal BadReport = Unit {0}
+IsRefusal TooLarge = Unit {0}
+IsRefusal NoCandidate = Unit {0}
+IsRefusal TooLong = Unit {0}
+IsRefusal _ = ⊥
+
 pub record IsCall (words : List (List ℕ)) (status : Status) (source sink shelf : CountValue) (SourceStays SinkStays ShelfStays : Type 0) : Type 0 where
   pub ends : Contains (OutOfMemory ∷ SinkFailed ∷ ends_of (command_of words)) status
   pub source_fails : EndsIfItFails SourceFailed status source
@@ -53,6 +62,8 @@ pub record IsCall (words : List (List ℕ)) (status : Status) (source sink shelf
   pub shelf_fails : EndsIfItFails ShelfFailed status shelf
   pub unread : ¬ Ask Reads words → SourceStays
   pub unopened : ¬ Ask Opens words → ShelfStays
+  pub behind : status ≡ SourceFailed → ShelfStays
+  pub refused : IsRefusal status → ShelfStays
   pub silent : IsSilent status → SinkStays
 
 -- ---- where the source tells its bytes, or is not read
@@ -103,20 +114,37 @@ pub record TextIsDue (words : List (List ℕ)) (bytes before now : List ℕ) (st
   pub denial : (r : ReportValue) → due words bytes ≡ Ok (Audit r) → status ≡ Denied → (text : List ℕ) × IsDenial r text × (now ≡ before ++ text)
   pub prefix : status ≡ SinkFailed → (text : List ℕ) × (count : ℕ) × IsDue (due words bytes) text × (now ≡ before ++ take count text)
 
--- ---- where the shelf tells too
+-- ---- where the shelf tells too, whatever the sink tells
 
-pub record FilesAreDue (words : List (List ℕ)) (bytes before now : List ℕ) (files files_after : Files) (status : Status) : Type 0 where
-  pub unchanged : ¬ Ask Changes words → FilesStay files files_after
-  pub refused : (r : Refusal) → due words bytes ≡ Err r → FilesStay files files_after
-  pub unread : status ≡ SourceFailed → FilesStay files files_after
+-- a text that a search may write, and files that prove it
+pub record SynthesisesWith (w : WordsValue) (t : NamedTopologyValue) (before after : Files) (text : List ℕ) : Type 0 where
+  pub says : Synthesises w t text
+  pub proves : Proves says.report before after
+
+pub record FilesAreDue (words : List (List ℕ)) (bytes : List ℕ) (files files_after : Files) (status : Status) : Type 0 where
   -- a search that ends well leaves the files that prove its report; one that breaks off has begun some
-  pub proved : (w : WordsValue) (t : NamedTopologyValue) → due words bytes ≡ Ok (Synthesise w t) → status ≡ Done →
-      (report : ReportValue) → report.words ≡ w → report.topology ≡ t → IsRight report → now ≡ before ++ report_text report → Proves report files files_after
+  pub proved : (w : WordsValue) (t : NamedTopologyValue) → due words bytes ≡ Ok (Synthesise w t) → status ≡ Done → (text : List ℕ) × SynthesisesWith w t files files_after text
   pub broken_off : (w : WordsValue) (t : NamedTopologyValue) → due words bytes ≡ Ok (Synthesise w t) → status ≢ Done → BreaksOff w t files files_after
+  -- a search that is refused changes none
+  pub refused : (r : Refusal) → due words bytes ≡ Err r → FilesStay files files_after
   -- a report is denied exactly where its audit over the files denies it
-  pub denied : (r : ReportValue) (why : Refusal) → due words bytes ≡ Ok (Audit r) → audited r files ≡ Err why → ((status ≡ Denied) × (now ≡ before ++ refusal_line why)) ⊎ IsFree status
+  pub denied : (r : ReportValue) (why : Refusal) → due words bytes ≡ Ok (Audit r) → audited r files ≡ Err why → (status ≡ Denied) ⊎ IsFree status
   pub verified : (r : ReportValue) → due words bytes ≡ Ok (Audit r) → audited r files ≡ Ok tt → (status ≡ Done) ⊎ IsFree status
   pub shelf : (r : ReportValue) → due words bytes ≡ Ok (Audit r) → status ≡ Done → ShelfRight r files
+
+-- ---- where all three tell
+
+-- what the audit of a report writes
+abbrev pub verdict_text : Result (Unit {0}) Refusal → List ℕ
+verdict_text (Ok x) = line (codes "verified" ∷ [])
+verdict_text (Err r) = refusal_line r
+
+-- what was appended to the sink, whole or in part, is of the files that stand on the shelf
+pub record TextAgrees (words : List (List ℕ)) (bytes before now : List ℕ) (files files_after : Files) (status : Status) : Type 0 where
+  pub proved : (w : WordsValue) (t : NamedTopologyValue) → due words bytes ≡ Ok (Synthesise w t) → status ≡ Done → (text : List ℕ) × SynthesisesWith w t files files_after text × (now ≡ before ++ text)
+  pub proved_part : (w : WordsValue) (t : NamedTopologyValue) → due words bytes ≡ Ok (Synthesise w t) → status ≡ SinkFailed → (text : List ℕ) × (count : ℕ) × SynthesisesWith w t files files_after text × (now ≡ before ++ take count text)
+  pub verdict : (r : ReportValue) → due words bytes ≡ Ok (Audit r) → (status ≡ Done) ⊎ (status ≡ Denied) → now ≡ before ++ verdict_text (audited r files)
+  pub verdict_part : (r : ReportValue) → due words bytes ≡ Ok (Audit r) → status ≡ SinkFailed → (count : ℕ) × (now ≡ before ++ take count (verdict_text (audited r files)))
 
 -- ---- the whole theorem, over the values of one run
 
@@ -142,4 +170,6 @@ pub record IsRun (x : RunValue) (told : ToldValue) (source sink shelf : CountVal
   pub status : Knows told.source x.words → StatusIsDue x.words x.bytes x.status
   pub left : IsTrue told.source → LeftIsDue x.words x.bytes x.left x.status
   pub text : Knows told.source x.words → IsTrue told.sink → TextIsDue x.words x.bytes x.before x.now x.status
-  pub files : Knows told.source x.words → IsTrue told.sink → IsTrue told.shelf → FilesAreDue x.words x.bytes x.before x.now x.files x.files_after x.status
+  pub stays : IsTrue told.shelf → ¬ Ask Changes x.words → FilesStay x.files x.files_after
+  pub files : Knows told.source x.words → IsTrue told.shelf → FilesAreDue x.words x.bytes x.files x.files_after x.status
+  pub agrees : Knows told.source x.words → IsTrue told.sink → IsTrue told.shelf → TextAgrees x.words x.bytes x.before x.now x.files x.files_after x.status

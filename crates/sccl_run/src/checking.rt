@@ -7,6 +7,7 @@ ghost use Rattle.outer_ports.specs.Shelf.{FilesStay};
 ghost use Rattle.sccl_run.specs.Answering.{AuditsDue, Says, SaysVerdict};
 ghost use Rattle.sccl_run.specs.Refusals.{Refusal};
 ghost use Rattle.sccl_run.specs.Tasks.{audit_asked, audit_in, limit, not_denied};
+ghost use Rattle.sccl_run.specs.TopCall.{IsRefusal};
 
 use crate::OutOfMemory;
 use crate::answer::{Answer, refusal_at};
@@ -51,7 +52,8 @@ fn denial(
     part: Part,
     candidate: Candidate,
 ) -> Result<Answer, OutOfMemory>
-    ensures { IfOk result (λ a. SaysVerdict (not_denied (AuditVerdict.Denied reason part candidate)) a.status a.text.items) }
+    ensures says { IfOk result (λ a. SaysVerdict (not_denied (AuditVerdict.Denied reason part candidate)) a.status a.text.items) }
+    ensures denied { IfOk result (λ a. a.status ≡ Status.Denied) }
 {
     let mut place = Vec::new(alloc);
     push_candidate(&mut place, part, candidate)?;
@@ -60,7 +62,8 @@ fn denial(
 
 /// The answer that tells a verdict.
 fn verdict_answer(alloc: Global, verdict: AuditVerdict) -> Result<Answer, OutOfMemory>
-    ensures { IfOk result (λ a. SaysVerdict (not_denied verdict) a.status a.text.items) }
+    ensures says { IfOk result (λ a. SaysVerdict (not_denied verdict) a.status a.text.items) }
+    ensures accepted { IfOk result (λ a. ¬ IsRefusal a.status) }
 {
     match verdict {
         AuditVerdict::Verified => Ok(Answer {
@@ -84,6 +87,7 @@ fn audit_answer<H: Shelf>(
     ensures says { IfOk result (λ a. Says (audit_in report.now) a.status a.text.items) }
     ensures told { Tells (H.tells shelf.old) (H.tells shelf.new) }
     ensures stay { IsTrue (H.tells shelf.new) → FilesStay (H.file shelf.old) (H.file shelf.new) }
+    ensures refused { IfOk result (λ a. IsRefusal a.status → shelf.new ≡ shelf.old) }
     ensures audits { IsTrue (H.tells shelf.new) → IfOk result (λ a. AuditsDue (audit_in report.now) a.status a.text.items (H.file shelf.old)) }
     ensures last { result ≡ Err AuditFault.ShelfFailed → (r : Refusal) → audit_in report.now ≡ Err r → ⊥ }
     ensures cause { HasCause AuditFault.ShelfFailed (H.faults shelf.old) (H.faults shelf.new) result }
@@ -109,6 +113,7 @@ pub fn check_answer<H: Shelf>(
     ensures says { IfOk result (λ a. Says (audit_asked bytes.now) a.status a.text.items) }
     ensures told { Tells (H.tells shelf.old) (H.tells shelf.new) }
     ensures stay { IsTrue (H.tells shelf.new) → FilesStay (H.file shelf.old) (H.file shelf.new) }
+    ensures refused { IfOk result (λ a. IsRefusal a.status → shelf.new ≡ shelf.old) }
     ensures audits { IsTrue (H.tells shelf.new) → IfOk result (λ a. AuditsDue (audit_asked bytes.now) a.status a.text.items (H.file shelf.old)) }
     ensures last { result ≡ Err AuditFault.ShelfFailed → (r : Refusal) → audit_asked bytes.now ≡ Err r → ⊥ }
     ensures cause { HasCause AuditFault.ShelfFailed (H.faults shelf.old) (H.faults shelf.new) result }

@@ -9,6 +9,7 @@ ghost use Rattle.sccl_run.specs.Asked.{Changes, Opens};
 ghost use Rattle.sccl_run.specs.Jobs.{command_of_text};
 ghost use Rattle.sccl_run.specs.Refusals.{Refusal};
 ghost use Rattle.sccl_run.specs.Tasks.{limit, task_of};
+ghost use Rattle.sccl_run.specs.TopCall.{IsRefusal};
 
 use crate::answer::{Answer, LIMIT, too_long};
 use crate::checking::check_answer;
@@ -55,6 +56,7 @@ fn text_answer<H: Shelf>(
     ensures says { IfOk result (λ a. Says (task_of (command_of_text job) bytes.now) a.status a.text.items) }
     ensures told { Tells (H.tells shelf.old) (H.tells shelf.new) }
     ensures unopened { ¬ Opens (command_of_text job) → shelf.new ≡ shelf.old }
+    ensures refused { IfOk result (λ a. IsRefusal a.status → shelf.new ≡ shelf.old) }
     ensures opens { result ≡ Err Halt.Shelf → Opens (command_of_text job) }
     ensures stay { IsTrue (H.tells shelf.new) → ¬ Changes (command_of_text job) → FilesStay (H.file shelf.old) (H.file shelf.new) }
     ensures begins { IsTrue (H.tells shelf.new) → BeginsDue (task_of (command_of_text job) bytes.now) (H.file shelf.old) (H.file shelf.new) }
@@ -94,6 +96,7 @@ pub fn source_answer<I: Source, H: Shelf>(
     ensures shelf_kept { result ≢ Err Halt.Shelf → H.faults shelf.new ≡ H.faults shelf.old }
     ensures unread { result ≡ Err Halt.Source → shelf.new ≡ shelf.old }
     ensures unopened { ¬ Opens (command_of_text job) → shelf.new ≡ shelf.old }
+    ensures refused { IfOk result (λ a. IsRefusal a.status → shelf.new ≡ shelf.old) }
     ensures opens { result ≡ Err Halt.Shelf → Opens (command_of_text job) }
     ensures stay { IsTrue (H.tells shelf.new) → ¬ Changes (command_of_text job) → FilesStay (H.file shelf.old) (H.file shelf.new) }
     ensures begins { IsTrue (I.tells source.new) → IsTrue (H.tells shelf.new) → BeginsDue (task_of (command_of_text job) (I.left source.old)) (H.file shelf.old) (H.file shelf.new) }

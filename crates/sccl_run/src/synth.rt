@@ -9,6 +9,7 @@ ghost use Rattle.report_search.specs.Asked.{IsAsked};
 ghost use Rattle.sccl_run.specs.Answering.{BeginsDue, ProvesDue, ProvesText, Says};
 ghost use Rattle.sccl_run.specs.Refusals.{Refusal};
 ghost use Rattle.sccl_run.specs.Tasks.{Synthesise, limit, synthesis_of};
+ghost use Rattle.sccl_run.specs.TopCall.{IsRefusal};
 
 use crate::answer::Answer;
 use crate::planning::{Plan, Search, SearchWords, plan_over_text};
@@ -27,6 +28,7 @@ fn search_answer<H: Shelf>(
 ) -> Result<Answer, EngineFault>
     requires { IsAsked search.words search.topology }
     ensures says { IfOk result (λ a. Says (Ok (Synthesise search.words search.topology)) a.status a.text.items) }
+    ensures done { IfOk result (λ a. a.status ≡ Status.Done) }
     ensures told { Tells (H.tells shelf.old) (H.tells shelf.new) }
     ensures proves { IsTrue (H.tells shelf.new) → IfOk result (λ a. ProvesText search.words search.topology a.text.items (H.file shelf.old) (H.file shelf.new)) }
     ensures begun { IsTrue (H.tells shelf.new) → BreaksOff search.words search.topology (H.file shelf.old) (H.file shelf.new) }
@@ -55,6 +57,7 @@ pub fn synth_text_answer<H: Shelf>(
     ensures told { Tells (H.tells shelf.old) (H.tells shelf.new) }
     ensures begins { IsTrue (H.tells shelf.new) → BeginsDue (synthesis_of asked.kind asked.kind_word asked.limits asked.root bytes.now) (H.file shelf.old) (H.file shelf.new) }
     ensures proves { IsTrue (H.tells shelf.new) → IfOk result (λ a. ProvesDue (synthesis_of asked.kind asked.kind_word asked.limits asked.root bytes.now) a.text.items (H.file shelf.old) (H.file shelf.new)) }
+    ensures refused { IfOk result (λ a. IsRefusal a.status → shelf.new ≡ shelf.old) }
     ensures last { result ≡ Err EngineFault.ShelfFailed → (r : Refusal) → synthesis_of asked.kind asked.kind_word asked.limits asked.root bytes.now ≡ Err r → ⊥ }
     ensures cause { HasCause EngineFault.ShelfFailed (H.faults shelf.old) (H.faults shelf.new) result }
     ensures steady { result ≢ Err EngineFault.ShelfFailed → H.faults shelf.new ≡ H.faults shelf.old }

@@ -8,7 +8,7 @@ ghost use Rattle.sccl_run.specs.Refusals.{Refusal};
 ghost use Rattle.sccl_run.specs.Asked.{Ask, Changes, Opens, Reads};
 ghost use Rattle.sccl_run.specs.Tasks.{due, limit};
 ghost use Rattle.sccl_run.specs.Answering.{AuditsDue, BeginsDue, Ends, ProvesDue, Says};
-ghost use Rattle.sccl_run.specs.TopCall.{FilesAreDue, IsCall, Knows, LeftIsDue, StatusIsDue, TextIsDue};
+ghost use Rattle.sccl_run.specs.TopCall.{FilesAreDue, IsCall, IsRefusal, Knows, LeftIsDue, StatusIsDue, TextAgrees, TextIsDue};
 
 use crate::answer::{Answer, family_answer, refused_word};
 use crate::halt::Halt;
@@ -44,6 +44,7 @@ fn answer<I: Source, H: Shelf>(
     ensures opens { result ≡ Err Halt.Shelf → Ask Opens (texts words.now) }
     ensures unopened { ¬ Ask Opens (texts words.now) → shelf.new ≡ shelf.old }
     ensures unread { result ≡ Err Halt.Source → shelf.new ≡ shelf.old }
+    ensures refused { IfOk result (λ a. IsRefusal a.status → shelf.new ≡ shelf.old) }
     ensures unchanged { IsTrue (H.tells shelf.new) → ¬ Ask Changes (texts words.now) → FilesStay (H.file shelf.old) (H.file shelf.new) }
     ensures begins { Knows (I.tells source.new) (texts words.now) → IsTrue (H.tells shelf.new) → BeginsDue (due (texts words.now) (I.left source.old)) (H.file shelf.old) (H.file shelf.new) }
     ensures proves { Knows (I.tells source.new) (texts words.now) → IsTrue (H.tells shelf.new) → IfOk result (λ a. ProvesDue (due (texts words.now) (I.left source.old)) a.text.items (H.file shelf.old) (H.file shelf.new)) }
@@ -86,8 +87,12 @@ pub fn run<I: Source, O: Sink, H: Shelf>(
     // Where the sink tells too: what is written.
     ensures text { Knows (I.tells source.new) (texts words.now) → IsTrue (O.tells sink.new) → TextIsDue (texts words.now) (I.left source.old) (O.written sink.old) (O.written sink.new) result }
 
-    // Where the shelf tells too: what stands on it.
-    ensures files { Knows (I.tells source.new) (texts words.now) → IsTrue (O.tells sink.new) → IsTrue (H.tells shelf.new) → FilesAreDue (texts words.now) (I.left source.old) (O.written sink.old) (O.written sink.new) (H.file shelf.old) (H.file shelf.new) result }
+    // Where the shelf tells: which files stay; and where the source tells too, what stands on the shelf.
+    ensures stays { IsTrue (H.tells shelf.new) → ¬ Ask Changes (texts words.now) → FilesStay (H.file shelf.old) (H.file shelf.new) }
+    ensures files { Knows (I.tells source.new) (texts words.now) → IsTrue (H.tells shelf.new) → FilesAreDue (texts words.now) (I.left source.old) (H.file shelf.old) (H.file shelf.new) result }
+
+    // Where all three tell: that what is written is of the files that stand there.
+    ensures agrees { Knows (I.tells source.new) (texts words.now) → IsTrue (O.tells sink.new) → IsTrue (H.tells shelf.new) → TextAgrees (texts words.now) (I.left source.old) (O.written sink.old) (O.written sink.new) (H.file shelf.old) (H.file shelf.new) result }
 
     // What a port tells after the run it told before.
     ensures source_told { Tells (I.tells source.old) (I.tells source.new) }

@@ -22,7 +22,7 @@ returns-in_ok-verdict_answer-in-None-clause-says g c =
     let answer = c.in_ok-verdict_answer-in-None.field-0 in
     let verdict = c.in_ok-verdict-in-None.verdict in
     says_as _ _ _ _ (can_audit r can)
-    (verdict_says r verdict answer.status answer.text.items c.in_ok-verdict-in-None.ensures.some (λ e. c.in_ok-verdict-in-None.ensures.right (ap Ok e)) (λ e. c.in_ok-verdict-in-None.ensures.logs (ap Ok e)) c.in_ok-verdict_answer-in-None.ensures)
+    (verdict_says r verdict answer.status answer.text.items c.in_ok-verdict-in-None.ensures.some (λ e. c.in_ok-verdict-in-None.ensures.right (ap Ok e)) (λ e. c.in_ok-verdict-in-None.ensures.logs (ap Ok e)) c.in_ok-verdict_answer-in-None.ensures.says)
 
 pub returns-in_ok-verdict_answer-in-None-clause-audits : goal.returns-in_ok-verdict_answer-in-None-clause-audits
 returns-in_ok-verdict_answer-in-None-clause-audits g c = λ told.
@@ -33,4 +33,4 @@ returns-in_ok-verdict_answer-in-None-clause-audits g c = λ told.
     let answer = c.in_ok-verdict_answer-in-None.field-0 in
     let files = g.H.Shelf.file c.args.shelf.now in
     audits_so (audit_in r) r answer.status answer.text.items files (can_audit r can)
-    (verdict_audits r files c.in_ok-verdict-in-None.verdict answer.status answer.text.items c.words.ensures.limits (c.in_ok-verdict-in-None.ensures.exact told) c.in_ok-verdict_answer-in-None.ensures)
+    (verdict_audits r files c.in_ok-verdict-in-None.verdict answer.status answer.text.items c.words.ensures.limits (c.in_ok-verdict-in-None.ensures.exact told) c.in_ok-verdict_answer-in-None.ensures.says)

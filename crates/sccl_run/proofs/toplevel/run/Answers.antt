@@ -1,13 +1,13 @@
 use Rattle.std.proofs.Common.{Err, ap, inl, inr, refl}
 use Rattle.command_words.specs.Words.{texts}
-use Rattle.sccl_run.specs.declared.status.Status.TheVariants.{OutOfMemory, SinkFailed}
+use Rattle.sccl_run.specs.declared.status.Status.TheVariants.{OutOfMemory, ShelfFailed, SinkFailed, SourceFailed}
 use Rattle.sccl_run.proofs.Ending.{appended_as, call_ended, call_unread, call_unshelved, call_unwritten, part_appended_as, status_ended, text_ended, text_unread, text_unwritten, text_without_memory}
-use Rattle.sccl_run.proofs.FilesEnding.{files_broken, files_ended}
+use Rattle.sccl_run.proofs.FilesEnding.{agrees_in_part, agrees_silent, agrees_whole, files_broken, files_ended}
 use Rattle.sccl_run.proofs.toplevel.run.Goals as goal
 
 pub returns-in-Ok-write_all-clause-call : goal.returns-in-Ok-write_all-clause-call
 returns-in-Ok-write_all-clause-call g c =
-    call_ended (texts c.args.words.now) _ _ _ _ _ _ c.in-Ok.answer.status c.in-Ok.ensures.ends (c.in-Ok.ensures.kept (λ e. cc)) c.in-Ok-write_all.ensures.kept (c.in-Ok.ensures.shelf_kept (λ e. cc)) c.in-Ok.ensures.untouched c.in-Ok.ensures.unopened
+    call_ended (texts c.args.words.now) _ _ _ _ _ _ c.in-Ok.answer.status c.in-Ok.ensures.ends (c.in-Ok.ensures.kept (λ e. cc)) c.in-Ok-write_all.ensures.kept (c.in-Ok.ensures.shelf_kept (λ e. cc)) c.in-Ok.ensures.untouched c.in-Ok.ensures.unopened c.in-Ok.ensures.refused
 
 pub returns-in-Ok-write_all-clause-status : goal.returns-in-Ok-write_all-clause-status
 returns-in-Ok-write_all-clause-status g c = λ known. status_ended (texts c.args.words.now) _ c.in-Ok.answer.status c.in-Ok.answer.text.items c.in-Ok.ensures.ends (c.in-Ok.ensures.says known)
@@ -19,10 +19,15 @@ returns-in-Ok-write_all-clause-text g c = λ known told.
     (appended_as before (g.O.Sink.written c.write_all.new.sink) c.in-Ok.answer.text.items _ (c.in-Ok-write_all.ensures.whole told) c.deref.ensures.value)
 
 pub returns-in-Ok-write_all-clause-files : goal.returns-in-Ok-write_all-clause-files
-returns-in-Ok-write_all-clause-files g c = λ known told shelf_told.
+returns-in-Ok-write_all-clause-files g c = λ known shelf_told.
+    files_ended (texts c.args.words.now) _ (g.H.Shelf.file c.args.shelf.now) (g.H.Shelf.file c.answer.new.shelf) c.in-Ok.answer.status c.in-Ok.answer.text.items
+    (c.in-Ok.ensures.says known) (c.in-Ok.ensures.begins known shelf_told) (c.in-Ok.ensures.proves known shelf_told) (c.in-Ok.ensures.audits known shelf_told)
+
+pub returns-in-Ok-write_all-clause-agrees : goal.returns-in-Ok-write_all-clause-agrees
+returns-in-Ok-write_all-clause-agrees g c = λ known told shelf_told.
     let before = g.O.Sink.written c.args.sink.now in
-    files_ended (texts c.args.words.now) _ before (g.O.Sink.written c.write_all.new.sink) (g.H.Shelf.file c.args.shelf.now) (g.H.Shelf.file c.answer.new.shelf) c.in-Ok.answer.status c.in-Ok.answer.text.items (λ e. c.in-Ok.ensures.ends.given (inr (inl e)))
-    (c.in-Ok.ensures.unchanged shelf_told) (c.in-Ok.ensures.begins known shelf_told) (c.in-Ok.ensures.proves known shelf_told) (c.in-Ok.ensures.audits known shelf_told)
+    agrees_whole (texts c.args.words.now) _ (g.H.Shelf.file c.args.shelf.now) (g.H.Shelf.file c.answer.new.shelf) before (g.O.Sink.written c.write_all.new.sink) c.in-Ok.answer.status c.in-Ok.answer.text.items (λ e. c.in-Ok.ensures.ends.given (inr (inr (inl e))))
+    (c.in-Ok.ensures.says known) (c.in-Ok.ensures.proves known shelf_told) (c.in-Ok.ensures.audits known shelf_told)
     (appended_as before (g.O.Sink.written c.write_all.new.sink) c.in-Ok.answer.text.items _ (c.in-Ok-write_all.ensures.whole told) c.deref.ensures.value)
 
 pub returns-in-Ok-clause-call : goal.returns-in-Ok-clause-call
@@ -36,17 +41,25 @@ returns-in-Ok-clause-text g c = λ known told.
     (part_appended_as (g.O.Sink.written c.args.sink.now) (g.O.Sink.written c.write_all.new.sink) c.in-Ok.answer.text.items _ part.0 part.2 c.deref.ensures.value)
 
 pub returns-in-Ok-clause-files : goal.returns-in-Ok-clause-files
-returns-in-Ok-clause-files g c = λ known told shelf_told.
-    files_broken (texts c.args.words.now) _ (g.O.Sink.written c.args.sink.now) (g.O.Sink.written c.write_all.new.sink) (g.H.Shelf.file c.args.shelf.now) (g.H.Shelf.file c.answer.new.shelf) SinkFailed (inr (inr (inl refl))) (λ e. cc)
-    (c.in-Ok.ensures.unchanged shelf_told) (λ e. absurd (cc)) (c.in-Ok.ensures.begins known shelf_told)
+returns-in-Ok-clause-files g c = λ known shelf_told.
+    files_broken (texts c.args.words.now) _ (g.H.Shelf.file c.args.shelf.now) (g.H.Shelf.file c.answer.new.shelf) SinkFailed (inr (inr (inl refl))) (λ e. cc) (c.in-Ok.ensures.begins known shelf_told)
+
+pub returns-in-Ok-clause-agrees : goal.returns-in-Ok-clause-agrees
+returns-in-Ok-clause-agrees g c = λ known told shelf_told.
+    let part = c.in-Err.ensures.prefix told in
+    agrees_in_part (texts c.args.words.now) _ (g.H.Shelf.file c.args.shelf.now) (g.H.Shelf.file c.answer.new.shelf) (g.O.Sink.written c.args.sink.now) (g.O.Sink.written c.write_all.new.sink) c.in-Ok.answer.status c.in-Ok.answer.text.items part.0
+    (c.in-Ok.ensures.says known) (c.in-Ok.ensures.proves known shelf_told) (c.in-Ok.ensures.audits known shelf_told)
+    (part_appended_as (g.O.Sink.written c.args.sink.now) (g.O.Sink.written c.write_all.new.sink) c.in-Ok.answer.text.items _ part.0 part.2 c.deref.ensures.value)
 
 pub returns-in-Err-Memory-clause-text : goal.returns-in-Err-Memory-clause-text
 returns-in-Err-Memory-clause-text g c = λ known told. text_without_memory (texts c.args.words.now) _ _ _
 
 pub returns-in-Err-Memory-clause-files : goal.returns-in-Err-Memory-clause-files
-returns-in-Err-Memory-clause-files g c = λ known told shelf_told.
-    files_broken (texts c.args.words.now) _ (g.O.Sink.written c.args.sink.now) (g.O.Sink.written c.args.sink.now) (g.H.Shelf.file c.args.shelf.now) (g.H.Shelf.file c.answer.new.shelf) OutOfMemory (inl refl) (λ e. cc)
-    (c.in-Err-Memory.ensures.unchanged shelf_told) (λ e. absurd (cc)) (c.in-Err-Memory.ensures.begins known shelf_told)
+returns-in-Err-Memory-clause-files g c = λ known shelf_told.
+    files_broken (texts c.args.words.now) _ (g.H.Shelf.file c.args.shelf.now) (g.H.Shelf.file c.answer.new.shelf) OutOfMemory (inl refl) (λ e. cc) (c.in-Err-Memory.ensures.begins known shelf_told)
+
+pub returns-in-Err-Memory-clause-agrees : goal.returns-in-Err-Memory-clause-agrees
+returns-in-Err-Memory-clause-agrees g c = λ known told shelf_told. agrees_silent (texts c.args.words.now) _ _ _ _ _ OutOfMemory (inl refl)
 
 pub returns-in-Err-Source-clause-call : goal.returns-in-Err-Source-clause-call
 returns-in-Err-Source-clause-call g c =
@@ -55,6 +68,12 @@ returns-in-Err-Source-clause-call g c =
 
 pub returns-in-Err-Source-clause-text : goal.returns-in-Err-Source-clause-text
 returns-in-Err-Source-clause-text g c = λ known told. text_unread (texts c.args.words.now) _ _ _
+
+pub returns-in-Err-Source-clause-agrees : goal.returns-in-Err-Source-clause-agrees
+returns-in-Err-Source-clause-agrees g c = λ known told shelf_told. agrees_silent (texts c.args.words.now) _ _ _ _ _ SourceFailed (inr (inl refl))
+
+pub returns-clause-agrees : goal.returns-clause-agrees
+returns-clause-agrees g c = λ known told shelf_told. agrees_silent (texts c.args.words.now) _ _ _ _ _ ShelfFailed (inr (inr refl))
 
 pub returns-clause-call : goal.returns-clause-call
 returns-clause-call g c =
