@@ -3,4 +3,5 @@ pub mod Moving
 pub mod Ended
 pub mod Arriving
 pub mod Stepping
-pub mod Copied
+pub mod CopiedBags
+pub mod Throughout

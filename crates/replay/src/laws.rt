@@ -1,6 +1,6 @@
 //! What the definitions say of runs that only copy, and of those that only add.
 
-ghost use Rattle.replay.specs.Kinds.{AddsThroughout, CopiesThroughout, EveryCopyingOrderEndsAsHeld, IsFilledWhereHeld};
+ghost use Rattle.replay.specs.Throughout.{AddsThroughout, CopiesThroughout, EveryCopyingOrderEndsAsHeld, IsFilledWhereHeld};
 
 /// Where every step copies, a run of bags is the run of the placement from which it begins.
 pub fn a_run_that_copies_is_that_of_the_placement()

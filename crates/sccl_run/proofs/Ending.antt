@@ -146,8 +146,8 @@ module _ (words : List (List ℕ)) (source sink shelf : CountValue) (SourceStays
     shelf_fails = quiet ShelfFailed status shelf (λ e. ends.given (inr (inr (inr e)))) kept;
     unread = unread;
     unopened = unopened;
-    behind = λ e. absurd (ends.given (inr (inl e)));
-    refused = refused;
+    behind_source = λ e. absurd (ends.given (inr (inl e)));
+    behind_refusals = refused;
     silent = λ silent. absurd (ends.given (free status silent));
   }
 
@@ -160,8 +160,8 @@ module _ (words : List (List ℕ)) (source sink shelf : CountValue) (SourceStays
     shelf_fails = quiet ShelfFailed SinkFailed shelf (λ e. cc) kept;
     unread = unread;
     unopened = unopened;
-    behind = λ e. absurd (cc);
-    refused = λ no. absurd no;
+    behind_source = λ e. absurd (cc);
+    behind_refusals = λ no. absurd no;
     silent = λ silent. absurd (heard silent);
   }
 
@@ -174,8 +174,8 @@ module _ (words : List (List ℕ)) (source sink shelf : CountValue) (SourceStays
     shelf_fails = quiet ShelfFailed SourceFailed shelf (λ e. cc) kept;
     unread = λ none. absurd (none ask);
     unopened = λ _. untouched;
-    behind = λ _. untouched;
-    refused = λ _. untouched;
+    behind_source = λ _. untouched;
+    behind_refusals = λ _. untouched;
     silent = λ _. stays;
   }
 
@@ -188,8 +188,8 @@ module _ (words : List (List ℕ)) (source sink shelf : CountValue) (SourceStays
     shelf_fails = record { only = λ _. rose; kept = λ other. absurd (other refl) };
     unread = λ none. absurd (none (asks_reads words ask));
     unopened = λ none. absurd (none ask);
-    behind = λ e. absurd (cc);
-    refused = λ no. absurd no;
+    behind_source = λ e. absurd (cc);
+    behind_refusals = λ no. absurd no;
     silent = λ _. stays;
   }
 

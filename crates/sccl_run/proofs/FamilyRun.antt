@@ -91,8 +91,8 @@ family_is_right n = record {
     shelf_fails = does_not_fail ShelfFailed n not_shelf;
     unread = λ _. refl;
     unopened = λ _ name. refl;
-    behind = λ _ name. refl;
-    refused = λ _ name. refl;
+    behind_source = λ _ name. refl;
+    behind_refusals = λ _ name. refl;
     silent = λ e. absurd (not_silent e);
   };
   status = λ _. record { refused = λ r e. absurd (no_refusal r e); done = ended; shelf_last = λ r e. absurd (no_refusal r e) };

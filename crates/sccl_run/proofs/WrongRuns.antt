@@ -43,7 +43,7 @@ unfolding due command_of topology_of topology_at pattern_at digits asked_words
 is_search status = refl
 
 pub unread_is_wrong : (source sink shelf : CountValue) → IsRun (failed_search SourceFailed) all_tell source sink shelf → ⊥
-unread_is_wrong source sink shelf run = nothing_there _ _ (run.call.behind refl some_name)
+unread_is_wrong source sink shelf run = nothing_there _ _ (run.call.behind_source refl some_name)
 
 pub lost_is_wrong : (status : Status) → status ≢ Done → (source sink shelf : CountValue) → IsRun (failed_search status) all_tell source sink shelf → ⊥
 lost_is_wrong status broken source sink shelf run =

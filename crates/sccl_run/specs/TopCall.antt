@@ -61,9 +61,10 @@ pub record IsCall (words : List (List ℕ)) (status : Status) (source sink shelf
   pub sink_fails : EndsIfItFails SinkFailed status sink
   pub shelf_fails : EndsIfItFails ShelfFailed status shelf
   pub unread : ¬ Ask Reads words → SourceStays
+  -- the shelf is opened where the words ask for it, behind the source and behind all refusals
   pub unopened : ¬ Ask Opens words → ShelfStays
-  pub behind : status ≡ SourceFailed → ShelfStays
-  pub refused : IsRefusal status → ShelfStays
+  pub behind_source : status ≡ SourceFailed → ShelfStays
+  pub behind_refusals : IsRefusal status → ShelfStays
   pub silent : IsSilent status → SinkStays
 
 -- ---- where the source tells its bytes, or is not read

@@ -1,4 +1,4 @@
-use Rattle.replay.proofs.Copied.{bags_of_held, filled_after}
+use Rattle.replay.proofs.CopiedBags.{bags_of_held, filled_after}
 use Rattle.replay.proofs.laws.a_run_that_copies_is_that_of_the_placement.Goals as goal
 
 pub returns-clause-bags : goal.returns-clause-bags

@@ -1,4 +1,4 @@
-use Rattle.replay.proofs.Copied.{ends_as_held}
+use Rattle.replay.proofs.Throughout.{ends_as_held}
 use Rattle.replay.proofs.laws.every_copying_order_ends_as_held.Goals as goal
 
 pub returns : goal.returns

@@ -1,5 +1,5 @@
--- Where every step copies, the bags of a placement stay those of what is held; where every step adds, the run is that of the sum.
-use Rattle.std.proofs.Common.{◌≡◌, ℕ, zero, suc, ◌+◌, ◌<◌, ◌⊎◌, ⊎_elim, Bool, true, false, not, ◌&&◌, ◌||◌, cond, eqb, leb, List, [], ◌∷◌, map, length, le-leb, refl, sym, ap, ◌∙◌, subst, arith}
+-- Where every step copies, the bags of a placement stay those of what is held.
+use Rattle.std.proofs.Common.{◌≡◌, ℕ, zero, suc, ◌+◌, ◌<◌, ◌⊎◌, ⊎_elim, Bool, true, false, not, ◌&&◌, ◌||◌, cond, eqb, leb, List, [], ◌∷◌, map, refl, sym, ap, ◌∙◌, subst, arith}
 use Rattle.std.specs.Prelude.{filter, fold, max}
 use Rattle.std.specs.List.{AllByRecursion, list_any, range_with_len, reduce}
 use Rattle.std.proofs.lemmas.Bool.{and_parts, eqb-true, cases_Bool}
@@ -7,18 +7,15 @@ use Rattle.std.proofs.lemmas.Bool.Decides.{nat_tests}
 use Rattle.std.proofs.lemmas.List.Elements.{recursion_from_All}
 use Rattle.schedule.specs.declared.hop.Hop.{Hop}
 use Rattle.schedule.specs.Sends.{ScheduleValue, IsInRange, is_hop_below}
-use Rattle.schedule.specs.Placed.{PlacementValue, all_pairs, holds, same_pair}
+use Rattle.schedule.specs.Placed.{PlacementValue, holds, same_pair}
 use Rattle.schedule.specs.Running.{after, brings}
-use Rattle.schedule.specs.Bags.{Bag, Bags, empty_bag, held_at_2, is_empty, of_placement, one_of}
+use Rattle.schedule.specs.Bags.{Bag, Bags, empty_bag, is_empty, of_placement, one_of}
 use Rattle.schedule.specs.Summing.{goes_to, summed_step}
 use Rattle.schedule.specs.JoinedRuns.{copied_step, joined_after, replaced}
 use Rattle.schedule.proofs.First.{each_weaker}
 use Rattle.schedule.proofs.Joining.{IsHopBelow, hop_below}
-use Rattle.schedule.proofs.Placing.{IsBelow, all_below, filter_alike, holds-placed}
+use Rattle.schedule.proofs.Placing.{filter_alike, holds-placed}
 use Rattle.schedule.proofs.Stepping.{chunks-after, nodes-after}
-use Rattle.node_programs.specs.Machines.{stored}
-use Rattle.node_programs.proofs.Everywhere.{every_order}
-use Rattle.replay.specs.Kinds.{AddsThroughout, EveryCopyingOrderEndsAsHeld}
 
 -- ---- which bags of a placement are empty
 
@@ -163,39 +160,9 @@ bags_of_held pre s (suc n) pair some in_range c v =
     ∙ (kept_or_brought (holds held pair) brought (one_of held.nodes 0) (empty_bag held.nodes)
     ∙ ap (λ b. cond b (one_of held.nodes 0) (empty_bag held.nodes)) (sym (holds-placed held.chunks held.nodes (λ p. holds held p || list_any (brings held (n + 1) p) s.sends) pair low left)))))
 
-map_alike : {X Y : Type 0} (P : X → Type 0) (f g : X → Y) → ((x : X) → P x → f x ≡ g x) → (xs : List X) → AllByRecursion P xs → map f xs ≡ map g xs
-map_alike P f g same [] each = refl
-map_alike P f g same (x ∷ xs) each =
-    let first : f x ≡ g x = same x each.0 in
-    let rest : map f xs ≡ map g xs = map_alike P f g same xs each.1 in
-    cc
-
--- so are the stores, with counts held at 2
-stored_of_held : (pre : PlacementValue) (s : ScheduleValue) (n : ℕ) → 0 < pre.nodes → IsInRange pre.chunks pre.nodes s
-    → stored pre.chunks pre.nodes (joined_after (of_placement pre) s 0 n) ≡ stored pre.chunks pre.nodes (of_placement (after pre s n))
-stored_of_held pre s n some in_range =
-    ap (λ bags. record { chunks = pre.chunks; nodes = pre.nodes; bags = bags })
-    (map_alike (IsBelow pre.chunks pre.nodes) (λ pair. held_at_2 (joined_after (of_placement pre) s 0 n pair)) (λ pair. held_at_2 (of_placement (after pre s n) pair))
-    (λ pair below. ap held_at_2 (bags_of_held pre s n pair some in_range below.0 below.1)) (all_pairs pre.chunks pre.nodes) (all_below pre.chunks pre.nodes))
-
--- and a bag is not empty exactly where the chunk is held
+-- so a bag is not empty exactly where the chunk is held
 pub filled_after : (pre : PlacementValue) (s : ScheduleValue) (n : ℕ) (pair : ℕ × ℕ) → 0 < pre.nodes → IsInRange pre.chunks pre.nodes s → pair.0 < pre.chunks → pair.1 < pre.nodes
     → not (is_empty (joined_after (of_placement pre) s 0 n pair)) ≡ holds (after pre s n) pair
 filled_after pre s n pair some in_range c v =
     let nodes : (after pre s n).nodes ≡ pre.nodes = nodes-after pre s n in
     ap (λ bag. not (is_empty bag)) (bags_of_held pre s n pair some in_range c v) ∙ filled_where_held (after pre s n) pair (omega (arith, some, nodes))
-
--- ---- the machine
-
-pub ends_as_held : EveryCopyingOrderEndsAsHeld
-ends_as_held pre s order end some leads finished =
-    every_order pre.chunks pre.nodes (of_placement pre) s 0 order end leads finished ∙ stored_of_held pre s (length s.rounds) some leads.in_range
-
--- ---- and where every step adds
-
-pub adding_throughout : AddsThroughout
-adding_throughout start s adding zero small = refl
-adding_throughout start s adding (suc n) small =
-    let before : Bags = joined_after start s adding n in
-    ap (λ b. cond {A = Bags} b (summed_step s.sends before (n + 1)) (copied_step s.sends before (n + 1))) (le-leb (n + 1) adding (omega (arith, small)))
-    ∙ ap (λ bags. summed_step s.sends bags (n + 1)) (adding_throughout start s adding n (omega (arith, small)))
