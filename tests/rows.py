@@ -236,6 +236,12 @@ SEARCHES = [
     ("complete 3", "reducescatter 0 1 1", "point 1 1 1 optimal", 6),
 ]
 
+# Searches whose proofs stay short: the family, the words, and how many lines the refutations had when they were counted.
+PROOF_LINES = [
+    ("ring 6", "allgather 1 4 3", 567),
+    ("cube 8", "alltoall 0 3 8", 517),
+]
+
 # What no schedule does: a broadcast against the only link, and a chunk that no node has.
 UNSOLVED = [
     ("broadcast", "topology 1\nnodes a b\ngroup 1 b>a\n"),

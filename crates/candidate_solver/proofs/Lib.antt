@@ -4,4 +4,5 @@ mod Searches
 mod Readable
 mod Tried
 mod SmallFormulas
+pub mod Noting
 mod Settling

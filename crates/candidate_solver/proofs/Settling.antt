@@ -1,13 +1,10 @@
--- One candidate more in the record, and the files beside it.
+-- The files beside the record, with one candidate more.
 use Rattle.std.proofs.Common.{◌≡◌, List, [], ◌∷◌, ◌++◌, get_or, refl, sym, ap, ◌∙◌, subst, inl, inr, ⊎_elim}
 use Rattle.std.specs.Prelude.{◌⊎◌, Bool, IsTrue, Option, None, Some, Contains, map}
 use Rattle.std.proofs.lemmas.List.{append-nil}
-use Rattle.std.proofs.lemmas.List.Elements.{All-push, Contains-get_or, Contains-push, Contains-push_cases}
+use Rattle.std.proofs.lemmas.List.Elements.{All-push, Contains-get_or, Contains-push}
 use Rattle.cnf_formula.specs.Formulas.{FormulaValue}
-use Rattle.cnf_formula.specs.Lines.{ProofLineValue}
 use Rattle.cnf_formula.specs.declared.line.LratLine.TheVariants.{Addition}
-use Rattle.proof_rules.specs.Refuting.{Exhausted, Refutes}
-use Rattle.proof_rules.proofs.Calm.{never_refuted}
 use Rattle.outer_ports.specs.declared.part.Part.{Part}
 use Rattle.outer_ports.specs.declared.proof_name.FileKind.{FileKind}
 use Rattle.outer_ports.specs.declared.proof_name.FileKind.TheVariants.{Cnf, Lrat, Partial}
@@ -15,61 +12,16 @@ use Rattle.outer_ports.specs.declared.proof_name.ProofName.{ProofName}
 use Rattle.outer_ports.specs.Port.{Tells}
 use Rattle.outer_ports.specs.Files.{Files}
 use Rattle.candidate_order.specs.declared.candidate.Candidate.{Candidate}
-use Rattle.candidate_order.specs.Frontiers.{QuestionValue, IsWithin, IsSolvable}
+use Rattle.candidate_order.specs.Frontiers.{QuestionValue}
 use Rattle.candidate_formula.specs.Files.{file_of, candidate_of, HoldsLines}
 use Rattle.candidate_formula.specs.Formulas.{formula_for}
-use Rattle.candidate_formula.specs.Questions.{IsSmallQuestion}
-use Rattle.candidate_formula.proofs.Exact.{formula_exact}
 use Rattle.candidate_formula.specs.Begun.{Begins}
 use Rattle.cnf_formula.specs.declared.line.LratLine.{LratLine}
 use Rattle.engine_rules.specs.declared.settled.Settled.{Settled}
 use Rattle.engine_rules.specs.declared.settled.Settled.TheVariants as settled
-use Rattle.candidate_order.specs.declared.outcome.Outcome.{Outcome}
-use Rattle.candidate_order.specs.declared.outcome.Outcome.TheVariants as outcome
-use Rattle.engine_rules.specs.Outcomes.{RecordValue, IsNew, SpentOn, kind_of}
-use Rattle.candidate_solver.specs.Proved.{IsProved}
+use Rattle.engine_rules.specs.Outcomes.{RecordValue, IsNew}
 use Rattle.candidate_solver.specs.Kept.{HasFiles, KeptAgrees, IsTouched, IsBegun, KeptMoves}
-use Rattle.candidate_solver.specs.Trying.{BeginsOwn, IsOutcome}
-
--- ---- the record
-
-pub not_solvable : (q : QuestionValue) (x : Candidate) (lines : List ProofLineValue) → IsSmallQuestion q → IsWithin q x → Refutes (map Addition lines) (formula_for q x) → IsSolvable q x → ⊥
-not_solvable q x lines small within refutes solvable = never_refuted (formula_for q x) (map Addition lines) ((formula_exact q x small within).1 solvable) refutes
-
-pub right_more : (q : QuestionValue) (entries now : RecordValue) (x : Candidate) (kind : Settled) (lines : List ProofLineValue) → now ≡ entries ++ (x, kind) ∷ [] → IsSmallQuestion q → IsWithin q x → IsProved q x lines kind
-    → ((y : Candidate) → Contains entries (y, settled.Refuted) → IsSolvable q y → ⊥) → (y : Candidate) → Contains now (y, settled.Refuted) → IsSolvable q y → ⊥
-right_more q entries now x kind lines added small within proved old y at solvable = ⊎_elim
-    (λ e. old y e solvable)
-    (λ e.
-    let own : x ≡ y = ap (λ p. p.0) e in
-    not_solvable q x lines small within (proved.refuted (ap (λ p. p.1) e)) (subst (IsSolvable q) (sym own) solvable))
-    (Contains-push_cases entries (x, kind) (y, settled.Refuted) (subst (λ r. Contains r (y, settled.Refuted)) added at))
-
-pub exhausted_more : (q : QuestionValue) (entries now : RecordValue) (x : Candidate) (kind : Settled) (lines : List ProofLineValue) → now ≡ entries ++ (x, kind) ∷ [] → IsProved q x lines kind
-    → ((y : Candidate) → Contains entries (y, settled.Unknown) → Exhausted (formula_for q y) q.limits.conflicts) → (y : Candidate) → Contains now (y, settled.Unknown) → Exhausted (formula_for q y) q.limits.conflicts
-exhausted_more q entries now x kind lines added proved old y at = ⊎_elim
-    (λ e. old y e)
-    (λ e.
-    let over = proved.unknown (ap (λ p. p.1) e) in
-    subst (λ y. Exhausted (formula_for q y) q.limits.conflicts) (ap (λ p. p.0) e) ∣ record { lines = lines; spent = over.spent; not_closed = over.not_closed } ∣₁)
-    (Contains-push_cases entries (x, kind) (y, settled.Unknown) (subst (λ r. Contains r (y, settled.Unknown)) added at))
-
--- the last of some entries
-last_or : Candidate × Settled → RecordValue → Candidate × Settled
-last_or d [] = d
-last_or d (entry ∷ entries) = last_or entry entries
-
-last_pushed : (d : Candidate × Settled) (entries : RecordValue) (entry : Candidate × Settled) → last_or d (entries ++ entry ∷ []) ≡ entry
-unfolding last_or
-last_pushed d [] entry = refl
-last_pushed d (e ∷ entries) entry = last_pushed e entries entry
-
-pub proved_last : (q : QuestionValue) (entries now : RecordValue) (x : Candidate) (kind : Settled) (lines : List ProofLineValue) → now ≡ entries ++ (x, kind) ∷ [] → IsProved q x lines kind
-    → (before : RecordValue) (y : Candidate) → now ≡ before ++ (y, settled.Refuted) ∷ [] → Refutes (map Addition lines) (formula_for q y)
-proved_last q entries now x kind lines added proved before y is =
-    let d : Candidate × Settled = (x, kind) in
-    let e : (x, kind) ≡ (y, settled.Refuted) = sym (last_pushed d entries (x, kind)) ∙ ap (last_or d) (sym added ∙ is) ∙ last_pushed d before (y, settled.Refuted) in
-    subst (λ y. Refutes (map Addition lines) (formula_for q y)) (ap (λ p. p.0) e) (proved.refuted (ap (λ p. p.1) e))
+use Rattle.candidate_solver.specs.Trying.{BeginsOwn}
 
 -- ---- the files
 
@@ -170,14 +122,4 @@ failed_moves part q x entries after stopped told now_told before now same runnin
   stays = λ y e. let never : None ≡ Some y = sym running ∙ e in absurd (cc);
   tells = tells;
   each = λ t. begun q part x before now (own t) entries after (Some x) (λ name e. inr (ap Some (sym e)));
-}
-
--- ---- what is said of the candidate
-
-pub proved_by : (q : QuestionValue) (x : Candidate) (lines : List ProofLineValue) (out : Outcome) (kind : Settled) → kind ≡ kind_of out → IsOutcome q x lines out → IsProved q x lines kind
-proved_by q x lines (outcome.Solved s) kind e o = record { refuted = λ r. absurd (cc); unknown = λ u. absurd (cc) }
-proved_by q x lines outcome.Refuted kind e o = record { refuted = λ r. o.refuted refl; unknown = λ u. absurd (cc) }
-proved_by q x lines (outcome.Unknown n) kind e o = record {
-  refuted = λ r. absurd (cc);
-  unknown = λ u. let over = o.unknown n refl in subst (SpentOn (formula_for q x) lines) over.0 over.1;
 }

@@ -48,7 +48,7 @@ says_solved e said limit s h = record {
 }
 
 pub outcome_by : (q : QuestionValue) (x : Candidate) (e : Encoding) (lines : List ProofLineValue) (said : SatAnswer) (limit : ℕ) (out : Outcome) → IsSmallQuestion q → e.formula ≡ formula_for q x → limit ≡ q.limits.conflicts
-    → IsEncodingOf q.topology (instance_for q x).pre (instance_for q x).post x.s x.r e → IsSearch e.formula limit lines said → Says e said limit out → IsOutcome q x lines out
+    → IsEncodingOf q.topology (instance_for q x).pre (instance_for q x).post x.s x.r e → IsSearch e.formula limit lines said → Says e said limit out → IsOutcome q x (formula_for q x) lines out
 outcome_by q x e lines said limit out small same limited is search says = record {
   solved = λ schedule o.
       let tight = says.solved schedule o q.topology (instance_for q x).pre (instance_for q x).post x.s x.r is in

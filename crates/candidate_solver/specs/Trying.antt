@@ -24,7 +24,6 @@ use Rattle.schedule.specs.Placed.{PlacementValue}
 use Rattle.schedule.specs.Sends.{ScheduleValue}
 use Rattle.round_encoding.specs.declared.encoding.Encoding.{Encoding}
 use Rattle.round_encoding.specs.Candidates.{IsEncodingOf, IsTightSolution}
-use Rattle.candidate_formula.specs.Formulas.{formula_for}
 use Rattle.candidate_formula.specs.Files.{file_of, candidate_of, IsEmptied}
 use Rattle.candidate_formula.specs.Begun.{Begins}
 use Rattle.engine_rules.specs.Outcomes.{SolvesTightly, SpentOn}
@@ -86,8 +85,8 @@ pub record Says (e : Encoding) (said : SatAnswer) (limit : ℕ) (out : Outcome) 
   pub refuted : out ≡ outcome.Refuted → said ≡ answer.Refuted
   pub unknown : (n : ℕ) → out ≡ outcome.Unknown n → (said ≡ answer.Spent) × (n ≡ limit)
 
--- what an outcome says of the candidate, by the lines of its search
-pub record IsOutcome (q : QuestionValue) (x : Candidate) (lines : List ProofLineValue) (said : Outcome) : Type 0 where
+-- what an outcome says of the candidate, by the lines of the search of its formula
+pub record IsOutcome (q : QuestionValue) (x : Candidate) (f : FormulaValue) (lines : List ProofLineValue) (said : Outcome) : Type 0 where
   pub solved : (schedule : ScheduleValue) → said ≡ outcome.Solved schedule → SolvesTightly q x schedule
-  pub refuted : said ≡ outcome.Refuted → Refutes (map Addition lines) (formula_for q x)
-  pub unknown : (n : ℕ) → said ≡ outcome.Unknown n → (n ≡ q.limits.conflicts) × SpentOn (formula_for q x) lines n
+  pub refuted : said ≡ outcome.Refuted → Refutes (map Addition lines) f
+  pub unknown : (n : ℕ) → said ≡ outcome.Unknown n → (n ≡ q.limits.conflicts) × SpentOn f lines n

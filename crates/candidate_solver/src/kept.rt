@@ -81,7 +81,7 @@ impl SatEngine {
     fn note(&mut self, candidate: Candidate, kind: Settled, lines: Vec<ProofLine>)
         requires room { vec_len self.old.entries < vec_capacity self.old.entries }
         requires within { IsWithin (asked self.old.question) candidate }
-        requires proved { IsProved (asked self.old.question) candidate lines.items kind }
+        requires proved { IsProved (formula_for (asked self.old.question) candidate) self.old.question.limits.conflicts lines.items kind }
         ensures entries { self.new.entries.items ≡ self.old.entries.items ++ (candidate, kind) ∷ [] }
         ensures log { self.new.log.items ≡ lines.items }
         ensures question { self.new.question ≡ self.old.question }

@@ -12,3 +12,4 @@ mod trying;
 pub use engine_rules::{Engine, EngineFault, EngineView, Settled};
 pub use kept::SatEngine;
 pub use laws::the_log_refutes_the_last_candidate;
+pub use question::Question;

@@ -17,16 +17,16 @@ use std::alloc::Global;
 /// Links, a collective and limits. Of a reduction the copying collective is meant of which it is the inverse, so that the
 /// links are then those turned round. The formula of each candidate within the limits is small.
 #[derive(Drop)]
-pub(crate) struct Question {
-    pub(crate) topology: Topology,
-    pub(crate) spec: Spec,
-    pub(crate) limits: Limits,
-    ghost small: { IsSmallQuestion (copying_question topology spec limits) } by { IsSmallQuestion-prop (copying_question topology spec limits) },
+pub struct Question {
+    pub topology: Topology,
+    pub spec: Spec,
+    pub limits: Limits,
+    pub ghost small: { IsSmallQuestion (copying_question topology spec limits) } by { IsSmallQuestion-prop (copying_question topology spec limits) },
 }
 
 impl Question {
-    /// The candidates within the limits, of a collective over these links.
-    pub(crate) fn new(
+    /// The candidates within the limits, of a collective over these links. The only error is want of memory.
+    pub fn new(
         alloc: Global,
         topology: &Topology,
         spec: &Spec,

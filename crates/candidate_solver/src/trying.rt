@@ -121,7 +121,7 @@ pub(crate) fn try_candidate<H: Shelf>(
     ensures told { Tells (H.tells store.old) (H.tells store.new) }
     ensures begins { IsTrue (H.tells store.new) → BeginsOwn (formula_for (asked question.now) candidate) part candidate (H.file store.old) (H.file store.new) }
     ensures files { IsTrue (H.tells store.new) → IfOk result (λ attempt. HasFiles part (asked question.now) (H.file store.new) (candidate, kind_of attempt.outcome)) }
-    ensures outcome { IfOk result (λ attempt. IsOutcome (asked question.now) candidate attempt.lines.items attempt.outcome) }
+    ensures outcome { IfOk result (λ attempt. IsOutcome (asked question.now) candidate (formula_for (asked question.now) candidate) attempt.lines.items attempt.outcome) }
     ensures cause { HasCause EngineFault.ShelfFailed (H.faults store.old) (H.faults store.new) result }
     ensures steady { result ≢ Err EngineFault.ShelfFailed → H.faults store.new ≡ H.faults store.old }
 {

@@ -12,6 +12,17 @@ pub struct RootWord {
     pub word: u32,
 }
 
+/// What the words of a search ask for.
+#[derive(Clone, Copy, Debug, PartialEq, Eq)]
+pub struct SearchWords {
+    pub kind: Kind,
+    /// The index of the word `collective`, the command being word 0.
+    pub kind_word: u32,
+    pub limits: Limits,
+    /// The root, where one is named. Only a kind that takes a root has one.
+    pub root: Option<RootWord>,
+}
+
 /// A command, with the values of its words.
 #[derive(Clone, Copy, Debug, PartialEq, Eq)]
 pub enum Command {

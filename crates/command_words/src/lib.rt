@@ -3,7 +3,6 @@
 
 mod building;
 mod command;
-mod family_word;
 mod fault;
 mod key;
 mod kind_word;
@@ -12,9 +11,10 @@ mod values;
 mod vectors;
 mod verb;
 
-pub use command::{Command, RootWord};
+pub use command::{Command, RootWord, SearchWords};
 pub use fault::{WordCode, WordFault};
 pub use reading::read_words;
+pub use values::PointWord;
 pub use vectors::{
     codes_are_numbered, commands_are_read, first_refusal_counts, numbers_in_their_ranges, refusals,
     words_without_a_key,

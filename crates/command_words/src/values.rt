@@ -5,7 +5,6 @@ ghost use Rattle.command_words.specs.Values.{AreProper, collective_from, is_give
 ghost use Rattle.command_words.specs.Counting.{count_of};
 
 use crate::command::RootWord;
-use crate::family_word::family_of_word;
 use crate::fault::WordCode;
 use crate::key::Key;
 use crate::kind_word::kind_of_word;
@@ -21,9 +20,11 @@ pub struct KindWord {
 }
 
 /// The number of a point, and the index of its word.
-#[derive(Clone, Copy)]
+#[derive(Clone, Copy, Debug, PartialEq, Eq)]
 pub struct PointWord {
+    /// The point's number, from 1 to 65,535.
     pub point: u32,
+    /// The index of the word `point`, the command being word 0.
     pub word: u32,
 }
 
@@ -80,7 +81,7 @@ fn collective_from(text: &str) -> Result<Kind, WordCode>
 fn kind_from(text: &str) -> Result<FamilyKind, WordCode>
     ensures { result ≡ kind_from text.now }
 {
-    family_of_word(text).ok_or(WordCode::BadValue)
+    FamilyKind::of_word(text).ok_or(WordCode::BadValue)
 }
 
 impl Values {

@@ -8,6 +8,7 @@ mod pair;
 mod shelved;
 
 pub use checked::CheckedLedger;
+pub use copying::copy_of_formula;
 pub use kept::KeptLedger;
 pub use ledger_rules::{Ledger, LedgerFault, LedgerView};
 pub use pair::PairLedger;

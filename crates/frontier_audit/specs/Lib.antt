@@ -10,3 +10,4 @@ pub mod Steps
 pub mod Rights
 pub mod OwedFiles
 pub mod Rows
+pub mod Searches

@@ -4,3 +4,5 @@ pub mod Files
 pub mod Shelf
 pub mod FileMaps
 pub mod MemoryShelves
+pub mod Adapters
+pub mod OpenFiles

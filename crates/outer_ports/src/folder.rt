@@ -1,6 +1,8 @@
 //! Proof files in a folder.
 
-ghost use Rattle.std.specs.Prelude.{◌<◌, ◌≤◌, length, IfOk, IfSome};
+ghost use Rattle.std.specs.Prelude.{◌≡◌, ◌<◌, ◌≤◌, ◌++◌, length, codes, IfOk, IfSome, OnOk, string_bytes};
+ghost use Rattle.outer_ports.specs.Adapters.{ReadsFrom};
+ghost use Rattle.outer_ports.specs.Files.{file_word};
 
 use crate::failed::Failed;
 use crate::open_files::OpenFiles;
@@ -8,9 +10,9 @@ use crate::proof_name::ProofName;
 use crate::reader_source::read_retrying;
 use crate::shelf_fault::ShelfFault;
 use crate::writer_sink::write_retrying;
-use std::fs;
 use std::fs::{File, Files, OpenOptions};
-use std::io::{ErrorKind, Seek, SeekFrom};
+use std::io::{ErrorKind, Read, Seek, SeekFrom};
+use std::{fs, io};
 
 // A folder that is reached through a runtime, and the files of it that stay open.
 #[derive(Drop)]
@@ -80,8 +82,7 @@ impl<R: Files + AllocGlobal> Folder<R> {
             return Ok(Some(0));
         }
         let mut file = File::open(&self.rt, &path).map_err(|_| Failed)?;
-        file.seek(SeekFrom::Start(place)).map_err(|_| Failed)?;
-        let count = read_retrying(&mut file, buf).map_err(|_| Failed)?;
+        let count = read_from(&mut file, place, buf).map_err(|_| Failed)?;
         Ok(Some(count))
     }
 
@@ -96,17 +97,37 @@ impl<R: Files + AllocGlobal> Folder<R> {
         Ok(file)
     }
 
-    // Whether a file stands there; a thing of another kind is a fault.
+    // Whether a file stands there. A thing of another kind is a fault, and so is a link that leads to no file.
     fn is_there(&self, path: &str) -> Result<bool, Failed> {
         match fs::metadata(&self.rt, path) {
             Ok(found) if found.is_file() => Ok(true),
-            Err(e) if e.kind() == ErrorKind::NotFound => Ok(false),
+            Err(e) if e.kind() == ErrorKind::NotFound && self.is_free(path) => Ok(false),
             _ => Err(Failed),
         }
     }
 
-    fn path_of(&self, name: ProofName) -> Result<String, ShelfFault> {
+    // Whether nothing has the name, not even a link.
+    fn is_free(&self, path: &str) -> bool {
+        match fs::symlink_metadata(&self.rt, path) {
+            Ok(_) => false,
+            Err(e) => e.kind() == ErrorKind::NotFound,
+        }
+    }
+
+    // The path of the file, in the folder.
+    fn path_of(&self, name: ProofName) -> Result<String, ShelfFault>
+        ensures { IfOk result (λ path. string_bytes path ≡ string_bytes self.now.path ++ codes "/" ++ file_word name) }
+    {
         let path = format!(in self.rt.alloc(); "{}/{}", self.path, name)?;
         Ok(path)
     }
+}
+
+// Reads once, from the place on.
+fn read_from<F: Read + Seek>(file: &mut F, place: u64, buf: &mut [u8]) -> io::Result<usize>
+    ensures within { IfOk result (λ n. n ≤ length buf.new) }
+    ensures read { OnOk result (ReadsFrom F.stream_position F.remaining file.old file.new place buf.new result) }
+{
+    file.seek(SeekFrom::Start(place))?;
+    read_retrying(file, buf)
 }

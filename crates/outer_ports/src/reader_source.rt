@@ -1,6 +1,7 @@
 //! A source over a reader.
 
-ghost use Rattle.std.specs.Prelude.{◌≡◌, ℕ, ◌≤◌, false, [], length, IfOk, OnErr, OnOk};
+ghost use Rattle.std.specs.Prelude.{◌≡◌, ◌≤◌, false, [], length, IfOk, OnErr, OnOk};
+ghost use Rattle.std.specs.Io.KnownBytes.{ReadConsumes};
 
 use crate::failed::Failed;
 use crate::source::Source;
@@ -8,9 +9,11 @@ use std::io;
 use std::io::{ErrorKind, Read};
 use std::marker::Model;
 
-/// A source over a reader. It tells no bytes, and contracts see it as its count of faults.
+/// A source over a reader. Contracts see it as its reader and its count of faults.
 ///
-/// An interrupted read is made again; each other error is a fault.
+/// An interrupted read is made again; each other error is a fault. Over a reader that tells its bytes, exactly those are
+/// taken that the buffer is given. The source itself tells none: a reader that tells nothing may come to tell its bytes, and
+/// a source may not.
 #[derive(Drop)]
 pub struct ReaderSource<R> {
     reader: R,
@@ -18,15 +21,17 @@ pub struct ReaderSource<R> {
 }
 
 impl<R> Model for ReaderSource<R> {
-    ghost Value = { ℕ };
+    ghost use Rattle.outer_ports.specs.Adapters.{ReaderSourceValue};
 
-    ghost view = { λ s. s.faults };
+    ghost Value = { ReaderSourceValue R };
+
+    ghost view = { λ s. record { reader = s.reader; faults = s.faults } };
 }
 
 impl<R: Read> ReaderSource<R> {
     /// A source that reads from `reader`.
     pub fn new(reader: R) -> ReaderSource<R>
-        ensures { result ≡ 0 }
+        ensures { result ≡ record { reader = reader; faults = 0 } }
     {
         ReaderSource { reader, faults: 0 }
     }
@@ -40,13 +45,15 @@ impl<R: Read> Source for ReaderSource<R> {
 
     ghost left = { λ _. [] };
 
-    ghost faults = { λ faults. faults };
+    ghost faults = { λ source. source.faults };
 
+    /// Takes what one read of the reader gives.
     fn read(&mut self, buf: &mut [u8]) -> Result<usize, Failed>
         ensures within { IfOk result (λ n. n ≤ length buf.new) }
-        ensures ok { OnOk result (self.new ≡ self.old) }
-        ensures err { OnErr result (self.new ≡ next_count self.old) }
-        ensures cause { HasCause failed self.old self.new result }
+        ensures taken { ReadConsumes (R.remaining self.old.reader) (R.remaining self.new.reader) result buf.new }
+        ensures ok { OnOk result (self.new.faults ≡ self.old.faults) }
+        ensures err { OnErr result (self.new.faults ≡ next_count self.old.faults) }
+        ensures cause { HasCause failed self.old.faults self.new.faults result }
     {
         match read_retrying(&mut self.reader, buf) {
             Ok(count) => Ok(count),
@@ -58,8 +65,10 @@ impl<R: Read> Source for ReaderSource<R> {
     }
 }
 
+// One read, which is made again while it is interrupted.
 pub(crate) fn read_retrying<R: Read>(reader: &mut R, buf: &mut [u8]) -> io::Result<usize>
-    ensures { IfOk result (λ n. n ≤ length buf.new) }
+    ensures within { IfOk result (λ n. n ≤ length buf.new) }
+    ensures taken { ReadConsumes (R.remaining reader.old) (R.remaining reader.new) result buf.new }
 {
     for _ in 0..u64::MAX {
         match reader.read(buf) {

@@ -1,6 +1,8 @@
 //! A sink over a writer.
 
-ghost use Rattle.std.specs.Prelude.{◌≡◌, ℕ, ◌<◌, ◌≤◌, false, [], length, IfOk, OnErr, OnOk};
+ghost use Rattle.std.specs.Prelude.{◌≡◌, ◌<◌, ◌≤◌, false, [], length, IfOk, OnErr, OnOk};
+ghost use Rattle.std.specs.Io.KnownBytes.{WriteAppends};
+ghost use Rattle.outer_ports.specs.Adapters.{WritesPiece};
 
 use crate::failed::Failed;
 use crate::sink::Sink;
@@ -8,11 +10,11 @@ use std::io;
 use std::io::{ErrorKind, Write};
 use std::marker::Model;
 
-/// A sink over a writer, which is flushed after each write. It tells no bytes, and contracts see it
-/// as its count of faults.
+/// A sink over a writer, which is flushed after each write. Contracts see it as its writer and its count of faults.
 ///
 /// An interrupted write is made again. Each other error is a fault, and so is a write that takes
-/// nothing of a nonempty piece.
+/// nothing of a nonempty piece. Over a writer that tells its bytes, exactly those are written that the answer counts, and with
+/// a fault bytes from the front of the piece, or none: a flush can fail behind a write. So the sink itself tells none.
 #[derive(Drop)]
 pub struct WriterSink<W> {
     writer: W,
@@ -20,15 +22,17 @@ pub struct WriterSink<W> {
 }
 
 impl<W> Model for WriterSink<W> {
-    ghost Value = { ℕ };
+    ghost use Rattle.outer_ports.specs.Adapters.{WriterSinkValue};
 
-    ghost view = { λ s. s.faults };
+    ghost Value = { WriterSinkValue W };
+
+    ghost view = { λ s. record { writer = s.writer; faults = s.faults } };
 }
 
 impl<W: Write> WriterSink<W> {
     /// A sink that writes to `writer`.
     pub fn new(writer: W) -> WriterSink<W>
-        ensures { result ≡ 0 }
+        ensures { result ≡ record { writer = writer; faults = 0 } }
     {
         WriterSink { writer, faults: 0 }
     }
@@ -42,14 +46,16 @@ impl<W: Write> Sink for WriterSink<W> {
 
     ghost written = { λ _. [] };
 
-    ghost faults = { λ faults. faults };
+    ghost faults = { λ sink. sink.faults };
 
+    /// Takes what one write of the writer takes, and flushes it.
     fn write(&mut self, piece: &[u8]) -> Result<usize, Failed>
         ensures within { IfOk result (λ n. n ≤ length piece.now) }
         ensures some { 0 < length piece.now → IfOk result (λ n. 0 < n) }
-        ensures ok { OnOk result (self.new ≡ self.old) }
-        ensures err { OnErr result (self.new ≡ next_count self.old) }
-        ensures cause { HasCause failed self.old self.new result }
+        ensures written { WritesPiece (W.contents self.old.writer) (W.contents self.new.writer) piece.now result }
+        ensures ok { OnOk result (self.new.faults ≡ self.old.faults) }
+        ensures err { OnErr result (self.new.faults ≡ next_count self.old.faults) }
+        ensures cause { HasCause failed self.old.faults self.new.faults result }
     {
         match write_flushed(&mut self.writer, piece) {
             Ok(count) if count > 0 || piece.is_empty() => Ok(count),
@@ -62,15 +68,18 @@ impl<W: Write> Sink for WriterSink<W> {
 }
 
 fn write_flushed<W: Write>(writer: &mut W, piece: &[u8]) -> io::Result<usize>
-    ensures { IfOk result (λ n. n ≤ length piece.now) }
+    ensures within { IfOk result (λ n. n ≤ length piece.now) }
+    ensures written { WritesPiece (W.contents writer.old) (W.contents writer.new) piece.now result }
 {
     let count = write_retrying(writer, piece)?;
     writer.flush()?;
     Ok(count)
 }
 
+// One write, which is made again while it is interrupted.
 pub(crate) fn write_retrying<W: Write>(writer: &mut W, piece: &[u8]) -> io::Result<usize>
-    ensures { IfOk result (λ n. n ≤ length piece.now) }
+    ensures within { IfOk result (λ n. n ≤ length piece.now) }
+    ensures written { WriteAppends (W.contents writer.old) (W.contents writer.new) result piece.now }
 {
     for _ in 0..u64::MAX {
         match writer.write(piece) {

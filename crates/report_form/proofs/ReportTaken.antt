@@ -18,7 +18,7 @@ use Rattle.candidate_order.specs.Frontiers.{PointValue, FrontierValue}
 use Rattle.topology_text.specs.declared.fault.TopologyCode.{TopologyCode}
 use Rattle.topology_text.specs.Value.{NamedTopologyValue, IsNamed, named_with}
 use Rattle.topology_text.specs.Spelling.{lines_of, version_word}
-use Rattle.topology_text.specs.Reading.{header_line, nodes_line, groups_at, pattern_at, topology_at}
+use Rattle.topology_text.specs.Reading.{header_line, nodes_line, groups_at, pattern_at, named_at, topology_at}
 use Rattle.topology_text.proofs.Patterns.{pattern_take}
 use Rattle.topology_text.proofs.Laws.{topology_rows, topology_take}
 use Rattle.report_form.specs.declared.fault.ReportCode.{ReportCode}
@@ -86,7 +86,7 @@ among_ok rows (Err c) x e = absurd (cc)
 
 topology_read : (p : Place) (header : Bool × Place) (names : List (List ℕ) × Place) (groups : List GroupValue × Place) (pattern : Option PatternValue × Place) → line_part header_line p ≡ Ok header → line_part nodes_line header.1 ≡ Ok names → groups_at names.0 names.1 ≡ Ok groups → pattern_at header.0 names.0 groups.1 ≡ Ok pattern
     → topology_at p ≡ Ok (named_with names.0 groups.0 pattern.0, pattern.1)
-unfolding topology_at
+unfolding topology_at named_at
 topology_read p header names groups pattern e1 e2 e3 e4 =
     ap (λ r. r >>= (λ h. line_part nodes_line h.1 >>= (λ n. groups_at n.0 n.1 >>= (λ g. pattern_at h.0 n.0 g.1 >>= (λ c. Ok (named_with n.0 g.0 c.0, c.1)))))) e1
     ∙ ap (λ r. r >>= (λ n. groups_at n.0 n.1 >>= (λ g. pattern_at header.0 n.0 g.1 >>= (λ c. Ok (named_with n.0 g.0 c.0, c.1))))) e2

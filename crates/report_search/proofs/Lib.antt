@@ -1,6 +1,4 @@
 pub mod Recorded
-pub mod Allowed
-pub mod Turned
 pub mod PartAsked
 pub mod Beginning
 pub mod Valid

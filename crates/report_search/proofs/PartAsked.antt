@@ -16,7 +16,7 @@ use Rattle.round_encoding.specs.Candidates.{size_limit}
 use Rattle.candidate_formula.specs.Sizes.{size_of}
 use Rattle.topology_text.specs.Value.{NamedTopologyValue}
 use Rattle.report_form.specs.Reports.{WordsValue, parts_of, question_of}
-use Rattle.report_search.specs.Asked.{IsAsked}
+use Rattle.frontier_audit.specs.Searches.{IsAsked}
 
 -- ---- the parts of a collective
 

@@ -13,7 +13,7 @@ use Rattle.report_form.specs.Reports.{WordsValue, ReportValue, IsFrontier, IsRep
 use Rattle.frontier_audit.specs.Rights.{IsExhaustedPart, IsRight, IsRightPart, IsSearched, IsSearchedPart}
 use Rattle.frontier_audit.specs.OwedFiles.{IsKept, IsOf, Proves}
 use Rattle.frontier_audit.specs.Shelves.{PartRight}
-use Rattle.report_search.specs.Asked.{IsAsked}
+use Rattle.frontier_audit.specs.Searches.{IsAsked}
 use Rattle.report_search.specs.Found.{IsFound}
 use Rattle.report_search.specs.Shelved.{IsShelved}
 use Rattle.report_search.specs.Reporting.{whole_report}

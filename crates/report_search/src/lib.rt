@@ -2,11 +2,10 @@
 #![tactic(auto)]
 
 mod both;
-mod copying;
 mod joining;
 mod part;
 mod searching;
-mod turning;
+mod single;
 mod whole;
 
 pub use engine_rules::EngineFault;

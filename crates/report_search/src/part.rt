@@ -4,11 +4,11 @@ ghost use Rattle.std.specs.Prelude.{◌≡◌, ◌≢◌, Contains, IfOk, IsTrue
 ghost use Rattle.outer_ports.specs.Port.{HasCause, Tells};
 ghost use Rattle.report_form.specs.Reports.{parts_of, question_of};
 ghost use Rattle.frontier_audit.specs.OwedFiles.{BreaksOff};
-ghost use Rattle.report_search.specs.Asked.{IsAsked};
+ghost use Rattle.frontier_audit.specs.Searches.{IsAsked};
 ghost use Rattle.report_search.specs.Found.{IsFound};
 ghost use Rattle.report_search.specs.Shelved.{IsShelved};
 
-use crate::turning::single_frontier;
+use crate::single::single_frontier;
 use candidate_order::Frontier;
 use engine_rules::EngineFault;
 use outer_ports::{Part, Shelf};

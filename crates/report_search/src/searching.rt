@@ -4,7 +4,7 @@ ghost use Rattle.std.specs.Prelude.{◌≡◌, ◌≢◌, IfOk, IsTrue, Err};
 ghost use Rattle.outer_ports.specs.Port.{HasCause, Tells};
 ghost use Rattle.frontier_audit.specs.OwedFiles.{BreaksOff, Proves};
 ghost use Rattle.frontier_audit.specs.Rights.{IsRight, IsSearched};
-ghost use Rattle.report_search.specs.Asked.{IsAsked};
+ghost use Rattle.frontier_audit.specs.Searches.{IsAsked};
 
 use crate::both::search_both;
 use crate::whole::search_whole;

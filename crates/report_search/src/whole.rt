@@ -5,7 +5,7 @@ ghost use Rattle.outer_ports.specs.Port.{HasCause, Tells};
 ghost use Rattle.report_form.specs.Reports.{question_of};
 ghost use Rattle.frontier_audit.specs.OwedFiles.{BreaksOff, Proves};
 ghost use Rattle.frontier_audit.specs.Rights.{IsRight, IsSearched};
-ghost use Rattle.report_search.specs.Asked.{IsAsked};
+ghost use Rattle.frontier_audit.specs.Searches.{IsAsked};
 ghost use Rattle.report_search.specs.Found.{IsFound};
 ghost use Rattle.report_search.specs.Reporting.{whole_report};
 

@@ -30,6 +30,7 @@ pub record IsEnded (core : CoreValue) (conflict : ℕ) (w : WalkValue) (point : 
   pub conflicts : IsConflict core conflict
   pub met : (o : LitValue) → Contains (get_or core.clauses conflict []) o → IsSeen w o
   pub sorted : IsSorted core w
+  pub exact : (o : LitValue) → Contains w.lits o → mark_of w o ≡ w.stamp
   pub none : w.zeros ≡ 0
   pub passed : IsPassed core 3 w 0
   pub left : MatchOption point (length core.limits ≡ 0) (λ l. IsPoint core w l × (0 < length core.limits))
@@ -96,24 +97,24 @@ ended_analysis core conflict w point d = record {
   falses = λ o c. kept_false core w point o d.sorted d.left c;
 }
 
-ended_once : (core : CoreValue) (w : WalkValue) (point : Option LitValue) → IsSorted core w → MatchOption point (length core.limits ≡ 0) (λ l. IsPoint core w l × (0 < length core.limits)) → AllPairs (λ a b. a.var ≢ b.var) (w.lits ++ point_lits point)
-ended_once core w None s p = subst (AllPairs (λ a b. a.var ≢ b.var)) (sym (append-nil w.lits)) s.kept.once
-ended_once core w (Some l) s p = all_pairs_push (λ a b. a.var ≢ b.var) w.lits (negation l) s.kept.once (λ k x v e.
+ended_once : (core : CoreValue) (w : WalkValue) (point : Option LitValue) → IsSorted core w → ((o : LitValue) → Contains w.lits o → mark_of w o ≡ w.stamp) → MatchOption point (length core.limits ≡ 0) (λ l. IsPoint core w l × (0 < length core.limits)) → AllPairs (λ a b. a.var ≢ b.var) (w.lits ++ point_lits point)
+ended_once core w None s x p = subst (AllPairs (λ a b. a.var ≢ b.var)) (sym (append-nil w.lits)) s.kept.once
+ended_once core w (Some l) s exact p = all_pairs_push (λ a b. a.var ≢ b.var) w.lits (negation l) s.kept.once (λ k x v e.
     let o = get_or w.lits k x in
-    let h = (s.kept.of o (Contains-get_or w.lits k x v)).0 in
+    let h = exact o (Contains-get_or w.lits k x v) in
     omega (arith, h, ap (λ y. get_or w.marks y 0) e, p.0.waits))
 
-ended_closes : (core : CoreValue) (w : WalkValue) (point : Option LitValue) → IsSorted core w → MatchOption point (length core.limits ≡ 0) (λ l. IsPoint core w l × (0 < length core.limits)) → length core.limits ≡ 0 → w.lits ++ point_lits point ≡ []
-ended_closes core w None s p z = append-nil w.lits ∙ nil_by w.lits (λ o c.
+ended_closes : (core : CoreValue) (w : WalkValue) (point : Option LitValue) → IsSorted core w → ((o : LitValue) → Contains w.lits o → mark_of w o ≡ w.stamp) → MatchOption point (length core.limits ≡ 0) (λ l. IsPoint core w l × (0 < length core.limits)) → length core.limits ≡ 0 → w.lits ++ point_lits point ≡ []
+ended_closes core w None s exact p z = append-nil w.lits ∙ nil_by w.lits (λ o c.
     let h = s.kept.of o c in
     let i = false_at core o h.1 in
-    let low = s.marked.low i.0 i.1.within (ap (λ v. get_or w.marks v 0) i.1.var ∙ h.0) in
+    let low = s.marked.low i.0 i.1.within (ap (λ v. get_or w.marks v 0) i.1.var ∙ exact o c) in
     omega (arith, low, z))
-ended_closes core w (Some l) s p z = absurd (omega (arith, p.1, z))
+ended_closes core w (Some l) s exact p z = absurd (omega (arith, p.1, z))
 
-ended_points : (core : CoreValue) (conflict : ℕ) (w : WalkValue) (point : Option LitValue) → IsConflict core conflict → IsSorted core w → MatchOption point (length core.limits ≡ 0) (λ l. IsPoint core w l × (0 < length core.limits)) → 0 < length core.limits → IsPointed core (w.lits ++ point_lits point)
-ended_points core conflict w None c s p some = absurd (omega (arith, p, some))
-ended_points core conflict w (Some l) c s p some = record {
+ended_points : (core : CoreValue) (conflict : ℕ) (w : WalkValue) (point : Option LitValue) → IsConflict core conflict → IsSorted core w → ((o : LitValue) → Contains w.lits o → mark_of w o ≡ w.stamp) → MatchOption point (length core.limits ≡ 0) (λ l. IsPoint core w l × (0 < length core.limits)) → 0 < length core.limits → IsPointed core (w.lits ++ point_lits point)
+ended_points core conflict w None c s exact p some = absurd (omega (arith, p, some))
+ended_points core conflict w (Some l) c s exact p some = record {
   front = w.lits;
   point = negation l;
   is = refl;
@@ -126,7 +127,7 @@ ended_points core conflict w (Some l) c s p some = record {
       let top = c.formed.levels.below last (omega (arith, e)) in
       let f = s.kept.of o k in
       let i = false_at core o f.1 in
-      let low = s.marked.low i.0 i.1.within (ap (λ v. get_or w.marks v 0) i.1.var ∙ f.0) in
+      let low = s.marked.low i.0 i.1.within (ap (λ v. get_or w.marks v 0) i.1.var ∙ exact o k) in
       false_below core o i.0 (get_or core.limits last 0) i.1 (low_place core.limits (length core.trail) last i.0 c.formed.levels e low) (omega (arith, top));
 }
 
@@ -136,7 +137,7 @@ learned_by core conflict w point line d id lits hints = record {
   analysis = subst (IsAnalysis core.clauses core.trail (resolved_by w) conflict) (sym lits) (ended_analysis core conflict w point d);
   hints = hints ∙ ap (λ hs. hs ++ pos (conflict + 1) ∷ []) d.passed.hints;
   id = id;
-  once = subst (AllPairs (λ a b. a.var ≢ b.var)) (sym lits) (ended_once core w point d.sorted d.left);
-  closes = λ z. lits ∙ ended_closes core w point d.sorted d.left z;
-  points = λ some. subst (IsPointed core) (sym lits) (ended_points core conflict w point d.conflicts d.sorted d.left some);
+  once = subst (AllPairs (λ a b. a.var ≢ b.var)) (sym lits) (ended_once core w point d.sorted d.exact d.left);
+  closes = λ z. lits ∙ ended_closes core w point d.sorted d.exact d.left z;
+  points = λ some. subst (IsPointed core) (sym lits) (ended_points core conflict w point d.conflicts d.sorted d.exact d.left some);
 }

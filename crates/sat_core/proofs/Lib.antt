@@ -20,3 +20,4 @@ pub mod Resolved
 pub mod Waiting
 pub mod Pointed
 pub mod Learned
+pub mod Left

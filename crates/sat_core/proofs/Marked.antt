@@ -104,11 +104,42 @@ marked_set core stamp marks k kind t m is = record {
 
 -- ---- what is kept
 
-pub kept_same : (core : CoreValue) (stamp : ℕ) (marks : List ℕ) (lits : List LitValue) (v y : ℕ) → v < length marks → AreKept core stamp marks lits → get_or marks v 0 ≢ stamp → y ≢ stamp → AreKept core stamp (set marks v y) lits
-kept_same core stamp marks lits v y w k n m = record {
+-- a mark of what is kept is no lower than the stamp
+unmet : (stamp : ℕ) (marks : List ℕ) (v u : ℕ) → u ≡ v → get_or marks v 0 < stamp → ((get_or marks u 0 ≡ stamp) ⊎ (get_or marks u 0 ≡ stamp + 2)) → ⊥
+unmet stamp marks v u e low h =
+    let s : get_or marks u 0 ≡ get_or marks v 0 = ap (λ x. get_or marks x 0) e in
+    ⊎_elim (λ a. omega (arith, a, s, low)) (λ b. omega (arith, b, s, low)) h
+
+-- another's mark is as before
+kept_other : (stamp : ℕ) (marks : List ℕ) (v u y : ℕ) → u ≢ v → ((get_or marks u 0 ≡ stamp) ⊎ (get_or marks u 0 ≡ stamp + 2)) → ((get_or (set marks v y) u 0 ≡ stamp) ⊎ (get_or (set marks v y) u 0 ≡ stamp + 2))
+kept_other stamp marks v u y n h =
+    let s = get_or-set_other marks v u y 0 n in
+    ⊎_elim (λ a. inl (s ∙ a)) (λ b. inr (s ∙ b)) h
+
+-- one whose step is resolved is kept no more
+pub kept_drop : (core : CoreValue) (stamp : ℕ) (marks : List ℕ) (lits : List LitValue) (v : ℕ) → v < length marks → AreKept core stamp marks lits → AreKept core stamp (set marks v (stamp + 2)) lits
+kept_drop core stamp marks lits v w k = record {
+  of = λ o c.
+      let h = k.of o c in (
+        ⊎_elim
+            (λ e. inr (ap (λ x. get_or (set marks v (stamp + 2)) x 0) e ∙ get_or-set_same marks v (stamp + 2) 0 w))
+            (λ n. kept_other stamp marks v o.var (stamp + 2) n h.0)
+            (cases_eq o.var v),
+        h.1,
+      );
+  all = λ o f e. ⊎_elim
+      (λ s. let here' : get_or (set marks v (stamp + 2)) o.var 0 ≡ stamp + 2 = ap (λ x. get_or (set marks v (stamp + 2)) x 0) s ∙ get_or-set_same marks v (stamp + 2) 0 w in absurd (omega (arith, here', e)))
+      (λ d. k.all o f (sym (get_or-set_other marks v o.var (stamp + 2) 0 d) ∙ e))
+      (cases_eq o.var v);
+  once = k.once;
+}
+
+-- of a variable that was not met
+pub kept_same : (core : CoreValue) (stamp : ℕ) (marks : List ℕ) (lits : List LitValue) (v y : ℕ) → v < length marks → AreKept core stamp marks lits → get_or marks v 0 < stamp → y ≢ stamp → AreKept core stamp (set marks v y) lits
+kept_same core stamp marks lits v y w k low m = record {
   of = λ o c.
       let h = k.of o c in
-      (get_or-set_other marks v o.var y 0 (λ e. n (ap (λ x. get_or marks x 0) (sym e) ∙ h.0)) ∙ h.0, h.1);
+      (kept_other stamp marks v o.var y (λ e. unmet stamp marks v o.var e low h.0) h.0, h.1);
   all = λ o f e. ⊎_elim
       (λ s. absurd (m (sym (get_or-set_same marks v y 0 w) ∙ ap (λ x. get_or (set marks v y) x 0) (sym s) ∙ e)))
       (λ d. k.all o f (sym (get_or-set_other marks v o.var y 0 d) ∙ e))
@@ -116,17 +147,17 @@ kept_same core stamp marks lits v y w k n m = record {
   once = k.once;
 }
 
-pub kept_more : (core : CoreValue) (stamp : ℕ) (marks : List ℕ) (lits : List LitValue) (l : LitValue) → IsTrail core.vars core.trail core.limits → l.var < length marks → AreKept core stamp marks lits → get_or marks l.var 0 ≢ stamp → IsFalse (trues core) l → AreKept core stamp (set marks l.var stamp) (lits ++ l ∷ [])
-kept_more core stamp marks lits l t w k n f = record {
+pub kept_more : (core : CoreValue) (stamp : ℕ) (marks : List ℕ) (lits : List LitValue) (l : LitValue) → IsTrail core.vars core.trail core.limits → l.var < length marks → AreKept core stamp marks lits → get_or marks l.var 0 < stamp → IsFalse (trues core) l → AreKept core stamp (set marks l.var stamp) (lits ++ l ∷ [])
+kept_more core stamp marks lits l t w k low f = record {
   of = λ o c. ⊎_elim
-      (λ d. let h = k.of o d in (get_or-set_other marks l.var o.var stamp 0 (λ e. n (ap (λ x. get_or marks x 0) (sym e) ∙ h.0)) ∙ h.0, h.1))
-      (λ e. (ap (λ x. get_or (set marks l.var stamp) x.var 0) (sym e) ∙ get_or-set_same marks l.var stamp 0 w, subst (λ x. IsFalse (trues core) x) e f))
+      (λ d. let h = k.of o d in (kept_other stamp marks l.var o.var stamp (λ e. unmet stamp marks l.var o.var e low h.0) h.0, h.1))
+      (λ e. (inl (ap (λ x. get_or (set marks l.var stamp) x.var 0) (sym e) ∙ get_or-set_same marks l.var stamp 0 w), subst (λ x. IsFalse (trues core) x) e f))
       (Contains-push_cases lits l o c);
   all = λ o g e. ⊎_elim
       (λ s. subst (λ x. Contains (lits ++ l ∷ []) x) (false_once core l o t f g (sym s)) (Contains-push lits l))
       (λ d. Contains-append_left lits (l ∷ []) o (k.all o g (sym (get_or-set_other marks l.var o.var stamp 0 d) ∙ e)))
       (cases_eq o.var l.var);
-  once = all_pairs_push (λ a b. a.var ≢ b.var) lits l k.once (λ j d v e. n (ap (λ x. get_or marks x 0) (sym e) ∙ (k.of (get_or lits j d) (Contains-get_or lits j d v)).0));
+  once = all_pairs_push (λ a b. a.var ≢ b.var) lits l k.once (λ j d v e. unmet stamp marks l.var (get_or lits j d).var e low (k.of (get_or lits j d) (Contains-get_or lits j d v)).0);
 }
 
 -- ---- one literal is met
@@ -192,7 +223,7 @@ met_bottom core w w' l k u z e = subst (HasMet core (l ∷ []) w) (sym e)
     (met_new core w (record w { marks = set w.marks l.var (w.stamp + 3); zeros = w.zeros + 1 }) l 3
     (record {
       marked = marks_at core w l k 3 u (record { within = u.at.within; some = omega arith; low = λ h. absurd (omega (arith, h)); top = λ h. absurd (omega (arith, h)); bottom = λ h. z });
-      kept = kept_same core w.stamp w.marks w.lits l.var (w.stamp + 3) u.room u.sorted.kept (λ h. omega (arith, h, u.low)) (λ h. omega (arith, h));
+      kept = kept_same core w.stamp w.marks w.lits l.var (w.stamp + 3) u.room u.sorted.kept u.low (λ h. omega (arith, h));
       open_ = u.sorted.open_ ∙ sym (waits_same (w.stamp + 1) w.marks l.var (w.stamp + 3) u.room (λ h. omega (arith, h, u.low)) (λ h. omega (arith, h)));
       zeros = ap (λ n. n + 1) u.sorted.zeros ∙ sym (waits_more (w.stamp + 3) w.marks l.var (w.stamp + 3) u.room (λ h. omega (arith, h, u.low)) refl);
     })
@@ -203,7 +234,7 @@ met_open core w w' l k u top some e = subst (HasMet core (l ∷ []) w) (sym e)
     (met_new core w (record w { marks = set w.marks l.var (w.stamp + 1); open_ = w.open_ + 1 }) l 1
     (record {
       marked = marks_at core w l k 1 u (record { within = u.at.within; some = omega arith; low = λ h. absurd (omega (arith, h)); top = λ h. (top, some); bottom = λ h. absurd (omega (arith, h)) });
-      kept = kept_same core w.stamp w.marks w.lits l.var (w.stamp + 1) u.room u.sorted.kept (λ h. omega (arith, h, u.low)) (λ h. omega (arith, h));
+      kept = kept_same core w.stamp w.marks w.lits l.var (w.stamp + 1) u.room u.sorted.kept u.low (λ h. omega (arith, h));
       open_ = ap (λ n. n + 1) u.sorted.open_ ∙ sym (waits_more (w.stamp + 1) w.marks l.var (w.stamp + 1) u.room (λ h. omega (arith, h, u.low)) refl);
       zeros = u.sorted.zeros ∙ sym (waits_same (w.stamp + 3) w.marks l.var (w.stamp + 1) u.room (λ h. omega (arith, h, u.low)) (λ h. omega (arith, h)));
     })
@@ -214,7 +245,7 @@ met_kept core w w' l k u lower e = subst (HasMet core (l ∷ []) w) (sym e)
     (met_new core w (record w { marks = set w.marks l.var (w.stamp + 0); lits = w.lits ++ l ∷ [] }) l 0
     (record {
       marked = marks_at core w l k 0 u (record { within = u.at.within; some = omega arith; low = λ h. lower; top = λ h. absurd (omega (arith, h)); bottom = λ h. absurd (omega (arith, h)) });
-      kept = subst (λ n. AreKept core w.stamp (set w.marks l.var n) (w.lits ++ l ∷ [])) stamp0 (kept_more core w.stamp w.marks w.lits l u.formed u.room u.sorted.kept (λ h. omega (arith, h, u.low)) (at_false core l k u.at));
+      kept = subst (λ n. AreKept core w.stamp (set w.marks l.var n) (w.lits ++ l ∷ [])) stamp0 (kept_more core w.stamp w.marks w.lits l u.formed u.room u.sorted.kept u.low (at_false core l k u.at));
       open_ = u.sorted.open_ ∙ sym (waits_same (w.stamp + 1) w.marks l.var (w.stamp + 0) u.room (λ h. omega (arith, h, u.low)) (λ h. omega (arith, h)));
       zeros = u.sorted.zeros ∙ sym (waits_same (w.stamp + 3) w.marks l.var (w.stamp + 0) u.room (λ h. omega (arith, h, u.low)) (λ h. omega (arith, h)));
     })

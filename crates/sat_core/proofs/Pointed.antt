@@ -175,6 +175,19 @@ met_open_some core conflict a b c begun m some = ⊎_elim
 
 -- ---- from the last level to level 0
 
+pub passed_middle : (core : CoreValue) (w : WalkValue) (l : LitValue) (place last : ℕ) → IsTrail core.vars core.trail core.limits → last + 1 ≡ length core.limits → IsSorted core w → IsPoint core w l → IsPassed core 1 w place → IsPassed core 3 w (get_or core.limits last 0)
+passed_middle core w l place last t is s p q =
+    let e : mark_of w (lit_at core p.place) ≡ w.stamp + 1 = ap (mark_of w) p.is ∙ p.waits in
+    let lt = q.waits p.place p.within e in
+    let top = s.marked.top p.place p.within e in
+    let low = high_place core.limits last p.place is top.0 in
+    let rising : get_or core.limits 0 0 ≤ get_or core.limits last 0 = ⊎_elim (λ h. let r = t.levels.rising 0 last h (omega (arith, is)) in omega (arith, r)) (λ h. let z : last ≡ 0 = omega (arith, h) in omega (arith, ap (λ i. get_or core.limits i 0) z)) (cases_lt 0 last) in
+    record {
+      each = λ k v h. let r = q.each k v h in (omega (arith, r.0, lt, low), r.1);
+      waits = λ k v h. let b = bottom_place core.limits k (omega (arith, is)) (s.marked.bottom k v h) in omega (arith, b, rising);
+      hints = q.hints;
+    }
+
 pub passed_bottom : (core : CoreValue) (w : WalkValue) (l : LitValue) (place : ℕ) → IsTrail core.vars core.trail core.limits → 0 < length core.limits → IsSorted core w → IsPoint core w l → IsPassed core 1 w place → IsPassed core 3 w (get_or core.limits 0 0)
 passed_bottom core w l place t some s p q =
     let e : mark_of w (lit_at core p.place) ≡ w.stamp + 1 = ap (mark_of w) p.is ∙ p.waits in

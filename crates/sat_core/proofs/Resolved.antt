@@ -9,14 +9,14 @@ use Rattle.cnf_formula.specs.Formulas.{IsAbout}
 use Rattle.trail_core.specs.Assigned.{IsFalse, level_at}
 use Rattle.trail_core.specs.Trails.{lits_of}
 use Rattle.trail_core.specs.Search.{IsUnit, IsImplied}
-use Rattle.trail_core.specs.Kept.{IsDue}
+use Rattle.trail_core.specs.Kept.{IsDue, AreGrounded}
 use Rattle.trail_core.specs.Meaning.{CoreValue, trues}
 use Rattle.trail_core.specs.Formed.{IsTrail}
 use Rattle.trail_core.proofs.Keeping.{lits_length, in_front}
 use Rattle.sat_core.specs.Learning.{number_of, hints_of}
 use Rattle.sat_core.specs.Met.{WalkValue, step_at, no_step, lit_at, mark_of, resolved_by, IsSeen, AreMarks, AreKept, IsSorted, HasMet, IsReasoned, IsPassed, IsOnward, HasSameOpen, waiting}
 use Rattle.sat_core.proofs.Levels.{level_grows}
-use Rattle.sat_core.proofs.Marked.{lit_read, lit_about, same_place, mark_same, marked_set, kept_same}
+use Rattle.sat_core.proofs.Marked.{lit_read, lit_about, same_place, mark_same, marked_set, kept_drop}
 
 -- ---- a test that passes at one place more, the first at which it passes
 
@@ -44,6 +44,15 @@ step_read core k l r t w e c =
     let same : c.0 ≡ k = same_place core c.0 k t c.1 w (ap (λ s. s.lit.var) there ∙ ap (λ x. x.var) e) in
     ap (λ s. s.reason) (ap (step_at core) (sym same) ∙ there)
 
+-- a step that has a reason is implied
+pub reason_implied : (core : CoreValue) (k : ℕ) (l : LitValue) (id : ℕ) → AreGrounded core → IsTrail core.vars core.trail core.limits → k < length core.trail → l ≡ lit_at core k → Contains core.trail (record { lit = l; reason = Some id }) → IsImplied core.clauses (IsDue core.limits) (take k core.trail) (step_at core k)
+reason_implied core k l id g t w e c =
+    let r : (step_at core k).reason ≡ Some id = step_read core k l (Some id) t w e c in
+    ⊎_elim (λ d. absurd (other id (sym r ∙ d.0))) (λ i. i) (g k no_step w)
+  where
+    other : (id : ℕ) → Some id ≡ None → ⊥
+    other id h = cc
+
 -- ---- a step is taken
 
 -- the step at a place waits and is implied; the counts are those after it was taken
@@ -55,12 +64,12 @@ pub record IsTaken (core : CoreValue) (w : WalkValue) (place id : ℕ) : Type 0 
   pub unit : IsUnit (lits_of (take place core.trail)) (get_or core.clauses id []) (lit_at core place)
   pub marked : AreMarks core w.stamp w.marks
   pub kept : AreKept core w.stamp w.marks w.lits
-  pub waits : (mark_of w (lit_at core place) ≡ w.stamp + 1) ⊎ (mark_of w (lit_at core place) ≡ w.stamp + 3)
+  pub waits : mark_of w (lit_at core place) ≢ w.stamp + 2
   pub open_ : w.open_ ≡ waiting (w.stamp + 1) (set w.marks (lit_at core place).var (w.stamp + 2))
   pub zeros : w.zeros ≡ waiting (w.stamp + 3) (set w.marks (lit_at core place).var (w.stamp + 2))
 
 pub taken_by : (core : CoreValue) (w : WalkValue) (place : ℕ) → IsTrail core.vars core.trail core.limits → place < length core.trail → (i : IsImplied core.clauses (IsDue core.limits) (take place core.trail) (step_at core place)) → AreMarks core w.stamp w.marks → AreKept core w.stamp w.marks w.lits
-    → (mark_of w (lit_at core place) ≡ w.stamp + 1) ⊎ (mark_of w (lit_at core place) ≡ w.stamp + 3) → w.open_ ≡ waiting (w.stamp + 1) (set w.marks (lit_at core place).var (w.stamp + 2)) → w.zeros ≡ waiting (w.stamp + 3) (set w.marks (lit_at core place).var (w.stamp + 2)) → IsTaken core w place i.id
+    → mark_of w (lit_at core place) ≢ w.stamp + 2 → w.open_ ≡ waiting (w.stamp + 1) (set w.marks (lit_at core place).var (w.stamp + 2)) → w.zeros ≡ waiting (w.stamp + 3) (set w.marks (lit_at core place).var (w.stamp + 2)) → IsTaken core w place i.id
 taken_by core w place t v i m k h o z = record { formed = t; within = v; known = i.within; reason = i.reason; unit = i.unit; marked = m; kept = k; waits = h; open_ = o; zeros = z }
 
 -- what the walk knows then
@@ -73,7 +82,7 @@ taken_room core w place id t = let a = lit_about core place t.formed t.within in
 pub taken_sorted : (core : CoreValue) (w : WalkValue) (place id : ℕ) (hint : ℤ) → IsTaken core w place id → IsSorted core (taken core w place hint)
 taken_sorted core w place id hint t = record {
   marked = marked_set core w.stamp w.marks place 2 t.formed t.marked (record { within = t.within; some = omega arith; low = λ h. absurd (omega (arith, h)); top = λ h. absurd (omega (arith, h)); bottom = λ h. absurd (omega (arith, h)) });
-  kept = kept_same core w.stamp w.marks w.lits (lit_at core place).var (w.stamp + 2) (taken_room core w place id t) t.kept (λ h. ⊎_elim (λ e. omega (arith, e, h)) (λ e. omega (arith, e, h)) t.waits) (λ h. omega (arith, h));
+  kept = kept_drop core w.stamp w.marks w.lits (lit_at core place).var (taken_room core w place id t) t.kept;
   open_ = t.open_;
   zeros = t.zeros;
 }
@@ -167,7 +176,7 @@ stepped_hints core kind w w' place id hint s p =
     let none : mark_of w (lit_at core k) ≡ w.stamp + 2 → ⊥ = λ e. let q = p.each k v e in omega (arith, q.0, lt) in
     (ne_eqb (mark_of w' (lit_at core k)) (w'.stamp + 2) (λ e. none (resolved_before core w w' place id k hint s v n e)), ne_eqb (mark_of w (lit_at core k)) (w.stamp + 2) none))
     (eq-eqb (mark_of w' (lit_at core place)) (w'.stamp + 2) (resolved_here core w w' place id hint s))
-    (ne_eqb (mark_of w (lit_at core place)) (w.stamp + 2) (λ e. ⊎_elim (λ a. omega (arith, a, e)) (λ a. omega (arith, a, e)) s.was.waits))
+    (ne_eqb (mark_of w (lit_at core place)) (w.stamp + 2) s.was.waits)
     (λ k gt v.
     let n : k ≢ place = λ e. omega (arith, e, gt) in
     same_test (mark_of w' (lit_at core k)) (w'.stamp + 2) (mark_of w (lit_at core k)) (w.stamp + 2) (resolved_before core w w' place id k hint s v n) (resolved_after core w w' place id k hint s v n)) in
@@ -226,32 +235,30 @@ stepped_passed core kind w w' place id hint s two p = record {
         (s.was.unit.others q.0 q.1))
         (s.met.new (lit_at core k).var (omega (arith, e, s.met.stamp)))
 
--- at a step of level 0 no literal of the last level is met
-pub stepped_open : (core : CoreValue) (w w' : WalkValue) (place id : ℕ) (hint : ℤ) → IsStepped core w w' place id hint → mark_of w (lit_at core place) ≡ w.stamp + 3 → HasSameOpen core w w'
-stepped_open core w w' place id hint s z = record {
+-- at a step below the last level no literal of the last level is met
+pub stepped_open : (core : CoreValue) (w w' : WalkValue) (place id : ℕ) (hint : ℤ) → IsStepped core w w' place id hint → (0 < length core.limits → level_at core.limits place < length core.limits) → HasSameOpen core w w'
+stepped_open core w w' place id hint s low = record {
   before = λ k v e.
       let high = s.met.sorted.marked.top k v e in
-      let n : k ≢ place = λ h. differ k place h high.0 high.1 low in
+      let n : k ≢ place = λ h. differ k h high.0 high.1 in
       let o = other_mark core w place id k hint s.was v n in
       ⊎_elim
       (λ g. let m = s.met.stays (lit_at core k).var g in omega (arith, m, o, e, s.met.stamp))
       (λ q. absurd (⊎_elim
       (λ i. n (same_place core k place s.was.formed v s.was.within (sym q.2 ∙ ap (λ x. x.var) i)))
-      (λ f. let lt = before_at core w place id k q.0 s.was v q.2 f in let r = level_grows core.limits k place (omega (arith, lt)) in omega (arith, r, low, high.0, high.1))
+      (λ f. let lt = before_at core w place id k q.0 s.was v q.2 f in let r = level_grows core.limits k place (omega (arith, lt)) in let l = low high.1 in omega (arith, r, l, high.0))
       (s.was.unit.others q.0 q.1)))
       (s.met.new (lit_at core k).var (omega (arith, e, s.met.stamp)));
   after = λ k v e.
-      let n : k ≢ place = λ h. let m = ap (λ i. mark_of w (lit_at core i)) h in omega (arith, m, e, z) in
+      let high = s.was.marked.top k v e in
+      let n : k ≢ place = λ h. differ k h high.0 high.1 in
       let o = other_mark core w place id k hint s.was v n in
       let m = s.met.stays (lit_at core k).var (omega (arith, o, e)) in
       omega (arith, m, o, e, s.met.stamp);
 }
   where
-    low : level_at core.limits place ≡ 0
-    low = s.was.marked.bottom place s.was.within z
-
-    differ : (k place : ℕ) → k ≡ place → level_at core.limits k ≡ length core.limits → 0 < length core.limits → level_at core.limits place ≡ 0 → ⊥
-    differ k place h a b c = let m = ap (λ i. level_at core.limits i) h in omega (arith, m, a, b, c)
+    differ : (k : ℕ) → k ≡ place → level_at core.limits k ≡ length core.limits → 0 < length core.limits → ⊥
+    differ k h a b = let m = ap (λ i. level_at core.limits i) h in let c = low b in omega (arith, m, a, c)
 
 pub same_open : (core : CoreValue) (w : WalkValue) → HasSameOpen core w w
 same_open core w = record { before = λ k v e. e; after = λ k v e. e }

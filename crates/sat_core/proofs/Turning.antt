@@ -90,8 +90,9 @@ positive n h = ⊎_elim (λ w. w) (λ z. absurd (h (omega (arith, z)))) (cases_l
 
 -- ---- what is kept beside the core
 
-pub guided_more : (core core' : CoreValue) (guide : Guide) → IsRested core.vars guide.walk.stamp guide.walk.marks.items → guide.decider ≡ core.vars → core'.vars ≡ core.vars → IsGuided core' guide
-guided_more core core' guide r d vars = record {
+pub guided_more : (core core' : CoreValue) (guide : Guide) → IsRested core.vars guide.walk.stamp guide.walk.marks.items → guide.decider ≡ core.vars → guide.probes ≡ core.vars → core'.vars ≡ core.vars → IsGuided core' guide
+guided_more core core' guide r d p vars = record {
   rested = record { len = r.len ∙ ap (λ m. m + 1) (sym vars); below = r.below };
   decider = d ∙ sym vars;
+  probes = p ∙ sym vars;
 }

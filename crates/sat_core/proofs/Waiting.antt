@@ -35,7 +35,7 @@ mark_read core w place x var read t s v e i r =
 -- the step at a place can be taken, and then so many wait
 pub record IsStep (core : CoreValue) (w : WalkValue) (place opens bottoms : ℕ) : Type 0 where
   pub implied : IsImplied core.clauses (IsDue core.limits) (take place core.trail) (step_at core place)
-  pub waits : (mark_of w (lit_at core place) ≡ w.stamp + 1) ⊎ (mark_of w (lit_at core place) ≡ w.stamp + 3)
+  pub waits : mark_of w (lit_at core place) ≢ w.stamp + 2
   pub open_is : opens ≡ waiting (w.stamp + 1) (set w.marks (lit_at core place).var (w.stamp + 2))
   pub zeros_is : bottoms ≡ waiting (w.stamp + 3) (set w.marks (lit_at core place).var (w.stamp + 2))
 
@@ -56,7 +56,7 @@ open_step core w place t g s p v many e =
     let less = waits_less (w.stamp + 1) w.marks u (w.stamp + 2) room e (λ h. omega (arith, h)) in
     record {
       implied = implied_at core place g v (λ c. let r = level_below core.limits k.0 place below c in omega (arith, r, here'.0, there'.0));
-      waits = inl e;
+      waits = λ h. omega (arith, h, e);
       open_is = omega (arith, less, s.open_, many);
       zeros_is = s.zeros ∙ sym (waits_same (w.stamp + 3) w.marks u (w.stamp + 2) room (λ h. omega (arith, h, e)) (λ h. omega (arith, h)));
     }
@@ -70,9 +70,22 @@ bottom_step core w place t g s v e =
     let less = waits_less (w.stamp + 3) w.marks u (w.stamp + 2) room e (λ h. omega (arith, h)) in
     record {
       implied = implied_at core place g v (λ c. some_level core.limits place c (s.marked.bottom place v e));
-      waits = inr e;
+      waits = λ h. omega (arith, h, e);
       open_is = s.open_ ∙ sym (waits_same (w.stamp + 1) w.marks u (w.stamp + 2) room (λ h. omega (arith, h, e)) (λ h. omega (arith, h)));
       zeros_is = omega (arith, less, s.zeros);
+    }
+
+-- of a literal that was kept
+pub kept_step : (core : CoreValue) (w : WalkValue) (place : ℕ) → IsTrail core.vars core.trail core.limits → IsSorted core w → place < length core.trail → mark_of w (lit_at core place) ≡ w.stamp → IsImplied core.clauses (IsDue core.limits) (take place core.trail) (step_at core place) → IsStep core w place w.open_ w.zeros
+kept_step core w place t s v e i =
+    let a = lit_about core place t v in
+    let u : ℕ = (lit_at core place).var in
+    let room : u < length w.marks = omega (arith, a.within, s.marked.len) in
+    record {
+      implied = i;
+      waits = λ h. omega (arith, h, e);
+      open_is = s.open_ ∙ sym (waits_same (w.stamp + 1) w.marks u (w.stamp + 2) room (λ h. omega (arith, h, e)) (λ h. omega (arith, h)));
+      zeros_is = s.zeros ∙ sym (waits_same (w.stamp + 3) w.marks u (w.stamp + 2) room (λ h. omega (arith, h, e)) (λ h. omega (arith, h)));
     }
 
 -- the marks do not tell how many wait

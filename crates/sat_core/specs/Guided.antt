@@ -8,3 +8,4 @@ use Rattle.sat_core.specs.Met.{IsRested}
 pub record IsGuided (core : CoreValue) (guide : Guide) : Type 0 where
   pub rested : IsRested core.vars guide.walk.stamp guide.walk.marks.items
   pub decider : guide.decider ≡ core.vars
+  pub probes : guide.probes ≡ core.vars

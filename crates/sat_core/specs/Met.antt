@@ -49,11 +49,17 @@ pub record AreMarks (core : CoreValue) (stamp : ℕ) (marks : List ℕ) : Type 0
   pub top : (k : ℕ) → k < length core.trail → get_or marks (lit_at core k).var 0 ≡ stamp + 1 → (level_at core.limits k ≡ length core.limits) × (0 < length core.limits)
   pub bottom : (k : ℕ) → k < length core.trail → get_or marks (lit_at core k).var 0 ≡ stamp + 3 → level_at core.limits k ≡ 0
 
--- exactly the false literals that are marked so are kept, each once
+-- the false literals that are marked so are kept, each once; with them stand those whose steps were resolved since
 pub record AreKept (core : CoreValue) (stamp : ℕ) (marks : List ℕ) (lits : List LitValue) : Type 0 where
-  pub of : (o : LitValue) → Contains lits o → (get_or marks o.var 0 ≡ stamp) × IsFalse (trues core) o
+  pub of : (o : LitValue) → Contains lits o → ((get_or marks o.var 0 ≡ stamp) ⊎ (get_or marks o.var 0 ≡ stamp + 2)) × IsFalse (trues core) o
   pub all : (o : LitValue) → IsFalse (trues core) o → get_or marks o.var 0 ≡ stamp → Contains lits o
   pub once : AllPairs (λ a b. a.var ≢ b.var) lits
+
+-- the literals that are marked as kept still
+pub record AreLeft (stamp : ℕ) (marks : List ℕ) (lits left : List LitValue) : Type 0 where
+  pub of : (o : LitValue) → Contains left o → Contains lits o × (get_or marks o.var 0 ≡ stamp)
+  pub all : (o : LitValue) → Contains lits o → get_or marks o.var 0 ≡ stamp → Contains left o
+  pub once : AllPairs (λ a b. a.var ≢ b.var) left
 
 abbrev pub waiting : ℕ → List ℕ → ℕ
 waiting mark marks = count_by (λ m. m == mark) marks

@@ -47,15 +47,16 @@ fn an_open(core: &Core, vars: u32) -> Option<Lit>
 }
 
 impl Decider {
-    /// No variable is active, and each was false.
-    pub fn new(alloc: Global, vars: u32) -> Result<Decider, OutOfMemory>
-        requires { vars < 2147483648 }
+    /// The variables in the order of their numbers, each with the value that it is to have first.
+    pub fn new(alloc: Global, vars: u32, phases: Vec<bool>) -> Result<Decider, OutOfMemory>
+        requires small { vars < 2147483648 }
+        requires phases { length phases.items ≡ vars + 1 }
         ensures { IfOk result (λ decider. decider ≡ vars) }
     {
         Ok(Decider {
             vars,
             order: Order::new(alloc, vars)?,
-            phases: vec![in alloc; false; vars as usize + 1]?,
+            phases,
         })
     }
 
@@ -86,6 +87,16 @@ impl Decider {
     {
         self.phases[lit.var() as usize] = lit.positive();
         self.order.insert(lit.var())
+    }
+
+    /// Gives all variables to the decisions that come.
+    pub fn wake(&mut self) -> Result<(), OutOfMemory>
+        ensures { self.new ≡ self.old }
+    {
+        for index in 0..self.vars {
+            self.order.insert(index + 1)?;
+        }
+        Ok(())
     }
 
     /// Makes the variables through which a conflict came about more active; those past the last are passed over.

@@ -1,6 +1,6 @@
 //! The core that a search begins with.
 
-ghost use Rattle.std.specs.Prelude.{◌≡◌, ◌≢◌, ℕ, ◌<◌, ◌≤◌, true, false, [], length, slice_index, slice_set, Contains, All, AllPairs, IfOk};
+ghost use Rattle.std.specs.Prelude.{◌≡◌, ◌≢◌, ℕ, ◌+◌, ◌*◌, ◌<◌, ◌≤◌, true, false, [], length, slice_index, slice_set, Contains, All, AllPairs, IfOk, OnOk};
 ghost use Rattle.cnf_formula.specs.Literals.{LitValue, IsLit, code_of};
 ghost use Rattle.sat_core.specs.Learning.{IsSame};
 ghost use Rattle.sat_core.specs.Loading.{own_of};
@@ -22,29 +22,59 @@ fn marks_at(seen: &mut Vec<u64>, place: usize, mark: u64) -> bool
     other
 }
 
-/// The literals of a clause, each once, in the order of their first places. `seen` has a place for the number of each
-/// literal, none of which has this mark before.
+/// Keeps the literals of a clause, each once, in the order of their first places, in place of what was kept. `seen` has a
+/// place for the number of each literal, none of which has this mark before.
 fn once_each(
-    alloc: Global,
+    kept: &mut Vec<Lit>,
     lits: &[Lit],
     seen: &mut Vec<u64>,
     mark: u64,
-) -> Result<Vec<Lit>, OutOfMemory>
+) -> Result<(), OutOfMemory>
     requires room { (l : LitValue) → IsLit l → Contains lits.now l → code_of l < length seen.old.items }
     requires unseen { (k : ℕ) → slice_index seen.old.items k < mark }
     ensures len { length seen.new.items ≡ length seen.old.items }
     ensures marked { (k : ℕ) → slice_index seen.new.items k ≤ mark }
-    ensures same { IfOk result (λ kept. IsSame lits.now kept.items) }
-    ensures once { IfOk result (λ kept. AllPairs (λ a b. a ≢ b) kept.items) }
-    ensures lits { IfOk result (λ kept. All IsLit kept.items) }
+    ensures same { OnOk result (IsSame lits.now kept.new.items) }
+    ensures once { OnOk result (AllPairs (λ a b. a ≢ b) kept.new.items) }
+    ensures lits { OnOk result (All IsLit kept.new.items) }
 {
-    let mut kept = Vec::new(alloc);
+    kept.clear();
     for lit in lits {
         if marks_at(seen, lit.code(), mark) {
             kept.push(*lit)?;
         }
     }
-    Ok(kept)
+    Ok(())
+}
+
+/// Counts the literals of a clause, by their numbers.
+fn count_each(counts: &mut Vec<u32>, lits: &[Lit])
+    ensures { length counts.new.items ≡ length counts.old.items }
+{
+    for lit in lits {
+        if let Some(count) = counts.get_mut(lit.code()) {
+            *count = count.saturating_add(1);
+        }
+    }
+}
+
+/// How often each literal stands in the formula, by its number.
+fn occurrences(alloc: Global, formula: &Formula, own: u32) -> Result<Vec<u32>, OutOfMemory>
+    ensures { IfOk result (λ counts. length counts.items ≡ 2 * own + 2) }
+{
+    let mut counts = vec![in alloc; 0u32; 2 * own as usize + 2]?;
+    for clause in formula.clauses() {
+        count_each(&mut counts, clause.lits());
+    }
+    Ok(counts)
+}
+
+/// A core without a clause, with room for those of a formula.
+fn empty_core(alloc: Global, formula: &Formula, own: u32) -> Result<Core, OutOfMemory>
+    ensures { IfOk result (λ core. core ≡ record { vars = own; clauses = []; trail = []; limits = [] }) }
+{
+    let counts = occurrences(alloc, formula, own)?;
+    Core::new(alloc, own, &counts)
 }
 
 /// A core with the clauses of a formula in their order, each literal of them once.
@@ -53,12 +83,18 @@ pub fn load(alloc: Global, formula: &Formula, own: u32) -> Result<Core, OutOfMem
     ensures vars { IfOk result (λ core. core.vars ≡ own) }
     ensures ready { IfOk result (λ core. IsReady formula.now [] core) }
 {
-    let mut core = Core::new(alloc, own)?;
+    let mut core = empty_core(alloc, formula, own)?;
+    let mut kept = Vec::new(alloc);
     let mut seen = vec![in alloc; 0u64; 2 * own as usize + 2]?;
     let clauses = formula.clauses();
     for number in 0..clauses.len() {
-        let lits = once_each(alloc, clauses[number].lits(), &mut seen, number as u64 + 1)?;
-        core.add_clause(&lits)?;
+        once_each(
+            &mut kept,
+            clauses[number].lits(),
+            &mut seen,
+            number as u64 + 1,
+        )?;
+        core.add_clause(&kept)?;
     }
     Ok(core)
 }

@@ -1,8 +1,8 @@
 //! The literals of conflicts and of reasons, as an analysis meets them.
 
-ghost use Rattle.std.specs.Prelude.{◌≡◌, ◌≢◌, ◌⊎◌, ℕ, ◌+◌, ◌<◌, ◌≤◌, [], ◌∷◌, length, get_or, pos, take, Contains, OnOk, slice_set};
+ghost use Rattle.std.specs.Prelude.{◌≡◌, ◌≢◌, ◌↔◌, ◌⊎◌, IsTrue, ℕ, ◌+◌, ◌<◌, ◌≤◌, [], ◌∷◌, length, get_or, pos, take, Contains, OnOk, slice_set};
 ghost use Rattle.cnf_formula.specs.Literals.{LitValue};
-ghost use Rattle.trail_core.specs.Assigned.{IsFalse};
+ghost use Rattle.trail_core.specs.Assigned.{IsFalse, level_at};
 ghost use Rattle.trail_core.specs.Meaning.{trues};
 ghost use Rattle.trail_core.specs.Search.{IsImplied};
 ghost use Rattle.trail_core.specs.Kept.{IsDue};
@@ -66,6 +66,18 @@ pub fn meet_all(core: &Core, walk: &mut Walk, id: ClauseId) -> Result<(), OutOfM
     Ok(())
 }
 
+/// Whether the literal at a place has such a mark: its step waits on the last level or on level 0, or it is kept.
+pub fn is_waiting(core: &Core, walk: &Walk, place: usize, mark: u8) -> bool
+    requires place { place < length core.now.trail }
+    requires len { length walk.now.marks.items ≡ core.now.vars + 1 }
+    requires few { walk.now.stamp ≤ 251 }
+    requires small { mark < 4 }
+    ensures { IsTrue result ↔ (mark_of (value_of walk.now) (lit_at core.now place) ≡ walk.now.stamp + mark) }
+{
+    let lit = core.trail()[place];
+    walk.marks[lit.var() as usize] == walk.stamp + mark
+}
+
 /// Takes a step for its reason.
 pub fn resolve(core: &Core, walk: &mut Walk, place: usize) -> Result<(), OutOfMemory>
     requires formed { IsTrail core.now.vars core.now.trail core.now.limits }
@@ -74,13 +86,13 @@ pub fn resolve(core: &Core, walk: &mut Walk, place: usize) -> Result<(), OutOfMe
     requires implied { IsImplied core.now.clauses (IsDue core.now.limits) (take place core.now.trail) (step_at core.now place) }
     requires marked { AreMarks core.now walk.old.stamp walk.old.marks.items }
     requires kept { AreKept core.now walk.old.stamp walk.old.marks.items walk.old.lits.items }
-    requires waits { (mark_of (value_of walk.old) (lit_at core.now place) ≡ walk.old.stamp + 1) ⊎ (mark_of (value_of walk.old) (lit_at core.now place) ≡ walk.old.stamp + 3) }
+    requires new { mark_of (value_of walk.old) (lit_at core.now place) ≢ walk.old.stamp + 2 }
     requires open { walk.old.open_ ≡ waiting (walk.old.stamp + 1) (slice_set walk.old.marks.items (lit_at core.now place).var (walk.old.stamp + 2)) }
     requires zeros { walk.old.zeros ≡ waiting (walk.old.stamp + 3) (slice_set walk.old.marks.items (lit_at core.now place).var (walk.old.stamp + 2)) }
     ensures sorted { OnOk result (IsSorted core.now (value_of walk.new)) }
     ensures onward { OnOk result (IsOnward (value_of walk.old) (value_of walk.new)) }
     ensures more { OnOk result (walk.old.open_ ≤ walk.new.open_) }
-    ensures bottom { mark_of (value_of walk.old) (lit_at core.now place) ≡ walk.old.stamp + 3 → OnOk result (HasSameOpen core.now (value_of walk.old) (value_of walk.new)) }
+    ensures below { (0 < length core.now.limits → level_at core.now.limits place < length core.now.limits) → OnOk result (HasSameOpen core.now (value_of walk.old) (value_of walk.new)) }
     ensures passed { (kind : ℕ) → kind ≢ 2 → IsPassed core.now kind (value_of walk.old) (place + 1) → OnOk result (IsPassed core.now kind (value_of walk.new) place) }
 {
     let lit = core.trail()[place];

@@ -10,7 +10,7 @@ use std::marker::Model;
 /// The place of a variable that does not stand in the heap.
 const ABSENT: usize = usize::MAX;
 
-/// What a variable gains at first.
+/// What a variable gains at first is so many times the number of variables.
 const FIRST_GAIN: u64 = 1000;
 
 /// Activities above this are made smaller, all of them.
@@ -106,24 +106,28 @@ fn sink(heap: &mut Vec<u32>, places: &mut Vec<usize>, activity: &[u64], var: u32
 }
 
 impl Order {
-    /// All of so many variables, none of them active.
+    /// All of so many variables, in the order of their numbers: the first is more active than the second, and so on, but
+    /// all of them less than a variable that has gained once.
     pub fn new(alloc: Global, vars: u32) -> Result<Order, OutOfMemory>
         ensures { IfOk result (λ order. order ≡ vars) }
     {
         let count = vars as usize;
         let mut heap = Vec::with_capacity(alloc, count)?;
         let mut places = Vec::with_capacity(alloc, count + 1)?;
+        let mut activity = Vec::with_capacity(alloc, count + 1)?;
         places.push(ABSENT)?;
+        activity.push(u64::from(vars))?;
         for index in 0..vars {
             heap.push(index + 1)?;
             places.push(index as usize)?;
+            activity.push(u64::from(vars - index - 1))?;
         }
         Ok(Order {
             vars,
             heap,
             places,
-            activity: vec![in alloc; 0u64; count + 1]?,
-            gain: FIRST_GAIN,
+            activity,
+            gain: FIRST_GAIN * u64::from(vars),
         })
     }
 

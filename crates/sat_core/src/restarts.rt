@@ -1,7 +1,7 @@
 //! When a search begins anew.
 
 /// So many conflicts come before the first new beginning.
-const UNIT: u64 = 64;
+const UNIT: u64 = 100;
 
 /// New beginnings after 1, 1, 2, 1, 1, 2, 4, .. times as many conflicts (Luby, Sinclair and Zuckerman 1993).
 #[derive(Drop)]

@@ -53,7 +53,7 @@ pub fn at_conflict<T, L: Ledger<T>>(
     ensures cause { HasCause SolveFault.LedgerFailed (L.faults ledger.old store.old) (L.faults ledger.new store.new) result }
     ensures steady { result ≢ Err SolveFault.LedgerFailed → L.faults ledger.new store.new ≡ L.faults ledger.old store.old }
 {
-    let line = line_at(alloc, core, &mut guide.walk, conflict)?;
+    let line = line_at(alloc, core, &mut guide.walk, &mut guide.implied, conflict)?;
     if line.lits.is_empty() {
         ledger.close(store, &line)?;
         return Ok(Turn::Refuted);
@@ -63,6 +63,9 @@ pub fn at_conflict<T, L: Ledger<T>>(
     }
     ledger.learn(store, &line)?;
     guide.decider.learn(&guide.walk.met);
-    go_back(core, &mut guide.decider, &line, guide.restarts.is_due())?;
+    guide.probes.note(core);
+    let anew = guide.restarts.is_due();
+    go_back(core, &mut guide.decider, &line, anew)?;
+    guide.probes.turn(alloc, &mut guide.decider, anew)?;
     Ok(Turn::Goes)
 }

@@ -1,19 +1,53 @@
--- What a right run of the top call says, drawn out.
-use Rattle.std.proofs.Common.{◌≡◌, ◌++◌, ℕ, List, inl, inr, Ok, Err, sym, ap, ◌∙◌}
+-- What a right run says, drawn out.
+use Rattle.std.proofs.Common.{◌≡◌, ◌≢◌, ◌++◌, ℕ, Bool, true, false, nat_lt, length, List, inl, inr, Result, Ok, Err, refl, sym, subst, ap, ◌∙◌}
 use Rattle.std.proofs.lemmas.List.Elements.{All-contains}
+use Rattle.text_lines.specs.Check.{◌>>=◌, refuse}
+use Rattle.outer_ports.specs.Shelf.{FilesStay}
 use Rattle.topology_text.specs.Value.{NamedTopologyValue}
 use Rattle.candidate_order.specs.Frontiers.{RightFrontier, IsSolvable}
 use Rattle.candidate_order.proofs.Frontiers.{better_refuted}
 use Rattle.report_form.specs.Reports.{WordsValue, ReportValue, question_of}
-use Rattle.sccl_run.specs.declared.status.Status.{Status}
-use Rattle.sccl_run.specs.declared.status.Status.TheVariants.{Done}
-use Rattle.sccl_run.specs.Refusals.{Refusal}
-use Rattle.sccl_run.specs.Tasks.{Synthesise, due}
-use Rattle.sccl_run.specs.Owed.{Synthesises}
 use Rattle.frontier_audit.specs.Rights.{IsRight, IsRightPart}
-use Rattle.sccl_run.specs.TopCall.{IsFree, StatusIsDue, TextIsDue}
-use Rattle.sccl_run.proofs.Refused.{never_done}
-use Rattle.sccl_run.specs.Laws.{WritesWith, NoneIsBetter}
+use Rattle.point_replay.specs.Showing.{shown_in, shown_text}
+use Rattle.point_replay.specs.Points.{programs_of_point}
+use Rattle.run_rules.specs.declared.status.Status.{Status}
+use Rattle.command_words.specs.declared.command.Command.{Command}
+use Rattle.command_words.specs.declared.command.Command.TheVariants as command
+use Rattle.command_words.specs.declared.fault.WordFault.{WordFault}
+use Rattle.command_words.specs.declared.values.PointWord.{PointWord}
+use Rattle.command_words.specs.Words.{command_of}
+use Rattle.run_rules.specs.declared.status.Status.TheVariants.{Done, BadWords, TooLong, OutOfMemory, SourceFailed, SinkFailed, ShelfFailed}
+use Rattle.run_rules.specs.Commands.{Ask, Changes, IsOneOf, row_of}
+use Rattle.run_rules.specs.Refusals.{Refusal, refused_at, refused_word}
+use Rattle.run_rules.specs.Tasks.{Task, Write, Synthesise, Audit, Try, audit_in, due, limit, point_in, programs_in, read_report, replay_in, search_asked, searchable, task_of, whole_question, whole_text, words_asked}
+use Rattle.run_rules.proofs.Ends.{refused_with}
+use Rattle.sccl_run.specs.Answering.{due_for}
+use Rattle.sccl_run.specs.Laws.{IsRightRun, WritesWith, NoneIsBetter}
+use Rattle.sccl_run.specs.TopCall.{CountValue, IsAnswered, IsEnd, IsSilent, RunValue}
+use Rattle.sccl_run.specs.Rows.{all_tell}
+use Rattle.sccl_run.proofs.Dues.{due_command, due_refused}
+use Rattle.sccl_run.proofs.Ended.{ended}
+
+-- ---- a run that is done
+
+pub done_not_silent : (s : Status) → s ≡ Done → IsSilent s → ⊥
+done_not_silent s e (inl f) = let g : Done ≡ OutOfMemory = sym e ∙ f in cc
+done_not_silent s e (inr (inl f)) = let g : Done ≡ SourceFailed = sym e ∙ f in cc
+done_not_silent s e (inr (inr f)) = let g : Done ≡ ShelfFailed = sym e ∙ f in cc
+
+pub done_not_cut_off : (s : Status) → s ≡ Done → s ≡ SinkFailed → ⊥
+done_not_cut_off s e f = let g : Done ≡ SinkFailed = sym e ∙ f in cc
+
+-- it is answered where its status is none of a run that is not
+pub answered : (d : Result Task Refusal) (x : RunValue) → IsEnd d x all_tell → (x.status ≡ SinkFailed → ⊥) → (IsSilent x.status → ⊥) → IsAnswered d x all_tell
+answered d x (inl a) whole loud = a
+answered d x (inr (inl cut)) whole loud = absurd (whole cut.failed)
+answered d x (inr (inr halt)) whole loud = absurd (loud halt.silent)
+
+pub done_answered : (d : Result Task Refusal) (x : RunValue) → IsEnd d x all_tell → x.status ≡ Done → IsAnswered d x all_tell
+done_answered d x end done = answered d x end (done_not_cut_off x.status done) (done_not_silent x.status done)
+
+-- ---- a search
 
 -- a report that is right marks a point optimal only where no better candidate has a schedule
 none_is_better : (r : ReportValue) → IsRight r → NoneIsBetter r
@@ -22,26 +56,107 @@ none_is_better r right part f p y at point optimal within better solvable =
     let refuted = better_refuted (question_of r.words r.topology part) f frontier p point optimal y within better in
     All-contains (λ x. IsSolvable (question_of r.words r.topology part) x → ⊥) f.refuted y frontier.refuted refuted solvable
 
-written_says : (w : WordsValue) (t : NamedTopologyValue) (before now text : List ℕ) → Synthesises w t text → now ≡ before ++ text → WritesWith NoneIsBetter before now
-written_says w t before now text owed written =
-    record { report = owed.report; text = written ∙ ap (λ end. before ++ end) owed.written; says = none_is_better owed.report owed.right }
+pub written_is_right : (x : RunValue) (a b c : CountValue) → IsRightRun x a b c → (w : WordsValue) (t : NamedTopologyValue) → due x.words x.bytes ≡ Ok (Synthesise w t) → x.status ≡ Done → WritesWith NoneIsBetter x.before x.now
+written_is_right x a b c run w t asked done =
+    let end = done_answered (Ok (Synthesise w t)) x (ended x a b c (Ok (Synthesise w t)) run asked) done in
+    record { report = end.answer.report; text = end.written refl ∙ ap (λ text. x.before ++ text) end.answer.says.text; says = none_is_better end.answer.report end.answer.right }
 
-pub written_is_right : (words : List (List ℕ)) (bytes before now : List ℕ) (status : Status) → TextIsDue words bytes before now status
-    → (w : WordsValue) (t : NamedTopologyValue) → due words bytes ≡ Ok (Synthesise w t) → status ≡ Done → WritesWith NoneIsBetter before now
-written_is_right words bytes before now status text w t asked done =
-    let owed = text.owed (Synthesise w t) asked done in
-    written_says w t before now owed.0 owed.1 owed.2
+-- ---- what changes no file
 
--- a status that is free is not Done
-done_not_free : (status : Status) → status ≡ Done → IsFree status → ⊥
-done_not_free status e (inl f) = absurd (cc)
-done_not_free status e (inr (inl f)) = absurd (cc)
-done_not_free status e (inr (inr (inl f))) = absurd (cc)
-done_not_free status e (inr (inr (inr f))) = absurd (cc)
+-- a search whose proofs are kept
+abbrev IsKept : Result Task Refusal → Type 0
+IsKept (Ok (Synthesise w t)) = Unit {0}
+IsKept _ = ⊥
 
-pub refused_not_done : (words : List (List ℕ)) (bytes : List ℕ) (status : Status) → StatusIsDue words bytes status → (r : Refusal) → due words bytes ≡ Err r → status ≡ Done → ⊥
-refused_not_done words bytes status is_due r asked done =
-    elim (is_due.refused r asked) [
-      | inl same ↦ never_done words bytes r asked (sym same ∙ done)
-      | inr free ↦ done_not_free status done free
-    ]
+stays_as_due : (d : Result Task Refusal) (x : RunValue) → (IsKept d → ⊥) → IsEnd d x all_tell → FilesStay x.files x.files_after
+stays_as_due (Err r) x other (inl a) = a.answer.stay refl
+stays_as_due (Err r) x other (inr (inl a)) = a.answer.stay refl
+stays_as_due (Err r) x other (inr (inr a)) = a.leaves refl
+stays_as_due (Ok (Write text)) x other (inl a) = a.answer.stay refl
+stays_as_due (Ok (Write text)) x other (inr (inl a)) = a.answer.stay refl
+stays_as_due (Ok (Write text)) x other (inr (inr a)) = a.leaves refl
+stays_as_due (Ok (Synthesise w t)) x other end = absurd (other tt)
+stays_as_due (Ok (Audit r)) x other (inl a) = a.answer.stay refl
+stays_as_due (Ok (Audit r)) x other (inr (inl a)) = a.answer.stay refl
+stays_as_due (Ok (Audit r)) x other (inr (inr a)) = a.leaves refl
+stays_as_due (Ok (Try n)) x other (inl a) = a.answer.stay refl
+stays_as_due (Ok (Try n)) x other (inr (inl a)) = a.answer.stay refl
+stays_as_due (Ok (Try n)) x other (inr (inr a)) = a.leaves refl
+
+-- it is due only for a command that changes files
+no_kept : {A : Type 0} (x : Result A Refusal) (f : A → Result Task Refusal) → ((a : A) → IsKept (f a) → ⊥) → IsKept (x >>= f) → ⊥
+no_kept (Ok a) f none kept = none a kept
+no_kept (Err r) f none kept = kept
+
+task_changes : (c : Command) (bytes : List ℕ) → IsKept (task_of c bytes) → Changes c
+task_changes (command.Synth kind word limits root) bytes kept = refl
+task_changes command.Check bytes kept =
+    absurd (no_kept (read_report bytes) audit_in (λ r. no_kept (searchable (whole_question r.words r.topology)) (λ _. Ok (Audit r)) (λ _ none. none)) kept)
+task_changes (command.Replay number word order) bytes kept =
+    let asked : PointWord = record { point = number; word = word } in
+    absurd (no_kept (read_report bytes) (λ r. replay_in r asked order) (λ r. no_kept (point_in r asked) (λ p. Ok (Write (shown_text number (shown_in r p) order))) (λ _ none. none)) kept)
+task_changes (command.Programs number word) bytes kept =
+    let asked : PointWord = record { point = number; word = word } in
+    absurd (no_kept (read_report bytes) (λ r. programs_in r asked) (λ r. no_kept (point_in r asked) (λ p. Ok (Write (programs_of_point r number p))) (λ _ none. none)) kept)
+task_changes (command.Family kind size) bytes kept = absurd kept
+task_changes (command.Trial n) bytes kept = absurd kept
+
+due_changes : (words : List (List ℕ)) (bytes : List ℕ) → IsKept (due words bytes) → Ask Changes words
+due_changes words bytes kept = by_words (command_of words) refl
+  where
+    behind_length : (c : Command) (x : Result (Unit {0}) Refusal) → IsKept (x >>= (λ _. task_of c bytes)) → Changes c
+    behind_length c (Ok u) k = task_changes c bytes k
+    behind_length c (Err r) k = absurd k
+
+    by_words : (x : Result Command WordFault) → command_of words ≡ x → Ask Changes words
+    by_words (Ok c) is = record { command = c; is = is; such = behind_length c (whole_text (row_of c).reads bytes) (subst IsKept (due_command words bytes c is) kept) }
+    by_words (Err fault) is = let none : IsKept (Err (refused_word fault.code fault.word)) = subst IsKept (due_refused words bytes fault is) kept in absurd none
+
+pub unchanged : (x : RunValue) (a b c : CountValue) → IsRightRun x a b c → ¬ Ask Changes x.words → FilesStay x.files x.files_after
+unchanged x a b c run none = stays_as_due (due x.words x.bytes) x (λ kept. none (due_changes x.words x.bytes kept)) (ended x a b c _ run refl)
+
+-- ---- what is refused
+
+refused_statuses : (c : Command) → IsOneOf (row_of c).refusals Done → ⊥
+refused_statuses (command.Synth kind word limits root) is = absurd (cc)
+refused_statuses command.Check is = absurd (cc)
+refused_statuses (command.Replay number word order) is = absurd (cc)
+refused_statuses (command.Programs number word) is = absurd (cc)
+refused_statuses (command.Family kind size) is = absurd (cc)
+refused_statuses (command.Trial n) is = absurd (cc)
+
+abbrev NotDone : {A : Type 0} → Result A Refusal → Type 0
+NotDone (Ok x) = Unit {0}
+NotDone (Err r) = r.status ≡ Done → ⊥
+
+first_not_done : {A B : Type 0} (x : Result A Refusal) (f : A → Result B Refusal) → NotDone x → ((a : A) → NotDone (f a)) → NotDone (x >>= f)
+first_not_done (Ok a) f h g = g a
+first_not_done (Err r) f h g = h
+
+whole_not_done : (reads : Bool) (bytes : List ℕ) → NotDone (whole_text reads bytes)
+whole_not_done true bytes = by_length (nat_lt limit (length bytes))
+  where
+    by_length : (long : Bool) → NotDone (refuse long (refused_at TooLong 0 limit))
+    by_length true = λ e. absurd (cc)
+    by_length false = tt
+whole_not_done false bytes = tt
+
+task_not_done : (c : Command) (bytes : List ℕ) (x : Result Task Refusal) → task_of c bytes ≡ x → NotDone x
+task_not_done c bytes (Ok t) is = tt
+task_not_done c bytes (Err r) is = λ e. refused_statuses c (subst (IsOneOf (row_of c).refusals) e (refused_with c bytes r is))
+
+words_not_done : (x : Result Command WordFault) → NotDone (words_asked x)
+words_not_done (Ok c) = tt
+words_not_done (Err fault) = λ e. let f : BadWords ≡ Done = e in absurd (cc)
+
+due_not_done : (words : List (List ℕ)) (bytes : List ℕ) → NotDone (due words bytes)
+unfolding due
+due_not_done words bytes =
+    first_not_done (words_asked (command_of words)) _ (words_not_done (command_of words))
+    (λ c. first_not_done (whole_text (row_of c).reads bytes) _ (whole_not_done (row_of c).reads bytes) (λ _. task_not_done c bytes (task_of c bytes) refl))
+
+pub refused_not_done : (x : RunValue) (a b c : CountValue) → IsRightRun x a b c → (r : Refusal) → due x.words x.bytes ≡ Err r → x.status ≡ Done → ⊥
+refused_not_done x a b c run r refused done =
+    let end = done_answered (Err r) x (ended x a b c (Err r) run refused) done in
+    let never : r.status ≡ Done → ⊥ = subst NotDone refused (due_not_done x.words x.bytes) in
+    never (sym end.answer.says.status ∙ done)

@@ -1,5 +1,5 @@
 -- What a search wrote, checked over the files that it left.
-use Rattle.std.proofs.Common.{◌≡◌, ◌⊎◌, ◌≤◌, ◌++◌, inl, ℕ, not, List, [], ◌∷◌, length, Option, Ok, codes, map, refl, append-nil, sym, subst, ap, ◌∙◌}
+use Rattle.std.proofs.Common.{◌≡◌, ◌⊎◌, ◌≤◌, ◌++◌, inl, inr, ℕ, not, List, [], ◌∷◌, length, Option, Result, Ok, Err, codes, map, refl, append-nil, sym, subst, ap, ◌∙◌}
 use Rattle.std.proofs.lemmas.List.{append_cancel_left}
 use Rattle.std.proofs.lemmas.List.Elements.{All-contains}
 use Rattle.std.specs.Fmt.{digits}
@@ -8,71 +8,85 @@ use Rattle.outer_ports.specs.declared.part.Part.{Part}
 use Rattle.outer_ports.specs.declared.part.Part.TheVariants as part
 use Rattle.outer_ports.specs.Files.{Files}
 use Rattle.outer_ports.specs.Shelf.{FilesStay}
-use Rattle.collective_spec.specs.declared.kind.Kind.{Kind}
 use Rattle.collective_spec.specs.declared.kind.Kind.TheVariants as kind
 use Rattle.collective_spec.specs.Collectives.{fits_kind}
-use Rattle.candidate_order.specs.Ranges.{LimitsValue}
 use Rattle.candidate_order.specs.Frontiers.{FrontierValue}
 use Rattle.topology_text.specs.Value.{NamedTopologyValue}
 use Rattle.topology_text.specs.Answer.{code_number as topology_number}
 use Rattle.topology_text.specs.Reading.{topology_of}
 use Rattle.allreduce_join.specs.Joins.{Joins}
-use Rattle.command_words.specs.declared.command.RootWord.{RootWord}
+use Rattle.command_words.specs.declared.command.SearchWords.{SearchWords}
 use Rattle.command_words.specs.declared.command.Command.{Command}
 use Rattle.command_words.specs.declared.command.Command.TheVariants as command
+use Rattle.command_words.specs.declared.fault.WordFault.{WordFault}
 use Rattle.command_words.specs.Words.{command_of}
+use Rattle.report_form.specs.Answer.{code_number as report_number}
 use Rattle.report_form.specs.Reports.{ReportValue, WordsValue, parts_of}
 use Rattle.report_form.specs.Reading.{report_of}
 use Rattle.report_form.specs.Spelling.{report_text}
 use Rattle.report_laws.proofs.ReportAgain.{report_again}
 use Rattle.frontier_audit.specs.Joining.{is_reduce, is_gather, points_of}
 use Rattle.frontier_audit.specs.Shelves.{ShelfRight}
-use Rattle.frontier_audit.proofs.Right.{right_verified}
-use Rattle.sccl_run.specs.declared.status.Status.TheVariants.{Done, BadWords, BadTopology}
-use Rattle.sccl_run.specs.Refusals.{refused_at, refused_as}
-use Rattle.sccl_run.specs.Tasks.{Task, Synthesise, Audit, Replay, Program, Family, Try, audited, due, limit, not_denied, point_in, read_report, root_in, searchable, synthesis_of, task_of, whole_question, whole_text, words_asked, words_for}
-use Rattle.sccl_run.specs.Owed.{Synthesises}
 use Rattle.frontier_audit.specs.Rights.{AreJoined, IsRight, IsRightPart}
 use Rattle.frontier_audit.specs.OwedFiles.{Proves}
-use Rattle.sccl_run.specs.TopCall.{CountValue, IsFree, IsRun, RunValue}
+use Rattle.frontier_audit.proofs.Right.{right_verified}
+use Rattle.run_rules.specs.declared.status.Status.TheVariants.{Done, SinkFailed, BadWords, BadTopology, BadReport}
+use Rattle.run_rules.specs.Refusals.{Refusal, refused_as, refused_word}
+use Rattle.run_rules.specs.Commands.{row_of}
+use Rattle.run_rules.specs.Tasks.{Task, Write, Synthesise, Audit, Try, due, fitting, limit, point_in, programs_asked, read_report, replay_asked, root_in, search_asked, searchable, synthesis_asked, task_of, whole_question, whole_text, words_asked, words_for}
+use Rattle.run_rules.specs.Audits.{audited, not_denied, verdict_status}
+use Rattle.sccl_run.specs.Laws.{IsRightRun}
+use Rattle.sccl_run.specs.TopCall.{CountValue, IsEnd, IsSilent, RunValue}
 use Rattle.sccl_run.specs.Rows.{all_tell}
-use Rattle.sccl_run.proofs.DueWords.{due_command}
-use Rattle.sccl_run.proofs.IfDue.{IfDue, then}
-use Rattle.sccl_run.proofs.ReportsDue.{report_due}
+use Rattle.sccl_run.proofs.Dues.{due_command, short_due}
+use Rattle.sccl_run.proofs.Ended.{ended}
+use Rattle.sccl_run.proofs.RightRuns.{done_answered}
 
 -- ---- a search that is due is small enough, and has a candidate
 
-Fits : Task → Type 0
-Fits (Synthesise w t) = searchable (whole_question w t) ≡ Ok tt
-Fits (Audit r) = Unit {0}
-Fits (Replay r n p o) = Unit {0}
-Fits (Program r n p) = Unit {0}
-Fits (Family k n) = Unit {0}
-Fits (Try n) = Unit {0}
+abbrev Fits : Result Task Refusal → Type 0
+Fits (Ok (Synthesise w t)) = searchable (whole_question w t) ≡ Ok tt
+Fits _ = Unit {0}
 
-search_fits : (kind : Kind) (word : ℕ) (limits : LimitsValue) (root : Option RootWord) (bytes : List ℕ) → IfDue Fits (synthesis_of kind word limits root bytes)
-unfolding Fits
-search_fits kind word limits root bytes =
-    then Fits (whole_text bytes) _ (λ _ _. then Fits (refused_as BadTopology topology_number (topology_of bytes)) _ (λ t _.
-    then Fits (refuse (not (fits_kind kind t.custom)) (refused_at BadWords 12 word)) _ (λ _ _. then Fits (root_in t.names root) _ (λ node _.
-    then Fits (searchable (whole_question (words_for kind limits node) t)) _ (λ u e. e)))))
+abbrev IsSearchable : Result (WordsValue × NamedTopologyValue) Refusal → Type 0
+IsSearchable (Ok s) = searchable (whole_question s.0 s.1) ≡ Ok tt
+IsSearchable (Err r) = Unit {0}
 
-tasks_fit : (c : Command) (bytes : List ℕ) → IfDue Fits (task_of c bytes)
-unfolding Fits
-tasks_fit (command.Synth kind word limits root) bytes = search_fits kind word limits root bytes
-tasks_fit command.Check bytes = then Fits (read_report bytes) _ (λ r _. then Fits (searchable (whole_question r.words r.topology)) _ (λ _ _. tt))
-tasks_fit (command.Replay number word order) bytes = then Fits (read_report bytes) _ (λ r _. then Fits (point_in r number word) _ (λ p _. tt))
-tasks_fit (command.Programs number word) bytes = then Fits (read_report bytes) _ (λ r _. then Fits (point_in r number word) _ (λ p _. tt))
+behind : {A : Type 0} (x : Result A Refusal) (f : A → Result (WordsValue × NamedTopologyValue) Refusal) → ((a : A) → x ≡ Ok a → IsSearchable (f a)) → IsSearchable (x >>= f)
+behind (Ok a) f h = h a refl
+behind (Err r) f h = tt
+
+sought : (asked : SearchWords) (bytes : List ℕ) → IsSearchable (search_asked asked bytes)
+sought asked bytes =
+    behind (refused_as BadTopology topology_number (topology_of bytes)) _ (λ t _.
+    behind (fitting asked t) _ (λ _ _.
+    behind (root_in t.names asked.root) _ (λ node _.
+    behind (searchable (whole_question (words_for asked node) t)) _ (λ u e. e))))
+
+synthesis_fits : (x : Result (WordsValue × NamedTopologyValue) Refusal) → IsSearchable x → Fits (x >>= (λ s. Ok (Synthesise s.0 s.1)))
+synthesis_fits (Ok s) h = h
+synthesis_fits (Err r) h = tt
+
+no_search : {A : Type 0} (x : Result A Refusal) (f : A → Result Task Refusal) → ((a : A) → Fits (f a)) → Fits (x >>= f)
+no_search (Ok a) f h = h a
+no_search (Err r) f h = tt
+
+tasks_fit : (c : Command) (bytes : List ℕ) → Fits (task_of c bytes)
+tasks_fit (command.Synth kind word limits root) bytes =
+    let asked : SearchWords = record { kind = kind; kind_word = word; limits = limits; root = root } in
+    synthesis_fits (search_asked asked bytes) (sought asked bytes)
+tasks_fit command.Check bytes = no_search (read_report bytes) _ (λ r. no_search (searchable (whole_question r.words r.topology)) _ (λ _. tt))
+tasks_fit (command.Replay number word order) bytes = no_search (read_report bytes) _ (λ r. no_search (point_in r (record { point = number; word = word })) _ (λ p. tt))
+tasks_fit (command.Programs number word) bytes = no_search (read_report bytes) _ (λ r. no_search (point_in r (record { point = number; word = word })) _ (λ p. tt))
 tasks_fit (command.Family kind size) bytes = tt
 tasks_fit (command.Trial n) bytes = tt
 
-due_fits : (words : List (List ℕ)) (bytes : List ℕ) → IfDue Fits (due words bytes)
+due_fits : (words : List (List ℕ)) (bytes : List ℕ) → Fits (due words bytes)
 unfolding due
-due_fits words bytes = then Fits (words_asked (command_of words)) _ (λ c _. tasks_fit c bytes)
+due_fits words bytes = no_search (words_asked (command_of words)) _ (λ c. no_search (whole_text (row_of c).reads bytes) _ (λ _. tasks_fit c bytes))
 
 searched : (words : List (List ℕ)) (bytes : List ℕ) (w : WordsValue) (t : NamedTopologyValue) → due words bytes ≡ Ok (Synthesise w t) → searchable (whole_question w t) ≡ Ok tt
-unfolding Fits
-searched words bytes w t e = subst (IfDue Fits) e (due_fits words bytes)
+searched words bytes w t e = subst Fits e (due_fits words bytes)
 
 -- ---- the check of its report
 
@@ -84,7 +98,8 @@ check_due : (words : List (List ℕ)) (bytes : List ℕ) (r : ReportValue) → w
     → due words bytes ≡ Ok (Audit r)
 check_due words bytes r e short read fits =
     due_command words bytes command.Check (checks words e)
-    ∙ ap (λ x. x >>= (λ s. searchable (whole_question s.words s.topology) >>= (λ _. Ok (Audit s)))) (report_due bytes (Ok r) short read)
+    ∙ short_due command.Check bytes short
+    ∙ ap (λ x. refused_as BadReport report_number x >>= (λ s. searchable (whole_question s.words s.topology) >>= (λ _. Ok (Audit s)))) read
     ∙ ap (λ x. x >>= (λ _. Ok (Audit r))) fits
 
 two_parts : (xs : List (Part × FrontierValue)) (r : ReportValue) → map (λ x. x.0) xs ≡ part.Reduce ∷ part.Gather ∷ [] → AreJoined r xs → Joins r.topology.topology (points_of is_reduce xs) (points_of is_gather xs) r.joined
@@ -105,17 +120,24 @@ unfolding audited
 nothing_denied r files right shelf =
     ap not_denied (right_verified r files right.valid shelf (λ p f at. All-contains (IsRightPart r) r.frontiers (p, f) right.parts at) (joined_right r right))
 
-pub verified_again : (search check : RunValue) (a b c d e f : CountValue) → IsRun search all_tell a b c → IsRun check all_tell d e f
+-- an audit that finds nothing to deny is done, or it is not answered
+audit_done : (r : ReportValue) (x : RunValue) → audited r x.files ≡ Ok tt → IsEnd (Ok (Audit r)) x all_tell → (x.status ≡ Done) ⊎ ((x.status ≡ SinkFailed) ⊎ IsSilent x.status)
+audit_done r x accepted (inl end) =
+    let over : end.answer.over ≡ x.files = files_are x.files end.answer.over (end.answer.are refl) in
+    inl (end.answer.says.status ∙ ap verdict_status (ap (audited r) over ∙ accepted))
+audit_done r x accepted (inr (inl cut)) = inr (inl cut.failed)
+audit_done r x accepted (inr (inr halt)) = inr (inr halt.silent)
+
+pub verified_again : (search check : RunValue) (a b c d e f : CountValue) → IsRightRun search a b c → IsRightRun check d e f
     → (w : WordsValue) (t : NamedTopologyValue) → due search.words search.bytes ≡ Ok (Synthesise w t) → search.status ≡ Done
     → check.words ≡ codes "check" ∷ [] → search.now ≡ search.before ++ check.bytes → length check.bytes ≤ limit → FilesStay search.files_after check.files
-    → (check.status ≡ Done) ⊎ IsFree check.status
+    → (check.status ≡ Done) ⊎ ((check.status ≡ SinkFailed) ⊎ IsSilent check.status)
 verified_again search check a b c d e f searching checking w t asks done words written short stay =
-    let owed = (searching.agrees (inl refl) refl refl).proved w t asks done in
-    let wrote : Synthesises w t owed.0 = owed.1.says in
-    let report = wrote.report in
-    let text : check.bytes ≡ report_text report = append_cancel_left search.before check.bytes (report_text report) (sym written ∙ owed.2 ∙ ap (λ end. search.before ++ end) wrote.written) in
-    let proves : Proves report search.files search.files_after = owed.1.proves in
-    let fits : searchable (whole_question report.words report.topology) ≡ Ok tt = rw (wrote.words, wrote.topology) (searched search.words search.bytes w t asks) in
-    let is_due : due check.words check.bytes ≡ Ok (Audit report) = check_due check.words check.bytes report words short (ap report_of text ∙ report_again report wrote.right.valid) fits in
+    let end = done_answered (Ok (Synthesise w t)) search (ended search a b c _ searching asks) done in
+    let report = end.answer.report in
+    let text : check.bytes ≡ report_text report = append_cancel_left search.before check.bytes (report_text report) (sym written ∙ end.written refl ∙ ap (λ text. search.before ++ text) end.answer.says.text) in
+    let proves : Proves report search.files search.files_after = end.answer.proves refl in
+    let fits : searchable (whole_question report.words report.topology) ≡ Ok tt = rw (end.answer.words, end.answer.topology) (searched search.words search.bytes w t asks) in
+    let is_due : due check.words check.bytes ≡ Ok (Audit report) = check_due check.words check.bytes report words short (ap report_of text ∙ report_again report end.answer.right.valid) fits in
     let shelf : ShelfRight report check.files = subst (ShelfRight report) (sym (files_are search.files_after check.files stay)) proves.shelf in
-    (checking.files (inl refl) refl).verified report is_due (nothing_denied report check.files wrote.right shelf)
+    audit_done report check (nothing_denied report check.files end.answer.right shelf) (ended check d e f _ checking is_due)

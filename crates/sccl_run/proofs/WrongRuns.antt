@@ -1,33 +1,40 @@
 -- Runs that are not right.
-use Rattle.std.proofs.Common.{◌≡◌, ◌≢◌, ℕ, ap, arith, subst, List, [], ◌∷◌, None, Some, Ok, inl, inr, refl, sym, ◌∙◌}
+use Rattle.std.proofs.Common.{◌≡◌, ◌≢◌, ℕ, zero, suc, Any, map, ap, arith, subst, List, [], ◌∷◌, None, Some, Ok, Err, inl, inr, refl, sym, ◌∙◌, codes, take}
+use Rattle.std.specs.Prelude.{bytes_eq}
 use Rattle.std.specs.Fmt.{digits}
-use Rattle.outer_ports.specs.declared.part.Part.TheVariants.{Whole}
+use Rattle.outer_ports.specs.declared.part.Part.{Part}
+use Rattle.outer_ports.specs.declared.part.Part.TheVariants.{Whole, Joined}
 use Rattle.outer_ports.specs.declared.proof_name.FileKind.TheVariants.{Cnf, Lrat}
-use Rattle.outer_ports.specs.Files.{Files}
 use Rattle.outer_ports.specs.declared.proof_name.ProofName.{ProofName}
+use Rattle.outer_ports.specs.Files.{Files}
 use Rattle.topology_text.specs.declared.family_kind.FamilyKind.TheVariants.{Line}
 use Rattle.topology_text.specs.Family.{family_of}
-use Rattle.topology_text.specs.Reading.{pattern_at, topology_of, topology_at}
+use Rattle.topology_text.specs.Reading.{pattern_at, topology_of, topology_at, named_at}
 use Rattle.collective_spec.specs.declared.kind.Kind.TheVariants.{Broadcast}
 use Rattle.command_words.specs.declared.command.Command.TheVariants as command
 use Rattle.command_words.specs.Words.{command_of}
-use Rattle.candidate_order.specs.Frontiers.{FrontierValue}
-use Rattle.report_form.specs.Reports.{WordsValue, question_of}
-use Rattle.schedule.specs.Rows.{send}
+use Rattle.candidate_order.specs.Frontiers.{FrontierValue, IsTried}
 use Rattle.candidate_order.specs.declared.mark.Mark.TheVariants.{Optimal}
+use Rattle.schedule.specs.Rows.{send}
+use Rattle.report_form.specs.Reports.{WordsValue, parts_of, question_of}
 use Rattle.report_form.specs.Rows.{broadcast_report, one_point, point}
 use Rattle.report_form.specs.Spelling.{report_text}
 use Rattle.report_form.specs.Points.{schedule_at, frontier_point_at, joined_point_at}
 use Rattle.report_form.specs.Reading.{body_of, frontier_at, report_of}
 use Rattle.report_laws.proofs.ReportAgain.{report_again}
-use Rattle.sccl_run.specs.Owed.{Synthesises}
-use Rattle.sccl_run.specs.declared.status.Status.{Status}
-use Rattle.sccl_run.specs.declared.status.Status.TheVariants.{Done, SourceFailed, OutOfMemory, BadReport}
-use Rattle.sccl_run.specs.Asked.{Ask, Reads}
-use Rattle.sccl_run.specs.Tasks.{Synthesise, due}
 use Rattle.frontier_audit.specs.OwedFiles.{IsKept, Proves}
-use Rattle.sccl_run.specs.TopCall.{CountValue, IsRun}
+use Rattle.run_rules.specs.declared.status.Status.{Status}
+use Rattle.run_rules.specs.declared.status.Status.TheVariants.{Done, SourceFailed, SinkFailed, ShelfFailed, OutOfMemory, BadReport}
+use Rattle.run_rules.specs.Commands.{Ask, Reads}
+use Rattle.run_rules.specs.Refusals.{Refusal, refusal_line, refused_at}
+use Rattle.run_rules.specs.Tasks.{Synthesise, due}
+use Rattle.run_rules.specs.Answers.{IsSearch}
+use Rattle.sccl_run.specs.Laws.{IsRightRun}
 use Rattle.sccl_run.specs.Rows.{all_tell, done_search, failed_search, no_files, own_file, refused_check}
+use Rattle.sccl_run.specs.TopCall.{CountValue, IsEnd, IsSilent, files_of}
+use Rattle.sccl_run.proofs.Ended.{ended}
+use Rattle.sccl_run.proofs.FamilyRuns.{differ}
+use Rattle.sccl_run.proofs.RightRuns.{answered, done_answered}
 
 some_name : ProofName
 some_name = record { kind = Cnf; part = Whole; s = 1; r = 1; c = 1 }
@@ -35,26 +42,64 @@ some_name = record { kind = Cnf; part = Whole; s = 1; r = 1; c = 1 }
 nothing_there : (A : Type 0) (x : A) → None ≡ Some x → ⊥
 nothing_there A x e = absurd (cc)
 
+something_there : (A : Type 0) (x : A) → Some x ≡ None → ⊥
+something_there A x e = absurd (cc)
+
+-- ---- a search that breaks off
+
 asked_words : WordsValue
 asked_words = record { collective = record { kind = Broadcast; root = 0 }; limits = record { k = 0; max_s = 1; max_c = 1; conflicts = 1000 } }
 
 is_search : (status : Status) → due (failed_search status).words (failed_search status).bytes ≡ Ok (Synthesise asked_words (family_of Line 2))
-unfolding due command_of topology_of topology_at pattern_at digits asked_words
+unfolding due command_of topology_of topology_at named_at pattern_at digits asked_words
 is_search status = refl
 
-pub unread_is_wrong : (source sink shelf : CountValue) → IsRun (failed_search SourceFailed) all_tell source sink shelf → ⊥
-unread_is_wrong source sink shelf run = nothing_there _ _ (run.call.behind_source refl some_name)
+pub unread_is_wrong : (a b c : CountValue) → IsRightRun (failed_search SourceFailed) a b c → ⊥
+unread_is_wrong a b c run = nothing_there _ _ (run.call.behind_source refl some_name)
 
-pub lost_is_wrong : (status : Status) → status ≢ Done → (source sink shelf : CountValue) → IsRun (failed_search status) all_tell source sink shelf → ⊥
-lost_is_wrong status broken source sink shelf run =
-    elim ((run.files (inl refl) refl).broken_off asked_words (family_of Line 2) (is_search status) broken some_name) [
+-- no file of the part that is joined belongs to a report of one part
+of_one_part : (xs : List (Part × FrontierValue)) → map (λ x. x.0) xs ≡ Whole ∷ [] → Any (λ x. (x.0 ≡ Joined) × IsTried x.1 (record { s = 1; r = 1; c = 1 })) xs → ⊥
+of_one_part [] e any = absurd (cc)
+of_one_part (x ∷ y ∷ xs) e any = absurd (cc)
+of_one_part (x ∷ []) e (zero, y, below, got, such) =
+    let whole : x.0 ≡ Whole = cc in
+    let same : x ≡ y = got in
+    let joined : x.0 ≡ Joined = ap (λ z. z.0) same ∙ such.0 in
+    let clash : Whole ≡ Joined = sym whole ∙ joined in
+    absurd (cc)
+of_one_part (x ∷ []) e (suc k, y, below, got, such) = absurd (omega (arith, below))
+
+joined_name : ProofName
+joined_name = record { kind = Cnf; part = Joined; s = 1; r = 1; c = 1 }
+
+-- a search that is done, or whose text was cut off, left the files of no other part
+not_whole : (status : Status) (said : Status) (text : List ℕ) → IsSearch asked_words (family_of Line 2) (files_of (failed_search status) all_tell) said text → ⊥
+unfolding asked_words joined_name
+not_whole status said text search =
+    let one : map (λ x. x.0) search.report.frontiers ≡ Whole ∷ [] = search.right.valid.parts ∙ ap (λ w. parts_of w.collective.kind) search.words in
+    nothing_there _ _ ((search.proves refl).others joined_name (of_one_part search.report.frontiers one))
+
+lost : (status : Status) → IsEnd (Ok (Synthesise asked_words (family_of Line 2))) (failed_search status) all_tell → ⊥
+lost status (inl end) = not_whole status status end.text end.answer
+lost status (inr (inl cut)) = not_whole status cut.status cut.text cut.answer
+lost status (inr (inr halt)) =
+    elim (halt.leaves refl some_name) [
       | inl same ↦ nothing_there _ _ same
       | inr begun ↦ nothing_there _ _ begun.stands
     ]
 
+pub lost_is_wrong : (status : Status) (a b c : CountValue) → IsRightRun (failed_search status) a b c → ⊥
+lost_is_wrong status a b c run = lost status (ended (failed_search status) a b c _ run (is_search status))
+
+-- ---- a text that is refused
+
 checks : Ask Reads (refused_check []).words
 unfolding command_of digits
-checks = record { command = command.Check; is = refl; such = tt }
+checks = record { command = command.Check; is = refl; such = refl }
+
+is_refused : due (refused_check []).words (refused_check []).bytes ≡ Err (refused_at BadReport 1 1)
+unfolding due command_of report_of body_of digits
+is_refused = refl
 
 other_than_memory : BadReport ≢ OutOfMemory
 other_than_memory e = absurd (cc)
@@ -62,15 +107,48 @@ other_than_memory e = absurd (cc)
 other_than_source : BadReport ≢ SourceFailed
 other_than_source e = absurd (cc)
 
-pub not_taken_is_wrong : (source sink shelf : CountValue) (byte : ℕ) (rest : List ℕ) → IsRun (refused_check (byte ∷ rest)) all_tell source sink shelf → ⊥
-not_taken_is_wrong source sink shelf byte rest run =
+pub not_taken_is_wrong : (a b c : CountValue) (byte : ℕ) (rest : List ℕ) → IsRightRun (refused_check (byte ∷ rest)) a b c → ⊥
+not_taken_is_wrong a b c byte rest run =
     let gone : byte ∷ rest ≡ [] = (run.left refl).read checks other_than_memory other_than_source in
     absurd (cc)
+
+loud : IsSilent BadReport → ⊥
+loud (inl e) = absurd (cc)
+loud (inr (inl e)) = absurd (cc)
+loud (inr (inr e)) = absurd (cc)
+
+line : refusal_line (refused_at BadReport 1 1) ≡ codes "refused 7 1 1\n"
+unfolding digits
+line = refl
+
+pub other_place_is_wrong : (a b c : CountValue) → IsRightRun (record (refused_check []) { now = codes "refused 7 1 2\n" }) a b c → ⊥
+other_place_is_wrong a b c run =
+    let x = record (refused_check []) { now = codes "refused 7 1 2\n" } in
+    let end = answered (Err (refused_at BadReport 1 1)) x (ended x a b c _ run is_refused) (λ e. let f : BadReport ≡ SinkFailed = e in cc) loud in
+    differ (bytes_eq (codes "refused 7 1 2\n")) (codes "refused 7 1 2\n") (codes "refused 7 1 1\n") refl refl (end.written refl ∙ end.answer.says.text ∙ line)
+
+pub changed_file_is_wrong : (a b c : CountValue) → IsRightRun (record (refused_check []) { files_after = λ name. Some [] }) a b c → ⊥
+changed_file_is_wrong a b c run = something_there _ _ (run.call.behind_refusals refl some_name)
+
+pub blamed_shelf_is_wrong : (a b c : CountValue) → IsRightRun (record (refused_check []) { status = ShelfFailed; now = [] }) a b c → ⊥
+blamed_shelf_is_wrong a b c run =
+    let x = record (refused_check []) { status = ShelfFailed; now = [] } in
+    elim (ended x a b c (Err (refused_at BadReport 1 1)) run is_refused) [
+      | inl end ↦ other_status end.answer.says.status
+      | inr (inl cut) ↦ not_cut cut.failed
+      | inr (inr halt) ↦ halt.shelf_last refl (refused_at BadReport 1 1) refl
+    ]
+  where
+    other_status : ShelfFailed ≡ BadReport → ⊥
+    other_status e = absurd (cc)
+
+    not_cut : ShelfFailed ≡ SinkFailed → ⊥
+    not_cut e = absurd (cc)
 
 -- ---- a search that ends well
 
 done_is_search : (files : Files) → due (done_search files).words (done_search files).bytes ≡ Ok (Synthesise asked_words (family_of Line 2))
-unfolding due command_of topology_of topology_at pattern_at digits asked_words
+unfolding due command_of topology_of topology_at named_at pattern_at digits asked_words
 done_is_search files = refl
 
 broadcast_read : report_of (report_text broadcast_report) ≡ Ok broadcast_report
@@ -78,14 +156,14 @@ unfolding report_of body_of report_text pattern_at schedule_at frontier_point_at
 broadcast_read = refl
 
 -- the one report whose text was written has its files there
-kept_there : (files : Files) (source sink shelf : CountValue) → IsRun (done_search files) all_tell source sink shelf → Proves broadcast_report no_files files
-kept_there files source sink shelf run =
-    let owed = (run.agrees (inl refl) refl refl).proved asked_words (family_of Line 2) (done_is_search files) refl in
-    let wrote : Synthesises asked_words (family_of Line 2) owed.0 = owed.1.says in
-    let text : report_text broadcast_report ≡ report_text wrote.report = owed.2 ∙ wrote.written in
-    let both : Ok wrote.report ≡ Ok broadcast_report = sym (report_again wrote.report wrote.right.valid) ∙ ap report_of (sym text) ∙ broadcast_read in
-    let same : wrote.report ≡ broadcast_report = cc in
-    subst (λ r. Proves r no_files files) same owed.1.proves
+kept_there : (files : Files) (a b c : CountValue) → IsRightRun (done_search files) a b c → Proves broadcast_report no_files files
+kept_there files a b c run =
+    let end = done_answered (Ok (Synthesise asked_words (family_of Line 2))) (done_search files) (ended (done_search files) a b c _ run (done_is_search files)) refl in
+    let wrote = end.answer.report in
+    let text : report_text broadcast_report ≡ report_text wrote = end.written refl ∙ end.answer.says.text in
+    let both : Ok wrote ≡ Ok broadcast_report = sym (report_again wrote end.answer.right.valid) ∙ ap report_of (sym text) ∙ broadcast_read in
+    let same : wrote ≡ broadcast_report = cc in
+    subst (λ r. Proves r no_files files) same (end.answer.proves refl)
 
 abbrev broadcast_frontier : FrontierValue
 broadcast_frontier = one_point (point 1 1 Optimal (1 ∷ []) (send 0 0 1 1 ∷ []))
@@ -93,13 +171,13 @@ broadcast_frontier = one_point (point 1 1 Optimal (1 ∷ []) (send 0 0 1 1 ∷ [
 first_kept : (files : Files) → Proves broadcast_report no_files files → IsKept Whole (question_of broadcast_report.words broadcast_report.topology Whole) files (broadcast_frontier)
 first_kept files proves = proves.kept 0 (Whole, broadcast_frontier) (omega arith)
 
-pub formula_lacks_is_wrong : (files : Files) (source sink shelf : CountValue) → files (own_file Cnf) ≡ None → IsRun (done_search files) all_tell source sink shelf → ⊥
-formula_lacks_is_wrong files source sink shelf none run =
-    let there = (first_kept files (kept_there files source sink shelf run)).solved 0 (record { s = 1; r = 1; c = 1 }) (omega arith) in
+pub formula_lacks_is_wrong : (files : Files) (a b c : CountValue) → files (own_file Cnf) ≡ None → IsRightRun (done_search files) a b c → ⊥
+formula_lacks_is_wrong files a b c none run =
+    let there = (first_kept files (kept_there files a b c run)).solved 0 (record { s = 1; r = 1; c = 1 }) (omega arith) in
     nothing_there _ _ (sym none ∙ there.0)
 
-pub stale_is_wrong : (files : Files) (byte : ℕ) (rest : List ℕ) (source sink shelf : CountValue) → files (own_file Lrat) ≡ Some (byte ∷ rest) → IsRun (done_search files) all_tell source sink shelf → ⊥
-stale_is_wrong files byte rest source sink shelf some run =
-    let there = (first_kept files (kept_there files source sink shelf run)).solved 0 (record { s = 1; r = 1; c = 1 }) (omega arith) in
+pub stale_is_wrong : (files : Files) (byte : ℕ) (rest : List ℕ) (a b c : CountValue) → files (own_file Lrat) ≡ Some (byte ∷ rest) → IsRightRun (done_search files) a b c → ⊥
+stale_is_wrong files byte rest a b c some run =
+    let there = (first_kept files (kept_there files a b c run)).solved 0 (record { s = 1; r = 1; c = 1 }) (omega arith) in
     let empty : Some (byte ∷ rest) ≡ Some [] = sym some ∙ there.1 in
     absurd (cc)

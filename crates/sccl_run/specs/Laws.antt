@@ -1,12 +1,27 @@
--- What follows for the reader of a report.
-use Rattle.std.specs.Prelude.{◌≡◌, ◌++◌, ℕ, List, Contains}
+-- What follows for the reader of a report, and what is due for the words of a replay, in words of reports and their texts.
+use Rattle.std.specs.Prelude.{◌≡◌, ◌≤◌, ◌++◌, ℕ, List, length, Contains, Option, Ok, Err}
 use Rattle.outer_ports.specs.declared.part.Part.{Part}
+use Rattle.outer_ports.specs.Shelf.{FilesStay}
 use Rattle.candidate_order.specs.declared.candidate.Candidate.{Candidate}
 use Rattle.candidate_order.specs.declared.mark.Mark.TheVariants.{Optimal}
 use Rattle.candidate_order.specs.Costs.{Better}
 use Rattle.candidate_order.specs.Frontiers.{PointValue, FrontierValue, IsSolvable, IsWithin}
-use Rattle.report_form.specs.Reports.{ReportValue, question_of}
+use Rattle.command_words.specs.declared.command.Command.TheVariants as command
+use Rattle.command_words.specs.Words.{command_of}
+use Rattle.report_form.specs.declared.fault.ReportCode.{ReportCode}
+use Rattle.report_form.specs.Answer.{code_number}
+use Rattle.report_form.specs.Reports.{ReportValue, IsReport, question_of}
 use Rattle.report_form.specs.Spelling.{report_text}
+use Rattle.report_form.specs.First.{FailsFirstAt}
+use Rattle.run_rules.specs.declared.status.Status.TheVariants.{BadReport}
+use Rattle.run_rules.specs.Refusals.{refused_at}
+use Rattle.run_rules.specs.Tasks.{due, limit}
+use Rattle.sccl_run.specs.TopCall.{CountValue, IsRun, RunValue}
+use Rattle.sccl_run.specs.Rows.{all_tell}
+
+-- the run is right, where every port tells
+abbrev pub IsRightRun : RunValue → CountValue → CountValue → CountValue → Type 0
+IsRightRun x source sink shelf = IsRun x all_tell source sink shelf (x.left ≡ x.bytes) (x.now ≡ x.before) (FilesStay x.files x.files_after)
 
 -- what is appended is the text of a report of which this holds
 pub record WritesWith (P : ReportValue → Type 0) (before now : List ℕ) : Type 0 where
@@ -19,3 +34,22 @@ abbrev pub NoneIsBetter : ReportValue → Type 0
 NoneIsBetter r =
     (part : Part) (f : FrontierValue) (p : PointValue) (y : Candidate) → Contains r.frontiers (part, f) → Contains f.points p → p.mark ≡ Optimal →
     IsWithin (question_of r.words r.topology part) y → Better y p.candidate → IsSolvable (question_of r.words r.topology part) y → ⊥
+
+-- ---- replays
+
+-- the words ask for the replay of the point of this number, in this order; that number is the word at this index
+pub record AskReplay (words : List (List ℕ)) (number word : ℕ) (order : Option ℕ) : Type 0 where
+  pub is : command_of words ≡ Ok (command.Replay number word order)
+
+-- the text of a valid report, which is not too long
+pub record IsTextOf (r : ReportValue) (bytes : List ℕ) : Type 0 where
+  pub valid : IsReport r
+  pub spelled : bytes ≡ report_text r
+  pub short : length bytes ≤ limit
+
+-- a text that is that of no report is refused at the first line at which it can no longer be one
+pub record IsRefusedText (words : List (List ℕ)) (bytes : List ℕ) : Type 0 where
+  pub code : ReportCode
+  pub line : ℕ
+  pub due : due words bytes ≡ Err (refused_at BadReport (code_number code) line)
+  pub first : FailsFirstAt bytes line

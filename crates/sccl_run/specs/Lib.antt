@@ -1,15 +1,4 @@
-pub mod Statuses
-pub mod Refusals
-pub mod Jobs
-pub mod Asked
-pub mod Tasks
-pub mod Owed
-pub mod TopCall
 pub mod Answering
-pub mod ReportTexts
-pub mod Searchable
-pub mod Plans
-pub mod Halts
-pub mod Reporting
+pub mod TopCall
 pub mod Rows
 pub mod Laws

@@ -7,25 +7,14 @@ use Rattle.outer_ports.specs.Files.{Files}
 use Rattle.report_form.specs.Rows.{broadcast_report}
 use Rattle.report_form.specs.Spelling.{report_text}
 use Rattle.candidate_formula.specs.Files.{file_of}
-use Rattle.sccl_run.specs.declared.status.Status.{Status}
-use Rattle.sccl_run.specs.declared.status.Status.TheVariants.{Done, BadReport}
+use Rattle.run_rules.specs.declared.status.Status.{Status}
+use Rattle.run_rules.specs.declared.status.Status.TheVariants.{Done, BadReport}
+use Rattle.run_rules.specs.Rows.{two_nodes_text, search}
 use Rattle.sccl_run.specs.TopCall.{RunValue, ToldValue}
 
 -- a shelf without files
 abbrev pub no_files : Files
 no_files name = None
-
--- the text of the topology of two nodes in a row
-abbrev pub two_nodes_text : List ℕ
-two_nodes_text = codes "topology 1\nnodes n0 n1\ngroup 1 n0>n1\ngroup 1 n1>n0\n"
-
--- one chunk is to go from the first of three nodes to the last
-abbrev pub moved_text : List ℕ
-moved_text = codes "topology 2\nnodes a b c\ngroup 1 a>b\ngroup 1 b>c\ncustom 1\nbefore 0 a\nafter 0 c\n"
-
--- the words of a search with one step and one chunk
-abbrev pub search : List ℕ → List (List ℕ) → List (List ℕ)
-search collective more = codes "synth" ∷ collective ∷ codes "k=0" ∷ codes "steps=1" ∷ codes "chunks=1" ∷ codes "conflicts=1000" ∷ more
 
 -- every port tells
 abbrev pub all_tell : ToldValue

@@ -1,79 +1,111 @@
-//! What a right run of the top call says.
+//! What a right run of the top call says, and runs that are not right.
 
-ghost use Rattle.std.specs.Prelude.{◌≡◌, ◌⊎◌, ◌≤◌, ◌∷◌, ◌++◌, ℕ, List, [], codes, length, Option, None, Some, Ok, Err};
+ghost use Rattle.std.specs.Prelude.{◌≡◌, ◌≢◌, ◌⊎◌, ◌≤◌, ◌∷◌, ◌++◌, ℕ, List, [], codes, length, Option, None, Some, Ok, Err};
 ghost use Rattle.topology_text.specs.Value.{NamedTopologyValue};
 ghost use Rattle.outer_ports.specs.declared.part.Part.{Part};
 ghost use Rattle.outer_ports.specs.Files.{Files};
 ghost use Rattle.outer_ports.specs.Shelf.{FilesStay};
 ghost use Rattle.candidate_order.specs.Frontiers.{PointValue};
+ghost use Rattle.point_replay.specs.Showing.{shown_in, shown_text};
 ghost use Rattle.report_form.specs.Reports.{IsReport, ReportValue, WordsValue};
 ghost use Rattle.report_form.specs.Numbered.{point_at};
 ghost use Rattle.report_form.specs.Spelling.{report_text};
-ghost use Rattle.sccl_run.specs.Refusals.{Refusal, refused_at};
-ghost use Rattle.sccl_run.specs.Reporting.{AskReplay, IsRefusedText, IsTextOf};
-ghost use Rattle.sccl_run.specs.Tasks.{Replay, Synthesise, due, limit};
-ghost use Rattle.sccl_run.specs.TopCall.{CountValue, IsFree, IsRun, RunValue, StatusIsDue, TextIsDue};
-ghost use Rattle.sccl_run.specs.Rows.{all_tell, done_search, failed_search, family_run, own_file, refused_check};
-ghost use Rattle.sccl_run.specs.Laws.{WritesWith, NoneIsBetter};
+ghost use Rattle.run_rules.specs.Commands.{Ask, Changes};
+ghost use Rattle.run_rules.specs.Refusals.{Refusal, refused_word};
+ghost use Rattle.run_rules.specs.Tasks.{Synthesise, Write, due, limit};
+ghost use Rattle.sccl_run.specs.TopCall.{CountValue, IsSilent, RunValue};
+ghost use Rattle.sccl_run.specs.Rows.{done_search, failed_search, family_run, own_file, refused_check};
+ghost use Rattle.sccl_run.specs.Laws.{AskReplay, IsRefusedText, IsRightRun, IsTextOf, NoneIsBetter, WritesWith};
 
-use crate::status::Status;
+use command_words::WordCode;
 use outer_ports::FileKind;
+use run_rules::Status;
+
+// ---- what a right run says
 
 /// What is refused is not done.
 pub fn refused_is_not_done()
-    ensures { (words : List (List ℕ)) (bytes : List ℕ) (status : Status) → StatusIsDue words bytes status → (r : Refusal) → due words bytes ≡ Err r → status ≡ Status.Done → ⊥ }
+    ensures { (x : RunValue) (a b c : CountValue) → IsRightRun x a b c → (r : Refusal) → due x.words x.bytes ≡ Err r → x.status ≡ Status.Done → ⊥ }
 {}
 
 /// The report that a search writes marks a point optimal only where no better candidate within the limits has a schedule.
 pub fn optimal_has_no_better()
-    ensures { (words : List (List ℕ)) (bytes before now : List ℕ) (status : Status) → TextIsDue words bytes before now status → (w : WordsValue) (t : NamedTopologyValue) → due words bytes ≡ Ok (Synthesise w t) → status ≡ Status.Done → WritesWith NoneIsBetter before now }
+    ensures { (x : RunValue) (a b c : CountValue) → IsRightRun x a b c → (w : WordsValue) (t : NamedTopologyValue) → due x.words x.bytes ≡ Ok (Synthesise w t) → x.status ≡ Status.Done → WritesWith NoneIsBetter x.before x.now }
 {}
 
-/// Some run is right: the words of a family, and its text.
-pub fn a_family_that_is_written_is_right()
-    ensures { (n : ℕ) → IsRun family_run all_tell (record { before = n; now = n }) (record { before = n; now = n }) (record { before = n; now = n }) }
+/// Only a command that changes files may change one.
+pub fn only_a_search_changes_files()
+    ensures { (x : RunValue) (a b c : CountValue) → IsRightRun x a b c → ¬ Ask Changes x.words → FilesStay x.files x.files_after }
 {}
 
-/// With the same words a run that ends well and writes nothing is not right.
-pub fn a_family_that_is_left_out_is_wrong()
-    ensures { (source sink shelf : CountValue) → IsRun (record family_run { now = [] }) all_tell source sink shelf → ⊥ }
-{}
-
-/// A search that breaks off and leaves every file gone is not right, whichever port failed, or where memory ran out.
-pub fn a_search_that_loses_files_is_wrong()
-    ensures source { (source sink shelf : CountValue) → IsRun (failed_search Status.SourceFailed) all_tell source sink shelf → ⊥ }
-    ensures shelf { (source sink shelf : CountValue) → IsRun (failed_search Status.ShelfFailed) all_tell source sink shelf → ⊥ }
-    ensures sink { (source sink shelf : CountValue) → IsRun (failed_search Status.SinkFailed) all_tell source sink shelf → ⊥ }
-    ensures memory { (source sink shelf : CountValue) → IsRun (failed_search Status.OutOfMemory) all_tell source sink shelf → ⊥ }
-{}
-
-/// A refusal of a text that was not taken from the source is not right, nor is one that leaves something behind it.
-pub fn a_refusal_that_takes_nothing_is_wrong()
-    ensures { (source sink shelf : CountValue) (byte : ℕ) (rest : List ℕ) → IsRun (refused_check (byte ∷ rest)) all_tell source sink shelf → ⊥ }
+/// A report that a search wrote is verified over the files that the search left, where it is not too long.
+pub fn what_a_search_wrote_is_verified()
+    ensures { (search check : RunValue) (a b c d e f : CountValue) → IsRightRun search a b c → IsRightRun check d e f
+        → (w : WordsValue) (t : NamedTopologyValue) → due search.words search.bytes ≡ Ok (Synthesise w t) → search.status ≡ Status.Done
+        → check.words ≡ codes "check" ∷ [] → search.now ≡ search.before ++ check.bytes → length check.bytes ≤ limit → FilesStay search.files_after check.files
+        → (check.status ≡ Status.Done) ⊎ ((check.status ≡ Status.SinkFailed) ⊎ IsSilent check.status) }
 {}
 
 /// What is due for the words of a replay: where the bytes are the text of a valid report, that its point is replayed where
 /// there is one; and where they are that of none, a refusal at the first line at which they can no longer be one.
 pub fn replays_are_due()
     ensures replayed { (words : List (List ℕ)) (number word : ℕ) (order : Option ℕ) → AskReplay words number word order → (bytes : List ℕ) (r : ReportValue) (p : Part × PointValue)
-        → IsTextOf r bytes → point_at r number ≡ Some p → due words bytes ≡ Ok (Replay r number p order) }
+        → IsTextOf r bytes → point_at r number ≡ Some p → due words bytes ≡ Ok (Write (shown_text number (shown_in r p) order)) }
     ensures unknown { (words : List (List ℕ)) (number word : ℕ) (order : Option ℕ) → AskReplay words number word order → (bytes : List ℕ) (r : ReportValue)
-        → IsTextOf r bytes → point_at r number ≡ None → due words bytes ≡ Err (refused_at Status.BadWords 9 word) }
+        → IsTextOf r bytes → point_at r number ≡ None → due words bytes ≡ Err (refused_word WordCode.UnknownPoint word) }
     ensures no_report { (words : List (List ℕ)) (number word : ℕ) (order : Option ℕ) → AskReplay words number word order → (bytes : List ℕ)
         → length bytes ≤ limit → ((r : ReportValue) → IsReport r → bytes ≡ report_text r → ⊥) → IsRefusedText words bytes }
+{}
+
+// ---- a run that is right, and runs that are not
+
+/// Some run is right: the words of a family, and its text.
+pub fn a_family_that_is_written_is_right()
+    ensures { (n : ℕ) → IsRightRun family_run (record { before = n; now = n }) (record { before = n; now = n }) (record { before = n; now = n }) }
+{}
+
+/// With the same words a run that ends well and writes nothing is not right, nor one that writes another text; and where the
+/// sink failed, what was written begins the text.
+pub fn a_family_that_is_left_out_is_wrong()
+    ensures nothing { (a b c : CountValue) → IsRightRun (record family_run { now = [] }) a b c → ⊥ }
+    ensures other { (a b c : CountValue) → IsRightRun (record family_run { now = codes "topology 1\nnodes n0 n1\ngroup 1 n0>n1\n" }) a b c → ⊥ }
+    ensures no_part { (a b c : CountValue) → IsRightRun (record family_run { status = Status.SinkFailed; now = codes "n" }) a b c → ⊥ }
+{}
+
+/// A run with the status of a port that it does not use is not right.
+pub fn a_family_that_blames_another_port_is_wrong()
+    ensures source { (a b c : CountValue) → IsRightRun (record family_run { status = Status.SourceFailed; now = [] }) a b c → ⊥ }
+    ensures shelf { (a b c : CountValue) → IsRightRun (record family_run { status = Status.ShelfFailed; now = [] }) a b c → ⊥ }
+{}
+
+/// A run that ran out of memory and wrote something is not right.
+pub fn a_run_without_memory_that_writes_is_wrong()
+    ensures { (a b c : CountValue) → IsRightRun (record family_run { status = Status.OutOfMemory }) a b c → ⊥ }
+{}
+
+/// A search that breaks off and leaves every file gone is not right, whichever port failed, or where memory ran out.
+pub fn a_search_that_loses_files_is_wrong()
+    ensures source { (a b c : CountValue) → IsRightRun (failed_search Status.SourceFailed) a b c → ⊥ }
+    ensures shelf { (a b c : CountValue) → IsRightRun (failed_search Status.ShelfFailed) a b c → ⊥ }
+    ensures sink { (a b c : CountValue) → IsRightRun (failed_search Status.SinkFailed) a b c → ⊥ }
+    ensures memory { (a b c : CountValue) → IsRightRun (failed_search Status.OutOfMemory) a b c → ⊥ }
 {}
 
 /// A search that ends well without the formula of a candidate that it solved is not right, nor is one that leaves something in
 /// a file in which nothing is owed.
 pub fn a_search_with_other_files_is_wrong()
-    ensures formula { (files : Files) (source sink shelf : CountValue) → files (own_file FileKind.Cnf) ≡ None → IsRun (done_search files) all_tell source sink shelf → ⊥ }
-    ensures stale { (files : Files) (byte : ℕ) (rest : List ℕ) (source sink shelf : CountValue) → files (own_file FileKind.Lrat) ≡ Some (byte ∷ rest) → IsRun (done_search files) all_tell source sink shelf → ⊥ }
+    ensures formula { (files : Files) (a b c : CountValue) → files (own_file FileKind.Cnf) ≡ None → IsRightRun (done_search files) a b c → ⊥ }
+    ensures stale { (files : Files) (byte : ℕ) (rest : List ℕ) (a b c : CountValue) → files (own_file FileKind.Lrat) ≡ Some (byte ∷ rest) → IsRightRun (done_search files) a b c → ⊥ }
 {}
 
-/// A report that a search wrote is verified over the files that the search left, where it is not too long.
-pub fn what_a_search_wrote_is_verified()
-    ensures { (search check : RunValue) (a b c d e f : CountValue) → IsRun search all_tell a b c → IsRun check all_tell d e f
-        → (w : WordsValue) (t : NamedTopologyValue) → due search.words search.bytes ≡ Ok (Synthesise w t) → search.status ≡ Status.Done
-        → check.words ≡ codes "check" ∷ [] → search.now ≡ search.before ++ check.bytes → length check.bytes ≤ limit → FilesStay search.files_after check.files
-        → (check.status ≡ Status.Done) ⊎ IsFree check.status }
+/// A refusal of a text that was not taken from the source is not right, nor is one that leaves something behind it.
+pub fn a_refusal_that_takes_nothing_is_wrong()
+    ensures { (a b c : CountValue) (byte : ℕ) (rest : List ℕ) → IsRightRun (refused_check (byte ∷ rest)) a b c → ⊥ }
+{}
+
+/// A refusal that names another place is not right, nor one that changes a file, nor is a shelf blamed before a refusal.
+pub fn a_refusal_that_says_or_does_more_is_wrong()
+    ensures place { (a b c : CountValue) → IsRightRun (record (refused_check []) { now = codes "refused 7 1 2\n" }) a b c → ⊥ }
+    ensures file { (a b c : CountValue) → IsRightRun (record (refused_check []) { files_after = λ name. Some [] }) a b c → ⊥ }
+    ensures shelf { (a b c : CountValue) → IsRightRun (record (refused_check []) { status = Status.ShelfFailed; now = [] }) a b c → ⊥ }
 {}

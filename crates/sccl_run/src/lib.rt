@@ -1,25 +1,11 @@
 //! The top call: what is written, and with which status the program ends, for its words and what it reads.
 #![tactic(auto)]
 
-mod answer;
-mod checking;
-mod halt;
-mod jobs;
+mod commands;
+mod family;
 mod laws;
-mod planning;
-mod points;
-mod programming;
-mod reading;
-mod replaying;
-mod report_text;
-mod status;
-mod synth;
-#[cfg(test)]
-mod tests;
+mod source_text;
 mod toplevel;
-mod trying;
-mod unsearchable;
-mod vectors;
 
 pub use command_words::{Command, RootWord, WordCode, WordFault, read_words};
 pub use laws::{
@@ -28,7 +14,5 @@ pub use laws::{
     a_search_with_other_files_is_wrong, optimal_has_no_better, refused_is_not_done,
     replays_are_due, what_a_search_wrote_is_verified,
 };
-pub use status::Status;
-pub use std::alloc::AllocError as OutOfMemory;
+pub use run_rules::{OutOfMemory, Status};
 pub use toplevel::run;
-pub use vectors::{reports_due, searches_due, sizes, words_due};

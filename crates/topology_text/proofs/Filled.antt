@@ -14,7 +14,7 @@ use Rattle.topology_text.specs.declared.fault.TopologyCode.{TopologyCode}
 use Rattle.topology_text.specs.Names.{is_name, AreNames}
 use Rattle.topology_text.specs.Value.{NamedTopologyValue, IsNamed, named_with}
 use Rattle.topology_text.specs.Spelling.{header_words, nodes_words, group_words, custom_lines, lines_of}
-use Rattle.topology_text.specs.Reading.{begins, header_line, nodes_line, group_row, groups_from, groups_at, custom_line, holders_line, Pairs, holders_at, pattern_at, topology_at}
+use Rattle.topology_text.specs.Reading.{begins, header_line, nodes_line, group_row, groups_from, groups_at, custom_line, holders_line, Pairs, holders_at, pattern_at, named_at, topology_at}
 use Rattle.topology_text.proofs.Front.{head_words, head_is}
 use Rattle.topology_text.proofs.Groups.{Groups, groups_nil, group_take, groups_take, push_group, place, answer, after_group, line_taken}
 use Rattle.topology_text.proofs.PatternLines.{base_words, custom_take, named_words}
@@ -238,7 +238,7 @@ module _ (p : Place) (e : TopologyCode × ℕ) where
     by_nodes (inr (n, rn, there)) = by_groups n rn (bind_err (groups_at n.0 n.1) (after_groups h.0 n.0) e there)
 
   pub fill_topology : topology_at p ≡ Err e → TopologyFilled p e.1
-  unfolding topology_at
+  unfolding topology_at named_at
   fill_topology failed = by_header (bind_err (line_part header_line p) after_header e failed)
     where
       by_header : (line_part header_line p ≡ Err e) ⊎ ((h : Bool × Place) × (line_part header_line p ≡ Ok h) × (after_header h ≡ Err e)) → TopologyFilled p e.1

@@ -17,7 +17,7 @@ use Rattle.topology_text.specs.declared.fault.TopologyFault.{TopologyFault}
 use Rattle.topology_text.specs.Names.{AreNames}
 use Rattle.topology_text.specs.Value.{NamedTopologyValue, IsNamed, named_with}
 use Rattle.topology_text.specs.Spelling.{header_words, nodes_words, group_words, custom_lines, lines_of, spelling}
-use Rattle.topology_text.specs.Reading.{header_line, nodes_line, groups_at, pattern_at, topology_at, no_line, topology_of}
+use Rattle.topology_text.specs.Reading.{header_line, nodes_line, groups_at, pattern_at, named_at, topology_at, no_line, topology_of}
 use Rattle.topology_text.specs.Answer.{Answers}
 use Rattle.topology_text.proofs.Front.{Names, head_words, head_is, header_takes, header_again, nodes_line_take, nodes_again, nodes_are_words}
 use Rattle.topology_text.proofs.Groups.{Groups, groups_nil, group_rows, place, line_taken, part_again, EndsGroups, groups_take, groups_again, group_is_words}
@@ -52,6 +52,11 @@ nodes_taken p x e =
     let (passed, place_is) = part_ok nodes_line p x e in
     let row = (nodes_line_take (first p.rows) x.0 passed).0 in
     line_taken nodes_line p x (row_of (nodes_words x.0)) e (λ y read. row)
+
+pub named_are : (q : Place) (names : List (List ℕ)) (groups : List GroupValue) (custom : Option PatternValue) (rest : Place) → AreNames names → groups_at names q ≡ Ok (groups, rest) → IfSome custom (IsPattern (length names)) → IsNamed (named_with names groups custom)
+named_are q names groups custom rest ok e2 pattern =
+    let taken = groups_take names [] q.number q.rows groups rest e2 (groups_nil (length names)) in
+    named_valid names groups custom ok taken.valid pattern
 
 pub parts_are : (p q : Place) (names : List (List ℕ)) (groups : List GroupValue) (custom : Option PatternValue) (rest : Place) → line_part nodes_line p ≡ Ok (names, q) → groups_at names q ≡ Ok (groups, rest) → IfSome custom (IsPattern (length names)) → IsNamed (named_with names groups custom)
 parts_are p q names groups custom rest e1 e2 pattern =
@@ -103,7 +108,7 @@ length-topology_rows t =
     omega (arith, length-map (lines_of t) row_of, length-append (map (group_words t.names) t.topology.groups) (custom_lines t.names t.custom), length-map t.topology.groups (group_words t.names))
 
 pub topology_take : (p : Place) (t : NamedTopologyValue) (rest : Place) → topology_at p ≡ Ok (t, rest) → TopologyTaken p t rest
-unfolding topology_at
+unfolding topology_at named_at
 topology_take p t rest e =
     let (h, e1, k1) = bind_ok (line_part header_line p) after_header (t, rest) e in
     let (n, e2, k2) = bind_ok (line_part nodes_line h.1) (after_names h.0) (t, rest) k1 in
@@ -142,7 +147,7 @@ pattern_is t ok =
     subst P (sym ok.as_many) ok.custom
 
 pub topology_again : (n : ℕ) (t : NamedTopologyValue) (rest : List Row) → IsNamed t → EndsGroups rest → topology_at (place n (topology_rows t ++ rest)) ≡ Ok (t, place (n + length (topology_rows t)) rest)
-unfolding topology_at
+unfolding topology_at named_at
 topology_again n t rest ok ends =
     let groups = t.topology.groups in
     let names = t.names in

@@ -9,7 +9,7 @@ use Rattle.collective_spec.specs.Patterns.{PatternValue}
 use Rattle.topology_text.specs.declared.fault.TopologyCode.{TopologyCode}
 use Rattle.topology_text.specs.declared.fault.TopologyCode.TheVariants.{BadLine}
 use Rattle.topology_text.specs.Value.{NamedTopologyValue, named_with}
-use Rattle.topology_text.specs.Reading.{begins, header_line, nodes_line, group_row, groups_from, groups_at, custom_line, holders_line, Pairs, holders_at, pattern_of, pattern_at, topology_at, no_line}
+use Rattle.topology_text.specs.Reading.{begins, header_line, nodes_line, group_row, groups_from, groups_at, custom_line, holders_line, Pairs, holders_at, pattern_of, pattern_at, named_at, topology_at, no_line}
 use Rattle.topology_text.proofs.Groups.{place}
 use Rattle.topology_text.proofs.HolderLines.{pushed, no_pairs}
 use Rattle.topology_text.proofs.Laws.{after_topology}
@@ -116,7 +116,7 @@ abbrev from_header : Bool → Place → Result (NamedTopologyValue × Place) (To
 from_header patterned p = line_part nodes_line p >>= (λ x. from_names patterned x.0 x.1)
 
 pub steady_topology : Steady topology_at topology_at
-unfolding topology_at
+unfolding topology_at named_at
 steady_topology =
     steady_then (line_part header_line) (line_part header_line) from_header from_header (steady_line header_line)
     (λ patterned. steady_then (line_part nodes_line) (line_part nodes_line) (from_names patterned) (from_names patterned) (steady_line nodes_line)

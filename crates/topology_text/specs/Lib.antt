@@ -5,3 +5,4 @@ pub mod Reading
 pub mod First
 pub mod Answer
 pub mod Family
+pub mod FamilyWords

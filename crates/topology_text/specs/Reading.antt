@@ -180,13 +180,18 @@ pattern_at true names p = do
 
 -- ---- a topology at a place, and the place behind it
 
+-- the rest of a topology, behind its names
+unfoldable pub named_at : Bool → List (List ℕ) → Place → Result (NamedTopologyValue × Place) (TopologyCode × ℕ)
+named_at patterned names p = do
+  groups ← groups_at names p
+  pattern ← pattern_at patterned names groups.1
+  Ok (named_with names groups.0 pattern.0, pattern.1)
+
 unfoldable pub topology_at : Place → Result (NamedTopologyValue × Place) (TopologyCode × ℕ)
 topology_at p = do
   header ← line_part header_line p
   names ← line_part nodes_line header.1
-  groups ← groups_at names.0 names.1
-  pattern ← pattern_at header.0 names.0 groups.1
-  Ok (named_with names.0 groups.0 pattern.0, pattern.1)
+  named_at header.0 names.0 names.1
 
 -- nothing follows the topology
 abbrev pub no_line : Option Row → Result (Unit {0}) TopologyCode

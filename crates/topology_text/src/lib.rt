@@ -4,6 +4,7 @@
 
 mod families;
 mod family_kind;
+mod family_word;
 mod fault;
 mod group_line;
 mod link_word;

@@ -5,19 +5,43 @@ ghost use Rattle.text_lines.specs.Check.{Gives};
 ghost use Rattle.topology_text.specs.declared.fault.TopologyCode.{TopologyCode};
 ghost use Rattle.topology_text.specs.Value.{NamedTopologyValue, IsNamed};
 ghost use Rattle.topology_text.specs.Spelling.{spelling};
-ghost use Rattle.topology_text.specs.Reading.{topology_at, topology_of};
+ghost use Rattle.topology_text.specs.Names.{AreNames};
+ghost use Rattle.topology_text.specs.Reading.{named_at, topology_at, topology_of};
 ghost use Rattle.topology_text.specs.First.{FailsFirstAt};
 ghost use Rattle.topology_text.specs.Answer.{Answers};
 
 use crate::fault::{TopologyCode, TopologyFault};
+use crate::name::Name;
 use crate::named_topology::NamedTopology;
 use crate::parts::{groups_part, header_part, nodes_part};
 use crate::pattern::pattern_part;
+use indexmap::IndexSet;
 use std::alloc::Global;
 use text_lines::{Lines, Stop};
 
-/// Takes a topology off the front of the lines: its groups end at the first line that doesn't begin `group `, and in
-/// version 2 its pattern follows.
+/// Takes what follows the names: the groups end at the first line that doesn't begin `group `, and in version 2 the
+/// pattern follows.
+#[tactic(auto, unfolding(crate::specs::Reading::named_at))]
+fn named_part(
+    alloc: Global,
+    text: &[u8],
+    patterned: bool,
+    names: &IndexSet<Name>,
+    lines: &mut Lines<'_>,
+) -> Result<NamedTopology, Stop<(TopologyCode, u32)>>
+    requires same { lines.old.text ≡ text.now }
+    requires names { AreNames names.now.keys }
+    requires room { lines.old.place.number + 290 < 2 ^ 32 }
+    ensures read { Gives (λ t. (t, lines.new.place)) result (named_at patterned names.now.keys lines.old.place) }
+    ensures text { lines.new.text ≡ lines.old.text }
+    ensures moved { OnOk result (lines.new.place.number ≤ lines.old.place.number + 289) }
+{
+    let groups = groups_part(alloc, text, names, lines)?;
+    let custom = pattern_part(alloc, text, patterned, names, lines)?;
+    Ok(NamedTopology::from_parts(alloc, names, groups, custom)?)
+}
+
+/// Takes a topology off the front of the lines.
 #[tactic(auto, unfolding(crate::specs::Reading::topology_at))]
 pub fn topology_part(
     alloc: Global,
@@ -32,9 +56,7 @@ pub fn topology_part(
 {
     let patterned = header_part(text, lines).map_err(Stop::Refused)?;
     let names = nodes_part(alloc, text, lines)?;
-    let groups = groups_part(alloc, text, &names, lines)?;
-    let custom = pattern_part(alloc, text, patterned, &names, lines)?;
-    Ok(NamedTopology::from_parts(alloc, &names, groups, custom)?)
+    named_part(alloc, text, patterned, &names, lines)
 }
 
 #[tactic(auto, unfolding(crate::specs::Reading::topology_of))]

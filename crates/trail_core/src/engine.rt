@@ -69,13 +69,16 @@ impl Model for Core {
 }
 
 impl Core {
-    /// A core of so many variables, numbered from 1, with no clause, all of them open. `Err` comes only where memory runs out.
-    pub fn new(alloc: Global, vars: u32) -> Result<Core, AllocError>
+    /// A core of so many variables, numbered from 1, with no clause, all of them open. For each literal's number it is told in
+    /// how many clauses the literal is to stand, for which it makes room; it takes fewer and more of them too. `Err` comes only
+    /// where memory runs out.
+    pub fn new(alloc: Global, vars: u32, occurrences: &[u32]) -> Result<Core, AllocError>
+        requires { length occurrences.now ≡ 2 * vars + 2 }
         ensures { IfOk result (λ c. c ≡ record { vars = vars; clauses = []; trail = []; limits = [] }) }
     {
         Ok(Core {
             store: ClauseStore::new(alloc),
-            lists: WatchLists::new(alloc, vars)?,
+            lists: WatchLists::new(alloc, occurrences)?,
             trail: Trail::new(alloc, vars)?,
             head: 0,
             short: Vec::new(alloc),

@@ -26,18 +26,17 @@ impl Model for WatchLists {
 }
 
 impl WatchLists {
-    /// Empty lists for the literals of so many variables.
-    pub fn new(alloc: Global, vars: u32) -> Result<WatchLists, AllocError>
-        ensures { IfOk result (λ w. (length w.lists ≡ 2 * vars + 2) × (length w.rooms ≡ 2 * vars + 2) × ((k : ℕ) → list_at w.lists k ≡ []) × (length w.uses ≡ 2 * vars + 2) × ((k : ℕ) → slice_index w.uses k ≡ 0)) }
+    /// Empty lists, each with room for so many clauses.
+    pub fn new(alloc: Global, rooms: &[u32]) -> Result<WatchLists, AllocError>
+        ensures { IfOk result (λ w. (length w.lists ≡ length rooms.now) × (length w.rooms ≡ length rooms.now) × ((k : ℕ) → list_at w.lists k ≡ []) × (length w.uses ≡ length rooms.now) × ((k : ℕ) → slice_index w.uses k ≡ 0)) }
     {
-        let count = 2 * vars as usize + 2;
-        let mut lists = Vec::with_capacity(alloc, count)?;
-        for _ in 0..count {
-            lists.push_reserved(Vec::new(alloc));
+        let mut lists = Vec::with_capacity(alloc, rooms.len())?;
+        for room in rooms {
+            lists.push_reserved(Vec::with_capacity(alloc, *room as usize)?);
         }
         Ok(WatchLists {
             lists,
-            uses: vec![in alloc; 0u32; count]?,
+            uses: vec![in alloc; 0u32; rooms.len()]?,
         })
     }
 

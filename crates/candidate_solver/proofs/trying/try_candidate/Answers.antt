@@ -1,5 +1,6 @@
 use Rattle.std.proofs.Common.{sym, subst}
 use Rattle.candidate_order.specs.Frontiers.{QuestionValue, instance_for}
+use Rattle.candidate_formula.specs.Formulas.{formula_for}
 use Rattle.candidate_solver.specs.Asked.{asked}
 use Rattle.candidate_solver.specs.Trying.{BeginsOwn, IsSearch, Says, IsOutcome}
 use Rattle.candidate_solver.proofs.Begun.{begins_trans}
@@ -67,7 +68,7 @@ returns-clause-outcome g c =
     let x = c.args.candidate in
     let found = c.in_ok-found.found in
     both_ok c.keep.result _ _ _
-    (λ attempt lines says. subst (λ ls. IsOutcome q x ls attempt.outcome) (sym lines)
+    (λ attempt lines says. subst (λ ls. IsOutcome q x (formula_for q x) ls attempt.outcome) (sym lines)
     (outcome_by q x c.in_ok-encoding.encoding found.lines.items found.answer c.conflicts-limit.result attempt.outcome question.small
     (c.in_ok-encoding.ensures.formula question.limits) c.conflicts-limit.ensures.conflicts (c.in_ok-encoding.ensures.encoding question.limits) c.in_ok-found.ensures.search says))
     c.keep.ensures.lines c.keep.ensures.says

@@ -126,8 +126,8 @@ resolve-requires-clause-kept c =
     let within = place_below core 3 w from inv.sorted inv.passed some inv.within in
     inv.sorted.kept
 
-pub resolve-requires-clause-waits : goal.resolve-requires-clause-waits
-resolve-requires-clause-waits c =
+pub resolve-requires-clause-new : goal.resolve-requires-clause-new
+resolve-requires-clause-new c =
     let core = c.args.core.now in
     let w : WalkValue = value_of c.loop-walk.walk in
     let inv = c.loop-walk.invariant in
@@ -200,7 +200,7 @@ loop-walk-preserved-in-Continue-1 c =
     record {
       sorted = c.in_ok-resolve.ensures.sorted;
       onward = onward_then (value_of c.args.walk.now) w (value_of c.resolve.new.walk) inv.onward (onward_counts w (value_of c.resolve.new.walk) w.open_ (w.zeros - 1) c.in_ok-resolve.ensures.onward);
-      same = same_open_then core (value_of c.args.walk.now) w (value_of c.resolve.new.walk) inv.same (same_open_counts core w (value_of c.resolve.new.walk) w.open_ (w.zeros - 1) (c.in_ok-resolve.ensures.bottom (c.is_waiting.ensures.0 c.if-is_waiting.true)));
+      same = same_open_then core (value_of c.args.walk.now) w (value_of c.resolve.new.walk) inv.same (same_open_counts core w (value_of c.resolve.new.walk) w.open_ (w.zeros - 1) (c.in_ok-resolve.ensures.below (λ some. let z = inv.sorted.marked.bottom (from - 1) within (c.is_waiting.ensures.0 c.if-is_waiting.true) in omega (arith, z, some))));
       within = omega (arith, inv.within);
       passed = c.in_ok-resolve.ensures.passed 3 (λ h. omega (arith, h)) (passed_counts core 3 w (from - 1 + 1) w.open_ (w.zeros - 1) at);
     }

@@ -133,8 +133,8 @@ resolve-requires-clause-kept c =
     let within = place_below core 1 w from inv.sorted inv.passed some inv.within in
     inv.sorted.kept
 
-pub resolve-requires-clause-waits : goal.resolve-requires-clause-waits
-resolve-requires-clause-waits c =
+pub resolve-requires-clause-new : goal.resolve-requires-clause-new
+resolve-requires-clause-new c =
     let core = c.args.core.now in
     let w : WalkValue = value_of c.loop-walk.walk in
     let inv = c.loop-walk.invariant in

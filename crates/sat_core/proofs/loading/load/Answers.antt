@@ -26,7 +26,7 @@ pub add_clause-requires-clause-within : goal.add_clause-requires-clause-within
 add_clause-requires-clause-within c =
     let base = c.args.formula.now in
     let about = read_about base.vars c.loop-number.number base.clauses c.clauses-clauses.result.now c.index-clauses-number.result c.lits.result.now c.clauses-clauses.ensures.limits c.clauses-clauses.ensures.clauses c.loop-number-test.true c.index-clauses-number.is c.lits.ensures in
-    let own = kept_about base.vars c.args.own c.lits.result.now c.in_ok-lits.lits.items c.requires about c.in_ok-lits.ensures.same c.in_ok-lits.ensures.lits in
+    let own = kept_about base.vars c.args.own c.lits.result.now c.once_each.new.kept.items c.requires about c.in_ok-once_each.ensures.same c.in_ok-once_each.ensures.lits in
     subst (λ n. IsClause n c.deref.result.now) (sym c.loop-number.invariant.vars) (subst (IsClause c.args.own) (sym c.deref.ensures.value) own)
 
 pub loop-number-preserved : goal.loop-number-preserved
@@ -39,7 +39,7 @@ loop-number-preserved c =
     let w : k < length base.clauses = omega (arith, c.loop-number-test.true, ap length e) in
     let clause = c.index-clauses-number.result in
     let is : get_or base.clauses k [] ≡ c.lits.result.now = get_or_default base.clauses k [] clause w ∙ sym (c.lits.ensures ∙ c.index-clauses-number.is ∙ ap (λ xs. get_or xs k clause) e) in
-    let same : IsSame (get_or base.clauses k []) c.deref.result.now = subst (λ xs. IsSame xs c.deref.result.now) (sym is) (subst (IsSame c.lits.result.now) (sym c.deref.ensures.value) c.in_ok-lits.ensures.same) in
+    let same : IsSame (get_or base.clauses k []) c.deref.result.now = subst (λ xs. IsSame xs c.deref.result.now) (sym is) (subst (IsSame c.lits.result.now) (sym c.deref.ensures.value) c.in_ok-once_each.ensures.same) in
     record {
       vars = ap (λ x. x.vars) ok ∙ c.loop-number.invariant.vars;
       bottom = ap (λ x. length x.limits) ok ∙ c.loop-number.invariant.bottom;

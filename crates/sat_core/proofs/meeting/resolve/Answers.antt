@@ -33,7 +33,7 @@ meet_all-requires-clause-sorted c =
     let at : x ≡ lit_at core p = place_read core c.trail.result.now p x c.trail.ensures.value c.requires.place c.index-trail-place.is in
     let reason = step_read core p x c.reason.result c.requires.formed c.requires.place at c.reason.ensures in
     let id = same_id (step_at core p).reason c.requires.implied.id c.unwrap-reason.result c.requires.implied.reason (reason ∙ c.unwrap-reason.ensures) in
-    let t : IsTaken core w p c.unwrap-reason.result = subst (IsTaken core w p) id (taken_by core w p c.requires.formed c.requires.place c.requires.implied c.requires.marked c.requires.kept c.requires.waits c.requires.open c.requires.zeros) in
+    let t : IsTaken core w p c.unwrap-reason.result = subst (IsTaken core w p) id (taken_by core w p c.requires.formed c.requires.place c.requires.implied c.requires.marked c.requires.kept c.requires.new c.requires.open c.requires.zeros) in
     let hint : ℤ = to_z w64 (of_z w64 c.hint.result) in
     let is = taken_is core w p c.var.result hint c.push.new.self.items (c.var.ensures.var ∙ ap (λ l. l.var) at) c.in_ok-push.ensures.items in
     subst (IsSorted core) (sym is) (taken_sorted core w p c.unwrap-reason.result hint t)
@@ -47,7 +47,7 @@ meet_all-requires-clause-met c =
     let at : x ≡ lit_at core p = place_read core c.trail.result.now p x c.trail.ensures.value c.requires.place c.index-trail-place.is in
     let reason = step_read core p x c.reason.result c.requires.formed c.requires.place at c.reason.ensures in
     let id = same_id (step_at core p).reason c.requires.implied.id c.unwrap-reason.result c.requires.implied.reason (reason ∙ c.unwrap-reason.ensures) in
-    let t : IsTaken core w p c.unwrap-reason.result = subst (IsTaken core w p) id (taken_by core w p c.requires.formed c.requires.place c.requires.implied c.requires.marked c.requires.kept c.requires.waits c.requires.open c.requires.zeros) in
+    let t : IsTaken core w p c.unwrap-reason.result = subst (IsTaken core w p) id (taken_by core w p c.requires.formed c.requires.place c.requires.implied c.requires.marked c.requires.kept c.requires.new c.requires.open c.requires.zeros) in
     let hint : ℤ = to_z w64 (of_z w64 c.hint.result) in
     let is = taken_is core w p c.var.result hint c.push.new.self.items (c.var.ensures.var ∙ ap (λ l. l.var) at) c.in_ok-push.ensures.items in
     λ o h. subst (λ y. IsSeen y o ⊎ IsFalse (trues core) o) (sym is) (taken_met core w p c.unwrap-reason.result hint t o h)
@@ -61,7 +61,7 @@ meet_all-requires-clause-id c =
     let at : x ≡ lit_at core p = place_read core c.trail.result.now p x c.trail.ensures.value c.requires.place c.index-trail-place.is in
     let reason = step_read core p x c.reason.result c.requires.formed c.requires.place at c.reason.ensures in
     let id = same_id (step_at core p).reason c.requires.implied.id c.unwrap-reason.result c.requires.implied.reason (reason ∙ c.unwrap-reason.ensures) in
-    let t : IsTaken core w p c.unwrap-reason.result = subst (IsTaken core w p) id (taken_by core w p c.requires.formed c.requires.place c.requires.implied c.requires.marked c.requires.kept c.requires.waits c.requires.open c.requires.zeros) in
+    let t : IsTaken core w p c.unwrap-reason.result = subst (IsTaken core w p) id (taken_by core w p c.requires.formed c.requires.place c.requires.implied c.requires.marked c.requires.kept c.requires.new c.requires.open c.requires.zeros) in
     let hint : ℤ = to_z w64 (of_z w64 c.hint.result) in
     let is = taken_is core w p c.var.result hint c.push.new.self.items (c.var.ensures.var ∙ ap (λ l. l.var) at) c.in_ok-push.ensures.items in
     t.known
@@ -75,13 +75,13 @@ meet_all-requires-clause-within c =
     let at : x ≡ lit_at core p = place_read core c.trail.result.now p x c.trail.ensures.value c.requires.place c.index-trail-place.is in
     let reason = step_read core p x c.reason.result c.requires.formed c.requires.place at c.reason.ensures in
     let id = same_id (step_at core p).reason c.requires.implied.id c.unwrap-reason.result c.requires.implied.reason (reason ∙ c.unwrap-reason.ensures) in
-    let t : IsTaken core w p c.unwrap-reason.result = subst (IsTaken core w p) id (taken_by core w p c.requires.formed c.requires.place c.requires.implied c.requires.marked c.requires.kept c.requires.waits c.requires.open c.requires.zeros) in
+    let t : IsTaken core w p c.unwrap-reason.result = subst (IsTaken core w p) id (taken_by core w p c.requires.formed c.requires.place c.requires.implied c.requires.marked c.requires.kept c.requires.new c.requires.open c.requires.zeros) in
     let hint : ℤ = to_z w64 (of_z w64 c.hint.result) in
     let is = taken_is core w p c.var.result hint c.push.new.self.items (c.var.ensures.var ∙ ap (λ l. l.var) at) c.in_ok-push.ensures.items in
     taken_within core w p c.unwrap-reason.result t
 
-pub returns-clause-bottom : goal.returns-clause-bottom
-returns-clause-bottom c =
+pub returns-clause-below : goal.returns-clause-below
+returns-clause-below c =
     let core = c.args.core.now in
     let w : WalkValue = value_of c.args.walk.now in
     let p = c.args.place in
@@ -89,7 +89,7 @@ returns-clause-bottom c =
     let at : x ≡ lit_at core p = place_read core c.trail.result.now p x c.trail.ensures.value c.requires.place c.index-trail-place.is in
     let reason = step_read core p x c.reason.result c.requires.formed c.requires.place at c.reason.ensures in
     let id = same_id (step_at core p).reason c.requires.implied.id c.unwrap-reason.result c.requires.implied.reason (reason ∙ c.unwrap-reason.ensures) in
-    let t : IsTaken core w p c.unwrap-reason.result = subst (IsTaken core w p) id (taken_by core w p c.requires.formed c.requires.place c.requires.implied c.requires.marked c.requires.kept c.requires.waits c.requires.open c.requires.zeros) in
+    let t : IsTaken core w p c.unwrap-reason.result = subst (IsTaken core w p) id (taken_by core w p c.requires.formed c.requires.place c.requires.implied c.requires.marked c.requires.kept c.requires.new c.requires.open c.requires.zeros) in
     let hint : ℤ = to_z w64 (of_z w64 c.hint.result) in
     let is = taken_is core w p c.var.result hint c.push.new.self.items (c.var.ensures.var ∙ ap (λ l. l.var) at) c.in_ok-push.ensures.items in
     let clause : List LitValue = get_or core.clauses c.unwrap-reason.result [] in
@@ -107,7 +107,7 @@ returns-clause-onward c =
     let at : x ≡ lit_at core p = place_read core c.trail.result.now p x c.trail.ensures.value c.requires.place c.index-trail-place.is in
     let reason = step_read core p x c.reason.result c.requires.formed c.requires.place at c.reason.ensures in
     let id = same_id (step_at core p).reason c.requires.implied.id c.unwrap-reason.result c.requires.implied.reason (reason ∙ c.unwrap-reason.ensures) in
-    let t : IsTaken core w p c.unwrap-reason.result = subst (IsTaken core w p) id (taken_by core w p c.requires.formed c.requires.place c.requires.implied c.requires.marked c.requires.kept c.requires.waits c.requires.open c.requires.zeros) in
+    let t : IsTaken core w p c.unwrap-reason.result = subst (IsTaken core w p) id (taken_by core w p c.requires.formed c.requires.place c.requires.implied c.requires.marked c.requires.kept c.requires.new c.requires.open c.requires.zeros) in
     let hint : ℤ = to_z w64 (of_z w64 c.hint.result) in
     let is = taken_is core w p c.var.result hint c.push.new.self.items (c.var.ensures.var ∙ ap (λ l. l.var) at) c.in_ok-push.ensures.items in
     let clause : List LitValue = get_or core.clauses c.unwrap-reason.result [] in
@@ -125,7 +125,7 @@ returns-clause-passed c =
     let at : x ≡ lit_at core p = place_read core c.trail.result.now p x c.trail.ensures.value c.requires.place c.index-trail-place.is in
     let reason = step_read core p x c.reason.result c.requires.formed c.requires.place at c.reason.ensures in
     let id = same_id (step_at core p).reason c.requires.implied.id c.unwrap-reason.result c.requires.implied.reason (reason ∙ c.unwrap-reason.ensures) in
-    let t : IsTaken core w p c.unwrap-reason.result = subst (IsTaken core w p) id (taken_by core w p c.requires.formed c.requires.place c.requires.implied c.requires.marked c.requires.kept c.requires.waits c.requires.open c.requires.zeros) in
+    let t : IsTaken core w p c.unwrap-reason.result = subst (IsTaken core w p) id (taken_by core w p c.requires.formed c.requires.place c.requires.implied c.requires.marked c.requires.kept c.requires.new c.requires.open c.requires.zeros) in
     let hint : ℤ = to_z w64 (of_z w64 c.hint.result) in
     let is = taken_is core w p c.var.result hint c.push.new.self.items (c.var.ensures.var ∙ ap (λ l. l.var) at) c.in_ok-push.ensures.items in
     let clause : List LitValue = get_or core.clauses c.unwrap-reason.result [] in

@@ -93,7 +93,7 @@ returns-clause-ready g c =
 
 pub returns-clause-guided : goal.returns-clause-guided
 returns-clause-guided g c = λ h.
-    guided_more c.args.core.now c.go_back.new.core _ c.in_ok-line.ensures.rested (c.go_back.ensures.decider ∙ c.learn-2.ensures ∙ c.requires.guided.decider) c.go_back.ensures.vars
+    guided_more c.args.core.now c.go_back.new.core _ c.in_ok-line.ensures.rested (c.turn.ensures.decider ∙ c.go_back.ensures.decider ∙ c.learn-2.ensures ∙ c.requires.guided.decider) (c.turn.ensures.same ∙ c.note.ensures ∙ c.requires.guided.probes) c.go_back.ensures.vars
 
 pub returns-then-is_empty-clause-written : goal.returns-then-is_empty-clause-written
 returns-then-is_empty-clause-written g c =
@@ -115,6 +115,15 @@ returns-clause-written g c =
 
 pub returns-in_err-go_back-clause-written : goal.returns-in_err-go_back-clause-written
 returns-in_err-go_back-clause-written g c =
+    let base = g.L.LedgerView.base c.args.ledger.now in
+    let lines = g.L.LedgerView.lines c.args.ledger.now in
+    let core = c.args.core.now in
+    let line = c.in_ok-line.line in
+    let t : IsTurn base lines core c.args.conflict line = record { ready = c.requires.ready; conflicts = c.requires.conflict; is = c.in_ok-line.ensures.learned } in
+    turn_written base _ lines _ core c.args.conflict line t c.learn.ensures.base c.in_ok-learn.ensures.lines
+
+pub returns-in_err-turn-clause-written : goal.returns-in_err-turn-clause-written
+returns-in_err-turn-clause-written g c =
     let base = g.L.LedgerView.base c.args.ledger.now in
     let lines = g.L.LedgerView.lines c.args.ledger.now in
     let core = c.args.core.now in

@@ -1,4 +1,4 @@
-use Rattle.sccl_run.proofs.ReportsDue.{replayed_is_due, unknown_is_due, no_report_is_refused}
+use Rattle.sccl_run.proofs.ReplaysDue.{no_report_is_refused, replayed_is_due, unknown_is_due}
 use Rattle.sccl_run.proofs.laws.replays_are_due.Goals as goal
 
 pub returns-clause-replayed : goal.returns-clause-replayed

@@ -1,81 +1,60 @@
 use Rattle.std.proofs.Common.{Err, ap, inl, inr, refl}
-use Rattle.command_words.specs.Words.{texts}
-use Rattle.sccl_run.specs.declared.status.Status.TheVariants.{OutOfMemory, ShelfFailed, SinkFailed, SourceFailed}
-use Rattle.sccl_run.proofs.Ending.{appended_as, call_ended, call_unread, call_unshelved, call_unwritten, part_appended_as, status_ended, text_ended, text_unread, text_unwritten, text_without_memory}
-use Rattle.sccl_run.proofs.FilesEnding.{agrees_in_part, agrees_silent, agrees_whole, files_broken, files_ended}
+use Rattle.command_words.specs.Words.{command_of, texts}
+use Rattle.run_rules.specs.declared.status.Status.TheVariants.{ShelfFailed, SinkFailed}
+use Rattle.sccl_run.proofs.Calls.{call_answered, call_cut_off, call_unread, call_unshelved, call_without_memory, given}
+use Rattle.sccl_run.proofs.Runs.{appended_as, left_read, left_unread, left_without_memory, part_of, run_answered, run_cut_off, run_halted}
 use Rattle.sccl_run.proofs.toplevel.run.Goals as goal
 
-pub returns-in-Ok-write_all-clause-call : goal.returns-in-Ok-write_all-clause-call
-returns-in-Ok-write_all-clause-call g c =
-    call_ended (texts c.args.words.now) _ _ _ _ _ _ c.in-Ok.answer.status c.in-Ok.ensures.ends (c.in-Ok.ensures.kept (λ e. cc)) c.in-Ok-write_all.ensures.kept (c.in-Ok.ensures.shelf_kept (λ e. cc)) c.in-Ok.ensures.untouched c.in-Ok.ensures.unopened c.in-Ok.ensures.refused
-
-pub returns-in-Ok-write_all-clause-status : goal.returns-in-Ok-write_all-clause-status
-returns-in-Ok-write_all-clause-status g c = λ known. status_ended (texts c.args.words.now) _ c.in-Ok.answer.status c.in-Ok.answer.text.items c.in-Ok.ensures.ends (c.in-Ok.ensures.says known)
-
-pub returns-in-Ok-write_all-clause-text : goal.returns-in-Ok-write_all-clause-text
-returns-in-Ok-write_all-clause-text g c = λ known told.
+pub returns-in-Ok-write_all-clause-run : goal.returns-in-Ok-write_all-clause-run
+returns-in-Ok-write_all-clause-run g c =
+    let words = texts c.args.words.now in
+    let a = c.in-Ok.ensures in
     let before = g.O.Sink.written c.args.sink.now in
-    text_ended (texts c.args.words.now) _ before (g.O.Sink.written c.write_all.new.sink) c.in-Ok.answer.status c.in-Ok.answer.text.items c.in-Ok.ensures.ends (c.in-Ok.ensures.says known)
-    (appended_as before (g.O.Sink.written c.write_all.new.sink) c.in-Ok.answer.text.items _ (c.in-Ok-write_all.ensures.whole told) c.deref.ensures.value)
+    let now = g.O.Sink.written c.write_all.new.sink in
+    let is = given (command_of words) c.in-Ok.answer.status a.ends in
+    run_answered _ _ _ _ _ _ _ _ c.in-Ok.answer.text.items
+    (call_answered words _ _ _ _ _ _ c.in-Ok.answer.status a.ends (a.kept (λ e. cc)) c.in-Ok-write_all.ensures.kept (a.shelf_kept (λ e. cc)) a.unread a.unopened a.behind_refusals)
+    (λ told. left_read words _ _ c.in-Ok.answer.status is.memory is.source (a.read told))
+    a.answers
+    (λ told. appended_as before now c.in-Ok.answer.text.items _ (c.in-Ok-write_all.ensures.whole told) c.deref.ensures.value)
 
-pub returns-in-Ok-write_all-clause-files : goal.returns-in-Ok-write_all-clause-files
-returns-in-Ok-write_all-clause-files g c = λ known shelf_told.
-    files_ended (texts c.args.words.now) _ (g.H.Shelf.file c.args.shelf.now) (g.H.Shelf.file c.answer.new.shelf) c.in-Ok.answer.status c.in-Ok.answer.text.items
-    (c.in-Ok.ensures.says known) (c.in-Ok.ensures.begins known shelf_told) (c.in-Ok.ensures.proves known shelf_told) (c.in-Ok.ensures.audits known shelf_told)
-
-pub returns-in-Ok-write_all-clause-agrees : goal.returns-in-Ok-write_all-clause-agrees
-returns-in-Ok-write_all-clause-agrees g c = λ known told shelf_told.
+pub returns-in-Ok-clause-run : goal.returns-in-Ok-clause-run
+returns-in-Ok-clause-run g c =
+    let words = texts c.args.words.now in
+    let a = c.in-Ok.ensures in
     let before = g.O.Sink.written c.args.sink.now in
-    agrees_whole (texts c.args.words.now) _ (g.H.Shelf.file c.args.shelf.now) (g.H.Shelf.file c.answer.new.shelf) before (g.O.Sink.written c.write_all.new.sink) c.in-Ok.answer.status c.in-Ok.answer.text.items (λ e. c.in-Ok.ensures.ends.given (inr (inr (inl e))))
-    (c.in-Ok.ensures.says known) (c.in-Ok.ensures.proves known shelf_told) (c.in-Ok.ensures.audits known shelf_told)
-    (appended_as before (g.O.Sink.written c.write_all.new.sink) c.in-Ok.answer.text.items _ (c.in-Ok-write_all.ensures.whole told) c.deref.ensures.value)
+    let now = g.O.Sink.written c.write_all.new.sink in
+    let part = part_of (g.O.Sink.tells c.write_all.new.sink) before now c.in-Ok.answer.text.items _ c.deref.ensures.value c.in-Err.ensures.prefix in
+    run_cut_off _ _ _ _ _ _ _ _ c.in-Ok.answer.status c.in-Ok.answer.text.items part.count
+    (call_cut_off words _ _ _ _ _ _ (a.kept (λ e. cc)) (c.in-Err.ensures.cause.rose refl) (a.shelf_kept (λ e. cc)) a.unread a.unopened)
+    (λ told. left_read words _ _ SinkFailed (λ e. cc) (λ e. cc) (a.read told))
+    refl a.answers part.written
 
-pub returns-in-Ok-clause-call : goal.returns-in-Ok-clause-call
-returns-in-Ok-clause-call g c =
-    call_unwritten (texts c.args.words.now) _ _ _ _ _ _ (c.in-Ok.ensures.kept (λ e. cc)) (c.in-Err.ensures.cause.rose refl) (c.in-Ok.ensures.shelf_kept (λ e. cc)) c.in-Ok.ensures.untouched c.in-Ok.ensures.unopened
+pub returns-in-Err-Memory-clause-run : goal.returns-in-Err-Memory-clause-run
+returns-in-Err-Memory-clause-run g c =
+    let words = texts c.args.words.now in
+    let a = c.in-Err-Memory.ensures in
+    run_halted _ _ _ _ _ _ _ _ c.in-Err-Memory.field-0
+    (call_without_memory words _ _ _ _ _ _ (a.kept (λ e. cc)) refl (a.shelf_kept (λ e. cc)) a.unread refl a.unopened)
+    (λ told. left_without_memory words _ _ (a.memory told (ap Err c.in-Err-Memory.field-0-is)))
+    (inl refl) (λ e. absurd (cc)) a.halts
 
-pub returns-in-Ok-clause-text : goal.returns-in-Ok-clause-text
-returns-in-Ok-clause-text g c = λ known told.
-    let part = c.in-Err.ensures.prefix told in
-    text_unwritten (texts c.args.words.now) _ (g.O.Sink.written c.args.sink.now) (g.O.Sink.written c.write_all.new.sink) c.in-Ok.answer.status c.in-Ok.answer.text.items part.0 (c.in-Ok.ensures.says known)
-    (part_appended_as (g.O.Sink.written c.args.sink.now) (g.O.Sink.written c.write_all.new.sink) c.in-Ok.answer.text.items _ part.0 part.2 c.deref.ensures.value)
-
-pub returns-in-Ok-clause-files : goal.returns-in-Ok-clause-files
-returns-in-Ok-clause-files g c = λ known shelf_told.
-    files_broken (texts c.args.words.now) _ (g.H.Shelf.file c.args.shelf.now) (g.H.Shelf.file c.answer.new.shelf) SinkFailed (inr (inr (inl refl))) (λ e. cc) (c.in-Ok.ensures.begins known shelf_told)
-
-pub returns-in-Ok-clause-agrees : goal.returns-in-Ok-clause-agrees
-returns-in-Ok-clause-agrees g c = λ known told shelf_told.
-    let part = c.in-Err.ensures.prefix told in
-    agrees_in_part (texts c.args.words.now) _ (g.H.Shelf.file c.args.shelf.now) (g.H.Shelf.file c.answer.new.shelf) (g.O.Sink.written c.args.sink.now) (g.O.Sink.written c.write_all.new.sink) c.in-Ok.answer.status c.in-Ok.answer.text.items part.0
-    (c.in-Ok.ensures.says known) (c.in-Ok.ensures.proves known shelf_told) (c.in-Ok.ensures.audits known shelf_told)
-    (part_appended_as (g.O.Sink.written c.args.sink.now) (g.O.Sink.written c.write_all.new.sink) c.in-Ok.answer.text.items _ part.0 part.2 c.deref.ensures.value)
-
-pub returns-in-Err-Memory-clause-text : goal.returns-in-Err-Memory-clause-text
-returns-in-Err-Memory-clause-text g c = λ known told. text_without_memory (texts c.args.words.now) _ _ _
-
-pub returns-in-Err-Memory-clause-files : goal.returns-in-Err-Memory-clause-files
-returns-in-Err-Memory-clause-files g c = λ known shelf_told.
-    files_broken (texts c.args.words.now) _ (g.H.Shelf.file c.args.shelf.now) (g.H.Shelf.file c.answer.new.shelf) OutOfMemory (inl refl) (λ e. cc) (c.in-Err-Memory.ensures.begins known shelf_told)
-
-pub returns-in-Err-Memory-clause-agrees : goal.returns-in-Err-Memory-clause-agrees
-returns-in-Err-Memory-clause-agrees g c = λ known told shelf_told. agrees_silent (texts c.args.words.now) _ _ _ _ _ OutOfMemory (inl refl)
-
-pub returns-in-Err-Source-clause-call : goal.returns-in-Err-Source-clause-call
-returns-in-Err-Source-clause-call g c =
+pub returns-in-Err-Source-clause-run : goal.returns-in-Err-Source-clause-run
+returns-in-Err-Source-clause-run g c =
+    let words = texts c.args.words.now in
+    let a = c.in-Err-Source.ensures in
     let failed = ap Err c.in-Err-Source.field-0-is in
-    call_unread (texts c.args.words.now) _ _ _ _ _ _ (c.in-Err-Source.ensures.reads failed) (c.in-Err-Source.ensures.failed failed) refl (c.in-Err-Source.ensures.shelf_kept (λ e. cc)) refl (c.in-Err-Source.ensures.unread failed)
+    run_halted _ _ _ _ _ _ _ _ c.in-Err-Source.field-0
+    (call_unread words _ _ _ _ _ _ (a.reads failed) (a.failed failed) refl (a.shelf_kept (λ e. cc)) refl (a.behind_source failed))
+    (λ told. left_unread words _ _ (a.part told failed))
+    (inr (inl refl)) (λ e. absurd (cc)) a.halts
 
-pub returns-in-Err-Source-clause-text : goal.returns-in-Err-Source-clause-text
-returns-in-Err-Source-clause-text g c = λ known told. text_unread (texts c.args.words.now) _ _ _
-
-pub returns-in-Err-Source-clause-agrees : goal.returns-in-Err-Source-clause-agrees
-returns-in-Err-Source-clause-agrees g c = λ known told shelf_told. agrees_silent (texts c.args.words.now) _ _ _ _ _ SourceFailed (inr (inl refl))
-
-pub returns-clause-agrees : goal.returns-clause-agrees
-returns-clause-agrees g c = λ known told shelf_told. agrees_silent (texts c.args.words.now) _ _ _ _ _ ShelfFailed (inr (inr refl))
-
-pub returns-clause-call : goal.returns-clause-call
-returns-clause-call g c =
+pub returns-clause-run : goal.returns-clause-run
+returns-clause-run g c =
+    let words = texts c.args.words.now in
+    let a = c.in-Err-Shelf.ensures in
     let failed = ap Err c.in-Err-Shelf.field-0-is in
-    call_unshelved (texts c.args.words.now) _ _ _ _ _ _ (c.in-Err-Shelf.ensures.opens failed) (c.in-Err-Shelf.ensures.kept (λ e. cc)) refl (c.in-Err-Shelf.ensures.shelf_failed failed) refl
+    run_halted _ _ _ _ _ _ _ _ c.in-Err-Shelf.field-0
+    (call_unshelved words _ _ _ _ _ _ (a.opens failed) (a.kept (λ e. cc)) refl (a.shelf_failed failed) a.unread refl)
+    (λ told. left_read words _ _ ShelfFailed (λ e. cc) (λ e. cc) (λ ask. a.behind told failed))
+    (inr (inr refl)) (λ e. c.in-Err-Shelf.field-0-is) a.halts

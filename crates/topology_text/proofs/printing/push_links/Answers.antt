@@ -1,8 +1,20 @@
-use Rattle.std.proofs.Common.{map, take}
+use Rattle.std.proofs.Common.{◌≡◌, ◌<◌, ◌+◌, ◌++◌, ◌∷◌, [], ℕ, List, length, map, take, get_or, ap, sym, ◌∙◌}
 use Rattle.std.specs.Io.{StartsWith}
+use Rattle.std.proofs.lemmas.List.{flat_map_more, map_push, take_more}
 use Rattle.topology_text.specs.Spelling.{link_word}
 use Rattle.topology_text.proofs.Printed.{fields, kept_behind, at_err}
 use Rattle.topology_text.proofs.printing.push_links.Goals as goal
+
+-- one more link
+links_more : (names : List (List ℕ)) (links : List (ℕ × ℕ)) (i : ℕ) (a b c : List ℕ) (d : ℕ × ℕ) → i < length links → b ≡ a ++ fields (map (link_word names) (take i links)) → c ≡ b ++ 32 ∷ link_word names (get_or links i d) → c ≡ a ++ fields (map (link_word names) (take (i + 1) links))
+links_more names links i a b c d within before now =
+    now ∙ ap (λ xs. xs ++ 32 ∷ link_word names (get_or links i d)) before
+    ∙ flat_map_more (λ w. 32 ∷ w) a (map (link_word names) (take i links)) (link_word names (get_or links i d))
+    ∙ ap (λ ws. a ++ fields ws) (sym (map_push (link_word names) (take i links) (get_or links i d)))
+    ∙ ap (λ xs. a ++ fields (map (link_word names) xs)) (sym (take_more links i d within))
+
+pub loop-from-preserved : goal.loop-from-preserved
+loop-from-preserved c = links_more c.args.names.now c.args.links.now c.loop-from.from-index c.args.out.now.items c.loop-from.out.items c.push_link.new.out.items (0, 0) c.loop-from-test.true c.loop-from.invariant (c.in_ok-push_link.ensures.appended)
 
 pub returns-in_err-push_link-clause-kept : goal.returns-in_err-push_link-clause-kept
 returns-in_err-push_link-clause-kept c =

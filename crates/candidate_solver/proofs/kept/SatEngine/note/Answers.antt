@@ -1,6 +1,10 @@
+use Rattle.candidate_order.specs.declared.candidate.Candidate.{Candidate}
 use Rattle.candidate_order.specs.Frontiers.{QuestionValue}
+use Rattle.cnf_formula.specs.Formulas.{FormulaValue}
+use Rattle.candidate_formula.specs.Formulas.{formula_for}
+use Rattle.candidate_formula.proofs.Exact.{formula_exact}
 use Rattle.candidate_solver.specs.Asked.{asked}
-use Rattle.candidate_solver.proofs.Settling.{right_more, exhausted_more, proved_last}
+use Rattle.candidate_solver.proofs.Noting.{right_more, exhausted_more, proved_last}
 use Rattle.candidate_solver.proofs.kept.SatEngine.note.Goals as goal
 
 pub invariant_of-self : goal.invariant_of-self
@@ -13,9 +17,12 @@ invariant_of-self c =
     let kind = c.args.kind in
     let lines = c.args.lines.items in
     let added = c.push_reserved.ensures.items in
+    let limit = e.question.limits.conflicts in
+    let formula : Candidate → FormulaValue = formula_for q in
+    let proved = c.requires.proved in
     record {
       named = e.named;
-      right = right_more q entries now x kind lines added e.question.small c.requires.within c.requires.proved e.right;
-      exhausted = exhausted_more q entries now x kind lines added c.requires.proved e.exhausted;
-      proved = proved_last q entries now x kind lines added c.requires.proved;
+      right = right_more formula entries now x kind lines limit added proved q (formula_exact q x e.question.small c.requires.within).1 e.right;
+      exhausted = exhausted_more formula entries now x kind lines limit added proved e.exhausted;
+      proved = proved_last formula entries now x kind lines limit added proved;
     }

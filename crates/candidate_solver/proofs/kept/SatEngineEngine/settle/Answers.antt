@@ -4,13 +4,15 @@ use Rattle.candidate_order.specs.declared.candidate.Candidate.{Candidate}
 use Rattle.candidate_order.specs.declared.outcome.Outcome.TheVariants as outcome
 use Rattle.candidate_order.specs.Frontiers.{QuestionValue}
 use Rattle.candidate_formula.specs.Formulas.{formula_for}
+use Rattle.candidate_formula.proofs.Exact.{formula_exact}
 use Rattle.candidate_solver.specs.Asked.{asked}
 use Rattle.engine_rules.specs.declared.settled.Settled.{Settled}
 use Rattle.engine_rules.specs.declared.settled.Settled.TheVariants as settled
 use Rattle.engine_rules.specs.Outcomes.{RecordValue, SpentOn}
 use Rattle.candidate_solver.specs.Kept.{HasFiles}
 use Rattle.candidate_solver.proofs.Begun.{begins_refl}
-use Rattle.candidate_solver.proofs.Settling.{EngineValue, IsSettled, settled_moves, settled_agrees, failed_moves, proved_by, not_solvable}
+use Rattle.candidate_solver.proofs.Settling.{EngineValue, IsSettled, settled_moves, settled_agrees, failed_moves}
+use Rattle.candidate_solver.proofs.Noting.{proved_by, not_solvable}
 use Rattle.candidate_solver.proofs.kept.SatEngineEngine.settle.Goals as goal
 
 pub returns-in_default-clause-moves : goal.returns-in_default-clause-moves
@@ -54,7 +56,7 @@ note-requires-clause-proved g c =
     let e = c.args.self.now in
     let q : QuestionValue = asked e.question in
     let attempt = c.in-Ok-try_candidate.field-0 in
-    proved_by q c.args.candidate attempt.lines.items attempt.outcome c.of.result c.of.ensures c.in-Ok-try_candidate.ensures.outcome
+    proved_by q c.args.candidate (formula_for q c.args.candidate) attempt.lines.items attempt.outcome c.of.result c.of.ensures c.in-Ok-try_candidate.ensures.outcome
 
 pub returns-in-Ok-try_candidate-clause-solved : goal.returns-in-Ok-try_candidate-clause-solved
 returns-in-Ok-try_candidate-clause-solved g c = λ schedule e.
@@ -67,7 +69,7 @@ returns-in-Ok-try_candidate-clause-refuted g c = λ e.
     let q : QuestionValue = asked engine.question in
     let attempt = c.in-Ok-try_candidate.field-0 in
     let same : attempt.outcome ≡ outcome.Refuted = cc in
-    not_solvable q c.args.candidate attempt.lines.items engine.question.small c.requires.within (c.in-Ok-try_candidate.ensures.outcome.refuted same)
+    not_solvable q c.args.candidate (formula_for q c.args.candidate) attempt.lines.items (formula_exact q c.args.candidate engine.question.small c.requires.within).1 (c.in-Ok-try_candidate.ensures.outcome.refuted same)
 
 pub returns-in-Ok-try_candidate-clause-unknown : goal.returns-in-Ok-try_candidate-clause-unknown
 returns-in-Ok-try_candidate-clause-unknown g c = λ n e.

@@ -1,0 +1,5 @@
+//! Runs with ample memory of public calls that can answer want of memory and that no command makes. The crate has tests alone.
+#![tactic(auto)]
+
+#[cfg(test)]
+mod tests;

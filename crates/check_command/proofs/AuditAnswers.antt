@@ -1,0 +1,55 @@
+-- What answers an audit, from its verdict.
+use Rattle.std.proofs.Common.{◌≡◌, ℕ, Bool, true, false, IsTrue, List, Ok, refl, sym, subst, ap, ◌∙◌}
+use Rattle.text_lines.specs.Check.{◌>>=◌}
+use Rattle.outer_ports.specs.Files.{Files}
+use Rattle.outer_ports.specs.Shelf.{FilesStay}
+use Rattle.report_form.specs.Reports.{ReportValue, IsReport}
+use Rattle.frontier_audit.specs.declared.verdict.AuditVerdict.{AuditVerdict}
+use Rattle.frontier_audit.specs.declared.verdict.AuditVerdict.TheVariants as audit
+use Rattle.frontier_audit.specs.Auditing.{audit_of}
+use Rattle.frontier_audit.specs.Beside.{IsVerdictOver}
+use Rattle.frontier_audit.specs.Rights.{HasLogs, IsRight}
+use Rattle.frontier_audit.proofs.Audited.{shelf_right}
+use Rattle.run_rules.specs.declared.status.Status.{Status}
+use Rattle.run_rules.specs.declared.status.Status.TheVariants.{Denied, Done}
+use Rattle.run_rules.specs.Tasks.{Audit, audit_in, searchable, whole_question}
+use Rattle.run_rules.specs.Audits.{audited, not_denied, verdict_status, verdict_text}
+use Rattle.run_rules.specs.Answers.{FilesValue, IsAnswer, IsAudit, Says, Stay}
+
+-- ---- a report whose search can be done is audited
+
+pub can_audit : (r : ReportValue) → searchable (whole_question r.words r.topology) ≡ Ok tt → audit_in r ≡ Ok (Audit r)
+can_audit r e = ap (λ x. x >>= (λ _. Ok (Audit r))) e
+
+-- ---- the files that the audit looked at
+
+-- some files with this verdict, which are those of the shelf where it tells them
+record HasVerdict (r : ReportValue) (verdict : AuditVerdict) (told : Bool) (shelf : Files) : Type 0 where
+  pub over : Files
+  pub are : IsTrue told → FilesStay shelf over
+  pub is : audit_of r over ≡ verdict
+
+has_verdict : (r : ReportValue) (verdict : AuditVerdict) (told : Bool) (shelf : Files) → (IsTrue told → verdict ≡ audit_of r shelf) → IsVerdictOver r verdict → HasVerdict r verdict told shelf
+has_verdict r verdict true shelf exact some = record { over = shelf; are = λ _ name. refl; is = sym (exact refl) }
+has_verdict r verdict false shelf exact some = record { over = some.files; are = λ told. absurd (cc); is = some.is }
+
+-- ---- the verdict
+
+verified_by : (verdict : AuditVerdict) (status : Status) (text : List ℕ) → Says (verdict_status (not_denied verdict)) (verdict_text (not_denied verdict)) status text → status ≡ Done → verdict ≡ audit.Verified
+verified_by audit.Verified status text says done = refl
+verified_by (audit.Denied reason part x) status text says done = let e : Denied ≡ Done = sym says.status ∙ done in absurd (cc)
+
+module _ (r : ReportValue) (files : FilesValue) (verdict : AuditVerdict) (status : Status) (text : List ℕ) (valid : IsReport r) (exact : IsTrue files.told → verdict ≡ audit_of r files.before) (some : IsVerdictOver r verdict)
+    (right : verdict ≡ audit.Verified → IsRight r) (logs : verdict ≡ audit.Verified → HasLogs r) (says : Says (verdict_status (not_denied verdict)) (verdict_text (not_denied verdict)) status text) (stay : Stay files) where
+  audit_answered : HasVerdict r verdict files.told files.before → IsAudit r files status text
+  unfolding audited
+  audit_answered has = record {
+    over = has.over;
+    are = has.are;
+    says = subst (λ v. Says (verdict_status (not_denied v)) (verdict_text (not_denied v)) status text) (sym has.is) says;
+    verified = λ done. let verified = verified_by verdict status text says done in record { right = right verified; logs = logs verified; shelf = shelf_right r has.over valid (has.is ∙ verified) };
+    stay = stay;
+  }
+
+  pub audit_answers : searchable (whole_question r.words r.topology) ≡ Ok tt → IsAnswer (audit_in r) files status text
+  audit_answers can = subst (λ due. IsAnswer due files status text) (sym (can_audit r can)) (audit_answered (has_verdict r verdict files.told files.before exact some))

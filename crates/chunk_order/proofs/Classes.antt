@@ -1,0 +1,131 @@
+-- Classes of chunks that are alike: each has a least chunk, and its chunks ascend.
+use Rattle.std.proofs.Common.{◌≡◌, ℕ, zero, suc, ◌+◌, ◌<◌, ◌≤◌, Bool, true, false, ◌||◌, ltb, List, [], ◌∷◌, refl, sym, ap, ◌∙◌, subst, ⊎_elim, arith}
+use Rattle.std.specs.Prelude.{filter}
+use Rattle.std.specs.List.{list_any, range_with_len, AllByRecursion}
+use Rattle.std.proofs.lemmas.Bool.{false≢true, cases_Bool, cases_eq, false_from_ne_true, not_from_false, ltb-true, lt-ltb}
+use Rattle.schedule.specs.Placed.{PlacementValue}
+use Rattle.schedule.proofs.First.{InOrder, InOrder-filter, each_weaker, each_filter}
+use Rattle.chunk_order.specs.Alike.{is_alike}
+use Rattle.chunk_order.specs.Ordering.{is_least, class_of, next_pairs}
+use Rattle.chunk_order.proofs.Alikeness.{alike_itself, alike_back, alike_both}
+use Rattle.chunk_order.proofs.Firsts.{first_from, first_no_later, first_passes}
+
+-- ---- a range and what passes a test in it
+
+pub range_low : (a b n : ℕ) → b ≤ a → AllByRecursion (λ k. b ≤ k) (range_with_len a n)
+range_low a b zero low = tt
+range_low a b (suc n) low = (low, range_low (a + 1) b n (omega (arith, low)))
+
+pub range_high : (a n top : ℕ) → a + n ≤ top → AllByRecursion (λ k. k < top) (range_with_len a n)
+range_high a zero top high = tt
+range_high a (suc n) top high = (omega (arith, high), range_high (a + 1) n top (omega (arith, high)))
+
+pub range_order : (a n : ℕ) → InOrder ltb (range_with_len a n)
+range_order a zero = tt
+range_order a (suc n) =
+    (each_weaker (λ k. a + 1 ≤ k) (λ k. ltb a k ≡ true) (λ k low. lt-ltb a k (omega (arith, low))) (range_with_len (a + 1) n) (range_low (a + 1) (a + 1) n (omega arith)), range_order (a + 1) n)
+
+pub none_in_range : (p : ℕ → Bool) (a n : ℕ) → ((k : ℕ) → a ≤ k → k < a + n → p k ≡ false) → list_any p (range_with_len a n) ≡ false
+none_in_range p a zero none = refl
+none_in_range p a (suc n) none =
+    ap (λ b. b || list_any p (range_with_len (a + 1) n)) (none a (omega arith) (omega arith))
+    ∙ none_in_range p (a + 1) n (λ k low high. none k (omega (arith, low)) (omega (arith, high)))
+
+pub passing : {X : Type 0} (p : X → Bool) (xs : List X) → AllByRecursion (λ x. p x ≡ true) (filter p xs)
+passing p [] = tt
+passing p (x ∷ xs) =
+    ⊎_elim
+    (λ (passes : p x ≡ true). rw passes (passes, passing p xs))
+    (λ (fails : p x ≡ false). rw fails (passing p xs))
+    (cases_Bool (p x))
+
+pub filter_at : (p : ℕ → Bool) (P : ℕ → Type 0) (a n k : ℕ) → AllByRecursion P (filter p (range_with_len a n)) → a ≤ k → k < a + n → p k ≡ true → P k
+filter_at p P a zero k each low high it = absurd (omega (arith, low, high))
+filter_at p P a (suc n) k each low high it =
+    ⊎_elim
+    (λ (passes : p a ≡ true).
+    let all : AllByRecursion P (a ∷ filter p (range_with_len (a + 1) n)) = rw passes at each in
+    ⊎_elim
+    (λ (here : k ≡ a). subst P (sym here) all.0)
+    (λ (later : k ≡ a → ⊥). filter_at p P (a + 1) n k all.1 (omega (arith, low, later)) (omega (arith, high)) it)
+    (cases_eq k a))
+    (λ (fails : p a ≡ false).
+    let rest : AllByRecursion P (filter p (range_with_len (a + 1) n)) = rw fails at each in
+    let past : k ≡ a → ⊥ = λ same. false≢true (sym fails ∙ ap p (sym same) ∙ it) in
+    filter_at p P (a + 1) n k rest (omega (arith, low, past)) (omega (arith, high)) it)
+    (cases_Bool (p a))
+
+-- ---- the least of a class
+
+pub record Leads (pre post : PlacementValue) (c : ℕ) : Type 0 where
+  pub leader : ℕ
+  pub low : leader ≤ c
+  pub alike : is_alike pre post leader c ≡ true
+  pub least : is_least pre post leader ≡ true
+
+pub leads : (pre post : PlacementValue) (c : ℕ) → Leads pre post c
+leads pre post c =
+    let p : ℕ → Bool = is_alike pre post c in
+    let l : ℕ = first_from p 0 (c + 1) in
+    let low : l ≤ c = first_no_later p 0 (c + 1) c (omega arith) (omega arith) (alike_itself pre post c) in
+    let passes : is_alike pre post c l ≡ true = first_passes p 0 (c + 1) (omega (arith, low)) in
+    record {
+      leader = l;
+      low = low;
+      alike = alike_back pre post c l passes;
+      least = not_from_false (list_any (is_alike pre post l) (range_with_len 0 l)) (none_in_range (is_alike pre post l) 0 l (λ k from to.
+          false_from_ne_true (is_alike pre post l k) (λ also.
+          let earlier : l ≤ k = first_no_later p 0 (c + 1) k (omega arith) (omega (arith, to, low)) (alike_both pre post c l k passes also) in
+          omega (arith, earlier, to))));
+    }
+
+-- ---- next pairs of a class
+
+pub record IsNext (pre post : PlacementValue) (leader : ℕ) (pair : ℕ × ℕ) : Type 0 where
+  pub less : pair.0 < pair.1
+  pub low : pair.1 < pre.chunks
+  pub first : is_alike pre post leader pair.0 ≡ true
+  pub second : is_alike pre post leader pair.1 ≡ true
+
+pub nexts_of_class : (pre post : PlacementValue) (leader : ℕ) → AllByRecursion (IsNext pre post leader) (next_pairs (class_of pre post leader))
+nexts_of_class pre post leader =
+    of_list (class_of pre post leader)
+    (each_filter (λ k. k < pre.chunks) (is_alike pre post leader) (range_with_len 0 pre.chunks) (range_high 0 pre.chunks pre.chunks (omega arith)))
+    (passing (is_alike pre post leader) (range_with_len 0 pre.chunks))
+    (InOrder-filter ltb (is_alike pre post leader) (range_with_len 0 pre.chunks) (range_order 0 pre.chunks))
+  where
+    of_list : (cs : List ℕ) → AllByRecursion (λ k. k < pre.chunks) cs → AllByRecursion (λ k. is_alike pre post leader k ≡ true) cs → InOrder ltb cs → AllByRecursion (IsNext pre post leader) (next_pairs cs)
+    of_list [] low alike order = tt
+    of_list (c ∷ []) low alike order = tt
+    of_list (c ∷ d ∷ ds) low alike order =
+        (record { less = ltb-true c d order.0.0; low = low.1.0; first = alike.0; second = alike.1.0 }, of_list (d ∷ ds) low.1 alike.1 order.1)
+
+-- ---- what holds of each next pair, and carries on, holds of each two
+
+-- the first has it with each later one
+abbrev pub Later : (ℕ → ℕ → Type 0) → List ℕ → Type 0
+Later R [] = Unit {0}
+Later R (c ∷ cs) = AllByRecursion (R c) cs × Later R cs
+
+pub chained : (R : ℕ → ℕ → Type 0) → ((a b c : ℕ) → R a b → R b c → R a c) → (cs : List ℕ) → AllByRecursion (λ pair. R pair.0 pair.1) (next_pairs cs) → Later R cs
+chained R both [] each = tt
+chained R both (c ∷ []) each = (tt, tt)
+chained R both (c ∷ d ∷ ds) each =
+    let rest : Later R (d ∷ ds) = chained R both (d ∷ ds) each.1 in
+    ((each.0, each_weaker (R d) (R c) (λ e after. both c d e each.0 after) ds rest.0), rest)
+
+pub later_at : (R : ℕ → ℕ → Type 0) (p : ℕ → Bool) (a n c d : ℕ) → Later R (filter p (range_with_len a n)) → a ≤ c → c < d → d < a + n → p c ≡ true → p d ≡ true → R c d
+later_at R p a zero c d later low less high first second = absurd (omega (arith, low, less, high))
+later_at R p a (suc n) c d later low less high first second =
+    ⊎_elim
+    (λ (passes : p a ≡ true).
+    let all : Later R (a ∷ filter p (range_with_len (a + 1) n)) = rw passes at later in
+    ⊎_elim
+    (λ (here : c ≡ a). subst (λ x. R x d) (sym here) (filter_at p (R a) (a + 1) n d all.0 (omega (arith, here, less)) (omega (arith, high)) second))
+    (λ (past : c ≡ a → ⊥). later_at R p (a + 1) n c d all.1 (omega (arith, low, past)) less (omega (arith, high)) first second)
+    (cases_eq c a))
+    (λ (fails : p a ≡ false).
+    let rest : Later R (filter p (range_with_len (a + 1) n)) = rw fails at later in
+    let past : c ≡ a → ⊥ = λ same. false≢true (sym fails ∙ ap p (sym same) ∙ first) in
+    later_at R p (a + 1) n c d rest (omega (arith, low, past)) less (omega (arith, high)) first second)
+    (cases_Bool (p a))

@@ -1,0 +1,27 @@
+use Rattle.candidate_order.specs.declared.candidate.Candidate.{Candidate}
+use Rattle.candidate_order.specs.Frontiers.{QuestionValue}
+use Rattle.cnf_formula.specs.Formulas.{FormulaValue}
+use Rattle.candidate_solver.specs.Asked.{asked}
+use Rattle.candidate_solver.proofs.Noting.{right_more, exhausted_more, proved_last}
+use Rattle.chunk_order.specs.Formulas.{ordered_formula_for}
+use Rattle.chunk_order.proofs.Exact.{ordered_exact}
+use Rattle.chunk_symmetry.proofs.engine.OrderedEngine.note.Goals as goal
+
+pub invariant_of-self : goal.invariant_of-self
+invariant_of-self c =
+    let e = c.args.self.now in
+    let q : QuestionValue = asked e.question in
+    let entries = e.entries.items in
+    let now = c.push_reserved.new.self.items in
+    let x = c.args.candidate in
+    let kind = c.args.kind in
+    let lines = c.args.lines.items in
+    let added = c.push_reserved.ensures.items in
+    let limit = e.question.limits.conflicts in
+    let formula : Candidate → FormulaValue = ordered_formula_for q in
+    let proved = c.requires.proved in
+    record {
+      right = right_more formula entries now x kind lines limit added proved q (ordered_exact q x e.question.small c.requires.within).1 e.right;
+      exhausted = exhausted_more formula entries now x kind lines limit added proved e.exhausted;
+      proved = proved_last formula entries now x kind lines limit added proved;
+    }

@@ -1,0 +1,142 @@
+//! An engine that searches for ordered schedules, and keeps its proofs in memory.
+
+ghost use Rattle.std.specs.Prelude.{◌≡◌, ◌≢◌, ◌<◌, ◌≤◌, ◌↔◌, [], ◌∷◌, ◌++◌, None, Contains, IfOk, map, vec_len, vec_capacity};
+ghost use Rattle.schedule.specs.Sends.{ScheduleValue};
+ghost use Rattle.cnf_formula.specs.declared.line.LratLine.TheVariants.{Addition};
+ghost use Rattle.proof_rules.specs.Refuting.{Exhausted, Refutes};
+ghost use Rattle.collective_spec.specs.Collectives.{IsSpec, kind_in};
+ghost use Rattle.round_encoding.specs.Candidates.{size_limit};
+ghost use Rattle.candidate_order.specs.declared.candidate.Candidate.{Candidate};
+ghost use Rattle.candidate_order.specs.Copied.{copied_spec};
+ghost use Rattle.candidate_order.specs.Frontiers.{IsSolvable, IsWithin};
+ghost use Rattle.candidate_formula.specs.Sizes.{size_of};
+ghost use Rattle.engine_rules.specs.declared.settled.Settled.TheVariants as settled;
+ghost use Rattle.engine_rules.specs.Outcomes.{RecordValue};
+ghost use Rattle.candidate_solver.specs.Asked.{asked};
+ghost use Rattle.chunk_order.specs.Formulas.{ordered_formula_for, OrderedFor};
+ghost use Rattle.candidate_solver.specs.Proved.{IsProved};
+ghost use Rattle.candidate_solver.specs.Single.{proved-prop};
+
+use crate::trying::{Attempt, try_candidate};
+use candidate_order::{Candidate, Limits, Outcome};
+use candidate_solver::Question;
+use cnf_formula::{OutOfMemory, ProofLine};
+use collective_spec::{Kind, Spec};
+use engine_rules::{Engine, EngineFault, EngineView, Settled};
+use schedule::Topology;
+use std::alloc::Global;
+
+/// Searches for an ordered schedule of each candidate by its formula with the clauses of the order. Each proof line is
+/// checked as it is found, and only those of the last search are kept. It works beside any store, and leaves it as it was.
+#[derive(Drop)]
+pub struct OrderedEngine {
+    question: Question,
+    entries: Vec<(Candidate, Settled)>,
+    stopped: Option<Candidate>,
+    log: Vec<ProofLine>,
+    ghost right: { (x : Candidate) → Contains entries.items (x, settled.Refuted) → IsSolvable (asked question) x → ⊥ },
+    ghost exhausted: { (x : Candidate) → Contains entries.items (x, settled.Unknown) → Exhausted (ordered_formula_for (asked question) x) question.limits.conflicts },
+    pub ghost proved: { (before : RecordValue) (x : Candidate) → entries.items ≡ before ++ (x, settled.Refuted) ∷ [] → Refutes (map Addition log.items) (ordered_formula_for (asked question) x) } by { proved-prop entries.items log.items (ordered_formula_for (asked question)) },
+}
+
+impl OrderedEngine {
+    /// An engine for the candidates of a topology and a collective, within the limits; of a reduction it settles those of
+    /// the copying collective of which it is the inverse, so that the topology is then the one turned round. The only error is
+    /// want of memory.
+    pub fn new(
+        alloc: Global,
+        topology: &Topology,
+        spec: &Spec,
+        limits: Limits,
+    ) -> Result<OrderedEngine, OutOfMemory>
+        requires spec { IsSpec topology.now.nodes spec.now }
+        requires single { kind_in spec.now ≢ Kind.Allreduce }
+        requires size { size_of (record { topology = topology.now; spec = spec.now; limits = limits }) ≤ size_limit }
+        ensures question { IfOk result (λ e. ⟦<OrderedEngine as EngineView>⟧.question e ≡ record { topology = topology.now; spec = copied_spec spec.now; limits = limits }) }
+        ensures entries { IfOk result (λ e. ⟦<OrderedEngine as EngineView>⟧.entries e ≡ []) }
+        ensures stopped { IfOk result (λ e. ⟦<OrderedEngine as EngineView>⟧.stopped e ≡ None) }
+        ensures formula { IfOk result (λ e. (x : Candidate) → ⟦<OrderedEngine as EngineView>⟧.formula e x ≡ ordered_formula_for (⟦<OrderedEngine as EngineView>⟧.question e) x) }
+        ensures suits { IfOk result (λ e. (x : Candidate) (schedule : ScheduleValue) → ⟦<OrderedEngine as EngineView>⟧.suits e x schedule ↔ OrderedFor (⟦<OrderedEngine as EngineView>⟧.question e) x schedule) }
+    {
+        Ok(OrderedEngine {
+            question: Question::new(alloc, topology, spec, limits)?,
+            entries: Vec::new(alloc),
+            stopped: None,
+            log: Vec::new(alloc),
+        })
+    }
+
+    /// Adds a candidate to the record, for which there is room, and keeps the lines of its search.
+    fn note(&mut self, candidate: Candidate, kind: Settled, lines: Vec<ProofLine>)
+        requires room { vec_len self.old.entries < vec_capacity self.old.entries }
+        requires within { IsWithin (asked self.old.question) candidate }
+        requires proved { IsProved (ordered_formula_for (asked self.old.question) candidate) self.old.question.limits.conflicts lines.items kind }
+        ensures entries { self.new.entries.items ≡ self.old.entries.items ++ (candidate, kind) ∷ [] }
+        ensures log { self.new.log.items ≡ lines.items }
+        ensures question { self.new.question ≡ self.old.question }
+        ensures stopped { self.new.stopped ≡ self.old.stopped }
+    {
+        self.entries.push_reserved((candidate, kind));
+        self.log = lines;
+    }
+}
+
+impl EngineView for OrderedEngine {
+    ghost use Rattle.chunk_order.proofs.Exact.{ordered_exact};
+
+    ghost question = { λ e. asked e.question };
+
+    ghost entries = { λ e. e.entries.items };
+
+    ghost stopped = { λ e. e.stopped };
+
+    ghost log_lines = { λ e. e.log.items };
+
+    ghost formula = { λ e x. ordered_formula_for (asked e.question) x };
+
+    ghost suits = { λ e x schedule. OrderedFor (asked e.question) x schedule };
+
+    fn log(&self) -> &[ProofLine] {
+        &self.log
+    }
+
+    ghost copies = { λ e. e.question.small.copies };
+
+    ghost exact = { λ e x within. ordered_exact (asked e.question) x e.question.small within };
+
+    ghost right = { λ e x refuted. e.right x refuted };
+
+    ghost exhausted = { λ e x unknown. e.exhausted x unknown };
+}
+
+impl<T> Engine<T> for OrderedEngine {
+    ghost use Rattle.std.proofs.Common.{refl, ◌∙◌};
+
+    ghost faults = { λ _ _. 0 };
+
+    ghost agrees = { λ _ _. Unit {0} };
+
+    ghost moves = { λ _ before _ now. now ≡ before };
+
+    fn settle(&mut self, store: &mut T, candidate: Candidate) -> Result<Outcome, EngineFault> {
+        let Ok(()) = self.entries.reserve(1) else {
+            self.stopped = Some(candidate);
+            return Err(EngineFault::OutOfMemory);
+        };
+        let alloc = *self.entries.allocator();
+        match try_candidate(alloc, &self.question, candidate) {
+            Ok(Attempt { outcome, lines }) => {
+                self.note(candidate, Settled::of(&outcome), lines);
+                Ok(outcome)
+            }
+            Err(_) => {
+                self.stopped = Some(candidate);
+                Err(EngineFault::OutOfMemory)
+            }
+        }
+    }
+
+    ghost moves_refl = { λ _ _. refl };
+
+    ghost moves_trans = { λ _ _ _ _ _ _ first second. second ∙ first };
+}

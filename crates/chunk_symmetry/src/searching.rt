@@ -1,0 +1,34 @@
+//! The search of a formula, each line of which is checked as it is found.
+
+ghost use Rattle.std.specs.Prelude.{◌≡◌, IfOk};
+ghost use Rattle.chunk_symmetry.specs.Trying.{IsSearch};
+
+use cnf_formula::{Formula, OutOfMemory, ProofLine};
+use conflict_ledger::{CheckedLedger, KeptLedger, PairLedger};
+use sat_core::{SatAnswer, SolveFault, solve};
+use std::alloc::Global;
+
+/// What a search says, and the lines of its proof.
+#[derive(Drop)]
+pub(crate) struct Found {
+    pub(crate) answer: SatAnswer,
+    pub(crate) lines: Vec<ProofLine>,
+}
+
+/// Searches for a model of a formula, or a refutation, and learns at most so many lines, which are kept in memory. The only
+/// error is want of memory.
+pub(crate) fn search(alloc: Global, formula: &Formula, limit: u32) -> Result<Found, OutOfMemory>
+    ensures { IfOk result (λ found. IsSearch formula.now limit found.lines.items found.answer) }
+{
+    let first = CheckedLedger::new(alloc, formula, limit)?;
+    let second = KeptLedger::new(alloc, formula, limit)?;
+    let mut pair = PairLedger::new(first, second);
+    match solve(alloc, formula, &mut pair, &mut ()) {
+        Ok(answer) => Ok(Found {
+            answer,
+            lines: pair.into_second().into_lines(),
+        }),
+        Err(SolveFault::OutOfMemory) => Err(OutOfMemory),
+        Err(SolveFault::LedgerFailed) => unreachable!(),
+    }
+}

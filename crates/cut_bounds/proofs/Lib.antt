@@ -1,0 +1,4 @@
+pub mod Noting
+pub mod Permuting
+pub mod Parted
+pub mod Turned

@@ -1,0 +1,65 @@
+//! What the cuts and the floor say of candidates, and of sums.
+
+ghost use Rattle.std.specs.Prelude.{◌≡◌, ◌≢◌, ◌*◌, ◌≤◌, ℕ, true, false};
+ghost use Rattle.schedule.specs.Links.{TopologyValue, reversed_of};
+ghost use Rattle.schedule.specs.Placed.{PlacementValue};
+ghost use Rattle.schedule.specs.Sends.{ScheduleValue, IsSchedule, IsInRange};
+ghost use Rattle.schedule.specs.Summing.{Sums};
+ghost use Rattle.schedule.specs.Rows.{everywhere};
+ghost use Rattle.collective_spec.specs.declared.spec.Spec.{Spec};
+ghost use Rattle.collective_spec.specs.Kinds.{allows};
+ghost use Rattle.collective_spec.specs.Collectives.{IsSpec, adds_up, kind_in};
+ghost use Rattle.candidate_order.specs.Copied.{copied_question, copied_spec};
+ghost use Rattle.candidate_order.specs.Frontiers.{QuestionValue, IsSolvable};
+ghost use Rattle.inversion.specs.Reductions.{HeldBySome};
+ghost use Rattle.node_cuts.specs.Sides.{NodeSet};
+ghost use Rattle.node_cuts.specs.Cuts.{need, width};
+ghost use Rattle.node_cuts.specs.Floors.{floor_of};
+ghost use Rattle.node_cuts.specs.Tables.{table_of};
+ghost use Rattle.cut_bounds.specs.Cutting.{cut_in, is_cut};
+
+use candidate_order::Candidate;
+use collective_spec::Kind;
+use inversion::frontier_laws::a_reduction_is_solvable_where_its_copy_is;
+use inversion::reduction_laws::an_inverse_of_a_sum_solves;
+use node_cuts::laws::{cuts_refute, floors_bound};
+
+/// A candidate that a listed set of nodes refutes has no schedule: of a collective that copies over its links, and of a
+/// reduction over the links turned round.
+pub fn cut_candidates_have_no_schedule()
+    ensures copies { (q : QuestionValue) (x : Candidate) → adds_up q.spec ≡ false → is_cut q x ≡ true → IsSolvable q x → ⊥ }
+    ensures sums { (q : QuestionValue) (x : Candidate) → adds_up q.spec ≡ true → kind_in q.spec ≢ Kind.Allreduce → IsSpec q.topology.nodes q.spec
+        → is_cut (copied_question q) x ≡ true → IsSolvable q x → ⊥ }
+{
+    cuts_refute();
+    a_reduction_is_solvable_where_its_copy_is();
+}
+
+/// What has to come into a set of nodes, when each chunk goes back from where its sum is demanded to every node over the links
+/// turned round, is at most what can in the rounds of a schedule that sums, whatever its steps.
+pub fn sums_bring_in_what_is_needed()
+    ensures { (u : NodeSet) (t : TopologyValue) (demand : PlacementValue) (s : ScheduleValue) (steps rounds : ℕ) → demand.nodes ≡ t.nodes → HeldBySome demand
+        → IsSchedule s → IsInRange demand.chunks demand.nodes s → Sums t demand s steps rounds
+        → need u demand (everywhere demand.chunks demand.nodes) ≤ width u (reversed_of t) * rounds }
+{
+    cuts_refute();
+    an_inverse_of_a_sum_solves();
+}
+
+/// A reduction has no schedule of fewer rounds for its chunk count than the floor over the links turned round says, whatever
+/// its steps and its chunk count.
+pub fn floors_bound_sums()
+    ensures { (q : QuestionValue) (x : Candidate) → adds_up q.spec ≡ true → kind_in q.spec ≢ Kind.Allreduce → IsSpec q.topology.nodes q.spec
+        → allows (kind_in q.spec) q.topology.nodes x.c ≡ true → IsSolvable q x
+        → (floor_of (reversed_of q.topology) q.spec).above * x.c ≤ x.r * (floor_of (reversed_of q.topology) q.spec).below }
+{
+    floors_bound();
+    a_reduction_is_solvable_where_its_copy_is();
+}
+
+/// A reduction has the cuts, the floor and the table of the collective of which it is the inverse.
+pub fn a_reduction_has_the_cuts_of_its_copy()
+    ensures cut { (t : TopologyValue) (spec : Spec) (x : Candidate) → cut_in t (copied_spec spec) x ≡ cut_in t spec x }
+    ensures floor { (t : TopologyValue) (spec : Spec) → floor_of t (copied_spec spec) ≡ floor_of t spec }
+    ensures table { (t : TopologyValue) (spec : Spec) → table_of t (copied_spec spec) ≡ table_of t spec }
+{}

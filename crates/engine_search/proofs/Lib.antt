@@ -1,0 +1,4 @@
+pub mod Turned
+pub mod Asked
+pub mod Recorded
+pub mod Found

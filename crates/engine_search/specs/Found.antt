@@ -1,0 +1,16 @@
+-- What a frontier says after a search with an engine. This project's own.
+use Rattle.std.specs.Prelude.{All}
+use Rattle.schedule.specs.Sends.{ScheduleValue}
+use Rattle.cnf_formula.specs.Formulas.{FormulaValue}
+use Rattle.proof_rules.specs.Refuting.{Exhausted}
+use Rattle.candidate_order.specs.declared.candidate.Candidate.{Candidate}
+use Rattle.candidate_order.specs.Frontiers.{QuestionValue, FrontierValue, RightFrontier, Searched, IsWithin}
+use Rattle.engine_search.specs.Asked.{copying_schedule}
+
+-- it is right and searched in order, what was refuted is within the limits, the engine's formula of what was given up is exhausted, and each schedule, as the engine found it, has what the engine promises
+pub record IsFoundBy (q : QuestionValue) (formula : Candidate → FormulaValue) (suits : Candidate → ScheduleValue → Type 0) (f : FrontierValue) : Type 0 where
+  pub right : RightFrontier q f
+  pub searched : Searched q f
+  pub within : All (IsWithin q) f.refuted
+  pub exhausted : All (λ u. Exhausted (formula u.candidate) u.conflicts) f.unknown
+  pub suited : All (λ p. suits p.candidate (copying_schedule q.spec p.schedule)) f.points

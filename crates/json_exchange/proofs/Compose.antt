@@ -1,0 +1,96 @@
+-- Lines that are appended one after another.
+use Rattle.std.proofs.Common.{◌≡◌, ◌≢◌, ℕ, length, true≢false, ◌==◌, Bool, true, false, List, [], ◌∷◌, ◌++◌, Option, Some, None, option_map, refl, sym, ap, ◌∙◌, subst, append_assoc, arith}
+use Rattle.std.specs.Prelude.{codes, if◌then◌else◌, Result}
+use Rattle.std.proofs.lemmas.Bool.{ne_eqb}
+use Rattle.std.proofs.lemmas.List.{append-nil}
+use Rattle.std.proofs.lemmas.Grind.{flat_map-append}
+use Rattle.text_lines.specs.declared.stop.Stop.{Stop}
+use Rattle.text_lines.specs.Text.{line, text_of}
+use Rattle.text_lines.proofs.Words.{join_fields}
+use Rattle.serde_json.specs.Data.{Data, Items}
+use Rattle.serde_json.specs.Events.{items_len}
+use Rattle.serde_json.specs.Find.{as_array, get}
+use Rattle.json_values.specs.Shape.{◌>>=◌, ◌⊕◌, one, each_in, list_in}
+use Rattle.json_values.specs.TopologyJson.{field}
+use Rattle.json_exchange.specs.ReportJson.{number_in, counts_in, kind_in, keyed_in, root_in, keyed_words_in, none_in}
+use Rattle.serde_json.specs.View.{items_view}
+use Rattle.serde_json.specs.declared.value.Value.{Value}
+use Rattle.json_values.specs.Appends.{Appends, fields}
+use Rattle.json_values.proofs.Parts.{behind_front}
+use Rattle.json_values.proofs.Lines.{not_mapped}
+
+pub line_is : (word : List ℕ) (ws : List (List ℕ)) → word ++ (fields ws ++ 10 ∷ []) ≡ line (word ∷ ws)
+line_is word ws = sym (ap (λ t. t ++ 10 ∷ []) (join_fields word ws) ∙ append_assoc word (fields ws) (10 ∷ []))
+
+pub one_line : (x : Option (List (List ℕ))) → option_map text_of (one x) ≡ option_map line x
+one_line None = refl
+one_line (Some w) = ap Some (append-nil (line w))
+
+join : (ls : List (List (List ℕ))) (y : Option (List (List (List ℕ)))) → option_map (λ t. text_of ls ++ t) (option_map text_of y) ≡ option_map text_of (Some ls ⊕ y)
+join ls None = refl
+join ls (Some more) = ap Some (sym (flat_map-append line ls more))
+
+-- what is appended behind lines that were appended
+pub in_turn : (r : Result (Unit {0}) (Stop (Unit {0}))) (old mid new : List ℕ) (x y : Option (List (List (List ℕ)))) → option_map (λ t. old ++ t) (option_map text_of x) ≡ Some mid → Appends r mid new (option_map text_of y) → Appends r old new (option_map text_of (x ⊕ y))
+in_turn r old mid new None y a h = absurd cc
+in_turn r old mid new (Some ls) y a h =
+    let begun : old ++ text_of ls ≡ mid = cc in
+    subst (Appends r old new) (join ls y) (behind_front r old mid new (text_of ls) (option_map text_of y) (sym begun) h)
+
+-- the same behind one line
+pub line_in_turn : (r : Result (Unit {0}) (Stop (Unit {0}))) (old mid new : List ℕ) (x : Option (List (List ℕ))) (y : Option (List (List (List ℕ)))) → option_map (λ t. old ++ t) (option_map line x) ≡ Some mid → Appends r mid new (option_map text_of y) → Appends r old new (option_map text_of (one x ⊕ y))
+line_in_turn r old mid new x y a h = in_turn r old mid new (one x) y (ap (option_map (λ t. old ++ t)) (one_line x) ∙ a) h
+
+pub no_first : (x y : Option (List (List (List ℕ)))) → option_map text_of x ≡ None → (x ⊕ y) ≡ None
+no_first x y h = ap (λ o. o ⊕ y) (not_mapped text_of x h)
+
+pub no_line : (x : Option (List (List ℕ))) (y : Option (List (List (List ℕ)))) → option_map line x ≡ None → (one x ⊕ y) ≡ None
+no_line x y h = ap (λ o. one o ⊕ y) (not_mapped line x h)
+
+pub no_second : (x y : Option (List (List (List ℕ)))) → y ≡ None → (x ⊕ y) ≡ None
+no_second None y h = refl
+no_second (Some ls) y h = ap (λ o. Some ls ⊕ o) h
+
+pub field_is : {A : Type 0} (key : List ℕ) (shape : Data → Option A) (d value : Data) → Some value ≡ get key d → field key shape d ≡ shape value
+field_is key shape d value h = ap (λ o. o >>= shape) (sym h)
+
+pub no_field : {A : Type 0} (key : List ℕ) (shape : Data → Option A) (d : Data) → None ≡ get key d → field key shape d ≡ None
+no_field key shape d h = ap (λ o. o >>= shape) (sym h)
+
+-- ---- a word and so many numbers
+
+abbrev counted : List ℕ → ℕ → Items → Option (List (List ℕ))
+counted word n items = if items_len items == n then (each_in number_in items >>= λ counts. Some (word ∷ counts)) else None
+
+same_number : (m n : ℕ) → m ≡ n → (m == n) ≡ true
+same_number m n e = grind arith
+
+pub counts_with : (word : List ℕ) (n : ℕ) (d : Data) (items : Items) → Some items ≡ as_array d → items_len items ≡ n → counts_in word n d ≡ (list_in number_in d >>= λ counts. Some (word ∷ counts))
+counts_with word n d items h e =
+    ap (λ o. o >>= counted word n) (sym h) ∙ ap (λ b. if b then (each_in number_in items >>= λ counts. Some (word ∷ counts)) else None) (same_number (items_len items) n e)
+    ∙ ap (λ o. (o >>= each_in number_in) >>= λ counts. Some (word ∷ counts)) h
+
+pub no_counts : (word : List ℕ) (n : ℕ) (d : Data) (items : Items) → Some items ≡ as_array d → items_len items ≢ n → counts_in word n d ≡ None
+no_counts word n d items h e =
+    ap (λ o. o >>= counted word n) (sym h) ∙ ap (λ b. if b then (each_in number_in items >>= λ counts. Some (word ∷ counts)) else None) (ne_eqb (items_len items) n e)
+
+-- the line of the words, part by part
+pub keyed_with : (rooted : Bool) (d : Data) (kind k steps chunks conflicts : List ℕ) (root : List (List ℕ)) → Some kind ≡ kind_in d → Some k ≡ keyed_in (codes "k") d → Some steps ≡ keyed_in (codes "steps") d → Some chunks ≡ keyed_in (codes "chunks") d
+    → Some conflicts ≡ keyed_in (codes "conflicts") d → Some root ≡ root_in rooted d → keyed_words_in rooted d ≡ Some (codes "synth" ∷ (codes "collective=" ++ kind) ∷ k ∷ steps ∷ chunks ∷ conflicts ∷ root)
+keyed_with rooted d kind k steps chunks conflicts root p q r s t u =
+    let f : Option (List ℕ) → Option (List ℕ) → Option (List ℕ) → Option (List ℕ) → Option (List ℕ) → Option (List (List ℕ)) → Option (List (List ℕ)) =
+    λ a b c e g h. a >>= λ kind. b >>= λ k. c >>= λ steps. e >>= λ chunks. g >>= λ conflicts. h >>= λ root. Some (codes "synth" ∷ (codes "collective=" ++ kind) ∷ k ∷ steps ∷ chunks ∷ conflicts ∷ root) in
+    ap (λ a. f a (keyed_in (codes "k") d) (keyed_in (codes "steps") d) (keyed_in (codes "chunks") d) (keyed_in (codes "conflicts") d) (root_in rooted d)) (sym p)
+    ∙ ap (λ b. f (Some kind) b (keyed_in (codes "steps") d) (keyed_in (codes "chunks") d) (keyed_in (codes "conflicts") d) (root_in rooted d)) (sym q)
+    ∙ ap (λ b. f (Some kind) (Some k) b (keyed_in (codes "chunks") d) (keyed_in (codes "conflicts") d) (root_in rooted d)) (sym r)
+    ∙ ap (λ b. f (Some kind) (Some k) (Some steps) b (keyed_in (codes "conflicts") d) (root_in rooted d)) (sym s)
+    ∙ ap (λ b. f (Some kind) (Some k) (Some steps) (Some chunks) b (root_in rooted d)) (sym t)
+    ∙ ap (λ b. f (Some kind) (Some k) (Some steps) (Some chunks) (Some conflicts) b) (sym u)
+
+pub none_there : (vs : List Value) → (length vs == 0) ≡ true → none_in (items_view vs) ≡ Some []
+none_there [] h = refl
+none_there (v ∷ vs) h = absurd (true≢false (sym h ∙ ne_eqb (length (v ∷ vs)) 0 (λ e. omega arith)))
+
+pub some_there : (vs : List Value) → (length vs == 0) ≡ false → none_in (items_view vs) ≡ None
+some_there [] h = absurd (true≢false h)
+some_there (v ∷ vs) h = refl

@@ -1,0 +1,5 @@
+pub mod ReportJson
+pub mod ProgramsJson
+pub mod Answer
+pub mod Tokens
+pub mod Rows

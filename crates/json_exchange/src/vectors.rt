@@ -1,0 +1,41 @@
+//! Small reports and programs as JSON.
+
+ghost use Rattle.std.specs.Prelude.{◌≡◌, ◌∷◌, [], codes, Ok, Err};
+ghost use Rattle.schedule.specs.Rows.{plan, send};
+ghost use Rattle.report_form.specs.Rows.{broadcast_report, allreduce_report};
+ghost use Rattle.node_programs.specs.Programs.{programs_of};
+ghost use Rattle.json_values.specs.declared.fault.JsonCode.{JsonCode};
+ghost use Rattle.json_values.specs.Json.{printed};
+ghost use Rattle.json_exchange.specs.ReportJson.{report_json};
+ghost use Rattle.json_exchange.specs.ProgramsJson.{programs_json};
+ghost use Rattle.json_exchange.specs.Answer.{report_of_json};
+ghost use Rattle.json_exchange.specs.Rows.{broadcast_json, allreduce_json};
+
+/// The JSON of a broadcast and of an allreduce on two nodes.
+pub fn reports_printed()
+    ensures broadcast { printed (report_json broadcast_report) ≡ broadcast_json (codes "[1]") (codes "[]") (codes "\"root\":\"n0\",") }
+    ensures allreduce { printed (report_json allreduce_report) ≡ allreduce_json (codes "\"adding\":1,\"c\":1,\"mark\":\"joined\"") }
+{}
+
+/// The JSON of the same reports is read as these reports.
+pub fn reports_read()
+    ensures broadcast { report_of_json (broadcast_json (codes "[1]") (codes "[]") (codes "\"root\":\"n0\",")) ≡ Ok broadcast_report }
+    ensures allreduce { report_of_json (allreduce_json (codes "\"adding\":1,\"c\":1,\"mark\":\"joined\"")) ≡ Ok allreduce_report }
+{}
+
+/// What is refused: for its shape, or at a line of its text.
+pub fn reports_refused()
+    ensures no_json { report_of_json (codes "{") ≡ Err (JsonCode.NotJson, 0) }
+    ensures no_report { report_of_json (codes "{}") ≡ Err (JsonCode.BadShape, 0) }
+    ensures fraction { report_of_json (broadcast_json (codes "[1.0]") (codes "[]") (codes "\"root\":\"n0\",")) ≡ Err (JsonCode.BadShape, 0) }
+    ensures joined { report_of_json (broadcast_json (codes "[1]") (codes "[0]") (codes "\"root\":\"n0\",")) ≡ Err (JsonCode.BadShape, 0) }
+    ensures mark { report_of_json (allreduce_json (codes "\"c\":1,\"mark\":\"joined\"")) ≡ Err (JsonCode.BadShape, 0) }
+    ensures rounds { report_of_json (broadcast_json (codes "[2]") (codes "[]") (codes "\"root\":\"n0\",")) ≡ Err (JsonCode.BadText, 9) }
+    ensures no_root { report_of_json (broadcast_json (codes "[1]") (codes "[]") []) ≡ Err (JsonCode.BadText, 2) }
+    ensures other_root { report_of_json (broadcast_json (codes "[1]") (codes "[]") (codes "\"root\":\"n9\",")) ≡ Err (JsonCode.BadText, 4) }
+{}
+
+/// The relay of one chunk along three nodes.
+pub fn programs_printed()
+    ensures { printed (programs_json 1 (codes "n0" ∷ codes "n1" ∷ codes "n2" ∷ []) (programs_of 3 (plan (1 ∷ 1 ∷ []) (send 0 0 1 1 ∷ send 0 1 2 2 ∷ [])) 0)) ≡ codes "{\"point\":1,\"programs\":[{\"node\":\"n0\",\"ops\":[[1,\"send\",0,\"n1\"]]},{\"node\":\"n1\",\"ops\":[[1,\"take\",0,\"n0\",\"copy\"],[2,\"send\",0,\"n2\"]]},{\"node\":\"n2\",\"ops\":[[2,\"take\",0,\"n1\",\"copy\"]]}]}\n" }
+{}

@@ -1,0 +1,26 @@
+-- The line of a group, by what stands at its keys.
+use Rattle.std.proofs.Common.{◌≡◌, ℕ, Bool, true, false, List, [], ◌∷◌, Option, Some, None, refl, sym, ap, ◌∙◌}
+use Rattle.std.specs.Prelude.{codes, decimal, if◌then◌else◌}
+use Rattle.serde_json.specs.Data.{Data}
+use Rattle.serde_json.specs.Find.{get}
+use Rattle.json_values.specs.Shape.{◌>>=◌, list_in, count_in, has_keys}
+use Rattle.json_values.specs.TopologyJson.{link_in, field, group_in}
+use Rattle.json_values.specs.Fields.{group_fields}
+
+abbrev closed : ℕ × Data → Option (List (List ℕ))
+closed x = list_in link_in x.1 >>= λ links. Some (codes "group" ∷ decimal x.0 ∷ links)
+
+split : (b : Bool) (w : Option ℕ) (l : Option Data) → (if b then (w >>= λ width. (l >>= λ d. list_in link_in d) >>= λ links. Some (codes "group" ∷ decimal width ∷ links)) else None) ≡ ((if b then (w >>= λ width. l >>= λ links. Some (width, links)) else None) >>= closed)
+split false w l = refl
+split true None l = refl
+split true (Some width) None = refl
+split true (Some width) (Some links) = refl
+
+group_is : (d : Data) → group_in d ≡ (group_fields d >>= closed)
+group_is d = split (has_keys (codes "links" ∷ codes "width" ∷ []) d) (field (codes "width") count_in d) (get (codes "links") d)
+
+pub group_with : (d : Data) (width : ℕ) (links : Data) → Some (width, links) ≡ group_fields d → group_in d ≡ closed (width, links)
+group_with d width links h = group_is d ∙ ap (λ o. o >>= closed) (sym h)
+
+pub no_group : (d : Data) → None ≡ group_fields d → group_in d ≡ None
+no_group d h = group_is d ∙ ap (λ o. o >>= closed) (sym h)

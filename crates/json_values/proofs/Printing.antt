@@ -1,0 +1,61 @@
+-- Values of JSON that are built, and what a name is as a text.
+use Rattle.std.proofs.Common.{◌≡◌, ◌⊎◌, inl, inr, ℕ, zero, suc, ◌+◌, ◌<◌, ◌&&◌, ◌||◌, ◌==◌, Bool, true, cond, List, [], ◌∷◌, ◌++◌, map, Vec, Global, refl, ap, ◌∙◌, arith}
+use Rattle.std.specs.Prelude.{IsUtf8, nat_le}
+use Rattle.std.specs.List.{list_all, filter, range_with_len}
+use Rattle.std.specs.Str.{IsAscii}
+use Rattle.std.proofs.lemmas.Bool.{and_parts, or_cases, leb-true, eqb-true}
+use Rattle.std.proofs.lemmas.List.{map-append}
+use Rattle.std.proofs.lemmas.List.FromFn.{map-range_with_len_more}
+use Rattle.std.specs.Result.{IsOk, MatchResult}
+use Rattle.std.specs.Prelude.{Result, Ok, Err}
+use Rattle.std.proofs.lemmas.Str.{IsUtf8-from_ascii}
+use Rattle.topology_text.specs.Names.{is_name_byte, is_name}
+use Rattle.topology_text.proofs.Printed.{passing_more}
+use Rattle.serde_json.specs.Data.{Data, array}
+use Rattle.serde_json.specs.View.{view, items_of}
+use Rattle.serde_json.specs.declared.value.Value.{Value, Array}
+use Rattle.serde_json.proofs.Views.{view-Array}
+use Rattle.json_values.specs.Json.{array_of}
+
+-- ---- names
+
+name_byte_small : (b : ℕ) → is_name_byte b ≡ true → b < 128
+name_byte_small b h = go (or_cases _ _ h)
+  where
+    go : (((nat_le 97 b && nat_le b 122) || (nat_le 48 b && nat_le b 57)) ≡ true) ⊎ ((b == 95) ≡ true) → b < 128
+    go (inr e) = omega (arith, eqb-true b 95 e)
+    go (inl e) = later (or_cases _ _ e)
+      where
+        later : ((nat_le 97 b && nat_le b 122) ≡ true) ⊎ ((nat_le 48 b && nat_le b 57) ≡ true) → b < 128
+        later (inl k) = omega (arith, leb-true b 122 (and_parts _ _ k).1)
+        later (inr k) = omega (arith, leb-true b 57 (and_parts _ _ k).1)
+
+all_small : (bytes : List ℕ) → list_all is_name_byte bytes ≡ true → IsAscii bytes
+all_small [] h i = omega arith
+all_small (b ∷ bytes) h zero = name_byte_small b (and_parts _ _ h).0
+all_small (b ∷ bytes) h (suc i) = all_small bytes (and_parts _ _ h).1 i
+
+pub name_utf8 : (bytes : List ℕ) → is_name bytes ≡ true → IsUtf8 bytes
+name_utf8 bytes h = IsUtf8-from_ascii bytes (all_small bytes (and_parts _ _ h).1)
+
+-- a result that can be no error
+pub ok_by : {A E : Type 0} (U : Type 0) (P : A → Type 0) (Q : E → Type 0) (r : Result A E) → MatchResult r P (λ e. (U → ⊥) × Q e) → U → IsOk r
+ok_by U P Q (Ok x) m u = refl
+ok_by U P Q (Err e) m u = absurd (m.0 u)
+
+-- ---- lists
+
+-- a list of values that stand for these
+pub listed : (v : Vec Value Global) (ds : List Data) → map view v.items ≡ ds → view (Array v) ≡ array_of ds
+listed v ds h = view-Array v ∙ ap (λ l. array (items_of l)) h
+
+-- one more value
+pub pushed : (old new : List Value) (v : Value) (ds : List Data) (d : Data) → new ≡ old ++ v ∷ [] → map view old ≡ ds → view v ≡ d → map view new ≡ ds ++ d ∷ []
+pushed old new v ds d a b c = ap (map view) a ∙ map-append view old (v ∷ []) ∙ ap (λ l. l ++ view v ∷ []) b ∙ ap (λ x. ds ++ x ∷ []) c
+
+-- what one more number that passes adds
+pub passed_more : (f : ℕ → Data) (p : ℕ → Bool) (n : ℕ) → p n ≡ true → map f (filter p (range_with_len 0 (n + 1))) ≡ map f (filter p (range_with_len 0 n)) ++ f n ∷ []
+passed_more f p n h = ap (map f) (passing_more p n ∙ ap (λ b. filter p (range_with_len 0 n) ++ cond b (n ∷ []) []) h) ∙ map-append f (filter p (range_with_len 0 n)) (n ∷ [])
+
+pub numbered_more : (f : ℕ → Data) (n : ℕ) → map f (range_with_len 0 (n + 1)) ≡ map f (range_with_len 0 n) ++ f n ∷ []
+numbered_more f n = map-range_with_len_more f 0 n n (omega arith)

@@ -1,0 +1,23 @@
+use Rattle.std.proofs.Common.{◌≡◌, [], ◌∷◌, ◌++◌, ap, sym, ◌∙◌, append_assoc, option_map, rules}
+use Rattle.std.specs.Prelude.{codes, decimal}
+use Rattle.std.proofs.lemmas.List.{append-nil}
+use Rattle.serde_json.specs.View.{view}
+use Rattle.json_values.specs.Shape.{name_in, list_in}
+use Rattle.json_values.proofs.Lines.{tokens_listed, tokens_refused, line_closed, refused_on}
+use Rattle.json_values.proofs.topology_reading.push_holders.Goals as goal
+
+pub returns-in_err-push_list : goal.returns-in_err-push_list
+returns-in_err-push_list c =
+    refused_on _ c.in_err-push_list.field-0.0 _ _ _ _ _ _ (search rules) (λ none. ap (option_map _) (tokens_refused name_in (view c.args.value.now) none)) c.in_err-push_list.ensures
+
+pub returns : goal.returns
+returns c =
+    let old = c.args.out.now.items in
+    let word = c.args.word.now in
+    let number = decimal c.args.chunk in
+    let second = c.push_number.new.out.items in
+    let begun : second ≡ old ++ (word ++ (32 ∷ number ++ [])) =
+    c.in_ok-push_number.ensures.appended ∙ ap (λ o. o ++ number) (c.in_ok-push_word-2.ensures.appended ∙ ap (λ o. o ++ codes " ") c.in_ok-push_word.ensures.appended ∙ append_assoc old word (codes " "))
+    ∙ append_assoc old (word ++ codes " ") number ∙ ap (λ t. old ++ t) (append_assoc word (codes " ") number) ∙ ap (λ n. old ++ (word ++ (32 ∷ n))) (sym (append-nil number)) in
+    let listed = ap (option_map (λ t. second ++ t)) (sym (tokens_listed name_in (view c.args.value.now))) ∙ c.in_ok-push_list.ensures in
+    line_closed word (number ∷ []) old second c.push_list.new.out.items c.push_word-3.new.out.items (list_in name_in (view c.args.value.now)) begun listed c.in_ok-push_word-3.ensures.appended

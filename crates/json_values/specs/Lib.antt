@@ -1,0 +1,8 @@
+pub mod Json
+pub mod Size
+pub mod Shape
+pub mod TopologyJson
+pub mod Answer
+pub mod Appends
+pub mod Fields
+pub mod Rows

@@ -1,0 +1,9 @@
+pub mod Links
+pub mod Fitting
+pub mod Fewer
+pub mod Sums
+pub mod Carried
+pub mod Reversed
+pub mod Sound
+pub mod Recorded
+pub mod Sizes

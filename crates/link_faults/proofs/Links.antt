@@ -1,0 +1,103 @@
+-- What links and groups are left after a fault, and what they carry.
+use Rattle.std.proofs.Common.{◌≡◌, ℕ, zero, suc, ◌+◌, ◌≤◌, ◌*◌, Bool, true, false, ◌||◌, ◌&&◌, eqb, cond, List, [], ◌∷◌, length, get_or, refl, sym, ap, ◌∙◌, ⊎_elim, arith}
+use Rattle.std.specs.Prelude.{not, slice_set}
+use Rattle.std.specs.List.{list_any, AllByRecursion}
+use Rattle.std.proofs.lemmas.Bool.{false≢true, and_parts, cases_Bool, or_cases, or_left, or_right, lt-ltb}
+use Rattle.std.proofs.lemmas.List.Sums.{sum_by-cons}
+use Rattle.std.proofs.lemmas.Map.Views.{any-filter_same}
+use Rattle.schedule.specs.declared.hop.Hop.{Hop}
+use Rattle.schedule.specs.Links.{GroupValue, has_link, same_link}
+use Rattle.schedule.specs.Sends.{link_of}
+use Rattle.schedule.specs.Fitting.{load}
+use Rattle.schedule.proofs.Placing.{pair_is}
+use Rattle.link_faults.specs.Narrowed.{without, has_links, left_of}
+
+pub not_is : (b : Bool) → not b ≡ true → b ≡ false
+not_is true h = absurd (false≢true h)
+not_is false h = refl
+
+-- a link is left in a group exactly where it was there and is not gone
+pub left_link : (lost group : GroupValue) (link : ℕ × ℕ) → has_link (without lost group) link ≡ (not (has_link lost link) && has_link group link)
+left_link lost group link = any-filter_same (same_link link) (λ l. not (has_link lost l)) (not (has_link lost link)) (λ l same. ap (λ x. not (has_link lost x)) (sym (pair_is link l same))) group.links
+
+-- a link that is left was there
+pub was_there : (lost group : GroupValue) (link : ℕ × ℕ) → has_link (without lost group) link ≡ true → has_link group link ≡ true
+was_there lost group link h = (and_parts (not (has_link lost link)) (has_link group link) (sym (left_link lost group link) ∙ h)).1
+
+not_gone : (lost group : GroupValue) (link : ℕ × ℕ) → has_link (without lost group) link ≡ true → has_link lost link ≡ false
+not_gone lost group link h = not_is (has_link lost link) (and_parts (not (has_link lost link)) (has_link group link) (sym (left_link lost group link) ∙ h)).0
+
+-- what is usable was usable, and is not gone
+pub left_usable : (lost : GroupValue) (groups : List GroupValue) (link : ℕ × ℕ) → list_any (λ group. has_link group link) (left_of lost groups) ≡ true
+    → (list_any (λ group. has_link group link) groups ≡ true) × (has_link lost link ≡ false)
+left_usable lost [] link h = absurd (false≢true h)
+left_usable lost (group ∷ groups) link h =
+    ⊎_elim
+    (λ (kept : has_links (without lost group) ≡ true).
+    let some : (has_link (without lost group) link || list_any (λ group. has_link group link) (left_of lost groups)) ≡ true = rw kept at h in
+    ⊎_elim
+    (λ (here : has_link (without lost group) link ≡ true). (or_left _ _ (was_there lost group link here), not_gone lost group link here))
+    (λ (later : list_any (λ group. has_link group link) (left_of lost groups) ≡ true).
+    let rest = left_usable lost groups link later in (or_right _ _ rest.0, rest.1))
+    (or_cases _ _ some))
+    (λ (dropped : has_links (without lost group) ≡ false).
+    let later : list_any (λ group. has_link group link) (left_of lost groups) ≡ true = rw dropped at h in
+    let rest = left_usable lost groups link later in (or_right _ _ rest.0, rest.1))
+    (cases_Bool (has_links (without lost group)))
+
+-- sends that use no link that is gone load a group as they load what is left of it
+pub same_load : (lost group : GroupValue) (step : ℕ) (sends : List Hop) → AllByRecursion (λ h. has_link lost (link_of h) ≡ false) sends → load (without lost group) step sends ≡ load group step sends
+same_load lost group step [] none = refl
+same_load lost group step (h ∷ sends) none =
+    let here : has_link (without lost group) (link_of h) ≡ has_link group (link_of h) = left_link lost group (link_of h) ∙ ap (λ b. not b && has_link group (link_of h)) none.0 in
+    let rest : load (without lost group) step sends ≡ load group step sends = same_load lost group step sends none.1 in
+    sum_by-cons (λ x. cond (eqb x.step step && has_link (without lost group) (link_of x)) 1 0) h sends
+    ∙ ap (λ b. cond (eqb h.step step && b) 1 0 + load (without lost group) step sends) here
+    ∙ ap (λ n. cond (eqb h.step step && has_link group (link_of h)) 1 0 + n) rest
+    ∙ sym (sum_by-cons (λ x. cond (eqb x.step step && has_link group (link_of x)) 1 0) h sends)
+
+and_false : (b : Bool) → (b && false) ≡ false
+and_false true = refl
+and_false false = refl
+
+-- a group without links carries nothing
+pub no_load : (group : GroupValue) (step : ℕ) (sends : List Hop) → has_links group ≡ false → load group step sends ≡ 0
+no_load group step [] none = refl
+no_load group step (h ∷ sends) none =
+    let empty : has_link group (link_of h) ≡ false = without_links group.links none in
+    sum_by-cons (λ x. cond (eqb x.step step && has_link group (link_of x)) 1 0) h sends
+    ∙ ap (λ b. cond (eqb h.step step && b) 1 0 + load group step sends) empty
+    ∙ ap (λ b. cond {A = ℕ} b 1 0 + load group step sends) (and_false (eqb h.step step))
+    ∙ ap (λ n. 0 + n) (no_load group step sends none)
+  where
+    without_links : (links : List (ℕ × ℕ)) → has_links (record { links = links; width = group.width }) ≡ false → list_any (same_link (link_of h)) links ≡ false
+    without_links [] e = refl
+    without_links (l ∷ links) e = absurd (false≢true (sym e ∙ lt-ltb 0 (length (l ∷ links)) (omega arith)))
+
+-- where what is left of each group carries no more than its width in so many rounds, so does the group
+pub left_within : (lost : GroupValue) (step rounds : ℕ) (sends : List Hop) (groups : List GroupValue) → AllByRecursion (λ h. has_link lost (link_of h) ≡ false) sends
+    → AllByRecursion (λ group. load group step sends ≤ group.width * rounds) (left_of lost groups) → AllByRecursion (λ group. load group step sends ≤ group.width * rounds) groups
+left_within lost step rounds sends [] none within = tt
+left_within lost step rounds sends (group ∷ groups) none within =
+    let same : load (without lost group) step sends ≡ load group step sends = same_load lost group step sends none in
+    ⊎_elim
+    (λ (kept : has_links (without lost group) ≡ true).
+    let both : AllByRecursion (λ group. load group step sends ≤ group.width * rounds) (without lost group ∷ left_of lost groups) = rw kept at within in
+    let here : load (without lost group) step sends ≤ group.width * rounds = both.0 in
+    (omega (arith, here, same), left_within lost step rounds sends groups none both.1))
+    (λ (dropped : has_links (without lost group) ≡ false).
+    let rest : AllByRecursion (λ group. load group step sends ≤ group.width * rounds) (left_of lost groups) = rw dropped at within in
+    (omega (arith, no_load (without lost group) step sends dropped, same), left_within lost step rounds sends groups none rest))
+    (cases_Bool (has_links (without lost group)))
+
+-- ---- a group with another width
+
+pub set_any : {X : Type 0} (p : X → Bool) (xs : List X) (k : ℕ) (d y : X) → p y ≡ p (get_or xs k d) → list_any p (slice_set xs k y) ≡ list_any p xs
+set_any p [] k d y same = refl
+set_any p (x ∷ xs) zero d y same = ap (λ b. b || list_any p xs) same
+set_any p (x ∷ xs) (suc k) d y same = ap (λ b. p x || b) (set_any p xs k d y same)
+
+pub set_each : {X : Type 0} (P : X → Type 0) (xs : List X) (k : ℕ) (d y : X) → (P y → P (get_or xs k d)) → AllByRecursion P (slice_set xs k y) → AllByRecursion P xs
+set_each P [] k d y back each = tt
+set_each P (x ∷ xs) zero d y back each = (back each.0, each.1)
+set_each P (x ∷ xs) (suc k) d y back each = (each.0, set_each P xs k d y back each.1)

@@ -1,0 +1,104 @@
+-- A search over the links that a fault left is no larger than over those that were given.
+use Rattle.std.proofs.Common.{◌≡◌, ℕ, zero, suc, ◌+◌, ◌*◌, ◌<◌, ◌≤◌, Bool, true, false, cond, List, [], ◌∷◌, length, get_or, refl, sym, ◌∙◌, ⊎_elim, arith}
+use Rattle.std.specs.Prelude.{filter, not, slice_set, sum_by}
+use Rattle.std.proofs.lemmas.Bool.{cases_Bool}
+use Rattle.std.proofs.lemmas.Nat.{mul-le}
+use Rattle.std.proofs.lemmas.List.Sums.{sum_by-cons}
+use Rattle.schedule.specs.Links.{GroupValue, TopologyValue, has_link, is_usable, usable_links}
+use Rattle.schedule.specs.Placed.{all_pairs}
+use Rattle.schedule.specs.Judging.{group_at}
+use Rattle.candidate_order.specs.Frontiers.{QuestionValue}
+use Rattle.round_encoding.specs.Candidates.{group_size}
+use Rattle.candidate_formula.specs.Questions.{IsSmallQuestion}
+use Rattle.candidate_formula.specs.Sizes.{most_chunks, size_of}
+use Rattle.link_faults.specs.Narrowed.{with_width, without, has_links, left_of, narrowed}
+use Rattle.link_faults.specs.Carrying.{narrowed_question}
+use Rattle.link_faults.proofs.Links.{left_usable, set_any}
+use Rattle.link_faults.proofs.Sound.{narrowed_topology}
+
+-- ---- links
+
+fewer_pass : {X : Type 0} (p q : X → Bool) → ((x : X) → p x ≡ true → q x ≡ true) → (xs : List X) → length (filter p xs) ≤ length (filter q xs)
+fewer_pass p q passes [] = omega arith
+fewer_pass p q passes (x ∷ xs) =
+    let rest : length (filter p xs) ≤ length (filter q xs) = fewer_pass p q passes xs in
+    ⊎_elim
+    (λ (is : p x ≡ true). rw (is, passes x is) (omega (arith, rest)))
+    (λ (is : p x ≡ false).
+    let more : length (filter p xs) ≤ length (cond (q x) (x ∷ filter q xs) (filter q xs)) =
+    elim (q x) as (λ b. length (filter p xs) ≤ length (cond b (x ∷ filter q xs) (filter q xs))) [ true ↦ omega (arith, rest) | false ↦ rest ] in
+    rw is more)
+    (cases_Bool (p x))
+
+usable_before : (t : TopologyValue) (g w : ℕ) (link : ℕ × ℕ) → is_usable (narrowed t g w) link ≡ true → is_usable t link ≡ true
+usable_before t g zero link is = (left_usable (group_at t g) t.groups link is).0
+usable_before t g (suc w) link is =
+    let none : GroupValue = record { links = []; width = 0 } in
+    sym (set_any (λ group. has_link group link) t.groups g none (with_width (suc w) (group_at t g)) refl) ∙ is
+
+fewer_links : (t : TopologyValue) (g w : ℕ) → length (usable_links (narrowed t g w)) ≤ length (usable_links t)
+fewer_links t g w = fewer_pass (is_usable (narrowed t g w)) (is_usable t) (usable_before t g w) (all_pairs t.nodes t.nodes)
+
+-- ---- groups
+
+less_left : (size : GroupValue → ℕ) (lost : GroupValue) → ((group : GroupValue) → size (without lost group) ≤ size group) → (groups : List GroupValue) → sum_by size (left_of lost groups) ≤ sum_by size groups
+less_left size lost less [] = omega arith
+less_left size lost less (group ∷ groups) =
+    let left : List GroupValue = left_of lost groups in
+    let rest : sum_by size left ≤ sum_by size groups = less_left size lost less groups in
+    let here : size (without lost group) ≤ size group = less group in
+    let whole : sum_by size (group ∷ groups) ≡ size group + sum_by size groups = sum_by-cons size group groups in
+    let kept : sum_by size (without lost group ∷ left) ≡ size (without lost group) + sum_by size left = sum_by-cons size (without lost group) left in
+    elim (has_links (without lost group)) as (λ b. sum_by size (cond b (without lost group ∷ left) left) ≤ sum_by size (group ∷ groups))
+    [ true ↦ omega (arith, rest, here, whole, kept) | false ↦ omega (arith, rest, whole) ]
+
+less_set : (size : GroupValue → ℕ) (groups : List GroupValue) (g : ℕ) (d y : GroupValue) → size y ≤ size (get_or groups g d) → sum_by size (slice_set groups g y) ≤ sum_by size groups
+less_set size [] g d y less = omega arith
+less_set size (group ∷ groups) zero d y less = omega (arith, less, sum_by-cons size y groups, sum_by-cons size group groups)
+less_set size (group ∷ groups) (suc g) d y less = omega (arith, less_set size groups g d y less, sum_by-cons size group (slice_set groups g y), sum_by-cons size group groups)
+
+module _ (chunks steps extra : ℕ) where
+  less_links : (lost group : GroupValue) → group_size chunks steps extra (without lost group) ≤ group_size chunks steps extra group
+  less_links lost group =
+      let links : ℕ = length (without lost group).links in
+      let all : ℕ = length group.links in
+      let rounds : ℕ = group.width * (1 + extra) + 1 in
+      let few : links ≤ all = kept (λ link. not (has_link lost link)) group.links in
+      mul-le (links * chunks * steps) rounds (all * chunks * steps) rounds (mul-le (links * chunks) steps (all * chunks) steps (mul-le links chunks all chunks few (omega arith)) (omega arith)) (omega arith)
+    where
+      kept : (p : ℕ × ℕ → Bool) (links : List (ℕ × ℕ)) → length (filter p links) ≤ length links
+      kept p [] = omega arith
+      kept p (l ∷ links) =
+          let rest : length (filter p links) ≤ length links = kept p links in
+          elim (p l) as (λ b. length (cond b (l ∷ filter p links) (filter p links)) ≤ length (l ∷ links)) [ true ↦ omega (arith, rest) | false ↦ omega (arith, rest) ]
+
+  less_width : (group : GroupValue) (w : ℕ) → w ≤ group.width → group_size chunks steps extra (with_width w group) ≤ group_size chunks steps extra group
+  less_width group w less =
+      let counted : ℕ = length group.links * chunks * steps in
+      let narrow : w * (1 + extra) ≤ group.width * (1 + extra) = mul-le w (1 + extra) group.width (1 + extra) less (omega arith) in
+      mul-le counted (w * (1 + extra) + 1) counted (group.width * (1 + extra) + 1) (omega arith) (omega (arith, narrow))
+
+  less_groups : (t : TopologyValue) (g w : ℕ) → w ≤ (group_at t g).width → sum_by (group_size chunks steps extra) (narrowed t g w).groups ≤ sum_by (group_size chunks steps extra) t.groups
+  less_groups t g zero less = less_left (group_size chunks steps extra) (group_at t g) (less_links (group_at t g)) t.groups
+  less_groups t g (suc w) less = less_set (group_size chunks steps extra) t.groups g (record { links = []; width = 0 }) (with_width (suc w) (group_at t g)) (less_width (group_at t g) (suc w) less)
+
+-- ---- the search
+
+pub no_larger : (q : QuestionValue) (g w : ℕ) → w ≤ (group_at q.topology g).width → size_of (narrowed_question q g w) ≤ size_of q
+no_larger q g w less =
+    let chunks : ℕ = most_chunks q in
+    let steps : ℕ = q.limits.max_s in
+    let links : ℕ = length (usable_links (narrowed q.topology g w)) in
+    let all : ℕ = length (usable_links q.topology) in
+    let sent : chunks * links * steps ≤ chunks * all * steps = mul-le (chunks * links) steps (chunks * all) steps (mul-le chunks links chunks all (omega arith) (fewer_links q.topology g w)) (omega arith) in
+    let counted : sum_by (group_size chunks steps q.limits.k) (narrowed q.topology g w).groups ≤ sum_by (group_size chunks steps q.limits.k) q.topology.groups = less_groups chunks steps q.limits.k q.topology g w less in
+    omega (arith, sent, counted)
+
+pub still_small : (q : QuestionValue) (g w : ℕ) → IsSmallQuestion q → g < length q.topology.groups → w < (group_at q.topology g).width → IsSmallQuestion (narrowed_question q g w)
+still_small q g w small low less = record {
+  topology = narrowed_topology q.topology g w small.topology low less;
+  spec = small.spec;
+  copies = small.copies;
+  limits = small.limits;
+  size = omega (arith, small.size, no_larger q g w (omega (arith, less)));
+}

@@ -1,0 +1,200 @@
+-- Whatever its steps, a schedule that solves brings each needed chunk into the set by a send of its own, so that they are no more than come in in its rounds.
+use Rattle.std.proofs.Common.{◌≡◌, ℕ, zero, suc, ◌+◌, ◌-◌, ◌*◌, ◌<◌, ◌≤◌, Bool, true, false, ◌||◌, ◌&&◌, cond, List, [], ◌∷◌, length, get_or, take, refl, sym, ap, ◌∙◌, inl, inr, ⊎_elim, arith}
+use Rattle.std.specs.Option.{is_some, option_map}
+use Rattle.std.specs.Prelude.{Option, None, Some, find, ◌==◌, count_by, not, nat_le, nat_lt, sum, ◌⊎◌}
+use Rattle.std.specs.List.{list_any, range_with_len}
+use Rattle.std.proofs.Math.Nat.{mul-add}
+use Rattle.std.proofs.lemmas.Bool.{false≢true, cases_Bool, cases_eq, cases_lt, or_left, or_right, or_cases, and_parts, and_from, and_left, both_ways, lt-leb, not_from_false, not-true, eq-eqb, eqb-true, le-leb, leb-true, lt-ltb, ltb-true}
+use Rattle.std.proofs.lemmas.List.{take_all, get_or_past}
+use Rattle.std.proofs.lemmas.List.Sums.{sum_by-cons, sum_by_more}
+use Rattle.std.proofs.lemmas.List.Elements.{All-get_or, recursion_from_All}
+use Rattle.std.proofs.lemmas.Map.Views.{any-filter_same}
+use Rattle.schedule.specs.declared.hop.Hop.{Hop}
+use Rattle.schedule.specs.Links.{TopologyValue, is_usable}
+use Rattle.schedule.specs.Placed.{PlacementValue, holds, placed, same_pair, all_pairs}
+use Rattle.schedule.specs.Sends.{ScheduleValue, link_of}
+use Rattle.schedule.specs.Running.{after, brings}
+use Rattle.schedule.specs.Fitting.{Fits, load, rounds_at}
+use Rattle.schedule.specs.Judging.{group_at}
+use Rattle.schedule.specs.Solving.{Solves}
+use Rattle.schedule.proofs.First.{Among, among_each}
+use Rattle.schedule.proofs.Placing.{pair_is}
+use Rattle.node_cuts.specs.declared.side.Side.{Side}
+use Rattle.node_cuts.specs.Sides.{NodeSet, set_of, listed_sides}
+use Rattle.node_cuts.specs.Cuts.{stands_in, is_needed, need, enters, is_among, cover, width, cut_refutes, cut_of, first_cut_of}
+use Rattle.node_cuts.proofs.Counting.{any_found, any_among, no_fewer, no_fewer_of, one_more, no_more_than_both, none_counted}
+use Rattle.node_cuts.proofs.Covered.{covered, carried}
+
+-- what the placement of a test holds passes it
+passes_placed : (chunks nodes : ℕ) (f : ℕ × ℕ → Bool) (pair : ℕ × ℕ) → holds (placed chunks nodes f) pair ≡ true → f pair ≡ true
+passes_placed chunks nodes f pair held =
+    let told : holds (placed chunks nodes f) pair ≡ (f pair && list_any (same_pair pair) (all_pairs chunks nodes)) = any-filter_same (same_pair pair) f (f pair) (λ k same. ap f (sym (pair_is pair k same))) (all_pairs chunks nodes) in
+    (and_parts (f pair) (list_any (same_pair pair) (all_pairs chunks nodes)) (sym told ∙ held)).0
+
+module _ (u : NodeSet) (s : ScheduleValue) where
+  -- a send of one of the first steps, over a link into the set
+  abbrev comes_in : ℕ → Hop → Bool
+  comes_in n h = nat_lt 0 h.step && (nat_le h.step n && enters u (link_of h))
+
+  comes_in_later : (n : ℕ) (h : Hop) → comes_in n h ≡ true → comes_in (suc n) h ≡ true
+  comes_in_later n h in_time =
+      let first = and_parts (nat_lt 0 h.step) (nat_le h.step n && enters u (link_of h)) in_time in
+      let second = and_parts (nat_le h.step n) (enters u (link_of h)) first.1 in
+      let low : h.step ≤ suc n = omega (arith, leb-true h.step n second.0) in
+      and_from (nat_lt 0 h.step) (nat_le h.step (suc n) && enters u (link_of h)) first.0 (and_from (nat_le h.step (suc n)) (enters u (link_of h)) (le-leb h.step (suc n) low) second.1)
+
+  -- some send of the chunk comes in
+  record Enters (n chunk : ℕ) : Type 0 where
+    hop : Hop
+    sent : Among hop s.sends
+    chunk_is : hop.chunk ≡ chunk
+    inside : comes_in n hop ≡ true
+
+  later : (n chunk : ℕ) → Enters n chunk → Enters (suc n) chunk
+  later n chunk e = record { hop = e.hop; sent = e.sent; chunk_is = e.chunk_is; inside = comes_in_later n e.hop e.inside }
+
+  -- what stands in the set after so many steps stood in it before all of them, or came in by a send
+  arrives : (pre : PlacementValue) (n chunk node : ℕ) → u node ≡ true → holds (after pre s n) (chunk, node) ≡ true → (stands_in u pre chunk ≡ true) ⊎ Enters n chunk
+  arrives pre zero chunk node member held =
+      let found = any_found (same_pair (chunk, node)) pre.pairs held in
+      let it : (chunk, node) ≡ found.0 = pair_is (chunk, node) found.0 found.2 in
+      inl (any_among (λ pair. pair.0 == chunk && u pair.1) found.0 pre.pairs found.1 (ap (λ (pair : ℕ × ℕ). pair.0 == chunk && u pair.1) (sym it) ∙ and_from (chunk == chunk) (u node) (eq-eqb chunk chunk refl) member))
+  arrives pre (suc n) chunk node member held =
+      let before : PlacementValue = after pre s n in
+      let either : (holds before (chunk, node) || list_any (brings before (n + 1) (chunk, node)) s.sends) ≡ true = passes_placed before.chunks before.nodes (λ pair. holds before pair || list_any (brings before (n + 1) pair) s.sends) (chunk, node) held in
+      let up : (stands_in u pre chunk ≡ true) ⊎ Enters n chunk → (stands_in u pre chunk ≡ true) ⊎ Enters (suc n) chunk = ⊎_elim (λ stood. inl stood) (λ (e : Enters n chunk). inr (later n chunk e)) in
+      ⊎_elim
+      (λ (already : holds before (chunk, node) ≡ true). up (arrives pre n chunk node member already))
+      (λ (brought : list_any (brings before (n + 1) (chunk, node)) s.sends ≡ true).
+      let found = any_found (brings before (n + 1) (chunk, node)) s.sends brought in
+      let h : Hop = found.0 in
+      let parts = and_parts (h.step == n + 1) (same_pair (h.chunk, h.to) (chunk, node) && holds before (h.chunk, h.from)) found.2 in
+      let rest = and_parts (same_pair (h.chunk, h.to) (chunk, node)) (holds before (h.chunk, h.from)) parts.1 in
+      let same : (h.chunk, h.to) ≡ (chunk, node) = pair_is (h.chunk, h.to) (chunk, node) rest.0 in
+      let chunk_is : h.chunk ≡ chunk = ap (λ (pair : ℕ × ℕ). pair.0) same in
+      let to_is : h.to ≡ node = ap (λ (pair : ℕ × ℕ). pair.1) same in
+      ⊎_elim
+      (λ (inside : u h.from ≡ true). up (arrives pre n chunk h.from inside (ap (λ c. holds before (c, h.from)) (sym chunk_is) ∙ rest.1)))
+      (λ (outside : u h.from ≡ false).
+      let step_is : h.step ≡ n + 1 = eqb-true h.step (n + 1) parts.0 in
+      inr (record {
+        hop = h;
+        sent = found.1;
+        chunk_is = chunk_is;
+        inside = and_from (nat_lt 0 h.step) (nat_le h.step (suc n) && enters u (link_of h)) (lt-ltb 0 h.step (omega (arith, step_is)))
+            (and_from (nat_le h.step (suc n)) (enters u (link_of h)) (le-leb h.step (suc n) (omega (arith, step_is)))
+            (and_from (not (u h.from)) (u h.to) (not_from_false (u h.from) outside) (ap u to_is ∙ member)));
+      }))
+      (cases_Bool (u h.from)))
+      (or_cases (holds before (chunk, node)) (list_any (brings before (n + 1) (chunk, node)) s.sends) either)
+
+  -- chunks that differ come by sends that differ
+  by_sends_of_their_own : (n : ℕ) (p : ℕ → Bool) → ((chunk : ℕ) → p chunk ≡ true → Enters n chunk) → (a len : ℕ) → count_by p (range_with_len a len) ≤ count_by (λ h. nat_le a h.chunk && comes_in n h) s.sends
+  by_sends_of_their_own n p enter a zero = omega arith
+  by_sends_of_their_own n p enter a (suc len) =
+      let here : Hop → Bool = λ h. nat_le a h.chunk && comes_in n h in
+      let next : Hop → Bool = λ h. nat_le (a + 1) h.chunk && comes_in n h in
+      let rest : count_by p (range_with_len (a + 1) len) ≤ count_by next s.sends = by_sends_of_their_own n p enter (a + 1) len in
+      let weaker : (h : Hop) → next h ≡ true → here h ≡ true = λ h both.
+      let parts = and_parts (nat_le (a + 1) h.chunk) (comes_in n h) both in
+      and_from (nat_le a h.chunk) (comes_in n h) (le-leb a h.chunk (omega (arith, leb-true (a + 1) h.chunk parts.0))) parts.1 in
+      ⊎_elim
+      (λ (yes : p a ≡ true).
+      let e : Enters n a = enter a yes in
+      let chunk_is : e.hop.chunk ≡ a = e.chunk_is in
+      let passes : here e.hop ≡ true = and_from (nat_le a e.hop.chunk) (comes_in n e.hop) (le-leb a e.hop.chunk (omega (arith, chunk_is))) e.inside in
+      let fails : next e.hop ≡ false = and_left (nat_le (a + 1) e.hop.chunk) (comes_in n e.hop) (lt-leb (a + 1) e.hop.chunk (omega (arith, chunk_is))) in
+      let more : count_by next s.sends + 1 ≤ count_by here s.sends = one_more next here weaker s.sends e.hop e.sent passes fails in
+      let whole : count_by p (a ∷ range_with_len (a + 1) len) ≡ cond {A = ℕ} (p a) 1 0 + count_by p (range_with_len (a + 1) len) = sum_by-cons (λ x. cond (p x) 1 0) a (range_with_len (a + 1) len) in
+      omega (arith, whole, ap (λ b. cond {A = ℕ} b 1 0) yes, rest, more))
+      (λ (no : p a ≡ false).
+      let whole : count_by p (a ∷ range_with_len (a + 1) len) ≡ cond {A = ℕ} (p a) 1 0 + count_by p (range_with_len (a + 1) len) = sum_by-cons (λ x. cond (p x) 1 0) a (range_with_len (a + 1) len) in
+      omega (arith, whole, ap (λ b. cond {A = ℕ} b 1 0) no, rest, no_fewer next here weaker s.sends))
+      (cases_Bool (p a))
+
+  -- ---- what comes in in the first steps
+
+  module _ (t : TopologyValue) (fits : Fits t s) where
+    within : (step : ℕ) → 0 < step → step ≤ length s.rounds → (g : ℕ) → load (group_at t g) step s.sends ≤ (group_at t g).width * rounds_at s step
+    within step from to g =
+        ⊎_elim
+        (λ (inside : g < length t.groups). All-get_or (λ group. load group step s.sends ≤ group.width * rounds_at s step) t.groups g (record { links = []; width = 0 }) inside (fits.within step from to))
+        (λ (past : length t.groups ≤ g).
+        let none : group_at t g ≡ record { links = []; width = 0 } = get_or_past t.groups g (record { links = []; width = 0 }) past in
+        let no_load : load (group_at t g) step s.sends ≡ 0 = ap (λ group. load group step s.sends) none ∙ none_counted (λ (h : Hop). h.step == step && false) (λ h both. false≢true (and_parts (h.step == step) false both).1) s.sends in
+        omega (arith, no_load))
+        (cases_lt g (length t.groups))
+
+    in_first_steps : (n : ℕ) → n ≤ length s.rounds → count_by (comes_in n) s.sends ≤ width u t * sum (take n s.rounds)
+    in_first_steps zero low =
+        let none : count_by (comes_in 0) s.sends ≡ 0 = none_counted (comes_in 0) (λ (h : Hop) both.
+        let first = and_parts (nat_lt 0 h.step) (nat_le h.step 0 && enters u (link_of h)) both in
+        let second = and_parts (nat_le h.step 0) (enters u (link_of h)) first.1 in
+        omega (arith, ltb-true 0 h.step first.0, leb-true h.step 0 second.0)) s.sends in
+        omega (arith, none)
+    in_first_steps (suc n) low =
+        let step : ℕ = n + 1 in
+        let now : Hop → Bool = λ h. h.step == step && enters u (link_of h) in
+        let split : count_by (comes_in (suc n)) s.sends ≤ count_by (comes_in n) s.sends + count_by now s.sends = no_more_than_both (comes_in (suc n)) (comes_in n) now (λ (h : Hop) both.
+        let first = and_parts (nat_lt 0 h.step) (nat_le h.step (suc n) && enters u (link_of h)) both in
+        let second = and_parts (nat_le h.step (suc n)) (enters u (link_of h)) first.1 in
+        ⊎_elim
+        (λ (last : h.step ≡ step). or_right (comes_in n h) (now h) (and_from (h.step == step) (enters u (link_of h)) (eq-eqb h.step step last) second.1))
+        (λ (before : h.step ≡ step → ⊥).
+        let small : h.step ≤ n = omega (arith, leb-true h.step (suc n) second.0, before) in
+        or_left (comes_in n h) (now h) (and_from (nat_lt 0 h.step) (nat_le h.step n && enters u (link_of h)) first.0 (and_from (nat_le h.step n) (enters u (link_of h)) (le-leb h.step n small) second.1)))
+        (cases_eq h.step step)) s.sends in
+        let over : count_by now s.sends ≤ count_by (λ (h : Hop). now h && is_among t (cover u t) (link_of h)) s.sends = no_fewer_of (λ (h : Hop). is_usable t (link_of h) ≡ true) now (λ (h : Hop). now h && is_among t (cover u t) (link_of h)) (λ (h : Hop) usable it.
+        let parts = and_parts (h.step == step) (enters u (link_of h)) it in
+        and_from (now h) (is_among t (cover u t) (link_of h)) it (covered u t (link_of h) parts.1 usable)) s.sends (recursion_from_All (λ (h : Hop). is_usable t (link_of h) ≡ true) s.sends fits.usable) in
+        let most : count_by (λ (h : Hop). now h && is_among t (cover u t) (link_of h)) s.sends ≤ width u t * rounds_at s step = carried t s step now (λ (h : Hop) it. eqb-true h.step step (and_parts (h.step == step) (enters u (link_of h)) it).0) (within step (omega arith) (omega (arith, low))) (cover u t) in
+        let place : step - 1 ≡ n = omega arith in
+        let rounds_are : rounds_at s step ≡ get_or s.rounds n 0 = ap (λ k. get_or s.rounds k 0) place in
+        let one : suc n ≡ n + 1 = omega arith in
+        let more : sum (take (suc n) s.rounds) ≡ sum (take n s.rounds) + get_or s.rounds n 0 = ap (λ k. sum (take k s.rounds)) one ∙ sum_by_more (λ x. x) s.rounds n 0 (omega (arith, low)) in
+        let product : width u t * sum (take (suc n) s.rounds) ≡ width u t * sum (take n s.rounds) + width u t * rounds_at s step = ap (λ k. width u t * k) (more ∙ ap (λ k. sum (take n s.rounds) + k) (sym rounds_are)) ∙ mul-add (width u t) (sum (take n s.rounds)) (rounds_at s step) in
+        omega (arith, split, over, most, product, in_first_steps n (omega (arith, low)))
+
+-- what has to come in is no more than what can in the rounds of a schedule that solves
+pub needed_comes_in : (u : NodeSet) (t : TopologyValue) (pre post : PlacementValue) (s : ScheduleValue) (steps rounds : ℕ) → Solves t pre post s steps rounds → need u pre post ≤ width u t * rounds
+needed_comes_in u t pre post s steps rounds solves =
+    let all : ℕ = length s.rounds in
+    let enter : (chunk : ℕ) → is_needed u pre post chunk ≡ true → Enters u s all chunk = λ chunk needed.
+    let parts = and_parts (stands_in u post chunk) (not (stands_in u pre chunk)) needed in
+    let found = any_found (λ (pair : ℕ × ℕ). pair.0 == chunk && u pair.1) post.pairs parts.0 in
+    let pair : ℕ × ℕ = found.0 in
+    let both = and_parts (pair.0 == chunk) (u pair.1) found.2 in
+    let held : holds (after pre s all) pair ≡ true = among_each (λ p. holds (after pre s all) p ≡ true) pair post.pairs (recursion_from_All (λ p. holds (after pre s all) p ≡ true) post.pairs solves.delivers) found.1 in
+    let chunk_is : pair.0 ≡ chunk = eqb-true pair.0 chunk both.0 in
+    ⊎_elim
+    (λ (stood : stands_in u pre chunk ≡ true). absurd (both_ways (stands_in u pre chunk) (not-true (stands_in u pre chunk) parts.1) stood))
+    (λ (e : Enters u s all chunk). e)
+    (arrives u s pre all chunk pair.1 both.1 (ap (λ c. holds (after pre s all) (c, pair.1)) (sym chunk_is) ∙ held)) in
+    let own : need u pre post ≤ count_by (λ h. nat_le 0 h.chunk && comes_in u s all h) s.sends = by_sends_of_their_own u s all (is_needed u pre post) enter 0 post.chunks in
+    let fewer : count_by (λ h. nat_le 0 h.chunk && comes_in u s all h) s.sends ≤ count_by (comes_in u s all) s.sends = no_fewer (λ h. nat_le 0 h.chunk && comes_in u s all h) (comes_in u s all) (λ h it. (and_parts (nat_le 0 h.chunk) (comes_in u s all h) it).1) s.sends in
+    let most : count_by (comes_in u s all) s.sends ≤ width u t * sum (take all s.rounds) = in_first_steps u s t solves.fits all (omega arith) in
+    let whole : width u t * sum (take all s.rounds) ≡ width u t * rounds = ap (λ k. width u t * k) (ap sum (take_all all s.rounds (omega arith)) ∙ solves.rounds_are) in
+    omega (arith, own, fewer, most, whole)
+
+pub cut_says : (u : NodeSet) (t : TopologyValue) (pre post : PlacementValue) (s : ScheduleValue) (steps rounds : ℕ) → cut_refutes u t pre post rounds ≡ true → Solves t pre post s steps rounds → ⊥
+cut_says u t pre post s steps rounds refutes solves =
+    omega (arith, ltb-true (width u t * rounds) (need u pre post) refutes, needed_comes_in u t pre post s steps rounds solves)
+
+some_mapped : {X Y : Type 0} (f : X → Y) (o : Option X) → is_some (option_map f o) ≡ is_some o
+some_mapped f None = refl
+some_mapped f (Some x) = refl
+
+found_one : {X : Type 0} (p : X → Bool) (xs : List X) → is_some (find p xs) ≡ true → (x : X) × (p x ≡ true)
+found_one p [] some = absurd (false≢true some)
+found_one p (x ∷ xs) some =
+    ⊎_elim
+    (λ (here : p x ≡ true). (x, here))
+    (λ (later : p x ≡ false). found_one p xs (rw later at some))
+    (cases_Bool (p x))
+
+-- where there is a first cut, no schedule of so many rounds solves
+pub first_says : (t : TopologyValue) (pre post : PlacementValue) (s : ScheduleValue) (steps rounds : ℕ) → is_some (first_cut_of t pre post rounds) ≡ true → Solves t pre post s steps rounds → ⊥
+first_says t pre post s steps rounds cut solves =
+    let p : Side → Bool = λ side. cut_refutes (set_of side) t pre post rounds in
+    let it = found_one p (listed_sides t.nodes) (sym (some_mapped (cut_of t pre post) (find p (listed_sides t.nodes))) ∙ cut) in
+    cut_says (set_of it.0) t pre post s steps rounds it.1 solves

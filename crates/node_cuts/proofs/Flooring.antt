@@ -1,0 +1,63 @@
+-- The floor is a fraction of a listed set, or nothing over 1, and no schedule is below it.
+use Rattle.std.proofs.Common.{◌≡◌, ℕ, ◌*◌, ◌<◌, ◌≤◌, Bool, true, false, List, [], ◌∷◌, sym, ap, ◌∙◌, ⊎_elim, subst, arith}
+use Rattle.std.specs.Prelude.{find, filter, map}
+use Rattle.std.specs.List.{AllByRecursion}
+use Rattle.std.proofs.Math.Nat.{mul_comm, mul_assoc, mul-le-mul_right}
+use Rattle.std.proofs.lemmas.Bool.{cases_Bool}
+use Rattle.schedule.specs.Links.{TopologyValue}
+use Rattle.schedule.specs.Sends.{ScheduleValue}
+use Rattle.schedule.specs.Solving.{Solves}
+use Rattle.collective_spec.specs.declared.spec.Spec.{Spec}
+use Rattle.collective_spec.specs.Kinds.{allows}
+use Rattle.collective_spec.specs.Collectives.{kind_in, spec_instance}
+use Rattle.node_cuts.specs.declared.side.Side.{Side}
+use Rattle.std.specs.Option.{unwrap_or}
+use Rattle.node_cuts.specs.declared.floor.Floor.{Floor}
+use Rattle.node_cuts.specs.Sides.{NodeSet, set_of, listed_sides}
+use Rattle.node_cuts.specs.Cuts.{need, width}
+use Rattle.node_cuts.specs.Floors.{least_count, fraction_of, has_need, fractions, is_greatest, nothing_over_1, floor_of}
+use Rattle.node_cuts.proofs.Crossing.{needed_comes_in}
+use Rattle.node_cuts.proofs.Scaling.{IsScaled, scales}
+
+-- what is said of each element, and of nothing over 1, is said of the first that passes
+of_found : (P : Floor → Type 0) (p : Floor → Bool) (fs : List Floor) → AllByRecursion P fs → P nothing_over_1 → P (unwrap_or (find p fs) nothing_over_1)
+of_found P p [] each none = none
+of_found P p (f ∷ fs) each none =
+    ⊎_elim
+    (λ (here : p f ≡ true). rw here each.0)
+    (λ (later : p f ≡ false). rw later (of_found P p fs each.1 none))
+    (cases_Bool (p f))
+
+of_some : (P : Floor → Type 0) (g : Side → Floor) → ((side : Side) → P (g side)) → (sides : List Side) → AllByRecursion P (filter has_need (map g sides))
+of_some P g each [] = tt
+of_some P g each (side ∷ sides) =
+    ⊎_elim
+    (λ (kept : has_need (g side) ≡ true). rw kept (each side, of_some P g each sides))
+    (λ (left : has_need (g side) ≡ false). rw left (of_some P g each sides))
+    (cases_Bool (has_need (g side)))
+
+-- each listed set bounds
+side_bounds : (t : TopologyValue) (spec : Spec) (s : ScheduleValue) (steps rounds c : ℕ) → 0 < t.nodes → allows (kind_in spec) t.nodes c ≡ true
+    → Solves t (spec_instance spec t.nodes c).pre (spec_instance spec t.nodes c).post s steps rounds → (side : Side) → (fraction_of t spec side).above * c ≤ rounds * (fraction_of t spec side).below
+side_bounds t spec s steps rounds c some allowed solves side =
+    let u : NodeSet = set_of side in
+    let least : ℕ = least_count (kind_in spec) t.nodes in
+    let scaled : IsScaled u spec t.nodes c = scales u spec t.nodes c some allowed in
+    let n : ℕ = need u (spec_instance spec t.nodes least).pre (spec_instance spec t.nodes least).post in
+    let w : ℕ = width u t in
+    let m : ℕ = scaled.times in
+    let bound : need u (spec_instance spec t.nodes c).pre (spec_instance spec t.nodes c).post ≤ w * rounds = needed_comes_in u t (spec_instance spec t.nodes c).pre (spec_instance spec t.nodes c).post s steps rounds solves in
+    let over : m * n ≤ w * rounds = subst (λ v. v ≤ w * rounds) scaled.needed bound in
+    let times : m * n * least ≤ w * rounds * least = mul-le-mul_right least over in
+    let left : n * c ≡ m * n * least = ap (λ v. n * v) scaled.count ∙ sym (mul_assoc n m least) ∙ ap (λ v. v * least) (mul_comm n m) in
+    let right : rounds * (w * least) ≡ w * rounds * least = sym (mul_assoc rounds w least) ∙ ap (λ v. v * least) (mul_comm rounds w) in
+    omega (arith, left, right, times)
+
+-- so the floor does
+pub floor_bounds : (t : TopologyValue) (spec : Spec) (s : ScheduleValue) (steps rounds c : ℕ) → 0 < t.nodes → allows (kind_in spec) t.nodes c ≡ true
+    → Solves t (spec_instance spec t.nodes c).pre (spec_instance spec t.nodes c).post s steps rounds → (floor_of t spec).above * c ≤ rounds * (floor_of t spec).below
+floor_bounds t spec s steps rounds c some allowed solves =
+    let bounds : Floor → Type 0 = λ f. f.above * c ≤ rounds * f.below in
+    let none : 0 * c ≤ rounds * 1 = omega arith in
+    of_found bounds (is_greatest (fractions t spec)) (fractions t spec)
+    (of_some bounds (fraction_of t spec) (side_bounds t spec s steps rounds c some allowed solves) (listed_sides t.nodes)) none

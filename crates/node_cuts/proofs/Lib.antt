@@ -1,0 +1,12 @@
+pub mod Counting
+pub mod Covered
+pub mod Crossing
+pub mod Scaling
+pub mod Masks
+pub mod Best
+pub mod Reading
+pub mod Listing
+pub mod Flooring
+pub mod Opening
+pub mod Least
+pub mod Tabled

@@ -1,0 +1,105 @@
+-- A set of nodes as bits.
+use Rattle.std.proofs.Common.{◌≡◌, ℕ, zero, suc, ◌+◌, ◌-◌, ◌*◌, ◌/◌, ◌%◌, ◌^◌, ◌<◌, ◌≤◌, Bool, true, false, cond, ◌&&◌, [], ◌∷◌, ◌++◌, map-id, refl, ap, sym, ◌∙◌, ⊎_elim, arith}
+use Rattle.std.specs.Prelude.{◌==◌, ◌⊎◌, nat_lt}
+use Rattle.std.proofs.Math.Nat.{mul-one, add-mul-div_left, add-mul-mod_self_left, div-eq_of_lt, pow-le-pow_right}
+use Rattle.std.specs.List.{range_with_len, sum_by}
+use Rattle.std.proofs.lemmas.Bool.{cases_Bool, cases_eq, cases_lt, lt-ltb, le-ltb}
+use Rattle.std.proofs.lemmas.Nat.{pow-add, pow_below, pow_pos}
+use Rattle.std.proofs.lemmas.List.FromFn.{map-range_with_len_more}
+use Rattle.std.proofs.lemmas.List.Sums.{sum_by_push}
+use Rattle.node_cuts.specs.Sides.{NodeSet, has_bit, mask_of}
+
+pub range_more : (a n j : ℕ) → a + n ≡ j → range_with_len a (n + 1) ≡ range_with_len a n ++ j ∷ []
+range_more a n j at =
+    sym (map-id (range_with_len a (n + 1))) ∙ map-range_with_len_more (λ x. x) a n j at ∙ ap (λ xs. xs ++ j ∷ []) (map-id (range_with_len a n))
+
+pub bit_more : (n : ℕ) → 2 ^ (n + 1) ≡ 2 ^ n * 2
+bit_more n = pow-add 2 n 1
+
+-- a node more
+pub mask_more : (u : NodeSet) (n : ℕ) → mask_of (n + 1) u ≡ mask_of n u + cond (u n) (2 ^ n) 0
+mask_more u n =
+    ap (sum_by (λ k. cond (u k) (2 ^ k) 0)) (range_more 0 n n (omega arith)) ∙ sum_by_push (λ k. cond (u k) (2 ^ k) 0) (range_with_len 0 n) n
+
+pub mask_below : (u : NodeSet) (n : ℕ) → mask_of n u < 2 ^ n
+mask_below u zero = omega arith
+mask_below u (suc n) =
+    let one : suc n ≡ n + 1 = omega arith in
+    let more : mask_of (suc n) u ≡ mask_of n u + cond (u n) (2 ^ n) 0 = ap (λ k. mask_of k u) one ∙ mask_more u n in
+    let bit : 2 ^ suc n ≡ 2 ^ n * 2 = ap (λ k. 2 ^ k) one ∙ bit_more n in
+    let here : cond (u n) (2 ^ n) 0 ≤ 2 ^ n = ⊎_elim (λ (it : u n ≡ true). rw it (omega arith)) (λ (it : u n ≡ false). rw it (omega arith)) (cases_Bool (u n)) in
+    omega (arith, more, bit, here, mask_below u n)
+
+pub small_bit : (n : ℕ) → n ≤ 16 → 2 ^ n ≤ 65536
+small_bit n low = ⊎_elim (λ (last : n ≡ 16). let same : 2 ^ n ≡ 65536 = ap (λ k. 2 ^ k) last in omega (arith, same)) (λ (less : n ≡ 16 → ⊥). let small : 2 ^ n < 65536 = pow_below n 16 (omega (arith, low, less)) in omega (arith, small)) (cases_eq n 16)
+
+pub mask_yes : (u : NodeSet) (n : ℕ) → u n ≡ true → mask_of (n + 1) u ≡ mask_of n u + 2 ^ n
+mask_yes u n is = mask_more u n ∙ ap (λ b. mask_of n u + cond b (2 ^ n) 0) is
+
+pub mask_no : (u : NodeSet) (n : ℕ) → u n ≡ false → mask_of (n + 1) u ≡ mask_of n u
+mask_no u n is =
+    let same : mask_of (n + 1) u ≡ mask_of n u + 0 = mask_more u n ∙ ap (λ b. mask_of n u + cond b (2 ^ n) 0) is in
+    omega (arith, same)
+
+-- ---- the bits
+
+bit_below : (n m k : ℕ) → n < k → (m + 2 ^ k) / 2 ^ n % 2 ≡ m / 2 ^ n % 2
+bit_below n m k below =
+    let d : ℕ = k - (n + 1) in
+    let exponent : k ≡ n + (1 + d) = omega (arith, below) in
+    let split : 2 ^ k ≡ 2 ^ n * (2 * 2 ^ d) = ap (λ e. 2 ^ e) exponent ∙ pow-add 2 n (1 + d) ∙ ap (λ v. 2 ^ n * v) (pow-add 2 1 d) in
+    ap (λ v. (m + v) / 2 ^ n % 2) split ∙ ap (λ v. v % 2) (add-mul-div_left m (2 * 2 ^ d) (pow_pos n)) ∙ add-mul-mod_self_left (m / 2 ^ n) 2 (2 ^ d)
+
+bit_here : (m k : ℕ) → m < 2 ^ k → (m + 2 ^ k) / 2 ^ k % 2 ≡ 1
+bit_here m k small =
+    let one : 2 ^ k ≡ 2 ^ k * 1 = sym (mul-one (2 ^ k)) in
+    let whole : (m + 2 ^ k) / 2 ^ k ≡ m / 2 ^ k + 1 = ap (λ v. (m + v) / 2 ^ k) one ∙ add-mul-div_left m 1 (pow_pos k) in
+    ap (λ v. v % 2) (whole ∙ ap (λ v. v + 1) (div-eq_of_lt small))
+
+bit_past : (n m : ℕ) → m < 2 ^ n → m / 2 ^ n % 2 ≡ 0
+bit_past n m small = ap (λ v. v % 2) (div-eq_of_lt small)
+
+bit_inside : (u : NodeSet) (nodes n : ℕ) → n < nodes → mask_of nodes u / 2 ^ n % 2 ≡ cond (u n) 1 0
+bit_inside u zero n inside = absurd (omega (arith, inside))
+bit_inside u (suc k) n inside =
+    let more : mask_of (suc k) u ≡ mask_of k u + cond (u k) (2 ^ k) 0 = ap (λ v. mask_of v u) one ∙ mask_more u k in
+    ap (λ v. v / 2 ^ n % 2) more ∙ by_place (bit_inside u k n) (cases_eq n k)
+  where
+    one : suc k ≡ k + 1
+    one = omega arith
+
+    nothing : mask_of k u + 0 ≡ mask_of k u
+    nothing = omega arith
+
+    last : n ≡ k → (mask_of k u + cond (u k) (2 ^ k) 0) / 2 ^ k % 2 ≡ cond (u k) 1 0
+    last here = ⊎_elim
+        (λ (it : u k ≡ true). ap (λ b. (mask_of k u + cond b (2 ^ k) 0) / 2 ^ k % 2) it ∙ bit_here (mask_of k u) k (mask_below u k) ∙ ap (λ b. cond b 1 0) (sym it))
+        (λ (it : u k ≡ false). ap (λ b. (mask_of k u + cond b (2 ^ k) 0) / 2 ^ k % 2) it ∙ ap (λ v. v / 2 ^ k % 2) nothing ∙ bit_past k (mask_of k u) (mask_below u k) ∙ ap (λ b. cond b 1 0) (sym it))
+        (cases_Bool (u k))
+
+    earlier : (n < k → mask_of k u / 2 ^ n % 2 ≡ cond (u n) 1 0) → n < k → (mask_of k u + cond (u k) (2 ^ k) 0) / 2 ^ n % 2 ≡ cond (u n) 1 0
+    earlier before below = ⊎_elim
+        (λ (it : u k ≡ true). ap (λ b. (mask_of k u + cond b (2 ^ k) 0) / 2 ^ n % 2) it ∙ bit_below n (mask_of k u) k below ∙ before below)
+        (λ (it : u k ≡ false). ap (λ b. (mask_of k u + cond b (2 ^ k) 0) / 2 ^ n % 2) it ∙ ap (λ v. v / 2 ^ n % 2) nothing ∙ before below)
+        (cases_Bool (u k))
+
+    by_place : (n < k → mask_of k u / 2 ^ n % 2 ≡ cond (u n) 1 0) → (n ≡ k) ⊎ (n ≡ k → ⊥) → (mask_of k u + cond (u k) (2 ^ k) 0) / 2 ^ n % 2 ≡ cond (u n) 1 0
+    by_place before place = ⊎_elim
+        (λ (here : n ≡ k). ap (λ v. (mask_of k u + cond (u k) (2 ^ k) 0) / 2 ^ v % 2) here ∙ last here ∙ ap (λ v. cond (u v) 1 0) (sym here))
+        (λ (other : n ≡ k → ⊥). earlier before (omega (arith, inside, other)))
+        place
+
+one_where : (b : Bool) → (cond {A = ℕ} b 1 0 == 1) ≡ b
+one_where true = refl
+one_where false = refl
+
+-- a bit is set exactly where it stands for a member
+pub bit_is_member : (u : NodeSet) (nodes n : ℕ) → has_bit (mask_of nodes u) n ≡ (nat_lt n nodes && u n)
+bit_is_member u nodes n =
+    ⊎_elim
+    (λ (inside : n < nodes). ap (λ v. v == 1) (bit_inside u nodes n inside) ∙ one_where (u n) ∙ ap (λ b. b && u n) (sym (lt-ltb n nodes inside)))
+    (λ (past : nodes ≤ n).
+    let two : 0 < 2 = omega arith in
+    let low : 2 ^ nodes ≤ 2 ^ n = pow-le-pow_right two past in
+    ap (λ v. v == 1) (bit_past n (mask_of nodes u) (omega (arith, low, mask_below u nodes))) ∙ ap (λ b. b && u n) (sym (le-ltb n nodes past)))
+    (cases_lt n nodes)

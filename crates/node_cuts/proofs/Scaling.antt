@@ -1,0 +1,236 @@
+-- At each chunk count that a collective may have, what has to come into a set is what has to at the least one, so many times over.
+use Rattle.std.proofs.Common.{◌≡◌, ℕ, zero, suc, ◌+◌, ◌*◌, ◌/◌, ◌%◌, ◌<◌, ◌≤◌, Bool, true, false, ◌||◌, ◌&&◌, cond, List, [], ◌∷◌, refl, sym, ap, ◌∙◌, inl, inr, ⊎_elim, arith}
+use Rattle.std.specs.Prelude.{◌==◌, count_by, not, nat_le, filter}
+use Rattle.std.specs.List.{list_any, range_with_len}
+use Rattle.std.proofs.Math.Nat.{mul_comm, mul_assoc, mul-one, add-mul-mod_self_left, add-mul-div_left}
+use Rattle.std.proofs.lemmas.Bool.{false≢true, cases_Bool, or_left, or_right, or_cases, cases_eq, and_parts, and_from, eqb-true, eq-eqb}
+use Rattle.std.proofs.lemmas.Nat.{div-add-mod'}
+use Rattle.std.proofs.lemmas.List.Sums.{sum_by-cons}
+use Rattle.schedule.specs.Placed.{PlacementValue, holds, placed, same_pair, all_pairs}
+use Rattle.schedule.proofs.First.{Among, among_each}
+use Rattle.schedule.proofs.Placing.{IsBelow, all_below, pair_is, holds-placed}
+use Rattle.collective_spec.specs.declared.kind.Kind.{Kind}
+use Rattle.collective_spec.specs.declared.kind.Kind.TheVariants.{Broadcast, Gather, Allgather, Scatter, Alltoall, Reduce, Reducescatter, Allreduce, Custom}
+use Rattle.collective_spec.specs.declared.layout.Layout.{Layout}
+use Rattle.collective_spec.specs.declared.layout.Layout.TheVariants as layout
+use Rattle.collective_spec.specs.declared.spec.Spec.{Spec}
+use Rattle.collective_spec.specs.declared.spec.Spec.TheVariants as spec
+use Rattle.collective_spec.specs.Layouts.{stands, laid_out}
+use Rattle.collective_spec.specs.Patterns.{in_copies}
+use Rattle.collective_spec.specs.Kinds.{allows}
+use Rattle.collective_spec.specs.Collectives.{kind_in, spec_instance}
+use Rattle.node_cuts.specs.Sides.{NodeSet}
+use Rattle.node_cuts.specs.Cuts.{stands_in, is_needed, need}
+use Rattle.node_cuts.specs.Floors.{least_count}
+use Rattle.node_cuts.proofs.Counting.{any_found, any_among}
+
+-- ---- ranges
+
+pub any_at : (q : ℕ → Bool) (a n k : ℕ) → a ≤ k → k < a + n → q k ≡ true → list_any q (range_with_len a n) ≡ true
+any_at q a zero k low high passes = absurd (omega (arith, low, high))
+any_at q a (suc n) k low high passes =
+    ⊎_elim
+    (λ (here : k ≡ a). or_left (q a) (list_any q (range_with_len (a + 1) n)) (ap q (sym here) ∙ passes))
+    (λ (later : k ≡ a → ⊥). or_right (q a) (list_any q (range_with_len (a + 1) n)) (any_at q (a + 1) n k (omega (arith, low, later)) (omega (arith, high)) passes))
+    (cases_eq k a)
+
+pub range_found : (q : ℕ → Bool) (a n : ℕ) → list_any q (range_with_len a n) ≡ true → (k : ℕ) × (a ≤ k) × (k < a + n) × (q k ≡ true)
+range_found q a zero some = absurd (false≢true some)
+range_found q a (suc n) some =
+    ⊎_elim
+    (λ (here : q a ≡ true). (a, omega arith, omega arith, here))
+    (λ (later : list_any q (range_with_len (a + 1) n) ≡ true). let rest = range_found q (a + 1) n later in (rest.0, omega (arith, rest.1), omega (arith, rest.2), rest.3))
+    (or_cases (q a) (list_any q (range_with_len (a + 1) n)) some)
+
+pub any_alike : {X : Type 0} (p q : X → Bool) (xs : List X) → ((x : X) → p x ≡ q x) → list_any p xs ≡ list_any q xs
+any_alike p q [] same = refl
+any_alike p q (x ∷ xs) same = ap (λ b. b || list_any p xs) (same x) ∙ ap (λ b. q x || b) (any_alike p q xs same)
+
+both_or_none : (a b : Bool) → (a ≡ true → b ≡ true) → (b ≡ true → a ≡ true) → a ≡ b
+both_or_none true b there back = sym (there refl)
+both_or_none false true there back = back refl
+both_or_none false false there back = refl
+
+among_filter : {X : Type 0} (f : X → Bool) (x : X) (xs : List X) → Among x (filter f xs) → Among x xs × (f x ≡ true)
+among_filter f x [] among = absurd among
+among_filter f x (y ∷ ys) among =
+    ⊎_elim
+    (λ (kept : f y ≡ true).
+    let now : Among x (y ∷ filter f ys) = rw kept at among in
+    ⊎_elim
+    (λ (here : y ≡ x). (inl here, ap f (sym here) ∙ kept))
+    (λ (later : Among x (filter f ys)). let rest = among_filter f x ys later in (inr rest.0, rest.1))
+    now)
+    (λ (left : f y ≡ false).
+    let now : Among x (filter f ys) = rw left at among in
+    let rest = among_filter f x ys now in (inr rest.0, rest.1))
+    (cases_Bool (f y))
+
+-- ---- what stands in a set, by the test of a placement
+
+abbrev pub some_stands : NodeSet → ℕ → (ℕ × ℕ → Bool) → ℕ → Bool
+some_stands u nodes f chunk = list_any (λ n. u n && f (chunk, n)) (range_with_len 0 nodes)
+
+pub stands_by : (u : NodeSet) (chunks nodes : ℕ) (f : ℕ × ℕ → Bool) (chunk : ℕ) → chunk < chunks → stands_in u (placed chunks nodes f) chunk ≡ some_stands u nodes f chunk
+stands_by u chunks nodes f chunk below =
+    let test : ℕ × ℕ → Bool = λ pair. pair.0 == chunk && u pair.1 in
+    let row : ℕ → Bool = λ n. u n && f (chunk, n) in
+    both_or_none (stands_in u (placed chunks nodes f) chunk) (some_stands u nodes f chunk)
+    (λ stood.
+    let found = any_found test (filter f (all_pairs chunks nodes)) stood in
+    let pair : ℕ × ℕ = found.0 in
+    let both = and_parts (pair.0 == chunk) (u pair.1) found.2 in
+    let kept = among_filter f pair (all_pairs chunks nodes) found.1 in
+    let inside : IsBelow chunks nodes pair = among_each (IsBelow chunks nodes) pair (all_pairs chunks nodes) (all_below chunks nodes) kept.0 in
+    let chunk_is : pair.0 ≡ chunk = eqb-true pair.0 chunk both.0 in
+    any_at row 0 nodes pair.1 (omega arith) (omega (arith, inside.1)) (and_from (u pair.1) (f (chunk, pair.1)) both.1 (ap (λ c. f (c, pair.1)) (sym chunk_is) ∙ kept.1)))
+    (λ some.
+    let found = range_found row 0 nodes some in
+    let n : ℕ = found.0 in
+    let both = and_parts (u n) (f (chunk, n)) found.3 in
+    let held : holds (placed chunks nodes f) (chunk, n) ≡ true = holds-placed chunks nodes f (chunk, n) below (omega (arith, found.2)) ∙ both.1 in
+    let there = any_found (same_pair (chunk, n)) (filter f (all_pairs chunks nodes)) held in
+    let it : (chunk, n) ≡ there.0 = pair_is (chunk, n) there.0 there.2 in
+    any_among test there.0 (filter f (all_pairs chunks nodes)) there.1 (ap test (sym it) ∙ and_from (chunk == chunk) (u n) (eq-eqb chunk chunk refl) both.0))
+
+abbrev pub needs : NodeSet → ℕ → (ℕ × ℕ → Bool) → (ℕ × ℕ → Bool) → ℕ → Bool
+needs u nodes f g chunk = some_stands u nodes g chunk && not (some_stands u nodes f chunk)
+
+pub count_alike : (p q : ℕ → Bool) (a n : ℕ) → ((k : ℕ) → a ≤ k → k < a + n → p k ≡ q k) → count_by p (range_with_len a n) ≡ count_by q (range_with_len a n)
+count_alike p q a zero same = refl
+count_alike p q a (suc n) same =
+    let rest : count_by p (range_with_len (a + 1) n) ≡ count_by q (range_with_len (a + 1) n) = count_alike p q (a + 1) n (λ k low high. same k (omega (arith, low)) (omega (arith, high))) in
+    let here : p a ≡ q a = same a (omega arith) (omega arith) in
+    let first : count_by p (a ∷ range_with_len (a + 1) n) ≡ cond {A = ℕ} (p a) 1 0 + count_by p (range_with_len (a + 1) n) = sum_by-cons (λ x. cond (p x) 1 0) a (range_with_len (a + 1) n) in
+    let second : count_by q (a ∷ range_with_len (a + 1) n) ≡ cond {A = ℕ} (q a) 1 0 + count_by q (range_with_len (a + 1) n) = sum_by-cons (λ x. cond (q x) 1 0) a (range_with_len (a + 1) n) in
+    omega (arith, first, second, rest, ap (λ b. cond {A = ℕ} b 1 0) here)
+
+pub need_by : (u : NodeSet) (chunks nodes : ℕ) (f g : ℕ × ℕ → Bool) → need u (placed chunks nodes f) (placed chunks nodes g) ≡ count_by (needs u nodes f g) (range_with_len 0 chunks)
+need_by u chunks nodes f g =
+    count_alike (is_needed u (placed chunks nodes f) (placed chunks nodes g)) (needs u nodes f g) 0 chunks (λ k low high.
+    let below : k < chunks = omega (arith, high) in
+    ap (λ b. b && not (stands_in u (placed chunks nodes f) k)) (stands_by u chunks nodes g k below) ∙ ap (λ b. some_stands u nodes g k && not b) (stands_by u chunks nodes f k below))
+
+-- ---- periods
+
+counted_apart : (p : ℕ → Bool) (a n j k : ℕ) → a + n ≡ j → count_by p (range_with_len a (n + k)) ≡ count_by p (range_with_len a n) + count_by p (range_with_len j k)
+counted_apart p a zero j k at =
+    let here : a ≡ j = omega (arith, at) in
+    let none : 0 + k ≡ k = omega arith in
+    let rest : count_by p (range_with_len a (0 + k)) ≡ count_by p (range_with_len j k) = ap (λ v. count_by p (range_with_len a v)) none ∙ ap (λ v. count_by p (range_with_len v k)) here in
+    omega (arith, rest)
+counted_apart p a (suc n) j k at =
+    let up : suc n + k ≡ suc (n + k) = omega arith in
+    let rest : count_by p (range_with_len (a + 1) (n + k)) ≡ count_by p (range_with_len (a + 1) n) + count_by p (range_with_len j k) = counted_apart p (a + 1) n j k (omega (arith, at)) in
+    let first : count_by p (a ∷ range_with_len (a + 1) (n + k)) ≡ cond {A = ℕ} (p a) 1 0 + count_by p (range_with_len (a + 1) (n + k)) = sum_by-cons (λ x. cond (p x) 1 0) a (range_with_len (a + 1) (n + k)) in
+    let second : count_by p (a ∷ range_with_len (a + 1) n) ≡ cond {A = ℕ} (p a) 1 0 + count_by p (range_with_len (a + 1) n) = sum_by-cons (λ x. cond (p x) 1 0) a (range_with_len (a + 1) n) in
+    ap (λ v. count_by p (range_with_len a v)) up ∙ omega (arith, first, second, rest)
+
+counted_later : (p : ℕ → Bool) (period : ℕ) → ((k : ℕ) → p (k + period) ≡ p k) → (a j n : ℕ) → a + period ≡ j → count_by p (range_with_len j n) ≡ count_by p (range_with_len a n)
+counted_later p period again a j zero at = refl
+counted_later p period again a j (suc n) at =
+    let rest : count_by p (range_with_len (j + 1) n) ≡ count_by p (range_with_len (a + 1) n) = counted_later p period again (a + 1) (j + 1) n (omega (arith, at)) in
+    let here : p j ≡ p a = ap p (sym at) ∙ again a in
+    let first : count_by p (j ∷ range_with_len (j + 1) n) ≡ cond {A = ℕ} (p j) 1 0 + count_by p (range_with_len (j + 1) n) = sum_by-cons (λ x. cond (p x) 1 0) j (range_with_len (j + 1) n) in
+    let second : count_by p (a ∷ range_with_len (a + 1) n) ≡ cond {A = ℕ} (p a) 1 0 + count_by p (range_with_len (a + 1) n) = sum_by-cons (λ x. cond (p x) 1 0) a (range_with_len (a + 1) n) in
+    omega (arith, first, second, rest, ap (λ b. cond {A = ℕ} b 1 0) here)
+
+periods : (p : ℕ → Bool) (period : ℕ) → ((k : ℕ) → p (k + period) ≡ p k) → (m : ℕ) → count_by p (range_with_len 0 (m * period)) ≡ m * count_by p (range_with_len 0 period)
+periods p period again zero =
+    let none : 0 * period ≡ 0 = omega arith in
+    let rest : count_by p (range_with_len 0 (0 * period)) ≡ 0 = ap (λ v. count_by p (range_with_len 0 v)) none in
+    omega (arith, rest)
+periods p period again (suc m) =
+    let size : suc m * period ≡ period + m * period = suc_mul m period in
+    let apart : count_by p (range_with_len 0 (period + m * period)) ≡ count_by p (range_with_len 0 period) + count_by p (range_with_len period (m * period)) = counted_apart p 0 period period (m * period) (omega arith) in
+    let later : count_by p (range_with_len period (m * period)) ≡ count_by p (range_with_len 0 (m * period)) = counted_later p period again 0 period (m * period) (omega arith) in
+    let one : suc m * count_by p (range_with_len 0 period) ≡ count_by p (range_with_len 0 period) + m * count_by p (range_with_len 0 period) = suc_mul m (count_by p (range_with_len 0 period)) in
+    ap (λ v. count_by p (range_with_len 0 v)) size ∙ omega (arith, apart, later, one, periods p period again m)
+  where
+    suc_mul : (a b : ℕ) → suc a * b ≡ b + a * b
+    suc_mul a b = omega arith
+
+abbrev Repeats : (ℕ × ℕ → Bool) → ℕ → Type 0
+Repeats f period = (chunk node : ℕ) → f (chunk + period, node) ≡ f (chunk, node)
+
+scaled : (u : NodeSet) (nodes : ℕ) (f g : ℕ × ℕ → Bool) (period m size : ℕ) → Repeats f period → Repeats g period → size ≡ m * period → need u (placed size nodes f) (placed size nodes g) ≡ m * need u (placed period nodes f) (placed period nodes g)
+scaled u nodes f g period m size first second is =
+    let p : ℕ → Bool = needs u nodes f g in
+    let again : (k : ℕ) → p (k + period) ≡ p k = λ k.
+    let one : some_stands u nodes g (k + period) ≡ some_stands u nodes g k = any_alike (λ n. u n && g (k + period, n)) (λ n. u n && g (k, n)) (range_with_len 0 nodes) (λ n. ap (λ b. u n && b) (second k n)) in
+    let other : some_stands u nodes f (k + period) ≡ some_stands u nodes f k = any_alike (λ n. u n && f (k + period, n)) (λ n. u n && f (k, n)) (range_with_len 0 nodes) (λ n. ap (λ b. u n && b) (first k n)) in
+    ap (λ b. b && not (some_stands u nodes f (k + period))) one ∙ ap (λ b. some_stands u nodes g k && not b) other in
+    need_by u size nodes f g
+    ∙ ap (λ v. count_by p (range_with_len 0 v)) is
+    ∙ periods p period again m
+    ∙ ap (λ v. m * v) (sym (need_by u period nodes f g))
+
+-- ---- collectives
+
+-- a layout repeats after as many chunks as there are nodes, and after each multiple
+repeats_all : (nodes period : ℕ) → Repeats (stands layout.All nodes) period
+repeats_all nodes period chunk node = refl
+
+repeats_root : (root nodes period : ℕ) → Repeats (stands (layout.Root root) nodes) period
+repeats_root root nodes period chunk node = refl
+
+repeats_scattered : (nodes times : ℕ) → Repeats (stands layout.Scattered nodes) (nodes * times)
+repeats_scattered nodes times chunk node = ap (λ v. node == v) (add-mul-mod_self_left chunk nodes times)
+
+repeats_transpose : (nodes : ℕ) → 0 < nodes → Repeats (stands layout.Transpose nodes) (nodes * nodes)
+repeats_transpose nodes some chunk node =
+    let up : (chunk + nodes * nodes) / nodes ≡ chunk / nodes + nodes = add-mul-div_left chunk nodes some in
+    let one : nodes ≡ nodes * 1 = sym (mul-one nodes) in
+    ap (λ v. node == v % nodes) up ∙ ap (λ v. node == v) (ap (λ v. (chunk / nodes + v) % nodes) one ∙ add-mul-mod_self_left (chunk / nodes) nodes 1)
+
+repeats_copies : (base : ℕ) (p : PlacementValue) → Repeats (in_copies base p) (base * 1)
+repeats_copies base p chunk node = ap (λ v. holds p (v, node)) (add-mul-mod_self_left chunk base 1)
+
+-- the least count so many times over, and what has to come in
+pub record IsScaled (u : NodeSet) (spec : Spec) (nodes c : ℕ) : Type 0 where
+  pub times : ℕ
+  pub count : c ≡ times * least_count (kind_in spec) nodes
+  pub needed : need u (spec_instance spec nodes c).pre (spec_instance spec nodes c).post ≡ times * need u (spec_instance spec nodes (least_count (kind_in spec) nodes)).pre (spec_instance spec nodes (least_count (kind_in spec) nodes)).post
+
+once : (c : ℕ) → c ≡ c * 1
+once c = sym (mul-one c)
+
+turned : (nodes c : ℕ) → nodes * c ≡ c * (nodes * 1)
+turned nodes c = mul_comm nodes c ∙ ap (λ v. c * v) (sym (mul-one nodes))
+
+by_nodes : (nodes c : ℕ) (u : NodeSet) (first second : Layout) → Repeats (stands first nodes) (nodes * 1) → Repeats (stands second nodes) (nodes * 1)
+    → need u (laid_out first (nodes * c) nodes) (laid_out second (nodes * c) nodes) ≡ c * need u (laid_out first (nodes * 1) nodes) (laid_out second (nodes * 1) nodes)
+by_nodes nodes c u first second before after = scaled u nodes (stands first nodes) (stands second nodes) (nodes * 1) c (nodes * c) before after (turned nodes c)
+
+by_chunks : (nodes c : ℕ) (u : NodeSet) (first second : Layout) → Repeats (stands first nodes) 1 → Repeats (stands second nodes) 1
+    → need u (laid_out first c nodes) (laid_out second c nodes) ≡ c * need u (laid_out first 1 nodes) (laid_out second 1 nodes)
+by_chunks nodes c u first second before after = scaled u nodes (stands first nodes) (stands second nodes) 1 c c before after (once c)
+
+of_kind : (u : NodeSet) (kind : Kind) (root nodes c : ℕ) → 0 < nodes → allows kind nodes c ≡ true → IsScaled u (spec.Standard (record { kind = kind; root = root })) nodes c
+of_kind u Broadcast root nodes c some allowed = record { times = c; count = once c; needed = by_chunks nodes c u (layout.Root root) layout.All (repeats_root root nodes 1) (repeats_all nodes 1) }
+of_kind u Reduce root nodes c some allowed = record { times = c; count = once c; needed = by_chunks nodes c u (layout.Root root) layout.All (repeats_root root nodes 1) (repeats_all nodes 1) }
+of_kind u Gather root nodes c some allowed = record { times = c; count = once c; needed = by_nodes nodes c u layout.Scattered (layout.Root root) (repeats_scattered nodes 1) (repeats_root root nodes (nodes * 1)) }
+of_kind u Allgather root nodes c some allowed = record { times = c; count = once c; needed = by_nodes nodes c u layout.Scattered layout.All (repeats_scattered nodes 1) (repeats_all nodes (nodes * 1)) }
+of_kind u Scatter root nodes c some allowed = record { times = c; count = once c; needed = by_nodes nodes c u (layout.Root root) layout.Scattered (repeats_root root nodes (nodes * 1)) (repeats_scattered nodes 1) }
+of_kind u Reducescatter root nodes c some allowed = record { times = c; count = once c; needed = by_nodes nodes c u layout.Scattered layout.All (repeats_scattered nodes 1) (repeats_all nodes (nodes * 1)) }
+of_kind u Allreduce root nodes c some allowed = record { times = c; count = once c; needed = by_nodes nodes c u layout.All layout.All (repeats_all nodes (nodes * 1)) (repeats_all nodes (nodes * 1)) }
+of_kind u Custom root nodes c some allowed = record { times = c; count = once c; needed = scaled u nodes (stands layout.All nodes) (stands layout.All nodes) 0 c 0 (repeats_all nodes 0) (repeats_all nodes 0) (omega arith) }
+of_kind u Alltoall root nodes c some allowed =
+    let parts = and_parts (nat_le 1 c) (c % nodes == 0) allowed in
+    let even : c % nodes ≡ 0 = eqb-true (c % nodes) 0 parts.1 in
+    let m : ℕ = c / nodes in
+    let whole : c ≡ m * nodes = omega (arith, div-add-mod' c nodes, even) in
+    let size : nodes * c ≡ m * (nodes * nodes) = mul_comm nodes c ∙ ap (λ v. v * nodes) whole ∙ mul_assoc m nodes nodes in
+    record {
+      times = m;
+      count = whole;
+      needed = scaled u nodes (stands layout.Scattered nodes) (stands layout.Transpose nodes) (nodes * nodes) m (nodes * c) (repeats_scattered nodes nodes) (repeats_transpose nodes some) size;
+    }
+
+pub scales : (u : NodeSet) (spec : Spec) (nodes c : ℕ) → 0 < nodes → allows (kind_in spec) nodes c ≡ true → IsScaled u spec nodes c
+scales u (spec.Standard collective) nodes c some allowed = of_kind u collective.kind collective.root nodes c some allowed
+scales u (spec.Custom p) nodes c some allowed = record {
+  times = c;
+  count = once c;
+  needed = scaled u nodes (in_copies p.base p.before) (in_copies p.base p.after) (p.base * 1) c (p.base * c) (repeats_copies p.base p.before) (repeats_copies p.base p.after) (turned p.base c);
+}

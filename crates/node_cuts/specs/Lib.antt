@@ -1,0 +1,5 @@
+pub mod Sides
+pub mod Cuts
+pub mod Floors
+pub mod Tables
+pub mod Rows

@@ -1,0 +1,93 @@
+//! The floor: how many rounds each schedule has at least for its chunk count.
+
+ghost use Rattle.std.specs.Prelude.{◌≡◌, ◌≢◌, ◌≤◌, filter, map, All, IfOk};
+ghost use Rattle.collective_spec.specs.Collectives.{IsSpec, kind_in};
+ghost use Rattle.node_cuts.specs.Floors.{exceeds, first_greatest, floor_of, greater_of, has_need};
+ghost use Rattle.node_cuts.specs.Tables.{IsSmall, fraction_in};
+
+use crate::OutOfMemory;
+use crate::cut::Cut;
+use crate::table::CutTable;
+use collective_spec::{Kind, Spec};
+use schedule::Topology;
+use std::alloc::Global;
+
+/// A fraction, and the set of nodes that it is of: bit n stands for node n.
+#[derive(Clone, Copy, PartialEq, Eq)]
+pub struct Floor {
+    /// How many chunks have to come into the set at the least chunk count.
+    pub above: u32,
+    /// How many can in one round, times that count; where it is 0, no schedule solves.
+    pub below: u32,
+    /// The nodes of the set; 0 where nothing has to come into any listed set.
+    pub nodes: u16,
+}
+
+/// Whether the first fraction is greater. Something over 0 is greater than all over another number.
+fn exceeds(first: Floor, second: Floor) -> bool
+    ensures { result ≡ exceeds first second }
+{
+    u64::from(first.above) * u64::from(second.below)
+        > u64::from(second.above) * u64::from(first.below)
+}
+
+/// The fraction of a cut, with its width times the least chunk count below.
+fn fraction_in(least: u8, cut: &Cut) -> Floor
+    requires { IsSmall cut.now }
+    ensures { result ≡ fraction_in least cut.now }
+{
+    Floor {
+        above: cut.need(),
+        below: cut.width() * u32::from(least),
+        nodes: cut.nodes(),
+    }
+}
+
+/// The greater of the best fraction so far and the next. Of two that are as great it is the best so far, and a fraction of
+/// nothing is not taken.
+fn greater_of(best: Option<Floor>, next: Floor) -> Option<Floor>
+    ensures { result ≡ greater_of best next }
+{
+    if next.above == 0 {
+        return best;
+    }
+    match best {
+        None => Some(next),
+        Some(floor) => {
+            if exceeds(next, floor) {
+                Some(next)
+            } else {
+                Some(floor)
+            }
+        }
+    }
+}
+
+/// The first of the greatest fractions of these cuts.
+pub(crate) fn greatest(cuts: &[Cut], least: u8) -> Floor
+    requires { All IsSmall cuts.now }
+    ensures { result ≡ first_greatest (filter has_need (map (fraction_in least) cuts.now)) }
+{
+    let mut best = None;
+    for cut in cuts {
+        best = greater_of(best, fraction_in(least, cut));
+    }
+    best.unwrap_or(Floor {
+        above: 0,
+        below: 1,
+        nodes: 0,
+    })
+}
+
+/// The floor: the fraction of the first listed set of nodes whose fraction is greatest, where the fraction is what has to
+/// come into the set at the least chunk count that the collective may have, over what can in one round times that count. It
+/// is 0 over 1 where nothing has to come into any listed set. For each schedule that solves at any chunk count, its rounds
+/// times `below` are at least `above` times that count. The only error is want of memory.
+pub fn floor_of(alloc: Global, topology: &Topology, spec: &Spec) -> Result<Floor, OutOfMemory>
+    requires spec { IsSpec topology.now.nodes spec.now }
+    requires single { kind_in spec.now ≢ Kind.Allreduce }
+    ensures { IfOk result (λ floor. floor ≡ floor_of topology.now spec.now) }
+{
+    let table = CutTable::new(alloc, topology, spec)?;
+    Ok(table.floor())
+}

@@ -1,0 +1,45 @@
+//! The frontier of one collective, with its files.
+
+ghost use Rattle.std.specs.Prelude.{◌≡◌, ◌≢◌, ◌≤◌, IfOk, IsTrue, Err};
+ghost use Rattle.outer_ports.specs.Port.{HasCause, Tells};
+ghost use Rattle.collective_spec.specs.Collectives.{IsSpec, kind_in};
+ghost use Rattle.round_encoding.specs.Candidates.{size_limit};
+ghost use Rattle.candidate_formula.specs.Sizes.{size_of};
+ghost use Rattle.report_search.specs.Found.{IsFound};
+ghost use Rattle.report_search.specs.Shelved.{IsShelved, MayHaveBegun};
+
+use candidate_order::{Frontier, Limits};
+use candidate_solver::SatEngine;
+use collective_spec::{Kind, Spec};
+use engine_rules::EngineFault;
+use engine_search::{frontier_by, links_to_search};
+use outer_ports::{Part, Shelf};
+use schedule::Topology;
+use std::alloc::Global;
+
+/// The frontier of a collective over these links. The formulas and the proofs are kept on the shelf as files of the part.
+pub(crate) fn single_frontier<H: Shelf>(
+    alloc: Global,
+    topology: &Topology,
+    spec: &Spec,
+    limits: Limits,
+    part: Part,
+    checked: bool,
+    shelf: &mut H,
+) -> Result<Frontier, EngineFault>
+    requires spec { IsSpec topology.now.nodes spec.now }
+    requires single { kind_in spec.now ≢ Kind.Allreduce }
+    requires part { part ≢ Part.Joined }
+    requires small { size_of (record { topology = topology.now; spec = spec.now; limits = limits }) ≤ size_limit }
+    ensures found { IfOk result (λ f. IsFound (record { topology = topology.now; spec = spec.now; limits = limits }) f) }
+    ensures told { Tells (H.tells shelf.old) (H.tells shelf.new) }
+    ensures shelved { IsTrue (H.tells shelf.new) → IfOk result (λ f. IsShelved part (record { topology = topology.now; spec = spec.now; limits = limits }) f (H.file shelf.old) (H.file shelf.new)) }
+    ensures begun { IsTrue (H.tells shelf.new) → MayHaveBegun part (record { topology = topology.now; spec = spec.now; limits = limits }) (H.file shelf.old) (H.file shelf.new) }
+    ensures cause { HasCause EngineFault.ShelfFailed (H.faults shelf.old) (H.faults shelf.new) result }
+    ensures steady { result ≢ Err EngineFault.ShelfFailed → H.faults shelf.new ≡ H.faults shelf.old }
+{
+    let links = links_to_search(topology, spec)?;
+    let mut engine = SatEngine::new(alloc, &links, spec, limits, part, checked)?;
+    let frontier = frontier_by(alloc, &mut engine, shelf, topology, spec, limits)?;
+    Ok(frontier)
+}

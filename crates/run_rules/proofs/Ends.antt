@@ -1,0 +1,158 @@
+-- With which statuses the answer to what is due ends: those of the command's row.
+use Rattle.std.proofs.Common.{◌≡◌, ◌==◌, ◌||◌, ℕ, Bool, true, false, not, IsTrue, nat_lt, length, List, [], ◌∷◌, Option, None, Some, Result, Ok, Err, refl, sym, subst, ap, cond}
+use Rattle.std.specs.List.{list_any}
+use Rattle.text_lines.specs.Check.{◌>>=◌, refuse, need}
+use Rattle.outer_ports.specs.Files.{Files}
+use Rattle.collective_spec.specs.Collectives.{fits_kind}
+use Rattle.candidate_order.specs.Frontiers.{QuestionValue}
+use Rattle.topology_text.specs.Answer.{code_number as topology_number}
+use Rattle.topology_text.specs.Reading.{topology_of}
+use Rattle.topology_text.specs.Value.{NamedTopologyValue}
+use Rattle.report_form.specs.Answer.{code_number as report_number}
+use Rattle.report_form.specs.Reading.{report_of}
+use Rattle.report_form.specs.Reports.{WordsValue, ReportValue}
+use Rattle.round_encoding.specs.Candidates.{size_limit}
+use Rattle.candidate_formula.specs.Sizes.{size_of}
+use Rattle.frontier_audit.specs.declared.verdict.AuditVerdict.{AuditVerdict}
+use Rattle.frontier_audit.specs.declared.verdict.AuditVerdict.TheVariants as audit
+use Rattle.frontier_audit.specs.Auditing.{audit_of}
+use Rattle.frontier_audit.specs.Candidates.{counts_of}
+use Rattle.point_replay.specs.Showing.{shown_in, shown_text}
+use Rattle.point_replay.specs.Points.{programs_of_point}
+use Rattle.command_words.specs.declared.command.RootWord.{RootWord}
+use Rattle.command_words.specs.declared.command.SearchWords.{SearchWords}
+use Rattle.command_words.specs.declared.values.PointWord.{PointWord}
+use Rattle.command_words.specs.declared.command.Command.{Command}
+use Rattle.command_words.specs.declared.command.Command.TheVariants as command
+use Rattle.run_rules.specs.declared.status.Status.{Status}
+use Rattle.run_rules.specs.declared.status.Status.TheVariants.{Done, BadWords, BadTopology, BadReport, Denied, TooLarge, NoCandidate, TooLong}
+use Rattle.run_rules.specs.Statuses.{number_of}
+use Rattle.run_rules.specs.Refusals.{Refusal, refused_as}
+use Rattle.run_rules.specs.Commands.{IsOneOf, answers_of, row_of, search_row, check_row, point_row}
+use Rattle.run_rules.specs.Tasks.{Task, Write, Synthesise, Audit, Try, audit_asked, audit_in, fitting, point_in, programs_asked, programs_in, read_report, replay_asked, replay_in, root_in, search_asked, search_for, search_over, searchable, synthesis_asked, task_of, whole_question, whole_text, words_for}
+use Rattle.run_rules.specs.Audits.{audited, not_denied, verdict_status}
+use Rattle.run_rules.specs.Answers.{FilesValue, IsAnswer}
+
+-- what is refused is refused with such a status
+abbrev pub With : {A : Type 0} → (Status → Type 0) → Result A Refusal → Type 0
+With P (Ok x) = Unit {0}
+With P (Err r) = P r.status
+
+-- ---- check by check
+
+module _ (P : Status → Type 0) where
+  bind : {A B : Type 0} (x : Result A Refusal) (f : A → Result B Refusal) → With P x → ((a : A) → With P (f a)) → With P (x >>= f)
+  bind (Ok a) f h g = g a
+  bind (Err r) f h g = h
+
+  refused : (b : Bool) (r : Refusal) → P r.status → With P (refuse b r)
+  refused true r h = h
+  refused false r h = tt
+
+  needed : {A : Type 0} (o : Option A) (r : Refusal) → P r.status → With P (need o r)
+  needed None r h = h
+  needed (Some x) r h = tt
+
+  coded : {A C : Type 0} (s : Status) (number : C → ℕ) (x : Result A (C × ℕ)) → P s → With P (refused_as s number x)
+  coded s number (Ok x) h = tt
+  coded s number (Err e) h = h
+
+  pub whole_ends : P TooLong → (reads : Bool) (bytes : List ℕ) → With P (whole_text reads bytes)
+  whole_ends long true bytes = refused (nat_lt _ (length bytes)) _ long
+  whole_ends long false bytes = tt
+
+  sized : P TooLarge → P NoCandidate → (q : QuestionValue) → With P (searchable q)
+  sized large none q = bind _ _ (refused (nat_lt size_limit (size_of q)) _ large) (λ _. refused (length (counts_of q) == 0) _ none)
+
+  rooted : P BadWords → (names : List (List ℕ)) (root : Option RootWord) → With P (root_in names root)
+  rooted bad names None = tt
+  rooted bad names (Some root) = needed _ _ bad
+
+  sought : P BadWords → P BadTopology → P TooLarge → P NoCandidate → (asked : SearchWords) (bytes : List ℕ) → With P (search_asked asked bytes)
+  sought bad topology large none asked bytes =
+      bind _ _ (coded BadTopology topology_number (topology_of bytes) topology) (λ t.
+      bind _ _ (refused (not (fits_kind asked.kind t.custom)) _ bad) (λ _.
+      bind _ _ (rooted bad t.names asked.root) (λ node.
+      bind _ _ (sized large none (whole_question (words_for asked node) t)) (λ _. tt))))
+
+  reported : P BadReport → (bytes : List ℕ) → With P (read_report bytes)
+  reported bad bytes = coded BadReport report_number (report_of bytes) bad
+
+  pointed : P BadWords → (r : ReportValue) (asked : PointWord) → With P (point_in r asked)
+  pointed bad r asked = needed _ _ bad
+
+-- ---- command by command
+
+refused_in_row : (c : Command) (bytes : List ℕ) → With (IsOneOf (row_of c).refusals) (task_of c bytes)
+refused_in_row (command.Synth kind word limits root) bytes =
+    let P : Status → Type 0 = IsOneOf search_row.refusals in
+    bind P _ _ (sought P refl refl refl refl (record { kind = kind; kind_word = word; limits = limits; root = root }) bytes) (λ _. tt)
+refused_in_row command.Check bytes =
+    let P : Status → Type 0 = IsOneOf check_row.refusals in
+    bind P _ _ (reported P refl bytes) (λ r. bind P _ _ (sized P refl refl (whole_question r.words r.topology)) (λ _. tt))
+refused_in_row (command.Replay number word order) bytes =
+    let P : Status → Type 0 = IsOneOf point_row.refusals in
+    bind P _ _ (reported P refl bytes) (λ r. bind P _ _ (pointed P refl r (record { point = number; word = word })) (λ _. tt))
+refused_in_row (command.Programs number word) bytes =
+    let P : Status → Type 0 = IsOneOf point_row.refusals in
+    bind P _ _ (reported P refl bytes) (λ r. bind P _ _ (pointed P refl r (record { point = number; word = word })) (λ _. tt))
+refused_in_row (command.Family kind size) bytes = tt
+refused_in_row (command.Trial n) bytes = tt
+
+-- and so is each refusal of a command
+pub refused_with : (c : Command) (bytes : List ℕ) (r : Refusal) → task_of c bytes ≡ Err r → IsOneOf (row_of c).refusals r.status
+refused_with c bytes r e = subst (With (IsOneOf (row_of c).refusals)) e (refused_in_row c bytes)
+
+-- only a report that is checked may be denied
+abbrev MayDeny : (Status → Type 0) → Result Task Refusal → Type 0
+MayDeny P (Ok (Audit r)) = P Denied
+MayDeny P _ = Unit {0}
+
+behind : {A : Type 0} (P : Status → Type 0) (x : Result A Refusal) (f : A → Result Task Refusal) → ((a : A) → MayDeny P (f a)) → MayDeny P (x >>= f)
+behind P (Ok a) f g = g a
+behind P (Err r) f g = tt
+
+denied_in_row : (c : Command) (bytes : List ℕ) → MayDeny (IsOneOf (row_of c).refusals) (task_of c bytes)
+denied_in_row (command.Synth kind word limits root) bytes =
+    behind (IsOneOf search_row.refusals) (search_asked (record { kind = kind; kind_word = word; limits = limits; root = root }) bytes) (λ s. Ok (Synthesise s.0 s.1)) (λ _. tt)
+denied_in_row command.Check bytes =
+    let P : Status → Type 0 = IsOneOf check_row.refusals in
+    behind P (read_report bytes) audit_in (λ r. behind P (searchable (whole_question r.words r.topology)) (λ _. Ok (Audit r)) (λ _. refl))
+denied_in_row (command.Replay number word order) bytes =
+    let P : Status → Type 0 = IsOneOf point_row.refusals in
+    let asked : PointWord = record { point = number; word = word } in
+    behind P (read_report bytes) (λ r. replay_in r asked order) (λ r. behind P (point_in r asked) (λ p. Ok (Write (shown_text number (shown_in r p) order))) (λ _. tt))
+denied_in_row (command.Programs number word) bytes =
+    let P : Status → Type 0 = IsOneOf point_row.refusals in
+    let asked : PointWord = record { point = number; word = word } in
+    behind P (read_report bytes) (λ r. programs_in r asked) (λ r. behind P (point_in r asked) (λ p. Ok (Write (programs_of_point r number p))) (λ _. tt))
+denied_in_row (command.Family kind size) bytes = tt
+denied_in_row (command.Trial n) bytes = tt
+
+-- ---- an answer
+
+verdict_ends : (P : Status → Type 0) → P Done → P Denied → (verdict : AuditVerdict) → P (verdict_status (not_denied verdict))
+verdict_ends P done denied audit.Verified = done
+verdict_ends P done denied (audit.Denied reason part x) = denied
+
+audit_ends : (P : Status → Type 0) → P Done → P Denied → (r : ReportValue) (files : Files) → P (verdict_status (audited r files))
+unfolding audited
+audit_ends P done denied r files = verdict_ends P done denied (audit_of r files)
+
+one_more : (x : Status) (xs : List Status) (s : Status) → IsOneOf xs s → IsOneOf (x ∷ xs) s
+one_more x xs s there = either (number_of x == number_of s)
+  where
+    either : (b : Bool) → IsTrue (b || list_any (λ y. number_of y == number_of s) xs)
+    either true = refl
+    either false = there
+
+answer_ends : (refusals : List Status) (due : Result Task Refusal) (files : FilesValue) (status : Status) (text : List ℕ) → With (IsOneOf refusals) due → MayDeny (IsOneOf refusals) due → IsAnswer due files status text → IsOneOf (Done ∷ refusals) status
+answer_ends refusals (Err r) files status text listed deny answer = subst (IsOneOf (Done ∷ refusals)) (sym answer.says.status) (one_more Done refusals r.status listed)
+answer_ends refusals (Ok (Write words)) files status text listed deny answer = subst (IsOneOf (Done ∷ refusals)) (sym answer.says.status) refl
+answer_ends refusals (Ok (Synthesise w t)) files status text listed deny answer = subst (IsOneOf (Done ∷ refusals)) (sym answer.says.status) refl
+answer_ends refusals (Ok (Audit r)) files status text listed deny answer =
+    subst (IsOneOf (Done ∷ refusals)) (sym answer.says.status) (audit_ends (IsOneOf (Done ∷ refusals)) refl (one_more Done refusals Denied deny) r answer.over)
+answer_ends refusals (Ok (Try n)) files status text listed deny answer = subst (IsOneOf (Done ∷ refusals)) (sym answer.done) refl
+
+pub command_ends : (c : Command) (bytes : List ℕ) (files : FilesValue) (status : Status) (text : List ℕ) → IsAnswer (task_of c bytes) files status text → IsOneOf (answers_of c) status
+command_ends c bytes files status text = answer_ends (row_of c).refusals (task_of c bytes) files status text (refused_in_row c bytes) (denied_in_row c bytes)

@@ -1,0 +1,5 @@
+pub mod SizeAndCounts
+pub mod ReadReports
+pub mod Sought
+pub mod Ends
+pub mod Answered

@@ -1,0 +1,15 @@
+-- What is read of the text of a report, as the code has it.
+use Rattle.std.proofs.Common.{◌≡◌, ◌≢◌, ◌⊎◌, inl, inr, ℕ, List, Result, Err, ap}
+use Rattle.report_form.specs.declared.fault.ReportCode.{ReportCode}
+use Rattle.report_form.specs.declared.fault.ReportCode.TheVariants.{OutOfMemory}
+use Rattle.report_form.specs.Answer.{code_number}
+use Rattle.report_form.specs.Reading.{report_of}
+use Rattle.run_rules.specs.declared.status.Status.TheVariants.{BadReport}
+use Rattle.run_rules.specs.Refusals.{refused_at, refused_as}
+use Rattle.run_rules.specs.Tasks.{read_report}
+
+-- what the reader refuses is refused
+pub read_refused : (bytes : List ℕ) (code : ReportCode) (line : ℕ) → ((code ≡ OutOfMemory) × (line ≡ 0)) ⊎ (report_of bytes ≡ Err (code, line)) → code ≢ OutOfMemory
+    → read_report bytes ≡ Err (refused_at BadReport (code_number code) line)
+read_refused bytes code line (inl memory) other = absurd (other memory.0)
+read_refused bytes code line (inr e) other = ap (refused_as BadReport code_number) e

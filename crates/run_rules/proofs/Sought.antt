@@ -1,0 +1,53 @@
+-- What is due for the words of a search, check by check.
+use Rattle.std.proofs.Common.{◌≡◌, ◌⊎◌, inl, inr, ℕ, Bool, true, false, not, List, Result, Ok, Err, ap, ◌∙◌}
+use Rattle.text_lines.specs.Check.{◌>>=◌, refuse}
+use Rattle.collective_spec.specs.Collectives.{fits_kind}
+use Rattle.topology_text.specs.declared.fault.TopologyCode.{TopologyCode}
+use Rattle.topology_text.specs.declared.fault.TopologyCode.TheVariants.{OutOfMemory}
+use Rattle.topology_text.specs.Value.{NamedTopologyValue}
+use Rattle.topology_text.specs.Answer.{code_number as topology_number}
+use Rattle.topology_text.specs.Reading.{topology_of}
+use Rattle.command_words.specs.declared.command.SearchWords.{SearchWords}
+use Rattle.command_words.specs.declared.fault.WordCode.TheVariants.{CustomMismatch}
+use Rattle.report_form.specs.Reports.{WordsValue}
+use Rattle.run_rules.specs.declared.status.Status.TheVariants.{BadTopology}
+use Rattle.run_rules.specs.Refusals.{Refusal, refused_as, refused_at, refused_word}
+use Rattle.run_rules.specs.Tasks.{root_in, search_asked, search_for, search_over, searchable, whole_question, words_for}
+
+-- ---- what can be searched
+
+pub cannot_search : (w : WordsValue) (t : NamedTopologyValue) (r : Refusal) → searchable (whole_question w t) ≡ Err r → search_for w t ≡ Err r
+cannot_search w t r e = ap (λ x. x >>= (λ _. Ok (w, t))) e
+
+pub can_search : (w : WordsValue) (t : NamedTopologyValue) → searchable (whole_question w t) ≡ Ok tt → search_for w t ≡ Ok (w, t)
+can_search w t e = ap (λ x. x >>= (λ _. Ok (w, t))) e
+
+-- ---- the pattern and the root
+
+module _ (asked : SearchWords) (t : NamedTopologyValue) where
+  abbrev over : Result ℕ Refusal → Result (WordsValue × NamedTopologyValue) Refusal
+  over node = node >>= (λ n. search_for (words_for asked n) t)
+
+  fitted : Bool → Result (WordsValue × NamedTopologyValue) Refusal
+  fitted fits = refuse (not fits) (refused_word CustomMismatch asked.kind_word) >>= (λ _. over (root_in t.names asked.root))
+
+  pub misfits : fits_kind asked.kind t.custom ≡ false → search_over asked t ≡ Err (refused_word CustomMismatch asked.kind_word)
+  unfolding fitted
+  misfits e = ap fitted e
+
+  rooted : (x : Result ℕ Refusal) → fits_kind asked.kind t.custom ≡ true → root_in t.names asked.root ≡ x → search_over asked t ≡ over x
+  unfolding fitted
+  rooted x e node = ap fitted e ∙ ap over node
+
+  pub no_root : (r : Refusal) → fits_kind asked.kind t.custom ≡ true → root_in t.names asked.root ≡ Err r → search_over asked t ≡ Err r
+  no_root r e none = rooted (Err r) e none
+
+  pub some_root : (node : ℕ) → fits_kind asked.kind t.custom ≡ true → root_in t.names asked.root ≡ Ok node → search_over asked t ≡ search_for (words_for asked node) t
+  some_root node e some = rooted (Ok node) e some
+
+-- ---- the text
+
+pub no_topology : (asked : SearchWords) (bytes : List ℕ) (code : TopologyCode) (line : ℕ) → ((code ≡ OutOfMemory) × (line ≡ 0)) ⊎ (topology_of bytes ≡ Err (code, line)) → (code ≡ OutOfMemory → ⊥)
+    → search_asked asked bytes ≡ Err (refused_at BadTopology (topology_number code) line)
+no_topology asked bytes code line (inl memory) other = absurd (other memory.0)
+no_topology asked bytes code line (inr e) other = ap (λ x. refused_as BadTopology topology_number x >>= search_over asked) e

@@ -1,0 +1,26 @@
+use Rattle.std.proofs.Common.{refl}
+use Rattle.run_rules.specs.Audits.{audited}
+use Rattle.run_rules.specs.Tasks.{due}
+use Rattle.command_words.specs.Words.{command_of}
+use Rattle.report_form.specs.Reading.{report_of, body_of, frontier_at}
+use Rattle.report_form.specs.Spelling.{report_text}
+use Rattle.topology_text.specs.Reading.{pattern_at}
+use Rattle.report_form.specs.Points.{schedule_at, frontier_point_at, joined_point_at}
+use Rattle.std.specs.Fmt.{digits}
+use Rattle.run_rules.proofs.vectors.reports_due.Goals as goal
+
+pub returns-clause-text : goal.returns-clause-text
+unfolding due command_of report_of body_of report_text pattern_at schedule_at frontier_point_at joined_point_at frontier_at digits
+returns-clause-text c = refl
+
+pub returns-clause-point : goal.returns-clause-point
+unfolding due command_of report_of body_of report_text pattern_at schedule_at frontier_point_at joined_point_at frontier_at digits
+returns-clause-point c = refl
+
+pub returns-clause-denied : goal.returns-clause-denied
+unfolding audited report_text digits
+returns-clause-denied c = refl
+
+pub returns-clause-line : goal.returns-clause-line
+unfolding due command_of report_of body_of report_text pattern_at schedule_at frontier_point_at joined_point_at frontier_at digits
+returns-clause-line c = refl

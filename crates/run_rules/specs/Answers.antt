@@ -1,0 +1,87 @@
+-- The answer to what is due: its status, its text, and the files that it leaves. This project's own; the synthesis theorem is the case of a search.
+use Rattle.std.specs.Prelude.{◌≡◌, ℕ, Bool, IsTrue, List, Result, Ok, Err}
+use Rattle.outer_ports.specs.Files.{Files}
+use Rattle.outer_ports.specs.Shelf.{FilesStay}
+use Rattle.topology_text.specs.Value.{NamedTopologyValue}
+use Rattle.report_form.specs.Reports.{WordsValue, ReportValue}
+use Rattle.report_form.specs.Spelling.{report_text}
+use Rattle.frontier_audit.specs.Rights.{HasLogs, IsRight, IsSearched}
+use Rattle.frontier_audit.specs.OwedFiles.{BreaksOff, Proves}
+use Rattle.frontier_audit.specs.Shelves.{ShelfRight}
+use Rattle.run_rules.specs.declared.status.Status.{Status}
+use Rattle.run_rules.specs.declared.status.Status.TheVariants.{Done}
+use Rattle.run_rules.specs.Refusals.{Refusal, refusal_line}
+use Rattle.run_rules.specs.Tasks.{Task, Write, Synthesise, Audit, Try}
+use Rattle.run_rules.specs.Audits.{audited, verdict_status, verdict_text}
+use Rattle.run_rules.specs.Tries.{Tries}
+
+-- the files of the shelf before and after, and whether it tells them
+pub record FilesValue : Type 0 where
+  pub told : Bool
+  pub before : Files
+  pub after : Files
+
+-- no file changed, as far as the shelf tells
+abbrev pub Stay : FilesValue → Type 0
+Stay files = IsTrue files.told → FilesStay files.before files.after
+
+-- ---- what is answered
+
+-- this status and this text
+pub record Says (said : Status) (words : List ℕ) (ended : Status) (written : List ℕ) : Type 0 where
+  pub status : ended ≡ said
+  pub text : written ≡ words
+
+-- just that, and no file changed
+pub record IsSaid (said : Status) (words : List ℕ) (files : FilesValue) (status : Status) (text : List ℕ) : Type 0 where
+  pub says : Says said words status text
+  pub stay : Stay files
+
+-- a search: the text of one report of these words and this topology, which is right and searched in order, and whose proofs the files are
+pub record IsSearch (w : WordsValue) (t : NamedTopologyValue) (files : FilesValue) (status : Status) (text : List ℕ) : Type 0 where
+  pub report : ReportValue
+  pub words : report.words ≡ w
+  pub topology : report.topology ≡ t
+  pub right : IsRight report
+  pub searched : IsSearched report
+  pub says : Says Done (report_text report) status text
+  pub proves : IsTrue files.told → Proves report files.before files.after
+
+-- what a verified report is, whoever made it: it is right, there is a spent log of each candidate that it calls unknown, and the files prove it
+pub record IsVerified (r : ReportValue) (files : Files) : Type 0 where
+  pub right : IsRight r
+  pub logs : HasLogs r
+  pub shelf : ShelfRight r files
+
+-- an audit: the verdict on the report over these files, which are those of the shelf where it tells them; no file changed
+pub record IsAudit (r : ReportValue) (files : FilesValue) (status : Status) (text : List ℕ) : Type 0 where
+  pub over : Files
+  pub are : IsTrue files.told → FilesStay files.before over
+  pub says : Says (verdict_status (audited r over)) (verdict_text (audited r over)) status text
+  pub verified : status ≡ Done → IsVerified r over
+  pub stay : Stay files
+
+-- a trial: the summary of a search with files of its own
+pub record IsTrial (n : ℕ) (files : FilesValue) (status : Status) (text : List ℕ) : Type 0 where
+  pub done : status ≡ Done
+  pub tries : Tries n text
+  pub stay : Stay files
+
+-- the answer to what is due
+abbrev pub IsAnswer : Result Task Refusal → FilesValue → Status → List ℕ → Type 0
+IsAnswer (Err r) = IsSaid r.status (refusal_line r)
+IsAnswer (Ok (Write text)) = IsSaid Done text
+IsAnswer (Ok (Synthesise w t)) = IsSearch w t
+IsAnswer (Ok (Audit r)) = IsAudit r
+IsAnswer (Ok (Try n)) = IsTrial n
+
+-- the same beside any files that stay: of what opens no shelf
+abbrev pub IsAnswerAlone : Result Task Refusal → Status → List ℕ → Type 0
+IsAnswerAlone due status text = (files : FilesValue) → Stay files → IsAnswer due files status text
+
+-- ---- what is left where there is no answer
+
+-- a search has begun files of its own; of all else every file is as before
+abbrev pub LeavesOff : Result Task Refusal → Files → Files → Type 0
+LeavesOff (Ok (Synthesise w t)) before after = BreaksOff w t before after
+LeavesOff _ before after = FilesStay before after

@@ -1,0 +1,75 @@
+-- What each command does with the ports, and how it can end: one row for each. This project's own.
+use Rattle.std.specs.Prelude.{◌≡◌, ◌==◌, ℕ, Bool, true, false, IsTrue, if◌then◌else◌, List, [], ◌∷◌, ◌++◌, Result, Ok, Err}
+use Rattle.std.specs.List.{list_any}
+use Rattle.command_words.specs.declared.command.Command.{Command}
+use Rattle.command_words.specs.declared.command.Command.TheVariants as command
+use Rattle.command_words.specs.declared.fault.WordFault.{WordFault}
+use Rattle.command_words.specs.Words.{command_of}
+use Rattle.run_rules.specs.declared.status.Status.{Status}
+use Rattle.run_rules.specs.declared.status.Status.TheVariants.{Done, BadWords, BadTopology, SourceFailed, ShelfFailed, BadReport, Denied, TooLarge, NoCandidate, TooLong}
+use Rattle.run_rules.specs.Statuses.{number_of}
+
+-- whether a command reads the source, opens the files of the shelf, and changes them; and with which refusals it can end
+pub record RowValue : Type 0 where
+  pub reads : Bool
+  pub opens : Bool
+  pub changes : Bool
+  pub refusals : List Status
+
+-- a search over a topology
+abbrev pub search_row : RowValue
+search_row = record { reads = true; opens = true; changes = true; refusals = BadWords ∷ BadTopology ∷ TooLarge ∷ NoCandidate ∷ TooLong ∷ [] }
+
+-- the check of a report
+abbrev pub check_row : RowValue
+check_row = record { reads = true; opens = true; changes = false; refusals = BadReport ∷ Denied ∷ TooLarge ∷ NoCandidate ∷ TooLong ∷ [] }
+
+-- what is shown of a point of a report
+abbrev pub point_row : RowValue
+point_row = record { reads = true; opens = false; changes = false; refusals = BadWords ∷ BadReport ∷ TooLong ∷ [] }
+
+-- what words alone decide
+abbrev pub word_row : RowValue
+word_row = record { reads = false; opens = false; changes = false; refusals = [] }
+
+abbrev pub row_of : Command → RowValue
+row_of (command.Synth kind word limits root) = search_row
+row_of command.Check = check_row
+row_of (command.Replay number word order) = point_row
+row_of (command.Programs number word) = point_row
+row_of (command.Family kind size) = word_row
+row_of (command.Trial n) = word_row
+
+-- ---- what follows of a row
+
+abbrev pub Reads : Command → Type 0
+Reads c = IsTrue (row_of c).reads
+
+abbrev pub Opens : Command → Type 0
+Opens c = IsTrue (row_of c).opens
+
+abbrev pub Changes : Command → Type 0
+Changes c = IsTrue (row_of c).changes
+
+-- the words ask for such a command
+pub record Ask (P : Command → Type 0) (words : List (List ℕ)) : Type 0 where
+  pub command : Command
+  pub is : command_of words ≡ Ok command
+  pub such : P command
+
+-- the status is one of these
+abbrev pub IsOneOf : List Status → Status → Type 0
+IsOneOf statuses status = IsTrue (list_any (λ s. number_of s == number_of status) statuses)
+
+-- the statuses with which a command can answer: it is done, or it is refused
+abbrev pub answers_of : Command → List Status
+answers_of c = Done ∷ (row_of c).refusals
+
+-- the statuses with which the words can end, beside want of memory and a failing sink
+abbrev pub ends_of : Result Command WordFault → List Status
+ends_of (Err fault) = BadWords ∷ []
+ends_of (Ok c) = (if (row_of c).reads then SourceFailed ∷ [] else []) ++ ((if (row_of c).opens then ShelfFailed ∷ [] else []) ++ answers_of c)
+
+-- the words, the text or the size of a search are refused, before the shelf is opened
+abbrev pub IsRefusal : Status → Type 0
+IsRefusal = IsOneOf (BadWords ∷ BadTopology ∷ BadReport ∷ TooLarge ∷ NoCandidate ∷ TooLong ∷ [])

@@ -1,0 +1,11 @@
+pub mod Statuses
+pub mod Refusals
+pub mod Halts
+pub mod Commands
+pub mod Trials
+pub mod Tries
+pub mod Tasks
+pub mod Audits
+pub mod Answers
+pub mod Read
+pub mod Rows

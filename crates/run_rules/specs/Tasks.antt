@@ -1,0 +1,164 @@
+-- What the words and the text that is read ask for, or the first check that refuses them: words, length, text, root or point, size, candidates. This project's own.
+use Rattle.std.specs.Prelude.{ℕ, ◌==◌, not, Bool, true, false, List, length, nat_lt, Option, None, Some, Result, Ok, Err}
+use Rattle.outer_ports.specs.declared.part.Part.{Part}
+use Rattle.text_lines.specs.Check.{◌>>=◌, refuse, need}
+use Rattle.collective_spec.specs.declared.kind.Kind.{Kind}
+use Rattle.collective_spec.specs.Collectives.{spec_of, fits_kind}
+use Rattle.candidate_order.specs.Ranges.{LimitsValue}
+use Rattle.candidate_order.specs.Frontiers.{QuestionValue, PointValue}
+use Rattle.topology_text.specs.Value.{NamedTopologyValue}
+use Rattle.topology_text.specs.Answer.{code_number as topology_number}
+use Rattle.topology_text.specs.Reading.{topology_of, node_of}
+use Rattle.topology_text.specs.Family.{family_of}
+use Rattle.topology_text.specs.Spelling.{spelling}
+use Rattle.report_form.specs.Reports.{WordsValue, ReportValue}
+use Rattle.report_form.specs.Numbered.{point_at}
+use Rattle.report_form.specs.Answer.{code_number as report_number}
+use Rattle.report_form.specs.Reading.{report_of}
+use Rattle.round_encoding.specs.Candidates.{size_limit}
+use Rattle.candidate_formula.specs.Sizes.{size_of}
+use Rattle.frontier_audit.specs.Candidates.{counts_of}
+use Rattle.point_replay.specs.Showing.{shown_in, shown_text}
+use Rattle.point_replay.specs.Points.{programs_of_point}
+use Rattle.command_words.specs.declared.command.RootWord.{RootWord}
+use Rattle.command_words.specs.declared.command.SearchWords.{SearchWords}
+use Rattle.command_words.specs.declared.values.PointWord.{PointWord}
+use Rattle.command_words.specs.declared.command.Command.{Command}
+use Rattle.command_words.specs.declared.command.Command.TheVariants as command
+use Rattle.command_words.specs.declared.fault.WordFault.{WordFault}
+use Rattle.command_words.specs.declared.fault.WordCode.TheVariants.{UnknownRoot, UnknownPoint, CustomMismatch}
+use Rattle.command_words.specs.Words.{command_of}
+use Rattle.run_rules.specs.declared.status.Status.TheVariants.{BadTopology, BadReport, TooLarge, NoCandidate, TooLong}
+use Rattle.run_rules.specs.Refusals.{Refusal, refused_at, refused_as, refused_word}
+use Rattle.run_rules.specs.Commands.{row_of}
+
+-- what is to be done, with all that it needs
+pub data Task : Type 0 where
+  Write : List ℕ → Task
+  Synthesise : WordsValue → NamedTopologyValue → Task
+  Audit : ReportValue → Task
+  Try : ℕ → Task
+
+-- ---- the length
+
+-- the greatest number of bytes that are read
+abbrev pub limit : ℕ
+limit = 1048576
+
+-- what is read came whole
+abbrev pub whole_text : Bool → List ℕ → Result (Unit {0}) Refusal
+whole_text true bytes = refuse (nat_lt limit (length bytes)) (refused_at TooLong 0 limit)
+whole_text false bytes = Ok tt
+
+-- ---- searches
+
+-- a topology with a pattern is for the kind custom, and only it
+abbrev pub fitting : SearchWords → NamedTopologyValue → Result (Unit {0}) Refusal
+fitting asked t = refuse (not (fits_kind asked.kind t.custom)) (refused_word CustomMismatch asked.kind_word)
+
+-- the node that the word names; the first node where there is no word
+abbrev pub root_in : List (List ℕ) → Option RootWord → Result ℕ Refusal
+root_in names None = Ok 0
+root_in names (Some root) = need (node_of names root.name) (refused_word UnknownRoot root.word)
+
+-- the search is small enough, and has a candidate
+abbrev pub searchable : QuestionValue → Result (Unit {0}) Refusal
+searchable q = do
+  _ ← refuse (nat_lt size_limit (size_of q)) (refused_at TooLarge 0 (size_of q))
+  refuse (length (counts_of q) == 0) (refused_at NoCandidate 0 0)
+
+-- what is asked for in all
+abbrev pub whole_question : WordsValue → NamedTopologyValue → QuestionValue
+whole_question w t = record { topology = t.topology; spec = spec_of w.collective t.custom; limits = w.limits }
+
+abbrev pub words_for : SearchWords → ℕ → WordsValue
+words_for asked root = record { collective = record { kind = asked.kind; root = root }; limits = asked.limits }
+
+-- the words and the topology of the search, where it is small enough and has a candidate
+abbrev pub search_for : WordsValue → NamedTopologyValue → Result (WordsValue × NamedTopologyValue) Refusal
+search_for w t = do
+  _ ← searchable (whole_question w t)
+  Ok (w, t)
+
+abbrev pub search_over : SearchWords → NamedTopologyValue → Result (WordsValue × NamedTopologyValue) Refusal
+search_over asked t = do
+  _ ← fitting asked t
+  root ← root_in t.names asked.root
+  search_for (words_for asked root) t
+
+-- the search of these words over the topology that the bytes spell
+abbrev pub search_asked : SearchWords → List ℕ → Result (WordsValue × NamedTopologyValue) Refusal
+search_asked asked bytes = do
+  topology ← refused_as BadTopology topology_number (topology_of bytes)
+  search_over asked topology
+
+abbrev pub synthesis_asked : SearchWords → List ℕ → Result Task Refusal
+synthesis_asked asked bytes = do
+  search ← search_asked asked bytes
+  Ok (Synthesise search.0 search.1)
+
+-- ---- reports
+
+abbrev pub read_report : List ℕ → Result ReportValue Refusal
+read_report bytes = refused_as BadReport report_number (report_of bytes)
+
+-- the report, where its search can be done
+abbrev pub audit_in : ReportValue → Result Task Refusal
+audit_in report = do
+  _ ← searchable (whole_question report.words report.topology)
+  Ok (Audit report)
+
+-- the report whose files are to be looked at
+abbrev pub audit_asked : List ℕ → Result Task Refusal
+audit_asked bytes = do
+  report ← read_report bytes
+  audit_in report
+
+-- the point that the word asks for
+abbrev pub point_in : ReportValue → PointWord → Result (Part × PointValue) Refusal
+point_in report asked = need (point_at report asked.point) (refused_word UnknownPoint asked.word)
+
+-- the replay of a point of this report
+abbrev pub replay_in : ReportValue → PointWord → Option ℕ → Result Task Refusal
+replay_in report asked order = do
+  point ← point_in report asked
+  Ok (Write (shown_text asked.point (shown_in report point) order))
+
+abbrev pub replay_asked : PointWord → Option ℕ → List ℕ → Result Task Refusal
+replay_asked asked order bytes = do
+  report ← read_report bytes
+  replay_in report asked order
+
+-- the programs of a point of this report
+abbrev pub programs_in : ReportValue → PointWord → Result Task Refusal
+programs_in report asked = do
+  point ← point_in report asked
+  Ok (Write (programs_of_point report asked.point point))
+
+abbrev pub programs_asked : PointWord → List ℕ → Result Task Refusal
+programs_asked asked bytes = do
+  report ← read_report bytes
+  programs_in report asked
+
+-- ---- what is due
+
+-- what a command asks for, over bytes that came whole
+abbrev pub task_of : Command → List ℕ → Result Task Refusal
+task_of (command.Synth kind word limits root) bytes = synthesis_asked (record { kind = kind; kind_word = word; limits = limits; root = root }) bytes
+task_of command.Check bytes = audit_asked bytes
+task_of (command.Replay number word order) bytes = replay_asked (record { point = number; word = word }) order bytes
+task_of (command.Programs number word) bytes = programs_asked (record { point = number; word = word }) bytes
+task_of (command.Family kind size) bytes = Ok (Write (spelling (family_of kind size)))
+task_of (command.Trial n) bytes = Ok (Try n)
+
+-- the words are a command, or are refused
+abbrev pub words_asked : Result Command WordFault → Result Command Refusal
+words_asked (Ok c) = Ok c
+words_asked (Err fault) = Err (refused_word fault.code fault.word)
+
+-- the task, or the first refusal, as far as words and bytes decide
+unfoldable pub due : List (List ℕ) → List ℕ → Result Task Refusal
+due words bytes = do
+  command ← words_asked (command_of words)
+  _ ← whole_text (row_of command).reads bytes
+  task_of command bytes

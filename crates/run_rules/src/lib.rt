@@ -1,0 +1,24 @@
+//! What the top call and every command stand on: statuses, refusals and answers; what each command does with the ports; what
+//! is due for words and bytes; and what an answer to it is.
+#![tactic(auto)]
+
+mod answer;
+mod halt;
+mod laws;
+mod report_text;
+mod row;
+mod search_text;
+mod searchable;
+mod status;
+mod vectors;
+
+pub use answer::{Answer, LIMIT, refusal, refusal_at, refused_word, too_long};
+pub use halt::Halt;
+pub use laws::answers_end_as_their_row_says;
+pub use report_text::{ReportText, report_of_text};
+pub use row::{Row, row_of};
+pub use search_text::{Search, SearchText, search_of_text};
+pub use searchable::search_refusal;
+pub use status::Status;
+pub use std::alloc::AllocError as OutOfMemory;
+pub use vectors::{reports_due, searches_due, sizes, words_due};

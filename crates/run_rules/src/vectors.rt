@@ -1,0 +1,49 @@
+//! What the definitions give on small and known words, texts and searches.
+
+ghost use Rattle.std.specs.Prelude.{◌≡◌, [], ◌∷◌, None, Some, Ok, Err, codes};
+ghost use Rattle.topology_text.specs.Family.{family_of};
+ghost use Rattle.report_form.specs.Spelling.{report_text};
+ghost use Rattle.report_form.specs.Rows.{broadcast_report, relay_report};
+ghost use Rattle.frontier_audit.specs.Rows.{beside_one_step, cnf_of_one_step};
+ghost use Rattle.candidate_formula.specs.Sizes.{size_of};
+ghost use Rattle.run_rules.specs.Audits.{audited};
+ghost use Rattle.run_rules.specs.Refusals.{refusal_line, refused_at, refused_word};
+ghost use Rattle.run_rules.specs.Rows.{moved_text, search, two_nodes_text};
+ghost use Rattle.run_rules.specs.Tasks.{Try, Write, due, searchable};
+
+use crate::status::Status;
+use collective_spec::{Kind, Spec};
+use command_words::WordCode;
+use topology_text::FamilyKind;
+
+/// The size of an all-to-all on sixteen nodes, each joined to each, which is too large; and of an allgather on the cube of eight.
+pub fn sizes()
+    ensures too_large { searchable (record { topology = (family_of FamilyKind.Complete 16).topology; spec = Spec.Standard (record { kind = Kind.Alltoall; root = 0 }); limits = record { k = 8; max_s = 8; max_c = 16; conflicts = 1000 } }) ≡ Err (refused_at Status.TooLarge 0 5406720) }
+    ensures cube { size_of (record { topology = (family_of FamilyKind.Cube 8).topology; spec = Spec.Standard (record { kind = Kind.Allgather; root = 0 }); limits = record { k = 0; max_s = 3; max_c = 1; conflicts = 1000 } }) ≡ 1728 }
+{}
+
+/// Words that are refused before anything is read, and words that need no text.
+pub fn words_due()
+    ensures none { due [] [] ≡ Err (refused_at Status.BadWords 1 0) }
+    ensures unknown { due (codes "sing" ∷ []) [] ≡ Err (refused_at Status.BadWords 2 0) }
+    ensures missing { due (codes "synth" ∷ codes "k=0" ∷ []) [] ≡ Err (refused_at Status.BadWords 5 2) }
+    ensures family { due (codes "family" ∷ codes "kind=line" ∷ codes "size=2" ∷ []) (codes "left") ≡ Ok (Write two_nodes_text) }
+    ensures trial { due (codes "trial" ∷ codes "n=3333" ∷ []) [] ≡ Ok (Try 3333) }
+{}
+
+/// Searches that are refused for the text, the root, the collective, and the chunk counts.
+pub fn searches_due()
+    ensures text { due (search (codes "collective=broadcast") []) (codes "topology 3\n") ≡ Err (refused_at Status.BadTopology 1 1) }
+    ensures root { due (search (codes "collective=broadcast") (codes "root=n9" ∷ [])) two_nodes_text ≡ Err (refused_word WordCode.UnknownRoot 6) }
+    ensures no_pattern { due (search (codes "collective=custom") []) two_nodes_text ≡ Err (refused_word WordCode.CustomMismatch 1) }
+    ensures pattern { due (search (codes "collective=broadcast") (codes "root=n9" ∷ [])) moved_text ≡ Err (refused_word WordCode.CustomMismatch 1) }
+    ensures candidates { due (search (codes "collective=alltoall") []) two_nodes_text ≡ Err (refused_at Status.NoCandidate 0 0) }
+{}
+
+/// Reports that are refused for their text, for the point that is asked for, and by the audit.
+pub fn reports_due()
+    ensures text { due (codes "replay" ∷ codes "point=1" ∷ []) (codes "sccl 1\n") ≡ Err (refused_at Status.BadReport 2 2) }
+    ensures point { due (codes "replay" ∷ codes "point=2" ∷ []) (report_text broadcast_report) ≡ Err (refused_word WordCode.UnknownPoint 1) }
+    ensures denied { audited relay_report (beside_one_step cnf_of_one_step []) ≡ Err (record { status = Status.Denied; code = 5; place = codes "1-1-1" }) }
+    ensures line { refusal_line (record { status = Status.Denied; code = 5; place = codes "1-1-1" }) ≡ codes "refused 8 5 1-1-1\n" }
+{}

@@ -1,0 +1,22 @@
+use Rattle.std.proofs.Common.{◌≡◌, ◌+◌, ◌<◌, ◌≤◌, length, sym, ap, ◌∙◌, subst, arith}
+use Rattle.std.specs.Prelude.{Contains}
+use Rattle.cnf_formula.specs.Literals.{LitValue}
+use Rattle.trail_core.specs.Meaning.{trues}
+use Rattle.sat_core.specs.Met.{lit_at}
+use Rattle.sat_core.proofs.Marked.{lit_about, lit_stands}
+use Rattle.sat_core.proofs.Resolved.{place_read, reason_implied}
+use Rattle.sat_core.proofs.shrinking.is_spare.Goals as goal
+
+pub reason-requires : goal.reason-requires
+reason-requires c =
+    let core = c.args.core.now in
+    let x : LitValue = c.index-trail-place.result in
+    let at : x ≡ lit_at core c.args.place = place_read core c.trail.result.now c.args.place x c.trail.ensures.value c.requires.place c.index-trail-place.is in
+    subst (λ l. Contains (trues core) l) (sym at) (lit_stands core c.args.place c.requires.place)
+
+pub returns-clause-implied : goal.returns-clause-implied
+returns-clause-implied c = λ h.
+    let core = c.args.core.now in
+    let x : LitValue = c.index-trail-place.result in
+    let at : x ≡ lit_at core c.args.place = place_read core c.trail.result.now c.args.place x c.trail.ensures.value c.requires.place c.index-trail-place.is in
+    reason_implied core c.args.place x c.in-Some._reason c.trail.ensures.grounded c.trail.ensures.formed c.requires.place at c.in-Some.ensures

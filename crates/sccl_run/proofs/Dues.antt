@@ -1,0 +1,64 @@
+-- What is due, by the command that the words ask for and the bytes that came.
+use Rattle.std.proofs.Common.{◌≡◌, ◌<◌, ◌≤◌, ◌+◌, ℕ, Bool, true, false, IsTrue, nat_lt, length, drop, List, [], replicate, Result, Ok, Err, refl, sym, subst, ap, arith, ◌∙◌}
+use Rattle.std.proofs.lemmas.Bool.{lt-ltb, le-ltb}
+use Rattle.std.proofs.lemmas.List.{drop_all, length-replicate}
+use Rattle.text_lines.specs.Check.{◌>>=◌}
+use Rattle.command_words.specs.declared.command.Command.{Command}
+use Rattle.command_words.specs.declared.fault.WordFault.{WordFault}
+use Rattle.command_words.specs.Words.{command_of}
+use Rattle.run_rules.specs.declared.status.Status.TheVariants.{TooLong}
+use Rattle.run_rules.specs.Commands.{Ask, Reads, row_of}
+use Rattle.run_rules.specs.Refusals.{Refusal, refused_at, refused_word}
+use Rattle.run_rules.specs.Tasks.{Task, due, limit, task_of, whole_text, words_asked}
+use Rattle.sccl_run.specs.Answering.{due_for}
+
+-- ---- by the words
+
+pub due_refused : (words : List (List ℕ)) (bytes : List ℕ) (fault : WordFault) → command_of words ≡ Err fault → due words bytes ≡ Err (refused_word fault.code fault.word)
+unfolding due
+due_refused words bytes fault e = ap (λ x. words_asked x >>= (λ c. whole_text (row_of c).reads bytes >>= (λ _. task_of c bytes))) e
+
+pub due_command : (words : List (List ℕ)) (bytes : List ℕ) (c : Command) → command_of words ≡ Ok c → due words bytes ≡ due_for c bytes
+unfolding due
+due_command words bytes c e = ap (λ x. words_asked x >>= (λ d. whole_text (row_of d).reads bytes >>= (λ _. task_of d bytes))) e
+
+-- words that are refused ask for nothing
+pub refused_asks_nothing : (P : Command → Type 0) (words : List (List ℕ)) (fault : WordFault) → command_of words ≡ Err fault → Ask P words → ⊥
+refused_asks_nothing P words fault refused ask = let e : Err fault ≡ Ok ask.command = sym refused ∙ ask.is in absurd (cc)
+
+-- and words that ask for a command ask for nothing else
+pub asks_one : (P : Command → Type 0) (words : List (List ℕ)) (c : Command) → command_of words ≡ Ok c → Ask P words → P c
+asks_one P words c is ask = let e : Ok ask.command ≡ Ok c = sym ask.is ∙ is in let same : ask.command ≡ c = cc in subst P same ask.such
+
+-- ---- by the bytes
+
+whole_short : (reads : Bool) (bytes : List ℕ) → length bytes ≤ limit → whole_text reads bytes ≡ Ok tt
+whole_short true bytes short = let test : nat_lt limit (length bytes) ≡ false = le-ltb limit (length bytes) short in rw test refl
+whole_short false bytes short = refl
+
+pub short_due : (c : Command) (bytes : List ℕ) → length bytes ≤ limit → due_for c bytes ≡ task_of c bytes
+short_due c bytes short = ap (λ x. x >>= (λ _. task_of c bytes)) (whole_short (row_of c).reads bytes short)
+
+whole_long : (reads : Bool) (bytes : List ℕ) → IsTrue reads → limit < length bytes → whole_text reads bytes ≡ Err (refused_at TooLong 0 limit)
+whole_long true bytes read long = let test : nat_lt limit (length bytes) ≡ true = lt-ltb limit (length bytes) long in rw test refl
+whole_long false bytes read long = absurd (cc)
+
+pub long_due : (c : Command) (bytes : List ℕ) → Reads c → limit < length bytes → due_for c bytes ≡ Err (refused_at TooLong 0 limit)
+long_due c bytes reads long = ap (λ x. x >>= (λ _. task_of c bytes)) (whole_long (row_of c).reads bytes reads long)
+
+-- nothing is left behind a text that is not too long
+pub nothing_behind : (bytes : List ℕ) → length bytes ≤ limit → drop (limit + 1) bytes ≡ []
+nothing_behind bytes short = drop_all (limit + 1) bytes (omega (arith, short))
+
+-- too many bytes came: where the source tells them, those that it had, and else some
+pub record TooMany (tells : Bool) (had : List ℕ) : Type 0 where
+  pub came : List ℕ
+  pub long : limit < length came
+  pub are : IsTrue tells → came ≡ had
+
+so_many : (n : ℕ) (had : List ℕ) → limit < n → TooMany false had
+so_many n had above = record { came = replicate n 0; long = subst (λ k. limit < k) (sym (length-replicate n 0)) above; are = λ no. absurd (cc) }
+
+pub too_many : (tells : Bool) (had : List ℕ) → (IsTrue tells → limit < length had) → TooMany tells had
+too_many true had long = record { came = had; long = long refl; are = λ told. refl }
+too_many false had long = so_many (limit + 1) had (omega arith)

@@ -1,0 +1,128 @@
+-- Runs whose words ask for a family.
+use Rattle.std.proofs.Common.{◌≡◌, ◌≢◌, ◌==◌, ℕ, suc, zero, Bool, true, false, List, [], ◌∷◌, ◌++◌, take, inl, inr, Ok, Err, refl, sym, subst, ap, ◌∙◌, codes}
+use Rattle.std.specs.Prelude.{bytes_eq}
+use Rattle.std.specs.Fmt.{digits}
+use Rattle.topology_text.specs.declared.family_kind.FamilyKind.TheVariants.{Line}
+use Rattle.topology_text.specs.Family.{family_of}
+use Rattle.topology_text.specs.Spelling.{spelling}
+use Rattle.command_words.specs.declared.command.Command.{Command}
+use Rattle.command_words.specs.declared.command.Command.TheVariants as command
+use Rattle.command_words.specs.Words.{command_of}
+use Rattle.run_rules.specs.declared.status.Status.{Status}
+use Rattle.run_rules.specs.declared.status.Status.TheVariants.{Done, OutOfMemory, SourceFailed, SinkFailed, ShelfFailed}
+use Rattle.run_rules.specs.Commands.{Ask, Reads, Opens}
+use Rattle.run_rules.specs.Tasks.{Write, due}
+use Rattle.run_rules.specs.Rows.{two_nodes_text}
+use Rattle.sccl_run.specs.Laws.{IsRightRun}
+use Rattle.sccl_run.specs.Rows.{all_tell, family_run}
+use Rattle.sccl_run.specs.TopCall.{CountValue, EndsIfItFails, IsEnd, IsSilent, RunValue}
+use Rattle.sccl_run.proofs.Ended.{ended}
+use Rattle.sccl_run.proofs.RightRuns.{done_answered, done_not_silent}
+
+is_asked : command_of family_run.words ≡ Ok (command.Family Line 2)
+unfolding command_of digits
+is_asked = refl
+
+is_due : due family_run.words family_run.bytes ≡ Ok (Write (spelling (family_of Line 2)))
+unfolding due command_of digits
+is_due = refl
+
+text : spelling (family_of Line 2) ≡ two_nodes_text
+unfolding spelling digits
+text = refl
+
+-- the words ask for a family alone
+asks_such : (P : Command → Type 0) → (P (command.Family Line 2) → ⊥) → Ask P family_run.words → ⊥
+asks_such P none ask =
+    let e : Ok (command.Family Line 2) ≡ Ok ask.command = sym is_asked ∙ ask.is in
+    let same : command.Family Line 2 ≡ ask.command = cc in
+    none (subst P (sym same) ask.such)
+
+-- ---- the run that is right
+
+quiet : (failed : Status) (n : ℕ) → Done ≢ failed → EndsIfItFails failed Done (record { before = n; now = n })
+quiet failed n other = record { only = λ e. absurd (other e); kept = λ _. refl }
+
+pub family_is_right : (n : ℕ) → IsRightRun family_run (record { before = n; now = n }) (record { before = n; now = n }) (record { before = n; now = n })
+unfolding command_of digits
+family_is_right n = record {
+  call = record {
+    ends = refl;
+    source_fails = quiet SourceFailed n (λ e. cc);
+    sink_fails = quiet SinkFailed n (λ e. cc);
+    shelf_fails = quiet ShelfFailed n (λ e. cc);
+    unread = λ _. refl;
+    unopened = λ _ name. refl;
+    behind_source = λ e name. refl;
+    behind_refusals = λ no name. refl;
+    silent = λ silent. absurd (done_not_silent Done refl silent);
+  };
+  left = λ told. record {
+    read = λ ask _ _. absurd (asks_such Reads (λ no. absurd (cc)) ask);
+    memory = λ e. absurd (cc);
+    failed = λ e. absurd (cc);
+  };
+  came = codes "left";
+  are = λ told ask. refl;
+  end = subst (λ d. IsEnd d family_run all_tell) (sym is_due) (inl (record {
+    text = two_nodes_text;
+    answer = record { says = record { status = refl; text = sym text }; stay = λ told name. refl };
+    written = λ told. refl;
+  }));
+}
+
+-- ---- runs that are not
+
+done_so : (now : List ℕ) → now ≢ two_nodes_text → (a b c : CountValue) → IsRightRun (record family_run { now = now }) a b c → ⊥
+done_so now other a b c run =
+    let x = record family_run { now = now } in
+    let end = done_answered (Ok (Write (spelling (family_of Line 2)))) x (ended x a b c _ run is_due) refl in
+    other (end.written refl ∙ end.answer.says.text ∙ text)
+
+-- what a test tells apart is not the same
+pub differ : (f : List ℕ → Bool) (a b : List ℕ) → f a ≡ true → f b ≡ false → a ≡ b → ⊥
+differ f a b at bt e = let same : true ≡ false = sym at ∙ ap f e ∙ bt in absurd (cc)
+
+pub left_out_is_wrong : (a b c : CountValue) → IsRightRun (record family_run { now = [] }) a b c → ⊥
+left_out_is_wrong = done_so [] (λ e. cc)
+
+pub other_text_is_wrong : (a b c : CountValue) → IsRightRun (record family_run { now = codes "topology 1\nnodes n0 n1\ngroup 1 n0>n1\n" }) a b c → ⊥
+other_text_is_wrong = done_so (codes "topology 1\nnodes n0 n1\ngroup 1 n0>n1\n") (differ (bytes_eq (codes "topology 1\nnodes n0 n1\ngroup 1 n0>n1\n")) (codes "topology 1\nnodes n0 n1\ngroup 1 n0>n1\n") two_nodes_text refl refl)
+
+begins : ℕ → List ℕ → Bool
+begins x [] = false
+begins x (y ∷ ys) = y == x
+
+-- what begins a text has its first byte, or none
+begins_so : (count : ℕ) → codes "n" ≡ take count two_nodes_text → ⊥
+unfolding begins
+begins_so zero e = absurd (cc)
+begins_so (suc count) e = differ (begins 110) (codes "n") (take (suc count) two_nodes_text) refl refl e
+
+pub no_part_is_wrong : (a b c : CountValue) → IsRightRun (record family_run { status = SinkFailed; now = codes "n" }) a b c → ⊥
+no_part_is_wrong a b c run =
+    let x = record family_run { status = SinkFailed; now = codes "n" } in
+    elim (ended x a b c (Ok (Write (spelling (family_of Line 2)))) run is_due) [
+      | inl end ↦ not_done end.answer.says.status
+      | inr (inl cut) ↦ begins_so cut.count (cut.written refl ∙ ap (take cut.count) (cut.answer.says.text ∙ text))
+      | inr (inr halt) ↦ not_silent halt.silent
+    ]
+  where
+    not_done : SinkFailed ≡ Done → ⊥
+    not_done e = absurd (cc)
+
+    not_silent : IsSilent SinkFailed → ⊥
+    not_silent (inl e) = absurd (cc)
+    not_silent (inr (inl e)) = absurd (cc)
+    not_silent (inr (inr e)) = absurd (cc)
+
+pub source_is_wrong : (a b c : CountValue) → IsRightRun (record family_run { status = SourceFailed; now = [] }) a b c → ⊥
+unfolding command_of digits
+source_is_wrong a b c run = let e = run.call.ends in absurd (cc)
+
+pub shelf_is_wrong : (a b c : CountValue) → IsRightRun (record family_run { status = ShelfFailed; now = [] }) a b c → ⊥
+unfolding command_of digits
+shelf_is_wrong a b c run = let e = run.call.ends in absurd (cc)
+
+pub memory_is_wrong : (a b c : CountValue) → IsRightRun (record family_run { status = OutOfMemory }) a b c → ⊥
+memory_is_wrong a b c run = let e : two_nodes_text ≡ [] = run.call.silent (inl refl) in absurd (cc)

@@ -1,0 +1,86 @@
+-- What is due for the words of a replay.
+use Rattle.std.proofs.Common.{◌≡◌, ◌≤◌, ℕ, List, length, Option, None, Some, Result, Ok, Err, refl, ap, ◌∙◌}
+use Rattle.text_lines.specs.Check.{◌>>=◌, need}
+use Rattle.outer_ports.specs.declared.part.Part.{Part}
+use Rattle.candidate_order.specs.Frontiers.{PointValue}
+use Rattle.command_words.specs.declared.command.Command.TheVariants as command
+use Rattle.command_words.specs.declared.values.PointWord.{PointWord}
+use Rattle.command_words.specs.declared.fault.WordCode.TheVariants.{UnknownPoint}
+use Rattle.report_form.specs.declared.fault.ReportCode.{ReportCode}
+use Rattle.report_form.specs.Answer.{code_number}
+use Rattle.report_form.specs.Reports.{ReportValue, IsReport}
+use Rattle.report_form.specs.Spelling.{report_text}
+use Rattle.report_form.specs.Numbered.{point_at}
+use Rattle.report_form.specs.Reading.{report_of}
+use Rattle.report_form.proofs.ReportTaken.{report_take}
+use Rattle.report_laws.proofs.ReportAgain.{report_again}
+use Rattle.report_laws.proofs.FirstBlamed.{first_is_blamed}
+use Rattle.point_replay.specs.Showing.{shown_in, shown_text}
+use Rattle.run_rules.specs.declared.status.Status.TheVariants.{BadReport}
+use Rattle.run_rules.specs.Refusals.{Refusal, refused_at, refused_as, refused_word}
+use Rattle.run_rules.specs.Tasks.{Task, Write, due, limit, replay_asked, replay_in}
+use Rattle.sccl_run.specs.Laws.{AskReplay, IsRefusedText, IsTextOf}
+use Rattle.sccl_run.proofs.Dues.{due_command, short_due}
+
+module _ (asked : PointWord) (order : Option ℕ) (bytes : List ℕ) where
+  read_as : Result ReportValue (ReportCode × ℕ) → Result Task Refusal
+  read_as x = refused_as BadReport code_number x >>= (λ r. replay_in r asked order)
+
+  -- what is due for a text that is read so
+  replayed_by : (x : Result ReportValue (ReportCode × ℕ)) → report_of bytes ≡ x → replay_asked asked order bytes ≡ read_as x
+  unfolding read_as
+  replayed_by x e = ap read_as e
+
+  replayed_of : (r : ReportValue) → report_of bytes ≡ Ok r → replay_asked asked order bytes ≡ replay_in r asked order
+  unfolding read_as
+  replayed_of r e = replayed_by (Ok r) e
+
+  replayed_refused : (code : ReportCode) (line : ℕ) → report_of bytes ≡ Err (code, line) → replay_asked asked order bytes ≡ Err (refused_at BadReport (code_number code) line)
+  unfolding read_as
+  replayed_refused code line e = replayed_by (Err (code, line)) e
+
+module _ (r : ReportValue) (asked : PointWord) (order : Option ℕ) where
+  point_sought : Option (Part × PointValue) → Result Task Refusal
+  point_sought o = need o (refused_word UnknownPoint asked.word) >>= (λ p. Ok (Write (shown_text asked.point (shown_in r p) order)))
+
+  -- what is due for a point that there is not, and for one that there is
+  no_point : point_at r asked.point ≡ None → replay_in r asked order ≡ Err (refused_word UnknownPoint asked.word)
+  unfolding point_sought
+  no_point e = ap point_sought e
+
+  some_point : (p : Part × PointValue) → point_at r asked.point ≡ Some p → replay_in r asked order ≡ Ok (Write (shown_text asked.point (shown_in r p) order))
+  unfolding point_sought
+  some_point p e = ap point_sought e
+
+-- ---- by the words
+
+module _ (words : List (List ℕ)) (number word : ℕ) (order : Option ℕ) (asks : AskReplay words number word order) (bytes : List ℕ) where
+  asked_for : PointWord
+  asked_for = record { point = number; word = word }
+
+  due_replayed : length bytes ≤ limit → due words bytes ≡ replay_asked asked_for order bytes
+  unfolding asked_for
+  due_replayed short = due_command words bytes (command.Replay number word order) asks.is ∙ short_due (command.Replay number word order) bytes short
+
+  of_report : (r : ReportValue) → IsTextOf r bytes → due words bytes ≡ replay_in r asked_for order
+  of_report r text = due_replayed text.short ∙ replayed_of asked_for order bytes r (ap report_of text.spelled ∙ report_again r text.valid)
+
+  pub replayed_is_due : (r : ReportValue) (p : Part × PointValue) → IsTextOf r bytes → point_at r number ≡ Some p → due words bytes ≡ Ok (Write (shown_text number (shown_in r p) order))
+  unfolding asked_for
+  replayed_is_due r p text point = of_report r text ∙ some_point r asked_for order p point
+
+  pub unknown_is_due : (r : ReportValue) → IsTextOf r bytes → point_at r number ≡ None → due words bytes ≡ Err (refused_word UnknownPoint word)
+  unfolding asked_for
+  unknown_is_due r text point = of_report r text ∙ no_point r asked_for order point
+
+  refused_text : (x : Result ReportValue (ReportCode × ℕ)) → report_of bytes ≡ x → length bytes ≤ limit → ((r : ReportValue) → IsReport r → bytes ≡ report_text r → ⊥) → IsRefusedText words bytes
+  refused_text (Ok r) e short none = let taken = report_take bytes r e in absurd (none r taken.valid taken.spelled)
+  refused_text (Err (code, line)) e short none = record {
+    code = code;
+    line = line;
+    due = due_replayed short ∙ replayed_refused asked_for order bytes code line e;
+    first = first_is_blamed bytes code line e;
+  }
+
+  pub no_report_is_refused : length bytes ≤ limit → ((r : ReportValue) → IsReport r → bytes ≡ report_text r → ⊥) → IsRefusedText words bytes
+  no_report_is_refused = refused_text (report_of bytes) refl

@@ -1,0 +1,81 @@
+-- How a run ends, from what its answer says.
+use Rattle.std.proofs.Common.{◌≡◌, ◌≢◌, ◌⊎◌, ◌++◌, ◌+◌, ◌≤◌, ℕ, Bool, true, false, IsTrue, List, take, drop, inl, inr, refl, sym, subst, ◌∙◌}
+use Rattle.outer_ports.specs.Files.{Files}
+use Rattle.run_rules.specs.declared.status.Status.{Status}
+use Rattle.run_rules.specs.declared.status.Status.TheVariants.{OutOfMemory, SourceFailed, SinkFailed, ShelfFailed}
+use Rattle.run_rules.specs.declared.halt.Halt.{Halt}
+use Rattle.run_rules.specs.declared.halt.Halt.TheVariants.{Memory, Source, Shelf}
+use Rattle.run_rules.specs.Commands.{Ask, Reads}
+use Rattle.run_rules.specs.Tasks.{limit}
+use Rattle.sccl_run.specs.Answering.{IsAnswerTo, IsHaltAt}
+use Rattle.sccl_run.specs.TopCall.{CountValue, IsCall, IsRun, LeftIsDue, RunValue, ToldValue, files_of}
+
+-- ---- what is left of the source
+
+module _ (words : List (List ℕ)) (bytes left : List ℕ) where
+  -- a status with which it was read, where it was to be read
+  pub left_read : (status : Status) → status ≢ OutOfMemory → status ≢ SourceFailed → (Ask Reads words → left ≡ drop (limit + 1) bytes) → LeftIsDue words bytes left status
+  left_read status other another read = record { read = λ ask _ _. read ask; memory = λ e. absurd (other e); failed = λ e. absurd (another e) }
+
+  pub left_without_memory : (left ≡ bytes) ⊎ (left ≡ drop (limit + 1) bytes) → LeftIsDue words bytes left OutOfMemory
+  left_without_memory kept = record { read = λ _ other _. absurd (other refl); memory = λ _. kept; failed = λ e. absurd (cc) }
+
+  pub left_unread : (count : ℕ) × (count ≤ limit + 1) × (left ≡ drop count bytes) → LeftIsDue words bytes left SourceFailed
+  left_unread part = record { read = λ _ _ other. absurd (other refl); memory = λ e. absurd (cc); failed = λ _. part }
+
+-- ---- what is written
+
+-- the text, as it stands in the answer
+pub appended_as : (before now text other : List ℕ) → now ≡ before ++ other → other ≡ text → now ≡ before ++ text
+appended_as before now text other appended same = subst (λ end. now ≡ before ++ end) same appended
+
+-- and a part of it, where the sink tells what it took
+pub record IsPart (tells : Bool) (before now text : List ℕ) : Type 0 where
+  pub count : ℕ
+  pub written : IsTrue tells → now ≡ before ++ take count text
+
+pub part_of : (tells : Bool) (before now text other : List ℕ) → other ≡ text → {A : ℕ → Type 0} → (IsTrue tells → (count : ℕ) × A count × (now ≡ before ++ take count other)) → IsPart tells before now text
+part_of true before now text other same prefix = let part = prefix refl in record { count = part.0; written = λ _. subst (λ end. now ≡ before ++ take part.0 end) same part.2 }
+part_of false before now text other same prefix = record { count = 0; written = λ no. absurd (cc) }
+
+-- ---- the whole run
+
+module _ (x : RunValue) (told : ToldValue) (source sink shelf : CountValue) (SourceStays SinkStays ShelfStays : Type 0) where
+  abbrev Call : Type 0
+  Call = IsCall x.words x.status source sink shelf SourceStays SinkStays ShelfStays
+
+  abbrev Left : Type 0
+  Left = IsTrue told.source → LeftIsDue x.words x.bytes x.left x.status
+
+  abbrev Run : Type 0
+  Run = IsRun x told source sink shelf SourceStays SinkStays ShelfStays
+
+  -- the answer was written
+  pub run_answered : (text : List ℕ) → Call → Left → IsAnswerTo x.words told.source x.bytes (files_of x told) x.status text → (IsTrue told.sink → x.now ≡ x.before ++ text) → Run
+  run_answered text call left to written = record {
+    call = call;
+    left = left;
+    came = to.came;
+    are = to.are;
+    end = inl (record { text = text; answer = to.answer; written = written });
+  }
+
+  -- a part of it was
+  pub run_cut_off : (status : Status) (text : List ℕ) (count : ℕ) → Call → Left → x.status ≡ SinkFailed → IsAnswerTo x.words told.source x.bytes (files_of x told) status text → (IsTrue told.sink → x.now ≡ x.before ++ take count text) → Run
+  run_cut_off status text count call left failed to written = record {
+    call = call;
+    left = left;
+    came = to.came;
+    are = to.are;
+    end = inr (inl (record { failed = failed; status = status; text = text; answer = to.answer; count = count; written = written }));
+  }
+
+  -- there is none
+  pub run_halted : (halt : Halt) → Call → Left → (x.status ≡ OutOfMemory) ⊎ ((x.status ≡ SourceFailed) ⊎ (x.status ≡ ShelfFailed)) → (x.status ≡ ShelfFailed → halt ≡ Shelf) → IsHaltAt x.words told.source x.bytes (files_of x told) halt → Run
+  run_halted halt call left silent same at = record {
+    call = call;
+    left = left;
+    came = at.came;
+    are = at.are;
+    end = inr (inr (record { silent = silent; shelf_last = λ e. at.last (same e); leaves = at.leaves }));
+  }

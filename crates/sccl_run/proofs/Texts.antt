@@ -1,0 +1,74 @@
+-- From what came of the source to what is answered for the words.
+use Rattle.std.proofs.Common.{◌≡◌, ◌<◌, ℕ, Bool, IsTrue, List, Option, None, Some, Result, Ok, Err, IfOk, IfErr, IfSome, IfNone, OnErr, Vec, Global, length, refl, sym, subst, ap, ◌∙◌}
+use Rattle.outer_ports.specs.Shelf.{FilesStay}
+use Rattle.command_words.specs.declared.command.Command.{Command}
+use Rattle.command_words.specs.declared.fault.WordFault.{WordFault}
+use Rattle.command_words.specs.Words.{command_of}
+use Rattle.run_rules.specs.declared.answer.Answer.{Answer}
+use Rattle.run_rules.specs.declared.halt.Halt.{Halt}
+use Rattle.run_rules.specs.declared.halt.Halt.TheVariants.{Shelf}
+use Rattle.run_rules.specs.declared.status.Status.{Status}
+use Rattle.run_rules.specs.declared.status.Status.TheVariants.{BadWords}
+use Rattle.run_rules.specs.Answers.{FilesValue, IsAnswer, LeavesOff, Says, Stay}
+use Rattle.run_rules.specs.Commands.{Ask, Reads, row_of}
+use Rattle.run_rules.specs.Refusals.{Refusal, refusal_line, refused_word}
+use Rattle.run_rules.specs.Tasks.{due, limit}
+use Rattle.run_rules.proofs.Answered.{nothing_left_off, refused_answers}
+use Rattle.sccl_run.specs.Answering.{IsAnswerTo, IsHaltAt, due_for}
+use Rattle.sccl_run.proofs.Dues.{asks_one, due_command, due_refused, too_many}
+
+pub if_ok : {A E : Type 0} (x : Result A E) (P Q : A → Type 0) → ((a : A) → P a → Q a) → IfOk x P → IfOk x Q
+if_ok (Ok a) P Q follows holds = follows a holds
+if_ok (Err e) P Q follows holds = tt
+
+-- ---- what came
+
+-- some bytes: those of the text, or where too many came, more than are read; and those that the source had where it tells them and is read
+pub record HasCome (words : List (List ℕ)) (tells : Bool) (had : List ℕ) (text : Option (Vec ℕ Global)) : Type 0 where
+  pub came : List ℕ
+  pub are : IsTrue tells → Ask Reads words → came ≡ had
+  pub whole : IfSome text (λ bytes. came ≡ bytes.items)
+  pub long : IfNone text (limit < length came)
+
+pub has_come : (words : List (List ℕ)) (c : Command) → command_of words ≡ Ok c → (tells : Bool) (had : List ℕ) (text : Option (Vec ℕ Global))
+    → (IsTrue tells → Reads c → IfSome text (λ bytes. bytes.items ≡ had)) → (IsTrue tells → IfNone text (limit < length had)) → HasCome words tells had text
+has_come words c is tells had (Some bytes) whole longer = record { came = bytes.items; are = λ told ask. whole told (asks_one Reads words c is ask); whole = refl; long = tt }
+has_come words c is tells had None whole longer = let many = too_many tells had longer in record { came = many.came; are = λ told _. many.are told; whole = tt; long = many.long }
+
+-- ---- what is answered
+
+module _ (words : List (List ℕ)) (c : Command) (is : command_of words ≡ Ok c) (tells : Bool) (had : List ℕ) (text : Option (Vec ℕ Global)) (here : HasCome words tells had text) (files : FilesValue) (x : Result Answer Halt) where
+  pub answers_words : IfOk x (λ a. IsAnswer (due_for c here.came) files a.status a.text.items) → IfOk x (λ a. IsAnswerTo words tells had files a.status a.text.items)
+  answers_words answers =
+      if_ok x (λ a. IsAnswer (due_for c here.came) files a.status a.text.items) (λ a. IsAnswerTo words tells had files a.status a.text.items)
+      (λ a answer. record { came = here.came; are = here.are; answer = subst (λ d. IsAnswer d files a.status a.text.items) (sym (due_command words here.came c is)) answer }) answers
+
+  halts_so : (y : Result Answer Halt) → (y ≡ Err Shelf → (r : Refusal) → due_for c here.came ≡ Err r → ⊥) → (IsTrue files.told → OnErr y (LeavesOff (due_for c here.came) files.before files.after)) → IfErr y (IsHaltAt words tells had files)
+  halts_so (Ok a) last leaves = tt
+  halts_so (Err h) last leaves = record {
+    came = here.came;
+    are = here.are;
+    last = λ e r refused. last (ap Err e) r (sym (due_command words here.came c is) ∙ refused);
+    leaves = λ told. subst (λ d. LeavesOff d files.before files.after) (sym (due_command words here.came c is)) (leaves told);
+  }
+
+  pub halts_words : (x ≡ Err Shelf → (r : Refusal) → due_for c here.came ≡ Err r → ⊥) → (IsTrue files.told → OnErr x (LeavesOff (due_for c here.came) files.before files.after)) → IfErr x (IsHaltAt words tells had files)
+  halts_words = halts_so x
+
+-- nothing was done before the source failed or memory ran out
+pub halts_before : (words : List (List ℕ)) (tells : Bool) (had : List ℕ) (files : FilesValue) (x : Result Answer Halt) → FilesStay files.before files.after → (x ≡ Err Shelf → ⊥) → IfErr x (IsHaltAt words tells had files)
+halts_before words tells had files (Ok a) stay other = tt
+halts_before words tells had files (Err h) stay other = record {
+  came = had;
+  are = λ _ _. refl;
+  last = λ e. absurd (other (ap Err e));
+  leaves = λ told. nothing_left_off (due words had) files.before files.after stay;
+}
+
+-- words that are refused
+pub refused_words : (words : List (List ℕ)) (fault : WordFault) → command_of words ≡ Err fault → (tells : Bool) (had : List ℕ) (files : FilesValue) (status : Status) (text : List ℕ) → Stay files → Says BadWords (refusal_line (refused_word fault.code fault.word)) status text → IsAnswerTo words tells had files status text
+refused_words words fault is tells had files status text stay says = record {
+  came = had;
+  are = λ _ _. refl;
+  answer = refused_answers (due words had) (refused_word fault.code fault.word) status text (due_refused words had fault is) says files stay;
+}

@@ -1,0 +1,20 @@
+-- The words that name families. This project's own.
+use Rattle.std.specs.Prelude.{ℕ, List, [], ◌∷◌, Option, find, bytes_eq, codes}
+use Rattle.topology_text.specs.declared.family_kind.FamilyKind.{FamilyKind}
+use Rattle.topology_text.specs.declared.family_kind.FamilyKind.TheVariants.{Line, Ring, Complete, Cube, Shared}
+
+-- the kinds of families, in the order of their numbers
+abbrev pub families : List FamilyKind
+families = Line ∷ Ring ∷ Complete ∷ Shared ∷ Cube ∷ []
+
+-- the word of a kind of family
+abbrev pub family_word : FamilyKind → List ℕ
+family_word Line = codes "line"
+family_word Ring = codes "ring"
+family_word Complete = codes "complete"
+family_word Cube = codes "cube"
+family_word Shared = codes "shared"
+
+-- the kind that has this word
+abbrev pub family_named : List ℕ → Option FamilyKind
+family_named word = find (λ kind. bytes_eq (family_word kind) word) families

@@ -1,0 +1,56 @@
+-- The lines of a trial, one after the other.
+use Rattle.std.proofs.Common.{◌≡◌, ℕ, List, [], ◌∷◌, ◌++◌, codes, decimal, length, refl, ap, ◌∙◌, append_assoc}
+use Rattle.text_lines.specs.Text.{line}
+use Rattle.topology_text.specs.declared.family_kind.FamilyKind.{FamilyKind}
+use Rattle.topology_text.specs.FamilyWords.{family_word}
+use Rattle.report_form.specs.Reports.{ReportValue, WordsValue}
+use Rattle.report_form.specs.Spelling.{synth_words}
+use Rattle.run_rules.specs.Trials.{events_in, points_in, refuted_in, replays_in, trial_family, trial_size, trial_text, unknown_in}
+
+abbrev pub family_line : FamilyKind → ℕ → List ℕ
+family_line kind size = line (codes "family" ∷ family_word kind ∷ decimal size ∷ [])
+
+abbrev pub counts_line : ℕ → ℕ → ℕ → ℕ → List ℕ
+counts_line points refuted unknown joined =
+    line (codes "points" ∷ decimal points ∷ codes "refuted" ∷ decimal refuted ∷ codes "unknown" ∷ decimal unknown ∷ codes "joined" ∷ decimal joined ∷ [])
+
+abbrev pub replays_line : ℕ → ℕ → List ℕ
+replays_line count events = line (codes "replays" ∷ decimal count ∷ codes "events" ∷ decimal events ∷ [])
+
+abbrev pub all_lines : ℕ → List (List ℕ) → WordsValue → FamilyKind → ℕ → ℕ → ℕ → ℕ → ℕ → ℕ → ℕ → List ℕ
+all_lines n names w kind size points refuted unknown joined count events =
+    line (codes "trial" ∷ decimal n ∷ []) ++ (line (synth_words names w) ++ (family_line kind size ++ (counts_line points refuted unknown joined ++ (codes "check verified\n" ++ (replays_line count events ++ codes "end\n")))))
+
+lines_are : (n : ℕ) (r : ReportValue) → all_lines n r.topology.names r.words (trial_family n) (trial_size n) (points_in r) (refuted_in r) (unknown_in r) (length r.joined) (replays_in r) (events_in r) ≡ trial_text n r
+unfolding trial_text
+lines_are n r = refl
+
+-- a piece, and all behind it
+before : (a b c x rest : List ℕ) → b ≡ a ++ x → c ≡ b ++ rest → c ≡ a ++ (x ++ rest)
+before a b c x rest first second = second ∙ ap (λ t. t ++ rest) first ∙ append_assoc a x rest
+
+-- what is appended in a row
+module _ (n : ℕ) (names : List (List ℕ)) (w : WordsValue) (kind : FamilyKind) (size points refuted unknown joined count events : ℕ) where
+  pub appended : (a b c d e f g h : List ℕ) → a ≡ [] → b ≡ a ++ line (codes "trial" ∷ decimal n ∷ []) → c ≡ b ++ line (synth_words names w) → d ≡ c ++ family_line kind size
+      → e ≡ d ++ counts_line points refuted unknown joined → f ≡ e ++ codes "check verified\n" → g ≡ f ++ replays_line count events → h ≡ g ++ codes "end\n"
+      → h ≡ all_lines n names w kind size points refuted unknown joined count events
+  appended a b c d e f g h none trial asked family counts checked replays end =
+      before a b h _ _ trial (before b c h _ _ asked (before c d h _ _ family (before d e h _ _ counts (before e f h _ _ checked (before f g h _ _ replays end)))))
+      ∙ ap (λ t. t ++ all_lines n names w kind size points refuted unknown joined count events) none
+
+-- of values that are those of the trial
+pub lines_of_trial : (n : ℕ) (r : ReportValue) (names : List (List ℕ)) (w : WordsValue) (kind : FamilyKind) (size points refuted unknown joined count events : ℕ)
+    → names ≡ r.topology.names → w ≡ r.words → kind ≡ trial_family n → size ≡ trial_size n → points ≡ points_in r → refuted ≡ refuted_in r → unknown ≡ unknown_in r → joined ≡ length r.joined → count ≡ replays_in r → events ≡ events_in r
+    → all_lines n names w kind size points refuted unknown joined count events ≡ trial_text n r
+lines_of_trial n r names w kind size points refuted unknown joined count events e1 e2 e3 e4 e5 e6 e7 e8 e9 e10 =
+    ap (λ x. all_lines n x w kind size points refuted unknown joined count events) e1
+    ∙ ap (λ x. all_lines n r.topology.names x kind size points refuted unknown joined count events) e2
+    ∙ ap (λ x. all_lines n r.topology.names r.words x size points refuted unknown joined count events) e3
+    ∙ ap (λ x. all_lines n r.topology.names r.words (trial_family n) x points refuted unknown joined count events) e4
+    ∙ ap (λ x. all_lines n r.topology.names r.words (trial_family n) (trial_size n) x refuted unknown joined count events) e5
+    ∙ ap (λ x. all_lines n r.topology.names r.words (trial_family n) (trial_size n) (points_in r) x unknown joined count events) e6
+    ∙ ap (λ x. all_lines n r.topology.names r.words (trial_family n) (trial_size n) (points_in r) (refuted_in r) x joined count events) e7
+    ∙ ap (λ x. all_lines n r.topology.names r.words (trial_family n) (trial_size n) (points_in r) (refuted_in r) (unknown_in r) x count events) e8
+    ∙ ap (λ x. all_lines n r.topology.names r.words (trial_family n) (trial_size n) (points_in r) (refuted_in r) (unknown_in r) (length r.joined) x events) e9
+    ∙ ap (λ x. all_lines n r.topology.names r.words (trial_family n) (trial_size n) (points_in r) (refuted_in r) (unknown_in r) (length r.joined) (replays_in r) x) e10
+    ∙ lines_are n r

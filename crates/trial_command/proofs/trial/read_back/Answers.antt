@@ -1,0 +1,15 @@
+use Rattle.std.proofs.Common.{◌≡◌, ◌∙◌}
+use Rattle.report_form.specs.Spelling.{report_text}
+use Rattle.trial_command.proofs.Tried.{only_memory}
+use Rattle.trial_command.proofs.trial.read_back.Goals as goal
+
+pub returns-in-Ok : goal.returns-in-Ok
+returns-in-Ok c =
+    let spelled : c.deref.result.now ≡ report_text c.args.report.now = c.deref.ensures.value ∙ c.in_ok-text.ensures in
+    let same = c.in-Ok.ensures.only c.args.report.now c.requires spelled in
+    cc
+
+pub unreachable-requires : goal.unreachable-requires
+unreachable-requires c =
+    let spelled : c.deref.result.now ≡ report_text c.args.report.now = c.deref.ensures.value ∙ c.in_ok-text.ensures in
+    c.in_default.not-OutOfMemory (only_memory c.in-Err.fault c.args.report.now (c.in-Err.ensures.only c.args.report.now c.requires spelled))

@@ -1,0 +1,8 @@
+use Rattle.std.proofs.Common.{refl}
+use Rattle.std.specs.Fmt.{digits}
+use Rattle.run_rules.specs.Trials.{trial_text}
+use Rattle.trial_command.proofs.vectors.trials.Goals as goal
+
+pub returns-clause-first : goal.returns-clause-first
+unfolding trial_text digits
+returns-clause-first c = refl

@@ -1,8 +1,0 @@
-use Rattle.std.proofs.Common.{refl}
-use Rattle.std.specs.Fmt.{digits}
-use Rattle.trial_run.specs.Trials.{trial_text}
-use Rattle.trial_run.proofs.vectors.trials.Goals as goal
-
-pub returns-clause-first : goal.returns-clause-first
-unfolding trial_text digits
-returns-clause-first c = refl

@@ -1,0 +1,122 @@
+"""Runs words as a shell at a terminal does, one of its own: they are its foreground, and standard error is the terminal.
+
+usage: tests/at_terminal.py [--input FILE] [--output FILE] [--when FILE ACT].. WORDS..
+
+Standard input and standard output are the terminal too where no FILE is named for them. Once the FILE behind --when is there, the
+ACT is done: `interrupt`, `quit` and `stop` press a key, `close` closes the terminal, and `kill` and `terminate` are signals to the
+process alone. What was stopped goes on soon. What the terminal got is printed, and the status is that of the words, or 128 and the
+number of the signal that ended them, which then stands last.
+"""
+import fcntl
+import os
+import pty
+import select
+import signal
+import struct
+import sys
+import termios
+import time
+
+KEYS = {"interrupt": b"\x03", "quit": b"\x1c", "stop": b"\x1a"}
+SIGNALS = {"kill": signal.SIGKILL, "terminate": signal.SIGTERM}
+LIMIT = 60
+
+
+def main():
+    words, files, acts = sys.argv[1:], {}, []
+    while words[0].startswith("--"):
+        if words[0] == "--when":
+            acts.append((words[1], words[2]))
+            words = words[3:]
+        else:
+            files[words[0]] = words[1]
+            words = words[2:]
+    reader, writer = os.pipe()
+    pid, terminal = pty.fork()
+    if not pid:
+        os.close(reader)
+        shell(words, files, writer)
+    os.close(writer)
+    got, status = watch(terminal, reader, int(os.read(reader, 16)), acts)
+    os.waitpid(pid, 0)
+    sys.stdout.buffer.write(got + (b"" if os.WIFEXITED(status) else b"(signal %d)" % os.WTERMSIG(status)))
+    sys.stdout.flush()
+    sys.exit(os.WEXITSTATUS(status) if os.WIFEXITED(status) else 128 + os.WTERMSIG(status))
+
+
+def shell(words, files, writer):
+    """In the session of the terminal: starts the words in front, has them go on where they were stopped, tells them where the
+    terminal is closed, and tells of their end."""
+    for it in (signal.SIGTTOU, signal.SIGINT, signal.SIGQUIT):
+        signal.signal(it, signal.SIG_IGN)
+    fcntl.ioctl(2, termios.TIOCSWINSZ, struct.pack("4H", 50, 200, 0, 0))
+    pid = os.fork()
+    if not pid:
+        start(words, files)
+    in_front(pid)
+    signal.signal(signal.SIGHUP, lambda *_: os.killpg(pid, signal.SIGHUP))
+    os.write(writer, b"%d\n" % pid)
+    status = None
+    while status is None:
+        _, found = os.waitpid(pid, os.WUNTRACED)
+        if os.WIFSTOPPED(found):
+            time.sleep(0.3)
+            os.write(2, b"(stopped)")
+            os.killpg(pid, signal.SIGCONT)
+        else:
+            status = found
+    os.write(writer, b"%d\n" % status)
+    os._exit(0)
+
+
+def start(words, files):
+    os.setpgid(0, 0)
+    os.tcsetpgrp(2, os.getpid())
+    for it in (signal.SIGTTOU, signal.SIGHUP, signal.SIGINT, signal.SIGQUIT, signal.SIGPIPE, signal.SIGXFSZ):
+        signal.signal(it, signal.SIG_DFL)
+    for number, flag, how in ((0, "--input", os.O_RDONLY), (1, "--output", os.O_WRONLY | os.O_CREAT | os.O_TRUNC)):
+        if flag in files:
+            os.dup2(os.open(files[flag], how, 0o666), number)
+    os.execvp(words[0], words)
+
+
+def in_front(pid):
+    try:
+        os.setpgid(pid, pid)
+    except OSError:
+        pass
+    os.tcsetpgrp(2, pid)
+
+
+def watch(terminal, reader, pid, acts):
+    """Gathers what the terminal gets, does what is due, and gives both once the words have ended."""
+    got, status, until = b"", None, time.monotonic() + LIMIT
+    while terminal is not None or status is None:
+        if time.monotonic() > until:
+            sys.exit("no end")
+        if acts and os.path.exists(acts[0][0]):
+            terminal = act(terminal, pid, acts.pop(0)[1])
+        found = select.select([it for it in (terminal, reader) if it is not None], [], [], 0.02)[0]
+        if terminal in found:
+            try:
+                got += os.read(terminal, 65536)
+            except OSError:
+                terminal = None
+        elif reader in found:
+            status = int(os.read(reader, 16))
+            reader = None
+    return got, status
+
+
+def act(terminal, pid, what):
+    if what == "close":
+        os.close(terminal)
+        return None
+    if what in KEYS:
+        os.write(terminal, KEYS[what])
+    else:
+        os.kill(pid, SIGNALS[what])
+    return terminal
+
+
+main()

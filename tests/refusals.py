@@ -1,0 +1,58 @@
+"""Holds the table of statuses and codes, tools/refusals.py, and the page of usage to docs/FORMATS.md: prints what differs.
+
+The status is 0 where nothing does.
+"""
+import os
+import re
+import sys
+
+ROOT = os.path.dirname(os.path.dirname(os.path.abspath(__file__)))
+sys.path.insert(0, os.path.join(ROOT, "tools"))
+from refusals import CODES, PLACES, STATUSES
+
+OF_LAUNCHER = {"0", "70"}
+
+
+def sections(text):
+    """The rows of the tables of each section, by its name."""
+    found = {}
+    for part in re.split("^## ", text, flags=re.M)[1:]:
+        rows = re.findall(r"^\| (.*) \|$", part, re.M)
+        found[part.split("\n")[0]] = [[it.strip() for it in row.split(" | ")] for row in rows]
+    return found
+
+
+def differences(formats, usage):
+    rows = sections(formats)
+    statuses = {row[0]: row[1] for row in rows["Refusals"] if row[0].isdigit() and not row[1].isdigit()}
+    yield from unlike("statuses", {str(it): text for it, text in STATUSES.items()}, without(statuses, OF_LAUNCHER))
+    for status, codes in CODES.items():
+        _, section = PLACES[status]
+        found = {row[0]: row[1] for row in rows[section] if row[0].isdigit() and len(row) == 2}
+        if section == "Refusals":
+            found = {row[1]: row[2] for row in rows[section] if row[0] == str(status) and row[1].isdigit()}
+        yield from unlike(f"codes of status {status}", {str(it): text for it, text in codes.items()}, found)
+    words = [row[0].strip("`") for row in rows["Words of the command line"] if row[0].startswith("`")]
+    said = re.findall(r"^([a-z]+) {2,}", usage, re.M)
+    yield from unlike("commands and keys of the page of usage", dict.fromkeys(said), dict.fromkeys(words))
+
+
+def without(rows, keys):
+    return {it: text for it, text in rows.items() if it not in keys}
+
+
+def unlike(what, one, other):
+    for it in sorted({*one, *other}):
+        if (it in one, one.get(it)) != (it in other, other.get(it)):
+            yield f"{what}: {it}: {one.get(it, 'nothing')!r} and {other.get(it, 'nothing')!r}"
+
+
+def read(name):
+    with open(os.path.join(ROOT, name)) as it:
+        return it.read()
+
+
+found = list(differences(read("docs/FORMATS.md"), read("tools/usage.txt")))
+for it in found:
+    print(it)
+sys.exit(bool(found))

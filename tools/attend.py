@@ -1,0 +1,260 @@
+"""Runs the program for somebody at a terminal: says on standard error how far a long run is, and what its status means.
+
+usage: tools/attend.py IGNORED PROGRAM WORDS..   (IGNORED: the signals that are ignored, as /proc/PID/status has them)
+
+To whoever started it this is the program: it has its standard input, its output and its signals, stops and goes on with it, and
+ends as it ends. What the program writes comes through here, so that a refusal is seen, and the line on the terminal is cleared
+first. Where it can't be passed on, the program is told so, or else its status for that is taken.
+"""
+import ctypes
+import fcntl
+import os
+import resource
+import select
+import signal
+import stat
+import sys
+import time
+
+sys.path.insert(0, os.path.dirname(os.path.abspath(__file__)))
+from progress import progress_of
+from refusals import STATUSES, explanation, shown
+
+OUTPUT_FAILED, NOT_STARTED = 5, 70
+FIRST_AFTER, EACH = 1.0, 0.5
+# A pipe that can take bytes can take so many.
+PIECE = select.PIPE_BUF
+LONGEST_REFUSAL = 64
+SET_DEATH_SIGNAL = 1
+CLEAR = "\r\033[K"
+IGNORED_BY_PYTHON = {signal.SIGPIPE, signal.SIGXFSZ}
+# What can't be caught, what this process needs for itself, and what ends or stops no program.
+NOT_HANDED_ON = {signal.SIGKILL, signal.SIGSTOP, signal.SIGCHLD, signal.SIGTTIN, signal.SIGTTOU, signal.SIGCONT, signal.SIGWINCH,
+                 signal.SIGURG, *IGNORED_BY_PYTHON}
+
+
+class Terminal:
+    """Standard error: a line that is written anew, and lines that stay."""
+
+    def __init__(self):
+        self.is_shown, self.has_lines = False, os.environ.get("TERM", "dumb") != "dumb"
+
+    def show(self, text):
+        """Writes the line anew, where there is room for it and this is not in the background."""
+        try:
+            if self.has_lines and os.tcgetpgrp(2) == os.getpgrp():
+                self.write(CLEAR + text[: (os.get_terminal_size(2).columns or 80) - 1])
+                self.is_shown = True
+        except OSError:
+            self.has_lines = False
+
+    def clear(self):
+        if self.is_shown:
+            self.write(CLEAR)
+            self.is_shown = False
+
+    def say(self, text):
+        self.clear()
+        self.write(f"sccl: {text}\n")
+
+    def write(self, text):
+        try:
+            os.write(2, text.encode("utf-8", "replace"))
+        except OSError:
+            self.has_lines = False
+
+
+class Output:
+    """Takes what the program writes, and passes it on."""
+
+    def __init__(self):
+        """Standard output may be closed, and then the program's is."""
+        self.head, self.pending, self.has_failed = b"", b"", False
+        self.reader = self.writer = None
+        if is_open(1):
+            self.reader, self.writer = pipe()
+
+    def waits_for(self):
+        """The lists of what is to be read and written next."""
+        return [self.reader] * (not self.pending and self.reader is not None), [1] * bool(self.pending)
+
+    def read(self):
+        self.pending = os.read(self.reader, PIECE)
+        self.head += self.pending[: LONGEST_REFUSAL - len(self.head)]
+        if not self.pending:
+            self.close()
+
+    def write(self):
+        try:
+            self.pending = self.pending[os.write(1, self.pending):]
+        except OSError:
+            self.has_failed, self.pending = True, b""
+            self.close()
+
+    def close(self):
+        if self.reader is not None:
+            os.close(self.reader)
+        self.reader = None
+
+    def is_done(self):
+        return self.reader is None and not self.pending
+
+
+class Run:
+    """A run of the program, from its beginning to its end."""
+
+    def __init__(self, ignored, program, words):
+        self.words, self.terminal, self.output = words, Terminal(), Output()
+        self.status, self.came, self.late = None, [], None
+        self.progress = progress_of(words)
+        if signal.getsignal(signal.SIGINT) != signal.SIG_IGN:
+            signal.signal(signal.SIGINT, signal.SIG_DFL)
+        parent, self.start = os.getpid(), time.monotonic()
+        self.pid = os.fork()
+        if not self.pid:
+            become(ignored, [program, *words], self.output.writer, parent)
+        if self.output.writer is not None:
+            os.close(self.output.writer)
+        if not is_in(signal.SIGXFSZ, ignored):
+            signal.signal(signal.SIGXFSZ, signal.SIG_DFL)
+        self.woken = self.take_signals()
+
+    def take_signals(self):
+        """From now on signals come as bytes too; the answer is where."""
+        reader, writer = pipe()
+        for it in (reader, writer):
+            os.set_blocking(it, False)
+        signal.set_wakeup_fd(writer, warn_on_full_buffer=False)
+        signal.signal(signal.SIGCHLD, lambda *_: None)
+        signal.signal(signal.SIGTTOU, signal.SIG_IGN)
+        for it in signal.valid_signals() - NOT_HANDED_ON:
+            if signal.getsignal(it) != signal.SIG_IGN:
+                signal.signal(it, lambda number, _: self.came.append(number))
+        return reader
+
+    def attend(self):
+        """Waits for the end, and ends likewise."""
+        next_line = self.start + FIRST_AFTER
+        while self.status is None or not self.output.is_done():
+            readers, writers = self.output.waits_for()
+            wait = 0 if self.late else max(0, next_line - time.monotonic())
+            readers, writers, _ = select.select([*readers, self.woken], writers, [], wait)
+            if self.late and not readers and not writers:
+                self.terminal.clear()
+                die(self.late)
+            self.turn(self.output.reader in readers, writers)
+            if time.monotonic() >= next_line:
+                self.show()
+                next_line = time.monotonic() + EACH
+        self.terminal.clear()
+        if os.WIFSIGNALED(self.status):
+            die(os.WTERMSIG(self.status))
+        self.end(OUTPUT_FAILED if self.output.has_failed else os.WEXITSTATUS(self.status))
+
+    def turn(self, can_read, can_write):
+        """Sees what has come: signals, the program's end or stop, output."""
+        drain(self.woken)
+        self.look()
+        while self.came:
+            self.hand_on(self.came.pop(0))
+        if can_read or can_write:
+            self.terminal.clear()
+            self.output.write() if can_write else self.output.read()
+
+    def look(self):
+        """Sees whether the program has ended, or was stopped: then this process stops too, and lets it go on when it does."""
+        pid, status = os.waitpid(self.pid, os.WNOHANG | os.WUNTRACED) if self.status is None else (0, 0)
+        if pid and os.WIFSTOPPED(status):
+            self.terminal.clear()
+            os.kill(os.getpid(), signal.SIGSTOP)
+            os.kill(self.pid, signal.SIGCONT)
+        elif pid:
+            self.status = status
+            self.late = os.WTERMSIG(status) if os.WIFSIGNALED(status) else None
+
+    def hand_on(self, number):
+        """A signal is the program's; where that has ended, it ends this process too once nobody takes its output."""
+        if self.status is None:
+            os.kill(self.pid, number)
+        else:
+            self.late = number
+
+    def show(self):
+        if self.progress and self.status is None:
+            seconds = int(time.monotonic() - self.start)
+            told = [f"sccl: {self.words[0]}", *self.progress.told(self.pid), f"{seconds // 60}:{seconds % 60:02}"]
+            self.terminal.show(", ".join(told))
+
+    def end(self, status):
+        """Whatever goes wrong in telling of it, the status is the program's."""
+        try:
+            if status in STATUSES:
+                self.terminal.say(explanation(status, self.words, self.output.head, place_of_output()))
+        finally:
+            os._exit(status)
+
+
+def become(ignored, words, output, parent):
+    """In the new process: becomes the program, as if it were started alone but for its output. It ends where its parent does."""
+    try:
+        ctypes.CDLL(None).prctl(SET_DEATH_SIGNAL, signal.SIGKILL)
+        for it in IGNORED_BY_PYTHON:
+            if not is_in(it, ignored):
+                signal.signal(it, signal.SIG_DFL)
+        if output is not None:
+            os.dup2(output, 1)
+        if os.getppid() == parent:
+            os.execv(words[0], words)
+    finally:
+        os._exit(NOT_STARTED)
+
+
+def is_in(number, signals):
+    return signals >> (number - 1) & 1
+
+
+def die(number):
+    """Ends by a signal, and leaves the dumping of memory to the program."""
+    resource.setrlimit(resource.RLIMIT_CORE, (0, resource.getrlimit(resource.RLIMIT_CORE)[1]))
+    if number != signal.SIGKILL:
+        signal.signal(number, signal.SIG_DFL)
+    os.kill(os.getpid(), number)
+    os._exit(128 + number)
+
+
+def is_open(number):
+    try:
+        os.fstat(number)
+    except OSError:
+        return False
+    return True
+
+
+def pipe():
+    """A pipe whose ends are no standard stream, also where one of those is closed."""
+    ends = os.pipe()
+    moved = [fcntl.fcntl(it, fcntl.F_DUPFD_CLOEXEC, 3) for it in ends]
+    for it in ends:
+        os.close(it)
+    return moved
+
+
+def drain(number):
+    try:
+        while os.read(number, PIECE):
+            pass
+    except BlockingIOError:
+        pass
+
+
+def place_of_output():
+    """Where standard output goes, in words."""
+    if is_open(1) and os.isatty(1):
+        return "above"
+    if is_open(1) and stat.S_ISREG(os.fstat(1).st_mode):
+        return f"in {shown(os.path.relpath(os.readlink('/proc/self/fd/1')))}"
+    return "on standard output"
+
+
+if __name__ == "__main__":
+    Run(int(sys.argv[1], 16), sys.argv[2], sys.argv[3:]).attend()

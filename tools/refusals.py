@@ -1,0 +1,113 @@
+"""What a status of the program means, and what the code and the place of a refusal say: the one table of both, with which
+docs/FORMATS.md has to agree.
+"""
+import re
+
+# Each status that is not 0: when it comes. (Those with a line are refusals.)
+STATUSES = {
+    1: "memory ran out; nothing is written",
+    2: "the words are refused",
+    3: "the text is no topology",
+    4: "standard input could not be read; nothing is written",
+    5: "standard output could not be written; a part of what was due may be",
+    6: "a file of the folder `proofs` could not be written or read; nothing is written",
+    7: "the text is no report",
+    8: "the report, or a file beside it, is not right",
+    9: "the search is too large",
+    10: "no chunk count up to `chunks` is allowed",
+    11: "the input is too long",
+}
+
+# What a place counts, by status, and the section of docs/FORMATS.md that has the codes.
+PLACES = {
+    2: ("word", "Words of the command line"),
+    3: ("line", "Topology"),
+    7: ("line", "Report"),
+    8: ("candidate", "Check"),
+    9: ("size", "Refusals"),
+    10: (None, "Refusals"),
+    11: (None, "Refusals"),
+}
+
+# The codes of each status: what is refused.
+CODES = {
+    2: {
+        1: "no command is given",
+        2: "it is no command",
+        3: "it has no `=`, or a key that the command does not have",
+        4: "its key stood before",
+        5: "a required key is lacking",
+        6: "it is no value of its key",
+        7: "a `root`, which the collective does not take",
+        8: "a `root` that is no node of the topology",
+        9: "a `point` that the report does not have",
+        12: "a `collective` that does not fit the topology: it is `custom` exactly where the topology has a pattern",
+    },
+    3: {
+        1: "line 1 is neither of the two headers",
+        2: "the line lacks its line feed, or has not the tokens that are due; or a line of the pattern is lacking (the number is that after the last line), or the line stands behind the last",
+        3: "line 2: a word that is no name",
+        4: "line 2: a name that stood before",
+        5: "a name of no node",
+        6: "a link from a node to itself",
+        7: "a link that stood before in its group",
+        8: "a width that is no number from 1 to 16",
+        9: "line 2: a 17th name",
+        10: "a 257th group",
+        11: "line 2: no name, or no line",
+        13: "a pattern's number of chunks that is no number from 1 to 16",
+        14: "a name of a pattern that does not stand behind the one before it",
+    },
+    7: {
+        1: "the line has a wrong shape, or is refused as one of a topology, or names a node that there is not, or has a number above 65,535 where none may be; or it stands behind `end`",
+        2: "the line is lacking (the number is that after the last line), or lacks its line feed",
+        3: "the line has the right shape and breaks a rule; a root that is no node is blamed at the line of the nodes",
+    },
+    8: {
+        1: "its schedule exceeds the links, or does not do what the collective demands",
+        2: "it is marked `optimal`, and some better candidate within the limits is not refuted; or it is marked `open`, and all are",
+        3: "it is within the limits, and is no point, not refuted and not unknown, and no point is no worse",
+        4: "a file of it is not there",
+        5: "its `.lrat` file is no text of proof lines, or a line is refused, or no line without a literal is accepted; or it has more than 281,474,976,710,656 bytes",
+        6: "its `.cnf` file is not the text of its formula",
+        7: "its `.partial` file is no log of just as many conflicts as are stated",
+        8: "as a joined point it is lacking or wrong, or is one too many",
+    },
+    9: {0: "it may be 2,000,000 at most"},
+    10: {0: "for an all-to-all it has to be a multiple of the number of nodes"},
+    11: {0: "it may have 1,048,576 bytes at most"},
+}
+
+LINE = re.compile(r"refused (\d+) (\d+) ([a-z0-9-]+)\n")
+# Refusals of words that the page of usage helps with.
+HELPED = (1, 2, 3, 5)
+
+
+def explanation(status, words, output, where):
+    """One line on a status from 1 on. `output` is what was written, or how it began, and `where` says where that stands."""
+    found = LINE.fullmatch(output.decode("latin-1"))
+    said = f"status {status}, {STATUSES[status]}"
+    if found and int(found[1]) == status in CODES:
+        code, place = int(found[2]), found[3]
+        said += f": {blamed(status, place, words)}{CODES[status][code]}"
+        said += "; sccl help is a page of usage" if status == 2 and code in HELPED else ""
+        said += f' (docs/FORMATS.md, "{PLACES[status][1]}"); the line "{found[0].strip()}" stands {where}'
+    elif status == 2:
+        said += ": they are not UTF-8; nothing is written"
+    return said.replace("`", "")
+
+
+def blamed(status, place, words):
+    """What is refused, in words."""
+    what = PLACES[status][0]
+    if what != "word":
+        return f"{what} {place}: " if what else ""
+    if int(place) < len(words):
+        return f"word {place}, {shown(words[int(place)])}: "
+    return "behind the last word: " if words else ""
+
+
+def shown(word):
+    """A word of the command line as it may stand on a terminal."""
+    plain = "".join(it if it.isprintable() else "?" for it in word)
+    return plain if len(plain) <= 60 else f"{plain[:57]}..."

@@ -1,0 +1,1 @@
+"""What tools/view draws a report with."""

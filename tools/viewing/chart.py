@@ -1,0 +1,87 @@
+"""The frontier as a chart: steps across, rounds for each chunk up."""
+from .svg import element, line, many, picture, short, text, title
+
+WIDTH, HEIGHT, LEFT, RIGHT, TOP, BOTTOM = 600, 340, 56, 24, 20, 46
+RADIUS, APART = 6, 15
+STEPS_OF_SCALE = 0.1, 0.2, 0.5, 1, 2, 5, 10, 20
+MEANING = {"optimal": "optimal point", "open": "open point", "joined": "joined point", "refuted": "refuted: no schedule", "unknown": "unknown: given up"}
+
+
+class Chart:
+    def __init__(self, candidates, steps, floor, said):
+        """Candidates are pairs of a kind and of numbers of steps, rounds and chunks."""
+        self.candidates, self.steps, self.floor, self.said = candidates, steps, floor, said
+        ratios = [rounds / chunks for _, (_, rounds, chunks) in candidates] + [floor[0] / floor[1] if floor else 0]
+        self.most = max([1, *ratios]) * 1.08
+
+    def x(self, steps):
+        return LEFT + (steps - 0.5) * (WIDTH - LEFT - RIGHT) / self.steps
+
+    def y(self, ratio):
+        return HEIGHT - BOTTOM - ratio / self.most * (HEIGHT - TOP - BOTTOM)
+
+    def drawn(self):
+        return picture(WIDTH, HEIGHT, self.said, *self.axes(), *self.bound(), self.stairs(), *self.marks(), class_="chart")
+
+    def axes(self):
+        bottom, right = HEIGHT - BOTTOM, WIDTH - RIGHT
+        yield line(LEFT, bottom, right, bottom, class_="axis")
+        yield line(LEFT, TOP, LEFT, bottom, class_="axis")
+        for it in range(1, self.steps + 1):
+            yield text(self.x(it), bottom + 18, str(it))
+        yield text((LEFT + right) / 2, HEIGHT - 8, "steps")
+        each = next((it for it in STEPS_OF_SCALE if self.most / it <= 7), 50)
+        for place in range(int(self.most / each) + 1):
+            yield line(LEFT, self.y(place * each), right, self.y(place * each), class_="grid")
+            yield text(LEFT - 8, self.y(place * each) + 4, f"{place * each:g}", "end")
+        yield element("text", "rounds for each chunk", x="14", y=short((TOP + bottom) / 2), text_anchor="middle",
+                      transform=f"rotate(-90 14 {short((TOP + bottom) / 2)})")
+
+    def bound(self):
+        if self.floor:
+            rounds, chunks, names = self.floor
+            at = self.y(rounds / chunks)
+            yield line(LEFT, at, WIDTH - RIGHT, at, class_="floor")
+            yield text(WIDTH - RIGHT, at + 15, f"floor {rounds}/{chunks}, by {' '.join(names)}", "end", class_="small")
+
+    def stairs(self):
+        """The line along the points."""
+        points = [(steps, rounds / chunks) for kind, (steps, rounds, chunks) in self.candidates if kind in ("optimal", "open")]
+        if not points:
+            return ""
+        places = [f"M{short(self.x(points[0][0]))} {short(self.y(points[0][1]))}"]
+        places += [f"H{short(self.x(steps))}V{short(self.y(ratio))}" for steps, ratio in points[1:]]
+        return element("path", d="".join(places), class_="stairs")
+
+    def marks(self):
+        """The marks; those of several kinds at one place stand side by side."""
+        places = {}
+        for kind, candidate in self.candidates:
+            steps, rounds, chunks = candidate
+            places.setdefault((steps, rounds / chunks), {}).setdefault(kind, []).append("-".join(map(str, candidate)))
+        for (steps, ratio), kinds in places.items():
+            for place, (kind, names) in enumerate(kinds.items()):
+                x, y = self.x(steps) + APART * place, self.y(ratio)
+                yield element("g", title(f"{MEANING[kind]}: {', '.join(names)}"), mark(kind, x, y), class_=f"mark {kind}")
+                if kind not in ("refuted", "unknown"):
+                    yield text(x + 10, y - 9, ", ".join(names), "start", class_="named")
+
+
+def mark(kind, x, y):
+    """Each kind has a shape of its own."""
+    if kind == "refuted":
+        near, far = x - RADIUS + 1, x + RADIUS - 1
+        return line(near, y - RADIUS + 1, far, y + RADIUS - 1) + line(near, y + RADIUS - 1, far, y - RADIUS + 1)
+    if kind == "unknown":
+        return text(x, y + 5, "?")
+    if kind == "joined":
+        return element("rect", x=short(x - 5), y=short(y - 5), width="10", height="10")
+    return element("circle", cx=short(x), cy=short(y), r=RADIUS)
+
+
+def legend(kinds):
+    """The marks of these kinds, with what they mean."""
+    return element("p", *(
+        element("span", picture(18, 16, MEANING[it], element("g", mark(it, 9, 8), class_=f"mark {it}"), class_="sign"), " ", MEANING[it])
+        for it in MEANING if it in kinds
+    ), class_="legend")

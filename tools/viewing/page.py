@@ -1,0 +1,137 @@
+"""The page of a report."""
+import os
+from html import escape
+
+from . import diagram, topology
+from .chart import Chart, legend
+from .runs import Run
+from .svg import element, many, table
+
+HERE = os.path.dirname(os.path.abspath(__file__))
+PARTS = {"whole": "", "reduce": "reduce part", "gather": "gather part", "joined": "joined points"}
+HEAD = '<svg width="0" height="0" aria-hidden="true"><defs><marker id="head" viewBox="0 0 8 8" refX="7" refY="4" markerWidth="7" markerHeight="7" markerUnits="userSpaceOnUse" orient="auto"><path d="M0 0.5L8 4L0 7.5z"/></marker></defs></svg>'
+MOST_OPEN_GROUPS = 24
+
+
+def page(report, floor):
+    """The page, which needs no other file. `floor` is None, or what `sccl bound` says of one."""
+    words = report["words"]
+    name = f"{words['collective']} on {many(len(report['topology']['nodes']), 'node')}"
+    points = points_of(report)
+    inner = [
+        element("h1", escape(name)), element("p", escape(summary(report))),
+        *frontiers(report, floor), *topology_section(report["topology"]),
+        *(point_section(number, Run(report, part, it)) for number, (part, it) in enumerate(points, 1)),
+        element("footer", element("p", "Drawn by a script, which is tested and not proved. What is right of this report "
+                                  "<code>sccl check</code> says, and of one point <code>sccl replay</code>.")),
+    ]
+    head = [element("title", escape(f"sccl: {name}")), element("style", read("page.css"))]
+    return (f'<!DOCTYPE html>\n<html lang="en"><head><meta charset="utf-8">'
+            f'<meta name="viewport" content="width=device-width, initial-scale=1">{"".join(head)}</head>\n'
+            f'<body>{HEAD}<main>' + "\n".join(inner) + f'</main>{element("script", read("page.js"))}</body></html>\n')
+
+
+def read(name):
+    with open(os.path.join(HERE, name)) as it:
+        return it.read()
+
+
+def points_of(report):
+    """The points with their parts, in the order in which they are numbered."""
+    found = [(frontier["part"], it) for frontier in report["frontiers"] for it in frontier["points"]]
+    return found + [("joined", it) for it in report["joined"]]
+
+
+def summary(report):
+    words, frontiers = report["words"], report["frontiers"]
+    count = lambda kind: sum(len(it[kind]) for it in frontiers)
+    root = f", root {words['root']}" if "root" in words else ""
+    joined = f", {many(len(report['joined']), 'joined point')}" if report["joined"] else ""
+    return (f"Searched: at most {many(words['steps'], 'step')}, {many(words['k'], 'round')} more than steps, {many(words['chunks'], 'chunk')}{root}; "
+            f"{words['conflicts']} conflicts for each candidate. Found: {many(count('points'), 'point')}{joined}, {count('refuted')} refuted "
+            f"and {count('unknown')} unknown candidates. S-R-C is a candidate of S steps, R rounds in all, and C chunks.")
+
+
+# ---- the frontier
+
+
+def frontiers(report, floor):
+    yield element("h2", "Frontier")
+    numbers, steps = {}, report["words"]["steps"]
+    for number, (part, it) in enumerate(points_of(report), 1):
+        numbers.setdefault(part, []).append((number, it))
+    for frontier in report["frontiers"]:
+        yield from frontier_section(frontier["part"], numbers.get(frontier["part"], []), frontier, steps, floor)
+    if report["joined"]:
+        yield from frontier_section("joined", numbers["joined"], {"refuted": [], "unknown": []}, 2 * steps, None)
+
+
+def frontier_section(part, points, frontier, steps, floor):
+    candidates = [(it["mark"], (it["s"], it["r"], it["c"])) for _, it in points]
+    candidates += [(kind, tuple(it[:3])) for kind in ("refuted", "unknown") for it in frontier[kind]]
+    if PARTS.get(part):
+        yield element("h3", PARTS[part].capitalize())
+    said = f"Chart of {many(len(points), 'point')}, {len(frontier['refuted'])} refuted and {len(frontier['unknown'])} unknown candidates."
+    yield element("figure", Chart(candidates, steps, floor, said).drawn(), legend({kind for kind, _ in candidates}))
+    rows = [candidate_row(it["s"], it["r"], it["c"], f'<a href="#point-{number}">point {number}</a>, {it["mark"]}') for number, it in points]
+    rows += [candidate_row(*it, "refuted: it has no schedule") for it in frontier["refuted"]]
+    rows += [candidate_row(*it[:3], f"unknown: given up after {it[3]} conflicts") for it in frontier["unknown"]]
+    head = "Candidate", "Steps", "Rounds", "Chunks", "Rounds for each chunk", "What it is"
+    yield element("details", element("summary", "All candidates in words"), table(head, rows, class_="candidates"), open="")
+
+
+def candidate_row(steps, rounds, chunks, said):
+    return f"{steps}-{rounds}-{chunks}", str(steps), str(rounds), str(chunks), f"{rounds / chunks:.3g}", said
+
+
+# ---- the topology
+
+
+def topology_section(value):
+    yield element("h2", "Topology")
+    yield element("figure", topology.drawn(value), element("figcaption", topology.explained(value)))
+    yield element("details", element("summary", f"All {many(len(value['groups']), 'group')} in words"), topology.groups_table(value))
+
+
+# ---- a point
+
+
+def point_section(number, run):
+    point = run.point
+    part = f" ({PARTS[run.part]})" if PARTS.get(run.part) else ""
+    name = f"Point {number}{part}: {many(point['s'], 'step')}, {many(point['r'], 'round')}, {many(point['c'], 'chunk')}, {point['mark']}"
+    adding = f" Of {many(point['s'], 'step')} the first {point['adding']} add up, the others copy." if "adding" in point else ""
+    loads = table(("Group", *(f"Step {it}" for it in run.steps)), diagram.loads(run), class_="loads")
+    return element(
+        "section", element("h2", escape(name)),
+        element("p", f"{many(len(point['sends']), 'send')} of {many(len(run.chunks), 'chunk')}. Nodes are rows and steps are columns; an arrow "
+                     f"goes from who sends to who receives, with the numbers of the chunks beside it.{adding}"),
+        slider(number, run), element("figure", diagram.drawn(run, f"Point {number} in time."), tabindex="0"), states(run),
+        element("details", element("summary", "The load of each group in each step, of what its width allows"), loads,
+                open="" if len(run.groups) <= MOST_OPEN_GROUPS else None),
+        id=f"point-{number}", class_="point")
+
+
+def slider(number, run):
+    steps = run.point["s"]
+    chosen = element("input", type="range", min=0, max=steps, value=0, step=1, aria_label=f"Step of point {number}")
+    return element("p", element("label", f"After step <output>0</output> of {steps} ", chosen), class_="slider")
+
+
+def states(run):
+    """What there is after each step; of these the slider shows one."""
+    meaning = "A square is a chunk that a node has, with a hole where it came in this step; a frame is one that it has to have in the end."
+    if not run.copies:
+        meaning += (" A triangle is a sum that lacks contributions, or has one twice. In words: the chunk, and a digit for each node, in their "
+                    "order, which says how often its contribution is in; 2 stands for two or more.")
+    return element("p", meaning, class_="meaning") + "".join(state(run, it) for it in range(run.point["s"] + 1))
+
+
+def state(run, step):
+    """What there is after a step, and the sends of it."""
+    rows = ((escape(it), escape(" ".join(run.told(step, it)))) for it in run.nodes)
+    sends = [element("li", escape(f"{sender} sends {chunk} to {receiver}")) for chunk, sender, receiver, _ in run.sends[step]]
+    title = f"After step {step}, which has {many(run.point['rounds'][step - 1], 'round')}" if step else "Before the first step"
+    return element("div", element("h3", title), diagram.holdings(run, step), table(("Node", "Has"), rows, class_="has"),
+                   element("details", element("summary", f"{many(len(sends), 'send')} in this step"), element("ul", *sends)) if sends else "",
+                   class_="state", data_step=step)
