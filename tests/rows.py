@@ -97,6 +97,35 @@ CUSTOM = (
     "refuted 1 1 1\nend\n"
 )
 
+# JSON that is no topology or no report, or is one that another printer wrote; what is due is told by tests/oracle.
+JSON_LINE = b'{"groups":[{"links":[["n0","n1"]],"width":1}],"nodes":["n0","n1"],"version":1}'
+JSON = [("topology", it) for it in (
+    JSON_LINE,
+    b"", b" ", b"\n", b"null", b"true", b"0", b"[]", b"{}", b'""', b"{", b"}", b"[1,]", b"{'a':1}", b"NaN", b"Infinity", b"// a\n{}",
+    # what stands before and behind
+    b" \t\r\n" + JSON_LINE + b"\n\n", JSON_LINE + b"{}", JSON_LINE + b",", JSON_LINE + b"\0", b"\xef\xbb\xbf" + JSON_LINE, JSON_LINE * 2,
+    # bytes that are not UTF-8, and texts that are no Unicode
+    JSON_LINE.replace(b"n0", b"\xff"), JSON_LINE.replace(b"n0", b"\xc0\xae"), JSON_LINE.replace(b"n0", b"\xed\xa0\x80"),
+    JSON_LINE.replace(b"n0", b"\\ud800"), JSON_LINE.replace(b"n0", b"\\udc00\\ud800"), JSON_LINE.replace(b"n0", b"\\ud83d\\ude00"),
+    JSON_LINE.replace(b"n0", b"n\\u0030"), JSON_LINE.replace(b"n0", b"n\\x30"), JSON_LINE.replace(b"n0", b"n\t"), JSON_LINE.replace(b"n0", b"n\\u0000"),
+    # numbers
+    *(JSON_LINE.replace(b'"width":1', b'"width":' + it) for it in (
+        b"0", b"16", b"17", b"-1", b"-0", b"01", b"+1", b"1.0", b"1e0", b"1E400", b"-1E400", b".1", b"1.", b"0x1", b'"1"', b"true", b"null",
+        b"18446744073709551615", b"18446744073709551616", b"1" * 100000, b"1" + b"0" * 400, b"1e-400",
+    )),
+    # keys: twice, one too many, one too few
+    JSON_LINE.replace(b'"version":1', b'"version":2,"version":1'), JSON_LINE.replace(b'"version":1', b'"version":1,"version":2'),
+    JSON_LINE.replace(b'"version":1', b'"version":1,"custom":null'), JSON_LINE.replace(b',"version":1', b""), JSON_LINE.replace(b'"version":1', b'"version":2'),
+    JSON_LINE.replace(b'"version":1', b'"version":2,"custom":{"after":[["n1"]],"before":[["n0"]]}'),
+    JSON_LINE.replace(b'"version":1', b'"version":2,"custom":{"after":[["n1"]],"before":[]}'),
+    JSON_LINE.replace(b'"version":1', b'"version":2,"custom":{"after":[],"before":[]}'),
+    # deep, and long
+    b"[" * 126 + b"]" * 126, b"[" * 127 + b"]" * 127, b"[" * 128 + b"]" * 128, b"[" * 500000 + b"]" * 500000, b"[" * 1048576, b'{"a":' * 200000 + b"1" + b"}" * 200000,
+    b'"' + b"a" * 1000000 + b'"', b"[" + b"0," * 500000 + b"0]", b" " * 1048576, b"1" * 1048576,
+    JSON_LINE.replace(b'["n0","n1"]]', b'["n0","n1"]' + b',["n0","n1"]' * 80000 + b"]"),
+    b"{" + b",".join(b'"%d":0' % it for it in range(90000)) + b"}", b"{" + b",".join([b'"a":0'] * 170000) + b"}",
+)]
+
 # Reports: a text, what is replaced in it by what, and the code and the line.
 REPORTS = [
     (BROADCAST, BROADCAST, "", 2, 1),
@@ -171,6 +200,11 @@ WORDS = [
     ("--help", 2, 0),
     ("check ", 3, 1),
     ("synth k=0 k=0", 4, 2),
+    ("bound", 5, 1),
+    ("bound collective=allreduce k=0 steps=1 chunks=1 conflicts=1", 6, 1),
+    ("bound k=0 collective=allreduce k=0", 6, 2),
+    ("bound point=1", 3, 1),
+    ("bound collective=alltoall k=0 steps=1 chunks=2 conflicts=1000 root=n0", 7, 6),
     ("synth k=0", 5, 2),
     ("synth k=00", 6, 1),
     ("synth k=+1", 6, 1),
@@ -236,6 +270,65 @@ SEARCHES = [
     ("complete 3", "reducescatter 0 1 1", "point 1 1 1 optimal", 6),
 ]
 
+# Searches that tell their cuts: the topology, the words and the root, and what stands behind the line of the words, without
+# rounds and sends.
+BACK_OF_2 = "topology 1\nnodes a b\ngroup 1 b>a\n"
+BOUNDS = [
+    (
+        "topology 1\nnodes n0 n1 n2 n3\ngroup 1 n0>n1\ngroup 1 n0>n3\ngroup 1 n1>n0\ngroup 1 n1>n2\ngroup 1 n2>n1\n"
+        "group 1 n2>n3\ngroup 1 n3>n0\ngroup 1 n3>n2\n", "allgather 1 3 2", "",
+        "floor 3 2 n0|frontier whole|point 2 3 2 optimal|cut 1 1 2 n0|cut 1 1 1 n0|cut 1 2 2 n0|cut 2 2 2 n0|refuted 1 2 1|end",
+    ),
+    (BACK_OF_2, "broadcast 0 2 1", " root=a", "floor 1 0 b|frontier whole|cut 1 1 1 b|cut 2 2 1 b|end"),
+    # a reduction over the links turned round: b's share comes over the link back, and none comes to b
+    (BACK_OF_2, "reduce 0 1 1", " root=a", "floor 1 1 b|frontier whole|point 1 1 1 optimal|end"),
+    (BACK_OF_2.replace("b>a", "a>b"), "reduce 0 1 1", " root=a", "floor 1 0 b|frontier whole|cut 1 1 1 b|end"),
+    (LINE_OF_3, "reduce 0 3 2", " root=n0", "floor 1 1 n2|frontier whole|point 2 2 1 optimal|point 3 3 2 optimal|cut 1 1 2 n2|refuted 1 1 1|refuted 2 2 2|end"),
+    # what has to come into two nodes over one link
+    (LINE_OF_3, "scatter 0 1 1", " root=n0", "floor 2 1 n1 n2|frontier whole|cut 1 1 1 n1 n2|end"),
+    # a pattern, and one of which nothing has to move
+    (GIVEN + "custom 1\nbefore 0 a\nafter 0 c\n", "custom 0 2 2", "", "floor 1 1 c|frontier whole|point 2 2 1 optimal|cut 1 1 2 c|refuted 1 1 1|refuted 2 2 2|end"),
+    (GIVEN + "custom 1\nbefore 0 a\nafter 0 a\n", "custom 0 1 1", "", "floor 0 1|frontier whole|point 1 1 1 optimal|end"),
+    # one node, into which nothing has to come
+    ("topology 1\nnodes n0\n", "allgather 0 1 1", "", "floor 0 1|frontier whole|point 1 1 1 optimal|end"),
+    # two groups that share a link carry it once: the second is taken for its other link alone
+    ("topology 1\nnodes a b c\ngroup 1 a>c\ngroup 2 a>c b>c\ngroup 4 b>c\n", "gather 0 1 4", " root=c", "floor 1 1 b c|frontier whole|point 1 1 1 optimal|cut 1 1 4 c|cut 1 1 3 c|cut 1 1 2 c|end"),
+]
+
+# Searches by ordered schedules: the words, the topology, and the lines behind `frontier whole` where there is just one such text.
+ORDERED = [
+    ("broadcast 0 3 2 root=n0", LINE_OF_3, TWO_POINTS.split("frontier whole\n")[1]),
+    ("alltoall 0 1 2", "topology 1\nnodes n0 n1\ngroup 1 n0>n1\ngroup 1 n1>n0\n", "point 1 1 2 optimal\nrounds 1\nsend 1 n1 n0 1\nsend 2 n0 n1 1\nend\n"),
+    # a sum, whose inverse is ordered
+    (
+        "reduce 0 3 2 root=n0", LINE_OF_3,
+        "point 2 2 1 optimal\nrounds 1 1\nsend 0 n2 n1 1\nsend 0 n1 n0 2\npoint 3 3 2 optimal\nrounds 1 1 1\nsend 1 n2 n1 1\n"
+        "send 0 n2 n1 2\nsend 1 n1 n0 2\nsend 0 n1 n0 3\nrefuted 1 1 2\nrefuted 1 1 1\nrefuted 2 2 2\nend\n",
+    ),
+    # two copies of a pattern
+    (
+        "custom 0 3 2", GIVEN + "custom 1\nbefore 0 a\nafter 0 c\n",
+        "point 2 2 1 optimal\nrounds 1 1\nsend 0 a b 1\nsend 0 b c 2\npoint 3 3 2 optimal\nrounds 1 1 1\nsend 0 a b 1\n"
+        "send 0 b c 2\nsend 1 a b 2\nsend 1 b c 3\nrefuted 1 1 2\nrefuted 1 1 1\nrefuted 2 2 2\nend\n",
+    ),
+    # chunks that are where they have to be, chunks that are nowhere and asked for nowhere, and two for which a node waits
+    (
+        "custom 0 2 1", "topology 2\nnodes a b\ngroup 1 a>b\ncustom 6\nbefore 0 a\nafter 0 a\nbefore 1 a\nafter 1 b\nbefore 2\nafter 2\n"
+        "before 3 a\nafter 3 a\nbefore 4\nafter 4\nbefore 5 a\nafter 5 b\n",
+        "point 2 2 1 optimal\nrounds 1 1\nsend 1 a b 1\nsend 5 a b 2\nrefuted 1 1 1\nend\n",
+    ),
+]
+
+# The same where there may be several texts: the lines that tell of candidates.
+ORDERED_LINES = [
+    # the chunks of one node are alike
+    (
+        "gather 0 3 2 root=a", "topology 1\nnodes a b c\ngroup 2 b>a\ngroup 1 c>b\n",
+        "point 2 2 1 optimal|point 3 3 2 optimal|refuted 1 1 2|refuted 1 1 1|refuted 2 2 2",
+    ),
+    ("scatter 0 3 2 root=c", "topology 1\nnodes a b c\ngroup 1 b>a\ngroup 2 c>b\n", "point 2 2 1 optimal|point 3 3 2 optimal|refuted 1 1 2|refuted 1 1 1|refuted 2 2 2"),
+]
+
 # Searches whose proofs stay short: the family, the words, and how many lines the refutations had when they were counted.
 PROOF_LINES = [
     ("ring 6", "allgather 1 4 3", 567),
@@ -246,4 +339,74 @@ PROOF_LINES = [
 UNSOLVED = [
     ("broadcast", "topology 1\nnodes a b\ngroup 1 b>a\n"),
     ("custom", "topology 2\nnodes a b c\ngroup 1 a>b\ngroup 1 b>c\ncustom 1\nbefore 0\nafter 0 c\n"),
+]
+
+# Faults: the words and the topology of a search, the fault, and what is written behind the words of its report.
+ONE_WAY_TWICE = "topology 1\nnodes n0 n1\ngroup 2 n0>n1 n1>n0\ngroup 1 n0>n1\n"
+TO_C = GIVEN + "custom 1\nbefore 0 a\nafter 0 c\n"
+FAULTS = [
+    (
+        "broadcast 0 2 1 root=n0", LINE_OF_3, "group=0 width=0",
+        "topology 1|nodes n0 n1 n2|group 1 n1>n0|group 1 n1>n2|group 1 n2>n1|frontier whole|carried 1 1 1|refuted 2 2 1|end",
+    ),
+    (
+        "broadcast 0 2 1 root=n0", LINE_OF_3, "group=1 width=0",
+        "topology 1|nodes n0 n1 n2|group 1 n0>n1|group 1 n1>n2|group 1 n2>n1|frontier whole|point 2 2 1 optimal|rounds 1 1|"
+        "send 0 n0 n1 1|send 0 n1 n2 2|carried 1 1 1|end",
+    ),
+    # a reduction, whose way is cut and whose way back is
+    (
+        "reduce 0 2 1 root=n0", LINE_OF_3, "group=1 width=0",
+        "topology 1|nodes n0 n1 n2|group 1 n0>n1|group 1 n1>n2|group 1 n2>n1|frontier whole|carried 1 1 1|refuted 2 2 1|end",
+    ),
+    (
+        "reduce 0 2 1 root=n0", LINE_OF_3, "width=0 group=2",
+        "topology 1|nodes n0 n1 n2|group 1 n0>n1|group 1 n1>n0|group 1 n2>n1|frontier whole|point 2 2 1 optimal|rounds 1 1|"
+        "send 0 n2 n1 1|send 0 n1 n0 2|carried 1 1 1|end",
+    ),
+    # a pattern
+    (
+        "custom 0 2 1", TO_C, "group=0 width=0",
+        "topology 2|nodes a b c|group 1 b>c|custom 1|before 0 a|after 0 c|frontier whole|carried 1 1 1|refuted 2 2 1|end",
+    ),
+    # links that stand in several groups: those of the first are gone from the second, which has no other
+    (
+        "broadcast 0 1 1 root=n0", ONE_WAY_TWICE, "group=0 width=0",
+        "topology 1|nodes n0 n1|frontier whole|refuted 1 1 1|end",
+    ),
+    (
+        "broadcast 0 1 1 root=n0", ONE_WAY_TWICE, "group=1 width=0",
+        "topology 1|nodes n0 n1|group 2 n1>n0|frontier whole|refuted 1 1 1|end",
+    ),
+    # a narrower group keeps its links, and they stay in the other; two chunks take a round more
+    (
+        "broadcast 1 1 2 root=n0", "topology 1\nnodes n0 n1\ngroup 2 n0>n1\n", "group=0 width=1",
+        "topology 1|nodes n0 n1|group 1 n0>n1|frontier whole|point 1 1 1 optimal|rounds 1|send 0 n0 n1 1|refuted 1 1 2|end",
+    ),
+    (
+        "broadcast 0 1 1 root=n0", ONE_WAY_TWICE, "group=0 width=1",
+        "topology 1|nodes n0 n1|group 1 n0>n1 n1>n0|group 1 n0>n1|frontier whole|point 1 1 1 optimal|rounds 1|send 0 n0 n1 1|end",
+    ),
+]
+
+# Faults that a report does not take: the report, the fault, the code and the index of the word.
+FAULTS_REFUSED = [
+    (RELAY, "group=4 width=0", 14, 1),
+    (RELAY, "width=0 group=4", 14, 2),
+    (RELAY, "group=255 width=16", 14, 1),
+    (RELAY, "group=0 width=1", 15, 2),
+    (RELAY, "width=16 group=0", 15, 1),
+    (ALLREDUCE, "group=0 width=0", 13, 0),
+    (ALLREDUCE, "group=9 width=9", 13, 0),
+    (CUSTOM, "group=2 width=0", 14, 1),
+]
+
+# Faults of searches over families: the family, the words, and the faults.
+FAULT_SEARCHES = [
+    ("ring 4", "allgather 1 3 2", "0 3"),
+    ("ring 4", "reduce 1 3 2 root=n0", "0 1 6"),
+    ("complete 4", "scatter 1 2 2 root=n0", "0 11"),
+    ("shared 3", "broadcast 1 2 1 root=n0", "0"),
+    ("cube 4", "reducescatter 0 2 1", "0 5"),
+    ("complete 3", "alltoall 0 2 3", "0 2"),
 ]

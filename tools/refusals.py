@@ -16,6 +16,7 @@ STATUSES = {
     9: "the search is too large",
     10: "no chunk count up to `chunks` is allowed",
     11: "the input is too long",
+    12: "the input is no JSON of a topology or a report",
 }
 
 # What a place counts, by status, and the section of docs/FORMATS.md that has the codes.
@@ -27,6 +28,7 @@ PLACES = {
     9: ("size", "Refusals"),
     10: (None, "Refusals"),
     11: (None, "Refusals"),
+    12: ("line", "JSON"),
 }
 
 # The codes of each status: what is refused.
@@ -42,6 +44,9 @@ CODES = {
         8: "a `root` that is no node of the topology",
         9: "a `point` that the report does not have",
         12: "a `collective` that does not fit the topology: it is `custom` exactly where the topology has a pattern",
+        13: "a command that takes no report of an `allreduce`",
+        14: "a `group` that the topology does not have",
+        15: "a `width` that is not below the group's",
     },
     3: {
         1: "line 1 is neither of the two headers",
@@ -76,6 +81,11 @@ CODES = {
     9: {0: "it may be 2,000,000 at most"},
     10: {0: "for an all-to-all it has to be a multiple of the number of nodes"},
     11: {0: "it may have 1,048,576 bytes at most"},
+    12: {
+        1: "the bytes are no JSON: not UTF-8, not of the grammar, nested too deep, a number that no 64-bit float holds, or half a pair of surrogates in an escape",
+        2: "their value does not have the form",
+        3: "the text that it stands for is refused",
+    },
 }
 
 LINE = re.compile(r"refused (\d+) (\d+) ([a-z0-9-]+)\n")
@@ -101,7 +111,7 @@ def blamed(status, place, words):
     """What is refused, in words."""
     what = PLACES[status][0]
     if what != "word":
-        return f"{what} {place}: " if what else ""
+        return f"{what} {place}: " if what and place != "0" else ""
     if int(place) < len(words):
         return f"word {place}, {shown(words[int(place)])}: "
     return "behind the last word: " if words else ""

@@ -24,12 +24,12 @@ can_audit r e = ap (λ x. x >>= (λ _. Ok (Audit r))) e
 -- ---- the files that the audit looked at
 
 -- some files with this verdict, which are those of the shelf where it tells them
-record HasVerdict (r : ReportValue) (verdict : AuditVerdict) (told : Bool) (shelf : Files) : Type 0 where
+pub record HasVerdict (r : ReportValue) (verdict : AuditVerdict) (told : Bool) (shelf : Files) : Type 0 where
   pub over : Files
   pub are : IsTrue told → FilesStay shelf over
   pub is : audit_of r over ≡ verdict
 
-has_verdict : (r : ReportValue) (verdict : AuditVerdict) (told : Bool) (shelf : Files) → (IsTrue told → verdict ≡ audit_of r shelf) → IsVerdictOver r verdict → HasVerdict r verdict told shelf
+pub has_verdict : (r : ReportValue) (verdict : AuditVerdict) (told : Bool) (shelf : Files) → (IsTrue told → verdict ≡ audit_of r shelf) → IsVerdictOver r verdict → HasVerdict r verdict told shelf
 has_verdict r verdict true shelf exact some = record { over = shelf; are = λ _ name. refl; is = sym (exact refl) }
 has_verdict r verdict false shelf exact some = record { over = some.files; are = λ told. absurd (cc); is = some.is }
 

@@ -1,1 +1,1 @@
-mod AuditAnswers
+pub mod AuditAnswers

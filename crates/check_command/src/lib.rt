@@ -6,3 +6,4 @@ mod verdicts;
 
 pub use checking::check_answer;
 pub use std::alloc::AllocError as OutOfMemory;
+pub use verdicts::verdict_answer;

@@ -2,3 +2,5 @@ pub mod Naming
 pub mod Cutting
 pub mod Taking
 pub mod Refusing
+pub mod Counted
+pub mod WordsRead

@@ -7,6 +7,10 @@ use Rattle.text_lines.specs.Check.{◌>>=◌, refuse, need}
 use Rattle.text_lines.specs.Number.{number_up_to}
 use Rattle.topology_text.specs.Family.{is_allowed}
 use Rattle.command_words.specs.declared.command.Command.{Command}
+use Rattle.collective_spec.specs.Kinds.{word_of, every_kind}
+use Rattle.command_words.specs.declared.command.JsonWhat.{JsonWhat}
+use Rattle.command_words.specs.declared.command.JsonWhat.TheVariants as what
+use Rattle.command_words.specs.declared.command.PointWord.{PointWord}
 use Rattle.command_words.specs.declared.command.RootWord.{RootWord}
 use Rattle.command_words.specs.declared.fault.WordCode.{WordCode}
 use Rattle.command_words.specs.declared.fault.WordCode.TheVariants.{UnknownCommand, UnknownKey, KeyTwice, KeyMissing, BadValue}
@@ -16,12 +20,12 @@ use Rattle.command_words.specs.declared.key.Key.TheVariants as key
 use Rattle.command_words.specs.declared.values.SizeWord.{SizeWord}
 use Rattle.command_words.specs.declared.values.Values.{Values}
 use Rattle.command_words.specs.declared.verb.Verb.{Verb}
-use Rattle.command_words.specs.declared.verb.Verb.TheVariants.{Synth, Check, Replay, Programs, Family, Trial}
+use Rattle.command_words.specs.declared.verb.Verb.TheVariants.{Synth, Check, Replay, Programs, Family, Trial, Bound, Ordered, Degrade, Json, Unjson}
 use Rattle.collective_spec.specs.declared.kind.Kind.{Kind}
 use Rattle.command_words.specs.Codes.{number_of}
-use Rattle.command_words.specs.Tables.{named, verbs, verb_word, keys, key_word, has_key}
-use Rattle.command_words.specs.Values.{collective_from, kind_from, name_from, number_from, is_given, with_value}
-use Rattle.command_words.specs.Commands.{required, root_taken, command_from, command_given}
+use Rattle.command_words.specs.Tables.{named, verbs, verb_word, keys, key_word, has_key, takes_kind, takes_what, what_word, whats}
+use Rattle.command_words.specs.Values.{collective_from, kind_from, name_from, number_from, what_from, is_given, with_value}
+use Rattle.command_words.specs.Commands.{required, root_taken, point_for, point_taken, search_from, command_from, command_given}
 use Rattle.command_words.specs.Words.{cut, with_word, at_word, values_from, nothing, texts, command_of}
 
 -- a refusal of checks in a row is one of theirs
@@ -51,18 +55,27 @@ number_low least greatest text =
     err_then IsLow (need (number_up_to greatest text) BadValue) _ (err_need IsLow (number_up_to greatest text) BadValue (omega arith))
     (λ n. err_then {B = ℕ} IsLow (refuse (nat_lt n least) BadValue) (λ _. Ok n) (err_refuse IsLow (nat_lt n least) BadValue (omega arith)) (λ _. tt))
 
-value_low : (k : Key) (text : List ℕ) (word : ℕ) (v : Values) → IfErr (with_value k text word v) IsLow
-value_low key.Collective text word v = err_then IsLow (collective_from text) _ (err_need IsLow _ BadValue (omega arith)) (λ _. tt)
-value_low key.K text word v = err_then IsLow (number_from 0 8 text) _ (number_low 0 8 text) (λ _. tt)
-value_low key.Steps text word v = err_then IsLow (number_from 1 8 text) _ (number_low 1 8 text) (λ _. tt)
-value_low key.Chunks text word v = err_then IsLow (number_from 1 16 text) _ (number_low 1 16 text) (λ _. tt)
-value_low key.Conflicts text word v = err_then IsLow (number_from 1 100000 text) _ (number_low 1 100000 text) (λ _. tt)
-value_low key.Root text word v = err_then IsLow (name_from text) _ (err_need IsLow _ BadValue (omega arith)) (λ _. tt)
-value_low key.Point text word v = err_then IsLow (number_from 1 65535 text) _ (number_low 1 65535 text) (λ _. tt)
-value_low key.Order text word v = err_then IsLow (number_from 0 18446744073709551615 text) _ (number_low 0 18446744073709551615 text) (λ _. tt)
-value_low key.Kind text word v = err_then IsLow (kind_from text) _ (err_need IsLow _ BadValue (omega arith)) (λ _. tt)
-value_low key.Size text word v = err_then IsLow (number_from 1 16 text) _ (number_low 1 16 text) (λ _. tt)
-value_low key.N text word v = err_then IsLow (number_from 0 4095 text) _ (number_low 0 4095 text) (λ _. tt)
+value_low : (verb : Verb) (k : Key) (text : List ℕ) (word : ℕ) (v : Values) → IfErr (with_value verb k text word v) IsLow
+value_low verb key.Collective text word v =
+    err_then IsLow (collective_from verb text) _
+    (err_then IsLow (need (named word_of every_kind text) BadValue) _ (err_need IsLow _ BadValue (omega arith)) (λ kind. err_then {B = Kind} IsLow (refuse (not (takes_kind verb kind)) BadValue) (λ _. Ok kind) (err_refuse IsLow _ BadValue (omega arith)) (λ _. tt)))
+    (λ _. tt)
+value_low verb key.K text word v = err_then IsLow (number_from 0 8 text) _ (number_low 0 8 text) (λ _. tt)
+value_low verb key.Steps text word v = err_then IsLow (number_from 1 8 text) _ (number_low 1 8 text) (λ _. tt)
+value_low verb key.Chunks text word v = err_then IsLow (number_from 1 16 text) _ (number_low 1 16 text) (λ _. tt)
+value_low verb key.Conflicts text word v = err_then IsLow (number_from 1 100000 text) _ (number_low 1 100000 text) (λ _. tt)
+value_low verb key.Root text word v = err_then IsLow (name_from text) _ (err_need IsLow _ BadValue (omega arith)) (λ _. tt)
+value_low verb key.Point text word v = err_then IsLow (number_from 1 65535 text) _ (number_low 1 65535 text) (λ _. tt)
+value_low verb key.Order text word v = err_then IsLow (number_from 0 18446744073709551615 text) _ (number_low 0 18446744073709551615 text) (λ _. tt)
+value_low verb key.Kind text word v = err_then IsLow (kind_from text) _ (err_need IsLow _ BadValue (omega arith)) (λ _. tt)
+value_low verb key.Size text word v = err_then IsLow (number_from 1 16 text) _ (number_low 1 16 text) (λ _. tt)
+value_low verb key.N text word v = err_then IsLow (number_from 0 4095 text) _ (number_low 0 4095 text) (λ _. tt)
+value_low verb key.Group text word v = err_then IsLow (number_from 0 255 text) _ (number_low 0 255 text) (λ _. tt)
+value_low verb key.Width text word v = err_then IsLow (number_from 0 16 text) _ (number_low 0 16 text) (λ _. tt)
+value_low verb key.What text word v =
+    err_then IsLow (what_from verb text) _
+    (err_then IsLow (need (named what_word whats text) BadValue) _ (err_need IsLow _ BadValue (omega arith)) (λ value. err_then {B = JsonWhat} IsLow (refuse (not (takes_what verb value)) BadValue) (λ _. Ok value) (err_refuse IsLow _ BadValue (omega arith)) (λ _. tt)))
+    (λ _. tt)
 
 word_low : (verb : Verb) (v : Values) (index : ℕ) (word : List ℕ) → IfErr (with_word verb v index word) IsLow
 word_low verb v index word =
@@ -70,25 +83,29 @@ word_low verb v index word =
     (λ parts. err_then IsLow (need (named key_word keys parts.0) UnknownKey) _ (err_need IsLow _ UnknownKey (omega arith))
     (λ k. err_then IsLow (refuse (not (has_key verb k)) UnknownKey) _ (err_refuse IsLow _ UnknownKey (omega arith))
     (λ _. err_then IsLow (refuse (is_given k v) KeyTwice) _ (err_refuse IsLow _ KeyTwice (omega arith))
-    (λ _. value_low k parts.1 index v))))
+    (λ _. value_low verb k parts.1 index v))))
 
 -- the words of the values, at most the nth
 record AreWithin (n : ℕ) (v : Values) : Type 0 where
   root : IfSome v.root (λ root. root.word ≤ n)
   size : IfSome v.size (λ size. size.word ≤ n)
+  point : IfSome v.point (λ point. point.word ≤ n)
 
-value_within : (n : ℕ) (k : Key) (text : List ℕ) (word : ℕ) (v : Values) → word ≤ n → AreWithin n v → IfOk (with_value k text word v) (AreWithin n)
-value_within n key.Collective text word v in_n before = ok_then (AreWithin n) (collective_from text) _ (λ _. record { root = before.root; size = before.size })
-value_within n key.K text word v in_n before = ok_then (AreWithin n) (number_from 0 8 text) _ (λ _. record { root = before.root; size = before.size })
-value_within n key.Steps text word v in_n before = ok_then (AreWithin n) (number_from 1 8 text) _ (λ _. record { root = before.root; size = before.size })
-value_within n key.Chunks text word v in_n before = ok_then (AreWithin n) (number_from 1 16 text) _ (λ _. record { root = before.root; size = before.size })
-value_within n key.Conflicts text word v in_n before = ok_then (AreWithin n) (number_from 1 100000 text) _ (λ _. record { root = before.root; size = before.size })
-value_within n key.Root text word v in_n before = ok_then (AreWithin n) (name_from text) _ (λ _. record { root = in_n; size = before.size })
-value_within n key.Point text word v in_n before = ok_then (AreWithin n) (number_from 1 65535 text) _ (λ _. record { root = before.root; size = before.size })
-value_within n key.Order text word v in_n before = ok_then (AreWithin n) (number_from 0 18446744073709551615 text) _ (λ _. record { root = before.root; size = before.size })
-value_within n key.Kind text word v in_n before = ok_then (AreWithin n) (kind_from text) _ (λ _. record { root = before.root; size = before.size })
-value_within n key.Size text word v in_n before = ok_then (AreWithin n) (number_from 1 16 text) _ (λ _. record { root = before.root; size = in_n })
-value_within n key.N text word v in_n before = ok_then (AreWithin n) (number_from 0 4095 text) _ (λ _. record { root = before.root; size = before.size })
+value_within : (n : ℕ) (verb : Verb) (k : Key) (text : List ℕ) (word : ℕ) (v : Values) → word ≤ n → AreWithin n v → IfOk (with_value verb k text word v) (AreWithin n)
+value_within n verb key.Collective text word v in_n before = ok_then (AreWithin n) (collective_from verb text) _ (λ _. record { root = before.root; size = before.size; point = before.point })
+value_within n verb key.K text word v in_n before = ok_then (AreWithin n) (number_from 0 8 text) _ (λ _. record { root = before.root; size = before.size; point = before.point })
+value_within n verb key.Steps text word v in_n before = ok_then (AreWithin n) (number_from 1 8 text) _ (λ _. record { root = before.root; size = before.size; point = before.point })
+value_within n verb key.Chunks text word v in_n before = ok_then (AreWithin n) (number_from 1 16 text) _ (λ _. record { root = before.root; size = before.size; point = before.point })
+value_within n verb key.Conflicts text word v in_n before = ok_then (AreWithin n) (number_from 1 100000 text) _ (λ _. record { root = before.root; size = before.size; point = before.point })
+value_within n verb key.Root text word v in_n before = ok_then (AreWithin n) (name_from text) _ (λ _. record { root = in_n; size = before.size; point = before.point })
+value_within n verb key.Point text word v in_n before = ok_then (AreWithin n) (number_from 1 65535 text) _ (λ _. record { root = before.root; size = before.size; point = in_n })
+value_within n verb key.Order text word v in_n before = ok_then (AreWithin n) (number_from 0 18446744073709551615 text) _ (λ _. record { root = before.root; size = before.size; point = before.point })
+value_within n verb key.Kind text word v in_n before = ok_then (AreWithin n) (kind_from text) _ (λ _. record { root = before.root; size = before.size; point = before.point })
+value_within n verb key.Size text word v in_n before = ok_then (AreWithin n) (number_from 1 16 text) _ (λ _. record { root = before.root; size = in_n; point = before.point })
+value_within n verb key.N text word v in_n before = ok_then (AreWithin n) (number_from 0 4095 text) _ (λ _. record { root = before.root; size = before.size; point = before.point })
+value_within n verb key.Group text word v in_n before = ok_then (AreWithin n) (number_from 0 255 text) _ (λ _. record { root = before.root; size = before.size; point = before.point })
+value_within n verb key.Width text word v in_n before = ok_then (AreWithin n) (number_from 0 16 text) _ (λ _. record { root = before.root; size = before.size; point = before.point })
+value_within n verb key.What text word v in_n before = ok_then (AreWithin n) (what_from verb text) _ (λ _. record { root = before.root; size = before.size; point = before.point })
 
 word_within : (n : ℕ) (verb : Verb) (v : Values) (index : ℕ) (word : List ℕ) → index ≤ n → AreWithin n v → IfOk (with_word verb v index word) (AreWithin n)
 word_within n verb v index word in_n before =
@@ -96,7 +113,7 @@ word_within n verb v index word in_n before =
     (λ parts. ok_then (AreWithin n) (need (named key_word keys parts.0) UnknownKey) _
     (λ k. ok_then (AreWithin n) (refuse (not (has_key verb k)) UnknownKey) _
     (λ _. ok_then (AreWithin n) (refuse (is_given k v) KeyTwice) _
-    (λ _. value_within n k parts.1 index v in_n before))))
+    (λ _. value_within n verb k parts.1 index v in_n before))))
 
 -- a refusal by one of the codes 1 to 7, at most at the nth word
 abbrev Meets : ℕ → WordFault → Type 0
@@ -132,14 +149,38 @@ size_right : (n : ℕ) (size : Option SizeWord) → IfSome size (λ s. s.word �
 size_right n None within count in_n f later = (omega arith, in_n)
 size_right n (Some s) within count in_n f later = later s within
 
-command_right : (n : ℕ) (verb : Verb) (v : Values) (count : ℕ) → count ≤ n → AreWithin n v → IfErr (command_from verb v count) (Meets n)
-command_right n Synth v count in_n within =
+search_right : (n : ℕ) (v : Values) (count : ℕ) → count ≤ n → AreWithin n v → IfErr (search_from v count) (Meets n)
+search_right n v count in_n within =
     err_then (Meets n) (required v.collective count) _ (missing n v.collective count in_n)
     (λ kind. err_then (Meets n) (required v.k count) _ (missing n v.k count in_n)
     (λ k. err_then (Meets n) (required v.steps count) _ (missing n v.steps count in_n)
     (λ steps. err_then (Meets n) (required v.chunks count) _ (missing n v.chunks count in_n)
     (λ chunks. err_then (Meets n) (required v.conflicts count) _ (missing n v.conflicts count in_n)
     (λ conflicts. err_then (Meets n) (root_taken kind.kind v.root) _ (root_right n kind.kind v.root within.root) (λ _. tt))))))
+
+point_right : (n : ℕ) (point : Option PointWord) (value : Option JsonWhat) → IfSome point (λ p. p.word ≤ n) → IfErr (point_taken point value) (Meets n)
+point_right n None value within = tt
+point_right n (Some point) None within = (omega arith, within)
+point_right n (Some point) (Some what.Topology) within = (omega arith, within)
+point_right n (Some point) (Some what.Report) within = (omega arith, within)
+point_right n (Some point) (Some what.Programs) within = tt
+
+point_given : (n : ℕ) (value : JsonWhat) (point : Option PointWord) (count : ℕ) → count ≤ n → IfErr (point_for value point count) (Meets n)
+point_given n what.Topology point count in_n = tt
+point_given n what.Report point count in_n = tt
+point_given n what.Programs point count in_n = err_then (Meets n) (required point count) _ (missing n point count in_n) (λ _. tt)
+
+command_right : (n : ℕ) (verb : Verb) (v : Values) (count : ℕ) → count ≤ n → AreWithin n v → IfErr (command_from verb v count) (Meets n)
+command_right n Synth v count in_n within = err_then (Meets n) (search_from v count) _ (search_right n v count in_n within) (λ _. tt)
+command_right n Bound v count in_n within = err_then (Meets n) (search_from v count) _ (search_right n v count in_n within) (λ _. tt)
+command_right n Ordered v count in_n within = err_then (Meets n) (search_from v count) _ (search_right n v count in_n within) (λ _. tt)
+command_right n Degrade v count in_n within =
+    err_then (Meets n) (required v.group count) _ (missing n v.group count in_n) (λ group. err_then (Meets n) (required v.width count) _ (missing n v.width count in_n) (λ _. tt))
+command_right n Json v count in_n within =
+    err_then (Meets n) (point_taken v.point v.what) _ (point_right n v.point v.what within.point)
+    (λ _. err_then (Meets n) (required v.what count) _ (missing n v.what count in_n)
+    (λ value. err_then (Meets n) (point_for value v.point count) _ (point_given n value v.point count in_n) (λ _. tt)))
+command_right n Unjson v count in_n within = err_then (Meets n) (required v.what count) _ (missing n v.what count in_n) (λ _. tt)
 command_right n Check v count in_n within = tt
 command_right n Replay v count in_n within = err_then (Meets n) (required v.point count) _ (missing n v.point count in_n) (λ _. tt)
 command_right n Programs v count in_n within = err_then (Meets n) (required v.point count) _ (missing n v.point count in_n) (λ _. tt)
@@ -160,7 +201,7 @@ command_refused [] = (omega arith, omega arith)
 command_refused (first ∷ words) =
     let n = length (first ∷ words) in
     err_then (Meets n) (need (named verb_word verbs first) (record { code = UnknownCommand; word = 0 })) (λ verb. command_given verb (values_from verb nothing 1 words) (length words + 1)) (err_need (Meets n) (named verb_word verbs first) (record { code = UnknownCommand; word = 0 }) (omega arith, omega arith))
-    (λ verb. given_right n verb (values_from verb nothing 1 words) (length words + 1) (omega arith) (values_right n verb nothing 1 words (omega arith) (record { root = tt; size = tt })))
+    (λ verb. given_right n verb (values_from verb nothing 1 words) (length words + 1) (omega arith) (values_right n verb nothing 1 words (omega arith) (record { root = tt; size = tt; point = tt })))
 
 -- the same of what is read of words
 pub refused_at : {Z : Type 0} (words : List (String Z)) (read : Result Command WordFault) → read ≡ command_of (texts words) → IfErr read (λ fault. number_of fault.code ≤ 7) × IfErr read (λ fault. fault.word ≤ length words)

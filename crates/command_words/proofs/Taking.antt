@@ -28,7 +28,7 @@ one_few : {T : Type 0} (o : Option T) → one o ≤ 1
 one_few None = omega arith
 one_few (Some _) = omega arith
 
--- there are 11 keys
-pub count_few : (v : Values) → count_of v ≤ 11
+-- there are 14 keys
+pub count_few : (v : Values) → count_of v ≤ 14
 count_few v =
-    omega (arith, one_few v.collective, one_few v.k, one_few v.steps, one_few v.chunks, one_few v.conflicts, one_few v.root, one_few v.point, one_few v.order, one_few v.kind, one_few v.size, one_few v.n)
+    omega (arith, one_few v.collective, one_few v.k, one_few v.steps, one_few v.chunks, one_few v.conflicts, one_few v.root, one_few v.point, one_few v.order, one_few v.kind, one_few v.size, one_few v.n, one_few v.group, one_few v.width, one_few v.what)

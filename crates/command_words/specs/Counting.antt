@@ -9,4 +9,4 @@ one (Some _) = 1
 
 -- the keys that have a value, counted
 abbrev pub count_of : Values → ℕ
-count_of v = one v.collective + one v.k + one v.steps + one v.chunks + one v.conflicts + one v.root + one v.point + one v.order + one v.kind + one v.size + one v.n
+count_of v = one v.collective + one v.k + one v.steps + one v.chunks + one v.conflicts + one v.root + one v.point + one v.order + one v.kind + one v.size + one v.n + one v.group + one v.width + one v.what

@@ -24,7 +24,7 @@ cut word = if list_any (λ b. b == 61) word then Some (before_first (λ b. b == 
 
 -- no key has a value
 abbrev pub nothing : Values
-nothing = record { collective = None; k = None; steps = None; chunks = None; conflicts = None; root = None; point = None; order = None; kind = None; size = None; n = None }
+nothing = record { collective = None; k = None; steps = None; chunks = None; conflicts = None; root = None; point = None; order = None; kind = None; size = None; n = None; group = None; width = None; what = None }
 
 -- the checks of the word with this index, behind words that gave these values
 abbrev pub with_word : Verb → Values → ℕ → List ℕ → Result Values WordCode
@@ -33,7 +33,7 @@ with_word verb values index word = do
   key ← need (named key_word keys parts.0) UnknownKey
   _ ← refuse (not (has_key verb key)) UnknownKey
   _ ← refuse (is_given key values) KeyTwice
-  with_value key parts.1 index values
+  with_value verb key parts.1 index values
 
 -- the code with the index of its word
 abbrev pub at_word : {A : Type 0} → ℕ → Result A WordCode → Result A WordFault

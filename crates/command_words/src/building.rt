@@ -1,10 +1,11 @@
 //! Commands, from the values of their words.
 
-ghost use Rattle.std.specs.Prelude.{◌≡◌, IfOk};
+ghost use Rattle.std.specs.Prelude.{◌≡◌, true, IfOk};
+ghost use Rattle.command_words.specs.Tables.{takes_kind};
 ghost use Rattle.command_words.specs.Values.{AreProper};
-ghost use Rattle.command_words.specs.Commands.{IsProper, command_from, family_from, programs_from, replay_from, required, root_taken, synth_from, trial_from};
+ghost use Rattle.command_words.specs.Commands.{AreSearchWords, IsProper, bound_from, command_from, degrade_from, family_from, json_from, ordered_from, point_for, point_taken, programs_from, replay_from, required, root_taken, search_from, synth_from, trial_from, unjson_from};
 
-use crate::command::{Command, RootWord};
+use crate::command::{Command, JsonWhat, PointWord, RootWord, SearchWords};
 use crate::fault::{WordCode, WordFault};
 use crate::values::Values;
 use crate::verb::Verb;
@@ -35,10 +36,12 @@ fn root_taken(kind: Kind, root: Option<RootWord>) -> Result<(), WordFault>
     }
 }
 
-fn synth_from(values: Values, count: u32) -> Result<Command, WordFault>
-    requires { AreProper values }
-    ensures read { result ≡ synth_from values count }
-    ensures proper { IfOk result IsProper }
+/// The words of a search.
+fn search_from(values: Values, count: u32, verb: Verb) -> Result<SearchWords, WordFault>
+    requires { AreProper verb values }
+    ensures read { result ≡ search_from values count }
+    ensures proper { IfOk result AreSearchWords }
+    ensures taken { IfOk result (λ asked. takes_kind verb asked.kind ≡ true) }
 {
     let collective = required(values.collective, count)?;
     let k = required(values.k, count)?;
@@ -46,7 +49,7 @@ fn synth_from(values: Values, count: u32) -> Result<Command, WordFault>
     let chunks = required(values.chunks, count)?;
     let conflicts = required(values.conflicts, count)?;
     root_taken(collective.kind, values.root)?;
-    Ok(Command::Synth {
+    Ok(SearchWords {
         kind: collective.kind,
         kind_word: collective.word,
         limits: Limits::new(k, steps, chunks, conflicts),
@@ -54,8 +57,112 @@ fn synth_from(values: Values, count: u32) -> Result<Command, WordFault>
     })
 }
 
+fn synth_from(values: Values, count: u32) -> Result<Command, WordFault>
+    requires { AreProper Verb.Synth values }
+    ensures read { result ≡ synth_from values count }
+    ensures proper { IfOk result IsProper }
+{
+    let asked = search_from(values, count, Verb::Synth)?;
+    Ok(Command::Synth {
+        kind: asked.kind,
+        kind_word: asked.kind_word,
+        limits: asked.limits,
+        root: asked.root,
+    })
+}
+
+fn bound_from(values: Values, count: u32) -> Result<Command, WordFault>
+    requires { AreProper Verb.Bound values }
+    ensures read { result ≡ bound_from values count }
+    ensures proper { IfOk result IsProper }
+{
+    let asked = search_from(values, count, Verb::Bound)?;
+    Ok(Command::Bound {
+        kind: asked.kind,
+        kind_word: asked.kind_word,
+        limits: asked.limits,
+        root: asked.root,
+    })
+}
+
+fn ordered_from(values: Values, count: u32) -> Result<Command, WordFault>
+    requires { AreProper Verb.Ordered values }
+    ensures read { result ≡ ordered_from values count }
+    ensures proper { IfOk result IsProper }
+{
+    let asked = search_from(values, count, Verb::Ordered)?;
+    Ok(Command::Ordered {
+        kind: asked.kind,
+        kind_word: asked.kind_word,
+        limits: asked.limits,
+        root: asked.root,
+    })
+}
+
+fn degrade_from(values: Values, count: u32) -> Result<Command, WordFault>
+    requires { AreProper Verb.Degrade values }
+    ensures read { result ≡ degrade_from values count }
+    ensures proper { IfOk result IsProper }
+{
+    let group = required(values.group, count)?;
+    let width = required(values.width, count)?;
+    Ok(Command::Degrade {
+        group: group.group,
+        group_word: group.word,
+        width: width.width,
+        width_word: width.word,
+    })
+}
+
+/// A point is named only with programs.
+fn point_taken(point: Option<PointWord>, what: Option<JsonWhat>) -> Result<(), WordFault>
+    ensures { result ≡ point_taken point what }
+{
+    match (point, what) {
+        (None, _) | (Some(_), Some(JsonWhat::Programs)) => Ok(()),
+        (Some(point), _) => Err(WordFault {
+            code: WordCode::UnknownKey,
+            word: point.word,
+        }),
+    }
+}
+
+/// The point that is to be given: programs require one.
+fn point_for(
+    what: JsonWhat,
+    point: Option<PointWord>,
+    count: u32,
+) -> Result<Option<PointWord>, WordFault>
+    ensures { result ≡ point_for what point count }
+{
+    match what {
+        JsonWhat::Programs => Ok(Some(required(point, count)?)),
+        _ => Ok(None),
+    }
+}
+
+fn json_from(values: Values, count: u32) -> Result<Command, WordFault>
+    requires { AreProper Verb.Json values }
+    ensures read { result ≡ json_from values count }
+    ensures proper { IfOk result IsProper }
+{
+    point_taken(values.point, values.what)?;
+    let what = required(values.what, count)?;
+    let point = point_for(what, values.point, count)?;
+    Ok(Command::Json { what, point })
+}
+
+fn unjson_from(values: Values, count: u32) -> Result<Command, WordFault>
+    requires { AreProper Verb.Unjson values }
+    ensures read { result ≡ unjson_from values count }
+    ensures proper { IfOk result IsProper }
+{
+    let what = required(values.what, count)?;
+    Ok(Command::Unjson { what })
+}
+
 fn replay_from(values: Values, count: u32) -> Result<Command, WordFault>
-    requires { AreProper values }
+    requires { AreProper Verb.Replay values }
     ensures read { result ≡ replay_from values count }
     ensures proper { IfOk result IsProper }
 {
@@ -68,7 +175,7 @@ fn replay_from(values: Values, count: u32) -> Result<Command, WordFault>
 }
 
 fn programs_from(values: Values, count: u32) -> Result<Command, WordFault>
-    requires { AreProper values }
+    requires { AreProper Verb.Programs values }
     ensures read { result ≡ programs_from values count }
     ensures proper { IfOk result IsProper }
 {
@@ -98,7 +205,7 @@ fn family_from(values: Values, count: u32) -> Result<Command, WordFault>
 }
 
 fn trial_from(values: Values, count: u32) -> Result<Command, WordFault>
-    requires { AreProper values }
+    requires { AreProper Verb.Trial values }
     ensures read { result ≡ trial_from values count }
     ensures proper { IfOk result IsProper }
 {
@@ -108,7 +215,7 @@ fn trial_from(values: Values, count: u32) -> Result<Command, WordFault>
 
 /// The command of these values, where there are `count` words.
 pub fn command_from(verb: Verb, values: Values, count: u32) -> Result<Command, WordFault>
-    requires { AreProper values }
+    requires { AreProper verb values }
     ensures read { result ≡ command_from verb values count }
     ensures proper { IfOk result IsProper }
 {
@@ -119,5 +226,10 @@ pub fn command_from(verb: Verb, values: Values, count: u32) -> Result<Command, W
         Verb::Programs => programs_from(values, count),
         Verb::Family => family_from(values, count),
         Verb::Trial => trial_from(values, count),
+        Verb::Bound => bound_from(values, count),
+        Verb::Ordered => ordered_from(values, count),
+        Verb::Degrade => degrade_from(values, count),
+        Verb::Json => json_from(values, count),
+        Verb::Unjson => unjson_from(values, count),
     }
 }

@@ -28,10 +28,16 @@ pub enum WordCode {
     OutOfMemory = 10,
     /// The collective is `custom` and the topology gives none, or the topology gives one and the collective is another.
     CustomMismatch = 12,
+    /// The report is of an allreduce, which the command does not take.
+    ReportNotTaken = 13,
+    /// The topology of the report has no group of this number.
+    UnknownGroup = 14,
+    /// The width is not below that of the group.
+    NotNarrower = 15,
 }
 
 impl WordCode {
-    /// The number by which a refusal names the code, from 1 to 12; there is no 11.
+    /// The number by which a refusal names the code, from 1 to 15; there is no 11.
     pub fn number(self) -> u8
         ensures { result ≡ number_of self }
     {

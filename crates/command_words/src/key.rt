@@ -19,10 +19,13 @@ pub enum Key {
     Kind,
     Size,
     N,
+    Group,
+    Width,
+    What,
 }
 
 impl Key {
-    /// The key with this number; `None` exactly where the number is above 10.
+    /// The key with this number; `None` exactly where the number is above 13.
     fn of_number(number: u32) -> Option<Key>
         ensures { result ≡ numbered key_number keys number }
     {
@@ -38,6 +41,9 @@ impl Key {
             8 => Some(Key::Kind),
             9 => Some(Key::Size),
             10 => Some(Key::N),
+            11 => Some(Key::Group),
+            12 => Some(Key::Width),
+            13 => Some(Key::What),
             _ => None,
         }
     }
@@ -69,5 +75,8 @@ fn words() -> Table
         "kind" => 8,
         "size" => 9,
         "n" => 10,
+        "group" => 11,
+        "width" => 12,
+        "what" => 13,
     ]
 }

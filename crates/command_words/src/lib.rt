@@ -10,12 +10,12 @@ mod reading;
 mod values;
 mod vectors;
 mod verb;
+mod what_word;
 
-pub use command::{Command, RootWord, SearchWords};
+pub use command::{Command, JsonWhat, PointWord, RootWord, SearchWords};
 pub use fault::{WordCode, WordFault};
 pub use reading::read_words;
-pub use values::PointWord;
 pub use vectors::{
-    codes_are_numbered, commands_are_read, first_refusal_counts, numbers_in_their_ranges, refusals,
-    words_without_a_key,
+    codes_are_numbered, commands_are_read, first_refusal_counts, more_commands_are_read,
+    numbers_in_their_ranges, refusals, words_without_a_key,
 };

@@ -23,9 +23,9 @@ fn cut(word: &str) -> Option<(&str, &str)>
 
 /// The values with that of the word with this index.
 fn with_word(verb: Verb, values: Values, index: u32, word: &str) -> Result<Values, WordCode>
-    requires { AreProper values }
+    requires { AreProper verb values }
     ensures read { result ≡ with_word verb values index word.now }
-    ensures proper { IfOk result AreProper }
+    ensures proper { IfOk result (AreProper verb) }
     ensures counted { IfOk result (λ more. count_of more ≡ count_of values + 1) }
 {
     let (key, value) = cut(word).ok_or(WordCode::UnknownKey)?;
@@ -36,14 +36,14 @@ fn with_word(verb: Verb, values: Values, index: u32, word: &str) -> Result<Value
     if values.has(key) {
         return Err(WordCode::KeyTwice);
     }
-    values.with(key, value, index)
+    values.with(verb, key, value, index)
 }
 
 /// The values with that of the word with this index, or the refusal of the word.
 fn take_word(verb: Verb, values: Values, index: u32, word: &str) -> Result<Values, WordFault>
-    requires { AreProper values }
+    requires { AreProper verb values }
     ensures read { result ≡ at_word index (with_word verb values index word.now) }
-    ensures proper { IfOk result AreProper }
+    ensures proper { IfOk result (AreProper verb) }
     ensures counted { IfOk result (λ more. count_of more ≡ count_of values + 1) }
 {
     match with_word(verb, values, index, word) {
@@ -52,11 +52,11 @@ fn take_word(verb: Verb, values: Values, index: u32, word: &str) -> Result<Value
     }
 }
 
-/// The values of the words behind the first, of which there are at most 11.
+/// The values of the words behind the first, of which there are at most 14.
 fn values_from(verb: Verb, words: &[String]) -> Result<Values, WordFault>
     ensures read { result ≡ values_from verb nothing 1 (texts words.now) }
-    ensures proper { IfOk result AreProper }
-    ensures few { IfOk result (λ _. length words.now ≤ 11) }
+    ensures proper { IfOk result (AreProper verb) }
+    ensures few { IfOk result (λ _. length words.now ≤ 14) }
 {
     let mut values = Values::default();
     let mut index: u32 = 1;
@@ -73,8 +73,8 @@ fn command_given(
     values: Result<Values, WordFault>,
     count: usize,
 ) -> Result<Command, WordFault>
-    requires proper { IfOk values AreProper }
-    requires few { IfOk values (λ _. count ≤ 12) }
+    requires proper { IfOk values (AreProper verb) }
+    requires few { IfOk values (λ _. count ≤ 15) }
     ensures read { result ≡ command_given verb values count }
     ensures proper { IfOk result IsProper }
 {
@@ -86,8 +86,8 @@ fn command_given(
 
 /// The command that the words are: the first is the command's name, and every other a key, `=` and a
 /// value, in any order. An `Err` has the first refusal that applies: of the first word, of the other words from
-/// left to right, of a key that is lacking, of a size that the kind of family doesn't have, of a root that the
-/// collective doesn't take. It takes no memory.
+/// left to right, of a point that is named where no programs are asked for, of a key that is lacking, of a size that the
+/// kind of family doesn't have, of a root that the collective doesn't take. It takes no memory.
 #[tactic(auto, unfolding(crate::specs::Words::command_of))]
 pub fn read_words(words: &[String]) -> Result<Command, WordFault>
     ensures read { result ≡ command_of (texts words.now) }
@@ -101,9 +101,11 @@ pub fn read_words(words: &[String]) -> Result<Command, WordFault>
             word: 0,
         });
     };
-    let verb = Verb::of_word(first).ok_or(WordFault {
-        code: WordCode::UnknownCommand,
-        word: 0,
-    })?;
+    let Some(verb) = Verb::of_word(first) else {
+        return Err(WordFault {
+            code: WordCode::UnknownCommand,
+            word: 0,
+        });
+    };
     command_given(verb, values_from(verb, rest), words.len())
 }

@@ -1,13 +1,16 @@
 //! The values of the words.
 
-ghost use Rattle.std.specs.Prelude.{◌≡◌, ◌≤◌, ◌+◌, false, IfOk};
-ghost use Rattle.command_words.specs.Values.{AreProper, collective_from, is_given, kind_from, name_from, number_from, with_value};
+ghost use Rattle.std.specs.Prelude.{◌≡◌, ◌≤◌, ◌+◌, false, true, IfOk};
+ghost use Rattle.command_words.specs.Values.{AreProper, collective_from, is_given, kind_from, name_from, number_from, what_from, with_value};
 ghost use Rattle.command_words.specs.Counting.{count_of};
+ghost use Rattle.command_words.specs.Tables.{takes_kind, takes_what};
 
-use crate::command::RootWord;
+use crate::command::{JsonWhat, PointWord, RootWord};
 use crate::fault::WordCode;
 use crate::key::Key;
 use crate::kind_word::kind_of_word;
+use crate::verb::Verb;
+use crate::what_word::what_of_word;
 use collective_spec::Kind;
 use text_lines::read_number;
 use topology_text::{FamilyKind, Name};
@@ -19,19 +22,24 @@ pub struct KindWord {
     pub word: u32,
 }
 
-/// The number of a point, and the index of its word.
-#[derive(Clone, Copy, Debug, PartialEq, Eq)]
-pub struct PointWord {
-    /// The point's number, from 1 to 65,535.
-    pub point: u32,
-    /// The index of the word `point`, the command being word 0.
-    pub word: u32,
-}
-
 /// The size of a family, and the index of its word.
 #[derive(Clone, Copy)]
 pub struct SizeWord {
     pub size: u8,
+    pub word: u32,
+}
+
+/// The number of a group, and the index of its word.
+#[derive(Clone, Copy)]
+pub struct GroupWord {
+    pub group: u16,
+    pub word: u32,
+}
+
+/// The width of a group, and the index of its word.
+#[derive(Clone, Copy)]
+pub struct WidthWord {
+    pub width: u8,
     pub word: u32,
 }
 
@@ -49,6 +57,9 @@ pub struct Values {
     pub kind: Option<FamilyKind>,
     pub size: Option<SizeWord>,
     pub n: Option<u16>,
+    pub group: Option<GroupWord>,
+    pub width: Option<WidthWord>,
+    pub what: Option<JsonWhat>,
 }
 
 /// The number that a value spells, from `least` to `greatest`.
@@ -70,11 +81,26 @@ fn name_from(text: &str) -> Result<Name, WordCode>
     Name::of_bytes(text.as_bytes()).ok_or(WordCode::BadValue)
 }
 
-/// The kind of collective that a value names.
-fn collective_from(text: &str) -> Result<Kind, WordCode>
-    ensures { result ≡ collective_from text.now }
+/// The kind of collective that a value names, which the command takes.
+fn collective_from(verb: Verb, text: &str) -> Result<Kind, WordCode>
+    ensures read { result ≡ collective_from verb text.now }
+    ensures taken { IfOk result (λ kind. takes_kind verb kind ≡ true) }
 {
-    kind_of_word(text).ok_or(WordCode::BadValue)
+    match kind_of_word(text) {
+        Some(kind) if verb.takes_kind(kind) => Ok(kind),
+        _ => Err(WordCode::BadValue),
+    }
+}
+
+/// What a value names of what is read or written as JSON, which the command takes.
+fn what_from(verb: Verb, text: &str) -> Result<JsonWhat, WordCode>
+    ensures read { result ≡ what_from verb text.now }
+    ensures taken { IfOk result (λ what. takes_what verb what ≡ true) }
+{
+    match what_of_word(text) {
+        Some(what) if verb.takes_what(what) => Ok(what),
+        _ => Err(WordCode::BadValue),
+    }
 }
 
 /// The kind of family that a value names.
@@ -101,21 +127,24 @@ impl Values {
             Key::Kind => self.kind.is_some(),
             Key::Size => self.size.is_some(),
             Key::N => self.n.is_some(),
+            Key::Group => self.group.is_some(),
+            Key::Width => self.width.is_some(),
+            Key::What => self.what.is_some(),
         }
     }
 
-    /// The values with that of one more key, which stands in the word with this index.
-    pub fn with(self, key: Key, text: &str, word: u32) -> Result<Values, WordCode>
-        requires proper { AreProper self }
+    /// The values with that of one more key of the command, which stands in the word with this index.
+    pub fn with(self, verb: Verb, key: Key, text: &str, word: u32) -> Result<Values, WordCode>
+        requires proper { AreProper verb self }
         requires first { is_given key self ≡ false }
-        ensures read { result ≡ with_value key text.now word self }
-        ensures proper { IfOk result AreProper }
+        ensures read { result ≡ with_value verb key text.now word self }
+        ensures proper { IfOk result (AreProper verb) }
         ensures counted { IfOk result (λ values. count_of values ≡ count_of self + 1) }
     {
         let mut values = self;
         match key {
             Key::Collective => values.collective = Some(KindWord {
-                kind: collective_from(text)?,
+                kind: collective_from(verb, text)?,
                 word,
             }),
             Key::K => values.k = Some(number_from(0, 8, text)? as u8),
@@ -137,6 +166,15 @@ impl Values {
                 word,
             }),
             Key::N => values.n = Some(number_from(0, 4095, text)? as u16),
+            Key::Group => values.group = Some(GroupWord {
+                group: number_from(0, 255, text)? as u16,
+                word,
+            }),
+            Key::Width => values.width = Some(WidthWord {
+                width: number_from(0, 16, text)? as u8,
+                word,
+            }),
+            Key::What => values.what = Some(what_from(verb, text)?),
         }
         Ok(values)
     }

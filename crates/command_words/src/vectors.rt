@@ -5,14 +5,14 @@ ghost use Rattle.text_lines.specs.Text.{words_of};
 ghost use Rattle.command_words.specs.Codes.{number_of};
 ghost use Rattle.command_words.specs.Words.{command_of};
 
-use crate::command::Command;
+use crate::command::{Command, JsonWhat};
 use crate::fault::WordCode;
 use collective_spec::Kind;
 use topology_text::FamilyKind;
 
 /// The codes in their order.
 pub fn codes_are_numbered()
-    ensures { map number_of (WordCode.NoCommand ∷ WordCode.UnknownCommand ∷ WordCode.UnknownKey ∷ WordCode.KeyTwice ∷ WordCode.KeyMissing ∷ WordCode.BadValue ∷ WordCode.RootNotTaken ∷ WordCode.UnknownRoot ∷ WordCode.UnknownPoint ∷ WordCode.OutOfMemory ∷ WordCode.CustomMismatch ∷ []) ≡ 1 ∷ 2 ∷ 3 ∷ 4 ∷ 5 ∷ 6 ∷ 7 ∷ 8 ∷ 9 ∷ 10 ∷ 12 ∷ [] }
+    ensures { map number_of (WordCode.NoCommand ∷ WordCode.UnknownCommand ∷ WordCode.UnknownKey ∷ WordCode.KeyTwice ∷ WordCode.KeyMissing ∷ WordCode.BadValue ∷ WordCode.RootNotTaken ∷ WordCode.UnknownRoot ∷ WordCode.UnknownPoint ∷ WordCode.OutOfMemory ∷ WordCode.CustomMismatch ∷ WordCode.ReportNotTaken ∷ WordCode.UnknownGroup ∷ WordCode.NotNarrower ∷ []) ≡ 1 ∷ 2 ∷ 3 ∷ 4 ∷ 5 ∷ 6 ∷ 7 ∷ 8 ∷ 9 ∷ 10 ∷ 12 ∷ 13 ∷ 14 ∷ 15 ∷ [] }
 {}
 
 /// Each code, and the index of the word that is blamed.
@@ -99,4 +99,24 @@ pub fn first_refusal_counts()
     ensures customs { command_of (words_of (codes "synth collective=customs")) ≡ Err (record { code = WordCode.BadValue; word = 1 }) }
     ensures custom_root { command_of (words_of (codes "synth collective=custom k=0 steps=2 chunks=1 conflicts=1000 root=a")) ≡ Err (record { code = WordCode.RootNotTaken; word = 6 }) }
     ensures long_name { command_of (words_of (codes "synth root=abcdefghijklmnopq")) ≡ Err (record { code = WordCode.BadValue; word = 1 }) }
+{}
+
+/// The commands that search by other engines, that narrow a group, and that read and write JSON.
+pub fn more_commands_are_read()
+    ensures bound { command_of (words_of (codes "bound collective=allgather k=1 steps=3 chunks=2 conflicts=1000")) ≡ Ok (Command.Bound Kind.Allgather 1 (record { k = 1; max_s = 3; max_c = 2; conflicts = 1000 }) None) }
+    ensures no_allreduce { command_of (words_of (codes "bound k=1 collective=allreduce")) ≡ Err (record { code = WordCode.BadValue; word = 2 }) }
+    ensures ordered { command_of (words_of (codes "ordered collective=reduce k=0 steps=3 chunks=2 conflicts=1000 root=n1")) ≡ Ok (Command.Ordered Kind.Reduce 1 (record { k = 0; max_s = 3; max_c = 2; conflicts = 1000 }) (Some (record { name = codes "n1"; word = 6 }))) }
+    ensures no_order_of_allreduce { command_of (words_of (codes "ordered collective=allreduce")) ≡ Err (record { code = WordCode.BadValue; word = 1 }) }
+    ensures degrade { command_of (words_of (codes "degrade width=0 group=255")) ≡ Ok (Command.Degrade 255 2 0 1) }
+    ensures width_above { command_of (words_of (codes "degrade width=17")) ≡ Err (record { code = WordCode.BadValue; word = 1 }) }
+    ensures group_above { command_of (words_of (codes "degrade group=256")) ≡ Err (record { code = WordCode.BadValue; word = 1 }) }
+    ensures no_width { command_of (words_of (codes "degrade group=0")) ≡ Err (record { code = WordCode.KeyMissing; word = 2 }) }
+    ensures json { command_of (words_of (codes "json what=report")) ≡ Ok (Command.Json JsonWhat.Report None) }
+    ensures programs { command_of (words_of (codes "json point=2 what=programs")) ≡ Ok (Command.Json JsonWhat.Programs (Some (record { point = 2; word = 1 }))) }
+    ensures no_point { command_of (words_of (codes "json what=programs")) ≡ Err (record { code = WordCode.KeyMissing; word = 2 }) }
+    ensures point_of_report { command_of (words_of (codes "json what=report point=1")) ≡ Err (record { code = WordCode.UnknownKey; word = 2 }) }
+    ensures point_alone { command_of (words_of (codes "json point=1")) ≡ Err (record { code = WordCode.UnknownKey; word = 1 }) }
+    ensures point_behind_words { command_of (words_of (codes "json what=report point=1 what=report")) ≡ Err (record { code = WordCode.KeyTwice; word = 3 }) }
+    ensures unjson { command_of (words_of (codes "unjson what=topology")) ≡ Ok (Command.Unjson JsonWhat.Topology) }
+    ensures no_programs { command_of (words_of (codes "unjson what=programs what=report")) ≡ Err (record { code = WordCode.BadValue; word = 1 }) }
 {}

@@ -1,10 +1,12 @@
 //! The first word: what is to be done.
 
 ghost use Rattle.std.specs.Prelude.{◌≡◌, Some, map};
-ghost use Rattle.command_words.specs.Tables.{has_key, named, numbered, verb_number, verb_word, verbs};
+ghost use Rattle.command_words.specs.Tables.{has_key, named, numbered, takes_kind, takes_what, verb_number, verb_word, verbs};
 
+use crate::command::JsonWhat;
 use crate::key::Key;
 use case_table::{Table, table};
+use collective_spec::Kind;
 
 /// The first word of a command.
 #[derive(Clone, Copy)]
@@ -15,10 +17,15 @@ pub enum Verb {
     Programs,
     Family,
     Trial,
+    Bound,
+    Ordered,
+    Degrade,
+    Json,
+    Unjson,
 }
 
 impl Verb {
-    /// The verb with this number; `None` exactly where the number is above 5.
+    /// The verb with this number; `None` exactly where the number is above 10.
     fn of_number(number: u32) -> Option<Verb>
         ensures { result ≡ numbered verb_number verbs number }
     {
@@ -29,6 +36,11 @@ impl Verb {
             3 => Some(Verb::Programs),
             4 => Some(Verb::Family),
             5 => Some(Verb::Trial),
+            6 => Some(Verb::Bound),
+            7 => Some(Verb::Ordered),
+            8 => Some(Verb::Degrade),
+            9 => Some(Verb::Json),
+            10 => Some(Verb::Unjson),
             _ => None,
         }
     }
@@ -48,7 +60,7 @@ impl Verb {
         ensures { result ≡ has_key self key }
     {
         match self {
-            Verb::Synth => matches!(
+            Verb::Synth | Verb::Bound | Verb::Ordered => matches!(
                 key,
                 Key::Collective | Key::K | Key::Steps | Key::Chunks | Key::Conflicts | Key::Root
             ),
@@ -57,7 +69,24 @@ impl Verb {
             Verb::Programs => matches!(key, Key::Point),
             Verb::Family => matches!(key, Key::Kind | Key::Size),
             Verb::Trial => matches!(key, Key::N),
+            Verb::Degrade => matches!(key, Key::Group | Key::Width),
+            Verb::Json => matches!(key, Key::What | Key::Point),
+            Verb::Unjson => matches!(key, Key::What),
         }
+    }
+
+    /// Whether the command takes collectives of the kind: those that tell of one search take no allreduce, which has two.
+    pub fn takes_kind(self, kind: Kind) -> bool
+        ensures { result ≡ takes_kind self kind }
+    {
+        !matches!((self, kind), (Verb::Bound | Verb::Ordered, Kind::Allreduce))
+    }
+
+    /// Whether the command takes such a value: programs are not read.
+    pub fn takes_what(self, what: JsonWhat) -> bool
+        ensures { result ≡ takes_what self what }
+    {
+        !matches!((self, what), (Verb::Unjson, JsonWhat::Programs))
     }
 }
 
@@ -72,5 +101,10 @@ fn words() -> Table
         "programs" => 3,
         "family" => 4,
         "trial" => 5,
+        "bound" => 6,
+        "ordered" => 7,
+        "degrade" => 8,
+        "json" => 9,
+        "unjson" => 10,
     ]
 }

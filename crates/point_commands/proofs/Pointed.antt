@@ -7,7 +7,7 @@ use Rattle.report_form.specs.Reports.{ReportValue}
 use Rattle.report_form.specs.Numbered.{point_at}
 use Rattle.point_replay.specs.Showing.{shown_in, shown_text}
 use Rattle.point_replay.specs.Points.{programs_of_point}
-use Rattle.command_words.specs.declared.values.PointWord.{PointWord}
+use Rattle.command_words.specs.declared.command.PointWord.{PointWord}
 use Rattle.command_words.specs.declared.fault.WordCode.TheVariants.{UnknownPoint}
 use Rattle.run_rules.specs.declared.status.Status.{Status}
 use Rattle.run_rules.specs.declared.status.Status.TheVariants.{BadWords, Done}

@@ -14,7 +14,7 @@ mod verdicts;
 mod words;
 
 pub use point::replay_point;
-pub use programs::print_point_programs;
+pub use programs::{point_programs, print_point_programs};
 pub use running::run_point;
 pub use std::alloc::AllocError as OutOfMemory;
 pub use vectors::replays;

@@ -26,8 +26,8 @@ fn adding_steps(report: &Report, part: Part, point: &Point) -> Result<u8, OutOfM
     Ok(steps_that_add(point))
 }
 
-/// The programs of a point.
-pub(crate) fn point_programs(
+/// The programs that carry the schedule of a point out, one for each node. The only error is want of memory.
+pub fn point_programs(
     alloc: Global,
     report: &Report,
     part: Part,

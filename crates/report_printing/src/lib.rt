@@ -3,4 +3,7 @@
 
 mod printing;
 
-pub use printing::{print_report, push_asked};
+pub use printing::{
+    name_at, print_report, push_all_refuted, push_all_unknown, push_asked, push_candidate,
+    push_field, push_number_field, push_points,
+};

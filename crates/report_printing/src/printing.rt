@@ -16,8 +16,8 @@ use std::alloc::{AllocError, Global};
 use text_lines::{push_number, push_word};
 use topology_text::{Name, NamedTopology, push_topology};
 
-/// The name of a node.
-fn name_at(names: &[Name], node: u8) -> &[u8]
+/// The name of a node; empty where there is none of that number.
+pub fn name_at(names: &[Name], node: u8) -> &[u8]
     ensures { result.now ≡ name_at names.now node }
 {
     match names.get(usize::from(node)) {
@@ -26,8 +26,8 @@ fn name_at(names: &[Name], node: u8) -> &[u8]
     }
 }
 
-/// Appends a space and a word.
-fn push_field(out: &mut Vec<u8>, word: &[u8]) -> Result<(), AllocError>
+/// Appends a space and a word. An `Err` comes only where memory runs out.
+pub fn push_field(out: &mut Vec<u8>, word: &[u8]) -> Result<(), AllocError>
     ensures { OnOk result (out.new.items ≡ out.old.items ++ 32 ∷ word.now) }
 {
     push_word(out, b" ")?;
@@ -35,8 +35,8 @@ fn push_field(out: &mut Vec<u8>, word: &[u8]) -> Result<(), AllocError>
     Ok(())
 }
 
-/// Appends a space and a number.
-fn push_number_field(out: &mut Vec<u8>, value: u64) -> Result<(), AllocError>
+/// Appends a space and a number. An `Err` comes only where memory runs out.
+pub fn push_number_field(out: &mut Vec<u8>, value: u64) -> Result<(), AllocError>
     ensures { OnOk result (out.new.items ≡ out.old.items ++ 32 ∷ decimal value) }
 {
     push_word(out, b" ")?;
@@ -44,8 +44,8 @@ fn push_number_field(out: &mut Vec<u8>, value: u64) -> Result<(), AllocError>
     Ok(())
 }
 
-/// Appends the steps, the rounds and the chunk count.
-fn push_candidate(out: &mut Vec<u8>, x: Candidate) -> Result<(), AllocError>
+/// Appends the steps, the rounds and the chunk count, each behind a space. An `Err` comes only where memory runs out.
+pub fn push_candidate(out: &mut Vec<u8>, x: Candidate) -> Result<(), AllocError>
     ensures { OnOk result (out.new.items ≡ out.old.items ++ fields (candidate_words x)) }
 {
     push_number_field(out, u64::from(x.s))?;
@@ -126,7 +126,9 @@ fn push_point(out: &mut Vec<u8>, names: &[Name], point: &Point) -> Result<(), Al
     Ok(())
 }
 
-fn push_points(out: &mut Vec<u8>, names: &[Name], points: &[Point]) -> Result<(), AllocError>
+/// Appends the lines of points, in their order: each with its rounds and its sends, nodes by their names. An `Err` comes only
+/// where memory runs out.
+pub fn push_points(out: &mut Vec<u8>, names: &[Name], points: &[Point]) -> Result<(), AllocError>
     ensures { OnOk result (out.new.items ≡ out.old.items ++ flat_map (point_text names.now) points.now) }
 {
     for point in points {
@@ -144,7 +146,8 @@ fn push_refuted(out: &mut Vec<u8>, x: Candidate) -> Result<(), AllocError>
     Ok(())
 }
 
-fn push_all_refuted(out: &mut Vec<u8>, refuted: &[Candidate]) -> Result<(), AllocError>
+/// Appends a line for each candidate that is refuted. An `Err` comes only where memory runs out.
+pub fn push_all_refuted(out: &mut Vec<u8>, refuted: &[Candidate]) -> Result<(), AllocError>
     ensures { OnOk result (out.new.items ≡ out.old.items ++ text_of (map refuted_words refuted.now)) }
 {
     for x in refuted {
@@ -163,7 +166,8 @@ fn push_unknown(out: &mut Vec<u8>, x: &Unknown) -> Result<(), AllocError>
     Ok(())
 }
 
-fn push_all_unknown(out: &mut Vec<u8>, unknown: &[Unknown]) -> Result<(), AllocError>
+/// Appends a line for each candidate that was given up. An `Err` comes only where memory runs out.
+pub fn push_all_unknown(out: &mut Vec<u8>, unknown: &[Unknown]) -> Result<(), AllocError>
     ensures { OnOk result (out.new.items ≡ out.old.items ++ text_of (map unknown_words unknown.now)) }
 {
     for x in unknown {

@@ -7,8 +7,9 @@ use Rattle.run_rules.specs.declared.status.Status.{Status}
 use Rattle.run_rules.specs.declared.status.Status.TheVariants.{Done}
 use Rattle.run_rules.specs.declared.answer.Answer.{Answer}
 use Rattle.run_rules.specs.Refusals.{Refusal, refusal_line}
-use Rattle.run_rules.specs.Tasks.{Task, Write, Synthesise, Audit, Try}
-use Rattle.run_rules.specs.Answers.{FilesValue, IsAnswer, IsAnswerAlone, LeavesOff, Says, Stay}
+use Rattle.run_rules.specs.Tasks.{Task, Write, Synthesise, Audit, Try, Bound, Order, Degrade}
+use Rattle.run_rules.specs.Said.{FilesValue, Says, Stay}
+use Rattle.run_rules.specs.Answers.{IsAnswer, IsAnswerAlone, LeavesOff}
 use Rattle.run_rules.specs.Read.{IsRefused}
 
 -- what is refused first is refused in all
@@ -40,3 +41,6 @@ nothing_left_off (Ok (Write text)) before after stay = stay
 nothing_left_off (Ok (Synthesise w t)) before after stay = λ name. inl (stay name)
 nothing_left_off (Ok (Audit r)) before after stay = stay
 nothing_left_off (Ok (Try n)) before after stay = stay
+nothing_left_off (Ok (Bound w t)) before after stay = λ name. inl (stay name)
+nothing_left_off (Ok (Order w t)) before after stay = stay
+nothing_left_off (Ok (Degrade r group width)) before after stay = stay

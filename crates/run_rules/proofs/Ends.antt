@@ -1,5 +1,5 @@
 -- With which statuses the answer to what is due ends: those of the command's row.
-use Rattle.std.proofs.Common.{◌≡◌, ◌==◌, ◌||◌, ℕ, Bool, true, false, not, IsTrue, nat_lt, length, List, [], ◌∷◌, Option, None, Some, Result, Ok, Err, refl, sym, subst, ap, cond}
+use Rattle.std.proofs.Common.{◌≡◌, ◌==◌, ◌||◌, ℕ, Bool, true, false, not, IsTrue, nat_lt, slice_get, length, List, ◌∷◌, Option, None, Some, Result, Ok, Err, refl, sym, subst}
 use Rattle.std.specs.List.{list_any}
 use Rattle.text_lines.specs.Check.{◌>>=◌, refuse, need}
 use Rattle.outer_ports.specs.Files.{Files}
@@ -7,10 +7,9 @@ use Rattle.collective_spec.specs.Collectives.{fits_kind}
 use Rattle.candidate_order.specs.Frontiers.{QuestionValue}
 use Rattle.topology_text.specs.Answer.{code_number as topology_number}
 use Rattle.topology_text.specs.Reading.{topology_of}
-use Rattle.topology_text.specs.Value.{NamedTopologyValue}
 use Rattle.report_form.specs.Answer.{code_number as report_number}
 use Rattle.report_form.specs.Reading.{report_of}
-use Rattle.report_form.specs.Reports.{WordsValue, ReportValue}
+use Rattle.report_form.specs.Reports.{ReportValue}
 use Rattle.round_encoding.specs.Candidates.{size_limit}
 use Rattle.candidate_formula.specs.Sizes.{size_of}
 use Rattle.frontier_audit.specs.declared.verdict.AuditVerdict.{AuditVerdict}
@@ -19,19 +18,29 @@ use Rattle.frontier_audit.specs.Auditing.{audit_of}
 use Rattle.frontier_audit.specs.Candidates.{counts_of}
 use Rattle.point_replay.specs.Showing.{shown_in, shown_text}
 use Rattle.point_replay.specs.Points.{programs_of_point}
+use Rattle.topology_text.specs.Spelling.{spelling}
+use Rattle.report_form.specs.Spelling.{report_text}
+use Rattle.json_values.specs.Json.{printed}
+use Rattle.json_values.specs.TopologyJson.{topology_json}
+use Rattle.json_exchange.specs.ReportJson.{report_json}
+use Rattle.json_values.specs.Answer.{code_number as json_number, topology_of_json}
+use Rattle.json_exchange.specs.Answer.{report_of_json}
+use Rattle.command_words.specs.declared.command.JsonWhat.TheVariants as what
 use Rattle.command_words.specs.declared.command.RootWord.{RootWord}
 use Rattle.command_words.specs.declared.command.SearchWords.{SearchWords}
-use Rattle.command_words.specs.declared.values.PointWord.{PointWord}
+use Rattle.command_words.specs.declared.command.PointWord.{PointWord}
 use Rattle.command_words.specs.declared.command.Command.{Command}
 use Rattle.command_words.specs.declared.command.Command.TheVariants as command
 use Rattle.run_rules.specs.declared.status.Status.{Status}
-use Rattle.run_rules.specs.declared.status.Status.TheVariants.{Done, BadWords, BadTopology, BadReport, Denied, TooLarge, NoCandidate, TooLong}
+use Rattle.run_rules.specs.declared.status.Status.TheVariants.{Done, BadWords, BadTopology, BadReport, Denied, TooLarge, NoCandidate, TooLong, BadJson}
 use Rattle.run_rules.specs.Statuses.{number_of}
-use Rattle.run_rules.specs.Refusals.{Refusal, refused_as}
-use Rattle.run_rules.specs.Commands.{IsOneOf, answers_of, row_of, search_row, check_row, point_row}
-use Rattle.run_rules.specs.Tasks.{Task, Write, Synthesise, Audit, Try, audit_asked, audit_in, fitting, point_in, programs_asked, programs_in, read_report, replay_asked, replay_in, root_in, search_asked, search_for, search_over, searchable, synthesis_asked, task_of, whole_question, whole_text, words_for}
+use Rattle.command_words.specs.declared.fault.WordCode.TheVariants.{KeyMissing}
+use Rattle.run_rules.specs.Refusals.{Refusal, refused_as, refused_word}
+use Rattle.run_rules.specs.Commands.{IsOneOf, answers_of, row_of, search_row, unkept_row, check_row, fault_row, json_row, point_row, unjson_row}
+use Rattle.run_rules.specs.Tasks.{Task, Write, Synthesise, Audit, Try, Bound, Order, Degrade, audit_in, degrade_in, fault_in, is_allreduce, json_programs_in, point_in, programs_in, programs_value, read_report, replay_in, root_in, search_asked, searchable, task_of, whole_question, whole_text, words_for}
 use Rattle.run_rules.specs.Audits.{audited, not_denied, verdict_status}
-use Rattle.run_rules.specs.Answers.{FilesValue, IsAnswer}
+use Rattle.run_rules.specs.Said.{FilesValue}
+use Rattle.run_rules.specs.Answers.{IsAnswer}
 
 -- what is refused is refused with such a status
 abbrev pub With : {A : Type 0} → (Status → Type 0) → Result A Refusal → Type 0
@@ -81,6 +90,10 @@ module _ (P : Status → Type 0) where
   pointed : P BadWords → (r : ReportValue) (asked : PointWord) → With P (point_in r asked)
   pointed bad r asked = needed _ _ bad
 
+  faulted : P BadWords → (r : ReportValue) (group group_word width width_word : ℕ) → With P (fault_in r group group_word width width_word)
+  faulted bad r group group_word width width_word =
+      bind _ _ (refused (is_allreduce r.words.collective.kind) _ bad) (λ _. bind _ _ (needed (slice_get r.topology.topology.groups group) _ bad) (λ old. refused (not (nat_lt width old.width)) _ bad))
+
 -- ---- command by command
 
 refused_in_row : (c : Command) (bytes : List ℕ) → With (IsOneOf (row_of c).refusals) (task_of c bytes)
@@ -98,6 +111,33 @@ refused_in_row (command.Programs number word) bytes =
     bind P _ _ (reported P refl bytes) (λ r. bind P _ _ (pointed P refl r (record { point = number; word = word })) (λ _. tt))
 refused_in_row (command.Family kind size) bytes = tt
 refused_in_row (command.Trial n) bytes = tt
+refused_in_row (command.Bound kind word limits root) bytes =
+    let P : Status → Type 0 = IsOneOf search_row.refusals in
+    bind P _ _ (sought P refl refl refl refl (record { kind = kind; kind_word = word; limits = limits; root = root }) bytes) (λ _. tt)
+refused_in_row (command.Ordered kind word limits root) bytes =
+    let P : Status → Type 0 = IsOneOf unkept_row.refusals in
+    bind P _ _ (sought P refl refl refl refl (record { kind = kind; kind_word = word; limits = limits; root = root }) bytes) (λ _. tt)
+refused_in_row (command.Degrade group group_word width width_word) bytes =
+    let P : Status → Type 0 = IsOneOf fault_row.refusals in
+    bind P _ _ (reported P refl bytes) (λ r. bind P _ _ (faulted P refl r group group_word width width_word) (λ _. bind P _ _ (sized P refl refl (whole_question r.words r.topology)) (λ _. tt)))
+refused_in_row (command.Json what.Topology point) bytes =
+    let P : Status → Type 0 = IsOneOf (json_row what.Topology).refusals in
+    bind P _ _ (coded P BadTopology topology_number (topology_of bytes) refl) (λ _. tt)
+refused_in_row (command.Json what.Report point) bytes =
+    let P : Status → Type 0 = IsOneOf (json_row what.Report).refusals in
+    bind P _ _ (reported P refl bytes) (λ _. tt)
+refused_in_row (command.Json what.Programs point) bytes =
+    let P : Status → Type 0 = IsOneOf point_row.refusals in
+    bind P _ _ (reported P refl bytes) (λ r. bind P _ _ (needed P point _ refl) (λ asked. bind P _ _ (pointed P refl r asked) (λ _. tt)))
+refused_in_row (command.Unjson what.Topology) bytes =
+    let P : Status → Type 0 = IsOneOf unjson_row.refusals in
+    bind P _ _ (coded P BadJson json_number (topology_of_json bytes) refl) (λ _. tt)
+refused_in_row (command.Unjson what.Report) bytes =
+    let P : Status → Type 0 = IsOneOf unjson_row.refusals in
+    bind P _ _ (coded P BadJson json_number (report_of_json bytes) refl) (λ _. tt)
+refused_in_row (command.Unjson what.Programs) bytes =
+    let P : Status → Type 0 = IsOneOf unjson_row.refusals in
+    bind P _ _ (coded P BadJson json_number (topology_of_json bytes) refl) (λ _. tt)
 
 -- and so is each refusal of a command
 pub refused_with : (c : Command) (bytes : List ℕ) (r : Refusal) → task_of c bytes ≡ Err r → IsOneOf (row_of c).refusals r.status
@@ -106,6 +146,7 @@ refused_with c bytes r e = subst (With (IsOneOf (row_of c).refusals)) e (refused
 -- only a report that is checked may be denied
 abbrev MayDeny : (Status → Type 0) → Result Task Refusal → Type 0
 MayDeny P (Ok (Audit r)) = P Denied
+MayDeny P (Ok (Degrade r group width)) = P Denied
 MayDeny P _ = Unit {0}
 
 behind : {A : Type 0} (P : Status → Type 0) (x : Result A Refusal) (f : A → Result Task Refusal) → ((a : A) → MayDeny P (f a)) → MayDeny P (x >>= f)
@@ -128,6 +169,28 @@ denied_in_row (command.Programs number word) bytes =
     behind P (read_report bytes) (λ r. programs_in r asked) (λ r. behind P (point_in r asked) (λ p. Ok (Write (programs_of_point r number p))) (λ _. tt))
 denied_in_row (command.Family kind size) bytes = tt
 denied_in_row (command.Trial n) bytes = tt
+denied_in_row (command.Bound kind word limits root) bytes =
+    behind (IsOneOf search_row.refusals) (search_asked (record { kind = kind; kind_word = word; limits = limits; root = root }) bytes) (λ s. Ok (Bound s.0 s.1)) (λ _. tt)
+denied_in_row (command.Ordered kind word limits root) bytes =
+    behind (IsOneOf unkept_row.refusals) (search_asked (record { kind = kind; kind_word = word; limits = limits; root = root }) bytes) (λ s. Ok (Order s.0 s.1)) (λ _. tt)
+denied_in_row (command.Degrade group group_word width width_word) bytes =
+    let P : Status → Type 0 = IsOneOf fault_row.refusals in
+    behind P (read_report bytes) (λ r. degrade_in r group group_word width width_word) (λ r. behind P (fault_in r group group_word width width_word) (λ _. searchable (whole_question r.words r.topology) >>= (λ _. Ok (Degrade r group width)))
+    (λ _. behind P (searchable (whole_question r.words r.topology)) (λ _. Ok (Degrade r group width)) (λ _. refl)))
+denied_in_row (command.Json what.Topology point) bytes =
+    behind (IsOneOf (json_row what.Topology).refusals) (refused_as BadTopology topology_number (topology_of bytes)) (λ t. Ok (Write (printed (topology_json t)))) (λ _. tt)
+denied_in_row (command.Json what.Report point) bytes =
+    behind (IsOneOf (json_row what.Report).refusals) (read_report bytes) (λ r. Ok (Write (printed (report_json r)))) (λ _. tt)
+denied_in_row (command.Json what.Programs point) bytes =
+    let P : Status → Type 0 = IsOneOf point_row.refusals in
+    behind P (read_report bytes) (λ r. json_programs_in r point) (λ r. behind P (need point (refused_word KeyMissing 0)) (λ asked. point_in r asked >>= (λ p. Ok (Write (printed (programs_value r asked.point p)))))
+    (λ asked. behind P (point_in r asked) (λ p. Ok (Write (printed (programs_value r asked.point p)))) (λ _. tt)))
+denied_in_row (command.Unjson what.Topology) bytes =
+    behind (IsOneOf unjson_row.refusals) (refused_as BadJson json_number (topology_of_json bytes)) (λ t. Ok (Write (spelling t))) (λ _. tt)
+denied_in_row (command.Unjson what.Report) bytes =
+    behind (IsOneOf unjson_row.refusals) (refused_as BadJson json_number (report_of_json bytes)) (λ r. Ok (Write (report_text r))) (λ _. tt)
+denied_in_row (command.Unjson what.Programs) bytes =
+    behind (IsOneOf unjson_row.refusals) (refused_as BadJson json_number (topology_of_json bytes)) (λ t. Ok (Write (spelling t))) (λ _. tt)
 
 -- ---- an answer
 
@@ -153,6 +216,13 @@ answer_ends refusals (Ok (Synthesise w t)) files status text listed deny answer 
 answer_ends refusals (Ok (Audit r)) files status text listed deny answer =
     subst (IsOneOf (Done ∷ refusals)) (sym answer.says.status) (audit_ends (IsOneOf (Done ∷ refusals)) refl (one_more Done refusals Denied deny) r answer.over)
 answer_ends refusals (Ok (Try n)) files status text listed deny answer = subst (IsOneOf (Done ∷ refusals)) (sym answer.done) refl
+answer_ends refusals (Ok (Bound w t)) files status text listed deny answer = subst (IsOneOf (Done ∷ refusals)) (sym answer.says.status) refl
+answer_ends refusals (Ok (Order w t)) files status text listed deny answer = subst (IsOneOf (Done ∷ refusals)) (sym answer.says.status) refl
+answer_ends refusals (Ok (Degrade r group width)) files status text listed deny answer = by_verdict (audited r answer.over) refl
+  where
+    by_verdict : (x : Result (Unit {0}) Refusal) → audited r answer.over ≡ x → IsOneOf (Done ∷ refusals) status
+    by_verdict (Ok u) is = subst (IsOneOf (Done ∷ refusals)) (sym (answer.done is).says.status) refl
+    by_verdict (Err why) is = subst (IsOneOf (Done ∷ refusals)) (sym (answer.denied why is).status) (subst (λ x. IsOneOf (Done ∷ refusals) (verdict_status x)) is (audit_ends (IsOneOf (Done ∷ refusals)) refl (one_more Done refusals Denied deny) r answer.over))
 
 pub command_ends : (c : Command) (bytes : List ℕ) (files : FilesValue) (status : Status) (text : List ℕ) → IsAnswer (task_of c bytes) files status text → IsOneOf (answers_of c) status
 command_ends c bytes files status text = answer_ends (row_of c).refusals (task_of c bytes) files status text (refused_in_row c bytes) (denied_in_row c bytes)

@@ -1,6 +1,7 @@
 -- What is due for the words of a search, check by check.
-use Rattle.std.proofs.Common.{◌≡◌, ◌⊎◌, inl, inr, ℕ, Bool, true, false, not, List, Result, Ok, Err, ap, ◌∙◌}
+use Rattle.std.proofs.Common.{◌≡◌, ◌⊎◌, inl, inr, ℕ, Bool, true, false, not, List, Result, Ok, Err, sym, ap, ◌∙◌}
 use Rattle.text_lines.specs.Check.{◌>>=◌, refuse}
+use Rattle.text_lines.proofs.Checks.{bind_ok, ok_is}
 use Rattle.collective_spec.specs.Collectives.{fits_kind}
 use Rattle.topology_text.specs.declared.fault.TopologyCode.{TopologyCode}
 use Rattle.topology_text.specs.declared.fault.TopologyCode.TheVariants.{OutOfMemory}
@@ -12,7 +13,7 @@ use Rattle.command_words.specs.declared.fault.WordCode.TheVariants.{CustomMismat
 use Rattle.report_form.specs.Reports.{WordsValue}
 use Rattle.run_rules.specs.declared.status.Status.TheVariants.{BadTopology}
 use Rattle.run_rules.specs.Refusals.{Refusal, refused_as, refused_at, refused_word}
-use Rattle.run_rules.specs.Tasks.{root_in, search_asked, search_for, search_over, searchable, whole_question, words_for}
+use Rattle.run_rules.specs.Tasks.{fitting, root_in, search_asked, search_for, search_over, searchable, whole_question, words_for}
 
 -- ---- what can be searched
 
@@ -51,3 +52,18 @@ pub no_topology : (asked : SearchWords) (bytes : List ℕ) (code : TopologyCode)
     → search_asked asked bytes ≡ Err (refused_at BadTopology (topology_number code) line)
 no_topology asked bytes code line (inl memory) other = absurd (other memory.0)
 no_topology asked bytes code line (inr e) other = ap (λ x. refused_as BadTopology topology_number x >>= search_over asked) e
+
+-- ---- the search is of the kind that the words name
+
+same_words : (v w : WordsValue) (t s : NamedTopologyValue) → search_for v t ≡ Ok (w, s) → w ≡ v
+same_words v w t s e =
+    let can = bind_ok (searchable (whole_question v t)) (λ _. Ok (v, t)) (w, s) e in
+    ap (λ (p : WordsValue × NamedTopologyValue). p.0) (sym (ok_is {C = Refusal} (v, t) (w, s) can.2))
+
+pub same_kind : (asked : SearchWords) (bytes : List ℕ) (w : WordsValue) (t : NamedTopologyValue) → search_asked asked bytes ≡ Ok (w, t) → w.collective.kind ≡ asked.kind
+same_kind asked bytes w t e =
+    let read = bind_ok (refused_as BadTopology topology_number (topology_of bytes)) (search_over asked) (w, t) e in
+    let given = read.0 in
+    let fits = bind_ok (fitting asked given) (λ _. over asked given (root_in given.names asked.root)) (w, t) read.2 in
+    let rooted = bind_ok (root_in given.names asked.root) (λ n. search_for (words_for asked n) given) (w, t) fits.2 in
+    ap (λ (v : WordsValue). v.collective.kind) (same_words (words_for asked rooted.0) w given t rooted.2)

@@ -1,5 +1,5 @@
 -- The answer to what is due: its status, its text, and the files that it leaves. This project's own; the synthesis theorem is the case of a search.
-use Rattle.std.specs.Prelude.{◌≡◌, ℕ, Bool, IsTrue, List, Result, Ok, Err}
+use Rattle.std.specs.Prelude.{◌≡◌, ℕ, IsTrue, List, Result, Ok, Err}
 use Rattle.outer_ports.specs.Files.{Files}
 use Rattle.outer_ports.specs.Shelf.{FilesStay}
 use Rattle.topology_text.specs.Value.{NamedTopologyValue}
@@ -11,31 +11,13 @@ use Rattle.frontier_audit.specs.Shelves.{ShelfRight}
 use Rattle.run_rules.specs.declared.status.Status.{Status}
 use Rattle.run_rules.specs.declared.status.Status.TheVariants.{Done}
 use Rattle.run_rules.specs.Refusals.{Refusal, refusal_line}
-use Rattle.run_rules.specs.Tasks.{Task, Write, Synthesise, Audit, Try}
+pub use Rattle.run_rules.specs.Said.{FilesValue, IsSaid, Says, Stay}
+use Rattle.run_rules.specs.Tasks.{Task, Write, Synthesise, Audit, Try, Bound, Order, Degrade}
 use Rattle.run_rules.specs.Audits.{audited, verdict_status, verdict_text}
 use Rattle.run_rules.specs.Tries.{Tries}
-
--- the files of the shelf before and after, and whether it tells them
-pub record FilesValue : Type 0 where
-  pub told : Bool
-  pub before : Files
-  pub after : Files
-
--- no file changed, as far as the shelf tells
-abbrev pub Stay : FilesValue → Type 0
-Stay files = IsTrue files.told → FilesStay files.before files.after
-
--- ---- what is answered
-
--- this status and this text
-pub record Says (said : Status) (words : List ℕ) (ended : Status) (written : List ℕ) : Type 0 where
-  pub status : ended ≡ said
-  pub text : written ≡ words
-
--- just that, and no file changed
-pub record IsSaid (said : Status) (words : List ℕ) (files : FilesValue) (status : Status) (text : List ℕ) : Type 0 where
-  pub says : Says said words status text
-  pub stay : Stay files
+use Rattle.run_rules.specs.Bounds.{IsBound}
+use Rattle.run_rules.specs.Orders.{IsOrdered}
+use Rattle.run_rules.specs.Degraded.{IsDegraded}
 
 -- a search: the text of one report of these words and this topology, which is right and searched in order, and whose proofs the files are
 pub record IsSearch (w : WordsValue) (t : NamedTopologyValue) (files : FilesValue) (status : Status) (text : List ℕ) : Type 0 where
@@ -74,6 +56,9 @@ IsAnswer (Ok (Write text)) = IsSaid Done text
 IsAnswer (Ok (Synthesise w t)) = IsSearch w t
 IsAnswer (Ok (Audit r)) = IsAudit r
 IsAnswer (Ok (Try n)) = IsTrial n
+IsAnswer (Ok (Bound w t)) = IsBound w t
+IsAnswer (Ok (Order w t)) = IsOrdered w t
+IsAnswer (Ok (Degrade r group width)) = IsDegraded r group width
 
 -- the same beside any files that stay: of what opens no shelf
 abbrev pub IsAnswerAlone : Result Task Refusal → Status → List ℕ → Type 0
@@ -84,4 +69,5 @@ IsAnswerAlone due status text = (files : FilesValue) → Stay files → IsAnswer
 -- a search has begun files of its own; of all else every file is as before
 abbrev pub LeavesOff : Result Task Refusal → Files → Files → Type 0
 LeavesOff (Ok (Synthesise w t)) before after = BreaksOff w t before after
+LeavesOff (Ok (Bound w t)) before after = BreaksOff w t before after
 LeavesOff _ before after = FilesStay before after

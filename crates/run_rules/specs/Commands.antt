@@ -1,12 +1,14 @@
 -- What each command does with the ports, and how it can end: one row for each. This project's own.
 use Rattle.std.specs.Prelude.{◌≡◌, ◌==◌, ℕ, Bool, true, false, IsTrue, if◌then◌else◌, List, [], ◌∷◌, ◌++◌, Result, Ok, Err}
 use Rattle.std.specs.List.{list_any}
+use Rattle.command_words.specs.declared.command.JsonWhat.{JsonWhat}
+use Rattle.command_words.specs.declared.command.JsonWhat.TheVariants as what
 use Rattle.command_words.specs.declared.command.Command.{Command}
 use Rattle.command_words.specs.declared.command.Command.TheVariants as command
 use Rattle.command_words.specs.declared.fault.WordFault.{WordFault}
 use Rattle.command_words.specs.Words.{command_of}
 use Rattle.run_rules.specs.declared.status.Status.{Status}
-use Rattle.run_rules.specs.declared.status.Status.TheVariants.{Done, BadWords, BadTopology, SourceFailed, ShelfFailed, BadReport, Denied, TooLarge, NoCandidate, TooLong}
+use Rattle.run_rules.specs.declared.status.Status.TheVariants.{Done, BadWords, BadTopology, SourceFailed, ShelfFailed, BadReport, Denied, TooLarge, NoCandidate, TooLong, BadJson}
 use Rattle.run_rules.specs.Statuses.{number_of}
 
 -- whether a command reads the source, opens the files of the shelf, and changes them; and with which refusals it can end
@@ -24,9 +26,26 @@ search_row = record { reads = true; opens = true; changes = true; refusals = Bad
 abbrev pub check_row : RowValue
 check_row = record { reads = true; opens = true; changes = false; refusals = BadReport ∷ Denied ∷ TooLarge ∷ NoCandidate ∷ TooLong ∷ [] }
 
+-- a search whose proofs are not kept
+abbrev pub unkept_row : RowValue
+unkept_row = record { reads = true; opens = false; changes = false; refusals = BadWords ∷ BadTopology ∷ TooLarge ∷ NoCandidate ∷ TooLong ∷ [] }
+
+-- a report that is checked, and searched anew after a fault
+abbrev pub fault_row : RowValue
+fault_row = record { reads = true; opens = true; changes = false; refusals = BadWords ∷ BadReport ∷ Denied ∷ TooLarge ∷ NoCandidate ∷ TooLong ∷ [] }
+
 -- what is shown of a point of a report
 abbrev pub point_row : RowValue
 point_row = record { reads = true; opens = false; changes = false; refusals = BadWords ∷ BadReport ∷ TooLong ∷ [] }
+
+-- a value that is written as JSON, and one that is read so
+abbrev pub json_row : JsonWhat → RowValue
+json_row what.Topology = record { reads = true; opens = false; changes = false; refusals = BadTopology ∷ TooLong ∷ [] }
+json_row what.Report = record { reads = true; opens = false; changes = false; refusals = BadReport ∷ TooLong ∷ [] }
+json_row what.Programs = point_row
+
+abbrev pub unjson_row : RowValue
+unjson_row = record { reads = true; opens = false; changes = false; refusals = TooLong ∷ BadJson ∷ [] }
 
 -- what words alone decide
 abbrev pub word_row : RowValue
@@ -39,6 +58,11 @@ row_of (command.Replay number word order) = point_row
 row_of (command.Programs number word) = point_row
 row_of (command.Family kind size) = word_row
 row_of (command.Trial n) = word_row
+row_of (command.Bound kind word limits root) = search_row
+row_of (command.Ordered kind word limits root) = unkept_row
+row_of (command.Degrade group group_word width width_word) = fault_row
+row_of (command.Json value point) = json_row value
+row_of (command.Unjson value) = unjson_row
 
 -- ---- what follows of a row
 
@@ -72,4 +96,4 @@ ends_of (Ok c) = (if (row_of c).reads then SourceFailed ∷ [] else []) ++ ((if 
 
 -- the words, the text or the size of a search are refused, before the shelf is opened
 abbrev pub IsRefusal : Status → Type 0
-IsRefusal = IsOneOf (BadWords ∷ BadTopology ∷ BadReport ∷ TooLarge ∷ NoCandidate ∷ TooLong ∷ [])
+IsRefusal = IsOneOf (BadWords ∷ BadTopology ∷ BadReport ∷ TooLarge ∷ NoCandidate ∷ TooLong ∷ BadJson ∷ [])

@@ -6,6 +6,10 @@ pub mod Trials
 pub mod Tries
 pub mod Tasks
 pub mod Audits
+pub mod Said
+pub mod Bounds
+pub mod Orders
+pub mod Degraded
 pub mod Answers
 pub mod Read
 pub mod Rows

@@ -1,10 +1,11 @@
 -- What the words and the text that is read ask for, or the first check that refuses them: words, length, text, root or point, size, candidates. This project's own.
-use Rattle.std.specs.Prelude.{ℕ, ◌==◌, not, Bool, true, false, List, length, nat_lt, Option, None, Some, Result, Ok, Err}
+use Rattle.std.specs.Prelude.{ℕ, ◌==◌, not, Bool, true, false, List, length, nat_lt, slice_get, Option, None, Some, Result, Ok, Err}
 use Rattle.outer_ports.specs.declared.part.Part.{Part}
 use Rattle.text_lines.specs.Check.{◌>>=◌, refuse, need}
+use Rattle.serde_json.specs.Data.{Data}
 use Rattle.collective_spec.specs.declared.kind.Kind.{Kind}
+use Rattle.collective_spec.specs.declared.kind.Kind.TheVariants.{Allreduce}
 use Rattle.collective_spec.specs.Collectives.{spec_of, fits_kind}
-use Rattle.candidate_order.specs.Ranges.{LimitsValue}
 use Rattle.candidate_order.specs.Frontiers.{QuestionValue, PointValue}
 use Rattle.topology_text.specs.Value.{NamedTopologyValue}
 use Rattle.topology_text.specs.Answer.{code_number as topology_number}
@@ -18,17 +19,27 @@ use Rattle.report_form.specs.Reading.{report_of}
 use Rattle.round_encoding.specs.Candidates.{size_limit}
 use Rattle.candidate_formula.specs.Sizes.{size_of}
 use Rattle.frontier_audit.specs.Candidates.{counts_of}
-use Rattle.point_replay.specs.Showing.{shown_in, shown_text}
+use Rattle.report_form.specs.Spelling.{report_text}
+use Rattle.node_programs.specs.Programs.{programs_of}
+use Rattle.point_replay.specs.Showing.{adding_of, nodes_of, shown_in, shown_text}
+use Rattle.json_values.specs.Answer.{code_number as json_number, topology_of_json}
+use Rattle.json_values.specs.Json.{printed}
+use Rattle.json_values.specs.TopologyJson.{topology_json}
+use Rattle.json_exchange.specs.Answer.{report_of_json}
+use Rattle.json_exchange.specs.ReportJson.{report_json}
+use Rattle.json_exchange.specs.ProgramsJson.{programs_json}
 use Rattle.point_replay.specs.Points.{programs_of_point}
+use Rattle.command_words.specs.declared.command.JsonWhat.{JsonWhat}
+use Rattle.command_words.specs.declared.command.JsonWhat.TheVariants as what
 use Rattle.command_words.specs.declared.command.RootWord.{RootWord}
 use Rattle.command_words.specs.declared.command.SearchWords.{SearchWords}
-use Rattle.command_words.specs.declared.values.PointWord.{PointWord}
+use Rattle.command_words.specs.declared.command.PointWord.{PointWord}
 use Rattle.command_words.specs.declared.command.Command.{Command}
 use Rattle.command_words.specs.declared.command.Command.TheVariants as command
 use Rattle.command_words.specs.declared.fault.WordFault.{WordFault}
-use Rattle.command_words.specs.declared.fault.WordCode.TheVariants.{UnknownRoot, UnknownPoint, CustomMismatch}
+use Rattle.command_words.specs.declared.fault.WordCode.TheVariants.{KeyMissing, UnknownRoot, UnknownPoint, CustomMismatch, ReportNotTaken, UnknownGroup, NotNarrower}
 use Rattle.command_words.specs.Words.{command_of}
-use Rattle.run_rules.specs.declared.status.Status.TheVariants.{BadTopology, BadReport, TooLarge, NoCandidate, TooLong}
+use Rattle.run_rules.specs.declared.status.Status.TheVariants.{BadTopology, BadReport, TooLarge, NoCandidate, TooLong, BadJson}
 use Rattle.run_rules.specs.Refusals.{Refusal, refused_at, refused_as, refused_word}
 use Rattle.run_rules.specs.Commands.{row_of}
 
@@ -38,6 +49,9 @@ pub data Task : Type 0 where
   Synthesise : WordsValue → NamedTopologyValue → Task
   Audit : ReportValue → Task
   Try : ℕ → Task
+  Bound : WordsValue → NamedTopologyValue → Task
+  Order : WordsValue → NamedTopologyValue → Task
+  Degrade : ReportValue → ℕ → ℕ → Task
 
 -- ---- the length
 
@@ -97,7 +111,21 @@ synthesis_asked asked bytes = do
   search ← search_asked asked bytes
   Ok (Synthesise search.0 search.1)
 
+abbrev pub bound_asked : SearchWords → List ℕ → Result Task Refusal
+bound_asked asked bytes = do
+  search ← search_asked asked bytes
+  Ok (Bound search.0 search.1)
+
+abbrev pub order_asked : SearchWords → List ℕ → Result Task Refusal
+order_asked asked bytes = do
+  search ← search_asked asked bytes
+  Ok (Order search.0 search.1)
+
 -- ---- reports
+
+abbrev pub is_allreduce : Kind → Bool
+is_allreduce Allreduce = true
+is_allreduce _ = false
 
 abbrev pub read_report : List ℕ → Result ReportValue Refusal
 read_report bytes = refused_as BadReport report_number (report_of bytes)
@@ -113,6 +141,25 @@ abbrev pub audit_asked : List ℕ → Result Task Refusal
 audit_asked bytes = do
   report ← read_report bytes
   audit_in report
+
+-- a fault of a group that the report has, and that it narrows
+abbrev pub fault_in : ReportValue → ℕ → ℕ → ℕ → ℕ → Result (Unit {0}) Refusal
+fault_in report group group_word width width_word = do
+  _ ← refuse (is_allreduce report.words.collective.kind) (refused_word ReportNotTaken 0)
+  old ← need (slice_get report.topology.topology.groups group) (refused_word UnknownGroup group_word)
+  refuse (not (nat_lt width old.width)) (refused_word NotNarrower width_word)
+
+-- the report whose files are to be looked at, and whose search is to be done anew
+abbrev pub degrade_in : ReportValue → ℕ → ℕ → ℕ → ℕ → Result Task Refusal
+degrade_in report group group_word width width_word = do
+  _ ← fault_in report group group_word width width_word
+  _ ← searchable (whole_question report.words report.topology)
+  Ok (Degrade report group width)
+
+abbrev pub degrade_asked : ℕ → ℕ → ℕ → ℕ → List ℕ → Result Task Refusal
+degrade_asked group group_word width width_word bytes = do
+  report ← read_report bytes
+  degrade_in report group group_word width width_word
 
 -- the point that the word asks for
 abbrev pub point_in : ReportValue → PointWord → Result (Part × PointValue) Refusal
@@ -140,6 +187,40 @@ programs_asked asked bytes = do
   report ← read_report bytes
   programs_in report asked
 
+-- ---- JSON
+
+-- the programs that carry the schedule of a point out
+abbrev pub programs_value : ReportValue → ℕ → Part × PointValue → Data
+programs_value r number p = let s = shown_in r p in programs_json number r.topology.names (programs_of (nodes_of s) p.1.schedule (adding_of s))
+
+-- those of the point that the word asks for, which stands there with programs
+abbrev pub json_programs_in : ReportValue → Option PointWord → Result Task Refusal
+json_programs_in report word = do
+  asked ← need word (refused_word KeyMissing 0)
+  point ← point_in report asked
+  Ok (Write (printed (programs_value report asked.point point)))
+
+-- what is written as JSON
+abbrev pub json_asked : JsonWhat → Option PointWord → List ℕ → Result Task Refusal
+json_asked what.Topology point bytes = do
+  topology ← refused_as BadTopology topology_number (topology_of bytes)
+  Ok (Write (printed (topology_json topology)))
+json_asked what.Report point bytes = do
+  report ← read_report bytes
+  Ok (Write (printed (report_json report)))
+json_asked what.Programs point bytes = do
+  report ← read_report bytes
+  json_programs_in report point
+
+-- the text of what is read as JSON
+abbrev pub unjson_asked : JsonWhat → List ℕ → Result Task Refusal
+unjson_asked what.Report bytes = do
+  report ← refused_as BadJson json_number (report_of_json bytes)
+  Ok (Write (report_text report))
+unjson_asked _ bytes = do
+  topology ← refused_as BadJson json_number (topology_of_json bytes)
+  Ok (Write (spelling topology))
+
 -- ---- what is due
 
 -- what a command asks for, over bytes that came whole
@@ -150,6 +231,11 @@ task_of (command.Replay number word order) bytes = replay_asked (record { point 
 task_of (command.Programs number word) bytes = programs_asked (record { point = number; word = word }) bytes
 task_of (command.Family kind size) bytes = Ok (Write (spelling (family_of kind size)))
 task_of (command.Trial n) bytes = Ok (Try n)
+task_of (command.Bound kind word limits root) bytes = bound_asked (record { kind = kind; kind_word = word; limits = limits; root = root }) bytes
+task_of (command.Ordered kind word limits root) bytes = order_asked (record { kind = kind; kind_word = word; limits = limits; root = root }) bytes
+task_of (command.Degrade group group_word width width_word) bytes = degrade_asked group group_word width width_word bytes
+task_of (command.Json value point) bytes = json_asked value point bytes
+task_of (command.Unjson value) bytes = unjson_asked value bytes
 
 -- the words are a command, or are refused
 abbrev pub words_asked : Result Command WordFault → Result Command Refusal

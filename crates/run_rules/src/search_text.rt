@@ -111,7 +111,7 @@ fn search_over(
 }
 
 /// The refusal of a text that is no topology.
-fn bad_topology(alloc: Global, fault: TopologyFault) -> Result<Answer, OutOfMemory>
+pub fn bad_topology(alloc: Global, fault: TopologyFault) -> Result<Answer, OutOfMemory>
     ensures code { IfOk result (λ _. fault.code ≢ TopologyCode.OutOfMemory) }
     ensures says { IfOk result (λ a. Says Status.BadTopology (refusal_line (refused_at Status.BadTopology (topology_number fault.code) fault.line)) a.status a.text.items) }
 {

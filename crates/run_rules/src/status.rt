@@ -30,10 +30,12 @@ pub enum Status {
     NoCandidate = 10,
     /// More than 1,048,576 bytes came.
     TooLong = 11,
+    /// What was read is no JSON, or none of a value that is asked for.
+    BadJson = 12,
 }
 
 impl Status {
-    /// The exit status, from 0 to 11.
+    /// The exit status, from 0 to 12.
     pub fn number(self) -> u8
         ensures { result ≡ number_of self }
     {

@@ -6,6 +6,7 @@ use std::alloc::{AllocError, Global};
 use std::process::Abort;
 
 mod checks;
+mod exchanges;
 mod ports;
 mod proofs;
 mod reports;

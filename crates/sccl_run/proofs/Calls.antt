@@ -2,6 +2,7 @@
 use Rattle.std.proofs.Common.{◌≡◌, ◌≢◌, ◌==◌, ◌||◌, ◌++◌, ℕ, Bool, true, false, IsTrue, List, [], ◌∷◌, inl, inr, Result, Ok, Err, refl, sym, subst, ap, ◌∙◌, if◌then◌else◌}
 use Rattle.std.specs.List.{list_any}
 use Rattle.outer_ports.specs.Port.{Rose}
+use Rattle.command_words.specs.declared.command.JsonWhat.TheVariants as what
 use Rattle.command_words.specs.declared.command.Command.{Command}
 use Rattle.command_words.specs.declared.command.Command.TheVariants as command
 use Rattle.command_words.specs.declared.fault.WordFault.{WordFault}
@@ -58,6 +59,13 @@ not_given (command.Replay number word order) = (λ no. absurd (cc), λ no. absur
 not_given (command.Programs number word) = (λ no. absurd (cc), λ no. absurd (cc), λ no. absurd (cc), λ no. absurd (cc))
 not_given (command.Family kind size) = (λ no. absurd (cc), λ no. absurd (cc), λ no. absurd (cc), λ no. absurd (cc))
 not_given (command.Trial n) = (λ no. absurd (cc), λ no. absurd (cc), λ no. absurd (cc), λ no. absurd (cc))
+not_given (command.Bound kind word limits root) = (λ no. absurd (cc), λ no. absurd (cc), λ no. absurd (cc), λ no. absurd (cc))
+not_given (command.Ordered kind word limits root) = (λ no. absurd (cc), λ no. absurd (cc), λ no. absurd (cc), λ no. absurd (cc))
+not_given (command.Degrade group group_word width width_word) = (λ no. absurd (cc), λ no. absurd (cc), λ no. absurd (cc), λ no. absurd (cc))
+not_given (command.Json what.Topology point) = (λ no. absurd (cc), λ no. absurd (cc), λ no. absurd (cc), λ no. absurd (cc))
+not_given (command.Json what.Report point) = (λ no. absurd (cc), λ no. absurd (cc), λ no. absurd (cc), λ no. absurd (cc))
+not_given (command.Json what.Programs point) = (λ no. absurd (cc), λ no. absurd (cc), λ no. absurd (cc), λ no. absurd (cc))
+not_given (command.Unjson value) = (λ no. absurd (cc), λ no. absurd (cc), λ no. absurd (cc), λ no. absurd (cc))
 
 -- with these statuses there is no answer
 pub record IsGiven (s : Status) : Type 0 where

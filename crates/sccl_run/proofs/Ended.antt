@@ -1,5 +1,6 @@
 -- How a right run ends, by what is due for its words and the bytes that its source had.
 use Rattle.std.proofs.Common.{◌≡◌, ◌≢◌, ℕ, List, Result, Ok, Err, refl, sym, subst, ap, ◌∙◌}
+use Rattle.command_words.specs.declared.command.JsonWhat.TheVariants as what
 use Rattle.command_words.specs.declared.command.Command.{Command}
 use Rattle.command_words.specs.declared.command.Command.TheVariants as command
 use Rattle.command_words.specs.declared.fault.WordFault.{WordFault}
@@ -21,6 +22,13 @@ same_for (command.Replay number word order) bytes came are = ap (due_for (comman
 same_for (command.Programs number word) bytes came are = ap (due_for (command.Programs number word)) (are refl)
 same_for (command.Family kind size) bytes came are = refl
 same_for (command.Trial n) bytes came are = refl
+same_for (command.Bound kind word limits root) bytes came are = ap (due_for (command.Bound kind word limits root)) (are refl)
+same_for (command.Ordered kind word limits root) bytes came are = ap (due_for (command.Ordered kind word limits root)) (are refl)
+same_for (command.Degrade group group_word width width_word) bytes came are = ap (due_for (command.Degrade group group_word width width_word)) (are refl)
+same_for (command.Json what.Topology point) bytes came are = ap (due_for (command.Json what.Topology point)) (are refl)
+same_for (command.Json what.Report point) bytes came are = ap (due_for (command.Json what.Report point)) (are refl)
+same_for (command.Json what.Programs point) bytes came are = ap (due_for (command.Json what.Programs point)) (are refl)
+same_for (command.Unjson value) bytes came are = ap (due_for (command.Unjson value)) (are refl)
 
 same_due : (words : List (List ℕ)) (bytes came : List ℕ) → (Ask Reads words → came ≡ bytes) → due words came ≡ due words bytes
 same_due words bytes came are = by_words (command_of words) refl

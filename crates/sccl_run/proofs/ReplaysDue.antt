@@ -4,7 +4,7 @@ use Rattle.text_lines.specs.Check.{◌>>=◌, need}
 use Rattle.outer_ports.specs.declared.part.Part.{Part}
 use Rattle.candidate_order.specs.Frontiers.{PointValue}
 use Rattle.command_words.specs.declared.command.Command.TheVariants as command
-use Rattle.command_words.specs.declared.values.PointWord.{PointWord}
+use Rattle.command_words.specs.declared.command.PointWord.{PointWord}
 use Rattle.command_words.specs.declared.fault.WordCode.TheVariants.{UnknownPoint}
 use Rattle.report_form.specs.declared.fault.ReportCode.{ReportCode}
 use Rattle.report_form.specs.Answer.{code_number}

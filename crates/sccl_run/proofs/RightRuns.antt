@@ -1,7 +1,11 @@
 -- What a right run says, drawn out.
 use Rattle.std.proofs.Common.{◌≡◌, ◌≢◌, ◌++◌, ℕ, Bool, true, false, nat_lt, length, List, inl, inr, Result, Ok, Err, refl, sym, subst, ap, ◌∙◌}
 use Rattle.std.proofs.lemmas.List.Elements.{All-contains}
-use Rattle.text_lines.specs.Check.{◌>>=◌, refuse}
+use Rattle.text_lines.specs.Check.{◌>>=◌, need, refuse}
+use Rattle.topology_text.specs.Answer.{code_number as topology_number}
+use Rattle.topology_text.specs.Reading.{topology_of}
+use Rattle.json_values.specs.Answer.{code_number as json_number, topology_of_json}
+use Rattle.json_exchange.specs.Answer.{report_of_json}
 use Rattle.outer_ports.specs.Shelf.{FilesStay}
 use Rattle.topology_text.specs.Value.{NamedTopologyValue}
 use Rattle.candidate_order.specs.Frontiers.{RightFrontier, IsSolvable}
@@ -10,16 +14,23 @@ use Rattle.report_form.specs.Reports.{WordsValue, ReportValue, question_of}
 use Rattle.frontier_audit.specs.Rights.{IsRight, IsRightPart}
 use Rattle.point_replay.specs.Showing.{shown_in, shown_text}
 use Rattle.point_replay.specs.Points.{programs_of_point}
+use Rattle.topology_text.specs.Spelling.{spelling}
+use Rattle.report_form.specs.Spelling.{report_text}
+use Rattle.json_values.specs.Json.{printed}
+use Rattle.json_values.specs.TopologyJson.{topology_json}
+use Rattle.json_exchange.specs.ReportJson.{report_json}
+use Rattle.command_words.specs.declared.fault.WordCode.TheVariants.{KeyMissing}
 use Rattle.run_rules.specs.declared.status.Status.{Status}
+use Rattle.command_words.specs.declared.command.JsonWhat.TheVariants as what
 use Rattle.command_words.specs.declared.command.Command.{Command}
 use Rattle.command_words.specs.declared.command.Command.TheVariants as command
 use Rattle.command_words.specs.declared.fault.WordFault.{WordFault}
-use Rattle.command_words.specs.declared.values.PointWord.{PointWord}
+use Rattle.command_words.specs.declared.command.PointWord.{PointWord}
 use Rattle.command_words.specs.Words.{command_of}
-use Rattle.run_rules.specs.declared.status.Status.TheVariants.{Done, BadWords, TooLong, OutOfMemory, SourceFailed, SinkFailed, ShelfFailed}
+use Rattle.run_rules.specs.declared.status.Status.TheVariants.{Done, BadWords, BadTopology, BadJson, TooLong, OutOfMemory, SourceFailed, SinkFailed, ShelfFailed}
 use Rattle.run_rules.specs.Commands.{Ask, Changes, IsOneOf, row_of}
-use Rattle.run_rules.specs.Refusals.{Refusal, refused_at, refused_word}
-use Rattle.run_rules.specs.Tasks.{Task, Write, Synthesise, Audit, Try, audit_in, due, limit, point_in, programs_in, read_report, replay_in, search_asked, searchable, task_of, whole_question, whole_text, words_asked}
+use Rattle.run_rules.specs.Refusals.{Refusal, refused_as, refused_at, refused_word}
+use Rattle.run_rules.specs.Tasks.{Task, Write, Synthesise, Audit, Try, Bound, Order, Degrade, audit_in, degrade_in, due, fault_in, json_programs_in, limit, point_in, programs_in, programs_value, read_report, replay_in, search_asked, searchable, task_of, whole_question, whole_text, words_asked}
 use Rattle.run_rules.proofs.Ends.{refused_with}
 use Rattle.sccl_run.specs.Answering.{due_for}
 use Rattle.sccl_run.specs.Laws.{IsRightRun, WritesWith, NoneIsBetter}
@@ -66,6 +77,7 @@ written_is_right x a b c run w t asked done =
 -- a search whose proofs are kept
 abbrev IsKept : Result Task Refusal → Type 0
 IsKept (Ok (Synthesise w t)) = Unit {0}
+IsKept (Ok (Bound w t)) = Unit {0}
 IsKept _ = ⊥
 
 stays_as_due : (d : Result Task Refusal) (x : RunValue) → (IsKept d → ⊥) → IsEnd d x all_tell → FilesStay x.files x.files_after
@@ -76,12 +88,19 @@ stays_as_due (Ok (Write text)) x other (inl a) = a.answer.stay refl
 stays_as_due (Ok (Write text)) x other (inr (inl a)) = a.answer.stay refl
 stays_as_due (Ok (Write text)) x other (inr (inr a)) = a.leaves refl
 stays_as_due (Ok (Synthesise w t)) x other end = absurd (other tt)
+stays_as_due (Ok (Bound w t)) x other end = absurd (other tt)
 stays_as_due (Ok (Audit r)) x other (inl a) = a.answer.stay refl
 stays_as_due (Ok (Audit r)) x other (inr (inl a)) = a.answer.stay refl
 stays_as_due (Ok (Audit r)) x other (inr (inr a)) = a.leaves refl
 stays_as_due (Ok (Try n)) x other (inl a) = a.answer.stay refl
 stays_as_due (Ok (Try n)) x other (inr (inl a)) = a.answer.stay refl
 stays_as_due (Ok (Try n)) x other (inr (inr a)) = a.leaves refl
+stays_as_due (Ok (Order w t)) x other (inl a) = a.answer.stay refl
+stays_as_due (Ok (Order w t)) x other (inr (inl a)) = a.answer.stay refl
+stays_as_due (Ok (Order w t)) x other (inr (inr a)) = a.leaves refl
+stays_as_due (Ok (Degrade r group width)) x other (inl a) = a.answer.stay refl
+stays_as_due (Ok (Degrade r group width)) x other (inr (inl a)) = a.answer.stay refl
+stays_as_due (Ok (Degrade r group width)) x other (inr (inr a)) = a.leaves refl
 
 -- it is due only for a command that changes files
 no_kept : {A : Type 0} (x : Result A Refusal) (f : A → Result Task Refusal) → ((a : A) → IsKept (f a) → ⊥) → IsKept (x >>= f) → ⊥
@@ -100,6 +119,25 @@ task_changes (command.Programs number word) bytes kept =
     absurd (no_kept (read_report bytes) (λ r. programs_in r asked) (λ r. no_kept (point_in r asked) (λ p. Ok (Write (programs_of_point r number p))) (λ _ none. none)) kept)
 task_changes (command.Family kind size) bytes kept = absurd kept
 task_changes (command.Trial n) bytes kept = absurd kept
+task_changes (command.Bound kind word limits root) bytes kept = refl
+task_changes (command.Ordered kind word limits root) bytes kept =
+    absurd (no_kept (search_asked (record { kind = kind; kind_word = word; limits = limits; root = root }) bytes) (λ s. Ok (Order s.0 s.1)) (λ _ none. none) kept)
+task_changes (command.Degrade group group_word width width_word) bytes kept =
+    absurd (no_kept (read_report bytes) (λ r. degrade_in r group group_word width width_word) (λ r. no_kept (fault_in r group group_word width width_word) (λ _. searchable (whole_question r.words r.topology) >>= (λ _. Ok (Degrade r group width)))
+    (λ _. no_kept (searchable (whole_question r.words r.topology)) (λ _. Ok (Degrade r group width)) (λ _ none. none))) kept)
+task_changes (command.Json what.Topology point) bytes kept =
+    absurd (no_kept (refused_as BadTopology topology_number (topology_of bytes)) (λ t. Ok (Write (printed (topology_json t)))) (λ _ none. none) kept)
+task_changes (command.Json what.Report point) bytes kept =
+    absurd (no_kept (read_report bytes) (λ r. Ok (Write (printed (report_json r)))) (λ _ none. none) kept)
+task_changes (command.Json what.Programs point) bytes kept =
+    absurd (no_kept (read_report bytes) (λ r. json_programs_in r point) (λ r. no_kept (need point (refused_word KeyMissing 0)) (λ asked. point_in r asked >>= (λ p. Ok (Write (printed (programs_value r asked.point p)))))
+    (λ asked. no_kept (point_in r asked) (λ p. Ok (Write (printed (programs_value r asked.point p)))) (λ _ none. none))) kept)
+task_changes (command.Unjson what.Topology) bytes kept =
+    absurd (no_kept (refused_as BadJson json_number (topology_of_json bytes)) (λ t. Ok (Write (spelling t))) (λ _ none. none) kept)
+task_changes (command.Unjson what.Report) bytes kept =
+    absurd (no_kept (refused_as BadJson json_number (report_of_json bytes)) (λ r. Ok (Write (report_text r))) (λ _ none. none) kept)
+task_changes (command.Unjson what.Programs) bytes kept =
+    absurd (no_kept (refused_as BadJson json_number (topology_of_json bytes)) (λ t. Ok (Write (spelling t))) (λ _ none. none) kept)
 
 due_changes : (words : List (List ℕ)) (bytes : List ℕ) → IsKept (due words bytes) → Ask Changes words
 due_changes words bytes kept = by_words (command_of words) refl
@@ -124,6 +162,13 @@ refused_statuses (command.Replay number word order) is = absurd (cc)
 refused_statuses (command.Programs number word) is = absurd (cc)
 refused_statuses (command.Family kind size) is = absurd (cc)
 refused_statuses (command.Trial n) is = absurd (cc)
+refused_statuses (command.Bound kind word limits root) is = absurd (cc)
+refused_statuses (command.Ordered kind word limits root) is = absurd (cc)
+refused_statuses (command.Degrade group group_word width width_word) is = absurd (cc)
+refused_statuses (command.Json what.Topology point) is = absurd (cc)
+refused_statuses (command.Json what.Report point) is = absurd (cc)
+refused_statuses (command.Json what.Programs point) is = absurd (cc)
+refused_statuses (command.Unjson value) is = absurd (cc)
 
 abbrev NotDone : {A : Type 0} → Result A Refusal → Type 0
 NotDone (Ok x) = Unit {0}

@@ -3,7 +3,7 @@ use Rattle.std.proofs.Common.{◌≡◌, ◌⊎◌, ◌≤◌, ◌++◌, inl, in
 use Rattle.std.proofs.lemmas.List.{append_cancel_left}
 use Rattle.std.proofs.lemmas.List.Elements.{All-contains}
 use Rattle.std.specs.Fmt.{digits}
-use Rattle.text_lines.specs.Check.{◌>>=◌, refuse}
+use Rattle.text_lines.specs.Check.{◌>>=◌, need, refuse}
 use Rattle.outer_ports.specs.declared.part.Part.{Part}
 use Rattle.outer_ports.specs.declared.part.Part.TheVariants as part
 use Rattle.outer_ports.specs.Files.{Files}
@@ -16,6 +16,9 @@ use Rattle.topology_text.specs.Answer.{code_number as topology_number}
 use Rattle.topology_text.specs.Reading.{topology_of}
 use Rattle.allreduce_join.specs.Joins.{Joins}
 use Rattle.command_words.specs.declared.command.SearchWords.{SearchWords}
+use Rattle.json_values.specs.Answer.{code_number as json_number, topology_of_json}
+use Rattle.json_exchange.specs.Answer.{report_of_json}
+use Rattle.command_words.specs.declared.command.JsonWhat.TheVariants as what
 use Rattle.command_words.specs.declared.command.Command.{Command}
 use Rattle.command_words.specs.declared.command.Command.TheVariants as command
 use Rattle.command_words.specs.declared.fault.WordFault.{WordFault}
@@ -30,10 +33,10 @@ use Rattle.frontier_audit.specs.Shelves.{ShelfRight}
 use Rattle.frontier_audit.specs.Rights.{AreJoined, IsRight, IsRightPart}
 use Rattle.frontier_audit.specs.OwedFiles.{Proves}
 use Rattle.frontier_audit.proofs.Right.{right_verified}
-use Rattle.run_rules.specs.declared.status.Status.TheVariants.{Done, SinkFailed, BadWords, BadTopology, BadReport}
+use Rattle.run_rules.specs.declared.status.Status.TheVariants.{Done, SinkFailed, BadWords, BadTopology, BadReport, BadJson}
 use Rattle.run_rules.specs.Refusals.{Refusal, refused_as, refused_word}
 use Rattle.run_rules.specs.Commands.{row_of}
-use Rattle.run_rules.specs.Tasks.{Task, Write, Synthesise, Audit, Try, due, fitting, limit, point_in, programs_asked, read_report, replay_asked, root_in, search_asked, searchable, synthesis_asked, task_of, whole_question, whole_text, words_asked, words_for}
+use Rattle.run_rules.specs.Tasks.{Task, Write, Synthesise, Audit, Try, Bound, Order, Degrade, due, fault_in, fitting, limit, point_in, programs_asked, read_report, replay_asked, root_in, search_asked, searchable, synthesis_asked, task_of, whole_question, whole_text, words_asked, words_for}
 use Rattle.run_rules.specs.Audits.{audited, not_denied, verdict_status}
 use Rattle.sccl_run.specs.Laws.{IsRightRun}
 use Rattle.sccl_run.specs.TopCall.{CountValue, IsEnd, IsSilent, RunValue}
@@ -80,6 +83,15 @@ tasks_fit (command.Replay number word order) bytes = no_search (read_report byte
 tasks_fit (command.Programs number word) bytes = no_search (read_report bytes) _ (λ r. no_search (point_in r (record { point = number; word = word })) _ (λ p. tt))
 tasks_fit (command.Family kind size) bytes = tt
 tasks_fit (command.Trial n) bytes = tt
+tasks_fit (command.Bound kind word limits root) bytes = no_search (search_asked _ bytes) _ (λ _. tt)
+tasks_fit (command.Ordered kind word limits root) bytes = no_search (search_asked _ bytes) _ (λ _. tt)
+tasks_fit (command.Degrade group group_word width width_word) bytes = no_search (read_report bytes) _ (λ r. no_search (fault_in r group group_word width width_word) _ (λ _. no_search (searchable (whole_question r.words r.topology)) (λ _. Ok (Degrade r group width)) (λ _. tt)))
+tasks_fit (command.Json what.Topology point) bytes = no_search (refused_as BadTopology topology_number (topology_of bytes)) _ (λ _. tt)
+tasks_fit (command.Json what.Report point) bytes = no_search (read_report bytes) _ (λ _. tt)
+tasks_fit (command.Json what.Programs point) bytes = no_search (read_report bytes) _ (λ r. no_search (need point _) _ (λ asked. no_search (point_in r asked) _ (λ _. tt)))
+tasks_fit (command.Unjson what.Topology) bytes = no_search (refused_as BadJson json_number (topology_of_json bytes)) _ (λ _. tt)
+tasks_fit (command.Unjson what.Report) bytes = no_search (refused_as BadJson json_number (report_of_json bytes)) _ (λ _. tt)
+tasks_fit (command.Unjson what.Programs) bytes = no_search (refused_as BadJson json_number (topology_of_json bytes)) _ (λ _. tt)
 
 due_fits : (words : List (List ℕ)) (bytes : List ℕ) → Fits (due words bytes)
 unfolding due

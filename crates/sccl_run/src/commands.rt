@@ -10,8 +10,12 @@ ghost use Rattle.run_rules.specs.Tasks.{limit, task_of};
 ghost use Rattle.sccl_run.specs.Answering.{due_for};
 
 use crate::family::family_answer;
+use bound_command::bound_answer;
 use check_command::check_answer;
 use command_words::{Command, PointWord, SearchWords};
+use degrade_command::{LinkFault, degrade_answer};
+use json_command::{json_answer, unjson_answer};
+use ordered_command::ordered_answer;
 use outer_ports::Shelf;
 use point_commands::{programs_answer, replay_answer};
 use run_rules::{Answer, Halt, too_long};
@@ -66,6 +70,50 @@ pub(crate) fn command_answer<H: Shelf>(
         } => Ok(programs_answer(alloc, PointWord { point, word }, bytes)?),
         Command::Family { kind, size } => Ok(family_answer(alloc, kind, size)?),
         Command::Trial { n } => Ok(trial_answer(alloc, n)?),
+        Command::Bound {
+            kind,
+            kind_word,
+            limits,
+            root,
+        } => {
+            let asked = SearchWords {
+                kind,
+                kind_word,
+                limits,
+                root,
+            };
+            bound_answer(alloc, asked, bytes, shelf)
+        }
+        Command::Ordered {
+            kind,
+            kind_word,
+            limits,
+            root,
+        } => {
+            let asked = SearchWords {
+                kind,
+                kind_word,
+                limits,
+                root,
+            };
+            Ok(ordered_answer(alloc, asked, bytes)?)
+        }
+        Command::Degrade {
+            group,
+            group_word,
+            width,
+            width_word,
+        } => {
+            let fault = LinkFault {
+                group,
+                group_word,
+                width,
+                width_word,
+            };
+            degrade_answer(alloc, fault, bytes, shelf)
+        }
+        Command::Json { what, point } => Ok(json_answer(alloc, what, point, bytes)?),
+        Command::Unjson { what } => Ok(unjson_answer(alloc, what, bytes)?),
     }
 }
 

@@ -12,7 +12,7 @@ use crate::commands::text_answer;
 use crate::source_text::source_text;
 use command_words::read_words;
 use outer_ports::{Failed, Shelf, Sink, Source, write_all};
-use run_rules::{Answer, Halt, Status, refused_word, row_of};
+use run_rules::{Answer, Halt, Status, reads_source, refused_word};
 use std::alloc::Global;
 
 /// The answer to the words and to what the source gives.
@@ -48,7 +48,7 @@ fn answer<I: Source, H: Shelf>(
 {
     match read_words(words) {
         Ok(command) => {
-            let text = source_text(alloc, row_of(&command).reads, source)?;
+            let text = source_text(alloc, reads_source(&command), source)?;
             text_answer(alloc, &command, text, shelf)
         }
         Err(fault) => Ok(refused_word(alloc, fault.code, fault.word)?),

@@ -5,24 +5,25 @@ ghost use Rattle.cnf_formula.specs.Literals.{LitValue, negation, code_of};
 ghost use Rattle.trail_core.specs.Watching.{ListsValue, list_at};
 
 use cnf_formula::Lit;
+use smallvec::SmallVec;
 use std::alloc::{AllocError, Global};
 use std::marker::Model;
 
-/// Lists of clause numbers, by literal.
+/// Lists of clause numbers, by literal. Most literals stand in few clauses, so that their lists need no memory of their own.
 #[derive(Drop)]
 pub struct WatchLists {
-    lists: Vec<Vec<u32>>,
+    lists: Vec<SmallVec<u32, 4>>,
     /// How many clauses each list may come to hold.
     uses: Vec<u32>,
 }
 
 impl Model for WatchLists {
-    ghost use Rattle.std.specs.Prelude.{map, vec_capacity};
+    ghost use Rattle.std.specs.Prelude.{map};
     ghost use Rattle.trail_core.specs.Watching.{ListsValue};
 
     ghost Value = { ListsValue };
 
-    ghost view = { λ a. record { lists = map (λ v. v.items) a.lists.items; rooms = map (λ v. vec_capacity v) a.lists.items; uses = a.uses.items } };
+    ghost view = { λ a. record { lists = map (λ v. v.items) a.lists.items; rooms = map (λ v. v.capacity) a.lists.items; uses = a.uses.items } };
 }
 
 impl WatchLists {
@@ -32,7 +33,7 @@ impl WatchLists {
     {
         let mut lists = Vec::with_capacity(alloc, rooms.len())?;
         for room in rooms {
-            lists.push_reserved(Vec::with_capacity(alloc, *room as usize)?);
+            lists.push_reserved(SmallVec::with_capacity(alloc, *room as usize)?);
         }
         Ok(WatchLists {
             lists,
@@ -54,7 +55,7 @@ impl WatchLists {
         requires within { place < length (list_at self.now.lists (code_of lit)) }
         ensures { result ≡ slice_index (list_at self.now.lists (code_of lit)) place }
     {
-        self.lists[lit.code()][place]
+        self.lists[lit.code()].as_slice()[place]
     }
 
     /// Takes the clause at a place out of a literal's list, and adds it to another's.

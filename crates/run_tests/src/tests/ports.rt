@@ -15,20 +15,27 @@ use std::test::Fail;
 const TRIAL_0: &[u8] =
     b"trial 0\nsynth collective=broadcast k=0 steps=1 chunks=1 conflicts=2000 root=n0\nfamily line 3\npoints 0 refuted 1 unknown 0 joined 0\ncheck verified\nreplays 0 events 0\nend\n";
 
+/// What a search by ordered schedules prints for two chunks along the line of three nodes.
+const IN_ORDER: &[u8] =
+    b"ordered 1\nsynth collective=broadcast k=0 steps=3 chunks=2 conflicts=1000 root=n0\nfrontier whole\npoint 2 2 1 optimal\nrounds 1 1\nsend 0 n0 n1 1\nsend 0 n1 n2 2\npoint 3 3 2 optimal\nrounds 1 1 1\nsend 0 n0 n1 1\nsend 0 n1 n2 2\nsend 1 n0 n1 2\nsend 1 n1 n2 3\nrefuted 1 1 2\nrefuted 1 1 1\nrefuted 2 2 2\nend\n";
+/// What is said of the relay where its first link is gone.
+const RELAY_CUT: &[u8] =
+    b"degraded 1\nsynth collective=broadcast k=0 steps=2 chunks=1 conflicts=1000 root=n0\ntopology 1\nnodes n0 n1 n2\ngroup 1 n1>n0\ngroup 1 n1>n2\ngroup 1 n2>n1\nfrontier whole\ncarried 1 1 1\nrefuted 2 2 1\nend\n";
+
 const NEVER: u64 = u64::MAX;
 
 /// A run over ports that never fail.
 #[derive(Clone, Copy)]
-struct Run<'a> {
-    words: &'a [&'a str],
+pub struct Run<'a> {
+    pub words: &'a [&'a str],
     /// What the source gives, where it is read.
-    given: Option<&'a [u8]>,
+    pub given: Option<&'a [u8]>,
     /// The files that stand on the shelf.
-    files: Files<'a>,
+    pub files: Files<'a>,
     /// How often the shelf is called, where at most 1 byte, 7 and 4,096 bytes are moved at a call.
-    shelved: [u64; 3],
-    status: Status,
-    text: &'a [u8],
+    pub shelved: [u64; 3],
+    pub status: Status,
+    pub text: &'a [u8],
 }
 
 /// Runs it where one call of the source, of the shelf and of the sink fails, by their numbers, in pieces of this size, and
@@ -62,7 +69,7 @@ fn ends(
 }
 
 /// Runs it with each call of each port failing in turn, and with those that come behind the last ones.
-fn fails_at_each_call(rt: &(impl Abort + AllocGlobal), it: Run) -> Result<(), AllocError> {
+pub fn fails_at_each_call(rt: &(impl Abort + AllocGlobal), it: Run) -> Result<(), AllocError> {
     let [small, middle, whole] = it.shelved;
     for (piece, shelved) in [(1, small), (7, middle), (4096, whole)] {
         // the reading that meets the end is one more
@@ -92,7 +99,7 @@ fn fails_at_each_call(rt: &(impl Abort + AllocGlobal), it: Run) -> Result<(), Al
 
 #[test]
 fn ports_that_fail(rt: HostRuntime) -> Result<(), Fail> {
-    let table: [Run; 10] = [
+    let table: [Run; 16] = [
         Run {
             words: &PAIR_WORDS,
             given: Some(PAIR),
@@ -132,12 +139,60 @@ fn ports_that_fail(rt: HostRuntime) -> Result<(), Fail> {
             text: ALLREDUCE,
         },
         Run {
+            words: &[
+                "bound",
+                "collective=broadcast",
+                "k=0",
+                "steps=2",
+                "chunks=1",
+                "conflicts=1000",
+            ],
+            given: Some(LINE),
+            files: &[],
+            shelved: [760, 118, 12],
+            status: Status::Done,
+            text: b"bound 1\nsynth collective=broadcast k=0 steps=2 chunks=1 conflicts=1000 root=n0\nfloor 1 1 n2\nfrontier whole\npoint 2 2 1 optimal\nrounds 1 1\nsend 0 n0 n1 1\nsend 0 n1 n2 2\nrefuted 1 1 1\nend\n",
+        },
+        // a cut refutes each candidate, and the shelf is not called
+        Run {
+            words: &[
+                "bound",
+                "collective=broadcast",
+                "k=0",
+                "steps=2",
+                "chunks=1",
+                "conflicts=1000",
+            ],
+            given: Some(b"topology 1\nnodes a b\ngroup 1 b>a\n"),
+            files: &[],
+            shelved: [0; 3],
+            status: Status::Done,
+            text: b"bound 1\nsynth collective=broadcast k=0 steps=2 chunks=1 conflicts=1000 root=a\nfloor 1 0 b\nfrontier whole\ncut 1 1 1 b\ncut 2 2 1 b\nend\n",
+        },
+        Run {
             words: &["check"],
             given: Some(RELAY),
             files: BOTH,
             shelved: [267, 41, 4],
             status: Status::Done,
             text: b"verified\n",
+        },
+        Run {
+            words: &["degrade", "group=0", "width=0"],
+            given: Some(RELAY),
+            files: BOTH,
+            shelved: [267, 41, 4],
+            status: Status::Done,
+            text: RELAY_CUT,
+        },
+        // there is no such group
+        Run {
+            words: &["degrade", "group=4", "width=0"],
+            given: Some(RELAY),
+            files: BOTH,
+            shelved: [0; 3],
+            status: Status::BadWords,
+            text: b"refused 2 14 1\n",
         },
         Run {
             words: &["replay", "point=1"],
@@ -178,6 +233,37 @@ fn ports_that_fail(rt: HostRuntime) -> Result<(), Fail> {
             shelved: [0; 3],
             status: Status::Done,
             text: TRIAL_0,
+        },
+        Run {
+            words: &[
+                "ordered",
+                "collective=broadcast",
+                "k=0",
+                "steps=3",
+                "chunks=2",
+                "conflicts=1000",
+            ],
+            given: Some(LINE),
+            files: &[],
+            shelved: [0; 3],
+            status: Status::Done,
+            text: IN_ORDER,
+        },
+        // the text is no topology
+        Run {
+            words: &[
+                "ordered",
+                "collective=broadcast",
+                "k=0",
+                "steps=3",
+                "chunks=2",
+                "conflicts=1000",
+            ],
+            given: Some(REPORT),
+            files: &[],
+            shelved: [0; 3],
+            status: Status::BadTopology,
+            text: b"refused 3 1 1\n",
         },
         // there is no such point
         Run {

@@ -1,4 +1,4 @@
-use Rattle.std.proofs.Common.{◌≡◌, ◌+◌, ◌-◌, ◌<◌, length, get_or, sym, ap, ◌∙◌, subst, arith}
+use Rattle.std.proofs.Common.{◌≡◌, ◌+◌, ◌-◌, length, get_or, sym, ap, ◌∙◌, subst, arith}
 use Rattle.sat_core.specs.Met.{value_of, WalkValue, IsPassed}
 use Rattle.sat_core.proofs.Pointed.{passed_middle}
 use Rattle.sat_core.proofs.analysis.walk_all.Goals as goal

@@ -1,4 +1,4 @@
-use Rattle.std.proofs.Common.{◌≡◌, ◌+◌, ◌*◌, length}
+use Rattle.std.proofs.Common.{◌≡◌, length}
 use Rattle.sat_core.proofs.loading.count_each.Given as goal
 
 abbrev pub invariant-loop-lit : goal.invariant-loop-lit

@@ -1,9 +1,9 @@
-use Rattle.std.proofs.Common.{◌≡◌, ◌+◌, ◌<◌, ◌≤◌, length, sym, ap, ◌∙◌, subst, arith}
+use Rattle.std.proofs.Common.{◌≡◌, sym, subst}
 use Rattle.std.specs.Prelude.{Contains}
 use Rattle.cnf_formula.specs.Literals.{LitValue}
 use Rattle.trail_core.specs.Meaning.{trues}
 use Rattle.sat_core.specs.Met.{lit_at}
-use Rattle.sat_core.proofs.Marked.{lit_about, lit_stands}
+use Rattle.sat_core.proofs.Marked.{lit_stands}
 use Rattle.sat_core.proofs.Resolved.{place_read, reason_implied}
 use Rattle.sat_core.proofs.shrinking.is_spare.Goals as goal
 

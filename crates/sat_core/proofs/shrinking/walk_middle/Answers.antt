@@ -1,12 +1,11 @@
-use Rattle.std.proofs.Common.{◌≡◌, ℕ, ◌+◌, ◌-◌, ◌<◌, ◌≤◌, length, get_or, sym, ap, ◌∙◌, subst, ⊎_elim, arith}
-use Rattle.std.specs.Prelude.{◌⊎◌}
-use Rattle.std.proofs.lemmas.Bool.{false≢true, cases_lt}
+use Rattle.std.proofs.Common.{◌≡◌, ◌+◌, ◌-◌, ◌<◌, ◌≤◌, length, get_or, ap, subst, ⊎_elim, arith}
+use Rattle.std.proofs.lemmas.Bool.{cases_lt}
 use Rattle.trail_core.specs.Assigned.{level_at}
-use Rattle.sat_core.specs.Met.{value_of, WalkValue, IsPassed, lit_at, mark_of}
+use Rattle.sat_core.specs.Met.{value_of, WalkValue, IsPassed}
 use Rattle.sat_core.proofs.Pointed.{high_place, bottom_place}
 use Rattle.sat_core.proofs.Marked.{level_within}
-use Rattle.sat_core.proofs.Resolved.{passed_over, same_open, same_open_then, same_open_counts}
-use Rattle.sat_core.proofs.Waiting.{IsStep, kept_step, passed_at, passed_counts, onward_same, onward_then, onward_counts}
+use Rattle.sat_core.proofs.Resolved.{passed_over, same_open, same_open_then}
+use Rattle.sat_core.proofs.Waiting.{IsStep, kept_step, passed_at, onward_same, onward_then}
 use Rattle.sat_core.proofs.shrinking.walk_middle.Goals as goal
 
 pub loop-place-init : goal.loop-place-init

@@ -17,7 +17,7 @@ returns-in_ok-text-in-Ok-clause-answers g c =
     let text = c.in_ok-text-in-Ok.text in
     let tells = g.I.Source.tells c.source_text.new.source in
     let had = g.I.Source.left c.args.source.now in
-    let here : HasCome words tells had text = has_come words c.in-Ok.command is tells had text (λ told reads. c.in_ok-text-in-Ok.ensures.whole told (c.row_of.ensures.reads ∙ reads)) c.in_ok-text-in-Ok.ensures.longer in
+    let here : HasCome words tells had text = has_come words c.in-Ok.command is tells had text (λ told reads. c.in_ok-text-in-Ok.ensures.whole told (c.reads_source.ensures ∙ reads)) c.in_ok-text-in-Ok.ensures.longer in
     answers_words words c.in-Ok.command is tells had text here _ c.text_answer.result (c.text_answer.ensures.answers here.came here.whole here.long)
 
 pub returns-in_ok-text-in-Ok-clause-halts : goal.returns-in_ok-text-in-Ok-clause-halts
@@ -27,9 +27,13 @@ returns-in_ok-text-in-Ok-clause-halts g c =
     let text = c.in_ok-text-in-Ok.text in
     let tells = g.I.Source.tells c.source_text.new.source in
     let had = g.I.Source.left c.args.source.now in
-    let here : HasCome words tells had text = has_come words c.in-Ok.command is tells had text (λ told reads. c.in_ok-text-in-Ok.ensures.whole told (c.row_of.ensures.reads ∙ reads)) c.in_ok-text-in-Ok.ensures.longer in
+    let here : HasCome words tells had text = has_come words c.in-Ok.command is tells had text (λ told reads. c.in_ok-text-in-Ok.ensures.whole told (c.reads_source.ensures ∙ reads)) c.in_ok-text-in-Ok.ensures.longer in
     halts_words words c.in-Ok.command is tells had text here _ c.text_answer.result
     (c.text_answer.ensures.last here.came here.whole here.long) (c.text_answer.ensures.leaves here.came here.whole here.long)
+
+pub returns-in_ok-text-in-Ok-clause-unopened : goal.returns-in_ok-text-in-Ok-clause-unopened
+returns-in_ok-text-in-Ok-clause-unopened g c = λ none.
+    c.text_answer.ensures.unopened (λ opens. none (record { command = c.in-Ok.command; is = sym c.in-Ok.ensures.read; such = opens }))
 
 pub returns-in_ok-refused_word-in-Err-clause-answers :
     goal.returns-in_ok-refused_word-in-Err-clause-answers

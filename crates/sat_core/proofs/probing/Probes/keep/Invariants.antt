@@ -1,4 +1,4 @@
-use Rattle.std.proofs.Common.{◌≡◌, ◌+◌, length}
+use Rattle.std.proofs.Common.{◌≡◌, length}
 use Rattle.sat_core.proofs.probing.Probes.keep.Given as goal
 
 abbrev pub invariant-loop-place : goal.invariant-loop-place

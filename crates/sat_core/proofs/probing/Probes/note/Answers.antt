@@ -1,4 +1,4 @@
-use Rattle.std.proofs.Common.{◌≡◌, ◌-◌, ◌<◌, ◌≤◌, length, arith}
+use Rattle.std.proofs.Common.{◌-◌, ◌<◌, length, arith}
 use Rattle.sat_core.proofs.probing.Probes.note.Goals as goal
 
 pub keep-requires-clause-within : goal.keep-requires-clause-within

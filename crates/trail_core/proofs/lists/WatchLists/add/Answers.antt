@@ -1,5 +1,4 @@
 use Rattle.std.proofs.Common.{◌≡◌, ◌<◌, [], ◌∷◌, ◌++◌, map, length, get_or, set, sym, ap, ◌∙◌, arith}
-use Rattle.std.specs.Prelude.{vec_capacity}
 use Rattle.std.proofs.lemmas.List.{map-set, length-map}
 use Rattle.trail_core.proofs.Maps.{at_map, same_map}
 use Rattle.trail_core.proofs.lists.WatchLists.add.Goals as goal
@@ -20,4 +19,4 @@ returns-clause-rooms c =
     let k = c.code.result in
     let v : map (λ z. z.items) xs ≡ c.args.self.now.lists = ap (λ w. w.lists) c.self.view_is in
     let n : k < length xs = omega (arith, c.code.ensures.code, c.requires.known, ap length v, length-map xs (λ z. z.items)) in
-    same_map (λ z. vec_capacity z) xs k c.index_mut-list.result.now c.push_reserved.new.self n c.index_mut-list.ensures.value c.push_reserved.ensures.capacity ∙ ap (λ w. w.rooms) c.self.view_is
+    same_map (λ z. z.capacity) xs k c.index_mut-list.result.now c.push_reserved.new.self n c.index_mut-list.ensures.value c.push_reserved.ensures.capacity ∙ ap (λ w. w.rooms) c.self.view_is

@@ -1,5 +1,5 @@
 use Rattle.std.proofs.Common.{◌≡◌, ◌≢◌, ◌<◌, [], map, length, get_or, set, refl, sym, ap, ◌∙◌, arith}
-use Rattle.std.specs.Prelude.{slice_index, vec_capacity}
+use Rattle.std.specs.Prelude.{slice_index}
 use Rattle.std.proofs.lemmas.List.{map-set, get_or_read, length-map, length-set, get_or-set_other}
 use Rattle.cnf_formula.specs.Literals.{code_of}
 use Rattle.trail_core.specs.Watching.{list_at}
@@ -36,6 +36,6 @@ returns-clause-rooms c =
     let v : map (λ z. z.items) xs ≡ c.args.self.now.lists = ap (λ w. w.lists) c.self.view_is in
     let na : a < length xs = omega (arith, c.code.ensures.code, c.requires.from_known, ap length v, length-map xs (λ z. z.items)) in
     let nb : b < length (set xs a c.swap_remove-id.new.self) = omega (arith, c.code-2.ensures.code, c.requires.to_known, ap length v, length-map xs (λ z. z.items), length-set xs a c.swap_remove-id.new.self) in
-    same_map (λ z. vec_capacity z) (set xs a c.swap_remove-id.new.self) b c.index_mut-list-2.result.now c.push_reserved.new.self nb c.index_mut-list-2.ensures.value c.push_reserved.ensures.capacity
-    ∙ same_map (λ z. vec_capacity z) xs a c.index_mut-list.result.now c.swap_remove-id.new.self na c.index_mut-list.ensures.value c.swap_remove-id.ensures.capacity
+    same_map (λ z. z.capacity) (set xs a c.swap_remove-id.new.self) b c.index_mut-list-2.result.now c.push_reserved.new.self nb c.index_mut-list-2.ensures.value c.push_reserved.ensures.capacity
+    ∙ same_map (λ z. z.capacity) xs a c.index_mut-list.result.now c.swap_remove-id.new.self na c.index_mut-list.ensures.value c.swap_remove-id.ensures.capacity
     ∙ ap (λ w. w.rooms) c.self.view_is

@@ -1,0 +1,78 @@
+-- Pieces of the text, appended one after another.
+use Rattle.std.proofs.Common.{◌≡◌, ℕ, ◌+◌, Bool, true, false, List, [], ◌∷◌, ◌++◌, map, refl, sym, ap, ◌∙◌, append_assoc, arith, ⊎_elim}
+use Rattle.std.specs.Prelude.{codes, filter, if◌then◌else◌}
+use Rattle.std.specs.List.{flat_map, range_with_len}
+use Rattle.std.proofs.lemmas.Bool.{cases_Bool}
+use Rattle.std.proofs.lemmas.Grind.{flat_map-append}
+use Rattle.std.proofs.lemmas.List.{append-nil, map-append, map-id}
+use Rattle.std.proofs.lemmas.List.Elements.{filter-append}
+use Rattle.std.proofs.lemmas.List.FromFn.{map-range_with_len_more}
+use Rattle.text_lines.specs.Text.{line, text_of}
+use Rattle.outer_ports.specs.declared.part.Part.TheVariants.{Whole}
+use Rattle.candidate_order.specs.Frontiers.{FrontierValue}
+use Rattle.topology_text.specs.Value.{NamedTopologyValue}
+use Rattle.topology_text.specs.Spelling.{name_at}
+use Rattle.report_form.specs.Reports.{WordsValue, question_of}
+use Rattle.report_form.specs.Spelling.{point_lines, refuted_words, synth_words, unknown_words}
+use Rattle.report_printing.specs.Printed.{fields, point_text}
+use Rattle.report_printing.proofs.Pieces.{line_is, text_append, text_each}
+use Rattle.node_cuts.specs.Floors.{floor_of}
+use Rattle.node_cuts.specs.Sides.{has_bit}
+use Rattle.cut_bounds.specs.Parting.{cuts_among, uncut_among}
+use Rattle.engine_search.specs.Asked.{searched_question}
+use Rattle.run_rules.specs.Bounds.{bound_text, cut_words, floor_words}
+
+-- ---- the names of a set
+
+-- of the first so many nodes
+abbrev pub names_below : List (List ℕ) → ℕ → ℕ → List (List ℕ)
+names_below names nodes n = map (name_at names) (filter (has_bit nodes) (range_with_len 0 n))
+
+range_more : (n : ℕ) → range_with_len 0 (n + 1) ≡ range_with_len 0 n ++ n ∷ []
+range_more n = sym (map-id (range_with_len 0 (n + 1))) ∙ (map-range_with_len_more (λ x. x) 0 n n (omega arith) ∙ ap (λ xs. xs ++ n ∷ []) (map-id (range_with_len 0 n)))
+
+pub names_more : (names : List (List ℕ)) (nodes n : ℕ) → fields (names_below names nodes (n + 1)) ≡ fields (names_below names nodes n) ++ (if has_bit nodes n then 32 ∷ name_at names n else [])
+names_more names nodes n =
+    let p : ℕ → Bool = has_bit nodes in
+    let before : List ℕ = filter p (range_with_len 0 n) in
+    let last : List ℕ = filter p (n ∷ []) in
+    ap (λ xs. fields (map (name_at names) (filter p xs))) (range_more n)
+    ∙ (ap (λ xs. fields (map (name_at names) xs)) (filter-append p (range_with_len 0 n) (n ∷ []))
+    ∙ (ap fields (map-append (name_at names) before last)
+    ∙ (flat_map-append (λ w. 32 ∷ w) (map (name_at names) before) (map (name_at names) last)
+    ∙ ap (λ t. fields (map (name_at names) before) ++ t) one)))
+  where
+    one : fields (map (name_at names) (filter (has_bit nodes) (n ∷ []))) ≡ (if has_bit nodes n then 32 ∷ name_at names n else [])
+    one =
+        ⊎_elim
+        (λ (set : has_bit nodes n ≡ true). rw set (append-nil (32 ∷ name_at names n)))
+        (λ (clear : has_bit nodes n ≡ false). rw clear refl)
+        (cases_Bool (has_bit nodes n))
+
+-- ---- lines
+
+-- a token, others, and then names
+pub pieces_are : (word : List ℕ) (first second : List (List ℕ)) → word ++ (fields first ++ (fields second ++ codes "\n")) ≡ line (word ∷ (first ++ second))
+pieces_are word first second =
+    ap (λ t. word ++ t) (sym (append_assoc (fields first) (fields second) (codes "\n")) ∙ ap (λ t. t ++ codes "\n") (sym (flat_map-append (λ w. 32 ∷ w) first second)))
+    ∙ line_is word (first ++ second)
+
+-- ---- the whole text
+
+pub bound_is : (w : WordsValue) (t : NamedTopologyValue) (f : FrontierValue)
+    → codes "bound 1\n" ++ (line (synth_words t.names w) ++ (line (floor_words t.names (floor_of (searched_question (question_of w t Whole)).topology (searched_question (question_of w t Whole)).spec)) ++ (codes "frontier whole\n"
+    ++ (flat_map (point_text t.names) f.points ++ (text_of (map (cut_words t.names) (cuts_among (searched_question (question_of w t Whole)) f.refuted)) ++ (text_of (map refuted_words (uncut_among (searched_question (question_of w t Whole)) f.refuted))
+    ++ (text_of (map unknown_words f.unknown) ++ codes "end\n"))))))) ≡ bound_text w t f
+unfolding bound_text
+bound_is w t f =
+    let q = searched_question (question_of w t Whole) in
+    let points : List (List (List ℕ)) = flat_map (point_lines t.names) f.points in
+    let cuts : List (List (List ℕ)) = map (cut_words t.names) (cuts_among q f.refuted) in
+    let others : List (List (List ℕ)) = map refuted_words (uncut_among q f.refuted) in
+    let unknown : List (List (List ℕ)) = map unknown_words f.unknown in
+    let last : List (List (List ℕ)) = (codes "end" ∷ []) ∷ [] in
+    let end : text_of (others ++ (unknown ++ last)) ≡ text_of others ++ (text_of unknown ++ text_of last) = text_append others (unknown ++ last) ∙ ap (λ x. text_of others ++ x) (text_append unknown last) in
+    let refuted : text_of (cuts ++ (others ++ (unknown ++ last))) ≡ text_of cuts ++ (text_of others ++ (text_of unknown ++ text_of last)) = text_append cuts (others ++ (unknown ++ last)) ∙ ap (λ x. text_of cuts ++ x) end in
+    let rest : text_of (points ++ (cuts ++ (others ++ (unknown ++ last)))) ≡ flat_map (point_text t.names) f.points ++ (text_of cuts ++ (text_of others ++ (text_of unknown ++ text_of last))) =
+    text_append points (cuts ++ (others ++ (unknown ++ last))) ∙ (ap (λ x. x ++ text_of (cuts ++ (others ++ (unknown ++ last)))) (text_each (point_lines t.names) f.points) ∙ ap (λ x. flat_map (point_text t.names) f.points ++ x) refuted) in
+    sym (ap (λ x. codes "bound 1\n" ++ (line (synth_words t.names w) ++ (line (floor_words t.names (floor_of q.topology q.spec)) ++ (codes "frontier whole\n" ++ x)))) rest)

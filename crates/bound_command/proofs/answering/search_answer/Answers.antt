@@ -1,0 +1,16 @@
+use Rattle.std.proofs.Common.{refl}
+use Rattle.bound_command.proofs.answering.search_answer.Goals as goal
+
+pub returns-clause-answers : goal.returns-clause-answers
+returns-clause-answers g c =
+    let bounds = c.in_ok-bounds.ensures.bounds in
+    record {
+      frontier = c.in_ok-bounds.bounds.frontier;
+      right = bounds.found.right;
+      searched = bounds.found.searched;
+      exhausted = bounds.found.exhausted;
+      points = bounds.points;
+      unknown = bounds.unknown;
+      says = record { status = refl; text = c.in_ok-text.ensures };
+      proves = c.in_ok-bounds.ensures.proves;
+    }

@@ -1,0 +1,38 @@
+-- How many values there are with one more.
+use Rattle.std.proofs.Common.{◌≡◌, ◌+◌, ℕ, false, is_some, arith, List, Option, None, Some, Result, Ok, Err, IfOk, refl, sym, subst}
+use Rattle.text_lines.specs.Check.{◌>>=◌}
+use Rattle.command_words.specs.declared.fault.WordCode.{WordCode}
+use Rattle.command_words.specs.declared.key.Key.{Key}
+use Rattle.command_words.specs.declared.key.Key.TheVariants as key
+use Rattle.command_words.specs.declared.values.Values.{Values}
+use Rattle.command_words.specs.declared.verb.Verb.{Verb}
+use Rattle.command_words.specs.Counting.{one, count_of}
+use Rattle.command_words.specs.Values.{collective_from, is_given, kind_from, name_from, number_from, what_from, with_value}
+
+none_counts : {T : Type 0} (o : Option T) → is_some o ≡ false → one o ≡ 0
+none_counts None e = refl
+none_counts (Some x) e = absurd (cc)
+
+given : {A : Type 0} (n : ℕ) (r : Result A WordCode) (f : A → Values) → ((x : A) → count_of (f x) ≡ n) → IfOk (r >>= (λ x. Ok (f x))) (λ more. count_of more ≡ n)
+given n (Ok x) f counts = counts x
+given n (Err code) f counts = tt
+
+counted : (verb : Verb) (k : Key) (text : List ℕ) (word : ℕ) (v : Values) → is_given k v ≡ false → IfOk (with_value verb k text word v) (λ more. count_of more ≡ count_of v + 1)
+counted verb key.Collective text word v first = given _ (collective_from verb text) _ (λ x. omega (arith, none_counts v.collective first))
+counted verb key.K text word v first = given _ (number_from 0 8 text) _ (λ x. omega (arith, none_counts v.k first))
+counted verb key.Steps text word v first = given _ (number_from 1 8 text) _ (λ x. omega (arith, none_counts v.steps first))
+counted verb key.Chunks text word v first = given _ (number_from 1 16 text) _ (λ x. omega (arith, none_counts v.chunks first))
+counted verb key.Conflicts text word v first = given _ (number_from 1 100000 text) _ (λ x. omega (arith, none_counts v.conflicts first))
+counted verb key.Root text word v first = given _ (name_from text) _ (λ x. omega (arith, none_counts v.root first))
+counted verb key.Point text word v first = given _ (number_from 1 65535 text) _ (λ x. omega (arith, none_counts v.point first))
+counted verb key.Order text word v first = given _ (number_from 0 18446744073709551615 text) _ (λ x. omega (arith, none_counts v.order first))
+counted verb key.Kind text word v first = given _ (kind_from text) _ (λ x. omega (arith, none_counts v.kind first))
+counted verb key.Size text word v first = given _ (number_from 1 16 text) _ (λ x. omega (arith, none_counts v.size first))
+counted verb key.N text word v first = given _ (number_from 0 4095 text) _ (λ x. omega (arith, none_counts v.n first))
+counted verb key.Group text word v first = given _ (number_from 0 255 text) _ (λ x. omega (arith, none_counts v.group first))
+counted verb key.Width text word v first = given _ (number_from 0 16 text) _ (λ x. omega (arith, none_counts v.width first))
+counted verb key.What text word v first = given _ (what_from verb text) _ (λ x. omega (arith, none_counts v.what first))
+
+-- what is read has one more
+pub counted_of : (verb : Verb) (k : Key) (text : List ℕ) (word : ℕ) (v more : Values) → is_given k v ≡ false → Ok more ≡ with_value verb k text word v → count_of more ≡ count_of v + 1
+counted_of verb k text word v more first read = subst (λ r. IfOk r (λ x. count_of x ≡ count_of v + 1)) (sym read) (counted verb k text word v first)

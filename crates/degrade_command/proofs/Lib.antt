@@ -1,0 +1,6 @@
+mod Taken
+mod OldRight
+mod Left
+mod Lines
+mod Told
+mod Anew

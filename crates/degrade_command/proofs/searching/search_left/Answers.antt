@@ -1,0 +1,57 @@
+use Rattle.std.proofs.Common.{◌≡◌, false, List, ap, subst, ◌∙◌}
+use Rattle.std.specs.Prelude.{All, filter, not}
+use Rattle.schedule.specs.Links.{TopologyValue}
+use Rattle.proof_rules.specs.Refuting.{Exhausted}
+use Rattle.candidate_order.specs.declared.candidate.Candidate.{Candidate}
+use Rattle.candidate_order.specs.Frontiers.{QuestionValue, RightFrontier, Searched}
+use Rattle.candidate_formula.specs.Formulas.{formula_for}
+use Rattle.candidate_formula.specs.Sizes.{size_of}
+use Rattle.engine_search.proofs.Asked.{made_for}
+use Rattle.engine_search.proofs.Found.{found_with}
+use Rattle.link_faults.specs.Carrying.{is_carried}
+use Rattle.degrade_command.proofs.Left.{formula_left, has_group, is_wider, left_question, left_small, links_narrowed, old_searched}
+use Rattle.degrade_command.proofs.searching.search_left.Goals as goal
+
+pub new-requires-clause-size : goal.new-requires-clause-size
+new-requires-clause-size c =
+    let q : QuestionValue = record { topology = c.args.given.now; spec = c.args.spec.now; limits = c.args.limits } in
+    left_small q c.args.fault.group c.args.fault.width c.args.left.now c.deref.result.now c.requires.left c.requires.width c.requires.small
+    (ap (λ (x : TopologyValue). size_of (record { topology = x; spec = c.args.spec.now; limits = c.args.limits })) c.deref.ensures ∙ c.in_ok-links.ensures.size c.args.limits)
+
+pub new-engine-requires-clause-group : goal.new-engine-requires-clause-group
+new-engine-requires-clause-group c = has_group c.args.given.now c.in_ok-before.before c.args.spec.now c.args.fault.group c.args.fault.width c.in_ok-before.ensures c.requires.group
+
+pub new-engine-requires-clause-width : goal.new-engine-requires-clause-width
+new-engine-requires-clause-width c = is_wider c.args.given.now c.in_ok-before.before c.args.spec.now c.args.fault.group c.args.fault.width c.in_ok-before.ensures c.requires.width
+
+pub new-engine-requires-clause-topology : goal.new-engine-requires-clause-topology
+new-engine-requires-clause-topology c =
+    links_narrowed c.args.given.now c.in_ok-before.before c.args.spec.now c.args.fault.group c.args.fault.width c.in_ok-before.ensures c.requires.left
+    (ap (λ (p : QuestionValue). p.topology) c.in_ok-inner.ensures.question ∙ c.deref.ensures ∙ c.in_ok-links.ensures.links)
+
+pub new-engine-requires-clause-old : goal.new-engine-requires-clause-old
+new-engine-requires-clause-old c =
+    let q : QuestionValue = record { topology = c.args.given.now; spec = c.args.spec.now; limits = c.args.limits } in
+    old_searched q c.args.old.items c.requires.single c.requires.spec c.requires.old c.in_ok-before.ensures c.in_ok-inner.ensures.question
+
+pub returns-in-Ok : goal.returns-in-Ok
+returns-in-Ok c =
+    let q : QuestionValue = record { topology = c.args.given.now; spec = c.args.spec.now; limits = c.args.limits } in
+    let p : QuestionValue = record { topology = c.args.left.now; spec = c.args.spec.now; limits = c.args.limits } in
+    let f = c.in-Ok.frontier in
+    let made = made_for p _ _ c.in_ok-inner.ensures.question c.deref.ensures c.in_ok-links.ensures.links in
+    let found = found_with _ (formula_for p) _ (λ x s. Unit {0}) (λ x. c.in-Ok.ensures.formula x ∙ c.new-engine.ensures.formula x ∙ c.in_ok-inner.ensures.formula x ∙ formula_left p _ x made c.requires.single) (λ x s suited. tt) c.in-Ok.ensures.found in
+    let is = left_question q c.args.fault.group c.args.fault.width c.requires.left in
+    let same : c.frontier_by.new.engine.old.items ≡ c.args.old.items = c.in-Ok.ensures.moves.1 ∙ c.new-engine.ensures.old in
+    let lent : c.old.result.now ≡ c.args.old.items = c.old.ensures.old ∙ same in
+    record {
+      right = subst (λ x. RightFrontier x f) is found.right;
+      searched = subst (λ x. Searched x f) is found.searched;
+      exhausted = subst (λ x. All (λ u. Exhausted (formula_for x u.candidate) u.conflicts) f.unknown) is found.exhausted;
+      points = subst (λ (xs : List Candidate). All (λ p. is_carried xs p.candidate ≡ false) f.points) same c.carried_is_refuted.ensures.points;
+      unknown = subst (λ (xs : List Candidate). All (λ u. is_carried xs u.candidate ≡ false) f.unknown) same c.carried_is_refuted.ensures.unknown;
+      parted = record {
+        carried = c.in_ok-carried-in-Ok.ensures.carried ∙ ap (λ xs. filter (is_carried xs) c.refuted.result.now) lent ∙ ap (filter (is_carried c.args.old.items)) c.refuted.ensures;
+        others = c.in_ok-carried-in-Ok.ensures.others ∙ ap (λ xs. filter (λ x. not (is_carried xs x)) c.refuted.result.now) lent ∙ ap (filter (λ x. not (is_carried c.args.old.items x))) c.refuted.ensures;
+      };
+    }

@@ -1,0 +1,147 @@
+//! Audited reports whose links have a fault, and the answers to them.
+
+ghost use Rattle.std.specs.Prelude.{◌≡◌, ◌≢◌, ◌≤◌, length, None, IfOk, IsTrue, OnErr, Err};
+ghost use Rattle.outer_ports.specs.Port.{HasCause, Tells};
+ghost use Rattle.outer_ports.specs.Shelf.{FilesStay};
+ghost use Rattle.outer_ports.specs.declared.part.Part.TheVariants.{Whole};
+ghost use Rattle.report_form.specs.Reports.{question_of};
+ghost use Rattle.round_encoding.specs.Candidates.{size_limit};
+ghost use Rattle.candidate_formula.specs.Sizes.{size_of};
+ghost use Rattle.frontier_audit.specs.Rights.{IsRight};
+ghost use Rattle.run_rules.specs.Answers.{IsAnswer, LeavesOff};
+ghost use Rattle.run_rules.specs.Commands.{IsRefusal};
+ghost use Rattle.run_rules.specs.Degraded.{IsDegraded, IsNewSearch};
+ghost use Rattle.run_rules.specs.Read.{IsSearchableAs};
+ghost use Rattle.run_rules.specs.Refusals.{Refusal};
+ghost use Rattle.run_rules.specs.Tasks.{degrade_asked, degrade_in, limit};
+ghost use Rattle.degrade_command.specs.Faults.{CanFail, refused_first};
+
+use crate::OutOfMemory;
+use crate::fault::{LinkFault, fault_refusal};
+use crate::printing::print_found;
+use crate::refuted::old_refuted;
+use crate::searching::search_left;
+use check_command::verdict_answer;
+use degraded_links::narrow;
+use frontier_audit::{AuditVerdict, audit};
+use outer_ports::{Part, Shelf};
+use report_form::{Report, spec_of_part};
+use run_rules::{Answer, Halt, ReportText, Status, report_of_text, search_refusal};
+use std::alloc::Global;
+
+/// The answer to a fault of a report that is right: its search done anew. The only error is want of memory.
+fn search_anew(alloc: Global, report: &Report, fault: LinkFault) -> Result<Answer, OutOfMemory>
+    requires fault { CanFail report.now fault.group fault.width }
+    requires small { size_of (question_of report.now.words report.now.topology Whole) ≤ size_limit }
+    requires right { IsRight report.now }
+    ensures { IfOk result (λ a. IsNewSearch report.now fault.group fault.width a.status a.text.items) }
+{
+    let words = report.words();
+    let topology = report.topology();
+    let spec = spec_of_part(words, topology, Part::Whole)?;
+    let left = narrow(alloc, topology, fault.group, fault.width)?;
+    let old = old_refuted(alloc, report)?;
+    let found = search_left(
+        alloc,
+        topology.topology(),
+        left.topology(),
+        &spec,
+        words.limits(),
+        fault,
+        old,
+    )?;
+    let text = print_found(alloc, words, &left, &found)?;
+    Ok(Answer {
+        status: Status::Done,
+        text,
+    })
+}
+
+/// The answer to a fault of a report that takes it: the report is audited first, and searched anew where it is verified.
+fn audited_answer<H: Shelf>(
+    alloc: Global,
+    report: &Report,
+    fault: LinkFault,
+    shelf: &mut H,
+) -> Result<Answer, Halt>
+    requires fault { CanFail report.now fault.group fault.width }
+    requires small { size_of (question_of report.now.words report.now.topology Whole) ≤ size_limit }
+    ensures answers { IfOk result (λ a. IsDegraded report.now fault.group fault.width (record { told = H.tells shelf.new; before = H.file shelf.old; after = H.file shelf.new }) a.status a.text.items) }
+    ensures stay { IsTrue (H.tells shelf.new) → FilesStay (H.file shelf.old) (H.file shelf.new) }
+    ensures accepted { IfOk result (λ a. ¬ IsRefusal a.status) }
+    ensures source { result ≢ Err Halt.Source }
+    ensures told { Tells (H.tells shelf.old) (H.tells shelf.new) }
+    ensures cause { HasCause Halt.Shelf (H.faults shelf.old) (H.faults shelf.new) result }
+    ensures steady { result ≢ Err Halt.Shelf → H.faults shelf.new ≡ H.faults shelf.old }
+{
+    match audit(alloc, report, shelf)? {
+        AuditVerdict::Verified => Ok(search_anew(alloc, report, fault)?),
+        denied => Ok(verdict_answer(alloc, denied)?),
+    }
+}
+
+/// The answer that refuses a fault of a report, or the search of the report. `None` where both can be.
+fn refusal_of(
+    alloc: Global,
+    report: &Report,
+    fault: LinkFault,
+) -> Result<Option<Answer>, OutOfMemory>
+    ensures refuses { IfOk result (IsSearchableAs (refused_first report.now fault.group fault.group_word fault.width fault.width_word)) }
+    ensures takes { IfOk result (λ refused. refused ≡ None → CanFail report.now fault.group fault.width) }
+    ensures small { IfOk result (λ refused. refused ≡ None → size_of (question_of report.now.words report.now.topology Whole) ≤ size_limit) }
+{
+    match fault_refusal(alloc, report, fault)? {
+        Some(answer) => Ok(Some(answer)),
+        None => search_refusal(alloc, report.words(), report.topology()),
+    }
+}
+
+/// The answer to a fault of a report that was read: the refusal of the fault or of the search, or that of the audit.
+fn fault_answer<H: Shelf>(
+    alloc: Global,
+    report: &Report,
+    fault: LinkFault,
+    shelf: &mut H,
+) -> Result<Answer, Halt>
+    ensures answers { IfOk result (λ a. IsAnswer (degrade_in report.now fault.group fault.group_word fault.width fault.width_word) (record { told = H.tells shelf.new; before = H.file shelf.old; after = H.file shelf.new }) a.status a.text.items) }
+    ensures stay { IsTrue (H.tells shelf.new) → FilesStay (H.file shelf.old) (H.file shelf.new) }
+    ensures untouched { IfOk result (λ a. IsRefusal a.status → shelf.new ≡ shelf.old) }
+    ensures last { result ≡ Err Halt.Shelf → (r : Refusal) → degrade_in report.now fault.group fault.group_word fault.width fault.width_word ≡ Err r → ⊥ }
+    ensures source { result ≢ Err Halt.Source }
+    ensures told { Tells (H.tells shelf.old) (H.tells shelf.new) }
+    ensures cause { HasCause Halt.Shelf (H.faults shelf.old) (H.faults shelf.new) result }
+    ensures steady { result ≢ Err Halt.Shelf → H.faults shelf.new ≡ H.faults shelf.old }
+{
+    match refusal_of(alloc, report, fault)? {
+        Some(answer) => Ok(answer),
+        None => audited_answer(alloc, report, fault, shelf),
+    }
+}
+
+/// The answer to a fault of the links of a report whose text came whole. The report is audited first, over the shelf; its
+/// search is then done anew over the links that are left, where what the report refutes stays refuted. Before that the text,
+/// the fault or the size may be refused, and the shelf is not looked at. No file of the shelf changes: the proofs of the new
+/// search are kept in memory and not handed out.
+///
+/// [`Halt::Shelf`] comes only where the shelf's count of faults rose, and [`Halt::Source`] never.
+pub fn degrade_answer<H: Shelf>(
+    alloc: Global,
+    fault: LinkFault,
+    bytes: &[u8],
+    shelf: &mut H,
+) -> Result<Answer, Halt>
+    requires short { length bytes.now ≤ limit }
+    ensures answers { IfOk result (λ a. IsAnswer (degrade_asked fault.group fault.group_word fault.width fault.width_word bytes.now) (record { told = H.tells shelf.new; before = H.file shelf.old; after = H.file shelf.new }) a.status a.text.items) }
+    ensures leaves { IsTrue (H.tells shelf.new) → OnErr result (LeavesOff (degrade_asked fault.group fault.group_word fault.width fault.width_word bytes.now) (H.file shelf.old) (H.file shelf.new)) }
+    ensures untouched { IfOk result (λ a. IsRefusal a.status → shelf.new ≡ shelf.old) }
+    ensures last { result ≡ Err Halt.Shelf → (r : Refusal) → degrade_asked fault.group fault.group_word fault.width fault.width_word bytes.now ≡ Err r → ⊥ }
+    ensures source { result ≢ Err Halt.Source }
+    ensures told { Tells (H.tells shelf.old) (H.tells shelf.new) }
+    ensures cause { HasCause Halt.Shelf (H.faults shelf.old) (H.faults shelf.new) result }
+    ensures steady { result ≢ Err Halt.Shelf → H.faults shelf.new ≡ H.faults shelf.old }
+{
+    match report_of_text(alloc, bytes)? {
+        ReportText::Spelled(report) => fault_answer(alloc, &report, fault, shelf),
+        ReportText::Refused(answer) => Ok(answer),
+    }
+}

@@ -1,0 +1,77 @@
+//! The search over the links that a fault left.
+
+ghost use Rattle.std.specs.Prelude.{◌≡◌, ◌≢◌, ◌<◌, ◌≤◌, length, All, IfOk};
+ghost use Rattle.schedule.specs.Judging.{group_at};
+ghost use Rattle.collective_spec.specs.Collectives.{IsSpec, kind_in};
+ghost use Rattle.round_encoding.specs.Candidates.{size_limit};
+ghost use Rattle.candidate_formula.specs.Sizes.{size_of};
+ghost use Rattle.engine_search.specs.Asked.{searched_links};
+ghost use Rattle.link_faults.specs.Narrowed.{narrowed};
+ghost use Rattle.link_faults.specs.Carrying.{IsOldRefuted, narrowed_question};
+ghost use Rattle.degrade_command.specs.After.{IsFoundAfter};
+
+use crate::OutOfMemory;
+use crate::fault::LinkFault;
+use crate::found::Found;
+use crate::refuted::parted;
+use candidate_order::{Candidate, Frontier, Limits};
+use candidate_solver::SatEngine;
+use collective_spec::{Kind, Spec};
+use degraded_links::{CarryEngine, EngineFault, carried_is_refuted};
+use engine_search::{frontier_by, links_to_search};
+use outer_ports::{Part, SureShelf};
+use schedule::Topology;
+use std::alloc::Global;
+
+/// The links over which an engine has to search, turned round for a reduction, as a value of their own. The only error is want
+/// of memory.
+fn own_links(topology: &Topology, spec: &Spec) -> Result<Topology, OutOfMemory>
+    ensures { IfOk result (λ links. links ≡ searched_links topology.now spec.now) }
+{
+    if spec.adds_up() {
+        return topology.reversed();
+    }
+    topology.clone()
+}
+
+/// The frontier of a collective over the links that a fault left of the given ones, and which of its refuted candidates the old
+/// ones carry; these are refuted without a search, and the proofs of the others stay in memory. The old candidates had no
+/// schedule over the given links. The only error is want of memory.
+pub(crate) fn search_left(
+    alloc: Global,
+    given: &Topology,
+    left: &Topology,
+    spec: &Spec,
+    limits: Limits,
+    fault: LinkFault,
+    old: Vec<Candidate>,
+) -> Result<Found, OutOfMemory>
+    requires group { fault.group < length given.now.groups }
+    requires width { fault.width < (group_at given.now fault.group).width }
+    requires left { left.now ≡ narrowed given.now fault.group fault.width }
+    requires spec { IsSpec given.now.nodes spec.now }
+    requires single { kind_in spec.now ≢ Kind.Allreduce }
+    requires small { size_of (record { topology = given.now; spec = spec.now; limits = limits }) ≤ size_limit }
+    requires old { All (IsOldRefuted (record { topology = given.now; spec = spec.now; limits = limits })) old.items }
+    ensures { IfOk result (IsFoundAfter (narrowed_question (record { topology = given.now; spec = spec.now; limits = limits }) fault.group fault.width) old.items) }
+{
+    let before = own_links(given, spec)?;
+    let links = links_to_search(left, spec)?;
+    let inner = SatEngine::new(alloc, &links, spec, limits, Part::Whole, false)?;
+    let mut engine = CarryEngine::new(alloc, inner, before, fault.group, fault.width, old);
+    let mut shelf = SureShelf::new(alloc)?;
+    match frontier_by(alloc, &mut engine, &mut shelf, left, spec, limits) {
+        Ok(frontier) => {
+            // This says that no point and no unknown candidate is carried.
+            carried_is_refuted(&engine, &frontier);
+            let (carried, refuted) = parted(alloc, engine.old(), frontier.refuted())?;
+            Ok(Found {
+                frontier,
+                carried,
+                refuted,
+            })
+        }
+        Err(EngineFault::OutOfMemory) => Err(OutOfMemory),
+        Err(EngineFault::ShelfFailed) => unreachable!(),
+    }
+}

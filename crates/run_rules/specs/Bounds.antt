@@ -1,0 +1,64 @@
+-- What is owed for a search that tells which cut refutes a candidate, and how far any schedule can go. This project's own.
+use Rattle.std.specs.Prelude.{◌≡◌, ℕ, Bool, false, IsTrue, List, [], ◌∷◌, ◌++◌, length, map, filter, All, codes, decimal}
+use Rattle.std.specs.List.{flat_map, range_with_len}
+use Rattle.outer_ports.specs.declared.part.Part.TheVariants.{Whole}
+use Rattle.text_lines.specs.Text.{text_of}
+use Rattle.candidate_order.specs.declared.candidate.Candidate.{Candidate}
+use Rattle.candidate_order.specs.Frontiers.{QuestionValue, FrontierValue, RightFrontier, Searched}
+use Rattle.proof_rules.specs.Refuting.{Exhausted}
+use Rattle.candidate_formula.specs.Formulas.{formula_for}
+use Rattle.topology_text.specs.Value.{NamedTopologyValue}
+use Rattle.topology_text.specs.Spelling.{name_at}
+use Rattle.report_form.specs.Reports.{WordsValue, ReportValue, question_of}
+use Rattle.report_form.specs.Spelling.{candidate_words, part_words, point_lines, refuted_words, synth_words, unknown_words}
+use Rattle.frontier_audit.specs.OwedFiles.{Proves}
+use Rattle.node_cuts.specs.declared.floor.Floor.{Floor}
+use Rattle.node_cuts.specs.Cuts.{CutValue}
+use Rattle.node_cuts.specs.Floors.{floor_of}
+use Rattle.node_cuts.specs.Sides.{has_bit}
+use Rattle.cut_bounds.specs.Cutting.{is_cut}
+use Rattle.cut_bounds.specs.Parting.{cuts_among, uncut_among, without_cuts}
+use Rattle.engine_search.specs.Asked.{searched_question}
+use Rattle.run_rules.specs.declared.status.Status.{Status}
+use Rattle.run_rules.specs.declared.status.Status.TheVariants.{Done}
+use Rattle.run_rules.specs.Said.{FilesValue, Says}
+
+-- ---- the text
+
+-- the names of the nodes whose bits are set
+abbrev pub names_in : List (List ℕ) → ℕ → List (List ℕ)
+names_in names nodes = map (name_at names) (filter (has_bit nodes) (range_with_len 0 (length names)))
+
+abbrev pub floor_words : List (List ℕ) → Floor → List (List ℕ)
+floor_words names floor = codes "floor" ∷ decimal floor.above ∷ decimal floor.below ∷ names_in names floor.nodes
+
+-- the candidate, and the nodes of its first cut
+abbrev pub cut_words : List (List ℕ) → Candidate × CutValue → List (List ℕ)
+cut_words names x = codes "cut" ∷ candidate_words x.0 ++ names_in names x.1.nodes
+
+-- the cuts and the floor are those of what is searched: of a reduction, over the links turned round
+abbrev pub bound_lines : WordsValue → NamedTopologyValue → FrontierValue → List (List (List ℕ))
+bound_lines w t f =
+    let q = searched_question (question_of w t Whole) in
+    (codes "bound" ∷ codes "1" ∷ []) ∷ synth_words t.names w ∷ floor_words t.names (floor_of q.topology q.spec) ∷ part_words Whole
+    ∷ (flat_map (point_lines t.names) f.points ++ (map (cut_words t.names) (cuts_among q f.refuted) ++ (map refuted_words (uncut_among q f.refuted) ++ (map unknown_words f.unknown ++ (codes "end" ∷ []) ∷ []))))
+
+unfoldable pub bound_text : WordsValue → NamedTopologyValue → FrontierValue → List ℕ
+bound_text w t f = text_of (bound_lines w t f)
+
+-- ---- what is owed
+
+-- a report of one part, that names these candidates
+abbrev pub report_of : WordsValue → NamedTopologyValue → FrontierValue → ReportValue
+report_of w t f = record { words = w; topology = t; frontiers = (Whole, f) ∷ []; joined = [] }
+
+-- the frontier is right, searched in order, and what was given up is exhausted; a candidate that was tried is refuted where a listed set refutes it; the text has the frontier, with each candidate that a listed set refutes in a line of its own; and the files prove the others
+pub record IsBound (w : WordsValue) (t : NamedTopologyValue) (files : FilesValue) (status : Status) (text : List ℕ) : Type 0 where
+  pub frontier : FrontierValue
+  pub right : RightFrontier (question_of w t Whole) frontier
+  pub searched : Searched (question_of w t Whole) frontier
+  pub exhausted : All (λ u. Exhausted (formula_for (question_of w t Whole) u.candidate) u.conflicts) frontier.unknown
+  pub points : All (λ p. is_cut (searched_question (question_of w t Whole)) p.candidate ≡ false) frontier.points
+  pub unknown : All (λ u. is_cut (searched_question (question_of w t Whole)) u.candidate ≡ false) frontier.unknown
+  pub says : Says Done (bound_text w t frontier) status text
+  pub proves : IsTrue files.told → Proves (report_of w t (without_cuts (searched_question (question_of w t Whole)) frontier)) files.before files.after

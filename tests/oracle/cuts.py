@@ -1,0 +1,50 @@
+"""Cuts: the sets of nodes into which more has to come than can, and the floor that they give."""
+from itertools import combinations, count
+
+from .collective import COPY_OF, allows, pairs
+from .formula import turned_round
+
+
+class Cuts:
+    """The cuts of a collective over a topology. Those of a reduction are its copy's over the links turned round."""
+
+    def __init__(self, kind, root, topology):
+        if kind in COPY_OF:
+            kind, topology = COPY_OF[kind], turned_round(topology)
+        self.kind, self.root, self.topology = kind, root, topology
+        nodes = range(len(topology.names))
+        small = [*({it} for it in nodes), *(set(it) for it in combinations(nodes, 2))]
+        self.listed = small + [set(nodes) - it for it in small]
+
+    def need(self, inside, many):
+        """How many chunks have to come in, where the chunk count is this."""
+        before, after = pairs(self.kind, self.root, self.topology, many)
+        return len({chunk for chunk, node in after if node in inside} - {chunk for chunk, node in before if node in inside})
+
+    def width(self, inside):
+        """How many chunks can come in in a round."""
+        taken, wide = set(), 0
+        for width, links in self.topology.groups:
+            if any(a not in inside and b in inside and (a, b) not in taken for a, b in links):
+                taken.update(links)
+                wide += width
+        return wide
+
+    def names(self, inside):
+        return [self.topology.names[it] for it in sorted(inside)]
+
+    def first(self, rounds, many):
+        """The names of the first set that refutes so many rounds, or None."""
+        found = (it for it in self.listed if self.need(it, many) > self.width(it) * rounds)
+        inside = next(found, None)
+        return None if inside is None else self.names(inside)
+
+    def floor(self):
+        """The numbers and the names of the first set whose fraction is greatest."""
+        least = next(it for it in count(1) if allows(self.kind, len(self.topology.names), it))
+        best = (0, 1, set())
+        for inside in self.listed:
+            above, below = self.need(inside, least), self.width(inside) * least
+            if above > 0 and (best[0] == 0 or above * best[1] > best[0] * below):
+                best = (above, below, inside)
+        return [str(best[0]), str(best[1]), *self.names(best[2])]
