@@ -49,9 +49,6 @@ module _ (chunks nodes : ℕ) (s : ScheduleValue) (adding : ℕ) where
 
 -- ---- one step
 
-and_false : (b : Bool) → (false && b) ≡ false
-and_false b = refl
-
 -- a step that adds has none
 pub clash_adding : (chunks nodes : ℕ) (s : ScheduleValue) (adding step : ℕ) → step ≤ adding → None ≡ clash_in chunks nodes s adding step
 clash_adding chunks nodes s adding step small =

@@ -1,9 +1,8 @@
 -- The run of a join: after the first part the demanded bags are whole, and the second carries whole bags to all that it reaches.
-use Rattle.std.proofs.Common.{◌≡◌, ℕ, zero, suc, ◌+◌, ◌-◌, ◌<◌, ◌≤◌, ◌⊎◌, ⊎_elim, Bool, true, false, ◌&&◌, cond, eqb, leb, List, [], ◌∷◌, length, map, refl, sym, ap, ◌∙◌, subst, arith}
-use Rattle.std.specs.Prelude.{filter, fold, max, not}
-use Rattle.std.specs.List.{AllByRecursion, list_any, reduce}
-use Rattle.std.proofs.lemmas.Bool.{and_parts, and_from, eqb-true, eq-eqb, or_cases, le-leb}
-use Rattle.std.proofs.lemmas.Bool.Decides.{nat_tests}
+use Rattle.std.proofs.Common.{◌≡◌, ℕ, zero, suc, ◌+◌, ◌-◌, ◌<◌, ◌≤◌, ⊎_elim, Bool, true, false, ◌&&◌, eqb, List, [], ◌∷◌, length, map, refl, sym, ap, ◌∙◌, subst, arith}
+use Rattle.std.specs.Prelude.{filter, fold, not}
+use Rattle.std.specs.List.{AllByRecursion, list_any}
+use Rattle.std.proofs.lemmas.Bool.{and_parts, and_from, eqb-true, eq-eqb, or_cases}
 use Rattle.std.proofs.lemmas.List.Elements.{recursion_from_All}
 use Rattle.schedule.specs.declared.hop.Hop.{Hop}
 use Rattle.schedule.specs.Sends.{ScheduleValue, IsSchedule, IsInRange, IsStep}
@@ -11,14 +10,15 @@ use Rattle.schedule.specs.Placed.{PlacementValue, holds, same_pair}
 use Rattle.schedule.specs.Running.{after, brings}
 use Rattle.schedule.specs.Solving.{Tight}
 use Rattle.schedule.specs.Bags.{Bag, Bags, added, contributions, is_empty, one_of_each}
-use Rattle.schedule.specs.Summing.{bags_after, goes_to, summed_step}
-use Rattle.schedule.specs.JoinedRuns.{copied_step, filled_senders, joined_after, replaced}
-use Rattle.schedule.proofs.First.{Among, among_each, among_map, among_right, each_among, map_among}
-use Rattle.inversion.proofs.Firsts.{among_kept, any_found}
+use Rattle.schedule.specs.Summing.{bags_after, goes_to}
+use Rattle.schedule.specs.JoinedRuns.{filled_senders, joined_after}
+use Rattle.schedule.proofs.First.{Among, among_each, among_map, among_right, each_among, map_among, any_found, filter_among, among_kept}
+use Rattle.schedule.proofs.Inverting.{steps_of}
+use Rattle.bag_runs.proofs.JoinedSteps.{replaced_has, step_adds, step_copies}
 use Rattle.inversion.proofs.Reaching.{below_of, holds_next}
 use Rattle.allreduce_join.specs.Joins.{later, one_after}
-use Rattle.allreduce_join.proofs.Paired.{append_among, filter_among}
-use Rattle.allreduce_join.proofs.Parts.{sends_first, steps_of}
+use Rattle.allreduce_join.proofs.Paired.{append_among}
+use Rattle.allreduce_join.proofs.Parts.{sends_first}
 
 -- ---- the steps that add
 
@@ -27,19 +27,6 @@ fold_alike a b [] x y same is = is
 fold_alike a b (h ∷ hops) x y same is =
     fold_alike a b hops (added x (a (h.chunk, h.from))) (added y (b (h.chunk, h.from))) same (ap (λ z. added z (a (h.chunk, h.from))) is ∙ ap (added y) (same (h.chunk, h.from)))
 
-adds_at : (start : Bags) (s : ScheduleValue) (adding n : ℕ) (pair : ℕ × ℕ) → n + 1 ≤ adding → joined_after start s adding (suc n) pair ≡ summed_step s.sends (joined_after start s adding n) (n + 1) pair
-adds_at start s adding n pair small =
-    let before : Bags = joined_after start s adding n in
-    ap (λ b. (cond {A = Bags} b (summed_step s.sends before (n + 1)) (copied_step s.sends before (n + 1))) pair) (le-leb (n + 1) adding small)
-
-above : (a b : ℕ) → b < a → leb a b ≡ false
-above a b less = grind (arith, nat_tests)
-
-copies_at : (start : Bags) (s : ScheduleValue) (adding n : ℕ) (pair : ℕ × ℕ) → adding < n + 1 → joined_after start s adding (suc n) pair ≡ copied_step s.sends (joined_after start s adding n) (n + 1) pair
-copies_at start s adding n pair past =
-    let before : Bags = joined_after start s adding n in
-    ap (λ b. (cond {A = Bags} b (summed_step s.sends before (n + 1)) (copied_step s.sends before (n + 1))) pair) (above (n + 1) adding past)
-
 -- in its first part a join runs as the first schedule
 pub first_part : (start : Bags) (p q : ScheduleValue) → IsSchedule q → (n : ℕ) → n ≤ length p.rounds → (pair : ℕ × ℕ) → joined_after start (one_after (length p.rounds) p q) (length p.rounds) n pair ≡ bags_after start p.sends n pair
 first_part start p q valid zero small pair = refl
@@ -47,29 +34,11 @@ first_part start p q valid (suc n) small pair =
     let all : ScheduleValue = one_after (length p.rounds) p q in
     let before : Bags = joined_after start all (length p.rounds) n in
     let so_far : (other : ℕ × ℕ) → before other ≡ bags_after start p.sends n other = λ other. first_part start p q valid n (omega (arith, small)) other in
-    adds_at start all (length p.rounds) n pair (omega (arith, small))
+    ap (λ (after : Bags). after pair) (step_adds start all (length p.rounds) n (omega (arith, small)))
     ∙ (ap (λ hops. fold added (before pair) (map (λ h. before (h.chunk, h.from)) hops)) (sends_first p q (n + 1) pair valid (omega (arith, small)))
     ∙ fold_alike before (bags_after start p.sends n) (filter (goes_to (n + 1) pair) p.sends) (before pair) (bags_after start p.sends n pair) so_far (so_far pair))
 
 -- ---- the steps that copy
-
-one_of_two : (a b : ℕ) → (max a b ≡ a) ⊎ (max a b ≡ b)
-one_of_two a b = grind arith
-
--- what holds of each number holds of the greatest
-greatest_has : (P : ℕ → Type 0) (x : ℕ) (xs : List ℕ) → P x → AllByRecursion P xs → P (fold max x xs)
-greatest_has P x [] it each = it
-greatest_has P x (y ∷ xs) it each =
-    greatest_has P (max x y) xs
-    (⊎_elim
-    (λ (left : max x y ≡ x). subst P (sym left) it)
-    (λ (right : max x y ≡ y). subst P (sym right) each.0)
-    (one_of_two x y))
-    each.1
-
-replaced_whole : (nodes : ℕ) (before : Bags) (pair : ℕ × ℕ) (xs : List ℕ) → AllByRecursion (λ u. before (pair.0, u) ≡ one_of_each nodes) xs → (xs ≡ [] → before pair ≡ one_of_each nodes) → replaced before pair (reduce max xs) ≡ one_of_each nodes
-replaced_whole nodes before pair [] each none = none refl
-replaced_whole nodes before pair (x ∷ xs) each none = greatest_has (λ u. before (pair.0, u) ≡ one_of_each nodes) x xs each.0 each.1
 
 ones_filled : (nodes : ℕ) → 0 < nodes → is_empty (one_of_each nodes) ≡ false
 ones_filled zero some = absurd (omega arith)
@@ -158,8 +127,8 @@ module _ (nodes : ℕ) (demand : PlacementValue) (p q : ScheduleValue) (carries 
   whole_after (suc k) (suc n) is pair c v held =
       let before : n ≡ length p.rounds + k = omega (arith, is) in
       let so_far : IsWhole n k = whole_after k n before in
-      copies_at (contributions nodes) (one_after (length p.rounds) p q) (length p.rounds) n pair (omega (arith, before))
-      ∙ replaced_whole nodes (bags n) pair (senders n pair) (senders_whole n k pair before so_far) (λ none.
+      ap (λ (after : Bags). after pair) (step_copies (contributions nodes) (one_after (length p.rounds) p q) (length p.rounds) n (omega (arith, before)))
+      ∙ replaced_has (bags n) pair (one_of_each nodes) (senders n pair) (senders_whole n k pair before so_far) (λ none.
       ⊎_elim
       (λ (kept : holds (after demand q k) pair ≡ true). so_far pair c v kept)
       (λ (brought : list_any (brings (after demand q k) (k + 1) pair) q.sends ≡ true). absurd (some_sender n k pair before so_far brought none))

@@ -13,7 +13,7 @@ use std::alloc::Global;
 
 /// Whether each chunk ends at each node with one contribution of each node, and if not, what fails first: the links of the
 /// sends, the bandwidth of the groups, a chunk that comes to a node twice in a step that copies, or a count. The steps up to
-/// `adding` add, and the later ones copy. The only error is want of memory.
+/// `adding` add, and the later ones copy. The only error is `OutOfMemory`.
 pub fn all_summed(
     alloc: Global,
     topology: &Topology,

@@ -1,4 +1,4 @@
-//! Each call is made once, and does not answer want of memory; searches have the answer that is wanted.
+//! Each call is made once, and does not answer out of memory; searches have the answer that is wanted.
 
 mod pigeons;
 mod unreached;

@@ -5,7 +5,7 @@ use Rattle.node_cuts.specs.Floors.{floor_of}
 use Rattle.cut_bounds.specs.Cutting.{is_cut}
 use Rattle.cut_bounds.specs.Parting.{cuts_among, uncut_among}
 use Rattle.engine_search.specs.Asked.{searched_question}
-use Rattle.report_search.specs.Found.{IsFound}
+use Rattle.engine_search.specs.Found.{IsFound}
 use Rattle.bound_search.specs.declared.bounds.Bounds.{Bounds}
 
 -- the frontier was found; none of its points and none of its unknown candidates is refuted by a listed set; the refuted ones are parted, and the floor is that of what is searched

@@ -15,20 +15,12 @@ use crate::bounds::Bounds;
 use candidate_order::Limits;
 use candidate_solver::SatEngine;
 use collective_spec::{Kind, Spec};
-use cut_bounds::laws::a_reduction_has_the_cuts_of_its_copy;
-use cut_bounds::{CutEngine, OutOfMemory, cuts_are_refuted, floor_of, part_refuted};
+use cut_bounds::{CutEngine, cuts_are_refuted, part_refuted};
 use engine_rules::EngineFault;
 use engine_search::{frontier_by, links_to_search};
 use outer_ports::{Part, Shelf};
 use schedule::Topology;
 use std::alloc::Global;
-
-/// The same collective.
-fn copy_of(spec: &Spec) -> Result<Spec, OutOfMemory>
-    ensures { IfOk result (λ copy. copy ≡ spec.now) }
-{
-    Ok(spec.clone()?)
-}
 
 /// The frontier of a collective over these links, and what cuts say of it: of a reduction they are those over the links turned
 /// round. What no cut refutes is searched, and its formulas and proofs are kept on the shelf as files of the one part.
@@ -49,12 +41,9 @@ pub(crate) fn find_bounds<H: Shelf>(
     ensures cause { HasCause EngineFault.ShelfFailed (H.faults shelf.old) (H.faults shelf.new) result }
     ensures steady { result ≢ Err EngineFault.ShelfFailed → H.faults shelf.new ≡ H.faults shelf.old }
 {
-    // This says that the floor of what is searched is that of the collective over the same links.
-    a_reduction_has_the_cuts_of_its_copy();
     let links = links_to_search(topology, spec)?;
-    let floor = floor_of(alloc, &links, spec)?;
     let inner = SatEngine::new(alloc, &links, spec, limits, Part::Whole, false)?;
-    let mut engine = CutEngine::new(alloc, inner, &links, copy_of(spec)?)?;
+    let mut engine = CutEngine::new(alloc, inner, &links, spec)?;
     let frontier = frontier_by(alloc, &mut engine, shelf, topology, spec, limits)?;
     // This says that no point and no unknown candidate is cut, and what the engine below has settled.
     cuts_are_refuted(&engine, &frontier);
@@ -62,6 +51,6 @@ pub(crate) fn find_bounds<H: Shelf>(
     Ok(Bounds {
         frontier,
         refuted,
-        floor,
+        floor: engine.floor(),
     })
 }

@@ -1,13 +1,13 @@
 -- The chunk counts that are allowed.
-use Rattle.std.proofs.Common.{◌≡◌, inl, inr, ℕ, ◌+◌, ◌-◌, ◌≤◌, Bool, true, false, cond, List, [], ◌∷◌, ◌++◌, map-id, refl, sym, ap, ◌∙◌, subst, arith, append-nil}
-use Rattle.std.specs.Prelude.{◌↔◌, IsTrue, All, filter, nat_le}
+use Rattle.std.proofs.Common.{◌≡◌, ℕ, ◌+◌, ◌-◌, ◌≤◌, Bool, true, false, cond, List, [], ◌∷◌, ◌++◌, map-id, refl, sym, ap, ◌∙◌, subst, arith, append-nil}
+use Rattle.std.specs.Prelude.{◌↔◌, IsTrue, filter, nat_le}
 use Rattle.std.specs.List.{range_with_len}
 use Rattle.std.specs.List.Sorted.{IsStrictlyIncreasing}
 use Rattle.std.proofs.lemmas.Bool.{and_parts, leb-true}
-use Rattle.std.proofs.lemmas.List.Elements.{All-nil, All-cons, All-filter, All-contains}
+use Rattle.std.proofs.lemmas.List.Elements.{All-filter, All-contains, filter_passes}
 use Rattle.std.proofs.lemmas.List.FromFn.{length-range_with_len, get_or-range_with_len, filter_of_map_range_with_len_more}
 use Rattle.std.proofs.lemmas.List.Kept.{IsStrictlyIncreasing-filter}
-use Rattle.schedule.proofs.First.{Among, Among-from_Contains, Contains-from_Among}
+use Rattle.schedule.proofs.First.{Among-from_Contains, Contains-from_Among, among_kept}
 use Rattle.collective_spec.specs.declared.kind.Kind.{Kind}
 use Rattle.collective_spec.specs.Kinds.{allows, divides_evenly}
 use Rattle.candidate_order.specs.Ranges.{LimitsValue}
@@ -49,31 +49,16 @@ range_increases a n k low =
 allowed_increases : (greatest : ℕ) (kind : Kind) (nodes : ℕ) → IsStrictlyIncreasing (allowed_up_to greatest kind nodes)
 allowed_increases greatest kind nodes = IsStrictlyIncreasing-filter (allows kind nodes) (range_with_len 1 greatest) (range_increases 1 greatest)
 
-passing : {X : Type 0} (p : X → Bool) (xs : List X) → All (λ x. p x ≡ true) (filter p xs)
-passing p [] = All-nil (λ x. p x ≡ true)
-passing {X} p (x ∷ xs) = by_test (p x) refl (passing p xs)
-  where
-    by_test : (b : Bool) → p x ≡ b → All (λ y. p y ≡ true) (filter p xs) → All (λ y. p y ≡ true) (cond b (x ∷ filter p xs) (filter p xs))
-    by_test true e rest = All-cons (λ y. p y ≡ true) x (filter p xs) e rest
-    by_test false e rest = rest
-
-among_kept : {X : Type 0} (p : X → Bool) (xs : List X) (x : X) → Among x xs → p x ≡ true → Among x (filter p xs)
-among_kept p [] x among t = absurd among
-among_kept p (y ∷ ys) x (inl is) t = let passes : p y ≡ true = ap p is ∙ t in rw passes (inl is)
-among_kept p (y ∷ ys) x (inr later) t =
-    let rest = among_kept p ys x later t in
-    elim (p y) as (λ b. Among x (cond b (y ∷ filter p ys) (filter p ys))) [ true ↦ inr rest | false ↦ rest ]
-
 allowed_all : (limits : LimitsValue) (kind : Kind) (nodes : ℕ) → AreAllowed limits kind nodes (allowed_up_to limits.max_c kind nodes)
 allowed_all limits kind nodes = λ c.
     let p : ℕ → Bool = allows kind nodes in
     let range = range_with_len 1 limits.max_c in (
       λ at.
           let within = All-contains (From 1 limits.max_c) (filter p range) c (All-filter p (From 1 limits.max_c) range (in_range 1 limits.max_c)) at in
-          (omega (arith, within.1), All-contains (λ x. p x ≡ true) (filter p range) c (passing p range) at),
+          (omega (arith, within.1), All-contains (λ x. p x ≡ true) (filter p range) c (filter_passes p range) at),
       λ ok.
           let some = leb-true 1 c (and_parts (nat_le 1 c) (divides_evenly kind nodes c) ok.1).0 in
-          Contains-from_Among c (filter p range) (among_kept p range c (Among-from_Contains c range (Contains-range 1 limits.max_c c some (let most = ok.0 in omega (arith, most)))) ok.1),
+          Contains-from_Among c (filter p range) (among_kept p c range (Among-from_Contains c range (Contains-range 1 limits.max_c c some (let most = ok.0 in omega (arith, most)))) ok.1),
     )
 
 -- ---- the counts that are given

@@ -1,5 +1,5 @@
 -- How many links a group has, and a topology, at most.
-use Rattle.std.proofs.Common.{◌≡◌, inl, inr, ℕ, ◌+◌, ◌*◌, ◌<◌, ◌≤◌, true, List, [], ◌∷◌, length, get_or, map, ap, ◌∙◌, subst, arith, length-append}
+use Rattle.std.proofs.Common.{◌≡◌, inl, inr, ℕ, ◌+◌, ◌*◌, ◌<◌, ◌≤◌, true, List, [], ◌∷◌, length, get_or, ap, ◌∙◌, subst, arith, length-append}
 use Rattle.std.specs.List.{flat_map, range_with_len}
 use Rattle.std.proofs.Math.Nat.{add-mul}
 use Rattle.std.proofs.lemmas.Nat.{mul-le}
@@ -16,6 +16,7 @@ use Rattle.schedule.specs.Placed.{same_pair, all_pairs}
 use Rattle.schedule.proofs.First.{Among}
 use Rattle.schedule.proofs.Placing.{pair_itself, pair_is, among_all}
 use Rattle.schedule.proofs.Ordered.{among_from_any}
+use Rattle.schedule.proofs.Usable.{row}
 
 pair_decides : (a b : ℕ × ℕ) → Decides (same_pair a b) (a ≡ b)
 pair_decides a b = (pair_is a b, λ e. subst (λ c. same_pair a c ≡ true) e (pair_itself a))
@@ -40,15 +41,11 @@ few_links nodes group few is below =
 pub group_links : (t : TopologyValue) (k : ℕ) (d : GroupValue) → IsTopology t → k < length t.groups → length (get_or t.groups k d).links ≤ 256
 group_links t k d is low = few_links t.nodes (get_or t.groups k d) is.few (is.groups k d low) (is.nodes k d low)
 
--- the pairs of a row, with so many columns
-abbrev row_of : ℕ → ℕ → List (ℕ × ℕ)
-row_of nodes a = map (λ b. (a, b)) (range_with_len 0 nodes)
-
-rows_length : (nodes : ℕ) (rows : List ℕ) → length (flat_map (row_of nodes) rows) ≡ length rows * nodes
+rows_length : (nodes : ℕ) (rows : List ℕ) → length (flat_map (row nodes) rows) ≡ length rows * nodes
 rows_length nodes [] = omega arith
 rows_length nodes (a ∷ rows) =
-    let all = length-append (row_of nodes a) (flat_map (row_of nodes) rows) in
-    let first : length (row_of nodes a) ≡ nodes = length-map-range_with_len (λ b. (a, b)) 0 nodes in
+    let all = length-append (row nodes a) (flat_map (row nodes) rows) in
+    let first : length (row nodes a) ≡ nodes = length-map-range_with_len (λ b. (a, b)) 0 nodes in
     let more : (length rows + 1) * nodes ≡ length rows * nodes + 1 * nodes = add-mul (length rows) 1 nodes in
     omega (arith, all, first, more, rows_length nodes rows)
 

@@ -6,7 +6,7 @@ use Rattle.std.proofs.lemmas.List.{length-map}
 use Rattle.std.proofs.lemmas.List.Elements.{filter-append}
 use Rattle.std.proofs.lemmas.List.Sums.{sum_by-cons}
 use Rattle.schedule.specs.Links.{GroupValue, TopologyValue, is_usable, usable_links, turned, reversed_group, reversed_of}
-use Rattle.schedule.proofs.Turning.{turned_usable}
+use Rattle.schedule.proofs.Turning.{turned_usable, one_if}
 use Rattle.candidate_order.specs.Frontiers.{QuestionValue}
 use Rattle.candidate_order.specs.Copied.{copied_question}
 use Rattle.round_encoding.specs.Candidates.{group_size}
@@ -18,11 +18,8 @@ use Rattle.candidate_formula.proofs.Asked.{same_size}
 abbrev kept : {X : Type 0} → (X → Bool) → List X → ℕ
 kept p xs = length (filter p xs)
 
-abbrev one_where : Bool → ℕ
-one_where b = cond b 1 0
-
-kept_first : {X : Type 0} (p : X → Bool) (x : X) (xs : List X) → kept p (x ∷ xs) ≡ one_where (p x) + kept p xs
-kept_first p x xs = elim (p x) as (λ b. length (cond b (x ∷ filter p xs) (filter p xs)) ≡ one_where b + kept p xs) [ true ↦ omega arith | false ↦ omega arith ]
+kept_first : {X : Type 0} (p : X → Bool) (x : X) (xs : List X) → kept p (x ∷ xs) ≡ one_if (p x) + kept p xs
+kept_first p x xs = elim (p x) as (λ b. length (cond b (x ∷ filter p xs) (filter p xs)) ≡ one_if b + kept p xs) [ true ↦ omega arith | false ↦ omega arith ]
 
 kept_append : {X : Type 0} (p : X → Bool) (xs ys : List X) → kept p (xs ++ ys) ≡ kept p xs + kept p ys
 kept_append p xs ys = ap length (filter-append p xs ys) ∙ length-append (filter p xs) (filter p ys)
@@ -30,7 +27,7 @@ kept_append p xs ys = ap length (filter-append p xs ys) ∙ length-append (filte
 kept_alike : {X : Type 0} (p q : X → Bool) → ((x : X) → p x ≡ q x) → (xs : List X) → kept p xs ≡ kept q xs
 kept_alike p q same [] = refl
 kept_alike p q same (x ∷ xs) =
-    let one : one_where (p x) ≡ one_where (q x) = ap one_where (same x) in
+    let one : one_if (p x) ≡ one_if (q x) = ap one_if (same x) in
     omega (arith, kept_first p x xs, kept_first q x xs, one, kept_alike p q same xs)
 
 -- the pairs of one, and those of many, with so many others

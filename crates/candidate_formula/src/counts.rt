@@ -27,7 +27,7 @@ fn allowed_up_to(alloc: Global, greatest: u8, kind: Kind, nodes: u8) -> Result<V
 }
 
 /// The chunk counts within the limits that such a collective may have on so many nodes, ascending. There is none exactly
-/// where no count is allowed, as for an all-to-all on more nodes than the greatest count. The only error is want of memory.
+/// where no count is allowed, as for an all-to-all on more nodes than the greatest count. The only error is `OutOfMemory`.
 pub fn allowed_counts(
     alloc: Global,
     nodes: u8,

@@ -14,7 +14,7 @@ use Rattle.candidate_order.specs.Costs.{NoWorse, Better, Before}
 use Rattle.candidate_order.specs.Frontiers.{QuestionValue, PointValue, FrontierValue, solved, IsWithin, IsSized, Achieves, Achievable, IsSolvable, IsPoint, RightFrontier, Searched}
 use Rattle.candidate_order.proofs.Rows.{Contains-map}
 
-none-contained : {X : Type 0} → (xs : List X) (x : X) → xs ≡ [] → Contains xs x → ⊥
+pub none-contained : {X : Type 0} → (xs : List X) (x : X) → xs ≡ [] → Contains xs x → ⊥
 none-contained xs x e h = absurd (let lt = rw e at h.1 in omega (arith, lt))
 
 pub bare_right : (q : QuestionValue) (f : FrontierValue) → RightFrontier q f → f.points ≡ [] → f.refuted ≡ [] → f.unknown ≡ [] → (x : Candidate) → IsWithin q x → ⊥
@@ -36,7 +36,7 @@ points_differ q f right searched p h x at before no_worse =
     All-contains (λ a. Before a p.candidate → NoWorse a p.candidate → ⊥) (solved f) x worth at before no_worse
 
 -- a schedule that does what is asked shows that it can be done
-shown : (adds : Bool) (t : TopologyValue) (spec : Spec) (l : LimitsValue) (x : Candidate) (s : ScheduleValue) → let q : QuestionValue = record { topology = t; spec = spec; limits = l } in IsSchedule s → IsSized q x s → Achieves adds q x s → Achievable adds q x
+pub shown : (adds : Bool) (t : TopologyValue) (spec : Spec) (l : LimitsValue) (x : Candidate) (s : ScheduleValue) → let q : QuestionValue = record { topology = t; spec = spec; limits = l } in IsSchedule s → IsSized q x s → Achieves adds q x s → Achievable adds q x
 shown true t (Standard collective) l x s valid in_range sums = record { schedule = s; valid = valid; in_range = in_range; sums = sums }
 shown true t (Custom p) l x s valid in_range sums = record { schedule = s; valid = valid; in_range = in_range; sums = sums }
 shown false t (Standard collective) l x s valid in_range solves = record { schedule = s; valid = valid; in_range = in_range; solves = solves }

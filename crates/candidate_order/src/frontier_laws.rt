@@ -1,6 +1,6 @@
 //! What a right frontier says.
 
-ghost use Rattle.std.specs.Prelude.{◌≡◌, true, false, [], Contains};
+ghost use Rattle.std.specs.Prelude.{◌≡◌, true, false, [], All, Contains};
 ghost use Rattle.schedule.specs.Solving.{Solves};
 ghost use Rattle.schedule.specs.Summing.{Sums};
 ghost use Rattle.collective_spec.specs.Collectives.{adds_up, spec_demand, spec_instance};
@@ -39,4 +39,14 @@ pub fn each_point_does_what_is_asked()
 /// A point of a right frontier is not left open where every better candidate within the limits is refuted.
 pub fn open_points_may_be_bettered()
     ensures { (q : QuestionValue) (f : FrontierValue) → RightFrontier q f → (p : PointValue) → Contains f.points p → p.mark ≡ Mark.Open → ((x : Candidate) → IsWithin q x → Better x p.candidate → Contains f.refuted x) → ⊥ }
+{}
+
+/// Two right frontiers of one question that were searched in order and leave nothing unknown have points of the same
+/// candidates, and the same refuted candidates where these are within the limits. How many points and how many refuted
+/// candidates there are then depends on the question alone; the schedules of the points may differ.
+pub fn settled_frontiers_agree()
+    ensures points { (q : QuestionValue) (f g : FrontierValue) → RightFrontier q f → Searched q f → RightFrontier q g → Searched q g
+        → f.unknown ≡ [] → g.unknown ≡ [] → solved f ≡ solved g }
+    ensures refuted { (q : QuestionValue) (f g : FrontierValue) → RightFrontier q f → Searched q f → RightFrontier q g → Searched q g
+        → All (IsWithin q) f.refuted → All (IsWithin q) g.refuted → f.unknown ≡ [] → g.unknown ≡ [] → f.refuted ≡ g.refuted }
 {}

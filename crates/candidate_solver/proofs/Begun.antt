@@ -131,10 +131,6 @@ begins_both f part x before now others lrat partial = record {
       (one_or_apart name (file_of Lrat part x));
 }
 
--- the formula's file is none of lines
-pub cnf_apart : (part : Part) (x : Candidate) (kind : FileKind) → kind ≢ Cnf → file_of Cnf part x ≢ file_of kind part x
-cnf_apart part x kind apart e = apart (sym (ap (λ n. n.kind) e))
-
 -- ---- the files of a ledger
 
 abbrev pub OrEmpty : Files → Files → ProofName → Type 0

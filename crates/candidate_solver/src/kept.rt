@@ -68,7 +68,7 @@ impl SatEngine {
         ensures part { IfOk result (λ e. e.part ≡ part) }
     {
         Ok(SatEngine {
-            question: Question::new(alloc, topology, spec, limits)?,
+            question: Question::new(topology, spec, limits)?,
             part,
             checked,
             entries: Vec::new(alloc),

@@ -12,7 +12,6 @@ use candidate_order::Limits;
 use cnf_formula::OutOfMemory;
 use collective_spec::{Kind, Spec};
 use schedule::Topology;
-use std::alloc::Global;
 
 /// Links, a collective and limits. Of a reduction the copying collective is meant of which it is the inverse, so that the
 /// links are then those turned round. The formula of each candidate within the limits is small.
@@ -25,13 +24,8 @@ pub struct Question {
 }
 
 impl Question {
-    /// The candidates within the limits, of a collective over these links. The only error is want of memory.
-    pub fn new(
-        alloc: Global,
-        topology: &Topology,
-        spec: &Spec,
-        limits: Limits,
-    ) -> Result<Question, OutOfMemory>
+    /// The candidates within the limits, of a collective over these links. The only error is `OutOfMemory`.
+    pub fn new(topology: &Topology, spec: &Spec, limits: Limits) -> Result<Question, OutOfMemory>
         requires spec { IsSpec topology.now.nodes spec.now }
         requires single { kind_in spec.now ≢ Kind.Allreduce }
         requires size { size_of (record { topology = topology.now; spec = spec.now; limits = limits }) ≤ size_limit }
@@ -41,7 +35,7 @@ impl Question {
     {
         // This says that the limits are in their ranges.
         let _conflicts = limits.conflicts();
-        let topology = copy_of_topology(alloc, topology)?;
+        let topology = copy_of_topology(topology)?;
         let spec = copy_of_spec(spec)?;
         Ok(Question {
             topology,

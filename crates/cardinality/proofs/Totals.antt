@@ -3,7 +3,7 @@ use Rattle.std.proofs.Common.{◌≡◌, ℕ, zero, suc, ◌+◌, ◌-◌, ◌/�
 use Rattle.std.specs.Prelude.{All}
 use Rattle.std.specs.List.{range_with_len}
 use Rattle.std.proofs.lemmas.Bool.{and_parts, and_from, leb-true, le-leb}
-use Rattle.std.proofs.lemmas.List.{get_or-append-add, length-take, length-drop, take-append-drop}
+use Rattle.std.proofs.lemmas.List.{get_or-append-add, length-take, length-drop, take-append-drop, append-nil}
 use Rattle.std.proofs.lemmas.List.Elements.{All-nil, All-cons, All-head, All-append}
 use Rattle.std.proofs.lemmas.List.Folds.{list_all-append}
 use Rattle.std.proofs.lemmas.List.FromFn.{get_or-map-range_with_len, length-map-range_with_len}
@@ -158,10 +158,6 @@ part_of_none before = record {
   extends = λ values l. ([], record { one_each = refl; hold = refl; outputs = λ t low high. absurd (omega (arith, low, high)) });
 }
 
-append_nothing : {X : Type 0} (xs : List X) → xs ++ [] ≡ xs
-append_nothing [] = refl
-append_nothing (x ∷ xs) = ap (λ r. x ∷ r) (append_nothing xs)
-
 part_of_one : (before : ℕ) (y : LitValue) → IsAbout before y → Part before (y ∷ []) (record { vars = 0; clauses = []; outputs = y ∷ [] })
 part_of_one before y a = record {
   outputs_about = All-cons (IsAbout (before + 0)) y [] (record { some = a.some; within = omega (arith, a.within) }) (All-nil (IsAbout (before + 0)));
@@ -177,7 +173,7 @@ part_of_one before y a = record {
       outputs = λ t low high.
           let e : 0 ≡ t - 1 = omega (arith, low, high) in
           let one : 1 ≡ t = omega (arith, low, high) in
-          let here : is_true (values ++ []) y ≡ leb 1 (0 + cond (is_true values y) 1 0) = ap (λ v. is_true v y) (append_nothing values) ∙ counted (is_true values y) in
+          let here : is_true (values ++ []) y ≡ leb 1 (0 + cond (is_true values y) 1 0) = ap (λ v. is_true v y) (append-nil values) ∙ counted (is_true values y) in
           subst (λ n. is_true (values ++ []) (get_or (y ∷ []) n (yes 0)) ≡ leb t (true_inputs values (y ∷ []))) e
           (subst (λ n. is_true (values ++ []) y ≡ leb n (true_inputs values (y ∷ []))) one here);
     },

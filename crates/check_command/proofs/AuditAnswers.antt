@@ -15,23 +15,12 @@ use Rattle.run_rules.specs.declared.status.Status.TheVariants.{Denied, Done}
 use Rattle.run_rules.specs.Tasks.{Audit, audit_in, searchable, whole_question}
 use Rattle.run_rules.specs.Audits.{audited, not_denied, verdict_status, verdict_text}
 use Rattle.run_rules.specs.Answers.{FilesValue, IsAnswer, IsAudit, Says, Stay}
+use Rattle.run_rules.proofs.OverFiles.{HasVerdict, has_verdict}
 
 -- ---- a report whose search can be done is audited
 
 pub can_audit : (r : ReportValue) → searchable (whole_question r.words r.topology) ≡ Ok tt → audit_in r ≡ Ok (Audit r)
 can_audit r e = ap (λ x. x >>= (λ _. Ok (Audit r))) e
-
--- ---- the files that the audit looked at
-
--- some files with this verdict, which are those of the shelf where it tells them
-pub record HasVerdict (r : ReportValue) (verdict : AuditVerdict) (told : Bool) (shelf : Files) : Type 0 where
-  pub over : Files
-  pub are : IsTrue told → FilesStay shelf over
-  pub is : audit_of r over ≡ verdict
-
-pub has_verdict : (r : ReportValue) (verdict : AuditVerdict) (told : Bool) (shelf : Files) → (IsTrue told → verdict ≡ audit_of r shelf) → IsVerdictOver r verdict → HasVerdict r verdict told shelf
-has_verdict r verdict true shelf exact some = record { over = shelf; are = λ _ name. refl; is = sym (exact refl) }
-has_verdict r verdict false shelf exact some = record { over = some.files; are = λ told. absurd (cc); is = some.is }
 
 -- ---- the verdict
 

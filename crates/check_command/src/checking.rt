@@ -8,11 +8,10 @@ ghost use Rattle.run_rules.specs.Commands.{IsRefusal};
 ghost use Rattle.run_rules.specs.Refusals.{Refusal};
 ghost use Rattle.run_rules.specs.Tasks.{audit_asked, audit_in, limit};
 
-use crate::verdicts::verdict_answer;
 use frontier_audit::audit;
 use outer_ports::Shelf;
 use report_form::Report;
-use run_rules::{Answer, Halt, ReportText, report_of_text, search_refusal};
+use run_rules::{Answer, Halt, ReportText, report_of_text, search_refusal, verdict_answer};
 use std::alloc::Global;
 
 /// The audit of a report that was read, where its search could be done.

@@ -2,8 +2,6 @@
 #![tactic(auto)]
 
 mod checking;
-mod verdicts;
 
 pub use checking::check_answer;
 pub use std::alloc::AllocError as OutOfMemory;
-pub use verdicts::verdict_answer;

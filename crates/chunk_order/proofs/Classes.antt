@@ -4,7 +4,7 @@ use Rattle.std.specs.Prelude.{filter}
 use Rattle.std.specs.List.{list_any, range_with_len, AllByRecursion}
 use Rattle.std.proofs.lemmas.Bool.{false≢true, cases_Bool, cases_eq, false_from_ne_true, not_from_false, ltb-true, lt-ltb}
 use Rattle.schedule.specs.Placed.{PlacementValue}
-use Rattle.schedule.proofs.First.{InOrder, InOrder-filter, each_weaker, each_filter}
+use Rattle.schedule.proofs.First.{InOrder, InOrder-filter, each_weaker, each_filter, each_passes}
 use Rattle.chunk_order.specs.Alike.{is_alike}
 use Rattle.chunk_order.specs.Ordering.{is_least, class_of, next_pairs}
 use Rattle.chunk_order.proofs.Alikeness.{alike_itself, alike_back, alike_both}
@@ -30,14 +30,6 @@ none_in_range p a zero none = refl
 none_in_range p a (suc n) none =
     ap (λ b. b || list_any p (range_with_len (a + 1) n)) (none a (omega arith) (omega arith))
     ∙ none_in_range p (a + 1) n (λ k low high. none k (omega (arith, low)) (omega (arith, high)))
-
-pub passing : {X : Type 0} (p : X → Bool) (xs : List X) → AllByRecursion (λ x. p x ≡ true) (filter p xs)
-passing p [] = tt
-passing p (x ∷ xs) =
-    ⊎_elim
-    (λ (passes : p x ≡ true). rw passes (passes, passing p xs))
-    (λ (fails : p x ≡ false). rw fails (passing p xs))
-    (cases_Bool (p x))
 
 pub filter_at : (p : ℕ → Bool) (P : ℕ → Type 0) (a n k : ℕ) → AllByRecursion P (filter p (range_with_len a n)) → a ≤ k → k < a + n → p k ≡ true → P k
 filter_at p P a zero k each low high it = absurd (omega (arith, low, high))
@@ -91,7 +83,7 @@ pub nexts_of_class : (pre post : PlacementValue) (leader : ℕ) → AllByRecursi
 nexts_of_class pre post leader =
     of_list (class_of pre post leader)
     (each_filter (λ k. k < pre.chunks) (is_alike pre post leader) (range_with_len 0 pre.chunks) (range_high 0 pre.chunks pre.chunks (omega arith)))
-    (passing (is_alike pre post leader) (range_with_len 0 pre.chunks))
+    (each_passes (is_alike pre post leader) (range_with_len 0 pre.chunks))
     (InOrder-filter ltb (is_alike pre post leader) (range_with_len 0 pre.chunks) (range_order 0 pre.chunks))
   where
     of_list : (cs : List ℕ) → AllByRecursion (λ k. k < pre.chunks) cs → AllByRecursion (λ k. is_alike pre post leader k ≡ true) cs → InOrder ltb cs → AllByRecursion (IsNext pre post leader) (next_pairs cs)

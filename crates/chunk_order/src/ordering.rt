@@ -129,7 +129,7 @@ fn all_in_order(
 
 /// The formula of an encoding, followed by the clauses of the order: for each class of chunks that are alike, by its least
 /// chunk, each of its chunks comes to the watch node no later than the next. It is satisfiable exactly where the candidate is
-/// solvable. The only error is want of memory.
+/// solvable. The only error is `OutOfMemory`.
 pub fn order_clauses(
     alloc: Global,
     encoding: &Encoding,

@@ -1,5 +1,5 @@
 -- What a try at a candidate says, by the formula with the clauses of the order.
-use Rattle.std.proofs.Common.{◌≡◌, ℕ, Bool, List, refl, sym, ap, ◌∙◌, subst}
+use Rattle.std.proofs.Common.{◌≡◌, ℕ, Bool, List, sym, ap, ◌∙◌, subst}
 use Rattle.std.specs.Prelude.{map}
 use Rattle.schedule.specs.Links.{TopologyValue}
 use Rattle.schedule.specs.Sends.{ScheduleValue}
@@ -15,10 +15,8 @@ use Rattle.round_encoding.specs.Frames.{Frame, frame_of}
 use Rattle.round_encoding.specs.Decoding.{decoded}
 use Rattle.round_encoding.specs.Candidates.{IsEncodingOf}
 use Rattle.sat_core.specs.declared.solving.SatAnswer.{SatAnswer}
-use Rattle.sat_core.specs.declared.solving.SatAnswer.TheVariants as answer
 use Rattle.candidate_order.specs.declared.candidate.Candidate.{Candidate}
 use Rattle.candidate_order.specs.declared.outcome.Outcome.{Outcome}
-use Rattle.candidate_order.specs.declared.outcome.Outcome.TheVariants as outcome
 use Rattle.candidate_order.specs.Ranges.{LimitsValue}
 use Rattle.candidate_order.specs.Frontiers.{QuestionValue, IsWithin, instance_for}
 use Rattle.candidate_formula.specs.Questions.{IsSmallQuestion, IsSought, copying_question}
@@ -82,19 +80,6 @@ module _ (q : QuestionValue) (x : Candidate) (e : Encoding) (f : FormulaValue) (
     };
     ordered = λ s o. let it = says.solved s o in (said_solves it.0 s (search.model it.0 it.1) it.2).1;
   }
-
-schedule_in : ScheduleValue → Outcome → ScheduleValue
-schedule_in d (outcome.Solved schedule) = schedule
-schedule_in d outcome.Refuted = d
-schedule_in d (outcome.Unknown n) = d
-
-pub says_solved : (e : Encoding) (values : List Bool) (limit : ℕ) (s : ScheduleValue) → s ≡ decoded (record { map = e.map; extra = e.extra }) values → Says e (answer.Model values) limit (outcome.Solved s)
-unfolding schedule_in
-says_solved e values limit s is = record {
-  solved = λ schedule same. (values, refl, sym (ap (schedule_in s) same) ∙ is);
-  refuted = λ same. absurd (cc);
-  unknown = λ n same. absurd (cc);
-}
 
 -- the same lines are a log of the same formula
 pub spent_same : (f : FormulaValue) (lines now : List ProofLineValue) (n : ℕ) → now ≡ lines → SpentOn f lines n → SpentOn f now n

@@ -42,7 +42,7 @@ pub struct OrderedEngine {
 impl OrderedEngine {
     /// An engine for the candidates of a topology and a collective, within the limits; of a reduction it settles those of
     /// the copying collective of which it is the inverse, so that the topology is then the one turned round. The only error is
-    /// want of memory.
+    /// `OutOfMemory`.
     pub fn new(
         alloc: Global,
         topology: &Topology,
@@ -59,7 +59,7 @@ impl OrderedEngine {
         ensures suits { IfOk result (λ e. (x : Candidate) (schedule : ScheduleValue) → ⟦<OrderedEngine as EngineView>⟧.suits e x schedule ↔ OrderedFor (⟦<OrderedEngine as EngineView>⟧.question e) x schedule) }
     {
         Ok(OrderedEngine {
-            question: Question::new(alloc, topology, spec, limits)?,
+            question: Question::new(topology, spec, limits)?,
             entries: Vec::new(alloc),
             stopped: None,
             log: Vec::new(alloc),

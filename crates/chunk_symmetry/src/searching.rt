@@ -16,7 +16,7 @@ pub(crate) struct Found {
 }
 
 /// Searches for a model of a formula, or a refutation, and learns at most so many lines, which are kept in memory. The only
-/// error is want of memory.
+/// error is `OutOfMemory`.
 pub(crate) fn search(alloc: Global, formula: &Formula, limit: u32) -> Result<Found, OutOfMemory>
     ensures { IfOk result (λ found. IsSearch formula.now limit found.lines.items found.answer) }
 {

@@ -1,19 +1,7 @@
 -- A literal and its number give each other.
-use Rattle.std.proofs.Common.{◌≡◌, ℕ, ◌+◌, ◌*◌, ◌/◌, ◌%◌, ◌<◌, Bool, true, false, cond, eqb, refl, ap, sym, ◌∙◌, arith}
-use Rattle.std.proofs.lemmas.Bool.{eqb-true, eqb-false}
-use Rattle.std.proofs.lemmas.Nat.{div-add-mod', mod_below, div-mul-add, mod-mul-add}
+use Rattle.std.proofs.Common.{◌≡◌, ℕ, ◌+◌, ◌*◌, ◌/◌, ◌%◌, ◌<◌, Bool, true, false, eqb, ap, sym, ◌∙◌, arith}
+use Rattle.std.proofs.lemmas.Nat.{div-mul-add, mod-mul-add}
 use Rattle.cnf_formula.specs.Literals.{LitValue, code_of, literal_of}
-
--- the last digit of a number in base 2
-digit : (n : ℕ) (b : Bool) → eqb (n % 2) 0 ≡ b → n % 2 ≡ cond b 0 1
-digit n true e = eqb-true (n % 2) 0 e
-digit n false e = let no : n % 2 ≡ 0 → ⊥ = eqb-false (n % 2) 0 e in omega (arith, no, mod_below n 2 (omega arith))
-
-pub code-literal : (n : ℕ) → code_of (literal_of n) ≡ n
-code-literal n =
-    let low : n % 2 ≡ cond (eqb (n % 2) 0) 0 1 = digit n (eqb (n % 2) 0) refl in
-    let whole : n / 2 * 2 + n % 2 ≡ n = div-add-mod' n 2 in
-    omega (arith, low, whole)
 
 -- the number of a variable and a sign
 pub halves : (v d : ℕ) → d < 2 → ((2 * v + d) / 2 ≡ v) × ((2 * v + d) % 2 ≡ d)

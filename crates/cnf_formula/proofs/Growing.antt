@@ -3,7 +3,7 @@ use Rattle.std.proofs.Common.{◌≡◌, ℕ, zero, suc, ◌+◌, List, [], ◌�
 use Rattle.std.specs.Prelude.{flat_map}
 use Rattle.std.specs.List.{range_with_len, enumerate_from}
 use Rattle.std.proofs.lemmas.List.{append-nil, map-append, take_more, take_all}
-use Rattle.std.proofs.lemmas.List.Concat.{flat_map-append}
+use Rattle.std.proofs.lemmas.List.Concat.{flat_map-append, flat_map_single}
 use Rattle.std.proofs.lemmas.List.Folds.{flat_map-map}
 use Rattle.std.proofs.lemmas.List.FromFn.{map-range_with_len_more, length-enumerate_from, get_or-enumerate_from}
 use Rattle.cnf_formula.specs.Literals.{LitValue}
@@ -64,16 +64,12 @@ grown_numbered old last g xs ys n same all e =
     let few : length (enumerate_from 0 xs) ≤ n = omega (arith, all, length-enumerate_from 0 xs) in
     e ∙ ap (λ zs. with_clauses old (flat_map g zs)) (take_all n (enumerate_from 0 xs) few) ∙ ap (λ zs. with_clauses old (flat_map g (enumerate_from 0 zs))) same
 
-map_single : {X Y : Type 0} (f : X → Y) (xs : List X) → flat_map (λ x. f x ∷ []) xs ≡ map f xs
-map_single f [] = refl
-map_single f (x ∷ xs) = ap (λ r. f x ∷ r) (map_single f xs)
-
 -- one more turn of a loop over a range whose turns give one clause each
 pub grows_by_one : (old before after : FormulaValue) (g : ℕ → List LitValue) (a n j : ℕ) → a + n ≡ j
     → before ≡ with_clauses old (map g (range_with_len a n)) → after ≡ with_clauses before (g j ∷ []) → after ≡ with_clauses old (map g (range_with_len a (n + 1)))
 grows_by_one old before after g a n j e b f =
-    grows_more old before after (λ x. g x ∷ []) a n j e (b ∙ ap (with_clauses old) (sym (map_single g (range_with_len a n)))) f
-    ∙ ap (with_clauses old) (map_single g (range_with_len a (n + 1)))
+    grows_more old before after (λ x. g x ∷ []) a n j e (b ∙ ap (with_clauses old) (sym (flat_map_single g (range_with_len a n)))) f
+    ∙ ap (with_clauses old) (flat_map_single g (range_with_len a (n + 1)))
 
 -- pairs, by their first number
 pub flat_map-pairs : {X : Type 0} (g : ℕ × ℕ → List X) (cs ns : List ℕ) → flat_map g (flat_map (λ c. map (λ n. (c, n)) ns) cs) ≡ flat_map (λ c. flat_map (λ n. g (c, n)) ns) cs

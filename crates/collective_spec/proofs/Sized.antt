@@ -1,5 +1,6 @@
 -- What is asked for, whether it is a collective of the table or a pattern.
-use Rattle.std.proofs.Common.{◌≡◌, ℕ, ◌<◌, Bool, true, false, not, Option, None, Some, IfSome, refl}
+use Rattle.std.proofs.Common.{◌≡◌, ℕ, ◌<◌, Bool, true, Option, None, Some, IfSome, refl}
+use Rattle.std.proofs.lemmas.Bool.{not-true}
 use Rattle.schedule.specs.Placed.{placed}
 use Rattle.schedule.proofs.Placing.{placement-placed}
 use Rattle.collective_spec.specs.declared.kind.Kind.{Kind}
@@ -31,10 +32,6 @@ pub demand_among : (s : Spec) (nodes c : ℕ) → IsAmong (chunks_in s nodes c) 
 demand_among (spec.Standard collective) nodes c = among _ nodes _
 demand_among (spec.Custom p) nodes c = among _ nodes _
 
-not_given : (b : Bool) → not b ≡ true → b ≡ false
-not_given false e = refl
-not_given true e = absurd (cc)
-
 is_kind : (k : Kind) → is_custom k ≡ true → kind.Custom ≡ k
 is_kind kind.Broadcast e = absurd (cc)
 is_kind kind.Gather e = absurd (cc)
@@ -51,5 +48,5 @@ fitting_kind collective None fits = refl
 fitting_kind collective (Some p) fits = is_kind collective.kind fits
 
 pub fitting_spec : (nodes : ℕ) (collective : Collective) (pattern : Option PatternValue) → fits_kind collective.kind pattern ≡ true → collective.root < nodes → IfSome pattern (IsPattern nodes) → IsSpec nodes (spec_of collective pattern)
-fitting_spec nodes collective None fits root given = (not_given (is_custom collective.kind) fits, root)
+fitting_spec nodes collective None fits root given = (not-true (is_custom collective.kind) fits, root)
 fitting_spec nodes collective (Some p) fits root given = given

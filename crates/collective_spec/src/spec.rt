@@ -61,7 +61,7 @@ impl Spec {
 }
 
 /// The instance of what is asked for, on so many nodes and with the chunk count `c`, at most 16. Of a reduction it is
-/// that of the copying collective of which it is the inverse. The only error is want of memory.
+/// that of the copying collective of which it is the inverse. The only error is `OutOfMemory`.
 pub fn spec_instance(alloc: Global, spec: &Spec, nodes: u8, c: u8) -> Result<Instance, OutOfMemory>
     requires spec { IsSpec nodes spec.now }
     requires allowed { IsTrue (allows (kind_in spec.now) nodes c) }
@@ -84,7 +84,7 @@ pub fn spec_instance(alloc: Global, spec: &Spec, nodes: u8, c: u8) -> Result<Ins
 }
 
 /// The pairs of a chunk and a node that have to be reached: where the chunks have to be after, or where the sums have to
-/// be. The chunk count `c` is from 1 to 16. The only error is want of memory.
+/// be. The chunk count `c` is from 1 to 16. The only error is `OutOfMemory`.
 pub fn spec_demand(alloc: Global, spec: &Spec, nodes: u8, c: u8) -> Result<Placement, OutOfMemory>
     requires spec { IsSpec nodes spec.now }
     requires some { 1 ≤ c }

@@ -1,4 +1,4 @@
-//! A ledger that checks each line.
+//! A ledger that checks each line (as RUP along its hints).
 
 ghost use Rattle.std.specs.Prelude.{◌≡◌, ◌≤◌, ◌<◌, ◌+◌, [], ◌∷◌, ◌++◌, true, false, length, vec_len, vec_capacity, refl, IfOk, OnErr, OnOk};
 ghost use Rattle.proof_rules.specs.declared.verdict.LineVerdict.TheVariants.{Accepted};
@@ -61,7 +61,7 @@ impl CheckedLedger {
         &self.lines
     }
 
-    /// Gives the checker a line, and makes room for it and a copy. The lines stay. After a fault want of memory is answered
+    /// Gives the checker a line, and makes room for it and a copy. The lines stay. After a fault out of memory is answered
     /// from then on.
     pub(crate) fn prepare(&mut self, line: &ProofLine) -> Result<ProofLine, OutOfMemory>
         requires { verdict_of (checker_of self.old.checker.formula self.old.lines.items) line.now ≡ Accepted true }

@@ -5,7 +5,7 @@ ghost use Rattle.std.specs.Prelude.{◌≡◌, IfOk};
 use cnf_formula::{Formula, OutOfMemory, ProofLine};
 use std::alloc::Global;
 
-/// A formula with the same variables and clauses. The only error is want of memory.
+/// A formula with the same variables and clauses. The only error is `OutOfMemory`.
 pub fn copy_of_formula(alloc: Global, formula: &Formula) -> Result<Formula, OutOfMemory>
     ensures { IfOk result (λ copy. copy ≡ formula.now) }
 {

@@ -1,4 +1,4 @@
-//! A ledger that keeps its lines in memory.
+//! A ledger that keeps its lines, the learned clauses as LRAT additions, in memory.
 
 ghost use Rattle.std.specs.Prelude.{◌≡◌, ◌≤◌, [], ◌∷◌, length, refl, IfOk};
 ghost use Rattle.ledger_rules.specs.Logs.{learned};

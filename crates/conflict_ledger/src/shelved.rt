@@ -1,4 +1,4 @@
-//! A ledger that writes its lines to a shelf.
+//! A ledger that writes its lines, the learned clauses as LRAT additions, to a shelf.
 
 ghost use Rattle.std.specs.Prelude.{◌≡◌, ◌≢◌, ◌⊎◌, ℕ, ◌<◌, ◌++◌, [], ◌∷◌, List, Some, IsTrue, length, take, Err, IfOk, OnOk};
 ghost use Rattle.outer_ports.specs.Port.{HasCause, Tells};

@@ -1,14 +1,14 @@
-//! What the cuts and the floor say of candidates, and of sums.
+//! What the cuts and the floor say of candidates, and of sums; and what an engine over another does beside a store.
 
-ghost use Rattle.std.specs.Prelude.{◌≡◌, ◌≢◌, ◌*◌, ◌≤◌, ℕ, true, false};
+ghost use Rattle.std.specs.Prelude.{◌≡◌, ◌≢◌, ◌↔◌, ◌*◌, ◌≤◌, ℕ, true, false};
 ghost use Rattle.schedule.specs.Links.{TopologyValue, reversed_of};
 ghost use Rattle.schedule.specs.Placed.{PlacementValue};
-ghost use Rattle.schedule.specs.Sends.{ScheduleValue, IsSchedule, IsInRange};
+ghost use Rattle.schedule.specs.Sends.{ScheduleValue};
 ghost use Rattle.schedule.specs.Summing.{Sums};
 ghost use Rattle.schedule.specs.Rows.{everywhere};
 ghost use Rattle.collective_spec.specs.declared.spec.Spec.{Spec};
 ghost use Rattle.collective_spec.specs.Kinds.{allows};
-ghost use Rattle.collective_spec.specs.Collectives.{IsSpec, adds_up, kind_in};
+ghost use Rattle.collective_spec.specs.Collectives.{IsSpec, adds_up, kind_in, spec_demand};
 ghost use Rattle.candidate_order.specs.Copied.{copied_question, copied_spec};
 ghost use Rattle.candidate_order.specs.Frontiers.{QuestionValue, IsSolvable};
 ghost use Rattle.inversion.specs.Reductions.{HeldBySome};
@@ -16,13 +16,17 @@ ghost use Rattle.node_cuts.specs.Sides.{NodeSet};
 ghost use Rattle.node_cuts.specs.Cuts.{need, width};
 ghost use Rattle.node_cuts.specs.Floors.{floor_of};
 ghost use Rattle.node_cuts.specs.Tables.{table_of};
+ghost use Rattle.cut_bounds.specs.declared.engine.CutEngine.{CutEngine};
 ghost use Rattle.cut_bounds.specs.Cutting.{cut_in, is_cut};
 
+use crate::engine::CutEngine;
 use candidate_order::Candidate;
 use collective_spec::Kind;
+use engine_rules::{Engine, EngineView};
 use inversion::frontier_laws::a_reduction_is_solvable_where_its_copy_is;
-use inversion::reduction_laws::an_inverse_of_a_sum_solves;
-use node_cuts::laws::{cuts_refute, floors_bound};
+pub use node_cuts::laws::{
+    bits_are_members, cuts_refute, floors_bound, least_counts_are_least, needs_are_proportional,
+};
 
 /// A candidate that a listed set of nodes refutes has no schedule: of a collective that copies over its links, and of a
 /// reduction over the links turned round.
@@ -39,27 +43,31 @@ pub fn cut_candidates_have_no_schedule()
 /// turned round, is at most what can in the rounds of a schedule that sums, whatever its steps.
 pub fn sums_bring_in_what_is_needed()
     ensures { (u : NodeSet) (t : TopologyValue) (demand : PlacementValue) (s : ScheduleValue) (steps rounds : ℕ) → demand.nodes ≡ t.nodes → HeldBySome demand
-        → IsSchedule s → IsInRange demand.chunks demand.nodes s → Sums t demand s steps rounds
-        → need u demand (everywhere demand.chunks demand.nodes) ≤ width u (reversed_of t) * rounds }
-{
-    cuts_refute();
-    an_inverse_of_a_sum_solves();
-}
+        → Sums t demand s steps rounds → need u demand (everywhere demand.chunks demand.nodes) ≤ width u (reversed_of t) * rounds }
+{}
 
 /// A reduction has no schedule of fewer rounds for its chunk count than the floor over the links turned round says, whatever
-/// its steps and its chunk count.
+/// its steps and its chunk count: of all schedules that sum, of however many steps of however many rounds.
 pub fn floors_bound_sums()
-    ensures { (q : QuestionValue) (x : Candidate) → adds_up q.spec ≡ true → kind_in q.spec ≢ Kind.Allreduce → IsSpec q.topology.nodes q.spec
+    ensures schedules { (t : TopologyValue) (spec : Spec) (s : ScheduleValue) (steps rounds c : ℕ) → adds_up spec ≡ true → kind_in spec ≢ Kind.Allreduce → IsSpec t.nodes spec
+        → allows (kind_in spec) t.nodes c ≡ true → Sums t (spec_demand spec t.nodes c) s steps rounds
+        → (floor_of (reversed_of t) spec).above * c ≤ rounds * (floor_of (reversed_of t) spec).below }
+    ensures solvable { (q : QuestionValue) (x : Candidate) → adds_up q.spec ≡ true → kind_in q.spec ≢ Kind.Allreduce → IsSpec q.topology.nodes q.spec
         → allows (kind_in q.spec) q.topology.nodes x.c ≡ true → IsSolvable q x
         → (floor_of (reversed_of q.topology) q.spec).above * x.c ≤ x.r * (floor_of (reversed_of q.topology) q.spec).below }
-{
-    floors_bound();
-    a_reduction_is_solvable_where_its_copy_is();
-}
+{}
 
 /// A reduction has the cuts, the floor and the table of the collective of which it is the inverse.
 pub fn a_reduction_has_the_cuts_of_its_copy()
     ensures cut { (t : TopologyValue) (spec : Spec) (x : Candidate) → cut_in t (copied_spec spec) x ≡ cut_in t spec x }
     ensures floor { (t : TopologyValue) (spec : Spec) → floor_of t (copied_spec spec) ≡ floor_of t spec }
     ensures table { (t : TopologyValue) (spec : Spec) → table_of t (copied_spec spec) ≡ table_of t spec }
+{}
+
+/// Beside a store the engine counts the faults of the engine within, agrees with what that agrees with, and changes what that
+/// changes.
+pub fn the_store_is_that_of_the_engine_within<T, E: Engine<T>>()
+    ensures faults { (e : CutEngine E ⟦<E as EngineView>⟧) (store : T) → ⟦<CutEngine<E> as Engine<T>>⟧.faults e store ≡ E.faults e.inner store }
+    ensures agrees { (e : CutEngine E ⟦<E as EngineView>⟧) (store : T) → ⟦<CutEngine<E> as Engine<T>>⟧.agrees e store ↔ E.agrees e.inner store }
+    ensures moves { (a : CutEngine E ⟦<E as EngineView>⟧) (before : T) (b : CutEngine E ⟦<E as EngineView>⟧) (now : T) → ⟦<CutEngine<E> as Engine<T>>⟧.moves a before b now ↔ E.moves a.inner before b.inner now }
 {}

@@ -48,7 +48,7 @@ pub fn cuts_are_refuted<E: EngineView>(engine: &CutEngine<E>, frontier: &Frontie
     let _inner = engine.inner();
 }
 
-/// Parts the refuted candidates of a frontier, which the engine's search gave. The only error is want of memory.
+/// Parts the refuted candidates of a frontier, which the engine's search gave. The only error is `OutOfMemory`.
 pub fn part_refuted<E: EngineView>(
     alloc: Global,
     engine: &CutEngine<E>,

@@ -3,11 +3,10 @@ use Rattle.std.proofs.Common.{◌≡◌, false, ℕ, List, refl, ap, subst, ◌�
 use Rattle.std.specs.Prelude.{All}
 use Rattle.outer_ports.specs.declared.part.Part.TheVariants.{Whole}
 use Rattle.candidate_order.specs.declared.candidate.Candidate.{Candidate}
-use Rattle.candidate_order.specs.Frontiers.{QuestionValue, RightFrontier, Searched}
-use Rattle.proof_rules.specs.Refuting.{Exhausted}
-use Rattle.candidate_formula.specs.Formulas.{formula_for}
+use Rattle.candidate_order.specs.Frontiers.{QuestionValue}
 use Rattle.topology_text.specs.Value.{NamedTopologyValue}
 use Rattle.report_form.specs.Reports.{WordsValue, ReportValue, question_of}
+use Rattle.engine_search.specs.Found.{IsFound}
 use Rattle.link_faults.specs.Carrying.{is_carried, narrowed_question}
 use Rattle.run_rules.specs.declared.status.Status.TheVariants.{Done}
 use Rattle.run_rules.specs.Degraded.{IsNewSearch, degraded_text, left_of, old_refuted}
@@ -24,9 +23,7 @@ new_search r group width old given found words named left text made are said on 
     let left_is : left ≡ left_of r.topology group width = is ∙ ap (λ (t : NamedTopologyValue). left_of t group width) on in
     record {
       frontier = f;
-      right = subst (λ q. RightFrontier q f) asked after.right;
-      searched = subst (λ q. Searched q f) asked after.searched;
-      exhausted = subst (λ q. All (λ u. Exhausted (formula_for q u.candidate) u.conflicts) f.unknown) asked after.exhausted;
+      found = subst (λ q. IsFound q f) asked after.found;
       points = subst (λ (xs : List Candidate). All (λ p. is_carried xs p.candidate ≡ false) f.points) are after.points;
       unknown = subst (λ (xs : List Candidate). All (λ u. is_carried xs u.candidate ≡ false) f.unknown) are after.unknown;
       says = record {

@@ -6,7 +6,7 @@ use Rattle.text_lines.specs.Check.{◌>>=◌, refuse}
 use Rattle.candidate_order.specs.Frontiers.{QuestionValue}
 use Rattle.round_encoding.specs.Candidates.{size_limit}
 use Rattle.candidate_formula.specs.Sizes.{size_of}
-use Rattle.frontier_audit.specs.Candidates.{counts_of}
+use Rattle.candidate_formula.specs.Counts.{counts_of}
 use Rattle.report_form.specs.Reports.{ReportValue}
 use Rattle.run_rules.specs.declared.answer.Answer.{Answer}
 use Rattle.run_rules.specs.declared.status.Status.TheVariants.{NoCandidate, TooLarge}

@@ -1,6 +1,6 @@
 //! Audited reports whose links have a fault, and the answers to them.
 
-ghost use Rattle.std.specs.Prelude.{◌≡◌, ◌≢◌, ◌≤◌, length, None, IfOk, IsTrue, OnErr, Err};
+ghost use Rattle.std.specs.Prelude.{◌≡◌, ◌≢◌, ◌≤◌, length, None, IfOk, IsTrue, OnErr, Ok, Err};
 ghost use Rattle.outer_ports.specs.Port.{HasCause, Tells};
 ghost use Rattle.outer_ports.specs.Shelf.{FilesStay};
 ghost use Rattle.outer_ports.specs.declared.part.Part.TheVariants.{Whole};
@@ -13,23 +13,24 @@ ghost use Rattle.run_rules.specs.Commands.{IsRefusal};
 ghost use Rattle.run_rules.specs.Degraded.{IsDegraded, IsNewSearch};
 ghost use Rattle.run_rules.specs.Read.{IsSearchableAs};
 ghost use Rattle.run_rules.specs.Refusals.{Refusal};
+ghost use Rattle.run_rules.specs.Said.{FilesValue};
 ghost use Rattle.run_rules.specs.Tasks.{degrade_asked, degrade_in, limit};
 ghost use Rattle.degrade_command.specs.Faults.{CanFail, refused_first};
+ghost use Rattle.degrade_command.specs.Judged.{IsJudged};
 
 use crate::OutOfMemory;
 use crate::fault::{LinkFault, fault_refusal};
 use crate::printing::print_found;
 use crate::refuted::old_refuted;
 use crate::searching::search_left;
-use check_command::verdict_answer;
 use degraded_links::narrow;
 use frontier_audit::{AuditVerdict, audit};
 use outer_ports::{Part, Shelf};
 use report_form::{Report, spec_of_part};
-use run_rules::{Answer, Halt, ReportText, Status, report_of_text, search_refusal};
+use run_rules::{Answer, Halt, ReportText, Status, report_of_text, search_refusal, verdict_answer};
 use std::alloc::Global;
 
-/// The answer to a fault of a report that is right: its search done anew. The only error is want of memory.
+/// The answer to a fault of a report that is right: its search done anew. The only error is `OutOfMemory`.
 fn search_anew(alloc: Global, report: &Report, fault: LinkFault) -> Result<Answer, OutOfMemory>
     requires fault { CanFail report.now fault.group fault.width }
     requires small { size_of (question_of report.now.words report.now.topology Whole) ≤ size_limit }
@@ -57,6 +58,40 @@ fn search_anew(alloc: Global, report: &Report, fault: LinkFault) -> Result<Answe
     })
 }
 
+/// The verdict on a report, by an audit over the shelf, of which no file changes.
+fn judged<H: Shelf>(alloc: Global, report: &Report, shelf: &mut H) -> Result<AuditVerdict, Halt>
+    requires small { size_of (question_of report.now.words report.now.topology Whole) ≤ size_limit }
+    ensures judged { IfOk result (λ verdict. IsJudged report.now verdict (record { told = H.tells shelf.new; before = H.file shelf.old; after = H.file shelf.new })) }
+    ensures right { result ≡ Ok AuditVerdict.Verified → IsRight report.now }
+    ensures stay { IsTrue (H.tells shelf.new) → FilesStay (H.file shelf.old) (H.file shelf.new) }
+    ensures source { result ≢ Err Halt.Source }
+    ensures told { Tells (H.tells shelf.old) (H.tells shelf.new) }
+    ensures cause { HasCause Halt.Shelf (H.faults shelf.old) (H.faults shelf.new) result }
+    ensures steady { result ≢ Err Halt.Shelf → H.faults shelf.new ≡ H.faults shelf.old }
+{
+    Ok(audit(alloc, report, shelf)?)
+}
+
+/// The answer to a fault of a report behind the verdict on it: its search done anew where it is verified, and else the denial.
+/// The only error is `OutOfMemory`.
+fn judged_answer(
+    alloc: Global,
+    report: &Report,
+    fault: LinkFault,
+    verdict: AuditVerdict,
+) -> Result<Answer, OutOfMemory>
+    requires fault { CanFail report.now fault.group fault.width }
+    requires small { size_of (question_of report.now.words report.now.topology Whole) ≤ size_limit }
+    requires right { verdict ≡ AuditVerdict.Verified → IsRight report.now }
+    ensures answers { (files : FilesValue) → IsJudged report.now verdict files → IfOk result (λ a. IsDegraded report.now fault.group fault.width files a.status a.text.items) }
+    ensures accepted { IfOk result (λ a. ¬ IsRefusal a.status) }
+{
+    match verdict {
+        AuditVerdict::Verified => search_anew(alloc, report, fault),
+        denied => verdict_answer(alloc, denied),
+    }
+}
+
 /// The answer to a fault of a report that takes it: the report is audited first, and searched anew where it is verified.
 fn audited_answer<H: Shelf>(
     alloc: Global,
@@ -74,10 +109,8 @@ fn audited_answer<H: Shelf>(
     ensures cause { HasCause Halt.Shelf (H.faults shelf.old) (H.faults shelf.new) result }
     ensures steady { result ≢ Err Halt.Shelf → H.faults shelf.new ≡ H.faults shelf.old }
 {
-    match audit(alloc, report, shelf)? {
-        AuditVerdict::Verified => Ok(search_anew(alloc, report, fault)?),
-        denied => Ok(verdict_answer(alloc, denied)?),
-    }
+    let verdict = judged(alloc, report, shelf)?;
+    Ok(judged_answer(alloc, report, fault, verdict)?)
 }
 
 /// The answer that refuses a fault of a report, or the search of the report. `None` where both can be.
@@ -120,8 +153,8 @@ fn fault_answer<H: Shelf>(
 
 /// The answer to a fault of the links of a report whose text came whole. The report is audited first, over the shelf; its
 /// search is then done anew over the links that are left, where what the report refutes stays refuted. Before that the text,
-/// the fault or the size may be refused, and the shelf is not looked at. No file of the shelf changes: the proofs of the new
-/// search are kept in memory and not handed out.
+/// the fault or the size may be refused, and the shelf is not looked at. No file of the shelf changes, and no proof of
+/// the new search is kept.
 ///
 /// [`Halt::Shelf`] comes only where the shelf's count of faults rose, and [`Halt::Source`] never.
 pub fn degrade_answer<H: Shelf>(

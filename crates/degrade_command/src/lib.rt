@@ -3,6 +3,7 @@
 #![tactic(auto)]
 
 mod answering;
+mod empty_shelf;
 mod fault;
 mod found;
 mod printing;

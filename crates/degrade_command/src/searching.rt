@@ -11,32 +11,28 @@ ghost use Rattle.link_faults.specs.Carrying.{IsOldRefuted, narrowed_question};
 ghost use Rattle.degrade_command.specs.After.{IsFoundAfter};
 
 use crate::OutOfMemory;
+use crate::empty_shelf::EmptyShelf;
 use crate::fault::LinkFault;
 use crate::found::Found;
-use crate::refuted::parted;
-use candidate_order::{Candidate, Frontier, Limits};
+use candidate_order::{Candidate, Limits};
 use candidate_solver::SatEngine;
 use collective_spec::{Kind, Spec};
 use degraded_links::{CarryEngine, EngineFault, carried_is_refuted};
 use engine_search::{frontier_by, links_to_search};
-use outer_ports::{Part, SureShelf};
+use outer_ports::Part;
 use schedule::Topology;
 use std::alloc::Global;
 
-/// The links over which an engine has to search, turned round for a reduction, as a value of their own. The only error is want
-/// of memory.
+/// The links over which an engine has to search, as a value of their own. The only error is `OutOfMemory`.
 fn own_links(topology: &Topology, spec: &Spec) -> Result<Topology, OutOfMemory>
     ensures { IfOk result (λ links. links ≡ searched_links topology.now spec.now) }
 {
-    if spec.adds_up() {
-        return topology.reversed();
-    }
-    topology.clone()
+    links_to_search(topology, spec)?.into_owned()
 }
 
 /// The frontier of a collective over the links that a fault left of the given ones, and which of its refuted candidates the old
-/// ones carry; these are refuted without a search, and the proofs of the others stay in memory. The old candidates had no
-/// schedule over the given links. The only error is want of memory.
+/// ones carry; these are refuted without a search, and of the others no proof is kept. The old candidates had no schedule over
+/// the given links. The only error is `OutOfMemory`.
 pub(crate) fn search_left(
     alloc: Global,
     given: &Topology,
@@ -59,17 +55,11 @@ pub(crate) fn search_left(
     let links = links_to_search(left, spec)?;
     let inner = SatEngine::new(alloc, &links, spec, limits, Part::Whole, false)?;
     let mut engine = CarryEngine::new(alloc, inner, before, fault.group, fault.width, old);
-    let mut shelf = SureShelf::new(alloc)?;
-    match frontier_by(alloc, &mut engine, &mut shelf, left, spec, limits) {
+    match frontier_by(alloc, &mut engine, &mut EmptyShelf, left, spec, limits) {
         Ok(frontier) => {
             // This says that no point and no unknown candidate is carried.
             carried_is_refuted(&engine, &frontier);
-            let (carried, refuted) = parted(alloc, engine.old(), frontier.refuted())?;
-            Ok(Found {
-                frontier,
-                carried,
-                refuted,
-            })
+            Found::new(alloc, engine.old(), frontier)
         }
         Err(EngineFault::OutOfMemory) => Err(OutOfMemory),
         Err(EngineFault::ShelfFailed) => unreachable!(),

@@ -5,6 +5,7 @@ use Rattle.cnf_formula.specs.Formulas.{FormulaValue}
 use Rattle.proof_rules.specs.Refuting.{Exhausted}
 use Rattle.candidate_order.specs.declared.candidate.Candidate.{Candidate}
 use Rattle.candidate_order.specs.Frontiers.{QuestionValue, FrontierValue, RightFrontier, Searched, IsWithin}
+use Rattle.candidate_formula.specs.Formulas.{formula_for}
 use Rattle.engine_search.specs.Asked.{copying_schedule}
 
 -- it is right and searched in order, what was refuted is within the limits, the engine's formula of what was given up is exhausted, and each schedule, as the engine found it, has what the engine promises
@@ -14,3 +15,7 @@ pub record IsFoundBy (q : QuestionValue) (formula : Candidate → FormulaValue) 
   pub within : All (IsWithin q) f.refuted
   pub exhausted : All (λ u. Exhausted (formula u.candidate) u.conflicts) f.unknown
   pub suited : All (λ p. suits p.candidate (copying_schedule q.spec p.schedule)) f.points
+
+-- by the formula of each candidate; nothing more is promised of the schedules
+abbrev pub IsFound : QuestionValue → FrontierValue → Type 0
+IsFound q f = IsFoundBy q (formula_for q) (λ x s. Unit {0}) f

@@ -13,7 +13,7 @@ use schedule::Topology;
 use std::borrow::Cow;
 
 /// The links over which an engine has to search for a collective on the topology: those links turned round for a reduction,
-/// which is found as the inverse of what copies, and else the links as they are. The only error is want of memory, which a
+/// which is found as the inverse of what copies, and else the links as they are. The only error is `OutOfMemory`, which a
 /// collective that copies needs none of.
 #[tactic(auto, using(crate::proofs::Turned::turned_size))]
 pub fn links_to_search<'a>(

@@ -1,8 +1,9 @@
 //! The search with an engine, and the inversion of what it found for a reduction.
 
-ghost use Rattle.std.specs.Prelude.{◌≡◌, ◌≢◌, [], None, Err, IfOk, OnOk};
+ghost use Rattle.std.specs.Prelude.{◌≡◌, ◌≢◌, ◌↔◌, [], None, Err, IfOk, OnOk};
 ghost use Rattle.std.specs.List.Sorted.{IsPermutation};
 ghost use Rattle.outer_ports.specs.Port.{HasCause};
+ghost use Rattle.schedule.specs.Sends.{ScheduleValue};
 ghost use Rattle.collective_spec.specs.Collectives.{IsSpec};
 ghost use Rattle.candidate_order.specs.declared.candidate.Candidate.{Candidate};
 ghost use Rattle.pareto_search.specs.Recorded.{StaysWithin, entries_of};
@@ -45,6 +46,7 @@ pub fn frontier_by<T, E: Engine<T>>(
     ensures within { StaysWithin (E.question engine.old) (E.entries engine.new) (E.stopped engine.new) }
     ensures question { E.question engine.new ≡ E.question engine.old }
     ensures formula { (x : Candidate) → E.formula engine.new x ≡ E.formula engine.old x }
+    ensures suits_stay { (x : Candidate) (schedule : ScheduleValue) → E.suits engine.new x schedule ↔ E.suits engine.old x schedule }
     ensures moves { E.moves engine.old store.old engine.new store.new }
     ensures agrees { OnOk result (E.agrees engine.new store.new) }
     ensures cause { HasCause EngineFault.ShelfFailed (E.faults engine.old store.old) (E.faults engine.new store.new) result }

@@ -24,13 +24,13 @@ use Rattle.candidate_formula.specs.Questions.{IsSmallQuestion, IsSought, copying
 use Rattle.candidate_formula.proofs.Asked.{same_size, small_by_copying, within_by, reduced_formula}
 use Rattle.candidate_formula.proofs.Copying.{same_allowed, copied_stays}
 use Rattle.candidate_formula.proofs.TurnedSize.{copied_size}
-use Rattle.frontier_audit.specs.Asked.{IsAsked}
+use Rattle.frontier_audit.specs.Auditable.{IsAuditable}
 use Rattle.frontier_audit.proofs.Right.{apart, apart_in}
 use Rattle.frontier_audit.proofs.Unsolvable.{parts_fit}
 
 -- ---- the links of the formulas
 
-module _ (q : QuestionValue) (asked : IsAsked q) where
+module _ (q : QuestionValue) (asked : IsAuditable q) where
   abbrev links : Bool → TopologyValue
   links b = if b then reversed_of q.topology else q.topology
 
@@ -55,10 +55,7 @@ module _ (q : QuestionValue) (asked : IsAsked q) where
 
 -- the parts of what is asked are these
 module _ (t searched : TopologyValue) (s : Spec) (l : LimitsValue) (q : QuestionValue) (is : record { topology = t; spec = s; limits = l } ≡ q)
-    (keeps : IsAsked (record { topology = t; spec = s; limits = l }) × (searched ≡ searched_on (record { topology = t; spec = s; limits = l }))) where
-  pub is_asked : IsAsked q
-  is_asked = subst IsAsked is keeps.0
-
+    (keeps : IsAuditable (record { topology = t; spec = s; limits = l }) × (searched ≡ searched_on (record { topology = t; spec = s; limits = l }))) where
   pub is_sought : (x : Candidate) → IsWithin q x → IsSought searched s x
   is_sought x w = subst (λ links. IsSought links s x) (sym keeps.1) (sought_on (record { topology = t; spec = s; limits = l }) keeps.0 x (subst (λ p. IsWithin p x) (sym is) w))
 
@@ -108,7 +105,7 @@ module _ (r : ReportValue) (ok : IsReport r) (p : Part) (has : Contains (parts_o
       let same = All-contains (Whole r.topology.custom r.words.collective.root r.topology.topology.nodes r.words.limits.max_c k) (parts_of k) p (as_many r.topology.custom r.words.collective.root r.topology.topology.nodes r.words.limits.max_c k) has in
       ap (λ n. n * length (usable_links r.topology.topology) * r.words.limits.max_s + sum_by (group_size n r.words.limits.max_s r.words.limits.k) r.topology.topology.groups) same
 
-  pub part_asked : size_of (asks part.Whole) ≤ size_limit → IsAsked (asks p)
+  pub part_asked : size_of (asks part.Whole) ≤ size_limit → IsAuditable (asks p)
   part_asked small =
       let k : Kind = r.words.collective.kind in
       let fits = All-contains (λ x. fits_kind (kind_of k x) r.topology.custom ≡ true) (parts_of k) p (parts_fit k r.topology.custom ok.pattern) has in

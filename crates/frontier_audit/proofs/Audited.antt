@@ -7,13 +7,14 @@ use Rattle.outer_ports.specs.Files.{Files}
 use Rattle.candidate_order.specs.Frontiers.{QuestionValue, FrontierValue, IsUnknown}
 use Rattle.report_form.specs.Reports.{ReportValue, IsReport, question_of}
 use Rattle.frontier_audit.specs.declared.verdict.AuditVerdict.TheVariants.{Verified}
-use Rattle.frontier_audit.specs.Denials.{Denial, Checked, each, in_part}
+use Rattle.frontier_audit.specs.Denials.{each}
 use Rattle.frontier_audit.specs.Shelves.{PartRight, ShelfRight}
 use Rattle.frontier_audit.specs.Candidates.{candidates_within}
 use Rattle.frontier_audit.specs.Joining.{joined_checked}
 use Rattle.frontier_audit.specs.Auditing.{point_checked, refuted_checked, unknown_checked, candidate_checked, mark_checked, frontier_checked, report_checked, audit_of}
 use Rattle.frontier_audit.proofs.Passing.{then_ok, ok_then, each_ok, ok_each, in_part_ok, ok_in_part, verified_ok, ok_verified}
 use Rattle.frontier_audit.proofs.Beside.{has_refutation, has_log_of}
+use Rattle.frontier_audit.specs.Steps.{part_checked}
 
 -- each check of a part passes
 pub record Passes (part : Part) (q : QuestionValue) (files : Files) (f : FrontierValue) : Type 0 where
@@ -56,9 +57,6 @@ all_pass part q files f p =
 
 abbrev pub PartPasses : ReportValue → Files → Part × FrontierValue → Type 0
 PartPasses r files x = Passes x.0 (question_of r.words r.topology x.0) files x.1
-
-abbrev part_checked : ReportValue → Files → Part × FrontierValue → Checked (Part × Denial)
-part_checked r files x = in_part x.0 (frontier_checked x.0 (question_of r.words r.topology x.0) files x.1)
 
 -- each check of a report passes
 pub record ReportPasses (r : ReportValue) (files : Files) : Type 0 where

@@ -1,7 +1,7 @@
 -- The checks of a candidate's files pass exactly where the files are what they have to be.
 use Rattle.std.proofs.Common.{◌≡◌, ℕ, true, List, length, Ok, Option, None, Some, refl, sym, ap, ◌∙◌}
 use Rattle.std.specs.Prelude.{not, nat_le, bytes_eq}
-use Rattle.std.proofs.lemmas.Bool.{and_parts, leb-true, le-leb}
+use Rattle.std.proofs.lemmas.Bool.{and_parts, leb-true, le-leb, and_from}
 use Rattle.std.proofs.lemmas.Slice.Eq.{bytes_eq-Decides}
 use Rattle.text_lines.specs.Check.{◌>>=◌, refuse, need}
 use Rattle.text_lines.proofs.Checks.{need_ok}
@@ -20,7 +20,7 @@ use Rattle.candidate_formula.specs.Files.{file_of, longest_proof, HasRefutation,
 use Rattle.proof_audit.specs.Proving.{do_refute, do_spend, is_refutation, is_spent_log}
 use Rattle.frontier_audit.specs.Auditing.{refuted_checked, unknown_checked}
 use Rattle.frontier_audit.proofs.Passing.{then_ok, ok_then, refused_not, not_refused}
-use Rattle.proof_audit.proofs.Proved.{refutes_by, by_refuting, spent_by, by_spending, both_true}
+use Rattle.proof_audit.proofs.Proved.{refutes_by, by_refuting, spent_by, by_spending}
 
 -- ---- a refuted candidate
 
@@ -74,7 +74,7 @@ passes_refutation part q files x h =
       formula = h.formula;
       proof = h.holds.bytes;
       there = h.holds.found;
-      refutes = both_true (nat_le (length h.holds.bytes) longest_proof) (do_refute (formula_for q x) (lines_of_text h.holds.bytes))
+      refutes = and_from (nat_le (length h.holds.bytes) longest_proof) (do_refute (formula_for q x) (lines_of_text h.holds.bytes))
           (le-leb (length h.holds.bytes) longest_proof h.holds.short)
           (by_refuting (formula_for q x) (lines_of_text h.holds.bytes) h.lines h.holds.reads h.refutes);
     })
@@ -98,6 +98,6 @@ passes_log part q files u same h =
     let f = formula_for q u.candidate in
     needs (files (file_of Partial part u.candidate)) (ProofMissing, u.candidate) (λ bytes. refuse (not (is_spent_log f u.conflicts bytes)) (PartialRefused, u.candidate)) h.holds.bytes h.holds.found
     (not_refused (is_spent_log f u.conflicts h.holds.bytes) (PartialRefused, u.candidate)
-    (both_true (nat_le (length h.holds.bytes) longest_proof) (do_spend f u.conflicts (lines_of_text h.holds.bytes))
+    (and_from (nat_le (length h.holds.bytes) longest_proof) (do_spend f u.conflicts (lines_of_text h.holds.bytes))
     (le-leb (length h.holds.bytes) longest_proof h.holds.short)
     (by_spending f u.conflicts (lines_of_text h.holds.bytes) h.lines h.holds.reads (record { count = h.spent.count ∙ sym same; implied = h.spent.implied; fresh = h.spent.fresh }))))

@@ -1,9 +1,10 @@
 -- The candidates of a search come in its order.
-use Rattle.std.proofs.Common.{◌≡◌, ℕ, zero, suc, ◌+◌, ◌<◌, ◌≤◌, Bool, true, false, List, [], ◌∷◌, ◌++◌, length, map, get_or, inl, inr, refl, sym, ap, ◌∙◌, arith}
+use Rattle.std.proofs.Common.{◌≡◌, ℕ, zero, suc, ◌+◌, ◌<◌, ◌≤◌, Bool, true, false, List, [], ◌∷◌, map, get_or, inl, inr, refl, sym, ap, ◌∙◌, arith}
 use Rattle.std.specs.Prelude.{◌≢◌, if◌then◌else◌, flat_map, filter, All, AllPairs}
 use Rattle.std.specs.List.{range_with_len}
 use Rattle.std.proofs.lemmas.Bool.{false≢true}
-use Rattle.std.proofs.lemmas.List.Elements.{All-nil, All-cons, All-head, All-tail, All-append, All-filter}
+use Rattle.std.proofs.lemmas.List.Elements.{All-nil, All-cons, All-head, All-tail, All-filter}
+use Rattle.std.proofs.lemmas.List.Kept.{AllPairs-cons}
 use Rattle.collective_spec.specs.Kinds.{allows}
 use Rattle.collective_spec.specs.Collectives.{kind_in}
 use Rattle.candidate_order.specs.declared.candidate.Candidate.{Candidate}
@@ -13,36 +14,18 @@ use Rattle.candidate_order.specs.Frontiers.{QuestionValue}
 use Rattle.candidate_order.proofs.Orders.{Before-trans, Before-total}
 use Rattle.report_form.specs.Tests.{is_before}
 use Rattle.report_form.proofs.Tested.{decides_before}
+use Rattle.report_form.proofs.Ascending.{HasChunk}
 use Rattle.send_encoding.proofs.Everywhere.{in_map, in_flat, From, in_range}
-use Rattle.frontier_audit.specs.Candidates.{counts_of, candidates_of_step, put_in_order, in_search_order, candidates_within}
+use Rattle.send_encoding.proofs.Orders.{pairs_append, no_pairs, pairs_head, pairs_tail}
+use Rattle.candidate_formula.specs.Counts.{counts_of}
+use Rattle.frontier_audit.specs.Candidates.{candidates_of_step, put_in_order, in_search_order, candidates_within}
 use Rattle.frontier_audit.proofs.Tried.{all_put, all_ordered}
 
 -- ---- pairs of a list
 
-pairs_nil : {X : Type 0} (R : X → X → Type 0) → AllPairs R []
-pairs_nil R i j d before within = absurd (omega (arith, within))
-
-pairs_cons : {X : Type 0} (R : X → X → Type 0) (x : X) (xs : List X) → All (R x) xs → AllPairs R xs → AllPairs R (x ∷ xs)
-pairs_cons R x xs a p zero zero d i j = absurd (omega (arith, i))
-pairs_cons R x xs a p zero (suc k) d i j = a k d (omega (arith, j))
-pairs_cons R x xs a p (suc m) zero d i j = absurd (omega (arith, i))
-pairs_cons R x xs a p (suc m) (suc k) d i j = p m k d (omega (arith, i)) (omega (arith, j))
-
-pairs_head : {X : Type 0} (R : X → X → Type 0) (x : X) (xs : List X) → AllPairs R (x ∷ xs) → All (R x) xs
-pairs_head R x xs p k d h = let a : 0 < suc k = omega arith in let b : suc k < length (x ∷ xs) = omega (arith, h) in p 0 (suc k) d a b
-
-pairs_tail : {X : Type 0} (R : X → X → Type 0) (x : X) (xs : List X) → AllPairs R (x ∷ xs) → AllPairs R xs
-pairs_tail R x xs p m k d h j = let a : suc m < suc k = omega (arith, h) in let b : suc k < length (x ∷ xs) = omega (arith, j) in p (suc m) (suc k) d a b
-
-pairs_append : {X : Type 0} (R : X → X → Type 0) (xs ys : List X) → AllPairs R xs → AllPairs R ys → All (λ x. All (R x) ys) xs → AllPairs R (xs ++ ys)
-pairs_append R [] ys p q a = q
-pairs_append R (x ∷ xs) ys p q a =
-    pairs_cons R x (xs ++ ys) (All-append (R x) xs ys (pairs_head R x xs p) (All-head (λ z. All (R z) ys) x xs a))
-    (pairs_append R xs ys (pairs_tail R x xs p) q (All-tail (λ z. All (R z) ys) x xs a))
-
 -- lists of a range, each in order, and each before the later ones
 pairs_of_range : {X : Type 0} (R : X → X → Type 0) (K : ℕ → X → Type 0) (f : ℕ → List X) → ((j : ℕ) → All (K j) (f j)) → ((j : ℕ) → AllPairs R (f j)) → ((i j : ℕ) (x y : X) → i < j → K i x → K j y → R x y) → (a n : ℕ) → AllPairs R (flat_map f (range_with_len a n))
-pairs_of_range R K f kinds inner apart a zero = pairs_nil R
+pairs_of_range R K f kinds inner apart a zero = no_pairs R
 pairs_of_range {X} R K f kinds inner apart a (suc n) =
     pairs_append R (f a) (flat_map f (range_with_len (a + 1) n)) (inner a) (pairs_of_range R K f kinds inner apart (a + 1) n)
     (all_by (f a) (kinds a))
@@ -56,9 +39,6 @@ pairs_of_range {X} R K f kinds inner apart a (suc n) =
 
 -- ---- a list in the order of the search
 
-abbrev HasChunk : Candidate → Type 0
-HasChunk x = 1 ≤ x.c
-
 not_before : (x y : Candidate) → HasChunk x → HasChunk y → x ≢ y → is_before x y ≡ false → Before y x
 not_before x y a b apart e = elim (Before-total x y a b) [
   | inl h ↦ absurd (false≢true (sym e ∙ (decides_before x y).1 h))
@@ -70,20 +50,20 @@ before_all : (x y : Candidate) (ys : List Candidate) → HasChunk x → HasChunk
 before_all x y ys a b some h later k d low = Before-trans x y (get_or ys k d) a b (some k d low) h (later k d low)
 
 put_ascends : (x : Candidate) (ys : List Candidate) → HasChunk x → All HasChunk ys → All (λ y. x ≢ y) ys → AllPairs Before ys → AllPairs Before (put_in_order x ys)
-put_ascends x [] a some apart p = pairs_cons Before x [] (All-nil (Before x)) p
+put_ascends x [] a some apart p = AllPairs-cons Before x [] (All-nil (Before x)) p
 put_ascends x (y ∷ ys) a some apart p =
     chosen (is_before x y) refl (put_ascends x ys a (All-tail HasChunk y ys some) (All-tail (λ z. x ≢ z) y ys apart) (pairs_tail Before y ys p))
   where
     chosen : (b : Bool) → b ≡ is_before x y → AllPairs Before (put_in_order x ys) → AllPairs Before (if b then x ∷ y ∷ ys else y ∷ put_in_order x ys)
     chosen true e later =
         let h = (decides_before x y).0 (sym e) in
-        pairs_cons Before x (y ∷ ys) (All-cons (Before x) y ys h (before_all x y ys a (All-head HasChunk y ys some) (All-tail HasChunk y ys some) h (pairs_head Before y ys p))) p
+        AllPairs-cons Before x (y ∷ ys) (All-cons (Before x) y ys h (before_all x y ys a (All-head HasChunk y ys some) (All-tail HasChunk y ys some) h (pairs_head Before y ys p))) p
     chosen false e later =
-        pairs_cons Before y (put_in_order x ys)
+        AllPairs-cons Before y (put_in_order x ys)
         (all_put (Before y) x ys (not_before x y a (All-head HasChunk y ys some) (All-head (λ z. x ≢ z) y ys apart) (sym e)) (pairs_head Before y ys p)) later
 
 ordered_ascends : (xs : List Candidate) → All HasChunk xs → AllPairs (λ x y. x ≢ y) xs → AllPairs Before (in_search_order xs)
-ordered_ascends [] some apart = pairs_nil Before
+ordered_ascends [] some apart = no_pairs Before
 ordered_ascends (x ∷ xs) some apart =
     put_ascends x (in_search_order xs) (All-head HasChunk x xs some) (all_ordered HasChunk xs (All-tail HasChunk x xs some))
     (all_ordered (λ y. x ≢ y) xs (pairs_head (λ y z. y ≢ z) x xs apart))
@@ -95,23 +75,23 @@ abbrev Less : ℕ → ℕ → Type 0
 Less m n = m < n
 
 range_ascends : (a n : ℕ) → AllPairs Less (range_with_len a n)
-range_ascends a zero = pairs_nil Less
-range_ascends a (suc n) = pairs_cons Less a (range_with_len (a + 1) n) (above (range_with_len (a + 1) n) (in_range (a + 1) n)) (range_ascends (a + 1) n)
+range_ascends a zero = no_pairs Less
+range_ascends a (suc n) = AllPairs-cons Less a (range_with_len (a + 1) n) (above (range_with_len (a + 1) n) (in_range (a + 1) n)) (range_ascends (a + 1) n)
   where
     above : (xs : List ℕ) → All (From (a + 1) n) xs → All (Less a) xs
     above xs h k d low = let at = h k d low in omega (arith, at.0)
 
 kept_ascends : (p : ℕ → Bool) (xs : List ℕ) → AllPairs Less xs → AllPairs Less (filter p xs)
-kept_ascends p [] h = pairs_nil Less
+kept_ascends p [] h = no_pairs Less
 kept_ascends p (x ∷ xs) h = chosen (p x) (kept_ascends p xs (pairs_tail Less x xs h))
   where
     chosen : (b : Bool) → AllPairs Less (filter p xs) → AllPairs Less (if b then x ∷ filter p xs else filter p xs)
-    chosen true later = pairs_cons Less x (filter p xs) (All-filter p (Less x) xs (pairs_head Less x xs h)) later
+    chosen true later = AllPairs-cons Less x (filter p xs) (All-filter p (Less x) xs (pairs_head Less x xs h)) later
     chosen false later = later
 
 counted_apart : (s r : ℕ) (cs : List ℕ) → AllPairs Less cs → AllPairs (λ x y. x ≢ y) (map (λ c. candidate_at s (r, c)) cs)
-counted_apart s r [] h = pairs_nil (λ x y. x ≢ y)
-counted_apart s r (c ∷ cs) h = pairs_cons (λ x y. x ≢ y) (candidate_at s (r, c)) (map (λ n. candidate_at s (r, n)) cs)
+counted_apart s r [] h = no_pairs (λ x y. x ≢ y)
+counted_apart s r (c ∷ cs) h = AllPairs-cons (λ x y. x ≢ y) (candidate_at s (r, c)) (map (λ n. candidate_at s (r, n)) cs)
     (in_map (λ y. candidate_at s (r, c) ≢ y) (Less c) (λ n. candidate_at s (r, n)) cs (λ n less e. let same : c ≡ n = ap (λ x. x.c) e in absurd (omega (arith, less, same))) (pairs_head Less c cs h))
     (counted_apart s r cs (pairs_tail Less c cs h))
 

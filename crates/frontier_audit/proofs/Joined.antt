@@ -2,7 +2,7 @@
 use Rattle.std.proofs.Common.{◌≡◌, ℕ, true, List, [], ◌∷◌, map, Ok, refl, sym, ap, ◌∙◌, subst}
 use Rattle.std.specs.Prelude.{◌&&◌, ◌==◌, not, All, bytes_eq}
 use Rattle.std.specs.Cmp.Lexicographic.{pointwise}
-use Rattle.std.proofs.lemmas.Bool.{and_parts, eqb-true, eq-eqb}
+use Rattle.std.proofs.lemmas.Bool.{and_parts, eqb-true, eq-eqb, and_from}
 use Rattle.std.proofs.lemmas.List.Elements.{All-nil, All-cons, All-head, All-tail}
 use Rattle.std.proofs.lemmas.Slice.Eq.{bytes_eq-Decides}
 use Rattle.text_lines.specs.Check.{refuse}
@@ -23,7 +23,6 @@ use Rattle.inversion.specs.Saying.{says_sums}
 use Rattle.frontier_audit.specs.Candidates.{same_candidate}
 use Rattle.frontier_audit.specs.Joining.{same_hop, same_schedule, same_mark, same_point, is_join, joins_checked, IsSummable}
 use Rattle.frontier_audit.proofs.Passing.{then_ok, ok_then, refused_not, not_refused}
-use Rattle.proof_audit.proofs.Proved.{both_true}
 use Rattle.frontier_audit.proofs.Tried.{same_is, same_itself}
 use Rattle.frontier_audit.proofs.Solved.{sums_said}
 
@@ -43,9 +42,9 @@ hop_is a b e =
     hop c u v s = record { chunk = c; from = u; to = v; step = s }
 
 hop_itself : (a : Hop) → same_hop a a ≡ true
-hop_itself a = both_true (a.chunk == a.chunk && a.from == a.from && a.to == a.to) (a.step == a.step)
-    (both_true (a.chunk == a.chunk && a.from == a.from) (a.to == a.to)
-    (both_true (a.chunk == a.chunk) (a.from == a.from) (eq-eqb a.chunk a.chunk refl) (eq-eqb a.from a.from refl)) (eq-eqb a.to a.to refl)) (eq-eqb a.step a.step refl)
+hop_itself a = and_from (a.chunk == a.chunk && a.from == a.from && a.to == a.to) (a.step == a.step)
+    (and_from (a.chunk == a.chunk && a.from == a.from) (a.to == a.to)
+    (and_from (a.chunk == a.chunk) (a.from == a.from) (eq-eqb a.chunk a.chunk refl) (eq-eqb a.from a.from refl)) (eq-eqb a.to a.to refl)) (eq-eqb a.step a.step refl)
 
 hops_are : (xs ys : List Hop) → pointwise same_hop xs ys ≡ true → xs ≡ ys
 hops_are [] [] e = refl
@@ -57,7 +56,7 @@ hops_are (x ∷ xs) (y ∷ ys) e =
 
 hops_themselves : (xs : List Hop) → pointwise same_hop xs xs ≡ true
 hops_themselves [] = refl
-hops_themselves (x ∷ xs) = both_true (same_hop x x) (pointwise same_hop xs xs) (hop_itself x) (hops_themselves xs)
+hops_themselves (x ∷ xs) = and_from (same_hop x x) (pointwise same_hop xs xs) (hop_itself x) (hops_themselves xs)
 
 mark_is : (m n : Mark) → same_mark m n ≡ true → m ≡ n
 mark_is mark.Optimal mark.Optimal e = refl
@@ -93,9 +92,9 @@ point_is a b e =
     point x s m = record { candidate = x; schedule = s; mark = m }
 
 point_itself : (a : PointValue) → same_point a a ≡ true
-point_itself a = both_true (same_candidate a.candidate a.candidate && same_schedule a.schedule a.schedule) (same_mark a.mark a.mark)
-    (both_true (same_candidate a.candidate a.candidate) (same_schedule a.schedule a.schedule) (same_itself a.candidate)
-    (both_true (bytes_eq a.schedule.rounds a.schedule.rounds) (pointwise same_hop a.schedule.sends a.schedule.sends) ((bytes_eq-Decides a.schedule.rounds a.schedule.rounds).1 refl) (hops_themselves a.schedule.sends))) (mark_itself a.mark)
+point_itself a = and_from (same_candidate a.candidate a.candidate && same_schedule a.schedule a.schedule) (same_mark a.mark a.mark)
+    (and_from (same_candidate a.candidate a.candidate) (same_schedule a.schedule a.schedule) (same_itself a.candidate)
+    (and_from (bytes_eq a.schedule.rounds a.schedule.rounds) (pointwise same_hop a.schedule.sends a.schedule.sends) ((bytes_eq-Decides a.schedule.rounds a.schedule.rounds).1 refl) (hops_themselves a.schedule.sends))) (mark_itself a.mark)
 
 -- ---- the joins
 
@@ -142,5 +141,5 @@ joined_are t (pair ∷ pairs) (p ∷ ps) a h =
     let both = first_of_two p due ps (map (λ x. join_of x.0 x.1) pairs) h.in_order in
     ok_then (refuse (not (is_join t pair && same_point due p)) (JoinWrong, due.candidate)) (joins_checked t pairs ps)
     (not_refused (is_join t pair && same_point due p) (JoinWrong, due.candidate)
-    (both_true (is_join t pair) (same_point due p) (by_join t pair p (All-head (IsSummable t) p ps a) both.0 (All-head (IsJoin t) pair pairs h.summed)) (ap (same_point due) both.0 ∙ point_itself due)))
+    (and_from (is_join t pair) (same_point due p) (by_join t pair p (All-head (IsSummable t) p ps a) both.0 (All-head (IsJoin t) pair pairs h.summed)) (ap (same_point due) both.0 ∙ point_itself due)))
     (joined_are t pairs ps (All-tail (IsSummable t) p ps a) (record { in_order = both.1; summed = All-tail (IsJoin t) pair pairs h.summed }))

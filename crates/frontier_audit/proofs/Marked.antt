@@ -1,11 +1,11 @@
 -- The checks of candidates and of marks pass exactly where all are answered and the marks are right.
-use Rattle.std.proofs.Common.{◌≡◌, Bool, true, false, List, [], ◌∷◌, refl, ◌⊎◌, inl, inr}
-use Rattle.std.specs.Prelude.{◌||◌, ◌↔◌, not, All, Any, Contains, Decides}
-use Rattle.std.specs.List.{list_all, list_any}
-use Rattle.std.proofs.lemmas.Bool.{and_parts}
+use Rattle.std.proofs.Common.{◌≡◌, Bool, true, false, List, refl, ◌⊎◌, inl, inr}
+use Rattle.std.specs.Prelude.{◌||◌, ◌↔◌, not, Any, Contains, Decides}
+use Rattle.std.specs.List.{list_any}
 use Rattle.std.proofs.lemmas.Bool.Decides.{Decides-or}
-use Rattle.std.proofs.lemmas.List.Elements.{All-nil, All-cons, All-head, All-tail, All-contains}
+use Rattle.std.proofs.lemmas.List.Elements.{All-contains}
 use Rattle.std.proofs.lemmas.List.Folds.{Any-from_list_any, list_any-from_Any}
+use Rattle.std.proofs.lemmas.List.Sums.{AllPass-from_list_all, list_all-from_AllPass}
 use Rattle.candidate_order.specs.declared.candidate.Candidate.{Candidate}
 use Rattle.candidate_order.specs.declared.mark.Mark.{Mark}
 use Rattle.candidate_order.specs.declared.mark.Mark.TheVariants as mark
@@ -16,18 +16,7 @@ use Rattle.report_form.proofs.Tested.{decides_no_worse, decides_better}
 use Rattle.frontier_audit.specs.Candidates.{is_listed, candidates_within}
 use Rattle.frontier_audit.specs.Solutions.{is_optimal, is_mark}
 use Rattle.frontier_audit.specs.Auditing.{is_answered}
-use Rattle.proof_audit.proofs.Proved.{both_true}
 use Rattle.frontier_audit.proofs.Tried.{listed_contains, contains_listed, within_listed, each_within}
-
--- ---- tests of lists
-
-pub each_of : {X : Type 0} (p : X → Bool) (xs : List X) → list_all p xs ≡ true → All (λ x. p x ≡ true) xs
-each_of p [] e = All-nil (λ x. p x ≡ true)
-each_of p (x ∷ xs) e = let parts = and_parts (p x) (list_all p xs) e in All-cons (λ y. p y ≡ true) x xs parts.0 (each_of p xs parts.1)
-
-pub of_each : {X : Type 0} (p : X → Bool) (xs : List X) → All (λ x. p x ≡ true) xs → list_all p xs ≡ true
-of_each p [] a = refl
-of_each p (x ∷ xs) a = both_true (p x) (list_all p xs) (All-head (λ y. p y ≡ true) x xs a) (of_each p xs (All-tail (λ y. p y ≡ true) x xs a))
 
 -- ---- answers
 
@@ -70,11 +59,11 @@ optimal_decides q f x = (one_way, back)
 
     one_way : is_optimal q f x ≡ true → AllBetterRefuted q f x
     one_way e y w b =
-        let passes = All-contains (λ (z : Candidate). (not (is_better z x) || is_listed f.refuted z) ≡ true) (candidates_within q) y (each_of (λ z. not (is_better z x) || is_listed f.refuted z) (candidates_within q) e) (listed_contains (candidates_within q) y (within_listed q y w)) in
+        let passes = All-contains (λ (z : Candidate). (not (is_better z x) || is_listed f.refuted z) ≡ true) (candidates_within q) y (AllPass-from_list_all (λ z. not (is_better z x) || is_listed f.refuted z) (candidates_within q) e) (listed_contains (candidates_within q) y (within_listed q y w)) in
         listed_contains f.refuted y (implied (is_better y x) (is_listed f.refuted y) passes ((decides_better y x).1 b))
 
     back : AllBetterRefuted q f x → is_optimal q f x ≡ true
-    back h = of_each (λ z. not (is_better z x) || is_listed f.refuted z) (candidates_within q)
+    back h = list_all-from_AllPass (λ z. not (is_better z x) || is_listed f.refuted z) (candidates_within q)
         (λ k d low. let w = each_within q k d low in implies _ _ (λ b. contains_listed f.refuted _ (h _ w ((decides_better _ x).0 b))))
 
 pub mark_by : (b : Bool) (m : Mark) → is_mark b m ≡ true → ((m ≡ mark.Optimal) ↔ (b ≡ true)) × ((m ≡ mark.Optimal) ⊎ (m ≡ mark.Open))

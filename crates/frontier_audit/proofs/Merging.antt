@@ -8,9 +8,10 @@ use Rattle.outer_ports.specs.declared.proof_name.ProofName.{ProofName}
 use Rattle.outer_ports.specs.Files.{Files}
 use Rattle.outer_ports.specs.Port.{Tells}
 use Rattle.outer_ports.specs.Shelf.{FilesStay}
+use Rattle.report_form.proofs.PointNumbers.{from_here}
 use Rattle.frontier_audit.specs.Denials.{Checked, each}
 use Rattle.frontier_audit.specs.Beside.{denial_of, AnswersBeside}
-use Rattle.frontier_audit.proofs.Walking.{first_decides, rest_decides, here_on}
+use Rattle.frontier_audit.proofs.Walking.{first_decides, rest_decides}
 
 -- the check says the same of files that agree on these names
 abbrev pub LooksAt : {E : Type 0} → (ProofName → Bool) → (Files → Checked E) → Type 0
@@ -106,13 +107,13 @@ module _ {X E : Type 0} (told tells : Bool) (shelf : Files) (check : Files → X
   -- the item is denied
   pub denies_all : (d : E) → AnswersBeside tells shelf (λ files. check files x) (Some d) → AnswersBeside tells shelf (λ files. each (check files) xs) (Some d)
   denies_all d a =
-      leads.on tells (Some d) still (subst (λ ys. AnswersBeside tells shelf (λ files. each (check files) ys) (Some d)) (sym (here_on xs i x low is)) (stops tells shelf (λ files. check files x) (λ files. each (check files) (drop (i + 1) xs)) d a))
+      leads.on tells (Some d) still (subst (λ ys. AnswersBeside tells shelf (λ files. each (check files) ys) (Some d)) (sym (from_here xs i x low is)) (stops tells shelf (λ files. check files x) (λ files. each (check files) (drop (i + 1) xs)) d a))
 
   -- it is not
   pub leads_on : (own : ProofName → Bool) → LooksAt own (λ files. check files x) → All (λ y. LooksAt (λ name. not (own name)) (λ files. check files y)) (drop (i + 1) xs) → AnswersBeside tells shelf (λ files. check files x) None → Leads tells shelf check xs (i + 1)
   leads_on own one others a = record {
     on = λ now d after rest.
-        leads.on now d (λ t. still (after t)) (subst (λ ys. AnswersBeside now shelf (λ files. each (check files) ys) d) (sym (here_on xs i x low is))
+        leads.on now d (λ t. still (after t)) (subst (λ ys. AnswersBeside now shelf (λ files. each (check files) ys) d) (sym (from_here xs i x low is))
         (goes_on now shelf (λ files. check files x) (λ files. each (check files) (drop (i + 1) xs)) own d one (looks_each (λ name. not (own name)) check (drop (i + 1) xs) others)
         (later tells now shelf (λ files. check files x) None after a) rest));
   }

@@ -1,7 +1,7 @@
 -- The joined points of an allreduce, pair by pair.
-use Rattle.std.proofs.Common.{◌≡◌, ◌≢◌, ℕ, zero, suc, ◌+◌, ◌<◌, ◌≤◌, Bool, true, false, List, [], ◌∷◌, ◌++◌, length, map, take, drop, get_or, Option, None, Some, add-one, append_assoc, append-nil, refl, sym, ap, ◌∙◌, subst, arith}
+use Rattle.std.proofs.Common.{◌≡◌, ℕ, zero, suc, ◌+◌, ◌<◌, ◌≤◌, Bool, true, false, List, [], ◌∷◌, ◌++◌, length, map, take, drop, get_or, Option, None, Some, add-one, append_assoc, append-nil, refl, sym, ap, ◌∙◌, subst, arith}
 use Rattle.std.specs.Prelude.{◌==◌, ◌&&◌, if◌then◌else◌, filter, slice_get}
-use Rattle.std.proofs.lemmas.Bool.{eq-eqb, ne_eqb}
+use Rattle.std.proofs.lemmas.Bool.{eq-eqb}
 use Rattle.std.proofs.lemmas.List.{map-append, take-append-drop, take_more, take_all}
 use Rattle.std.proofs.lemmas.List.Elements.{filter-append}
 use Rattle.std.proofs.lemmas.Option.{slice_get-get_or}
@@ -45,9 +45,6 @@ due_alike t a b p = go (same_point (join_of a b) p) refl
     go false e = with_false (is_join t (a, b))
 
 module _ (t : TopologyValue) (a b : PointValue) (due : PointValue) (made : due ≡ join_of a b) (printed : Option PointValue) where
-  pub lacking : printed ≡ None → Some (JoinWrong, due.candidate) ≡ denial_of (join_checked t (a, b) printed)
-  lacking none = ap (λ (p : PointValue). Some (JoinWrong, p.candidate)) made ∙ ap (λ o. denial_of (join_checked t (a, b) o)) (sym none)
-
   module _ (p : PointValue) (there : printed ≡ Some p) (said : Bool) (is : said ≡ (same_point due p && says_sums (joined_verdict_of t (chunks_of kind.Allreduce t.nodes p.candidate.c) p.schedule a.candidate.s))) where
     says : said ≡ (is_join t (a, b) && same_point (join_of a b) p)
     says = is ∙ (ap (λ z. same_point z p && says_sums (joined_verdict_of t (chunks_of kind.Allreduce t.nodes p.candidate.c) p.schedule a.candidate.s)) made ∙ due_alike t a b p)
@@ -96,14 +93,11 @@ module _ (t : TopologyValue) (joined : List PointValue) where
 
 -- ---- pairs of two lists
 
-with_append : (p : PointValue) (xs ys : List PointValue) → pairs_with p (xs ++ ys) ≡ pairs_with p xs ++ pairs_with p ys
+pub with_append : (p : PointValue) (xs ys : List PointValue) → pairs_with p (xs ++ ys) ≡ pairs_with p xs ++ pairs_with p ys
 with_append p xs ys = ap (map (λ q. (p, q))) (filter-append (λ q. q.candidate.c == p.candidate.c) xs ys) ∙ map-append (λ q. (p, q)) (filter (λ q. q.candidate.c == p.candidate.c) xs) (filter (λ q. q.candidate.c == p.candidate.c) ys)
 
 pub with_same : (p q : PointValue) → q.candidate.c ≡ p.candidate.c → pairs_with p (q ∷ []) ≡ (p, q) ∷ []
 with_same p q e = ap (λ b. map (λ z. (p, z)) (if b then q ∷ [] else [])) (eq-eqb q.candidate.c p.candidate.c e)
-
-pub with_other : (p q : PointValue) → q.candidate.c ≢ p.candidate.c → pairs_with p (q ∷ []) ≡ []
-with_other p q e = ap (λ b. map (λ z. (p, z)) (if b then q ∷ [] else [])) (ne_eqb q.candidate.c p.candidate.c e)
 
 pairs_append : (xs ys gather : List PointValue) → pairs_of (xs ++ ys) gather ≡ pairs_of xs gather ++ pairs_of ys gather
 pairs_append [] ys gather = refl
@@ -133,9 +127,6 @@ module _ (t : TopologyValue) (joined : List PointValue) (f : List PointValue →
 
   pub walk_ends : (before now : ℕ) → length xs ≤ i → JoinsSay t (f (take i xs)) joined before now None → JoinsSay t (f xs) joined before now None
   walk_ends before now past a = subst (λ ys. JoinsSay t (f ys) joined before now None) (take_all i xs past) a
-
-pub with_adds : (p : PointValue) (xs ys : List PointValue) → pairs_with p (xs ++ ys) ≡ pairs_with p xs ++ pairs_with p ys
-with_adds = with_append
 
 pub pairs_add : (gather xs ys : List PointValue) → pairs_of (xs ++ ys) gather ≡ pairs_of xs gather ++ pairs_of ys gather
 pairs_add gather xs ys = pairs_append xs ys gather

@@ -1,7 +1,7 @@
 -- An audit finds nothing to deny exactly where the frontiers, the files and the joined points are right.
-use Rattle.std.proofs.Common.{◌≡◌, true, List, [], ◌∷◌, map, get_or, Option, None, Some, Ok, refl, sym, ap, ◌∙◌, subst}
+use Rattle.std.proofs.Common.{◌≡◌, true, [], ◌∷◌, get_or, Option, None, Some, Ok, refl, sym, ap, ◌∙◌, subst}
 use Rattle.std.specs.Prelude.{◌≢◌, All, Contains}
-use Rattle.std.proofs.lemmas.List.Elements.{All-nil, All-cons, All-head, All-tail, All-contains, All-contains_itself}
+use Rattle.std.proofs.lemmas.List.Elements.{All-nil, All-cons, All-contains, All-contains_itself}
 use Rattle.outer_ports.specs.declared.part.Part.{Part}
 use Rattle.outer_ports.specs.declared.part.Part.TheVariants as part
 use Rattle.outer_ports.specs.Files.{Files}
@@ -15,6 +15,7 @@ use Rattle.collective_spec.specs.declared.kind.Kind.TheVariants as kind
 use Rattle.candidate_order.specs.Frontiers.{QuestionValue, FrontierValue, IsSolvable, IsPoint, RightFrontier}
 use Rattle.allreduce_join.specs.Joins.{Joins, pairs_of}
 use Rattle.report_form.specs.Reports.{ReportValue, IsReport, IsFrontier, parts_of, kind_of, question_of}
+use Rattle.round_encoding.proofs.Obeyed.{all_map}
 use Rattle.frontier_audit.specs.declared.verdict.AuditVerdict.TheVariants.{Verified}
 use Rattle.frontier_audit.specs.declared.verdict.Reason.TheVariants.{ScheduleWrong, MarkWrong, CandidateMissing}
 use Rattle.frontier_audit.specs.Shelves.{PartRight, ShelfRight}
@@ -29,6 +30,7 @@ use Rattle.frontier_audit.proofs.Tried.{listed_contains, within_listed, each_wit
 use Rattle.frontier_audit.proofs.Marked.{answered_decides, optimal_decides, mark_by, by_mark}
 use Rattle.frontier_audit.proofs.Solved.{solved_by, by_solution}
 use Rattle.frontier_audit.proofs.Joined.{are_joined, joined_are}
+use Rattle.frontier_audit.proofs.Shelves.{question}
 
 -- ---- a part
 
@@ -88,19 +90,12 @@ apart kind.Allreduce =
     All-cons (λ x. kind_of kind.Allreduce x ≢ kind.Allreduce) part.Reduce (part.Gather ∷ []) (λ e. absurd (cc))
     (All-cons (λ x. kind_of kind.Allreduce x ≢ kind.Allreduce) part.Gather [] (λ e. absurd (cc)) (All-nil (λ x. kind_of kind.Allreduce x ≢ kind.Allreduce)))
 
-pub of_mapped : {X Y : Type 0} (P : Y → Type 0) (f : X → Y) (xs : List X) → All P (map f xs) → All (λ x. P (f x)) xs
-of_mapped P f [] a = All-nil (λ x. P (f x))
-of_mapped P f (x ∷ xs) a = All-cons (λ y. P (f y)) x xs (All-head P (f x) (map f xs) a) (of_mapped P f xs (All-tail P (f x) (map f xs) a))
-
 pub each_apart : (r : ReportValue) → IsReport r → All (λ x. kind_of r.words.collective.kind x.0 ≢ kind.Allreduce) r.frontiers
 each_apart r ok =
-    of_mapped (λ x. kind_of r.words.collective.kind x ≢ kind.Allreduce) (λ x. x.0) r.frontiers
+    all_map (λ x. kind_of r.words.collective.kind x ≢ kind.Allreduce) (λ x. x.0) r.frontiers
     (subst (λ parts. All (λ x. kind_of r.words.collective.kind x ≢ kind.Allreduce) parts) (sym ok.parts) (apart r.words.collective.kind))
 
 -- ---- a report
-
-abbrev question : ReportValue → Part → QuestionValue
-question r part = question_of r.words r.topology part
 
 -- a pattern is no allreduce
 pub apart_in : (c : Collective) (o : Option PatternValue) → c.kind ≢ kind.Allreduce → kind_in (spec_of c o) ≢ kind.Allreduce

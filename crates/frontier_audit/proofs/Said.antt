@@ -29,7 +29,7 @@ use Rattle.frontier_audit.specs.Steps.{denial_for}
 use Rattle.frontier_audit.proofs.Beside.{over_files}
 use Rattle.frontier_audit.proofs.Merging.{LooksAt}
 use Rattle.frontier_audit.proofs.Tried.{same_is, same_itself}
-use Rattle.frontier_audit.proofs.Unique.{candidates_apart}
+use Rattle.candidate_order.proofs.Unique.{candidates_apart}
 
 -- ---- one file
 

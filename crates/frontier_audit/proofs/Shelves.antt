@@ -17,7 +17,7 @@ use Rattle.frontier_audit.specs.Shelves.{PartRight, ShelfRight}
 not_both : {A : Type 0} (o : Option A) (a : A) → o ≡ None → o ≡ Some a → ⊥
 not_both o a e f = absurd (cc)
 
-abbrev question : ReportValue → Part → QuestionValue
+abbrev pub question : ReportValue → Part → QuestionValue
 question r part = question_of r.words r.topology part
 
 part_of : (r : ReportValue) (files : Files) (part : Part) (f : FrontierValue) → ShelfRight r files → Contains r.frontiers (part, f) → PartRight part (question r part) f files

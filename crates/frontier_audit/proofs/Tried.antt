@@ -1,10 +1,10 @@
 -- The candidates of a search are just those within the limits.
 use Rattle.std.proofs.Common.{◌≡◌, ℕ, zero, suc, ◌+◌, ◌<◌, ◌≤◌, Bool, true, false, List, [], ◌∷◌, map, refl, sym, ap, ◌∙◌, subst, ⊎_elim, arith}
-use Rattle.std.specs.Prelude.{◌&&◌, ◌||◌, ◌==◌, ◌↔◌, if◌then◌else◌, flat_map, filter, nat_le, All, Contains}
+use Rattle.std.specs.Prelude.{◌&&◌, ◌||◌, ◌==◌, ◌↔◌, if◌then◌else◌, filter, nat_le, All, Contains}
 use Rattle.std.specs.List.{list_any, range_with_len}
-use Rattle.std.proofs.lemmas.Bool.{and_parts, eqb-true, eq-eqb, cases_eq, or_left, or_right, leb-true}
+use Rattle.std.proofs.lemmas.Bool.{and_parts, eqb-true, eq-eqb, cases_eq, or_left, or_right, leb-true, and_from}
 use Rattle.std.proofs.lemmas.List.Elements.{All-nil, All-cons, All-head, All-tail, All-contains}
-use Rattle.std.proofs.lemmas.List.Folds.{list_any-append, list_any_at, Any-from_list_any}
+use Rattle.std.proofs.lemmas.List.Folds.{list_any_at, Any-from_list_any}
 use Rattle.collective_spec.specs.Kinds.{allows}
 use Rattle.collective_spec.specs.Collectives.{kind_in}
 use Rattle.candidate_order.specs.declared.candidate.Candidate.{Candidate}
@@ -12,8 +12,9 @@ use Rattle.candidate_order.specs.Listed.{candidate_at}
 use Rattle.candidate_order.specs.Frontiers.{QuestionValue, IsWithin}
 use Rattle.report_form.specs.Tests.{is_before}
 use Rattle.send_encoding.proofs.Everywhere.{in_map, in_flat, From, in_range}
-use Rattle.frontier_audit.specs.Candidates.{same_candidate, is_listed, counts_of, candidates_of_step, put_in_order, in_search_order, candidates_within}
-use Rattle.proof_audit.proofs.Proved.{both_true}
+use Rattle.send_encoding.proofs.Decoded.{any_range}
+use Rattle.candidate_formula.specs.Counts.{counts_of}
+use Rattle.frontier_audit.specs.Candidates.{same_candidate, is_listed, candidates_of_step, put_in_order, in_search_order, candidates_within}
 
 -- ---- the test of the same candidate
 
@@ -27,7 +28,7 @@ same_is a b e =
     ap (λ n. candidate_at n (a.r, a.c)) s ∙ (ap (λ n. candidate_at b.s (n, a.c)) r ∙ ap (λ n. candidate_at b.s (b.r, n)) c)
 
 pub same_itself : (a : Candidate) → same_candidate a a ≡ true
-same_itself a = both_true (a.s == a.s && a.r == a.r) (a.c == a.c) (both_true (a.s == a.s) (a.r == a.r) (eq-eqb a.s a.s refl) (eq-eqb a.r a.r refl)) (eq-eqb a.c a.c refl)
+same_itself a = and_from (a.s == a.s && a.r == a.r) (a.c == a.c) (and_from (a.s == a.s) (a.r == a.r) (eq-eqb a.s a.s refl) (eq-eqb a.r a.r refl)) (eq-eqb a.c a.c refl)
 
 pub listed_contains : (xs : List Candidate) (x : Candidate) → is_listed xs x ≡ true → Contains xs x
 listed_contains xs x e =
@@ -96,15 +97,6 @@ each_within q = in_flat (IsWithin q) (From 1 q.limits.max_s) (λ s. in_search_or
 
 -- ---- and each within the limits is one of them
 
-any_of_range : {X : Type 0} (p : X → Bool) (f : ℕ → List X) (a n j : ℕ) → a ≤ j → j < a + n → list_any p (f j) ≡ true → list_any p (flat_map f (range_with_len a n)) ≡ true
-any_of_range p f a zero j low high h = absurd (omega (arith, low, high))
-any_of_range p f a (suc n) j low high h =
-    list_any-append p (f a) (flat_map f (range_with_len (a + 1) n))
-    ∙ ⊎_elim
-    (λ e. or_left (list_any p (f a)) (list_any p (flat_map f (range_with_len (a + 1) n))) (subst (λ k. list_any p (f k) ≡ true) (sym e) h))
-    (λ ne. or_right (list_any p (f a)) (list_any p (flat_map f (range_with_len (a + 1) n))) (any_of_range p f (a + 1) n j (omega (arith, low, ne)) (omega (arith, high)) h))
-    (cases_eq a j)
-
 any_passing : {X : Type 0} (p : X → Bool) (g : ℕ → X) (keep : ℕ → Bool) (a n j : ℕ) → a ≤ j → j < a + n → keep j ≡ true → p (g j) ≡ true → list_any p (map g (filter keep (range_with_len a n))) ≡ true
 any_passing p g keep a zero j low high k h = absurd (omega (arith, low, high))
 any_passing p g keep a (suc n) j low high k h = ⊎_elim
@@ -127,14 +119,14 @@ pub step_listed : (q : QuestionValue) (x : Candidate) → IsWithin q x → is_li
 step_listed q x w =
     let p : Candidate → Bool = same_candidate x in
     any_ordered p (candidates_of_step q x.s)
-    ∙ any_of_range p (λ r. map (λ c. candidate_at x.s (r, c)) (counts_of q)) x.s (q.limits.k + 1) x.r w.all_rounds (omega (arith, w.rounds))
+    ∙ any_range p (λ r. map (λ c. candidate_at x.s (r, c)) (counts_of q)) x.s (q.limits.k + 1) x.r w.all_rounds (omega (arith, w.rounds))
     (any_passing p (λ c. candidate_at x.s (x.r, c)) (allows (kind_in q.spec) q.topology.nodes) 1 q.limits.max_c x.c (some_chunks w.allowed) (omega (arith, w.chunks)) w.allowed (same_itself x))
   where
     some_chunks : allows (kind_in q.spec) q.topology.nodes x.c ≡ true → 1 ≤ x.c
     some_chunks e = let parts = and_parts (nat_le 1 x.c) _ e in leb-true 1 x.c parts.0
 
 pub within_listed : (q : QuestionValue) (x : Candidate) → IsWithin q x → is_listed (candidates_within q) x ≡ true
-within_listed q x w = any_of_range (same_candidate x) (λ s. in_search_order (candidates_of_step q s)) 1 q.limits.max_s x.s w.some_steps (omega (arith, w.steps)) (step_listed q x w)
+within_listed q x w = any_range (same_candidate x) (λ s. in_search_order (candidates_of_step q s)) 1 q.limits.max_s x.s w.some_steps (omega (arith, w.steps)) (step_listed q x w)
 
 pub candidates_exactly : (q : QuestionValue) (x : Candidate) → Contains (candidates_within q) x ↔ IsWithin q x
 candidates_exactly q x = (λ at. All-contains (IsWithin q) (candidates_within q) x (each_within q) at, λ w. listed_contains (candidates_within q) x (within_listed q x w))

@@ -1,8 +1,6 @@
 -- A refuted candidate has no solution, since its formula is satisfiable where it has one.
-use Rattle.std.proofs.Common.{◌≡◌, ◌≢◌, ℕ, ◌<◌, ◌≤◌, Bool, true, false, [], ◌∷◌, get_or, Option, None, Some, refl, sym, ◌∙◌, subst, arith}
+use Rattle.std.proofs.Common.{◌≡◌, ◌≢◌, ℕ, ◌<◌, Bool, true, false, [], ◌∷◌, get_or, Option, None, Some, refl, sym, ◌∙◌, subst, arith}
 use Rattle.std.specs.Prelude.{All, Contains}
-use Rattle.std.proofs.Math.Nat.{mul-pos}
-use Rattle.std.proofs.lemmas.Nat.{mul-le}
 use Rattle.std.proofs.lemmas.List.Elements.{All-nil, All-cons, All-contains, All-contains_itself}
 use Rattle.outer_ports.specs.declared.part.Part.{Part}
 use Rattle.outer_ports.specs.declared.part.Part.TheVariants as part
@@ -11,17 +9,15 @@ use Rattle.schedule.specs.Links.{IsTopology, reversed_of}
 use Rattle.schedule.proofs.Turned.{turned_topology}
 use Rattle.collective_spec.specs.declared.kind.Kind.{Kind}
 use Rattle.collective_spec.specs.declared.kind.Kind.TheVariants as kind
-use Rattle.collective_spec.specs.declared.spec.Spec.{Spec}
-use Rattle.collective_spec.specs.declared.spec.Spec.TheVariants as spec
-use Rattle.collective_spec.specs.Kinds.{is_custom}
 use Rattle.collective_spec.specs.Patterns.{PatternValue}
-use Rattle.collective_spec.specs.Collectives.{IsSpec, chunks_of, chunks_in, adds_up, fits_kind, kind_in}
+use Rattle.collective_spec.specs.Collectives.{IsSpec, adds_up, fits_kind, kind_in}
 use Rattle.collective_spec.proofs.Sized.{before_among, after_among, fitting_spec}
 use Rattle.candidate_order.specs.declared.candidate.Candidate.{Candidate}
 use Rattle.candidate_order.specs.Frontiers.{QuestionValue, FrontierValue, IsWithin, IsSolvable, RightFrontier, instance_for}
 use Rattle.candidate_order.specs.Ranges.{IsLimits}
 use Rattle.candidate_order.specs.Copied.{copied_spec, copied_question}
 use Rattle.round_encoding.specs.Candidates.{IsCandidate}
+use Rattle.round_encoding.proofs.Obeyed.{all_map}
 use Rattle.inversion.proofs.Copied.{solvable_exactly}
 use Rattle.cnf_formula.specs.Formulas.{Satisfiable}
 use Rattle.report_form.specs.Reports.{ReportValue, IsReport, IsFrontier, parts_of, kind_of, question_of}
@@ -31,43 +27,12 @@ use Rattle.candidate_formula.specs.Formulas.{formula_for}
 use Rattle.candidate_formula.proofs.Asked.{within_by, reduced_formula}
 use Rattle.candidate_formula.proofs.Copying.{copied_keeps, copies, same_allowed}
 use Rattle.candidate_formula.proofs.Exact.{exact_for}
+use Rattle.candidate_formula.proofs.Chunks.{chunks_some, chunks_few}
 use Rattle.frontier_audit.specs.Shelves.{ShelfRight}
 use Rattle.frontier_audit.specs.Auditing.{audit_of}
-use Rattle.frontier_audit.proofs.Shelves.{unsatisfiable}
+use Rattle.frontier_audit.proofs.Shelves.{unsatisfiable, question}
 use Rattle.frontier_audit.proofs.Audited.{shelf_right}
-use Rattle.frontier_audit.proofs.Right.{apart_in, each_apart, of_mapped, verified_right}
-
--- ---- the number of all chunks
-
-standard_some : (k : Kind) (nodes c : ℕ) → is_custom k ≡ false → 0 < nodes → 0 < c → 0 < chunks_of k nodes c
-standard_some kind.Broadcast nodes c standard some one = one
-standard_some kind.Reduce nodes c standard some one = one
-standard_some kind.Gather nodes c standard some one = mul-pos some one
-standard_some kind.Allgather nodes c standard some one = mul-pos some one
-standard_some kind.Scatter nodes c standard some one = mul-pos some one
-standard_some kind.Alltoall nodes c standard some one = mul-pos some one
-standard_some kind.Reducescatter nodes c standard some one = mul-pos some one
-standard_some kind.Allreduce nodes c standard some one = mul-pos some one
-standard_some kind.Custom nodes c standard some one = absurd (cc)
-
-standard_few : (k : Kind) (nodes c : ℕ) → nodes ≤ 16 → c ≤ 16 → chunks_of k nodes c ≤ 256
-standard_few kind.Broadcast nodes c few small = omega (arith, small)
-standard_few kind.Reduce nodes c few small = omega (arith, small)
-standard_few kind.Gather nodes c few small = mul-le nodes c 16 16 few small
-standard_few kind.Allgather nodes c few small = mul-le nodes c 16 16 few small
-standard_few kind.Scatter nodes c few small = mul-le nodes c 16 16 few small
-standard_few kind.Alltoall nodes c few small = mul-le nodes c 16 16 few small
-standard_few kind.Reducescatter nodes c few small = mul-le nodes c 16 16 few small
-standard_few kind.Allreduce nodes c few small = mul-le nodes c 16 16 few small
-standard_few kind.Custom nodes c few small = omega arith
-
-chunks_some : (s : Spec) (nodes c : ℕ) → IsSpec nodes s → 0 < nodes → 0 < c → 0 < chunks_in s nodes c
-chunks_some (spec.Standard collective) nodes c is some one = standard_some collective.kind nodes c is.0 some one
-chunks_some (spec.Custom p) nodes c is some one = mul-pos (let base = is.some in omega (arith, base)) one
-
-chunks_few : (s : Spec) (nodes c : ℕ) → IsSpec nodes s → nodes ≤ 16 → c ≤ 16 → chunks_in s nodes c ≤ 256
-chunks_few (spec.Standard collective) nodes c is few small = standard_few collective.kind nodes c few small
-chunks_few (spec.Custom p) nodes c is few small = mul-le p.base c 16 16 is.few small
+use Rattle.frontier_audit.proofs.Right.{apart_in, each_apart, verified_right}
 
 -- ---- the spec of a part
 
@@ -86,14 +51,11 @@ parts_fit kind.Allreduce None e =
     (All-cons (λ x. fits_kind (kind_of kind.Allreduce x) None ≡ true) part.Gather [] refl (All-nil (λ x. fits_kind (kind_of kind.Allreduce x) None ≡ true)))
 parts_fit kind.Allreduce (Some p) e = absurd (cc)
 
-abbrev question : ReportValue → Part → QuestionValue
-question r part = question_of r.words r.topology part
-
 spec_is : (r : ReportValue) (part : Part) (f : FrontierValue) → IsReport r → Contains r.frontiers (part, f) → IsSpec r.topology.topology.nodes (question r part).spec
 spec_is r part f ok at =
     let k : Kind = r.words.collective.kind in
     let F : Part → Type 0 = λ x. fits_kind (kind_of k x) r.topology.custom ≡ true in
-    let each = of_mapped F (λ x. x.0) r.frontiers (subst (λ ps. All F ps) (sym ok.parts) (parts_fit k r.topology.custom ok.pattern)) in
+    let each = all_map F (λ x. x.0) r.frontiers (subst (λ ps. All F ps) (sym ok.parts) (parts_fit k r.topology.custom ok.pattern)) in
     let fits = All-contains (λ x. F x.0) r.frontiers (part, f) each at in
     let root = ok.words.root in
     let many = ok.topology.as_many in

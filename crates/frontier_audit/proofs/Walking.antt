@@ -1,8 +1,8 @@
 -- Checks of a list, item by item.
-use Rattle.std.proofs.Common.{◌≡◌, ℕ, ◌+◌, ◌<◌, Bool, true, false, List, ◌∷◌, length, drop, get_or, None, Some, Ok, Err, refl, sym, ap, ◌∙◌}
-use Rattle.std.proofs.lemmas.List.{drop_more}
+use Rattle.std.proofs.Common.{◌≡◌, ℕ, ◌+◌, ◌<◌, Bool, true, false, List, length, drop, get_or, None, Some, Ok, Err, refl, sym, ap, ◌∙◌}
 use Rattle.std.specs.Prelude.{not}
 use Rattle.text_lines.specs.Check.{◌>>=◌, refuse}
+use Rattle.report_form.proofs.PointNumbers.{from_here}
 use Rattle.frontier_audit.specs.Denials.{Checked, each}
 use Rattle.frontier_audit.specs.Beside.{denial_of}
 
@@ -24,15 +24,11 @@ pub passing_denies_none : {C : Type 0} (b : Bool) (code : C) → b ≡ true → 
 passing_denies_none true code e = refl
 passing_denies_none false code e = absurd (cc)
 
--- the item at a place, and those behind it
-pub here_on : {X : Type 0} (xs : List X) (i : ℕ) (x : X) → i < length xs → x ≡ get_or xs i x → drop i xs ≡ x ∷ drop (i + 1) xs
-here_on xs i x low is = drop_more xs i x low ∙ ap (λ y. y ∷ drop (i + 1) xs) (sym is)
-
 module _ {X E : Type 0} (check : X → Checked E) (xs : List X) (i : ℕ) (x : X) (low : i < length xs) (is : x ≡ get_or xs i x) where
   -- the item is denied
   pub denied_here : (d : E) → denial_of (check x) ≡ Some d → denial_of (each check (drop i xs)) ≡ Some d
-  denied_here d e = ap (λ ys. denial_of (each check ys)) (here_on xs i x low is) ∙ first_decides (check x) (each check (drop (i + 1) xs)) d e
+  denied_here d e = ap (λ ys. denial_of (each check ys)) (from_here xs i x low is) ∙ first_decides (check x) (each check (drop (i + 1) xs)) d e
 
   -- it is not
   pub passed_here : denial_of (check x) ≡ None → denial_of (each check (drop (i + 1) xs)) ≡ denial_of (each check (drop i xs))
-  passed_here e = sym (ap (λ ys. denial_of (each check ys)) (here_on xs i x low is) ∙ ap denial_of (rest_decides (check x) (each check (drop (i + 1) xs)) e))
+  passed_here e = sym (ap (λ ys. denial_of (each check ys)) (from_here xs i x low is) ∙ ap denial_of (rest_decides (check x) (each check (drop (i + 1) xs)) e))

@@ -1,11 +1,10 @@
 -- The candidates of a search in its order (Cai et al., PPoPP 2021, Pareto-optimal schedules).
-use Rattle.std.specs.Prelude.{◌+◌, ◌==◌, ◌&&◌, ℕ, Bool, if◌then◌else◌, List, [], ◌∷◌, map, filter}
+use Rattle.std.specs.Prelude.{◌+◌, ◌==◌, ◌&&◌, ℕ, Bool, if◌then◌else◌, List, [], ◌∷◌, map}
 use Rattle.std.specs.List.{list_any, flat_map, range_with_len}
-use Rattle.collective_spec.specs.Kinds.{allows}
-use Rattle.collective_spec.specs.Collectives.{kind_in}
 use Rattle.candidate_order.specs.declared.candidate.Candidate.{Candidate}
 use Rattle.candidate_order.specs.Listed.{candidate_at}
 use Rattle.candidate_order.specs.Frontiers.{QuestionValue}
+use Rattle.candidate_formula.specs.Counts.{counts_of}
 use Rattle.report_form.specs.Tests.{is_before}
 
 abbrev pub same_candidate : Candidate → Candidate → Bool
@@ -14,10 +13,6 @@ same_candidate a b = a.s == b.s && a.r == b.r && a.c == b.c
 -- the candidate stands in the list
 abbrev pub is_listed : List Candidate → Candidate → Bool
 is_listed xs x = list_any (same_candidate x) xs
-
--- the chunk counts that the limits and the collective allow
-abbrev pub counts_of : QuestionValue → List ℕ
-counts_of q = filter (allows (kind_in q.spec) q.topology.nodes) (range_with_len 1 q.limits.max_c)
 
 -- the candidates of a step, by rounds and then by chunk count
 abbrev pub candidates_of_step : QuestionValue → ℕ → List Candidate

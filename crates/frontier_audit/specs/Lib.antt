@@ -4,7 +4,7 @@ pub mod Candidates
 pub mod Solutions
 pub mod Joining
 pub mod Auditing
-pub mod Asked
+pub mod Auditable
 pub mod Beside
 pub mod Steps
 pub mod Rights

@@ -15,7 +15,7 @@ use candidate_order::{
 };
 use std::alloc::Global;
 
-/// The candidates within the limits that are not refuted, in the order of the search. The only error is want of memory.
+/// The candidates within the limits that are not refuted, in the order of the search. The only error is `OutOfMemory`.
 pub(crate) fn unrefuted(
     alloc: Global,
     asked: &Asked,
@@ -34,7 +34,7 @@ pub(crate) fn unrefuted(
     Ok(left)
 }
 
-/// Adds those of the candidates that are not refuted. The only error is want of memory.
+/// Adds those of the candidates that are not refuted. The only error is `OutOfMemory`.
 fn push_unrefuted(
     left: &mut Vec<Candidate>,
     candidates: &[Candidate],

@@ -8,7 +8,7 @@ ghost use Rattle.report_form.specs.Reports.{parts_of, question_of};
 ghost use Rattle.round_encoding.specs.Candidates.{size_limit};
 ghost use Rattle.candidate_formula.specs.Formulas.{formula_for};
 ghost use Rattle.candidate_formula.specs.Sizes.{size_of};
-ghost use Rattle.frontier_audit.specs.Asked.{IsAsked};
+ghost use Rattle.frontier_audit.specs.Auditable.{IsAuditable};
 
 use candidate_formula::encode_candidate;
 use candidate_order::{Candidate, Limits, OutOfMemory};
@@ -33,17 +33,17 @@ impl Model for Asked {
     ghost use Rattle.std.specs.Prelude.{◌≡◌};
     ghost use Rattle.candidate_order.specs.Frontiers.{QuestionValue};
     ghost use Rattle.candidate_formula.specs.Formulas.{searched_on};
-    ghost use Rattle.frontier_audit.specs.Asked.{IsAsked};
+    ghost use Rattle.frontier_audit.specs.Auditable.{IsAuditable};
 
     ghost Value = { QuestionValue };
 
     ghost view = { λ a. record { topology = a.topology; spec = a.spec; limits = a.limits } };
 
-    ghost invariant = { λ a. IsAsked (record { topology = a.topology; spec = a.spec; limits = a.limits }) × (a.searched ≡ searched_on (record { topology = a.topology; spec = a.spec; limits = a.limits })) };
+    ghost invariant = { λ a. IsAuditable (record { topology = a.topology; spec = a.spec; limits = a.limits }) × (a.searched ≡ searched_on (record { topology = a.topology; spec = a.spec; limits = a.limits })) };
 }
 
 impl Asked {
-    /// What a report asks for in one of its parts. The only error is want of memory.
+    /// What a report asks for in one of its parts. The only error is `OutOfMemory`.
     pub(crate) fn of(report: &Report, part: Part) -> Result<Asked, OutOfMemory>
         requires part { Contains (parts_of report.now.words.collective.kind) part }
         requires small { size_of (question_of report.now.words report.now.topology Part.Whole) ≤ size_limit }
@@ -65,7 +65,7 @@ impl Asked {
     /// The topology.
     pub(crate) fn topology(&self) -> &Topology
         ensures topology { result.now ≡ self.now.topology }
-        ensures asked { IsAsked self.now }
+        ensures asked { IsAuditable self.now }
     {
         &self.topology
     }
@@ -73,7 +73,7 @@ impl Asked {
     /// The collective.
     pub(crate) fn spec(&self) -> &Spec
         ensures spec { result.now ≡ self.now.spec }
-        ensures asked { IsAsked self.now }
+        ensures asked { IsAuditable self.now }
     {
         &self.spec
     }
@@ -81,12 +81,12 @@ impl Asked {
     /// How far the search went.
     pub(crate) fn limits(&self) -> &Limits
         ensures limits { result.now ≡ self.now.limits }
-        ensures asked { IsAsked self.now }
+        ensures asked { IsAuditable self.now }
     {
         &self.limits
     }
 
-    /// The formula of a candidate within the limits. The only error is want of memory.
+    /// The formula of a candidate within the limits. The only error is `OutOfMemory`.
     pub(crate) fn formula(
         &self,
         alloc: Global,
@@ -101,7 +101,7 @@ impl Asked {
 }
 
 /// The links over which the formulas of what is asked for are: those of a reduction are turned round. The only error is
-/// want of memory.
+/// `OutOfMemory`.
 fn searched_on(topology: &Topology, spec: &Spec) -> Result<Topology, OutOfMemory>
     ensures { IfOk result (λ searched. searched ≡ (if adds_up spec.now then reversed_of topology.now else topology.now)) }
 {
@@ -112,7 +112,7 @@ fn searched_on(topology: &Topology, spec: &Spec) -> Result<Topology, OutOfMemory
     }
 }
 
-/// The same topology. The only error is want of memory.
+/// The same topology. The only error is `OutOfMemory`.
 fn copied(topology: &Topology) -> Result<Topology, OutOfMemory>
     ensures { IfOk result (λ copy. copy ≡ topology.now) }
 {

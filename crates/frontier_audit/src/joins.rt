@@ -20,7 +20,7 @@ use schedule::{Schedule, Topology};
 use std::alloc::Global;
 
 /// The first joined point of an allreduce that is not the join of its two points, or is lacking or one too many. Other
-/// collectives join nothing. The only error is want of memory.
+/// collectives join nothing. The only error is `OutOfMemory`.
 pub(crate) fn joins_denied(
     alloc: Global,
     report: &Report,
@@ -52,7 +52,7 @@ fn parts_joined(alloc: Global, report: &Report) -> Result<Option<(Reason, Candid
 }
 
 /// The first joined point that is not the join of its two points, in the order of the first ones, or is lacking or one too
-/// many. The only error is want of memory.
+/// many. The only error is `OutOfMemory`.
 fn pairs_denied(
     alloc: Global,
     topology: &Topology,
@@ -78,7 +78,7 @@ fn pairs_denied(
 }
 
 /// The first joined point, from a place on, that is not the join of this point with one of those that have its chunk count.
-/// The only error is want of memory.
+/// The only error is `OutOfMemory`.
 fn gathered_denied(
     alloc: Global,
     topology: &Topology,
@@ -101,7 +101,7 @@ fn gathered_denied(
 }
 
 /// Whether the joined point at a place is the join of these two, where they have one chunk count; the place behind it is the
-/// next. The only error is want of memory.
+/// next. The only error is `OutOfMemory`.
 fn pair_denied(
     alloc: Global,
     topology: &Topology,
@@ -125,7 +125,7 @@ fn pair_denied(
     Ok(None)
 }
 
-/// Whether the joined point at a place is the join of two points, which sums everything. The only error is want of memory.
+/// Whether the joined point at a place is the join of two points, which sums everything. The only error is `OutOfMemory`.
 fn join_denied(
     alloc: Global,
     topology: &Topology,
@@ -153,7 +153,7 @@ fn join_denied(
 }
 
 /// Whether a printed point is the one that is due, and sums everything where so many first steps add. The only error is
-/// want of memory.
+/// `OutOfMemory`.
 fn is_due(
     alloc: Global,
     topology: &Topology,
@@ -172,7 +172,7 @@ fn is_due(
 }
 
 /// Whether the schedule of a joined point, of which so many first steps add, sums every chunk at every node. The only error is
-/// want of memory.
+/// `OutOfMemory`.
 fn does_join(
     alloc: Global,
     topology: &Topology,

@@ -72,7 +72,7 @@ fn part_denied<H: Shelf>(
 }
 
 /// The first candidate within the limits that is not answered, or else the first point whose mark is wrong. The only error
-/// is want of memory.
+/// is `OutOfMemory`.
 fn answers_denied(
     alloc: Global,
     asked: &Asked,

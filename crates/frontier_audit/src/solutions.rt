@@ -16,7 +16,7 @@ use inversion::{SumVerdict, sums};
 use schedule::{Verdict, solves};
 use std::alloc::Global;
 
-/// The first point whose schedule does not do what is asked. The only error is want of memory.
+/// The first point whose schedule does not do what is asked. The only error is `OutOfMemory`.
 pub(crate) fn points_denied(
     alloc: Global,
     asked: &Asked,
@@ -33,7 +33,7 @@ pub(crate) fn points_denied(
     Ok(None)
 }
 
-/// Whether a point's schedule solves what is asked, or sums it. The only error is want of memory.
+/// Whether a point's schedule solves what is asked, or sums it. The only error is `OutOfMemory`.
 fn is_solution(alloc: Global, asked: &Asked, point: &Point) -> Result<bool, OutOfMemory>
     requires { IsPoint asked.now point.now }
     ensures { IfOk result (λ solution. solution ≡ is_solution asked.now point.now) }
@@ -45,7 +45,7 @@ fn is_solution(alloc: Global, asked: &Asked, point: &Point) -> Result<bool, OutO
     }
 }
 
-/// Whether a point's schedule brings each chunk where it has to be. The only error is want of memory.
+/// Whether a point's schedule brings each chunk where it has to be. The only error is `OutOfMemory`.
 fn does_solve(alloc: Global, asked: &Asked, point: &Point) -> Result<bool, OutOfMemory>
     requires point { IsPoint asked.now point.now }
     requires copies { adds_up asked.now.spec ≡ false }
@@ -62,7 +62,7 @@ fn does_solve(alloc: Global, asked: &Asked, point: &Point) -> Result<bool, OutOf
     Ok(matches!(verdict, Verdict::Solves))
 }
 
-/// Whether a point's schedule sums what is demanded. The only error is want of memory.
+/// Whether a point's schedule sums what is demanded. The only error is `OutOfMemory`.
 fn does_sum(alloc: Global, asked: &Asked, point: &Point) -> Result<bool, OutOfMemory>
     requires point { IsPoint asked.now point.now }
     requires adds { adds_up asked.now.spec ≡ true }

@@ -1,7 +1,6 @@
 pub mod Turns
 pub mod Parted
 pub mod After
-pub mod Walk
 pub mod Numbers
 pub mod ListedLines
 pub mod Onward

@@ -8,13 +8,7 @@ use Rattle.schedule.specs.Links.{GroupValue}
 use Rattle.collective_spec.specs.Patterns.{PatternValue}
 use Rattle.topology_text.specs.declared.fault.TopologyCode.{TopologyCode}
 use Rattle.topology_text.specs.Reading.{begins, group_row, groups_from, custom_line, holders_line, row_of_pairs, holders_at, Pairs, pattern_of, pattern_at}
-use Rattle.report_form.specs.declared.fault.ReportCode.{ReportCode}
-use Rattle.report_form.specs.Lines.{among}
 use Rattle.report_lines.specs.Room.{Onward}
-
-pub among_is : {A : Type 0} (rows : List Row) (r : Result A (TopologyCode × ℕ)) (x : A) → among rows r ≡ Ok x → r ≡ Ok x
-among_is rows (Ok y) x e = let same : y ≡ x = ok_is {C = ReportCode × ℕ} y x e in ap (λ z. Ok z) same
-among_is rows (Err c) x e = absurd (cc)
 
 pub onward_trans : (p q r : Place) → Onward p q → Onward q r → Onward p r
 onward_trans p q r a b = omega (arith, a, b)

@@ -6,6 +6,7 @@ use Rattle.text_lines.specs.Check.{first}
 use Rattle.text_lines.specs.declared.line.Line.{Line}
 use Rattle.text_lines.proofs.Checks.{first_is}
 use Rattle.topology_text.specs.Reading.{begins}
+use Rattle.topology_text.proofs.Groups.{place}
 use Rattle.report_form.specs.declared.fault.ReportCode.{ReportCode}
 use Rattle.report_form.specs.Lines.{lines_from}
 
@@ -17,9 +18,6 @@ ended xs p = Ok (xs, p)
 
 abbrev pub failed : {A : Type 0} → ReportCode → ℕ → Result (List A × Place) (ReportCode × ℕ)
 failed code n = Err (code, n)
-
-abbrev pub place : ℕ → List Row → Place
-place n rows = record { number = n; rows = rows }
 
 pub last_push : {A : Type 0} (xs : List A) (o : Option A) (x : A) → last_or o (xs ++ x ∷ []) ≡ Some x
 last_push [] o x = refl

@@ -11,3 +11,5 @@ mod sends;
 mod topology;
 
 pub use reading::read_report;
+pub use report_form::{Report, ReportCode, ReportFault, Words, point_at};
+pub use report_printing::print_report;

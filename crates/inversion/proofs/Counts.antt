@@ -6,16 +6,12 @@ use Rattle.std.proofs.lemmas.Bool.{eqb-true, eq-eqb, not-false, not_from_true}
 use Rattle.std.proofs.lemmas.List.Elements.{All-from_recursion, recursion_from_All}
 use Rattle.schedule.specs.Bags.{Bag, Bags, one_of_each}
 use Rattle.schedule.proofs.Bagging.{one_each}
-use Rattle.schedule.proofs.First.{found_none, none_found}
+use Rattle.schedule.proofs.First.{found_none, none_found, each_append}
 use Rattle.inversion.specs.Judging.{count_of, counts_due, first_uneven}
 
 each_split : {X : Type 0} (P : X → Type 0) (xs ys : List X) → AllByRecursion P (xs ++ ys) → AllByRecursion P xs × AllByRecursion P ys
 each_split P [] ys each = (tt, each)
 each_split P (x ∷ xs) ys each = let rest = each_split P xs ys each.1 in ((each.0, rest.0), rest.1)
-
-pub each_joined : {X : Type 0} (P : X → Type 0) (xs ys : List X) → AllByRecursion P xs → AllByRecursion P ys → AllByRecursion P (xs ++ ys)
-each_joined P [] ys left right = right
-each_joined P (x ∷ xs) ys left right = (left.0, each_joined P xs ys left.1 right)
 
 -- in a row of counts each is even
 abbrev IsEven : Bag → ℕ → Type 0
@@ -71,7 +67,7 @@ rows_whole bags nodes counted (pair ∷ pairs) each =
 whole_rows : (bags : Bags) (nodes : ℕ) (pairs : List (ℕ × ℕ)) → AllByRecursion (λ pair. bags pair ≡ one_of_each nodes) pairs → AllByRecursion (IsDueEven bags) (counts_due nodes pairs)
 whole_rows bags nodes [] each = tt
 whole_rows bags nodes (pair ∷ pairs) each =
-    each_joined (IsDueEven bags) (map (λ node. (pair.0, pair.1, node)) (range_with_len 0 nodes)) (counts_due nodes pairs) (mapped bags pair (range_with_len 0 nodes) (row_whole nodes (bags pair) each.0)) (whole_rows bags nodes pairs each.1)
+    each_append (IsDueEven bags) (map (λ node. (pair.0, pair.1, node)) (range_with_len 0 nodes)) (counts_due nodes pairs) (mapped bags pair (range_with_len 0 nodes) (row_whole nodes (bags pair) each.0)) (whole_rows bags nodes pairs each.1)
 
 pub even_everywhere : (bags : Bags) (nodes : ℕ) (pairs : List (ℕ × ℕ)) → ((pair : ℕ × ℕ) → length (bags pair) ≡ nodes) → first_uneven bags nodes pairs ≡ None → All (λ pair. bags pair ≡ one_of_each nodes) pairs
 even_everywhere bags nodes pairs counted none =

@@ -1,4 +1,4 @@
--- The counts that are held at 2 tell the first uneven count, and which it is.
+-- The counts of a store, which are held at 2, tell the first uneven count, and which it is.
 use Rattle.std.proofs.Common.{◌≡◌, ℕ, zero, suc, ◌+◌, ◌<◌, ◌≤◌, Bool, true, false, not, cond, eqb, List, [], ◌∷◌, length, map, get_or, Some, None, refl, sym, ap, ◌∙◌, subst, arith}
 use Rattle.std.specs.Prelude.{min}
 use Rattle.std.specs.List.{AllByRecursion, find, range_with_len}
@@ -6,18 +6,35 @@ use Rattle.std.specs.Option.{option_map, option_or}
 use Rattle.std.proofs.lemmas.Bool.{eq-eqb, ne_eqb}
 use Rattle.std.proofs.lemmas.Bool.Decides.{nat_tests}
 use Rattle.schedule.specs.Placed.{PlacementValue, IsPlacement, all_pairs, holds}
-use Rattle.schedule.specs.Sends.{ScheduleValue}
-use Rattle.schedule.specs.Bags.{Bag, Bags, contributions}
+use Rattle.schedule.specs.Sends.{IsInRange, ScheduleValue}
+use Rattle.schedule.specs.Bags.{Bag, Bags, contributions, held_at_2}
 use Rattle.schedule.specs.JoinedRuns.{joined_after}
-use Rattle.schedule.proofs.First.{each_filter, each_weaker}
+use Rattle.schedule.proofs.First.{each_filter, each_weaker, each_append}
 use Rattle.schedule.proofs.Placing.{IsBelow, all_below}
+use Rattle.bag_runs.specs.Stores.{StoreValue, bag_in, bags_in, stored}
+use Rattle.bag_runs.specs.Kept.{counted}
+use Rattle.bag_runs.proofs.Counting.{counted_at}
+use Rattle.bag_runs.proofs.Tables.{table_cell}
 use Rattle.inversion.specs.declared.verdict.SumVerdict.{SumVerdict}
 use Rattle.inversion.specs.declared.verdict.SumVerdict.TheVariants as verdict
 use Rattle.inversion.specs.Judging.{count_of, counts_due, counts_judged, first_uneven}
-use Rattle.inversion.specs.Tables.{TableValue, IsHeld, Keeps, bags_in}
-use Rattle.inversion.proofs.Counts.{each_joined}
-use Rattle.inversion.proofs.Tabling.{IsPair}
 use Rattle.inversion.proofs.Uneven.{uneven_cons, uneven_node}
+
+-- ---- a bag is kept with places for more counts
+
+-- which node is the first that has not contributed exactly once
+pub uneven_counted : (nodes : ℕ) (counts : List ℕ) → uneven_node counts nodes ≡ uneven_node (counted nodes counts) nodes
+uneven_counted nodes counts = go 0 nodes (omega arith)
+  where
+    go : (a n : ℕ) → a + n ≤ nodes → find (λ of. not (eqb (get_or counts of 0) 1)) (range_with_len a n) ≡ find (λ of. not (eqb (get_or (counted nodes counts) of 0) 1)) (range_with_len a n)
+    go a zero small = refl
+    go a (suc n) small =
+        ap (λ k. cond (not (eqb k 1)) (Some a) (find (λ of. not (eqb (get_or counts of 0) 1)) (range_with_len (a + 1) n))) (sym (counted_at nodes counts a (omega (arith, small))))
+        ∙ ap (cond (not (eqb (get_or (counted nodes counts) a 0) 1)) (Some a)) (go (a + 1) n (omega (arith, small)))
+
+-- where a chunk is demanded, it is told by the bag
+pub uneven_told : (s : StoreValue) (chunk node nodes : ℕ) (counts : List ℕ) → nodes ≡ s.nodes → counted s.nodes counts ≡ bag_in s chunk node → uneven_node counts nodes ≡ uneven_node (bags_in s (chunk, node)) s.nodes
+uneven_told s chunk node nodes counts same is = ap (uneven_node counts) same ∙ uneven_counted s.nodes counts ∙ ap (λ bag. uneven_node bag s.nodes) is
 
 -- ---- a count held at 2 is 0, and is 1, where the count is
 
@@ -27,29 +44,43 @@ capped_one n = grind (arith, nat_tests)
 capped_none : (n : ℕ) → eqb (min n 2) 0 ≡ eqb n 0
 capped_none n = grind (arith, nat_tests)
 
+held_at : (bag : Bag) (node : ℕ) → get_or (held_at_2 bag) node 0 ≡ min (get_or bag node 0) 2
+held_at [] node = refl
+held_at (x ∷ bag) zero = refl
+held_at (x ∷ bag) (suc node) = held_at bag node
+
 find_alike : {X : Type 0} (p q : X → Bool) → ((x : X) → p x ≡ q x) → (xs : List X) → find p xs ≡ find q xs
 find_alike p q same [] = refl
 find_alike p q same (x ∷ xs) = ap (λ b. cond b (Some x) (find p xs)) (same x) ∙ ap (cond (q x) (Some x)) (find_alike p q same xs)
 
-node_alike : (counts bag : Bag) (nodes : ℕ) → IsHeld counts bag → uneven_node counts nodes ≡ uneven_node bag nodes
-node_alike counts bag nodes held =
-    find_alike (λ of. not (eqb (get_or counts of 0) 1)) (λ of. not (eqb (get_or bag of 0) 1)) (λ of. ap not (ap (λ n. eqb n 1) (held of) ∙ capped_one (get_or bag of 0))) (range_with_len 0 nodes)
+node_alike : (bag : Bag) (nodes : ℕ) → uneven_node (held_at_2 bag) nodes ≡ uneven_node bag nodes
+node_alike bag nodes =
+    find_alike (λ of. not (eqb (get_or (held_at_2 bag) of 0) 1)) (λ of. not (eqb (get_or bag of 0) 1)) (λ of. ap not (ap (λ n. eqb n 1) (held_at bag of) ∙ capped_one (get_or bag of 0))) (range_with_len 0 nodes)
+
+-- a pair of a chunk and a node of the store
+pub record IsPair (s : StoreValue) (pair : ℕ × ℕ) : Type 0 where
+  pub chunk : pair.0 < s.chunks
+  pub node : pair.1 < s.nodes
+
+-- a store of these bags has them at its pairs, with counts held at 2
+bag_held : (s : StoreValue) (bags : Bags) (pair : ℕ × ℕ) → s ≡ stored s.chunks s.nodes bags → IsPair s pair → bags_in s pair ≡ held_at_2 (bags pair)
+bag_held s bags pair kept is = ap (λ (v : StoreValue). bags_in v pair) kept ∙ table_cell (λ p. held_at_2 (bags p)) s.nodes s.chunks pair.0 pair.1 [] is.chunk is.node
 
 -- the first uneven count is at the same place
-pub uneven_alike : (t : TableValue) (bags : Bags) (pairs : List (ℕ × ℕ)) → Keeps t bags → AllByRecursion (IsPair t) pairs → first_uneven (bags_in t) t.nodes pairs ≡ first_uneven bags t.nodes pairs
-uneven_alike t bags [] kept each = refl
-uneven_alike t bags (pair ∷ pairs) kept each =
-    uneven_cons (bags_in t) t.nodes pair pairs
-    ∙ (ap (λ first. option_or (option_map (λ of. (pair.0, pair.1, of)) first) (first_uneven (bags_in t) t.nodes pairs)) (node_alike (bags_in t pair) (bags pair) t.nodes (kept pair.0 pair.1 each.0.chunk each.0.node))
-    ∙ (ap (option_or (option_map (λ of. (pair.0, pair.1, of)) (uneven_node (bags pair) t.nodes))) (uneven_alike t bags pairs kept each.1)
-    ∙ sym (uneven_cons bags t.nodes pair pairs)))
+uneven_alike : (s : StoreValue) (bags : Bags) (pairs : List (ℕ × ℕ)) → s ≡ stored s.chunks s.nodes bags → AllByRecursion (IsPair s) pairs → first_uneven (bags_in s) s.nodes pairs ≡ first_uneven bags s.nodes pairs
+uneven_alike s bags [] kept each = refl
+uneven_alike s bags (pair ∷ pairs) kept each =
+    uneven_cons (bags_in s) s.nodes pair pairs
+    ∙ (ap (λ first. option_or (option_map (λ of. (pair.0, pair.1, of)) first) (first_uneven (bags_in s) s.nodes pairs)) (ap (λ bag. uneven_node bag s.nodes) (bag_held s bags pair kept each.0) ∙ node_alike (bags pair) s.nodes)
+    ∙ (ap (option_or (option_map (λ of. (pair.0, pair.1, of)) (uneven_node (bags pair) s.nodes))) (uneven_alike s bags pairs kept each.1)
+    ∙ sym (uneven_cons bags s.nodes pair pairs)))
 
 -- ---- the place of the first uneven count
 
--- a pair of the table, and a node
-pub record IsDue (t : TableValue) (due : ℕ × ℕ × ℕ) : Type 0 where
-  pub pair : IsPair t (due.0, due.1)
-  pub of : due.2 < t.nodes
+-- a pair of the store, and a node
+pub record IsDue (s : StoreValue) (due : ℕ × ℕ × ℕ) : Type 0 where
+  pub pair : IsPair s (due.0, due.1)
+  pub of : due.2 < s.nodes
 
 found_has : {X : Type 0} (P : X → Type 0) (p : X → Bool) (xs : List X) (x : X) → AllByRecursion P xs → Some x ≡ find p xs → P x
 found_has P p [] x each found = absurd cc
@@ -58,75 +89,93 @@ found_has P p (y ∷ ys) x each found =
     [ true ↦ (λ is. let same : y ≡ x = cc in subst P same each.0) | false ↦ (λ is. found_has P p ys x each.1 is) ])
     found
 
-dues_of_pair : (t : TableValue) (pair : ℕ × ℕ) (low n : ℕ) → IsPair t pair → low + n ≤ t.nodes → AllByRecursion (IsDue t) (map (λ node. (pair.0, pair.1, node)) (range_with_len low n))
-dues_of_pair t pair low zero is small = tt
-dues_of_pair t pair low (suc n) is small = (record { pair = is; of = omega (arith, small) }, dues_of_pair t pair (low + 1) n is (omega (arith, small)))
+dues_of_pair : (s : StoreValue) (pair : ℕ × ℕ) (low n : ℕ) → IsPair s pair → low + n ≤ s.nodes → AllByRecursion (IsDue s) (map (λ node. (pair.0, pair.1, node)) (range_with_len low n))
+dues_of_pair s pair low zero is small = tt
+dues_of_pair s pair low (suc n) is small = (record { pair = is; of = omega (arith, small) }, dues_of_pair s pair (low + 1) n is (omega (arith, small)))
 
-dues_inside : (t : TableValue) (pairs : List (ℕ × ℕ)) → AllByRecursion (IsPair t) pairs → AllByRecursion (IsDue t) (counts_due t.nodes pairs)
-dues_inside t [] each = tt
-dues_inside t (pair ∷ pairs) each =
-    each_joined (IsDue t) (map (λ node. (pair.0, pair.1, node)) (range_with_len 0 t.nodes)) (counts_due t.nodes pairs) (dues_of_pair t pair 0 t.nodes each.0 (omega arith)) (dues_inside t pairs each.1)
+dues_inside : (s : StoreValue) (pairs : List (ℕ × ℕ)) → AllByRecursion (IsPair s) pairs → AllByRecursion (IsDue s) (counts_due s.nodes pairs)
+dues_inside s [] each = tt
+dues_inside s (pair ∷ pairs) each =
+    each_append (IsDue s) (map (λ node. (pair.0, pair.1, node)) (range_with_len 0 s.nodes)) (counts_due s.nodes pairs) (dues_of_pair s pair 0 s.nodes each.0 (omega arith)) (dues_inside s pairs each.1)
 
-pub due_inside : (t : TableValue) (bags : Bags) (pairs : List (ℕ × ℕ)) (due : ℕ × ℕ × ℕ) → AllByRecursion (IsPair t) pairs → Some due ≡ first_uneven bags t.nodes pairs → IsDue t due
-due_inside t bags pairs due each found = found_has (IsDue t) (λ due. not (eqb (count_of bags due) 1)) (counts_due t.nodes pairs) due (dues_inside t pairs each) found
+due_inside : (s : StoreValue) (bags : Bags) (pairs : List (ℕ × ℕ)) (due : ℕ × ℕ × ℕ) → AllByRecursion (IsPair s) pairs → Some due ≡ first_uneven bags s.nodes pairs → IsDue s due
+due_inside s bags pairs due each found = found_has (IsDue s) (λ due. not (eqb (count_of bags due) 1)) (counts_due s.nodes pairs) due (dues_inside s pairs each) found
 
--- the pairs of a placement of the table's size are pairs of the table
-pub pairs_inside : (t : TableValue) (demand : PlacementValue) → IsPlacement demand → demand.chunks ≡ t.chunks → demand.nodes ≡ t.nodes → AllByRecursion (IsPair t) demand.pairs
-pairs_inside t demand is chunks_are nodes_are =
-    subst (AllByRecursion (IsPair t)) (sym (ap (λ (p : PlacementValue). p.pairs) is))
-    (each_filter (IsPair t) (holds demand) (all_pairs demand.chunks demand.nodes)
-    (each_weaker (IsBelow demand.chunks demand.nodes) (IsPair t) (λ pair below. record { chunk = omega (arith, below.0, chunks_are); node = omega (arith, below.1, nodes_are) }) (all_pairs demand.chunks demand.nodes) (all_below demand.chunks demand.nodes)))
+-- the pairs of a placement of the store's size are pairs of the store
+pairs_inside : (s : StoreValue) (demand : PlacementValue) → IsPlacement demand → demand.chunks ≡ s.chunks → demand.nodes ≡ s.nodes → AllByRecursion (IsPair s) demand.pairs
+pairs_inside s demand is chunks_are nodes_are =
+    subst (AllByRecursion (IsPair s)) (sym (ap (λ (p : PlacementValue). p.pairs) is))
+    (each_filter (IsPair s) (holds demand) (all_pairs demand.chunks demand.nodes)
+    (each_weaker (IsBelow demand.chunks demand.nodes) (IsPair s) (λ pair below. record { chunk = omega (arith, below.0, chunks_are); node = omega (arith, below.1, nodes_are) }) (all_pairs demand.chunks demand.nodes) (all_below demand.chunks demand.nodes)))
 
 -- ---- what is said of it
 
--- the table of a run has these bags, and is of the size of the demand
-pub record Ends (t : TableValue) (bags : Bags) (nodes : ℕ) (demand : PlacementValue) : Type 0 where
-  pub kept : Keeps t bags
-  pub placement : IsPlacement demand
-  pub chunks : demand.chunks ≡ t.chunks
-  pub nodes_are : demand.nodes ≡ t.nodes
-  pub nodes_of : t.nodes ≡ nodes
+module _ (s : StoreValue) (demand : PlacementValue) (placement : IsPlacement demand) (chunks_are : demand.chunks ≡ s.chunks) (nodes_are : demand.nodes ≡ s.nodes) where
+  inside : AllByRecursion (IsPair s) demand.pairs
+  inside = pairs_inside s demand placement chunks_are nodes_are
 
--- the table of a run over the nodes of a topology, and over the chunks and nodes of a placement
-pub run_ends : (t : TableValue) (s : ScheduleValue) (adding chunks had nodes : ℕ) (demand : PlacementValue) → had ≡ nodes → demand.chunks ≡ chunks → demand.nodes ≡ nodes → IsPlacement demand → t.chunks ≡ chunks → t.nodes ≡ had
-    → Keeps t (joined_after (contributions had) s adding (length s.rounds)) → Ends t (joined_after (contributions nodes) s adding (length s.rounds)) nodes demand
-run_ends t s adding chunks had nodes demand same chunks_are nodes_are is of_chunks of_nodes kept = record {
-  kept = subst (λ n. Keeps t (joined_after (contributions n) s adding (length s.rounds))) same kept;
-  placement = is;
-  chunks = chunks_are ∙ sym of_chunks;
-  nodes_are = nodes_are ∙ sym (of_nodes ∙ same);
-  nodes_of = of_nodes ∙ same;
-}
+  -- the place of the first uneven count is one of the store's
+  pub first_due : (due : ℕ × ℕ × ℕ) → Some due ≡ first_uneven (bags_in s) s.nodes demand.pairs → IsDue s due
+  first_due due found = due_inside s (bags_in s) demand.pairs due inside found
 
-module _ (t : TableValue) (bags : Bags) (nodes : ℕ) (demand : PlacementValue) (ends : Ends t bags nodes demand) where
-  inside : AllByRecursion (IsPair t) demand.pairs
-  inside = pairs_inside t demand ends.placement ends.chunks ends.nodes_are
+  module _ (bags : Bags) (kept : s ≡ stored s.chunks s.nodes bags) where
+    -- none is uneven
+    pub said_even : None ≡ first_uneven (bags_in s) s.nodes demand.pairs → verdict.Sums ≡ counts_judged bags (first_uneven bags s.nodes demand.pairs)
+    said_even none = ap (counts_judged bags) (none ∙ uneven_alike s bags demand.pairs kept inside)
 
-  same_first : first_uneven (bags_in t) t.nodes demand.pairs ≡ first_uneven bags nodes demand.pairs
-  same_first = uneven_alike t bags demand.pairs ends.kept inside ∙ ap (λ n. first_uneven bags n demand.pairs) ends.nodes_of
+    abbrev said : Bool → ℕ × ℕ × ℕ → SumVerdict
+    said none due = cond none (verdict.Missing due.0 due.1 due.2) (verdict.Twice due.0 due.1 due.2)
 
-  -- the place of the first uneven count is one of the table's
-  pub first_due : (due : ℕ × ℕ × ℕ) → Some due ≡ first_uneven (bags_in t) t.nodes demand.pairs → IsDue t due
-  first_due due found = due_inside t (bags_in t) demand.pairs due inside found
+    -- the first that is uneven, by what is kept of its bag
+    said_of : (due : ℕ × ℕ × ℕ) (none : Bool) (counts : List ℕ) → Some due ≡ first_uneven (bags_in s) s.nodes demand.pairs → counted s.nodes counts ≡ bag_in s due.0 due.1 → eqb (get_or counts due.2 0) 0 ≡ none
+        → said none due ≡ counts_judged bags (first_uneven bags s.nodes demand.pairs)
+    said_of due none counts found of_bag is =
+        let place : IsDue s due = first_due due found in
+        let count : get_or counts due.2 0 ≡ min (count_of bags due) 2 =
+        sym (counted_at s.nodes counts due.2 place.of)
+        ∙ ap (λ bag. get_or bag due.2 0) (of_bag ∙ bag_held s bags (due.0, due.1) kept place.pair)
+        ∙ held_at (bags (due.0, due.1)) due.2 in
+        ap (λ b. said b due) (sym is ∙ ap (λ n. eqb n 0) count ∙ capped_none (count_of bags due)) ∙ ap (counts_judged bags) (found ∙ uneven_alike s bags demand.pairs kept inside)
 
-  -- none is uneven
-  pub said_even : None ≡ first_uneven (bags_in t) t.nodes demand.pairs → verdict.Sums ≡ counts_judged bags (first_uneven bags nodes demand.pairs)
-  said_even none = ap (counts_judged bags) (none ∙ same_first)
+    -- it is 0
+    pub said_missing : (due : ℕ × ℕ × ℕ) (counts : List ℕ) → Some due ≡ first_uneven (bags_in s) s.nodes demand.pairs → counted s.nodes counts ≡ bag_in s due.0 due.1 → get_or counts due.2 0 ≡ 0
+        → verdict.Missing due.0 due.1 due.2 ≡ counts_judged bags (first_uneven bags s.nodes demand.pairs)
+    said_missing due counts found of_bag none = said_of due true counts found of_bag (eq-eqb (get_or counts due.2 0) 0 none)
 
-  abbrev said : Bool → ℕ × ℕ × ℕ → SumVerdict
-  said none due = cond none (verdict.Missing due.0 due.1 due.2) (verdict.Twice due.0 due.1 due.2)
+    -- or more
+    pub said_twice : (due : ℕ × ℕ × ℕ) (counts : List ℕ) → Some due ≡ first_uneven (bags_in s) s.nodes demand.pairs → counted s.nodes counts ≡ bag_in s due.0 due.1 → 0 < get_or counts due.2 0
+        → verdict.Twice due.0 due.1 due.2 ≡ counts_judged bags (first_uneven bags s.nodes demand.pairs)
+    said_twice due counts found of_bag some = said_of due false counts found of_bag (ne_eqb (get_or counts due.2 0) 0 (λ none. omega (arith, none, some)))
 
-  said_of : (due : ℕ × ℕ × ℕ) (none : Bool) → Some due ≡ first_uneven (bags_in t) t.nodes demand.pairs → eqb (count_of (bags_in t) due) 0 ≡ none → said none due ≡ counts_judged bags (first_uneven bags nodes demand.pairs)
-  said_of due none found is =
-      let held : eqb (count_of (bags_in t) due) 0 ≡ eqb (count_of bags due) 0 =
-      let place = first_due due found in
-      ap (λ n. eqb n 0) (ends.kept due.0 due.1 place.pair.chunk place.pair.node due.2) ∙ capped_none (count_of bags due) in
-      ap (λ b. said b due) (sym is ∙ held) ∙ ap (counts_judged bags) (found ∙ same_first)
+-- ---- the last store of a run from what each node contributes
 
-  -- the first that is uneven is 0
-  pub said_missing : (due : ℕ × ℕ × ℕ) → Some due ≡ first_uneven (bags_in t) t.nodes demand.pairs → count_of (bags_in t) due ≡ 0 → verdict.Missing due.0 due.1 due.2 ≡ counts_judged bags (first_uneven bags nodes demand.pairs)
-  said_missing due found none = said_of due true found (eq-eqb (count_of (bags_in t) due) 0 none)
+module _ (start : StoreValue) (s : ScheduleValue) (chunks had nodes : ℕ) (same : had ≡ nodes) (is : start ≡ stored chunks had (contributions had)) where
+  first : start ≡ stored chunks nodes (contributions nodes)
+  first = is ∙ ap (λ n. stored chunks n (contributions n)) same
 
-  -- or more
-  pub said_twice : (due : ℕ × ℕ × ℕ) → Some due ≡ first_uneven (bags_in t) t.nodes demand.pairs → 0 < count_of (bags_in t) due → verdict.Twice due.0 due.1 due.2 ≡ counts_judged bags (first_uneven bags nodes demand.pairs)
-  said_twice due found some = said_of due false found (ne_eqb (count_of (bags_in t) due) 0 (λ none. omega (arith, none, some)))
+  of_chunks : start.chunks ≡ chunks
+  of_chunks = ap (λ (x : StoreValue). x.chunks) first
+
+  of_nodes : start.nodes ≡ nodes
+  of_nodes = ap (λ (x : StoreValue). x.nodes) first
+
+  pub starts_in_range : IsInRange chunks nodes s → IsInRange start.chunks start.nodes s
+  starts_in_range range = rw (of_chunks, of_nodes) range
+
+  -- it has the last bags of the joined run
+  pub last_kept : (last : StoreValue) (adding : ℕ)
+      → ((bags : Bags) → start ≡ stored start.chunks start.nodes bags → last ≡ stored start.chunks start.nodes (joined_after bags s adding (length s.rounds)))
+      → last ≡ stored chunks nodes (joined_after (contributions nodes) s adding (length s.rounds))
+  last_kept last adding ran =
+      let bags : Bags = joined_after (contributions nodes) s adding (length s.rounds) in
+      ran (contributions nodes) (first ∙ ap (λ c. stored c nodes (contributions nodes)) (sym of_chunks) ∙ ap (λ n. stored start.chunks n (contributions nodes)) (sym of_nodes))
+      ∙ ap (λ c. stored c start.nodes bags) of_chunks ∙ ap (λ n. stored chunks n bags) of_nodes
+
+-- what is said of a store of these bags, of so many chunks and nodes
+pub run_judged : (last : StoreValue) (v : SumVerdict) (chunks nodes : ℕ) (bags : Bags) (pairs : List (ℕ × ℕ)) → last ≡ stored chunks nodes bags
+    → ((b : Bags) → last ≡ stored last.chunks last.nodes b → v ≡ counts_judged b (first_uneven b last.nodes pairs)) → v ≡ counts_judged bags (first_uneven bags nodes pairs)
+run_judged last v chunks nodes bags pairs is judged =
+    let of_chunks : last.chunks ≡ chunks = ap (λ (x : StoreValue). x.chunks) is in
+    let of_nodes : last.nodes ≡ nodes = ap (λ (x : StoreValue). x.nodes) is in
+    judged bags (is ∙ ap (λ c. stored c nodes bags) (sym of_chunks) ∙ ap (λ n. stored last.chunks n bags) (sym of_nodes))
+    ∙ ap (λ n. counts_judged bags (first_uneven bags n pairs)) of_nodes

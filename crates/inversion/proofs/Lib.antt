@@ -8,11 +8,6 @@ pub mod Tightened
 pub mod Inverted
 pub mod Reducing
 pub mod Copied
-pub mod Holding
-pub mod Arriving
-pub mod Tabling
-pub mod Copying
-pub mod Starting
 pub mod Uneven
 pub mod Misfits
 pub mod Evening

@@ -1,7 +1,6 @@
 -- The first part of a schedule that does not fit, and the verdict where there is one and where there is none.
-use Rattle.std.proofs.Common.{◌≡◌, ℕ, zero, suc, ◌+◌, ◌≤◌, cond, length, Option, Some, None, refl, sym, ap, ◌∙◌, arith}
+use Rattle.std.proofs.Common.{◌≡◌, ℕ, ◌≤◌, length, Option, Some, None, refl, sym, ap, ◌∙◌}
 use Rattle.std.specs.Prelude.{◌↔◌, sum}
-use Rattle.std.proofs.lemmas.Bool.{le-leb}
 use Rattle.schedule.specs.declared.hop.Hop.{Hop}
 use Rattle.schedule.specs.Links.{GroupValue, TopologyValue}
 use Rattle.schedule.specs.Sends.{ScheduleValue}
@@ -9,23 +8,18 @@ use Rattle.schedule.specs.Fitting.{load}
 use Rattle.schedule.specs.Judging.{first_unlinked, first_overfull, group_at}
 use Rattle.schedule.specs.Placed.{PlacementValue}
 use Rattle.schedule.specs.Bags.{Bags, contributions}
-use Rattle.schedule.specs.Summing.{Sums, bags_after, summed_step}
-use Rattle.schedule.specs.JoinedRuns.{copied_step, joined_after}
+use Rattle.schedule.specs.Summing.{Sums}
+use Rattle.schedule.specs.JoinedRuns.{joined_after}
+use Rattle.bag_runs.proofs.JoinedSteps.{adding_throughout}
 use Rattle.inversion.specs.declared.verdict.SumVerdict.{SumVerdict}
 use Rattle.inversion.specs.declared.verdict.SumVerdict.TheVariants as verdict
 use Rattle.inversion.specs.Judging.{counts_judged, first_uneven, last_bags, misfit_at, misfit_of, sum_judged, sum_verdict_of}
 use Rattle.inversion.proofs.Told.{sums_exactly}
 
-pub misfit_unlinked : (t : TopologyValue) (s : ScheduleValue) (h : Hop) → Some h ≡ first_unlinked t s → Some (verdict.NoLink h) ≡ misfit_of t s
-misfit_unlinked t s h found = ap (λ first. misfit_at t s first (first_overfull t s)) found
-
 pub misfit_overfull : (t : TopologyValue) (s : ScheduleValue) (step group count : ℕ) (carrier : GroupValue) → None ≡ first_unlinked t s → Some (step, group) ≡ first_overfull t s → carrier ≡ group_at t group → count ≡ load carrier step s.sends → Some (verdict.Overfull step group count) ≡ misfit_of t s
 misfit_overfull t s step group count carrier none found is loaded =
     ap (λ n. Some (verdict.Overfull step group n)) (loaded ∙ ap (λ g. load g step s.sends) is)
     ∙ (ap (misfit_at t s None) found ∙ ap (λ first. misfit_at t s first (first_overfull t s)) none)
-
-pub misfit_none : (t : TopologyValue) (s : ScheduleValue) → None ≡ first_unlinked t s → None ≡ first_overfull t s → None ≡ misfit_of t s
-misfit_none t s none fitting = ap (misfit_at t s None) fitting ∙ ap (λ first. misfit_at t s first (first_overfull t s)) none
 
 at_misfit : (t : TopologyValue) (s : ScheduleValue) (last : Bags) (h : Option Hop) (turn : Option (ℕ × ℕ)) (clash due : Option (ℕ × ℕ × ℕ)) (v : SumVerdict) → Some v ≡ misfit_at t s h turn → v ≡ sum_judged t s last h turn clash due
 at_misfit t s last (Some h) turn clash due v is = cc
@@ -45,22 +39,13 @@ at_fitting t s last None None clash due none = refl
 pub judged_fitting : (t : TopologyValue) (s : ScheduleValue) (last : Bags) (clash due : Option (ℕ × ℕ × ℕ)) → None ≡ misfit_of t s → sum_judged t s last None None clash due ≡ sum_judged t s last (first_unlinked t s) (first_overfull t s) clash due
 judged_fitting t s last clash due none = at_fitting t s last (first_unlinked t s) (first_overfull t s) clash due none
 
--- ---- where every step adds
-
-adds_only : (start : Bags) (s : ScheduleValue) (adding n : ℕ) → n ≤ adding → joined_after start s adding n ≡ bags_after start s.sends n
-adds_only start s adding zero small = refl
-adds_only start s adding (suc n) small =
-    let before : Bags = joined_after start s adding n in
-    ap (λ b. cond {A = Bags} b (summed_step s.sends before (n + 1)) (copied_step s.sends before (n + 1))) (le-leb (n + 1) adding (omega (arith, small)))
-    ∙ ap (λ bags. summed_step s.sends bags (n + 1)) (adds_only start s adding n (omega (arith, small)))
-
--- where all fits, the counts are judged
+-- where all fits and every step adds, the counts are judged
 pub verdict_counts : (t : TopologyValue) (demand : PlacementValue) (s : ScheduleValue) (adding : ℕ) (v : SumVerdict) → length s.rounds ≤ adding → None ≡ misfit_of t s
     → v ≡ counts_judged (joined_after (contributions t.nodes) s adding (length s.rounds)) (first_uneven (joined_after (contributions t.nodes) s adding (length s.rounds)) t.nodes demand.pairs) → v ≡ sum_verdict_of t demand s
 verdict_counts t demand s adding v all none is =
     let last : Bags = last_bags t s in
     is
-    ∙ (ap (λ bags. counts_judged bags (first_uneven bags t.nodes demand.pairs)) (adds_only (contributions t.nodes) s adding (length s.rounds) all)
+    ∙ (ap (λ bags. counts_judged bags (first_uneven bags t.nodes demand.pairs)) (adding_throughout (contributions t.nodes) s adding (length s.rounds) all)
     ∙ judged_fitting t s last None (first_uneven last t.nodes demand.pairs) none)
 
 -- the verdict, and what it says

@@ -12,8 +12,7 @@ use Rattle.schedule.specs.Inverse.{inverse_of}
 use Rattle.inversion.specs.Reductions.{HeldBySome}
 use Rattle.schedule.specs.Rows.{everywhere}
 use Rattle.inversion.proofs.Delivering.{solvable_back}
-use Rattle.schedule.proofs.First.{among_each}
-use Rattle.inversion.proofs.Firsts.{each_passes}
+use Rattle.schedule.proofs.First.{among_each, each_passes}
 use Rattle.schedule.proofs.Inverted.{inverse_sums}
 use Rattle.schedule.proofs.Inverting.{inverse_in_range, valid_inverse}
 use Rattle.schedule.proofs.Ordered.{among_from_any}

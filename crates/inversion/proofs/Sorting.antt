@@ -18,6 +18,7 @@ use Rattle.schedule.proofs.First.{Among-from_Contains, Contains-from_Among, InOr
 use Rattle.schedule.proofs.HopOrder.{Apart, among_in_order, ascending_apart, before_all, in_order_among, neither_before}
 use Rattle.schedule.proofs.Inverting.{apart_inverses, one_order, valid_inverse}
 use Rattle.schedule.proofs.Verdicts.{sends_one_way}
+use Rattle.schedule.proofs.Turning.{and_turned}
 use Rattle.inversion.specs.Order.{hop_cmp}
 
 -- ---- the comparison tells the order
@@ -82,12 +83,6 @@ comes_is_order = record {
 abbrev tie : Hop → Hop → Bool
 tie a b = not (hop_before a b) && not (hop_before b a)
 
-and_flips : (a b : Bool) → (a && b) ≡ (b && a)
-and_flips true true = refl
-and_flips true false = refl
-and_flips false true = refl
-and_flips false false = refl
-
 never_tie : (a b : Hop) → (a ≢ b) → tie a b ≡ false
 never_tie a b apart =
     ⊎_elim
@@ -114,7 +109,7 @@ sorted_ascends xs ys apart moved sorted i j d before within =
     let a : Hop = get_or ys i d in
     let b : Hop = get_or ys j d in
     let later : comes b a ≡ false = sorted_far comes comes_is_order ys sorted i j d (omega (arith, before)) within in
-    let other : tie a b ≡ false = apart_from_distinct tie ys i j d (IsDistinct-IsPermutation tie (λ x y. and_flips (not (hop_before x y)) (not (hop_before y x))) xs ys moved (distinct xs apart)) before within in
+    let other : tie a b ≡ false = apart_from_distinct tie ys i j d (IsDistinct-IsPermutation tie (λ x y. and_turned (not (hop_before x y)) (not (hop_before y x))) xs ys moved (distinct xs apart)) before within in
     before_or_tie a b (sym (comes_is b a) ∙ later) other
 
 -- ---- the sends of the inverse

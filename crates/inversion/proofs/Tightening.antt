@@ -1,18 +1,19 @@
 -- A schedule without its wasted sends holds the same after each step, and wastes none.
-use Rattle.std.proofs.Common.{◌≡◌, ℕ, zero, suc, ◌+◌, ◌-◌, ◌<◌, Bool, true, false, ◌&&◌, ◌||◌, eqb, length, refl, sym, ap, ◌∙◌, subst, arith}
+use Rattle.std.proofs.Common.{◌≡◌, ℕ, zero, suc, ◌+◌, ◌-◌, ◌<◌, Bool, true, false, ◌&&◌, ◌||◌, eqb, refl, sym, ap, ◌∙◌, subst, arith}
 use Rattle.std.specs.Prelude.{filter, not}
 use Rattle.std.specs.List.{AllByRecursion, list_any}
-use Rattle.std.proofs.lemmas.Bool.{and_parts, and_from, eqb-true, eq-eqb}
-use Rattle.std.proofs.lemmas.List.Elements.{recursion_from_All}
+use Rattle.std.proofs.lemmas.Bool.{and_parts, and_from, eqb-true, eq-eqb, not-true}
 use Rattle.schedule.specs.declared.hop.Hop.{Hop}
-use Rattle.schedule.specs.Sends.{ScheduleValue, IsSchedule, IsInRange, IsStep}
+use Rattle.schedule.specs.Sends.{ScheduleValue, IsSchedule, IsInRange}
 use Rattle.schedule.specs.Placed.{PlacementValue, holds, same_pair}
 use Rattle.schedule.specs.Running.{after, brings, step_of}
 use Rattle.inversion.specs.Reductions.{is_useful, tightened}
-use Rattle.schedule.proofs.First.{Among, among_each, each_among, each_filter}
-use Rattle.inversion.proofs.Firsts.{among_kept, any_found, each_first, each_passes, first_among, first_of, target}
+use Rattle.schedule.proofs.First.{Among, among_each, each_among, each_filter, any_found, any_among, among_kept, each_passes}
+use Rattle.inversion.proofs.Firsts.{each_first, first_among, first_of}
 use Rattle.schedule.proofs.Placing.{pair_is, pair_itself, placed-alike}
-use Rattle.inversion.proofs.Reaching.{any_among, below_of, send_brings, still_held}
+use Rattle.schedule.proofs.Wasting.{to_pair}
+use Rattle.schedule.proofs.Inverting.{step_is}
+use Rattle.inversion.proofs.Reaching.{below_of, send_brings, still_held}
 
 -- what is held stays held to any later step
 pub held_until : (pre : PlacementValue) (s : ScheduleValue) (k n j : ℕ) (pair : ℕ × ℕ) → k + j ≡ n → pair.0 < pre.chunks → pair.1 < pre.nodes → holds (after pre s k) pair ≡ true → holds (after pre s n) pair ≡ true
@@ -23,10 +24,6 @@ pub true_not_false : (b : Bool) → b ≡ true → b ≡ false → ⊥
 true_not_false true is is_not = cc
 true_not_false false is is_not = cc
 
-not_true : (b : Bool) → not b ≡ true → b ≡ false
-not_true true is = cc
-not_true false is = refl
-
 -- what a useful send says
 pub record IsUsefulSend (pre : PlacementValue) (s : ScheduleValue) (h : Hop) : Type 0 where
   pub sender : holds (after pre s (h.step - 1)) (h.chunk, h.from) ≡ true
@@ -35,13 +32,10 @@ pub record IsUsefulSend (pre : PlacementValue) (s : ScheduleValue) (h : Hop) : T
 pub useful_is : (pre : PlacementValue) (s : ScheduleValue) (h : Hop) → is_useful pre s h ≡ true → IsUsefulSend pre s h
 useful_is pre s h is =
     let parts = and_parts (holds (after pre s (h.step - 1)) (h.chunk, h.from)) (not (holds (after pre s (h.step - 1)) (h.chunk, h.to))) is in
-    record { sender = parts.0; receiver = not_true _ parts.1 }
-
-step_is : (s : ScheduleValue) (h : Hop) → IsSchedule s → Among h s.sends → IsStep (length s.rounds) h.step
-step_is s h valid among = among_each (λ h. IsStep (length s.rounds) h.step) h s.sends (recursion_from_All (λ h. IsStep (length s.rounds) h.step) s.sends valid.steps) among
+    record { sender = parts.0; receiver = not-true _ parts.1 }
 
 -- of two useful sends that bring the same, none is earlier
-never_earlier : (pre : PlacementValue) (s : ScheduleValue) (a b : Hop) → IsSchedule s → IsInRange pre.chunks pre.nodes s → Among a s.sends → IsUsefulSend pre s a → IsUsefulSend pre s b → target a ≡ target b → a.step < b.step → ⊥
+never_earlier : (pre : PlacementValue) (s : ScheduleValue) (a b : Hop) → IsSchedule s → IsInRange pre.chunks pre.nodes s → Among a s.sends → IsUsefulSend pre s a → IsUsefulSend pre s b → to_pair a ≡ to_pair b → a.step < b.step → ⊥
 never_earlier pre s a b valid in_range among first second same less =
     let below = below_of pre.chunks pre.nodes s a in_range among in
     let from : 0 < a.step = (step_is s a valid among).from in
@@ -75,7 +69,7 @@ kept_brings pre s n pair valid in_range lacked some =
     let ends = and_parts (same_pair (h.chunk, h.to) pair) (holds (after pre s n) (h.chunk, h.from)) parts.1 in
     let now : h.step ≡ n + 1 = eqb-true h.step (n + 1) parts.0 in
     let before : n ≡ h.step - 1 = omega (arith, now) in
-    let aim : target h ≡ pair = pair_is (h.chunk, h.to) pair ends.0 in
+    let aim : to_pair h ≡ pair = pair_is (h.chunk, h.to) pair ends.0 in
     let lacked_here : holds (after pre s n) (h.chunk, h.to) ≡ false = ap (holds (after pre s n)) aim ∙ lacked in
     let sender : holds (after pre s (h.step - 1)) (h.chunk, h.from) ≡ true = subst (λ m. holds (after pre s m) (h.chunk, h.from) ≡ true) before ends.1 in
     let receiver : holds (after pre s (h.step - 1)) (h.chunk, h.to) ≡ false = subst (λ m. holds (after pre s m) (h.chunk, h.to) ≡ false) before lacked_here in

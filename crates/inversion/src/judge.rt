@@ -7,16 +7,16 @@ ghost use Rattle.schedule.specs.Summing.{Sums};
 ghost use Rattle.schedule.specs.JoinedRuns.{joined_after};
 ghost use Rattle.inversion.specs.Judging.{counts_judged, first_uneven, misfit_of, sum_verdict_of};
 
-use crate::bag_table::BagTable;
+use crate::counting::counts_verdict;
 use crate::verdict::SumVerdict;
+use bag_runs::{Store, last_store};
 use schedule::{
     OutOfMemory, Placement, Schedule, Topology, first_overfull, first_unlinked, load_of,
 };
 use std::alloc::Global;
 
 /// Whether the schedule adds up what each node contributes, exactly once, at each pair of the demand within the bandwidth,
-/// and if not, what fails first: the links of the sends, the bandwidth of the groups, or a count. The only error is want of
-/// memory.
+/// and if not, what fails first: the links of the sends, the bandwidth of the groups, or a count. The only error is `OutOfMemory`.
 pub fn sums(
     alloc: Global,
     topology: &Topology,
@@ -51,7 +51,7 @@ pub fn first_misfit(topology: &Topology, schedule: &Schedule) -> Option<SumVerdi
 }
 
 /// Whether each pair of the demand, of so many chunks, ends with one contribution of each node, and if not, the first count
-/// that is another. The steps up to `adding` add, and the later ones copy. The only error is want of memory.
+/// that is another. The steps up to `adding` add, and the later ones copy. The only error is `OutOfMemory`.
 pub fn judge_counts(
     alloc: Global,
     topology: &Topology,
@@ -66,13 +66,7 @@ pub fn judge_counts(
     ensures { let last = joined_after (contributions topology.now.nodes) schedule.now adding (length schedule.now.rounds) in
         IfOk result (λ v. v ≡ counts_judged last (first_uneven last topology.now.nodes demand.now.pairs)) }
 {
-    let last = BagTable::after_run(alloc, chunks, topology.nodes(), schedule, adding)?;
-    let Some((chunk, node, of)) = last.first_uneven(demand) else {
-        return Ok(SumVerdict::Sums);
-    };
-    if last.count(chunk, node, of) == 0 {
-        Ok(SumVerdict::Missing { chunk, node, of })
-    } else {
-        Ok(SumVerdict::Twice { chunk, node, of })
-    }
+    let start = Store::of_contributions(alloc, chunks, topology.nodes())?;
+    let last = last_store(start, schedule, adding)?;
+    Ok(counts_verdict(&last, demand))
 }

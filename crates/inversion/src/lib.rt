@@ -1,9 +1,8 @@
 //! Schedules that add up: the inverses of those that copy, and the verdict on one.
 #![tactic(auto)]
 
-mod bag_table;
+mod counting;
 pub mod frontier_laws;
-mod held_bag;
 mod invert;
 mod judge;
 pub mod laws;

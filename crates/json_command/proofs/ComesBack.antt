@@ -18,8 +18,8 @@ use Rattle.json_values.specs.Json.{printed}
 use Rattle.json_values.specs.TopologyJson.{topology_json}
 use Rattle.json_values.specs.Answer.{topology_of_json}
 use Rattle.json_values.proofs.Built.{topology_back, topology_flat}
-use Rattle.json_exchange.specs.Answer.{report_of_json}
-use Rattle.json_exchange.specs.ReportJson.{report_json}
+use Rattle.json_rules.specs.Answer.{report_of_json}
+use Rattle.json_rules.specs.ReportJson.{report_json}
 use Rattle.json_exchange.proofs.Built.{report_back, report_flat}
 use Rattle.command_words.specs.declared.command.Command.{Command}
 use Rattle.command_words.specs.declared.command.Command.TheVariants as command
@@ -94,7 +94,7 @@ behind_length true bytes asked task e = by_length (nat_lt limit (length bytes)) 
     by_length true refused = absurd cc
     by_length false passed = passed
 
-short_whole : (reads : Bool) (bytes : List ℕ) → length bytes ≤ limit → whole_text reads bytes ≡ Ok tt
+pub short_whole : (reads : Bool) (bytes : List ℕ) → length bytes ≤ limit → whole_text reads bytes ≡ Ok tt
 short_whole true bytes short = let test : nat_lt limit (length bytes) ≡ false = le-ltb limit (length bytes) short in rw test refl
 short_whole false bytes short = refl
 

@@ -17,8 +17,8 @@ use Rattle.json_values.specs.declared.fault.JsonCode.TheVariants as json
 use Rattle.json_values.specs.Answer.{code_number as json_number, topology_of_json}
 use Rattle.json_values.specs.Json.{printed}
 use Rattle.json_values.specs.TopologyJson.{topology_json}
-use Rattle.json_exchange.specs.Answer.{report_of_json}
-use Rattle.json_exchange.specs.ReportJson.{report_json}
+use Rattle.json_rules.specs.Answer.{report_of_json}
+use Rattle.json_rules.specs.ReportJson.{report_json}
 use Rattle.command_words.specs.declared.command.JsonWhat.TheVariants as what
 use Rattle.command_words.specs.declared.command.PointWord.{PointWord}
 use Rattle.command_words.specs.declared.fault.WordCode.TheVariants.{UnknownPoint}
@@ -34,7 +34,7 @@ use Rattle.run_rules.proofs.Answered.{refused_answers, written_as}
 abbrev pub SaysAt : Status → ℕ → ℕ → Answer → Type 0
 SaysAt status code place a = Says status (refusal_line (refused_at status code place)) a.status a.text.items
 
--- a refusal that is not for want of memory
+-- a refusal that is not for out of memory
 pub refused_unless : {A E C : Type 0} (due : Result Task Refusal) (read : Result A (C × ℕ)) (memory code : C) (place : ℕ) (after : Result A (C × ℕ) → Result Task Refusal) (status : Status) (number : C → ℕ) (result : Result Answer E)
     → due ≡ after read → after (Err (code, place)) ≡ Err (refused_at status (number code) place)
     → ((code ≡ memory) × (place ≡ 0)) ⊎ (read ≡ Err (code, place)) → IfOk result (λ _. code ≢ memory) → IfOk result (SaysAt status (number code) place)

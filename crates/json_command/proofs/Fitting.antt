@@ -1,9 +1,8 @@
 -- Values whose numbers are whole and below 2^64, whose texts are UTF-8 and whose keys ascend: what is printed of them is read back.
 use Rattle.std.proofs.Common.{◌≡◌, ℕ, suc, ◌^◌, ◌<◌, ◌≤◌, max, Bool, true, false, List, [], ◌∷◌, ◌++◌, map, Option, Some, option_map, option_and_then, decimal, refl, sym, ap, ap₂, ◌∙◌, append-nil, lt-ltb, arith}
-use Rattle.std.specs.Prelude.{IsUtf8, ⊤, All}
+use Rattle.std.specs.Prelude.{IsUtf8, ⊤}
 use Rattle.std.proofs.lemmas.Str.{IsUtf8-append, IsUtf8-from_ascii}
 use Rattle.std.proofs.lemmas.Fmt.{IsAscii-decimal}
-use Rattle.std.proofs.lemmas.List.Elements.{All-head, All-tail}
 use Rattle.json.specs.Json as json
 use Rattle.json.specs.Lex.{tokens}
 use Rattle.json.specs.Print.{quoted}
@@ -168,10 +167,6 @@ read_again d h shallow =
     ap whole (ap (json.value max_depth) (tokens_same d h ∙ sym (append-nil ts)) ∙ value-json_tokens (outline d) max_depth [] (omega (arith, outline_depth d))) ∙ of_outline d h
 
 -- ---- lists of values
-
-pub each_fits : {X : Type 0} (make : X → Data) (xs : List X) → All (λ x. Fits (make x)) xs → ItemsFit (items_of (map make xs))
-each_fits make [] h = tt
-each_fits make (x ∷ xs) h = (All-head (λ y. Fits (make y)) x xs h, each_fits make xs (All-tail (λ y. Fits (make y)) x xs h))
 
 pub all_fit : {X : Type 0} (make : X → Data) (xs : List X) → ((x : X) → Fits (make x)) → ItemsFit (items_of (map make xs))
 all_fit make [] h = tt

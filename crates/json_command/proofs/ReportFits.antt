@@ -24,7 +24,7 @@ use Rattle.report_laws.proofs.PointsAgain.{FewBase, base_of, chunks_few}
 use Rattle.serde_json.specs.Data.{string}
 use Rattle.serde_json.specs.View.{items_of}
 use Rattle.json_values.specs.Json.{count_of, object_of}
-use Rattle.json_exchange.specs.ReportJson.{adding_members, candidate_json, frontier_json, part_word, point_json, point_members, report_json, send_json, unknown_json, words_json}
+use Rattle.json_rules.specs.ReportJson.{adding_members, candidate_json, frontier_json, part_word, point_json, point_members, report_json, send_json, unknown_json, words_json}
 use Rattle.json_command.proofs.Fitting.{Fits, ItemsFit}
 use Rattle.json_command.proofs.TopologyFits.{name_fits, small, topology_fits}
 

@@ -81,7 +81,7 @@ fn programs_written(alloc: Global, asked: PointWord, bytes: &[u8]) -> Result<Ans
 
 /// The answer to a text that came whole: what is asked for of it, as JSON without spaces, the keys of each object ascending,
 /// in a line; or the refusal of the text or of the point. A point is asked for with programs, and only with them. The only
-/// error is want of memory.
+/// error is `OutOfMemory`.
 pub fn json_answer(
     alloc: Global,
     what: JsonWhat,

@@ -20,8 +20,8 @@ use Rattle.serde_json.specs.Written.{has_float, members_have_float}
 use Rattle.json_values.specs.Json.{array_of, object_of, members_of, count_of}
 use Rattle.json_values.specs.Answer.{of_json, of_text}
 use Rattle.json_values.proofs.Built.{whole_items, flat_items, topology_whole, topology_flat, text_back}
-use Rattle.json_exchange.specs.ReportJson.{send_json, adding_members, point_members, point_json, points_json, candidate_json, unknown_json, frontier_json, words_json, report_json, report_text_in}
-use Rattle.json_exchange.specs.Answer.{report_of_json}
+use Rattle.json_rules.specs.ReportJson.{send_json, adding_members, point_members, point_json, points_json, candidate_json, unknown_json, frontier_json, words_json, report_json, report_text_in}
+use Rattle.json_rules.specs.Answer.{report_of_json}
 use Rattle.json_exchange.proofs.ReportForm.{report_form}
 
 module _ (names : List (List ℕ)) where

@@ -5,7 +5,7 @@ use Rattle.std.specs.List.{range_with_len}
 use Rattle.node_programs.specs.declared.op.Op.{Op}
 use Rattle.node_programs.specs.declared.op.Op.TheVariants.{Send, Take}
 use Rattle.serde_json.specs.Written.{has_float}
-use Rattle.json_exchange.specs.ProgramsJson.{op_json, node_json, programs_json}
+use Rattle.json_rules.specs.ProgramsJson.{op_json, node_json, programs_json}
 use Rattle.json_values.proofs.Built.{whole_items}
 
 module _ (names : List (List ℕ)) where

@@ -12,7 +12,7 @@ use Rattle.serde_json.specs.Events.{items_len}
 use Rattle.serde_json.specs.Find.{as_array, get}
 use Rattle.json_values.specs.Shape.{◌>>=◌, ◌⊕◌, one, each_in, list_in}
 use Rattle.json_values.specs.TopologyJson.{field}
-use Rattle.json_exchange.specs.ReportJson.{number_in, counts_in, kind_in, keyed_in, root_in, keyed_words_in, none_in}
+use Rattle.json_rules.specs.ReportJson.{number_in, counts_in, kind_in, keyed_in, root_in, keyed_words_in, none_in}
 use Rattle.serde_json.specs.View.{items_view}
 use Rattle.serde_json.specs.declared.value.Value.{Value}
 use Rattle.json_values.specs.Appends.{Appends, fields}
@@ -41,21 +41,11 @@ in_turn r old mid new (Some ls) y a h =
 pub line_in_turn : (r : Result (Unit {0}) (Stop (Unit {0}))) (old mid new : List ℕ) (x : Option (List (List ℕ))) (y : Option (List (List (List ℕ)))) → option_map (λ t. old ++ t) (option_map line x) ≡ Some mid → Appends r mid new (option_map text_of y) → Appends r old new (option_map text_of (one x ⊕ y))
 line_in_turn r old mid new x y a h = in_turn r old mid new (one x) y (ap (option_map (λ t. old ++ t)) (one_line x) ∙ a) h
 
-pub no_first : (x y : Option (List (List (List ℕ)))) → option_map text_of x ≡ None → (x ⊕ y) ≡ None
-no_first x y h = ap (λ o. o ⊕ y) (not_mapped text_of x h)
-
 pub no_line : (x : Option (List (List ℕ))) (y : Option (List (List (List ℕ)))) → option_map line x ≡ None → (one x ⊕ y) ≡ None
 no_line x y h = ap (λ o. one o ⊕ y) (not_mapped line x h)
 
-pub no_second : (x y : Option (List (List (List ℕ)))) → y ≡ None → (x ⊕ y) ≡ None
-no_second None y h = refl
-no_second (Some ls) y h = ap (λ o. Some ls ⊕ o) h
-
 pub field_is : {A : Type 0} (key : List ℕ) (shape : Data → Option A) (d value : Data) → Some value ≡ get key d → field key shape d ≡ shape value
 field_is key shape d value h = ap (λ o. o >>= shape) (sym h)
-
-pub no_field : {A : Type 0} (key : List ℕ) (shape : Data → Option A) (d : Data) → None ≡ get key d → field key shape d ≡ None
-no_field key shape d h = ap (λ o. o >>= shape) (sym h)
 
 -- ---- a word and so many numbers
 

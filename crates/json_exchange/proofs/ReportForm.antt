@@ -21,14 +21,15 @@ use Rattle.topology_text.specs.Spelling.{name_at, version_word}
 use Rattle.report_form.specs.Reports.{WordsValue, ReportValue, IsReport, IsFrontier, IsPoint, IsJoinedPoint, HasSchedule, parts_of, question_of}
 use Rattle.collective_spec.specs.Collectives.{chunks_in}
 use Rattle.schedule.specs.Sends.{is_hop_below}
+use Rattle.schedule.proofs.First.{each_weaker}
 use Rattle.std.proofs.lemmas.Bool.{and_parts, ltb-true}
 use Rattle.report_form.specs.Spelling.{synth_words, point_lines, rounds_words, send_words, refuted_words, unknown_words, frontier_lines, joined_lines, report_lines}
 use Rattle.serde_json.specs.Data.{Data, string}
 use Rattle.json_values.specs.Json.{array_of, count_of}
 use Rattle.json_values.specs.Shape.{◌>>=◌, ◌⊕◌, one, list_in, lines_in, name_in}
 use Rattle.json_values.specs.TopologyJson.{topology_json}
-use Rattle.json_exchange.specs.ReportJson.{send_json, point_json, points_json, candidate_json, unknown_json, frontier_json, words_json, report_json, word_in, number_in, rounds_in, send_in, refuted_in, unknown_in, point_in, frontier_in, words_in, joins_in, joined_in, title_in, report_in}
-use Rattle.json_values.proofs.TopologyForm.{each_made, of_each, of_all, name_there, topology_form}
+use Rattle.json_rules.specs.ReportJson.{send_json, point_json, points_json, candidate_json, unknown_json, frontier_json, words_json, report_json, word_in, number_in, rounds_in, send_in, refuted_in, unknown_in, point_in, frontier_in, words_in, joins_in, joined_in, title_in, report_in}
+use Rattle.json_values.proofs.TopologyForm.{each_made, of_all, name_there, topology_form}
 
 -- what holds of each is what the list has
 list_made : {X A : Type 0} (shape : Data → Option A) (make : X → Data) (shown : X → A) (xs : List X) → AllByRecursion (λ x. shape (make x) ≡ Some (shown x)) xs → list_in shape (array_of (map make xs)) ≡ Some (map shown xs)
@@ -55,7 +56,7 @@ module _ (names : List (List ℕ)) (named : AreNames names) where
       ∙ ap (λ o. o >>= λ to. Some (codes "send" ∷ decimal h.chunk ∷ name_at names h.from ∷ to ∷ decimal h.step ∷ [])) (name_there names named h.to below.1)
 
   sends_found : (sends : List Hop) → AllByRecursion (λ h. (h.from < length names) × (h.to < length names)) sends → list_in send_in (array_of (map (send_json names) sends)) ≡ Some (map (send_words names) sends)
-  sends_found sends below = list_made send_in (send_json names) (send_words names) sends (of_each _ _ send_found sends below)
+  sends_found sends below = list_made send_in (send_json names) (send_words names) sends (each_weaker _ _ send_found sends below)
 
   point_rest : (head : List (List ℕ)) (rounds : List ℕ) (sends : List Hop) → AllByRecursion (λ h. (h.from < length names) × (h.to < length names)) sends
       → (Some (head ∷ []) ⊕ one (rounds_in (array_of (map count_of rounds))) ⊕ list_in send_in (array_of (map (send_json names) sends))) ≡ Some (head ∷ rounds_words rounds ∷ map (send_words names) sends)
@@ -71,7 +72,7 @@ module _ (names : List (List ℕ)) (named : AreNames names) where
   point_found p below = point_of p.candidate.s p.candidate.r p.candidate.c p.schedule.rounds p.schedule.sends p.mark below
 
   points_found : (points : List PointValue) → AllByRecursion (SendsBelow names) points → lines_in point_in (points_json names points) ≡ Some (flat_map (point_lines names) points)
-  points_found points below = lines_made point_in (point_json names) (point_lines names) points (of_each _ _ point_found points below)
+  points_found points below = lines_made point_in (point_json names) (point_lines names) points (each_weaker _ _ point_found points below)
 
   refuted_found : (list : List Candidate) → list_in refuted_in (array_of (map candidate_json list)) ≡ Some (map refuted_words list)
   refuted_found list = list_made refuted_in candidate_json refuted_words list (of_all _ (λ x. refl) list)
@@ -180,7 +181,7 @@ hop_within size chunks nodes many h is =
     (omega (arith, ltb-true h.from nodes ends.0), omega (arith, ltb-true h.to nodes ends.1))
 
 sends_within : (names : List (List ℕ)) (chunks nodes : ℕ) (sends : List Hop) → length names ≡ nodes → All (λ h. is_hop_below chunks nodes h ≡ true) sends → AllByRecursion (λ h. (h.from < length names) × (h.to < length names)) sends
-sends_within names chunks nodes sends many each = of_each _ _ (hop_within (length names) chunks nodes many) sends (recursion_from_All _ sends each)
+sends_within names chunks nodes sends many each = each_weaker _ _ (hop_within (length names) chunks nodes many) sends (recursion_from_All _ sends each)
 
 frontier_each : (names : List (List ℕ)) → AreNames names → (xs : List (Part × FrontierValue)) → AllByRecursion (λ x. x.0 ≢ part.Joined) xs → AllByRecursion (λ x. AllByRecursion (SendsBelow names) x.1.points) xs
     → AllByRecursion (λ x. frontier_in (frontier_json names x) ≡ Some (frontier_lines names x)) xs
@@ -195,8 +196,8 @@ report_form r valid =
     let k = w.collective.kind in
     let below = λ (q : QuestionValue) (same : length names ≡ q.topology.nodes) (p : PointValue) (has : HasSchedule q p). sends_within names (chunks_in q.spec q.topology.nodes p.candidate.c) q.topology.nodes p.schedule.sends same has.in_range in
     let parts = mapped (λ p. p ≢ part.Joined) (λ x. x.0) r.frontiers (subst (AllByRecursion (λ p. p ≢ part.Joined)) (sym valid.parts) (parts_have k)) in
-    let points = of_each _ _ (λ (x : Part × FrontierValue) (ok : IsFrontier (question_of w r.topology x.0) x.1). of_each _ _ (λ (p : PointValue) (h : IsPoint (question_of w r.topology x.0) p). below (question_of w r.topology x.0) valid.topology.as_many p h.has) x.1.points (recursion_from_All _ x.1.points ok.points)) r.frontiers (recursion_from_All _ r.frontiers valid.frontiers) in
-    let joined = of_each _ _ (λ (p : PointValue) (h : IsJoinedPoint (question_of w r.topology part.Joined) p). below (question_of w r.topology part.Joined) valid.topology.as_many p h.has) r.joined (recursion_from_All _ r.joined valid.joined) in
+    let points = each_weaker _ _ (λ (x : Part × FrontierValue) (ok : IsFrontier (question_of w r.topology x.0) x.1). each_weaker _ _ (λ (p : PointValue) (h : IsPoint (question_of w r.topology x.0) p). below (question_of w r.topology x.0) valid.topology.as_many p h.has) x.1.points (recursion_from_All _ x.1.points ok.points)) r.frontiers (recursion_from_All _ r.frontiers valid.frontiers) in
+    let joined = each_weaker _ _ (λ (p : PointValue) (h : IsJoinedPoint (question_of w r.topology part.Joined) p). below (question_of w r.topology part.Joined) valid.topology.as_many p h.has) r.joined (recursion_from_All _ r.joined valid.joined) in
     in_parts _ (bytes_eq (word_of k) (codes "allreduce")) _ _ _ _ _ _ (λ j. joined_in j (points_json names r.joined)) _ _ _ (joins_found names w k refl) (title_of names r.topology.topology.nodes r.topology.topology.groups r.topology.custom)
     (words_found names named k w.collective.root w.limits valid.words.root) (topology_form r.topology valid.topology)
     (lines_made frontier_in (frontier_json names) (frontier_lines names) r.frontiers (frontier_each names named r.frontiers parts points)) (joined_found names named k r.joined joined valid.only_allreduce)

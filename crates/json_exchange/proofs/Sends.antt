@@ -4,7 +4,7 @@ use Rattle.std.specs.Prelude.{codes, decimal}
 use Rattle.serde_json.specs.View.{view, items_view}
 use Rattle.serde_json.specs.declared.value.Value.{Value}
 use Rattle.json_values.specs.Shape.{◌>>=◌, count_in, name_in}
-use Rattle.json_exchange.specs.ReportJson.{four_in}
+use Rattle.json_rules.specs.ReportJson.{four_in}
 
 pub no_four : (vs : List Value) → length vs ≢ 4 → four_in (items_view vs) ≡ None
 no_four [] h = refl

@@ -17,7 +17,7 @@ use Rattle.json_values.specs.Answer.{text_of_json}
 use Rattle.json_values.proofs.Lines.{parts_listed}
 use Rattle.json_values.proofs.Short.{AtMost, Short, some_size, at_least, decimal_short, name_short, list_short, whole_list, within, field_short, line_length, after_both, one_short, if_short, text_short}
 use Rattle.json_values.proofs.TopologyShort.{token_of, tokens_short, lines_short, topology_short}
-use Rattle.json_exchange.specs.ReportJson.{word_in, number_in, counts_in, refuted_in, unknown_in, four_in, send_in, marks, point_keys, adding_in, is_joined, head_in, rounds_in, schedule_in, marked_in, point_in, part_in, lists_in, frontier_body_in, frontier_in, words_keys, kind_in, keyed_in, root_in, keyed_words_in, words_in, none_in, joined_in, title_in, joins_in, end_in, results_in, body_in, rest_of, rest_in, report_text_in}
+use Rattle.json_rules.specs.ReportJson.{word_in, number_in, counts_in, refuted_in, unknown_in, four_in, send_in, marks, point_keys, adding_in, is_joined, head_in, rounds_in, schedule_in, marked_in, point_in, part_in, lists_in, frontier_body_in, frontier_in, words_keys, kind_in, keyed_in, root_in, keyed_words_in, words_in, none_in, joined_in, title_in, joins_in, end_in, results_in, body_in, rest_of, rest_in, report_text_in}
 
 abbrev Lines : Type 0
 Lines = Option (List (List (List ℕ)))

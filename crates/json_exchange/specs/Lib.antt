@@ -1,5 +1,2 @@
-pub mod ReportJson
-pub mod ProgramsJson
-pub mod Answer
 pub mod Tokens
 pub mod Rows

@@ -4,7 +4,7 @@ ghost use Rattle.std.specs.Prelude.{◌≡◌, [], ◌∷◌, codes, option_map}
 ghost use Rattle.text_lines.specs.Text.{text_of, line};
 ghost use Rattle.serde_json.specs.View.{view};
 ghost use Rattle.json_values.specs.Appends.{Appends};
-ghost use Rattle.json_exchange.specs.ReportJson.{part_in, lists_in, frontier_body_in, frontier_in};
+ghost use Rattle.json_rules.specs.ReportJson.{part_in, lists_in, frontier_body_in, frontier_in};
 
 use crate::number_lines::{RefutedLine, UnknownLine};
 use crate::point_lines::PointLines;

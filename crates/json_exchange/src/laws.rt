@@ -4,7 +4,7 @@ ghost use Rattle.std.specs.Prelude.{◌≡◌, ◌*◌, ◌≤◌, ℕ, List, le
 ghost use Rattle.report_form.specs.Reports.{ReportValue, IsReport};
 ghost use Rattle.report_form.specs.Spelling.{report_lines};
 ghost use Rattle.json_values.specs.Answer.{text_of_json};
-ghost use Rattle.json_exchange.specs.ReportJson.{report_json, report_in, report_text_in};
+ghost use Rattle.json_rules.specs.ReportJson.{report_json, report_in, report_text_in};
 
 /// The JSON of a report stands for the report's text.
 pub fn report_json_stands_for_its_text()

@@ -5,7 +5,7 @@ ghost use Rattle.std.specs.List.{range_with_len};
 ghost use Rattle.node_programs.specs.Printing.{mode_word};
 ghost use Rattle.serde_json.specs.View.{view};
 ghost use Rattle.json_values.specs.Json.{printed, array_of};
-ghost use Rattle.json_exchange.specs.ProgramsJson.{op_json, node_json, programs_json};
+ghost use Rattle.json_rules.specs.ProgramsJson.{op_json, node_json, programs_json};
 
 use json_values::node_text;
 use node_programs::{Mode, Op, Programs};

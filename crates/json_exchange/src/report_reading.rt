@@ -9,8 +9,8 @@ ghost use Rattle.report_form.specs.Spelling.{report_text};
 ghost use Rattle.json_values.specs.Json.{value_of};
 ghost use Rattle.json_values.specs.Appends.{Appends};
 ghost use Rattle.json_values.specs.Answer.{Answers};
-ghost use Rattle.json_exchange.specs.ReportJson.{title_in, joined_in, end_in, results_in, body_in, rest_in, report_text_in};
-ghost use Rattle.json_exchange.specs.Answer.{report_of_json};
+ghost use Rattle.json_rules.specs.ReportJson.{title_in, joined_in, end_in, results_in, body_in, rest_in, report_text_in};
+ghost use Rattle.json_rules.specs.Answer.{report_of_json};
 
 use crate::asked_line::{joins_in, push_words};
 use crate::frontier_lines::FrontierLines;

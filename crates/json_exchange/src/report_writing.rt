@@ -4,8 +4,8 @@ ghost use Rattle.std.specs.Prelude.{◌≡◌, Ok, map, IfOk};
 ghost use Rattle.report_form.specs.Reports.{IsReport};
 ghost use Rattle.serde_json.specs.View.{view, members_view};
 ghost use Rattle.json_values.specs.Json.{printed, array_of, count_of, members_of};
-ghost use Rattle.json_exchange.specs.ReportJson.{candidate_json, unknown_json, send_json, mark_word, point_members, point_json, points_json, part_word, frontier_json, words_json, report_json};
-ghost use Rattle.json_exchange.specs.Answer.{report_of_json};
+ghost use Rattle.json_rules.specs.ReportJson.{candidate_json, unknown_json, send_json, mark_word, point_members, point_json, points_json, part_word, frontier_json, words_json, report_json};
+ghost use Rattle.json_rules.specs.Answer.{report_of_json};
 
 use candidate_order::{Candidate, Frontier, Mark, Point, Unknown};
 use collective_spec::takes_root;

@@ -6,9 +6,9 @@ ghost use Rattle.report_form.specs.Rows.{broadcast_report, allreduce_report};
 ghost use Rattle.node_programs.specs.Programs.{programs_of};
 ghost use Rattle.json_values.specs.declared.fault.JsonCode.{JsonCode};
 ghost use Rattle.json_values.specs.Json.{printed};
-ghost use Rattle.json_exchange.specs.ReportJson.{report_json};
-ghost use Rattle.json_exchange.specs.ProgramsJson.{programs_json};
-ghost use Rattle.json_exchange.specs.Answer.{report_of_json};
+ghost use Rattle.json_rules.specs.ReportJson.{report_json};
+ghost use Rattle.json_rules.specs.ProgramsJson.{programs_json};
+ghost use Rattle.json_rules.specs.Answer.{report_of_json};
 ghost use Rattle.json_exchange.specs.Rows.{broadcast_json, allreduce_json};
 
 /// The JSON of a broadcast and of an allreduce on two nodes.

@@ -1,11 +1,11 @@
 -- The lines of a pattern's chunks, appended one after another.
-use Rattle.std.proofs.Common.{◌≡◌, ◌≢◌, ℕ, suc, ◌+◌, List, [], ◌∷◌, ◌++◌, Bool, true, false, Option, Some, None, option_map, refl, sym, ap, ◌∙◌, append_assoc}
+use Rattle.std.proofs.Common.{◌≡◌, ◌≢◌, ℕ, suc, ◌+◌, List, [], ◌∷◌, ◌++◌, Bool, true, false, Option, Some, None, option_map, refl, sym, ap, ◌∙◌}
 use Rattle.std.specs.Prelude.{codes, decimal, if◌then◌else◌}
-use Rattle.text_lines.specs.Text.{line, text_of}
+use Rattle.text_lines.specs.Text.{text_of}
 use Rattle.serde_json.specs.Data.{Data, Items, no_items, item}
 use Rattle.serde_json.specs.Events.{items_len}
 use Rattle.serde_json.specs.Find.{as_array}
-use Rattle.serde_json.specs.View.{view, items_view}
+use Rattle.serde_json.specs.View.{items_view}
 use Rattle.serde_json.specs.declared.value.Value.{Value}
 use Rattle.json_values.specs.Shape.{◌>>=◌, list_in, name_in, has_keys}
 use Rattle.json_values.specs.TopologyJson.{holder_line, chunk_lines, field, custom_in}
@@ -15,43 +15,8 @@ use Rattle.json_values.specs.Fields.{custom_fields}
 abbrev pub with_chunks : ℕ → List ℕ → List Value → List Value → Option (List ℕ)
 with_chunks g out before after = option_map (λ ls. out ++ text_of ls) (chunk_lines g (items_view before) (items_view after))
 
-abbrev before_text : ℕ → List (List ℕ) → List ℕ
-before_text g names = line (holder_line (codes "before") g names)
-
-abbrev after_text : ℕ → List (List ℕ) → List ℕ
-after_text g names = line (holder_line (codes "after") g names)
-
 abbrev two : ℕ → Option (List (List ℕ)) → Option (List (List ℕ)) → Option (List (List (List ℕ))) → Option (List (List (List ℕ)))
 two g x y rest = x >>= λ b. y >>= λ a. rest >>= λ lines. Some (holder_line (codes "before") g b ∷ holder_line (codes "after") g a ∷ lines)
-
-behind : (g : ℕ) (out first second : List ℕ) (x y : Option (List (List ℕ))) (rest : Option (List (List (List ℕ)))) → option_map (λ t. out ++ t) (option_map (before_text g) x) ≡ Some first → option_map (λ t. first ++ t) (option_map (after_text g) y) ≡ Some second
-    → option_map (λ ls. out ++ text_of ls) (two g x y rest) ≡ option_map (λ ls. second ++ text_of ls) rest
-behind g out first second None y rest a b = absurd cc
-behind g out first second (Some x) None rest a b = absurd cc
-behind g out first second (Some x) (Some y) None a b = refl
-behind g out first second (Some x) (Some y) (Some ls) a b =
-    let begun : out ++ before_text g x ≡ first = cc in
-    let more : first ++ after_text g y ≡ second = cc in
-    ap Some (sym (append_assoc out (before_text g x) (after_text g y ++ text_of ls)) ∙ ap (λ o. o ++ (after_text g y ++ text_of ls)) begun ∙ sym (append_assoc first (after_text g y) (text_of ls)) ∙ ap (λ o. o ++ text_of ls) more)
-
-pub chunk_more : (g : ℕ) (out first second : List ℕ) (b a : Value) (before after : List Value) → option_map (λ t. out ++ t) (option_map (before_text g) (list_in name_in (view b))) ≡ Some first
-    → option_map (λ t. first ++ t) (option_map (after_text g) (list_in name_in (view a))) ≡ Some second → with_chunks g out (b ∷ before) (a ∷ after) ≡ with_chunks (g + 1) second before after
-chunk_more g out first second b a before after h k = behind g out first second (list_in name_in (view b)) (list_in name_in (view a)) (chunk_lines (g + 1) (items_view before) (items_view after)) h k
-
-none_before : (g : ℕ) (x y : Option (List (List ℕ))) (rest : Option (List (List (List ℕ)))) → option_map (before_text g) x ≡ None → two g x y rest ≡ None
-none_before g None y rest h = refl
-none_before g (Some x) y rest h = absurd cc
-
-none_after : (g : ℕ) (x y : Option (List (List ℕ))) (rest : Option (List (List (List ℕ)))) → option_map (after_text g) y ≡ None → two g x y rest ≡ None
-none_after g None y rest h = refl
-none_after g (Some x) None rest h = refl
-none_after g (Some x) (Some y) rest h = absurd cc
-
-pub before_refused : (g : ℕ) (out : List ℕ) (b a : Value) (before after : List Value) → option_map (before_text g) (list_in name_in (view b)) ≡ None → with_chunks g out (b ∷ before) (a ∷ after) ≡ None
-before_refused g out b a before after h = ap (option_map (λ ls. out ++ text_of ls)) (none_before g (list_in name_in (view b)) (list_in name_in (view a)) (chunk_lines (g + 1) (items_view before) (items_view after)) h)
-
-pub after_refused : (g : ℕ) (out : List ℕ) (b a : Value) (before after : List Value) → option_map (after_text g) (list_in name_in (view a)) ≡ None → with_chunks g out (b ∷ before) (a ∷ after) ≡ None
-after_refused g out b a before after h = ap (option_map (λ ls. out ++ text_of ls)) (none_after g (list_in name_in (view b)) (list_in name_in (view a)) (chunk_lines (g + 1) (items_view before) (items_view after)) h)
 
 no_rest : (g : ℕ) (x y : Option (List (List ℕ))) (rest : Option (List (List (List ℕ)))) → rest ≡ None → two g x y rest ≡ None
 no_rest g None y rest h = refl
@@ -81,6 +46,3 @@ custom_is d = split (has_keys (codes "after" ∷ codes "before" ∷ []) d) (fiel
 
 pub custom_with : (d : Data) (before after : Items) → Some (before, after) ≡ custom_fields d → custom_in d ≡ closed (before, after)
 custom_with d before after h = custom_is d ∙ ap (λ o. o >>= closed) (sym h)
-
-pub no_custom : (d : Data) → None ≡ custom_fields d → custom_in d ≡ None
-no_custom d h = custom_is d ∙ ap (λ o. o >>= closed) (sym h)

@@ -21,6 +21,3 @@ group_is d = split (has_keys (codes "links" ∷ codes "width" ∷ []) d) (field 
 
 pub group_with : (d : Data) (width : ℕ) (links : Data) → Some (width, links) ≡ group_fields d → group_in d ≡ closed (width, links)
 group_with d width links h = group_is d ∙ ap (λ o. o >>= closed) (sym h)
-
-pub no_group : (d : Data) → None ≡ group_fields d → group_in d ≡ None
-no_group d h = group_is d ∙ ap (λ o. o >>= closed) (sym h)

@@ -59,9 +59,6 @@ no_fields true p (Some n) None custom h = go (list_in name_in n)
 pub no_topology : (d : Data) (p : Bool) → version_in d ≡ Some p → topology_fields p d ≡ None → topology_in d ≡ None
 no_topology d p v f = ap (λ o. o >>= λ b. parts_in b d) v ∙ no_fields (has_keys (keys_of p) d) p (get (codes "nodes") d) (get (codes "groups") d) (pattern_in p d) f
 
-pub no_version : (d : Data) → version_in d ≡ None → topology_in d ≡ None
-no_version d v = ap (λ o. o >>= λ b. parts_in b d) v
-
 pub no_names : (p : Bool) (names : Option (List (List ℕ))) (groups custom : Option (List (List (List ℕ)))) → names ≡ None → parts p names groups custom ≡ None
 no_names p None groups custom h = refl
 no_names p (Some n) groups custom h = absurd cc

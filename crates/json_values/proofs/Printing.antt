@@ -1,5 +1,5 @@
 -- Values of JSON that are built, and what a name is as a text.
-use Rattle.std.proofs.Common.{◌≡◌, ◌⊎◌, inl, inr, ℕ, zero, suc, ◌+◌, ◌<◌, ◌&&◌, ◌||◌, ◌==◌, Bool, true, cond, List, [], ◌∷◌, ◌++◌, map, Vec, Global, refl, ap, ◌∙◌, arith}
+use Rattle.std.proofs.Common.{◌≡◌, ◌⊎◌, inl, inr, ℕ, zero, suc, ◌+◌, ◌<◌, ◌&&◌, ◌||◌, ◌==◌, Bool, true, cond, List, [], ◌∷◌, ◌++◌, map, refl, ap, ◌∙◌, arith}
 use Rattle.std.specs.Prelude.{IsUtf8, nat_le}
 use Rattle.std.specs.List.{list_all, filter, range_with_len}
 use Rattle.std.specs.Str.{IsAscii}
@@ -11,11 +11,9 @@ use Rattle.std.specs.Prelude.{Result, Ok, Err}
 use Rattle.std.proofs.lemmas.Str.{IsUtf8-from_ascii}
 use Rattle.topology_text.specs.Names.{is_name_byte, is_name}
 use Rattle.topology_text.proofs.Printed.{passing_more}
-use Rattle.serde_json.specs.Data.{Data, array}
-use Rattle.serde_json.specs.View.{view, items_of}
-use Rattle.serde_json.specs.declared.value.Value.{Value, Array}
-use Rattle.serde_json.proofs.Views.{view-Array}
-use Rattle.json_values.specs.Json.{array_of}
+use Rattle.serde_json.specs.Data.{Data}
+use Rattle.serde_json.specs.View.{view}
+use Rattle.serde_json.specs.declared.value.Value.{Value}
 
 -- ---- names
 
@@ -44,10 +42,6 @@ ok_by U P Q (Ok x) m u = refl
 ok_by U P Q (Err e) m u = absurd (m.0 u)
 
 -- ---- lists
-
--- a list of values that stand for these
-pub listed : (v : Vec Value Global) (ds : List Data) → map view v.items ≡ ds → view (Array v) ≡ array_of ds
-listed v ds h = view-Array v ∙ ap (λ l. array (items_of l)) h
 
 -- one more value
 pub pushed : (old new : List Value) (v : Value) (ds : List Data) (d : Data) → new ≡ old ++ v ∷ [] → map view old ≡ ds → view v ≡ d → map view new ≡ ds ++ d ∷ []

@@ -3,8 +3,10 @@ use Rattle.std.proofs.Common.{◌≡◌, ℕ, zero, suc, ◌+◌, ◌<◌, ◌�
 use Rattle.std.specs.Prelude.{codes, decimal, if◌then◌else◌, IfSome}
 use Rattle.std.specs.List.{All, AllByRecursion, filter, flat_map, range_with_len}
 use Rattle.std.proofs.lemmas.List.Elements.{recursion_from_All, All-get_or}
+use Rattle.std.proofs.lemmas.List.{map-id}
 use Rattle.schedule.specs.Links.{GroupValue, IsBelow}
 use Rattle.schedule.specs.Placed.{PlacementValue, holds}
+use Rattle.schedule.proofs.First.{each_weaker}
 use Rattle.collective_spec.specs.Patterns.{PatternValue, IsPattern}
 use Rattle.topology_text.specs.Names.{is_name, AreNames}
 use Rattle.topology_text.specs.Value.{NamedTopologyValue, IsNamed}
@@ -22,10 +24,6 @@ each_made shape make shown [] h = refl
 each_made shape make shown (x ∷ xs) h =
     ap (λ o. o >>= λ y. each_in shape (items_of (map make xs)) >>= λ ys. Some (y ∷ ys)) h.0
     ∙ ap (λ o. o >>= λ ys. Some (shown x ∷ ys)) (each_made shape make shown xs h.1)
-
-pub of_each : {X : Type 0} (P Q : X → Type 0) → ((x : X) → P x → Q x) → (xs : List X) → AllByRecursion P xs → AllByRecursion Q xs
-of_each P Q f [] h = tt
-of_each P Q f (x ∷ xs) h = (f x h.0, of_each P Q f xs h.1)
 
 pub of_all : {X : Type 0} (Q : X → Type 0) → ((x : X) → Q x) → (xs : List X) → AllByRecursion Q xs
 of_all Q f [] = tt
@@ -47,7 +45,7 @@ module _ (names : List (List ℕ)) (named : AreNames names) where
 
   group_found : (group : GroupValue) → All (IsBelow (length names)) group.links → group_in (group_json names group) ≡ Some (group_words names group)
   group_found group below =
-      let each = of_each (IsBelow (length names)) _ link_found group.links (recursion_from_All (IsBelow (length names)) group.links below) in
+      let each = each_weaker (IsBelow (length names)) _ link_found group.links (recursion_from_All (IsBelow (length names)) group.links below) in
       ap (λ o. o >>= λ links. Some (codes "group" ∷ decimal group.width ∷ links)) (each_made link_in (link_json names) (link_word names) group.links each)
 
   -- ---- the pattern
@@ -98,14 +96,10 @@ module _ (names : List (List ℕ)) (named : AreNames names) where
   -- ---- the whole
 
   groups_found : (groups : List GroupValue) → All (λ group. All (IsBelow (length names)) group.links) groups → list_in group_in (array_of (map (group_json names) groups)) ≡ Some (map (group_words names) groups)
-  groups_found groups below = each_made group_in (group_json names) (group_words names) groups (of_each _ _ group_found groups (recursion_from_All _ groups below))
+  groups_found groups below = each_made group_in (group_json names) (group_words names) groups (each_weaker _ _ group_found groups (recursion_from_All _ groups below))
 
   names_found : (list : List (List ℕ)) → All (λ n. is_name n ≡ true) list → list_in name_in (array_of (map string list)) ≡ Some (map (λ n. n) list)
-  names_found list each = each_made name_in string (λ n. n) list (of_each _ _ name_found list (recursion_from_All _ list each))
-
-same_list : {X : Type 0} (xs : List X) → map (λ x. x) xs ≡ xs
-same_list [] = refl
-same_list (x ∷ xs) = ap (λ ys. x ∷ ys) (same_list xs)
+  names_found list each = each_made name_in string (λ n. n) list (each_weaker _ _ name_found list (recursion_from_All _ list each))
 
 abbrev parts : Bool → Option (List (List ℕ)) → Option (List (List (List ℕ))) → Option (List (List (List ℕ))) → Option (List (List (List ℕ)))
 parts patterned names groups custom = names >>= λ n. groups >>= λ g. custom >>= λ c. Some (header_line patterned ∷ (codes "nodes" ∷ n) ∷ g ++ c)
@@ -117,9 +111,9 @@ found_parts patterned names groups custom n g c a b d = ap (λ o. parts patterne
 with_custom : (names : List (List ℕ)) (nodes : ℕ) (groups : List GroupValue) (custom : Option PatternValue) → AreNames names → All (λ group. All (IsBelow (length names)) group.links) groups → IfSome custom (λ p. (p.before.nodes ≤ length names) × (p.after.nodes ≤ length names))
     → topology_in (topology_json (record { names = names; topology = record { nodes = nodes; groups = groups }; custom = custom })) ≡ Some (header_words custom ∷ nodes_words names ∷ map (group_words names) groups ++ custom_lines names custom)
 with_custom names nodes groups None named below fits =
-    found_parts false names (map (group_words names) groups) [] _ _ _ (names_found names named names named.each ∙ ap Some (same_list names)) (groups_found names named groups below) refl
+    found_parts false names (map (group_words names) groups) [] _ _ _ (names_found names named names named.each ∙ ap Some (map-id names)) (groups_found names named groups below) refl
 with_custom names nodes groups (Some p) named below fits =
-    found_parts true names (map (group_words names) groups) (custom_lines names (Some p)) _ _ _ (names_found names named names named.each ∙ ap Some (same_list names)) (groups_found names named groups below)
+    found_parts true names (map (group_words names) groups) (custom_lines names (Some p)) _ _ _ (names_found names named names named.each ∙ ap Some (map-id names)) (groups_found names named groups below)
     (custom_found names named p fits.0 fits.1)
 
 fits_names : (nodes : ℕ) (names : List (List ℕ)) (custom : Option PatternValue) → length names ≡ nodes → IfSome custom (IsPattern nodes) → IfSome custom (λ p. (p.before.nodes ≤ length names) × (p.after.nodes ≤ length names))

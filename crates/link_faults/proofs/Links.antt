@@ -2,7 +2,7 @@
 use Rattle.std.proofs.Common.{◌≡◌, ℕ, zero, suc, ◌+◌, ◌≤◌, ◌*◌, Bool, true, false, ◌||◌, ◌&&◌, eqb, cond, List, [], ◌∷◌, length, get_or, refl, sym, ap, ◌∙◌, ⊎_elim, arith}
 use Rattle.std.specs.Prelude.{not, slice_set}
 use Rattle.std.specs.List.{list_any, AllByRecursion}
-use Rattle.std.proofs.lemmas.Bool.{false≢true, and_parts, cases_Bool, or_cases, or_left, or_right, lt-ltb}
+use Rattle.std.proofs.lemmas.Bool.{false≢true, and_parts, cases_Bool, or_cases, or_left, or_right, lt-ltb, not-true}
 use Rattle.std.proofs.lemmas.List.Sums.{sum_by-cons}
 use Rattle.std.proofs.lemmas.Map.Views.{any-filter_same}
 use Rattle.schedule.specs.declared.hop.Hop.{Hop}
@@ -11,10 +11,6 @@ use Rattle.schedule.specs.Sends.{link_of}
 use Rattle.schedule.specs.Fitting.{load}
 use Rattle.schedule.proofs.Placing.{pair_is}
 use Rattle.link_faults.specs.Narrowed.{without, has_links, left_of}
-
-pub not_is : (b : Bool) → not b ≡ true → b ≡ false
-not_is true h = absurd (false≢true h)
-not_is false h = refl
 
 -- a link is left in a group exactly where it was there and is not gone
 pub left_link : (lost group : GroupValue) (link : ℕ × ℕ) → has_link (without lost group) link ≡ (not (has_link lost link) && has_link group link)
@@ -25,7 +21,7 @@ pub was_there : (lost group : GroupValue) (link : ℕ × ℕ) → has_link (with
 was_there lost group link h = (and_parts (not (has_link lost link)) (has_link group link) (sym (left_link lost group link) ∙ h)).1
 
 not_gone : (lost group : GroupValue) (link : ℕ × ℕ) → has_link (without lost group) link ≡ true → has_link lost link ≡ false
-not_gone lost group link h = not_is (has_link lost link) (and_parts (not (has_link lost link)) (has_link group link) (sym (left_link lost group link) ∙ h)).0
+not_gone lost group link h = not-true (has_link lost link) (and_parts (not (has_link lost link)) (has_link group link) (sym (left_link lost group link) ∙ h)).0
 
 -- what is usable was usable, and is not gone
 pub left_usable : (lost : GroupValue) (groups : List GroupValue) (link : ℕ × ℕ) → list_any (λ group. has_link group link) (left_of lost groups) ≡ true

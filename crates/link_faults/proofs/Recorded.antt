@@ -2,14 +2,13 @@
 use Rattle.std.proofs.Common.{◌≡◌, ℕ, ◌≤◌, Bool, true, false, ◌&&◌, eqb, leb, cond, List, [], ◌∷◌, ◌++◌, inl, inr, refl, sym, ap, ◌∙◌, subst, ⊎_elim}
 use Rattle.std.specs.Prelude.{not}
 use Rattle.std.specs.List.{AllByRecursion, Contains}
-use Rattle.std.proofs.lemmas.Bool.{false≢true, and_parts, and_from, cases_Bool, or_cases, eqb-true, eq-eqb, leb-true, le-leb}
+use Rattle.std.proofs.lemmas.Bool.{false≢true, and_parts, and_from, cases_Bool, or_cases, eqb-true, eq-eqb, leb-true, le-leb, not-true}
 use Rattle.schedule.specs.Judging.{group_at}
 use Rattle.schedule.proofs.First.{Among, Among-from_Contains, Contains-from_Among}
 use Rattle.candidate_order.specs.declared.candidate.Candidate.{Candidate}
 use Rattle.candidate_order.specs.Frontiers.{QuestionValue, IsSolvable}
 use Rattle.link_faults.specs.Carrying.{Carries, IsOldRefuted, is_carrier, is_carried, not_carried, narrowed_question}
 use Rattle.link_faults.proofs.Carried.{carried}
-use Rattle.link_faults.proofs.Links.{not_is}
 
 pub carrier_is : (a b : Candidate) → is_carrier a b ≡ true → Carries a b
 carrier_is a b h =
@@ -63,7 +62,7 @@ module _ {K : Type 0} (old : List Candidate) where
       ⊎_elim
       (λ (passes : not (is_carried old entry.0) ≡ true).
       let both : Among x (entry ∷ not_carried old entries) = rw passes at among in
-      ⊎_elim (λ (here : entry ≡ x). subst (λ (e : Candidate × K). is_carried old e.0 ≡ false) here (not_is (is_carried old entry.0) passes)) (λ (later : Among x (not_carried old entries)). among_passes x entries later) both)
+      ⊎_elim (λ (here : entry ≡ x). subst (λ (e : Candidate × K). is_carried old e.0 ≡ false) here (not-true (is_carried old entry.0) passes)) (λ (later : Among x (not_carried old entries)). among_passes x entries later) both)
       (λ (fails : not (is_carried old entry.0) ≡ false).
       let rest : Among x (not_carried old entries) = rw fails at among in among_passes x entries rest)
       (cases_Bool (not (is_carried old entry.0)))

@@ -1,11 +1,12 @@
 -- Narrowing a topology and turning its links round, in either order, is the same.
-use Rattle.std.proofs.Common.{◌≡◌, ℕ, zero, suc, Bool, true, false, ◌&&◌, ◌||◌, eqb, ltb, cond, List, [], ◌∷◌, length, get_or, map, refl, ap, ◌∙◌}
+use Rattle.std.proofs.Common.{◌≡◌, ℕ, zero, suc, Bool, true, false, ◌||◌, eqb, ltb, cond, List, [], ◌∷◌, length, get_or, map, refl, ap, ◌∙◌}
 use Rattle.std.specs.Prelude.{◌≢◌, filter, not, slice_set, All}
 use Rattle.std.specs.List.{list_any}
 use Rattle.std.proofs.lemmas.List.{length-map}
 use Rattle.std.proofs.lemmas.List.Elements.{All-weaker}
 use Rattle.schedule.specs.Links.{GroupValue, TopologyValue, has_link, same_link, turned, reversed_group, reversed_of}
 use Rattle.schedule.specs.Judging.{group_at}
+use Rattle.schedule.proofs.Turning.{and_turned}
 use Rattle.collective_spec.specs.declared.kind.Kind.TheVariants as kind
 use Rattle.collective_spec.specs.Collectives.{IsSpec, adds_up, kind_in}
 use Rattle.candidate_order.specs.declared.candidate.Candidate.{Candidate}
@@ -15,16 +16,10 @@ use Rattle.link_faults.specs.Narrowed.{with_width, without, has_links, left_of, 
 use Rattle.inversion.proofs.Copied.{solvable_exactly}
 use Rattle.link_faults.specs.Carrying.{IsOldRefuted, narrowed_question}
 
-and_swap : (a b : Bool) → (a && b) ≡ (b && a)
-and_swap true true = refl
-and_swap true false = refl
-and_swap false true = refl
-and_swap false false = refl
-
 any_turned : (link : ℕ × ℕ) (links : List (ℕ × ℕ)) → list_any (same_link (turned link)) (map turned links) ≡ list_any (same_link link) links
 any_turned link [] = refl
 any_turned link (l ∷ links) =
-    ap (λ b. b || list_any (same_link (turned link)) (map turned links)) (and_swap (eqb link.1 l.1) (eqb link.0 l.0))
+    ap (λ b. b || list_any (same_link (turned link)) (map turned links)) (and_turned (eqb link.1 l.1) (eqb link.0 l.0))
     ∙ ap (λ b. same_link link l || b) (any_turned link links)
 
 links_turned : (lost : GroupValue) (links : List (ℕ × ℕ)) → filter (λ link. not (has_link (reversed_group lost) link)) (map turned links) ≡ map turned (filter (λ link. not (has_link lost link)) links)

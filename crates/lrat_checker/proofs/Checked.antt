@@ -4,7 +4,6 @@ use Rattle.std.specs.Prelude.{◌&&◌, ◌||◌, ◌==◌, not, filter, IfOk, i
 use Rattle.std.specs.List.{list_any}
 use Rattle.std.proofs.lemmas.Bool.{false≢true, and_parts, not-true, lt-leb, ne_eqb}
 use Rattle.std.proofs.lemmas.List.{take-append-le, length-take-le, length_push}
-use Rattle.cnf_formula.specs.Formulas.{IsClause}
 use Rattle.cnf_formula.specs.Lines.{ProofLineValue, DeletionValue}
 use Rattle.cnf_formula.specs.Literals.{LitValue}
 use Rattle.cnf_formula.specs.declared.line.LratLine.TheVariants.{Addition, Deletion}
@@ -55,19 +54,6 @@ can_add table marks o g r line c a =
       checker = subst IsChecker (sym (with_line_is table o g r line c.many)) (stays_checker (checker_of table o g r) (Addition line) c.checker a);
     }
 
--- an accepted line may be put into the table
-pub above_last : (table : TableValue) (marks : MarksValue) (o g : ℕ) (r : Bool) (line : ProofLineValue) → CanCheck table marks o g r → is_accepted (verdict_of (checker_of table o g r) line) ≡ true → table.last < line.id
-above_last table marks o g r line c a =
-    let n = accepted_new (checker_of table o g r) line a in
-    let long : length (take o table.clauses) ≡ o = length-take-le o table.clauses c.many in
-    let f = n.above_formula in
-    let l = n.above_lines in
-    let e = c.last in
-    omega (arith, f, l, long, e)
-
-pub in_range : (c : CheckerValue) (line : ProofLineValue) → is_accepted (verdict_of c line) ≡ true → IsClause c.formula.vars line.lits
-in_range c line a = (accepted_new c line a).in_range
-
 -- ---- some clauses fewer
 
 abbrev pub table_without : TableValue → List ℕ → TableValue
@@ -78,14 +64,6 @@ deletion_accepted c deletion h =
     let parts = and_parts (are_held c.held deletion.ids) (not (has_number_twice deletion.ids)) h in
     ap (λ a. if not a || has_number_twice deletion.ids then Refused UnknownDeletion 0 else Accepted false) parts.0
     ∙ ap (λ b. if b then Refused UnknownDeletion 0 else Accepted false) (not-true (has_number_twice deletion.ids) parts.1)
-
-pub deletion_refused : (c : CheckerValue) (deletion : DeletionValue) → (are_held c.held deletion.ids && not (has_number_twice deletion.ids)) ≡ false → deletion_verdict c deletion ≡ Refused UnknownDeletion 0
-deletion_refused c deletion h = go (are_held c.held deletion.ids) (has_number_twice deletion.ids) h
-  where
-    go : (a b : Bool) → (a && not b) ≡ false → (if not a || b then Refused UnknownDeletion 0 else Accepted false) ≡ Refused UnknownDeletion 0
-    go true true h = refl
-    go true false h = absurd (false≢true (sym h))
-    go false b h = refl
 
 pub can_delete : (table : TableValue) (marks : MarksValue) (o g : ℕ) (r : Bool) (deletion : DeletionValue) → CanCheck table marks o g r → (are_held table.held deletion.ids && not (has_number_twice deletion.ids)) ≡ true
     → CanCheck (table_without table deletion.ids) marks o g r

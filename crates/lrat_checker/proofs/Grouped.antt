@@ -1,5 +1,5 @@
 -- Groups one after another.
-use Rattle.std.proofs.Common.{◌≡◌, ℕ, ◌+◌, ◌<◌, ◌≤◌, Bool, true, false, List, [], ◌∷◌, length, drop, get_or, Option, Some, None, refl, sym, ap, ◌∙◌, arith}
+use Rattle.std.proofs.Common.{◌≡◌, ℕ, ◌+◌, ◌<◌, Bool, true, false, List, [], ◌∷◌, length, drop, get_or, Option, Some, None, refl, sym, ap, ◌∙◌, arith}
 use Rattle.std.specs.Prelude.{◌==◌, ◌||◌, ℤ, pos, negsuc}
 use Rattle.std.specs.List.{list_any}
 use Rattle.std.specs.BTreeSet.{BTreeSet, contains}
@@ -10,12 +10,12 @@ use Rattle.std.proofs.lemmas.Int.{to_z-of_z}
 use lib.IntN.{nat_abs}
 use mir.Syntax.{w64}
 use mir.Val.{SFits, of_z, to_z}
-use Rattle.std.proofs.lemmas.List.{drop_all, drop_more}
+use Rattle.std.proofs.lemmas.List.{drop_more}
 use Rattle.cnf_formula.specs.Literals.{LitValue}
 use Rattle.proof_rules.specs.Held.{Entry, clause_at}
 use Rattle.proof_rules.specs.Judging.{Fault, group_fault, groups_fault}
 use Rattle.proof_rules.specs.Accepting.{Group, leading, groups_from, groups_of}
-use Rattle.lrat_checker.specs.Steps.{Names, Same}
+use Rattle.lrat_checker.specs.Steps.{Same}
 
 -- the groups before this place have no fault, and their clauses are in the set
 pub record Left (held : List Entry) (pivot : LitValue) (start : List LitValue) (hints : List ℤ) (named : BTreeSet ℕ) (at : ℕ) : Type 0 where
@@ -27,14 +27,6 @@ pub record Left (held : List Entry) (pivot : LitValue) (start : List LitValue) (
 module _ (held : List Entry) (pivot : LitValue) (start : List LitValue) (hints : List ℤ) where
   abbrev pub group_at : ℕ → ℕ → Group
   group_at at id = record { place = at; named = id; hints = leading (drop (at + 1) hints) }
-
-  pub at_first : (named : BTreeSet ℕ) (at : ℕ) → Same named [] → groups_from 0 (drop 0 hints) ≡ groups_from at (drop at hints) → Left held pivot start hints named at
-  at_first named at s e = record {
-    earlier = [];
-    same = s;
-    fault = ap (groups_fault held pivot start []) e;
-    names = λ id. ap (list_any (λ group. group.named == id)) e;
-  }
 
   pub group_here : (at n : ℕ) → drop at hints ≡ negsuc n ∷ drop (at + 1) hints → groups_from at (drop at hints) ≡ group_at at (n + 1) ∷ groups_from (at + 1) (drop (at + 1) hints)
   group_here at n e = ap (groups_from at) e
@@ -61,18 +53,6 @@ module _ (held : List Entry) (pivot : LitValue) (start : List LitValue) (hints :
         ∙ ap (λ gs. list_any (λ other. other == id) l.earlier || (n + 1 == id || list_any (λ group. group.named == id) gs)) g
         ∙ swap (list_any (λ other. other == id) l.earlier) (n + 1 == id) (list_any (λ group. group.named == id) (groups_from next (drop next hints)));
   }
-
-  or_none : (a : Bool) → (a || false) ≡ a
-  or_none true = refl
-  or_none false = refl
-
-  pub no_fault_left : (named : BTreeSet ℕ) (at : ℕ) → length hints ≤ at → Left held pivot start hints named at → groups_fault held pivot start [] (groups_of hints) ≡ None
-  no_fault_left named at w l = l.fault ∙ ap (λ hs. groups_fault held pivot start l.earlier (groups_from at hs)) (drop_all at hints w)
-
-  pub all_named : (named : BTreeSet ℕ) (at : ℕ) → length hints ≤ at → Left held pivot start hints named at → Names named (groups_of hints)
-  all_named named at w l id =
-      l.same id ∙ sym (or_none (list_any (λ other. other == id) l.earlier))
-      ∙ ap (λ hs. list_any (λ other. other == id) l.earlier || list_any (λ group. group.named == id) (groups_from at hs)) (sym (drop_all at hints w)) ∙ sym (l.names id)
 
   pub faulty_any : (named : BTreeSet ℕ) (at n : ℕ) (o : Option Fault) (l : Left held pivot start hints named at) → is_some o ≡ true → drop at hints ≡ negsuc n ∷ drop (at + 1) hints
       → o ≡ group_fault held pivot start l.earlier (group_at at (n + 1)) (clause_at held (n + 1)) → o ≡ groups_fault held pivot start [] (groups_of hints)

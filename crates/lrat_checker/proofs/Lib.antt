@@ -8,3 +8,5 @@ pub mod Noted
 pub mod Placed
 pub mod Removed
 pub mod Taken
+pub mod Cleaned
+pub mod Forgotten

@@ -1,16 +1,17 @@
 -- Places in the lists of literals.
 use Rattle.std.proofs.Common.{◌≡◌, ℕ, ◌+◌, ◌<◌, Bool, true, false, List, [], ◌∷◌, ◌++◌, length, take, get_or, set, refl, sym, ap, ◌∙◌, subst, ⊎_elim, arith}
-use Rattle.std.specs.Prelude.{◌||◌, Contains}
+use Rattle.std.specs.Prelude.{◌||◌, All, Contains}
 use Rattle.std.specs.List.{list_all}
 use Rattle.std.proofs.lemmas.Bool.{false≢true, cases_eq, cases_lt, cases_Bool, or_cases}
-use Rattle.std.proofs.lemmas.List.{get_or-set_same, get_or-set_other, take_more, get_or_append_left, get_or_push, length_push, get_or_default}
+use Rattle.std.proofs.lemmas.List.{get_or-set_same, get_or-set_other, take_more, get_or_append_left, get_or_push, length_push}
 use Rattle.std.proofs.lemmas.List.Folds.{list_any-append}
 use Rattle.cnf_formula.specs.Literals.{LitValue, same_literal, has_literal, code_of, negation}
 use Rattle.cnf_formula.proofs.Clauses.{same_is}
-use Rattle.lrat_checker.specs.Stored.{list_at, IsIndexed, IsLead, IsLed, IsStored, held_of, last_of}
+use Rattle.lrat_checker.specs.Stored.{list_at, is_held, answers, IsIndexed, IsLead, IsLed, IsStored, held_of, last_of}
 use Rattle.proof_rules.specs.Accepting.{Group, has_negated, is_answered}
-use Rattle.lrat_checker.proofs.Placed.{all_by_place, not_all, rises_push}
-use Rattle.std.proofs.lemmas.List.Elements.{All-push}
+use Rattle.lrat_checker.proofs.Placed.{all_by_place, not_all, rises_push, live_within, some_fails}
+use Rattle.std.proofs.lemmas.List.Elements.{All-push, All-contains}
+use Rattle.std.proofs.lemmas.List.Sums.{AllPass-from_list_all}
 use Rattle.cnf_formula.specs.Formulas.{IsClause}
 
 pub contains_more : (xs : List ℕ) (y x : ℕ) → Contains xs x → Contains (xs ++ y ∷ []) x
@@ -49,21 +50,29 @@ module _ (pivot : LitValue) (start : List LitValue) (groups : List Group) where
   lacks : (id : ℕ) (clause : List LitValue) → has_negated pivot clause ≡ false → test (id, clause) ≡ true
   lacks id clause f = rw f refl
 
-  -- it is enough to look at the list of the negated pivot
-  pub each_answered : (vars : ℕ) (ids : List ℕ) (live : List Bool) (clauses : List (List LitValue)) (lists : List (List ℕ)) → IsIndexed vars clauses lists → length clauses ≡ length ids
-      → ((j : ℕ) → j < length (list_at lists (code_of (negation pivot))) → let p = get_or (list_at lists (code_of (negation pivot))) j 0 in p < length ids → get_or live p false ≡ true → test (get_or ids p 0, get_or clauses p []) ≡ true)
-      → list_all test (held_of ids live clauses) ≡ true
-  each_answered vars ids live clauses lists i m h = all_by_place test ids live clauses one
+  -- it is enough to look at the list of the negated pivot, where all that stands in it is held
+  pub answered_by_list : (vars : ℕ) (ids : List ℕ) (live : List Bool) (clauses : List (List LitValue)) (lists : List (List ℕ)) → IsIndexed vars live clauses lists → length live ≡ length ids → length clauses ≡ length ids
+      → let list = list_at lists (code_of (negation pivot)) in All (λ k. is_held live k ≡ true) list → list_all (answers ids clauses pivot start groups) list ≡ list_all test (held_of ids live clauses)
+  answered_by_list vars ids live clauses lists i l m held = ⊎_elim (λ t. t ∙ sym (all_by_place test ids live clauses (one t))) (λ f. f ∙ sym (none f)) (cases_Bool (list_all at list))
     where
-      one : (k : ℕ) → k < length ids → get_or live k false ≡ true → test (get_or ids k 0, get_or clauses k []) ≡ true
-      one k w t =
-          ⊎_elim (λ n.
-          let c = i.each k (negation pivot) (omega (arith, w, m)) n in
-          let list = list_at lists (code_of (negation pivot)) in
-          let is : get_or list c.0 0 ≡ k = get_or_default list c.0 0 k c.1 ∙ c.2 in
-          subst (λ q. test (get_or ids q 0, get_or clauses q []) ≡ true) is (h c.0 c.1 (subst (λ q. q < length ids) (sym is) w) (subst (λ q. get_or live q false ≡ true) (sym is) t)))
+      list : List ℕ
+      list = list_at lists (code_of (negation pivot))
+
+      at : ℕ → Bool
+      at = answers ids clauses pivot start groups
+
+      one : list_all at list ≡ true → (k : ℕ) → k < length ids → get_or live k false ≡ true → at k ≡ true
+      one t k w a =
+          ⊎_elim (λ n. All-contains (λ q. at q ≡ true) list k (AllPass-from_list_all at list t) (i.each k (negation pivot) a n))
           (λ f. lacks (get_or ids k 0) (get_or clauses k []) f)
           (cases_Bool (has_negated pivot (get_or clauses k [])))
+
+      none : list_all at list ≡ false → list_all test (held_of ids live clauses) ≡ false
+      none f =
+          let (j, w, fails) = some_fails at list f in
+          let k = get_or list j 0 in
+          let a : get_or live k false ≡ true = held j 0 w in
+          one_unanswered ids live clauses k l m (omega (arith, live_within live k a, l)) a fails
 
 -- ---- places more in the lists
 
@@ -72,12 +81,13 @@ pub stored_grown : (vars : ℕ) (ids : List ℕ) (live : List Bool) (clauses : L
     → IsStored vars ids live clauses lists' leads'
 stored_grown vars ids live clauses lists lists' leads leads' s long kept wide held = record {
   rises = s.rises;
+  some = s.some;
   lives = s.lives;
   many = s.many;
   about = s.about;
   indexed = record {
     long = long ∙ s.indexed.long;
-    each = λ k l w h. kept (code_of l) k (s.indexed.each k l w h);
+    each = λ k l a h. kept (code_of l) k (s.indexed.each k l a h);
   };
   led = record {
     long = wide ∙ s.led.long;
@@ -97,12 +107,15 @@ by_place_push P clauses lits old new k w =
     subst (P k) (sym (get_or_push clauses lits [] k at)) (subst (λ j. P j lits) at new))
     (cases_lt k (length clauses))
 
-pub indexed_push : (vars : ℕ) (clauses : List (List LitValue)) (lists lists' : List (List ℕ)) (lits : List LitValue) → IsIndexed vars clauses lists → length lists' ≡ length lists
+pub indexed_push : (vars : ℕ) (live : List Bool) (clauses : List (List LitValue)) (lists lists' : List (List ℕ)) (lits : List LitValue) (b : Bool) → IsIndexed vars live clauses lists → length live ≡ length clauses → length lists' ≡ length lists
     → ((code k : ℕ) → Contains (list_at lists code) k → Contains (list_at lists' code) k) → ((l : LitValue) → has_literal lits l ≡ true → Contains (list_at lists' (code_of l)) (length clauses))
-    → IsIndexed vars (clauses ++ lits ∷ []) lists'
-indexed_push vars clauses lists lists' lits i long kept noted = record {
+    → IsIndexed vars (live ++ b ∷ []) (clauses ++ lits ∷ []) lists'
+indexed_push vars live clauses lists lists' lits b i l long kept noted = record {
   long = long ∙ i.long;
-  each = λ k x w h. by_place_push (λ k c. (x : LitValue) → has_literal c x ≡ true → Contains (list_at lists' (code_of x)) k) clauses lits (λ k u x h. kept (code_of x) k (i.each k x u h)) noted k w x h;
+  each = λ k x a h.
+      let w = live_within (live ++ b ∷ []) k a in
+      by_place_push (λ k c. is_held (live ++ b ∷ []) k ≡ true → (x : LitValue) → has_literal c x ≡ true → Contains (list_at lists' (code_of x)) k) clauses lits
+      (λ k u a x h. kept (code_of x) k (i.each k x (sym (get_or_append_left live (b ∷ []) false k (omega (arith, u, l))) ∙ a) h)) (λ a. noted) k (omega (arith, w, length_push live b, length_push clauses lits, l)) a x h;
 }
 
 pub led_push : (vars : ℕ) (clauses : List (List LitValue)) (leads leads' : List (List ℕ)) (lits : List LitValue) (code : ℕ) → IsLed vars clauses leads → length leads' ≡ length leads
@@ -113,17 +126,18 @@ led_push vars clauses leads leads' lits code i long kept lead noted = record {
   each = by_place_push (λ k c. (code : ℕ) × IsLead c code × Contains (list_at leads' code) k) clauses lits (λ k u. let (old, is, at) = i.each k u in (old, is, kept old k at)) (code, lead, noted);
 }
 
-pub stored_push : (vars : ℕ) (ids : List ℕ) (live : List Bool) (clauses : List (List LitValue)) (lists lists' leads leads' : List (List ℕ)) (id : ℕ) (lits : List LitValue) → IsStored vars ids live clauses lists leads → last_of ids < id → IsClause vars lits
-    → IsIndexed vars (clauses ++ lits ∷ []) lists' → IsLed vars (clauses ++ lits ∷ []) leads'
-    → IsStored vars (ids ++ id ∷ []) (live ++ true ∷ []) (clauses ++ lits ∷ []) lists' leads'
-stored_push vars ids live clauses lists lists' leads leads' id lits s above about indexed led =
+pub stored_push : (vars : ℕ) (ids : List ℕ) (live : List Bool) (clauses : List (List LitValue)) (lists lists' leads leads' : List (List ℕ)) (id : ℕ) (lits : List LitValue) (held : Bool) → IsStored vars ids live clauses lists leads → last_of ids < id → IsClause vars lits
+    → IsIndexed vars (live ++ held ∷ []) (clauses ++ lits ∷ []) lists' → IsLed vars (clauses ++ lits ∷ []) leads'
+    → IsStored vars (ids ++ id ∷ []) (live ++ held ∷ []) (clauses ++ lits ∷ []) lists' leads'
+stored_push vars ids live clauses lists lists' leads leads' id lits held s above about indexed led =
     let n = length_push ids id in
-    let a = length_push live true in
+    let a = length_push live held in
     let b = length_push clauses lits in
     let l = s.lives in
     let m = s.many in
     record {
       rises = rises_push ids id above s.rises;
+      some = All-push (λ x. 0 < x) ids id s.some (omega (arith, above));
       lives = omega (arith, n, a, l);
       many = omega (arith, n, b, m);
       about = All-push (IsClause vars) clauses lits s.about about;

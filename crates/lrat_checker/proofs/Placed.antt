@@ -2,8 +2,8 @@
 use Rattle.std.proofs.Common.{◌≡◌, ℕ, zero, suc, ◌+◌, ◌-◌, ◌<◌, ◌≤◌, Bool, true, false, List, [], ◌∷◌, ◌++◌, length, map, get_or, Some, None, refl, sym, ap, ◌∙◌, ⊎_elim, arith}
 use Rattle.std.specs.Prelude.{◌≢◌, ◌&&◌, if◌then◌else◌, All}
 use Rattle.std.specs.List.{list_all, enumerate_from}
-use Rattle.std.proofs.lemmas.Bool.{eq-eqb, ne_eqb, cases_Bool, cases_lt, and_from}
-use Rattle.std.proofs.lemmas.List.{get_or_default, length_push, get_or_append_left, get_or_push, get_or-map}
+use Rattle.std.proofs.lemmas.Bool.{false≢true, eq-eqb, ne_eqb, cases_Bool, cases_lt, and_from}
+use Rattle.std.proofs.lemmas.List.{get_or_default, get_or_past, length_push, get_or_append_left, get_or_push, get_or-map}
 use Rattle.std.proofs.lemmas.List.Elements.{All-head, All-tail}
 use Rattle.cnf_formula.specs.Literals.{LitValue}
 use Rattle.proof_rules.specs.Held.{Entry, clause_at}
@@ -76,7 +76,7 @@ not_held (x ∷ ids) (b ∷ live) (clause ∷ clauses) id a =
     ⊎_elim (λ t. ap (λ h. clause_at h id) (held_true x ids b live clause clauses t) ∙ passed x id clause (held_of ids live clauses) (All-head (λ other. other ≢ id) x ids a) ∙ rest)
     (λ f. ap (λ h. clause_at h id) (held_false x ids b live clause clauses f) ∙ rest) (cases_Bool b)
 
-others_above : (id : ℕ) (ids : List ℕ) → All (λ y. id < y) ids → Others id ids
+pub others_above : (id : ℕ) (ids : List ℕ) → All (λ y. id < y) ids → Others id ids
 others_above id ids a k d w e = let lt = a k d w in omega (arith, lt, e)
 
 pub held_at : (ids : List ℕ) (live : List Bool) (clauses : List (List LitValue)) (place : ℕ) → Rises ids → length live ≡ length ids → length clauses ≡ length ids → place < length ids
@@ -97,15 +97,16 @@ held_at (x ∷ ids) (b ∷ live) (clause ∷ clauses) (suc place) r l m w =
 
 -- ---- one more
 
-pub held_push : (ids : List ℕ) (live : List Bool) (clauses : List (List LitValue)) (id : ℕ) (clause : List LitValue) → length live ≡ length ids → length clauses ≡ length ids
-    → held_of (ids ++ id ∷ []) (live ++ true ∷ []) (clauses ++ clause ∷ []) ≡ held_of ids live clauses ++ (id, clause) ∷ []
-held_push [] [] [] id clause l m = refl
-held_push [] (b ∷ live) clauses id clause l m = absurd (omega (arith, l))
-held_push [] [] (c ∷ clauses) id clause l m = absurd (omega (arith, m))
-held_push (x ∷ ids) [] clauses id clause l m = absurd (omega (arith, l))
-held_push (x ∷ ids) (b ∷ live) [] id clause l m = absurd (omega (arith, m))
-held_push (x ∷ ids) (b ∷ live) (c ∷ clauses) id clause l m =
-    let rest = held_push ids live clauses id clause (omega (arith, l)) (omega (arith, m)) in
+pub held_push : (ids : List ℕ) (live : List Bool) (clauses : List (List LitValue)) (id : ℕ) (clause : List LitValue) (held : Bool) → length live ≡ length ids → length clauses ≡ length ids
+    → held_of (ids ++ id ∷ []) (live ++ held ∷ []) (clauses ++ clause ∷ []) ≡ held_of ids live clauses ++ (if held then (id, clause) ∷ [] else [])
+held_push [] [] [] id clause true l m = refl
+held_push [] [] [] id clause false l m = refl
+held_push [] (b ∷ live) clauses id clause held l m = absurd (omega (arith, l))
+held_push [] [] (c ∷ clauses) id clause held l m = absurd (omega (arith, m))
+held_push (x ∷ ids) [] clauses id clause held l m = absurd (omega (arith, l))
+held_push (x ∷ ids) (b ∷ live) [] id clause held l m = absurd (omega (arith, m))
+held_push (x ∷ ids) (b ∷ live) (c ∷ clauses) id clause held l m =
+    let rest = held_push ids live clauses id clause held (omega (arith, l)) (omega (arith, m)) in
     ⊎_elim (λ t. rw t (ap (λ es. (x, c) ∷ es) rest)) (λ f. rw f rest) (cases_Bool b)
 
 pub enumerate-push : (n : ℕ) (clauses : List (List LitValue)) (clause : List LitValue) → enumerate_from n (clauses ++ clause ∷ []) ≡ enumerate_from n clauses ++ (n + length clauses, clause) ∷ []
@@ -137,6 +138,23 @@ module _ (test : Entry → Bool) where
       none : (a : Bool) → (a && false) ≡ false
       none true = refl
       none false = refl
+
+some_fails_here : (test : ℕ → Bool) (x : ℕ) (xs : List ℕ) → (test x && list_all test xs) ≡ false → test x ≡ true → list_all test xs ≡ false
+some_fails_here test x xs h t = sym (ap (λ b. b && list_all test xs) t) ∙ h
+
+-- one of a list that does not pass
+pub some_fails : (test : ℕ → Bool) (xs : List ℕ) → list_all test xs ≡ false → (j : ℕ) × (j < length xs) × (test (get_or xs j 0) ≡ false)
+some_fails test [] h = absurd (false≢true (sym h))
+some_fails test (x ∷ xs) h =
+    ⊎_elim (λ t.
+    let (j, w, f) = some_fails test xs (some_fails_here test x xs h t) in
+    (suc j, omega (arith, w), f))
+    (λ f. (0, omega arith, f))
+    (cases_Bool (test x))
+
+-- a place is one of the table's where its clause is held
+pub live_within : (live : List Bool) (k : ℕ) → get_or live k false ≡ true → k < length live
+live_within live k t = ⊎_elim (λ lt. lt) (λ ge. absurd (false≢true (sym (get_or_past live k false ge) ∙ t))) (cases_lt k (length live))
 
 -- ---- what is read
 

@@ -1,6 +1,6 @@
 -- Clauses that are let go, and held again.
 use Rattle.std.proofs.Common.{◌≡◌, ℕ, zero, suc, ◌+◌, ◌<◌, Bool, true, false, List, [], ◌∷◌, ◌++◌, length, take, drop, get_or, set, refl, sym, ap, ◌∙◌, inl, inr, ⊎_elim, arith}
-use Rattle.std.specs.Prelude.{◌⊎◌, ◌≢◌, ◌==◌, ◌&&◌, ◌||◌, not, if◌then◌else◌, All, filter}
+use Rattle.std.specs.Prelude.{◌⊎◌, ◌≢◌, ◌==◌, ◌&&◌, ◌||◌, not, if◌then◌else◌, filter}
 use Rattle.std.specs.List.{list_any, list_all}
 use Rattle.std.proofs.lemmas.Bool.{false≢true, eq-eqb, ne_eqb, eqb-true, eqb-false, cases_Bool, cases_eq, cases_order, and_cases, and_from, and_parts, or_cases, or_from, or_left, or_right, or_parts, not-true, not-false}
 use Rattle.std.proofs.lemmas.List.{length-set, get_or-set_same, get_or-set_other, get_or_default, same_lists, drop_more, take_more, take-append-drop}
@@ -9,7 +9,7 @@ use Rattle.cnf_formula.specs.Literals.{LitValue}
 use Rattle.proof_rules.specs.Held.{Entry}
 use Rattle.proof_rules.specs.Judging.{has_number_twice, are_held}
 use Rattle.lrat_checker.specs.Stored.{held_of, is_live, kept_live, Rises}
-use Rattle.lrat_checker.proofs.Placed.{Others, rises_tail, head_below, held_true, held_false}
+use Rattle.lrat_checker.proofs.Placed.{Others, rises_tail, head_below, held_true, held_false, others_above}
 
 abbrev pub among : List ℕ → ℕ → Bool
 among gone x = list_any (λ id. id == x) gone
@@ -24,14 +24,11 @@ live_not (x ∷ ids) (b ∷ live) id a =
     let no : (b && x == id) ≡ false = ⊎_elim (λ t. rw t (ne_eqb x id (All-head (λ other. other ≢ id) x ids a))) (λ f. rw f refl) (cases_Bool b) in
     or_from (b && x == id) (is_live ids live id) no rest
 
-above_others : (id : ℕ) (ids : List ℕ) → All (λ y. id < y) ids → Others id ids
-above_others id ids a k d w e = let lt = a k d w in omega (arith, lt, e)
-
 pub live_at : (ids : List ℕ) (live : List Bool) (place : ℕ) → Rises ids → length live ≡ length ids → place < length ids → is_live ids live (get_or ids place 0) ≡ get_or live place false
 live_at [] live place r l w = absurd (omega (arith, w))
 live_at (x ∷ ids) [] place r l w = absurd (omega (arith, l))
 live_at (x ∷ ids) (b ∷ live) zero r l w =
-    let rest = live_not ids live x (above_others x ids (head_below x ids r)) in
+    let rest = live_not ids live x (others_above x ids (head_below x ids r)) in
     rw (eq-eqb x x refl, rest) (go b)
   where
     go : (a : Bool) → (a && true || false) ≡ a

@@ -1,6 +1,6 @@
 -- One hint after another.
 use Rattle.std.proofs.Common.{◌≡◌, ℕ, ◌+◌, ◌<◌, true, false, List, [], ◌∷◌, ◌++◌, length, drop, get_or, Option, Some, None, Result, Ok, Err, refl, sym, ap, ◌∙◌, subst, ⊎_elim, append_assoc}
-use Rattle.std.specs.Prelude.{if◌then◌else◌, ℤ, pos, negsuc, not, All}
+use Rattle.std.specs.Prelude.{if◌then◌else◌, ℤ, pos, negsuc, All}
 use Rattle.std.specs.List.{list_all}
 use Rattle.std.proofs.lemmas.Int.{to_z-of_z}
 use lib.IntN.{nat_abs}
@@ -11,10 +11,10 @@ use Rattle.std.proofs.lemmas.Bool.{false≢true, or_cases}
 use Rattle.std.proofs.lemmas.List.{drop_more}
 use Rattle.cnf_formula.specs.Literals.{LitValue, same_literal, has_literal, negation}
 use Rattle.proof_rules.specs.declared.verdict.LineCode.{LineCode}
-use Rattle.proof_rules.specs.declared.verdict.LineCode.TheVariants.{HintNotUnit, UnknownHint}
+use Rattle.proof_rules.specs.declared.verdict.LineCode.TheVariants.{HintNotUnit}
 use Rattle.proof_rules.specs.Held.{Entry, clause_at, open_literals}
-use Rattle.proof_rules.specs.Judging.{given_by, after_conflict, led_to}
-use Rattle.proof_rules.specs.Accepting.{leading, groups_from}
+use Rattle.proof_rules.specs.Judging.{given_by, led_to}
+use Rattle.proof_rules.specs.Accepting.{leading}
 use Rattle.lrat_checker.specs.Marking.{Extends}
 use Rattle.cnf_formula.specs.Formulas.{IsAbout}
 use Rattle.cnf_formula.proofs.Clauses.{same_is}
@@ -28,58 +28,14 @@ abbrev pub goes_on : Option LitValue → List LitValue → Result (Option LitVal
 goes_on None ls = given_by ls
 goes_on (Some l) ls = if list_all (same_literal l) ls then Ok (Some l) else Err HintNotUnit
 
-pub given_end : (o : Option LitValue) → goes_on o [] ≡ Ok o
-given_end None = refl
-given_end (Some l) = refl
-
-module _ (falses : List LitValue) (clause : List LitValue) (k : ℕ) (x : LitValue) (h : drop k clause ≡ x ∷ drop (k + 1) clause) where
-  pub passed_over : (o : Option LitValue) → has_literal falses x ≡ true → goes_on o (open_literals falses (drop k clause)) ≡ goes_on o (open_literals falses (drop (k + 1) clause))
-  passed_over o f = ap (λ ys. goes_on o (open_literals falses ys)) h ∙ ap (λ b. goes_on o (if not b then x ∷ open_literals falses (drop (k + 1) clause) else open_literals falses (drop (k + 1) clause))) f
-
-  open_here : (o : Option LitValue) → has_literal falses x ≡ false → goes_on o (open_literals falses (drop k clause)) ≡ goes_on o (x ∷ open_literals falses (drop (k + 1) clause))
-  open_here o f = ap (λ ys. goes_on o (open_literals falses ys)) h ∙ ap (λ b. goes_on o (if not b then x ∷ open_literals falses (drop (k + 1) clause) else open_literals falses (drop (k + 1) clause))) f
-
-  pub first_open_one : has_literal falses x ≡ false → goes_on None (open_literals falses (drop k clause)) ≡ goes_on (Some x) (open_literals falses (drop (k + 1) clause))
-  first_open_one f = open_here None f
-
-  pub same_open : (l : LitValue) → same_literal l x ≡ true → has_literal falses x ≡ false → goes_on (Some l) (open_literals falses (drop k clause)) ≡ goes_on (Some l) (open_literals falses (drop (k + 1) clause))
-  same_open l s f = open_here (Some l) f ∙ rw s refl
-
-  pub two_open : (l : LitValue) → same_literal l x ≡ false → has_literal falses x ≡ false → goes_on (Some l) (open_literals falses (drop k clause)) ≡ Err HintNotUnit
-  two_open l s f = open_here (Some l) f ∙ rw s refl
-
 -- ---- hints
 
 module _ (held : List Entry) (falses : List LitValue) (hints : List ℤ) (place : ℕ) where
-  pub stops_at_group : (n : ℕ) → drop place hints ≡ negsuc n ∷ drop (place + 1) hints → led_to held falses place (leading (drop place hints)) ≡ Ok (Some falses)
-  stops_at_group n h = ap (λ hs. led_to held falses place (leading hs)) h
-
-  pub stops_at_end : drop place hints ≡ [] → led_to held falses place (leading (drop place hints)) ≡ Ok (Some falses)
-  stops_at_end h = ap (λ hs. led_to held falses place (leading hs)) h
-
   module _ (id : ℕ) (h : drop place hints ≡ pos id ∷ drop (place + 1) hints) where
-    pub unknown_hint : clause_at held id ≡ None → led_to held falses place (leading (drop place hints)) ≡ Err (UnknownHint, place)
-    unknown_hint e = ap (λ hs. led_to held falses place (leading hs)) h ∙ rw (e, led_to) refl
-
-    pub failing_hint : (clause : List LitValue) (code : LineCode) → clause_at held id ≡ Some clause → given_by (open_literals falses clause) ≡ Err code → led_to held falses place (leading (drop place hints)) ≡ Err (code, place)
-    failing_hint clause code e g = ap (λ hs. led_to held falses place (leading hs)) h ∙ rw (e, g, led_to) refl
-
-    pub conflicting_hint : (clause : List LitValue) → clause_at held id ≡ Some clause → given_by (open_literals falses clause) ≡ Ok None → led_to held falses place (leading (drop place hints)) ≡ after_conflict (place + 1) (leading (drop (place + 1) hints))
-    conflicting_hint clause e g = ap (λ hs. led_to held falses place (leading hs)) h ∙ rw (e, g, led_to) refl
-
     pub unit_hint : (clause : List LitValue) (l : LitValue) → clause_at held id ≡ Some clause → given_by (open_literals falses clause) ≡ Ok (Some l) → led_to held falses place (leading (drop place hints)) ≡ led_to held (negation l ∷ falses) (place + 1) (leading (drop (place + 1) hints))
     unit_hint clause l e g = ap (λ hs. led_to held falses place (leading hs)) h ∙ rw (e, g, led_to) refl
 
--- ---- groups
-
-module _ (hints : List ℤ) (place : ℕ) where
-  pub no_group_here : (id : ℕ) → drop place hints ≡ pos id ∷ drop (place + 1) hints → groups_from place (drop place hints) ≡ groups_from (place + 1) (drop (place + 1) hints)
-  no_group_here id h = ap (groups_from place) h
-
 -- ---- more literals
-
-pub extends_itself : (falses : List LitValue) → Extends falses falses
-extends_itself falses = record { more = []; is = refl }
 
 pub extends_more : (base falses : List LitValue) (l : LitValue) → Extends base falses → Extends base (l ∷ falses)
 extends_more base falses l e = record { more = l ∷ e.more; is = ap (λ fs. l ∷ fs) e.is }

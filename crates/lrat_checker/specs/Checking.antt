@@ -19,5 +19,5 @@ pub record CanCheck (table : TableValue) (marks : MarksValue) (originals greates
   pub unmarked : marks.falses ≡ []
   pub same : marks.vars ≡ table.vars
   pub many : originals ≤ length table.clauses
-  pub last : table.last ≡ max originals greatest
+  pub last : table.last ≤ max originals greatest
   pub checker : IsChecker (checker_of table originals greatest refuted)

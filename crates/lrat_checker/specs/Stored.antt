@@ -1,16 +1,25 @@
--- Clauses in a table by their numbers, and the lists in which a literal's clauses are found.
-use Rattle.std.specs.Prelude.{◌≡◌, ◌==◌, ◌&&◌, ◌||◌, not, ℕ, ◌+◌, ◌*◌, ◌-◌, ◌<◌, Bool, true, false, List, [], ◌∷◌, length, slice_index, slice_index_or, All, Contains, if◌then◌else◌}
+-- Clauses in a table by their numbers, and the lists in which a literal's clauses are found (occurrence lists).
+use Rattle.std.specs.Prelude.{◌≡◌, ◌==◌, ◌&&◌, ◌||◌, not, ℕ, ◌+◌, ◌*◌, ◌-◌, ◌<◌, Bool, true, false, List, [], ◌∷◌, length, slice_index, slice_index_or, take, ◌≤◌, All, Contains, if◌then◌else◌}
 use Rattle.std.specs.List.{list_any}
 use Rattle.cnf_formula.specs.Literals.{LitValue, has_literal, is_superset, code_of}
 use Rattle.cnf_formula.specs.Formulas.{IsClause}
 use Rattle.proof_rules.specs.Held.{Entry}
+use Rattle.proof_rules.specs.Accepting.{Group, is_answered}
 
--- every clause that was ever put into it, those that are held, and the greatest number of any, or 0
+-- the clauses that are in it, those of them that are held, and the greatest number of any, or 0
 pub record TableValue : Type 0 where
   pub vars : ℕ
   pub clauses : List (List LitValue)
   pub held : List Entry
   pub last : ℕ
+
+-- the first so many clauses stay, and what is held
+pub record HasForgotten (first : ℕ) (before now : TableValue) : Type 0 where
+  pub vars : now.vars ≡ before.vars
+  pub many : first ≤ length now.clauses
+  pub clauses : take first now.clauses ≡ take first before.clauses
+  pub held : now.held ≡ before.held
+  pub last : now.last ≤ before.last
 
 -- beside each number stands whether its clause is held
 abbrev pub held_of : List ℕ → List Bool → List (List LitValue) → List Entry
@@ -40,10 +49,14 @@ Rises ids = (i j : ℕ) → i < j → j < length ids → slice_index ids i < sli
 abbrev pub list_at : List (List ℕ) → ℕ → List ℕ
 list_at lists code = slice_index_or lists code []
 
--- each clause is in the list of each of its literals
-pub record IsIndexed (vars : ℕ) (clauses : List (List LitValue)) (lists : List (List ℕ)) : Type 0 where
+-- the clause at a place is held
+abbrev pub is_held : List Bool → ℕ → Bool
+is_held live k = slice_index_or live k false
+
+-- each held clause is in the list of each of its literals
+pub record IsIndexed (vars : ℕ) (live : List Bool) (clauses : List (List LitValue)) (lists : List (List ℕ)) : Type 0 where
   pub long : length lists ≡ 2 * vars + 2
-  pub each : (k : ℕ) (l : LitValue) → k < length clauses → has_literal (slice_index_or clauses k []) l ≡ true → Contains (list_at lists (code_of l)) k
+  pub each : (k : ℕ) (l : LitValue) → is_held live k ≡ true → has_literal (slice_index_or clauses k []) l ≡ true → Contains (list_at lists (code_of l)) k
 
 -- a list in which a clause may be found: that of one of its literals, or the first, which is no literal's, where it has none
 abbrev pub IsLead : List LitValue → ℕ → Type 0
@@ -57,12 +70,17 @@ pub record IsLed (vars : ℕ) (clauses : List (List LitValue)) (leads : List (Li
 
 -- the clause at a place is held, and every literal of it stands among these
 abbrev pub covers : List Bool → List (List LitValue) → List LitValue → ℕ → Bool
-covers live clauses lits k = slice_index_or live k false && is_superset lits (slice_index_or clauses k [])
+covers live clauses lits k = is_held live k && is_superset lits (slice_index_or clauses k [])
+
+-- the clause at a place has no negated pivot, or has a group, or is true without one
+abbrev pub answers : List ℕ → List (List LitValue) → LitValue → List LitValue → List Group → ℕ → Bool
+answers ids clauses pivot falses groups k = is_answered pivot falses groups (slice_index ids k, slice_index_or clauses k [])
 
 pub record IsStored (vars : ℕ) (ids : List ℕ) (live : List Bool) (clauses : List (List LitValue)) (lists leads : List (List ℕ)) : Type 0 where
   pub rises : Rises ids
+  pub some : All (λ id. 0 < id) ids
   pub lives : length live ≡ length ids
   pub many : length clauses ≡ length ids
   pub about : All (IsClause vars) clauses
-  pub indexed : IsIndexed vars clauses lists
+  pub indexed : IsIndexed vars live clauses lists
   pub led : IsLed vars clauses leads

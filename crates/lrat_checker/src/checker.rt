@@ -1,4 +1,4 @@
-//! The checker of proof lines.
+//! The checker of proof lines (LRAT).
 
 ghost use Rattle.std.specs.Prelude.{◌≡◌, ◌≢◌, ◌&&◌, Ok, IfOk, OnOk, OnErr, true, false};
 ghost use Rattle.cnf_formula.specs.Formulas.{IsClause, Satisfiable};
@@ -26,6 +26,23 @@ pub struct Checker {
     originals: usize,
     greatest: u64,
     refuted: bool,
+    /// How much room the formula and the added clauses that are held take in the table, and those that are no longer held.
+    kept: usize,
+    gone: usize,
+}
+
+/// The room that a clause takes in a table, in literals.
+fn room_of(lits: &[Lit]) -> usize {
+    lits.len().saturating_add(1)
+}
+
+/// The room that a formula takes in a table. Each variable has lists.
+fn room_of_all(formula: &Formula) -> usize {
+    let mut room = formula.vars() as usize;
+    for clause in formula.clauses() {
+        room = room.saturating_add(room_of(clause.lits()));
+    }
+    room
 }
 
 impl Model for Checker {
@@ -50,6 +67,8 @@ impl Checker {
             originals: formula.clauses().len(),
             greatest: 0,
             refuted: false,
+            kept: room_of_all(formula),
+            gone: 0,
         })
     }
 
@@ -64,9 +83,21 @@ impl Checker {
                 hint: 0,
             });
         }
-        let verdict = judge(&self.table, &mut self.marks, line);
+        let verdict = judge(&mut self.table, &mut self.marks, line);
         self.marks.back_to(0);
         verdict
+    }
+
+    /// Has the table forget what is no longer held, once that takes more room than the rest, so that each deletion pays for
+    /// it. An `Err` comes only where memory runs out.
+    fn clean(&mut self) -> Result<(), OutOfMemory>
+        ensures { self.new ≡ self.old }
+    {
+        if self.gone > self.kept {
+            self.table.forget(self.originals)?;
+            self.gone = 0;
+        }
+        Ok(())
     }
 
     /// Holds the clause of an accepted addition. An `Err` comes only where memory runs out, and then nothing changes.
@@ -76,15 +107,17 @@ impl Checker {
         ensures kept { OnErr result (self.new ≡ self.old) }
     {
         let refuted = self.refuted || line.lits.is_empty();
-        self.table.push(line.id, &line.lits)?;
+        self.table.push(line.id, &line.lits, true)?;
         self.greatest = line.id;
         self.refuted = refuted;
+        self.kept = self.kept.saturating_add(room_of(&line.lits));
         Ok(())
     }
 
-    /// Judges an addition by the rules of LRAT (Cruz-Filipe et al. 2017), with groups for the clauses that hold the negation
-    /// of its first literal. An accepted line is held from then on under its number; a refused one changes nothing, and the
-    /// code is that of its first check that fails. `Err` comes only where memory runs out, and then nothing changes.
+    /// Judges an addition by the rules of LRAT (Cruz-Filipe et al. 2017): as RUP by its hints, or as RAT on its first literal,
+    /// the pivot, with groups for the clauses that hold the negation of it. An accepted line is held from then on under its
+    /// number; a refused one changes nothing, and the code is that of its first check that fails. `Err` comes only where memory
+    /// runs out, and then nothing changes.
     pub fn add(&mut self, line: &ProofLine) -> Result<LineVerdict, OutOfMemory>
         ensures verdict { IfOk result (λ verdict. verdict ≡ verdict_of self.old line.now) }
         ensures accepted { IfOk result (λ verdict. is_accepted verdict ≡ true → self.new ≡ with_line self.old line.now) }
@@ -95,6 +128,7 @@ impl Checker {
     {
         let verdict = self.verdict(line)?;
         if verdict.is_accepted() {
+            self.clean()?;
             self.hold(line)?;
         }
         Ok(verdict)
@@ -112,9 +146,9 @@ impl Checker {
         fresh
     }
 
-    /// Takes an addition as a line of a spent log: if it follows from what is held, and its clause has a literal and is a
-    /// superset of no held clause. Then it is held from then on under its number, and otherwise nothing changes. `Err` comes
-    /// only where memory runs out, and then nothing changes.
+    /// Takes an addition as a line of a spent log: if it follows from what is held (as RUP by its hints), and its clause has a
+    /// literal and is a superset of no held clause (none subsumes it). Then it is held from then on under its number, and
+    /// otherwise nothing changes. `Err` comes only where memory runs out, and then nothing changes.
     pub fn learn(&mut self, line: &ProofLine) -> Result<bool, OutOfMemory>
         ensures learned { IfOk result (λ learned. learned ≡ (is_implied (verdict_of self.old line.now) && is_fresh_for self.old line.now.lits)) }
         ensures held { result ≡ Ok true → self.new ≡ with_line self.old line.now }
@@ -126,8 +160,22 @@ impl Checker {
         {
             return Ok(false);
         }
+        self.clean()?;
         self.hold(line)?;
         Ok(true)
+    }
+
+    /// The room that the clauses of these numbers take in the table, but for those of the formula, which stay there.
+    fn room_at(&self, ids: &[u64]) -> usize {
+        let mut room: usize = 0;
+        for id in ids {
+            if *id > self.originals as u64 {
+                if let Some(clause) = self.table.clause(*id) {
+                    room = room.saturating_add(room_of(clause));
+                }
+            }
+        }
+        room
     }
 
     /// Lets the clauses of these numbers go, if each is held and they differ. Otherwise the deletion is refused and nothing
@@ -137,7 +185,10 @@ impl Checker {
         ensures accepted { is_accepted result ≡ true → self.new ≡ without self.old deletion.now }
         ensures refused { is_accepted result ≡ false → self.new ≡ self.old }
     {
+        let room = self.room_at(&deletion.ids);
         if self.table.remove(&deletion.ids) {
+            self.kept = self.kept.saturating_sub(room);
+            self.gone = self.gone.saturating_add(room);
             LineVerdict::Accepted { implied: false }
         } else {
             LineVerdict::Refused {

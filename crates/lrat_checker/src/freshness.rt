@@ -1,4 +1,4 @@
-//! Whether a clause says more than any held one.
+//! Whether a clause says more than any held one, so that none subsumes it.
 
 ghost use Rattle.std.specs.Prelude.{◌≡◌, ◌||◌, not, [], IfOk, OnOk};
 ghost use Rattle.std.specs.List.{list_any};

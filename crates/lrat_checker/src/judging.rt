@@ -46,11 +46,16 @@ fn assume(marks: &mut Marks, lits: &[Lit]) -> Result<bool, OutOfMemory>
 }
 
 /// The verdict on a line of which every literal is assumed false.
-fn led(table: &ClauseTable, marks: &mut Marks, line: &ProofLine) -> Result<LineVerdict, OutOfMemory>
-    requires same { marks.old.vars ≡ table.now.vars }
-    requires about { IsClause table.now.vars line.now.lits }
+fn led(
+    table: &mut ClauseTable,
+    marks: &mut Marks,
+    line: &ProofLine,
+) -> Result<LineVerdict, OutOfMemory>
+    requires same { marks.old.vars ≡ table.old.vars }
+    requires about { IsClause table.old.vars line.now.lits }
     requires assumed { marks.old.falses ≡ line.now.lits }
-    ensures verdict { IfOk result (λ verdict. verdict ≡ led_verdict table.now.held line.now) }
+    ensures verdict { IfOk result (λ verdict. verdict ≡ led_verdict table.old.held line.now) }
+    ensures table { table.new ≡ table.old }
     ensures vars { marks.new.vars ≡ marks.old.vars }
 {
     match lead(table, marks, &line.hints, 0)? {
@@ -71,15 +76,16 @@ fn led(table: &ClauseTable, marks: &mut Marks, line: &ProofLine) -> Result<LineV
 
 /// The verdict on a line whose number is greater than all before. It may leave marks.
 pub(crate) fn judge(
-    table: &ClauseTable,
+    table: &mut ClauseTable,
     marks: &mut Marks,
     line: &ProofLine,
 ) -> Result<LineVerdict, OutOfMemory>
-    requires same { marks.old.vars ≡ table.now.vars }
+    requires same { marks.old.vars ≡ table.old.vars }
     requires empty { marks.old.falses ≡ [] }
-    ensures verdict { IfOk result (λ verdict. verdict ≡ (if list_any (λ l. is_foreign table.now.vars l) line.now.lits then LineVerdict.Refused LineCode.VariableRange 0
+    ensures verdict { IfOk result (λ verdict. verdict ≡ (if list_any (λ l. is_foreign table.old.vars l) line.now.lits then LineVerdict.Refused LineCode.VariableRange 0
         else if has_variable_twice line.now.lits then LineVerdict.Refused LineCode.VariableTwice 0
-        else led_verdict table.now.held line.now)) }
+        else led_verdict table.old.held line.now)) }
+    ensures table { table.new ≡ table.old }
     ensures vars { marks.new.vars ≡ marks.old.vars }
 {
     if !in_range(&line.lits, table.vars()) {

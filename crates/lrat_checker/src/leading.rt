@@ -1,4 +1,4 @@
-//! Hints in a row: what a clause gives, and where hints lead.
+//! Hints in a row: what a clause gives, and where hints lead (RUP: unit propagation along the hints).
 
 ghost use Rattle.std.specs.Prelude.{◌≡◌, ℕ, ◌+◌, ◌<◌, ◌≤◌, ◌∷◌, List, length, drop, IfOk, negsuc};
 ghost use Rattle.cnf_formula.specs.Literals.{LitValue};

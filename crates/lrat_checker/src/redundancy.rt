@@ -1,4 +1,4 @@
-//! Lines whose hints lead to no conflict, and the groups by which they leave satisfiable what is held.
+//! Lines whose hints lead to no conflict, and the groups by which they leave satisfiable what is held (RAT).
 
 ghost use Rattle.std.specs.Prelude.{◌≡◌, ◌==◌, ◌||◌, ℕ, ◌+◌, ◌<◌, true, false, List, [], ◌∷◌, Option, Some, None, Ok, length, drop, pos, negsuc, IfOk, if◌then◌else◌};
 ghost use Rattle.std.specs.List.{list_any};
@@ -124,13 +124,14 @@ fn groups_fault(
 
 /// The verdict on a line whose leading hints ended without a conflict, where the marked literals are false.
 pub(crate) fn redundancy(
-    table: &ClauseTable,
+    table: &mut ClauseTable,
     marks: &mut Marks,
     line: &ProofLine,
 ) -> Result<LineVerdict, OutOfMemory>
-    requires same { marks.old.vars ≡ table.now.vars }
-    requires about { IsClause table.now.vars line.now.lits }
-    ensures verdict { IfOk result (λ verdict. verdict ≡ redundant_verdict table.now.held marks.old.falses (groups_of line.now.hints) line.now.lits) }
+    requires same { marks.old.vars ≡ table.old.vars }
+    requires about { IsClause table.old.vars line.now.lits }
+    ensures verdict { IfOk result (λ verdict. verdict ≡ redundant_verdict table.old.held marks.old.falses (groups_of line.now.hints) line.now.lits) }
+    ensures table { table.new ≡ table.old }
     ensures marks { marks.new ≡ marks.old }
 {
     let first = next_group(&line.hints, 0);

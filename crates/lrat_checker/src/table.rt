@@ -1,6 +1,6 @@
-//! Clauses by number.
+//! Clauses by number, with lists of those in which a literal stands (occurrence lists), and of those that it leads.
 
-ghost use Rattle.std.specs.Prelude.{◌≡◌, ◌≢◌, ◌==◌, ℕ, ◌+◌, ◌<◌, ◌||◌, ◌&&◌, not, [], ◌∷◌, ◌++◌, Bool, false, List, length, map, filter, All, Contains, IfOk, IfSome, IsTrue, OnOk, OnErr, MatchOption, slice_index, true};
+ghost use Rattle.std.specs.Prelude.{◌≡◌, ◌≢◌, ◌==◌, ℕ, ◌+◌, ◌<◌, ◌||◌, ◌&&◌, not, [], ◌∷◌, ◌++◌, Bool, false, List, length, map, filter, All, Contains, IfOk, IfSome, IsTrue, OnOk, OnErr, MatchOption, slice_index, slice_set, true, if◌then◌else◌, ◌≤◌};
 ghost use Rattle.std.specs.List.{list_any, list_all, enumerate_from};
 ghost use Rattle.std.specs.Option.{option_copied};
 ghost use Rattle.cnf_formula.specs.Literals.{LitValue, code_of, has_literal, is_superset};
@@ -8,7 +8,7 @@ ghost use Rattle.cnf_formula.specs.Formulas.{IsAbout, IsClause};
 ghost use Rattle.proof_rules.specs.Held.{Entry, clause_at};
 ghost use Rattle.proof_rules.specs.Judging.{are_held, has_number_twice};
 ghost use Rattle.proof_rules.specs.Accepting.{Group, is_made_true, without_negated};
-ghost use Rattle.lrat_checker.specs.Stored.{TableValue, Rises, list_at, is_live, kept_live, covers, IsLead};
+ghost use Rattle.lrat_checker.specs.Stored.{TableValue, HasForgotten, Rises, list_at, is_live, kept_live, covers, answers, IsLead};
 ghost use Rattle.lrat_checker.specs.Steps.{Names};
 
 use crate::marks::Marks;
@@ -18,8 +18,9 @@ use std::alloc::Global;
 use std::collections::BTreeSet;
 use std::marker::Model;
 
-/// Clauses by ascending numbers, and whether each is held; one that is no longer held stays in its place. For each literal
-/// there are the places of the clauses in which it stands, and of those that it leads: one literal of a clause leads it.
+/// Clauses by ascending numbers, and whether each is held; one that is no longer held stays in its place until it is
+/// forgotten. For each literal there are the places of the held clauses in which it stands, and of those that it leads: one
+/// literal of a clause leads it. Places of clauses that are no longer held stay in a list until it is walked.
 #[derive(Drop)]
 pub(crate) struct ClauseTable {
     vars: u32,
@@ -140,6 +141,45 @@ fn note_literals(lists: &mut Vec<Vec<usize>>, lits: &[Lit], place: usize) -> Res
     Ok(())
 }
 
+/// Whether the clause at a place is held.
+fn is_held(live: &[bool], place: usize) -> bool
+    ensures { result ≡ Rattle.lrat_checker.specs.Stored.is_held live.now place }
+{
+    place < live.len() && live[place]
+}
+
+/// Drops the places whose clauses are no longer held from a list.
+fn drop_gone(lists: &mut Vec<Vec<usize>>, code: usize, live: &[bool])
+    requires { code < length lists.old.items }
+    ensures { map (λ l. l.items) lists.new.items ≡ slice_set (map (λ l. l.items) lists.old.items) code (filter (Rattle.lrat_checker.specs.Stored.is_held live.now) (list_at (map (λ l. l.items) lists.old.items) code)) }
+{
+    let list = &mut lists[code];
+    list.retain(|place| is_held(live, *place));
+}
+
+/// Whether each clause at these places has a group or is true without one.
+fn are_answered(
+    ids: &[u64],
+    clauses: &[SmallVec<Lit, 4>],
+    list: &[usize],
+    pivot: Lit,
+    marks: &Marks,
+    named: &BTreeSet<u64>,
+) -> bool
+    requires many { length clauses.now ≡ length ids.now }
+    requires within { All (λ k. k < length ids.now) list.now }
+    requires about { All (IsClause marks.now.vars) (map (λ c. c.items) clauses.now) }
+    ensures { (groups : List Group) → Names named.now groups → result ≡ list_all (answers ids.now (map (λ c. c.items) clauses.now) pivot marks.now.falses groups) list.now }
+{
+    for place in list {
+        let clause = clauses[*place].as_slice();
+        if !is_answered(ids[*place], clause, pivot, marks, named) {
+            return false;
+        }
+    }
+    true
+}
+
 /// The list that a clause is put into: the shortest of its literals' lists, or the first list where it has no literal.
 fn lead_of(leads: &[Vec<usize>], lits: &[Lit]) -> usize
     requires { All (λ l. code_of l < length leads.now) lits.now }
@@ -228,7 +268,7 @@ impl ClauseTable {
     {
         let mut table = ClauseTable::empty(alloc, formula.vars())?;
         for (place, clause) in formula.clauses().iter().enumerate() {
-            table.push(place as u64 + 1, clause.lits())?;
+            table.push(place as u64 + 1, clause.lits(), true)?;
         }
         Ok(table)
     }
@@ -253,12 +293,12 @@ impl ClauseTable {
         }
     }
 
-    /// Puts a clause in under a number greater than all before. An `Err` comes only where memory runs out, and then
-    /// nothing changes.
-    pub(crate) fn push(&mut self, id: u64, lits: &[Lit]) -> Result<(), OutOfMemory>
+    /// Puts a clause in under a number greater than all before, and says whether it is held. An `Err` comes only where
+    /// memory runs out, and then nothing changes.
+    pub(crate) fn push(&mut self, id: u64, lits: &[Lit], held: bool) -> Result<(), OutOfMemory>
         requires above { self.old.last < id }
         requires about { IsClause self.old.vars lits.now }
-        ensures added { OnOk result (self.new ≡ record { vars = self.old.vars; clauses = self.old.clauses ++ lits.now ∷ []; held = self.old.held ++ (id, lits.now) ∷ []; last = id }) }
+        ensures added { OnOk result (self.new ≡ record { vars = self.old.vars; clauses = self.old.clauses ++ lits.now ∷ []; held = self.old.held ++ (if held then (id, lits.now) ∷ [] else []); last = id }) }
         ensures kept { OnErr result (self.new ≡ self.old) }
     {
         let clause = SmallVec::from_slice(*self.ids.allocator(), lits)?;
@@ -270,8 +310,26 @@ impl ClauseTable {
         let lead = lead_of(&self.leads, lits);
         note(&mut self.leads, lead, place)?;
         self.ids.push_reserved(id);
-        self.live.push_reserved(true);
+        self.live.push_reserved(held);
         self.clauses.push_reserved(clause);
+        Ok(())
+    }
+
+    /// Forgets the clauses that are no longer held, but for the first so many. An `Err` comes only where memory runs out,
+    /// and then nothing changes.
+    pub(crate) fn forget(&mut self, first: usize) -> Result<(), OutOfMemory>
+        requires { first ≤ length self.old.clauses }
+        ensures fewer { OnOk result (HasForgotten first self.old self.new) }
+        ensures kept { OnErr result (self.new ≡ self.old) }
+    {
+        let mut table = ClauseTable::empty(*self.ids.allocator(), self.vars)?;
+        for place in 0..self.ids.len() {
+            let held = self.live[place];
+            if held || place < first {
+                table.push(self.ids[place], self.clauses[place].as_slice(), held)?;
+            }
+        }
+        *self = table;
         Ok(())
     }
 
@@ -286,22 +344,24 @@ impl ClauseTable {
     }
 
     /// Whether each held clause with the negation of the pivot has a group or is true without one. It looks at no clause
-    /// but those in the list of that literal.
-    pub(crate) fn all_answered(&self, pivot: Lit, marks: &Marks, named: &BTreeSet<u64>) -> bool
-        requires pivot { IsAbout self.now.vars pivot }
-        requires same { marks.now.vars ≡ self.now.vars }
-        ensures { (groups : List Group) → Names named.now groups → result ≡ list_all (Rattle.proof_rules.specs.Accepting.is_answered pivot marks.now.falses groups) self.now.held }
+    /// but those in the list of that literal, and first drops from it those that are no longer held, so that each of them
+    /// costs once.
+    pub(crate) fn all_answered(&mut self, pivot: Lit, marks: &Marks, named: &BTreeSet<u64>) -> bool
+        requires pivot { IsAbout self.old.vars pivot }
+        requires same { marks.now.vars ≡ self.old.vars }
+        ensures answer { (groups : List Group) → Names named.now groups → result ≡ list_all (Rattle.proof_rules.specs.Accepting.is_answered pivot marks.now.falses groups) self.old.held }
+        ensures table { self.new ≡ self.old }
     {
-        for place in &self.lists[pivot.negated().code()] {
-            let place = *place;
-            if place < self.ids.len() && self.live[place] {
-                let clause = self.clauses[place].as_slice();
-                if !is_answered(self.ids[place], clause, pivot, marks, named) {
-                    return false;
-                }
-            }
-        }
-        true
+        let code = pivot.negated().code();
+        drop_gone(&mut self.lists, code, &self.live);
+        are_answered(
+            &self.ids,
+            &self.clauses,
+            &self.lists[code],
+            pivot,
+            marks,
+            named,
+        )
     }
 
     /// Whether every literal of some held clause is marked, where just these literals are. It looks at no clause but those

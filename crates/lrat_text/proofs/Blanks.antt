@@ -3,7 +3,7 @@ use Rattle.std.proofs.Common.{◌≡◌, ℕ, ◌+◌, ◌-◌, ◌<◌, ◌≤�
 use Rattle.std.specs.Prelude.{◌==◌, ◌||◌, nat_lt, filter}
 use Rattle.std.specs.List.{All}
 use Rattle.std.proofs.lemmas.Bool.{lt-ltb}
-use Rattle.std.proofs.lemmas.List.{append-nil, drop_more, length-drop, length-take, get_or-take, get_or-drop, take_rest}
+use Rattle.std.proofs.lemmas.List.{append-nil, length-drop, length-take, get_or-take, get_or-drop, take_rest}
 use Rattle.std.proofs.lemmas.List.Folds.{drop_split}
 use Rattle.std.proofs.lemmas.List.Elements.{All-from_get_or}
 use Rattle.std.proofs.lemmas.List.Splits.{slice_split_at, slice_split_none, slice_split-cons_yes}
@@ -22,12 +22,6 @@ blank_first : (place b : ℕ) (bytes : List ℕ) → is_blank b ≡ true → tok
 blank_first place b bytes e =
     let at : place + 0 + 1 ≡ place + 1 = omega arith in
     ap (λ pieces. filled (placed_from place pieces)) (slice_split-cons_yes is_blank b bytes e) ∙ ap (λ p. tokens_from p bytes) at
-
--- one more blank at the front
-pub blank_more : (bytes : List ℕ) (i place : ℕ) → i < length bytes → is_blank (get_or bytes i 0) ≡ true → tokens_from place bytes ≡ tokens_from (place + i) (drop i bytes) → tokens_from place bytes ≡ tokens_from (place + (i + 1)) (drop (i + 1) bytes)
-blank_more bytes i place low e before =
-    let at : place + i + 1 ≡ place + (i + 1) = omega arith in
-    before ∙ ap (tokens_from (place + i)) (drop_more bytes i 0 low) ∙ blank_first (place + i) (get_or bytes i 0) (drop (i + 1) bytes) e ∙ ap (λ p. tokens_from p (drop (i + 1) bytes)) at
 
 abbrev AreApart : List ℕ → Type 0
 AreApart word = All (λ b. is_blank b ≡ false) word

@@ -1,4 +1,4 @@
--- No text is at fault for want of memory.
+-- No text is at fault for out of memory.
 use Rattle.std.proofs.Common.{◌≡◌, ◌≢◌, ℕ, ◌+◌, Bool, true, false, cond, List, [], ◌∷◌, length, Option, None, Some, Result, Ok, Err, ap}
 use Rattle.std.specs.Prelude.{◌==◌, ◌||◌, not, nat_lt, codes, slice_index}
 use Rattle.std.specs.Str.Parse.{digits_value}

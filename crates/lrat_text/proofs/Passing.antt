@@ -1,14 +1,12 @@
 -- Lines that are passed over, one after the other.
-use Rattle.std.proofs.Common.{◌≡◌, ℕ, ◌+◌, ◌-◌, ◌^◌, ◌<◌, ◌≤◌, Bool, true, false, List, length, get_or, drop, slice_range, Option, Some, None, Result, Ok, Err, refl, sym, ap, ◌∙◌, ⊎_elim, arith}
+use Rattle.std.proofs.Common.{◌≡◌, ℕ, ◌+◌, ◌-◌, ◌^◌, ◌<◌, ◌≤◌, Bool, true, false, List, length, get_or, drop, slice_range, refl, sym, ap, ◌∙◌, ⊎_elim, arith}
 use Rattle.std.proofs.lemmas.Bool.{cases_lt}
 use Rattle.std.proofs.lemmas.List.{drop-drop, drop_all, get_or-drop, length-take, length-drop}
-use Rattle.text_lines.specs.Text.{Row, rows_of}
+use Rattle.text_lines.specs.Text.{rows_of}
 use Rattle.text_lines.proofs.Rows.{rows_step, rows_end_at}
-use Rattle.cnf_formula.specs.declared.line.LratLine.{LratLine}
-use Rattle.lrat_text.specs.declared.fault.LratTextFault.{LratTextFault}
 use Rattle.lrat_text.specs.declared.holding.HeldLine.{HeldLine}
-use Rattle.lrat_text.specs.Reading.{row_says, size_of, Said, nothing_said, said_at, said_by}
-use Rattle.lrat_text.specs.Holding.{IsClear, row_at, IsFirstFrom, IsHolding}
+use Rattle.lrat_text.specs.Reading.{Said, nothing_said, said_by}
+use Rattle.lrat_text.specs.Holding.{IsClear, IsFirstFrom, IsHolding}
 
 -- ---- the first line
 
@@ -64,47 +62,6 @@ behind_bytes taken said = record { answer = said.answer; taken = taken + said.ta
 -- the lines in front say nothing, so that what the text says is said behind them
 pub record IsPassed (finished : Bool) (place : ℕ) (bytes : List ℕ) (taken : ℕ) : Type 0 where
   pub same : said_by finished place (rows_of bytes) ≡ behind_bytes taken (said_by finished (place + taken) (rows_of (drop taken bytes)))
-
-pub passed_none : (finished : Bool) (place : ℕ) (bytes : List ℕ) → IsPassed finished place bytes 0
-passed_none finished place bytes =
-    let here : place ≡ place + 0 = omega arith in
-    let zero : (said : Said) → said ≡ behind_bytes 0 said = λ said. let e : said.taken ≡ 0 + said.taken = omega arith in ap (λ n. record { answer = said.answer; taken = n }) e in
-    record { same = zero (said_by finished place (rows_of bytes)) ∙ ap (λ p. behind_bytes 0 (said_by finished p (rows_of bytes))) here }
-
-module _ (finished : Bool) (place : ℕ) (bytes : List ℕ) (taken : ℕ) (line : HeldLine) (p : IsPassed finished place bytes taken) (f : IsFirstFrom bytes finished taken line) where
-  abbrev row : Row
-  row = row_at bytes taken line
-
-  here : said_by finished (place + taken) (rows_of (drop taken bytes)) ≡ said_at (row_says (place + taken) row) (size_of row) (said_by finished (place + taken + size_of row) (rows_of (drop line.behind bytes)))
-  here = ap (said_by finished (place + taken)) f.rows ∙ rw f.ended refl
-
-  says : (r : Option (Result LratLine LratTextFault)) → row_says (place + taken) row ≡ r → said_by finished place (rows_of bytes) ≡ behind_bytes taken (said_at r (size_of row) (said_by finished (place + taken + size_of row) (rows_of (drop line.behind bytes))))
-  says r e = p.same ∙ ap (behind_bytes taken) (here ∙ ap (λ x. said_at x (size_of row) (said_by finished (place + taken + size_of row) (rows_of (drop line.behind bytes)))) e)
-
-  pub passed_more : row_says (place + taken) row ≡ None → IsPassed finished place bytes line.behind
-  passed_more e =
-      let at : place + taken + size_of row ≡ place + line.behind = omega (arith, f.size) in
-      let sum : (n : ℕ) → taken + (size_of row + n) ≡ line.behind + n = λ n. omega (arith, f.size) in
-      let later = λ (q : ℕ). said_by finished q (rows_of (drop line.behind bytes)) in
-      record {
-        same = says None e ∙ ap (λ q. behind_bytes taken (said_at None (size_of row) (later q))) at
-            ∙ ap (λ n. record { answer = (later (place + line.behind)).answer; taken = n }) (sum (later (place + line.behind)).taken);
-      }
-
-  pub said_line : (l : LratLine) → row_says (place + taken) row ≡ Some (Ok l) → said_by finished place (rows_of bytes) ≡ record { answer = Ok (Some l); taken = line.behind }
-  said_line l e =
-      let size : taken + size_of row ≡ line.behind = omega (arith, f.size) in
-      says (Some (Ok l)) e ∙ ap (λ n. record { answer = Ok (Some l); taken = n }) size
-
-  pub said_fault : (fault : LratTextFault) → row_says (place + taken) row ≡ Some (Err fault) → said_by finished place (rows_of bytes) ≡ record { answer = Err fault; taken = taken }
-  said_fault fault e =
-      let none : taken + 0 ≡ taken = omega arith in
-      says (Some (Err fault)) e ∙ ap (λ n. record { answer = Err fault; taken = n }) none
-
-pub said_nothing : (finished : Bool) (place : ℕ) (bytes : List ℕ) (taken : ℕ) → IsPassed finished place bytes taken → said_by finished (place + taken) (rows_of (drop taken bytes)) ≡ nothing_said → said_by finished place (rows_of bytes) ≡ record { answer = Ok None; taken = taken }
-said_nothing finished place bytes taken p none =
-    let zero : taken + 0 ≡ taken = omega arith in
-    p.same ∙ ap (behind_bytes taken) none ∙ ap (λ n. record { answer = Ok None; taken = n }) zero
 
 -- ---- a reader behind what was taken
 

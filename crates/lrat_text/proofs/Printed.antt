@@ -1,6 +1,6 @@
 -- The text of a line is read as that line.
 use Rattle.std.proofs.Common.{◌≡◌, ℕ, zero, suc, ◌+◌, ◌-◌, ◌^◌, ◌<◌, Bool, true, false, List, [], ◌∷◌, ◌++◌, length, get_or, map, Some, Result, Ok, refl, sym, ap, ◌∙◌, subst, arith, lit<, length-append, append_assoc, append-nil}
-use Rattle.std.specs.Prelude.{◌||◌, ◌==◌, nat_lt, filter, All, ℤ, decimal, codes}
+use Rattle.std.specs.Prelude.{◌==◌, nat_lt, filter, All, ℤ, decimal, codes}
 use Rattle.std.specs.List.{list_all, slice_split, join_with_byte}
 use Rattle.std.proofs.lemmas.Bool.{and_parts, and_from, or_from, ne_eqb, lt-ltb, ltb-true}
 use Rattle.std.proofs.lemmas.List.Elements.{All-head, All-tail}
@@ -16,7 +16,8 @@ use Rattle.lrat_text.specs.declared.fault.LratTextFault.TheVariants.{BadToken}
 use Rattle.lrat_text.specs.Printing.{literal_word, hint_word, closed, line_words, IsId, IsHint, IsReadable}
 use Rattle.lrat_text.specs.Tokens.{Token, placed_from, tokens_from, content, id_of, literal_of, hint_of}
 use Rattle.lrat_text.specs.Reading.{up_to_zero, no_more, addition_of, deletion_of, behind_id, line_of, row_says, size_of, Said, said_at, said_by}
-use Rattle.lrat_text.proofs.Spelled.{IsWord, ReadsAs, id_reads, literal_reads, hint_reads, token, no_comment}
+use Rattle.lrat_text.proofs.Spelled.{IsWord, ReadsAs, id_reads, literal_reads, hint_reads, no_comment}
+use Rattle.lrat_text.proofs.Blanks.{is_blank, token}
 
 abbrev pub whole : List ℕ → Row
 whole bytes = record { bytes = bytes; whole = true }
@@ -66,9 +67,6 @@ all_content bytes h =
     rw last refl
 
 -- ---- its tokens
-
-abbrev is_blank : ℕ → Bool
-is_blank b = b == 32 || b == 9
 
 not_blank : (b : ℕ) → nat_lt 32 b ≡ true → is_blank b ≡ false
 not_blank b h =

@@ -12,9 +12,7 @@ use Rattle.cnf_formula.specs.Literals.{LitValue, IsLit}
 use Rattle.lrat_text.specs.declared.fault.LratTextFault.{LratTextFault}
 use Rattle.lrat_text.specs.Printing.{literal_word, hint_word, IsId, IsHint}
 use Rattle.lrat_text.specs.Tokens.{Token, is_word, is_number, number_from, has_minus, after_minus, id_of, literal_of, hint_of}
-
-abbrev pub token : ℕ → List ℕ → Token
-token place bytes = record { place = place; bytes = bytes }
+use Rattle.lrat_text.proofs.Blanks.{token}
 
 -- a word of bytes above the space
 pub record IsWord (word : List ℕ) : Type 0 where

@@ -1,21 +1,12 @@
 -- Words with a space behind each, and lines of them.
-use Rattle.std.proofs.Common.{◌≡◌, ℕ, ◌+◌, ◌<◌, List, [], ◌∷◌, ◌++◌, map, length, take, get_or, refl, sym, ap, ◌∙◌, append_assoc, append-nil}
-use Rattle.std.specs.Prelude.{codes}
+use Rattle.std.proofs.Common.{◌≡◌, ℕ, List, [], ◌∷◌, ◌++◌, refl, sym, ap, ◌∙◌, append_assoc, append-nil}
 use Rattle.std.specs.List.{join_with_byte}
-use Rattle.std.proofs.lemmas.List.{take_more, map-append}
-use Rattle.text_lines.specs.Text.{line, text_of}
+use Rattle.text_lines.specs.Text.{line}
 use Rattle.lrat_text.specs.Printing.{trailed, closed}
 
 pub trailed-append : (xs ys : List (List ℕ)) → trailed (xs ++ ys) ≡ trailed xs ++ trailed ys
 trailed-append [] ys = refl
 trailed-append (x ∷ xs) ys = ap (λ z. x ++ 32 ∷ [] ++ z) (trailed-append xs ys) ∙ sym (append_assoc (x ++ 32 ∷ []) (trailed xs) (trailed ys))
-
--- one word more
-pub trailed_more : {X : Type 0} (word : X → List ℕ) (xs : List X) (j : ℕ) (x : X) (out : List ℕ) → j < length xs → x ≡ get_or xs j x
-    → out ++ trailed (map word (take j xs)) ++ trailed (word x ∷ []) ≡ out ++ trailed (map word (take (j + 1) xs))
-trailed_more word xs j x out w e =
-    append_assoc out (trailed (map word (take j xs))) (trailed (word x ∷ []))
-    ∙ ap (λ z. out ++ z) (sym (trailed-append (map word (take j xs)) (word x ∷ [])) ∙ ap trailed (sym (map-append word (take j xs) (x ∷ []))) ∙ ap (λ y. trailed (map word (take j xs ++ y ∷ []))) e ∙ ap (λ ys. trailed (map word ys)) (sym (take_more xs j x w)))
 
 -- the words of a line, the last without a space
 pub joined : (words : List (List ℕ)) (last : List ℕ) → join_with_byte 32 (words ++ last ∷ []) ≡ trailed words ++ last
@@ -45,19 +36,3 @@ deletion_text out id ids =
 
 pub clause_text : (out : List ℕ) (words : List (List ℕ)) → out ++ trailed words ++ 48 ∷ 10 ∷ [] ≡ out ++ line (closed words)
 clause_text out words = append_assoc out (trailed words) (48 ∷ 10 ∷ []) ∙ ap (λ z. out ++ z) (sym (line_closed words))
-
--- ---- a formula
-
-text-append : (a b : List (List (List ℕ))) → text_of (a ++ b) ≡ text_of a ++ text_of b
-text-append [] b = refl
-text-append (l ∷ a) b = ap (λ z. line l ++ z) (text-append a b) ∙ sym (append_assoc (line l) (text_of a) (text_of b))
-
-pub text_more : {X : Type 0} (words : X → List (List ℕ)) (xs : List X) (j : ℕ) (x : X) (out : List ℕ) → j < length xs → x ≡ get_or xs j x
-    → out ++ text_of (map words (take j xs)) ++ line (words x) ≡ out ++ text_of (map words (take (j + 1) xs))
-text_more words xs j x out w e =
-    append_assoc out (text_of (map words (take j xs))) (line (words x))
-    ∙ ap (λ z. out ++ z) (ap (λ z. text_of (map words (take j xs)) ++ z) (sym (append-nil (line (words x)))) ∙ sym (text-append (map words (take j xs)) (words x ∷ []))
-    ∙ ap text_of (sym (map-append words (take j xs) (x ∷ []))) ∙ ap (λ y. text_of (map words (take j xs ++ y ∷ []))) e ∙ ap (λ ys. text_of (map words ys)) (sym (take_more xs j x w)))
-
-pub header_text : (v m : List ℕ) (rest : List ℕ) → [] ++ codes "p cnf " ++ v ++ 32 ∷ [] ++ m ++ 10 ∷ [] ++ rest ≡ line (codes "p" ∷ codes "cnf" ∷ v ∷ m ∷ []) ++ rest
-header_text v m rest = simp append_assoc

@@ -32,7 +32,7 @@ pub fn none_is_said_where_none_is_left()
     ensures none_left { (r : ReaderValue) → r.finished ≡ true → (said_to r).answer ≡ Ok None → (after_next r).rest ≡ [] }
 {}
 
-/// A fault is kept, and said again and again, whatever comes. Want of memory is never said.
+/// A fault is kept, and said again and again, whatever comes. Out of memory is never said.
 #[tactic(auto, using(crate::proofs::Remaining::kept_fault, crate::proofs::Cutting::said_fault, crate::proofs::Memory::said_told))]
 pub fn faults_stay()
     ensures kept { (r : ReaderValue) (fault : LratTextFault) → (said_to r).answer ≡ Err fault → (after_next r).fault ≡ Some fault }

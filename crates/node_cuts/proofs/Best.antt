@@ -6,6 +6,7 @@ use Rattle.std.proofs.Math.Nat.{mul_right_comm, mul-le-mul_right, mul-lt-mul_of_
 use Rattle.std.proofs.lemmas.List.{append-nil}
 use Rattle.std.proofs.lemmas.Bool.{cases_Bool, cases_eq, ltb-true, ltb-false, lt-ltb, le-ltb, eq-eqb, ne_eqb, not_from_true, not_from_false}
 use Rattle.std.specs.Option.{unwrap_or}
+use Rattle.schedule.proofs.First.{each_append, each_passes}
 use Rattle.node_cuts.specs.declared.floor.Floor.{Floor}
 use Rattle.node_cuts.specs.Floors.{has_need, exceeds, is_greatest, nothing_over_1, first_greatest, greater_of}
 
@@ -51,10 +52,6 @@ pub record IsFirst (fs : List Floor) (b : Floor) : Type 0 where
 abbrev pub IsBest : List Floor → Option Floor → Type 0
 IsBest fs None = fs ≡ []
 IsBest fs (Some b) = IsFirst fs b
-
-each_append : {X : Type 0} (P : X → Type 0) (xs ys : List X) → AllByRecursion P xs → AllByRecursion P ys → AllByRecursion P (xs ++ ys)
-each_append P [] ys first second = second
-each_append P (x ∷ xs) ys first second = (first.0, each_append P xs ys first.1 second)
 
 each_weaker : {X : Type 0} (P Q R : X → Type 0) → ((x : X) → P x → Q x → R x) → (xs : List X) → AllByRecursion P xs → AllByRecursion Q xs → AllByRecursion R xs
 each_weaker P Q R weaker [] first second = tt
@@ -128,14 +125,6 @@ stays : (best : Option Floor) (f : Floor) → (f.above == 0) ≡ true → greate
 stays None f none = ap (λ b. cond {A = Option Floor} b None (Some f)) none
 stays (Some b) f none = ap (λ v. cond {A = Option Floor} v (Some b) (cond (exceeds f b) (Some f) (Some b))) none
 
-each_filter : {X : Type 0} (p : X → Bool) (xs : List X) → AllByRecursion (λ x. p x ≡ true) (filter p xs)
-each_filter p [] = tt
-each_filter p (x ∷ xs) =
-    ⊎_elim
-    (λ (kept : p x ≡ true). rw kept (kept, each_filter p xs))
-    (λ (left : p x ≡ false). rw left (each_filter p xs))
-    (cases_Bool (p x))
-
 kept_push : {X : Type 0} (p : Floor → Bool) (g : X → Floor) (xs : List X) (x : X) → filter p (map g (xs ++ x ∷ [])) ≡ filter p (map g xs) ++ cond (p (g x)) (g x ∷ []) []
 kept_push p g [] x = refl
 kept_push p g (y ∷ ys) x =
@@ -154,7 +143,7 @@ best_more g xs x best is =
     ⊎_elim
     (λ (some : has_need f ≡ true).
     let now : filter has_need (map g (xs ++ x ∷ [])) ≡ fs ++ f ∷ [] = pushed ∙ ap (λ b. fs ++ cond b (f ∷ []) []) some in
-    subst (λ ys. IsBest ys (greater_of best f)) (sym now) (step fs best f (each_filter has_need (map g xs)) some is))
+    subst (λ ys. IsBest ys (greater_of best f)) (sym now) (step fs best f (each_passes has_need (map g xs)) some is))
     (λ (none : has_need f ≡ false).
     let now : filter has_need (map g (xs ++ x ∷ [])) ≡ fs = pushed ∙ ap (λ b. fs ++ cond b (f ∷ []) []) none ∙ append-nil fs in
     let nothing : (f.above == 0) ≡ true = eq-eqb f.above 0 (omega (arith, ltb-false 0 f.above none)) in

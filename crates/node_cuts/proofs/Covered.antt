@@ -12,9 +12,10 @@ use Rattle.schedule.specs.Sends.{ScheduleValue, link_of}
 use Rattle.schedule.specs.Fitting.{load, rounds_at}
 use Rattle.schedule.specs.Judging.{group_at}
 use Rattle.schedule.proofs.Placing.{pair_is}
+use Rattle.schedule.proofs.First.{any_found, any_among}
 use Rattle.node_cuts.specs.Sides.{NodeSet}
 use Rattle.node_cuts.specs.Cuts.{enters, is_among, opens, taken, cover, width_of}
-use Rattle.node_cuts.proofs.Counting.{any_found, any_among, no_more_than_both, none_counted}
+use Rattle.node_cuts.proofs.Counting.{no_more_than_both, none_counted}
 
 -- an element that passes stands at a place
 place_of : {X : Type 0} (p : X → Bool) (xs : List X) (d : X) → list_any p xs ≡ true → (k : ℕ) × (k < length xs) × (p (get_or xs k d) ≡ true)

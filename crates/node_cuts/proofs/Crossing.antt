@@ -17,12 +17,12 @@ use Rattle.schedule.specs.Running.{after, brings}
 use Rattle.schedule.specs.Fitting.{Fits, load, rounds_at}
 use Rattle.schedule.specs.Judging.{group_at}
 use Rattle.schedule.specs.Solving.{Solves}
-use Rattle.schedule.proofs.First.{Among, among_each}
+use Rattle.schedule.proofs.First.{Among, among_each, any_found, any_among}
 use Rattle.schedule.proofs.Placing.{pair_is}
 use Rattle.node_cuts.specs.declared.side.Side.{Side}
 use Rattle.node_cuts.specs.Sides.{NodeSet, set_of, listed_sides}
 use Rattle.node_cuts.specs.Cuts.{stands_in, is_needed, need, enters, is_among, cover, width, cut_refutes, cut_of, first_cut_of}
-use Rattle.node_cuts.proofs.Counting.{any_found, any_among, no_fewer, no_fewer_of, one_more, no_more_than_both, none_counted}
+use Rattle.node_cuts.proofs.Counting.{no_fewer, no_fewer_of, one_more, no_more_than_both, none_counted}
 use Rattle.node_cuts.proofs.Covered.{covered, carried}
 
 -- what the placement of a test holds passes it
@@ -33,7 +33,7 @@ passes_placed chunks nodes f pair held =
 
 module _ (u : NodeSet) (s : ScheduleValue) where
   -- a send of one of the first steps, over a link into the set
-  abbrev comes_in : ℕ → Hop → Bool
+  abbrev pub comes_in : ℕ → Hop → Bool
   comes_in n h = nat_lt 0 h.step && (nat_le h.step n && enters u (link_of h))
 
   comes_in_later : (n : ℕ) (h : Hop) → comes_in n h ≡ true → comes_in (suc n) h ≡ true
@@ -44,13 +44,13 @@ module _ (u : NodeSet) (s : ScheduleValue) where
       and_from (nat_lt 0 h.step) (nat_le h.step (suc n) && enters u (link_of h)) first.0 (and_from (nat_le h.step (suc n)) (enters u (link_of h)) (le-leb h.step (suc n) low) second.1)
 
   -- some send of the chunk comes in
-  record Enters (n chunk : ℕ) : Type 0 where
-    hop : Hop
-    sent : Among hop s.sends
-    chunk_is : hop.chunk ≡ chunk
-    inside : comes_in n hop ≡ true
+  pub record Enters (n chunk : ℕ) : Type 0 where
+    pub hop : Hop
+    pub sent : Among hop s.sends
+    pub chunk_is : hop.chunk ≡ chunk
+    pub inside : comes_in n hop ≡ true
 
-  later : (n chunk : ℕ) → Enters n chunk → Enters (suc n) chunk
+  pub later : (n chunk : ℕ) → Enters n chunk → Enters (suc n) chunk
   later n chunk e = record { hop = e.hop; sent = e.sent; chunk_is = e.chunk_is; inside = comes_in_later n e.hop e.inside }
 
   -- what stands in the set after so many steps stood in it before all of them, or came in by a send
@@ -155,6 +155,17 @@ module _ (u : NodeSet) (s : ScheduleValue) where
         let product : width u t * sum (take (suc n) s.rounds) ≡ width u t * sum (take n s.rounds) + width u t * rounds_at s step = ap (λ k. width u t * k) (more ∙ ap (λ k. sum (take n s.rounds) + k) (sym rounds_are)) ∙ mul-add (width u t) (sum (take n s.rounds)) (rounds_at s step) in
         omega (arith, split, over, most, product, in_first_steps n (omega (arith, low)))
 
+-- chunks that come in by some send each are no more than what can in all rounds
+pub sends_of_their_own : (u : NodeSet) (t : TopologyValue) (s : ScheduleValue) (rounds chunks : ℕ) (p : ℕ → Bool) → Fits t s → sum s.rounds ≡ rounds → ((chunk : ℕ) → p chunk ≡ true → Enters u s (length s.rounds) chunk)
+    → count_by p (range_with_len 0 chunks) ≤ width u t * rounds
+sends_of_their_own u t s rounds chunks p fits rounds_are enter =
+    let all : ℕ = length s.rounds in
+    let own : count_by p (range_with_len 0 chunks) ≤ count_by (λ h. nat_le 0 h.chunk && comes_in u s all h) s.sends = by_sends_of_their_own u s all p enter 0 chunks in
+    let fewer : count_by (λ h. nat_le 0 h.chunk && comes_in u s all h) s.sends ≤ count_by (comes_in u s all) s.sends = no_fewer (λ h. nat_le 0 h.chunk && comes_in u s all h) (comes_in u s all) (λ h it. (and_parts (nat_le 0 h.chunk) (comes_in u s all h) it).1) s.sends in
+    let most : count_by (comes_in u s all) s.sends ≤ width u t * sum (take all s.rounds) = in_first_steps u s t fits all (omega arith) in
+    let whole : width u t * sum (take all s.rounds) ≡ width u t * rounds = ap (λ k. width u t * k) (ap sum (take_all all s.rounds (omega arith)) ∙ rounds_are) in
+    omega (arith, own, fewer, most, whole)
+
 -- what has to come in is no more than what can in the rounds of a schedule that solves
 pub needed_comes_in : (u : NodeSet) (t : TopologyValue) (pre post : PlacementValue) (s : ScheduleValue) (steps rounds : ℕ) → Solves t pre post s steps rounds → need u pre post ≤ width u t * rounds
 needed_comes_in u t pre post s steps rounds solves =
@@ -170,11 +181,7 @@ needed_comes_in u t pre post s steps rounds solves =
     (λ (stood : stands_in u pre chunk ≡ true). absurd (both_ways (stands_in u pre chunk) (not-true (stands_in u pre chunk) parts.1) stood))
     (λ (e : Enters u s all chunk). e)
     (arrives u s pre all chunk pair.1 both.1 (ap (λ c. holds (after pre s all) (c, pair.1)) (sym chunk_is) ∙ held)) in
-    let own : need u pre post ≤ count_by (λ h. nat_le 0 h.chunk && comes_in u s all h) s.sends = by_sends_of_their_own u s all (is_needed u pre post) enter 0 post.chunks in
-    let fewer : count_by (λ h. nat_le 0 h.chunk && comes_in u s all h) s.sends ≤ count_by (comes_in u s all) s.sends = no_fewer (λ h. nat_le 0 h.chunk && comes_in u s all h) (comes_in u s all) (λ h it. (and_parts (nat_le 0 h.chunk) (comes_in u s all h) it).1) s.sends in
-    let most : count_by (comes_in u s all) s.sends ≤ width u t * sum (take all s.rounds) = in_first_steps u s t solves.fits all (omega arith) in
-    let whole : width u t * sum (take all s.rounds) ≡ width u t * rounds = ap (λ k. width u t * k) (ap sum (take_all all s.rounds (omega arith)) ∙ solves.rounds_are) in
-    omega (arith, own, fewer, most, whole)
+    sends_of_their_own u t s rounds post.chunks (is_needed u pre post) solves.fits solves.rounds_are enter
 
 pub cut_says : (u : NodeSet) (t : TopologyValue) (pre post : PlacementValue) (s : ScheduleValue) (steps rounds : ℕ) → cut_refutes u t pre post rounds ≡ true → Solves t pre post s steps rounds → ⊥
 cut_says u t pre post s steps rounds refutes solves =

@@ -19,6 +19,10 @@ use Rattle.node_cuts.specs.Floors.{least_count, fraction_of, has_need, fractions
 use Rattle.node_cuts.proofs.Crossing.{needed_comes_in}
 use Rattle.node_cuts.proofs.Scaling.{IsScaled, scales}
 
+-- what has to come into each set of nodes can in so many rounds
+abbrev pub IsBroughtIn : TopologyValue → Spec → ℕ → ℕ → Type 0
+IsBroughtIn t spec rounds c = (u : NodeSet) → need u (spec_instance spec t.nodes c).pre (spec_instance spec t.nodes c).post ≤ width u t * rounds
+
 -- what is said of each element, and of nothing over 1, is said of the first that passes
 of_found : (P : Floor → Type 0) (p : Floor → Bool) (fs : List Floor) → AllByRecursion P fs → P nothing_over_1 → P (unwrap_or (find p fs) nothing_over_1)
 of_found P p [] each none = none
@@ -36,28 +40,30 @@ of_some P g each (side ∷ sides) =
     (λ (left : has_need (g side) ≡ false). rw left (of_some P g each sides))
     (cases_Bool (has_need (g side)))
 
--- each listed set bounds
-side_bounds : (t : TopologyValue) (spec : Spec) (s : ScheduleValue) (steps rounds c : ℕ) → 0 < t.nodes → allows (kind_in spec) t.nodes c ≡ true
-    → Solves t (spec_instance spec t.nodes c).pre (spec_instance spec t.nodes c).post s steps rounds → (side : Side) → (fraction_of t spec side).above * c ≤ rounds * (fraction_of t spec side).below
-side_bounds t spec s steps rounds c some allowed solves side =
+-- where what has to come in can in the rounds, each listed set bounds
+side_bounds : (t : TopologyValue) (spec : Spec) (rounds c : ℕ) → 0 < t.nodes → allows (kind_in spec) t.nodes c ≡ true → IsBroughtIn t spec rounds c → (side : Side) → (fraction_of t spec side).above * c ≤ rounds * (fraction_of t spec side).below
+side_bounds t spec rounds c some allowed brought side =
     let u : NodeSet = set_of side in
     let least : ℕ = least_count (kind_in spec) t.nodes in
     let scaled : IsScaled u spec t.nodes c = scales u spec t.nodes c some allowed in
     let n : ℕ = need u (spec_instance spec t.nodes least).pre (spec_instance spec t.nodes least).post in
     let w : ℕ = width u t in
     let m : ℕ = scaled.times in
-    let bound : need u (spec_instance spec t.nodes c).pre (spec_instance spec t.nodes c).post ≤ w * rounds = needed_comes_in u t (spec_instance spec t.nodes c).pre (spec_instance spec t.nodes c).post s steps rounds solves in
-    let over : m * n ≤ w * rounds = subst (λ v. v ≤ w * rounds) scaled.needed bound in
+    let over : m * n ≤ w * rounds = subst (λ v. v ≤ w * rounds) scaled.needed (brought u) in
     let times : m * n * least ≤ w * rounds * least = mul-le-mul_right least over in
     let left : n * c ≡ m * n * least = ap (λ v. n * v) scaled.count ∙ sym (mul_assoc n m least) ∙ ap (λ v. v * least) (mul_comm n m) in
     let right : rounds * (w * least) ≡ w * rounds * least = sym (mul_assoc rounds w least) ∙ ap (λ v. v * least) (mul_comm rounds w) in
     omega (arith, left, right, times)
 
 -- so the floor does
-pub floor_bounds : (t : TopologyValue) (spec : Spec) (s : ScheduleValue) (steps rounds c : ℕ) → 0 < t.nodes → allows (kind_in spec) t.nodes c ≡ true
-    → Solves t (spec_instance spec t.nodes c).pre (spec_instance spec t.nodes c).post s steps rounds → (floor_of t spec).above * c ≤ rounds * (floor_of t spec).below
-floor_bounds t spec s steps rounds c some allowed solves =
+pub floor_below : (t : TopologyValue) (spec : Spec) (rounds c : ℕ) → 0 < t.nodes → allows (kind_in spec) t.nodes c ≡ true → IsBroughtIn t spec rounds c → (floor_of t spec).above * c ≤ rounds * (floor_of t spec).below
+floor_below t spec rounds c some allowed brought =
     let bounds : Floor → Type 0 = λ f. f.above * c ≤ rounds * f.below in
     let none : 0 * c ≤ rounds * 1 = omega arith in
     of_found bounds (is_greatest (fractions t spec)) (fractions t spec)
-    (of_some bounds (fraction_of t spec) (side_bounds t spec s steps rounds c some allowed solves) (listed_sides t.nodes)) none
+    (of_some bounds (fraction_of t spec) (side_bounds t spec rounds c some allowed brought) (listed_sides t.nodes)) none
+
+pub floor_bounds : (t : TopologyValue) (spec : Spec) (s : ScheduleValue) (steps rounds c : ℕ) → 0 < t.nodes → allows (kind_in spec) t.nodes c ≡ true
+    → Solves t (spec_instance spec t.nodes c).pre (spec_instance spec t.nodes c).post s steps rounds → (floor_of t spec).above * c ≤ rounds * (floor_of t spec).below
+floor_bounds t spec s steps rounds c some allowed solves =
+    floor_below t spec rounds c some allowed (λ u. needed_comes_in u t (spec_instance spec t.nodes c).pre (spec_instance spec t.nodes c).post s steps rounds solves)

@@ -5,10 +5,8 @@ use Rattle.std.specs.Option.{option_map}
 use Rattle.std.specs.List.{All, range_with_len}
 use Rattle.std.proofs.lemmas.List.Sums.{sum_by_push}
 use Rattle.std.proofs.lemmas.Bool.{false≢true, cases_Bool, false_from_ne_true, and_from}
-use Rattle.std.proofs.lemmas.List.{get_or_default}
 use Rattle.std.proofs.lemmas.List.Elements.{All-append, All-cons, All-nil}
-use Rattle.schedule.specs.Links.{GroupValue, TopologyValue}
-use Rattle.schedule.specs.Judging.{group_at}
+use Rattle.schedule.specs.Links.{TopologyValue}
 use Rattle.schedule.specs.Placed.{PlacementValue, IsPlacement, holds}
 use Rattle.node_cuts.specs.Sides.{NodeSet}
 use Rattle.node_cuts.specs.Cuts.{stands_in, opens, taken}
@@ -27,10 +25,6 @@ none_found u p chunk node is below past none =
     sym (stands_held u p chunk is below ∙ false_from_ne_true (some_stands u p.nodes (holds p) chunk) (λ some.
     let found = range_found (λ n. u n && holds p (chunk, n)) 0 p.nodes some in
     false≢true (sym (none found.0 (omega (arith, found.2, past))) ∙ found.3)))
-
-pub group_is : (t : TopologyValue) (groups : List GroupValue) (n : ℕ) (group : GroupValue) → groups ≡ t.groups → n < length groups → group ≡ get_or groups n group → group ≡ group_at t n
-group_is t groups n group are inside read =
-    read ∙ get_or_default groups n group (record { links = []; width = 0 }) inside ∙ ap (λ gs. get_or gs n (record { links = []; width = 0 })) are
 
 -- the groups that are taken are among the first, and no more
 pub taken_below : (u : NodeSet) (t : TopologyValue) (n top : ℕ) → n ≤ top → All (λ group. group < top) (taken u t n)

@@ -1,13 +1,13 @@
 -- At each chunk count that a collective may have, what has to come into a set is what has to at the least one, so many times over.
-use Rattle.std.proofs.Common.{◌≡◌, ℕ, zero, suc, ◌+◌, ◌*◌, ◌/◌, ◌%◌, ◌<◌, ◌≤◌, Bool, true, false, ◌||◌, ◌&&◌, cond, List, [], ◌∷◌, refl, sym, ap, ◌∙◌, inl, inr, ⊎_elim, arith}
+use Rattle.std.proofs.Common.{◌≡◌, ℕ, zero, suc, ◌+◌, ◌*◌, ◌/◌, ◌%◌, ◌<◌, ◌≤◌, Bool, true, false, ◌||◌, ◌&&◌, cond, List, [], ◌∷◌, refl, sym, ap, ◌∙◌, ⊎_elim, arith}
 use Rattle.std.specs.Prelude.{◌==◌, count_by, not, nat_le, filter}
 use Rattle.std.specs.List.{list_any, range_with_len}
 use Rattle.std.proofs.Math.Nat.{mul_comm, mul_assoc, mul-one, add-mul-mod_self_left, add-mul-div_left}
-use Rattle.std.proofs.lemmas.Bool.{false≢true, cases_Bool, or_left, or_right, or_cases, cases_eq, and_parts, and_from, eqb-true, eq-eqb}
+use Rattle.std.proofs.lemmas.Bool.{false≢true, or_left, or_right, or_cases, cases_eq, and_parts, and_from, eqb-true, eq-eqb}
 use Rattle.std.proofs.lemmas.Nat.{div-add-mod'}
 use Rattle.std.proofs.lemmas.List.Sums.{sum_by-cons}
 use Rattle.schedule.specs.Placed.{PlacementValue, holds, placed, same_pair, all_pairs}
-use Rattle.schedule.proofs.First.{Among, among_each}
+use Rattle.schedule.proofs.First.{among_each, any_found, any_among, filter_among}
 use Rattle.schedule.proofs.Placing.{IsBelow, all_below, pair_is, holds-placed}
 use Rattle.collective_spec.specs.declared.kind.Kind.{Kind}
 use Rattle.collective_spec.specs.declared.kind.Kind.TheVariants.{Broadcast, Gather, Allgather, Scatter, Alltoall, Reduce, Reducescatter, Allreduce, Custom}
@@ -22,7 +22,6 @@ use Rattle.collective_spec.specs.Collectives.{kind_in, spec_instance}
 use Rattle.node_cuts.specs.Sides.{NodeSet}
 use Rattle.node_cuts.specs.Cuts.{stands_in, is_needed, need}
 use Rattle.node_cuts.specs.Floors.{least_count}
-use Rattle.node_cuts.proofs.Counting.{any_found, any_among}
 
 -- ---- ranges
 
@@ -51,21 +50,6 @@ both_or_none true b there back = sym (there refl)
 both_or_none false true there back = back refl
 both_or_none false false there back = refl
 
-among_filter : {X : Type 0} (f : X → Bool) (x : X) (xs : List X) → Among x (filter f xs) → Among x xs × (f x ≡ true)
-among_filter f x [] among = absurd among
-among_filter f x (y ∷ ys) among =
-    ⊎_elim
-    (λ (kept : f y ≡ true).
-    let now : Among x (y ∷ filter f ys) = rw kept at among in
-    ⊎_elim
-    (λ (here : y ≡ x). (inl here, ap f (sym here) ∙ kept))
-    (λ (later : Among x (filter f ys)). let rest = among_filter f x ys later in (inr rest.0, rest.1))
-    now)
-    (λ (left : f y ≡ false).
-    let now : Among x (filter f ys) = rw left at among in
-    let rest = among_filter f x ys now in (inr rest.0, rest.1))
-    (cases_Bool (f y))
-
 -- ---- what stands in a set, by the test of a placement
 
 abbrev pub some_stands : NodeSet → ℕ → (ℕ × ℕ → Bool) → ℕ → Bool
@@ -80,7 +64,7 @@ stands_by u chunks nodes f chunk below =
     let found = any_found test (filter f (all_pairs chunks nodes)) stood in
     let pair : ℕ × ℕ = found.0 in
     let both = and_parts (pair.0 == chunk) (u pair.1) found.2 in
-    let kept = among_filter f pair (all_pairs chunks nodes) found.1 in
+    let kept = filter_among f pair (all_pairs chunks nodes) found.1 in
     let inside : IsBelow chunks nodes pair = among_each (IsBelow chunks nodes) pair (all_pairs chunks nodes) (all_below chunks nodes) kept.0 in
     let chunk_is : pair.0 ≡ chunk = eqb-true pair.0 chunk both.0 in
     any_at row 0 nodes pair.1 (omega arith) (omega (arith, inside.1)) (and_from (u pair.1) (f (chunk, pair.1)) both.1 (ap (λ c. f (c, pair.1)) (sym chunk_is) ∙ kept.1)))

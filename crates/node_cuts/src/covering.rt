@@ -15,7 +15,7 @@ use schedule::{Group, Topology};
 use std::alloc::Global;
 
 /// The group of this number.
-#[tactic(auto, using(crate::proofs::Reading::group_is))]
+#[tactic(auto, using(schedule::proofs::Overfull::group_read))]
 fn group_at(topology: &Topology, group: u16) -> &Group
     requires { group < length topology.now.groups }
     ensures group { result.now ≡ group_at topology.now group }

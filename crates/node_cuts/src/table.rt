@@ -1,13 +1,13 @@
 //! The cuts of all listed sets, made once for a topology and a collective.
 
-ghost use Rattle.std.specs.Prelude.{◌≡◌, ◌≢◌, ◌<◌, true, filter, map, IfOk};
+ghost use Rattle.std.specs.Prelude.{◌≡◌, ◌≢◌, ◌<◌, true, IfOk};
 ghost use Rattle.schedule.specs.Links.{TopologyValue, IsTopology};
 ghost use Rattle.collective_spec.specs.declared.spec.Spec.{Spec};
 ghost use Rattle.collective_spec.specs.Kinds.{allows};
 ghost use Rattle.collective_spec.specs.Collectives.{IsSpec, kind_in, spec_instance};
 ghost use Rattle.node_cuts.specs.Cuts.{first_cut_of};
-ghost use Rattle.node_cuts.specs.Floors.{first_greatest, has_need, least_count};
-ghost use Rattle.node_cuts.specs.Tables.{fraction_in, table_of};
+ghost use Rattle.node_cuts.specs.Floors.{floor_of, least_count};
+ghost use Rattle.node_cuts.specs.Tables.{table_of};
 
 use crate::OutOfMemory;
 use crate::cut::Cut;
@@ -55,7 +55,7 @@ impl Model for CutTable {
 }
 
 impl CutTable {
-    /// The table of a topology and a collective. The only error is want of memory.
+    /// The table of a topology and a collective. The only error is `OutOfMemory`.
     pub fn new(alloc: Global, topology: &Topology, spec: &Spec) -> Result<CutTable, OutOfMemory>
         requires spec { IsSpec topology.now.nodes spec.now }
         requires single { kind_in spec.now ≢ Kind.Allreduce }
@@ -73,7 +73,7 @@ impl CutTable {
     }
 
     /// What [`first_cut`](crate::first_cut) gives of the collective's instance at an allowed chunk count `c`. The only error
-    /// is want of memory.
+    /// is `OutOfMemory`.
     pub fn first_cut(&self, c: u8, r: u8) -> Result<Option<Cut>, OutOfMemory>
         ensures { IfOk result (λ cut. (t : TopologyValue) (spec : Spec) → self.now ≡ table_of t spec → 0 < t.nodes → allows (kind_in spec) t.nodes c ≡ true
             → cut ≡ first_cut_of t (spec_instance spec t.nodes c).pre (spec_instance spec t.nodes c).post r) }
@@ -87,9 +87,9 @@ impl CutTable {
         Ok(None)
     }
 
-    /// The first of the greatest fractions of these cuts.
-    pub(crate) fn floor(&self) -> Floor
-        ensures { result ≡ first_greatest (filter has_need (map (fraction_in self.now.least) self.now.cuts)) }
+    /// What [`floor_of`](crate::floor_of) gives of the topology and the collective.
+    pub fn floor(&self) -> Floor
+        ensures { (t : TopologyValue) (spec : Spec) → self.now ≡ table_of t spec → result ≡ floor_of t spec }
     {
         greatest(&self.cuts, self.least)
     }

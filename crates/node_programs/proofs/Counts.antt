@@ -7,7 +7,7 @@ use Rattle.std.proofs.lemmas.List.FromFn.{fill_by_all, get_or-map-range_with_len
 use Rattle.node_programs.specs.declared.op.Op.{Op}
 use Rattle.node_programs.specs.declared.op.Op.TheVariants.{Send, Take}
 use Rattle.node_programs.specs.Queues.{empty_queue, queues_from, sends_to, with_send}
-use Rattle.node_programs.proofs.Counting.{map_alike}
+use Rattle.bag_runs.proofs.Counting.{map_alike}
 use Rattle.node_programs.proofs.Each.{flipped, set_each}
 
 -- so many sends to each of so many nodes

@@ -3,7 +3,7 @@ use Rattle.std.proofs.Common.{◌≡◌, ℕ, ◌<◌, false, eqb, length, map, 
 use Rattle.std.specs.List.{range_with_len}
 use Rattle.std.proofs.lemmas.List.{length-set}
 use Rattle.std.proofs.lemmas.List.FromFn.{fill_by_all, get_or-map-range_with_len, length-map-range_with_len}
-use Rattle.node_programs.proofs.Cells.{differ, same_or_not}
+use Rattle.bag_runs.proofs.Cells.{differ, same_or_not}
 
 pub flipped : (a b : ℕ) → eqb a b ≡ false → eqb b a ≡ false
 flipped a b apart =

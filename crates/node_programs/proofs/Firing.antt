@@ -7,13 +7,14 @@ use Rattle.std.proofs.lemmas.List.{get_or-map, length-set, map-append, map-set}
 use Rattle.std.proofs.lemmas.Nat.{mul-add-lt}
 use Rattle.node_programs.specs.declared.op.Op.{Op}
 use Rattle.node_programs.specs.declared.op.Op.TheVariants.{Send, Take}
-use Rattle.node_programs.specs.declared.op.Mode.{Mode}
+use Rattle.bag_runs.specs.declared.mode.Mode.{Mode}
 use Rattle.node_programs.specs.declared.message.Message.{Message as Parcel}
-use Rattle.node_programs.specs.Machines.{Message, State, StoreValue, bag_in, event, got, performed, queue_in, received, sent, taken, with_bag}
+use Rattle.bag_runs.specs.Stores.{StoreValue, bag_in, received, with_bag}
+use Rattle.node_programs.specs.Machines.{Message, State, event, got, performed, queue_in, sent, taken}
 use Rattle.node_programs.specs.Below.{IsOpBelow}
-use Rattle.node_programs.specs.Kept.{counted}
+use Rattle.bag_runs.specs.Kept.{counted}
 use Rattle.node_programs.specs.Queues.{IsMachine, QueueValue, message_in, messages_in, no_queue, queue_of, sends_to, with_message, without_first}
-use Rattle.node_programs.proofs.Cells.{cell_below, cell_beside, cell_here, differ, same_or_not}
+use Rattle.bag_runs.proofs.Cells.{cell_below, cell_beside, cell_here, differ, same_or_not}
 
 -- ---- lists of lists
 
@@ -36,10 +37,6 @@ module _ {X : Type 0} (P : X → Type 0) where
   each_set (y ∷ ys) zero x all here = (here, all.1)
   each_set (y ∷ ys) (suc i) x all here = (all.0, each_set ys i x all.1 here)
 
-head_some : {X : Type 0} (xs : List X) (x : X) → slice_get xs 0 ≡ Some x → 0 < length xs
-head_some [] x is = absurd cc
-head_some (y ∷ ys) x is = omega arith
-
 -- ---- what a next operation sends
 
 sends_head : (ops : List Op) (chunk to step other : ℕ) → slice_get ops 0 ≡ Some (Send chunk to step) → sends_to other ops ≡ sends_to other (drop 1 ops) + cond (eqb to other) 1 zero
@@ -55,10 +52,6 @@ sends_head (op ∷ ops) chunk to step other is =
 takes_head : (ops : List Op) (chunk from step : ℕ) (how : Mode) (other : ℕ) → slice_get ops 0 ≡ Some (Take chunk from step how) → sends_to other ops ≡ sends_to other (drop 1 ops)
 takes_head [] chunk from step how other is = absurd cc
 takes_head (op ∷ ops) chunk from step how other is = let same : op ≡ Take chunk from step how = cc in ap (λ o. sends_to other (o ∷ ops)) same
-
-few : (b : Bool) → cond b 1 zero ≤ 1
-few true = omega arith
-few false = omega arith
 
 -- ---- the machine
 

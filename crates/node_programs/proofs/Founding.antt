@@ -4,7 +4,8 @@ use Rattle.std.specs.List.{range_with_len}
 use Rattle.std.proofs.lemmas.List.{get_or_append_left, get_or-append-add, length-append, map-append, replicate-append-replicate}
 use Rattle.std.proofs.lemmas.List.FromFn.{get_or-map-range_with_len, length-map-range_with_len, length-range_with_len}
 use Rattle.node_programs.specs.declared.op.Op.{Op}
-use Rattle.node_programs.specs.Machines.{Message, State, StoreValue, start_of}
+use Rattle.bag_runs.specs.Stores.{StoreValue}
+use Rattle.node_programs.specs.Machines.{Message, State, start_of}
 use Rattle.node_programs.specs.Below.{AreBelow}
 use Rattle.node_programs.specs.Queues.{IsMachine, empty_queue, messages_in, new_queues, no_queue, queue_of, queues_from, sends_to}
 use Rattle.node_programs.proofs.Firing.{state_of}

@@ -1,22 +1,17 @@
 -- The programs of a schedule in range name chunks and nodes in range.
-use Rattle.std.proofs.Common.{◌≡◌, ℕ, true, ◌&&◌, eqb, List, [], ◌∷◌, ◌++◌, length, map}
+use Rattle.std.proofs.Common.{◌≡◌, ℕ, true, ◌&&◌, eqb, List, [], ◌∷◌, length, map}
 use Rattle.std.specs.Prelude.{filter}
 use Rattle.std.specs.List.{AllByRecursion, flat_map, range_with_len}
 use Rattle.std.proofs.lemmas.List.Elements.{recursion_from_All}
 use Rattle.schedule.specs.Sends.{IsInRange, ScheduleValue, is_hop_below}
-use Rattle.schedule.proofs.First.{each_filter, each_weaker}
+use Rattle.schedule.proofs.First.{each_filter, each_weaker, each_append}
 use Rattle.schedule.proofs.Joining.{IsHopBelow, hop_below}
 use Rattle.node_programs.specs.Programs.{program_of, programs_of, send_of, step_of, take_of}
 use Rattle.node_programs.specs.Below.{AreBelow, IsOpBelow}
 
-module _ {X : Type 0} (P : X → Type 0) where
-  pub each_append : (xs ys : List X) → AllByRecursion P xs → AllByRecursion P ys → AllByRecursion P (xs ++ ys)
-  each_append [] ys a b = b
-  each_append (x ∷ xs) ys a b = (a.0, each_append xs ys a.1 b)
-
-  pub each_flat : {Y : Type 0} (f : Y → List X) → ((y : Y) → AllByRecursion P (f y)) → (ys : List Y) → AllByRecursion P (flat_map f ys)
-  each_flat f every [] = tt
-  each_flat f every (y ∷ ys) = each_append (f y) (flat_map f ys) (every y) (each_flat f every ys)
+pub each_flat : {X Y : Type 0} (P : X → Type 0) (f : Y → List X) → ((y : Y) → AllByRecursion P (f y)) → (ys : List Y) → AllByRecursion P (flat_map f ys)
+each_flat P f every [] = tt
+each_flat P f every (y ∷ ys) = each_append P (f y) (flat_map f ys) (every y) (each_flat P f every ys)
 
 pub each_map : {X Y : Type 0} (P : X → Type 0) (Q : Y → Type 0) (f : X → Y) → ((x : X) → P x → Q (f x)) → (xs : List X) → AllByRecursion P xs → AllByRecursion Q (map f xs)
 each_map P Q f on [] a = tt

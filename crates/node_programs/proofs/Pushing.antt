@@ -11,9 +11,9 @@ use Rattle.schedule.specs.declared.hop.Hop.{Hop}
 use Rattle.schedule.specs.Sends.{ScheduleValue}
 use Rattle.node_programs.specs.declared.op.Op.{Op}
 use Rattle.node_programs.specs.Programs.{send_of, step_of, take_of}
-use Rattle.node_programs.proofs.Arrivals.{filter_both}
+use Rattle.bag_runs.proofs.Arrivals.{filter_both}
 use Rattle.node_programs.proofs.Each.{flipped, set_each}
-use Rattle.node_programs.proofs.Counting.{map_alike}
+use Rattle.bag_runs.proofs.Counting.{map_alike}
 
 -- a program for each of so many nodes
 abbrev pub each : ℕ → (ℕ → List Op) → List (List Op)

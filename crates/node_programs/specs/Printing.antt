@@ -5,8 +5,8 @@ use Rattle.text_lines.specs.Text.{text_of}
 use Rattle.topology_text.specs.Spelling.{name_at}
 use Rattle.node_programs.specs.declared.op.Op.{Op}
 use Rattle.node_programs.specs.declared.op.Op.TheVariants.{Send, Take}
-use Rattle.node_programs.specs.declared.op.Mode.{Mode}
-use Rattle.node_programs.specs.declared.op.Mode.TheVariants as mode
+use Rattle.bag_runs.specs.declared.mode.Mode.{Mode}
+use Rattle.bag_runs.specs.declared.mode.Mode.TheVariants as mode
 
 abbrev pub mode_word : Mode → List ℕ
 mode_word mode.Copy = codes "copy"

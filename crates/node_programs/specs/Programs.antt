@@ -1,16 +1,11 @@
 -- The programs of the nodes of a schedule (this project's own).
-use Rattle.std.specs.Prelude.{◌==◌, ◌&&◌, ℕ, if◌then◌else◌, List, ◌++◌, length, map, filter, nat_le}
+use Rattle.std.specs.Prelude.{◌==◌, ◌&&◌, ℕ, List, ◌++◌, length, map, filter}
 use Rattle.std.specs.List.{flat_map, range_with_len}
 use Rattle.schedule.specs.declared.hop.Hop.{Hop}
 use Rattle.schedule.specs.Sends.{ScheduleValue}
+use Rattle.bag_runs.specs.Stores.{mode_at}
 use Rattle.node_programs.specs.declared.op.Op.{Op}
 use Rattle.node_programs.specs.declared.op.Op.TheVariants.{Send, Take}
-use Rattle.node_programs.specs.declared.op.Mode.{Mode}
-use Rattle.node_programs.specs.declared.op.Mode.TheVariants as mode
-
--- takes of the first so many steps add, and later ones copy
-abbrev pub mode_at : ℕ → ℕ → Mode
-mode_at adding step = if nat_le step adding then mode.Add else mode.Copy
 
 abbrev pub send_of : Hop → Op
 send_of h = Send h.chunk h.to h.step

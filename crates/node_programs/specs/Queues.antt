@@ -5,7 +5,7 @@ use Rattle.node_programs.specs.declared.op.Op.{Op}
 use Rattle.node_programs.specs.declared.op.Op.TheVariants.{Send, Take}
 use Rattle.node_programs.specs.declared.message.Message.{Message as Parcel}
 use Rattle.node_programs.specs.Machines.{Message}
-use Rattle.node_programs.specs.Kept.{counted}
+use Rattle.bag_runs.specs.Kept.{counted}
 use Rattle.node_programs.specs.Below.{AreBelow}
 
 -- what is in a queue, and how many messages more it has room for

@@ -7,11 +7,11 @@ ghost use Rattle.node_programs.specs.Below.{AreBelow};
 
 use crate::OutOfMemory;
 use crate::message::Message;
-use crate::op::{Mode, Op};
+use crate::op::Op;
 use crate::programs::Programs;
 use crate::queue::Queue;
 use crate::queues::{new_queues, push_at, starts_at, take_at};
-use crate::store::Store;
+use bag_runs::{Mode, Store};
 use std::alloc::Global;
 use std::marker::Model;
 
@@ -45,7 +45,7 @@ impl Model for Machine {
 
 impl Machine {
     /// The machine of the programs before any event, with the bags that the nodes have at the start. The only error is
-    /// want of memory; no other call takes any.
+    /// `OutOfMemory`; no other call takes any.
     pub fn new(alloc: Global, programs: Programs, start: Store) -> Result<Machine, OutOfMemory>
         requires nodes { length programs ≡ start.nodes }
         requires in_range { AreBelow start.chunks start.nodes programs }

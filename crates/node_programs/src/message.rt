@@ -1,4 +1,4 @@
-use crate::bag::Bag;
+use bag_runs::Bag;
 
 /// A bag on its way: of which chunk, and sent at which step.
 #[derive(Clone, Copy, Debug)]

@@ -6,13 +6,14 @@ ghost use Rattle.topology_text.specs.Spelling.{name_at};
 ghost use Rattle.node_programs.specs.Printing.{mode_word, node_lines, op_words, programs_text};
 
 use crate::OutOfMemory;
-use crate::op::{Mode, Op};
+use crate::op::Op;
 use crate::programs::Programs;
+use bag_runs::Mode;
 use std::alloc::Global;
 use text_lines::{push_number, push_word};
 use topology_text::Name;
 
-/// The text of the programs of the point of this number, with a name for each node. The only error is want of memory.
+/// The text of the programs of the point of this number, with a name for each node. The only error is `OutOfMemory`.
 pub fn print_programs(
     alloc: Global,
     point: u32,

@@ -34,7 +34,7 @@ impl Program {
         }
     }
 
-    /// Puts an operation behind the others. The only error is want of memory; then nothing changes.
+    /// Puts an operation behind the others. The only error is `OutOfMemory`; then nothing changes.
     pub(crate) fn push(&mut self, op: Op) -> Result<(), OutOfMemory>
         ensures pushed { OnOk result (self.new ≡ self.old ++ op ∷ []) }
         ensures unchanged { OnErr result (self.new ≡ self.old) }

@@ -8,15 +8,16 @@ ghost use Rattle.node_programs.specs.Programs.{programs_of, send_of, take_of};
 ghost use Rattle.node_programs.specs.Below.{AreBelow};
 
 use crate::OutOfMemory;
-use crate::op::{Mode, Op};
+use crate::op::Op;
 use crate::program::Program;
 use crate::programs::Programs;
+use bag_runs::Mode;
 use schedule::{Hop, Schedule};
 use std::alloc::Global;
 
 /// The programs of so many nodes that carry the schedule out: in each step a node first sends, by chunk and receiver,
 /// and then takes, by chunk and sender. Takes of the first `adding` steps add, and later ones copy. The only error is
-/// want of memory.
+/// `OutOfMemory`.
 pub fn programs_of(
     alloc: Global,
     nodes: u8,

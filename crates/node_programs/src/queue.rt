@@ -2,8 +2,8 @@ ghost use Rattle.std.specs.Prelude.{◌≡◌, ◌<◌, [], true, false, slice_g
 ghost use Rattle.node_programs.specs.Queues.{QueueValue, is_head, with_message, without_first};
 
 use crate::OutOfMemory;
-use crate::bag::Bag;
 use crate::message::Message;
+use bag_runs::Bag;
 use std::alloc::Global;
 use std::collections::VecDeque;
 use std::marker::Model;
@@ -25,7 +25,7 @@ impl Model for Queue {
 }
 
 impl Queue {
-    /// The empty queue with room for so many messages. The only error is want of memory.
+    /// The empty queue with room for so many messages. The only error is `OutOfMemory`.
     pub(crate) fn with_room(alloc: Global, room: usize) -> Result<Queue, OutOfMemory>
         ensures { IfOk result (λ q. q ≡ record { messages = []; room = room }) }
     {

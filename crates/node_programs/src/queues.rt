@@ -5,11 +5,11 @@ ghost use Rattle.std.specs.List.{flat_map, range_with_len};
 ghost use Rattle.node_programs.specs.Queues.{QueueValue, is_head, new_queues, no_queue, queues_from, sends_to, with_message, with_send, without_first};
 
 use crate::OutOfMemory;
-use crate::bag::Bag;
 use crate::message::Message;
 use crate::op::Op;
 use crate::programs::Programs;
 use crate::queue::Queue;
+use bag_runs::Bag;
 use std::alloc::Global;
 
 /// Empty queues, each with room for all that its sender's program sends through it.

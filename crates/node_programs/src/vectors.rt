@@ -5,12 +5,12 @@ ghost use Rattle.std.specs.Option.{option_map};
 ghost use Rattle.schedule.specs.Rows.{pair_allreduce, plan, send};
 ghost use Rattle.node_programs.specs.Programs.{programs_of};
 ghost use Rattle.node_programs.specs.Printing.{programs_text};
-ghost use Rattle.node_programs.specs.Bags.{added_at_2};
 ghost use Rattle.node_programs.specs.Machines.{is_enabled, is_finished};
 ghost use Rattle.node_programs.specs.Runs.{chosen, drawn, next_draw, run_of};
 ghost use Rattle.node_programs.specs.Relay.{exchange, relay};
 
-use crate::op::{Mode, Op};
+use crate::op::Op;
+use bag_runs::Mode;
 
 /// A chunk goes along the line of three nodes in two steps.
 pub fn relay_in_programs()
@@ -24,11 +24,6 @@ pub fn programs_in_text()
         ≡ codes "programs 1\nnode n0\n1 send 0 n1\nnode n1\n1 take 0 n0 copy\n2 send 0 n2\nnode n2\n2 take 0 n1 copy\nend\n" }
     ensures joined { programs_text 3 (codes "a" ∷ codes "b" ∷ []) (programs_of 2 pair_allreduce 1)
         ≡ codes "programs 3\nnode a\n1 send 1 b\n1 take 0 b add\n2 send 0 b\n2 take 1 b copy\nnode b\n1 send 0 a\n1 take 1 a add\n2 send 1 a\n2 take 0 a copy\nend\n" }
-{}
-
-/// Counts stop at 2.
-pub fn counts_stop_at_2()
-    ensures { added_at_2 (1 ∷ 1 ∷ 2 ∷ []) (0 ∷ 1 ∷ 2 ∷ []) ≡ 1 ∷ 2 ∷ 2 ∷ [] }
 {}
 
 /// Its nodes can move in this order and no other.

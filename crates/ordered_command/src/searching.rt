@@ -7,7 +7,7 @@ ghost use Rattle.round_encoding.specs.Candidates.{size_limit};
 ghost use Rattle.candidate_formula.specs.Sizes.{size_of};
 ghost use Rattle.report_form.specs.Reports.{question_of};
 ghost use Rattle.frontier_audit.specs.Searches.{IsAsked};
-ghost use Rattle.ordered_command.specs.Found.{IsFoundInOrder};
+ghost use Rattle.run_rules.specs.Orders.{IsFoundInOrder};
 
 use crate::OutOfMemory;
 use candidate_order::{Frontier, Limits};

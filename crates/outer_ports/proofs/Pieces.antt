@@ -5,7 +5,7 @@ use Rattle.std.proofs.Math.Seq.{take-add, take-append-add, take-append_seam, dro
 use Rattle.std.proofs.lemmas.List.{take-append-drop, take_all, take_min}
 
 -- `&whole[done..]` as a list
-rest-all : (done : ℕ) (whole : List ℕ) → take (length whole - done) (drop done whole) ≡ drop done whole
+pub rest-all : (done : ℕ) (whole : List ℕ) → take (length whole - done) (drop done whole) ≡ drop done whole
 rest-all done whole = take_all (length whole - done) (drop done whole) (grind (arith, length-drop))
 
 -- one piece more of the whole is behind the start

@@ -10,7 +10,7 @@ use crate::shelf::Shelf;
 use crate::shelf_fault::ShelfFault;
 use std::alloc::Global;
 
-/// A shelf that keeps its files in memory and never fails: of its faults only want of memory comes.
+/// A shelf that keeps its files in memory and never fails: of its faults only out of memory comes.
 #[derive(Drop)]
 pub struct SureShelf {
     files: FileMap,

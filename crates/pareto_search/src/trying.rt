@@ -1,8 +1,9 @@
 //! The candidates that a search tries, one after the other.
 
-ghost use Rattle.std.specs.Prelude.{◌≡◌, ◌≢◌, ◌+◌, ◌≤◌, None, Err, OnOk};
+ghost use Rattle.std.specs.Prelude.{◌≡◌, ◌≢◌, ◌↔◌, ◌+◌, ◌≤◌, None, Err, OnOk};
 ghost use Rattle.std.specs.List.Sorted.{IsStrictlyIncreasing};
 ghost use Rattle.outer_ports.specs.Port.{HasCause};
+ghost use Rattle.schedule.specs.Sends.{ScheduleValue};
 ghost use Rattle.collective_spec.specs.Collectives.{kind_in};
 ghost use Rattle.candidate_order.specs.Listed.{AreAllowed};
 ghost use Rattle.candidate_order.specs.Frontiers.{IsWithin};
@@ -30,6 +31,7 @@ pub(crate) fn try_candidate<T, E: Engine<T>>(
     ensures within { StaysWithin (E.question engine.old) (E.entries engine.new) (E.stopped engine.new) }
     ensures question { E.question engine.new ≡ E.question engine.old }
     ensures formula { (x : Candidate) → E.formula engine.new x ≡ E.formula engine.old x }
+    ensures suits_stay { (x : Candidate) (schedule : ScheduleValue) → E.suits engine.new x schedule ↔ E.suits engine.old x schedule }
     ensures moves { E.moves engine.old store.old engine.new store.new }
     ensures agrees { OnOk result (E.agrees engine.new store.new) }
     ensures cause { HasCause EngineFault.ShelfFailed (E.faults engine.old store.old) (E.faults engine.new store.new) result }
@@ -68,6 +70,7 @@ pub(crate) fn try_step<T, E: Engine<T>>(
     ensures within { StaysWithin (E.question engine.old) (E.entries engine.new) (E.stopped engine.new) }
     ensures question { E.question engine.new ≡ E.question engine.old }
     ensures formula { (x : Candidate) → E.formula engine.new x ≡ E.formula engine.old x }
+    ensures suits_stay { (x : Candidate) (schedule : ScheduleValue) → E.suits engine.new x schedule ↔ E.suits engine.old x schedule }
     ensures moves { E.moves engine.old store.old engine.new store.new }
     ensures agrees { OnOk result (E.agrees engine.new store.new) }
     ensures cause { HasCause EngineFault.ShelfFailed (E.faults engine.old store.old) (E.faults engine.new store.new) result }

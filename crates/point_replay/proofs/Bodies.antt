@@ -15,9 +15,10 @@ use Rattle.inversion.specs.Saying.{says_solves, says_sums}
 use Rattle.collective_spec.specs.declared.instance.Instance.{Instance}
 use Rattle.collective_spec.specs.declared.spec.Spec.{Spec}
 use Rattle.collective_spec.specs.Collectives.{chunks_in, spec_instance}
-use Rattle.node_programs.specs.Machines.{State, StoreValue, stored}
+use Rattle.bag_runs.specs.Stores.{StoreValue, stored}
+use Rattle.node_programs.specs.Machines.{State}
 use Rattle.node_programs.specs.Ended.{machine_of}
-use Rattle.node_programs.proofs.Tables.{table_cell}
+use Rattle.bag_runs.proofs.Tables.{table_cell}
 use Rattle.text_lines.specs.Text.{line, text_of}
 use Rattle.topology_text.specs.Spelling.{name_at}
 use Rattle.point_replay.specs.Replay.{node_lines, numbered_steps, verdict_words}

@@ -1,16 +1,18 @@
 -- The lines of a replay, one after the other.
 use Rattle.std.proofs.Common.{◌≡◌, ℕ, zero, suc, ◌+◌, ◌-◌, ◌∷◌, [], ◌++◌, List, Bool, true, false, if◌then◌else◌, codes, decimal, map, filter, length, Option, None, Some, slice_get, slice_index, refl, ◌∙◌, sym, ap, arith, add-one, add-zero, zero-add, append-nil, append_assoc}
-use Rattle.std.specs.Prelude.{unwrap_or, Result, Ok, Err, OnOk}
+use Rattle.std.specs.Prelude.{unwrap_or, Result, OnOk}
 use Rattle.std.specs.List.{flat_map, range_with_len, last_or}
 use Rattle.std.proofs.lemmas.Grind.{flat_map-append}
 use Rattle.std.proofs.lemmas.List.{length-map, map-append}
 use Rattle.std.proofs.lemmas.List.Elements.{filter-append}
 use Rattle.std.proofs.lemmas.List.Folds.{flat_map-map}
 use Rattle.std.proofs.lemmas.List.FromFn.{map-range_with_len_more}
-use Rattle.node_programs.specs.Kept.{counted}
+use Rattle.std.proofs.lemmas.Result.{on_ok_weaker}
+use Rattle.bag_runs.specs.Kept.{counted}
 use Rattle.text_lines.specs.Text.{line, text_of}
 use Rattle.text_lines.proofs.Words.{join_fields}
 use Rattle.topology_text.specs.Spelling.{name_at}
+use Rattle.topology_text.proofs.Printed.{appended_three}
 use Rattle.point_replay.specs.Replay.{numbered_steps, step_head}
 use Rattle.point_replay.specs.Appended.{digits_of, last_of, move_lines}
 
@@ -26,23 +28,14 @@ range_more a (suc n) =
 pub appends : (a b c x y all : List ℕ) → b ≡ a ++ x → c ≡ b ++ y → x ++ y ≡ all → c ≡ a ++ all
 appends a b c x y all p q e = q ∙ ap (λ zs. zs ++ y) p ∙ append_assoc a x y ∙ ap (λ zs. a ++ zs) e
 
--- three
-pub appends_three : (a b c d x y z all : List ℕ) → b ≡ a ++ x → c ≡ b ++ y → d ≡ c ++ z → x ++ (y ++ z) ≡ all → d ≡ a ++ all
-appends_three a b c d x y z all p q r e = appends a c d (x ++ y) z all (appends a b c x y (x ++ y) p q refl) r (append_assoc x y z ∙ e)
-
--- the last of two, or of three, may fail
-pub on_ok : {X E A B : Type 0} (r : Result X E) → (A → B) → OnOk r A → OnOk r B
-on_ok (Ok x) f a = f a
-on_ok (Err e) f a = tt
-
 pub last_append : {X E : Type 0} (r : Result X E) (a b c x y all : List ℕ) → b ≡ a ++ x → OnOk r (c ≡ b ++ y) → x ++ y ≡ all → OnOk r (c ≡ a ++ all)
-last_append r a b c x y all p q e = on_ok r (λ done. appends a b c x y all p done e) q
+last_append r a b c x y all p q e = on_ok_weaker r (λ done. appends a b c x y all p done e) q
 
 pub last_append_three : {X E : Type 0} (r : Result X E) (a b c d x y z all : List ℕ) → b ≡ a ++ x → c ≡ b ++ y → OnOk r (d ≡ c ++ z) → x ++ (y ++ z) ≡ all → OnOk r (d ≡ a ++ all)
-last_append_three r a b c d x y z all p q s e = on_ok r (λ done. appends_three a b c d x y z all p q done e) s
+last_append_three r a b c d x y z all p q s e = on_ok_weaker r (λ done. appended_three a b c d x y z all p q done e) s
 
 pub append_same : {X E : Type 0} (r : Result X E) (a b x y : List ℕ) → x ≡ y → OnOk r (b ≡ a ++ x) → OnOk r (b ≡ a ++ y)
-append_same r a b x y e q = on_ok r (λ done. done ∙ ap (λ t. a ++ t) e) q
+append_same r a b x y e q = on_ok_weaker r (λ done. done ∙ ap (λ t. a ++ t) e) q
 
 -- ---- lines
 

@@ -5,7 +5,8 @@ use Rattle.schedule.specs.Bags.{Bags}
 use Rattle.schedule.specs.Sends.{IsInRange, IsSchedule, ScheduleValue}
 use Rattle.node_programs.specs.declared.op.Op.{Op}
 use Rattle.node_programs.specs.Below.{AreBelow}
-use Rattle.node_programs.specs.Machines.{State, StoreValue, start_of, stored}
+use Rattle.bag_runs.specs.Stores.{StoreValue, stored}
+use Rattle.node_programs.specs.Machines.{State, start_of}
 use Rattle.node_programs.specs.Programs.{programs_of}
 use Rattle.node_programs.specs.Runs.{operations}
 use Rattle.node_programs.specs.Ended as ended

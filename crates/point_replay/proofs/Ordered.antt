@@ -2,29 +2,22 @@
 use Rattle.std.proofs.Common.{◌≡◌, ℕ, if◌then◌else◌, List, [], ◌∷◌, ◌++◌, map, length, Option, None, refl, sym, ap, ◌∙◌, append_assoc}
 use Rattle.std.proofs.lemmas.Grind.{flat_map-append}
 use Rattle.schedule.specs.Sends.{IsInRange, IsSchedule, ScheduleValue}
-use Rattle.schedule.specs.Placed.{PlacementValue}
-use Rattle.schedule.specs.Bags.{Bags, of_placement}
-use Rattle.schedule.specs.Running.{run_of}
+use Rattle.schedule.specs.Bags.{Bags}
 use Rattle.schedule.specs.JoinedRuns.{joined_run}
-use Rattle.schedule.specs.declared.verdict.Verdict.{Verdict}
 use Rattle.inversion.specs.declared.verdict.SumVerdict.{SumVerdict}
-use Rattle.inversion.specs.Saying.{says_solves, says_sums}
-use Rattle.node_programs.specs.Machines.{State, StoreValue, bag_in, start_of, stored}
+use Rattle.inversion.specs.Saying.{says_sums}
+use Rattle.bag_runs.specs.Stores.{StoreValue, bag_in, stored}
+use Rattle.node_programs.specs.Machines.{State, start_of}
 use Rattle.node_programs.specs.declared.op.Op.{Op}
-use Rattle.node_programs.specs.Kept.{IsStore}
+use Rattle.bag_runs.specs.Kept.{IsStore}
 use Rattle.replay.specs.Ends.{IsLast}
 use Rattle.node_programs.specs.Programs.{programs_of}
 use Rattle.node_programs.specs.Runs.{chosen, operations}
 use Rattle.node_programs.specs.Ended.{machine_of}
 use Rattle.text_lines.specs.Text.{line, text_of}
-use Rattle.point_replay.specs.Replay.{node_lines, numbered_steps, verdict_words}
+use Rattle.point_replay.specs.Replay.{numbered_steps}
 use Rattle.point_replay.specs.Showing.{sum_words}
-use Rattle.point_replay.specs.Appended.{last_of, more_lines, move_lines, ordered_lines, placed_lines, placed_steps, store_lines, stored_lines, stored_steps}
-use Rattle.point_replay.proofs.Lines.{appends}
-
--- the events, and then the lines of the last step
-pub ordered_text : (names : List (List ℕ)) (m : State) (steps : List (List (List (List ℕ)))) (seed : ℕ) → text_of (move_lines names seed (operations m) (chosen m seed)) ++ text_of (last_of steps) ≡ text_of (ordered_lines names m steps seed)
-ordered_text names m steps seed = sym (flat_map-append line (move_lines names seed (operations m) (chosen m seed)) (last_of steps))
+use Rattle.point_replay.specs.Appended.{more_lines, move_lines, store_lines, stored_lines, stored_steps}
 
 -- the events of a run that goes to its end
 pub order_events : (names : List (List ℕ)) (start : StoreValue) (s : ScheduleValue) (adding seed nodes : ℕ) (programs : List (List Op)) (first last : State) (moves drawn : List ℕ) → IsSchedule s → IsInRange start.chunks start.nodes s → IsStore start
@@ -48,29 +41,6 @@ run_text steps more verdict a b c d p q r =
     ∙ ap (λ t. t ++ (line verdict ++ text_of more)) p
     ∙ append_assoc a (text_of steps) (line verdict ++ text_of more)
     ∙ ap (λ t. a ++ t) (sym (flat_map-append line steps (verdict ∷ more)))
-
--- ---- of a schedule that copies
-
-pub placed_ordered : (names : List (List ℕ)) (pre : PlacementValue) (s : ScheduleValue) (start : StoreValue) (run : List PlacementValue) (seed : ℕ) (a b c : List ℕ) → start ≡ stored pre.chunks pre.nodes (of_placement pre) → run ≡ run_of pre s
-    → b ≡ a ++ text_of (move_lines names seed (operations (start_of (programs_of start.nodes s 0) start)) (chosen (start_of (programs_of start.nodes s 0) start) seed)) → c ≡ b ++ text_of (last_of (map (node_lines names) run))
-    → c ≡ a ++ text_of (ordered_lines names (machine_of pre.chunks pre.nodes (of_placement pre) s 0) (placed_steps names pre s) seed)
-placed_ordered names pre s start run seed a b c is ran p q =
-    let machine : StoreValue → State = λ st. start_of (programs_of st.nodes s 0) st in
-    let m = machine_of pre.chunks pre.nodes (of_placement pre) s 0 in
-    let events : State → List ℕ = λ k. text_of (move_lines names seed (operations k) (chosen k seed)) in
-    let first : b ≡ a ++ events m = p ∙ ap (λ st. a ++ events (machine st)) is in
-    let second : c ≡ b ++ text_of (last_of (placed_steps names pre s)) = q ∙ ap (λ r. b ++ text_of (last_of (map (node_lines names) r))) ran in
-    appends a b c (events m) (text_of (last_of (placed_steps names pre s))) _ first second (ordered_text names m (placed_steps names pre s) seed)
-
-pub placed_text : (names : List (List ℕ)) (pre : PlacementValue) (s : ScheduleValue) (v : Verdict) (order shown : Option ℕ) (run : List PlacementValue) (a b c d : List ℕ) → run ≡ run_of pre s → shown ≡ (if says_solves v then order else None)
-    → b ≡ a ++ text_of (numbered_steps 0 (map (node_lines names) run)) → c ≡ b ++ line (verdict_words names v)
-    → d ≡ c ++ text_of (more_lines names (machine_of pre.chunks pre.nodes (of_placement pre) s 0) (placed_steps names pre s) shown)
-    → d ≡ a ++ text_of (placed_lines names pre s v order)
-placed_text names pre s v order shown run a b c d ran seen p q r =
-    let m = machine_of pre.chunks pre.nodes (of_placement pre) s 0 in
-    let steps = placed_steps names pre s in
-    run_text (numbered_steps 0 steps) (more_lines names m steps (if says_solves v then order else None)) (verdict_words names v) a b c d
-    (p ∙ ap (λ k. a ++ text_of (numbered_steps 0 (map (node_lines names) k))) ran) q (r ∙ ap (λ o. c ++ text_of (more_lines names m steps o)) seen)
 
 -- ---- of a schedule whose first steps add
 

@@ -1,8 +1,8 @@
 -- What a report keeps of each of its points, and the instance that its part asks for.
-use Rattle.std.proofs.Common.{◌≡◌, ◌≢◌, arith, ◌≤◌, ◌<◌, ℕ, zero, suc, Bool, true, false, not, List, [], ◌∷◌, ◌++◌, map, All, Option, None, Some, IfSome, IsTrue, slice_get, refl, subst}
+use Rattle.std.proofs.Common.{◌≡◌, arith, ◌≤◌, ◌<◌, ℕ, zero, suc, true, false, List, [], ◌∷◌, map, All, Option, None, Some, IfSome, IsTrue, slice_get, refl, subst}
 use Rattle.std.specs.Prelude.{nat_le, Contains}
 use Rattle.std.specs.List.{AllByRecursion, flat_map}
-use Rattle.std.proofs.lemmas.Bool.{and_parts, leb-true}
+use Rattle.std.proofs.lemmas.Bool.{and_parts, leb-true, not-true}
 use Rattle.std.proofs.lemmas.List.Elements.{All-contains, All-from_recursion, recursion_from_All}
 use Rattle.outer_ports.specs.declared.part.Part.{Part}
 use Rattle.outer_ports.specs.declared.part.Part.TheVariants as part
@@ -13,10 +13,11 @@ use Rattle.collective_spec.specs.declared.spec.Spec.{Spec}
 use Rattle.collective_spec.specs.declared.spec.Spec.TheVariants as spec
 use Rattle.collective_spec.specs.Kinds.{allows, divides_evenly, is_custom}
 use Rattle.collective_spec.specs.Patterns.{PatternValue, IsPattern}
-use Rattle.collective_spec.specs.Collectives.{IsSpec, adds_up, chunks_in, fits_kind, kind_in, reduces, spec_demand, spec_instance, spec_of}
+use Rattle.collective_spec.specs.Collectives.{IsSpec, chunks_in, fits_kind, spec_instance, spec_of}
 use Rattle.candidate_order.specs.Frontiers.{PointValue, FrontierValue}
 use Rattle.report_form.specs.Reports.{ReportValue, IsReport, IsPoint, IsJoinedPoint, question_of, kind_of}
 use Rattle.report_form.specs.Numbered.{point_at, points_of}
+use Rattle.schedule.proofs.First.{each_append}
 use Rattle.point_replay.specs.Showing.{shown_in}
 use Rattle.point_replay.specs.Points.{IsShowable}
 
@@ -25,15 +26,7 @@ get_has P [] n x all e = absurd (cc)
 get_has P (y ∷ ys) zero x all e = let same : y ≡ x = cc in subst P same all.0
 get_has P (y ∷ ys) (suc n) x all e = get_has P ys n x all.1 e
 
-both_have : {X : Type 0} (P : X → Type 0) (xs ys : List X) → AllByRecursion P xs → AllByRecursion P ys → AllByRecursion P (xs ++ ys)
-both_have P [] ys a b = b
-both_have P (x ∷ xs) ys a b = (a.0, both_have P xs ys a.1 b)
-
 -- ---- what its part asks for
-
-not_given : (b : Bool) → not b ≡ true → b ≡ false
-not_given false e = refl
-not_given true e = absurd (cc)
 
 not_custom : (whole : Kind) (part : Part) → is_custom whole ≡ false → is_custom (kind_of whole part) ≡ false
 not_custom whole part.Whole e = e
@@ -43,7 +36,7 @@ not_custom whole part.Joined e = e
 
 spec_is : (whole : Collective) (part : Part) (nodes : ℕ) (custom : Option PatternValue) → fits_kind whole.kind custom ≡ true → whole.root < nodes → IfSome custom (IsPattern nodes)
     → IsSpec nodes (spec_of (record { kind = kind_of whole.kind part; root = whole.root }) custom)
-spec_is whole part nodes None fits root given = (not_custom whole.kind part (not_given (is_custom whole.kind) fits), root)
+spec_is whole part nodes None fits root given = (not_custom whole.kind part (not-true (is_custom whole.kind) fits), root)
 spec_is whole part nodes (Some p) fits root given = given
 
 -- the spec of a part is one for the nodes
@@ -86,7 +79,7 @@ module _ (r : ReportValue) (valid : IsReport r) where
 
   frontiers_show : (xs : List (Part × FrontierValue)) → AllByRecursion (λ x. All (IsPoint (question_of r.words r.topology x.0)) x.1.points) xs → AllByRecursion Shows (flat_map (λ x. map (λ p. (x.0, p)) x.1.points) xs)
   frontiers_show [] all = tt
-  frontiers_show (x ∷ xs) all = both_have Shows _ _ (part_shows x.0 x.1.points (recursion_from_All _ x.1.points all.0)) (frontiers_show xs all.1)
+  frontiers_show (x ∷ xs) all = each_append Shows _ _ (part_shows x.0 x.1.points (recursion_from_All _ x.1.points all.0)) (frontiers_show xs all.1)
 
   joined_show : (points : List PointValue) → AllByRecursion (IsJoinedPoint (question_of r.words r.topology part.Joined)) points → AllByRecursion Shows (map (λ p. (part.Joined, p)) points)
   joined_show [] all = tt
@@ -95,7 +88,7 @@ module _ (r : ReportValue) (valid : IsReport r) where
   all_show : AllByRecursion Shows (points_of r)
   all_show =
       let frontiers : AllByRecursion (λ y. All (IsPoint (question_of r.words r.topology y.0)) y.1.points) r.frontiers = recursion_from_All _ r.frontiers (λ k d at. (valid.frontiers k d at).points) in
-      both_have Shows _ _ (frontiers_show r.frontiers frontiers) (joined_show r.joined (recursion_from_All _ r.joined valid.joined))
+      each_append Shows _ _ (frontiers_show r.frontiers frontiers) (joined_show r.joined (recursion_from_All _ r.joined valid.joined))
 
   -- the point of a number is one of the report's
   pub numbered_shows : (n : ℕ) (x : Part × PointValue) → point_at r n ≡ Some x → IsShowable (shown_in r x)
@@ -106,10 +99,6 @@ module _ (r : ReportValue) (valid : IsReport r) where
   pub listed_shows : (x : Part × PointValue) → Contains (points_of r) x → IsShowable (shown_in r x)
   listed_shows x at = All-contains Shows (points_of r) x (All-from_recursion Shows (points_of r) all_show) at
 
-pub single : (x : Spec) → adds_up x ≡ false → kind_in x ≢ kind.Allreduce
-single (spec.Standard collective) copies e = let f : reduces kind.Allreduce ≡ false = subst (λ k. reduces k ≡ false) e copies in absurd (cc)
-single (spec.Custom p) copies e = absurd (cc)
-
 -- ---- its instance, and its demand
 
 pub pre_chunks : (x : Spec) (nodes c : ℕ) → (spec_instance x nodes c).pre.chunks ≡ chunks_in x nodes c
@@ -119,19 +108,3 @@ pre_chunks (spec.Custom p) nodes c = refl
 pub pre_nodes : (x : Spec) (nodes c : ℕ) → (spec_instance x nodes c).pre.nodes ≡ nodes
 pre_nodes (spec.Standard collective) nodes c = refl
 pre_nodes (spec.Custom p) nodes c = refl
-
-pub post_chunks : (x : Spec) (nodes c : ℕ) → (spec_instance x nodes c).post.chunks ≡ chunks_in x nodes c
-post_chunks (spec.Standard collective) nodes c = refl
-post_chunks (spec.Custom p) nodes c = refl
-
-pub post_nodes : (x : Spec) (nodes c : ℕ) → (spec_instance x nodes c).post.nodes ≡ nodes
-post_nodes (spec.Standard collective) nodes c = refl
-post_nodes (spec.Custom p) nodes c = refl
-
-pub demand_chunks : (x : Spec) (nodes c : ℕ) → (spec_demand x nodes c).chunks ≡ chunks_in x nodes c
-demand_chunks (spec.Standard collective) nodes c = refl
-demand_chunks (spec.Custom p) nodes c = refl
-
-pub demand_nodes : (x : Spec) (nodes c : ℕ) → (spec_demand x nodes c).nodes ≡ nodes
-demand_nodes (spec.Standard collective) nodes c = refl
-demand_nodes (spec.Custom p) nodes c = refl

@@ -9,7 +9,8 @@ use Rattle.schedule.specs.JoinedRuns.{joined_run}
 use Rattle.schedule.specs.declared.verdict.Verdict.{Verdict}
 use Rattle.inversion.specs.declared.verdict.SumVerdict.{SumVerdict}
 use Rattle.inversion.specs.Saying.{says_solves, says_sums}
-use Rattle.node_programs.specs.Machines.{State, StoreValue, bag_in, stored}
+use Rattle.bag_runs.specs.Stores.{StoreValue, bag_in, stored}
+use Rattle.node_programs.specs.Machines.{State}
 use Rattle.node_programs.specs.Runs.{operations, chosen}
 use Rattle.node_programs.specs.Ended.{machine_of}
 use Rattle.topology_text.specs.Spelling.{name_at}

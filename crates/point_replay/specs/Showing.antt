@@ -18,7 +18,8 @@ use Rattle.candidate_order.specs.declared.mark.Mark.{Mark}
 use Rattle.candidate_order.specs.declared.mark.Mark.TheVariants as mark
 use Rattle.candidate_order.specs.Frontiers.{QuestionValue, PointValue}
 use Rattle.node_programs.specs.Programs.{programs_of}
-use Rattle.node_programs.specs.Machines.{State, start_of, stored}
+use Rattle.bag_runs.specs.Stores.{stored}
+use Rattle.node_programs.specs.Machines.{State, start_of}
 use Rattle.node_programs.specs.Runs.{operations, chosen}
 use Rattle.text_lines.specs.Text.{text_of}
 use Rattle.topology_text.specs.Spelling.{name_at}

@@ -2,7 +2,7 @@
 
 ghost use Rattle.std.specs.Prelude.{◌≡◌, ◌<◌, ◌++◌, ◌∷◌, flat_map, map, OnOk};
 ghost use Rattle.std.specs.List.{range_with_len};
-ghost use Rattle.node_programs.specs.Kept.{counted};
+ghost use Rattle.bag_runs.specs.Kept.{counted};
 ghost use Rattle.text_lines.specs.Text.{line, text_of};
 ghost use Rattle.point_replay.specs.Replay.{numbered_steps, step_head};
 ghost use Rattle.point_replay.specs.Appended.{bag_word, digits_of, keeper_words, last_of, store_lines};

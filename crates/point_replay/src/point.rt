@@ -131,8 +131,7 @@ fn push_body(
 }
 
 /// The replay of a point: what each node has after step 0, 1 and so on, and the verdict on its schedule; and where an order
-/// is asked for and the verdict holds, the run of its programs in the order that this seed draws. The only error is want
-/// of memory.
+/// is asked for and the verdict holds, the run of its programs in the order that this seed draws. The only error is `OutOfMemory`.
 pub fn replay_point(
     alloc: Global,
     report: &Report,

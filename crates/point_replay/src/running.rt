@@ -1,7 +1,7 @@
 //! The run of a point's programs.
 
 ghost use Rattle.std.specs.Prelude.{◌≡◌, Contains, IfOk, length};
-ghost use Rattle.node_programs.specs.Machines.{stored};
+ghost use Rattle.bag_runs.specs.Stores.{stored};
 ghost use Rattle.node_programs.specs.Runs.{chosen, operations};
 ghost use Rattle.report_form.specs.Numbered.{points_of};
 ghost use Rattle.point_replay.specs.Points.{IsShowable};
@@ -41,7 +41,7 @@ fn start_store(
 }
 
 /// Runs the programs of one of the report's points to their end, in the order that the seed draws, and gives the nodes
-/// that move, one for each operation. The only error is want of memory.
+/// that move, one for each operation. The only error is `OutOfMemory`.
 pub fn run_point(
     alloc: Global,
     report: &Report,

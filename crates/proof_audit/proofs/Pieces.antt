@@ -2,7 +2,7 @@
 use Rattle.std.proofs.Common.{◌≡◌, ◌∙◌, refl, sym, ap, ℕ, ◌+◌, ◌<◌, ◌≤◌, Bool, true, false, Option, None, Some, Ok, List, [], ◌++◌, length, take, drop, subst, arith, append_assoc, IsTrue}
 use Rattle.std.specs.Prelude.{◌&&◌, IfSome, nat_le, if◌then◌else◌}
 use Rattle.std.proofs.Math.Seq.{take-add}
-use Rattle.std.proofs.lemmas.Bool.{le-leb, lt-leb, and_from}
+use Rattle.std.proofs.lemmas.Bool.{le-leb, lt-leb}
 use Rattle.std.proofs.lemmas.List.{take-append-drop, take_all, length-append, length-take, length-take-le, append-nil}
 use Rattle.outer_ports.specs.Port.{Tells}
 use Rattle.outer_ports.specs.Files.{Files}
@@ -11,7 +11,7 @@ use Rattle.outer_ports.specs.declared.proof_name.ProofName.{ProofName}
 use Rattle.outer_ports.specs.declared.shelf_fault.ShelfFault.{ShelfFault}
 use Rattle.proof_audit.specs.declared.verdict.FileVerdict.{FileVerdict}
 use Rattle.proof_audit.specs.declared.verdict.FileVerdict.TheVariants.{Missing, Refused, Stands}
-use Rattle.proof_audit.specs.Files.{file_verdict, short_and, SomePass}
+use Rattle.proof_audit.specs.Files.{file_verdict, short_and}
 
 -- the bytes that a judge took, and which are those of the file in front of a place, where the shelf tells it
 pub record IsFront (before now : List ℕ → Bool) (tells : Bool) (file : Option (List ℕ)) (place : ℕ) : Type 0 where
@@ -20,9 +20,6 @@ pub record IsFront (before now : List ℕ → Bool) (tells : Bool) (file : Optio
   pub same : (more : List ℕ) → before (bytes ++ more) ≡ now more
   pub front : IsTrue tells → (whole : List ℕ) → file ≡ Some whole → bytes ≡ take place whole
   pub there : IsTrue tells → file ≡ None → place ≡ 0
-
-pub none_taken : (before : List ℕ → Bool) (tells : Bool) (file : Option (List ℕ)) → IsFront before before tells file 0
-none_taken before tells file = record { bytes = []; long = refl; same = λ more. refl; front = λ t whole e. refl; there = λ t e. refl }
 
 -- the piece that comes at a place of the file
 pub record IsPiece (tells : Bool) (file : Option (List ℕ)) (place : ℕ) (piece : List ℕ) : Type 0 where
@@ -62,9 +59,6 @@ module _ (tells : Bool) (at_start files : Files) (name : ProofName) (place : ℕ
 by_file : (test : List ℕ → Bool) (file : Option (List ℕ)) (v : FileVerdict) → (file ≡ None → v ≡ Missing) → ((whole : List ℕ) → file ≡ Some whole → v ≡ (if test whole then Stands else Refused)) → v ≡ file_verdict test file
 by_file test None v none some = none refl
 by_file test (Some whole) v none some = some whole refl
-
-pub missing_is : (test : List ℕ → Bool) (file : Option (List ℕ)) → file ≡ None → Missing ≡ file_verdict test file
-missing_is test file e = sym (ap (file_verdict test) e)
 
 failing : (test : List ℕ → Bool) (whole : List ℕ) → test whole ≡ false → Refused ≡ (if test whole then Stands else Refused)
 failing test whole e = sym (ap (λ b. if b then Stands else Refused) e)
@@ -108,13 +102,3 @@ module _ (before now : List ℕ → Bool) (told : Bool) (file : Option (List ℕ
           let same : now [] ≡ before whole = sym (f.same []) ∙ ap before (append-nil f.bytes ∙ all) in
           let short : nat_le (length whole) limit ≡ true = le-leb (length whole) limit (omega (arith, last, within)) in
           ap (λ b. if b then Stands else Refused) (is ∙ same ∙ sym (ap (λ b. b && before whole) short))
-
-  pub some_passed : (passed : Bool) → place ≤ limit → passed ≡ now [] → (if passed then Stands else Refused) ≡ Stands → SomePass (short_and limit before)
-  some_passed passed within is stands = record {
-    bytes = f.bytes;
-    pass = and_from (nat_le (length f.bytes) limit) (before f.bytes) (le-leb (length f.bytes) limit (omega (arith, f.long, within))) (ap before (sym (append-nil f.bytes)) ∙ f.same [] ∙ sym is ∙ stood passed stands);
-  }
-    where
-      stood : (b : Bool) → (if b then Stands else Refused) ≡ Stands → b ≡ true
-      stood true e = refl
-      stood false e = absurd (cc)

@@ -1,7 +1,7 @@
 -- Tests of files pass exactly where the files are what they have to be.
 use Rattle.std.proofs.Common.{◌≡◌, ℕ, suc, Bool, true, false, List, [], ◌∷◌, length, Result, Ok, Err, Option, None, Some, refl, sym, ap, ◌∙◌}
 use Rattle.std.specs.Prelude.{◌&&◌, ◌==◌, if◌then◌else◌, map}
-use Rattle.std.proofs.lemmas.Bool.{and_parts, eqb-true, eq-eqb}
+use Rattle.std.proofs.lemmas.Bool.{and_parts, eqb-true, eq-eqb, and_from}
 use Rattle.cnf_formula.specs.Formulas.{FormulaValue}
 use Rattle.cnf_formula.specs.Lines.{ProofLineValue}
 use Rattle.cnf_formula.specs.declared.line.LratLine.{LratLine}
@@ -78,16 +78,11 @@ learned_by c (Addition line ∷ lines) e =
       fresh = (front.1, rest.fresh);
     }
 
-pub both_true : (a b : Bool) → a ≡ true → b ≡ true → (a && b) ≡ true
-both_true true true p q = refl
-both_true true false p q = absurd (cc)
-both_true false b p q = absurd (cc)
-
 pub by_learning : (c : CheckerValue) (added : List ProofLineValue) → AllImplied c added → AllFresh c added → are_learned c (map Addition added) ≡ true
 by_learning c [] a f = refl
 by_learning c (line ∷ added) a f =
-    both_true (is_implied (verdict_of c line) && is_fresh c line.lits) (are_learned (with_line c line) (map Addition added))
-    (both_true (is_implied (verdict_of c line)) (is_fresh c line.lits) (is_so (verdict_of c line) a.0) f.0)
+    and_from (is_implied (verdict_of c line) && is_fresh c line.lits) (are_learned (with_line c line) (map Addition added))
+    (and_from (is_implied (verdict_of c line)) (is_fresh c line.lits) (is_so (verdict_of c line) a.0) f.0)
     (by_learning (with_line c line) added a.1 f.1)
 
 map_length : (added : List ProofLineValue) → length (map Addition added) ≡ length added
@@ -113,6 +108,6 @@ spent_by f n (Ok lines) e =
 pub by_spending : (f : FormulaValue) (n : ℕ) (said : Result (List LratLine) LratTextFault) (added : List ProofLineValue) → said ≡ Ok (map Addition added) → SpentLog added f n → do_spend f n said ≡ true
 by_spending f n said added e s =
     ap (do_spend f n) e
-    ∙ both_true (length (map Addition added) == n) (are_learned (start_of f) (map Addition added))
+    ∙ and_from (length (map Addition added) == n) (are_learned (start_of f) (map Addition added))
     (eq-eqb (length (map Addition added)) n (map_length added ∙ s.count))
     (by_learning (start_of f) added s.implied s.fresh)

@@ -1,5 +1,5 @@
 -- What a reader says of a text, line by line, whatever pieces it is fed.
-use Rattle.std.proofs.Common.{◌≡◌, ℕ, ◌+◌, Bool, true, false, cond, List, [], ◌∷◌, ◌++◌, length, drop, Option, Some, None, Result, Ok, Err, refl, sym, ap, ◌∙◌, ⊎_elim, arith, append_assoc}
+use Rattle.std.proofs.Common.{◌≡◌, ℕ, ◌+◌, Bool, true, false, cond, List, [], ◌∷◌, ◌++◌, length, drop, Option, Some, None, Result, Ok, Err, refl, sym, ap, ◌∙◌, ⊎_elim, arith}
 use Rattle.std.specs.Prelude.{◌==◌, ◌||◌}
 use Rattle.std.specs.List.{flat_map}
 use Rattle.std.proofs.lemmas.Bool.{false≢true, cases_Bool}
@@ -8,7 +8,7 @@ use Rattle.text_lines.specs.Text.{Row, onto_row, rows_of, row_text}
 use Rattle.text_lines.proofs.Rows.{rows_back}
 use Rattle.cnf_formula.specs.declared.line.LratLine.{LratLine}
 use Rattle.lrat_text.specs.declared.fault.LratTextFault.{LratTextFault}
-use Rattle.lrat_text.specs.Reading.{row_says, size_of, Said, nothing_said, said_at, said_by, ReaderValue, fed, said_to, after_next}
+use Rattle.lrat_text.specs.Reading.{row_says, size_of, Said, nothing_said, said_at, said_by, ReaderValue, said_to, after_next}
 use Rattle.lrat_text.proofs.Cutting.{first_of}
 use Rattle.candidate_formula.specs.Lines.{in_front, lines_from}
 use Rattle.proof_audit.specs.Lines.{left_says, before, lines_pass}
@@ -113,12 +113,6 @@ pub taken_line : (r : ReaderValue) (more : List ℕ) → r.fault ≡ None → (r
 taken_line r more calm last =
     let said : said_to r ≡ said_by r.finished r.place (rows_of r.rest) = rw (calm, said_to) refl in
     said_before r.finished (rows_of r.rest) r.rest more r.place refl last ∙ ap (λ s. before s.answer (later s r.place r.rest more)) (sym said)
-
-pub fed_more : (r : ReaderValue) (piece more : List ℕ) → left_says r (piece ++ more) ≡ left_says (fed r piece) more
-fed_more r piece more = ap (λ bs. lines_from r.place (rows_of bs)) (sym (append_assoc r.rest piece more))
-
-pub none_left : (r : ReaderValue) → r.rest ≡ [] → left_says r [] ≡ Ok []
-none_left r e = ap (λ bs. lines_from r.place (rows_of (bs ++ []))) e
 
 -- ---- tests of lines
 

@@ -74,7 +74,7 @@ after_more (l ∷ lines) c line = after_more lines (with_accepted c l) line
 pub starts_as_checker : (f : FormulaValue) → IsChecker (start_of f)
 starts_as_checker f = record { lines = []; accepted = tt; is = refl }
 
-same_formula : (c : CheckerValue) (line : LratLine) → (with_accepted c line).formula ≡ c.formula
+pub same_formula : (c : CheckerValue) (line : LratLine) → (with_accepted c line).formula ≡ c.formula
 same_formula c (Addition line) = refl
 same_formula c (Deletion deletion) = refl
 

@@ -17,6 +17,7 @@ use Rattle.proof_rules.specs.Refuting.{is_accepted, verdict_on, with_line, with_
 use Rattle.proof_rules.proofs.Verdicts.{implied_by, redundant_by}
 use Rattle.proof_rules.proofs.Sound.{holds, Holds}
 use Rattle.proof_rules.proofs.Calm.{all_calm, starts_calm}
+use Rattle.proof_rules.proofs.Kept.{same_formula}
 
 -- ---- what is held is about the formula's variables
 
@@ -42,10 +43,6 @@ new_in_range c (Addition line) vars e a h = go (verdict_of c line) refl a
     go (AcceptedVerdict true) is a = All-push (InRange vars) c.held (line.id, line.lits) h (subst (λ n. IsClause n line.lits) e (implied_by c line is).new.in_range)
     go (AcceptedVerdict false) is a = All-push (InRange vars) c.held (line.id, line.lits) h (subst (λ n. IsClause n line.lits) e (redundant_by c line is).new.in_range)
     go (Refused code hint) is a = absurd (cc)
-
-same_formula : (c : CheckerValue) (line : LratLine) → (with_accepted c line).formula ≡ c.formula
-same_formula c (Addition line) = refl
-same_formula c (Deletion deletion) = refl
 
 all_kept : (f : FormulaValue) (lines : List LratLine) (c : CheckerValue) → AllAccepted c lines → Kept f c → Kept f (after c lines)
 all_kept f [] c a k = k

@@ -2,9 +2,9 @@
 use Rattle.std.proofs.Common.{◌≡◌, ℕ, zero, suc, ◌<◌, max, Bool, true, false, List, [], ◌∷◌, length, get_or, Option, Some, None, Ok, Err, refl, sym, ap, ◌∙◌, ⊎_elim, arith}
 use Rattle.std.specs.Prelude.{◌↔◌, ◌==◌, ◌≢◌, if◌then◌else◌, All, AllPairs, nat_le, nat_lt}
 use Rattle.std.specs.List.{list_any, list_all}
-use Rattle.std.proofs.lemmas.Bool.{cases_Bool, cases_eq, ltb-false, leb-false, le-ltb, lt-leb, eqb-false, ne_eqb, or_parts, or_from, and_parts, and_from}
-use Rattle.std.proofs.lemmas.List.Elements.{All-nil, All-cons, All-head, All-tail}
+use Rattle.std.proofs.lemmas.Bool.{cases_Bool, cases_eq, ltb-false, leb-false, le-ltb, lt-leb, eqb-false, ne_eqb, or_parts, or_from}
 use Rattle.std.proofs.lemmas.List.Folds.{list_any_none}
+use Rattle.std.proofs.lemmas.List.Sums.{AllPass-from_list_all, list_all-from_AllPass}
 use Rattle.cnf_formula.specs.Literals.{LitValue}
 use Rattle.cnf_formula.specs.Formulas.{IsAbout}
 use Rattle.cnf_formula.specs.Lines.{ProofLineValue}
@@ -16,24 +16,9 @@ use Rattle.proof_rules.specs.Judging.{is_foreign, Fault, led_to, groups_fault, i
 use Rattle.proof_rules.specs.Accepting.{Group, leading, groups_of, is_answered, IsNew, Implied, Redundant}
 use Rattle.proof_rules.proofs.Hints.{Led, conflicts, leads_to_conflict, leads, led_by}
 use Rattle.proof_rules.proofs.Groups.{AreRight, right, no_fault}
+use Rattle.proof_rules.proofs.Sound.{none_any}
 
 -- ---- tests of lists
-
-none_any : {X : Type 0} (p : X → Bool) (xs : List X) → list_any p xs ≡ false → All (λ x. p x ≡ false) xs
-none_any p [] h = All-nil (λ x. p x ≡ false)
-none_any p (x ∷ xs) h =
-    let parts = or_parts (p x) (list_any p xs) h in
-    All-cons (λ y. p y ≡ false) x xs parts.0 (none_any p xs parts.1)
-
-all_pass_test : {X : Type 0} (p : X → Bool) (xs : List X) → list_all p xs ≡ true → All (λ x. p x ≡ true) xs
-all_pass_test p [] h = All-nil (λ x. p x ≡ true)
-all_pass_test p (x ∷ xs) h =
-    let parts = and_parts (p x) (list_all p xs) h in
-    All-cons (λ y. p y ≡ true) x xs parts.0 (all_pass_test p xs parts.1)
-
-test_passes : {X : Type 0} (p : X → Bool) (xs : List X) → All (λ x. p x ≡ true) xs → list_all p xs ≡ true
-test_passes p [] h = refl
-test_passes p (x ∷ xs) h = and_from (p x) (list_all p xs) (All-head (λ y. p y ≡ true) x xs h) (test_passes p xs (All-tail (λ y. p y ≡ true) x xs h))
 
 abbrev Apart : LitValue → LitValue → Type 0
 Apart l other = l.var ≢ other.var
@@ -151,7 +136,7 @@ redundant_way held start groups (pivot ∷ rest) i h = go (groups_fault held piv
           rest = rest;
           first = refl;
           rights = right held pivot start [] groups e;
-          each = all_pass_test (is_answered pivot start groups) held t;
+          each = AllPass-from_list_all (is_answered pivot start groups) held t;
         })
         (λ f. let bad : Refused (unanswered_code groups) 0 ≡ AcceptedVerdict i = rw f at after in absurd (cc))
         (cases_Bool (list_all (is_answered pivot start groups) held))
@@ -199,7 +184,7 @@ by_redundant c line r =
     let groups = groups_of line.hints in
     let rights : AreRight c.held r.pivot r.start [] groups = record { answers = r.answers; new = λ k d w. refl; apart = r.named_once } in
     let here : redundant_verdict c.held r.start groups (r.pivot ∷ r.rest) ≡ AcceptedVerdict false =
-    rw (no_fault c.held r.pivot r.start [] groups rights, redundant_verdict, test_passes (is_answered r.pivot r.start groups) c.held r.each) refl in
+    rw (no_fault c.held r.pivot r.start [] groups rights, redundant_verdict, list_all-from_AllPass (is_answered r.pivot r.start groups) c.held r.each) refl in
     new_is false c line r.new (rw (led_by c.held line.lits 0 (leading line.hints) r.start r.leads, led_verdict) (ap (redundant_verdict c.held r.start groups) r.first ∙ here))
 
 pub implied_exactly : (c : CheckerValue) (line : ProofLineValue) → (verdict_of c line ≡ AcceptedVerdict true) ↔ Implied c line

@@ -1,4 +1,5 @@
--- When an addition is accepted (LRAT: Cruz-Filipe et al. 2017; which groups may be left out is this project's own).
+-- When an addition is accepted (LRAT: Cruz-Filipe et al. 2017; which groups may be left out is this project's own). Implied is RUP
+-- (reverse unit propagation) along the hints, redundant is RAT (resolution asymmetric tautology).
 use Rattle.std.specs.Prelude.{◌≡◌, ◌≢◌, ◌==◌, ◌||◌, ℕ, ◌+◌, ◌<◌, Bool, true, false, not, ◌⊎◌, List, [], ◌∷◌, length, filter, Some, ℤ, pos, negsuc, All, AllPairs}
 use Rattle.std.specs.List.{list_any}
 use Rattle.cnf_formula.specs.Literals.{LitValue, has_literal, same_literal, negation}
@@ -116,6 +117,3 @@ pub record Redundant (c : CheckerValue) (line : ProofLineValue) : Type 0 where
   pub answers : All (Answers c.held pivot start) (groups_of line.hints)
   pub named_once : AllPairs (λ a b. a.named ≢ b.named) (groups_of line.hints)
   pub each : All (λ entry. is_answered pivot start (groups_of line.hints) entry ≡ true) c.held
-
-abbrev pub Accepted : CheckerValue → ProofLineValue → Type 0
-Accepted c line = Implied c line ⊎ Redundant c line

@@ -1,4 +1,5 @@
--- Lines in their turn, refutations, and spent logs (LRAT: Cruz-Filipe et al. 2017; logs are this project's own).
+-- Lines in their turn, refutations, and spent logs (LRAT: Cruz-Filipe et al. 2017; logs are this project's own): a spent log is the
+-- RUP additions of so many learned clauses, none subsumed by a clause held before.
 use Rattle.std.specs.Prelude.{◌≡◌, ◌==◌, ◌||◌, ℕ, Bool, true, false, not, List, [], ◌∷◌, ◌++◌, length, map, filter}
 use Rattle.std.specs.List.{list_any}
 use Rattle.cnf_formula.specs.Literals.{LitValue, is_superset}

@@ -1,4 +1,4 @@
-//! Laws of refutations.
+//! Laws of refutations (soundness of LRAT).
 
 ghost use Rattle.std.specs.Prelude.{◌≡◌, ◌↔◌, ℕ, true, false, List, []};
 ghost use Rattle.cnf_formula.specs.Formulas.{FormulaValue, IsFormula, Satisfiable};
@@ -11,7 +11,7 @@ ghost use Rattle.proof_rules.specs.Refuting.{is_accepted, verdict_on, with_accep
 
 use crate::verdict::LineVerdict;
 
-/// The checks leave an addition accepted as implied, or as redundant, exactly by the definitions.
+/// The checks leave an addition accepted as implied (RUP), or as redundant (RAT), exactly by the definitions.
 #[tactic(auto, using(crate::proofs::Verdicts::implied_exactly, crate::proofs::Verdicts::redundant_exactly))]
 pub fn additions_are_accepted_exactly()
     ensures implied { (c : CheckerValue) (line : ProofLineValue) → (verdict_of c line ≡ LineVerdict.Accepted true) ↔ Implied c line }

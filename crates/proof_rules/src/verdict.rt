@@ -27,8 +27,9 @@ pub enum LineCode {
     GroupMissing = 13,
 }
 
-/// The verdict on a line. `implied` is whether it is an addition that follows from what is held. `hint` is the place of
-/// the hint that the code is about, counted from 0, and 0 where the code is about none.
+/// The verdict on a line. `implied` is whether it is an addition that follows from what is held (RUP), and not one that is only
+/// redundant (RAT), nor a deletion. `hint` is the place of the hint that the code is about, counted from 0, and 0 where the code
+/// is about none.
 #[derive(Clone, Copy, Debug, PartialEq, Eq)]
 pub enum LineVerdict {
     Accepted { implied: bool },

@@ -1,12 +1,10 @@
 -- The nodes that are enabled, by their ranks.
-use Rattle.std.proofs.Common.{◌≡◌, ℕ, zero, suc, ◌+◌, ◌%◌, ◌<◌, ◌≤◌, Bool, true, false, cond, List, [], ◌∷◌, ◌++◌, length, Some, None, refl, sym, ap, ◌∙◌, arith}
+use Rattle.std.proofs.Common.{◌≡◌, ℕ, zero, suc, ◌+◌, ◌<◌, ◌≤◌, Bool, true, false, cond, List, [], ◌∷◌, ◌++◌, length, Some, None, sym, ap, ◌∙◌, arith}
 use Rattle.std.specs.Prelude.{filter, slice_get}
 use Rattle.std.specs.List.{range_with_len}
 use Rattle.std.proofs.lemmas.List.{length-append, map-id}
 use Rattle.std.proofs.lemmas.List.FromFn.{filter_of_map_range_with_len_more}
-use Rattle.std.proofs.lemmas.Option.{slice_get-get_or, slice_get_past}
-use Rattle.std.proofs.Math.Nat.{mod-lt}
-use Rattle.node_programs.specs.Runs.{drawn, ranked}
+use Rattle.std.proofs.lemmas.Option.{slice_get_past}
 
 module _ (p : ℕ → Bool) where
   -- those among the first so many numbers
@@ -51,12 +49,3 @@ module _ (p : ℕ → Bool) where
 
   pub found_none : (n rank : ℕ) → length (passing n) ≤ rank → None ≡ slice_get (passing n) rank
   found_none n rank past = sym (slice_get_past (passing n) rank past)
-
--- a rank below the number of nodes draws the node of that rank
-pub ranked_at : (nodes : List ℕ) (x : ℕ) → 0 < length nodes → slice_get nodes (drawn x % length nodes) ≡ ranked nodes x
-ranked_at [] x some = absurd (omega arith)
-ranked_at (node ∷ nodes) x some = slice_get-get_or (node ∷ nodes) (drawn x % length (node ∷ nodes)) node (mod-lt (drawn x) some)
-
-pub ranked_none : (nodes : List ℕ) (x : ℕ) → length nodes ≡ 0 → None ≡ ranked nodes x
-ranked_none [] x none = refl
-ranked_none (node ∷ nodes) x none = absurd (omega (arith, none))

@@ -10,10 +10,8 @@ use Rattle.node_programs.proofs.Finished.{count_by_finished}
 use Rattle.node_programs.specs.Stops.{stop_of}
 use Rattle.node_programs.proofs.Stops.{whole_runs}
 use Rattle.std.proofs.lemmas.List.{drop_all}
+use Rattle.std.proofs.lemmas.Option.{same_Some}
 use Rattle.replay.specs.Ends.{IsLast}
-
-same_end : (a b : State) → Some a ≡ Some b → a ≡ b
-same_end a b is = cc
 
 -- a finished run of a schedule's machine has come to its last
 pub finished_last : (first end : State) (moves : List ℕ) → run_of first moves ≡ Some end → is_finished end ≡ true
@@ -34,7 +32,7 @@ drawn_last first end moves seed drawn ran chunks nodes start s adding valid rang
     let machine : State = machine_of chunks nodes start s adding in
     let goes : GoesToTheEnd machine (chosen machine seed) = every_seed chunks nodes start s adding seed valid range in
     let order : moves ≡ chosen machine seed = drawn ∙ ap (λ m. chosen m seed) is in
-    let same : goes.end ≡ end = same_end goes.end end (sym goes.ran ∙ ap (run_of machine) (sym order) ∙ ap (λ m. run_of m moves) (sym is) ∙ ran) in
+    let same : goes.end ≡ end = same_Some goes.end end (sym goes.ran ∙ ap (run_of machine) (sym order) ∙ ap (λ m. run_of m moves) (sym is) ∙ ran) in
     finished_last first end moves ran (ap is_finished (sym same) ∙ goes.finished) chunks nodes start s adding valid range is
 
 -- a list of which nothing is left is a run

@@ -1,10 +1,9 @@
 -- Runs of a machine, one event more.
-use Rattle.std.proofs.Common.{◌≡◌, ℕ, zero, suc, ◌+◌, ◌-◌, ◌<◌, ◌≤◌, true, false, List, [], ◌∷◌, ◌++◌, length, drop, get_or, Option, Some, None, refl, sym, ap, ◌∙◌, append_assoc, arith}
-use Rattle.std.specs.Prelude.{is_some, option_and_then, slice_get, unwrap_or}
-use Rattle.std.proofs.lemmas.List.{append-nil, drop_more, get_or_past}
-use Rattle.node_programs.specs.Machines.{State, event, is_enabled, performed}
+use Rattle.std.proofs.Common.{◌≡◌, ℕ, zero, suc, ◌+◌, ◌-◌, ◌<◌, true, List, [], ◌∷◌, ◌++◌, Option, Some, None, refl, sym, ap, ◌∙◌, append_assoc, arith}
+use Rattle.std.specs.Prelude.{is_some, unwrap_or}
+use Rattle.std.proofs.lemmas.List.{append-nil}
+use Rattle.node_programs.specs.Machines.{State, event, is_enabled}
 use Rattle.node_programs.specs.Runs.{enabled, next_draw, picked, ranked, run_of}
-use Rattle.node_programs.specs.Stops.{StopValue, stop_of}
 use Rattle.node_programs.proofs.Ends.{run_by}
 use Rattle.node_programs.proofs.Legal.{drawn_first, moved}
 
@@ -14,19 +13,8 @@ given : (after : Option State) (s : State) → is_some after ≡ true → after 
 given None s is = absurd cc
 given (Some next) s is = refl
 
-not_given : (after : Option State) → is_some after ≡ false → after ≡ None
-not_given None is = refl
-not_given (Some next) is = absurd cc
-
 pub event_some : (s next : State) (node : ℕ) → is_enabled s node ≡ true → next ≡ unwrap_or (event s node) s → event s node ≡ Some next
 event_some s next node enabled is = given (event s node) s enabled ∙ ap (λ x. Some x) (sym is)
-
-pub event_none : (s : State) (node : ℕ) → is_enabled s node ≡ false → event s node ≡ None
-event_none s node fails = not_given (event s node) fails
-
--- a number that is no node's does not move
-pub beyond_none : (s : State) (node : ℕ) → length s.left ≤ node → event s node ≡ None
-beyond_none s node past = ap (λ ops. option_and_then (performed s node) (slice_get ops 0)) (get_or_past s.left node [] past)
 
 -- ---- runs
 
@@ -64,20 +52,3 @@ picked_on count first seed moves new turn s next x node low so_far drawn is more
 
 pub picked_ends : (count : ℕ) (first : State) (seed : ℕ) (moves : List ℕ) (left : ℕ) (s : State) (x : ℕ) → IsPicked count first seed moves left s x → picked left s x ≡ [] → moves ≡ picked count first seed
 picked_ends count first seed moves left s x so_far none = sym (append-nil moves) ∙ ap (λ ms. moves ++ ms) (sym none) ∙ so_far
-
--- ---- lists of events
-
--- the stop by what the first event gives
-abbrev stop_after : State → ℕ → List ℕ → Option State → StopValue
-stop_after s node rest after = elim after [ None ↦ record { state = s; left = node ∷ rest } | Some next ↦ stop_of next rest ]
-
-abbrev stopped : State → List ℕ → StopValue
-stopped s nodes = record { state = s; left = nodes }
-
-pub stop_on : (s next : State) (nodes : List ℕ) (place d : ℕ) (whole : StopValue) → place < length nodes → whole ≡ stop_of s (drop place nodes) → event s (get_or nodes place d) ≡ Some next → whole ≡ stop_of next (drop (place + 1) nodes)
-stop_on s next nodes place d whole inside so_far is =
-    so_far ∙ ap (stop_of s) (drop_more nodes place d inside) ∙ ap (stop_after s (get_or nodes place d) (drop (place + 1) nodes)) is
-
-pub stop_here : (s : State) (nodes : List ℕ) (place d : ℕ) (whole : StopValue) → place < length nodes → whole ≡ stop_of s (drop place nodes) → event s (get_or nodes place d) ≡ None → whole ≡ stopped s (drop place nodes)
-stop_here s nodes place d whole inside so_far is =
-    so_far ∙ ap (stop_of s) (drop_more nodes place d inside) ∙ ap (stop_after s (get_or nodes place d) (drop (place + 1) nodes)) is ∙ ap (stopped s) (sym (drop_more nodes place d inside))

@@ -1,19 +1,16 @@
--- Joined runs in which every step copies, and those in which every step adds.
-use Rattle.std.proofs.Common.{◌≡◌, ℕ, zero, suc, ◌+◌, ◌<◌, cond, List, [], ◌∷◌, map, length, le-leb, refl, ap, ◌∙◌, arith}
+-- Orders of a machine in which every step copies.
+use Rattle.std.proofs.Common.{◌≡◌, ℕ, ◌<◌, List, [], ◌∷◌, map, length, refl, ap, ◌∙◌}
 use Rattle.std.specs.List.{AllByRecursion}
 use Rattle.schedule.specs.Sends.{ScheduleValue, IsInRange}
 use Rattle.schedule.specs.Placed.{PlacementValue, all_pairs}
 use Rattle.schedule.specs.Running.{after}
-use Rattle.schedule.specs.Bags.{Bags, held_at_2, of_placement}
-use Rattle.schedule.specs.Summing.{summed_step}
-use Rattle.schedule.specs.JoinedRuns.{copied_step, joined_after}
+use Rattle.schedule.specs.Bags.{held_at_2, of_placement}
+use Rattle.schedule.specs.JoinedRuns.{joined_after}
 use Rattle.schedule.proofs.Placing.{IsBelow, all_below}
-use Rattle.node_programs.specs.Machines.{stored}
+use Rattle.bag_runs.specs.Stores.{stored}
+use Rattle.bag_runs.proofs.CopiedBags.{bags_of_held}
 use Rattle.node_programs.proofs.Everywhere.{every_order}
-use Rattle.replay.specs.Throughout.{AddsThroughout, EveryCopyingOrderEndsAsHeld}
-use Rattle.replay.proofs.CopiedBags.{bags_of_held}
-
--- ---- every step copies
+use Rattle.replay.specs.Throughout.{EveryCopyingOrderEndsAsHeld}
 
 map_alike : {X Y : Type 0} (P : X → Type 0) (f g : X → Y) → ((x : X) → P x → f x ≡ g x) → (xs : List X) → AllByRecursion P xs → map f xs ≡ map g xs
 map_alike P f g same [] each = refl
@@ -34,12 +31,3 @@ stored_of_held pre s n some in_range =
 pub ends_as_held : EveryCopyingOrderEndsAsHeld
 ends_as_held pre s order end some leads finished =
     every_order pre.chunks pre.nodes (of_placement pre) s 0 order end leads finished ∙ stored_of_held pre s (length s.rounds) some leads.in_range
-
--- ---- every step adds
-
-pub adding_throughout : AddsThroughout
-adding_throughout start s adding zero small = refl
-adding_throughout start s adding (suc n) small =
-    let before : Bags = joined_after start s adding n in
-    ap (λ b. cond {A = Bags} b (summed_step s.sends before (n + 1)) (copied_step s.sends before (n + 1))) (le-leb (n + 1) adding (omega (arith, small)))
-    ∙ ap (λ bags. summed_step s.sends bags (n + 1)) (adding_throughout start s adding n (omega (arith, small)))

@@ -3,7 +3,8 @@ use Rattle.std.specs.Prelude.{◌≡◌, ℕ, ◌-◌, true, if◌then◌else◌
 use Rattle.schedule.specs.Bags.{Bags}
 use Rattle.schedule.specs.Sends.{ScheduleValue}
 use Rattle.schedule.specs.JoinedRuns.{joined_after}
-use Rattle.node_programs.specs.Machines.{State, is_finished, stored}
+use Rattle.bag_runs.specs.Stores.{stored}
+use Rattle.node_programs.specs.Machines.{State, is_finished}
 use Rattle.node_programs.specs.Runs.{operations}
 use Rattle.node_programs.specs.Ended.{machine_of}
 use Rattle.node_programs.specs.Stops.{StopValue}

@@ -14,7 +14,7 @@ use node_programs::Machine;
 use std::alloc::Global;
 
 /// Runs the machine until no node is enabled, in the order that the seed draws, and gives the nodes that moved. The only
-/// error is want of memory; then the machine is as before.
+/// error is `OutOfMemory`; then the machine is as before.
 pub fn replay_by_order(
     alloc: Global,
     machine: &mut Machine,

@@ -1,72 +1,18 @@
 -- Sends and candidates in their order: one behind the last is behind each.
-use Rattle.std.proofs.Common.{◌≡◌, ℕ, zero, suc, ◌<◌, ◌≤◌, Bool, true, ◌&&◌, ◌||◌, eqb, ltb, List, [], ◌∷◌, ◌++◌, length, get_or, Option, None, Some, ◌⊎◌, inl, inr, refl, sym, ap, ◌∙◌, subst, arith}
+use Rattle.std.proofs.Common.{◌≡◌, ℕ, zero, suc, ◌<◌, ◌≤◌, true, List, [], ◌∷◌, ◌++◌, length, get_or, Option, None, Some, ◌⊎◌, inl, inr, refl, sym, ap, ◌∙◌, subst, arith}
 use Rattle.std.specs.Prelude.{All}
 use Rattle.std.specs.List.{AllPairs, last_or}
-use Rattle.std.proofs.lemmas.Bool.{and_parts, or_cases, or_left, or_right, and_from, ltb-true, lt-ltb, eqb-true, eq-eqb, cases_lt}
+use Rattle.std.proofs.lemmas.Bool.{cases_lt}
 use Rattle.std.proofs.lemmas.List.Quantifiers.{all_pairs_push}
 use Rattle.schedule.specs.declared.hop.Hop.{Hop}
 use Rattle.schedule.specs.Sends.{hop_before}
+use Rattle.schedule.proofs.HopOrder.{before_all}
 use Rattle.candidate_order.specs.declared.candidate.Candidate.{Candidate}
 use Rattle.candidate_order.specs.Costs.{Before}
 use Rattle.candidate_order.proofs.Orders.{Before-trans}
 use Rattle.report_form.specs.Tests.{comes_next}
 use Rattle.report_form.specs.Points.{follows}
 use Rattle.report_form.proofs.Tested.{decides_before}
-
--- by a first number, and where that is the same by what comes after it
-abbrev by_first : ℕ → ℕ → Bool → Bool
-by_first x y more = ltb x y || (eqb x y && more)
-
-by_first_is : (x y : ℕ) (p : Bool) → by_first x y p ≡ true → (x < y) ⊎ ((x ≡ y) × (p ≡ true))
-by_first_is x y p e = by_test (or_cases (ltb x y) (eqb x y && p) e)
-  where
-    by_test : (ltb x y ≡ true) ⊎ ((eqb x y && p) ≡ true) → (x < y) ⊎ ((x ≡ y) × (p ≡ true))
-    by_test (inl h) = inl (ltb-true x y h)
-    by_test (inr h) = let (same, more) = and_parts (eqb x y) p h in inr (eqb-true x y same, more)
-
-by_first_less : (x y : ℕ) (p : Bool) → x < y → by_first x y p ≡ true
-by_first_less x y p h = or_left (ltb x y) (eqb x y && p) (lt-ltb x y h)
-
-by_first_same : (x y : ℕ) (p : Bool) → x ≡ y → p ≡ true → by_first x y p ≡ true
-by_first_same x y p h more = or_right (ltb x y) (eqb x y && p) (and_from (eqb x y) p (eq-eqb x y h) more)
-
-by_first_trans : (x y z : ℕ) (p q r : Bool) → (p ≡ true → q ≡ true → r ≡ true) → by_first x y p ≡ true → by_first y z q ≡ true → by_first x z r ≡ true
-by_first_trans x y z p q r later first second = by_cases (by_first_is x y p first) (by_first_is y z q second)
-  where
-    by_cases : (x < y) ⊎ ((x ≡ y) × (p ≡ true)) → (y < z) ⊎ ((y ≡ z) × (q ≡ true)) → by_first x z r ≡ true
-    by_cases (inl a) (inl b) = by_first_less x z r (omega arith)
-    by_cases (inl a) (inr b) = by_first_less x z r (omega arith)
-    by_cases (inr a) (inl b) = by_first_less x z r (omega arith)
-    by_cases (inr a) (inr b) = by_first_same x z r (omega arith) (later a.1 b.1)
-
-less_trans : (x y z : ℕ) → ltb x y ≡ true → ltb y z ≡ true → ltb x z ≡ true
-less_trans x y z first second = lt-ltb x z (omega (arith, ltb-true x y first, ltb-true y z second))
-
-abbrev from_before : Hop → Hop → Bool
-from_before a b = by_first a.from b.from (ltb a.to b.to)
-
-abbrev chunk_before : Hop → Hop → Bool
-chunk_before a b = by_first a.chunk b.chunk (from_before a b)
-
-pub hop_before_trans : (a b c : Hop) → hop_before a b ≡ true → hop_before b c ≡ true → hop_before a c ≡ true
-hop_before_trans a b c first second =
-    by_first_trans a.step b.step c.step (chunk_before a b) (chunk_before b c) (chunk_before a c)
-    (by_first_trans a.chunk b.chunk c.chunk (from_before a b) (from_before b c) (from_before a c)
-    (by_first_trans a.from b.from c.from (ltb a.to b.to) (ltb b.to c.to) (ltb a.to c.to) (less_trans a.to b.to c.to)))
-    first second
-
-never_itself : (x : ℕ) (p : Bool) → (p ≡ true → ⊥) → by_first x x p ≡ true → ⊥
-never_itself x p later e = by_cases (by_first_is x x p e)
-  where
-    by_cases : (x < x) ⊎ ((x ≡ x) × (p ≡ true)) → ⊥
-    by_cases (inl less) = absurd (omega (arith, less))
-    by_cases (inr same) = later same.1
-
-pub hop_never_itself : (a : Hop) → hop_before a a ≡ true → ⊥
-hop_never_itself a =
-    never_itself a.step (chunk_before a a)
-    (never_itself a.chunk (from_before a a)
-    (never_itself a.from (ltb a.to a.to) (λ e. absurd (omega (arith, ltb-true a.to a.to e)))))
 
 -- ---- the last of a list
 
@@ -107,7 +53,7 @@ HopBefore a b = hop_before a b ≡ true
 
 pub push_hop : (before : List Hop) (h : Hop) → AllPairs HopBefore before → follows (last_or None before) h ≡ true → AllPairs HopBefore (before ++ h ∷ [])
 push_hop before h ascending next =
-    push_behind HopBefore (λ x. Unit {0}) (λ a b c p q r. hop_before_trans a b c) before h (λ k d w. tt) tt ascending
+    push_behind HopBefore (λ x. Unit {0}) (λ a b c p q r. before_all a b c) before h (λ k d w. tt) tt ascending
     (λ l last. ap (λ o. follows o h) (sym last) ∙ next)
 
 abbrev pub HasChunk : Candidate → Type 0

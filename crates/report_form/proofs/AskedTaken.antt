@@ -4,6 +4,7 @@ use Rattle.std.specs.Prelude.{codes, decimal, bytes_eq, find, if◌then◌else�
 use Rattle.std.specs.List.{list_all}
 use Rattle.std.proofs.lemmas.Bool.{and_parts, not-true}
 use Rattle.std.proofs.lemmas.Slice.Eq.{bytes_eq-Decides}
+use Rattle.std.proofs.lemmas.Option.{same_Some}
 use Rattle.text_lines.specs.Text.{Place}
 use Rattle.text_lines.specs.Check.{◌>>=◌, refuse, need, line_part}
 use Rattle.text_lines.proofs.Checks.{bind_ok, ok_is}
@@ -23,7 +24,7 @@ use Rattle.report_form.specs.Tests.{are_limits}
 use Rattle.report_form.specs.Fields.{any_number, behind_key, next_keyed, fixed_word, no_more}
 use Rattle.report_form.specs.Asked.{AskedValue, kinds_of, kind_named, limits_from, root_from, asked_from, may_be_asked, asked_line, root_of, words_from}
 use Rattle.report_form.proofs.Tested.{decides_limits}
-use Rattle.report_form.proofs.Tokens.{word_take, fixed_take, no_more_take, keyed_is, any_number_is, if_some, some_is}
+use Rattle.report_form.proofs.Tokens.{word_take, fixed_take, no_more_take, keyed_is, any_number_is, if_some}
 use Rattle.report_form.proofs.LineTaken.{words_part_take, ruled}
 
 -- ---- keys
@@ -45,7 +46,7 @@ found_is p [] k e = absurd (cc)
 found_is p (x ∷ xs) k e = chosen (p x) refl e (found_is p xs k)
   where
     chosen : (b : Bool) → b ≡ p x → (if b then Some x else find p xs) ≡ Some k → (find p xs ≡ Some k → p k ≡ true) → p k ≡ true
-    chosen true same h later = let is : x ≡ k = some_is x k h in ap p (sym is) ∙ sym same
+    chosen true same h later = let is : x ≡ k = same_Some x k h in ap p (sym is) ∙ sym same
     chosen false same h later = later h
 
 kind_is : (patterned : Bool) (w : List ℕ) (k : Kind) → kind_named patterned w ≡ Some k → w ≡ word_of k
@@ -57,7 +58,7 @@ found_among p q [] k all e = absurd (cc)
 found_among p q (x ∷ xs) k all e = let parts = and_parts (q x) (list_all q xs) all in chosen (p x) parts.0 e (found_among p q xs k parts.1)
   where
     chosen : (b : Bool) → q x ≡ true → (if b then Some x else find p xs) ≡ Some k → (find p xs ≡ Some k → q k ≡ true) → q k ≡ true
-    chosen true holds h later = ap q (sym (some_is x k h)) ∙ holds
+    chosen true holds h later = ap q (sym (same_Some x k h)) ∙ holds
     chosen false holds h later = later h
 
 -- in version 1 no pairs are given
@@ -65,11 +66,11 @@ kind_standard : (w : List ℕ) (k : Kind) → kind_named false w ≡ Some k → 
 kind_standard w k e = not-true (is_custom k) (found_among (λ kind. bytes_eq (word_of kind) w) (λ kind. not (is_custom kind)) standard_kinds k refl e)
 
 name_is : (w name : List ℕ) → name_of w ≡ Some name → w ≡ name
-name_is w name e = some_is w name (if_some (is_name w) (Some w) name e).1
+name_is w name e = same_Some w name (if_some (is_name w) (Some w) name e).1
 
 -- ---- the limits
 
-abbrev limits : ℕ → ℕ → ℕ → ℕ → LimitsValue
+abbrev pub limits : ℕ → ℕ → ℕ → ℕ → LimitsValue
 limits k s c n = record { k = k; max_s = s; max_c = c; conflicts = n }
 
 -- the tokens of the limits, and those behind them
@@ -135,7 +136,7 @@ root_take kind words x e = let taken = chosen (takes_root kind) e in record { st
 
 -- ---- the line
 
-abbrev asked : Kind → LimitsValue → Option (List ℕ) → AskedValue
+abbrev pub asked : Kind → LimitsValue → Option (List ℕ) → AskedValue
 asked kind l root = record { kind = kind; limits = l; root = root }
 
 abbrev pub asked_words : AskedValue → List (List ℕ)
@@ -175,7 +176,7 @@ asked_take patterned words a e =
         none [] = refl
         none (z ∷ zs) = ap (λ ws. z ∷ ws) (none zs)
 
-abbrev asked_check : Bool → List (List ℕ) → Result AskedValue ReportCode
+abbrev pub asked_check : Bool → List (List ℕ) → Result AskedValue ReportCode
 asked_check patterned words = asked_from patterned words >>= (λ a. refuse (not (may_be_asked patterned a)) code.Limits >>= (λ u. Ok a))
 
 pub record AskedPart (patterned : Bool) (p : Place) (x : AskedValue × Place) : Type 0 where

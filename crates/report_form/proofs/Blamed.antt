@@ -1,8 +1,9 @@
 -- At most one line of a text is the first at which it can no longer be a report's.
-use Rattle.std.proofs.Common.{◌≡◌, ℕ, zero, suc, ◌-◌, ◌<◌, ◌≤◌, inl, inr, List, [], ◌∷◌, ◌++◌, refl, sym, ap, ◌∙◌, arith}
+use Rattle.std.proofs.Common.{◌≡◌, ℕ, ◌-◌, ◌<◌, ◌≤◌, inl, inr, List, [], ◌∷◌, ◌++◌, refl, sym, ap, ◌∙◌, arith}
 use Rattle.std.specs.Prelude.{take, Ok, codes, Option, None, Some}
 use Rattle.std.specs.Fmt.{digits}
 use Rattle.std.proofs.lemmas.Bool.{cases_order}
+use Rattle.std.proofs.lemmas.List.{take-take}
 use Rattle.text_lines.specs.Text.{rows_of, text_of}
 use Rattle.collective_spec.specs.Patterns.{PatternValue}
 use Rattle.topology_text.specs.Spelling.{version_word, lines_of}
@@ -15,15 +16,9 @@ use Rattle.report_form.specs.First.{Agrees, FailsFirstAt}
 use Rattle.report_form.specs.Rows.{broadcast_report}
 use Rattle.report_form.proofs.ReportTaken.{report_take}
 
-fewer : {A : Type 0} (m n : ℕ) (xs : List A) → m ≤ n → take m (take n xs) ≡ take m xs
-fewer zero n xs le = refl
-fewer (suc m) zero xs le = absurd (omega (arith, le))
-fewer (suc m) (suc n) [] le = refl
-fewer (suc m) (suc n) (x ∷ xs) le = ap (λ ys. x ∷ ys) (fewer m n xs (omega (arith, le)))
-
 -- lines that agree up to a later line agree up to an earlier one
 earlier : (m n : ℕ) (text : List ℕ) (r : ReportValue) → m ≤ n → Agrees n text r → Agrees m text r
-earlier m n text r le e = sym (fewer m n (rows_of text) le) ∙ (ap (take m) e ∙ fewer m n (rows_of (report_text r)) le)
+earlier m n text r le e = sym (take-take m n (rows_of text) le) ∙ (ap (take m) e ∙ take-take m n (rows_of (report_text r)) le)
 
 not_later : (text : List ℕ) (m n : ℕ) → FailsFirstAt text m → FailsFirstAt text n → m < n → ⊥
 not_later text m n a b less = let (r, valid, agrees) = b.before in a.now r valid (earlier m (n - 1) text r (omega (arith, less)) agrees)
@@ -35,7 +30,7 @@ one_line text m n a b = elim (cases_order m n) [
   | inr (inr more) ↦ absurd (not_later text n m b a more)
 ]
 
-broadcast_read : report_of (report_text broadcast_report) ≡ Ok broadcast_report
+pub broadcast_read : report_of (report_text broadcast_report) ≡ Ok broadcast_report
 unfolding digits report_of pattern_at body_of frontier_at frontier_point_at joined_point_at schedule_at report_text
 broadcast_read = refl
 

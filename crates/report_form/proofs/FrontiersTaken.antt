@@ -34,7 +34,7 @@ part_tokens part.Reduce = refl
 part_tokens part.Gather = refl
 part_tokens part.Joined = refl
 
-abbrev frontier : List PointValue → List Candidate → List UnknownValue → FrontierValue
+abbrev pub frontier : List PointValue → List Candidate → List UnknownValue → FrontierValue
 frontier points refuted unknown = record { points = points; refuted = refuted; unknown = unknown }
 
 pub record FrontierTaken (names : List (List ℕ)) (q : QuestionValue) (x : Part) (p : Place) (y : FrontierValue × Place) : Type 0 where
@@ -76,7 +76,7 @@ frontier_take names q as_many ok x p y e =
 
 -- ---- all frontiers
 
-abbrev IsFrontierOf : WordsValue → NamedTopologyValue → Part × FrontierValue → Type 0
+abbrev pub IsFrontierOf : WordsValue → NamedTopologyValue → Part × FrontierValue → Type 0
 IsFrontierOf words t x = IsFrontier (question_of words t x.0) x.1
 
 pub record FrontiersTaken (words : WordsValue) (t : NamedTopologyValue) (parts : List Part) (p : Place) (y : List (Part × FrontierValue) × Place) : Type 0 where

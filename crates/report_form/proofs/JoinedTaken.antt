@@ -20,10 +20,10 @@ use Rattle.report_form.proofs.LineTaken.{words_part_take, TakesPart}
 use Rattle.report_form.proofs.Shapes.{joined_head_take}
 use Rattle.report_form.proofs.PointsTaken.{point_of, schedule_take}
 
-abbrev joined_of : Candidate × ℕ → HeadValue
+abbrev pub joined_of : Candidate × ℕ → HeadValue
 joined_of x = record { candidate = x.0; mark = mark.Joined x.1 }
 
-abbrev joined_check : QuestionValue → List (List ℕ) → Result HeadValue ReportCode
+abbrev pub joined_check : QuestionValue → List (List ℕ) → Result HeadValue ReportCode
 joined_check q words = joined_head_from words >>= (λ head. refuse (not (may_join q head.0 head.1)) code.Limits >>= (λ u. Ok (joined_of head)))
 
 -- the eight tests of a join

@@ -144,7 +144,7 @@ pub record TakesPart {A : Type 0} (check : List A → Place → Result (A × Pla
   pub lines : (before : List A) (p : Place) (x : A × Place) → Q before → check before p ≡ Ok x → p.rows ≡ map row_of (spell x.0) ++ x.1.rows
   pub keeps : (before : List A) (p : Place) (x : A × Place) → Q before → check before p ≡ Ok x → Q (before ++ x.0 ∷ [])
 
-abbrev stay : {A : Type 0} → List A → Place → Result (List A × Place) (ReportCode × ℕ)
+abbrev pub stay : {A : Type 0} → List A → Place → Result (List A × Place) (ReportCode × ℕ)
 stay before p = Ok (before, p)
 
 no_part : {A : Type 0} (spell : A → List (List (List ℕ))) (Q : List A → Type 0) (before : List A) (p : Place) (x : List A × Place) → Q before → stay before p ≡ Ok x → PartsTaken spell Q before p.rows x

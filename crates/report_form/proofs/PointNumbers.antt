@@ -31,7 +31,7 @@ abbrev pub joined_points : List PointValue → List (Part × PointValue)
 joined_points ps = map (λ p. (Joined, p)) ps
 
 -- the list from a place on, as the element there and the rest
-from_here : {A : Type 0} (xs : List A) (i : ℕ) (x : A) → i < length xs → x ≡ get_or xs i x → drop i xs ≡ x ∷ drop (i + 1) xs
+pub from_here : {A : Type 0} (xs : List A) (i : ℕ) (x : A) → i < length xs → x ≡ get_or xs i x → drop i xs ≡ x ∷ drop (i + 1) xs
 from_here xs i x lt e = at_drop_more (λ ys. ys) xs i x lt ∙ ap (λ z. z ∷ drop (i + 1) xs) (sym e)
 
 pub number_first : (r : ReportValue) (items : List (Part × FrontierValue)) (number : ℕ) → items ≡ r.frontiers → (number ≡ 0 → ⊥) → slice_get (flat_map of_part (drop 0 items) ++ joined_points r.joined) (number - 1) ≡ point_at r number

@@ -50,7 +50,7 @@ rounds_valid x rounds e =
       total = eqb-true (sum rounds) x.r outer.1;
     }
 
-abbrev rounds_check : Candidate → List (List ℕ) → Result (List ℕ) ReportCode
+abbrev pub rounds_check : Candidate → List (List ℕ) → Result (List ℕ) ReportCode
 rounds_check x words = rounds_from words >>= (λ rounds. refuse (not (are_rounds x rounds)) code.Limits >>= (λ u. Ok rounds))
 
 pub record RoundsTaken (x : Candidate) (p : Place) (y : List ℕ × Place) : Type 0 where

@@ -34,10 +34,10 @@ use Rattle.report_form.proofs.FrontiersTaken.{rows_split, frontiers_take, joined
 
 -- ---- the body
 
-abbrev report : WordsValue → NamedTopologyValue → List (Part × FrontierValue) → List PointValue → ReportValue
+abbrev pub report : WordsValue → NamedTopologyValue → List (Part × FrontierValue) → List PointValue → ReportValue
 report words t frontiers joined = record { words = words; topology = t; frontiers = frontiers; joined = joined }
 
-abbrev end_words : List (List ℕ)
+abbrev pub end_words : List (List ℕ)
 end_words = codes "end" ∷ []
 
 pub record BodyTaken (words : WordsValue) (t : NamedTopologyValue) (p : Place) (r : ReportValue) : Type 0 where

@@ -21,7 +21,7 @@ use Rattle.report_form.proofs.Tokens.{word_take, fixed_take, no_more_take, numbe
 
 -- ---- a candidate
 
-abbrev candidate : ℕ → ℕ → ℕ → Candidate
+abbrev pub candidate : ℕ → ℕ → ℕ → Candidate
 candidate s r c = record { s = s; r = r; c = c }
 
 pub candidate_take : (words : List (List ℕ)) (x : Candidate × List (List ℕ)) → candidate_from words ≡ Ok x → words ≡ decimal x.0.s ∷ decimal x.0.r ∷ decimal x.0.c ∷ x.1
@@ -71,7 +71,7 @@ unknown_take words u e =
 
 -- ---- heads of points
 
-abbrev head : Candidate → Mark → HeadValue
+abbrev pub head : Candidate → Mark → HeadValue
 head x m = record { candidate = x; mark = m }
 
 pub mark_take : (w : List ℕ) (m : Mark) → mark_named w ≡ Some m → (w ∷ [] ≡ mark_words m) × ((m ≡ mark.Optimal) ⊎ (m ≡ mark.Open))
@@ -133,7 +133,7 @@ rounds_take words rounds e =
     let (a, r1, e1) = bind_ok (fixed_word (codes "rounds") words) numbers_from rounds e in
     fixed_take (codes "rounds") words a r1 ∙ ap (λ ws. codes "rounds" ∷ ws) (numbers_take a rounds e1)
 
-abbrev hop : ℕ → ℕ → ℕ → ℕ → Hop
+abbrev pub hop : ℕ → ℕ → ℕ → ℕ → Hop
 hop c u v s = record { chunk = c; from = u; to = v; step = s }
 
 pub record SendTaken (names words : List (List ℕ)) (h : Hop) : Type 0 where

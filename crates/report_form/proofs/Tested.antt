@@ -1,6 +1,6 @@
 -- Each test of limits and of candidates is true exactly where what it tests holds.
 use Rattle.std.proofs.Common.{ℕ, ◌+◌, ◌*◌, ◌≤◌}
-use Rattle.std.specs.Prelude.{◌==◌, ◌&&◌, ◌||◌, ◌⊎◌, Bool, nat_le, nat_lt, IsTrue, Decides}
+use Rattle.std.specs.Prelude.{◌==◌, ◌&&◌, ◌||◌, Bool, nat_le, nat_lt, IsTrue, Decides}
 use Rattle.std.proofs.lemmas.Bool.{leb-true, le-leb}
 use Rattle.std.proofs.lemmas.Bool.Decides.{Decides-and, Decides-or, Decides-eqb, Decides-ltb}
 use Rattle.collective_spec.specs.Kinds.{allows}
@@ -20,35 +20,28 @@ by_parts r d to from = (λ e. to (d.0 e), λ q. d.1 (from q))
 itself : (b : Bool) → Decides b (IsTrue b)
 itself b = (λ e. e, λ e. e)
 
--- two tests, and the rest
-both : {P Q : Type 0} (x y : Bool) → Decides x P → Decides y Q → Decides (x && y) (P × Q)
-both x y dx dy = Decides-and x y dx dy
-
-either : {P Q : Type 0} (x y : Bool) → Decides x P → Decides y Q → Decides (x || y) (P ⊎ Q)
-either x y dx dy = Decides-or x y dx dy
-
 pub decides_no_worse : (a b : Candidate) → Decides (is_no_worse a b) (NoWorse a b)
-decides_no_worse a b = both (nat_le a.s b.s) (nat_le (a.r * b.c) (b.r * a.c)) (leb_decides _ _) (leb_decides _ _)
+decides_no_worse a b = Decides-and (nat_le a.s b.s) (nat_le (a.r * b.c) (b.r * a.c)) (leb_decides _ _) (leb_decides _ _)
 
 pub decides_better : (a b : Candidate) → Decides (is_better a b) (Better a b)
-decides_better a b = both (is_no_worse a b) (nat_lt a.s b.s || nat_lt (a.r * b.c) (b.r * a.c)) (decides_no_worse a b)
-    (either (nat_lt a.s b.s) (nat_lt (a.r * b.c) (b.r * a.c)) (Decides-ltb _ _) (Decides-ltb _ _))
+decides_better a b = Decides-and (is_no_worse a b) (nat_lt a.s b.s || nat_lt (a.r * b.c) (b.r * a.c)) (decides_no_worse a b)
+    (Decides-or (nat_lt a.s b.s) (nat_lt (a.r * b.c) (b.r * a.c)) (Decides-ltb _ _) (Decides-ltb _ _))
 
 pub decides_before : (a b : Candidate) → Decides (is_before a b) (Before a b)
 decides_before a b =
-    let chunks = both (a.r * b.c == b.r * a.c) (nat_lt a.c b.c) (Decides-eqb _ _) (Decides-ltb _ _) in
-    let costs = either (nat_lt (a.r * b.c) (b.r * a.c)) (a.r * b.c == b.r * a.c && nat_lt a.c b.c) (Decides-ltb _ _) chunks in
-    let steps = both (a.s == b.s) (nat_lt (a.r * b.c) (b.r * a.c) || (a.r * b.c == b.r * a.c && nat_lt a.c b.c)) (Decides-eqb _ _) costs in
-    either (nat_lt a.s b.s) (a.s == b.s && (nat_lt (a.r * b.c) (b.r * a.c) || (a.r * b.c == b.r * a.c && nat_lt a.c b.c))) (Decides-ltb _ _) steps
+    let chunks = Decides-and (a.r * b.c == b.r * a.c) (nat_lt a.c b.c) (Decides-eqb _ _) (Decides-ltb _ _) in
+    let costs = Decides-or (nat_lt (a.r * b.c) (b.r * a.c)) (a.r * b.c == b.r * a.c && nat_lt a.c b.c) (Decides-ltb _ _) chunks in
+    let steps = Decides-and (a.s == b.s) (nat_lt (a.r * b.c) (b.r * a.c) || (a.r * b.c == b.r * a.c && nat_lt a.c b.c)) (Decides-eqb _ _) costs in
+    Decides-or (nat_lt a.s b.s) (a.s == b.s && (nat_lt (a.r * b.c) (b.r * a.c) || (a.r * b.c == b.r * a.c && nat_lt a.c b.c))) (Decides-ltb _ _) steps
 
 -- six tests in a row
 six : {P Q R S T U : Type 0} (p q r s t u : Bool) → Decides p P → Decides q Q → Decides r R → Decides s S → Decides t T → Decides u U
     → Decides (p && q && r && s && t && u) (((((P × Q) × R) × S) × T) × U)
 six p q r s t u dp dq dr ds dt du =
-    both (p && q && r && s && t) u
-    (both (p && q && r && s) t
-    (both (p && q && r) s
-    (both (p && q) r (both p q dp dq) dr) ds) dt) du
+    Decides-and (p && q && r && s && t) u
+    (Decides-and (p && q && r && s) t
+    (Decides-and (p && q && r) s
+    (Decides-and (p && q) r (Decides-and p q dp dq) dr) ds) dt) du
 
 pub decides_within : (q : QuestionValue) (x : Candidate) → Decides (is_within q x) (IsWithin q x)
 decides_within q x =
@@ -61,7 +54,7 @@ decides_within q x =
 pub decides_limits : (l : LimitsValue) → Decides (are_limits l) (IsLimits l)
 decides_limits l =
     by_parts (are_limits l)
-    (both (nat_le l.k 8 && nat_le 1 l.max_s && nat_le l.max_s 8 && nat_le 1 l.max_c && nat_le l.max_c 16 && nat_le 1 l.conflicts) (nat_le l.conflicts 100000)
+    (Decides-and (nat_le l.k 8 && nat_le 1 l.max_s && nat_le l.max_s 8 && nat_le 1 l.max_c && nat_le l.max_c 16 && nat_le 1 l.conflicts) (nat_le l.conflicts 100000)
     (six (nat_le l.k 8) (nat_le 1 l.max_s) (nat_le l.max_s 8) (nat_le 1 l.max_c) (nat_le l.max_c 16) (nat_le 1 l.conflicts)
     (leb_decides _ _) (leb_decides _ _) (leb_decides _ _) (leb_decides _ _) (leb_decides _ _) (leb_decides _ _)) (leb_decides _ _))
     (λ h. record { k = h.0.0.0.0.0.0; some_steps = h.0.0.0.0.0.1; steps = h.0.0.0.0.1; some_chunks = h.0.0.0.1; chunks = h.0.0.1; some_conflicts = h.0.1; conflicts = h.1 })

@@ -6,6 +6,7 @@ use Rattle.std.specs.Str.Parse.{AllDigits, digits_value}
 use Rattle.std.proofs.lemmas.Bool.{and_parts, not-true, not-false, leb-true, eqb-false}
 use Rattle.std.proofs.lemmas.Bool.Decides.{Decides-eqb}
 use Rattle.std.proofs.lemmas.Slice.Eq.{bytes_eq-Decides, starts_is}
+use Rattle.std.proofs.lemmas.Option.{same_Some}
 use Rattle.text_lines.proofs.Checks.{need_ok, refuse_ok, ok_is}
 use Rattle.text_lines.proofs.Numbers.{up_to_found, spells, digit_is}
 use Rattle.topology_text.specs.Spelling.{name_at}
@@ -22,7 +23,7 @@ pub record WordTaken {A : Type 0} (read : List ℕ → Option A) (words : List (
   pub stands : words ≡ word ∷ x.1
   pub read_as : read word ≡ Some x.0
 
-abbrev with_rest : {A : Type 0} → List (List ℕ) → A → Result (A × List (List ℕ)) ReportCode
+abbrev pub with_rest : {A : Type 0} → List (List ℕ) → A → Result (A × List (List ℕ)) ReportCode
 with_rest ws x = Ok (x, ws)
 
 pub word_take : {A : Type 0} (read : List ℕ → Option A) (words : List (List ℕ)) (x : A × List (List ℕ)) → next_word read words ≡ Ok x → WordTaken read words x
@@ -62,9 +63,6 @@ pub if_some : {A : Type 0} (b : Bool) (o : Option A) (x : A) → (if b then o el
 if_some true o x e = (refl, e)
 if_some false o x e = absurd (cc)
 
-pub some_is : {A : Type 0} (x y : A) → Some x ≡ Some y → x ≡ y
-some_is x y e = cc
-
 digits_all : (bs : List ℕ) → list_all is_digit bs ≡ true → AllDigits 10 bs
 digits_all [] e = tt
 digits_all (b ∷ bs) e =
@@ -89,7 +87,7 @@ canonical (b ∷ c ∷ bs) e small =
 pub any_number_is : (token : List ℕ) (n : ℕ) → any_number token ≡ Some n → n < 2 ^ 64 → token ≡ decimal n
 any_number_is token n e small =
     let (canon, value) = if_some (is_number token) (Some (digits_value 10 token)) n e in
-    let same : digits_value 10 token ≡ n = some_is (digits_value 10 token) n value in
+    let same : digits_value 10 token ≡ n = same_Some (digits_value 10 token) n value in
     canonical token canon (omega (arith, same, small)) ∙ ap decimal same
 
 -- a key and what stands behind it

@@ -30,7 +30,7 @@ impl ReportCode {
     }
 }
 
-/// The first check that failed, and the number of its line, from 1. Want of memory has line 0.
+/// The first check that failed, and the number of its line, from 1. Out of memory has line 0.
 #[derive(Clone, Copy, Debug, PartialEq, Eq)]
 pub struct ReportFault {
     pub code: ReportCode,

@@ -5,7 +5,7 @@ use Rattle.std.proofs.lemmas.Bool.{and_from}
 use Rattle.std.proofs.lemmas.List.{length-append}
 use Rattle.std.proofs.lemmas.List.Elements.{All-get_or}
 use Rattle.text_lines.specs.Text.{Row}
-use Rattle.text_lines.specs.Check.{◌>>=◌, refuse, need, line_part}
+use Rattle.text_lines.specs.Check.{◌>>=◌, need, line_part}
 use Rattle.text_lines.proofs.Rows.{AreTokens, row_of}
 use Rattle.text_lines.proofs.Words.{IsWord, AreWords, literal, decimal_word, token-append, tokens_from}
 use Rattle.collective_spec.specs.declared.kind.Kind.{Kind}
@@ -25,7 +25,7 @@ use Rattle.report_form.specs.Tests.{are_limits}
 use Rattle.report_form.specs.Fields.{any_number, next_keyed, no_more}
 use Rattle.report_form.specs.Asked.{AskedValue, kind_named, limits_from, root_from, asked_from, may_be_asked, asked_line, root_of}
 use Rattle.report_form.proofs.Tested.{decides_limits}
-use Rattle.report_form.proofs.AskedTaken.{limits_words}
+use Rattle.report_form.proofs.AskedTaken.{limits_words, limits, asked, asked_check}
 use Rattle.report_laws.proofs.TokensAgain.{fixed_again, keyed_again, any_number_again}
 use Rattle.report_laws.proofs.LinesAgain.{words_part_again}
 use Rattle.report_laws.proofs.ListsAgain.{ruled_again}
@@ -52,9 +52,6 @@ kind_again false Reduce e = refl
 kind_again false Reducescatter e = refl
 kind_again false Allreduce e = refl
 kind_again false Custom e = absurd (cc)
-
-abbrev limits : ℕ → ℕ → ℕ → ℕ → LimitsValue
-limits k s c n = record { k = k; max_s = s; max_c = c; conflicts = n }
 
 abbrev after_conflicts : ℕ → ℕ → ℕ → ℕ × List (List ℕ) → Result (LimitsValue × List (List ℕ)) ReportCode
 after_conflicts k s c n = Ok (limits k s c n.0, n.1)
@@ -116,9 +113,6 @@ root_of_again false names root named below none = ap (λ n. Ok n) (sym (none ref
 
 abbrev pub asked_of : List (List ℕ) → WordsValue → AskedValue
 asked_of names w = record { kind = w.collective.kind; limits = w.limits; root = root_asked (takes_root w.collective.kind) names w.collective.root }
-
-abbrev asked : Kind → LimitsValue → Option (List ℕ) → AskedValue
-asked kind l root = record { kind = kind; limits = l; root = root }
 
 abbrev after_root : Kind → LimitsValue → Option (List ℕ) × List (List ℕ) → Result AskedValue ReportCode
 after_root kind l root = no_more root.1 >>= (λ u. Ok (asked kind l root.0))
@@ -191,9 +185,6 @@ synth_tokens names w named ok =
         ),
       ),
     )
-
-abbrev asked_check : Bool → List (List ℕ) → Result AskedValue ReportCode
-asked_check patterned words = asked_from patterned words >>= (λ a. refuse (not (may_be_asked patterned a)) code.Limits >>= (λ u. Ok a))
 
 -- in version 2 the kind is the one whose pairs are given
 may_be : (patterned : Bool) (k : Kind) → is_custom k ≡ patterned → (not patterned || is_custom k) ≡ true

@@ -29,9 +29,6 @@ module _ (words : WordsValue) (t : NamedTopologyValue) (as_many : length t.names
   abbrev end_words : List (List ℕ)
   end_words = codes "end" ∷ []
 
-  abbrev lines_behind : List (Part × FrontierValue) → List PointValue → List (List (List ℕ))
-  lines_behind fs js = (flat_map (frontier_lines t.names) fs ++ joined_lines t.names words.collective.kind js) ++ end_words ∷ []
-
   pub record BodyFilled (p : Place) (n : ℕ) : Type 0 where
     pub frontiers : List (Part × FrontierValue)
     pub joined : List PointValue

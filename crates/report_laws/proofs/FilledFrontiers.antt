@@ -21,13 +21,10 @@ use Rattle.report_form.proofs.Ascending.{nothing_ascends}
 use Rattle.report_form.proofs.LineTaken.{fixed_part_take, lines_take, parts_take}
 use Rattle.report_form.proofs.ListsTaken.{AreListed, none_listed, refuted_takes, AreUnknown, none_unknown, unknown_takes}
 use Rattle.report_form.proofs.PointsTaken.{ArePoints, no_points, point_takes}
-use Rattle.report_form.proofs.FrontiersTaken.{part_tokens}
+use Rattle.report_form.proofs.FrontiersTaken.{part_tokens, frontier}
 use Rattle.topology_text.proofs.Cuts.{Cut, cut_here, cut_more}
 use Rattle.report_laws.proofs.Cuts.{Counted, counted_line, counted_found, counted_then, counted_lines, counted_parts, given, cut_behind, fill_lines, fill_parts}
 use Rattle.report_laws.proofs.FilledPoints.{fill_point, counted_point}
-
-abbrev frontier : List PointValue → List Candidate → List UnknownValue → FrontierValue
-frontier points refuted unknown = record { points = points; refuted = refuted; unknown = unknown }
 
 -- a frontier that says nothing is valid
 abbrev pub nothing_found : FrontierValue

@@ -20,7 +20,7 @@ use Rattle.report_form.specs.Points.{joined_point_at}
 use Rattle.report_form.specs.Reading.{part_bytes, frontier_at, frontiers_from, joined_at}
 use Rattle.report_form.proofs.LineTaken.{fixed_part_take}
 use Rattle.report_form.proofs.JoinedTaken.{joined_takes, no_joined}
-use Rattle.report_form.proofs.FrontiersTaken.{frontier_take}
+use Rattle.report_form.proofs.FrontiersTaken.{frontier_take, IsFrontierOf}
 use Rattle.topology_text.proofs.Cuts.{Cut, cut_here, cut_more}
 use Rattle.report_laws.proofs.Cuts.{Counted, counted_line, counted_found, counted_then, counted_parts, given, cut_behind, fill_parts}
 use Rattle.report_laws.proofs.FilledPoints.{fill_joined, counted_joined}
@@ -33,9 +33,6 @@ nothings parts = map (λ x. (x, nothing_found)) parts
 pub nothings_parts : (parts : List Part) → map (λ x. x.0) (nothings parts) ≡ parts
 nothings_parts [] = refl
 nothings_parts (x ∷ parts) = ap (λ ps. x ∷ ps) (nothings_parts parts)
-
-abbrev IsFrontierOf : WordsValue → NamedTopologyValue → Part × FrontierValue → Type 0
-IsFrontierOf words t x = IsFrontier (question_of words t x.0) x.1
 
 pub nothings_valid : (words : WordsValue) (t : NamedTopologyValue) (parts : List Part) → All (λ x. IsFrontier (question_of words t x.0) x.1) (nothings parts)
 nothings_valid words t [] = All-nil (IsFrontierOf words t)

@@ -27,7 +27,8 @@ use Rattle.report_form.proofs.PointsTaken.{point_of, ArePoints}
 use Rattle.report_form.proofs.JoinedTaken.{may_join_is, joined_valid}
 use Rattle.topology_text.proofs.Cuts.{Cut}
 use Rattle.report_laws.proofs.Cuts.{Counted, counted_line, counted_then, cut_behind, FillsPart}
-use Rattle.report_laws.proofs.FilledSchedules.{SomeRounds, some_rounds, schedule_lines, fill_schedule, counted_schedule}
+use Rattle.report_laws.proofs.FilledSchedules.{SomeRounds, some_rounds, fill_schedule, counted_schedule}
+use Rattle.report_laws.proofs.PointsAgain.{schedule_lines}
 
 module _ (names : List (List ℕ)) (q : QuestionValue) (as_many : length names ≡ q.topology.nodes) where
   -- ---- points of a frontier

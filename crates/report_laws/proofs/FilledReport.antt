@@ -1,9 +1,9 @@
 -- Where the checks of a report fail, some valid report has the lines before the one that is blamed.
-use Rattle.std.proofs.Common.{◌≡◌, ℕ, Bool, true, false, not, List, [], ◌∷◌, length, Option, None, Some, Result, Ok, refl, sym, ap, ◌∙◌, arith}
+use Rattle.std.proofs.Common.{◌≡◌, ℕ, Bool, true, false, List, [], ◌∷◌, length, Option, None, Some, Result, Ok, refl, sym, ap, ◌∙◌, arith}
 use Rattle.std.specs.Prelude.{codes, if◌then◌else◌}
 use Rattle.std.proofs.lemmas.List.Elements.{All-nil, All-cons}
 use Rattle.text_lines.specs.Text.{Place}
-use Rattle.text_lines.specs.Check.{◌>>=◌, refuse, need, line_part}
+use Rattle.text_lines.specs.Check.{◌>>=◌, need, line_part}
 use Rattle.text_lines.proofs.Checks.{bind_ok, ok_is}
 use Rattle.text_lines.proofs.Distinct.{AreDistinct}
 use Rattle.outer_ports.specs.declared.part.Part.TheVariants as part
@@ -22,7 +22,7 @@ use Rattle.report_form.specs.Spelling.{report_lines}
 use Rattle.report_form.specs.Fields.{next_keyed, fixed_word, no_more}
 use Rattle.report_form.specs.Asked.{AskedValue, kind_named, limits_from, root_from, asked_from, may_be_asked, asked_line, root_of}
 use Rattle.report_form.proofs.LineTaken.{words_part_take, ruled}
-use Rattle.report_form.proofs.AskedTaken.{keyed_take}
+use Rattle.report_form.proofs.AskedTaken.{keyed_take, asked_check}
 use Rattle.topology_text.proofs.Cuts.{Cut}
 use Rattle.report_laws.proofs.FilledParts.{nothings, nothings_parts, nothings_valid}
 
@@ -60,9 +60,6 @@ after_kind kind = limits_from kind.1 >>= after_limits kind.0
 
 abbrev after_synth : Bool → List (List ℕ) → Result AskedValue ReportCode
 after_synth patterned a = next_keyed (codes "collective=") (kind_named patterned) a >>= after_kind
-
-abbrev asked_check : Bool → List (List ℕ) → Result AskedValue ReportCode
-asked_check patterned words = asked_from patterned words >>= (λ a. refuse (not (may_be_asked patterned a)) code.Limits >>= (λ u. Ok a))
 
 pub asked_named : (patterned : Bool) (p : Place) (x : AskedValue × Place) → line_part (asked_line patterned) p ≡ Ok x → (name : List ℕ) → x.0.root ≡ Some name → is_name name ≡ true
 asked_named patterned p x e name is =

@@ -19,6 +19,7 @@ use Rattle.report_form.specs.Points.{HeadValue, rounds_line, send_line, schedule
 use Rattle.report_form.proofs.PointsTaken.{AreSends, no_sends, send_takes, rounds_part, point_of, schedule_valid}
 use Rattle.topology_text.proofs.Cuts.{Cut, cut_here}
 use Rattle.report_laws.proofs.Cuts.{Counted, counted_line, counted_found, counted_then, counted_lines, given, cut_behind, fill_lines}
+use Rattle.report_laws.proofs.PointsAgain.{schedule_lines}
 
 -- ---- rounds for a candidate
 
@@ -47,10 +48,6 @@ some_rounds (suc s) r low high = by_size (cases_lt (9 + s) r) (λ l h. some_roun
 
 abbrev made : HeadValue → List ℕ → List Hop → PointValue
 made head rounds sends = point_of head rounds sends
-
--- the lines of a point behind its first
-abbrev pub schedule_lines : List (List ℕ) → PointValue → List (List (List ℕ))
-schedule_lines names p = rounds_words p.schedule.rounds ∷ map (send_words names) p.schedule.sends
 
 pub record ScheduleFilled (names : List (List ℕ)) (q : QuestionValue) (head : HeadValue) (p : Place) (n : ℕ) : Type 0 where
   pub point : PointValue

@@ -23,7 +23,7 @@ use Rattle.topology_text.proofs.Filled.{fill_groups, PatternFilled, some_pattern
 use Rattle.report_form.specs.declared.fault.ReportCode.{ReportCode}
 use Rattle.report_form.specs.declared.fault.ReportCode.TheVariants as code
 use Rattle.report_form.specs.Reports.{ReportValue, IsReport}
-use Rattle.report_form.specs.Spelling.{synth_words, body_lines, report_lines, report_text}
+use Rattle.report_form.specs.Spelling.{synth_words, report_lines, report_text}
 use Rattle.report_form.specs.Lines.{among}
 use Rattle.report_form.specs.Asked.{AskedValue, asked_line, root_of, words_from}
 use Rattle.report_form.specs.Points.{frontier_point_at, joined_point_at, schedule_at}
@@ -37,6 +37,7 @@ use Rattle.report_laws.proofs.SteadyLists.{among_err}
 use Rattle.report_laws.proofs.Cuts.{counted_line, cut_behind}
 use Rattle.report_laws.proofs.FilledBody.{fill_body}
 use Rattle.report_laws.proofs.FilledReport.{asked_named, name_for, name_fits, one_name, root_found, ReportFilled, quiet, quiet_valid}
+use Rattle.report_laws.proofs.ReportAgain.{behind_topology}
 
 -- ---- a report of each version
 
@@ -53,23 +54,16 @@ some_report : (b : Bool) → SomeReport b
 some_report false = record { report = broadcast_report; valid = broadcast_valid; version = refl }
 some_report true = let t = report_take (report_text moved_report) moved_report moved_read in record { report = moved_report; valid = t.valid; version = refl }
 
-abbrev end_words : List (List ℕ)
-end_words = codes "end" ∷ []
-
--- the lines behind the topology
-abbrev behind : ReportValue → List (List (List ℕ))
-behind r = body_lines r ++ end_words ∷ []
-
 module _ (rows : List Row) (p : Place) (e : ReportCode × ℕ) where
   module _ (h : Bool × Place) (rh : line_part version_line p ≡ Ok h) where
     -- behind the first line
-    behind_version : (r : ReportValue) → IsReport r → is_some r.topology.custom ≡ h.0 → Cut (synth_words r.topology.names r.words ∷ (lines_of r.topology ++ behind r)) h.1 e.1 → ReportFilled p e.1
+    behind_version : (r : ReportValue) → IsReport r → is_some r.topology.custom ≡ h.0 → Cut (synth_words r.topology.names r.words ∷ (lines_of r.topology ++ behind_topology r)) h.1 e.1 → ReportFilled p e.1
     behind_version r valid version cut =
         let t0 = version_take p h rh in
         record {
           report = r;
           valid = valid;
-          cut = cut_behind ((codes "sccl" ∷ version_word r.topology.custom ∷ []) ∷ []) (synth_words r.topology.names r.words ∷ (lines_of r.topology ++ behind r)) p h.1 e.1
+          cut = cut_behind ((codes "sccl" ∷ version_word r.topology.custom ∷ []) ∷ []) (synth_words r.topology.names r.words ∷ (lines_of r.topology ++ behind_topology r)) p h.1 e.1
               (t0.rows ∙ ap (λ b. row_of (head_words b) ∷ h.1.rows) (sym version) ∙ ap (λ ws. row_of ws ∷ h.1.rows) (head_spelled r.topology.custom)) (counted_line version_line (λ v k. cc) p h rh) cut;
         }
 
@@ -77,14 +71,14 @@ module _ (rows : List Row) (p : Place) (e : ReportCode × ℕ) where
     at_asked line =
         let some = some_report h.0 in
         let r : ReportValue = some.report in
-        behind_version r some.valid some.version (cut_here (synth_words r.topology.names r.words ∷ (lines_of r.topology ++ behind r)) h.1 e.1 line)
+        behind_version r some.valid some.version (cut_here (synth_words r.topology.names r.words ∷ (lines_of r.topology ++ behind_topology r)) h.1 e.1 line)
 
     module _ (a : AskedValue × Place) (ra : line_part (asked_line h.0) h.1 ≡ Ok a) where
       -- behind the first two lines, whose words are those of the report
-      behind_asked : (r : ReportValue) → IsReport r → is_some r.topology.custom ≡ h.0 → asked_words a.0 ≡ synth_words r.topology.names r.words → Cut (lines_of r.topology ++ behind r) a.1 e.1 → ReportFilled p e.1
+      behind_asked : (r : ReportValue) → IsReport r → is_some r.topology.custom ≡ h.0 → asked_words a.0 ≡ synth_words r.topology.names r.words → Cut (lines_of r.topology ++ behind_topology r) a.1 e.1 → ReportFilled p e.1
       behind_asked r valid version same cut =
           let t1 = asked_part h.0 h.1 a ra in
-          behind_version r valid version (cut_behind (synth_words r.topology.names r.words ∷ []) (lines_of r.topology ++ behind r) h.1 a.1 e.1 (t1.rows ∙ ap (λ ws. row_of ws ∷ a.1.rows) same) (counted_line (asked_line h.0) (λ v k. cc) h.1 a ra) cut)
+          behind_version r valid version (cut_behind (synth_words r.topology.names r.words ∷ []) (lines_of r.topology ++ behind_topology r) h.1 a.1 e.1 (t1.rows ∙ ap (λ ws. row_of ws ∷ a.1.rows) same) (counted_line (asked_line h.0) (λ v k. cc) h.1 a ra) cut)
 
       -- a topology with one node, and a pattern where one is due
       abbrev one_names : List (List ℕ)
@@ -96,7 +90,7 @@ module _ (rows : List Row) (p : Place) (e : ReportCode × ℕ) where
       abbrev one_node : NamedTopologyValue
       one_node = named_with one_names [] one_pattern.custom
 
-      with_one_node : Cut (lines_of one_node ++ behind (quiet (words_from a.0 0) one_node)) a.1 e.1 → ReportFilled p e.1
+      with_one_node : Cut (lines_of one_node ++ behind_topology (quiet (words_from a.0 0) one_node)) a.1 e.1 → ReportFilled p e.1
       with_one_node cut =
           let t1 = asked_part h.0 h.1 a ra in
           let ok = one_name (name_for a.0.root) (name_fits a.0.root (asked_named h.0 h.1 a ra)) in
@@ -114,7 +108,7 @@ module _ (rows : List Row) (p : Place) (e : ReportCode × ℕ) where
         -- the line of the nodes fails, or the root is not among them
         at_nodes : e.1 ≡ d.1.number → ReportFilled p e.1
         at_nodes line =
-            let lines = nodes_words one_names ∷ (custom_lines one_names one_pattern.custom ++ behind (quiet (words_from a.0 0) one_node)) in
+            let lines = nodes_words one_names ∷ (custom_lines one_names one_pattern.custom ++ behind_topology (quiet (words_from a.0 0) one_node)) in
             with_one_node (header_read one_pattern.custom one_pattern.shown lines (cut_here lines d.1 e.1 line))
 
         module _ (n : List (List ℕ) × Place) (rn : line_part nodes_line d.1 ≡ Ok n) (root : ℕ) (rr : root_of n.0 a.0.root ≡ Ok root) where
@@ -135,7 +129,7 @@ module _ (rows : List Row) (p : Place) (e : ReportCode × ℕ) where
               let t : NamedTopologyValue = named_with n.0 gs c in
               let r : ReportValue = quiet (words_from a.0 root) t in
               behind_asked r (quiet_valid (words_from a.0 root) t (named_valid n.0 gs c ok groups valid) (pattern_fits a.0.kind c (t1.kind ∙ sym shown)) words.valid) shown words.spelled
-              (nodes_read c shown ((groups_of gs ++ custom_lines n.0 c) ++ behind r) (cut_more (groups_of gs ++ custom_lines n.0 c) (behind r) n.1 e.1 cut))
+              (nodes_read c shown ((groups_of gs ++ custom_lines n.0 c) ++ behind_topology r) (cut_more (groups_of gs ++ custom_lines n.0 c) (behind_topology r) n.1 e.1 cut))
 
           in_groups : (f : TopologyCode × ℕ) → f.1 ≡ e.1 → groups_at n.0 n.1 ≡ Err f → ReportFilled p e.1
           in_groups f is failed =
@@ -177,7 +171,7 @@ module _ (rows : List Row) (p : Place) (e : ReportCode × ℕ) where
                 let count : c.1.number ≡ n.1.number + length front = omega (arith, number, groups_counted, length-append (groups_of g.0) (custom_lines n.0 c.0)) in
                 behind_asked r
                 (record { topology = named_valid n.0 g.0 c.0 ok groups_valid taken.valid; pattern = pattern_fits a.0.kind c.0 (t1.kind ∙ sym shown); words = words.valid; parts = b.parts_are; frontiers = b.frontiers_valid; joined = b.joined_valid; only_allreduce = b.only })
-                shown words.spelled (nodes_read c.0 shown (front ++ behind r) (cut_after front (behind r) n.1 c.1 e.1 lines count b.cut))
+                shown words.spelled (nodes_read c.0 shown (front ++ behind_topology r) (cut_after front (behind_topology r) n.1 c.1 e.1 lines count b.cut))
 
             behind_groups : (among rows (pattern_at h.0 n.0 g.1) ≡ Err e) ⊎ ((c : Option PatternValue × Place) × (among rows (pattern_at h.0 n.0 g.1) ≡ Ok c) × (after_pattern a.0 root n.0 g.0 c ≡ Err e)) → ReportFilled p e.1
             behind_groups (inl here) = let f = among_err rows (pattern_at h.0 n.0 g.1) e here in in_pattern (f.why, e.1) refl f.is
@@ -200,7 +194,7 @@ module _ (rows : List Row) (p : Place) (e : ReportCode × ℕ) where
 
       -- the topology's first line fails, or is of the other version
       at_header : e.1 ≡ a.1.number → ReportFilled p e.1
-      at_header line = with_one_node (cut_here (lines_of one_node ++ behind (quiet (words_from a.0 0) one_node)) a.1 e.1 line)
+      at_header line = with_one_node (cut_here (lines_of one_node ++ behind_topology (quiet (words_from a.0 0) one_node)) a.1 e.1 line)
 
       behind_line : (d : Bool × Place) → line_part header_line a.1 ≡ Ok d
           → (at_line a.1.number (refuse (not (is_same d.0 h.0)) code.BadLine) ≡ Err e) ⊎ ((u : Unit {0}) × (at_line a.1.number (refuse (not (is_same d.0 h.0)) code.BadLine) ≡ Ok u) × (after_same rows h.0 a.0 d.1 u ≡ Err e)) → ReportFilled p e.1

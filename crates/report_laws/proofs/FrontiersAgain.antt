@@ -25,7 +25,7 @@ use Rattle.report_form.specs.Points.{frontier_point_at, joined_point_at}
 use Rattle.report_form.specs.Reading.{refuted_line, unknown_line, part_bytes, frontier_at, frontiers_from, joined_at}
 use Rattle.report_form.proofs.ListsTaken.{AreListed, AreUnknown}
 use Rattle.report_form.proofs.PointsTaken.{ArePoints}
-use Rattle.report_form.proofs.FrontiersTaken.{rows_split}
+use Rattle.report_form.proofs.FrontiersTaken.{rows_split, frontier, IsFrontierOf}
 use Rattle.report_laws.proofs.LinesAgain.{fixed_part_again, Reads, Ends, lines_again, parts_again}
 use Rattle.report_laws.proofs.ListsAgain.{behind_lines, refuted_reads, unknown_reads}
 use Rattle.report_laws.proofs.PointsAgain.{FewBase, base_of, point_reads}
@@ -76,9 +76,6 @@ parts_fit spell some (x ∷ xs) rest =
 points_fit : (names : List (List ℕ)) (ps : List PointValue) (rest : List Row) → length ps ≤ length (map row_of (flat_map (point_lines names) ps) ++ rest)
 points_fit names ps rest = parts_fit (point_lines names) (λ p. omega arith) ps rest
 
-abbrev frontier : List PointValue → List Candidate → List UnknownValue → FrontierValue
-frontier points refuted unknown = record { points = points; refuted = refuted; unknown = unknown }
-
 -- ---- one frontier
 
 module _ (names : List (List ℕ)) (q : QuestionValue) (as_many : length names ≡ q.topology.nodes) (named : AreNames names) (ok : IsLimits q.limits) (base : FewBase q.spec) where
@@ -124,9 +121,6 @@ module _ (names : List (List ℕ)) (q : QuestionValue) (as_many : length names �
       }
 
 -- ---- all frontiers
-
-abbrev IsFrontierOf : WordsValue → NamedTopologyValue → Part × FrontierValue → Type 0
-IsFrontierOf words t x = IsFrontier (question_of words t x.0) x.1
 
 -- what follows a frontier: the next one, or what follows them all
 pub frontiers_end : (names : List (List ℕ)) (fs : List (Part × FrontierValue)) (rest : List Row) → EndsPart rest → EndsPart (map row_of (flat_map (frontier_lines names) fs) ++ rest)

@@ -18,16 +18,11 @@ use Rattle.report_form.specs.declared.fault.ReportCode.{ReportCode}
 use Rattle.report_form.specs.declared.fault.ReportCode.TheVariants as code
 use Rattle.report_form.specs.Reports.{IsJoinedPoint}
 use Rattle.report_form.specs.Spelling.{point_words, point_lines}
-use Rattle.report_form.specs.Points.{HeadValue, may_join, joined_head_from, schedule_at, joined_point_at}
+use Rattle.report_form.specs.Points.{HeadValue, may_join, schedule_at, joined_point_at}
+use Rattle.report_form.proofs.JoinedTaken.{joined_of, joined_check}
 use Rattle.report_laws.proofs.LinesAgain.{words_part_again, Ends, ReadsPart}
 use Rattle.report_laws.proofs.ShapesAgain.{IsSmall, MarkIsSmall, head_words, joined_head_again, head_are_words}
 use Rattle.report_laws.proofs.PointsAgain.{FewBase, head_of, schedule_lines, schedule_again, schedule_are_tokens}
-
-abbrev joined_of : Candidate × ℕ → HeadValue
-joined_of x = record { candidate = x.0; mark = mark.Joined x.1 }
-
-abbrev joined_check : QuestionValue → List (List ℕ) → Result HeadValue ReportCode
-joined_check q words = joined_head_from words >>= (λ head. refuse (not (may_join q head.0 head.1)) code.Limits >>= (λ u. Ok (joined_of head)))
 
 -- a joined point passes the eight tests of a join
 may_join_again : (q : QuestionValue) (p : PointValue) (is : IsJoinedPoint q p) → may_join q p.candidate is.adding ≡ true

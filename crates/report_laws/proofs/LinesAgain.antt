@@ -12,7 +12,7 @@ use Rattle.topology_text.proofs.Groups.{place}
 use Rattle.report_form.specs.declared.fault.ReportCode.{ReportCode}
 use Rattle.report_form.specs.declared.fault.ReportCode.TheVariants.{BadLine}
 use Rattle.report_form.specs.Lines.{fixed_line, row_begins, lines_from, parts_from}
-use Rattle.report_form.proofs.LineTaken.{on_words, map_both}
+use Rattle.report_form.proofs.LineTaken.{on_words, map_both, stay}
 
 -- ---- one line
 
@@ -79,9 +79,6 @@ pub record ReadsPart {A : Type 0} (word : List ℕ) (check : List A → Place �
   pub part : (before : List A) (x : A) (more : List A) (n : ℕ) (rest : List Row) → Q (before ++ x ∷ more) → Stops rest → Reads (check before (place n (map row_of (spell x) ++ rest))) x rest
   pub starts : (x : A) (rest : List Row) → row_begins word (first (map row_of (spell x) ++ rest)) ≡ true
   pub stops : (x : A) (rest : List Row) → Stops (map row_of (spell x) ++ rest)
-
-abbrev stay : {A : Type 0} → List A → Place → Result (List A × Place) (ReportCode × ℕ)
-stay before p = Ok (before, p)
 
 parts_end : {A : Type 0} (word : List ℕ) (check : List A → Place → Result (A × Place) (ReportCode × ℕ)) (fuel : ℕ) (before : List A) (n : ℕ) (rest : List Row) → Ends word rest → parts_from word check fuel before (place n rest) ≡ Ok (before, place n rest)
 parts_end word check zero before n rest ends = refl

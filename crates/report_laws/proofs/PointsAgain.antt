@@ -34,11 +34,11 @@ use Rattle.report_form.specs.Tests.{is_within, comes_next}
 use Rattle.report_form.specs.Lines.{lines_at}
 use Rattle.report_form.specs.Points.{HeadValue, head_from, rounds_from, are_rounds, send_line, schedule_at, frontier_point_at}
 use Rattle.report_form.proofs.Tested.{decides_within}
-use Rattle.report_form.proofs.PointsTaken.{AreSends, ArePoints}
+use Rattle.report_form.proofs.PointsTaken.{AreSends, ArePoints, rounds_check}
 use Rattle.report_laws.proofs.LinesAgain.{words_part_again, Reads, Ends, lines_again, ReadsPart}
 use Rattle.report_laws.proofs.ShapesAgain.{MarkIsSmall, head_again, head_are_words, rounds_again}
 use Rattle.report_laws.proofs.ListsAgain.{ruled_again, part_comes_again, within_small}
-use Rattle.report_laws.proofs.SendsAgain.{rounds_small, rounds_kept, rounds_check, rounds_tokens, send_reads, sends_are_tokens}
+use Rattle.report_laws.proofs.SendsAgain.{rounds_small, rounds_kept, rounds_tokens, send_reads, sends_are_tokens}
 
 -- ---- a schedule behind the head of its point
 

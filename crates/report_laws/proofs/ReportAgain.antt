@@ -28,19 +28,13 @@ use Rattle.report_form.specs.Lines.{fixed_line, no_line, among}
 use Rattle.report_form.specs.Asked.{AskedValue}
 use Rattle.report_form.specs.Reading.{frontiers_from, joined_at, body_of, version_line, is_same, report_of}
 use Rattle.report_form.proofs.LineTaken.{map_both}
-use Rattle.report_form.proofs.ReportTaken.{head_words, head_spelled, after_pattern, after_groups, after_root, after_names, after_same, after_header, after_asked, after_head, report_at, report_is}
+use Rattle.report_form.proofs.ReportTaken.{head_words, head_spelled, after_pattern, after_groups, after_root, after_names, after_same, after_header, after_asked, after_head, report_at, report_is, report, end_words}
 use Rattle.report_form.proofs.FrontiersTaken.{rows_split}
 use Rattle.report_laws.proofs.FrontiersAgain.{end_ends, groups_end, frontiers_end, frontiers_again, joined_again, joined_end}
 use Rattle.report_laws.proofs.AskedAgain.{asked_of, asked_part_again, root_of_again}
 use Rattle.report_laws.proofs.SpelledTokens.{rows_of_report}
 
 -- ---- the body
-
-abbrev report : WordsValue → NamedTopologyValue → List (Part × FrontierValue) → List PointValue → ReportValue
-report words t frontiers joined = record { words = words; topology = t; frontiers = frontiers; joined = joined }
-
-abbrev end_words : List (List ℕ)
-end_words = codes "end" ∷ []
 
 -- the lines behind the topology
 abbrev pub behind_topology : ReportValue → List (List (List ℕ))

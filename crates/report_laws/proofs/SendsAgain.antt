@@ -15,7 +15,7 @@ use Rattle.topology_text.specs.Names.{AreNames}
 use Rattle.report_form.specs.declared.fault.ReportCode.{ReportCode}
 use Rattle.report_form.specs.declared.fault.ReportCode.TheVariants as code
 use Rattle.report_form.specs.Spelling.{rounds_words, send_words}
-use Rattle.report_form.specs.Points.{rounds_from, are_rounds, send_from, follows, may_be_sent, send_line}
+use Rattle.report_form.specs.Points.{are_rounds, send_from, follows, may_be_sent, send_line}
 use Rattle.report_form.proofs.Ascending.{HopBefore}
 use Rattle.report_form.proofs.PointsTaken.{AreSends}
 use Rattle.report_laws.proofs.LinesAgain.{on_words_again, ReadsLine}
@@ -37,9 +37,6 @@ rounds_kept x rounds many each total =
     (and_from (length rounds == x.s) (list_all (λ n. nat_le 1 n && nat_le n 9) rounds) (eq-eqb (length rounds) x.s many)
     (all_pass (λ n. nat_le 1 n && nat_le n 9) IsRound (λ n r. let some = r.some in and_from (nat_le 1 n) (nat_le n 9) (le-leb 1 n (omega (arith, some))) (le-leb n 9 r.few)) rounds each))
     (eq-eqb (sum rounds) x.r total)
-
-abbrev pub rounds_check : Candidate → List (List ℕ) → Result (List ℕ) ReportCode
-rounds_check x words = rounds_from words >>= (λ rounds. refuse (not (are_rounds x rounds)) code.Limits >>= (λ u. Ok rounds))
 
 pub rounds_tokens : (rounds : List ℕ) → All IsRound rounds → AreTokens (rounds_words rounds)
 rounds_tokens rounds each = tokens_from (rounds_words rounds) (omega arith) (rounds_are_words rounds (rounds_small rounds each))

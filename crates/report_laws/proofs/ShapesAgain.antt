@@ -19,6 +19,7 @@ use Rattle.report_form.specs.Spelling.{candidate_words, mark_words, rounds_words
 use Rattle.report_form.specs.Fields.{any_number, next_word, next_number, next_node, fixed_word, no_more}
 use Rattle.report_form.specs.Points.{HeadValue, candidate_from, mark_named, head_from, joined_head_from, numbers_from, rounds_from, send_from}
 use Rattle.report_form.specs.Reading.{refuted_from, unknown_from}
+use Rattle.report_form.proofs.Shapes.{candidate, head, hop}
 use Rattle.report_laws.proofs.TokensAgain.{word_again, fixed_again, small_again, number_again, next_node_again, any_number_again}
 
 -- ---- a candidate
@@ -28,9 +29,6 @@ pub record IsSmall (x : Candidate) : Type 0 where
   pub steps : x.s ≤ 65535
   pub rounds : x.r ≤ 65535
   pub chunks : x.c ≤ 65535
-
-abbrev candidate : ℕ → ℕ → ℕ → Candidate
-candidate s r c = record { s = s; r = r; c = c }
 
 abbrev after_c : ℕ → ℕ → ℕ × List (List ℕ) → Result (Candidate × List (List ℕ)) ReportCode
 after_c s r c = Ok (candidate s r c.0, c.1)
@@ -79,9 +77,6 @@ pub unknown_are_words : (u : UnknownValue) → IsSmall u.candidate → u.conflic
 unknown_are_words u small few = (literal (codes "unknown") refl, candidate_are_words u.candidate (decimal u.conflicts ∷ []) small (decimal_word u.conflicts few, tt))
 
 -- ---- heads of points
-
-abbrev head : Candidate → Mark → HeadValue
-head x m = record { candidate = x; mark = m }
 
 abbrev pub head_words : Candidate → Mark → List (List ℕ)
 head_words x m = codes "point" ∷ candidate_words x ++ mark_words m
@@ -152,9 +147,6 @@ pub record IsSpelled (names : List (List ℕ)) (h : Hop) : Type 0 where
   pub step : h.step ≤ 65535
   pub from : h.from < length names
   pub to : h.to < length names
-
-abbrev hop : ℕ → ℕ → ℕ → ℕ → Hop
-hop c u v s = record { chunk = c; from = u; to = v; step = s }
 
 pub send_again : (names : List (List ℕ)) (h : Hop) → AreDistinct names → IsSpelled names h → send_from names (send_words names h) ≡ Ok h
 send_again names h distinct ok =

@@ -1,5 +1,5 @@
 -- Readers that fail alike where their lines are the same, and how they are put together.
-use Rattle.std.proofs.Common.{◌≡◌, ℕ, ◌<◌, true, List, [], ◌∷◌, length, drop, Option, Result, Ok, Err, sym, ap, ◌∙◌, arith}
+use Rattle.std.proofs.Common.{◌≡◌, ℕ, ◌<◌, true, List, [], ◌∷◌, length, drop, Option, Result, Ok, Err, ap, arith}
 use Rattle.text_lines.specs.Text.{Row, Place}
 use Rattle.text_lines.specs.Check.{◌>>=◌, first, line_part}
 use Rattle.text_lines.proofs.Checks.{bind_ok, part_ok}
@@ -8,7 +8,7 @@ use Rattle.report_form.specs.declared.fault.ReportCode.{ReportCode}
 use Rattle.report_form.specs.declared.fault.ReportCode.TheVariants.{Truncated}
 use Rattle.report_form.specs.Lines.{row_begins, lines_at, parts_at, among}
 use Rattle.topology_text.proofs.Local.{FailsAt}
-use Rattle.topology_text.proofs.Steady.{Moves, Alike, Steady, Settles}
+use Rattle.topology_text.proofs.Steady.{Moves, Alike, Steady}
 use Rattle.report_form.proofs.ReportTaken.{among_ok}
 use Rattle.report_laws.proofs.LocalLines.{moves_lines, alike_lines, moves_parts, alike_parts}
 
@@ -79,13 +79,4 @@ steady_among rows others f g s = record {
     fails = λ e same failed. let f1 = among_err rows (f p) e failed in among_fails others (g q) e.1 (a.fails (f1.why, e.1) same f1.is);
     reads = λ n x same low read. let to = a.reads n x same low (among_ok rows (f p) x read) in record { rest = to.rest; is = ap (among others) to.is; same = to.same };
   };
-}
-
--- ---- to the end
-
--- the same readers, written another way
-pub settles_as : {A C D : Type 0} (f h : Place → Result A (C × ℕ)) (g k : Place → Result A (D × ℕ)) → ((p : Place) → f p ≡ h p) → ((p : Place) → g p ≡ k p) → Settles f g → Settles h k
-settles_as f h g k one two s = record {
-  late = λ p e failed. s.late p e (one p ∙ failed);
-  fails = λ p q e same failed. let x = s.fails p q e same (one p ∙ failed) in record { why = x.why; is = sym (two q) ∙ x.is };
 }

@@ -7,6 +7,7 @@ use Rattle.topology_text.specs.Reading.{begins}
 use Rattle.report_form.specs.declared.fault.ReportCode.{ReportCode}
 use Rattle.report_form.specs.declared.fault.ReportCode.TheVariants.{BadLine}
 use Rattle.report_form.specs.Fields.{next_keyed}
+use Rattle.report_form.proofs.Tokens.{with_rest}
 
 -- the bytes behind the key, as they are
 abbrev pub as_is : List ℕ → Option (List ℕ)
@@ -14,9 +15,6 @@ as_is value = Some value
 
 abbrev valued : List ℕ → List (List ℕ) → Result (List ℕ × List (List ℕ)) ReportCode
 valued v ws = Ok (v, ws)
-
-abbrev with_rest : {B : Type 0} → List (List ℕ) → B → Result (B × List (List ℕ)) ReportCode
-with_rest ws x = Ok (x, ws)
 
 abbrev refused : {B : Type 0} → ReportCode → Result B ReportCode
 refused code = Err code

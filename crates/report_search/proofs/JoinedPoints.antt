@@ -18,7 +18,7 @@ use Rattle.allreduce_join.proofs.Sequence.{in_range_sequence, sizes_sequence, va
 use Rattle.topology_text.specs.Value.{NamedTopologyValue}
 use Rattle.report_form.specs.Reports.{WordsValue, IsJoinedPoint, IsPoint, question_of}
 use Rattle.frontier_audit.specs.Searches.{IsAsked}
-use Rattle.report_search.specs.Found.{IsFound}
+use Rattle.engine_search.specs.Found.{IsFound}
 use Rattle.report_search.specs.Reporting.{joins_of}
 use Rattle.report_search.proofs.PartAsked.{none_given}
 use Rattle.report_search.proofs.Valid.{valid_frontier}

@@ -1,5 +1,5 @@
 -- What is asked of a part can be searched.
-use Rattle.std.proofs.Common.{◌≡◌, ◌≢◌, ◌⊎◌, inl, inr, ℕ, ◌<◌, ◌≤◌, true, [], ◌∷◌, Contains, Option, None, Some, refl, sym, ap, subst, ◌∙◌}
+use Rattle.std.proofs.Common.{◌≡◌, ◌≢◌, ◌⊎◌, inl, inr, ℕ, ◌<◌, ◌≤◌, true, [], ◌∷◌, Contains, Option, None, refl, sym, ap, subst, ◌∙◌}
 use Rattle.std.proofs.lemmas.List.Elements.{All-contains, All-cons, All-nil}
 use Rattle.outer_ports.specs.declared.part.Part.{Part}
 use Rattle.outer_ports.specs.declared.part.Part.TheVariants.{Whole, Reduce, Gather, Joined}
@@ -17,6 +17,7 @@ use Rattle.candidate_formula.specs.Sizes.{size_of}
 use Rattle.topology_text.specs.Value.{NamedTopologyValue}
 use Rattle.report_form.specs.Reports.{WordsValue, parts_of, question_of}
 use Rattle.frontier_audit.specs.Searches.{IsAsked}
+use Rattle.frontier_audit.proofs.Right.{unpatterned}
 
 -- ---- the parts of a collective
 
@@ -46,11 +47,6 @@ in_two part at =
     let Either : Part → Type 0 = λ p. (p ≡ Reduce) ⊎ (p ≡ Gather) in
     All-contains Either (Reduce ∷ Gather ∷ []) part (All-cons Either Reduce (Gather ∷ []) (inl refl) (All-cons Either Gather [] (inr refl) (All-nil Either))) at
 
--- an allreduce has no pattern
-pub no_pattern : (custom : Option PatternValue) → fits_kind kind.Allreduce custom ≡ true → custom ≡ None
-no_pattern None fits = refl
-no_pattern (Some p) fits = absurd cc
-
 -- ---- what a search needs of a part
 
 pub record CanBeSearched (part : Part) (q : QuestionValue) : Type 0 where
@@ -73,7 +69,7 @@ module _ (w : WordsValue) (t : NamedTopologyValue) (asked : IsAsked w t) where
 
   module _ (is : w.collective.kind ≡ kind.Allreduce) where
     pub none_given : t.custom ≡ None
-    none_given = no_pattern t.custom (subst (λ k. fits_kind k t.custom ≡ true) is asked.fits)
+    none_given = unpatterned t.custom (subst (λ k. fits_kind k t.custom ≡ true) is asked.fits)
 
     abbrev size_at : Kind → Option PatternValue → ℕ
     size_at k custom = size_of (record { topology = t.topology; spec = spec_of (record { kind = k; root = w.collective.root }) custom; limits = w.limits })

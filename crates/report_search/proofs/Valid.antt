@@ -6,7 +6,7 @@ use Rattle.collective_spec.specs.Collectives.{adds_up}
 use Rattle.candidate_order.specs.declared.candidate.Candidate.{Candidate}
 use Rattle.candidate_order.specs.Frontiers.{QuestionValue, FrontierValue, PointValue, Achieves, IsPoint as IsRightPoint}
 use Rattle.report_form.specs.Reports.{IsFrontier, IsPoint}
-use Rattle.report_search.specs.Found.{IsFound}
+use Rattle.engine_search.specs.Found.{IsFound}
 
 steps_of : (b : Bool) (q : QuestionValue) (x : Candidate) (s : ScheduleValue) → Achieves b q x s → length s.rounds ≡ x.s
 steps_of true q x s achieves = achieves.steps_are

@@ -14,7 +14,7 @@ use Rattle.frontier_audit.specs.Rights.{IsExhaustedPart, IsRight, IsRightPart, I
 use Rattle.frontier_audit.specs.OwedFiles.{IsKept, IsOf, Proves}
 use Rattle.frontier_audit.specs.Shelves.{PartRight}
 use Rattle.frontier_audit.specs.Searches.{IsAsked}
-use Rattle.report_search.specs.Found.{IsFound}
+use Rattle.engine_search.specs.Found.{IsFound}
 use Rattle.report_search.specs.Shelved.{IsShelved}
 use Rattle.report_search.specs.Reporting.{whole_report}
 use Rattle.report_search.proofs.PartAsked.{one_part}

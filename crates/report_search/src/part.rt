@@ -5,7 +5,7 @@ ghost use Rattle.outer_ports.specs.Port.{HasCause, Tells};
 ghost use Rattle.report_form.specs.Reports.{parts_of, question_of};
 ghost use Rattle.frontier_audit.specs.OwedFiles.{BreaksOff};
 ghost use Rattle.frontier_audit.specs.Searches.{IsAsked};
-ghost use Rattle.report_search.specs.Found.{IsFound};
+ghost use Rattle.engine_search.specs.Found.{IsFound};
 ghost use Rattle.report_search.specs.Shelved.{IsShelved};
 
 use crate::single::single_frontier;

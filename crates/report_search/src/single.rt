@@ -5,7 +5,7 @@ ghost use Rattle.outer_ports.specs.Port.{HasCause, Tells};
 ghost use Rattle.collective_spec.specs.Collectives.{IsSpec, kind_in};
 ghost use Rattle.round_encoding.specs.Candidates.{size_limit};
 ghost use Rattle.candidate_formula.specs.Sizes.{size_of};
-ghost use Rattle.report_search.specs.Found.{IsFound};
+ghost use Rattle.engine_search.specs.Found.{IsFound};
 ghost use Rattle.report_search.specs.Shelved.{IsShelved, MayHaveBegun};
 
 use candidate_order::{Frontier, Limits};

@@ -6,7 +6,7 @@ ghost use Rattle.report_form.specs.Reports.{question_of};
 ghost use Rattle.frontier_audit.specs.OwedFiles.{BreaksOff, Proves};
 ghost use Rattle.frontier_audit.specs.Rights.{IsRight, IsSearched};
 ghost use Rattle.frontier_audit.specs.Searches.{IsAsked};
-ghost use Rattle.report_search.specs.Found.{IsFound};
+ghost use Rattle.engine_search.specs.Found.{IsFound};
 ghost use Rattle.report_search.specs.Reporting.{whole_report};
 
 use crate::OutOfMemory;

@@ -1,22 +1,18 @@
 -- A group's counter, in the order in which it is made.
-use Rattle.std.proofs.Common.{◌≡◌, ℕ, zero, suc, ◌+◌, ◌*◌, ◌<◌, ◌≤◌, List, [], ◌∷◌, map, length, refl, ap, ◌∙◌, arith, length-append}
-use Rattle.std.specs.Prelude.{flat_map, All}
-use Rattle.std.specs.List.{range_with_len}
+use Rattle.std.proofs.Common.{◌≡◌, ℕ, suc, ◌+◌, ◌*◌, ◌<◌, ◌≤◌, List, [], ◌∷◌, map, length, refl, ap, ◌∙◌, arith}
+use Rattle.std.specs.Prelude.{All}
 use Rattle.schedule.specs.Links.{GroupValue, IsGroup}
 use Rattle.schedule.specs.Sends.{IsStep}
 use Rattle.cnf_formula.specs.Literals.{LitValue}
 use Rattle.cnf_formula.specs.Formulas.{FormulaValue, IsClause, with_clauses}
 use Rattle.cardinality.specs.Counting.{CounterValue, with_counter}
 use Rattle.cardinality.specs.Totalizers.{totalizer_of}
+use Rattle.cardinality.proofs.Wider.{clause_more}
 use Rattle.round_encoding.specs.Frames.{Frame, own_variables}
 use Rattle.send_encoding.specs.Variables.{sent, number_of}
+use Rattle.send_encoding.proofs.Grid.{rows_length}
 use Rattle.round_encoding.specs.Rounding.{count_of_group, output_at, said_of_group, with_count}
-use Rattle.send_encoding.proofs.About.{wider_clause}
 use Rattle.round_encoding.proofs.Counted.{group_counted}
-
-rows_length : {X : Type 0} (g : ℕ → List X) (m a n : ℕ) → ((j : ℕ) → length (g j) ≡ m) → length (flat_map g (range_with_len a n)) ≡ n * m
-rows_length g m a zero h = omega arith
-rows_length g m a (suc n) h = length-append (g a) (flat_map g (range_with_len (a + 1) n)) ∙ omega (arith, h a, rows_length g m (a + 1) n h)
 
 mapped_length : {X Y : Type 0} (g : X → Y) (xs : List X) → length (map g xs) ≡ length xs
 mapped_length g [] = refl
@@ -31,7 +27,7 @@ module _ (f : Frame) (s : ℕ) (group : GroupValue) where
 
   pub inputs_about : (v : ℕ) → own_variables f ≤ v → IsStep f.map.steps s → 0 < f.map.chunks → IsGroup group → All (λ link. number_of f.map link < length f.map.links) group.links → IsClause v inputs
   inputs_about v le step chunks ok places =
-      wider_clause (own_variables f) v inputs le (group_counted f s group (omega (arith, step.from), omega (arith, step.to)) chunks ok.some places).about
+      clause_more (own_variables f) v inputs le (group_counted f s group (omega (arith, step.from), omega (arith, step.to)) chunks ok.some places).about
 
   pub counts_grow : (f0 f1 f2 : FormulaValue) (ys outs : List LitValue) (width bound : ℕ) → ys ≡ inputs → width ≡ group.width → bound ≡ width * (1 + f.extra) → f1 ≡ with_counter f0 (totalizer_of f0.vars ys bound) → outs ≡ (totalizer_of f0.vars ys bound).outputs
       → f2 ≡ with_clauses f1 (said_of_group f s width (output_at outs)) → f2 ≡ with_count f0 (count_of_group f s group)

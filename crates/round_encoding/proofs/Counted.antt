@@ -15,13 +15,14 @@ use Rattle.cnf_formula.specs.Formulas.{IsAbout, IsClause, IsFormula}
 use Rattle.cardinality.specs.Counting.{output}
 use Rattle.cardinality.specs.Totalizers.{totalizer_of}
 use Rattle.cardinality.proofs.Totals.{totalizer_is_counter}
+use Rattle.cardinality.proofs.Wider.{clauses_more, clause_more, about_more}
 use Rattle.send_encoding.specs.Variables.{SendMapValue, map_of, chunks_of, steps_of, sent, number_of}
 use Rattle.round_encoding.specs.Frames.{Frame, frame_of, extra_of, extra_round, own_variables}
 use Rattle.send_encoding.specs.Sending.{sending}
 use Rattle.round_encoding.specs.Rounding.{Count, count_of_rounds, count_of_group, counts_of, counted, formula_of, extra_in_order}
 use Rattle.send_encoding.proofs.Everywhere.{in_map, in_flat, From, in_range, some_in_flat, place_below}
 use Rattle.send_encoding.proofs.Mapped.{links_join}
-use Rattle.send_encoding.proofs.About.{about_not, one, two, only_clause, wider, wider_clause, wider_clauses, IsStepOf}
+use Rattle.send_encoding.proofs.About.{about_not, one, two, only_clause, IsStepOf}
 use Rattle.round_encoding.proofs.Extras.{sent_about, extra_about, sending_about, order_about}
 
 -- ---- counts in a row
@@ -52,9 +53,9 @@ counts_about own before (count ∷ counts) le a =
     let later = counted next counts in
     let v : ℕ = later.vars in
     let more : next ≤ v = more_variables next counts in
-    let inputs : All (IsAbout before) count.inputs = wider_clause own before count.inputs le here.about in
-    let first = wider_clauses next v counter.clauses more (totalizer_is_counter before count.inputs count.bound here.some inputs).clauses_about in
-    let told = here.says v (output counter) (omega (arith, le, more)) (λ t low high. wider next v (output counter t) more (output_about before count here.some inputs t low high)) in
+    let inputs : All (IsAbout before) count.inputs = clause_more own before count.inputs le here.about in
+    let first = clauses_more next v counter.clauses more (totalizer_is_counter before count.inputs count.bound here.some inputs).clauses_about in
+    let told = here.says v (output counter) (omega (arith, le, more)) (λ t low high. about_more next v (output counter t) more (output_about before count here.some inputs t low high)) in
     let rest = counts_about own next counts (omega (arith, le)) (All-tail (IsCount own) count counts a) in
     All-append (IsClause v) (counter.clauses ++ count.says (output counter)) later.clauses
     (All-append (IsClause v) counter.clauses (count.says (output counter)) first told) rest
@@ -97,7 +98,7 @@ module _ (f : Frame) where
         let product : group.width * j ≤ group.width * (1 + f.extra) = mul-le-mul_left group.width (omega (arith, at.1)) in
         two w (negation (o (group.width * j + 1))) (extra_round f s j)
         (about_not w (o (group.width * j + 1)) (outs (group.width * j + 1) (omega arith) (omega (arith, product))))
-        (wider v w (extra_round f s j) le (extra_about f s j step at))) (in_range 1 f.extra))
+        (about_more v w (extra_round f s j) le (extra_about f s j step at))) (in_range 1 f.extra))
         (only_clause w (negation (o last) ∷ []) (one w (negation (o last)) (about_not w (o last) (outs last (omega arith) (omega arith)))));
   }
 
@@ -146,8 +147,8 @@ is_formula t pre post steps rounds ok chunks some =
     let counters = counted own (counts_of f t) in
     let v : ℕ = counters.vars in
     let more : own ≤ v = more_variables own (counts_of f t) in
-    let sends = wider_clauses own v (sending f.map pre post) more (sending_about f (links_join t pre steps) pre post) in
-    let order = wider_clauses own v (extra_in_order f) more (order_about f) in
+    let sends = clauses_more own v (sending f.map pre post) more (sending_about f (links_join t pre steps) pre post) in
+    let order = clauses_more own v (extra_in_order f) more (order_about f) in
     let counts = counts_about own own (counts_of f t) (omega arith) (all_counts t pre steps rounds ok chunks some) in
     All-append (IsClause v) (sending f.map pre post ++ extra_in_order f) counters.clauses
     (All-append (IsClause v) (sending f.map pre post) (extra_in_order f) sends order) counts

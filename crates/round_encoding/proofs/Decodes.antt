@@ -26,11 +26,5 @@ module _ (t : TopologyValue) (pre post : PlacementValue) (steps rounds : ℕ) (e
       let f = frame_of t pre steps rounds in
       omega (arith, ap own_variables same_frame, more_variables (own_variables f) (counts_of f t), satisfies_whole.values_are)
 
-  pub few_extra : e.extra ≤ 8
-  few_extra = omega (arith, ap (λ (x : Encoding). x.extra) encodes.is, encodes.candidate.most)
-
-  pub few_steps : e.map.steps ≤ 16
-  few_steps = omega (arith, ap (λ (x : Encoding). x.map.steps) encodes.is, encodes.candidate.few)
-
   pub decodes : IsTightSolution t pre post (decoded frame values) steps rounds
   decodes = subst (λ f. IsTightSolution t pre post (decoded f values) steps rounds) (sym same_frame) (sound t pre post steps rounds values encodes.candidate satisfies_whole)

@@ -3,7 +3,7 @@ use Rattle.std.proofs.Common.{◌≡◌, ℕ, zero, suc, ◌+◌, ◌-◌, ◌<�
 use Rattle.std.specs.Prelude.{if◌then◌else◌, flat_map, count_by, sum_by, All}
 use Rattle.std.specs.List.{range_with_len}
 use Rattle.std.proofs.lemmas.Bool.{false≢true, false_from_ne_true, cases_Bool, cases_eq, eq-eqb, ne_eqb}
-use Rattle.std.proofs.lemmas.List.Sums.{sum_by-cons, sum_by-append}
+use Rattle.std.proofs.lemmas.List.Sums.{sum_by-cons, sum_by-append, sum-map}
 use Rattle.std.proofs.lemmas.List.FromFn.{length-map-range_with_len, get_or-map-range_with_len}
 use Rattle.schedule.specs.Sends.{IsRound, IsStep}
 use Rattle.cnf_formula.specs.Literals.{is_true}
@@ -26,10 +26,6 @@ sum_with_more g v a (suc n) last e =
     let rest = sum_with_more g v (a + 1) n last (omega (arith, e)) in
     let more = sum_by-cons (λ k. g k + (if eqb k last then v else 0)) a (range_with_len (a + 1) (suc n)) in
     omega (arith, more ∙ ap (λ b. g a + (if b then v else 0) + sum_by (λ k. g k + (if eqb k last then v else 0)) (range_with_len (a + 1) (suc n))) at, rest, sum_by-cons g a (range_with_len (a + 1) (suc n)))
-
-sum_map : {X : Type 0} (g : X → ℕ) (xs : List X) → sum (map g xs) ≡ sum_by g xs
-sum_map g [] = refl
-sum_map g (x ∷ xs) = sum_by-cons (λ n. n) (g x) (map g xs) ∙ ap (λ n. g x + n) (sum_map g xs) ∙ sym (sum_by-cons g x xs)
 
 one_more_each : (q : ℕ → ℕ) (a n : ℕ) → sum_by (λ k. 1 + q k) (range_with_len a n) ≡ n + sum_by q (range_with_len a n)
 one_more_each q a zero = refl
@@ -106,7 +102,7 @@ module _ (f : Frame) (values : List Bool) where
   module _ (few : true_inputs values (count_of_rounds f).inputs ≤ f.extra) (some : 0 < steps) where
     left_is : rounds_left f values ≡ f.extra - all_said
     left_is =
-        let said : sum (map (rounds_said f values) (steps_of f.map)) ≡ steps + all_said = sum_map (rounds_said f values) (steps_of f.map) ∙ one_more_each extra_said 1 steps in
+        let said : sum (map (rounds_said f values) (steps_of f.map)) ≡ steps + all_said = sum-map (rounds_said f values) (steps_of f.map) ∙ one_more_each extra_said 1 steps in
         omega (arith, said)
 
     pub rounds_sum : sum (rounds_of f values) ≡ steps + f.extra
@@ -115,7 +111,7 @@ module _ (f : Frame) (values : List Bool) where
         let is : suc last ≡ steps = omega (arith, some) in
         let more : sum_by at_step (range_with_len 1 steps) ≡ sum_by (rounds_said f values) (range_with_len 1 steps) + rounds_left f values =
         subst (λ n. sum_by at_step (range_with_len 1 n) ≡ sum_by (rounds_said f values) (range_with_len 1 n) + rounds_left f values) is (sum_with_more (rounds_said f values) (rounds_left f values) 1 last steps (omega (arith, some))) in
-        omega (arith, sum_map at_step (steps_of f.map), more, one_more_each extra_said 1 steps, left_is, few, all_are)
+        omega (arith, sum-map at_step (steps_of f.map), more, one_more_each extra_said 1 steps, left_is, few, all_are)
 
     last_few : (k : ℕ) (b : Bool) → extra_said k ≤ all_said → 1 + extra_said k + (if b then rounds_left f values else 0) ≤ 1 + f.extra
     last_few k true part = omega (arith, part, left_is, few, all_are)

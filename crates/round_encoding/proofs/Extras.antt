@@ -10,7 +10,9 @@ use Rattle.send_encoding.specs.Variables.{SendMapValue, arrival, arrivals, sent,
 use Rattle.send_encoding.specs.Sending.{sending}
 use Rattle.send_encoding.proofs.Everywhere.{in_map, in_flat, From, in_range, slot}
 use Rattle.send_encoding.proofs.About as base
-use Rattle.send_encoding.proofs.About.{JoinsNodes, IsStepOf, about_not, two, wider, wider_clauses}
+use Rattle.send_encoding.proofs.About.{IsStepOf, about_not, two}
+use Rattle.send_encoding.specs.Moving.{JoinsNodes}
+use Rattle.cardinality.proofs.Wider.{clauses_more, about_more}
 use Rattle.round_encoding.specs.Frames.{Frame, extra_round, own_variables}
 use Rattle.round_encoding.specs.Rounding.{extra_in_order}
 
@@ -28,13 +30,13 @@ module _ (f : Frame) where
   Clause = IsClause v
 
   pub arrival_about : (c n s : ℕ) → c < m.chunks → n < m.nodes → s ≤ m.steps → About (arrival m c n s)
-  arrival_about c n s low few last = wider (arrivals m + sends m) v (arrival m c n s) (omega arith) (base.arrival_about m c n s low few last)
+  arrival_about c n s low few last = about_more (arrivals m + sends m) v (arrival m c n s) (omega arith) (base.arrival_about m c n s low few last)
 
   pub sent_about : (c e s : ℕ) → c < m.chunks → e < length m.links → IsStepOf m s → About (sent m c e s)
-  sent_about c e s low few step = wider (arrivals m + sends m) v (sent m c e s) (omega arith) (base.sent_about m c e s low few step)
+  sent_about c e s low few step = about_more (arrivals m + sends m) v (sent m c e s) (omega arith) (base.sent_about m c e s low few step)
 
   pub sending_about : (links : All (JoinsNodes m) m.links) (pre post : PlacementValue) → All Clause (sending m pre post)
-  sending_about links pre post = wider_clauses (arrivals m + sends m) v (sending m pre post) (omega arith) (base.sending_about m links pre post)
+  sending_about links pre post = clauses_more (arrivals m + sends m) v (sending m pre post) (omega arith) (base.sending_about m links pre post)
 
   pub extra_about : (s j : ℕ) → IsStepOf m s → From 1 f.extra j → About (extra_round f s j)
   extra_about s j step extra =

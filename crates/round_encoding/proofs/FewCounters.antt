@@ -12,7 +12,7 @@ use Rattle.schedule.specs.Links.{GroupValue, TopologyValue, IsGroup}
 use Rattle.cnf_formula.specs.Literals.{LitValue, negation}
 use Rattle.send_encoding.specs.Variables.{steps_of}
 use Rattle.send_encoding.proofs.Everywhere.{in_map, in_flat, From, in_range}
-use Rattle.send_encoding.proofs.Mapped.{rows}
+use Rattle.send_encoding.proofs.Grid.{rows_length}
 use Rattle.round_encoding.specs.Counts.{room}
 use Rattle.round_encoding.specs.Frames.{Frame, extra_of, extra_round}
 use Rattle.round_encoding.specs.Rounding.{Count, count_of_rounds, count_of_group, counts_of}
@@ -41,7 +41,7 @@ module _ (f : Frame) (few : f.extra ≤ 8) where
 -- ---- together
 
 space_of_rounds : (f : Frame) → space (count_of_rounds f) ≡ f.map.steps * f.extra * (f.extra + 1)
-space_of_rounds f = ap (λ n. n * (f.extra + 1)) (rows (λ s. map (extra_round f s) (extra_of f)) f.extra 1 f.map.steps (λ s. length-map-range_with_len (extra_round f s) 1 f.extra))
+space_of_rounds f = ap (λ n. n * (f.extra + 1)) (rows_length (λ s. map (extra_round f s) (extra_of f)) f.extra 1 f.map.steps (λ s. length-map-range_with_len (extra_round f s) 1 f.extra))
 
 space_of_groups : (f : Frame) (s : ℕ) (groups : List GroupValue) → sum_by space (map (count_of_group f s) groups) ≡ sum_by (room f) groups
 space_of_groups f s [] = refl

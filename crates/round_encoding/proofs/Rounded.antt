@@ -5,21 +5,21 @@ use Rattle.cnf_formula.specs.Literals.{LitValue, negation}
 use Rattle.cnf_formula.specs.Formulas.{FormulaValue, IsClause, with_clauses}
 use Rattle.cardinality.specs.Counting.{CounterValue, with_counter}
 use Rattle.cardinality.specs.Totalizers.{totalizer_of}
+use Rattle.cardinality.proofs.Wider.{clause_more}
+use Rattle.send_encoding.proofs.Grid.{rows_length}
 use Rattle.round_encoding.specs.Frames.{Frame, extra_of, extra_round, own_variables}
 use Rattle.round_encoding.specs.Rounding.{count_of_rounds, output_at, with_count}
-use Rattle.send_encoding.proofs.About.{wider_clause}
 use Rattle.round_encoding.proofs.Counted.{rounds_counted}
-use Rattle.send_encoding.proofs.Mapped.{rows}
 
 module _ (f : Frame) where
   pub extra_length : length (count_of_rounds f).inputs ≡ f.map.steps * f.extra
-  extra_length = rows (λ s. map (extra_round f s) (extra_of f)) f.extra 1 f.map.steps (λ s. length-map-range_with_len (extra_round f s) 1 f.extra)
+  extra_length = rows_length (λ s. map (extra_round f s) (extra_of f)) f.extra 1 f.map.steps (λ s. length-map-range_with_len (extra_round f s) 1 f.extra)
 
   pub extra_some : 0 < f.map.steps → 0 < f.extra → 0 < length (count_of_rounds f).inputs
   extra_some steps extra = (rounds_counted f steps extra).some
 
   pub extra_inputs_about : (v : ℕ) → own_variables f ≤ v → 0 < f.map.steps → 0 < f.extra → IsClause v (count_of_rounds f).inputs
-  extra_inputs_about v le steps extra = wider_clause (own_variables f) v (count_of_rounds f).inputs le (rounds_counted f steps extra).about
+  extra_inputs_about v le steps extra = clause_more (own_variables f) v (count_of_rounds f).inputs le (rounds_counted f steps extra).about
 
   pub rounds_grow : (f0 f1 f2 : FormulaValue) (ys outs : List LitValue) (bound : ℕ) → ys ≡ (count_of_rounds f).inputs → bound ≡ f.extra → f1 ≡ with_counter f0 (totalizer_of f0.vars ys bound) → outs ≡ (totalizer_of f0.vars ys bound).outputs
       → f2 ≡ with_clauses f1 ((negation (output_at outs (f.extra + 1)) ∷ []) ∷ []) → f2 ≡ with_count f0 (count_of_rounds f)

@@ -103,7 +103,7 @@ fn rounds_of(
 }
 
 /// The schedule that a satisfying assignment says: the sends that are true, and each step's rounds, of which the last step
-/// has those that are left. It solves the candidate and wastes no send. The only error is want of memory.
+/// has those that are left. It solves the candidate and wastes no send. The only error is `OutOfMemory`.
 pub fn decode(
     alloc: Global,
     encoding: &Encoding,

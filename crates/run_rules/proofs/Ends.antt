@@ -15,16 +15,16 @@ use Rattle.candidate_formula.specs.Sizes.{size_of}
 use Rattle.frontier_audit.specs.declared.verdict.AuditVerdict.{AuditVerdict}
 use Rattle.frontier_audit.specs.declared.verdict.AuditVerdict.TheVariants as audit
 use Rattle.frontier_audit.specs.Auditing.{audit_of}
-use Rattle.frontier_audit.specs.Candidates.{counts_of}
+use Rattle.candidate_formula.specs.Counts.{counts_of}
 use Rattle.point_replay.specs.Showing.{shown_in, shown_text}
 use Rattle.point_replay.specs.Points.{programs_of_point}
 use Rattle.topology_text.specs.Spelling.{spelling}
 use Rattle.report_form.specs.Spelling.{report_text}
 use Rattle.json_values.specs.Json.{printed}
 use Rattle.json_values.specs.TopologyJson.{topology_json}
-use Rattle.json_exchange.specs.ReportJson.{report_json}
+use Rattle.json_rules.specs.ReportJson.{report_json}
 use Rattle.json_values.specs.Answer.{code_number as json_number, topology_of_json}
-use Rattle.json_exchange.specs.Answer.{report_of_json}
+use Rattle.json_rules.specs.Answer.{report_of_json}
 use Rattle.command_words.specs.declared.command.JsonWhat.TheVariants as what
 use Rattle.command_words.specs.declared.command.RootWord.{RootWord}
 use Rattle.command_words.specs.declared.command.SearchWords.{SearchWords}
@@ -32,12 +32,12 @@ use Rattle.command_words.specs.declared.command.PointWord.{PointWord}
 use Rattle.command_words.specs.declared.command.Command.{Command}
 use Rattle.command_words.specs.declared.command.Command.TheVariants as command
 use Rattle.run_rules.specs.declared.status.Status.{Status}
-use Rattle.run_rules.specs.declared.status.Status.TheVariants.{Done, BadWords, BadTopology, BadReport, Denied, TooLarge, NoCandidate, TooLong, BadJson}
+use Rattle.run_rules.specs.declared.status.Status.TheVariants.{Done, BadWords, BadTopology, BadReport, Denied, TooLarge, NoCandidate, BadJson}
 use Rattle.run_rules.specs.Statuses.{number_of}
 use Rattle.command_words.specs.declared.fault.WordCode.TheVariants.{KeyMissing}
 use Rattle.run_rules.specs.Refusals.{Refusal, refused_as, refused_word}
 use Rattle.run_rules.specs.Commands.{IsOneOf, answers_of, row_of, search_row, unkept_row, check_row, fault_row, json_row, point_row, unjson_row}
-use Rattle.run_rules.specs.Tasks.{Task, Write, Synthesise, Audit, Try, Bound, Order, Degrade, audit_in, degrade_in, fault_in, is_allreduce, json_programs_in, point_in, programs_in, programs_value, read_report, replay_in, root_in, search_asked, searchable, task_of, whole_question, whole_text, words_for}
+use Rattle.run_rules.specs.Tasks.{Task, Write, Synthesise, Audit, Try, Bound, Order, Degrade, audit_in, degrade_in, fault_in, is_allreduce, json_programs_in, point_in, programs_in, programs_value, read_report, replay_in, root_in, search_asked, searchable, task_of, whole_question, words_for}
 use Rattle.run_rules.specs.Audits.{audited, not_denied, verdict_status}
 use Rattle.run_rules.specs.Said.{FilesValue}
 use Rattle.run_rules.specs.Answers.{IsAnswer}
@@ -65,10 +65,6 @@ module _ (P : Status → Type 0) where
   coded : {A C : Type 0} (s : Status) (number : C → ℕ) (x : Result A (C × ℕ)) → P s → With P (refused_as s number x)
   coded s number (Ok x) h = tt
   coded s number (Err e) h = h
-
-  pub whole_ends : P TooLong → (reads : Bool) (bytes : List ℕ) → With P (whole_text reads bytes)
-  whole_ends long true bytes = refused (nat_lt _ (length bytes)) _ long
-  whole_ends long false bytes = tt
 
   sized : P TooLarge → P NoCandidate → (q : QuestionValue) → With P (searchable q)
   sized large none q = bind _ _ (refused (nat_lt size_limit (size_of q)) _ large) (λ _. refused (length (counts_of q) == 0) _ none)

@@ -3,3 +3,4 @@ pub mod ReadReports
 pub mod Sought
 pub mod Ends
 pub mod Answered
+pub mod OverFiles

@@ -14,7 +14,7 @@ use Rattle.candidate_formula.specs.Sizes.{size_of}
 use Rattle.round_encoding.specs.Candidates.{size_limit}
 use Rattle.topology_text.specs.Value.{NamedTopologyValue}
 use Rattle.report_form.specs.Reports.{WordsValue}
-use Rattle.frontier_audit.specs.Candidates.{counts_of}
+use Rattle.candidate_formula.specs.Counts.{counts_of}
 use Rattle.run_rules.specs.declared.status.Status.TheVariants.{TooLarge, NoCandidate}
 use Rattle.run_rules.specs.Refusals.{Refusal, refused_at}
 use Rattle.run_rules.specs.Tasks.{searchable, whole_question}

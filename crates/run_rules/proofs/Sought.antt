@@ -20,9 +20,6 @@ use Rattle.run_rules.specs.Tasks.{fitting, root_in, search_asked, search_for, se
 pub cannot_search : (w : WordsValue) (t : NamedTopologyValue) (r : Refusal) → searchable (whole_question w t) ≡ Err r → search_for w t ≡ Err r
 cannot_search w t r e = ap (λ x. x >>= (λ _. Ok (w, t))) e
 
-pub can_search : (w : WordsValue) (t : NamedTopologyValue) → searchable (whole_question w t) ≡ Ok tt → search_for w t ≡ Ok (w, t)
-can_search w t e = ap (λ x. x >>= (λ _. Ok (w, t))) e
-
 -- ---- the pattern and the root
 
 module _ (asked : SearchWords) (t : NamedTopologyValue) where

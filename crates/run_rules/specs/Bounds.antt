@@ -4,9 +4,7 @@ use Rattle.std.specs.List.{flat_map, range_with_len}
 use Rattle.outer_ports.specs.declared.part.Part.TheVariants.{Whole}
 use Rattle.text_lines.specs.Text.{text_of}
 use Rattle.candidate_order.specs.declared.candidate.Candidate.{Candidate}
-use Rattle.candidate_order.specs.Frontiers.{QuestionValue, FrontierValue, RightFrontier, Searched}
-use Rattle.proof_rules.specs.Refuting.{Exhausted}
-use Rattle.candidate_formula.specs.Formulas.{formula_for}
+use Rattle.candidate_order.specs.Frontiers.{QuestionValue, FrontierValue}
 use Rattle.topology_text.specs.Value.{NamedTopologyValue}
 use Rattle.topology_text.specs.Spelling.{name_at}
 use Rattle.report_form.specs.Reports.{WordsValue, ReportValue, question_of}
@@ -19,6 +17,7 @@ use Rattle.node_cuts.specs.Sides.{has_bit}
 use Rattle.cut_bounds.specs.Cutting.{is_cut}
 use Rattle.cut_bounds.specs.Parting.{cuts_among, uncut_among, without_cuts}
 use Rattle.engine_search.specs.Asked.{searched_question}
+use Rattle.engine_search.specs.Found.{IsFound}
 use Rattle.run_rules.specs.declared.status.Status.{Status}
 use Rattle.run_rules.specs.declared.status.Status.TheVariants.{Done}
 use Rattle.run_rules.specs.Said.{FilesValue, Says}
@@ -52,12 +51,10 @@ bound_text w t f = text_of (bound_lines w t f)
 abbrev pub report_of : WordsValue → NamedTopologyValue → FrontierValue → ReportValue
 report_of w t f = record { words = w; topology = t; frontiers = (Whole, f) ∷ []; joined = [] }
 
--- the frontier is right, searched in order, and what was given up is exhausted; a candidate that was tried is refuted where a listed set refutes it; the text has the frontier, with each candidate that a listed set refutes in a line of its own; and the files prove the others
+-- the frontier is what a search finds; a candidate that was tried is refuted where a listed set refutes it; the text has the frontier, with each candidate that a listed set refutes in a line of its own; and the files prove the others
 pub record IsBound (w : WordsValue) (t : NamedTopologyValue) (files : FilesValue) (status : Status) (text : List ℕ) : Type 0 where
   pub frontier : FrontierValue
-  pub right : RightFrontier (question_of w t Whole) frontier
-  pub searched : Searched (question_of w t Whole) frontier
-  pub exhausted : All (λ u. Exhausted (formula_for (question_of w t Whole) u.candidate) u.conflicts) frontier.unknown
+  pub found : IsFound (question_of w t Whole) frontier
   pub points : All (λ p. is_cut (searched_question (question_of w t Whole)) p.candidate ≡ false) frontier.points
   pub unknown : All (λ u. is_cut (searched_question (question_of w t Whole)) u.candidate ≡ false) frontier.unknown
   pub says : Says Done (bound_text w t frontier) status text

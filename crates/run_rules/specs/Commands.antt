@@ -89,7 +89,7 @@ IsOneOf statuses status = IsTrue (list_any (λ s. number_of s == number_of statu
 abbrev pub answers_of : Command → List Status
 answers_of c = Done ∷ (row_of c).refusals
 
--- the statuses with which the words can end, beside want of memory and a failing sink
+-- the statuses with which the words can end, beside out of memory and a failing sink
 abbrev pub ends_of : Result Command WordFault → List Status
 ends_of (Err fault) = BadWords ∷ []
 ends_of (Ok c) = (if (row_of c).reads then SourceFailed ∷ [] else []) ++ ((if (row_of c).opens then ShelfFailed ∷ [] else []) ++ answers_of c)

@@ -6,13 +6,12 @@ use Rattle.outer_ports.specs.Files.{Files}
 use Rattle.outer_ports.specs.Shelf.{FilesStay}
 use Rattle.text_lines.specs.Text.{text_of}
 use Rattle.candidate_order.specs.declared.candidate.Candidate.{Candidate}
-use Rattle.candidate_order.specs.Frontiers.{FrontierValue, RightFrontier, Searched}
-use Rattle.proof_rules.specs.Refuting.{Exhausted}
-use Rattle.candidate_formula.specs.Formulas.{formula_for}
+use Rattle.candidate_order.specs.Frontiers.{FrontierValue}
 use Rattle.topology_text.specs.Value.{NamedTopologyValue}
 use Rattle.topology_text.specs.Spelling.{lines_of}
 use Rattle.report_form.specs.Reports.{WordsValue, ReportValue, question_of}
 use Rattle.report_form.specs.Spelling.{candidate_words, part_words, point_lines, refuted_words, synth_words, unknown_words}
+use Rattle.engine_search.specs.Found.{IsFound}
 use Rattle.link_faults.specs.Narrowed.{narrowed}
 use Rattle.link_faults.specs.Carrying.{is_carried}
 use Rattle.run_rules.specs.declared.status.Status.{Status}
@@ -46,12 +45,10 @@ degraded_text w t old f = text_of (degraded_lines w t old f)
 
 -- ---- what is owed
 
--- the frontier over the links that are left is right, searched in order, and what was given up is exhausted; what an old refuted candidate carries is refuted; and the text has it
+-- the frontier is what a search over the links that are left finds; what an old refuted candidate carries is refuted; and the text has it
 pub record IsNewSearch (r : ReportValue) (group width : ℕ) (status : Status) (text : List ℕ) : Type 0 where
   pub frontier : FrontierValue
-  pub right : RightFrontier (question_of r.words (left_of r.topology group width) Whole) frontier
-  pub searched : Searched (question_of r.words (left_of r.topology group width) Whole) frontier
-  pub exhausted : All (λ u. Exhausted (formula_for (question_of r.words (left_of r.topology group width) Whole) u.candidate) u.conflicts) frontier.unknown
+  pub found : IsFound (question_of r.words (left_of r.topology group width) Whole) frontier
   pub points : All (λ p. is_carried (old_refuted r) p.candidate ≡ false) frontier.points
   pub unknown : All (λ u. is_carried (old_refuted r) u.candidate ≡ false) frontier.unknown
   pub says : Says Done (degraded_text r.words (left_of r.topology group width) (old_refuted r) frontier) status text

@@ -1,14 +1,14 @@
 -- What is owed for a search in which chunks that are alike come in order. This project's own.
-use Rattle.std.specs.Prelude.{ℕ, List, [], ◌∷◌, ◌++◌, All, codes}
+use Rattle.std.specs.Prelude.{ℕ, List, [], ◌∷◌, ◌++◌, codes}
 use Rattle.outer_ports.specs.declared.part.Part.TheVariants.{Whole}
 use Rattle.text_lines.specs.Text.{text_of}
-use Rattle.candidate_order.specs.Frontiers.{QuestionValue, FrontierValue, PointValue, RightFrontier, Searched}
-use Rattle.proof_rules.specs.Refuting.{Exhausted}
+use Rattle.candidate_order.specs.Frontiers.{QuestionValue, FrontierValue}
 use Rattle.topology_text.specs.Value.{NamedTopologyValue}
 use Rattle.report_form.specs.Reports.{WordsValue, question_of}
 use Rattle.report_form.specs.Spelling.{frontier_lines, synth_words}
 use Rattle.chunk_order.specs.Formulas.{OrderedFor, ordered_formula_for}
-use Rattle.engine_search.specs.Asked.{copying_schedule, searched_question}
+use Rattle.engine_search.specs.Asked.{searched_question}
+use Rattle.engine_search.specs.Found.{IsFoundBy}
 use Rattle.run_rules.specs.declared.status.Status.{Status}
 use Rattle.run_rules.specs.declared.status.Status.TheVariants.{Done}
 use Rattle.run_rules.specs.Said.{FilesValue, Says, Stay}
@@ -19,16 +19,13 @@ ordered_lines w t f = (codes "ordered" ∷ codes "1" ∷ []) ∷ synth_words t.n
 unfoldable pub ordered_text : WordsValue → NamedTopologyValue → FrontierValue → List ℕ
 ordered_text w t f = text_of (ordered_lines w t f)
 
--- the schedule is ordered, or of a reduction its inverse is
-abbrev pub IsOrderedPoint : QuestionValue → PointValue → Type 0
-IsOrderedPoint q p = OrderedFor (searched_question q) p.candidate (copying_schedule q.spec p.schedule)
+-- what a search finds by the formulas with the clauses of the order; each schedule is ordered, or of a reduction its inverse is
+abbrev pub IsFoundInOrder : QuestionValue → FrontierValue → Type 0
+IsFoundInOrder q = IsFoundBy q (ordered_formula_for (searched_question q)) (OrderedFor (searched_question q))
 
--- the frontier is right and searched in order, each schedule is ordered, and what was given up is exhausted by its formula with the clauses of the order; the text has it, and no file changed
+-- the frontier is what a search in order finds; the text has it, and no file changed
 pub record IsOrdered (w : WordsValue) (t : NamedTopologyValue) (files : FilesValue) (status : Status) (text : List ℕ) : Type 0 where
   pub frontier : FrontierValue
-  pub right : RightFrontier (question_of w t Whole) frontier
-  pub searched : Searched (question_of w t Whole) frontier
-  pub ordered : All (IsOrderedPoint (question_of w t Whole)) frontier.points
-  pub exhausted : All (λ u. Exhausted (ordered_formula_for (searched_question (question_of w t Whole)) u.candidate) u.conflicts) frontier.unknown
+  pub found : IsFoundInOrder (question_of w t Whole) frontier
   pub says : Says Done (ordered_text w t frontier) status text
   pub stay : Stay files

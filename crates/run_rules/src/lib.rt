@@ -11,6 +11,7 @@ mod search_text;
 mod searchable;
 mod status;
 mod vectors;
+mod verdicts;
 
 pub use answer::{Answer, LIMIT, refusal, refusal_at, refused_word, too_long};
 pub use halt::Halt;
@@ -22,3 +23,4 @@ pub use searchable::search_refusal;
 pub use status::Status;
 pub use std::alloc::AllocError as OutOfMemory;
 pub use vectors::{reports_due, searches_due, sizes, words_due};
+pub use verdicts::verdict_answer;

@@ -1,6 +1,6 @@
 -- What is learned at a conflict is accepted; and above level 0 no line without a literal is.
 use Rattle.std.proofs.Common.{◌≡◌, ℕ, ◌<◌, Bool, true, List, [], length, get_or, take, sym, subst, arith}
-use Rattle.std.specs.Prelude.{AllPairs}
+use Rattle.std.specs.Prelude.{AllPairs, map}
 use Rattle.std.proofs.lemmas.List.Elements.{All-contains}
 use Rattle.cnf_formula.specs.Literals.{LitValue, negation}
 use Rattle.cnf_formula.specs.Lines.{ProofLineValue}
@@ -14,27 +14,30 @@ use Rattle.trail_core.specs.Trails.{StepValue, lits_of}
 use Rattle.trail_core.specs.Meaning.{CoreValue, trues}
 use Rattle.trail_core.specs.Formed.{IsTrail}
 use Rattle.sat_core.specs.Learning.{hints_to, IsAnalysis}
+use Rattle.sat_core.specs.Naming.{name}
+use Rattle.sat_core.specs.Sleeping.{SleepersValue, sleeping}
 use Rattle.sat_core.specs.Conflicts.{IsConflict, Agree, IsNext}
 use Rattle.sat_core.proofs.Members.{all_by}
 use Rattle.sat_core.proofs.Hinted.{hints_conflict, leading_numbers, no_groups}
 use Rattle.sat_core.proofs.Once.{Apart, consistent_by}
 use Rattle.sat_core.proofs.Spent.{no_closing}
+use Rattle.sat_core.proofs.Asleep.{all_awake}
 
 -- whatever is resolved, what remains is accepted where it names no variable twice
-pub analysis_accepted : (c : CheckerValue) (core : CoreValue) (resolved : StepValue → Bool) (conflict : ℕ) (clause : List LitValue) (id : ℕ) → Agree c core → IsTrail core.vars core.trail core.limits → IsAnalysis core.clauses core.trail resolved conflict clause → AllPairs Apart clause → IsNext c id
-    → verdict_of c (record { id = id; lits = clause; hints = hints_to resolved core.trail conflict }) ≡ AcceptedVerdict true
-analysis_accepted c core resolved conflict clause id a t an once n =
-    by_implied c (record { id = id; lits = clause; hints = hints_to resolved core.trail conflict }) (record {
+pub analysis_accepted : (c : CheckerValue) (core : CoreValue) (names : List ℕ) (s : SleepersValue) (resolved : StepValue → Bool) (conflict : ℕ) (clause : List LitValue) (id : ℕ) → Agree c core names s → IsTrail core.vars core.trail core.limits → IsAnalysis core.clauses core.trail resolved conflict clause → AllPairs Apart clause → IsNext c id
+    → verdict_of c (record { id = id; lits = clause; hints = map (name names) (hints_to resolved core.trail conflict) }) ≡ AcceptedVerdict true
+analysis_accepted c core names s resolved conflict clause id a t an once n =
+    by_implied c (record { id = id; lits = clause; hints = map (name names) (hints_to resolved core.trail conflict) }) (record {
       new = record {
         above_formula = n.above_formula;
         above_lines = n.above_lines;
         in_range = all_by (IsAbout c.formula.vars) clause (λ o h. let i = All-contains (IsAbout core.vars) (lits_of core.trail) (negation o) t.within (an.falses o h) in record { some = i.some; within = omega (arith, i.within, a.vars) });
         once = once;
       };
-      no_groups = no_groups resolved core.trail conflict 0;
-      conflict = subst (Conflicts c.held clause) (sym (leading_numbers resolved core.trail conflict)) (hints_conflict c.held core.clauses core.trail resolved conflict clause a.held (consistent_by (lits_of core.trail) t.apart) an);
+      no_groups = no_groups names resolved core.trail conflict 0;
+      conflict = subst (Conflicts c.held clause) (sym (leading_numbers names resolved core.trail conflict)) (hints_conflict c.held names core.clauses core.trail resolved conflict clause a.held.named (consistent_by (lits_of core.trail) t.apart) an);
     })
 
--- above level 0 no line without a literal is accepted
-pub no_line_closes : (c : CheckerValue) (core : CoreValue) (conflict : ℕ) → Agree c core → IsConflict core conflict → 0 < length core.limits → (line : ProofLineValue) → line.lits ≡ [] → verdict_of c line ≡ AcceptedVerdict true → ⊥
-no_line_closes c core conflict a k w line e v = no_closing c core.clauses (take (get_or core.limits 0 0) (trues core)) a.held (k.closed_below 0 w) line e v
+-- above level 0 no line without a literal is accepted, where no clause sleeps
+pub no_line_closes : (c : CheckerValue) (core : CoreValue) (names : List ℕ) (s : SleepersValue) (conflict : ℕ) → Agree c core names s → sleeping s ≡ 0 → IsConflict core conflict → 0 < length core.limits → (line : ProofLineValue) → line.lits ≡ [] → verdict_of c line ≡ AcceptedVerdict true → ⊥
+no_line_closes c core names s conflict a none k w line e v = no_closing c core.clauses (take (get_or core.limits 0 0) (trues core)) (all_awake c.held names core.clauses s a.held none) (k.closed_below 0 w) line e v

@@ -1,17 +1,18 @@
 -- The reasons of the resolved steps in the order of the trail, and then the falsified clause, are a conflict for what remains.
-use Rattle.std.proofs.Common.{◌≡◌, ℕ, ◌+◌, ◌<◌, ◌≤◌, Bool, true, false, List, [], ◌∷◌, ◌++◌, length, get_or, take, refl, sym, ap, ◌∙◌, subst, inl, inr, ⊎_elim, arith}
-use Rattle.std.specs.Prelude.{Contains, Some, map, filter, pos}
+use Rattle.std.proofs.Common.{zero, suc, ◌≡◌, ℕ, ◌+◌, ◌<◌, ◌≤◌, Bool, true, false, List, [], ◌∷◌, ◌++◌, length, get_or, take, refl, sym, ap, ◌∙◌, subst, inl, inr, ⊎_elim, arith}
+use Rattle.std.specs.Prelude.{All, Contains, Some, map, filter, pos}
 use Rattle.std.proofs.lemmas.Bool.{false≢true, cases_Bool}
 use Rattle.std.proofs.lemmas.List.{append_assoc, take_at, length-append, length-map, length_push, get_or-append-add}
-use Rattle.std.proofs.lemmas.List.Elements.{Contains-push_cases, Contains-append_right}
+use Rattle.std.proofs.lemmas.List.Elements.{Contains-push_cases, Contains-append_right, All-nil}
 use Rattle.cnf_formula.specs.Literals.{LitValue, negation}
 use Rattle.proof_rules.specs.Held.{Entry, clause_at}
 use Rattle.proof_rules.specs.Accepting.{Takes, Falsifies, Conflicts, leading, groups_from}
 use Rattle.trail_core.specs.Assigned.{IsFalse, IsConsistent}
 use Rattle.trail_core.specs.Trails.{StepValue, lits_of}
 use Rattle.trail_core.proofs.Keeping.{negated_twice}
-use Rattle.sat_core.specs.Learning.{number_of, numbers_of, numbers_to, hints_of, hints_to, AreHeld, IsOut, IsResolved, IsAnalysis}
-use Rattle.sat_core.proofs.Members.{here, there, cons_cases, all_by, in_map, found_by, not_found}
+use Rattle.sat_core.specs.Learning.{number_of, name_of, numbers_of, numbers_to, hints_of, hints_to, AreNamed, IsOut, IsResolved, IsAnalysis}
+use Rattle.sat_core.specs.Naming.{name, IsName}
+use Rattle.sat_core.proofs.Members.{here, there, cons_cases, all_by, in_map, from_filter, found_by, not_found}
 
 -- a hint that leaves one literal, before hints that go on
 pub hint_then : (held : List Entry) (falses : List LitValue) (hint : ℕ) (l : LitValue) (hints : List ℕ) (last : ℕ) → Takes held falses hint l → Conflicts held (negation l ∷ falses) (hints ++ last ∷ []) → Conflicts held falses (hint ∷ (hints ++ last ∷ []))
@@ -19,21 +20,21 @@ hint_then held falses hint l [] last t c = (l, t, c)
 hint_then held falses hint l (next ∷ hints) last t c = (l, t, c)
 
 -- a resolved step's reason leaves the step's literal
-pub reason_takes : (held : List Entry) (clauses : List (List LitValue)) (falses : List LitValue) (resolved : StepValue → Bool) (clause : List LitValue) (before : List StepValue) (s : StepValue) → AreHeld held clauses → IsResolved clauses resolved clause before s
-    → ((o : LitValue) → IsOut resolved before clause o → Contains falses o) → (Contains falses s.lit → ⊥) → Takes held falses (number_of s.reason) s.lit
-reason_takes held clauses falses resolved clause before s a r out not =
-    let h = a.named r.id r.within in
+pub reason_takes : (held : List Entry) (names : List ℕ) (clauses : List (List LitValue)) (falses : List LitValue) (resolved : StepValue → Bool) (clause : List LitValue) (before : List StepValue) (s : StepValue) → AreNamed held names clauses → IsResolved clauses resolved clause before s
+    → ((o : LitValue) → IsOut resolved before clause o → Contains falses o) → (Contains falses s.lit → ⊥) → Takes held falses (name_of names s.reason) s.lit
+reason_takes held names clauses falses resolved clause before s a r out not =
+    let h = a r.id r.within in
     record {
       clause = h.0;
-      names = subst (λ n. clause_at held n ≡ Some h.0) (sym (ap number_of r.reason)) h.1;
+      names = subst (λ n. clause_at held n ≡ Some h.0) (sym (ap (name_of names) r.reason)) h.1;
       stands = found_by h.0 s.lit (h.2.from s.lit r.stands);
       not_false = not_found falses s.lit not;
       others = all_by _ h.0 (λ o c. ⊎_elim (λ e. inr e) (λ u. inl (found_by falses o (out o u))) (r.others o (h.2.into o c)));
     }
 
-last_falsifies : (held : List Entry) (clauses : List (List LitValue)) (falses : List LitValue) (id : ℕ) → AreHeld held clauses → id < length clauses → ((o : LitValue) → Contains (get_or clauses id []) o → Contains falses o) → Falsifies held falses (id + 1)
-last_falsifies held clauses falses id a w f =
-    let h = a.named id w in
+last_falsifies : (held : List Entry) (names : List ℕ) (clauses : List (List LitValue)) (falses : List LitValue) (id : ℕ) → AreNamed held names clauses → id < length clauses → ((o : LitValue) → Contains (get_or clauses id []) o → Contains falses o) → Falsifies held falses (get_or names (id + 1) 0)
+last_falsifies held names clauses falses id a w f =
+    let h = a id w in
     record {
       clause = h.0;
       names = h.1;
@@ -45,16 +46,16 @@ at_seam xs x ys d =
     let n : length xs + 0 ≡ length xs = omega arith in
     subst (λ k. get_or (xs ++ x ∷ ys) k d ≡ x) n (get_or-append-add xs (x ∷ ys) 0 d)
 
-pub conflicts_from : (held : List Entry) (clauses : List (List LitValue)) (steps : List StepValue) (resolved : StepValue → Bool) (conflict : ℕ) (clause : List LitValue) → AreHeld held clauses → IsConsistent (lits_of steps) → IsAnalysis clauses steps resolved conflict clause
+pub conflicts_from : (held : List Entry) (names : List ℕ) (clauses : List (List LitValue)) (steps : List StepValue) (resolved : StepValue → Bool) (conflict : ℕ) (clause : List LitValue) → AreNamed held names clauses → IsConsistent (lits_of steps) → IsAnalysis clauses steps resolved conflict clause
     → (rest before : List StepValue) (falses : List LitValue) → steps ≡ before ++ rest → ((o : LitValue) → IsOut resolved before clause o → Contains falses o) → ((o : LitValue) → Contains falses o → IsFalse (lits_of steps) o)
-    → Conflicts held falses (numbers_to resolved rest conflict)
-conflicts_from held clauses steps resolved conflict clause a con an [] before falses e out fal =
-    last_falsifies held clauses falses conflict a an.within (λ o c. out o (subst (λ xs. IsOut resolved xs clause o) (e ∙ nil before) (an.last o c)))
+    → Conflicts held falses (numbers_to names resolved rest conflict)
+conflicts_from held names clauses steps resolved conflict clause a con an [] before falses e out fal =
+    last_falsifies held names clauses falses conflict a an.within (λ o c. out o (subst (λ xs. IsOut resolved xs clause o) (e ∙ nil before) (an.last o c)))
   where
     nil : (xs : List StepValue) → xs ++ [] ≡ xs
     nil [] = refl
     nil (x ∷ xs) = ap (λ ys. x ∷ ys) (nil xs)
-conflicts_from held clauses steps resolved conflict clause a con an (s ∷ rest) before falses e out fal =
+conflicts_from held names clauses steps resolved conflict clause a con an (s ∷ rest) before falses e out fal =
     ⊎_elim
     (λ b.
     let k = length before in
@@ -64,12 +65,12 @@ conflicts_from held clauses steps resolved conflict clause a con an (s ∷ rest)
     let r : IsResolved clauses resolved clause before s = subst (λ x. IsResolved clauses resolved clause before x) g (subst (λ xs. IsResolved clauses resolved clause xs (get_or steps k s)) t (an.each k s k< (subst (λ x. resolved x ≡ true) (sym g) b))) in
     let in' : Contains steps s = subst (λ xs. Contains xs s) (sym e) (Contains-append_right before (s ∷ rest) s (here s rest)) in
     let stands : Contains (lits_of steps) s.lit = in_map (λ x. x.lit) steps s in' in
-    rw b (hint_then held falses (number_of s.reason) s.lit (numbers_of resolved rest) (conflict + 1)
-    (reason_takes held clauses falses resolved clause before s a r out (λ c. con s.lit stands (fal s.lit c)))
-    (conflicts_from held clauses steps resolved conflict clause a con an rest (before ++ s ∷ []) (negation s.lit ∷ falses) seam
+    rw b (hint_then held falses (name_of names s.reason) s.lit (numbers_of names resolved rest) (get_or names (conflict + 1) 0)
+    (reason_takes held names clauses falses resolved clause before s a r out (λ c. con s.lit stands (fal s.lit c)))
+    (conflicts_from held names clauses steps resolved conflict clause a con an rest (before ++ s ∷ []) (negation s.lit ∷ falses) seam
     (λ o u. more o u)
     (λ o c. ⊎_elim (λ i. subst (λ x. Contains (lits_of steps) x) (sym (negated_twice s.lit) ∙ ap negation i) stands) (λ d. fal o d) (cons_cases (negation s.lit) falses o c)))))
-    (λ b. rw b (conflicts_from held clauses steps resolved conflict clause a con an rest (before ++ s ∷ []) falses seam (λ o u. same b o u) fal))
+    (λ b. rw b (conflicts_from held names clauses steps resolved conflict clause a con an rest (before ++ s ∷ []) falses seam (λ o u. same b o u) fal))
     (cases_Bool (resolved s))
   where
     seam : steps ≡ before ++ s ∷ [] ++ rest
@@ -91,28 +92,50 @@ conflicts_from held clauses steps resolved conflict clause a con an (s ∷ rest)
         u
 
 -- an analysis has its hints
-pub hints_conflict : (held : List Entry) (clauses : List (List LitValue)) (steps : List StepValue) (resolved : StepValue → Bool) (conflict : ℕ) (clause : List LitValue) → AreHeld held clauses → IsConsistent (lits_of steps) → IsAnalysis clauses steps resolved conflict clause
-    → Conflicts held clause (numbers_to resolved steps conflict)
-hints_conflict held clauses steps resolved conflict clause a con an =
-    conflicts_from held clauses steps resolved conflict clause a con an steps [] clause refl
+pub hints_conflict : (held : List Entry) (names : List ℕ) (clauses : List (List LitValue)) (steps : List StepValue) (resolved : StepValue → Bool) (conflict : ℕ) (clause : List LitValue) → AreNamed held names clauses → IsConsistent (lits_of steps) → IsAnalysis clauses steps resolved conflict clause
+    → Conflicts held clause (numbers_to names resolved steps conflict)
+hints_conflict held names clauses steps resolved conflict clause a con an =
+    conflicts_from held names clauses steps resolved conflict clause a con an steps [] clause refl
     (λ o u. ⊎_elim (λ c. c) (λ q. absurd (omega (arith, q.1.1))) u)
     an.falses
 
 -- ---- the same as hints, none of which begins a group
 
-leading_from : (steps : List StepValue) (conflict : ℕ) → leading (map (λ s. pos (number_of s.reason)) steps ++ pos (conflict + 1) ∷ []) ≡ map (λ s. number_of s.reason) steps ++ (conflict + 1) ∷ []
-leading_from [] conflict = refl
-leading_from (s ∷ steps) conflict = ap (λ ids. number_of s.reason ∷ ids) (leading_from steps conflict)
+leading_from : (names : List ℕ) (steps : List StepValue) (conflict : ℕ) → leading (map (name names) (map (λ s. pos (number_of s.reason)) steps ++ pos (conflict + 1) ∷ [])) ≡ map (λ s. name_of names s.reason) steps ++ get_or names (conflict + 1) 0 ∷ []
+leading_from names [] conflict = refl
+leading_from names (s ∷ steps) conflict = ap (λ ids. name_of names s.reason ∷ ids) (leading_from names steps conflict)
 
-pub leading_numbers : (resolved : StepValue → Bool) (steps : List StepValue) (conflict : ℕ) → leading (hints_to resolved steps conflict) ≡ numbers_to resolved steps conflict
-leading_numbers resolved steps conflict = leading_from (filter resolved steps) conflict
+pub leading_numbers : (names : List ℕ) (resolved : StepValue → Bool) (steps : List StepValue) (conflict : ℕ) → leading (map (name names) (hints_to resolved steps conflict)) ≡ numbers_to names resolved steps conflict
+leading_numbers names resolved steps conflict = leading_from names (filter resolved steps) conflict
 
-no_groups_from : (steps : List StepValue) (conflict place : ℕ) → groups_from place (map (λ s. pos (number_of s.reason)) steps ++ pos (conflict + 1) ∷ []) ≡ []
-no_groups_from [] conflict place = refl
-no_groups_from (s ∷ steps) conflict place = no_groups_from steps conflict (place + 1)
+no_groups_from : (names : List ℕ) (steps : List StepValue) (conflict place : ℕ) → groups_from place (map (name names) (map (λ s. pos (number_of s.reason)) steps ++ pos (conflict + 1) ∷ [])) ≡ []
+no_groups_from names [] conflict place = refl
+no_groups_from names (s ∷ steps) conflict place = no_groups_from names steps conflict (place + 1)
 
-pub no_groups : (resolved : StepValue → Bool) (steps : List StepValue) (conflict place : ℕ) → groups_from place (hints_to resolved steps conflict) ≡ []
-no_groups resolved steps conflict place = no_groups_from (filter resolved steps) conflict place
+pub no_groups : (names : List ℕ) (resolved : StepValue → Bool) (steps : List StepValue) (conflict place : ℕ) → groups_from place (map (name names) (hints_to resolved steps conflict)) ≡ []
+no_groups names resolved steps conflict place = no_groups_from names (filter resolved steps) conflict place
+
+-- ---- each is a name
+
+all_cons : {X : Type 0} (P : X → Type 0) (x : X) (xs : List X) → P x → All P xs → All P (x ∷ xs)
+all_cons P x xs p a zero d w = p
+all_cons P x xs p a (suc k) d w = a k d (omega (arith, w))
+
+names_from : (places : ℕ) (steps : List StepValue) (conflict : ℕ) → ((s : StepValue) → Contains steps s → number_of s.reason < places) → conflict + 1 < places → All (IsName places) (map (λ s. pos (number_of s.reason)) steps ++ pos (conflict + 1) ∷ [])
+names_from places [] conflict each w = all_cons (IsName places) (pos (conflict + 1)) [] (conflict + 1, refl, w) (All-nil (IsName places))
+names_from places (s ∷ steps) conflict each w =
+    all_cons (IsName places) (pos (number_of s.reason)) (map (λ x. pos (number_of x.reason)) steps ++ pos (conflict + 1) ∷ []) (number_of s.reason, refl, each s (here s steps))
+    (names_from places steps conflict (λ x c. each x (there s steps x c)) w)
+
+pub hints_names : (clauses : List (List LitValue)) (steps : List StepValue) (resolved : StepValue → Bool) (conflict : ℕ) (clause : List LitValue) → IsAnalysis clauses steps resolved conflict clause → All (IsName (length clauses + 1)) (hints_to resolved steps conflict)
+hints_names clauses steps resolved conflict clause an =
+    names_from (length clauses + 1) (filter resolved steps) conflict
+    (λ s c.
+    let f = from_filter resolved steps s c in
+    let g : get_or steps f.0.0 s ≡ s = f.0.2 in
+    let r = an.each f.0.0 s f.0.1 (subst (λ x. resolved x ≡ true) (sym g) f.1) in
+    omega (arith, r.within, ap number_of (ap (λ x. x.reason) (sym g) ∙ r.reason)))
+    (omega (arith, an.within))
 
 -- ---- and so few
 
@@ -128,3 +151,9 @@ few_hints resolved steps conflict =
     let b = length-map (filter resolved steps) (λ s. pos (number_of s.reason)) in
     let c = length_push (hints_of resolved steps) (pos (conflict + 1)) in
     omega (arith, a, b, c)
+
+pub few_named : (names : List ℕ) (resolved : StepValue → Bool) (steps : List StepValue) (conflict : ℕ) → length (map (name names) (hints_to resolved steps conflict)) ≤ length steps + 1
+few_named names resolved steps conflict =
+    let a = few_hints resolved steps conflict in
+    let b = length-map (hints_to resolved steps conflict) (name names) in
+    omega (arith, a, b)

@@ -4,9 +4,12 @@ pub mod Levels
 pub mod Once
 pub mod Fresh
 pub mod Spent
+pub mod Asleep
 pub mod Measure
 pub mod AtConflict
 pub mod Readiness
+pub mod Divided
+pub mod Found
 pub mod Jumping
 pub mod Turning
 pub mod Totality

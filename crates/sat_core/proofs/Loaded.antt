@@ -1,5 +1,5 @@
 -- Clauses of a formula, each literal once, make a core that is ready.
-use Rattle.std.proofs.Common.{◌≡◌, ℕ, ◌+◌, ◌*◌, ◌<◌, ◌≤◌, Bool, true, false, List, [], ◌∷◌, ◌++◌, length, get_or, take, set, eqb, refl, sym, ap, ◌∙◌, subst, ⊎_elim, arith}
+use Rattle.std.proofs.Common.{◌≡◌, ℕ, ◌+◌, ◌*◌, ◌<◌, ◌≤◌, Bool, true, false, List, [], ◌∷◌, ◌++◌, length, get_or, take, set, eqb, refl, sym, ap, ◌∙◌, subst, inl, ⊎_elim, arith}
 use Rattle.std.specs.Prelude.{◌≢◌, Contains, Some, All, AllPairs, if◌then◌else◌}
 use Rattle.std.specs.List.{enumerate_from}
 use Rattle.std.proofs.lemmas.Bool.{cases_lt, cases_Bool, eqb-true, eqb-false}
@@ -15,7 +15,11 @@ use Rattle.trail_core.specs.Meaning.{CoreValue}
 use Rattle.sat_core.specs.Learning.{IsSame, AreHeld}
 use Rattle.sat_core.specs.Loading.{own_of, IsLoaded}
 use Rattle.sat_core.specs.Ready.{IsReady}
+use Rattle.sat_core.specs.Naming.{IsListed}
+use Rattle.sat_core.specs.Sleeping.{no_sleepers}
+use Rattle.sat_core.specs.declared.awake.Awake.{Awake}
 use Rattle.sat_core.proofs.Members.{all_by}
+use Rattle.sat_core.proofs.Readiness.{listed_more}
 
 -- ---- a clause with each literal once
 
@@ -134,36 +138,64 @@ loaded_more clauses k core core' kept l w s e =
 
 -- ---- the search is ready
 
+-- the table of the formula's clauses: they are held under the numbers that they have in the core
+pub record IsNumbered (core : CoreValue) (awake : Awake) : Type 0 where
+  pub listed : IsListed core.clauses awake
+  pub names : (k : ℕ) → k < length core.clauses → get_or awake.names.items (k + 1) 0 ≡ k + 1
+
+pub numbered_none : (core : CoreValue) (awake : Awake) → core.clauses ≡ [] → awake.ids.items ≡ [] → awake.names.items ≡ 0 ∷ [] → IsNumbered core awake
+numbered_none core awake none ids names =
+    let z : (k : ℕ) → k < length core.clauses → ⊥ = λ k w. omega (arith, w, ap length none) in
+    record {
+      listed = record { ids_len = omega (arith, ap length ids, ap length none); ids = λ k w. absurd (z k w); names = omega (arith, ap length names, ap length none); once = λ k w. absurd (z k w) };
+      names = λ k w. absurd (z k w);
+    }
+
+pub numbered_more : (core core' : CoreValue) (awake awake' : Awake) (kept : List LitValue) (id number : ℕ) → IsNumbered core awake → core'.clauses ≡ core.clauses ++ kept ∷ [] → id ≡ length core.clauses → number ≡ length core.clauses + 1 → awake'.ids.items ≡ awake.ids.items ++ id ∷ [] → awake'.names.items ≡ awake.names.items ++ number ∷ [] → AllPairs (λ a b. a ≢ b) kept → IsNumbered core' awake'
+numbered_more core core' awake awake' kept id number n cs at next ids names once = record {
+  listed = listed_more core.clauses core'.clauses kept awake awake' id number n.listed cs at ids names once;
+  names = λ k w. ⊎_elim
+      (λ v. ap (λ xs. get_or xs (k + 1) 0) names ∙ get_or_append_left awake.names.items (number ∷ []) 0 (k + 1) (omega (arith, v, n.listed.names)) ∙ n.names k v)
+      (λ v.
+      let e : length core.clauses ≡ k = omega (arith, v, w, ap length cs, length_push core.clauses kept) in
+      ap (λ xs. get_or xs (k + 1) 0) names ∙ get_or_push awake.names.items number 0 (k + 1) (omega (arith, n.listed.names, e)) ∙ next ∙ ap (λ m. m + 1) e)
+      (cases_lt k (length core.clauses));
+}
+
 -- each clause is held under its number
-pub loaded_held : (clauses : List (List LitValue)) (core : CoreValue) → IsLoaded clauses core → AreHeld (enumerate_from 1 clauses) core.clauses
-loaded_held clauses core l = record {
+pub loaded_held : (clauses : List (List LitValue)) (core : CoreValue) (awake : Awake) (vars : ℕ) → IsLoaded clauses core → IsNumbered core awake → AreHeld (enumerate_from 1 clauses) awake.names.items core.clauses (no_sleepers vars)
+loaded_held clauses core awake vars l n = record {
   named = λ id w.
       let v : id < length clauses = omega (arith, w, l.count) in
       let d : Entry = (0, []) in
       let at : get_or (enumerate_from 1 clauses) id d ≡ (1 + id, get_or clauses id []) = get_or-enumerate_from 1 clauses id d v in
       let found = (start_numbered clauses).found id d (omega (arith, v, length-enumerate_from 1 clauses)) in
       let here : clause_at (enumerate_from 1 clauses) (1 + id) ≡ Some (get_or clauses id []) = subst (λ e. clause_at (enumerate_from 1 clauses) e.0 ≡ Some (e.1)) at found in
-      let turned : 1 + id ≡ id + 1 = omega arith in
+      let turned : 1 + id ≡ get_or awake.names.items (id + 1) 0 = omega (arith, n.names id w) in
       (get_or clauses id [], subst (λ n. clause_at (enumerate_from 1 clauses) n ≡ Some (get_or clauses id [])) turned here, l.same id v);
+  asleep = λ place w. absurd (omega (arith, w));
   only = λ entry c.
       let v : c.0 < length clauses = omega (arith, c.1, length-enumerate_from 1 clauses) in
       let at : (1 + c.0, get_or clauses c.0 entry.1) ≡ entry = sym (get_or-enumerate_from 1 clauses c.0 entry v) ∙ c.2 in
       let is : get_or clauses c.0 [] ≡ entry.1 = get_or_default clauses c.0 [] entry.1 v ∙ ap (λ e. e.1) at in
-      (get_or core.clauses c.0 [], Contains-get_or core.clauses c.0 [] (omega (arith, v, l.count)), subst (λ x. IsSame x (get_or core.clauses c.0 [])) is (l.same c.0 v));
+      (get_or core.clauses c.0 [], inl (Contains-get_or core.clauses c.0 [] (omega (arith, v, l.count))), subst (λ x. IsSame x (get_or core.clauses c.0 [])) is (l.same c.0 v));
 }
 
-pub ready_loaded : (base : FormulaValue) (core : CoreValue) → IsLoaded base.clauses core → core.vars ≤ base.vars → IsReady base [] core
-ready_loaded base core l vars =
+pub ready_loaded : (base : FormulaValue) (core : CoreValue) (awake : Awake) (own : ℕ) → IsLoaded base.clauses core → IsNumbered core awake → awake.formula ≡ length base.clauses → awake.held ≡ length base.clauses → core.vars ≤ base.vars → IsReady base [] core awake (no_sleepers own)
+ready_loaded base core awake own l n formula held vars =
     let b = (start_numbered base.clauses).below in
     record {
       holding = record {
-        agree = record { vars = vars; held = loaded_held base.clauses core l };
+        agree = record { vars = vars; held = loaded_held base.clauses core awake own l n };
         formula = refl;
-        below = λ k d w. let n = b k d w in omega (arith, n, l.count);
+        below = λ k d w. let n = b k d w in omega (arith, n, held);
         greatest = omega arith;
-        many = omega (arith, l.count);
+        many = omega (arith, held);
+        own = formula;
+        within = omega (arith, l.count);
+        first = l.same;
       };
       written = record { implied = tt; numbered = λ k d w. absurd (omega (arith, w)); short = All-nil (λ line. length line.hints ≤ base.vars + 1) };
       fresh = tt;
-      count = omega (arith, l.count);
+      count = omega (arith, held);
     }

@@ -1,6 +1,6 @@
 -- A line that is accepted and added leaves the search ready.
-use Rattle.std.proofs.Common.{◌≡◌, ℕ, ◌+◌, ◌<◌, ◌≤◌, true, List, [], ◌∷◌, ◌++◌, length, refl, sym, ap, ◌∙◌, subst, ⊎_elim, arith, eq-eqb}
-use Rattle.std.specs.Prelude.{All, Some, map}
+use Rattle.std.proofs.Common.{◌≡◌, ℕ, ◌+◌, ◌<◌, ◌≤◌, true, List, [], ◌∷◌, ◌++◌, false, get_or, set, length, refl, sym, ap, ◌∙◌, subst, inl, inr, ⊎_elim, arith, eq-eqb}
+use Rattle.std.specs.Prelude.{◌≢◌, All, AllPairs, Contains, Some, map}
 use Rattle.std.proofs.lemmas.Bool.{cases_lt, ne_eqb, or_right}
 use Rattle.std.proofs.lemmas.List.{get_or_append_left, get_or_push, length_push}
 use Rattle.std.proofs.lemmas.List.Elements.{Contains-push, Contains-push_cases, Contains-append_left, All-head, All-tail, All-push}
@@ -15,9 +15,13 @@ use Rattle.proof_rules.specs.Refuting.{is_empty, is_fresh, is_accepted, with_lin
 use Rattle.proof_rules.proofs.Kept.{keeps_append}
 use Rattle.ledger_rules.specs.Logs.{checker_of}
 use Rattle.trail_core.specs.Meaning.{CoreValue}
-use Rattle.sat_core.specs.Learning.{IsSame, AreHeld}
+use Rattle.sat_core.specs.Learning.{IsSame, IsHeldAs, AreNamed, AreHeld}
+use Rattle.sat_core.specs.Naming.{IsListed}
+use Rattle.sat_core.specs.Sleeping.{SleepersValue}
+use Rattle.sat_core.specs.declared.awake.Awake.{Awake}
 use Rattle.sat_core.specs.Conflicts.{IsNext}
 use Rattle.sat_core.specs.Ready.{AreNumbered, AreWritten, IsHolding, IsReady}
+use Rattle.sat_core.proofs.Asleep.{by_place_push, woken_stays}
 
 -- ---- one line more
 
@@ -53,58 +57,105 @@ found_last (entry ∷ held) n clause a =
     let h = All-head (λ e. e.0 < n) entry held a in
     rw (ne_eqb entry.0 n (λ e. omega (arith, e, h))) (found_last held n clause (All-tail (λ e. e.0 < n) entry held a))
 
-held_more : (held : List Entry) (clauses : List (List LitValue)) (clause : List LitValue) → AreHeld held clauses → All (λ entry. entry.0 ≤ length clauses) held → AreHeld (held ++ (length clauses + 1, clause) ∷ []) (clauses ++ clause ∷ [])
-held_more held clauses clause a below = record {
-  named = λ id w. ⊎_elim
-      (λ v. let h = a.named id v in (h.0, keeps_append held ((length clauses + 1, clause) ∷ []) (id + 1) h.0 h.1, subst (λ c. IsSame h.0 c) (sym (get_or_append_left clauses (clause ∷ []) [] id v)) h.2))
-      (λ v.
-      let e : id ≡ length clauses = omega (arith, v, w, length_push clauses clause) in
-      let at : clause_at (held ++ (length clauses + 1, clause) ∷ []) (id + 1) ≡ Some clause = subst (λ n. clause_at (held ++ (length clauses + 1, clause) ∷ []) (n + 1) ≡ Some clause) (sym e) (found_last held (length clauses + 1) clause smaller) in
-      (clause, at, subst (λ c. IsSame clause c) (sym (get_or_push clauses clause [] id (sym e))) (record { into = λ l c. c; from = λ l c. c })))
-      (cases_lt id (length clauses));
-  only = λ entry c. ⊎_elim
-      (λ d. let o = a.only entry d in (o.0, Contains-append_left clauses (clause ∷ []) o.0 o.1, o.2))
-      (λ e. (clause, Contains-push clauses clause, subst (λ x. IsSame x clause) (ap (λ y. y.1) e) (record { into = λ l d. d; from = λ l d. d })))
-      (Contains-push_cases held (length clauses + 1, clause) entry c);
-}
-  where
-    smaller : All (λ entry. entry.0 < length clauses + 1) held
-    smaller k d w = let b = below k d w in omega (arith, b)
+-- the numbers below are below another
+below_more : (n n' : ℕ) (held : List Entry) → n ≤ n' → All (λ entry. entry.0 ≤ n) held → All (λ entry. entry.0 ≤ n') held
+below_more n n' held w a = λ k d v. let b = a k d v in omega (arith, b, w)
 
-holding_more : (base : FormulaValue) (c : CheckerValue) (core core' : CoreValue) (line : ProofLineValue) → IsHolding base c core → line.id ≡ length core.clauses + 1 → core'.vars ≡ core.vars → core'.clauses ≡ core.clauses ++ line.lits ∷ [] → IsHolding base (with_line c line) core'
-holding_more base c core core' line h e vars clauses =
-    let n : length core'.clauses ≡ length core.clauses + 1 = ap length clauses ∙ length_push core.clauses line.lits in
-    let held : AreHeld (c.held ++ (line.id, line.lits) ∷ []) core'.clauses = subst (λ i. AreHeld (c.held ++ (i, line.lits) ∷ []) core'.clauses) (sym e) (subst (AreHeld (c.held ++ (length core.clauses + 1, line.lits) ∷ [])) (sym clauses) (held_more c.held core.clauses line.lits h.agree.held h.below)) in
+-- a clause that is held under a number is held under it still
+kept_as : (held : List Entry) (entry : Entry) (number : ℕ) (lits : List LitValue) → IsHeldAs held number lits → IsHeldAs (held ++ entry ∷ []) number lits
+kept_as held entry number lits h = (h.0, keeps_append held (entry ∷ []) number h.0 h.1, h.2)
+
+-- a core with one clause more
+pub named_more : (held : List Entry) (names names' : List ℕ) (clauses clauses' : List (List LitValue)) (clause : List LitValue) (number : ℕ) → AreNamed held names clauses → length names ≡ length clauses + 1 → clauses' ≡ clauses ++ clause ∷ [] → names' ≡ names ++ number ∷ [] → IsHeldAs held number clause → AreNamed held names' clauses'
+named_more held names names' clauses clauses' clause number a len cs ns h = λ id w. ⊎_elim
+    (λ v.
+    let c : get_or clauses id [] ≡ get_or clauses' id [] = sym (ap (λ xs. get_or xs id []) cs ∙ get_or_append_left clauses (clause ∷ []) [] id v) in
+    let n : get_or names (id + 1) 0 ≡ get_or names' (id + 1) 0 = sym (ap (λ xs. get_or xs (id + 1) 0) ns ∙ get_or_append_left names (number ∷ []) 0 (id + 1) (omega (arith, v, len))) in
+    subst (IsHeldAs held (get_or names' (id + 1) 0)) c (subst (λ m. IsHeldAs held m (get_or clauses id [])) n (a id v)))
+    (λ v.
+    let at : length clauses ≡ id = omega (arith, v, w, ap length cs, length_push clauses clause) in
+    let c : clause ≡ get_or clauses' id [] = sym (ap (λ xs. get_or xs id []) cs ∙ get_or_push clauses clause [] id at) in
+    let n : number ≡ get_or names' (id + 1) 0 = sym (ap (λ xs. get_or xs (id + 1) 0) ns ∙ get_or_push names number 0 (id + 1) (omega (arith, at, len))) in
+    subst (IsHeldAs held (get_or names' (id + 1) 0)) c (subst (λ m. IsHeldAs held m clause) n h))
+    (cases_lt id (length clauses))
+
+pub listed_more : (clauses clauses' : List (List LitValue)) (clause : List LitValue) (awake awake' : Awake) (id number : ℕ) → IsListed clauses awake → clauses' ≡ clauses ++ clause ∷ [] → id ≡ length clauses → awake'.ids.items ≡ awake.ids.items ++ id ∷ [] → awake'.names.items ≡ awake.names.items ++ number ∷ [] → AllPairs (λ a b. a ≢ b) clause
+    → IsListed clauses' awake'
+listed_more clauses clauses' clause awake awake' id number l cs at ids names once =
+    let n : length clauses' ≡ length clauses + 1 = ap length cs ∙ length_push clauses clause in
     record {
-      agree = record { vars = omega (arith, vars, h.agree.vars); held = held };
+      ids_len = omega (arith, n, ap length ids, length_push awake.ids.items id, l.ids_len);
+      ids = λ k w. ⊎_elim
+          (λ v. ap (λ xs. get_or xs k 0) ids ∙ get_or_append_left awake.ids.items (id ∷ []) 0 k (omega (arith, v, l.ids_len)) ∙ l.ids k v)
+          (λ v.
+          let e : length clauses ≡ k = omega (arith, v, w, n) in
+          ap (λ xs. get_or xs k 0) ids ∙ get_or_push awake.ids.items id 0 k (l.ids_len ∙ e) ∙ at ∙ e)
+          (cases_lt k (length clauses));
+      names = omega (arith, n, ap length names, length_push awake.names.items number, l.names);
+      once = λ k w. subst (λ xs. AllPairs (λ a b. a ≢ b) (get_or xs k [])) (sym cs) (by_place_push (λ j c. AllPairs (λ a b. a ≢ b) c) clauses clause l.once once k (subst (λ xs. k < length xs) cs w));
+    }
+
+held_more : (held : List Entry) (names names' : List ℕ) (clauses clauses' : List (List LitValue)) (s : SleepersValue) (clause : List LitValue) (number : ℕ) → AreHeld held names clauses s → All (λ entry. entry.0 < number) held → length names ≡ length clauses + 1 → clauses' ≡ clauses ++ clause ∷ [] → names' ≡ names ++ number ∷ []
+    → AreHeld (held ++ (number, clause) ∷ []) names' clauses' s
+held_more held names names' clauses clauses' s clause number a below len cs ns = record {
+  named = named_more (held ++ (number, clause) ∷ []) names names' clauses clauses' clause number (λ id w. kept_as held (number, clause) (get_or names (id + 1) 0) (get_or clauses id []) (a.named id w)) len cs ns (clause, found_last held number clause below, record { into = λ l c. c; from = λ l c. c });
+  asleep = λ place w. kept_as held (number, clause) (get_or s.numbers place 0) (get_or s.clauses place []) (a.asleep place w);
+  only = λ entry c. ⊎_elim
+      (λ d. let o = a.only entry d in (o.0, ⊎_elim (λ v. inl (subst (λ xs. Contains xs o.0) (sym cs) (Contains-append_left clauses (clause ∷ []) o.0 v))) (λ v. inr v) o.1, o.2))
+      (λ e. (clause, inl (subst (λ xs. Contains xs clause) (sym cs) (Contains-push clauses clause)), subst (λ x. IsSame x clause) (ap (λ y. y.1) e) (record { into = λ l d. d; from = λ l d. d })))
+      (Contains-push_cases held (number, clause) entry c);
+}
+
+-- the first clauses stay where one comes after them
+first_more : (bases clauses clauses' : List (List LitValue)) (clause : List LitValue) → length bases ≤ length clauses → ((k : ℕ) → k < length bases → IsSame (get_or bases k []) (get_or clauses k [])) → clauses' ≡ clauses ++ clause ∷ [] → (k : ℕ) → k < length bases → IsSame (get_or bases k []) (get_or clauses' k [])
+first_more bases clauses clauses' clause many f cs k w = subst (IsSame (get_or bases k [])) (sym (ap (λ xs. get_or xs k []) cs ∙ get_or_append_left clauses (clause ∷ []) [] k (omega (arith, w, many)))) (f k w)
+
+-- what a search has after a line: one clause more, under its number
+pub record IsGrown (core core' : CoreValue) (awake awake' : Awake) (line : ProofLineValue) : Type 0 where
+  pub vars : core'.vars ≡ core.vars
+  pub clauses : core'.clauses ≡ core.clauses ++ line.lits ∷ []
+  pub names : awake'.names.items ≡ awake.names.items ++ (awake.held + 1) ∷ []
+  pub formula : awake'.formula ≡ awake.formula
+  pub held : awake'.held ≡ awake.held + 1
+
+holding_more : (base : FormulaValue) (c : CheckerValue) (core core' : CoreValue) (awake awake' : Awake) (s : SleepersValue) (line : ProofLineValue) → IsHolding base c core awake s → IsListed core.clauses awake → line.id ≡ awake.held + 1 → IsGrown core core' awake awake' line → IsHolding base (with_line c line) core' awake' s
+holding_more base c core core' awake awake' s line h l e g =
+    let n : length core'.clauses ≡ length core.clauses + 1 = ap length g.clauses ∙ length_push core.clauses line.lits in
+    let below : All (λ entry. entry.0 < awake.held + 1) c.held = λ k d w. let b = h.below k d w in omega (arith, b) in
+    let held : AreHeld (c.held ++ (line.id, line.lits) ∷ []) awake'.names.items core'.clauses s = subst (λ i. AreHeld (c.held ++ (i, line.lits) ∷ []) awake'.names.items core'.clauses s) (sym e) (held_more c.held awake.names.items awake'.names.items core.clauses core'.clauses s line.lits (awake.held + 1) h.agree.held below l.names g.clauses g.names) in
+    record {
+      agree = record { vars = omega (arith, g.vars, h.agree.vars); held = held };
       formula = h.formula;
-      below = All-push (λ entry. entry.0 ≤ length core'.clauses) c.held (line.id, line.lits) (λ k d w. let b = h.below k d w in omega (arith, b, n)) (omega (arith, e, n));
-      greatest = omega (arith, e, n);
-      many = omega (arith, h.many, n);
+      below = All-push (λ entry. entry.0 ≤ awake'.held) c.held (line.id, line.lits) (below_more awake.held awake'.held c.held (omega (arith, g.held)) h.below) (omega (arith, e, g.held));
+      greatest = omega (arith, e, g.held);
+      many = omega (arith, h.many, g.held);
+      own = g.formula ∙ h.own;
+      within = omega (arith, h.within, n);
+      first = first_more base.clauses core.clauses core'.clauses line.lits h.within h.first g.clauses;
     }
 
 -- ---- ready
 
-pub next_number : (base : FormulaValue) (lines : List ProofLineValue) (core : CoreValue) (id : ℕ) → IsReady base lines core → id ≡ length core.clauses + 1 → IsNext (checker_of base lines) id
-next_number base lines core id r e = record {
+pub next_number : (base : FormulaValue) (lines : List ProofLineValue) (core : CoreValue) (awake : Awake) (s : SleepersValue) (id : ℕ) → IsReady base lines core awake s → id ≡ awake.held + 1 → IsNext (checker_of base lines) id
+next_number base lines core awake s id r e = record {
   above_formula = omega (arith, e, r.holding.many, ap (λ f. length f.clauses) r.holding.formula);
   above_lines = omega (arith, e, r.holding.greatest);
 }
 
-pub written_more : (base : FormulaValue) (lines : List ProofLineValue) (core : CoreValue) (line : ProofLineValue) → IsReady base lines core → verdict_of (checker_of base lines) line ≡ AcceptedVerdict true → line.id ≡ length core.clauses + 1 → length line.hints ≤ base.vars + 1 → AreWritten base (lines ++ line ∷ [])
-written_more base lines core line r v e short = record {
+pub written_more : (base : FormulaValue) (lines : List ProofLineValue) (core : CoreValue) (awake : Awake) (s : SleepersValue) (line : ProofLineValue) → IsReady base lines core awake s → verdict_of (checker_of base lines) line ≡ AcceptedVerdict true → line.id ≡ awake.held + 1 → length line.hints ≤ base.vars + 1 → AreWritten base (lines ++ line ∷ [])
+written_more base lines core awake s line r v e short = record {
   implied = implied_more lines (start_of base) line r.written.implied v;
   numbered = numbered_more (length base.clauses) lines line r.written.numbered (omega (arith, e, r.count));
   short = All-push (λ l. length l.hints ≤ base.vars + 1) lines line r.written.short short;
 }
 
-pub ready_more : (base : FormulaValue) (lines : List ProofLineValue) (core core' : CoreValue) (line : ProofLineValue) → IsReady base lines core → AreWritten base (lines ++ line ∷ []) → is_fresh (checker_of base lines) line.lits ≡ true → line.id ≡ length core.clauses + 1 → core'.vars ≡ core.vars → core'.clauses ≡ core.clauses ++ line.lits ∷ []
-    → IsReady base (lines ++ line ∷ []) core'
-ready_more base lines core core' line r w f e vars clauses = record {
-  holding = subst (λ c. IsHolding base c core') (sym (after_more lines (start_of base) line)) (holding_more base (checker_of base lines) core core' line r.holding e vars clauses);
+pub ready_more : (base : FormulaValue) (lines : List ProofLineValue) (core core' : CoreValue) (awake awake' : Awake) (s : SleepersValue) (line : ProofLineValue) → IsReady base lines core awake s → IsListed core.clauses awake → AreWritten base (lines ++ line ∷ []) → is_fresh (checker_of base lines) line.lits ≡ true → line.id ≡ awake.held + 1 → IsGrown core core' awake awake' line
+    → IsReady base (lines ++ line ∷ []) core' awake' s
+ready_more base lines core core' awake awake' s line r l w f e g = record {
+  holding = subst (λ c. IsHolding base c core' awake' s) (sym (after_more lines (start_of base) line)) (holding_more base (checker_of base lines) core core' awake awake' s line r.holding l e g);
   written = w;
   fresh = fresh_more lines (start_of base) line r.fresh f;
-  count = omega (arith, r.count, ap length clauses, length_push core.clauses line.lits, length_push lines line);
+  count = omega (arith, r.count, g.held, length_push lines line);
 }
 
 pub refuted_by : (base : FormulaValue) (lines : List ProofLineValue) (line : ProofLineValue) → AreWritten base (lines ++ line ∷ []) → line.lits ≡ [] → Refutes (map Addition (lines ++ line ∷ [])) base
@@ -113,20 +164,77 @@ refuted_by base lines line w e = record {
   refuted = ap (λ c. c.refuted) (after_more lines (start_of base) line) ∙ or_right (checker_of base lines).refuted (is_empty line.lits) (ap is_empty e);
 }
 
--- other steps leave the search ready
-pub ready_same : (base : FormulaValue) (lines : List ProofLineValue) (core core' : CoreValue) → IsReady base lines core → core'.vars ≡ core.vars → core'.clauses ≡ core.clauses → IsReady base lines core'
-ready_same base lines core core' r vars clauses =
+-- of how much use clauses were is nothing to what is held
+pub listed_same : (clauses clauses' : List (List LitValue)) (awake awake' : Awake) → IsListed clauses awake → clauses' ≡ clauses → awake'.ids ≡ awake.ids → awake'.names ≡ awake.names → IsListed clauses' awake'
+listed_same clauses clauses' awake awake' l cs ids names = record {
+  ids_len = ap (λ v. length v.items) ids ∙ l.ids_len ∙ ap length (sym cs);
+  ids = λ k w. ap (λ v. get_or v.items k 0) ids ∙ l.ids k (subst (λ xs. k < length xs) cs w);
+  names = ap (λ v. length v.items) names ∙ l.names ∙ ap (λ xs. length xs + 1) (sym cs);
+  once = λ k w. subst (λ xs. AllPairs (λ a b. a ≢ b) (get_or xs k [])) (sym cs) (l.once k (subst (λ xs. k < length xs) cs w));
+}
+
+-- what is held stays so where other clauses of it sleep
+pub ready_moved : (base : FormulaValue) (lines : List ProofLineValue) (core core' : CoreValue) (awake awake' : Awake) (s s' : SleepersValue) → IsReady base lines core awake s → core'.vars ≡ core.vars → awake'.formula ≡ awake.formula → awake'.held ≡ awake.held → AreHeld (checker_of base lines).held awake'.names.items core'.clauses s'
+    → length base.clauses ≤ length core'.clauses → ((k : ℕ) → k < length base.clauses → get_or core'.clauses k [] ≡ get_or core.clauses k []) → IsReady base lines core' awake' s'
+ready_moved base lines core core' awake awake' s s' r vars formula held are many first =
     let h = r.holding in
-    let n : length core'.clauses ≡ length core.clauses = ap length clauses in
     record {
       holding = record {
-        agree = record { vars = omega (arith, vars, h.agree.vars); held = subst (AreHeld (checker_of base lines).held) (sym clauses) h.agree.held };
+        agree = record { vars = omega (arith, vars, h.agree.vars); held = are };
         formula = h.formula;
-        below = λ k d w. let b = h.below k d w in omega (arith, b, n);
-        greatest = omega (arith, h.greatest, n);
-        many = omega (arith, h.many, n);
+        below = below_more awake.held awake'.held (checker_of base lines).held (omega (arith, held)) h.below;
+        greatest = omega (arith, h.greatest, held);
+        many = omega (arith, h.many, held);
+        own = formula ∙ h.own;
+        within = many;
+        first = λ k w. subst (IsSame (get_or base.clauses k [])) (sym (first k w)) (h.first k w);
       };
       written = r.written;
       fresh = r.fresh;
-      count = omega (arith, r.count, n);
+      count = held ∙ r.count;
     }
+
+-- other steps leave the search ready
+pub ready_same : (base : FormulaValue) (lines : List ProofLineValue) (core core' : CoreValue) (awake : Awake) (s : SleepersValue) → IsReady base lines core awake s → core'.vars ≡ core.vars → core'.clauses ≡ core.clauses → IsReady base lines core' awake s
+ready_same base lines core core' awake s r vars clauses =
+    ready_moved base lines core core' awake awake s s r vars refl refl
+    (subst (λ cs. AreHeld (checker_of base lines).held awake.names.items cs s) (sym clauses) r.holding.agree.held)
+    (omega (arith, r.holding.within, ap length clauses))
+    (λ k w. ap (λ cs. get_or cs k []) clauses)
+
+pub ready_used : (base : FormulaValue) (lines : List ProofLineValue) (core : CoreValue) (awake awake' : Awake) (s : SleepersValue) → IsReady base lines core awake s → awake'.names ≡ awake.names → awake'.formula ≡ awake.formula → awake'.held ≡ awake.held → IsReady base lines core awake' s
+ready_used base lines core awake awake' s r names formula held =
+    ready_moved base lines core core awake awake' s s r refl formula held
+    (subst (λ v. AreHeld (checker_of base lines).held v.items core.clauses s) (sym names) r.holding.agree.held)
+    r.holding.within
+    (λ k w. refl)
+
+-- ---- a clause that slept is woken
+
+pub ready_woken : (base : FormulaValue) (lines : List ProofLineValue) (core core' : CoreValue) (awake awake' : Awake) (s s' : SleepersValue) (place : ℕ) → IsReady base lines core awake s → IsListed core.clauses awake → place < length s.clauses → core'.vars ≡ core.vars → core'.clauses ≡ core.clauses ++ get_or s.clauses place [] ∷ []
+    → awake'.names.items ≡ awake.names.items ++ get_or s.numbers place 0 ∷ [] → awake'.formula ≡ awake.formula → awake'.held ≡ awake.held → s' ≡ record s { asleep = set s.asleep place false }
+    → IsReady base lines core' awake' s'
+ready_woken base lines core core' awake awake' s s' place r l w vars clauses names formula held woken =
+    let c = checker_of base lines in
+    let clause = get_or s.clauses place [] in
+    let number = get_or s.numbers place 0 in
+    let a = r.holding.agree.held in
+    let cs : s'.clauses ≡ s.clauses = ap (λ x. x.clauses) woken in
+    let ns : s'.numbers ≡ s.numbers = ap (λ x. x.numbers) woken in
+    let bs : s'.asleep ≡ set s.asleep place false = ap (λ x. x.asleep) woken in
+    ready_moved base lines core core' awake awake' s s' r vars formula held
+    (record {
+      named = named_more c.held awake.names.items awake'.names.items core.clauses core'.clauses clause number a.named l.names clauses names (a.asleep place w);
+      asleep = λ k v. subst (λ xs. IsHeldAs c.held (get_or s'.numbers k 0) (get_or xs k [])) (sym cs) (subst (λ xs. IsHeldAs c.held (get_or xs k 0) (get_or s.clauses k [])) (sym ns) (a.asleep k (subst (λ xs. k < length xs) cs v)));
+      only = λ entry i.
+          let o = a.only entry i in (
+            o.0,
+            ⊎_elim
+                (λ v. inl (subst (λ xs. Contains xs o.0) (sym clauses) (Contains-append_left core.clauses (clause ∷ []) o.0 v)))
+                (λ v. ⊎_elim (λ u. inr u) (λ e. inl (subst (λ xs. Contains xs o.0) (sym clauses) (subst (Contains (core.clauses ++ clause ∷ [])) e (Contains-push core.clauses clause)))) (woken_stays s s' place cs bs o.0 v))
+                o.1,
+            o.2,
+          );
+    })
+    (omega (arith, r.holding.within, ap length clauses, length_push core.clauses clause))
+    (λ k v. ap (λ xs. get_or xs k []) clauses ∙ get_or_append_left core.clauses (clause ∷ []) [] k (omega (arith, v, r.holding.within)))

@@ -13,7 +13,7 @@ use Rattle.proof_rules.proofs.Verdicts.{implied_by}
 use Rattle.trail_core.specs.Assigned.{IsFalse}
 use Rattle.trail_core.specs.Meaning.{IsClosed}
 use Rattle.trail_core.proofs.Keeping.{negated_twice}
-use Rattle.sat_core.specs.Learning.{AreHeld}
+use Rattle.sat_core.specs.Learning.{AreAmong}
 use Rattle.sat_core.proofs.Members.{here, there, cons_cases, stands_by, stands_or_not}
 
 -- a clause that is held under a number is one of the held
@@ -24,17 +24,17 @@ is_entry (entry ∷ held) id clause h = ⊎_elim
     (λ e. let r = is_entry held id clause (rw e at h) in (r.0, there entry held r.0 r.1, r.2))
     (cases_Bool (entry.0 == id))
 
-pub no_conflict : (held : List Entry) (clauses : List (List LitValue)) (trues : List LitValue) → AreHeld held clauses → IsClosed trues clauses → (hints : List ℕ) (falses : List LitValue) → ((o : LitValue) → Contains falses o → IsFalse trues o) → Conflicts held falses hints → ⊥
+pub no_conflict : (held : List Entry) (clauses : List (List LitValue)) (trues : List LitValue) → AreAmong held clauses → IsClosed trues clauses → (hints : List ℕ) (falses : List LitValue) → ((o : LitValue) → Contains falses o → IsFalse trues o) → Conflicts held falses hints → ⊥
 no_conflict held clauses trues a closed [] falses fal c = c
 no_conflict held clauses trues a closed (hint ∷ []) falses fal c =
     let e = is_entry held hint c.clause c.names in
-    let k = a.only e.0 e.1 in
+    let k = a e.0 e.1 in
     closed.not_falsified k.0 k.1 (λ o h. fal o (stands_by falses o (All-contains (IsTaken falses) c.clause o c.each (subst (λ xs. Contains xs o) e.2 (k.2.from o h)))))
 no_conflict held clauses trues a closed (hint ∷ next ∷ hints) falses fal c =
     let l = c.0 in
     let t = c.1 in
     let e = is_entry held hint t.clause t.names in
-    let k = a.only e.0 e.1 in
+    let k = a e.0 e.1 in
     let others : (o : LitValue) → Contains k.0 o → (o ≡ l) ⊎ IsFalse trues o =
     λ o h. ⊎_elim (λ f. inr (fal o (stands_by falses o f))) (λ i. inl i) (All-contains (λ other. IsTaken falses other ⊎ (other ≡ l)) t.clause o t.others (subst (λ xs. Contains xs o) e.2 (k.2.from o h))) in
     let stands : Contains k.0 l = k.2.into l (subst (λ xs. Contains xs l) (sym e.2) (stands_by t.clause l t.stands)) in
@@ -49,7 +49,7 @@ no_conflict held clauses trues a closed (hint ∷ next ∷ hints) falses fal c =
     (stands_or_not trues l)
 
 -- so no line without a literal is accepted
-pub no_closing : (c : CheckerValue) (clauses : List (List LitValue)) (trues : List LitValue) → AreHeld c.held clauses → IsClosed trues clauses → (line : ProofLineValue) → line.lits ≡ [] → verdict_of c line ≡ AcceptedVerdict true → ⊥
+pub no_closing : (c : CheckerValue) (clauses : List (List LitValue)) (trues : List LitValue) → AreAmong c.held clauses → IsClosed trues clauses → (line : ProofLineValue) → line.lits ≡ [] → verdict_of c line ≡ AcceptedVerdict true → ⊥
 no_closing c clauses trues a closed line e v =
     no_conflict c.held clauses trues a closed (leading line.hints) line.lits
     (λ o h. absurd (nothing line.lits o e h))

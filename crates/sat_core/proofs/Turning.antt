@@ -1,98 +1,133 @@
 -- A turn at a conflict, over plain values.
 use Rattle.std.proofs.Common.{◌≡◌, ℕ, ◌+◌, ◌-◌, ◌<◌, ◌≤◌, true, List, [], ◌∷◌, ◌++◌, length, get_or, take, refl, sym, ap, ◌∙◌, subst, ⊎_elim, arith}
 use Rattle.std.proofs.lemmas.Bool.{cases_lt}
-use Rattle.cnf_formula.specs.Formulas.{FormulaValue}
+use Rattle.cnf_formula.specs.Formulas.{FormulaValue, IsClause}
+use Rattle.cnf_formula.specs.Literals.{LitValue}
 use Rattle.cnf_formula.specs.Lines.{ProofLineValue}
 use Rattle.proof_rules.specs.declared.verdict.LineVerdict.TheVariants.{Accepted}
 use Rattle.proof_rules.specs.Held.{CheckerValue}
 use Rattle.proof_rules.specs.Judging.{verdict_of}
 use Rattle.proof_rules.specs.Refuting.{is_fresh, Refutes}
-use Rattle.std.specs.Prelude.{map}
+use Rattle.std.specs.Prelude.{map, false, Contains}
 use Rattle.cnf_formula.specs.declared.line.LratLine.TheVariants.{Addition}
 use Rattle.ledger_rules.specs.Logs.{checker_of}
 use Rattle.trail_core.specs.Meaning.{CoreValue, trues}
 use Rattle.sat_core.specs.Conflicts.{IsConflict, Agree, IsNext}
-use Rattle.sat_core.specs.Learned.{IsLearned}
+use Rattle.sat_core.specs.Learned.{IsLearned, IsBacked}
+use Rattle.sat_core.specs.Learning.{hints_to}
+use Rattle.sat_core.specs.Naming.{name, IsNamed, IsListed}
+use Rattle.sat_core.specs.Sleeping.{SleepersValue, HasNone, AreFew, sleeping}
+use Rattle.sat_core.specs.declared.awake.Awake.{Awake}
 use Rattle.sat_core.specs.Guided.{IsGuided}
 use Rattle.sat_core.specs.Met.{IsRested}
 use Rattle.sat_core.specs.declared.guide.Guide.{Guide}
 use Rattle.sat_core.specs.Ready.{AreWritten, IsReady, IsOver}
 use Rattle.sat_core.proofs.AtConflict.{analysis_accepted, no_line_closes}
-use Rattle.sat_core.proofs.Hinted.{few_hints}
+use Rattle.sat_core.proofs.Hinted.{few_named}
 use Rattle.sat_core.proofs.Fresh.{unit_is_fresh}
-use Rattle.sat_core.proofs.Readiness.{next_number, written_more, ready_more, refuted_by}
-use Rattle.sat_core.proofs.Jumping.{pointed_unit}
+use Rattle.sat_core.proofs.Readiness.{IsGrown, next_number, written_more, ready_more, refuted_by, listed_more}
+use Rattle.sat_core.proofs.Jumping.{pointed_unit, learned_backed, backed_within, backed_differ}
 
--- the search is ready, is at a conflict, and has its line
-pub record IsTurn (base : FormulaValue) (lines : List ProofLineValue) (core : CoreValue) (conflict : ℕ) (line : ProofLineValue) : Type 0 where
-  pub ready : IsReady base lines core
+-- the search is ready, is at a conflict, and has its line, by the core's numbers and by the ledger's
+pub record IsTurn (base : FormulaValue) (lines : List ProofLineValue) (core : CoreValue) (awake : Awake) (s : SleepersValue) (conflict : ℕ) (learned line : ProofLineValue) : Type 0 where
+  pub ready : IsReady base lines core awake s
   pub conflicts : IsConflict core conflict
-  pub is : IsLearned core conflict line
+  pub is : IsLearned core conflict learned
+  pub named : IsNamed awake.names.items awake.held learned line
 
 -- what is learned is accepted, short, and fresh above level 0
-pub learned_accepted : (c : CheckerValue) (core : CoreValue) (conflict : ℕ) (line : ProofLineValue) → Agree c core → IsConflict core conflict → IsLearned core conflict line → IsNext c line.id → verdict_of c line ≡ Accepted true
-learned_accepted c core conflict line a k l n =
-    ap (λ hs. verdict_of c (record { id = line.id; lits = line.lits; hints = hs })) l.hints
-    ∙ analysis_accepted c core l.resolved conflict line.lits line.id a k.formed l.analysis l.once n
+pub learned_accepted : (c : CheckerValue) (core : CoreValue) (names : List ℕ) (held : ℕ) (s : SleepersValue) (conflict : ℕ) (learned line : ProofLineValue) → Agree c core names s → IsConflict core conflict → IsLearned core conflict learned → IsNamed names held learned line → IsNext c line.id → verdict_of c line ≡ Accepted true
+learned_accepted c core names held s conflict learned line a k l d n =
+    let hints : line.hints ≡ map (name names) (hints_to l.resolved core.trail conflict) = d.hints ∙ ap (map (name names)) l.hints in
+    ap (λ hs. verdict_of c (record { id = line.id; lits = line.lits; hints = hs })) hints
+    ∙ ap (λ ls. verdict_of c (record { id = line.id; lits = ls; hints = map (name names) (hints_to l.resolved core.trail conflict) })) d.lits
+    ∙ analysis_accepted c core names s l.resolved conflict learned.lits line.id a k.formed l.analysis l.once n
 
-pub learned_short : (core : CoreValue) (conflict : ℕ) (line : ProofLineValue) → IsConflict core conflict → IsLearned core conflict line → length line.hints ≤ core.vars + 1
-learned_short core conflict line k l = let few = few_hints l.resolved core.trail conflict in omega (arith, few, ap length l.hints, k.formed.few)
+pub learned_short : (core : CoreValue) (names : List ℕ) (held conflict : ℕ) (learned line : ProofLineValue) → IsConflict core conflict → IsLearned core conflict learned → IsNamed names held learned line → length line.hints ≤ core.vars + 1
+learned_short core names held conflict learned line k l d =
+    let few = few_named names l.resolved core.trail conflict in
+    omega (arith, few, ap length (d.hints ∙ ap (map (name names)) l.hints), k.formed.few)
 
-pub learned_fresh : (c : CheckerValue) (core : CoreValue) (conflict : ℕ) (line : ProofLineValue) → Agree c core → IsConflict core conflict → 0 < length core.limits → IsLearned core conflict line → is_fresh c line.lits ≡ true
-learned_fresh c core conflict line a k above l =
+pub learned_fresh : (c : CheckerValue) (core : CoreValue) (names : List ℕ) (s : SleepersValue) (conflict : ℕ) (learned : ProofLineValue) → Agree c core names s → HasNone s learned.lits → IsConflict core conflict → 0 < length core.limits → IsLearned core conflict learned → is_fresh c learned.lits ≡ true
+learned_fresh c core names s conflict learned a none k above l =
     let last = length core.limits - 1 in
     let e : last + 1 ≡ length core.limits = omega (arith, above) in
     let p = l.points above in
-    unit_is_fresh c core.clauses (take (get_or core.limits last 0) (trues core)) line.lits p.point a.held (k.closed_below last (omega (arith, above))) (pointed_unit core line.lits last p e)
+    unit_is_fresh c core.clauses s (take (get_or core.limits last 0) (trues core)) learned.lits p.point a.held.only none (k.closed_below last (omega (arith, above))) (pointed_unit core learned.lits last p e)
 
-pub turn_accepted : (base : FormulaValue) (lines : List ProofLineValue) (core : CoreValue) (conflict : ℕ) (line : ProofLineValue) → IsTurn base lines core conflict line → verdict_of (checker_of base lines) line ≡ Accepted true
-turn_accepted base lines core conflict line t = learned_accepted (checker_of base lines) core conflict line t.ready.holding.agree t.conflicts t.is (next_number base lines core line.id t.ready t.is.id)
+pub turn_accepted : (base : FormulaValue) (lines : List ProofLineValue) (core : CoreValue) (awake : Awake) (s : SleepersValue) (conflict : ℕ) (learned line : ProofLineValue) → IsTurn base lines core awake s conflict learned line → verdict_of (checker_of base lines) line ≡ Accepted true
+turn_accepted base lines core awake s conflict learned line t = learned_accepted (checker_of base lines) core awake.names.items awake.held s conflict learned line t.ready.holding.agree t.conflicts t.is t.named (next_number base lines core awake s line.id t.ready t.named.id)
 
-turn_short : (base : FormulaValue) (lines : List ProofLineValue) (core : CoreValue) (conflict : ℕ) (line : ProofLineValue) → IsTurn base lines core conflict line → length line.hints ≤ base.vars + 1
-turn_short base lines core conflict line t =
-    let short = learned_short core conflict line t.conflicts t.is in
+turn_short : (base : FormulaValue) (lines : List ProofLineValue) (core : CoreValue) (awake : Awake) (s : SleepersValue) (conflict : ℕ) (learned line : ProofLineValue) → IsTurn base lines core awake s conflict learned line → length line.hints ≤ base.vars + 1
+turn_short base lines core awake s conflict learned line t =
+    let short = learned_short core awake.names.items awake.held conflict learned line t.conflicts t.is t.named in
     omega (arith, short, t.ready.holding.agree.vars, ap (λ f. f.vars) t.ready.holding.formula)
 
-pub turn_number : (base : FormulaValue) (lines : List ProofLineValue) (core : CoreValue) (conflict : ℕ) (line : ProofLineValue) → IsTurn base lines core conflict line → line.id ≡ length core.clauses + 1
-turn_number base lines core conflict line t = t.is.id
-
-pub turn_written : (base base' : FormulaValue) (lines lines' : List ProofLineValue) (core : CoreValue) (conflict : ℕ) (line : ProofLineValue) → IsTurn base lines core conflict line → base' ≡ base → lines' ≡ lines ++ line ∷ [] → AreWritten base' lines'
-turn_written base base' lines lines' core conflict line t b l =
-    subst (λ x. AreWritten x lines') (sym b) (subst (AreWritten base) (sym l) (written_more base lines core line t.ready (turn_accepted base lines core conflict line t) (turn_number base lines core conflict line t) (turn_short base lines core conflict line t)))
+pub turn_written : (base base' : FormulaValue) (lines lines' : List ProofLineValue) (core : CoreValue) (awake : Awake) (s : SleepersValue) (conflict : ℕ) (learned line : ProofLineValue) → IsTurn base lines core awake s conflict learned line → base' ≡ base → lines' ≡ lines ++ line ∷ [] → AreWritten base' lines'
+turn_written base base' lines lines' core awake s conflict learned line t b l =
+    subst (λ x. AreWritten x lines') (sym b) (subst (AreWritten base) (sym l) (written_more base lines core awake s line t.ready (turn_accepted base lines core awake s conflict learned line t) t.named.id (turn_short base lines core awake s conflict learned line t)))
 
 -- where nothing was written
-pub turn_same : (base base' : FormulaValue) (lines lines' : List ProofLineValue) (core : CoreValue) → IsReady base lines core → base' ≡ base → lines' ≡ lines → AreWritten base' lines'
-turn_same base base' lines lines' core r b l = subst (λ x. AreWritten x lines') (sym b) (subst (AreWritten base) (sym l) r.written)
+pub turn_same : (base base' : FormulaValue) (lines lines' : List ProofLineValue) (core : CoreValue) (awake : Awake) (s : SleepersValue) → IsReady base lines core awake s → base' ≡ base → lines' ≡ lines → AreWritten base' lines'
+turn_same base base' lines lines' core awake s r b l = subst (λ x. AreWritten x lines') (sym b) (subst (AreWritten base) (sym l) r.written)
 
-pub turn_refuted : (base base' : FormulaValue) (lines lines' : List ProofLineValue) (core : CoreValue) (conflict : ℕ) (line : ProofLineValue) → IsTurn base lines core conflict line → line.lits ≡ [] → base' ≡ base → lines' ≡ lines ++ line ∷ [] → Refutes (map Addition lines') base'
-turn_refuted base base' lines lines' core conflict line t e b l =
-    subst (Refutes (map Addition lines')) (sym b) (subst (λ x. Refutes (map Addition x) base) (sym l) (refuted_by base lines line (turn_written base base lines (lines ++ line ∷ []) core conflict line t refl refl) e))
+pub turn_refuted : (base base' : FormulaValue) (lines lines' : List ProofLineValue) (core : CoreValue) (awake : Awake) (s : SleepersValue) (conflict : ℕ) (learned line : ProofLineValue) → IsTurn base lines core awake s conflict learned line → line.lits ≡ [] → base' ≡ base → lines' ≡ lines ++ line ∷ [] → Refutes (map Addition lines') base'
+turn_refuted base base' lines lines' core awake s conflict learned line t e b l =
+    subst (Refutes (map Addition lines')) (sym b) (subst (λ x. Refutes (map Addition x) base) (sym l) (refuted_by base lines line (turn_written base base lines (lines ++ line ∷ []) core awake s conflict learned line t refl refl) e))
 
-pub turn_above : (base : FormulaValue) (lines : List ProofLineValue) (core : CoreValue) (conflict : ℕ) (line : ProofLineValue) → IsTurn base lines core conflict line → 0 < length line.lits → 0 < length core.limits
-turn_above base lines core conflict line t w = ⊎_elim (λ h. h) (λ z. absurd (let n = ap length (t.is.closes (omega (arith, z))) in omega (arith, n, w))) (cases_lt 0 (length core.limits))
+pub turn_above : (base : FormulaValue) (lines : List ProofLineValue) (core : CoreValue) (awake : Awake) (s : SleepersValue) (conflict : ℕ) (learned line : ProofLineValue) → IsTurn base lines core awake s conflict learned line → 0 < length line.lits → 0 < length core.limits
+turn_above base lines core awake s conflict learned line t w = ⊎_elim (λ h. h) (λ z. absurd (let n = ap length (t.named.lits ∙ t.is.closes (omega (arith, z))) in omega (arith, n, w))) (cases_lt 0 (length core.limits))
 
-pub turn_fresh : (base : FormulaValue) (lines : List ProofLineValue) (core : CoreValue) (conflict : ℕ) (line : ProofLineValue) → IsTurn base lines core conflict line → 0 < length line.lits → is_fresh (checker_of base lines) line.lits ≡ true
-turn_fresh base lines core conflict line t w = learned_fresh (checker_of base lines) core conflict line t.ready.holding.agree t.conflicts (turn_above base lines core conflict line t w) t.is
+-- no clause that sleeps states it: so it is fresh
+pub turn_fresh : (base : FormulaValue) (lines : List ProofLineValue) (core : CoreValue) (awake : Awake) (s : SleepersValue) (conflict : ℕ) (learned line : ProofLineValue) → IsTurn base lines core awake s conflict learned line → 0 < length line.lits → HasNone s line.lits → is_fresh (checker_of base lines) line.lits ≡ true
+turn_fresh base lines core awake s conflict learned line t w none =
+    let e = t.named.lits in
+    subst (λ ls. is_fresh (checker_of base lines) ls ≡ true) (sym e) (learned_fresh (checker_of base lines) core awake.names.items s conflict learned t.ready.holding.agree (subst (HasNone s) e none) t.conflicts (turn_above base lines core awake s conflict learned line t w) t.is)
 
-pub turn_over : (base : FormulaValue) (lines : List ProofLineValue) (core : CoreValue) (conflict : ℕ) (line : ProofLineValue) → IsTurn base lines core conflict line → 0 < length line.lits → IsOver base lines
-turn_over base lines core conflict line t w = record {
-  not_closed = no_line_closes (checker_of base lines) core conflict t.ready.holding.agree t.conflicts (turn_above base lines core conflict line t w);
+-- where none sleeps the search may end
+pub turn_over : (base : FormulaValue) (lines : List ProofLineValue) (core : CoreValue) (awake : Awake) (s : SleepersValue) (conflict : ℕ) (learned line : ProofLineValue) → IsTurn base lines core awake s conflict learned line → 0 < length line.lits → sleeping s ≡ 0 → IsOver base lines
+turn_over base lines core awake s conflict learned line t w none = record {
+  not_closed = no_line_closes (checker_of base lines) core awake.names.items s conflict t.ready.holding.agree none t.conflicts (turn_above base lines core awake s conflict learned line t w);
   fresh = t.ready.fresh;
 }
 
-pub turn_ready : (base base' : FormulaValue) (lines lines' : List ProofLineValue) (core core' : CoreValue) (conflict : ℕ) (line : ProofLineValue) → IsTurn base lines core conflict line → 0 < length line.lits → base' ≡ base → lines' ≡ lines ++ line ∷ [] → core'.vars ≡ core.vars → core'.clauses ≡ core.clauses ++ line.lits ∷ [] → IsReady base' lines' core'
-turn_ready base base' lines lines' core core' conflict line t some b l vars clauses =
-    subst (λ x. IsReady x lines' core') (sym b) (subst (λ x. IsReady base x core') (sym l)
-    (ready_more base lines core core' line t.ready (turn_written base base lines (lines ++ line ∷ []) core conflict line t refl refl) (turn_fresh base lines core conflict line t some) (turn_number base lines core conflict line t) vars clauses))
+pub turn_backed : (base : FormulaValue) (lines : List ProofLineValue) (core : CoreValue) (awake : Awake) (s : SleepersValue) (conflict : ℕ) (learned line : ProofLineValue) → IsTurn base lines core awake s conflict learned line → 0 < length line.lits → IsBacked core line.lits
+turn_backed base lines core awake s conflict learned line t w =
+    subst (IsBacked core) (sym t.named.lits) (learned_backed core conflict learned (turn_above base lines core awake s conflict learned line t w) t.is)
+
+pub turn_about : (base : FormulaValue) (lines : List ProofLineValue) (core : CoreValue) (awake : Awake) (s : SleepersValue) (conflict : ℕ) (learned line : ProofLineValue) (vars : ℕ) → IsTurn base lines core awake s conflict learned line → 0 < length line.lits → vars ≡ core.vars → IsClause vars line.lits
+turn_about base lines core awake s conflict learned line vars t w e =
+    subst (λ n. IsClause n line.lits) (sym e) (backed_within core line.lits t.conflicts.formed (turn_backed base lines core awake s conflict learned line t w))
+
+-- the clauses that sleep, of which by place none has its literals in a clause
+pub none_by : (s : SleepersValue) (clause : List LitValue) → ((place : ℕ) → place < length s.clauses → get_or s.asleep place false ≡ true → ((l : LitValue) → Contains (get_or s.clauses place []) l → Contains clause l) → ⊥) → HasNone s clause
+none_by s clause none = λ other a sub. none a.0 a.1.within a.1.asleep (λ l c. sub l (subst (λ xs. Contains xs l) a.2 c))
 
 pub positive : (n : ℕ) → (n ≡ 0 → ⊥) → 0 < n
 positive n h = ⊎_elim (λ w. w) (λ z. absurd (h (omega (arith, z)))) (cases_lt 0 n)
 
 -- ---- what is kept beside the core
 
-pub guided_more : (core core' : CoreValue) (guide : Guide) → IsRested core.vars guide.walk.stamp guide.walk.marks.items → guide.decider ≡ core.vars → guide.probes ≡ core.vars → core'.vars ≡ core.vars → IsGuided core' guide
-guided_more core core' guide r d p vars = record {
+pub guided_more : (core core' : CoreValue) (guide : Guide) → IsRested core.vars guide.walk.stamp guide.walk.marks.items → guide.decider ≡ core.vars → guide.probes ≡ core.vars → IsListed core'.clauses guide.awake → guide.sleepers.vars ≡ core.vars → AreFew guide.sleepers → core'.vars ≡ core.vars → IsGuided core' guide
+guided_more core core' guide r d p listed sleepers few vars = record {
   rested = record { len = r.len ∙ ap (λ m. m + 1) (sym vars); below = r.below };
   decider = d ∙ sym vars;
   probes = p ∙ sym vars;
+  listed = listed;
+  sleepers = sleepers ∙ sym vars;
+  few = few;
 }
+
+-- ---- after a line was learned
+
+pub grown_guided : (core core' : CoreValue) (guide guide' : Guide) (line : ProofLineValue) (id : ℕ) → IsGuided core guide → IsBacked core line.lits → IsGrown core core' guide.awake guide'.awake line → id ≡ length core.clauses → guide'.awake.ids.items ≡ guide.awake.ids.items ++ id ∷ [] → guide'.walk ≡ guide.walk → guide'.decider ≡ guide.decider → guide'.probes ≡ guide.probes → guide'.sleepers ≡ guide.sleepers
+    → IsGuided core' guide'
+grown_guided core core' guide guide' line id g b w at ids walk decider probes sleepers =
+    guided_more core core' guide' (subst (λ x. IsRested core.vars x.stamp x.marks.items) (sym walk) g.rested) (decider ∙ g.decider) (probes ∙ g.probes)
+    (listed_more core.clauses core'.clauses line.lits guide.awake guide'.awake id (guide.awake.held + 1) g.listed w.clauses at ids w.names (backed_differ core line.lits b))
+    (ap (λ s. s.vars) sleepers ∙ g.sleepers) (subst AreFew (sym sleepers) g.few) w.vars
+
+pub grown_ready : (base : FormulaValue) (lines : List ProofLineValue) (core core' : CoreValue) (guide : Guide) (awake' : Awake) (sleepers' : SleepersValue) (line : ProofLineValue) → IsReady base lines core guide.awake guide.sleepers → IsGuided core guide → AreWritten base (lines ++ line ∷ []) → is_fresh (checker_of base lines) line.lits ≡ true → line.id ≡ guide.awake.held + 1 → IsGrown core core' guide.awake awake' line → sleepers' ≡ guide.sleepers
+    → IsReady base (lines ++ line ∷ []) core' awake' sleepers'
+grown_ready base lines core core' guide awake' sleepers' line r g w f e more same =
+    subst (IsReady base (lines ++ line ∷ []) core' awake') (sym same) (ready_more base lines core core' guide.awake awake' guide.sleepers line r g.listed w f e more)

@@ -3,9 +3,14 @@ use Rattle.std.specs.Prelude.{◌≡◌}
 use Rattle.trail_core.specs.Meaning.{CoreValue}
 use Rattle.sat_core.specs.declared.guide.Guide.{Guide}
 use Rattle.sat_core.specs.Met.{IsRested}
+use Rattle.sat_core.specs.Naming.{IsListed}
+use Rattle.sat_core.specs.Sleeping.{AreFew}
 
--- its tables are of the core's variables, and no mark is above those of the last analysis
+-- its tables are of the core's variables and clauses, and no mark is above those of the last analysis
 pub record IsGuided (core : CoreValue) (guide : Guide) : Type 0 where
   pub rested : IsRested core.vars guide.walk.stamp guide.walk.marks.items
   pub decider : guide.decider ≡ core.vars
   pub probes : guide.probes ≡ core.vars
+  pub listed : IsListed core.clauses guide.awake
+  pub sleepers : guide.sleepers.vars ≡ core.vars
+  pub few : AreFew guide.sleepers

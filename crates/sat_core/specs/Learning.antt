@@ -4,21 +4,26 @@ use Rattle.cnf_formula.specs.Literals.{LitValue, negation}
 use Rattle.proof_rules.specs.Held.{Entry, clause_at}
 use Rattle.trail_core.specs.Assigned.{IsFalse}
 use Rattle.trail_core.specs.Trails.{StepValue, lits_of}
+use Rattle.sat_core.specs.Sleeping.{SleepersValue, IsAsleep}
 
--- the number of a reason; clauses are held under numbers from 1
+-- the number of a reason; a core's clauses are numbered from 1
 abbrev pub number_of : Option ℕ → ℕ
 number_of None = 0
 number_of (Some id) = id + 1
 
--- the numbers of the reasons of the resolved steps, in the order of the trail
-abbrev pub numbers_of : (StepValue → Bool) → List StepValue → List ℕ
-numbers_of resolved steps = map (λ s. number_of s.reason) (filter resolved steps)
+-- its number in the ledger, from a table that has it at the place of the reason's number
+abbrev pub name_of : List ℕ → Option ℕ → ℕ
+name_of names reason = get_or names (number_of reason) 0
 
--- these, and then the number of the falsified clause
-abbrev pub numbers_to : (StepValue → Bool) → List StepValue → ℕ → List ℕ
-numbers_to resolved steps conflict = numbers_of resolved steps ++ (conflict + 1) ∷ []
+-- those of the reasons of the resolved steps, in the order of the trail
+abbrev pub numbers_of : List ℕ → (StepValue → Bool) → List StepValue → List ℕ
+numbers_of names resolved steps = map (λ s. name_of names s.reason) (filter resolved steps)
 
--- the same as hints
+-- these, and then that of the falsified clause
+abbrev pub numbers_to : List ℕ → (StepValue → Bool) → List StepValue → ℕ → List ℕ
+numbers_to names resolved steps conflict = numbers_of names resolved steps ++ get_or names (conflict + 1) 0 ∷ []
+
+-- the numbers of the reasons in the core, as hints
 abbrev pub hints_of : (StepValue → Bool) → List StepValue → List ℤ
 hints_of resolved steps = map (λ s. pos (number_of s.reason)) (filter resolved steps)
 
@@ -29,10 +34,31 @@ pub record IsSame (clause other : List LitValue) : Type 0 where
   pub into : (l : LitValue) → Contains clause l → Contains other l
   pub from : (l : LitValue) → Contains other l → Contains clause l
 
--- each clause of the core is held under its number, and no other is held
-pub record AreHeld (held : List Entry) (clauses : List (List LitValue)) : Type 0 where
-  pub named : (id : ℕ) → id < length clauses → (clause : List LitValue) × (clause_at held (id + 1) ≡ Some clause) × IsSame clause (get_or clauses id [])
-  pub only : (entry : Entry) → Contains held entry → (clause : List LitValue) × Contains clauses clause × IsSame entry.1 clause
+-- the clause is held under a number
+abbrev pub IsHeldAs : List Entry → ℕ → List LitValue → Type 0
+IsHeldAs held number lits = (clause : List LitValue) × (clause_at held number ≡ Some clause) × IsSame clause lits
+
+-- each clause of the core is held under the number that the table has for it
+abbrev pub AreNamed : List Entry → List ℕ → List (List LitValue) → Type 0
+AreNamed held names clauses = (id : ℕ) → id < length clauses → IsHeldAs held (get_or names (id + 1) 0) (get_or clauses id [])
+
+-- each clause that fell asleep is held under its number
+abbrev pub AreAsleep : List Entry → SleepersValue → Type 0
+AreAsleep held s = (place : ℕ) → place < length s.clauses → IsHeldAs held (get_or s.numbers place 0) (get_or s.clauses place [])
+
+-- each clause that is held is one of the core
+abbrev pub AreAmong : List Entry → List (List LitValue) → Type 0
+AreAmong held clauses = (entry : Entry) → Contains held entry → (clause : List LitValue) × Contains clauses clause × IsSame entry.1 clause
+
+-- or it sleeps
+abbrev pub AreAmongOr : List Entry → List (List LitValue) → SleepersValue → Type 0
+AreAmongOr held clauses s = (entry : Entry) → Contains held entry → (clause : List LitValue) × (Contains clauses clause ⊎ IsAsleep s clause) × IsSame entry.1 clause
+
+-- each clause of the core, and each that fell asleep, is held under its number, and no other is held
+pub record AreHeld (held : List Entry) (names : List ℕ) (clauses : List (List LitValue)) (s : SleepersValue) : Type 0 where
+  pub named : AreNamed held names clauses
+  pub asleep : AreAsleep held s
+  pub only : AreAmongOr held clauses s
 
 -- the literal is one of the clause, or a resolved step made it false
 abbrev pub IsOut : (StepValue → Bool) → List StepValue → List LitValue → LitValue → Type 0

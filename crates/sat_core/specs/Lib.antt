@@ -1,4 +1,7 @@
+pub mod Sleeping
 pub mod Learning
+pub mod Naming
+pub mod Dividing
 pub mod Conflicts
 pub mod Ready
 pub mod Faults

@@ -9,14 +9,21 @@ use Rattle.proof_rules.specs.Refuting.{AllImplied, AllFresh}
 use Rattle.ledger_rules.specs.Logs.{checker_of}
 use Rattle.trail_core.specs.Meaning.{CoreValue}
 use Rattle.sat_core.specs.Conflicts.{Agree}
+use Rattle.sat_core.specs.Learning.{IsSame}
+use Rattle.sat_core.specs.Sleeping.{SleepersValue}
+use Rattle.sat_core.specs.declared.awake.Awake.{Awake}
 
--- the checker holds the core's clauses under their numbers, and no number above them
-pub record IsHolding (base : FormulaValue) (c : CheckerValue) (core : CoreValue) : Type 0 where
-  pub agree : Agree c core
+-- the checker holds the core's clauses and those that sleep under their numbers, and no number above them; and the formula's
+-- clauses are the first of the core
+pub record IsHolding (base : FormulaValue) (c : CheckerValue) (core : CoreValue) (awake : Awake) (s : SleepersValue) : Type 0 where
+  pub agree : Agree c core awake.names.items s
   pub formula : c.formula ≡ base
-  pub below : All (λ entry. entry.0 ≤ length core.clauses) c.held
-  pub greatest : c.greatest ≤ length core.clauses
-  pub many : length base.clauses ≤ length core.clauses
+  pub below : All (λ entry. entry.0 ≤ awake.held) c.held
+  pub greatest : c.greatest ≤ awake.held
+  pub many : length base.clauses ≤ awake.held
+  pub own : awake.formula ≡ length base.clauses
+  pub within : length base.clauses ≤ length core.clauses
+  pub first : (k : ℕ) → k < length base.clauses → IsSame (get_or base.clauses k []) (get_or core.clauses k [])
 
 -- the lines are numbered on from the clauses of the formula
 abbrev pub AreNumbered : ℕ → List ProofLineValue → Type 0
@@ -32,11 +39,11 @@ pub record AreWritten (base : FormulaValue) (lines : List ProofLineValue) : Type
   pub numbered : AreNumbered (length base.clauses) lines
   pub short : AreShort base.vars lines
 
-pub record IsReady (base : FormulaValue) (lines : List ProofLineValue) (core : CoreValue) : Type 0 where
-  pub holding : IsHolding base (checker_of base lines) core
+pub record IsReady (base : FormulaValue) (lines : List ProofLineValue) (core : CoreValue) (awake : Awake) (s : SleepersValue) : Type 0 where
+  pub holding : IsHolding base (checker_of base lines) core awake s
   pub written : AreWritten base lines
   pub fresh : AllFresh (start_of base) lines
-  pub count : length core.clauses ≡ length base.clauses + length lines
+  pub count : awake.held ≡ length base.clauses + length lines
 
 -- each line was learned, and after them no line without a literal is implied
 pub record IsOver (base : FormulaValue) (lines : List ProofLineValue) : Type 0 where

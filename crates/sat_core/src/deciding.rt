@@ -1,4 +1,4 @@
-//! Which variable is decided next, and as what.
+//! Which variable is decided next (VSIDS), and as what (phase saving).
 
 ghost use Rattle.std.specs.Prelude.{◌≡◌, ℕ, ◌+◌, ◌<◌, ◌≤◌, length, IfOk, MatchOption};
 ghost use Rattle.cnf_formula.specs.Literals.{no};

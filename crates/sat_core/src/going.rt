@@ -1,6 +1,6 @@
-//! Going back from a conflict, and adding what was learned from it.
+//! Going back from a conflict (backjump), and adding what was learned from it.
 
-ghost use Rattle.std.specs.Prelude.{◌≡◌, ◌≢◌, ◌+◌, ◌<◌, ◌≤◌, [], ◌∷◌, ◌++◌, Contains, AllPairs, All, length, OnOk};
+ghost use Rattle.std.specs.Prelude.{◌≡◌, ◌≢◌, ◌+◌, ◌<◌, ◌≤◌, [], ◌∷◌, ◌++◌, Contains, AllPairs, All, length, IfOk, OnOk};
 ghost use Rattle.cnf_formula.specs.Literals.{LitValue};
 ghost use Rattle.cnf_formula.specs.Formulas.{IsAbout};
 ghost use Rattle.trail_core.specs.Assigned.{IsFalse};
@@ -10,7 +10,7 @@ ghost use Rattle.sat_core.specs.Learned.{HasLevel, AreUpTo, IsBacked, front_of};
 
 use crate::deciding::Decider;
 use cnf_formula::{Lit, OutOfMemory, ProofLine};
-use trail_core::Core;
+use trail_core::{ClauseId, Core};
 
 /// The highest level on which one of the literals became false, 0 where there are none.
 fn highest(core: &Core, lits: &[Lit]) -> u32
@@ -28,60 +28,83 @@ fn highest(core: &Core, lits: &[Lit]) -> u32
     top
 }
 
+/// Gives the literals from a place of the trail on to the decisions that come.
+pub fn release_from(core: &Core, decider: &mut Decider, from: usize) -> Result<(), OutOfMemory>
+    requires { decider.old ≡ core.now.vars }
+    ensures { decider.new ≡ decider.old }
+{
+    let trail = core.trail();
+    for place in from..trail.len() {
+        decider.release(trail[place])?;
+    }
+    Ok(())
+}
+
 /// Gives the literals above a level to the decisions that come.
 fn release(core: &Core, decider: &mut Decider, level: u32) -> Result<(), OutOfMemory>
     requires level { level ≤ length core.now.limits }
     requires decider { decider.old ≡ core.now.vars }
     ensures { decider.new ≡ decider.old }
 {
-    let trail = core.trail();
-    for place in core.height(level)..trail.len() {
-        decider.release(trail[place])?;
-    }
+    release_from(core, decider, core.height(level))
+}
+
+/// Goes back to level 0.
+pub fn go_to_bottom(core: &mut Core, decider: &mut Decider) -> Result<(), OutOfMemory>
+    requires decider { decider.old ≡ core.old.vars }
+    ensures decider { decider.new ≡ decider.old }
+    ensures vars { core.new.vars ≡ core.old.vars }
+    ensures clauses { core.new.clauses ≡ core.old.clauses }
+    ensures bottom { OnOk result (length core.new.limits ≡ 0) }
+{
+    release(core, decider, 0)?;
+    core.back_to(0);
     Ok(())
 }
 
 /// Goes back to a level on which the clause has a literal, and all but its last literal are false, and adds it there: it
 /// makes the last literal true.
-fn jump(core: &mut Core, lits: &[Lit], level: u32) -> Result<(), OutOfMemory>
+fn jump(core: &mut Core, lits: &[Lit], level: u32) -> Result<ClauseId, OutOfMemory>
     requires formed { IsTrail core.old.vars core.old.trail core.old.limits }
     requires backed { IsBacked core.old lits.now }
     requires above { level < length core.old.limits }
     requires top { AreUpTo core.old (front_of lits.now) level }
     requires attained { HasLevel core.old (front_of lits.now) level }
     ensures vars { core.new.vars ≡ core.old.vars }
+    ensures id { IfOk result (λ id. id ≡ length core.old.clauses) }
     ensures added { OnOk result (core.new.clauses ≡ core.old.clauses ++ lits.now ∷ []) }
 {
     core.back_to(level);
-    core.learn(lits, lits[lits.len() - 1])?;
-    Ok(())
+    Ok(core.learn(lits, lits[lits.len() - 1])?)
 }
 
 /// Goes back to level 0, and adds the clause there.
-fn begin_anew(core: &mut Core, lits: &[Lit]) -> Result<(), OutOfMemory>
+fn begin_anew(core: &mut Core, lits: &[Lit]) -> Result<ClauseId, OutOfMemory>
     requires within { All (IsAbout core.old.vars) lits.now }
     requires once { AllPairs (λ a b. a ≢ b) lits.now }
     ensures vars { core.new.vars ≡ core.old.vars }
+    ensures id { IfOk result (λ id. id ≡ length core.old.clauses) }
     ensures added { OnOk result (core.new.clauses ≡ core.old.clauses ++ lits.now ∷ []) }
 {
     core.back_to(0);
-    core.add_clause(lits)?;
-    Ok(())
+    Ok(core.add_clause(lits)?)
 }
 
-/// Goes back to the second highest level of the line's clause, or to level 0 where the search begins anew, and adds it.
+/// Goes back to the second highest level of the line's clause, or to level 0 where the search begins anew, and adds it. Gives
+/// its number in the core.
 pub fn go_back(
     core: &mut Core,
     decider: &mut Decider,
     line: &ProofLine,
     anew: bool,
-) -> Result<(), OutOfMemory>
+) -> Result<ClauseId, OutOfMemory>
     requires formed { IsTrail core.old.vars core.old.trail core.old.limits }
     requires backed { IsBacked core.old line.now.lits }
     requires above { 0 < length core.old.limits }
     requires decider { decider.old ≡ core.old.vars }
     ensures decider { decider.new ≡ decider.old }
     ensures vars { core.new.vars ≡ core.old.vars }
+    ensures id { IfOk result (λ id. id ≡ length core.old.clauses) }
     ensures added { OnOk result (core.new.clauses ≡ core.old.clauses ++ line.now.lits ∷ []) }
 {
     let lits = line.lits.as_slice();

@@ -1,17 +1,21 @@
 //! What a search keeps from turn to turn beside its core.
 
-ghost use Rattle.std.specs.Prelude.{◌≡◌, ◌<◌, IfOk};
+ghost use Rattle.std.specs.Prelude.{◌≡◌, ◌<◌, [], IfOk};
 ghost use Rattle.sat_core.specs.Met.{IsRested};
 
+use crate::awake::Awake;
 use crate::deciding::Decider;
+use crate::glue::Glue;
 use crate::implied::Implied;
 use crate::probing::Probes;
 use crate::restarts::Restarts;
+use crate::sleepers::Sleepers;
 use crate::walk::Walk;
 use cnf_formula::OutOfMemory;
 use std::alloc::Global;
 
-/// The marks of analyses, what is decided next, when the search begins anew, and when another decider takes over.
+/// The marks of analyses, what is decided next, when the search begins anew, when another decider takes over, and which
+/// learned clauses sleep.
 #[derive(Drop)]
 pub struct Guide {
     pub walk: Walk,
@@ -19,14 +23,19 @@ pub struct Guide {
     pub decider: Decider,
     pub restarts: Restarts,
     pub probes: Probes,
+    pub awake: Awake,
+    pub sleepers: Sleepers,
+    pub glue: Glue,
 }
 
 impl Guide {
-    /// What a search begins with.
-    pub fn new(alloc: Global, vars: u32) -> Result<Guide, OutOfMemory>
+    /// What a search begins with: no clause sleeps.
+    pub fn new(alloc: Global, vars: u32, awake: Awake) -> Result<Guide, OutOfMemory>
         requires { vars < 2147483648 }
         ensures decider { IfOk result (λ guide. guide.decider ≡ vars) }
         ensures probes { IfOk result (λ guide. guide.probes ≡ vars) }
+        ensures awake { IfOk result (λ guide. guide.awake ≡ awake) }
+        ensures sleepers { IfOk result (λ guide. guide.sleepers ≡ record { vars = vars; clauses = []; numbers = []; asleep = [] }) }
         ensures rested { IfOk result (λ guide. IsRested vars guide.walk.stamp guide.walk.marks.items) }
     {
         Ok(Guide {
@@ -35,6 +44,9 @@ impl Guide {
             decider: Decider::new(alloc, vars, vec![in alloc; false; vars as usize + 1]?)?,
             restarts: Restarts::new(),
             probes: Probes::new(alloc, vars)?,
+            awake,
+            sleepers: Sleepers::new(alloc, vars)?,
+            glue: Glue::new(alloc, vars)?,
         })
     }
 }

@@ -1,4 +1,4 @@
-//! Which literals of a clause the others imply.
+//! Which literals of a clause the others imply (recursive clause minimisation).
 
 ghost use Rattle.std.specs.Prelude.{◌≤◌, ◌<◌, IfSome};
 ghost use Rattle.cnf_formula.specs.Formulas.{IsClause};

@@ -1,6 +1,6 @@
-//! Laws of what is learned at a conflict.
+//! Laws of what is learned at a conflict: it is accepted by its hints (RUP with hints, LRAT), and is fresh.
 
-ghost use Rattle.std.specs.Prelude.{◌≡◌, ◌≢◌, ◌↔◌, ℕ, ◌+◌, ◌<◌, ◌≤◌, ◌^◌, Bool, true, List, [], length, Contains, All, AllPairs};
+ghost use Rattle.std.specs.Prelude.{◌≡◌, ◌≢◌, ◌↔◌, ℕ, ◌+◌, ◌<◌, ◌≤◌, ◌^◌, Bool, true, List, [], length, map, Contains, All, AllPairs};
 ghost use Rattle.cnf_formula.specs.Literals.{LitValue, has_literal};
 ghost use Rattle.cnf_formula.specs.Lines.{ProofLineValue};
 ghost use Rattle.proof_rules.specs.declared.verdict.LineVerdict.TheVariants.{Accepted};
@@ -16,9 +16,12 @@ ghost use Rattle.trail_core.specs.Meaning.{CoreValue, trues, IsClosed};
 ghost use Rattle.trail_core.specs.Formed.{IsTrail};
 ghost use Rattle.sat_core.specs.Totals.{IsTotal, AreValues};
 ghost use Rattle.sat_core.specs.Ready.{IsReady};
-ghost use Rattle.sat_core.specs.Learning.{AreHeld, IsAnalysis, hints_to, numbers_to};
-ghost use Rattle.sat_core.specs.Conflicts.{IsConflict, Agree, IsNext, remaining};
+ghost use Rattle.sat_core.specs.Learning.{AreNamed, AreAmongOr, IsAnalysis, hints_to, numbers_to};
+ghost use Rattle.sat_core.specs.Conflicts.{IsConflict, Agree, IsNext, IsLess, remaining};
 ghost use Rattle.sat_core.specs.Learned.{IsLearned};
+ghost use Rattle.sat_core.specs.Naming.{name, IsNamed};
+ghost use Rattle.sat_core.specs.Sleeping.{SleepersValue, HasNone, sleeping};
+ghost use Rattle.sat_core.specs.declared.awake.Awake.{Awake};
 
 /// A literal stands in a clause exactly where the test finds it.
 #[tactic(auto, using(crate::proofs::Members::found_exactly))]
@@ -29,40 +32,40 @@ pub fn literals_are_found_exactly()
 /// The reasons of the resolved steps in the order of the trail, and then the falsified clause, are a conflict for what remains.
 #[tactic(auto, using(crate::proofs::Hinted::hints_conflict))]
 pub fn an_analysis_has_its_hints()
-    ensures { (held : List Entry) (clauses : List (List LitValue)) (steps : List StepValue) (resolved : StepValue → Bool) (conflict : ℕ) (clause : List LitValue) → AreHeld held clauses → IsConsistent (lits_of steps)
-        → IsAnalysis clauses steps resolved conflict clause → Conflicts held clause (numbers_to resolved steps conflict) }
+    ensures { (held : List Entry) (names : List ℕ) (clauses : List (List LitValue)) (steps : List StepValue) (resolved : StepValue → Bool) (conflict : ℕ) (clause : List LitValue) → AreNamed held names clauses → IsConsistent (lits_of steps)
+        → IsAnalysis clauses steps resolved conflict clause → Conflicts held clause (numbers_to names resolved steps conflict) }
 {}
 
 /// What remains of an analysis is accepted where it names no variable twice.
-#[tactic(auto, using(crate::proofs::AtConflict::analysis_accepted))]
 pub fn an_analysis_is_accepted()
-    ensures { (c : CheckerValue) (core : CoreValue) (resolved : StepValue → Bool) (conflict : ℕ) (clause : List LitValue) (id : ℕ) → Agree c core → IsTrail core.vars core.trail core.limits
+    ensures { (c : CheckerValue) (core : CoreValue) (names : List ℕ) (s : SleepersValue) (resolved : StepValue → Bool) (conflict : ℕ) (clause : List LitValue) (id : ℕ) → Agree c core names s → IsTrail core.vars core.trail core.limits
         → IsAnalysis core.clauses core.trail resolved conflict clause → AllPairs (λ a b. a.var ≢ b.var) clause → IsNext c id
-        → verdict_of c (record { id = id; lits = clause; hints = hints_to resolved core.trail conflict }) ≡ Accepted true }
+        → verdict_of c (record { id = id; lits = clause; hints = map (name names) (hints_to resolved core.trail conflict) }) ≡ Accepted true }
 {}
 
-/// What is learned is accepted, and short.
+/// What is learned is accepted by the ledger's numbers, and short.
 pub fn the_learned_line_is_accepted()
-    ensures accepted { (c : CheckerValue) (core : CoreValue) (conflict : ℕ) (line : ProofLineValue) → Agree c core → IsConflict core conflict → IsLearned core conflict line → IsNext c line.id → verdict_of c line ≡ Accepted true }
-    ensures short { (core : CoreValue) (conflict : ℕ) (line : ProofLineValue) → IsConflict core conflict → IsLearned core conflict line → length line.hints ≤ core.vars + 1 }
+    ensures accepted { (c : CheckerValue) (core : CoreValue) (names : List ℕ) (held : ℕ) (s : SleepersValue) (conflict : ℕ) (learned line : ProofLineValue) → Agree c core names s → IsConflict core conflict → IsLearned core conflict learned → IsNamed names held learned line → IsNext c line.id
+        → verdict_of c line ≡ Accepted true }
+    ensures short { (core : CoreValue) (names : List ℕ) (held conflict : ℕ) (learned line : ProofLineValue) → IsConflict core conflict → IsLearned core conflict learned → IsNamed names held learned line → length line.hints ≤ core.vars + 1 }
 {}
 
-/// Above level 0 no held clause states it.
+/// Above level 0 no held clause states it, where none that sleeps does.
 pub fn the_learned_line_is_fresh()
-    ensures fresh { (c : CheckerValue) (core : CoreValue) (conflict : ℕ) (line : ProofLineValue) → Agree c core → IsConflict core conflict → 0 < length core.limits → IsLearned core conflict line → is_fresh c line.lits ≡ true }
-    ensures unit { (c : CheckerValue) (clauses : List (List LitValue)) (trues clause : List LitValue) (l : LitValue) → AreHeld c.held clauses → IsClosed trues clauses → IsUnit trues clause l → is_fresh c clause ≡ true }
+    ensures fresh { (c : CheckerValue) (core : CoreValue) (names : List ℕ) (s : SleepersValue) (conflict : ℕ) (learned : ProofLineValue) → Agree c core names s → HasNone s learned.lits → IsConflict core conflict → 0 < length core.limits → IsLearned core conflict learned → is_fresh c learned.lits ≡ true }
+    ensures unit { (c : CheckerValue) (clauses : List (List LitValue)) (s : SleepersValue) (trues clause : List LitValue) (l : LitValue) → AreAmongOr c.held clauses s → HasNone s clause → IsClosed trues clauses → IsUnit trues clause l → is_fresh c clause ≡ true }
 {}
 
-/// Above level 0 no line without a literal is accepted.
+/// Above level 0 no line without a literal is accepted, where no clause sleeps.
 pub fn no_line_closes_above_level_0()
-    ensures { (c : CheckerValue) (core : CoreValue) (conflict : ℕ) → Agree c core → IsConflict core conflict → 0 < length core.limits → (line : ProofLineValue) → line.lits ≡ [] → verdict_of c line ≡ Accepted true → ⊥ }
+    ensures { (c : CheckerValue) (core : CoreValue) (names : List ℕ) (s : SleepersValue) (conflict : ℕ) → Agree c core names s → sleeping s ≡ 0 → IsConflict core conflict → 0 < length core.limits → (line : ProofLineValue) → line.lits ≡ [] → verdict_of c line ≡ Accepted true → ⊥ }
 {}
 
-/// Each conflict that is paid for, and each decision, leaves less to do.
+/// Each conflict for which a line is paid or a clause is woken, and each decision, leaves less to do.
 #[tactic(auto, using(crate::proofs::Measure::conflict_leaves_less, crate::proofs::Measure::decision_leaves_less))]
 pub fn each_turn_leaves_less()
-    ensures conflict { (limit spent vars len len' : ℕ) → spent < limit → remaining limit (spent + 1) vars len' < remaining limit spent vars len }
-    ensures decision { (limit spent vars len len' : ℕ) → len < len' → len' ≤ vars → remaining limit spent vars len' < remaining limit spent vars len }
+    ensures conflict { (limit spent spent' asleep asleep' vars len len' : ℕ) → IsLess spent asleep spent' asleep' → spent' ≤ limit → asleep' < 18446744073709551616 → remaining limit spent' asleep' vars len' < remaining limit spent asleep vars len }
+    ensures decision { (limit spent asleep vars len len' : ℕ) → len < len' → len' ≤ vars → remaining limit spent asleep vars len' < remaining limit spent asleep vars len }
 {}
 
 /// Where nothing is left to decide, each clause of the core has a true literal.
@@ -78,8 +81,7 @@ pub fn logs_are_shorter_than_all_clauses()
 {}
 
 /// Where nothing is left to decide, the values of the variables satisfy the formula.
-#[tactic(auto, using(crate::proofs::Modelled::model_satisfies))]
 pub fn a_total_core_has_a_model()
-    ensures { (base : FormulaValue) (lines : List ProofLineValue) (core : CoreValue) (values : List Bool) → IsReady base lines core → IsTotal core
+    ensures { (base : FormulaValue) (lines : List ProofLineValue) (core : CoreValue) (awake : Awake) (sleepers : SleepersValue) (values : List Bool) → IsReady base lines core awake sleepers → IsTotal core
         → length values ≡ base.vars → AreValues (trues core) core.vars values → Satisfies values base }
 {}

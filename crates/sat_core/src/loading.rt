@@ -4,10 +4,12 @@ ghost use Rattle.std.specs.Prelude.{◌≡◌, ◌≢◌, ℕ, ◌+◌, ◌*◌,
 ghost use Rattle.cnf_formula.specs.Literals.{LitValue, IsLit, code_of};
 ghost use Rattle.sat_core.specs.Learning.{IsSame};
 ghost use Rattle.sat_core.specs.Loading.{own_of};
+ghost use Rattle.sat_core.specs.Naming.{IsListed};
 ghost use Rattle.sat_core.specs.Ready.{IsReady};
 
+use crate::awake::{Awake, Usage};
 use cnf_formula::{Formula, Lit, OutOfMemory};
-use std::alloc::Global;
+use std::alloc::{AllocError, Global};
 use trail_core::Core;
 
 /// Gives a place the mark. Whether it had another.
@@ -48,7 +50,7 @@ fn once_each(
 }
 
 /// Counts the literals of a clause, by their numbers.
-fn count_each(counts: &mut Vec<u32>, lits: &[Lit])
+pub fn count_each(counts: &mut Vec<u32>, lits: &[Lit])
     ensures { length counts.new.items ≡ length counts.old.items }
 {
     for lit in lits {
@@ -77,24 +79,31 @@ fn empty_core(alloc: Global, formula: &Formula, own: u32) -> Result<Core, OutOfM
     Core::new(alloc, own, &counts)
 }
 
-/// A core with the clauses of a formula in their order, each literal of them once.
-pub fn load(alloc: Global, formula: &Formula, own: u32) -> Result<Core, OutOfMemory>
+/// A core with the clauses of a formula in their order, each literal of them once, and the table of them.
+pub fn load(alloc: Global, formula: &Formula, own: u32) -> Result<(Core, Awake), OutOfMemory>
     requires { own ≡ own_of formula.now.vars }
-    ensures vars { IfOk result (λ core. core.vars ≡ own) }
-    ensures ready { IfOk result (λ core. IsReady formula.now [] core) }
+    ensures vars { IfOk result (λ both. both.0.vars ≡ own) }
+    ensures listed { IfOk result (λ both. IsListed both.0.clauses both.1) }
+    ensures ready { IfOk result (λ both. IsReady formula.now [] both.0 both.1 (record { vars = own; clauses = []; numbers = []; asleep = [] })) }
 {
     let mut core = empty_core(alloc, formula, own)?;
     let mut kept = Vec::new(alloc);
     let mut seen = vec![in alloc; 0u64; 2 * own as usize + 2]?;
     let clauses = formula.clauses();
-    for number in 0..clauses.len() {
+    if clauses.len() >= u32::MAX as usize {
+        return Err(AllocError);
+    }
+    let count = clauses.len() as u32;
+    let mut awake = Awake::new(alloc, count, count)?;
+    for number in 0..count {
         once_each(
             &mut kept,
-            clauses[number].lits(),
+            clauses[number as usize].lits(),
             &mut seen,
-            number as u64 + 1,
+            u64::from(number) + 1,
         )?;
-        core.add_clause(&kept)?;
+        let id = core.add_clause(&kept)?;
+        awake.note(id, number + 1, Usage { levels: 0, last: 0 })?;
     }
-    Ok(core)
+    Ok((core, awake))
 }

@@ -1,4 +1,4 @@
-//! Variables in the order of their activity.
+//! Variables in the order of their activity (VSIDS).
 
 ghost use Rattle.std.specs.Prelude.{◌≡◌, ℕ, ◌+◌, ◌*◌, ◌<◌, ◌≤◌, All, length, IfOk, IfSome};
 ghost use Rattle.sat_core.specs.Orders.{IsVar};

@@ -1,4 +1,4 @@
-//! When a search begins anew.
+//! When a search begins anew (Luby restarts).
 
 /// So many conflicts come before the first new beginning.
 const UNIT: u64 = 100;

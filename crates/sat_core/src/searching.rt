@@ -1,4 +1,4 @@
-//! The search: turn after turn, until it ends.
+//! The search: turn after turn, until it ends (the loop of CDCL).
 
 ghost use Rattle.std.specs.Prelude.{◌≡◌, ◌≢◌, ℕ, ◌+◌, ◌<◌, ◌≤◌, length, map, Ok, Err, OnOk};
 ghost use Rattle.sat_core.specs.Guided.{IsGuided};
@@ -32,7 +32,7 @@ pub fn search<T, L: Ledger<T>>(
     core: &mut Core,
     guide: &mut Guide,
 ) -> Result<End, SolveFault>
-    requires ready { IsReady (L.base ledger.old) (L.lines ledger.old) core.old }
+    requires ready { IsReady (L.base ledger.old) (L.lines ledger.old) core.old guide.old.awake guide.old.sleepers }
     requires guided { IsGuided core.old guide.old }
     requires agrees { L.agrees ledger.old store.old }
     ensures vars { core.new.vars ≡ core.old.vars }
@@ -41,7 +41,7 @@ pub fn search<T, L: Ledger<T>>(
     ensures agrees { OnOk result (L.agrees ledger.new store.new) }
     ensures base { L.base ledger.new ≡ L.base ledger.old }
     ensures limit { L.limit ledger.new ≡ L.limit ledger.old }
-    ensures ready { result ≡ Ok End.Total → IsReady (L.base ledger.new) (L.lines ledger.new) core.new }
+    ensures ready { result ≡ Ok End.Total → IsReady (L.base ledger.new) (L.lines ledger.new) core.new guide.new.awake guide.new.sleepers }
     ensures total { result ≡ Ok End.Total → IsTotal core.new }
     ensures refuted { result ≡ Ok End.Refuted → Refutes (map Addition (L.lines ledger.new)) (L.base ledger.new) }
     ensures closed { result ≡ Ok End.Refuted → length (L.lines ledger.new) ≤ L.limit ledger.new + 1 }

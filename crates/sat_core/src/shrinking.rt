@@ -1,4 +1,4 @@
-//! The literals of a clause that the others imply are taken out of it.
+//! The literals of a clause that the others imply are taken out of it (clause minimisation).
 
 ghost use Rattle.std.specs.Prelude.{◌≡◌, ℕ, ◌+◌, ◌<◌, ◌≤◌, IsTrue, length, get_or, take, OnOk};
 ghost use Rattle.trail_core.specs.Search.{IsImplied};

@@ -43,12 +43,12 @@ const LAST_VARIABLE: u32 = 2_147_483_647;
 fn prepared(alloc: Global, formula: &Formula, own: u32) -> Result<(Core, Guide), SolveFault>
     requires { own ≡ own_of formula.now.vars }
     ensures vars { IfOk result (λ both. both.0.vars ≡ own) }
-    ensures ready { IfOk result (λ both. IsReady formula.now [] both.0) }
+    ensures ready { IfOk result (λ both. IsReady formula.now [] both.0 both.1.awake both.1.sleepers) }
     ensures guided { IfOk result (λ both. IsGuided both.0 both.1) }
     ensures fault { result ≢ Err SolveFault.LedgerFailed }
 {
-    let core = load(alloc, formula, own)?;
-    let guide = Guide::new(alloc, own)?;
+    let (core, awake) = load(alloc, formula, own)?;
+    let guide = Guide::new(alloc, own, awake)?;
     Ok((core, guide))
 }
 

@@ -1,4 +1,4 @@
-//! Propagation, and then a decision.
+//! Unit propagation, and then a decision.
 
 ghost use Rattle.std.specs.Prelude.{◌≡◌, ℕ, ◌<◌, ◌≤◌, length};
 ghost use Rattle.cnf_formula.specs.Literals.{no};

@@ -1,17 +1,26 @@
-//! One turn of the search at a conflict.
+//! One turn of the search at a conflict: analysis, learning, backjump.
 
-ghost use Rattle.std.specs.Prelude.{◌≡◌, ◌≢◌, ℕ, ◌+◌, ◌<◌, ◌≤◌, length, map, Ok, Err, OnOk};
-ghost use Rattle.sat_core.specs.Conflicts.{IsConflict};
+ghost use Rattle.std.specs.Prelude.{◌≡◌, ◌≢◌, ℕ, ◌+◌, ◌<◌, ◌≤◌, ◌∷◌, ◌++◌, [], true, List, length, map, Ok, Err, OnOk};
+ghost use Rattle.cnf_formula.specs.Formulas.{FormulaValue};
+ghost use Rattle.cnf_formula.specs.Lines.{ProofLineValue};
+ghost use Rattle.sat_core.specs.Conflicts.{IsConflict, IsLess};
+ghost use Rattle.sat_core.specs.Learned.{IsBacked};
+ghost use Rattle.sat_core.specs.Sleeping.{sleeping};
 ghost use Rattle.sat_core.specs.Guided.{IsGuided};
 ghost use Rattle.sat_core.specs.Ready.{AreWritten, IsReady, IsOver};
 ghost use Rattle.cnf_formula.specs.declared.line.LratLine.TheVariants.{Addition};
-ghost use Rattle.proof_rules.specs.Refuting.{Refutes};
+ghost use Rattle.proof_rules.specs.Refuting.{Refutes, is_fresh};
+ghost use Rattle.ledger_rules.specs.Logs.{checker_of};
+ghost use Rattle.trail_core.specs.Formed.{IsTrail};
 ghost use Rattle.outer_ports.specs.Port.{HasCause};
 
 use crate::analysis::line_at;
 use crate::fault::SolveFault;
 use crate::going::go_back;
 use crate::guide::Guide;
+use crate::resting::rest;
+use crate::waking::{wake, wake_all};
+use cnf_formula::{OutOfMemory, ProofLine};
 use ledger_rules::Ledger;
 use std::alloc::Global;
 use trail_core::{ClauseId, Core};
@@ -24,7 +33,39 @@ pub enum Turn {
     Spent,
 }
 
-/// Learns from a conflict: closes on level 0, else adds a line where there is room for it.
+/// Adds a line's clause, which was learned, to the core, and goes back from the conflict. Where the search begins anew
+/// clauses may fall asleep.
+fn go_on(
+    alloc: Global,
+    core: &mut Core,
+    guide: &mut Guide,
+    line: &ProofLine,
+) -> Result<(), OutOfMemory>
+    requires formed { IsTrail core.old.vars core.old.trail core.old.limits }
+    requires backed { IsBacked core.old line.now.lits }
+    requires above { 0 < length core.old.limits }
+    requires guided { IsGuided core.old guide.old }
+    ensures guided { OnOk result (IsGuided core.new guide.new) }
+    ensures vars { core.new.vars ≡ core.old.vars }
+    ensures ready { OnOk result ((base : FormulaValue) (lines : List ProofLineValue) → IsReady base lines core.old guide.old.awake guide.old.sleepers → AreWritten base (lines ++ line.now ∷ []) → is_fresh (checker_of base lines) line.now.lits ≡ true
+        → line.now.id ≡ guide.old.awake.held + 1 → IsReady base (lines ++ line.now ∷ []) core.new guide.new.awake guide.new.sleepers) }
+{
+    guide.decider.learn(&guide.walk.met);
+    guide.sleepers.learn(&line.lits);
+    guide.probes.note(core);
+    let anew = guide.restarts.is_due();
+    let levels = guide.glue.count(core, &line.lits);
+    let id = go_back(core, &mut guide.decider, line, anew)?;
+    guide.awake.learn(id, levels)?;
+    guide.probes.turn(alloc, &mut guide.decider, anew)?;
+    if anew && guide.awake.is_due() {
+        return rest(alloc, core, guide);
+    }
+    Ok(())
+}
+
+/// Learns from a conflict: closes on level 0, else adds a line where there is room for it. Where a clause that sleeps states
+/// the line already, that clause is woken in its place; where there is no room, all clauses are.
 pub fn at_conflict<T, L: Ledger<T>>(
     alloc: Global,
     ledger: &mut L,
@@ -33,7 +74,7 @@ pub fn at_conflict<T, L: Ledger<T>>(
     guide: &mut Guide,
     conflict: ClauseId,
 ) -> Result<Turn, SolveFault>
-    requires ready { IsReady (L.base ledger.old) (L.lines ledger.old) core.old }
+    requires ready { IsReady (L.base ledger.old) (L.lines ledger.old) core.old guide.old.awake guide.old.sleepers }
     requires conflict { IsConflict core.old conflict }
     requires guided { IsGuided core.old guide.old }
     requires agrees { L.agrees ledger.old store.old }
@@ -43,9 +84,9 @@ pub fn at_conflict<T, L: Ledger<T>>(
     ensures base { L.base ledger.new ≡ L.base ledger.old }
     ensures limit { L.limit ledger.new ≡ L.limit ledger.old }
     ensures vars { core.new.vars ≡ core.old.vars }
-    ensures ready { result ≡ Ok Turn.Goes → IsReady (L.base ledger.new) (L.lines ledger.new) core.new }
+    ensures ready { result ≡ Ok Turn.Goes → IsReady (L.base ledger.new) (L.lines ledger.new) core.new guide.new.awake guide.new.sleepers }
     ensures guided { result ≡ Ok Turn.Goes → IsGuided core.new guide.new }
-    ensures paid { result ≡ Ok Turn.Goes → L.spent ledger.new ≡ L.spent ledger.old + 1 }
+    ensures less { result ≡ Ok Turn.Goes → IsLess (L.spent ledger.old) (sleeping guide.old.sleepers) (L.spent ledger.new) (sleeping guide.new.sleepers) }
     ensures refuted { result ≡ Ok Turn.Refuted → Refutes (map Addition (L.lines ledger.new)) (L.base ledger.new) }
     ensures closed { result ≡ Ok Turn.Refuted → length (L.lines ledger.new) ≤ L.limit ledger.new + 1 }
     ensures spent { result ≡ Ok Turn.Spent → L.spent ledger.new ≡ L.limit ledger.new }
@@ -53,19 +94,35 @@ pub fn at_conflict<T, L: Ledger<T>>(
     ensures cause { HasCause SolveFault.LedgerFailed (L.faults ledger.old store.old) (L.faults ledger.new store.new) result }
     ensures steady { result ≢ Err SolveFault.LedgerFailed → L.faults ledger.new store.new ≡ L.faults ledger.old store.old }
 {
-    let line = line_at(alloc, core, &mut guide.walk, &mut guide.implied, conflict)?;
+    let learned = line_at(alloc, core, &mut guide.walk, &mut guide.implied, conflict)?;
+    let line = guide.awake.named(alloc, learned)?;
     if line.lits.is_empty() {
         ledger.close(store, &line)?;
         return Ok(Turn::Refuted);
     }
     if !ledger.room() {
-        return Ok(Turn::Spent);
+        if guide.sleepers.is_empty() {
+            return Ok(Turn::Spent);
+        }
+        wake_all(
+            core,
+            &mut guide.decider,
+            &mut guide.awake,
+            &mut guide.sleepers,
+        )?;
+        return Ok(Turn::Goes);
+    }
+    if let Some(place) = guide.sleepers.subset_of(&line.lits) {
+        wake(
+            core,
+            &mut guide.decider,
+            &mut guide.awake,
+            &mut guide.sleepers,
+            place,
+        )?;
+        return Ok(Turn::Goes);
     }
     ledger.learn(store, &line)?;
-    guide.decider.learn(&guide.walk.met);
-    guide.probes.note(core);
-    let anew = guide.restarts.is_due();
-    go_back(core, &mut guide.decider, &line, anew)?;
-    guide.probes.turn(alloc, &mut guide.decider, anew)?;
+    go_on(alloc, core, guide, &line)?;
     Ok(Turn::Goes)
 }

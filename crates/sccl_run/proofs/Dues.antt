@@ -1,6 +1,6 @@
 -- What is due, by the command that the words ask for and the bytes that came.
-use Rattle.std.proofs.Common.{◌≡◌, ◌<◌, ◌≤◌, ◌+◌, ℕ, Bool, true, false, IsTrue, nat_lt, length, drop, List, [], replicate, Result, Ok, Err, refl, sym, subst, ap, arith, ◌∙◌}
-use Rattle.std.proofs.lemmas.Bool.{lt-ltb, le-ltb}
+use Rattle.std.proofs.Common.{◌≡◌, ◌<◌, ◌≤◌, ◌+◌, ℕ, Bool, true, false, IsTrue, nat_lt, length, drop, List, [], replicate, Ok, Err, refl, sym, subst, ap, arith, ◌∙◌}
+use Rattle.std.proofs.lemmas.Bool.{lt-ltb}
 use Rattle.std.proofs.lemmas.List.{drop_all, length-replicate}
 use Rattle.text_lines.specs.Check.{◌>>=◌}
 use Rattle.command_words.specs.declared.command.Command.{Command}
@@ -8,8 +8,9 @@ use Rattle.command_words.specs.declared.fault.WordFault.{WordFault}
 use Rattle.command_words.specs.Words.{command_of}
 use Rattle.run_rules.specs.declared.status.Status.TheVariants.{TooLong}
 use Rattle.run_rules.specs.Commands.{Ask, Reads, row_of}
-use Rattle.run_rules.specs.Refusals.{Refusal, refused_at, refused_word}
-use Rattle.run_rules.specs.Tasks.{Task, due, limit, task_of, whole_text, words_asked}
+use Rattle.run_rules.specs.Refusals.{refused_at, refused_word}
+use Rattle.run_rules.specs.Tasks.{due, limit, task_of, whole_text, words_asked}
+use Rattle.json_command.proofs.ComesBack.{short_whole}
 use Rattle.sccl_run.specs.Answering.{due_for}
 
 -- ---- by the words
@@ -32,12 +33,8 @@ asks_one P words c is ask = let e : Ok ask.command ≡ Ok c = sym ask.is ∙ is 
 
 -- ---- by the bytes
 
-whole_short : (reads : Bool) (bytes : List ℕ) → length bytes ≤ limit → whole_text reads bytes ≡ Ok tt
-whole_short true bytes short = let test : nat_lt limit (length bytes) ≡ false = le-ltb limit (length bytes) short in rw test refl
-whole_short false bytes short = refl
-
 pub short_due : (c : Command) (bytes : List ℕ) → length bytes ≤ limit → due_for c bytes ≡ task_of c bytes
-short_due c bytes short = ap (λ x. x >>= (λ _. task_of c bytes)) (whole_short (row_of c).reads bytes short)
+short_due c bytes short = ap (λ x. x >>= (λ _. task_of c bytes)) (short_whole (row_of c).reads bytes short)
 
 whole_long : (reads : Bool) (bytes : List ℕ) → IsTrue reads → limit < length bytes → whole_text reads bytes ≡ Err (refused_at TooLong 0 limit)
 whole_long true bytes read long = let test : nat_lt limit (length bytes) ≡ true = lt-ltb limit (length bytes) long in rw test refl

@@ -1,5 +1,5 @@
 -- Runs whose words ask for a family.
-use Rattle.std.proofs.Common.{◌≡◌, ◌≢◌, ◌==◌, ℕ, suc, zero, Bool, true, false, List, [], ◌∷◌, ◌++◌, take, inl, inr, Ok, Err, refl, sym, subst, ap, ◌∙◌, codes}
+use Rattle.std.proofs.Common.{◌≡◌, ◌≢◌, ◌==◌, ℕ, suc, zero, Bool, true, false, List, [], ◌∷◌, take, inl, inr, Ok, refl, sym, subst, ap, ◌∙◌, codes}
 use Rattle.std.specs.Prelude.{bytes_eq}
 use Rattle.std.specs.Fmt.{digits}
 use Rattle.topology_text.specs.declared.family_kind.FamilyKind.TheVariants.{Line}
@@ -9,13 +9,13 @@ use Rattle.command_words.specs.declared.command.Command.{Command}
 use Rattle.command_words.specs.declared.command.Command.TheVariants as command
 use Rattle.command_words.specs.Words.{command_of}
 use Rattle.run_rules.specs.declared.status.Status.{Status}
-use Rattle.run_rules.specs.declared.status.Status.TheVariants.{Done, OutOfMemory, SourceFailed, SinkFailed, ShelfFailed}
-use Rattle.run_rules.specs.Commands.{Ask, Reads, Opens}
+use Rattle.run_rules.specs.declared.status.Status.TheVariants.{Done, SourceFailed, SinkFailed, ShelfFailed}
+use Rattle.run_rules.specs.Commands.{Ask, Reads}
 use Rattle.run_rules.specs.Tasks.{Write, due}
 use Rattle.run_rules.specs.Rows.{two_nodes_text}
 use Rattle.sccl_run.specs.Laws.{IsRightRun}
 use Rattle.sccl_run.specs.Rows.{all_tell, family_run}
-use Rattle.sccl_run.specs.TopCall.{CountValue, EndsIfItFails, IsEnd, IsSilent, RunValue}
+use Rattle.sccl_run.specs.TopCall.{CountValue, EndsIfItFails, IsEnd, IsSilent}
 use Rattle.sccl_run.proofs.Ended.{ended}
 use Rattle.sccl_run.proofs.RightRuns.{done_answered, done_not_silent}
 
@@ -123,6 +123,3 @@ source_is_wrong a b c run = let e = run.call.ends in absurd (cc)
 pub shelf_is_wrong : (a b c : CountValue) → IsRightRun (record family_run { status = ShelfFailed; now = [] }) a b c → ⊥
 unfolding command_of digits
 shelf_is_wrong a b c run = let e = run.call.ends in absurd (cc)
-
-pub memory_is_wrong : (a b c : CountValue) → IsRightRun (record family_run { status = OutOfMemory }) a b c → ⊥
-memory_is_wrong a b c run = let e : two_nodes_text ≡ [] = run.call.silent (inl refl) in absurd (cc)

@@ -5,7 +5,7 @@ use Rattle.text_lines.specs.Check.{◌>>=◌, need, refuse}
 use Rattle.topology_text.specs.Answer.{code_number as topology_number}
 use Rattle.topology_text.specs.Reading.{topology_of}
 use Rattle.json_values.specs.Answer.{code_number as json_number, topology_of_json}
-use Rattle.json_exchange.specs.Answer.{report_of_json}
+use Rattle.json_rules.specs.Answer.{report_of_json}
 use Rattle.outer_ports.specs.Shelf.{FilesStay}
 use Rattle.topology_text.specs.Value.{NamedTopologyValue}
 use Rattle.candidate_order.specs.Frontiers.{RightFrontier, IsSolvable}
@@ -18,7 +18,7 @@ use Rattle.topology_text.specs.Spelling.{spelling}
 use Rattle.report_form.specs.Spelling.{report_text}
 use Rattle.json_values.specs.Json.{printed}
 use Rattle.json_values.specs.TopologyJson.{topology_json}
-use Rattle.json_exchange.specs.ReportJson.{report_json}
+use Rattle.json_rules.specs.ReportJson.{report_json}
 use Rattle.command_words.specs.declared.fault.WordCode.TheVariants.{KeyMissing}
 use Rattle.run_rules.specs.declared.status.Status.{Status}
 use Rattle.command_words.specs.declared.command.JsonWhat.TheVariants as what

@@ -1,5 +1,6 @@
 -- From what came of the source to what is answered for the words.
 use Rattle.std.proofs.Common.{◌≡◌, ◌<◌, ℕ, Bool, IsTrue, List, Option, None, Some, Result, Ok, Err, IfOk, IfErr, IfSome, IfNone, OnErr, Vec, Global, length, refl, sym, subst, ap, ◌∙◌}
+use Rattle.std.proofs.lemmas.Result.{IfOk-weaker}
 use Rattle.outer_ports.specs.Shelf.{FilesStay}
 use Rattle.command_words.specs.declared.command.Command.{Command}
 use Rattle.command_words.specs.declared.fault.WordFault.{WordFault}
@@ -10,16 +11,12 @@ use Rattle.run_rules.specs.declared.halt.Halt.TheVariants.{Shelf}
 use Rattle.run_rules.specs.declared.status.Status.{Status}
 use Rattle.run_rules.specs.declared.status.Status.TheVariants.{BadWords}
 use Rattle.run_rules.specs.Answers.{FilesValue, IsAnswer, LeavesOff, Says, Stay}
-use Rattle.run_rules.specs.Commands.{Ask, Reads, row_of}
+use Rattle.run_rules.specs.Commands.{Ask, Reads}
 use Rattle.run_rules.specs.Refusals.{Refusal, refusal_line, refused_word}
 use Rattle.run_rules.specs.Tasks.{due, limit}
 use Rattle.run_rules.proofs.Answered.{nothing_left_off, refused_answers}
 use Rattle.sccl_run.specs.Answering.{IsAnswerTo, IsHaltAt, due_for}
 use Rattle.sccl_run.proofs.Dues.{asks_one, due_command, due_refused, too_many}
-
-pub if_ok : {A E : Type 0} (x : Result A E) (P Q : A → Type 0) → ((a : A) → P a → Q a) → IfOk x P → IfOk x Q
-if_ok (Ok a) P Q follows holds = follows a holds
-if_ok (Err e) P Q follows holds = tt
 
 -- ---- what came
 
@@ -40,7 +37,7 @@ has_come words c is tells had None whole longer = let many = too_many tells had 
 module _ (words : List (List ℕ)) (c : Command) (is : command_of words ≡ Ok c) (tells : Bool) (had : List ℕ) (text : Option (Vec ℕ Global)) (here : HasCome words tells had text) (files : FilesValue) (x : Result Answer Halt) where
   pub answers_words : IfOk x (λ a. IsAnswer (due_for c here.came) files a.status a.text.items) → IfOk x (λ a. IsAnswerTo words tells had files a.status a.text.items)
   answers_words answers =
-      if_ok x (λ a. IsAnswer (due_for c here.came) files a.status a.text.items) (λ a. IsAnswerTo words tells had files a.status a.text.items)
+      IfOk-weaker x (λ a. IsAnswer (due_for c here.came) files a.status a.text.items) (λ a. IsAnswerTo words tells had files a.status a.text.items)
       (λ a answer. record { came = here.came; are = here.are; answer = subst (λ d. IsAnswer d files a.status a.text.items) (sym (due_command words here.came c is)) answer }) answers
 
   halts_so : (y : Result Answer Halt) → (y ≡ Err Shelf → (r : Refusal) → due_for c here.came ≡ Err r → ⊥) → (IsTrue files.told → OnErr y (LeavesOff (due_for c here.came) files.before files.after)) → IfErr y (IsHaltAt words tells had files)

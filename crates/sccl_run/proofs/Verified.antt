@@ -17,7 +17,7 @@ use Rattle.topology_text.specs.Reading.{topology_of}
 use Rattle.allreduce_join.specs.Joins.{Joins}
 use Rattle.command_words.specs.declared.command.SearchWords.{SearchWords}
 use Rattle.json_values.specs.Answer.{code_number as json_number, topology_of_json}
-use Rattle.json_exchange.specs.Answer.{report_of_json}
+use Rattle.json_rules.specs.Answer.{report_of_json}
 use Rattle.command_words.specs.declared.command.JsonWhat.TheVariants as what
 use Rattle.command_words.specs.declared.command.Command.{Command}
 use Rattle.command_words.specs.declared.command.Command.TheVariants as command

@@ -1,7 +1,8 @@
 -- Runs that are not right.
-use Rattle.std.proofs.Common.{◌≡◌, ◌≢◌, ℕ, zero, suc, Any, map, ap, arith, subst, List, [], ◌∷◌, None, Some, Ok, Err, inl, inr, refl, sym, ◌∙◌, codes, take}
+use Rattle.std.proofs.Common.{◌≡◌, ℕ, zero, suc, Any, map, ap, arith, subst, List, [], ◌∷◌, None, Some, Ok, Err, inl, inr, refl, sym, ◌∙◌, codes}
 use Rattle.std.specs.Prelude.{bytes_eq}
 use Rattle.std.specs.Fmt.{digits}
+use Rattle.std.proofs.lemmas.Option.{none-some}
 use Rattle.outer_ports.specs.declared.part.Part.{Part}
 use Rattle.outer_ports.specs.declared.part.Part.TheVariants.{Whole, Joined}
 use Rattle.outer_ports.specs.declared.proof_name.FileKind.TheVariants.{Cnf, Lrat}
@@ -11,7 +12,6 @@ use Rattle.topology_text.specs.declared.family_kind.FamilyKind.TheVariants.{Line
 use Rattle.topology_text.specs.Family.{family_of}
 use Rattle.topology_text.specs.Reading.{pattern_at, topology_of, topology_at, named_at}
 use Rattle.collective_spec.specs.declared.kind.Kind.TheVariants.{Broadcast}
-use Rattle.command_words.specs.declared.command.Command.TheVariants as command
 use Rattle.command_words.specs.Words.{command_of}
 use Rattle.candidate_order.specs.Frontiers.{FrontierValue, IsTried}
 use Rattle.candidate_order.specs.declared.mark.Mark.TheVariants.{Optimal}
@@ -19,14 +19,13 @@ use Rattle.schedule.specs.Rows.{send}
 use Rattle.report_form.specs.Reports.{WordsValue, parts_of, question_of}
 use Rattle.report_form.specs.Rows.{broadcast_report, one_point, point}
 use Rattle.report_form.specs.Spelling.{report_text}
-use Rattle.report_form.specs.Points.{schedule_at, frontier_point_at, joined_point_at}
-use Rattle.report_form.specs.Reading.{body_of, frontier_at, report_of}
+use Rattle.report_form.specs.Reading.{body_of, report_of}
+use Rattle.report_form.proofs.Blamed.{broadcast_read}
 use Rattle.report_laws.proofs.ReportAgain.{report_again}
 use Rattle.frontier_audit.specs.OwedFiles.{IsKept, Proves}
 use Rattle.run_rules.specs.declared.status.Status.{Status}
-use Rattle.run_rules.specs.declared.status.Status.TheVariants.{Done, SourceFailed, SinkFailed, ShelfFailed, OutOfMemory, BadReport}
-use Rattle.run_rules.specs.Commands.{Ask, Reads}
-use Rattle.run_rules.specs.Refusals.{Refusal, refusal_line, refused_at}
+use Rattle.run_rules.specs.declared.status.Status.TheVariants.{SourceFailed, SinkFailed, ShelfFailed, BadReport}
+use Rattle.run_rules.specs.Refusals.{refusal_line, refused_at}
 use Rattle.run_rules.specs.Tasks.{Synthesise, due}
 use Rattle.run_rules.specs.Answers.{IsSearch}
 use Rattle.sccl_run.specs.Laws.{IsRightRun}
@@ -38,9 +37,6 @@ use Rattle.sccl_run.proofs.RightRuns.{answered, done_answered}
 
 some_name : ProofName
 some_name = record { kind = Cnf; part = Whole; s = 1; r = 1; c = 1 }
-
-nothing_there : (A : Type 0) (x : A) → None ≡ Some x → ⊥
-nothing_there A x e = absurd (cc)
 
 something_there : (A : Type 0) (x : A) → Some x ≡ None → ⊥
 something_there A x e = absurd (cc)
@@ -55,7 +51,7 @@ unfolding due command_of topology_of topology_at named_at pattern_at digits aske
 is_search status = refl
 
 pub unread_is_wrong : (a b c : CountValue) → IsRightRun (failed_search SourceFailed) a b c → ⊥
-unread_is_wrong a b c run = nothing_there _ _ (run.call.behind_source refl some_name)
+unread_is_wrong a b c run = none-some _ (run.call.behind_source refl some_name)
 
 -- no file of the part that is joined belongs to a report of one part
 of_one_part : (xs : List (Part × FrontierValue)) → map (λ x. x.0) xs ≡ Whole ∷ [] → Any (λ x. (x.0 ≡ Joined) × IsTried x.1 (record { s = 1; r = 1; c = 1 })) xs → ⊥
@@ -77,15 +73,15 @@ not_whole : (status : Status) (said : Status) (text : List ℕ) → IsSearch ask
 unfolding asked_words joined_name
 not_whole status said text search =
     let one : map (λ x. x.0) search.report.frontiers ≡ Whole ∷ [] = search.right.valid.parts ∙ ap (λ w. parts_of w.collective.kind) search.words in
-    nothing_there _ _ ((search.proves refl).others joined_name (of_one_part search.report.frontiers one))
+    none-some _ ((search.proves refl).others joined_name (of_one_part search.report.frontiers one))
 
 lost : (status : Status) → IsEnd (Ok (Synthesise asked_words (family_of Line 2))) (failed_search status) all_tell → ⊥
 lost status (inl end) = not_whole status status end.text end.answer
 lost status (inr (inl cut)) = not_whole status cut.status cut.text cut.answer
 lost status (inr (inr halt)) =
     elim (halt.leaves refl some_name) [
-      | inl same ↦ nothing_there _ _ same
-      | inr begun ↦ nothing_there _ _ begun.stands
+      | inl same ↦ none-some _ same
+      | inr begun ↦ none-some _ begun.stands
     ]
 
 pub lost_is_wrong : (status : Status) (a b c : CountValue) → IsRightRun (failed_search status) a b c → ⊥
@@ -93,24 +89,9 @@ lost_is_wrong status a b c run = lost status (ended (failed_search status) a b c
 
 -- ---- a text that is refused
 
-checks : Ask Reads (refused_check []).words
-unfolding command_of digits
-checks = record { command = command.Check; is = refl; such = refl }
-
 is_refused : due (refused_check []).words (refused_check []).bytes ≡ Err (refused_at BadReport 1 1)
 unfolding due command_of report_of body_of digits
 is_refused = refl
-
-other_than_memory : BadReport ≢ OutOfMemory
-other_than_memory e = absurd (cc)
-
-other_than_source : BadReport ≢ SourceFailed
-other_than_source e = absurd (cc)
-
-pub not_taken_is_wrong : (a b c : CountValue) (byte : ℕ) (rest : List ℕ) → IsRightRun (refused_check (byte ∷ rest)) a b c → ⊥
-not_taken_is_wrong a b c byte rest run =
-    let gone : byte ∷ rest ≡ [] = (run.left refl).read checks other_than_memory other_than_source in
-    absurd (cc)
 
 loud : IsSilent BadReport → ⊥
 loud (inl e) = absurd (cc)
@@ -151,10 +132,6 @@ done_is_search : (files : Files) → due (done_search files).words (done_search 
 unfolding due command_of topology_of topology_at named_at pattern_at digits asked_words
 done_is_search files = refl
 
-broadcast_read : report_of (report_text broadcast_report) ≡ Ok broadcast_report
-unfolding report_of body_of report_text pattern_at schedule_at frontier_point_at joined_point_at frontier_at digits
-broadcast_read = refl
-
 -- the one report whose text was written has its files there
 kept_there : (files : Files) (a b c : CountValue) → IsRightRun (done_search files) a b c → Proves broadcast_report no_files files
 kept_there files a b c run =
@@ -174,7 +151,7 @@ first_kept files proves = proves.kept 0 (Whole, broadcast_frontier) (omega arith
 pub formula_lacks_is_wrong : (files : Files) (a b c : CountValue) → files (own_file Cnf) ≡ None → IsRightRun (done_search files) a b c → ⊥
 formula_lacks_is_wrong files a b c none run =
     let there = (first_kept files (kept_there files a b c run)).solved 0 (record { s = 1; r = 1; c = 1 }) (omega arith) in
-    nothing_there _ _ (sym none ∙ there.0)
+    none-some _ (sym none ∙ there.0)
 
 pub stale_is_wrong : (files : Files) (byte : ℕ) (rest : List ℕ) (a b c : CountValue) → files (own_file Lrat) ≡ Some (byte ∷ rest) → IsRightRun (done_search files) a b c → ⊥
 stale_is_wrong files byte rest a b c some run =

@@ -7,7 +7,8 @@ mod laws;
 mod source_text;
 mod toplevel;
 
-pub use command_words::{Command, RootWord, WordCode, WordFault, read_words};
+pub use candidate_formula::size_number;
+pub use command_words::{Command, JsonWhat, PointWord, RootWord, WordCode, WordFault, read_words};
 pub use laws::{
     a_family_that_is_left_out_is_wrong, a_family_that_is_written_is_right,
     a_refusal_that_takes_nothing_is_wrong, a_search_that_loses_files_is_wrong,

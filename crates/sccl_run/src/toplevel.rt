@@ -63,6 +63,12 @@ fn answer<I: Source, H: Shelf>(
 /// whether they are right. `replay point=N` reads a report, and writes the replay of its point, with `order=SEED` in the order
 /// that the seed draws too. `programs point=N` writes the programs that carry its point out. `family` writes the topology text
 /// of a family, and `trial` the summary of a search that is audited and replayed; neither reads anything.
+///
+/// `bound` searches as `synth` does, and writes which candidates a cut refutes, and how few rounds any schedule can have for its
+/// chunk count; the shelf has the proofs of the others. `ordered` searches for schedules in which chunks that are alike come in
+/// order, and keeps no file. `degrade` reads a report, audits it over the shelf, and writes the frontier over the links that a
+/// fault leaves, where what was refuted stays refuted. `json` writes a topology, a report or the programs of a point as JSON, and
+/// `unjson` the text that a JSON stands for.
 pub fn run<I: Source, O: Sink, H: Shelf>(
     alloc: Global,
     words: &[String],

@@ -1,10 +1,9 @@
 -- How many sends a schedule has at most, since each stands in it once.
 use Rattle.std.proofs.Common.{◌≡◌, ℕ, zero, suc, ◌+◌, ◌*◌, ◌<◌, ◌≤◌, ◌^◌, true, ◌&&◌, ◌||◌, eqb, ltb, List, length, get_or, ⊎_elim, arith}
 use Rattle.std.specs.List.{All, AllPairs}
-use Rattle.std.proofs.lemmas.Bool.{and_parts, and_from, or_cases, ltb-true, lt-ltb, eqb-true, cases_lt}
+use Rattle.std.proofs.lemmas.Bool.{and_parts, or_cases, ltb-true, eqb-true, cases_lt}
 use Rattle.std.proofs.lemmas.List.Elements.{All-weaker}
 use Rattle.schedule.specs.declared.hop.Hop.{Hop}
-use Rattle.schedule.specs.Links.{TopologyValue, IsTopology}
 use Rattle.schedule.specs.Sends.{ScheduleValue, IsSchedule, IsInRange, hop_before, is_hop_below, link_of}
 use Rattle.schedule.specs.Tables.{IsTabled}
 use Rattle.schedule.proofs.Joining.{IsHopBelow, hop_below}
@@ -63,17 +62,3 @@ pub narrow : (s : ScheduleValue) → IsSchedule s → IsInRange 65536 16 s → I
 narrow s is range =
     let below : All (IsHopBelow 65536 16) s.sends = All-weaker (λ h. is_hop_below 65536 16 h ≡ true) (IsHopBelow 65536 16) (hop_below 65536 16) s.sends range in
     record { links = All-weaker (IsHopBelow 65536 16) (λ h. IsTabled (link_of h)) (λ h b. (b.from, b.to)) s.sends below; few = few_sends s is below }
-
--- a schedule stays in range where there are more chunks and nodes
-pub range_wider : (few_chunks chunks few_nodes nodes : ℕ) (s : ScheduleValue) → few_chunks ≤ chunks → few_nodes ≤ nodes → IsInRange few_chunks few_nodes s → IsInRange chunks nodes s
-range_wider few_chunks chunks few_nodes nodes s more_chunks more_nodes =
-    All-weaker (λ h. is_hop_below few_chunks few_nodes h ≡ true) (λ h. is_hop_below chunks nodes h ≡ true) (λ h is.
-    let below = hop_below few_chunks few_nodes h is in
-    let chunk : h.chunk < chunks = omega (arith, below.chunk) in
-    let from : h.from < nodes = omega (arith, below.from) in
-    let to : h.to < nodes = omega (arith, below.to) in
-    and_from _ _ (lt-ltb h.chunk chunks chunk) (and_from _ _ (lt-ltb h.from nodes from) (lt-ltb h.to nodes to))) s.sends
-
--- so does one that is in range of a topology, for tables
-pub range_tabled : (t : TopologyValue) (s : ScheduleValue) → IsTopology t → IsInRange 65536 t.nodes s → IsInRange 65536 16 s
-range_tabled t s is = range_wider 65536 65536 t.nodes 16 s (omega arith) (omega (arith, is.few))

@@ -1,8 +1,8 @@
 -- The first element of a list in order that passes a test.
 use Rattle.std.proofs.Common.{◌≡◌, ℕ, zero, suc, ◌+◌, ◌<◌, ◌≤◌, map, Bool, true, false, cond, List, [], ◌∷◌, ◌++◌, length, get_or, Some, None, ◌⊎◌, inl, inr, ⊎_elim, refl, sym, ap, ◌∙◌, arith}
-use Rattle.std.specs.List.{find, filter, flat_map, range_with_len, AllPairs, AllByRecursion, Contains}
-use Rattle.std.proofs.lemmas.Bool.{cases_Bool}
-use Rattle.std.proofs.lemmas.List.Elements.{recursion_from_All}
+use Rattle.std.specs.List.{find, filter, list_any, flat_map, range_with_len, AllPairs, AllByRecursion, Contains}
+use Rattle.std.proofs.lemmas.Bool.{cases_Bool, false≢true, or_cases, or_left, or_right}
+use Rattle.std.proofs.lemmas.List.Elements.{filter_passes, recursion_from_All}
 
 -- x is among the elements
 abbrev pub Among : {X : Type 0} → X → List X → Type 0
@@ -33,6 +33,60 @@ each_among P (x ∷ xs) each = (each x (inl refl), each_among P xs (λ y later. 
 pub each_weaker : {X : Type 0} (P Q : X → Type 0) → ((x : X) → P x → Q x) → (xs : List X) → AllByRecursion P xs → AllByRecursion Q xs
 each_weaker P Q weaker [] each = tt
 each_weaker P Q weaker (x ∷ xs) each = (weaker x each.0, each_weaker P Q weaker xs each.1)
+
+pub each_append : {X : Type 0} (P : X → Type 0) (xs ys : List X) → AllByRecursion P xs → AllByRecursion P ys → AllByRecursion P (xs ++ ys)
+each_append P [] ys front back = back
+each_append P (x ∷ xs) ys front back = (front.0, each_append P xs ys front.1 back)
+
+pub each_passes : {X : Type 0} (p : X → Bool) (xs : List X) → AllByRecursion (λ x. p x ≡ true) (filter p xs)
+each_passes p xs = recursion_from_All (λ x. p x ≡ true) (filter p xs) (filter_passes p xs)
+
+-- one that passes settles the test of a list
+pub any_among : {X : Type 0} (p : X → Bool) (x : X) (xs : List X) → Among x xs → p x ≡ true → list_any p xs ≡ true
+any_among p x [] among passes = absurd among
+any_among p x (y ∷ ys) among passes =
+    ⊎_elim
+    (λ (here : y ≡ x). or_left (p y) (list_any p ys) (ap p here ∙ passes))
+    (λ (later : Among x ys). or_right (p y) (list_any p ys) (any_among p x ys later passes))
+    among
+
+-- what passes a test of a list
+pub any_found : {X : Type 0} (p : X → Bool) (xs : List X) → list_any p xs ≡ true → (x : X) × Among x xs × (p x ≡ true)
+any_found p [] some = absurd (false≢true some)
+any_found p (x ∷ xs) some =
+    ⊎_elim
+    (λ (here : p x ≡ true). (x, inl refl, here))
+    (λ (later : list_any p xs ≡ true). let rest = any_found p xs later in (rest.0, inr rest.1, rest.2))
+    (or_cases (p x) (list_any p xs) some)
+
+-- what a filter keeps
+pub among_kept : {X : Type 0} (test : X → Bool) (x : X) (xs : List X) → Among x xs → test x ≡ true → Among x (filter test xs)
+among_kept test x [] among passes = absurd among
+among_kept {X} test x (y ∷ ys) among passes =
+    ⊎_elim
+    (λ (kept : test y ≡ true). rw kept (⊎_elim (λ (here : y ≡ x). inl here) (λ (later : Among x ys). inr (among_kept test x ys later passes)) among))
+    (λ (dropped : test y ≡ false).
+    rw dropped (⊎_elim
+    (λ (here : y ≡ x). let impossible : false ≡ true = sym dropped ∙ (ap test here ∙ passes) in absurd cc)
+    (λ (later : Among x ys). among_kept test x ys later passes)
+    among))
+    (cases_Bool (test y))
+
+pub filter_among : {X : Type 0} (test : X → Bool) (x : X) (xs : List X) → Among x (filter test xs) → Among x xs × (test x ≡ true)
+filter_among test x [] among = absurd among
+filter_among test x (y ∷ ys) among =
+    ⊎_elim
+    (λ (kept : test y ≡ true).
+    let found : (y ≡ x) ⊎ Among x (filter test ys) = rw kept at among in
+    ⊎_elim
+    (λ (here : y ≡ x). (inl here, ap test (sym here) ∙ kept))
+    (λ (later : Among x (filter test ys)). let rest = filter_among test x ys later in (inr rest.0, rest.1))
+    found)
+    (λ (dropped : test y ≡ false).
+    let found : Among x (filter test ys) = rw dropped at among in
+    let rest = filter_among test x ys found in
+    (inr rest.0, rest.1))
+    (cases_Bool (test y))
 
 pub Contains-from_Among : {X : Type 0} (x : X) (xs : List X) → Among x xs → Contains xs x
 Contains-from_Among x [] among = absurd among
@@ -102,11 +156,7 @@ InOrder-filter before p (x ∷ xs) order =
 pub InOrder-append : {X : Type 0} (before : X → X → Bool) (xs ys : List X) → InOrder before xs → InOrder before ys → AllByRecursion (λ x. AllByRecursion (λ y. before x y ≡ true) ys) xs → InOrder before (xs ++ ys)
 InOrder-append before [] ys left right across = right
 InOrder-append before (x ∷ xs) ys left right across =
-    (both (λ y. before x y ≡ true) xs ys left.0 across.0, InOrder-append before xs ys left.1 right across.1)
-  where
-    both : {X : Type 0} (P : X → Type 0) (xs ys : List X) → AllByRecursion P xs → AllByRecursion P ys → AllByRecursion P (xs ++ ys)
-    both P [] ys a b = b
-    both P (x ∷ xs) ys a b = (a.0, both P xs ys a.1 b)
+    (each_append (λ y. before x y ≡ true) xs ys left.0 across.0, InOrder-append before xs ys left.1 right across.1)
 
 -- the first that passes: it is among the elements, it passes, and none before it does
 pub record IsFirst {X : Type 0} (before : X → X → Bool) (p : X → Bool) (xs : List X) (x : X) : Type 0 where

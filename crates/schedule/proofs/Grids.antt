@@ -55,12 +55,6 @@ find-filter p q (x ∷ xs) =
     elim (q x) as (λ b. find p (cond b (x ∷ filter q xs) (filter q xs)) ≡ cond (b && p x) (Some x) (find (λ y. q y && p y) xs))
     [ true ↦ ap (cond (p x) (Some x)) (find-filter p q xs) | false ↦ find-filter p q xs ]
 
--- so many rows from one on
-pub rows_whole : (low rows columns : ℕ) → rows_from low (low + rows) columns ≡ flat_map (λ row. map (λ column. (row, column)) (range_with_len 0 columns)) (range_with_len low rows)
-rows_whole low rows columns =
-    let count : low + rows - low ≡ rows = omega arith in
-    ap (λ n. flat_map (λ row. map (λ column. (row, column)) (range_with_len 0 columns)) (range_with_len low n)) count
-
 pub rows_start : (rows columns : ℕ) → rows_from 0 rows columns ≡ flat_map (λ row. map (λ column. (row, column)) (range_with_len 0 columns)) (range_with_len 0 rows)
 rows_start rows columns =
     let count : rows - 0 ≡ rows = omega arith in

@@ -18,7 +18,7 @@ use Rattle.schedule.proofs.Verdicts.{sends_one_way}
 abbrev Within : List Hop → List Hop → Type 0
 Within xs ys = (x : Hop) → Among x xs → Among x ys
 
-never_itself : (h : Hop) → hop_before h h ≡ true → ⊥
+pub never_itself : (h : Hop) → hop_before h h ≡ true → ⊥
 never_itself h itself = sends_one_way h h itself itself
 
 same_first : (a b : Hop) (xs ys : List Hop) → InOrder hop_before (a ∷ xs) → InOrder hop_before (b ∷ ys) → Within (a ∷ xs) (b ∷ ys) → Within (b ∷ ys) (a ∷ xs) → a ≡ b
@@ -58,7 +58,7 @@ apart_again : (steps : ℕ) (a b : Hop) → IsStep steps a.step → IsStep steps
 apart_again steps a b first second apart same =
     apart (same_hop a b (ap (λ h. h.chunk) same) (ap (λ h. h.to) same) (ap (λ h. h.from) same) (let steps_same : steps + 1 - a.step ≡ steps + 1 - b.step = ap (λ h. h.step) same in omega (arith, steps_same, first.from, first.to, second.from, second.to)))
 
-abbrev StepsIn : ℕ → List Hop → Type 0
+abbrev pub StepsIn : ℕ → List Hop → Type 0
 StepsIn steps hops = AllByRecursion (λ h. IsStep steps h.step) hops
 
 each_apart : (steps : ℕ) (h : Hop) (hops : List Hop) → IsStep steps h.step → StepsIn steps hops → AllByRecursion (λ o. h ≢ o) hops → AllByRecursion (λ o. inverse_hop steps h ≢ o) (map (inverse_hop steps) hops)
@@ -89,7 +89,7 @@ pairs_from_InOrder (h ∷ hops) order zero (suc j) d low high = All-from_recursi
 pairs_from_InOrder (h ∷ hops) order (suc i) zero d low high = absurd (omega arith)
 pairs_from_InOrder (h ∷ hops) order (suc i) (suc j) d low high = pairs_from_InOrder hops order.1 i j d (omega arith) (omega arith)
 
-steps_of : (s : ScheduleValue) → IsSchedule s → StepsIn (length s.rounds) s.sends
+pub steps_of : (s : ScheduleValue) → IsSchedule s → StepsIn (length s.rounds) s.sends
 steps_of s valid = recursion_from_All (λ h. IsStep (length s.rounds) h.step) s.sends valid.steps
 
 order_of : (s : ScheduleValue) → IsSchedule s → InOrder hop_before s.sends
@@ -126,14 +126,14 @@ inverse_among s h among = among_in_order (inverse_hop (length s.rounds) h) (map 
 among_inverse : (s : ScheduleValue) (h : Hop) → Among h (inverse_of s).sends → (o : Hop) × Among o s.sends × (inverse_hop (length s.rounds) o ≡ h)
 among_inverse s h among = map_among (inverse_hop (length s.rounds)) h s.sends (in_order_among h (map (inverse_hop (length s.rounds)) s.sends) among)
 
-step_of : (s : ScheduleValue) (h : Hop) → IsSchedule s → Among h s.sends → IsStep (length s.rounds) h.step
-step_of s h valid among = among_each (λ h. IsStep (length s.rounds) h.step) h s.sends (steps_of s valid) among
+pub step_is : (s : ScheduleValue) (h : Hop) → IsSchedule s → Among h s.sends → IsStep (length s.rounds) h.step
+step_is s h valid among = among_each (λ h. IsStep (length s.rounds) h.step) h s.sends (steps_of s valid) among
 
 there_and_back : (s : ScheduleValue) → IsSchedule s → Within s.sends (inverse_of (inverse_of s)).sends
 there_and_back s valid h among =
     let steps = length s.rounds in
     let twice = inverse_among (inverse_of s) (inverse_hop steps h) (inverse_among s h among) in
-    let same : inverse_hop (length (inverse_of s).rounds) (inverse_hop steps h) ≡ h = ap (λ n. inverse_hop n (inverse_hop steps h)) (length-reverse s.rounds) ∙ back_again steps h (step_of s h valid among) in
+    let same : inverse_hop (length (inverse_of s).rounds) (inverse_hop steps h) ≡ h = ap (λ n. inverse_hop n (inverse_hop steps h)) (length-reverse s.rounds) ∙ back_again steps h (step_is s h valid among) in
     subst (λ x. Among x (inverse_of (inverse_of s)).sends) same twice
 
 back_and_there : (s : ScheduleValue) → IsSchedule s → Within (inverse_of (inverse_of s)).sends s.sends
@@ -142,7 +142,7 @@ back_and_there s valid h among =
     let first = among_inverse (inverse_of s) h among in
     let second = among_inverse s first.0 first.1 in
     let same : second.0 ≡ h =
-    sym (back_again steps second.0 (step_of s second.0 valid second.1))
+    sym (back_again steps second.0 (step_is s second.0 valid second.1))
     ∙ (ap (inverse_hop steps) second.2
     ∙ (ap (λ n. inverse_hop n first.0) (sym (length-reverse s.rounds)) ∙ first.2)) in
     subst (λ x. Among x s.sends) same second.1

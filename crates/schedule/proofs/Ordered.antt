@@ -1,11 +1,11 @@
 -- Pairs by rows and then by columns: which stand in a grid, and that they stand there in order.
-use Rattle.std.proofs.Common.{◌≡◌, ℕ, zero, suc, ◌+◌, ◌<◌, ◌≤◌, true, ◌&&◌, eqb, ltb, List, [], ◌∷◌, ◌++◌, map, inl, inr, ⊎_elim, refl, sym, ap, ◌∙◌, arith}
+use Rattle.std.proofs.Common.{◌≡◌, ℕ, zero, suc, ◌+◌, ◌<◌, ◌≤◌, true, ◌&&◌, eqb, ltb, List, [], ◌∷◌, map, inl, inr, ⊎_elim, refl, sym, ap, ◌∙◌, arith}
 use Rattle.std.specs.List.{list_any, flat_map, range_with_len, filter, AllByRecursion}
 use Rattle.std.proofs.lemmas.Bool.{and_parts, and_from, or_cases, or_left, or_right, ltb-true, lt-ltb, eqb-true, eq-eqb}
 use Rattle.schedule.specs.Failing.{pair_before}
 use Rattle.schedule.specs.Placed.{PlacementValue, IsPlacement, same_pair, holds, all_pairs}
 use Rattle.schedule.proofs.Placing.{pair_is, pair_itself, in_rows}
-use Rattle.schedule.proofs.First.{Among, InOrder, OneWay, InOrder-append, InOrder-filter, each_weaker}
+use Rattle.schedule.proofs.First.{Among, InOrder, OneWay, InOrder-append, InOrder-filter, each_weaker, each_append}
 
 pub pairs_one_way : OneWay pair_before
 pairs_one_way a b there back =
@@ -52,10 +52,6 @@ grid low rows columns = flat_map (λ row. map (λ column. (row, column)) (range_
 pub in_grid : (low rows columns : ℕ) (pair : ℕ × ℕ) → IsCell low rows columns pair → Among pair (grid low rows columns)
 in_grid low rows columns (row, column) is = among_from_any (row, column) (grid low rows columns) (in_rows row column columns low rows is.column is.from is.to)
 
-each-append : {X : Type 0} (P : X → Type 0) (xs ys : List X) → AllByRecursion P xs → AllByRecursion P ys → AllByRecursion P (xs ++ ys)
-each-append P [] ys a b = b
-each-append P (x ∷ xs) ys a b = (a.0, each-append P xs ys a.1 b)
-
 row_cells : (row from count columns : ℕ) → from + count ≤ columns → AllByRecursion (IsCell row 1 columns) (map (λ column. (row, column)) (range_with_len from count))
 row_cells row from zero columns fits = tt
 row_cells row from (suc count) columns fits =
@@ -64,7 +60,7 @@ row_cells row from (suc count) columns fits =
 pub grid_cells : (low rows columns : ℕ) → AllByRecursion (IsCell low rows columns) (grid low rows columns)
 grid_cells low zero columns = tt
 grid_cells low (suc rows) columns =
-    each-append (IsCell low (suc rows) columns) _ _
+    each_append (IsCell low (suc rows) columns) _ _
     (each_weaker (IsCell low 1 columns) (IsCell low (suc rows) columns) (λ pair is. record { from = is.from; to = omega (arith, is.to); column = is.column }) _ (row_cells low 0 columns columns (omega arith)))
     (each_weaker (IsCell (low + 1) rows columns) (IsCell low (suc rows) columns) (λ pair is. record { from = omega (arith, is.from); to = omega (arith, is.to); column = is.column }) _ (grid_cells (low + 1) rows columns))
 

@@ -1,10 +1,11 @@
 -- What a placement holds, when it is given by a test, made empty, or had a pair added; and when two are the same.
-use Rattle.std.proofs.Common.{◌≡◌, ℕ, zero, suc, ◌+◌, ◌<◌, ◌≤◌, Bool, true, false, ◌||◌, ◌&&◌, List, [], ◌∷◌, ◌++◌, map, refl, sym, ap, ◌∙◌, ⊎_elim, arith}
+use Rattle.std.proofs.Common.{◌≡◌, ℕ, zero, suc, ◌+◌, ◌<◌, ◌≤◌, Bool, true, false, ◌||◌, ◌&&◌, List, [], ◌∷◌, map, refl, sym, ap, ◌∙◌, ⊎_elim, arith}
 use Rattle.std.specs.List.{list_any, flat_map, range_with_len, filter, AllByRecursion}
 use Rattle.std.proofs.lemmas.Bool.{eqb-true, eq-eqb, and_parts, and_from, or_left, or_right, cases_eq}
 use Rattle.std.proofs.lemmas.List.Folds.{list_any-append}
 use Rattle.std.proofs.lemmas.Map.Views.{any-filter_same}
 use Rattle.schedule.specs.Placed.{PlacementValue, same_pair, holds, all_pairs, placed, IsPlacement, empty_placement, with_pair}
+use Rattle.schedule.proofs.First.{each_append}
 
 -- the test on pairs tells them apart
 pub pair_is : (a b : ℕ × ℕ) → same_pair a b ≡ true → a ≡ b
@@ -48,10 +49,6 @@ among_all chunks nodes (chunk, node) c n = in_rows chunk node nodes 0 chunks n (
 abbrev pub IsBelow : ℕ → ℕ → ℕ × ℕ → Type 0
 IsBelow chunks nodes pair = (pair.0 < chunks) × (pair.1 < nodes)
 
-all-append : {X : Type 0} (P : X → Type 0) (xs ys : List X) → AllByRecursion P xs → AllByRecursion P ys → AllByRecursion P (xs ++ ys)
-all-append P [] ys a b = b
-all-append P (x ∷ xs) ys a b = (a.0, all-append P xs ys a.1 b)
-
 row_below : (chunks nodes chunk from len : ℕ) → chunk < chunks → from + len ≤ nodes → AllByRecursion (IsBelow chunks nodes) (map (λ n. (chunk, n)) (range_with_len from len))
 row_below chunks nodes chunk from zero c n = tt
 row_below chunks nodes chunk from (suc len) c n =
@@ -60,7 +57,7 @@ row_below chunks nodes chunk from (suc len) c n =
 rows_below : (chunks nodes from len : ℕ) → from + len ≤ chunks → AllByRecursion (IsBelow chunks nodes) (flat_map (λ c. map (λ n. (c, n)) (range_with_len 0 nodes)) (range_with_len from len))
 rows_below chunks nodes from zero c = tt
 rows_below chunks nodes from (suc len) c =
-    all-append (IsBelow chunks nodes) _ _ (row_below chunks nodes from 0 nodes (omega arith) (omega arith)) (rows_below chunks nodes (from + 1) len (omega arith))
+    each_append (IsBelow chunks nodes) _ _ (row_below chunks nodes from 0 nodes (omega arith) (omega arith)) (rows_below chunks nodes (from + 1) len (omega arith))
 
 -- and each of all is in range
 pub all_below : (chunks nodes : ℕ) → AllByRecursion (IsBelow chunks nodes) (all_pairs chunks nodes)
@@ -100,10 +97,6 @@ holds-placed chunks nodes f pair c n =
 pub placement-placed : (chunks nodes : ℕ) (f : ℕ × ℕ → Bool) → IsPlacement (placed chunks nodes f)
 placement-placed chunks nodes f =
     placed-alike chunks nodes f (holds (placed chunks nodes f)) (λ pair c n. sym (holds-placed chunks nodes f pair c n))
-
-pub placement-empty : (chunks nodes : ℕ) → IsPlacement (empty_placement chunks nodes)
-placement-empty chunks nodes =
-    sym (placed-none chunks nodes (holds (empty_placement chunks nodes)) (λ pair c n. refl))
 
 pub placement-with_pair : (p : PlacementValue) (pair : ℕ × ℕ) → IsPlacement (with_pair p pair)
 placement-with_pair p pair = placement-placed p.chunks p.nodes (λ other. same_pair pair other || holds p other)

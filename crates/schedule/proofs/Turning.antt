@@ -18,16 +18,16 @@ use Rattle.schedule.proofs.Reversing.{reversed-reversed}
 
 -- ---- links turned round
 
-both_ways : (a b : Bool) → (a && b) ≡ (b && a)
-both_ways true true = refl
-both_ways true false = refl
-both_ways false true = refl
-both_ways false false = refl
+pub and_turned : (a b : Bool) → (a && b) ≡ (b && a)
+and_turned true true = refl
+and_turned true false = refl
+and_turned false true = refl
+and_turned false false = refl
 
 turned_link : (links : List (ℕ × ℕ)) (link : ℕ × ℕ) → list_any (same_link link) (map turned links) ≡ list_any (same_link (turned link)) links
 turned_link [] link = refl
 turned_link (l ∷ links) link =
-    ap (λ b. b || list_any (same_link link) (map turned links)) (both_ways (eqb link.0 l.1) (eqb link.1 l.0))
+    ap (λ b. b || list_any (same_link link) (map turned links)) (and_turned (eqb link.0 l.1) (eqb link.1 l.0))
     ∙ ap (λ b. same_link (turned link) l || b) (turned_link links link)
 
 turned_has : (group : GroupValue) (link : ℕ × ℕ) → has_link (reversed_group group) link ≡ has_link group (turned link)
@@ -62,7 +62,7 @@ counted_in_order p (h ∷ hops) =
     let whole : count_by p (h ∷ hops) ≡ cond (p h) 1 0 + count_by p hops = sum_by-cons (λ x. cond (p x) 1 0) h hops in
     omega (arith, rest, one, whole)
 
-abbrev one_if : Bool → ℕ
+abbrev pub one_if : Bool → ℕ
 one_if passes = cond passes 1 0
 
 -- the sends that pass a test and those whose images pass another

@@ -1,28 +1,20 @@
 -- A schedule wastes no send where each send moves its chunk and no node is sent a chunk twice.
-use Rattle.std.proofs.Common.{◌≡◌, ℕ, ◌+◌, ◌-◌, ◌<◌, Bool, true, false, ◌&&◌, ◌||◌, not, ltb, List, [], ◌∷◌, length, get_or, take, refl, sym, ap, ◌∙◌, subst, arith}
-use Rattle.std.specs.Prelude.{All, AllPairs, Decides}
+use Rattle.std.proofs.Common.{◌≡◌, ℕ, ◌+◌, ◌-◌, ◌<◌, Bool, true, false, ◌&&◌, ◌||◌, not, ltb, List, length, get_or, take, refl, sym, ap, ◌∙◌, subst, arith}
+use Rattle.std.specs.Prelude.{AllPairs, Decides}
 use Rattle.std.specs.List.{list_any, list_all}
 use Rattle.std.proofs.lemmas.Bool.{false≢true, and_parts, and_from, not-true, not_from_false, false_from_ne_true, ltb-true}
 use Rattle.std.proofs.lemmas.List.{take_more, get_or-take, get_or_default, length-take}
-use Rattle.std.proofs.lemmas.List.Folds.{list_any_at, list_any_more}
-use Rattle.std.proofs.lemmas.List.Elements.{All-head, All-tail, All-nil, All-cons}
+use Rattle.std.proofs.lemmas.List.Folds.{list_any_at, list_any_more, list_any_none}
 use Rattle.std.proofs.lemmas.List.FromFn.{get_or-map-range_with_len, length-map-range_with_len}
 use Rattle.std.proofs.lemmas.List.Quantifiers.{all_pairs_push}
+use Rattle.std.proofs.lemmas.List.Sums.{AllPass-from_list_all, list_all-from_AllPass}
 use Rattle.schedule.specs.declared.hop.Hop.{Hop}
-use Rattle.schedule.specs.Placed.{PlacementValue, holds, same_pair, with_pair, empty_placement}
+use Rattle.schedule.specs.Placed.{PlacementValue, holds, same_pair, with_pair}
 use Rattle.schedule.specs.Sends.{ScheduleValue, IsSchedule, IsInRange, is_hop_below}
 use Rattle.schedule.specs.Running.{after, run_of}
 use Rattle.schedule.specs.Solving.{Tight, moves}
 use Rattle.schedule.proofs.Placing.{holds-placed}
 use Rattle.schedule.proofs.Stepping.{chunks-after, nodes-after}
-
-all_true : {X : Type 0} (p : X → Bool) (xs : List X) → list_all p xs ≡ true → All (λ x. p x ≡ true) xs
-all_true p [] h = All-nil (λ x. p x ≡ true)
-all_true p (x ∷ xs) h = let parts = and_parts (p x) (list_all p xs) h in All-cons (λ x. p x ≡ true) x xs parts.0 (all_true p xs parts.1)
-
-true_all : {X : Type 0} (p : X → Bool) (xs : List X) → All (λ x. p x ≡ true) xs → list_all p xs ≡ true
-true_all p [] h = refl
-true_all p (x ∷ xs) h = and_from (p x) (list_all p xs) (All-head (λ x. p x ≡ true) x xs h) (true_all p xs (All-tail (λ x. p x ≡ true) x xs h))
 
 abbrev pub Once : List Hop → Type 0
 Once sends = AllPairs (λ a b. same_pair (a.chunk, a.to) (b.chunk, b.to) ≡ false) sends
@@ -41,7 +33,7 @@ module _ (pre : PlacementValue) (s : ScheduleValue) where
   halves h e = and_parts (holds (before h) (h.chunk, h.from)) (not (holds (before h) (to_pair h))) e
 
   pub tight_moves : Tight pre s → list_all move_of s.sends ≡ true
-  tight_moves tight = true_all move_of s.sends (λ k d low.
+  tight_moves tight = list_all-from_AllPass move_of s.sends (λ k d low.
       let h = get_or s.sends k d in
       and_from (holds (before h) (h.chunk, h.from)) (not (holds (before h) (to_pair h))) (tight.sender k d low) (not_from_false (holds (before h) (to_pair h)) (tight.receiver k d low)))
 
@@ -49,7 +41,7 @@ module _ (pre : PlacementValue) (s : ScheduleValue) where
   tight_decided move once is decides = (
     λ e.
         let parts = and_parts move once e in
-        let all = all_true move_of s.sends (sym is ∙ parts.0) in
+        let all = AllPass-from_list_all move_of s.sends (sym is ∙ parts.0) in
         record {
           sender = λ k d low. (halves (get_or s.sends k d) (all k d low)).0;
           receiver = λ k d low. not-true (holds (before (get_or s.sends k d)) (to_pair (get_or s.sends k d))) (halves (get_or s.sends k d) (all k d low)).1;
@@ -66,10 +58,6 @@ or_turned true false = refl
 or_turned false true = refl
 or_turned false false = refl
 
-none_passes : {X : Type 0} (p : X → Bool) (xs : List X) → All (λ x. p x ≡ false) xs → list_any p xs ≡ false
-none_passes p [] h = refl
-none_passes p (x ∷ xs) h = ap (λ b. b || list_any p xs) (All-head (λ x. p x ≡ false) x xs h) ∙ none_passes p xs (All-tail (λ x. p x ≡ false) x xs h)
-
 in_range : (chunks nodes : ℕ) (h : Hop) → is_hop_below chunks nodes h ≡ true → (h.chunk < chunks) × (h.to < nodes)
 in_range chunks nodes h below =
     let first = and_parts (ltb h.chunk chunks) (ltb h.from nodes && ltb h.to nodes) below in
@@ -81,14 +69,6 @@ pub record HasReceived (chunks nodes : ℕ) (table : PlacementValue) (sends : Li
   pub nodes_are : table.nodes ≡ nodes
   pub has : (pair : ℕ × ℕ) → pair.0 < chunks → pair.1 < nodes → holds table pair ≡ list_any (λ h. same_pair (to_pair h) pair) sends
   pub once : Once sends
-
-pub nothing_received : (chunks nodes : ℕ) (table : PlacementValue) → table ≡ empty_placement chunks nodes → HasReceived chunks nodes table []
-nothing_received chunks nodes table is = record {
-  chunks_are = ap (λ (t : PlacementValue). t.chunks) is;
-  nodes_are = ap (λ (t : PlacementValue). t.nodes) is;
-  has = λ pair chunk node. ap (λ t. holds t pair) is;
-  once = λ i j d less low. absurd (omega (arith, low));
-}
 
 pub received_more : (chunks nodes : ℕ) (before table : PlacementValue) (sends : List Hop) (i : ℕ) (d : Hop) → i < length sends → is_hop_below chunks nodes (get_or sends i d) ≡ true
     → HasReceived chunks nodes before (take i sends) → holds before (to_pair (get_or sends i d)) ≡ false → table ≡ with_pair before (to_pair (get_or sends i d)) → HasReceived chunks nodes table (take (i + 1) sends)
@@ -115,7 +95,7 @@ received_twice chunks nodes table sends i d low below has twice once =
     let h = get_or sends i d in
     let at = in_range chunks nodes h below in
     let none : list_any (λ o. same_pair (to_pair o) (to_pair h)) (take i sends) ≡ false =
-    none_passes (λ o. same_pair (to_pair o) (to_pair h)) (take i sends) (λ k e few.
+    list_any_none (λ o. same_pair (to_pair o) (to_pair h)) (take i sends) (λ k e few.
     let less : k < i = omega (arith, few, length-take i sends) in
     ap (λ o. same_pair (to_pair o) (to_pair h)) (get_or-take i sends k e less ∙ get_or_default sends k e d (omega (arith, less, low))) ∙ once k i d less low) in
     false≢true (sym none ∙ sym (has.has (to_pair h) at.0 at.1) ∙ twice)

@@ -46,7 +46,7 @@ impl Group {
         self.width
     }
 
-    /// The group with each link turned round in its place. The only error is want of memory.
+    /// The group with each link turned round in its place. The only error is `OutOfMemory`.
     #[tactic(auto, using(crate::proofs::Turned::pushes_mapped, crate::proofs::Turned::turned_group))]
     pub(crate) fn reversed(&self) -> Result<Group, OutOfMemory>
         ensures { IfOk result (λ g. g ≡ reversed_group self.now) }

@@ -18,7 +18,7 @@ use crate::verdict::Verdict;
 use std::alloc::Global;
 
 /// Whether the schedule brings each pair of `post` from `pre` within the bandwidth, and if not, what fails first: the
-/// links of the sends, the bandwidth of the groups, or the pairs that are demanded. The only error is want of memory.
+/// links of the sends, the bandwidth of the groups, or the pairs that are demanded. The only error is `OutOfMemory`.
 pub fn solves(
     alloc: Global,
     topology: &Topology,

@@ -26,7 +26,7 @@ impl Model for Placement {
 }
 
 impl Placement {
-    /// The placement of no pair, for so many chunks and nodes. The only error is want of memory.
+    /// The placement of no pair, for so many chunks and nodes. The only error is `OutOfMemory`.
     pub fn empty(alloc: Global, chunks: u16, nodes: u8) -> Result<Placement, OutOfMemory>
         ensures { IfOk result (λ p. p ≡ empty_placement chunks nodes) }
     {

@@ -50,7 +50,7 @@ impl Topology {
     }
 
     /// The usable links, each once, ascending by the node that they leave and then the one that they enter. The only error
-    /// is want of memory.
+    /// is `OutOfMemory`.
     #[tactic(auto, using(crate::proofs::Usable::marked_usable))]
     pub fn links(&self) -> Result<Vec<(u8, u8)>, OutOfMemory>
         ensures { IfOk result (λ links. links.items ≡ usable_links self.now) }
@@ -58,7 +58,7 @@ impl Topology {
         LinkTable::usable(self).between(*self.groups.allocator(), self.nodes)
     }
 
-    /// The topology with each link turned round in its place. The only error is want of memory.
+    /// The topology with each link turned round in its place. The only error is `OutOfMemory`.
     #[tactic(auto, using(crate::proofs::Turned::pushes_mapped, crate::proofs::Turned::turned_topology))]
     pub fn reversed(&self) -> Result<Topology, OutOfMemory>
         ensures { IfOk result (λ t. t ≡ reversed_of self.now) }

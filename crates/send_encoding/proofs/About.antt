@@ -1,5 +1,5 @@
 -- The literals of arrivals and sends are about their own variables.
-use Rattle.std.proofs.Common.{ℕ, ◌+◌, ◌-◌, ◌*◌, ◌<◌, ◌≤◌, Bool, true, false, List, [], ◌∷◌, ◌++◌, length, map, get_or, arith}
+use Rattle.std.proofs.Common.{ℕ, ◌+◌, ◌-◌, ◌*◌, ◌<◌, ◌≤◌, Bool, true, false, List, [], ◌∷◌, ◌++◌, length, map, arith}
 use Rattle.std.specs.Prelude.{if◌then◌else◌, flat_map, filter, All}
 use Rattle.std.proofs.lemmas.List.Elements.{All-nil, All-cons, All-head, All-tail, All-append, All-filter}
 use Rattle.schedule.specs.Placed.{PlacementValue, holds}
@@ -10,6 +10,7 @@ use Rattle.cardinality.specs.Counting.{at_most_one_of}
 use Rattle.send_encoding.specs.Variables.{SendMapValue, chunks_of, steps_of, pairs_of, numbered_links, links_into, arrival, arrivals, sent, sends}
 use Rattle.send_encoding.specs.Sending.{at_start, keeps, at_end, send_over, sends_arrive, sends_into, arrives_by_sends, arrives_once, sending}
 use Rattle.send_encoding.proofs.Everywhere.{by_recursion, in_map, in_flat, From, in_range, Numbered, in_numbers, slot}
+use Rattle.send_encoding.specs.Moving.{JoinsNodes}
 
 -- ---- clauses of a few literals
 
@@ -25,15 +26,6 @@ two v l k a b = All-cons (IsAbout v) l (k ∷ []) a (one v k b)
 pub only_clause : (v : ℕ) (c : List LitValue) → IsClause v c → All (IsClause v) (c ∷ [])
 only_clause v c a = All-cons (IsClause v) c [] a (All-nil (IsClause v))
 
-pub wider : (v w : ℕ) (l : LitValue) → v ≤ w → IsAbout v l → IsAbout w l
-wider v w l le a = record { some = a.some; within = omega (arith, le, a.within) }
-
-pub wider_clause : (v w : ℕ) (c : List LitValue) → v ≤ w → IsClause v c → IsClause w c
-wider_clause v w c le a = λ k d h. wider v w (get_or c k d) le (a k d h)
-
-pub wider_clauses : (v w : ℕ) (cs : List (List LitValue)) → v ≤ w → All (IsClause v) cs → All (IsClause w) cs
-wider_clauses v w cs le a = λ k d h. wider_clause v w (get_or cs k d) le (a k d h)
-
 pairs_about : (v : ℕ) (ls : List LitValue) → IsClause v ls → All (IsClause v) (at_most_one_of ls)
 pairs_about v [] a = All-nil (IsClause v)
 pairs_about v (l ∷ ls) a =
@@ -47,9 +39,6 @@ pairs_about v (l ∷ ls) a =
 
 abbrev pub InGrid : SendMapValue → ℕ × ℕ → Type 0
 InGrid m pair = (pair.0 < m.chunks) × (pair.1 < m.nodes)
-
-abbrev pub JoinsNodes : SendMapValue → ℕ × ℕ → Type 0
-JoinsNodes m link = (link.0 < m.nodes) × (link.1 < m.nodes)
 
 abbrev pub IsStepOf : SendMapValue → ℕ → Type 0
 IsStepOf m s = From 1 m.steps s

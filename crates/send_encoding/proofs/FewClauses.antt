@@ -17,7 +17,7 @@ use Rattle.send_encoding.specs.Variables.{SendMapValue, map_of, chunks_of, steps
 use Rattle.send_encoding.specs.Sending.{at_start, keeps, at_end, send_over, sends_arrive, sends_into, node_arrives, arrives_by_sends, arrives_once, sending}
 use Rattle.send_encoding.specs.Parts.{node_keeps, node_once}
 use Rattle.send_encoding.proofs.Entering.{few_enter}
-use Rattle.send_encoding.proofs.Mapped.{rows}
+use Rattle.send_encoding.proofs.Grid.{rows_length}
 
 six_lists : {X : Type 0} (a b c d e f : List X) → length (a ++ b ++ c ++ d ++ e ++ f) ≡ length a + length b + length c + length d + length e + length f
 six_lists a b c d e f =
@@ -33,7 +33,7 @@ module _ (m : SendMapValue) where
   cells = m.chunks * m.nodes
 
   all_cells : length (pairs_of m) ≡ cells
-  all_cells = rows (λ c. map (λ n. (c, n)) (range_with_len 0 m.nodes)) m.nodes 0 m.chunks (λ c. length-map-range_with_len (λ n. (c, n)) 0 m.nodes)
+  all_cells = rows_length (λ c. map (λ n. (c, n)) (range_with_len 0 m.nodes)) m.nodes 0 m.chunks (λ c. length-map-range_with_len (λ n. (c, n)) 0 m.nodes)
 
   all_steps : length (steps_of m) ≡ m.steps
   all_steps = length-range_with_len 1 m.steps

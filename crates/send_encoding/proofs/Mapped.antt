@@ -1,6 +1,6 @@
 -- The links of a topology make a map of arrivals and sends.
-use Rattle.std.proofs.Common.{◌≡◌, ℕ, zero, suc, ◌+◌, ◌*◌, ◌<◌, ◌≤◌, Bool, true, false, cond, List, [], ◌∷◌, map, length, ◌∙◌, arith, length-append}
-use Rattle.std.specs.Prelude.{flat_map, filter, All}
+use Rattle.std.proofs.Common.{◌≡◌, ℕ, suc, ◌+◌, ◌*◌, ◌<◌, ◌≤◌, Bool, true, false, cond, List, [], ◌∷◌, map, length, arith}
+use Rattle.std.specs.Prelude.{filter, All}
 use Rattle.std.specs.List.{range_with_len}
 use Rattle.std.proofs.lemmas.List.Elements.{All-filter}
 use Rattle.std.proofs.lemmas.List.FromFn.{length-map-range_with_len}
@@ -10,7 +10,8 @@ use Rattle.schedule.specs.Placed.{PlacementValue, all_pairs, empty_placement}
 use Rattle.schedule.proofs.Placing.{all_below}
 use Rattle.send_encoding.specs.Variables.{map_of, IsSendMap, arrivals, sends}
 use Rattle.send_encoding.proofs.Everywhere.{by_recursion}
-use Rattle.send_encoding.proofs.About.{JoinsNodes}
+use Rattle.send_encoding.proofs.Grid.{rows_length}
+use Rattle.send_encoding.specs.Moving.{JoinsNodes}
 
 fewer : {X : Type 0} (p : X → Bool) (xs : List X) → length (filter p xs) ≤ length xs
 fewer p [] = omega arith
@@ -19,10 +20,6 @@ fewer {X = X} p (x ∷ xs) = go (p x) (fewer p xs)
     go : (b : Bool) → length (filter p xs) ≤ length xs → length (cond b (x ∷ filter p xs) (filter p xs)) ≤ suc (length xs)
     go true le = omega (arith, le)
     go false le = omega (arith, le)
-
-pub rows : {X : Type 0} (g : ℕ → List X) (m a n : ℕ) → ((j : ℕ) → length (g j) ≡ m) → length (flat_map g (range_with_len a n)) ≡ n * m
-rows g m a zero h = omega arith
-rows g m a (suc n) h = length-append (g a) (flat_map g (range_with_len (a + 1) n)) ∙ omega (arith, h a, rows g m (a + 1) n h)
 
 square : (n : ℕ) → n ≤ 16 → n * n ≤ 256
 square n le =
@@ -36,7 +33,7 @@ pub links_make_map : (t : TopologyValue) (chunks steps : ℕ) (links : List (ℕ
     → arrivals (record { chunks = chunks; nodes = t.nodes; links = usable_links t; steps = steps }) + sends (record { chunks = chunks; nodes = t.nodes; links = usable_links t; steps = steps }) < 2097152 → steps ≤ 255
     → IsSendMap (record { chunks = chunks; nodes = t.nodes; links = usable_links t; steps = steps })
 links_make_map t chunks steps links ok is few short =
-    let all : length (all_pairs t.nodes t.nodes) ≡ t.nodes * t.nodes = rows (λ c. map (λ n. (c, n)) (range_with_len 0 t.nodes)) t.nodes 0 t.nodes (λ c. length-map-range_with_len (λ n. (c, n)) 0 t.nodes) in
+    let all : length (all_pairs t.nodes t.nodes) ≡ t.nodes * t.nodes = rows_length (λ c. map (λ n. (c, n)) (range_with_len 0 t.nodes)) t.nodes 0 t.nodes (λ c. length-map-range_with_len (λ n. (c, n)) 0 t.nodes) in
     record {
       links = λ k d h. let at = links_join t (empty_placement 0 t.nodes) steps k d h in record { from = at.0; to = at.1 };
       many = omega (arith, fewer (is_usable t) (all_pairs t.nodes t.nodes), all, square t.nodes ok.few);

@@ -1,5 +1,5 @@
 -- Where the tables move chunks, the clauses of arrivals and sends hold.
-use Rattle.std.proofs.Common.{◌≡◌, ℕ, zero, suc, ◌+◌, ◌-◌, ◌<◌, ◌≤◌, Bool, true, false, cond, List, [], ◌∷◌, ◌++◌, map, length, get_or, refl, sym, ap, ◌∙◌, ⊎_elim, arith}
+use Rattle.std.proofs.Common.{◌≡◌, ℕ, zero, ◌+◌, ◌-◌, ◌<◌, ◌≤◌, Bool, true, false, cond, List, [], ◌∷◌, ◌++◌, map, length, get_or, refl, sym, ap, ◌∙◌, ⊎_elim, arith}
 use Rattle.std.specs.Prelude.{◌||◌, if◌then◌else◌, flat_map, filter, count_by, All}
 use Rattle.std.specs.List.{list_any, list_all}
 use Rattle.std.proofs.lemmas.Bool.{and_from, or_left, or_right, cases_Bool, not_from_false}
@@ -7,6 +7,7 @@ use Rattle.std.proofs.lemmas.List.Elements.{All-cons, All-head, All-tail, All-fi
 use Rattle.std.proofs.lemmas.List.Folds.{list_all-append}
 use Rattle.std.proofs.lemmas.List.Sums.{sum_by-cons}
 use Rattle.std.proofs.lemmas.List.FromFn.{length-enumerate_from, get_or-enumerate_from}
+use Rattle.std.proofs.lemmas.List.{get_or_default}
 use Rattle.schedule.specs.Placed.{PlacementValue, holds}
 use Rattle.schedule.specs.Sends.{IsStep}
 use Rattle.schedule.proofs.Placing.{all_below}
@@ -17,13 +18,8 @@ use Rattle.cardinality.proofs.Pairs.{pairs_decide}
 use Rattle.send_encoding.specs.Variables.{SendMapValue, chunks_of, steps_of, pairs_of, numbered_links, links_into, arrival, sent}
 use Rattle.send_encoding.specs.Sending.{at_start, keeps, at_end, send_over, sends_arrive, sends_into, node_arrives, arrives_by_sends, arrives_once, sending}
 use Rattle.send_encoding.proofs.Everywhere.{by_recursion, From, in_range, in_numbers}
-use Rattle.send_encoding.proofs.About.{InGrid, JoinsNodes, IsStepOf}
-use Rattle.send_encoding.specs.Moving.{IsLinkOf, Moves}
-
-get_or_any : {X : Type 0} (xs : List X) (k : ℕ) (d e : X) → k < length xs → get_or xs k d ≡ get_or xs k e
-get_or_any [] k d e h = absurd (omega (arith, h))
-get_or_any (x ∷ xs) zero d e h = refl
-get_or_any (x ∷ xs) (suc k) d e h = get_or_any xs k d e (omega (arith, h))
+use Rattle.send_encoding.proofs.About.{InGrid, IsStepOf}
+use Rattle.send_encoding.specs.Moving.{IsLinkOf, Moves, JoinsNodes}
 
 pub numbered_are : (m : SendMapValue) → All (JoinsNodes m) m.links → All (IsLinkOf m) (numbered_links m)
 numbered_are m links = λ k d h.
@@ -32,7 +28,7 @@ numbered_are m links = λ k d h.
     let at : get_or (numbered_links m) k d ≡ (0 + k, get_or m.links k d.1) = get_or-enumerate_from 0 m.links k d low in
     let zero : 0 + k ≡ k = omega arith in
     let number : (get_or (numbered_links m) k d).0 ≡ k = ap (λ w. w.0) at ∙ zero in
-    let same : get_or m.links k d.1 ≡ get_or m.links k (0, 0) = get_or_any m.links k d.1 (0, 0) low in
+    let same : get_or m.links k d.1 ≡ get_or m.links k (0, 0) = get_or_default m.links k d.1 (0, 0) low in
     record { number = z.0; from = z.1.0; to = z.1.1; is = ap (λ w. w.1) at ∙ same ∙ ap (λ n. get_or m.links n (0, 0)) (sym number) }
 
 -- ---- clauses, everywhere

@@ -37,9 +37,6 @@ at_range P a n k all low high =
     let is : get_or (range_with_len a n) (k - a) 0 ≡ k = get_or-range_with_len a n (k - a) 0 few ∙ omega (arith, low) in
     subst P is (all (k - a) 0 (omega (arith, few, length-range_with_len a n)))
 
-every : {X : Type 0} (P : X → Type 0) (xs : List X) → ((x : X) → P x) → All P xs
-every P xs h = λ k d low. h (get_or xs k d)
-
 module _ (values : List Bool) where
   pub said_one : (l : LitValue) → clause_holds values (l ∷ []) ≡ true → is_true values l ≡ true
   said_one l h = ⊎_elim (λ t. t) (λ f. absurd (false≢true f)) (or_cases (is_true values l) false h)

@@ -46,14 +46,6 @@ pub bind_err : {A B C : Type 0} (r : Result A C) (f : A → Result B C) (e : C) 
 bind_err (Ok x) f e h = inr (x, refl, h)
 bind_err (Err c) f e h = let same : c ≡ e = cc in inl (ap (λ z. Err z) same)
 
-pub refuse_err : {B C : Type 0} (b : Bool) (code : C) (f : Unit {0} → Result B C) (e : C) → (refuse b code >>= f) ≡ Err e → ((b ≡ true) × (code ≡ e)) ⊎ ((b ≡ false) × (f tt ≡ Err e))
-refuse_err true code f e h = let same : code ≡ e = cc in inl (refl, same)
-refuse_err false code f e h = inr (refl, h)
-
-pub need_err : {A B C : Type 0} (o : Option A) (code : C) (f : A → Result B C) (e : C) → (need o code >>= f) ≡ Err e → ((o ≡ None) × (code ≡ e)) ⊎ ((x : A) × (o ≡ Some x) × (f x ≡ Err e))
-need_err None code f e h = let same : code ≡ e = cc in inl (refl, same)
-need_err (Some x) code f e h = inr (x, refl, h)
-
 -- the fault of a line's check is at that line
 pub line_err : {A C : Type 0} (n : ℕ) (r : Result A C) (e : C × ℕ) → at_line n r ≡ Err e → (r ≡ Err e.0) × (e.1 ≡ n)
 line_err n (Ok x) e h = absurd (cc)

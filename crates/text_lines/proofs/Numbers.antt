@@ -1,6 +1,6 @@
 -- Which numbers a token spells.
-use Rattle.std.proofs.Common.{◌≡◌, ◌≢◌, ℕ, ◌+◌, ◌-◌, ◌*◌, ◌^◌, ◌<◌, ◌≤◌, Bool, true, false, ◌&&◌, ◌⊎◌, cond, leb, List, length, get_or, take, Option, None, Some, refl, sym, ap, ◌∙◌, inl, inr, arith}
-use Rattle.std.specs.Prelude.{decimal, bytes_eq, IfSome, IfNone}
+use Rattle.std.proofs.Common.{◌≡◌, ◌≢◌, ℕ, ◌+◌, ◌-◌, ◌*◌, ◌^◌, ◌<◌, ◌≤◌, Bool, true, false, ◌&&◌, ◌⊎◌, cond, leb, List, length, get_or, take, None, Some, refl, sym, ap, ◌∙◌, inl, inr, arith}
+use Rattle.std.specs.Prelude.{decimal, bytes_eq}
 use Rattle.std.specs.Char.{digit_value}
 use Rattle.std.specs.Int.{IsInRange}
 use Rattle.std.specs.Str.Parse.{AllDigits, digits_value}
@@ -27,20 +27,6 @@ zero_not token n small long lead e = by_size (cases_lt 0 n)
     by_size : (0 < n) ⊎ (n ≤ 0) → ⊥
     by_size (inl some) = omega (arith, first_decimal n some small, ap (λ t. get_or t 0 0) e)
     by_size (inr none) = omega (arith, ap length (decimal_digit n (omega arith)), ap length e)
-
-pub other_not : (token : List ℕ) (i n : ℕ) → n < 2 ^ 64 → i < length token → (48 ≤ get_or token i 0 → get_or token i 0 ≤ 57 → ⊥) → token ≢ decimal n
-other_not token i n small h other e =
-    let digit = digit_at (decimal n) i (decimal_is_IsNumeral n small).0.1 (omega (arith, ap length e)) in
-    let byte : get_or token i 0 ≡ get_or (decimal n) i 0 = ap (λ t. get_or t i 0) e in
-    other (omega arith) (omega arith)
-
-pub large_not : (token : List ℕ) (i value n : ℕ) → n < 2 ^ 64 → i < length token → value ≡ digits_value 10 (take i token) → 48 ≤ get_or token i 0 → get_or token i 0 ≤ 57 → 2 ^ 64 ≤ value * 10 + (get_or token i 0 - 48) → token ≢ decimal n
-large_not token i value n small h read low high large e =
-    let more = digits_value_more 10 token i h in
-    let digit = digit_is (get_or token i 0) low high in
-    let part = digits_value-take-le 10 token (i + 1) (omega arith) in
-    let all : digits_value 10 token ≡ n = ap (digits_value 10) e ∙ value_of_decimal n small in
-    omega arith
 
 -- the next byte is no digit, or the number with it doesn't fit
 pub next_not : (token : List ℕ) (i value byte n : ℕ) → i < length token → value ≡ digits_value 10 (take i token) → byte ≡ get_or token i 0 → (digit_value byte < 10 → 2 ^ 64 ≤ value * 10 + digit_value byte) → n < 2 ^ 64 → token ≢ decimal n
@@ -87,10 +73,6 @@ up_to_larger greatest n token spelled small larger = up_to_none greatest token (
 
 pub up_to_absent : (greatest : ℕ) (token : List ℕ) → greatest < 2 ^ 64 → ((n : ℕ) → n < 2 ^ 64 → token ≢ decimal n) → number_up_to greatest token ≡ None
 up_to_absent greatest token room absent = up_to_none greatest token (λ m fits. absent m (omega arith))
-
-pub number_is : (greatest : ℕ) (token : List ℕ) (r : Option ℕ) → greatest < 2 ^ 64 → IfSome r (λ n. (token ≡ decimal n) × (n ≤ greatest)) → IfNone r ((n : ℕ) → n ≤ greatest → token ≢ decimal n) → r ≡ number_up_to greatest token
-number_is greatest token (Some n) room some none = sym (up_to_some greatest n token room some.0 some.1)
-number_is greatest token None room some none = sym (up_to_none greatest token none)
 
 pub up_to_found : (greatest n : ℕ) (token : List ℕ) → number_up_to greatest token ≡ Some n → (token ≡ decimal n) × (n ≤ greatest)
 up_to_found greatest n token e = by_test (bytes_eq token (decimal (digits_value 10 token))) (leb (digits_value 10 token) greatest) refl refl e

@@ -13,13 +13,14 @@ use Rattle.std.proofs.lemmas.List.Kept.{AllPairs-filter}
 use Rattle.std.proofs.lemmas.List.Sums.{AllPass-from_list_all}
 use Rattle.std.proofs.lemmas.Fmt.{decimal_injective}
 use Rattle.text_lines.proofs.Distinct.{AreDistinct}
-use Rattle.schedule.specs.Links.{GroupValue, IsLink, IsBelow, IsGroup, IsTopology}
+use Rattle.schedule.specs.Links.{IsLink, IsBelow, IsGroup, IsTopology}
 use Rattle.topology_text.specs.declared.family_kind.FamilyKind.{FamilyKind}
 use Rattle.topology_text.specs.declared.family_kind.FamilyKind.TheVariants.{Line, Ring, Complete, Cube, Shared}
 use Rattle.topology_text.specs.Names.{is_name, name_of, AreNames}
 use Rattle.topology_text.specs.Value.{IsNamed}
 use Rattle.topology_text.proofs.Front.{name_of_name}
 use Rattle.topology_text.specs.Family.{is_allowed, is_family_link, pairs, family_links, one_wide, single, family_groups, numbered_name}
+use Rattle.topology_text.proofs.Groups.{Groups}
 
 -- ---- sizes
 
@@ -233,19 +234,14 @@ shared_is_group size ok =
 
 -- ---- the family
 
-pub record FamilyGroups (size : ℕ) (groups : List GroupValue) : Type 0 where
-  pub few : length groups ≤ 256
-  pub each : All IsGroup groups
-  pub below : All (λ g. All (IsBelow size) g.links) groups
-
-singles : (size : ℕ) (links : List (ℕ × ℕ)) → FamilyLinks size links → FamilyGroups size (map single links)
+singles : (size : ℕ) (links : List (ℕ × ℕ)) → FamilyLinks size links → Groups size (map single links)
 singles size links ok = record {
   few = omega (arith, length-map links single, ok.few);
   each = All-map IsGroup single links (All-weaker IsLink (λ l. IsGroup (single l)) single_is_group links ok.each);
   below = All-map (λ g. All (IsBelow size) g.links) single links (All-weaker (IsBelow size) (λ l. All (IsBelow size) (l ∷ [])) (λ l h. All-cons (IsBelow size) l [] h (All-nil (IsBelow size))) links ok.below);
 }
 
-pub family_groups_are : (kind : FamilyKind) (size : ℕ) → is_allowed kind size ≡ true → FamilyGroups size (family_groups kind size)
+pub family_groups_are : (kind : FamilyKind) (size : ℕ) → is_allowed kind size ≡ true → Groups size (family_groups kind size)
 family_groups_are Line size ok = singles size (family_links Line size) (family_links_are Line size ok)
 family_groups_are Ring size ok = singles size (family_links Ring size) (family_links_are Ring size ok)
 family_groups_are Complete size ok = singles size (family_links Complete size) (family_links_are Complete size ok)

@@ -7,6 +7,7 @@ use Rattle.std.proofs.lemmas.List.Elements.{filter-append}
 use Rattle.std.proofs.lemmas.List.Folds.{list_any-append}
 use Rattle.schedule.specs.Placed.{PlacementValue, same_pair, holds, IsPlacement}
 use Rattle.topology_text.specs.Reading.{row_of_pairs}
+use Rattle.topology_text.proofs.Inserted.{among}
 
 -- ---- numbers that ascend
 
@@ -173,9 +174,6 @@ row_before g (n ∷ ns) = (omega arith, row_before g ns)
 before_append : (g : ℕ) (pairs more : List (ℕ × ℕ)) → Before g pairs → Before (g + 1) more → Before (g + 1) (pairs ++ more)
 before_append g [] more ok later = later
 before_append g (pair ∷ pairs) more ok later = (omega (arith, ok.0), before_append g pairs more ok.1 later)
-
-abbrev among : List (ℕ × ℕ) → ℕ × ℕ → Bool
-among pairs pair = list_any (same_pair pair) pairs
 
 pairs_fit : (done : List (ℕ × ℕ)) (g : ℕ) (rows : List (List ℕ)) → Before g done → Fits (among (done ++ pairs_from g rows)) g rows
 pairs_fit done g [] ok = tt

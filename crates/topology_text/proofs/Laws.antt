@@ -178,7 +178,7 @@ groups_are_words names (g ∷ groups) ok valid below = (
   groups_are_words names groups ok (All-tail IsGroup g groups valid) (All-tail (λ x. All (IsBelow (length names)) x.links) g groups below),
 )
 
-both_are_words : (xs ys : List (List (List ℕ))) → AllByRecursion AreTokens xs → AllByRecursion AreTokens ys → AllByRecursion AreTokens (xs ++ ys)
+pub both_are_words : (xs ys : List (List (List ℕ))) → AllByRecursion AreTokens xs → AllByRecursion AreTokens ys → AllByRecursion AreTokens (xs ++ ys)
 both_are_words [] ys one two = two
 both_are_words (x ∷ xs) ys one two = (one.0, both_are_words xs ys one.1 two)
 

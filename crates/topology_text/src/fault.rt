@@ -60,7 +60,7 @@ impl TopologyCode {
     }
 }
 
-/// The first check that failed, and the number of its line, from 1. Want of memory has line 0.
+/// The first check that failed, and the number of its line, from 1. Out of memory has line 0.
 #[derive(Clone, Copy, Debug, PartialEq, Eq)]
 pub struct TopologyFault {
     pub code: TopologyCode,

@@ -1,4 +1,4 @@
--- What a scan of the clauses that watch a literal does to rows and trail.
+-- What a scan of the clauses that watch a literal does to rows and trail (unit propagation).
 use Rattle.std.specs.Prelude.{◌≡◌, ◌⊎◌, ℕ, ◌<◌, List, [], ◌∷◌, ◌++◌, Some, Contains, length, get_or, map}
 use Rattle.cnf_formula.specs.Literals.{LitValue, code_of}
 use Rattle.trail_core.specs.Assigned.{IsFalse, IsOpen}

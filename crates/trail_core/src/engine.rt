@@ -1,4 +1,4 @@
-//! The core of a search: clauses, a trail, and unit propagation by two watched literals.
+//! The core of a search (CDCL): clauses, a trail with decision levels, and unit propagation by two watched literals.
 
 ghost use Rattle.std.specs.Prelude.{◌≡◌, ◌≢◌, ◌↔◌, ◌⊎◌, ℕ, ◌+◌, ◌*◌, ◌<◌, ◌≤◌, IsTrue, List, [], ◌∷◌, ◌++◌, Option, Some, None, IfSome, MatchOption, length, get_or, map, slice_index, Contains, All, AllPairs, IfOk, OnErr, take};
 ghost use Rattle.cnf_formula.specs.Literals.{LitValue, negation};
@@ -44,7 +44,8 @@ impl ClauseId {
     }
 }
 
-/// Clauses and a trail.
+/// The clause database and the trail (the assignment with its decision levels and reasons) of a CDCL solver. Which two literals
+/// each clause watches is no part of its value.
 #[derive(Drop)]
 pub struct Core {
     store: ClauseStore,
@@ -100,7 +101,7 @@ impl Core {
         self.store.len()
     }
 
-    /// The value of a literal, or none where it is open.
+    /// The value of a literal, or none where it is open, that is unassigned.
     pub fn value(&self, lit: Lit) -> Option<bool>
         requires { lit.var ≤ self.now.vars }
         ensures { IsValue (trues self.now) lit result }
@@ -121,14 +122,14 @@ impl Core {
         self.trail.lits()
     }
 
-    /// The present level.
+    /// The present decision level; 0 is that of no decision.
     pub fn depth(&self) -> u32
         ensures { result ≡ length self.now.limits }
     {
         self.trail.depth()
     }
 
-    /// How many literals stay true where all above a level is taken back.
+    /// How many literals stay true after a backjump to a level, where all above it is taken back.
     pub fn height(&self, level: u32) -> usize
         requires { level ≤ length self.now.limits }
         ensures below { level < length self.now.limits → result ≡ slice_index self.now.limits level }
@@ -137,7 +138,7 @@ impl Core {
         self.trail.height(level)
     }
 
-    /// The level of a true literal.
+    /// The decision level of a true literal.
     pub fn level(&self, lit: Lit) -> u32
         requires { Contains (trues self.now) lit }
         ensures { (k : ℕ) → k < length self.now.trail → get_or (trues self.now) k lit ≡ lit → result ≡ level_at self.now.limits k }
@@ -145,7 +146,7 @@ impl Core {
         self.trail.level(lit)
     }
 
-    /// The clause that made a true literal so; none for a decision.
+    /// The clause that made a true literal so (its reason, or antecedent in the implication graph); none for a decision.
     pub fn reason(&self, lit: Lit) -> Option<ClauseId>
         requires { Contains (trues self.now) lit }
         ensures { Contains self.now.trail (record { lit = lit; reason = result }) }
@@ -156,8 +157,8 @@ impl Core {
         }
     }
 
-    /// Makes each literal true that a clause leaves alone, one after another. Some clause is then falsified, which is
-    /// named, or else the trail is closed.
+    /// Unit propagation: makes each literal true that a clause leaves alone, one after another. Some clause is then falsified
+    /// (the conflict), which is named, or else the trail is closed.
     pub fn propagate(&mut self) -> Option<ClauseId>
         ensures same { self.new ≡ record self.old { trail = self.new.trail } }
         ensures implied { Implied self.old.clauses (IsDue self.old.limits) self.old.trail self.new.trail }
@@ -177,7 +178,7 @@ impl Core {
         }
     }
 
-    /// Opens a level, on which an open literal is the first that is true.
+    /// Decides a literal: opens a decision level, on which an open literal is the first that is true.
     pub fn assume(&mut self, lit: Lit)
         requires within { lit.var ≤ self.old.vars }
         requires open { IsOpen (trues self.old) lit }
@@ -194,7 +195,7 @@ impl Core {
         self.trail.decide(lit);
     }
 
-    /// Makes an open literal true on the present level, by a clause that leaves it alone.
+    /// Makes an open literal true on the present level, by a clause that leaves it alone (a unit clause).
     pub fn assert(&mut self, lit: Lit, reason: ClauseId)
         requires known { reason < length self.old.clauses }
         requires alone { IsUnit (trues self.old) (get_or self.old.clauses reason []) lit }
@@ -204,7 +205,7 @@ impl Core {
         self.trail.push(lit, Some(reason.number));
     }
 
-    /// Takes back all that became true above a level.
+    /// Backjumps to a level: takes back all that became true above it.
     pub fn back_to(&mut self, level: u32)
         requires { level ≤ length self.old.limits }
         ensures same { level ≡ length self.old.limits → self.new ≡ self.old }
@@ -238,7 +239,8 @@ impl Core {
     }
 
     /// Adds a clause with no literal twice, above level 0, and makes true the one of its literals that is open; the others are
-    /// false, and one of these became false on the present level. `Err` is as for `add_clause`.
+    /// false, and one of these became false on the present level. That is how a clause that was learned from a conflict stands
+    /// after the backjump, with the negation of the UIP open. `Err` is as for `add_clause`.
     pub fn learn(&mut self, lits: &[Lit], lit: Lit) -> Result<ClauseId, AllocError>
         requires within { All (IsAbout self.old.vars) lits.now }
         requires once { AllPairs (λ a b. a ≢ b) lits.now }

@@ -1,4 +1,4 @@
-//! For each literal the list of the clauses that watch it.
+//! For each literal the list of the clauses that watch it (two watched literals: Moskewicz, Madigan, Zhao, Zhang and Malik 2001).
 
 ghost use Rattle.std.specs.Prelude.{◌-◌, ◌≡◌, ◌↔◌, ℕ, ◌+◌, ◌*◌, ◌<◌, ◌≤◌, IsTrue, List, [], ◌∷◌, ◌++◌, Option, length, get_or, slice_set, slice_index, swap_remove, Contains, IfOk, OnErr, OnOk, IsOk};
 ghost use Rattle.cnf_formula.specs.Literals.{LitValue, negation, code_of};

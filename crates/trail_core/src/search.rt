@@ -1,4 +1,4 @@
-//! Unit propagation over the clauses that watch one literal.
+//! Unit propagation by two watched literals, over the clauses that watch a literal which became false.
 
 ghost use Rattle.std.specs.Prelude.{false, ◌≡◌, ◌≢◌, ◌↔◌, ◌⊎◌, ℕ, ◌+◌, ◌*◌, ◌<◌, ◌≤◌, IsTrue, List, [], ◌∷◌, ◌++◌, Option, Some, None, IfSome, MatchOption, length, get_or, map, slice_index, Contains, All};
 ghost use Rattle.cnf_formula.specs.Literals.{LitValue, negation, code_of};

@@ -1,4 +1,4 @@
-//! The trail: the literals that are true, in the order in which they became so.
+//! The trail: the literals that are true, in the order in which they became so, with the decision level and the reason of each.
 
 ghost use Rattle.std.specs.Prelude.{◌≢◌, ◌≡◌, ◌↔◌, ◌⊎◌, ℕ, ◌+◌, ◌<◌, ◌≤◌, IsTrue, true, List, [], ◌∷◌, ◌++◌, Option, Some, None, length, take, get_or, slice_index, Contains, IfOk};
 ghost use Rattle.cnf_formula.specs.Literals.{LitValue, negation};
@@ -123,14 +123,14 @@ impl Trail {
         self.lits[place]
     }
 
-    /// The present level.
+    /// The present decision level.
     pub fn depth(&self) -> u32
         ensures { result ≡ length self.now.limits }
     {
         self.limits.len() as u32
     }
 
-    /// How many literals stay true where all above a level is taken back.
+    /// How many literals stay true after a backjump to a level, where all above it is taken back.
     pub fn height(&self, level: u32) -> usize
         requires { level ≤ length self.now.limits }
         ensures below { level < length self.now.limits → result ≡ slice_index self.now.limits level }
@@ -159,7 +159,7 @@ impl Trail {
         }
     }
 
-    /// The level of a true literal.
+    /// The decision level of a true literal.
     pub fn level(&self, lit: Lit) -> u32
         requires { Contains (lits_of self.now.steps) lit }
         ensures { (k : ℕ) → k < length self.now.steps → get_or (lits_of self.now.steps) k lit ≡ lit → result ≡ level_at self.now.limits k }
@@ -167,7 +167,7 @@ impl Trail {
         self.levels[lit.var() as usize]
     }
 
-    /// The clause that made a true literal so; none for a decision.
+    /// The clause that made a true literal so, its reason; none for a decision.
     pub fn reason(&self, lit: Lit) -> Option<u32>
         requires { Contains (lits_of self.now.steps) lit }
         ensures { Contains self.now.steps (record { lit = lit; reason = result }) }
@@ -188,7 +188,7 @@ impl Trail {
         self.lits.push_reserved(lit);
     }
 
-    /// Opens a level, on which an open literal is the first that is true.
+    /// Decides a literal: opens a decision level, on which an open literal is the first that is true.
     pub fn decide(&mut self, lit: Lit)
         requires within { lit.var ≤ self.old.vars }
         requires open { IsOpen (lits_of self.old.steps) lit }
@@ -202,7 +202,7 @@ impl Trail {
         self.lits.push_reserved(lit);
     }
 
-    /// Takes back all that became true above a level.
+    /// Backjumps to a level: takes back all that became true above it.
     pub fn back_to(&mut self, level: u32)
         requires { level ≤ length self.old.limits }
         ensures limits { AreLimits self.old.limits (length self.old.steps) }

@@ -1,3 +1,4 @@
+mod Counted
 mod Lines
 mod Numbers
 mod Searchable

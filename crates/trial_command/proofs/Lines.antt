@@ -1,11 +1,12 @@
 -- The lines of a trial, one after the other.
-use Rattle.std.proofs.Common.{◌≡◌, ℕ, List, [], ◌∷◌, ◌++◌, codes, decimal, length, refl, ap, ◌∙◌, append_assoc}
+use Rattle.std.proofs.Common.{◌≡◌, ℕ, List, [], ◌∷◌, ◌++◌, codes, decimal, length, refl, ap, ◌∙◌}
 use Rattle.text_lines.specs.Text.{line}
 use Rattle.topology_text.specs.declared.family_kind.FamilyKind.{FamilyKind}
 use Rattle.topology_text.specs.FamilyWords.{family_word}
 use Rattle.report_form.specs.Reports.{ReportValue, WordsValue}
 use Rattle.report_form.specs.Spelling.{synth_words}
 use Rattle.run_rules.specs.Trials.{events_in, points_in, refuted_in, replays_in, trial_family, trial_size, trial_text, unknown_in}
+use Rattle.report_printing.proofs.Pieces.{before}
 
 abbrev pub family_line : FamilyKind → ℕ → List ℕ
 family_line kind size = line (codes "family" ∷ family_word kind ∷ decimal size ∷ [])
@@ -24,10 +25,6 @@ all_lines n names w kind size points refuted unknown joined count events =
 lines_are : (n : ℕ) (r : ReportValue) → all_lines n r.topology.names r.words (trial_family n) (trial_size n) (points_in r) (refuted_in r) (unknown_in r) (length r.joined) (replays_in r) (events_in r) ≡ trial_text n r
 unfolding trial_text
 lines_are n r = refl
-
--- a piece, and all behind it
-before : (a b c x rest : List ℕ) → b ≡ a ++ x → c ≡ b ++ rest → c ≡ a ++ (x ++ rest)
-before a b c x rest first second = second ∙ ap (λ t. t ++ rest) first ∙ append_assoc a x rest
 
 -- what is appended in a row
 module _ (n : ℕ) (names : List (List ℕ)) (w : WordsValue) (kind : FamilyKind) (size points refuted unknown joined count events : ℕ) where

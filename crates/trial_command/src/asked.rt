@@ -69,7 +69,7 @@ pub(crate) fn trial_words(n: u16) -> Words
     Words::new(Collective { kind, root: 0 }, limits)
 }
 
-/// The topology of the search. The only error is want of memory.
+/// The topology of the search. The only error is `OutOfMemory`.
 pub(crate) fn trial_topology(alloc: Global, n: u16) -> Result<NamedTopology, OutOfMemory>
     ensures { IfOk result (λ t. t ≡ trial_topology n) }
 {

@@ -14,14 +14,14 @@ pub(crate) struct Counts {
     pub unknown: u64,
 }
 
-/// The sum of the two. A sum that does not fit is answered as want of memory, since no memory holds so many things.
+/// The sum of the two. A sum that does not fit is answered as out of memory, since no memory holds so many things.
 pub(crate) fn plus(a: u64, b: u64) -> Result<u64, OutOfMemory>
     ensures { IfOk result (λ sum. sum ≡ a + b) }
 {
     a.checked_add(b).ok_or(OutOfMemory)
 }
 
-/// How much was found in all parts. The only error is want of memory.
+/// How much was found in all parts. The only error is `OutOfMemory`.
 pub(crate) fn counts_of(report: &Report) -> Result<Counts, OutOfMemory>
     ensures points { IfOk result (λ counts. counts.points ≡ points_in report.now) }
     ensures refuted { IfOk result (λ counts. counts.refuted ≡ refuted_in report.now) }

@@ -3,11 +3,13 @@
 
 mod asked;
 mod counts;
+mod laws;
 mod replays;
 mod summary;
 mod trial;
 mod vectors;
 
+pub use laws::settled_trials_count_the_same;
 pub use std::alloc::AllocError as OutOfMemory;
 pub use trial::trial_answer;
 pub use vectors::trials;

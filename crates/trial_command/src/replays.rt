@@ -24,7 +24,7 @@ pub(crate) struct Replays {
     pub events: u64,
 }
 
-/// Replays a point in each order, and counts the events. The only error is want of memory.
+/// Replays a point in each order, and counts the events. The only error is `OutOfMemory`.
 fn replay_in_orders(
     alloc: Global,
     report: &Report,
@@ -42,7 +42,7 @@ fn replay_in_orders(
     Ok(events)
 }
 
-/// Replays each point of the report, joined ones too, in each order. The only error is want of memory.
+/// Replays each point of the report, joined ones too, in each order. The only error is `OutOfMemory`.
 pub(crate) fn replay_points(alloc: Global, report: &Report) -> Result<Replays, OutOfMemory>
     ensures count { IfOk result (λ replays. replays.count ≡ replays_in report.now) }
     ensures events { IfOk result (λ replays. replays.events ≡ events_in report.now) }

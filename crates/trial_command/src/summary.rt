@@ -66,7 +66,7 @@ fn push_replays(out: &mut Vec<u8>, replays: Replays) -> Result<(), OutOfMemory>
     Ok(())
 }
 
-/// The text of a trial whose report was verified and replayed. The only error is want of memory.
+/// The text of a trial whose report was verified and replayed. The only error is `OutOfMemory`.
 pub(crate) fn print_trial(
     alloc: Global,
     n: u16,

@@ -28,8 +28,7 @@ use std::alloc::Global;
 /// The greatest length of a text that is read.
 const LONGEST: usize = 2_147_483_647;
 
-/// The report of the search that the number stands for, whose files stand on the shelf then. The only error is want of
-/// memory.
+/// The report of the search that the number stands for, whose files stand on the shelf then. The only error is `OutOfMemory`.
 fn search_trial(alloc: Global, n: u16, shelf: &mut SureShelf) -> Result<Report, OutOfMemory>
     ensures words { IfOk result (λ r. r.words ≡ trial_words n) }
     ensures topology { IfOk result (λ r. r.topology ≡ trial_topology n) }
@@ -45,7 +44,7 @@ fn search_trial(alloc: Global, n: u16, shelf: &mut SureShelf) -> Result<Report, 
     }
 }
 
-/// The report that is read from this report's text. The only error is want of memory, which a text of 2 GiB or more
+/// The report that is read from this report's text. The only error is `OutOfMemory`, which a text of 2 GiB or more
 /// counts as.
 fn read_back(alloc: Global, report: &Report) -> Result<Report, OutOfMemory>
     requires { IsReport report.now }
@@ -64,7 +63,7 @@ fn read_back(alloc: Global, report: &Report) -> Result<Report, OutOfMemory>
     }
 }
 
-/// Audits a right report beside its files: there is nothing to deny. The only error is want of memory.
+/// Audits a right report beside its files: there is nothing to deny. The only error is `OutOfMemory`.
 fn verify(alloc: Global, report: &Report, shelf: &mut SureShelf) -> Result<(), OutOfMemory>
     requires small { size_of (question_of report.now.words report.now.topology Part.Whole) ≤ size_limit }
     requires right { IsRight report.now }
@@ -78,7 +77,7 @@ fn verify(alloc: Global, report: &Report, shelf: &mut SureShelf) -> Result<(), O
     }
 }
 
-/// The summary of a trial whose report this is. The only error is want of memory.
+/// The summary of a trial whose report this is. The only error is `OutOfMemory`.
 fn summed_up(alloc: Global, n: u16, report: &Report) -> Result<Vec<u8>, OutOfMemory>
     ensures { IfOk result (λ text. text.items ≡ trial_text n report.now) }
 {
@@ -88,7 +87,7 @@ fn summed_up(alloc: Global, n: u16, report: &Report) -> Result<Vec<u8>, OutOfMem
 }
 
 /// The summary of a trial that found this report and left these files: the report is printed, read again and audited. The
-/// only error is want of memory.
+/// only error is `OutOfMemory`.
 fn tried_out(
     alloc: Global,
     n: u16,
@@ -105,7 +104,7 @@ fn tried_out(
     summed_up(alloc, n, &report)
 }
 
-/// The summary of the trial that the number stands for. The only error is want of memory.
+/// The summary of the trial that the number stands for. The only error is `OutOfMemory`.
 fn try_out(alloc: Global, n: u16) -> Result<Vec<u8>, OutOfMemory>
     requires { n < 4096 }
     ensures { IfOk result (λ text. Tries n text.items) }
@@ -117,7 +116,7 @@ fn try_out(alloc: Global, n: u16) -> Result<Vec<u8>, OutOfMemory>
 
 /// The answer to a trial, whose number is at most 4,095: its search is done, with files in memory, its report is printed,
 /// read again and audited beside these files, and each of its points is replayed in four orders. The answer is the summary;
-/// the only error is want of memory, and no trial is denied.
+/// the only error is `OutOfMemory`, and no trial is denied.
 pub fn trial_answer(alloc: Global, n: u16) -> Result<Answer, OutOfMemory>
     requires { n ≤ 4095 }
     ensures { IfOk result (λ a. IsAnswerAlone (Ok (Try n)) a.status a.text.items) }

@@ -1,4 +1,4 @@
-//! Public calls that can answer want of memory and that no command makes.
+//! Public calls that can answer out of memory and that no command makes.
 
 use cnf_formula::Deletion;
 use lrat_text::print_deletion;

@@ -6,9 +6,7 @@ returns-clause-answers g c =
     let bounds = c.in_ok-bounds.ensures.bounds in
     record {
       frontier = c.in_ok-bounds.bounds.frontier;
-      right = bounds.found.right;
-      searched = bounds.found.searched;
-      exhausted = bounds.found.exhausted;
+      found = bounds.found;
       points = bounds.points;
       unknown = bounds.unknown;
       says = record { status = refl; text = c.in_ok-text.ensures };

@@ -1,15 +1,16 @@
 use Rattle.std.proofs.Common.{◌≡◌, false, List, ap, subst, ◌∙◌}
-use Rattle.std.specs.Prelude.{All, filter, not}
+use Rattle.std.specs.Prelude.{All}
 use Rattle.schedule.specs.Links.{TopologyValue}
-use Rattle.proof_rules.specs.Refuting.{Exhausted}
 use Rattle.candidate_order.specs.declared.candidate.Candidate.{Candidate}
-use Rattle.candidate_order.specs.Frontiers.{QuestionValue, RightFrontier, Searched}
+use Rattle.candidate_order.specs.Frontiers.{QuestionValue}
 use Rattle.candidate_formula.specs.Formulas.{formula_for}
 use Rattle.candidate_formula.specs.Sizes.{size_of}
 use Rattle.engine_search.proofs.Asked.{made_for}
+use Rattle.engine_search.specs.Found.{IsFound}
 use Rattle.engine_search.proofs.Found.{found_with}
-use Rattle.link_faults.specs.Carrying.{is_carried}
+use Rattle.link_faults.specs.Carrying.{is_carried, narrowed_question}
 use Rattle.degrade_command.proofs.Left.{formula_left, has_group, is_wider, left_question, left_small, links_narrowed, old_searched}
+use Rattle.degrade_command.proofs.Parted.{found_after}
 use Rattle.degrade_command.proofs.searching.search_left.Goals as goal
 
 pub new-requires-clause-size : goal.new-requires-clause-size
@@ -43,15 +44,8 @@ returns-in-Ok c =
     let found = found_with _ (formula_for p) _ (λ x s. Unit {0}) (λ x. c.in-Ok.ensures.formula x ∙ c.new-engine.ensures.formula x ∙ c.in_ok-inner.ensures.formula x ∙ formula_left p _ x made c.requires.single) (λ x s suited. tt) c.in-Ok.ensures.found in
     let is = left_question q c.args.fault.group c.args.fault.width c.requires.left in
     let same : c.frontier_by.new.engine.old.items ≡ c.args.old.items = c.in-Ok.ensures.moves.1 ∙ c.new-engine.ensures.old in
-    let lent : c.old.result.now ≡ c.args.old.items = c.old.ensures.old ∙ same in
-    record {
-      right = subst (λ x. RightFrontier x f) is found.right;
-      searched = subst (λ x. Searched x f) is found.searched;
-      exhausted = subst (λ x. All (λ u. Exhausted (formula_for x u.candidate) u.conflicts) f.unknown) is found.exhausted;
-      points = subst (λ (xs : List Candidate). All (λ p. is_carried xs p.candidate ≡ false) f.points) same c.carried_is_refuted.ensures.points;
-      unknown = subst (λ (xs : List Candidate). All (λ u. is_carried xs u.candidate ≡ false) f.unknown) same c.carried_is_refuted.ensures.unknown;
-      parted = record {
-        carried = c.in_ok-carried-in-Ok.ensures.carried ∙ ap (λ xs. filter (is_carried xs) c.refuted.result.now) lent ∙ ap (filter (is_carried c.args.old.items)) c.refuted.ensures;
-        others = c.in_ok-carried-in-Ok.ensures.others ∙ ap (λ xs. filter (λ x. not (is_carried xs x)) c.refuted.result.now) lent ∙ ap (filter (λ x. not (is_carried c.args.old.items x))) c.refuted.ensures;
-      };
-    }
+    found_after (narrowed_question q c.args.fault.group c.args.fault.width) c.args.old.items c.old.result.now f (c.old.ensures.old ∙ same)
+    (subst (λ x. IsFound x f) is found)
+    (subst (λ (xs : List Candidate). All (λ p. is_carried xs p.candidate ≡ false) f.points) same c.carried_is_refuted.ensures.points)
+    (subst (λ (xs : List Candidate). All (λ u. is_carried xs u.candidate ≡ false) f.unknown) same c.carried_is_refuted.ensures.unknown)
+    c.new-in-Ok.result c.new-in-Ok.ensures.frontier c.new-in-Ok.ensures.parted

@@ -1,7 +1,7 @@
 use Rattle.std.proofs.Common.{[], ◌∷◌, sym, subst}
 use Rattle.allreduce_join.specs.Joins.{IsJoinable}
 use Rattle.frontier_audit.specs.Steps.{JoinsSay, pairs_with}
-use Rattle.frontier_audit.proofs.Pairing.{none_say, walk_ends, walk_goes, walk_stops, with_adds}
+use Rattle.frontier_audit.proofs.Pairing.{none_say, walk_ends, walk_goes, walk_stops, with_append}
 use Rattle.frontier_audit.proofs.joins.gathered_denied.Goals as goal
 
 pub loop-second-init : goal.loop-second-init
@@ -14,17 +14,17 @@ pub returns-in-Some : goal.returns-in-Some
 returns-in-Some c =
     let l = c.loop-second in
     let a = c.args.first.now in
-    walk_stops c.args.topology.now c.args.joined.now (pairs_with a) (with_adds a) c.args.gather.now l.second-index c.second-item.result c.loop-second-test.true c.second-item.is c.args.place.now l.place c.pair_denied.new.place l.invariant c.in-Some.denial
+    walk_stops c.args.topology.now c.args.joined.now (pairs_with a) (with_append a) c.args.gather.now l.second-index c.second-item.result c.loop-second-test.true c.second-item.is c.args.place.now l.place c.pair_denied.new.place l.invariant c.in-Some.denial
     (subst (JoinsSay c.args.topology.now (pairs_with a (c.second-item.result ∷ [])) c.args.joined.now l.place c.pair_denied.new.place) c.in-Some.is c.in_ok-denial.ensures)
 
 pub loop-second-preserved : goal.loop-second-preserved
 loop-second-preserved c =
     let l = c.loop-second in
     let a = c.args.first.now in
-    walk_goes c.args.topology.now c.args.joined.now (pairs_with a) (with_adds a) c.args.gather.now l.second-index c.second-item.result c.loop-second-test.true c.second-item.is c.args.place.now l.place c.pair_denied.new.place l.invariant
+    walk_goes c.args.topology.now c.args.joined.now (pairs_with a) (with_append a) c.args.gather.now l.second-index c.second-item.result c.loop-second-test.true c.second-item.is c.args.place.now l.place c.pair_denied.new.place l.invariant
     (subst (JoinsSay c.args.topology.now (pairs_with a (c.second-item.result ∷ [])) c.args.joined.now l.place c.pair_denied.new.place) c.in_default.is c.in_ok-denial.ensures)
 
 pub returns : goal.returns
 returns c =
     let l = c.loop-second in
-    walk_ends c.args.topology.now c.args.joined.now (pairs_with c.args.first.now) (with_adds c.args.first.now) c.args.gather.now l.second-index c.args.place.now l.place c.loop-second-test.false l.invariant
+    walk_ends c.args.topology.now c.args.joined.now (pairs_with c.args.first.now) (with_append c.args.first.now) c.args.gather.now l.second-index c.args.place.now l.place c.loop-second-test.false l.invariant

@@ -1,7 +1,8 @@
 use Rattle.std.proofs.Common.{arith}
 use Rattle.text_lines.specs.Text.{rows_of}
 use Rattle.topology_text.proofs.Laws.{parts_are}
-use Rattle.frontier_report.proofs.Onward.{among_is, room_at_first}
+use Rattle.report_form.proofs.ReportTaken.{among_ok}
+use Rattle.frontier_report.proofs.Onward.{room_at_first}
 use Rattle.frontier_report.proofs.reading.parts_of.Goals as goal
 
 pub version_part-requires-clause-room : goal.version_part-requires-clause-room
@@ -28,4 +29,4 @@ body_part-requires-clause-room c = omega (arith, room_at_first c.args.text.now c
 pub from_parts-requires : goal.from_parts-requires
 from_parts-requires c =
     parts_are c.header_at.new.lines.place c.names_at.new.lines.place c.in_ok-names.names.keys c.in_ok-groups.groups.items c.in_ok-pattern.pattern c.groups_in.new.lines.place
-    (among_is (rows_of c.args.text.now) _ _ c.in_ok-names.ensures.read) (among_is (rows_of c.args.text.now) _ _ c.in_ok-groups.ensures.read) c.in_ok-pattern.ensures.limits
+    (among_ok (rows_of c.args.text.now) _ _ c.in_ok-names.ensures.read) (among_ok (rows_of c.args.text.now) _ _ c.in_ok-groups.ensures.read) c.in_ok-pattern.ensures.limits

@@ -1,40 +1,27 @@
-use Rattle.std.proofs.Common.{◌∙◌, sym, arith}
-use Rattle.inversion.proofs.Evening.{first_due, run_ends, said_even, said_missing, said_twice}
+use Rattle.std.proofs.Common.{◌∙◌, sym, ap, length}
+use Rattle.schedule.specs.Bags.{contributions}
+use Rattle.schedule.specs.JoinedRuns.{joined_after}
+use Rattle.bag_runs.specs.Stores.{StoreValue}
+use Rattle.inversion.proofs.Evening.{last_kept, run_judged, starts_in_range}
 use Rattle.inversion.proofs.judge.judge_counts.Goals as goal
 
-pub returns-in_default : goal.returns-in_default
-returns-in_default c =
-    said_even c.in_ok-last.last _ c.args.topology.now.nodes c.args.demand.now
-    (run_ends c.in_ok-last.last c.args.schedule.now c.args.adding c.args.chunks c.nodes.result c.args.topology.now.nodes c.args.demand.now c.nodes.ensures.nodes c.requires.chunks c.requires.nodes c.first_uneven.ensures.limits c.in_ok-last.ensures.chunks c.in_ok-last.ensures.nodes c.in_ok-last.ensures.keeps)
-    c.in_default.ensures.first
+pub last_store-requires : goal.last_store-requires
+last_store-requires c = starts_in_range c.in_ok-start.start c.args.schedule.now c.args.chunks c.nodes.result c.args.topology.now.nodes c.nodes.ensures.nodes c.in_ok-start.ensures c.requires.in_range
 
-pub count-requires-clause-chunk : goal.count-requires-clause-chunk
-count-requires-clause-chunk c =
-    (first_due c.in_ok-last.last _ c.args.topology.now.nodes c.args.demand.now
-    (run_ends c.in_ok-last.last c.args.schedule.now c.args.adding c.args.chunks c.nodes.result c.args.topology.now.nodes c.args.demand.now c.nodes.ensures.nodes c.requires.chunks c.requires.nodes c.first_uneven.ensures.limits c.in_ok-last.ensures.chunks c.in_ok-last.ensures.nodes c.in_ok-last.ensures.keeps)
-    (c.in-Some.chunk, c.in-Some.node, c.in-Some.of) c.in-Some.ensures.first).pair.chunk
+pub counts_verdict-requires-clause-chunks : goal.counts_verdict-requires-clause-chunks
+counts_verdict-requires-clause-chunks c =
+    let kept = last_kept c.in_ok-start.start c.args.schedule.now c.args.chunks c.nodes.result c.args.topology.now.nodes c.nodes.ensures.nodes c.in_ok-start.ensures c.in_ok-last.last c.args.adding c.in_ok-last.ensures in
+    c.requires.chunks ∙ sym (ap (λ (x : StoreValue). x.chunks) kept)
 
-pub count-requires-clause-node : goal.count-requires-clause-node
-count-requires-clause-node c =
-    (first_due c.in_ok-last.last _ c.args.topology.now.nodes c.args.demand.now
-    (run_ends c.in_ok-last.last c.args.schedule.now c.args.adding c.args.chunks c.nodes.result c.args.topology.now.nodes c.args.demand.now c.nodes.ensures.nodes c.requires.chunks c.requires.nodes c.first_uneven.ensures.limits c.in_ok-last.ensures.chunks c.in_ok-last.ensures.nodes c.in_ok-last.ensures.keeps)
-    (c.in-Some.chunk, c.in-Some.node, c.in-Some.of) c.in-Some.ensures.first).pair.node
-
-pub count-requires-clause-of : goal.count-requires-clause-of
-count-requires-clause-of c =
-    let due = first_due c.in_ok-last.last _ c.args.topology.now.nodes c.args.demand.now
-    (run_ends c.in_ok-last.last c.args.schedule.now c.args.adding c.args.chunks c.nodes.result c.args.topology.now.nodes c.args.demand.now c.nodes.ensures.nodes c.requires.chunks c.requires.nodes c.first_uneven.ensures.limits c.in_ok-last.ensures.chunks c.in_ok-last.ensures.nodes c.in_ok-last.ensures.keeps)
-    (c.in-Some.chunk, c.in-Some.node, c.in-Some.of) c.in-Some.ensures.first in
-    omega (arith, due.of, c.in_ok-last.ensures.nodes, c.nodes.ensures.nodes, c.nodes.ensures.limits.few)
-
-pub returns-then-count-eq0 : goal.returns-then-count-eq0
-returns-then-count-eq0 c =
-    said_missing c.in_ok-last.last _ c.args.topology.now.nodes c.args.demand.now
-    (run_ends c.in_ok-last.last c.args.schedule.now c.args.adding c.args.chunks c.nodes.result c.args.topology.now.nodes c.args.demand.now c.nodes.ensures.nodes c.requires.chunks c.requires.nodes c.first_uneven.ensures.limits c.in_ok-last.ensures.chunks c.in_ok-last.ensures.nodes c.in_ok-last.ensures.keeps)
-    (c.in-Some.chunk, c.in-Some.node, c.in-Some.of) c.in-Some.ensures.first (sym c.count.ensures ∙ c.if-count-eq0.true)
+pub counts_verdict-requires-clause-nodes : goal.counts_verdict-requires-clause-nodes
+counts_verdict-requires-clause-nodes c =
+    let kept = last_kept c.in_ok-start.start c.args.schedule.now c.args.chunks c.nodes.result c.args.topology.now.nodes c.nodes.ensures.nodes c.in_ok-start.ensures c.in_ok-last.last c.args.adding c.in_ok-last.ensures in
+    c.requires.nodes ∙ sym (ap (λ (x : StoreValue). x.nodes) kept)
 
 pub returns : goal.returns
 returns c =
-    said_twice c.in_ok-last.last _ c.args.topology.now.nodes c.args.demand.now
-    (run_ends c.in_ok-last.last c.args.schedule.now c.args.adding c.args.chunks c.nodes.result c.args.topology.now.nodes c.args.demand.now c.nodes.ensures.nodes c.requires.chunks c.requires.nodes c.first_uneven.ensures.limits c.in_ok-last.ensures.chunks c.in_ok-last.ensures.nodes c.in_ok-last.ensures.keeps)
-    (c.in-Some.chunk, c.in-Some.node, c.in-Some.of) c.in-Some.ensures.first (omega (arith, c.count.ensures, c.if-count-eq0.false))
+    let t = c.args.topology.now in
+    let s = c.args.schedule.now in
+    run_judged c.in_ok-last.last c.counts_verdict.result c.args.chunks t.nodes (joined_after (contributions t.nodes) s c.args.adding (length s.rounds)) c.args.demand.now.pairs
+    (last_kept c.in_ok-start.start s c.args.chunks c.nodes.result t.nodes c.nodes.ensures.nodes c.in_ok-start.ensures c.in_ok-last.last c.args.adding c.in_ok-last.ensures)
+    c.counts_verdict.ensures

@@ -1,6 +1,6 @@
 use Rattle.std.proofs.Common.{◌≡◌, ◌∙◌, ap₂}
 use Rattle.json_values.specs.Json.{printed}
-use Rattle.json_exchange.specs.ProgramsJson.{programs_json}
+use Rattle.json_rules.specs.ProgramsJson.{programs_json}
 use Rattle.json_command.proofs.Exchanged.{programs_written}
 use Rattle.json_command.proofs.writing.programs_in_report.Goals as goal
 

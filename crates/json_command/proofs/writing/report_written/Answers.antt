@@ -1,7 +1,7 @@
 use Rattle.std.proofs.Common.{◌≡◌, None, Ok, subst}
 use Rattle.command_words.specs.declared.command.JsonWhat.TheVariants as what
 use Rattle.json_values.specs.Json.{printed}
-use Rattle.json_exchange.specs.ReportJson.{report_json}
+use Rattle.json_rules.specs.ReportJson.{report_json}
 use Rattle.run_rules.specs.Read.{IsReadAs}
 use Rattle.run_rules.specs.Tasks.{Write, json_asked, read_report}
 use Rattle.run_rules.proofs.Answered.{refused_alone, refused_behind}

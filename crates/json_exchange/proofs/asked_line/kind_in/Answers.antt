@@ -9,7 +9,7 @@ use Rattle.std.specs.List.{list_any}
 use Rattle.std.proofs.lemmas.Slice.Eq.{bytes_eq-Decides}
 use Rattle.collective_spec.specs.declared.kind.Kind.{Kind}
 use Rattle.collective_spec.specs.Kinds.{word_of, every_kind}
-use Rattle.json_exchange.specs.ReportJson.{word_in}
+use Rattle.json_rules.specs.ReportJson.{word_in}
 
 differ : (xs ys : List ℕ) (b : Bool) → bytes_eq xs ys ≡ b → xs ≢ ys → b ≡ false
 differ xs ys true e other = absurd (other ((bytes_eq-Decides xs ys).0 e))

@@ -4,7 +4,7 @@ use Rattle.text_lines.specs.Text.{text_of}
 use Rattle.serde_json.specs.View.{view}
 use Rattle.json_values.specs.Shape.{◌⊕◌, list_in}
 use Rattle.json_values.specs.TopologyJson.{field}
-use Rattle.json_exchange.specs.ReportJson.{refuted_in, unknown_in}
+use Rattle.json_rules.specs.ReportJson.{refuted_in, unknown_in}
 use Rattle.json_values.specs.Appends.{Appends}
 use Rattle.json_values.proofs.Lines.{lines_listed, not_mapped, refused_on}
 use Rattle.json_exchange.proofs.Compose.{in_turn, field_is}

@@ -3,7 +3,7 @@ use Rattle.text_lines.specs.Text.{line}
 use Rattle.serde_json.specs.View.{view, items_view}
 use Rattle.serde_json.proofs.Views.{items_len-items_view}
 use Rattle.json_values.specs.Shape.{◌>>=◌, list_in}
-use Rattle.json_exchange.specs.ReportJson.{number_in}
+use Rattle.json_rules.specs.ReportJson.{number_in}
 use Rattle.json_values.proofs.Lines.{tokens_listed, tokens_refused, line_closed, lined, refused_on}
 use Rattle.json_exchange.proofs.Compose.{counts_with, no_counts}
 use Rattle.json_exchange.proofs.number_lines.push_counts.Goals as goal

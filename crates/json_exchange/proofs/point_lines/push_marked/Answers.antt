@@ -3,7 +3,7 @@ use Rattle.std.specs.Prelude.{if◌then◌else◌}
 use Rattle.text_lines.specs.Text.{text_of}
 use Rattle.serde_json.specs.View.{view}
 use Rattle.json_values.specs.Shape.{◌⊕◌, one, has_keys}
-use Rattle.json_exchange.specs.ReportJson.{point_keys, is_joined, head_in, schedule_in, marked_in}
+use Rattle.json_rules.specs.ReportJson.{point_keys, is_joined, head_in, schedule_in, marked_in}
 use Rattle.json_values.specs.Appends.{Appends}
 use Rattle.json_values.proofs.Lines.{refused_on}
 use Rattle.json_exchange.proofs.Compose.{line_in_turn, no_line}

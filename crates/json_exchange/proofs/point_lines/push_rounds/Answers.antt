@@ -3,7 +3,7 @@ use Rattle.std.specs.Prelude.{codes}
 use Rattle.text_lines.specs.Text.{line}
 use Rattle.serde_json.specs.View.{view}
 use Rattle.json_values.specs.Shape.{◌>>=◌, list_in}
-use Rattle.json_exchange.specs.ReportJson.{number_in}
+use Rattle.json_rules.specs.ReportJson.{number_in}
 use Rattle.json_values.proofs.Lines.{tokens_listed, tokens_refused, line_closed, lined, refused_on}
 use Rattle.json_exchange.proofs.point_lines.push_rounds.Goals as goal
 

@@ -3,7 +3,7 @@ use Rattle.std.specs.Prelude.{codes}
 use Rattle.text_lines.specs.Text.{text_of}
 use Rattle.serde_json.specs.View.{view}
 use Rattle.json_values.specs.Shape.{◌⊕◌, one, list_in}
-use Rattle.json_exchange.specs.ReportJson.{rounds_in, send_in}
+use Rattle.json_rules.specs.ReportJson.{rounds_in, send_in}
 use Rattle.json_values.specs.Appends.{Appends}
 use Rattle.json_values.proofs.Lines.{lines_listed}
 use Rattle.json_exchange.proofs.Compose.{line_in_turn, field_is}

@@ -1,6 +1,6 @@
 use Rattle.std.proofs.Common.{map, sym, ◌∙◌}
 use Rattle.std.specs.List.{range_with_len}
-use Rattle.json_exchange.specs.ProgramsJson.{node_json}
+use Rattle.json_rules.specs.ProgramsJson.{node_json}
 use Rattle.json_values.proofs.Printing.{pushed, numbered_more}
 use Rattle.json_exchange.proofs.programs.nodes_json.Goals as goal
 

@@ -4,7 +4,7 @@ use Rattle.text_lines.specs.Text.{text_of}
 use Rattle.serde_json.specs.View.{view}
 use Rattle.json_values.specs.Shape.{◌⊕◌, one, has_keys}
 use Rattle.json_values.specs.TopologyJson.{field}
-use Rattle.json_exchange.specs.ReportJson.{title_in, rest_in, report_in}
+use Rattle.json_rules.specs.ReportJson.{title_in, rest_in, report_in}
 use Rattle.json_values.specs.Appends.{Appends}
 use Rattle.json_exchange.proofs.Compose.{line_in_turn, field_is}
 use Rattle.json_exchange.proofs.report_reading.push_report.Goals as goal

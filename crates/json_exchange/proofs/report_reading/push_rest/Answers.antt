@@ -3,7 +3,7 @@ use Rattle.std.specs.Prelude.{codes}
 use Rattle.text_lines.specs.Text.{text_of}
 use Rattle.serde_json.specs.View.{view}
 use Rattle.json_values.specs.Shape.{◌>>=◌, ◌⊕◌, one}
-use Rattle.json_exchange.specs.ReportJson.{words_in, joins_in, body_in, rest_of}
+use Rattle.json_rules.specs.ReportJson.{words_in, joins_in, body_in, rest_of}
 use Rattle.json_values.specs.Appends.{Appends}
 use Rattle.json_values.proofs.Lines.{refused_on}
 use Rattle.json_exchange.proofs.Compose.{line_in_turn, no_line, field_is}

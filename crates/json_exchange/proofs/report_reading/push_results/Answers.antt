@@ -3,7 +3,7 @@ use Rattle.std.specs.Prelude.{codes}
 use Rattle.text_lines.specs.Text.{text_of}
 use Rattle.serde_json.specs.View.{view}
 use Rattle.json_values.specs.Shape.{◌⊕◌, lines_in}
-use Rattle.json_exchange.specs.ReportJson.{frontier_in, end_in}
+use Rattle.json_rules.specs.ReportJson.{frontier_in, end_in}
 use Rattle.json_values.specs.Appends.{Appends}
 use Rattle.json_values.proofs.Lines.{parts_listed, not_mapped, refused_on}
 use Rattle.json_exchange.proofs.Compose.{in_turn, field_is}

@@ -1,7 +1,7 @@
 use Rattle.std.proofs.Common.{◌≡◌, ◌≤◌, ◌*◌, Some, length, ap, ◌∙◌, arith, rules}
 use Rattle.report_form.specs.Spelling.{report_text}
 use Rattle.json_values.proofs.Standing.{stands_for}
-use Rattle.json_exchange.specs.ReportJson.{report_text_in}
+use Rattle.json_rules.specs.ReportJson.{report_text_in}
 use Rattle.json_exchange.proofs.Short.{report_text_short}
 use Rattle.json_exchange.proofs.report_reading.report_from_json.Goals as goal
 

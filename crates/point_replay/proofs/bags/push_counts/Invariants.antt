@@ -1,5 +1,5 @@
 use Rattle.std.proofs.Common.{◌≡◌, ◌++◌}
-use Rattle.node_programs.specs.Kept.{counted}
+use Rattle.bag_runs.specs.Kept.{counted}
 use Rattle.point_replay.specs.Appended.{digits_of}
 use Rattle.point_replay.proofs.bags.push_counts.Given as goal
 

@@ -1,11 +1,12 @@
 use Rattle.std.proofs.Common.{◌≡◌, ℕ, ◌<◌, [], All, length, get_or, arith, sym, ap, ◌∙◌, subst}
 use Rattle.std.proofs.lemmas.List.{get_or_read}
+use Rattle.std.proofs.lemmas.List.Sums.{sum_by_more}
 use Rattle.schedule.specs.Links.{GroupValue}
 use Rattle.round_encoding.specs.Frames.{Frame}
 use Rattle.send_encoding.specs.Variables.{number_of}
 use Rattle.round_encoding.specs.Rounding.{count_of_group, with_count}
 use Rattle.round_encoding.specs.Counts.{room}
-use Rattle.round_encoding.proofs.Countings.{counts_more, sum_more}
+use Rattle.round_encoding.proofs.Countings.{counts_more}
 use Rattle.round_encoding.proofs.grouping.count_groups.Goals as goal
 
 pub count_group-requires-clause-links : goal.count_group-requires-clause-links
@@ -30,7 +31,7 @@ loop-group-preserved c =
     let same : xs ≡ t.groups = c.groups-group-items.ensures.groups in
     let low : i < length t.groups = omega (arith, c.loop-group-test.true, ap length same) in
     let item : c.group-item.result ≡ get_or t.groups i d = get_or_read xs i c.group-item.result c.loop-group-test.true c.group-item.is d ∙ ap (λ ys. get_or ys i d) same in
-    let more = sum_more (room f) t.groups i d low in
+    let more = sum_by_more (room f) t.groups i d low in
     let here : room f c.group-item.result ≡ room f (get_or t.groups i d) = ap (room f) item in (
       counts_more c.args.formula.now c.loop-group.formula c.count_group.new.formula (count_of_group f c.args.step) t.groups i d low c.loop-group.invariant.0
           (c.in_ok-count_group.ensures.formula ∙ ap (λ g. with_count c.loop-group.formula (count_of_group f c.args.step g)) item),

@@ -1,12 +1,12 @@
-use Rattle.std.proofs.Common.{◌≡◌, ℕ, ◌<◌, [], List, length, get_or, take, sym, ap, ◌∙◌, subst, arith}
-use Rattle.std.specs.Prelude.{All}
-use Rattle.std.proofs.lemmas.List.{take_all, get_or_default}
+use Rattle.std.proofs.Common.{◌≡◌, ℕ, ◌+◌, ◌<◌, [], List, length, get_or, take, sym, ap, ◌∙◌, subst, arith}
+use Rattle.std.specs.Prelude.{◌≢◌, All, AllPairs}
+use Rattle.std.proofs.lemmas.List.{take_all, get_or_default, length-take-le}
 use Rattle.std.proofs.lemmas.List.Elements.{Contains-get_or, All-contains}
 use Rattle.cnf_formula.specs.Formulas.{IsClause}
 use Rattle.cnf_formula.specs.Literals.{LitValue}
 use Rattle.sat_core.specs.Learning.{IsSame}
 use Rattle.sat_core.specs.Loading.{IsLoaded}
-use Rattle.sat_core.proofs.Loaded.{code_own, kept_about, loaded_more, ready_loaded}
+use Rattle.sat_core.proofs.Loaded.{code_own, kept_about, loaded_more, numbered_more, ready_loaded}
 use Rattle.sat_core.proofs.loading.load.Goals as goal
 
 -- a clause that was read is one of the formula's
@@ -34,23 +34,31 @@ loop-number-preserved c =
     let base = c.args.formula.now in
     let k = c.loop-number.number in
     let core = c.loop-number.core in
-    let ok = c.in_ok-add_clause.ensures.ok.1 in
+    let inv = c.loop-number.invariant in
+    let ok = c.in_ok-id.ensures.ok in
     let e : c.clauses-clauses.result.now ≡ base.clauses = c.clauses-clauses.ensures.clauses in
     let w : k < length base.clauses = omega (arith, c.loop-number-test.true, ap length e) in
     let clause = c.index-clauses-number.result in
     let is : get_or base.clauses k [] ≡ c.lits.result.now = get_or_default base.clauses k [] clause w ∙ sym (c.lits.ensures ∙ c.index-clauses-number.is ∙ ap (λ xs. get_or xs k clause) e) in
     let same : IsSame (get_or base.clauses k []) c.deref.result.now = subst (λ xs. IsSame xs c.deref.result.now) (sym is) (subst (IsSame c.lits.result.now) (sym c.deref.ensures.value) c.in_ok-once_each.ensures.same) in
+    let once : AllPairs (λ a b. a ≢ b) c.deref.result.now = subst (AllPairs (λ a b. a ≢ b)) (sym c.deref.ensures.value) c.in_ok-once_each.ensures.once in
+    let count : length core.clauses ≡ k = omega (arith, inv.loaded.count, length-take-le k base.clauses (omega (arith, w))) in
     record {
-      vars = ap (λ x. x.vars) ok ∙ c.loop-number.invariant.vars;
-      bottom = ap (λ x. length x.limits) ok ∙ c.loop-number.invariant.bottom;
-      len = c.once_each.ensures.len ∙ c.loop-number.invariant.len;
-      below = c.once_each.ensures.marked;
-      loaded = loaded_more base.clauses k core c.add_clause.new.self c.deref.result.now c.loop-number.invariant.loaded w same (ap (λ x. x.clauses) ok);
+      vars = ap (λ x. x.vars) ok.1 ∙ inv.vars;
+      bottom = ap (λ x. length x.limits) ok.1 ∙ inv.bottom;
+      len = c.once_each.ensures.len ∙ inv.len;
+      below = λ j. let b = c.once_each.ensures.marked j in omega (arith, b, c.from.ensures);
+      loaded = loaded_more base.clauses k core c.add_clause.new.self c.deref.result.now inv.loaded w same (ap (λ x. x.clauses) ok.1);
+      numbered = numbered_more core c.add_clause.new.self c.loop-number.awake c.note.new.self c.deref.result.now c.in_ok-id.id (k + 1) inv.numbered (ap (λ x. x.clauses) ok.1) ok.0 (omega (arith, count)) c.in_ok-note.ensures.ids c.in_ok-note.ensures.names once;
+      formula = c.note.ensures.formula ∙ inv.formula;
+      held = c.note.ensures.held ∙ inv.held;
     }
 
 pub returns-clause-ready : goal.returns-clause-ready
 returns-clause-ready c =
     let base = c.args.formula.now in
     let k = c.loop-number.number in
-    let all : take k base.clauses ≡ base.clauses = take_all k base.clauses (omega (arith, c.loop-number-test.false, ap length c.clauses-clauses.ensures.clauses)) in
-    ready_loaded base c.loop-number.core (subst (λ xs. IsLoaded xs c.loop-number.core) all c.loop-number.invariant.loaded) (omega (arith, c.loop-number.invariant.vars, c.requires))
+    let inv = c.loop-number.invariant in
+    let n = ap length c.clauses-clauses.ensures.clauses in
+    let all : take k base.clauses ≡ base.clauses = take_all k base.clauses (omega (arith, c.loop-number-test.false, n)) in
+    ready_loaded base c.loop-number.core c.loop-number.awake c.args.own (subst (λ xs. IsLoaded xs c.loop-number.core) all inv.loaded) inv.numbered (omega (arith, inv.formula, n)) (omega (arith, inv.held, n)) (omega (arith, inv.vars, c.requires))

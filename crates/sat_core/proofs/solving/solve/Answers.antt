@@ -49,7 +49,8 @@ caused later other = record { later = later; rose = λ e. absurd (other e) }
 pub search-end-requires-clause-ready : goal.search-end-requires-clause-ready
 search-end-requires-clause-ready g c =
     let core = c.in_ok-core.core in
-    subst (λ f. IsReady f (g.L.LedgerView.lines c.args.ledger.now) core) (sym c.requires.base) (subst (λ lines. IsReady c.args.formula.now lines core) (sym c.requires.empty) c.in_ok-core.ensures.ready)
+    let guide = c.in_ok-core.guide in
+    subst (λ f. IsReady f (g.L.LedgerView.lines c.args.ledger.now) core guide.awake guide.sleepers) (sym c.requires.base) (subst (λ lines. IsReady c.args.formula.now lines core guide.awake guide.sleepers) (sym c.requires.empty) c.in_ok-core.ensures.ready)
 
 pub search-end-requires-clause-guided : goal.search-end-requires-clause-guided
 search-end-requires-clause-guided g c = c.in_ok-core.ensures.guided
@@ -66,6 +67,7 @@ returns g c =
     let now = c.search-end.new.ledger in
     let formula = c.args.formula.now in
     let core = c.search-end.new.core in
+    let guide = c.search-end.new.guide in
     let same : L.base now ≡ formula = c.search-end.ensures.base ∙ c.requires.base in
     let log : c.answer_of.result ≡ Ok SatAnswer.Spent → SpentLog (L.lines now) formula (L.limit now) =
     λ e. let done = c.answer_of.ensures.spent e in
@@ -77,7 +79,7 @@ returns g c =
           let own : c.min-own.result ≡ core.vars = sym (c.search-end.ensures.vars ∙ c.in_ok-core.ensures.vars) in
           let len : length values ≡ (L.base now).vars = found.1 ∙ c.vars-2.ensures.vars ∙ sym (ap (λ f. f.vars) same) in
           let are : AreValues (trues core) core.vars values = subst (λ n. AreValues (trues core) n values) own found.2 in
-          subst (Satisfies values) same (model_satisfies (L.base now) (L.lines now) core values (c.search-end.ensures.ready done) (c.search-end.ensures.total done) len are);
+          subst (Satisfies values) same (model_satisfies (L.base now) (L.lines now) core guide.awake guide.sleepers values (c.search-end.ensures.ready done) (c.search-end.ensures.total done) len are);
       refuted = λ e. subst (Refutes (map Addition (L.lines now))) same (c.search-end.ensures.refuted (c.answer_of.ensures.refuted e));
       closed = λ e. c.search-end.ensures.closed (c.answer_of.ensures.refuted e);
       spent = λ e. c.search-end.ensures.spent (c.answer_of.ensures.spent e);

@@ -1,9 +1,13 @@
-use Rattle.std.proofs.Common.{◌≡◌, ◌<◌, length, [], sym, ap, ◌∙◌, arith}
-use Rattle.std.specs.Prelude.{vec_len}
+use Rattle.std.proofs.Common.{◌≡◌, ◌<◌, ◌+◌, ◌∷◌, ◌++◌, length, [], refl, sym, ap, ◌∙◌, subst, arith}
+use Rattle.std.specs.Prelude.{vec_len, All, Contains}
 use Rattle.std.proofs.lemmas.Bool.{eqb-true, eqb-false}
 use Rattle.std.proofs.lemmas.List.{nil_from_length}
-use Rattle.sat_core.proofs.Turning.{positive, IsTurn, turn_accepted, turn_written, turn_refuted, turn_above, turn_fresh, turn_over, turn_ready, guided_more}
-use Rattle.sat_core.proofs.Jumping.{learned_backed}
+use Rattle.sat_core.proofs.Turning.{positive, IsTurn, turn_accepted, turn_written, turn_refuted, turn_fresh, turn_over, turn_about, none_by}
+use Rattle.sat_core.proofs.Readiness.{ready_used}
+use Rattle.cnf_formula.specs.Formulas.{IsClause}
+use Rattle.sat_core.specs.Naming.{IsName}
+use Rattle.sat_core.specs.Ready.{IsReady}
+use Rattle.sat_core.proofs.Hinted.{hints_names}
 use Rattle.sat_core.proofs.Ending.{closed_few}
 use Rattle.sat_core.proofs.turn.at_conflict.Goals as goal
 
@@ -12,124 +16,91 @@ close-requires-clause-implied g c =
     let base = g.L.LedgerView.base c.args.ledger.now in
     let lines = g.L.LedgerView.lines c.args.ledger.now in
     let core = c.args.core.now in
+    let guide = c.args.guide.now in
+    let learned = c.in_ok-learned.learned in
     let line = c.in_ok-line.line in
-    let t : IsTurn base lines core c.args.conflict line = record { ready = c.requires.ready; conflicts = c.requires.conflict; is = c.in_ok-line.ensures.learned } in
-    turn_accepted base lines core c.args.conflict line t
+    let t : IsTurn base lines core guide.awake guide.sleepers c.args.conflict learned line = record { ready = c.requires.ready; conflicts = c.requires.conflict; is = c.in_ok-learned.ensures.learned; named = c.in_ok-line.ensures.line } in
+    turn_accepted base lines core guide.awake guide.sleepers c.args.conflict learned line t
 
 pub returns-then-is_empty-clause-refuted : goal.returns-then-is_empty-clause-refuted
 returns-then-is_empty-clause-refuted g c =
     let base = g.L.LedgerView.base c.args.ledger.now in
     let lines = g.L.LedgerView.lines c.args.ledger.now in
     let core = c.args.core.now in
+    let guide = c.args.guide.now in
+    let learned = c.in_ok-learned.learned in
     let line = c.in_ok-line.line in
-    let t : IsTurn base lines core c.args.conflict line = record { ready = c.requires.ready; conflicts = c.requires.conflict; is = c.in_ok-line.ensures.learned } in
+    let t : IsTurn base lines core guide.awake guide.sleepers c.args.conflict learned line = record { ready = c.requires.ready; conflicts = c.requires.conflict; is = c.in_ok-learned.ensures.learned; named = c.in_ok-line.ensures.line } in
     let none : line.lits ≡ [] = let z : vec_len c.line.inside.lits ≡ 0 = eqb-true _ 0 (sym c.is_empty.ensures ∙ c.if-is_empty.true) in
     nil_from_length line.lits (omega (arith, z, ap (λ l. length l.lits) c.line.view_is)) in
-    λ h. turn_refuted base _ lines _ core c.args.conflict line t none c.close.ensures.base c.in_ok-close.ensures.lines
-
-pub returns-then-not-room-clause-over : goal.returns-then-not-room-clause-over
-returns-then-not-room-clause-over g c =
-    let base = g.L.LedgerView.base c.args.ledger.now in
-    let lines = g.L.LedgerView.lines c.args.ledger.now in
-    let core = c.args.core.now in
-    let line = c.in_ok-line.line in
-    let t : IsTurn base lines core c.args.conflict line = record { ready = c.requires.ready; conflicts = c.requires.conflict; is = c.in_ok-line.ensures.learned } in
-    let some : 0 < length line.lits = let z = eqb-false (vec_len c.line.inside.lits) 0 (sym c.is_empty.ensures ∙ c.if-is_empty.false) in
-    positive (length line.lits) (λ e. z (omega (arith, e, ap (λ l. length l.lits) c.line.view_is))) in
-    λ h. turn_over base lines core c.args.conflict line t some
+    λ h. turn_refuted base _ lines _ core guide.awake guide.sleepers c.args.conflict learned line t none c.close.ensures.base c.in_ok-close.ensures.lines
 
 pub learn-requires-clause-implied : goal.learn-requires-clause-implied
 learn-requires-clause-implied g c =
     let base = g.L.LedgerView.base c.args.ledger.now in
     let lines = g.L.LedgerView.lines c.args.ledger.now in
     let core = c.args.core.now in
+    let guide = c.args.guide.now in
+    let learned = c.in_ok-learned.learned in
     let line = c.in_ok-line.line in
-    let t : IsTurn base lines core c.args.conflict line = record { ready = c.requires.ready; conflicts = c.requires.conflict; is = c.in_ok-line.ensures.learned } in
-    turn_accepted base lines core c.args.conflict line t
+    let t : IsTurn base lines core guide.awake guide.sleepers c.args.conflict learned line = record { ready = c.requires.ready; conflicts = c.requires.conflict; is = c.in_ok-learned.ensures.learned; named = c.in_ok-line.ensures.line } in
+    turn_accepted base lines core guide.awake guide.sleepers c.args.conflict learned line t
 
 pub learn-requires-clause-fresh : goal.learn-requires-clause-fresh
 learn-requires-clause-fresh g c =
     let base = g.L.LedgerView.base c.args.ledger.now in
     let lines = g.L.LedgerView.lines c.args.ledger.now in
     let core = c.args.core.now in
+    let guide = c.args.guide.now in
+    let learned = c.in_ok-learned.learned in
     let line = c.in_ok-line.line in
-    let t : IsTurn base lines core c.args.conflict line = record { ready = c.requires.ready; conflicts = c.requires.conflict; is = c.in_ok-line.ensures.learned } in
+    let t : IsTurn base lines core guide.awake guide.sleepers c.args.conflict learned line = record { ready = c.requires.ready; conflicts = c.requires.conflict; is = c.in_ok-learned.ensures.learned; named = c.in_ok-line.ensures.line } in
     let some : 0 < length line.lits = let z = eqb-false (vec_len c.line.inside.lits) 0 (sym c.is_empty.ensures ∙ c.if-is_empty.false) in
     positive (length line.lits) (λ e. z (omega (arith, e, ap (λ l. length l.lits) c.line.view_is))) in
-    turn_fresh base lines core c.args.conflict line t some
-
-pub go_back-requires-clause-backed : goal.go_back-requires-clause-backed
-go_back-requires-clause-backed g c =
-    let base = g.L.LedgerView.base c.args.ledger.now in
-    let lines = g.L.LedgerView.lines c.args.ledger.now in
-    let core = c.args.core.now in
-    let line = c.in_ok-line.line in
-    let t : IsTurn base lines core c.args.conflict line = record { ready = c.requires.ready; conflicts = c.requires.conflict; is = c.in_ok-line.ensures.learned } in
-    let some : 0 < length line.lits = let z = eqb-false (vec_len c.line.inside.lits) 0 (sym c.is_empty.ensures ∙ c.if-is_empty.false) in
-    positive (length line.lits) (λ e. z (omega (arith, e, ap (λ l. length l.lits) c.line.view_is))) in
-    learned_backed core c.args.conflict line (turn_above base lines core c.args.conflict line t some) c.in_ok-line.ensures.learned
-
-pub go_back-requires-clause-above : goal.go_back-requires-clause-above
-go_back-requires-clause-above g c =
-    let base = g.L.LedgerView.base c.args.ledger.now in
-    let lines = g.L.LedgerView.lines c.args.ledger.now in
-    let core = c.args.core.now in
-    let line = c.in_ok-line.line in
-    let t : IsTurn base lines core c.args.conflict line = record { ready = c.requires.ready; conflicts = c.requires.conflict; is = c.in_ok-line.ensures.learned } in
-    let some : 0 < length line.lits = let z = eqb-false (vec_len c.line.inside.lits) 0 (sym c.is_empty.ensures ∙ c.if-is_empty.false) in
-    positive (length line.lits) (λ e. z (omega (arith, e, ap (λ l. length l.lits) c.line.view_is))) in
-    turn_above base lines core c.args.conflict line t some
+    let eq : c.deref.result.now ≡ line.lits = c.deref.ensures.value ∙ ap (λ l. l.lits) c.line.view_is in
+    let none = none_by guide.sleepers line.lits (λ place w a sub. c.in_default.ensures.found place w a (λ o h. subst (λ xs. Contains xs o) (sym eq) (sub o h))) in
+    turn_fresh base lines core guide.awake guide.sleepers c.args.conflict learned line t some none
 
 pub returns-clause-ready : goal.returns-clause-ready
-returns-clause-ready g c =
+returns-clause-ready g c = λ h.
     let base = g.L.LedgerView.base c.args.ledger.now in
     let lines = g.L.LedgerView.lines c.args.ledger.now in
     let core = c.args.core.now in
+    let guide = c.args.guide.now in
+    let learned = c.in_ok-learned.learned in
     let line = c.in_ok-line.line in
-    let t : IsTurn base lines core c.args.conflict line = record { ready = c.requires.ready; conflicts = c.requires.conflict; is = c.in_ok-line.ensures.learned } in
+    let t : IsTurn base lines core guide.awake guide.sleepers c.args.conflict learned line = record { ready = c.requires.ready; conflicts = c.requires.conflict; is = c.in_ok-learned.ensures.learned; named = c.in_ok-line.ensures.line } in
     let some : 0 < length line.lits = let z = eqb-false (vec_len c.line.inside.lits) 0 (sym c.is_empty.ensures ∙ c.if-is_empty.false) in
     positive (length line.lits) (λ e. z (omega (arith, e, ap (λ l. length l.lits) c.line.view_is))) in
-    λ h. turn_ready base _ lines _ core _ c.args.conflict line t some c.learn.ensures.base c.in_ok-learn.ensures.lines c.go_back.ensures.vars c.in_ok-go_back.ensures.added
-
-pub returns-clause-guided : goal.returns-clause-guided
-returns-clause-guided g c = λ h.
-    guided_more c.args.core.now c.go_back.new.core _ c.in_ok-line.ensures.rested (c.turn.ensures.decider ∙ c.go_back.ensures.decider ∙ c.learn-2.ensures ∙ c.requires.guided.decider) (c.turn.ensures.same ∙ c.note.ensures ∙ c.requires.guided.probes) c.go_back.ensures.vars
+    let eq : c.deref.result.now ≡ line.lits = c.deref.ensures.value ∙ ap (λ l. l.lits) c.line.view_is in
+    let none = none_by guide.sleepers line.lits (λ place w a sub. c.in_default.ensures.found place w a (λ o h. subst (λ xs. Contains xs o) (sym eq) (sub o h))) in
+    let ready : IsReady base lines core c.named.new.self c.subset_of.new.self = subst (IsReady base lines core c.named.new.self) (sym c.subset_of.ensures.same) (ready_used base lines core guide.awake c.named.new.self guide.sleepers c.requires.ready c.named.ensures.names c.named.ensures.formula c.named.ensures.held) in
+    let written = turn_written base base lines (lines ++ line ∷ []) core guide.awake guide.sleepers c.args.conflict learned line t refl refl in
+    let after = c.in_ok-go_on.ensures.ready base lines ready written (turn_fresh base lines core guide.awake guide.sleepers c.args.conflict learned line t some none) (t.named.id ∙ ap (λ n. n + 1) (sym c.named.ensures.held)) in
+    subst (λ b. IsReady b (g.L.LedgerView.lines c.learn.new.self) c.go_on.new.core c.go_on.new.guide.awake c.go_on.new.guide.sleepers) (sym c.learn.ensures.base)
+    (subst (λ ls. IsReady base ls c.go_on.new.core c.go_on.new.guide.awake c.go_on.new.guide.sleepers) (sym c.in_ok-learn.ensures.lines) after)
 
 pub returns-then-is_empty-clause-written : goal.returns-then-is_empty-clause-written
 returns-then-is_empty-clause-written g c =
     let base = g.L.LedgerView.base c.args.ledger.now in
     let lines = g.L.LedgerView.lines c.args.ledger.now in
     let core = c.args.core.now in
+    let guide = c.args.guide.now in
+    let learned = c.in_ok-learned.learned in
     let line = c.in_ok-line.line in
-    let t : IsTurn base lines core c.args.conflict line = record { ready = c.requires.ready; conflicts = c.requires.conflict; is = c.in_ok-line.ensures.learned } in
-    turn_written base _ lines _ core c.args.conflict line t c.close.ensures.base c.in_ok-close.ensures.lines
+    let t : IsTurn base lines core guide.awake guide.sleepers c.args.conflict learned line = record { ready = c.requires.ready; conflicts = c.requires.conflict; is = c.in_ok-learned.ensures.learned; named = c.in_ok-line.ensures.line } in
+    turn_written base _ lines _ core guide.awake guide.sleepers c.args.conflict learned line t c.close.ensures.base c.in_ok-close.ensures.lines
 
 pub returns-clause-written : goal.returns-clause-written
 returns-clause-written g c =
     let base = g.L.LedgerView.base c.args.ledger.now in
     let lines = g.L.LedgerView.lines c.args.ledger.now in
     let core = c.args.core.now in
+    let guide = c.args.guide.now in
+    let learned = c.in_ok-learned.learned in
     let line = c.in_ok-line.line in
-    let t : IsTurn base lines core c.args.conflict line = record { ready = c.requires.ready; conflicts = c.requires.conflict; is = c.in_ok-line.ensures.learned } in
-    turn_written base _ lines _ core c.args.conflict line t c.learn.ensures.base c.in_ok-learn.ensures.lines
-
-pub returns-in_err-go_back-clause-written : goal.returns-in_err-go_back-clause-written
-returns-in_err-go_back-clause-written g c =
-    let base = g.L.LedgerView.base c.args.ledger.now in
-    let lines = g.L.LedgerView.lines c.args.ledger.now in
-    let core = c.args.core.now in
-    let line = c.in_ok-line.line in
-    let t : IsTurn base lines core c.args.conflict line = record { ready = c.requires.ready; conflicts = c.requires.conflict; is = c.in_ok-line.ensures.learned } in
-    turn_written base _ lines _ core c.args.conflict line t c.learn.ensures.base c.in_ok-learn.ensures.lines
-
-pub returns-in_err-turn-clause-written : goal.returns-in_err-turn-clause-written
-returns-in_err-turn-clause-written g c =
-    let base = g.L.LedgerView.base c.args.ledger.now in
-    let lines = g.L.LedgerView.lines c.args.ledger.now in
-    let core = c.args.core.now in
-    let line = c.in_ok-line.line in
-    let t : IsTurn base lines core c.args.conflict line = record { ready = c.requires.ready; conflicts = c.requires.conflict; is = c.in_ok-line.ensures.learned } in
-    turn_written base _ lines _ core c.args.conflict line t c.learn.ensures.base c.in_ok-learn.ensures.lines
+    let t : IsTurn base lines core guide.awake guide.sleepers c.args.conflict learned line = record { ready = c.requires.ready; conflicts = c.requires.conflict; is = c.in_ok-learned.ensures.learned; named = c.in_ok-line.ensures.line } in
+    turn_written base _ lines _ core guide.awake guide.sleepers c.args.conflict learned line t c.learn.ensures.base c.in_ok-learn.ensures.lines
 
 pub returns-then-is_empty-clause-closed : goal.returns-then-is_empty-clause-closed
 returns-then-is_empty-clause-closed g c = λ h.
@@ -138,3 +109,49 @@ returns-then-is_empty-clause-closed g c = λ h.
     let limit = c.close.ensures.limit in
     let few = closed_few (L.base old) (L.lines old) (L.lines c.close.new.self) c.in_ok-line.line (L.spent old) (L.limit old) c.requires.ready.fresh (g.met.L.LedgerView.charged old) (g.met.L.LedgerView.within old) c.in_ok-close.ensures.lines in
     omega (arith, few, limit)
+
+pub named-requires : goal.named-requires
+named-requires g c =
+    let core = c.args.core.now in
+    let learned = c.in_ok-learned.learned in
+    let l = c.in_ok-learned.ensures.learned in
+    let names : All (IsName (length core.clauses + 1)) learned.hints = subst (All (IsName (length core.clauses + 1))) (sym l.hints) (hints_names core.clauses core.trail l.resolved c.args.conflict learned.lits l.analysis) in
+    record { known = subst (λ n. All (IsName n) learned.hints) (sym c.requires.guided.listed.names) names }
+
+pub subset_of-requires : goal.subset_of-requires
+subset_of-requires g c =
+    let base = g.L.LedgerView.base c.args.ledger.now in
+    let lines = g.L.LedgerView.lines c.args.ledger.now in
+    let core = c.args.core.now in
+    let guide = c.args.guide.now in
+    let learned = c.in_ok-learned.learned in
+    let line = c.in_ok-line.line in
+    let t : IsTurn base lines core guide.awake guide.sleepers c.args.conflict learned line = record { ready = c.requires.ready; conflicts = c.requires.conflict; is = c.in_ok-learned.ensures.learned; named = c.in_ok-line.ensures.line } in
+    let some : 0 < length line.lits = let z = eqb-false (vec_len c.line.inside.lits) 0 (sym c.is_empty.ensures ∙ c.if-is_empty.false) in
+    positive (length line.lits) (λ e. z (omega (arith, e, ap (λ l. length l.lits) c.line.view_is))) in
+    let eq : c.deref.result.now ≡ line.lits = c.deref.ensures.value ∙ ap (λ l. l.lits) c.line.view_is in
+    subst (IsClause guide.sleepers.vars) (sym eq) (turn_about base lines core guide.awake guide.sleepers c.args.conflict learned line guide.sleepers.vars t some c.requires.guided.sleepers)
+
+pub returns-then-is_empty-2-clause-over : goal.returns-then-is_empty-2-clause-over
+returns-then-is_empty-2-clause-over g c = λ h.
+    let base = g.L.LedgerView.base c.args.ledger.now in
+    let lines = g.L.LedgerView.lines c.args.ledger.now in
+    let core = c.args.core.now in
+    let guide = c.args.guide.now in
+    let learned = c.in_ok-learned.learned in
+    let line = c.in_ok-line.line in
+    let t : IsTurn base lines core guide.awake guide.sleepers c.args.conflict learned line = record { ready = c.requires.ready; conflicts = c.requires.conflict; is = c.in_ok-learned.ensures.learned; named = c.in_ok-line.ensures.line } in
+    let some : 0 < length line.lits = let z = eqb-false (vec_len c.line.inside.lits) 0 (sym c.is_empty.ensures ∙ c.if-is_empty.false) in
+    positive (length line.lits) (λ e. z (omega (arith, e, ap (λ l. length l.lits) c.line.view_is))) in
+    turn_over base lines core guide.awake guide.sleepers c.args.conflict learned line t some (c.if-is_empty-2.ensures.none refl)
+
+pub returns-in_err-go_on-clause-written : goal.returns-in_err-go_on-clause-written
+returns-in_err-go_on-clause-written g c =
+    let base = g.L.LedgerView.base c.args.ledger.now in
+    let lines = g.L.LedgerView.lines c.args.ledger.now in
+    let core = c.args.core.now in
+    let guide = c.args.guide.now in
+    let learned = c.in_ok-learned.learned in
+    let line = c.in_ok-line.line in
+    let t : IsTurn base lines core guide.awake guide.sleepers c.args.conflict learned line = record { ready = c.requires.ready; conflicts = c.requires.conflict; is = c.in_ok-learned.ensures.learned; named = c.in_ok-line.ensures.line } in
+    turn_written base _ lines _ core guide.awake guide.sleepers c.args.conflict learned line t c.learn.ensures.base c.in_ok-learn.ensures.lines

@@ -1,4 +1,5 @@
 use Rattle.std.proofs.Common.{◌<◌, IfNone, length, refl, subst}
+use Rattle.std.proofs.lemmas.Result.{IfOk-weaker}
 use Rattle.run_rules.specs.declared.status.Status.TheVariants.{TooLong}
 use Rattle.run_rules.specs.Answers.{FilesValue, IsAnswer}
 use Rattle.run_rules.specs.Commands.{IsOneOf, Reads, answers_of}
@@ -8,7 +9,6 @@ use Rattle.run_rules.proofs.Answered.{refused_answers}
 use Rattle.run_rules.proofs.Ends.{command_ends}
 use Rattle.sccl_run.specs.Answering.{due_for}
 use Rattle.sccl_run.proofs.Dues.{long_due}
-use Rattle.sccl_run.proofs.Texts.{if_ok}
 use Rattle.sccl_run.proofs.commands.text_answer.Goals as goal
 
 pub returns-in-Some-clause-ends : goal.returns-in-Some-clause-ends
@@ -16,7 +16,7 @@ returns-in-Some-clause-ends g c =
     let command = c.args.command.now in
     let bytes = c.deref.result.now in
     let files : FilesValue = record { told = g.H.Shelf.tells c.command_answer.new.shelf; before = g.H.Shelf.file c.args.shelf.now; after = g.H.Shelf.file c.command_answer.new.shelf } in
-    if_ok c.command_answer.result (λ a. IsAnswer (task_of command bytes) files a.status a.text.items) (λ a. IsOneOf (answers_of command) a.status)
+    IfOk-weaker c.command_answer.result (λ a. IsAnswer (task_of command bytes) files a.status a.text.items) (λ a. IsOneOf (answers_of command) a.status)
     (λ a answer. command_ends command bytes files a.status a.text.items answer) c.command_answer.ensures.answers
 
 pub returns-in_ok-too_long-in-None-clause-answers :

@@ -1,8 +1,9 @@
 use Rattle.std.proofs.Common.{◌≡◌, ◌++◌, ◌∷◌, [], ap, ◌∙◌, rules}
 use Rattle.std.specs.Prelude.{codes}
+use Rattle.std.proofs.lemmas.Result.{on_ok_weaker}
 use Rattle.text_lines.specs.Text.{text_of}
 use Rattle.topology_text.specs.Spelling.{header_words, nodes_words}
-use Rattle.topology_text.proofs.Printed.{fields, front_text, front_lines, appended_three, on_ok}
+use Rattle.topology_text.proofs.Printed.{fields, front_text, front_lines, appended_three}
 use Rattle.topology_text.proofs.printing.push_front.Goals as goal
 use Rattle.topology_text.proofs.printing.push_front.Goals.{in-None, in-Some}
 
@@ -20,5 +21,5 @@ returns-clause-appended c =
     ] in
     let begun : first ≡ out ++ front_text value.custom = c.in_ok-push_word.ensures.appended ∙ ap (λ f. out ++ f) front in
     let names : second ≡ first ++ fields value.names = search rules in
-    on_ok c.push_word-2.result (last ≡ second ++ codes "\n") (last ≡ out ++ lines)
+    on_ok_weaker c.push_word-2.result
     (λ end. appended_three out first second last (front_text value.custom) (fields value.names) (codes "\n") lines begun names end (front_lines value.names value.custom)) c.push_word-2.ensures.appended

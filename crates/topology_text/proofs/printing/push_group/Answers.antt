@@ -1,8 +1,9 @@
 use Rattle.std.proofs.Common.{◌≡◌, ◌++◌, map, rules}
 use Rattle.std.specs.Prelude.{codes, decimal}
+use Rattle.std.proofs.lemmas.Result.{on_ok_weaker}
 use Rattle.text_lines.specs.Text.{line}
 use Rattle.topology_text.specs.Spelling.{link_word, group_words}
-use Rattle.topology_text.proofs.Printed.{fields, appended, group_is, on_ok}
+use Rattle.topology_text.proofs.Printed.{fields, appended, group_is}
 use Rattle.topology_text.proofs.printing.push_group.Goals as goal
 
 pub returns-clause-appended : goal.returns-clause-appended
@@ -15,6 +16,6 @@ returns-clause-appended c =
     let last = c.push_word-2.new.out.items in
     let width : second ≡ first ++ decimal group.width = search rules in
     let links : third ≡ second ++ fields (map (link_word names) group.links) = search rules in
-    on_ok c.push_word-2.result (last ≡ third ++ codes "\n") (last ≡ c.args.out.now.items ++ line (group_words names group))
+    on_ok_weaker c.push_word-2.result
     (λ end. appended c.args.out.now.items first second third last (codes "group ") (decimal group.width) (fields (map (link_word names) group.links)) (codes "\n") (line (group_words names group)) c.in_ok-push_word.ensures.appended width links end (group_is names group))
     c.push_word-2.ensures.appended

@@ -5,8 +5,9 @@ use Rattle.std.proofs.lemmas.List.{get_or_default}
 use Rattle.text_lines.specs.Text.{line}
 use Rattle.schedule.specs.Placed.{holds}
 use Rattle.topology_text.specs.Spelling.{name_at, holder_words}
-use Rattle.topology_text.proofs.Printed.{fields, appended, holders_is, name_more, name_skipped, on_ok, kept_on, kept_behind, front_kept, at_err}
+use Rattle.topology_text.proofs.Printed.{fields, appended, holders_is, name_more, name_skipped, kept_on, kept_behind, front_kept, at_err}
 use Rattle.std.specs.Io.{StartsWith}
+use Rattle.std.proofs.lemmas.Result.{on_ok_weaker}
 use Rattle.topology_text.proofs.printing.push_holders.Goals as goal
 use Rattle.topology_text.proofs.printing.push_holders.Goals.{then-holds+in_ok-push_name, else-holds}
 
@@ -49,7 +50,7 @@ returns-clause-appended c =
     let ended : c.loop-node.node ≡ c.args.held.now.nodes = omega (arith, c.loop-node-test.false, c.loop-node.auto.node-end, c.nodes-node-end.ensures.nodes) in
     let named : third ≡ second ++ fields words = c.loop-node.invariant ∙ ap (λ n. second ++ fields (map (name_at names) (filter held (range_with_len 0 n)))) ended in
     let spelled : (word ++ codes " ") ++ (decimal c.args.chunk ++ (fields words ++ codes "\n")) ≡ whole = append_assoc word (codes " ") (decimal c.args.chunk ++ (fields words ++ codes "\n")) ∙ holders_is word c.args.chunk words in
-    on_ok c.push_word-3.result (last ≡ third ++ codes "\n") (last ≡ out ++ whole)
+    on_ok_weaker c.push_word-3.result
     (λ end. appended out first second third last (word ++ codes " ") (decimal c.args.chunk) (fields words) (codes "\n") whole begun number named end spelled) c.push_word-3.ensures.appended
 
 pub returns-in_err-push_name-clause-kept : goal.returns-in_err-push_name-clause-kept

@@ -2,8 +2,9 @@ use Rattle.std.proofs.Common.{◌≡◌, ◌++◌, ◌∷◌, ◌≤◌, [], len
 use Rattle.std.proofs.lemmas.List.{append-nil, take_all}
 use Rattle.text_lines.specs.Text.{text_of}
 use Rattle.topology_text.specs.Spelling.{header_words, nodes_words, group_words, custom_lines, spelling}
-use Rattle.topology_text.proofs.Printed.{appended_three, spelling_is, on_ok, kept_more, kept_on, kept_behind, at_err, on_err}
+use Rattle.topology_text.proofs.Printed.{appended_three, spelling_is, kept_more, kept_on, kept_behind, at_err, on_err}
 use Rattle.std.specs.Io.{StartsWith}
+use Rattle.std.proofs.lemmas.Result.{on_ok_weaker}
 use Rattle.topology_text.proofs.printing.push_topology.Goals as goal
 
 pub returns-in-None-clause-appended : goal.returns-in-None-clause-appended
@@ -36,7 +37,7 @@ returns-in-Some-clause-appended c =
     let same : take c.loop-group.group-index shown ≡ value.topology.groups = take_all c.loop-group.group-index shown end ∙ c.groups-group-items.ensures.groups ∙ ap (λ t. t.groups) c.topology.ensures.topology in
     let printed : second ≡ first ++ groups = c.loop-group.invariant ∙ ap (λ n. first ++ text_of (map (group_words n) (take c.loop-group.group-index shown))) c.names-names.ensures.names ∙ ap (λ g. first ++ text_of (map (group_words value.names) g)) same in
     let given : text_of (custom_lines c.names-names.result.now (Some c.in-Some.pattern.now)) ≡ custom = ap (λ n. text_of (custom_lines n (Some c.in-Some.pattern.now))) c.names-names.ensures.names ∙ ap (λ p. text_of (custom_lines value.names p)) (sym c.in-Some.ensures.some) in
-    on_ok c.push_pattern.result (last ≡ second ++ text_of (custom_lines c.names-names.result.now (Some c.in-Some.pattern.now))) (last ≡ out ++ spelling value)
+    on_ok_weaker c.push_pattern.result
     (λ ended. appended_three out first second last front groups custom (spelling value) c.in_ok-push_front.ensures.appended printed (ended ∙ ap (λ t. second ++ t) given) (spelling_is value)) c.push_pattern.ensures.appended
 
 pub returns-in_err-push_group-clause-kept : goal.returns-in_err-push_group-clause-kept

@@ -14,7 +14,7 @@ invariant_of-result g c =
     let view = g.E.EngineView in
     let q : QuestionValue = view.question c.args.inner in
     let t = c.args.topology.now in
-    let s = c.args.spec in
+    let s = c.args.spec.now in
     let none = c.new-2.ensures.items in
     record {
       tabled =

@@ -1,4 +1,4 @@
-use Rattle.std.proofs.Common.{◌≡◌, ◌<◌, [], ◌∷◌, ◌++◌, None, sym, ap, ◌∙◌, subst}
+use Rattle.std.proofs.Common.{◌≡◌, ◌<◌, [], ◌∷◌, ◌++◌, None, sym, ap, ◌∙◌, subst, rules}
 use Rattle.std.proofs.lemmas.Bool.{false≢true}
 use Rattle.candidate_order.specs.declared.candidate.Candidate.{Candidate}
 use Rattle.candidate_order.specs.Frontiers.{QuestionValue, IsWithin}
@@ -80,4 +80,5 @@ pub returns-in-Ok-clause-solved : goal.returns-in-Ok-clause-solved
 returns-in-Ok-clause-solved g c schedule is =
     let view = g.E.EngineView in
     let told = c.in-Ok.ensures.solved schedule is in
-    (subst (λ (i : g.row.E.Denot). SolvesTightly (view.question i) c.args.candidate schedule) c.prepare.ensures.inner told.0, told.1)
+    let suited = told.1 in
+    (subst (λ (i : g.row.E.Denot). SolvesTightly (view.question i) c.args.candidate schedule) c.prepare.ensures.inner told.0, search (rules, suited))

@@ -1,6 +1,6 @@
-use Rattle.std.proofs.Common.{◌≡◌, ◌<◌, ℕ, Bool, true, List, [], ◌∷◌, ◌++◌, length, map, sym, ap, ◌∙◌, subst, arith}
+use Rattle.std.proofs.Common.{◌≡◌, ◌<◌, ℕ, Bool, List, [], ◌∷◌, ◌++◌, length, map, sym, ap, ◌∙◌, subst, arith}
 use Rattle.std.proofs.lemmas.List.{map_push, length-map}
-use Rattle.std.specs.Prelude.{Contains}
+use Rattle.std.specs.Prelude.{Contains, if◌then◌else◌}
 use Rattle.cnf_formula.specs.Literals.{LitValue, code_of}
 use Rattle.cnf_formula.specs.Formulas.{IsClause}
 use Rattle.proof_rules.specs.Held.{Entry}
@@ -32,7 +32,7 @@ invariant_of-self-2 c =
     let lits = c.args.lits.now in
     let clauses = map (λ v. v.items) i.clauses.items in
     let ids : c.push_reserved.new.self.items ≡ i.ids.items ++ id ∷ [] = c.push_reserved.ensures.items ∙ ap (λ xs. xs ++ id ∷ []) c.in_ok-reserve.ensures.items in
-    let live : c.push_reserved-2.new.self.items ≡ i.live.items ++ true ∷ [] = c.push_reserved-2.ensures.items ∙ ap (λ xs. xs ++ true ∷ []) c.in_ok-reserve-2.ensures.items in
+    let live : c.push_reserved-2.new.self.items ≡ i.live.items ++ c.args.held ∷ [] = c.push_reserved-2.ensures.items ∙ ap (λ xs. xs ++ c.args.held ∷ []) c.in_ok-reserve-2.ensures.items in
     let more : map (λ v. v.items) c.push_reserved-3.new.self.items ≡ clauses ++ lits ∷ [] =
     ap (map (λ v. v.items)) (c.push_reserved-3.ensures.items ∙ ap (λ xs. xs ++ c.in_ok-clause.clause ∷ []) c.in_ok-reserve-3.ensures.items) ∙ map_push (λ v. v.items) i.clauses.items c.in_ok-clause.clause ∙ ap (λ l. clauses ++ l ∷ []) c.in_ok-clause.ensures.ok in
     let above : last_of i.ids.items < id = omega (arith, ap (λ t. t.last) c.self.view_is, c.requires.above) in
@@ -44,9 +44,9 @@ invariant_of-self-2 c =
     let long : length lists ≡ length old = omega (arith, length-map c.note_literals.new.lists.items (λ v. v.items), length-map i.lists.items (λ v. v.items), c.note_literals.ensures.long) in
     let wide : length leads ≡ length led = omega (arith, length-map c.note.new.lists.items (λ v. v.items), length-map i.leads.items (λ v. v.items), c.note.ensures.long) in
     let place : c.len-place.result ≡ length clauses = omega (arith, c.len-place.ensures, ap length c.in_ok-reserve.ensures.items, c.self.invariant.many) in
-    let indexed = indexed_push i.vars clauses old lists lits c.self.invariant.indexed long c.note_literals.ensures.kept (λ l h. subst (Contains (list_at lists (code_of l))) place (c.in_ok-note_literals.ensures.noted l h)) in
+    let indexed = indexed_push i.vars i.live.items clauses old lists lits c.args.held c.self.invariant.indexed (omega (arith, c.self.invariant.lives, c.self.invariant.many)) long c.note_literals.ensures.kept (λ l h. subst (Contains (list_at lists (code_of l))) place (c.in_ok-note_literals.ensures.noted l h)) in
     let leading = led_push i.vars clauses led leads lits c.lead_of-lead.result c.self.invariant.led wide c.note.ensures.kept c.lead_of-lead.ensures (subst (Contains (list_at leads c.lead_of-lead.result)) place c.in_ok-note.ensures.noted) in
-    let s = stored_push i.vars i.ids.items i.live.items clauses old lists led leads id lits c.self.invariant above about indexed leading in
+    let s = stored_push i.vars i.ids.items i.live.items clauses old lists led leads id lits c.args.held c.self.invariant above about indexed leading in
     rw (ids, live, more) s
 
 pub returns-clause-added : goal.returns-clause-added
@@ -56,15 +56,15 @@ returns-clause-added c =
     let lits = c.args.lits.now in
     let clauses = map (λ v. v.items) i.clauses.items in
     let ids : c.push_reserved.new.self.items ≡ i.ids.items ++ id ∷ [] = c.push_reserved.ensures.items ∙ ap (λ xs. xs ++ id ∷ []) c.in_ok-reserve.ensures.items in
-    let live : c.push_reserved-2.new.self.items ≡ i.live.items ++ true ∷ [] = c.push_reserved-2.ensures.items ∙ ap (λ xs. xs ++ true ∷ []) c.in_ok-reserve-2.ensures.items in
+    let live : c.push_reserved-2.new.self.items ≡ i.live.items ++ c.args.held ∷ [] = c.push_reserved-2.ensures.items ∙ ap (λ xs. xs ++ c.args.held ∷ []) c.in_ok-reserve-2.ensures.items in
     let more : map (λ v. v.items) c.push_reserved-3.new.self.items ≡ clauses ++ lits ∷ [] =
     ap (map (λ v. v.items)) (c.push_reserved-3.ensures.items ∙ ap (λ xs. xs ++ c.in_ok-clause.clause ∷ []) c.in_ok-reserve-3.ensures.items) ∙ map_push (λ v. v.items) i.clauses.items c.in_ok-clause.clause ∙ ap (λ l. clauses ++ l ∷ []) c.in_ok-clause.ensures.ok in
     let make : List ℕ → List Bool → List (List LitValue) → TableValue = λ xs bs cs. record { vars = i.vars; clauses = cs; held = held_of xs bs cs; last = last_of xs } in
-    let grow : TableValue → TableValue = λ t. record { vars = t.vars; clauses = t.clauses ++ lits ∷ []; held = t.held ++ (id, lits) ∷ []; last = id } in
+    let grow : TableValue → TableValue = λ t. record { vars = t.vars; clauses = t.clauses ++ lits ∷ []; held = t.held ++ (if c.args.held then (id, lits) ∷ [] else []); last = id } in
     let fill : List Entry → ℕ → TableValue = λ h n. record { vars = i.vars; clauses = clauses ++ lits ∷ []; held = h; last = n } in
     ap (λ xs. make xs c.push_reserved-2.new.self.items (map (λ v. v.items) c.push_reserved-3.new.self.items)) ids
     ∙ ap (λ bs. make (i.ids.items ++ id ∷ []) bs (map (λ v. v.items) c.push_reserved-3.new.self.items)) live
-    ∙ ap (make (i.ids.items ++ id ∷ []) (i.live.items ++ true ∷ [])) more
-    ∙ ap (λ h. fill h (last_of (i.ids.items ++ id ∷ []))) (held_push i.ids.items i.live.items clauses id lits c.self.invariant.lives c.self.invariant.many)
-    ∙ ap (fill (held_of i.ids.items i.live.items clauses ++ (id, lits) ∷ [])) (last_push i.ids.items id)
+    ∙ ap (make (i.ids.items ++ id ∷ []) (i.live.items ++ c.args.held ∷ [])) more
+    ∙ ap (λ h. fill h (last_of (i.ids.items ++ id ∷ []))) (held_push i.ids.items i.live.items clauses id lits c.args.held c.self.invariant.lives c.self.invariant.many)
+    ∙ ap (fill (held_of i.ids.items i.live.items clauses ++ (if c.args.held then (id, lits) ∷ [] else []))) (last_push i.ids.items id)
     ∙ ap grow c.self.view_is

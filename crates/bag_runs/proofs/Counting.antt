@@ -1,0 +1,112 @@
+-- Bags with places for 16 counts, and the counts of so many nodes that they stand for.
+use Rattle.std.proofs.Common.{◌≡◌, ℕ, zero, suc, ◌+◌, ◌<◌, ◌≤◌, Bool, true, false, ◌&&◌, cond, eqb, min, List, [], ◌∷◌, length, map, get_or, set, replicate, take, refl, sym, ap, ◌∙◌, arith, ⊎_elim, get_or-set_same, get_or-set_other}
+use Rattle.std.specs.List.{list_all, range_with_len}
+use Rattle.std.proofs.lemmas.Bool.{cases_lt, eq-eqb}
+use Rattle.std.proofs.lemmas.List.{get_or_past, get_or-replicate, take_all}
+use Rattle.std.proofs.lemmas.List.FromFn.{get_or-map-range_with_len}
+use Rattle.schedule.specs.Bags.{is_empty, one_of}
+use Rattle.bag_runs.specs.Stores.{added_at_2}
+use Rattle.bag_runs.specs.Kept.{IsHeld, counted}
+use Rattle.bag_runs.proofs.Cells.{differ, same_or_not}
+
+-- functions that agree give the same list
+pub map_alike : {X : Type 0} (f g : ℕ → X) → ((k : ℕ) → f k ≡ g k) → (ks : List ℕ) → map f ks ≡ map g ks
+map_alike f g same [] = refl
+map_alike f g same (k ∷ ks) = ap (λ x. x ∷ map f ks) (same k) ∙ ap (λ xs. g k ∷ xs) (map_alike f g same ks)
+
+-- each of them is counted
+pub counted_at : (nodes : ℕ) (counts : List ℕ) (node : ℕ) → node < nodes → get_or (counted nodes counts) node 0 ≡ get_or counts node 0
+counted_at nodes counts node low = get_or-map-range_with_len (λ k. get_or counts k 0) 0 nodes node node 0 low (omega arith)
+
+-- ---- no contribution, and one
+
+abbrev pub zeros : List ℕ
+zeros = replicate 16 0
+
+zeros_length : length zeros ≡ 16
+zeros_length = refl
+
+none_at : (k : ℕ) → get_or zeros k 0 ≡ zero
+none_at k =
+    ⊎_elim
+    (λ (low : k < 16). get_or-replicate 16 k 0 0 low)
+    (λ (high : 16 ≤ k). get_or_past zeros k 0 (omega (arith, zeros_length)))
+    (cases_lt k 16)
+
+one_at : (node k : ℕ) → node < 16 → get_or (set zeros node 1) k 0 ≡ cond (eqb k node) 1 0
+one_at node k low =
+    ⊎_elim
+    (λ (here : k ≡ node). ap (λ i. get_or (set zeros node 1) i 0) here ∙ get_or-set_same zeros node 1 0 (omega (arith, zeros_length)) ∙ sym (ap (λ b. cond b 1 0) (eq-eqb k node here)))
+    (λ (apart : eqb k node ≡ false). get_or-set_other zeros node k 1 0 (differ k node apart) ∙ none_at k ∙ sym (ap (λ b. cond b 1 0) apart))
+    (same_or_not k node)
+
+pub counted_one : (node nodes : ℕ) → node < 16 → counted nodes (set zeros node 1) ≡ one_of nodes node
+counted_one node nodes low = map_alike (λ k. get_or (set zeros node 1) k 0) (λ k. cond (eqb k node) 1 0) (λ k. one_at node k low) (range_with_len 0 nodes)
+
+pub few : (b : Bool) → cond b 1 0 ≤ 2
+few true = omega arith
+few false = omega arith
+
+pub held_one : (node : ℕ) → node < 16 → IsHeld (set zeros node 1)
+held_one node low k = omega (arith, one_at node k low, few (eqb k node))
+
+-- ---- sums
+
+-- what a count of the sum is
+abbrev pub IsSum : List ℕ → List ℕ → List ℕ → Type 0
+IsSum counts a b = (k : ℕ) → get_or counts k 0 ≡ min (get_or a k 0 + get_or b k 0) 2
+
+-- counts that were filled in order, from none
+pub sum_filled : (counts a b : List ℕ) → length counts ≡ 16 → length a ≡ 16 → length b ≡ 16 → ((k : ℕ) → k < 16 → get_or counts k 0 ≡ min (get_or a k 0 + get_or b k 0) 2) → IsSum counts a b
+sum_filled counts a b n m l filled k =
+    ⊎_elim
+    (λ (low : k < 16). filled k low)
+    (λ (high : 16 ≤ k).
+    get_or_past counts k 0 (omega (arith, n))
+    ∙ sym (ap (λ x. min (x + get_or b k 0) 2) (get_or_past a k 0 (omega (arith, m))) ∙ ap (λ x. min (0 + x) 2) (get_or_past b k 0 (omega (arith, l)))))
+    (cases_lt k 16)
+
+summed : (f g : ℕ → ℕ) (ks : List ℕ) → map (λ k. min (f k + g k) 2) ks ≡ added_at_2 (map f ks) (map g ks)
+summed f g [] = refl
+summed f g (k ∷ ks) = ap (λ xs. min (f k + g k) 2 ∷ xs) (summed f g ks)
+
+pub counted_sum : (counts a b : List ℕ) → IsSum counts a b → (nodes : ℕ) → counted nodes counts ≡ added_at_2 (counted nodes a) (counted nodes b)
+counted_sum counts a b sums nodes =
+    map_alike (λ k. get_or counts k 0) (λ k. min (get_or a k 0 + get_or b k 0) 2) sums (range_with_len 0 nodes)
+    ∙ summed (λ k. get_or a k 0) (λ k. get_or b k 0) (range_with_len 0 nodes)
+
+-- ---- emptiness
+
+-- the first counts of a list are all 0 exactly where those that are counted are
+empty_counts : (counts : List ℕ) (nodes : ℕ) → list_all (λ count. eqb count 0) (take nodes counts) ≡ is_empty (counted nodes counts)
+empty_counts counts nodes = go counts nodes 0
+  where
+    shifted : (c : ℕ) (cs : List ℕ) (n from : ℕ) → map (λ k. get_or (c ∷ cs) k 0) (range_with_len (from + 1) n) ≡ map (λ k. get_or cs k 0) (range_with_len from n)
+    shifted c cs zero from = refl
+    shifted c cs (suc n) from =
+        let next : from + 1 ≡ suc from = omega arith in
+        ap (λ i. get_or (c ∷ cs) i 0 ∷ map (λ k. get_or (c ∷ cs) k 0) (range_with_len (from + 1 + 1) n)) next
+        ∙ ap (λ xs. get_or cs from 0 ∷ xs) (shifted c cs n (from + 1))
+
+    none_past : (n from : ℕ) → list_all (λ count. eqb count 0) (map (λ k. get_or [] k 0) (range_with_len from n)) ≡ true
+    none_past zero from = refl
+    none_past (suc n) from = none_past n (from + 1)
+
+    go : (cs : List ℕ) (n : ℕ) (z : ℕ) → list_all (λ count. eqb count 0) (take n cs) ≡ list_all (λ count. eqb count 0) (map (λ k. get_or cs k 0) (range_with_len 0 n))
+    go [] zero z = refl
+    go [] (suc n) z = sym (none_past n (0 + 1))
+    go (c ∷ cs) zero z = refl
+    go (c ∷ cs) (suc n) z =
+        ap (λ t. eqb c 0 && t) (go cs n z ∙ ap (list_all (λ count. eqb count 0)) (sym (shifted c cs n 0)))
+
+-- so it is where at most 16 are looked at
+pub empty_front : (counts : List ℕ) (nodes places : ℕ) → length counts ≡ 16 → places ≡ min nodes 16 → is_empty (take places counts) ≡ is_empty (counted nodes counts)
+empty_front counts nodes places size is =
+    ⊎_elim
+    (λ (low : nodes < 16). let all : places ≡ nodes = omega arith in ap (λ n. is_empty (take n counts)) all ∙ empty_counts counts nodes)
+    (λ (high : 16 ≤ nodes).
+    let all : places ≡ 16 = omega arith in
+    ap (λ n. is_empty (take n counts)) all
+    ∙ ap is_empty (take_all 16 counts (omega (arith, size)) ∙ sym (take_all nodes counts (omega (arith, size, high))))
+    ∙ empty_counts counts nodes)
+    (cases_lt nodes 16)

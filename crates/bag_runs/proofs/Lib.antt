@@ -1,0 +1,10 @@
+pub mod Cells
+pub mod Tables
+pub mod JoinedSteps
+pub mod Merging
+pub mod Arrivals
+pub mod Counting
+pub mod Storing
+pub mod Arriving
+pub mod Stepping
+pub mod CopiedBags

@@ -1,0 +1,80 @@
+-- The stores of a run step by step.
+use Rattle.std.proofs.Common.{◌≡◌, ℕ, suc, ◌+◌, List, [], ◌∷◌, ◌++◌, length, map, refl, sym, ap, ◌∙◌, arith}
+use Rattle.std.specs.List.{range_with_len}
+use Rattle.std.proofs.lemmas.List.FromFn.{map-range_with_len_more}
+use Rattle.schedule.specs.Bags.{Bags}
+use Rattle.schedule.specs.Sends.{IsInRange, ScheduleValue}
+use Rattle.schedule.specs.JoinedRuns.{joined_after, joined_run, joined_step}
+use Rattle.bag_runs.specs.Stores.{StoreValue, stored}
+
+-- the store after so many steps
+abbrev pub store_after : ℕ → ℕ → Bags → ScheduleValue → ℕ → ℕ → StoreValue
+store_after chunks nodes bags s adding n = stored chunks nodes (joined_after bags s adding n)
+
+-- the store that is held is that after so many steps, from any bags that the start holds
+pub record IsAfter (start : StoreValue) (s : ScheduleValue) (adding : ℕ) (held : StoreValue) (n : ℕ) : Type 0 where
+  pub chunks : held.chunks ≡ start.chunks
+  pub nodes : held.nodes ≡ start.nodes
+  pub held_is : (bags : Bags) → start ≡ stored start.chunks start.nodes bags → held ≡ store_after start.chunks start.nodes bags s adding n
+
+-- and these are the stores before
+pub record HasCome (start : StoreValue) (s : ScheduleValue) (adding : ℕ) (held : StoreValue) (run : List StoreValue) (n : ℕ) : Type 0 where
+  pub after : IsAfter start s adding held n
+  pub run_is : (bags : Bags) → start ≡ stored start.chunks start.nodes bags → run ≡ map (store_after start.chunks start.nodes bags s adding) (range_with_len 0 n)
+
+-- the step after so many
+abbrev pub IsNext : ScheduleValue → ℕ → ℕ → StoreValue → StoreValue → Type 0
+IsNext s adding step before after = (bags : Bags) → before ≡ stored before.chunks before.nodes bags → after ≡ stored before.chunks before.nodes (joined_step s.sends adding bags step)
+
+module _ (start : StoreValue) (s : ScheduleValue) (adding : ℕ) where
+  pub after_none : (held : StoreValue) → held ≡ start → IsAfter start s adding held 0
+  after_none held is = record {
+    chunks = ap (λ x. x.chunks) is;
+    nodes = ap (λ x. x.nodes) is;
+    held_is = λ bags from. is ∙ from;
+  }
+
+  pub come_none : (held : StoreValue) → held ≡ start → HasCome start s adding held [] 0
+  come_none held is = record { after = after_none held is; run_is = λ bags from. refl }
+
+  module _ (held next : StoreValue) (n : ℕ) (after : IsAfter start s adding held n) where
+    pub range_kept : IsInRange start.chunks start.nodes s → IsInRange held.chunks held.nodes s
+    range_kept range = rw (after.chunks, after.nodes) range
+
+    pub after_more : IsNext s adding (n + 1) held next → next.chunks ≡ held.chunks → next.nodes ≡ held.nodes → IsAfter start s adding next (n + 1)
+    after_more is_next chunks nodes = record { chunks = chunks ∙ after.chunks; nodes = nodes ∙ after.nodes; held_is = next_is }
+      where
+        next_is : (bags : Bags) → start ≡ stored start.chunks start.nodes bags → next ≡ store_after start.chunks start.nodes bags s adding (n + 1)
+        next_is bags from =
+            let before : Bags = joined_after bags s adding n in
+            let one : n + 1 ≡ suc n = omega arith in
+            let own : held ≡ stored held.chunks held.nodes before =
+            after.held_is bags from ∙ ap (λ c. stored c start.nodes before) (sym after.chunks) ∙ ap (λ w. stored held.chunks w before) (sym after.nodes) in
+            is_next before own
+            ∙ ap (λ c. stored c held.nodes (joined_step s.sends adding before (n + 1))) after.chunks
+            ∙ ap (λ w. stored start.chunks w (joined_step s.sends adding before (n + 1))) after.nodes
+            ∙ sym (ap (store_after start.chunks start.nodes bags s adding) one)
+
+  module _ (held : StoreValue) (run : List StoreValue) (n : ℕ) (come : HasCome start s adding held run n) where
+    pub run_pushed : (bags : Bags) → start ≡ stored start.chunks start.nodes bags → run ++ held ∷ [] ≡ map (store_after start.chunks start.nodes bags s adding) (range_with_len 0 (n + 1))
+    run_pushed bags from =
+        ap (λ r. r ++ held ∷ []) (come.run_is bags from)
+        ∙ ap (λ h. map (store_after start.chunks start.nodes bags s adding) (range_with_len 0 n) ++ h ∷ []) (come.after.held_is bags from)
+        ∙ sym (map-range_with_len_more (store_after start.chunks start.nodes bags s adding) 0 n n (omega arith))
+
+    pub come_more : (next : StoreValue) (new : List StoreValue) → IsNext s adding (n + 1) held next → next.chunks ≡ held.chunks → next.nodes ≡ held.nodes → new ≡ run ++ held ∷ [] → HasCome start s adding next new (n + 1)
+    come_more next new is_next chunks nodes pushed = record {
+      after = after_more held next n come.after is_next chunks nodes;
+      run_is = λ bags from. pushed ∙ run_pushed bags from;
+    }
+
+    -- the whole run
+    pub run_whole : (new : List StoreValue) → n ≡ length s.rounds → new ≡ run ++ held ∷ [] → (bags : Bags) → start ≡ stored start.chunks start.nodes bags → new ≡ map (stored start.chunks start.nodes) (joined_run bags s adding)
+    run_whole new all pushed bags from =
+        pushed ∙ run_pushed bags from
+        ∙ ap (λ k. map (store_after start.chunks start.nodes bags s adding) (range_with_len 0 (k + 1))) all
+        ∙ sym (both (range_with_len 0 (length s.rounds + 1)))
+      where
+        both : (ks : List ℕ) → map (stored start.chunks start.nodes) (map (joined_after bags s adding) ks) ≡ map (store_after start.chunks start.nodes bags s adding) ks
+        both [] = refl
+        both (k ∷ ks) = ap (λ xs. store_after start.chunks start.nodes bags s adding k ∷ xs) (both ks)

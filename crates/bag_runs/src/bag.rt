@@ -1,0 +1,109 @@
+ghost use Rattle.std.specs.Prelude.{◌≡◌, ℕ, ◌+◌, ◌≤◌, ◌<◌, min, slice_index};
+ghost use Rattle.schedule.specs.Bags.{empty_bag, is_empty, one_of};
+ghost use Rattle.bag_runs.specs.Stores.{received, added_at_2};
+ghost use Rattle.bag_runs.specs.Kept.{IsHeld, counted};
+
+use crate::mode::Mode;
+use std::marker::Model;
+
+/// How often each of 16 nodes has contributed, where 2 stands for two or more.
+#[derive(Clone, Copy, Debug)]
+pub struct Bag {
+    counts: [u8; 16],
+}
+
+impl Model for Bag {
+    ghost use Rattle.std.specs.Prelude.{ℕ, List};
+    ghost use Rattle.bag_runs.specs.Kept.{IsHeld};
+
+    ghost Value = { List ℕ };
+
+    ghost view = { λ b. b.counts };
+
+    ghost invariant = { λ b. IsHeld b.counts };
+
+    ghost inverse = { λ counts. record { counts = counts } };
+}
+
+impl Bag {
+    /// No node has contributed.
+    pub(crate) fn empty() -> Bag
+        ensures none { (nodes : ℕ) → counted nodes result ≡ empty_bag nodes }
+        ensures held { IsHeld result }
+    {
+        Bag { counts: [0; 16] }
+    }
+
+    /// One contribution of a node.
+    pub(crate) fn one_of(node: u8) -> Bag
+        requires { node < 16 }
+        ensures one { (nodes : ℕ) → counted nodes result ≡ one_of nodes node }
+        ensures held { IsHeld result }
+    {
+        let mut counts = [0; 16];
+        counts[node as usize] = 1;
+        Bag { counts }
+    }
+
+    /// The counts, each at most 2.
+    pub fn counts(&self) -> &[u8; 16]
+        ensures counts { result.now ≡ self.now }
+        ensures held { IsHeld self.now }
+    {
+        &self.counts
+    }
+
+    /// How often a node has contributed: 0, 1, or 2 for two or more. A node beyond the 16th never has.
+    pub fn count(&self, node: u8) -> u8
+        ensures count { result ≡ slice_index self.now node }
+        ensures held { result ≤ 2 }
+    {
+        if node < 16 {
+            self.counts[node as usize]
+        } else {
+            0
+        }
+    }
+
+    /// None of the first nodes has contributed.
+    pub(crate) fn is_empty(&self, nodes: u8) -> bool
+        ensures { result ≡ is_empty (counted nodes self.now) }
+    {
+        let places = usize::from(nodes).min(16);
+        is_empty(&self.counts[..places])
+    }
+
+    /// The contributions of both.
+    fn added(&self, other: &Bag) -> Bag
+        ensures sum { (nodes : ℕ) → counted nodes result ≡ added_at_2 (counted nodes self.now) (counted nodes other.now) }
+        ensures held { IsHeld result }
+    {
+        let mut counts = [0; 16];
+        for node in 0..16 {
+            counts[node] = (self.counts[node] + other.counts[node]).min(2);
+        }
+        Bag { counts }
+    }
+
+    /// What this bag becomes where another arrives: their sum, or the other unless it is empty.
+    pub(crate) fn received(&self, mode: Mode, arrived: &Bag, nodes: u8) -> Bag
+        ensures bag { counted nodes result ≡ received mode (counted nodes self.now) (counted nodes arrived.now) }
+        ensures held { IsHeld result }
+    {
+        // Both are held at 2.
+        let _own = &self.counts;
+        let _other = &arrived.counts;
+        match mode {
+            Mode::Add => self.added(arrived),
+            Mode::Copy if arrived.is_empty(nodes) => *self,
+            Mode::Copy => *arrived,
+        }
+    }
+}
+
+/// All counts are 0.
+fn is_empty(counts: &[u8]) -> bool
+    ensures { result ≡ is_empty counts.now }
+{
+    counts.iter().all(|count| *count == 0)
+}

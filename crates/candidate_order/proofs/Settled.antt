@@ -1,0 +1,100 @@
+-- Two searches that give up nothing find points of the same candidates, and refute the same ones.
+use Rattle.std.proofs.Common.{◌≡◌, ◌≤◌, List, [], inl, inr, ⊎_elim, sym, subst}
+use Rattle.std.specs.Prelude.{◌⊎◌, nat_le, All, Contains}
+use Rattle.std.proofs.lemmas.Bool.{and_parts, leb-true}
+use Rattle.std.proofs.lemmas.List.Elements.{All-contains, Contains-get_or}
+use Rattle.schedule.proofs.First.{Among, Among-from_Contains, Contains-from_Among, map_among}
+use Rattle.collective_spec.specs.Kinds.{divides_evenly}
+use Rattle.collective_spec.specs.Collectives.{kind_in, adds_up}
+use Rattle.candidate_order.specs.declared.candidate.Candidate.{Candidate}
+use Rattle.candidate_order.specs.Costs.{NoWorse, Before}
+use Rattle.candidate_order.specs.Frontiers.{QuestionValue, PointValue, FrontierValue, solved, given_up, IsWithin, IsSolvable, IsPoint, RightFrontier, IsTried, IsWorthTrying, Searched}
+use Rattle.candidate_order.proofs.Orders.{Before-trans, Before-total}
+use Rattle.candidate_order.proofs.Frontiers.{none-contained, shown}
+use Rattle.candidate_order.proofs.Unique.{candidates_apart, one_list_of_candidates}
+use Rattle.candidate_order.proofs.Turns.{Settles, one_by_turns}
+
+abbrev HasChunk : Candidate → Type 0
+HasChunk x = 1 ≤ x.c
+
+has_chunk : (q : QuestionValue) (x : Candidate) → IsWithin q x → HasChunk x
+has_chunk q x within = leb-true 1 x.c (and_parts (nat_le 1 x.c) (divides_evenly (kind_in q.spec) q.topology.nodes x.c) within.allowed).0
+
+each : {X : Type 0} (P : X → Type 0) (xs : List X) → ((x : X) → Contains xs x → P x) → All P xs
+each P xs h k d low = h _ (Contains-get_or xs k d low)
+
+module _ (q : QuestionValue) where
+  -- the candidate of a point is within the limits, and its schedule shows that it can be solved
+  record IsSettled (x : Candidate) : Type 0 where
+    within : IsWithin q x
+    solvable : IsSolvable q x
+
+  settled_by : (refuted : List Candidate) (p : PointValue) → IsPoint q refuted p → IsSettled p.candidate
+  settled_by refuted p point =
+      let by = point.solves in
+      record {
+        within = point.within;
+        solvable = shown (adds_up q.spec) q.topology q.spec q.limits p.candidate p.schedule by.valid by.in_range by.achieves;
+      }
+
+  settled : (f : FrontierValue) → RightFrontier q f → (x : Candidate) → Contains (solved f) x → IsSettled x
+  settled f right x has =
+      let (p, among, is) = map_among (λ (p : PointValue). p.candidate) x f.points (Among-from_Contains x (solved f) has) in
+      let point = All-contains (IsPoint q f.refuted) f.points p right.points (Contains-from_Among p f.points among) in
+      subst IsSettled is (settled_by f.refuted p point)
+
+  -- what is worth trying is a point or refuted, where nothing is given up
+  decided : (f : FrontierValue) → Searched q f → f.unknown ≡ [] → (x : Candidate) → IsWithin q x → IsWorthTrying f x → Contains (solved f) x ⊎ Contains f.refuted x
+  decided f searched none x within worth = by_list ((searched.tried x within).1 worth)
+    where
+      by_list : IsTried f x → Contains (solved f) x ⊎ Contains f.refuted x
+      by_list (inl point) = inl point
+      by_list (inr (inl refuted)) = inr refuted
+      by_list (inr (inr unknown)) = absurd (none-contained (given_up f) x (rw none) unknown)
+
+  module _ (f g : FrontierValue) (right_f : RightFrontier q f) (right_g : RightFrontier q g) (searched_f : Searched q f) (searched_g : Searched q g) where
+    -- a point of the one is a point of the other, where the points of the other before it are points of the one
+    point_settles : g.unknown ≡ [] → (x : Candidate) → Contains (solved f) x → ((y : Candidate) → Contains (solved g) y → Before y x → Contains (solved f) y) → Contains (solved g) x
+    point_settles none x has earlier =
+        ⊎_elim
+        (λ point. point)
+        (λ (refuted : Contains g.refuted x). absurd (All-contains (λ y. IsSolvable q y → ⊥) g.refuted x right_g.refuted refuted is.solvable))
+        (decided g searched_g none x is.within worth)
+      where
+        is : IsSettled x
+        is = settled f right_f x has
+
+        worth : IsWorthTrying g x
+        worth = each (λ p. Before p x → NoWorse p x → ⊥) (solved g) (λ p at before.
+            All-contains (λ y. Before y x → NoWorse y x → ⊥) (solved f) p ((searched_f.tried x is.within).0 (inl has)) (earlier p at before) before)
+
+    -- what the one refutes the other refutes, where their points are the same
+    refuted_settles : g.unknown ≡ [] → solved f ≡ solved g → (x : Candidate) → IsWithin q x → Contains f.refuted x → Contains g.refuted x
+    refuted_settles none same x within refuted =
+        ⊎_elim
+        (λ (point : Contains (solved g) x). absurd (All-contains (λ y. (Contains f.refuted y ⊎ Contains (given_up f) y) → ⊥) (solved f) x searched_f.points_apart (subst (λ xs. Contains xs x) (sym same) point) (inl refuted)))
+        (λ h. h)
+        (decided g searched_g none x within (subst (All (λ p. Before p x → NoWorse p x → ⊥)) same ((searched_f.tried x within).0 (inr (inl refuted)))))
+
+pub same_points : (q : QuestionValue) (f g : FrontierValue) → RightFrontier q f → Searched q f → RightFrontier q g → Searched q g → f.unknown ≡ [] → g.unknown ≡ [] → solved f ≡ solved g
+same_points q f g right_f searched_f right_g searched_g none_f none_g =
+    one_by_turns Before HasChunk candidates_apart Before-trans Before-total (solved f) (solved g)
+    (chunks f right_f) (chunks g right_g)
+    (settles f g right_f right_g searched_f searched_g none_g) (settles g f right_g right_f searched_g searched_f none_f)
+    searched_f.points_ascend searched_g.points_ascend
+  where
+    chunks : (h : FrontierValue) → RightFrontier q h → (x : Candidate) → Among x (solved h) → HasChunk x
+    chunks h right x among = has_chunk q x (settled q h right x (Contains-from_Among x (solved h) among)).within
+
+    settles : (a b : FrontierValue) → RightFrontier q a → RightFrontier q b → Searched q a → Searched q b → b.unknown ≡ [] → Settles Before (solved a) (solved b)
+    settles a b right_a right_b searched_a searched_b none x among earlier =
+        Among-from_Contains x (solved b) (point_settles q a b right_a right_b searched_a searched_b none x (Contains-from_Among x (solved a) among)
+        (λ y has before. Contains-from_Among y (solved a) (earlier y (Among-from_Contains y (solved b) has) before)))
+
+pub same_refuted : (q : QuestionValue) (f g : FrontierValue) → RightFrontier q f → Searched q f → RightFrontier q g → Searched q g → All (IsWithin q) f.refuted → All (IsWithin q) g.refuted → f.unknown ≡ [] → g.unknown ≡ [] → f.refuted ≡ g.refuted
+same_refuted q f g right_f searched_f right_g searched_g within_f within_g none_f none_g =
+    let same = same_points q f g right_f searched_f right_g searched_g none_f none_g in
+    one_list_of_candidates f.refuted g.refuted searched_f.refuted_ascend searched_g.refuted_ascend (λ x. (
+      λ has. refuted_settles q f g right_f right_g searched_f searched_g none_g same x (All-contains (IsWithin q) f.refuted x within_f has) has,
+      λ has. refuted_settles q g f right_g right_f searched_g searched_f none_f (sym same) x (All-contains (IsWithin q) g.refuted x within_g has) has,
+    ))

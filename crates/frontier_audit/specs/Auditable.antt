@@ -1,0 +1,17 @@
+-- What an audit asks of a part.
+use Rattle.std.specs.Prelude.{◌≢◌, ◌≤◌}
+use Rattle.schedule.specs.Links.{IsTopology}
+use Rattle.collective_spec.specs.declared.kind.Kind.TheVariants.{Allreduce}
+use Rattle.collective_spec.specs.Collectives.{IsSpec, kind_in}
+use Rattle.candidate_order.specs.Ranges.{IsLimits}
+use Rattle.candidate_order.specs.Frontiers.{QuestionValue}
+use Rattle.round_encoding.specs.Candidates.{size_limit}
+use Rattle.candidate_formula.specs.Sizes.{size_of}
+
+-- what is asked keeps its rules, is not joined of two others, and is small enough to have formulas
+pub record IsAuditable (q : QuestionValue) : Type 0 where
+  pub topology : IsTopology q.topology
+  pub spec : IsSpec q.topology.nodes q.spec
+  pub single : kind_in q.spec ≢ Allreduce
+  pub limits : IsLimits q.limits
+  pub size : size_of q ≤ size_limit

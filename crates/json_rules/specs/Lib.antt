@@ -1,0 +1,3 @@
+pub mod ReportJson
+pub mod ProgramsJson
+pub mod Answer

@@ -1,0 +1,2 @@
+//! What the JSON of reports and of programs is, and which JSON stands for a report.
+#![tactic(auto)]

@@ -1,0 +1,78 @@
+-- Lists without the places of clauses that are no longer held.
+use Rattle.std.proofs.Common.{◌≡◌, ◌⊎◌, ℕ, zero, suc, ◌<◌, Bool, true, List, [], ◌∷◌, length, get_or, set, sym, ap, ◌∙◌, subst, ⊎_elim, arith}
+use Rattle.std.specs.Prelude.{if◌then◌else◌, not, All, Contains, filter}
+use Rattle.std.proofs.lemmas.Bool.{cases_Bool, cases_eq, and_parts}
+use Rattle.std.proofs.lemmas.List.{get_or-set_same, get_or-set_other, length-set}
+use Rattle.std.proofs.lemmas.List.Elements.{filter_passes}
+use Rattle.cnf_formula.specs.Literals.{LitValue, code_of}
+use Rattle.lrat_checker.specs.Stored.{list_at, is_held, kept_live, IsStored}
+use Rattle.lrat_checker.proofs.Placed.{live_within}
+use Rattle.lrat_checker.proofs.Removed.{among, kept_at, kept_long}
+
+-- ---- what passes stays
+
+stays_behind : (test : ℕ → Bool) (x : ℕ) (xs : List ℕ) (k : ℕ) → Contains (filter test xs) k → Contains (filter test (x ∷ xs)) k
+stays_behind test x xs k (j, w, e) =
+    let more : List ℕ → Bool → List ℕ = λ ys b. if b then x ∷ ys else ys in
+    ⊎_elim (λ t. subst (λ b. Contains (more (filter test xs) b) k) (sym t) (suc j, omega (arith, w), e)) (λ f. subst (λ b. Contains (more (filter test xs) b) k) (sym f) (j, w, e)) (cases_Bool (test x))
+
+pub stays : (test : ℕ → Bool) (xs : List ℕ) (k : ℕ) → test k ≡ true → Contains xs k → Contains (filter test xs) k
+stays test [] k t (j, w, e) = absurd (omega (arith, w))
+stays test (x ∷ xs) k t (zero, w, e) = subst (λ b. Contains (if b then x ∷ filter test xs else filter test xs) k) (sym (ap test e ∙ t)) (0, omega arith, e)
+stays test (x ∷ xs) k t (suc j, w, e) = stays_behind test x xs k (stays test xs k t (j, omega (arith, w), e))
+
+-- a list without what is no longer held
+abbrev pub cleaned : List Bool → List (List ℕ) → ℕ → List (List ℕ)
+cleaned live lists code = set lists code (filter (is_held live) (list_at lists code))
+
+pub still_there : (live : List Bool) (lists : List (List ℕ)) (code other k : ℕ) → code < length lists → is_held live k ≡ true → Contains (list_at lists other) k → Contains (list_at (cleaned live lists code) other) k
+still_there live lists code other k w a h =
+    let new = filter (is_held live) (list_at lists code) in
+    ⊎_elim (λ e. subst (λ xs. Contains xs k) (sym (ap (list_at (cleaned live lists code)) e ∙ get_or-set_same lists code new [] w)) (stays (is_held live) (list_at lists code) k a (subst (λ c. Contains (list_at lists c) k) e h)))
+    (λ n. subst (λ xs. Contains xs k) (sym (get_or-set_other lists code other new [] n)) h)
+    (cases_eq other code)
+
+pub all_held : (live : List Bool) (lists new : List (List ℕ)) (code : ℕ) → code < length lists → new ≡ cleaned live lists code → All (λ k. is_held live k ≡ true) (list_at new code)
+all_held live lists new code w e =
+    let kept = filter (is_held live) (list_at lists code) in
+    subst (All (λ k. is_held live k ≡ true)) (sym (ap (λ ls. list_at ls code) e ∙ get_or-set_same lists code kept [] w)) (filter_passes (is_held live) (list_at lists code))
+
+pub stored_cleaned : (vars : ℕ) (ids : List ℕ) (live : List Bool) (clauses : List (List LitValue)) (lists leads : List (List ℕ)) (code : ℕ) → IsStored vars ids live clauses lists leads → code < length lists
+    → IsStored vars ids live clauses (cleaned live lists code) leads
+stored_cleaned vars ids live clauses lists leads code s w = record {
+  rises = s.rises;
+  some = s.some;
+  lives = s.lives;
+  many = s.many;
+  about = s.about;
+  indexed = record {
+    long = length-set lists code _ ∙ s.indexed.long;
+    each = λ k l a h. still_there live lists code (code_of l) k w a (s.indexed.each k l a h);
+  };
+  led = s.led;
+}
+
+-- ---- clauses that are let go
+
+held_before : (ids : List ℕ) (live : List Bool) (gone : List ℕ) (k : ℕ) → length live ≡ length ids → is_held (kept_live ids live gone) k ≡ true → is_held live k ≡ true
+held_before ids live gone k l a =
+    let w : k < length ids = omega (arith, live_within (kept_live ids live gone) k a, kept_long ids live gone l) in
+    (and_parts (is_held live k) (not (among gone (get_or ids k 0))) (sym (kept_at ids live gone k l w) ∙ a)).0
+
+pub stored_let_go : (vars : ℕ) (ids : List ℕ) (live live' : List Bool) (clauses : List (List LitValue)) (lists leads : List (List ℕ)) (gone : List ℕ) → IsStored vars ids live clauses lists leads
+    → (live' ≡ kept_live ids live gone) ⊎ (live' ≡ live) → IsStored vars ids live' clauses lists leads
+stored_let_go vars ids live live' clauses lists leads gone s new = ⊎_elim (λ e. subst (λ bs. IsStored vars ids bs clauses lists leads) (sym e) fewer) (λ e. subst (λ bs. IsStored vars ids bs clauses lists leads) (sym e) s) new
+  where
+    fewer : IsStored vars ids (kept_live ids live gone) clauses lists leads
+    fewer = record {
+      rises = s.rises;
+      some = s.some;
+      lives = kept_long ids live gone s.lives;
+      many = s.many;
+      about = s.about;
+      indexed = record {
+        long = s.indexed.long;
+        each = λ k l a h. s.indexed.each k l (held_before ids live gone k s.lives a) h;
+      };
+      led = s.led;
+    }

@@ -1,0 +1,100 @@
+-- A table of what is held and of the first clauses, place by place.
+use Rattle.std.proofs.Common.{◌≡◌, ℕ, ◌+◌, ◌-◌, ◌<◌, ◌≤◌, Bool, false, List, [], ◌∷◌, ◌++◌, length, take, get_or, refl, sym, ap, ◌∙◌, ⊎_elim, arith}
+use Rattle.std.specs.Prelude.{if◌then◌else◌, All}
+use Rattle.std.proofs.lemmas.Bool.{cases_lt}
+use Rattle.std.proofs.lemmas.List.{take_more, take_all, take-append-le, length-take-le, length_push, append-nil}
+use Rattle.cnf_formula.specs.Literals.{LitValue}
+use Rattle.lrat_checker.specs.Stored.{TableValue, HasForgotten, held_of, last_of, Rises}
+use Rattle.lrat_checker.proofs.Placed.{held_push, rises_weakly}
+
+-- a table has what is held before a place, and the first so many clauses
+pub record IsPart (count first k : ℕ) (ids : List ℕ) (live : List Bool) (clauses : List (List LitValue)) (table : TableValue) : Type 0 where
+  pub vars : table.vars ≡ count
+  pub held : table.held ≡ held_of (take k ids) (take k live) (take k clauses)
+  pub long : k ≤ first → length table.clauses ≡ k
+  pub many : first ≤ k → first ≤ length table.clauses
+  pub front : (n : ℕ) → n ≤ first → n ≤ k → take n table.clauses ≡ take n clauses
+  pub below : (j : ℕ) → k ≤ j → j < length ids → table.last < get_or ids j 0
+  pub last : table.last ≤ last_of ids
+
+pub part_none : (vars first : ℕ) (ids : List ℕ) (live : List Bool) (clauses : List (List LitValue)) → All (λ id. 0 < id) ids → IsPart vars first 0 ids live clauses (record { vars = vars; clauses = []; held = []; last = 0 })
+part_none vars first ids live clauses some = record {
+  vars = refl;
+  held = refl;
+  long = λ w. refl;
+  many = λ w. w;
+  front = λ n a b. let none : n ≡ 0 = omega (arith, b) in ap (λ m. take m []) none ∙ sym (ap (λ m. take m clauses) none);
+  below = λ j w u. some j 0 u;
+  last = omega arith;
+}
+
+module _ (vars first k : ℕ) (ids : List ℕ) (live : List Bool) (clauses : List (List LitValue)) (table : TableValue) (rises : Rises ids) (l : length live ≡ length ids) (m : length clauses ≡ length ids) (w : k < length ids) (p : IsPart vars first k ids live clauses table) where
+  abbrev pub number : ℕ
+  number = get_or ids k 0
+
+  abbrev pub clause : List LitValue
+  clause = get_or clauses k []
+
+  -- what is held before the next place
+  more_held : (b : Bool) → get_or live k false ≡ b → held_of (take (k + 1) ids) (take (k + 1) live) (take (k + 1) clauses) ≡ table.held ++ (if b then (number, clause) ∷ [] else [])
+  more_held b e =
+      let a = take k ids in
+      let c = take k live in
+      let d = take k clauses in
+      let wl : k < length live = omega (arith, w, l) in
+      let wm : k < length clauses = omega (arith, w, m) in
+      let n = length-take-le k ids (omega (arith, w)) in
+      let n' = length-take-le k live (omega (arith, wl)) in
+      let n'' = length-take-le k clauses (omega (arith, wm)) in
+      ap (λ xs. held_of xs (take (k + 1) live) (take (k + 1) clauses)) (take_more ids k 0 w)
+      ∙ ap (λ bs. held_of (a ++ number ∷ []) bs (take (k + 1) clauses)) (take_more live k false wl ∙ ap (λ x. c ++ x ∷ []) e)
+      ∙ ap (λ cs. held_of (a ++ number ∷ []) (c ++ b ∷ []) cs) (take_more clauses k [] wm)
+      ∙ held_push a c d number clause b (n' ∙ sym n) (n'' ∙ sym n)
+      ∙ ap (λ h. h ++ (if b then (number, clause) ∷ [] else [])) (sym p.held)
+
+  -- how many clauses there are, at least
+  room : (n : ℕ) → n ≤ first → n ≤ k → n ≤ length table.clauses
+  room n a b = ⊎_elim (λ lt. let e = p.long (omega (arith, lt)) in omega (arith, b, e)) (λ ge. let e = p.many ge in omega (arith, a, e)) (cases_lt k first)
+
+  pub part_push : (b : Bool) → get_or live k false ≡ b → IsPart vars first (k + 1) ids live clauses (record { vars = table.vars; clauses = table.clauses ++ clause ∷ []; held = table.held ++ (if b then (number, clause) ∷ [] else []); last = number })
+  part_push b e = record {
+    vars = p.vars;
+    held = sym (more_held b e);
+    long = λ u. let here = p.long (omega (arith, u)) in omega (arith, here, n);
+    many = λ u. ⊎_elim (λ lt. let here = p.long (omega (arith, lt)) in omega (arith, here, n, u)) (λ ge. let here = p.many ge in omega (arith, here, n)) (cases_lt k first);
+    front = λ q a u. ⊎_elim (λ lt. let in' : q ≤ k = omega (arith, lt) in take-append-le q table.clauses (clause ∷ []) (room q a in') ∙ p.front q a in')
+        (λ ge. let at : q ≡ k + 1 = omega (arith, ge, u) in ap (λ r. take r (table.clauses ++ clause ∷ [])) at ∙ whole (omega (arith, at, a)) ∙ sym (ap (λ r. take r clauses) at)) (cases_lt q (k + 1));
+    below = λ j u v. rises k j (omega (arith, u)) v;
+    last = rises_weakly ids rises k (length ids - 1) (omega (arith, w)) (omega (arith, w));
+  }
+    where
+      n : length (table.clauses ++ clause ∷ []) ≡ length table.clauses + 1
+      n = length_push table.clauses clause
+
+      whole : k < first → take (k + 1) (table.clauses ++ clause ∷ []) ≡ take (k + 1) clauses
+      whole u =
+          let long = p.long (omega (arith, u)) in
+          take_all (k + 1) (table.clauses ++ clause ∷ []) (omega (arith, n, long))
+          ∙ ap (λ cs. cs ++ clause ∷ []) (sym (take_all k table.clauses (omega (arith, long))) ∙ p.front k (omega (arith, u)) (omega arith))
+          ∙ sym (take_more clauses k [] (omega (arith, w, m)))
+
+  pub part_skip : get_or live k false ≡ false → first ≤ k → IsPart vars first (k + 1) ids live clauses table
+  part_skip e u = record {
+    vars = p.vars;
+    held = sym (more_held false e ∙ append-nil table.held);
+    long = λ v. absurd (omega (arith, u, v));
+    many = λ v. p.many u;
+    front = λ q a v. p.front q a (omega (arith, a, u));
+    below = λ j a v. p.below j (omega (arith, a)) v;
+    last = p.last;
+  }
+
+pub part_all : (vars first k : ℕ) (ids : List ℕ) (live : List Bool) (clauses : List (List LitValue)) (table : TableValue) → length live ≡ length ids → length clauses ≡ length ids → first ≤ length clauses → length ids ≤ k → IsPart vars first k ids live clauses table
+    → HasForgotten first (record { vars = vars; clauses = clauses; held = held_of ids live clauses; last = last_of ids }) table
+part_all vars first k ids live clauses table l m w u p = record {
+  vars = p.vars;
+  many = p.many (omega (arith, w, u, m));
+  clauses = p.front first (omega arith) (omega (arith, w, u, m));
+  held = p.held ∙ ap (λ xs. held_of xs (take k live) (take k clauses)) (take_all k ids u) ∙ ap (λ bs. held_of ids bs (take k clauses)) (take_all k live (omega (arith, u, l))) ∙ ap (held_of ids live) (take_all k clauses (omega (arith, u, m)));
+  last = p.last;
+}

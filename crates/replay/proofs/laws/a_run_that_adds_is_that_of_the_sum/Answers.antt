@@ -1,5 +1,0 @@
-use Rattle.replay.proofs.Throughout.{adding_throughout}
-use Rattle.replay.proofs.laws.a_run_that_adds_is_that_of_the_sum.Goals as goal
-
-pub returns : goal.returns
-returns c = adding_throughout

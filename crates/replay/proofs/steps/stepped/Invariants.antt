@@ -1,7 +1,0 @@
-use Rattle.std.proofs.Common.{◌≡◌, take}
-use Rattle.node_programs.specs.Programs.{mode_at}
-use Rattle.replay.proofs.Arriving.{arrived}
-use Rattle.replay.proofs.steps.stepped.Given as goal
-
-abbrev pub invariant-loop-hop : goal.invariant-loop-hop
-invariant-loop-hop l = l.after ≡ arrived (mode_at l.adding l.step) l.before l.before (take l.hop-index l.hop-items)

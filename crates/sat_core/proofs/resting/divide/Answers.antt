@@ -1,0 +1,67 @@
+use Rattle.std.proofs.Common.{◌≡◌, ℕ, ◌+◌, ◌<◌, true, List, [], ◌∷◌, ◌++◌, length, get_or, sym, ap, ◌∙◌, subst, arith}
+use Rattle.std.specs.Prelude.{◌≢◌, AllPairs}
+use Rattle.std.proofs.lemmas.List.{get_or_default}
+use Rattle.cnf_formula.specs.Literals.{LitValue}
+use Rattle.cnf_formula.specs.Formulas.{IsClause}
+use Rattle.trail_core.specs.Meaning.{CoreValue}
+use Rattle.sat_core.specs.declared.awake.Awake.{Awake}
+use Rattle.sat_core.specs.Naming.{IsListed}
+use Rattle.sat_core.specs.Sleeping.{SleepersValue}
+use Rattle.sat_core.proofs.Divided.{dividing_awake, dividing_asleep}
+use Rattle.sat_core.proofs.Found.{ok_as, ok_both}
+use Rattle.sat_core.proofs.resting.divide.Goals as goal
+
+-- the number that is read is the clause's
+id_is : (clauses : List (List LitValue)) (awake : Awake) (place read : ℕ) → IsListed clauses awake → place < length clauses → read ≡ get_or awake.ids.items place read → read ≡ place
+id_is clauses awake place read l w e = e ∙ get_or_default awake.ids.items place read 0 (omega (arith, w, l.ids_len)) ∙ l.ids place w
+
+-- so the clause that is read is the one at the place
+clause_is : (clauses : List (List LitValue)) (awake : Awake) (place read : ℕ) (clause : List LitValue) → IsListed clauses awake → place < length clauses → read ≡ get_or awake.ids.items place read → clause ≡ get_or clauses read [] → clause ≡ get_or clauses place []
+clause_is clauses awake place read clause l w e is = is ∙ ap (λ n. get_or clauses n []) (id_is clauses awake place read l w e)
+
+name_is : (clauses : List (List LitValue)) (awake : Awake) (place read : ℕ) → IsListed clauses awake → place < length clauses → read ≡ get_or awake.names.items (place + 1) read → read ≡ get_or awake.names.items (place + 1) 0
+name_is clauses awake place read l w e = e ∙ get_or_default awake.names.items (place + 1) read 0 (omega (arith, w, l.names))
+
+about_is : (core : CoreValue) (awake : Awake) (place read vars : ℕ) (clause : List LitValue) → IsListed core.clauses awake → place < length core.clauses → read ≡ get_or awake.ids.items place read → clause ≡ get_or core.clauses read [] → vars ≡ core.vars
+    → ((k : ℕ) (d : List LitValue) → k < length core.clauses → IsClause core.vars (get_or core.clauses k d)) → IsClause vars clause
+about_is core awake place read vars clause l w e is v about =
+    subst (λ n. IsClause n clause) (sym v) (subst (IsClause core.vars) (sym (clause_is core.clauses awake place read clause l w e is)) (about place [] w))
+
+once_is : (clauses : List (List LitValue)) (awake : Awake) (place read : ℕ) (clause : List LitValue) → IsListed clauses awake → place < length clauses → read ≡ get_or awake.ids.items place read → clause ≡ get_or clauses read [] → AllPairs (λ a b. a ≢ b) clause
+once_is clauses awake place read clause l w e is = subst (AllPairs (λ a b. a ≢ b)) (sym (clause_is clauses awake place read clause l w e is)) (l.once place w)
+
+pub push-requires-clause-about : goal.push-requires-clause-about
+push-requires-clause-about c = about_is c.args.core.now c.args.awake.now c.args.place c.index.result.now c.args.sleepers.now.vars c.clause-clause.result.now c.requires.listed c.requires.place c.index.ensures (c.clause-clause.ensures []) c.requires.same c.requires.about
+
+pub push-requires-clause-once : goal.push-requires-clause-once
+push-requires-clause-once c = once_is c.args.core.now.clauses c.args.awake.now c.args.place c.index.result.now c.clause-clause.result.now c.requires.listed c.requires.place c.index.ensures (c.clause-clause.ensures [])
+
+pub add_clause-requires-clause-within : goal.add_clause-requires-clause-within
+add_clause-requires-clause-within c = about_is c.args.core.now c.args.awake.now c.args.place c.index.result.now c.args.left.now.vars c.clause-clause.result.now c.requires.listed c.requires.place c.index.ensures (c.clause-clause.ensures []) c.requires.vars c.requires.about
+
+pub add_clause-requires-clause-once : goal.add_clause-requires-clause-once
+add_clause-requires-clause-once c = once_is c.args.core.now.clauses c.args.awake.now c.args.place c.index.result.now c.clause-clause.result.now c.requires.listed c.requires.place c.index.ensures (c.clause-clause.ensures [])
+
+pub returns-then-is_idle-clause-divided : goal.returns-then-is_idle-clause-divided
+returns-then-is_idle-clause-divided c = ok_as c.push.result c.push.ensures.added (λ e before d.
+    let core = c.args.core.now in
+    let awake = c.args.awake.now in
+    let s = c.args.sleepers.now in
+    let place = c.args.place in
+    let clause = clause_is core.clauses awake place c.index.result.now c.clause-clause.result.now c.requires.listed c.requires.place c.index.ensures (c.clause-clause.ensures []) in
+    let number = name_is core.clauses awake place c.index-number.result.now c.requires.listed c.requires.place c.index-number.ensures in
+    let make : List LitValue → ℕ → SleepersValue = λ x n. record { vars = s.vars; clauses = s.clauses ++ x ∷ []; numbers = s.numbers ++ n ∷ []; asleep = s.asleep ++ true ∷ [] } in
+    dividing_asleep core.clauses awake.names.items awake.formula before place c.args.left.now.clauses c.args.named.now s c.push.new.self d c.requires.place (c.is_idle.ensures.learned c.if-is_idle.true) c.push.ensures.numbers c.push.ensures.flags
+    (e ∙ ap (λ x. make x c.index-number.result.now) clause ∙ ap (make (get_or core.clauses place [])) number))
+
+pub returns-clause-divided : goal.returns-clause-divided
+returns-clause-divided c = ok_both c.note.result c.note.ensures.ids c.note.ensures.names (λ ids names before d.
+    let core = c.args.core.now in
+    let awake = c.args.awake.now in
+    let place = c.args.place in
+    let left = c.args.left.now in
+    let clause = clause_is core.clauses awake place c.index.result.now c.clause-clause.result.now c.requires.listed c.requires.place c.index.ensures (c.clause-clause.ensures []) in
+    let number = name_is core.clauses awake place c.index-number.result.now c.requires.listed c.requires.place c.index-number.ensures in
+    let ok = c.in_ok-id.ensures.ok in
+    dividing_awake core.clauses awake.names.items awake.formula before place left.clauses c.add_clause.new.self.clauses c.args.named.now c.note.new.self c.args.sleepers.now c.in_ok-id.id d c.requires.place
+    (ap (λ x. x.clauses) ok.1 ∙ ap (λ x. left.clauses ++ x ∷ []) clause) ok.0 ids (names ∙ ap (λ n. c.args.named.now.names.items ++ n ∷ []) number) (c.requires.listed.once place c.requires.place))
