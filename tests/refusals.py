@@ -28,7 +28,7 @@ def differences(formats, usage):
     yield from unlike("statuses", {str(it): text for it, text in STATUSES.items()}, without(statuses, OF_LAUNCHER))
     for status, codes in CODES.items():
         _, section = PLACES[status]
-        found = {row[0]: row[1] for row in rows[section] if row[0].isdigit() and len(row) == 2}
+        found = {row[0]: row[1] for row in rows[section] if row[0].isdigit() and len(row) == 3}
         if section == "Refusals":
             found = {row[1]: row[2] for row in rows[section] if row[0] == str(status) and row[1].isdigit()}
         yield from unlike(f"codes of status {status}", {str(it): text for it, text in codes.items()}, found)

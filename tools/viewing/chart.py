@@ -11,7 +11,7 @@ class Chart:
     def __init__(self, candidates, steps, floor, said):
         """Candidates are pairs of a kind and of numbers of steps, rounds and chunks."""
         self.candidates, self.steps, self.floor, self.said = candidates, steps, floor, said
-        ratios = [rounds / chunks for _, (_, rounds, chunks) in candidates] + [floor[0] / floor[1] if floor else 0]
+        ratios = [rounds / chunks for _, (_, rounds, chunks) in candidates] + [floor[0] / floor[1] if floor and floor[1] else 0]
         self.most = max([1, *ratios]) * 1.08
 
     def x(self, steps):
@@ -38,11 +38,17 @@ class Chart:
                       transform=f"rotate(-90 14 {short((TOP + bottom) / 2)})")
 
     def bound(self):
-        if self.floor:
-            rounds, chunks, names = self.floor
+        """The line below which no schedule is; without a line, that there is none at all."""
+        if not self.floor:
+            return
+        rounds, chunks, names = self.floor
+        by = f", by {' '.join(names)}" if names else ""
+        if chunks:
             at = self.y(rounds / chunks)
             yield line(LEFT, at, WIDTH - RIGHT, at, class_="floor")
-            yield text(WIDTH - RIGHT, at + 15, f"floor {rounds}/{chunks}, by {' '.join(names)}", "end", class_="small")
+            yield text(WIDTH - RIGHT, at + 15, f"floor {rounds}/{chunks}{by}", "end", class_="small")
+        else:
+            yield text(WIDTH - RIGHT, TOP - 6, f"no schedule in any number of rounds{by}", "end", class_="small")
 
     def stairs(self):
         """The line along the points."""

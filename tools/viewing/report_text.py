@@ -1,4 +1,4 @@
-"""The text of a report, read as `sccl json what=report` does. (This file goes once that command is there.)"""
+"""The text of a report, read as `sccl json what=report` does."""
 
 
 def value_of_text(text):
