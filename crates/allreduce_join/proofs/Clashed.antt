@@ -4,13 +4,13 @@ use Rattle.std.specs.List.{AllByRecursion, find, flat_map, range_with_len}
 use Rattle.std.specs.Option.{option_map, option_or}
 use Rattle.std.proofs.lemmas.Bool.{le-ltb, lt-ltb}
 use Rattle.std.proofs.lemmas.List.Folds.{find-append}
+use Rattle.list_laws.proofs.Tests.{find-map}
 use Rattle.schedule.specs.Sends.{ScheduleValue}
 use Rattle.schedule.specs.Placed.{PlacementValue, all_pairs, holds}
 use Rattle.schedule.specs.JoinedRuns.{first_clash, is_clash}
 use Rattle.schedule.proofs.First.{each_among, none_found}
 use Rattle.schedule.proofs.Grids.{range_more, range_none}
 use Rattle.schedule.proofs.Placing.{IsBelow, all_below, holds-placed}
-use Rattle.inversion.proofs.Uneven.{find_made}
 use Rattle.allreduce_join.proofs.Meeting.{arrivals, met_by}
 
 -- the first clash of a step
@@ -29,7 +29,7 @@ module _ (chunks nodes : ℕ) (s : ScheduleValue) (adding : ℕ) where
   clash_more index below =
       ap (λ steps. find (is_clash s adding) (turns steps)) (range_more (index + 1) (length s.rounds + 1) (omega (arith, below)))
       ∙ (find-append (is_clash s adding) (map (λ pair. (index + 1, pair.0, pair.1)) (all_pairs chunks nodes)) (turns (range_with_len (index + 1 + 1) (length s.rounds + 1 - (index + 1 + 1))))
-      ∙ ap (λ first. option_or first (clash_from chunks nodes s adding (index + 1))) (find_made (is_clash s adding) (λ (pair : ℕ × ℕ). (index + 1, pair.0, pair.1)) (all_pairs chunks nodes)))
+      ∙ ap (λ first. option_or first (clash_from chunks nodes s adding (index + 1))) (find-map (is_clash s adding) (λ (pair : ℕ × ℕ). (index + 1, pair.0, pair.1)) (all_pairs chunks nodes)))
 
   pub clash_start : clash_from chunks nodes s adding 0 ≡ first_clash chunks nodes s adding
   clash_start =

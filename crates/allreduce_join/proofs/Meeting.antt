@@ -6,6 +6,7 @@ use Rattle.std.proofs.lemmas.Bool.{and_parts, cases_Bool, eq-eqb, both_ways}
 use Rattle.std.proofs.lemmas.Bool.Decides.{nat_tests}
 use Rattle.std.proofs.lemmas.List.{take_more, take_all}
 use Rattle.std.proofs.lemmas.List.Sums.{sum_by-append, sum_by-cons}
+use Rattle.std.proofs.Math.Bool.{or-true}
 use Rattle.schedule.specs.declared.hop.Hop.{Hop}
 use Rattle.schedule.specs.Placed.{PlacementValue, empty_placement, holds, placed, same_pair, with_pair}
 use Rattle.schedule.specs.Summing.{goes_to}
@@ -42,10 +43,6 @@ leb_one least n m is = grind (arith, nat_tests)
 leb_same : (least n m : ℕ) → m ≡ n + 0 → leb (suc least) m ≡ leb (suc least) n
 leb_same least n m is = ap (leb (suc least)) (omega (arith, is))
 
-or_true : (b : Bool) → (b || true) ≡ true
-or_true true = refl
-or_true false = refl
-
 -- where the send's pair is met so often, it is met once more
 pub met_added : (least chunks nodes step : ℕ) (hops : List Hop) (h : Hop) → h.step ≡ step → leb least (arrivals step (h.chunk, h.to) hops) ≡ true → with_pair (met_by (suc least) chunks nodes step hops) (h.chunk, h.to) ≡ met_by (suc least) chunks nodes step (hops ++ h ∷ [])
 met_added least chunks nodes step hops h now met =
@@ -60,7 +57,7 @@ met_added least chunks nodes step hops h now met =
         let often : leb least (arrivals step pair hops) ≡ true = subst (λ (p : ℕ × ℕ). leb least (arrivals step p hops) ≡ true) aim met in
         let more : arrivals step pair (hops ++ h ∷ []) ≡ arrivals step pair hops + 1 = arrivals_more step pair hops h now ∙ ap (λ b. arrivals step pair hops + cond {A = ℕ} b 1 0) same in
         ap (λ b. b || leb (suc least) (arrivals step pair hops)) same
-        ∙ (sym (or_true (leb (suc least) (arrivals step pair hops)))
+        ∙ (sym (or-true (leb (suc least) (arrivals step pair hops)))
         ∙ (ap (λ b. leb (suc least) (arrivals step pair hops) || b) (sym often) ∙ sym (leb_one least (arrivals step pair hops) (arrivals step pair (hops ++ h ∷ [])) more))))
         (λ (other : comes_to h pair ≡ false).
         let stays : arrivals step pair (hops ++ h ∷ []) ≡ arrivals step pair hops + 0 = arrivals_more step pair hops h now ∙ ap (λ b. arrivals step pair hops + cond {A = ℕ} b 1 0) other in

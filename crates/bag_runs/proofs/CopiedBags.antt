@@ -4,6 +4,7 @@ use Rattle.std.specs.Prelude.{filter, max}
 use Rattle.std.specs.List.{AllByRecursion, list_any, range_with_len, reduce}
 use Rattle.std.proofs.lemmas.Bool.{and_parts, eqb-true, cases_Bool}
 use Rattle.std.proofs.lemmas.List.Elements.{recursion_from_All}
+use Rattle.std.proofs.Math.Bool.{and_assoc}
 use Rattle.schedule.specs.declared.hop.Hop.{Hop}
 use Rattle.schedule.specs.Sends.{ScheduleValue, IsInRange, is_hop_below}
 use Rattle.schedule.specs.Placed.{PlacementValue, holds, same_pair}
@@ -72,10 +73,6 @@ module _ (R : Hop → Type 0) (passes : Hop → Bool) (before : Bags) (pair : �
 
 -- ---- one step
 
-regrouped : (a b c : Bool) → ((a && b) && c) ≡ (a && (b && c))
-regrouped true b c = refl
-regrouped false b c = refl
-
 kept_or_brought : (kept brought : Bool) (one none : Bag) → cond brought one (cond kept one none) ≡ cond (kept || brought) one none
 kept_or_brought true true one none = refl
 kept_or_brought true false one none = refl
@@ -95,7 +92,7 @@ module _ (held : PlacementValue) (bags : Bags) (step : ℕ) (pair : ℕ × ℕ) 
   filled_where_brought h below =
       ap (λ bag. goes_to step pair h && not (is_empty bag)) (follows (h.chunk, h.from) below.chunk below.from)
       ∙ (ap (λ b. goes_to step pair h && b) (filled_where_held held (h.chunk, h.from) some)
-      ∙ regrouped (eqb h.step step) (same_pair (h.chunk, h.to) pair) (holds held (h.chunk, h.from)))
+      ∙ and_assoc (eqb h.step step) (same_pair (h.chunk, h.to) pair) (holds held (h.chunk, h.from)))
 
   -- and then it is one contribution of node 0
   brings_one : (h : Hop) → IsHopBelow held.chunks held.nodes h → brings held step pair h ≡ true → bags (pair.0, h.from) ≡ one_of held.nodes 0

@@ -17,7 +17,7 @@ held_added [] b = refl
 held_added (x ∷ a) [] = refl
 held_added (x ∷ a) (y ∷ b) = ap (λ c. c ∷ added_at_2 (held_at_2 a) (held_at_2 b)) (min_sum x y) ∙ ap (λ bag. min (x + y) 2 ∷ bag) (held_added a b)
 
-min_none : (x : ℕ) → eqb (min x 2) 0 ≡ eqb x 0
+pub min_none : (x : ℕ) → eqb (min x 2) 0 ≡ eqb x 0
 min_none zero = refl
 min_none (suc x) = grind arith
 

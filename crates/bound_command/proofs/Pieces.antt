@@ -7,19 +7,19 @@ use Rattle.std.proofs.lemmas.Grind.{flat_map-append}
 use Rattle.std.proofs.lemmas.List.{append-nil, map-append, map-id}
 use Rattle.std.proofs.lemmas.List.Elements.{filter-append}
 use Rattle.std.proofs.lemmas.List.FromFn.{map-range_with_len_more}
-use Rattle.text_lines.specs.Text.{line, text_of}
+use Rattle.text_lines.specs.Text.{line, text_of, fields}
 use Rattle.outer_ports.specs.declared.part.Part.TheVariants.{Whole}
 use Rattle.candidate_order.specs.Frontiers.{FrontierValue}
 use Rattle.topology_text.specs.Value.{NamedTopologyValue}
 use Rattle.topology_text.specs.Spelling.{name_at}
 use Rattle.report_form.specs.Reports.{WordsValue, question_of}
 use Rattle.report_form.specs.Spelling.{point_lines, refuted_words, synth_words, unknown_words}
-use Rattle.report_printing.specs.Printed.{fields, point_text}
+use Rattle.report_printing.specs.Printed.{point_text}
 use Rattle.report_printing.proofs.Pieces.{line_is, text_append, text_each}
 use Rattle.node_cuts.specs.Floors.{floor_of}
 use Rattle.node_cuts.specs.Sides.{has_bit}
 use Rattle.cut_bounds.specs.Parting.{cuts_among, uncut_among}
-use Rattle.engine_search.specs.Asked.{searched_question}
+use Rattle.engine_search.specs.Searched.{searched_question}
 use Rattle.run_rules.specs.Bounds.{bound_text, cut_words, floor_words}
 
 -- ---- the names of a set

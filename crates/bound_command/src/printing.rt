@@ -1,10 +1,9 @@
 //! The text of a frontier with its cuts and its floor.
 
 ghost use Rattle.std.specs.Prelude.{◌≡◌, ◌<◌, ◌≤◌, if◌then◌else◌, [], ◌∷◌, ◌++◌, length, decimal, map, OnOk, IfOk};
-ghost use Rattle.text_lines.specs.Text.{line, text_of};
+ghost use Rattle.text_lines.specs.Text.{line, text_of, fields};
 ghost use Rattle.outer_ports.specs.declared.part.Part.TheVariants.{Whole};
 ghost use Rattle.report_form.specs.Reports.{question_of};
-ghost use Rattle.report_printing.specs.Printed.{fields};
 ghost use Rattle.topology_text.specs.Spelling.{name_at};
 ghost use Rattle.node_cuts.specs.Sides.{has_bit};
 ghost use Rattle.bound_search.specs.Bounded.{AreBounds};
@@ -15,8 +14,8 @@ use candidate_order::Candidate;
 use cut_bounds::{Cut, Floor, has_node};
 use report_form::Words;
 use report_printing::{
-    name_at, push_all_refuted, push_all_unknown, push_asked, push_candidate, push_field,
-    push_number_field, push_points,
+    name_at, push_all_refuted, push_all_unknown, push_candidate, push_field, push_number_field,
+    push_points, push_synth_line,
 };
 use std::alloc::{AllocError, Global};
 use text_lines::push_word;
@@ -98,7 +97,7 @@ pub(crate) fn print_bounds(
     let names = topology.names();
     let mut out = Vec::new(alloc);
     push_word(&mut out, b"bound 1\n")?;
-    push_asked(&mut out, names, words)?;
+    push_synth_line(&mut out, names, words)?;
     push_floor(&mut out, names, bounds.floor)?;
     push_word(&mut out, b"frontier whole\n")?;
     push_points(&mut out, names, bounds.frontier.points())?;

@@ -10,13 +10,12 @@ use Rattle.collective_spec.specs.declared.spec.Spec.{Spec}
 use Rattle.candidate_order.specs.Ranges.{LimitsValue}
 use Rattle.candidate_order.specs.Frontiers.{QuestionValue}
 use Rattle.topology_text.specs.Value.{NamedTopologyValue}
-use Rattle.report_form.specs.Reports.{WordsValue, parts_of, question_of}
+use Rattle.report_form.specs.Reports.{WordsValue, parts_of, question_of, whole_report}
 use Rattle.engine_rules.specs.declared.fault.EngineFault.{EngineFault}
-use Rattle.engine_search.specs.Asked.{searched_question}
+use Rattle.engine_search.specs.Searched.{searched_question}
 use Rattle.frontier_audit.specs.OwedFiles.{Proves}
-use Rattle.report_search.specs.Reporting.{whole_report}
 use Rattle.report_search.specs.Shelved.{IsShelved}
-use Rattle.report_search.proofs.PartAsked.{one_part}
+use Rattle.report_search.proofs.PartQuestions.{one_part}
 use Rattle.report_search.proofs.WholeReport.{whole_proves}
 use Rattle.cut_bounds.specs.Parting.{without_cuts}
 use Rattle.bound_search.specs.declared.bounds.Bounds.{Bounds}

@@ -4,7 +4,7 @@ use Rattle.candidate_order.specs.Frontiers.{QuestionValue}
 use Rattle.node_cuts.specs.Floors.{floor_of}
 use Rattle.cut_bounds.specs.Cutting.{is_cut}
 use Rattle.cut_bounds.specs.Parting.{cuts_among, uncut_among}
-use Rattle.engine_search.specs.Asked.{searched_question}
+use Rattle.engine_search.specs.Searched.{searched_question}
 use Rattle.engine_search.specs.Found.{IsFound}
 use Rattle.bound_search.specs.declared.bounds.Bounds.{Bounds}
 

@@ -7,7 +7,7 @@ ghost use Rattle.collective_spec.specs.Collectives.{IsSpec, kind_in};
 ghost use Rattle.round_encoding.specs.Candidates.{size_limit};
 ghost use Rattle.candidate_formula.specs.Sizes.{size_of};
 ghost use Rattle.cut_bounds.specs.Parting.{without_cuts};
-ghost use Rattle.engine_search.specs.Asked.{searched_question};
+ghost use Rattle.engine_search.specs.Searched.{searched_question};
 ghost use Rattle.report_search.specs.Shelved.{IsShelved, MayHaveBegun};
 ghost use Rattle.bound_search.specs.Bounded.{AreBounds};
 

@@ -3,12 +3,11 @@
 ghost use Rattle.std.specs.Prelude.{◌≡◌, ◌≢◌, IfOk, IsTrue, Err};
 ghost use Rattle.outer_ports.specs.Port.{HasCause, Tells};
 ghost use Rattle.outer_ports.specs.declared.part.Part.TheVariants.{Whole};
-ghost use Rattle.report_form.specs.Reports.{question_of};
+ghost use Rattle.report_form.specs.Reports.{question_of, whole_report};
 ghost use Rattle.frontier_audit.specs.OwedFiles.{BreaksOff, Proves};
 ghost use Rattle.frontier_audit.specs.Searches.{IsAsked};
-ghost use Rattle.report_search.specs.Reporting.{whole_report};
 ghost use Rattle.cut_bounds.specs.Parting.{without_cuts};
-ghost use Rattle.engine_search.specs.Asked.{searched_question};
+ghost use Rattle.engine_search.specs.Searched.{searched_question};
 ghost use Rattle.bound_search.specs.Bounded.{AreBounds};
 
 use crate::bounds::Bounds;

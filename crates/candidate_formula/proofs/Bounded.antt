@@ -1,20 +1,15 @@
 -- The size of a question bounds that of each candidate within its limits.
-use Rattle.std.proofs.Common.{ℕ, ◌+◌, ◌-◌, ◌*◌, ◌≤◌, List, [], ◌∷◌, length, arith}
-use Rattle.std.specs.Prelude.{sum_by}
+use Rattle.std.proofs.Common.{ℕ, ◌+◌, ◌-◌, ◌*◌, ◌≤◌, length, arith}
 use Rattle.std.proofs.lemmas.Nat.{mul-le}
-use Rattle.std.proofs.lemmas.List.Sums.{sum_by-cons}
+use Rattle.std.proofs.lemmas.List.Sums.{sum_by-le-sum_by}
 use Rattle.schedule.specs.Links.{GroupValue, usable_links}
 use Rattle.collective_spec.proofs.Sized.{before_among}
+use Rattle.collective_spec.proofs.Chunks.{chunks_more}
 use Rattle.candidate_order.specs.declared.candidate.Candidate.{Candidate}
 use Rattle.candidate_order.specs.Frontiers.{QuestionValue, IsWithin, instance_for}
 use Rattle.round_encoding.specs.Candidates.{group_size, size_of as candidate_size, size_limit}
 use Rattle.candidate_formula.specs.Sizes.{most_chunks, size_of}
 use Rattle.candidate_formula.specs.Questions.{IsSmallQuestion}
-use Rattle.candidate_formula.proofs.Chunks.{chunks_more}
-
-pub sums_more : {X : Type 0} (f g : X → ℕ) → ((x : X) → f x ≤ g x) → (xs : List X) → sum_by f xs ≤ sum_by g xs
-sums_more f g each [] = omega arith
-sums_more f g each (x ∷ xs) = omega (arith, sum_by-cons f x xs, sum_by-cons g x xs, each x, sums_more f g each xs)
 
 -- a group's counters have no more variables where there are no more chunks, steps and extra rounds
 group_more : (chunks steps extra most_c most_s most_e : ℕ) → chunks ≤ most_c → steps ≤ most_s → extra ≤ most_e → (group : GroupValue) → group_size chunks steps extra group ≤ group_size most_c most_s most_e group
@@ -36,7 +31,7 @@ bounded q x w =
     let rounds = w.rounds in
     let few_extra : extra ≤ q.limits.k = omega (arith, rounds) in
     let links : chunks * l * x.s ≤ most_chunks q * l * q.limits.max_s = mul-le (chunks * l) x.s (most_chunks q * l) q.limits.max_s (mul-le chunks l (most_chunks q) l few (omega arith)) w.steps in
-    let groups = sums_more (group_size chunks x.s extra) (group_size (most_chunks q) q.limits.max_s q.limits.k) (group_more chunks x.s extra (most_chunks q) q.limits.max_s q.limits.k few w.steps few_extra) q.topology.groups in
+    let groups = sum_by-le-sum_by (group_size chunks x.s extra) (group_size (most_chunks q) q.limits.max_s q.limits.k) q.topology.groups (group_more chunks x.s extra (most_chunks q) q.limits.max_s q.limits.k few w.steps few_extra) in
     omega (arith, links, groups)
 
 pub candidate_small : (q : QuestionValue) (x : Candidate) → IsSmallQuestion q → IsWithin q x → candidate_size q.topology (instance_for q x).pre x.s x.r ≤ size_limit

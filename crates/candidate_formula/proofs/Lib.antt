@@ -1,13 +1,14 @@
-pub mod Chunks
 pub mod Sought
 pub mod Bounded
 pub mod Exact
 pub mod Copying
 pub mod Encoded
-pub mod Asked
+pub mod CopyingQuestions
 pub mod ReadBack
 pub mod Short
 pub mod Links
 pub mod Sizes
 pub mod Allowed
 pub mod TurnedSize
+pub mod BegunFiles
+pub mod FilesAlike

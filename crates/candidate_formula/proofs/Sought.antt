@@ -1,19 +1,13 @@
 -- A candidate of a small question is one of its instance.
-use Rattle.std.proofs.Common.{ℕ, ◌≤◌, sym, ◌∙◌, arith}
-use Rattle.std.specs.Prelude.{nat_le}
-use Rattle.std.proofs.lemmas.Bool.{and_parts, leb-true}
+use Rattle.std.proofs.Common.{ℕ, sym, ◌∙◌, arith}
 use Rattle.collective_spec.specs.declared.spec.Spec.{Spec}
-use Rattle.collective_spec.specs.Kinds.{divides_evenly}
-use Rattle.collective_spec.specs.Collectives.{kind_in}
 use Rattle.collective_spec.proofs.Sized.{before_among, after_among}
+use Rattle.collective_spec.proofs.Chunks.{chunks_some, few_base, chunks_few}
 use Rattle.candidate_order.specs.declared.candidate.Candidate.{Candidate}
 use Rattle.candidate_order.specs.Frontiers.{QuestionValue, IsWithin, instance_for}
+use Rattle.candidate_order.proofs.Orders.{has_chunk}
 use Rattle.round_encoding.specs.Candidates.{IsCandidate}
 use Rattle.candidate_formula.specs.Questions.{IsSmallQuestion}
-use Rattle.candidate_formula.proofs.Chunks.{chunks_some, chunks_few}
-
-pub has_chunk : (q : QuestionValue) (x : Candidate) → IsWithin q x → 1 ≤ x.c
-has_chunk q x w = leb-true 1 x.c (and_parts (nat_le 1 x.c) (divides_evenly (kind_in q.spec) q.topology.nodes x.c) w.allowed).0
 
 pub candidate_is : (q : QuestionValue) (x : Candidate) → IsSmallQuestion q → IsWithin q x → IsCandidate q.topology (instance_for q x).pre (instance_for q x).post x.s x.r
 candidate_is q x ok w =
@@ -25,7 +19,7 @@ candidate_is q x ok w =
     let counted = before.of_chunks in
     let least = has_chunk q x w in
     let some = chunks_some s nodes x.c ok.spec ok.topology.some (omega (arith, least)) in
-    let few = chunks_few s nodes x.c ok.spec ok.topology.few (let c = w.chunks in let most = limits.chunks in omega (arith, c, most)) in
+    let few = chunks_few s nodes x.c ok.topology.few (let c = w.chunks in let most = limits.chunks in omega (arith, c, most)) (few_base s nodes ok.spec) in
     let steps = w.some_steps in
     let most_steps = w.steps in
     let rounds = w.rounds in

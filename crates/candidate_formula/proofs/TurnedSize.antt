@@ -7,11 +7,13 @@ use Rattle.std.proofs.lemmas.List.Elements.{filter-append}
 use Rattle.std.proofs.lemmas.List.Sums.{sum_by-cons}
 use Rattle.schedule.specs.Links.{GroupValue, TopologyValue, is_usable, usable_links, turned, reversed_group, reversed_of}
 use Rattle.schedule.proofs.Turning.{turned_usable, one_if}
+use Rattle.collective_spec.specs.declared.spec.Spec.{Spec}
+use Rattle.candidate_order.specs.Ranges.{LimitsValue}
 use Rattle.candidate_order.specs.Frontiers.{QuestionValue}
 use Rattle.candidate_order.specs.Copied.{copied_question}
 use Rattle.round_encoding.specs.Candidates.{group_size}
 use Rattle.candidate_formula.specs.Sizes.{most_chunks, size_of}
-use Rattle.candidate_formula.proofs.Asked.{same_size}
+use Rattle.candidate_formula.proofs.CopyingQuestions.{same_size}
 
 -- ---- how many pairs of a grid pass a test
 
@@ -88,3 +90,9 @@ copied_size q =
     same_size (reversed_of q.topology) q.spec q.limits
     ∙ ap (λ l. g * l * s + sum_by (group_size g s q.limits.k) (map reversed_group q.topology.groups)) (as_many_links q.topology)
     ∙ ap (λ n. g * length (usable_links q.topology) * s + n) (same_groups g s q.limits.k q.topology.groups)
+
+pub turned_size : (t turned : TopologyValue) (spec : Spec) (limits : LimitsValue) → turned ≡ reversed_of t → size_of (record { topology = turned; spec = spec; limits = limits }) ≡ size_of (record { topology = t; spec = spec; limits = limits })
+turned_size t turned spec limits is =
+    ap (λ x. size_of (record { topology = x; spec = spec; limits = limits })) is
+    ∙ sym (same_size (reversed_of t) spec limits)
+    ∙ copied_size (record { topology = t; spec = spec; limits = limits })

@@ -1,24 +1,27 @@
--- What stands in a file where a search broke off.
-use Rattle.std.specs.Prelude.{◌≡◌, ℕ, List, ◌++◌}
+-- Files that a search began, and may not have ended.
+use Rattle.std.specs.Prelude.{◌≡◌, ◌⊎◌, ℕ, List, ◌++◌, Some}
 use Rattle.outer_ports.specs.declared.proof_name.FileKind.{FileKind}
-use Rattle.outer_ports.specs.declared.proof_name.FileKind.TheVariants.{Cnf, Lrat, Partial}
+use Rattle.outer_ports.specs.declared.proof_name.FileKind.TheVariants.{Cnf}
+use Rattle.outer_ports.specs.declared.proof_name.ProofName.{ProofName}
+use Rattle.outer_ports.specs.Files.{Files}
 use Rattle.cnf_formula.specs.Formulas.{FormulaValue}
 use Rattle.cnf_formula.specs.declared.line.LratLine.{LratLine}
 use Rattle.proof_rules.specs.Held.{start_of}
 use Rattle.proof_rules.specs.Refuting.{AllAccepted}
 use Rattle.lrat_text.specs.Printing.{cnf_text, lrat_text}
 
-pub record IsPrefix (part whole : List ℕ) : Type 0 where
+-- what a file may come to hold: the text of the formula, or the text of lines that are accepted in their turn
+abbrev pub IsWholeText : FormulaValue → FileKind → List ℕ → Type 0
+IsWholeText f Cnf text = text ≡ cnf_text f
+IsWholeText f _ text = (lines : List LratLine) × AllAccepted (start_of f) lines × (text ≡ lrat_text lines)
+
+-- the file stands there, and begins such a text
+pub record IsBegun (f : FormulaValue) (files : Files) (name : ProofName) : Type 0 where
+  pub bytes : List ℕ
   pub rest : List ℕ
-  pub is : part ++ rest ≡ whole
+  pub stands : files name ≡ Some bytes
+  pub begins : IsWholeText f name.kind (bytes ++ rest)
 
--- the bytes begin the text of lines that are accepted in their turn
-pub record BeginsLines (f : FormulaValue) (bytes : List ℕ) : Type 0 where
-  pub lines : List LratLine
-  pub accepted : AllAccepted (start_of f) lines
-  pub prefix : IsPrefix bytes (lrat_text lines)
-
-abbrev pub Begins : FormulaValue → FileKind → List ℕ → Type 0
-Begins f Cnf bytes = IsPrefix bytes (cnf_text f)
-Begins f Lrat bytes = BeginsLines f bytes
-Begins f Partial bytes = BeginsLines f bytes
+-- each file is as before, or is one that may be changed and was begun, for the formula that belongs to its name
+pub record BegunOnly (may : ProofName → Type 0) (formula : ProofName → FormulaValue) (before after : Files) : Type 0 where
+  pub each : (name : ProofName) → (after name ≡ before name) ⊎ (may name × IsBegun (formula name) after name)

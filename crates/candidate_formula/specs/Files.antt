@@ -1,12 +1,12 @@
 -- Files of formulas and proofs, and what they have to be beside what a search says (this project's own).
-use Rattle.std.specs.Prelude.{◌≡◌, ◌≤◌, ℕ, List, [], length, map, Some, Ok}
+use Rattle.std.specs.Prelude.{◌≡◌, ◌≤◌, ℕ, List, [], length, map, All, Some, Ok}
 use Rattle.outer_ports.specs.declared.part.Part.{Part}
 use Rattle.outer_ports.specs.declared.proof_name.FileKind.{FileKind}
 use Rattle.outer_ports.specs.declared.proof_name.FileKind.TheVariants.{Cnf, Lrat, Partial}
 use Rattle.outer_ports.specs.declared.proof_name.ProofName.{ProofName}
 use Rattle.outer_ports.specs.Files.{Files}
 use Rattle.candidate_order.specs.declared.candidate.Candidate.{Candidate}
-use Rattle.candidate_order.specs.Frontiers.{QuestionValue, UnknownValue}
+use Rattle.candidate_order.specs.Frontiers.{QuestionValue, FrontierValue, UnknownValue, solved}
 use Rattle.cnf_formula.specs.Lines.{ProofLineValue}
 use Rattle.cnf_formula.specs.declared.line.LratLine.{LratLine}
 use Rattle.cnf_formula.specs.declared.line.LratLine.TheVariants.{Addition}
@@ -23,14 +23,6 @@ file_of kind part x = record { kind = kind; part = part; s = x.s; r = x.r; c = x
 abbrev pub candidate_of : ProofName → Candidate
 candidate_of name = record { s = name.s; r = name.r; c = name.c }
 
--- the text of the candidate's formula stands there
-abbrev pub HasFormula : Part → QuestionValue → Files → Candidate → Type 0
-HasFormula part q files x = files (file_of Cnf part x) ≡ Some (cnf_text (formula_for q x))
-
--- the file stands there, and nothing is in it
-abbrev pub IsEmptied : FileKind → Part → Files → Candidate → Type 0
-IsEmptied kind part files x = files (file_of kind part x) ≡ Some []
-
 -- the bytes that a file of proof lines has at most
 abbrev pub longest_proof : ℕ
 longest_proof = 281474976710656
@@ -44,7 +36,7 @@ pub record HoldsLines (files : Files) (name : ProofName) (lines : List LratLine)
 
 -- beside a refuted candidate stand its formula and a proof of that formula
 pub record HasRefutation (part : Part) (q : QuestionValue) (files : Files) (x : Candidate) : Type 0 where
-  pub formula : HasFormula part q files x
+  pub formula : files (file_of Cnf part x) ≡ Some (cnf_text (formula_for q x))
   pub lines : List LratLine
   pub holds : HoldsLines files (file_of Lrat part x) lines
   pub refutes : Refutes lines (formula_for q x)
@@ -54,3 +46,28 @@ pub record HasLog (part : Part) (q : QuestionValue) (files : Files) (u : Unknown
   pub lines : List ProofLineValue
   pub holds : HoldsLines files (file_of Partial part u.candidate) (map Addition lines)
   pub spent : SpentLog lines (formula_for q u.candidate) q.limits.conflicts
+
+-- ---- all three files of a candidate, as a search leaves them
+
+-- of a solved one: its formula, and two empty files
+pub record SolvedFiles (part : Part) (q : QuestionValue) (files : Files) (x : Candidate) : Type 0 where
+  pub formula : files (file_of Cnf part x) ≡ Some (cnf_text (formula_for q x))
+  pub no_proof : files (file_of Lrat part x) ≡ Some []
+  pub no_log : files (file_of Partial part x) ≡ Some []
+
+-- of a refuted one: its formula and a proof of that formula, and an empty file
+pub record RefutedFiles (part : Part) (q : QuestionValue) (files : Files) (x : Candidate) : Type 0 where
+  pub refutation : HasRefutation part q files x
+  pub no_log : files (file_of Partial part x) ≡ Some []
+
+-- of an unknown one: its formula and a log of the conflicts that it was given, and an empty file
+pub record UnknownFiles (part : Part) (q : QuestionValue) (files : Files) (u : UnknownValue) : Type 0 where
+  pub formula : files (file_of Cnf part u.candidate) ≡ Some (cnf_text (formula_for q u.candidate))
+  pub no_proof : files (file_of Lrat part u.candidate) ≡ Some []
+  pub log : HasLog part q files u
+
+-- of each candidate of a frontier
+pub record FrontierFiles (part : Part) (q : QuestionValue) (files : Files) (f : FrontierValue) : Type 0 where
+  pub solved : All (SolvedFiles part q files) (solved f)
+  pub refuted : All (RefutedFiles part q files) f.refuted
+  pub unknown : All (UnknownFiles part q files) f.unknown

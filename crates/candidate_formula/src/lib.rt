@@ -6,6 +6,7 @@ mod encoding;
 mod laws;
 mod log_laws;
 mod naming;
+mod searched;
 mod size;
 mod vectors;
 
@@ -17,6 +18,7 @@ pub use laws::{
 };
 pub use log_laws::{logs_are_read_back, logs_are_short};
 pub use naming::file_name;
+pub use searched::{links_to_search, own_links_to_search};
 pub use size::size_number;
 pub use std::alloc::AllocError as OutOfMemory;
 pub use vectors::{counts_on_four_nodes, sizes_on_the_line_of_3};

@@ -2,6 +2,7 @@
 use Rattle.std.proofs.Common.{◌≡◌, subst, Bool, true, false, inl, inr, List, [], arith}
 use Rattle.std.specs.Prelude.{Contains, map}
 use Rattle.std.proofs.lemmas.List.Elements.{All-contains}
+use Rattle.list_laws.proofs.Members.{Contains-map}
 use Rattle.candidate_order.specs.declared.candidate.Candidate.{Candidate}
 use Rattle.schedule.specs.Links.{TopologyValue}
 use Rattle.schedule.specs.Sends.{ScheduleValue, IsSchedule}
@@ -12,7 +13,6 @@ use Rattle.candidate_order.specs.Ranges.{LimitsValue}
 use Rattle.candidate_order.specs.declared.mark.Mark.TheVariants.{Optimal, Open}
 use Rattle.candidate_order.specs.Costs.{NoWorse, Better, Before}
 use Rattle.candidate_order.specs.Frontiers.{QuestionValue, PointValue, FrontierValue, solved, IsWithin, IsSized, Achieves, Achievable, IsSolvable, IsPoint, RightFrontier, Searched}
-use Rattle.candidate_order.proofs.Rows.{Contains-map}
 
 pub none-contained : {X : Type 0} → (xs : List X) (x : X) → xs ≡ [] → Contains xs x → ⊥
 none-contained xs x e h = absurd (let lt = rw e at h.1 in omega (arith, lt))

@@ -1,12 +1,28 @@
 -- The order of the search, and what is no worse, are orders.
 use Rattle.std.proofs.Common.{◌≡◌, ℕ, ◌*◌, ◌≤◌, ◌⊎◌, inl, inr, List, ◌∙◌, arith}
-use Rattle.std.proofs.lemmas.Bool.{cases_order}
+use Rattle.std.specs.Prelude.{nat_le}
+use Rattle.std.proofs.lemmas.Bool.{cases_order, and_parts, leb-true}
 use Rattle.collective_spec.specs.declared.kind.Kind.{Kind}
+use Rattle.collective_spec.specs.Kinds.{divides_evenly}
+use Rattle.collective_spec.specs.Collectives.{kind_in}
 use Rattle.candidate_order.specs.declared.candidate.Candidate.{Candidate}
 use Rattle.candidate_order.specs.Ranges.{LimitsValue}
 use Rattle.candidate_order.specs.Costs.{NoWorse, Before}
 use Rattle.candidate_order.specs.Listed.{Within, IsListed, AreAllowed}
+use Rattle.candidate_order.specs.Frontiers.{QuestionValue, IsWithin}
 use Rattle.candidate_order.proofs.Costing.{cost_upto, cost_below_left, cost_below_right, same_rounds}
+
+abbrev pub HasChunk : Candidate → Type 0
+HasChunk x = 1 ≤ x.c
+
+-- a candidate within the limits has a chunk
+pub has_chunk : (q : QuestionValue) (x : Candidate) → IsWithin q x → HasChunk x
+has_chunk q x within = leb-true 1 x.c (and_parts (nat_le 1 x.c) (divides_evenly (kind_in q.spec) q.topology.nodes x.c) within.allowed).0
+
+pub Before-irrefl : (x : Candidate) → Before x x → ⊥
+Before-irrefl x (inl fewer) = absurd (omega arith)
+Before-irrefl x (inr (same, inl lower)) = absurd (omega arith)
+Before-irrefl x (inr (same, inr (cost, fewer))) = absurd (omega arith)
 
 pub Before-trans : (a b c : Candidate) → 1 ≤ a.c → 1 ≤ b.c → 1 ≤ c.c → Before a b → Before b c → Before a c
 Before-trans a b c some1 some2 some3 (inl h) (inl k) = inl (omega arith)

@@ -11,13 +11,14 @@ use Rattle.std.proofs.lemmas.List.Elements.{All-weaker, All-map, All-contains, A
 use Rattle.std.proofs.lemmas.List.FromFn.{length-range_with_len, get_or-range_with_len}
 use Rattle.std.proofs.lemmas.List.Sorted.{sorted_far, All-permutation, Contains-permutation}
 use Rattle.std.proofs.lemmas.Map.Keys.{apart_from_distinct, IsDistinct-IsPermutation}
+use Rattle.list_laws.proofs.Members.{Contains-map}
 use Rattle.itertools.specs.Product.{rows}
 use Rattle.itertools.proofs.ListFactLemmas.{All-rows}
 use Rattle.candidate_order.specs.declared.candidate.Candidate.{Candidate}
 use Rattle.candidate_order.specs.Costs.{Before, search_cmp}
 use Rattle.candidate_order.specs.Listed.{IsListed, IsCount, candidate_at}
 use Rattle.candidate_order.proofs.Costing.{UpTo, upto_trans, same_rounds}
-use Rattle.candidate_order.proofs.Rows.{same_pair, IsDistinct-map, IsDistinct-rows, IsDistinct-range, IsDistinct-increasing, Contains-map, Contains-rows, Contains-range}
+use Rattle.candidate_order.proofs.Rows.{same_pair, IsDistinct-map, IsDistinct-rows, IsDistinct-range, IsDistinct-increasing, Contains-rows, Contains-range}
 
 -- the first comes before the second
 abbrev pub comes : Candidate → Candidate → Bool

@@ -1,5 +1,5 @@
 -- Pairs of a product: each once, and which they are.
-use Rattle.std.proofs.Common.{◌≡◌, ℕ, zero, suc, ◌+◌, ◌-◌, ◌<◌, ◌≤◌, Bool, false, ◌&&◌, eqb, List, [], ◌∷◌, ◌++◌, map, ap, ◌∙◌, arith}
+use Rattle.std.proofs.Common.{◌≡◌, ℕ, zero, suc, ◌+◌, ◌-◌, ◌<◌, ◌≤◌, Bool, false, ◌&&◌, eqb, List, [], ◌∷◌, ◌++◌, map, ◌∙◌, arith}
 use Rattle.std.specs.List.{AllByRecursion, IsDistinct, Contains, range_with_len}
 use Rattle.std.specs.List.Sorted.{IsStrictlyIncreasing}
 use Rattle.std.proofs.lemmas.Bool.{ne_eqb, and_left, and_right}
@@ -7,16 +7,10 @@ use Rattle.std.proofs.lemmas.List.Elements.{Contains-append_left, Contains-appen
 use Rattle.std.proofs.lemmas.List.FromFn.{length-range_with_len, get_or-range_with_len}
 use Rattle.std.proofs.lemmas.List.Kept.{AllPairs-from_increasing}
 use Rattle.std.proofs.lemmas.Map.Keys.{IsDistinct-from_apart}
+use Rattle.list_laws.proofs.Each.{each_map, every_map}
+use Rattle.list_laws.proofs.Members.{Contains-map}
 use Rattle.itertools.specs.Product.{rows}
-use Rattle.schedule.proofs.First.{each_append, each_weaker}
-
-each_map : {X Y : Type 0} (P : Y → Type 0) (f : X → Y) (xs : List X) → AllByRecursion (λ x. P (f x)) xs → AllByRecursion P (map f xs)
-each_map P f [] a = tt
-each_map P f (x ∷ xs) a = (a.0, each_map P f xs a.1)
-
-each : {X : Type 0} (P : X → Type 0) → ((x : X) → P x) → (xs : List X) → AllByRecursion P xs
-each P k [] = tt
-each P k (x ∷ xs) = (k x, each P k xs)
+use Rattle.schedule.proofs.First.{each_append}
 
 distinct_append : {X : Type 0} (e : X → X → Bool) (xs ys : List X) → IsDistinct e xs → IsDistinct e ys → AllByRecursion (λ x. AllByRecursion (λ y. e x y ≡ false) ys) xs → IsDistinct e (xs ++ ys)
 unfolding IsDistinct
@@ -29,7 +23,7 @@ pub IsDistinct-map : {X Y : Type 0} (d : X → X → Bool) (e : Y → Y → Bool
 unfolding IsDistinct
 IsDistinct-map d e f keeps [] a = tt
 IsDistinct-map d e f keeps (x ∷ xs) a =
-    (each_map (λ y. e (f x) y ≡ false) f xs (each_weaker (λ y. d x y ≡ false) (λ y. e (f x) (f y) ≡ false) (λ y. keeps x y) xs a.0), IsDistinct-map d e f keeps xs a.1)
+    (each_map (λ y. d x y ≡ false) (λ y. e (f x) y ≡ false) f (λ y. keeps x y) xs a.0, IsDistinct-map d e f keeps xs a.1)
 
 abbrev pub same_pair : ℕ × ℕ → ℕ × ℕ → Bool
 same_pair p q = eqb p.0 q.0 && eqb p.1 q.1
@@ -39,14 +33,14 @@ rows_apart : (x y : ℕ) (xs ys : List ℕ) → AllByRecursion (λ z. eqb x z �
 rows_apart x y [] ys a = tt
 rows_apart x y (z ∷ xs) ys a =
     let apart : ℕ × ℕ → Type 0 = λ p. same_pair (x, y) p ≡ false in
-    each_append apart (map (λ w. (z, w)) ys) (rows xs ys) (each_map apart (λ w. (z, w)) ys (each (λ w. apart (z, w)) (λ w. and_left _ _ a.0) ys)) (rows_apart x y xs ys a.1)
+    each_append apart (map (λ w. (z, w)) ys) (rows xs ys) (every_map apart (λ w. (z, w)) (λ w. and_left _ _ a.0) ys) (rows_apart x y xs ys a.1)
 
 -- no pair comes twice
 pub IsDistinct-rows : (xs ys : List ℕ) → IsDistinct eqb xs → IsDistinct eqb ys → IsDistinct same_pair (rows xs ys)
 unfolding IsDistinct
 IsDistinct-rows [] ys a b = tt
 IsDistinct-rows (x ∷ xs) ys a b =
-    distinct_append same_pair (map (λ y. (x, y)) ys) (rows xs ys) (IsDistinct-map eqb same_pair (λ y. (x, y)) (λ y z differ. and_right _ _ differ) ys b) (IsDistinct-rows xs ys a.1 b) (each_map (λ p. AllByRecursion (λ q. same_pair p q ≡ false) (rows xs ys)) (λ y. (x, y)) ys (each (λ y. AllByRecursion (λ q. same_pair (x, y) q ≡ false) (rows xs ys)) (λ y. rows_apart x y xs ys a.0) ys))
+    distinct_append same_pair (map (λ y. (x, y)) ys) (rows xs ys) (IsDistinct-map eqb same_pair (λ y. (x, y)) (λ y z differ. and_right _ _ differ) ys b) (IsDistinct-rows xs ys a.1 b) (every_map (λ p. AllByRecursion (λ q. same_pair p q ≡ false) (rows xs ys)) (λ y. (x, y)) (λ y. rows_apart x y xs ys a.0) ys)
 
 pub IsDistinct-range : (a n : ℕ) → IsDistinct eqb (range_with_len a n)
 IsDistinct-range a n =
@@ -57,13 +51,6 @@ IsDistinct-range a n =
 pub IsDistinct-increasing : (xs : List ℕ) → IsStrictlyIncreasing xs → IsDistinct eqb xs
 IsDistinct-increasing xs up =
     IsDistinct-from_apart eqb xs (λ i j d before within. ne_eqb _ _ (λ same. omega (arith, same, AllPairs-from_increasing xs up i j d before within)))
-
-pub Contains-map : {X Y : Type 0} (f : X → Y) (xs : List X) (x : X) → Contains xs x → Contains (map f xs) (f x)
-Contains-map f [] x (k, below, at) = absurd (omega arith)
-Contains-map f (y ∷ xs) x (zero, below, at) = (0, omega arith, ap f at)
-Contains-map f (y ∷ xs) x (suc k, below, at) =
-    let rest = Contains-map f xs x (k, omega arith, at) in
-    (suc rest.0, omega arith, rest.2)
 
 -- each item of the one side is with each item of the other
 pub Contains-rows : {X Y : Type 0} (xs : List X) (ys : List Y) (x : X) (y : Y) → Contains xs x → Contains ys y → Contains (rows xs ys) (x, y)

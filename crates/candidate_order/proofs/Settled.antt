@@ -1,27 +1,17 @@
 -- Two searches that give up nothing find points of the same candidates, and refute the same ones.
-use Rattle.std.proofs.Common.{◌≡◌, ◌≤◌, List, [], inl, inr, ⊎_elim, sym, subst}
-use Rattle.std.specs.Prelude.{◌⊎◌, nat_le, All, Contains}
-use Rattle.std.proofs.lemmas.Bool.{and_parts, leb-true}
-use Rattle.std.proofs.lemmas.List.Elements.{All-contains, Contains-get_or}
+use Rattle.std.proofs.Common.{◌≡◌, List, [], inl, inr, ⊎_elim, sym, subst}
+use Rattle.std.specs.Prelude.{◌⊎◌, All, Contains}
+use Rattle.std.proofs.lemmas.List.Elements.{All-contains}
+use Rattle.list_laws.proofs.Each.{all_contained}
 use Rattle.schedule.proofs.First.{Among, Among-from_Contains, Contains-from_Among, map_among}
-use Rattle.collective_spec.specs.Kinds.{divides_evenly}
-use Rattle.collective_spec.specs.Collectives.{kind_in, adds_up}
+use Rattle.collective_spec.specs.Collectives.{adds_up}
 use Rattle.candidate_order.specs.declared.candidate.Candidate.{Candidate}
 use Rattle.candidate_order.specs.Costs.{NoWorse, Before}
 use Rattle.candidate_order.specs.Frontiers.{QuestionValue, PointValue, FrontierValue, solved, given_up, IsWithin, IsSolvable, IsPoint, RightFrontier, IsTried, IsWorthTrying, Searched}
-use Rattle.candidate_order.proofs.Orders.{Before-trans, Before-total}
+use Rattle.candidate_order.proofs.Orders.{Before-trans, Before-total, has_chunk, HasChunk}
 use Rattle.candidate_order.proofs.Frontiers.{none-contained, shown}
 use Rattle.candidate_order.proofs.Unique.{candidates_apart, one_list_of_candidates}
 use Rattle.candidate_order.proofs.Turns.{Settles, one_by_turns}
-
-abbrev HasChunk : Candidate → Type 0
-HasChunk x = 1 ≤ x.c
-
-has_chunk : (q : QuestionValue) (x : Candidate) → IsWithin q x → HasChunk x
-has_chunk q x within = leb-true 1 x.c (and_parts (nat_le 1 x.c) (divides_evenly (kind_in q.spec) q.topology.nodes x.c) within.allowed).0
-
-each : {X : Type 0} (P : X → Type 0) (xs : List X) → ((x : X) → Contains xs x → P x) → All P xs
-each P xs h k d low = h _ (Contains-get_or xs k d low)
 
 module _ (q : QuestionValue) where
   -- the candidate of a point is within the limits, and its schedule shows that it can be solved
@@ -65,7 +55,7 @@ module _ (q : QuestionValue) where
         is = settled f right_f x has
 
         worth : IsWorthTrying g x
-        worth = each (λ p. Before p x → NoWorse p x → ⊥) (solved g) (λ p at before.
+        worth = all_contained (λ p. Before p x → NoWorse p x → ⊥) (solved g) (λ p at before.
             All-contains (λ y. Before y x → NoWorse y x → ⊥) (solved f) p ((searched_f.tried x is.within).0 (inl has)) (earlier p at before) before)
 
     -- what the one refutes the other refutes, where their points are the same

@@ -1,8 +1,9 @@
 -- Two ascending lists of which each has what the other has, as long as they agree on what comes before it, are one list.
 use Rattle.std.proofs.Common.{◌≡◌, List, [], ◌∷◌, ◌⊎◌, inl, inr, ⊎_elim, refl, sym, subst}
 use Rattle.std.specs.Prelude.{AllPairs}
+use Rattle.list_laws.proofs.Pairs.{pairs_tail}
 use Rattle.schedule.proofs.First.{Among}
-use Rattle.candidate_order.proofs.Unique.{Same, first_before, later_ascend, same_lists}
+use Rattle.candidate_order.proofs.Unique.{Same, first_before, same_lists}
 
 -- the items of the second list stand in the first
 abbrev pub AreIn : {X : Type 0} → List X → List X → Type 0
@@ -41,7 +42,7 @@ module _ {X : Type 0} (R : X → X → Type 0) where
     inside : AreIn all left
 
   rest_left : (all : List X) (x : X) (xs : List X) → IsLeft all (x ∷ xs) → IsLeft all xs
-  rest_left all x xs l = record { ascending = later_ascend R x xs l.ascending; inside = rest_in x xs all l.inside }
+  rest_left all x xs l = record { ascending = pairs_tail R x xs l.ascending; inside = rest_in x xs all l.inside }
 
   -- where none of the items that the other list still has comes before an item, the other list has it
   taken : (xs ys left : List X) → Settles xs ys → Lacks ys xs left → (x : X) → Among x xs → NoneBefore x left → Among x ys

@@ -1,6 +1,7 @@
 -- Two ascending lists with the same members are one list.
 use Rattle.std.proofs.Common.{◌≡◌, suc, List, [], ◌∷◌, inl, inr, refl, sym, ap, ◌∙◌, subst, arith}
 use Rattle.std.specs.Prelude.{◌↔◌, AllPairs, Contains}
+use Rattle.list_laws.proofs.Pairs.{pairs_tail}
 use Rattle.schedule.proofs.First.{Among, Among-from_Contains, Contains-from_Among}
 use Rattle.candidate_order.specs.declared.candidate.Candidate.{Candidate}
 use Rattle.candidate_order.specs.Costs.{Before}
@@ -15,9 +16,6 @@ module _ {X : Type 0} (R : X → X → Type 0) where
   first_before x xs ascending z among =
       let (k, low, is) = Contains-from_Among z xs among in
       subst (R x) is (ascending 0 (suc k) z (omega arith) (omega (arith, low)))
-
-  pub later_ascend : (x : X) (xs : List X) → AllPairs R (x ∷ xs) → AllPairs R xs
-  later_ascend x xs ascending = λ i j d ordered low. ascending (suc i) (suc j) d (omega (arith, ordered)) (omega (arith, low))
 
 module _ {X : Type 0} (R : X → X → Type 0) (never_both : (a b : X) → R a b → R b a → ⊥) where
   -- the first of both
@@ -45,7 +43,7 @@ module _ {X : Type 0} (R : X → X → Type 0) (never_both : (a b : X) → R a b
   same_lists (x ∷ xs) [] first second same = absurd ((same x).0 (inl refl))
   same_lists (x ∷ xs) (y ∷ ys) first second same =
       let is = one_first x y xs ys first second same in
-      let rest = same_lists xs ys (later_ascend R x xs first) (later_ascend R y ys second)
+      let rest = same_lists xs ys (pairs_tail R x xs first) (pairs_tail R y ys second)
       (λ z. (behind_first x y xs ys first is (λ w. (same w).0) z, behind_first y x ys xs second (sym is) (λ w. (same w).1) z)) in
       ap (λ z. z ∷ xs) is ∙ ap (λ zs. y ∷ zs) rest
 

@@ -39,7 +39,3 @@ solved_by s = record { points = record { candidate = smallest; schedule = s; mar
 -- the one candidate is refuted
 abbrev pub all_refuted : FrontierValue
 all_refuted = record { points = []; refuted = smallest ∷ []; unknown = [] }
-
--- a node without links
-abbrev pub one_node : TopologyValue
-one_node = record { nodes = 1; groups = [] }

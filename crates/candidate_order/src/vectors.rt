@@ -1,10 +1,10 @@
 //! Costs of small candidates, and small frontiers that are right and are those of a search.
 
 ghost use Rattle.std.specs.Prelude.{AllPairs, [], ◌∷◌};
-ghost use Rattle.schedule.specs.Rows.{line_of_2, plan, send, two_alone};
+ghost use Rattle.schedule.specs.Rows.{line_of_2, plan, send, two_alone, one_node};
 ghost use Rattle.candidate_order.specs.Costs.{Before, Better, NoWorse};
 ghost use Rattle.candidate_order.specs.Frontiers.{RightFrontier, Searched};
-ghost use Rattle.candidate_order.specs.Rows.{all_refuted, asked, asked_to_move, at, one_node, solved_by};
+ghost use Rattle.candidate_order.specs.Rows.{all_refuted, asked, asked_to_move, at, solved_by};
 
 use collective_spec::Kind;
 

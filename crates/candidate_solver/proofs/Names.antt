@@ -7,11 +7,7 @@ use Rattle.outer_ports.specs.declared.part.Part.TheVariants as part
 use Rattle.outer_ports.specs.declared.proof_name.FileKind.{FileKind}
 use Rattle.outer_ports.specs.declared.proof_name.FileKind.TheVariants.{Cnf, Lrat, Partial}
 use Rattle.outer_ports.specs.declared.proof_name.ProofName.{ProofName}
-
-abbrev kind_number : FileKind → ℕ
-kind_number Cnf = 0
-kind_number Lrat = 1
-kind_number Partial = 2
+use Rattle.outer_ports.specs.Files.{part_number, kind_number}
 
 abbrev numbered_kind : ℕ → FileKind
 numbered_kind n = if n == 0 then Cnf else if n == 1 then Lrat else Partial
@@ -20,12 +16,6 @@ kind_back : (k : FileKind) → numbered_kind (kind_number k) ≡ k
 kind_back Cnf = refl
 kind_back Lrat = refl
 kind_back Partial = refl
-
-abbrev part_number : Part → ℕ
-part_number part.Whole = 0
-part_number part.Reduce = 1
-part_number part.Gather = 2
-part_number part.Joined = 3
 
 abbrev numbered_part : ℕ → Part
 numbered_part n = if n == 0 then part.Whole else if n == 1 then part.Reduce else if n == 2 then part.Gather else part.Joined

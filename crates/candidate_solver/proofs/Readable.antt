@@ -23,7 +23,7 @@ use Rattle.candidate_formula.specs.Files.{HoldsLines}
 use Rattle.candidate_formula.specs.Logs.{IsShortLine}
 use Rattle.candidate_formula.proofs.ReadBack.{text_says}
 use Rattle.candidate_formula.proofs.Short.{log_short}
-use Rattle.sat_core.proofs.Members.{here, there, cons_cases}
+use Rattle.conflict_analysis.proofs.Members.{here, there, cons_cases}
 
 -- what is held is held under numbers that a reader takes
 abbrev pub AreIds : List Entry → Type 0

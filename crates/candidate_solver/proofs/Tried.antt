@@ -1,5 +1,5 @@
 -- What a try at a candidate says, and the files that it leaves.
-use Rattle.std.proofs.Common.{◌≡◌, ℕ, ◌≤◌, List, refl, sym, ap, ◌∙◌, subst, arith}
+use Rattle.std.proofs.Common.{◌≡◌, ℕ, ◌≤◌, Bool, List, refl, sym, ap, ◌∙◌, subst, arith}
 use Rattle.std.specs.Prelude.{Some, map, Result, Ok, Err, IfOk}
 use Rattle.schedule.specs.Links.{TopologyValue}
 use Rattle.schedule.specs.Placed.{PlacementValue}
@@ -18,6 +18,7 @@ use Rattle.sat_core.specs.declared.solving.SatAnswer.TheVariants as answer
 use Rattle.sat_core.proofs.Ending.{all_learned}
 use Rattle.round_encoding.specs.declared.encoding.Encoding.{Encoding}
 use Rattle.round_encoding.specs.Candidates.{IsEncodingOf, IsTightSolution}
+use Rattle.round_encoding.specs.Decoding.{decoded}
 use Rattle.candidate_order.specs.declared.candidate.Candidate.{Candidate}
 use Rattle.candidate_order.specs.declared.outcome.Outcome.{Outcome}
 use Rattle.candidate_order.specs.declared.outcome.Outcome.TheVariants as outcome
@@ -38,11 +39,12 @@ schedule_in d (outcome.Solved schedule) = schedule
 schedule_in d outcome.Refuted = d
 schedule_in d (outcome.Unknown n) = d
 
-pub says_solved : (e : Encoding) (said : SatAnswer) (limit : ℕ) (s : ScheduleValue)
+pub says_solved : (e : Encoding) (said : SatAnswer) (limit : ℕ) (values : List Bool) (s : ScheduleValue) → said ≡ answer.Model values → s ≡ decoded (record { map = e.map; extra = e.extra }) values
     → ((t : TopologyValue) (pre post : PlacementValue) (steps rounds : ℕ) → IsEncodingOf t pre post steps rounds e → IsTightSolution t pre post s steps rounds) → Says e said limit (outcome.Solved s)
 unfolding schedule_in
-says_solved e said limit s h = record {
-  solved = λ schedule same t pre post steps rounds is. subst (λ s. IsTightSolution t pre post s steps rounds) (ap (schedule_in s) same) (h t pre post steps rounds is);
+says_solved e said limit values s model is h = record {
+  solved = λ schedule same t pre post steps rounds of. subst (λ s. IsTightSolution t pre post s steps rounds) (ap (schedule_in s) same) (h t pre post steps rounds of);
+  by_model = λ schedule same. (values, model, sym (ap (schedule_in s) same) ∙ is);
   refuted = λ same. absurd (cc);
   unknown = λ n same. absurd (cc);
 }
@@ -105,13 +107,13 @@ has_log q part x e lines said middle now left spent stays =
 
 pub has_files : (q : QuestionValue) (part : Part) (x : Candidate) (e : Encoding) (lines : List ProofLineValue) (said : SatAnswer) (out : Outcome) (middle now : Files) → IsLeft q part x e lines said middle now
     → Says e said q.limits.conflicts out → IsTidy (kind_of out) part x middle now → HasFiles part q now (x, kind_of out)
-has_files q part x e lines said (outcome.Solved s) middle now left says tidy = (has_formula q part x e lines said middle now left, tidy.0, tidy.1)
-has_files q part x e lines said outcome.Refuted middle now left says tidy = (has_refutation q part x e lines said middle now left (says.refuted refl) tidy.0, tidy.1)
-has_files q part x e lines said (outcome.Unknown n) middle now left says tidy = (
-  has_formula q part x e lines said middle now left,
-  tidy.0,
-  has_log q part x e lines said middle now left (says.unknown n refl).0 tidy.1,
-)
+has_files q part x e lines said (outcome.Solved s) middle now left says tidy = record { formula = has_formula q part x e lines said middle now left; no_proof = tidy.0; no_log = tidy.1 }
+has_files q part x e lines said outcome.Refuted middle now left says tidy = record { refutation = has_refutation q part x e lines said middle now left (says.refuted refl) tidy.0; no_log = tidy.1 }
+has_files q part x e lines said (outcome.Unknown n) middle now left says tidy = record {
+  formula = has_formula q part x e lines said middle now left;
+  no_proof = tidy.0;
+  log = has_log q part x e lines said middle now left (says.unknown n refl).0 tidy.1;
+}
 
 -- what is said of a result twice
 pub both_ok : {T E : Type 0} (r : Result T E) (P Q R : T → Type 0) → ((x : T) → P x → Q x → R x) → IfOk r P → IfOk r Q → IfOk r R

@@ -1,12 +1,11 @@
 -- One try at a candidate: what it may do to the files, and what its search says.
-use Rattle.std.specs.Prelude.{◌≡◌, ◌⊎◌, ℕ, ◌+◌, ◌≤◌, Bool, List, length, map, Option, Some}
+use Rattle.std.specs.Prelude.{◌≡◌, ℕ, ◌+◌, ◌≤◌, Bool, List, [], length, map, Some}
 use Rattle.cnf_formula.specs.Formulas.{FormulaValue, Satisfies}
 use Rattle.cnf_formula.specs.Lines.{ProofLineValue}
 use Rattle.cnf_formula.specs.declared.line.LratLine.TheVariants.{Addition}
 use Rattle.proof_rules.specs.Refuting.{Refutes}
 use Rattle.lrat_text.specs.Printing.{cnf_text}
 use Rattle.outer_ports.specs.declared.part.Part.{Part}
-use Rattle.outer_ports.specs.declared.proof_name.FileKind.{FileKind}
 use Rattle.outer_ports.specs.declared.proof_name.FileKind.TheVariants.{Cnf, Lrat, Partial}
 use Rattle.outer_ports.specs.declared.proof_name.ProofName.{ProofName}
 use Rattle.outer_ports.specs.Files.{Files}
@@ -24,8 +23,9 @@ use Rattle.schedule.specs.Placed.{PlacementValue}
 use Rattle.schedule.specs.Sends.{ScheduleValue}
 use Rattle.round_encoding.specs.declared.encoding.Encoding.{Encoding}
 use Rattle.round_encoding.specs.Candidates.{IsEncodingOf, IsTightSolution}
-use Rattle.candidate_formula.specs.Files.{file_of, candidate_of, IsEmptied}
-use Rattle.candidate_formula.specs.Begun.{Begins}
+use Rattle.round_encoding.specs.Decoding.{decoded}
+use Rattle.candidate_formula.specs.Files.{file_of, candidate_of}
+use Rattle.candidate_formula.specs.Begun.{BegunOnly}
 use Rattle.engine_rules.specs.Outcomes.{SolvesTightly, SpentOn}
 use Rattle.engine_rules.specs.declared.settled.Settled.{Settled}
 use Rattle.engine_rules.specs.declared.settled.Settled.TheVariants as settled
@@ -37,15 +37,9 @@ pub record IsOwn (part : Part) (x : Candidate) (name : ProofName) : Type 0 where
   pub of_part : name.part ≡ part
   pub of_candidate : candidate_of name ≡ x
 
--- what stands there begins what such a file of the formula is to hold
-pub record HasBegun (f : FormulaValue) (kind : FileKind) (bytes : Option (List ℕ)) : Type 0 where
-  pub front : List ℕ
-  pub is : bytes ≡ Some front
-  pub begins : Begins f kind front
-
--- each file is as before, or is one of the candidate's and was begun
-pub record BeginsOwn (f : FormulaValue) (part : Part) (x : Candidate) (before now : Files) : Type 0 where
-  pub each : (name : ProofName) → (now name ≡ before name) ⊎ (IsOwn part x name × HasBegun f name.kind (now name))
+-- each file is as before, or is one of the candidate's and was begun, for this formula
+abbrev pub BeginsOwn : FormulaValue → Part → Candidate → Files → Files → Type 0
+BeginsOwn f part x = BegunOnly (IsOwn part x) (λ _. f)
 
 -- the text of the formula stands there
 abbrev pub HasText : FormulaValue → Part → Candidate → Files → Type 0
@@ -58,9 +52,9 @@ pub record HasLines (part : Part) (x : Candidate) (lines : List ProofLineValue) 
 
 -- of the two files of lines each is empty that does not prove such an outcome, and the other is as before
 abbrev pub IsTidy : Settled → Part → Candidate → Files → Files → Type 0
-IsTidy settled.Solved part x before now = IsEmptied Lrat part now x × IsEmptied Partial part now x
-IsTidy settled.Refuted part x before now = (now (file_of Lrat part x) ≡ before (file_of Lrat part x)) × IsEmptied Partial part now x
-IsTidy settled.Unknown part x before now = IsEmptied Lrat part now x × (now (file_of Partial part x) ≡ before (file_of Partial part x))
+IsTidy settled.Solved part x before now = (now (file_of Lrat part x) ≡ Some []) × (now (file_of Partial part x) ≡ Some [])
+IsTidy settled.Refuted part x before now = (now (file_of Lrat part x) ≡ before (file_of Lrat part x)) × (now (file_of Partial part x) ≡ Some [])
+IsTidy settled.Unknown part x before now = (now (file_of Lrat part x) ≡ Some []) × (now (file_of Partial part x) ≡ before (file_of Partial part x))
 
 -- ---- searches
 
@@ -82,6 +76,7 @@ pub record IsSearch (f : FormulaValue) (limit : ℕ) (lines : List ProofLineValu
 -- what an outcome says of the answer of a search by this encoding, where so many lines could be learned
 pub record Says (e : Encoding) (said : SatAnswer) (limit : ℕ) (out : Outcome) : Type 0 where
   pub solved : (schedule : ScheduleValue) → out ≡ outcome.Solved schedule → (t : TopologyValue) (pre post : PlacementValue) (steps rounds : ℕ) → IsEncodingOf t pre post steps rounds e → IsTightSolution t pre post schedule steps rounds
+  pub by_model : (schedule : ScheduleValue) → out ≡ outcome.Solved schedule → (values : List Bool) × (said ≡ answer.Model values) × (schedule ≡ decoded (record { map = e.map; extra = e.extra }) values)
   pub refuted : out ≡ outcome.Refuted → said ≡ answer.Refuted
   pub unknown : (n : ℕ) → out ≡ outcome.Unknown n → (said ≡ answer.Spent) × (n ≡ limit)
 

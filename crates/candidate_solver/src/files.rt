@@ -1,9 +1,9 @@
 //! The files of a candidate.
 
-ghost use Rattle.std.specs.Prelude.{◌≡◌, ◌≢◌, IsTrue, Err, OnOk};
+ghost use Rattle.std.specs.Prelude.{◌≡◌, ◌≢◌, [], IsTrue, Some, Err, OnOk};
 ghost use Rattle.outer_ports.specs.Port.{HasCause, Tells};
 ghost use Rattle.outer_ports.specs.Shelf.{OthersStay};
-ghost use Rattle.candidate_formula.specs.Files.{file_of, IsEmptied};
+ghost use Rattle.candidate_formula.specs.Files.{file_of};
 ghost use Rattle.cnf_formula.specs.Formulas.{FormulaValue};
 ghost use Rattle.candidate_solver.specs.Trying.{BeginsOwn, HasText, IsTidy};
 
@@ -43,7 +43,7 @@ fn empty<H: Shelf>(
 ) -> Result<(), EngineFault>
     requires { kind ≢ FileKind.Cnf }
     ensures told { Tells (H.tells store.old) (H.tells store.new) }
-    ensures emptied { IsTrue (H.tells store.new) → OnOk result (IsEmptied kind part (H.file store.new) candidate) }
+    ensures emptied { IsTrue (H.tells store.new) → OnOk result (H.file store.new (file_of kind part candidate) ≡ Some []) }
     ensures others { IsTrue (H.tells store.new) → OthersStay (file_of kind part candidate) (H.file store.old) (H.file store.new) }
     ensures begins { IsTrue (H.tells store.new) → (f : FormulaValue) → BeginsOwn f part candidate (H.file store.old) (H.file store.new) }
     ensures cause { HasCause EngineFault.ShelfFailed (H.faults store.old) (H.faults store.new) result }

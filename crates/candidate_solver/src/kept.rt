@@ -11,15 +11,16 @@ ghost use Rattle.candidate_order.specs.declared.candidate.Candidate.{Candidate};
 ghost use Rattle.candidate_order.specs.Copied.{copied_spec};
 ghost use Rattle.candidate_order.specs.Frontiers.{IsSolvable, IsWithin};
 ghost use Rattle.candidate_formula.specs.Formulas.{formula_for};
-ghost use Rattle.candidate_solver.specs.Asked.{asked};
+ghost use Rattle.candidate_solver.specs.Questions.{asked};
 ghost use Rattle.candidate_formula.specs.Sizes.{size_of};
 ghost use Rattle.engine_rules.specs.declared.settled.Settled.TheVariants as settled;
 ghost use Rattle.engine_rules.specs.Outcomes.{RecordValue};
 ghost use Rattle.candidate_solver.specs.Proved.{IsProved};
 ghost use Rattle.candidate_solver.specs.Single.{proved-prop};
 
+use crate::attempt::Attempt;
 use crate::question::Question;
-use crate::trying::{Attempt, try_candidate};
+use crate::trying::try_candidate;
 use candidate_order::{Candidate, Limits, Outcome};
 use cnf_formula::{OutOfMemory, ProofLine};
 use collective_spec::{Kind, Spec};
@@ -122,14 +123,15 @@ impl EngineView for SatEngine {
 }
 
 impl<H: Shelf> Engine<H> for SatEngine {
+    ghost use Rattle.candidate_solver.specs.Beside.{beside};
     ghost use Rattle.candidate_solver.specs.Kept.{KeptAgrees, KeptMoves};
     ghost use Rattle.candidate_solver.specs.Laws.{KeptMoves-refl, KeptMoves-trans};
 
     ghost faults = { λ _ shelf. H.faults shelf };
 
-    ghost agrees = { λ e shelf. KeptAgrees e.part (asked e.question) e.entries.items (H.tells shelf) (H.file shelf) };
+    ghost agrees = { λ e shelf. KeptAgrees (beside e (H.tells shelf) (H.file shelf)) };
 
-    ghost moves = { λ a r b s. KeptMoves a.part b.part (asked a.question) (asked b.question) a.entries.items b.entries.items a.stopped b.stopped (H.tells r) (H.tells s) (H.file r) (H.file s) };
+    ghost moves = { λ a r b s. KeptMoves (beside a (H.tells r) (H.file r)) (beside b (H.tells s) (H.file s)) };
 
     fn settle(&mut self, store: &mut H, candidate: Candidate) -> Result<Outcome, EngineFault> {
         let Ok(()) = self.entries.reserve(1) else {
@@ -156,7 +158,7 @@ impl<H: Shelf> Engine<H> for SatEngine {
         }
     }
 
-    ghost moves_refl = { λ e shelf. KeptMoves-refl e.part (asked e.question) e.entries.items e.stopped (H.tells shelf) (H.file shelf) };
+    ghost moves_refl = { λ e shelf. KeptMoves-refl (beside e (H.tells shelf) (H.file shelf)) };
 
-    ghost moves_trans = { λ a r b s c t first second. KeptMoves-trans a.part b.part c.part (asked a.question) (asked b.question) (asked c.question) a.entries.items b.entries.items c.entries.items a.stopped b.stopped c.stopped (H.tells r) (H.tells s) (H.tells t) (H.file r) (H.file s) (H.file t) first second };
+    ghost moves_trans = { λ a r b s c t first second. KeptMoves-trans (beside a (H.tells r) (H.file r)) (beside b (H.tells s) (H.file s)) (beside c (H.tells t) (H.file t)) first second };
 }

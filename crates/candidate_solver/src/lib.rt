@@ -1,6 +1,7 @@
 //! What settles the candidates of a search, one at a time.
 #![tactic(auto)]
 
+mod attempt;
 mod copying;
 mod files;
 mod kept;
@@ -9,6 +10,7 @@ mod question;
 mod searching;
 mod trying;
 
+pub use attempt::{Attempt, Found, outcome_of};
 pub use engine_rules::{Engine, EngineFault, EngineView, Settled};
 pub use kept::SatEngine;
 pub use laws::the_log_refutes_the_last_candidate;

@@ -2,6 +2,7 @@
 
 ghost use Rattle.std.specs.Prelude.{◌≡◌, ◌≢◌, [], IsTrue, Err, IfOk};
 ghost use Rattle.outer_ports.specs.Port.{HasCause, Tells};
+ghost use Rattle.conflict_ledger.specs.Beside.{beside};
 ghost use Rattle.conflict_ledger.specs.Shelved.{ShelfAgrees, ShelfMoves};
 ghost use Rattle.candidate_formula.specs.Files.{file_of};
 ghost use Rattle.candidate_solver.specs.Faults.{of_solving};
@@ -9,20 +10,14 @@ ghost use Rattle.candidate_solver.specs.Trying.{BeginsOwn, HasLines, IsSearch};
 ghost use Rattle.proof_rules.specs.Held.{start_of};
 ghost use Rattle.proof_rules.specs.Refuting.{AllImplied};
 
+use crate::attempt::Found;
 use candidate_order::Candidate;
-use cnf_formula::{Formula, ProofLine};
+use cnf_formula::Formula;
 use conflict_ledger::{CheckedLedger, Ledger, LedgerView, PairLedger, ShelfLedger};
 use engine_rules::EngineFault;
 use outer_ports::{FileKind, Part, Shelf};
-use sat_core::{SatAnswer, SolveFault, solve};
+use sat_core::{SolveFault, solve};
 use std::alloc::Global;
-
-/// What a search says, and the lines of its proof.
-#[derive(Drop)]
-pub(crate) struct Found {
-    pub(crate) answer: SatAnswer,
-    pub(crate) lines: Vec<ProofLine>,
-}
 
 /// The fault of a search, as that of an engine.
 fn engine_fault(fault: SolveFault) -> EngineFault
@@ -35,18 +30,18 @@ fn engine_fault(fault: SolveFault) -> EngineFault
 }
 
 /// A search whose lines are not checked.
-fn search_plain<H: Shelf>(
+fn search_plain<'a, H: Shelf>(
     alloc: Global,
     formula: &Formula,
-    ledger: ShelfLedger,
+    ledger: ShelfLedger<'a>,
     store: &mut H,
 ) -> Result<Found, EngineFault>
-    requires base { ⟦<ShelfLedger as LedgerView>⟧.base ledger ≡ formula.now }
-    requires empty { ⟦<ShelfLedger as LedgerView>⟧.lines ledger ≡ [] }
-    requires agrees { ⟦<ShelfLedger as Ledger<H>>⟧.agrees ledger store.old }
-    ensures moves { ShelfMoves formula.now formula.now ledger.lrat ledger.lrat ledger.partial ledger.partial (H.tells store.old) (H.tells store.new) (H.file store.old) (H.file store.new) }
-    ensures agrees { IfOk result (λ found. ShelfAgrees formula.now found.lines.items ledger.lrat ledger.partial (H.tells store.new) (H.file store.new)) }
-    ensures search { IfOk result (λ found. IsSearch formula.now (⟦<ShelfLedger as LedgerView>⟧.limit ledger) found.lines.items found.answer) }
+    requires base { ⟦<ShelfLedger<'a> as LedgerView>⟧.base ledger ≡ formula.now }
+    requires empty { ⟦<ShelfLedger<'a> as LedgerView>⟧.lines ledger ≡ [] }
+    requires agrees { ⟦<ShelfLedger<'a> as Ledger<H>>⟧.agrees ledger store.old }
+    ensures moves { ShelfMoves (beside ledger.entry (H.tells store.old) (H.file store.old)) (beside ledger.entry (H.tells store.new) (H.file store.new)) }
+    ensures agrees { IfOk result (λ found. ShelfAgrees (beside ledger.entry (H.tells store.new) (H.file store.new)) found.lines.items) }
+    ensures search { IfOk result (λ found. IsSearch formula.now (⟦<ShelfLedger<'a> as LedgerView>⟧.limit ledger.entry) found.lines.items found.answer) }
     ensures cause { HasCause EngineFault.ShelfFailed (H.faults store.old) (H.faults store.new) result }
     ensures steady { result ≢ Err EngineFault.ShelfFailed → H.faults store.new ≡ H.faults store.old }
 {
@@ -59,19 +54,19 @@ fn search_plain<H: Shelf>(
 }
 
 /// A search each of whose lines is checked before it is kept.
-fn search_checked<H: Shelf>(
+fn search_checked<'a, H: Shelf>(
     alloc: Global,
     formula: &Formula,
-    ledger: ShelfLedger,
+    ledger: ShelfLedger<'a>,
     limit: u32,
     store: &mut H,
 ) -> Result<Found, EngineFault>
-    requires base { ⟦<ShelfLedger as LedgerView>⟧.base ledger ≡ formula.now }
-    requires empty { ⟦<ShelfLedger as LedgerView>⟧.lines ledger ≡ [] }
-    requires limit { ⟦<ShelfLedger as LedgerView>⟧.limit ledger ≡ limit }
-    requires agrees { ⟦<ShelfLedger as Ledger<H>>⟧.agrees ledger store.old }
-    ensures moves { ShelfMoves formula.now formula.now ledger.lrat ledger.lrat ledger.partial ledger.partial (H.tells store.old) (H.tells store.new) (H.file store.old) (H.file store.new) }
-    ensures agrees { IfOk result (λ found. ShelfAgrees formula.now found.lines.items ledger.lrat ledger.partial (H.tells store.new) (H.file store.new)) }
+    requires base { ⟦<ShelfLedger<'a> as LedgerView>⟧.base ledger ≡ formula.now }
+    requires empty { ⟦<ShelfLedger<'a> as LedgerView>⟧.lines ledger ≡ [] }
+    requires limit { ⟦<ShelfLedger<'a> as LedgerView>⟧.limit ledger ≡ limit }
+    requires agrees { ⟦<ShelfLedger<'a> as Ledger<H>>⟧.agrees ledger store.old }
+    ensures moves { ShelfMoves (beside ledger.entry (H.tells store.old) (H.file store.old)) (beside ledger.entry (H.tells store.new) (H.file store.new)) }
+    ensures agrees { IfOk result (λ found. ShelfAgrees (beside ledger.entry (H.tells store.new) (H.file store.new)) found.lines.items) }
     ensures search { IfOk result (λ found. IsSearch formula.now limit found.lines.items found.answer) }
     ensures cause { HasCause EngineFault.ShelfFailed (H.faults store.old) (H.faults store.new) result }
     ensures steady { result ≢ Err EngineFault.ShelfFailed → H.faults store.new ≡ H.faults store.old }

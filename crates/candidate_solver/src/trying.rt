@@ -1,7 +1,7 @@
 //! One try at a candidate.
 
-ghost use Rattle.std.specs.Prelude.{◌≡◌, ◌≢◌, Bool, List, IsTrue, Err, IfOk};
-ghost use Rattle.cnf_formula.specs.Formulas.{FormulaValue, Satisfies};
+ghost use Rattle.std.specs.Prelude.{◌≡◌, ◌≢◌, IsTrue, Err, IfOk};
+ghost use Rattle.cnf_formula.specs.Formulas.{FormulaValue};
 ghost use Rattle.proof_rules.specs.Held.{start_of};
 ghost use Rattle.proof_rules.specs.Refuting.{AllImplied};
 ghost use Rattle.outer_ports.specs.Port.{HasCause, Tells};
@@ -9,51 +9,22 @@ ghost use Rattle.round_encoding.specs.Candidates.{IsEncoding};
 ghost use Rattle.candidate_order.specs.Frontiers.{IsWithin};
 ghost use Rattle.candidate_formula.specs.Files.{file_of};
 ghost use Rattle.candidate_formula.specs.Formulas.{formula_for};
-ghost use Rattle.candidate_solver.specs.Asked.{asked};
+ghost use Rattle.candidate_solver.specs.Questions.{asked};
 ghost use Rattle.candidate_solver.specs.Kept.{HasFiles};
 ghost use Rattle.engine_rules.specs.Outcomes.{kind_of};
 ghost use Rattle.candidate_solver.specs.Trying.{BeginsOwn, HasLines, HasText, IsOutcome, IsSearch, IsTidy, Says};
 
+use crate::attempt::{Attempt, Found, outcome_of};
 use crate::files::{tidy, write_formula};
 use crate::question::Question;
-use crate::searching::{Found, search};
+use crate::searching::search;
 use candidate_formula::encode_candidate;
-use candidate_order::{Candidate, Outcome};
-use cnf_formula::{Formula, ProofLine};
+use candidate_order::Candidate;
+use cnf_formula::Formula;
 use engine_rules::{EngineFault, Settled};
 use outer_ports::{FileKind, Part, Shelf};
-use round_encoding::{Encoding, decode};
-use sat_core::SatAnswer;
+use round_encoding::Encoding;
 use std::alloc::Global;
-
-/// What came of a candidate, and the lines of its search.
-#[derive(Drop)]
-pub(crate) struct Attempt {
-    pub(crate) outcome: Outcome,
-    pub(crate) lines: Vec<ProofLine>,
-}
-
-/// What the answer of a search says of the candidate that was encoded, where so many lines could be learned.
-fn outcome_of(
-    alloc: Global,
-    encoding: &Encoding,
-    answer: SatAnswer,
-    conflicts: u32,
-) -> Result<Outcome, EngineFault>
-    requires encoding { IsEncoding encoding.now }
-    requires model { (values : List Bool) → answer ≡ SatAnswer.Model values → Satisfies values encoding.now.formula }
-    ensures says { IfOk result (λ outcome. Says encoding.now answer conflicts outcome) }
-    ensures fault { result ≢ Err EngineFault.ShelfFailed }
-{
-    match answer {
-        SatAnswer::Model(values) => {
-            let schedule = decode(alloc, encoding, &values)?;
-            Ok(Outcome::Solved(schedule))
-        }
-        SatAnswer::Refuted => Ok(Outcome::Refuted),
-        SatAnswer::Spent => Ok(Outcome::Unknown { conflicts }),
-    }
-}
 
 /// Writes the formula of a candidate, and searches by it.
 fn find<H: Shelf>(

@@ -11,7 +11,7 @@ use Rattle.std.proofs.lemmas.List.Sums.{sum_by-append, count_by-le-length}
 use Rattle.cnf_formula.specs.Literals.{LitValue, yes, is_true, clause_holds, all_hold}
 use Rattle.cnf_formula.specs.Formulas.{IsAbout, IsClause}
 use Rattle.cardinality.specs.Counting.{CounterValue, true_inputs, output, Reaches, Extends, IsCounter}
-use Rattle.cardinality.specs.Totalizers.{Tree, none, one, both, inputs_of, tree_within, tree_of, joins, joined, totals, totalizer_of}
+use Rattle.cardinality.specs.Totalizers.{Tree, none, one, both, inputs_of, tree_within, tree_of, joins, joined_counters, totals, totalizer_of}
 use Rattle.cardinality.proofs.Ranges.{all_of_map}
 use Rattle.cardinality.proofs.Wider.{old_is_same, All-front, All-back, clause_more, clauses_more, clauses_same, count_same}
 use Rattle.cardinality.proofs.Joins.{is_reached, joins_say, say_joins, joins_about}
@@ -50,7 +50,7 @@ module _ (before numbers many : ℕ) (ls rs : List LitValue) (left right : Count
   own = before + left.vars + right.vars
 
   abbrev node : CounterValue
-  node = joined before numbers many left right
+  node = joined_counters before numbers many left right
 
   abbrev ins : List LitValue
   ins = ls ++ rs

@@ -42,8 +42,8 @@ abbrev pub joins : ℕ → ℕ → List LitValue → List LitValue → List (Lis
 joins before numbers left right = flat_map (λ i. flat_map (joins_at before numbers left right i) (range_with_len 0 (length right + 1))) (range_with_len 0 (length left + 1))
 
 -- two sides, then so many outputs of their own, of which the first few are counted
-abbrev pub joined : ℕ → ℕ → ℕ → CounterValue → CounterValue → CounterValue
-joined before numbers many left right =
+abbrev pub joined_counters : ℕ → ℕ → ℕ → CounterValue → CounterValue → CounterValue
+joined_counters before numbers many left right =
     let own = before + left.vars + right.vars in
     record {
       vars = left.vars + right.vars + many;
@@ -58,7 +58,7 @@ totals numbers before (one y) = record { vars = 0; clauses = []; outputs = y ∷
 totals numbers before (both l r) =
     let left = totals numbers before l in
     let right = totals numbers (before + left.vars) r in
-    joined before numbers (min numbers (length (inputs_of (both l r)))) left right
+    joined_counters before numbers (min numbers (length (inputs_of (both l r)))) left right
 
 -- the counter of these inputs up to bound + 1; the root has all of these outputs, and also a root with one input has its own
 abbrev pub totalizer_of : ℕ → List LitValue → ℕ → CounterValue
@@ -67,7 +67,7 @@ totalizer_of before inputs bound =
     let half = length inputs / 2 in
     let left = totals numbers before (tree_of (take half inputs)) in
     let right = totals numbers (before + left.vars) (tree_of (drop half inputs)) in
-    joined before numbers numbers left right
+    joined_counters before numbers numbers left right
 
 -- the counter of a side
 abbrev pub side_of : ℕ → ℕ → List LitValue → CounterValue

@@ -1,20 +1,10 @@
 -- What a search through a list finds.
 use Rattle.std.proofs.Common.{◌≡◌, suc, zero, Bool, true, false, cond, not, ◌&&◌, List, [], ◌∷◌, map, refl, sym, ap, ◌∙◌, arith, Option, Some, None, All, Contains, MatchOption, find, Decides}
 use Rattle.std.specs.List.{list_any}
-use Rattle.std.specs.Option.{option_map}
-use Rattle.std.proofs.lemmas.List.Elements.{All-cons, Contains-append_right}
+use Rattle.std.proofs.lemmas.List.Elements.{All-cons}
 use Rattle.std.proofs.lemmas.Bool.{or_right, or_left, false≢true}
+use Rattle.list_laws.proofs.Members.{Contains-cons}
 use Rattle.case_table.specs.Rows.{all_differ}
-
--- a search through a mapped list is a search for the mapped test
-pub find-map : {X Y : Type 0} (p : Y → Bool) (f : X → Y) (xs : List X) → find p (map f xs) ≡ option_map f (find (λ x. p (f x)) xs)
-find-map p f [] = refl
-find-map p f (x ∷ xs) =
-    elim (p (f x)) as (λ b. cond b (Some (f x)) (find p (map f xs)) ≡ option_map f (cond b (Some x) (find (λ y. p (f y)) xs)))
-    [ true ↦ refl | false ↦ find-map p f xs ]
-
-pub Contains-cons : {X : Type 0} (x : X) (xs : List X) (y : X) → Contains xs y → Contains (x ∷ xs) y
-Contains-cons x xs y h = Contains-append_right (x ∷ []) xs y h
 
 -- what is said of the answer of a search
 abbrev pub Found : {X : Type 0} → (X → Bool) → List X → Option X → Type 0

@@ -6,10 +6,11 @@ use Rattle.std.proofs.lemmas.List.Elements.{All-weaker}
 use Rattle.std.proofs.lemmas.Slice.Eq.{bytes_eq-Decides}
 use Rattle.std.proofs.lemmas.Bool.{and_parts, false≢true}
 use Rattle.std.proofs.lemmas.Bool.Decides.{Decides-eqb}
+use Rattle.list_laws.proofs.Tests.{find-map}
 use Rattle.case_table.specs.Rows.{is_one_to_one, value_at, word_at}
 use Rattle.case_table.specs.Shown.{entries}
 use Rattle.case_table.specs.declared.row.Row.{Row}
-use Rattle.case_table.proofs.Finding.{Found, find-Found, find-only, find-map}
+use Rattle.case_table.proofs.Finding.{Found, find-Found, find-only}
 
 ne_from_false : {A : Type 0} (b : Bool) (x y : A) → Decides b (x ≡ y) → b ≡ false → x ≢ y
 ne_from_false b x y d e h = false≢true (sym e ∙ d.1 h)

@@ -1,12 +1,14 @@
 -- Chunks that are renamed: a schedule that solves still does, where each chunk gets the name of one that is alike.
 use Rattle.std.proofs.Common.{◌≡◌, ℕ, zero, suc, ◌+◌, ◌<◌, ◌≤◌, ◌*◌, Bool, true, false, ◌||◌, cond, eqb, ltb, List, [], ◌∷◌, length, get_or, map, refl, sym, ap, ◌∙◌, ⊎_elim, arith}
 use Rattle.std.specs.Prelude.{◌≢◌, ◌&&◌, IsPermutation}
-use Rattle.std.specs.List.{list_any, AllByRecursion}
+use Rattle.std.specs.List.{list_any}
 use Rattle.std.proofs.lemmas.Bool.{and_parts, and_from, cases_Bool, eqb-true, eq-eqb, ltb-true, lt-ltb}
 use Rattle.std.proofs.lemmas.List.Elements.{All-from_recursion, recursion_from_All}
 use Rattle.std.proofs.lemmas.List.Folds.{list_any_at}
 use Rattle.std.proofs.lemmas.List.Sorted.{IsPermutation-refl, IsPermutation-cons, IsPermutation-append_comm, IsPermutation-append_left, IsPermutation-trans, sum_by-IsPermutation, list_any-IsPermutation}
 use Rattle.std.proofs.lemmas.List.Sums.{sum_by-cons}
+use Rattle.list_laws.proofs.Tests.{same_test}
+use Rattle.list_laws.proofs.Each.{each_map}
 use Rattle.schedule.specs.declared.hop.Hop.{Hop}
 use Rattle.schedule.specs.Links.{GroupValue, TopologyValue, has_link, is_usable}
 use Rattle.schedule.specs.Placed.{PlacementValue, IsPlacement, holds, same_pair}
@@ -27,10 +29,6 @@ use Rattle.chunk_order.specs.Alike.{is_alike}
 use Rattle.chunk_order.proofs.Alikeness.{alike_before, alike_after}
 
 -- ---- sends put in order
-
-each_map : (P Q : Hop → Type 0) (g : Hop → Hop) (hops : List Hop) → ((h : Hop) → Q h → P (g h)) → AllByRecursion Q hops → AllByRecursion P (map g hops)
-each_map P Q g [] maps each = tt
-each_map P Q g (h ∷ hops) maps each = (maps h each.0, each_map P Q g hops maps each.1)
 
 moved_with : (h : Hop) (hops : List Hop) → IsPermutation (h ∷ hops) (with_hop h hops)
 moved_with h [] = IsPermutation-refl (h ∷ [])
@@ -78,7 +76,7 @@ module _ (pre post : PlacementValue) (f : ℕ → ℕ) (exchange : IsExchange pr
 
   apart_names : (hops : List Hop) → Apart hops → Apart (map (renamed_hop f) hops)
   apart_names [] apart = tt
-  apart_names (h ∷ hops) apart = (each_map (λ o. renamed_hop f h ≢ o) (λ o. h ≢ o) (renamed_hop f) hops (λ o differs same. differs (one_name h o same)) apart.0, apart_names hops apart.1)
+  apart_names (h ∷ hops) apart = (each_map (λ o. h ≢ o) (λ o. renamed_hop f h ≢ o) (renamed_hop f) (λ o differs same. differs (one_name h o same)) hops apart.0, apart_names hops apart.1)
 
   pub valid_renamed : (s : ScheduleValue) → IsSchedule s → IsSchedule (renamed f s)
   valid_renamed s valid =
@@ -88,7 +86,7 @@ module _ (pre post : PlacementValue) (f : ℕ → ℕ) (exchange : IsExchange pr
         some = valid.some;
         few = valid.few;
         rounds = valid.rounds;
-        steps = All-from_recursion P (in_order hops) (each_in_order P hops (each_map P P (renamed_hop f) s.sends (λ h it. it) (recursion_from_All P s.sends valid.steps)));
+        steps = All-from_recursion P (in_order hops) (each_in_order P hops (each_map P P (renamed_hop f) (λ h it. it) s.sends (recursion_from_All P s.sends valid.steps)));
         ascending = pairs_from_InOrder (in_order hops) (ascends hops (apart_names s.sends (ascending_apart s.sends (InOrder-from_pairs hop_before s.sends valid.ascending))));
       }
 
@@ -101,14 +99,14 @@ module _ (pre post : PlacementValue) (f : ℕ → ℕ) (exchange : IsExchange pr
   range_renamed s range =
       let P : Hop → Type 0 = λ h. is_hop_below pre.chunks pre.nodes h ≡ true in
       let hops = map (renamed_hop f) s.sends in
-      All-from_recursion P (in_order hops) (each_in_order P hops (each_map P P (renamed_hop f) s.sends below_renamed (recursion_from_All P s.sends range)))
+      All-from_recursion P (in_order hops) (each_in_order P hops (each_map P P (renamed_hop f) below_renamed s.sends (recursion_from_All P s.sends range)))
 
   pub fits_renamed : (t : TopologyValue) (s : ScheduleValue) → Fits t s → Fits t (renamed f s)
   fits_renamed t s fits =
       let P : Hop → Type 0 = λ h. is_usable t (link_of h) ≡ true in
       let hops = map (renamed_hop f) s.sends in
       record {
-        usable = All-from_recursion P (in_order hops) (each_in_order P hops (each_map P P (renamed_hop f) s.sends (λ h it. it) (recursion_from_All P s.sends fits.usable)));
+        usable = All-from_recursion P (in_order hops) (each_in_order P hops (each_map P P (renamed_hop f) (λ h it. it) s.sends (recursion_from_All P s.sends fits.usable)));
         within = λ step from to i d low.
             let group : GroupValue = get_or t.groups i d in
             let same : load group step (in_order hops) ≡ load group step s.sends = sum_by-IsPermutation (λ h. cond (eqb h.step step && has_link group (link_of h)) 1 0) hops (in_order hops) (moved_in_order hops) ∙ count_renamed f group step s.sends in
@@ -119,14 +117,9 @@ module _ (pre post : PlacementValue) (f : ℕ → ℕ) (exchange : IsExchange pr
   -- ---- the run
 
   one_place : (x c : ℕ) → eqb (f x) c ≡ eqb x (f c)
-  one_place x c = both_ways (eqb (f x) c) (eqb x (f c))
+  one_place x c = same_test (eqb (f x) c) (eqb x (f c))
       (λ h. eq-eqb x (f c) (sym (exchange.back x) ∙ ap f (eqb-true (f x) c h)))
       (λ h. eq-eqb (f x) c (ap f (eqb-true x (f c) h) ∙ exchange.back c))
-    where
-      both_ways : (p q : Bool) → (p ≡ true → q ≡ true) → (q ≡ true → p ≡ true) → p ≡ q
-      both_ways true q there back = sym (there refl)
-      both_ways false true there back = back refl
-      both_ways false false there back = refl
 
   -- a chunk is held where the one whose name it has was
   pub after_renamed : (s : ScheduleValue) → IsInRange pre.chunks pre.nodes s → (k c n : ℕ) → c < pre.chunks → n < pre.nodes → holds (after pre (renamed f s) k) (c, n) ≡ holds (after pre s k) (f c, n)

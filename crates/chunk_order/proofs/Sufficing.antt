@@ -18,7 +18,7 @@ use Rattle.send_encoding.proofs.Saying.{sending_says}
 use Rattle.send_encoding.proofs.Decoded.{sends_tell}
 use Rattle.send_encoding.proofs.Running.{run_is}
 use Rattle.round_encoding.specs.Frames.{Frame, frame_of, own_variables}
-use Rattle.round_encoding.specs.Rounding.{counts_of, counted, extra_in_order, formula_of}
+use Rattle.round_encoding.specs.Rounding.{counts_of, counters_after, extra_in_order, formula_of}
 use Rattle.round_encoding.specs.Decoding.{decoded}
 use Rattle.round_encoding.specs.Candidates.{IsCandidate, IsTightSolution}
 use Rattle.round_encoding.proofs.Obeyed.{both_hold}
@@ -54,7 +54,7 @@ module _ (t : TopologyValue) (pre post : PlacementValue) (steps rounds : ℕ) (c
       → holds (after pre (decoded (frame_of t pre steps rounds) values) k) (c, n) ≡ is_true values (arrival m c n k)
   run_said values h k c n kl cl nl =
       let f : Frame = frame_of t pre steps rounds in
-      let first = both_hold values (sending m pre post ++ extra_in_order f) (counted (own_variables f) (counts_of f t)).clauses h.holds in
+      let first = both_hold values (sending m pre post ++ extra_in_order f) (counters_after (own_variables f) (counts_of f t)).clauses h.holds in
       let sends = both_hold values (sending m pre post) (extra_in_order f) first.0 in
       run_is m pre post (λ c n k. is_true values (arrival m c n k)) (λ c e k. is_true values (sent m c e k)) (decoded f values) refl candidate.nodes (links_join t pre steps)
       (sending_says m pre post values sends.0) (sends_tell m values (links_join t pre steps)) k c n kl cl nl

@@ -27,7 +27,8 @@ use Rattle.engine_rules.specs.Outcomes.{SolvesTightly, SpentOn}
 use Rattle.chunk_order.specs.Ordering.{ordered_formula_of}
 use Rattle.chunk_order.specs.Solutions.{IsOrderedSolution}
 use Rattle.chunk_order.specs.Formulas.{ordered_formula_for, OrderedFor}
-use Rattle.chunk_symmetry.specs.Trying.{IsSearch, Says, IsOrderedOutcome}
+use Rattle.candidate_solver.specs.Trying.{Says}
+use Rattle.chunk_symmetry.specs.Trying.{IsSearch, IsOrderedOutcome}
 use Rattle.chunk_order.proofs.Sufficing.{decodes_ordered, parts}
 use Rattle.chunk_order.proofs.Exact.{copied_ordered}
 
@@ -70,7 +71,7 @@ module _ (q : QuestionValue) (x : Candidate) (e : Encoding) (f : FormulaValue) (
   pub outcome_by : (lines : List ProofLineValue) (said : SatAnswer) (limit : ℕ) (out : Outcome) → limit ≡ q.limits.conflicts → IsSearch f limit lines said → Says e said limit out → IsOrderedOutcome q x lines out
   outcome_by lines said limit out limited search says = record {
     proves = record {
-      solved = λ s o. let it = says.solved s o in (said_solves it.0 s (search.model it.0 it.1) it.2).0;
+      solved = λ s o. let it = says.by_model s o in (said_solves it.0 s (search.model it.0 it.1) it.2).0;
       refuted = λ o. subst (Refutes (map Addition lines)) encoded.formula (search.refuted (says.refuted o));
       unknown = λ n o.
           let u = says.unknown n o in (
@@ -78,7 +79,7 @@ module _ (q : QuestionValue) (x : Candidate) (e : Encoding) (f : FormulaValue) (
             subst (λ g. SpentOn g lines n) encoded.formula (subst (SpentOn f lines) (sym u.1) (search.spent u.0)),
           );
     };
-    ordered = λ s o. let it = says.solved s o in (said_solves it.0 s (search.model it.0 it.1) it.2).1;
+    ordered = λ s o. let it = says.by_model s o in (said_solves it.0 s (search.model it.0 it.1) it.2).1;
   }
 
 -- the same lines are a log of the same formula

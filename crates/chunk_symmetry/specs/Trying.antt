@@ -5,8 +5,6 @@ use Rattle.cnf_formula.specs.Formulas.{FormulaValue, Satisfies}
 use Rattle.cnf_formula.specs.Lines.{ProofLineValue}
 use Rattle.cnf_formula.specs.declared.line.LratLine.TheVariants.{Addition}
 use Rattle.proof_rules.specs.Refuting.{Refutes}
-use Rattle.round_encoding.specs.declared.encoding.Encoding.{Encoding}
-use Rattle.round_encoding.specs.Decoding.{decoded}
 use Rattle.sat_core.specs.declared.solving.SatAnswer.{SatAnswer}
 use Rattle.sat_core.specs.declared.solving.SatAnswer.TheVariants as answer
 use Rattle.candidate_order.specs.declared.candidate.Candidate.{Candidate}
@@ -22,12 +20,6 @@ pub record IsSearch (f : FormulaValue) (limit : ℕ) (lines : List ProofLineValu
   pub model : (values : List Bool) → said ≡ answer.Model values → Satisfies values f
   pub refuted : said ≡ answer.Refuted → Refutes (map Addition lines) f
   pub spent : said ≡ answer.Spent → SpentOn f lines limit
-
--- what an outcome says of the answer of a search by this encoding, where so many lines could be learned
-pub record Says (e : Encoding) (said : SatAnswer) (limit : ℕ) (out : Outcome) : Type 0 where
-  pub solved : (schedule : ScheduleValue) → out ≡ outcome.Solved schedule → (values : List Bool) × (said ≡ answer.Model values) × (schedule ≡ decoded (record { map = e.map; extra = e.extra }) values)
-  pub refuted : out ≡ outcome.Refuted → said ≡ answer.Refuted
-  pub unknown : (n : ℕ) → out ≡ outcome.Unknown n → (said ≡ answer.Spent) × (n ≡ limit)
 
 -- the lines of a search prove the outcome of the candidate, and a schedule that was found is ordered
 pub record IsOrderedOutcome (q : QuestionValue) (x : Candidate) (lines : List ProofLineValue) (said : Outcome) : Type 0 where

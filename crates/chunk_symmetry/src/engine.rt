@@ -12,14 +12,14 @@ ghost use Rattle.candidate_order.specs.Frontiers.{IsSolvable, IsWithin};
 ghost use Rattle.candidate_formula.specs.Sizes.{size_of};
 ghost use Rattle.engine_rules.specs.declared.settled.Settled.TheVariants as settled;
 ghost use Rattle.engine_rules.specs.Outcomes.{RecordValue};
-ghost use Rattle.candidate_solver.specs.Asked.{asked};
+ghost use Rattle.candidate_solver.specs.Questions.{asked};
 ghost use Rattle.chunk_order.specs.Formulas.{ordered_formula_for, OrderedFor};
 ghost use Rattle.candidate_solver.specs.Proved.{IsProved};
 ghost use Rattle.candidate_solver.specs.Single.{proved-prop};
 
-use crate::trying::{Attempt, try_candidate};
+use crate::trying::try_candidate;
 use candidate_order::{Candidate, Limits, Outcome};
-use candidate_solver::Question;
+use candidate_solver::{Attempt, Question};
 use cnf_formula::{OutOfMemory, ProofLine};
 use collective_spec::{Kind, Spec};
 use engine_rules::{Engine, EngineFault, EngineView, Settled};

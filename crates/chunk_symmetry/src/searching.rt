@@ -3,17 +3,11 @@
 ghost use Rattle.std.specs.Prelude.{◌≡◌, IfOk};
 ghost use Rattle.chunk_symmetry.specs.Trying.{IsSearch};
 
-use cnf_formula::{Formula, OutOfMemory, ProofLine};
+use candidate_solver::Found;
+use cnf_formula::{Formula, OutOfMemory};
 use conflict_ledger::{CheckedLedger, KeptLedger, PairLedger};
-use sat_core::{SatAnswer, SolveFault, solve};
+use sat_core::{SolveFault, solve};
 use std::alloc::Global;
-
-/// What a search says, and the lines of its proof.
-#[derive(Drop)]
-pub(crate) struct Found {
-    pub(crate) answer: SatAnswer,
-    pub(crate) lines: Vec<ProofLine>,
-}
 
 /// Searches for a model of a formula, or a refutation, and learns at most so many lines, which are kept in memory. The only
 /// error is `OutOfMemory`.

@@ -1,7 +1,8 @@
 -- A literal and its number give each other.
-use Rattle.std.proofs.Common.{◌≡◌, ℕ, ◌+◌, ◌*◌, ◌/◌, ◌%◌, ◌<◌, Bool, true, false, eqb, ap, sym, ◌∙◌, arith}
+use Rattle.std.proofs.Common.{◌≡◌, ℕ, ◌+◌, ◌*◌, ◌/◌, ◌%◌, ◌<◌, Bool, true, false, eqb, ap, sym, ◌∙◌, arith, cond}
 use Rattle.std.proofs.lemmas.Nat.{div-mul-add, mod-mul-add}
 use Rattle.cnf_formula.specs.Literals.{LitValue, code_of, literal_of}
+use Rattle.cnf_formula.specs.Formulas.{IsAbout}
 
 -- the number of a variable and a sign
 pub halves : (v d : ℕ) → d < 2 → ((2 * v + d) / 2 ≡ v) × ((2 * v + d) % 2 ≡ d)
@@ -19,3 +20,11 @@ literal-code l = go l.var l.positive
 -- literals with one number are one
 pub same_code : (l m : LitValue) → code_of l ≡ code_of m → l ≡ m
 same_code l m e = sym (literal-code l) ∙ ap literal_of e ∙ literal-code m
+
+-- the number of a literal of so many variables
+pub code_within : (vars : ℕ) (l : LitValue) → IsAbout vars l → code_of l < 2 * vars + 2
+code_within vars l about = by_sign l.positive
+  where
+    by_sign : (b : Bool) → 2 * l.var + cond {A = ℕ} b 0 1 < 2 * vars + 2
+    by_sign true = let low = about.within in omega (arith, low)
+    by_sign false = let low = about.within in omega (arith, low)

@@ -1,22 +1,14 @@
 -- A formula that grows clause by clause, in a loop.
-use Rattle.std.proofs.Common.{◌≡◌, ℕ, zero, suc, ◌+◌, List, [], ◌∷◌, ◌++◌, map, length, get_or, take, ◌<◌, ◌≤◌, refl, sym, ap, ◌∙◌, arith, append_assoc}
+use Rattle.std.proofs.Common.{◌≡◌, ℕ, zero, ◌+◌, List, [], ◌∷◌, ◌++◌, map, length, get_or, take, ◌<◌, ◌≤◌, refl, sym, ap, ◌∙◌, arith, append_assoc}
 use Rattle.std.specs.Prelude.{flat_map}
 use Rattle.std.specs.List.{range_with_len, enumerate_from}
 use Rattle.std.proofs.lemmas.List.{append-nil, map-append, take_more, take_all}
 use Rattle.std.proofs.lemmas.List.Concat.{flat_map-append, flat_map_single}
 use Rattle.std.proofs.lemmas.List.Folds.{flat_map-map}
 use Rattle.std.proofs.lemmas.List.FromFn.{map-range_with_len_more, length-enumerate_from, get_or-enumerate_from}
+use Rattle.list_laws.proofs.Ranges.{flat_map-range_more}
 use Rattle.cnf_formula.specs.Literals.{LitValue}
 use Rattle.cnf_formula.specs.Formulas.{FormulaValue, with_clauses}
-
-range_suc : {X : Type 0} (g : ℕ → List X) (a n j : ℕ) → a + n ≡ j → flat_map g (range_with_len a (suc n)) ≡ flat_map g (range_with_len a n) ++ g j
-range_suc g a zero j e = let same : a ≡ j = omega (arith, e) in append-nil (g a) ∙ ap g same
-range_suc g a (suc n) j e =
-    let next : a + 1 + n ≡ j = omega (arith, e) in
-    ap (λ r. g a ++ r) (range_suc g (a + 1) n j next) ∙ sym (append_assoc (g a) (flat_map g (range_with_len (a + 1) n)) (g j))
-
-pub flat_map-range_more : {X : Type 0} (g : ℕ → List X) (a n j : ℕ) → a + n ≡ j → flat_map g (range_with_len a (n + 1)) ≡ flat_map g (range_with_len a n) ++ g j
-flat_map-range_more g a n j e = let one : n + 1 ≡ suc n = omega arith in ap (λ k. flat_map g (range_with_len a k)) one ∙ range_suc g a n j e
 
 -- one more turn of a loop over a range
 pub grows_more : (old before after : FormulaValue) (g : ℕ → List (List LitValue)) (a n j : ℕ) → a + n ≡ j

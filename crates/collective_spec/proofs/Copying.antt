@@ -1,20 +1,14 @@
 -- What the copies of a placement hold.
-use Rattle.std.proofs.Common.{◌≡◌, ℕ, ◌+◌, ◌*◌, ◌<◌, ◌≤◌, ap, sym, ◌∙◌, arith}
-use Rattle.std.proofs.Math.Nat.{mod-eq_of_lt, mul-le-mul_right, mul-one}
-use Rattle.std.proofs.lemmas.Nat.{mod-mul-add}
+use Rattle.std.proofs.Common.{◌≡◌, ℕ, ◌+◌, ◌*◌, ◌<◌, ap, sym, ◌∙◌}
+use Rattle.std.proofs.Math.Nat.{mod-eq_of_lt, mul-one}
+use Rattle.std.proofs.lemmas.Nat.{mod-mul-add, mul-add-lt}
 use Rattle.schedule.specs.Placed.{PlacementValue, IsPlacement, holds, placed}
 use Rattle.schedule.proofs.Placing.{placed-alike, holds-placed}
 use Rattle.collective_spec.specs.Patterns.{in_copies, copied}
 
--- the chunks of a copy are among those of all copies
-within : (base c copy chunk : ℕ) → chunk < base → copy < c → copy * base + chunk < base * c
-within base c copy chunk below one_of =
-    let whole : (copy + 1) * base ≤ c * base = mul-le-mul_right base (omega arith) in
-    omega (arith, whole)
-
 pub copies_stand : (base c nodes : ℕ) (p : PlacementValue) (copy chunk node : ℕ) → chunk < base → copy < c → node < nodes → holds (copied base c nodes p) (copy * base + chunk, node) ≡ holds p (chunk, node)
 copies_stand base c nodes p copy chunk node below one_of at =
-    holds-placed (base * c) nodes (in_copies base p) (copy * base + chunk, node) (within base c copy chunk below one_of) at
+    holds-placed (base * c) nodes (in_copies base p) (copy * base + chunk, node) (mul-add-lt copy base chunk c one_of below) at
     ∙ ap (λ g. holds p (g, node)) (mod-mul-add copy base chunk below)
 
 pub one_copy : (p : PlacementValue) → IsPlacement p → copied p.chunks 1 p.nodes p ≡ p

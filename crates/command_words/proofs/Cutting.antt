@@ -7,7 +7,7 @@ use Rattle.std.proofs.lemmas.List.Folds.{list_any_at}
 use Rattle.std.proofs.lemmas.List.Sums.{passes_at_first}
 use Rattle.std.proofs.lemmas.Bool.Decides.{nat_tests}
 use Rattle.std.proofs.lemmas.Grind.{common_steps}
-use Rattle.command_words.specs.Words.{cut}
+use Rattle.command_words.specs.Words.{key_and_value}
 
 -- there is no cut where no byte is `=`
 cut_none : (word : List ℕ) → ((i : ℕ) → i < length word → get_or word i 0 ≢ 61) → list_any (λ b. b == 61) word ≡ false
@@ -18,13 +18,13 @@ cut_none (b ∷ bs) lacks =
     rw test (cut_none bs (λ i lt. let later = lacks (i + 1) (grind (arith, common_steps)) in grind (arith, common_steps)))
 
 -- the parts at the first `=`
-cut_some : (word key value : List ℕ) → position_or_len (λ b. b == 61) word < length word → key ≡ before_first (λ b. b == 61) word → value ≡ after_first (λ b. b == 61) word → Some (key, value) ≡ cut word
+cut_some : (word key value : List ℕ) → position_or_len (λ b. b == 61) word < length word → key ≡ before_first (λ b. b == 61) word → value ≡ after_first (λ b. b == 61) word → Some (key, value) ≡ key_and_value word
 cut_some word key value at before after =
     let any = list_any_at (λ b. b == 61) word (position_or_len (λ b. b == 61) word) 0 at (passes_at_first (λ b. b == 61) word 0 at) in
     rw (any, before, after) refl
 
 -- the parts that 'split_once' gives
-pub cut_split : (word : List ℕ) (r : Option (Bor (List ℕ) × Bor (List ℕ))) → IsSplitOnceResult 61 word r → option_map (λ parts. (parts.0.now, parts.1.now)) r ≡ cut word
+pub cut_split : (word : List ℕ) (r : Option (Bor (List ℕ) × Bor (List ℕ))) → IsSplitOnceResult 61 word r → option_map (λ parts. (parts.0.now, parts.1.now)) r ≡ key_and_value word
 cut_split word None split = rw (cut_none word (split_parts 61 word None split (omega arith))) refl
 cut_split word (Some parts) split =
     let found = split_once_first 61 word (Some parts) split (omega arith) in

@@ -26,7 +26,7 @@ use Rattle.command_words.specs.Codes.{number_of}
 use Rattle.command_words.specs.Tables.{named, verbs, verb_word, keys, key_word, has_key, takes_kind, takes_what, what_word, whats}
 use Rattle.command_words.specs.Values.{collective_from, kind_from, name_from, number_from, what_from, is_given, with_value}
 use Rattle.command_words.specs.Commands.{required, root_taken, point_for, point_taken, search_from, command_from, command_given}
-use Rattle.command_words.specs.Words.{cut, with_word, at_word, values_from, nothing, texts, command_of}
+use Rattle.command_words.specs.Words.{key_and_value, with_word, at_word, values_from, nothing, texts, command_of}
 
 -- a refusal of checks in a row is one of theirs
 err_then : {A B C : Type 0} (P : C → Type 0) (r : Result A C) (f : A → Result B C) → IfErr r P → ((x : A) → IfErr (f x) P) → IfErr (r >>= f) P
@@ -79,7 +79,7 @@ value_low verb key.What text word v =
 
 word_low : (verb : Verb) (v : Values) (index : ℕ) (word : List ℕ) → IfErr (with_word verb v index word) IsLow
 word_low verb v index word =
-    err_then IsLow (need (cut word) UnknownKey) _ (err_need IsLow (cut word) UnknownKey (omega arith))
+    err_then IsLow (need (key_and_value word) UnknownKey) _ (err_need IsLow (key_and_value word) UnknownKey (omega arith))
     (λ parts. err_then IsLow (need (named key_word keys parts.0) UnknownKey) _ (err_need IsLow _ UnknownKey (omega arith))
     (λ k. err_then IsLow (refuse (not (has_key verb k)) UnknownKey) _ (err_refuse IsLow _ UnknownKey (omega arith))
     (λ _. err_then IsLow (refuse (is_given k v) KeyTwice) _ (err_refuse IsLow _ KeyTwice (omega arith))
@@ -109,7 +109,7 @@ value_within n verb key.What text word v in_n before = ok_then (AreWithin n) (wh
 
 word_within : (n : ℕ) (verb : Verb) (v : Values) (index : ℕ) (word : List ℕ) → index ≤ n → AreWithin n v → IfOk (with_word verb v index word) (AreWithin n)
 word_within n verb v index word in_n before =
-    ok_then (AreWithin n) (need (cut word) UnknownKey) _
+    ok_then (AreWithin n) (need (key_and_value word) UnknownKey) _
     (λ parts. ok_then (AreWithin n) (need (named key_word keys parts.0) UnknownKey) _
     (λ k. ok_then (AreWithin n) (refuse (not (has_key verb k)) UnknownKey) _
     (λ _. ok_then (AreWithin n) (refuse (is_given k v) KeyTwice) _

@@ -19,8 +19,8 @@ abbrev pub texts : {Z : Type 0} → List (String Z) → List (List ℕ)
 texts words = map (λ word. string_bytes word) words
 
 -- what stands before the first `=` (61), and what stands behind it
-abbrev pub cut : List ℕ → Option (List ℕ × List ℕ)
-cut word = if list_any (λ b. b == 61) word then Some (before_first (λ b. b == 61) word, after_first (λ b. b == 61) word) else None
+abbrev pub key_and_value : List ℕ → Option (List ℕ × List ℕ)
+key_and_value word = if list_any (λ b. b == 61) word then Some (before_first (λ b. b == 61) word, after_first (λ b. b == 61) word) else None
 
 -- no key has a value
 abbrev pub nothing : Values
@@ -29,7 +29,7 @@ nothing = record { collective = None; k = None; steps = None; chunks = None; con
 -- the checks of the word with this index, behind words that gave these values
 abbrev pub with_word : Verb → Values → ℕ → List ℕ → Result Values WordCode
 with_word verb values index word = do
-  parts ← need (cut word) UnknownKey
+  parts ← need (key_and_value word) UnknownKey
   key ← need (named key_word keys parts.0) UnknownKey
   _ ← refuse (not (has_key verb key)) UnknownKey
   _ ← refuse (is_given key values) KeyTwice

@@ -5,7 +5,7 @@ ghost use Rattle.command_words.specs.Codes.{number_of};
 ghost use Rattle.command_words.specs.Values.{AreProper};
 ghost use Rattle.command_words.specs.Commands.{IsProper, command_given};
 ghost use Rattle.command_words.specs.Counting.{count_of};
-ghost use Rattle.command_words.specs.Words.{at_word, command_of, cut, nothing, texts, values_from, with_word};
+ghost use Rattle.command_words.specs.Words.{at_word, command_of, key_and_value, nothing, texts, values_from, with_word};
 
 use crate::building::command_from;
 use crate::command::Command;
@@ -16,7 +16,7 @@ use crate::verb::Verb;
 
 /// The key and the value of a word: what stands before its first `=`, and what stands behind it.
 fn cut(word: &str) -> Option<(&str, &str)>
-    ensures { option_map (λ parts. (parts.0.now, parts.1.now)) result ≡ cut word.now }
+    ensures { option_map (λ parts. (parts.0.now, parts.1.now)) result ≡ key_and_value word.now }
 {
     word.split_once('=')
 }

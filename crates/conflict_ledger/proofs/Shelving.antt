@@ -10,9 +10,7 @@ use Rattle.cnf_formula.specs.Literals.{LitValue, is_superset}
 use Rattle.cnf_formula.specs.Formulas.{FormulaValue}
 use Rattle.cnf_formula.specs.Lines.{ProofLineValue}
 use Rattle.cnf_formula.specs.declared.line.LratLine.TheVariants.{Addition}
-use Rattle.proof_rules.specs.declared.verdict.LineVerdict.TheVariants.{Accepted}
 use Rattle.proof_rules.specs.Held.{Entry, CheckerValue, start_of}
-use Rattle.proof_rules.specs.Judging.{verdict_of}
 use Rattle.proof_rules.specs.Refuting.{is_empty, is_fresh, with_line, after, AllImplied}
 use Rattle.text_lines.specs.Text.{line as text_line}
 use Rattle.lrat_text.specs.Printing.{line_words}
@@ -21,13 +19,9 @@ use Rattle.outer_ports.specs.Port.{Tells}
 use Rattle.outer_ports.specs.Files.{Files}
 use Rattle.outer_ports.specs.Shelf.{OthersStay}
 use Rattle.ledger_rules.specs.Logs.{learned}
-use Rattle.conflict_ledger.specs.Shelved.{log_text, IsBegun, ShelfMoves, ShelfAgrees, ShelfMoves-trans}
+use Rattle.conflict_ledger.specs.Shelved.{log_text, IsLogFront, LedgerState, ShelfMoves, ShelfAgrees, ShelfMoves-trans}
 
 -- ---- one line more
-
-pub implied_more : (lines : List ProofLineValue) (c : CheckerValue) (line : ProofLineValue) → AllImplied c lines → verdict_of (after c (map Addition lines)) line ≡ Accepted true → AllImplied c (lines ++ line ∷ [])
-implied_more [] c line a v = (v, tt)
-implied_more (l ∷ lines) c line a v = (a.0, implied_more lines (with_line c l) line a.1 v)
 
 pub text_more : (lines : List ProofLineValue) (line : ProofLineValue) → log_text (lines ++ line ∷ []) ≡ log_text lines ++ log_text (line ∷ [])
 text_more [] line = refl
@@ -67,7 +61,7 @@ all_learned (line ∷ lines) c clause f = ⊎_elim
 abbrev pub IsPut : ProofName → Bool → Files → Files → List ℕ → Type 0
 IsPut name told files now text = IsTrue told → (before : List ℕ) → files name ≡ Some before → (k : ℕ) × (now name ≡ Some (before ++ take k text))
 
-begun_by : (base : FormulaValue) (lines : List ProofLineValue) (line : ProofLineValue) (name : ProofName) (told : Bool) (files now : Files) (text : List ℕ) → AllImplied (start_of base) (lines ++ line ∷ []) → text ≡ log_text (line ∷ []) → files name ≡ Some (log_text lines) → IsPut name told files now text → IsTrue told → IsBegun base (now name)
+begun_by : (base : FormulaValue) (lines : List ProofLineValue) (line : ProofLineValue) (name : ProofName) (told : Bool) (files now : Files) (text : List ℕ) → AllImplied (start_of base) (lines ++ line ∷ []) → text ≡ log_text (line ∷ []) → files name ≡ Some (log_text lines) → IsPut name told files now text → IsTrue told → IsLogFront base (now name)
 begun_by base lines line name told files now text a e old put t =
     let p = put t (log_text lines) old in
     record {
@@ -79,43 +73,46 @@ begun_by base lines line name told files now text a e old put t =
       text = append_assoc (log_text lines) (take p.0 text) (drop p.0 text) ∙ ap (λ bytes. log_text lines ++ bytes) (take-append-drop p.0 text ∙ e) ∙ sym (text_more lines line);
     }
 
+-- the same ledger, where the shelf came to this
+abbrev pub later : LedgerState → Bool → Files → LedgerState
+later x told files = record x { told = told; files = files }
+
 -- the line goes to the whole log
-pub moves_whole : (base : FormulaValue) (lines : List ProofLineValue) (line : ProofLineValue) (lrat partial : ProofName) (told now_told : Bool) (files now : Files) (text : List ℕ) → AllImplied (start_of base) (lines ++ line ∷ []) → text ≡ log_text (line ∷ []) → ShelfAgrees base lines lrat partial told files → lrat ≢ partial
-    → Tells told now_told → IsPut lrat now_told files now text → (IsTrue now_told → OthersStay lrat files now) → ShelfMoves base base lrat lrat partial partial told now_told files now
-moves_whole base lines line lrat partial told now_told files now text a e agrees apart tells put others = record {
+pub moves_whole : (x : LedgerState) (lines : List ProofLineValue) (line : ProofLineValue) (told : Bool) (files : Files) (text : List ℕ) → AllImplied (start_of x.base) (lines ++ line ∷ []) → text ≡ log_text (line ∷ []) → ShelfAgrees x lines → x.lrat ≢ x.partial
+    → Tells x.told told → IsPut x.lrat told x.files files text → (IsTrue told → OthersStay x.lrat x.files files) → ShelfMoves x (later x told files)
+moves_whole x lines line told files text a e agrees apart tells put others = record {
   same_base = refl;
   same_lrat = refl;
   same_partial = refl;
   tells = tells;
-  others = λ t name x y. others t name x;
-  whole_log = λ t. inr (begun_by base lines line lrat now_told files now text a e (agrees.whole_log (tells t)) put t);
-  learned_log = λ t. inl (others t partial (λ e. apart (sym e)));
+  others = λ t name l p. others t name l;
+  whole_log = λ t. inr (begun_by x.base lines line x.lrat told x.files files text a e (agrees.whole_log (tells t)) put t);
+  learned_log = λ t. inl (others t x.partial (λ e. apart (sym e)));
 }
 
 -- and then to the log of what was learned
-pub moves_learned : (base : FormulaValue) (lines : List ProofLineValue) (line : ProofLineValue) (lrat partial : ProofName) (told now_told : Bool) (files now : Files) (text : List ℕ) → AllImplied (start_of base) (lines ++ line ∷ []) → text ≡ log_text (line ∷ []) → (IsTrue told → files partial ≡ Some (log_text lines)) → lrat ≢ partial
-    → Tells told now_told → IsPut partial now_told files now text → (IsTrue now_told → OthersStay partial files now) → ShelfMoves base base lrat lrat partial partial told now_told files now
-moves_learned base lines line lrat partial told now_told files now text a e old apart tells put others = record {
+pub moves_learned : (x : LedgerState) (lines : List ProofLineValue) (line : ProofLineValue) (told : Bool) (files : Files) (text : List ℕ) → AllImplied (start_of x.base) (lines ++ line ∷ []) → text ≡ log_text (line ∷ []) → (IsTrue x.told → x.files x.partial ≡ Some (log_text lines)) → x.lrat ≢ x.partial
+    → Tells x.told told → IsPut x.partial told x.files files text → (IsTrue told → OthersStay x.partial x.files files) → ShelfMoves x (later x told files)
+moves_learned x lines line told files text a e old apart tells put others = record {
   same_base = refl;
   same_lrat = refl;
   same_partial = refl;
   tells = tells;
-  others = λ t name x y. others t name y;
-  whole_log = λ t. inl (others t lrat apart);
-  learned_log = λ t. inr (begun_by base lines line partial now_told files now text a e (old (tells t)) put t);
+  others = λ t name l p. others t name p;
+  whole_log = λ t. inl (others t x.lrat apart);
+  learned_log = λ t. inr (begun_by x.base lines line x.partial told x.files files text a e (old (tells t)) put t);
 }
 
 abbrev pub IsWhole : ProofName → Bool → Files → Files → List ℕ → Type 0
 IsWhole name told files now text = IsTrue told → (before : List ℕ) → files name ≡ Some before → now name ≡ Some (before ++ text)
 
 -- both, one after the other
-pub moves_both : (base : FormulaValue) (lines : List ProofLineValue) (line : ProofLineValue) (lrat partial : ProofName) (t0 t1 t2 : Bool) (f0 f1 f2 : Files) (text : List ℕ) → AllImplied (start_of base) (lines ++ line ∷ []) → learned lines ≡ lines → text ≡ log_text (line ∷ []) → ShelfAgrees base lines lrat partial t0 f0 → lrat ≢ partial
-    → Tells t0 t1 → IsPut lrat t1 f0 f1 text → (IsTrue t1 → OthersStay lrat f0 f1) → Tells t1 t2 → IsPut partial t2 f1 f2 text → (IsTrue t2 → OthersStay partial f1 f2) → ShelfMoves base base lrat lrat partial partial t0 t2 f0 f2
-moves_both base lines line lrat partial t0 t1 t2 f0 f1 f2 text a all e agrees apart tells put others tells' put' others' =
-    let old : IsTrue t1 → f1 partial ≡ Some (log_text lines) = λ t. others t partial (λ i. apart (sym i)) ∙ agrees.learned_log (tells t) ∙ ap (λ ls. Some (log_text ls)) all in
-    ShelfMoves-trans base base base lrat lrat lrat partial partial partial t0 t1 t2 f0 f1 f2
-    (moves_whole base lines line lrat partial t0 t1 f0 f1 text a e agrees apart tells put others)
-    (moves_learned base lines line lrat partial t1 t2 f1 f2 text a e old apart tells' put' others')
+pub moves_both : (x : LedgerState) (lines : List ProofLineValue) (line : ProofLineValue) (t1 t2 : Bool) (f1 f2 : Files) (text : List ℕ) → AllImplied (start_of x.base) (lines ++ line ∷ []) → learned lines ≡ lines → text ≡ log_text (line ∷ []) → ShelfAgrees x lines → x.lrat ≢ x.partial
+    → Tells x.told t1 → IsPut x.lrat t1 x.files f1 text → (IsTrue t1 → OthersStay x.lrat x.files f1) → Tells t1 t2 → IsPut x.partial t2 f1 f2 text → (IsTrue t2 → OthersStay x.partial f1 f2) → ShelfMoves x (later x t2 f2)
+moves_both x lines line t1 t2 f1 f2 text a all e agrees apart tells put others tells' put' others' =
+    let old : IsTrue t1 → f1 x.partial ≡ Some (log_text lines) = λ t. others t x.partial (λ i. apart (sym i)) ∙ agrees.learned_log (tells t) ∙ ap (λ ls. Some (log_text ls)) all in
+    ShelfMoves-trans x (later x t1 f1) (later x t2 f2) (moves_whole x lines line t1 f1 text a e agrees apart tells put others)
+    (moves_learned (later x t1 f1) lines line t2 f2 text a e old apart tells' put' others')
 
 learned_last : (lines : List ProofLineValue) (line : ProofLineValue) → not (is_empty line.lits) ≡ true → learned (lines ++ line ∷ []) ≡ learned lines ++ line ∷ []
 learned_last [] line s = rw s refl
@@ -129,26 +126,26 @@ learned_but (l ∷ lines) line e =
     let more = learned_but lines line e in
     ⊎_elim (λ b. rw b (ap (λ ls. l ∷ ls) more)) (λ b. rw b more) (cases_Bool (not (is_empty l.lits)))
 
-pub agrees_learned : (base : FormulaValue) (lines : List ProofLineValue) (line : ProofLineValue) (lrat partial : ProofName) (t0 t1 t2 : Bool) (f0 f1 f2 : Files) (text : List ℕ) → AllImplied (start_of base) (lines ++ line ∷ []) → learned lines ≡ lines → not (is_empty line.lits) ≡ true → text ≡ log_text (line ∷ []) → ShelfAgrees base lines lrat partial t0 f0 → lrat ≢ partial
-    → Tells t0 t1 → IsWhole lrat t1 f0 f1 text → (IsTrue t1 → OthersStay lrat f0 f1) → Tells t1 t2 → IsWhole partial t2 f1 f2 text → (IsTrue t2 → OthersStay partial f1 f2) → ShelfAgrees base (lines ++ line ∷ []) lrat partial t2 f2
-agrees_learned base lines line lrat partial t0 t1 t2 f0 f1 f2 text a all some e agrees apart tells put others tells' put' others' =
+pub agrees_learned : (x : LedgerState) (lines : List ProofLineValue) (line : ProofLineValue) (t1 t2 : Bool) (f1 f2 : Files) (text : List ℕ) → AllImplied (start_of x.base) (lines ++ line ∷ []) → learned lines ≡ lines → not (is_empty line.lits) ≡ true → text ≡ log_text (line ∷ []) → ShelfAgrees x lines → x.lrat ≢ x.partial
+    → Tells x.told t1 → IsWhole x.lrat t1 x.files f1 text → (IsTrue t1 → OthersStay x.lrat x.files f1) → Tells t1 t2 → IsWhole x.partial t2 f1 f2 text → (IsTrue t2 → OthersStay x.partial f1 f2) → ShelfAgrees (later x t2 f2) (lines ++ line ∷ [])
+agrees_learned x lines line t1 t2 f1 f2 text a all some e agrees apart tells put others tells' put' others' =
     let now : learned (lines ++ line ∷ []) ≡ lines ++ line ∷ [] = learned_last lines line some ∙ ap (λ ls. ls ++ line ∷ []) all in
     let told : log_text lines ++ text ≡ log_text (lines ++ line ∷ []) = ap (λ bytes. log_text lines ++ bytes) e ∙ sym (text_more lines line) in
-    let old : IsTrue t1 → f1 partial ≡ Some (log_text lines) = λ t. others t partial (λ i. apart (sym i)) ∙ agrees.learned_log (tells t) ∙ ap (λ ls. Some (log_text ls)) all in
+    let old : IsTrue t1 → f1 x.partial ≡ Some (log_text lines) = λ t. others t x.partial (λ i. apart (sym i)) ∙ agrees.learned_log (tells t) ∙ ap (λ ls. Some (log_text ls)) all in
     record {
       implied = a;
-      learned_implied = subst (AllImplied (start_of base)) (sym now) a;
-      whole_log = λ t. others' t lrat apart ∙ put (tells' t) (log_text lines) (agrees.whole_log (tells (tells' t))) ∙ ap Some told;
+      learned_implied = subst (AllImplied (start_of x.base)) (sym now) a;
+      whole_log = λ t. others' t x.lrat apart ∙ put (tells' t) (log_text lines) (agrees.whole_log (tells (tells' t))) ∙ ap Some told;
       learned_log = λ t. put' t (log_text lines) (old (tells' t)) ∙ ap Some (told ∙ ap log_text (sym now));
     }
 
-pub agrees_closed : (base : FormulaValue) (lines : List ProofLineValue) (line : ProofLineValue) (lrat partial : ProofName) (t0 t1 : Bool) (f0 f1 : Files) (text : List ℕ) → AllImplied (start_of base) (lines ++ line ∷ []) → line.lits ≡ [] → text ≡ log_text (line ∷ []) → ShelfAgrees base lines lrat partial t0 f0 → lrat ≢ partial
-    → Tells t0 t1 → IsWhole lrat t1 f0 f1 text → (IsTrue t1 → OthersStay lrat f0 f1) → ShelfAgrees base (lines ++ line ∷ []) lrat partial t1 f1
-agrees_closed base lines line lrat partial t0 t1 f0 f1 text a none e agrees apart tells put others =
+pub agrees_closed : (x : LedgerState) (lines : List ProofLineValue) (line : ProofLineValue) (told : Bool) (files : Files) (text : List ℕ) → AllImplied (start_of x.base) (lines ++ line ∷ []) → line.lits ≡ [] → text ≡ log_text (line ∷ []) → ShelfAgrees x lines → x.lrat ≢ x.partial
+    → Tells x.told told → IsWhole x.lrat told x.files files text → (IsTrue told → OthersStay x.lrat x.files files) → ShelfAgrees (later x told files) (lines ++ line ∷ [])
+agrees_closed x lines line told files text a none e agrees apart tells put others =
     let now : learned (lines ++ line ∷ []) ≡ learned lines = learned_but lines line none in
     record {
       implied = a;
-      learned_implied = subst (AllImplied (start_of base)) (sym now) agrees.learned_implied;
+      learned_implied = subst (AllImplied (start_of x.base)) (sym now) agrees.learned_implied;
       whole_log = λ t. put t (log_text lines) (agrees.whole_log (tells t)) ∙ ap Some (ap (λ bytes. log_text lines ++ bytes) e ∙ sym (text_more lines line));
-      learned_log = λ t. others t partial (λ i. apart (sym i)) ∙ agrees.learned_log (tells t) ∙ ap (λ ls. Some (log_text ls)) (sym now);
+      learned_log = λ t. others t x.partial (λ i. apart (sym i)) ∙ agrees.learned_log (tells t) ∙ ap (λ ls. Some (log_text ls)) (sym now);
     }

@@ -19,7 +19,7 @@ abbrev pub log_text : List ProofLineValue → List ℕ
 log_text lines = lrat_text (map Addition lines)
 
 -- the file is a front of the text of lines that follow, each in its turn, from the formula
-pub record IsBegun (base : FormulaValue) (bytes : Option (List ℕ)) : Type 0 where
+pub record IsLogFront (base : FormulaValue) (bytes : Option (List ℕ)) : Type 0 where
   pub lines : List ProofLineValue
   pub implied : AllImplied (start_of base) lines
   pub front : List ℕ
@@ -27,25 +27,33 @@ pub record IsBegun (base : FormulaValue) (bytes : Option (List ℕ)) : Type 0 wh
   pub is : bytes ≡ Some front
   pub text : front ++ rest ≡ log_text lines
 
+-- a ledger's formula and the names of its two files; and of the shelf that is lent to it, whether it tells its files, and these
+pub record LedgerState : Type 0 where
+  pub base : FormulaValue
+  pub lrat : ProofName
+  pub partial : ProofName
+  pub told : Bool
+  pub files : Files
+
 -- the formula and the names stay; where the shelf tells its files, every file but these two stays, and each of the two is as before or begun
-pub record ShelfMoves (base now_base : FormulaValue) (lrat now_lrat partial now_partial : ProofName) (told now_told : Bool) (files now_files : Files) : Type 0 where
-  pub same_base : now_base ≡ base
-  pub same_lrat : now_lrat ≡ lrat
-  pub same_partial : now_partial ≡ partial
-  pub tells : Tells told now_told
-  pub others : IsTrue now_told → (name : ProofName) → name ≢ lrat → name ≢ partial → now_files name ≡ files name
-  pub whole_log : IsTrue now_told → (now_files lrat ≡ files lrat) ⊎ IsBegun base (now_files lrat)
-  pub learned_log : IsTrue now_told → (now_files partial ≡ files partial) ⊎ IsBegun base (now_files partial)
+pub record ShelfMoves (before after : LedgerState) : Type 0 where
+  pub same_base : after.base ≡ before.base
+  pub same_lrat : after.lrat ≡ before.lrat
+  pub same_partial : after.partial ≡ before.partial
+  pub tells : Tells before.told after.told
+  pub others : IsTrue after.told → (name : ProofName) → name ≢ before.lrat → name ≢ before.partial → after.files name ≡ before.files name
+  pub whole_log : IsTrue after.told → (after.files before.lrat ≡ before.files before.lrat) ⊎ IsLogFront before.base (after.files before.lrat)
+  pub learned_log : IsTrue after.told → (after.files before.partial ≡ before.files before.partial) ⊎ IsLogFront before.base (after.files before.partial)
 
 -- each line follows in its turn, with those that close and without; where the shelf tells its files, the two files are their texts
-pub record ShelfAgrees (base : FormulaValue) (lines : List ProofLineValue) (lrat partial : ProofName) (told : Bool) (files : Files) : Type 0 where
-  pub implied : AllImplied (start_of base) lines
-  pub learned_implied : AllImplied (start_of base) (learned lines)
-  pub whole_log : IsTrue told → files lrat ≡ Some (log_text lines)
-  pub learned_log : IsTrue told → files partial ≡ Some (log_text (learned lines))
+pub record ShelfAgrees (now : LedgerState) (lines : List ProofLineValue) : Type 0 where
+  pub implied : AllImplied (start_of now.base) lines
+  pub learned_implied : AllImplied (start_of now.base) (learned lines)
+  pub whole_log : IsTrue now.told → now.files now.lrat ≡ Some (log_text lines)
+  pub learned_log : IsTrue now.told → now.files now.partial ≡ Some (log_text (learned lines))
 
-pub ShelfMoves-refl : (base : FormulaValue) (lrat partial : ProofName) (told : Bool) (files : Files) → ShelfMoves base base lrat lrat partial partial told told files files
-ShelfMoves-refl base lrat partial told files = record {
+pub ShelfMoves-refl : (now : LedgerState) → ShelfMoves now now
+ShelfMoves-refl now = record {
   same_base = refl;
   same_lrat = refl;
   same_partial = refl;
@@ -56,21 +64,21 @@ ShelfMoves-refl base lrat partial told files = record {
 }
 
 -- a file that moves twice, under names and over formulas that are one
-twice : (base base' : FormulaValue) (name name' : ProofName) (f g h : Files) → base' ≡ base → name' ≡ name → (g name ≡ f name) ⊎ IsBegun base (g name) → (h name' ≡ g name') ⊎ IsBegun base' (h name') → (h name ≡ f name) ⊎ IsBegun base (h name)
+twice : (base base' : FormulaValue) (name name' : ProofName) (f g h : Files) → base' ≡ base → name' ≡ name → (g name ≡ f name) ⊎ IsLogFront base (g name) → (h name' ≡ g name') ⊎ IsLogFront base' (h name') → (h name ≡ f name) ⊎ IsLogFront base (h name)
 twice base base' name name' f g h b n first second = ⊎_elim
-    (λ same. let s : h name ≡ g name = subst (λ m. h m ≡ g m) n same in ⊎_elim (λ e. inl (s ∙ e)) (λ i. inr (subst (IsBegun base) (sym s) i)) first)
-    (λ i. inr (subst (λ m. IsBegun base (h m)) n (subst (λ f. IsBegun f (h name')) b i)))
+    (λ same. let s : h name ≡ g name = subst (λ m. h m ≡ g m) n same in ⊎_elim (λ e. inl (s ∙ e)) (λ i. inr (subst (IsLogFront base) (sym s) i)) first)
+    (λ i. inr (subst (λ m. IsLogFront base (h m)) n (subst (λ f. IsLogFront f (h name')) b i)))
     second
 
-pub ShelfMoves-trans : (b1 b2 b3 : FormulaValue) (l1 l2 l3 p1 p2 p3 : ProofName) (t1 t2 t3 : Bool) (f g h : Files) → ShelfMoves b1 b2 l1 l2 p1 p2 t1 t2 f g → ShelfMoves b2 b3 l2 l3 p2 p3 t2 t3 g h → ShelfMoves b1 b3 l1 l3 p1 p3 t1 t3 f h
-ShelfMoves-trans b1 b2 b3 l1 l2 l3 p1 p2 p3 t1 t2 t3 f g h a b = record {
-  same_base = b.same_base ∙ a.same_base;
-  same_lrat = b.same_lrat ∙ a.same_lrat;
-  same_partial = b.same_partial ∙ a.same_partial;
-  tells = λ t. a.tells (b.tells t);
-  others = λ t name x y. b.others t name (λ e. x (e ∙ a.same_lrat)) (λ e. y (e ∙ a.same_partial)) ∙ a.others (b.tells t) name x y;
-  whole_log = λ t. twice b1 b2 l1 l2 f g h a.same_base a.same_lrat (a.whole_log (b.tells t)) (b.whole_log t);
-  learned_log = λ t. twice b1 b2 p1 p2 f g h a.same_base a.same_partial (a.learned_log (b.tells t)) (b.learned_log t);
+pub ShelfMoves-trans : (a b c : LedgerState) → ShelfMoves a b → ShelfMoves b c → ShelfMoves a c
+ShelfMoves-trans a b c first second = record {
+  same_base = second.same_base ∙ first.same_base;
+  same_lrat = second.same_lrat ∙ first.same_lrat;
+  same_partial = second.same_partial ∙ first.same_partial;
+  tells = λ t. first.tells (second.tells t);
+  others = λ t name x y. second.others t name (λ e. x (e ∙ first.same_lrat)) (λ e. y (e ∙ first.same_partial)) ∙ first.others (second.tells t) name x y;
+  whole_log = λ t. twice a.base b.base a.lrat b.lrat a.files b.files c.files first.same_base first.same_lrat (first.whole_log (second.tells t)) (second.whole_log t);
+  learned_log = λ t. twice a.base b.base a.partial b.partial a.files b.files c.files first.same_base first.same_partial (first.learned_log (second.tells t)) (second.learned_log t);
 }
 
 -- the file of a candidate

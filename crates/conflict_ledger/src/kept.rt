@@ -4,16 +4,16 @@ ghost use Rattle.std.specs.Prelude.{◌≡◌, ◌≤◌, [], ◌∷◌, length,
 ghost use Rattle.ledger_rules.specs.Logs.{learned};
 ghost use Rattle.conflict_ledger.specs.Shelved.{log_text};
 
-use crate::copying::{copy_of_formula, copy_of_line};
+use crate::copying::copy_of_line;
 use cnf_formula::{Formula, OutOfMemory, ProofLine};
 use ledger_rules::{Ledger, LedgerFault, LedgerView};
 use lrat_text::print_line;
 use std::alloc::Global;
 
-/// Keeps its lines in memory, and writes nothing: it works beside any store.
+/// Keeps its lines in memory, and writes nothing: it works beside any store. Its formula is lent to it.
 #[derive(Drop)]
-pub struct KeptLedger {
-    base: Formula,
+pub struct KeptLedger<'a> {
+    base: &'a Formula,
     lines: Vec<ProofLine>,
     spent: u32,
     limit: u32,
@@ -21,15 +21,19 @@ pub struct KeptLedger {
     ghost charged: { spent ≡ length (learned lines.items) },
 }
 
-impl KeptLedger {
+impl<'a> KeptLedger<'a> {
     /// A ledger of a formula without a line, which takes at most `limit` learned lines.
-    pub fn new(alloc: Global, formula: &Formula, limit: u32) -> Result<KeptLedger, OutOfMemory>
-        ensures base { IfOk result (λ ledger. ⟦<KeptLedger as LedgerView>⟧.base ledger ≡ formula.now) }
-        ensures lines { IfOk result (λ ledger. ⟦<KeptLedger as LedgerView>⟧.lines ledger ≡ []) }
-        ensures limit { IfOk result (λ ledger. ⟦<KeptLedger as LedgerView>⟧.limit ledger ≡ limit) }
+    pub fn new(
+        alloc: Global,
+        formula: &'a Formula,
+        limit: u32,
+    ) -> Result<KeptLedger<'a>, OutOfMemory>
+        ensures base { IfOk result (λ ledger. ⟦<KeptLedger<'a> as LedgerView>⟧.base ledger ≡ formula.now) }
+        ensures lines { IfOk result (λ ledger. ⟦<KeptLedger<'a> as LedgerView>⟧.lines ledger ≡ []) }
+        ensures limit { IfOk result (λ ledger. ⟦<KeptLedger<'a> as LedgerView>⟧.limit ledger ≡ limit) }
     {
         Ok(KeptLedger {
-            base: copy_of_formula(alloc, formula)?,
+            base: formula,
             lines: Vec::new(alloc),
             spent: 0,
             limit,
@@ -47,21 +51,21 @@ impl KeptLedger {
 
     /// The lines, in the order in which they were added.
     pub fn lines(&self) -> &[ProofLine]
-        ensures { result.now ≡ ⟦<KeptLedger as LedgerView>⟧.lines self.now }
+        ensures { result.now ≡ ⟦<KeptLedger<'a> as LedgerView>⟧.lines self.now }
     {
         &self.lines
     }
 
     /// The lines, in the order in which they were added.
     pub fn into_lines(self) -> Vec<ProofLine>
-        ensures { result.items ≡ ⟦<KeptLedger as LedgerView>⟧.lines self }
+        ensures { result.items ≡ ⟦<KeptLedger<'a> as LedgerView>⟧.lines self.entry }
     {
         self.lines
     }
 }
 
-impl LedgerView for KeptLedger {
-    ghost base = { λ ledger. ledger.base };
+impl<'a> LedgerView for KeptLedger<'a> {
+    ghost base = { λ ledger. ledger.base.now };
 
     ghost lines = { λ ledger. ledger.lines.items };
 
@@ -78,7 +82,7 @@ impl LedgerView for KeptLedger {
     ghost charged = { λ ledger. ledger.charged };
 }
 
-impl<T> Ledger<T> for KeptLedger {
+impl<'a, T> Ledger<T> for KeptLedger<'a> {
     ghost use Rattle.std.proofs.Common.{◌∙◌};
 
     ghost faults = { λ _ _. 0 };

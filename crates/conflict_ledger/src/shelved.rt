@@ -12,10 +12,10 @@ use outer_ports::{FileKind, Part, ProofName, Shelf, append_all};
 use std::alloc::Global;
 
 /// Writes each line to the refutation of a candidate on a shelf, and each learned line to the log of its search too, before
-/// it answers. It keeps its lines in memory as well.
+/// it answers. It keeps its lines in memory as well, and its formula is lent to it.
 #[derive(Drop)]
-pub struct ShelfLedger {
-    kept: KeptLedger,
+pub struct ShelfLedger<'a> {
+    kept: KeptLedger<'a>,
     lrat: ProofName,
     partial: ProofName,
     ghost apart: { lrat ≢ partial },
@@ -34,25 +34,25 @@ fn put<H: Shelf>(shelf: &mut H, name: ProofName, text: &[u8]) -> Result<(), Ledg
     Ok(())
 }
 
-impl ShelfLedger {
+impl<'a> ShelfLedger<'a> {
     /// A ledger of a formula without a line, which takes at most `limit` learned lines. Its two files, the refutation and the
     /// log of the candidate of this part, are made or emptied; every other file stays, whatever is answered, and after a fault
     /// each of the two is as before or empty.
     pub fn new<H: Shelf>(
         alloc: Global,
-        formula: &Formula,
+        formula: &'a Formula,
         limit: u32,
         shelf: &mut H,
         part: Part,
         candidate: (u8, u8, u8),
-    ) -> Result<ShelfLedger, LedgerFault>
+    ) -> Result<ShelfLedger<'a>, LedgerFault>
         requires { part ≢ Part.Joined }
-        ensures base { IfOk result (λ ledger. ⟦<ShelfLedger as LedgerView>⟧.base ledger ≡ formula.now) }
-        ensures lines { IfOk result (λ ledger. ⟦<ShelfLedger as LedgerView>⟧.lines ledger ≡ []) }
-        ensures limit { IfOk result (λ ledger. ⟦<ShelfLedger as LedgerView>⟧.limit ledger ≡ limit) }
+        ensures base { IfOk result (λ ledger. ⟦<ShelfLedger<'a> as LedgerView>⟧.base ledger ≡ formula.now) }
+        ensures lines { IfOk result (λ ledger. ⟦<ShelfLedger<'a> as LedgerView>⟧.lines ledger ≡ []) }
+        ensures limit { IfOk result (λ ledger. ⟦<ShelfLedger<'a> as LedgerView>⟧.limit ledger ≡ limit) }
         ensures lrat { IfOk result (λ ledger. ledger.lrat ≡ log_name FileKind.Lrat part candidate) }
         ensures partial { IfOk result (λ ledger. ledger.partial ≡ log_name FileKind.Partial part candidate) }
-        ensures agrees { IfOk result (λ ledger. ⟦<ShelfLedger as Ledger<H>>⟧.agrees ledger shelf.new) }
+        ensures agrees { IfOk result (λ ledger. ⟦<ShelfLedger<'a> as Ledger<H>>⟧.agrees ledger shelf.new) }
         ensures told { Tells (H.tells shelf.old) (H.tells shelf.new) }
         ensures others { IsTrue (H.tells shelf.new) → (name : ProofName) → name ≢ log_name FileKind.Lrat part candidate → name ≢ log_name FileKind.Partial part candidate → H.file shelf.new name ≡ H.file shelf.old name }
         ensures files { IsTrue (H.tells shelf.new) → (kind : FileKind) → let name = log_name kind part candidate in (H.file shelf.new name ≡ H.file shelf.old name) ⊎ (H.file shelf.new name ≡ Some []) }
@@ -86,20 +86,20 @@ impl ShelfLedger {
 
     /// The lines, in the order in which they were added.
     pub fn into_lines(self) -> Vec<ProofLine>
-        ensures { result.items ≡ ⟦<ShelfLedger as LedgerView>⟧.lines self }
+        ensures { result.items ≡ ⟦<ShelfLedger<'a> as LedgerView>⟧.lines self.entry }
     {
         self.kept.into_lines()
     }
 }
 
-impl LedgerView for ShelfLedger {
-    ghost base = { λ ledger. ⟦<KeptLedger as LedgerView>⟧.base ledger.kept };
+impl<'a> LedgerView for ShelfLedger<'a> {
+    ghost base = { λ ledger. ⟦<KeptLedger<'a> as LedgerView>⟧.base ledger.kept };
 
-    ghost lines = { λ ledger. ⟦<KeptLedger as LedgerView>⟧.lines ledger.kept };
+    ghost lines = { λ ledger. ⟦<KeptLedger<'a> as LedgerView>⟧.lines ledger.kept };
 
-    ghost spent = { λ ledger. ⟦<KeptLedger as LedgerView>⟧.spent ledger.kept };
+    ghost spent = { λ ledger. ⟦<KeptLedger<'a> as LedgerView>⟧.spent ledger.kept };
 
-    ghost limit = { λ ledger. ⟦<KeptLedger as LedgerView>⟧.limit ledger.kept };
+    ghost limit = { λ ledger. ⟦<KeptLedger<'a> as LedgerView>⟧.limit ledger.kept };
 
     fn room(&self) -> bool {
         self.kept.room()
@@ -110,14 +110,15 @@ impl LedgerView for ShelfLedger {
     ghost charged = { λ ledger. ledger.kept.charged };
 }
 
-impl<H: Shelf> Ledger<H> for ShelfLedger {
+impl<'a, H: Shelf> Ledger<H> for ShelfLedger<'a> {
+    ghost use Rattle.conflict_ledger.specs.Beside.{beside};
     ghost use Rattle.conflict_ledger.specs.Shelved.{ShelfAgrees, ShelfMoves, ShelfMoves-refl, ShelfMoves-trans};
 
     ghost faults = { λ _ shelf. H.faults shelf };
 
-    ghost agrees = { λ a shelf. ShelfAgrees (⟦<KeptLedger as LedgerView>⟧.base a.kept) (⟦<KeptLedger as LedgerView>⟧.lines a.kept) a.lrat a.partial (H.tells shelf) (H.file shelf) };
+    ghost agrees = { λ a shelf. ShelfAgrees (beside a (H.tells shelf) (H.file shelf)) (⟦<KeptLedger<'a> as LedgerView>⟧.lines a.kept) };
 
-    ghost moves = { λ a shelf b now. ShelfMoves (⟦<KeptLedger as LedgerView>⟧.base a.kept) (⟦<KeptLedger as LedgerView>⟧.base b.kept) a.lrat b.lrat a.partial b.partial (H.tells shelf) (H.tells now) (H.file shelf) (H.file now) };
+    ghost moves = { λ a r b s. ShelfMoves (beside a (H.tells r) (H.file r)) (beside b (H.tells s) (H.file s)) };
 
     fn learn(&mut self, store: &mut H, line: &ProofLine) -> Result<(), LedgerFault> {
         let text = self.kept.text_of(line)?;
@@ -134,7 +135,7 @@ impl<H: Shelf> Ledger<H> for ShelfLedger {
         Ok(())
     }
 
-    ghost moves_refl = { λ a shelf. ShelfMoves-refl (⟦<KeptLedger as LedgerView>⟧.base a.kept) a.lrat a.partial (H.tells shelf) (H.file shelf) };
+    ghost moves_refl = { λ a shelf. ShelfMoves-refl (beside a (H.tells shelf) (H.file shelf)) };
 
-    ghost moves_trans = { λ a r b s c t first second. ShelfMoves-trans (⟦<KeptLedger as LedgerView>⟧.base a.kept) (⟦<KeptLedger as LedgerView>⟧.base b.kept) (⟦<KeptLedger as LedgerView>⟧.base c.kept) a.lrat b.lrat c.lrat a.partial b.partial c.partial (H.tells r) (H.tells s) (H.tells t) (H.file r) (H.file s) (H.file t) first second };
+    ghost moves_trans = { λ a r b s c t first second. ShelfMoves-trans (beside a (H.tells r) (H.file r)) (beside b (H.tells s) (H.file s)) (beside c (H.tells t) (H.file t)) first second };
 }

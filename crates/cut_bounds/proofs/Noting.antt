@@ -150,9 +150,6 @@ nothing_holds entries e none there = absurd (Among-from_Contains e [] (subst (λ
 
 -- ---- options
 
-pub no_some : {X : Type 0} (o : Option X) (x : X) → o ≡ None → o ≡ Some x → ⊥
-no_some o x none some = let same : None ≡ Some x = sym none ∙ some in absurd (cc)
-
 pub is_cut_of : (q : QuestionValue) (x : Candidate) (cut : CutValue) → cut_for q x ≡ Some cut → is_cut q x ≡ true
 is_cut_of q x cut is = ap is_some is
 

@@ -1,28 +1,26 @@
 -- After a whole search the cuts and the record below are parts of what the frontier has as refuted.
-use Rattle.std.proofs.Common.{◌≡◌, ℕ, ◌+◌, ◌<◌, length, get_or, take, Bool, true, false, List, [], ◌∷◌, ◌++◌, map, Some, None, refl, sym, ap, ◌∙◌, ⊎_elim, subst}
+use Rattle.std.proofs.Common.{◌≡◌, arith, ℕ, zero, suc, ◌+◌, ◌<◌, length, get_or, take, Bool, true, false, List, [], ◌∷◌, ◌++◌, map, Some, None, refl, sym, ap, ◌∙◌, ⊎_elim, subst}
 use Rattle.std.specs.Prelude.{All, Contains, MatchOption, Option, not}
 use Rattle.std.specs.List.{AllByRecursion}
 use Rattle.std.specs.List.Sorted.{IsPermutation}
 use Rattle.std.specs.Option.{is_some, option_map}
 use Rattle.std.proofs.lemmas.Bool.{cases_Bool, not_from_false}
 use Rattle.std.proofs.lemmas.List.{append-nil, take_more}
-use Rattle.std.proofs.lemmas.List.Elements.{All-contains_itself, Contains-append_left, Contains-append_right, filter-append, filter_map-append, recursion_from_All}
+use Rattle.std.proofs.lemmas.List.Elements.{All-contains, All-from_recursion, Contains-append_left, Contains-append_right, Contains-push_cases, filter-append, filter_map-append, recursion_from_All}
 use Rattle.std.proofs.lemmas.List.Sorted.{Contains-permutation, IsPermutation-sym}
-use Rattle.candidate_order.proofs.Rows.{Contains-map}
+use Rattle.list_laws.proofs.Each.{all_contained}
+use Rattle.list_laws.proofs.Members.{Contains-map}
 use Rattle.candidate_order.specs.declared.candidate.Candidate.{Candidate}
 use Rattle.candidate_order.specs.Frontiers.{QuestionValue, FrontierValue, PointValue, UnknownValue, IsWithin, solved, given_up}
 use Rattle.engine_rules.specs.declared.settled.Settled.{Settled}
 use Rattle.engine_rules.specs.declared.settled.Settled.TheVariants.{Solved, Refuted, Unknown}
 use Rattle.engine_rules.specs.Outcomes.{RecordValue}
 use Rattle.pareto_search.specs.Recorded.{entries_of}
+use Rattle.pareto_search.proofs.Entries.{solved_there, refuted_there, unknown_there}
 use Rattle.node_cuts.specs.Cuts.{CutValue}
 use Rattle.cut_bounds.specs.Cutting.{cut_for, cuts_of, is_cut, uncut_entries, with_cut}
 use Rattle.cut_bounds.specs.Parting.{cuts_among, uncut_among, without_cuts}
 use Rattle.cut_bounds.proofs.Permuting.{IsPermutation-filter, IsPermutation-filter_map}
-
--- what holds of each that the list contains holds of all
-each : {X : Type 0} (P : X → Type 0) (xs : List X) → ((x : X) → Contains xs x → P x) → All P xs
-each P xs holds = λ k d below. holds _ (All-contains_itself xs k d below)
 
 abbrev of_kind : Settled → List Candidate → RecordValue
 of_kind kind xs = map (λ x. (x, kind)) xs
@@ -96,19 +94,59 @@ others_more q xs i d o before now inside is so_far added =
         let none : uncut_among q (x ∷ []) ≡ [] = rw is refl in
         added ∙ so_far ∙ sym (append-nil (uncut_among q (take i xs))) ∙ ap (λ ys. uncut_among q (take i xs) ++ ys) (sym none) ∙ whole
 
+-- ---- the cut that is kept for a candidate
+
+-- an entry more is not of the candidate either
+pub none_more : (kept : List (Candidate × CutValue)) (i : ℕ) (e : Candidate × CutValue) (x : Candidate) → i < length kept → e ≡ get_or kept i e → (e.0 ≡ x → ⊥)
+    → ((cut : CutValue) → Contains (take i kept) (x, cut) → ⊥) → (cut : CutValue) → Contains (take (i + 1) kept) (x, cut) → ⊥
+none_more kept i e x inside is other before cut there =
+    ⊎_elim
+    (λ so_far. before cut so_far)
+    (λ (last : get_or kept i e ≡ (x, cut)). other (ap (λ (y : Candidate × CutValue). y.0) (is ∙ last)))
+    (Contains-push_cases (take i kept) (get_or kept i e) (x, cut) (subst (λ cs. Contains cs (x, cut)) (take_more kept i e inside) there))
+
+all_are : (q : QuestionValue) (xs : List Candidate) → AllByRecursion (λ e. cut_for q e.0 ≡ Some e.1) (cuts_among q xs)
+all_are q [] = tt
+all_are q (x ∷ xs) = at (all_are q xs) (cut_for q x) refl
+  where
+    at : AllByRecursion (λ e. cut_for q e.0 ≡ Some e.1) (cuts_among q xs) → (o : Option CutValue) → cut_for q x ≡ o → AllByRecursion (λ e. cut_for q e.0 ≡ Some e.1) (cuts_among q (x ∷ xs))
+    at rest None is = rw is rest
+    at rest (Some cut) is = rw is (is, rest)
+
+cut_is : (q : QuestionValue) (xs : List Candidate) (x : Candidate) (cut : CutValue) → Contains (cuts_among q xs) (x, cut) → cut_for q x ≡ Some cut
+cut_is q xs x cut there = All-contains (λ (e : Candidate × CutValue). cut_for q e.0 ≡ Some e.1) (cuts_among q xs) (x, cut) (All-from_recursion (λ (e : Candidate × CutValue). cut_for q e.0 ≡ Some e.1) (cuts_among q xs) (all_are q xs)) there
+
+cut_there : (q : QuestionValue) (xs : List Candidate) (x : Candidate) (cut : CutValue) → Contains xs x → cut_for q x ≡ Some cut → Contains (cuts_among q xs) (x, cut)
+cut_there q [] x cut (k, low, is) some = absurd (omega (arith, low))
+cut_there q (y ∷ ys) x cut (zero, low, is) some =
+    let first : cut_for q y ≡ Some cut = ap (cut_for q) is ∙ some in
+    let one : cuts_among q (y ∷ ys) ≡ (y, cut) ∷ cuts_among q ys = rw first refl in
+    subst (λ cs. Contains cs (x, cut)) (sym one) (0, omega arith, ap (λ z. (z, cut)) is)
+cut_there q (y ∷ ys) x cut (suc k, low, is) some = at (cut_there q ys x cut (k, omega (arith, low), is) some) (cut_for q y) refl
+  where
+    at : Contains (cuts_among q ys) (x, cut) → (o : Option CutValue) → cut_for q y ≡ o → Contains (cuts_among q (y ∷ ys)) (x, cut)
+    at rest None none = rw none rest
+    at rest (Some other) one = rw one (Contains-append_right ((y, other) ∷ []) (cuts_among q ys) (x, cut) rest)
+
+-- a list with the cuts of these candidates has the cut of each, and no other
+pub kept_is : (q : QuestionValue) (xs : List Candidate) (kept : List (Candidate × CutValue)) (x : Candidate) (o : Option CutValue) → IsPermutation kept (cuts_among q xs) → Contains xs x
+    → MatchOption o ((cut : CutValue) → Contains kept (x, cut) → ⊥) (λ cut. Contains kept (x, cut)) → o ≡ cut_for q x
+kept_is q xs kept x (Some cut) moved at there = sym (cut_is q xs x cut (Contains-permutation kept (cuts_among q xs) (x, cut) moved there))
+kept_is q xs kept x None moved at none = by (cut_for q x) refl
+  where
+    by : (o : Option CutValue) → cut_for q x ≡ o → None ≡ cut_for q x
+    by None is = sym is
+    by (Some cut) is = absurd (none cut (Contains-permutation (cuts_among q xs) kept (x, cut) (IsPermutation-sym kept (cuts_among q xs) moved) (cut_there q xs x cut at is)))
+
 -- ---- of a frontier
 
 module _ (q : QuestionValue) (f : FrontierValue) (entries : RecordValue) (moved : IsPermutation entries (entries_of f))
     (refutes : (x : Candidate) (kind : Settled) → Contains entries (x, kind) → is_cut q x ≡ true → kind ≡ Refuted) where
-  there : (x : Candidate) (kind : Settled) → Contains (entries_of f) (x, kind) → Contains entries (x, kind)
-  there x kind at = Contains-permutation (entries_of f) entries (x, kind) (IsPermutation-sym entries (entries_of f) moved) at
-
   solved_uncut : (x : Candidate) → Contains (solved f) x → is_cut q x ≡ false
   solved_uncut x at =
       ⊎_elim
       (λ (cut : is_cut q x ≡ true).
-      let same : Solved ≡ Refuted = refutes x Solved (there x Solved (Contains-append_left (of_kind Solved (solved f) ++ of_kind Refuted f.refuted) (of_kind Unknown (given_up f)) (x, Solved)
-      (Contains-append_left (of_kind Solved (solved f)) (of_kind Refuted f.refuted) (x, Solved) (Contains-map (λ y. (y, Solved)) (solved f) x at)))) cut in
+      let same : Solved ≡ Refuted = refutes x Solved (solved_there f entries moved x at) cut in
       absurd (cc))
       (λ (none : is_cut q x ≡ false). none)
       (cases_Bool (is_cut q x))
@@ -117,27 +155,26 @@ module _ (q : QuestionValue) (f : FrontierValue) (entries : RecordValue) (moved 
   unknown_uncut x at =
       ⊎_elim
       (λ (cut : is_cut q x ≡ true).
-      let same : Unknown ≡ Refuted = refutes x Unknown (there x Unknown (Contains-append_right (of_kind Solved (solved f) ++ of_kind Refuted f.refuted) (of_kind Unknown (given_up f)) (x, Unknown) (Contains-map (λ y. (y, Unknown)) (given_up f) x at))) cut in
+      let same : Unknown ≡ Refuted = refutes x Unknown (unknown_there f entries moved x at) cut in
       absurd (cc))
       (λ (none : is_cut q x ≡ false). none)
       (cases_Bool (is_cut q x))
 
   solved_all : AllByRecursion (λ x. is_cut q x ≡ false) (solved f)
-  solved_all = recursion_from_All (λ x. is_cut q x ≡ false) (solved f) (each (λ x. is_cut q x ≡ false) (solved f) solved_uncut)
+  solved_all = recursion_from_All (λ x. is_cut q x ≡ false) (solved f) (all_contained (λ x. is_cut q x ≡ false) (solved f) solved_uncut)
 
   unknown_all : AllByRecursion (λ x. is_cut q x ≡ false) (given_up f)
-  unknown_all = recursion_from_All (λ x. is_cut q x ≡ false) (given_up f) (each (λ x. is_cut q x ≡ false) (given_up f) unknown_uncut)
+  unknown_all = recursion_from_All (λ x. is_cut q x ≡ false) (given_up f) (all_contained (λ x. is_cut q x ≡ false) (given_up f) unknown_uncut)
 
   pub points_uncut : All (λ (p : PointValue). is_cut q p.candidate ≡ false) f.points
-  points_uncut = each (λ (p : PointValue). is_cut q p.candidate ≡ false) f.points (λ p at. solved_uncut p.candidate (Contains-map (λ (p : PointValue). p.candidate) f.points p at))
+  points_uncut = all_contained (λ (p : PointValue). is_cut q p.candidate ≡ false) f.points (λ p at. solved_uncut p.candidate (Contains-map (λ (p : PointValue). p.candidate) f.points p at))
 
   pub given_up_uncut : All (λ (u : UnknownValue). is_cut q u.candidate ≡ false) f.unknown
-  given_up_uncut = each (λ (u : UnknownValue). is_cut q u.candidate ≡ false) f.unknown (λ u at. unknown_uncut u.candidate (Contains-map (λ (u : UnknownValue). u.candidate) f.unknown u at))
+  given_up_uncut = all_contained (λ (u : UnknownValue). is_cut q u.candidate ≡ false) f.unknown (λ u at. unknown_uncut u.candidate (Contains-map (λ (u : UnknownValue). u.candidate) f.unknown u at))
 
   pub refuted_within : ((x : Candidate) (kind : Settled) → Contains entries (x, kind) → IsWithin q x) → All (IsWithin q) f.refuted
   refuted_within within =
-      each (IsWithin q) f.refuted (λ x at. within x Refuted (there x Refuted (Contains-append_left (of_kind Solved (solved f) ++ of_kind Refuted f.refuted) (of_kind Unknown (given_up f)) (x, Refuted)
-      (Contains-append_right (of_kind Solved (solved f)) (of_kind Refuted f.refuted) (x, Refuted) (Contains-map (λ y. (y, Refuted)) f.refuted x at)))))
+      all_contained (IsWithin q) f.refuted (λ x at. within x Refuted (refuted_there f entries moved x at))
 
   cuts_are : cuts_of q (entries_of f) ≡ cuts_among q f.refuted
   cuts_are =

@@ -1,5 +1,5 @@
 -- Whatever its steps, a schedule that sums sends each chunk that a set of nodes does not demand out of the set, so over the links turned round what has to come in can.
-use Rattle.std.proofs.Common.{◌≡◌, ℕ, zero, suc, ◌+◌, ◌*◌, ◌<◌, ◌≤◌, ◌⊎◌, Bool, true, false, ◌&&◌, ◌||◌, cond, List, [], ◌∷◌, length, get_or, map, refl, sym, ap, ◌∙◌, inl, inr, ⊎_elim, subst, arith}
+use Rattle.std.proofs.Common.{◌≡◌, ℕ, zero, suc, ◌+◌, ◌*◌, ◌<◌, ◌≤◌, ◌⊎◌, Bool, true, false, ◌&&◌, cond, List, [], ◌∷◌, length, get_or, map, refl, sym, ap, ◌∙◌, inl, inr, ⊎_elim, subst, arith}
 use Rattle.std.specs.Prelude.{◌==◌, count_by, filter, fold, nat_le, nat_lt, not}
 use Rattle.std.specs.List.{AllByRecursion}
 use Rattle.std.proofs.lemmas.Bool.{cases_Bool, and_parts, and_from, both_ways, not_from_false, not-true, eqb-true, eq-eqb, le-leb, lt-ltb}
@@ -7,17 +7,17 @@ use Rattle.std.proofs.lemmas.List.Elements.{All-from_recursion, recursion_from_A
 use Rattle.std.proofs.lemmas.List.FromFn.{get_or-map-range_with_len}
 use Rattle.std.proofs.lemmas.List.Sums.{sum_by-cons}
 use Rattle.schedule.specs.declared.hop.Hop.{Hop}
-use Rattle.schedule.specs.Links.{GroupValue, TopologyValue, has_link, is_usable, reversed_group, reversed_of, turned}
+use Rattle.schedule.specs.Links.{GroupValue, TopologyValue, has_link, is_usable, reversed_group, reversed_of}
 use Rattle.schedule.specs.Sends.{ScheduleValue, link_of}
 use Rattle.schedule.specs.Placed.{PlacementValue, all_pairs, holds, same_pair}
 use Rattle.schedule.specs.Fitting.{Fits, load, rounds_at}
 use Rattle.schedule.specs.Bags.{Bag, Bags, added, contributions, one_of_each}
 use Rattle.schedule.specs.Summing.{Sums, bags_after, goes_to}
 use Rattle.schedule.specs.Rows.{everywhere}
-use Rattle.schedule.proofs.First.{Among, among_each, among_map, any_among, any_found, each_filter}
+use Rattle.schedule.proofs.First.{Among, among_each, among_map, any_among, any_found, each_filter, filter_among}
 use Rattle.schedule.proofs.Ordered.{IsCell, among_from_any, grid_cells}
 use Rattle.schedule.proofs.Placing.{pair_is}
-use Rattle.schedule.proofs.Turning.{turned_usable}
+use Rattle.schedule.proofs.Turning.{turned_usable, turned_has, one_if}
 use Rattle.inversion.specs.Reductions.{HeldBySome}
 use Rattle.node_cuts.specs.Sides.{NodeSet}
 use Rattle.node_cuts.specs.Cuts.{enters, is_needed, need, stands_in, width}
@@ -31,19 +31,9 @@ turned_hop h = record { chunk = h.chunk; from = h.to; to = h.from; step = h.step
 abbrev with_turned : ScheduleValue → ScheduleValue
 with_turned s = record { rounds = s.rounds; sends = map turned_hop s.sends }
 
-or_none : (b : Bool) → (b || false) ≡ b
-or_none true = refl
-or_none false = refl
-
-turned_has : (group : GroupValue) (link : ℕ × ℕ) → has_link (reversed_group group) link ≡ has_link group (turned link)
-turned_has group link = sym (or_none (has_link (reversed_group group) link)) ∙ turned_usable (group ∷ []) link ∙ or_none (has_link group (turned link))
-
 each_usable : (t : TopologyValue) (hops : List Hop) → AllByRecursion (λ h. is_usable t (link_of h) ≡ true) hops → AllByRecursion (λ h. is_usable (reversed_of t) (link_of h) ≡ true) (map turned_hop hops)
 each_usable t [] each = tt
 each_usable t (h ∷ hops) each = (turned_usable t.groups (h.to, h.from) ∙ each.0, each_usable t hops each.1)
-
-abbrev one_if : Bool → ℕ
-one_if passes = cond passes 1 0
 
 turned_load : (group : GroupValue) (step : ℕ) (hops : List Hop) → load (reversed_group group) step (map turned_hop hops) ≡ load group step hops
 turned_load group step [] = refl
@@ -94,18 +84,6 @@ came_from before m (h ∷ hops) bag some =
     (λ (rest : Brings before m hops). inr (rest.0, inr rest.1, rest.2))
     (came_from before m hops (added bag (before (h.chunk, h.from))) some)
 
-among_kept : (p : Hop → Bool) (h : Hop) (hops : List Hop) → Among h (filter p hops) → Among h hops × (p h ≡ true)
-among_kept p h [] among = absurd among
-among_kept p h (o ∷ hops) among =
-    ⊎_elim
-    (λ (kept : p o ≡ true).
-    let now : Among h (o ∷ filter p hops) = rw kept at among in
-    ⊎_elim (λ (here : o ≡ h). (inl here, ap p (sym here) ∙ kept)) (λ (behind : Among h (filter p hops)). let rest = among_kept p h hops behind in (inr rest.0, rest.1)) now)
-    (λ (left : p o ≡ false).
-    let now : Among h (filter p hops) = rw left at among in
-    let rest = among_kept p h hops now in (inr rest.0, rest.1))
-    (cases_Bool (p o))
-
 -- ---- what is counted outside a set was sent out of it
 
 module _ (u : NodeSet) (s : ScheduleValue) (nodes m : ℕ) (inside : m < nodes) (member : u m ≡ true) where
@@ -130,7 +108,7 @@ module _ (u : NodeSet) (s : ScheduleValue) (nodes m : ℕ) (inside : m < nodes) 
       (λ (stood : 0 < counted n chunk node). later u (with_turned s) n chunk (sent_out n chunk node outside stood))
       (λ (came : Brings before m (filter test s.sends)).
       let h : Hop = came.0 in
-      let kept = among_kept test h s.sends came.1 in
+      let kept = filter_among test h s.sends came.1 in
       let parts = and_parts (h.step == n + 1) (same_pair (h.chunk, h.to) (chunk, node)) kept.1 in
       let step_is : h.step ≡ n + 1 = eqb-true h.step (n + 1) parts.0 in
       let same : (h.chunk, h.to) ≡ (chunk, node) = pair_is (h.chunk, h.to) (chunk, node) parts.1 in

@@ -1,9 +1,10 @@
 //! The refuted candidates of a frontier, parted by whether a cut refutes them.
 
-ghost use Rattle.std.specs.Prelude.{◌≡◌, ◌++◌, ◌∷◌, [], false, All, IfOk, MatchOption, OnOk};
+ghost use Rattle.std.specs.Prelude.{◌≡◌, ◌++◌, ◌∷◌, [], false, All, Contains, IfOk, MatchOption, OnOk};
 ghost use Rattle.std.specs.List.Sorted.{IsPermutation};
 ghost use Rattle.candidate_order.specs.Frontiers.{IsWithin};
 ghost use Rattle.pareto_search.specs.Recorded.{entries_of};
+ghost use Rattle.node_cuts.specs.Cuts.{CutValue};
 ghost use Rattle.cut_bounds.specs.Cutting.{cuts_of, is_cut};
 ghost use Rattle.cut_bounds.specs.Parting.{cuts_among, uncut_among, without_cuts};
 
@@ -48,7 +49,20 @@ pub fn cuts_are_refuted<E: EngineView>(engine: &CutEngine<E>, frontier: &Frontie
     let _inner = engine.inner();
 }
 
-/// Parts the refuted candidates of a frontier, which the engine's search gave. The only error is `OutOfMemory`.
+/// The cut that is kept for a candidate, if there is one. The only error is `OutOfMemory`.
+fn kept_cut(cuts: &[(Candidate, Cut)], candidate: Candidate) -> Result<Option<Cut>, OutOfMemory>
+    ensures { IfOk result (λ kept. MatchOption kept ((cut : CutValue) → Contains cuts.now (candidate, cut) → ⊥) (λ cut. Contains cuts.now (candidate, cut))) }
+{
+    for (other, cut) in cuts {
+        if *other == candidate {
+            return Ok(Some(cut.clone()?));
+        }
+    }
+    Ok(None)
+}
+
+/// Parts the refuted candidates of a frontier, which the engine's search gave, by the cuts that the engine kept. The only error
+/// is `OutOfMemory`.
 pub fn part_refuted<E: EngineView>(
     alloc: Global,
     engine: &CutEngine<E>,
@@ -64,7 +78,7 @@ pub fn part_refuted<E: EngineView>(
         others: Vec::new(alloc),
     };
     for candidate in frontier.refuted() {
-        let cut = engine.first_cut(*candidate)?;
+        let cut = kept_cut(engine.cuts(), *candidate)?;
         parts.add(*candidate, cut)?;
     }
     Ok(parts)

@@ -12,8 +12,9 @@ use Rattle.round_encoding.specs.Candidates.{size_limit}
 use Rattle.candidate_formula.specs.Formulas.{formula_for}
 use Rattle.candidate_formula.specs.Questions.{copying_question}
 use Rattle.candidate_formula.specs.Sizes.{size_of}
-use Rattle.engine_search.specs.Asked.{searched_links, searched_question}
-use Rattle.engine_search.proofs.Asked.{same_formulas, searched_itself, searched_turned}
+use Rattle.candidate_formula.specs.Formulas.{searched_links}
+use Rattle.engine_search.specs.Searched.{searched_question}
+use Rattle.engine_search.proofs.Searched.{same_formulas, searched_itself, searched_turned}
 use Rattle.link_faults.specs.Narrowed.{narrowed}
 use Rattle.link_faults.specs.Carrying.{IsOldRefuted, narrowed_question}
 use Rattle.link_faults.proofs.Reversed.{as_many_groups, group_turned, narrowed_turned, old_turned}
@@ -51,10 +52,6 @@ module _ (t before : TopologyValue) (s : Spec) (g w : ℕ) (own : before ≡ sea
 -- ---- what is asked for
 
 module _ (q : QuestionValue) (g w : ℕ) where
-  -- the links that are left have the same nodes
-  pub still_spec : {left : TopologyValue} → left ≡ narrowed q.topology g w → IsSpec q.topology.nodes q.spec → IsSpec left.nodes q.spec
-  still_spec is fits = subst (λ (x : TopologyValue). IsSpec x.nodes q.spec) (sym is) fits
-
   pub left_small : (left links : TopologyValue) → left ≡ narrowed q.topology g w → w < (group_at q.topology g).width → size_of q ≤ size_limit
       → size_of (record { topology = links; spec = q.spec; limits = q.limits }) ≡ size_of (record { topology = left; spec = q.spec; limits = q.limits }) → size_of (record { topology = links; spec = q.spec; limits = q.limits }) ≤ size_limit
   left_small left links is less small same =

@@ -12,7 +12,7 @@ use Rattle.candidate_order.specs.Frontiers.{QuestionValue, FrontierValue, IsWith
 use Rattle.candidate_order.specs.Ranges.{IsLimits}
 use Rattle.round_encoding.proofs.Obeyed.{all_map}
 use Rattle.report_form.specs.Reports.{ReportValue, IsFrontier, IsReport, question_of}
-use Rattle.report_search.proofs.PartAsked.{one_part}
+use Rattle.report_search.proofs.PartQuestions.{one_part}
 use Rattle.frontier_audit.specs.Rights.{IsRight, IsRightPart}
 use Rattle.link_faults.specs.Carrying.{HasFewRounds, IsOldRefuted}
 use Rattle.run_rules.specs.Degraded.{old_refuted}

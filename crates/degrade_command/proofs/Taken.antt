@@ -1,16 +1,9 @@
 -- What is due for a fault of a report, check by check.
-use Rattle.std.proofs.Common.{◌≡◌, ◌==◌, ◌≤◌, ℕ, Bool, true, false, length, Result, Ok, Err, refl, sym, ap, ◌∙◌}
-use Rattle.std.specs.Prelude.{nat_lt}
-use Rattle.std.proofs.lemmas.Bool.{ltb-false}
-use Rattle.text_lines.specs.Check.{◌>>=◌, refuse}
-use Rattle.candidate_order.specs.Frontiers.{QuestionValue}
-use Rattle.round_encoding.specs.Candidates.{size_limit}
-use Rattle.candidate_formula.specs.Sizes.{size_of}
-use Rattle.candidate_formula.specs.Counts.{counts_of}
+use Rattle.std.proofs.Common.{◌≡◌, ℕ, Result, Ok, Err, refl, sym, ap, ◌∙◌}
+use Rattle.text_lines.specs.Check.{◌>>=◌}
 use Rattle.report_form.specs.Reports.{ReportValue}
 use Rattle.run_rules.specs.declared.answer.Answer.{Answer}
-use Rattle.run_rules.specs.declared.status.Status.TheVariants.{NoCandidate, TooLarge}
-use Rattle.run_rules.specs.Refusals.{Refusal, refused_at}
+use Rattle.run_rules.specs.Refusals.{Refusal}
 use Rattle.run_rules.specs.Read.{IsRefused}
 use Rattle.run_rules.specs.Tasks.{Task, Degrade, degrade_in, fault_in, searchable, whole_question}
 use Rattle.run_rules.proofs.Answered.{refused_behind}
@@ -42,22 +35,3 @@ module _ (r : ReportValue) (group group_word width width_word : ℕ) where
 
   pub can_degrade : refused_first r group group_word width width_word ≡ Ok tt → due ≡ Ok (Degrade r group width)
   can_degrade can = sym (grouped fault search (λ _. Ok (Degrade r group width))) ∙ ap (λ x. x >>= (λ _. Ok (Degrade r group width))) can
-
--- ---- the size
-
-module _ (q : QuestionValue) where
-  behind_size : Bool → Result (Unit {0}) Refusal
-  behind_size large = refuse large (refused_at TooLarge 0 (size_of q)) >>= (λ _. refuse (length (counts_of q) == 0) (refused_at NoCandidate 0 0))
-
-  by_size : (large : Bool) → nat_lt size_limit (size_of q) ≡ large → searchable q ≡ behind_size large
-  unfolding behind_size
-  by_size large e = ap behind_size e
-
-  sized : (large : Bool) → nat_lt size_limit (size_of q) ≡ large → searchable q ≡ Ok tt → size_of q ≤ size_limit
-  unfolding behind_size
-  sized true e can = let impossible : Err (refused_at TooLarge 0 (size_of q)) ≡ Ok tt = sym (by_size true e) ∙ can in absurd (cc)
-  sized false e can = ltb-false size_limit (size_of q) e
-
-  -- what can be searched is small enough
-  pub is_small : searchable q ≡ Ok tt → size_of q ≤ size_limit
-  is_small can = sized (nat_lt size_limit (size_of q)) refl can

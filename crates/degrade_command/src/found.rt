@@ -39,7 +39,7 @@ impl Found {
     }
 }
 
-/// Those of the candidates that an old one carries, or those that none carries, in their order. The only error is `OutOfMemory`.
+/// The candidates that an old one carries, and those that none carries, each in their order. The only error is `OutOfMemory`.
 fn parted(
     alloc: Global,
     old: &[Candidate],

@@ -10,7 +10,7 @@ use crate::found::Found;
 use candidate_order::Candidate;
 use report_form::Words;
 use report_printing::{
-    push_all_refuted, push_all_unknown, push_asked, push_candidate, push_points,
+    push_all_refuted, push_all_unknown, push_candidate, push_points, push_synth_line,
 };
 use std::alloc::{AllocError, Global};
 use text_lines::push_word;
@@ -46,7 +46,7 @@ pub(crate) fn print_found(
     let names = left.names();
     let mut out = Vec::new(alloc);
     push_word(&mut out, b"degraded 1\n")?;
-    push_asked(&mut out, names, words)?;
+    push_synth_line(&mut out, names, words)?;
     push_topology(&mut out, left)?;
     push_word(&mut out, b"frontier whole\n")?;
     push_points(&mut out, names, found.frontier.points())?;

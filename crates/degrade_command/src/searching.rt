@@ -5,7 +5,6 @@ ghost use Rattle.schedule.specs.Judging.{group_at};
 ghost use Rattle.collective_spec.specs.Collectives.{IsSpec, kind_in};
 ghost use Rattle.round_encoding.specs.Candidates.{size_limit};
 ghost use Rattle.candidate_formula.specs.Sizes.{size_of};
-ghost use Rattle.engine_search.specs.Asked.{searched_links};
 ghost use Rattle.link_faults.specs.Narrowed.{narrowed};
 ghost use Rattle.link_faults.specs.Carrying.{IsOldRefuted, narrowed_question};
 ghost use Rattle.degrade_command.specs.After.{IsFoundAfter};
@@ -14,6 +13,7 @@ use crate::OutOfMemory;
 use crate::empty_shelf::EmptyShelf;
 use crate::fault::LinkFault;
 use crate::found::Found;
+use candidate_formula::own_links_to_search;
 use candidate_order::{Candidate, Limits};
 use candidate_solver::SatEngine;
 use collective_spec::{Kind, Spec};
@@ -22,13 +22,6 @@ use engine_search::{frontier_by, links_to_search};
 use outer_ports::Part;
 use schedule::Topology;
 use std::alloc::Global;
-
-/// The links over which an engine has to search, as a value of their own. The only error is `OutOfMemory`.
-fn own_links(topology: &Topology, spec: &Spec) -> Result<Topology, OutOfMemory>
-    ensures { IfOk result (λ links. links ≡ searched_links topology.now spec.now) }
-{
-    links_to_search(topology, spec)?.into_owned()
-}
 
 /// The frontier of a collective over the links that a fault left of the given ones, and which of its refuted candidates the old
 /// ones carry; these are refuted without a search, and of the others no proof is kept. The old candidates had no schedule over
@@ -51,7 +44,7 @@ pub(crate) fn search_left(
     requires old { All (IsOldRefuted (record { topology = given.now; spec = spec.now; limits = limits })) old.items }
     ensures { IfOk result (IsFoundAfter (narrowed_question (record { topology = given.now; spec = spec.now; limits = limits }) fault.group fault.width) old.items) }
 {
-    let before = own_links(given, spec)?;
+    let before = own_links_to_search(given, spec)?;
     let links = links_to_search(left, spec)?;
     let inner = SatEngine::new(alloc, &links, spec, limits, Part::Whole, false)?;
     let mut engine = CarryEngine::new(alloc, inner, before, fault.group, fault.width, old);

@@ -1,22 +1,19 @@
 -- What a record that refutes carried candidates says of the frontier that a search gave.
-use Rattle.std.proofs.Common.{◌≡◌, true, false, List, ◌++◌, map, All, Contains, sym, subst, ◌∙◌, ⊎_elim}
+use Rattle.std.proofs.Common.{◌≡◌, true, false, List, All, Contains, sym, subst, ◌∙◌, ⊎_elim}
 use Rattle.std.specs.List.Sorted.{IsPermutation}
 use Rattle.std.proofs.lemmas.Bool.{false≢true, false_from_ne_true}
-use Rattle.std.proofs.lemmas.List.Elements.{All-contains_itself, Contains-append_left, Contains-append_right}
-use Rattle.std.proofs.lemmas.List.Sorted.{Contains-permutation, IsPermutation-sym}
+use Rattle.std.proofs.lemmas.List.Elements.{All-contains_itself}
+use Rattle.list_laws.proofs.Members.{Contains-map}
 use Rattle.candidate_order.specs.declared.candidate.Candidate.{Candidate}
 use Rattle.candidate_order.specs.Frontiers.{FrontierValue, PointValue, UnknownValue, IsTried, solved, given_up}
-use Rattle.candidate_order.proofs.Rows.{Contains-map}
 use Rattle.engine_rules.specs.declared.settled.Settled.{Settled}
 use Rattle.engine_rules.specs.declared.settled.Settled.TheVariants.{Solved, Refuted, Unknown}
 use Rattle.engine_rules.specs.Outcomes.{RecordValue}
 use Rattle.pareto_search.specs.Recorded.{entries_of}
+use Rattle.pareto_search.proofs.Entries.{solved_there, refuted_there, unknown_there}
 use Rattle.link_faults.specs.Carrying.{is_carried, not_carried}
 use Rattle.link_faults.proofs.Recorded.{contains_kept, passes_kept}
 use Rattle.degraded_links.specs.Keeping.{RefutesCarried, unknown_not_refuted}
-
-abbrev with : Settled → Candidate → Candidate × Settled
-with kind = λ x. (x, kind)
 
 abbrev is_solved : Settled → Type 0
 is_solved Solved = Unit {0}
@@ -24,38 +21,16 @@ is_solved Refuted = ⊥
 is_solved Unknown = ⊥
 
 module _ (f : FrontierValue) (entries : RecordValue) (same : IsPermutation entries (entries_of f)) where
-  there : (e : Candidate × Settled) → Contains (entries_of f) e → Contains entries e
-  there e at = Contains-permutation (entries_of f) entries e (IsPermutation-sym entries (entries_of f) same) at
-
-  -- ---- each list of the frontier in the record
-
-  solved_there : (x : Candidate) → Contains (solved f) x → Contains entries (x, Solved)
-  solved_there x at =
-      there (x, Solved)
-      (Contains-append_left (map (with Solved) (solved f) ++ map (with Refuted) f.refuted) (map (with Unknown) (given_up f)) (x, Solved)
-      (Contains-append_left (map (with Solved) (solved f)) (map (with Refuted) f.refuted) (x, Solved) (Contains-map (with Solved) (solved f) x at)))
-
-  refuted_there : (x : Candidate) → Contains f.refuted x → Contains entries (x, Refuted)
-  refuted_there x at =
-      there (x, Refuted)
-      (Contains-append_left (map (with Solved) (solved f) ++ map (with Refuted) f.refuted) (map (with Unknown) (given_up f)) (x, Refuted)
-      (Contains-append_right (map (with Solved) (solved f)) (map (with Refuted) f.refuted) (x, Refuted) (Contains-map (with Refuted) f.refuted x at)))
-
-  given_up_there : (x : Candidate) → Contains (given_up f) x → Contains entries (x, Unknown)
-  given_up_there x at =
-      there (x, Unknown)
-      (Contains-append_right (map (with Solved) (solved f) ++ map (with Refuted) f.refuted) (map (with Unknown) (given_up f)) (x, Unknown) (Contains-map (with Unknown) (given_up f) x at))
-
   module _ (old : List Candidate) where
     pub searched_within : (inner : RecordValue) → inner ≡ not_carried old entries → (x : Candidate) → Contains f.refuted x → is_carried old x ≡ false → Contains inner (x, Refuted)
-    searched_within inner kept x at other = subst (λ (es : RecordValue). Contains es (x, Refuted)) (sym kept) (contains_kept old x Refuted entries other (refuted_there x at))
+    searched_within inner kept x at other = subst (λ (es : RecordValue). Contains es (x, Refuted)) (sym kept) (contains_kept old x Refuted entries other (refuted_there f entries same x at))
 
     module _ (refutes : RefutesCarried old entries) where
       point_apart : (x : Candidate) → Contains (solved f) x → is_carried old x ≡ false
-      point_apart x at = false_from_ne_true (is_carried old x) (λ carried. subst is_solved (refutes x Solved (solved_there x at) carried) tt)
+      point_apart x at = false_from_ne_true (is_carried old x) (λ carried. subst is_solved (refutes x Solved (solved_there f entries same x at) carried) tt)
 
       one_apart : (x : Candidate) → Contains (given_up f) x → is_carried old x ≡ false
-      one_apart x at = false_from_ne_true (is_carried old x) (λ carried. unknown_not_refuted (refutes x Unknown (given_up_there x at) carried))
+      one_apart x at = false_from_ne_true (is_carried old x) (λ carried. unknown_not_refuted (refutes x Unknown (unknown_there f entries same x at) carried))
 
       pub points_apart : All (λ p. is_carried old p.candidate ≡ false) f.points
       points_apart = λ k d low. point_apart _ (Contains-map (λ (p : PointValue). p.candidate) f.points _ (All-contains_itself f.points k d low))

@@ -3,6 +3,7 @@ use Rattle.std.proofs.Common.{◌≡◌, ◌∙◌, Bool, true, false, List, [],
 use Rattle.std.specs.Prelude.{if◌then◌else◌}
 use Rattle.std.specs.List.Sorted.{IsPermutation}
 use Rattle.std.proofs.lemmas.List.Elements.{All-contains, All-map, All-weaker}
+use Rattle.list_laws.proofs.Each.{all_contained}
 use Rattle.schedule.specs.Sends.{ScheduleValue}
 use Rattle.schedule.specs.Inverse.{inverse_of}
 use Rattle.schedule.proofs.Inverting.{inverse_inverse}
@@ -18,10 +19,11 @@ use Rattle.engine_rules.specs.Outcomes.{RecordValue}
 use Rattle.inversion.specs.Inverted.{inverted_frontier, inverted_point}
 use Rattle.inversion.proofs.Reducing.{reduction_right, reduction_searched}
 use Rattle.pareto_search.specs.Recorded.{StaysWithin, entries_of}
-use Rattle.engine_search.specs.Asked.{asked_frontier, copying_schedule, searched_question}
+use Rattle.pareto_search.proofs.Entries.{with}
+use Rattle.engine_search.specs.Searched.{asked_frontier, copying_schedule, searched_question}
 use Rattle.engine_search.specs.Found.{IsFoundBy}
-use Rattle.engine_search.proofs.Asked.{searched_itself, searched_turned, within_alike}
-use Rattle.engine_search.proofs.Recorded.{each, each_unknown, refuted_within, with}
+use Rattle.engine_search.proofs.Searched.{searched_itself, searched_turned, within_alike}
+use Rattle.engine_search.proofs.Recorded.{each_unknown, refuted_within}
 
 module _ (formula : Candidate → FormulaValue) (suits : Candidate → ScheduleValue → Type 0) where
   -- ---- what copies, as the engine has it
@@ -39,7 +41,7 @@ module _ (formula : Candidate → FormulaValue) (suits : Candidate → ScheduleV
     right = right;
     searched = searched;
     within = refuted_within f entries permuted own stopped stays;
-    exhausted = each (λ (u : UnknownValue). Exhausted (formula u.candidate) u.conflicts) f.unknown (λ u at.
+    exhausted = all_contained (λ (u : UnknownValue). Exhausted (formula u.candidate) u.conflicts) f.unknown (λ u at.
         let told : u.conflicts ≡ own.limits.conflicts = (All-contains (IsUnknown own) f.unknown u right.unknown at).conflicts in
         let spent : Exhausted (formula u.candidate) now.limits.conflicts = All-contains (λ (v : UnknownValue). Exhausted (formula v.candidate) now.limits.conflicts) f.unknown u (each_unknown f entries permuted (λ x. Exhausted (formula x) now.limits.conflicts) exhausted) at in
         subst (Exhausted (formula u.candidate)) (sym (told ∙ ap (λ (q : QuestionValue). q.limits.conflicts) (sym same))) spent);

@@ -1,4 +1,3 @@
-pub mod Turned
-pub mod Asked
+pub mod Searched
 pub mod Recorded
 pub mod Found

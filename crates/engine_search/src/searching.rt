@@ -7,7 +7,7 @@ ghost use Rattle.schedule.specs.Sends.{ScheduleValue};
 ghost use Rattle.collective_spec.specs.Collectives.{IsSpec};
 ghost use Rattle.candidate_order.specs.declared.candidate.Candidate.{Candidate};
 ghost use Rattle.pareto_search.specs.Recorded.{StaysWithin, entries_of};
-ghost use Rattle.engine_search.specs.Asked.{asked_frontier, searched_question};
+ghost use Rattle.engine_search.specs.Searched.{asked_frontier, searched_question};
 ghost use Rattle.engine_search.specs.Found.{IsFoundBy};
 
 use crate::OutOfMemory;

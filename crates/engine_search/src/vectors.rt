@@ -3,7 +3,7 @@
 ghost use Rattle.std.specs.Prelude.{◌≡◌, [], ◌∷◌};
 ghost use Rattle.schedule.specs.Rows.{back_of_2, only, ring_broadcast, ring_reduce};
 ghost use Rattle.candidate_order.specs.Rows.{asked, solved_by};
-ghost use Rattle.engine_search.specs.Asked.{asked_frontier, copying_schedule, searched_question};
+ghost use Rattle.engine_search.specs.Searched.{asked_frontier, copying_schedule, searched_question};
 
 use collective_spec::Kind;
 

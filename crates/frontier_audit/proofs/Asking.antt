@@ -21,7 +21,7 @@ use Rattle.report_form.specs.Reports.{ReportValue, IsReport, kind_of, parts_of, 
 use Rattle.candidate_formula.specs.Formulas.{formula_for, searched_on}
 use Rattle.candidate_formula.specs.Sizes.{size_of}
 use Rattle.candidate_formula.specs.Questions.{IsSmallQuestion, IsSought, copying_question}
-use Rattle.candidate_formula.proofs.Asked.{same_size, small_by_copying, within_by, reduced_formula}
+use Rattle.candidate_formula.proofs.CopyingQuestions.{same_size, small_by_copying, within_by, reduced_formula}
 use Rattle.candidate_formula.proofs.Copying.{same_allowed, copied_stays}
 use Rattle.candidate_formula.proofs.TurnedSize.{copied_size}
 use Rattle.frontier_audit.specs.Auditable.{IsAuditable}

@@ -1,22 +1,22 @@
 -- The candidates of a search come in its order.
 use Rattle.std.proofs.Common.{◌≡◌, ℕ, zero, suc, ◌+◌, ◌<◌, ◌≤◌, Bool, true, false, List, [], ◌∷◌, map, get_or, inl, inr, refl, sym, ap, ◌∙◌, arith}
-use Rattle.std.specs.Prelude.{◌≢◌, if◌then◌else◌, flat_map, filter, All, AllPairs}
+use Rattle.std.specs.Prelude.{◌≢◌, if◌then◌else◌, flat_map, All, AllPairs}
 use Rattle.std.specs.List.{range_with_len}
 use Rattle.std.proofs.lemmas.Bool.{false≢true}
 use Rattle.std.proofs.lemmas.List.Elements.{All-nil, All-cons, All-head, All-tail, All-filter}
-use Rattle.std.proofs.lemmas.List.Kept.{AllPairs-cons}
+use Rattle.std.proofs.lemmas.List.Kept.{AllPairs-cons, AllPairs-filter}
+use Rattle.list_laws.proofs.Pairs.{no_pairs, pairs_tail, pairs_head}
 use Rattle.collective_spec.specs.Kinds.{allows}
 use Rattle.collective_spec.specs.Collectives.{kind_in}
 use Rattle.candidate_order.specs.declared.candidate.Candidate.{Candidate}
 use Rattle.candidate_order.specs.Costs.{Before}
 use Rattle.candidate_order.specs.Listed.{candidate_at}
 use Rattle.candidate_order.specs.Frontiers.{QuestionValue}
-use Rattle.candidate_order.proofs.Orders.{Before-trans, Before-total}
+use Rattle.candidate_order.proofs.Orders.{Before-trans, Before-total, HasChunk}
 use Rattle.report_form.specs.Tests.{is_before}
 use Rattle.report_form.proofs.Tested.{decides_before}
-use Rattle.report_form.proofs.Ascending.{HasChunk}
 use Rattle.send_encoding.proofs.Everywhere.{in_map, in_flat, From, in_range}
-use Rattle.send_encoding.proofs.Orders.{pairs_append, no_pairs, pairs_head, pairs_tail}
+use Rattle.send_encoding.proofs.Orders.{pairs_append}
 use Rattle.candidate_formula.specs.Counts.{counts_of}
 use Rattle.frontier_audit.specs.Candidates.{candidates_of_step, put_in_order, in_search_order, candidates_within}
 use Rattle.frontier_audit.proofs.Tried.{all_put, all_ordered}
@@ -81,14 +81,6 @@ range_ascends a (suc n) = AllPairs-cons Less a (range_with_len (a + 1) n) (above
     above : (xs : List ℕ) → All (From (a + 1) n) xs → All (Less a) xs
     above xs h k d low = let at = h k d low in omega (arith, at.0)
 
-kept_ascends : (p : ℕ → Bool) (xs : List ℕ) → AllPairs Less xs → AllPairs Less (filter p xs)
-kept_ascends p [] h = no_pairs Less
-kept_ascends p (x ∷ xs) h = chosen (p x) (kept_ascends p xs (pairs_tail Less x xs h))
-  where
-    chosen : (b : Bool) → AllPairs Less (filter p xs) → AllPairs Less (if b then x ∷ filter p xs else filter p xs)
-    chosen true later = AllPairs-cons Less x (filter p xs) (All-filter p (Less x) xs (pairs_head Less x xs h)) later
-    chosen false later = later
-
 counted_apart : (s r : ℕ) (cs : List ℕ) → AllPairs Less cs → AllPairs (λ x y. x ≢ y) (map (λ c. candidate_at s (r, c)) cs)
 counted_apart s r [] h = no_pairs (λ x y. x ≢ y)
 counted_apart s r (c ∷ cs) h = AllPairs-cons (λ x y. x ≢ y) (candidate_at s (r, c)) (map (λ n. candidate_at s (r, n)) cs)
@@ -104,7 +96,7 @@ of_rounds s r (c ∷ cs) = All-cons (OfRounds r) (candidate_at s (r, c)) (map (�
 
 step_apart : (q : QuestionValue) (s : ℕ) → AllPairs (λ x y. x ≢ y) (candidates_of_step q s)
 step_apart q s = pairs_of_range (λ x y. x ≢ y) OfRounds (λ r. map (λ c. candidate_at s (r, c)) (counts_of q)) (λ r. of_rounds s r (counts_of q))
-    (λ r. counted_apart s r (counts_of q) (kept_ascends (allows (kind_in q.spec) q.topology.nodes) (range_with_len 1 q.limits.max_c) (range_ascends 1 q.limits.max_c)))
+    (λ r. counted_apart s r (counts_of q) (AllPairs-filter Less (allows (kind_in q.spec) q.topology.nodes) (range_with_len 1 q.limits.max_c) (range_ascends 1 q.limits.max_c)))
     (λ i j x y less a b e. let same : x.r ≡ y.r = ap (λ z. z.r) e in omega (arith, less, a, b, same)) s (q.limits.k + 1)
 
 -- ---- and all of them ascend

@@ -20,3 +20,4 @@ pub mod Parting
 pub mod Pairing
 pub mod Jointly
 pub mod Verified
+pub mod Proved

@@ -1,5 +1,5 @@
 -- The joined points of an allreduce, pair by pair.
-use Rattle.std.proofs.Common.{◌≡◌, ℕ, zero, suc, ◌+◌, ◌<◌, ◌≤◌, Bool, true, false, List, [], ◌∷◌, ◌++◌, length, map, take, drop, get_or, Option, None, Some, add-one, append_assoc, append-nil, refl, sym, ap, ◌∙◌, subst, arith}
+use Rattle.std.proofs.Common.{◌≡◌, ℕ, zero, suc, ◌+◌, ◌<◌, ◌≤◌, Bool, true, false, List, [], ◌∷◌, ◌++◌, length, map, take, drop, get_or, Option, None, Some, add-one, append_assoc, append-nil, refl, sym, ap, ◌∙◌, subst}
 use Rattle.std.specs.Prelude.{◌==◌, ◌&&◌, if◌then◌else◌, filter, slice_get}
 use Rattle.std.proofs.lemmas.Bool.{eq-eqb}
 use Rattle.std.proofs.lemmas.List.{map-append, take-append-drop, take_more, take_all}
@@ -99,10 +99,6 @@ with_append p xs ys = ap (map (λ q. (p, q))) (filter-append (λ q. q.candidate.
 pub with_same : (p q : PointValue) → q.candidate.c ≡ p.candidate.c → pairs_with p (q ∷ []) ≡ (p, q) ∷ []
 with_same p q e = ap (λ b. map (λ z. (p, z)) (if b then q ∷ [] else [])) (eq-eqb q.candidate.c p.candidate.c e)
 
-pairs_append : (xs ys gather : List PointValue) → pairs_of (xs ++ ys) gather ≡ pairs_of xs gather ++ pairs_of ys gather
-pairs_append [] ys gather = refl
-pairs_append (x ∷ xs) ys gather = ap (λ ps. pairs_with x gather ++ ps) (pairs_append xs ys gather) ∙ sym (append_assoc (pairs_with x gather) (pairs_of xs gather) (pairs_of ys gather))
-
 pub pairs_one : (x : PointValue) (gather : List PointValue) → pairs_of (x ∷ []) gather ≡ pairs_with x gather
 pairs_one x gather = append-nil (pairs_with x gather)
 
@@ -129,7 +125,8 @@ module _ (t : TopologyValue) (joined : List PointValue) (f : List PointValue →
   walk_ends before now past a = subst (λ ys. JoinsSay t (f ys) joined before now None) (take_all i xs past) a
 
 pub pairs_add : (gather xs ys : List PointValue) → pairs_of (xs ++ ys) gather ≡ pairs_of xs gather ++ pairs_of ys gather
-pairs_add gather xs ys = pairs_append xs ys gather
+pairs_add gather [] ys = refl
+pairs_add gather (x ∷ xs) ys = ap (λ ps. pairs_with x gather ++ ps) (pairs_add gather xs ys) ∙ sym (append_assoc (pairs_with x gather) (pairs_of xs gather) (pairs_of ys gather))
 
 -- ---- behind all pairs
 
@@ -158,9 +155,3 @@ stopped t pairs joined now d a = sym (ap (λ ps. denial_of (joins_checked t ps j
 -- what is read at a place
 pub got_at : (xs : List PointValue) (n : ℕ) (p : PointValue) → n < length xs → p ≡ get_or xs n p → slice_get xs n ≡ Some p
 got_at xs n p low is = slice_get-get_or xs n p low ∙ ap (λ z. Some z) (sym is)
-
-pub nothing_at : (xs : List PointValue) (n : ℕ) → length xs ≤ n → slice_get xs n ≡ None
-nothing_at [] zero past = refl
-nothing_at [] (suc n) past = refl
-nothing_at (x ∷ xs) zero past = absurd (omega (arith, past))
-nothing_at (x ∷ xs) (suc n) past = nothing_at xs n (omega (arith, past))

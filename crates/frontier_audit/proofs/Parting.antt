@@ -11,7 +11,7 @@ use Rattle.outer_ports.specs.declared.part.Part.TheVariants as part
 use Rattle.outer_ports.specs.declared.proof_name.FileKind.{FileKind}
 use Rattle.outer_ports.specs.declared.proof_name.FileKind.TheVariants.{Cnf, Lrat, Partial}
 use Rattle.outer_ports.specs.declared.proof_name.ProofName.{ProofName}
-use Rattle.outer_ports.specs.Files.{Files}
+use Rattle.outer_ports.specs.Files.{Files, part_number}
 use Rattle.collective_spec.specs.declared.kind.Kind.{Kind}
 use Rattle.collective_spec.specs.declared.kind.Kind.TheVariants as kind
 use Rattle.candidate_order.specs.Frontiers.{QuestionValue, FrontierValue}
@@ -20,7 +20,6 @@ use Rattle.send_encoding.proofs.Orders.{one_pairs}
 use Rattle.frontier_audit.specs.Denials.{Denial, Checked, each, in_part}
 use Rattle.frontier_audit.specs.Auditing.{point_checked, refuted_checked, unknown_checked, frontier_checked}
 use Rattle.frontier_audit.specs.Beside.{denial_of, AnswersBeside}
-use Rattle.frontier_audit.specs.Rows.{part_number}
 use Rattle.frontier_audit.specs.Steps.{answers_checked, part_checked}
 use Rattle.frontier_audit.proofs.Merging.{LooksAt, goes_on, looks_each, looks_then, plain, plainly_then, stops, then_plainly}
 use Rattle.frontier_audit.proofs.Said.{looks_refuted, looks_unknown}

@@ -47,7 +47,3 @@ verified_ok (Err x) e = absurd (cc)
 pub ok_verified : (checked : Checked (Part × Denial)) → checked ≡ Ok tt → verdict_from checked ≡ Verified
 ok_verified (Ok u) e = refl
 ok_verified (Err x) e = absurd (cc)
-
--- all of one kind give all of another
-pub all_by : {X : Type 0} (P Q : X → Type 0) (xs : List X) → ((x : X) → P x → Q x) → All P xs → All Q xs
-all_by P Q xs f a = λ k d w. f _ (a k d w)

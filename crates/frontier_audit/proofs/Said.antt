@@ -14,6 +14,7 @@ use Rattle.lrat_text.specs.Printing.{cnf_text}
 use Rattle.candidate_order.specs.declared.candidate.Candidate.{Candidate}
 use Rattle.candidate_order.specs.Costs.{Before}
 use Rattle.candidate_order.specs.Frontiers.{QuestionValue, UnknownValue}
+use Rattle.candidate_order.proofs.Orders.{Before-irrefl}
 use Rattle.candidate_formula.specs.Formulas.{formula_for}
 use Rattle.candidate_formula.specs.Files.{candidate_of, file_of}
 use Rattle.proof_audit.specs.declared.verdict.FileVerdict.{FileVerdict}
@@ -29,7 +30,6 @@ use Rattle.frontier_audit.specs.Steps.{denial_for}
 use Rattle.frontier_audit.proofs.Beside.{over_files}
 use Rattle.frontier_audit.proofs.Merging.{LooksAt}
 use Rattle.frontier_audit.proofs.Tried.{same_is, same_itself}
-use Rattle.candidate_order.proofs.Unique.{candidates_apart}
 
 -- ---- one file
 
@@ -151,14 +151,11 @@ looks_unknown own part q u log f g same = ap (λ o. over_log o (formula_for q u.
 abbrev pub is_of : Candidate → ProofName → Bool
 is_of x name = same_candidate (candidate_of name) x
 
-never_itself : (x : Candidate) → Before x x → ⊥
-never_itself x b = candidates_apart x x b b
-
 other : (x y : Candidate) → Before x y → not (same_candidate y x) ≡ true
 other x y b = go (same_candidate y x) refl
   where
     go : (s : Bool) → same_candidate y x ≡ s → not s ≡ true
-    go true e = absurd (never_itself x (subst (λ z. Before x z) (same_is y x e) b))
+    go true e = absurd (Before-irrefl x (subst (λ z. Before x z) (same_is y x e) b))
     go false e = refl
 
 pub looks_own_refuted : (part : Part) (q : QuestionValue) (x : Candidate) → LooksAt (is_of x) (λ files. refuted_checked part q files x)

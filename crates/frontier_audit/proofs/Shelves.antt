@@ -1,7 +1,8 @@
 -- What a right shelf says, drawn out.
-use Rattle.std.proofs.Common.{◌≡◌}
-use Rattle.std.specs.Prelude.{Contains, Option, None, Some}
+use Rattle.std.proofs.Common.{◌≡◌, sym, ◌∙◌}
+use Rattle.std.specs.Prelude.{Contains, None}
 use Rattle.std.proofs.lemmas.List.Elements.{All-contains}
+use Rattle.std.proofs.lemmas.Option.{none-some}
 use Rattle.outer_ports.specs.declared.part.Part.{Part}
 use Rattle.outer_ports.specs.declared.proof_name.FileKind.TheVariants.{Cnf, Lrat, Partial}
 use Rattle.outer_ports.specs.Files.{Files}
@@ -13,9 +14,6 @@ use Rattle.report_form.specs.Reports.{ReportValue, question_of}
 use Rattle.candidate_formula.specs.Formulas.{formula_for}
 use Rattle.candidate_formula.specs.Files.{file_of, HasRefutation, HasLog}
 use Rattle.frontier_audit.specs.Shelves.{PartRight, ShelfRight}
-
-not_both : {A : Type 0} (o : Option A) (a : A) → o ≡ None → o ≡ Some a → ⊥
-not_both o a e f = absurd (cc)
 
 abbrev pub question : ReportValue → Part → QuestionValue
 question r part = question_of r.words r.topology part
@@ -34,13 +32,13 @@ log_of r files part f u right at of =
     All-contains (HasLog part (question r part) files) f.unknown u p.unknown of
 
 pub has_formula : (r : ReportValue) (files : Files) (part : Part) (f : FrontierValue) (x : Candidate) → ShelfRight r files → Contains r.frontiers (part, f) → Contains f.refuted x → files (file_of Cnf part x) ≡ None → ⊥
-has_formula r files part f x right at of e = let has = refutation_of r files part f x right at of in not_both _ _ e has.formula
+has_formula r files part f x right at of e = let has = refutation_of r files part f x right at of in none-some _ (sym e ∙ has.formula)
 
 pub has_proof : (r : ReportValue) (files : Files) (part : Part) (f : FrontierValue) (x : Candidate) → ShelfRight r files → Contains r.frontiers (part, f) → Contains f.refuted x → files (file_of Lrat part x) ≡ None → ⊥
-has_proof r files part f x right at of e = let has = refutation_of r files part f x right at of in not_both _ _ e has.holds.found
+has_proof r files part f x right at of e = let has = refutation_of r files part f x right at of in none-some _ (sym e ∙ has.holds.found)
 
 pub has_log : (r : ReportValue) (files : Files) (part : Part) (f : FrontierValue) (u : UnknownValue) → ShelfRight r files → Contains r.frontiers (part, f) → Contains f.unknown u → files (file_of Partial part u.candidate) ≡ None → ⊥
-has_log r files part f u right at of e = let has = log_of r files part f u right at of in not_both _ _ e has.holds.found
+has_log r files part f u right at of e = let has = log_of r files part f u right at of in none-some _ (sym e ∙ has.holds.found)
 
 pub unsatisfiable : (r : ReportValue) (files : Files) (part : Part) (f : FrontierValue) (x : Candidate) → ShelfRight r files → Contains r.frontiers (part, f) → Contains f.refuted x → Satisfiable (formula_for (question_of r.words r.topology part) x) → ⊥
 unsatisfiable r files part f x right at of s =

@@ -13,6 +13,7 @@ use Rattle.candidate_order.specs.Frontiers.{QuestionValue, IsWithin}
 use Rattle.report_form.specs.Tests.{is_before}
 use Rattle.send_encoding.proofs.Everywhere.{in_map, in_flat, From, in_range}
 use Rattle.send_encoding.proofs.Decoded.{any_range}
+use Rattle.send_encoding.proofs.Members.{kept}
 use Rattle.candidate_formula.specs.Counts.{counts_of}
 use Rattle.frontier_audit.specs.Candidates.{same_candidate, is_listed, candidates_of_step, put_in_order, in_search_order, candidates_within}
 
@@ -72,19 +73,11 @@ all_ordered P (x ∷ xs) a = all_put P x (in_search_order xs) (All-head P x xs a
 
 -- ---- each of them is within the limits
 
-all_passing : (P : ℕ → Type 0) (p : ℕ → Bool) (cs : List ℕ) → All P cs → All (λ c. P c × (p c ≡ true)) (filter p cs)
-all_passing P p [] a = All-nil (λ c. P c × (p c ≡ true))
-all_passing P p (c ∷ cs) a = chosen (p c) refl (all_passing P p cs (All-tail P c cs a))
-  where
-    chosen : (b : Bool) → b ≡ p c → All (λ n. P n × (p n ≡ true)) (filter p cs) → All (λ n. P n × (p n ≡ true)) (if b then c ∷ filter p cs else filter p cs)
-    chosen true e rest = All-cons (λ n. P n × (p n ≡ true)) c (filter p cs) (All-head P c cs a, sym e) rest
-    chosen false e rest = rest
-
 abbrev pub IsCountOf : QuestionValue → ℕ → Type 0
 IsCountOf q c = From 1 q.limits.max_c c × (allows (kind_in q.spec) q.topology.nodes c ≡ true)
 
 pub counts_allowed : (q : QuestionValue) → All (IsCountOf q) (counts_of q)
-counts_allowed q = all_passing (From 1 q.limits.max_c) (allows (kind_in q.spec) q.topology.nodes) (range_with_len 1 q.limits.max_c) (in_range 1 q.limits.max_c)
+counts_allowed q = kept (allows (kind_in q.spec) q.topology.nodes) (From 1 q.limits.max_c) (range_with_len 1 q.limits.max_c) (in_range 1 q.limits.max_c)
 
 pub step_within : (q : QuestionValue) (s : ℕ) → From 1 q.limits.max_s s → All (IsWithin q) (candidates_of_step q s)
 step_within q s step = in_flat (IsWithin q) (From s (q.limits.k + 1)) (λ r. map (λ c. candidate_at s (r, c)) (counts_of q)) (range_with_len s (q.limits.k + 1))

@@ -12,22 +12,22 @@ use Rattle.collective_spec.specs.declared.kind.Kind.TheVariants as kind
 use Rattle.collective_spec.specs.Patterns.{PatternValue}
 use Rattle.collective_spec.specs.Collectives.{IsSpec, adds_up, fits_kind, kind_in}
 use Rattle.collective_spec.proofs.Sized.{before_among, after_among, fitting_spec}
+use Rattle.collective_spec.proofs.Chunks.{chunks_some, few_base, chunks_few}
 use Rattle.candidate_order.specs.declared.candidate.Candidate.{Candidate}
 use Rattle.candidate_order.specs.Frontiers.{QuestionValue, FrontierValue, IsWithin, IsSolvable, RightFrontier, instance_for}
 use Rattle.candidate_order.specs.Ranges.{IsLimits}
 use Rattle.candidate_order.specs.Copied.{copied_spec, copied_question}
+use Rattle.candidate_order.proofs.Orders.{has_chunk}
 use Rattle.round_encoding.specs.Candidates.{IsCandidate}
 use Rattle.round_encoding.proofs.Obeyed.{all_map}
 use Rattle.inversion.proofs.Copied.{solvable_exactly}
 use Rattle.cnf_formula.specs.Formulas.{Satisfiable}
 use Rattle.report_form.specs.Reports.{ReportValue, IsReport, IsFrontier, parts_of, kind_of, question_of}
-use Rattle.report_form.proofs.ListsTaken.{has_chunk}
 use Rattle.frontier_audit.specs.declared.verdict.AuditVerdict.TheVariants.{Verified}
 use Rattle.candidate_formula.specs.Formulas.{formula_for}
-use Rattle.candidate_formula.proofs.Asked.{within_by, reduced_formula}
+use Rattle.candidate_formula.proofs.CopyingQuestions.{within_by, reduced_formula}
 use Rattle.candidate_formula.proofs.Copying.{copied_keeps, copies, same_allowed}
 use Rattle.candidate_formula.proofs.Exact.{exact_for}
-use Rattle.candidate_formula.proofs.Chunks.{chunks_some, chunks_few}
 use Rattle.frontier_audit.specs.Shelves.{ShelfRight}
 use Rattle.frontier_audit.specs.Auditing.{audit_of}
 use Rattle.frontier_audit.proofs.Shelves.{unsatisfiable, question}
@@ -72,7 +72,7 @@ candidate_for q x topology is limits w =
     let least = has_chunk q x w in
     let one : 0 < x.c = omega (arith, least) in
     let some = chunks_some q.spec nodes x.c is topology.some one in
-    let few = chunks_few q.spec nodes x.c is topology.few (let c = w.chunks in let most = limits.chunks in omega (arith, c, most)) in
+    let few = chunks_few q.spec nodes x.c topology.few (let c = w.chunks in let most = limits.chunks in omega (arith, c, most)) (few_base q.spec nodes is) in
     let steps = w.some_steps in
     let most_steps = w.steps in
     let rounds = w.rounds in

@@ -1,11 +1,9 @@
 -- Reports with the files beside them.
 use Rattle.std.specs.Prelude.{ℕ, ◌==◌, ◌&&◌, Bool, if◌then◌else◌, List, [], ◌∷◌, ◌++◌, None, Some, codes}
-use Rattle.outer_ports.specs.declared.part.Part.{Part}
-use Rattle.outer_ports.specs.declared.part.Part.TheVariants.{Whole, Reduce, Gather, Joined}
-use Rattle.outer_ports.specs.declared.proof_name.FileKind.{FileKind}
+use Rattle.outer_ports.specs.declared.part.Part.TheVariants.{Whole}
 use Rattle.outer_ports.specs.declared.proof_name.FileKind.TheVariants.{Cnf, Lrat, Partial}
 use Rattle.outer_ports.specs.declared.proof_name.ProofName.{ProofName}
-use Rattle.outer_ports.specs.Files.{Files}
+use Rattle.outer_ports.specs.Files.{Files, part_number, kind_number}
 use Rattle.schedule.specs.declared.hop.Hop.{Hop}
 use Rattle.schedule.specs.Placed.{PlacementValue}
 use Rattle.schedule.specs.Rows.{send}
@@ -15,23 +13,13 @@ use Rattle.candidate_order.specs.declared.mark.Mark.TheVariants.{Optimal}
 use Rattle.candidate_order.specs.Frontiers.{PointValue, UnknownValue}
 use Rattle.collective_spec.specs.declared.kind.Kind.{Kind}
 use Rattle.collective_spec.specs.declared.kind.Kind.TheVariants.{Custom}
+use Rattle.candidate_order.specs.Rows.{at}
 use Rattle.topology_text.specs.declared.family_kind.FamilyKind.TheVariants.{Ring}
 use Rattle.topology_text.specs.Family.{family_of}
 use Rattle.topology_text.specs.Value.{NamedTopologyValue}
 use Rattle.report_form.specs.Reports.{WordsValue, ReportValue}
 use Rattle.report_form.specs.Rows.{point, relay_report, allreduce_report}
 use Rattle.candidate_formula.specs.Files.{file_of}
-
-abbrev pub part_number : Part → ℕ
-part_number Whole = 0
-part_number Reduce = 1
-part_number Gather = 2
-part_number Joined = 3
-
-abbrev pub kind_number : FileKind → ℕ
-kind_number Cnf = 0
-kind_number Lrat = 1
-kind_number Partial = 2
 
 abbrev pub same_name : ProofName → ProofName → Bool
 same_name a b = kind_number a.kind == kind_number b.kind && part_number a.part == part_number b.part && a.s == b.s && a.r == b.r && a.c == b.c
@@ -41,12 +29,8 @@ abbrev pub shelf : List (ProofName × List ℕ) → Files
 shelf [] name = None
 shelf (entry ∷ entries) name = if same_name entry.0 name then Some entry.1 else shelf entries name
 
--- so many steps, rounds and chunks
-abbrev pub sized : ℕ → ℕ → ℕ → Candidate
-sized s r c = record { s = s; r = r; c = c }
-
 abbrev pub one_step : Candidate
-one_step = sized 1 1 1
+one_step = at 1 1 1
 
 -- a search of this kind, with so many extra rounds, steps and chunks
 abbrev pub words : Kind → ℕ → ℕ → ℕ → WordsValue
@@ -103,6 +87,6 @@ abbrev pub two_copies : List Hop → ReportValue
 two_copies sends = record {
   words = words Custom 0 1 2;
   topology = wide_link;
-  frontiers = (Whole, record { points = record { candidate = sized 1 1 2; schedule = record { rounds = 1 ∷ []; sends = sends }; mark = Optimal } ∷ []; refuted = []; unknown = [] }) ∷ [];
+  frontiers = (Whole, record { points = record { candidate = at 1 1 2; schedule = record { rounds = 1 ∷ []; sends = sends }; mark = Optimal } ∷ []; refuted = []; unknown = [] }) ∷ [];
   joined = [];
 }

@@ -7,7 +7,7 @@ ghost use Rattle.frontier_audit.specs.Solutions.{is_mark};
 ghost use Rattle.frontier_audit.specs.Beside.{denial_of};
 ghost use Rattle.frontier_audit.specs.Steps.{has_mark_among, is_bettered, is_given_up, is_left_answered, is_settled, left_checked, marked_among, unrefuted_among};
 
-use crate::asked::Asked;
+use crate::part_question::PartQuestion;
 use crate::verdict::Reason;
 use candidate_formula::allowed_counts;
 use candidate_order::{
@@ -18,7 +18,7 @@ use std::alloc::Global;
 /// The candidates within the limits that are not refuted, in the order of the search. The only error is `OutOfMemory`.
 pub(crate) fn unrefuted(
     alloc: Global,
-    asked: &Asked,
+    asked: &PartQuestion,
     refuted: &[Candidate],
 ) -> Result<Vec<Candidate>, OutOfMemory>
     ensures { IfOk result (λ left. left.items ≡ unrefuted_among refuted.now (candidates_within asked.now)) }

@@ -10,7 +10,7 @@ ghost use Rattle.frontier_audit.specs.Auditing.{refuted_checked, unknown_checked
 ghost use Rattle.frontier_audit.specs.Beside.{AnswersBeside};
 ghost use Rattle.frontier_audit.specs.Steps.{denial_for};
 
-use crate::asked::Asked;
+use crate::part_question::PartQuestion;
 use crate::verdict::Reason;
 use candidate_formula::file_name;
 use candidate_order::{Candidate, Unknown};
@@ -23,7 +23,7 @@ pub(crate) fn refuted_denied<H: Shelf>(
     alloc: Global,
     shelf: &mut H,
     part: Part,
-    asked: &Asked,
+    asked: &PartQuestion,
     refuted: &[Candidate],
 ) -> Result<Option<(Reason, Candidate)>, AuditFault>
     requires within { All (IsWithin asked.now) refuted.now }
@@ -47,7 +47,7 @@ fn refutation_denied<H: Shelf>(
     alloc: Global,
     shelf: &mut H,
     part: Part,
-    asked: &Asked,
+    asked: &PartQuestion,
     candidate: Candidate,
 ) -> Result<Option<(Reason, Candidate)>, AuditFault>
     requires { IsWithin asked.now candidate }
@@ -73,7 +73,7 @@ pub(crate) fn unknown_denied<H: Shelf>(
     alloc: Global,
     shelf: &mut H,
     part: Part,
-    asked: &Asked,
+    asked: &PartQuestion,
     unknown: &[Unknown],
 ) -> Result<Option<(Reason, Candidate)>, AuditFault>
     requires within { All (IsUnknown asked.now) unknown.now }
@@ -97,7 +97,7 @@ fn log_denied<H: Shelf>(
     alloc: Global,
     shelf: &mut H,
     part: Part,
-    asked: &Asked,
+    asked: &PartQuestion,
     unknown: &Unknown,
 ) -> Result<Option<(Reason, Candidate)>, AuditFault>
     requires { IsUnknown asked.now unknown.now }

@@ -10,6 +10,7 @@ ghost use Rattle.allreduce_join.specs.Joins.{Joins};
 ghost use Rattle.report_form.specs.Reports.{ReportValue, IsReport, question_of};
 ghost use Rattle.candidate_formula.specs.Formulas.{formula_for};
 ghost use Rattle.candidate_formula.specs.Files.{file_of};
+ghost use Rattle.frontier_audit.specs.OwedFiles.{Proves};
 ghost use Rattle.frontier_audit.specs.Shelves.{ShelfRight};
 ghost use Rattle.frontier_audit.specs.Rights.{IsRight};
 ghost use Rattle.frontier_audit.specs.Candidates.{candidates_within};
@@ -41,6 +42,11 @@ pub fn refuted_is_unsatisfiable()
 /// Where an audit finds nothing to deny, the shelf is right.
 pub fn verified_shelf_is_right()
     ensures { (r : ReportValue) (files : Files) → IsReport r → audit_of r files ≡ AuditVerdict.Verified → ShelfRight r files }
+{}
+
+/// Where the files prove a report as a search leaves them, the shelf is right.
+pub fn proving_files_are_right()
+    ensures { (r : ReportValue) (before after : Files) → Proves r before after → ShelfRight r after }
 {}
 
 /// The candidates that an audit goes through are just those within the limits, in the order of the search.

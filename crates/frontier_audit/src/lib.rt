@@ -2,11 +2,11 @@
 #![tactic(auto)]
 
 mod answered;
-mod asked;
 mod auditing;
 mod files;
 mod joins;
 mod laws;
+mod part_question;
 mod parts;
 mod solutions;
 mod vectors;
@@ -14,9 +14,9 @@ mod verdict;
 
 pub use auditing::audit;
 pub use laws::{
-    ascending_lists_are_told_by_their_members, candidates_are_those_within, refuted_has_files,
-    refuted_has_no_solution, refuted_is_unsatisfiable, right_is_verified, unknown_has_a_log,
-    verified_is_right, verified_shelf_is_right,
+    ascending_lists_are_told_by_their_members, candidates_are_those_within,
+    proving_files_are_right, refuted_has_files, refuted_has_no_solution, refuted_is_unsatisfiable,
+    right_is_verified, unknown_has_a_log, verified_is_right, verified_shelf_is_right,
 };
 pub use proof_audit::AuditFault;
 pub use vectors::{

@@ -11,8 +11,8 @@ ghost use Rattle.frontier_audit.specs.Beside.{AnswersBeside, denial_of};
 ghost use Rattle.frontier_audit.specs.Steps.{answers_checked, parts_checked};
 
 use crate::answered::{marks_denied, passed_over, unrefuted};
-use crate::asked::Asked;
 use crate::files::{refuted_denied, unknown_denied};
+use crate::part_question::PartQuestion;
 use crate::solutions::points_denied;
 use crate::verdict::Reason;
 use candidate_order::{Candidate, Frontier, OutOfMemory};
@@ -36,7 +36,7 @@ pub(crate) fn parts_denied<H: Shelf>(
     ensures kept { result ≢ Err AuditFault.ShelfFailed → H.faults shelf.new ≡ H.faults shelf.old }
 {
     for (part, frontier) in report.frontiers() {
-        let asked = Asked::of(report, *part)?;
+        let asked = PartQuestion::of(report, *part)?;
         if let Some(denial) = part_denied(alloc, shelf, *part, &asked, frontier)? {
             return Ok(Some((*part, denial)));
         }
@@ -49,7 +49,7 @@ fn part_denied<H: Shelf>(
     alloc: Global,
     shelf: &mut H,
     part: Part,
-    asked: &Asked,
+    asked: &PartQuestion,
     frontier: &Frontier,
 ) -> Result<Option<(Reason, Candidate)>, AuditFault>
     requires { IsFrontier asked.now frontier.now }
@@ -75,7 +75,7 @@ fn part_denied<H: Shelf>(
 /// is `OutOfMemory`.
 fn answers_denied(
     alloc: Global,
-    asked: &Asked,
+    asked: &PartQuestion,
     frontier: &Frontier,
 ) -> Result<Option<(Reason, Candidate)>, OutOfMemory>
     ensures { IfOk result (λ denied. denied ≡ denial_of (answers_checked asked.now frontier.now)) }

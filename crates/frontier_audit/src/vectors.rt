@@ -11,7 +11,8 @@ ghost use Rattle.candidate_formula.specs.Formulas.{formula_for};
 ghost use Rattle.candidate_formula.specs.Files.{file_of};
 ghost use Rattle.frontier_audit.specs.Candidates.{candidates_within};
 ghost use Rattle.frontier_audit.specs.Auditing.{audit_of};
-ghost use Rattle.frontier_audit.specs.Rows.{shelf, one_step, rest_of_one_step, cnf_of_one_step, proof_of_one_step, beside_one_step, log_of_one_step, sized, words, four_nodes, relay, joined_sends, allreduce, wide_link, two_copies};
+ghost use Rattle.candidate_order.specs.Rows.{at};
+ghost use Rattle.frontier_audit.specs.Rows.{shelf, one_step, rest_of_one_step, cnf_of_one_step, proof_of_one_step, beside_one_step, log_of_one_step, words, four_nodes, relay, joined_sends, allreduce, wide_link, two_copies};
 
 use crate::verdict::{AuditVerdict, Reason};
 use candidate_order::Mark;
@@ -48,10 +49,10 @@ pub fn relay_audited()
 /// The candidates within small limits, in the order of the search; an all-to-all takes only multiples of the nodes.
 pub fn candidates()
     ensures ring { candidates_within (question_of (words Kind.Allgather 1 3 2) four_nodes Part.Whole)
-        ≡ sized 1 1 2 ∷ sized 1 1 1 ∷ sized 1 2 2 ∷ sized 1 2 1
-        ∷ sized 2 2 2 ∷ sized 2 3 2 ∷ sized 2 2 1 ∷ sized 2 3 1
-        ∷ sized 3 3 2 ∷ sized 3 4 2 ∷ sized 3 3 1 ∷ sized 3 4 1 ∷ [] }
-    ensures alltoall { candidates_within (question_of (words Kind.Alltoall 0 1 9) four_nodes Part.Whole) ≡ sized 1 1 8 ∷ sized 1 1 4 ∷ [] }
+        ≡ at 1 1 2 ∷ at 1 1 1 ∷ at 1 2 2 ∷ at 1 2 1
+        ∷ at 2 2 2 ∷ at 2 3 2 ∷ at 2 2 1 ∷ at 2 3 1
+        ∷ at 3 3 2 ∷ at 3 4 2 ∷ at 3 3 1 ∷ at 3 4 1 ∷ [] }
+    ensures alltoall { candidates_within (question_of (words Kind.Alltoall 0 1 9) four_nodes Part.Whole) ≡ at 1 1 8 ∷ at 1 1 4 ∷ [] }
     ensures nothing { candidates_within (question_of (words Kind.Alltoall 1 2 3) four_nodes Part.Whole) ≡ [] }
 {}
 
@@ -86,24 +87,24 @@ pub fn altered_files_audited()
 /// An allreduce needs no file where nothing is refuted, and its joined points are the joins of its parts' points.
 pub fn allreduce_audited()
     ensures verified { audit_of allreduce_report (shelf []) ≡ AuditVerdict.Verified }
-    ensures join_lacks { audit_of (allreduce []) (shelf []) ≡ AuditVerdict.Denied Reason.JoinWrong Part.Joined (sized 2 2 1) }
-    ensures join_differs { audit_of (allreduce (point 2 3 (Mark.Joined 1) (2 ∷ 1 ∷ []) joined_sends ∷ [])) (shelf []) ≡ AuditVerdict.Denied Reason.JoinWrong Part.Joined (sized 2 2 1) }
-    ensures surplus { audit_of (allreduce (point 2 2 (Mark.Joined 1) (1 ∷ 1 ∷ []) joined_sends ∷ point 3 3 (Mark.Joined 1) (1 ∷ 1 ∷ 1 ∷ []) joined_sends ∷ [])) (shelf []) ≡ AuditVerdict.Denied Reason.JoinWrong Part.Joined (sized 3 3 1) }
+    ensures join_lacks { audit_of (allreduce []) (shelf []) ≡ AuditVerdict.Denied Reason.JoinWrong Part.Joined (at 2 2 1) }
+    ensures join_differs { audit_of (allreduce (point 2 3 (Mark.Joined 1) (2 ∷ 1 ∷ []) joined_sends ∷ [])) (shelf []) ≡ AuditVerdict.Denied Reason.JoinWrong Part.Joined (at 2 2 1) }
+    ensures surplus { audit_of (allreduce (point 2 2 (Mark.Joined 1) (1 ∷ 1 ∷ []) joined_sends ∷ point 3 3 (Mark.Joined 1) (1 ∷ 1 ∷ 1 ∷ []) joined_sends ∷ [])) (shelf []) ≡ AuditVerdict.Denied Reason.JoinWrong Part.Joined (at 3 3 1) }
 {}
 
 /// A pattern of one chunk: at the chunk count 2 both copies have to arrive, and the candidate of one copy costs no less.
 pub fn copies_audited()
     ensures verified { audit_of (two_copies (send 0 0 1 1 ∷ send 1 0 1 1 ∷ [])) (shelf []) ≡ AuditVerdict.Verified }
-    ensures one_lacks { audit_of (two_copies (send 0 0 1 1 ∷ [])) (shelf []) ≡ AuditVerdict.Denied Reason.ScheduleWrong Part.Whole (sized 1 1 2) }
-    ensures candidates { candidates_within (question_of (words Kind.Custom 0 1 2) wide_link Part.Whole) ≡ sized 1 1 2 ∷ sized 1 1 1 ∷ [] }
+    ensures one_lacks { audit_of (two_copies (send 0 0 1 1 ∷ [])) (shelf []) ≡ AuditVerdict.Denied Reason.ScheduleWrong Part.Whole (at 1 1 2) }
+    ensures candidates { candidates_within (question_of (words Kind.Custom 0 1 2) wide_link Part.Whole) ≡ at 1 1 2 ∷ at 1 1 1 ∷ [] }
 {}
 
 /// Where several checks fail, the first counts: schedules come before files, files before candidates and marks, and a
 /// formula before its proof.
 pub fn order_of_audit()
-    ensures schedule_before_files { audit_of (relay Mark.Open (send 0 0 2 2) (one_step ∷ []) []) (shelf []) ≡ AuditVerdict.Denied Reason.ScheduleWrong Part.Whole (sized 2 2 1) }
+    ensures schedule_before_files { audit_of (relay Mark.Open (send 0 0 2 2) (one_step ∷ []) []) (shelf []) ≡ AuditVerdict.Denied Reason.ScheduleWrong Part.Whole (at 2 2 1) }
     ensures files_before_mark { audit_of (relay Mark.Open (send 0 1 2 2) (one_step ∷ []) []) (shelf []) ≡ AuditVerdict.Denied Reason.ProofMissing Part.Whole one_step }
     ensures formula_before_proof { audit_of relay_report (shelf ((file_of FileKind.Cnf Part.Whole one_step, []) ∷ [])) ≡ AuditVerdict.Denied Reason.CnfDiffers Part.Whole one_step }
-    ensures refuted_before_unknown { audit_of (relay Mark.Open (send 0 1 2 2) (one_step ∷ []) (record { candidate = sized 2 2 1; conflicts = 1000 } ∷ [])) (beside_one_step cnf_of_one_step []) ≡ AuditVerdict.Denied Reason.ProofRefused Part.Whole one_step }
+    ensures refuted_before_unknown { audit_of (relay Mark.Open (send 0 1 2 2) (one_step ∷ []) (record { candidate = at 2 2 1; conflicts = 1000 } ∷ [])) (beside_one_step cnf_of_one_step []) ≡ AuditVerdict.Denied Reason.ProofRefused Part.Whole one_step }
     ensures candidates_before_marks { audit_of (relay Mark.Optimal (send 0 1 2 2) [] []) (shelf []) ≡ AuditVerdict.Denied Reason.CandidateMissing Part.Whole one_step }
 {}

@@ -8,7 +8,7 @@ use Rattle.candidate_order.specs.Frontiers.{QuestionValue, PointValue, UnknownVa
 use Rattle.report_form.specs.declared.fault.ReportCode.{ReportCode}
 use Rattle.report_form.specs.Points.{send_line, frontier_point_at, joined_point_at}
 use Rattle.report_form.specs.Reading.{refuted_line, unknown_line}
-use Rattle.frontier_report.specs.declared.halt.Halt.{Halt}
+use Rattle.frontier_report.specs.declared.report_stop.ReportStop.{ReportStop}
 use Rattle.frontier_report.specs.Gives.{Halts}
 use Rattle.frontier_report.specs.After.{send_after, refuted_after, unknown_after, point_after}
 
@@ -29,11 +29,11 @@ pub joined_read : (names : List (List ℕ)) (q : QuestionValue) (before : List P
 unfolding joined_point_at
 joined_read names q before p r e = e
 
-pub point_halts : (names : List (List ℕ)) (q : QuestionValue) (before : List PointValue) (last : Option Candidate) (p : Place) (halt : Halt) → last ≡ last_or None (map (λ x. x.candidate) before) → Halts halt (point_after names q last p) → Halts halt (frontier_point_at names q before p)
+pub point_halts : (names : List (List ℕ)) (q : QuestionValue) (before : List PointValue) (last : Option Candidate) (p : Place) (halt : ReportStop) → last ≡ last_or None (map (λ x. x.candidate) before) → Halts halt (point_after names q last p) → Halts halt (frontier_point_at names q before p)
 point_halts names q before last p halt same e =
     let P : Result (PointValue × Place) (ReportCode × ℕ) → Type 0 = λ r. Halts halt r in
     subst P (sym (point_read names q before last p (point_after names q last p) same refl)) e
 
-pub joined_halts : (names : List (List ℕ)) (q : QuestionValue) (before : List PointValue) (p : Place) (halt : Halt) → Halts halt (joined_point_at names q [] p) → Halts halt (joined_point_at names q before p)
+pub joined_halts : (names : List (List ℕ)) (q : QuestionValue) (before : List PointValue) (p : Place) (halt : ReportStop) → Halts halt (joined_point_at names q [] p) → Halts halt (joined_point_at names q before p)
 unfolding joined_point_at
 joined_halts names q before p halt e = e

@@ -4,8 +4,8 @@ use Rattle.text_lines.specs.Text.{Row, Place}
 use Rattle.text_lines.specs.Check.{first}
 use Rattle.report_form.specs.declared.fault.ReportCode.{ReportCode}
 use Rattle.report_form.specs.Lines.{row_begins, parts_from}
-use Rattle.frontier_report.specs.declared.halt.Halt.{Halt}
-use Rattle.frontier_report.specs.declared.halt.Halt.TheVariants.{Memory, Refused}
+use Rattle.frontier_report.specs.declared.report_stop.ReportStop.{ReportStop}
+use Rattle.frontier_report.specs.declared.report_stop.ReportStop.TheVariants.{Memory, Refused}
 use Rattle.frontier_report.specs.Gives.{Halts}
 use Rattle.frontier_report.proofs.Turns.{ended}
 
@@ -33,7 +33,7 @@ module _ {A : Type 0} (word : List ℕ) (check : List A → Place → Result (A 
       sym g ∙ ap (λ k. parts_from word check k before p) m ∙ here
 
   -- a part is refused, or memory runs out
-  pub parts_halt : (halt : Halt) (most left : ℕ) (before : List A) (p : Place) (b : Bool) (all : Result (List A × Place) (ReportCode × ℕ)) → b ≡ row_begins word (first p.rows) → b ≡ true → Halts halt (check before p) → parts_from word check most before p ≡ all → most ≡ suc left → Halts halt all
+  pub parts_halt : (halt : ReportStop) (most left : ℕ) (before : List A) (p : Place) (b : Bool) (all : Result (List A × Place) (ReportCode × ℕ)) → b ≡ row_begins word (first p.rows) → b ≡ true → Halts halt (check before p) → parts_from word check most before p ≡ all → most ≡ suc left → Halts halt all
   parts_halt Memory most left before p b all t y e g m = tt
   parts_halt (Refused fault) most left before p b all t y e g m = parts_stop most left before p (fault.code, fault.line) b all t y e g m
 

@@ -10,8 +10,8 @@ use Rattle.report_form.specs.declared.fault.ReportCode.{ReportCode}
 use Rattle.report_form.specs.declared.fault.ReportCode.TheVariants as code
 use Rattle.report_form.specs.Lines.{among, blamed, whole_line}
 use Rattle.report_form.specs.Reading.{is_same}
-use Rattle.frontier_report.specs.declared.halt.Halt.{Halt}
-use Rattle.frontier_report.specs.declared.halt.Halt.TheVariants.{Memory, Refused}
+use Rattle.frontier_report.specs.declared.report_stop.ReportStop.{ReportStop}
+use Rattle.frontier_report.specs.declared.report_stop.ReportStop.TheVariants.{Memory, Refused}
 
 -- the header, of the report's version
 abbrev pub header_at : List Row → Bool → Place → Result Place (ReportCode × ℕ)
@@ -21,9 +21,9 @@ header_at rows patterned p = do
   Ok header.1
 
 -- a refusal of the topology's text, as one of the report's
-abbrev pub halted : List ℕ → Stop (TopologyCode × ℕ) → Halt
-halted text stop.Memory = Memory
-halted text (stop.Refused e) = Refused (record { code = blamed (whole_line (slice_get (rows_of text) (e.1 - 1))); line = e.1 })
+abbrev pub stop_of : List ℕ → Stop (TopologyCode × ℕ) → ReportStop
+stop_of text stop.Memory = Memory
+stop_of text (stop.Refused e) = Refused (record { code = blamed (whole_line (slice_get (rows_of text) (e.1 - 1))); line = e.1 })
 
 -- each line that a topology may have has a number that fits, and so has the one after the last
 abbrev pub HasMuchRoom : Place → Type 0

@@ -8,9 +8,9 @@ ghost use Rattle.frontier_report.specs.Bodies.{body_value};
 ghost use Rattle.frontier_report.specs.Gives.{Reads};
 ghost use Rattle.report_lines.specs.Room.{HasRoom, Onward};
 
-use crate::halt::Halt;
 use crate::listed::{refuted_part, unknown_part};
 use crate::points::{joined_points_part, points_part};
+use crate::report_stop::ReportStop;
 use candidate_order::{Frontier, Point};
 use collective_spec::Kind;
 use indexmap::IndexSet;
@@ -58,7 +58,7 @@ fn frontier_part(
     lines: &mut Lines<'_>,
     names: &IndexSet<Name>,
     question: &Question<'_>,
-) -> Result<Frontier, Halt>
+) -> Result<Frontier, ReportStop>
     requires same { lines.old.text ≡ text.now }
     requires room { HasRoom lines.old.place }
     requires few { length names.now.keys ≤ 16 }
@@ -83,7 +83,7 @@ fn frontiers_of(
     words: Words,
     topology: &NamedTopology,
     parts: &[Part],
-) -> Result<Vec<(Part, Frontier)>, Halt>
+) -> Result<Vec<(Part, Frontier)>, ReportStop>
     requires same { lines.old.text ≡ text.now }
     requires room { HasRoom lines.old.place }
     requires few { length names.now.keys ≤ 16 }
@@ -115,7 +115,7 @@ fn joined_part(
     names: &IndexSet<Name>,
     words: Words,
     topology: &NamedTopology,
-) -> Result<Vec<Point>, Halt>
+) -> Result<Vec<Point>, ReportStop>
     requires same { lines.old.text ≡ text.now }
     requires room { HasRoom lines.old.place }
     requires few { length names.now.keys ≤ 16 }
@@ -148,7 +148,7 @@ pub fn body_part(
     names: &IndexSet<Name>,
     words: Words,
     topology: &NamedTopology,
-) -> Result<Body, Halt>
+) -> Result<Body, ReportStop>
     requires same { lines.old.text ≡ text.now }
     requires room { HasRoom lines.old.place }
     requires few { length names.now.keys ≤ 16 }

@@ -2,10 +2,10 @@
 #![tactic(auto)]
 
 mod frontiers;
-mod halt;
 mod listed;
 mod points;
 mod reading;
+mod report_stop;
 mod rounds;
 mod sends;
 mod topology;

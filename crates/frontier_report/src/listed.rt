@@ -10,7 +10,7 @@ ghost use Rattle.frontier_report.specs.Gives.{Reads};
 ghost use Rattle.text_lines.specs.Check.{Tells};
 ghost use Rattle.report_lines.specs.Room.{HasRoom, Onward};
 
-use crate::halt::Halt;
+use crate::report_stop::ReportStop;
 use candidate_order::{Candidate, Unknown};
 use report_form::{ReportCode, ReportFault};
 use report_lines::{
@@ -49,7 +49,7 @@ pub fn refuted_part(
     text: &[u8],
     lines: &mut Lines<'_>,
     question: &Question<'_>,
-) -> Result<Vec<Candidate>, Halt>
+) -> Result<Vec<Candidate>, ReportStop>
     requires same { lines.old.text ≡ text.now }
     requires room { HasRoom lines.old.place }
     ensures read { Reads (λ v. (v.items, lines.new.place)) result (lines_at (codes "refuted ") (refuted_line (asks question.now)) lines.old.place) }
@@ -68,7 +68,7 @@ pub fn refuted_part(
                 last = Some(candidate);
             }
             Err(code) => {
-                return Err(Halt::Refused(ReportFault {
+                return Err(ReportStop::Refused(ReportFault {
                     code,
                     line: line.number,
                 }));
@@ -113,7 +113,7 @@ pub fn unknown_part(
     text: &[u8],
     lines: &mut Lines<'_>,
     question: &Question<'_>,
-) -> Result<Vec<Unknown>, Halt>
+) -> Result<Vec<Unknown>, ReportStop>
     requires same { lines.old.text ≡ text.now }
     requires room { HasRoom lines.old.place }
     ensures read { Reads (λ v. (v.items, lines.new.place)) result (lines_at (codes "unknown ") (unknown_line (asks question.now)) lines.old.place) }
@@ -132,7 +132,7 @@ pub fn unknown_part(
                 unknown.push(candidate)?;
             }
             Err(code) => {
-                return Err(Halt::Refused(ReportFault {
+                return Err(ReportStop::Refused(ReportFault {
                     code,
                     line: line.number,
                 }));

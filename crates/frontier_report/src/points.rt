@@ -9,7 +9,7 @@ ghost use Rattle.frontier_report.specs.Gives.{Reads};
 ghost use Rattle.report_lines.specs.Heads.{head_value};
 ghost use Rattle.report_lines.specs.Room.{HasRoom, Onward};
 
-use crate::halt::Halt;
+use crate::report_stop::ReportStop;
 use crate::rounds::rounds_part;
 use crate::sends::{Extent, sends_part};
 use candidate_order::{Candidate, Point};
@@ -29,7 +29,7 @@ fn schedule_part(
     names: &IndexSet<Name>,
     question: &Question<'_>,
     head: Head,
-) -> Result<Point, Halt>
+) -> Result<Point, ReportStop>
     requires same { lines.old.text ≡ text.now }
     requires room { HasRoom lines.old.place }
     requires few { length names.now.keys ≤ 16 }
@@ -59,7 +59,7 @@ fn point_part(
     names: &IndexSet<Name>,
     question: &Question<'_>,
     last: Option<Candidate>,
-) -> Result<Point, Halt>
+) -> Result<Point, ReportStop>
     requires same { lines.old.text ≡ text.now }
     requires room { HasRoom lines.old.place }
     requires few { length names.now.keys ≤ 16 }
@@ -80,7 +80,7 @@ pub fn points_part(
     lines: &mut Lines<'_>,
     names: &IndexSet<Name>,
     question: &Question<'_>,
-) -> Result<Vec<Point>, Halt>
+) -> Result<Vec<Point>, ReportStop>
     requires same { lines.old.text ≡ text.now }
     requires room { HasRoom lines.old.place }
     requires few { length names.now.keys ≤ 16 }
@@ -110,7 +110,7 @@ fn joined_point_part(
     lines: &mut Lines<'_>,
     names: &IndexSet<Name>,
     question: &Question<'_>,
-) -> Result<Point, Halt>
+) -> Result<Point, ReportStop>
     requires same { lines.old.text ≡ text.now }
     requires room { HasRoom lines.old.place }
     requires few { length names.now.keys ≤ 16 }
@@ -131,7 +131,7 @@ pub fn joined_points_part(
     lines: &mut Lines<'_>,
     names: &IndexSet<Name>,
     question: &Question<'_>,
-) -> Result<Vec<Point>, Halt>
+) -> Result<Vec<Point>, ReportStop>
     requires same { lines.old.text ≡ text.now }
     requires room { HasRoom lines.old.place }
     requires few { length names.now.keys ≤ 16 }

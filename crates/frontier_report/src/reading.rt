@@ -10,7 +10,7 @@ ghost use Rattle.frontier_report.specs.Bodies.{parts_value};
 ghost use Rattle.frontier_report.specs.Gives.{Reads};
 
 use crate::frontiers::{Body, body_part};
-use crate::halt::Halt;
+use crate::report_stop::ReportStop;
 use crate::topology::{groups_in, header_at, names_at, pattern_in, root_at};
 use collective_spec::Collective;
 use report_form::{Report, ReportCode, ReportFault, Words};
@@ -28,7 +28,7 @@ struct Parts {
 }
 
 #[tactic(auto, unfolding(report_form::specs::Reading::report_of))]
-fn parts_of(alloc: Global, text: &[u8]) -> Result<Parts, Halt>
+fn parts_of(alloc: Global, text: &[u8]) -> Result<Parts, ReportStop>
     requires { length text.now < 2 ^ 31 }
     ensures { Reads parts_value result (report_of text.now) }
 {
@@ -66,11 +66,11 @@ fn answered(alloc: Global, bytes: &[u8]) -> Result<Report, ReportFault>
             parts.body.frontiers,
             parts.body.joined,
         )),
-        Err(Halt::Memory) => Err(ReportFault {
+        Err(ReportStop::Memory) => Err(ReportFault {
             code: ReportCode::OutOfMemory,
             line: 0,
         }),
-        Err(Halt::Refused(fault)) => Err(fault),
+        Err(ReportStop::Refused(fault)) => Err(fault),
     }
 }
 

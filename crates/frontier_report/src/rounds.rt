@@ -8,7 +8,7 @@ ghost use Rattle.report_form.specs.Points.{are_rounds, numbers_from, rounds_line
 ghost use Rattle.frontier_report.specs.Gives.{Reads};
 ghost use Rattle.report_lines.specs.Room.{HasRoom, Onward};
 
-use crate::halt::Halt;
+use crate::report_stop::ReportStop;
 use candidate_order::Candidate;
 use report_form::{ReportCode, ReportFault};
 use report_lines::{fixed_word, next_line, small_number, tokens_on};
@@ -101,7 +101,7 @@ pub fn rounds_part(
     text: &[u8],
     lines: &mut Lines<'_>,
     candidate: Candidate,
-) -> Result<Vec<u8>, Halt>
+) -> Result<Vec<u8>, ReportStop>
     requires same { lines.old.text ≡ text.now }
     requires room { HasRoom lines.old.place }
     ensures read { Reads (λ v. (v.items, lines.new.place)) result (line_part (rounds_line candidate) lines.old.place) }
@@ -111,8 +111,8 @@ pub fn rounds_part(
     let line = next_line(lines)?;
     match rounds_on(alloc, text, line, candidate) {
         Ok(rounds) => Ok(rounds),
-        Err(Stop::Memory) => Err(Halt::Memory),
-        Err(Stop::Refused(code)) => Err(Halt::Refused(ReportFault {
+        Err(Stop::Memory) => Err(ReportStop::Memory),
+        Err(Stop::Refused(code)) => Err(ReportStop::Refused(ReportFault {
             code,
             line: line.number,
         })),

@@ -11,7 +11,7 @@ ghost use Rattle.text_lines.specs.Check.{Tells};
 ghost use Rattle.report_lines.specs.Room.{HasRoom, Onward};
 ghost use Rattle.frontier_report.specs.Wide.{hop_of};
 
-use crate::halt::Halt;
+use crate::report_stop::ReportStop;
 use indexmap::IndexSet;
 use report_form::{ReportCode, ReportFault};
 use report_lines::{begins, fixed_word, next_node, next_number, no_more, tokens_on};
@@ -124,7 +124,7 @@ pub fn sends_part(
     lines: &mut Lines<'_>,
     names: &IndexSet<Name>,
     extent: Extent,
-) -> Result<Vec<Hop>, Halt>
+) -> Result<Vec<Hop>, ReportStop>
     requires same { lines.old.text ≡ text.now }
     requires room { HasRoom lines.old.place }
     requires few { length names.now.keys ≤ 16 }
@@ -145,7 +145,7 @@ pub fn sends_part(
                 last = Some(hop);
             }
             Err(code) => {
-                return Err(Halt::Refused(ReportFault {
+                return Err(ReportStop::Refused(ReportFault {
                     code,
                     line: line.number,
                 }));

@@ -5,14 +5,14 @@ ghost use Rattle.text_lines.specs.Text.{rows_of};
 ghost use Rattle.text_lines.specs.Check.{at_line, line_part};
 ghost use Rattle.collective_spec.specs.Patterns.{IsPattern};
 ghost use Rattle.topology_text.specs.Reading.{groups_at, header_line, nodes_line, pattern_at};
-ghost use Rattle.report_form.specs.Asked.{root_of};
+ghost use Rattle.report_form.specs.SynthLine.{root_of};
 ghost use Rattle.report_form.specs.Lines.{among, blamed, whole_line};
 ghost use Rattle.frontier_report.specs.Gives.{Reads};
 ghost use Rattle.report_lines.specs.Gives.{TellsAt};
-ghost use Rattle.frontier_report.specs.Header.{halted, header_at, HasMuchRoom};
+ghost use Rattle.frontier_report.specs.Header.{stop_of, header_at, HasMuchRoom};
 ghost use Rattle.report_lines.specs.Room.{Onward};
 
-use crate::halt::Halt;
+use crate::report_stop::ReportStop;
 use collective_spec::Pattern;
 use indexmap::IndexSet;
 use report_form::{ReportCode, ReportFault};
@@ -47,12 +47,12 @@ fn among(text: &[u8], fault: (TopologyCode, u32)) -> ReportFault
     }
 }
 
-fn halted(text: &[u8], stop: Stop<(TopologyCode, u32)>) -> Halt
-    ensures { result ≡ halted text.now stop }
+fn stop_of(text: &[u8], stop: Stop<(TopologyCode, u32)>) -> ReportStop
+    ensures { result ≡ stop_of text.now stop }
 {
     match stop {
-        Stop::Memory => Halt::Memory,
-        Stop::Refused(fault) => Halt::Refused(among(text, fault)),
+        Stop::Memory => ReportStop::Memory,
+        Stop::Refused(fault) => ReportStop::Refused(among(text, fault)),
     }
 }
 
@@ -80,7 +80,11 @@ pub fn header_at(text: &[u8], lines: &mut Lines<'_>, patterned: bool) -> Result<
 }
 
 /// Takes the names of the nodes.
-pub fn names_at(alloc: Global, text: &[u8], lines: &mut Lines<'_>) -> Result<IndexSet<Name>, Halt>
+pub fn names_at(
+    alloc: Global,
+    text: &[u8],
+    lines: &mut Lines<'_>,
+) -> Result<IndexSet<Name>, ReportStop>
     requires same { lines.old.text ≡ text.now }
     requires room { HasMuchRoom lines.old.place }
     ensures read { Reads (λ names. (names.keys, lines.new.place)) result (among (rows_of text.now) (line_part nodes_line lines.old.place)) }
@@ -90,7 +94,7 @@ pub fn names_at(alloc: Global, text: &[u8], lines: &mut Lines<'_>) -> Result<Ind
 {
     match nodes_part(alloc, text, lines) {
         Ok(names) => Ok(names),
-        Err(stop) => Err(halted(text, stop)),
+        Err(stop) => Err(stop_of(text, stop)),
     }
 }
 
@@ -117,7 +121,7 @@ pub fn groups_in(
     text: &[u8],
     lines: &mut Lines<'_>,
     names: &IndexSet<Name>,
-) -> Result<Vec<Group>, Halt>
+) -> Result<Vec<Group>, ReportStop>
     requires same { lines.old.text ≡ text.now }
     requires room { HasMuchRoom lines.old.place }
     requires few { length names.now.keys ≤ 16 }
@@ -127,7 +131,7 @@ pub fn groups_in(
 {
     match groups_part(alloc, text, names, lines) {
         Ok(groups) => Ok(groups),
-        Err(stop) => Err(halted(text, stop)),
+        Err(stop) => Err(stop_of(text, stop)),
     }
 }
 
@@ -138,7 +142,7 @@ pub fn pattern_in(
     lines: &mut Lines<'_>,
     patterned: bool,
     names: &IndexSet<Name>,
-) -> Result<Option<Pattern>, Halt>
+) -> Result<Option<Pattern>, ReportStop>
     requires same { lines.old.text ≡ text.now }
     requires room { HasMuchRoom lines.old.place }
     requires few { length names.now.keys ≤ 16 }
@@ -149,6 +153,6 @@ pub fn pattern_in(
 {
     match pattern_part(alloc, text, patterned, names, lines) {
         Ok(pattern) => Ok(pattern),
-        Err(stop) => Err(halted(text, stop)),
+        Err(stop) => Err(stop_of(text, stop)),
     }
 }

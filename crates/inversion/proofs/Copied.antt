@@ -22,10 +22,7 @@ use Rattle.candidate_order.specs.declared.candidate.Candidate.{Candidate}
 use Rattle.candidate_order.specs.Ranges.{LimitsValue}
 use Rattle.candidate_order.specs.Frontiers.{QuestionValue, IsSolvable, instance_for}
 use Rattle.candidate_order.specs.Copied.{copied_kind, copied_question, copied_spec}
-use Rattle.inversion.proofs.Reducing.{root_alone, root_some, scattered_alone, scattered_some}
-
-abbrev question : Kind → ℕ → TopologyValue → LimitsValue → QuestionValue
-question k root t limits = record { topology = t; spec = spec.Standard (record { kind = k; root = root }); limits = limits }
+use Rattle.inversion.proofs.Reducing.{question, root_alone, root_some, scattered_alone, scattered_some}
 
 instance_at : (k : Kind) (root : ℕ) (t : TopologyValue) (limits : LimitsValue) (x : Candidate) → k ≢ kind.Allreduce → instance_for (copied_question (question k root t limits)) x ≡ instance_for (question k root t limits) x
 instance_at kind.Broadcast root t limits x single = refl

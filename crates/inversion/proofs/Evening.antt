@@ -15,6 +15,7 @@ use Rattle.bag_runs.specs.Stores.{StoreValue, bag_in, bags_in, stored}
 use Rattle.bag_runs.specs.Kept.{counted}
 use Rattle.bag_runs.proofs.Counting.{counted_at}
 use Rattle.bag_runs.proofs.Tables.{table_cell}
+use Rattle.bag_runs.proofs.Merging.{min_none}
 use Rattle.inversion.specs.declared.verdict.SumVerdict.{SumVerdict}
 use Rattle.inversion.specs.declared.verdict.SumVerdict.TheVariants as verdict
 use Rattle.inversion.specs.Judging.{count_of, counts_due, counts_judged, first_uneven}
@@ -40,9 +41,6 @@ uneven_told s chunk node nodes counts same is = ap (uneven_node counts) same ∙
 
 capped_one : (n : ℕ) → eqb (min n 2) 1 ≡ eqb n 1
 capped_one n = grind (arith, nat_tests)
-
-capped_none : (n : ℕ) → eqb (min n 2) 0 ≡ eqb n 0
-capped_none n = grind (arith, nat_tests)
 
 held_at : (bag : Bag) (node : ℕ) → get_or (held_at_2 bag) node 0 ≡ min (get_or bag node 0) 2
 held_at [] node = refl
@@ -135,7 +133,7 @@ module _ (s : StoreValue) (demand : PlacementValue) (placement : IsPlacement dem
         sym (counted_at s.nodes counts due.2 place.of)
         ∙ ap (λ bag. get_or bag due.2 0) (of_bag ∙ bag_held s bags (due.0, due.1) kept place.pair)
         ∙ held_at (bags (due.0, due.1)) due.2 in
-        ap (λ b. said b due) (sym is ∙ ap (λ n. eqb n 0) count ∙ capped_none (count_of bags due)) ∙ ap (counts_judged bags) (found ∙ uneven_alike s bags demand.pairs kept inside)
+        ap (λ b. said b due) (sym is ∙ ap (λ n. eqb n 0) count ∙ min_none (count_of bags due)) ∙ ap (counts_judged bags) (found ∙ uneven_alike s bags demand.pairs kept inside)
 
     -- it is 0
     pub said_missing : (due : ℕ × ℕ × ℕ) (counts : List ℕ) → Some due ≡ first_uneven (bags_in s) s.nodes demand.pairs → counted s.nodes counts ≡ bag_in s due.0 due.1 → get_or counts due.2 0 ≡ 0

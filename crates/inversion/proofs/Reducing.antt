@@ -57,7 +57,7 @@ scattered_some chunks nodes some chunk c =
 
 -- ---- the two questions
 
-abbrev question : Kind → ℕ → TopologyValue → LimitsValue → QuestionValue
+abbrev pub question : Kind → ℕ → TopologyValue → LimitsValue → QuestionValue
 question k root t limits = record { topology = t; spec = spec.Standard (record { kind = k; root = root }); limits = limits }
 
 module _ (layout : Layout) (chunks : ℕ) (t : TopologyValue) (steps rounds : ℕ) where

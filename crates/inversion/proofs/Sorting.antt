@@ -11,6 +11,7 @@ use Rattle.std.proofs.lemmas.Bool.{and_parts, and_from, cases_Bool, both_ways, n
 use Rattle.std.proofs.lemmas.List.Elements.{recursion_from_All}
 use Rattle.std.proofs.lemmas.List.Sorted.{Contains-permutation, IsPermutation-sym, sorted_far}
 use Rattle.std.proofs.lemmas.Map.Keys.{IsDistinct-IsPermutation, IsDistinct-cons, apart_from_distinct}
+use Rattle.std.proofs.Math.Bool.{and_comm}
 use Rattle.schedule.specs.declared.hop.Hop.{Hop}
 use Rattle.schedule.specs.Sends.{ScheduleValue, IsSchedule, IsStep, hop_before}
 use Rattle.schedule.specs.Inverse.{in_order, inverse_hop, inverse_of}
@@ -18,7 +19,6 @@ use Rattle.schedule.proofs.First.{Among-from_Contains, Contains-from_Among, InOr
 use Rattle.schedule.proofs.HopOrder.{Apart, among_in_order, ascending_apart, before_all, in_order_among, neither_before}
 use Rattle.schedule.proofs.Inverting.{apart_inverses, one_order, valid_inverse}
 use Rattle.schedule.proofs.Verdicts.{sends_one_way}
-use Rattle.schedule.proofs.Turning.{and_turned}
 use Rattle.inversion.specs.Order.{hop_cmp}
 
 -- ---- the comparison tells the order
@@ -109,7 +109,7 @@ sorted_ascends xs ys apart moved sorted i j d before within =
     let a : Hop = get_or ys i d in
     let b : Hop = get_or ys j d in
     let later : comes b a ≡ false = sorted_far comes comes_is_order ys sorted i j d (omega (arith, before)) within in
-    let other : tie a b ≡ false = apart_from_distinct tie ys i j d (IsDistinct-IsPermutation tie (λ x y. and_turned (not (hop_before x y)) (not (hop_before y x))) xs ys moved (distinct xs apart)) before within in
+    let other : tie a b ≡ false = apart_from_distinct tie ys i j d (IsDistinct-IsPermutation tie (λ x y. and_comm (not (hop_before x y)) (not (hop_before y x))) xs ys moved (distinct xs apart)) before within in
     before_or_tie a b (sym (comes_is b a) ∙ later) other
 
 -- ---- the sends of the inverse

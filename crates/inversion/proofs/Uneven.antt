@@ -1,21 +1,15 @@
 -- The first uneven count, row by row and node by node.
-use Rattle.std.proofs.Common.{◌≡◌, ℕ, ◌+◌, ◌-◌, ◌<◌, ◌≤◌, Bool, true, false, not, cond, eqb, List, [], ◌∷◌, ◌++◌, map, get_or, Option, Some, None, refl, sym, ap, ◌∙◌}
+use Rattle.std.proofs.Common.{◌≡◌, ℕ, ◌+◌, ◌-◌, ◌<◌, ◌≤◌, Bool, true, false, not, cond, eqb, List, ◌∷◌, ◌++◌, map, get_or, Option, Some, None, refl, sym, ap, ◌∙◌}
 use Rattle.std.specs.List.{filter, find, flat_map, range_with_len}
 use Rattle.std.specs.Option.{option_map, option_or}
 use Rattle.std.proofs.lemmas.List.Elements.{filter-append}
 use Rattle.std.proofs.lemmas.List.Concat.{flat_map-append}
 use Rattle.std.proofs.lemmas.List.Folds.{find-append}
+use Rattle.list_laws.proofs.Tests.{find-map}
 use Rattle.schedule.specs.Placed.{PlacementValue, IsPlacement, all_pairs, holds}
 use Rattle.schedule.specs.Bags.{Bag, Bags}
 use Rattle.schedule.proofs.Grids.{range_more, range_none, rows_from, rows_start}
 use Rattle.inversion.specs.Judging.{count_of, counts_due, first_uneven}
-
--- the first that passes, of what a function makes
-pub find_made : {X Y : Type 0} (test : Y → Bool) (f : X → Y) (xs : List X) → find test (map f xs) ≡ option_map f (find (λ x. test (f x)) xs)
-find_made test f [] = refl
-find_made test f (x ∷ xs) =
-    elim (test (f x)) as (λ b. cond b (Some (f x)) (find test (map f xs)) ≡ option_map f (cond b (Some x) (find (λ y. test (f y)) xs)))
-    [ true ↦ refl | false ↦ find_made test f xs ]
 
 -- the first node that has not contributed to the bag exactly once
 abbrev pub uneven_node : Bag → ℕ → Option ℕ
@@ -26,7 +20,7 @@ pub uneven_cons : (bags : Bags) (nodes : ℕ) (pair : ℕ × ℕ) (pairs : List 
 uneven_cons bags nodes pair pairs =
     let test : ℕ × ℕ × ℕ → Bool = λ due. not (eqb (count_of bags due) 1) in
     find-append test (map (λ node. (pair.0, pair.1, node)) (range_with_len 0 nodes)) (counts_due nodes pairs)
-    ∙ ap (λ first. option_or first (first_uneven bags nodes pairs)) (find_made test (λ node. (pair.0, pair.1, node)) (range_with_len 0 nodes))
+    ∙ ap (λ first. option_or first (first_uneven bags nodes pairs)) (find-map test (λ node. (pair.0, pair.1, node)) (range_with_len 0 nodes))
 
 dues_split : (nodes : ℕ) (xs ys : List (ℕ × ℕ)) → counts_due nodes (xs ++ ys) ≡ counts_due nodes xs ++ counts_due nodes ys
 dues_split nodes xs ys = flat_map-append (λ pair. map (λ node. (pair.0, pair.1, node)) (range_with_len 0 nodes)) xs ys

@@ -12,6 +12,7 @@ use Rattle.collective_spec.specs.Collectives.{chunks_in}
 use Rattle.collective_spec.specs.Kinds.{takes_root, word_of}
 use Rattle.collective_spec.specs.declared.kind.Kind.{Kind}
 use Rattle.collective_spec.specs.declared.kind.Kind.TheVariants as kind
+use Rattle.collective_spec.proofs.Chunks.{FewBase, chunks_few}
 use Rattle.candidate_order.specs.declared.candidate.Candidate.{Candidate}
 use Rattle.candidate_order.specs.declared.mark.Mark.{Mark}
 use Rattle.candidate_order.specs.declared.mark.Mark.TheVariants as mark
@@ -20,7 +21,7 @@ use Rattle.candidate_order.specs.Frontiers.{QuestionValue, PointValue, UnknownVa
 use Rattle.topology_text.specs.Names.{is_name}
 use Rattle.topology_text.specs.Spelling.{name_at}
 use Rattle.report_form.specs.Reports.{HasSchedule, IsFrontier, IsJoinedPoint, IsPoint, IsReport, ReportValue, WordsValue, question_of}
-use Rattle.report_laws.proofs.PointsAgain.{FewBase, base_of, chunks_few}
+use Rattle.report_laws.proofs.PointsAgain.{base_of}
 use Rattle.serde_json.specs.Data.{string}
 use Rattle.serde_json.specs.View.{items_of}
 use Rattle.json_values.specs.Json.{count_of, object_of}

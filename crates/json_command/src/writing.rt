@@ -9,7 +9,7 @@ ghost use Rattle.run_rules.specs.Tasks.{json_asked, json_programs_in, limit};
 use crate::OutOfMemory;
 use command_words::{JsonWhat, PointWord, WordCode};
 use json_exchange::{programs_json, report_json, topology_json};
-use point_replay::point_programs;
+use replay_text::point_programs;
 use report_form::{Report, point_at};
 use run_rules::{Answer, ReportText, Status, bad_topology, refused_word, report_of_text};
 use std::alloc::Global;

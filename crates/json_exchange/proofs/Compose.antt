@@ -5,7 +5,7 @@ use Rattle.std.proofs.lemmas.Bool.{ne_eqb}
 use Rattle.std.proofs.lemmas.List.{append-nil}
 use Rattle.std.proofs.lemmas.Grind.{flat_map-append}
 use Rattle.text_lines.specs.declared.stop.Stop.{Stop}
-use Rattle.text_lines.specs.Text.{line, text_of}
+use Rattle.text_lines.specs.Text.{line, text_of, fields}
 use Rattle.text_lines.proofs.Words.{join_fields}
 use Rattle.serde_json.specs.Data.{Data, Items}
 use Rattle.serde_json.specs.Events.{items_len}
@@ -15,7 +15,7 @@ use Rattle.json_values.specs.TopologyJson.{field}
 use Rattle.json_rules.specs.ReportJson.{number_in, counts_in, kind_in, keyed_in, root_in, keyed_words_in, none_in}
 use Rattle.serde_json.specs.View.{items_view}
 use Rattle.serde_json.specs.declared.value.Value.{Value}
-use Rattle.json_values.specs.Appends.{Appends, fields}
+use Rattle.json_values.specs.Appends.{Appends}
 use Rattle.json_values.proofs.Parts.{behind_front}
 use Rattle.json_values.proofs.Lines.{not_mapped}
 

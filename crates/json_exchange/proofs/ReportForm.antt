@@ -23,13 +23,14 @@ use Rattle.collective_spec.specs.Collectives.{chunks_in}
 use Rattle.schedule.specs.Sends.{is_hop_below}
 use Rattle.schedule.proofs.First.{each_weaker}
 use Rattle.std.proofs.lemmas.Bool.{and_parts, ltb-true}
+use Rattle.list_laws.proofs.Each.{each_always}
 use Rattle.report_form.specs.Spelling.{synth_words, point_lines, rounds_words, send_words, refuted_words, unknown_words, frontier_lines, joined_lines, report_lines}
 use Rattle.serde_json.specs.Data.{Data, string}
 use Rattle.json_values.specs.Json.{array_of, count_of}
 use Rattle.json_values.specs.Shape.{◌>>=◌, ◌⊕◌, one, list_in, lines_in, name_in}
 use Rattle.json_values.specs.TopologyJson.{topology_json}
 use Rattle.json_rules.specs.ReportJson.{send_json, point_json, points_json, candidate_json, unknown_json, frontier_json, words_json, report_json, word_in, number_in, rounds_in, send_in, refuted_in, unknown_in, point_in, frontier_in, words_in, joins_in, joined_in, title_in, report_in}
-use Rattle.json_values.proofs.TopologyForm.{each_made, of_all, name_there, topology_form}
+use Rattle.json_values.proofs.TopologyForm.{each_made, name_there, topology_form}
 
 -- what holds of each is what the list has
 list_made : {X A : Type 0} (shape : Data → Option A) (make : X → Data) (shown : X → A) (xs : List X) → AllByRecursion (λ x. shape (make x) ≡ Some (shown x)) xs → list_in shape (array_of (map make xs)) ≡ Some (map shown xs)
@@ -43,7 +44,7 @@ lines_made : {X : Type 0} (shape : Data → Option (List (List (List ℕ)))) (ma
 lines_made shape make shown xs h = ap (λ o. o >>= λ items. Some (flat_map (λ lines. lines) items)) (each_made shape make shown xs h) ∙ ap Some (joined_lists shown xs)
 
 rounds_found : (rounds : List ℕ) → rounds_in (array_of (map count_of rounds)) ≡ Some (rounds_words rounds)
-rounds_found rounds = ap (λ o. o >>= λ r. Some (codes "rounds" ∷ r)) (list_made number_in count_of decimal rounds (of_all _ (λ n. refl) rounds))
+rounds_found rounds = ap (λ o. o >>= λ r. Some (codes "rounds" ∷ r)) (list_made number_in count_of decimal rounds (each_always _ (λ n. refl) rounds))
 
 -- the sends are of nodes that have a name
 abbrev SendsBelow : List (List ℕ) → PointValue → Type 0
@@ -75,10 +76,10 @@ module _ (names : List (List ℕ)) (named : AreNames names) where
   points_found points below = lines_made point_in (point_json names) (point_lines names) points (each_weaker _ _ point_found points below)
 
   refuted_found : (list : List Candidate) → list_in refuted_in (array_of (map candidate_json list)) ≡ Some (map refuted_words list)
-  refuted_found list = list_made refuted_in candidate_json refuted_words list (of_all _ (λ x. refl) list)
+  refuted_found list = list_made refuted_in candidate_json refuted_words list (each_always _ (λ x. refl) list)
 
   unknown_found : (list : List UnknownValue) → list_in unknown_in (array_of (map unknown_json list)) ≡ Some (map unknown_words list)
-  unknown_found list = list_made unknown_in unknown_json unknown_words list (of_all _ (λ x. refl) list)
+  unknown_found list = list_made unknown_in unknown_json unknown_words list (each_always _ (λ x. refl) list)
 
   frontier_parts : (part : Option (List (List ℕ))) (points refuted unknown : Option (List (List (List ℕ)))) (a : List (List ℕ)) (b c d : List (List (List ℕ))) → part ≡ Some a → points ≡ Some b → refuted ≡ Some c → unknown ≡ Some d
       → (one part ⊕ points ⊕ refuted ⊕ unknown) ≡ Some (a ∷ (b ++ (c ++ d)))

@@ -4,7 +4,7 @@ use Rattle.std.specs.Prelude.{codes, decimal, bytes_eq, if◌then◌else◌, IfS
 use Rattle.std.specs.List.{AllByRecursion, list_any}
 use Rattle.std.specs.Cmp.Lexicographic.{bytes_decides}
 use Rattle.std.proofs.lemmas.Bool.{or_cases}
-use Rattle.text_lines.specs.Text.{line, text_of}
+use Rattle.text_lines.specs.Text.{line, text_of, fields}
 use Rattle.collective_spec.specs.Kinds.{word_of, every_kind}
 use Rattle.serde_json.specs.Data.{Data, null, boolean, number, string, array, object, Items, no_items, item}
 use Rattle.serde_json.specs.Events.{items_len}
@@ -12,7 +12,7 @@ use Rattle.serde_json.specs.Find.{get}
 use Rattle.json_values.specs.Size.{size}
 use Rattle.json_values.specs.Shape.{◌>>=◌, ◌⊕◌, one, each_in, list_in, lines_in, count_in, name_in, has_keys}
 use Rattle.json_values.specs.TopologyJson.{field, version_in, topology_in}
-use Rattle.json_values.specs.Appends.{fields, texts_in, token_text, line_text}
+use Rattle.json_values.specs.Appends.{texts_in, token_text, line_text}
 use Rattle.json_values.specs.Answer.{text_of_json}
 use Rattle.json_values.proofs.Lines.{parts_listed}
 use Rattle.json_values.proofs.Short.{AtMost, Short, some_size, at_least, decimal_short, name_short, list_short, whole_list, within, field_short, line_length, after_both, one_short, if_short, text_short}

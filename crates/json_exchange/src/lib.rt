@@ -1,7 +1,6 @@
 //! Topologies, reports and programs as JSON: written, and topologies and reports read back.
 #![tactic(auto)]
 
-mod asked_line;
 mod frontier_lines;
 mod laws;
 mod number_lines;
@@ -9,6 +8,7 @@ mod point_lines;
 mod programs;
 mod report_reading;
 mod report_writing;
+mod synth_line;
 mod token;
 mod vectors;
 

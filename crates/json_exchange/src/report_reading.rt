@@ -12,9 +12,9 @@ ghost use Rattle.json_values.specs.Answer.{Answers};
 ghost use Rattle.json_rules.specs.ReportJson.{title_in, joined_in, end_in, results_in, body_in, rest_in, report_text_in};
 ghost use Rattle.json_rules.specs.Answer.{report_of_json};
 
-use crate::asked_line::{joins_in, push_words};
 use crate::frontier_lines::FrontierLines;
 use crate::point_lines::PointLines;
+use crate::synth_line::{joins_in, push_words};
 use frontier_report::read_report;
 use json_values::{
     JsonCode, JsonFault, Piece, TopologyLines, has_keys, items_in, push_list, text_in, version_in,

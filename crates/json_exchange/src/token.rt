@@ -1,8 +1,7 @@
 //! Lines, token by token.
 
 ghost use Rattle.std.specs.Prelude.{◌≡◌, [], ◌∷◌, ◌++◌, map, OnOk};
-ghost use Rattle.text_lines.specs.Text.{line};
-ghost use Rattle.json_values.specs.Appends.{fields};
+ghost use Rattle.text_lines.specs.Text.{line, fields};
 ghost use Rattle.json_exchange.specs.Tokens.{token_bytes};
 
 use std::alloc::AllocError;

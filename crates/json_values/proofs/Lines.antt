@@ -6,11 +6,10 @@ use Rattle.std.proofs.lemmas.Grind.{flat_map-append}
 use Rattle.std.proofs.lemmas.List.{append-nil}
 use Rattle.text_lines.specs.declared.stop.Stop.{Stop}
 use Rattle.text_lines.specs.declared.stop.Stop.TheVariants.{Memory, Refused}
-use Rattle.text_lines.specs.Text.{line, text_of}
+use Rattle.text_lines.specs.Text.{line, text_of, fields}
 use Rattle.text_lines.proofs.Words.{join_fields}
 use Rattle.serde_json.specs.Data.{Data, Items, no_items, item}
 use Rattle.serde_json.specs.Find.{as_array}
-use Rattle.topology_text.proofs.Printed.{fields}
 use Rattle.json_values.specs.Shape.{◌>>=◌, each_in, list_in, lines_in}
 use Rattle.json_values.specs.Appends.{Appends, texts_in, token_text, line_text}
 

@@ -5,10 +5,11 @@ use Rattle.std.proofs.lemmas.Grind.{flat_map-append}
 use Rattle.text_lines.specs.declared.stop.Stop.{Stop}
 use Rattle.text_lines.specs.declared.stop.Stop.TheVariants.{Memory, Refused}
 use Rattle.text_lines.specs.Text.{line, text_of}
+use Rattle.topology_text.specs.Spelling.{head_words}
 use Rattle.serde_json.specs.Data.{Data}
 use Rattle.serde_json.specs.Find.{get}
 use Rattle.json_values.specs.Shape.{◌>>=◌, list_in, name_in, has_keys}
-use Rattle.json_values.specs.TopologyJson.{header_line, group_in, keys_of, version_in, pattern_in, parts_in, topology_in}
+use Rattle.json_values.specs.TopologyJson.{group_in, keys_of, version_in, pattern_in, parts_in, topology_in}
 use Rattle.json_values.specs.Fields.{topology_fields}
 use Rattle.json_values.specs.Appends.{Appends}
 
@@ -27,7 +28,7 @@ line_before first (Some ls) = refl
 -- ---- a topology
 
 abbrev pub parts : Bool → Option (List (List ℕ)) → Option (List (List (List ℕ))) → Option (List (List (List ℕ))) → Option (List (List (List ℕ)))
-parts p names groups custom = names >>= λ n. groups >>= λ g. custom >>= λ c. Some (header_line p ∷ (codes "nodes" ∷ n) ∷ g ++ c)
+parts p names groups custom = names >>= λ n. groups >>= λ g. custom >>= λ c. Some (head_words p ∷ (codes "nodes" ∷ n) ∷ g ++ c)
 
 abbrev two_fields : Option Data → Option Data → Option (Data × Data)
 two_fields nodes groups = nodes >>= λ n. groups >>= λ g. Some (n, g)
@@ -69,7 +70,7 @@ no_groups p (Some n) None custom h = refl
 no_groups p (Some n) (Some g) custom h = absurd cc
 
 abbrev pub front_lines : Bool → List (List ℕ) → List (List (List ℕ))
-front_lines p names = header_line p ∷ (codes "nodes" ∷ names) ∷ []
+front_lines p names = head_words p ∷ (codes "nodes" ∷ names) ∷ []
 
 joined : (p : Bool) (n : List (List ℕ)) (g : List (List (List ℕ))) (custom : Option (List (List (List ℕ)))) → option_map (λ t. (text_of (front_lines p n) ++ text_of g) ++ t) (option_map text_of custom) ≡ option_map text_of (parts p (Some n) (Some g) custom)
 joined p n g None = refl

@@ -10,13 +10,13 @@ use Rattle.schedule.proofs.First.{each_weaker}
 use Rattle.collective_spec.specs.Patterns.{PatternValue, IsPattern}
 use Rattle.topology_text.specs.Names.{is_name, AreNames}
 use Rattle.topology_text.specs.Value.{NamedTopologyValue, IsNamed}
-use Rattle.topology_text.specs.Spelling.{name_at, link_word, header_words, nodes_words, group_words, holder_words, custom_lines, lines_of}
+use Rattle.topology_text.specs.Spelling.{name_at, link_word, header_words, nodes_words, group_words, holder_words, custom_lines, lines_of, head_words}
 use Rattle.serde_json.specs.Data.{Data, string, Items}
 use Rattle.serde_json.specs.Events.{items_len}
 use Rattle.serde_json.specs.View.{items_of}
 use Rattle.json_values.specs.Json.{array_of}
 use Rattle.json_values.specs.Shape.{◌>>=◌, each_in, list_in, name_in}
-use Rattle.json_values.specs.TopologyJson.{link_json, group_json, holders_json, custom_json, topology_json, link_in, group_in, holder_line, chunk_lines, custom_in, topology_in, header_line}
+use Rattle.json_values.specs.TopologyJson.{link_json, group_json, holders_json, custom_json, topology_json, link_in, group_in, holder_line, chunk_lines, custom_in, topology_in}
 
 -- where each item that is made has the shape, so has the list
 pub each_made : {X A : Type 0} (shape : Data → Option A) (make : X → Data) (shown : X → A) (xs : List X) → AllByRecursion (λ x. shape (make x) ≡ Some (shown x)) xs → each_in shape (items_of (map make xs)) ≡ Some (map shown xs)
@@ -24,10 +24,6 @@ each_made shape make shown [] h = refl
 each_made shape make shown (x ∷ xs) h =
     ap (λ o. o >>= λ y. each_in shape (items_of (map make xs)) >>= λ ys. Some (y ∷ ys)) h.0
     ∙ ap (λ o. o >>= λ ys. Some (shown x ∷ ys)) (each_made shape make shown xs h.1)
-
-pub of_all : {X : Type 0} (Q : X → Type 0) → ((x : X) → Q x) → (xs : List X) → AllByRecursion Q xs
-of_all Q f [] = tt
-of_all Q f (x ∷ xs) = (f x, of_all Q f xs)
 
 pub name_found : (name : List ℕ) → is_name name ≡ true → name_in (string name) ≡ Some name
 name_found name h = ap (λ b. if b then Some name else None) h
@@ -102,10 +98,10 @@ module _ (names : List (List ℕ)) (named : AreNames names) where
   names_found list each = each_made name_in string (λ n. n) list (each_weaker _ _ name_found list (recursion_from_All _ list each))
 
 abbrev parts : Bool → Option (List (List ℕ)) → Option (List (List (List ℕ))) → Option (List (List (List ℕ))) → Option (List (List (List ℕ)))
-parts patterned names groups custom = names >>= λ n. groups >>= λ g. custom >>= λ c. Some (header_line patterned ∷ (codes "nodes" ∷ n) ∷ g ++ c)
+parts patterned names groups custom = names >>= λ n. groups >>= λ g. custom >>= λ c. Some (head_words patterned ∷ (codes "nodes" ∷ n) ∷ g ++ c)
 
 found_parts : (patterned : Bool) (names : List (List ℕ)) (groups custom : List (List (List ℕ))) (n : Option (List (List ℕ))) (g c : Option (List (List (List ℕ)))) → n ≡ Some names → g ≡ Some groups → c ≡ Some custom
-    → parts patterned n g c ≡ Some (header_line patterned ∷ (codes "nodes" ∷ names) ∷ groups ++ custom)
+    → parts patterned n g c ≡ Some (head_words patterned ∷ (codes "nodes" ∷ names) ∷ groups ++ custom)
 found_parts patterned names groups custom n g c a b d = ap (λ o. parts patterned o g c) a ∙ ap (λ o. parts patterned (Some names) o c) b ∙ ap (λ o. parts patterned (Some names) (Some groups) o) d
 
 with_custom : (names : List (List ℕ)) (nodes : ℕ) (groups : List GroupValue) (custom : Option PatternValue) → AreNames names → All (λ group. All (IsBelow (length names)) group.links) groups → IfSome custom (λ p. (p.before.nodes ≤ length names) × (p.after.nodes ≤ length names))

@@ -1,14 +1,15 @@
 -- How long the text is that the JSON of a topology stands for.
 use Rattle.std.proofs.Common.{◌≡◌, ℕ, ◌+◌, ◌*◌, ◌≤◌, Bool, true, false, List, [], ◌∷◌, ◌++◌, length, Option, Some, None, option_map, subst, arith, length-append}
 use Rattle.std.specs.Prelude.{codes, decimal, IfSome}
-use Rattle.text_lines.specs.Text.{line, text_of}
+use Rattle.text_lines.specs.Text.{line, text_of, fields}
+use Rattle.topology_text.specs.Spelling.{head_words}
 use Rattle.serde_json.specs.Data.{Data, null, boolean, number, string, array, object, Items, no_items, item}
 use Rattle.serde_json.specs.Events.{items_len}
 use Rattle.serde_json.specs.Find.{as_array, get}
 use Rattle.json_values.specs.Size.{size, items_size}
 use Rattle.json_values.specs.Shape.{◌>>=◌, list_in, count_in, name_in, has_keys}
-use Rattle.json_values.specs.TopologyJson.{pair_in, link_in, field, group_in, holder_line, chunk_lines, custom_in, version_in, keys_of, pattern_in, header_line, parts_in, topology_text_in}
-use Rattle.json_values.specs.Appends.{fields, texts_in, token_text, line_text}
+use Rattle.json_values.specs.TopologyJson.{pair_in, link_in, field, group_in, holder_line, chunk_lines, custom_in, version_in, keys_of, pattern_in, parts_in, topology_text_in}
+use Rattle.json_values.specs.Appends.{texts_in, token_text, line_text}
 use Rattle.json_values.proofs.Lines.{tokens_listed, lines_listed}
 use Rattle.json_values.proofs.Short.{AtMost, Short, some_size, at_least, decimal_short, name_short, list_short, whole_list, within, field_short, line_length, if_short}
 
@@ -132,17 +133,17 @@ pattern_short true d = field_short 216 (codes "custom") custom_in text_of custom
 
 -- ---- the whole
 
-header_length : (p : Bool) → length (line (header_line p)) ≡ 11
+header_length : (p : Bool) → length (line (head_words p)) ≡ 11
 header_length false = omega arith
 header_length true = omega arith
 
 parts_of : (n : ℕ) (p : Bool) (names : Option (List (List ℕ))) (groups custom : Option (List (List (List ℕ)))) → 1 ≤ n → AtMost 0 (65 * n) (option_map fields names) → AtMost 0 (140 * n) (option_map text_of groups) → AtMost 0 (216 * n) (option_map text_of custom)
-    → AtMost 0 (440 * n) (option_map text_of (names >>= λ ns. groups >>= λ gs. custom >>= λ cs. Some (header_line p ∷ (codes "nodes" ∷ ns) ∷ gs ++ cs)))
+    → AtMost 0 (440 * n) (option_map text_of (names >>= λ ns. groups >>= λ gs. custom >>= λ cs. Some (head_words p ∷ (codes "nodes" ∷ ns) ∷ gs ++ cs)))
 parts_of n p None groups custom h a b c = tt
 parts_of n p (Some ns) None custom h a b c = tt
 parts_of n p (Some ns) (Some gs) None h a b c = tt
 parts_of n p (Some ns) (Some gs) (Some cs) h a b c =
-    let header = line (header_line p) in
+    let header = line (head_words p) in
     let nodes = line (codes "nodes" ∷ ns) in
     omega (arith, header_length p, line_length (codes "nodes") ns, length-append header (nodes ++ text_of (gs ++ cs)), length-append nodes (text_of (gs ++ cs)), texts gs cs)
   where

@@ -24,7 +24,3 @@ token_text token d = option_map (λ w. 32 ∷ w) (token d)
 -- the line of these tokens
 abbrev pub line_text : (Data → Option (List (List ℕ))) → Data → Option (List ℕ)
 line_text tokens d = option_map line (tokens d)
-
--- a space before each token
-abbrev pub fields : List (List ℕ) → List ℕ
-fields tokens = flat_map (λ w. 32 ∷ w) tokens

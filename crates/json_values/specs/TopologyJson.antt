@@ -9,7 +9,7 @@ use Rattle.serde_json.specs.Find.{as_array, get}
 use Rattle.serde_json.specs.Events.{items_len}
 use Rattle.text_lines.specs.Text.{text_of}
 use Rattle.topology_text.specs.Value.{NamedTopologyValue}
-use Rattle.topology_text.specs.Spelling.{name_at}
+use Rattle.topology_text.specs.Spelling.{name_at, head_words}
 use Rattle.json_values.specs.Json.{array_of, object_of, count_of}
 use Rattle.json_values.specs.Shape.{◌>>=◌, list_in, count_in, name_in, has_keys}
 
@@ -110,16 +110,12 @@ abbrev pub pattern_in : Bool → Data → Option (List (List (List ℕ)))
 pattern_in false d = Some []
 pattern_in true d = field (codes "custom") custom_in d
 
-abbrev pub header_line : Bool → List (List ℕ)
-header_line false = codes "topology" ∷ codes "1" ∷ []
-header_line true = codes "topology" ∷ codes "2" ∷ []
-
 abbrev pub parts_in : Bool → Data → Option (List (List (List ℕ)))
 parts_in patterned d = if has_keys (keys_of patterned) d then (do
   names ← field (codes "nodes") (list_in name_in) d
   groups ← field (codes "groups") (list_in group_in) d
   custom ← pattern_in patterned d
-  Some (header_line patterned ∷ (codes "nodes" ∷ names) ∷ groups ++ custom)) else None
+  Some (head_words patterned ∷ (codes "nodes" ∷ names) ∷ groups ++ custom)) else None
 
 abbrev pub topology_in : Data → Option (List (List (List ℕ)))
 topology_in d = do

@@ -5,10 +5,10 @@ ghost use Rattle.text_lines.specs.Text.{text_of, line};
 ghost use Rattle.serde_json.specs.Data.{Data};
 ghost use Rattle.serde_json.specs.View.{view, items_view};
 ghost use Rattle.topology_text.specs.Value.{IsNamed};
-ghost use Rattle.topology_text.specs.Spelling.{spelling};
+ghost use Rattle.topology_text.specs.Spelling.{spelling, head_words};
 ghost use Rattle.json_values.specs.Json.{value_of};
 ghost use Rattle.json_values.specs.Shape.{name_in, list_in, has_keys};
-ghost use Rattle.json_values.specs.TopologyJson.{link_in, group_in, holder_line, chunk_lines, custom_in, version_in, keys_of, pattern_in, header_line, topology_text_in};
+ghost use Rattle.json_values.specs.TopologyJson.{link_in, group_in, holder_line, chunk_lines, custom_in, version_in, keys_of, pattern_in, topology_text_in};
 ghost use Rattle.json_values.specs.Fields.{group_fields, custom_fields, topology_fields};
 ghost use Rattle.json_values.specs.Appends.{Appends, token_text, line_text};
 ghost use Rattle.json_values.specs.Answer.{topology_of_json, Answers};
@@ -196,7 +196,7 @@ fn topology_fields(value: &Value, patterned: bool) -> Option<(&Value, &Value)>
 
 /// The line of the header, and the first token of the next.
 fn front_of(patterned: bool) -> &'static [u8]
-    ensures { result.now ≡ line (header_line patterned) ++ codes "nodes" }
+    ensures { result.now ≡ line (head_words patterned) ++ codes "nodes" }
 {
     if patterned {
         b"topology 2\nnodes"
@@ -207,7 +207,7 @@ fn front_of(patterned: bool) -> &'static [u8]
 
 /// Appends the lines of the header and of the names.
 fn push_front(out: &mut Vec<u8>, patterned: bool, nodes: &Value) -> Result<(), Stop<()>>
-    ensures { Appends result out.old.items out.new.items (option_map (λ names. text_of (header_line patterned ∷ (codes "nodes" ∷ names) ∷ [])) (list_in name_in (view nodes.now))) }
+    ensures { Appends result out.old.items out.new.items (option_map (λ names. text_of (head_words patterned ∷ (codes "nodes" ∷ names) ∷ [])) (list_in name_in (view nodes.now))) }
 {
     push_word(out, front_of(patterned))?;
     push_list::<NameToken>(out, nodes)?;

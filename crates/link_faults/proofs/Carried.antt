@@ -10,9 +10,9 @@ use Rattle.collective_spec.specs.declared.spec.Spec.TheVariants as spec
 use Rattle.collective_spec.specs.Collectives.{chunks_of, spec_instance, spec_demand, ends_of, after, adds_up}
 use Rattle.collective_spec.specs.Layouts.{stands}
 use Rattle.collective_spec.specs.Patterns.{in_copies}
+use Rattle.collective_spec.proofs.Chunks.{chunks_more}
 use Rattle.candidate_order.specs.declared.candidate.Candidate.{Candidate}
 use Rattle.candidate_order.specs.Frontiers.{QuestionValue, Achievable, IsSolvable}
-use Rattle.candidate_formula.proofs.Chunks.{chunks_more}
 use Rattle.link_faults.specs.Narrowed.{narrowed}
 use Rattle.link_faults.specs.Carrying.{Carries, HasFewRounds, narrowed_question}
 use Rattle.link_faults.proofs.Fitting.{fits_before}

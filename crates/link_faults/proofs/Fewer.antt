@@ -6,7 +6,6 @@ use Rattle.std.proofs.lemmas.Bool.{false≢true, and_parts, and_from, or_cases, 
 use Rattle.std.proofs.lemmas.Nat.{mul-le}
 use Rattle.std.proofs.lemmas.List.Elements.{All-filter, filter_passes, All-from_recursion, All-weaker, recursion_from_All}
 use Rattle.std.proofs.lemmas.List.Kept.{AllPairs-filter}
-use Rattle.std.proofs.lemmas.List.Sums.{sum_by-cons}
 use Rattle.schedule.specs.declared.hop.Hop.{Hop}
 use Rattle.schedule.specs.Links.{TopologyValue, has_link, is_usable}
 use Rattle.schedule.specs.Placed.{PlacementValue, holds, placed, same_pair, all_pairs}
@@ -18,15 +17,13 @@ use Rattle.schedule.proofs.First.{each_filter}
 use Rattle.schedule.proofs.Placing.{IsBelow, all_below, holds-placed, pair_is}
 use Rattle.schedule.proofs.Stepping.{chunks-after, nodes-after}
 use Rattle.inversion.proofs.Firsts.{counted_kept}
+use Rattle.round_encoding.proofs.Rounds.{sum_cons}
 
 -- ---- rounds to spare, which the first step takes
 
 abbrev pub with_spare : ℕ → List ℕ → List ℕ
 with_spare spare [] = []
 with_spare spare (r ∷ rounds) = (r + spare) ∷ rounds
-
-sum_cons : (r : ℕ) (rounds : List ℕ) → sum (r ∷ rounds) ≡ r + sum rounds
-sum_cons r rounds = sum_by-cons (λ x. x) r rounds
 
 pub length_spare : (spare : ℕ) (rounds : List ℕ) → length (with_spare spare rounds) ≡ length rounds
 length_spare spare [] = refl

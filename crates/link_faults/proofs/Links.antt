@@ -5,6 +5,7 @@ use Rattle.std.specs.List.{list_any, AllByRecursion}
 use Rattle.std.proofs.lemmas.Bool.{false≢true, and_parts, cases_Bool, or_cases, or_left, or_right, lt-ltb, not-true}
 use Rattle.std.proofs.lemmas.List.Sums.{sum_by-cons}
 use Rattle.std.proofs.lemmas.Map.Views.{any-filter_same}
+use Rattle.std.proofs.Math.Bool.{and-false}
 use Rattle.schedule.specs.declared.hop.Hop.{Hop}
 use Rattle.schedule.specs.Links.{GroupValue, has_link, same_link}
 use Rattle.schedule.specs.Sends.{link_of}
@@ -52,10 +53,6 @@ same_load lost group step (h ∷ sends) none =
     ∙ ap (λ n. cond (eqb h.step step && has_link group (link_of h)) 1 0 + n) rest
     ∙ sym (sum_by-cons (λ x. cond (eqb x.step step && has_link group (link_of x)) 1 0) h sends)
 
-and_false : (b : Bool) → (b && false) ≡ false
-and_false true = refl
-and_false false = refl
-
 -- a group without links carries nothing
 pub no_load : (group : GroupValue) (step : ℕ) (sends : List Hop) → has_links group ≡ false → load group step sends ≡ 0
 no_load group step [] none = refl
@@ -63,7 +60,7 @@ no_load group step (h ∷ sends) none =
     let empty : has_link group (link_of h) ≡ false = without_links group.links none in
     sum_by-cons (λ x. cond (eqb x.step step && has_link group (link_of x)) 1 0) h sends
     ∙ ap (λ b. cond (eqb h.step step && b) 1 0 + load group step sends) empty
-    ∙ ap (λ b. cond {A = ℕ} b 1 0 + load group step sends) (and_false (eqb h.step step))
+    ∙ ap (λ b. cond {A = ℕ} b 1 0 + load group step sends) (and-false (eqb h.step step))
     ∙ ap (λ n. 0 + n) (no_load group step sends none)
   where
     without_links : (links : List (ℕ × ℕ)) → has_links (record { links = links; width = group.width }) ≡ false → list_any (same_link (link_of h)) links ≡ false

@@ -4,9 +4,9 @@ use Rattle.std.specs.Prelude.{◌≢◌, filter, not, slice_set, All}
 use Rattle.std.specs.List.{list_any}
 use Rattle.std.proofs.lemmas.List.{length-map}
 use Rattle.std.proofs.lemmas.List.Elements.{All-weaker}
+use Rattle.std.proofs.Math.Bool.{and_comm}
 use Rattle.schedule.specs.Links.{GroupValue, TopologyValue, has_link, same_link, turned, reversed_group, reversed_of}
 use Rattle.schedule.specs.Judging.{group_at}
-use Rattle.schedule.proofs.Turning.{and_turned}
 use Rattle.collective_spec.specs.declared.kind.Kind.TheVariants as kind
 use Rattle.collective_spec.specs.Collectives.{IsSpec, adds_up, kind_in}
 use Rattle.candidate_order.specs.declared.candidate.Candidate.{Candidate}
@@ -19,7 +19,7 @@ use Rattle.link_faults.specs.Carrying.{IsOldRefuted, narrowed_question}
 any_turned : (link : ℕ × ℕ) (links : List (ℕ × ℕ)) → list_any (same_link (turned link)) (map turned links) ≡ list_any (same_link link) links
 any_turned link [] = refl
 any_turned link (l ∷ links) =
-    ap (λ b. b || list_any (same_link (turned link)) (map turned links)) (and_turned (eqb link.1 l.1) (eqb link.0 l.0))
+    ap (λ b. b || list_any (same_link (turned link)) (map turned links)) (and_comm (eqb link.1 l.1) (eqb link.0 l.0))
     ∙ ap (λ b. same_link link l || b) (any_turned link links)
 
 links_turned : (lost : GroupValue) (links : List (ℕ × ℕ)) → filter (λ link. not (has_link (reversed_group lost) link)) (map turned links) ≡ map turned (filter (λ link. not (has_link lost link)) links)

@@ -5,6 +5,7 @@ use Rattle.std.proofs.lemmas.Bool.{cases_Bool, cases_eq, and_parts}
 use Rattle.std.proofs.lemmas.List.{get_or-set_same, get_or-set_other, length-set}
 use Rattle.std.proofs.lemmas.List.Elements.{filter_passes}
 use Rattle.cnf_formula.specs.Literals.{LitValue, code_of}
+use Rattle.lrat_checker.specs.declared.leads.LedClause.{LedClause}
 use Rattle.lrat_checker.specs.Stored.{list_at, is_held, kept_live, IsStored}
 use Rattle.lrat_checker.proofs.Placed.{live_within}
 use Rattle.lrat_checker.proofs.Removed.{among, kept_at, kept_long}
@@ -37,7 +38,7 @@ all_held live lists new code w e =
     let kept = filter (is_held live) (list_at lists code) in
     subst (All (λ k. is_held live k ≡ true)) (sym (ap (λ ls. list_at ls code) e ∙ get_or-set_same lists code kept [] w)) (filter_passes (is_held live) (list_at lists code))
 
-pub stored_cleaned : (vars : ℕ) (ids : List ℕ) (live : List Bool) (clauses : List (List LitValue)) (lists leads : List (List ℕ)) (code : ℕ) → IsStored vars ids live clauses lists leads → code < length lists
+pub stored_cleaned : (vars : ℕ) (ids : List ℕ) (live : List Bool) (clauses : List (List LitValue)) (lists : List (List ℕ)) (leads : List (List LedClause)) (code : ℕ) → IsStored vars ids live clauses lists leads → code < length lists
     → IsStored vars ids live clauses (cleaned live lists code) leads
 stored_cleaned vars ids live clauses lists leads code s w = record {
   rises = s.rises;
@@ -59,7 +60,7 @@ held_before ids live gone k l a =
     let w : k < length ids = omega (arith, live_within (kept_live ids live gone) k a, kept_long ids live gone l) in
     (and_parts (is_held live k) (not (among gone (get_or ids k 0))) (sym (kept_at ids live gone k l w) ∙ a)).0
 
-pub stored_let_go : (vars : ℕ) (ids : List ℕ) (live live' : List Bool) (clauses : List (List LitValue)) (lists leads : List (List ℕ)) (gone : List ℕ) → IsStored vars ids live clauses lists leads
+pub stored_let_go : (vars : ℕ) (ids : List ℕ) (live live' : List Bool) (clauses : List (List LitValue)) (lists : List (List ℕ)) (leads : List (List LedClause)) (gone : List ℕ) → IsStored vars ids live clauses lists leads
     → (live' ≡ kept_live ids live gone) ⊎ (live' ≡ live) → IsStored vars ids live' clauses lists leads
 stored_let_go vars ids live live' clauses lists leads gone s new = ⊎_elim (λ e. subst (λ bs. IsStored vars ids bs clauses lists leads) (sym e) fewer) (λ e. subst (λ bs. IsStored vars ids bs clauses lists leads) (sym e) s) new
   where

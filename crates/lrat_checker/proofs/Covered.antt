@@ -1,15 +1,18 @@
 -- Held clauses of which every literal stands in a clause.
 use Rattle.std.proofs.Common.{◌≡◌, ℕ, zero, suc, ◌<◌, Bool, true, false, List, [], ◌∷◌, length, get_or, refl, sym, ap, ◌∙◌, ⊎_elim, arith}
-use Rattle.std.specs.Prelude.{◌&&◌, ◌||◌, Contains}
+use Rattle.std.specs.Prelude.{◌||◌, Contains}
 use Rattle.std.specs.List.{list_any}
-use Rattle.std.proofs.lemmas.Bool.{false≢true, cases_Bool, cases_lt, and_parts, or_right, or_from, or_parts}
+use Rattle.std.proofs.lemmas.Bool.{false≢true, cases_Bool, cases_lt, and_parts, and_from, or_right, or_from, or_parts}
 use Rattle.std.proofs.lemmas.List.{get_or_default, get_or_past}
 use Rattle.std.proofs.lemmas.List.Elements.{All-contains}
 use Rattle.std.proofs.lemmas.List.Sums.{AllPass-from_list_all}
 use Rattle.std.proofs.lemmas.Map.Views.{Contains-from_any}
 use Rattle.cnf_formula.specs.Literals.{LitValue, has_literal, is_superset, code_of}
 use Rattle.cnf_formula.proofs.Clauses.{same_is}
-use Rattle.lrat_checker.specs.Stored.{list_at, IsLead, IsLed, held_of, covers}
+use Rattle.lrat_checker.specs.Leads.{signature_of, has_bits_within, IsLead}
+use Rattle.lrat_checker.specs.declared.leads.LedClause.{LedClause}
+use Rattle.lrat_checker.specs.Stored.{list_at, led_as, IsLed, held_of, covers, finds}
+use Rattle.lrat_checker.proofs.Signed.{signature_within}
 use Rattle.proof_rules.specs.Held.{Entry}
 use Rattle.lrat_checker.proofs.Placed.{held_true, held_false}
 
@@ -35,20 +38,20 @@ module _ (test : Entry → Bool) where
 
 -- ---- a member of a list that passes, and one that can't
 
-some_passes : (test : ℕ → Bool) (xs : List ℕ) → list_any test xs ≡ true → (j : ℕ) × (j < length xs) × (test (get_or xs j 0) ≡ true)
-some_passes test [] h = absurd (false≢true h)
-some_passes test (x ∷ xs) h =
+some_passes : {A : Type 0} (test : A → Bool) (d : A) (xs : List A) → list_any test xs ≡ true → (j : ℕ) × (j < length xs) × (test (get_or xs j d) ≡ true)
+some_passes test d [] h = absurd (false≢true h)
+some_passes test d (x ∷ xs) h =
     ⊎_elim (λ t. (0, omega arith, t))
     (λ f.
     let later : list_any test xs ≡ true = sym (ap (λ b. b || list_any test xs) f) ∙ h in
-    let (j, w, t) = some_passes test xs later in
+    let (j, w, t) = some_passes test d xs later in
     (suc j, omega (arith, w), t))
     (cases_Bool (test x))
 
-none_passes : (test : ℕ → Bool) (xs : List ℕ) → list_any test xs ≡ false → (j : ℕ) → j < length xs → test (get_or xs j 0) ≡ false
-none_passes test [] h j w = absurd (omega (arith, w))
-none_passes test (x ∷ xs) h zero w = (or_parts (test x) (list_any test xs) h).0
-none_passes test (x ∷ xs) h (suc j) w = none_passes test xs (or_parts (test x) (list_any test xs) h).1 j (omega (arith, w))
+none_passes : {A : Type 0} (test : A → Bool) (d : A) (xs : List A) → list_any test xs ≡ false → (j : ℕ) → j < length xs → test (get_or xs j d) ≡ false
+none_passes test d [] h j w = absurd (omega (arith, w))
+none_passes test d (x ∷ xs) h zero w = (or_parts (test x) (list_any test xs) h).0
+none_passes test d (x ∷ xs) h (suc j) w = none_passes test d xs (or_parts (test x) (list_any test xs) h).1 j (omega (arith, w))
 
 -- ---- what is held by a table
 
@@ -56,35 +59,48 @@ module _ (lits : List LitValue) (ids : List ℕ) (live : List Bool) (clauses : L
   abbrev subset : Entry → Bool
   subset entry = is_superset lits entry.1
 
-  abbrev has_one : List ℕ → Bool
-  has_one list = list_any (covers live clauses lits) list
+  abbrev test : LedClause → Bool
+  test = finds live clauses lits (signature_of lits)
+
+  -- where nothing is led
+  nothing : LedClause
+  nothing = record { place = 0; signature = 0 }
 
   held_within : (k : ℕ) → get_or live k false ≡ true → k < length ids
   held_within k t = ⊎_elim (λ lt. omega (arith, lt, l)) (λ ge. absurd (false≢true (sym (get_or_past live k false ge) ∙ t))) (cases_lt k (length live))
 
-  pub one_covered : (list : List ℕ) → has_one list ≡ true → list_any subset (held_of ids live clauses) ≡ true
+  pub one_covered : (list : List LedClause) → list_any test list ≡ true → list_any subset (held_of ids live clauses) ≡ true
   one_covered list h =
-      let (j, w, t) = some_passes (covers live clauses lits) list h in
-      let k = get_or list j 0 in
-      let parts = and_parts (get_or live k false) (is_superset lits (get_or clauses k [])) t in
+      let (j, w, t) = some_passes test nothing list h in
+      let led = get_or list j nothing in
+      let k = led.place in
+      let found = (and_parts (has_bits_within led.signature (signature_of lits)) (covers live clauses lits k) t).1 in
+      let parts = and_parts (get_or live k false) (is_superset lits (get_or clauses k [])) found in
       any_by_place subset ids live clauses k l m (held_within k parts.0) parts.0 parts.1
 
-  covered_at : (list : List ℕ) (k : ℕ) → has_one list ≡ false → Contains list k → get_or live k false ≡ true → is_superset lits (get_or clauses k []) ≡ false
+  covered_at : (list : List LedClause) (k : ℕ) → list_any test list ≡ false → Contains list (led_as k (get_or clauses k [])) → get_or live k false ≡ true → is_superset lits (get_or clauses k []) ≡ false
   covered_at list k none (j, w, at) t =
-      let is : get_or list j 0 ≡ k = get_or_default list j 0 k w ∙ at in
-      let here : covers live clauses lits k ≡ false = ap (covers live clauses lits) (sym is) ∙ none_passes (covers live clauses lits) list none j w in
-      sym (ap (λ b. b && is_superset lits (get_or clauses k [])) t) ∙ here
+      let clause = get_or clauses k [] in
+      let led = led_as k clause in
+      let is : get_or list j nothing ≡ led = get_or_default list j nothing led w ∙ at in
+      let here : test led ≡ false = ap test (sym is) ∙ none_passes test nothing list none j w in
+      ⊎_elim
+      (λ y.
+      let within = signature_within lits clause y in
+      let covered = and_from (get_or live k false) (is_superset lits clause) t y in
+      absurd (false≢true (sym here ∙ and_from (has_bits_within (signature_of clause) (signature_of lits)) (covers live clauses lits k) within covered)))
+      (λ n. n) (cases_Bool (is_superset lits clause))
 
   -- what leads a clause of which every literal stands among these leads nothing that is held
-  none_led : (leads : List (List ℕ)) → has_one (list_at leads 0) ≡ false → ((x : LitValue) → has_literal lits x ≡ true → has_one (list_at leads (code_of x)) ≡ false)
-      → (c : List LitValue) (code : ℕ) → IsLead c code → is_superset lits c ≡ true → has_one (list_at leads code) ≡ false
-  none_led leads first each [] code e s = ap (λ n. has_one (list_at leads n)) e ∙ first
+  none_led : (leads : List (List LedClause)) → list_any test (list_at leads 0) ≡ false → ((x : LitValue) → has_literal lits x ≡ true → list_any test (list_at leads (code_of x)) ≡ false)
+      → (c : List LitValue) (code : ℕ) → IsLead c code → is_superset lits c ≡ true → list_any test (list_at leads code) ≡ false
+  none_led leads first each [] code e s = ap (λ n. list_any test (list_at leads n)) e ∙ first
   none_led leads first each (x ∷ xs) code (l, has, e) s =
       let stands = All-contains (λ y. has_literal lits y ≡ true) (x ∷ xs) l (AllPass-from_list_all (has_literal lits) (x ∷ xs) s) (Contains-from_any same_is l (x ∷ xs) has) in
-      ap (λ n. has_one (list_at leads n)) e ∙ each l stands
+      ap (λ n. list_any test (list_at leads n)) e ∙ each l stands
 
   -- it is enough to look at the first list and at those of the literals
-  pub none_covered : (vars : ℕ) (leads : List (List ℕ)) → IsLed vars clauses leads → has_one (list_at leads 0) ≡ false → ((x : LitValue) → has_literal lits x ≡ true → has_one (list_at leads (code_of x)) ≡ false)
+  pub none_covered : (vars : ℕ) (leads : List (List LedClause)) → IsLed vars clauses leads → list_any test (list_at leads 0) ≡ false → ((x : LitValue) → has_literal lits x ≡ true → list_any test (list_at leads (code_of x)) ≡ false)
       → list_any subset (held_of ids live clauses) ≡ false
   none_covered vars leads i first each = none_by_place subset ids live clauses one
     where

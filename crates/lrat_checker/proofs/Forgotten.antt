@@ -1,6 +1,6 @@
 -- A table of what is held and of the first clauses, place by place.
-use Rattle.std.proofs.Common.{◌≡◌, ℕ, ◌+◌, ◌-◌, ◌<◌, ◌≤◌, Bool, false, List, [], ◌∷◌, ◌++◌, length, take, get_or, refl, sym, ap, ◌∙◌, ⊎_elim, arith}
-use Rattle.std.specs.Prelude.{if◌then◌else◌, All}
+use Rattle.std.proofs.Common.{◌≡◌, ℕ, ◌+◌, ◌-◌, ◌<◌, ◌≤◌, Bool, false, List, [], ◌∷◌, ◌++◌, length, take, get_or, sym, ap, ◌∙◌, ⊎_elim, arith}
+use Rattle.std.specs.Prelude.{if◌then◌else◌}
 use Rattle.std.proofs.lemmas.Bool.{cases_lt}
 use Rattle.std.proofs.lemmas.List.{take_more, take_all, take-append-le, length-take-le, length_push, append-nil}
 use Rattle.cnf_formula.specs.Literals.{LitValue}
@@ -16,17 +16,6 @@ pub record IsPart (count first k : ℕ) (ids : List ℕ) (live : List Bool) (cla
   pub front : (n : ℕ) → n ≤ first → n ≤ k → take n table.clauses ≡ take n clauses
   pub below : (j : ℕ) → k ≤ j → j < length ids → table.last < get_or ids j 0
   pub last : table.last ≤ last_of ids
-
-pub part_none : (vars first : ℕ) (ids : List ℕ) (live : List Bool) (clauses : List (List LitValue)) → All (λ id. 0 < id) ids → IsPart vars first 0 ids live clauses (record { vars = vars; clauses = []; held = []; last = 0 })
-part_none vars first ids live clauses some = record {
-  vars = refl;
-  held = refl;
-  long = λ w. refl;
-  many = λ w. w;
-  front = λ n a b. let none : n ≡ 0 = omega (arith, b) in ap (λ m. take m []) none ∙ sym (ap (λ m. take m clauses) none);
-  below = λ j w u. some j 0 u;
-  last = omega arith;
-}
 
 module _ (vars first k : ℕ) (ids : List ℕ) (live : List Bool) (clauses : List (List LitValue)) (table : TableValue) (rises : Rises ids) (l : length live ≡ length ids) (m : length clauses ≡ length ids) (w : k < length ids) (p : IsPart vars first k ids live clauses table) where
   abbrev pub number : ℕ

@@ -7,6 +7,7 @@ pub mod Marked
 pub mod Noted
 pub mod Placed
 pub mod Removed
+pub mod Signed
 pub mod Taken
 pub mod Cleaned
 pub mod Forgotten

@@ -7,20 +7,22 @@ use Rattle.std.proofs.lemmas.List.{get_or-set_same, get_or-set_other, take_more,
 use Rattle.std.proofs.lemmas.List.Folds.{list_any-append}
 use Rattle.cnf_formula.specs.Literals.{LitValue, same_literal, has_literal, code_of, negation}
 use Rattle.cnf_formula.proofs.Clauses.{same_is}
-use Rattle.lrat_checker.specs.Stored.{list_at, is_held, answers, IsIndexed, IsLead, IsLed, IsStored, held_of, last_of}
+use Rattle.lrat_checker.specs.Leads.{IsLead}
+use Rattle.lrat_checker.specs.declared.leads.LedClause.{LedClause}
+use Rattle.lrat_checker.specs.Stored.{list_at, is_held, answers, IsIndexed, led_as, IsLed, IsStored, held_of, last_of}
 use Rattle.proof_rules.specs.Accepting.{Group, has_negated, is_answered}
 use Rattle.lrat_checker.proofs.Placed.{all_by_place, not_all, rises_push, live_within, some_fails}
 use Rattle.std.proofs.lemmas.List.Elements.{All-push, All-contains}
 use Rattle.std.proofs.lemmas.List.Sums.{AllPass-from_list_all}
 use Rattle.cnf_formula.specs.Formulas.{IsClause}
 
-pub contains_more : (xs : List ℕ) (y x : ℕ) → Contains xs x → Contains (xs ++ y ∷ []) x
+pub contains_more : {A : Type 0} (xs : List A) (y x : A) → Contains xs x → Contains (xs ++ y ∷ []) x
 contains_more xs y x (k, w, e) = let n = length_push xs y in (k, omega (arith, n, w), get_or_append_left xs (y ∷ []) x k w ∙ e)
 
-pub contains_new : (xs : List ℕ) (y : ℕ) → Contains (xs ++ y ∷ []) y
+pub contains_new : {A : Type 0} (xs : List A) (y : A) → Contains (xs ++ y ∷ []) y
 contains_new xs y = let n = length_push xs y in (length xs, omega (arith, n), get_or_push xs y y (length xs) refl)
 
-pub grown : (ls : List (List ℕ)) (k : ℕ) (new : List ℕ) → k < length ls → ((x : ℕ) → Contains (list_at ls k) x → Contains new x) → (code x : ℕ) → Contains (list_at ls code) x → Contains (list_at (set ls k new) code) x
+pub grown : {A : Type 0} (ls : List (List A)) (k : ℕ) (new : List A) → k < length ls → ((x : A) → Contains (list_at ls k) x → Contains new x) → (code : ℕ) (x : A) → Contains (list_at ls code) x → Contains (list_at (set ls k new) code) x
 grown ls k new w more code x h =
     ⊎_elim (λ e. subst (λ xs. Contains xs x) (sym (ap (λ j. get_or (set ls k new) j []) e ∙ get_or-set_same ls k new [] w)) (more x (subst (λ j. Contains (list_at ls j) x) e h)))
     (λ a. subst (λ xs. Contains xs x) (sym (get_or-set_other ls k code new [] a)) h)
@@ -76,8 +78,8 @@ module _ (pivot : LitValue) (start : List LitValue) (groups : List Group) where
 
 -- ---- places more in the lists
 
-pub stored_grown : (vars : ℕ) (ids : List ℕ) (live : List Bool) (clauses : List (List LitValue)) (lists lists' leads leads' : List (List ℕ)) → IsStored vars ids live clauses lists leads
-    → length lists' ≡ length lists → ((code k : ℕ) → Contains (list_at lists code) k → Contains (list_at lists' code) k) → length leads' ≡ length leads → ((code k : ℕ) → Contains (list_at leads code) k → Contains (list_at leads' code) k)
+pub stored_grown : (vars : ℕ) (ids : List ℕ) (live : List Bool) (clauses : List (List LitValue)) (lists lists' : List (List ℕ)) (leads leads' : List (List LedClause)) → IsStored vars ids live clauses lists leads
+    → length lists' ≡ length lists → ((code k : ℕ) → Contains (list_at lists code) k → Contains (list_at lists' code) k) → length leads' ≡ length leads → ((code : ℕ) (x : LedClause) → Contains (list_at leads code) x → Contains (list_at leads' code) x)
     → IsStored vars ids live clauses lists' leads'
 stored_grown vars ids live clauses lists lists' leads leads' s long kept wide held = record {
   rises = s.rises;
@@ -91,7 +93,7 @@ stored_grown vars ids live clauses lists lists' leads leads' s long kept wide he
   };
   led = record {
     long = wide ∙ s.led.long;
-    each = λ k w. let (code, lead, at) = s.led.each k w in (code, lead, held code k at);
+    each = λ k w. let (code, lead, at) = s.led.each k w in (code, lead, held code (led_as k (get_or clauses k [])) at);
   };
 }
 
@@ -118,15 +120,15 @@ indexed_push vars live clauses lists lists' lits b i l long kept noted = record 
       (λ k u a x h. kept (code_of x) k (i.each k x (sym (get_or_append_left live (b ∷ []) false k (omega (arith, u, l))) ∙ a) h)) (λ a. noted) k (omega (arith, w, length_push live b, length_push clauses lits, l)) a x h;
 }
 
-pub led_push : (vars : ℕ) (clauses : List (List LitValue)) (leads leads' : List (List ℕ)) (lits : List LitValue) (code : ℕ) → IsLed vars clauses leads → length leads' ≡ length leads
-    → ((code k : ℕ) → Contains (list_at leads code) k → Contains (list_at leads' code) k) → IsLead lits code → Contains (list_at leads' code) (length clauses)
+pub led_push : (vars : ℕ) (clauses : List (List LitValue)) (leads leads' : List (List LedClause)) (lits : List LitValue) (code : ℕ) → IsLed vars clauses leads → length leads' ≡ length leads
+    → ((code : ℕ) (x : LedClause) → Contains (list_at leads code) x → Contains (list_at leads' code) x) → IsLead lits code → Contains (list_at leads' code) (led_as (length clauses) lits)
     → IsLed vars (clauses ++ lits ∷ []) leads'
 led_push vars clauses leads leads' lits code i long kept lead noted = record {
   long = long ∙ i.long;
-  each = by_place_push (λ k c. (code : ℕ) × IsLead c code × Contains (list_at leads' code) k) clauses lits (λ k u. let (old, is, at) = i.each k u in (old, is, kept old k at)) (code, lead, noted);
+  each = by_place_push (λ k c. (code : ℕ) × IsLead c code × Contains (list_at leads' code) (led_as k c)) clauses lits (λ k u. let (old, is, at) = i.each k u in (old, is, kept old (led_as k (get_or clauses k [])) at)) (code, lead, noted);
 }
 
-pub stored_push : (vars : ℕ) (ids : List ℕ) (live : List Bool) (clauses : List (List LitValue)) (lists lists' leads leads' : List (List ℕ)) (id : ℕ) (lits : List LitValue) (held : Bool) → IsStored vars ids live clauses lists leads → last_of ids < id → IsClause vars lits
+pub stored_push : (vars : ℕ) (ids : List ℕ) (live : List Bool) (clauses : List (List LitValue)) (lists lists' : List (List ℕ)) (leads leads' : List (List LedClause)) (id : ℕ) (lits : List LitValue) (held : Bool) → IsStored vars ids live clauses lists leads → last_of ids < id → IsClause vars lits
     → IsIndexed vars (live ++ held ∷ []) (clauses ++ lits ∷ []) lists' → IsLed vars (clauses ++ lits ∷ []) leads'
     → IsStored vars (ids ++ id ∷ []) (live ++ held ∷ []) (clauses ++ lits ∷ []) lists' leads'
 stored_push vars ids live clauses lists lists' leads leads' id lits held s above about indexed led =

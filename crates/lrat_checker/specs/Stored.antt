@@ -3,6 +3,8 @@ use Rattle.std.specs.Prelude.{◌≡◌, ◌==◌, ◌&&◌, ◌||◌, not, ℕ,
 use Rattle.std.specs.List.{list_any}
 use Rattle.cnf_formula.specs.Literals.{LitValue, has_literal, is_superset, code_of}
 use Rattle.cnf_formula.specs.Formulas.{IsClause}
+use Rattle.lrat_checker.specs.Leads.{IsLead, signature_of, has_bits_within}
+use Rattle.lrat_checker.specs.declared.leads.LedClause.{LedClause}
 use Rattle.proof_rules.specs.Held.{Entry}
 use Rattle.proof_rules.specs.Accepting.{Group, is_answered}
 
@@ -46,7 +48,7 @@ last_of ids = slice_index ids (length ids - 1)
 abbrev pub Rises : List ℕ → Type 0
 Rises ids = (i j : ℕ) → i < j → j < length ids → slice_index ids i < slice_index ids j
 
-abbrev pub list_at : List (List ℕ) → ℕ → List ℕ
+abbrev pub list_at : {A : Type 0} → List (List A) → ℕ → List A
 list_at lists code = slice_index_or lists code []
 
 -- the clause at a place is held
@@ -58,25 +60,28 @@ pub record IsIndexed (vars : ℕ) (live : List Bool) (clauses : List (List LitVa
   pub long : length lists ≡ 2 * vars + 2
   pub each : (k : ℕ) (l : LitValue) → is_held live k ≡ true → has_literal (slice_index_or clauses k []) l ≡ true → Contains (list_at lists (code_of l)) k
 
--- a list in which a clause may be found: that of one of its literals, or the first, which is no literal's, where it has none
-abbrev pub IsLead : List LitValue → ℕ → Type 0
-IsLead [] code = code ≡ 0
-IsLead (x ∷ xs) code = (l : LitValue) × (has_literal (x ∷ xs) l ≡ true) × (code ≡ code_of l)
+-- a clause in the list of what leads it: its place, and its signature
+abbrev pub led_as : ℕ → List LitValue → LedClause
+led_as k clause = record { place = k; signature = signature_of clause }
 
 -- each clause is in one such list
-pub record IsLed (vars : ℕ) (clauses : List (List LitValue)) (leads : List (List ℕ)) : Type 0 where
+pub record IsLed (vars : ℕ) (clauses : List (List LitValue)) (leads : List (List LedClause)) : Type 0 where
   pub long : length leads ≡ 2 * vars + 2
-  pub each : (k : ℕ) → k < length clauses → (code : ℕ) × IsLead (slice_index_or clauses k []) code × Contains (list_at leads code) k
+  pub each : (k : ℕ) → k < length clauses → (code : ℕ) × IsLead (slice_index_or clauses k []) code × Contains (list_at leads code) (led_as k (slice_index_or clauses k []))
 
 -- the clause at a place is held, and every literal of it stands among these
 abbrev pub covers : List Bool → List (List LitValue) → List LitValue → ℕ → Bool
 covers live clauses lits k = is_held live k && is_superset lits (slice_index_or clauses k [])
 
+-- a clause that is led, of which the signature does not say that it lacks one of these literals, is such a clause
+abbrev pub finds : List Bool → List (List LitValue) → List LitValue → ℕ → LedClause → Bool
+finds live clauses lits signature led = has_bits_within led.signature signature && covers live clauses lits led.place
+
 -- the clause at a place has no negated pivot, or has a group, or is true without one
 abbrev pub answers : List ℕ → List (List LitValue) → LitValue → List LitValue → List Group → ℕ → Bool
 answers ids clauses pivot falses groups k = is_answered pivot falses groups (slice_index ids k, slice_index_or clauses k [])
 
-pub record IsStored (vars : ℕ) (ids : List ℕ) (live : List Bool) (clauses : List (List LitValue)) (lists leads : List (List ℕ)) : Type 0 where
+pub record IsStored (vars : ℕ) (ids : List ℕ) (live : List Bool) (clauses : List (List LitValue)) (lists : List (List ℕ)) (leads : List (List LedClause)) : Type 0 where
   pub rises : Rises ids
   pub some : All (λ id. 0 < id) ids
   pub lives : length live ≡ length ids

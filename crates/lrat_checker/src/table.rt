@@ -8,9 +8,11 @@ ghost use Rattle.cnf_formula.specs.Formulas.{IsAbout, IsClause};
 ghost use Rattle.proof_rules.specs.Held.{Entry, clause_at};
 ghost use Rattle.proof_rules.specs.Judging.{are_held, has_number_twice};
 ghost use Rattle.proof_rules.specs.Accepting.{Group, is_made_true, without_negated};
-ghost use Rattle.lrat_checker.specs.Stored.{TableValue, HasForgotten, Rises, list_at, is_live, kept_live, covers, answers, IsLead};
+ghost use Rattle.lrat_checker.specs.Stored.{TableValue, HasForgotten, Rises, list_at, is_live, kept_live, answers};
 ghost use Rattle.lrat_checker.specs.Steps.{Names};
 
+use crate::leads::{LedClause, has_marked, lead_of, signature_of};
+use crate::lists::{empty_lists, note};
 use crate::marks::Marks;
 use cnf_formula::{Formula, Lit, OutOfMemory};
 use smallvec::SmallVec;
@@ -19,8 +21,9 @@ use std::collections::BTreeSet;
 use std::marker::Model;
 
 /// Clauses by ascending numbers, and whether each is held; one that is no longer held stays in its place until it is
-/// forgotten. For each literal there are the places of the held clauses in which it stands, and of those that it leads: one
-/// literal of a clause leads it. Places of clauses that are no longer held stay in a list until it is walked.
+/// forgotten. For each literal there are the places of the held clauses in which it stands, and the clauses that it leads:
+/// one literal of a clause leads it. Of clauses that are no longer held a list of the first kind keeps the places until it
+/// is walked, and one of the second until they are forgotten.
 #[derive(Drop)]
 pub(crate) struct ClauseTable {
     vars: u32,
@@ -28,7 +31,7 @@ pub(crate) struct ClauseTable {
     live: Vec<bool>,
     clauses: Vec<SmallVec<Lit, 4>>,
     lists: Vec<Vec<usize>>,
-    leads: Vec<Vec<usize>>,
+    leads: Vec<Vec<LedClause>>,
 }
 
 impl Model for ClauseTable {
@@ -116,18 +119,6 @@ fn is_answered(id: u64, clause: &[Lit], pivot: Lit, marks: &Marks, named: &BTree
     !has_negated(pivot, clause) || named.contains(&id) || has_other_true(clause, pivot, marks)
 }
 
-/// Puts a clause's place into a list. An `Err` comes only where memory runs out.
-fn note(lists: &mut Vec<Vec<usize>>, code: usize, place: usize) -> Result<(), OutOfMemory>
-    requires { code < length lists.old.items }
-    ensures long { length lists.new.items ≡ length lists.old.items }
-    ensures kept { (other k : ℕ) → Contains (list_at (map (λ l. l.items) lists.old.items) other) k → Contains (list_at (map (λ l. l.items) lists.new.items) other) k }
-    ensures noted { OnOk result (Contains (list_at (map (λ l. l.items) lists.new.items) code) place) }
-{
-    let list = &mut lists[code];
-    list.push(place)?;
-    Ok(())
-}
-
 /// Puts a clause's place into the lists of its literals. An `Err` comes only where memory runs out.
 fn note_literals(lists: &mut Vec<Vec<usize>>, lits: &[Lit], place: usize) -> Result<(), OutOfMemory>
     requires { All (λ l. code_of l < length lists.old.items) lits.now }
@@ -180,49 +171,6 @@ fn are_answered(
     true
 }
 
-/// The list that a clause is put into: the shortest of its literals' lists, or the first list where it has no literal.
-fn lead_of(leads: &[Vec<usize>], lits: &[Lit]) -> usize
-    requires { All (λ l. code_of l < length leads.now) lits.now }
-    ensures { IsLead lits.now result }
-{
-    let mut lead = 0;
-    for lit in lits {
-        let code = lit.code();
-        if lead == 0 || leads[code].len() < leads[lead].len() {
-            lead = code;
-        }
-    }
-    lead
-}
-
-/// Whether every literal of the clause is marked.
-fn is_marked(clause: &[Lit], marks: &Marks) -> bool
-    requires about { IsClause marks.now.vars clause.now }
-    ensures { result ≡ is_superset marks.now.falses clause.now }
-{
-    for lit in clause {
-        if !marks.is_false(*lit) {
-            return false;
-        }
-    }
-    true
-}
-
-/// Whether some place of the list is that of a held clause of which every literal is marked.
-fn has_marked(live: &[bool], clauses: &[SmallVec<Lit, 4>], list: &[usize], marks: &Marks) -> bool
-    requires lives { length live.now ≡ length clauses.now }
-    requires about { All (IsClause marks.now.vars) (map (λ c. c.items) clauses.now) }
-    ensures { result ≡ list_any (covers live.now (map (λ c. c.items) clauses.now) marks.now.falses) list.now }
-{
-    for place in list {
-        let place = *place;
-        if place < live.len() && live[place] && is_marked(clauses[place].as_slice(), marks) {
-            return true;
-        }
-    }
-    false
-}
-
 /// Whether the clause has the negation of the pivot.
 pub(crate) fn has_negated(pivot: Lit, clause: &[Lit]) -> bool
     ensures { result ≡ Rattle.proof_rules.specs.Accepting.has_negated pivot clause.now }
@@ -233,17 +181,6 @@ pub(crate) fn has_negated(pivot: Lit, clause: &[Lit]) -> bool
         }
     }
     false
-}
-
-/// So many lists without places.
-fn empty_lists(alloc: Global, count: usize) -> Result<Vec<Vec<usize>>, OutOfMemory>
-    ensures { IfOk result (λ lists. length lists.items ≡ count) }
-{
-    let mut lists = Vec::with_capacity(alloc, count)?;
-    for _ in 0..count {
-        lists.push_reserved(Vec::new(alloc));
-    }
-    Ok(lists)
 }
 
 impl ClauseTable {
@@ -306,9 +243,10 @@ impl ClauseTable {
         self.live.reserve(1)?;
         self.clauses.reserve(1)?;
         let place = self.ids.len();
+        let lead = lead_of(&self.lists, lits);
+        let signature = signature_of(lits);
         note_literals(&mut self.lists, lits, place)?;
-        let lead = lead_of(&self.leads, lits);
-        note(&mut self.leads, lead, place)?;
+        note(&mut self.leads, lead, LedClause { place, signature })?;
         self.ids.push_reserved(id);
         self.live.push_reserved(held);
         self.clauses.push_reserved(clause);
@@ -365,19 +303,21 @@ impl ClauseTable {
     }
 
     /// Whether every literal of some held clause is marked, where just these literals are. It looks at no clause but those
-    /// that these literals lead, and those without a literal.
+    /// that these literals lead, and those without a literal, and of these at none whose signature has another bit.
     pub(crate) fn has_subset(&self, lits: &[Lit], marks: &Marks) -> bool
         requires about { IsClause self.now.vars lits.now }
         requires same { marks.now.vars ≡ self.now.vars }
         requires marked { marks.now.falses ≡ lits.now }
         ensures { result ≡ list_any (λ entry. is_superset lits.now entry.1) self.now.held }
     {
-        if has_marked(&self.live, &self.clauses, &self.leads[0], marks) {
+        let signature = signature_of(lits);
+        let bare = &self.leads[0];
+        if has_marked(&self.live, &self.clauses, bare, marks, signature) {
             return true;
         }
         for lit in lits {
             let list = &self.leads[lit.code()];
-            if has_marked(&self.live, &self.clauses, list, marks) {
+            if has_marked(&self.live, &self.clauses, list, marks, signature) {
                 return true;
             }
         }

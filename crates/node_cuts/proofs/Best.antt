@@ -6,6 +6,7 @@ use Rattle.std.proofs.Math.Nat.{mul_right_comm, mul-le-mul_right, mul-lt-mul_of_
 use Rattle.std.proofs.lemmas.List.{append-nil}
 use Rattle.std.proofs.lemmas.Bool.{cases_Bool, cases_eq, ltb-true, ltb-false, lt-ltb, le-ltb, eq-eqb, ne_eqb, not_from_true, not_from_false}
 use Rattle.std.specs.Option.{unwrap_or}
+use Rattle.list_laws.proofs.Each.{each_middle}
 use Rattle.schedule.proofs.First.{each_append, each_passes}
 use Rattle.node_cuts.specs.declared.floor.Floor.{Floor}
 use Rattle.node_cuts.specs.Floors.{has_need, exceeds, is_greatest, nothing_over_1, first_greatest, greater_of}
@@ -56,10 +57,6 @@ IsBest fs (Some b) = IsFirst fs b
 each_weaker : {X : Type 0} (P Q R : X → Type 0) → ((x : X) → P x → Q x → R x) → (xs : List X) → AllByRecursion P xs → AllByRecursion Q xs → AllByRecursion R xs
 each_weaker P Q R weaker [] first second = tt
 each_weaker P Q R weaker (x ∷ xs) first second = (weaker x first.0 second.0, each_weaker P Q R weaker xs first.1 second.1)
-
-each_middle : {X : Type 0} (P : X → Type 0) (xs : List X) (y : X) (ys : List X) → AllByRecursion P (xs ++ y ∷ ys) → P y
-each_middle P [] y ys each = each.0
-each_middle P (x ∷ xs) y ys each = each_middle P xs y ys each.1
 
 none_any : {X : Type 0} (p : X → Bool) (xs : List X) → AllByRecursion (λ x. p x ≡ false) xs → list_any p xs ≡ false
 none_any p [] each = refl

@@ -14,7 +14,7 @@ use Rattle.schedule.specs.Judging.{group_at}
 use Rattle.schedule.proofs.Placing.{pair_is}
 use Rattle.schedule.proofs.First.{any_found, any_among}
 use Rattle.node_cuts.specs.Sides.{NodeSet}
-use Rattle.node_cuts.specs.Cuts.{enters, is_among, opens, taken, cover, width_of}
+use Rattle.node_cuts.specs.Cuts.{enters, is_among, opens, groups_taken, cover, width_of}
 use Rattle.node_cuts.proofs.Counting.{no_more_than_both, none_counted}
 
 -- an element that passes stands at a place
@@ -28,10 +28,10 @@ place_of p (x ∷ xs) d some =
 
 module _ (u : NodeSet) (t : TopologyValue) where
   -- each link into the set that stands in one of the first groups stands in one that is taken
-  covers : (n : ℕ) (link : ℕ × ℕ) (k : ℕ) → enters u link ≡ true → k < n → has_link (group_at t k) link ≡ true → is_among t (taken u t n) link ≡ true
+  covers : (n : ℕ) (link : ℕ × ℕ) (k : ℕ) → enters u link ≡ true → k < n → has_link (group_at t k) link ≡ true → is_among t (groups_taken u t n) link ≡ true
   covers zero link k into below stands = absurd (omega (arith, below))
   covers (suc n) link k into below stands =
-      let before : List ℕ = taken u t n in
+      let before : List ℕ = groups_taken u t n in
       let has : ℕ → Bool = λ g. has_link (group_at t g) link in
       list_any-append has before (cond (opens u t before n) (n ∷ []) [])
       ∙ ⊎_elim

@@ -6,12 +6,13 @@ use Rattle.std.specs.List.{All, range_with_len}
 use Rattle.std.proofs.lemmas.List.Sums.{sum_by_push}
 use Rattle.std.proofs.lemmas.Bool.{false≢true, cases_Bool, false_from_ne_true, and_from}
 use Rattle.std.proofs.lemmas.List.Elements.{All-append, All-cons, All-nil}
+use Rattle.list_laws.proofs.Ranges.{any_at}
 use Rattle.schedule.specs.Links.{TopologyValue}
 use Rattle.schedule.specs.Placed.{PlacementValue, IsPlacement, holds}
 use Rattle.node_cuts.specs.Sides.{NodeSet}
-use Rattle.node_cuts.specs.Cuts.{stands_in, opens, taken}
+use Rattle.node_cuts.specs.Cuts.{stands_in, opens, groups_taken}
 use Rattle.node_cuts.proofs.Masks.{range_more}
-use Rattle.node_cuts.proofs.Scaling.{some_stands, stands_by, any_at, range_found}
+use Rattle.node_cuts.proofs.Scaling.{some_stands, stands_by, range_found}
 
 pub stands_held : (u : NodeSet) (p : PlacementValue) (chunk : ℕ) → IsPlacement p → chunk < p.chunks → stands_in u p chunk ≡ some_stands u p.nodes (holds p) chunk
 stands_held u p chunk is below = ap (λ q. stands_in u q chunk) is ∙ stands_by u p.chunks p.nodes (holds p) chunk below
@@ -27,20 +28,20 @@ none_found u p chunk node is below past none =
     false≢true (sym (none found.0 (omega (arith, found.2, past))) ∙ found.3)))
 
 -- the groups that are taken are among the first, and no more
-pub taken_below : (u : NodeSet) (t : TopologyValue) (n top : ℕ) → n ≤ top → All (λ group. group < top) (taken u t n)
+pub taken_below : (u : NodeSet) (t : TopologyValue) (n top : ℕ) → n ≤ top → All (λ group. group < top) (groups_taken u t n)
 taken_below u t zero top low = All-nil (λ group. group < top)
 taken_below u t (suc n) top low =
-    let before : List ℕ = taken u t n in
+    let before : List ℕ = groups_taken u t n in
     All-append (λ group. group < top) before (cond (opens u t before n) (n ∷ []) []) (taken_below u t n top (omega (arith, low)))
     (⊎_elim
     (λ (it : opens u t before n ≡ true). rw it (All-cons (λ group. group < top) n [] (omega (arith, low)) (All-nil (λ group. group < top))))
     (λ (it : opens u t before n ≡ false). rw it (All-nil (λ group. group < top)))
     (cases_Bool (opens u t before n)))
 
-pub taken_few : (u : NodeSet) (t : TopologyValue) (n : ℕ) → length (taken u t n) ≤ n
+pub taken_few : (u : NodeSet) (t : TopologyValue) (n : ℕ) → length (groups_taken u t n) ≤ n
 taken_few u t zero = omega arith
 taken_few u t (suc n) =
-    let before : List ℕ = taken u t n in
+    let before : List ℕ = groups_taken u t n in
     let whole : length (before ++ cond (opens u t before n) (n ∷ []) []) ≡ length before + length (cond {A = List ℕ} (opens u t before n) (n ∷ []) []) = length-append before (cond (opens u t before n) (n ∷ []) []) in
     let one : length (cond {A = List ℕ} (opens u t before n) (n ∷ []) []) ≤ 1 =
     ⊎_elim

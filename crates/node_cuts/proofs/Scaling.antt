@@ -1,11 +1,13 @@
 -- At each chunk count that a collective may have, what has to come into a set is what has to at the least one, so many times over.
-use Rattle.std.proofs.Common.{◌≡◌, ℕ, zero, suc, ◌+◌, ◌*◌, ◌/◌, ◌%◌, ◌<◌, ◌≤◌, Bool, true, false, ◌||◌, ◌&&◌, cond, List, [], ◌∷◌, refl, sym, ap, ◌∙◌, ⊎_elim, arith}
+use Rattle.std.proofs.Common.{◌≡◌, ℕ, zero, suc, ◌+◌, ◌*◌, ◌/◌, ◌%◌, ◌<◌, ◌≤◌, Bool, true, ◌&&◌, cond, ◌∷◌, refl, sym, ap, ◌∙◌, ⊎_elim, arith}
 use Rattle.std.specs.Prelude.{◌==◌, count_by, not, nat_le, filter}
 use Rattle.std.specs.List.{list_any, range_with_len}
 use Rattle.std.proofs.Math.Nat.{mul_comm, mul_assoc, mul-one, add-mul-mod_self_left, add-mul-div_left}
-use Rattle.std.proofs.lemmas.Bool.{false≢true, or_left, or_right, or_cases, cases_eq, and_parts, and_from, eqb-true, eq-eqb}
+use Rattle.std.proofs.lemmas.Bool.{false≢true, or_cases, and_parts, and_from, eqb-true, eq-eqb}
 use Rattle.std.proofs.lemmas.Nat.{div-add-mod'}
 use Rattle.std.proofs.lemmas.List.Sums.{sum_by-cons}
+use Rattle.list_laws.proofs.Tests.{same_test, any_alike}
+use Rattle.list_laws.proofs.Ranges.{any_at}
 use Rattle.schedule.specs.Placed.{PlacementValue, holds, placed, same_pair, all_pairs}
 use Rattle.schedule.proofs.First.{among_each, any_found, any_among, filter_among}
 use Rattle.schedule.proofs.Placing.{IsBelow, all_below, pair_is, holds-placed}
@@ -25,14 +27,6 @@ use Rattle.node_cuts.specs.Floors.{least_count}
 
 -- ---- ranges
 
-pub any_at : (q : ℕ → Bool) (a n k : ℕ) → a ≤ k → k < a + n → q k ≡ true → list_any q (range_with_len a n) ≡ true
-any_at q a zero k low high passes = absurd (omega (arith, low, high))
-any_at q a (suc n) k low high passes =
-    ⊎_elim
-    (λ (here : k ≡ a). or_left (q a) (list_any q (range_with_len (a + 1) n)) (ap q (sym here) ∙ passes))
-    (λ (later : k ≡ a → ⊥). or_right (q a) (list_any q (range_with_len (a + 1) n)) (any_at q (a + 1) n k (omega (arith, low, later)) (omega (arith, high)) passes))
-    (cases_eq k a)
-
 pub range_found : (q : ℕ → Bool) (a n : ℕ) → list_any q (range_with_len a n) ≡ true → (k : ℕ) × (a ≤ k) × (k < a + n) × (q k ≡ true)
 range_found q a zero some = absurd (false≢true some)
 range_found q a (suc n) some =
@@ -40,15 +34,6 @@ range_found q a (suc n) some =
     (λ (here : q a ≡ true). (a, omega arith, omega arith, here))
     (λ (later : list_any q (range_with_len (a + 1) n) ≡ true). let rest = range_found q (a + 1) n later in (rest.0, omega (arith, rest.1), omega (arith, rest.2), rest.3))
     (or_cases (q a) (list_any q (range_with_len (a + 1) n)) some)
-
-pub any_alike : {X : Type 0} (p q : X → Bool) (xs : List X) → ((x : X) → p x ≡ q x) → list_any p xs ≡ list_any q xs
-any_alike p q [] same = refl
-any_alike p q (x ∷ xs) same = ap (λ b. b || list_any p xs) (same x) ∙ ap (λ b. q x || b) (any_alike p q xs same)
-
-both_or_none : (a b : Bool) → (a ≡ true → b ≡ true) → (b ≡ true → a ≡ true) → a ≡ b
-both_or_none true b there back = sym (there refl)
-both_or_none false true there back = back refl
-both_or_none false false there back = refl
 
 -- ---- what stands in a set, by the test of a placement
 
@@ -59,7 +44,7 @@ pub stands_by : (u : NodeSet) (chunks nodes : ℕ) (f : ℕ × ℕ → Bool) (ch
 stands_by u chunks nodes f chunk below =
     let test : ℕ × ℕ → Bool = λ pair. pair.0 == chunk && u pair.1 in
     let row : ℕ → Bool = λ n. u n && f (chunk, n) in
-    both_or_none (stands_in u (placed chunks nodes f) chunk) (some_stands u nodes f chunk)
+    same_test (stands_in u (placed chunks nodes f) chunk) (some_stands u nodes f chunk)
     (λ stood.
     let found = any_found test (filter f (all_pairs chunks nodes)) stood in
     let pair : ℕ × ℕ = found.0 in

@@ -37,13 +37,13 @@ abbrev pub opens : NodeSet → TopologyValue → List ℕ → ℕ → Bool
 opens u t groups group = list_any (λ link. enters u link && not (is_among t groups link)) (group_at t group).links
 
 -- of the first groups, each that has a link into the set that stands in no group taken before
-abbrev pub taken : NodeSet → TopologyValue → ℕ → List ℕ
-taken u t zero = []
-taken u t (suc n) = let before = taken u t n in before ++ (if opens u t before n then n ∷ [] else [])
+abbrev pub groups_taken : NodeSet → TopologyValue → ℕ → List ℕ
+groups_taken u t zero = []
+groups_taken u t (suc n) = let before = groups_taken u t n in before ++ (if opens u t before n then n ∷ [] else [])
 
 -- the groups that cover all links into the set
 abbrev pub cover : NodeSet → TopologyValue → List ℕ
-cover u t = taken u t (length t.groups)
+cover u t = groups_taken u t (length t.groups)
 
 -- how many chunks they carry together in one round
 abbrev pub width_of : TopologyValue → List ℕ → ℕ

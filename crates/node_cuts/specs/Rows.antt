@@ -1,5 +1,5 @@
 -- Small questions, whose cuts are known.
-use Rattle.std.specs.Prelude.{ℕ, List, [], Option}
+use Rattle.std.specs.Prelude.{ℕ, List, Option}
 use Rattle.schedule.specs.Links.{TopologyValue}
 use Rattle.collective_spec.specs.declared.kind.Kind.{Kind}
 use Rattle.collective_spec.specs.declared.spec.Spec.{Spec}
@@ -23,7 +23,3 @@ floor_at t kind = floor_of t (standard kind)
 -- a set of nodes, the groups that lead into it, what has to come in and what can
 abbrev pub cut : ℕ → List ℕ → ℕ → ℕ → CutValue
 cut nodes groups need width = record { nodes = nodes; groups = groups; need = need; width = width }
-
--- a node without links
-abbrev pub one_node : TopologyValue
-one_node = record { nodes = 1; groups = [] }

@@ -9,7 +9,7 @@ use std::marker::Model;
 
 /// A set of nodes, the groups that cover the links into it, how many chunks have to come into it, and how many these groups
 /// carry in one round.
-#[derive(Drop)]
+#[derive(Clone, Drop)]
 pub struct Cut {
     nodes: u16,
     groups: Vec<u16>,

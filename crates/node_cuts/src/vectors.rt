@@ -1,12 +1,12 @@
 //! What the definitions give on small questions.
 
 ghost use Rattle.std.specs.Prelude.{◌≡◌, Some, None, [], ◌∷◌};
-ghost use Rattle.schedule.specs.Rows.{at_root, back_of_2, everywhere, ring_of_4, twice_grouped};
+ghost use Rattle.schedule.specs.Rows.{at_root, back_of_2, everywhere, ring_of_4, twice_grouped, one_node};
 ghost use Rattle.collective_spec.specs.declared.kind.Kind.{Kind};
 ghost use Rattle.node_cuts.specs.declared.side.Side.{Side};
 ghost use Rattle.node_cuts.specs.Sides.{listed_sides, mask_of, set_of};
 ghost use Rattle.node_cuts.specs.Cuts.{need};
-ghost use Rattle.node_cuts.specs.Rows.{cut, cut_at, floor_at, one_node};
+ghost use Rattle.node_cuts.specs.Rows.{cut, cut_at, floor_at};
 
 /// One node, two nodes, and all but these.
 pub fn sides_of_three_nodes()

@@ -10,7 +10,7 @@ use Rattle.node_programs.specs.declared.op.Op.TheVariants.{Send, Take}
 use Rattle.bag_runs.specs.declared.mode.Mode.{Mode}
 use Rattle.node_programs.specs.declared.message.Message.{Message as Parcel}
 use Rattle.bag_runs.specs.Stores.{StoreValue, bag_in, received, with_bag}
-use Rattle.node_programs.specs.Machines.{Message, State, event, got, performed, queue_in, sent, taken}
+use Rattle.node_programs.specs.Machines.{Message, State, event, after_take, after_op, queue_in, after_send, take_from_queue}
 use Rattle.node_programs.specs.Below.{IsOpBelow}
 use Rattle.bag_runs.specs.Kept.{counted}
 use Rattle.node_programs.specs.Queues.{IsMachine, QueueValue, message_in, messages_in, no_queue, queue_of, sends_to, with_message, without_first}
@@ -161,7 +161,7 @@ module _ (programs : List (List Op)) (store : StoreValue) (queues : List QueueVa
 
   pub state_sent : (chunk to step : ℕ) (bag : List ℕ) (left : List (List Op)) (new : List QueueValue) → node * store.nodes + to < length queues → left ≡ set programs node (drop 1 (get_or programs node []))
       → new ≡ set queues (node * store.nodes + to) (with_message (get_or queues (node * store.nodes + to) no_queue) (record { chunk = chunk; step = step; bag = bag }))
-      → counted store.nodes bag ≡ bag_in store chunk node → state_of left store new ≡ sent s node chunk to step
+      → counted store.nodes bag ≡ bag_in store chunk node → state_of left store new ≡ after_send s node chunk to step
   state_sent chunk to step bag left new inside is_left is_new is_bag =
       let place : ℕ = node * store.nodes + to in
       let m : Parcel = record { chunk = chunk; step = step; bag = bag } in
@@ -180,7 +180,7 @@ module _ (programs : List (List Op)) (store : StoreValue) (queues : List QueueVa
 
     state_got : (left : List (List Op)) (after : StoreValue) (new : List QueueValue) → left ≡ set programs node (drop 1 (get_or programs node []))
         → after ≡ with_bag store chunk node (received how (bag_in store chunk node) (counted store.nodes bag))
-        → new ≡ set queues place (without_first (get_or queues place no_queue)) → state_of left after new ≡ got s node chunk from how (counted store.nodes bag)
+        → new ≡ set queues place (without_first (get_or queues place no_queue)) → state_of left after new ≡ after_take s node chunk from how (counted store.nodes bag)
     state_got left after new is_left is_after is_new =
         ap (λ x. state_of left x new) is_after
         ∙ same_state left (set programs node (drop 1 (get_or programs node []))) (with_bag store chunk node (received how (bag_in store chunk node) (counted store.nodes bag))) (map (messages_in store.nodes) new) _ is_left
@@ -191,13 +191,13 @@ module _ (programs : List (List Op)) (store : StoreValue) (queues : List QueueVa
         ∙ ap (drop 1) (sym (queue_at store.nodes queues place inside))))
 
     event_got : slice_get (get_or programs node []) 0 ≡ Some (Take chunk from step how) → slice_get (get_or queues place no_queue).messages 0 ≡ Some (record { chunk = chunk; step = step; bag = bag })
-        → event s node ≡ Some (got s node chunk from how (counted store.nodes bag))
+        → event s node ≡ Some (after_take s node chunk from how (counted store.nodes bag))
     event_got next head =
         let m : Parcel = record { chunk = chunk; step = step; bag = bag } in
         let first : slice_get (queue_in s from node) 0 ≡ Some (message_in store.nodes m) = ap (λ ms. slice_get ms 0) (queue_at store.nodes queues place inside) ∙ head_mapped store.nodes (get_or queues place no_queue).messages m head in
-        ap (option_and_then (performed s node)) next
-        ∙ ap (taken s node chunk from step how) first
-        ∙ ap (λ b. cond b (Some (got s node chunk from how (counted store.nodes bag))) None) (and_from _ _ (eq-eqb chunk chunk refl) (eq-eqb step step refl))
+        ap (option_and_then (after_op s node)) next
+        ∙ ap (take_from_queue s node chunk from step how) first
+        ∙ ap (λ b. cond b (Some (after_take s node chunk from how (counted store.nodes bag))) None) (and_from _ _ (eq-eqb chunk chunk refl) (eq-eqb step step refl))
 
     pub state_taken : (left : List (List Op)) (after : StoreValue) (new : List QueueValue) → slice_get (get_or programs node []) 0 ≡ Some (Take chunk from step how)
         → slice_get (get_or queues place no_queue).messages 0 ≡ Some (record { chunk = chunk; step = step; bag = bag })

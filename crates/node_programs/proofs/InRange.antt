@@ -3,6 +3,7 @@ use Rattle.std.proofs.Common.{◌≡◌, ℕ, true, ◌&&◌, eqb, List, [], ◌
 use Rattle.std.specs.Prelude.{filter}
 use Rattle.std.specs.List.{AllByRecursion, flat_map, range_with_len}
 use Rattle.std.proofs.lemmas.List.Elements.{recursion_from_All}
+use Rattle.list_laws.proofs.Each.{each_map, every_map}
 use Rattle.schedule.specs.Sends.{IsInRange, ScheduleValue, is_hop_below}
 use Rattle.schedule.proofs.First.{each_filter, each_weaker, each_append}
 use Rattle.schedule.proofs.Joining.{IsHopBelow, hop_below}
@@ -12,14 +13,6 @@ use Rattle.node_programs.specs.Below.{AreBelow, IsOpBelow}
 pub each_flat : {X Y : Type 0} (P : X → Type 0) (f : Y → List X) → ((y : Y) → AllByRecursion P (f y)) → (ys : List Y) → AllByRecursion P (flat_map f ys)
 each_flat P f every [] = tt
 each_flat P f every (y ∷ ys) = each_append P (f y) (flat_map f ys) (every y) (each_flat P f every ys)
-
-pub each_map : {X Y : Type 0} (P : X → Type 0) (Q : Y → Type 0) (f : X → Y) → ((x : X) → P x → Q (f x)) → (xs : List X) → AllByRecursion P xs → AllByRecursion Q (map f xs)
-each_map P Q f on [] a = tt
-each_map P Q f on (x ∷ xs) a = (on x a.0, each_map P Q f on xs a.1)
-
-every_map : {X Y : Type 0} (Q : Y → Type 0) (f : X → Y) → ((x : X) → Q (f x)) → (xs : List X) → AllByRecursion Q (map f xs)
-every_map Q f on [] = tt
-every_map Q f on (x ∷ xs) = (on x, every_map Q f on xs)
 
 pub programs_below : (nodes : ℕ) (s : ScheduleValue) (adding chunks : ℕ) → IsInRange chunks nodes s → AreBelow chunks nodes (programs_of nodes s adding)
 programs_below nodes s adding chunks range = every_map (AllByRecursion (IsOpBelow chunks nodes)) (program_of s adding) program (range_with_len 0 nodes)

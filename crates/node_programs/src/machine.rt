@@ -1,7 +1,7 @@
 ghost use Rattle.std.specs.Prelude.{◌≡◌, ◌*◌, ◌+◌, ◌^◌, ◌<◌, ◌≤◌, Some, length, slice_get, if◌then◌else◌, unwrap_or, IfOk, MatchOption};
 ghost use Rattle.node_programs.specs.declared.op.Op.TheVariants as op;
 ghost use Rattle.node_programs.specs.declared.machine.Fired.TheVariants as fired;
-ghost use Rattle.node_programs.specs.Machines.{State, event, is_enabled, is_finished, left_of, queue_in, sent, start_of, taken};
+ghost use Rattle.node_programs.specs.Machines.{State, event, is_enabled, is_finished, left_of, queue_in, after_send, start_of, take_from_queue};
 ghost use Rattle.node_programs.specs.Runs.{operations};
 ghost use Rattle.node_programs.specs.Below.{AreBelow};
 
@@ -142,7 +142,7 @@ impl Machine {
     fn send(&mut self, node: u8, chunk: u16, to: u8, step: u8)
         requires node { node < self.old.store.nodes }
         requires next { slice_get (left_of self.old node) 0 ≡ Some (op.Send chunk to step) }
-        ensures { self.new ≡ sent self.old node chunk to step }
+        ensures { self.new ≡ after_send self.old node chunk to step }
     {
         let bag = self.store.bag(chunk, node);
         let place = self.place(node, to);

@@ -6,7 +6,7 @@ use crate::program::Program;
 use std::marker::Model;
 
 /// The program of each node: the operations that it has still to do.
-#[derive(Debug, Drop)]
+#[derive(Clone, Debug, Drop)]
 pub struct Programs {
     programs: Vec<Program>,
 }

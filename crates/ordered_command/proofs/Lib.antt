@@ -1,2 +1,2 @@
 mod Printed
-mod Asked
+mod OrderDue

@@ -8,7 +8,7 @@ ghost use Rattle.run_rules.specs.Orders.{ordered_text};
 use crate::OutOfMemory;
 use candidate_order::Frontier;
 use report_form::Words;
-use report_printing::{push_all_refuted, push_all_unknown, push_asked, push_points};
+use report_printing::{push_all_refuted, push_all_unknown, push_points, push_synth_line};
 use std::alloc::Global;
 use text_lines::push_word;
 use topology_text::{Name, NamedTopology};
@@ -36,7 +36,7 @@ pub(crate) fn print_ordered(
     let names = topology.names();
     let mut out = Vec::new(alloc);
     push_word(&mut out, b"ordered 1\n")?;
-    push_asked(&mut out, names, words)?;
+    push_synth_line(&mut out, names, words)?;
     push_frontier(&mut out, names, frontier)?;
     push_word(&mut out, b"end\n")?;
     Ok(out)

@@ -29,3 +29,15 @@ file_ending Partial = codes ".partial"
 -- the name as a file of a folder has it
 abbrev pub file_word : ProofName → List ℕ
 file_word name = candidate_word name.part name.s name.r name.c ++ file_ending name.kind
+
+-- parts and kinds by number, so that a test can tell two names apart
+abbrev pub part_number : Part → ℕ
+part_number Whole = 0
+part_number Reduce = 1
+part_number Gather = 2
+part_number Joined = 3
+
+abbrev pub kind_number : FileKind → ℕ
+kind_number Cnf = 0
+kind_number Lrat = 1
+kind_number Partial = 2

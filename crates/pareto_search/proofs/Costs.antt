@@ -1,7 +1,7 @@
 -- What the costs of candidates say of one another.
 use Rattle.std.proofs.Common.{◌≡◌, ◌*◌, ◌-◌, ◌<◌, ◌≤◌, inl, inr, ℕ, List, length, map, subst, ap, sym, ◌∙◌, refl, arith}
 use Rattle.std.specs.Prelude.{All, AllPairs, Any, slice_index_or}
-use Rattle.std.proofs.lemmas.Bool.{cases_order, and_parts, leb-true}
+use Rattle.std.proofs.lemmas.Bool.{cases_order}
 use Rattle.std.proofs.lemmas.List.{get_or-map, get_or_default, length-map}
 use Rattle.std.proofs.lemmas.Option.{slice_get_within, slice_get-get_or, get_or_from_slice_get}
 use Rattle.std.proofs.lemmas.List.Elements.{All-map}
@@ -10,22 +10,13 @@ use Rattle.candidate_order.specs.declared.mark.Mark.TheVariants.{Optimal, Open}
 use Rattle.candidate_order.specs.Costs.{NoWorse, Better, Before}
 use Rattle.candidate_order.specs.Frontiers.{QuestionValue, PointValue, UnknownValue, IsWithin}
 use Rattle.candidate_order.proofs.Costing.{cost_upto, cost_below_right}
-use Rattle.candidate_order.proofs.Orders.{Before-trans}
+use Rattle.candidate_order.proofs.Orders.{Before-trans, has_chunk, Before-irrefl}
 use Rattle.pareto_search.specs.Passing.{LastSettles, IsUnrivalled, IsMark}
-
--- a candidate within the limits has a chunk
-pub some_chunk : (q : QuestionValue) (x : Candidate) → IsWithin q x → 1 ≤ x.c
-some_chunk q x within = leb-true 1 x.c (and_parts _ _ within.allowed).0
-
-pub Before-irrefl : (x : Candidate) → Before x x → ⊥
-Before-irrefl x (inl fewer) = absurd (omega arith)
-Before-irrefl x (inr (same, inl lower)) = absurd (omega arith)
-Before-irrefl x (inr (same, inr (cost, fewer))) = absurd (omega arith)
 
 -- of two candidates only one comes before the other
 pub Before-asym : (q : QuestionValue) (x y : Candidate) → IsWithin q x → IsWithin q y → Before x y → Before y x → ⊥
 Before-asym q x y wx wy a b =
-    Before-irrefl x (Before-trans x y x (some_chunk q x wx) (some_chunk q y wy) (some_chunk q x wx) a b)
+    Before-irrefl x (Before-trans x y x (has_chunk q x wx) (has_chunk q y wy) (has_chunk q x wx) a b)
 
 -- what is no worse than a better candidate comes first, and is no worse
 pub no_worse_than_better : (x y z : Candidate) → 1 ≤ x.c → 1 ≤ y.c → NoWorse x y → Better y z → Before x z × NoWorse x z

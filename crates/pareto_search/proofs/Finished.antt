@@ -3,22 +3,23 @@ use Rattle.std.proofs.Common.{◌≡◌, ◌≢◌, ◌<◌, ◌⊎◌, ℕ, inl
 use Rattle.std.specs.Prelude.{All, AllPairs, Contains, slice_index_or}
 use Rattle.std.specs.List.Sorted.{IsPermutation}
 use Rattle.std.proofs.lemmas.List.Elements.{All-weaker, All-contains, All-contains_itself, Contains-get_or}
+use Rattle.list_laws.proofs.Members.{Contains-map}
 use Rattle.schedule.specs.Sends.{ScheduleValue}
 use Rattle.collective_spec.specs.declared.spec.Spec.{Spec}
 use Rattle.collective_spec.specs.declared.spec.Spec.TheVariants.{Standard, Custom}
 use Rattle.collective_spec.specs.declared.kind.Kind.TheVariants.{Allreduce}
 use Rattle.collective_spec.specs.Collectives.{kind_in, adds_up, reduces}
-use Rattle.candidate_order.proofs.Rows.{Contains-map}
 use Rattle.candidate_order.specs.declared.candidate.Candidate.{Candidate}
 use Rattle.candidate_order.specs.Costs.{NoWorse, Better, Before}
 use Rattle.candidate_order.specs.Ranges.{LimitsValue}
 use Rattle.candidate_order.specs.Frontiers.{QuestionValue, PointValue, UnknownValue, FrontierValue, solved, given_up, IsWithin, IsTried, IsPoint, IsUnknown, WastesNothing, RightFrontier, Searched}
+use Rattle.candidate_order.proofs.Orders.{has_chunk}
 use Rattle.engine_rules.specs.declared.settled.Settled.{Settled}
 use Rattle.engine_rules.specs.declared.settled.Settled.TheVariants.{Solved, Refuted, Unknown}
 use Rattle.engine_rules.specs.Outcomes.{RecordValue}
 use Rattle.pareto_search.specs.Passing.{HasFewerSteps, IsSettled, IsFound, HasPassed, of_kind}
 use Rattle.pareto_search.specs.Recorded.{entries_of}
-use Rattle.pareto_search.proofs.Costs.{some_chunk, no_worse_than_better}
+use Rattle.pareto_search.proofs.Costs.{no_worse_than_better}
 use Rattle.pareto_search.proofs.Records.{of_kind-settled, Contains-of_kind, of_kind-ascends, one_kind, by_kind, by_kind-shuffles}
 use Rattle.pareto_search.proofs.Steps.{points_settled, points_passed}
 use Rattle.pareto_search.proofs.Places.{replaced}
@@ -48,7 +49,7 @@ module _ (q : QuestionValue) (suits : Candidate → ScheduleValue → Type 0) (e
   point_rivalled : (p r : PointValue) → Contains f.points p → Contains f.points r → (x : Candidate) → IsWithin q x → NoWorse r.candidate x → Better x p.candidate → ⊥
   point_rivalled p r hp hr x within h better =
       let worth = (was.tried p.candidate (point_within p hp)).0 (Solved, All-contains (λ y. Contains entries (y, Solved)) (solved f) p.candidate (points_settled q suits (IsWithin q) entries f was) (point_in p hp)) in
-      let first = no_worse_than_better r.candidate x p.candidate (some_chunk q r.candidate (point_within r hr)) (some_chunk q x within) h better in
+      let first = no_worse_than_better r.candidate x p.candidate (has_chunk q r.candidate (point_within r hr)) (has_chunk q x within) h better in
       All-contains (λ a. Before a p.candidate → NoWorse a p.candidate → ⊥) (solved f) r.candidate worth (point_in r hr) first.0 first.1
 
   right_point : (p : PointValue) → Contains f.points p → IsFound q suits (given_up f) p → IsPoint q f.refuted p

@@ -7,10 +7,11 @@ use Rattle.candidate_order.specs.declared.candidate.Candidate.{Candidate}
 use Rattle.candidate_order.specs.declared.mark.Mark.{Mark}
 use Rattle.candidate_order.specs.Costs.{NoWorse, Better, Before}
 use Rattle.candidate_order.specs.Frontiers.{QuestionValue, IsWithin}
+use Rattle.candidate_order.proofs.Orders.{Before-irrefl}
 use Rattle.engine_rules.specs.declared.settled.Settled.{Settled}
 use Rattle.engine_rules.specs.Outcomes.{RecordValue}
 use Rattle.pareto_search.specs.Passing.{IsBefore, IsUpTo, IsSettled, IsMark}
-use Rattle.pareto_search.proofs.Costs.{Before-irrefl, Before-asym, better_first}
+use Rattle.pareto_search.proofs.Costs.{Before-asym, better_first}
 use Rattle.pareto_search.proofs.Records.{Ascends}
 
 -- no point before the candidate is no worse

@@ -11,12 +11,12 @@ use Rattle.candidate_order.specs.declared.candidate.Candidate.{Candidate}
 use Rattle.candidate_order.specs.Costs.{Before}
 use Rattle.candidate_order.specs.Ranges.{LimitsValue}
 use Rattle.candidate_order.specs.Listed.{Within, IsListed, IsCount, AreAllowed}
-use Rattle.candidate_order.proofs.Orders.{listed-within}
+use Rattle.candidate_order.proofs.Orders.{listed-within, Before-irrefl}
 use Rattle.candidate_order.specs.Frontiers.{QuestionValue, FrontierValue, IsWithin}
 use Rattle.engine_rules.specs.Outcomes.{RecordValue}
 use Rattle.pareto_search.specs.Passing.{HasFewerSteps, IsBefore, IsUpTo, IsThrough, IsStep, HasPassed}
 use Rattle.pareto_search.specs.Recorded.{StaysWithin, IsStoppedWithin}
-use Rattle.pareto_search.proofs.Costs.{Before-irrefl, Before-asym}
+use Rattle.pareto_search.proofs.Costs.{Before-asym}
 
 -- the same candidates are passed, said in another way
 pub replaced : (q : QuestionValue) (suits : Candidate → ScheduleValue → Type 0) (passed now : Candidate → Type 0) (entries : RecordValue) (f : FrontierValue) → ((x : Candidate) → passed x ↔ now x) → HasPassed q suits passed entries f → HasPassed q suits now entries f

@@ -1,28 +1,20 @@
 -- A record that ascends: each candidate stands there once, and in the list of its kind.
-use Rattle.std.proofs.Common.{◌≡◌, inl, inr, zero, suc, Bool, true, cond, List, [], ◌∷◌, ◌++◌, length, map, subst, ap, sym, ◌∙◌, refl, arith}
+use Rattle.std.proofs.Common.{◌≡◌, inl, inr, Bool, true, List, [], ◌∷◌, ◌++◌, length, map, subst, ap, sym, ◌∙◌, refl, arith}
 use Rattle.std.specs.Prelude.{All, AllPairs, Contains, filter, slice_index_or}
 use Rattle.std.specs.List.Sorted.{IsPermutation}
-use Rattle.std.proofs.lemmas.Bool.{cases_order, cond_both}
+use Rattle.std.proofs.lemmas.Bool.{cases_order}
 use Rattle.std.proofs.lemmas.List.{get_or-map, get_or_default, length-map, map-append}
 use Rattle.std.proofs.lemmas.List.Elements.{All-map, All-filter, All-contains_itself, filter_passes, filter-append}
 use Rattle.std.proofs.lemmas.List.Kept.{AllPairs-filter}
 use Rattle.std.proofs.lemmas.List.Sorted.{IsPermutation-refl, IsPermutation-sym, IsPermutation-cons, IsPermutation-trans, IsPermutation-append_left, IsPermutation-middle}
-use Rattle.candidate_order.proofs.Rows.{Contains-map}
+use Rattle.list_laws.proofs.Members.{Contains-filter, Contains-map}
 use Rattle.candidate_order.specs.declared.candidate.Candidate.{Candidate}
 use Rattle.candidate_order.specs.Costs.{Before}
+use Rattle.candidate_order.proofs.Orders.{Before-irrefl}
 use Rattle.engine_rules.specs.declared.settled.Settled.{Settled}
 use Rattle.engine_rules.specs.declared.settled.Settled.TheVariants.{Solved, Refuted, Unknown}
 use Rattle.engine_rules.specs.Outcomes.{RecordValue}
 use Rattle.pareto_search.specs.Passing.{is_same, of_kind}
-use Rattle.pareto_search.proofs.Costs.{Before-irrefl}
-
-Contains-filter : {X : Type 0} (p : X → Bool) (xs : List X) (x : X) → p x ≡ true → Contains xs x → Contains (filter p xs) x
-Contains-filter p [] x holds h = absurd (omega (arith, h.1))
-Contains-filter p (y ∷ xs) x holds (zero, below, at) =
-    subst (λ b. Contains (cond b (y ∷ filter p xs) (filter p xs)) x) (sym (ap p at ∙ holds)) (0, omega arith, at)
-Contains-filter p (y ∷ xs) x holds (suc k, below, at) =
-    let rest = Contains-filter p xs x holds (k, omega arith, at) in
-    cond_both (p y) (y ∷ filter p xs) (filter p xs) (λ l. Contains l x) (λ _. (suc rest.0, omega (arith, rest.1), rest.2)) (λ _. rest)
 
 AllPairs-map : {X Y : Type 0} (R : Y → Y → Type 0) (f : X → Y) (xs : List X) → AllPairs (λ a b. R (f a) (f b)) xs → AllPairs R (map f xs)
 AllPairs-map R f [] pairs i j d before below = absurd (omega arith)

@@ -5,18 +5,19 @@ use Rattle.std.proofs.lemmas.Bool.{cases_lt}
 use Rattle.std.proofs.lemmas.List.{get_or_default, map_push, append-nil}
 use Rattle.std.proofs.lemmas.List.Elements.{All-push, All-weaker, All-map, All-contains, Contains-append_left, Contains-push, Contains-get_or}
 use Rattle.std.proofs.lemmas.List.Quantifiers.{Any-push}
+use Rattle.list_laws.proofs.Members.{Contains-map}
 use Rattle.schedule.specs.Sends.{ScheduleValue}
-use Rattle.candidate_order.proofs.Rows.{Contains-map}
 use Rattle.candidate_order.specs.declared.candidate.Candidate.{Candidate}
 use Rattle.candidate_order.specs.declared.mark.Mark.{Mark}
 use Rattle.candidate_order.specs.Costs.{NoWorse, Before}
 use Rattle.candidate_order.specs.Frontiers.{QuestionValue, PointValue, UnknownValue, FrontierValue, solved, given_up, IsWithin, IsSolvable}
+use Rattle.candidate_order.proofs.Orders.{has_chunk, Before-irrefl}
 use Rattle.engine_rules.specs.declared.settled.Settled.{Settled}
 use Rattle.engine_rules.specs.declared.settled.Settled.TheVariants.{Solved, Refuted, Unknown}
 use Rattle.engine_rules.specs.Outcomes.{RecordValue, SolvesTightly}
 use Rattle.pareto_search.specs.Passing.{IsBefore, IsUpTo, IsSettled, IsMark, IsFound, LastSettles, HasPassed, of_kind, with_point, with_refuted, with_unknown}
 use Rattle.pareto_search.specs.Recorded.{StaysWithin, IsStoppedWithin}
-use Rattle.pareto_search.proofs.Costs.{CostsFall, some_chunk, Before-irrefl, steps_upto, settled_by_last}
+use Rattle.pareto_search.proofs.Costs.{CostsFall, steps_upto, settled_by_last}
 use Rattle.pareto_search.proofs.Records.{of_kind-settled, of_kind-append, of_kind-ascends}
 use Rattle.pareto_search.proofs.Passed.{Worth, tried_more, tried_point, ascends_more, passed_more, mark_stays}
 
@@ -59,7 +60,7 @@ module _ (q : QuestionValue) (suits : Candidate → ScheduleValue → Type 0) (e
   by_last : (LastSettles f.points here → Any (λ p. NoWorse p.candidate here) f.points) × (Any (λ p. NoWorse p.candidate here) f.points → LastSettles f.points here)
   by_last =
       let points = points_passed q suits (IsBefore q here) entries f was in
-      settled_by_last f.points here (costs_fall q suits (IsBefore q here) entries f was) (All-weaker (IsBefore q here) (λ x. 1 ≤ x.c) (λ x h. some_chunk q x h.0) (solved f) points) (All-weaker (IsBefore q here) (λ x. x.s ≤ here.s) (λ x h. steps_upto x here h.1) (solved f) points)
+      settled_by_last f.points here (costs_fall q suits (IsBefore q here) entries f was) (All-weaker (IsBefore q here) (λ x. 1 ≤ x.c) (λ x h. has_chunk q x h.0) (solved f) points) (All-weaker (IsBefore q here) (λ x. x.s ≤ here.s) (λ x h. steps_upto x here h.1) (solved f) points)
 
   -- where the last point is worse, each is
   pub none_settles : (LastSettles f.points here → ⊥) → NoneNoWorse f here

@@ -1,12 +1,12 @@
 -- What answers the words for a point of a report, where there is one and where there is none.
-use Rattle.std.proofs.Common.{◌≡◌, ℕ, List, Option, None, Some, Result, Ok, ap}
+use Rattle.std.proofs.Common.{◌≡◌, ℕ, List, Option, None, Some, Result, Ok, ap, Err}
 use Rattle.text_lines.specs.Check.{◌>>=◌, need}
 use Rattle.outer_ports.specs.declared.part.Part.{Part}
 use Rattle.candidate_order.specs.Frontiers.{PointValue}
 use Rattle.report_form.specs.Reports.{ReportValue}
 use Rattle.report_form.specs.Numbered.{point_at}
-use Rattle.point_replay.specs.Showing.{shown_in, shown_text}
-use Rattle.point_replay.specs.Points.{programs_of_point}
+use Rattle.replay_text.specs.Showing.{shown_in, shown_text}
+use Rattle.replay_text.specs.Points.{programs_of_point}
 use Rattle.command_words.specs.declared.command.PointWord.{PointWord}
 use Rattle.command_words.specs.declared.fault.WordCode.TheVariants.{UnknownPoint}
 use Rattle.run_rules.specs.declared.status.Status.{Status}
@@ -24,13 +24,19 @@ module _ (r : ReportValue) (asked : PointWord) (order : Option ℕ) where
   replay_from : Option (Part × PointValue) → Result Task Refusal
   replay_from found = need found (refused_word UnknownPoint asked.word) >>= (λ p. Ok (Write (shown_text asked.point (shown_in r p) order)))
 
-  pub no_replay : (status : Status) (text : List ℕ) → point_at r asked.point ≡ None → SaysNoPoint asked status text → IsAnswerAlone (replay_in r asked order) status text
+  pub no_point : point_at r asked.point ≡ None → replay_in r asked order ≡ Err (refused_word UnknownPoint asked.word)
   unfolding replay_from
-  no_replay status text e says = refused_answers (replay_in r asked order) (refused_word UnknownPoint asked.word) status text (ap replay_from e) says
+  no_point e = ap replay_from e
+
+  pub some_point : (p : Part × PointValue) → point_at r asked.point ≡ Some p → replay_in r asked order ≡ Ok (Write (shown_text asked.point (shown_in r p) order))
+  unfolding replay_from
+  some_point p e = ap replay_from e
+
+  pub no_replay : (status : Status) (text : List ℕ) → point_at r asked.point ≡ None → SaysNoPoint asked status text → IsAnswerAlone (replay_in r asked order) status text
+  no_replay status text e says = refused_answers (replay_in r asked order) (refused_word UnknownPoint asked.word) status text (no_point e) says
 
   pub replay_of : (p : Part × PointValue) (text : List ℕ) → point_at r asked.point ≡ Some p → text ≡ shown_text asked.point (shown_in r p) order → IsAnswerAlone (replay_in r asked order) Done text
-  unfolding replay_from
-  replay_of p text e shown = written_as (replay_in r asked order) (shown_text asked.point (shown_in r p) order) text (ap replay_from e) shown
+  replay_of p text e shown = written_as (replay_in r asked order) (shown_text asked.point (shown_in r p) order) text (some_point p e) shown
 
 module _ (r : ReportValue) (asked : PointWord) where
   programs_from : Option (Part × PointValue) → Result Task Refusal

@@ -6,7 +6,7 @@ ghost use Rattle.run_rules.specs.Tasks.{limit, programs_asked, programs_in};
 
 use crate::OutOfMemory;
 use command_words::{PointWord, WordCode};
-use point_replay::print_point_programs;
+use replay_text::print_point_programs;
 use report_form::{Report, point_at};
 use run_rules::{Answer, ReportText, Status, refused_word, report_of_text};
 use std::alloc::Global;

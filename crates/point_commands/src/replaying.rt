@@ -6,7 +6,7 @@ ghost use Rattle.run_rules.specs.Tasks.{limit, replay_asked, replay_in};
 
 use crate::OutOfMemory;
 use command_words::{PointWord, WordCode};
-use point_replay::replay_point;
+use replay_text::replay_point;
 use report_form::{Report, point_at};
 use run_rules::{Answer, ReportText, Status, refused_word, report_of_text};
 use std::alloc::Global;

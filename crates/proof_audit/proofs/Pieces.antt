@@ -4,6 +4,7 @@ use Rattle.std.specs.Prelude.{◌&&◌, IfSome, nat_le, if◌then◌else◌}
 use Rattle.std.proofs.Math.Seq.{take-add}
 use Rattle.std.proofs.lemmas.Bool.{le-leb, lt-leb}
 use Rattle.std.proofs.lemmas.List.{take-append-drop, take_all, length-append, length-take, length-take-le, append-nil}
+use Rattle.std.proofs.Math.Bool.{and-false}
 use Rattle.outer_ports.specs.Port.{Tells}
 use Rattle.outer_ports.specs.Files.{Files}
 use Rattle.outer_ports.specs.Shelf.{FilesStay, HoldsBytes, ReadsAt}
@@ -63,10 +64,6 @@ by_file test (Some whole) v none some = some whole refl
 failing : (test : List ℕ → Bool) (whole : List ℕ) → test whole ≡ false → Refused ≡ (if test whole then Stands else Refused)
 failing test whole e = sym (ap (λ b. if b then Stands else Refused) e)
 
-none_and : (a : Bool) → (a && false) ≡ false
-none_and true = refl
-none_and false = refl
-
 module _ (before now : List ℕ → Bool) (told : Bool) (file : Option (List ℕ)) (place limit : ℕ) (f : IsFront before now told file place) where
   -- the piece can't begin what passes
   pub refused_piece : (tells : Bool) (piece : List ℕ) → Tells told tells → IsPiece tells file place piece → ((more : List ℕ) → now (piece ++ more) ≡ false) → IsTrue tells → Refused ≡ file_verdict (short_and limit before) file
@@ -78,7 +75,7 @@ module _ (before now : List ℕ → Bool) (told : Bool) (file : Option (List ℕ
           let behind : piece ++ rest ≡ drop place whole = ap (λ bs. bs ++ rest) (p.is t whole e) ∙ take-append-drop (length piece) (drop place whole) in
           let all : f.bytes ++ (piece ++ rest) ≡ whole = ap (λ bs. f.bytes ++ bs) behind ∙ ap (λ bs. bs ++ drop place whole) (f.front (still t) whole e) ∙ take-append-drop place whole in
           let fails : before whole ≡ false = ap before (sym all) ∙ f.same (piece ++ rest) ∙ over rest in
-          failing (short_and limit before) whole (ap (λ b. nat_le (length whole) limit && b) fails ∙ none_and (nat_le (length whole) limit))
+          failing (short_and limit before) whole (ap (λ b. nat_le (length whole) limit && b) fails ∙ and-false (nat_le (length whole) limit))
 
   -- more bytes came than may
   pub refused_length : limit < place → IsTrue told → Refused ≡ file_verdict (short_and limit before) file

@@ -2,6 +2,7 @@
 use Rattle.std.proofs.Common.{◌≡◌, ℕ, suc, Bool, true, false, List, [], ◌∷◌, length, Result, Ok, Err, Option, None, Some, refl, sym, ap, ◌∙◌}
 use Rattle.std.specs.Prelude.{◌&&◌, ◌==◌, if◌then◌else◌, map}
 use Rattle.std.proofs.lemmas.Bool.{and_parts, eqb-true, eq-eqb, and_from}
+use Rattle.text_lines.proofs.Checks.{if_some}
 use Rattle.cnf_formula.specs.Formulas.{FormulaValue}
 use Rattle.cnf_formula.specs.Lines.{ProofLineValue}
 use Rattle.cnf_formula.specs.declared.line.LratLine.{LratLine}
@@ -23,10 +24,6 @@ is_so v e = ap is_implied e
 
 -- ---- refutations
 
-taken : (b : Bool) (o : Option CheckerValue) (d : CheckerValue) → (if b then o else None) ≡ Some d → (b ≡ true) × (o ≡ Some d)
-taken true o d e = (refl, e)
-taken false o d e = absurd (cc)
-
 take_up : (b : Bool) (o : Option CheckerValue) (d : CheckerValue) → b ≡ true → o ≡ Some d → (if b then o else None) ≡ Some d
 take_up true o d a e = e
 take_up false o d a e = absurd (cc)
@@ -34,7 +31,7 @@ take_up false o d a e = absurd (cc)
 pub accepted_after : (c d : CheckerValue) (lines : List LratLine) → checker_after c lines ≡ Some d → AllAccepted c lines × (after c lines ≡ d)
 accepted_after c d [] e = let same : c ≡ d = cc in (tt, same)
 accepted_after c d (line ∷ lines) e =
-    let (now, later) = taken (is_accepted (verdict_on c line)) (checker_after (with_accepted c line) lines) d e in
+    let (now, later) = if_some (is_accepted (verdict_on c line)) (checker_after (with_accepted c line) lines) d e in
     let (rest, is) = accepted_after (with_accepted c line) d lines later in
     ((now, rest), is)
 

@@ -1,9 +1,11 @@
 -- The groups of a line have no fault exactly where each closes its clause, and no clause has two.
-use Rattle.std.proofs.Common.{◌≡◌, ℕ, zero, suc, ◌+◌, ◌<◌, Bool, false, List, [], ◌∷◌, length, get_or, Option, Some, None, Ok, Err, refl, sym, ap, ◌∙◌, inl, inr, ⊎_elim, arith}
+use Rattle.std.proofs.Common.{◌≡◌, ℕ, ◌+◌, Bool, false, List, [], ◌∷◌, get_or, Option, Some, None, Ok, Err, refl, sym, ap, ◌∙◌, inl, inr, ⊎_elim, arith}
 use Rattle.std.specs.Prelude.{◌≢◌, ◌==◌, not, All, AllPairs}
 use Rattle.std.specs.List.{list_any}
 use Rattle.std.proofs.lemmas.Bool.{false≢true, cases_Bool, not_from_true, eqb-false, ne_eqb, or_parts, or_from}
 use Rattle.std.proofs.lemmas.List.Elements.{All-nil, All-cons, All-head, All-tail}
+use Rattle.std.proofs.lemmas.List.Kept.{AllPairs-cons}
+use Rattle.list_laws.proofs.Pairs.{pairs_head, pairs_tail}
 use Rattle.cnf_formula.specs.Literals.{LitValue}
 use Rattle.proof_rules.specs.declared.verdict.LineCode.TheVariants.{NoConflict, PivotNotNegated, GroupTwice}
 use Rattle.proof_rules.specs.Held.{Entry, clause_at}
@@ -65,18 +67,6 @@ module _ (held : List Entry) (pivot : LitValue) (start : List LitValue) where
   abbrev New : List ℕ → Group → Type 0
   New earlier group = is_earlier earlier group ≡ false
 
-  pairs_cons : (g : Group) (gs : List Group) → All (Apart g) gs → AllPairs Apart gs → AllPairs Apart (g ∷ gs)
-  pairs_cons g gs a p zero zero d i j = absurd (omega (arith, i))
-  pairs_cons g gs a p zero (suc k) d i j = a k d (omega (arith, j))
-  pairs_cons g gs a p (suc m) zero d i j = absurd (omega (arith, i))
-  pairs_cons g gs a p (suc m) (suc k) d i j = p m k d (omega (arith, i)) (omega (arith, j))
-
-  pairs_head : (g : Group) (gs : List Group) → AllPairs Apart (g ∷ gs) → All (Apart g) gs
-  pairs_head g gs p k d h = let a : 0 < suc k = omega arith in let b : suc k < length (g ∷ gs) = omega arith in p 0 (suc k) d a b
-
-  pairs_tail : (g : Group) (gs : List Group) → AllPairs Apart (g ∷ gs) → AllPairs Apart gs
-  pairs_tail g gs p m k d h j = let a : suc m < suc k = omega arith in let b : suc k < length (g ∷ gs) = omega arith in p (suc m) (suc k) d a b
-
   pub record AreRight (earlier : List ℕ) (groups : List Group) : Type 0 where
     pub answers : All (Answers held pivot start) groups
     pub new : All (New earlier) groups
@@ -96,18 +86,18 @@ module _ (held : List Entry) (pivot : LitValue) (start : List LitValue) where
           record {
             answers = All-cons (Answers held pivot start) group groups one.0 rest.answers;
             new = All-cons (New earlier) group groups one.1 (λ k d w. (split k d w).1);
-            apart = pairs_cons group groups (λ k d w. eqb-false group.named (get_or groups k d).named (split k d w).0) rest.apart;
+            apart = AllPairs-cons Apart group groups (λ k d w. eqb-false group.named (get_or groups k d).named (split k d w).0) rest.apart;
           }
 
   pub no_fault : (earlier : List ℕ) (groups : List Group) → AreRight earlier groups → groups_fault held pivot start earlier groups ≡ None
   no_fault earlier [] r = refl
   no_fault earlier (group ∷ groups) r =
       let one = answers_one earlier group (All-head (Answers held pivot start) group groups r.answers) (All-head (New earlier) group groups r.new) in
-      let head = pairs_head group groups r.apart in
+      let head = pairs_head Apart group groups r.apart in
       let tail_new = All-tail (New earlier) group groups r.new in
       let rest : AreRight (group.named ∷ earlier) groups = record {
         answers = All-tail (Answers held pivot start) group groups r.answers;
         new = λ k d w. or_from (group.named == (get_or groups k d).named) (is_earlier earlier (get_or groups k d)) (ne_eqb group.named (get_or groups k d).named (head k d w)) (tail_new k d w);
-        apart = pairs_tail group groups r.apart;
+        apart = pairs_tail Apart group groups r.apart;
       } in
       rw (one, groups_fault) (no_fault (group.named ∷ earlier) groups rest)

@@ -1,6 +1,7 @@
 pub mod Calm
 pub mod Groups
 pub mod Hints
+pub mod InTurn
 pub mod Kept
 pub mod Numbered
 pub mod Open

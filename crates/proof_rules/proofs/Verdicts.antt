@@ -1,10 +1,12 @@
 -- An addition has the verdict that it is implied, or that it is accepted without being so, exactly by the definitions.
-use Rattle.std.proofs.Common.{◌≡◌, ℕ, zero, suc, ◌<◌, max, Bool, true, false, List, [], ◌∷◌, length, get_or, Option, Some, None, Ok, Err, refl, sym, ap, ◌∙◌, ⊎_elim, arith}
+use Rattle.std.proofs.Common.{◌≡◌, ℕ, ◌<◌, max, Bool, true, false, List, [], ◌∷◌, length, get_or, Option, Some, None, Ok, Err, refl, sym, ap, ◌∙◌, ⊎_elim, arith}
 use Rattle.std.specs.Prelude.{◌↔◌, ◌==◌, ◌≢◌, if◌then◌else◌, All, AllPairs, nat_le, nat_lt}
 use Rattle.std.specs.List.{list_any, list_all}
 use Rattle.std.proofs.lemmas.Bool.{cases_Bool, cases_eq, ltb-false, leb-false, le-ltb, lt-leb, eqb-false, ne_eqb, or_parts, or_from}
 use Rattle.std.proofs.lemmas.List.Folds.{list_any_none}
 use Rattle.std.proofs.lemmas.List.Sums.{AllPass-from_list_all, list_all-from_AllPass}
+use Rattle.std.proofs.lemmas.List.Kept.{AllPairs-cons}
+use Rattle.list_laws.proofs.Pairs.{pairs_head, pairs_tail}
 use Rattle.cnf_formula.specs.Literals.{LitValue}
 use Rattle.cnf_formula.specs.Formulas.{IsAbout}
 use Rattle.cnf_formula.specs.Lines.{ProofLineValue}
@@ -23,32 +25,20 @@ use Rattle.proof_rules.proofs.Sound.{none_any}
 abbrev Apart : LitValue → LitValue → Type 0
 Apart l other = l.var ≢ other.var
 
-pairs_cons : (l : LitValue) (ls : List LitValue) → All (Apart l) ls → AllPairs Apart ls → AllPairs Apart (l ∷ ls)
-pairs_cons l ls a p zero zero d i j = absurd (omega (arith, i))
-pairs_cons l ls a p zero (suc k) d i j = a k d (omega (arith, j))
-pairs_cons l ls a p (suc m) zero d i j = absurd (omega (arith, i))
-pairs_cons l ls a p (suc m) (suc k) d i j = p m k d (omega (arith, i)) (omega (arith, j))
-
-pairs_head : (l : LitValue) (ls : List LitValue) → AllPairs Apart (l ∷ ls) → All (Apart l) ls
-pairs_head l ls p k d h = let a : 0 < suc k = omega arith in let b : suc k < length (l ∷ ls) = omega arith in p 0 (suc k) d a b
-
-pairs_tail : (l : LitValue) (ls : List LitValue) → AllPairs Apart (l ∷ ls) → AllPairs Apart ls
-pairs_tail l ls p m k d h j = let a : suc m < suc k = omega arith in let b : suc k < length (l ∷ ls) = omega arith in p (suc m) (suc k) d a b
-
 once_each : (ls : List LitValue) → has_variable_twice ls ≡ false → AllPairs Apart ls
 once_each [] h = λ i j d a b. absurd (omega (arith, b))
 once_each (l ∷ ls) h =
     let parts = or_parts (list_any (λ other. other.var == l.var) ls) (has_variable_twice ls) h in
     let none = none_any (λ other. other.var == l.var) ls parts.0 in
-    pairs_cons l ls (λ k d w e. eqb-false (get_or ls k d).var l.var (none k d w) (sym e)) (once_each ls parts.1)
+    AllPairs-cons Apart l ls (λ k d w e. eqb-false (get_or ls k d).var l.var (none k d w) (sym e)) (once_each ls parts.1)
 
 each_once : (ls : List LitValue) → AllPairs Apart ls → has_variable_twice ls ≡ false
 each_once [] p = refl
 each_once (l ∷ ls) p =
-    let head = pairs_head l ls p in
+    let head = pairs_head Apart l ls p in
     or_from (list_any (λ other. other.var == l.var) ls) (has_variable_twice ls)
     (list_any_none (λ other. other.var == l.var) ls (λ k d w. ne_eqb (get_or ls k d).var l.var (λ e. head k d w (sym e))))
-    (each_once ls (pairs_tail l ls p))
+    (each_once ls (pairs_tail Apart l ls p))
 
 pub own_variable : (vars : ℕ) (l : LitValue) → is_foreign vars l ≡ false → IsAbout vars l
 own_variable vars l h =

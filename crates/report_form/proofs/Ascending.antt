@@ -9,7 +9,7 @@ use Rattle.schedule.specs.Sends.{hop_before}
 use Rattle.schedule.proofs.HopOrder.{before_all}
 use Rattle.candidate_order.specs.declared.candidate.Candidate.{Candidate}
 use Rattle.candidate_order.specs.Costs.{Before}
-use Rattle.candidate_order.proofs.Orders.{Before-trans}
+use Rattle.candidate_order.proofs.Orders.{Before-trans, HasChunk}
 use Rattle.report_form.specs.Tests.{comes_next}
 use Rattle.report_form.specs.Points.{follows}
 use Rattle.report_form.proofs.Tested.{decides_before}
@@ -43,9 +43,6 @@ module _ {A : Type 0} (R : A → A → Type 0) (P : A → Type 0) (trans : (a b 
   pub push_behind : (xs : List A) (x : A) → All P xs → P x → AllPairs R xs → ((l : A) → last_or None xs ≡ Some l → R l x) → AllPairs R (xs ++ x ∷ [])
   push_behind xs x ps px ascending behind = all_pairs_push R xs x ascending (behind_each xs x ps px ascending behind)
 
-pub nothing_ascends : {A : Type 0} (R : A → A → Type 0) → AllPairs R []
-nothing_ascends R = λ i j d ordered h. absurd (omega arith)
-
 -- ---- sends and candidates
 
 abbrev pub HopBefore : Hop → Hop → Type 0
@@ -55,9 +52,6 @@ pub push_hop : (before : List Hop) (h : Hop) → AllPairs HopBefore before → f
 push_hop before h ascending next =
     push_behind HopBefore (λ x. Unit {0}) (λ a b c p q r. before_all a b c) before h (λ k d w. tt) tt ascending
     (λ l last. ap (λ o. follows o h) (sym last) ∙ next)
-
-abbrev pub HasChunk : Candidate → Type 0
-HasChunk x = 1 ≤ x.c
 
 pub push_candidate : (before : List Candidate) (x : Candidate) → All HasChunk before → HasChunk x → AllPairs Before before → comes_next (last_or None before) x ≡ true → AllPairs Before (before ++ x ∷ [])
 push_candidate before x some one ascending next =

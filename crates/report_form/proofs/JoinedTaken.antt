@@ -64,6 +64,10 @@ may_join_is q x adding e =
       some_copy = ltb-true adding x.s p7.1;
     }
 
+-- the line of a point is that of its head
+pub same_point_words : (h : HeadValue) (y : PointValue) → y.candidate ≡ h.candidate → y.mark ≡ h.mark → point_words (point_of h [] []) ≡ point_words y
+same_point_words h y a b = ap (λ c. point_words (record { candidate = c; schedule = y.schedule; mark = h.mark })) (sym a) ∙ ap (λ m. point_words (record { candidate = y.candidate; schedule = y.schedule; mark = m })) (sym b)
+
 module _ (names : List (List ℕ)) (q : QuestionValue) (as_many : length names ≡ q.topology.nodes) where
   record JoinedTaken (p : Place) (x : PointValue × Place) : Type 0 where
     lines : p.rows ≡ map row_of (point_lines names x.0) ++ x.1.rows
@@ -87,9 +91,6 @@ module _ (names : List (List ℕ)) (q : QuestionValue) (as_many : length names �
         some_copy = m.some_copy;
       }
 
-  head_words : (h : HeadValue) (y : PointValue) → y.candidate ≡ h.candidate → y.mark ≡ h.mark → point_words (point_of h [] []) ≡ point_words y
-  head_words h y a b = ap (λ c. point_words (record { candidate = c; schedule = y.schedule; mark = h.mark })) (sym a) ∙ ap (λ m. point_words (record { candidate = y.candidate; schedule = y.schedule; mark = m })) (sym b)
-
   joined_take : IsLimits q.limits → (before : List PointValue) (p : Place) (x : PointValue × Place) → joined_point_at names q before p ≡ Ok x → JoinedTaken p x
   unfolding joined_point_at
   joined_take ok before p x e =
@@ -107,7 +108,7 @@ module _ (names : List (List ℕ)) (q : QuestionValue) (as_many : length names �
       let high = may.steps in
       let most = ok.steps in
       record {
-        lines = t.line.rows ∙ (ap (λ ws. row_of ws ∷ head.1.rows) (joined_head_take t.words y r2 ∙ head_words (joined_of y) x.0 candidate marked) ∙ ap (λ rs. row_of (point_words x.0) ∷ rs) s.rows);
+        lines = t.line.rows ∙ (ap (λ ws. row_of ws ∷ head.1.rows) (joined_head_take t.words y r2 ∙ same_point_words (joined_of y) x.0 candidate marked) ∙ ap (λ rs. row_of (point_words x.0) ∷ rs) s.rows);
         valid = joined_valid x.0 y.0 y.1 candidate marked may (s.has (omega (arith, steps, low)) (omega (arith, steps, high, most)));
       }
 

@@ -5,7 +5,7 @@ pub mod LineTaken
 pub mod Shapes
 pub mod ListsTaken
 pub mod PointsTaken
-pub mod AskedTaken
+pub mod SynthLineTaken
 pub mod JoinedTaken
 pub mod FrontiersTaken
 pub mod ReportTaken

@@ -1,30 +1,27 @@
 -- What the checks of refuted and unknown candidates took stands there, and is valid.
 use Rattle.std.proofs.Common.{◌≡◌, ℕ, Bool, true, ◌&&◌, not, List, [], ◌∷◌, ◌++◌, map, None, Some, Result, Ok, sym, ap, ◌∙◌, subst, arith}
-use Rattle.std.specs.Prelude.{◌==◌, decimal, codes, nat_le, All, AllPairs}
+use Rattle.std.specs.Prelude.{◌==◌, decimal, codes, All, AllPairs}
 use Rattle.std.specs.List.{last_or}
-use Rattle.std.proofs.lemmas.Bool.{and_parts, eqb-true, leb-true}
+use Rattle.std.proofs.lemmas.Bool.{and_parts, eqb-true}
 use Rattle.std.proofs.lemmas.List.Elements.{All-push, All-nil}
+use Rattle.list_laws.proofs.Pairs.{no_pairs}
 use Rattle.text_lines.specs.Check.{◌>>=◌, refuse}
 use Rattle.text_lines.proofs.Rows.{row_of}
-use Rattle.collective_spec.specs.Kinds.{divides_evenly}
-use Rattle.collective_spec.specs.Collectives.{kind_in}
 use Rattle.candidate_order.specs.declared.candidate.Candidate.{Candidate}
 use Rattle.candidate_order.specs.Ranges.{IsLimits}
 use Rattle.candidate_order.specs.Costs.{Before}
 use Rattle.candidate_order.specs.Frontiers.{QuestionValue, UnknownValue, IsWithin, IsUnknown}
+use Rattle.candidate_order.proofs.Orders.{has_chunk}
 use Rattle.report_form.specs.declared.fault.ReportCode.{ReportCode}
 use Rattle.report_form.specs.declared.fault.ReportCode.TheVariants as code
 use Rattle.report_form.specs.Spelling.{refuted_words, unknown_words}
 use Rattle.report_form.specs.Tests.{is_within, comes_next}
 use Rattle.report_form.specs.Reading.{refuted_from, refuted_line, unknown_from, unknown_line}
 use Rattle.report_form.proofs.Tested.{decides_within}
-use Rattle.report_form.proofs.Ascending.{HasChunk, push_candidate, nothing_ascends}
+use Rattle.report_form.proofs.Ascending.{push_candidate}
 use Rattle.report_form.proofs.Tokens.{any_number_is}
 use Rattle.report_form.proofs.LineTaken.{on_words_take, Takes, ruled, row_is, map_both}
 use Rattle.report_form.proofs.Shapes.{refuted_take, unknown_take}
-
-pub has_chunk : (q : QuestionValue) (x : Candidate) → IsWithin q x → HasChunk x
-has_chunk q x w = leb-true 1 x.c (and_parts (nat_le 1 x.c) (divides_evenly (kind_in q.spec) q.topology.nodes x.c) w.allowed).0
 
 module _ (q : QuestionValue) where
   -- candidates within the limits, in the order of the search
@@ -33,7 +30,7 @@ module _ (q : QuestionValue) where
     pub ascending : AllPairs Before xs
 
   pub none_listed : AreListed []
-  none_listed = record { within = All-nil (IsWithin q); ascending = nothing_ascends Before }
+  none_listed = record { within = All-nil (IsWithin q); ascending = no_pairs Before }
 
   pub push_listed : (before : List Candidate) (x : Candidate) → AreListed before → IsWithin q x → comes_next (last_or None before) x ≡ true → AreListed (before ++ x ∷ [])
   push_listed before x are w next = record {

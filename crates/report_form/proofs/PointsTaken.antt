@@ -4,6 +4,7 @@ use Rattle.std.specs.Prelude.{◌==◌, codes, nat_le, nat_lt, All, AllPairs}
 use Rattle.std.specs.List.{last_or, list_all}
 use Rattle.std.proofs.lemmas.Bool.{and_parts, and_from, eqb-true, leb-true, lt-ltb}
 use Rattle.std.proofs.lemmas.List.Elements.{All-push, All-nil, All-cons}
+use Rattle.list_laws.proofs.Pairs.{no_pairs}
 use Rattle.text_lines.specs.Text.{Place}
 use Rattle.text_lines.specs.Check.{◌>>=◌, refuse, line_part}
 use Rattle.text_lines.proofs.Checks.{bind_ok, ok_is}
@@ -24,7 +25,7 @@ use Rattle.report_form.specs.Tests.{is_within, comes_next}
 use Rattle.report_form.specs.Lines.{lines_at}
 use Rattle.report_form.specs.Points.{HeadValue, head_from, head_line, rounds_from, are_rounds, rounds_line, send_from, follows, may_be_sent, send_line, schedule_at, frontier_point_at}
 use Rattle.report_form.proofs.Tested.{decides_within}
-use Rattle.report_form.proofs.Ascending.{HopBefore, push_hop, nothing_ascends}
+use Rattle.report_form.proofs.Ascending.{HopBefore, push_hop}
 use Rattle.report_form.proofs.LineTaken.{on_words_take, words_part_take, Takes, TakesPart, lines_take, ruled, row_is, map_both}
 use Rattle.report_form.proofs.Shapes.{head_take, rounds_take, send_take}
 use Rattle.report_form.proofs.ListsTaken.{AreListed, none_listed, push_listed}
@@ -72,7 +73,7 @@ module _ (names : List (List ℕ)) (chunks steps : ℕ) where
     pub ascending : AllPairs HopBefore sends
 
   pub no_sends : AreSends []
-  no_sends = record { steps_are = All-nil (λ h. IsStep steps h.step); below = All-nil (λ h. is_hop_below chunks (length names) h ≡ true); ascending = nothing_ascends HopBefore }
+  no_sends = record { steps_are = All-nil (λ h. IsStep steps h.step); below = All-nil (λ h. is_hop_below chunks (length names) h ≡ true); ascending = no_pairs HopBefore }
 
   abbrev send_rule : List Hop → Hop → Bool
   send_rule before h = may_be_sent chunks steps h && follows (last_or None before) h

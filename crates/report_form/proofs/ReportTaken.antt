@@ -26,10 +26,10 @@ use Rattle.report_form.specs.declared.fault.ReportCode.TheVariants as code
 use Rattle.report_form.specs.Reports.{WordsValue, ReportValue, IsWords, IsReport, parts_of}
 use Rattle.report_form.specs.Spelling.{synth_words, frontier_lines, joined_lines, body_lines, report_lines, report_text}
 use Rattle.report_form.specs.Lines.{whole_line, fixed_line, no_line, among}
-use Rattle.report_form.specs.Asked.{AskedValue, asked_line, root_of, words_from}
+use Rattle.report_form.specs.SynthLine.{AskedValue, asked_line, root_of, words_from}
 use Rattle.report_form.specs.Reading.{frontiers_from, joined_at, body_of, version_of, version_line, is_same, report_of}
 use Rattle.report_form.proofs.LineTaken.{LineTaken, line_taken, whole_take, fixed_part_take, nothing_take}
-use Rattle.report_form.proofs.AskedTaken.{asked_words, asked_part, words_take}
+use Rattle.report_form.proofs.SynthLineTaken.{asked_words, asked_part, words_take}
 use Rattle.report_form.proofs.FrontiersTaken.{rows_split, frontiers_take, joined_lines_take}
 
 -- ---- the body

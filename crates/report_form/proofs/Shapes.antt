@@ -44,7 +44,7 @@ refuted_take words x e =
     let P : Candidate → Type 0 = λ z. words ≡ refuted_words z in
     subst P same (fixed_take (codes "refuted") words a r1 ∙ ap (λ ws. codes "refuted" ∷ ws) (candidate_take a y r2 ∙ ap (λ ws. decimal y.0.s ∷ decimal y.0.r ∷ decimal y.0.c ∷ ws) (no_more_take y.1 u r3)))
 
-abbrev unknown : Candidate → ℕ → UnknownValue
+abbrev pub unknown : Candidate → ℕ → UnknownValue
 unknown x n = record { candidate = x; conflicts = n }
 
 -- the token of the conflicts stands there, whatever its size

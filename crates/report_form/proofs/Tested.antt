@@ -2,7 +2,7 @@
 use Rattle.std.proofs.Common.{ℕ, ◌+◌, ◌*◌, ◌≤◌}
 use Rattle.std.specs.Prelude.{◌==◌, ◌&&◌, ◌||◌, Bool, nat_le, nat_lt, IsTrue, Decides}
 use Rattle.std.proofs.lemmas.Bool.{leb-true, le-leb}
-use Rattle.std.proofs.lemmas.Bool.Decides.{Decides-and, Decides-or, Decides-eqb, Decides-ltb}
+use Rattle.std.proofs.lemmas.Bool.Decides.{Decides-and, Decides-or, Decides-eqb, Decides-ltb, Decides-like}
 use Rattle.collective_spec.specs.Kinds.{allows}
 use Rattle.collective_spec.specs.Collectives.{kind_in}
 use Rattle.candidate_order.specs.declared.candidate.Candidate.{Candidate}
@@ -13,9 +13,6 @@ use Rattle.report_form.specs.Tests.{are_limits, is_within, is_no_worse, is_bette
 
 leb_decides : (a b : ℕ) → Decides (nat_le a b) (a ≤ b)
 leb_decides a b = (leb-true a b, le-leb a b)
-
-by_parts : {P Q : Type 0} (r : Bool) → Decides r P → (P → Q) → (Q → P) → Decides r Q
-by_parts r d to from = (λ e. to (d.0 e), λ q. d.1 (from q))
 
 itself : (b : Bool) → Decides b (IsTrue b)
 itself b = (λ e. e, λ e. e)
@@ -45,17 +42,17 @@ six p q r s t u dp dq dr ds dt du =
 
 pub decides_within : (q : QuestionValue) (x : Candidate) → Decides (is_within q x) (IsWithin q x)
 decides_within q x =
-    by_parts (is_within q x)
-    (six (nat_le 1 x.s) (nat_le x.s q.limits.max_s) (nat_le x.s x.r) (nat_le x.r (x.s + q.limits.k)) (nat_le x.c q.limits.max_c) (allows (kind_in q.spec) q.topology.nodes x.c)
-    (leb_decides _ _) (leb_decides _ _) (leb_decides _ _) (leb_decides _ _) (leb_decides _ _) (itself _))
+    Decides-like (is_within q x)
     (λ h. record { some_steps = h.0.0.0.0.0; steps = h.0.0.0.0.1; all_rounds = h.0.0.0.1; rounds = h.0.0.1; chunks = h.0.1; allowed = h.1 })
     (λ h. (((((h.some_steps, h.steps), h.all_rounds), h.rounds), h.chunks), h.allowed))
+    (six (nat_le 1 x.s) (nat_le x.s q.limits.max_s) (nat_le x.s x.r) (nat_le x.r (x.s + q.limits.k)) (nat_le x.c q.limits.max_c) (allows (kind_in q.spec) q.topology.nodes x.c)
+    (leb_decides _ _) (leb_decides _ _) (leb_decides _ _) (leb_decides _ _) (leb_decides _ _) (itself _))
 
 pub decides_limits : (l : LimitsValue) → Decides (are_limits l) (IsLimits l)
 decides_limits l =
-    by_parts (are_limits l)
+    Decides-like (are_limits l)
+    (λ h. record { k = h.0.0.0.0.0.0; some_steps = h.0.0.0.0.0.1; steps = h.0.0.0.0.1; some_chunks = h.0.0.0.1; chunks = h.0.0.1; some_conflicts = h.0.1; conflicts = h.1 })
+    (λ h. ((((((h.k, h.some_steps), h.steps), h.some_chunks), h.chunks), h.some_conflicts), h.conflicts))
     (Decides-and (nat_le l.k 8 && nat_le 1 l.max_s && nat_le l.max_s 8 && nat_le 1 l.max_c && nat_le l.max_c 16 && nat_le 1 l.conflicts) (nat_le l.conflicts 100000)
     (six (nat_le l.k 8) (nat_le 1 l.max_s) (nat_le l.max_s 8) (nat_le 1 l.max_c) (nat_le l.max_c 16) (nat_le 1 l.conflicts)
     (leb_decides _ _) (leb_decides _ _) (leb_decides _ _) (leb_decides _ _) (leb_decides _ _) (leb_decides _ _)) (leb_decides _ _))
-    (λ h. record { k = h.0.0.0.0.0.0; some_steps = h.0.0.0.0.0.1; steps = h.0.0.0.0.1; some_chunks = h.0.0.0.1; chunks = h.0.0.1; some_conflicts = h.0.1; conflicts = h.1 })
-    (λ h. ((((((h.k, h.some_steps), h.steps), h.some_chunks), h.chunks), h.some_conflicts), h.conflicts))

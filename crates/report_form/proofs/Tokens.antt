@@ -1,13 +1,13 @@
 -- What the checks of tokens took stands there.
-use Rattle.std.proofs.Common.{◌≡◌, ℕ, ◌<◌, ◌^◌, Bool, true, false, ◌&&◌, not, List, [], ◌∷◌, ◌++◌, length, drop, Option, None, Some, Result, Ok, refl, sym, ap, ◌∙◌, subst, arith}
-use Rattle.std.specs.Prelude.{◌==◌, if◌then◌else◌, bytes_eq, decimal, nat_eq, nat_le}
+use Rattle.std.proofs.Common.{◌≡◌, ℕ, ◌<◌, ◌^◌, true, ◌&&◌, not, List, [], ◌∷◌, ◌++◌, length, drop, Option, Some, Result, Ok, refl, sym, ap, ◌∙◌, subst, arith}
+use Rattle.std.specs.Prelude.{◌==◌, bytes_eq, decimal, nat_eq, nat_le}
 use Rattle.std.specs.List.{starts_with, list_all}
 use Rattle.std.specs.Str.Parse.{AllDigits, digits_value}
 use Rattle.std.proofs.lemmas.Bool.{and_parts, not-true, not-false, leb-true, eqb-false}
 use Rattle.std.proofs.lemmas.Bool.Decides.{Decides-eqb}
 use Rattle.std.proofs.lemmas.Slice.Eq.{bytes_eq-Decides, starts_is}
 use Rattle.std.proofs.lemmas.Option.{same_Some}
-use Rattle.text_lines.proofs.Checks.{need_ok, refuse_ok, ok_is}
+use Rattle.text_lines.proofs.Checks.{need_ok, refuse_ok, ok_is, if_some}
 use Rattle.text_lines.proofs.Numbers.{up_to_found, spells, digit_is}
 use Rattle.topology_text.specs.Spelling.{name_at}
 use Rattle.topology_text.specs.Reading.{begins, node_of}
@@ -58,10 +58,6 @@ node_take names words x e =
     let t = word_take (node_of names) words x e in
     let (below, named) = node_is names t.word x.0 t.read_as in
     (t.stands ∙ ap (λ w. w ∷ x.1) (sym named), below)
-
-pub if_some : {A : Type 0} (b : Bool) (o : Option A) (x : A) → (if b then o else None) ≡ Some x → (b ≡ true) × (o ≡ Some x)
-if_some true o x e = (refl, e)
-if_some false o x e = absurd (cc)
 
 digits_all : (bs : List ℕ) → list_all is_digit bs ≡ true → AllDigits 10 bs
 digits_all [] e = tt

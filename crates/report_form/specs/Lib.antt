@@ -5,7 +5,7 @@ pub mod Answer
 pub mod Tests
 pub mod Fields
 pub mod Lines
-pub mod Asked
+pub mod SynthLine
 pub mod Points
 pub mod Reading
 pub mod First

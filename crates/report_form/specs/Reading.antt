@@ -17,7 +17,7 @@ use Rattle.report_form.specs.Reports.{WordsValue, ReportValue, parts_of, questio
 use Rattle.report_form.specs.Fields.{any_number, next_word, fixed_word, no_more}
 use Rattle.report_form.specs.Lines.{whole_line, tokens_line, fixed_line, no_line, among, lines_at, parts_at}
 use Rattle.report_form.specs.Tests.{is_within, comes_next}
-use Rattle.report_form.specs.Asked.{asked_line, root_of, words_from}
+use Rattle.report_form.specs.SynthLine.{asked_line, root_of, words_from}
 use Rattle.report_form.specs.Points.{candidate_from, frontier_point_at, joined_point_at}
 
 -- ---- lines of candidates without a schedule

@@ -2,6 +2,7 @@
 use Rattle.std.proofs.Common.{◌≡◌, ℕ, List, [], ◌∷◌, ◌++◌, map, length, Result, Ok, Err, ◌⊎◌, inl, inr, sym, ap, ◌∙◌}
 use Rattle.std.specs.Prelude.{codes, flat_map}
 use Rattle.std.proofs.lemmas.List.Elements.{All-nil}
+use Rattle.list_laws.proofs.Pairs.{no_pairs}
 use Rattle.text_lines.specs.Text.{Place}
 use Rattle.text_lines.specs.Check.{◌>>=◌, line_part}
 use Rattle.text_lines.proofs.Checks.{bind_err, part_err_at}
@@ -17,7 +18,6 @@ use Rattle.report_form.specs.Spelling.{point_lines, refuted_words, unknown_words
 use Rattle.report_form.specs.Lines.{fixed_line, lines_at, parts_at}
 use Rattle.report_form.specs.Points.{frontier_point_at}
 use Rattle.report_form.specs.Reading.{refuted_line, unknown_line, part_bytes, frontier_at}
-use Rattle.report_form.proofs.Ascending.{nothing_ascends}
 use Rattle.report_form.proofs.LineTaken.{fixed_part_take, lines_take, parts_take}
 use Rattle.report_form.proofs.ListsTaken.{AreListed, none_listed, refuted_takes, AreUnknown, none_unknown, unknown_takes}
 use Rattle.report_form.proofs.PointsTaken.{ArePoints, no_points, point_takes}
@@ -35,9 +35,9 @@ nothing_valid q = record {
   points = All-nil (IsPoint q);
   refuted = All-nil (IsWithin q);
   unknown = All-nil (IsUnknown q);
-  points_ascend = nothing_ascends Before;
-  refuted_ascend = nothing_ascends Before;
-  unknown_ascend = nothing_ascends Before;
+  points_ascend = no_pairs Before;
+  refuted_ascend = no_pairs Before;
+  unknown_ascend = no_pairs Before;
 }
 
 pub record FrontierFilled (names : List (List ℕ)) (q : QuestionValue) (x : Part) (p : Place) (n : ℕ) : Type 0 where

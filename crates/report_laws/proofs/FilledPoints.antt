@@ -24,7 +24,7 @@ use Rattle.report_form.proofs.LineTaken.{words_part_take, ruled, map_both}
 use Rattle.report_form.proofs.Shapes.{head_take, joined_head_take}
 use Rattle.report_form.proofs.ListsTaken.{AreListed, push_listed}
 use Rattle.report_form.proofs.PointsTaken.{point_of, ArePoints}
-use Rattle.report_form.proofs.JoinedTaken.{may_join_is, joined_valid}
+use Rattle.report_form.proofs.JoinedTaken.{may_join_is, joined_valid, same_point_words}
 use Rattle.topology_text.proofs.Cuts.{Cut}
 use Rattle.report_laws.proofs.Cuts.{Counted, counted_line, counted_then, cut_behind, FillsPart}
 use Rattle.report_laws.proofs.FilledSchedules.{SomeRounds, some_rounds, fill_schedule, counted_schedule}
@@ -41,9 +41,6 @@ module _ (names : List (List ℕ)) (q : QuestionValue) (as_many : length names �
 
   abbrev line_of_head : List PointValue → Option Row → Result HeadValue ReportCode
   line_of_head before = head_line q (last_or None (map (λ y. y.candidate) before))
-
-  head_spelled : (h : HeadValue) (y : PointValue) → y.candidate ≡ h.candidate → y.mark ≡ h.mark → point_words (point_of h [] []) ≡ point_words y
-  head_spelled h y a b = ap (λ c. point_words (record { candidate = c; schedule = y.schedule; mark = h.mark })) (sym a) ∙ ap (λ m. point_words (record { candidate = y.candidate; schedule = y.schedule; mark = m })) (sym b)
 
   -- the line of a point that was read, and what holds of it
   record HeadRead (before : List PointValue) (p : Place) (h : HeadValue × Place) : Type 0 where
@@ -92,7 +89,7 @@ module _ (names : List (List ℕ)) (q : QuestionValue) (as_many : length names �
               each = All-push (IsPoint q) before x are.each valid;
               listed = subst (AreListed q) (sym (map_both (λ y. y.candidate) before (x ∷ []))) (push_listed q (map (λ y. y.candidate) before) x.candidate are.listed within (ap (comes_next (last_or None (map (λ y. y.candidate) before))) f.candidate ∙ r.next));
             },
-            cut_behind (point_words x ∷ []) (schedule_lines names x) p h.1 e.1 (r.rows ∙ ap (λ ws. row_of ws ∷ h.1.rows) (head_spelled h.0 x f.candidate f.mark)) (counted_line (line_of_head before) (λ v k. cc) p h read) f.cut,
+            cut_behind (point_words x ∷ []) (schedule_lines names x) p h.1 e.1 (r.rows ∙ ap (λ ws. row_of ws ∷ h.1.rows) (same_point_words h.0 x f.candidate f.mark)) (counted_line (line_of_head before) (λ v k. cc) p h read) f.cut,
           )
 
   pub counted_point : (before : List PointValue) → Counted (frontier_point_at names q before)
@@ -136,7 +133,7 @@ module _ (names : List (List ℕ)) (q : QuestionValue) (as_many : length names �
           inr (
             x,
             All-push (IsJoinedPoint q) before x are (joined_valid names q as_many x y.0 y.1 candidate marked may f.has),
-            cut_behind (point_words x ∷ []) (schedule_lines names x) p h.1 e.1 (t.line.rows ∙ ap (λ ws. row_of ws ∷ h.1.rows) (joined_head_take t.words y r2 ∙ head_spelled (joined_head y) x candidate marked)) (counted_line (joined_head_line q) (λ v k. cc) p h read) f.cut,
+            cut_behind (point_words x ∷ []) (schedule_lines names x) p h.1 e.1 (t.line.rows ∙ ap (λ ws. row_of ws ∷ h.1.rows) (joined_head_take t.words y r2 ∙ same_point_words (joined_head y) x candidate marked)) (counted_line (joined_head_line q) (λ v k. cc) p h read) f.cut,
           )
 
   pub counted_joined : (before : List PointValue) → Counted (joined_point_at names q before)

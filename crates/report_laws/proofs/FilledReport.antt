@@ -20,11 +20,12 @@ use Rattle.report_form.specs.declared.fault.ReportCode.TheVariants as code
 use Rattle.report_form.specs.Reports.{WordsValue, ReportValue, IsWords, IsReport, IsJoinedPoint, question_of, parts_of}
 use Rattle.report_form.specs.Spelling.{report_lines}
 use Rattle.report_form.specs.Fields.{next_keyed, fixed_word, no_more}
-use Rattle.report_form.specs.Asked.{AskedValue, kind_named, limits_from, root_from, asked_from, may_be_asked, asked_line, root_of}
+use Rattle.report_form.specs.SynthLine.{AskedValue, kind_named, limits_from, root_from, asked_from, may_be_asked, asked_line, root_of}
 use Rattle.report_form.proofs.LineTaken.{words_part_take, ruled}
-use Rattle.report_form.proofs.AskedTaken.{keyed_take, asked_check}
+use Rattle.report_form.proofs.SynthLineTaken.{keyed_take, asked_check}
 use Rattle.topology_text.proofs.Cuts.{Cut}
 use Rattle.report_laws.proofs.FilledParts.{nothings, nothings_parts, nothings_valid}
+use Rattle.report_laws.proofs.SynthLineAgain.{after_root, after_limits, after_kind, after_synth}
 
 -- ---- the name of the root
 
@@ -48,18 +49,6 @@ root_named kind words x e name is = chosen (takes_root kind) e
 
 abbrev made : Kind → LimitsValue → Option (List ℕ) → Result AskedValue ReportCode
 made kind l root = Ok (record { kind = kind; limits = l; root = root })
-
-abbrev after_root : Kind → LimitsValue → Option (List ℕ) × List (List ℕ) → Result AskedValue ReportCode
-after_root kind l root = no_more root.1 >>= (λ u. made kind l root.0)
-
-abbrev after_limits : Kind → LimitsValue × List (List ℕ) → Result AskedValue ReportCode
-after_limits kind l = root_from kind l.1 >>= after_root kind l.0
-
-abbrev after_kind : Kind × List (List ℕ) → Result AskedValue ReportCode
-after_kind kind = limits_from kind.1 >>= after_limits kind.0
-
-abbrev after_synth : Bool → List (List ℕ) → Result AskedValue ReportCode
-after_synth patterned a = next_keyed (codes "collective=") (kind_named patterned) a >>= after_kind
 
 pub asked_named : (patterned : Bool) (p : Place) (x : AskedValue × Place) → line_part (asked_line patterned) p ≡ Ok x → (name : List ℕ) → x.0.root ≡ Some name → is_name name ≡ true
 asked_named patterned p x e name is =

@@ -14,7 +14,7 @@ use Rattle.topology_text.specs.Value.{NamedTopologyValue, named_with}
 use Rattle.topology_text.specs.Spelling.{version_word, header_words, nodes_words, group_words, custom_lines, lines_of}
 use Rattle.topology_text.specs.Reading.{header_line, nodes_line, groups_at, pattern_at}
 use Rattle.topology_text.proofs.Front.{head_is}
-use Rattle.topology_text.proofs.Front as front
+use Rattle.topology_text.specs.Spelling as spelling
 use Rattle.topology_text.proofs.Groups.{place, Groups, groups_nil, groups_take}
 use Rattle.topology_text.proofs.Patterns.{pattern_take}
 use Rattle.topology_text.proofs.Laws.{header_taken, names_taken, nodes_taken, named_valid, group_lines}
@@ -25,12 +25,12 @@ use Rattle.report_form.specs.declared.fault.ReportCode.TheVariants as code
 use Rattle.report_form.specs.Reports.{ReportValue, IsReport}
 use Rattle.report_form.specs.Spelling.{synth_words, report_lines, report_text}
 use Rattle.report_form.specs.Lines.{among}
-use Rattle.report_form.specs.Asked.{AskedValue, asked_line, root_of, words_from}
+use Rattle.report_form.specs.SynthLine.{AskedValue, asked_line, root_of, words_from}
 use Rattle.report_form.specs.Points.{frontier_point_at, joined_point_at, schedule_at}
 use Rattle.report_form.specs.Reading.{body_of, frontier_at, version_line, is_same, report_of}
 use Rattle.report_form.specs.Rows.{broadcast_report, moved_report}
 use Rattle.report_form.proofs.FrontiersTaken.{rows_split}
-use Rattle.report_form.proofs.AskedTaken.{asked_words, asked_part, words_take}
+use Rattle.report_form.proofs.SynthLineTaken.{asked_words, asked_part, words_take}
 use Rattle.report_form.proofs.Blamed.{broadcast_valid}
 use Rattle.report_form.proofs.ReportTaken.{head_words, head_spelled, version_take, version_kept, pattern_fits, among_ok, after_pattern, after_groups, after_root, after_names, after_same, after_header, after_asked, after_head, report_at, report_take}
 use Rattle.report_laws.proofs.SteadyLists.{among_err}
@@ -103,7 +103,7 @@ module _ (rows : List Row) (p : Place) (e : ReportCode × ℕ) where
         header_read : (c : Option PatternValue) → is_some c ≡ h.0 → (lines : List (List (List ℕ))) → Cut lines d.1 e.1 → Cut (header_words c ∷ lines) a.1 e.1
         header_read c shown lines cut =
             let (at, number) = header_taken a.1 d rd in
-            cut_after (header_words c ∷ []) lines a.1 d.1 e.1 (at ∙ ap (λ b. row_of (front.head_words b) ∷ d.1.rows) (same ∙ sym shown) ∙ ap (λ ws. row_of ws ∷ d.1.rows) (sym (head_is c))) number cut
+            cut_after (header_words c ∷ []) lines a.1 d.1 e.1 (at ∙ ap (λ b. row_of (spelling.head_words b) ∷ d.1.rows) (same ∙ sym shown) ∙ ap (λ ws. row_of ws ∷ d.1.rows) (sym (head_is c))) number cut
 
         -- the line of the nodes fails, or the root is not among them
         at_nodes : e.1 ≡ d.1.number → ReportFilled p e.1

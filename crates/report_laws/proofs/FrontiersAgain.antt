@@ -11,6 +11,7 @@ use Rattle.outer_ports.specs.declared.part.Part.TheVariants as part
 use Rattle.collective_spec.specs.declared.kind.Kind.{Kind}
 use Rattle.collective_spec.specs.declared.kind.Kind.TheVariants as kind
 use Rattle.collective_spec.specs.Patterns.{IsPattern}
+use Rattle.collective_spec.proofs.Chunks.{FewBase}
 use Rattle.candidate_order.specs.declared.candidate.Candidate.{Candidate}
 use Rattle.candidate_order.specs.Ranges.{IsLimits}
 use Rattle.candidate_order.specs.Frontiers.{QuestionValue, PointValue, UnknownValue, FrontierValue, IsWithin, IsUnknown}
@@ -28,7 +29,7 @@ use Rattle.report_form.proofs.PointsTaken.{ArePoints}
 use Rattle.report_form.proofs.FrontiersTaken.{rows_split, frontier, IsFrontierOf}
 use Rattle.report_laws.proofs.LinesAgain.{fixed_part_again, Reads, Ends, lines_again, parts_again}
 use Rattle.report_laws.proofs.ListsAgain.{behind_lines, refuted_reads, unknown_reads}
-use Rattle.report_laws.proofs.PointsAgain.{FewBase, base_of, point_reads}
+use Rattle.report_laws.proofs.PointsAgain.{base_of, point_reads}
 use Rattle.report_laws.proofs.JoinedAgain.{joined_reads}
 
 -- ---- what follows a part

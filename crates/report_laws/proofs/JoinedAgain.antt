@@ -8,6 +8,7 @@ use Rattle.text_lines.specs.Check.{◌>>=◌, refuse}
 use Rattle.text_lines.proofs.Distinct.{next_has}
 use Rattle.text_lines.proofs.Rows.{AreTokens, row_of}
 use Rattle.text_lines.proofs.Words.{tokens_from}
+use Rattle.collective_spec.proofs.Chunks.{FewBase}
 use Rattle.candidate_order.specs.declared.candidate.Candidate.{Candidate}
 use Rattle.candidate_order.specs.declared.mark.Mark.{Mark}
 use Rattle.candidate_order.specs.declared.mark.Mark.TheVariants as mark
@@ -22,7 +23,7 @@ use Rattle.report_form.specs.Points.{HeadValue, may_join, schedule_at, joined_po
 use Rattle.report_form.proofs.JoinedTaken.{joined_of, joined_check}
 use Rattle.report_laws.proofs.LinesAgain.{words_part_again, Ends, ReadsPart}
 use Rattle.report_laws.proofs.ShapesAgain.{IsSmall, MarkIsSmall, head_words, joined_head_again, head_are_words}
-use Rattle.report_laws.proofs.PointsAgain.{FewBase, head_of, schedule_lines, schedule_again, schedule_are_tokens}
+use Rattle.report_laws.proofs.PointsAgain.{head_of, schedule_lines, schedule_again, schedule_are_tokens}
 
 -- a joined point passes the eight tests of a join
 may_join_again : (q : QuestionValue) (p : PointValue) (is : IsJoinedPoint q p) → may_join q p.candidate is.adding ≡ true

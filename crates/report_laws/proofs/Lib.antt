@@ -6,7 +6,7 @@ pub mod SendsAgain
 pub mod PointsAgain
 pub mod JoinedAgain
 pub mod FrontiersAgain
-pub mod AskedAgain
+pub mod SynthLineAgain
 pub mod SpelledTokens
 pub mod LocalLines
 pub mod SteadyLists

@@ -1,9 +1,9 @@
 -- Lines and parts that repeat fail alike where their lines are the same.
-use Rattle.std.proofs.Common.{◌≡◌, ℕ, zero, suc, ◌+◌, ◌<◌, ◌≤◌, Bool, true, false, List, [], ◌∷◌, ◌++◌, length, Option, Some, Result, Ok, Err, refl, sym, ap, subst, arith}
+use Rattle.std.proofs.Common.{◌≡◌, ℕ, zero, suc, ◌+◌, ◌<◌, ◌≤◌, Bool, true, false, List, [], ◌∷◌, ◌++◌, length, Option, Some, Result, Ok, refl, sym, ap, subst, arith}
 use Rattle.std.specs.Prelude.{if◌then◌else◌}
 use Rattle.text_lines.specs.Text.{Row, Place}
-use Rattle.text_lines.specs.Check.{◌>>=◌, at_line, first, line_part}
-use Rattle.text_lines.proofs.Checks.{part_ok}
+use Rattle.text_lines.specs.Check.{◌>>=◌, first, line_part}
+use Rattle.text_lines.proofs.Checks.{part_ok, after_line}
 use Rattle.topology_text.specs.Reading.{begins}
 use Rattle.topology_text.proofs.Groups.{place}
 use Rattle.report_form.specs.declared.fault.ReportCode.{ReportCode}
@@ -11,10 +11,6 @@ use Rattle.report_form.specs.Lines.{row_begins, lines_from, parts_from}
 use Rattle.topology_text.proofs.Steady.{Moves, Alike, moves_line, alike_line, moves_bind, alike_bind, found, moves_found, alike_found, alike_stop, alike_apart, alike_choose, moves_choose}
 
 -- ---- lines that repeat
-
-after_line : {A B C : Type 0} (n : ℕ) (c : Result A C) (p : Place) (f : A × Place → Result B (C × ℕ)) → (at_line n c >>= (λ x. f (x, p))) ≡ ((at_line n c >>= (λ x. Ok (x, p))) >>= f)
-after_line n (Ok x) p f = refl
-after_line n (Err e) p f = refl
 
 module _ {A : Type 0} (word : List ℕ) (check : List A → Option Row → Result A ReportCode) where
   abbrev next_line : List A → A × Place → Result (List A × Place) (ReportCode × ℕ)

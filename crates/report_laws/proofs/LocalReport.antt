@@ -17,7 +17,7 @@ use Rattle.report_form.specs.declared.fault.ReportCode.TheVariants as code
 use Rattle.report_form.specs.Reports.{WordsValue, ReportValue, IsReport, parts_of, question_of}
 use Rattle.report_form.specs.Spelling.{report_text}
 use Rattle.report_form.specs.Lines.{fixed_line, no_line, parts_at, among}
-use Rattle.report_form.specs.Asked.{AskedValue, asked_line, root_of, words_from}
+use Rattle.report_form.specs.SynthLine.{AskedValue, asked_line, root_of, words_from}
 use Rattle.report_form.specs.Points.{joined_point_at}
 use Rattle.report_form.specs.Reading.{part_bytes, frontier_at, frontiers_from, joined_at, body_of, version_line, is_same, report_of}
 use Rattle.report_form.specs.First.{Agrees}

@@ -3,7 +3,6 @@ use Rattle.std.proofs.Common.{◌≡◌, ℕ, ◌+◌, ◌≤◌, Bool, true, �
 use Rattle.std.specs.Prelude.{codes, All, IfSome}
 use Rattle.std.specs.List.{last_or, AllByRecursion}
 use Rattle.std.proofs.lemmas.Bool.{and_from}
-use Rattle.std.proofs.lemmas.Nat.{mul-le}
 use Rattle.text_lines.specs.Text.{Row, Place}
 use Rattle.text_lines.specs.Check.{◌>>=◌, refuse}
 use Rattle.text_lines.proofs.Distinct.{next_has}
@@ -11,13 +10,11 @@ use Rattle.text_lines.proofs.Rows.{AreTokens, row_of}
 use Rattle.text_lines.proofs.Words.{tokens_from}
 use Rattle.schedule.specs.declared.hop.Hop.{Hop}
 use Rattle.schedule.specs.Sends.{IsStep, is_hop_below}
-use Rattle.collective_spec.specs.declared.kind.Kind.{Kind}
 use Rattle.collective_spec.specs.declared.kind.Kind.TheVariants as kind
-use Rattle.collective_spec.specs.Collectives.{chunks_of, chunks_in, spec_of}
+use Rattle.collective_spec.specs.Collectives.{chunks_in, spec_of}
 use Rattle.collective_spec.specs.Patterns.{PatternValue, IsPattern}
-use Rattle.collective_spec.specs.declared.spec.Spec.{Spec}
-use Rattle.collective_spec.specs.declared.spec.Spec.TheVariants as spec
 use Rattle.outer_ports.specs.declared.part.Part.{Part}
+use Rattle.collective_spec.proofs.Chunks.{FewBase, chunks_few}
 use Rattle.candidate_order.specs.declared.candidate.Candidate.{Candidate}
 use Rattle.candidate_order.specs.declared.mark.Mark.{Mark}
 use Rattle.candidate_order.specs.declared.mark.Mark.TheVariants as mark
@@ -42,33 +39,12 @@ use Rattle.report_laws.proofs.SendsAgain.{rounds_small, rounds_kept, rounds_toke
 
 -- ---- a schedule behind the head of its point
 
--- a pattern has at most 16 chunks
-abbrev pub FewBase : Spec → Type 0
-FewBase (spec.Standard collective) = Unit {0}
-FewBase (spec.Custom p) = p.base ≤ 16
-
 pub base_of : (words : WordsValue) (t : NamedTopologyValue) (x : Part) → IfSome t.custom (IsPattern t.topology.nodes) → FewBase (spec_of (record { kind = kind_of words.collective.kind x; root = words.collective.root }) t.custom)
 base_of words t x given = by_pattern t.custom given
   where
     by_pattern : (o : Option PatternValue) → IfSome o (IsPattern t.topology.nodes) → FewBase (spec_of (record { kind = kind_of words.collective.kind x; root = words.collective.root }) o)
     by_pattern None none = tt
     by_pattern (Some p) is = is.few
-
-standard_few : (k : Kind) (nodes c : ℕ) → nodes ≤ 16 → c ≤ 16 → chunks_of k nodes c ≤ 256
-standard_few kind.Broadcast nodes c few small = omega (arith, small)
-standard_few kind.Reduce nodes c few small = omega (arith, small)
-standard_few kind.Gather nodes c few small = mul-le nodes c 16 16 few small
-standard_few kind.Allgather nodes c few small = mul-le nodes c 16 16 few small
-standard_few kind.Scatter nodes c few small = mul-le nodes c 16 16 few small
-standard_few kind.Alltoall nodes c few small = mul-le nodes c 16 16 few small
-standard_few kind.Reducescatter nodes c few small = mul-le nodes c 16 16 few small
-standard_few kind.Allreduce nodes c few small = mul-le nodes c 16 16 few small
-standard_few kind.Custom nodes c few small = omega arith
-
--- there are at most 16 nodes or chunks of a pattern, and 16 chunks of a candidate, so at most 256 in all
-pub chunks_few : (s : Spec) (nodes c : ℕ) → nodes ≤ 16 → c ≤ 16 → FewBase s → chunks_in s nodes c ≤ 256
-chunks_few (spec.Standard collective) nodes c few small base = standard_few collective.kind nodes c few small
-chunks_few (spec.Custom p) nodes c few small base = mul-le p.base c 16 16 base small
 
 abbrev pub head_of : PointValue → HeadValue
 head_of p = record { candidate = p.candidate; mark = p.mark }

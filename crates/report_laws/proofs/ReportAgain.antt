@@ -16,7 +16,7 @@ use Rattle.topology_text.specs.Value.{NamedTopologyValue, named_with}
 use Rattle.topology_text.specs.Spelling.{version_word, header_words, nodes_words, group_words, custom_lines, lines_of}
 use Rattle.topology_text.specs.Reading.{groups_at}
 use Rattle.topology_text.proofs.Front.{head_is}
-use Rattle.topology_text.proofs.Front as front
+use Rattle.topology_text.specs.Spelling as spelling
 use Rattle.topology_text.proofs.Groups.{place, EndsGroups, groups_again}
 use Rattle.topology_text.proofs.Patterns.{pattern_again, pattern_ends}
 use Rattle.topology_text.proofs.Laws.{names_are, groups_are, pattern_is, rows_same, header_part_again, nodes_part_again}
@@ -25,13 +25,13 @@ use Rattle.report_form.specs.declared.fault.ReportCode.TheVariants as code
 use Rattle.report_form.specs.Reports.{WordsValue, ReportValue, IsReport, parts_of}
 use Rattle.report_form.specs.Spelling.{synth_words, frontier_lines, joined_lines, body_lines, report_lines, report_text}
 use Rattle.report_form.specs.Lines.{fixed_line, no_line, among}
-use Rattle.report_form.specs.Asked.{AskedValue}
+use Rattle.report_form.specs.SynthLine.{AskedValue}
 use Rattle.report_form.specs.Reading.{frontiers_from, joined_at, body_of, version_line, is_same, report_of}
 use Rattle.report_form.proofs.LineTaken.{map_both}
 use Rattle.report_form.proofs.ReportTaken.{head_words, head_spelled, after_pattern, after_groups, after_root, after_names, after_same, after_header, after_asked, after_head, report_at, report_is, report, end_words}
 use Rattle.report_form.proofs.FrontiersTaken.{rows_split}
 use Rattle.report_laws.proofs.FrontiersAgain.{end_ends, groups_end, frontiers_end, frontiers_again, joined_again, joined_end}
-use Rattle.report_laws.proofs.AskedAgain.{asked_of, asked_part_again, root_of_again}
+use Rattle.report_laws.proofs.SynthLineAgain.{asked_of, asked_part_again, root_of_again}
 use Rattle.report_laws.proofs.SpelledTokens.{rows_of_report}
 
 -- ---- the body
@@ -102,7 +102,7 @@ kind_of_pattern k (Some p) e = e
 -- the lines, part by part
 abbrev report_rows : ReportValue → List Row
 report_rows r =
-    row_of (head_words (is_some r.topology.custom)) ∷ row_of (synth_words r.topology.names r.words) ∷ row_of (front.head_words (is_some r.topology.custom)) ∷ row_of (nodes_words r.topology.names)
+    row_of (head_words (is_some r.topology.custom)) ∷ row_of (synth_words r.topology.names r.words) ∷ row_of (spelling.head_words (is_some r.topology.custom)) ∷ row_of (nodes_words r.topology.names)
     ∷ (map row_of (map (group_words r.topology.names) r.topology.topology.groups) ++ (map row_of (custom_lines r.topology.names r.topology.custom) ++ map row_of (behind_topology r)))
 
 report_rows_are : (r : ReportValue) → map row_of (report_lines r) ≡ report_rows r
@@ -130,7 +130,7 @@ rows_read rows r is =
     let fifth : List Row = map row_of (custom_lines names t.custom) ++ last in
     let fourth : List Row = map row_of (map (group_words names) groups) ++ fifth in
     let third : List Row = row_of (nodes_words names) ∷ fourth in
-    let second : List Row = row_of (front.head_words b) ∷ third in
+    let second : List Row = row_of (spelling.head_words b) ∷ third in
     let at : ℕ = 1 + 1 + 1 + 1 + 1 + length groups in
     let behind : ℕ = at + length (custom_lines names t.custom) in
     let same : named_with names groups t.custom ≡ t = λ i. record { names = names; topology = record { nodes = is.topology.as_many i; groups = groups }; custom = t.custom } in

@@ -8,26 +8,28 @@ use Rattle.text_lines.proofs.Rows.{AreTokens, row_of, rows_again}
 use Rattle.text_lines.proofs.Words.{literal, tokens_from}
 use Rattle.outer_ports.specs.declared.part.Part.{Part}
 use Rattle.outer_ports.specs.declared.part.Part.TheVariants as part
+use Rattle.schedule.proofs.First.{each_append}
 use Rattle.collective_spec.specs.declared.kind.Kind.{Kind}
 use Rattle.collective_spec.specs.declared.kind.Kind.TheVariants as kind
 use Rattle.collective_spec.specs.Patterns.{PatternValue}
+use Rattle.collective_spec.proofs.Chunks.{FewBase}
 use Rattle.candidate_order.specs.Ranges.{IsLimits}
 use Rattle.candidate_order.specs.Frontiers.{QuestionValue, PointValue, FrontierValue, IsWithin, IsUnknown}
 use Rattle.topology_text.specs.Names.{AreNames}
 use Rattle.topology_text.specs.Value.{NamedTopologyValue}
 use Rattle.topology_text.specs.Spelling.{lines_of, version_word}
-use Rattle.topology_text.proofs.Laws.{lines_are_words, both_are_words}
+use Rattle.topology_text.proofs.Laws.{lines_are_words}
 use Rattle.report_form.specs.Reports.{WordsValue, ReportValue, IsPoint, IsFrontier, IsJoinedPoint, IsReport, question_of}
 use Rattle.report_form.specs.Spelling.{point_lines, refuted_words, unknown_words, part_words, frontier_lines, joined_lines, body_lines, report_lines, report_text}
 use Rattle.report_laws.proofs.ListsAgain.{lines_are_tokens, refuted_tokens, unknown_tokens}
-use Rattle.report_laws.proofs.PointsAgain.{FewBase, base_of, point_are_tokens}
+use Rattle.report_laws.proofs.PointsAgain.{base_of, point_are_tokens}
 use Rattle.report_laws.proofs.JoinedAgain.{joined_are_tokens}
-use Rattle.report_laws.proofs.AskedAgain.{synth_tokens}
+use Rattle.report_laws.proofs.SynthLineAgain.{synth_tokens}
 
 -- the lines of valid parts are made of tokens
 pub parts_are_tokens : {A : Type 0} (P : A → Type 0) (spell : A → List (List (List ℕ))) → ((x : A) → P x → AllByRecursion AreTokens (spell x)) → (xs : List A) → All P xs → AllByRecursion AreTokens (flat_map spell xs)
 parts_are_tokens P spell each [] valid = tt
-parts_are_tokens P spell each (x ∷ xs) valid = both_are_words (spell x) (flat_map spell xs) (each x (All-head P x xs valid)) (parts_are_tokens P spell each xs (All-tail P x xs valid))
+parts_are_tokens P spell each (x ∷ xs) valid = each_append AreTokens (spell x) (flat_map spell xs) (each x (All-head P x xs valid)) (parts_are_tokens P spell each xs (All-tail P x xs valid))
 
 part_tokens : (x : Part) → AreTokens (part_words x)
 part_tokens part.Whole = tokens_from (codes "frontier" ∷ codes "whole" ∷ []) (omega arith) (literal (codes "frontier") refl, (literal (codes "whole") refl, tt))
@@ -39,9 +41,9 @@ module _ (names : List (List ℕ)) (q : QuestionValue) (as_many : length names �
   pub frontier_are_tokens : (x : Part) (f : FrontierValue) → IsFrontier q f → AllByRecursion AreTokens (frontier_lines names (x, f))
   frontier_are_tokens x f is = (
     part_tokens x,
-    both_are_words (flat_map (point_lines names) f.points) (map refuted_words f.refuted ++ map unknown_words f.unknown)
+    each_append AreTokens (flat_map (point_lines names) f.points) (map refuted_words f.refuted ++ map unknown_words f.unknown)
         (parts_are_tokens (IsPoint q) (point_lines names) (point_are_tokens names q as_many named ok base) f.points is.points)
-        (both_are_words (map refuted_words f.refuted) (map unknown_words f.unknown)
+        (each_append AreTokens (map refuted_words f.refuted) (map unknown_words f.unknown)
         (lines_are_tokens (IsWithin q) refuted_words (refuted_tokens q ok) f.refuted is.refuted)
         (lines_are_tokens (IsUnknown q) unknown_words (unknown_tokens q ok) f.unknown is.unknown)),
   )
@@ -75,9 +77,9 @@ report_are_tokens r is =
       version_tokens t.custom,
       (
         synth_tokens names w named is.words,
-        both_are_words (lines_of t) (body_lines r ++ (codes "end" ∷ []) ∷ []) (lines_are_words t is.topology)
-            (both_are_words (body_lines r) ((codes "end" ∷ []) ∷ [])
-            (both_are_words frontiers joined
+        each_append AreTokens (lines_of t) (body_lines r ++ (codes "end" ∷ []) ∷ []) (lines_are_words t is.topology)
+            (each_append AreTokens (body_lines r) ((codes "end" ∷ []) ∷ [])
+            (each_append AreTokens frontiers joined
             (parts_are_tokens (λ x. IsFrontier (question_of w t x.0) x.1) (frontier_lines names) (λ x. frontier_are_tokens names (question_of w t x.0) as_many named ok (base_of w t x.0 is.topology.custom) x.0 x.1) r.frontiers is.frontiers)
             (joined_lines_are_tokens names (question_of w t part.Joined) as_many named ok (base_of w t part.Joined is.topology.custom) w.collective.kind r.joined is.joined))
             (tokens_from (codes "end" ∷ []) (omega arith) (literal (codes "end") refl, tt), tt)),

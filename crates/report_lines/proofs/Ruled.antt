@@ -11,7 +11,8 @@ use Rattle.report_form.specs.declared.fault.ReportCode.TheVariants as code
 use Rattle.report_form.specs.Lines.{tokens_line}
 use Rattle.report_form.specs.Fields.{fixed_word, next_word, no_more}
 use Rattle.report_form.specs.Tests.{is_within, comes_next}
-use Rattle.report_form.specs.Points.{HeadValue, candidate_from, mark_named, head_line}
+use Rattle.report_form.specs.Points.{candidate_from, mark_named, head_line}
+use Rattle.report_form.proofs.Shapes.{head}
 
 abbrev pub words_read : List (List ℕ) → Result (List (List ℕ)) ReportCode
 words_read ws = Ok ws
@@ -25,9 +26,6 @@ all_read u = Ok u
 -- what a rule lets through
 abbrev pub by_rule : {A : Type 0} → Bool → A → Result A ReportCode
 by_rule b x = refuse (not b) code.Limits >>= (λ u. Ok x)
-
-abbrev pub head : Candidate → Mark → HeadValue
-head x m = record { candidate = x; mark = m }
 
 pub head_is : (q : QuestionValue) (last : Option Candidate) (line : Option Row) (w0 w1 w2 w3 : List (List ℕ)) (x : Candidate) (m : Mark) (u : Unit {0}) → tokens_line line ≡ words_read w0 → fixed_word (codes "point") w0 ≡ words_read w1 → candidate_from w1 ≡ word_read x w2 → next_word mark_named w2 ≡ word_read m w3 → no_more w3 ≡ all_read u → head_line q last line ≡ by_rule (is_within q x && comes_next last x) (head x m)
 head_is q last line w0 w1 w2 w3 x m u e0 e1 e2 e3 e4 = rw (e0, e1, e2, e3, e4) refl

@@ -2,10 +2,10 @@
 use Rattle.std.specs.Prelude.{IsTrue}
 use Rattle.std.specs.Str.Parse.{digits_value}
 use Rattle.candidate_order.specs.Ranges.{LimitsValue}
-use Rattle.report_form.specs.Asked.{AskedValue}
+use Rattle.report_form.specs.SynthLine.{AskedValue}
 use Rattle.report_form.specs.Fields.{is_number}
-use Rattle.report_lines.specs.declared.asked.SpelledLimits.{SpelledLimits}
-use Rattle.report_lines.specs.declared.asked.Asked.{Asked}
+use Rattle.report_lines.specs.declared.synth_line.SpelledLimits.{SpelledLimits}
+use Rattle.report_lines.specs.declared.synth_line.Asked.{Asked}
 
 -- the numbers that are spelled, of any size
 abbrev pub limits_of : SpelledLimits → LimitsValue

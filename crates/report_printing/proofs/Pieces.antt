@@ -6,12 +6,12 @@ use Rattle.outer_ports.specs.declared.part.Part.{Part}
 use Rattle.collective_spec.specs.declared.kind.Kind.TheVariants.{Allreduce}
 use Rattle.collective_spec.specs.Kinds.{word_of}
 use Rattle.candidate_order.specs.Frontiers.{PointValue, FrontierValue}
-use Rattle.text_lines.specs.Text.{line, text_of}
+use Rattle.text_lines.specs.Text.{line, text_of, fields}
 use Rattle.text_lines.proofs.Words.{join_fields}
 use Rattle.topology_text.specs.Spelling.{lines_of, spelling, version_word}
 use Rattle.report_form.specs.Reports.{ReportValue, WordsValue}
 use Rattle.report_form.specs.Spelling.{root_words, part_words, point_lines, refuted_words, unknown_words, frontier_lines, joined_lines, synth_words, report_text}
-use Rattle.report_printing.specs.Printed.{fields, frontier_text, limits_text, point_text}
+use Rattle.report_printing.specs.Printed.{frontier_text, limits_text, point_text}
 
 -- a piece, and all behind it
 pub before : (a b c x rest : List ℕ) → b ≡ a ++ x → c ≡ b ++ rest → c ≡ a ++ (x ++ rest)

@@ -1,15 +1,10 @@
 -- Pieces of a report's text. This project's own.
-use Rattle.std.specs.Prelude.{ℕ, List, ◌∷◌, ◌++◌, codes, decimal}
-use Rattle.std.specs.List.{flat_map}
+use Rattle.std.specs.Prelude.{ℕ, List, ◌++◌, codes, decimal}
 use Rattle.text_lines.specs.Text.{text_of}
 use Rattle.outer_ports.specs.declared.part.Part.{Part}
 use Rattle.candidate_order.specs.Ranges.{LimitsValue}
 use Rattle.candidate_order.specs.Frontiers.{PointValue, FrontierValue}
 use Rattle.report_form.specs.Spelling.{point_lines, frontier_lines}
-
--- a space before each word
-abbrev pub fields : List (List ℕ) → List ℕ
-fields words = flat_map (λ w. 32 ∷ w) words
 
 abbrev pub point_text : List (List ℕ) → PointValue → List ℕ
 point_text names p = text_of (point_lines names p)

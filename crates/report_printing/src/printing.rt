@@ -2,10 +2,10 @@
 
 ghost use Rattle.std.specs.Prelude.{◌≡◌, ◌++◌, ◌∷◌, [], codes, decimal, map, OnOk, IfOk};
 ghost use Rattle.std.specs.List.{flat_map};
-ghost use Rattle.text_lines.specs.Text.{line, text_of};
+ghost use Rattle.text_lines.specs.Text.{line, text_of, fields};
 ghost use Rattle.topology_text.specs.Spelling.{name_at, version_word};
 ghost use Rattle.report_form.specs.Spelling.{candidate_words, joined_lines, mark_words, part_words, point_words, refuted_words, report_text, root_words, rounds_words, send_words, synth_words, unknown_words};
-ghost use Rattle.report_printing.specs.Printed.{fields, frontier_text, limits_text, point_text};
+ghost use Rattle.report_printing.specs.Printed.{frontier_text, limits_text, point_text};
 
 use candidate_order::{Candidate, Frontier, Limits, Mark, Point, Unknown};
 use collective_spec::{Kind, takes_root};
@@ -264,7 +264,7 @@ fn push_root(out: &mut Vec<u8>, names: &[Name], words: Words) -> Result<(), Allo
 
 /// Appends the line of what was asked: `synth`, and each key with its value, nodes by their names. An `Err` comes only where
 /// memory runs out.
-pub fn push_asked(out: &mut Vec<u8>, names: &[Name], words: Words) -> Result<(), AllocError>
+pub fn push_synth_line(out: &mut Vec<u8>, names: &[Name], words: Words) -> Result<(), AllocError>
     ensures { OnOk result (out.new.items ≡ out.old.items ++ line (synth_words names.now words)) }
 {
     push_word(out, b"synth collective=")?;
@@ -293,7 +293,7 @@ pub fn print_report(alloc: Global, report: &Report) -> Result<Vec<u8>, AllocErro
     let topology = report.topology();
     let names = topology.names();
     push_word(&mut out, version_bytes(topology))?;
-    push_asked(&mut out, names, report.words())?;
+    push_synth_line(&mut out, names, report.words())?;
     push_topology(&mut out, topology)?;
     push_frontiers(&mut out, names, report.frontiers())?;
     push_joined(

@@ -1,5 +1,5 @@
--- Where a search breaks off, each file is as before, or was begun.
-use Rattle.std.proofs.Common.{◌≡◌, inl, inr, Contains, refl, sym, subst, ◌∙◌}
+-- Where the search of a part breaks off, so does that of the report.
+use Rattle.std.proofs.Common.{◌≡◌, Contains, refl, sym, ap, subst}
 use Rattle.outer_ports.specs.declared.part.Part.{Part}
 use Rattle.outer_ports.specs.Files.{Files}
 use Rattle.schedule.specs.Links.{TopologyValue}
@@ -8,35 +8,22 @@ use Rattle.candidate_order.specs.Ranges.{LimitsValue}
 use Rattle.candidate_order.specs.Frontiers.{IsWithin, QuestionValue}
 use Rattle.candidate_formula.specs.Formulas.{formula_for}
 use Rattle.candidate_formula.specs.Files.{candidate_of}
-use Rattle.candidate_formula.specs.Begun.{Begins}
+use Rattle.candidate_formula.proofs.BegunFiles.{begun_weaker}
 use Rattle.topology_text.specs.Value.{NamedTopologyValue}
 use Rattle.report_form.specs.Reports.{WordsValue, parts_of, question_of}
 use Rattle.frontier_audit.specs.OwedFiles.{BreaksOff}
 use Rattle.report_search.specs.Shelved.{MayHaveBegun}
 
 module _ (w : WordsValue) (t : NamedTopologyValue) where
-  -- the search of a part
   breaks_off : (part : Part) (before after : Files) → Contains (parts_of w.collective.kind) part → MayHaveBegun part (question_of w t part) before after → BreaksOff w t before after
-  breaks_off part before after among may = λ name. elim (may name) [
-    | inl same ↦ inl same
-    | inr begun ↦ inr (record {
-      of_part = subst (Contains (parts_of w.collective.kind)) (sym begun.of_part) among;
-      within = subst (λ p. IsWithin (question_of w t p) (candidate_of name)) (sym begun.of_part) begun.within;
-      bytes = begun.begun.bytes;
-      stands = begun.begun.stands;
-      begins = subst (λ p. Begins (formula_for (question_of w t p) (candidate_of name)) name.kind begun.begun.bytes) (sym begun.of_part) begun.begun.begins;
-    })
-  ]
-
-  -- and then that of another
-  pub breaks_off_later : (before middle after : Files) → BreaksOff w t before middle → BreaksOff w t middle after → BreaksOff w t before after
-  breaks_off_later before middle after first second = λ name. elim (second name) [
-    | inl same ↦ elim (first name) [
-      | inl still ↦ inl (same ∙ still)
-      | inr begun ↦ inr (record { of_part = begun.of_part; within = begun.within; bytes = begun.bytes; stands = same ∙ begun.stands; begins = begun.begins })
-    ]
-    | inr begun ↦ inr begun
-  ]
+  breaks_off part before after among may =
+      begun_weaker (λ name of. (
+        (
+          subst (Contains (parts_of w.collective.kind)) (sym of.0) among,
+          subst (λ p. IsWithin (question_of w t p) (candidate_of name)) (sym of.0) of.1,
+        ),
+        ap (λ p. formula_for (question_of w t p) (candidate_of name)) (sym of.0),
+      )) may
 
   -- as the code has it: of what it asks for in the part
   pub breaks_off_for : (part : Part) (links : TopologyValue) (spec : Spec) (limits : LimitsValue) (before after : Files) → links ≡ t.topology → spec ≡ (question_of w t part).spec → limits ≡ w.limits → Contains (parts_of w.collective.kind) part

@@ -7,20 +7,19 @@ use Rattle.outer_ports.specs.declared.proof_name.ProofName.{ProofName}
 use Rattle.outer_ports.specs.Files.{Files}
 use Rattle.collective_spec.specs.declared.kind.Kind.TheVariants as kind
 use Rattle.candidate_order.specs.Frontiers.{FrontierValue, PointValue, IsTried}
-use Rattle.candidate_formula.specs.Files.{candidate_of}
+use Rattle.candidate_formula.specs.Files.{candidate_of, FrontierFiles}
 use Rattle.topology_text.specs.Value.{NamedTopologyValue}
 use Rattle.report_form.specs.Reports.{WordsValue, ReportValue, IsFrontier, IsReport, question_of}
 use Rattle.frontier_audit.specs.Rights.{IsExhaustedPart, IsRight, IsRightPart, IsSearched, IsSearchedPart}
-use Rattle.frontier_audit.specs.OwedFiles.{IsKept, IsOf, Proves}
-use Rattle.frontier_audit.specs.Shelves.{PartRight}
+use Rattle.frontier_audit.specs.OwedFiles.{IsOf, Proves}
 use Rattle.frontier_audit.specs.Searches.{IsAsked}
 use Rattle.engine_search.specs.Found.{IsFound}
 use Rattle.report_search.specs.Shelved.{IsShelved}
 use Rattle.report_search.specs.Reporting.{both_report, joins_of}
-use Rattle.report_search.proofs.PartAsked.{two_parts}
+use Rattle.report_search.proofs.PartQuestions.{two_parts}
 use Rattle.report_search.proofs.Valid.{valid_frontier}
 use Rattle.report_search.proofs.JoinedPoints.{joined_points, joins_are}
-use Rattle.report_search.proofs.Staying.{kept_stays, right_stays}
+use Rattle.report_search.proofs.Staying.{files_stay}
 
 module _ (w : WordsValue) (t : NamedTopologyValue) (f g : FrontierValue) where
   abbrev report : ReportValue
@@ -73,8 +72,7 @@ module _ (w : WordsValue) (t : NamedTopologyValue) (f g : FrontierValue) where
 
   pub both_prove : (r : ReportValue) (before middle after : Files) → r ≡ report → IsShelved Reduce (question_of w t Reduce) f before middle → IsShelved Gather (question_of w t Gather) g middle after → Proves r before after
   both_prove r before middle after same first second = subst (λ x. Proves x before after) (sym same) (record {
-    shelf = two (λ x. PartRight x.0 (question_of w t x.0) x.1 after) (right_stays Reduce (question_of w t Reduce) middle after stay f first.right) second.right;
-    kept = two (λ x. IsKept x.0 (question_of w t x.0) after x.1) (kept_stays Reduce (question_of w t Reduce) middle after stay f first.kept) second.kept;
+    files = two (λ x. FrontierFiles x.0 (question_of w t x.0) after x.1) (files_stay Reduce (question_of w t Reduce) middle after stay f first.files) second.files;
     others = λ name other. second.others name (λ tried. other (of_second name tried)) ∙ first.others name (λ tried. other (of_first name tried));
   })
     where

@@ -10,7 +10,7 @@ use Rattle.collective_spec.specs.Patterns.{PatternValue}
 use Rattle.collective_spec.specs.Collectives.{chunks_in, chunks_of, spec_of}
 use Rattle.candidate_order.specs.Frontiers.{QuestionValue, FrontierValue, PointValue, RightFrontier, Searched}
 use Rattle.candidate_order.specs.Ranges.{IsLimits}
-use Rattle.candidate_formula.proofs.Sought.{has_chunk}
+use Rattle.candidate_order.proofs.Orders.{has_chunk}
 use Rattle.allreduce_join.specs.Joins.{IsJoinable, Joins, join_of, one_after, pairs_of}
 use Rattle.allreduce_join.proofs.Frontiers.{frontiers_join}
 use Rattle.allreduce_join.proofs.Paired.{IsPair, pairs_among}
@@ -20,7 +20,7 @@ use Rattle.report_form.specs.Reports.{WordsValue, IsJoinedPoint, IsPoint, questi
 use Rattle.frontier_audit.specs.Searches.{IsAsked}
 use Rattle.engine_search.specs.Found.{IsFound}
 use Rattle.report_search.specs.Reporting.{joins_of}
-use Rattle.report_search.proofs.PartAsked.{none_given}
+use Rattle.report_search.proofs.PartQuestions.{none_given}
 use Rattle.report_search.proofs.Valid.{valid_frontier}
 
 -- ---- points that may be joined

@@ -1,5 +1,5 @@
 pub mod Recorded
-pub mod PartAsked
+pub mod PartQuestions
 pub mod Beginning
 pub mod Valid
 pub mod WholeReport

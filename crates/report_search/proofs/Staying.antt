@@ -1,52 +1,22 @@
--- What the files of one part prove stays proved where other files alone change.
-use Rattle.std.proofs.Common.{◌≡◌, List, refl, ◌∙◌}
+-- The files of a part stay what they are where other files alone change.
+use Rattle.std.proofs.Common.{◌≡◌, refl}
 use Rattle.std.proofs.lemmas.List.Elements.{All-weaker}
 use Rattle.outer_ports.specs.declared.part.Part.{Part}
 use Rattle.outer_ports.specs.declared.proof_name.FileKind.{FileKind}
-use Rattle.outer_ports.specs.declared.proof_name.FileKind.TheVariants.{Cnf, Lrat, Partial}
 use Rattle.outer_ports.specs.declared.proof_name.ProofName.{ProofName}
 use Rattle.outer_ports.specs.Files.{Files}
 use Rattle.candidate_order.specs.declared.candidate.Candidate.{Candidate}
-use Rattle.candidate_order.specs.Frontiers.{QuestionValue, FrontierValue, UnknownValue, solved, given_up}
-use Rattle.cnf_formula.specs.declared.line.LratLine.{LratLine}
-use Rattle.candidate_formula.specs.Files.{HasFormula, HasLog, HasRefutation, HoldsLines, IsEmptied, file_of}
-use Rattle.frontier_audit.specs.OwedFiles.{IsKept}
-use Rattle.frontier_audit.specs.Shelves.{PartRight}
+use Rattle.candidate_order.specs.Frontiers.{QuestionValue, FrontierValue, solved}
+use Rattle.candidate_formula.specs.Files.{SolvedFiles, RefutedFiles, UnknownFiles, FrontierFiles, file_of}
+use Rattle.candidate_formula.proofs.FilesAlike.{solved_alike, refuted_alike, unknown_alike}
 
 module _ (part : Part) (q : QuestionValue) (before after : Files) (stay : (name : ProofName) → name.part ≡ part → after name ≡ before name) where
-  formula_stays : (x : Candidate) → HasFormula part q before x → HasFormula part q after x
-  formula_stays x has = stay (file_of Cnf part x) refl ∙ has
+  each_stays : (x : Candidate) (kind : FileKind) → after (file_of kind part x) ≡ before (file_of kind part x)
+  each_stays x kind = stay (file_of kind part x) refl
 
-  emptied_stays : (kind : FileKind) (x : Candidate) → IsEmptied kind part before x → IsEmptied kind part after x
-  emptied_stays kind x empty = stay (file_of kind part x) refl ∙ empty
-
-  lines_stay : (kind : FileKind) (x : Candidate) (lines : List LratLine) → HoldsLines before (file_of kind part x) lines → HoldsLines after (file_of kind part x) lines
-  lines_stay kind x lines holds = record { bytes = holds.bytes; found = stay (file_of kind part x) refl ∙ holds.found; short = holds.short; reads = holds.reads }
-
-  refutation_stays : (x : Candidate) → HasRefutation part q before x → HasRefutation part q after x
-  refutation_stays x has = record { formula = formula_stays x has.formula; lines = has.lines; holds = lines_stay Lrat x has.lines has.holds; refutes = has.refutes }
-
-  log_stays : (u : UnknownValue) → HasLog part q before u → HasLog part q after u
-  log_stays u has = record { lines = has.lines; holds = lines_stay Partial u.candidate _ has.holds; spent = has.spent }
-
-  pub right_stays : (f : FrontierValue) → PartRight part q f before → PartRight part q f after
-  right_stays f right = record {
-    refuted = All-weaker (HasRefutation part q before) (HasRefutation part q after) refutation_stays f.refuted right.refuted;
-    unknown = All-weaker (HasLog part q before) (HasLog part q after) log_stays f.unknown right.unknown;
-  }
-
-  abbrev SolvedFiles : Files → Candidate → Type 0
-  SolvedFiles files x = HasFormula part q files x × IsEmptied Lrat part files x × IsEmptied Partial part files x
-
-  abbrev RefutedFiles : Files → Candidate → Type 0
-  RefutedFiles files x = HasFormula part q files x × IsEmptied Partial part files x
-
-  abbrev UnknownFiles : Files → Candidate → Type 0
-  UnknownFiles files x = HasFormula part q files x × IsEmptied Lrat part files x
-
-  pub kept_stays : (f : FrontierValue) → IsKept part q before f → IsKept part q after f
-  kept_stays f kept = record {
-    solved = All-weaker (SolvedFiles before) (SolvedFiles after) (λ x has. (formula_stays x has.0, emptied_stays Lrat x has.1, emptied_stays Partial x has.2)) (solved f) kept.solved;
-    refuted = All-weaker (RefutedFiles before) (RefutedFiles after) (λ x has. (formula_stays x has.0, emptied_stays Partial x has.1)) f.refuted kept.refuted;
-    unknown = All-weaker (UnknownFiles before) (UnknownFiles after) (λ x has. (formula_stays x has.0, emptied_stays Lrat x has.1)) (given_up f) kept.unknown;
+  pub files_stay : (f : FrontierValue) → FrontierFiles part q before f → FrontierFiles part q after f
+  files_stay f has = record {
+    solved = All-weaker (SolvedFiles part q before) (SolvedFiles part q after) (λ x own. solved_alike part q q before after x refl (each_stays x) own) (solved f) has.solved;
+    refuted = All-weaker (RefutedFiles part q before) (RefutedFiles part q after) (λ x own. refuted_alike part q q before after x refl (each_stays x) own) f.refuted has.refuted;
+    unknown = All-weaker (UnknownFiles part q before) (UnknownFiles part q after) (λ u own. unknown_alike part q q before after u.candidate refl (each_stays u.candidate) u.conflicts refl own) f.unknown has.unknown;
   }

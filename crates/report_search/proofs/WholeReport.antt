@@ -7,17 +7,15 @@ use Rattle.outer_ports.specs.declared.proof_name.ProofName.{ProofName}
 use Rattle.outer_ports.specs.Files.{Files}
 use Rattle.collective_spec.specs.declared.kind.Kind.TheVariants as kind
 use Rattle.candidate_order.specs.Frontiers.{FrontierValue, IsTried}
-use Rattle.candidate_formula.specs.Files.{candidate_of}
+use Rattle.candidate_formula.specs.Files.{candidate_of, FrontierFiles}
 use Rattle.topology_text.specs.Value.{NamedTopologyValue}
-use Rattle.report_form.specs.Reports.{WordsValue, ReportValue, IsFrontier, IsReport, IsJoinedPoint, question_of}
+use Rattle.report_form.specs.Reports.{WordsValue, ReportValue, IsFrontier, IsReport, IsJoinedPoint, question_of, whole_report}
 use Rattle.frontier_audit.specs.Rights.{IsExhaustedPart, IsRight, IsRightPart, IsSearched, IsSearchedPart}
-use Rattle.frontier_audit.specs.OwedFiles.{IsKept, IsOf, Proves}
-use Rattle.frontier_audit.specs.Shelves.{PartRight}
+use Rattle.frontier_audit.specs.OwedFiles.{IsOf, Proves}
 use Rattle.frontier_audit.specs.Searches.{IsAsked}
 use Rattle.engine_search.specs.Found.{IsFound}
 use Rattle.report_search.specs.Shelved.{IsShelved}
-use Rattle.report_search.specs.Reporting.{whole_report}
-use Rattle.report_search.proofs.PartAsked.{one_part}
+use Rattle.report_search.proofs.PartQuestions.{one_part}
 use Rattle.report_search.proofs.Valid.{valid_frontier}
 
 module _ (w : WordsValue) (t : NamedTopologyValue) (f : FrontierValue) where
@@ -58,13 +56,9 @@ module _ (w : WordsValue) (t : NamedTopologyValue) (f : FrontierValue) where
 
   pub whole_proves : (r : ReportValue) (before after : Files) → r ≡ report → IsShelved Whole (question_of w t Whole) f before after → Proves r before after
   whole_proves r before after is shelved = subst (λ x. Proves x before after) (sym is) (record {
-    shelf = All-cons RightPart (Whole, f) [] shelved.right (All-nil RightPart);
-    kept = All-cons KeptPart (Whole, f) [] shelved.kept (All-nil KeptPart);
+    files = All-cons HasFiles (Whole, f) [] shelved.files (All-nil HasFiles);
     others = λ name other. shelved.others name (λ tried. other (of_report name tried));
   })
     where
-      RightPart : Part × FrontierValue → Type 0
-      RightPart x = PartRight x.0 (question_of w t x.0) x.1 after
-
-      KeptPart : Part × FrontierValue → Type 0
-      KeptPart x = IsKept x.0 (question_of w t x.0) after x.1
+      HasFiles : Part × FrontierValue → Type 0
+      HasFiles x = FrontierFiles x.0 (question_of w t x.0) after x.1

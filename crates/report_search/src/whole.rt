@@ -2,12 +2,11 @@
 
 ghost use Rattle.std.specs.Prelude.{◌≡◌, ◌≢◌, IfOk, IsTrue, Err};
 ghost use Rattle.outer_ports.specs.Port.{HasCause, Tells};
-ghost use Rattle.report_form.specs.Reports.{question_of};
+ghost use Rattle.report_form.specs.Reports.{question_of, whole_report};
 ghost use Rattle.frontier_audit.specs.OwedFiles.{BreaksOff, Proves};
 ghost use Rattle.frontier_audit.specs.Rights.{IsRight, IsSearched};
 ghost use Rattle.frontier_audit.specs.Searches.{IsAsked};
 ghost use Rattle.engine_search.specs.Found.{IsFound};
-ghost use Rattle.report_search.specs.Reporting.{whole_report};
 
 use crate::OutOfMemory;
 use crate::part::part_frontier;

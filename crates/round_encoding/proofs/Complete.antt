@@ -20,13 +20,13 @@ use Rattle.cardinality.proofs.Wider.{clauses_same, old_is_same}
 use Rattle.send_encoding.specs.Variables.{SendMapValue, map_of, steps_of, arrival, sent, arrivals, sends, number_of}
 use Rattle.round_encoding.specs.Frames.{Frame, frame_of, extra_of, extra_round, own_variables}
 use Rattle.send_encoding.specs.Sending.{sending}
-use Rattle.round_encoding.specs.Rounding.{count_of_rounds, count_of_group, counts_of, counted, extra_in_order, formula_of}
+use Rattle.round_encoding.specs.Rounding.{count_of_rounds, count_of_group, counts_of, counters_after, extra_in_order, formula_of}
 use Rattle.send_encoding.proofs.Everywhere.{in_map, in_flat, From, in_range}
 use Rattle.send_encoding.proofs.About.{IsStepOf}
 use Rattle.round_encoding.proofs.Extras.{sending_about, order_about, extra_about, arrival_about}
 use Rattle.round_encoding.proofs.Counted.{all_counts}
 use Rattle.send_encoding.proofs.Mapped.{links_join}
-use Rattle.send_encoding.specs.Assigning.{held, moved, spared, used, assigned}
+use Rattle.send_encoding.specs.Assigning.{arrival_values, send_values, extra_values, has_more_rounds, assigned}
 use Rattle.send_encoding.specs.Leading.{had, brought}
 use Rattle.send_encoding.proofs.Grid.{rows_at, rows_length}
 use Rattle.send_encoding.proofs.Assigned.{assigned_length, arrival_value, sent_value, own_length}
@@ -61,24 +61,24 @@ module _ (t : TopologyValue) (pre post : PlacementValue) (s : ScheduleValue) (st
   x = brought m pre s
 
   abbrev rest : List Bool
-  rest = spared steps f.extra (used s)
+  rest = extra_values steps f.extra (has_more_rounds s)
 
   abbrev own : List Bool
   own = assigned m a x rest
 
   own_is : length own ≡ own_variables f
-  own_is = assigned_length m a x rest ∙ omega (arith, rows_length (λ k. map (used s k) (range_with_len 1 f.extra)) f.extra 1 steps (λ k. length-map-range_with_len (used s k) 1 f.extra))
+  own_is = assigned_length m a x rest ∙ omega (arith, rows_length (λ k. map (has_more_rounds s k) (range_with_len 1 f.extra)) f.extra 1 steps (λ k. length-map-range_with_len (has_more_rounds s k) 1 f.extra))
 
-  extra_value : (k j : ℕ) → IsStep steps k → IsStep f.extra j → is_true own (extra_round f k j) ≡ used s k j
+  extra_value : (k j : ℕ) → IsStep steps k → IsStep f.extra j → is_true own (extra_round f k j) ≡ has_more_rounds s k j
   extra_value k j step extra =
-      let front = held m a ++ moved m x in
+      let front = arrival_values m a ++ send_values m x in
       let p : ℕ = (k - 1) * f.extra + (j - 1) in
       let place : arrivals m + sends m + 1 + (k - 1) * f.extra + (j - 1) - 1 ≡ length front + p = omega (arith, own_length m a x rest) in
       let one : 1 + (k - 1) ≡ k = omega (arith, step.from) in
       ap (λ n. get_or own n false) place ∙ get_or-append-add front rest p false
-      ∙ rows_at (λ k. map (used s k) (range_with_len 1 f.extra)) f.extra 1 steps (k - 1) (j - 1) false (λ k. length-map-range_with_len (used s k) 1 f.extra) (omega (arith, step.from, step.to)) (omega (arith, extra.from, extra.to))
-      ∙ ap (λ v. get_or (map (used s v) (range_with_len 1 f.extra)) (j - 1) false) one
-      ∙ get_or-map-range_with_len (used s k) 1 f.extra (j - 1) j false (omega (arith, extra.from, extra.to)) (omega (arith, extra.from))
+      ∙ rows_at (λ k. map (has_more_rounds s k) (range_with_len 1 f.extra)) f.extra 1 steps (k - 1) (j - 1) false (λ k. length-map-range_with_len (has_more_rounds s k) 1 f.extra) (omega (arith, step.from, step.to)) (omega (arith, extra.from, extra.to))
+      ∙ ap (λ v. get_or (map (has_more_rounds s v) (range_with_len 1 f.extra)) (j - 1) false) one
+      ∙ get_or-map-range_with_len (has_more_rounds s k) 1 f.extra (j - 1) j false (omega (arith, extra.from, extra.to)) (omega (arith, extra.from))
 
   step_of_range : (n k : ℕ) → From 1 n k → IsStep n k
   step_of_range n k at = record { from = omega (arith, at.0); to = omega (arith, at.1) }
@@ -114,7 +114,7 @@ module _ (t : TopologyValue) (pre post : PlacementValue) (s : ScheduleValue) (st
 
   -- ---- what is said
 
-  later_same : (more : List Bool) (k j : ℕ) → IsStep steps k → IsStep f.extra j → is_true (own ++ more) (extra_round f k j) ≡ used s k j
+  later_same : (more : List Bool) (k j : ℕ) → IsStep steps k → IsStep f.extra j → is_true (own ++ more) (extra_round f k j) ≡ has_more_rounds s k j
   later_same more k j step extra =
       old_is_same own more (extra_round f k j) (subst (λ n. IsAbout n (extra_round f k j)) (sym own_is) (extra_about f k j (omega (arith, step.from), omega (arith, step.to)) (omega (arith, extra.from), omega (arith, extra.to))))
       ∙ extra_value k j step extra
@@ -183,15 +183,15 @@ module _ (t : TopologyValue) (pre post : PlacementValue) (s : ScheduleValue) (st
       let v = own ++ later in
       let before : length (own ++ []) ≡ own_variables f = ap length plain ∙ own_is in
       let whole : own ++ [] ++ later ≡ v = ap (λ u. u ++ later) plain in
-      let many : length v ≡ (counted (own_variables f) (counts_of f t)).vars = ap length (sym whole) ∙ found.1 ∙ ap (λ n. (counted n (counts_of f t)).vars) before in
-      let counters : all_hold v (counted (own_variables f) (counts_of f t)).clauses ≡ true =
-      subst (λ n. all_hold v (counted n (counts_of f t)).clauses ≡ true) before (subst (λ u. all_hold u (counted (length (own ++ [])) (counts_of f t)).clauses ≡ true) whole found.2) in
+      let many : length v ≡ (counters_after (own_variables f) (counts_of f t)).vars = ap length (sym whole) ∙ found.1 ∙ ap (λ n. (counters_after n (counts_of f t)).vars) before in
+      let counters : all_hold v (counters_after (own_variables f) (counts_of f t)).clauses ≡ true =
+      subst (λ n. all_hold v (counters_after n (counts_of f t)).clauses ≡ true) before (subst (λ u. all_hold u (counters_after (length (own ++ [])) (counts_of f t)).clauses ≡ true) whole found.2) in
       let sends_own = sending_holds m pre post a x own links (arrival_value m a x rest) (sent_value m a x rest) (schedule_moves t pre post s steps rounds nodes links range solves) in
       let sends : all_hold v (sending m pre post) ≡ true = clauses_same own later (sending m pre post) (subst (λ n. All (IsClause n) (sending m pre post)) (sym own_is) (sending_about f links pre post)) ∙ sends_own in
       let order : all_hold v (extra_in_order f) ≡ true = clauses_same own later (extra_in_order f) (subst (λ n. All (IsClause n) (extra_in_order f)) (sym own_is) (order_about f)) ∙ order_holds in
       let join : (xs ys : List (List LitValue)) → all_hold v xs ≡ true → all_hold v ys ≡ true → all_hold v (xs ++ ys) ≡ true =
       λ xs ys p q. list_all-append (clause_holds v) xs ys ∙ and_from (all_hold v xs) (all_hold v ys) p q in (
         v,
-        record { values_are = many; holds = join (sending m pre post ++ extra_in_order f) (counted (own_variables f) (counts_of f t)).clauses (join (sending m pre post) (extra_in_order f) sends order) counters },
+        record { values_are = many; holds = join (sending m pre post ++ extra_in_order f) (counters_after (own_variables f) (counts_of f t)).clauses (join (sending m pre post) (extra_in_order f) sends order) counters },
         λ c n k cl nl kl. old_is_same own later (arrival m c n k) (subst (λ w. IsAbout w (arrival m c n k)) (sym own_is) (arrival_about f c n k cl nl kl)) ∙ arrival_value m a x rest c n k cl nl kl,
       )

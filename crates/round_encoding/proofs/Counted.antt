@@ -12,6 +12,7 @@ use Rattle.schedule.specs.Placed.{PlacementValue}
 use Rattle.schedule.proofs.Placing.{holds-placed, pair_itself}
 use Rattle.cnf_formula.specs.Literals.{LitValue, yes, negation}
 use Rattle.cnf_formula.specs.Formulas.{IsAbout, IsClause, IsFormula}
+use Rattle.cnf_formula.proofs.Clauses.{negation_about}
 use Rattle.cardinality.specs.Counting.{output}
 use Rattle.cardinality.specs.Totalizers.{totalizer_of}
 use Rattle.cardinality.proofs.Totals.{totalizer_is_counter}
@@ -19,10 +20,10 @@ use Rattle.cardinality.proofs.Wider.{clauses_more, clause_more, about_more}
 use Rattle.send_encoding.specs.Variables.{SendMapValue, map_of, chunks_of, steps_of, sent, number_of}
 use Rattle.round_encoding.specs.Frames.{Frame, frame_of, extra_of, extra_round, own_variables}
 use Rattle.send_encoding.specs.Sending.{sending}
-use Rattle.round_encoding.specs.Rounding.{Count, count_of_rounds, count_of_group, counts_of, counted, formula_of, extra_in_order}
+use Rattle.round_encoding.specs.Rounding.{Count, count_of_rounds, count_of_group, counts_of, counters_after, formula_of, extra_in_order}
 use Rattle.send_encoding.proofs.Everywhere.{in_map, in_flat, From, in_range, some_in_flat, place_below}
 use Rattle.send_encoding.proofs.Mapped.{links_join}
-use Rattle.send_encoding.proofs.About.{about_not, one, two, only_clause, IsStepOf}
+use Rattle.send_encoding.proofs.About.{one, two, only_clause, IsStepOf}
 use Rattle.round_encoding.proofs.Extras.{sent_about, extra_about, sending_about, order_about}
 
 -- ---- counts in a row
@@ -33,7 +34,7 @@ pub record IsCount (own : ℕ) (count : Count) : Type 0 where
   pub about : IsClause own count.inputs
   pub says : (w : ℕ) (o : ℕ → LitValue) → own ≤ w → ((t : ℕ) → 0 < t → t ≤ count.bound + 1 → IsAbout w (o t)) → All (IsClause w) (count.says o)
 
-pub more_variables : (before : ℕ) (counts : List Count) → before ≤ (counted before counts).vars
+pub more_variables : (before : ℕ) (counts : List Count) → before ≤ (counters_after before counts).vars
 more_variables before [] = omega arith
 more_variables before (count ∷ counts) =
     let rest = more_variables (before + (totalizer_of before count.inputs count.bound).vars) counts in
@@ -44,13 +45,13 @@ output_about before count some about t low high =
     let counts = totalizer_is_counter before count.inputs count.bound some about in
     counts.outputs_about (t - 1) (yes 0) (omega (arith, counts.outputs_are, low, high))
 
-pub counts_about : (own before : ℕ) (counts : List Count) → own ≤ before → All (IsCount own) counts → All (IsClause (counted before counts).vars) (counted before counts).clauses
+pub counts_about : (own before : ℕ) (counts : List Count) → own ≤ before → All (IsCount own) counts → All (IsClause (counters_after before counts).vars) (counters_after before counts).clauses
 counts_about own before [] le a = All-nil (IsClause before)
 counts_about own before (count ∷ counts) le a =
     let here = All-head (IsCount own) count counts a in
     let counter = totalizer_of before count.inputs count.bound in
     let next : ℕ = before + counter.vars in
-    let later = counted next counts in
+    let later = counters_after next counts in
     let v : ℕ = later.vars in
     let more : next ≤ v = more_variables next counts in
     let inputs : All (IsAbout before) count.inputs = clause_more own before count.inputs le here.about in
@@ -77,7 +78,7 @@ module _ (f : Frame) where
     some = some_in_flat (λ s. map (extra_round f s) (extra_of f)) 1 m.steps steps (λ s. some_range s f.extra extra);
     about = in_flat (IsAbout v) (IsStepOf m) (λ s. map (extra_round f s) (extra_of f)) (steps_of m)
         (λ s step. in_map (IsAbout v) (From 1 f.extra) (extra_round f s) (extra_of f) (λ j at. extra_about f s j step at) (in_range 1 f.extra)) (in_range 1 m.steps);
-    says = λ w o le outs. only_clause w (negation (o (f.extra + 1)) ∷ []) (one w (negation (o (f.extra + 1))) (about_not w (o (f.extra + 1)) (outs (f.extra + 1) (omega arith) (omega arith))));
+    says = λ w o le outs. only_clause w (negation (o (f.extra + 1)) ∷ []) (one w (negation (o (f.extra + 1))) (negation_about w (o (f.extra + 1)) (outs (f.extra + 1) (omega arith) (omega arith))));
   }
 
   some_links : (c s : ℕ) (links : List (ℕ × ℕ)) → 0 < length links → 0 < length (map (λ link. sent m c (number_of m link) s) links)
@@ -97,9 +98,9 @@ module _ (f : Frame) where
         (λ j at.
         let product : group.width * j ≤ group.width * (1 + f.extra) = mul-le-mul_left group.width (omega (arith, at.1)) in
         two w (negation (o (group.width * j + 1))) (extra_round f s j)
-        (about_not w (o (group.width * j + 1)) (outs (group.width * j + 1) (omega arith) (omega (arith, product))))
+        (negation_about w (o (group.width * j + 1)) (outs (group.width * j + 1) (omega arith) (omega (arith, product))))
         (about_more v w (extra_round f s j) le (extra_about f s j step at))) (in_range 1 f.extra))
-        (only_clause w (negation (o last) ∷ []) (one w (negation (o last)) (about_not w (o last) (outs last (omega arith) (omega arith)))));
+        (only_clause w (negation (o last) ∷ []) (one w (negation (o last)) (negation_about w (o last) (outs last (omega arith) (omega arith)))));
   }
 
 -- ---- a topology's links
@@ -144,7 +145,7 @@ pub is_formula : (t : TopologyValue) (pre post : PlacementValue) (steps rounds :
 is_formula t pre post steps rounds ok chunks some =
     let f = frame_of t pre steps rounds in
     let own : ℕ = own_variables f in
-    let counters = counted own (counts_of f t) in
+    let counters = counters_after own (counts_of f t) in
     let v : ℕ = counters.vars in
     let more : own ≤ v = more_variables own (counts_of f t) in
     let sends = clauses_more own v (sending f.map pre post) more (sending_about f (links_join t pre steps) pre post) in

@@ -6,11 +6,12 @@ use Rattle.schedule.specs.Placed.{PlacementValue}
 use Rattle.schedule.specs.Sends.{IsStep}
 use Rattle.cnf_formula.specs.Literals.{LitValue, negation}
 use Rattle.cnf_formula.specs.Formulas.{IsAbout, IsClause}
+use Rattle.cnf_formula.proofs.Clauses.{negation_about}
 use Rattle.send_encoding.specs.Variables.{SendMapValue, arrival, arrivals, sent, sends, steps_of}
 use Rattle.send_encoding.specs.Sending.{sending}
 use Rattle.send_encoding.proofs.Everywhere.{in_map, in_flat, From, in_range, slot}
 use Rattle.send_encoding.proofs.About as base
-use Rattle.send_encoding.proofs.About.{IsStepOf, about_not, two}
+use Rattle.send_encoding.proofs.About.{IsStepOf, two}
 use Rattle.send_encoding.specs.Moving.{JoinsNodes}
 use Rattle.cardinality.proofs.Wider.{clauses_more, about_more}
 use Rattle.round_encoding.specs.Frames.{Frame, extra_round, own_variables}
@@ -52,7 +53,7 @@ module _ (f : Frame) where
   order_about = in_flat Clause (IsStepOf m) (λ s. map (λ j. negation (extra_round f s (j + 1)) ∷ extra_round f s j ∷ []) (range_with_len 1 (f.extra - 1))) (steps_of m)
       (λ s step. in_map Clause (From 1 (f.extra - 1)) (λ j. negation (extra_round f s (j + 1)) ∷ extra_round f s j ∷ []) (range_with_len 1 (f.extra - 1))
       (λ j extra. two v (negation (extra_round f s (j + 1))) (extra_round f s j)
-      (about_not v (extra_round f s (j + 1)) (extra_about s (j + 1) step (omega arith, omega (arith, extra.0, extra.1))))
+      (negation_about v (extra_round f s (j + 1)) (extra_about s (j + 1) step (omega arith, omega (arith, extra.0, extra.1))))
       (extra_about s j step (extra.0, omega (arith, extra.0, extra.1)))) (in_range 1 (f.extra - 1))) steps
 
 pub extra_within : (m : SendMapValue) (extra s j : ℕ) → IsStep m.steps s → IsStep extra j → (extra_round (record { map = m; extra = extra }) s j).var ≤ own_variables (record { map = m; extra = extra })

@@ -13,7 +13,7 @@ use Rattle.send_encoding.specs.Sending.{sending}
 use Rattle.send_encoding.proofs.FewClauses as base
 use Rattle.round_encoding.specs.Candidates.{IsCandidate, size_of, size_limit}
 use Rattle.round_encoding.specs.Frames.{Frame, frame_of, own_variables, extra_round}
-use Rattle.round_encoding.specs.Rounding.{counts_of, counted, extra_in_order, formula_of}
+use Rattle.round_encoding.specs.Rounding.{counts_of, counters_after, extra_in_order, formula_of}
 use Rattle.round_encoding.proofs.FewCounters.{counts_space, counts_low}
 use Rattle.round_encoding.proofs.LowCounts.{IsLow, counted_variables, counted_clauses}
 use Rattle.round_encoding.proofs.Sizes.{cells, few_counted, few_variables, all_groups}
@@ -48,7 +48,7 @@ module _ (t : TopologyValue) (pre post : PlacementValue) (steps rounds : ℕ) (o
 
   clauses : length (formula_of t pre post steps rounds).clauses < 1000000000
   clauses =
-      let counters = counted (own_variables f) (counts_of f t) in
+      let counters = counters_after (own_variables f) (counts_of f t) in
       omega (
         arith,
         length-append (sending f.map pre post ++ extra_in_order f) counters.clauses,

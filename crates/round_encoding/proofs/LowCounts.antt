@@ -8,7 +8,7 @@ use Rattle.cnf_formula.specs.Literals.{LitValue}
 use Rattle.cardinality.specs.Counting.{output}
 use Rattle.cardinality.specs.Totalizers.{totalizer_of}
 use Rattle.cardinality.proofs.FewClauses.{few_variables, few_clauses}
-use Rattle.round_encoding.specs.Rounding.{Count, counted}
+use Rattle.round_encoding.specs.Rounding.{Count, counters_after}
 
 -- the most variables of a count
 abbrev pub space : Count → ℕ
@@ -33,19 +33,19 @@ weighed n b some low =
     let one : 1 * (b + 1) ≤ n * (b + 1) = mul-le-mul_right (b + 1) some in
     omega (arith, each, sym (mul_assoc n (b + 1) 148), one)
 
-pub counted_variables : (before : ℕ) (counts : List Count) → All IsLow counts → (counted before counts).vars ≤ before + sum_by space counts
+pub counted_variables : (before : ℕ) (counts : List Count) → All IsLow counts → (counters_after before counts).vars ≤ before + sum_by space counts
 counted_variables before [] low = omega arith
 counted_variables before (count ∷ counts) low =
     let counter = totalizer_of before count.inputs count.bound in
     omega (arith, few_variables before count.inputs count.bound (All-head IsLow count counts low).some, counted_variables (before + counter.vars) counts (All-tail IsLow count counts low), sum_by-cons space count counts)
 
-pub counted_clauses : (before : ℕ) (counts : List Count) → All IsLow counts → length (counted before counts).clauses ≤ sum_by space counts * 149
+pub counted_clauses : (before : ℕ) (counts : List Count) → All IsLow counts → length (counters_after before counts).clauses ≤ sum_by space counts * 149
 counted_clauses before [] low = omega arith
 counted_clauses before (count ∷ counts) low =
     let here = All-head IsLow count counts low in
     let counter = totalizer_of before count.inputs count.bound in
     let said : List (List LitValue) = count.says (output counter) in
-    let later = counted (before + counter.vars) counts in
+    let later = counters_after (before + counter.vars) counts in
     omega (
       arith,
       few_clauses before count.inputs count.bound here.some,

@@ -18,7 +18,7 @@ use Rattle.cardinality.specs.Counting.{true_inputs}
 use Rattle.send_encoding.specs.Variables.{SendMapValue, map_of, steps_of, arrival, sent}
 use Rattle.round_encoding.specs.Frames.{Frame, frame_of, extra_of, extra_round, own_variables}
 use Rattle.send_encoding.specs.Sending.{sending}
-use Rattle.round_encoding.specs.Rounding.{count_of_rounds, count_of_group, counts_of, counted, extra_in_order, formula_of}
+use Rattle.round_encoding.specs.Rounding.{count_of_rounds, count_of_group, counts_of, counters_after, extra_in_order, formula_of}
 use Rattle.round_encoding.specs.Decoding.{decoded}
 use Rattle.round_encoding.proofs.Counted.{all_counts}
 use Rattle.send_encoding.proofs.Mapped.{links_join}
@@ -45,9 +45,9 @@ module _ (t : TopologyValue) (pre post : PlacementValue) (steps rounds : ℕ) (v
   abbrev s : ScheduleValue
   s = decoded f values
 
-  parts : (all_hold values (sending m pre post) ≡ true) × (all_hold values (extra_in_order f) ≡ true) × (all_hold values (counted (own_variables f) (counts_of f t)).clauses ≡ true)
+  parts : (all_hold values (sending m pre post) ≡ true) × (all_hold values (extra_in_order f) ≡ true) × (all_hold values (counters_after (own_variables f) (counts_of f t)).clauses ≡ true)
   parts =
-      let p = both_hold values (sending m pre post ++ extra_in_order f) (counted (own_variables f) (counts_of f t)).clauses satisfied.holds in
+      let p = both_hold values (sending m pre post ++ extra_in_order f) (counters_after (own_variables f) (counts_of f t)).clauses satisfied.holds in
       let q = both_hold values (sending m pre post) (extra_in_order f) p.0 in
       (q.0, q.1, p.1)
 
@@ -122,9 +122,9 @@ module _ (t : TopologyValue) (pre post : PlacementValue) (steps rounds : ℕ) (v
   group_fits : (k : ℕ) → IsStep steps k → (i : ℕ) (d : GroupValue) → i < length t.groups → load (get_or t.groups i d) k s.sends ≤ (get_or t.groups i d).width * rounds_at s k
   group_fits k step i d low =
       let group = get_or t.groups i d in
-      let counted = load_counted f values (links_join t pre steps) (links_ascend t) k group in
+      let counters_after = load_counted f values (links_join t pre steps) (links_ascend t) k group in
       let least : group.width * (1 + extra_said f values k) ≤ group.width * rounds_at s k = mul-le-mul_left group.width (rounds_at_least f values k step) in
-      ⊎_elim (λ over. absurd (no_more k step i d low (omega (arith, over, counted, least)))) (λ fits. fits) (cases_lt (group.width * rounds_at s k) (load group k s.sends))
+      ⊎_elim (λ over. absurd (no_more k step i d low (omega (arith, over, counters_after, least)))) (λ fits. fits) (cases_lt (group.width * rounds_at s k) (load group k s.sends))
 
   -- ---- the schedule
 

@@ -49,11 +49,11 @@ abbrev pub counts_of : Frame → TopologyValue → List Count
 counts_of f t = (if nat_lt 0 f.extra then count_of_rounds f ∷ [] else []) ++ flat_map (λ s. map (count_of_group f s) t.groups) (steps_of f.map)
 
 -- the counters in their order, each with the next free variables
-abbrev pub counted : ℕ → List Count → FormulaValue
-counted before [] = record { vars = before; clauses = [] }
-counted before (count ∷ counts) =
+abbrev pub counters_after : ℕ → List Count → FormulaValue
+counters_after before [] = record { vars = before; clauses = [] }
+counters_after before (count ∷ counts) =
     let counter = totalizer_of before count.inputs count.bound in
-    let later = counted (before + counter.vars) counts in
+    let later = counters_after (before + counter.vars) counts in
     record { vars = later.vars; clauses = counter.clauses ++ count.says (output counter) ++ later.clauses }
 
 -- the formula with one more counter, and what is said of it
@@ -66,7 +66,7 @@ with_count f count =
 abbrev pub formula_of : TopologyValue → PlacementValue → PlacementValue → ℕ → ℕ → FormulaValue
 formula_of t pre post steps rounds =
     let f = frame_of t pre steps rounds in
-    let counters = counted (own_variables f) (counts_of f t) in
+    let counters = counters_after (own_variables f) (counts_of f t) in
     record { vars = counters.vars; clauses = sending f.map pre post ++ extra_in_order f ++ counters.clauses }
 
 -- the formula, with what its variables stand for

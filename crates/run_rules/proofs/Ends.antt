@@ -16,8 +16,8 @@ use Rattle.frontier_audit.specs.declared.verdict.AuditVerdict.{AuditVerdict}
 use Rattle.frontier_audit.specs.declared.verdict.AuditVerdict.TheVariants as audit
 use Rattle.frontier_audit.specs.Auditing.{audit_of}
 use Rattle.candidate_formula.specs.Counts.{counts_of}
-use Rattle.point_replay.specs.Showing.{shown_in, shown_text}
-use Rattle.point_replay.specs.Points.{programs_of_point}
+use Rattle.replay_text.specs.Showing.{shown_in, shown_text}
+use Rattle.replay_text.specs.Points.{programs_of_point}
 use Rattle.topology_text.specs.Spelling.{spelling}
 use Rattle.report_form.specs.Spelling.{report_text}
 use Rattle.json_values.specs.Json.{printed}

@@ -1,6 +1,7 @@
 -- Whether a search can be done, check by check.
-use Rattle.std.proofs.Common.{◌≡◌, ◌<◌, ◌≤◌, ◌==◌, ℕ, Bool, true, length, List, Result, Err, sym, subst, ap, ◌∙◌}
-use Rattle.std.proofs.lemmas.Bool.{lt-ltb, le-ltb}
+use Rattle.std.proofs.Common.{◌≡◌, ◌<◌, ◌≤◌, ◌==◌, ℕ, Bool, true, length, List, Result, Err, sym, subst, ap, ◌∙◌, false, Ok, refl}
+use Rattle.std.specs.Prelude.{nat_lt}
+use Rattle.std.proofs.lemmas.Bool.{lt-ltb, le-ltb, ltb-false}
 use Rattle.text_lines.specs.Check.{◌>>=◌, refuse}
 use Rattle.schedule.specs.Links.{TopologyValue}
 use Rattle.collective_spec.specs.declared.collective.Collective.{Collective}
@@ -32,6 +33,19 @@ module _ (q : QuestionValue) where
   by_counts : (none : Bool) → size_of q ≤ size_limit → (length (counts_of q) == 0) ≡ none → searchable q ≡ refuse none (refused_at NoCandidate 0 0)
   unfolding behind_size
   by_counts none small e = ap behind_size (le-ltb size_limit (size_of q) small) ∙ ap (λ b. refuse b (refused_at NoCandidate 0 0)) e
+
+  by_size : (large : Bool) → nat_lt size_limit (size_of q) ≡ large → searchable q ≡ behind_size large
+  unfolding behind_size
+  by_size large e = ap behind_size e
+
+  small_if : (large : Bool) → nat_lt size_limit (size_of q) ≡ large → searchable q ≡ Ok tt → size_of q ≤ size_limit
+  unfolding behind_size
+  small_if true e can = let impossible : Err (refused_at TooLarge 0 (size_of q)) ≡ Ok tt = sym (by_size true e) ∙ can in absurd (cc)
+  small_if false e can = ltb-false size_limit (size_of q) e
+
+  -- what can be searched is small enough
+  pub is_small : searchable q ≡ Ok tt → size_of q ≤ size_limit
+  is_small can = small_if (nat_lt size_limit (size_of q)) refl can
 
 -- ---- as the code has it: the parts of the words and of the topology
 

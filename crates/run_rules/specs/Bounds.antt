@@ -7,7 +7,7 @@ use Rattle.candidate_order.specs.declared.candidate.Candidate.{Candidate}
 use Rattle.candidate_order.specs.Frontiers.{QuestionValue, FrontierValue}
 use Rattle.topology_text.specs.Value.{NamedTopologyValue}
 use Rattle.topology_text.specs.Spelling.{name_at}
-use Rattle.report_form.specs.Reports.{WordsValue, ReportValue, question_of}
+use Rattle.report_form.specs.Reports.{WordsValue, question_of, whole_report}
 use Rattle.report_form.specs.Spelling.{candidate_words, part_words, point_lines, refuted_words, synth_words, unknown_words}
 use Rattle.frontier_audit.specs.OwedFiles.{Proves}
 use Rattle.node_cuts.specs.declared.floor.Floor.{Floor}
@@ -16,7 +16,7 @@ use Rattle.node_cuts.specs.Floors.{floor_of}
 use Rattle.node_cuts.specs.Sides.{has_bit}
 use Rattle.cut_bounds.specs.Cutting.{is_cut}
 use Rattle.cut_bounds.specs.Parting.{cuts_among, uncut_among, without_cuts}
-use Rattle.engine_search.specs.Asked.{searched_question}
+use Rattle.engine_search.specs.Searched.{searched_question}
 use Rattle.engine_search.specs.Found.{IsFound}
 use Rattle.run_rules.specs.declared.status.Status.{Status}
 use Rattle.run_rules.specs.declared.status.Status.TheVariants.{Done}
@@ -47,10 +47,6 @@ bound_text w t f = text_of (bound_lines w t f)
 
 -- ---- what is owed
 
--- a report of one part, that names these candidates
-abbrev pub report_of : WordsValue → NamedTopologyValue → FrontierValue → ReportValue
-report_of w t f = record { words = w; topology = t; frontiers = (Whole, f) ∷ []; joined = [] }
-
 -- the frontier is what a search finds; a candidate that was tried is refuted where a listed set refutes it; the text has the frontier, with each candidate that a listed set refutes in a line of its own; and the files prove the others
 pub record IsBound (w : WordsValue) (t : NamedTopologyValue) (files : FilesValue) (status : Status) (text : List ℕ) : Type 0 where
   pub frontier : FrontierValue
@@ -58,4 +54,4 @@ pub record IsBound (w : WordsValue) (t : NamedTopologyValue) (files : FilesValue
   pub points : All (λ p. is_cut (searched_question (question_of w t Whole)) p.candidate ≡ false) frontier.points
   pub unknown : All (λ u. is_cut (searched_question (question_of w t Whole)) u.candidate ≡ false) frontier.unknown
   pub says : Says Done (bound_text w t frontier) status text
-  pub proves : IsTrue files.told → Proves (report_of w t (without_cuts (searched_question (question_of w t Whole)) frontier)) files.before files.after
+  pub proves : IsTrue files.told → Proves (whole_report w t (without_cuts (searched_question (question_of w t Whole)) frontier)) files.before files.after

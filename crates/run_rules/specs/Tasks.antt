@@ -21,14 +21,14 @@ use Rattle.candidate_formula.specs.Sizes.{size_of}
 use Rattle.candidate_formula.specs.Counts.{counts_of}
 use Rattle.report_form.specs.Spelling.{report_text}
 use Rattle.node_programs.specs.Programs.{programs_of}
-use Rattle.point_replay.specs.Showing.{adding_of, nodes_of, shown_in, shown_text}
+use Rattle.replay_text.specs.Showing.{adding_of, nodes_of, shown_in, shown_text}
 use Rattle.json_values.specs.Answer.{code_number as json_number, topology_of_json}
 use Rattle.json_values.specs.Json.{printed}
 use Rattle.json_values.specs.TopologyJson.{topology_json}
 use Rattle.json_rules.specs.Answer.{report_of_json}
 use Rattle.json_rules.specs.ReportJson.{report_json}
 use Rattle.json_rules.specs.ProgramsJson.{programs_json}
-use Rattle.point_replay.specs.Points.{programs_of_point}
+use Rattle.replay_text.specs.Points.{programs_of_point}
 use Rattle.command_words.specs.declared.command.JsonWhat.{JsonWhat}
 use Rattle.command_words.specs.declared.command.JsonWhat.TheVariants as what
 use Rattle.command_words.specs.declared.command.RootWord.{RootWord}

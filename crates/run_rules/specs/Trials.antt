@@ -12,7 +12,7 @@ use Rattle.report_form.specs.Spelling.{synth_words}
 use Rattle.report_form.specs.Numbered.{points_of}
 use Rattle.topology_text.specs.FamilyWords.{family_word}
 use Rattle.node_programs.specs.Runs.{operations}
-use Rattle.point_replay.specs.Showing.{shown_in, machine_of}
+use Rattle.replay_text.specs.Showing.{shown_in, machine_of}
 
 abbrev pub trial_family : ℕ → FamilyKind
 trial_family n = slice_index_or (Line ∷ Ring ∷ Complete ∷ Shared ∷ []) (n % 4) Line

@@ -13,10 +13,11 @@ use Rattle.cnf_formula.specs.Formulas.{IsAbout}
 use Rattle.trail_core.specs.Trails.{StepValue, lits_of}
 use Rattle.trail_core.specs.Meaning.{CoreValue, trues}
 use Rattle.trail_core.specs.Formed.{IsTrail}
-use Rattle.sat_core.specs.Learning.{hints_to, IsAnalysis}
-use Rattle.sat_core.specs.Naming.{name}
-use Rattle.sat_core.specs.Sleeping.{SleepersValue, sleeping}
-use Rattle.sat_core.specs.Conflicts.{IsConflict, Agree, IsNext}
+use Rattle.conflict_analysis.specs.Learning.{hints_to, IsAnalysis}
+use Rattle.sleeping_clauses.specs.Naming.{name}
+use Rattle.sleeping_clauses.specs.Sleeping.{SleepersValue, sleeping}
+use Rattle.conflict_analysis.specs.Conflicts.{IsConflict}
+use Rattle.sat_core.specs.Holding.{Agree, IsNext}
 use Rattle.sat_core.proofs.Members.{all_by}
 use Rattle.sat_core.proofs.Hinted.{hints_conflict, leading_numbers, no_groups}
 use Rattle.sat_core.proofs.Once.{Apart, consistent_by}

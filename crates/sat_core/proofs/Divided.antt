@@ -9,27 +9,12 @@ use Rattle.cnf_formula.specs.Formulas.{FormulaValue}
 use Rattle.cnf_formula.specs.Lines.{ProofLineValue}
 use Rattle.ledger_rules.specs.Logs.{checker_of}
 use Rattle.trail_core.specs.Meaning.{CoreValue}
-use Rattle.sat_core.specs.declared.awake.Awake.{Awake}
-use Rattle.sat_core.specs.Sleeping.{SleepersValue, IsAsleep}
+use Rattle.sleeping_clauses.specs.declared.awake.Awake.{Awake}
+use Rattle.sleeping_clauses.specs.Sleeping.{SleepersValue, IsAsleep}
 use Rattle.sat_core.specs.Dividing.{IsDividing}
 use Rattle.sat_core.specs.Ready.{IsReady}
 use Rattle.sat_core.proofs.Asleep.{pushed_stays, pushed_sleeps, asleep_more}
 use Rattle.sat_core.proofs.Readiness.{named_more, listed_more, ready_moved}
-
--- nothing was divided yet
-pub dividing_none : (clauses : List (List LitValue)) (names : List ℕ) (formula : ℕ) (before : SleepersValue) (left : List (List LitValue)) (awake : Awake) → left ≡ [] → awake.ids.items ≡ [] → awake.names.items ≡ 0 ∷ [] → IsDividing clauses names formula before 0 left awake before
-dividing_none clauses names formula before left awake none ids one =
-    let z : (k : ℕ) → k < length left → ⊥ = λ k w. omega (arith, w, ap length none) in
-    record {
-      listed = record { ids_len = omega (arith, ap length ids, ap length none); ids = λ k w. absurd (z k w); names = omega (arith, ap length one, ap length none); once = λ k w. absurd (z k w) };
-      named = λ held a k w. absurd (z k w);
-      asleep = λ held a s. s;
-      all = λ j w. absurd (omega (arith, w));
-      stay = λ clause a. a;
-      few = λ w. ap length none;
-      many = λ w. omega (arith, w);
-      first = λ j v w. absurd (omega (arith, w));
-    }
 
 -- the next clause stays awake
 pub dividing_awake : (clauses : List (List LitValue)) (names : List ℕ) (formula : ℕ) (before : SleepersValue) (k : ℕ) (left left' : List (List LitValue)) (awake awake' : Awake) (now : SleepersValue) (id : ℕ) → IsDividing clauses names formula before k left awake now → k < length clauses

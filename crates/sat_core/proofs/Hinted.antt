@@ -1,18 +1,21 @@
 -- The reasons of the resolved steps in the order of the trail, and then the falsified clause, are a conflict for what remains.
-use Rattle.std.proofs.Common.{zero, suc, ◌≡◌, ℕ, ◌+◌, ◌<◌, ◌≤◌, Bool, true, false, List, [], ◌∷◌, ◌++◌, length, get_or, take, refl, sym, ap, ◌∙◌, subst, inl, inr, ⊎_elim, arith}
+use Rattle.std.proofs.Common.{◌≡◌, ℕ, ◌+◌, ◌<◌, ◌≤◌, Bool, true, false, List, [], ◌∷◌, ◌++◌, length, get_or, take, refl, sym, ap, ◌∙◌, subst, inl, inr, ⊎_elim, arith}
 use Rattle.std.specs.Prelude.{All, Contains, Some, map, filter, pos}
 use Rattle.std.proofs.lemmas.Bool.{false≢true, cases_Bool}
 use Rattle.std.proofs.lemmas.List.{append_assoc, take_at, length-append, length-map, length_push, get_or-append-add}
-use Rattle.std.proofs.lemmas.List.Elements.{Contains-push_cases, Contains-append_right, All-nil}
+use Rattle.std.proofs.lemmas.List.Elements.{Contains-push_cases, Contains-append_right, All-nil, All-cons}
 use Rattle.cnf_formula.specs.Literals.{LitValue, negation}
 use Rattle.proof_rules.specs.Held.{Entry, clause_at}
 use Rattle.proof_rules.specs.Accepting.{Takes, Falsifies, Conflicts, leading, groups_from}
 use Rattle.trail_core.specs.Assigned.{IsFalse, IsConsistent}
 use Rattle.trail_core.specs.Trails.{StepValue, lits_of}
 use Rattle.trail_core.proofs.Keeping.{negated_twice}
-use Rattle.sat_core.specs.Learning.{number_of, name_of, numbers_of, numbers_to, hints_of, hints_to, AreNamed, IsOut, IsResolved, IsAnalysis}
-use Rattle.sat_core.specs.Naming.{name, IsName}
-use Rattle.sat_core.proofs.Members.{here, there, cons_cases, all_by, in_map, from_filter, found_by, not_found}
+use Rattle.conflict_analysis.specs.Learning.{number_of, hints_of, hints_to, IsOut, IsResolved, IsAnalysis}
+use Rattle.sat_core.specs.Hints.{name_of, numbers_of, numbers_to}
+use Rattle.sat_core.specs.Holding.{AreNamed}
+use Rattle.sleeping_clauses.specs.Naming.{name, IsName}
+use Rattle.conflict_analysis.proofs.Members.{here, there, cons_cases}
+use Rattle.sat_core.proofs.Members.{all_by, in_map, from_filter, found_by, not_found}
 
 -- a hint that leaves one literal, before hints that go on
 pub hint_then : (held : List Entry) (falses : List LitValue) (hint : ℕ) (l : LitValue) (hints : List ℕ) (last : ℕ) → Takes held falses hint l → Conflicts held (negation l ∷ falses) (hints ++ last ∷ []) → Conflicts held falses (hint ∷ (hints ++ last ∷ []))
@@ -117,14 +120,10 @@ no_groups names resolved steps conflict place = no_groups_from names (filter res
 
 -- ---- each is a name
 
-all_cons : {X : Type 0} (P : X → Type 0) (x : X) (xs : List X) → P x → All P xs → All P (x ∷ xs)
-all_cons P x xs p a zero d w = p
-all_cons P x xs p a (suc k) d w = a k d (omega (arith, w))
-
 names_from : (places : ℕ) (steps : List StepValue) (conflict : ℕ) → ((s : StepValue) → Contains steps s → number_of s.reason < places) → conflict + 1 < places → All (IsName places) (map (λ s. pos (number_of s.reason)) steps ++ pos (conflict + 1) ∷ [])
-names_from places [] conflict each w = all_cons (IsName places) (pos (conflict + 1)) [] (conflict + 1, refl, w) (All-nil (IsName places))
+names_from places [] conflict each w = All-cons (IsName places) (pos (conflict + 1)) [] (conflict + 1, refl, w) (All-nil (IsName places))
 names_from places (s ∷ steps) conflict each w =
-    all_cons (IsName places) (pos (number_of s.reason)) (map (λ x. pos (number_of x.reason)) steps ++ pos (conflict + 1) ∷ []) (number_of s.reason, refl, each s (here s steps))
+    All-cons (IsName places) (pos (number_of s.reason)) (map (λ x. pos (number_of x.reason)) steps ++ pos (conflict + 1) ∷ []) (number_of s.reason, refl, each s (here s steps))
     (names_from places steps conflict (λ x c. each x (there s steps x c)) w)
 
 pub hints_names : (clauses : List (List LitValue)) (steps : List StepValue) (resolved : StepValue → Bool) (conflict : ℕ) (clause : List LitValue) → IsAnalysis clauses steps resolved conflict clause → All (IsName (length clauses + 1)) (hints_to resolved steps conflict)

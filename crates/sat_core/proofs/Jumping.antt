@@ -16,13 +16,13 @@ use Rattle.trail_core.specs.Kept.{IsDue, CanAdd, CanAddTo}
 use Rattle.trail_core.specs.Formed.{IsTrail}
 use Rattle.trail_core.proofs.Trails.{all_counted, level_at_cut}
 use Rattle.trail_core.proofs.Keeping.{lits_length, nil_limits}
-use Rattle.sat_core.specs.Conflicts.{gone_back}
-use Rattle.sat_core.specs.Learned.{IsPointed, IsLearned, IsBacked, HasLevel, AreUpTo, front_of}
-use Rattle.sat_core.specs.Met.{lit_at}
+use Rattle.sat_core.specs.Jumping.{gone_back, IsBacked, HasLevel, AreUpTo, front_of}
+use Rattle.conflict_analysis.specs.Learned.{IsPointed, IsLearned}
+use Rattle.conflict_analysis.specs.Met.{lit_at}
 use Rattle.sat_core.proofs.Members.{all_by, from_front}
-use Rattle.sat_core.proofs.Marked.{IsAt, false_at, lit_read, same_place, level_within, level_read}
-use Rattle.sat_core.proofs.Levels.{level_below}
-use Rattle.sat_core.proofs.Pointed.{false_below}
+use Rattle.conflict_analysis.proofs.Marked.{IsAt, false_at, lit_read, same_place, level_within, level_read}
+use Rattle.conflict_analysis.proofs.Levels.{level_below}
+use Rattle.conflict_analysis.proofs.Pointed.{false_below}
 
 -- what may be added is due
 pub due_by : (t : TrailValue) (clause : List LitValue) → CanAddTo t clause → AreLimits t.limits (length t.steps) → IsDue t.limits t.steps clause
@@ -93,9 +93,6 @@ backed_within core lits t b = all_by (IsAbout core.vars) lits (λ o c.
 
 pub backed_differ : (core : CoreValue) (lits : List LitValue) → IsBacked core lits → AllPairs (λ a b. a ≢ b) lits
 backed_differ core lits b = λ i j d p q e. b.once i j d p q (ap (λ l. l.var) e)
-
-pub front_false : (core : CoreValue) (lits : List LitValue) → IsBacked core lits → (o : LitValue) → Contains (front_of lits) o → IsFalse (trues core) o
-front_false core lits b o c = b.falses o (from_front (length lits - 1) lits o c)
 
 -- below the last level the clause has its last literal open alone
 pub pointed_unit : (core : CoreValue) (clause : List LitValue) (last : ℕ) → (p : IsPointed core clause) → last + 1 ≡ length core.limits → IsUnit (take (get_or core.limits last 0) (trues core)) clause p.point

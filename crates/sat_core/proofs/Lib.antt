@@ -1,6 +1,5 @@
 pub mod Members
 pub mod Hinted
-pub mod Levels
 pub mod Once
 pub mod Fresh
 pub mod Spent
@@ -9,7 +8,6 @@ pub mod Measure
 pub mod AtConflict
 pub mod Readiness
 pub mod Divided
-pub mod Found
 pub mod Jumping
 pub mod Turning
 pub mod Totality
@@ -17,10 +15,3 @@ pub mod Ending
 pub mod Loaded
 pub mod Modelled
 pub mod Ternary
-pub mod Counted
-pub mod Marked
-pub mod Resolved
-pub mod Waiting
-pub mod Pointed
-pub mod Learned
-pub mod Left

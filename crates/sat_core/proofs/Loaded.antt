@@ -12,12 +12,12 @@ use Rattle.cnf_formula.proofs.Codes.{same_code}
 use Rattle.proof_rules.specs.Held.{Entry, clause_at}
 use Rattle.proof_rules.proofs.Numbered.{start_numbered}
 use Rattle.trail_core.specs.Meaning.{CoreValue}
-use Rattle.sat_core.specs.Learning.{IsSame, AreHeld}
+use Rattle.sat_core.specs.Holding.{IsSame, AreHeld}
 use Rattle.sat_core.specs.Loading.{own_of, IsLoaded}
 use Rattle.sat_core.specs.Ready.{IsReady}
-use Rattle.sat_core.specs.Naming.{IsListed}
-use Rattle.sat_core.specs.Sleeping.{no_sleepers}
-use Rattle.sat_core.specs.declared.awake.Awake.{Awake}
+use Rattle.sleeping_clauses.specs.Naming.{IsListed}
+use Rattle.sleeping_clauses.specs.Sleeping.{no_sleepers}
+use Rattle.sleeping_clauses.specs.declared.awake.Awake.{Awake}
 use Rattle.sat_core.proofs.Members.{all_by}
 use Rattle.sat_core.proofs.Readiness.{listed_more}
 
@@ -31,16 +31,6 @@ pub record IsKeeping (passed kept : List LitValue) (marks : List ℕ) (mark : �
   pub known : (l : LitValue) → get_or marks (code_of l) 0 ≡ mark → Contains kept l
   pub once : AllPairs (λ a b. a ≢ b) kept
   pub lits : All IsLit kept
-
-pub keeping_none : (marks : List ℕ) (mark : ℕ) → ((k : ℕ) → get_or marks k 0 < mark) → IsKeeping [] [] marks mark
-keeping_none marks mark u = record {
-  into = λ l c. c;
-  from = λ l c. c;
-  marked = λ l c. absurd (omega (arith, c.1));
-  known = λ l e. let b = u (code_of l) in absurd (omega (arith, b, e));
-  once = λ i j d p q. absurd (omega (arith, q));
-  lits = All-nil IsLit;
-}
 
 -- a literal that has the mark is passed by
 pub keeping_old : (passed kept : List LitValue) (marks : List ℕ) (mark : ℕ) (l : LitValue) → IsKeeping passed kept marks mark → get_or marks (code_of l) 0 ≡ mark → IsKeeping (passed ++ l ∷ []) kept (set marks (code_of l) mark) mark
@@ -112,9 +102,6 @@ kept_about vars own clause kept e a s i = subst (λ n. IsClause n kept) (sym e) 
 
 -- ---- a core with them
 
-pub loaded_none : (core : CoreValue) → core.clauses ≡ [] → IsLoaded [] core
-loaded_none core e = record { count = ap length e; same = λ k w. absurd (omega (arith, w)) }
-
 pub loaded_more : (clauses : List (List LitValue)) (k : ℕ) (core core' : CoreValue) (kept : List LitValue) → IsLoaded (take k clauses) core → k < length clauses → IsSame (get_or clauses k []) kept → core'.clauses ≡ core.clauses ++ kept ∷ [] → IsLoaded (take (k + 1) clauses) core'
 loaded_more clauses k core core' kept l w s e =
     let n : length (take k clauses) ≡ k = length-take-le k clauses (omega (arith, w)) in
@@ -142,14 +129,6 @@ loaded_more clauses k core core' kept l w s e =
 pub record IsNumbered (core : CoreValue) (awake : Awake) : Type 0 where
   pub listed : IsListed core.clauses awake
   pub names : (k : ℕ) → k < length core.clauses → get_or awake.names.items (k + 1) 0 ≡ k + 1
-
-pub numbered_none : (core : CoreValue) (awake : Awake) → core.clauses ≡ [] → awake.ids.items ≡ [] → awake.names.items ≡ 0 ∷ [] → IsNumbered core awake
-numbered_none core awake none ids names =
-    let z : (k : ℕ) → k < length core.clauses → ⊥ = λ k w. omega (arith, w, ap length none) in
-    record {
-      listed = record { ids_len = omega (arith, ap length ids, ap length none); ids = λ k w. absurd (z k w); names = omega (arith, ap length names, ap length none); once = λ k w. absurd (z k w) };
-      names = λ k w. absurd (z k w);
-    }
 
 pub numbered_more : (core core' : CoreValue) (awake awake' : Awake) (kept : List LitValue) (id number : ℕ) → IsNumbered core awake → core'.clauses ≡ core.clauses ++ kept ∷ [] → id ≡ length core.clauses → number ≡ length core.clauses + 1 → awake'.ids.items ≡ awake.ids.items ++ id ∷ [] → awake'.names.items ≡ awake.names.items ++ number ∷ [] → AllPairs (λ a b. a ≢ b) kept → IsNumbered core' awake'
 numbered_more core core' awake awake' kept id number n cs at next ids names once = record {

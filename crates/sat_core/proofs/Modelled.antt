@@ -8,12 +8,12 @@ use Rattle.cnf_formula.specs.Literals.{LitValue, yes, same_sign, value_of, is_tr
 use Rattle.cnf_formula.specs.Formulas.{FormulaValue, IsAbout, IsClause, Satisfies}
 use Rattle.cnf_formula.specs.Lines.{ProofLineValue}
 use Rattle.trail_core.specs.Meaning.{CoreValue, trues}
-use Rattle.sat_core.specs.Learning.{IsSame}
-use Rattle.sat_core.specs.Sleeping.{SleepersValue}
-use Rattle.sat_core.specs.declared.awake.Awake.{Awake}
+use Rattle.sat_core.specs.Holding.{IsSame}
+use Rattle.sleeping_clauses.specs.Sleeping.{SleepersValue}
+use Rattle.sleeping_clauses.specs.declared.awake.Awake.{Awake}
 use Rattle.sat_core.specs.Ready.{IsReady}
 use Rattle.sat_core.specs.Totals.{IsTotal, AreValues}
-use Rattle.sat_core.proofs.Members.{here, there, cons_cases}
+use Rattle.conflict_analysis.proofs.Members.{here, there, cons_cases}
 use Rattle.sat_core.proofs.Once.{consistent_by}
 use Rattle.sat_core.proofs.Totality.{total_satisfied}
 

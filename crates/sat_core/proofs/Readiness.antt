@@ -15,13 +15,13 @@ use Rattle.proof_rules.specs.Refuting.{is_empty, is_fresh, is_accepted, with_lin
 use Rattle.proof_rules.proofs.Kept.{keeps_append}
 use Rattle.ledger_rules.specs.Logs.{checker_of}
 use Rattle.trail_core.specs.Meaning.{CoreValue}
-use Rattle.sat_core.specs.Learning.{IsSame, IsHeldAs, AreNamed, AreHeld}
-use Rattle.sat_core.specs.Naming.{IsListed}
-use Rattle.sat_core.specs.Sleeping.{SleepersValue}
-use Rattle.sat_core.specs.declared.awake.Awake.{Awake}
-use Rattle.sat_core.specs.Conflicts.{IsNext}
+use Rattle.sat_core.specs.Holding.{IsSame, IsHeldAs, AreNamed, AreHeld, IsNext}
+use Rattle.sleeping_clauses.specs.Naming.{IsListed}
+use Rattle.sleeping_clauses.specs.Sleeping.{SleepersValue}
+use Rattle.sleeping_clauses.specs.declared.awake.Awake.{Awake}
 use Rattle.sat_core.specs.Ready.{AreNumbered, AreWritten, IsHolding, IsReady}
-use Rattle.sat_core.proofs.Asleep.{by_place_push, woken_stays}
+use Rattle.sleeping_clauses.proofs.Stored.{by_place_push}
+use Rattle.sat_core.proofs.Asleep.{woken_stays}
 
 -- ---- one line more
 
@@ -162,15 +162,6 @@ pub refuted_by : (base : FormulaValue) (lines : List ProofLineValue) (line : Pro
 refuted_by base lines line w e = record {
   accepted = accepted_all (lines ++ line ∷ []) (start_of base) w.implied;
   refuted = ap (λ c. c.refuted) (after_more lines (start_of base) line) ∙ or_right (checker_of base lines).refuted (is_empty line.lits) (ap is_empty e);
-}
-
--- of how much use clauses were is nothing to what is held
-pub listed_same : (clauses clauses' : List (List LitValue)) (awake awake' : Awake) → IsListed clauses awake → clauses' ≡ clauses → awake'.ids ≡ awake.ids → awake'.names ≡ awake.names → IsListed clauses' awake'
-listed_same clauses clauses' awake awake' l cs ids names = record {
-  ids_len = ap (λ v. length v.items) ids ∙ l.ids_len ∙ ap length (sym cs);
-  ids = λ k w. ap (λ v. get_or v.items k 0) ids ∙ l.ids k (subst (λ xs. k < length xs) cs w);
-  names = ap (λ v. length v.items) names ∙ l.names ∙ ap (λ xs. length xs + 1) (sym cs);
-  once = λ k w. subst (λ xs. AllPairs (λ a b. a ≢ b) (get_or xs k [])) (sym cs) (l.once k (subst (λ xs. k < length xs) cs w));
 }
 
 -- what is held stays so where other clauses of it sleep

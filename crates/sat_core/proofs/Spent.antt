@@ -13,8 +13,9 @@ use Rattle.proof_rules.proofs.Verdicts.{implied_by}
 use Rattle.trail_core.specs.Assigned.{IsFalse}
 use Rattle.trail_core.specs.Meaning.{IsClosed}
 use Rattle.trail_core.proofs.Keeping.{negated_twice}
-use Rattle.sat_core.specs.Learning.{AreAmong}
-use Rattle.sat_core.proofs.Members.{here, there, cons_cases, stands_by, stands_or_not}
+use Rattle.sat_core.specs.Holding.{AreAmong}
+use Rattle.conflict_analysis.proofs.Members.{here, there, cons_cases}
+use Rattle.sat_core.proofs.Members.{stands_by, stands_or_not}
 
 -- a clause that is held under a number is one of the held
 pub is_entry : (held : List Entry) (id : ℕ) (clause : List LitValue) → clause_at held id ≡ Some clause → (entry : Entry) × Contains held entry × (entry.1 ≡ clause)

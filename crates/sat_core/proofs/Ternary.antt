@@ -14,7 +14,8 @@ use Rattle.cnf_formula.specs.Lines.{ProofLineValue}
 use Rattle.proof_rules.specs.Held.{Entry, CheckerValue, start_of}
 use Rattle.proof_rules.specs.Refuting.{is_empty, with_line, is_fresh, AllImplied, AllFresh, SpentLog}
 use Rattle.proof_rules.proofs.Verdicts.{implied_by}
-use Rattle.sat_core.proofs.Members.{here, there, cons_cases, found_by, stands_by, not_found}
+use Rattle.conflict_analysis.proofs.Members.{here, there, cons_cases}
+use Rattle.sat_core.proofs.Members.{found_by, stands_by, not_found}
 
 -- ---- a clause as a number in base 3
 

@@ -8,7 +8,8 @@ use Rattle.cnf_formula.specs.Formulas.{IsAbout}
 use Rattle.trail_core.specs.Search.{IsSatisfied}
 use Rattle.trail_core.specs.Meaning.{CoreValue, trues}
 use Rattle.sat_core.specs.Totals.{IsTotal}
-use Rattle.sat_core.proofs.Members.{here, there, cons_cases, stands_or_not}
+use Rattle.conflict_analysis.proofs.Members.{here, there, cons_cases}
+use Rattle.sat_core.proofs.Members.{stands_or_not}
 
 -- an open literal's variable is open, as false too
 open_no : (ts : List LitValue) (l : LitValue) → (Contains ts l → ⊥) → (Contains ts (negation l) → ⊥) → IsOpen ts (no l.var)

@@ -12,14 +12,16 @@ use Rattle.std.specs.Prelude.{map, false, Contains}
 use Rattle.cnf_formula.specs.declared.line.LratLine.TheVariants.{Addition}
 use Rattle.ledger_rules.specs.Logs.{checker_of}
 use Rattle.trail_core.specs.Meaning.{CoreValue, trues}
-use Rattle.sat_core.specs.Conflicts.{IsConflict, Agree, IsNext}
-use Rattle.sat_core.specs.Learned.{IsLearned, IsBacked}
-use Rattle.sat_core.specs.Learning.{hints_to}
-use Rattle.sat_core.specs.Naming.{name, IsNamed, IsListed}
-use Rattle.sat_core.specs.Sleeping.{SleepersValue, HasNone, AreFew, sleeping}
-use Rattle.sat_core.specs.declared.awake.Awake.{Awake}
+use Rattle.conflict_analysis.specs.Conflicts.{IsConflict}
+use Rattle.sat_core.specs.Holding.{Agree, IsNext}
+use Rattle.conflict_analysis.specs.Learned.{IsLearned}
+use Rattle.sat_core.specs.Jumping.{IsBacked}
+use Rattle.conflict_analysis.specs.Learning.{hints_to}
+use Rattle.sleeping_clauses.specs.Naming.{name, IsNamed, IsListed}
+use Rattle.sleeping_clauses.specs.Sleeping.{SleepersValue, HasNone, AreFew, sleeping}
+use Rattle.sleeping_clauses.specs.declared.awake.Awake.{Awake}
 use Rattle.sat_core.specs.Guided.{IsGuided}
-use Rattle.sat_core.specs.Met.{IsRested}
+use Rattle.conflict_analysis.specs.Met.{IsRested}
 use Rattle.sat_core.specs.declared.guide.Guide.{Guide}
 use Rattle.sat_core.specs.Ready.{AreWritten, IsReady, IsOver}
 use Rattle.sat_core.proofs.AtConflict.{analysis_accepted, no_line_closes}
@@ -66,10 +68,6 @@ turn_short base lines core awake s conflict learned line t =
 pub turn_written : (base base' : FormulaValue) (lines lines' : List ProofLineValue) (core : CoreValue) (awake : Awake) (s : SleepersValue) (conflict : ℕ) (learned line : ProofLineValue) → IsTurn base lines core awake s conflict learned line → base' ≡ base → lines' ≡ lines ++ line ∷ [] → AreWritten base' lines'
 turn_written base base' lines lines' core awake s conflict learned line t b l =
     subst (λ x. AreWritten x lines') (sym b) (subst (AreWritten base) (sym l) (written_more base lines core awake s line t.ready (turn_accepted base lines core awake s conflict learned line t) t.named.id (turn_short base lines core awake s conflict learned line t)))
-
--- where nothing was written
-pub turn_same : (base base' : FormulaValue) (lines lines' : List ProofLineValue) (core : CoreValue) (awake : Awake) (s : SleepersValue) → IsReady base lines core awake s → base' ≡ base → lines' ≡ lines → AreWritten base' lines'
-turn_same base base' lines lines' core awake s r b l = subst (λ x. AreWritten x lines') (sym b) (subst (AreWritten base) (sym l) r.written)
 
 pub turn_refuted : (base base' : FormulaValue) (lines lines' : List ProofLineValue) (core : CoreValue) (awake : Awake) (s : SleepersValue) (conflict : ℕ) (learned line : ProofLineValue) → IsTurn base lines core awake s conflict learned line → line.lits ≡ [] → base' ≡ base → lines' ≡ lines ++ line ∷ [] → Refutes (map Addition lines') base'
 turn_refuted base base' lines lines' core awake s conflict learned line t e b l =

@@ -2,9 +2,9 @@
 use Rattle.std.specs.Prelude.{◌≡◌}
 use Rattle.trail_core.specs.Meaning.{CoreValue}
 use Rattle.sat_core.specs.declared.guide.Guide.{Guide}
-use Rattle.sat_core.specs.Met.{IsRested}
-use Rattle.sat_core.specs.Naming.{IsListed}
-use Rattle.sat_core.specs.Sleeping.{AreFew}
+use Rattle.conflict_analysis.specs.Met.{IsRested}
+use Rattle.sleeping_clauses.specs.Naming.{IsListed}
+use Rattle.sleeping_clauses.specs.Sleeping.{AreFew}
 
 -- its tables are of the core's variables and clauses, and no mark is above those of the last analysis
 pub record IsGuided (core : CoreValue) (guide : Guide) : Type 0 where

@@ -2,7 +2,7 @@
 use Rattle.std.specs.Prelude.{◌≡◌, ℕ, ◌<◌, List, [], length, get_or, min}
 use Rattle.cnf_formula.specs.Literals.{LitValue}
 use Rattle.trail_core.specs.Meaning.{CoreValue}
-use Rattle.sat_core.specs.Learning.{IsSame}
+use Rattle.sat_core.specs.Holding.{IsSame}
 
 -- so many of a formula's variables have literals
 abbrev pub own_of : ℕ → ℕ

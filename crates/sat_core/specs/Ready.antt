@@ -8,10 +8,9 @@ use Rattle.proof_rules.specs.Judging.{verdict_of}
 use Rattle.proof_rules.specs.Refuting.{AllImplied, AllFresh}
 use Rattle.ledger_rules.specs.Logs.{checker_of}
 use Rattle.trail_core.specs.Meaning.{CoreValue}
-use Rattle.sat_core.specs.Conflicts.{Agree}
-use Rattle.sat_core.specs.Learning.{IsSame}
-use Rattle.sat_core.specs.Sleeping.{SleepersValue}
-use Rattle.sat_core.specs.declared.awake.Awake.{Awake}
+use Rattle.sat_core.specs.Holding.{Agree, IsSame}
+use Rattle.sleeping_clauses.specs.Sleeping.{SleepersValue}
+use Rattle.sleeping_clauses.specs.declared.awake.Awake.{Awake}
 
 -- the checker holds the core's clauses and those that sleep under their numbers, and no number above them; and the formula's
 -- clauses are the first of the core

@@ -6,10 +6,10 @@ ghost use Rattle.cnf_formula.specs.Formulas.{IsAbout};
 ghost use Rattle.trail_core.specs.Assigned.{IsFalse};
 ghost use Rattle.trail_core.specs.Meaning.{trues};
 ghost use Rattle.trail_core.specs.Formed.{IsTrail};
-ghost use Rattle.sat_core.specs.Learned.{HasLevel, AreUpTo, IsBacked, front_of};
+ghost use Rattle.sat_core.specs.Jumping.{HasLevel, AreUpTo, IsBacked, front_of};
 
-use crate::deciding::Decider;
 use cnf_formula::{Lit, OutOfMemory, ProofLine};
+use decision_order::Decider;
 use trail_core::{ClauseId, Core};
 
 /// The highest level on which one of the literals became false, 0 where there are none.

@@ -1,17 +1,12 @@
 //! What a search keeps from turn to turn beside its core.
 
 ghost use Rattle.std.specs.Prelude.{◌≡◌, ◌<◌, [], IfOk};
-ghost use Rattle.sat_core.specs.Met.{IsRested};
+ghost use Rattle.conflict_analysis.specs.Met.{IsRested};
 
-use crate::awake::Awake;
-use crate::deciding::Decider;
-use crate::glue::Glue;
-use crate::implied::Implied;
-use crate::probing::Probes;
-use crate::restarts::Restarts;
-use crate::sleepers::Sleepers;
-use crate::walk::Walk;
 use cnf_formula::OutOfMemory;
+use conflict_analysis::{Glue, Implied, Walk};
+use decision_order::{Decider, Probes, Restarts};
+use sleeping_clauses::{Awake, Sleepers};
 use std::alloc::Global;
 
 /// The marks of analyses, what is decided next, when the search begins anew, when another decider takes over, and which

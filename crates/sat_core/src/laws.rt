@@ -16,12 +16,15 @@ ghost use Rattle.trail_core.specs.Meaning.{CoreValue, trues, IsClosed};
 ghost use Rattle.trail_core.specs.Formed.{IsTrail};
 ghost use Rattle.sat_core.specs.Totals.{IsTotal, AreValues};
 ghost use Rattle.sat_core.specs.Ready.{IsReady};
-ghost use Rattle.sat_core.specs.Learning.{AreNamed, AreAmongOr, IsAnalysis, hints_to, numbers_to};
-ghost use Rattle.sat_core.specs.Conflicts.{IsConflict, Agree, IsNext, IsLess, remaining};
-ghost use Rattle.sat_core.specs.Learned.{IsLearned};
-ghost use Rattle.sat_core.specs.Naming.{name, IsNamed};
-ghost use Rattle.sat_core.specs.Sleeping.{SleepersValue, HasNone, sleeping};
-ghost use Rattle.sat_core.specs.declared.awake.Awake.{Awake};
+ghost use Rattle.sat_core.specs.Holding.{AreNamed, AreAmongOr, Agree, IsNext};
+ghost use Rattle.conflict_analysis.specs.Learning.{IsAnalysis, hints_to};
+ghost use Rattle.sat_core.specs.Hints.{numbers_to};
+ghost use Rattle.conflict_analysis.specs.Conflicts.{IsConflict};
+ghost use Rattle.sat_core.specs.Measure.{IsLess, remaining};
+ghost use Rattle.conflict_analysis.specs.Learned.{IsLearned};
+ghost use Rattle.sleeping_clauses.specs.Naming.{name, IsNamed};
+ghost use Rattle.sleeping_clauses.specs.Sleeping.{SleepersValue, HasNone, sleeping};
+ghost use Rattle.sleeping_clauses.specs.declared.awake.Awake.{Awake};
 
 /// A literal stands in a clause exactly where the test finds it.
 #[tactic(auto, using(crate::proofs::Members::found_exactly))]

@@ -2,13 +2,13 @@
 
 ghost use Rattle.std.specs.Prelude.{◌≡◌, ◌≢◌, ℕ, ◌+◌, ◌*◌, ◌<◌, ◌≤◌, true, false, [], length, slice_index, slice_set, Contains, All, AllPairs, IfOk, OnOk};
 ghost use Rattle.cnf_formula.specs.Literals.{LitValue, IsLit, code_of};
-ghost use Rattle.sat_core.specs.Learning.{IsSame};
+ghost use Rattle.sat_core.specs.Holding.{IsSame};
 ghost use Rattle.sat_core.specs.Loading.{own_of};
-ghost use Rattle.sat_core.specs.Naming.{IsListed};
+ghost use Rattle.sleeping_clauses.specs.Naming.{IsListed};
 ghost use Rattle.sat_core.specs.Ready.{IsReady};
 
-use crate::awake::{Awake, Usage};
 use cnf_formula::{Formula, Lit, OutOfMemory};
+use sleeping_clauses::{Awake, Usage};
 use std::alloc::{AllocError, Global};
 use trail_core::Core;
 

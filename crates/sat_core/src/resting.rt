@@ -5,16 +5,15 @@ ghost use Rattle.cnf_formula.specs.Formulas.{FormulaValue, IsClause};
 ghost use Rattle.cnf_formula.specs.Lines.{ProofLineValue};
 ghost use Rattle.sat_core.specs.Guided.{IsGuided};
 ghost use Rattle.sat_core.specs.Ready.{IsReady};
-ghost use Rattle.sat_core.specs.Naming.{IsListed};
-ghost use Rattle.sat_core.specs.Sleeping.{SleepersValue, AreFew};
+ghost use Rattle.sleeping_clauses.specs.Naming.{IsListed};
+ghost use Rattle.sleeping_clauses.specs.Sleeping.{SleepersValue, AreFew};
 ghost use Rattle.sat_core.specs.Dividing.{IsDividing};
 
-use crate::awake::Awake;
 use crate::going::release_from;
 use crate::guide::Guide;
 use crate::loading::count_each;
-use crate::sleepers::Sleepers;
 use cnf_formula::OutOfMemory;
+use sleeping_clauses::{Awake, Sleepers};
 use std::alloc::Global;
 use trail_core::Core;
 

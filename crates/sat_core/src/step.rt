@@ -2,10 +2,10 @@
 
 ghost use Rattle.std.specs.Prelude.{◌≡◌, ℕ, ◌<◌, ◌≤◌, length};
 ghost use Rattle.cnf_formula.specs.Literals.{no};
-ghost use Rattle.sat_core.specs.Conflicts.{IsConflict};
+ghost use Rattle.conflict_analysis.specs.Conflicts.{IsConflict};
 ghost use Rattle.sat_core.specs.Totals.{IsTotal};
 
-use crate::deciding::Decider;
+use decision_order::Decider;
 use trail_core::{ClauseId, Core};
 
 /// What a step of the search came to.

@@ -3,9 +3,10 @@
 ghost use Rattle.std.specs.Prelude.{◌≡◌, ◌≢◌, ℕ, ◌+◌, ◌<◌, ◌≤◌, ◌∷◌, ◌++◌, [], true, List, length, map, Ok, Err, OnOk};
 ghost use Rattle.cnf_formula.specs.Formulas.{FormulaValue};
 ghost use Rattle.cnf_formula.specs.Lines.{ProofLineValue};
-ghost use Rattle.sat_core.specs.Conflicts.{IsConflict, IsLess};
-ghost use Rattle.sat_core.specs.Learned.{IsBacked};
-ghost use Rattle.sat_core.specs.Sleeping.{sleeping};
+ghost use Rattle.conflict_analysis.specs.Conflicts.{IsConflict};
+ghost use Rattle.sat_core.specs.Measure.{IsLess};
+ghost use Rattle.sat_core.specs.Jumping.{IsBacked};
+ghost use Rattle.sleeping_clauses.specs.Sleeping.{sleeping};
 ghost use Rattle.sat_core.specs.Guided.{IsGuided};
 ghost use Rattle.sat_core.specs.Ready.{AreWritten, IsReady, IsOver};
 ghost use Rattle.cnf_formula.specs.declared.line.LratLine.TheVariants.{Addition};
@@ -14,13 +15,13 @@ ghost use Rattle.ledger_rules.specs.Logs.{checker_of};
 ghost use Rattle.trail_core.specs.Formed.{IsTrail};
 ghost use Rattle.outer_ports.specs.Port.{HasCause};
 
-use crate::analysis::line_at;
 use crate::fault::SolveFault;
 use crate::going::go_back;
 use crate::guide::Guide;
 use crate::resting::rest;
 use crate::waking::{wake, wake_all};
 use cnf_formula::{OutOfMemory, ProofLine};
+use conflict_analysis::line_at;
 use ledger_rules::Ledger;
 use std::alloc::Global;
 use trail_core::{ClauseId, Core};
@@ -50,14 +51,15 @@ fn go_on(
     ensures ready { OnOk result ((base : FormulaValue) (lines : List ProofLineValue) → IsReady base lines core.old guide.old.awake guide.old.sleepers → AreWritten base (lines ++ line.now ∷ []) → is_fresh (checker_of base lines) line.now.lits ≡ true
         → line.now.id ≡ guide.old.awake.held + 1 → IsReady base (lines ++ line.now ∷ []) core.new guide.new.awake guide.new.sleepers) }
 {
-    guide.decider.learn(&guide.walk.met);
+    guide.decider.learn(core, &guide.walk.met, &line.lits)?;
     guide.sleepers.learn(&line.lits);
     guide.probes.note(core);
-    let anew = guide.restarts.is_due();
     let levels = guide.glue.count(core, &line.lits);
+    let anew = guide.restarts.tick(levels);
+    let focused = guide.restarts.is_focused();
     let id = go_back(core, &mut guide.decider, line, anew)?;
     guide.awake.learn(id, levels)?;
-    guide.probes.turn(alloc, &mut guide.decider, anew)?;
+    guide.probes.turn(alloc, &mut guide.decider, anew, focused)?;
     if anew && guide.awake.is_due() {
         return rest(alloc, core, guide);
     }

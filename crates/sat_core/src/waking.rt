@@ -3,15 +3,14 @@
 ghost use Rattle.std.specs.Prelude.{◌≡◌, ◌+◌, ◌<◌, ◌≤◌, true, false, List, length, get_or, slice_set, OnOk};
 ghost use Rattle.cnf_formula.specs.Formulas.{FormulaValue};
 ghost use Rattle.cnf_formula.specs.Lines.{ProofLineValue};
-ghost use Rattle.sat_core.specs.Sleeping.{sleeping};
-ghost use Rattle.sat_core.specs.Naming.{IsListed};
+ghost use Rattle.sleeping_clauses.specs.Sleeping.{sleeping};
+ghost use Rattle.sleeping_clauses.specs.Naming.{IsListed};
 ghost use Rattle.sat_core.specs.Ready.{IsReady};
 
-use crate::awake::{Awake, Usage};
-use crate::deciding::Decider;
 use crate::going::go_to_bottom;
-use crate::sleepers::Sleepers;
 use cnf_formula::OutOfMemory;
+use decision_order::Decider;
+use sleeping_clauses::{Awake, Sleepers, Usage};
 use trail_core::Core;
 
 /// Goes back to level 0, and adds a clause that sleeps there.

@@ -1,6 +1,6 @@
 -- What is due for the words of a replay.
 use Rattle.std.proofs.Common.{◌≡◌, ◌≤◌, ℕ, List, length, Option, None, Some, Result, Ok, Err, refl, ap, ◌∙◌}
-use Rattle.text_lines.specs.Check.{◌>>=◌, need}
+use Rattle.text_lines.specs.Check.{◌>>=◌}
 use Rattle.outer_ports.specs.declared.part.Part.{Part}
 use Rattle.candidate_order.specs.Frontiers.{PointValue}
 use Rattle.command_words.specs.declared.command.Command.TheVariants as command
@@ -15,10 +15,11 @@ use Rattle.report_form.specs.Reading.{report_of}
 use Rattle.report_form.proofs.ReportTaken.{report_take}
 use Rattle.report_laws.proofs.ReportAgain.{report_again}
 use Rattle.report_laws.proofs.FirstBlamed.{first_is_blamed}
-use Rattle.point_replay.specs.Showing.{shown_in, shown_text}
+use Rattle.replay_text.specs.Showing.{shown_in, shown_text}
 use Rattle.run_rules.specs.declared.status.Status.TheVariants.{BadReport}
 use Rattle.run_rules.specs.Refusals.{Refusal, refused_at, refused_as, refused_word}
 use Rattle.run_rules.specs.Tasks.{Task, Write, due, limit, replay_asked, replay_in}
+use Rattle.point_commands.proofs.Pointed.{no_point, some_point}
 use Rattle.sccl_run.specs.Laws.{AskReplay, IsRefusedText, IsTextOf}
 use Rattle.sccl_run.proofs.Dues.{due_command, short_due}
 
@@ -38,19 +39,6 @@ module _ (asked : PointWord) (order : Option ℕ) (bytes : List ℕ) where
   replayed_refused : (code : ReportCode) (line : ℕ) → report_of bytes ≡ Err (code, line) → replay_asked asked order bytes ≡ Err (refused_at BadReport (code_number code) line)
   unfolding read_as
   replayed_refused code line e = replayed_by (Err (code, line)) e
-
-module _ (r : ReportValue) (asked : PointWord) (order : Option ℕ) where
-  point_sought : Option (Part × PointValue) → Result Task Refusal
-  point_sought o = need o (refused_word UnknownPoint asked.word) >>= (λ p. Ok (Write (shown_text asked.point (shown_in r p) order)))
-
-  -- what is due for a point that there is not, and for one that there is
-  no_point : point_at r asked.point ≡ None → replay_in r asked order ≡ Err (refused_word UnknownPoint asked.word)
-  unfolding point_sought
-  no_point e = ap point_sought e
-
-  some_point : (p : Part × PointValue) → point_at r asked.point ≡ Some p → replay_in r asked order ≡ Ok (Write (shown_text asked.point (shown_in r p) order))
-  unfolding point_sought
-  some_point p e = ap point_sought e
 
 -- ---- by the words
 

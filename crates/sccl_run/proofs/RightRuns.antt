@@ -12,8 +12,8 @@ use Rattle.candidate_order.specs.Frontiers.{RightFrontier, IsSolvable}
 use Rattle.candidate_order.proofs.Frontiers.{better_refuted}
 use Rattle.report_form.specs.Reports.{WordsValue, ReportValue, question_of}
 use Rattle.frontier_audit.specs.Rights.{IsRight, IsRightPart}
-use Rattle.point_replay.specs.Showing.{shown_in, shown_text}
-use Rattle.point_replay.specs.Points.{programs_of_point}
+use Rattle.replay_text.specs.Showing.{shown_in, shown_text}
+use Rattle.replay_text.specs.Points.{programs_of_point}
 use Rattle.topology_text.specs.Spelling.{spelling}
 use Rattle.report_form.specs.Spelling.{report_text}
 use Rattle.json_values.specs.Json.{printed}

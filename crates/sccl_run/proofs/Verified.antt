@@ -32,6 +32,7 @@ use Rattle.frontier_audit.specs.Joining.{is_reduce, is_gather, points_of}
 use Rattle.frontier_audit.specs.Shelves.{ShelfRight}
 use Rattle.frontier_audit.specs.Rights.{AreJoined, IsRight, IsRightPart}
 use Rattle.frontier_audit.specs.OwedFiles.{Proves}
+use Rattle.frontier_audit.proofs.Proved.{proves_right}
 use Rattle.frontier_audit.proofs.Right.{right_verified}
 use Rattle.run_rules.specs.declared.status.Status.TheVariants.{Done, SinkFailed, BadWords, BadTopology, BadReport, BadJson}
 use Rattle.run_rules.specs.Refusals.{Refusal, refused_as, refused_word}
@@ -151,5 +152,5 @@ verified_again search check a b c d e f searching checking w t asks done words w
     let proves : Proves report search.files search.files_after = end.answer.proves refl in
     let fits : searchable (whole_question report.words report.topology) ≡ Ok tt = rw (end.answer.words, end.answer.topology) (searched search.words search.bytes w t asks) in
     let is_due : due check.words check.bytes ≡ Ok (Audit report) = check_due check.words check.bytes report words short (ap report_of text ∙ report_again report end.answer.right.valid) fits in
-    let shelf : ShelfRight report check.files = subst (ShelfRight report) (sym (files_are search.files_after check.files stay)) proves.shelf in
+    let shelf : ShelfRight report check.files = subst (ShelfRight report) (sym (files_are search.files_after check.files stay)) (proves_right report _ _ proves) in
     audit_done report check (nothing_denied report check.files end.answer.right shelf) (ended check d e f _ checking is_due)

@@ -22,7 +22,8 @@ use Rattle.report_form.specs.Spelling.{report_text}
 use Rattle.report_form.specs.Reading.{body_of, report_of}
 use Rattle.report_form.proofs.Blamed.{broadcast_read}
 use Rattle.report_laws.proofs.ReportAgain.{report_again}
-use Rattle.frontier_audit.specs.OwedFiles.{IsKept, Proves}
+use Rattle.candidate_formula.specs.Files.{FrontierFiles}
+use Rattle.frontier_audit.specs.OwedFiles.{Proves}
 use Rattle.run_rules.specs.declared.status.Status.{Status}
 use Rattle.run_rules.specs.declared.status.Status.TheVariants.{SourceFailed, SinkFailed, ShelfFailed, BadReport}
 use Rattle.run_rules.specs.Refusals.{refusal_line, refused_at}
@@ -79,9 +80,9 @@ lost : (status : Status) → IsEnd (Ok (Synthesise asked_words (family_of Line 2
 lost status (inl end) = not_whole status status end.text end.answer
 lost status (inr (inl cut)) = not_whole status cut.status cut.text cut.answer
 lost status (inr (inr halt)) =
-    elim (halt.leaves refl some_name) [
+    elim ((halt.leaves refl).each some_name) [
       | inl same ↦ none-some _ same
-      | inr begun ↦ none-some _ begun.stands
+      | inr begun ↦ none-some _ begun.1.stands
     ]
 
 pub lost_is_wrong : (status : Status) (a b c : CountValue) → IsRightRun (failed_search status) a b c → ⊥
@@ -145,16 +146,16 @@ kept_there files a b c run =
 abbrev broadcast_frontier : FrontierValue
 broadcast_frontier = one_point (point 1 1 Optimal (1 ∷ []) (send 0 0 1 1 ∷ []))
 
-first_kept : (files : Files) → Proves broadcast_report no_files files → IsKept Whole (question_of broadcast_report.words broadcast_report.topology Whole) files (broadcast_frontier)
-first_kept files proves = proves.kept 0 (Whole, broadcast_frontier) (omega arith)
+first_kept : (files : Files) → Proves broadcast_report no_files files → FrontierFiles Whole (question_of broadcast_report.words broadcast_report.topology Whole) files broadcast_frontier
+first_kept files proves = proves.files 0 (Whole, broadcast_frontier) (omega arith)
 
 pub formula_lacks_is_wrong : (files : Files) (a b c : CountValue) → files (own_file Cnf) ≡ None → IsRightRun (done_search files) a b c → ⊥
 formula_lacks_is_wrong files a b c none run =
     let there = (first_kept files (kept_there files a b c run)).solved 0 (record { s = 1; r = 1; c = 1 }) (omega arith) in
-    none-some _ (sym none ∙ there.0)
+    none-some _ (sym none ∙ there.formula)
 
 pub stale_is_wrong : (files : Files) (byte : ℕ) (rest : List ℕ) (a b c : CountValue) → files (own_file Lrat) ≡ Some (byte ∷ rest) → IsRightRun (done_search files) a b c → ⊥
 stale_is_wrong files byte rest a b c some run =
     let there = (first_kept files (kept_there files a b c run)).solved 0 (record { s = 1; r = 1; c = 1 }) (omega arith) in
-    let empty : Some (byte ∷ rest) ≡ Some [] = sym some ∙ there.1 in
+    let empty : Some (byte ∷ rest) ≡ Some [] = sym some ∙ there.no_proof in
     absurd (cc)

@@ -6,7 +6,7 @@ ghost use Rattle.outer_ports.specs.declared.part.Part.{Part};
 ghost use Rattle.outer_ports.specs.Files.{Files};
 ghost use Rattle.outer_ports.specs.Shelf.{FilesStay};
 ghost use Rattle.candidate_order.specs.Frontiers.{PointValue};
-ghost use Rattle.point_replay.specs.Showing.{shown_in, shown_text};
+ghost use Rattle.replay_text.specs.Showing.{shown_in, shown_text};
 ghost use Rattle.report_form.specs.Reports.{IsReport, ReportValue, WordsValue};
 ghost use Rattle.report_form.specs.Numbered.{point_at};
 ghost use Rattle.report_form.specs.Spelling.{report_text};

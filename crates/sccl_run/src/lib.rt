@@ -10,10 +10,12 @@ mod toplevel;
 pub use candidate_formula::size_number;
 pub use command_words::{Command, JsonWhat, PointWord, RootWord, WordCode, WordFault, read_words};
 pub use laws::{
-    a_family_that_is_left_out_is_wrong, a_family_that_is_written_is_right,
-    a_refusal_that_takes_nothing_is_wrong, a_search_that_loses_files_is_wrong,
-    a_search_with_other_files_is_wrong, optimal_has_no_better, refused_is_not_done,
-    replays_are_due, what_a_search_wrote_is_verified,
+    a_family_that_blames_another_port_is_wrong, a_family_that_is_left_out_is_wrong,
+    a_family_that_is_written_is_right, a_refusal_that_says_or_does_more_is_wrong,
+    a_refusal_that_takes_nothing_is_wrong, a_run_without_memory_that_writes_is_wrong,
+    a_search_that_loses_files_is_wrong, a_search_with_other_files_is_wrong,
+    only_a_search_changes_files, optimal_has_no_better, refused_is_not_done, replays_are_due,
+    what_a_search_wrote_is_verified,
 };
 pub use run_rules::{OutOfMemory, Status};
 pub use toplevel::run;

@@ -1,6 +1,5 @@
 -- The first clash is found exactly where there is one.
-use Rattle.std.proofs.Common.{◌≡◌, ℕ, ◌<◌, inl, inr, ⊎_elim, Bool, true, false, List, [], ◌∷◌, length, map, None, refl, sym, ◌∙◌, arith}
-use Rattle.std.specs.Prelude.{count_by}
+use Rattle.std.proofs.Common.{◌≡◌, ℕ, ◌<◌, ⊎_elim, true, false, length, map, None, sym, ◌∙◌, arith}
 use Rattle.std.proofs.lemmas.Bool.{and_parts, and_from, cases_Bool, eqb-true, leb-true, ltb-true, lt-ltb, le-leb}
 use Rattle.std.proofs.lemmas.List.Elements.{recursion_from_All}
 use Rattle.schedule.specs.declared.hop.Hop.{Hop}
@@ -8,24 +7,12 @@ use Rattle.schedule.specs.Sends.{ScheduleValue, IsSchedule, IsInRange, IsStep, i
 use Rattle.schedule.specs.Placed.{all_pairs}
 use Rattle.schedule.specs.Summing.{goes_to}
 use Rattle.schedule.specs.JoinedRuns.{Clashes, first_clash, is_clash}
-use Rattle.schedule.proofs.First.{Among, among_each, among_map, among_parts, each_among, found_none, none_found}
+use Rattle.schedule.proofs.First.{among_each, among_map, among_parts, each_among, found_none, none_found, some_passes}
 use Rattle.schedule.proofs.Ordered.{in_grid}
-
--- where some pass, one does
-found_passing : {X : Type 0} (p : X → Bool) (xs : List X) → 0 < count_by p xs → (x : X) × Among x xs × (p x ≡ true)
-found_passing p [] some = absurd (omega arith)
-found_passing p (x ∷ xs) some =
-    ⊎_elim
-    (λ (passes : p x ≡ true). (x, inl refl, passes))
-    (λ (fails : p x ≡ false).
-    let rest : 0 < count_by p xs = rw fails at some in
-    let found = found_passing p xs rest in
-    (found.0, inr found.1, found.2))
-    (cases_Bool (p x))
 
 pub no_clash_from_none : (chunks nodes : ℕ) (s : ScheduleValue) (adding : ℕ) → IsSchedule s → IsInRange chunks nodes s → first_clash chunks nodes s adding ≡ None → Clashes s adding → ⊥
 no_clash_from_none chunks nodes s adding valid in_range none clash =
-    let found = found_passing (goes_to clash.step (clash.chunk, clash.node)) s.sends (omega (arith, clash.twice)) in
+    let found = some_passes (goes_to clash.step (clash.chunk, clash.node)) s.sends (omega (arith, clash.twice)) in
     let h : Hop = found.0 in
     let goes = and_parts _ _ found.2 in
     let there = and_parts _ _ goes.1 in

@@ -1,6 +1,7 @@
 -- The first element of a list in order that passes a test.
 use Rattle.std.proofs.Common.{◌≡◌, ℕ, zero, suc, ◌+◌, ◌<◌, ◌≤◌, map, Bool, true, false, cond, List, [], ◌∷◌, ◌++◌, length, get_or, Some, None, ◌⊎◌, inl, inr, ⊎_elim, refl, sym, ap, ◌∙◌, arith}
 use Rattle.std.specs.List.{find, filter, list_any, flat_map, range_with_len, AllPairs, AllByRecursion, Contains}
+use Rattle.std.specs.Prelude.{count_by}
 use Rattle.std.proofs.lemmas.Bool.{cases_Bool, false≢true, or_cases, or_left, or_right}
 use Rattle.std.proofs.lemmas.List.Elements.{filter_passes, recursion_from_All}
 
@@ -58,6 +59,18 @@ any_found p (x ∷ xs) some =
     (λ (here : p x ≡ true). (x, inl refl, here))
     (λ (later : list_any p xs ≡ true). let rest = any_found p xs later in (rest.0, inr rest.1, rest.2))
     (or_cases (p x) (list_any p xs) some)
+
+-- where some pass, one does
+pub some_passes : {X : Type 0} (p : X → Bool) (xs : List X) → 0 < count_by p xs → (x : X) × Among x xs × (p x ≡ true)
+some_passes p [] some = absurd (omega arith)
+some_passes p (x ∷ xs) some =
+    ⊎_elim
+    (λ (passes : p x ≡ true). (x, inl refl, passes))
+    (λ (fails : p x ≡ false).
+    let rest : 0 < count_by p xs = rw fails at some in
+    let found = some_passes p xs rest in
+    (found.0, inr found.1, found.2))
+    (cases_Bool (p x))
 
 -- what a filter keeps
 pub among_kept : {X : Type 0} (test : X → Bool) (x : X) (xs : List X) → Among x xs → test x ≡ true → Among x (filter test xs)

@@ -6,6 +6,7 @@ use Rattle.std.proofs.lemmas.Bool.{and_parts, cases_Bool, eqb-true, eq-eqb, ltb-
 use Rattle.std.proofs.lemmas.Bool.Decides.{nat_tests}
 use Rattle.std.proofs.lemmas.List.Elements.{recursion_from_All}
 use Rattle.std.proofs.lemmas.List.FromFn.{get_or-map-range_with_len}
+use Rattle.list_laws.proofs.Tests.{if_so}
 use Rattle.schedule.specs.declared.hop.Hop.{Hop}
 use Rattle.schedule.specs.Sends.{ScheduleValue, IsSchedule, IsInRange, is_hop_below}
 use Rattle.schedule.specs.Placed.{PlacementValue, holds, same_pair}
@@ -90,9 +91,6 @@ once_of step chunk (h ∷ hops) pairs = (
 )
 
 -- ---- what the holders have of one node's contribution is always one
-
-abbrev if_so : Bool → ℕ → ℕ
-if_so passes x = cond passes x 0
 
 -- the contributions of a node to a chunk, over those that hold it after so many steps, and after so many steps of the inverse
 abbrev weight : PlacementValue → ScheduleValue → ℕ → ℕ → ℕ → ℕ → ℕ

@@ -6,6 +6,7 @@ use Rattle.std.proofs.lemmas.List.{take_more, take_all}
 use Rattle.std.proofs.lemmas.List.Folds.{list_any-append}
 use Rattle.std.proofs.lemmas.List.Elements.{All-filter, filter_passes, All-same}
 use Rattle.std.proofs.lemmas.Map.Views.{any-filter_same}
+use Rattle.std.proofs.Math.Bool.{or-false}
 use Rattle.schedule.specs.declared.hop.Hop.{Hop}
 use Rattle.schedule.specs.Sends.{ScheduleValue, is_hop_below, IsInRange}
 use Rattle.schedule.specs.Placed.{PlacementValue, same_pair, holds, IsPlacement, with_pair}
@@ -33,14 +34,10 @@ pub step_alone : (step : ℕ) (all sends : List Hop) → sends ≡ filter (λ h.
 step_alone step all sends is k d inside =
     eqb-true _ _ (All-same (λ (h : Hop). eqb h.step step ≡ true) sends _ is (filter_passes (λ h. eqb h.step step) all) k d inside)
 
-or_false : (b : Bool) → (b || false) ≡ b
-or_false true = refl
-or_false false = refl
-
 -- no send brings nothing
 pub step_of-nil : (before : PlacementValue) (step : ℕ) → IsPlacement before → step_of [] before step ≡ before
 step_of-nil before step is =
-    placed-alike before.chunks before.nodes (λ pair. holds before pair || false) (holds before) (λ pair c n. or_false (holds before pair)) ∙ sym is
+    placed-alike before.chunks before.nodes (λ pair. holds before pair || false) (holds before) (λ pair c n. or-false (holds before pair)) ∙ sym is
 
 regrouped : (a b p : Bool) → (a || (b || ((p && true) || false))) ≡ (p || (a || b))
 regrouped true true true = refl

@@ -5,6 +5,7 @@ use Rattle.std.specs.List.{AllByRecursion}
 use Rattle.std.proofs.lemmas.Bool.{and_parts, cases_Bool, eqb-true}
 use Rattle.std.proofs.lemmas.List.Elements.{recursion_from_All}
 use Rattle.std.proofs.lemmas.List.Sums.{sum_by-cons}
+use Rattle.list_laws.proofs.Tests.{if_so}
 use Rattle.schedule.specs.declared.hop.Hop.{Hop}
 use Rattle.schedule.specs.Sends.{ScheduleValue, IsSchedule, IsStep, hop_before}
 use Rattle.schedule.specs.Bags.{Bag, Bags, added, contributions}
@@ -36,9 +37,6 @@ count_fold nodes m before counted below (h ∷ hops) bag is =
     omega (arith, rest, here, whole)
 
 -- ---- sums over sends in another order
-
-abbrev if_so : Bool → ℕ → ℕ
-if_so passes x = cond passes x 0
 
 sum_kept : (p : Hop → Bool) (f : Hop → ℕ) (hops : List Hop) → sum_by f (filter p hops) ≡ sum_by (λ h. if_so (p h) (f h)) hops
 sum_kept p f [] = refl

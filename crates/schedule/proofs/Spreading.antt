@@ -4,6 +4,7 @@ use Rattle.std.specs.Prelude.{sum_by}
 use Rattle.std.specs.List.{AllByRecursion, list_any, range_with_len}
 use Rattle.std.proofs.lemmas.Bool.{cases_Bool, eqb-true, eq-eqb, ne_eqb}
 use Rattle.std.proofs.lemmas.List.Sums.{sum_by-cons}
+use Rattle.list_laws.proofs.Tests.{if_so}
 use Rattle.schedule.specs.declared.hop.Hop.{Hop}
 
 -- ---- sums over numbers
@@ -101,10 +102,6 @@ back_sum nodes now held g hops = sum_by (λ v. cond (held v) (g v + spread now g
 
 abbrev pub on_sum : ℕ → (Hop → Bool) → (ℕ → Bool) → (ℕ → ℕ) → List Hop → ℕ
 on_sum nodes now held g hops = sum_by (λ v. cond (held v || reached now v hops) (g v) 0) (range_with_len 0 nodes)
-
--- a number, if a test passes
-abbrev if_so : Bool → ℕ → ℕ
-if_so passes x = cond passes x 0
 
 spread_idle : (now : Hop → Bool) (g : ℕ → ℕ) (v : ℕ) (h : Hop) (hops : List Hop) → now h ≡ false → spread now g v (h ∷ hops) ≡ spread now g v hops
 spread_idle now g v h hops idle =

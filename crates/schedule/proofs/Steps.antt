@@ -5,6 +5,7 @@ use Rattle.std.specs.List.Sorted.{IsNonDecreasingBy, IsPartitionPoint}
 use Rattle.std.proofs.lemmas.Bool.{ltb-true, ltb-false, leb-true, leb-false, eqb-true, eq-eqb, ne_eqb, and_parts, or_cases, cases_eq}
 use Rattle.std.proofs.lemmas.List.{append-nil, get_or-take, get_or-drop, take-append-drop, length-take-le}
 use Rattle.std.proofs.lemmas.List.Elements.{filter-append, recursion_from_All}
+use Rattle.list_laws.proofs.Tests.{filter_none}
 use Rattle.schedule.specs.declared.hop.Hop.{Hop}
 use Rattle.schedule.specs.Sends.{hop_before}
 
@@ -23,18 +24,9 @@ steps_ascend sends ascending i j d le inside =
     (λ (apart : i ≡ j → ⊥). steps_ordered (get_or sends i d) (get_or sends j d) (ascending i j d (omega arith) inside))
     (cases_eq i j)
 
-pub steps_ascend-take : (sends : List Hop) (n : ℕ) → n ≤ length sends → IsNonDecreasingBy (λ h. h.step) sends → IsNonDecreasingBy (λ h. h.step) (take n sends)
-steps_ascend-take sends n small ascend i j d le inside =
-    let size : length (take n sends) ≡ n = length-take-le n sends small in
-    rw (get_or-take n sends i d (omega arith), get_or-take n sends j d (omega arith)) (ascend i j d le (omega arith))
-
 filter_whole : {X : Type 0} (p : X → Bool) (xs : List X) → AllByRecursion (λ x. p x ≡ true) xs → filter p xs ≡ xs
 filter_whole p [] a = refl
 filter_whole p (x ∷ xs) a = rw (a.0, filter_whole p xs a.1) refl
-
-filter_none : {X : Type 0} (p : X → Bool) (xs : List X) → AllByRecursion (λ x. p x ≡ false) xs → filter p xs ≡ []
-filter_none p [] a = refl
-filter_none p (x ∷ xs) a = rw a.0 (filter_none p xs a.1)
 
 front_fails : (p : Hop → Bool) (xs : List Hop) (i : ℕ) → i ≤ length xs → AllWithin (λ x. p x ≡ false) xs 0 i → filter p (take i xs) ≡ []
 front_fails p xs i small fails =

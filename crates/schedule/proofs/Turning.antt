@@ -7,6 +7,7 @@ use Rattle.std.proofs.lemmas.Bool.Decides.{nat_tests}
 use Rattle.std.proofs.lemmas.List.{length-reverse, get_or-reverse}
 use Rattle.std.proofs.lemmas.List.Elements.{All-from_recursion, recursion_from_All}
 use Rattle.std.proofs.lemmas.List.Sums.{sum_by-cons}
+use Rattle.std.proofs.Math.Bool.{and_comm}
 use Rattle.schedule.specs.declared.hop.Hop.{Hop}
 use Rattle.schedule.specs.Links.{GroupValue, TopologyValue, has_link, is_usable, reversed_group, reversed_of, same_link, turned}
 use Rattle.schedule.specs.Sends.{ScheduleValue, IsSchedule, IsStep, hop_before, link_of}
@@ -18,19 +19,13 @@ use Rattle.schedule.proofs.Reversing.{reversed-reversed}
 
 -- ---- links turned round
 
-pub and_turned : (a b : Bool) → (a && b) ≡ (b && a)
-and_turned true true = refl
-and_turned true false = refl
-and_turned false true = refl
-and_turned false false = refl
-
 turned_link : (links : List (ℕ × ℕ)) (link : ℕ × ℕ) → list_any (same_link link) (map turned links) ≡ list_any (same_link (turned link)) links
 turned_link [] link = refl
 turned_link (l ∷ links) link =
-    ap (λ b. b || list_any (same_link link) (map turned links)) (and_turned (eqb link.0 l.1) (eqb link.1 l.0))
+    ap (λ b. b || list_any (same_link link) (map turned links)) (and_comm (eqb link.0 l.1) (eqb link.1 l.0))
     ∙ ap (λ b. same_link (turned link) l || b) (turned_link links link)
 
-turned_has : (group : GroupValue) (link : ℕ × ℕ) → has_link (reversed_group group) link ≡ has_link group (turned link)
+pub turned_has : (group : GroupValue) (link : ℕ × ℕ) → has_link (reversed_group group) link ≡ has_link group (turned link)
 turned_has group link = turned_link group.links link
 
 pub turned_usable : (groups : List GroupValue) (link : ℕ × ℕ) → list_any (λ group. has_link group link) (map reversed_group groups) ≡ list_any (λ group. has_link group (turned link)) groups

@@ -1,10 +1,10 @@
 -- The usable links, row by row.
 use Rattle.std.proofs.Common.{◌≡◌, ℕ, zero, suc, ◌+◌, ◌≤◌, Bool, cond, List, [], ◌∷◌, ◌++◌, map, sym, ap, ◌∙◌, arith, append_assoc}
-use Rattle.std.specs.Prelude.{filter, flat_map}
+use Rattle.std.specs.Prelude.{filter}
 use Rattle.std.specs.List.{range_with_len}
-use Rattle.std.proofs.lemmas.List.{append-nil}
 use Rattle.std.proofs.lemmas.List.Elements.{filter-append}
 use Rattle.std.proofs.lemmas.List.FromFn.{filter_of_map_range_with_len_more}
+use Rattle.list_laws.proofs.Ranges.{flat_map-range_suc}
 use Rattle.schedule.specs.Links.{TopologyValue, is_usable, usable_links}
 use Rattle.schedule.specs.Placed.{all_pairs}
 use Rattle.schedule.specs.Tables.{marked_at, Marks}
@@ -22,12 +22,6 @@ row_more p old before after from to b a =
     a ∙ ap (λ r. r ++ cond (p (from, to)) ((from, to) ∷ []) []) b ∙ append_assoc old (filter p (row to from)) (cond (p (from, to)) ((from, to) ∷ []) [])
     ∙ ap (λ r. old ++ r) (sym (filter_of_map_range_with_len_more p (λ t. (from, t)) 0 to to zero))
 
-rows_end : {X : Type 0} (g : ℕ → List X) (a n j : ℕ) → a + n ≡ j → flat_map g (range_with_len a (suc n)) ≡ flat_map g (range_with_len a n) ++ g j
-rows_end g a zero j e = let same : a ≡ j = omega (arith, e) in append-nil (g a) ∙ ap g same
-rows_end g a (suc n) j e =
-    let next : a + 1 + n ≡ j = omega (arith, e) in
-    ap (λ r. g a ++ r) (rows_end g (a + 1) n j next) ∙ sym (append_assoc (g a) (flat_map g (range_with_len (a + 1) n)) (g j))
-
 -- one more row, in a loop
 pub rows_more : (p : ℕ × ℕ → Bool) (before after : List (ℕ × ℕ)) (columns from : ℕ)
     → before ≡ filter p (all_pairs from columns) → after ≡ before ++ filter p (row columns from) → after ≡ filter p (all_pairs (from + 1) columns)
@@ -35,7 +29,7 @@ rows_more p before after columns from b a =
     let one : suc from ≡ from + 1 = omega arith in
     let zero : 0 + from ≡ from = omega arith in
     a ∙ ap (λ r. r ++ filter p (row columns from)) b ∙ sym (filter-append p (all_pairs from columns) (row columns from))
-    ∙ ap (filter p) (sym (rows_end (row columns) 0 from from zero)) ∙ ap (λ n. filter p (all_pairs n columns)) one
+    ∙ ap (filter p) (sym (flat_map-range_suc (row columns) 0 from from zero)) ∙ ap (λ n. filter p (all_pairs n columns)) one
 
 -- the links that a table marks are the usable ones
 pub marked_usable : (t : TopologyValue) (cells : List Bool) (links : List (ℕ × ℕ)) → t.nodes ≤ 16 → Marks cells (is_usable t)

@@ -1,5 +1,5 @@
 -- A schedule wastes no send where each send moves its chunk and no node is sent a chunk twice.
-use Rattle.std.proofs.Common.{◌≡◌, ℕ, ◌+◌, ◌-◌, ◌<◌, Bool, true, false, ◌&&◌, ◌||◌, not, ltb, List, length, get_or, take, refl, sym, ap, ◌∙◌, subst, arith}
+use Rattle.std.proofs.Common.{◌≡◌, ℕ, ◌+◌, ◌-◌, ◌<◌, Bool, true, false, ◌&&◌, ◌||◌, not, ltb, List, length, get_or, take, sym, ap, ◌∙◌, subst, arith}
 use Rattle.std.specs.Prelude.{AllPairs, Decides}
 use Rattle.std.specs.List.{list_any, list_all}
 use Rattle.std.proofs.lemmas.Bool.{false≢true, and_parts, and_from, not-true, not_from_false, false_from_ne_true, ltb-true}
@@ -8,6 +8,7 @@ use Rattle.std.proofs.lemmas.List.Folds.{list_any_at, list_any_more, list_any_no
 use Rattle.std.proofs.lemmas.List.FromFn.{get_or-map-range_with_len, length-map-range_with_len}
 use Rattle.std.proofs.lemmas.List.Quantifiers.{all_pairs_push}
 use Rattle.std.proofs.lemmas.List.Sums.{AllPass-from_list_all, list_all-from_AllPass}
+use Rattle.std.proofs.Math.Bool.{or_comm}
 use Rattle.schedule.specs.declared.hop.Hop.{Hop}
 use Rattle.schedule.specs.Placed.{PlacementValue, holds, same_pair, with_pair}
 use Rattle.schedule.specs.Sends.{ScheduleValue, IsSchedule, IsInRange, is_hop_below}
@@ -52,12 +53,6 @@ module _ (pre : PlacementValue) (s : ScheduleValue) where
 
 -- ---- what is received
 
-or_turned : (a b : Bool) → (a || b) ≡ (b || a)
-or_turned true true = refl
-or_turned true false = refl
-or_turned false true = refl
-or_turned false false = refl
-
 in_range : (chunks nodes : ℕ) (h : Hop) → is_hop_below chunks nodes h ≡ true → (h.chunk < chunks) × (h.to < nodes)
 in_range chunks nodes h below =
     let first = and_parts (ltb h.chunk chunks) (ltb h.from nodes && ltb h.to nodes) below in
@@ -83,7 +78,7 @@ received_more chunks nodes before table sends i d low below has fresh is =
           ap (λ t. holds t pair) is
           ∙ holds-placed before.chunks before.nodes (λ other. same_pair (to_pair h) other || holds before other) pair (omega (arith, chunk, has.chunks_are)) (omega (arith, node, has.nodes_are))
           ∙ ap (λ b. same_pair (to_pair h) pair || b) (has.has pair chunk node)
-          ∙ or_turned (same_pair (to_pair h) pair) (list_any (λ o. same_pair (to_pair o) pair) (take i sends))
+          ∙ or_comm (same_pair (to_pair h) pair) (list_any (λ o. same_pair (to_pair o) pair) (take i sends))
           ∙ sym (list_any_more (λ o. same_pair (to_pair o) pair) sends i d low);
       once = subst Once (sym (take_more sends i d low)) (all_pairs_push (λ a b. same_pair (to_pair a) (to_pair b) ≡ false) (take i sends) h has.once
           (λ k e few. false_from_ne_true (same_pair (to_pair (get_or (take i sends) k e)) (to_pair h)) (λ t. false≢true (sym none ∙ list_any_at (λ o. same_pair (to_pair o) (to_pair h)) (take i sends) k e few t))));

@@ -11,6 +11,10 @@ use Rattle.schedule.specs.Judging.{verdict_of}
 abbrev pub only : ℕ → ℕ → ℕ → GroupValue
 only from to width = record { links = (from, to) ∷ []; width = width }
 
+-- a node without links
+abbrev pub one_node : TopologyValue
+one_node = record { nodes = 1; groups = [] }
+
 -- nodes in a row, neighbours joined both ways, one chunk a round
 abbrev pub line_of_2 : TopologyValue
 line_of_2 = record { nodes = 2; groups = only 0 1 1 ∷ only 1 0 1 ∷ [] }

@@ -6,6 +6,7 @@ use Rattle.schedule.specs.Placed.{PlacementValue, holds}
 use Rattle.schedule.proofs.Placing.{all_below}
 use Rattle.cnf_formula.specs.Literals.{LitValue, negation}
 use Rattle.cnf_formula.specs.Formulas.{IsAbout, IsClause}
+use Rattle.cnf_formula.proofs.Clauses.{negation_about}
 use Rattle.cardinality.specs.Counting.{at_most_one_of}
 use Rattle.send_encoding.specs.Variables.{SendMapValue, chunks_of, steps_of, pairs_of, numbered_links, links_into, arrival, arrivals, sent, sends}
 use Rattle.send_encoding.specs.Sending.{at_start, keeps, at_end, send_over, sends_arrive, sends_into, arrives_by_sends, arrives_once, sending}
@@ -13,9 +14,6 @@ use Rattle.send_encoding.proofs.Everywhere.{by_recursion, in_map, in_flat, From,
 use Rattle.send_encoding.specs.Moving.{JoinsNodes}
 
 -- ---- clauses of a few literals
-
-pub about_not : (v : ℕ) (l : LitValue) → IsAbout v l → IsAbout v (negation l)
-about_not v l a = record { some = a.some; within = a.within }
 
 pub one : (v : ℕ) (l : LitValue) → IsAbout v l → IsClause v (l ∷ [])
 one v l a = All-cons (IsAbout v) l [] a (All-nil (IsAbout v))
@@ -32,7 +30,7 @@ pairs_about v (l ∷ ls) a =
     let here = All-head (IsAbout v) l ls a in
     let rest = All-tail (IsAbout v) l ls a in
     All-append (IsClause v) (map (λ other. negation l ∷ negation other ∷ []) ls) (at_most_one_of ls)
-    (in_map (IsClause v) (IsAbout v) (λ other. negation l ∷ negation other ∷ []) ls (λ k b. two v (negation l) (negation k) (about_not v l here) (about_not v k b)) rest)
+    (in_map (IsClause v) (IsAbout v) (λ other. negation l ∷ negation other ∷ []) ls (λ k b. two v (negation l) (negation k) (negation_about v l here) (negation_about v k b)) rest)
     (pairs_about v ls rest)
 
 -- ---- the variables
@@ -83,13 +81,13 @@ module _ (m : SendMapValue) where
     where
       either : (b : Bool) (l : LitValue) → About l → About (if b then l else negation l)
       either true l a = a
-      either false l a = about_not v l a
+      either false l a = negation_about v l a
 
   keeps_about : All Clause (keeps m)
   keeps_about = in_flat Clause (InGrid m) (λ (c, n). map (λ s. negation (arrival m c n (s - 1)) ∷ arrival m c n s ∷ []) (steps_of m)) (pairs_of m)
       (λ x at. in_map Clause (IsStepOf m) (λ s. negation (arrival m x.0 x.1 (s - 1)) ∷ arrival m x.0 x.1 s ∷ []) (steps_of m)
       (λ s step. two v (negation (arrival m x.0 x.1 (s - 1))) (arrival m x.0 x.1 s)
-      (about_not v (arrival m x.0 x.1 (s - 1)) (arrival_about x.0 x.1 (s - 1) at.0 at.1 (omega (arith, step.1))))
+      (negation_about v (arrival m x.0 x.1 (s - 1)) (arrival_about x.0 x.1 (s - 1) at.0 at.1 (omega (arith, step.1))))
       (arrival_about x.0 x.1 s at.0 at.1 (omega (arith, step.1)))) steps) grid
 
   end_about : (post : PlacementValue) → All Clause (at_end m post)
@@ -102,9 +100,9 @@ module _ (m : SendMapValue) where
 
     over_about : (c : ℕ) (x : ℕ × (ℕ × ℕ)) (s : ℕ) → c < m.chunks → LinkOf x → IsStepOf m s → All Clause (send_over m c x s)
     over_about c (e, link) s low at step =
-        let send = about_not v (sent m c e s) (sent_about c e s low at.0 step) in
+        let send = negation_about v (sent m c e s) (sent_about c e s low at.0 step) in
         let from = arrival_about c link.0 (s - 1) low at.1.0 (omega (arith, step.1)) in
-        let lacks = about_not v (arrival m c link.1 (s - 1)) (arrival_about c link.1 (s - 1) low at.1.1 (omega (arith, step.1))) in
+        let lacks = negation_about v (arrival m c link.1 (s - 1)) (arrival_about c link.1 (s - 1) low at.1.1 (omega (arith, step.1))) in
         let to = arrival_about c link.1 s low at.1.1 (omega (arith, step.1)) in
         let no = negation (sent m c e s) in
         All-cons Clause (no ∷ arrival m c link.0 (s - 1) ∷ []) ((no ∷ negation (arrival m c link.1 (s - 1)) ∷ []) ∷ (no ∷ arrival m c link.1 s ∷ []) ∷ []) (two v no (arrival m c link.0 (s - 1)) send from)
@@ -124,7 +122,7 @@ module _ (m : SendMapValue) where
         (λ x at. in_map Clause (IsStepOf m) (λ s. arrival m x.0 x.1 (s - 1) ∷ negation (arrival m x.0 x.1 s) ∷ sends_into m x.0 x.1 s) (steps_of m)
         (λ s step.
         All-cons About (arrival m x.0 x.1 (s - 1)) (negation (arrival m x.0 x.1 s) ∷ sends_into m x.0 x.1 s) (arrival_about x.0 x.1 (s - 1) at.0 at.1 (omega (arith, step.1)))
-        (All-cons About (negation (arrival m x.0 x.1 s)) (sends_into m x.0 x.1 s) (about_not v (arrival m x.0 x.1 s) (arrival_about x.0 x.1 s at.0 at.1 (omega (arith, step.1))))
+        (All-cons About (negation (arrival m x.0 x.1 s)) (sends_into m x.0 x.1 s) (negation_about v (arrival m x.0 x.1 s) (arrival_about x.0 x.1 s at.0 at.1 (omega (arith, step.1))))
         (into_about x.0 x.1 s at.0 step))) steps) grid
 
     once_about : All Clause (arrives_once m)

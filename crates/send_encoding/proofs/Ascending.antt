@@ -6,6 +6,7 @@ use Rattle.std.proofs.lemmas.Bool.{and_parts, and_from, or_left, or_right, or_ca
 use Rattle.std.proofs.lemmas.List.Elements.{All-nil, All-cons}
 use Rattle.std.proofs.lemmas.List.Folds.{list_any_at}
 use Rattle.std.proofs.lemmas.List.Kept.{AllPairs-filter}
+use Rattle.list_laws.proofs.Pairs.{no_pairs}
 use Rattle.schedule.specs.declared.hop.Hop.{Hop}
 use Rattle.schedule.specs.Links.{TopologyValue, is_usable, same_link, usable_links}
 use Rattle.schedule.specs.Placed.{all_pairs}
@@ -16,7 +17,7 @@ use Rattle.send_encoding.specs.Variables.{SendMapValue, chunks_of, steps_of, num
 use Rattle.send_encoding.specs.Sent.{sends_of}
 use Rattle.send_encoding.proofs.Everywhere.{in_map, in_flat, place_below}
 use Rattle.send_encoding.proofs.Members.{passes_at}
-use Rattle.send_encoding.proofs.Orders.{no_pairs, one_pairs, flat_pairs, map_pairs, range_pairs, numbered_pairs}
+use Rattle.send_encoding.proofs.Orders.{one_pairs, flat_pairs, map_pairs, range_pairs, numbered_pairs}
 
 -- by the first number, and then the second
 abbrev pub LinkBefore : ℕ × ℕ → ℕ × ℕ → Type 0

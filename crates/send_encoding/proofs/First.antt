@@ -1,15 +1,12 @@
 -- The first of a numbered list that passes a test.
 use Rattle.std.proofs.Common.{◌≡◌, ℕ, ◌+◌, ◌<◌, ◌≤◌, Bool, true, false, cond, eqb, List, [], ◌∷◌, refl, sym, ap, ◌∙◌, ⊎_elim, arith}
-use Rattle.std.specs.Prelude.{◌||◌, filter, count_by, All}
+use Rattle.std.specs.Prelude.{filter, count_by, All}
 use Rattle.std.specs.List.{list_any, enumerate_from}
 use Rattle.std.proofs.lemmas.Bool.{false≢true, or_left, or_right, or_cases, cases_Bool, eqb-true, eq-eqb}
 use Rattle.std.proofs.lemmas.List.Elements.{All-head, All-tail}
 use Rattle.std.proofs.lemmas.List.Sums.{sum_by-cons}
+use Rattle.list_laws.proofs.Tests.{any_alike}
 use Rattle.send_encoding.specs.Leading.{leads}
-
-pub any_same : {X : Type 0} (p q : X → Bool) (xs : List X) → ((x : X) → p x ≡ q x) → list_any p xs ≡ list_any q xs
-any_same p q [] h = refl
-any_same p q (x ∷ xs) h = ap (λ b. b || list_any p xs) (h x) ∙ ap (λ b. q x || b) (any_same p q xs h)
 
 module _ {X : Type 0} (p : ℕ × X → Bool) where
   leads_yes : (z : ℕ × X) (zs : List (ℕ × X)) (e : ℕ) → p z ≡ true → leads p (z ∷ zs) e ≡ eqb z.0 e
@@ -25,7 +22,7 @@ module _ {X : Type 0} (p : ℕ × X → Bool) where
       ⊎_elim (λ t. or_left (leads p (z ∷ zs) z.0) (list_any (λ y. leads p (z ∷ zs) y.0) zs) (leads_yes z zs z.0 t ∙ eq-eqb z.0 z.0 refl))
       (λ f.
       let rest : list_any p zs ≡ true = ⊎_elim (λ t. absurd (false≢true (sym f ∙ t))) (λ r. r) (or_cases (p z) (list_any p zs) h) in
-      or_right (leads p (z ∷ zs) z.0) (list_any (λ y. leads p (z ∷ zs) y.0) zs) (any_same (λ y. leads p (z ∷ zs) y.0) (λ y. leads p zs y.0) zs (λ y. leads_no z zs y.0 f) ∙ some_leads zs rest))
+      or_right (leads p (z ∷ zs) z.0) (list_any (λ y. leads p (z ∷ zs) y.0) zs) (any_alike (λ y. leads p (z ∷ zs) y.0) (λ y. leads p zs y.0) zs (λ y. leads_no z zs y.0 f) ∙ some_leads zs rest))
       (cases_Bool (p z))
 
   -- the first passes, and is one of them

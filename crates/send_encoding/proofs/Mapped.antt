@@ -1,10 +1,11 @@
 -- The links of a topology make a map of arrivals and sends.
-use Rattle.std.proofs.Common.{◌≡◌, ℕ, suc, ◌+◌, ◌*◌, ◌<◌, ◌≤◌, Bool, true, false, cond, List, [], ◌∷◌, map, length, arith}
-use Rattle.std.specs.Prelude.{filter, All}
+use Rattle.std.proofs.Common.{◌≡◌, ℕ, ◌+◌, ◌*◌, ◌<◌, ◌≤◌, List, map, length, arith}
+use Rattle.std.specs.Prelude.{All}
 use Rattle.std.specs.List.{range_with_len}
 use Rattle.std.proofs.lemmas.List.Elements.{All-filter}
 use Rattle.std.proofs.lemmas.List.FromFn.{length-map-range_with_len}
 use Rattle.std.proofs.Math.Nat.{mul-le-mul_left}
+use Rattle.list_laws.proofs.Tests.{few_kept}
 use Rattle.schedule.specs.Links.{TopologyValue, IsTopology, is_usable, usable_links}
 use Rattle.schedule.specs.Placed.{PlacementValue, all_pairs, empty_placement}
 use Rattle.schedule.proofs.Placing.{all_below}
@@ -12,14 +13,6 @@ use Rattle.send_encoding.specs.Variables.{map_of, IsSendMap, arrivals, sends}
 use Rattle.send_encoding.proofs.Everywhere.{by_recursion}
 use Rattle.send_encoding.proofs.Grid.{rows_length}
 use Rattle.send_encoding.specs.Moving.{JoinsNodes}
-
-fewer : {X : Type 0} (p : X → Bool) (xs : List X) → length (filter p xs) ≤ length xs
-fewer p [] = omega arith
-fewer {X = X} p (x ∷ xs) = go (p x) (fewer p xs)
-  where
-    go : (b : Bool) → length (filter p xs) ≤ length xs → length (cond b (x ∷ filter p xs) (filter p xs)) ≤ suc (length xs)
-    go true le = omega (arith, le)
-    go false le = omega (arith, le)
 
 square : (n : ℕ) → n ≤ 16 → n * n ≤ 256
 square n le =
@@ -36,7 +29,7 @@ links_make_map t chunks steps links ok is few short =
     let all : length (all_pairs t.nodes t.nodes) ≡ t.nodes * t.nodes = rows_length (λ c. map (λ n. (c, n)) (range_with_len 0 t.nodes)) t.nodes 0 t.nodes (λ c. length-map-range_with_len (λ n. (c, n)) 0 t.nodes) in
     record {
       links = λ k d h. let at = links_join t (empty_placement 0 t.nodes) steps k d h in record { from = at.0; to = at.1 };
-      many = omega (arith, fewer (is_usable t) (all_pairs t.nodes t.nodes), all, square t.nodes ok.few);
+      many = omega (arith, few_kept (is_usable t) (all_pairs t.nodes t.nodes), all, square t.nodes ok.few);
       few = few;
       short = short;
     }

@@ -1,8 +1,9 @@
 -- Where the tables move the chunks, the run of a schedule that tells the sends holds what the arrivals say.
-use Rattle.std.proofs.Common.{◌≡◌, ℕ, zero, suc, ◌+◌, ◌-◌, ◌<◌, ◌≤◌, Bool, true, false, eqb, refl, sym, ap, ◌∙◌, ⊎_elim, arith}
+use Rattle.std.proofs.Common.{◌≡◌, ℕ, zero, suc, ◌+◌, ◌-◌, ◌<◌, ◌≤◌, Bool, true, eqb, sym, ap, ◌∙◌, ⊎_elim, arith}
 use Rattle.std.specs.Prelude.{◌&&◌, ◌||◌, All}
 use Rattle.std.specs.List.{list_any}
 use Rattle.std.proofs.lemmas.Bool.{and_parts, and_from, or_left, or_right, or_cases, cases_Bool, eqb-true, eq-eqb}
+use Rattle.list_laws.proofs.Tests.{same_test}
 use Rattle.schedule.specs.declared.hop.Hop.{Hop}
 use Rattle.schedule.specs.Links.{same_link}
 use Rattle.schedule.specs.Placed.{PlacementValue, holds, same_pair}
@@ -15,11 +16,6 @@ use Rattle.send_encoding.specs.Moving.{IsLinkOf, JoinsNodes, Moves}
 use Rattle.send_encoding.specs.Telling.{IsTold, Tells}
 use Rattle.send_encoding.proofs.Members.{member, any_weaker, kept}
 use Rattle.send_encoding.proofs.Said.{numbered_are}
-
-both_ways : (p q : Bool) → (p ≡ true → q ≡ true) → (q ≡ true → p ≡ true) → p ≡ q
-both_ways true q f g = sym (f refl)
-both_ways false true f g = g refl
-both_ways false false f g = refl
 
 module _ (m : SendMapValue) (pre post : PlacementValue) (a x : ℕ → ℕ → ℕ → Bool) (s : ScheduleValue) (chunks : pre.chunks ≡ m.chunks) (nodes : pre.nodes ≡ m.nodes) (links : All (JoinsNodes m) m.links)
     (moves : Moves m pre post a x) (tells : Tells m x s.sends) where
@@ -39,7 +35,7 @@ module _ (m : SendMapValue) (pre post : PlacementValue) (a x : ℕ → ℕ → �
       let had_is = run_is k c n low cl nl in
       let bring : Hop → Bool = brings before (k + 1) (c, n) in
       holds-placed before.chunks before.nodes (λ pair. holds before pair || list_any (brings before (k + 1) pair) s.sends) (c, n) cb nb
-      ∙ both_ways (holds before (c, n) || list_any bring s.sends) (a c n (suc k))
+      ∙ same_test (holds before (c, n) || list_any bring s.sends) (a c n (suc k))
       (λ h. ⊎_elim (λ t. moves.keeps c n (suc k) cl nl step (ap (a c n) back ∙ sym had_is ∙ t))
       (λ t.
       let found = member bring (IsTold m x) s.sends tells.told t in

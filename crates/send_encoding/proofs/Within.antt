@@ -5,10 +5,11 @@ use Rattle.std.proofs.lemmas.List.Elements.{All-cons}
 use Rattle.cnf_formula.specs.Literals.{negation}
 use Rattle.cnf_formula.specs.Formulas.{IsAbout, IsClause}
 use Rattle.schedule.specs.Sends.{IsStep}
+use Rattle.cnf_formula.proofs.Clauses.{negation_about}
 use Rattle.cardinality.proofs.Wider.{clause_more}
 use Rattle.send_encoding.specs.Variables.{SendMapValue, IsSendMap, arrival, arrivals, sent, sends}
 use Rattle.send_encoding.specs.Sending.{sends_into}
-use Rattle.send_encoding.proofs.About.{about_not, IsStepOf, arrival_about, sent_about, into_about}
+use Rattle.send_encoding.proofs.About.{IsStepOf, arrival_about, sent_about, into_about}
 use Rattle.send_encoding.specs.Moving.{JoinsNodes}
 
 pub arrival_within : (m : SendMapValue) (c n s : ℕ) → c < m.chunks → n < m.nodes → s ≤ m.steps → (arrival m c n s).var ≤ arrivals m + sends m
@@ -27,7 +28,7 @@ arrives_about v m c n s ok le low few step =
     let into = into_about m joins c n s low at in
     clause_more (arrivals m + sends m) v (arrival m c n (s - 1) ∷ negation (arrival m c n s) ∷ sends_into m c n s) (omega (arith, le))
     (All-cons (IsAbout (arrivals m + sends m)) (arrival m c n (s - 1)) (negation (arrival m c n s) ∷ sends_into m c n s) before
-    (All-cons (IsAbout (arrivals m + sends m)) (negation (arrival m c n s)) (sends_into m c n s) (about_not (arrivals m + sends m) (arrival m c n s) after) into))
+    (All-cons (IsAbout (arrivals m + sends m)) (negation (arrival m c n s)) (sends_into m c n s) (negation_about (arrivals m + sends m) (arrival m c n s) after) into))
 
 -- the sends of a chunk into a node
 pub into_within : (v : ℕ) (m : SendMapValue) (c n s : ℕ) → IsSendMap m → arrivals m + sends m ≤ v → c < m.chunks → IsStep m.steps s → IsClause v (sends_into m c n s)

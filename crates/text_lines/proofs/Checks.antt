@@ -1,5 +1,6 @@
 -- Where a block of checks passes, and where it fails.
 use Rattle.std.proofs.Common.{◌≡◌, ℕ, Bool, true, false, Option, None, Some, Result, Ok, Err, List, [], ◌∷◌, ◌⊎◌, refl, sym, ap, ◌∙◌, inl, inr}
+use Rattle.std.specs.Prelude.{if◌then◌else◌}
 use Rattle.text_lines.specs.Text.{Row, Place, behind}
 use Rattle.text_lines.specs.Check.{◌>>=◌, refuse, need, at_line, first, line_part}
 
@@ -15,6 +16,11 @@ refuse_ok false code f y e = (refl, e)
 pub refuse_alone : {C : Type 0} (b : Bool) (code : C) (u : Unit {0}) → refuse b code ≡ Ok u → b ≡ false
 refuse_alone true code u e = absurd (cc)
 refuse_alone false code u e = refl
+
+-- a value that a test lets through
+pub if_some : {A : Type 0} (b : Bool) (o : Option A) (x : A) → (if b then o else None) ≡ Some x → (b ≡ true) × (o ≡ Some x)
+if_some true o x e = (refl, e)
+if_some false o x e = absurd (cc)
 
 pub need_ok : {A B C : Type 0} (o : Option A) (code : C) (f : A → Result B C) (y : B) → (need o code >>= f) ≡ Ok y → (x : A) × (o ≡ Some x) × (f x ≡ Ok y)
 need_ok None code f y e = absurd (cc)
@@ -61,3 +67,8 @@ part_err_at {A} {C} check p e h = failed (check (first p.rows)) h
     failed : (r : Result A C) → (at_line p.number r >>= next) ≡ Err e → (r ≡ Err e.0) × (e.1 ≡ p.number)
     failed (Ok y) k = absurd (cc)
     failed (Err c) k = let same : (c, p.number) ≡ e = cc in (ap (λ z. Err z.0) same, sym (ap (λ z. z.1) same))
+
+-- a check of a line, and what comes of it at a place
+pub after_line : {A B C : Type 0} (n : ℕ) (c : Result A C) (p : Place) (f : A × Place → Result B (C × ℕ)) → (at_line n c >>= (λ x. f (x, p))) ≡ ((at_line n c >>= (λ x. Ok (x, p))) >>= f)
+after_line n (Ok x) p f = refl
+after_line n (Err e) p f = refl

@@ -37,6 +37,10 @@ StartsToken end words place = place + length (join_with_byte 32 words) ≡ end
 abbrev pub line : List (List ℕ) → List ℕ
 line words = join_with_byte 32 words ++ 10 ∷ []
 
+-- a space before each token
+abbrev pub fields : List (List ℕ) → List ℕ
+fields words = flat_map (λ w. 32 ∷ w) words
+
 -- the text of these lines
 abbrev pub text_of : List (List (List ℕ)) → List ℕ
 text_of lines = flat_map line lines

@@ -12,6 +12,7 @@ use Rattle.std.proofs.lemmas.List.FromFn.{get_or-range_with_len, get_or-map-rang
 use Rattle.std.proofs.lemmas.List.Kept.{AllPairs-filter}
 use Rattle.std.proofs.lemmas.List.Sums.{AllPass-from_list_all}
 use Rattle.std.proofs.lemmas.Fmt.{decimal_injective}
+use Rattle.list_laws.proofs.Tests.{few_kept}
 use Rattle.text_lines.proofs.Distinct.{AreDistinct}
 use Rattle.schedule.specs.Links.{IsLink, IsBelow, IsGroup, IsTopology}
 use Rattle.topology_text.specs.declared.family_kind.FamilyKind.{FamilyKind}
@@ -170,10 +171,6 @@ differs Complete size a b ok low high t = eqb-false a b (not-true (eqb a b) t)
 differs Cube size a b ok low high t = cube_differs a b t
 differs Shared size a b ok low high t = eqb-false a b (not-true (eqb a b) t)
 
-kept_few : (p : ℕ × ℕ → Bool) (links : List (ℕ × ℕ)) → length (filter p links) ≤ length links
-kept_few p [] = omega arith
-kept_few p (l ∷ links) = let rest = kept_few p links in elim (p l) as (λ b. length (cond b (l ∷ filter p links) (filter p links)) ≤ suc (length links)) [ true ↦ omega arith | false ↦ omega arith ]
-
 kept_some : (p : ℕ × ℕ → Bool) (links : List (ℕ × ℕ)) (i : ℕ) (d : ℕ × ℕ) → i < length links → p (get_or links i d) ≡ true → 0 < length (filter p links)
 kept_some p [] i d within passes = absurd (omega arith)
 kept_some p (l ∷ links) zero d within passes = rw passes (omega arith)
@@ -194,7 +191,7 @@ family_links_are kind size ok =
     let links : List (ℕ × ℕ) = family_links kind size in
     let below : All (IsBelow size) links = All-filter (is_family_link kind size) (IsBelow size) (pairs size) (pairs_below size sizes.some) in
     let passes : All (λ l. is_family_link kind size l ≡ true) links = filter_passes (is_family_link kind size) (pairs size) in
-    let kept : length links ≤ length (pairs size) = kept_few (is_family_link kind size) (pairs size) in
+    let kept : length links ≤ length (pairs size) = few_kept (is_family_link kind size) (pairs size) in
     record {
       each = λ i d h. record { apart = differs kind size (get_or links i d).0 (get_or links i d).1 ok (below i d h).from (below i d h).to (passes i d h) };
       below = below;

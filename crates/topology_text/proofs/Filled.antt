@@ -13,9 +13,9 @@ use Rattle.collective_spec.specs.Patterns.{PatternValue, IsPattern}
 use Rattle.topology_text.specs.declared.fault.TopologyCode.{TopologyCode}
 use Rattle.topology_text.specs.Names.{is_name, AreNames}
 use Rattle.topology_text.specs.Value.{NamedTopologyValue, IsNamed, named_with}
-use Rattle.topology_text.specs.Spelling.{header_words, nodes_words, group_words, custom_lines, lines_of}
+use Rattle.topology_text.specs.Spelling.{header_words, nodes_words, group_words, custom_lines, lines_of, head_words}
 use Rattle.topology_text.specs.Reading.{begins, header_line, nodes_line, group_row, groups_from, groups_at, custom_line, holders_line, Pairs, holders_at, pattern_at, named_at, topology_at}
-use Rattle.topology_text.proofs.Front.{head_words, head_is}
+use Rattle.topology_text.proofs.Front.{head_is}
 use Rattle.topology_text.proofs.Groups.{Groups, groups_nil, group_take, groups_take, push_group, place, answer, after_group, line_taken}
 use Rattle.topology_text.proofs.PatternLines.{base_words, custom_take, named_words}
 use Rattle.topology_text.proofs.HolderLines.{Holders, AreHeld, holder_lines, pushed, no_pairs, behind_after, behind_before, line_held}

@@ -19,15 +19,10 @@ use Rattle.collective_spec.specs.Patterns.{PatternValue}
 use Rattle.topology_text.specs.declared.fault.TopologyCode.{TopologyCode}
 use Rattle.topology_text.specs.declared.fault.TopologyCode.TheVariants.{BadHeader, BadLine, BadName, NameTwice, TooManyNodes, NoNodes}
 use Rattle.topology_text.specs.Names.{is_name_byte, is_name, name_of, AreNames}
-use Rattle.topology_text.specs.Spelling.{header_words, nodes_words}
+use Rattle.topology_text.specs.Spelling.{header_words, nodes_words, head_words}
 use Rattle.topology_text.specs.Reading.{begins, has_empty, version_of, header_line, names_from, nodes_row, nodes_line}
 
 -- ---- line 1
-
--- the words of the header, by whether a pattern follows the groups
-abbrev pub head_words : Bool → List (List ℕ)
-head_words false = codes "topology" ∷ codes "1" ∷ []
-head_words true = codes "topology" ∷ codes "2" ∷ []
 
 version_is : (bytes : List ℕ) (patterned : Bool) → version_of bytes ≡ Some patterned → words_of bytes ≡ head_words patterned
 version_is bytes patterned e = by_first (bytes_eq bytes (codes "topology 1")) refl e

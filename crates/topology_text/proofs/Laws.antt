@@ -11,15 +11,16 @@ use Rattle.text_lines.proofs.Checks.{bind_ok, ok_is, part_ok}
 use Rattle.text_lines.proofs.Rows.{AreTokens, row_of, rows_again, text_back}
 use Rattle.text_lines.proofs.Words.{literal, tokens_from}
 use Rattle.schedule.specs.Links.{GroupValue, IsGroup, IsBelow}
+use Rattle.schedule.proofs.First.{each_append}
 use Rattle.collective_spec.specs.Patterns.{PatternValue, IsPattern}
 use Rattle.topology_text.specs.declared.fault.TopologyCode.{TopologyCode}
 use Rattle.topology_text.specs.declared.fault.TopologyFault.{TopologyFault}
 use Rattle.topology_text.specs.Names.{AreNames}
 use Rattle.topology_text.specs.Value.{NamedTopologyValue, IsNamed, named_with}
-use Rattle.topology_text.specs.Spelling.{header_words, nodes_words, group_words, custom_lines, lines_of, spelling}
+use Rattle.topology_text.specs.Spelling.{header_words, nodes_words, group_words, custom_lines, lines_of, spelling, head_words}
 use Rattle.topology_text.specs.Reading.{header_line, nodes_line, groups_at, pattern_at, named_at, topology_at, no_line, topology_of}
 use Rattle.topology_text.specs.Answer.{Answers}
-use Rattle.topology_text.proofs.Front.{Names, head_words, head_is, header_takes, header_again, nodes_line_take, nodes_again, nodes_are_words}
+use Rattle.topology_text.proofs.Front.{Names, head_is, header_takes, header_again, nodes_line_take, nodes_again, nodes_are_words}
 use Rattle.topology_text.proofs.Groups.{Groups, groups_nil, group_rows, place, line_taken, part_again, EndsGroups, groups_take, groups_again, group_is_words}
 use Rattle.topology_text.proofs.Patterns.{pattern_take, pattern_again, pattern_ends, custom_are_words}
 
@@ -178,10 +179,6 @@ groups_are_words names (g ∷ groups) ok valid below = (
   groups_are_words names groups ok (All-tail IsGroup g groups valid) (All-tail (λ x. All (IsBelow (length names)) x.links) g groups below),
 )
 
-pub both_are_words : (xs ys : List (List (List ℕ))) → AllByRecursion AreTokens xs → AllByRecursion AreTokens ys → AllByRecursion AreTokens (xs ++ ys)
-both_are_words [] ys one two = two
-both_are_words (x ∷ xs) ys one two = (one.0, both_are_words xs ys one.1 two)
-
 header_are_words : (custom : Option PatternValue) → AreTokens (header_words custom)
 header_are_words None = tokens_from (header_words None) (omega arith) (literal (codes "topology") refl, (literal (codes "1") refl, tt))
 header_are_words (Some p) = tokens_from (header_words (Some p)) (omega arith) (literal (codes "topology") refl, (literal (codes "2") refl, tt))
@@ -193,7 +190,7 @@ lines_are_words t ok =
       header_are_words t.custom,
       (
         tokens_from (nodes_words t.names) (omega arith) (nodes_are_words t.names ok.names),
-        both_are_words (map (group_words t.names) t.topology.groups) (custom_lines t.names t.custom) (groups_are_words t.names t.topology.groups names valid.each valid.below) (custom_are_words t.names t.custom names (pattern_is t ok)),
+        each_append AreTokens (map (group_words t.names) t.topology.groups) (custom_lines t.names t.custom) (groups_are_words t.names t.topology.groups names valid.each valid.below) (custom_are_words t.names t.custom names (pattern_is t ok)),
       ),
     )
 

@@ -4,7 +4,7 @@ use Rattle.std.specs.Prelude.{bytes_eq, decimal}
 use Rattle.std.specs.Bool.{Decides}
 use Rattle.std.specs.List.{All, list_any, join_with_byte, position_or_len}
 use Rattle.std.proofs.lemmas.Bool.{and_parts, and_from, eqb-true, eqb-false, eq-eqb, ne_eqb, cond-true, lt-ltb, false_from_ne_true}
-use Rattle.std.proofs.lemmas.List.{append-nil, length-map}
+use Rattle.std.proofs.lemmas.List.{append-nil, length-map, map_push}
 use Rattle.std.proofs.lemmas.List.Elements.{All-nil, All-push, All-get_or}
 use Rattle.std.proofs.lemmas.List.Quantifiers.{position-Some}
 use Rattle.std.proofs.lemmas.List.Splits.{slice_split_at, slice_split_none, join_with_byte-slice_split}
@@ -122,10 +122,6 @@ push_link nodes before link apart below fresh ok = record {
 
 abbrev after_link : List (List ℕ) → List (ℕ × ℕ) → List (List ℕ) → ℕ × ℕ → Result (List (ℕ × ℕ)) TopologyCode
 after_link names before words link = refuse (list_any (same_link link) before) LinkTwice >>= (λ u. links_from names (before ++ link ∷ []) words)
-
-map_push : (f : ℕ × ℕ → List ℕ) (before : List (ℕ × ℕ)) (link : ℕ × ℕ) → map f (before ++ link ∷ []) ≡ map f before ++ f link ∷ []
-map_push f [] link = refl
-map_push f (x ∷ xs) link = ap (λ ys. f x ∷ ys) (map_push f xs link)
 
 pub links_take : (names : List (List ℕ)) (before : List (ℕ × ℕ)) (words : List (List ℕ)) (links : List (ℕ × ℕ)) → links_from names before words ≡ Ok links → Links (length names) before → (map (link_word names) links ≡ map (link_word names) before ++ words) × Links (length names) links
 links_take names before [] links e ok =

@@ -4,7 +4,7 @@ use Rattle.std.specs.Prelude.{bytes_eq, codes, decimal, nat_lt, slice_index_or}
 use Rattle.std.specs.List.{list_all}
 use Rattle.std.proofs.lemmas.Bool.{and_parts, and_from, eqb-true, eqb-false, ne_eqb, false_from_ne_true, not-false, or_parts}
 use Rattle.std.proofs.lemmas.Fmt.{decimal_injective}
-use Rattle.std.proofs.lemmas.List.{append-nil}
+use Rattle.std.proofs.lemmas.List.{append-nil, map_push}
 use Rattle.std.proofs.lemmas.List.Elements.{All-get_or}
 use Rattle.std.proofs.lemmas.Slice.Eq.{bytes_eq-Decides}
 use Rattle.text_lines.specs.Text.{Row, words_of}
@@ -95,10 +95,6 @@ after_node names before words node = refuse (not (list_all (λ other. nat_lt oth
 pub out_of_order : (names : List (List ℕ)) (before : List ℕ) (word : List ℕ) (words : List (List ℕ)) (node : ℕ) → Some node ≡ node_of names word → list_all (λ other. nat_lt other node) before ≡ false → holders_from names before (word ∷ words) ≡ Err NameOrder
 out_of_order names before word words node found behind =
     ap (λ o. need o UnknownNode >>= after_node names before words) (sym found) ∙ ap (λ t. refuse (not t) NameOrder >>= (λ u. holders_from names (before ++ node ∷ []) words)) behind
-
-map_push : (f : ℕ → List ℕ) (before : List ℕ) (node : ℕ) → map f (before ++ node ∷ []) ≡ map f before ++ f node ∷ []
-map_push f [] node = refl
-map_push f (x ∷ xs) node = ap (λ ys. f x ∷ ys) (map_push f xs node)
 
 pub holders_take : (names : List (List ℕ)) (before : List ℕ) (words : List (List ℕ)) (nodes : List ℕ) → holders_from names before words ≡ Ok nodes → Ascends 0 (length names) before → (map (name_at names) nodes ≡ map (name_at names) before ++ words) × Ascends 0 (length names) nodes
 holders_take names before [] nodes e ok =

@@ -7,16 +7,12 @@ use Rattle.std.proofs.lemmas.Grind.{flat_map-append}
 use Rattle.std.proofs.Math.Seq.{take-append_seam}
 use Rattle.std.proofs.lemmas.List.{append-nil, length-take, map-append, map-id, take-take, take_all}
 use Rattle.std.proofs.lemmas.List.FromFn.{filter_of_map_range_with_len_more, map-range_with_len_more}
-use Rattle.text_lines.specs.Text.{line, text_of}
+use Rattle.text_lines.specs.Text.{line, text_of, fields}
 use Rattle.text_lines.proofs.Words.{join_fields}
 use Rattle.schedule.specs.Links.{GroupValue}
 use Rattle.collective_spec.specs.Patterns.{PatternValue}
 use Rattle.topology_text.specs.Value.{NamedTopologyValue}
 use Rattle.topology_text.specs.Spelling.{name_at, link_word, header_words, nodes_words, group_words, holder_words, custom_lines, spelling}
-
--- a space before each word
-abbrev pub fields : List (List ℕ) → List ℕ
-fields words = flat_map (λ w. 32 ∷ w) words
 
 -- four pieces, appended one after another
 pub appended : (a b c d e x y z w all : List ℕ) → b ≡ a ++ x → c ≡ b ++ y → d ≡ c ++ z → e ≡ d ++ w → x ++ (y ++ (z ++ w)) ≡ all → e ≡ a ++ all

@@ -2,8 +2,8 @@
 use Rattle.std.proofs.Common.{◌≡◌, ℕ, zero, suc, ◌+◌, Bool, true, false, List, [], ◌∷◌, ◌++◌, length, Option, None, Some, Result, Ok, Err, refl, sym, ap, subst}
 use Rattle.std.specs.Prelude.{codes, if◌then◌else◌}
 use Rattle.text_lines.specs.Text.{Row, Place}
-use Rattle.text_lines.specs.Check.{◌>>=◌, at_line, first, line_part}
-use Rattle.text_lines.proofs.Checks.{part_ok}
+use Rattle.text_lines.specs.Check.{◌>>=◌, first, line_part}
+use Rattle.text_lines.proofs.Checks.{part_ok, after_line}
 use Rattle.schedule.specs.Links.{GroupValue}
 use Rattle.collective_spec.specs.Patterns.{PatternValue}
 use Rattle.topology_text.specs.declared.fault.TopologyCode.{TopologyCode}
@@ -32,10 +32,6 @@ module _ (names : List (List ℕ)) where
 
   abbrev next_group : List GroupValue → GroupValue × Place → Result (List GroupValue × Place) (TopologyCode × ℕ)
   next_group before x = groups_from names (before ++ x.0 ∷ []) x.1.number x.1.rows
-
-  after_line : (n : ℕ) (c : Result GroupValue TopologyCode) (p : Place) (f : GroupValue × Place → Result (List GroupValue × Place) (TopologyCode × ℕ)) → (at_line n c >>= (λ x. f (x, p))) ≡ ((at_line n c >>= (λ x. Ok (x, p))) >>= f)
-  after_line n (Ok x) p f = refl
-  after_line n (Err e) p f = refl
 
   groups_is : (before : List GroupValue) (p : Place) → groups_from names before p.number p.rows ≡ (if is_group (first p.rows) then (line_part (group_line before) p >>= next_group before) else found before p)
   groups_is before p = by_rows p.number p.rows

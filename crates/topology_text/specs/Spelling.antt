@@ -1,5 +1,5 @@
 -- The one spelling of a topology (this project's own text).
-use Rattle.std.specs.Prelude.{ℕ, List, [], ◌∷◌, ◌++◌, map, filter, slice_index_or, codes, decimal, Option, None, Some}
+use Rattle.std.specs.Prelude.{ℕ, Bool, true, false, List, [], ◌∷◌, ◌++◌, map, filter, slice_index_or, codes, decimal, Option, None, Some}
 use Rattle.std.specs.List.{flat_map, range_with_len}
 use Rattle.schedule.specs.Placed.{PlacementValue, holds}
 use Rattle.collective_spec.specs.Patterns.{PatternValue}
@@ -18,6 +18,11 @@ link_word names link = name_at names link.0 ++ 62 ∷ name_at names link.1
 abbrev pub version_word : Option PatternValue → List ℕ
 version_word None = codes "1"
 version_word (Some p) = codes "2"
+
+-- the words of the first line, by whether a pattern follows the groups
+abbrev pub head_words : Bool → List (List ℕ)
+head_words false = codes "topology" ∷ codes "1" ∷ []
+head_words true = codes "topology" ∷ codes "2" ∷ []
 
 abbrev pub header_words : Option PatternValue → List (List ℕ)
 header_words custom = codes "topology" ∷ version_word custom ∷ []

@@ -6,13 +6,14 @@ use Rattle.std.proofs.lemmas.List.{get_or_past, get_or_append_left, get_or_push,
 use Rattle.std.proofs.lemmas.List.Sums.{sum_by_push, sum_by-cons, count_by-le-length}
 use Rattle.std.proofs.lemmas.List.Elements.{All-push, Contains-push, Contains-append_left}
 use Rattle.cnf_formula.specs.Literals.{LitValue, negation, code_of}
+use Rattle.cnf_formula.proofs.Codes.{same_code}
 use Rattle.trail_core.specs.Assigned.{IsFalse, IsOpen, level_at}
 use Rattle.trail_core.specs.Trails.{StepValue, TrailValue, lits_of}
 use Rattle.trail_core.specs.Watching.{RowValue, ListsValue, no_row, watch_count, occurrences, spare, row_at, list_at, IsWatched, IsRow, AreRows, AreLists, HasRoom}
 use Rattle.trail_core.specs.Search.{IsSatisfied, IsUnit, clauses_of, CanScan}
 use Rattle.trail_core.specs.Kept.{IsDue, IsGrounded, IsShort, IsKept, IsRecent}
-use Rattle.trail_core.proofs.Watching.{code_same, hit, hit_yes, hit_no, count_long, count_short, watch_which, occurs}
-use Rattle.trail_core.proofs.Keeping.{in_front, lits_length}
+use Rattle.trail_core.proofs.Watching.{hit, hit_yes, hit_no, count_long, count_short, watch_which, occurs}
+use Rattle.trail_core.proofs.Keeping.{lits_length, in_front}
 use Rattle.trail_core.proofs.Levels.{kept_assert}
 
 -- ---- rows with one more
@@ -67,7 +68,7 @@ pub own_count : (r : RowValue) (k : ℕ) → (1 < length r.lits → Contains r.l
 own_count r k f s d = ⊎_elim
     (λ h.
     let n = count_long r k h in
-    let apart : code_of r.first ≢ code_of r.second = λ e. d h (code_same r.first r.second e) in
+    let apart : code_of r.first ≢ code_of r.second = λ e. d h (same_code r.first r.second e) in
     ⊎_elim
     (λ e. let o : 0 < occurrences r k = subst (λ m. 0 < occurrences r m) e (occurs r.lits r.first (f h)) in
     omega (arith, n, hit_yes (code_of r.first) k e, hit_no (code_of r.second) k (λ q. apart (e ∙ sym q)), o))
@@ -88,7 +89,7 @@ pub put_two : (lists : List (List ℕ)) (r : RowValue) (id : ℕ) → 1 < length
 put_two lists r id h d wa wb k =
     let a = code_of r.first in
     let b = code_of r.second in
-    let apart : b ≢ a = λ e. d (code_same r.first r.second (sym e)) in
+    let apart : b ≢ a = λ e. d (same_code r.first r.second (sym e)) in
     let n = count_long r k h in
     let at-b : list_at (set lists a (list_at lists a ++ id ∷ [])) b ≡ list_at lists b = get_or-set_other lists a b (list_at lists a ++ id ∷ []) [] apart in
     let new : List ℕ = list_at (set lists a (list_at lists a ++ id ∷ [])) b ++ id ∷ [] in
@@ -193,8 +194,8 @@ kept_add rows w w' t head head' short short' r k can once fresh within low above
         (λ eq.
         let h' : 0 < watch_count r (code_of l) = subst (λ x. 0 < watch_count x (code_of l)) (row_new rows r) (subst (λ n. 0 < watch_count (row_at (rows ++ r ∷ []) n) (code_of l)) eq h) in
         absurd (⊎_elim
-        (λ a. (fresh.first_open (omega (arith, v))).not_false (subst (λ x. Contains (lits_of t.steps) (negation x)) (sym (code_same r.first l a)) (in_front m (lits_of t.steps) (negation l) f)))
-        (λ b. recent_not_below t r.second m once (fresh.second_recent (omega (arith, v))) j v u (subst (λ x. IsFalse (take m (lits_of t.steps)) x) (sym (code_same r.second l b)) f))
+        (λ a. (fresh.first_open (omega (arith, v))).not_false (subst (λ x. Contains (lits_of t.steps) (negation x)) (sym (same_code r.first l a)) (in_front m (lits_of t.steps) (negation l) f)))
+        (λ b. recent_not_below t r.second m once (fresh.second_recent (omega (arith, v))) j v u (subst (λ x. IsFalse (take m (lits_of t.steps)) x) (sym (same_code r.second l b)) f))
         (watch_which r (code_of l) h')))
         (λ ne. absurd (omega (arith, h, ap (λ x. watch_count x (code_of l)) (row_past rows r e (omega (arith, ge, ne))), none_watch (code_of l))))
         (cases_eq e (length rows)))

@@ -1,9 +1,10 @@
 -- What a core keeps, as it propagates.
-use Rattle.std.proofs.Common.{◌≡◌, ℕ, ◌+◌, ◌<◌, ◌≤◌, Bool, true, false, List, [], ◌∷◌, ◌++◌, length, get_or, take, refl, sym, ap, ◌∙◌, subst, inl, inr, ⊎_elim, arith}
-use Rattle.std.specs.Prelude.{◌⊎◌, Contains, All, not}
+use Rattle.std.proofs.Common.{◌≡◌, ℕ, ◌+◌, ◌<◌, ◌≤◌, Bool, List, [], ◌∷◌, ◌++◌, length, get_or, take, refl, sym, ap, ◌∙◌, subst, inl, inr, ⊎_elim, arith}
+use Rattle.std.specs.Prelude.{◌⊎◌, Contains, All}
 use Rattle.std.proofs.lemmas.Bool.{cases_lt}
 use Rattle.std.proofs.lemmas.List.{map-append, take-append-le, take_at, take_all, get_or-take, get_or-map, get_or_append_left, get_or_push, length-append, length-map, length-take-le, length_push}
 use Rattle.std.proofs.lemmas.List.Elements.{Contains-get_or, All-contains}
+use Rattle.std.proofs.Math.Bool.{not-not}
 use Rattle.cnf_formula.specs.Literals.{LitValue, negation, code_of}
 use Rattle.trail_core.specs.Assigned.{IsFalse, IsConsistent}
 use Rattle.trail_core.specs.Trails.{StepValue, TrailValue, lits_of}
@@ -18,16 +19,12 @@ use Rattle.trail_core.proofs.Scans.{implied_front, implied_grows, implied_weaker
 
 -- ---- fronts of the trail
 
-not_not : (b : Bool) → not (not b) ≡ b
-not_not true = refl
-not_not false = refl
-
 pub negated_twice : (l : LitValue) → negation (negation l) ≡ l
 negated_twice l =
     let make : Bool → LitValue = λ b. record { var = l.var; positive = b } in
-    ap make (not_not l.positive)
+    ap make (not-not l.positive)
 
-pub in_front : (n : ℕ) (xs : List LitValue) (l : LitValue) → Contains (take n xs) l → Contains xs l
+pub in_front : {X : Type 0} (n : ℕ) (xs : List X) (l : X) → Contains (take n xs) l → Contains xs l
 in_front n xs l c = ⊎_elim
     (λ w. (c.0, omega (arith, c.1, w, length-take-le n xs w), sym (get_or-take n xs c.0 l (omega (arith, c.1, length-take-le n xs w))) ∙ c.2))
     (λ w. subst (λ ys. Contains ys l) (take_all n xs (omega (arith, w))) c)

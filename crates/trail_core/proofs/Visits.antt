@@ -3,14 +3,15 @@ use Rattle.std.proofs.Common.{◌≡◌, ◌≢◌, ℕ, ◌+◌, ◌-◌, ◌<�
 use Rattle.std.specs.Prelude.{◌⊎◌, Contains, swap_remove}
 use Rattle.std.proofs.lemmas.Bool.{eqb-true, eqb-false, cases_lt, cases_eq}
 use Rattle.std.proofs.lemmas.List.{get_or-set_same, get_or-set_other, get_or-take, get_or_default, length-set, length-map, get_or-map, get_or_past, map_push}
+use Rattle.list_laws.proofs.Fronts.{same_map}
 use Rattle.cnf_formula.specs.Literals.{LitValue, code_of}
+use Rattle.cnf_formula.proofs.Codes.{same_code}
 use Rattle.trail_core.specs.Assigned.{IsFalse, IsOpen}
 use Rattle.trail_core.specs.Trails.{StepValue, TrailValue, lits_of}
 use Rattle.trail_core.specs.Watching.{RowValue, ListsValue, no_row, watch_count, row_at, list_at, IsWatched, IsRow, AreRows}
 use Rattle.trail_core.specs.Search.{IsUnit, Implied, HasLit, clauses_of, Scanned}
 use Rattle.trail_core.specs.Search.Implied.{none, more}
-use Rattle.trail_core.proofs.Maps.{same_map}
-use Rattle.trail_core.proofs.Watching.{code_same, hit, hit_yes, hit_no, count_long, watch_long, watch_which, watch_within, entry_watches, occurs, room_in_list, shifted, moved}
+use Rattle.trail_core.proofs.Watching.{hit, hit_yes, hit_no, count_long, watch_long, watch_which, watch_within, entry_watches, occurs, room_in_list, shifted, moved}
 
 -- the clause and the two literals that it watches, of which one is false
 pub record Pair (rows : List RowValue) (id : ℕ) (falsified other : LitValue) : Type 0 where
@@ -48,7 +49,7 @@ pair_is vars rows w id place falsified first second other are i p at f s o =
     (λ q.
     let is-first : (row_at rows id).first ≡ other = sym f ∙ sym q.1 in
     let is-second : (row_at rows id).second ≡ falsified =
-    ⊎_elim (λ e. absurd (q.0 (f ∙ code_same (row_at rows id).first falsified e))) (λ e. code_same (row_at rows id).second falsified e) (watch_which (row_at rows id) (code_of falsified) watches) in
+    ⊎_elim (λ e. absurd (q.0 (f ∙ same_code (row_at rows id).first falsified e))) (λ e. same_code (row_at rows id).second falsified e) (watch_which (row_at rows id) (code_of falsified) watches) in
     record {
       within = within;
       long = long;
@@ -92,13 +93,13 @@ new_counts : (rows : List RowValue) (id : ℕ) (falsified other x : LitValue) �
 new_counts rows id falsified other x p k = count_long (record { lits = (row_at rows id).lits; first = other; second = x }) k p.long
 
 pub codes_differ : (a b : LitValue) → a ≢ b → code_of a ≢ code_of b
-codes_differ a b d e = d (code_same a b e)
+codes_differ a b d e = d (same_code a b e)
 
 not_the_false : (trues clause : List LitValue) (falsified other x : LitValue) → IsFalse trues falsified → Found trues clause other x → x ≢ falsified
 not_the_false trues clause falsified other x f n e = n.not_false (subst (λ l. IsFalse trues l) (sym e) f)
 
 pub found_apart : (trues clause : List LitValue) (falsified other x : LitValue) → IsFalse trues falsified → Found trues clause other x → code_of falsified ≢ code_of x
-found_apart trues clause falsified other x f n e = not_the_false trues clause falsified other x f n (sym (code_same falsified x e))
+found_apart trues clause falsified other x f n e = not_the_false trues clause falsified other x f n (sym (same_code falsified x e))
 
 pub found_room : (rows : List RowValue) (w : ListsValue) (trues : List LitValue) (id : ℕ) (falsified other x : LitValue) → IsWatched rows w → Pair rows id falsified other → IsFalse trues falsified → Found trues (row_at rows id).lits other x → length (list_at w.lists (code_of x)) < get_or w.rooms (code_of x) 0
 found_room rows w trues id falsified other x i p f n =
@@ -146,7 +147,7 @@ rewatched_scanned rows t id falsified other x p n = record {
       let r : watch_count (row_at (rewatched rows id other x) e) k ≡ hit (code_of other) k + hit (code_of x) k =
       ap (λ m. watch_count (row_at (rewatched rows id other x) m) k) s ∙ ap (λ r. watch_count r k) (get_or-set_same rows id _ no_row p.within) ∙ new_counts rows id falsified other x p k in
       ⊎_elim
-      (λ y. inr (λ l q f. n.not_false (subst (λ z. IsFalse (lits_of t.steps) z) (code_same l x (q ∙ sym y)) f)))
+      (λ y. inr (λ l q f. n.not_false (subst (λ z. IsFalse (lits_of t.steps) z) (same_code l x (q ∙ sym y)) f)))
       (λ y. inl (omega (arith, h, r, hit_no (code_of x) k y, p.counts k, ap (λ m. watch_count (row_at rows m) k) s)))
       (cases_eq (code_of x) k))
       (λ d. inl (subst (λ r. 0 < watch_count r k) (get_or-set_other rows id e _ no_row d) h))
@@ -191,7 +192,7 @@ lits_push steps s = map_push (λ x. x.lit) steps s
 -- ---- equal literals
 
 pub same_lit : (a b : LitValue) → eqb (code_of a) (code_of b) ≡ true → a ≡ b
-same_lit a b e = code_same a b (eqb-true (code_of a) (code_of b) e)
+same_lit a b e = same_code a b (eqb-true (code_of a) (code_of b) e)
 
 pub other_lit : (a b : LitValue) → eqb (code_of a) (code_of b) ≡ false → a ≢ b
 other_lit a b e s = eqb-false (code_of a) (code_of b) e (ap code_of s)

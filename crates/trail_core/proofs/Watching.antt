@@ -1,36 +1,11 @@
 -- The lists and the rows agree, before and after a clause watches another literal.
-use Rattle.std.proofs.Common.{suc, ◌≡◌, ◌≢◌, ◌==◌, ℕ, ◌+◌, ◌-◌, ◌*◌, ◌<◌, ◌≤◌, Bool, true, false, List, [], ◌∷◌, ◌++◌, length, get_or, set, cond, eqb, count_by, sum_by, refl, sym, ap, ◌∙◌, subst, inl, inr, ⊎_elim, arith}
-use Rattle.std.specs.Prelude.{◌⊎◌, Contains, swap_remove, if◌then◌else◌}
+use Rattle.std.proofs.Common.{suc, ◌≡◌, ◌≢◌, ◌==◌, ℕ, ◌+◌, ◌-◌, ◌<◌, ◌≤◌, List, [], ◌∷◌, ◌++◌, length, get_or, set, cond, eqb, count_by, sum_by, refl, sym, ap, ◌∙◌, subst, inl, inr, ⊎_elim, arith}
+use Rattle.std.specs.Prelude.{◌⊎◌, Contains, swap_remove}
 use Rattle.std.proofs.lemmas.Bool.{lt-ltb, le-ltb, eq-eqb, ne_eqb, cases_lt, cases_eq}
 use Rattle.std.proofs.lemmas.List.{get_or-set_same, get_or-set_other, get_or_past, get_or_default, length_push, length-set, length-take-le}
 use Rattle.std.proofs.lemmas.List.Sums.{sum_by_push, sum_by-cons, sum_by-set, sum_by-swap_remove, get_or-le-sum_by}
 use Rattle.cnf_formula.specs.Literals.{LitValue, code_of}
-use Rattle.cnf_formula.specs.Formulas.{IsAbout}
 use Rattle.trail_core.specs.Watching.{RowValue, ListsValue, no_row, watch_count, occurrences, spare, row_at, list_at, IsWatched}
-
--- ---- numbers of literals
-
-abbrev sign_code : Bool → ℕ
-sign_code positive = if positive then 0 else 1
-
-parity : (a b : ℕ) (p q : Bool) → 2 * a + sign_code p ≡ 2 * b + sign_code q → (a ≡ b) × (p ≡ q)
-parity a b true true e = (omega (arith, e), refl)
-parity a b true false e = absurd (omega (arith, e))
-parity a b false true e = absurd (omega (arith, e))
-parity a b false false e = (omega (arith, e), refl)
-
-pub code_same : (a b : LitValue) → code_of a ≡ code_of b → a ≡ b
-code_same a b e =
-    let p = parity a.var b.var a.positive b.positive e in
-    let make : ℕ → Bool → LitValue = λ v s. record { var = v; positive = s } in
-    ap (λ v. make v a.positive) p.0 ∙ ap (make b.var) p.1
-
-sign_small : (p : Bool) → sign_code p ≤ 1
-sign_small true = omega arith
-sign_small false = omega arith
-
-pub code_within : (vars : ℕ) (l : LitValue) → IsAbout vars l → code_of l < 2 * vars + 2
-code_within vars l o = omega (arith, o.within, sign_small l.positive)
 
 -- ---- how often a literal is watched
 

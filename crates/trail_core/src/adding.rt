@@ -15,7 +15,7 @@ use cnf_formula::Lit;
 use std::alloc::AllocError;
 
 /// Makes room for a clause in the lists of its literals.
-pub fn admit_all(lists: &mut WatchLists, lits: &[Lit], vars: u32) -> Result<(), AllocError>
+pub(crate) fn admit_all(lists: &mut WatchLists, lits: &[Lit], vars: u32) -> Result<(), AllocError>
     requires lists { AreLists vars lists.old }
     requires within { All (IsAbout vars) lits.now }
     requires room { HasRoom lists.old }
@@ -62,7 +62,7 @@ fn a_recent(lits: &[Lit], trail: &Trail, other: Lit) -> Lit
 }
 
 /// The two literals that a new clause watches.
-pub fn watches(lits: &[Lit], trail: &Trail) -> (Lit, Lit)
+pub(crate) fn watches(lits: &[Lit], trail: &Trail) -> (Lit, Lit)
     requires within { All (IsAbout trail.now.vars) lits.now }
     requires once { AllPairs (λ a b. a ≢ b) lits.now }
     requires place { CanAddTo trail.now lits.now }
@@ -85,7 +85,7 @@ pub fn watches(lits: &[Lit], trail: &Trail) -> (Lit, Lit)
 
 /// Holds a clause under the next number, and puts back to where the present level begins what waits to be propagated. `Err`
 /// comes only where memory runs out or the numbers do, and then the clauses are as before.
-pub fn hold(
+pub(crate) fn hold(
     store: &mut ClauseStore,
     lists: &mut WatchLists,
     trail: &Trail,

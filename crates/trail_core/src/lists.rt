@@ -11,7 +11,7 @@ use std::marker::Model;
 
 /// Lists of clause numbers, by literal. Most literals stand in few clauses, so that their lists need no memory of their own.
 #[derive(Drop)]
-pub struct WatchLists {
+pub(crate) struct WatchLists {
     lists: Vec<SmallVec<u32, 4>>,
     /// How many clauses each list may come to hold.
     uses: Vec<u32>,
@@ -26,9 +26,21 @@ impl Model for WatchLists {
     ghost view = { λ a. record { lists = map (λ v. v.items) a.lists.items; rooms = map (λ v. v.capacity) a.lists.items; uses = a.uses.items } };
 }
 
+/// Makes a list able to hold so many clauses.
+fn make_room(list: &mut SmallVec<u32, 4>, count: usize) -> Result<(), AllocError>
+    ensures items { list.new.items ≡ list.old.items }
+    ensures capacity { list.old.capacity ≤ list.new.capacity }
+    ensures ok { OnOk result (count ≤ list.new.capacity) }
+{
+    if list.capacity() < count {
+        list.reserve(count - list.len())?;
+    }
+    Ok(())
+}
+
 impl WatchLists {
     /// Empty lists, each with room for so many clauses.
-    pub fn new(alloc: Global, rooms: &[u32]) -> Result<WatchLists, AllocError>
+    pub(crate) fn new(alloc: Global, rooms: &[u32]) -> Result<WatchLists, AllocError>
         ensures { IfOk result (λ w. (length w.lists ≡ length rooms.now) × (length w.rooms ≡ length rooms.now) × ((k : ℕ) → list_at w.lists k ≡ []) × (length w.uses ≡ length rooms.now) × ((k : ℕ) → slice_index w.uses k ≡ 0)) }
     {
         let mut lists = Vec::with_capacity(alloc, rooms.len())?;
@@ -42,7 +54,7 @@ impl WatchLists {
     }
 
     /// How many clauses watch a literal.
-    pub fn count(&self, lit: Lit) -> usize
+    pub(crate) fn count(&self, lit: Lit) -> usize
         requires { code_of lit < length self.now.lists }
         ensures { result ≡ length (list_at self.now.lists (code_of lit)) }
     {
@@ -50,7 +62,7 @@ impl WatchLists {
     }
 
     /// The clause at a place of a literal's list.
-    pub fn entry(&self, lit: Lit, place: usize) -> u32
+    pub(crate) fn entry(&self, lit: Lit, place: usize) -> u32
         requires known { code_of lit < length self.now.lists }
         requires within { place < length (list_at self.now.lists (code_of lit)) }
         ensures { result ≡ slice_index (list_at self.now.lists (code_of lit)) place }
@@ -59,7 +71,7 @@ impl WatchLists {
     }
 
     /// Takes the clause at a place out of a literal's list, and adds it to another's.
-    pub fn shift(&mut self, from: Lit, place: usize, to: Lit)
+    pub(crate) fn shift(&mut self, from: Lit, place: usize, to: Lit)
         requires from_known { code_of from < length self.old.lists }
         requires to_known { code_of to < length self.old.lists }
         requires within { place < length (list_at self.old.lists (code_of from)) }
@@ -76,7 +88,7 @@ impl WatchLists {
     }
 
     /// Makes room in a literal's list for one clause more.
-    pub fn admit(&mut self, lit: Lit) -> Result<(), AllocError>
+    pub(crate) fn admit(&mut self, lit: Lit) -> Result<(), AllocError>
         requires known { code_of lit < length self.old.lists }
         requires uses { code_of lit < length self.old.uses }
         requires few { length (list_at self.old.lists (code_of lit)) ≤ slice_index self.old.uses (code_of lit) }
@@ -92,13 +104,13 @@ impl WatchLists {
             return Err(AllocError);
         }
         let list = &mut self.lists[code];
-        list.reserve(uses as usize + 1 - list.len())?;
+        make_room(list, uses as usize + 1)?;
         self.uses[code] = uses + 1;
         Ok(())
     }
 
     /// Adds a clause to a literal's list.
-    pub fn add(&mut self, lit: Lit, id: u32)
+    pub(crate) fn add(&mut self, lit: Lit, id: u32)
         requires known { code_of lit < length self.old.lists }
         requires room { length (list_at self.old.lists (code_of lit)) < slice_index self.old.rooms (code_of lit) }
         ensures lists { self.new.lists ≡ slice_set self.old.lists (code_of lit) (list_at self.old.lists (code_of lit) ++ id ∷ []) }

@@ -69,7 +69,7 @@ fn visit(
 }
 
 /// Visits all clauses that watch a literal that is false, up to one whose literals are all false.
-pub fn scan(
+pub(crate) fn scan(
     store: &mut ClauseStore,
     lists: &mut WatchLists,
     trail: &mut Trail,
@@ -121,7 +121,7 @@ fn settle(store: &ClauseStore, trail: &mut Trail, id: u32) -> bool
 }
 
 /// Makes the literals of all clauses of less than two literals true, up to one that is falsified.
-pub fn settle_all(store: &ClauseStore, trail: &mut Trail, short: &[u32]) -> Option<u32>
+pub(crate) fn settle_all(store: &ClauseStore, trail: &mut Trail, short: &[u32]) -> Option<u32>
     requires rows { AreRows trail.old.vars store.now }
     requires short { All (IsShort store.now) short.now }
     requires bottom { trail.old.limits ≡ [] }
@@ -140,7 +140,7 @@ pub fn settle_all(store: &ClauseStore, trail: &mut Trail, short: &[u32]) -> Opti
 }
 
 /// Propagates what waits on the trail, up to a clause that is falsified.
-pub fn propagate_all(
+pub(crate) fn propagate_all(
     store: &mut ClauseStore,
     lists: &mut WatchLists,
     trail: &mut Trail,

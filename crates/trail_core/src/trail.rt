@@ -12,7 +12,7 @@ use std::marker::Model;
 
 /// Variables with their values, and the literals that are true, level by level.
 #[derive(Drop)]
-pub struct Trail {
+pub(crate) struct Trail {
     vars: u32,
     /// By variable: 0 while it is open, 1 where it is true, 2 where it is false. There is no variable 0: it has 3.
     values: Vec<u8>,
@@ -43,7 +43,7 @@ fn sign(lit: Lit) -> u8
 
 impl Trail {
     /// The trail of so many variables, all open.
-    pub fn new(alloc: Global, vars: u32) -> Result<Trail, AllocError>
+    pub(crate) fn new(alloc: Global, vars: u32) -> Result<Trail, AllocError>
         ensures { IfOk result (λ t. t ≡ record { vars = vars; steps = []; limits = [] }) }
     {
         let count = vars as usize;
@@ -60,7 +60,7 @@ impl Trail {
     }
 
     /// Whether the literal is true.
-    pub fn is_true(&self, lit: Lit) -> bool
+    pub(crate) fn is_true(&self, lit: Lit) -> bool
         requires { lit.var ≤ self.now.vars }
         ensures { IsTrue result ↔ Contains (lits_of self.now.steps) lit }
     {
@@ -68,7 +68,7 @@ impl Trail {
     }
 
     /// Whether the literal is false.
-    pub fn is_false(&self, lit: Lit) -> bool
+    pub(crate) fn is_false(&self, lit: Lit) -> bool
         requires { lit.var ≤ self.now.vars }
         ensures { IsTrue result ↔ IsFalse (lits_of self.now.steps) lit }
     {
@@ -76,7 +76,7 @@ impl Trail {
     }
 
     /// The value of a literal, or none where it is open.
-    pub fn value(&self, lit: Lit) -> Option<bool>
+    pub(crate) fn value(&self, lit: Lit) -> Option<bool>
         requires { lit.var ≤ self.now.vars }
         ensures { IsValue (lits_of self.now.steps) lit result }
     {
@@ -89,7 +89,7 @@ impl Trail {
     }
 
     /// The true literals, in the order in which they became so.
-    pub fn lits(&self) -> &[Lit]
+    pub(crate) fn lits(&self) -> &[Lit]
         ensures value { result.now ≡ lits_of self.now.steps }
         ensures formed { IsTrail self.now.vars self.now.steps self.now.limits }
     {
@@ -97,14 +97,14 @@ impl Trail {
     }
 
     /// How many variables there are.
-    pub fn vars(&self) -> u32
+    pub(crate) fn vars(&self) -> u32
         ensures { result ≡ self.now.vars }
     {
         self.vars
     }
 
     /// How many literals are true.
-    pub fn len(&self) -> usize
+    pub(crate) fn len(&self) -> usize
         ensures count { result ≡ length self.now.steps }
         ensures few { result ≤ self.now.vars }
         ensures small { self.now.vars < 4294967296 }
@@ -114,7 +114,7 @@ impl Trail {
     }
 
     /// The true literal at a place.
-    pub fn lit(&self, place: usize) -> Lit
+    pub(crate) fn lit(&self, place: usize) -> Lit
         requires { place < length self.now.steps }
         ensures is { (d : LitValue) → result ≡ get_or (lits_of self.now.steps) place d }
         ensures some { 0 < result.var }
@@ -124,14 +124,14 @@ impl Trail {
     }
 
     /// The present decision level.
-    pub fn depth(&self) -> u32
+    pub(crate) fn depth(&self) -> u32
         ensures { result ≡ length self.now.limits }
     {
         self.limits.len() as u32
     }
 
     /// How many literals stay true after a backjump to a level, where all above it is taken back.
-    pub fn height(&self, level: u32) -> usize
+    pub(crate) fn height(&self, level: u32) -> usize
         requires { level ≤ length self.now.limits }
         ensures below { level < length self.now.limits → result ≡ slice_index self.now.limits level }
         ensures all { level ≡ length self.now.limits → result ≡ length self.now.steps }
@@ -144,7 +144,7 @@ impl Trail {
     }
 
     /// How long the trail was when the present level was opened.
-    pub fn bottom(&self) -> u32
+    pub(crate) fn bottom(&self) -> u32
         ensures low { length self.now.limits ≡ 0 → result ≡ 0 }
         ensures high { (j : ℕ) → j + 1 ≡ length self.now.limits → result ≡ slice_index self.now.limits j }
         ensures above { (j : ℕ) → j < length self.now.limits → slice_index self.now.limits j ≤ result }
@@ -160,7 +160,7 @@ impl Trail {
     }
 
     /// The decision level of a true literal.
-    pub fn level(&self, lit: Lit) -> u32
+    pub(crate) fn level(&self, lit: Lit) -> u32
         requires { Contains (lits_of self.now.steps) lit }
         ensures { (k : ℕ) → k < length self.now.steps → get_or (lits_of self.now.steps) k lit ≡ lit → result ≡ level_at self.now.limits k }
     {
@@ -168,7 +168,7 @@ impl Trail {
     }
 
     /// The clause that made a true literal so, its reason; none for a decision.
-    pub fn reason(&self, lit: Lit) -> Option<u32>
+    pub(crate) fn reason(&self, lit: Lit) -> Option<u32>
         requires { Contains (lits_of self.now.steps) lit }
         ensures { Contains self.now.steps (record { lit = lit; reason = result }) }
     {
@@ -176,7 +176,7 @@ impl Trail {
     }
 
     /// Makes an open literal true on the present level.
-    pub fn push(&mut self, lit: Lit, reason: Option<u32>)
+    pub(crate) fn push(&mut self, lit: Lit, reason: Option<u32>)
         requires within { lit.var ≤ self.old.vars }
         requires open { IsOpen (lits_of self.old.steps) lit }
         ensures { self.new ≡ record self.old { steps = self.old.steps ++ record { lit = lit; reason = reason } ∷ [] } }
@@ -189,7 +189,7 @@ impl Trail {
     }
 
     /// Decides a literal: opens a decision level, on which an open literal is the first that is true.
-    pub fn decide(&mut self, lit: Lit)
+    pub(crate) fn decide(&mut self, lit: Lit)
         requires within { lit.var ≤ self.old.vars }
         requires open { IsOpen (lits_of self.old.steps) lit }
         ensures { self.new ≡ record self.old { steps = self.old.steps ++ record { lit = lit; reason = None } ∷ []; limits = self.old.limits ++ length self.old.steps ∷ [] } }
@@ -203,7 +203,7 @@ impl Trail {
     }
 
     /// Backjumps to a level: takes back all that became true above it.
-    pub fn back_to(&mut self, level: u32)
+    pub(crate) fn back_to(&mut self, level: u32)
         requires { level ≤ length self.old.limits }
         ensures limits { AreLimits self.old.limits (length self.old.steps) }
         ensures same { level ≡ length self.old.limits → self.new ≡ self.old }

@@ -3,19 +3,22 @@
 ghost use Rattle.std.specs.Prelude.{◌≡◌, ◌*◌, Contains, IfOk};
 ghost use Rattle.node_programs.specs.Runs.{operations};
 ghost use Rattle.report_form.specs.Numbered.{points_of};
-ghost use Rattle.point_replay.specs.Showing.{machine_of, shown_in};
+ghost use Rattle.replay_text.specs.Showing.{machine_of, shown_in};
 ghost use Rattle.run_rules.specs.Trials.{events_in, replays_in};
 
 use crate::OutOfMemory;
 use crate::counts::plus;
 use candidate_order::Point;
 use outer_ports::Part;
-use point_replay::run_point;
+use replay_text::run_point;
 use report_form::{Report, point_at};
 use std::alloc::Global;
 
-/// How many orders each point is replayed in.
-const ORDERS: u64 = 4;
+/// The seeds of the orders that each point is replayed in.
+const SEEDS: [u64; 4] = [0, 1, 2, 3];
+
+/// How many these are.
+const ORDERS: u64 = SEEDS.len() as u64;
 
 /// How many replays there were, and how many events in all of them.
 #[derive(Clone, Copy, Debug, PartialEq, Eq)]
@@ -34,9 +37,9 @@ fn replay_in_orders(
     requires { Contains (points_of report.now) (part, point.now) }
     ensures { IfOk result (λ events. events ≡ 4 * operations (machine_of (shown_in report.now (part, point.now)))) }
 {
+    let runs = run_point(alloc, report, part, point, &SEEDS)?;
     let mut events = 0;
-    for seed in 0..ORDERS {
-        let moves = run_point(alloc, report, part, point, seed)?;
+    for moves in &runs {
         events = plus(events, moves.len() as u64)?;
     }
     Ok(events)

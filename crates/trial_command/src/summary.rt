@@ -10,7 +10,7 @@ use crate::asked::{trial_family, trial_size};
 use crate::counts::Counts;
 use crate::replays::Replays;
 use report_form::Report;
-use report_printing::push_asked;
+use report_printing::push_synth_line;
 use std::alloc::Global;
 use text_lines::{push_number, push_word};
 use topology_text::FamilyKind;
@@ -83,7 +83,7 @@ pub(crate) fn print_trial(
 {
     let mut out = Vec::new(alloc);
     push_trial(&mut out, n)?;
-    push_asked(&mut out, report.topology().names(), report.words())?;
+    push_synth_line(&mut out, report.topology().names(), report.words())?;
     push_family(&mut out, trial_family(n), trial_size(n))?;
     push_counts(&mut out, counts, report.joined().len() as u64)?;
     push_word(&mut out, b"check verified\n")?;

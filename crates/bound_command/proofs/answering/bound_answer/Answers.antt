@@ -4,7 +4,7 @@ use Rattle.run_rules.specs.Read.{IsSearchAs}
 use Rattle.run_rules.specs.Tasks.{Bound, bound_asked, search_asked}
 use Rattle.run_rules.proofs.Answered.{refused_alone, refused_behind}
 use Rattle.run_rules.proofs.Sought.{same_kind}
-use Rattle.bound_command.proofs.Asked.{bound_due}
+use Rattle.bound_command.proofs.BoundDue.{bound_due}
 use Rattle.bound_command.proofs.answering.bound_answer.Goals as goal
 
 pub search_answer-requires-clause-single : goal.search_answer-requires-clause-single

@@ -9,7 +9,7 @@ use Rattle.report_printing.specs.Printed.{point_text}
 use Rattle.report_printing.proofs.Pieces.{before}
 use Rattle.node_cuts.specs.Floors.{floor_of}
 use Rattle.cut_bounds.specs.Parting.{cuts_among, uncut_among}
-use Rattle.engine_search.specs.Asked.{searched_question}
+use Rattle.engine_search.specs.Searched.{searched_question}
 use Rattle.run_rules.specs.Bounds.{cut_words, floor_words}
 use Rattle.bound_command.proofs.Pieces.{bound_is}
 use Rattle.bound_command.proofs.printing.print_bounds.Goals as goal
@@ -21,7 +21,7 @@ returns c =
     let f = c.args.bounds.now.frontier in
     let q = searched_question (question_of w t Whole) in
     let b1 = c.push_word.new.out.items in
-    let b2 = c.push_asked.new.out.items in
+    let b2 = c.push_synth_line.new.out.items in
     let b3 = c.push_floor.new.out.items in
     let b4 = c.push_word-2.new.out.items in
     let b5 = c.push_points.new.out.items in
@@ -32,7 +32,7 @@ returns c =
     let at = c.names-names.ensures.names in
     let bounds = c.requires.bounds in
     let head : b1 ≡ [] ++ codes "bound 1\n" = search rules in
-    let asked : b2 ≡ b1 ++ line (synth_words t.names w) = c.in_ok-push_asked.ensures ∙ ap (λ n. b1 ++ line (synth_words n w)) at in
+    let asked : b2 ≡ b1 ++ line (synth_words t.names w) = c.in_ok-push_synth_line.ensures ∙ ap (λ n. b1 ++ line (synth_words n w)) at in
     let floor : b3 ≡ b2 ++ line (floor_words t.names (floor_of q.topology q.spec)) = c.in_ok-push_floor.ensures ∙ (ap (λ n. b2 ++ line (floor_words n c.args.bounds.now.floor)) at ∙ ap (λ x. b2 ++ line (floor_words t.names x)) bounds.floor) in
     let points : b5 ≡ b4 ++ flat_map (point_text t.names) f.points = c.in_ok-push_points.ensures ∙ (ap (λ n. b4 ++ flat_map (point_text n) c.points.result.now) at ∙ ap (λ x. b4 ++ flat_map (point_text t.names) x) c.points.ensures) in
     let cuts : b6 ≡ b5 ++ text_of (map (cut_words t.names) (cuts_among q f.refuted)) = c.in_ok-push_cuts.ensures ∙ (ap (λ n. b5 ++ text_of (map (cut_words n) c.deref.result.now)) at ∙ ap (λ x. b5 ++ text_of (map (cut_words t.names) x)) (c.deref.ensures.value ∙ bounds.cuts)) in

@@ -1,7 +1,7 @@
 use Rattle.std.proofs.Common.{◌≡◌, ◌++◌, ◌∙◌, ap}
 use Rattle.std.specs.Prelude.{codes}
+use Rattle.text_lines.specs.Text.{fields}
 use Rattle.report_form.specs.Spelling.{candidate_words}
-use Rattle.report_printing.specs.Printed.{fields}
 use Rattle.report_printing.proofs.Pieces.{before}
 use Rattle.run_rules.specs.Bounds.{names_in}
 use Rattle.bound_command.proofs.Pieces.{pieces_are}

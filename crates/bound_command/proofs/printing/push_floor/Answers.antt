@@ -1,6 +1,6 @@
 use Rattle.std.proofs.Common.{List, ℕ, [], ◌∷◌, ◌++◌, ◌∙◌, ap}
 use Rattle.std.specs.Prelude.{codes, decimal}
-use Rattle.report_printing.specs.Printed.{fields}
+use Rattle.text_lines.specs.Text.{fields}
 use Rattle.report_printing.proofs.Pieces.{before}
 use Rattle.run_rules.specs.Bounds.{names_in}
 use Rattle.bound_command.proofs.Pieces.{pieces_are}

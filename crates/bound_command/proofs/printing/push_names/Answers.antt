@@ -1,5 +1,5 @@
 use Rattle.std.proofs.Common.{◌++◌, ◌∙◌, ap, sym}
-use Rattle.report_printing.specs.Printed.{fields}
+use Rattle.text_lines.specs.Text.{fields}
 use Rattle.report_printing.proofs.Pieces.{before}
 use Rattle.bound_command.proofs.Pieces.{names_below, names_more}
 use Rattle.bound_command.proofs.printing.push_names.Goals as goal

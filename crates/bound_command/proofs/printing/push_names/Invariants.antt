@@ -1,5 +1,5 @@
 use Rattle.std.proofs.Common.{◌≡◌, ◌++◌}
-use Rattle.report_printing.specs.Printed.{fields}
+use Rattle.text_lines.specs.Text.{fields}
 use Rattle.bound_command.proofs.Pieces.{names_below}
 use Rattle.bound_command.proofs.printing.push_names.Given as goal
 

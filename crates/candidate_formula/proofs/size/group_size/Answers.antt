@@ -1,4 +1,4 @@
-use Rattle.std.proofs.Common.{◌≡◌, ◌≤◌, ◌<◌, ◌*◌, ◌+◌, ℕ, length, ap, arith}
+use Rattle.std.proofs.Common.{◌≤◌, ◌<◌, ◌*◌, ℕ, length, ap, arith}
 use Rattle.candidate_formula.proofs.Sizes.{few_counted, few_in_group}
 use Rattle.candidate_formula.proofs.size.group_size.Goals as goal
 

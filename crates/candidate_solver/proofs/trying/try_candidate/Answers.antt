@@ -1,9 +1,9 @@
 use Rattle.std.proofs.Common.{sym, subst}
 use Rattle.candidate_order.specs.Frontiers.{QuestionValue, instance_for}
 use Rattle.candidate_formula.specs.Formulas.{formula_for}
-use Rattle.candidate_solver.specs.Asked.{asked}
+use Rattle.candidate_formula.proofs.BegunFiles.{begun_trans}
+use Rattle.candidate_solver.specs.Questions.{asked}
 use Rattle.candidate_solver.specs.Trying.{BeginsOwn, IsSearch, Says, IsOutcome}
-use Rattle.candidate_solver.proofs.Begun.{begins_trans}
 use Rattle.candidate_solver.proofs.Tried.{both_ok, has_files, outcome_by}
 use Rattle.candidate_solver.proofs.SmallFormulas.{formula_small}
 use Rattle.candidate_solver.proofs.trying.try_candidate.Goals as goal
@@ -35,7 +35,7 @@ returns-clause-begins g c = λ t.
     let part = c.args.part in
     let x = c.args.candidate in
     subst (λ f. BeginsOwn f part x (F c.args.store.now) (F c.keep.new.store)) (c.in_ok-encoding.ensures.formula c.args.question.now.limits)
-    (begins_trans f part x (F c.args.store.now) (F c.find.new.store) (F c.keep.new.store) (c.find.ensures.begins (c.keep.ensures.told t)) (c.keep.ensures.begins t f))
+    (begun_trans (c.find.ensures.begins (c.keep.ensures.told t)) (c.keep.ensures.begins t f))
 
 pub returns-clause-files : goal.returns-clause-files
 returns-clause-files g c = λ t.

@@ -1,6 +1,6 @@
 use Rattle.std.proofs.Common.{sym, subst}
 use Rattle.candidate_order.specs.Frontiers.{QuestionValue, instance_for}
-use Rattle.candidate_solver.specs.Asked.{asked}
+use Rattle.candidate_solver.specs.Questions.{asked}
 use Rattle.chunk_symmetry.specs.Trying.{IsSearch}
 use Rattle.chunk_symmetry.proofs.Engines.{IsEncoded, outcome_by, satisfies_encoding}
 use Rattle.chunk_symmetry.proofs.trying.try_candidate.Goals as goal

@@ -2,7 +2,8 @@ use Rattle.std.proofs.Common.{◌≡◌, Ok, IfOk, sym, subst}
 use Rattle.std.proofs.lemmas.Result.{IfOk-weaker}
 use Rattle.run_rules.specs.Read.{IsSearchableAs}
 use Rattle.run_rules.specs.Tasks.{fault_in, searchable, whole_question}
-use Rattle.degrade_command.proofs.Taken.{behind_fault, is_small}
+use Rattle.run_rules.proofs.SizeAndCounts.{is_small}
+use Rattle.degrade_command.proofs.Taken.{behind_fault}
 use Rattle.degrade_command.proofs.answering.refusal_of.Goals as goal
 
 pub returns-in-None-clause-refuses : goal.returns-in-None-clause-refuses

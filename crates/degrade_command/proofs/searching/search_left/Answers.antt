@@ -5,7 +5,7 @@ use Rattle.candidate_order.specs.declared.candidate.Candidate.{Candidate}
 use Rattle.candidate_order.specs.Frontiers.{QuestionValue}
 use Rattle.candidate_formula.specs.Formulas.{formula_for}
 use Rattle.candidate_formula.specs.Sizes.{size_of}
-use Rattle.engine_search.proofs.Asked.{made_for}
+use Rattle.engine_search.proofs.Searched.{made_for}
 use Rattle.engine_search.specs.Found.{IsFound}
 use Rattle.engine_search.proofs.Found.{found_with}
 use Rattle.link_faults.specs.Carrying.{is_carried, narrowed_question}

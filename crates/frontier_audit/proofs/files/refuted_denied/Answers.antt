@@ -1,11 +1,11 @@
 use Rattle.std.proofs.Common.{get_or, refl, subst, ◌∙◌}
 use Rattle.std.proofs.lemmas.List.{drop_all, get_or_default}
+use Rattle.std.proofs.lemmas.List.Elements.{All-weaker}
 use Rattle.candidate_order.specs.declared.candidate.Candidate.{Candidate}
 use Rattle.candidate_order.specs.Costs.{Before}
 use Rattle.frontier_audit.specs.Auditing.{refuted_checked}
 use Rattle.frontier_audit.specs.Beside.{AnswersBeside}
 use Rattle.frontier_audit.proofs.Merging.{behind_pairs, denies_all, leads_from_start, leads_on, leads_to_all, since}
-use Rattle.frontier_audit.proofs.Passing.{all_by}
 use Rattle.frontier_audit.proofs.Said.{is_of, looks_own_refuted, looks_other_refuted}
 use Rattle.frontier_audit.proofs.files.refuted_denied.Goals as goal
 
@@ -57,7 +57,7 @@ loop-candidate-preserved g c =
       kept = done.kept (λ failed. absurd cc) ∙ l.invariant.kept;
       stay = λ t name. done.stay t name ∙ l.invariant.stay (done.told t) name;
       leads = leads_on (H.tells l.shelf) tells shelf check xs i here c.loop-candidate-test.true is done.told l.invariant.leads (is_of here) (looks_own_refuted c.args.part q here)
-          (all_by (Before here) _ _ (looks_other_refuted c.args.part q here) (behind_pairs Before xs i here c.loop-candidate-test.true is c.requires.ascending))
+          (All-weaker (Before here) _ (looks_other_refuted c.args.part q here) _ (behind_pairs Before xs i here c.loop-candidate-test.true is c.requires.ascending))
           (subst (AnswersBeside tells shelf (λ files. check files here)) c.in_default.is answer);
     }
 

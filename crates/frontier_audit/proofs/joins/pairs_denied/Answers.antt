@@ -1,8 +1,9 @@
 use Rattle.std.proofs.Common.{[], ◌∷◌, Some, sym, subst, ap, ◌∙◌}
+use Rattle.std.proofs.lemmas.Option.{slice_get_past}
 use Rattle.allreduce_join.specs.Joins.{IsJoinable, pairs_of}
 use Rattle.frontier_audit.specs.Steps.{JoinsSay}
 use Rattle.frontier_audit.specs.declared.verdict.Reason.TheVariants.{JoinWrong}
-use Rattle.frontier_audit.proofs.Pairing.{got_at, none_say, nothing_at, no_surplus, pairs_add, pairs_one, stopped, surplus, walk_ends, walk_goes, walk_stops}
+use Rattle.frontier_audit.proofs.Pairing.{got_at, none_say, no_surplus, pairs_add, pairs_one, stopped, surplus, walk_ends, walk_goes, walk_stops}
 use Rattle.frontier_audit.proofs.joins.pairs_denied.Goals as goal
 
 pub loop-first-init : goal.loop-first-init
@@ -40,7 +41,7 @@ returns-in-None c =
     let gather = c.args.gather.now in
     let pairs = pairs_of c.args.reduce.now gather in
     let all = walk_ends t joined (λ xs. pairs_of xs gather) (pairs_add gather) c.args.reduce.now l.first-index 0 l.place c.loop-first-test.false l.invariant in
-    no_surplus t pairs joined l.place all (nothing_at joined l.place c.in-None.ensures.lookup.3)
+    no_surplus t pairs joined l.place all (slice_get_past joined l.place c.in-None.ensures.lookup.3)
 
 pub returns-in-Some-get : goal.returns-in-Some-get
 returns-in-Some-get c =

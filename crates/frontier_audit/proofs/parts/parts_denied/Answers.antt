@@ -1,12 +1,12 @@
 use Rattle.std.proofs.Common.{refl, subst, ◌∙◌}
 use Rattle.std.proofs.lemmas.List.{drop_all}
 use Rattle.std.specs.Prelude.{length, ◌≤◌}
+use Rattle.std.proofs.lemmas.List.Elements.{All-weaker}
 use Rattle.frontier_audit.specs.Auditing.{frontier_checked}
 use Rattle.frontier_audit.specs.Beside.{AnswersBeside}
 use Rattle.frontier_audit.specs.Steps.{part_checked}
 use Rattle.frontier_audit.proofs.Merging.{behind_pairs, denies_all, leads_from_start, leads_on, leads_to_all, since}
 use Rattle.frontier_audit.proofs.Parting.{Apart, here_frontier, here_is, here_low, here_part, is_in, looks_other_part, looks_own_part, part_denies, part_passes, parts_apart}
-use Rattle.frontier_audit.proofs.Passing.{all_by}
 use Rattle.frontier_audit.proofs.parts.parts_denied.Goals as goal
 
 pub loop-part-init : goal.loop-part-init
@@ -65,7 +65,7 @@ loop-part-preserved g c =
       kept = done.kept (λ failed. absurd cc) ∙ l.invariant.kept;
       stay = λ t name. done.stay t name ∙ l.invariant.stay (done.told t) name;
       leads = leads_on (H.tells l.shelf) tells shelf (part_checked r) r.frontiers l.part-index x low is done.told l.invariant.leads (is_in x.0) (looks_own_part r x)
-          (all_by (Apart x) _ _ (looks_other_part r x) (behind_pairs Apart r.frontiers l.part-index x low is (parts_apart r all.ensures.limits)))
+          (All-weaker (Apart x) _ (looks_other_part r x) _ (behind_pairs Apart r.frontiers l.part-index x low is (parts_apart r all.ensures.limits)))
           (part_passes tells shelf r x q c.in_ok-asked.ensures (subst (AnswersBeside tells shelf (λ files. frontier_checked x.0 q files x.1)) c.in_default.is answer));
     }
 

@@ -4,9 +4,10 @@ use Rattle.std.specs.Str.Parse.{digits_value}
 use Rattle.std.proofs.lemmas.Bool.{eqb-true}
 use Rattle.text_lines.specs.Line.{row_at}
 use Rattle.report_form.specs.Tests.{is_within, comes_next}
+use Rattle.report_form.proofs.Shapes.{unknown}
 use Rattle.report_lines.specs.Asking.{asks}
 use Rattle.report_lines.specs.Wide.{candidate_of}
-use Rattle.frontier_report.proofs.ListedLines.{unknown, unknown_is}
+use Rattle.frontier_report.proofs.ListedLines.{unknown_is}
 use Rattle.report_lines.proofs.Ruled.{tested_in, ruled_out_second, ruled_out_third, ruled_in_third}
 use Rattle.frontier_report.proofs.listed.unknown_on.Goals as goal
 

@@ -1,9 +1,9 @@
 use Rattle.std.proofs.Common.{◌≡◌, [], ◌++◌, ap, sym, ◌∙◌, append_assoc, option_map, rules}
 use Rattle.std.specs.Prelude.{codes}
 use Rattle.text_lines.specs.Text.{line}
+use Rattle.topology_text.specs.Spelling.{head_words}
 use Rattle.serde_json.specs.View.{view}
 use Rattle.json_values.specs.Shape.{name_in, list_in}
-use Rattle.json_values.specs.TopologyJson.{header_line}
 use Rattle.json_values.proofs.Lines.{tokens_listed, tokens_refused, line_closed, behind_line, refused_on}
 use Rattle.json_values.proofs.topology_reading.push_front.Goals as goal
 
@@ -14,7 +14,7 @@ returns-in_err-push_list c =
 pub returns : goal.returns
 returns c =
     let old = c.args.out.now.items in
-    let head = header_line c.args.patterned in
+    let head = head_words c.args.patterned in
     let first = c.push_word.new.out.items in
     let begun : first ≡ (old ++ line head) ++ (codes "nodes" ++ []) =
     c.in_ok-push_word.ensures.appended ∙ ap (λ t. old ++ t) c.front_of.ensures ∙ sym (append_assoc old (line head) (codes "nodes")) in

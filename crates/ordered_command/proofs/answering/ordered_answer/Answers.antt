@@ -4,7 +4,7 @@ use Rattle.run_rules.specs.Read.{IsSearchAs}
 use Rattle.run_rules.specs.Tasks.{Order, order_asked, search_asked}
 use Rattle.run_rules.proofs.Answered.{refused_alone, refused_behind}
 use Rattle.run_rules.proofs.Sought.{same_kind}
-use Rattle.ordered_command.proofs.Asked.{order_due}
+use Rattle.ordered_command.proofs.OrderDue.{order_due}
 use Rattle.ordered_command.proofs.answering.ordered_answer.Goals as goal
 
 pub search_answer-requires-clause-single : goal.search_answer-requires-clause-single

@@ -1,6 +1,6 @@
 use Rattle.std.proofs.Common.{◌≡◌, ◌++◌, map, take}
 use Rattle.std.specs.Prelude.{decimal}
-use Rattle.report_printing.specs.Printed.{fields}
+use Rattle.text_lines.specs.Text.{fields}
 use Rattle.report_printing.proofs.printing.push_numbers.Given as goal
 
 abbrev pub invariant-loop-number : goal.invariant-loop-number

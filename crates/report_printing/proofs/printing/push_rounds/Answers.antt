@@ -1,6 +1,6 @@
 use Rattle.std.proofs.Common.{◌++◌, ◌∙◌, ap, map}
 use Rattle.std.specs.Prelude.{codes, decimal}
-use Rattle.report_printing.specs.Printed.{fields}
+use Rattle.text_lines.specs.Text.{fields}
 use Rattle.report_printing.proofs.Pieces.{before, line_is}
 use Rattle.report_printing.proofs.printing.push_rounds.Goals as goal
 

@@ -1,20 +1,18 @@
 use Rattle.std.proofs.Common.{refl, subst, sym, arith, Contains}
 use Rattle.outer_ports.specs.declared.part.Part.TheVariants.{Gather}
-use Rattle.report_search.proofs.Beginning.{breaks_off_later}
+use Rattle.candidate_formula.proofs.BegunFiles.{begun_trans}
 use Rattle.report_search.proofs.BothReport.{both_prove, both_right, both_searched}
-use Rattle.report_search.proofs.PartAsked.{two_parts}
+use Rattle.report_search.proofs.PartQuestions.{two_parts}
 use Rattle.report_search.proofs.both.search_both.Goals as goal
 
 pub part_frontier-requires-2-clause-part : goal.part_frontier-requires-2-clause-part
 part_frontier-requires-2-clause-part g c = subst (λ parts. Contains parts Gather) (sym (two_parts c.args.words.collective.kind c.requires.kind)) (1, omega arith, refl)
 
 pub returns-in_err-gather-clause-begun : goal.returns-in_err-gather-clause-begun
-returns-in_err-gather-clause-begun g c = λ told.
-    breaks_off_later c.args.words c.args.topology _ (g.H.Shelf.file c.part_frontier.new.shelf) _ (c.part_frontier.ensures.begun (c.part_frontier-2.ensures.told told)) (c.part_frontier-2.ensures.begun told)
+returns-in_err-gather-clause-begun g c = λ told. begun_trans (c.part_frontier.ensures.begun (c.part_frontier-2.ensures.told told)) (c.part_frontier-2.ensures.begun told)
 
 pub returns-in_err-report-clause-begun : goal.returns-in_err-report-clause-begun
-returns-in_err-report-clause-begun g c = λ told.
-    breaks_off_later c.args.words c.args.topology _ (g.H.Shelf.file c.part_frontier.new.shelf) _ (c.part_frontier.ensures.begun (c.part_frontier-2.ensures.told told)) (c.part_frontier-2.ensures.begun told)
+returns-in_err-report-clause-begun g c = λ told. begun_trans (c.part_frontier.ensures.begun (c.part_frontier-2.ensures.told told)) (c.part_frontier-2.ensures.begun told)
 
 pub returns-clause-right : goal.returns-clause-right
 returns-clause-right g c =
@@ -30,5 +28,4 @@ returns-clause-proves g c = λ told.
     (c.in_ok-gather.ensures.shelved told)
 
 pub returns-clause-begun : goal.returns-clause-begun
-returns-clause-begun g c = λ told.
-    breaks_off_later c.args.words c.args.topology _ (g.H.Shelf.file c.part_frontier.new.shelf) _ (c.part_frontier.ensures.begun (c.part_frontier-2.ensures.told told)) (c.part_frontier-2.ensures.begun told)
+returns-clause-begun g c = λ told. begun_trans (c.part_frontier.ensures.begun (c.part_frontier-2.ensures.told told)) (c.part_frontier-2.ensures.begun told)

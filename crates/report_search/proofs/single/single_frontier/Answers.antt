@@ -1,6 +1,6 @@
 use Rattle.std.proofs.Common.{◌∙◌}
 use Rattle.candidate_order.specs.Frontiers.{QuestionValue}
-use Rattle.engine_search.proofs.Asked.{made_for}
+use Rattle.engine_search.proofs.Searched.{made_for}
 use Rattle.engine_search.proofs.Found.{found_with}
 use Rattle.report_search.proofs.Recorded.{alike, begun_for, shelved_for}
 use Rattle.report_search.proofs.single.single_frontier.Goals as goal
@@ -9,7 +9,7 @@ pub returns-in_err-frontier-clause-begun : goal.returns-in_err-frontier-clause-b
 returns-in_err-frontier-clause-begun g c =
     let q : QuestionValue = record { topology = c.args.topology.now; spec = c.args.spec.now; limits = c.args.limits } in
     let made = made_for q _ _ c.in_ok-engine.ensures.question c.deref.ensures c.in_ok-links.ensures.links in
-    begun_for q _ made c.requires.single c.frontier_by.ensures.moves c.frontier_by.ensures.within c.in_ok-engine.ensures.part
+    begun_for q c.frontier_by.ensures.moves made c.requires.single c.frontier_by.ensures.within c.in_ok-engine.ensures.part
 
 pub returns-clause-found : goal.returns-clause-found
 returns-clause-found g c =
@@ -21,10 +21,10 @@ pub returns-clause-shelved : goal.returns-clause-shelved
 returns-clause-shelved g c =
     let q : QuestionValue = record { topology = c.args.topology.now; spec = c.args.spec.now; limits = c.args.limits } in
     let made = made_for q _ _ c.in_ok-engine.ensures.question c.deref.ensures c.in_ok-links.ensures.links in
-    shelved_for q _ made c.requires.single c.in_ok-frontier.ensures.recorded c.frontier_by.ensures.moves c.in_ok-frontier.ensures.agrees c.in_ok-frontier.ensures.running c.in_ok-engine.ensures.part
+    shelved_for q c.frontier_by.ensures.moves made c.requires.single c.in_ok-frontier.ensures.recorded c.in_ok-frontier.ensures.agrees c.in_ok-frontier.ensures.running c.in_ok-engine.ensures.part
 
 pub returns-clause-begun : goal.returns-clause-begun
 returns-clause-begun g c =
     let q : QuestionValue = record { topology = c.args.topology.now; spec = c.args.spec.now; limits = c.args.limits } in
     let made = made_for q _ _ c.in_ok-engine.ensures.question c.deref.ensures c.in_ok-links.ensures.links in
-    begun_for q _ made c.requires.single c.frontier_by.ensures.moves c.frontier_by.ensures.within c.in_ok-engine.ensures.part
+    begun_for q c.frontier_by.ensures.moves made c.requires.single c.frontier_by.ensures.within c.in_ok-engine.ensures.part

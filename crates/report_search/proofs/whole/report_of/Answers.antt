@@ -1,6 +1,5 @@
 use Rattle.std.proofs.Common.{[], subst, sym}
-use Rattle.report_form.specs.Reports.{IsReport}
-use Rattle.report_search.specs.Reporting.{whole_report}
+use Rattle.report_form.specs.Reports.{IsReport, whole_report}
 use Rattle.report_search.proofs.WholeReport.{whole_valid}
 use Rattle.report_search.proofs.whole.report_of.Goals as goal
 

@@ -1,7 +1,7 @@
 use Rattle.std.proofs.Common.{◌≡◌, sym, ap, ◌∙◌, subst, arith}
 use Rattle.std.specs.Prelude.{All}
 use Rattle.cnf_formula.specs.Formulas.{IsAbout}
-use Rattle.sat_core.specs.Learned.{IsBacked}
+use Rattle.sat_core.specs.Jumping.{IsBacked}
 use Rattle.sat_core.proofs.Jumping.{backed_within, lower_levels}
 use Rattle.sat_core.proofs.going.go_back.Goals as goal
 use Rattle.sat_core.proofs.going.go_back.Goals.{then-anew, else-anew}

@@ -3,7 +3,7 @@ use Rattle.std.specs.Prelude.{Contains}
 use Rattle.std.proofs.lemmas.List.{take_all}
 use Rattle.cnf_formula.specs.Literals.{LitValue}
 use Rattle.trail_core.specs.Meaning.{trues}
-use Rattle.sat_core.specs.Learned.{AreUpTo}
+use Rattle.sat_core.specs.Jumping.{AreUpTo}
 use Rattle.sat_core.proofs.Jumping.{IsHighest, highest_more}
 use Rattle.sat_core.proofs.going.highest.Goals as goal
 use Rattle.sat_core.proofs.going.highest.Goals.{then-level-top, else-level-top}

@@ -1,5 +1,5 @@
 use Rattle.std.proofs.Common.{◌<◌, take}
-use Rattle.sat_core.specs.Learned.{AreUpTo, HasLevel}
+use Rattle.sat_core.specs.Jumping.{AreUpTo, HasLevel}
 use Rattle.sat_core.proofs.going.highest.Given as goal
 
 abbrev pub invariant-loop-lit : goal.invariant-loop-lit

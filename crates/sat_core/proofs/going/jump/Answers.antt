@@ -5,7 +5,7 @@ use Rattle.cnf_formula.specs.Formulas.{IsAbout}
 use Rattle.trail_core.specs.Search.{IsUnit}
 use Rattle.trail_core.specs.Meaning.{trues}
 use Rattle.trail_core.specs.Kept.{IsDue, CanAdd}
-use Rattle.sat_core.specs.Conflicts.{gone_back}
+use Rattle.sat_core.specs.Jumping.{gone_back}
 use Rattle.sat_core.proofs.Jumping.{IsJump, jump_unit, jump_can, jump_due, backed_some, backed_within, backed_differ, last_is}
 use Rattle.sat_core.proofs.going.jump.Goals as goal
 

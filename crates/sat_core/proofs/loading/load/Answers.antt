@@ -4,7 +4,7 @@ use Rattle.std.proofs.lemmas.List.{take_all, get_or_default, length-take-le}
 use Rattle.std.proofs.lemmas.List.Elements.{Contains-get_or, All-contains}
 use Rattle.cnf_formula.specs.Formulas.{IsClause}
 use Rattle.cnf_formula.specs.Literals.{LitValue}
-use Rattle.sat_core.specs.Learning.{IsSame}
+use Rattle.sat_core.specs.Holding.{IsSame}
 use Rattle.sat_core.specs.Loading.{IsLoaded}
 use Rattle.sat_core.proofs.Loaded.{code_own, kept_about, loaded_more, numbered_more, ready_loaded}
 use Rattle.sat_core.proofs.loading.load.Goals as goal

@@ -1,14 +1,14 @@
 use Rattle.std.proofs.Common.{◌≡◌, ℕ, ◌+◌, ◌<◌, true, List, [], ◌∷◌, ◌++◌, length, get_or, sym, ap, ◌∙◌, subst, arith}
-use Rattle.std.specs.Prelude.{◌≢◌, AllPairs}
+use Rattle.std.specs.Prelude.{◌≢◌, AllPairs, Result, Ok, Err, OnOk}
 use Rattle.std.proofs.lemmas.List.{get_or_default}
+use Rattle.std.proofs.lemmas.Result.{on_ok_weaker}
 use Rattle.cnf_formula.specs.Literals.{LitValue}
 use Rattle.cnf_formula.specs.Formulas.{IsClause}
 use Rattle.trail_core.specs.Meaning.{CoreValue}
-use Rattle.sat_core.specs.declared.awake.Awake.{Awake}
-use Rattle.sat_core.specs.Naming.{IsListed}
-use Rattle.sat_core.specs.Sleeping.{SleepersValue}
+use Rattle.sleeping_clauses.specs.declared.awake.Awake.{Awake}
+use Rattle.sleeping_clauses.specs.Naming.{IsListed}
+use Rattle.sleeping_clauses.specs.Sleeping.{SleepersValue}
 use Rattle.sat_core.proofs.Divided.{dividing_awake, dividing_asleep}
-use Rattle.sat_core.proofs.Found.{ok_as, ok_both}
 use Rattle.sat_core.proofs.resting.divide.Goals as goal
 
 -- the number that is read is the clause's
@@ -30,6 +30,11 @@ about_is core awake place read vars clause l w e is v about =
 once_is : (clauses : List (List LitValue)) (awake : Awake) (place read : ℕ) (clause : List LitValue) → IsListed clauses awake → place < length clauses → read ≡ get_or awake.ids.items place read → clause ≡ get_or clauses read [] → AllPairs (λ a b. a ≢ b) clause
 once_is clauses awake place read clause l w e is = subst (AllPairs (λ a b. a ≢ b)) (sym (clause_is clauses awake place read clause l w e is)) (l.once place w)
 
+-- what a result answers, from two things that it answers
+ok_both : {T E A B C : Type 0} (r : Result T E) → OnOk r A → OnOk r B → (A → B → C) → OnOk r C
+ok_both (Ok x) a b f = f a b
+ok_both (Err e) a b f = tt
+
 pub push-requires-clause-about : goal.push-requires-clause-about
 push-requires-clause-about c = about_is c.args.core.now c.args.awake.now c.args.place c.index.result.now c.args.sleepers.now.vars c.clause-clause.result.now c.requires.listed c.requires.place c.index.ensures (c.clause-clause.ensures []) c.requires.same c.requires.about
 
@@ -43,7 +48,7 @@ pub add_clause-requires-clause-once : goal.add_clause-requires-clause-once
 add_clause-requires-clause-once c = once_is c.args.core.now.clauses c.args.awake.now c.args.place c.index.result.now c.clause-clause.result.now c.requires.listed c.requires.place c.index.ensures (c.clause-clause.ensures [])
 
 pub returns-then-is_idle-clause-divided : goal.returns-then-is_idle-clause-divided
-returns-then-is_idle-clause-divided c = ok_as c.push.result c.push.ensures.added (λ e before d.
+returns-then-is_idle-clause-divided c = on_ok_weaker c.push.result (λ e before d.
     let core = c.args.core.now in
     let awake = c.args.awake.now in
     let s = c.args.sleepers.now in
@@ -52,7 +57,7 @@ returns-then-is_idle-clause-divided c = ok_as c.push.result c.push.ensures.added
     let number = name_is core.clauses awake place c.index-number.result.now c.requires.listed c.requires.place c.index-number.ensures in
     let make : List LitValue → ℕ → SleepersValue = λ x n. record { vars = s.vars; clauses = s.clauses ++ x ∷ []; numbers = s.numbers ++ n ∷ []; asleep = s.asleep ++ true ∷ [] } in
     dividing_asleep core.clauses awake.names.items awake.formula before place c.args.left.now.clauses c.args.named.now s c.push.new.self d c.requires.place (c.is_idle.ensures.learned c.if-is_idle.true) c.push.ensures.numbers c.push.ensures.flags
-    (e ∙ ap (λ x. make x c.index-number.result.now) clause ∙ ap (make (get_or core.clauses place [])) number))
+    (e ∙ ap (λ x. make x c.index-number.result.now) clause ∙ ap (make (get_or core.clauses place [])) number)) c.push.ensures.added
 
 pub returns-clause-divided : goal.returns-clause-divided
 returns-clause-divided c = ok_both c.note.result c.note.ensures.ids c.note.ensures.names (λ ids names before d.

@@ -1,6 +1,6 @@
 use Rattle.std.proofs.Common.{◌≡◌, length}
 use Rattle.sat_core.specs.Dividing.{IsDividing}
-use Rattle.sat_core.specs.Sleeping.{AreFew}
+use Rattle.sleeping_clauses.specs.Sleeping.{AreFew}
 use Rattle.sat_core.proofs.resting.divided.Given as goal
 
 abbrev pub invariant-loop-place : goal.invariant-loop-place

@@ -5,7 +5,7 @@ use Rattle.std.proofs.lemmas.List.{nil_from_length}
 use Rattle.sat_core.proofs.Turning.{positive, IsTurn, turn_accepted, turn_written, turn_refuted, turn_fresh, turn_over, turn_about, none_by}
 use Rattle.sat_core.proofs.Readiness.{ready_used}
 use Rattle.cnf_formula.specs.Formulas.{IsClause}
-use Rattle.sat_core.specs.Naming.{IsName}
+use Rattle.sleeping_clauses.specs.Naming.{IsName}
 use Rattle.sat_core.specs.Ready.{IsReady}
 use Rattle.sat_core.proofs.Hinted.{hints_names}
 use Rattle.sat_core.proofs.Ending.{closed_few}

@@ -1,5 +1,5 @@
 use Rattle.std.proofs.Common.{[], ◌∷◌, ◌++◌, sym, ap, ◌∙◌, subst}
-use Rattle.sat_core.specs.Naming.{IsListed}
+use Rattle.sleeping_clauses.specs.Naming.{IsListed}
 use Rattle.sat_core.specs.Ready.{IsReady}
 use Rattle.sat_core.proofs.Readiness.{ready_same, ready_woken}
 use Rattle.sat_core.proofs.waking.wake.Goals as goal

@@ -1,7 +1,7 @@
 use Rattle.std.proofs.Common.{◌≡◌, ℕ, ◌<◌, false, List, length, get_or}
 use Rattle.cnf_formula.specs.Formulas.{FormulaValue}
 use Rattle.cnf_formula.specs.Lines.{ProofLineValue}
-use Rattle.sat_core.specs.Naming.{IsListed}
+use Rattle.sleeping_clauses.specs.Naming.{IsListed}
 use Rattle.sat_core.specs.Ready.{IsReady}
 use Rattle.sat_core.proofs.waking.wake_all.Given as goal
 

@@ -1,8 +1,8 @@
 use Rattle.std.proofs.Common.{◌≡◌, ◌++◌, map}
 use Rattle.std.specs.List.{filter, range_with_len}
+use Rattle.text_lines.specs.Text.{fields}
 use Rattle.schedule.specs.Placed.{holds}
 use Rattle.topology_text.specs.Spelling.{name_at}
-use Rattle.topology_text.proofs.Printed.{fields}
 use Rattle.topology_text.proofs.printing.push_holders.Given as goal
 
 abbrev pub invariant-loop-node : goal.invariant-loop-node

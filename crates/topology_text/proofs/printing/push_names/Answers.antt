@@ -1,6 +1,7 @@
 use Rattle.std.proofs.Common.{take}
 use Rattle.std.specs.Io.{StartsWith}
-use Rattle.topology_text.proofs.Printed.{fields, kept_behind, at_err}
+use Rattle.text_lines.specs.Text.{fields}
+use Rattle.topology_text.proofs.Printed.{kept_behind, at_err}
 use Rattle.topology_text.proofs.printing.push_names.Goals as goal
 
 pub returns-in_err-push_name-clause-kept : goal.returns-in_err-push_name-clause-kept

@@ -3,10 +3,11 @@ use Rattle.std.proofs.lemmas.List.{get_or-set_other, length-set}
 use Rattle.std.proofs.lemmas.List.Elements.{All-contains, Contains-append_left, Contains-push}
 use Rattle.cnf_formula.specs.Literals.{code_of}
 use Rattle.cnf_formula.specs.Formulas.{IsAbout}
+use Rattle.cnf_formula.proofs.Codes.{same_code, code_within}
 use Rattle.trail_core.specs.Watching.{RowValue}
 use Rattle.trail_core.specs.Kept.{IsKept}
 use Rattle.trail_core.specs.Watching.{IsRow, IsWatched, AreLists, occurrences, watch_count, list_at}
-use Rattle.trail_core.proofs.Watching.{occurs, code_same, code_within}
+use Rattle.trail_core.proofs.Watching.{occurs}
 use Rattle.trail_core.proofs.Keeping.{lits_length}
 use Rattle.trail_core.proofs.Added.{Put, watched_add, watched_more, own_count, put_short, put_two, kept_add, kept_lists, rows_add, shorts_add, shorts_push, Fresh}
 use Rattle.trail_core.proofs.adding.hold.Goals as goal
@@ -29,7 +30,7 @@ add-requires-then-lits-gt1-clause-room c =
     let h = c.if-lits-gt1.true in
     let a = code_of c.watches-first.result.0 in
     let b = code_of c.watches-first.result.1 in
-    let apart : b ≢ a = λ e. c.watches-first.ensures.differ h (code_same c.watches-first.result.0 c.watches-first.result.1 (sym e)) in
+    let apart : b ≢ a = λ e. c.watches-first.ensures.differ h (same_code c.watches-first.result.0 c.watches-first.result.1 (sym e)) in
     let same : list_at c.add.new.self.lists b ≡ list_at old.lists b = ap (λ ls. list_at ls b) c.add.ensures.lists ∙ get_or-set_other n.lists a b (list_at n.lists a ++ c.in_ok-number.number ∷ []) [] apart ∙ ap (λ ls. list_at ls b) c.admit_all.ensures.lists in
     let rooms : get_or c.add.new.self.rooms b 0 ≡ get_or n.rooms b 0 = ap (λ rs. get_or rs b 0) c.add.ensures.rooms in
     let one = occurs c.args.lits.now c.watches-first.result.1 (c.watches-first.ensures.second h) in

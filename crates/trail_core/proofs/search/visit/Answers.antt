@@ -5,11 +5,12 @@ use Rattle.std.proofs.lemmas.List.{length-set}
 use Rattle.std.proofs.lemmas.List.Elements.{All-contains, Contains-push}
 use Rattle.cnf_formula.specs.Literals.{code_of}
 use Rattle.cnf_formula.specs.Formulas.{IsAbout}
+use Rattle.cnf_formula.proofs.Codes.{code_within}
 use Rattle.trail_core.specs.Assigned.{IsFalse, IsOpen}
 use Rattle.trail_core.specs.Trails.{lits_of}
 use Rattle.trail_core.specs.Watching.{ListsValue, no_row, watch_count, row_at, list_at, IsWatched, AreRows}
 use Rattle.trail_core.specs.Search.{Scanned, IsSatisfied}
-use Rattle.trail_core.proofs.Watching.{code_within, entry_watches, watch_within, shifted, shifted_a}
+use Rattle.trail_core.proofs.Watching.{entry_watches, watch_within, shifted, shifted_a}
 use Rattle.trail_core.proofs.Visits.{Pair, IsOther, pair_is, Found, same_lit, other_lit, scanned_same, found_room, found_apart, rewatched, rewatched_is, rewatched_rows, rewatched_scanned, rewatched_not, removed_front, pushed_scanned, lits_push}
 use Rattle.trail_core.proofs.search.visit.Goals as goal
 use Rattle.trail_core.proofs.search.visit.Goals.{then-eq, else-eq}

@@ -1,6 +1,6 @@
 use Rattle.std.proofs.Common.{◌≡◌, ◌+◌, arith, rules}
 use Rattle.node_programs.specs.Runs.{operations}
-use Rattle.point_replay.specs.Showing.{machine_of, shown_in}
+use Rattle.replay_text.specs.Showing.{machine_of, shown_in}
 use Rattle.trial_command.proofs.Numbers.{all_numbered, four_each, four_more, sum_all, sum_more, within_more}
 use Rattle.trial_command.proofs.replays.replay_points.Goals as goal
 

@@ -2,7 +2,7 @@ use Rattle.std.proofs.Common.{◌≡◌, ◌+◌, ◌-◌, ◌*◌, ◌≤◌, l
 use Rattle.std.specs.Prelude.{sum_by}
 use Rattle.node_programs.specs.Runs.{operations}
 use Rattle.report_form.specs.Numbered.{points_of}
-use Rattle.point_replay.specs.Showing.{machine_of, shown_in}
+use Rattle.replay_text.specs.Showing.{machine_of, shown_in}
 use Rattle.trial_command.proofs.replays.replay_points.Given as goal
 
 -- the points before this number were replayed

@@ -3,7 +3,7 @@ use Rattle.candidate_order.specs.Frontiers.{QuestionValue}
 use Rattle.cnf_formula.specs.Formulas.{FormulaValue}
 use Rattle.candidate_formula.specs.Formulas.{formula_for}
 use Rattle.candidate_formula.proofs.Exact.{formula_exact}
-use Rattle.candidate_solver.specs.Asked.{asked}
+use Rattle.candidate_solver.specs.Questions.{asked}
 use Rattle.candidate_solver.proofs.Noting.{right_more, exhausted_more, proved_last}
 use Rattle.candidate_solver.proofs.kept.SatEngine.note.Goals as goal
 

@@ -5,38 +5,30 @@ use Rattle.candidate_order.specs.declared.outcome.Outcome.TheVariants as outcome
 use Rattle.candidate_order.specs.Frontiers.{QuestionValue}
 use Rattle.candidate_formula.specs.Formulas.{formula_for}
 use Rattle.candidate_formula.proofs.Exact.{formula_exact}
-use Rattle.candidate_solver.specs.Asked.{asked}
+use Rattle.candidate_solver.specs.Questions.{asked}
 use Rattle.engine_rules.specs.declared.settled.Settled.{Settled}
 use Rattle.engine_rules.specs.declared.settled.Settled.TheVariants as settled
 use Rattle.engine_rules.specs.Outcomes.{RecordValue, SpentOn}
-use Rattle.candidate_solver.specs.Kept.{HasFiles}
-use Rattle.candidate_solver.proofs.Begun.{begins_refl}
-use Rattle.candidate_solver.proofs.Settling.{EngineValue, IsSettled, settled_moves, settled_agrees, failed_moves}
+use Rattle.candidate_formula.proofs.BegunFiles.{begun_refl}
+use Rattle.candidate_solver.specs.Beside.{beside}
+use Rattle.candidate_solver.specs.Kept.{EngineState, HasFiles}
+use Rattle.candidate_solver.proofs.Settling.{IsSettled, settled_moves, settled_agrees, failed_moves}
 use Rattle.candidate_solver.proofs.Noting.{proved_by, not_solvable}
 use Rattle.candidate_solver.proofs.kept.SatEngineEngine.settle.Goals as goal
 
 pub returns-in_default-clause-moves : goal.returns-in_default-clause-moves
 returns-in_default-clause-moves g c =
-    let T = g.H.Shelf.tells in
-    let F = g.H.Shelf.file in
-    let e = c.args.self.now in
-    let q : QuestionValue = asked e.question in
-    let x = c.args.candidate in
     let store = c.args.store.now in
-    failed_moves e.part q x e.entries.items c.reserve.new.self.items e.stopped (T store) (T store) (F store) (F store) c.reserve.ensures.items c.requires.running
-    (λ t. t) (λ t. begins_refl (formula_for q x) e.part x (F store))
+    let a : EngineState = beside c.args.self.now (g.H.Shelf.tells store) (g.H.Shelf.file store) in
+    failed_moves a c.args.candidate c.reserve.new.self.items a.told a.files c.reserve.ensures.items c.requires.running (λ t. t) (λ t. begun_refl)
 
 pub returns-in-Err-clause-moves : goal.returns-in-Err-clause-moves
 returns-in-Err-clause-moves g c =
     let T = g.H.Shelf.tells in
     let F = g.H.Shelf.file in
-    let e = c.args.self.now in
-    let q : QuestionValue = asked e.question in
-    let x = c.args.candidate in
     let store = c.args.store.now in
     let end = c.try_candidate.new.store in
-    failed_moves e.part q x e.entries.items c.reserve.new.self.items e.stopped (T store) (T end) (F store) (F end) c.reserve.ensures.items c.requires.running
-    c.try_candidate.ensures.told c.try_candidate.ensures.begins
+    failed_moves (beside c.args.self.now (T store) (F store)) c.args.candidate c.reserve.new.self.items (T end) (F end) c.reserve.ensures.items c.requires.running c.try_candidate.ensures.told c.try_candidate.ensures.begins
 
 -- the reserve leaves the record as it was
 pub invariant_of-self-in-Ok-try_candidate : goal.invariant_of-self-in-Ok-try_candidate
@@ -86,18 +78,13 @@ pub returns-in-Ok-try_candidate-clause-moves : goal.returns-in-Ok-try_candidate-
 returns-in-Ok-try_candidate-clause-moves g c =
     let T = g.H.Shelf.tells in
     let F = g.H.Shelf.file in
-    let e = c.args.self.now in
-    let n = c.note.new.self in
     let store = c.args.store.now in
     let end = c.try_candidate.new.store in
-    let a : EngineValue = record { part = e.part; question = asked e.question; entries = e.entries.items; stopped = e.stopped } in
-    let b : EngineValue = record { part = n.part; question = asked n.question; entries = n.entries.items; stopped = n.stopped } in
-    let reserved = c.reserve.ensures.items in
     let entry : Candidate × Settled = (c.args.candidate, c.of.result) in
-    settled_moves a b c.args.candidate c.of.result (T store) (T end) (F store) (F end) (record {
+    settled_moves (beside c.args.self.now (T store) (F store)) (beside c.note.new.self (T end) (F end)) c.args.candidate c.of.result (record {
       part = c.note.ensures.part;
       question = ap asked c.note.ensures.question;
-      entries = c.note.ensures.entries ∙ ap (λ r. r ++ entry ∷ []) reserved;
+      entries = c.note.ensures.entries ∙ ap (λ r. r ++ entry ∷ []) c.reserve.ensures.items;
       running = c.requires.running;
       new = c.requires.fresh;
       tells = c.try_candidate.ensures.told;
@@ -108,22 +95,19 @@ pub returns-in-Ok-try_candidate-clause-agrees : goal.returns-in-Ok-try_candidate
 returns-in-Ok-try_candidate-clause-agrees g c =
     let T = g.H.Shelf.tells in
     let F = g.H.Shelf.file in
-    let e = c.args.self.now in
-    let n = c.note.new.self in
     let store = c.args.store.now in
     let end = c.try_candidate.new.store in
-    let a : EngineValue = record { part = e.part; question = asked e.question; entries = e.entries.items; stopped = e.stopped } in
-    let b : EngineValue = record { part = n.part; question = asked n.question; entries = n.entries.items; stopped = n.stopped } in
-    let reserved = c.reserve.ensures.items in
+    let a : EngineState = beside c.args.self.now (T store) (F store) in
+    let b : EngineState = beside c.note.new.self (T end) (F end) in
     let entry : Candidate × Settled = (c.args.candidate, c.of.result) in
-    let s : IsSettled a b c.args.candidate c.of.result (T store) (T end) (F store) (F end) = record {
+    let s : IsSettled a b c.args.candidate c.of.result = record {
       part = c.note.ensures.part;
       question = ap asked c.note.ensures.question;
-      entries = c.note.ensures.entries ∙ ap (λ r. r ++ entry ∷ []) reserved;
+      entries = c.note.ensures.entries ∙ ap (λ r. r ++ entry ∷ []) c.reserve.ensures.items;
       running = c.requires.running;
       new = c.requires.fresh;
       tells = c.try_candidate.ensures.told;
       begins = c.try_candidate.ensures.begins;
     } in
-    settled_agrees a b c.args.candidate c.of.result (T store) (T end) (F store) (F end) s c.requires.agrees
-    (λ t. subst (λ kind. HasFiles a.part a.question (F end) (c.args.candidate, kind)) (sym c.of.ensures) (c.in-Ok-try_candidate.ensures.files t))
+    settled_agrees a b c.args.candidate c.of.result s c.requires.agrees
+    (λ t. subst (λ kind. HasFiles a.part a.question b.files (c.args.candidate, kind)) (sym c.of.ensures) (c.in-Ok-try_candidate.ensures.files t))

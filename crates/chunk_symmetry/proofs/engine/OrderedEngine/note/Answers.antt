@@ -1,7 +1,7 @@
 use Rattle.candidate_order.specs.declared.candidate.Candidate.{Candidate}
 use Rattle.candidate_order.specs.Frontiers.{QuestionValue}
 use Rattle.cnf_formula.specs.Formulas.{FormulaValue}
-use Rattle.candidate_solver.specs.Asked.{asked}
+use Rattle.candidate_solver.specs.Questions.{asked}
 use Rattle.candidate_solver.proofs.Noting.{right_more, exhausted_more, proved_last}
 use Rattle.chunk_order.specs.Formulas.{ordered_formula_for}
 use Rattle.chunk_order.proofs.Exact.{ordered_exact}

@@ -2,7 +2,7 @@ use Rattle.std.proofs.Common.{◌≡◌, sym, ap, subst}
 use Rattle.candidate_order.specs.declared.outcome.Outcome.TheVariants as outcome
 use Rattle.candidate_order.specs.Frontiers.{QuestionValue}
 use Rattle.chunk_order.specs.Formulas.{ordered_formula_for, OrderedFor}
-use Rattle.candidate_solver.specs.Asked.{asked}
+use Rattle.candidate_solver.specs.Questions.{asked}
 use Rattle.candidate_solver.proofs.Noting.{proved_by, not_solvable}
 use Rattle.chunk_order.proofs.Exact.{ordered_exact}
 use Rattle.chunk_symmetry.proofs.Engines.{spent_same}

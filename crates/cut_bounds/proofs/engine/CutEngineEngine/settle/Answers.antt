@@ -1,12 +1,13 @@
 use Rattle.std.proofs.Common.{◌≡◌, ◌<◌, [], ◌∷◌, ◌++◌, None, sym, ap, ◌∙◌, subst, rules}
 use Rattle.std.proofs.lemmas.Bool.{false≢true}
+use Rattle.std.proofs.lemmas.Option.{none-some}
 use Rattle.candidate_order.specs.declared.candidate.Candidate.{Candidate}
 use Rattle.candidate_order.specs.Frontiers.{QuestionValue, IsWithin}
 use Rattle.engine_rules.specs.declared.settled.Settled.{Settled}
 use Rattle.engine_rules.specs.Outcomes.{IsNew, RecordValue, SolvesTightly}
 use Rattle.node_cuts.specs.Tables.{table_of}
 use Rattle.cut_bounds.specs.Cutting.{cut_for, cuts_of, uncut_entries}
-use Rattle.cut_bounds.proofs.Noting.{cuts_same, exhausted_by, no_some, not_cut, refutes_more, refutes_on, refutes_same, right_by, still_new, uncut_more, within_more, within_on, within_same}
+use Rattle.cut_bounds.proofs.Noting.{cuts_same, exhausted_by, not_cut, refutes_more, refutes_on, refutes_same, right_by, still_new, uncut_more, within_more, within_on, within_same}
 use Rattle.cut_bounds.proofs.engine.CutEngineEngine.settle.Goals as goal
 
 pub settle-requires-clause-fresh : goal.settle-requires-clause-fresh
@@ -47,7 +48,7 @@ invariant_of-self g c =
       within = within_same p now more added (within_more p entries x kind (subst (λ (r : QuestionValue). IsWithin r x) (sym first) c.requires.within) (within_on p q entries asked e.within));
       kept = kept;
       listed = e.listed ∙ ap (λ (r : QuestionValue). cuts_of r entries) (sym asked) ∙ sym (cuts_same p entries x kind not_listed) ∙ ap (cuts_of p) (sym added);
-      stops = λ y at. absurd (no_some (view.stopped inner) y c.in-Ok.ensures.running at);
+      stops = λ y at. absurd (none-some y (sym c.in-Ok.ensures.running ∙ at));
       refutes = refutes;
       right = right_by p now (view.entries inner) kept (g.met.E.EngineView.copies inner) (g.met.E.EngineView.right inner);
       exhausted = exhausted_by p (view.formula inner) now (view.entries inner) kept refutes (g.met.E.EngineView.exhausted inner);

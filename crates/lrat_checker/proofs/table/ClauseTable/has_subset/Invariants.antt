@@ -1,10 +1,11 @@
 use Rattle.std.proofs.Common.{◌≡◌, true, false, take, map}
 use Rattle.std.specs.List.{list_any}
 use Rattle.cnf_formula.specs.Literals.{LitValue, has_literal, code_of}
-use Rattle.lrat_checker.specs.Stored.{list_at, covers}
+use Rattle.lrat_checker.specs.Leads.{signature_of}
+use Rattle.lrat_checker.specs.Stored.{list_at, finds}
 use Rattle.lrat_checker.proofs.table.ClauseTable.has_subset.Given as goal
 
 abbrev pub invariant-loop-lit : goal.invariant-loop-lit
 invariant-loop-lit l =
     let i = l.self-inside in
-    (x : LitValue) → has_literal (take l.lit-index l.lits) x ≡ true → list_any (covers i.live.items (map (λ v. v.items) i.clauses.items) l.lits) (list_at (map (λ v. v.items) i.leads.items) (code_of x)) ≡ false
+    (x : LitValue) → has_literal (take l.lit-index l.lits) x ≡ true → list_any (finds i.live.items (map (λ v. v.items) i.clauses.items) l.lits (signature_of l.lits)) (list_at (map (λ v. v.items) i.leads.items) (code_of x)) ≡ false

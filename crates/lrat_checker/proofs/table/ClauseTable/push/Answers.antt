@@ -1,10 +1,10 @@
-use Rattle.std.proofs.Common.{◌≡◌, ◌<◌, ℕ, Bool, List, [], ◌∷◌, ◌++◌, length, map, sym, ap, ◌∙◌, subst, arith}
+use Rattle.std.proofs.Common.{◌≡◌, ◌<◌, ℕ, Bool, List, [], ◌∷◌, ◌++◌, length, map, refl, sym, ap, ◌∙◌, subst, arith}
 use Rattle.std.proofs.lemmas.List.{map_push, length-map}
 use Rattle.std.specs.Prelude.{Contains, if◌then◌else◌}
 use Rattle.cnf_formula.specs.Literals.{LitValue, code_of}
 use Rattle.cnf_formula.specs.Formulas.{IsClause}
 use Rattle.proof_rules.specs.Held.{Entry}
-use Rattle.lrat_checker.specs.Stored.{TableValue, held_of, last_of, list_at}
+use Rattle.lrat_checker.specs.Stored.{TableValue, held_of, last_of, list_at, led_as}
 use Rattle.lrat_checker.proofs.Placed.{held_push, last_push}
 use Rattle.lrat_checker.proofs.Noted.{indexed_push, led_push, stored_grown, stored_push}
 use Rattle.lrat_checker.proofs.Led.{lead_within}
@@ -16,6 +16,16 @@ note-requires c =
     let lits = c.args.lits.now in
     let about : IsClause i.vars lits = subst (λ n. IsClause n lits) (sym (ap (λ t. t.vars) c.self.view_is)) c.requires.about in
     omega (arith, lead_within i.vars lits c.lead_of-lead.result about c.lead_of-lead.ensures, c.self.invariant.led.long, length-map i.leads.items (λ v. v.items))
+
+pub invariant_of-self-in_err-note_literals : goal.invariant_of-self-in_err-note_literals
+invariant_of-self-in_err-note_literals c =
+    let i = c.self.inside in
+    let lists = map (λ v. v.items) i.lists.items in
+    let lists' = map (λ v. v.items) c.note_literals.new.lists.items in
+    let leads = map (λ v. v.items) i.leads.items in
+    let long : length lists' ≡ length lists = omega (arith, length-map c.note_literals.new.lists.items (λ v. v.items), length-map i.lists.items (λ v. v.items), c.note_literals.ensures.long) in
+    let s = stored_grown i.vars i.ids.items i.live.items (map (λ v. v.items) i.clauses.items) lists lists' leads leads c.self.invariant long c.note_literals.ensures.kept refl (λ code x h. h) in
+    rw (c.in_ok-reserve.ensures.items, c.in_ok-reserve-2.ensures.items, c.in_ok-reserve-3.ensures.items) s
 
 pub invariant_of-self-in_err-note : goal.invariant_of-self-in_err-note
 invariant_of-self-in_err-note c =
@@ -45,7 +55,8 @@ invariant_of-self-2 c =
     let wide : length leads ≡ length led = omega (arith, length-map c.note.new.lists.items (λ v. v.items), length-map i.leads.items (λ v. v.items), c.note.ensures.long) in
     let place : c.len-place.result ≡ length clauses = omega (arith, c.len-place.ensures, ap length c.in_ok-reserve.ensures.items, c.self.invariant.many) in
     let indexed = indexed_push i.vars i.live.items clauses old lists lits c.args.held c.self.invariant.indexed (omega (arith, c.self.invariant.lives, c.self.invariant.many)) long c.note_literals.ensures.kept (λ l h. subst (Contains (list_at lists (code_of l))) place (c.in_ok-note_literals.ensures.noted l h)) in
-    let leading = led_push i.vars clauses led leads lits c.lead_of-lead.result c.self.invariant.led wide c.note.ensures.kept c.lead_of-lead.ensures (subst (Contains (list_at leads c.lead_of-lead.result)) place c.in_ok-note.ensures.noted) in
+    let is : record { place = c.len-place.result; signature = c.signature_of-signature.result } ≡ led_as (length clauses) lits = λ i. record { place = place i; signature = c.signature_of-signature.ensures i } in
+    let leading = led_push i.vars clauses led leads lits c.lead_of-lead.result c.self.invariant.led wide c.note.ensures.kept c.lead_of-lead.ensures (subst (Contains (list_at leads c.lead_of-lead.result)) is c.in_ok-note.ensures.noted) in
     let s = stored_push i.vars i.ids.items i.live.items clauses old lists led leads id lits c.args.held c.self.invariant above about indexed leading in
     rw (ids, live, more) s
 

@@ -1,6 +1,6 @@
 use Rattle.std.proofs.Common.{◌≡◌, ◌<◌, [], ◌∷◌, ◌++◌, map, length, get_or, set, sym, ap, ◌∙◌, arith}
 use Rattle.std.proofs.lemmas.List.{map-set, length-map}
-use Rattle.trail_core.proofs.Maps.{at_map, same_map}
+use Rattle.list_laws.proofs.Fronts.{at_map, same_map}
 use Rattle.trail_core.proofs.lists.WatchLists.add.Goals as goal
 
 pub returns-clause-lists : goal.returns-clause-lists

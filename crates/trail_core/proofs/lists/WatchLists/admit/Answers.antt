@@ -1,30 +1,30 @@
 use Rattle.std.proofs.Common.{◌≡◌, ◌<◌, ◌≤◌, [], map, length, get_or, set, refl, sym, ap, subst, ◌∙◌, arith}
 use Rattle.std.proofs.lemmas.List.{get_or_read, length-map}
+use Rattle.list_laws.proofs.Fronts.{at_map, same_map}
 use Rattle.cnf_formula.specs.Literals.{code_of}
 use Rattle.trail_core.specs.Watching.{list_at}
-use Rattle.trail_core.proofs.Maps.{at_map, same_map}
 use Rattle.trail_core.proofs.Rooms.{no_less, at_written}
 use Rattle.trail_core.proofs.lists.WatchLists.admit.Goals as goal
 
-pub returns-in_err-reserve-clause-lists : goal.returns-in_err-reserve-clause-lists
-returns-in_err-reserve-clause-lists c =
+pub returns-in_err-make_room-clause-lists : goal.returns-in_err-make_room-clause-lists
+returns-in_err-make_room-clause-lists c =
     let xs = c.self.inside.lists.items in
     let k = c.code-code.result in
     let v : map (λ z. z.items) xs ≡ c.args.self.now.lists = ap (λ w. w.lists) c.self.view_is in
     let r : map (λ z. z.capacity) xs ≡ c.args.self.now.rooms = ap (λ w. w.rooms) c.self.view_is in
     let u : c.self.inside.uses.items ≡ c.args.self.now.uses = ap (λ w. w.uses) c.self.view_is in
     let n : k < length xs = omega (arith, c.code-code.ensures.code, c.requires.known, ap length v, length-map xs (λ z. z.items)) in
-    same_map (λ z. z.items) xs k c.index_mut-list.result.now c.reserve.new.self n c.index_mut-list.ensures.value c.reserve.ensures.items ∙ v
+    same_map (λ z. z.items) xs k c.index_mut-list.result.now c.make_room.new.list n c.index_mut-list.ensures.value c.make_room.ensures.items ∙ v
 
-pub returns-in_err-reserve-clause-rooms : goal.returns-in_err-reserve-clause-rooms
-returns-in_err-reserve-clause-rooms c = λ m.
+pub returns-in_err-make_room-clause-rooms : goal.returns-in_err-make_room-clause-rooms
+returns-in_err-make_room-clause-rooms c = λ m.
     let xs = c.self.inside.lists.items in
     let k = c.code-code.result in
     let v : map (λ z. z.items) xs ≡ c.args.self.now.lists = ap (λ w. w.lists) c.self.view_is in
     let r : map (λ z. z.capacity) xs ≡ c.args.self.now.rooms = ap (λ w. w.rooms) c.self.view_is in
     let u : c.self.inside.uses.items ≡ c.args.self.now.uses = ap (λ w. w.uses) c.self.view_is in
     let n : k < length xs = omega (arith, c.code-code.ensures.code, c.requires.known, ap length v, length-map xs (λ z. z.items)) in
-    subst (λ ys. get_or ys m 0 ≤ get_or (map (λ z. z.capacity) (set xs k c.reserve.new.self)) m 0) r (no_less (λ z. z.capacity) xs k c.index_mut-list.result.now c.reserve.new.self n c.index_mut-list.ensures.value c.reserve.ensures.capacity m)
+    subst (λ ys. get_or ys m 0 ≤ get_or (map (λ z. z.capacity) (set xs k c.make_room.new.list)) m 0) r (no_less (λ z. z.capacity) xs k c.index_mut-list.result.now c.make_room.new.list n c.index_mut-list.ensures.value c.make_room.ensures.capacity m)
 
 pub returns-clause-lists : goal.returns-clause-lists
 returns-clause-lists c =
@@ -34,7 +34,7 @@ returns-clause-lists c =
     let r : map (λ z. z.capacity) xs ≡ c.args.self.now.rooms = ap (λ w. w.rooms) c.self.view_is in
     let u : c.self.inside.uses.items ≡ c.args.self.now.uses = ap (λ w. w.uses) c.self.view_is in
     let n : k < length xs = omega (arith, c.code-code.ensures.code, c.requires.known, ap length v, length-map xs (λ z. z.items)) in
-    same_map (λ z. z.items) xs k c.index_mut-list.result.now c.reserve.new.self n c.index_mut-list.ensures.value c.reserve.ensures.items ∙ v
+    same_map (λ z. z.items) xs k c.index_mut-list.result.now c.make_room.new.list n c.index_mut-list.ensures.value c.make_room.ensures.items ∙ v
 
 pub returns-clause-rooms : goal.returns-clause-rooms
 returns-clause-rooms c = λ m.
@@ -44,7 +44,7 @@ returns-clause-rooms c = λ m.
     let r : map (λ z. z.capacity) xs ≡ c.args.self.now.rooms = ap (λ w. w.rooms) c.self.view_is in
     let u : c.self.inside.uses.items ≡ c.args.self.now.uses = ap (λ w. w.uses) c.self.view_is in
     let n : k < length xs = omega (arith, c.code-code.ensures.code, c.requires.known, ap length v, length-map xs (λ z. z.items)) in
-    subst (λ ys. get_or ys m 0 ≤ get_or (map (λ z. z.capacity) (set xs k c.reserve.new.self)) m 0) r (no_less (λ z. z.capacity) xs k c.index_mut-list.result.now c.reserve.new.self n c.index_mut-list.ensures.value c.reserve.ensures.capacity m)
+    subst (λ ys. get_or ys m 0 ≤ get_or (map (λ z. z.capacity) (set xs k c.make_room.new.list)) m 0) r (no_less (λ z. z.capacity) xs k c.index_mut-list.result.now c.make_room.new.list n c.index_mut-list.ensures.value c.make_room.ensures.capacity m)
 
 pub returns-clause-ok : goal.returns-clause-ok
 returns-clause-ok c =
@@ -55,6 +55,5 @@ returns-clause-ok c =
     let u : c.self.inside.uses.items ≡ c.args.self.now.uses = ap (λ w. w.uses) c.self.view_is in
     let n : k < length xs = omega (arith, c.code-code.ensures.code, c.requires.known, ap length v, length-map xs (λ z. z.items)) in
     let known : c.index-uses.result.now ≡ get_or c.args.self.now.uses (code_of c.args.lit) 0 = get_or_read c.self.inside.uses.items k c.index-uses.result.now (omega (arith, c.code-code.ensures.code, c.requires.uses, ap length u)) c.index-uses.ensures 0 ∙ ap (λ ys. get_or ys k 0) u ∙ ap (λ m. get_or c.args.self.now.uses m 0) c.code-code.ensures.code in
-    let written : get_or (map (λ z. z.capacity) (set xs k c.reserve.new.self)) (code_of c.args.lit) 0 ≡ c.reserve.new.self.capacity = ap (λ m. get_or (map (λ z. z.capacity) (set xs k c.reserve.new.self)) m 0) (sym c.code-code.ensures.code) ∙ at_written (λ z. z.capacity) xs k c.reserve.new.self n in
-    let few : length (list_at c.args.self.now.lists (code_of c.args.lit)) ≡ length c.index_mut-list.result.now.items = ap length (ap (λ m. list_at c.args.self.now.lists m) (sym c.code-code.ensures.code) ∙ ap (λ ys. get_or ys k []) (sym v) ∙ at_map (λ z. z.items) xs k c.index_mut-list.result.now [] n c.index_mut-list.ensures.value) in
-    (rw (u, known, c.code-code.ensures.code) refl, omega (arith, written, known, c.in_ok-reserve.ensures.ok, c.requires.few, few, c.len.ensures.value, ap length c.reserve.ensures.items))
+    let written : get_or (map (λ z. z.capacity) (set xs k c.make_room.new.list)) (code_of c.args.lit) 0 ≡ c.make_room.new.list.capacity = ap (λ m. get_or (map (λ z. z.capacity) (set xs k c.make_room.new.list)) m 0) (sym c.code-code.ensures.code) ∙ at_written (λ z. z.capacity) xs k c.make_room.new.list n in
+    (rw (u, known, c.code-code.ensures.code) refl, omega (arith, written, known, c.in_ok-make_room.ensures.ok))

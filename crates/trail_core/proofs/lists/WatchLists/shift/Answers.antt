@@ -1,9 +1,9 @@
 use Rattle.std.proofs.Common.{◌≡◌, ◌≢◌, ◌<◌, [], map, length, get_or, set, refl, sym, ap, ◌∙◌, arith}
 use Rattle.std.specs.Prelude.{slice_index}
 use Rattle.std.proofs.lemmas.List.{map-set, get_or_read, length-map, length-set, get_or-set_other}
+use Rattle.list_laws.proofs.Fronts.{at_map, same_map}
 use Rattle.cnf_formula.specs.Literals.{code_of}
 use Rattle.trail_core.specs.Watching.{list_at}
-use Rattle.trail_core.proofs.Maps.{at_map, same_map}
 use Rattle.trail_core.proofs.lists.WatchLists.shift.Goals as goal
 
 pub returns-clause-lists : goal.returns-clause-lists

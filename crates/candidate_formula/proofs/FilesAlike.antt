@@ -1,0 +1,48 @@
+-- The files of a candidate prove the same where they stay, and of another question whose formula it has.
+use Rattle.std.proofs.Common.{◌≡◌, ℕ, ap, ◌∙◌, subst}
+use Rattle.std.specs.Prelude.{Some}
+use Rattle.outer_ports.specs.declared.part.Part.{Part}
+use Rattle.outer_ports.specs.declared.proof_name.FileKind.{FileKind}
+use Rattle.outer_ports.specs.declared.proof_name.FileKind.TheVariants.{Cnf, Lrat, Partial}
+use Rattle.outer_ports.specs.Files.{Files}
+use Rattle.candidate_order.specs.declared.candidate.Candidate.{Candidate}
+use Rattle.candidate_order.specs.Frontiers.{QuestionValue}
+use Rattle.proof_rules.specs.Refuting.{Refutes, SpentLog}
+use Rattle.lrat_text.specs.Printing.{cnf_text}
+use Rattle.candidate_formula.specs.Files.{file_of, SolvedFiles, RefutedFiles, UnknownFiles}
+use Rattle.candidate_formula.specs.Formulas.{formula_for}
+
+module _ (part : Part) (p q : QuestionValue) (before after : Files) (x : Candidate) (same : formula_for p x ≡ formula_for q x) (stay : (kind : FileKind) → after (file_of kind part x) ≡ before (file_of kind part x)) where
+  formula_alike : before (file_of Cnf part x) ≡ Some (cnf_text (formula_for p x)) → after (file_of Cnf part x) ≡ Some (cnf_text (formula_for q x))
+  formula_alike has = stay Cnf ∙ has ∙ ap (λ f. Some (cnf_text f)) same
+
+  pub solved_alike : SolvedFiles part p before x → SolvedFiles part q after x
+  solved_alike has = record { formula = formula_alike has.formula; no_proof = stay Lrat ∙ has.no_proof; no_log = stay Partial ∙ has.no_log }
+
+  pub refuted_alike : RefutedFiles part p before x → RefutedFiles part q after x
+  refuted_alike has =
+      let r = has.refutation in
+      let h = r.holds in
+      record {
+        refutation = record {
+          formula = formula_alike r.formula;
+          lines = r.lines;
+          holds = record { bytes = h.bytes; found = stay Lrat ∙ h.found; short = h.short; reads = h.reads };
+          refutes = subst (Refutes r.lines) same r.refutes;
+        };
+        no_log = stay Partial ∙ has.no_log;
+      }
+
+  pub unknown_alike : (conflicts : ℕ) → p.limits ≡ q.limits → UnknownFiles part p before (record { candidate = x; conflicts = conflicts }) → UnknownFiles part q after (record { candidate = x; conflicts = conflicts })
+  unknown_alike conflicts limits has =
+      let h = has.log.holds in
+      let spent = subst (λ f. SpentLog has.log.lines f p.limits.conflicts) same has.log.spent in
+      record {
+        formula = formula_alike has.formula;
+        no_proof = stay Lrat ∙ has.no_proof;
+        log = record {
+          lines = has.log.lines;
+          holds = record { bytes = h.bytes; found = stay Partial ∙ h.found; short = h.short; reads = h.reads };
+          spent = subst (λ l. SpentLog has.log.lines (formula_for q x) l.conflicts) limits spent;
+        };
+      }

@@ -1,0 +1,61 @@
+-- Levels of places, and where levels begin.
+use Rattle.std.proofs.Common.{◌≡◌, ℕ, ◌<◌, ◌≤◌, List, [], ◌∷◌, length, get_or, cond, leb, ap, ⊎_elim, arith}
+use Rattle.std.specs.Prelude.{Contains}
+use Rattle.std.proofs.lemmas.Bool.{le-leb, lt-leb, cases_lt}
+use Rattle.std.proofs.lemmas.List.Sums.{sum_by-cons}
+use Rattle.trail_core.specs.Assigned.{AreLimits, level_at}
+use Rattle.conflict_analysis.proofs.Members.{cons_cases}
+
+one : (m k : ℕ) → m ≤ k → cond {A = ℕ} (leb m k) 1 0 ≡ 1
+one m k w = ap (λ b. cond {A = ℕ} b 1 0) (le-leb m k w)
+
+none : (m k : ℕ) → k < m → cond {A = ℕ} (leb m k) 1 0 ≡ 0
+none m k w = ap (λ b. cond {A = ℕ} b 1 0) (lt-leb m k w)
+
+-- a higher place counts no less
+grows : (m p k : ℕ) → p ≤ k → cond {A = ℕ} (leb m p) 1 0 ≤ cond {A = ℕ} (leb m k) 1 0
+grows m p k w = ⊎_elim
+    (λ h. let a = none m p h in omega (arith, a))
+    (λ h. let a = one m p h in let b = one m k (omega (arith, h, w)) in omega (arith, a, b))
+    (cases_lt p m)
+
+pub level_grows : (limits : List ℕ) (p k : ℕ) → p ≤ k → level_at limits p ≤ level_at limits k
+level_grows [] p k w = omega arith
+level_grows (m ∷ limits) p k w =
+    let a = grows m p k w in
+    let r = level_grows limits p k w in
+    let x = sum_by-cons (λ n. cond {A = ℕ} (leb n p) 1 0) m limits in
+    let y = sum_by-cons (λ n. cond {A = ℕ} (leb n k) 1 0) m limits in
+    omega (arith, a, r, x, y)
+
+-- a place below the first of a level has a lower level
+pub level_below : (limits : List ℕ) (p k : ℕ) → p < k → Contains limits k → level_at limits p < level_at limits k
+level_below [] p k w c = absurd (omega (arith, c.1))
+level_below (m ∷ limits) p k w c =
+    let x = sum_by-cons (λ n. cond {A = ℕ} (leb n p) 1 0) m limits in
+    let y = sum_by-cons (λ n. cond {A = ℕ} (leb n k) 1 0) m limits in
+    ⊎_elim
+    (λ e.
+    let a = none m p (omega (arith, e, w)) in
+    let b = one m k (omega (arith, e)) in
+    let r = level_grows limits p k (omega (arith, w)) in
+    omega (arith, a, b, r, x, y))
+    (λ d.
+    let a = grows m p k (omega (arith, w)) in
+    let r = level_below limits p k w d in
+    omega (arith, a, r, x, y))
+    (cons_cases m limits k c)
+
+-- where a level begins it is not level 0
+pub some_level : (limits : List ℕ) (k : ℕ) → Contains limits k → level_at limits k ≡ 0 → ⊥
+some_level [] k c z = omega (arith, c.1)
+some_level (m ∷ limits) k c z =
+    let y = sum_by-cons (λ n. cond {A = ℕ} (leb n k) 1 0) m limits in
+    ⊎_elim (λ e. let b = one m k (omega (arith, e)) in omega (arith, b, y, z)) (λ d. some_level limits k d (omega (arith, y, z))) (cons_cases m limits k c)
+
+-- a level begins no higher than one after it
+pub limits_rise : (limits : List ℕ) (len i j : ℕ) → AreLimits limits len → i ≤ j → j < length limits → get_or limits i 0 ≤ get_or limits j 0
+limits_rise limits len i j a le w = ⊎_elim
+    (λ lt. let r = a.rising i j lt w in omega (arith, r))
+    (λ ge. let e : i ≡ j = omega (arith, ge, le) in omega (arith, ap (λ k. get_or limits k 0) e))
+    (cases_lt i j)

@@ -1,0 +1,10 @@
+pub mod Members
+pub mod Levels
+pub mod Counted
+pub mod Marked
+pub mod Resolved
+pub mod Waiting
+pub mod Pointed
+pub mod Middle
+pub mod Learned
+pub mod Left

@@ -1,0 +1,303 @@
+-- A literal that is met is marked.
+use Rattle.std.proofs.Common.{◌≡◌, ℕ, ◌+◌, ◌<◌, ◌≤◌, List, [], ◌∷◌, ◌++◌, length, get_or, set, take, refl, sym, ap, ◌∙◌, subst, inl, inr, ⊎_elim, arith}
+use Rattle.std.specs.Prelude.{◌≢◌, ◌⊎◌, Contains, nat_le}
+use Rattle.std.proofs.lemmas.List.Sums.{count_by-le-length}
+use Rattle.std.proofs.lemmas.Bool.{cases_eq, cases_order}
+use Rattle.std.proofs.lemmas.List.{get_or-set_same, get_or-set_other, get_or-map, get_or_default, length-set, take_more, take_all}
+use Rattle.std.proofs.lemmas.List.Elements.{Contains-push, Contains-push_cases, Contains-append_left, Contains-get_or, All-contains}
+use Rattle.std.proofs.lemmas.List.Quantifiers.{all_pairs_push}
+use Rattle.cnf_formula.specs.Literals.{LitValue, negation}
+use Rattle.cnf_formula.specs.Formulas.{IsAbout}
+use Rattle.trail_core.specs.Assigned.{IsFalse, level_at}
+use Rattle.trail_core.specs.Watching.{no_lit}
+use Rattle.trail_core.specs.Meaning.{CoreValue, trues}
+use Rattle.trail_core.specs.Formed.{IsTrail}
+use Rattle.trail_core.proofs.Keeping.{lits_length, negated_twice}
+use Rattle.conflict_analysis.specs.Met.{WalkValue, lit_at, no_step, IsSeen, AreMarks, AreKept, IsSorted, HasMet}
+use Rattle.conflict_analysis.proofs.Members.{here, cons_cases}
+use Rattle.conflict_analysis.proofs.Counted.{waits_more, waits_same}
+
+-- ---- the literal at a place of the trail
+
+pub lit_read : (core : CoreValue) (k : ℕ) (d : LitValue) → k < length core.trail → get_or (trues core) k d ≡ lit_at core k
+lit_read core k d w = get_or-map (λ s. s.lit) core.trail k no_step d w
+
+pub lit_stands : (core : CoreValue) (k : ℕ) → k < length core.trail → Contains (trues core) (lit_at core k)
+lit_stands core k w = (k, omega (arith, w, lits_length core.trail), lit_read core k (lit_at core k) w)
+
+pub lit_about : (core : CoreValue) (k : ℕ) → IsTrail core.vars core.trail core.limits → k < length core.trail → IsAbout core.vars (lit_at core k)
+lit_about core k t w = All-contains (IsAbout core.vars) (trues core) (lit_at core k) t.within (lit_stands core k w)
+
+pub same_place : (core : CoreValue) (i j : ℕ) → IsTrail core.vars core.trail core.limits → i < length core.trail → j < length core.trail → (lit_at core i).var ≡ (lit_at core j).var → i ≡ j
+same_place core i j t v w e = ⊎_elim
+    (λ same. same)
+    (λ o. absurd (⊎_elim (λ lt. apart i j lt v w e) (λ gt. apart j i gt w v (sym e)) o))
+    (cases_order i j)
+  where
+    apart : (a b : ℕ) → a < b → a < length core.trail → b < length core.trail → (lit_at core a).var ≡ (lit_at core b).var → ⊥
+    apart a b lt x y e =
+        t.apart a b no_lit lt (omega (arith, y, lits_length core.trail)) (ap (λ l. l.var) (lit_read core a no_lit x) ∙ e ∙ ap (λ l. l.var) (sym (lit_read core b no_lit y)))
+
+-- where a false literal became so
+pub record IsAt (core : CoreValue) (l : LitValue) (k : ℕ) : Type 0 where
+  pub within : k < length core.trail
+  pub is : lit_at core k ≡ negation l
+  pub var : (lit_at core k).var ≡ l.var
+
+pub false_at : (core : CoreValue) (l : LitValue) → IsFalse (trues core) l → (k : ℕ) × IsAt core l k
+false_at core l c =
+    let w : c.0 < length core.trail = omega (arith, c.1, lits_length core.trail) in
+    let e : lit_at core c.0 ≡ negation l = sym (lit_read core c.0 (negation l) w) ∙ c.2 in
+    (c.0, record { within = w; is = e; var = ap (λ x. x.var) e })
+
+pub at_false : (core : CoreValue) (l : LitValue) (k : ℕ) → IsAt core l k → IsFalse (trues core) l
+at_false core l k a = subst (λ x. Contains (trues core) x) a.is (lit_stands core k a.within)
+
+-- two false literals of one variable are one
+pub false_once : (core : CoreValue) (a b : LitValue) → IsTrail core.vars core.trail core.limits → IsFalse (trues core) a → IsFalse (trues core) b → a.var ≡ b.var → a ≡ b
+false_once core a b t f g e =
+    let i = false_at core a f in
+    let j = false_at core b g in
+    let k = same_place core i.0 j.0 t i.1.within j.1.within (i.1.var ∙ e ∙ sym j.1.var) in
+    sym (negated_twice a) ∙ ap negation (sym i.1.is ∙ ap (lit_at core) k ∙ j.1.is) ∙ negated_twice b
+
+-- ---- marks
+
+-- the mark of the literal at one place is set
+pub record IsMark (core : CoreValue) (k kind : ℕ) : Type 0 where
+  pub within : k < length core.trail
+  pub some : kind ≤ 3
+  pub low : kind ≡ 0 → level_at core.limits k < length core.limits
+  pub top : kind ≡ 1 → (level_at core.limits k ≡ length core.limits) × (0 < length core.limits)
+  pub bottom : kind ≡ 3 → level_at core.limits k ≡ 0
+
+pub mark_same : (core : CoreValue) (marks : List ℕ) (k y : ℕ) → IsTrail core.vars core.trail core.limits → length marks ≡ core.vars + 1 → k < length core.trail → get_or (set marks (lit_at core k).var y) (lit_at core k).var 0 ≡ y
+mark_same core marks k y t len w = let a = lit_about core k t w in get_or-set_same marks (lit_at core k).var y 0 (omega (arith, a.within, len))
+
+pub marked_set : (core : CoreValue) (stamp : ℕ) (marks : List ℕ) (k kind : ℕ) → IsTrail core.vars core.trail core.limits → AreMarks core stamp marks → IsMark core k kind → AreMarks core stamp (set marks (lit_at core k).var (stamp + kind))
+marked_set core stamp marks k kind t m is = record {
+  len = length-set marks u (stamp + kind) ∙ m.len;
+  over = λ v. ⊎_elim (λ e. omega (arith, at v e, is.some)) (λ n. let o = m.over v in omega (arith, o, get_or-set_other marks u v (stamp + kind) 0 n)) (cases_eq v u);
+  placed = λ v w. ⊎_elim (λ e. (k, is.within, sym e)) (λ n. m.placed v (omega (arith, w, get_or-set_other marks u v (stamp + kind) 0 n))) (cases_eq v u);
+  low = λ j w e. ⊎_elim
+      (λ s. let i = place j w s in subst (λ x. level_at core.limits x < length core.limits) i (is.low (omega (arith, at (lit_at core j).var s, e))))
+      (λ n. m.low j w (sym (get_or-set_other marks u (lit_at core j).var (stamp + kind) 0 n) ∙ e))
+      (cases_eq (lit_at core j).var u);
+  top = λ j w e. ⊎_elim
+      (λ s. let i = place j w s in subst (λ x. (level_at core.limits x ≡ length core.limits) × (0 < length core.limits)) i (is.top (omega (arith, at (lit_at core j).var s, e))))
+      (λ n. m.top j w (sym (get_or-set_other marks u (lit_at core j).var (stamp + kind) 0 n) ∙ e))
+      (cases_eq (lit_at core j).var u);
+  bottom = λ j w e. ⊎_elim
+      (λ s. let i = place j w s in subst (λ x. level_at core.limits x ≡ 0) i (is.bottom (omega (arith, at (lit_at core j).var s, e))))
+      (λ n. m.bottom j w (sym (get_or-set_other marks u (lit_at core j).var (stamp + kind) 0 n) ∙ e))
+      (cases_eq (lit_at core j).var u);
+}
+  where
+    u : ℕ
+    u = (lit_at core k).var
+
+    at : (v : ℕ) → v ≡ u → get_or (set marks u (stamp + kind)) v 0 ≡ stamp + kind
+    at v e = ap (λ x. get_or (set marks u (stamp + kind)) x 0) e ∙ mark_same core marks k (stamp + kind) t m.len is.within
+
+    place : (j : ℕ) → j < length core.trail → (lit_at core j).var ≡ u → k ≡ j
+    place j w s = same_place core k j t is.within w (sym s)
+
+-- ---- what is kept
+
+-- a mark of what is kept is no lower than the stamp
+unmet : (stamp : ℕ) (marks : List ℕ) (v u : ℕ) → u ≡ v → get_or marks v 0 < stamp → ((get_or marks u 0 ≡ stamp) ⊎ (get_or marks u 0 ≡ stamp + 2)) → ⊥
+unmet stamp marks v u e low h =
+    let s : get_or marks u 0 ≡ get_or marks v 0 = ap (λ x. get_or marks x 0) e in
+    ⊎_elim (λ a. omega (arith, a, s, low)) (λ b. omega (arith, b, s, low)) h
+
+-- another's mark is as before
+kept_other : (stamp : ℕ) (marks : List ℕ) (v u y : ℕ) → u ≢ v → ((get_or marks u 0 ≡ stamp) ⊎ (get_or marks u 0 ≡ stamp + 2)) → ((get_or (set marks v y) u 0 ≡ stamp) ⊎ (get_or (set marks v y) u 0 ≡ stamp + 2))
+kept_other stamp marks v u y n h =
+    let s = get_or-set_other marks v u y 0 n in
+    ⊎_elim (λ a. inl (s ∙ a)) (λ b. inr (s ∙ b)) h
+
+-- one whose step is resolved is kept no more
+pub kept_drop : (core : CoreValue) (stamp : ℕ) (marks : List ℕ) (lits : List LitValue) (v : ℕ) → v < length marks → AreKept core stamp marks lits → AreKept core stamp (set marks v (stamp + 2)) lits
+kept_drop core stamp marks lits v w k = record {
+  of = λ o c.
+      let h = k.of o c in (
+        ⊎_elim
+            (λ e. inr (ap (λ x. get_or (set marks v (stamp + 2)) x 0) e ∙ get_or-set_same marks v (stamp + 2) 0 w))
+            (λ n. kept_other stamp marks v o.var (stamp + 2) n h.0)
+            (cases_eq o.var v),
+        h.1,
+      );
+  all = λ o f e. ⊎_elim
+      (λ s. let here' : get_or (set marks v (stamp + 2)) o.var 0 ≡ stamp + 2 = ap (λ x. get_or (set marks v (stamp + 2)) x 0) s ∙ get_or-set_same marks v (stamp + 2) 0 w in absurd (omega (arith, here', e)))
+      (λ d. k.all o f (sym (get_or-set_other marks v o.var (stamp + 2) 0 d) ∙ e))
+      (cases_eq o.var v);
+  once = k.once;
+}
+
+-- of a variable that was not met
+pub kept_same : (core : CoreValue) (stamp : ℕ) (marks : List ℕ) (lits : List LitValue) (v y : ℕ) → v < length marks → AreKept core stamp marks lits → get_or marks v 0 < stamp → y ≢ stamp → AreKept core stamp (set marks v y) lits
+kept_same core stamp marks lits v y w k low m = record {
+  of = λ o c.
+      let h = k.of o c in
+      (kept_other stamp marks v o.var y (λ e. unmet stamp marks v o.var e low h.0) h.0, h.1);
+  all = λ o f e. ⊎_elim
+      (λ s. absurd (m (sym (get_or-set_same marks v y 0 w) ∙ ap (λ x. get_or (set marks v y) x 0) (sym s) ∙ e)))
+      (λ d. k.all o f (sym (get_or-set_other marks v o.var y 0 d) ∙ e))
+      (cases_eq o.var v);
+  once = k.once;
+}
+
+pub kept_more : (core : CoreValue) (stamp : ℕ) (marks : List ℕ) (lits : List LitValue) (l : LitValue) → IsTrail core.vars core.trail core.limits → l.var < length marks → AreKept core stamp marks lits → get_or marks l.var 0 < stamp → IsFalse (trues core) l → AreKept core stamp (set marks l.var stamp) (lits ++ l ∷ [])
+kept_more core stamp marks lits l t w k low f = record {
+  of = λ o c. ⊎_elim
+      (λ d. let h = k.of o d in (kept_other stamp marks l.var o.var stamp (λ e. unmet stamp marks l.var o.var e low h.0) h.0, h.1))
+      (λ e. (inl (ap (λ x. get_or (set marks l.var stamp) x.var 0) (sym e) ∙ get_or-set_same marks l.var stamp 0 w), subst (λ x. IsFalse (trues core) x) e f))
+      (Contains-push_cases lits l o c);
+  all = λ o g e. ⊎_elim
+      (λ s. subst (λ x. Contains (lits ++ l ∷ []) x) (false_once core l o t f g (sym s)) (Contains-push lits l))
+      (λ d. Contains-append_left lits (l ∷ []) o (k.all o g (sym (get_or-set_other marks l.var o.var stamp 0 d) ∙ e)))
+      (cases_eq o.var l.var);
+  once = all_pairs_push (λ a b. a.var ≢ b.var) lits l k.once (λ j d v e. unmet stamp marks l.var (get_or lits j d).var e low (k.of (get_or lits j d) (Contains-get_or lits j d v)).0);
+}
+
+-- ---- one literal is met
+
+-- it is marked now
+pub met_new : (core : CoreValue) (w w' : WalkValue) (l : LitValue) (kind : ℕ) → IsSorted core w' → w'.stamp ≡ w.stamp → w'.hints ≡ w.hints → w'.marks ≡ set w.marks l.var (w.stamp + kind) → l.var < length w.marks → get_or w.marks l.var 0 < w.stamp → kind ≢ 2 → w.open_ ≤ w'.open_ → HasMet core (l ∷ []) w w'
+met_new core w w' l kind s stamp hints marks i low two more = record {
+  sorted = s;
+  stamp = stamp;
+  hints = hints;
+  seen = λ o c. let e = ap (λ x. get_or w'.marks x.var 0) (sym (only o c)) in omega (arith, e, same, stamp);
+  stays = λ v g. other v (λ e. let f = ap (λ x. get_or w.marks x 0) e in omega (arith, f, g, low));
+  new = λ v g. ⊎_elim
+      (λ e. inr (l, here l [], sym e, λ h. let f = ap (λ x. get_or w'.marks x 0) e in two (omega (arith, f, h, same))))
+      (λ n. inl (let f = other v n in omega (arith, g, f)))
+      (cases_eq v l.var);
+  more = more;
+}
+  where
+    same : get_or w'.marks l.var 0 ≡ w.stamp + kind
+    same = ap (λ x. get_or x l.var 0) marks ∙ get_or-set_same w.marks l.var (w.stamp + kind) 0 i
+
+    other : (v : ℕ) → v ≢ l.var → get_or w'.marks v 0 ≡ get_or w.marks v 0
+    other v n = ap (λ x. get_or x v 0) marks ∙ get_or-set_other w.marks l.var v (w.stamp + kind) 0 n
+
+    only : (o : LitValue) → Contains (l ∷ []) o → l ≡ o
+    only o c = ⊎_elim (λ e. e) (λ d. absurd (omega (arith, d.1))) (cons_cases l [] o c)
+
+-- what is known of a literal that was not met before
+pub record IsUnmet (core : CoreValue) (w : WalkValue) (l : LitValue) (k : ℕ) : Type 0 where
+  pub formed : IsTrail core.vars core.trail core.limits
+  pub sorted : IsSorted core w
+  pub low : get_or w.marks l.var 0 < w.stamp
+  pub at : IsAt core l k
+  pub room : l.var < length w.marks
+
+pub unmet_by : (core : CoreValue) (w : WalkValue) (l : LitValue) → IsTrail core.vars core.trail core.limits → IsSorted core w → get_or w.marks l.var 0 < w.stamp → l.var ≤ core.vars → IsSeen w l ⊎ IsFalse (trues core) l → (k : ℕ) × IsUnmet core w l k
+unmet_by core w l t s low v h = ⊎_elim
+    (λ g. absurd (omega (arith, g, low)))
+    (λ f. let a = false_at core l f in (a.0, record { formed = t; sorted = s; low = low; at = a.1; room = omega (arith, v, s.marked.len) }))
+    h
+
+marks_at : (core : CoreValue) (w : WalkValue) (l : LitValue) (k kind : ℕ) → IsUnmet core w l k → IsMark core k kind → AreMarks core w.stamp (set w.marks l.var (w.stamp + kind))
+marks_at core w l k kind u is = subst (λ x. AreMarks core w.stamp (set w.marks x (w.stamp + kind))) u.at.var (marked_set core w.stamp w.marks k kind u.formed u.sorted.marked is)
+
+pub met_bottom : (core : CoreValue) (w w' : WalkValue) (l : LitValue) (k : ℕ) → IsUnmet core w l k → level_at core.limits k ≡ 0 → w' ≡ record w { marks = set w.marks l.var (w.stamp + 3); zeros = w.zeros + 1 } → HasMet core (l ∷ []) w w'
+met_bottom core w w' l k u z e = subst (HasMet core (l ∷ []) w) (sym e)
+    (met_new core w (record w { marks = set w.marks l.var (w.stamp + 3); zeros = w.zeros + 1 }) l 3
+    (record {
+      marked = marks_at core w l k 3 u (record { within = u.at.within; some = omega arith; low = λ h. absurd (omega (arith, h)); top = λ h. absurd (omega (arith, h)); bottom = λ h. z });
+      kept = kept_same core w.stamp w.marks w.lits l.var (w.stamp + 3) u.room u.sorted.kept u.low (λ h. omega (arith, h));
+      open_ = u.sorted.open_ ∙ sym (waits_same (w.stamp + 1) w.marks l.var (w.stamp + 3) u.room (λ h. omega (arith, h, u.low)) (λ h. omega (arith, h)));
+      zeros = ap (λ n. n + 1) u.sorted.zeros ∙ sym (waits_more (w.stamp + 3) w.marks l.var (w.stamp + 3) u.room (λ h. omega (arith, h, u.low)) refl);
+    })
+    refl refl refl u.room u.low (λ h. omega (arith, h)) (omega arith))
+
+pub met_open : (core : CoreValue) (w w' : WalkValue) (l : LitValue) (k : ℕ) → IsUnmet core w l k → level_at core.limits k ≡ length core.limits → 0 < length core.limits → w' ≡ record w { marks = set w.marks l.var (w.stamp + 1); open_ = w.open_ + 1 } → HasMet core (l ∷ []) w w'
+met_open core w w' l k u top some e = subst (HasMet core (l ∷ []) w) (sym e)
+    (met_new core w (record w { marks = set w.marks l.var (w.stamp + 1); open_ = w.open_ + 1 }) l 1
+    (record {
+      marked = marks_at core w l k 1 u (record { within = u.at.within; some = omega arith; low = λ h. absurd (omega (arith, h)); top = λ h. (top, some); bottom = λ h. absurd (omega (arith, h)) });
+      kept = kept_same core w.stamp w.marks w.lits l.var (w.stamp + 1) u.room u.sorted.kept u.low (λ h. omega (arith, h));
+      open_ = ap (λ n. n + 1) u.sorted.open_ ∙ sym (waits_more (w.stamp + 1) w.marks l.var (w.stamp + 1) u.room (λ h. omega (arith, h, u.low)) refl);
+      zeros = u.sorted.zeros ∙ sym (waits_same (w.stamp + 3) w.marks l.var (w.stamp + 1) u.room (λ h. omega (arith, h, u.low)) (λ h. omega (arith, h)));
+    })
+    refl refl refl u.room u.low (λ h. omega (arith, h)) (omega arith))
+
+pub met_kept : (core : CoreValue) (w w' : WalkValue) (l : LitValue) (k : ℕ) → IsUnmet core w l k → level_at core.limits k < length core.limits → w' ≡ record w { marks = set w.marks l.var (w.stamp + 0); lits = w.lits ++ l ∷ [] } → HasMet core (l ∷ []) w w'
+met_kept core w w' l k u lower e = subst (HasMet core (l ∷ []) w) (sym e)
+    (met_new core w (record w { marks = set w.marks l.var (w.stamp + 0); lits = w.lits ++ l ∷ [] }) l 0
+    (record {
+      marked = marks_at core w l k 0 u (record { within = u.at.within; some = omega arith; low = λ h. lower; top = λ h. absurd (omega (arith, h)); bottom = λ h. absurd (omega (arith, h)) });
+      kept = subst (λ n. AreKept core w.stamp (set w.marks l.var n) (w.lits ++ l ∷ [])) stamp0 (kept_more core w.stamp w.marks w.lits l u.formed u.room u.sorted.kept u.low (at_false core l k u.at));
+      open_ = u.sorted.open_ ∙ sym (waits_same (w.stamp + 1) w.marks l.var (w.stamp + 0) u.room (λ h. omega (arith, h, u.low)) (λ h. omega (arith, h)));
+      zeros = u.sorted.zeros ∙ sym (waits_same (w.stamp + 3) w.marks l.var (w.stamp + 0) u.room (λ h. omega (arith, h, u.low)) (λ h. omega (arith, h)));
+    })
+    refl refl refl u.room u.low (λ h. omega (arith, h)) (omega arith))
+  where
+    stamp0 : w.stamp ≡ w.stamp + 0
+    stamp0 = omega arith
+
+-- ---- and more of them
+
+pub met_none : (core : CoreValue) (w : WalkValue) → IsSorted core w → HasMet core [] w w
+met_none core w s = record {
+  sorted = s;
+  stamp = refl;
+  hints = refl;
+  seen = λ o c. absurd (omega (arith, c.1));
+  stays = λ v g. refl;
+  new = λ v g. inl g;
+  more = omega arith;
+}
+
+pub met_more : (core : CoreValue) (xs : List LitValue) (x : LitValue) (a b c : WalkValue) → HasMet core xs a b → HasMet core (x ∷ []) b c → HasMet core (xs ++ x ∷ []) a c
+met_more core xs x a b c p q = record {
+  sorted = q.sorted;
+  stamp = q.stamp ∙ p.stamp;
+  hints = q.hints ∙ p.hints;
+  seen = λ o h. ⊎_elim
+      (λ d. let s = p.seen o d in let k = q.stays o.var s in omega (arith, k, s, q.stamp))
+      (λ e. q.seen o (subst (λ y. Contains (x ∷ []) y) e (here x [])))
+      (Contains-push_cases xs x o h);
+  stays = λ v g. let s = p.stays v g in q.stays v (omega (arith, s, g, p.stamp)) ∙ s;
+  new = λ v g. ⊎_elim
+      (λ h.
+      let k = q.stays v h in
+      ⊎_elim (λ i. inl i) (λ n. inr (n.0, Contains-append_left xs (x ∷ []) n.0 n.1, n.2, λ e. n.3 (sym k ∙ e))) (p.new v (omega (arith, h, p.stamp))))
+      (λ n. inr (n.0, subst (λ y. Contains (xs ++ x ∷ []) y) (only n.0 n.1) (Contains-push xs x), n.2, λ e. n.3 (e ∙ ap (λ m. m + 2) (sym p.stamp))))
+      (q.new v (omega (arith, g, p.stamp)));
+  more = let i = p.more in let j = q.more in omega (arith, i, j);
+}
+  where
+    only : (o : LitValue) → Contains (x ∷ []) o → x ≡ o
+    only o c = ⊎_elim (λ e. e) (λ d. absurd (omega (arith, d.1))) (cons_cases x [] o c)
+
+-- ---- its level, as it is read
+
+pub level_read : (core : CoreValue) (l neg : LitValue) (k level : ℕ) → IsAt core l k → neg ≡ negation l → ((j : ℕ) → j < length core.trail → get_or (trues core) j neg ≡ neg → level ≡ level_at core.limits j) → level ≡ level_at core.limits k
+level_read core l neg k level a e h = h k a.within (lit_read core k neg a.within ∙ a.is ∙ sym e)
+
+pub level_within : (core : CoreValue) (k : ℕ) → level_at core.limits k ≤ length core.limits
+level_within core k = count_by-le-length (λ m. nat_le m k) core.limits
+
+pub low_read : (core : CoreValue) (w : WalkValue) (l : LitValue) (var read : ℕ) → IsSorted core w → l.var ≤ core.vars → var ≡ l.var → read ≡ get_or w.marks var read → read < w.stamp → get_or w.marks l.var 0 < w.stamp
+low_read core w l var read s v e r low = let z = get_or_default w.marks l.var 0 read (omega (arith, v, s.marked.len)) in omega (arith, z, r, ap (λ x. get_or w.marks x read) e, low)
+
+-- ---- a loop over a clause
+
+-- the literal at a place of a clause that is read
+pub read_stands : (clause xs : List LitValue) (k : ℕ) (x : LitValue) → xs ≡ clause → k < length xs → x ≡ get_or xs k x → Contains clause x
+read_stands clause xs k x e w is = subst (λ ys. Contains ys x) e (k, w, sym is)
+
+pub met_next : (core : CoreValue) (clause xs : List LitValue) (k : ℕ) (x : LitValue) (a b c : WalkValue) → xs ≡ clause → k < length xs → x ≡ get_or xs k x → HasMet core (take k clause) a b → HasMet core (x ∷ []) b c → HasMet core (take (k + 1) clause) a c
+met_next core clause xs k x a b c e w is p q =
+    let at : x ≡ get_or clause k x = is ∙ ap (λ ys. get_or ys k x) e in
+    subst (λ ys. HasMet core ys a c) (ap (λ y. take k clause ++ y ∷ []) at ∙ sym (take_more clause k x (omega (arith, w, ap length e)))) (met_more core (take k clause) x a b c p q)
+
+pub met_still : (core : CoreValue) (ys : List LitValue) (a b : WalkValue) (o : LitValue) → HasMet core ys a b → IsSeen a o ⊎ IsFalse (trues core) o → IsSeen b o ⊎ IsFalse (trues core) o
+met_still core ys a b o m h = ⊎_elim (λ s. inl (let k = m.stays o.var s in omega (arith, k, s, m.stamp))) (λ f. inr f) h
+
+pub met_whole : (core : CoreValue) (clause xs : List LitValue) (k : ℕ) (a b : WalkValue) → xs ≡ clause → length xs ≤ k → HasMet core (take k clause) a b → HasMet core clause a b
+met_whole core clause xs k a b e w m = subst (λ ys. HasMet core ys a b) (take_all k clause (omega (arith, w, ap length e))) m

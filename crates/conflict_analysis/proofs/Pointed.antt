@@ -1,0 +1,183 @@
+-- Where the walk begins and ends: one literal of the last level is left, and all others that are kept became false below it.
+use Rattle.std.proofs.Common.{suc, ◌-◌, ◌≡◌, ℕ, ◌+◌, ◌<◌, ◌≤◌, Bool, false, List, [], ◌∷◌, length, get_or, take, refl, sym, ap, ◌∙◌, inl, ⊎_elim, arith}
+use Rattle.std.specs.Prelude.{◌≢◌, ◌⊎◌, Contains, filter, reverse, pos, map, nat_le}
+use Rattle.std.proofs.lemmas.List.Sums.{count_by-le-length}
+use Rattle.std.proofs.lemmas.Bool.{cases_lt, cases_eq, ne_eqb}
+use Rattle.std.proofs.lemmas.List.{get_or-take, length-take-le}
+use Rattle.std.proofs.lemmas.List.Elements.{All-contains, Contains-get_or}
+use Rattle.cnf_formula.specs.Formulas.{IsAbout}
+use Rattle.cnf_formula.specs.Literals.{LitValue, negation}
+use Rattle.trail_core.specs.Assigned.{IsFalse, IsOpen, AreLimits, level_at}
+use Rattle.trail_core.specs.Trails.{StepValue}
+use Rattle.trail_core.specs.Meaning.{CoreValue, trues}
+use Rattle.trail_core.specs.Formed.{IsTrail}
+use Rattle.trail_core.proofs.Trails.{all_counted}
+use Rattle.trail_core.proofs.Keeping.{lits_length}
+use Rattle.conflict_analysis.specs.Conflicts.{IsConflict}
+use Rattle.conflict_analysis.specs.Learning.{number_of}
+use Rattle.conflict_analysis.specs.Met.{WalkValue, no_step, lit_at, mark_of, resolved_by, IsSorted, HasMet, IsPassed, IsPoint}
+use Rattle.conflict_analysis.proofs.Levels.{level_grows, level_below, some_level, limits_rise}
+use Rattle.conflict_analysis.proofs.Counted.{waits_some, waits_none}
+use Rattle.conflict_analysis.proofs.Marked.{IsAt, false_at, lit_read, lit_about, same_place}
+
+-- the kinds of marks
+pub four : (m stamp : ℕ) → stamp ≤ m → m ≤ stamp + 3 → m ≢ stamp → m ≢ stamp + 1 → m ≢ stamp + 2 → m ≡ stamp + 3
+four m stamp low high a b c = grind arith
+
+three : (m stamp : ℕ) → stamp ≤ m → m ≤ stamp + 3 → m ≢ stamp → m ≢ stamp + 1 → m ≢ stamp + 2 → m ≢ stamp + 3 → ⊥
+three m stamp low high a b c d = d (four m stamp low high a b c)
+
+-- ---- levels and places
+
+-- what is of a lower level lies below the last
+pub low_place : (limits : List ℕ) (len last k : ℕ) → AreLimits limits len → last + 1 ≡ length limits → level_at limits k < length limits → k < get_or limits last 0
+low_place limits len last k a e low = ⊎_elim
+    (λ lt. lt)
+    (λ ge.
+    let all = all_counted limits k (λ i w. ⊎_elim
+    (λ lt. let r = a.rising i last lt (omega (arith, e)) in omega (arith, r, ge))
+    (λ h. let s : i ≡ last = omega (arith, h, w, e) in let u : get_or limits i 0 ≡ get_or limits last 0 = ap (λ x. get_or limits x 0) s in omega (arith, u, ge))
+    (cases_lt i last)) in
+    absurd (omega (arith, all, low)))
+    (cases_lt k (get_or limits last 0))
+
+-- what is of the last level does not
+pub high_place : (limits : List ℕ) (last k : ℕ) → last + 1 ≡ length limits → level_at limits k ≡ length limits → get_or limits last 0 ≤ k
+high_place limits last k e top = ⊎_elim
+    (λ lt. let r = level_below limits k (get_or limits last 0) lt (Contains-get_or limits last 0 (omega (arith, e))) in let w = count_by-le-length (λ m. nat_le m (get_or limits last 0)) limits in absurd (omega (arith, r, w, top)))
+    (λ ge. ge)
+    (cases_lt k (get_or limits last 0))
+
+-- level 0 lies below the first
+pub bottom_place : (limits : List ℕ) (k : ℕ) → 0 < length limits → level_at limits k ≡ 0 → k < get_or limits 0 0
+bottom_place limits k w z = ⊎_elim
+    (λ lt. lt)
+    (λ ge. absurd (⊎_elim
+    (λ s. some_level limits (get_or limits 0 0) (Contains-get_or limits 0 0 w) s)
+    (λ s. s)
+    (zero_or limits (get_or limits 0 0) k ge z)))
+    (cases_lt k (get_or limits 0 0))
+  where
+    zero_or : (limits : List ℕ) (m k : ℕ) → m ≤ k → level_at limits k ≡ 0 → (level_at limits m ≡ 0) ⊎ ⊥
+    zero_or limits m k ge z = inl (let g = level_grows limits m k ge in omega (arith, g, z))
+
+-- a literal that became false below a place is false there
+pub false_below : (core : CoreValue) (o : LitValue) (k m : ℕ) → IsAt core o k → k < m → m ≤ length core.trail → IsFalse (take m (trues core)) o
+false_below core o k m a lt w =
+    let n = length-take-le m (trues core) (omega (arith, w, lits_length core.trail)) in
+    (k, omega (arith, n, lt), get_or-take m (trues core) k (negation o) lt ∙ lit_read core k (negation o) a.within ∙ a.is)
+
+-- a literal of a place is open below it
+pub open_below : (core : CoreValue) (l : LitValue) (k m : ℕ) → IsTrail core.vars core.trail core.limits → k < length core.trail → (lit_at core k).var ≡ l.var → m ≤ k → IsOpen (take m (trues core)) l
+open_below core l k m t w e le = record {
+  not_true = λ c. none l refl c;
+  not_false = λ c. none (negation l) refl c;
+}
+  where
+    none : (x : LitValue) → x.var ≡ l.var → Contains (take m (trues core)) x → ⊥
+    none x i c =
+        let n = length-take-le m (trues core) (omega (arith, w, le, lits_length core.trail)) in
+        let lt : c.0 < m = omega (arith, c.1, n) in
+        let v : c.0 < length core.trail = omega (arith, lt, le, w) in
+        let at : lit_at core c.0 ≡ x = sym (lit_read core c.0 x v) ∙ sym (get_or-take m (trues core) c.0 x lt) ∙ c.2 in
+        let s = same_place core c.0 k t v w (ap (λ y. y.var) at ∙ i ∙ sym e) in
+        omega (arith, s, lt, le)
+
+-- ---- the begin
+
+-- no step is resolved yet
+filter_none : (p : StepValue → Bool) (xs : List StepValue) → ((k : ℕ) → k < length xs → p (get_or xs k no_step) ≡ false) → filter p xs ≡ []
+filter_none p [] h = refl
+filter_none p (x ∷ xs) h = let e : p x ≡ false = h 0 (omega arith) in rw e (filter_none p xs (λ k w. h (suc k) (omega (arith, w))))
+
+-- nothing was met
+pub record IsBegun (core : CoreValue) (w : WalkValue) : Type 0 where
+  pub len : length w.marks ≡ core.vars + 1
+  pub low : (v : ℕ) → get_or w.marks v 0 < w.stamp
+  pub lits : w.lits ≡ []
+  pub hints : w.hints ≡ []
+  pub open_ : w.open_ ≡ 0
+  pub zeros : w.zeros ≡ 0
+
+pub begun_sorted : (core : CoreValue) (w : WalkValue) → IsBegun core w → IsSorted core w
+begun_sorted core w b = record {
+  marked = record {
+    len = b.len;
+    over = λ v. let r = b.low v in omega (arith, r);
+    placed = λ v h. absurd (low v h);
+    low = λ k v e. absurd (low (lit_at core k).var (omega (arith, e)));
+    top = λ k v e. absurd (low (lit_at core k).var (omega (arith, e)));
+    bottom = λ k v e. absurd (low (lit_at core k).var (omega (arith, e)));
+  };
+  kept = record {
+    of = λ o c. absurd (let n : length w.lits ≡ 0 = ap length b.lits in omega (arith, n, c.1));
+    all = λ o f e. absurd (low o.var (omega (arith, e)));
+    once = λ i j d p q. absurd (let n : length w.lits ≡ 0 = ap length b.lits in omega (arith, n, q));
+  };
+  open_ = b.open_ ∙ sym (waits_none (w.stamp + 1) w.marks (λ v h e. low v (omega (arith, e))));
+  zeros = b.zeros ∙ sym (waits_none (w.stamp + 3) w.marks (λ v h e. low v (omega (arith, e))));
+}
+  where
+    low : (v : ℕ) → w.stamp ≤ get_or w.marks v 0 → ⊥
+    low v h = let r = b.low v in omega (arith, r, h)
+
+-- the conflict was met: nothing is resolved
+pub met_unresolved : (core : CoreValue) (clause : List LitValue) (a b : WalkValue) (v : ℕ) → IsBegun core a → HasMet core clause a b → get_or b.marks v 0 ≢ b.stamp + 2
+met_unresolved core clause a b v begun m e = ⊎_elim
+    (λ g. let r = begun.low v in omega (arith, r, g))
+    (λ q. q.3 (omega (arith, e, m.stamp)))
+    (m.new v (omega (arith, e, m.stamp)))
+
+pub met_passed : (core : CoreValue) (clause : List LitValue) (a b : WalkValue) → IsBegun core a → HasMet core clause a b → IsPassed core 3 b (length core.trail)
+met_passed core clause a b begun m = record {
+  each = λ k v e. absurd (met_unresolved core clause a b (lit_at core k).var begun m e);
+  waits = λ k v e. v;
+  hints = ap reverse (m.hints ∙ begun.hints) ∙ sym (ap (map (λ s. pos (number_of s.reason))) (filter_none (resolved_by b) core.trail (λ k v. ne_eqb (mark_of b (lit_at core k)) (b.stamp + 2) (met_unresolved core clause a b (lit_at core k).var begun m))));
+}
+
+-- above level 0 some literal of the last level is met
+pub met_open_some : (core : CoreValue) (conflict : ℕ) (a b : WalkValue) → IsConflict core conflict → IsBegun core a → HasMet core (get_or core.clauses conflict []) a b → 0 < length core.limits → 0 < b.open_
+met_open_some core conflict a b c begun m some = ⊎_elim
+    (λ h. h)
+    (λ z. absurd ((c.closed_below last (omega (arith, some))).not_falsified (get_or core.clauses conflict []) (Contains-get_or core.clauses conflict [] c.within) (λ o h. low o h (omega (arith, z)))))
+    (cases_lt 0 b.open_)
+  where
+    last : ℕ
+    last = length core.limits - 1
+
+    low : (o : LitValue) → Contains (get_or core.clauses conflict []) o → b.open_ ≡ 0 → IsFalse (take (get_or core.limits last 0) (trues core)) o
+    low o h z =
+        let i = false_at core o (c.falsified o h) in
+        let seen = m.seen o h in
+        let e : mark_of b (lit_at core i.0) ≡ mark_of b o = ap (λ v. get_or b.marks v 0) i.1.var in
+        let over = m.sorted.marked.over o.var in
+        let about = lit_about core i.0 c.formed i.1.within in
+        let n : mark_of b o ≢ b.stamp + 1 = λ f. let w = waits_some (b.stamp + 1) b.marks o.var (omega (arith, about.within, m.sorted.marked.len, i.1.var)) f in omega (arith, w, m.sorted.open_, z) in
+        let u : mark_of b o ≢ b.stamp + 2 = met_unresolved core (get_or core.clauses conflict []) a b o.var begun m in
+        let below : level_at core.limits i.0 < length core.limits = ⊎_elim
+        (λ f. m.sorted.marked.low i.0 i.1.within (e ∙ f))
+        (λ d. ⊎_elim (λ f. let y = m.sorted.marked.bottom i.0 i.1.within (e ∙ f) in omega (arith, y, some)) (λ f. absurd (three (mark_of b o) b.stamp seen over d n u f)) (cases_eq (mark_of b o) (b.stamp + 3)))
+        (cases_eq (mark_of b o) b.stamp) in
+        let lt = low_place core.limits (length core.trail) last i.0 c.formed.levels (omega (arith, some)) below in
+        let top = c.formed.levels.below last (omega (arith, some)) in
+        false_below core o i.0 (get_or core.limits last 0) i.1 lt (omega (arith, top))
+
+-- ---- from the last level to level 0
+
+pub passed_middle : (core : CoreValue) (w : WalkValue) (l : LitValue) (place last : ℕ) → IsTrail core.vars core.trail core.limits → last + 1 ≡ length core.limits → IsSorted core w → IsPoint core w l → IsPassed core 1 w place → IsPassed core 3 w (get_or core.limits last 0)
+passed_middle core w l place last t is s p q =
+    let e : mark_of w (lit_at core p.place) ≡ w.stamp + 1 = ap (mark_of w) p.is ∙ p.waits in
+    let lt = q.waits p.place p.within e in
+    let top = s.marked.top p.place p.within e in
+    let low = high_place core.limits last p.place is top.0 in
+    let rising = limits_rise core.limits (length core.trail) 0 last t.levels (omega arith) (omega (arith, is)) in
+    record {
+      each = λ k v h. let r = q.each k v h in (omega (arith, r.0, lt, low), r.1);
+      waits = λ k v h. let b = bottom_place core.limits k (omega (arith, is)) (s.marked.bottom k v h) in omega (arith, b, rising);
+      hints = q.hints;
+    }
+
+-- ---- as the analysis reads it
+
+pub conflict_within : (core : CoreValue) (conflict : ℕ) → IsConflict core conflict → (o : LitValue) → Contains (get_or core.clauses conflict []) o → o.var ≤ core.vars
+conflict_within core conflict c o h = (All-contains (IsAbout core.vars) (trues core) (negation o) c.formed.within (c.falsified o h)).within

@@ -1,0 +1,147 @@
+use Rattle.std.proofs.Common.{◌≡◌, ◌-◌, length, get_or, sym, ap, ◌∙◌, subst, arith}
+use Rattle.conflict_analysis.specs.Met.{value_of, WalkValue, IsPassed}
+use Rattle.conflict_analysis.proofs.Levels.{limits_rise}
+use Rattle.conflict_analysis.proofs.Middle.{middle_at, middle_passed}
+use Rattle.conflict_analysis.proofs.Resolved.{same_open, same_open_then}
+use Rattle.conflict_analysis.proofs.Waiting.{IsStep, kept_step, passed_at, onward_same, onward_then}
+use Rattle.conflict_analysis.proofs.shrinking.walk_level.Goals as goal
+
+pub loop-place-init : goal.loop-place-init
+loop-place-init c =
+    let core = c.args.core.now in
+    let level = c.args.level in
+    let rise = limits_rise core.limits (length core.trail) (level - 1) level c.requires.formed.levels (omega arith) c.requires.below in
+    let to = c.height-to.ensures.below c.requires.below in
+    record {
+      sorted = c.requires.sorted;
+      onward = onward_same (value_of c.args.walk.now);
+      same = same_open core (value_of c.args.walk.now);
+      within = omega arith;
+      above = omega (arith, rise, to, c.height-from.ensures.below (omega (arith, c.requires.below)));
+      passed = subst (IsPassed core 3 (value_of c.args.walk.now)) (sym to) c.requires.passed;
+    }
+
+pub is_spare-requires-clause-place : goal.is_spare-requires-clause-place
+is_spare-requires-clause-place c =
+    let core = c.args.core.now in
+    let k = c.loop-place.place - 1 in
+    let inv = c.loop-place.invariant in
+    let m = middle_at core c.args.level c.height-from.result c.height-to.result k c.requires.formed c.requires.above c.requires.below c.height-from.ensures.below c.height-to.ensures.below (omega (arith, inv.above, c.loop-place-test.true)) (omega (arith, inv.within, c.loop-place-test.true)) in
+    m.within
+
+pub is_spare-requires-clause-len : goal.is_spare-requires-clause-len
+is_spare-requires-clause-len c =
+    let inv = c.loop-place.invariant in
+    inv.sorted.marked.len
+
+pub is_spare-requires-clause-few : goal.is_spare-requires-clause-few
+is_spare-requires-clause-few c =
+    let inv = c.loop-place.invariant in
+    omega (arith, inv.onward.stamp, c.requires.few)
+
+pub resolve-requires-clause-few : goal.resolve-requires-clause-few
+resolve-requires-clause-few c =
+    let inv = c.loop-place.invariant in
+    omega (arith, inv.onward.stamp, c.requires.few)
+
+pub resolve-requires-clause-place : goal.resolve-requires-clause-place
+resolve-requires-clause-place c =
+    let core = c.args.core.now in
+    let k = c.loop-place.place - 1 in
+    let inv = c.loop-place.invariant in
+    let m = middle_at core c.args.level c.height-from.result c.height-to.result k c.requires.formed c.requires.above c.requires.below c.height-from.ensures.below c.height-to.ensures.below (omega (arith, inv.above, c.loop-place-test.true)) (omega (arith, inv.within, c.loop-place-test.true)) in
+    m.within
+
+pub resolve-requires-clause-marked : goal.resolve-requires-clause-marked
+resolve-requires-clause-marked c =
+    let inv = c.loop-place.invariant in
+    inv.sorted.marked
+
+pub resolve-requires-clause-kept : goal.resolve-requires-clause-kept
+resolve-requires-clause-kept c =
+    let inv = c.loop-place.invariant in
+    inv.sorted.kept
+
+pub resolve-requires-clause-implied : goal.resolve-requires-clause-implied
+resolve-requires-clause-implied c =
+    let core = c.args.core.now in
+    let k = c.loop-place.place - 1 in
+    let inv = c.loop-place.invariant in
+    let m = middle_at core c.args.level c.height-from.result c.height-to.result k c.requires.formed c.requires.above c.requires.below c.height-from.ensures.below c.height-to.ensures.below (omega (arith, inv.above, c.loop-place-test.true)) (omega (arith, inv.within, c.loop-place-test.true)) in
+    let w : WalkValue = value_of c.loop-place.walk in
+    let step : IsStep core w k w.open_ w.zeros = kept_step core w k c.requires.formed inv.sorted m.within (c.is_spare.ensures.kept c.if-is_spare.true) (c.is_spare.ensures.implied c.if-is_spare.true) in
+    step.implied
+
+pub resolve-requires-clause-new : goal.resolve-requires-clause-new
+resolve-requires-clause-new c =
+    let core = c.args.core.now in
+    let k = c.loop-place.place - 1 in
+    let inv = c.loop-place.invariant in
+    let m = middle_at core c.args.level c.height-from.result c.height-to.result k c.requires.formed c.requires.above c.requires.below c.height-from.ensures.below c.height-to.ensures.below (omega (arith, inv.above, c.loop-place-test.true)) (omega (arith, inv.within, c.loop-place-test.true)) in
+    let w : WalkValue = value_of c.loop-place.walk in
+    let step : IsStep core w k w.open_ w.zeros = kept_step core w k c.requires.formed inv.sorted m.within (c.is_spare.ensures.kept c.if-is_spare.true) (c.is_spare.ensures.implied c.if-is_spare.true) in
+    step.waits
+
+pub resolve-requires-clause-open : goal.resolve-requires-clause-open
+resolve-requires-clause-open c =
+    let core = c.args.core.now in
+    let k = c.loop-place.place - 1 in
+    let inv = c.loop-place.invariant in
+    let m = middle_at core c.args.level c.height-from.result c.height-to.result k c.requires.formed c.requires.above c.requires.below c.height-from.ensures.below c.height-to.ensures.below (omega (arith, inv.above, c.loop-place-test.true)) (omega (arith, inv.within, c.loop-place-test.true)) in
+    let w : WalkValue = value_of c.loop-place.walk in
+    let step : IsStep core w k w.open_ w.zeros = kept_step core w k c.requires.formed inv.sorted m.within (c.is_spare.ensures.kept c.if-is_spare.true) (c.is_spare.ensures.implied c.if-is_spare.true) in
+    step.open_is
+
+pub resolve-requires-clause-zeros : goal.resolve-requires-clause-zeros
+resolve-requires-clause-zeros c =
+    let core = c.args.core.now in
+    let k = c.loop-place.place - 1 in
+    let inv = c.loop-place.invariant in
+    let m = middle_at core c.args.level c.height-from.result c.height-to.result k c.requires.formed c.requires.above c.requires.below c.height-from.ensures.below c.height-to.ensures.below (omega (arith, inv.above, c.loop-place-test.true)) (omega (arith, inv.within, c.loop-place-test.true)) in
+    let w : WalkValue = value_of c.loop-place.walk in
+    let step : IsStep core w k w.open_ w.zeros = kept_step core w k c.requires.formed inv.sorted m.within (c.is_spare.ensures.kept c.if-is_spare.true) (c.is_spare.ensures.implied c.if-is_spare.true) in
+    step.zeros_is
+
+pub loop-place-preserved-in-Continue-1 : goal.loop-place-preserved-in-Continue-1
+loop-place-preserved-in-Continue-1 c =
+    let core = c.args.core.now in
+    let k = c.loop-place.place - 1 in
+    let inv = c.loop-place.invariant in
+    let m = middle_at core c.args.level c.height-from.result c.height-to.result k c.requires.formed c.requires.above c.requires.below c.height-from.ensures.below c.height-to.ensures.below (omega (arith, inv.above, c.loop-place-test.true)) (omega (arith, inv.within, c.loop-place-test.true)) in
+    let old : WalkValue = value_of c.args.walk.now in
+    let w : WalkValue = value_of c.loop-place.walk in
+    let w2 : WalkValue = value_of c.resolve.new.walk in
+    let on = c.in_ok-resolve.ensures in
+    record {
+      sorted = on.sorted;
+      onward = onward_then old w w2 inv.onward on.onward;
+      same = same_open_then core old w w2 inv.same (on.below (λ some. m.lower));
+      within = omega (arith, inv.within);
+      above = omega (arith, c.loop-place-test.true);
+      passed = on.passed 3 (λ h. omega (arith, h)) (passed_at core 3 w c.loop-place.place (omega (arith, c.loop-place-test.true)) inv.passed);
+    }
+
+pub loop-place-preserved : goal.loop-place-preserved
+loop-place-preserved c =
+    let core = c.args.core.now in
+    let k = c.loop-place.place - 1 in
+    let inv = c.loop-place.invariant in
+    let m = middle_at core c.args.level c.height-from.result c.height-to.result k c.requires.formed c.requires.above c.requires.below c.height-from.ensures.below c.height-to.ensures.below (omega (arith, inv.above, c.loop-place-test.true)) (omega (arith, inv.within, c.loop-place-test.true)) in
+    let w : WalkValue = value_of c.loop-place.walk in
+    record {
+      sorted = inv.sorted;
+      onward = inv.onward;
+      same = inv.same;
+      within = omega (arith, inv.within);
+      above = omega (arith, c.loop-place-test.true);
+      passed = middle_passed core w k m inv.sorted (passed_at core 3 w c.loop-place.place (omega (arith, c.loop-place-test.true)) inv.passed);
+    }
+
+pub returns-clause-passed : goal.returns-clause-passed
+returns-clause-passed c = λ low is.
+    let core = c.args.core.now in
+    let inv = c.loop-place.invariant in
+    let below : c.args.level - 1 ≡ low = omega (arith, is) in
+    let from = c.height-from.ensures.below (omega (arith, c.requires.below)) ∙ ap (λ i. get_or core.limits i 0) below in
+    let at : c.loop-place.place ≡ get_or core.limits low 0 = omega (arith, from, inv.above, c.loop-place-test.false) in
+    subst (IsPassed core 3 (value_of c.loop-place.walk)) at inv.passed

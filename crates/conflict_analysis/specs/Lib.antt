@@ -1,0 +1,4 @@
+pub mod Conflicts
+pub mod Learning
+pub mod Met
+pub mod Learned

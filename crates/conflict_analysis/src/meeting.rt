@@ -1,0 +1,103 @@
+//! The literals of conflicts and of reasons, as an analysis meets them.
+
+ghost use Rattle.std.specs.Prelude.{◌≡◌, ◌≢◌, ◌↔◌, ◌⊎◌, IsTrue, ℕ, ◌+◌, ◌<◌, ◌≤◌, [], ◌∷◌, length, get_or, pos, take, Contains, OnOk, slice_set};
+ghost use Rattle.cnf_formula.specs.Literals.{LitValue};
+ghost use Rattle.trail_core.specs.Assigned.{IsFalse, level_at};
+ghost use Rattle.trail_core.specs.Meaning.{trues};
+ghost use Rattle.trail_core.specs.Search.{IsImplied};
+ghost use Rattle.trail_core.specs.Kept.{IsDue};
+ghost use Rattle.trail_core.specs.Formed.{IsTrail};
+ghost use Rattle.conflict_analysis.specs.Met.{value_of, IsSeen, AreMarks, AreKept, IsSorted, HasMet, IsPassed, lit_at, step_at, mark_of, waiting, IsOnward, HasSameOpen};
+
+use crate::walk::{BOTTOM, KEPT, OPEN, RESOLVED, Walk};
+use cnf_formula::{Lit, OutOfMemory};
+use trail_core::{ClauseId, Core};
+
+/// The hint that names a clause of the core: clauses are held under numbers from 1.
+pub fn hint(id: ClauseId) -> i64
+    ensures { result ≡ pos (id + 1) }
+{
+    i64::from(id.number()) + 1
+}
+
+/// Meets a false literal: it is kept where it became false between level 0 and the last level, and else its step waits.
+fn meet(core: &Core, walk: &mut Walk, lit: Lit) -> Result<(), OutOfMemory>
+    requires formed { IsTrail core.now.vars core.now.trail core.now.limits }
+    requires sorted { IsSorted core.now (value_of walk.old) }
+    requires few { walk.old.stamp ≤ 251 }
+    requires met { IsSeen (value_of walk.old) lit ⊎ IsFalse (trues core.now) lit }
+    requires within { lit.var ≤ core.now.vars }
+    ensures { OnOk result (HasMet core.now (lit ∷ []) (value_of walk.old) (value_of walk.new)) }
+{
+    let var = lit.var() as usize;
+    if walk.marks[var] >= walk.stamp {
+        return Ok(());
+    }
+    let level = core.level(lit.negated());
+    if level == 0 {
+        walk.marks[var] = walk.stamp + BOTTOM;
+        walk.zeros += 1;
+        return Ok(());
+    }
+    walk.met.push(lit)?;
+    if level == core.depth() {
+        walk.marks[var] = walk.stamp + OPEN;
+        walk.open_ += 1;
+        return Ok(());
+    }
+    walk.lits.push(lit)?;
+    walk.marks[var] = walk.stamp + KEPT;
+    Ok(())
+}
+
+/// Meets the literals of a clause.
+pub fn meet_all(core: &Core, walk: &mut Walk, id: ClauseId) -> Result<(), OutOfMemory>
+    requires formed { IsTrail core.now.vars core.now.trail core.now.limits }
+    requires sorted { IsSorted core.now (value_of walk.old) }
+    requires few { walk.old.stamp ≤ 251 }
+    requires id { id < length core.now.clauses }
+    requires met { (o : LitValue) → Contains (get_or core.now.clauses id []) o → IsSeen (value_of walk.old) o ⊎ IsFalse (trues core.now) o }
+    requires within { (o : LitValue) → Contains (get_or core.now.clauses id []) o → o.var ≤ core.now.vars }
+    ensures { OnOk result (HasMet core.now (get_or core.now.clauses id []) (value_of walk.old) (value_of walk.new)) }
+{
+    for lit in core.clause(id) {
+        meet(core, walk, *lit)?;
+    }
+    Ok(())
+}
+
+/// Whether the literal at a place has such a mark: its step waits on the last level or on level 0, or it is kept.
+pub fn is_waiting(core: &Core, walk: &Walk, place: usize, mark: u8) -> bool
+    requires place { place < length core.now.trail }
+    requires len { length walk.now.marks.items ≡ core.now.vars + 1 }
+    requires few { walk.now.stamp ≤ 251 }
+    requires small { mark < 4 }
+    ensures { IsTrue result ↔ (mark_of (value_of walk.now) (lit_at core.now place) ≡ walk.now.stamp + mark) }
+{
+    let lit = core.trail()[place];
+    walk.marks[lit.var() as usize] == walk.stamp + mark
+}
+
+/// Takes a step for its reason.
+pub fn resolve(core: &Core, walk: &mut Walk, place: usize) -> Result<(), OutOfMemory>
+    requires formed { IsTrail core.now.vars core.now.trail core.now.limits }
+    requires few { walk.old.stamp ≤ 251 }
+    requires place { place < length core.now.trail }
+    requires implied { IsImplied core.now.clauses (IsDue core.now.limits) (take place core.now.trail) (step_at core.now place) }
+    requires marked { AreMarks core.now walk.old.stamp walk.old.marks.items }
+    requires kept { AreKept core.now walk.old.stamp walk.old.marks.items walk.old.lits.items }
+    requires new { mark_of (value_of walk.old) (lit_at core.now place) ≢ walk.old.stamp + 2 }
+    requires open { walk.old.open_ ≡ waiting (walk.old.stamp + 1) (slice_set walk.old.marks.items (lit_at core.now place).var (walk.old.stamp + 2)) }
+    requires zeros { walk.old.zeros ≡ waiting (walk.old.stamp + 3) (slice_set walk.old.marks.items (lit_at core.now place).var (walk.old.stamp + 2)) }
+    ensures sorted { OnOk result (IsSorted core.now (value_of walk.new)) }
+    ensures onward { OnOk result (IsOnward (value_of walk.old) (value_of walk.new)) }
+    ensures more { OnOk result (walk.old.open_ ≤ walk.new.open_) }
+    ensures below { (0 < length core.now.limits → level_at core.now.limits place < length core.now.limits) → OnOk result (HasSameOpen core.now (value_of walk.old) (value_of walk.new)) }
+    ensures passed { (kind : ℕ) → kind ≢ 2 → IsPassed core.now kind (value_of walk.old) (place + 1) → OnOk result (IsPassed core.now kind (value_of walk.new) place) }
+{
+    let lit = core.trail()[place];
+    let reason = core.reason(lit).unwrap();
+    walk.hints.push(hint(reason))?;
+    walk.marks[lit.var() as usize] = walk.stamp + RESOLVED;
+    meet_all(core, walk, reason)
+}

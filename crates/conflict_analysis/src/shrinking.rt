@@ -1,0 +1,87 @@
+//! Literals below the last level are taken out of a clause. Where two or more of a level are kept, one of that level may stand
+//! for all of them (shrinking: Fleury and Biere 2021, "Efficient All-UIP Learned Clause Minimization"); else those are taken
+//! out that the others imply (clause minimisation).
+
+ghost use Rattle.std.specs.Prelude.{◌≡◌, ℕ, ◌+◌, ◌<◌, ◌≤◌, IsTrue, length, get_or, take, OnOk};
+ghost use Rattle.trail_core.specs.Search.{IsImplied};
+ghost use Rattle.trail_core.specs.Kept.{IsDue};
+ghost use Rattle.trail_core.specs.Formed.{IsTrail};
+ghost use Rattle.conflict_analysis.specs.Met.{value_of, IsSorted, IsPassed, IsOnward, HasSameOpen, mark_of, lit_at, step_at};
+
+use crate::implied::Implied;
+use crate::level_point::point_of;
+use crate::meeting::{is_waiting, resolve};
+use crate::walk::{KEPT, Walk};
+use cnf_formula::OutOfMemory;
+use trail_core::Core;
+
+/// Whether the literal at a place is kept, has a reason, and lies above the point of its level or is found to be implied by
+/// others.
+fn is_spare(core: &Core, walk: &Walk, implied: &mut Implied, place: usize, point: usize) -> bool
+    requires place { place < length core.now.trail }
+    requires len { length walk.now.marks.items ≡ core.now.vars + 1 }
+    requires few { walk.now.stamp ≤ 251 }
+    ensures kept { IsTrue result → mark_of (value_of walk.now) (lit_at core.now place) ≡ walk.now.stamp }
+    ensures implied { IsTrue result → IsImplied core.now.clauses (IsDue core.now.limits) (take place core.now.trail) (step_at core.now place) }
+{
+    if !is_waiting(core, walk, place, KEPT) {
+        return false;
+    }
+    let lit = core.trail()[place];
+    let Some(_reason) = core.reason(lit) else {
+        return false;
+    };
+    place > point || implied.is_implied(core, lit.negated())
+}
+
+/// Resolves the steps of a level between level 0 and the last level whose literals are to be taken out.
+fn walk_level(
+    core: &Core,
+    walk: &mut Walk,
+    implied: &mut Implied,
+    level: u32,
+) -> Result<(), OutOfMemory>
+    requires formed { IsTrail core.now.vars core.now.trail core.now.limits }
+    requires sorted { IsSorted core.now (value_of walk.old) }
+    requires few { walk.old.stamp ≤ 251 }
+    requires above { 0 < level }
+    requires below { level < length core.now.limits }
+    requires passed { IsPassed core.now 3 (value_of walk.old) (get_or core.now.limits level 0) }
+    ensures sorted { OnOk result (IsSorted core.now (value_of walk.new)) }
+    ensures onward { OnOk result (IsOnward (value_of walk.old) (value_of walk.new)) }
+    ensures same { OnOk result (HasSameOpen core.now (value_of walk.old) (value_of walk.new)) }
+    ensures passed { (low : ℕ) → low + 1 ≡ level → OnOk result (IsPassed core.now 3 (value_of walk.new) (get_or core.now.limits low 0)) }
+{
+    let from = core.height(level - 1);
+    let to = core.height(level);
+    let point = point_of(core, walk, implied, level, from, to);
+    let mut place = to;
+    while place > from {
+        place -= 1;
+        if is_spare(core, walk, implied, place, point) {
+            resolve(core, walk, place)?;
+        }
+    }
+    Ok(())
+}
+
+/// Resolves the steps between level 0 and the last level whose literals are to be taken out.
+pub fn walk_middle(core: &Core, walk: &mut Walk, implied: &mut Implied) -> Result<(), OutOfMemory>
+    requires formed { IsTrail core.now.vars core.now.trail core.now.limits }
+    requires sorted { IsSorted core.now (value_of walk.old) }
+    requires few { walk.old.stamp ≤ 251 }
+    requires above { 0 < length core.now.limits }
+    requires passed { (last : ℕ) → last + 1 ≡ length core.now.limits → IsPassed core.now 3 (value_of walk.old) (get_or core.now.limits last 0) }
+    ensures sorted { OnOk result (IsSorted core.now (value_of walk.new)) }
+    ensures onward { OnOk result (IsOnward (value_of walk.old) (value_of walk.new)) }
+    ensures same { OnOk result (HasSameOpen core.now (value_of walk.old) (value_of walk.new)) }
+    ensures passed { OnOk result (IsPassed core.now 3 (value_of walk.new) (get_or core.now.limits 0 0)) }
+{
+    implied.begin(&walk.lits);
+    let mut level = core.depth();
+    while level > 1 {
+        level -= 1;
+        walk_level(core, walk, implied, level)?;
+    }
+    Ok(())
+}

@@ -1,0 +1,19 @@
+-- The files that a search leaves are what an audit looks for.
+use Rattle.std.proofs.lemmas.List.Elements.{All-weaker}
+use Rattle.outer_ports.specs.declared.part.Part.{Part}
+use Rattle.outer_ports.specs.Files.{Files}
+use Rattle.candidate_order.specs.Frontiers.{QuestionValue, FrontierValue}
+use Rattle.candidate_formula.specs.Files.{HasRefutation, HasLog, RefutedFiles, UnknownFiles, FrontierFiles}
+use Rattle.report_form.specs.Reports.{ReportValue, question_of}
+use Rattle.frontier_audit.specs.OwedFiles.{Proves}
+use Rattle.frontier_audit.specs.Shelves.{PartRight, ShelfRight}
+
+files_right : (part : Part) (q : QuestionValue) (files : Files) (f : FrontierValue) → FrontierFiles part q files f → PartRight part q f files
+files_right part q files f has = record {
+  refuted = All-weaker (RefutedFiles part q files) (HasRefutation part q files) (λ x own. own.refutation) f.refuted has.refuted;
+  unknown = All-weaker (UnknownFiles part q files) (HasLog part q files) (λ u own. own.log) f.unknown has.unknown;
+}
+
+pub proves_right : (r : ReportValue) (before after : Files) → Proves r before after → ShelfRight r after
+proves_right r before after proves =
+    All-weaker (λ x. FrontierFiles x.0 (question_of r.words r.topology x.0) after x.1) (λ x. PartRight x.0 (question_of r.words r.topology x.0) x.1 after) (λ x has. files_right x.0 (question_of r.words r.topology x.0) after x.1 has) r.frontiers proves.files

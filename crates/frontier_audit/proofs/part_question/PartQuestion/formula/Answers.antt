@@ -1,0 +1,13 @@
+use Rattle.std.proofs.Common.{◌∙◌}
+use Rattle.frontier_audit.proofs.Asking.{is_sought, formula_is}
+use Rattle.frontier_audit.proofs.part_question.PartQuestion.formula.Goals as goal
+
+pub encode_candidate-requires : goal.encode_candidate-requires
+encode_candidate-requires c =
+    let a = c.self.inside in
+    is_sought a.topology a.searched a.spec a.limits c.args.self.now c.self.view_is c.self.invariant c.args.candidate c.requires
+
+pub returns : goal.returns
+returns c =
+    let a = c.self.inside in
+    c.in_ok-encoding.ensures.formula a.limits ∙ formula_is a.topology a.searched a.spec a.limits c.args.self.now c.self.view_is c.self.invariant c.args.candidate

@@ -1,0 +1,6 @@
+pub mod Each
+pub mod Fronts
+pub mod Members
+pub mod Pairs
+pub mod Ranges
+pub mod Tests

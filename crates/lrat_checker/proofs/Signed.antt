@@ -1,0 +1,53 @@
+-- Signatures of clauses: one that stands in another has no bit that the other lacks.
+use Rattle.std.proofs.Common.{◌≡◌, ℕ, ◌+◌, ◌<◌, ◌≤◌, true, List, [], ◌∷◌, ◌++◌, length, take, get_or, sym, ap, ◌∙◌, subst, ⊎_elim, arith}
+use Rattle.std.specs.Prelude.{max, bit_or}
+use Rattle.std.specs.Int.{bit_at}
+use Rattle.std.specs.Int.Bits.{or_zero_r, or_zero_l}
+use Rattle.std.proofs.Math.Nat.{le_antisymm, le_trans, le-max_left, le-max_right, max-le, max-eq_right}
+use Rattle.std.proofs.lemmas.Bool.{false≢true, eq-eqb, and_parts, or_cases}
+use Rattle.std.proofs.lemmas.List.{take_more}
+use Rattle.std.proofs.lemmas.Nat.Bits.{bit_at_or, bit_at-zero, same_from_bits}
+use Rattle.cnf_formula.specs.Literals.{LitValue, same_literal, has_literal, is_superset}
+use Rattle.cnf_formula.proofs.Clauses.{same_is}
+use Rattle.lrat_checker.specs.Leads.{bit_of, signature_of, has_bits_within}
+
+-- ---- one literal more
+
+max_assoc : (a b c : ℕ) → max (max a b) c ≡ max a (max b c)
+max_assoc a b c = le_antisymm
+    (max-le (max-le (le-max_left a (max b c)) (le_trans (le-max_left b c) (le-max_right a (max b c)))) (le_trans (le-max_right b c) (le-max_right a (max b c))))
+    (max-le (le_trans (le-max_left a b) (le-max_left (max a b) c)) (max-le (le_trans (le-max_right a b) (le-max_left (max a b) c)) (le-max_right (max a b) c)))
+
+or_assoc : (a b c : ℕ) → bit_or (bit_or a b) c ≡ bit_or a (bit_or b c)
+or_assoc a b c = same_from_bits (bit_or (bit_or a b) c) (bit_or a (bit_or b c))
+    (λ i. bit_at_or (bit_or a b) c i ∙ ap (λ n. max n (bit_at c i)) (bit_at_or a b i) ∙ max_assoc (bit_at a i) (bit_at b i) (bit_at c i)
+    ∙ ap (max (bit_at a i)) (sym (bit_at_or b c i)) ∙ sym (bit_at_or a (bit_or b c) i))
+
+signature-push : (xs : List LitValue) (x : LitValue) → signature_of (xs ++ x ∷ []) ≡ bit_or (signature_of xs) (bit_of x)
+signature-push [] x = or_zero_r (bit_of x) ∙ sym (or_zero_l (bit_of x))
+signature-push (y ∷ xs) x = ap (bit_or (bit_of y)) (signature-push xs x) ∙ sym (or_assoc (bit_of y) (signature_of xs) (bit_of x))
+
+pub one_bit_more : (xs : List LitValue) (k : ℕ) (x : LitValue) → k < length xs → x ≡ get_or xs k x → bit_or (signature_of (take k xs)) (bit_of x) ≡ signature_of (take (k + 1) xs)
+one_bit_more xs k x w is = sym (ap signature_of (take_more xs k x w ∙ ap (λ y. take k xs ++ y ∷ []) (sym is)) ∙ signature-push (take k xs) x)
+
+-- ---- the bits of literals that stand in a clause
+
+bits_of_literal : (ys : List LitValue) (x : LitValue) → has_literal ys x ≡ true → (i : ℕ) → bit_at (bit_of x) i ≤ bit_at (signature_of ys) i
+bits_of_literal [] x h i = absurd (false≢true h)
+bits_of_literal (y ∷ ys) x h i = subst (λ n. bit_at (bit_of x) i ≤ n) (sym (bit_at_or (bit_of y) (signature_of ys) i))
+    (⊎_elim
+    (λ here. subst (λ z. bit_at (bit_of x) i ≤ max (bit_at (bit_of z) i) (bit_at (signature_of ys) i)) (same_is x y here) (le-max_left (bit_at (bit_of x) i) (bit_at (signature_of ys) i)))
+    (λ later. le_trans (bits_of_literal ys x later i) (le-max_right (bit_at (bit_of y) i) (bit_at (signature_of ys) i)))
+    (or_cases (same_literal x y) (has_literal ys x) h))
+
+bits_of_clause : (ys xs : List LitValue) → is_superset ys xs ≡ true → (i : ℕ) → bit_at (signature_of xs) i ≤ bit_at (signature_of ys) i
+bits_of_clause ys [] h i = subst (λ n. n ≤ bit_at (signature_of ys) i) (sym (bit_at-zero i)) (omega arith)
+bits_of_clause ys (x ∷ xs) h i =
+    let parts = and_parts (has_literal ys x) (is_superset ys xs) h in
+    subst (λ n. n ≤ bit_at (signature_of ys) i) (sym (bit_at_or (bit_of x) (signature_of xs) i)) (max-le (bits_of_literal ys x parts.0 i) (bits_of_clause ys xs parts.1 i))
+
+pub signature_within : (ys xs : List LitValue) → is_superset ys xs ≡ true → has_bits_within (signature_of xs) (signature_of ys) ≡ true
+signature_within ys xs h =
+    let a = signature_of xs in
+    let b = signature_of ys in
+    eq-eqb (bit_or a b) b (same_from_bits (bit_or a b) b (λ i. bit_at_or a b i ∙ max-eq_right (bits_of_clause ys xs h i)))

@@ -1,0 +1,8 @@
+use Rattle.std.proofs.Common.{ap, ◌∙◌, arith}
+use Rattle.std.specs.Prelude.{◌^◌, ◌%◌}
+use Rattle.std.proofs.lemmas.Nat.{one_shl}
+use Rattle.std.proofs.Math.Nat.{mod-lt}
+use Rattle.lrat_checker.proofs.leads.bit_of.Goals as goal
+
+pub returns : goal.returns
+returns c = one_shl (c.code.result % 64) 64 (mod-lt c.code.result (omega arith)) ∙ ap (λ n. 2 ^ (n % 64)) c.code.ensures.code

@@ -1,7 +1,0 @@
-use Rattle.std.proofs.Common.{◌≡◌, ◌++◌, ◌∷◌}
-use Rattle.std.specs.List.{flat_map, range_with_len}
-use Rattle.point_replay.specs.Appended.{bag_word}
-use Rattle.point_replay.proofs.bags.push_bags.Given as goal
-
-abbrev pub invariant-loop-chunk : goal.invariant-loop-chunk
-invariant-loop-chunk l = l.out.items ≡ l.initial.out.items ++ flat_map (λ chunk. 32 ∷ bag_word l.store l.node chunk) (range_with_len 0 l.chunk)

@@ -1,0 +1,190 @@
+-- The lines that are appended for a point are those that it shows.
+use Rattle.std.proofs.Common.{◌≡◌, ℕ, zero, suc, ◌+◌, ◌<◌, ◌≤◌, Bool, true, false, if◌then◌else◌, List, [], ◌∷◌, ◌++◌, map, length, Option, None, Some, refl, sym, ap, ◌∙◌, arith, codes, decimal, append-nil, append_assoc}
+use Rattle.std.specs.List.{range_with_len}
+use Rattle.std.proofs.lemmas.Grind.{flat_map-append}
+use Rattle.schedule.specs.Sends.{ScheduleValue}
+use Rattle.schedule.specs.Placed.{PlacementValue}
+use Rattle.schedule.specs.Links.{TopologyValue}
+use Rattle.schedule.specs.Bags.{Bags, contributions, held_at_2, of_placement}
+use Rattle.schedule.specs.Running.{run_of}
+use Rattle.schedule.specs.JoinedRuns.{joined_run}
+use Rattle.schedule.specs.Judging.{verdict_of}
+use Rattle.schedule.specs.declared.verdict.Verdict.{Verdict}
+use Rattle.inversion.specs.declared.verdict.SumVerdict.{SumVerdict}
+use Rattle.inversion.specs.Saying.{says_solves, says_sums}
+use Rattle.collective_spec.specs.declared.instance.Instance.{Instance}
+use Rattle.collective_spec.specs.declared.spec.Spec.{Spec}
+use Rattle.collective_spec.specs.Collectives.{chunks_in, spec_instance}
+use Rattle.bag_runs.specs.Stores.{StoreValue, stored}
+use Rattle.node_programs.specs.Machines.{State}
+use Rattle.node_programs.specs.Ended.{machine_of}
+use Rattle.bag_runs.proofs.Tables.{table_cell}
+use Rattle.text_lines.specs.Text.{line, text_of}
+use Rattle.topology_text.specs.Spelling.{name_at}
+use Rattle.replay_text.specs.Replay.{node_lines, numbered_steps, verdict_words}
+use Rattle.replay_text.specs.Showing as showing
+use Rattle.replay_text.specs.Showing.{Shown, adding_of, bag_lines, bag_words, chunks_at, copied_verdict, counts_word, holds_as_shown, instance_at, is_copied, is_joined, nodes_of, order_lines, shown_lines, shown_steps, shown_text, shown_verdict, start_bags, steps_that_add, sum_words, summed_verdict}
+use Rattle.replay_text.specs.Points.{body_lines}
+use Rattle.replay_text.specs.Appended.{bag_word, digits_of, keeper_words, more_lines, placed_lines, placed_steps, store_lines, stored_lines, stored_steps}
+use Rattle.replay_text.proofs.Lines.{appends}
+use Rattle.replay_text.proofs.Showable.{pre_chunks, pre_nodes}
+
+-- ---- lines from steps, a verdict, and a machine
+
+abbrev lines_with : List (List ℕ) → List (List (List (List ℕ))) → List (List ℕ) → State → Option ℕ → List (List (List ℕ))
+lines_with names steps verdict m order = numbered_steps 0 steps ++ (verdict ∷ more_lines names m steps order)
+
+more_where : (x : Shown) (order : Option ℕ) (holds : Bool) → (if holds then order_lines x order else []) ≡ more_lines x.names (showing.machine_of x) (shown_steps x) (if holds then order else None)
+more_where x None true = refl
+more_where x (Some seed) true = refl
+more_where x order false = refl
+
+body_is : (x : Shown) (order : Option ℕ) → body_lines x order ≡ lines_with x.names (shown_steps x) (shown_verdict x) (showing.machine_of x) (if holds_as_shown x then order else None)
+body_is x order = ap (λ more. numbered_steps 0 (shown_steps x) ++ (shown_verdict x ∷ more)) (more_where x order (holds_as_shown x))
+
+-- equal in each part
+same_lines : (names : List (List ℕ)) (a b : List (List (List (List ℕ)))) (v w : List (List ℕ)) (m n : State) (g h : Bool) (order : Option ℕ) → a ≡ b → v ≡ w → m ≡ n → g ≡ h
+    → lines_with names a v m (if g then order else None) ≡ lines_with names b w n (if h then order else None)
+same_lines names a b v w m n g h order p q r s =
+    ap (λ steps. lines_with names steps v m (if g then order else None)) p
+    ∙ ap (λ verdict. lines_with names b verdict m (if g then order else None)) q
+    ∙ ap (λ machine. lines_with names b w machine (if g then order else None)) r
+    ∙ ap (λ holds. lines_with names b w n (if holds then order else None)) s
+
+-- ---- a point that copies
+
+module _ (x : Shown) (copied : is_copied x ≡ true) where
+  steps_copied : shown_steps x ≡ placed_steps x.names (instance_at x).pre x.point.schedule
+  steps_copied = ap (λ b. if b then map (node_lines x.names) (run_of (instance_at x).pre x.point.schedule) else map (bag_lines x) (joined_run (contributions (nodes_of x)) x.point.schedule (adding_of x))) copied
+
+  verdict_copied : shown_verdict x ≡ verdict_words x.names (copied_verdict x)
+  verdict_copied = ap (λ b. if b then verdict_words x.names (copied_verdict x) else sum_words x.names (summed_verdict x)) copied
+
+  holds_copied : holds_as_shown x ≡ says_solves (copied_verdict x)
+  holds_copied = ap (λ b. if b then says_solves (copied_verdict x) else says_sums (summed_verdict x)) copied
+
+  machine_copied : showing.machine_of x ≡ machine_of (instance_at x).pre.chunks (instance_at x).pre.nodes (of_placement (instance_at x).pre) x.point.schedule 0
+  machine_copied =
+      let pre = (instance_at x).pre in
+      let adding : adding_of x ≡ 0 = ap (λ b. if b then 0 else steps_that_add x.point.mark (length x.point.schedule.rounds)) copied in
+      let bags : start_bags x ≡ of_placement pre = ap (λ b. if b then of_placement pre else contributions (nodes_of x)) copied in
+      ap (λ n. machine_of (chunks_at x) (nodes_of x) (start_bags x) x.point.schedule n) adding
+      ∙ ap (λ b. machine_of (chunks_at x) (nodes_of x) b x.point.schedule 0) bags
+      ∙ ap (λ chunks. machine_of chunks (nodes_of x) (of_placement pre) x.point.schedule 0) (sym (pre_chunks x.question.spec (nodes_of x) x.point.candidate.c))
+      ∙ ap (λ nodes. machine_of pre.chunks nodes (of_placement pre) x.point.schedule 0) (sym (pre_nodes x.question.spec (nodes_of x) x.point.candidate.c))
+
+  pub body_copied : (order : Option ℕ) → body_lines x order ≡ placed_lines x.names (instance_at x).pre x.point.schedule (copied_verdict x) order
+  body_copied order = body_is x order ∙ same_lines x.names _ _ _ _ _ _ _ _ order steps_copied verdict_copied machine_copied holds_copied
+
+-- ---- a point that adds up
+
+same_on : {X : Type 0} (f g : ℕ → X) (n a top : ℕ) → a + n ≤ top → ((k : ℕ) → k < top → f k ≡ g k) → map f (range_with_len a n) ≡ map g (range_with_len a n)
+same_on f g zero a top le e = refl
+same_on f g (suc n) a top le e =
+    ap (λ y. y ∷ map f (range_with_len (a + 1) n)) (e a (omega (arith, le)))
+    ∙ ap (λ ys. g a ∷ ys) (same_on f g n (a + 1) top (omega (arith, le)) e)
+
+same_each : {X Y : Type 0} (f g : X → Y) (xs : List X) → ((x : X) → f x ≡ g x) → map f xs ≡ map g xs
+same_each f g [] e = refl
+same_each f g (x ∷ xs) e = ap (λ y. y ∷ map f xs) (e x) ∙ ap (λ ys. g x ∷ ys) (same_each f g xs e)
+
+-- the lines of the bags that a store keeps
+module _ (x : Shown) (bags : Bags) where
+  abbrev kept : StoreValue
+  kept = stored (chunks_at x) (nodes_of x) bags
+
+  same_word : (node : ℕ) → node < nodes_of x → (chunk : ℕ) → chunk < chunks_at x → decimal chunk ++ 61 ∷ counts_word (bags (chunk, node)) ≡ bag_word kept node chunk
+  same_word node inside chunk low = ap (λ counts. decimal chunk ++ 61 ∷ digits_of counts) (sym (table_cell (λ pair. held_at_2 (bags pair)) (nodes_of x) (chunks_at x) chunk node [] low inside))
+
+  same_words : (node : ℕ) → node < nodes_of x → bag_words x bags node ≡ keeper_words x.names kept node
+  same_words node inside =
+      ap (λ ws. name_at x.names node ∷ ws) (same_on (λ chunk. decimal chunk ++ 61 ∷ counts_word (bags (chunk, node))) (bag_word kept node) (chunks_at x) 0 (chunks_at x) (omega arith) (same_word node inside))
+
+  bags_shown : bag_lines x bags ≡ store_lines x.names kept
+  bags_shown = same_on (bag_words x bags) (keeper_words x.names kept) (nodes_of x) 0 (nodes_of x) (omega arith) same_words
+
+module _ (x : Shown) (adds : is_copied x ≡ false) where
+  steps_added : shown_steps x ≡ stored_steps x.names (chunks_at x) (nodes_of x) (contributions (nodes_of x)) x.point.schedule (adding_of x)
+  steps_added =
+      ap (λ b. if b then map (node_lines x.names) (run_of (instance_at x).pre x.point.schedule) else map (bag_lines x) (joined_run (contributions (nodes_of x)) x.point.schedule (adding_of x))) adds
+      ∙ same_each (bag_lines x) (λ bags. store_lines x.names (stored (chunks_at x) (nodes_of x) bags)) (joined_run (contributions (nodes_of x)) x.point.schedule (adding_of x)) (bags_shown x)
+
+  verdict_added : shown_verdict x ≡ sum_words x.names (summed_verdict x)
+  verdict_added = ap (λ b. if b then verdict_words x.names (copied_verdict x) else sum_words x.names (summed_verdict x)) adds
+
+  holds_added : holds_as_shown x ≡ says_sums (summed_verdict x)
+  holds_added = ap (λ b. if b then says_solves (copied_verdict x) else says_sums (summed_verdict x)) adds
+
+  machine_added : showing.machine_of x ≡ machine_of (chunks_at x) (nodes_of x) (contributions (nodes_of x)) x.point.schedule (adding_of x)
+  machine_added =
+      let bags : start_bags x ≡ contributions (nodes_of x) = ap (λ b. if b then of_placement (instance_at x).pre else contributions (nodes_of x)) adds in
+      ap (λ b. machine_of (chunks_at x) (nodes_of x) b x.point.schedule (adding_of x)) bags
+
+  pub body_added : (order : Option ℕ) → body_lines x order ≡ stored_lines x.names (chunks_at x) (nodes_of x) (contributions (nodes_of x)) x.point.schedule (adding_of x) (summed_verdict x) order
+  body_added order = body_is x order ∙ same_lines x.names _ _ _ _ _ _ _ _ order steps_added verdict_added machine_added holds_added
+
+  pub adding_is : adding_of x ≡ steps_that_add x.point.mark (length x.point.schedule.rounds)
+  adding_is = ap (λ b. if b then 0 else steps_that_add x.point.mark (length x.point.schedule.rounds)) adds
+
+-- ---- the whole text
+
+ended : (verdict : List (List ℕ)) (steps more : List (List (List ℕ))) → text_of (steps ++ (verdict ∷ (more ++ (codes "end" ∷ []) ∷ []))) ≡ text_of (steps ++ (verdict ∷ more)) ++ codes "end\n"
+ended verdict steps more =
+    ap text_of (sym (append_assoc steps (verdict ∷ more) ((codes "end" ∷ []) ∷ [])))
+    ∙ flat_map-append line (steps ++ (verdict ∷ more)) ((codes "end" ∷ []) ∷ [])
+    ∙ ap (λ t. text_of (steps ++ (verdict ∷ more)) ++ t) (append-nil (codes "end\n"))
+
+pub text_is : (number : ℕ) (x : Shown) (order : Option ℕ) → line (codes "replay" ∷ decimal number ∷ []) ++ (text_of (body_lines x order) ++ codes "end\n") ≡ shown_text number x order
+unfolding shown_text
+text_is number x order =
+    let more = if holds_as_shown x then order_lines x order else [] in
+    ap (λ t. line (codes "replay" ∷ decimal number ∷ []) ++ t) (sym (ended (shown_verdict x) (numbered_steps 0 (shown_steps x)) more))
+
+pub whole_text : (number n : ℕ) (x : Shown) (order : Option ℕ) (a b c d : List ℕ) → a ≡ [] → n ≡ number → b ≡ a ++ line (codes "replay" ∷ decimal n ∷ []) → c ≡ b ++ text_of (body_lines x order) → d ≡ c ++ codes "end\n" → d ≡ shown_text number x order
+whole_text number n x order a b c d none same p q r =
+    let head : b ≡ line (codes "replay" ∷ decimal number ∷ []) = p ∙ ap (λ t. t ++ line (codes "replay" ∷ decimal n ∷ [])) none ∙ ap (λ k. line (codes "replay" ∷ decimal k ∷ [])) same in
+    appends b c d (text_of (body_lines x order)) (codes "end\n") _ q r refl ∙ ap (λ t. t ++ (text_of (body_lines x order) ++ codes "end\n")) head ∙ text_is number x order
+
+-- ---- what the calls for a point give
+
+-- its instance
+pub instance_is : (x : Shown) (i : Instance) (spec : Spec) (nodes c : ℕ) → spec ≡ x.question.spec → nodes ≡ nodes_of x → c ≡ x.point.candidate.c → i ≡ spec_instance spec nodes c → i ≡ instance_at x
+instance_is x i spec nodes c e n m is = is ∙ ap (λ s. spec_instance s nodes c) e ∙ ap (λ k. spec_instance x.question.spec k c) n ∙ ap (spec_instance x.question.spec (nodes_of x)) m
+
+-- and its chunks
+pub chunks_are : (x : Shown) (chunks : ℕ) (spec : Spec) (nodes c : ℕ) → spec ≡ x.question.spec → nodes ≡ nodes_of x → c ≡ x.point.candidate.c → chunks ≡ chunks_in spec nodes c → chunks ≡ chunks_at x
+chunks_are x chunks spec nodes c e n m is = is ∙ ap (λ s. chunks_in s nodes c) e ∙ ap (λ k. chunks_in x.question.spec k c) n ∙ ap (chunks_in x.question.spec (nodes_of x)) m
+
+pub copied_lines : (x : Shown) → is_copied x ≡ true → (names : List (List ℕ)) (t : TopologyValue) (i : Instance) (pre post : PlacementValue) (s : ScheduleValue) (v : Verdict) (order : Option ℕ)
+    → names ≡ x.names → t ≡ x.question.topology → i ≡ instance_at x → pre ≡ i.pre → post ≡ i.post → s ≡ x.point.schedule → v ≡ verdict_of t pre post s → text_of (placed_lines names pre s v order) ≡ text_of (body_lines x order)
+copied_lines x copied names t i pre post s v order n u own p q e judged =
+    let first : pre ≡ (instance_at x).pre = p ∙ ap (λ (j : Instance). j.pre) own in
+    let last : post ≡ (instance_at x).post = q ∙ ap (λ (j : Instance). j.post) own in
+    let verdict : v ≡ copied_verdict x =
+    judged ∙ ap (λ k. verdict_of k pre post s) u ∙ ap (λ k. verdict_of x.question.topology k post s) first
+    ∙ ap (λ k. verdict_of x.question.topology (instance_at x).pre k s) last ∙ ap (verdict_of x.question.topology (instance_at x).pre (instance_at x).post) e in
+    ap (λ k. text_of (placed_lines k pre s v order)) n
+    ∙ ap (λ k. text_of (placed_lines x.names k s v order)) first
+    ∙ ap (λ k. text_of (placed_lines x.names (instance_at x).pre k v order)) e
+    ∙ ap (λ k. text_of (placed_lines x.names (instance_at x).pre x.point.schedule k order)) verdict
+    ∙ sym (ap text_of (body_copied x copied order))
+
+pub added_lines : (x : Shown) → is_copied x ≡ false → (names : List (List ℕ)) (start : StoreValue) (chunks nodes adding : ℕ) (s : ScheduleValue) (v : SumVerdict) (order : Option ℕ) (a d : List ℕ)
+    → names ≡ x.names → chunks ≡ chunks_at x → nodes ≡ nodes_of x → adding ≡ steps_that_add x.point.mark (length x.point.schedule.rounds) → s ≡ x.point.schedule → v ≡ summed_verdict x → start ≡ stored chunks nodes (contributions nodes)
+    → ((bags : Bags) → start ≡ stored start.chunks start.nodes bags → d ≡ a ++ text_of (stored_lines names start.chunks start.nodes bags s adding v order)) → d ≡ a ++ text_of (body_lines x order)
+added_lines x adds names start chunks nodes adding s v order a d n g w k e judged is done =
+    let bags : Bags = contributions (nodes_of x) in
+    let made : start ≡ stored (chunks_at x) (nodes_of x) bags = is ∙ ap (λ c. stored c nodes (contributions nodes)) g ∙ ap (λ m. stored (chunks_at x) m (contributions m)) w in
+    let own_chunks : start.chunks ≡ chunks_at x = ap (λ st. st.chunks) made in
+    let own_nodes : start.nodes ≡ nodes_of x = ap (λ st. st.nodes) made in
+    let from : start ≡ stored start.chunks start.nodes bags = made ∙ sym (ap (λ c. stored c start.nodes bags) own_chunks ∙ ap (λ m. stored (chunks_at x) m bags) own_nodes) in
+    let adds_so : adding ≡ adding_of x = k ∙ sym (adding_is x adds) in
+    done bags from
+    ∙ ap (λ t. a ++ text_of t)
+    (ap (λ names. stored_lines names start.chunks start.nodes bags s adding v order) n
+    ∙ ap (λ c. stored_lines x.names c start.nodes bags s adding v order) own_chunks
+    ∙ ap (λ m. stored_lines x.names (chunks_at x) m bags s adding v order) own_nodes
+    ∙ ap (λ p. stored_lines x.names (chunks_at x) (nodes_of x) bags p adding v order) e
+    ∙ ap (λ m. stored_lines x.names (chunks_at x) (nodes_of x) bags x.point.schedule m v order) adds_so
+    ∙ ap (λ o. stored_lines x.names (chunks_at x) (nodes_of x) bags x.point.schedule (adding_of x) o order) judged
+    ∙ sym (body_added x adds order))

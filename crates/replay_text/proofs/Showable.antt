@@ -1,0 +1,109 @@
+-- What a report keeps of each of its points, and the instance that its part asks for.
+use Rattle.std.proofs.Common.{◌≡◌, arith, ◌≤◌, ◌<◌, ℕ, zero, suc, true, false, List, [], ◌∷◌, map, All, Option, None, Some, IfSome, IsTrue, slice_get, refl, subst}
+use Rattle.std.specs.Prelude.{nat_le, Contains}
+use Rattle.std.specs.List.{AllByRecursion, flat_map}
+use Rattle.std.proofs.lemmas.Bool.{and_parts, leb-true, not-true}
+use Rattle.std.proofs.lemmas.List.Elements.{All-contains, All-from_recursion, recursion_from_All}
+use Rattle.outer_ports.specs.declared.part.Part.{Part}
+use Rattle.outer_ports.specs.declared.part.Part.TheVariants as part
+use Rattle.collective_spec.specs.declared.kind.Kind.{Kind}
+use Rattle.collective_spec.specs.declared.collective.Collective.{Collective}
+use Rattle.collective_spec.specs.declared.spec.Spec.{Spec}
+use Rattle.collective_spec.specs.declared.spec.Spec.TheVariants as spec
+use Rattle.collective_spec.specs.Kinds.{allows, divides_evenly, is_custom}
+use Rattle.collective_spec.specs.Patterns.{PatternValue, IsPattern}
+use Rattle.collective_spec.specs.Collectives.{IsSpec, chunks_in, fits_kind, spec_instance, spec_of}
+use Rattle.candidate_order.specs.Frontiers.{PointValue, FrontierValue}
+use Rattle.report_form.specs.Reports.{ReportValue, IsReport, IsPoint, IsJoinedPoint, question_of, kind_of}
+use Rattle.report_form.specs.Numbered.{point_at, points_of}
+use Rattle.schedule.proofs.First.{each_append}
+use Rattle.replay_text.specs.Showing.{shown_in}
+use Rattle.replay_text.specs.Points.{IsShowable}
+
+get_has : {X : Type 0} (P : X → Type 0) (xs : List X) (n : ℕ) (x : X) → AllByRecursion P xs → slice_get xs n ≡ Some x → P x
+get_has P [] n x all e = absurd (cc)
+get_has P (y ∷ ys) zero x all e = let same : y ≡ x = cc in subst P same all.0
+get_has P (y ∷ ys) (suc n) x all e = get_has P ys n x all.1 e
+
+-- ---- what its part asks for
+
+not_custom : (whole : Kind) (part : Part) → is_custom whole ≡ false → is_custom (kind_of whole part) ≡ false
+not_custom whole part.Whole e = e
+not_custom whole part.Reduce e = refl
+not_custom whole part.Gather e = refl
+not_custom whole part.Joined e = e
+
+spec_is : (whole : Collective) (part : Part) (nodes : ℕ) (custom : Option PatternValue) → fits_kind whole.kind custom ≡ true → whole.root < nodes → IfSome custom (IsPattern nodes)
+    → IsSpec nodes (spec_of (record { kind = kind_of whole.kind part; root = whole.root }) custom)
+spec_is whole part nodes None fits root given = (not_custom whole.kind part (not-true (is_custom whole.kind) fits), root)
+spec_is whole part nodes (Some p) fits root given = given
+
+-- the spec of a part is one for the nodes
+spec_valid : (r : ReportValue) (part : Part) → IsReport r → IsSpec r.topology.topology.nodes (question_of r.words r.topology part).spec
+spec_valid r part valid =
+    spec_is r.words.collective part r.topology.topology.nodes r.topology.custom valid.pattern (subst (λ n. r.words.collective.root < n) valid.topology.as_many valid.words.root) valid.topology.custom
+
+-- ---- each point of a report can be shown
+
+some_count : (k : Kind) (nodes c : ℕ) → IsTrue (allows k nodes c) → 1 ≤ c
+some_count k nodes c e = leb-true 1 c (and_parts (nat_le 1 c) (divides_evenly k nodes c) e).0
+
+module _ (r : ReportValue) (valid : IsReport r) where
+  of_point : (part : Part) (p : PointValue) → IsPoint (question_of r.words r.topology part) p → IsShowable (shown_in r (part, p))
+  of_point part p point = record {
+    spec = spec_valid r part valid;
+    schedule = point.has.schedule;
+    in_range = point.has.in_range;
+    allowed = λ _. point.within.allowed;
+    some = some_count _ _ _ point.within.allowed;
+    few = omega (arith, point.within.chunks, valid.words.limits.chunks);
+  }
+
+  of_joined : (p : PointValue) → IsJoinedPoint (question_of r.words r.topology part.Joined) p → IsShowable (shown_in r (part.Joined, p))
+  of_joined p point = record {
+    spec = spec_valid r part.Joined valid;
+    schedule = point.has.schedule;
+    in_range = point.has.in_range;
+    allowed = λ e. absurd (cc);
+    some = point.some_chunks;
+    few = omega (arith, point.chunks, valid.words.limits.chunks);
+  }
+
+  abbrev Shows : Part × PointValue → Type 0
+  Shows x = IsShowable (shown_in r x)
+
+  part_shows : (part : Part) (points : List PointValue) → AllByRecursion (IsPoint (question_of r.words r.topology part)) points → AllByRecursion Shows (map (λ p. (part, p)) points)
+  part_shows part [] all = tt
+  part_shows part (p ∷ points) all = (of_point part p all.0, part_shows part points all.1)
+
+  frontiers_show : (xs : List (Part × FrontierValue)) → AllByRecursion (λ x. All (IsPoint (question_of r.words r.topology x.0)) x.1.points) xs → AllByRecursion Shows (flat_map (λ x. map (λ p. (x.0, p)) x.1.points) xs)
+  frontiers_show [] all = tt
+  frontiers_show (x ∷ xs) all = each_append Shows _ _ (part_shows x.0 x.1.points (recursion_from_All _ x.1.points all.0)) (frontiers_show xs all.1)
+
+  joined_show : (points : List PointValue) → AllByRecursion (IsJoinedPoint (question_of r.words r.topology part.Joined)) points → AllByRecursion Shows (map (λ p. (part.Joined, p)) points)
+  joined_show [] all = tt
+  joined_show (p ∷ points) all = (of_joined p all.0, joined_show points all.1)
+
+  all_show : AllByRecursion Shows (points_of r)
+  all_show =
+      let frontiers : AllByRecursion (λ y. All (IsPoint (question_of r.words r.topology y.0)) y.1.points) r.frontiers = recursion_from_All _ r.frontiers (λ k d at. (valid.frontiers k d at).points) in
+      each_append Shows _ _ (frontiers_show r.frontiers frontiers) (joined_show r.joined (recursion_from_All _ r.joined valid.joined))
+
+  -- the point of a number is one of the report's
+  pub numbered_shows : (n : ℕ) (x : Part × PointValue) → point_at r n ≡ Some x → IsShowable (shown_in r x)
+  numbered_shows zero x e = absurd (cc)
+  numbered_shows (suc n) x e = get_has Shows (points_of r) n x all_show e
+
+  -- and so is each that stands among them
+  pub listed_shows : (x : Part × PointValue) → Contains (points_of r) x → IsShowable (shown_in r x)
+  listed_shows x at = All-contains Shows (points_of r) x (All-from_recursion Shows (points_of r) all_show) at
+
+-- ---- its instance, and its demand
+
+pub pre_chunks : (x : Spec) (nodes c : ℕ) → (spec_instance x nodes c).pre.chunks ≡ chunks_in x nodes c
+pre_chunks (spec.Standard collective) nodes c = refl
+pre_chunks (spec.Custom p) nodes c = refl
+
+pub pre_nodes : (x : Spec) (nodes c : ℕ) → (spec_instance x nodes c).pre.nodes ≡ nodes
+pre_nodes (spec.Standard collective) nodes c = refl
+pre_nodes (spec.Custom p) nodes c = refl

@@ -1,0 +1,199 @@
+-- The line that says what was asked is read, where it is spelled.
+use Rattle.std.proofs.Common.{◌≡◌, ℕ, ◌+◌, ◌<◌, ◌^◌, Bool, true, false, ◌||◌, not, List, [], ◌∷◌, ◌++◌, length, Option, None, Some, Result, Ok, refl, sym, ap, ◌∙◌, arith}
+use Rattle.std.specs.Prelude.{codes, decimal, if◌then◌else◌}
+use Rattle.std.proofs.lemmas.Bool.{and_from}
+use Rattle.std.proofs.lemmas.List.{length-append}
+use Rattle.std.proofs.lemmas.List.Elements.{All-get_or}
+use Rattle.text_lines.specs.Text.{Row}
+use Rattle.text_lines.specs.Check.{◌>>=◌, need, line_part}
+use Rattle.text_lines.proofs.Rows.{AreTokens, row_of}
+use Rattle.text_lines.proofs.Words.{IsWord, AreWords, literal, decimal_word, token-append, tokens_from}
+use Rattle.collective_spec.specs.declared.kind.Kind.{Kind}
+use Rattle.collective_spec.specs.declared.kind.Kind.TheVariants.{Broadcast, Gather, Allgather, Scatter, Alltoall, Reduce, Reducescatter, Allreduce, Custom}
+use Rattle.collective_spec.specs.Kinds.{word_of, takes_root, is_custom}
+use Rattle.candidate_order.specs.Ranges.{LimitsValue, IsLimits}
+use Rattle.topology_text.specs.Names.{is_name, name_of, AreNames}
+use Rattle.topology_text.specs.Spelling.{name_at}
+use Rattle.topology_text.proofs.Front.{name_word, name_of_name}
+use Rattle.topology_text.proofs.Groups.{place}
+use Rattle.topology_text.proofs.Links.{node_again}
+use Rattle.report_form.specs.declared.fault.ReportCode.{ReportCode}
+use Rattle.report_form.specs.declared.fault.ReportCode.TheVariants as code
+use Rattle.report_form.specs.Reports.{WordsValue, IsWords}
+use Rattle.report_form.specs.Spelling.{root_words, synth_words}
+use Rattle.report_form.specs.Tests.{are_limits}
+use Rattle.report_form.specs.Fields.{any_number, next_keyed, no_more}
+use Rattle.report_form.specs.SynthLine.{AskedValue, kind_named, limits_from, root_from, asked_from, may_be_asked, asked_line, root_of}
+use Rattle.report_form.proofs.Tested.{decides_limits}
+use Rattle.report_form.proofs.SynthLineTaken.{limits_words, limits, asked, asked_check}
+use Rattle.report_laws.proofs.TokensAgain.{fixed_again, keyed_again, any_number_again}
+use Rattle.report_laws.proofs.LinesAgain.{words_part_again}
+use Rattle.report_laws.proofs.ListsAgain.{ruled_again}
+
+-- ---- the kind and the limits
+
+-- in version 1 only where no pairs are given
+pub kind_again : (patterned : Bool) (k : Kind) → is_custom k ≡ patterned → kind_named patterned (word_of k) ≡ Some k
+kind_again true Custom e = refl
+kind_again true Broadcast e = absurd (cc)
+kind_again true Gather e = absurd (cc)
+kind_again true Allgather e = absurd (cc)
+kind_again true Scatter e = absurd (cc)
+kind_again true Alltoall e = absurd (cc)
+kind_again true Reduce e = absurd (cc)
+kind_again true Reducescatter e = absurd (cc)
+kind_again true Allreduce e = absurd (cc)
+kind_again false Broadcast e = refl
+kind_again false Gather e = refl
+kind_again false Allgather e = refl
+kind_again false Scatter e = refl
+kind_again false Alltoall e = refl
+kind_again false Reduce e = refl
+kind_again false Reducescatter e = refl
+kind_again false Allreduce e = refl
+kind_again false Custom e = absurd (cc)
+
+abbrev after_conflicts : ℕ → ℕ → ℕ → ℕ × List (List ℕ) → Result (LimitsValue × List (List ℕ)) ReportCode
+after_conflicts k s c n = Ok (limits k s c n.0, n.1)
+
+abbrev after_chunks : ℕ → ℕ → ℕ × List (List ℕ) → Result (LimitsValue × List (List ℕ)) ReportCode
+after_chunks k s c = next_keyed (codes "conflicts=") any_number c.1 >>= after_conflicts k s c.0
+
+abbrev after_steps : ℕ → ℕ × List (List ℕ) → Result (LimitsValue × List (List ℕ)) ReportCode
+after_steps k s = next_keyed (codes "chunks=") any_number s.1 >>= after_chunks k s.0
+
+abbrev after_k : ℕ × List (List ℕ) → Result (LimitsValue × List (List ℕ)) ReportCode
+after_k k = next_keyed (codes "steps=") any_number k.1 >>= after_steps k.0
+
+number_with : (key : List ℕ) (n : ℕ) (rest : List (List ℕ)) → n < 2 ^ 64 → next_keyed key any_number ((key ++ decimal n) ∷ rest) ≡ Ok (n, rest)
+number_with key n rest small = keyed_again key any_number (decimal n) rest n (any_number_again n small)
+
+pub limits_again : (l : LimitsValue) (rest : List (List ℕ)) → IsLimits l → limits_from (limits_words l rest) ≡ Ok (l, rest)
+limits_again l rest ok =
+    let k = ok.k in
+    let s = ok.steps in
+    let c = ok.chunks in
+    let n = ok.conflicts in
+    let last : List (List ℕ) = (codes "conflicts=" ++ decimal l.conflicts) ∷ rest in
+    let third : List (List ℕ) = (codes "chunks=" ++ decimal l.max_c) ∷ last in
+    let second : List (List ℕ) = (codes "steps=" ++ decimal l.max_s) ∷ third in
+    ap (λ r. r >>= after_k) (number_with (codes "k=") l.k second (omega (arith, k)))
+    ∙ ap (λ r. r >>= after_steps l.k) (number_with (codes "steps=") l.max_s third (omega (arith, s)))
+    ∙ ap (λ r. r >>= after_chunks l.k l.max_s) (number_with (codes "chunks=") l.max_c last (omega (arith, c)))
+    ∙ ap (λ r. r >>= after_conflicts l.k l.max_s l.max_c) (number_with (codes "conflicts=") l.conflicts rest (omega (arith, n)))
+
+-- ---- the root
+
+-- the name of the root, where the collective takes one
+abbrev pub root_asked : Bool → List (List ℕ) → ℕ → Option (List ℕ)
+root_asked b names root = if b then Some (name_at names root) else None
+
+abbrev root_tokens : Bool → List (List ℕ) → ℕ → List (List ℕ)
+root_tokens b names root = if b then (codes "root=" ++ name_at names root) ∷ [] else []
+
+abbrev rooted : List ℕ × List (List ℕ) → Result (Option (List ℕ) × List (List ℕ)) ReportCode
+rooted name = Ok (Some name.0, name.1)
+
+abbrev unrooted : List (List ℕ) → Result (Option (List ℕ) × List (List ℕ)) ReportCode
+unrooted words = Ok (None, words)
+
+root_is_name : (names : List (List ℕ)) (root : ℕ) → AreNames names → root < length names → is_name (name_at names root) ≡ true
+root_is_name names root named below = All-get_or (λ n. is_name n ≡ true) names root [] below named.each
+
+root_again : (b : Bool) (names : List (List ℕ)) (root : ℕ) → AreNames names → root < length names → (if b then (next_keyed (codes "root=") name_of (root_tokens b names root) >>= rooted) else unrooted (root_tokens b names root)) ≡ Ok (root_asked b names root, [])
+root_again true names root named below = ap (λ r. r >>= rooted) (keyed_again (codes "root=") name_of (name_at names root) [] (name_at names root) (name_of_name (name_at names root) (root_is_name names root named below)))
+root_again false names root named below = refl
+
+-- the number of the root is found by its name
+pub root_of_again : (b : Bool) (names : List (List ℕ)) (root : ℕ) → AreNames names → root < length names → (b ≡ false → root ≡ 0) → root_of names (root_asked b names root) ≡ Ok root
+root_of_again true names root named below none = ap (λ o. need o code.Limits) (node_again names root named.distinct below)
+root_of_again false names root named below none = ap (λ n. Ok n) (sym (none refl))
+
+-- ---- the line
+
+abbrev pub asked_of : List (List ℕ) → WordsValue → AskedValue
+asked_of names w = record { kind = w.collective.kind; limits = w.limits; root = root_asked (takes_root w.collective.kind) names w.collective.root }
+
+abbrev pub after_root : Kind → LimitsValue → Option (List ℕ) × List (List ℕ) → Result AskedValue ReportCode
+after_root kind l root = no_more root.1 >>= (λ u. Ok (asked kind l root.0))
+
+abbrev pub after_limits : Kind → LimitsValue × List (List ℕ) → Result AskedValue ReportCode
+after_limits kind l = root_from kind l.1 >>= after_root kind l.0
+
+abbrev pub after_kind : Kind × List (List ℕ) → Result AskedValue ReportCode
+after_kind kind = limits_from kind.1 >>= after_limits kind.0
+
+abbrev pub after_synth : Bool → List (List ℕ) → Result AskedValue ReportCode
+after_synth patterned a = next_keyed (codes "collective=") (kind_named patterned) a >>= after_kind
+
+pub asked_again : (patterned : Bool) (names : List (List ℕ)) (w : WordsValue) → is_custom w.collective.kind ≡ patterned → AreNames names → IsWords (length names) w → asked_from patterned (synth_words names w) ≡ Ok (asked_of names w)
+asked_again patterned names w version named ok =
+    let kind : Kind = w.collective.kind in
+    let root : List (List ℕ) = root_words names w in
+    ap (λ r. r >>= after_synth patterned) (fixed_again (codes "synth") ((codes "collective=" ++ word_of kind) ∷ limits_words w.limits root))
+    ∙ ap (λ r. r >>= after_kind) (keyed_again (codes "collective=") (kind_named patterned) (word_of kind) (limits_words w.limits root) kind (kind_again patterned kind version))
+    ∙ ap (λ r. r >>= after_limits kind) (limits_again w.limits root ok.limits)
+    ∙ ap (λ r. r >>= after_root kind w.limits) (root_again (takes_root kind) names w.collective.root named ok.root)
+
+-- ---- its tokens
+
+-- a key that is written out, and a word behind it
+keyed_word : (key word : List ℕ) → IsWord key → IsWord word → IsWord (key ++ word)
+keyed_word key word first second = (omega (arith, length-append key word, first.0), token-append key word first.1 second.1)
+
+kind_word : (kind : Kind) → IsWord (word_of kind)
+kind_word Broadcast = literal (codes "broadcast") refl
+kind_word Gather = literal (codes "gather") refl
+kind_word Allgather = literal (codes "allgather") refl
+kind_word Scatter = literal (codes "scatter") refl
+kind_word Alltoall = literal (codes "alltoall") refl
+kind_word Reduce = literal (codes "reduce") refl
+kind_word Reducescatter = literal (codes "reducescatter") refl
+kind_word Allreduce = literal (codes "allreduce") refl
+kind_word Custom = literal (codes "custom") refl
+
+root_is_word : (b : Bool) (names : List (List ℕ)) (root : ℕ) → AreNames names → root < length names → AreWords (root_tokens b names root)
+root_is_word true names root named below = (keyed_word (codes "root=") (name_at names root) (literal (codes "root=") refl) (name_word (name_at names root) (root_is_name names root named below)), tt)
+root_is_word false names root named below = tt
+
+number_word : (key : List ℕ) (n : ℕ) → IsWord key → n < 2 ^ 64 → IsWord (key ++ decimal n)
+number_word key n first small = keyed_word key (decimal n) first (decimal_word n small)
+
+pub synth_tokens : (names : List (List ℕ)) (w : WordsValue) → AreNames names → IsWords (length names) w → AreTokens (synth_words names w)
+synth_tokens names w named ok =
+    let l = ok.limits in
+    let k = l.k in
+    let s = l.steps in
+    let c = l.chunks in
+    let n = l.conflicts in
+    tokens_from (synth_words names w) (omega arith) (
+      literal (codes "synth") refl,
+      (
+        keyed_word (codes "collective=") (word_of w.collective.kind) (literal (codes "collective=") refl) (kind_word w.collective.kind),
+        (
+          number_word (codes "k=") w.limits.k (literal (codes "k=") refl) (omega (arith, k)),
+          (
+            number_word (codes "steps=") w.limits.max_s (literal (codes "steps=") refl) (omega (arith, s)),
+            (
+              number_word (codes "chunks=") w.limits.max_c (literal (codes "chunks=") refl) (omega (arith, c)),
+              (
+                number_word (codes "conflicts=") w.limits.conflicts (literal (codes "conflicts=") refl) (omega (arith, n)),
+                root_is_word (takes_root w.collective.kind) names w.collective.root named ok.root,
+              ),
+            ),
+          ),
+        ),
+      ),
+    )
+
+-- in version 2 the kind is the one whose pairs are given
+may_be : (patterned : Bool) (k : Kind) → is_custom k ≡ patterned → (not patterned || is_custom k) ≡ true
+may_be true k e = e
+may_be false k e = refl
+
+pub asked_part_again : (patterned : Bool) (names : List (List ℕ)) (w : WordsValue) (n : ℕ) (rows : List Row) → is_custom w.collective.kind ≡ patterned → AreNames names → IsWords (length names) w
+    → line_part (asked_line patterned) (place n (row_of (synth_words names w) ∷ rows)) ≡ Ok (asked_of names w, place (n + 1) rows)
+asked_part_again patterned names w n rows version named ok =
+    words_part_again (asked_check patterned) (synth_words names w) (asked_of names w) n rows (synth_tokens names w named ok)
+    (ruled_again (asked_from patterned (synth_words names w)) (may_be_asked patterned) code.Limits (asked_of names w) (asked_again patterned names w version named ok)
+    (and_from (are_limits w.limits) (not patterned || is_custom w.collective.kind) ((decides_limits w.limits).1 ok.limits) (may_be patterned w.collective.kind version)))

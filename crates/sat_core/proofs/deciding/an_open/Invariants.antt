@@ -1,8 +1,0 @@
-use Rattle.std.proofs.Common.{ℕ, ◌<◌, ◌≤◌}
-use Rattle.cnf_formula.specs.Literals.{no}
-use Rattle.trail_core.specs.Assigned.{IsOpen}
-use Rattle.trail_core.specs.Meaning.{trues}
-use Rattle.sat_core.proofs.deciding.an_open.Given as goal
-
-abbrev pub invariant-loop-index : goal.invariant-loop-index
-invariant-loop-index l = (v : ℕ) → 0 < v → v ≤ l.index → IsOpen (trues l.core) (no v) → ⊥

@@ -1,4 +1,0 @@
-use Rattle.sat_core.proofs.implied.Implied.+follows.Given as goal
-
-abbrev pub decreases-follows : goal.decreases-follows
-decreases-follows l = l.deep

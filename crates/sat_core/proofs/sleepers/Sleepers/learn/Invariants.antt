@@ -1,5 +1,0 @@
-use Rattle.std.proofs.Common.{◌≡◌}
-use Rattle.sat_core.proofs.sleepers.Sleepers.learn.Given as goal
-
-abbrev pub invariant-loop-lit : goal.invariant-loop-lit
-invariant-loop-lit l = l.self-inside ≡ record l.initial.self-inside { common = l.self-inside.common }

@@ -1,9 +1,0 @@
-use Rattle.std.proofs.Common.{take, map}
-use Rattle.std.specs.Prelude.{Contains}
-use Rattle.cnf_formula.specs.Literals.{LitValue, code_of}
-use Rattle.sat_core.specs.declared.sleepers.Led.{Led}
-use Rattle.sat_core.specs.Sleeping.{IsCover, list_at}
-use Rattle.sat_core.proofs.sleepers.first_marked.Given as goal
-
-abbrev pub invariant-loop-lit : goal.invariant-loop-lit
-invariant-loop-lit l = (o : LitValue) (led : Led) → Contains (take l.lit-index l.lits) o → Contains (list_at (map (λ v. v.items) l.leads) (code_of o)) led → IsCover l.clauses l.asleep l.marks l.stamp led → ⊥

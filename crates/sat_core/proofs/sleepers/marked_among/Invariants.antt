@@ -1,8 +1,0 @@
-use Rattle.std.proofs.Common.{take}
-use Rattle.std.specs.Prelude.{Contains}
-use Rattle.sat_core.specs.declared.sleepers.Led.{Led}
-use Rattle.sat_core.specs.Sleeping.{IsCover}
-use Rattle.sat_core.proofs.sleepers.marked_among.Given as goal
-
-abbrev pub invariant-loop-led : goal.invariant-loop-led
-invariant-loop-led l = (led : Led) → Contains (take l.led-index l.list) led → IsCover l.clauses l.asleep l.marks l.stamp led → ⊥
