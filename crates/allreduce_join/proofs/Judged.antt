@@ -1,11 +1,12 @@
 -- The verdict on a joined schedule, from what fails first.
-use Rattle.std.proofs.Common.{◌≡◌, ℕ, true, List, [], ◌∷◌, Some, None, refl, sym, ap, ◌∙◌}
+use Rattle.std.proofs.Common.{◌≡◌, ℕ, true, List, [], ◌∷◌, Option, Some, None, refl, sym, ap, ◌∙◌}
 use Rattle.std.specs.Prelude.{◌↔◌}
 use Rattle.std.specs.List.{filter}
 use Rattle.schedule.specs.Links.{TopologyValue}
 use Rattle.schedule.specs.Sends.{ScheduleValue, IsSchedule, IsInRange}
 use Rattle.schedule.specs.Placed.{PlacementValue, all_pairs, placed}
 use Rattle.schedule.specs.Bags.{Bags}
+use Rattle.schedule.specs.Judging.{first_overfull, first_unlinked}
 use Rattle.schedule.specs.JoinedRuns.{AllSummed, first_clash}
 use Rattle.inversion.specs.declared.verdict.SumVerdict.{SumVerdict}
 use Rattle.inversion.specs.declared.verdict.SumVerdict.TheVariants as verdict
@@ -18,26 +19,39 @@ all_pass : (pairs : List (ℕ × ℕ)) → filter (λ pair. true) pairs ≡ pair
 all_pass [] = refl
 all_pass (pair ∷ pairs) = ap (λ ps. pair ∷ ps) (all_pass pairs)
 
-module _ (t : TopologyValue) (chunks : ℕ) (s : ScheduleValue) (adding : ℕ) where
-  abbrev last : Bags
-  last = joined_bags t s adding
+-- ---- what fails before the counts are looked at
 
-  pub joined_misfit : (v : SumVerdict) → Some v ≡ misfit_of t s → v ≡ joined_verdict_of t chunks s adding
-  joined_misfit v found = judged_misfit t s last (first_clash chunks t.nodes s adding) (first_uneven last t.nodes (all_pairs chunks t.nodes)) v found
+module _ (t : TopologyValue) (chunks : ℕ) (s : ScheduleValue) (adding : ℕ) (last : Bags) (due : Option (ℕ × ℕ × ℕ)) where
+  abbrev judged : SumVerdict
+  judged = sum_judged t s last (first_unlinked t s) (first_overfull t s) (first_clash chunks t.nodes s adding) due
 
-  pub joined_clash : (nodes : ℕ) (clash : ℕ × ℕ × ℕ) → nodes ≡ t.nodes → None ≡ misfit_of t s → Some clash ≡ first_clash chunks nodes s adding → verdict.Clash clash.1 clash.2 clash.0 ≡ joined_verdict_of t chunks s adding
-  joined_clash nodes clash same none found =
-      let due = first_uneven last t.nodes (all_pairs chunks t.nodes) in
+  pub fault_misfit : (v : SumVerdict) → Some v ≡ misfit_of t s → v ≡ judged
+  fault_misfit v found = judged_misfit t s last (first_clash chunks t.nodes s adding) due v found
+
+  clash_fitting : (clash : Option (ℕ × ℕ × ℕ)) (nodes : ℕ) → nodes ≡ t.nodes → None ≡ misfit_of t s → clash ≡ first_clash chunks nodes s adding → sum_judged t s last None None clash due ≡ judged
+  clash_fitting clash nodes same none found =
       ap (λ first. sum_judged t s last None None first due) (found ∙ ap (λ n. first_clash chunks n s adding) same)
       ∙ judged_fitting t s last (first_clash chunks t.nodes s adding) due none
 
-  pub joined_counts : (nodes : ℕ) (everywhere : PlacementValue) (v : SumVerdict) → nodes ≡ t.nodes → None ≡ misfit_of t s → None ≡ first_clash chunks nodes s adding → everywhere ≡ placed chunks nodes (λ pair. true) → v ≡ counts_judged last (first_uneven last t.nodes everywhere.pairs) → v ≡ joined_verdict_of t chunks s adding
-  joined_counts nodes everywhere v same none fine is said =
-      let due = first_uneven last t.nodes (all_pairs chunks t.nodes) in
+  pub fault_clash : (nodes : ℕ) (clash : ℕ × ℕ × ℕ) → nodes ≡ t.nodes → None ≡ misfit_of t s → Some clash ≡ first_clash chunks nodes s adding → verdict.Clash clash.1 clash.2 clash.0 ≡ judged
+  fault_clash nodes clash same none found = clash_fitting (Some clash) nodes same none found
+
+  pub fault_none : (nodes : ℕ) → nodes ≡ t.nodes → None ≡ misfit_of t s → None ≡ first_clash chunks nodes s adding → counts_judged last due ≡ judged
+  fault_none nodes same none fine = clash_fitting None nodes same none fine
+
+-- ---- the counts
+
+module _ (t : TopologyValue) (chunks : ℕ) (s : ScheduleValue) (adding : ℕ) where
+  abbrev pub joined_due : Option (ℕ × ℕ × ℕ)
+  joined_due = first_uneven (joined_bags t s adding) t.nodes (all_pairs chunks t.nodes)
+
+  pub joined_counts : (nodes : ℕ) (everywhere : PlacementValue) (v : SumVerdict) → nodes ≡ t.nodes → everywhere ≡ placed chunks nodes (λ pair. true)
+      → v ≡ counts_judged (joined_bags t s adding) (first_uneven (joined_bags t s adding) t.nodes everywhere.pairs) → counts_judged (joined_bags t s adding) joined_due ≡ joined_verdict_of t chunks s adding → v ≡ joined_verdict_of t chunks s adding
+  joined_counts nodes everywhere v same is said fine =
+      let last : Bags = joined_bags t s adding in
       said
       ∙ (ap (λ pairs. counts_judged last (first_uneven last t.nodes pairs)) (ap (λ (p : PlacementValue). p.pairs) is ∙ (all_pass (all_pairs chunks nodes) ∙ ap (all_pairs chunks) same))
-      ∙ (ap (λ first. sum_judged t s last None None first due) (fine ∙ ap (λ n. first_clash chunks n s adding) same)
-      ∙ judged_fitting t s last (first_clash chunks t.nodes s adding) due none))
+      ∙ fine)
 
 -- the verdict, and what it says
 pub record Told (t : TopologyValue) (chunks : ℕ) (s : ScheduleValue) (adding : ℕ) (v : SumVerdict) : Type 0 where

@@ -10,7 +10,8 @@ ghost use Rattle.schedule.specs.JoinedRuns.{first_clash, is_clash};
 use schedule::{OutOfMemory, Placement, Schedule};
 use std::alloc::Global;
 
-/// The first step after `adding`, and the first chunk and node in it, to which the chunk comes twice. The only error is `OutOfMemory`.
+/// The first step after `adding`, and the first chunk and node in it, to which the chunk comes
+/// twice. The only error is `OutOfMemory`.
 pub(crate) fn first_clash(
     alloc: Global,
     chunks: u16,

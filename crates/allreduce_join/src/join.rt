@@ -16,9 +16,10 @@ use collective_spec::Kind;
 use schedule::{Hop, OutOfMemory, Schedule};
 use std::alloc::Global;
 
-/// The join of two points of one chunk count: the first point's schedule, whose steps add, and then the second's, whose
-/// steps copy. It has the steps and the rounds of both. Where the first sums a reducescatter, and the second is an allgather
-/// that wastes no send, every chunk is summed at every node. The only error is `OutOfMemory`.
+/// The join of two points of one chunk count: the first point's schedule, whose steps add, and then
+/// the second's, whose steps copy. It has the steps and the rounds of both. Where the first sums a
+/// reducescatter, and the second is an allgather that wastes no send, every chunk is summed at
+/// every node. The only error is `OutOfMemory`.
 ///
 /// Each point has the steps, at most 8, and the rounds of its schedule.
 pub fn join_points(alloc: Global, reduce: &Point, gather: &Point) -> Result<Point, OutOfMemory>

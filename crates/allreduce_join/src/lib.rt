@@ -9,4 +9,4 @@ pub mod laws;
 pub mod vectors;
 
 pub use join::join_points;
-pub use judge::all_summed;
+pub use judge::{all_summed, all_summed_by_last};

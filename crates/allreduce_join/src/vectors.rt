@@ -9,7 +9,8 @@ ghost use Rattle.allreduce_join.specs.Rows.{pair_gather, pair_joined, pair_reduc
 use candidate_order::Mark;
 use inversion::SumVerdict;
 
-/// On the line of 2 the one step that adds is joined to the one step that copies, and every chunk is summed everywhere.
+/// On the line of 2 the one step that adds is joined to the one step that copies, and every chunk
+/// is summed everywhere.
 pub fn the_line_of_2_joins()
     ensures join { join_of pair_reduce pair_gather ≡ pair_joined }
     ensures verdict { joined_verdict_of line_of_2 2 pair_allreduce 1 ≡ SumVerdict.Sums }

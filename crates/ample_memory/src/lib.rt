@@ -1,4 +1,5 @@
-//! Runs with ample memory of public calls that can answer out of memory and that no command makes. The crate has tests alone.
+//! Runs with ample memory of public calls that can answer out of memory and that no command makes.
+//! The crate has tests alone.
 #![tactic(auto)]
 
 #[cfg(test)]

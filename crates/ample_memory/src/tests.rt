@@ -1,4 +1,5 @@
-//! Each call is made once, and does not answer out of memory; searches have the answer that is wanted.
+//! Each call is made once, and does not answer out of memory; searches have the answer that is
+//! wanted.
 
 mod cuts;
 mod pigeons;

@@ -53,7 +53,8 @@ impl Bag {
         &self.counts
     }
 
-    /// How often a node has contributed: 0, 1, or 2 for two or more. A node beyond the 16th never has.
+    /// How often a node has contributed: 0, 1, or 2 for two or more. A node beyond the 16th never
+    /// has.
     pub fn count(&self, node: u8) -> u8
         ensures count { result ≡ slice_index self.now node }
         ensures held { result ≤ 2 }

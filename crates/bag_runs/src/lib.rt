@@ -1,4 +1,5 @@
-//! Runs of bags: how often each node has contributed to each chunk at each node, after each step of a schedule.
+//! Runs of bags: how often each node has contributed to each chunk at each node, after each step of
+//! a schedule.
 #![tactic(auto)]
 
 mod bag;

@@ -12,8 +12,9 @@ use crate::store::Store;
 use schedule::{Hop, Schedule};
 use std::alloc::Global;
 
-/// The stores after step 0, which is `start`, to the last step. The first `adding` steps add what arrives; a later one
-/// copies the bag of the greatest sender whose bag is not empty. The only error is `OutOfMemory`.
+/// The stores after step 0, which is `start`, to the last step. The first `adding` steps add what
+/// arrives; a later one copies the bag of the greatest sender whose bag is not empty. The only
+/// error is `OutOfMemory`.
 pub fn replay_steps(
     alloc: Global,
     start: &Store,
@@ -37,8 +38,9 @@ pub fn replay_steps(
     Ok(run)
 }
 
-/// The store after the last step, of that before the first. The first `adding` steps add what arrives; a later one copies
-/// the bag of the greatest sender whose bag is not empty. The only error is `OutOfMemory`.
+/// The store after the last step, of that before the first. The first `adding` steps add what
+/// arrives; a later one copies the bag of the greatest sender whose bag is not empty. The only
+/// error is `OutOfMemory`.
 pub fn last_store(start: Store, schedule: &Schedule, adding: u8) -> Result<Store, OutOfMemory>
     requires { IsInRange start.chunks start.nodes schedule.now }
     // It holds the last bags of the joined run from any bags that the start holds.

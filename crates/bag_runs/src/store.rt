@@ -32,8 +32,8 @@ impl Model for Store {
 }
 
 impl Store {
-    /// A chunk that a node holds is one contribution of node 0, and one that it lacks is the empty bag. The only error is
-    /// `OutOfMemory`.
+    /// A chunk that a node holds is one contribution of node 0, and one that it lacks is the empty
+    /// bag. The only error is `OutOfMemory`.
     pub fn of_placement(alloc: Global, placement: &Placement) -> Result<Store, OutOfMemory>
         ensures { IfOk result (λ s. s ≡ stored placement.now.chunks placement.now.nodes (of_placement placement.now)) }
     {
@@ -92,7 +92,8 @@ impl Store {
         self.bags[chunk as usize * self.nodes as usize + node as usize]
     }
 
-    /// A bag arrives at a node: it is added to the node's bag of the chunk, or takes its place unless it is empty.
+    /// A bag arrives at a node: it is added to the node's bag of the chunk, or takes its place
+    /// unless it is empty.
     pub fn receive(&mut self, chunk: u16, node: u8, mode: Mode, arrived: Bag)
         requires chunk { chunk < self.old.chunks }
         requires node { node < self.old.nodes }

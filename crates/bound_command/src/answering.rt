@@ -19,8 +19,8 @@ use outer_ports::Shelf;
 use run_rules::{Answer, Halt, Search, SearchText, Status, search_of_text};
 use std::alloc::Global;
 
-/// Searches, and answers the frontier with its cuts and its floor. The files that prove what no cut refutes stand on the shelf
-/// then; where the search breaks off, it has begun some.
+/// Searches, and answers the frontier with its cuts and its floor. The files that prove what no cut
+/// refutes stand on the shelf then; where the search breaks off, it has begun some.
 fn search_answer<H: Shelf>(alloc: Global, search: Search, shelf: &mut H) -> Result<Answer, Halt>
     requires asked { IsAsked search.words search.topology }
     requires single { search.words.collective.kind ≢ Kind.Allreduce }
@@ -30,7 +30,6 @@ fn search_answer<H: Shelf>(alloc: Global, search: Search, shelf: &mut H) -> Resu
     ensures source { result ≢ Err Halt.Source }
     ensures told { Tells (H.tells shelf.old) (H.tells shelf.new) }
     ensures cause { HasCause Halt.Shelf (H.faults shelf.old) (H.faults shelf.new) result }
-    ensures steady { result ≢ Err Halt.Shelf → H.faults shelf.new ≡ H.faults shelf.old }
 {
     let bounds = search_bounds(alloc, search.words, &search.topology, shelf)?;
     let text = print_bounds(alloc, search.words, &search.topology, &bounds)?;
@@ -40,10 +39,11 @@ fn search_answer<H: Shelf>(alloc: Global, search: Search, shelf: &mut H) -> Resu
     })
 }
 
-/// The answer to the words of a search over a text that came whole: the frontier, the cut that refutes each candidate which
-/// one refutes, and how many rounds any schedule has at least for its chunk count; or the refusal of the text, the root, the
-/// size or the chunk counts. The shelf is not looked at before the last of these; where there is no answer, a search has
-/// begun some of its files at most.
+/// The answer to the words of a search over a text that came whole: the frontier, the cut that
+/// refutes each candidate which one refutes, and how many rounds any schedule has at least for its
+/// chunk count; or the refusal of the text, the root, the size or the chunk counts. The shelf is
+/// not looked at before the last of these; where there is no answer, a search has begun some of its
+/// files at most.
 ///
 /// [`Halt::Shelf`] comes only where the shelf's count of faults rose, and [`Halt::Source`] never.
 pub fn bound_answer<H: Shelf>(
@@ -62,7 +62,6 @@ pub fn bound_answer<H: Shelf>(
     ensures source { result ≢ Err Halt.Source }
     ensures told { Tells (H.tells shelf.old) (H.tells shelf.new) }
     ensures cause { HasCause Halt.Shelf (H.faults shelf.old) (H.faults shelf.new) result }
-    ensures steady { result ≢ Err Halt.Shelf → H.faults shelf.new ≡ H.faults shelf.old }
 {
     match search_of_text(alloc, asked, bytes)? {
         SearchText::Asked(search) => search_answer(alloc, search, shelf),

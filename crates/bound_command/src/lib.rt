@@ -1,5 +1,5 @@
-//! The command that tells why no schedule can be better: the frontier of a search, the cuts that refute candidates, and the
-//! floor.
+//! The command that tells why no schedule can be better: the frontier of a search, the cuts that
+//! refute candidates, and the floor.
 #![tactic(auto)]
 
 mod answering;

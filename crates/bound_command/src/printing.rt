@@ -14,11 +14,10 @@ use candidate_order::Candidate;
 use cut_bounds::{Cut, Floor, has_node};
 use report_form::Words;
 use report_printing::{
-    name_at, push_all_refuted, push_all_unknown, push_candidate, push_field, push_number_field,
-    push_points, push_synth_line,
+    name_at, push_all_refuted, push_all_unknown, push_candidate, push_points, push_synth_line,
 };
 use std::alloc::{AllocError, Global};
-use text_lines::push_word;
+use text_lines::{push_field, push_number_field, push_word};
 use topology_text::{Name, NamedTopology};
 
 /// Appends a space and the name of the node, where its bit is set.

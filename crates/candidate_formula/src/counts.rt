@@ -26,8 +26,9 @@ fn allowed_up_to(alloc: Global, greatest: u8, kind: Kind, nodes: u8) -> Result<V
     Ok(counts)
 }
 
-/// The chunk counts within the limits that such a collective may have on so many nodes, ascending. There is none exactly
-/// where no count is allowed, as for an all-to-all on more nodes than the greatest count. The only error is `OutOfMemory`.
+/// The chunk counts within the limits that such a collective may have on so many nodes, ascending.
+/// There is none exactly where no count is allowed, as for an all-to-all on more nodes than the
+/// greatest count. The only error is `OutOfMemory`.
 pub fn allowed_counts(
     alloc: Global,
     nodes: u8,

@@ -15,9 +15,9 @@ use round_encoding::{Encoding, encode};
 use schedule::Topology;
 use std::alloc::Global;
 
-/// The formula of a candidate over these links, and what its variables stand for. Of a reduction it is the formula of the
-/// copying collective of which the reduction is the inverse, so that the topology is then the one turned round. The only
-/// error is `OutOfMemory`.
+/// The formula of a candidate over these links, and what its variables stand for. Of a reduction it
+/// is the formula of the copying collective of which the reduction is the inverse, so that the
+/// topology is then the one turned round. The only error is `OutOfMemory`.
 pub fn encode_candidate(
     alloc: Global,
     topology: &Topology,

@@ -17,14 +17,14 @@ ghost use Rattle.candidate_formula.specs.Questions.{IsSmallQuestion, copying_que
 use candidate_order::Candidate;
 use collective_spec::Kind;
 
-/// The formula of a candidate within the limits of a small question is satisfiable exactly where some schedule solves the
-/// candidate.
+/// The formula of a candidate within the limits of a small question is satisfiable exactly where
+/// some schedule solves the candidate.
 pub fn formulas_are_exact()
     ensures { (q : QuestionValue) (x : Candidate) → IsSmallQuestion q → IsWithin q x → Satisfiable (formula_for q x) ↔ IsSolvable q x }
 {}
 
-/// A candidate within the limits of a small question is a candidate for the question's instance, and no larger than the
-/// question.
+/// A candidate within the limits of a small question is a candidate for the question's instance,
+/// and no larger than the question.
 pub fn candidates_are_small()
     ensures candidate { (q : QuestionValue) (x : Candidate) → IsSmallQuestion q → IsWithin q x → IsCandidate q.topology (instance_for q x).pre (instance_for q x).post x.s x.r }
     ensures size { (q : QuestionValue) (x : Candidate) → IsSmallQuestion q → IsWithin q x → candidate_size q.topology (instance_for q x).pre x.s x.r ≤ size_limit }
@@ -36,9 +36,9 @@ pub fn tight_solutions_solve()
         → IsTightSolution q.topology (instance_for q x).pre (instance_for q x).post schedule x.s x.r → IsSolvedBy q x schedule }
 {}
 
-/// Every collective but allreduce may be sought by one that copies: over the links as they are where it copies itself, and
-/// over the links turned round where it is a reduction. The question that copies is as large, and has the same candidates and
-/// the same formulas.
+/// Every collective but allreduce may be sought by one that copies: over the links as they are
+/// where it copies itself, and over the links turned round where it is a reduction. The question
+/// that copies is as large, and has the same candidates and the same formulas.
 pub fn reductions_are_sought_by_copying()
     ensures small { (t : TopologyValue) (s : Spec) (limits : LimitsValue) → IsTopology t → IsSpec t.nodes s → kind_in s ≢ Kind.Allreduce → IsLimits limits
         → size_of (record { topology = t; spec = s; limits = limits }) ≤ size_limit → IsSmallQuestion (copying_question t s limits) }

@@ -1,4 +1,5 @@
-//! The formula of a candidate of a question, how large a search is, and the files that stand beside what a search says.
+//! The formula of a candidate of a question, how large a search is, and the files that stand beside
+//! what a search says.
 #![tactic(auto)]
 
 mod counts;

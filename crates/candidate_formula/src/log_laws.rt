@@ -14,8 +14,8 @@ pub fn logs_are_read_back()
     ensures { (lines : List LratLine) → All IsReadable lines → lines_of_text (lrat_text lines) ≡ Ok lines }
 {}
 
-/// The text of at most 100,001 additions, each with at most 2,097,152 literals and at most one hint more, is not too long for
-/// a file of proof lines.
+/// The text of at most 100,001 additions, each with at most 2,097,152 literals and at most one hint
+/// more, is not too long for a file of proof lines.
 pub fn logs_are_short()
     ensures { (lines : List ProofLineValue) → All IsReadable (map Addition lines) → All IsShortLine lines → length lines ≤ most_lines → length (lrat_text (map Addition lines)) ≤ longest_proof }
 {}

@@ -12,9 +12,9 @@ use collective_spec::Spec;
 use schedule::Topology;
 use std::borrow::Cow;
 
-/// The links over which an engine has to search for a collective on the topology: those links turned round for a reduction,
-/// which is found as the inverse of what copies, and else the links as they are. The only error is `OutOfMemory`, which a
-/// collective that copies needs none of.
+/// The links over which an engine has to search for a collective on the topology: those links
+/// turned round for a reduction, which is found as the inverse of what copies, and else the links
+/// as they are. The only error is `OutOfMemory`, which a collective that copies needs none of.
 #[tactic(auto, using(crate::proofs::TurnedSize::turned_size))]
 pub fn links_to_search<'a>(
     topology: &'a Topology,
@@ -32,7 +32,8 @@ pub fn links_to_search<'a>(
     Ok(Cow::Borrowed(topology))
 }
 
-/// The links over which an engine has to search, as a value of their own. The only error is `OutOfMemory`.
+/// The links over which an engine has to search, as a value of their own. The only error is
+/// `OutOfMemory`.
 pub fn own_links_to_search(topology: &Topology, spec: &Spec) -> Result<Topology, OutOfMemory>
     ensures { IfOk result (λ links. links ≡ searched_links topology.now spec.now) }
 {

@@ -47,8 +47,9 @@ fn sends_size(chunks: u16, links: usize, steps: u8) -> u64
     u64::from(chunks) * links as u64 * u64::from(steps)
 }
 
-/// How large a search within these limits is: a variable for each chunk, usable link and step, and those of the counters
-/// of the groups, in the formula of the candidate with the most steps, rounds and chunks. The only error is `OutOfMemory`.
+/// How large a search within these limits is: a variable for each chunk, usable link and step, and
+/// those of the counters of the groups, in the formula of the candidate with the most steps, rounds
+/// and chunks. The only error is `OutOfMemory`.
 #[tactic(auto, using(crate::proofs::Links::few_usable))]
 pub fn size_number(topology: &Topology, spec: &Spec, limits: &Limits) -> Result<u64, OutOfMemory>
     ensures { IfOk result (λ size. size ≡ size_of (record { topology = topology.now; spec = spec.now; limits = limits.now })) }

@@ -7,8 +7,8 @@ ghost use Rattle.candidate_formula.specs.Sizes.{size_of};
 
 use collective_spec::{Kind, Spec};
 
-/// Sizes of searches over the four links of the line of 3: the sends, and a counter of two variables for each link and
-/// chunk, step and extra round.
+/// Sizes of searches over the four links of the line of 3: the sends, and a counter of two
+/// variables for each link and chunk, step and extra round.
 pub fn sizes_on_the_line_of_3()
     ensures one_chunk { size_of (record { topology = line_of_3; spec = Spec.Standard (record { kind = Kind.Broadcast; root = 0 }); limits = record { k = 0; max_s = 1; max_c = 1; conflicts = 1000 } }) ≡ 12 }
     ensures three_chunks { size_of (record { topology = line_of_3; spec = Spec.Standard (record { kind = Kind.Allgather; root = 0 }); limits = record { k = 0; max_s = 1; max_c = 1; conflicts = 1000 } }) ≡ 36 }

@@ -30,20 +30,23 @@ pub fn no_point_is_refuted()
     ensures { (q : QuestionValue) (f : FrontierValue) → RightFrontier q f → (p : PointValue) → Contains f.points p → Contains f.refuted p.candidate → ⊥ }
 {}
 
-/// The schedule of each point of a right frontier does what its collective asks, in the point's steps and rounds.
+/// The schedule of each point of a right frontier does what its collective asks, in the point's
+/// steps and rounds.
 pub fn each_point_does_what_is_asked()
     ensures copies { (q : QuestionValue) (f : FrontierValue) → RightFrontier q f → (p : PointValue) → Contains f.points p → adds_up q.spec ≡ false → Solves q.topology (spec_instance q.spec q.topology.nodes p.candidate.c).pre (spec_instance q.spec q.topology.nodes p.candidate.c).post p.schedule p.candidate.s p.candidate.r }
     ensures adds { (q : QuestionValue) (f : FrontierValue) → RightFrontier q f → (p : PointValue) → Contains f.points p → adds_up q.spec ≡ true → Sums q.topology (spec_demand q.spec q.topology.nodes p.candidate.c) p.schedule p.candidate.s p.candidate.r }
 {}
 
-/// A point of a right frontier is not left open where every better candidate within the limits is refuted.
+/// A point of a right frontier is not left open where every better candidate within the limits is
+/// refuted.
 pub fn open_points_may_be_bettered()
     ensures { (q : QuestionValue) (f : FrontierValue) → RightFrontier q f → (p : PointValue) → Contains f.points p → p.mark ≡ Mark.Open → ((x : Candidate) → IsWithin q x → Better x p.candidate → Contains f.refuted x) → ⊥ }
 {}
 
-/// Two right frontiers of one question that were searched in order and leave nothing unknown have points of the same
-/// candidates, and the same refuted candidates where these are within the limits. How many points and how many refuted
-/// candidates there are then depends on the question alone; the schedules of the points may differ.
+/// Two right frontiers of one question that were searched in order and leave nothing unknown have
+/// points of the same candidates, and the same refuted candidates where these are within the
+/// limits. How many points and how many refuted candidates there are then depends on the question
+/// alone; the schedules of the points may differ.
 pub fn settled_frontiers_agree()
     ensures points { (q : QuestionValue) (f g : FrontierValue) → RightFrontier q f → Searched q f → RightFrontier q g → Searched q g
         → f.unknown ≡ [] → g.unknown ≡ [] → solved f ≡ solved g }

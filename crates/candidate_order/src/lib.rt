@@ -24,7 +24,7 @@ pub use laws::{
     before_is_irreflexive, before_is_total, before_is_transitive, better_comes_before,
     listed_are_within, no_worse_is_reflexive, no_worse_is_transitive,
 };
-pub use limits::Limits;
+pub use limits::{Limits, MAX_CHUNKS, MAX_CONFLICTS, MAX_K, MAX_STEPS};
 pub use listing::list;
 pub use mark::Mark;
 pub use order::{better, cost_cmp, no_worse};

@@ -3,6 +3,18 @@ ghost use Rattle.candidate_order.specs.Ranges.{IsLimits};
 
 use std::marker::Model;
 
+/// The greatest limit on the number of rounds beyond the number of steps.
+pub const MAX_K: u8 = 8;
+
+/// The greatest limit on the number of steps.
+pub const MAX_STEPS: u8 = 8;
+
+/// The greatest limit on the chunk count.
+pub const MAX_CHUNKS: u8 = 16;
+
+/// The greatest limit on the number of conflicts for each candidate.
+pub const MAX_CONFLICTS: u32 = 100_000;
+
 /// How far a search goes.
 #[derive(Clone, Copy, Debug, PartialEq, Eq)]
 pub struct Limits {
@@ -25,8 +37,8 @@ impl Model for Limits {
 }
 
 impl Limits {
-    /// The limits of these numbers: `k` is at most 8, `max_s` from 1 to 8, `max_c` from 1 to 16, and
-    /// `conflicts` from 1 to 100,000.
+    /// The limits of these numbers: `k` is at most 8, `max_s` from 1 to 8, `max_c` from 1 to 16,
+    /// and `conflicts` from 1 to 100,000.
     pub fn new(k: u8, max_s: u8, max_c: u8, conflicts: u32) -> Limits
         requires { IsLimits (record { k = k; max_s = max_s; max_c = max_c; conflicts = conflicts }) }
         ensures { result ≡ record { k = k; max_s = max_s; max_c = max_c; conflicts = conflicts } }

@@ -23,9 +23,9 @@ fn pairs(alloc: Global, step: u8, k: u8, allowed: &[u8]) -> Result<Vec<Candidate
         .collect(alloc)
 }
 
-/// The candidates of `step` steps, from 1 to `max_s`: each number of rounds from `step` to `step + k`
-/// with each chunk count of `allowed`, which ascend and are from 1 to `max_c`. They stand in the order
-/// of the search, each once.
+/// The candidates of `step` steps, from 1 to `max_s`: each number of rounds from `step` to `step +
+/// k` with each chunk count of `allowed`, which ascend and are from 1 to `max_c`. They stand in the
+/// order of the search, each once.
 pub fn list(
     alloc: Global,
     limits: &Limits,

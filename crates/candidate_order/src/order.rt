@@ -29,8 +29,8 @@ pub fn better(a: Candidate, b: Candidate) -> bool
     no_worse(a, b) && (a.s < b.s || cost_cmp(a, b).is_lt())
 }
 
-// The last comparison matters only without chunks, where costs say nothing: a sort needs an order of all
-// candidates.
+// The last comparison matters only without chunks, where costs say nothing: a sort needs an order
+// of all candidates.
 /// Compares by cost, then by chunk count, then by rounds.
 pub(crate) fn search_cmp(a: Candidate, b: Candidate) -> Ordering
     ensures { result ≡ search_cmp a b }

@@ -19,8 +19,8 @@ pub fn costs_of_candidates()
     ensures dearer { ¬ NoWorse (at 1 3 1) (at 2 2 1) }
 {}
 
-/// The candidates of one step, two rounds and two chunks at the most, in the order of a search, and those of two steps of an
-/// all-to-all on four nodes.
+/// The candidates of one step, two rounds and two chunks at the most, in the order of a search, and
+/// those of two steps of an all-to-all on four nodes.
 pub fn candidates_in_order()
     ensures one_step { AllPairs Before (at 1 1 2 ∷ at 1 1 1 ∷ at 1 2 2 ∷ at 1 2 1 ∷ []) }
     ensures alltoall { AllPairs Before (at 2 2 8 ∷ at 2 2 4 ∷ []) }

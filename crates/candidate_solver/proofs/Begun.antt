@@ -1,5 +1,5 @@
 -- Files of a candidate that a call began.
-use Rattle.std.proofs.Common.{◌≡◌, ◌≢◌, ℕ, ◌<◌, length, List, [], ◌∷◌, take, drop, refl, sym, ap, ◌∙◌, subst, inl, inr, ⊎_elim}
+use Rattle.std.proofs.Common.{◌≡◌, ◌≢◌, ℕ, ◌<◌, length, List, [], take, drop, refl, sym, ap, ◌∙◌, subst, inl, inr, ⊎_elim}
 use Rattle.std.specs.Prelude.{◌⊎◌, IsTrue, Some, map}
 use Rattle.std.proofs.lemmas.List.{take-append-drop, append-nil}
 use Rattle.cnf_formula.specs.Formulas.{FormulaValue}

@@ -6,6 +6,7 @@ use Rattle.std.proofs.lemmas.Bool.{cases_Bool, eqb-true, ne_eqb}
 use Rattle.std.proofs.lemmas.List.{length-map}
 use Rattle.std.proofs.lemmas.List.Elements.{All-nil, All-cons, Contains-push_cases}
 use Rattle.std.proofs.lemmas.Map.Steps.{length-le_from_distinct_below}
+use Rattle.list_laws.proofs.Members.{Contains-cons}
 use Rattle.cnf_formula.specs.Literals.{LitValue, IsLit}
 use Rattle.cnf_formula.specs.Formulas.{FormulaValue, IsClause}
 use Rattle.cnf_formula.specs.Lines.{ProofLineValue}
@@ -23,7 +24,7 @@ use Rattle.candidate_formula.specs.Files.{HoldsLines}
 use Rattle.candidate_formula.specs.Logs.{IsShortLine}
 use Rattle.candidate_formula.proofs.ReadBack.{text_says}
 use Rattle.candidate_formula.proofs.Short.{log_short}
-use Rattle.conflict_analysis.proofs.Members.{here, there, cons_cases}
+use Rattle.conflict_analysis.proofs.Members.{here, cons_cases}
 
 -- what is held is held under numbers that a reader takes
 abbrev pub AreIds : List Entry → Type 0
@@ -35,7 +36,7 @@ named_entry : (held : List Entry) (id : ℕ) (clause : List LitValue) → clause
 named_entry [] id clause h = absurd (cc)
 named_entry (entry ∷ held) id clause h = ⊎_elim
     (λ e. (entry, here entry held, eqb-true entry.0 id e))
-    (λ e. let r = named_entry held id clause (rw e at h) in (r.0, there entry held r.0 r.1, r.2))
+    (λ e. let r = named_entry held id clause (rw e at h) in (r.0, Contains-cons entry held r.0 r.1, r.2))
     (cases_Bool (entry.0 == id))
 
 named_id : (held : List Entry) → AreIds held → (id : ℕ) (clause : List LitValue) → clause_at held id ≡ Some clause → IsId id

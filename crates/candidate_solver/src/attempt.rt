@@ -25,8 +25,9 @@ pub struct Attempt {
     pub lines: Vec<ProofLine>,
 }
 
-/// What the answer of a search says of the candidate that was encoded, where so many lines could be learned: the schedule that
-/// a model stands for, that there is none, or that the lines were spent. The only error is `OutOfMemory`.
+/// What the answer of a search says of the candidate that was encoded, where so many lines could be
+/// learned: the schedule that a model stands for, that there is none, or that the lines were spent.
+/// The only error is `OutOfMemory`.
 pub fn outcome_of(
     alloc: Global,
     encoding: &Encoding,

@@ -27,7 +27,6 @@ pub(crate) fn write_formula<H: Shelf>(
     ensures text { IsTrue (H.tells store.new) → OnOk result (HasText formula.now part candidate (H.file store.new)) }
     ensures begins { IsTrue (H.tells store.new) → BeginsOwn formula.now part candidate (H.file store.old) (H.file store.new) }
     ensures cause { HasCause EngineFault.ShelfFailed (H.faults store.old) (H.faults store.new) result }
-    ensures steady { result ≢ Err EngineFault.ShelfFailed → H.faults store.new ≡ H.faults store.old }
 {
     let text = print_cnf(alloc, formula)?;
     write_file(store, file_name(FileKind::Cnf, part, candidate), &text)?;
@@ -47,7 +46,6 @@ fn empty<H: Shelf>(
     ensures others { IsTrue (H.tells store.new) → OthersStay (file_of kind part candidate) (H.file store.old) (H.file store.new) }
     ensures begins { IsTrue (H.tells store.new) → (f : FormulaValue) → BeginsOwn f part candidate (H.file store.old) (H.file store.new) }
     ensures cause { HasCause EngineFault.ShelfFailed (H.faults store.old) (H.faults store.new) result }
-    ensures steady { result ≢ Err EngineFault.ShelfFailed → H.faults store.new ≡ H.faults store.old }
 {
     store.begin(file_name(kind, part, candidate))?;
     Ok(())
@@ -65,7 +63,6 @@ pub(crate) fn tidy<H: Shelf>(
     ensures formula { IsTrue (H.tells store.new) → H.file store.new (file_of FileKind.Cnf part candidate) ≡ H.file store.old (file_of FileKind.Cnf part candidate) }
     ensures begins { IsTrue (H.tells store.new) → (f : FormulaValue) → BeginsOwn f part candidate (H.file store.old) (H.file store.new) }
     ensures cause { HasCause EngineFault.ShelfFailed (H.faults store.old) (H.faults store.new) result }
-    ensures steady { result ≢ Err EngineFault.ShelfFailed → H.faults store.new ≡ H.faults store.old }
 {
     match kind {
         Settled::Solved => {

@@ -29,8 +29,9 @@ use outer_ports::{Part, Shelf};
 use schedule::Topology;
 use std::alloc::Global;
 
-/// Searches for a schedule of each candidate by its formula. On the shelf that is lent to it stand the formula of each
-/// candidate that it settles, the refutation of each that has no schedule, and the log of each that it gives up.
+/// Searches for a schedule of each candidate by its formula. On the shelf that is lent to it stand
+/// the formula of each candidate that it settles, the refutation of each that has no schedule, and
+/// the log of each that it gives up.
 #[derive(Drop)]
 pub struct SatEngine {
     question: Question,
@@ -46,9 +47,10 @@ pub struct SatEngine {
 }
 
 impl SatEngine {
-    /// An engine for the candidates of a topology and a collective, within the limits; of a reduction it settles those of
-    /// the copying collective of which it is the inverse, so that the topology is then the one turned round. The files are
-    /// those of the part. With `checked` each proof line is checked before it is kept.
+    /// An engine for the candidates of a topology and a collective, within the limits; of a
+    /// reduction it settles those of the copying collective of which it is the inverse, so that the
+    /// topology is then the one turned round. The files are those of the part. With `checked` each
+    /// proof line is checked before it is kept.
     pub fn new(
         alloc: Global,
         topology: &Topology,

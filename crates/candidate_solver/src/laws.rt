@@ -11,7 +11,8 @@ use crate::kept::SatEngine;
 use candidate_order::Candidate;
 use engine_rules::EngineView;
 
-/// Where the candidate that was settled last was refuted, the engine's log refutes its formula, whatever the shelf tells.
+/// Where the candidate that was settled last was refuted, the engine's log refutes its formula,
+/// whatever the shelf tells.
 pub fn the_log_refutes_the_last_candidate()
     ensures { (e : SatEngine) (before : RecordValue) (x : Candidate) → ⟦<SatEngine as EngineView>⟧.entries e ≡ before ++ (x, settled.Refuted) ∷ []
         → Refutes (map Addition (⟦<SatEngine as EngineView>⟧.log_lines e)) (⟦<SatEngine as EngineView>⟧.formula e x) }

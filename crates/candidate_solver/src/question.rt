@@ -13,8 +13,9 @@ use cnf_formula::OutOfMemory;
 use collective_spec::{Kind, Spec};
 use schedule::Topology;
 
-/// Links, a collective and limits. Of a reduction the copying collective is meant of which it is the inverse, so that the
-/// links are then those turned round. The formula of each candidate within the limits is small.
+/// Links, a collective and limits. Of a reduction the copying collective is meant of which it is
+/// the inverse, so that the links are then those turned round. The formula of each candidate within
+/// the limits is small.
 #[derive(Drop)]
 pub struct Question {
     pub topology: Topology,
@@ -24,7 +25,8 @@ pub struct Question {
 }
 
 impl Question {
-    /// The candidates within the limits, of a collective over these links. The only error is `OutOfMemory`.
+    /// The candidates within the limits, of a collective over these links. The only error is
+    /// `OutOfMemory`.
     pub fn new(topology: &Topology, spec: &Spec, limits: Limits) -> Result<Question, OutOfMemory>
         requires spec { IsSpec topology.now.nodes spec.now }
         requires single { kind_in spec.now ≢ Kind.Allreduce }

@@ -5,7 +5,7 @@ ghost use Rattle.outer_ports.specs.Port.{HasCause, Tells};
 ghost use Rattle.conflict_ledger.specs.Beside.{beside};
 ghost use Rattle.conflict_ledger.specs.Shelved.{ShelfAgrees, ShelfMoves};
 ghost use Rattle.candidate_formula.specs.Files.{file_of};
-ghost use Rattle.candidate_solver.specs.Faults.{of_solving};
+ghost use Rattle.candidate_solver.specs.inner.Faults.{of_solving};
 ghost use Rattle.candidate_solver.specs.Trying.{BeginsOwn, HasLines, IsSearch};
 ghost use Rattle.proof_rules.specs.Held.{start_of};
 ghost use Rattle.proof_rules.specs.Refuting.{AllImplied};
@@ -43,7 +43,6 @@ fn search_plain<'a, H: Shelf>(
     ensures agrees { IfOk result (λ found. ShelfAgrees (beside ledger.entry (H.tells store.new) (H.file store.new)) found.lines.items) }
     ensures search { IfOk result (λ found. IsSearch formula.now (⟦<ShelfLedger<'a> as LedgerView>⟧.limit ledger.entry) found.lines.items found.answer) }
     ensures cause { HasCause EngineFault.ShelfFailed (H.faults store.old) (H.faults store.new) result }
-    ensures steady { result ≢ Err EngineFault.ShelfFailed → H.faults store.new ≡ H.faults store.old }
 {
     let mut ledger = ledger;
     let answer = solve(alloc, formula, &mut ledger, store).map_err(engine_fault)?;
@@ -69,7 +68,6 @@ fn search_checked<'a, H: Shelf>(
     ensures agrees { IfOk result (λ found. ShelfAgrees (beside ledger.entry (H.tells store.new) (H.file store.new)) found.lines.items) }
     ensures search { IfOk result (λ found. IsSearch formula.now limit found.lines.items found.answer) }
     ensures cause { HasCause EngineFault.ShelfFailed (H.faults store.old) (H.faults store.new) result }
-    ensures steady { result ≢ Err EngineFault.ShelfFailed → H.faults store.new ≡ H.faults store.old }
 {
     let mut pair = PairLedger::new(CheckedLedger::new(alloc, formula, limit)?, ledger);
     let answer = solve(alloc, formula, &mut pair, store).map_err(engine_fault)?;
@@ -79,8 +77,8 @@ fn search_checked<'a, H: Shelf>(
     })
 }
 
-/// Searches for a model of a candidate's formula, or a refutation, and learns at most so many lines. The candidate's two
-/// files of lines hold those of the search.
+/// Searches for a model of a candidate's formula, or a refutation, and learns at most so many
+/// lines. The candidate's two files of lines hold those of the search.
 pub(crate) fn search<H: Shelf>(
     alloc: Global,
     formula: &Formula,
@@ -98,7 +96,6 @@ pub(crate) fn search<H: Shelf>(
     ensures implied { IfOk result (λ found. AllImplied (start_of formula.now) found.lines.items) }
     ensures search { IfOk result (λ found. IsSearch formula.now limit found.lines.items found.answer) }
     ensures cause { HasCause EngineFault.ShelfFailed (H.faults store.old) (H.faults store.new) result }
-    ensures steady { result ≢ Err EngineFault.ShelfFailed → H.faults store.new ≡ H.faults store.old }
 {
     let place = (candidate.s, candidate.r, candidate.c);
     let ledger = ShelfLedger::new(alloc, formula, limit, store, part, place)?;

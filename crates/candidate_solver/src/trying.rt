@@ -44,13 +44,13 @@ fn find<H: Shelf>(
     ensures implied { IfOk result (λ found. AllImplied (start_of formula.now) found.lines.items) }
     ensures search { IfOk result (λ found. IsSearch formula.now limit found.lines.items found.answer) }
     ensures cause { HasCause EngineFault.ShelfFailed (H.faults store.old) (H.faults store.new) result }
-    ensures steady { result ≢ Err EngineFault.ShelfFailed → H.faults store.new ≡ H.faults store.old }
 {
     write_formula(alloc, formula, store, part, candidate)?;
     search(alloc, formula, limit, checked, store, part, candidate)
 }
 
-/// The outcome of a search of a candidate's formula. Of the candidate's files those that do not prove it are emptied.
+/// The outcome of a search of a candidate's formula. Of the candidate's files those that do not
+/// prove it are emptied.
 fn keep<H: Shelf>(
     alloc: Global,
     encoding: &Encoding,
@@ -69,7 +69,6 @@ fn keep<H: Shelf>(
     ensures says { IfOk result (λ attempt. Says encoding.now found.answer limit attempt.outcome) }
     ensures lines { IfOk result (λ attempt. attempt.lines.items ≡ found.lines.items) }
     ensures cause { HasCause EngineFault.ShelfFailed (H.faults store.old) (H.faults store.new) result }
-    ensures steady { result ≢ Err EngineFault.ShelfFailed → H.faults store.new ≡ H.faults store.old }
 {
     let Found { answer, lines } = found;
     let outcome = outcome_of(alloc, encoding, answer, limit)?;
@@ -77,8 +76,8 @@ fn keep<H: Shelf>(
     Ok(Attempt { outcome, lines })
 }
 
-/// Searches for a schedule of a candidate, and keeps its formula and the lines that prove the outcome on the shelf. No file
-/// but those of the candidate is changed.
+/// Searches for a schedule of a candidate, and keeps its formula and the lines that prove the
+/// outcome on the shelf. No file but those of the candidate is changed.
 pub(crate) fn try_candidate<H: Shelf>(
     alloc: Global,
     question: &Question,
@@ -94,7 +93,6 @@ pub(crate) fn try_candidate<H: Shelf>(
     ensures files { IsTrue (H.tells store.new) → IfOk result (λ attempt. HasFiles part (asked question.now) (H.file store.new) (candidate, kind_of attempt.outcome)) }
     ensures outcome { IfOk result (λ attempt. IsOutcome (asked question.now) candidate (formula_for (asked question.now) candidate) attempt.lines.items attempt.outcome) }
     ensures cause { HasCause EngineFault.ShelfFailed (H.faults store.old) (H.faults store.new) result }
-    ensures steady { result ≢ Err EngineFault.ShelfFailed → H.faults store.new ≡ H.faults store.old }
 {
     let encoding = encode_candidate(alloc, &question.topology, &question.spec, candidate)?;
     let limit = question.limits.conflicts();

@@ -29,8 +29,8 @@ fn pairs_with(formula: &mut Formula, first: Lit, others: &[Lit]) -> Result<(), O
     Ok(())
 }
 
-/// Adds a clause for each pair of the inputs: no two of them are true. An `Err` comes only where memory runs out, and then
-/// the formula may have some of the clauses.
+/// Adds a clause for each pair of the inputs: no two of them are true. An `Err` comes only where
+/// memory runs out, and then the formula may have some of the clauses.
 #[tactic(auto, using(crate::proofs::Pairs::pairs_decide))]
 pub fn at_most_one(formula: &mut Formula, inputs: &[Lit]) -> Result<(), OutOfMemory>
     requires { IsClause formula.old.vars inputs.now }

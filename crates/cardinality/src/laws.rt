@@ -12,8 +12,9 @@ pub fn pairs_leave_at_most_one()
     ensures { (values : List Bool) (inputs : List LitValue) → Decides (all_hold values (at_most_one_of inputs)) (true_inputs values inputs ≤ 1) }
 {}
 
-/// The totalizer counts: where its clauses hold, each output is true for which enough inputs are, and each assignment of
-/// the variables before it extends to one in which the outputs are true exactly there.
+/// The totalizer counts: where its clauses hold, each output is true for which enough inputs are,
+/// and each assignment of the variables before it extends to one in which the outputs are true
+/// exactly there.
 pub fn totalizer_counts()
     ensures { (before : ℕ) (inputs : List LitValue) (bound : ℕ) → 0 < length inputs → All (IsAbout before) inputs → IsCounter before inputs bound (totalizer_of before inputs bound) }
 {}

@@ -56,7 +56,8 @@ impl Table {
     }
 }
 
-/// A table of the rows, each written as `"word" => number`. That words and numbers differ is proved where it stands.
+/// A table of the rows, each written as `"word" => number`. That words and numbers differ is proved
+/// where it stands.
 #[macro_export]
 macro_rules! table {
     ($($word:literal => $value:literal),+ $(,)?) => {

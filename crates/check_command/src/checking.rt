@@ -23,7 +23,6 @@ fn audit_answer<H: Shelf>(alloc: Global, report: &Report, shelf: &mut H) -> Resu
     ensures source { result ≢ Err Halt.Source }
     ensures told { Tells (H.tells shelf.old) (H.tells shelf.new) }
     ensures cause { HasCause Halt.Shelf (H.faults shelf.old) (H.faults shelf.new) result }
-    ensures steady { result ≢ Err Halt.Shelf → H.faults shelf.new ≡ H.faults shelf.old }
 {
     match search_refusal(alloc, report.words(), report.topology())? {
         Some(answer) => Ok(answer),
@@ -34,8 +33,9 @@ fn audit_answer<H: Shelf>(alloc: Global, report: &Report, shelf: &mut H) -> Resu
     }
 }
 
-/// The answer to a text that came whole: the verdict on the report that it spells and on the files beside it, or the refusal
-/// of the text or of its search. The shelf is not looked at before the last of these, and no file changes.
+/// The answer to a text that came whole: the verdict on the report that it spells and on the files
+/// beside it, or the refusal of the text or of its search. The shelf is not looked at before the
+/// last of these, and no file changes.
 ///
 /// [`Halt::Shelf`] comes only where the shelf's count of faults rose, and [`Halt::Source`] never.
 pub fn check_answer<H: Shelf>(alloc: Global, bytes: &[u8], shelf: &mut H) -> Result<Answer, Halt>
@@ -47,7 +47,6 @@ pub fn check_answer<H: Shelf>(alloc: Global, bytes: &[u8], shelf: &mut H) -> Res
     ensures source { result ≢ Err Halt.Source }
     ensures told { Tells (H.tells shelf.old) (H.tells shelf.new) }
     ensures cause { HasCause Halt.Shelf (H.faults shelf.old) (H.faults shelf.new) result }
-    ensures steady { result ≢ Err Halt.Shelf → H.faults shelf.new ≡ H.faults shelf.old }
 {
     match report_of_text(alloc, bytes)? {
         ReportText::Spelled(report) => audit_answer(alloc, &report, shelf),

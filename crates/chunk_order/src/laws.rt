@@ -19,7 +19,8 @@ ghost use Rattle.chunk_order.specs.Formulas.{ordered_formula_for};
 ghost use Rattle.chunk_order.specs.Ordering.{ordered_formula_of};
 ghost use Rattle.chunk_order.specs.Solutions.{IsOrderedSolution, HasOrderedSolution};
 
-/// Two chunks are alike exactly where they are at the same nodes before, and have to be at the same nodes after.
+/// Two chunks are alike exactly where they are at the same nodes before, and have to be at the same
+/// nodes after.
 pub fn chunks_are_alike_exactly()
     ensures { (pre post : PlacementValue) (c d : ℕ) → (is_alike pre post c d ≡ true)
         ↔ (((n : ℕ) → n < pre.nodes → holds pre (c, n) ≡ holds pre (d, n)) × ((n : ℕ) → n < post.nodes → holds post (c, n) ≡ holds post (d, n))) }
@@ -30,21 +31,22 @@ pub fn alike_chunks_have_one_watch_node()
     ensures { (pre post : PlacementValue) (c d : ℕ) → post.nodes ≡ pre.nodes → is_alike pre post c d ≡ true → watch_node pre post c ≡ watch_node pre post d }
 {}
 
-/// A candidate is solvable exactly where some schedule that wastes no send and is ordered solves it.
+/// A candidate is solvable exactly where some schedule that wastes no send and is ordered solves
+/// it.
 pub fn ordered_schedules_suffice()
     ensures { (t : TopologyValue) (pre post : PlacementValue) (steps rounds : ℕ) → IsCandidate t pre post steps rounds
         → Solvable t pre post steps rounds ↔ HasOrderedSolution t pre post steps rounds }
 {}
 
-/// The formula with the clauses of the order is satisfiable exactly where the candidate is solvable. So where it is refuted,
-/// no schedule solves the candidate.
+/// The formula with the clauses of the order is satisfiable exactly where the candidate is
+/// solvable. So where it is refuted, no schedule solves the candidate.
 pub fn ordered_formulas_are_exact()
     ensures { (t : TopologyValue) (pre post : PlacementValue) (steps rounds : ℕ) → IsCandidate t pre post steps rounds
         → Satisfiable (ordered_formula_of t pre post steps rounds) ↔ Solvable t pre post steps rounds }
 {}
 
-/// An assignment that satisfies it says a schedule that solves the candidate, wastes no send and is ordered; and each ordered
-/// schedule that solves is met by one whose arrivals are its placements.
+/// An assignment that satisfies it says a schedule that solves the candidate, wastes no send and is
+/// ordered; and each ordered schedule that solves is met by one whose arrivals are its placements.
 pub fn ordered_formulas_say_ordered_schedules()
     ensures says { (t : TopologyValue) (pre post : PlacementValue) (steps rounds : ℕ) → IsCandidate t pre post steps rounds → (values : List Bool)
         → Satisfies values (ordered_formula_of t pre post steps rounds) → IsOrderedSolution t pre post (decoded (frame_of t pre steps rounds) values) steps rounds }
@@ -52,8 +54,8 @@ pub fn ordered_formulas_say_ordered_schedules()
         → Solves t pre post s steps rounds → Ordered pre post s → SatisfiesAs (map_of t pre steps) pre s (ordered_formula_of t pre post steps rounds) }
 {}
 
-/// The formula of a candidate within the limits of a small question, with the clauses of the order, is satisfiable exactly
-/// where some schedule solves the candidate.
+/// The formula of a candidate within the limits of a small question, with the clauses of the order,
+/// is satisfiable exactly where some schedule solves the candidate.
 pub fn questions_have_exact_ordered_formulas()
     ensures { (q : QuestionValue) (x : Candidate) → IsSmallQuestion q → IsWithin q x → Satisfiable (ordered_formula_for q x) ↔ IsSolvable q x }
 {}

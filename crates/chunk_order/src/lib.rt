@@ -1,5 +1,5 @@
-//! Chunks that are alike may be exchanged, so it is enough to look for schedules in which they come in the order of their
-//! numbers.
+//! Chunks that are alike may be exchanged, so it is enough to look for schedules in which they come
+//! in the order of their numbers.
 #![tactic(auto)]
 
 mod alike;

@@ -80,7 +80,8 @@ fn class_in_order(
     Ok(())
 }
 
-/// The clauses of the class of a chunk, where the chunk is its least and the class has a watch node.
+/// The clauses of the class of a chunk, where the chunk is its least and the class has a watch
+/// node.
 fn chunk_in_order(
     alloc: Global,
     formula: &mut Formula,
@@ -127,9 +128,10 @@ fn all_in_order(
     Ok(())
 }
 
-/// The formula of an encoding, followed by the clauses of the order: for each class of chunks that are alike, by its least
-/// chunk, each of its chunks comes to the watch node no later than the next. It is satisfiable exactly where the candidate is
-/// solvable. The only error is `OutOfMemory`.
+/// The formula of an encoding, followed by the clauses of the order: for each class of chunks that
+/// are alike, by its least chunk, each of its chunks comes to the watch node no later than the
+/// next. It is satisfiable exactly where the candidate is solvable. The only error is
+/// `OutOfMemory`.
 pub fn order_clauses(
     alloc: Global,
     encoding: &Encoding,

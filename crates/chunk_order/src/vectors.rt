@@ -22,8 +22,8 @@ pub fn chunks_of_a_broadcast_are_alike()
     ensures pairs { next_pairs (class_of (at_root 3 3) (everywhere 3 3) 0) ≡ (0, 1) ∷ (1, 2) ∷ [] }
 {}
 
-/// Two chunks of node 0 that go to all nodes of the line of 3 in three steps: after each, the first is at node 1 where the
-/// second is.
+/// Two chunks of node 0 that go to all nodes of the line of 3 in three steps: after each, the first
+/// is at node 1 where the second is.
 pub fn two_chunks_over_the_line_of_3()
     ensures { order_clauses (map_of line_of_3 (at_root 2 3) 3) (at_root 2 3) (everywhere 2 3)
         ≡ (no 18 ∷ yes 6 ∷ []) ∷ (no 19 ∷ yes 7 ∷ []) ∷ (no 20 ∷ yes 8 ∷ []) ∷ [] }
@@ -35,8 +35,8 @@ pub fn each_chunk_with_the_next()
         ≡ (no 14 ∷ yes 5 ∷ []) ∷ (no 15 ∷ yes 6 ∷ []) ∷ (no 23 ∷ yes 14 ∷ []) ∷ (no 24 ∷ yes 15 ∷ []) ∷ [] }
 {}
 
-/// Two chunks of each of three nodes are gathered at node 1: those of one node are alike, and those of node 1 have no order,
-/// since they are there.
+/// Two chunks of each of three nodes are gathered at node 1: those of one node are alike, and those
+/// of node 1 have no order, since they are there.
 pub fn chunks_that_are_there_have_no_order()
     ensures class { class_of (instance_on_three Kind.Gather 2).pre (instance_on_three Kind.Gather 2).post 0 ≡ 0 ∷ 3 ∷ [] }
     ensures leaders { leaders (instance_on_three Kind.Gather 2).pre (instance_on_three Kind.Gather 2).post ≡ 0 ∷ 1 ∷ 2 ∷ [] }
@@ -46,7 +46,8 @@ pub fn chunks_that_are_there_have_no_order()
         ≡ (no 22 ∷ yes 4 ∷ []) ∷ (no 34 ∷ yes 16 ∷ []) ∷ [] }
 {}
 
-/// Two copies of a pattern of two chunks, of which the second has nowhere to go: each is alike with its copy.
+/// Two copies of a pattern of two chunks, of which the second has nowhere to go: each is alike with
+/// its copy.
 pub fn copies_are_alike()
     ensures { order_clauses (map_of line_of_3 (copied 2 2 3 two_given.before) 1) (copied 2 2 3 two_given.before) (copied 2 2 3 two_given.after)
         ≡ (no 18 ∷ yes 6 ∷ []) ∷ [] }

@@ -27,8 +27,8 @@ use Rattle.engine_rules.specs.Outcomes.{SolvesTightly, SpentOn}
 use Rattle.chunk_order.specs.Ordering.{ordered_formula_of}
 use Rattle.chunk_order.specs.Solutions.{IsOrderedSolution}
 use Rattle.chunk_order.specs.Formulas.{ordered_formula_for, OrderedFor}
-use Rattle.candidate_solver.specs.Trying.{Says}
-use Rattle.chunk_symmetry.specs.Trying.{IsSearch, IsOrderedOutcome}
+use Rattle.candidate_solver.specs.Trying.{IsSearch, Says}
+use Rattle.chunk_symmetry.specs.Trying.{IsOrderedOutcome}
 use Rattle.chunk_order.proofs.Sufficing.{decodes_ordered, parts}
 use Rattle.chunk_order.proofs.Exact.{copied_ordered}
 
@@ -72,7 +72,7 @@ module _ (q : QuestionValue) (x : Candidate) (e : Encoding) (f : FormulaValue) (
   outcome_by lines said limit out limited search says = record {
     proves = record {
       solved = λ s o. let it = says.by_model s o in (said_solves it.0 s (search.model it.0 it.1) it.2).0;
-      refuted = λ o. subst (Refutes (map Addition lines)) encoded.formula (search.refuted (says.refuted o));
+      refuted = λ o. subst (Refutes (map Addition lines)) encoded.formula (search.refuted (says.refuted o)).refutes;
       unknown = λ n o.
           let u = says.unknown n o in (
             u.1 ∙ limited,

@@ -36,8 +36,8 @@ fn in_order(alloc: Global, encoding: Encoding, instance: &Instance) -> Result<En
     Ok(Encoded { encoding, formula })
 }
 
-/// The encoding of a candidate over these links, and its formula with the clauses of the order. Of a reduction it is that of
-/// the copying collective of which the reduction is the inverse.
+/// The encoding of a candidate over these links, and its formula with the clauses of the order. Of
+/// a reduction it is that of the copying collective of which the reduction is the inverse.
 pub(crate) fn encode_ordered(
     alloc: Global,
     topology: &Topology,

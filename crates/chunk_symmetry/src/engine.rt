@@ -26,8 +26,9 @@ use engine_rules::{Engine, EngineFault, EngineView, Settled};
 use schedule::Topology;
 use std::alloc::Global;
 
-/// Searches for an ordered schedule of each candidate by its formula with the clauses of the order. Each proof line is
-/// checked as it is found, and only those of the last search are kept. It works beside any store, and leaves it as it was.
+/// Searches for an ordered schedule of each candidate by its formula with the clauses of the order.
+/// Each proof line is checked as it is found, and only those of the last search are kept. It works
+/// beside any store, and leaves it as it was.
 #[derive(Drop)]
 pub struct OrderedEngine {
     question: Question,
@@ -40,9 +41,9 @@ pub struct OrderedEngine {
 }
 
 impl OrderedEngine {
-    /// An engine for the candidates of a topology and a collective, within the limits; of a reduction it settles those of
-    /// the copying collective of which it is the inverse, so that the topology is then the one turned round. The only error is
-    /// `OutOfMemory`.
+    /// An engine for the candidates of a topology and a collective, within the limits; of a
+    /// reduction it settles those of the copying collective of which it is the inverse, so that the
+    /// topology is then the one turned round. The only error is `OutOfMemory`.
     pub fn new(
         alloc: Global,
         topology: &Topology,

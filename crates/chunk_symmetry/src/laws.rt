@@ -13,21 +13,23 @@ use crate::engine::OrderedEngine;
 use candidate_order::Candidate;
 use engine_rules::{Engine, EngineView};
 
-/// Where the candidate that was settled last was refuted, the engine's log refutes its formula with the clauses of the order.
+/// Where the candidate that was settled last was refuted, the engine's log refutes its formula with
+/// the clauses of the order.
 pub fn the_log_refutes_the_last_candidate()
     ensures { (e : OrderedEngine) (before : RecordValue) (x : Candidate) → ⟦<OrderedEngine as EngineView>⟧.entries e ≡ before ++ (x, settled.Refuted) ∷ []
         → Refutes (map Addition (⟦<OrderedEngine as EngineView>⟧.log_lines e)) (⟦<OrderedEngine as EngineView>⟧.formula e x) }
 {}
 
-/// The engine works beside every store: it leaves the store as it was, never counts a fault, and agrees with each.
+/// The engine works beside every store: it leaves the store as it was, never counts a fault, and
+/// agrees with each.
 pub fn every_store_is_left_as_it_was<T>()
     ensures stays { (a : OrderedEngine) (before : T) (b : OrderedEngine) (now : T) → ⟦<OrderedEngine as Engine<T>>⟧.moves a before b now → now ≡ before }
     ensures faults { (e : OrderedEngine) (store : T) → ⟦<OrderedEngine as Engine<T>>⟧.faults e store ≡ 0 }
     ensures agrees { (e : OrderedEngine) (store : T) → ⟦<OrderedEngine as Engine<T>>⟧.agrees e store }
 {}
 
-/// At all times the engine's formula of a candidate of its question is that with the clauses of the order, and what it promises
-/// of a schedule beyond solving is that it is ordered.
+/// At all times the engine's formula of a candidate of its question is that with the clauses of the
+/// order, and what it promises of a schedule beyond solving is that it is ordered.
 pub fn ordered_schedules_are_asked_for()
     ensures formula { (e : OrderedEngine) (x : Candidate) → ⟦<OrderedEngine as EngineView>⟧.formula e x ≡ ordered_formula_for (⟦<OrderedEngine as EngineView>⟧.question e) x }
     ensures suits { (e : OrderedEngine) (x : Candidate) (schedule : ScheduleValue) → ⟦<OrderedEngine as EngineView>⟧.suits e x schedule ↔ OrderedFor (⟦<OrderedEngine as EngineView>⟧.question e) x schedule }

@@ -1,7 +1,7 @@
 //! The search of a formula, each line of which is checked as it is found.
 
 ghost use Rattle.std.specs.Prelude.{◌≡◌, IfOk};
-ghost use Rattle.chunk_symmetry.specs.Trying.{IsSearch};
+ghost use Rattle.candidate_solver.specs.Trying.{IsSearch};
 
 use candidate_solver::Found;
 use cnf_formula::{Formula, OutOfMemory};
@@ -9,8 +9,8 @@ use conflict_ledger::{CheckedLedger, KeptLedger, PairLedger};
 use sat_core::{SolveFault, solve};
 use std::alloc::Global;
 
-/// Searches for a model of a formula, or a refutation, and learns at most so many lines, which are kept in memory. The only
-/// error is `OutOfMemory`.
+/// Searches for a model of a formula, or a refutation, and learns at most so many lines, which are
+/// kept in memory. The only error is `OutOfMemory`.
 pub(crate) fn search(alloc: Global, formula: &Formula, limit: u32) -> Result<Found, OutOfMemory>
     ensures { IfOk result (λ found. IsSearch formula.now limit found.lines.items found.answer) }
 {

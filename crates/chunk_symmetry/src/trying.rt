@@ -3,23 +3,17 @@
 ghost use Rattle.std.specs.Prelude.{IfOk};
 ghost use Rattle.candidate_order.specs.Frontiers.{IsWithin};
 ghost use Rattle.candidate_solver.specs.Questions.{asked};
-ghost use Rattle.chunk_symmetry.specs.Trying.{IsOrderedOutcome, IsSearch};
+ghost use Rattle.chunk_symmetry.specs.Trying.{IsOrderedOutcome};
 
 use crate::encoding::{Encoded, encode_ordered};
 use crate::searching::search;
-use candidate_order::{Candidate, Limits};
+use candidate_order::Candidate;
 use candidate_solver::{Attempt, Found, Question, outcome_of};
-use cnf_formula::{Formula, OutOfMemory};
+use cnf_formula::OutOfMemory;
 use std::alloc::Global;
 
-/// Searches by a formula for as many conflicts as the limits allow.
-fn find(alloc: Global, formula: &Formula, limits: &Limits) -> Result<Found, OutOfMemory>
-    ensures { IfOk result (λ found. IsSearch formula.now limits.now.conflicts found.lines.items found.answer) }
-{
-    search(alloc, formula, limits.conflicts())
-}
-
-/// Searches for an ordered schedule of a candidate, and gives what came of it with the lines of the search.
+/// Searches for an ordered schedule of a candidate, and gives what came of it with the lines of the
+/// search.
 pub(crate) fn try_candidate(
     alloc: Global,
     question: &Question,
@@ -34,7 +28,8 @@ pub(crate) fn try_candidate(
         &question.spec,
         candidate,
     )?;
-    let Found { answer, lines } = find(alloc, &formula, &question.limits)?;
-    let outcome = outcome_of(alloc, &encoding, answer, question.limits.conflicts())?;
+    let limit = question.limits.conflicts();
+    let Found { answer, lines } = search(alloc, &formula, limit)?;
+    let outcome = outcome_of(alloc, &encoding, answer, limit)?;
     Ok(Attempt { outcome, lines })
 }

@@ -35,7 +35,8 @@ impl Clause {
         self.lits.as_slice()
     }
 
-    /// Whether one of the literals is true where the variables have these values, that of variable 1 first.
+    /// Whether one of the literals is true where the variables have these values, that of variable
+    /// 1 first.
     pub fn holds(&self, values: &[bool]) -> bool
         requires { IsClause (length values.now) self.now }
         ensures { result ≡ clause_holds values.now self.now }

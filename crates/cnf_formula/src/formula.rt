@@ -10,7 +10,8 @@ use smallvec::SmallVec;
 use std::alloc::Global;
 use std::marker::Model;
 
-/// A formula in conjunctive normal form: variables numbered from 1 to `vars`, and clauses over them.
+/// A formula in conjunctive normal form: variables numbered from 1 to `vars`, and clauses over
+/// them.
 #[derive(Debug, Drop)]
 pub struct Formula {
     vars: u32,
@@ -56,8 +57,8 @@ impl Formula {
         self.vars
     }
 
-    /// Adds a clause of these literals, about the formula's variables. An `Err` comes only where memory runs out, and then
-    /// the formula is as before.
+    /// Adds a clause of these literals, about the formula's variables. An `Err` comes only where
+    /// memory runs out, and then the formula is as before.
     pub fn add(&mut self, lits: &[Lit]) -> Result<(), OutOfMemory>
         requires { IsClause self.old.vars lits.now }
         ensures added { OnOk result (self.new ≡ with_clauses self.old (lits.now ∷ [])) }
@@ -76,7 +77,8 @@ impl Formula {
         &self.clauses
     }
 
-    /// Whether every clause has a literal that is true in the assignment, which has a value for each variable.
+    /// Whether every clause has a literal that is true in the assignment, which has a value for
+    /// each variable.
     pub fn holds(&self, assignment: &Assignment) -> bool
         requires { length assignment.now ≡ self.now.vars }
         ensures { Decides result (Satisfies assignment.now self.now) }

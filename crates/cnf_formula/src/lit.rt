@@ -3,8 +3,9 @@ ghost use Rattle.cnf_formula.specs.Literals.{LitValue, IsLit, negation, code_of,
 
 use std::marker::Model;
 
-/// A literal: a variable, numbered from 1 to 2,147,483,647, or its negation. It is kept as one number, twice the
-/// variable and one more for a negation, as solvers have it (Eén and Sörensson 2003).
+/// A literal: a variable, numbered from 1 to 2,147,483,647, or its negation. It is kept as one
+/// number, twice the variable and one more for a negation, as solvers have it (Eén and Sörensson
+/// 2003).
 #[derive(Clone, Copy, Debug, PartialEq, Eq)]
 pub struct Lit {
     code: u32,
@@ -35,8 +36,8 @@ impl Model for Lit {
 }
 
 impl Lit {
-    /// The literal of a variable from 1 to 2,147,483,647: the variable itself where `positive` is true, else its
-    /// negation.
+    /// The literal of a variable from 1 to 2,147,483,647: the variable itself where `positive` is
+    /// true, else its negation.
     pub fn new(var: u32, positive: bool) -> Lit
         requires { IsLit (record { var = var; positive = positive }) }
         ensures { result ≡ record { var = var; positive = positive } }
@@ -82,8 +83,9 @@ impl Lit {
         values[self.var() as usize - 1] == self.positive()
     }
 
-    /// The literal's place in a table that has one for each literal: twice the variable, and one more for a negation.
-    /// So it is at least 2, and below twice the number of variables and 2 more.
+    /// The literal's place in a table that has one for each literal: twice the variable, and one
+    /// more for a negation. So it is at least 2, and below twice the number of variables and 2
+    /// more.
     pub fn code(self) -> usize
         ensures code { result ≡ code_of self }
         ensures limits { IsLit self }

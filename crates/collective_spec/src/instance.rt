@@ -18,8 +18,9 @@ pub struct Instance {
     pub post: Placement,
 }
 
-/// The number of all chunks where the chunk count is `c`: `c` for a broadcast and a reduce, else `c`
-/// for each node. Of a collective that users give the kind alone does not tell it: `Spec::chunks` does.
+/// The number of all chunks where the chunk count is `c`: `c` for a broadcast and a reduce, else
+/// `c` for each node. Of a collective that users give the kind alone does not tell it:
+/// `Spec::chunks` does.
 pub fn chunks_of(kind: Kind, nodes: u8, c: u8) -> u16
     ensures { result ≡ chunks_of kind nodes c }
 {
@@ -78,8 +79,9 @@ fn ends_of(collective: Collective) -> (Layout, Layout)
     }
 }
 
-/// The instance of a standard collective on so many nodes with the chunk count `c`, at most 16. Of a reduction it is that of the copying collective of which it is the inverse: broadcast
-/// for reduce, and allgather for reducescatter.
+/// The instance of a standard collective on so many nodes with the chunk count `c`, at most 16. Of
+/// a reduction it is that of the copying collective of which it is the inverse: broadcast for
+/// reduce, and allgather for reducescatter.
 pub fn instance_of(
     alloc: Global,
     collective: Collective,

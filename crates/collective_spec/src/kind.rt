@@ -100,7 +100,8 @@ pub fn takes_root(kind: Kind) -> bool
     )
 }
 
-/// Whether users give where the chunks of such a collective are before, and where they have to be after.
+/// Whether users give where the chunks of such a collective are before, and where they have to be
+/// after.
 pub fn is_custom(kind: Kind) -> bool
     ensures { result ≡ is_custom kind }
 {

@@ -43,7 +43,8 @@ pub fn what_is_asked_has_its_size()
     ensures demand { (spec : Spec) (nodes c : ℕ) → IsAmong (chunks_in spec nodes c) nodes (spec_demand spec nodes c) }
 {}
 
-/// Where a pattern is given exactly for the kind that has one, what is asked for keeps the rules, and has the kind.
+/// Where a pattern is given exactly for the kind that has one, what is asked for keeps the rules,
+/// and has the kind.
 pub fn what_fits_is_a_spec()
     ensures kind { (collective : Collective) (pattern : Option PatternValue) → fits_kind collective.kind pattern ≡ true
         → kind_in (spec_of collective pattern) ≡ collective.kind }

@@ -8,8 +8,8 @@ use schedule::Placement;
 use std::alloc::Global;
 use std::marker::Model;
 
-/// A collective that users give: 1 to 16 chunks, and which nodes hold them before and have to hold them after. At the
-/// chunk count `c` it is copied `c` times.
+/// A collective that users give: 1 to 16 chunks, and which nodes hold them before and have to hold
+/// them after. At the chunk count `c` it is copied `c` times.
 #[derive(Clone, Debug, Drop)]
 pub struct Pattern {
     base: u8,
@@ -28,8 +28,8 @@ impl Model for Pattern {
 }
 
 impl Pattern {
-    /// The pattern of `base` chunks, from 1 to 16, and of two placements of so many chunks at the same nodes. It takes
-    /// no memory.
+    /// The pattern of `base` chunks, from 1 to 16, and of two placements of so many chunks at the
+    /// same nodes. It takes no memory.
     pub fn new(base: u8, before: Placement, after: Placement) -> Pattern
         requires { IsPattern before.nodes (record { base = base; before = before; after = after }) }
         ensures { result ≡ record { base = base; before = before; after = after } }
@@ -93,7 +93,8 @@ fn copy_chunk(copies: &mut Placement, placement: &Placement, base: u8, chunk: u1
     }
 }
 
-/// The placement `c` times: the chunk numbered `g` of the copy numbered `k` has the number `k * base + g`.
+/// The placement `c` times: the chunk numbered `g` of the copy numbered `k` has the number `k *
+/// base + g`.
 #[tactic(auto, using(crate::proofs::Laying::layout_rules))]
 pub(crate) fn copied(
     alloc: Global,

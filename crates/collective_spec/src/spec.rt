@@ -10,8 +10,8 @@ use crate::pattern::{Pattern, copied};
 use schedule::Placement;
 use std::alloc::Global;
 
-/// What a collective asks for: one of the standard kinds with its root, or what users give. The kind of a standard one
-/// is not `Kind::Custom`.
+/// What a collective asks for: one of the standard kinds with its root, or what users give. The
+/// kind of a standard one is not `Kind::Custom`.
 #[derive(Clone, Debug, Drop)]
 pub enum Spec {
     Standard(Collective),
@@ -60,8 +60,9 @@ impl Spec {
     }
 }
 
-/// The instance of what is asked for, on so many nodes and with the chunk count `c`, at most 16. Of a reduction it is
-/// that of the copying collective of which it is the inverse. The only error is `OutOfMemory`.
+/// The instance of what is asked for, on so many nodes and with the chunk count `c`, at most 16. Of
+/// a reduction it is that of the copying collective of which it is the inverse. The only error is
+/// `OutOfMemory`.
 pub fn spec_instance(alloc: Global, spec: &Spec, nodes: u8, c: u8) -> Result<Instance, OutOfMemory>
     requires spec { IsSpec nodes spec.now }
     requires allowed { IsTrue (allows (kind_in spec.now) nodes c) }
@@ -83,8 +84,8 @@ pub fn spec_instance(alloc: Global, spec: &Spec, nodes: u8, c: u8) -> Result<Ins
     }
 }
 
-/// The pairs of a chunk and a node that have to be reached: where the chunks have to be after, or where the sums have to
-/// be. The chunk count `c` is from 1 to 16. The only error is `OutOfMemory`.
+/// The pairs of a chunk and a node that have to be reached: where the chunks have to be after, or
+/// where the sums have to be. The chunk count `c` is from 1 to 16. The only error is `OutOfMemory`.
 pub fn spec_demand(alloc: Global, spec: &Spec, nodes: u8, c: u8) -> Result<Placement, OutOfMemory>
     requires spec { IsSpec nodes spec.now }
     requires some { 1 ≤ c }

@@ -6,7 +6,7 @@ use Rattle.command_words.specs.declared.key.Key.{Key}
 use Rattle.command_words.specs.declared.key.Key.TheVariants as key
 use Rattle.command_words.specs.declared.values.Values.{Values}
 use Rattle.command_words.specs.declared.verb.Verb.{Verb}
-use Rattle.command_words.specs.Counting.{one, count_of}
+use Rattle.command_words.specs.inner.Counting.{one, count_of}
 use Rattle.command_words.specs.Values.{collective_from, is_given, kind_from, name_from, number_from, what_from, with_value}
 
 none_counts : {T : Type 0} (o : Option T) → is_some o ≡ false → one o ≡ 0

@@ -6,7 +6,7 @@ use Rattle.text_lines.specs.Check.{◌>>=◌}
 use Rattle.command_words.specs.declared.fault.WordFault.{WordFault}
 use Rattle.command_words.specs.declared.verb.Verb.{Verb}
 use Rattle.command_words.specs.declared.values.Values.{Values}
-use Rattle.command_words.specs.Counting.{one, count_of}
+use Rattle.command_words.specs.inner.Counting.{one, count_of}
 use Rattle.command_words.specs.Words.{texts, with_word, at_word, values_from}
 
 -- the texts from place k on begin with that of the word there

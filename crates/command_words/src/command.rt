@@ -78,7 +78,8 @@ pub enum Command {
         kind: FamilyKind,
         size: u8,
     },
-    /// Searches as `Synth` does, and tells of each candidate that a cut refutes which cut that is. The kind is not allreduce.
+    /// Searches as `Synth` does, and tells of each candidate that a cut refutes which cut that is.
+    /// The kind is not allreduce.
     Bound {
         kind: Kind,
         /// The index of the word `collective`.

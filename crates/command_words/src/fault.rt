@@ -26,7 +26,8 @@ pub enum WordCode {
     UnknownPoint = 9,
     /// Memory ran out, and nothing is said of the words.
     OutOfMemory = 10,
-    /// The collective is `custom` and the topology gives none, or the topology gives one and the collective is another.
+    /// The collective is `custom` and the topology gives none, or the topology gives one and the
+    /// collective is another.
     CustomMismatch = 12,
     /// The report is of an allreduce, which the command does not take.
     ReportNotTaken = 13,

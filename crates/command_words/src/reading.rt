@@ -4,7 +4,7 @@ ghost use Rattle.std.specs.Prelude.{◌≡◌, ◌+◌, ◌≤◌, length, IfOk,
 ghost use Rattle.command_words.specs.Codes.{number_of};
 ghost use Rattle.command_words.specs.Values.{AreProper};
 ghost use Rattle.command_words.specs.Commands.{IsProper, command_given};
-ghost use Rattle.command_words.specs.Counting.{count_of};
+ghost use Rattle.command_words.specs.inner.Counting.{count_of};
 ghost use Rattle.command_words.specs.Words.{at_word, command_of, key_and_value, nothing, texts, values_from, with_word};
 
 use crate::building::command_from;
@@ -84,10 +84,11 @@ fn command_given(
     }
 }
 
-/// The command that the words are: the first is the command's name, and every other a key, `=` and a
-/// value, in any order. An `Err` has the first refusal that applies: of the first word, of the other words from
-/// left to right, of a point that is named where no programs are asked for, of a key that is lacking, of a size that the
-/// kind of family doesn't have, of a root that the collective doesn't take. It takes no memory.
+/// The command that the words are: the first is the command's name, and every other a key, `=` and
+/// a value, in any order. An `Err` has the first refusal that applies: of the first word, of the
+/// other words from left to right, of a point that is named where no programs are asked for, of a
+/// key that is lacking, of a size that the kind of family doesn't have, of a root that the
+/// collective doesn't take. It takes no memory.
 #[tactic(auto, unfolding(crate::specs::Words::command_of))]
 pub fn read_words(words: &[String]) -> Result<Command, WordFault>
     ensures read { result ≡ command_of (texts words.now) }

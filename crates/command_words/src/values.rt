@@ -2,7 +2,7 @@
 
 ghost use Rattle.std.specs.Prelude.{◌≡◌, ◌≤◌, ◌+◌, false, true, IfOk};
 ghost use Rattle.command_words.specs.Values.{AreProper, collective_from, is_given, kind_from, name_from, number_from, what_from, with_value};
-ghost use Rattle.command_words.specs.Counting.{count_of};
+ghost use Rattle.command_words.specs.inner.Counting.{count_of};
 ghost use Rattle.command_words.specs.Tables.{takes_kind, takes_what};
 
 use crate::command::{JsonWhat, PointWord, RootWord};
@@ -11,6 +11,7 @@ use crate::key::Key;
 use crate::kind_word::kind_of_word;
 use crate::verb::Verb;
 use crate::what_word::what_of_word;
+use candidate_order::{MAX_CHUNKS, MAX_CONFLICTS, MAX_K, MAX_STEPS};
 use collective_spec::Kind;
 use text_lines::read_number;
 use topology_text::{FamilyKind, Name};
@@ -133,7 +134,8 @@ impl Values {
         }
     }
 
-    /// The values with that of one more key of the command, which stands in the word with this index.
+    /// The values with that of one more key of the command, which stands in the word with this
+    /// index.
     pub fn with(self, verb: Verb, key: Key, text: &str, word: u32) -> Result<Values, WordCode>
         requires proper { AreProper verb self }
         requires first { is_given key self ≡ false }
@@ -147,10 +149,12 @@ impl Values {
                 kind: collective_from(verb, text)?,
                 word,
             }),
-            Key::K => values.k = Some(number_from(0, 8, text)? as u8),
-            Key::Steps => values.steps = Some(number_from(1, 8, text)? as u8),
-            Key::Chunks => values.chunks = Some(number_from(1, 16, text)? as u8),
-            Key::Conflicts => values.conflicts = Some(number_from(1, 100_000, text)? as u32),
+            Key::K => values.k = Some(number_from(0, u64::from(MAX_K), text)? as u8),
+            Key::Steps => values.steps = Some(number_from(1, u64::from(MAX_STEPS), text)? as u8),
+            Key::Chunks => values.chunks = Some(number_from(1, u64::from(MAX_CHUNKS), text)? as u8),
+            Key::Conflicts => {
+                values.conflicts = Some(number_from(1, u64::from(MAX_CONFLICTS), text)? as u32);
+            }
             Key::Root => values.root = Some(RootWord {
                 name: name_from(text)?,
                 word,

@@ -41,7 +41,8 @@ pub fn commands_are_read()
     ensures trial { command_of (words_of (codes "trial n=3333")) ≡ Ok (Command.Trial 3333) }
 {}
 
-/// Each number at the ends of its range, and beyond them. A value that is taken leaves keys lacking.
+/// Each number at the ends of its range, and beyond them. A value that is taken leaves keys
+/// lacking.
 pub fn numbers_in_their_ranges()
     ensures k_least { command_of (words_of (codes "synth k=0")) ≡ Err (record { code = WordCode.KeyMissing; word = 2 }) }
     ensures k_greatest { command_of (words_of (codes "synth k=8")) ≡ Err (record { code = WordCode.KeyMissing; word = 2 }) }
@@ -86,7 +87,8 @@ pub fn words_without_a_key()
     ensures empty_command { command_of (words_of (codes "")) ≡ Err (record { code = WordCode.UnknownCommand; word = 0 }) }
 {}
 
-/// Words are refused from left to right, then a key that is lacking, then what two keys say together.
+/// Words are refused from left to right, then a key that is lacking, then what two keys say
+/// together.
 pub fn first_refusal_counts()
     ensures left_first { command_of (words_of (codes "synth k=9 k=1 x=1")) ≡ Err (record { code = WordCode.BadValue; word = 1 }) }
     ensures twice_before_value { command_of (words_of (codes "synth k=1 k=9")) ≡ Err (record { code = WordCode.KeyTwice; word = 2 }) }

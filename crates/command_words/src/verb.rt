@@ -75,7 +75,8 @@ impl Verb {
         }
     }
 
-    /// Whether the command takes collectives of the kind: those that tell of one search take no allreduce, which has two.
+    /// Whether the command takes collectives of the kind: those that tell of one search take no
+    /// allreduce, which has two.
     pub fn takes_kind(self, kind: Kind) -> bool
         ensures { result ≡ takes_kind self kind }
     {

@@ -1,12 +1,10 @@
 -- Elements of lists.
 use Rattle.std.proofs.Common.{zero, suc, ◌≡◌, ℕ, ◌<◌, List, [], ◌∷◌, length, get_or, refl, inl, inr, ⊎_elim, arith}
 use Rattle.std.specs.Prelude.{◌⊎◌, Contains, map}
+use Rattle.list_laws.proofs.Members.{Contains-cons}
 
 pub here : {X : Type 0} (x : X) (xs : List X) → Contains (x ∷ xs) x
 here x xs = (0, omega arith, refl)
-
-pub there : {X : Type 0} (y : X) (xs : List X) (x : X) → Contains xs x → Contains (y ∷ xs) x
-there y xs x c = (suc c.0, omega (arith, c.1), c.2)
 
 pub cons_cases : {X : Type 0} (y : X) (xs : List X) (x : X) → Contains (y ∷ xs) x → (y ≡ x) ⊎ Contains xs x
 cons_cases y xs x c = go c.0 c.1 c.2
@@ -18,7 +16,7 @@ cons_cases y xs x c = go c.0 c.1 c.2
 pub from_map : {X Y : Type 0} (f : X → Y) (xs : List X) (y : Y) → Contains (map f xs) y → (x : X) × Contains xs x × (f x ≡ y)
 from_map f [] y c = absurd (omega (arith, c.1))
 from_map f (x ∷ xs) y c =
-    ⊎_elim (λ e. (x, here x xs, e)) (λ d. let r = from_map f xs y d in (r.0, there x xs r.0 r.1, r.2))
+    ⊎_elim (λ e. (x, here x xs, e)) (λ d. let r = from_map f xs y d in (r.0, Contains-cons x xs r.0 r.1, r.2))
     (cons_cases (f x) (map f xs) y c)
 
 -- a list that contains nothing

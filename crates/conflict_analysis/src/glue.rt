@@ -10,7 +10,8 @@ use cnf_formula::{Lit, OutOfMemory};
 use std::alloc::Global;
 use trail_core::Core;
 
-/// The levels that a count has met. Nothing hangs on it but which clauses sleep, and when a search begins anew.
+/// The levels that a count has met. Nothing hangs on it but which clauses sleep, and when a search
+/// begins anew.
 #[derive(Drop)]
 pub struct Glue {
     seen: Seen,

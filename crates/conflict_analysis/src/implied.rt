@@ -21,8 +21,8 @@ const LAST: u32 = 4_294_967_280;
 /// Reasons of reasons are followed so far.
 const DEEPEST: u32 = 256;
 
-/// What is known of a clause whose literals are all false: which others are false where these are (Sörensson and Biere
-/// 2009). Nothing but the length of a clause hangs on it.
+/// What is known of a clause whose literals are all false: which others are false where these are
+/// (Sörensson and Biere 2009). Nothing but the length of a clause hangs on it.
 #[derive(Drop)]
 pub struct Implied {
     /// By variable the stamp of the last clause that met it, and what was found, as one sum.
@@ -30,7 +30,7 @@ pub struct Implied {
     /// The stamp of this clause, above all marks of those before it.
     stamp: u32,
     /// The variables of a level that wait to be taken for their reasons.
-    pub waiting: Seen,
+    pub(crate) waiting: Seen,
     ghost small: { stamp < 4294967290 },
 }
 
@@ -58,7 +58,8 @@ pub fn is_of(core: &Core, lit: Lit, level: u32) -> bool
 }
 
 impl Implied {
-    /// Of no clause anything is known, over so many variables. `Err` comes only where memory runs out.
+    /// Of no clause anything is known, over so many variables. `Err` comes only where memory runs
+    /// out.
     pub fn new(alloc: Global, vars: u32) -> Result<Implied, OutOfMemory> {
         Ok(Implied {
             marks: vec![in alloc; 0u32; vars as usize + 1]?,
@@ -103,8 +104,8 @@ impl Implied {
         Some(mark - self.stamp != OPEN)
     }
 
-    /// Whether each other literal of a false literal's reason stands in the clause, became false on level 0, or is implied
-    /// itself.
+    /// Whether each other literal of a false literal's reason stands in the clause, became false on
+    /// level 0, or is implied itself.
     fn follows(&mut self, core: &Core, lit: Lit, deep: u32) -> bool
         requires { lit.var ≤ core.now.vars }
     {
@@ -128,7 +129,8 @@ impl Implied {
         true
     }
 
-    /// Whether the other literals of the clause imply a literal of it, or of a reason that was taken for one.
+    /// Whether the other literals of the clause imply a literal of it, or of a reason that was
+    /// taken for one.
     pub fn is_implied(&mut self, core: &Core, lit: Lit) -> bool
         requires { lit.var ≤ core.now.vars }
     {

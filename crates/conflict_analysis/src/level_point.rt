@@ -1,5 +1,5 @@
-//! The literal of a level through which all its literals that are kept came about (the level's own first unique implication
-//! point).
+//! The literal of a level through which all its literals that are kept came about (the level's own
+//! first unique implication point).
 
 ghost use Rattle.std.specs.Prelude.{◌≡◌, ◌+◌, ◌≤◌, length};
 
@@ -25,8 +25,9 @@ fn wait_for_kept(core: &Core, walk: &Walk, implied: &mut Implied, from: usize, t
     open
 }
 
-/// The literals of a true literal's reason that are of its level wait too. How many did not before; none where the literal
-/// has no reason, or where another literal of the reason is neither of the clause nor implied by it.
+/// The literals of a true literal's reason that are of its level wait too. How many did not before;
+/// none where the literal has no reason, or where another literal of the reason is neither of the
+/// clause nor implied by it.
 fn wait_for_reason(core: &Core, implied: &mut Implied, lit: Lit, level: u32) -> Option<usize>
     requires { lit.var ≤ core.now.vars }
 {
@@ -46,9 +47,10 @@ fn wait_for_reason(core: &Core, implied: &mut Implied, lit: Lit, level: u32) -> 
     Some(more)
 }
 
-/// The place of the point of a level, which lies between two places: the literals of the level that are kept above it can be
-/// taken for their reasons, until it alone stands for them, and no literal of a lower level comes in that the clause does not
-/// imply. The end of the level where there is none, and where less than two literals are kept.
+/// The place of the point of a level, which lies between two places: the literals of the level that
+/// are kept above it can be taken for their reasons, until it alone stands for them, and no literal
+/// of a lower level comes in that the clause does not imply. The end of the level where there is
+/// none, and where less than two literals are kept.
 pub fn point_of(
     core: &Core,
     walk: &Walk,

@@ -20,7 +20,8 @@ pub fn hint(id: ClauseId) -> i64
     i64::from(id.number()) + 1
 }
 
-/// Meets a false literal: it is kept where it became false between level 0 and the last level, and else its step waits.
+/// Meets a false literal: it is kept where it became false between level 0 and the last level, and
+/// else its step waits.
 fn meet(core: &Core, walk: &mut Walk, lit: Lit) -> Result<(), OutOfMemory>
     requires formed { IsTrail core.now.vars core.now.trail core.now.limits }
     requires sorted { IsSorted core.now (value_of walk.old) }
@@ -66,7 +67,8 @@ pub fn meet_all(core: &Core, walk: &mut Walk, id: ClauseId) -> Result<(), OutOfM
     Ok(())
 }
 
-/// Whether the literal at a place has such a mark: its step waits on the last level or on level 0, or it is kept.
+/// Whether the literal at a place has such a mark: its step waits on the last level or on level 0,
+/// or it is kept.
 pub fn is_waiting(core: &Core, walk: &Walk, place: usize, mark: u8) -> bool
     requires place { place < length core.now.trail }
     requires len { length walk.now.marks.items ≡ core.now.vars + 1 }

@@ -5,7 +5,7 @@ use std::alloc::Global;
 
 /// A set of numbers, by stamps.
 #[derive(Drop)]
-pub struct Seen {
+pub(crate) struct Seen {
     /// By number the stamp of the last set to which it was added.
     marks: Vec<u32>,
     /// The stamp of this set, above all marks of those before it.

@@ -1,6 +1,7 @@
-//! Literals below the last level are taken out of a clause. Where two or more of a level are kept, one of that level may stand
-//! for all of them (shrinking: Fleury and Biere 2021, "Efficient All-UIP Learned Clause Minimization"); else those are taken
-//! out that the others imply (clause minimisation).
+//! Literals below the last level are taken out of a clause. Where two or more of a level are kept,
+//! one of that level may stand for all of them (shrinking: Fleury and Biere 2021, "Efficient
+//! All-UIP Learned Clause Minimization"); else those are taken out that the others imply (clause
+//! minimisation).
 
 ghost use Rattle.std.specs.Prelude.{◌≡◌, ℕ, ◌+◌, ◌<◌, ◌≤◌, IsTrue, length, get_or, take, OnOk};
 ghost use Rattle.trail_core.specs.Search.{IsImplied};
@@ -15,8 +16,8 @@ use crate::walk::{KEPT, Walk};
 use cnf_formula::OutOfMemory;
 use trail_core::Core;
 
-/// Whether the literal at a place is kept, has a reason, and lies above the point of its level or is found to be implied by
-/// others.
+/// Whether the literal at a place is kept, has a reason, and lies above the point of its level or
+/// is found to be implied by others.
 fn is_spare(core: &Core, walk: &Walk, implied: &mut Implied, place: usize, point: usize) -> bool
     requires place { place < length core.now.trail }
     requires len { length walk.now.marks.items ≡ core.now.vars + 1 }
@@ -34,7 +35,8 @@ fn is_spare(core: &Core, walk: &Walk, implied: &mut Implied, place: usize, point
     place > point || implied.is_implied(core, lit.negated())
 }
 
-/// Resolves the steps of a level between level 0 and the last level whose literals are to be taken out.
+/// Resolves the steps of a level between level 0 and the last level whose literals are to be taken
+/// out.
 fn walk_level(
     core: &Core,
     walk: &mut Walk,

@@ -53,7 +53,8 @@ impl Walk {
         })
     }
 
-    /// Begins a walk, with the next stamp. Past the last stamp all marks are taken away, and the stamps begin anew.
+    /// Begins a walk, with the next stamp. Past the last stamp all marks are taken away, and the
+    /// stamps begin anew.
     pub fn begin(&mut self)
         requires { (v : ℕ) → slice_index self.old.marks.items v < self.old.stamp + 4 }
         ensures len { length self.new.marks.items ≡ length self.old.marks.items }

@@ -6,24 +6,21 @@ ghost use Rattle.proof_rules.specs.Judging.{verdict_of};
 ghost use Rattle.proof_rules.specs.Refuting.{with_line};
 ghost use Rattle.ledger_rules.specs.Logs.{checker_of, learned};
 
-use crate::copying::copy_of_line;
+use crate::kept::KeptLedger;
 use cnf_formula::{Formula, OutOfMemory, ProofLine};
 use ledger_rules::{Ledger, LedgerFault, LedgerView};
 use lrat_checker::{Checker, LineVerdict};
 use std::alloc::Global;
 
-/// Keeps its lines in memory, and gives each to a checker first. It writes nothing, and works beside any store.
+/// Keeps its lines in memory, and gives each to a checker first. It writes nothing, and works
+/// beside any store. Its formula is lent to it.
 #[derive(Drop)]
-pub struct CheckedLedger {
-    pub(crate) checker: Checker,
+pub struct CheckedLedger<'a> {
+    pub(crate) kept: KeptLedger<'a>,
+    checker: Checker,
     /// The checker has accepted a line that is not kept: a fault came between the two.
     pub(crate) ahead: bool,
-    pub(crate) lines: Vec<ProofLine>,
-    pub(crate) spent: u32,
-    pub(crate) limit: u32,
-    ghost within: { spent ≤ limit },
-    ghost charged: { spent ≡ length (learned lines.items) },
-    ghost checks: { ahead ≡ false → checker ≡ checker_of checker.formula lines.items },
+    ghost checks: { ahead ≡ false → checker ≡ checker_of kept.base.now kept.lines.items },
 }
 
 /// Gives the checker a line that it accepts.
@@ -38,46 +35,47 @@ fn accept(checker: &mut Checker, line: &ProofLine) -> Result<(), OutOfMemory>
     }
 }
 
-impl CheckedLedger {
+impl<'a> CheckedLedger<'a> {
     /// A ledger of a formula without a line, which takes at most `limit` learned lines.
-    pub fn new(alloc: Global, formula: &Formula, limit: u32) -> Result<CheckedLedger, OutOfMemory>
-        ensures base { IfOk result (λ ledger. ⟦<CheckedLedger as LedgerView>⟧.base ledger ≡ formula.now) }
-        ensures lines { IfOk result (λ ledger. ⟦<CheckedLedger as LedgerView>⟧.lines ledger ≡ []) }
-        ensures limit { IfOk result (λ ledger. ⟦<CheckedLedger as LedgerView>⟧.limit ledger ≡ limit) }
+    pub fn new(
+        alloc: Global,
+        formula: &'a Formula,
+        limit: u32,
+    ) -> Result<CheckedLedger<'a>, OutOfMemory>
+        ensures base { IfOk result (λ ledger. ⟦<CheckedLedger<'a> as LedgerView>⟧.base ledger ≡ formula.now) }
+        ensures lines { IfOk result (λ ledger. ⟦<CheckedLedger<'a> as LedgerView>⟧.lines ledger ≡ []) }
+        ensures limit { IfOk result (λ ledger. ⟦<CheckedLedger<'a> as LedgerView>⟧.limit ledger ≡ limit) }
     {
         Ok(CheckedLedger {
+            kept: KeptLedger::new(alloc, formula, limit)?,
             checker: Checker::new(alloc, formula)?,
             ahead: false,
-            lines: Vec::new(alloc),
-            spent: 0,
-            limit,
         })
     }
 
     /// The lines, in the order in which they were added.
     pub fn lines(&self) -> &[ProofLine]
-        ensures { result.now ≡ ⟦<CheckedLedger as LedgerView>⟧.lines self.now }
+        ensures { result.now ≡ ⟦<CheckedLedger<'a> as LedgerView>⟧.lines self.now }
     {
-        &self.lines
+        self.kept.lines()
     }
 
-    /// Gives the checker a line, and makes room for it and a copy. The lines stay. After a fault out of memory is answered
-    /// from then on.
+    /// Gives the checker a line, and makes room for it and a copy. The lines stay. After a fault
+    /// out of memory is answered from then on.
     pub(crate) fn prepare(&mut self, line: &ProofLine) -> Result<ProofLine, OutOfMemory>
-        requires { verdict_of (checker_of self.old.checker.formula self.old.lines.items) line.now ≡ Accepted true }
+        requires { verdict_of (checker_of self.old.kept.base.now self.old.kept.lines.items) line.now ≡ Accepted true }
         ensures copy { IfOk result (λ copy. copy ≡ line.now) }
-        ensures ahead { OnOk result (self.new.checker ≡ checker_of self.old.checker.formula (self.old.lines.items ++ line.now ∷ [])) }
-        ensures room { OnOk result (vec_len self.new.lines < vec_capacity self.new.lines) }
-        ensures lines { self.new.lines.items ≡ self.old.lines.items }
-        ensures formula { self.new.checker.formula ≡ self.old.checker.formula }
-        ensures spent { self.new.spent ≡ self.old.spent }
-        ensures limit { self.new.limit ≡ self.old.limit }
+        ensures ahead { OnOk result (self.new.checker ≡ checker_of self.old.kept.base.now (self.old.kept.lines.items ++ line.now ∷ [])) }
+        ensures room { OnOk result (vec_len self.new.kept.lines < vec_capacity self.new.kept.lines) }
+        ensures base { self.new.kept.base.now ≡ self.old.kept.base.now }
+        ensures lines { self.new.kept.lines.items ≡ self.old.kept.lines.items }
+        ensures spent { self.new.kept.spent ≡ self.old.kept.spent }
+        ensures limit { self.new.kept.limit ≡ self.old.kept.limit }
     {
         if self.ahead {
             return Err(OutOfMemory);
         }
-        let copy = copy_of_line(*self.lines.allocator(), line)?;
-        self.lines.reserve(1)?;
+        let copy = self.kept.prepare(line)?;
         accept(&mut self.checker, line)?;
         self.ahead = true;
         Ok(copy)
@@ -85,40 +83,39 @@ impl CheckedLedger {
 
     /// Keeps a line that was prepared, and charges this much.
     pub(crate) fn commit(&mut self, copy: ProofLine, charge: u32)
-        requires ahead { self.old.checker ≡ checker_of self.old.checker.formula (self.old.lines.items ++ copy ∷ []) }
-        requires room { vec_len self.old.lines < vec_capacity self.old.lines }
-        requires within { self.old.spent + charge ≤ self.old.limit }
-        requires charged { self.old.spent + charge ≡ length (learned (self.old.lines.items ++ copy ∷ [])) }
-        ensures lines { self.new.lines.items ≡ self.old.lines.items ++ copy ∷ [] }
-        ensures formula { self.new.checker.formula ≡ self.old.checker.formula }
-        ensures spent { self.new.spent ≡ self.old.spent + charge }
-        ensures limit { self.new.limit ≡ self.old.limit }
+        requires ahead { self.old.checker ≡ checker_of self.old.kept.base.now (self.old.kept.lines.items ++ copy ∷ []) }
+        requires room { vec_len self.old.kept.lines < vec_capacity self.old.kept.lines }
+        requires within { self.old.kept.spent + charge ≤ self.old.kept.limit }
+        requires charged { self.old.kept.spent + charge ≡ length (learned (self.old.kept.lines.items ++ copy ∷ [])) }
+        ensures base { self.new.kept.base.now ≡ self.old.kept.base.now }
+        ensures lines { self.new.kept.lines.items ≡ self.old.kept.lines.items ++ copy ∷ [] }
+        ensures spent { self.new.kept.spent ≡ self.old.kept.spent + charge }
+        ensures limit { self.new.kept.limit ≡ self.old.kept.limit }
     {
-        self.lines.push_reserved(copy);
-        self.spent += charge;
+        self.kept.commit(copy, charge);
         self.ahead = false;
     }
 }
 
-impl LedgerView for CheckedLedger {
-    ghost base = { λ ledger. ledger.checker.formula };
+impl<'a> LedgerView for CheckedLedger<'a> {
+    ghost base = { λ ledger. ⟦<KeptLedger<'a> as LedgerView>⟧.base ledger.kept };
 
-    ghost lines = { λ ledger. ledger.lines.items };
+    ghost lines = { λ ledger. ⟦<KeptLedger<'a> as LedgerView>⟧.lines ledger.kept };
 
-    ghost spent = { λ ledger. ledger.spent };
+    ghost spent = { λ ledger. ⟦<KeptLedger<'a> as LedgerView>⟧.spent ledger.kept };
 
-    ghost limit = { λ ledger. ledger.limit };
+    ghost limit = { λ ledger. ⟦<KeptLedger<'a> as LedgerView>⟧.limit ledger.kept };
 
     fn room(&self) -> bool {
-        self.spent < self.limit
+        self.kept.room()
     }
 
-    ghost within = { λ ledger. ledger.within };
+    ghost within = { λ ledger. ledger.kept.within };
 
-    ghost charged = { λ ledger. ledger.charged };
+    ghost charged = { λ ledger. ledger.kept.charged };
 }
 
-impl<T> Ledger<T> for CheckedLedger {
+impl<'a, T> Ledger<T> for CheckedLedger<'a> {
     ghost use Rattle.std.proofs.Common.{◌∙◌};
 
     ghost faults = { λ _ _. 0 };

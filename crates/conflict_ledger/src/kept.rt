@@ -1,6 +1,6 @@
 //! A ledger that keeps its lines, the learned clauses as LRAT additions, in memory.
 
-ghost use Rattle.std.specs.Prelude.{◌≡◌, ◌≤◌, [], ◌∷◌, length, refl, IfOk};
+ghost use Rattle.std.specs.Prelude.{◌≡◌, ◌≤◌, ◌<◌, ◌+◌, [], ◌∷◌, ◌++◌, length, vec_len, vec_capacity, refl, IfOk, OnOk};
 ghost use Rattle.ledger_rules.specs.Logs.{learned};
 ghost use Rattle.conflict_ledger.specs.Shelved.{log_text};
 
@@ -10,7 +10,8 @@ use ledger_rules::{Ledger, LedgerFault, LedgerView};
 use lrat_text::print_line;
 use std::alloc::Global;
 
-/// Keeps its lines in memory, and writes nothing: it works beside any store. Its formula is lent to it.
+/// Keeps its lines in memory, and writes nothing: it works beside any store. Its formula is lent to
+/// it.
 #[derive(Drop)]
 pub struct KeptLedger<'a> {
     base: &'a Formula,
@@ -47,6 +48,34 @@ impl<'a> KeptLedger<'a> {
         let mut text = Vec::new(*self.lines.allocator());
         print_line(&mut text, line)?;
         Ok(text)
+    }
+
+    /// Makes room for a line, and a copy of it. The lines stay.
+    pub(crate) fn prepare(&mut self, line: &ProofLine) -> Result<ProofLine, OutOfMemory>
+        ensures copy { IfOk result (λ copy. copy ≡ line.now) }
+        ensures room { OnOk result (vec_len self.new.lines < vec_capacity self.new.lines) }
+        ensures base { self.new.base.now ≡ self.old.base.now }
+        ensures lines { self.new.lines.items ≡ self.old.lines.items }
+        ensures spent { self.new.spent ≡ self.old.spent }
+        ensures limit { self.new.limit ≡ self.old.limit }
+    {
+        let copy = copy_of_line(*self.lines.allocator(), line)?;
+        self.lines.reserve(1)?;
+        Ok(copy)
+    }
+
+    /// Keeps a line that was prepared, and charges this much.
+    pub(crate) fn commit(&mut self, copy: ProofLine, charge: u32)
+        requires room { vec_len self.old.lines < vec_capacity self.old.lines }
+        requires within { self.old.spent + charge ≤ self.old.limit }
+        requires charged { self.old.spent + charge ≡ length (learned (self.old.lines.items ++ copy ∷ [])) }
+        ensures base { self.new.base.now ≡ self.old.base.now }
+        ensures lines { self.new.lines.items ≡ self.old.lines.items ++ copy ∷ [] }
+        ensures spent { self.new.spent ≡ self.old.spent + charge }
+        ensures limit { self.new.limit ≡ self.old.limit }
+    {
+        self.lines.push_reserved(copy);
+        self.spent += charge;
     }
 
     /// The lines, in the order in which they were added.
@@ -92,15 +121,14 @@ impl<'a, T> Ledger<T> for KeptLedger<'a> {
     ghost moves = { λ _ before _ now. now ≡ before };
 
     fn learn(&mut self, store: &mut T, line: &ProofLine) -> Result<(), LedgerFault> {
-        let copy = copy_of_line(*self.lines.allocator(), line)?;
-        self.lines.push(copy)?;
-        self.spent += 1;
+        let copy = self.prepare(line)?;
+        self.commit(copy, 1);
         Ok(())
     }
 
     fn close(&mut self, store: &mut T, line: &ProofLine) -> Result<(), LedgerFault> {
-        let copy = copy_of_line(*self.lines.allocator(), line)?;
-        self.lines.push(copy)?;
+        let copy = self.prepare(line)?;
+        self.commit(copy, 0);
         Ok(())
     }
 

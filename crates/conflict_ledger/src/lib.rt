@@ -1,5 +1,5 @@
-//! What a search writes its lines to, the proof log of a CDCL solver: ledgers beside a store. A line is an LRAT addition (RUP); one
-//! that has a literal is a learned clause.
+//! What a search writes its lines to, the proof log of a CDCL solver: ledgers beside a store. A
+//! line is an LRAT addition (RUP); one that has a literal is a learned clause.
 #![tactic(auto)]
 
 mod checked;

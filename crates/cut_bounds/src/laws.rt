@@ -1,4 +1,5 @@
-//! What the cuts and the floor say of candidates, and of sums; and what an engine over another does beside a store.
+//! What the cuts and the floor say of candidates, and of sums; and what an engine over another does
+//! beside a store.
 
 ghost use Rattle.std.specs.Prelude.{◌≡◌, ◌≢◌, ◌↔◌, ◌*◌, ◌≤◌, ℕ, true, false};
 ghost use Rattle.schedule.specs.Links.{TopologyValue, reversed_of};
@@ -28,8 +29,8 @@ pub use node_cuts::laws::{
     bits_are_members, cuts_refute, floors_bound, least_counts_are_least, needs_are_proportional,
 };
 
-/// A candidate that a listed set of nodes refutes has no schedule: of a collective that copies over its links, and of a
-/// reduction over the links turned round.
+/// A candidate that a listed set of nodes refutes has no schedule: of a collective that copies over
+/// its links, and of a reduction over the links turned round.
 pub fn cut_candidates_have_no_schedule()
     ensures copies { (q : QuestionValue) (x : Candidate) → adds_up q.spec ≡ false → is_cut q x ≡ true → IsSolvable q x → ⊥ }
     ensures sums { (q : QuestionValue) (x : Candidate) → adds_up q.spec ≡ true → kind_in q.spec ≢ Kind.Allreduce → IsSpec q.topology.nodes q.spec
@@ -39,15 +40,17 @@ pub fn cut_candidates_have_no_schedule()
     a_reduction_is_solvable_where_its_copy_is();
 }
 
-/// What has to come into a set of nodes, when each chunk goes back from where its sum is demanded to every node over the links
-/// turned round, is at most what can in the rounds of a schedule that sums, whatever its steps.
+/// What has to come into a set of nodes, when each chunk goes back from where its sum is demanded
+/// to every node over the links turned round, is at most what can in the rounds of a schedule that
+/// sums, whatever its steps.
 pub fn sums_bring_in_what_is_needed()
     ensures { (u : NodeSet) (t : TopologyValue) (demand : PlacementValue) (s : ScheduleValue) (steps rounds : ℕ) → demand.nodes ≡ t.nodes → HeldBySome demand
         → Sums t demand s steps rounds → need u demand (everywhere demand.chunks demand.nodes) ≤ width u (reversed_of t) * rounds }
 {}
 
-/// A reduction has no schedule of fewer rounds for its chunk count than the floor over the links turned round says, whatever
-/// its steps and its chunk count: of all schedules that sum, of however many steps of however many rounds.
+/// A reduction has no schedule of fewer rounds for its chunk count than the floor over the links
+/// turned round says, whatever its steps and its chunk count: of all schedules that sum, of however
+/// many steps of however many rounds.
 pub fn floors_bound_sums()
     ensures schedules { (t : TopologyValue) (spec : Spec) (s : ScheduleValue) (steps rounds c : ℕ) → adds_up spec ≡ true → kind_in spec ≢ Kind.Allreduce → IsSpec t.nodes spec
         → allows (kind_in spec) t.nodes c ≡ true → Sums t (spec_demand spec t.nodes c) s steps rounds
@@ -64,8 +67,8 @@ pub fn a_reduction_has_the_cuts_of_its_copy()
     ensures table { (t : TopologyValue) (spec : Spec) → table_of t (copied_spec spec) ≡ table_of t spec }
 {}
 
-/// Beside a store the engine counts the faults of the engine within, agrees with what that agrees with, and changes what that
-/// changes.
+/// Beside a store the engine counts the faults of the engine within, agrees with what that agrees
+/// with, and changes what that changes.
 pub fn the_store_is_that_of_the_engine_within<T, E: Engine<T>>()
     ensures faults { (e : CutEngine E ⟦<E as EngineView>⟧) (store : T) → ⟦<CutEngine<E> as Engine<T>>⟧.faults e store ≡ E.faults e.inner store }
     ensures agrees { (e : CutEngine E ⟦<E as EngineView>⟧) (store : T) → ⟦<CutEngine<E> as Engine<T>>⟧.agrees e store ↔ E.agrees e.inner store }

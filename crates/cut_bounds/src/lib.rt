@@ -1,5 +1,5 @@
-//! Cuts say why no schedule can be better: an engine that refutes what a cut refutes and leaves the rest to another, and what
-//! the cuts and the floor say of sums.
+//! Cuts say why no schedule can be better: an engine that refutes what a cut refutes and leaves the
+//! rest to another, and what the cuts and the floor say of sums.
 #![tactic(auto)]
 
 mod engine;

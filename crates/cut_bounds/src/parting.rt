@@ -1,10 +1,9 @@
 //! The refuted candidates of a frontier, parted by whether a cut refutes them.
 
-ghost use Rattle.std.specs.Prelude.{◌≡◌, ◌++◌, ◌∷◌, [], false, All, Contains, IfOk, MatchOption, OnOk};
+ghost use Rattle.std.specs.Prelude.{◌≡◌, ◌++◌, ◌∷◌, [], false, All, IfOk, MatchOption, OnOk};
 ghost use Rattle.std.specs.List.Sorted.{IsPermutation};
 ghost use Rattle.candidate_order.specs.Frontiers.{IsWithin};
 ghost use Rattle.pareto_search.specs.Recorded.{entries_of};
-ghost use Rattle.node_cuts.specs.Cuts.{CutValue};
 ghost use Rattle.cut_bounds.specs.Cutting.{cuts_of, is_cut};
 ghost use Rattle.cut_bounds.specs.Parting.{cuts_among, uncut_among, without_cuts};
 
@@ -14,7 +13,8 @@ use engine_rules::EngineView;
 use node_cuts::{Cut, OutOfMemory};
 use std::alloc::Global;
 
-/// Refuted candidates, in order: those that a listed set of nodes refutes, each with its first cut, and the others.
+/// Refuted candidates, in order: those that a listed set of nodes refutes, each with its first cut,
+/// and the others.
 #[derive(Drop)]
 pub struct RefutedParts {
     pub cuts: Vec<(Candidate, Cut)>,
@@ -22,7 +22,8 @@ pub struct RefutedParts {
 }
 
 impl RefutedParts {
-    /// Adds a candidate at the end of its part: with its first cut, or to the others where it has none.
+    /// Adds a candidate at the end of its part: with its first cut, or to the others where it has
+    /// none.
     fn add(&mut self, candidate: Candidate, cut: Option<Cut>) -> Result<(), OutOfMemory>
         ensures cuts { OnOk result (MatchOption cut (self.new.cuts.items ≡ self.old.cuts.items) (λ first. self.new.cuts.items ≡ self.old.cuts.items ++ (candidate, first) ∷ [])) }
         ensures others { OnOk result (MatchOption cut (self.new.others.items ≡ self.old.others.items ++ candidate ∷ []) (λ first. self.new.others.items ≡ self.old.others.items)) }
@@ -35,8 +36,9 @@ impl RefutedParts {
     }
 }
 
-/// After a whole search no candidate of a point, and none that was given up, is refuted by a listed set of nodes; the engine's
-/// cuts are those of the refuted candidates; and the record of the engine below holds the rest. This does nothing.
+/// After a whole search no candidate of a point, and none that was given up, is refuted by a listed
+/// set of nodes; the engine's cuts are those of the refuted candidates; and the record of the
+/// engine below holds the rest. This does nothing.
 pub fn cuts_are_refuted<E: EngineView>(engine: &CutEngine<E>, frontier: &Frontier)
     requires { IsPermutation (⟦<CutEngine<E> as EngineView>⟧.entries engine.now) (entries_of frontier.now) }
     ensures points { All (λ p. is_cut (E.question engine.now.inner) p.candidate ≡ false) frontier.now.points }
@@ -49,20 +51,8 @@ pub fn cuts_are_refuted<E: EngineView>(engine: &CutEngine<E>, frontier: &Frontie
     let _inner = engine.inner();
 }
 
-/// The cut that is kept for a candidate, if there is one. The only error is `OutOfMemory`.
-fn kept_cut(cuts: &[(Candidate, Cut)], candidate: Candidate) -> Result<Option<Cut>, OutOfMemory>
-    ensures { IfOk result (λ kept. MatchOption kept ((cut : CutValue) → Contains cuts.now (candidate, cut) → ⊥) (λ cut. Contains cuts.now (candidate, cut))) }
-{
-    for (other, cut) in cuts {
-        if *other == candidate {
-            return Ok(Some(cut.clone()?));
-        }
-    }
-    Ok(None)
-}
-
-/// Parts the refuted candidates of a frontier, which the engine's search gave, by the cuts that the engine kept. The only error
-/// is `OutOfMemory`.
+/// Parts the refuted candidates of a frontier, which the engine's search gave, by whether a cut
+/// refutes them: a comparison for each listed set of nodes. The only error is `OutOfMemory`.
 pub fn part_refuted<E: EngineView>(
     alloc: Global,
     engine: &CutEngine<E>,
@@ -78,7 +68,7 @@ pub fn part_refuted<E: EngineView>(
         others: Vec::new(alloc),
     };
     for candidate in frontier.refuted() {
-        let cut = kept_cut(engine.cuts(), *candidate)?;
+        let cut = engine.first_cut(*candidate)?;
         parts.add(*candidate, cut)?;
     }
     Ok(parts)

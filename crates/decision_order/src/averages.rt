@@ -1,4 +1,5 @@
-//! New beginnings where the lines that were learned last are worse than those before (restarts by averages of LBD).
+//! New beginnings where the lines that were learned last are worse than those before (restarts by
+//! averages of LBD).
 
 ghost use Rattle.std.specs.Prelude.{◌<◌};
 
@@ -14,8 +15,9 @@ const MARGIN: u64 = 110;
 /// So many lines are learned at least from one new beginning to the next.
 const LEAST: u64 = 10;
 
-/// Moving averages of the numbers of levels of the lines (LBD), one of the last lines and one of all (Audemard and Simon 2012,
-/// by averages that decay as Biere and Froehlich 2015 have them). Each is kept times 2 to 32; 0 before the first line.
+/// Moving averages of the numbers of levels of the lines (LBD), one of the last lines and one of
+/// all (Audemard and Simon 2012, by averages that decay as Biere and Froehlich 2015 have them).
+/// Each is kept times 2 to 32; 0 before the first line.
 #[derive(Drop)]
 pub struct Averages {
     fast: u64,
@@ -52,7 +54,8 @@ impl Averages {
         self.slow = moved(self.slow, value, SLOW);
     }
 
-    /// Counts a line, whose literals were false on so many levels. Whether the search begins anew after it.
+    /// Counts a line, whose literals were false on so many levels. Whether the search begins anew
+    /// after it.
     pub fn tick(&mut self, levels: u32) -> bool {
         self.add(levels);
         self.since = self.since.saturating_add(1);

@@ -4,10 +4,10 @@ ghost use Rattle.std.specs.Prelude.{◌≡◌, ℕ, ◌+◌, ◌<◌, ◌≤◌,
 ghost use Rattle.cnf_formula.specs.Literals.{no};
 ghost use Rattle.trail_core.specs.Assigned.{IsOpen};
 ghost use Rattle.trail_core.specs.Meaning.{trues};
-ghost use Rattle.decision_order.specs.Orders.{IsVar};
+ghost use Rattle.decision_order.specs.inner.Orders.{IsVar};
 
-use crate::order::Order;
-use crate::queue::Queue;
+use crate::vmtf::Queue;
+use crate::vsids::Order;
 use cnf_formula::{Lit, OutOfMemory};
 use std::alloc::Global;
 use std::marker::Model;
@@ -66,8 +66,8 @@ fn reason_of(core: &Core, lit: Lit, vars: u32) -> Option<&[Lit]>
 }
 
 impl Decider {
-    /// The variables 1 to `vars` in the order of their numbers, each with the value that it is to have first, which stands in
-    /// `phases` at its number. `Err` comes only where memory runs out.
+    /// The variables 1 to `vars` in the order of their numbers, each with the value that it is to
+    /// have first, which stands in `phases` at its number. `Err` comes only where memory runs out.
     pub fn new(alloc: Global, vars: u32, phases: Vec<bool>) -> Result<Decider, OutOfMemory>
         requires small { vars < 2147483648 }
         requires phases { length phases.items ≡ vars + 1 }
@@ -121,8 +121,8 @@ impl Decider {
         an_open(core, self.vars)
     }
 
-    /// Gives the variable of a literal that is to be open again to the decisions that come, and keeps its value. `Err` comes
-    /// only where memory runs out.
+    /// Gives the variable of a literal that is to be open again to the decisions that come, and
+    /// keeps its value. `Err` comes only where memory runs out.
     pub fn release(&mut self, lit: Lit) -> Result<(), OutOfMemory>
         requires { lit.var ≤ self.old }
         ensures { self.new ≡ self.old }
@@ -145,9 +145,9 @@ impl Decider {
         Ok(())
     }
 
-    /// Makes the variables through which a conflict came about, and where the search is focused those in the reasons of the
-    /// literals of its line too, likelier to be decided; those past the last are passed over. `Err` comes only where memory
-    /// runs out.
+    /// Makes the variables through which a conflict came about, and where the search is focused
+    /// those in the reasons of the literals of its line too, likelier to be decided; those past the
+    /// last are passed over. `Err` comes only where memory runs out.
     pub fn learn(&mut self, core: &Core, met: &[Lit], lits: &[Lit]) -> Result<(), OutOfMemory>
         requires { self.old ≡ core.now.vars }
         ensures { self.new ≡ self.old }

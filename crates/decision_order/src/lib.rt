@@ -1,15 +1,16 @@
-//! Which variable a search decides next and as what (VSIDS, VMTF, phase saving), when it begins anew (by the Luby sequence, or
-//! by averages of LBD), when it is focused, and probes, in which another decider takes over. What is decided is open; no proof
-//! hangs on which of the open literals it is.
+//! Which variable a search decides next and as what (VSIDS, VMTF, phase saving), when it begins
+//! anew (by the Luby sequence, or by averages of LBD), when it is focused, and probes, in which
+//! another decider takes over. What is decided is open; no proof hangs on which of the open
+//! literals it is.
 #![tactic(auto)]
 
 mod averages;
 mod deciding;
 mod luby;
-mod order;
 mod probing;
-mod queue;
 mod restarts;
+mod vmtf;
+mod vsids;
 
 pub use deciding::Decider;
 pub use probing::Probes;

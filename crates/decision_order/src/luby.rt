@@ -3,7 +3,8 @@
 /// So many lines come before the first new beginning.
 const UNIT: u64 = 100;
 
-/// New beginnings after 1, 1, 2, 1, 1, 2, 4, .. times as many lines (Luby, Sinclair and Zuckerman 1993).
+/// New beginnings after 1, 1, 2, 1, 1, 2, 4, .. times as many lines (Luby, Sinclair and Zuckerman
+/// 1993).
 #[derive(Drop)]
 pub struct Luby {
     /// How many lines are left until the next.

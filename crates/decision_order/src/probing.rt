@@ -12,8 +12,9 @@ use trail_core::Core;
 /// So many lines are learned before the first probe, and in each probe.
 const LINES: u64 = 300;
 
-/// When probes begin and end, and what they begin with. The time to a model is heavy-tailed, so that a new start soon hits
-/// where an old one goes on for long (Gomes, Selman, Crato and Kautz 2000).
+/// When probes begin and end, and what they begin with. The time to a model is heavy-tailed, so
+/// that a new start soon hits where an old one goes on for long (Gomes, Selman, Crato and Kautz
+/// 2000).
 #[derive(Drop)]
 pub struct Probes {
     vars: u32,
@@ -40,7 +41,8 @@ impl Model for Probes {
 }
 
 impl Probes {
-    /// No probe has begun, of a search over the variables 1 to `vars`. `Err` comes only where memory runs out.
+    /// No probe has begun, of a search over the variables 1 to `vars`. `Err` comes only where
+    /// memory runs out.
     pub fn new(alloc: Global, vars: u32) -> Result<Probes, OutOfMemory>
         requires { vars < 2147483648 }
         ensures { IfOk result (λ probes. probes ≡ vars) }
@@ -55,7 +57,8 @@ impl Probes {
         })
     }
 
-    /// Counts a line that is learned, and keeps the values of the trail below the last level where it is the longest.
+    /// Counts a line that is learned, and keeps the values of the trail below the last level where
+    /// it is the longest.
     pub fn note(&mut self, core: &Core)
         requires { self.old ≡ core.now.vars }
         ensures { self.new ≡ self.old }
@@ -86,7 +89,8 @@ impl Probes {
         }
     }
 
-    /// The values that a probe begins with: all true, the best that were kept, or all false, in turn.
+    /// The values that a probe begins with: all true, the best that were kept, or all false, in
+    /// turn.
     fn phases(&self, alloc: Global) -> Result<Vec<bool>, OutOfMemory>
         ensures { IfOk result (λ phases. length phases.items ≡ self.now + 1) }
     {
@@ -98,9 +102,9 @@ impl Probes {
         }
     }
 
-    /// Where the search begins anew: the decider is focused where the search is; else, where enough lines were learned, begins
-    /// a probe, while which the decider rests, or ends one, and the decider that rested goes on. `Err` comes only where memory
-    /// runs out.
+    /// Where the search begins anew: the decider is focused where the search is; else, where enough
+    /// lines were learned, begins a probe, while which the decider rests, or ends one, and the
+    /// decider that rested goes on. `Err` comes only where memory runs out.
     pub fn turn(
         &mut self,
         alloc: Global,

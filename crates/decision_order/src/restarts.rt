@@ -25,22 +25,20 @@ impl Restarts {
         }
     }
 
-    /// Whether the search is focused: what conflicts met last is decided next, and there are no probes. It is so once enough
-    /// lines were learned.
+    /// Whether the search is focused: what conflicts met last is decided next, and there are no
+    /// probes. It is so once enough lines were learned.
     pub fn is_focused(&self) -> bool {
         self.lines >= FIRST
     }
 
-    /// Counts a line that is learned, whose literals were false on so many levels. Whether the search begins anew after it:
-    /// it does so too where it becomes focused, or ceases to be.
+    /// Counts a line that is learned, whose literals were false on so many levels. Whether the
+    /// search begins anew after it: it does so too where it becomes focused.
     pub fn tick(&mut self, levels: u32) -> bool {
-        let before = self.is_focused();
         self.lines = self.lines.saturating_add(1);
-        let focused = self.is_focused();
-        if focused != before {
+        if self.lines == FIRST {
             return true;
         }
-        if focused {
+        if self.is_focused() {
             self.averages.tick(levels)
         } else {
             self.luby.tick()

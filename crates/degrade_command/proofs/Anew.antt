@@ -11,7 +11,7 @@ use Rattle.link_faults.specs.Carrying.{is_carried, narrowed_question}
 use Rattle.run_rules.specs.declared.status.Status.TheVariants.{Done}
 use Rattle.run_rules.specs.Degraded.{IsNewSearch, degraded_text, left_of, old_refuted}
 use Rattle.degrade_command.specs.declared.found.Found.{Found}
-use Rattle.degrade_command.specs.After.{IsFoundAfter}
+use Rattle.degrade_command.specs.inner.After.{IsFoundAfter}
 
 -- as the code has it: by the parts of the report
 pub new_search : (r : ReportValue) (group width : ℕ) (old : List Candidate) (given : QuestionValue) (found : Found) (words : WordsValue) (named left : NamedTopologyValue) (text : List ℕ)

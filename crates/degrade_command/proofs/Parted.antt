@@ -6,7 +6,7 @@ use Rattle.candidate_order.specs.Frontiers.{QuestionValue, FrontierValue}
 use Rattle.engine_search.specs.Found.{IsFound}
 use Rattle.link_faults.specs.Carrying.{is_carried}
 use Rattle.degrade_command.specs.declared.found.Found.{Found}
-use Rattle.degrade_command.specs.After.{ArePartedBy, IsFoundAfter}
+use Rattle.degrade_command.specs.inner.After.{ArePartedBy, IsFoundAfter}
 
 module _ (q : QuestionValue) (old lent : List Candidate) (f : FrontierValue) (same : lent ≡ old) (found : IsFound q f) (points : All (λ p. is_carried old p.candidate ≡ false) f.points) (unknown : All (λ u. is_carried old u.candidate ≡ false) f.unknown) where
   made_of : (after : Found) → after.frontier ≡ f → ArePartedBy lent after → IsFoundAfter q old after

@@ -7,7 +7,7 @@ use Rattle.run_rules.specs.Refusals.{Refusal}
 use Rattle.run_rules.specs.Read.{IsRefused}
 use Rattle.run_rules.specs.Tasks.{Task, Degrade, degrade_in, fault_in, searchable, whole_question}
 use Rattle.run_rules.proofs.Answered.{refused_behind}
-use Rattle.degrade_command.specs.Faults.{refused_first}
+use Rattle.degrade_command.specs.inner.Faults.{refused_first}
 
 -- one check behind another, and then what is due: in either grouping
 grouped : {A B : Type 0} (x : Result (Unit {0}) Refusal) (y : Result A Refusal) (f : A → Result B Refusal) → (x >>= (λ _. y)) >>= f ≡ x >>= (λ _. y >>= f)

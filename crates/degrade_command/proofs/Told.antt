@@ -11,7 +11,7 @@ use Rattle.run_rules.specs.Audits.{audited, not_denied, verdict_status, verdict_
 use Rattle.run_rules.specs.Degraded.{IsDegraded, IsNewSearch}
 use Rattle.run_rules.specs.Said.{FilesValue, Says, Stay}
 use Rattle.run_rules.proofs.OverFiles.{HasVerdict, has_verdict}
-use Rattle.degrade_command.specs.Judged.{IsJudged}
+use Rattle.degrade_command.specs.inner.Judged.{IsJudged}
 
 -- by what an audit says of its verdict
 pub judged : (r : ReportValue) (verdict : AuditVerdict) (files : FilesValue) → (IsTrue files.told → verdict ≡ audit_of r files.before) → IsVerdictOver r verdict → Stay files → IsJudged r verdict files

@@ -1,3 +1,1 @@
-pub mod Faults
-pub mod Judged
-pub mod After
+pub mod inner

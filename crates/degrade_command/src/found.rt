@@ -2,14 +2,15 @@
 
 ghost use Rattle.std.specs.Prelude.{◌≡◌, filter, not, IfOk};
 ghost use Rattle.link_faults.specs.Carrying.{is_carried};
-ghost use Rattle.degrade_command.specs.After.{ArePartedBy};
+ghost use Rattle.degrade_command.specs.inner.After.{ArePartedBy};
 
 use crate::OutOfMemory;
 use candidate_order::{Candidate, Frontier};
 use degraded_links::is_carried;
 use std::alloc::Global;
 
-/// The frontier over the links that a fault left, and its refuted candidates, parted by whether an old one carries them.
+/// The frontier over the links that a fault left, and its refuted candidates, parted by whether an
+/// old one carries them.
 #[derive(Drop)]
 pub(crate) struct Found {
     /// The points, and all refuted and unknown candidates.
@@ -21,7 +22,8 @@ pub(crate) struct Found {
 }
 
 impl Found {
-    /// The frontier, with its refuted candidates parted by the old ones. The only error is `OutOfMemory`.
+    /// The frontier, with its refuted candidates parted by the old ones. The only error is
+    /// `OutOfMemory`.
     pub(crate) fn new(
         alloc: Global,
         old: &[Candidate],
@@ -39,7 +41,8 @@ impl Found {
     }
 }
 
-/// The candidates that an old one carries, and those that none carries, each in their order. The only error is `OutOfMemory`.
+/// The candidates that an old one carries, and those that none carries, each in their order. The
+/// only error is `OutOfMemory`.
 fn parted(
     alloc: Global,
     old: &[Candidate],

@@ -1,5 +1,5 @@
-//! The command that takes a fault of the links into account: an audited report's search done anew over the links that are
-//! left, where what was refuted stays refuted.
+//! The command that takes a fault of the links into account: an audited report's search done anew
+//! over the links that are left, where what was refuted stays refuted.
 #![tactic(auto)]
 
 mod answering;

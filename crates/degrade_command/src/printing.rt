@@ -4,7 +4,7 @@ ghost use Rattle.std.specs.Prelude.{◌≡◌, ◌++◌, List, map, OnOk, IfOk};
 ghost use Rattle.text_lines.specs.Text.{line, text_of};
 ghost use Rattle.candidate_order.specs.declared.candidate.Candidate.{Candidate};
 ghost use Rattle.run_rules.specs.Degraded.{carried_words, degraded_text};
-ghost use Rattle.degrade_command.specs.After.{ArePartedBy};
+ghost use Rattle.degrade_command.specs.inner.After.{ArePartedBy};
 
 use crate::found::Found;
 use candidate_order::Candidate;

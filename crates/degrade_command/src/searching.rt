@@ -7,7 +7,7 @@ ghost use Rattle.round_encoding.specs.Candidates.{size_limit};
 ghost use Rattle.candidate_formula.specs.Sizes.{size_of};
 ghost use Rattle.link_faults.specs.Narrowed.{narrowed};
 ghost use Rattle.link_faults.specs.Carrying.{IsOldRefuted, narrowed_question};
-ghost use Rattle.degrade_command.specs.After.{IsFoundAfter};
+ghost use Rattle.degrade_command.specs.inner.After.{IsFoundAfter};
 
 use crate::OutOfMemory;
 use crate::empty_shelf::EmptyShelf;
@@ -23,9 +23,10 @@ use outer_ports::Part;
 use schedule::Topology;
 use std::alloc::Global;
 
-/// The frontier of a collective over the links that a fault left of the given ones, and which of its refuted candidates the old
-/// ones carry; these are refuted without a search, and of the others no proof is kept. The old candidates had no schedule over
-/// the given links. The only error is `OutOfMemory`.
+/// The frontier of a collective over the links that a fault left of the given ones, and which of
+/// its refuted candidates the old ones carry; these are refuted without a search, and of the others
+/// no proof is kept. The old candidates had no schedule over the given links. The only error is
+/// `OutOfMemory`.
 pub(crate) fn search_left(
     alloc: Global,
     given: &Topology,

@@ -1,11 +1,11 @@
 //! An engine that takes over old refutations, and leaves the other candidates to another engine.
 
-ghost use Rattle.std.specs.Prelude.{◌≡◌, ◌<◌, ◌≤◌, ◌↔◌, true, false, [], ◌∷◌, ◌++◌, length, None, All, Contains, Ok, vec_len, vec_capacity};
+ghost use Rattle.std.specs.Prelude.{◌≡◌, ◌<◌, ◌≤◌, true, false, [], ◌∷◌, ◌++◌, length, None, All, Contains, Ok, vec_len, vec_capacity};
 ghost use Rattle.schedule.specs.Links.{TopologyValue};
 ghost use Rattle.schedule.specs.Judging.{group_at};
-ghost use Rattle.schedule.specs.Sends.{ScheduleValue};
 ghost use Rattle.candidate_order.specs.declared.candidate.Candidate.{Candidate};
 ghost use Rattle.engine_rules.specs.Outcomes.{kind_of};
+ghost use Rattle.engine_rules.specs.Searches.{IsSameSearch};
 ghost use Rattle.link_faults.specs.Narrowed.{narrowed};
 ghost use Rattle.link_faults.specs.Carrying.{IsOldRefuted, is_carried, not_carried};
 ghost use Rattle.degraded_links.specs.Keeping.{HasNoneCarried, RefutesCarried, StopsAlike, question_over};
@@ -17,8 +17,9 @@ use link_faults::is_carried;
 use schedule::Topology;
 use std::alloc::Global;
 
-/// Refutes each candidate that an old refuted one carries over a fault, and leaves the others to an engine for the links
-/// that are left. The record within is this one without the candidates that old ones carry.
+/// Refutes each candidate that an old refuted one carries over a fault, and leaves the others to an
+/// engine for the links that are left. The record within is this one without the candidates that
+/// old ones carry.
 #[derive(Drop)]
 pub struct CarryEngine<E: EngineView> {
     inner: E,
@@ -32,8 +33,9 @@ pub struct CarryEngine<E: EngineView> {
 }
 
 impl<E: EngineView> CarryEngine<E> {
-    /// An engine over one for the links that a fault left of the given ones: a group is `width` wide, or where that is 0 its
-    /// links are gone. The old candidates had no schedule over the given links. The engine within is new: its record is empty.
+    /// An engine over one for the links that a fault left of the given ones: a group is `width`
+    /// wide, or where that is 0 its links are gone. The old candidates had no schedule over the
+    /// given links. The engine within is new: its record is empty.
     #[tactic(auto, using(crate::proofs::Keeping::none_at_first, crate::proofs::Keeping::none_alone, crate::proofs::Keeping::none_kept, crate::proofs::Keeping::stops_nowhere))]
     pub fn new(
         alloc: Global,
@@ -51,12 +53,10 @@ impl<E: EngineView> CarryEngine<E> {
         requires running { E.stopped inner ≡ None }
         ensures inner { result.inner ≡ inner }
         ensures old { result.old.items ≡ old.items }
-        ensures question { ⟦<CarryEngine<E> as EngineView>⟧.question result ≡ E.question inner }
         ensures entries { ⟦<CarryEngine<E> as EngineView>⟧.entries result ≡ [] }
         ensures stopped { ⟦<CarryEngine<E> as EngineView>⟧.stopped result ≡ None }
         ensures log { ⟦<CarryEngine<E> as EngineView>⟧.log_lines result ≡ E.log_lines inner }
-        ensures formula { (x : Candidate) → ⟦<CarryEngine<E> as EngineView>⟧.formula result x ≡ E.formula inner x }
-        ensures suits { (x : Candidate) (schedule : ScheduleValue) → ⟦<CarryEngine<E> as EngineView>⟧.suits result x schedule ↔ E.suits inner x schedule }
+        ensures same { IsSameSearch E.EngineView inner ⟦<CarryEngine<E> as EngineView>⟧ result }
     {
         CarryEngine {
             inner,
@@ -66,17 +66,15 @@ impl<E: EngineView> CarryEngine<E> {
         }
     }
 
-    /// The engine within. Its record is this one's without the candidates that old ones carry, which are all refuted; where it
-    /// has stopped, so has this one, at the same candidate. What it is asked, its formulas, what it promises of a schedule and
-    /// its log are this one's.
+    /// The engine within. Its record is this one's without the candidates that old ones carry,
+    /// which are all refuted; where it has stopped, so has this one, at the same candidate. What it
+    /// is asked, its formulas, what it promises of a schedule and its log are this one's.
     pub fn inner(&self) -> &E
         ensures inner { result.now ≡ self.now.inner }
         ensures entries { E.entries result.now ≡ not_carried self.now.old.items (⟦<CarryEngine<E> as EngineView>⟧.entries self.now) }
         ensures carried { RefutesCarried self.now.old.items (⟦<CarryEngine<E> as EngineView>⟧.entries self.now) }
         ensures stopped { StopsAlike (E.stopped result.now) (⟦<CarryEngine<E> as EngineView>⟧.stopped self.now) }
-        ensures question { E.question result.now ≡ ⟦<CarryEngine<E> as EngineView>⟧.question self.now }
-        ensures formula { (x : Candidate) → E.formula result.now x ≡ ⟦<CarryEngine<E> as EngineView>⟧.formula self.now x }
-        ensures suits { (x : Candidate) (schedule : ScheduleValue) → E.suits result.now x schedule ↔ ⟦<CarryEngine<E> as EngineView>⟧.suits self.now x schedule }
+        ensures same { IsSameSearch ⟦<CarryEngine<E> as EngineView>⟧ self.now E.EngineView result.now }
         ensures log { E.log_lines result.now ≡ ⟦<CarryEngine<E> as EngineView>⟧.log_lines self.now }
     {
         &self.inner

@@ -1,4 +1,5 @@
-//! What the record of an engine that takes over old refutations says of the frontier that its search gave.
+//! What the record of an engine that takes over old refutations says of the frontier that its
+//! search gave.
 
 ghost use Rattle.std.specs.Prelude.{◌≡◌, true, false, All, Contains};
 ghost use Rattle.std.specs.List.Sorted.{IsPermutation};
@@ -13,10 +14,11 @@ use crate::engine::CarryEngine;
 use candidate_order::Frontier;
 use engine_rules::EngineView;
 
-/// Where the record of an engine has the candidates of a frontier, each candidate of it that an old one carries is refuted,
-/// and no point and no unknown candidate is carried. So of those that were tried the carried ones are those of the refuted
-/// list that an old one carries; the others of that list were refuted by the engine within, which was asked for none that is
-/// carried. This does nothing.
+/// Where the record of an engine has the candidates of a frontier, each candidate of it that an old
+/// one carries is refuted, and no point and no unknown candidate is carried. So of those that were
+/// tried the carried ones are those of the refuted list that an old one carries; the others of that
+/// list were refuted by the engine within, which was asked for none that is carried. This does
+/// nothing.
 pub fn carried_is_refuted<E: EngineView>(engine: &CarryEngine<E>, frontier: &Frontier)
     requires { IsPermutation (⟦<CarryEngine<E> as EngineView>⟧.entries engine.now) (entries_of frontier.now) }
     ensures refuted { (x : Candidate) → IsTried frontier.now x → is_carried engine.now.old.items x ≡ true → Contains frontier.now.refuted x }

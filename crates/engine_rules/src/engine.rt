@@ -16,10 +16,12 @@ use crate::fault::EngineFault;
 use candidate_order::{Candidate, Outcome};
 use cnf_formula::ProofLine;
 
-/// The question whose candidates an engine settles, which is of a collective that copies; the record of those that it has
-/// settled; and the formula of each candidate, which is satisfiable exactly where the candidate is solvable.
+/// The question whose candidates an engine settles, which is of a collective that copies; the
+/// record of those that it has settled; and the formula of each candidate, which is satisfiable
+/// exactly where the candidate is solvable.
 ///
-/// `suits` is what an engine promises of its schedules beyond solving, and `stopped` the candidate at which it failed.
+/// `suits` is what an engine promises of its schedules beyond solving, and `stopped` the candidate
+/// at which it failed.
 pub trait EngineView {
     ghost question: { Self → QuestionValue };
 
@@ -41,8 +43,8 @@ pub trait EngineView {
 
     ghost exact: { (engine : Self) (x : Candidate) → IsWithin (question engine) x → Satisfiable (formula engine x) ↔ IsSolvable (question engine) x };
 
-    // A candidate that the record holds as refuted has no solution, and the formula of one that it holds as unknown is
-    // exhausted by the conflicts that the limits allow.
+    // A candidate that the record holds as refuted has no solution, and the formula of one that it
+    // holds as unknown is exhausted by the conflicts that the limits allow.
     ghost right: { (engine : Self) (x : Candidate) → Contains (entries engine) (x, settled.Refuted) → IsSolvable (question engine) x → ⊥ };
 
     ghost exhausted: { (engine : Self) (x : Candidate) → Contains (entries engine) (x, settled.Unknown) → Exhausted (formula engine x) (question engine).limits.conflicts };
@@ -50,17 +52,21 @@ pub trait EngineView {
 
 /// An engine that works beside a store, which is lent to each call.
 ///
-/// The store has a count of faults that never falls. `agrees` says that the store holds what the record says, and `moves`
-/// what the calls up to a later engine and store may have changed. After a fault the engine is not used again.
+/// The store has a count of faults that never falls. `agrees` says that the store holds what the
+/// record says, and `moves` what the calls up to a later engine and store may have changed. After a
+/// fault the engine is not used again.
 pub trait Engine<T>: EngineView {
+    ghost use Rattle.engine_rules.specs.Searches.{CanGoOn, IsSameSearch};
+
     ghost faults: { Self → T → ℕ };
 
     ghost agrees: { Self → T → Type 0 };
 
     ghost moves: { Self → T → Self → T → Type 0 };
 
-    /// Settles a candidate: finds a schedule that solves it and wastes no send, or that there is none, or gives it up after
-    /// all the conflicts that the limits allow. [`EngineFault::ShelfFailed`] comes only where the count of faults rose.
+    /// Settles a candidate: finds a schedule that solves it and wastes no send, or that there is
+    /// none, or gives it up after all the conflicts that the limits allow.
+    /// [`EngineFault::ShelfFailed`] comes only where the count of faults rose.
     fn settle(&mut self, store: &mut T, candidate: Candidate) -> Result<Outcome, EngineFault>
         requires within { IsWithin (Self.question self.old) candidate }
         requires fresh { IsNew (Self.entries self.old) candidate }
@@ -70,16 +76,12 @@ pub trait Engine<T>: EngineView {
         ensures refuted { result ≡ Ok Outcome.Refuted → IsSolvable (Self.question self.old) candidate → ⊥ }
         ensures unknown { (n : ℕ) → result ≡ Ok (Outcome.Unknown n) → (n ≡ (Self.question self.old).limits.conflicts) × SpentOn (Self.formula self.old candidate) (Self.log_lines self.new) n }
         ensures entries { IfOk result (λ outcome. Self.entries self.new ≡ Self.entries self.old ++ (candidate, kind_of outcome) ∷ []) }
-        ensures running { OnOk result (Self.stopped self.new ≡ None) }
         ensures kept { OnErr result (Self.entries self.new ≡ Self.entries self.old) }
         ensures stopped { OnErr result (Self.stopped self.new ≡ Some candidate) }
-        ensures question { Self.question self.new ≡ Self.question self.old }
-        ensures formula { (x : Candidate) → Self.formula self.new x ≡ Self.formula self.old x }
-        ensures suits { (x : Candidate) (schedule : ScheduleValue) → Self.suits self.new x schedule ↔ Self.suits self.old x schedule }
+        ensures same { IsSameSearch Self.EngineView self.old Self.EngineView self.new }
         ensures moves { moves self.old store.old self.new store.new }
-        ensures agrees { OnOk result (agrees self.new store.new) }
-        ensures cause { HasCause EngineFault.ShelfFailed (faults self.old store.old) (faults self.new store.new) result }
-        ensures steady { result ≢ Err EngineFault.ShelfFailed → faults self.new store.new ≡ faults self.old store.old };
+        ensures goes_on { OnOk result (CanGoOn (Self.stopped self.new) (agrees self.new store.new)) }
+        ensures cause { HasCause EngineFault.ShelfFailed (faults self.old store.old) (faults self.new store.new) result };
 
     ghost moves_refl: { (engine : Self) (store : T) → moves engine store engine store };
 

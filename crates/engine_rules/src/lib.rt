@@ -1,4 +1,5 @@
-//! What every engine owes: it settles the candidates of a question, one at a time, beside a store that is lent to each call.
+//! What every engine owes: it settles the candidates of a question, one at a time, beside a store
+//! that is lent to each call.
 #![tactic(auto)]
 
 mod engine;

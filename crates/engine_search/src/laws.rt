@@ -10,7 +10,8 @@ ghost use Rattle.engine_search.specs.Searched.{searched_question};
 use candidate_order::Candidate;
 use collective_spec::Kind;
 
-/// What is searched in place of a collective copies, is as large, and has the same candidates and formulas.
+/// What is searched in place of a collective copies, is as large, and has the same candidates and
+/// formulas.
 pub fn a_search_asks_for_the_same_candidates()
     ensures copies { (q : QuestionValue) → kind_in q.spec ≢ Kind.Allreduce → adds_up (searched_question q).spec ≡ false }
     ensures size { (q : QuestionValue) → size_of (searched_question q) ≡ size_of q }

@@ -1,11 +1,10 @@
 //! The search with an engine, and the inversion of what it found for a reduction.
 
-ghost use Rattle.std.specs.Prelude.{◌≡◌, ◌≢◌, ◌↔◌, [], None, Err, IfOk, OnOk};
+ghost use Rattle.std.specs.Prelude.{◌≡◌, ◌≢◌, [], None, Err, IfOk, OnOk};
 ghost use Rattle.std.specs.List.Sorted.{IsPermutation};
 ghost use Rattle.outer_ports.specs.Port.{HasCause};
-ghost use Rattle.schedule.specs.Sends.{ScheduleValue};
+ghost use Rattle.engine_rules.specs.Searches.{CanGoOn, IsSameSearch};
 ghost use Rattle.collective_spec.specs.Collectives.{IsSpec};
-ghost use Rattle.candidate_order.specs.declared.candidate.Candidate.{Candidate};
 ghost use Rattle.pareto_search.specs.Recorded.{StaysWithin, entries_of};
 ghost use Rattle.engine_search.specs.Searched.{asked_frontier, searched_question};
 ghost use Rattle.engine_search.specs.Found.{IsFoundBy};
@@ -20,13 +19,14 @@ use pareto_search::search;
 use schedule::Topology;
 use std::alloc::Global;
 
-/// The frontier of a collective over these links, by a search with the engine beside its store (Cai et al., PPoPP 2021,
-/// Pareto-optimal schedules). For a reduction the engine searches what copies over the links turned round, and each schedule
-/// that it found is inverted.
+/// The frontier of a collective over these links, by a search with the engine beside its store (Cai
+/// et al., PPoPP 2021, Pareto-optimal schedules). For a reduction the engine searches what copies
+/// over the links turned round, and each schedule that it found is inverted.
 ///
-/// The engine is new, and made for the links of [`links_to_search`](crate::links_to_search), the collective and the limits: so
-/// for no allreduce, since an engine's question copies. Its record then holds the candidates of the frontier, each with its
-/// outcome. [`EngineFault::ShelfFailed`] comes only where the engine's count of faults rose.
+/// The engine is new, and made for the links of [`links_to_search`](crate::links_to_search), the
+/// collective and the limits: so for no allreduce, since an engine's question copies. Its record
+/// then holds the candidates of the frontier, each with its outcome. [`EngineFault::ShelfFailed`]
+/// comes only where the engine's count of faults rose.
 pub fn frontier_by<T, E: Engine<T>>(
     alloc: Global,
     engine: &mut E,
@@ -42,15 +42,11 @@ pub fn frontier_by<T, E: Engine<T>>(
     requires agrees { E.agrees engine.old store.old }
     ensures found { IfOk result (IsFoundBy (record { topology = topology.now; spec = spec.now; limits = limits }) (E.formula engine.new) (E.suits engine.new)) }
     ensures recorded { IfOk result (λ f. IsPermutation (E.entries engine.new) (entries_of f)) }
-    ensures running { OnOk result (E.stopped engine.new ≡ None) }
     ensures within { StaysWithin (E.question engine.old) (E.entries engine.new) (E.stopped engine.new) }
-    ensures question { E.question engine.new ≡ E.question engine.old }
-    ensures formula { (x : Candidate) → E.formula engine.new x ≡ E.formula engine.old x }
-    ensures suits_stay { (x : Candidate) (schedule : ScheduleValue) → E.suits engine.new x schedule ↔ E.suits engine.old x schedule }
+    ensures same { IsSameSearch E.EngineView engine.old E.EngineView engine.new }
     ensures moves { E.moves engine.old store.old engine.new store.new }
-    ensures agrees { OnOk result (E.agrees engine.new store.new) }
+    ensures goes_on { OnOk result (CanGoOn (E.stopped engine.new) (E.agrees engine.new store.new)) }
     ensures cause { HasCause EngineFault.ShelfFailed (E.faults engine.old store.old) (E.faults engine.new store.new) result }
-    ensures steady { result ≢ Err EngineFault.ShelfFailed → E.faults engine.new store.new ≡ E.faults engine.old store.old }
 {
     let allowed = allowed_counts(alloc, topology.nodes(), spec.kind(), &limits)?;
     let copied = search(alloc, engine, store, &limits, &allowed)?;
@@ -58,7 +54,8 @@ pub fn frontier_by<T, E: Engine<T>>(
     Ok(frontier)
 }
 
-/// The frontier of a collective, made of that of what was searched in its place: for a reduction each schedule is inverted.
+/// The frontier of a collective, made of that of what was searched in its place: for a reduction
+/// each schedule is inverted.
 fn asked_frontier(alloc: Global, spec: &Spec, copied: Frontier) -> Result<Frontier, OutOfMemory>
     ensures { IfOk result (λ f. f ≡ asked_frontier spec.now copied) }
 {

@@ -7,8 +7,9 @@ ghost use Rattle.engine_search.specs.Searched.{asked_frontier, copying_schedule,
 
 use collective_spec::Kind;
 
-/// A sum at node 0 over the link from 1 to 0 is searched as a broadcast from 0 over the link from 0 to 1, and the schedule that
-/// was found for a sum is seen as the broadcast of which it is the inverse.
+/// A sum at node 0 over the link from 1 to 0 is searched as a broadcast from 0 over the link from 0
+/// to 1, and the schedule that was found for a sum is seen as the broadcast of which it is the
+/// inverse.
 pub fn a_sum_is_searched_as_its_inverse()
     ensures question { searched_question (asked back_of_2 Kind.Reduce) ≡ asked (record { nodes = 2; groups = only 0 1 1 ∷ [] }) Kind.Broadcast }
     ensures schedule { copying_schedule (asked back_of_2 Kind.Reduce).spec ring_reduce ≡ ring_broadcast }

@@ -24,7 +24,7 @@ use Rattle.candidate_formula.specs.Questions.{IsSmallQuestion, IsSought, copying
 use Rattle.candidate_formula.proofs.CopyingQuestions.{same_size, small_by_copying, within_by, reduced_formula}
 use Rattle.candidate_formula.proofs.Copying.{same_allowed, copied_stays}
 use Rattle.candidate_formula.proofs.TurnedSize.{copied_size}
-use Rattle.frontier_audit.specs.Auditable.{IsAuditable}
+use Rattle.frontier_audit.specs.inner.Auditable.{IsAuditable}
 use Rattle.frontier_audit.proofs.Right.{apart, apart_in}
 use Rattle.frontier_audit.proofs.Unsolvable.{parts_fit}
 
@@ -122,6 +122,3 @@ module _ (r : ReportValue) (ok : IsReport r) (p : Part) (has : Contains (parts_o
 -- what the calls gave is what is asked
 pub made_of : (t : TopologyValue) (s : Spec) (l : LimitsValue) (q : QuestionValue) → t ≡ q.topology → s ≡ q.spec → l ≡ q.limits → record { topology = t; spec = s; limits = l } ≡ q
 made_of t s l q a b c = λ i. record { topology = a i; spec = b i; limits = c i }
-
-pub searched_is : (t named searched : TopologyValue) (s : Spec) (l : LimitsValue) → t ≡ named → searched ≡ (if adds_up s then reversed_of named else named) → searched ≡ searched_on (record { topology = t; spec = s; limits = l })
-searched_is t named searched s l same e = e ∙ ap (λ n. if adds_up s then reversed_of n else n) (sym same)

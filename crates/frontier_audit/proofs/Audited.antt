@@ -14,7 +14,7 @@ use Rattle.frontier_audit.specs.Joining.{joined_checked}
 use Rattle.frontier_audit.specs.Auditing.{point_checked, refuted_checked, unknown_checked, candidate_checked, mark_checked, frontier_checked, report_checked, audit_of}
 use Rattle.frontier_audit.proofs.Passing.{then_ok, ok_then, each_ok, ok_each, in_part_ok, ok_in_part, verified_ok, ok_verified}
 use Rattle.frontier_audit.proofs.Beside.{has_refutation, has_log_of}
-use Rattle.frontier_audit.specs.Steps.{part_checked}
+use Rattle.frontier_audit.specs.inner.Steps.{part_checked}
 
 -- each check of a part passes
 pub record Passes (part : Part) (q : QuestionValue) (files : Files) (f : FrontierValue) : Type 0 where

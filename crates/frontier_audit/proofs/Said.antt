@@ -26,7 +26,7 @@ use Rattle.frontier_audit.specs.Denials.{Denial, Checked}
 use Rattle.frontier_audit.specs.Candidates.{same_candidate}
 use Rattle.frontier_audit.specs.Auditing.{refuted_checked, unknown_checked}
 use Rattle.frontier_audit.specs.Beside.{denial_of, AnswersBeside}
-use Rattle.frontier_audit.specs.Steps.{denial_for}
+use Rattle.frontier_audit.specs.inner.Steps.{denial_for}
 use Rattle.frontier_audit.proofs.Beside.{over_files}
 use Rattle.frontier_audit.proofs.Merging.{LooksAt}
 use Rattle.frontier_audit.proofs.Tried.{same_is, same_itself}

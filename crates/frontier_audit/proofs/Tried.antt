@@ -1,8 +1,9 @@
 -- The candidates of a search are just those within the limits.
-use Rattle.std.proofs.Common.{◌≡◌, ℕ, zero, suc, ◌+◌, ◌<◌, ◌≤◌, Bool, true, false, List, [], ◌∷◌, map, refl, sym, ap, ◌∙◌, subst, ⊎_elim, arith}
+use Rattle.std.proofs.Common.{◌≡◌, ℕ, zero, suc, ◌+◌, ◌<◌, ◌≤◌, Bool, true, false, List, [], ◌∷◌, map, Decides, refl, sym, ap, ◌∙◌, subst, ⊎_elim, arith}
 use Rattle.std.specs.Prelude.{◌&&◌, ◌||◌, ◌==◌, ◌↔◌, if◌then◌else◌, filter, nat_le, All, Contains}
 use Rattle.std.specs.List.{list_any, range_with_len}
 use Rattle.std.proofs.lemmas.Bool.{and_parts, eqb-true, eq-eqb, cases_eq, or_left, or_right, leb-true, and_from}
+use Rattle.std.proofs.lemmas.Bool.Decides.{Decides-like, same_from_decides}
 use Rattle.std.proofs.lemmas.List.Elements.{All-nil, All-cons, All-head, All-tail, All-contains}
 use Rattle.std.proofs.lemmas.List.Folds.{list_any_at, Any-from_list_any}
 use Rattle.collective_spec.specs.Kinds.{allows}
@@ -30,6 +31,17 @@ same_is a b e =
 
 pub same_itself : (a : Candidate) → same_candidate a a ≡ true
 same_itself a = and_from (a.s == a.s && a.r == a.r) (a.c == a.c) (and_from (a.s == a.s) (a.r == a.r) (eq-eqb a.s a.s refl) (eq-eqb a.r a.r refl)) (eq-eqb a.c a.c refl)
+
+same_decides : (a b : Candidate) → Decides (same_candidate a b) (a ≡ b)
+same_decides a b = (same_is a b, λ e. ap (same_candidate a) (sym e) ∙ same_itself a)
+
+same_turned : (a b : Candidate) → same_candidate a b ≡ same_candidate b a
+same_turned a b = same_from_decides (same_candidate a b) (same_candidate b a) (same_decides a b) (Decides-like (same_candidate b a) (λ e. sym e) (λ e. sym e) (same_decides b a))
+
+-- a test for the same candidate as each in the list
+pub listed_by : (test : Candidate → Bool) (x : Candidate) (xs : List Candidate) → ((y : Candidate) → test y ≡ same_candidate y x) → list_any test xs ≡ is_listed xs x
+listed_by test x [] is = refl
+listed_by test x (y ∷ ys) is = ap (λ b. b || list_any test ys) (is y ∙ same_turned y x) ∙ ap (λ b. same_candidate x y || b) (listed_by test x ys is)
 
 pub listed_contains : (xs : List Candidate) (x : Candidate) → is_listed xs x ≡ true → Contains xs x
 listed_contains xs x e =

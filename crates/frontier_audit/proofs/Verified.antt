@@ -19,7 +19,7 @@ use Rattle.frontier_audit.specs.Joining.{is_gather, is_reduce, joined_checked, p
 use Rattle.frontier_audit.specs.Auditing.{audit_of, report_checked}
 use Rattle.frontier_audit.specs.Beside.{denial_of, AnswersBeside, IsVerdictOver}
 use Rattle.frontier_audit.specs.Rights.{AreJoined, HasLogs, IsRight}
-use Rattle.frontier_audit.specs.Steps.{joins_of, parts_checked}
+use Rattle.frontier_audit.specs.inner.Steps.{joins_of, parts_checked}
 use Rattle.frontier_audit.proofs.Audited.{shelf_right}
 use Rattle.frontier_audit.proofs.Jointly.{parts_are}
 use Rattle.frontier_audit.proofs.Merging.{stops, then_plainly}

@@ -4,10 +4,9 @@ pub mod Candidates
 pub mod Solutions
 pub mod Joining
 pub mod Auditing
-pub mod Auditable
 pub mod Beside
-pub mod Steps
 pub mod Rights
 pub mod OwedFiles
 pub mod Rows
 pub mod Searches
+pub mod inner

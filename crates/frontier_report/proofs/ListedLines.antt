@@ -10,7 +10,7 @@ use Rattle.report_form.specs.Tests.{is_within, comes_next}
 use Rattle.report_form.specs.Points.{candidate_from}
 use Rattle.report_form.proofs.Shapes.{unknown}
 use Rattle.report_lines.proofs.Ruled.{words_read, word_read, all_read, by_rule}
-use Rattle.frontier_report.specs.After.{refuted_after, unknown_after}
+use Rattle.frontier_report.specs.inner.After.{refuted_after, unknown_after}
 
 pub refuted_is : (q : QuestionValue) (last : Option Candidate) (line : Option Row) (w0 w1 w2 : List (List ℕ)) (x : Candidate) (u : Unit {0}) → tokens_line line ≡ words_read w0 → fixed_word (codes "refuted") w0 ≡ words_read w1 → candidate_from w1 ≡ word_read x w2 → no_more w2 ≡ all_read u → refuted_after q last line ≡ by_rule (is_within q x && comes_next last x) x
 refuted_is q last line w0 w1 w2 x u e0 e1 e2 e3 = rw (e0, e1, e2, e3) refl

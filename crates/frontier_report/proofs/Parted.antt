@@ -6,7 +6,7 @@ use Rattle.report_form.specs.declared.fault.ReportCode.{ReportCode}
 use Rattle.report_form.specs.Lines.{row_begins, parts_from}
 use Rattle.frontier_report.specs.declared.report_stop.ReportStop.{ReportStop}
 use Rattle.frontier_report.specs.declared.report_stop.ReportStop.TheVariants.{Memory, Refused}
-use Rattle.frontier_report.specs.Gives.{Halts}
+use Rattle.frontier_report.specs.inner.Gives.{Halts}
 use Rattle.frontier_report.proofs.Turns.{ended}
 
 abbrev pub part_read : {A : Type 0} → A → Place → Result (A × Place) (ReportCode × ℕ)

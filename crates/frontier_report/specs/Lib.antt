@@ -1,5 +1,1 @@
-pub mod Gives
-pub mod Wide
-pub mod After
-pub mod Bodies
-pub mod Header
+pub mod inner

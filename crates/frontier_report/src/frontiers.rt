@@ -2,10 +2,10 @@
 
 ghost use Rattle.std.specs.Prelude.{◌≡◌, ◌≤◌, ◌+◌, length, OnOk};
 ghost use Rattle.report_form.specs.Reports.{parts_of};
-ghost use Rattle.report_form.specs.Reading.{body_of, frontier_at, frontiers_from, joined_at, part_bytes};
+ghost use Rattle.report_form.specs.Reading.{body_of, frontier_at, frontiers_from, joined_at};
 ghost use Rattle.report_lines.specs.Asking.{asks};
-ghost use Rattle.frontier_report.specs.Bodies.{body_value};
-ghost use Rattle.frontier_report.specs.Gives.{Reads};
+ghost use Rattle.frontier_report.specs.inner.Bodies.{body_value};
+ghost use Rattle.frontier_report.specs.inner.Gives.{Reads};
 ghost use Rattle.report_lines.specs.Room.{HasRoom, Onward};
 
 use crate::listed::{refuted_part, unknown_part};
@@ -15,7 +15,7 @@ use candidate_order::{Frontier, Point};
 use collective_spec::Kind;
 use indexmap::IndexSet;
 use outer_ports::Part;
-use report_form::Words;
+use report_form::{Words, part_bytes};
 use report_lines::{Question, fixed_part, last_part};
 use std::alloc::Global;
 use text_lines::Lines;
@@ -26,18 +26,6 @@ use topology_text::{Name, NamedTopology};
 pub struct Body {
     pub frontiers: Vec<(Part, Frontier)>,
     pub joined: Vec<Point>,
-}
-
-/// The line that begins a part.
-fn part_bytes(part: Part) -> &'static [u8]
-    ensures { result.now ≡ part_bytes part }
-{
-    match part {
-        Part::Whole => b"frontier whole",
-        Part::Reduce => b"frontier reduce",
-        Part::Gather => b"frontier gather",
-        Part::Joined => b"joined",
-    }
 }
 
 /// The parts that have a frontier, in the order of the text.
@@ -54,12 +42,10 @@ fn parts_of(kind: Kind) -> &'static [Part]
 #[tactic(auto, unfolding(report_form::specs::Reading::frontier_at))]
 fn frontier_part(
     alloc: Global,
-    text: &[u8],
     lines: &mut Lines<'_>,
     names: &IndexSet<Name>,
     question: &Question<'_>,
 ) -> Result<Frontier, ReportStop>
-    requires same { lines.old.text ≡ text.now }
     requires room { HasRoom lines.old.place }
     requires few { length names.now.keys ≤ 16 }
     requires names { length names.now.keys ≡ (asks question.now).topology.nodes }
@@ -67,24 +53,22 @@ fn frontier_part(
     ensures text { lines.new.text ≡ lines.old.text }
     ensures onward { OnOk result (Onward lines.old.place lines.new.place) }
 {
-    fixed_part(text, lines, part_bytes(question.part))?;
-    let points = points_part(alloc, text, lines, names, question)?;
-    let refuted = refuted_part(alloc, text, lines, question)?;
-    let unknown = unknown_part(alloc, text, lines, question)?;
+    fixed_part(lines, part_bytes(question.part))?;
+    let points = points_part(alloc, lines, names, question)?;
+    let refuted = refuted_part(alloc, lines, question)?;
+    let unknown = unknown_part(alloc, lines, question)?;
     Ok(Frontier::new(points, refuted, unknown))
 }
 
 /// Takes a frontier for each of these parts.
 fn frontiers_of(
     alloc: Global,
-    text: &[u8],
     lines: &mut Lines<'_>,
     names: &IndexSet<Name>,
     words: Words,
     topology: &NamedTopology,
     parts: &[Part],
 ) -> Result<Vec<(Part, Frontier)>, ReportStop>
-    requires same { lines.old.text ≡ text.now }
     requires room { HasRoom lines.old.place }
     requires few { length names.now.keys ≤ 16 }
     requires names { names.now.keys ≡ topology.now.names }
@@ -101,7 +85,7 @@ fn frontiers_of(
             topology,
             part,
         };
-        let frontier = frontier_part(alloc, text, lines, names, &question)?;
+        let frontier = frontier_part(alloc, lines, names, &question)?;
         frontiers.push((part, frontier))?;
     }
     Ok(frontiers)
@@ -110,13 +94,11 @@ fn frontiers_of(
 /// Takes the joined points, which only an allreduce has.
 fn joined_part(
     alloc: Global,
-    text: &[u8],
     lines: &mut Lines<'_>,
     names: &IndexSet<Name>,
     words: Words,
     topology: &NamedTopology,
 ) -> Result<Vec<Point>, ReportStop>
-    requires same { lines.old.text ≡ text.now }
     requires room { HasRoom lines.old.place }
     requires few { length names.now.keys ≤ 16 }
     requires names { names.now.keys ≡ topology.now.names }
@@ -132,8 +114,8 @@ fn joined_part(
                 topology,
                 part: Part::Joined,
             };
-            fixed_part(text, lines, part_bytes(Part::Joined))?;
-            joined_points_part(alloc, text, lines, names, &question)
+            fixed_part(lines, part_bytes(Part::Joined))?;
+            joined_points_part(alloc, lines, names, &question)
         }
         _ => Ok(Vec::new(alloc)),
     }
@@ -143,13 +125,11 @@ fn joined_part(
 #[tactic(auto, unfolding(report_form::specs::Reading::body_of))]
 pub fn body_part(
     alloc: Global,
-    text: &[u8],
     lines: &mut Lines<'_>,
     names: &IndexSet<Name>,
     words: Words,
     topology: &NamedTopology,
 ) -> Result<Body, ReportStop>
-    requires same { lines.old.text ≡ text.now }
     requires room { HasRoom lines.old.place }
     requires few { length names.now.keys ≤ 16 }
     requires names { names.now.keys ≡ topology.now.names }
@@ -157,9 +137,9 @@ pub fn body_part(
     ensures { Reads (body_value words topology.now) result (body_of words topology.now lines.old.place) }
 {
     let parts = parts_of(words.collective().kind);
-    let frontiers = frontiers_of(alloc, text, lines, names, words, topology, parts)?;
-    let joined = joined_part(alloc, text, lines, names, words, topology)?;
-    fixed_part(text, lines, b"end")?;
+    let frontiers = frontiers_of(alloc, lines, names, words, topology, parts)?;
+    let joined = joined_part(alloc, lines, names, words, topology)?;
+    fixed_part(lines, b"end")?;
     last_part(lines)?;
     Ok(Body { frontiers, joined })
 }

@@ -4,9 +4,9 @@ ghost use Rattle.std.specs.Prelude.{◌≡◌, ◌≤◌, ◌+◌, Some, codes, 
 ghost use Rattle.text_lines.specs.Line.{IsIn, row_at};
 ghost use Rattle.report_form.specs.Lines.{lines_at};
 ghost use Rattle.report_form.specs.Reading.{refuted_line, unknown_line};
-ghost use Rattle.frontier_report.specs.After.{refuted_after, unknown_after};
+ghost use Rattle.frontier_report.specs.inner.After.{refuted_after, unknown_after};
 ghost use Rattle.report_lines.specs.Asking.{asks};
-ghost use Rattle.frontier_report.specs.Gives.{Reads};
+ghost use Rattle.frontier_report.specs.inner.Gives.{Reads};
 ghost use Rattle.text_lines.specs.Check.{Tells};
 ghost use Rattle.report_lines.specs.Room.{HasRoom, Onward};
 
@@ -46,16 +46,15 @@ fn refuted_on(
 /// Takes the lines of refuted candidates, up to the first line that is none.
 pub fn refuted_part(
     alloc: Global,
-    text: &[u8],
     lines: &mut Lines<'_>,
     question: &Question<'_>,
 ) -> Result<Vec<Candidate>, ReportStop>
-    requires same { lines.old.text ≡ text.now }
     requires room { HasRoom lines.old.place }
     ensures read { Reads (λ v. (v.items, lines.new.place)) result (lines_at (codes "refuted ") (refuted_line (asks question.now)) lines.old.place) }
     ensures text { lines.new.text ≡ lines.old.text }
     ensures onward { OnOk result (Onward lines.old.place lines.new.place) }
 {
+    let text = lines.text();
     let mut refuted = Vec::new(alloc);
     let mut last = None;
     while let Some(line) = lines.peek() {
@@ -110,16 +109,15 @@ fn unknown_on(
 /// Takes the lines of unknown candidates, up to the first line that is none.
 pub fn unknown_part(
     alloc: Global,
-    text: &[u8],
     lines: &mut Lines<'_>,
     question: &Question<'_>,
 ) -> Result<Vec<Unknown>, ReportStop>
-    requires same { lines.old.text ≡ text.now }
     requires room { HasRoom lines.old.place }
     ensures read { Reads (λ v. (v.items, lines.new.place)) result (lines_at (codes "unknown ") (unknown_line (asks question.now)) lines.old.place) }
     ensures text { lines.new.text ≡ lines.old.text }
     ensures onward { OnOk result (Onward lines.old.place lines.new.place) }
 {
+    let text = lines.text();
     let mut unknown: Vec<Unknown> = Vec::new(alloc);
     let mut last = None;
     while let Some(line) = lines.peek() {

@@ -3,9 +3,9 @@
 ghost use Rattle.std.specs.Prelude.{◌≡◌, [], ◌≤◌, ◌<◌, ◌+◌, codes, length, OnOk};
 ghost use Rattle.report_form.specs.Lines.{parts_at};
 ghost use Rattle.report_form.specs.Points.{frontier_point_at, joined_point_at, schedule_at};
-ghost use Rattle.frontier_report.specs.After.{point_after};
+ghost use Rattle.frontier_report.specs.inner.After.{point_after};
 ghost use Rattle.report_lines.specs.Asking.{asks};
-ghost use Rattle.frontier_report.specs.Gives.{Reads};
+ghost use Rattle.frontier_report.specs.inner.Gives.{Reads};
 ghost use Rattle.report_lines.specs.Heads.{head_value};
 ghost use Rattle.report_lines.specs.Room.{HasRoom, Onward};
 
@@ -24,13 +24,11 @@ use topology_text::Name;
 #[tactic(auto, unfolding(report_form::specs::Points::schedule_at))]
 fn schedule_part(
     alloc: Global,
-    text: &[u8],
     lines: &mut Lines<'_>,
     names: &IndexSet<Name>,
     question: &Question<'_>,
     head: Head,
 ) -> Result<Point, ReportStop>
-    requires same { lines.old.text ≡ text.now }
     requires room { HasRoom lines.old.place }
     requires few { length names.now.keys ≤ 16 }
     requires names { length names.now.keys ≡ (asks question.now).topology.nodes }
@@ -41,12 +39,12 @@ fn schedule_part(
     ensures onward { OnOk result (Onward lines.old.place lines.new.place) }
     ensures fewer { OnOk result (length lines.new.place.rows ≤ length lines.old.place.rows) }
 {
-    let rounds = rounds_part(alloc, text, lines, head.candidate)?;
+    let rounds = rounds_part(alloc, lines, head.candidate)?;
     let extent = Extent {
         chunks: question.chunks(head.candidate.c),
         steps: head.candidate.s,
     };
-    let sends = sends_part(alloc, text, lines, names, extent)?;
+    let sends = sends_part(alloc, lines, names, extent)?;
     let schedule = Schedule::new(rounds, sends);
     Ok(Point::new(head.candidate, schedule, head.mark))
 }
@@ -54,13 +52,11 @@ fn schedule_part(
 /// Takes a point of a frontier, behind the last one.
 fn point_part(
     alloc: Global,
-    text: &[u8],
     lines: &mut Lines<'_>,
     names: &IndexSet<Name>,
     question: &Question<'_>,
     last: Option<Candidate>,
 ) -> Result<Point, ReportStop>
-    requires same { lines.old.text ≡ text.now }
     requires room { HasRoom lines.old.place }
     requires few { length names.now.keys ≤ 16 }
     requires names { length names.now.keys ≡ (asks question.now).topology.nodes }
@@ -69,19 +65,17 @@ fn point_part(
     ensures onward { OnOk result (Onward lines.old.place lines.new.place) }
     ensures fewer { OnOk result (length lines.new.place.rows < length lines.old.place.rows) }
 {
-    let head = head_part(text, lines, question, last)?;
-    schedule_part(alloc, text, lines, names, question, head)
+    let head = head_part(lines, question, last)?;
+    schedule_part(alloc, lines, names, question, head)
 }
 
 /// Takes the points of a frontier, up to the first line that begins none.
 pub fn points_part(
     alloc: Global,
-    text: &[u8],
     lines: &mut Lines<'_>,
     names: &IndexSet<Name>,
     question: &Question<'_>,
 ) -> Result<Vec<Point>, ReportStop>
-    requires same { lines.old.text ≡ text.now }
     requires room { HasRoom lines.old.place }
     requires few { length names.now.keys ≤ 16 }
     requires names { length names.now.keys ≡ (asks question.now).topology.nodes }
@@ -91,8 +85,8 @@ pub fn points_part(
 {
     let mut points: Vec<Point> = Vec::new(alloc);
     let mut last = None;
-    while next_begins(text, lines, b"point ") {
-        let point = match point_part(alloc, text, lines, names, question, last) {
+    while next_begins(lines, b"point ") {
+        let point = match point_part(alloc, lines, names, question, last) {
             Ok(point) => point,
             Err(halt) => return Err(halt),
         };
@@ -106,12 +100,10 @@ pub fn points_part(
 #[tactic(auto, unfolding(report_form::specs::Points::joined_point_at))]
 fn joined_point_part(
     alloc: Global,
-    text: &[u8],
     lines: &mut Lines<'_>,
     names: &IndexSet<Name>,
     question: &Question<'_>,
 ) -> Result<Point, ReportStop>
-    requires same { lines.old.text ≡ text.now }
     requires room { HasRoom lines.old.place }
     requires few { length names.now.keys ≤ 16 }
     requires names { length names.now.keys ≡ (asks question.now).topology.nodes }
@@ -120,19 +112,17 @@ fn joined_point_part(
     ensures onward { OnOk result (Onward lines.old.place lines.new.place) }
     ensures fewer { OnOk result (length lines.new.place.rows < length lines.old.place.rows) }
 {
-    let head = joined_head_part(text, lines, question)?;
-    schedule_part(alloc, text, lines, names, question, head)
+    let head = joined_head_part(lines, question)?;
+    schedule_part(alloc, lines, names, question, head)
 }
 
 /// Takes the joined points, up to the first line that begins none.
 pub fn joined_points_part(
     alloc: Global,
-    text: &[u8],
     lines: &mut Lines<'_>,
     names: &IndexSet<Name>,
     question: &Question<'_>,
 ) -> Result<Vec<Point>, ReportStop>
-    requires same { lines.old.text ≡ text.now }
     requires room { HasRoom lines.old.place }
     requires few { length names.now.keys ≤ 16 }
     requires names { length names.now.keys ≡ (asks question.now).topology.nodes }
@@ -141,8 +131,8 @@ pub fn joined_points_part(
     ensures onward { OnOk result (Onward lines.old.place lines.new.place) }
 {
     let mut points: Vec<Point> = Vec::new(alloc);
-    while next_begins(text, lines, b"point ") {
-        let point = match joined_point_part(alloc, text, lines, names, question) {
+    while next_begins(lines, b"point ") {
+        let point = match joined_point_part(alloc, lines, names, question) {
             Ok(point) => point,
             Err(halt) => return Err(halt),
         };

@@ -6,8 +6,8 @@ ghost use Rattle.report_form.specs.Spelling.{report_text};
 ghost use Rattle.report_form.specs.Reading.{report_of};
 ghost use Rattle.report_form.specs.Answer.{Answers};
 ghost use Rattle.report_form.specs.First.{FailsFirstAt};
-ghost use Rattle.frontier_report.specs.Bodies.{parts_value};
-ghost use Rattle.frontier_report.specs.Gives.{Reads};
+ghost use Rattle.frontier_report.specs.inner.Bodies.{parts_value};
+ghost use Rattle.frontier_report.specs.inner.Gives.{Reads};
 
 use crate::frontiers::{Body, body_part};
 use crate::report_stop::ReportStop;
@@ -33,21 +33,21 @@ fn parts_of(alloc: Global, text: &[u8]) -> Result<Parts, ReportStop>
     ensures { Reads parts_value result (report_of text.now) }
 {
     let mut lines = Lines::new(text);
-    let patterned = version_part(text, &mut lines)?;
-    let asked = asked_part(text, &mut lines, patterned)?;
-    header_at(text, &mut lines, patterned)?;
+    let patterned = version_part(&mut lines)?;
+    let asked = asked_part(&mut lines, patterned)?;
+    header_at(&mut lines, patterned)?;
     let number = lines.number();
-    let names = names_at(alloc, text, &mut lines)?;
+    let names = names_at(alloc, &mut lines)?;
     let root = root_at(&names, asked.root, number)?;
-    let groups = groups_in(alloc, text, &mut lines, &names)?;
-    let pattern = pattern_in(alloc, text, &mut lines, patterned, &names)?;
+    let groups = groups_in(alloc, &mut lines, &names)?;
+    let pattern = pattern_in(alloc, &mut lines, patterned, &names)?;
     let topology = NamedTopology::from_parts(alloc, &names, groups, pattern)?;
     let collective = Collective {
         kind: asked.kind,
         root,
     };
     let words = Words::new(collective, asked.limits);
-    let body = body_part(alloc, text, &mut lines, &names, words, &topology)?;
+    let body = body_part(alloc, &mut lines, &names, words, &topology)?;
     Ok(Parts {
         words,
         topology,
@@ -74,8 +74,8 @@ fn answered(alloc: Global, bytes: &[u8]) -> Result<Report, ReportFault>
     }
 }
 
-/// The report that the text spells, all of the text, which is shorter than 2 GiB, so that its lines have numbers. A
-/// fault names the first check that fails, and its line.
+/// The report that the text spells, all of the text, which is shorter than 2 GiB, so that its lines
+/// have numbers. A fault names the first check that fails, and its line.
 pub fn read_report(alloc: Global, bytes: &[u8]) -> Result<Report, ReportFault>
     requires { length bytes.now < 2 ^ 31 }
     // What is read is spelled so.

@@ -5,7 +5,7 @@ ghost use Rattle.std.specs.List.{list_all};
 ghost use Rattle.text_lines.specs.Line.{IsIn, row_at};
 ghost use Rattle.text_lines.specs.Check.{Gives, line_part};
 ghost use Rattle.report_form.specs.Points.{are_rounds, numbers_from, rounds_line};
-ghost use Rattle.frontier_report.specs.Gives.{Reads};
+ghost use Rattle.frontier_report.specs.inner.Gives.{Reads};
 ghost use Rattle.report_lines.specs.Room.{HasRoom, Onward};
 
 use crate::report_stop::ReportStop;
@@ -48,7 +48,8 @@ fn sum_of(rounds: &[u16]) -> u64
     rounds.iter().map(|n| u64::from(*n)).sum()
 }
 
-/// Whether there is a number for each step, each from 1 to 9, and all of them together are the candidate's rounds.
+/// Whether there is a number for each step, each from 1 to 9, and all of them together are the
+/// candidate's rounds.
 fn are_rounds(candidate: Candidate, rounds: &[u16]) -> bool
     ensures { result ≡ are_rounds candidate rounds.now }
 {
@@ -98,16 +99,15 @@ fn rounds_on(
 /// Takes the line of the rounds.
 pub fn rounds_part(
     alloc: Global,
-    text: &[u8],
     lines: &mut Lines<'_>,
     candidate: Candidate,
 ) -> Result<Vec<u8>, ReportStop>
-    requires same { lines.old.text ≡ text.now }
     requires room { HasRoom lines.old.place }
     ensures read { Reads (λ v. (v.items, lines.new.place)) result (line_part (rounds_line candidate) lines.old.place) }
     ensures text { lines.new.text ≡ lines.old.text }
     ensures onward { OnOk result (Onward lines.old.place lines.new.place) }
 {
+    let text = lines.text();
     let line = next_line(lines)?;
     match rounds_on(alloc, text, line, candidate) {
         Ok(rounds) => Ok(rounds),

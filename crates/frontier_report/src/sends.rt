@@ -5,11 +5,11 @@ ghost use Rattle.text_lines.specs.Line.{IsIn, row_at};
 ghost use Rattle.schedule.specs.Sends.{hop_before};
 ghost use Rattle.report_form.specs.Lines.{lines_at};
 ghost use Rattle.report_form.specs.Points.{follows, may_be_sent, send_from, send_line};
-ghost use Rattle.frontier_report.specs.After.{send_after};
-ghost use Rattle.frontier_report.specs.Gives.{Reads};
+ghost use Rattle.frontier_report.specs.inner.After.{send_after};
+ghost use Rattle.frontier_report.specs.inner.Gives.{Reads};
 ghost use Rattle.text_lines.specs.Check.{Tells};
 ghost use Rattle.report_lines.specs.Room.{HasRoom, Onward};
-ghost use Rattle.frontier_report.specs.Wide.{hop_of};
+ghost use Rattle.frontier_report.specs.inner.Wide.{hop_of};
 
 use crate::report_stop::ReportStop;
 use indexmap::IndexSet;
@@ -20,8 +20,8 @@ use std::alloc::Global;
 use text_lines::{Line, Lines, Tokens};
 use topology_text::Name;
 
-/// A send between two nodes of the topology, as a line spells it: its numbers are at most 65,535, and no rule was tested
-/// yet.
+/// A send between two nodes of the topology, as a line spells it: its numbers are at most 65,535,
+/// and no rule was tested yet.
 #[derive(Clone, Copy, Debug)]
 pub struct WideHop {
     pub chunk: u16,
@@ -120,12 +120,10 @@ fn send_on(
 /// Takes the lines of the sends, up to the first line that is none.
 pub fn sends_part(
     alloc: Global,
-    text: &[u8],
     lines: &mut Lines<'_>,
     names: &IndexSet<Name>,
     extent: Extent,
 ) -> Result<Vec<Hop>, ReportStop>
-    requires same { lines.old.text ≡ text.now }
     requires room { HasRoom lines.old.place }
     requires few { length names.now.keys ≤ 16 }
     ensures read { Reads (λ v. (v.items, lines.new.place)) result (lines_at (codes "send ") (send_line names.now.keys extent.chunks extent.steps) lines.old.place) }
@@ -133,6 +131,7 @@ pub fn sends_part(
     ensures onward { OnOk result (Onward lines.old.place lines.new.place) }
     ensures fewer { OnOk result (length lines.new.place.rows ≤ length lines.old.place.rows) }
 {
+    let text = lines.text();
     let mut sends = Vec::new(alloc);
     let mut last = None;
     while let Some(line) = lines.peek() {

@@ -7,9 +7,9 @@ ghost use Rattle.collective_spec.specs.Patterns.{IsPattern};
 ghost use Rattle.topology_text.specs.Reading.{groups_at, header_line, nodes_line, pattern_at};
 ghost use Rattle.report_form.specs.SynthLine.{root_of};
 ghost use Rattle.report_form.specs.Lines.{among, blamed, whole_line};
-ghost use Rattle.frontier_report.specs.Gives.{Reads};
+ghost use Rattle.frontier_report.specs.inner.Gives.{Reads};
 ghost use Rattle.report_lines.specs.Gives.{TellsAt};
-ghost use Rattle.frontier_report.specs.Header.{stop_of, header_at, HasMuchRoom};
+ghost use Rattle.frontier_report.specs.inner.Header.{stop_of, header_at, HasMuchRoom};
 ghost use Rattle.report_lines.specs.Room.{Onward};
 
 use crate::report_stop::ReportStop;
@@ -21,7 +21,8 @@ use std::alloc::Global;
 use text_lines::{Lines, Stop};
 use topology_text::{Name, TopologyCode, groups_part, header_part, nodes_part, pattern_part};
 
-/// Why a line at which the topology's checks fail is refused: it may be lacking, or lack its line feed.
+/// Why a line at which the topology's checks fail is refused: it may be lacking, or lack its line
+/// feed.
 fn blame(text: &[u8], number: u32) -> ReportCode
     ensures { result ≡ blamed (whole_line (slice_get (rows_of text.now) (number - 1))) }
 {
@@ -57,15 +58,15 @@ fn stop_of(text: &[u8], stop: Stop<(TopologyCode, u32)>) -> ReportStop
 }
 
 /// Takes the topology's header, which is to be of the report's version.
-pub fn header_at(text: &[u8], lines: &mut Lines<'_>, patterned: bool) -> Result<(), ReportFault>
-    requires same { lines.old.text ≡ text.now }
+pub fn header_at(lines: &mut Lines<'_>, patterned: bool) -> Result<(), ReportFault>
     requires room { HasMuchRoom lines.old.place }
-    ensures read { TellsAt (λ _. lines.new.place) result (header_at (rows_of text.now) patterned lines.old.place) }
+    ensures read { TellsAt (λ _. lines.new.place) result (header_at (rows_of lines.old.text) patterned lines.old.place) }
     ensures text { lines.new.text ≡ lines.old.text }
     ensures onward { OnOk result (Onward lines.old.place lines.new.place) }
 {
+    let text = lines.text();
     let number = lines.number();
-    let said = match header_part(text, lines) {
+    let said = match header_part(lines) {
         Ok(said) => said,
         Err(fault) => return Err(among(text, fault)),
     };
@@ -80,19 +81,15 @@ pub fn header_at(text: &[u8], lines: &mut Lines<'_>, patterned: bool) -> Result<
 }
 
 /// Takes the names of the nodes.
-pub fn names_at(
-    alloc: Global,
-    text: &[u8],
-    lines: &mut Lines<'_>,
-) -> Result<IndexSet<Name>, ReportStop>
-    requires same { lines.old.text ≡ text.now }
+pub fn names_at(alloc: Global, lines: &mut Lines<'_>) -> Result<IndexSet<Name>, ReportStop>
     requires room { HasMuchRoom lines.old.place }
-    ensures read { Reads (λ names. (names.keys, lines.new.place)) result (among (rows_of text.now) (line_part nodes_line lines.old.place)) }
+    ensures read { Reads (λ names. (names.keys, lines.new.place)) result (among (rows_of lines.old.text) (line_part nodes_line lines.old.place)) }
     ensures few { IfOk result (λ names. length names.keys ≤ 16) }
     ensures text { lines.new.text ≡ lines.old.text }
     ensures onward { OnOk result (Onward lines.old.place lines.new.place) }
 {
-    match nodes_part(alloc, text, lines) {
+    let text = lines.text();
+    match nodes_part(alloc, lines) {
         Ok(names) => Ok(names),
         Err(stop) => Err(stop_of(text, stop)),
     }
@@ -118,18 +115,17 @@ pub fn root_at(names: &IndexSet<Name>, root: Option<Name>, line: u32) -> Result<
 /// Takes the groups of links.
 pub fn groups_in(
     alloc: Global,
-    text: &[u8],
     lines: &mut Lines<'_>,
     names: &IndexSet<Name>,
 ) -> Result<Vec<Group>, ReportStop>
-    requires same { lines.old.text ≡ text.now }
     requires room { HasMuchRoom lines.old.place }
     requires few { length names.now.keys ≤ 16 }
-    ensures read { Reads (λ v. (v.items, lines.new.place)) result (among (rows_of text.now) (groups_at names.now.keys lines.old.place)) }
+    ensures read { Reads (λ v. (v.items, lines.new.place)) result (among (rows_of lines.old.text) (groups_at names.now.keys lines.old.place)) }
     ensures text { lines.new.text ≡ lines.old.text }
     ensures onward { OnOk result (Onward lines.old.place lines.new.place) }
 {
-    match groups_part(alloc, text, names, lines) {
+    let text = lines.text();
+    match groups_part(alloc, names, lines) {
         Ok(groups) => Ok(groups),
         Err(stop) => Err(stop_of(text, stop)),
     }
@@ -138,20 +134,19 @@ pub fn groups_in(
 /// Takes the pattern, which a report of version 2 has.
 pub fn pattern_in(
     alloc: Global,
-    text: &[u8],
     lines: &mut Lines<'_>,
     patterned: bool,
     names: &IndexSet<Name>,
 ) -> Result<Option<Pattern>, ReportStop>
-    requires same { lines.old.text ≡ text.now }
     requires room { HasMuchRoom lines.old.place }
     requires few { length names.now.keys ≤ 16 }
-    ensures read { Reads (λ pattern. (pattern, lines.new.place)) result (among (rows_of text.now) (pattern_at patterned names.now.keys lines.old.place)) }
+    ensures read { Reads (λ pattern. (pattern, lines.new.place)) result (among (rows_of lines.old.text) (pattern_at patterned names.now.keys lines.old.place)) }
     ensures limits { IfOk result (λ pattern. IfSome pattern (IsPattern (length names.now.keys))) }
     ensures text { lines.new.text ≡ lines.old.text }
     ensures onward { OnOk result (Onward lines.old.place lines.new.place) }
 {
-    match pattern_part(alloc, text, patterned, names, lines) {
+    let text = lines.text();
+    match pattern_part(alloc, patterned, names, lines) {
         Ok(pattern) => Ok(pattern),
         Err(stop) => Err(stop_of(text, stop)),
     }

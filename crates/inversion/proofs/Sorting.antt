@@ -19,7 +19,7 @@ use Rattle.schedule.proofs.First.{Among-from_Contains, Contains-from_Among, InOr
 use Rattle.schedule.proofs.HopOrder.{Apart, among_in_order, ascending_apart, before_all, in_order_among, neither_before}
 use Rattle.schedule.proofs.Inverting.{apart_inverses, one_order, valid_inverse}
 use Rattle.schedule.proofs.Verdicts.{sends_one_way}
-use Rattle.inversion.specs.Order.{hop_cmp}
+use Rattle.inversion.specs.inner.Order.{hop_cmp}
 
 -- ---- the comparison tells the order
 

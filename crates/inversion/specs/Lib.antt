@@ -1,5 +1,5 @@
 pub mod Judging
 pub mod Saying
-pub mod Order
 pub mod Reductions
 pub mod Inverted
+pub mod inner

@@ -11,8 +11,9 @@ use crate::verdict::SumVerdict;
 use bag_runs::{Bag, Store};
 use schedule::Placement;
 
-/// Whether each pair of the demand has one contribution of each node, and if not, the first count that is another.
-pub(crate) fn counts_verdict(store: &Store, demand: &Placement) -> SumVerdict
+/// Whether each pair of the demand has one contribution of each node, and if not, the first count
+/// that is another.
+pub fn counts_verdict(store: &Store, demand: &Placement) -> SumVerdict
     requires chunks { demand.now.chunks ≡ store.now.chunks }
     requires nodes { demand.now.nodes ≡ store.now.nodes }
     ensures { (bags : Bags) → store.now ≡ stored store.now.chunks store.now.nodes bags
@@ -28,7 +29,8 @@ pub(crate) fn counts_verdict(store: &Store, demand: &Placement) -> SumVerdict
     }
 }
 
-/// The first chunk and node that are demanded, and the node that has not contributed to them exactly once.
+/// The first chunk and node that are demanded, and the node that has not contributed to them
+/// exactly once.
 fn first_uneven(store: &Store, demand: &Placement) -> Option<(u16, u8, u8)>
     requires chunks { demand.now.chunks ≡ store.now.chunks }
     requires nodes { demand.now.nodes ≡ store.now.nodes }

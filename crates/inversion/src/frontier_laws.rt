@@ -1,4 +1,5 @@
-//! What the frontier of a reduction is made of: that of the collective that copies, over the links turned round.
+//! What the frontier of a reduction is made of: that of the collective that copies, over the links
+//! turned round.
 
 ghost use Rattle.std.specs.Prelude.{◌≡◌, ◌≢◌, ◌↔◌, ℕ, true};
 ghost use Rattle.collective_spec.specs.Collectives.{IsSpec, adds_up, chunks_in, kind_in};
@@ -10,8 +11,8 @@ ghost use Rattle.inversion.specs.Inverted.{inverted_frontier};
 use candidate_order::Candidate;
 use collective_spec::{Kind, Spec};
 
-/// A right and searched frontier of the collective that copies, over the links turned round, is one of the reduction, with
-/// each schedule inverted.
+/// A right and searched frontier of the collective that copies, over the links turned round, is one
+/// of the reduction, with each schedule inverted.
 pub fn an_inverted_frontier_is_right()
     ensures right { (q : QuestionValue) (f : FrontierValue) → adds_up q.spec ≡ true → IsSpec q.topology.nodes q.spec
         → RightFrontier (copied_question q) f → Searched (copied_question q) f → RightFrontier q (inverted_frontier f) }
@@ -19,8 +20,8 @@ pub fn an_inverted_frontier_is_right()
         → RightFrontier (copied_question q) f → Searched (copied_question q) f → Searched q (inverted_frontier f) }
 {}
 
-/// A reduction is solvable in so many steps and rounds exactly where the collective that copies is, over the links turned
-/// round.
+/// A reduction is solvable in so many steps and rounds exactly where the collective that copies is,
+/// over the links turned round.
 pub fn a_reduction_is_solvable_where_its_copy_is()
     ensures { (q : QuestionValue) (x : Candidate) → adds_up q.spec ≡ true → kind_in q.spec ≢ Kind.Allreduce → IsSpec q.topology.nodes q.spec
         → IsSolvable q x ↔ IsSolvable (copied_question q) x }

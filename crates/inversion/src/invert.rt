@@ -12,16 +12,17 @@ ghost use Rattle.collective_spec.specs.Collectives.{IsSpec, adds_up};
 ghost use Rattle.candidate_order.specs.Frontiers.{QuestionValue, RightFrontier, Searched};
 ghost use Rattle.candidate_order.specs.Copied.{copied_question};
 ghost use Rattle.inversion.specs.Inverted.{inverted_frontier, inverted_point};
-ghost use Rattle.inversion.specs.Order.{hop_cmp};
+ghost use Rattle.inversion.specs.inner.Order.{hop_cmp};
 
 use candidate_order::{Frontier, Point};
 use schedule::{Hop, OutOfMemory, Schedule};
 use std::alloc::Global;
 use std::cmp::Ordering;
 
-/// The inverse of a schedule: the rounds from the last step to the first, and each send back, in the step that is as far
-/// from the last as its own is from the first. Of a schedule that wastes no send and brings each chunk from its one holder
-/// to every node, over the links turned round, it adds each chunk up at its holder. The only error is `OutOfMemory`.
+/// The inverse of a schedule: the rounds from the last step to the first, and each send back, in
+/// the step that is as far from the last as its own is from the first. Of a schedule that wastes no
+/// send and brings each chunk from its one holder to every node, over the links turned round, it
+/// adds each chunk up at its holder. The only error is `OutOfMemory`.
 pub fn invert_schedule(alloc: Global, schedule: &Schedule) -> Result<Schedule, OutOfMemory>
     ensures inverse { IfOk result (λ s. s ≡ inverse_of schedule.now) }
     ensures sums { IfOk result (λ s. (t : TopologyValue) (pre : PlacementValue) (steps rounds : ℕ) → IsPlacement pre → pre.nodes ≡ t.nodes → HeldByOne pre
@@ -63,8 +64,9 @@ fn hop_cmp(a: &Hop, b: &Hop) -> Ordering
         .then(a.to.cmp(&b.to))
 }
 
-/// The frontier with each point's schedule inverted, and the rest as it is. Of a frontier that is right and searched for the
-/// collective that copies, over the links turned round, this is one of the reduction. The only error is `OutOfMemory`.
+/// The frontier with each point's schedule inverted, and the rest as it is. Of a frontier that is
+/// right and searched for the collective that copies, over the links turned round, this is one of
+/// the reduction. The only error is `OutOfMemory`.
 pub fn invert_frontier(alloc: Global, frontier: &Frontier) -> Result<Frontier, OutOfMemory>
     ensures inverted { IfOk result (λ f. f ≡ inverted_frontier frontier.now) }
     ensures right { IfOk result (λ f. (q : QuestionValue) → adds_up q.spec ≡ true → IsSpec q.topology.nodes q.spec

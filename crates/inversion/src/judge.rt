@@ -5,7 +5,8 @@ ghost use Rattle.schedule.specs.Sends.{IsInRange, IsSchedule};
 ghost use Rattle.schedule.specs.Bags.{contributions};
 ghost use Rattle.schedule.specs.Summing.{Sums};
 ghost use Rattle.schedule.specs.JoinedRuns.{joined_after};
-ghost use Rattle.inversion.specs.Judging.{counts_judged, first_uneven, misfit_of, sum_verdict_of};
+ghost use Rattle.bag_runs.specs.Stores.{stored};
+ghost use Rattle.inversion.specs.Judging.{counts_judged, first_uneven, last_bags, misfit_of, sum_verdict_of};
 
 use crate::counting::counts_verdict;
 use crate::verdict::SumVerdict;
@@ -15,8 +16,9 @@ use schedule::{
 };
 use std::alloc::Global;
 
-/// Whether the schedule adds up what each node contributes, exactly once, at each pair of the demand within the bandwidth,
-/// and if not, what fails first: the links of the sends, the bandwidth of the groups, or a count. The only error is `OutOfMemory`.
+/// Whether the schedule adds up what each node contributes, exactly once, at each pair of the
+/// demand within the bandwidth, and if not, what fails first: the links of the sends, the bandwidth
+/// of the groups, or a count. The only error is `OutOfMemory`.
 pub fn sums(
     alloc: Global,
     topology: &Topology,
@@ -36,6 +38,25 @@ pub fn sums(
     judge_counts(alloc, topology, chunks, demand, schedule, adding)
 }
 
+/// The verdict that `sums` gives, where the store after the last step, of a run in which every step
+/// adds, is made already.
+pub fn sums_by_last(
+    topology: &Topology,
+    demand: &Placement,
+    schedule: &Schedule,
+    last: &Store,
+) -> SumVerdict
+    requires nodes { demand.now.nodes ≡ topology.now.nodes }
+    requires in_range { IsInRange 65536 topology.now.nodes schedule.now }
+    requires last { last.now ≡ stored demand.now.chunks topology.now.nodes (last_bags topology.now schedule.now) }
+    ensures { result ≡ sum_verdict_of topology.now demand.now schedule.now }
+{
+    if let Some(misfit) = first_misfit(topology, schedule) {
+        return misfit;
+    }
+    counts_verdict(last, demand)
+}
+
 /// The first send without a usable link, or else the first step and group over the bandwidth.
 pub fn first_misfit(topology: &Topology, schedule: &Schedule) -> Option<SumVerdict>
     requires { IsInRange 65536 topology.now.nodes schedule.now }
@@ -50,8 +71,9 @@ pub fn first_misfit(topology: &Topology, schedule: &Schedule) -> Option<SumVerdi
     Some(SumVerdict::Overfull { step, group, count })
 }
 
-/// Whether each pair of the demand, of so many chunks, ends with one contribution of each node, and if not, the first count
-/// that is another. The steps up to `adding` add, and the later ones copy. The only error is `OutOfMemory`.
+/// Whether each pair of the demand, of so many chunks, ends with one contribution of each node, and
+/// if not, the first count that is another. The steps up to `adding` add, and the later ones copy.
+/// The only error is `OutOfMemory`.
 pub fn judge_counts(
     alloc: Global,
     topology: &Topology,

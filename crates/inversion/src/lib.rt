@@ -10,6 +10,7 @@ pub mod reduction_laws;
 pub mod vectors;
 mod verdict;
 
+pub use counting::counts_verdict;
 pub use invert::{invert_frontier, invert_schedule};
-pub use judge::{first_misfit, judge_counts, sums};
+pub use judge::{first_misfit, judge_counts, sums, sums_by_last};
 pub use verdict::SumVerdict;

@@ -25,7 +25,8 @@ pub fn links_and_bandwidth_come_first()
     ensures overfull { sum_verdict_of twice_grouped (at_root 2 2) (plan (1 ∷ []) (send 0 0 1 1 ∷ send 1 0 1 1 ∷ [])) ≡ SumVerdict.Overfull 1 1 2 }
 {}
 
-/// A chunk that is there already, or that is not held, is not sent; and of two neighbours that send it, the first does.
+/// A chunk that is there already, or that is not held, is not sent; and of two neighbours that send
+/// it, the first does.
 pub fn wasted_sends_are_left_out()
     ensures again { tightened (at_root 1 2) (plan (1 ∷ 1 ∷ []) (send 0 0 1 1 ∷ send 0 1 0 1 ∷ send 0 0 1 2 ∷ send 0 1 0 2 ∷ []))
         ≡ plan (1 ∷ 1 ∷ []) (send 0 0 1 1 ∷ []) }

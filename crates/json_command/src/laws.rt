@@ -6,7 +6,8 @@ ghost use Rattle.command_words.specs.declared.command.JsonWhat.{JsonWhat};
 ghost use Rattle.command_words.specs.Words.{command_of};
 ghost use Rattle.run_rules.specs.Tasks.{Write, due, json_asked, limit, unjson_asked};
 
-/// What is due for the JSON of a text is that text, byte for byte; by the words, where the JSON is not too long to be read.
+/// What is due for the JSON of a text is that text, byte for byte; by the words, where the JSON is
+/// not too long to be read.
 pub fn json_is_read_back()
     ensures asked { (what : JsonWhat) (bytes text : List ℕ) → json_asked what None bytes ≡ Ok (Write text) → unjson_asked what text ≡ Ok (Write bytes) }
     ensures due { (words back : List (List ℕ)) (what : JsonWhat) → command_of words ≡ Ok (Json what None) → command_of back ≡ Ok (Unjson what)

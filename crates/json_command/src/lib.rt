@@ -1,4 +1,5 @@
-//! The commands that write a topology, a report or the programs of a point as JSON, and that read a topology or a report back.
+//! The commands that write a topology, a report or the programs of a point as JSON, and that read a
+//! topology or a report back.
 #![tactic(auto)]
 
 mod laws;

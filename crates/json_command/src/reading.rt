@@ -63,9 +63,9 @@ fn report_read(alloc: Global, bytes: &[u8]) -> Result<Answer, OutOfMemory>
     }
 }
 
-/// The answer to JSON that came whole: the text of the topology or of the report that it stands for; or the refusal of bytes
-/// that are no JSON, of a value that does not have the form, or of the text that it stands for, with the line of that text.
-/// The only error is `OutOfMemory`.
+/// The answer to JSON that came whole: the text of the topology or of the report that it stands
+/// for; or the refusal of bytes that are no JSON, of a value that does not have the form, or of the
+/// text that it stands for, with the line of that text. The only error is `OutOfMemory`.
 pub fn unjson_answer(alloc: Global, what: JsonWhat, bytes: &[u8]) -> Result<Answer, OutOfMemory>
     requires short { length bytes.now ≤ limit }
     requires single { what ≢ JsonWhat.Programs }

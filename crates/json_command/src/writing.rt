@@ -68,7 +68,8 @@ fn programs_in_report(
     })
 }
 
-/// The programs of a point of the report that the text spells, as JSON; or the refusal of the text or of the point.
+/// The programs of a point of the report that the text spells, as JSON; or the refusal of the text
+/// or of the point.
 fn programs_written(alloc: Global, asked: PointWord, bytes: &[u8]) -> Result<Answer, OutOfMemory>
     requires short { length bytes.now ≤ limit }
     ensures { IfOk result (λ a. IsAnswerAlone (json_asked JsonWhat.Programs (Some asked) bytes.now) a.status a.text.items) }
@@ -79,9 +80,9 @@ fn programs_written(alloc: Global, asked: PointWord, bytes: &[u8]) -> Result<Ans
     }
 }
 
-/// The answer to a text that came whole: what is asked for of it, as JSON without spaces, the keys of each object ascending,
-/// in a line; or the refusal of the text or of the point. A point is asked for with programs, and only with them. The only
-/// error is `OutOfMemory`.
+/// The answer to a text that came whole: what is asked for of it, as JSON without spaces, the keys
+/// of each object ascending, in a line; or the refusal of the text or of the point. A point is
+/// asked for with programs, and only with them. The only error is `OutOfMemory`.
 pub fn json_answer(
     alloc: Global,
     what: JsonWhat,

@@ -7,7 +7,7 @@ ghost use Rattle.json_values.specs.Shape.{has_keys};
 ghost use Rattle.json_values.specs.TopologyJson.{field};
 ghost use Rattle.json_values.specs.Appends.{Appends, line_text};
 ghost use Rattle.json_rules.specs.ReportJson.{send_in, word_in, marks, point_keys, adding_in, head_in, rounds_in, schedule_in, marked_in, point_in};
-ghost use Rattle.json_exchange.specs.Tokens.{number_tokens};
+ghost use Rattle.json_exchange.specs.inner.Tokens.{number_tokens};
 
 use crate::number_lines::NumberToken;
 use crate::token::{Token, push_line};

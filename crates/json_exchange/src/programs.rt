@@ -94,8 +94,9 @@ fn programs_value(
     json!(in alloc; {"point": point, "programs": nodes})
 }
 
-/// The programs of the point of this number as JSON without spaces, the keys of each object ascending, with a line feed
-/// behind. There is a name for each node. An `Err` comes only where memory runs out.
+/// The programs of the point of this number as JSON without spaces, the keys of each object
+/// ascending, with a line feed behind. There is a name for each node. An `Err` comes only where
+/// memory runs out.
 pub fn programs_json(
     alloc: Global,
     point: u32,

@@ -128,9 +128,9 @@ impl Piece for ReportLines {
     }
 }
 
-/// The report whose text the JSON stands for, of at most 1,048,576 bytes of JSON. `NotJson` comes exactly where the bytes
-/// are no JSON, `BadShape` exactly where their value does not have the form, and `BadText` exactly where `read_report`
-/// refuses its text, with that line.
+/// The report whose text the JSON stands for, of at most 1,048,576 bytes of JSON. `NotJson` comes
+/// exactly where the bytes are no JSON, `BadShape` exactly where their value does not have the
+/// form, and `BadText` exactly where `read_report` refuses its text, with that line.
 pub fn report_from_json(alloc: Global, bytes: &[u8]) -> Result<Report, JsonFault>
     requires { length bytes.now ≤ 1048576 }
     // What is read is JSON of the form, which stands for the text of the report.

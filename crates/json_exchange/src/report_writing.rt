@@ -204,8 +204,8 @@ fn report_value(alloc: Global, report: &Report) -> Result<Value, AllocError>
     json!(in alloc; {"frontiers": frontiers, "joined": joined, "topology": topology, "words": words})
 }
 
-/// The report as JSON without spaces, the keys of each object ascending, with a line feed behind. An `Err` comes only
-/// where memory runs out.
+/// The report as JSON without spaces, the keys of each object ascending, with a line feed behind.
+/// An `Err` comes only where memory runs out.
 pub fn report_json(alloc: Global, report: &Report) -> Result<Vec<u8>, AllocError>
     ensures printed { IfOk result (λ v. v.items ≡ printed (report_json report.now)) }
     // Reading it gives the report back.

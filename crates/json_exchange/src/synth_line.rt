@@ -6,7 +6,7 @@ ghost use Rattle.serde_json.specs.View.{view};
 ghost use Rattle.json_values.specs.Shape.{has_keys};
 ghost use Rattle.json_values.specs.Appends.{Appends};
 ghost use Rattle.json_rules.specs.ReportJson.{kind_in, words_keys, keyed_in, root_in, keyed_words_in, words_in, joins_in};
-ghost use Rattle.json_exchange.specs.Tokens.{root_tokens};
+ghost use Rattle.json_exchange.specs.inner.Tokens.{root_tokens};
 
 use crate::token::{Token, push_line};
 use collective_spec::Kind;

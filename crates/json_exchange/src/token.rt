@@ -2,7 +2,7 @@
 
 ghost use Rattle.std.specs.Prelude.{◌≡◌, [], ◌∷◌, ◌++◌, map, OnOk};
 ghost use Rattle.text_lines.specs.Text.{line, fields};
-ghost use Rattle.json_exchange.specs.Tokens.{token_bytes};
+ghost use Rattle.json_exchange.specs.inner.Tokens.{token_bytes};
 
 use std::alloc::AllocError;
 use text_lines::{push_number, push_word};

@@ -9,7 +9,7 @@ use Rattle.serde_json.specs.View.{items_view}
 use Rattle.serde_json.specs.declared.value.Value.{Value}
 use Rattle.json_values.specs.Shape.{◌>>=◌, list_in, name_in, has_keys}
 use Rattle.json_values.specs.TopologyJson.{holder_line, chunk_lines, field, custom_in}
-use Rattle.json_values.specs.Fields.{custom_fields}
+use Rattle.json_values.specs.inner.Fields.{custom_fields}
 
 -- the bytes, and the lines of these chunks behind them, of which the first has the number g
 abbrev pub with_chunks : ℕ → List ℕ → List Value → List Value → Option (List ℕ)

@@ -5,7 +5,7 @@ use Rattle.serde_json.specs.Data.{Data}
 use Rattle.serde_json.specs.Find.{get}
 use Rattle.json_values.specs.Shape.{◌>>=◌, list_in, count_in, has_keys}
 use Rattle.json_values.specs.TopologyJson.{link_in, field, group_in}
-use Rattle.json_values.specs.Fields.{group_fields}
+use Rattle.json_values.specs.inner.Fields.{group_fields}
 
 abbrev closed : ℕ × Data → Option (List (List ℕ))
 closed x = list_in link_in x.1 >>= λ links. Some (codes "group" ∷ decimal x.0 ∷ links)

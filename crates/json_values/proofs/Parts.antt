@@ -10,7 +10,7 @@ use Rattle.serde_json.specs.Data.{Data}
 use Rattle.serde_json.specs.Find.{get}
 use Rattle.json_values.specs.Shape.{◌>>=◌, list_in, name_in, has_keys}
 use Rattle.json_values.specs.TopologyJson.{group_in, keys_of, version_in, pattern_in, parts_in, topology_in}
-use Rattle.json_values.specs.Fields.{topology_fields}
+use Rattle.json_values.specs.inner.Fields.{topology_fields}
 use Rattle.json_values.specs.Appends.{Appends}
 
 -- what was appended behind a front that was written before

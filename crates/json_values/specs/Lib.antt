@@ -4,5 +4,5 @@ pub mod Shape
 pub mod TopologyJson
 pub mod Answer
 pub mod Appends
-pub mod Fields
 pub mod Rows
+pub mod inner

@@ -30,8 +30,8 @@ impl JsonCode {
     }
 }
 
-/// The first check that failed. With `BadText` the place is the line, from 1, at which the text is refused that the JSON
-/// stands for; with the other codes it is 0.
+/// The first check that failed. With `BadText` the place is the line, from 1, at which the text is
+/// refused that the JSON stands for; with the other codes it is 0.
 #[derive(Clone, Copy, PartialEq, Eq)]
 pub struct JsonFault {
     pub code: JsonCode,

@@ -27,8 +27,8 @@ fn value_of(alloc: Global, bytes: &[u8]) -> Result<Value, JsonCode>
     }
 }
 
-/// The text that the JSON stands for. `NotJson` comes exactly where the bytes are no JSON, and `BadShape` exactly where
-/// their value does not have the shape of such a piece.
+/// The text that the JSON stands for. `NotJson` comes exactly where the bytes are no JSON, and
+/// `BadShape` exactly where their value does not have the shape of such a piece.
 pub fn text_in<P: Piece>(alloc: Global, bytes: &[u8]) -> Result<Vec<u8>, JsonCode>
     ensures { GivesText result (text_of_json P.text bytes.now) }
 {

@@ -8,16 +8,16 @@ ghost use Rattle.json_values.specs.Shape.{count_in, name_in, are_keys, has_keys}
 use serde_json::{Map, Value};
 use topology_text::Name;
 
-/// The whole number that the value is, from 0 to 2^64 - 1. `None` comes exactly where it is none: a number with a sign, a
-/// fraction or an exponent is none, whatever its value.
+/// The whole number that the value is, from 0 to 2^64 - 1. `None` comes exactly where it is none: a
+/// number with a sign, a fraction or an exponent is none, whatever its value.
 pub fn count_in(value: &Value) -> Option<u64>
     ensures { result ≡ count_in (view value.now) }
 {
     value.as_u64()
 }
 
-/// The name of a node that the value is: a text of 1 to 16 bytes of a to z, 0 to 9 and `_`. `None` comes exactly where it is
-/// none.
+/// The name of a node that the value is: a text of 1 to 16 bytes of a to z, 0 to 9 and `_`. `None`
+/// comes exactly where it is none.
 pub fn name_in(value: &Value) -> Option<&str>
     ensures { option_map (λ s. s.now) result ≡ name_in (view value.now) }
 {
@@ -54,8 +54,8 @@ fn are_keys(keys: &[&str], members: &Map<String, Value>) -> bool
     left.is_empty()
 }
 
-/// Whether the value is an object with exactly these keys, which are to be given in ascending order. In which order they
-/// stood in the bytes counts for nothing.
+/// Whether the value is an object with exactly these keys, which are to be given in ascending
+/// order. In which order they stood in the bytes counts for nothing.
 pub fn has_keys(value: &Value, keys: &[&str]) -> bool
     ensures { result ≡ has_keys (map (λ k. k.now) keys.now) (view value.now) }
 {

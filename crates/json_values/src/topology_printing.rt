@@ -121,8 +121,8 @@ pub fn topology_value(alloc: Global, value: &NamedTopology) -> Result<Value, All
     }
 }
 
-/// The topology as JSON without spaces, the keys of each object ascending, with a line feed behind. An `Err` comes only
-/// where memory runs out.
+/// The topology as JSON without spaces, the keys of each object ascending, with a line feed behind.
+/// An `Err` comes only where memory runs out.
 pub fn topology_json(alloc: Global, value: &NamedTopology) -> Result<Vec<u8>, AllocError>
     ensures printed { IfOk result (λ v. v.items ≡ printed (topology_json value.now)) }
     // Reading it gives the value back.

@@ -9,7 +9,7 @@ ghost use Rattle.topology_text.specs.Spelling.{spelling, head_words};
 ghost use Rattle.json_values.specs.Json.{value_of};
 ghost use Rattle.json_values.specs.Shape.{name_in, list_in, has_keys};
 ghost use Rattle.json_values.specs.TopologyJson.{link_in, group_in, holder_line, chunk_lines, custom_in, version_in, keys_of, pattern_in, topology_text_in};
-ghost use Rattle.json_values.specs.Fields.{group_fields, custom_fields, topology_fields};
+ghost use Rattle.json_values.specs.inner.Fields.{group_fields, custom_fields, topology_fields};
 ghost use Rattle.json_values.specs.Appends.{Appends, token_text, line_text};
 ghost use Rattle.json_values.specs.Answer.{topology_of_json, Answers};
 
@@ -161,8 +161,8 @@ fn push_pattern(out: &mut Vec<u8>, patterned: bool, value: &Value) -> Result<(),
     }
 }
 
-/// Whether a topology has a pattern, by its version, which is 1 or 2. `None` comes exactly where the value has no such
-/// version.
+/// Whether a topology has a pattern, by its version, which is 1 or 2. `None` comes exactly where
+/// the value has no such version.
 pub fn version_in(value: &Value) -> Option<bool>
     ensures { result ≡ version_in (view value.now) }
 {
@@ -241,8 +241,9 @@ impl Piece for TopologyLines {
     }
 }
 
-/// The topology whose text the JSON stands for. `NotJson` comes exactly where the bytes are no JSON, `BadShape` exactly where
-/// their value does not have the form, and `BadText` exactly where `read_topology` refuses its text, with that line.
+/// The topology whose text the JSON stands for. `NotJson` comes exactly where the bytes are no
+/// JSON, `BadShape` exactly where their value does not have the form, and `BadText` exactly where
+/// `read_topology` refuses its text, with that line.
 pub fn topology_from_json(alloc: Global, bytes: &[u8]) -> Result<NamedTopology, JsonFault>
     // What is read is JSON of the form, which stands for the text of the topology.
     ensures found { IfOk result (λ t. IsNamed t × (d : Data) × (value_of bytes.now ≡ Some d) × (topology_text_in d ≡ Some (spelling t))) }

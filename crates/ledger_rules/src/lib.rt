@@ -1,4 +1,5 @@
-//! What every ledger owes: where a search writes its lines, beside a store that is lent to each call.
+//! What every ledger owes: where a search writes its lines, beside a store that is lent to each
+//! call.
 #![tactic(auto)]
 
 mod fault;

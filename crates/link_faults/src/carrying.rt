@@ -3,8 +3,8 @@ ghost use Rattle.link_faults.specs.Carrying.{Carries, is_carried, is_carrier};
 
 use candidate_order::Candidate;
 
-/// Whether `a`, where it is refuted before a fault, leaves `b` refuted after it: as many steps, no fewer rounds, and no more
-/// chunks. It takes no memory.
+/// Whether `a`, where it is refuted before a fault, leaves `b` refuted after it: as many steps, no
+/// fewer rounds, and no more chunks. It takes no memory.
 pub fn carries(a: Candidate, b: Candidate) -> bool
     ensures carries { IsTrue result ↔ Carries a b }
     ensures told { result ≡ is_carrier a b }

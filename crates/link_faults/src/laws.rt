@@ -37,8 +37,8 @@ pub fn what_is_solvable_after_a_fault_was_before()
         → SummedSolvable (narrowed t group width) demand steps rounds → SummedSolvable t demand steps rounds }
 {}
 
-/// A candidate with few rounds that carries another is solvable before a fault where the other is after it. So where it is
-/// refuted before, the other is after it.
+/// A candidate with few rounds that carries another is solvable before a fault where the other is
+/// after it. So where it is refuted before, the other is after it.
 pub fn refutations_carry_over_a_fault()
     ensures solvable { (q : QuestionValue) (group width : ℕ) (a b : Candidate) → width ≤ (group_at q.topology group).width → HasFewRounds a → Carries a b
         → IsSolvable (narrowed_question q group width) b → IsSolvable q a }
@@ -46,8 +46,9 @@ pub fn refutations_carry_over_a_fault()
         → (IsSolvable q a → ⊥) → IsSolvable (narrowed_question q group width) b → ⊥ }
 {}
 
-/// Narrowing a topology and turning its links round, in either order, is the same, and the groups keep their numbers and widths.
-/// So the collective that copies in place of a reduction is asked for over the narrowed links turned round.
+/// Narrowing a topology and turning its links round, in either order, is the same, and the groups
+/// keep their numbers and widths. So the collective that copies in place of a reduction is asked
+/// for over the narrowed links turned round.
 pub fn a_fault_turns_round()
     ensures topology { (t : TopologyValue) (group width : ℕ) → narrowed (reversed_of t) group width ≡ reversed_of (narrowed t group width) }
     ensures question { (q : QuestionValue) (group width : ℕ) → narrowed_question (copied_question q) group width ≡ copied_question (narrowed_question q group width) }
@@ -61,7 +62,8 @@ pub fn old_refutations_turn_round()
         → All (IsOldRefuted q) old → All (IsOldRefuted (copied_question q)) old }
 {}
 
-/// Where each old candidate has few rounds and no schedule before a fault, no candidate that one of them carries has one after it.
+/// Where each old candidate has few rounds and no schedule before a fault, no candidate that one of
+/// them carries has one after it.
 pub fn what_is_carried_has_no_schedule()
     ensures { (q : QuestionValue) (group width : ℕ) (old : List Candidate) → width ≤ (group_at q.topology group).width → All (IsOldRefuted q) old
         → (x : Candidate) → is_carried old x ≡ true → IsSolvable (narrowed_question q group width) x → ⊥ }
@@ -73,14 +75,15 @@ pub fn carriers_are_told_exactly()
     ensures some { (old : List Candidate) (x : Candidate) → (is_carried old x ≡ true) ↔ Any (λ a. Carries a x) old }
 {}
 
-/// Each candidate carries itself, and where one carries a second and the second a third, it carries the third.
+/// Each candidate carries itself, and where one carries a second and the second a third, it carries
+/// the third.
 pub fn carrying_is_an_order()
     ensures itself { (a : Candidate) → Carries a a }
     ensures both { (a b c : Candidate) → Carries a b → Carries b c → Carries a c }
 {}
 
-/// A search over the links that a fault left has the same candidates within its limits, and is no larger. So where the given one
-/// may be searched, this one may.
+/// A search over the links that a fault left has the same candidates within its limits, and is no
+/// larger. So where the given one may be searched, this one may.
 pub fn a_fault_makes_no_search_larger()
     ensures within { (q : QuestionValue) (group width : ℕ) (x : Candidate) → IsWithin (narrowed_question q group width) x ↔ IsWithin q x }
     ensures size { (q : QuestionValue) (group width : ℕ) → width ≤ (group_at q.topology group).width → size_of (narrowed_question q group width) ≤ size_of q }

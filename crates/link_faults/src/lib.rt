@@ -1,4 +1,5 @@
-//! Topologies after a fault: the links of a group have a smaller width or are gone, and what was refuted stays refuted.
+//! Topologies after a fault: the links of a group have a smaller width or are gone, and what was
+//! refuted stays refuted.
 #![tactic(auto)]
 
 mod carrying;

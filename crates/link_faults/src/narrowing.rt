@@ -92,8 +92,9 @@ fn groups_after(
     }
 }
 
-/// The topology after a fault that leaves a group so wide: where `width` is 0, its links are gone from every group, and a group
-/// that is left without links is dropped. The names and the pattern stay. The only error is `OutOfMemory`.
+/// The topology after a fault that leaves a group so wide: where `width` is 0, its links are gone
+/// from every group, and a group that is left without links is dropped. The names and the pattern
+/// stay. The only error is `OutOfMemory`.
 pub fn narrow(
     alloc: Global,
     value: &NamedTopology,

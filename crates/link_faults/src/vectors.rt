@@ -13,7 +13,8 @@ pub fn links_go()
     ensures second { narrowed line_of_3 1 0 ≡ record { nodes = 3; groups = only 0 1 1 ∷ only 1 2 1 ∷ only 2 1 1 ∷ [] } }
 {}
 
-/// The links of a group are gone from every group, and one that has none left is dropped; but a narrower group keeps them.
+/// The links of a group are gone from every group, and one that has none left is dropped; but a
+/// narrower group keeps them.
 pub fn links_go_from_every_group()
     ensures all { narrowed (shared_pair 4) 0 0 ≡ record { nodes = 2; groups = [] } }
     ensures one { narrowed (shared_pair 4) 1 0 ≡ record { nodes = 2; groups = only 1 0 4 ∷ [] } }

@@ -13,7 +13,7 @@ use Rattle.proof_rules.specs.declared.verdict.LineCode.TheVariants.{IdNotGreater
 use Rattle.proof_rules.specs.Held.{Entry, CheckerValue}
 use Rattle.proof_rules.specs.Judging.{verdict_of, deletion_verdict, are_held, has_number_twice, is_foreign, has_variable_twice, led_verdict}
 use Rattle.proof_rules.specs.Accepting.{IsNew}
-use Rattle.lrat_checker.specs.Marking.{MarksValue}
+use Rattle.lrat_checker.specs.inner.Marking.{MarksValue}
 use Rattle.lrat_checker.specs.Stored.{TableValue}
 use Rattle.lrat_checker.specs.Checking.{checker_of, CanCheck}
 use Rattle.proof_rules.specs.Refuting.{is_accepted, is_empty, with_line, IsChecker}

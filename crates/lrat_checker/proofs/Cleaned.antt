@@ -1,26 +1,15 @@
 -- Lists without the places of clauses that are no longer held.
-use Rattle.std.proofs.Common.{◌≡◌, ◌⊎◌, ℕ, zero, suc, ◌<◌, Bool, true, List, [], ◌∷◌, length, get_or, set, sym, ap, ◌∙◌, subst, ⊎_elim, arith}
-use Rattle.std.specs.Prelude.{if◌then◌else◌, not, All, Contains, filter}
-use Rattle.std.proofs.lemmas.Bool.{cases_Bool, cases_eq, and_parts}
+use Rattle.std.proofs.Common.{◌≡◌, ◌⊎◌, ℕ, ◌<◌, Bool, true, List, [], length, get_or, set, sym, ap, ◌∙◌, subst, ⊎_elim, arith}
+use Rattle.std.specs.Prelude.{not, All, Contains, filter}
+use Rattle.std.proofs.lemmas.Bool.{cases_eq, and_parts}
 use Rattle.std.proofs.lemmas.List.{get_or-set_same, get_or-set_other, length-set}
 use Rattle.std.proofs.lemmas.List.Elements.{filter_passes}
+use Rattle.list_laws.proofs.Members.{Contains-filter}
 use Rattle.cnf_formula.specs.Literals.{LitValue, code_of}
 use Rattle.lrat_checker.specs.declared.leads.LedClause.{LedClause}
 use Rattle.lrat_checker.specs.Stored.{list_at, is_held, kept_live, IsStored}
 use Rattle.lrat_checker.proofs.Placed.{live_within}
 use Rattle.lrat_checker.proofs.Removed.{among, kept_at, kept_long}
-
--- ---- what passes stays
-
-stays_behind : (test : ℕ → Bool) (x : ℕ) (xs : List ℕ) (k : ℕ) → Contains (filter test xs) k → Contains (filter test (x ∷ xs)) k
-stays_behind test x xs k (j, w, e) =
-    let more : List ℕ → Bool → List ℕ = λ ys b. if b then x ∷ ys else ys in
-    ⊎_elim (λ t. subst (λ b. Contains (more (filter test xs) b) k) (sym t) (suc j, omega (arith, w), e)) (λ f. subst (λ b. Contains (more (filter test xs) b) k) (sym f) (j, w, e)) (cases_Bool (test x))
-
-pub stays : (test : ℕ → Bool) (xs : List ℕ) (k : ℕ) → test k ≡ true → Contains xs k → Contains (filter test xs) k
-stays test [] k t (j, w, e) = absurd (omega (arith, w))
-stays test (x ∷ xs) k t (zero, w, e) = subst (λ b. Contains (if b then x ∷ filter test xs else filter test xs) k) (sym (ap test e ∙ t)) (0, omega arith, e)
-stays test (x ∷ xs) k t (suc j, w, e) = stays_behind test x xs k (stays test xs k t (j, omega (arith, w), e))
 
 -- a list without what is no longer held
 abbrev pub cleaned : List Bool → List (List ℕ) → ℕ → List (List ℕ)
@@ -29,7 +18,7 @@ cleaned live lists code = set lists code (filter (is_held live) (list_at lists c
 pub still_there : (live : List Bool) (lists : List (List ℕ)) (code other k : ℕ) → code < length lists → is_held live k ≡ true → Contains (list_at lists other) k → Contains (list_at (cleaned live lists code) other) k
 still_there live lists code other k w a h =
     let new = filter (is_held live) (list_at lists code) in
-    ⊎_elim (λ e. subst (λ xs. Contains xs k) (sym (ap (list_at (cleaned live lists code)) e ∙ get_or-set_same lists code new [] w)) (stays (is_held live) (list_at lists code) k a (subst (λ c. Contains (list_at lists c) k) e h)))
+    ⊎_elim (λ e. subst (λ xs. Contains xs k) (sym (ap (list_at (cleaned live lists code)) e ∙ get_or-set_same lists code new [] w)) (Contains-filter (is_held live) (list_at lists code) k a (subst (λ c. Contains (list_at lists c) k) e h)))
     (λ n. subst (λ xs. Contains xs k) (sym (get_or-set_other lists code other new [] n)) h)
     (cases_eq other code)
 

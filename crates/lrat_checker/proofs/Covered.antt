@@ -9,7 +9,7 @@ use Rattle.std.proofs.lemmas.List.Sums.{AllPass-from_list_all}
 use Rattle.std.proofs.lemmas.Map.Views.{Contains-from_any}
 use Rattle.cnf_formula.specs.Literals.{LitValue, has_literal, is_superset, code_of}
 use Rattle.cnf_formula.proofs.Clauses.{same_is}
-use Rattle.lrat_checker.specs.Leads.{signature_of, has_bits_within, IsLead}
+use Rattle.lrat_checker.specs.inner.Leads.{signature_of, has_bits_within, IsLead}
 use Rattle.lrat_checker.specs.declared.leads.LedClause.{LedClause}
 use Rattle.lrat_checker.specs.Stored.{list_at, led_as, IsLed, held_of, covers, finds}
 use Rattle.lrat_checker.proofs.Signed.{signature_within}

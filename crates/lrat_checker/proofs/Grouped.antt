@@ -15,7 +15,7 @@ use Rattle.cnf_formula.specs.Literals.{LitValue}
 use Rattle.proof_rules.specs.Held.{Entry, clause_at}
 use Rattle.proof_rules.specs.Judging.{Fault, group_fault, groups_fault}
 use Rattle.proof_rules.specs.Accepting.{Group, leading, groups_from, groups_of}
-use Rattle.lrat_checker.specs.Steps.{Same}
+use Rattle.lrat_checker.specs.inner.Steps.{Same}
 
 -- the groups before this place have no fault, and their clauses are in the set
 pub record Left (held : List Entry) (pivot : LitValue) (start : List LitValue) (hints : List ℤ) (named : BTreeSet ℕ) (at : ℕ) : Type 0 where

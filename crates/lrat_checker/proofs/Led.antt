@@ -2,11 +2,11 @@
 use Rattle.std.proofs.Common.{ℕ, ◌+◌, ◌*◌, ◌<◌, List, [], ◌∷◌, arith}
 use Rattle.std.proofs.lemmas.List.Elements.{All-contains}
 use Rattle.std.proofs.lemmas.Map.Views.{Contains-from_any}
+use Rattle.cnf_formula.proofs.Codes.{code_within}
 use Rattle.cnf_formula.specs.Literals.{LitValue}
 use Rattle.cnf_formula.specs.Formulas.{IsAbout, IsClause}
 use Rattle.cnf_formula.proofs.Clauses.{same_is}
-use Rattle.lrat_checker.specs.Leads.{IsLead}
-use Rattle.lrat_checker.proofs.Marked.{code_within}
+use Rattle.lrat_checker.specs.inner.Leads.{IsLead}
 
 pub lead_within : (vars : ℕ) (lits : List LitValue) (code : ℕ) → IsClause vars lits → IsLead lits code → code < 2 * vars + 2
 lead_within vars [] code about e = omega (arith, e)

@@ -1,14 +1,14 @@
 -- Marks on literals, counted in a table.
-use Rattle.std.proofs.Common.{◌≡◌, ℕ, ◌+◌, ◌-◌, ◌*◌, ◌<◌, ◌≤◌, Bool, true, false, cond, List, [], ◌∷◌, ◌++◌, length, take, drop, get_or, set, refl, sym, ap, ◌∙◌, subst, ⊎_elim, arith}
+use Rattle.std.proofs.Common.{◌≡◌, ℕ, ◌+◌, ◌-◌, ◌<◌, ◌≤◌, Bool, true, false, cond, List, [], ◌∷◌, ◌++◌, length, take, drop, get_or, set, refl, sym, ap, ◌∙◌, subst, ⊎_elim, arith}
 use Rattle.std.specs.Prelude.{◌||◌, nat_lt, All, reverse}
 use Rattle.std.proofs.lemmas.Bool.{false≢true, cases_Bool, lt-ltb}
-use Rattle.std.proofs.lemmas.List.{length-set, get_or_append_left, get_or-set_same, get_or-set_other, length_push, take_at, take-take, reverse-append, length-reverse, take-append-drop, drop_at, length-drop, get_or_read}
+use Rattle.std.proofs.lemmas.List.{length-set, get_or_append_left, get_or-set_same, get_or-set_other, length_push, reverse-append, length-reverse, take-append-drop, drop_at, length-drop, get_or_read}
 use Rattle.std.proofs.lemmas.List.Elements.{All-head, All-tail, All-push}
 use Rattle.cnf_formula.specs.Literals.{LitValue, same_literal, has_literal, code_of}
 use Rattle.cnf_formula.specs.Formulas.{IsAbout}
 use Rattle.cnf_formula.proofs.Clauses.{same_is}
-use Rattle.cnf_formula.proofs.Codes.{same_code}
-use Rattle.lrat_checker.specs.Marking.{times, IsCounted}
+use Rattle.cnf_formula.proofs.Codes.{same_code, code_within}
+use Rattle.lrat_checker.specs.inner.Marking.{times, IsCounted}
 use Rattle.proof_rules.proofs.Taking.{same_itself}
 
 -- ---- how often a literal stands in a list
@@ -55,13 +55,6 @@ has-reverse l (x ∷ xs) =
     ∙ ap (λ b. has_literal (x ∷ []) l || b) (has-reverse l xs) ∙ sym (has-append l (x ∷ []) xs)
 
 -- ---- the table
-
-pub code_within : (vars : ℕ) (l : LitValue) → IsAbout vars l → code_of l < 2 * vars + 2
-code_within vars l a = go l.positive
-  where
-    go : (b : Bool) → 2 * l.var + cond {A = ℕ} b 0 1 < 2 * vars + 2
-    go true = let w = a.within in omega (arith, w)
-    go false = let w = a.within in omega (arith, w)
 
 apart : (l x : LitValue) → same_literal l x ≡ false → code_of l ≡ code_of x → ⊥
 apart l x f e = false≢true (sym f ∙ subst (λ y. same_literal l y ≡ true) (same_code l x e) (same_itself l))
@@ -119,13 +112,6 @@ counted_fewer vars counts marked x n c e =
     about_front ms h = λ k d w. subst (IsAbout vars) (get_or_append_left ms (x ∷ []) d k w) (h k d (omega (arith, w, length_push ms x)))
 
 -- ---- marks are taken back
-
--- one literal fewer at the front of a list
-pub shorter : (ls xs ys : List LitValue) (x : LitValue) → ls ≡ xs ++ x ∷ [] → ls ≡ take (length ls) ys → xs ≡ take (length xs) ys
-shorter ls xs ys x e f =
-    let n : length ls ≡ length xs + 1 = ap length e ∙ length_push xs x in
-    let g : take (length xs) ls ≡ xs = ap (take (length xs)) e ∙ take_at xs (x ∷ []) (length xs) refl in
-    sym g ∙ ap (take (length xs)) f ∙ take-take (length xs) (length ls) ys (omega (arith, n))
 
 pub reverse-take : (k : ℕ) (xs : List LitValue) → k ≤ length xs → reverse (take k xs) ≡ drop (length xs - k) (reverse xs)
 reverse-take k xs w =

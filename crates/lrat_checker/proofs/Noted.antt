@@ -2,12 +2,13 @@
 use Rattle.std.proofs.Common.{◌≡◌, ℕ, ◌+◌, ◌<◌, Bool, true, false, List, [], ◌∷◌, ◌++◌, length, take, get_or, set, refl, sym, ap, ◌∙◌, subst, ⊎_elim, arith}
 use Rattle.std.specs.Prelude.{◌||◌, All, Contains}
 use Rattle.std.specs.List.{list_all}
-use Rattle.std.proofs.lemmas.Bool.{false≢true, cases_eq, cases_lt, cases_Bool, or_cases}
-use Rattle.std.proofs.lemmas.List.{get_or-set_same, get_or-set_other, take_more, get_or_append_left, get_or_push, length_push}
+use Rattle.std.proofs.lemmas.Bool.{false≢true, cases_eq, cases_Bool, or_cases}
+use Rattle.std.proofs.lemmas.List.{get_or-set_same, get_or-set_other, take_more, get_or_append_left, length_push}
 use Rattle.std.proofs.lemmas.List.Folds.{list_any-append}
+use Rattle.list_laws.proofs.Places.{by_place_push}
 use Rattle.cnf_formula.specs.Literals.{LitValue, same_literal, has_literal, code_of, negation}
 use Rattle.cnf_formula.proofs.Clauses.{same_is}
-use Rattle.lrat_checker.specs.Leads.{IsLead}
+use Rattle.lrat_checker.specs.inner.Leads.{IsLead}
 use Rattle.lrat_checker.specs.declared.leads.LedClause.{LedClause}
 use Rattle.lrat_checker.specs.Stored.{list_at, is_held, answers, IsIndexed, led_as, IsLed, IsStored, held_of, last_of}
 use Rattle.proof_rules.specs.Accepting.{Group, has_negated, is_answered}
@@ -15,12 +16,6 @@ use Rattle.lrat_checker.proofs.Placed.{all_by_place, not_all, rises_push, live_w
 use Rattle.std.proofs.lemmas.List.Elements.{All-push, All-contains}
 use Rattle.std.proofs.lemmas.List.Sums.{AllPass-from_list_all}
 use Rattle.cnf_formula.specs.Formulas.{IsClause}
-
-pub contains_more : {A : Type 0} (xs : List A) (y x : A) → Contains xs x → Contains (xs ++ y ∷ []) x
-contains_more xs y x (k, w, e) = let n = length_push xs y in (k, omega (arith, n, w), get_or_append_left xs (y ∷ []) x k w ∙ e)
-
-pub contains_new : {A : Type 0} (xs : List A) (y : A) → Contains (xs ++ y ∷ []) y
-contains_new xs y = let n = length_push xs y in (length xs, omega (arith, n), get_or_push xs y y (length xs) refl)
 
 pub grown : {A : Type 0} (ls : List (List A)) (k : ℕ) (new : List A) → k < length ls → ((x : A) → Contains (list_at ls k) x → Contains new x) → (code : ℕ) (x : A) → Contains (list_at ls code) x → Contains (list_at (set ls k new) code) x
 grown ls k new w more code x h =
@@ -99,16 +94,6 @@ stored_grown vars ids live clauses lists lists' leads leads' s long kept wide he
 
 -- ---- one clause more
 
--- what holds of each clause by its place holds with one more
-pub by_place_push : (P : ℕ → List LitValue → Type 0) (clauses : List (List LitValue)) (lits : List LitValue) → ((k : ℕ) → k < length clauses → P k (get_or clauses k [])) → P (length clauses) lits → (k : ℕ) → k < length (clauses ++ lits ∷ []) → P k (get_or (clauses ++ lits ∷ []) k [])
-by_place_push P clauses lits old new k w =
-    let n = length_push clauses lits in
-    ⊎_elim (λ u. subst (P k) (sym (get_or_append_left clauses (lits ∷ []) [] k u)) (old k u))
-    (λ u.
-    let at : length clauses ≡ k = omega (arith, u, w, n) in
-    subst (P k) (sym (get_or_push clauses lits [] k at)) (subst (λ j. P j lits) at new))
-    (cases_lt k (length clauses))
-
 pub indexed_push : (vars : ℕ) (live : List Bool) (clauses : List (List LitValue)) (lists lists' : List (List ℕ)) (lits : List LitValue) (b : Bool) → IsIndexed vars live clauses lists → length live ≡ length clauses → length lists' ≡ length lists
     → ((code k : ℕ) → Contains (list_at lists code) k → Contains (list_at lists' code) k) → ((l : LitValue) → has_literal lits l ≡ true → Contains (list_at lists' (code_of l)) (length clauses))
     → IsIndexed vars (live ++ b ∷ []) (clauses ++ lits ∷ []) lists'
@@ -116,7 +101,7 @@ indexed_push vars live clauses lists lists' lits b i l long kept noted = record 
   long = long ∙ i.long;
   each = λ k x a h.
       let w = live_within (live ++ b ∷ []) k a in
-      by_place_push (λ k c. is_held (live ++ b ∷ []) k ≡ true → (x : LitValue) → has_literal c x ≡ true → Contains (list_at lists' (code_of x)) k) clauses lits
+      by_place_push (λ k c. is_held (live ++ b ∷ []) k ≡ true → (x : LitValue) → has_literal c x ≡ true → Contains (list_at lists' (code_of x)) k) clauses lits []
       (λ k u a x h. kept (code_of x) k (i.each k x (sym (get_or_append_left live (b ∷ []) false k (omega (arith, u, l))) ∙ a) h)) (λ a. noted) k (omega (arith, w, length_push live b, length_push clauses lits, l)) a x h;
 }
 
@@ -125,7 +110,7 @@ pub led_push : (vars : ℕ) (clauses : List (List LitValue)) (leads leads' : Lis
     → IsLed vars (clauses ++ lits ∷ []) leads'
 led_push vars clauses leads leads' lits code i long kept lead noted = record {
   long = long ∙ i.long;
-  each = by_place_push (λ k c. (code : ℕ) × IsLead c code × Contains (list_at leads' code) (led_as k c)) clauses lits (λ k u. let (old, is, at) = i.each k u in (old, is, kept old (led_as k (get_or clauses k [])) at)) (code, lead, noted);
+  each = by_place_push (λ k c. (code : ℕ) × IsLead c code × Contains (list_at leads' code) (led_as k c)) clauses lits [] (λ k u. let (old, is, at) = i.each k u in (old, is, kept old (led_as k (get_or clauses k [])) at)) (code, lead, noted);
 }
 
 pub stored_push : (vars : ℕ) (ids : List ℕ) (live : List Bool) (clauses : List (List LitValue)) (lists lists' : List (List ℕ)) (leads leads' : List (List LedClause)) (id : ℕ) (lits : List LitValue) (held : Bool) → IsStored vars ids live clauses lists leads → last_of ids < id → IsClause vars lits

@@ -1,12 +1,13 @@
 -- Clauses by their places, and what is held.
-use Rattle.std.proofs.Common.{◌≡◌, ℕ, zero, suc, ◌+◌, ◌-◌, ◌<◌, ◌≤◌, Bool, true, false, List, [], ◌∷◌, ◌++◌, length, map, get_or, Some, None, refl, sym, ap, ◌∙◌, ⊎_elim, arith}
+use Rattle.std.proofs.Common.{◌≡◌, ℕ, zero, suc, ◌+◌, ◌-◌, ◌<◌, ◌≤◌, Bool, true, false, List, [], ◌∷◌, ◌++◌, length, get_or, Some, None, refl, sym, ap, ◌∙◌, ⊎_elim, arith}
 use Rattle.std.specs.Prelude.{◌≢◌, ◌&&◌, if◌then◌else◌, All}
 use Rattle.std.specs.List.{list_all, enumerate_from}
-use Rattle.std.proofs.lemmas.Bool.{false≢true, eq-eqb, ne_eqb, cases_Bool, cases_lt, and_from}
-use Rattle.std.proofs.lemmas.List.{get_or_default, get_or_past, length_push, get_or_append_left, get_or_push, get_or-map}
+use Rattle.std.proofs.lemmas.Bool.{false≢true, ne_eqb, cases_Bool, cases_lt, and_from}
+use Rattle.std.proofs.lemmas.List.{get_or_default, get_or_past, length_push, get_or_append_left, get_or_push}
 use Rattle.std.proofs.lemmas.List.Elements.{All-head, All-tail}
 use Rattle.cnf_formula.specs.Literals.{LitValue}
 use Rattle.proof_rules.specs.Held.{Entry, clause_at}
+use Rattle.proof_rules.proofs.Numbered.{here}
 use Rattle.lrat_checker.specs.Stored.{held_of, last_of, Rises}
 
 -- ---- numbers that ascend
@@ -64,9 +65,6 @@ held_false x ids b live c clauses f = rw f refl
 passed : (x id : ℕ) (c : List LitValue) (held : List Entry) → (x ≡ id → ⊥) → clause_at ((x, c) ∷ held) id ≡ clause_at held id
 passed x id c held apart = rw (ne_eqb x id apart) refl
 
-found : (x : ℕ) (c : List LitValue) (held : List Entry) → clause_at ((x, c) ∷ held) x ≡ Some c
-found x c held = rw (eq-eqb x x refl) refl
-
 pub not_held : (ids : List ℕ) (live : List Bool) (clauses : List (List LitValue)) (id : ℕ) → Others id ids → clause_at (held_of ids live clauses) id ≡ None
 not_held [] live clauses id a = refl
 not_held (x ∷ ids) [] clauses id a = refl
@@ -85,7 +83,7 @@ held_at [] live clauses place r l m w = absurd (omega (arith, w))
 held_at (x ∷ ids) [] clauses place r l m w = absurd (omega (arith, l))
 held_at (x ∷ ids) (b ∷ live) [] place r l m w = absurd (omega (arith, m))
 held_at (x ∷ ids) (b ∷ live) (clause ∷ clauses) zero r l m w =
-    ⊎_elim (λ t. ap (λ h. clause_at h x) (held_true x ids b live clause clauses t) ∙ found x clause (held_of ids live clauses) ∙ sym (ap (λ y. if y then Some clause else None) t))
+    ⊎_elim (λ t. ap (λ h. clause_at h x) (held_true x ids b live clause clauses t) ∙ here (held_of ids live clauses) x clause ∙ sym (ap (λ y. if y then Some clause else None) t))
     (λ f. ap (λ h. clause_at h x) (held_false x ids b live clause clauses f) ∙ not_held ids live clauses x (others_above x ids (head_below x ids r)) ∙ sym (ap (λ y. if y then Some clause else None) f))
     (cases_Bool b)
 held_at (x ∷ ids) (b ∷ live) (clause ∷ clauses) (suc place) r l m w =
@@ -155,8 +153,3 @@ some_fails test (x ∷ xs) h =
 -- a place is one of the table's where its clause is held
 pub live_within : (live : List Bool) (k : ℕ) → get_or live k false ≡ true → k < length live
 live_within live k t = ⊎_elim (λ lt. lt) (λ ge. absurd (false≢true (sym (get_or_past live k false ge) ∙ t))) (cases_lt k (length live))
-
--- ---- what is read
-
-pub read_map : {X Y : Type 0} (f : X → Y) (xs : List X) (k : ℕ) (x : X) (e : Y) → k < length xs → x ≡ get_or xs k x → get_or (map f xs) k e ≡ f x
-read_map f xs k x e w h = get_or-map f xs k x e w ∙ ap f (sym h)

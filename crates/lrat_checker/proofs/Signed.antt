@@ -9,7 +9,7 @@ use Rattle.std.proofs.lemmas.List.{take_more}
 use Rattle.std.proofs.lemmas.Nat.Bits.{bit_at_or, bit_at-zero, same_from_bits}
 use Rattle.cnf_formula.specs.Literals.{LitValue, same_literal, has_literal, is_superset}
 use Rattle.cnf_formula.proofs.Clauses.{same_is}
-use Rattle.lrat_checker.specs.Leads.{bit_of, signature_of, has_bits_within}
+use Rattle.lrat_checker.specs.inner.Leads.{bit_of, signature_of, has_bits_within}
 
 -- ---- one literal more
 

@@ -15,7 +15,7 @@ use Rattle.proof_rules.specs.declared.verdict.LineCode.TheVariants.{HintNotUnit}
 use Rattle.proof_rules.specs.Held.{Entry, clause_at, open_literals}
 use Rattle.proof_rules.specs.Judging.{given_by, led_to}
 use Rattle.proof_rules.specs.Accepting.{leading}
-use Rattle.lrat_checker.specs.Marking.{Extends}
+use Rattle.lrat_checker.specs.inner.Marking.{Extends}
 use Rattle.cnf_formula.specs.Formulas.{IsAbout}
 use Rattle.cnf_formula.proofs.Clauses.{same_is}
 use Rattle.std.proofs.lemmas.List.Elements.{All-head, All-tail}
@@ -50,9 +50,6 @@ stands_about vars [] l a h = absurd (false≢true h)
 stands_about vars (x ∷ clause) l a h =
     ⊎_elim (λ s. subst (IsAbout vars) (sym (same_is l x s)) (All-head (IsAbout vars) x clause a)) (λ r. stands_about vars clause l (All-tail (IsAbout vars) x clause a) r)
     (or_cases (same_literal l x) (has_literal clause l) h)
-
-pub negated_about : (vars : ℕ) (l : LitValue) → IsAbout vars l → IsAbout vars (negation l)
-negated_about vars l a = record { some = a.some; within = a.within }
 
 pub given_about : (vars : ℕ) (falses clause : List LitValue) (l : LitValue) → All (IsAbout vars) clause → given_by (open_literals falses clause) ≡ Ok (Some l) → IsAbout vars l
 given_about vars falses clause l a h =

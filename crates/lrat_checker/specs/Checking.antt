@@ -1,7 +1,7 @@
 -- A checker by its parts.
 use Rattle.std.specs.Prelude.{◌≡◌, ℕ, ◌≤◌, max, Bool, [], length, take}
 use Rattle.proof_rules.specs.Held.{CheckerValue}
-use Rattle.lrat_checker.specs.Marking.{MarksValue}
+use Rattle.lrat_checker.specs.inner.Marking.{MarksValue}
 use Rattle.lrat_checker.specs.Stored.{TableValue}
 use Rattle.proof_rules.specs.Refuting.{IsChecker}
 

@@ -3,7 +3,7 @@ use Rattle.std.specs.Prelude.{◌≡◌, ◌==◌, ◌&&◌, ◌||◌, not, ℕ,
 use Rattle.std.specs.List.{list_any}
 use Rattle.cnf_formula.specs.Literals.{LitValue, has_literal, is_superset, code_of}
 use Rattle.cnf_formula.specs.Formulas.{IsClause}
-use Rattle.lrat_checker.specs.Leads.{IsLead, signature_of, has_bits_within}
+use Rattle.lrat_checker.specs.inner.Leads.{IsLead, signature_of, has_bits_within}
 use Rattle.lrat_checker.specs.declared.leads.LedClause.{LedClause}
 use Rattle.proof_rules.specs.Held.{Entry}
 use Rattle.proof_rules.specs.Accepting.{Group, is_answered}

@@ -16,8 +16,8 @@ use proof_rules::{LineCode, LineVerdict};
 use std::alloc::Global;
 use std::marker::Model;
 
-/// A formula, the clauses that are held by number, and what was accepted. It is seen as that: between two calls no literal
-/// is marked.
+/// A formula, the clauses that are held by number, and what was accepted. It is seen as that:
+/// between two calls no literal is marked.
 #[derive(Drop)]
 pub struct Checker {
     table: ClauseTable,
@@ -26,7 +26,8 @@ pub struct Checker {
     originals: usize,
     greatest: u64,
     refuted: bool,
-    /// How much room the formula and the added clauses that are held take in the table, and those that are no longer held.
+    /// How much room the formula and the added clauses that are held take in the table, and those
+    /// that are no longer held.
     kept: usize,
     gone: usize,
 }
@@ -88,8 +89,8 @@ impl Checker {
         verdict
     }
 
-    /// Has the table forget what is no longer held, once that takes more room than the rest, so that each deletion pays for
-    /// it. An `Err` comes only where memory runs out.
+    /// Has the table forget what is no longer held, once that takes more room than the rest, so
+    /// that each deletion pays for it. An `Err` comes only where memory runs out.
     fn clean(&mut self) -> Result<(), OutOfMemory>
         ensures { self.new ≡ self.old }
     {
@@ -100,7 +101,8 @@ impl Checker {
         Ok(())
     }
 
-    /// Holds the clause of an accepted addition. An `Err` comes only where memory runs out, and then nothing changes.
+    /// Holds the clause of an accepted addition. An `Err` comes only where memory runs out, and
+    /// then nothing changes.
     fn hold(&mut self, line: &ProofLine) -> Result<(), OutOfMemory>
         requires { is_accepted (verdict_of self.old line.now) ≡ true }
         ensures held { OnOk result (self.new ≡ with_line self.old line.now) }
@@ -114,9 +116,10 @@ impl Checker {
         Ok(())
     }
 
-    /// Judges an addition by the rules of LRAT (Cruz-Filipe et al. 2017): as RUP by its hints, or as RAT on its first literal,
-    /// the pivot, with groups for the clauses that hold the negation of it. An accepted line is held from then on under its
-    /// number; a refused one changes nothing, and the code is that of its first check that fails. `Err` comes only where memory
+    /// Judges an addition by the rules of LRAT (Cruz-Filipe et al. 2017): as RUP by its hints, or
+    /// as RAT on its first literal, the pivot, with groups for the clauses that hold the negation
+    /// of it. An accepted line is held from then on under its number; a refused one changes
+    /// nothing, and the code is that of its first check that fails. `Err` comes only where memory
     /// runs out, and then nothing changes.
     pub fn add(&mut self, line: &ProofLine) -> Result<LineVerdict, OutOfMemory>
         ensures verdict { IfOk result (λ verdict. verdict ≡ verdict_of self.old line.now) }
@@ -134,8 +137,8 @@ impl Checker {
         Ok(verdict)
     }
 
-    /// Whether a clause of the formula's variables is fresh: it has a literal, and is a superset of no held clause. Nothing
-    /// changes.
+    /// Whether a clause of the formula's variables is fresh: it has a literal, and is a superset of
+    /// no held clause. Nothing changes.
     fn has_no_subset(&mut self, lits: &[Lit]) -> Result<bool, OutOfMemory>
         requires about { IsClause self.old.formula.vars lits.now }
         ensures fresh { IfOk result (λ fresh. fresh ≡ is_fresh_for self.old lits.now) }
@@ -146,9 +149,10 @@ impl Checker {
         fresh
     }
 
-    /// Takes an addition as a line of a spent log: if it follows from what is held (as RUP by its hints), and its clause has a
-    /// literal and is a superset of no held clause (none subsumes it). Then it is held from then on under its number, and
-    /// otherwise nothing changes. `Err` comes only where memory runs out, and then nothing changes.
+    /// Takes an addition as a line of a spent log: if it follows from what is held (as RUP by its
+    /// hints), and its clause has a literal and is a superset of no held clause (none subsumes it).
+    /// Then it is held from then on under its number, and otherwise nothing changes. `Err` comes
+    /// only where memory runs out, and then nothing changes.
     pub fn learn(&mut self, line: &ProofLine) -> Result<bool, OutOfMemory>
         ensures learned { IfOk result (λ learned. learned ≡ (is_implied (verdict_of self.old line.now) && is_fresh_for self.old line.now.lits)) }
         ensures held { result ≡ Ok true → self.new ≡ with_line self.old line.now }
@@ -165,7 +169,8 @@ impl Checker {
         Ok(true)
     }
 
-    /// The room that the clauses of these numbers take in the table, but for those of the formula, which stay there.
+    /// The room that the clauses of these numbers take in the table, but for those of the formula,
+    /// which stay there.
     fn room_at(&self, ids: &[u64]) -> usize {
         let mut room: usize = 0;
         for id in ids {
@@ -178,8 +183,8 @@ impl Checker {
         room
     }
 
-    /// Lets the clauses of these numbers go, if each is held and they differ. Otherwise the deletion is refused and nothing
-    /// changes.
+    /// Lets the clauses of these numbers go, if each is held and they differ. Otherwise the
+    /// deletion is refused and nothing changes.
     pub fn delete(&mut self, deletion: &Deletion) -> LineVerdict
         ensures verdict { result ≡ deletion_verdict self.old deletion.now }
         ensures accepted { is_accepted result ≡ true → self.new ≡ without self.old deletion.now }

@@ -25,7 +25,8 @@ fn in_range(lits: &[Lit], vars: u32) -> bool
     true
 }
 
-/// Assumes every literal false, the last first, and says that it did. It stops where a variable stands twice.
+/// Assumes every literal false, the last first, and says that it did. It stops where a variable
+/// stands twice.
 fn assume(marks: &mut Marks, lits: &[Lit]) -> Result<bool, OutOfMemory>
     requires about { IsClause marks.old.vars lits.now }
     requires empty { marks.old.falses ≡ [] }

@@ -1,4 +1,5 @@
-//! Hints in a row: what a clause gives, and where hints lead (RUP: unit propagation along the hints).
+//! Hints in a row: what a clause gives, and where hints lead (RUP: unit propagation along the
+//! hints).
 
 ghost use Rattle.std.specs.Prelude.{◌≡◌, ℕ, ◌+◌, ◌<◌, ◌≤◌, ◌∷◌, List, length, drop, IfOk, negsuc};
 ghost use Rattle.cnf_formula.specs.Literals.{LitValue};
@@ -6,8 +7,8 @@ ghost use Rattle.cnf_formula.specs.Formulas.{IsClause};
 ghost use Rattle.proof_rules.specs.Held.{open_literals};
 ghost use Rattle.proof_rules.specs.Judging.{given_by, after_conflict, led_to};
 ghost use Rattle.proof_rules.specs.Accepting.{leading, groups_from};
-ghost use Rattle.lrat_checker.specs.Marking.{Extends};
-ghost use Rattle.lrat_checker.specs.Steps.{led_as};
+ghost use Rattle.lrat_checker.specs.inner.Marking.{Extends};
+ghost use Rattle.lrat_checker.specs.inner.Steps.{led_as};
 
 use crate::marks::Marks;
 use crate::table::ClauseTable;
@@ -24,8 +25,8 @@ pub(crate) enum Led {
     Fault { code: LineCode, hint: u64 },
 }
 
-/// What a clause gives where the marked literals are false: none, the one literal that is not false, or a fault where two
-/// are not.
+/// What a clause gives where the marked literals are false: none, the one literal that is not
+/// false, or a fault where two are not.
 fn given(clause: &[Lit], marks: &Marks) -> Result<Option<Lit>, LineCode>
     requires { IsClause marks.now.vars clause.now }
     ensures { result ≡ given_by (open_literals marks.now.falses clause.now) }
@@ -62,8 +63,8 @@ fn conflict_before(hints: &[i64], place: usize) -> Led
     }
 }
 
-/// Takes the hints from a place on, up to the first negative one. The literals that become true have their negations
-/// marked.
+/// Takes the hints from a place on, up to the first negative one. The literals that become true
+/// have their negations marked.
 pub(crate) fn lead(
     table: &ClauseTable,
     marks: &mut Marks,

@@ -1,10 +1,11 @@
-//! Clauses that are led by one of their literals, and signatures, by which most of them are passed over.
+//! Clauses that are led by one of their literals, and signatures, by which most of them are passed
+//! over.
 
 ghost use Rattle.std.specs.Prelude.{◌≡◌, ◌<◌, map, All, length};
 ghost use Rattle.std.specs.List.{list_any};
 ghost use Rattle.cnf_formula.specs.Literals.{code_of, is_superset};
 ghost use Rattle.cnf_formula.specs.Formulas.{IsClause};
-ghost use Rattle.lrat_checker.specs.Leads.{IsLead};
+ghost use Rattle.lrat_checker.specs.inner.Leads.{IsLead};
 ghost use Rattle.lrat_checker.specs.Stored.{finds};
 
 use crate::marks::Marks;
@@ -20,14 +21,14 @@ pub(crate) struct LedClause {
 
 /// The bit of a literal.
 fn bit_of(lit: Lit) -> u64
-    ensures { result ≡ Rattle.lrat_checker.specs.Leads.bit_of lit }
+    ensures { result ≡ Rattle.lrat_checker.specs.inner.Leads.bit_of lit }
 {
     1 << (lit.code() % 64)
 }
 
 /// The bits of a clause's literals. A clause has all bits of one that it is a superset of.
 pub(crate) fn signature_of(clause: &[Lit]) -> u64
-    ensures { result ≡ Rattle.lrat_checker.specs.Leads.signature_of clause.now }
+    ensures { result ≡ Rattle.lrat_checker.specs.inner.Leads.signature_of clause.now }
 {
     let mut signature = 0;
     for lit in clause {
@@ -36,8 +37,8 @@ pub(crate) fn signature_of(clause: &[Lit]) -> u64
     signature
 }
 
-/// The list that a clause is put into: of its literals' the one that has fewest clauses in `lists`, or the first list where
-/// it has no literal.
+/// The list that a clause is put into: of its literals' the one that has fewest clauses in `lists`,
+/// or the first list where it has no literal.
 pub(crate) fn lead_of(lists: &[Vec<usize>], clause: &[Lit]) -> usize
     requires { All (λ l. code_of l < length lists.now) clause.now }
     ensures { IsLead clause.now result }
@@ -65,7 +66,8 @@ fn is_marked(clause: &[Lit], marks: &Marks) -> bool
     true
 }
 
-/// Whether a clause that is led has no bit beside those of the signature, is held, and has every literal marked.
+/// Whether a clause that is led has no bit beside those of the signature, is held, and has every
+/// literal marked.
 fn is_covered(
     live: &[bool],
     clauses: &[SmallVec<Lit, 4>],

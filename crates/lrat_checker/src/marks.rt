@@ -4,14 +4,14 @@ ghost use Rattle.std.specs.Prelude.{◌≡◌, ◌+◌, ◌-◌, ◌≤◌, [], 
 ghost use Rattle.cnf_formula.specs.Literals.{LitValue, has_literal};
 ghost use Rattle.cnf_formula.specs.Formulas.{IsAbout};
 ghost use Rattle.proof_rules.specs.Accepting.{is_made_true};
-ghost use Rattle.lrat_checker.specs.Marking.{MarksValue};
+ghost use Rattle.lrat_checker.specs.inner.Marking.{MarksValue};
 
 use cnf_formula::{Lit, OutOfMemory};
 use std::alloc::Global;
 use std::marker::Model;
 
-/// Literals that are false, in a table by literal, and the order in which they became so. To mark one and to take the
-/// marks back cost no more than the marks do.
+/// Literals that are false, in a table by literal, and the order in which they became so. To mark
+/// one and to take the marks back cost no more than the marks do.
 #[derive(Drop)]
 pub(crate) struct Marks {
     vars: u32,
@@ -22,7 +22,7 @@ pub(crate) struct Marks {
 
 impl Model for Marks {
     ghost use Rattle.std.specs.Prelude.{reverse};
-    ghost use Rattle.lrat_checker.specs.Marking.{MarksValue, IsCounted};
+    ghost use Rattle.lrat_checker.specs.inner.Marking.{MarksValue, IsCounted};
 
     ghost Value = { MarksValue };
 
@@ -66,7 +66,8 @@ impl Marks {
         self.marked.len()
     }
 
-    /// Marks a literal, one time more. An `Err` comes only where memory runs out, and then nothing changes.
+    /// Marks a literal, one time more. An `Err` comes only where memory runs out, and then nothing
+    /// changes.
     pub(crate) fn mark(&mut self, lit: Lit) -> Result<(), OutOfMemory>
         requires { IsAbout self.old.vars lit }
         ensures marked { OnOk result (self.new ≡ record { vars = self.old.vars; falses = lit ∷ self.old.falses }) }

@@ -1,4 +1,5 @@
-//! Lines whose hints lead to no conflict, and the groups by which they leave satisfiable what is held (RAT).
+//! Lines whose hints lead to no conflict, and the groups by which they leave satisfiable what is
+//! held (RAT).
 
 ghost use Rattle.std.specs.Prelude.{◌≡◌, ◌==◌, ◌||◌, ℕ, ◌+◌, ◌<◌, true, false, List, [], ◌∷◌, Option, Some, None, Ok, length, drop, pos, negsuc, IfOk, if◌then◌else◌};
 ghost use Rattle.std.specs.List.{list_any};
@@ -8,8 +9,8 @@ ghost use Rattle.cnf_formula.specs.Formulas.{IsAbout, IsClause};
 ghost use Rattle.proof_rules.specs.Held.{clause_at};
 ghost use Rattle.proof_rules.specs.Judging.{assumed, closing_fault, group_fault as fault_of_group, groups_fault as fault_of_groups, redundant_verdict};
 ghost use Rattle.proof_rules.specs.Accepting.{leading, groups_of, without_negated};
-ghost use Rattle.lrat_checker.specs.Marking.{Extends};
-ghost use Rattle.lrat_checker.specs.Steps.{Names, Same};
+ghost use Rattle.lrat_checker.specs.inner.Marking.{Extends};
+ghost use Rattle.lrat_checker.specs.inner.Steps.{Names, Same};
 
 use crate::leading::{Led, lead, next_group};
 use crate::marks::Marks;
@@ -18,8 +19,8 @@ use cnf_formula::{Lit, OutOfMemory, ProofLine};
 use proof_rules::{LineCode, LineVerdict};
 use std::collections::BTreeSet;
 
-/// Assumes the literals of a clause other than the negated pivot false, in their order, and says that it did. It stops at
-/// one that is true when its turn comes.
+/// Assumes the literals of a clause other than the negated pivot false, in their order, and says
+/// that it did. It stops at one that is true when its turn comes.
 fn assume_others(marks: &mut Marks, pivot: Lit, clause: &[Lit]) -> Result<bool, OutOfMemory>
     requires { IsClause marks.old.vars clause.now }
     ensures assumed { IfOk result (λ all. (if all then Some marks.new.falses else None) ≡ assumed marks.old.falses (without_negated pivot clause.now)) }
@@ -64,8 +65,8 @@ fn close(
     }
 }
 
-/// The fault of the group at a place, which names this clause. The clauses that had groups before are in the set, and this
-/// one is put into it.
+/// The fault of the group at a place, which names this clause. The clauses that had groups before
+/// are in the set, and this one is put into it.
 fn group_fault(
     table: &ClauseTable,
     marks: &mut Marks,
@@ -122,7 +123,8 @@ fn groups_fault(
     Ok(None)
 }
 
-/// The verdict on a line whose leading hints ended without a conflict, where the marked literals are false.
+/// The verdict on a line whose leading hints ended without a conflict, where the marked literals
+/// are false.
 pub(crate) fn redundancy(
     table: &mut ClauseTable,
     marks: &mut Marks,

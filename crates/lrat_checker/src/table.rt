@@ -1,4 +1,5 @@
-//! Clauses by number, with lists of those in which a literal stands (occurrence lists), and of those that it leads.
+//! Clauses by number, with lists of those in which a literal stands (occurrence lists), and of
+//! those that it leads.
 
 ghost use Rattle.std.specs.Prelude.{◌≡◌, ◌≢◌, ◌==◌, ℕ, ◌+◌, ◌<◌, ◌||◌, ◌&&◌, not, [], ◌∷◌, ◌++◌, Bool, false, List, length, map, filter, All, Contains, IfOk, IfSome, IsTrue, OnOk, OnErr, MatchOption, slice_index, slice_set, true, if◌then◌else◌, ◌≤◌};
 ghost use Rattle.std.specs.List.{list_any, list_all, enumerate_from};
@@ -9,7 +10,7 @@ ghost use Rattle.proof_rules.specs.Held.{Entry, clause_at};
 ghost use Rattle.proof_rules.specs.Judging.{are_held, has_number_twice};
 ghost use Rattle.proof_rules.specs.Accepting.{Group, is_made_true, without_negated};
 ghost use Rattle.lrat_checker.specs.Stored.{TableValue, HasForgotten, Rises, list_at, is_live, kept_live, answers};
-ghost use Rattle.lrat_checker.specs.Steps.{Names};
+ghost use Rattle.lrat_checker.specs.inner.Steps.{Names};
 
 use crate::leads::{LedClause, has_marked, lead_of, signature_of};
 use crate::lists::{empty_lists, note};
@@ -20,10 +21,11 @@ use std::alloc::Global;
 use std::collections::BTreeSet;
 use std::marker::Model;
 
-/// Clauses by ascending numbers, and whether each is held; one that is no longer held stays in its place until it is
-/// forgotten. For each literal there are the places of the held clauses in which it stands, and the clauses that it leads:
-/// one literal of a clause leads it. Of clauses that are no longer held a list of the first kind keeps the places until it
-/// is walked, and one of the second until they are forgotten.
+/// Clauses by ascending numbers, and whether each is held; one that is no longer held stays in its
+/// place until it is forgotten. For each literal there are the places of the held clauses in which
+/// it stands, and the clauses that it leads: one literal of a clause leads it. Of clauses that are
+/// no longer held a list of the first kind keeps the places until it is walked, and one of the
+/// second until they are forgotten.
 #[derive(Drop)]
 pub(crate) struct ClauseTable {
     vars: u32,
@@ -50,7 +52,8 @@ impl Model for ClauseTable {
     ghost invariant = { λ t. IsStored t.vars t.ids.items t.live.items (map (λ c. c.items) t.clauses.items) (map (λ l. l.items) t.lists.items) (map (λ l. l.items) t.leads.items) };
 }
 
-/// The place of a number among ascending ones. Mostly they are 1, 2, 3 and so on, and it is found at once.
+/// The place of a number among ascending ones. Mostly they are 1, 2, 3 and so on, and it is found
+/// at once.
 fn place_of(ids: &[u64], id: u64) -> Option<usize>
     requires { Rises ids.now }
     ensures { MatchOption result (All (λ other. other ≢ id) ids.now) (λ place. (place < length ids.now) × (slice_index ids.now place ≡ id)) }
@@ -78,7 +81,8 @@ fn restore(ids: &[u64], live: &mut [bool], gone: &[u64])
     }
 }
 
-/// Lets the clauses of these numbers go, if each is held and they differ. Otherwise nothing changes.
+/// Lets the clauses of these numbers go, if each is held and they differ. Otherwise nothing
+/// changes.
 fn let_go(ids: &[u64], live: &mut [bool], gone: &[u64]) -> bool
     requires rises { Rises ids.now }
     requires lives { length live.old ≡ length ids.now }
@@ -111,7 +115,8 @@ fn has_other_true(clause: &[Lit], pivot: Lit, marks: &Marks) -> bool
     false
 }
 
-/// Whether a held clause is answered: it lacks the negated pivot, has a group, or is true without one.
+/// Whether a held clause is answered: it lacks the negated pivot, has a group, or is true without
+/// one.
 fn is_answered(id: u64, clause: &[Lit], pivot: Lit, marks: &Marks, named: &BTreeSet<u64>) -> bool
     requires about { IsClause marks.now.vars clause.now }
     ensures { (groups : List Group) → Names named.now groups → result ≡ Rattle.proof_rules.specs.Accepting.is_answered pivot marks.now.falses groups (id, clause.now) }
@@ -230,8 +235,8 @@ impl ClauseTable {
         }
     }
 
-    /// Puts a clause in under a number greater than all before, and says whether it is held. An `Err` comes only where
-    /// memory runs out, and then nothing changes.
+    /// Puts a clause in under a number greater than all before, and says whether it is held. An
+    /// `Err` comes only where memory runs out, and then nothing changes.
     pub(crate) fn push(&mut self, id: u64, lits: &[Lit], held: bool) -> Result<(), OutOfMemory>
         requires above { self.old.last < id }
         requires about { IsClause self.old.vars lits.now }
@@ -253,8 +258,8 @@ impl ClauseTable {
         Ok(())
     }
 
-    /// Forgets the clauses that are no longer held, but for the first so many. An `Err` comes only where memory runs out,
-    /// and then nothing changes.
+    /// Forgets the clauses that are no longer held, but for the first so many. An `Err` comes only
+    /// where memory runs out, and then nothing changes.
     pub(crate) fn forget(&mut self, first: usize) -> Result<(), OutOfMemory>
         requires { first ≤ length self.old.clauses }
         ensures fewer { OnOk result (HasForgotten first self.old self.new) }
@@ -271,8 +276,8 @@ impl ClauseTable {
         Ok(())
     }
 
-    /// Lets the clauses of these numbers go, and says that it did: if each is held and they differ. Otherwise nothing
-    /// changes.
+    /// Lets the clauses of these numbers go, and says that it did: if each is held and they differ.
+    /// Otherwise nothing changes.
     pub(crate) fn remove(&mut self, gone: &[u64]) -> bool
         ensures answer { result ≡ (are_held self.old.held gone.now && not (has_number_twice gone.now)) }
         ensures removed { result ≡ true → self.new ≡ record self.old { held = filter (λ entry. not (list_any (λ id. id == entry.0) gone.now)) self.old.held } }
@@ -281,9 +286,9 @@ impl ClauseTable {
         let_go(&self.ids, &mut self.live, gone)
     }
 
-    /// Whether each held clause with the negation of the pivot has a group or is true without one. It looks at no clause
-    /// but those in the list of that literal, and first drops from it those that are no longer held, so that each of them
-    /// costs once.
+    /// Whether each held clause with the negation of the pivot has a group or is true without one.
+    /// It looks at no clause but those in the list of that literal, and first drops from it those
+    /// that are no longer held, so that each of them costs once.
     pub(crate) fn all_answered(&mut self, pivot: Lit, marks: &Marks, named: &BTreeSet<u64>) -> bool
         requires pivot { IsAbout self.old.vars pivot }
         requires same { marks.now.vars ≡ self.old.vars }
@@ -302,8 +307,9 @@ impl ClauseTable {
         )
     }
 
-    /// Whether every literal of some held clause is marked, where just these literals are. It looks at no clause but those
-    /// that these literals lead, and those without a literal, and of these at none whose signature has another bit.
+    /// Whether every literal of some held clause is marked, where just these literals are. It looks
+    /// at no clause but those that these literals lead, and those without a literal, and of these
+    /// at none whose signature has another bit.
     pub(crate) fn has_subset(&self, lits: &[Lit], marks: &Marks) -> bool
         requires about { IsClause self.now.vars lits.now }
         requires same { marks.now.vars ≡ self.now.vars }

@@ -6,7 +6,7 @@ use Rattle.text_lines.specs.Text.{rows_of}
 use Rattle.text_lines.proofs.Rows.{rows_step, rows_end_at}
 use Rattle.lrat_text.specs.declared.holding.HeldLine.{HeldLine}
 use Rattle.lrat_text.specs.Reading.{Said, nothing_said, said_by}
-use Rattle.lrat_text.specs.Holding.{IsClear, IsFirstFrom, IsHolding}
+use Rattle.lrat_text.specs.inner.Holding.{IsClear, IsFirstFrom, IsHolding}
 
 -- ---- the first line
 

@@ -1,4 +1,4 @@
 pub mod Printing
 pub mod Tokens
 pub mod Reading
-pub mod Holding
+pub mod inner

@@ -3,7 +3,7 @@
 ghost use Rattle.std.specs.Prelude.{◌≡◌, ℕ, ◌+◌, ◌^◌, ◌<◌, ◌≤◌, length, drop, IfSome, IfNone, IfOk, OnSome};
 ghost use Rattle.text_lines.specs.Text.{rows_of};
 ghost use Rattle.lrat_text.specs.Reading.{nothing_said, said_by};
-ghost use Rattle.lrat_text.specs.Holding.{IsClear, IsFirstFrom};
+ghost use Rattle.lrat_text.specs.inner.Holding.{IsClear, IsFirstFrom};
 
 use crate::fault::LratTextFault;
 use crate::lines::row_says;
@@ -11,7 +11,8 @@ use cnf_formula::{LratLine, OutOfMemory};
 use std::alloc::{AllocError, Global};
 use text_lines::{Stop, end_of};
 
-/// A line by where it ends, where what is behind it and its line feed begins, and whether it has one.
+/// A line by where it ends, where what is behind it and its line feed begins, and whether it has
+/// one.
 #[derive(Clone, Copy)]
 pub struct HeldLine {
     pub end: usize,
@@ -19,8 +20,8 @@ pub struct HeldLine {
     pub whole: bool,
 }
 
-/// An answer, how many bytes are taken off the front, and how many bytes were searched for a line feed: behind those
-/// that are taken there is none among them.
+/// An answer, how many bytes are taken off the front, and how many bytes were searched for a line
+/// feed: behind those that are taken there is none among them.
 #[derive(Drop)]
 pub struct Answered {
     pub answer: Result<Option<LratLine>, LratTextFault>,
@@ -28,8 +29,8 @@ pub struct Answered {
     pub searched: usize,
 }
 
-/// What these bytes say, of which the first so many were searched for a line feed and have none. No byte is searched twice,
-/// nor by the next call, where that is passed how many this one searched.
+/// What these bytes say, of which the first so many were searched for a line feed and have none. No
+/// byte is searched twice, nor by the next call, where that is passed how many this one searched.
 pub fn answer_of(
     alloc: Global,
     place: u64,

@@ -1,4 +1,5 @@
-//! Laws of reading: what is said does not depend on how the bytes were cut, and what is printed is read.
+//! Laws of reading: what is said does not depend on how the bytes were cut, and what is printed is
+//! read.
 
 ghost use Rattle.std.specs.Prelude.{◌≡◌, ◌≢◌, ℕ, Bool, true, false, List, [], ◌++◌, length, All, Ok, Err, Some, None};
 ghost use Rattle.text_lines.specs.Text.{rows_of, line};
@@ -15,16 +16,17 @@ pub fn lines_stay()
     ensures { (r : ReaderValue) (piece : List ℕ) → r.finished ≡ false → ((said_to r).answer ≡ Ok None → ⊥) → said_to (fed r piece) ≡ said_to r }
 {}
 
-/// To ask for a line where there is none changes nothing: with more bytes the answer is the same, and so is the reader
-/// behind it.
+/// To ask for a line where there is none changes nothing: with more bytes the answer is the same,
+/// and so is the reader behind it.
 #[tactic(auto, using(crate::proofs::Cutting::nothing_is_lost))]
 pub fn nothing_is_lost()
     ensures { (r : ReaderValue) (piece : List ℕ) → r.finished ≡ false → (said_to r).answer ≡ Ok None
         → ((said_to (fed (after_next r) piece)).answer ≡ (said_to (fed r piece)).answer) × (after_next (fed (after_next r) piece) ≡ after_next (fed r piece)) }
 {}
 
-/// Before the text is finished, no line is said where the rest has no line feed, and where none is said the reader keeps
-/// none. Once it is finished, none is said only where every byte belongs to a line that was given or passed over.
+/// Before the text is finished, no line is said where the rest has no line feed, and where none is
+/// said the reader keeps none. Once it is finished, none is said only where every byte belongs to a
+/// line that was given or passed over.
 #[tactic(auto, using(crate::proofs::Remaining::left_unfinished, crate::proofs::Remaining::left_finished, crate::proofs::Remaining::nothing_in_clear))]
 pub fn none_is_said_where_none_is_left()
     ensures none_held { (r : ReaderValue) → r.fault ≡ None → r.finished ≡ false → All (λ b. b ≢ 10) r.rest → said_to r ≡ nothing_said }
@@ -40,7 +42,8 @@ pub fn faults_stay()
     ensures memory { (finished : Bool) (place : ℕ) (bytes : List ℕ) → (said_by finished place (rows_of bytes)).answer ≢ Err LratTextFault.OutOfMemory }
 {}
 
-/// What is printed is read: the text of a line whose numbers a reader takes is said to be that line, whatever follows.
+/// What is printed is read: the text of a line whose numbers a reader takes is said to be that
+/// line, whatever follows.
 #[tactic(auto, using(crate::proofs::Printed::read_back))]
 pub fn printed_lines_are_read()
     ensures { (l : LratLine) (more : List ℕ) (finished : Bool) (place : ℕ) → IsReadable l

@@ -1,4 +1,5 @@
-//! Formulas as DIMACS CNF text, and proofs as LRAT text: how they are printed, and how proofs are read.
+//! Formulas as DIMACS CNF text, and proofs as LRAT text: how they are printed, and how proofs are
+//! read.
 #![tactic(auto)]
 
 mod fault;

@@ -14,8 +14,8 @@ use cnf_formula::{Deletion, LratLine, ProofLine};
 use std::alloc::Global;
 use text_lines::Stop;
 
-/// What a line says whose first byte has this place, and which a line feed ends where it is whole. `None` comes where it
-/// says nothing.
+/// What a line says whose first byte has this place, and which a line feed ends where it is whole.
+/// `None` comes where it says nothing.
 pub fn row_says(
     alloc: Global,
     place: u64,

@@ -20,7 +20,8 @@ pub fn id_of(token: &Token<'_>) -> Result<u64, LratTextFault>
     number_from(token.place, GREATEST_ID, token.bytes)
 }
 
-/// A literal: the number of its variable, from 1 to 2,147,483,647, behind a minus sign if it is negated.
+/// A literal: the number of its variable, from 1 to 2,147,483,647, behind a minus sign if it is
+/// negated.
 pub fn literal_of(token: &Token<'_>) -> Result<Lit, LratTextFault>
     ensures { result ≡ literal_of token.now }
 {

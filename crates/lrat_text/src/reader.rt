@@ -7,9 +7,10 @@ use cnf_formula::{LratLine, OutOfMemory};
 use std::alloc::Global;
 use std::marker::Model;
 
-/// A reader of proof lines, which is fed a text in pieces, however they are cut. It is seen as its rest, which are the bytes
-/// that belong to no line that was given or passed over, the place of the first of them, whether the text is finished,
-/// and the fault that was answered. A text takes time in proportion to its bytes.
+/// A reader of proof lines, which is fed a text in pieces, however they are cut. It is seen as its
+/// rest, which are the bytes that belong to no line that was given or passed over, the place of the
+/// first of them, whether the text is finished, and the fault that was answered. A text takes time
+/// in proportion to its bytes.
 #[derive(Drop)]
 pub struct LratReader {
     bytes: Vec<u8>,
@@ -25,7 +26,7 @@ pub struct LratReader {
 impl Model for LratReader {
     ghost use Rattle.std.specs.Prelude.{drop};
     ghost use Rattle.lrat_text.specs.Reading.{ReaderValue};
-    ghost use Rattle.lrat_text.specs.Holding.{IsHolding};
+    ghost use Rattle.lrat_text.specs.inner.Holding.{IsHolding};
 
     ghost Value = { ReaderValue };
 
@@ -49,8 +50,8 @@ impl LratReader {
         })
     }
 
-    /// Appends a piece of the text, which is not finished and has fewer than 2^64 bytes in all. An `Err` comes only where
-    /// memory runs out, and then the reader is as before.
+    /// Appends a piece of the text, which is not finished and has fewer than 2^64 bytes in all. An
+    /// `Err` comes only where memory runs out, and then the reader is as before.
     pub fn feed(&mut self, piece: &[u8]) -> Result<(), OutOfMemory>
         requires unfinished { self.old.finished ≡ false }
         requires room { self.old.place + length self.old.rest + length piece.now < 2 ^ 64 }
@@ -68,9 +69,10 @@ impl LratReader {
         self.finished = true;
     }
 
-    /// The next line. Lines that say nothing are passed over. `None` comes exactly where no line is left: before the
-    /// text is finished, none that a line feed ends. Where a line can't be read, its fault is answered, and always from
-    /// then on. Where memory runs out, the reader is as before.
+    /// The next line. Lines that say nothing are passed over. `None` comes exactly where no line is
+    /// left: before the text is finished, none that a line feed ends. Where a line can't be read,
+    /// its fault is answered, and always from then on. Where memory runs out, the reader is as
+    /// before.
     pub fn next_line(&mut self) -> Result<Option<LratLine>, LratTextFault>
         ensures said { result ≢ Err LratTextFault.OutOfMemory → result ≡ (said_to self.old).answer }
         ensures moved { result ≢ Err LratTextFault.OutOfMemory → self.new ≡ after_next self.old }

@@ -5,7 +5,8 @@ ghost use Rattle.lrat_text.specs.Tokens.{Token as TokenValue, tokens_from};
 
 use std::marker::Model;
 
-/// A piece between spaces and tabs, and its place: the offset of its first byte from the first byte that was fed.
+/// A piece between spaces and tabs, and its place: the offset of its first byte from the first byte
+/// that was fed.
 #[derive(Drop)]
 pub struct Token<'a> {
     pub place: u64,
@@ -20,7 +21,8 @@ impl<'a> Model for Token<'a> {
     ghost view = { λ t. record { place = t.place; bytes = t.bytes.now } };
 }
 
-/// The tokens of a line that are still to be read: the bytes that they stand in, and the place of the first of these.
+/// The tokens of a line that are still to be read: the bytes that they stand in, and the place of
+/// the first of these.
 #[derive(Drop)]
 pub struct Tokens<'a> {
     place: u64,

@@ -20,8 +20,8 @@ pub fn printed()
     ensures empty { lrat_text (LratLine.Addition (record { id = 34; lits = []; hints = pos 2 ∷ pos 3 ∷ pos 9 ∷ pos 16 ∷ pos 24 ∷ [] }) ∷ []) ≡ codes "34 0 2 3 9 16 24 0" ++ 10 ∷ [] }
 {}
 
-/// An addition and a deletion. Fields stand between any number of spaces and tabs, also at the ends of a line, and a byte
-/// 13 before the line feed is passed over.
+/// An addition and a deletion. Fields stand between any number of spaces and tabs, also at the ends
+/// of a line, and a byte 13 before the line feed is passed over.
 pub fn lines()
     ensures addition { said_by false 0 (rows_of (codes "5 1 -2 0 1 -3 0\n6")) ≡ record { answer = Ok (Some (LratLine.Addition (record { id = 5; lits = yes 1 ∷ no 2 ∷ []; hints = pos 1 ∷ negsuc 2 ∷ [] }))); taken = 16 } }
     ensures empty { said_by false 0 (rows_of (codes "34 0 0\n")) ≡ record { answer = Ok (Some (LratLine.Addition (record { id = 34; lits = []; hints = [] }))); taken = 7 } }
@@ -30,8 +30,8 @@ pub fn lines()
     ensures last { said_by true 0 (rows_of (codes "5 0 0")) ≡ record { answer = Ok (Some (LratLine.Addition (record { id = 5; lits = []; hints = [] }))); taken = 5 } }
 {}
 
-/// Empty lines, lines of spaces and tabs, and lines that begin with `c` are passed over. A line without its line feed is
-/// not said before the text is finished.
+/// Empty lines, lines of spaces and tabs, and lines that begin with `c` are passed over. A line
+/// without its line feed is not said before the text is finished.
 pub fn lines_passed_over()
     ensures passed { said_by false 0 (rows_of (codes "\n \t\r\nc 1 0\n comment\n5 0 0\n")) ≡ record { answer = Ok (Some (LratLine.Addition (record { id = 5; lits = []; hints = [] }))); taken = 26 } }
     ensures none { said_by false 0 (rows_of (codes "c 1\n5 0 0")) ≡ record { answer = Ok None; taken = 4 } }
@@ -53,8 +53,8 @@ pub fn faults()
     ensures later { said_by false 100 (rows_of (codes "c\n5 0 x\n")) ≡ record { answer = Err (LratTextFault.BadToken 106); taken = 2 } }
 {}
 
-/// A reader that is fed a line in two pieces says it after the second, and its rest begins behind it. A fault is said
-/// again and again.
+/// A reader that is fed a line in two pieces says it after the second, and its rest begins behind
+/// it. A fault is said again and again.
 pub fn readers()
     ensures first { said_to (fed new_reader (codes "5 0 ")) ≡ record { answer = Ok None; taken = 0 } }
     ensures second { said_to (fed (fed new_reader (codes "5 0 ")) (codes "0\n6 x")) ≡ record { answer = Ok (Some (LratLine.Addition (record { id = 5; lits = []; hints = [] }))); taken = 6 } }

@@ -7,8 +7,8 @@ ghost use Rattle.node_cuts.specs.Tables.{with_times};
 use crate::OutOfMemory;
 use std::marker::Model;
 
-/// A set of nodes, the groups that cover the links into it, how many chunks have to come into it, and how many these groups
-/// carry in one round.
+/// A set of nodes, the groups that cover the links into it, how many chunks have to come into it,
+/// and how many these groups carry in one round.
 #[derive(Clone, Drop)]
 pub struct Cut {
     nodes: u16,

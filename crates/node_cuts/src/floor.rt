@@ -43,8 +43,8 @@ fn fraction_in(least: u8, cut: &Cut) -> Floor
     }
 }
 
-/// The greater of the best fraction so far and the next. Of two that are as great it is the best so far, and a fraction of
-/// nothing is not taken.
+/// The greater of the best fraction so far and the next. Of two that are as great it is the best so
+/// far, and a fraction of nothing is not taken.
 fn greater_of(best: Option<Floor>, next: Floor) -> Option<Floor>
     ensures { result ≡ greater_of best next }
 {
@@ -79,10 +79,11 @@ pub(crate) fn greatest(cuts: &[Cut], least: u8) -> Floor
     })
 }
 
-/// The floor: the fraction of the first listed set of nodes whose fraction is greatest, where the fraction is what has to
-/// come into the set at the least chunk count that the collective may have, over what can in one round times that count. It
-/// is 0 over 1 where nothing has to come into any listed set. For each schedule that solves at any chunk count, its rounds
-/// times `below` are at least `above` times that count. The only error is `OutOfMemory`.
+/// The floor: the fraction of the first listed set of nodes whose fraction is greatest, where the
+/// fraction is what has to come into the set at the least chunk count that the collective may have,
+/// over what can in one round times that count. It is 0 over 1 where nothing has to come into any
+/// listed set. For each schedule that solves at any chunk count, its rounds times `below` are at
+/// least `above` times that count. The only error is `OutOfMemory`.
 pub fn floor_of(alloc: Global, topology: &Topology, spec: &Spec) -> Result<Floor, OutOfMemory>
     requires spec { IsSpec topology.now.nodes spec.now }
     requires single { kind_in spec.now ≢ Kind.Allreduce }

@@ -14,8 +14,9 @@ ghost use Rattle.node_cuts.specs.Sides.{NodeSet, has_bit, mask_of};
 ghost use Rattle.node_cuts.specs.Cuts.{cut_refutes, first_cut_of, need, width};
 ghost use Rattle.node_cuts.specs.Floors.{floor_of, least_count};
 
-/// What has to come into a set of nodes is at most what can in the rounds of a schedule that solves, whatever its steps. So
-/// where a set of nodes refutes so many rounds, no schedule of so many solves.
+/// What has to come into a set of nodes is at most what can in the rounds of a schedule that
+/// solves, whatever its steps. So where a set of nodes refutes so many rounds, no schedule of so
+/// many solves.
 pub fn cuts_refute()
     ensures needed { (u : NodeSet) (t : TopologyValue) (pre post : PlacementValue) (s : ScheduleValue) (steps rounds : ℕ) → Solves t pre post s steps rounds
         → need u pre post ≤ width u t * rounds }
@@ -25,7 +26,8 @@ pub fn cuts_refute()
         → Solves t pre post s steps rounds → ⊥ }
 {}
 
-/// No schedule that solves has fewer rounds for its chunk count than the floor says, whatever its steps and its chunk count.
+/// No schedule that solves has fewer rounds for its chunk count than the floor says, whatever its
+/// steps and its chunk count.
 pub fn floors_bound()
     ensures { (t : TopologyValue) (spec : Spec) (s : ScheduleValue) (steps rounds c : ℕ) → 0 < t.nodes → allows (kind_in spec) t.nodes c ≡ true
         → Solves t (spec_instance spec t.nodes c).pre (spec_instance spec t.nodes c).post s steps rounds
@@ -43,8 +45,8 @@ pub fn bits_are_members()
     ensures { (u : NodeSet) (nodes n : ℕ) → has_bit (mask_of nodes u) n ≡ (nat_lt n nodes && u n) }
 {}
 
-/// At each chunk count that the collective may have, what has to come into a set of nodes is what has to at the least count, as
-/// many times over.
+/// At each chunk count that the collective may have, what has to come into a set of nodes is what
+/// has to at the least count, as many times over.
 pub fn needs_are_proportional()
     ensures { (u : NodeSet) (spec : Spec) (nodes c : ℕ) → 0 < nodes → allows (kind_in spec) nodes c ≡ true
         → need u (spec_instance spec nodes c).pre (spec_instance spec nodes c).post

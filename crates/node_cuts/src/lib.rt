@@ -1,5 +1,6 @@
-//! Cuts: what has to come into a set of nodes, and what can in so many rounds. Where the first is more, no schedule of so many
-//! rounds solves; and the floor says how many rounds each schedule has for its chunk count.
+//! Cuts: what has to come into a set of nodes, and what can in so many rounds. Where the first is
+//! more, no schedule of so many rounds solves; and the floor says how many rounds each schedule has
+//! for its chunk count.
 #![tactic(auto)]
 
 mod covering;

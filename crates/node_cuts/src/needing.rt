@@ -21,7 +21,8 @@ fn stands_in(side: Side, placement: &Placement, chunk: u16) -> bool
     false
 }
 
-/// Whether the chunk has to come into the set: some node of it is to have the chunk, and none has it before.
+/// Whether the chunk has to come into the set: some node of it is to have the chunk, and none has
+/// it before.
 fn is_needed(side: Side, instance: &Instance, chunk: u16) -> bool
     requires after { chunk < instance.now.post.chunks }
     requires before { chunk < instance.now.pre.chunks }

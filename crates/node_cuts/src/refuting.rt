@@ -30,9 +30,9 @@ pub(crate) fn cut_of(
     Ok(Cut::new(nodes, groups, need(side, instance), width))
 }
 
-/// The cut of the first listed set of nodes that refutes so many rounds: into which more chunks have to come than can in `r`
-/// rounds. The listed sets are each one node, each two nodes, and all nodes but these. `None` exactly where none refutes. The
-/// only error is `OutOfMemory`.
+/// The cut of the first listed set of nodes that refutes so many rounds: into which more chunks
+/// have to come than can in `r` rounds. The listed sets are each one node, each two nodes, and all
+/// nodes but these. `None` exactly where none refutes. The only error is `OutOfMemory`.
 pub fn first_cut(
     alloc: Global,
     topology: &Topology,

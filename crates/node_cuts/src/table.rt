@@ -36,8 +36,8 @@ fn least_count(kind: Kind, nodes: u8) -> u8
     }
 }
 
-/// The cuts of all listed sets of nodes at the least chunk count. At each other count as many times as much has to come in,
-/// over the same groups, so a candidate costs a comparison for each set.
+/// The cuts of all listed sets of nodes at the least chunk count. At each other count as many times
+/// as much has to come in, over the same groups, so a candidate costs a comparison for each set.
 #[derive(Drop)]
 pub struct CutTable {
     least: u8,
@@ -72,8 +72,8 @@ impl CutTable {
         Ok(CutTable { least, cuts })
     }
 
-    /// What [`first_cut`](crate::first_cut) gives of the collective's instance at an allowed chunk count `c`. The only error
-    /// is `OutOfMemory`.
+    /// What [`first_cut`](crate::first_cut) gives of the collective's instance at an allowed chunk
+    /// count `c`. The only error is `OutOfMemory`.
     pub fn first_cut(&self, c: u8, r: u8) -> Result<Option<Cut>, OutOfMemory>
         ensures { IfOk result (λ cut. (t : TopologyValue) (spec : Spec) → self.now ≡ table_of t spec → 0 < t.nodes → allows (kind_in spec) t.nodes c ≡ true
             → cut ≡ first_cut_of t (spec_instance spec t.nodes c).pre (spec_instance spec t.nodes c).post r) }

@@ -15,8 +15,8 @@ pub fn sides_of_three_nodes()
     ensures bits { mask_of 3 (set_of (Side.AllButOne 1)) ≡ 5 }
 {}
 
-/// An allgather on the ring of 4: three chunks of each node have to come to node 0 over two links, which take three rounds for
-/// two chunks of each.
+/// An allgather on the ring of 4: three chunks of each node have to come to node 0 over two links,
+/// which take three rounds for two chunks of each.
 pub fn an_allgather_on_the_ring_of_4()
     ensures floor { floor_at ring_of_4 Kind.Allgather ≡ record { above = 3; below = 2; nodes = 1 } }
     ensures one_round { cut_at ring_of_4 Kind.Allgather 1 1 ≡ Some (cut 1 (2 ∷ 6 ∷ []) 3 2) }
@@ -33,8 +33,8 @@ pub fn a_broadcast_without_a_link()
     ensures two_rounds { cut_at back_of_2 Kind.Broadcast 2 1 ≡ Some (cut 2 [] 1 0) }
 {}
 
-/// Two nodes next to each other get the most chunks of an all-to-all over their links, and all nodes but the root those of a
-/// scatter.
+/// Two nodes next to each other get the most chunks of an all-to-all over their links, and all
+/// nodes but the root those of a scatter.
 pub fn sets_of_more_nodes_on_the_ring_of_4()
     ensures two { floor_at ring_of_4 Kind.Alltoall ≡ record { above = 4; below = 8; nodes = 3 } }
     ensures all_but_one { floor_at ring_of_4 Kind.Scatter ≡ record { above = 3; below = 2; nodes = 14 } }
@@ -48,8 +48,8 @@ pub fn a_cover_takes_the_first_of_two_groups()
     ensures too_many { cut_at twice_grouped Kind.Broadcast 1 3 ≡ Some (cut 2 (0 ∷ []) 3 2) }
 {}
 
-/// Nothing has to come to the root of a broadcast, or to a set with the root; and where nothing has to come into any set, the
-/// floor is nothing over 1.
+/// Nothing has to come to the root of a broadcast, or to a set with the root; and where nothing has
+/// to come into any set, the floor is nothing over 1.
 pub fn nothing_has_to_come_to_the_root()
     ensures root { need (set_of (Side.One 0)) (at_root 2 4) (everywhere 2 4) ≡ 0 }
     ensures another { need (set_of (Side.One 1)) (at_root 2 4) (everywhere 2 4) ≡ 2 }

@@ -22,8 +22,9 @@ pub enum Fired {
     NotEnabled,
 }
 
-/// The machine that carries out the programs of the nodes, one operation of one node at a time: what each node has still
-/// to do, the store, and a queue from each node to each. Each queue has room for all that is still to be sent through it.
+/// The machine that carries out the programs of the nodes, one operation of one node at a time:
+/// what each node has still to do, the store, and a queue from each node to each. Each queue has
+/// room for all that is still to be sent through it.
 #[derive(Debug, Drop)]
 pub struct Machine {
     programs: Programs,
@@ -44,8 +45,8 @@ impl Model for Machine {
 }
 
 impl Machine {
-    /// The machine of the programs before any event, with the bags that the nodes have at the start. The only error is
-    /// `OutOfMemory`; no other call takes any.
+    /// The machine of the programs before any event, with the bags that the nodes have at the
+    /// start. The only error is `OutOfMemory`; no other call takes any.
     pub fn new(alloc: Global, programs: Programs, start: Store) -> Result<Machine, OutOfMemory>
         requires nodes { length programs ≡ start.nodes }
         requires in_range { AreBelow start.chunks start.nodes programs }
@@ -74,7 +75,8 @@ impl Machine {
         &self.store
     }
 
-    /// How many operations the nodes have still to do. `None` comes exactly where the number is 2^64 or greater.
+    /// How many operations the nodes have still to do. `None` comes exactly where the number is
+    /// 2^64 or greater.
     pub fn operations(&self) -> Option<usize>
         ensures { MatchOption result (2 ^ 64 ≤ operations self.now) (λ count. count ≡ operations self.now) }
     {
@@ -88,7 +90,8 @@ impl Machine {
         self.programs.finished()
     }
 
-    /// The node has a next operation, and it can be done: each send can, and a take whose message heads its queue.
+    /// The node has a next operation, and it can be done: each send can, and a take whose message
+    /// heads its queue.
     pub fn enabled(&self, node: u8) -> bool
         requires { node < self.now.store.nodes }
         ensures { result ≡ is_enabled self.now node }
@@ -107,8 +110,8 @@ impl Machine {
         }
     }
 
-    /// The node does its next operation. `NotEnabled` comes exactly where it has none that can be done; then nothing
-    /// changes.
+    /// The node does its next operation. `NotEnabled` comes exactly where it has none that can be
+    /// done; then nothing changes.
     pub fn fire(&mut self, node: u8) -> Fired
         requires { node < self.old.store.nodes }
         ensures fired { result ≡ (if is_enabled self.old node then fired.Fired else fired.NotEnabled) }

@@ -2,7 +2,6 @@
 
 ghost use Rattle.std.specs.Prelude.{◌≡◌, ◌++◌, ◌∷◌, [], codes, decimal, length, IfOk, OnOk};
 ghost use Rattle.text_lines.specs.Text.{line, text_of};
-ghost use Rattle.topology_text.specs.Spelling.{name_at};
 ghost use Rattle.node_programs.specs.Printing.{mode_word, node_lines, op_words, programs_text};
 
 use crate::OutOfMemory;
@@ -11,9 +10,10 @@ use crate::programs::Programs;
 use bag_runs::Mode;
 use std::alloc::Global;
 use text_lines::{push_number, push_word};
-use topology_text::Name;
+use topology_text::{Name, push_node_field};
 
-/// The text of the programs of the point of this number, with a name for each node. The only error is `OutOfMemory`.
+/// The text of the programs of the point of this number, with a name for each node. The only error
+/// is `OutOfMemory`.
 pub fn print_programs(
     alloc: Global,
     point: u32,
@@ -54,7 +54,7 @@ fn push_op(out: &mut Vec<u8>, names: &[Name], op: &Op) -> Result<(), OutOfMemory
     match op {
         Op::Send { chunk, to, step } => {
             push_front(out, *step, b" send ", *chunk)?;
-            push_name(out, names, *to)?;
+            push_node_field(out, names, *to)?;
         }
         Op::Take {
             chunk,
@@ -63,7 +63,7 @@ fn push_op(out: &mut Vec<u8>, names: &[Name], op: &Op) -> Result<(), OutOfMemory
             mode,
         } => {
             push_front(out, *step, b" take ", *chunk)?;
-            push_name(out, names, *from)?;
+            push_node_field(out, names, *from)?;
             push_mode(out, *mode)?;
         }
     }
@@ -77,17 +77,6 @@ fn push_front(out: &mut Vec<u8>, step: u8, verb: &[u8], chunk: u16) -> Result<()
     push_number(out, u64::from(step))?;
     push_word(out, verb)?;
     push_number(out, u64::from(chunk))
-}
-
-/// A space and the name of a node, which is empty where there is no such node.
-fn push_name(out: &mut Vec<u8>, names: &[Name], node: u8) -> Result<(), OutOfMemory>
-    ensures { OnOk result (out.new.items ≡ out.old.items ++ 32 ∷ name_at names.now node) }
-{
-    push_word(out, b" ")?;
-    match names.get(node as usize) {
-        Some(name) => push_word(out, name.as_bytes()),
-        None => Ok(()),
-    }
 }
 
 /// A space and the word of the mode.

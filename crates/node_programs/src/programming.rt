@@ -15,9 +15,9 @@ use bag_runs::Mode;
 use schedule::{Hop, Schedule};
 use std::alloc::Global;
 
-/// The programs of so many nodes that carry the schedule out: in each step a node first sends, by chunk and receiver,
-/// and then takes, by chunk and sender. Takes of the first `adding` steps add, and later ones copy. The only error is
-/// `OutOfMemory`.
+/// The programs of so many nodes that carry the schedule out: in each step a node first sends, by
+/// chunk and receiver, and then takes, by chunk and sender. Takes of the first `adding` steps add,
+/// and later ones copy. The only error is `OutOfMemory`.
 pub fn programs_of(
     alloc: Global,
     nodes: u8,
@@ -60,7 +60,8 @@ fn push_op(programs: &mut Vec<Program>, node: u8, op: Op) -> Result<(), OutOfMem
     Ok(())
 }
 
-/// Puts the sends of a step behind the operations of their senders, and then the takes behind those of their receivers.
+/// Puts the sends of a step behind the operations of their senders, and then the takes behind those
+/// of their receivers.
 fn push_step(programs: &mut Vec<Program>, sends: &[Hop], adding: u8) -> Result<(), OutOfMemory>
     ensures { OnOk result ((nodes : ℕ) (begun : ℕ → List Op) → programs.old.items ≡ map begun (range_with_len 0 nodes)
         → programs.new.items ≡ map (λ node. (begun node ++ map send_of (filter (λ h. h.from == node) sends.now)) ++ map (take_of adding) (filter (λ h. h.to == node) sends.now)) (range_with_len 0 nodes)) }

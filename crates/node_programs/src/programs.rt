@@ -49,7 +49,8 @@ impl Programs {
         self.programs[node as usize].next()
     }
 
-    /// How many operations there are in all. `None` comes exactly where the number is 2^64 or greater.
+    /// How many operations there are in all. `None` comes exactly where the number is 2^64 or
+    /// greater.
     pub fn operations(&self) -> Option<usize>
         ensures { MatchOption result (2 ^ 64 ≤ sum (map (λ ops. length ops) self.now)) (λ count. count ≡ sum (map (λ ops. length ops) self.now)) }
     {

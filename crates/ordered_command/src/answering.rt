@@ -29,8 +29,9 @@ fn search_answer(alloc: Global, search: &Search) -> Result<Answer, OutOfMemory>
     })
 }
 
-/// The answer to the words of a search over a text that came whole: the frontier, with schedules in which chunks that are alike
-/// come in the order of their numbers; or the refusal of the text, the root, the size or the chunk counts.
+/// The answer to the words of a search over a text that came whole: the frontier, with schedules in
+/// which chunks that are alike come in the order of their numbers; or the refusal of the text, the
+/// root, the size or the chunk counts.
 ///
 /// The proofs are checked as they are made, and none is kept. The only error is `OutOfMemory`.
 pub fn ordered_answer(

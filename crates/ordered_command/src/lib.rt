@@ -1,4 +1,5 @@
-//! The command that searches for schedules in which chunks that are alike come in the order of their numbers.
+//! The command that searches for schedules in which chunks that are alike come in the order of
+//! their numbers.
 #![tactic(auto)]
 
 mod answering;

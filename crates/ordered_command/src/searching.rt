@@ -20,7 +20,8 @@ use schedule::Topology;
 use std::alloc::Global;
 use topology_text::NamedTopology;
 
-/// The frontier of a collective over these links. No file is written: each proof is checked as it is made.
+/// The frontier of a collective over these links. No file is written: each proof is checked as it
+/// is made.
 fn find_ordered(
     alloc: Global,
     topology: &Topology,
@@ -41,8 +42,8 @@ fn find_ordered(
     }
 }
 
-/// The frontier of what the words ask for on the topology, by schedules in which chunks that are alike come in the order of
-/// their numbers.
+/// The frontier of what the words ask for on the topology, by schedules in which chunks that are
+/// alike come in the order of their numbers.
 pub(crate) fn search_ordered(
     alloc: Global,
     words: Words,

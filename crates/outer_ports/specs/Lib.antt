@@ -5,4 +5,4 @@ pub mod Shelf
 pub mod FileMaps
 pub mod MemoryShelves
 pub mod Adapters
-pub mod OpenFiles
+pub mod inner

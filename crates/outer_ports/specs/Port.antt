@@ -1,5 +1,5 @@
 -- What every port to the outside says: whether it tells its contents, and how many faults it had. This project's own.
-use Rattle.std.specs.Prelude.{◌≡◌, ℕ, ◌<◌, ◌≤◌, ◌⊎◌, Bool, List, [], ◌++◌, length, take, Result, Err, IfOk, OnErr, IsTrue}
+use Rattle.std.specs.Prelude.{◌≡◌, ◌≢◌, ℕ, ◌<◌, ◌≤◌, ◌⊎◌, Bool, List, [], ◌++◌, length, take, Result, Err, IfOk, OnErr, IsTrue}
 use Rattle.outer_ports.specs.declared.failed.Failed.{Failed}
 
 -- the one fault of a source or a sink
@@ -10,10 +10,11 @@ failed = record {}
 abbrev pub Rose : ℕ → ℕ → Type 0
 Rose before now = (before < now) ⊎ (now ≡ 18446744073709551615)
 
--- the count of faults never falls, and the call answered this fault only where the count rose
+-- the count of faults never falls; this fault is answered only where it rose, and every other answer leaves it as it was
 pub record HasCause {T E : Type 0} (fault : E) (before now : ℕ) (result : Result T E) : Type 0 where
   pub later : before ≤ now
   pub rose : result ≡ Err fault → Rose before now
+  pub stays : result ≢ Err fault → now ≡ before
 
 -- a port that tells its contents after a call told them before it
 abbrev pub Tells : Bool → Bool → Type 0

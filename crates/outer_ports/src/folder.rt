@@ -34,7 +34,8 @@ impl<R: Files + AllocGlobal> Folder<R> {
         }
     }
 
-    // Makes the folder where that was not done yet, and the file, or empties it.
+    // Makes the folder where that was not done yet, and the file, or empties it. The file is left
+    // open.
     pub(crate) fn begin(&mut self, name: ProofName) -> Result<(), ShelfFault> {
         let path = self.path_of(name)?;
         if !self.is_made {
@@ -42,7 +43,8 @@ impl<R: Files + AllocGlobal> Folder<R> {
             self.is_made = true;
         }
         self.is_there(&path)?;
-        File::create(&self.rt, &path).map_err(|_| Failed)?;
+        let file = File::create(&self.rt, &path).map_err(|_| Failed)?;
+        self.open.put(name, file);
         Ok(())
     }
 
@@ -97,7 +99,8 @@ impl<R: Files + AllocGlobal> Folder<R> {
         Ok(file)
     }
 
-    // Whether a file stands there. A thing of another kind is a fault, and so is a link that leads to no file.
+    // Whether a file stands there. A thing of another kind is a fault, and so is a link that leads
+    // to no file.
     fn is_there(&self, path: &str) -> Result<bool, Failed> {
         match fs::metadata(&self.rt, path) {
             Ok(found) if found.is_file() => Ok(true),

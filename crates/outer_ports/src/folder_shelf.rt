@@ -16,7 +16,7 @@ use std::marker::Model;
 /// The folder is made at the first `begin`, and not before. A file has the name that `{}` prints of
 /// its [`ProofName`]. An interrupted call is made again. Each other error is a fault, and so is a
 /// write that takes nothing of a nonempty piece, and a thing that is no file under a file's name. A
-/// file that was appended to stays open, one of each kind.
+/// file that was begun or appended to stays open, one of each kind.
 #[derive(Drop)]
 pub struct FolderShelf<R: Files> {
     folder: Folder<R>,
@@ -43,7 +43,6 @@ impl<R: Files + AllocGlobal> FolderShelf<R> {
     // Counts a fault of the answer.
     fn count<T>(&mut self, answer: &Result<T, ShelfFault>)
         ensures cause { HasCause ShelfFault.Failed self.old self.new answer.now }
-        ensures kept { answer.now ≢ Err ShelfFault.Failed → self.new ≡ self.old }
     {
         if let Err(ShelfFault::Failed) = answer {
             self.faults = self.faults.saturating_add(1);

@@ -1,5 +1,5 @@
-//! Sources and sinks of bytes and shelves of proof files, in memory and over the standard library's readers, writers and
-//! folders.
+//! Sources and sinks of bytes and shelves of proof files, in memory and over the standard library's
+//! readers, writers and folders.
 #![tactic(auto)]
 
 mod failed;

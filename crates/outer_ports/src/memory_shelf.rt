@@ -101,7 +101,6 @@ impl Shelf for MemoryShelf {
     fn begin(&mut self, name: ProofName) -> Result<(), ShelfFault>
         ensures begun { Begins (⟦<MemoryShelf as Shelf>⟧.file self.old) (⟦<MemoryShelf as Shelf>⟧.file self.new) name result }
         ensures cause { HasCause ShelfFault.Failed (⟦<MemoryShelf as Shelf>⟧.faults self.old) (⟦<MemoryShelf as Shelf>⟧.faults self.new) result }
-        ensures kept { result ≢ Err ShelfFault.Failed → ⟦<MemoryShelf as Shelf>⟧.faults self.new ≡ ⟦<MemoryShelf as Shelf>⟧.faults self.old }
         ensures call { IsCall self.old self.new result }
     {
         self.goes()?;
@@ -115,7 +114,6 @@ impl Shelf for MemoryShelf {
         ensures some { 0 < length piece.now → IfOk result (λ n. 0 < n) }
         ensures appended { AppendsTo (⟦<MemoryShelf as Shelf>⟧.file self.old) (⟦<MemoryShelf as Shelf>⟧.file self.new) name piece.now result }
         ensures cause { HasCause ShelfFault.Failed (⟦<MemoryShelf as Shelf>⟧.faults self.old) (⟦<MemoryShelf as Shelf>⟧.faults self.new) result }
-        ensures kept { result ≢ Err ShelfFault.Failed → ⟦<MemoryShelf as Shelf>⟧.faults self.new ≡ ⟦<MemoryShelf as Shelf>⟧.faults self.old }
         ensures call { IsCall self.old self.new result }
     {
         self.goes()?;
@@ -137,7 +135,6 @@ impl Shelf for MemoryShelf {
         ensures count { (bytes : List ℕ) → ⟦<MemoryShelf as Shelf>⟧.file self.old name ≡ Some bytes →
             IfOk result (λ count. count ≡ Some (min (piece_of self.old) (min (length buf.new) (length bytes - place)))) }
         ensures cause { HasCause ShelfFault.Failed (⟦<MemoryShelf as Shelf>⟧.faults self.old) (⟦<MemoryShelf as Shelf>⟧.faults self.new) result }
-        ensures kept { result ≢ Err ShelfFault.Failed → ⟦<MemoryShelf as Shelf>⟧.faults self.new ≡ ⟦<MemoryShelf as Shelf>⟧.faults self.old }
         ensures call { IsCall self.old self.new result }
     {
         self.goes()?;

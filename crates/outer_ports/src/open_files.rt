@@ -1,12 +1,12 @@
 //! Files that stay open.
 
 ghost use Rattle.std.specs.Prelude.{◌≡◌, ◌≢◌, None, IfSome};
-ghost use Rattle.outer_ports.specs.OpenFiles.{Holds};
+ghost use Rattle.outer_ports.specs.inner.OpenFiles.{Holds};
 
 use crate::proof_name::{FileKind, ProofName};
 
-// Of each kind of file the one that was appended to last, so that the lines of a formula, of its
-// refutation and of its log are one write each, in whatever order they come.
+// Of each kind of file the one that was begun or appended to last, so that the lines of a formula,
+// of its refutation and of its log are one write each, in whatever order they come.
 #[derive(Drop)]
 pub(crate) struct OpenFiles<F> {
     cnf: Option<(ProofName, F)>,

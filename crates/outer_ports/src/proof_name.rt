@@ -7,7 +7,8 @@ use crate::part::Part;
 use std::fmt;
 use std::fmt::Display;
 
-/// What a file of a shelf holds: the formula of a candidate, a refutation of it, or the log of a search that was given up.
+/// What a file of a shelf holds: the formula of a candidate, a refutation of it, or the log of a
+/// search that was given up.
 #[derive(Clone, Copy, Debug, PartialEq, Eq, PartialOrd, Ord)]
 pub enum FileKind {
     Cnf,
@@ -15,7 +16,8 @@ pub enum FileKind {
     Partial,
 }
 
-/// The name of a file of a shelf: what it holds, and of which candidate of which part. No file is named with `Part::Joined`.
+/// The name of a file of a shelf: what it holds, and of which candidate of which part. No file is
+/// named with `Part::Joined`.
 ///
 /// `{}` prints it as a file of a folder has it, for example `1-1-1.cnf` or `reduce-2-3-16.lrat`.
 #[derive(Clone, Copy, Debug, PartialEq, Eq, PartialOrd, Ord)]

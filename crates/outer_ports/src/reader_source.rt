@@ -11,9 +11,9 @@ use std::marker::Model;
 
 /// A source over a reader. Contracts see it as its reader and its count of faults.
 ///
-/// An interrupted read is made again; each other error is a fault. Over a reader that tells its bytes, exactly those are
-/// taken that the buffer is given. The source itself tells none: a reader that tells nothing may come to tell its bytes, and
-/// a source may not.
+/// An interrupted read is made again; each other error is a fault. Over a reader that tells its
+/// bytes, exactly those are taken that the buffer is given. The source itself tells none: a reader
+/// that tells nothing may come to tell its bytes, and a source may not.
 #[derive(Drop)]
 pub struct ReaderSource<R> {
     reader: R,
@@ -51,7 +51,6 @@ impl<R: Read> Source for ReaderSource<R> {
     fn read(&mut self, buf: &mut [u8]) -> Result<usize, Failed>
         ensures within { IfOk result (λ n. n ≤ length buf.new) }
         ensures taken { ReadConsumes (R.remaining self.old.reader) (R.remaining self.new.reader) result buf.new }
-        ensures ok { OnOk result (self.new.faults ≡ self.old.faults) }
         ensures err { OnErr result (self.new.faults ≡ next_count self.old.faults) }
         ensures cause { HasCause failed self.old.faults self.new.faults result }
     {

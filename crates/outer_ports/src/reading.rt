@@ -25,7 +25,6 @@ pub fn read_all<I: Source>(
     requires { limit ≤ 1048576 }
     ensures told { Tells (I.tells source.old) (I.tells source.new) }
     ensures cause { HasCause ReadFault.Failed (I.faults source.old) (I.faults source.new) result }
-    ensures kept { result ≢ Err ReadFault.Failed → I.faults source.new ≡ I.faults source.old }
     ensures memory { result ≡ Err ReadFault.OutOfMemory → source.new ≡ source.old }
 
     // Where all bytes came, there are at most `limit`.
@@ -69,7 +68,6 @@ fn read_piece<I: Source>(
     requires room { vec_len bytes.old + length buffer.old ≤ vec_capacity bytes.old }
     ensures told { Tells (I.tells source.old) (I.tells source.new) }
     ensures cause { HasCause failed (I.faults source.old) (I.faults source.new) result }
-    ensures kept { OnOk result (I.faults source.new ≡ I.faults source.old) }
     ensures capacity { vec_capacity bytes.old ≤ vec_capacity bytes.new }
     ensures count { IfOk result (λ n. (n ≤ length buffer.old) × (vec_len bytes.new ≡ vec_len bytes.old + n)) }
     ensures moved { IsTrue (I.tells source.new) →

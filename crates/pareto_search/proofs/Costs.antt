@@ -11,7 +11,7 @@ use Rattle.candidate_order.specs.Costs.{NoWorse, Better, Before}
 use Rattle.candidate_order.specs.Frontiers.{QuestionValue, PointValue, UnknownValue, IsWithin}
 use Rattle.candidate_order.proofs.Costing.{cost_upto, cost_below_right}
 use Rattle.candidate_order.proofs.Orders.{Before-trans, has_chunk, Before-irrefl}
-use Rattle.pareto_search.specs.Passing.{LastSettles, IsUnrivalled, IsMark}
+use Rattle.pareto_search.specs.inner.Passing.{LastSettles, IsUnrivalled, IsMark}
 
 -- of two candidates only one comes before the other
 pub Before-asym : (q : QuestionValue) (x y : Candidate) → IsWithin q x → IsWithin q y → Before x y → Before y x → ⊥

@@ -17,7 +17,7 @@ use Rattle.candidate_order.proofs.Orders.{has_chunk}
 use Rattle.engine_rules.specs.declared.settled.Settled.{Settled}
 use Rattle.engine_rules.specs.declared.settled.Settled.TheVariants.{Solved, Refuted, Unknown}
 use Rattle.engine_rules.specs.Outcomes.{RecordValue}
-use Rattle.pareto_search.specs.Passing.{HasFewerSteps, IsSettled, IsFound, HasPassed, of_kind}
+use Rattle.pareto_search.specs.inner.Passing.{HasFewerSteps, IsSettled, IsFound, HasPassed, of_kind}
 use Rattle.pareto_search.specs.Recorded.{entries_of}
 use Rattle.pareto_search.proofs.Costs.{no_worse_than_better}
 use Rattle.pareto_search.proofs.Records.{of_kind-settled, Contains-of_kind, of_kind-ascends, one_kind, by_kind, by_kind-shuffles}

@@ -10,7 +10,7 @@ use Rattle.candidate_order.specs.Frontiers.{QuestionValue, IsWithin}
 use Rattle.candidate_order.proofs.Orders.{Before-irrefl}
 use Rattle.engine_rules.specs.declared.settled.Settled.{Settled}
 use Rattle.engine_rules.specs.Outcomes.{RecordValue}
-use Rattle.pareto_search.specs.Passing.{IsBefore, IsUpTo, IsSettled, IsMark}
+use Rattle.pareto_search.specs.inner.Passing.{IsBefore, IsUpTo, IsSettled, IsMark}
 use Rattle.pareto_search.proofs.Costs.{Before-asym, better_first}
 use Rattle.pareto_search.proofs.Records.{Ascends}
 

@@ -14,7 +14,7 @@ use Rattle.candidate_order.specs.Listed.{Within, IsListed, IsCount, AreAllowed}
 use Rattle.candidate_order.proofs.Orders.{listed-within, Before-irrefl}
 use Rattle.candidate_order.specs.Frontiers.{QuestionValue, FrontierValue, IsWithin}
 use Rattle.engine_rules.specs.Outcomes.{RecordValue}
-use Rattle.pareto_search.specs.Passing.{HasFewerSteps, IsBefore, IsUpTo, IsThrough, IsStep, HasPassed}
+use Rattle.pareto_search.specs.inner.Passing.{HasFewerSteps, IsBefore, IsUpTo, IsThrough, IsStep, HasPassed}
 use Rattle.pareto_search.specs.Recorded.{StaysWithin, IsStoppedWithin}
 use Rattle.pareto_search.proofs.Costs.{Before-asym}
 

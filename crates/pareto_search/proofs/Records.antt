@@ -14,7 +14,7 @@ use Rattle.candidate_order.proofs.Orders.{Before-irrefl}
 use Rattle.engine_rules.specs.declared.settled.Settled.{Settled}
 use Rattle.engine_rules.specs.declared.settled.Settled.TheVariants.{Solved, Refuted, Unknown}
 use Rattle.engine_rules.specs.Outcomes.{RecordValue}
-use Rattle.pareto_search.specs.Passing.{is_same, of_kind}
+use Rattle.pareto_search.specs.inner.Passing.{is_same, of_kind}
 
 AllPairs-map : {X Y : Type 0} (R : Y → Y → Type 0) (f : X → Y) (xs : List X) → AllPairs (λ a b. R (f a) (f b)) xs → AllPairs R (map f xs)
 AllPairs-map R f [] pairs i j d before below = absurd (omega arith)

@@ -15,7 +15,7 @@ use Rattle.candidate_order.proofs.Orders.{has_chunk, Before-irrefl}
 use Rattle.engine_rules.specs.declared.settled.Settled.{Settled}
 use Rattle.engine_rules.specs.declared.settled.Settled.TheVariants.{Solved, Refuted, Unknown}
 use Rattle.engine_rules.specs.Outcomes.{RecordValue, SolvesTightly}
-use Rattle.pareto_search.specs.Passing.{IsBefore, IsUpTo, IsSettled, IsMark, IsFound, LastSettles, HasPassed, of_kind, with_point, with_refuted, with_unknown}
+use Rattle.pareto_search.specs.inner.Passing.{IsBefore, IsUpTo, IsSettled, IsMark, IsFound, LastSettles, HasPassed, of_kind, with_point, with_refuted, with_unknown}
 use Rattle.pareto_search.specs.Recorded.{StaysWithin, IsStoppedWithin}
 use Rattle.pareto_search.proofs.Costs.{CostsFall, steps_upto, settled_by_last}
 use Rattle.pareto_search.proofs.Records.{of_kind-settled, of_kind-append, of_kind-ascends}

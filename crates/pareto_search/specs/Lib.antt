@@ -1,2 +1,2 @@
 pub mod Recorded
-pub mod Passing
+pub mod inner

@@ -3,7 +3,7 @@
 ghost use Rattle.std.specs.Prelude.{◌≡◌, ◌↔◌, [], Any, IsTrue, OnOk};
 ghost use Rattle.candidate_order.specs.Costs.{Better};
 ghost use Rattle.candidate_order.specs.Frontiers.{given_up};
-ghost use Rattle.pareto_search.specs.Passing.{LastSettles, IsMark, with_point, with_refuted, with_unknown};
+ghost use Rattle.pareto_search.specs.inner.Passing.{LastSettles, IsMark, with_point, with_refuted, with_unknown};
 
 use candidate_order::{Candidate, Frontier, Mark, OutOfMemory, Point, Unknown, better, no_worse};
 use schedule::Schedule;
@@ -38,15 +38,16 @@ impl Findings {
         }
     }
 
-    /// Whether the last point is no worse than the candidate. Each point costs less than those before it, so where the last
-    /// is worse, all are.
+    /// Whether the last point is no worse than the candidate. Each point costs less than those
+    /// before it, so where the last is worse, all are.
     pub(crate) fn settles(&self, candidate: Candidate) -> bool
         ensures { IsTrue result ↔ LastSettles self.now.points candidate }
     {
         last_settles(&self.points, candidate)
     }
 
-    /// The mark of a point of the candidate: optimal exactly where none that was given up is better.
+    /// The mark of a point of the candidate: optimal exactly where none that was given up is
+    /// better.
     fn mark_of(&self, candidate: Candidate) -> Mark
         ensures { IsMark (given_up self.now) candidate result }
     {

@@ -1,9 +1,9 @@
 //! The search, in the order of steps and costs (Cai et al., PPoPP 2021, Pareto-optimal schedules).
 
-ghost use Rattle.std.specs.Prelude.{◌≡◌, ◌≢◌, ◌↔◌, [], ℕ, None, Err, All, IfOk, OnOk};
+ghost use Rattle.std.specs.Prelude.{◌≡◌, ◌≢◌, [], ℕ, None, Err, All, IfOk, OnOk};
 ghost use Rattle.std.specs.List.Sorted.{IsPermutation, IsStrictlyIncreasing};
 ghost use Rattle.outer_ports.specs.Port.{HasCause};
-ghost use Rattle.schedule.specs.Sends.{ScheduleValue};
+ghost use Rattle.engine_rules.specs.Searches.{CanGoOn, IsSameSearch};
 ghost use Rattle.collective_spec.specs.Collectives.{kind_in};
 ghost use Rattle.candidate_order.specs.Listed.{AreAllowed};
 ghost use Rattle.candidate_order.specs.Frontiers.{RightFrontier, Searched};
@@ -15,13 +15,13 @@ use candidate_order::{Candidate, Frontier, Limits};
 use engine_rules::{Engine, EngineFault};
 use std::alloc::Global;
 
-/// Settles the candidates within the limits in the order of the search, each that no point found before settles, and gives
-/// the frontier: its points, each `Optimal` exactly where every better candidate within the limits was refuted, and the
-/// candidates that were refuted or given up.
+/// Settles the candidates within the limits in the order of the search, each that no point found
+/// before settles, and gives the frontier: its points, each `Optimal` exactly where every better
+/// candidate within the limits was refuted, and the candidates that were refuted or given up.
 ///
-/// The limits are the engine's, and `allowed` holds the chunk counts that they and the engine's collective allow, which
-/// ascend. The engine is new: its record is empty. [`EngineFault::ShelfFailed`] comes only where the engine's count of
-/// faults rose.
+/// The limits are the engine's, and `allowed` holds the chunk counts that they and the engine's
+/// collective allow, which ascend. The engine is new: its record is empty.
+/// [`EngineFault::ShelfFailed`] comes only where the engine's count of faults rose.
 pub fn search<T, E: Engine<T>>(
     alloc: Global,
     engine: &mut E,
@@ -39,15 +39,11 @@ pub fn search<T, E: Engine<T>>(
     ensures searched { IfOk result (λ f. Searched (E.question engine.old) f) }
     ensures suits { IfOk result (λ f. All (λ p. E.suits engine.new p.candidate p.schedule) f.points) }
     ensures entries { IfOk result (λ f. IsPermutation (E.entries engine.new) (entries_of f)) }
-    ensures running { OnOk result (E.stopped engine.new ≡ None) }
     ensures within { StaysWithin (E.question engine.old) (E.entries engine.new) (E.stopped engine.new) }
-    ensures question { E.question engine.new ≡ E.question engine.old }
-    ensures formula { (x : Candidate) → E.formula engine.new x ≡ E.formula engine.old x }
-    ensures suits_stay { (x : Candidate) (schedule : ScheduleValue) → E.suits engine.new x schedule ↔ E.suits engine.old x schedule }
+    ensures same { IsSameSearch E.EngineView engine.old E.EngineView engine.new }
     ensures moves { E.moves engine.old store.old engine.new store.new }
-    ensures agrees { OnOk result (E.agrees engine.new store.new) }
+    ensures goes_on { OnOk result (CanGoOn (E.stopped engine.new) (E.agrees engine.new store.new)) }
     ensures cause { HasCause EngineFault.ShelfFailed (E.faults engine.old store.old) (E.faults engine.new store.new) result }
-    ensures steady { result ≢ Err EngineFault.ShelfFailed → E.faults engine.new store.new ≡ E.faults engine.old store.old }
 {
     let mut findings = Findings::new(alloc);
     for step in 1..limits.max_s() + 1 {

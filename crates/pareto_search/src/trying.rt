@@ -1,13 +1,13 @@
 //! The candidates that a search tries, one after the other.
 
-ghost use Rattle.std.specs.Prelude.{◌≡◌, ◌≢◌, ◌↔◌, ◌+◌, ◌≤◌, None, Err, OnOk};
+ghost use Rattle.std.specs.Prelude.{◌≡◌, ◌≢◌, ◌+◌, ◌≤◌, None, Err, OnOk};
 ghost use Rattle.std.specs.List.Sorted.{IsStrictlyIncreasing};
 ghost use Rattle.outer_ports.specs.Port.{HasCause};
-ghost use Rattle.schedule.specs.Sends.{ScheduleValue};
+ghost use Rattle.engine_rules.specs.Searches.{CanGoOn, IsSameSearch};
 ghost use Rattle.collective_spec.specs.Collectives.{kind_in};
 ghost use Rattle.candidate_order.specs.Listed.{AreAllowed};
 ghost use Rattle.candidate_order.specs.Frontiers.{IsWithin};
-ghost use Rattle.pareto_search.specs.Passing.{HasFewerSteps, IsBefore, IsUpTo, HasPassed};
+ghost use Rattle.pareto_search.specs.inner.Passing.{HasFewerSteps, IsBefore, IsUpTo, HasPassed};
 ghost use Rattle.pareto_search.specs.Recorded.{StaysWithin};
 
 use crate::findings::Findings;
@@ -15,7 +15,8 @@ use candidate_order::{Candidate, Limits, Outcome, list};
 use engine_rules::{Engine, EngineFault};
 use std::alloc::Global;
 
-/// Passes a candidate, after all that come before it: settles it, unless a point found so far is no worse.
+/// Passes a candidate, after all that come before it: settles it, unless a point found so far is no
+/// worse.
 pub(crate) fn try_candidate<T, E: Engine<T>>(
     engine: &mut E,
     store: &mut T,
@@ -27,15 +28,11 @@ pub(crate) fn try_candidate<T, E: Engine<T>>(
     requires running { E.stopped engine.old ≡ None }
     requires agrees { E.agrees engine.old store.old }
     ensures passed { OnOk result (HasPassed (E.question engine.new) (E.suits engine.new) (IsUpTo (E.question engine.new) candidate) (E.entries engine.new) findings.new) }
-    ensures running { OnOk result (E.stopped engine.new ≡ None) }
     ensures within { StaysWithin (E.question engine.old) (E.entries engine.new) (E.stopped engine.new) }
-    ensures question { E.question engine.new ≡ E.question engine.old }
-    ensures formula { (x : Candidate) → E.formula engine.new x ≡ E.formula engine.old x }
-    ensures suits_stay { (x : Candidate) (schedule : ScheduleValue) → E.suits engine.new x schedule ↔ E.suits engine.old x schedule }
+    ensures same { IsSameSearch E.EngineView engine.old E.EngineView engine.new }
     ensures moves { E.moves engine.old store.old engine.new store.new }
-    ensures agrees { OnOk result (E.agrees engine.new store.new) }
+    ensures goes_on { OnOk result (CanGoOn (E.stopped engine.new) (E.agrees engine.new store.new)) }
     ensures cause { HasCause EngineFault.ShelfFailed (E.faults engine.old store.old) (E.faults engine.new store.new) result }
-    ensures steady { result ≢ Err EngineFault.ShelfFailed → E.faults engine.new store.new ≡ E.faults engine.old store.old }
 {
     if findings.settles(candidate) {
         return Ok(());
@@ -66,15 +63,11 @@ pub(crate) fn try_step<T, E: Engine<T>>(
     requires running { E.stopped engine.old ≡ None }
     requires agrees { E.agrees engine.old store.old }
     ensures passed { OnOk result (HasPassed (E.question engine.new) (E.suits engine.new) (HasFewerSteps (E.question engine.new) (step + 1)) (E.entries engine.new) findings.new) }
-    ensures running { OnOk result (E.stopped engine.new ≡ None) }
     ensures within { StaysWithin (E.question engine.old) (E.entries engine.new) (E.stopped engine.new) }
-    ensures question { E.question engine.new ≡ E.question engine.old }
-    ensures formula { (x : Candidate) → E.formula engine.new x ≡ E.formula engine.old x }
-    ensures suits_stay { (x : Candidate) (schedule : ScheduleValue) → E.suits engine.new x schedule ↔ E.suits engine.old x schedule }
+    ensures same { IsSameSearch E.EngineView engine.old E.EngineView engine.new }
     ensures moves { E.moves engine.old store.old engine.new store.new }
-    ensures agrees { OnOk result (E.agrees engine.new store.new) }
+    ensures goes_on { OnOk result (CanGoOn (E.stopped engine.new) (E.agrees engine.new store.new)) }
     ensures cause { HasCause EngineFault.ShelfFailed (E.faults engine.old store.old) (E.faults engine.new store.new) result }
-    ensures steady { result ≢ Err EngineFault.ShelfFailed → E.faults engine.new store.new ≡ E.faults engine.old store.old }
 {
     let candidates = list(alloc, limits, step, allowed)?;
     for candidate in &candidates {

@@ -30,8 +30,8 @@ fn programs_in_report(
     })
 }
 
-/// The answer to a text that came whole: the programs of a point of the report that it spells, or the refusal of the text or
-/// of the point. The only error is `OutOfMemory`.
+/// The answer to a text that came whole: the programs of a point of the report that it spells, or
+/// the refusal of the text or of the point. The only error is `OutOfMemory`.
 pub fn programs_answer(alloc: Global, asked: PointWord, bytes: &[u8]) -> Result<Answer, OutOfMemory>
     requires short { length bytes.now ≤ limit }
     ensures { IfOk result (λ a. IsAnswerAlone (programs_asked asked bytes.now) a.status a.text.items) }

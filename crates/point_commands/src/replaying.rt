@@ -31,8 +31,9 @@ fn replay_in_report(
     })
 }
 
-/// The answer to a text that came whole: the replay of a point of the report that it spells, with an order in the order that
-/// this seed draws too; or the refusal of the text or of the point. The only error is `OutOfMemory`.
+/// The answer to a text that came whole: the replay of a point of the report that it spells, with
+/// an order in the order that this seed draws too; or the refusal of the text or of the point. The
+/// only error is `OutOfMemory`.
 pub fn replay_answer(
     alloc: Global,
     asked: PointWord,

@@ -11,7 +11,7 @@ use Rattle.lrat_text.specs.declared.fault.LratTextFault.{LratTextFault}
 use Rattle.lrat_text.specs.Reading.{row_says, size_of, Said, nothing_said, said_at, said_by, ReaderValue, said_to, after_next}
 use Rattle.lrat_text.proofs.Cutting.{first_of}
 use Rattle.candidate_formula.specs.Lines.{in_front, lines_from}
-use Rattle.proof_audit.specs.Lines.{left_says, before, lines_pass}
+use Rattle.proof_audit.specs.inner.Lines.{left_says, before, lines_pass}
 
 -- ---- the first line
 

@@ -15,7 +15,7 @@ use Rattle.proof_audit.specs.declared.verdict.FileVerdict.{FileVerdict}
 use Rattle.proof_audit.specs.declared.verdict.FileVerdict.TheVariants.{Stands, Refused}
 use Rattle.proof_audit.specs.Proving.{is_refuted, checker_after, do_refute, is_refutation, are_learned, do_spend, is_spent_log}
 use Rattle.proof_audit.specs.Files.{file_verdict, short_and, SomePass, HasSpentLog}
-use Rattle.proof_audit.specs.Lines.{left_says, lines_pass}
+use Rattle.proof_audit.specs.inner.Lines.{left_says, lines_pass}
 use Rattle.proof_audit.proofs.Proved.{refutes_by, spent_by}
 
 -- ---- tests that agree

@@ -1,4 +1,4 @@
 pub mod Proving
 pub mod Faults
 pub mod Files
-pub mod Lines
+pub mod inner

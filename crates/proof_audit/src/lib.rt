@@ -1,4 +1,5 @@
-//! Whether a file beside a report is what it has to be: the text of a formula, a refutation of it, or a spent log of it.
+//! Whether a file beside a report is what it has to be: the text of a formula, a refutation of it,
+//! or a spent log of it.
 #![tactic(auto)]
 
 mod fault;

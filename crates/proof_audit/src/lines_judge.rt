@@ -3,7 +3,7 @@
 ghost use Rattle.std.specs.Prelude.{◌≡◌, ◌≢◌, ℕ, ◌+◌, ◌<◌, ◌^◌, ◌++◌, [], Bool, true, false, List, length, Ok, IfOk};
 ghost use Rattle.lrat_text.specs.declared.fault.LratTextFault.{LratTextFault};
 ghost use Rattle.lrat_text.specs.Reading.{ReaderValue, new_reader};
-ghost use Rattle.proof_audit.specs.Lines.{left_says, lines_pass, IsReading};
+ghost use Rattle.proof_audit.specs.inner.Lines.{left_says, lines_pass, IsReading};
 
 use crate::judge::Judge;
 use crate::line_test::LineTest;
@@ -35,8 +35,8 @@ impl<T: LineTest + Drop> LinesJudge<T> {
 impl<T: LineTest> LinesJudge<T> {
     ghost use Rattle.std.specs.Prelude.{None};
 
-    /// Hands the lines that the reader has to the test. `false` says that one can't be read, or that no lines that begin so
-    /// pass.
+    /// Hands the lines that the reader has to the test. `false` says that one can't be read, or
+    /// that no lines that begin so pass.
     fn take_lines(&mut self) -> Result<bool, OutOfMemory>
         requires calm { self.old.reader.fault ≡ None }
         ensures calm { result ≡ Ok true → self.new.reader.fault ≡ None }

@@ -12,7 +12,8 @@ use cnf_formula::{Formula, LratLine, OutOfMemory, ProofLine};
 use lrat_checker::Checker;
 use std::alloc::Global;
 
-/// Lines pass where there are as many as are left, and each is an addition that is implied and fresh in its turn.
+/// Lines pass where there are as many as are left, and each is an addition that is implied and
+/// fresh in its turn.
 #[derive(Drop)]
 pub(crate) struct LogTest {
     checker: Checker,

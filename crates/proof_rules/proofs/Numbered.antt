@@ -31,7 +31,8 @@ below n (clause ∷ clauses) =
     let later = below (n + 1) clauses in
     All-cons (Below (n + length (clause ∷ clauses))) (n, clause) (enumerate_from (n + 1) clauses) (omega arith) (λ k d w. let a = later k d w in omega (arith, a))
 
-here : (held : List Entry) (id : ℕ) (clause : List LitValue) → clause_at ((id, clause) ∷ held) id ≡ Some clause
+-- the clause at the front is found by its number
+pub here : (held : List Entry) (id : ℕ) (clause : List LitValue) → clause_at ((id, clause) ∷ held) id ≡ Some clause
 here held id clause = rw (eq-eqb id id refl) refl
 
 later : (held : List Entry) (entry other : Entry) → (entry.0 ≡ other.0 → ⊥) → Found held other → Found (entry ∷ held) other

@@ -11,14 +11,16 @@ ghost use Rattle.proof_rules.specs.Refuting.{is_accepted, verdict_on, with_accep
 
 use crate::verdict::LineVerdict;
 
-/// The checks leave an addition accepted as implied (RUP), or as redundant (RAT), exactly by the definitions.
+/// The checks leave an addition accepted as implied (RUP), or as redundant (RAT), exactly by the
+/// definitions.
 #[tactic(auto, using(crate::proofs::Verdicts::implied_exactly, crate::proofs::Verdicts::redundant_exactly))]
 pub fn additions_are_accepted_exactly()
     ensures implied { (c : CheckerValue) (line : ProofLineValue) → (verdict_of c line ≡ LineVerdict.Accepted true) ↔ Implied c line }
     ensures redundant { (c : CheckerValue) (line : ProofLineValue) → (verdict_of c line ≡ LineVerdict.Accepted false) ↔ Redundant c line }
 {}
 
-/// Where some assignment satisfies a formula, some assignment satisfies all that is held after any accepted lines.
+/// Where some assignment satisfies a formula, some assignment satisfies all that is held after any
+/// accepted lines.
 #[tactic(auto, using(crate::proofs::Together::still_satisfiable))]
 pub fn satisfiable_stays_satisfiable()
     ensures { (f : FormulaValue) (lines : List LratLine) → IsFormula f → Satisfiable f → AllAccepted (start_of f) lines → Satisfiable (formula_after f lines) }

@@ -1,5 +1,6 @@
-//! What it means that a line of a proof is accepted (LRAT: implied lines are RUP, redundant ones RAT), that lines refute a
-//! formula, and that a search for a refutation (CDCL with so many learned clauses) is exhausted.
+//! What it means that a line of a proof is accepted (LRAT: implied lines are RUP, redundant ones
+//! RAT), that lines refute a formula, and that a search for a refutation (CDCL with so many learned
+//! clauses) is exhausted.
 #![tactic(auto)]
 
 pub mod laws;

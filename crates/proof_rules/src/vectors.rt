@@ -26,7 +26,8 @@ pub fn lines_over_four_clauses()
     ensures deletion { deletion_verdict (start_of four_clauses) (record { id = 5; ids = 9 ∷ [] }) ≡ LineVerdict.Refused LineCode.UnknownDeletion 0 }
 {}
 
-/// Two lines refute the four clauses. The first alone is a spent log of one line; it does not exhaust the formula.
+/// Two lines refute the four clauses. The first alone is a spent log of one line; it does not
+/// exhaust the formula.
 pub fn refutation_of_four_clauses()
     ensures second { verdict_of (with_line (start_of four_clauses) unit_of_four) end_of_four ≡ LineVerdict.Accepted true }
     ensures refutes { Refutes (LratLine.Addition unit_of_four ∷ LratLine.Addition end_of_four ∷ []) four_clauses }
@@ -42,14 +43,14 @@ pub fn deletions_from_four_clauses()
     ensures again { deletion_verdict (without (start_of four_clauses) (record { id = 5; ids = 4 ∷ 1 ∷ [] })) (record { id = 6; ids = 1 ∷ [] }) ≡ LineVerdict.Refused LineCode.UnknownDeletion 0 }
 {}
 
-/// The formula of every clause of all of three variables is exhausted by one line: no clause that is then held has fewer
-/// than two literals.
+/// The formula of every clause of all of three variables is exhausted by one line: no clause that
+/// is then held has fewer than two literals.
 pub fn exhausted_by_one_line()
     ensures { Exhausted eight_clauses 1 }
 {}
 
-/// The formula of one step on the line of three nodes falls by one line. Without the hint 9 the last hint leaves a
-/// literal, and there is no conflict.
+/// The formula of one step on the line of three nodes falls by one line. Without the hint 9 the
+/// last hint leaves a literal, and there is no conflict.
 pub fn line_of_three_nodes()
     ensures accepted { verdict_of (start_of line_of_3) (record { id = 34; lits = []; hints = chain }) ≡ LineVerdict.Accepted true }
     ensures without_9 { verdict_of (start_of line_of_3) (record { id = 34; lits = []; hints = pos 2 ∷ pos 3 ∷ pos 16 ∷ pos 24 ∷ [] }) ≡ LineVerdict.Refused LineCode.NoConflict 0 }

@@ -1,7 +1,8 @@
 /// Why a line was refused: the first of its checks that failed.
 #[derive(Clone, Copy, Debug, PartialEq, Eq)]
 pub enum LineCode {
-    /// The id is not greater than the number of clauses of the formula and than the id of every accepted addition.
+    /// The id is not greater than the number of clauses of the formula and than the id of every
+    /// accepted addition.
     IdNotGreater = 1,
     /// The hint names no clause that is held.
     UnknownHint = 2,
@@ -23,13 +24,14 @@ pub enum LineCode {
     PivotNotNegated = 11,
     /// The clause had a group before.
     GroupTwice = 12,
-    /// A clause with the negation of the first literal has no group, and is not satisfied without one.
+    /// A clause with the negation of the first literal has no group, and is not satisfied without
+    /// one.
     GroupMissing = 13,
 }
 
-/// The verdict on a line. `implied` is whether it is an addition that follows from what is held (RUP), and not one that is only
-/// redundant (RAT), nor a deletion. `hint` is the place of the hint that the code is about, counted from 0, and 0 where the code
-/// is about none.
+/// The verdict on a line. `implied` is whether it is an addition that follows from what is held
+/// (RUP), and not one that is only redundant (RAT), nor a deletion. `hint` is the place of the hint
+/// that the code is about, counted from 0, and 0 where the code is about none.
 #[derive(Clone, Copy, Debug, PartialEq, Eq)]
 pub enum LineVerdict {
     Accepted { implied: bool },

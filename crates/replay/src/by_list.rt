@@ -14,7 +14,8 @@ use node_programs::{Fired, Machine};
 /// How the events of a list went.
 #[derive(Clone, Copy, Debug, PartialEq, Eq)]
 pub enum ListEnd {
-    /// The event at this place, counted from 0, could not be done: its node is not enabled, or no node.
+    /// The event at this place, counted from 0, could not be done: its node is not enabled, or no
+    /// node.
     Stopped { place: u32 },
     /// All were done, and every program is at its end.
     Finished,
@@ -22,7 +23,8 @@ pub enum ListEnd {
     Unfinished,
 }
 
-/// Lets the nodes of the list move in order, up to the first that cannot. The list has at most 2^32 places.
+/// Lets the nodes of the list move in order, up to the first that cannot. The list has at most 2^32
+/// places.
 pub fn replay_by_list(machine: &mut Machine, nodes: &[u8]) -> ListEnd
     requires { length nodes.now ≤ 2 ^ 32 }
     ensures end { result ≡ end_of (length nodes.now) (stop_of machine.old nodes.now) }

@@ -13,8 +13,8 @@ use crate::drawing::Generator;
 use node_programs::Machine;
 use std::alloc::Global;
 
-/// Runs the machine until no node is enabled, in the order that the seed draws, and gives the nodes that moved. The only
-/// error is `OutOfMemory`; then the machine is as before.
+/// Runs the machine until no node is enabled, in the order that the seed draws, and gives the nodes
+/// that moved. The only error is `OutOfMemory`; then the machine is as before.
 pub fn replay_by_order(
     alloc: Global,
     machine: &mut Machine,
@@ -22,8 +22,8 @@ pub fn replay_by_order(
 ) -> Result<Vec<u8>, OutOfMemory>
     ensures chosen { IfOk result (λ moves. moves.items ≡ chosen machine.old seed) }
     ensures run { IfOk result (λ moves. run_of machine.old moves.items ≡ Some machine.new) }
-    // The new machine of a schedule ends finished, after as many events as it has operations, and with the last store of
-    // the joined run.
+    // The new machine of a schedule ends finished, after as many events as it has operations, and
+    // with the last store of the joined run.
     ensures finished { IfOk result (λ moves. (chunks nodes : ℕ) (start : Bags) (s : ScheduleValue) (adding : ℕ) → IsSchedule s → IsInRange chunks nodes s
         → machine.old ≡ machine_of chunks nodes start s adding → IsLast chunks nodes start s adding machine.new moves.items) }
     ensures err { OnErr result (machine.new ≡ machine.old) }

@@ -19,7 +19,8 @@ impl Generator {
         Generator { state: seed }
     }
 
-    /// The node that moves next: the generator goes on, and draws among the nodes that are enabled, if there are any.
+    /// The node that moves next: the generator goes on, and draws among the nodes that are enabled,
+    /// if there are any.
     pub(crate) fn next(&mut self, machine: &Machine) -> Option<u8>
         ensures state { self.new.state ≡ next_draw self.old.state }
         ensures node { result ≡ ranked (enabled machine.now) (next_draw self.old.state) }

@@ -1,4 +1,5 @@
-//! Replays of a schedule: step by step, and as runs of its machine in an order that a seed draws or a list gives.
+//! Replays of a schedule: step by step, and as runs of its machine in an order that a seed draws or
+//! a list gives.
 #![tactic(auto)]
 
 mod by_list;

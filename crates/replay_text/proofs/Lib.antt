@@ -3,3 +3,4 @@ pub mod Showable
 pub mod Ordered
 pub mod Bodies
 pub mod Machined
+pub mod Ends

@@ -17,7 +17,7 @@ use Rattle.node_programs.specs.Ended.{machine_of}
 use Rattle.text_lines.specs.Text.{line, text_of}
 use Rattle.replay_text.specs.Replay.{numbered_steps}
 use Rattle.replay_text.specs.Showing.{sum_words}
-use Rattle.replay_text.specs.Appended.{more_lines, move_lines, store_lines, stored_lines, stored_steps}
+use Rattle.replay_text.specs.inner.Appended.{more_lines, move_lines, store_lines, stored_lines, stored_steps}
 
 -- the events of a run that goes to its end
 pub order_events : (names : List (List ℕ)) (start : StoreValue) (s : ScheduleValue) (adding seed nodes : ℕ) (programs : List (List Op)) (first last : State) (moves drawn : List ℕ) → IsSchedule s → IsInRange start.chunks start.nodes s → IsStore start
@@ -44,7 +44,7 @@ run_text steps more verdict a b c d p q r =
 
 -- ---- of a schedule whose first steps add
 
-mapped_twice : {X Y Z : Type 0} (f : Y → Z) (g : X → Y) (xs : List X) → map f (map g xs) ≡ map (λ x. f (g x)) xs
+pub mapped_twice : {X Y Z : Type 0} (f : Y → Z) (g : X → Y) (xs : List X) → map f (map g xs) ≡ map (λ x. f (g x)) xs
 mapped_twice f g [] = refl
 mapped_twice f g (x ∷ xs) = ap (λ ys. f (g x) ∷ ys) (mapped_twice f g xs)
 

@@ -1,5 +1,5 @@
 -- What a report keeps of each of its points, and the instance that its part asks for.
-use Rattle.std.proofs.Common.{◌≡◌, arith, ◌≤◌, ◌<◌, ℕ, zero, suc, true, false, List, [], ◌∷◌, map, All, Option, None, Some, IfSome, IsTrue, slice_get, refl, subst}
+use Rattle.std.proofs.Common.{◌≡◌, arith, ◌≤◌, ◌<◌, ◌⊎◌, ⊎_elim, ℕ, zero, suc, true, false, List, [], ◌∷◌, map, length, All, Option, None, Some, IfSome, IsTrue, slice_get, refl, subst, ap}
 use Rattle.std.specs.Prelude.{nat_le, Contains}
 use Rattle.std.specs.List.{AllByRecursion, flat_map}
 use Rattle.std.proofs.lemmas.Bool.{and_parts, leb-true, not-true}
@@ -12,12 +12,14 @@ use Rattle.collective_spec.specs.declared.spec.Spec.{Spec}
 use Rattle.collective_spec.specs.declared.spec.Spec.TheVariants as spec
 use Rattle.collective_spec.specs.Kinds.{allows, divides_evenly, is_custom}
 use Rattle.collective_spec.specs.Patterns.{PatternValue, IsPattern}
-use Rattle.collective_spec.specs.Collectives.{IsSpec, chunks_in, fits_kind, spec_instance, spec_of}
+use Rattle.collective_spec.specs.Collectives.{IsSpec, chunks_in, fits_kind, spec_demand, spec_instance, spec_of}
+use Rattle.candidate_order.specs.declared.mark.Mark.{Mark}
+use Rattle.candidate_order.specs.declared.mark.Mark.TheVariants as mark
 use Rattle.candidate_order.specs.Frontiers.{PointValue, FrontierValue}
 use Rattle.report_form.specs.Reports.{ReportValue, IsReport, IsPoint, IsJoinedPoint, question_of, kind_of}
 use Rattle.report_form.specs.Numbered.{point_at, points_of}
 use Rattle.schedule.proofs.First.{each_append}
-use Rattle.replay_text.specs.Showing.{shown_in}
+use Rattle.replay_text.specs.Showing.{shown_in, steps_that_add}
 use Rattle.replay_text.specs.Points.{IsShowable}
 
 get_has : {X : Type 0} (P : X → Type 0) (xs : List X) (n : ℕ) (x : X) → AllByRecursion P xs → slice_get xs n ≡ Some x → P x
@@ -48,6 +50,10 @@ spec_valid r part valid =
 some_count : (k : Kind) (nodes c : ℕ) → IsTrue (allows k nodes c) → 1 ≤ c
 some_count k nodes c e = leb-true 1 c (and_parts (nat_le 1 c) (divides_evenly k nodes c) e).0
 
+-- the mark of a point that joins no others says nothing of its steps
+every_step : (m : Mark) (steps : ℕ) → (m ≡ mark.Optimal) ⊎ (m ≡ mark.Open) → steps_that_add m steps ≡ steps
+every_step m steps is = ⊎_elim (λ (e : m ≡ mark.Optimal). ap (λ k. steps_that_add k steps) e) (λ (e : m ≡ mark.Open). ap (λ k. steps_that_add k steps) e) is
+
 module _ (r : ReportValue) (valid : IsReport r) where
   of_point : (part : Part) (p : PointValue) → IsPoint (question_of r.words r.topology part) p → IsShowable (shown_in r (part, p))
   of_point part p point = record {
@@ -57,6 +63,7 @@ module _ (r : ReportValue) (valid : IsReport r) where
     allowed = λ _. point.within.allowed;
     some = some_count _ _ _ point.within.allowed;
     few = omega (arith, point.within.chunks, valid.words.limits.chunks);
+    all_add = λ _. every_step p.mark (length p.schedule.rounds) point.mark;
   }
 
   of_joined : (p : PointValue) → IsJoinedPoint (question_of r.words r.topology part.Joined) p → IsShowable (shown_in r (part.Joined, p))
@@ -67,6 +74,7 @@ module _ (r : ReportValue) (valid : IsReport r) where
     allowed = λ e. absurd (cc);
     some = point.some_chunks;
     few = omega (arith, point.chunks, valid.words.limits.chunks);
+    all_add = λ e. absurd (cc);
   }
 
   abbrev Shows : Part × PointValue → Type 0
@@ -103,6 +111,10 @@ module _ (r : ReportValue) (valid : IsReport r) where
 pub pre_chunks : (x : Spec) (nodes c : ℕ) → (spec_instance x nodes c).pre.chunks ≡ chunks_in x nodes c
 pre_chunks (spec.Standard collective) nodes c = refl
 pre_chunks (spec.Custom p) nodes c = refl
+
+pub demand_chunks : (x : Spec) (nodes c : ℕ) → (spec_demand x nodes c).chunks ≡ chunks_in x nodes c
+demand_chunks (spec.Standard collective) nodes c = refl
+demand_chunks (spec.Custom p) nodes c = refl
 
 pub pre_nodes : (x : Spec) (nodes c : ℕ) → (spec_instance x nodes c).pre.nodes ≡ nodes
 pre_nodes (spec.Standard collective) nodes c = refl

@@ -1,5 +1,5 @@
 pub mod Replay
 pub mod Showing
-pub mod Appended
 pub mod Points
 pub mod Rows
+pub mod inner

@@ -1,7 +1,10 @@
 -- What a report keeps of each of its points, and the text of a point's programs.
-use Rattle.std.specs.Prelude.{◌≡◌, ℕ, ◌≤◌, false, List, ◌∷◌, ◌++◌, Option, if◌then◌else◌, [], IsTrue}
+use Rattle.std.specs.Prelude.{◌≡◌, ℕ, ◌≤◌, false, List, ◌∷◌, ◌++◌, Option, if◌then◌else◌, [], IsTrue, length}
 use Rattle.outer_ports.specs.declared.part.Part.{Part}
+use Rattle.schedule.specs.Bags.{contributions}
+use Rattle.schedule.specs.JoinedRuns.{joined_after}
 use Rattle.schedule.specs.Sends.{IsInRange, IsSchedule}
+use Rattle.bag_runs.specs.Stores.{StoreValue, stored}
 use Rattle.collective_spec.specs.Kinds.{allows}
 use Rattle.collective_spec.specs.Collectives.{IsSpec, kind_in}
 use Rattle.candidate_order.specs.Frontiers.{PointValue}
@@ -9,9 +12,10 @@ use Rattle.node_programs.specs.Programs.{programs_of}
 use Rattle.node_programs.specs.Printing.{programs_text}
 use Rattle.report_form.specs.Reports.{ReportValue}
 use Rattle.replay_text.specs.Replay.{numbered_steps}
-use Rattle.replay_text.specs.Showing.{Shown, adding_of, chunks_at, holds_as_shown, is_joined, nodes_of, order_lines, shown_in, shown_steps, shown_verdict}
+use Rattle.replay_text.specs.Showing.{Shown, adding_of, chunks_at, holds_as_shown, is_joined, nodes_of, order_lines, shown_in, shown_steps, shown_verdict, steps_that_add}
 
--- the schedule is valid, its sends are of the collective's chunks and nodes, and the collective has the chunk count of the point
+-- the schedule is valid, its sends are of the collective's chunks and nodes, the collective has the
+-- chunk count of the point, and its mark says how many steps add only where it joins two others
 pub record IsShowable (x : Shown) : Type 0 where
   pub spec : IsSpec (nodes_of x) x.question.spec
   pub schedule : IsSchedule x.point.schedule
@@ -19,6 +23,11 @@ pub record IsShowable (x : Shown) : Type 0 where
   pub allowed : is_joined x.part ≡ false → IsTrue (allows (kind_in x.question.spec) (nodes_of x) x.point.candidate.c)
   pub some : 1 ≤ x.point.candidate.c
   pub few : x.point.candidate.c ≤ 16
+  pub all_add : is_joined x.part ≡ false → steps_that_add x.point.mark (length x.point.schedule.rounds) ≡ length x.point.schedule.rounds
+
+-- the store after the last step of a point that adds up
+abbrev pub last_store_of : Shown → StoreValue
+last_store_of x = stored (chunks_at x) (nodes_of x) (joined_after (contributions (nodes_of x)) x.point.schedule (adding_of x) (length x.point.schedule.rounds))
 
 -- the lines of a replay behind the number of the point, but for the end
 abbrev pub body_lines : Shown → Option ℕ → List (List (List ℕ))

@@ -5,15 +5,16 @@ ghost use Rattle.std.specs.List.{range_with_len};
 ghost use Rattle.bag_runs.specs.Kept.{counted};
 ghost use Rattle.text_lines.specs.Text.{line, text_of};
 ghost use Rattle.replay_text.specs.Replay.{numbered_steps, step_head};
-ghost use Rattle.replay_text.specs.Appended.{bag_word, digits_of, keeper_words, last_of, store_lines};
+ghost use Rattle.replay_text.specs.inner.Appended.{bag_word, digits_of, keeper_words, last_of, store_lines};
 
 use crate::OutOfMemory;
-use crate::words::{push_name, push_number_field, push_step_head};
+use crate::words::push_step_head;
 use node_programs::{Bag, Store};
-use text_lines::push_word;
-use topology_text::Name;
+use text_lines::{push_number_field, push_word};
+use topology_text::{Name, push_node_name};
 
-/// Appends how often each of so many nodes has contributed: a digit for each, where 2 stands for two or more.
+/// Appends how often each of so many nodes has contributed: a digit for each, where 2 stands for
+/// two or more.
 fn push_counts(out: &mut Vec<u8>, bag: &Bag, nodes: u8) -> Result<(), OutOfMemory>
     ensures { OnOk result (out.new.items ≡ out.old.items ++ digits_of (counted nodes bag.now)) }
 {
@@ -55,7 +56,7 @@ fn push_keeper(
     requires { node < store.now.nodes }
     ensures { OnOk result (out.new.items ≡ out.old.items ++ line (keeper_words names.now store.now node)) }
 {
-    push_name(out, names, node)?;
+    push_node_name(out, names, node)?;
     push_bags(out, store, node)?;
     push_word(out, b"\n")
 }

@@ -1,4 +1,5 @@
-//! The replay of a point of a report: what each node has after each step, the verdict on the schedule, and the run of its programs in an order.
+//! The replay of a point of a report: what each node has after each step, the verdict on the
+//! schedule, and the run of its programs in an order.
 #![tactic(auto)]
 
 mod adding;

@@ -7,16 +7,16 @@ ghost use Rattle.node_programs.specs.Machines.{start_of};
 ghost use Rattle.node_programs.specs.Runs.{chosen, operations};
 ghost use Rattle.text_lines.specs.Text.{text_of};
 ghost use Rattle.topology_text.specs.Spelling.{name_at};
-ghost use Rattle.replay_text.specs.Appended.{move_lines};
+ghost use Rattle.replay_text.specs.inner.Appended.{move_lines};
 
 use crate::OutOfMemory;
-use crate::words::{push_name_field, push_numbered};
+use crate::words::push_numbered;
 use node_programs::{Machine, Store, programs_of};
 use replay::replay_by_order;
 use schedule::Schedule;
 use std::alloc::Global;
 use text_lines::push_word;
-use topology_text::Name;
+use topology_text::{Name, push_node_field};
 
 /// The order is shown only where the verdict holds.
 pub(crate) fn order_where(holds: bool, order: Option<u64>) -> Option<u64>
@@ -30,7 +30,7 @@ fn push_movers(out: &mut Vec<u8>, names: &[Name], moves: &[u8]) -> Result<(), Ou
     ensures { OnOk result (out.new.items ≡ out.old.items ++ flat_map (λ node. 32 ∷ name_at names.now node) moves.now) }
 {
     for node in moves {
-        push_name_field(out, names, *node)?;
+        push_node_field(out, names, *node)?;
     }
     Ok(())
 }
@@ -46,7 +46,8 @@ fn push_moves(out: &mut Vec<u8>, names: &[Name], seed: u64, moves: &[u8]) -> Res
     push_word(out, b"\n")
 }
 
-/// Runs the programs of a schedule from a store, in the order that the seed draws, and appends the lines of the events.
+/// Runs the programs of a schedule from a store, in the order that the seed draws, and appends the
+/// lines of the events.
 pub(crate) fn push_order(
     alloc: Global,
     out: &mut Vec<u8>,

@@ -4,13 +4,13 @@ ghost use Rattle.std.specs.Prelude.{◌≡◌, ◌<◌, ◌++◌, ◌∷◌, [],
 ghost use Rattle.schedule.specs.Placed.{holds};
 ghost use Rattle.text_lines.specs.Text.{line, text_of};
 ghost use Rattle.replay_text.specs.Replay.{held_by, holder_words, node_lines, numbered_steps, step_head};
-ghost use Rattle.replay_text.specs.Appended.{last_of};
+ghost use Rattle.replay_text.specs.inner.Appended.{last_of};
 
 use crate::OutOfMemory;
-use crate::words::{push_name, push_number_field, push_step_head};
+use crate::words::push_step_head;
 use schedule::Placement;
-use text_lines::push_word;
-use topology_text::Name;
+use text_lines::{push_number_field, push_word};
+use topology_text::{Name, push_node_name};
 
 /// Appends the chunk where the node holds it.
 fn push_if_held(
@@ -50,7 +50,7 @@ fn push_holder(
     requires { node < placement.now.nodes }
     ensures { OnOk result (out.new.items ≡ out.old.items ++ line (holder_words names.now placement.now node)) }
 {
-    push_name(out, names, node)?;
+    push_node_name(out, names, node)?;
     push_held(out, placement, node)?;
     push_word(out, b"\n")
 }

@@ -5,24 +5,26 @@ ghost use Rattle.schedule.specs.Sends.{IsInRange};
 ghost use Rattle.report_form.specs.Numbered.{point_at};
 ghost use Rattle.text_lines.specs.Text.{text_of};
 ghost use Rattle.replay_text.specs.Showing.{adding_of, chunks_at, is_copied, shown_in, shown_text, summed_verdict};
-ghost use Rattle.replay_text.specs.Points.{IsShowable, body_lines};
+ghost use Rattle.replay_text.specs.Points.{IsShowable, body_lines, last_store_of};
 
 use crate::OutOfMemory;
 use crate::adding::{copies, is_joined, steps_that_add};
 use crate::runs::{push_placed_run, push_stored_run};
 use crate::words::push_numbered;
-use allreduce_join::all_summed;
+use allreduce_join::all_summed_by_last;
 use candidate_order::Point;
 use collective_spec::{Instance, Spec, spec_demand, spec_instance};
-use inversion::{SumVerdict, sums};
+use inversion::{SumVerdict, sums_by_last};
 use node_programs::Store;
 use outer_ports::Part;
+use replay::replay_steps;
 use report_form::{Report, spec_of_part};
-use schedule::solves;
+use schedule::{run_steps, solves_by_run};
 use std::alloc::Global;
 use text_lines::push_word;
 
-/// Appends the lines of a point that copies: who holds which chunk after each step, and the verdict.
+/// Appends the lines of a point that copies: who holds which chunk after each step, and the
+/// verdict.
 fn push_copied(
     alloc: Global,
     out: &mut Vec<u8>,
@@ -46,11 +48,22 @@ fn push_copied(
         topology.nodes(),
         point.candidate().c,
     )?;
-    let verdict = solves(alloc, topology, &pre, &post, schedule)?;
-    push_placed_run(alloc, out, named.names(), schedule, &pre, verdict, order)
+    let run = run_steps(alloc, &pre, schedule)?;
+    let verdict = solves_by_run(topology, &pre, &post, schedule, &run);
+    push_placed_run(
+        alloc,
+        out,
+        named.names(),
+        schedule,
+        &pre,
+        &run,
+        verdict,
+        order,
+    )
 }
 
-/// The verdict on a point that adds up, of which so many first steps do.
+/// The verdict on a point that adds up, of which so many first steps do, by the store after its
+/// last step.
 fn judge_sums(
     alloc: Global,
     report: &Report,
@@ -58,10 +71,13 @@ fn judge_sums(
     point: &Point,
     spec: &Spec,
     adding: u8,
+    last: &Store,
 ) -> Result<SumVerdict, OutOfMemory>
     requires showable { IsShowable (shown_in report.now (part, point.now)) }
     requires spec { spec.now ≡ (shown_in report.now (part, point.now)).question.spec }
+    requires adds { is_copied (shown_in report.now (part, point.now)) ≡ false }
     requires adding { adding ≡ adding_of (shown_in report.now (part, point.now)) }
+    requires last { last.now ≡ last_store_of (shown_in report.now (part, point.now)) }
     ensures { IfOk result (λ v. v ≡ summed_verdict (shown_in report.now (part, point.now))) }
 {
     let topology = report.topology().topology();
@@ -69,14 +85,15 @@ fn judge_sums(
     let count = point.candidate().c;
     if is_joined(part) {
         let chunks = spec.chunks(nodes, count);
-        all_summed(alloc, topology, chunks, point.schedule(), adding)
+        all_summed_by_last(alloc, topology, chunks, point.schedule(), adding, last)
     } else {
         let demand = spec_demand(alloc, spec, nodes, count)?;
-        sums(alloc, topology, &demand, point.schedule())
+        Ok(sums_by_last(topology, &demand, point.schedule(), last))
     }
 }
 
-/// Appends the lines of a point that adds up: the bags of each node after each step, and the verdict.
+/// Appends the lines of a point that adds up: the bags of each node after each step, and the
+/// verdict.
 fn push_added(
     alloc: Global,
     out: &mut Vec<u8>,
@@ -93,17 +110,21 @@ fn push_added(
 {
     let named = report.topology();
     let nodes = named.topology().nodes();
+    let schedule = point.schedule();
     let adding = steps_that_add(point);
-    let verdict = judge_sums(alloc, report, part, point, spec, adding)?;
     let chunks = spec.chunks(nodes, point.candidate().c);
     let start = Store::of_contributions(alloc, chunks, nodes)?;
+    let run = replay_steps(alloc, &start, schedule, adding)?;
+    let last = &run[schedule.rounds().len()];
+    let verdict = judge_sums(alloc, report, part, point, spec, adding, last)?;
     push_stored_run(
         alloc,
         out,
         named.names(),
-        point.schedule(),
+        schedule,
         adding,
         start,
+        &run,
         verdict,
         order,
     )
@@ -130,8 +151,9 @@ fn push_body(
     }
 }
 
-/// The replay of a point: what each node has after step 0, 1 and so on, and the verdict on its schedule; and where an order
-/// is asked for and the verdict holds, the run of its programs in the order that this seed draws. The only error is `OutOfMemory`.
+/// The replay of a point: what each node has after step 0, 1 and so on, and the verdict on its
+/// schedule; and where an order is asked for and the verdict holds, the run of its programs in the
+/// order that this seed draws. The only error is `OutOfMemory`.
 pub fn replay_point(
     alloc: Global,
     report: &Report,

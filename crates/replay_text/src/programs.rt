@@ -26,7 +26,8 @@ fn adding_steps(report: &Report, part: Part, point: &Point) -> Result<u8, OutOfM
     Ok(steps_that_add(point))
 }
 
-/// The programs that carry the schedule of a point out, one for each node. The only error is `OutOfMemory`.
+/// The programs that carry the schedule of a point out, one for each node. The only error is
+/// `OutOfMemory`.
 pub fn point_programs(
     alloc: Global,
     report: &Report,
@@ -42,7 +43,8 @@ pub fn point_programs(
     programs_of(alloc, nodes, point.schedule(), adding)
 }
 
-/// The text of the programs that carry the schedule of a point out, under the point's number. The only error is `OutOfMemory`.
+/// The text of the programs that carry the schedule of a point out, under the point's number. The
+/// only error is `OutOfMemory`.
 pub fn print_point_programs(
     alloc: Global,
     report: &Report,

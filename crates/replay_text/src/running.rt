@@ -42,8 +42,8 @@ fn start_store(
     }
 }
 
-/// Runs programs from what the nodes have at the start, in the order that the seed draws, and gives the nodes that move. The
-/// only error is `OutOfMemory`.
+/// Runs programs from what the nodes have at the start, in the order that the seed draws, and gives
+/// the nodes that move. The only error is `OutOfMemory`.
 fn run_order(
     alloc: Global,
     programs: &Programs,
@@ -58,8 +58,8 @@ fn run_order(
     replay_by_order(alloc, &mut machine, seed)
 }
 
-/// Runs programs from what the nodes have at the start, once in the order that each seed draws, and gives for each the nodes
-/// that move. The only error is `OutOfMemory`.
+/// Runs programs from what the nodes have at the start, once in the order that each seed draws, and
+/// gives for each the nodes that move. The only error is `OutOfMemory`.
 fn run_orders(
     alloc: Global,
     programs: &Programs,
@@ -78,8 +78,9 @@ fn run_orders(
     Ok(runs)
 }
 
-/// Runs the programs of one of the report's points to their end, once in the order that each seed draws, and gives for each
-/// the nodes that move, one for each operation. The programs are made once. The only error is `OutOfMemory`.
+/// Runs the programs of one of the report's points to their end, once in the order that each seed
+/// draws, and gives for each the nodes that move, one for each operation. The programs are made
+/// once. The only error is `OutOfMemory`.
 pub fn run_point(
     alloc: Global,
     report: &Report,

@@ -8,11 +8,10 @@ ghost use Rattle.replay_text.specs.Replay.{verdict_words};
 ghost use Rattle.replay_text.specs.Showing.{sum_words};
 
 use crate::OutOfMemory;
-use crate::words::{push_name_field, push_number_field};
 use inversion::SumVerdict;
 use schedule::{Hop, Verdict};
-use text_lines::push_word;
-use topology_text::Name;
+use text_lines::{push_number_field, push_word};
+use topology_text::{Name, push_node_field};
 
 /// Appends the line of a send without a usable link.
 fn push_no_link(out: &mut Vec<u8>, names: &[Name], hop: Hop) -> Result<(), OutOfMemory>
@@ -20,8 +19,8 @@ fn push_no_link(out: &mut Vec<u8>, names: &[Name], hop: Hop) -> Result<(), OutOf
 {
     push_word(out, b"nolink")?;
     push_number_field(out, u64::from(hop.chunk))?;
-    push_name_field(out, names, hop.from)?;
-    push_name_field(out, names, hop.to)?;
+    push_node_field(out, names, hop.from)?;
+    push_node_field(out, names, hop.to)?;
     push_number_field(out, u64::from(hop.step))?;
     push_word(out, b"\n")
 }
@@ -50,8 +49,8 @@ fn push_uneven(
 {
     push_word(out, word)?;
     push_number_field(out, u64::from(chunk))?;
-    push_name_field(out, names, node)?;
-    push_name_field(out, names, of)?;
+    push_node_field(out, names, node)?;
+    push_node_field(out, names, of)?;
     push_word(out, b"\n")
 }
 
@@ -70,7 +69,7 @@ pub(crate) fn push_verdict(
         Verdict::Lacking { chunk, node } => {
             push_word(out, b"lacking")?;
             push_number_field(out, u64::from(chunk))?;
-            push_name_field(out, names, node)?;
+            push_node_field(out, names, node)?;
             push_word(out, b"\n")
         }
     }
@@ -97,7 +96,7 @@ pub(crate) fn push_sum_verdict(
         SumVerdict::Clash { chunk, node, step } => {
             push_word(out, b"clash")?;
             push_number_field(out, u64::from(chunk))?;
-            push_name_field(out, names, node)?;
+            push_node_field(out, names, node)?;
             push_number_field(out, u64::from(step))?;
             push_word(out, b"\n")
         }

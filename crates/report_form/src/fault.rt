@@ -6,7 +6,8 @@ ghost use Rattle.report_form.specs.Answer.{code_number};
 /// Why a text is no report, or was not read.
 #[derive(Clone, Copy, Debug, PartialEq, Eq)]
 pub enum ReportCode {
-    /// A line has a wrong shape, names no node, has a number above 65,535 where none may be, or follows `end`.
+    /// A line has a wrong shape, names no node, has a number above 65,535 where none may be, or
+    /// follows `end`.
     BadLine,
     /// A line is lacking, or lacks its line feed.
     Truncated,

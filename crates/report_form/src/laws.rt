@@ -27,7 +27,8 @@ pub fn what_is_read_is_spelled()
     ensures spelled { (text : List ℕ) (r : ReportValue) → report_of text ≡ Ok r → text ≡ report_text r }
 {}
 
-/// At most one line of a text is the first at which the text can no longer be a report's; of the empty text it is line 1.
+/// At most one line of a text is the first at which the text can no longer be a report's; of the
+/// empty text it is line 1.
 pub fn one_line_fails_first()
     ensures unique { (text : List ℕ) (m n : ℕ) → FailsFirstAt text m → FailsFirstAt text n → m ≡ n }
     ensures empty { FailsFirstAt [] 1 }

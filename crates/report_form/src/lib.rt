@@ -4,6 +4,7 @@
 mod fault;
 mod laws;
 mod numbered;
+mod part_line;
 mod question;
 mod report;
 mod vectors;
@@ -12,6 +13,7 @@ mod words;
 pub use fault::{ReportCode, ReportFault};
 pub use laws::{one_line_fails_first, tests_decide, what_is_read_is_spelled};
 pub use numbered::point_at;
+pub use part_line::part_bytes;
 pub use question::{kind_of_part, spec_of_part};
 pub use report::Report;
 pub use vectors::{

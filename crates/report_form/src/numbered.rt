@@ -7,8 +7,8 @@ use crate::report::Report;
 use candidate_order::Point;
 use outer_ports::Part;
 
-/// The point with this number, and its part: points are numbered from 1 in printed order, joined ones last. `None`
-/// comes exactly where there is no such point.
+/// The point with this number, and its part: points are numbered from 1 in printed order, joined
+/// ones last. `None` comes exactly where there is no such point.
 pub fn point_at(report: &Report, number: u32) -> Option<(Part, &Point)>
     ensures some { IfSome result (λ found. point_at report.now number ≡ Some (found.0, found.1.now)) }
     ensures none { IfNone result (point_at report.now number ≡ None) }

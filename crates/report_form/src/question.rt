@@ -20,7 +20,8 @@ pub fn kind_of_part(whole: Kind, part: Part) -> Kind
     }
 }
 
-/// What a part of these words asks for, with the pattern of the topology where it has one. The only error is `OutOfMemory`.
+/// What a part of these words asks for, with the pattern of the topology where it has one. The only
+/// error is `OutOfMemory`.
 pub fn spec_of_part(words: Words, topology: &NamedTopology, part: Part) -> Result<Spec, AllocError>
     ensures { IfOk result (λ spec. spec ≡ (question_of words topology.now part).spec) }
 {

@@ -9,8 +9,8 @@ use outer_ports::Part;
 use std::marker::Model;
 use topology_text::NamedTopology;
 
-/// The words of a search, the topology, the frontier of each part, and the points of an allreduce that join two others.
-/// Each frontier is within the words' limits and in the order of the search.
+/// The words of a search, the topology, the frontier of each part, and the points of an allreduce
+/// that join two others. Each frontier is within the words' limits and in the order of the search.
 #[derive(Debug, Drop)]
 pub struct Report {
     words: Words,
@@ -30,8 +30,8 @@ impl Model for Report {
 }
 
 impl Report {
-    /// The report of these parts: one frontier `Whole`, or for an allreduce `Reduce` and `Gather`, and joined points only
-    /// there.
+    /// The report of these parts: one frontier `Whole`, or for an allreduce `Reduce` and `Gather`,
+    /// and joined points only there.
     pub fn new(
         words: Words,
         topology: NamedTopology,

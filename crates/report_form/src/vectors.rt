@@ -7,8 +7,8 @@ ghost use Rattle.report_form.specs.Rows.{broadcast_report, allreduce_report, rel
 
 use crate::fault::ReportCode;
 
-/// The texts of a broadcast and of an allreduce on two nodes, of a broadcast on three, and of a chunk that is to go from
-/// one node to another.
+/// The texts of a broadcast and of an allreduce on two nodes, of a broadcast on three, and of a
+/// chunk that is to go from one node to another.
 pub fn texts()
     ensures broadcast { report_text broadcast_report ≡ codes "sccl 1\nsynth collective=broadcast k=0 steps=1 chunks=1 conflicts=1000 root=n0\ntopology 1\nnodes n0 n1\ngroup 1 n0>n1\ngroup 1 n1>n0\nfrontier whole\npoint 1 1 1 optimal\nrounds 1\nsend 0 n0 n1 1\nend\n" }
     ensures allreduce { report_text allreduce_report ≡ codes "sccl 1\nsynth collective=allreduce k=0 steps=1 chunks=1 conflicts=1000\ntopology 1\nnodes n0 n1\ngroup 1 n0>n1\ngroup 1 n1>n0\nfrontier reduce\npoint 1 1 1 optimal\nrounds 1\nsend 0 n1 n0 1\nsend 1 n0 n1 1\nfrontier gather\npoint 1 1 1 optimal\nrounds 1\nsend 0 n0 n1 1\nsend 1 n1 n0 1\njoined\npoint 2 2 1 joined 1\nrounds 1 1\nsend 0 n1 n0 1\nsend 1 n0 n1 1\nsend 0 n0 n1 2\nsend 1 n1 n0 2\nend\n" }
@@ -45,7 +45,8 @@ pub fn relays_refused()
     ensures root { report_of (relay_text (codes "1000") (codes "n9") (codes "point 2 2 1 optimal\nrounds 1 1\nsend 0 n0 n1 1\nsend 0 n1 n2 2\nrefuted 1 1 1\nend\n")) ≡ Err (ReportCode.Limits, 4) }
 {}
 
-/// On one line, a lacking line feed is told before a wrong shape, and a wrong shape before a broken rule.
+/// On one line, a lacking line feed is told before a wrong shape, and a wrong shape before a broken
+/// rule.
 pub fn order_of_checks()
     ensures group_cut { report_of (codes "sccl 1\nsynth collective=broadcast k=0 steps=1 chunks=1 conflicts=1000 root=n9\ntopology 1\nnodes n9 n1\ngroup 0 n0>n0") ≡ Err (ReportCode.Truncated, 5) }
     ensures after_end_cut { report_of (broadcast_head ++ codes "end\nend") ≡ Err (ReportCode.Truncated, 9) }
@@ -56,7 +57,8 @@ pub fn order_of_checks()
     ensures asked_shape_and_rule { report_of (codes "sccl 1\nsynth collective=broadcast k=9 steps=1 chunks=1 conflicts=1000\n") ≡ Err (ReportCode.BadLine, 2) }
 {}
 
-/// Numbers: those of the second line and an unknown candidate's conflicts may be of any size in the check of the shape.
+/// Numbers: those of the second line and an unknown candidate's conflicts may be of any size in the
+/// check of the shape.
 pub fn numbers_checked()
     ensures wide_limit { report_of (codes "sccl 1\nsynth collective=allgather k=1000000000000000000000000000000000000000000000000000000000000000000000 steps=1 chunks=1 conflicts=1000\n") ≡ Err (ReportCode.Limits, 2) }
     ensures zero_before { report_of (codes "sccl 1\nsynth collective=allgather k=00 steps=1 chunks=1 conflicts=1000\n") ≡ Err (ReportCode.BadLine, 2) }
@@ -69,8 +71,8 @@ pub fn numbers_checked()
     ensures empty_round { report_of (broadcast_head ++ codes "point 1 1 1 open\nrounds \n") ≡ Err (ReportCode.BadLine, 9) }
 {}
 
-/// Which line may follow which: points, then refuted candidates, then unknown ones, then the end, and each list in the
-/// order of the search.
+/// Which line may follow which: points, then refuted candidates, then unknown ones, then the end,
+/// and each list in the order of the search.
 pub fn order_of_lines()
     ensures refuted_late { report_of (broadcast_head ++ codes "unknown 1 1 1 1000\nrefuted 1 1 1\nend\n") ≡ Err (ReportCode.BadLine, 9) }
     ensures point_late { report_of (broadcast_head ++ codes "refuted 1 1 1\npoint 1 1 1 open\n") ≡ Err (ReportCode.BadLine, 9) }
@@ -81,7 +83,8 @@ pub fn order_of_lines()
     ensures no_end { report_of broadcast_head ≡ Err (ReportCode.Truncated, 8) }
 {}
 
-/// Of which version the first three lines are: a collective that is given has version 2, and each other one version 1.
+/// Of which version the first three lines are: a collective that is given has version 2, and each
+/// other one version 1.
 pub fn versions_refused()
     ensures given_in_first { report_of (codes "sccl 1\nsynth collective=custom k=0 steps=2 chunks=1 conflicts=1000\n") ≡ Err (ReportCode.BadLine, 2) }
     ensures pattern_in_first { report_of (codes "sccl 1\nsynth collective=broadcast k=0 steps=2 chunks=1 conflicts=1000 root=a\ntopology 2\n") ≡ Err (ReportCode.BadLine, 3) }
@@ -93,7 +96,8 @@ pub fn versions_refused()
     ensures third { report_of (codes "sccl 3\n") ≡ Err (ReportCode.BadLine, 1) }
 {}
 
-/// The lines of a pattern, cut off or changed, and lines behind them that are none of its collective.
+/// The lines of a pattern, cut off or changed, and lines behind them that are none of its
+/// collective.
 pub fn patterns_refused()
     ensures no_pattern { report_of (moved_head ++ moved_body) ≡ Err (ReportCode.BadLine, 7) }
     ensures cut { report_of (moved_head ++ codes "custom 1\nbefore 0 a\n") ≡ Err (ReportCode.Truncated, 9) }

@@ -1,4 +1,5 @@
-//! Laws of the text of a report: it is read back, and the line that is blamed is the first that fails.
+//! Laws of the text of a report: it is read back, and the line that is blamed is the first that
+//! fails.
 #![tactic(auto)]
 
 mod laws;

@@ -14,7 +14,8 @@ use collective_spec::allows;
 use report_form::ReportCode;
 use text_lines::Tokens;
 
-/// Steps, rounds and chunk count, as a line spells them: each is at most 65,535, and no rule was tested yet.
+/// Steps, rounds and chunk count, as a line spells them: each is at most 65,535, and no rule was
+/// tested yet.
 #[derive(Clone, Copy, Debug)]
 pub struct WideCandidate {
     pub s: u16,
@@ -57,7 +58,8 @@ pub fn within(question: &Question<'_>, x: WideCandidate) -> Option<Candidate>
     })
 }
 
-/// The candidate, where it may be that of two points within the limits, and of its steps so many add and some copy.
+/// The candidate, where it may be that of two points within the limits, and of its steps so many
+/// add and some copy.
 pub fn joins(question: &Question<'_>, x: WideCandidate, adding: u16) -> Option<Candidate>
     ensures tested { result ≡ (if may_join (asks question.now) (candidate_of x) adding then Some (candidate_of x) else None) }
     ensures some { IfSome result (λ y. 1 ≤ y.s) }

@@ -10,7 +10,8 @@ use crate::fields::next_value;
 use report_form::ReportCode;
 use text_lines::{Tokens, read_number};
 
-/// Whether the bytes spell a number, of any size: digits, of which the first is no 0 unless it is the only one.
+/// Whether the bytes spell a number, of any size: digits, of which the first is no 0 unless it is
+/// the only one.
 fn is_number(token: &[u8]) -> bool
     ensures { result ≡ is_number token.now }
 {

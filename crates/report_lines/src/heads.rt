@@ -64,12 +64,10 @@ fn head_on(
 
 /// Takes the line of a point's candidate.
 pub fn head_part(
-    text: &[u8],
     lines: &mut Lines<'_>,
     question: &Question<'_>,
     last: Option<Candidate>,
 ) -> Result<Head, ReportFault>
-    requires same { lines.old.text ≡ text.now }
     requires room { HasRoom lines.old.place }
     ensures read { TellsAt (λ head. (head_value head, lines.new.place)) result (line_part (head_line (asks question.now) last) lines.old.place) }
     ensures some { IfOk result (λ head. 1 ≤ head.candidate.s) }
@@ -78,6 +76,7 @@ pub fn head_part(
     ensures onward { OnOk result (Onward lines.old.place lines.new.place) }
     ensures fewer { OnOk result (length lines.new.place.rows + 1 ≡ length lines.old.place.rows) }
 {
+    let text = lines.text();
     let line = next_line(lines)?;
     head_on(text, line, question, last).map_err(|code| ReportFault {
         code,
@@ -110,12 +109,7 @@ fn joined_head_on(text: &[u8], line: Line, question: &Question<'_>) -> Result<He
 }
 
 /// Takes the line of a joined point's candidate.
-pub fn joined_head_part(
-    text: &[u8],
-    lines: &mut Lines<'_>,
-    question: &Question<'_>,
-) -> Result<Head, ReportFault>
-    requires same { lines.old.text ≡ text.now }
+pub fn joined_head_part(lines: &mut Lines<'_>, question: &Question<'_>) -> Result<Head, ReportFault>
     requires room { HasRoom lines.old.place }
     ensures read { TellsAt (λ head. (head_value head, lines.new.place)) result (line_part (joined_head_line (asks question.now)) lines.old.place) }
     ensures some { IfOk result (λ head. 1 ≤ head.candidate.s) }
@@ -124,6 +118,7 @@ pub fn joined_head_part(
     ensures onward { OnOk result (Onward lines.old.place lines.new.place) }
     ensures fewer { OnOk result (length lines.new.place.rows + 1 ≡ length lines.old.place.rows) }
 {
+    let text = lines.text();
     let line = next_line(lines)?;
     joined_head_on(text, line, question).map_err(|code| ReportFault {
         code,

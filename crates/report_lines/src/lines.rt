@@ -64,13 +64,13 @@ fn is_line(text: &[u8], line: Line, bytes: &[u8]) -> Result<(), ReportCode>
 }
 
 /// Takes a line that is known.
-pub fn fixed_part(text: &[u8], lines: &mut Lines<'_>, bytes: &[u8]) -> Result<(), ReportFault>
-    requires same { lines.old.text ≡ text.now }
+pub fn fixed_part(lines: &mut Lines<'_>, bytes: &[u8]) -> Result<(), ReportFault>
     requires room { HasRoom lines.old.place }
     ensures read { TellsAt (λ _. (tt, lines.new.place)) result (line_part (fixed_line bytes.now) lines.old.place) }
     ensures text { lines.new.text ≡ lines.old.text }
     ensures onward { OnOk result (Onward lines.old.place lines.new.place) }
 {
+    let text = lines.text();
     let line = next_line(lines)?;
     is_line(text, line, bytes).map_err(|code| ReportFault {
         code,
@@ -97,13 +97,13 @@ fn version_on(text: &[u8], line: Line) -> Result<bool, ReportCode>
 }
 
 /// Takes the first line, and says whether it is that of version 2.
-pub fn version_part(text: &[u8], lines: &mut Lines<'_>) -> Result<bool, ReportFault>
-    requires same { lines.old.text ≡ text.now }
+pub fn version_part(lines: &mut Lines<'_>) -> Result<bool, ReportFault>
     requires room { HasRoom lines.old.place }
     ensures read { TellsAt (λ patterned. (patterned, lines.new.place)) result (line_part version_line lines.old.place) }
     ensures text { lines.new.text ≡ lines.old.text }
     ensures onward { OnOk result (Onward lines.old.place lines.new.place) }
 {
+    let text = lines.text();
     let line = next_line(lines)?;
     version_on(text, line).map_err(|code| ReportFault {
         code,
@@ -120,12 +120,11 @@ pub fn begins(text: &[u8], line: Line, word: &[u8]) -> bool
 }
 
 /// Whether there is a next line that begins with the word.
-pub fn next_begins(text: &[u8], lines: &Lines<'_>, word: &[u8]) -> bool
-    requires { lines.now.text ≡ text.now }
+pub fn next_begins(lines: &Lines<'_>, word: &[u8]) -> bool
     ensures { result ≡ row_begins word.now (first lines.now.place.rows) }
 {
     match lines.peek() {
-        Some(line) => begins(text, line, word),
+        Some(line) => begins(lines.text(), line, word),
         None => false,
     }
 }

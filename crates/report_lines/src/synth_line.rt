@@ -14,7 +14,7 @@ ghost use Rattle.report_lines.specs.Spelled.{AreNumbers, asked_value, limits_of}
 use crate::digits::{keyed_digits, number_in};
 use crate::fields::{fixed_word, next_name, next_value, no_more};
 use crate::lines::{next_line, tokens_on};
-use candidate_order::Limits;
+use candidate_order::{Limits, MAX_CHUNKS, MAX_CONFLICTS, MAX_K, MAX_STEPS};
 use collective_spec::{Kind, is_custom, takes_root};
 use report_form::{ReportCode, ReportFault};
 use text_lines::{Line, Lines, Tokens};
@@ -29,8 +29,8 @@ struct SpelledLimits<'a> {
     conflicts: &'a [u8],
 }
 
-/// What was asked for. The root is a name, for the nodes are not known yet; there is one exactly where the kind takes
-/// one.
+/// What was asked for. The root is a name, for the nodes are not known yet; there is one exactly
+/// where the kind takes one.
 #[derive(Clone, Copy, Debug)]
 pub struct Asked {
     pub kind: Kind,
@@ -134,10 +134,10 @@ fn limits_in(spelled: &SpelledLimits<'_>) -> Option<Limits>
     requires { AreNumbers spelled.now }
     ensures { result ≡ (if are_limits (limits_of spelled.now) then Some (limits_of spelled.now) else None) }
 {
-    let k = number_in(spelled.k, 0, 8)?;
-    let max_s = number_in(spelled.max_s, 1, 8)?;
-    let max_c = number_in(spelled.max_c, 1, 16)?;
-    let conflicts = number_in(spelled.conflicts, 1, 100_000)?;
+    let k = number_in(spelled.k, 0, u64::from(MAX_K))?;
+    let max_s = number_in(spelled.max_s, 1, u64::from(MAX_STEPS))?;
+    let max_c = number_in(spelled.max_c, 1, u64::from(MAX_CHUNKS))?;
+    let conflicts = number_in(spelled.conflicts, 1, u64::from(MAX_CONFLICTS))?;
     Some(Limits::new(k as u8, max_s as u8, max_c as u8, conflicts as u32))
 }
 
@@ -162,13 +162,13 @@ fn asked_on(text: &[u8], line: Line, patterned: bool) -> Result<Asked, ReportCod
 }
 
 /// Takes the line that says what was asked.
-pub fn asked_part(text: &[u8], lines: &mut Lines<'_>, patterned: bool) -> Result<Asked, ReportFault>
-    requires same { lines.old.text ≡ text.now }
+pub fn asked_part(lines: &mut Lines<'_>, patterned: bool) -> Result<Asked, ReportFault>
     requires room { HasRoom lines.old.place }
     ensures read { TellsAt (λ asked. (asked_value asked, lines.new.place)) result (line_part (asked_line patterned) lines.old.place) }
     ensures text { lines.new.text ≡ lines.old.text }
     ensures onward { OnOk result (Onward lines.old.place lines.new.place) }
 {
+    let text = lines.text();
     let line = next_line(lines)?;
     match asked_on(text, line, patterned) {
         Ok(asked) => Ok(asked),

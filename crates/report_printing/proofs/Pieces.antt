@@ -3,6 +3,7 @@ use Rattle.std.proofs.Common.{◌≡◌, ℕ, List, [], ◌∷◌, ◌++◌, map
 use Rattle.std.specs.Prelude.{codes, decimal}
 use Rattle.std.specs.List.{flat_map}
 use Rattle.outer_ports.specs.declared.part.Part.{Part}
+use Rattle.outer_ports.specs.declared.part.Part.TheVariants.{Whole, Reduce, Gather, Joined}
 use Rattle.collective_spec.specs.declared.kind.Kind.TheVariants.{Allreduce}
 use Rattle.collective_spec.specs.Kinds.{word_of}
 use Rattle.candidate_order.specs.Frontiers.{PointValue, FrontierValue}
@@ -10,6 +11,7 @@ use Rattle.text_lines.specs.Text.{line, text_of, fields}
 use Rattle.text_lines.proofs.Words.{join_fields}
 use Rattle.topology_text.specs.Spelling.{lines_of, spelling, version_word}
 use Rattle.report_form.specs.Reports.{ReportValue, WordsValue}
+use Rattle.report_form.specs.Reading.{part_bytes}
 use Rattle.report_form.specs.Spelling.{root_words, part_words, point_lines, refuted_words, unknown_words, frontier_lines, joined_lines, synth_words, report_text}
 use Rattle.report_printing.specs.Printed.{frontier_text, limits_text, point_text}
 
@@ -29,6 +31,13 @@ text_append (x ∷ xs) b = ap (λ t. line x ++ t) (text_append xs b) ∙ sym (ap
 pub text_each : {A : Type 0} (f : A → List (List (List ℕ))) (xs : List A) → text_of (flat_map f xs) ≡ flat_map (λ x. text_of (f x)) xs
 text_each f [] = refl
 text_each f (x ∷ xs) = text_append (f x) (flat_map f xs) ∙ ap (λ t. text_of (f x) ++ t) (text_each f xs)
+
+-- the line that begins a part
+pub part_line : (x : Part) → part_bytes x ++ codes "\n" ≡ line (part_words x)
+part_line Whole = refl
+part_line Reduce = refl
+part_line Gather = refl
+part_line Joined = refl
 
 pub frontier_is : (names : List (List ℕ)) (part : Part) (f : FrontierValue) → line (part_words part) ++ (flat_map (point_text names) f.points ++ (text_of (map refuted_words f.refuted) ++ text_of (map unknown_words f.unknown))) ≡ frontier_text names (part, f)
 frontier_is names part f =

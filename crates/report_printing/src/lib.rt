@@ -4,6 +4,6 @@
 mod printing;
 
 pub use printing::{
-    name_at, print_report, push_all_refuted, push_all_unknown, push_candidate, push_field,
-    push_number_field, push_points, push_synth_line,
+    name_at, print_report, push_all_refuted, push_all_unknown, push_candidate, push_points,
+    push_synth_line,
 };

@@ -4,16 +4,16 @@ ghost use Rattle.std.specs.Prelude.{◌≡◌, ◌++◌, ◌∷◌, [], codes, d
 ghost use Rattle.std.specs.List.{flat_map};
 ghost use Rattle.text_lines.specs.Text.{line, text_of, fields};
 ghost use Rattle.topology_text.specs.Spelling.{name_at, version_word};
-ghost use Rattle.report_form.specs.Spelling.{candidate_words, joined_lines, mark_words, part_words, point_words, refuted_words, report_text, root_words, rounds_words, send_words, synth_words, unknown_words};
+ghost use Rattle.report_form.specs.Spelling.{candidate_words, joined_lines, mark_words, point_words, refuted_words, report_text, root_words, rounds_words, send_words, synth_words, unknown_words};
 ghost use Rattle.report_printing.specs.Printed.{frontier_text, limits_text, point_text};
 
 use candidate_order::{Candidate, Frontier, Limits, Mark, Point, Unknown};
 use collective_spec::{Kind, takes_root};
 use outer_ports::Part;
-use report_form::{Report, Words};
+use report_form::{Report, Words, part_bytes};
 use schedule::Hop;
 use std::alloc::{AllocError, Global};
-use text_lines::{push_number, push_word};
+use text_lines::{push_field, push_number, push_number_field, push_word};
 use topology_text::{Name, NamedTopology, push_topology};
 
 /// The name of a node; empty where there is none of that number.
@@ -26,25 +26,8 @@ pub fn name_at(names: &[Name], node: u8) -> &[u8]
     }
 }
 
-/// Appends a space and a word. An `Err` comes only where memory runs out.
-pub fn push_field(out: &mut Vec<u8>, word: &[u8]) -> Result<(), AllocError>
-    ensures { OnOk result (out.new.items ≡ out.old.items ++ 32 ∷ word.now) }
-{
-    push_word(out, b" ")?;
-    push_word(out, word)?;
-    Ok(())
-}
-
-/// Appends a space and a number. An `Err` comes only where memory runs out.
-pub fn push_number_field(out: &mut Vec<u8>, value: u64) -> Result<(), AllocError>
-    ensures { OnOk result (out.new.items ≡ out.old.items ++ 32 ∷ decimal value) }
-{
-    push_word(out, b" ")?;
-    push_number(out, value)?;
-    Ok(())
-}
-
-/// Appends the steps, the rounds and the chunk count, each behind a space. An `Err` comes only where memory runs out.
+/// Appends the steps, the rounds and the chunk count, each behind a space. An `Err` comes only
+/// where memory runs out.
 pub fn push_candidate(out: &mut Vec<u8>, x: Candidate) -> Result<(), AllocError>
     ensures { OnOk result (out.new.items ≡ out.old.items ++ fields (candidate_words x)) }
 {
@@ -126,8 +109,8 @@ fn push_point(out: &mut Vec<u8>, names: &[Name], point: &Point) -> Result<(), Al
     Ok(())
 }
 
-/// Appends the lines of points, in their order: each with its rounds and its sends, nodes by their names. An `Err` comes only
-/// where memory runs out.
+/// Appends the lines of points, in their order: each with its rounds and its sends, nodes by their
+/// names. An `Err` comes only where memory runs out.
 pub fn push_points(out: &mut Vec<u8>, names: &[Name], points: &[Point]) -> Result<(), AllocError>
     ensures { OnOk result (out.new.items ≡ out.old.items ++ flat_map (point_text names.now) points.now) }
 {
@@ -176,17 +159,6 @@ pub fn push_all_unknown(out: &mut Vec<u8>, unknown: &[Unknown]) -> Result<(), Al
     Ok(())
 }
 
-fn part_bytes(part: Part) -> &'static [u8]
-    ensures { result.now ≡ line (part_words part) }
-{
-    match part {
-        Part::Whole => b"frontier whole\n",
-        Part::Reduce => b"frontier reduce\n",
-        Part::Gather => b"frontier gather\n",
-        Part::Joined => b"joined\n",
-    }
-}
-
 fn push_frontier(
     out: &mut Vec<u8>,
     names: &[Name],
@@ -196,6 +168,7 @@ fn push_frontier(
     ensures { OnOk result (out.new.items ≡ out.old.items ++ frontier_text names.now (part, frontier.now)) }
 {
     push_word(out, part_bytes(part))?;
+    push_word(out, b"\n")?;
     push_points(out, names, frontier.points())?;
     push_all_refuted(out, frontier.refuted())?;
     push_all_unknown(out, frontier.unknown())?;
@@ -262,8 +235,8 @@ fn push_root(out: &mut Vec<u8>, names: &[Name], words: Words) -> Result<(), Allo
     Ok(())
 }
 
-/// Appends the line of what was asked: `synth`, and each key with its value, nodes by their names. An `Err` comes only where
-/// memory runs out.
+/// Appends the line of what was asked: `synth`, and each key with its value, nodes by their names.
+/// An `Err` comes only where memory runs out.
 pub fn push_synth_line(out: &mut Vec<u8>, names: &[Name], words: Words) -> Result<(), AllocError>
     ensures { OnOk result (out.new.items ≡ out.old.items ++ line (synth_words names.now words)) }
 {

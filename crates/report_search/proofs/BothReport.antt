@@ -15,7 +15,7 @@ use Rattle.frontier_audit.specs.OwedFiles.{IsOf, Proves}
 use Rattle.frontier_audit.specs.Searches.{IsAsked}
 use Rattle.engine_search.specs.Found.{IsFound}
 use Rattle.report_search.specs.Shelved.{IsShelved}
-use Rattle.report_search.specs.Reporting.{both_report, joins_of}
+use Rattle.report_search.specs.inner.Reporting.{both_report, joins_of}
 use Rattle.report_search.proofs.PartQuestions.{two_parts}
 use Rattle.report_search.proofs.Valid.{valid_frontier}
 use Rattle.report_search.proofs.JoinedPoints.{joined_points, joins_are}

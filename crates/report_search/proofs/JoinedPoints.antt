@@ -19,7 +19,7 @@ use Rattle.topology_text.specs.Value.{NamedTopologyValue}
 use Rattle.report_form.specs.Reports.{WordsValue, IsJoinedPoint, IsPoint, question_of}
 use Rattle.frontier_audit.specs.Searches.{IsAsked}
 use Rattle.engine_search.specs.Found.{IsFound}
-use Rattle.report_search.specs.Reporting.{joins_of}
+use Rattle.report_search.specs.inner.Reporting.{joins_of}
 use Rattle.report_search.proofs.PartQuestions.{none_given}
 use Rattle.report_search.proofs.Valid.{valid_frontier}
 

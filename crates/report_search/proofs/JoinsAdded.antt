@@ -5,7 +5,7 @@ use Rattle.std.proofs.lemmas.Grind.{flat_map-append}
 use Rattle.std.proofs.lemmas.List.{append-nil, map-append, take_more}
 use Rattle.candidate_order.specs.Frontiers.{PointValue}
 use Rattle.allreduce_join.specs.Joins.{join_of, pairs_of}
-use Rattle.report_search.specs.Reporting.{joins_of}
+use Rattle.report_search.specs.inner.Reporting.{joins_of}
 
 abbrev pub has_count : PointValue → PointValue → Bool
 has_count p q = q.candidate.c == p.candidate.c

@@ -1,2 +1,2 @@
 pub mod Shelved
-pub mod Reporting
+pub mod inner

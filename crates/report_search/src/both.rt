@@ -1,13 +1,14 @@
-//! The report of an allreduce: a part that reduces, a part that gathers, and the joins of their points.
+//! The report of an allreduce: a part that reduces, a part that gathers, and the joins of their
+//! points.
 
-ghost use Rattle.std.specs.Prelude.{◌≡◌, ◌≢◌, IfOk, IsTrue, Err};
+ghost use Rattle.std.specs.Prelude.{◌≡◌, IfOk, IsTrue};
 ghost use Rattle.outer_ports.specs.Port.{HasCause, Tells};
 ghost use Rattle.report_form.specs.Reports.{question_of};
 ghost use Rattle.frontier_audit.specs.OwedFiles.{BreaksOff, Proves};
 ghost use Rattle.frontier_audit.specs.Rights.{IsRight, IsSearched};
 ghost use Rattle.frontier_audit.specs.Searches.{IsAsked};
 ghost use Rattle.engine_search.specs.Found.{IsFound};
-ghost use Rattle.report_search.specs.Reporting.{both_report};
+ghost use Rattle.report_search.specs.inner.Reporting.{both_report};
 
 use crate::OutOfMemory;
 use crate::joining::joins;
@@ -39,8 +40,8 @@ fn report_of(
     Ok(Report::new(words, topology, frontiers, joined))
 }
 
-/// The report of the search of an allreduce, with the files of its two parts on the shelf. Where the search breaks off, it
-/// has begun some.
+/// The report of the search of an allreduce, with the files of its two parts on the shelf. Where
+/// the search breaks off, it has begun some.
 pub(crate) fn search_both<H: Shelf>(
     alloc: Global,
     words: Words,
@@ -58,7 +59,6 @@ pub(crate) fn search_both<H: Shelf>(
     ensures proves { IsTrue (H.tells shelf.new) → IfOk result (λ r. Proves r (H.file shelf.old) (H.file shelf.new)) }
     ensures begun { IsTrue (H.tells shelf.new) → BreaksOff words topology (H.file shelf.old) (H.file shelf.new) }
     ensures cause { HasCause EngineFault.ShelfFailed (H.faults shelf.old) (H.faults shelf.new) result }
-    ensures steady { result ≢ Err EngineFault.ShelfFailed → H.faults shelf.new ≡ H.faults shelf.old }
 {
     let reduce = part_frontier(alloc, words, &topology, Part::Reduce, checked, shelf)?;
     let gather = part_frontier(alloc, words, &topology, Part::Gather, checked, shelf)?;

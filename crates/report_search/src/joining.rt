@@ -2,7 +2,7 @@
 
 ghost use Rattle.std.specs.Prelude.{◌≡◌, ◌==◌, ◌++◌, map, filter, All, IfOk, OnOk};
 ghost use Rattle.allreduce_join.specs.Joins.{IsJoinable, join_of};
-ghost use Rattle.report_search.specs.Reporting.{joins_of};
+ghost use Rattle.report_search.specs.inner.Reporting.{joins_of};
 
 use crate::OutOfMemory;
 use allreduce_join::join_points;
@@ -28,7 +28,8 @@ fn join_each(
     Ok(())
 }
 
-/// The joins of each point of the first list with each of the second that has its chunk count, in their order.
+/// The joins of each point of the first list with each of the second that has its chunk count, in
+/// their order.
 pub(crate) fn joins(
     alloc: Global,
     reduce: &[Point],

@@ -1,4 +1,5 @@
-//! The search of a whole report: the frontier of each part of a collective, the joins of two parts, and the files that prove them.
+//! The search of a whole report: the frontier of each part of a collective, the joins of two parts,
+//! and the files that prove them.
 #![tactic(auto)]
 
 mod both;

@@ -1,6 +1,6 @@
 //! The frontier of a part of a report.
 
-ghost use Rattle.std.specs.Prelude.{◌≡◌, ◌≢◌, Contains, IfOk, IsTrue, Err};
+ghost use Rattle.std.specs.Prelude.{Contains, IfOk, IsTrue};
 ghost use Rattle.outer_ports.specs.Port.{HasCause, Tells};
 ghost use Rattle.report_form.specs.Reports.{parts_of, question_of};
 ghost use Rattle.frontier_audit.specs.OwedFiles.{BreaksOff};
@@ -16,7 +16,8 @@ use report_form::{Words, spec_of_part};
 use std::alloc::Global;
 use topology_text::NamedTopology;
 
-/// The frontier of a part of what the words ask, with its files on the shelf. Where the search breaks off, it has begun some.
+/// The frontier of a part of what the words ask, with its files on the shelf. Where the search
+/// breaks off, it has begun some.
 pub(crate) fn part_frontier<H: Shelf>(
     alloc: Global,
     words: Words,
@@ -32,7 +33,6 @@ pub(crate) fn part_frontier<H: Shelf>(
     ensures shelved { IsTrue (H.tells shelf.new) → IfOk result (λ f. IsShelved part (question_of words topology.now part) f (H.file shelf.old) (H.file shelf.new)) }
     ensures begun { IsTrue (H.tells shelf.new) → BreaksOff words topology.now (H.file shelf.old) (H.file shelf.new) }
     ensures cause { HasCause EngineFault.ShelfFailed (H.faults shelf.old) (H.faults shelf.new) result }
-    ensures steady { result ≢ Err EngineFault.ShelfFailed → H.faults shelf.new ≡ H.faults shelf.old }
 {
     let spec = spec_of_part(words, topology, part)?;
     let links = topology.topology();

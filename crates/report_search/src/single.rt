@@ -1,6 +1,6 @@
 //! The frontier of one collective, with its files.
 
-ghost use Rattle.std.specs.Prelude.{◌≡◌, ◌≢◌, ◌≤◌, IfOk, IsTrue, Err};
+ghost use Rattle.std.specs.Prelude.{◌≢◌, ◌≤◌, IfOk, IsTrue};
 ghost use Rattle.outer_ports.specs.Port.{HasCause, Tells};
 ghost use Rattle.collective_spec.specs.Collectives.{IsSpec, kind_in};
 ghost use Rattle.round_encoding.specs.Candidates.{size_limit};
@@ -17,7 +17,8 @@ use outer_ports::{Part, Shelf};
 use schedule::Topology;
 use std::alloc::Global;
 
-/// The frontier of a collective over these links. The formulas and the proofs are kept on the shelf as files of the part.
+/// The frontier of a collective over these links. The formulas and the proofs are kept on the shelf
+/// as files of the part.
 pub(crate) fn single_frontier<H: Shelf>(
     alloc: Global,
     topology: &Topology,
@@ -36,7 +37,6 @@ pub(crate) fn single_frontier<H: Shelf>(
     ensures shelved { IsTrue (H.tells shelf.new) → IfOk result (λ f. IsShelved part (record { topology = topology.now; spec = spec.now; limits = limits }) f (H.file shelf.old) (H.file shelf.new)) }
     ensures begun { IsTrue (H.tells shelf.new) → MayHaveBegun part (record { topology = topology.now; spec = spec.now; limits = limits }) (H.file shelf.old) (H.file shelf.new) }
     ensures cause { HasCause EngineFault.ShelfFailed (H.faults shelf.old) (H.faults shelf.new) result }
-    ensures steady { result ≢ Err EngineFault.ShelfFailed → H.faults shelf.new ≡ H.faults shelf.old }
 {
     let links = links_to_search(topology, spec)?;
     let mut engine = SatEngine::new(alloc, &links, spec, limits, part, checked)?;

@@ -1,6 +1,6 @@
 //! The report of a collective that is searched in one part.
 
-ghost use Rattle.std.specs.Prelude.{◌≡◌, ◌≢◌, IfOk, IsTrue, Err};
+ghost use Rattle.std.specs.Prelude.{◌≡◌, ◌≢◌, IfOk, IsTrue};
 ghost use Rattle.outer_ports.specs.Port.{HasCause, Tells};
 ghost use Rattle.report_form.specs.Reports.{question_of, whole_report};
 ghost use Rattle.frontier_audit.specs.OwedFiles.{BreaksOff, Proves};
@@ -34,7 +34,8 @@ fn report_of(
     Ok(Report::new(words, topology, frontiers, Vec::new(alloc)))
 }
 
-/// The report of a search in one part, with its files on the shelf. Where the search breaks off, it has begun some.
+/// The report of a search in one part, with its files on the shelf. Where the search breaks off, it
+/// has begun some.
 pub(crate) fn search_whole<H: Shelf>(
     alloc: Global,
     words: Words,
@@ -52,7 +53,6 @@ pub(crate) fn search_whole<H: Shelf>(
     ensures proves { IsTrue (H.tells shelf.new) → IfOk result (λ r. Proves r (H.file shelf.old) (H.file shelf.new)) }
     ensures begun { IsTrue (H.tells shelf.new) → BreaksOff words topology (H.file shelf.old) (H.file shelf.new) }
     ensures cause { HasCause EngineFault.ShelfFailed (H.faults shelf.old) (H.faults shelf.new) result }
-    ensures steady { result ≢ Err EngineFault.ShelfFailed → H.faults shelf.new ≡ H.faults shelf.old }
 {
     let frontier = part_frontier(alloc, words, &topology, Part::Whole, checked, shelf)?;
     let report = report_of(alloc, words, topology, frontier)?;

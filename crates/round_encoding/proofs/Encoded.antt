@@ -8,7 +8,7 @@ use Rattle.send_encoding.specs.Variables.{SendMapValue, map_of, arrivals, sends}
 use Rattle.round_encoding.specs.Frames.{Frame, frame_of, own_variables, extra_from}
 use Rattle.send_encoding.specs.Sending.{sending}
 use Rattle.round_encoding.specs.Rounding.{extra_in_order, counts_of, formula_of, encoding_of}
-use Rattle.round_encoding.specs.Counts.{with_counts}
+use Rattle.round_encoding.specs.inner.Counts.{with_counts}
 use Rattle.round_encoding.proofs.Countings.{counted_is}
 
 pub encoded : (t : TopologyValue) (pre post : PlacementValue) (steps rounds : ℕ) (m : SendMapValue) (v : ℕ) (f1 f2 : FormulaValue) → m ≡ map_of t pre steps

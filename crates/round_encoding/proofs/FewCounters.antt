@@ -13,7 +13,7 @@ use Rattle.cnf_formula.specs.Literals.{LitValue, negation}
 use Rattle.send_encoding.specs.Variables.{steps_of}
 use Rattle.send_encoding.proofs.Everywhere.{in_map, in_flat, From, in_range}
 use Rattle.send_encoding.proofs.Grid.{rows_length}
-use Rattle.round_encoding.specs.Counts.{room}
+use Rattle.round_encoding.specs.inner.Counts.{room}
 use Rattle.round_encoding.specs.Frames.{Frame, extra_of, extra_round}
 use Rattle.round_encoding.specs.Rounding.{Count, count_of_rounds, count_of_group, counts_of}
 use Rattle.round_encoding.proofs.Carried.{inputs_length}

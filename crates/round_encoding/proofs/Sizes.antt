@@ -7,7 +7,7 @@ use Rattle.schedule.specs.Links.{GroupValue, TopologyValue}
 use Rattle.schedule.specs.Placed.{PlacementValue}
 use Rattle.send_encoding.specs.Variables.{map_of, arrivals, sends}
 use Rattle.round_encoding.specs.Frames.{Frame, frame_of, own_variables}
-use Rattle.round_encoding.specs.Counts.{room}
+use Rattle.round_encoding.specs.inner.Counts.{room}
 use Rattle.round_encoding.specs.Candidates.{IsCandidate, group_size, size_of}
 
 pub row_most : (a b c d : ℕ) → a ≤ b → c ≤ d → a * c ≤ b * d

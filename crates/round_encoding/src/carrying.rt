@@ -75,8 +75,8 @@ fn push_needed(
     formula.add(&[full.negated(), extra_round(variables, extra, step, number)])
 }
 
-/// The width suffices for the step's first round, and for each extra round that it has: what is said of the counter's
-/// outputs.
+/// The width suffices for the step's first round, and for each extra round that it has: what is
+/// said of the counter's outputs.
 fn push_said(
     formula: &mut Formula,
     outputs: &[Lit],

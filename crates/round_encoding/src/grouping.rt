@@ -8,7 +8,7 @@ ghost use Rattle.cnf_formula.specs.Formulas.{FormulaValue};
 ghost use Rattle.send_encoding.specs.Variables.{SendMapValue, IsSendMap, arrivals, sends, steps_of};
 ghost use Rattle.round_encoding.specs.Frames.{own_variables};
 ghost use Rattle.round_encoding.specs.Rounding.{count_of_group, counts_of, extra_in_order};
-ghost use Rattle.round_encoding.specs.Counts.{with_counts, room, HasLinks};
+ghost use Rattle.round_encoding.specs.inner.Counts.{with_counts, room, HasLinks};
 
 use crate::OutOfMemory;
 use crate::carrying::count_group;

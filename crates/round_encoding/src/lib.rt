@@ -1,5 +1,5 @@
-//! The formula of a candidate: it is satisfiable exactly where some schedule of so many steps and rounds solves the
-//! instance.
+//! The formula of a candidate: it is satisfiable exactly where some schedule of so many steps and
+//! rounds solves the instance.
 #![tactic(auto)]
 
 mod carrying;

@@ -8,7 +8,7 @@ ghost use Rattle.cnf_formula.specs.Formulas.{FormulaValue, IsClause, with_clause
 ghost use Rattle.send_encoding.specs.Variables.{SendMapValue, IsSendMap};
 ghost use Rattle.round_encoding.specs.Frames.{extra_round, own_variables};
 ghost use Rattle.round_encoding.specs.Rounding.{extra_in_order, count_of_rounds, output_at, with_count};
-ghost use Rattle.round_encoding.specs.Counts.{with_counts};
+ghost use Rattle.round_encoding.specs.inner.Counts.{with_counts};
 
 use crate::OutOfMemory;
 use crate::extra::extra_round;

@@ -102,8 +102,9 @@ fn rounds_of(
     Ok(rounds)
 }
 
-/// The schedule that a satisfying assignment says: the sends that are true, and each step's rounds, of which the last step
-/// has those that are left. It solves the candidate and wastes no send. The only error is `OutOfMemory`.
+/// The schedule that a satisfying assignment says: the sends that are true, and each step's rounds,
+/// of which the last step has those that are left. It solves the candidate and wastes no send. The
+/// only error is `OutOfMemory`.
 pub fn decode(
     alloc: Global,
     encoding: &Encoding,

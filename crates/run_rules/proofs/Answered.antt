@@ -1,5 +1,5 @@
 -- What answers what is due, step by step.
-use Rattle.std.proofs.Common.{◌≡◌, ℕ, IsTrue, inl, List, Result, Ok, Err, refl, sym, subst, ap}
+use Rattle.std.proofs.Common.{◌≡◌, ℕ, inl, List, Result, Ok, Err, refl, sym, subst, ap}
 use Rattle.text_lines.specs.Check.{◌>>=◌}
 use Rattle.outer_ports.specs.Files.{Files}
 use Rattle.outer_ports.specs.Shelf.{FilesStay}
@@ -8,7 +8,7 @@ use Rattle.run_rules.specs.declared.status.Status.TheVariants.{Done}
 use Rattle.run_rules.specs.declared.answer.Answer.{Answer}
 use Rattle.run_rules.specs.Refusals.{Refusal, refusal_line}
 use Rattle.run_rules.specs.Tasks.{Task, Write, Synthesise, Audit, Try, Bound, Order, Degrade}
-use Rattle.run_rules.specs.Said.{FilesValue, Says, Stay}
+use Rattle.run_rules.specs.Said.{Says}
 use Rattle.run_rules.specs.Answers.{IsAnswer, IsAnswerAlone, LeavesOff}
 use Rattle.run_rules.specs.Read.{IsRefused}
 

@@ -1,10 +1,10 @@
 -- What is owed for a search that tells which cut refutes a candidate, and how far any schedule can go. This project's own.
-use Rattle.std.specs.Prelude.{◌≡◌, ℕ, Bool, false, IsTrue, List, [], ◌∷◌, ◌++◌, length, map, filter, All, codes, decimal}
+use Rattle.std.specs.Prelude.{◌≡◌, ℕ, false, IsTrue, List, [], ◌∷◌, ◌++◌, length, map, filter, All, codes, decimal}
 use Rattle.std.specs.List.{flat_map, range_with_len}
 use Rattle.outer_ports.specs.declared.part.Part.TheVariants.{Whole}
 use Rattle.text_lines.specs.Text.{text_of}
 use Rattle.candidate_order.specs.declared.candidate.Candidate.{Candidate}
-use Rattle.candidate_order.specs.Frontiers.{QuestionValue, FrontierValue}
+use Rattle.candidate_order.specs.Frontiers.{FrontierValue}
 use Rattle.topology_text.specs.Value.{NamedTopologyValue}
 use Rattle.topology_text.specs.Spelling.{name_at}
 use Rattle.report_form.specs.Reports.{WordsValue, question_of, whole_report}

@@ -1,5 +1,5 @@
 -- What is owed for a report after a fault: its search done anew over the links that are left, where what was refuted stays refuted. This project's own.
-use Rattle.std.specs.Prelude.{◌≡◌, false, not, ℕ, IsTrue, List, [], ◌∷◌, ◌++◌, filter, map, All, Result, Ok, Err, codes}
+use Rattle.std.specs.Prelude.{◌≡◌, false, not, ℕ, IsTrue, List, [], ◌∷◌, ◌++◌, filter, map, All, Ok, Err, codes}
 use Rattle.std.specs.List.{flat_map}
 use Rattle.outer_ports.specs.declared.part.Part.TheVariants.{Whole}
 use Rattle.outer_ports.specs.Files.{Files}

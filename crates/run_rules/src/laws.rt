@@ -8,7 +8,8 @@ ghost use Rattle.run_rules.specs.Tasks.{task_of};
 
 use crate::status::Status;
 
-/// An answer to what a command asks for ends as the command's row says: it is done, or refused with one of its refusals.
+/// An answer to what a command asks for ends as the command's row says: it is done, or refused with
+/// one of its refusals.
 pub fn answers_end_as_their_row_says()
     ensures { (c : Command) (bytes : List ℕ) (files : FilesValue) (status : Status) (text : List ℕ) → IsAnswer (task_of c bytes) files status text → IsOneOf (answers_of c) status }
 {}

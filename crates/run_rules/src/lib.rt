@@ -1,5 +1,5 @@
-//! What the top call and every command stand on: statuses, refusals and answers; what each command does with the ports; what
-//! is due for words and bytes; and what an answer to it is.
+//! What the top call and every command stand on: statuses, refusals and answers; what each command
+//! does with the ports; what is due for words and bytes; and what an answer to it is.
 #![tactic(auto)]
 
 mod answer;

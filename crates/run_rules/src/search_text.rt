@@ -1,4 +1,5 @@
-//! What a search is asked for, and whether it is to be done: the checks of its text, its pattern, its root and its size.
+//! What a search is asked for, and whether it is to be done: the checks of its text, its pattern,
+//! its root and its size.
 
 ghost use Rattle.std.specs.Prelude.{◌≡◌, ◌≢◌, ◌<◌, ◌≤◌, length, true, IfErr, IfOk, Ok, Err};
 ghost use Rattle.collective_spec.specs.Collectives.{fits_kind};
@@ -52,7 +53,8 @@ fn node_of(names: &[Name], name: Name) -> Option<usize>
     names.iter().position(|other| name == *other)
 }
 
-/// The node that the word names, or the first where there is no word. An `Err` has the index of a word that names none.
+/// The node that the word names, or the first where there is no word. An `Err` has the index of a
+/// word that names none.
 fn root_of(names: &[Name], root: Option<RootWord>) -> Result<u8, u32>
     requires some { 1 ≤ length names.now }
     requires few { length names.now ≤ 16 }

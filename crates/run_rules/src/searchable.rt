@@ -17,8 +17,8 @@ use topology_text::NamedTopology;
 /// The greatest size of a search.
 const SIZE_LIMIT: u64 = 2_000_000;
 
-/// The answer that refuses a search of these words over the topology: it is too large, or no chunk count is allowed. `None`
-/// where it can be done.
+/// The answer that refuses a search of these words over the topology: it is too large, or no chunk
+/// count is allowed. `None` where it can be done.
 pub fn search_refusal(
     alloc: Global,
     words: Words,

@@ -16,7 +16,8 @@ use collective_spec::{Kind, Spec};
 use command_words::WordCode;
 use topology_text::FamilyKind;
 
-/// The size of an all-to-all on sixteen nodes, each joined to each, which is too large; and of an allgather on the cube of eight.
+/// The size of an all-to-all on sixteen nodes, each joined to each, which is too large; and of an
+/// allgather on the cube of eight.
 pub fn sizes()
     ensures too_large { searchable (record { topology = (family_of FamilyKind.Complete 16).topology; spec = Spec.Standard (record { kind = Kind.Alltoall; root = 0 }); limits = record { k = 8; max_s = 8; max_c = 16; conflicts = 1000 } }) ≡ Err (refused_at Status.TooLarge 0 5406720) }
     ensures cube { size_of (record { topology = (family_of FamilyKind.Cube 8).topology; spec = Spec.Standard (record { kind = Kind.Allgather; root = 0 }); limits = record { k = 0; max_s = 3; max_c = 1; conflicts = 1000 } }) ≡ 1728 }

@@ -54,8 +54,8 @@ fn denial(
     refusal_at(alloc, Status::Denied, u64::from(reason.number()), &place)
 }
 
-/// The answer that tells a verdict: `verified`, or the refusal of a report that is denied, with the reason and the candidate.
-/// The only error is `OutOfMemory`.
+/// The answer that tells a verdict: `verified`, or the refusal of a report that is denied, with the
+/// reason and the candidate. The only error is `OutOfMemory`.
 pub fn verdict_answer(alloc: Global, verdict: AuditVerdict) -> Result<Answer, OutOfMemory>
     ensures says { IfOk result (λ a. Says (verdict_status (not_denied verdict)) (verdict_text (not_denied verdict)) a.status a.text.items) }
     ensures accepted { IfOk result (λ a. ¬ IsRefusal a.status) }

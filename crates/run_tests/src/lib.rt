@@ -1,4 +1,5 @@
-//! Whole runs of the top call over ports in memory: tests alone, so that the top call is not proved once more with them.
+//! Whole runs of the top call over ports in memory: tests alone, so that the top call is not proved
+//! once more with them.
 #![tactic(auto)]
 
 #[cfg(test)]

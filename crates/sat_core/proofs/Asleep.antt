@@ -6,7 +6,7 @@ use Rattle.std.proofs.lemmas.List.{get_or_append_left, get_or_push, length_push,
 use Rattle.std.proofs.lemmas.List.Sums.{sum_by-cons, get_or-le-sum_by}
 use Rattle.cnf_formula.specs.Literals.{LitValue}
 use Rattle.proof_rules.specs.Held.{Entry}
-use Rattle.sat_core.specs.Holding.{AreHeld, AreAmong, AreAsleep, IsHeldAs}
+use Rattle.sat_core.specs.inner.Holding.{AreHeld, AreAmong, AreAsleep, IsHeldAs}
 use Rattle.sleeping_clauses.specs.Sleeping.{SleepersValue, IsAsleep, sleeping}
 use Rattle.sleeping_clauses.proofs.Stored.{one}
 

@@ -2,6 +2,7 @@
 use Rattle.std.proofs.Common.{◌≡◌, ℕ, ◌<◌, Bool, true, List, [], length, get_or, take, sym, subst, arith}
 use Rattle.std.specs.Prelude.{AllPairs, map}
 use Rattle.std.proofs.lemmas.List.Elements.{All-contains}
+use Rattle.list_laws.proofs.Each.{all_contained}
 use Rattle.cnf_formula.specs.Literals.{LitValue, negation}
 use Rattle.cnf_formula.specs.Lines.{ProofLineValue}
 use Rattle.proof_rules.specs.Held.{CheckerValue}
@@ -17,8 +18,7 @@ use Rattle.conflict_analysis.specs.Learning.{hints_to, IsAnalysis}
 use Rattle.sleeping_clauses.specs.Naming.{name}
 use Rattle.sleeping_clauses.specs.Sleeping.{SleepersValue, sleeping}
 use Rattle.conflict_analysis.specs.Conflicts.{IsConflict}
-use Rattle.sat_core.specs.Holding.{Agree, IsNext}
-use Rattle.sat_core.proofs.Members.{all_by}
+use Rattle.sat_core.specs.inner.Holding.{Agree, IsNext}
 use Rattle.sat_core.proofs.Hinted.{hints_conflict, leading_numbers, no_groups}
 use Rattle.sat_core.proofs.Once.{Apart, consistent_by}
 use Rattle.sat_core.proofs.Spent.{no_closing}
@@ -32,7 +32,7 @@ analysis_accepted c core names s resolved conflict clause id a t an once n =
       new = record {
         above_formula = n.above_formula;
         above_lines = n.above_lines;
-        in_range = all_by (IsAbout c.formula.vars) clause (λ o h. let i = All-contains (IsAbout core.vars) (lits_of core.trail) (negation o) t.within (an.falses o h) in record { some = i.some; within = omega (arith, i.within, a.vars) });
+        in_range = all_contained (IsAbout c.formula.vars) clause (λ o h. let i = All-contains (IsAbout core.vars) (lits_of core.trail) (negation o) t.within (an.falses o h) in record { some = i.some; within = omega (arith, i.within, a.vars) });
         once = once;
       };
       no_groups = no_groups names resolved core.trail conflict 0;

@@ -11,7 +11,7 @@ use Rattle.ledger_rules.specs.Logs.{checker_of}
 use Rattle.trail_core.specs.Meaning.{CoreValue}
 use Rattle.sleeping_clauses.specs.declared.awake.Awake.{Awake}
 use Rattle.sleeping_clauses.specs.Sleeping.{SleepersValue, IsAsleep}
-use Rattle.sat_core.specs.Dividing.{IsDividing}
+use Rattle.sat_core.specs.inner.Dividing.{IsDividing}
 use Rattle.sat_core.specs.Ready.{IsReady}
 use Rattle.sat_core.proofs.Asleep.{pushed_stays, pushed_sleeps, asleep_more}
 use Rattle.sat_core.proofs.Readiness.{named_more, listed_more, ready_moved}

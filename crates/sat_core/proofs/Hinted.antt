@@ -4,6 +4,9 @@ use Rattle.std.specs.Prelude.{All, Contains, Some, map, filter, pos}
 use Rattle.std.proofs.lemmas.Bool.{false≢true, cases_Bool}
 use Rattle.std.proofs.lemmas.List.{append_assoc, take_at, length-append, length-map, length_push, get_or-append-add}
 use Rattle.std.proofs.lemmas.List.Elements.{Contains-push_cases, Contains-append_right, All-nil, All-cons}
+use Rattle.list_laws.proofs.Each.{all_contained}
+use Rattle.list_laws.proofs.Members.{Contains-cons, Contains-map}
+use Rattle.list_laws.proofs.Tests.{few_kept}
 use Rattle.cnf_formula.specs.Literals.{LitValue, negation}
 use Rattle.proof_rules.specs.Held.{Entry, clause_at}
 use Rattle.proof_rules.specs.Accepting.{Takes, Falsifies, Conflicts, leading, groups_from}
@@ -11,11 +14,11 @@ use Rattle.trail_core.specs.Assigned.{IsFalse, IsConsistent}
 use Rattle.trail_core.specs.Trails.{StepValue, lits_of}
 use Rattle.trail_core.proofs.Keeping.{negated_twice}
 use Rattle.conflict_analysis.specs.Learning.{number_of, hints_of, hints_to, IsOut, IsResolved, IsAnalysis}
-use Rattle.sat_core.specs.Hints.{name_of, numbers_of, numbers_to}
-use Rattle.sat_core.specs.Holding.{AreNamed}
+use Rattle.sat_core.specs.inner.Hints.{name_of, numbers_of, numbers_to}
+use Rattle.sat_core.specs.inner.Holding.{AreNamed}
 use Rattle.sleeping_clauses.specs.Naming.{name, IsName}
-use Rattle.conflict_analysis.proofs.Members.{here, there, cons_cases}
-use Rattle.sat_core.proofs.Members.{all_by, in_map, from_filter, found_by, not_found}
+use Rattle.conflict_analysis.proofs.Members.{here, cons_cases}
+use Rattle.sat_core.proofs.Members.{from_filter, found_by, not_found}
 
 -- a hint that leaves one literal, before hints that go on
 pub hint_then : (held : List Entry) (falses : List LitValue) (hint : ℕ) (l : LitValue) (hints : List ℕ) (last : ℕ) → Takes held falses hint l → Conflicts held (negation l ∷ falses) (hints ++ last ∷ []) → Conflicts held falses (hint ∷ (hints ++ last ∷ []))
@@ -32,7 +35,7 @@ reason_takes held names clauses falses resolved clause before s a r out not =
       names = subst (λ n. clause_at held n ≡ Some h.0) (sym (ap (name_of names) r.reason)) h.1;
       stands = found_by h.0 s.lit (h.2.from s.lit r.stands);
       not_false = not_found falses s.lit not;
-      others = all_by _ h.0 (λ o c. ⊎_elim (λ e. inr e) (λ u. inl (found_by falses o (out o u))) (r.others o (h.2.into o c)));
+      others = all_contained _ h.0 (λ o c. ⊎_elim (λ e. inr e) (λ u. inl (found_by falses o (out o u))) (r.others o (h.2.into o c)));
     }
 
 last_falsifies : (held : List Entry) (names : List ℕ) (clauses : List (List LitValue)) (falses : List LitValue) (id : ℕ) → AreNamed held names clauses → id < length clauses → ((o : LitValue) → Contains (get_or clauses id []) o → Contains falses o) → Falsifies held falses (get_or names (id + 1) 0)
@@ -41,7 +44,7 @@ last_falsifies held names clauses falses id a w f =
     record {
       clause = h.0;
       names = h.1;
-      each = all_by _ h.0 (λ o c. found_by falses o (f o (h.2.into o c)));
+      each = all_contained _ h.0 (λ o c. found_by falses o (f o (h.2.into o c)));
     }
 
 at_seam : {X : Type 0} (xs : List X) (x : X) (ys : List X) (d : X) → get_or (xs ++ x ∷ ys) (length xs) d ≡ x
@@ -67,7 +70,7 @@ conflicts_from held names clauses steps resolved conflict clause a con an (s ∷
     let t : take k steps ≡ before = ap (take k) e ∙ take_at before (s ∷ rest) k refl in
     let r : IsResolved clauses resolved clause before s = subst (λ x. IsResolved clauses resolved clause before x) g (subst (λ xs. IsResolved clauses resolved clause xs (get_or steps k s)) t (an.each k s k< (subst (λ x. resolved x ≡ true) (sym g) b))) in
     let in' : Contains steps s = subst (λ xs. Contains xs s) (sym e) (Contains-append_right before (s ∷ rest) s (here s rest)) in
-    let stands : Contains (lits_of steps) s.lit = in_map (λ x. x.lit) steps s in' in
+    let stands : Contains (lits_of steps) s.lit = Contains-map (λ x. x.lit) steps s in' in
     rw b (hint_then held falses (name_of names s.reason) s.lit (numbers_of names resolved rest) (get_or names (conflict + 1) 0)
     (reason_takes held names clauses falses resolved clause before s a r out (λ c. con s.lit stands (fal s.lit c)))
     (conflicts_from held names clauses steps resolved conflict clause a con an rest (before ++ s ∷ []) (negation s.lit ∷ falses) seam
@@ -81,9 +84,9 @@ conflicts_from held names clauses steps resolved conflict clause a con an (s ∷
 
     more : (o : LitValue) → IsOut resolved (before ++ s ∷ []) clause o → Contains (negation s.lit ∷ falses) o
     more o u = ⊎_elim
-        (λ c. there (negation s.lit) falses o (out o (inl c)))
+        (λ c. Contains-cons (negation s.lit) falses o (out o (inl c)))
         (λ q. ⊎_elim
-        (λ c. there (negation s.lit) falses o (out o (inr (q.0, c, q.2, q.3))))
+        (λ c. Contains-cons (negation s.lit) falses o (out o (inr (q.0, c, q.2, q.3))))
         (λ i. subst (λ x. Contains (negation s.lit ∷ falses) x) (ap (λ x. negation x.lit) i ∙ ap negation q.3 ∙ negated_twice o) (here (negation s.lit) falses))
         (Contains-push_cases before s q.0 q.1))
         u
@@ -124,7 +127,7 @@ names_from : (places : ℕ) (steps : List StepValue) (conflict : ℕ) → ((s : 
 names_from places [] conflict each w = All-cons (IsName places) (pos (conflict + 1)) [] (conflict + 1, refl, w) (All-nil (IsName places))
 names_from places (s ∷ steps) conflict each w =
     All-cons (IsName places) (pos (number_of s.reason)) (map (λ x. pos (number_of x.reason)) steps ++ pos (conflict + 1) ∷ []) (number_of s.reason, refl, each s (here s steps))
-    (names_from places steps conflict (λ x c. each x (there s steps x c)) w)
+    (names_from places steps conflict (λ x c. each x (Contains-cons s steps x c)) w)
 
 pub hints_names : (clauses : List (List LitValue)) (steps : List StepValue) (resolved : StepValue → Bool) (conflict : ℕ) (clause : List LitValue) → IsAnalysis clauses steps resolved conflict clause → All (IsName (length clauses + 1)) (hints_to resolved steps conflict)
 hints_names clauses steps resolved conflict clause an =
@@ -138,15 +141,9 @@ hints_names clauses steps resolved conflict clause an =
 
 -- ---- and so few
 
-few_filtered : {X : Type 0} (p : X → Bool) (xs : List X) → length (filter p xs) ≤ length xs
-few_filtered p [] = omega arith
-few_filtered p (x ∷ xs) =
-    let r = few_filtered p xs in
-    ⊎_elim (λ b. rw b (omega (arith, r))) (λ b. rw b (omega (arith, r))) (cases_Bool (p x))
-
 pub few_hints : (resolved : StepValue → Bool) (steps : List StepValue) (conflict : ℕ) → length (hints_to resolved steps conflict) ≤ length steps + 1
 few_hints resolved steps conflict =
-    let a = few_filtered resolved steps in
+    let a = few_kept resolved steps in
     let b = length-map (filter resolved steps) (λ s. pos (number_of s.reason)) in
     let c = length_push (hints_of resolved steps) (pos (conflict + 1)) in
     omega (arith, a, b, c)

@@ -5,6 +5,7 @@ use Rattle.std.proofs.lemmas.Bool.{cases_lt}
 use Rattle.std.proofs.lemmas.List.{get_or-take, get_or_push, length_push, length-take-le, take-map, take_at, take-take, take_more}
 use Rattle.std.proofs.lemmas.List.Elements.{Contains-append_left, Contains-push, Contains-push_cases, Contains-get_or, All-contains}
 use Rattle.std.proofs.lemmas.List.Sums.{sum_by-take-le}
+use Rattle.list_laws.proofs.Each.{all_contained}
 use Rattle.cnf_formula.specs.Literals.{LitValue, negation}
 use Rattle.cnf_formula.specs.Formulas.{IsAbout}
 use Rattle.cnf_formula.specs.Lines.{ProofLineValue}
@@ -15,11 +16,10 @@ use Rattle.trail_core.specs.Meaning.{CoreValue, trues}
 use Rattle.trail_core.specs.Kept.{IsDue, CanAdd, CanAddTo}
 use Rattle.trail_core.specs.Formed.{IsTrail}
 use Rattle.trail_core.proofs.Trails.{all_counted, level_at_cut}
-use Rattle.trail_core.proofs.Keeping.{lits_length, nil_limits}
-use Rattle.sat_core.specs.Jumping.{gone_back, IsBacked, HasLevel, AreUpTo, front_of}
+use Rattle.trail_core.proofs.Keeping.{lits_length, nil_limits, in_front}
+use Rattle.sat_core.specs.inner.Jumping.{gone_back, IsBacked, HasLevel, AreUpTo, front_of}
 use Rattle.conflict_analysis.specs.Learned.{IsPointed, IsLearned}
 use Rattle.conflict_analysis.specs.Met.{lit_at}
-use Rattle.sat_core.proofs.Members.{all_by, from_front}
 use Rattle.conflict_analysis.proofs.Marked.{IsAt, false_at, lit_read, same_place, level_within, level_read}
 use Rattle.conflict_analysis.proofs.Levels.{level_below}
 use Rattle.conflict_analysis.proofs.Pointed.{false_below}
@@ -87,7 +87,7 @@ backed_some core lits b = let n = length_push b.pointed.front b.pointed.point in
 
 -- its literals are of the variables, and differ
 pub backed_within : (core : CoreValue) (lits : List LitValue) → IsTrail core.vars core.trail core.limits → IsBacked core lits → All (IsAbout core.vars) lits
-backed_within core lits t b = all_by (IsAbout core.vars) lits (λ o c.
+backed_within core lits t b = all_contained (IsAbout core.vars) lits (λ o c.
     let i = All-contains (IsAbout core.vars) (trues core) (negation o) t.within (b.falses o c) in
     record { some = i.some; within = i.within })
 
@@ -154,7 +154,7 @@ jump_unit core lits level j =
         (cases_lt level last)
 
     further : (x : LitValue) → Contains (take a (trues core)) x → Contains (take (get_or core.limits last 0) (trues core)) x
-    further x c = from_front a (take (get_or core.limits last 0) (trues core)) x (subst (λ xs. Contains xs x) (sym (take-take a (get_or core.limits last 0) (trues core) within)) c)
+    further x c = in_front a (take (get_or core.limits last 0) (trues core)) x (subst (λ xs. Contains xs x) (sym (take-take a (get_or core.limits last 0) (trues core) within)) c)
 
     low : (o : LitValue) → Contains p.front o → IsFalse (take a (trues core)) o
     low o f =
@@ -175,7 +175,7 @@ jump_can core lits level j =
       j.backed.pointed.point,
       h.lit,
       jump_unit core lits level j,
-      from_front (length lits - 1) lits h.lit h.stands,
+      in_front (length lits - 1) lits h.lit h.stands,
       record {
         place = h.place;
         within = omega (arith, lt, n);

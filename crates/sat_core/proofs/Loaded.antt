@@ -1,24 +1,25 @@
 -- Clauses of a formula, each literal once, make a core that is ready.
-use Rattle.std.proofs.Common.{◌≡◌, ℕ, ◌+◌, ◌*◌, ◌<◌, ◌≤◌, Bool, true, false, List, [], ◌∷◌, ◌++◌, length, get_or, take, set, eqb, refl, sym, ap, ◌∙◌, subst, inl, ⊎_elim, arith}
-use Rattle.std.specs.Prelude.{◌≢◌, Contains, Some, All, AllPairs, if◌then◌else◌}
+use Rattle.std.proofs.Common.{◌≡◌, ℕ, ◌+◌, ◌<◌, ◌≤◌, List, [], ◌∷◌, ◌++◌, length, get_or, take, set, eqb, refl, sym, ap, ◌∙◌, subst, inl, ⊎_elim, arith}
+use Rattle.std.specs.Prelude.{◌≢◌, Contains, Some, All, AllPairs}
 use Rattle.std.specs.List.{enumerate_from}
 use Rattle.std.proofs.lemmas.Bool.{cases_lt, cases_Bool, eqb-true, eqb-false}
 use Rattle.std.proofs.lemmas.List.{get_or_append_left, get_or_push, length_push, get_or-take, get_or_default, length-take-le, get_or-set_same, get_or-set_other, set-get_or}
 use Rattle.std.proofs.lemmas.List.FromFn.{length-enumerate_from, get_or-enumerate_from}
+use Rattle.std.proofs.lemmas.List.Quantifiers.{all_pairs_push}
 use Rattle.std.proofs.lemmas.List.Elements.{Contains-push, Contains-push_cases, Contains-append_left, Contains-get_or, All-push, All-nil, All-contains}
+use Rattle.list_laws.proofs.Each.{all_contained}
 use Rattle.cnf_formula.specs.Literals.{LitValue, IsLit, code_of}
 use Rattle.cnf_formula.specs.Formulas.{FormulaValue, IsAbout, IsClause}
 use Rattle.cnf_formula.proofs.Codes.{same_code}
 use Rattle.proof_rules.specs.Held.{Entry, clause_at}
 use Rattle.proof_rules.proofs.Numbered.{start_numbered}
 use Rattle.trail_core.specs.Meaning.{CoreValue}
-use Rattle.sat_core.specs.Holding.{IsSame, AreHeld}
-use Rattle.sat_core.specs.Loading.{own_of, IsLoaded}
+use Rattle.sat_core.specs.inner.Holding.{IsSame, AreHeld}
+use Rattle.sat_core.specs.inner.Loading.{own_of, IsLoaded}
 use Rattle.sat_core.specs.Ready.{IsReady}
 use Rattle.sleeping_clauses.specs.Naming.{IsListed}
 use Rattle.sleeping_clauses.specs.Sleeping.{no_sleepers}
 use Rattle.sleeping_clauses.specs.declared.awake.Awake.{Awake}
-use Rattle.sat_core.proofs.Members.{all_by}
 use Rattle.sat_core.proofs.Readiness.{listed_more}
 
 -- ---- a clause with each literal once
@@ -52,16 +53,6 @@ marks_below marks place mark w b k = ⊎_elim
     (λ e. let old = b k in omega (arith, old, get_or-set_other marks place k mark 0 (eqb-false k place e)))
     (cases_Bool (eqb k place))
 
-pairs_push : (xs : List LitValue) (x : LitValue) → AllPairs (λ a b. a ≢ b) xs → (Contains xs x → ⊥) → AllPairs (λ a b. a ≢ b) (xs ++ x ∷ [])
-pairs_push xs x p n i j d lt w e = ⊎_elim
-    (λ v. p i j d lt v (sym (get_or_append_left xs (x ∷ []) d i (omega (arith, lt, v))) ∙ e ∙ get_or_append_left xs (x ∷ []) d j v))
-    (λ v.
-    let at : length xs ≡ j = omega (arith, v, w, length_push xs x) in
-    let i< : i < length xs = omega (arith, lt, at) in
-    let is : get_or xs i d ≡ x = sym (get_or_append_left xs (x ∷ []) d i i<) ∙ e ∙ get_or_push xs x d j at in
-    n (subst (Contains xs) is (Contains-get_or xs i d i<)))
-    (cases_lt j (length xs))
-
 -- another is kept, and its number marked
 pub keeping_new : (passed kept : List LitValue) (marks : List ℕ) (mark : ℕ) (l : LitValue) → IsKeeping passed kept marks mark → code_of l < length marks → (get_or marks (code_of l) 0 ≡ mark → ⊥) → IsLit l → IsKeeping (passed ++ l ∷ []) (kept ++ l ∷ []) (set marks (code_of l) mark) mark
 keeping_new passed kept marks mark l k w new lit = record {
@@ -75,7 +66,7 @@ keeping_new passed kept marks mark l k w new lit = record {
       (λ b. subst (Contains (kept ++ l ∷ [])) (same_code l o (sym (eqb-true (code_of o) (code_of l) b))) (Contains-push kept l))
       (λ b. Contains-append_left kept (l ∷ []) o (k.known o (sym (get_or-set_other marks (code_of l) (code_of o) mark 0 (eqb-false (code_of o) (code_of l) b)) ∙ e)))
       (cases_Bool (eqb (code_of o) (code_of l)));
-  once = pairs_push kept l k.once (λ c. new (k.marked l c));
+  once = all_pairs_push (λ a b. a ≢ b) kept l k.once (λ i d w e. new (k.marked l (subst (Contains kept) e (Contains-get_or kept i d w))));
   lits = All-push IsLit kept l k.lits lit;
 }
 
@@ -87,18 +78,11 @@ keeping_same lits kept marks mark k = record { into = k.into; from = k.from }
 own_about : (vars : ℕ) (l : LitValue) → IsAbout vars l → IsLit l → IsAbout (own_of vars) l
 own_about vars l a i = record { some = a.some; within = omega (arith, a.within, i.small) }
 
-pub code_own : (vars own : ℕ) (clause : List LitValue) → own ≡ own_of vars → IsClause vars clause → (l : LitValue) → IsLit l → Contains clause l → code_of l < 2 * own + 2
-code_own vars own clause e a l i c =
-    let o = own_about vars l (All-contains (IsAbout vars) clause l a c) i in
-    let s = sign_small l.positive in
-    omega (arith, o.within, e, s)
-  where
-    sign_small : (p : Bool) → (if p then 0 else 1) ≤ 1
-    sign_small true = omega arith
-    sign_small false = omega arith
+pub about_own : (vars own : ℕ) (clause : List LitValue) → own ≡ own_of vars → IsClause vars clause → (l : LitValue) → IsLit l → Contains clause l → IsAbout own l
+about_own vars own clause e a l i c = subst (λ n. IsAbout n l) (sym e) (own_about vars l (All-contains (IsAbout vars) clause l a c) i)
 
-pub kept_about : (vars own : ℕ) (clause kept : List LitValue) → own ≡ own_of vars → IsClause vars clause → IsSame clause kept → All IsLit kept → IsClause own kept
-kept_about vars own clause kept e a s i = subst (λ n. IsClause n kept) (sym e) (all_by (IsAbout (own_of vars)) kept (λ l c. own_about vars l (All-contains (IsAbout vars) clause l a (s.from l c)) (All-contains IsLit kept l i c)))
+pub kept_about : (own : ℕ) (clause kept : List LitValue) → ((l : LitValue) → IsLit l → Contains clause l → IsAbout own l) → IsSame clause kept → All IsLit kept → IsClause own kept
+kept_about own clause kept a s i = all_contained (IsAbout own) kept (λ l c. a l (All-contains IsLit kept l i c) (s.from l c))
 
 -- ---- a core with them
 

@@ -4,16 +4,17 @@ use Rattle.std.specs.Prelude.{not, Contains}
 use Rattle.std.proofs.lemmas.Bool.{cases_Bool, and_from, or_left, or_right}
 use Rattle.std.proofs.lemmas.List.{get_or_default}
 use Rattle.std.proofs.lemmas.List.Elements.{Contains-get_or, All-contains}
+use Rattle.list_laws.proofs.Members.{Contains-cons}
 use Rattle.cnf_formula.specs.Literals.{LitValue, yes, same_sign, value_of, is_true, clause_holds, all_hold}
 use Rattle.cnf_formula.specs.Formulas.{FormulaValue, IsAbout, IsClause, Satisfies}
 use Rattle.cnf_formula.specs.Lines.{ProofLineValue}
 use Rattle.trail_core.specs.Meaning.{CoreValue, trues}
-use Rattle.sat_core.specs.Holding.{IsSame}
+use Rattle.sat_core.specs.inner.Holding.{IsSame}
 use Rattle.sleeping_clauses.specs.Sleeping.{SleepersValue}
 use Rattle.sleeping_clauses.specs.declared.awake.Awake.{Awake}
 use Rattle.sat_core.specs.Ready.{IsReady}
-use Rattle.sat_core.specs.Totals.{IsTotal, AreValues}
-use Rattle.conflict_analysis.proofs.Members.{here, there, cons_cases}
+use Rattle.sat_core.specs.inner.Totals.{IsTotal, AreValues}
+use Rattle.conflict_analysis.proofs.Members.{here, cons_cases}
 use Rattle.sat_core.proofs.Once.{consistent_by}
 use Rattle.sat_core.proofs.Totality.{total_satisfied}
 
@@ -49,7 +50,7 @@ any_true values (x ∷ clause) l c h = ⊎_elim
 
 all_true : (values : List Bool) (clauses : List (List LitValue)) → ((clause : List LitValue) → Contains clauses clause → clause_holds values clause ≡ true) → all_hold values clauses ≡ true
 all_true values [] h = refl
-all_true values (x ∷ clauses) h = and_from (clause_holds values x) (all_hold values clauses) (h x (here x clauses)) (all_true values clauses (λ clause c. h clause (there x clauses clause c)))
+all_true values (x ∷ clauses) h = and_from (clause_holds values x) (all_hold values clauses) (h x (here x clauses)) (all_true values clauses (λ clause c. h clause (Contains-cons x clauses clause c)))
 
 pub model_satisfies : (base : FormulaValue) (lines : List ProofLineValue) (core : CoreValue) (awake : Awake) (sleepers : SleepersValue) (values : List Bool) → IsReady base lines core awake sleepers → IsTotal core → length values ≡ base.vars → AreValues (trues core) core.vars values → Satisfies values base
 model_satisfies base lines core awake sleepers values r t n v = record {

@@ -11,27 +11,20 @@ use Rattle.cnf_formula.specs.declared.line.LratLine.TheVariants.{Addition}
 use Rattle.proof_rules.specs.declared.verdict.LineVerdict.TheVariants.{Accepted as AcceptedVerdict}
 use Rattle.proof_rules.specs.Held.{Entry, CheckerValue, start_of, clause_at}
 use Rattle.proof_rules.specs.Judging.{verdict_of}
-use Rattle.proof_rules.specs.Refuting.{is_empty, is_fresh, is_accepted, with_line, after, AllAccepted, AllImplied, AllFresh, Refutes}
+use Rattle.proof_rules.specs.Refuting.{is_empty, is_fresh, with_line, after, AllFresh, Refutes}
+use Rattle.proof_rules.proofs.InTurn.{after_more, implied_more, implied_accepted}
 use Rattle.proof_rules.proofs.Kept.{keeps_append}
 use Rattle.ledger_rules.specs.Logs.{checker_of}
 use Rattle.trail_core.specs.Meaning.{CoreValue}
-use Rattle.sat_core.specs.Holding.{IsSame, IsHeldAs, AreNamed, AreHeld, IsNext}
+use Rattle.sat_core.specs.inner.Holding.{IsSame, IsHeldAs, AreNamed, AreHeld, IsNext}
 use Rattle.sleeping_clauses.specs.Naming.{IsListed}
 use Rattle.sleeping_clauses.specs.Sleeping.{SleepersValue}
 use Rattle.sleeping_clauses.specs.declared.awake.Awake.{Awake}
 use Rattle.sat_core.specs.Ready.{AreNumbered, AreWritten, IsHolding, IsReady}
-use Rattle.sleeping_clauses.proofs.Stored.{by_place_push}
+use Rattle.list_laws.proofs.Places.{by_place_push}
 use Rattle.sat_core.proofs.Asleep.{woken_stays}
 
 -- ---- one line more
-
-pub after_more : (lines : List ProofLineValue) (c : CheckerValue) (line : ProofLineValue) → after c (map Addition (lines ++ line ∷ [])) ≡ with_line (after c (map Addition lines)) line
-after_more [] c line = refl
-after_more (l ∷ lines) c line = after_more lines (with_line c l) line
-
-pub implied_more : (lines : List ProofLineValue) (c : CheckerValue) (line : ProofLineValue) → AllImplied c lines → verdict_of (after c (map Addition lines)) line ≡ AcceptedVerdict true → AllImplied c (lines ++ line ∷ [])
-implied_more [] c line a v = (v, tt)
-implied_more (l ∷ lines) c line a v = (a.0, implied_more lines (with_line c l) line a.1 v)
 
 pub fresh_more : (lines : List ProofLineValue) (c : CheckerValue) (line : ProofLineValue) → AllFresh c lines → is_fresh (after c (map Addition lines)) line.lits ≡ true → AllFresh c (lines ++ line ∷ [])
 fresh_more [] c line a f = (f, tt)
@@ -44,11 +37,6 @@ numbered_more many lines line a e k d w = ⊎_elim
     let at : length lines ≡ k = omega (arith, ge, w, length_push lines line) in
     ap (λ l. l.id) (get_or_push lines line d k at) ∙ e ∙ ap (λ n. many + 1 + n) at)
     (cases_lt k (length lines))
-
--- lines that follow are accepted
-accepted_all : (lines : List ProofLineValue) (c : CheckerValue) → AllImplied c lines → AllAccepted c (map Addition lines)
-accepted_all [] c a = tt
-accepted_all (l ∷ lines) c a = (ap is_accepted a.0, accepted_all lines (with_line c l) a.1)
 
 -- the last of what is held, where all numbers before it are smaller
 found_last : (held : List Entry) (n : ℕ) (clause : List LitValue) → All (λ entry. entry.0 < n) held → clause_at (held ++ (n, clause) ∷ []) n ≡ Some clause
@@ -92,7 +80,7 @@ listed_more clauses clauses' clause awake awake' id number l cs at ids names onc
           ap (λ xs. get_or xs k 0) ids ∙ get_or_push awake.ids.items id 0 k (l.ids_len ∙ e) ∙ at ∙ e)
           (cases_lt k (length clauses));
       names = omega (arith, n, ap length names, length_push awake.names.items number, l.names);
-      once = λ k w. subst (λ xs. AllPairs (λ a b. a ≢ b) (get_or xs k [])) (sym cs) (by_place_push (λ j c. AllPairs (λ a b. a ≢ b) c) clauses clause l.once once k (subst (λ xs. k < length xs) cs w));
+      once = λ k w. subst (λ xs. AllPairs (λ a b. a ≢ b) (get_or xs k [])) (sym cs) (by_place_push (λ j c. AllPairs (λ a b. a ≢ b) c) clauses clause [] l.once once k (subst (λ xs. k < length xs) cs w));
     }
 
 held_more : (held : List Entry) (names names' : List ℕ) (clauses clauses' : List (List LitValue)) (s : SleepersValue) (clause : List LitValue) (number : ℕ) → AreHeld held names clauses s → All (λ entry. entry.0 < number) held → length names ≡ length clauses + 1 → clauses' ≡ clauses ++ clause ∷ [] → names' ≡ names ++ number ∷ []
@@ -160,7 +148,7 @@ ready_more base lines core core' awake awake' s line r l w f e g = record {
 
 pub refuted_by : (base : FormulaValue) (lines : List ProofLineValue) (line : ProofLineValue) → AreWritten base (lines ++ line ∷ []) → line.lits ≡ [] → Refutes (map Addition (lines ++ line ∷ [])) base
 refuted_by base lines line w e = record {
-  accepted = accepted_all (lines ++ line ∷ []) (start_of base) w.implied;
+  accepted = implied_accepted (lines ++ line ∷ []) (start_of base) w.implied;
   refuted = ap (λ c. c.refuted) (after_more lines (start_of base) line) ∙ or_right (checker_of base lines).refuted (is_empty line.lits) (ap is_empty e);
 }
 

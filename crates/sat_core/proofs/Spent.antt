@@ -3,6 +3,7 @@ use Rattle.std.proofs.Common.{◌≡◌, ℕ, true, List, [], ◌∷◌, length,
 use Rattle.std.specs.Prelude.{◌⊎◌, ◌==◌, Contains, Some}
 use Rattle.std.proofs.lemmas.Bool.{cases_Bool}
 use Rattle.std.proofs.lemmas.List.Elements.{All-contains}
+use Rattle.list_laws.proofs.Members.{Contains-cons}
 use Rattle.cnf_formula.specs.Literals.{LitValue, negation}
 use Rattle.cnf_formula.specs.Lines.{ProofLineValue}
 use Rattle.proof_rules.specs.declared.verdict.LineVerdict.TheVariants.{Accepted as AcceptedVerdict}
@@ -13,8 +14,8 @@ use Rattle.proof_rules.proofs.Verdicts.{implied_by}
 use Rattle.trail_core.specs.Assigned.{IsFalse}
 use Rattle.trail_core.specs.Meaning.{IsClosed}
 use Rattle.trail_core.proofs.Keeping.{negated_twice}
-use Rattle.sat_core.specs.Holding.{AreAmong}
-use Rattle.conflict_analysis.proofs.Members.{here, there, cons_cases}
+use Rattle.sat_core.specs.inner.Holding.{AreAmong}
+use Rattle.conflict_analysis.proofs.Members.{here, cons_cases}
 use Rattle.sat_core.proofs.Members.{stands_by, stands_or_not}
 
 -- a clause that is held under a number is one of the held
@@ -22,7 +23,7 @@ pub is_entry : (held : List Entry) (id : ℕ) (clause : List LitValue) → claus
 is_entry [] id clause h = absurd (cc)
 is_entry (entry ∷ held) id clause h = ⊎_elim
     (λ e. let here' : Some (entry.1) ≡ Some clause = rw e at h in (entry, here entry held, cc))
-    (λ e. let r = is_entry held id clause (rw e at h) in (r.0, there entry held r.0 r.1, r.2))
+    (λ e. let r = is_entry held id clause (rw e at h) in (r.0, Contains-cons entry held r.0 r.1, r.2))
     (cases_Bool (entry.0 == id))
 
 pub no_conflict : (held : List Entry) (clauses : List (List LitValue)) (trues : List LitValue) → AreAmong held clauses → IsClosed trues clauses → (hints : List ℕ) (falses : List LitValue) → ((o : LitValue) → Contains falses o → IsFalse trues o) → Conflicts held falses hints → ⊥

@@ -8,13 +8,14 @@ use Rattle.std.proofs.lemmas.List.{get_or_default, length-map}
 use Rattle.std.proofs.lemmas.List.Elements.{All-contains, Contains-push, Contains-append_left}
 use Rattle.std.proofs.lemmas.Map.Keys.{IsDistinct-cons}
 use Rattle.std.proofs.lemmas.Map.Steps.{length-le_from_distinct_below}
+use Rattle.list_laws.proofs.Members.{Contains-cons}
 use Rattle.cnf_formula.specs.Literals.{LitValue, yes, no, has_literal, is_superset}
 use Rattle.cnf_formula.specs.Formulas.{FormulaValue, IsAbout, IsClause}
 use Rattle.cnf_formula.specs.Lines.{ProofLineValue}
 use Rattle.proof_rules.specs.Held.{Entry, CheckerValue, start_of}
 use Rattle.proof_rules.specs.Refuting.{is_empty, with_line, is_fresh, AllImplied, AllFresh, SpentLog}
 use Rattle.proof_rules.proofs.Verdicts.{implied_by}
-use Rattle.conflict_analysis.proofs.Members.{here, there, cons_cases}
+use Rattle.conflict_analysis.proofs.Members.{here, cons_cases}
 use Rattle.sat_core.proofs.Members.{found_by, stands_by, not_found}
 
 -- ---- a clause as a number in base 3
@@ -147,7 +148,7 @@ same_literals a b n once e l about c = go l.positive c
 -- a clause that has all literals of another is a superset of it
 superset_by : (clause other : List LitValue) → ((l : LitValue) → Contains other l → Contains clause l) → is_superset clause other ≡ true
 superset_by clause [] h = refl
-superset_by clause (x ∷ other) h = and_from (has_literal clause x) (is_superset clause other) (found_by clause x (h x (here x other))) (superset_by clause other (λ l c. h l (there x other l c)))
+superset_by clause (x ∷ other) h = and_from (has_literal clause x) (is_superset clause other) (found_by clause x (h x (here x other))) (superset_by clause other (λ l c. h l (Contains-cons x other l c)))
 
 -- some literal leaves the number above 0
 number_some : (clause : List LitValue) (n : ℕ) (l : LitValue) → IsAbout n l → Contains clause l → 0 < number_to clause n

@@ -2,13 +2,14 @@
 use Rattle.std.proofs.Common.{Bool, true, false, List, [], ◌∷◌, subst, inl, inr, ⊎_elim, arith}
 use Rattle.std.specs.Prelude.{◌⊎◌, Contains, All}
 use Rattle.std.proofs.lemmas.List.Elements.{All-contains}
+use Rattle.list_laws.proofs.Members.{Contains-cons}
 use Rattle.cnf_formula.specs.Literals.{LitValue, negation, no}
 use Rattle.trail_core.specs.Assigned.{IsFalse, IsOpen}
 use Rattle.cnf_formula.specs.Formulas.{IsAbout}
 use Rattle.trail_core.specs.Search.{IsSatisfied}
 use Rattle.trail_core.specs.Meaning.{CoreValue, trues}
-use Rattle.sat_core.specs.Totals.{IsTotal}
-use Rattle.conflict_analysis.proofs.Members.{here, there, cons_cases}
+use Rattle.sat_core.specs.inner.Totals.{IsTotal}
+use Rattle.conflict_analysis.proofs.Members.{here, cons_cases}
 use Rattle.sat_core.proofs.Members.{stands_or_not}
 
 -- an open literal's variable is open, as false too
@@ -25,9 +26,9 @@ one_or_none ts [] h = inr (λ l c. absurd (omega (arith, c.1)))
 one_or_none ts (x ∷ clause) h = ⊎_elim
     (λ t. inl (x, here x clause, t))
     (λ f. ⊎_elim
-    (λ s. inl (s.0, there x clause s.0 s.1, s.2))
+    (λ s. inl (s.0, Contains-cons x clause s.0 s.1, s.2))
     (λ g. inr (λ l c. ⊎_elim (λ e. subst (λ y. IsFalse ts y) e f) (λ d. g l d) (cons_cases x clause l c)))
-    (one_or_none ts clause (λ l c. h l (there x clause l c))))
+    (one_or_none ts clause (λ l c. h l (Contains-cons x clause l c))))
     (h x (here x clause))
 
 pub total_satisfied : (core : CoreValue) → IsTotal core → (clause : List LitValue) → Contains core.clauses clause → All (IsAbout core.vars) clause → IsSatisfied (trues core) clause

@@ -13,14 +13,14 @@ use Rattle.cnf_formula.specs.declared.line.LratLine.TheVariants.{Addition}
 use Rattle.ledger_rules.specs.Logs.{checker_of}
 use Rattle.trail_core.specs.Meaning.{CoreValue, trues}
 use Rattle.conflict_analysis.specs.Conflicts.{IsConflict}
-use Rattle.sat_core.specs.Holding.{Agree, IsNext}
+use Rattle.sat_core.specs.inner.Holding.{Agree, IsNext}
 use Rattle.conflict_analysis.specs.Learned.{IsLearned}
-use Rattle.sat_core.specs.Jumping.{IsBacked}
+use Rattle.sat_core.specs.inner.Jumping.{IsBacked}
 use Rattle.conflict_analysis.specs.Learning.{hints_to}
 use Rattle.sleeping_clauses.specs.Naming.{name, IsNamed, IsListed}
 use Rattle.sleeping_clauses.specs.Sleeping.{SleepersValue, HasNone, AreFew, sleeping}
 use Rattle.sleeping_clauses.specs.declared.awake.Awake.{Awake}
-use Rattle.sat_core.specs.Guided.{IsGuided}
+use Rattle.sat_core.specs.inner.Guided.{IsGuided}
 use Rattle.conflict_analysis.specs.Met.{IsRested}
 use Rattle.sat_core.specs.declared.guide.Guide.{Guide}
 use Rattle.sat_core.specs.Ready.{AreWritten, IsReady, IsOver}

@@ -1,10 +1,3 @@
-pub mod Holding
-pub mod Hints
 pub mod Ready
-pub mod Dividing
 pub mod Faults
-pub mod Totals
-pub mod Loading
-pub mod Guided
-pub mod Jumping
-pub mod Measure
+pub mod inner

@@ -8,7 +8,7 @@ use Rattle.proof_rules.specs.Judging.{verdict_of}
 use Rattle.proof_rules.specs.Refuting.{AllImplied, AllFresh}
 use Rattle.ledger_rules.specs.Logs.{checker_of}
 use Rattle.trail_core.specs.Meaning.{CoreValue}
-use Rattle.sat_core.specs.Holding.{Agree, IsSame}
+use Rattle.sat_core.specs.inner.Holding.{Agree, IsSame}
 use Rattle.sleeping_clauses.specs.Sleeping.{SleepersValue}
 use Rattle.sleeping_clauses.specs.declared.awake.Awake.{Awake}
 

@@ -9,8 +9,8 @@ use decision_order::{Decider, Probes, Restarts};
 use sleeping_clauses::{Awake, Sleepers};
 use std::alloc::Global;
 
-/// The marks of analyses, what is decided next, when the search begins anew, when another decider takes over, and which
-/// learned clauses sleep.
+/// The marks of analyses, what is decided next, when the search begins anew, when another decider
+/// takes over, and which learned clauses sleep.
 #[derive(Drop)]
 pub struct Guide {
     pub walk: Walk,

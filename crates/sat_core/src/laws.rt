@@ -1,4 +1,5 @@
-//! Laws of what is learned at a conflict: it is accepted by its hints (RUP with hints, LRAT), and is fresh.
+//! Laws of what is learned at a conflict: it is accepted by its hints (RUP with hints, LRAT), and
+//! is fresh.
 
 ghost use Rattle.std.specs.Prelude.{◌≡◌, ◌≢◌, ◌↔◌, ℕ, ◌+◌, ◌<◌, ◌≤◌, ◌^◌, Bool, true, List, [], length, map, Contains, All, AllPairs};
 ghost use Rattle.cnf_formula.specs.Literals.{LitValue, has_literal};
@@ -14,13 +15,13 @@ ghost use Rattle.cnf_formula.specs.Formulas.{FormulaValue, IsAbout, Satisfies};
 ghost use Rattle.trail_core.specs.Search.{IsSatisfied, IsUnit};
 ghost use Rattle.trail_core.specs.Meaning.{CoreValue, trues, IsClosed};
 ghost use Rattle.trail_core.specs.Formed.{IsTrail};
-ghost use Rattle.sat_core.specs.Totals.{IsTotal, AreValues};
+ghost use Rattle.sat_core.specs.inner.Totals.{IsTotal, AreValues};
 ghost use Rattle.sat_core.specs.Ready.{IsReady};
-ghost use Rattle.sat_core.specs.Holding.{AreNamed, AreAmongOr, Agree, IsNext};
+ghost use Rattle.sat_core.specs.inner.Holding.{AreNamed, AreAmongOr, Agree, IsNext};
 ghost use Rattle.conflict_analysis.specs.Learning.{IsAnalysis, hints_to};
-ghost use Rattle.sat_core.specs.Hints.{numbers_to};
+ghost use Rattle.sat_core.specs.inner.Hints.{numbers_to};
 ghost use Rattle.conflict_analysis.specs.Conflicts.{IsConflict};
-ghost use Rattle.sat_core.specs.Measure.{IsLess, remaining};
+ghost use Rattle.sat_core.specs.inner.Measure.{IsLess, remaining};
 ghost use Rattle.conflict_analysis.specs.Learned.{IsLearned};
 ghost use Rattle.sleeping_clauses.specs.Naming.{name, IsNamed};
 ghost use Rattle.sleeping_clauses.specs.Sleeping.{SleepersValue, HasNone, sleeping};
@@ -32,7 +33,8 @@ pub fn literals_are_found_exactly()
     ensures { (clause : List LitValue) (l : LitValue) → (has_literal clause l ≡ true) ↔ Contains clause l }
 {}
 
-/// The reasons of the resolved steps in the order of the trail, and then the falsified clause, are a conflict for what remains.
+/// The reasons of the resolved steps in the order of the trail, and then the falsified clause, are
+/// a conflict for what remains.
 #[tactic(auto, using(crate::proofs::Hinted::hints_conflict))]
 pub fn an_analysis_has_its_hints()
     ensures { (held : List Entry) (names : List ℕ) (clauses : List (List LitValue)) (steps : List StepValue) (resolved : StepValue → Bool) (conflict : ℕ) (clause : List LitValue) → AreNamed held names clauses → IsConsistent (lits_of steps)
@@ -64,7 +66,8 @@ pub fn no_line_closes_above_level_0()
     ensures { (c : CheckerValue) (core : CoreValue) (names : List ℕ) (s : SleepersValue) (conflict : ℕ) → Agree c core names s → sleeping s ≡ 0 → IsConflict core conflict → 0 < length core.limits → (line : ProofLineValue) → line.lits ≡ [] → verdict_of c line ≡ Accepted true → ⊥ }
 {}
 
-/// Each conflict for which a line is paid or a clause is woken, and each decision, leaves less to do.
+/// Each conflict for which a line is paid or a clause is woken, and each decision, leaves less to
+/// do.
 #[tactic(auto, using(crate::proofs::Measure::conflict_leaves_less, crate::proofs::Measure::decision_leaves_less))]
 pub fn each_turn_leaves_less()
     ensures conflict { (limit spent spent' asleep asleep' vars len len' : ℕ) → IsLess spent asleep spent' asleep' → spent' ≤ limit → asleep' < 18446744073709551616 → remaining limit spent' asleep' vars len' < remaining limit spent asleep vars len }
@@ -77,8 +80,9 @@ pub fn a_total_core_satisfies_its_clauses()
     ensures { (core : CoreValue) → IsTotal core → (clause : List LitValue) → Contains core.clauses clause → All (IsAbout core.vars) clause → IsSatisfied (trues core) clause }
 {}
 
-/// A log of lines, each implied and stated by none before, is shorter than 3 to the number of variables: so many clauses
-/// there are that name no variable twice, and the one without a literal is not among the lines.
+/// A log of lines, each implied and stated by none before, is shorter than 3 to the number of
+/// variables: so many clauses there are that name no variable twice, and the one without a literal
+/// is not among the lines.
 pub fn logs_are_shorter_than_all_clauses()
     ensures { (f : FormulaValue) (lines : List ProofLineValue) (n : ℕ) → SpentLog lines f n → n < 3 ^ f.vars }
 {}

@@ -1,8 +1,9 @@
-//! The search for a model of a formula, or for lines that refute it, by learning clauses from conflicts (CDCL).
+//! The search for a model of a formula, or for lines that refute it, by learning clauses from
+//! conflicts (CDCL).
 #![tactic(auto)]
 
+mod backjump;
 mod fault;
-mod going;
 mod guide;
 mod laws;
 mod loading;

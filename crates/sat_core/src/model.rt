@@ -3,13 +3,14 @@
 ghost use Rattle.std.specs.Prelude.{◌≡◌, ℕ, ◌+◌, ◌<◌, ◌≤◌, true, false, length, Contains, IfOk};
 ghost use Rattle.cnf_formula.specs.Literals.{yes};
 ghost use Rattle.trail_core.specs.Meaning.{trues};
-ghost use Rattle.sat_core.specs.Totals.{AreValues};
+ghost use Rattle.sat_core.specs.inner.Totals.{AreValues};
 
 use cnf_formula::{Assignment, Lit, OutOfMemory};
 use std::alloc::Global;
 use trail_core::Core;
 
-/// The value of the variable after the first `index`: true where the core, which has the first `own`, says so.
+/// The value of the variable after the first `index`: true where the core, which has the first
+/// `own`, says so.
 fn value_at(core: &Core, own: u32, index: u32) -> bool
     requires own { own ≡ core.now.vars }
     requires small { own < 2147483648 }

@@ -3,13 +3,13 @@
 ghost use Rattle.std.specs.Prelude.{◌≡◌, ℕ, ◌+◌, ◌*◌, ◌<◌, ◌≤◌, [], List, All, length, IfOk, OnOk};
 ghost use Rattle.cnf_formula.specs.Formulas.{FormulaValue, IsClause};
 ghost use Rattle.cnf_formula.specs.Lines.{ProofLineValue};
-ghost use Rattle.sat_core.specs.Guided.{IsGuided};
+ghost use Rattle.sat_core.specs.inner.Guided.{IsGuided};
 ghost use Rattle.sat_core.specs.Ready.{IsReady};
 ghost use Rattle.sleeping_clauses.specs.Naming.{IsListed};
 ghost use Rattle.sleeping_clauses.specs.Sleeping.{SleepersValue, AreFew};
-ghost use Rattle.sat_core.specs.Dividing.{IsDividing};
+ghost use Rattle.sat_core.specs.inner.Dividing.{IsDividing};
 
-use crate::going::release_from;
+use crate::backjump::release_from;
 use crate::guide::Guide;
 use crate::loading::count_each;
 use cnf_formula::OutOfMemory;
@@ -29,7 +29,7 @@ fn empty_core(alloc: Global, core: &Core, awake: &Awake, vars: u32) -> Result<Co
             count_each(&mut counts, clause);
         }
     }
-    Core::new(alloc, vars, &counts)
+    Core::new(alloc, vars, core.count(), &counts)
 }
 
 /// Adds the clause at a place to what is left of a core, or puts it to sleep.

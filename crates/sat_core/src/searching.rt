@@ -1,12 +1,12 @@
 //! The search: turn after turn, until it ends (the loop of CDCL).
 
 ghost use Rattle.std.specs.Prelude.{◌≡◌, ◌≢◌, ℕ, ◌+◌, ◌<◌, ◌≤◌, length, map, Ok, Err, OnOk};
-ghost use Rattle.sat_core.specs.Guided.{IsGuided};
+ghost use Rattle.sat_core.specs.inner.Guided.{IsGuided};
 ghost use Rattle.sat_core.specs.Ready.{AreWritten, IsReady, IsOver};
 ghost use Rattle.cnf_formula.specs.declared.line.LratLine.TheVariants.{Addition};
 ghost use Rattle.proof_rules.specs.Refuting.{Refutes};
 ghost use Rattle.outer_ports.specs.Port.{HasCause};
-ghost use Rattle.sat_core.specs.Totals.{IsTotal};
+ghost use Rattle.sat_core.specs.inner.Totals.{IsTotal};
 
 use crate::fault::SolveFault;
 use crate::guide::Guide;
@@ -16,7 +16,8 @@ use ledger_rules::Ledger;
 use std::alloc::Global;
 use trail_core::Core;
 
-/// Every variable has a value and no clause is falsified; or the formula is refuted, or what may be spent is spent.
+/// Every variable has a value and no clause is falsified; or the formula is refuted, or what may be
+/// spent is spent.
 #[derive(Debug, Drop)]
 pub enum End {
     Total,
@@ -48,7 +49,6 @@ pub fn search<T, L: Ledger<T>>(
     ensures spent { result ≡ Ok End.Spent → L.spent ledger.new ≡ L.limit ledger.new }
     ensures over { result ≡ Ok End.Spent → IsOver (L.base ledger.new) (L.lines ledger.new) }
     ensures cause { HasCause SolveFault.LedgerFailed (L.faults ledger.old store.old) (L.faults ledger.new store.new) result }
-    ensures steady { result ≢ Err SolveFault.LedgerFailed → L.faults ledger.new store.new ≡ L.faults ledger.old store.old }
 {
     loop {
         match advance(core, &mut guide.decider) {

@@ -10,10 +10,10 @@ ghost use Rattle.proof_rules.specs.Refuting.{Refutes, SpentLog};
 ghost use Rattle.outer_ports.specs.Port.{HasCause};
 ghost use Rattle.ledger_rules.specs.Logs.{checker_of};
 ghost use Rattle.trail_core.specs.Meaning.{trues};
-ghost use Rattle.sat_core.specs.Guided.{IsGuided};
-ghost use Rattle.sat_core.specs.Loading.{own_of};
+ghost use Rattle.sat_core.specs.inner.Guided.{IsGuided};
+ghost use Rattle.sat_core.specs.inner.Loading.{own_of};
 ghost use Rattle.sat_core.specs.Ready.{AreNumbered, AreShort, IsReady};
-ghost use Rattle.sat_core.specs.Totals.{AreValues};
+ghost use Rattle.sat_core.specs.inner.Totals.{AreValues};
 
 use crate::fault::SolveFault;
 use crate::guide::Guide;
@@ -52,7 +52,8 @@ fn prepared(alloc: Global, formula: &Formula, own: u32) -> Result<(Core, Guide),
     Ok((core, guide))
 }
 
-/// The answer that a search's end gives: at `Total` the values of `vars` variables by the core, which has the first `own`.
+/// The answer that a search's end gives: at `Total` the values of `vars` variables by the core,
+/// which has the first `own`.
 fn answer_of(
     alloc: Global,
     end: Result<End, SolveFault>,
@@ -77,13 +78,14 @@ fn answer_of(
     }
 }
 
-/// Searches for an assignment that satisfies the formula, or for lines that refute it, by learning a clause from each
-/// conflict (Marques-Silva and Sakallah 1999). The lines go to the ledger, which has none yet; they are numbered on from the
-/// formula's clauses, and have at most one hint more than the formula has variables.
+/// Searches for an assignment that satisfies the formula, or for lines that refute it, by learning
+/// a clause from each conflict (Marques-Silva and Sakallah 1999). The lines go to the ledger, which
+/// has none yet; they are numbered on from the formula's clauses, and have at most one hint more
+/// than the formula has variables.
 ///
-/// `Spent` comes only where the ledger's limit is reached and no line without a literal follows from what is held, so never
-/// where the limit is at least 3 to the number of variables. [`SolveFault::LedgerFailed`] comes only where the ledger's
-/// store failed.
+/// `Spent` comes only where the ledger's limit is reached and no line without a literal follows
+/// from what is held, so never where the limit is at least 3 to the number of variables.
+/// [`SolveFault::LedgerFailed`] comes only where the ledger's store failed.
 pub fn solve<T, L: Ledger<T>>(
     alloc: Global,
     formula: &Formula,
@@ -108,7 +110,6 @@ pub fn solve<T, L: Ledger<T>>(
     ensures base { L.base ledger.new ≡ L.base ledger.old }
     ensures limit { L.limit ledger.new ≡ L.limit ledger.old }
     ensures cause { HasCause SolveFault.LedgerFailed (L.faults ledger.old store.old) (L.faults ledger.new store.new) result }
-    ensures steady { result ≢ Err SolveFault.LedgerFailed → L.faults ledger.new store.new ≡ L.faults ledger.old store.old }
 {
     let own = formula.vars().min(LAST_VARIABLE);
     let (mut core, mut guide) = prepared(alloc, formula, own)?;

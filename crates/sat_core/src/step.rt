@@ -3,7 +3,7 @@
 ghost use Rattle.std.specs.Prelude.{◌≡◌, ℕ, ◌<◌, ◌≤◌, length};
 ghost use Rattle.cnf_formula.specs.Literals.{no};
 ghost use Rattle.conflict_analysis.specs.Conflicts.{IsConflict};
-ghost use Rattle.sat_core.specs.Totals.{IsTotal};
+ghost use Rattle.sat_core.specs.inner.Totals.{IsTotal};
 
 use decision_order::Decider;
 use trail_core::{ClauseId, Core};

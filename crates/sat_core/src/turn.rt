@@ -4,10 +4,10 @@ ghost use Rattle.std.specs.Prelude.{◌≡◌, ◌≢◌, ℕ, ◌+◌, ◌<◌,
 ghost use Rattle.cnf_formula.specs.Formulas.{FormulaValue};
 ghost use Rattle.cnf_formula.specs.Lines.{ProofLineValue};
 ghost use Rattle.conflict_analysis.specs.Conflicts.{IsConflict};
-ghost use Rattle.sat_core.specs.Measure.{IsLess};
-ghost use Rattle.sat_core.specs.Jumping.{IsBacked};
+ghost use Rattle.sat_core.specs.inner.Measure.{IsLess};
+ghost use Rattle.sat_core.specs.inner.Jumping.{IsBacked};
 ghost use Rattle.sleeping_clauses.specs.Sleeping.{sleeping};
-ghost use Rattle.sat_core.specs.Guided.{IsGuided};
+ghost use Rattle.sat_core.specs.inner.Guided.{IsGuided};
 ghost use Rattle.sat_core.specs.Ready.{AreWritten, IsReady, IsOver};
 ghost use Rattle.cnf_formula.specs.declared.line.LratLine.TheVariants.{Addition};
 ghost use Rattle.proof_rules.specs.Refuting.{Refutes, is_fresh};
@@ -15,8 +15,8 @@ ghost use Rattle.ledger_rules.specs.Logs.{checker_of};
 ghost use Rattle.trail_core.specs.Formed.{IsTrail};
 ghost use Rattle.outer_ports.specs.Port.{HasCause};
 
+use crate::backjump::go_back;
 use crate::fault::SolveFault;
-use crate::going::go_back;
 use crate::guide::Guide;
 use crate::resting::rest;
 use crate::waking::{wake, wake_all};
@@ -34,8 +34,8 @@ pub enum Turn {
     Spent,
 }
 
-/// Adds a line's clause, which was learned, to the core, and goes back from the conflict. Where the search begins anew
-/// clauses may fall asleep.
+/// Adds a line's clause, which was learned, to the core, and goes back from the conflict. Where the
+/// search begins anew clauses may fall asleep.
 fn go_on(
     alloc: Global,
     core: &mut Core,
@@ -66,8 +66,9 @@ fn go_on(
     Ok(())
 }
 
-/// Learns from a conflict: closes on level 0, else adds a line where there is room for it. Where a clause that sleeps states
-/// the line already, that clause is woken in its place; where there is no room, all clauses are.
+/// Learns from a conflict: closes on level 0, else adds a line where there is room for it. Where a
+/// clause that sleeps states the line already, that clause is woken in its place; where there is no
+/// room, all clauses are.
 pub fn at_conflict<T, L: Ledger<T>>(
     alloc: Global,
     ledger: &mut L,
@@ -94,7 +95,6 @@ pub fn at_conflict<T, L: Ledger<T>>(
     ensures spent { result ≡ Ok Turn.Spent → L.spent ledger.new ≡ L.limit ledger.new }
     ensures over { result ≡ Ok Turn.Spent → IsOver (L.base ledger.new) (L.lines ledger.new) }
     ensures cause { HasCause SolveFault.LedgerFailed (L.faults ledger.old store.old) (L.faults ledger.new store.new) result }
-    ensures steady { result ≢ Err SolveFault.LedgerFailed → L.faults ledger.new store.new ≡ L.faults ledger.old store.old }
 {
     let learned = line_at(alloc, core, &mut guide.walk, &mut guide.implied, conflict)?;
     let line = guide.awake.named(alloc, learned)?;

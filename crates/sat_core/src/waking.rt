@@ -7,7 +7,7 @@ ghost use Rattle.sleeping_clauses.specs.Sleeping.{sleeping};
 ghost use Rattle.sleeping_clauses.specs.Naming.{IsListed};
 ghost use Rattle.sat_core.specs.Ready.{IsReady};
 
-use crate::going::go_to_bottom;
+use crate::backjump::go_to_bottom;
 use cnf_formula::OutOfMemory;
 use decision_order::Decider;
 use sleeping_clauses::{Awake, Sleepers, Usage};

@@ -1,5 +1,5 @@
-//! The program: the words of the command line, standard input, standard output and a folder of proof files, handed to the
-//! top call.
+//! The program: the words of the command line, standard input, standard output and a folder of
+//! proof files, handed to the top call.
 #![tactic(auto)]
 
 mod numbers;
@@ -11,7 +11,8 @@ use outer_ports::{FolderShelf, ReaderSource, WriterSink};
 use sccl_run::{Status, run};
 use std::process::ExitCode;
 
-/// The folder of the proof files, in the working directory. It is made when the first of them is begun.
+/// The folder of the proof files, in the working directory. It is made when the first of them is
+/// begun.
 const FOLDER: &str = "proofs";
 
 fn main(rt: HostRuntime) -> ExitCode {

@@ -10,7 +10,8 @@ use std::env;
 use std::env::{Args, Env};
 use std::io::ErrorKind;
 
-/// The words behind the program's name. Words that are not UTF-8 are no command; where memory runs out there are none.
+/// The words behind the program's name. Words that are not UTF-8 are no command; where memory runs
+/// out there are none.
 pub fn words_of<R: Env + AllocGlobal>(rt: &R) -> Result<Vec<String>, Status> {
     match env::args(rt) {
         Ok(args) => behind_name(rt.alloc(), args).map_err(|_| Status::OutOfMemory),
@@ -19,7 +20,8 @@ pub fn words_of<R: Env + AllocGlobal>(rt: &R) -> Result<Vec<String>, Status> {
     }
 }
 
-/// The words of a command line behind the first, which is the program's name: each once, in their order.
+/// The words of a command line behind the first, which is the program's name: each once, in their
+/// order.
 pub fn behind_name(alloc: Global, args: Args) -> Result<Vec<String>, OutOfMemory>
     ensures { IfOk result (λ words. words.items ≡ drop 1 (into_iter_items args)) }
 {

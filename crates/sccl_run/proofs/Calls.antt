@@ -11,7 +11,7 @@ use Rattle.run_rules.specs.declared.status.Status.{Status}
 use Rattle.run_rules.specs.declared.status.Status.TheVariants.{OutOfMemory, BadWords, SourceFailed, SinkFailed, ShelfFailed}
 use Rattle.run_rules.specs.Commands.{Ask, Opens, Reads, IsOneOf, IsRefusal, answers_of, ends_of, row_of}
 use Rattle.run_rules.specs.Statuses.{number_of}
-use Rattle.sccl_run.specs.Answering.{Answers}
+use Rattle.sccl_run.specs.inner.Answering.{Answers}
 use Rattle.sccl_run.specs.TopCall.{CountValue, EndsIfItFails, IsCall, IsSilent}
 
 -- ---- lists of statuses

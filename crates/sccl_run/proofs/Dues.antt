@@ -11,7 +11,7 @@ use Rattle.run_rules.specs.Commands.{Ask, Reads, row_of}
 use Rattle.run_rules.specs.Refusals.{refused_at, refused_word}
 use Rattle.run_rules.specs.Tasks.{due, limit, task_of, whole_text, words_asked}
 use Rattle.json_command.proofs.ComesBack.{short_whole}
-use Rattle.sccl_run.specs.Answering.{due_for}
+use Rattle.sccl_run.specs.inner.Answering.{due_for}
 
 -- ---- by the words
 

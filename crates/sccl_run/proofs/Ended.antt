@@ -8,7 +8,7 @@ use Rattle.command_words.specs.Words.{command_of}
 use Rattle.run_rules.specs.Commands.{Ask, Reads}
 use Rattle.run_rules.specs.Refusals.{Refusal}
 use Rattle.run_rules.specs.Tasks.{Task, due}
-use Rattle.sccl_run.specs.Answering.{due_for}
+use Rattle.sccl_run.specs.inner.Answering.{due_for}
 use Rattle.sccl_run.specs.Laws.{IsRightRun}
 use Rattle.sccl_run.specs.Rows.{all_tell}
 use Rattle.sccl_run.specs.TopCall.{CountValue, IsEnd, RunValue}

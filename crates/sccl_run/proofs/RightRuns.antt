@@ -32,7 +32,7 @@ use Rattle.run_rules.specs.Commands.{Ask, Changes, IsOneOf, row_of}
 use Rattle.run_rules.specs.Refusals.{Refusal, refused_as, refused_at, refused_word}
 use Rattle.run_rules.specs.Tasks.{Task, Write, Synthesise, Audit, Try, Bound, Order, Degrade, audit_in, degrade_in, due, fault_in, json_programs_in, limit, point_in, programs_in, programs_value, read_report, replay_in, search_asked, searchable, task_of, whole_question, whole_text, words_asked}
 use Rattle.run_rules.proofs.Ends.{refused_with}
-use Rattle.sccl_run.specs.Answering.{due_for}
+use Rattle.sccl_run.specs.inner.Answering.{due_for}
 use Rattle.sccl_run.specs.Laws.{IsRightRun, WritesWith, NoneIsBetter}
 use Rattle.sccl_run.specs.TopCall.{CountValue, IsAnswered, IsEnd, IsSilent, RunValue}
 use Rattle.sccl_run.specs.Rows.{all_tell}

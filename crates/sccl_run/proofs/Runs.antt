@@ -7,7 +7,7 @@ use Rattle.run_rules.specs.declared.halt.Halt.{Halt}
 use Rattle.run_rules.specs.declared.halt.Halt.TheVariants.{Memory, Source, Shelf}
 use Rattle.run_rules.specs.Commands.{Ask, Reads}
 use Rattle.run_rules.specs.Tasks.{limit}
-use Rattle.sccl_run.specs.Answering.{IsAnswerTo, IsHaltAt}
+use Rattle.sccl_run.specs.inner.Answering.{IsAnswerTo, IsHaltAt}
 use Rattle.sccl_run.specs.TopCall.{CountValue, IsCall, IsRun, LeftIsDue, RunValue, ToldValue, files_of}
 
 -- ---- what is left of the source

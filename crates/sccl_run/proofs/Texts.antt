@@ -15,7 +15,7 @@ use Rattle.run_rules.specs.Commands.{Ask, Reads}
 use Rattle.run_rules.specs.Refusals.{Refusal, refusal_line, refused_word}
 use Rattle.run_rules.specs.Tasks.{due, limit}
 use Rattle.run_rules.proofs.Answered.{nothing_left_off, refused_answers}
-use Rattle.sccl_run.specs.Answering.{IsAnswerTo, IsHaltAt, due_for}
+use Rattle.sccl_run.specs.inner.Answering.{IsAnswerTo, IsHaltAt, due_for}
 use Rattle.sccl_run.proofs.Dues.{asks_one, due_command, due_refused, too_many}
 
 -- ---- what came

@@ -1,4 +1,4 @@
-pub mod Answering
 pub mod TopCall
 pub mod Rows
 pub mod Laws
+pub mod inner

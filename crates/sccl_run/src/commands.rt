@@ -7,7 +7,7 @@ ghost use Rattle.run_rules.specs.Answers.{IsAnswer, LeavesOff};
 ghost use Rattle.run_rules.specs.Commands.{IsOneOf, IsRefusal, Opens, Reads, answers_of};
 ghost use Rattle.run_rules.specs.Refusals.{Refusal};
 ghost use Rattle.run_rules.specs.Tasks.{limit, task_of};
-ghost use Rattle.sccl_run.specs.Answering.{due_for};
+ghost use Rattle.sccl_run.specs.inner.Answering.{due_for};
 
 use crate::family::family_answer;
 use bound_command::bound_answer;
@@ -41,7 +41,6 @@ pub(crate) fn command_answer<H: Shelf>(
     ensures source { result ≢ Err Halt.Source }
     ensures told { Tells (H.tells shelf.old) (H.tells shelf.new) }
     ensures cause { HasCause Halt.Shelf (H.faults shelf.old) (H.faults shelf.new) result }
-    ensures steady { result ≢ Err Halt.Shelf → H.faults shelf.new ≡ H.faults shelf.old }
 {
     match *command {
         Command::Synth {
@@ -117,7 +116,8 @@ pub(crate) fn command_answer<H: Shelf>(
     }
 }
 
-/// The answer of a command to what came from the source: bytes that came whole, or `None` where too many came.
+/// The answer of a command to what came from the source: bytes that came whole, or `None` where too
+/// many came.
 pub(crate) fn text_answer<H: Shelf>(
     alloc: Global,
     command: &Command,
@@ -137,7 +137,6 @@ pub(crate) fn text_answer<H: Shelf>(
     ensures source { result ≢ Err Halt.Source }
     ensures told { Tells (H.tells shelf.old) (H.tells shelf.new) }
     ensures cause { HasCause Halt.Shelf (H.faults shelf.old) (H.faults shelf.new) result }
-    ensures steady { result ≢ Err Halt.Shelf → H.faults shelf.new ≡ H.faults shelf.old }
 {
     match text {
         Some(bytes) => command_answer(alloc, command, &bytes, shelf),

@@ -28,7 +28,8 @@ pub fn refused_is_not_done()
     ensures { (x : RunValue) (a b c : CountValue) → IsRightRun x a b c → (r : Refusal) → due x.words x.bytes ≡ Err r → x.status ≡ Status.Done → ⊥ }
 {}
 
-/// The report that a search writes marks a point optimal only where no better candidate within the limits has a schedule.
+/// The report that a search writes marks a point optimal only where no better candidate within the
+/// limits has a schedule.
 pub fn optimal_has_no_better()
     ensures { (x : RunValue) (a b c : CountValue) → IsRightRun x a b c → (w : WordsValue) (t : NamedTopologyValue) → due x.words x.bytes ≡ Ok (Synthesise w t) → x.status ≡ Status.Done → WritesWith NoneIsBetter x.before x.now }
 {}
@@ -38,7 +39,8 @@ pub fn only_a_search_changes_files()
     ensures { (x : RunValue) (a b c : CountValue) → IsRightRun x a b c → ¬ Ask Changes x.words → FilesStay x.files x.files_after }
 {}
 
-/// A report that a search wrote is verified over the files that the search left, where it is not too long.
+/// A report that a search wrote is verified over the files that the search left, where it is not
+/// too long.
 pub fn what_a_search_wrote_is_verified()
     ensures { (search check : RunValue) (a b c d e f : CountValue) → IsRightRun search a b c → IsRightRun check d e f
         → (w : WordsValue) (t : NamedTopologyValue) → due search.words search.bytes ≡ Ok (Synthesise w t) → search.status ≡ Status.Done
@@ -46,8 +48,9 @@ pub fn what_a_search_wrote_is_verified()
         → (check.status ≡ Status.Done) ⊎ ((check.status ≡ Status.SinkFailed) ⊎ IsSilent check.status) }
 {}
 
-/// What is due for the words of a replay: where the bytes are the text of a valid report, that its point is replayed where
-/// there is one; and where they are that of none, a refusal at the first line at which they can no longer be one.
+/// What is due for the words of a replay: where the bytes are the text of a valid report, that its
+/// point is replayed where there is one; and where they are that of none, a refusal at the first
+/// line at which they can no longer be one.
 pub fn replays_are_due()
     ensures replayed { (words : List (List ℕ)) (number word : ℕ) (order : Option ℕ) → AskReplay words number word order → (bytes : List ℕ) (r : ReportValue) (p : Part × PointValue)
         → IsTextOf r bytes → point_at r number ≡ Some p → due words bytes ≡ Ok (Write (shown_text number (shown_in r p) order)) }
@@ -64,8 +67,8 @@ pub fn a_family_that_is_written_is_right()
     ensures { (n : ℕ) → IsRightRun family_run (record { before = n; now = n }) (record { before = n; now = n }) (record { before = n; now = n }) }
 {}
 
-/// With the same words a run that ends well and writes nothing is not right, nor one that writes another text; and where the
-/// sink failed, what was written begins the text.
+/// With the same words a run that ends well and writes nothing is not right, nor one that writes
+/// another text; and where the sink failed, what was written begins the text.
 pub fn a_family_that_is_left_out_is_wrong()
     ensures nothing { (a b c : CountValue) → IsRightRun (record family_run { now = [] }) a b c → ⊥ }
     ensures other { (a b c : CountValue) → IsRightRun (record family_run { now = codes "topology 1\nnodes n0 n1\ngroup 1 n0>n1\n" }) a b c → ⊥ }
@@ -83,7 +86,8 @@ pub fn a_run_without_memory_that_writes_is_wrong()
     ensures { (a b c : CountValue) → IsRightRun (record family_run { status = Status.OutOfMemory }) a b c → ⊥ }
 {}
 
-/// A search that breaks off and leaves every file gone is not right, whichever port failed, or where memory ran out.
+/// A search that breaks off and leaves every file gone is not right, whichever port failed, or
+/// where memory ran out.
 pub fn a_search_that_loses_files_is_wrong()
     ensures source { (a b c : CountValue) → IsRightRun (failed_search Status.SourceFailed) a b c → ⊥ }
     ensures shelf { (a b c : CountValue) → IsRightRun (failed_search Status.ShelfFailed) a b c → ⊥ }
@@ -91,19 +95,21 @@ pub fn a_search_that_loses_files_is_wrong()
     ensures memory { (a b c : CountValue) → IsRightRun (failed_search Status.OutOfMemory) a b c → ⊥ }
 {}
 
-/// A search that ends well without the formula of a candidate that it solved is not right, nor is one that leaves something in
-/// a file in which nothing is owed.
+/// A search that ends well without the formula of a candidate that it solved is not right, nor is
+/// one that leaves something in a file in which nothing is owed.
 pub fn a_search_with_other_files_is_wrong()
     ensures formula { (files : Files) (a b c : CountValue) → files (own_file FileKind.Cnf) ≡ None → IsRightRun (done_search files) a b c → ⊥ }
     ensures stale { (files : Files) (byte : ℕ) (rest : List ℕ) (a b c : CountValue) → files (own_file FileKind.Lrat) ≡ Some (byte ∷ rest) → IsRightRun (done_search files) a b c → ⊥ }
 {}
 
-/// A refusal of a text that was not taken from the source is not right, nor is one that leaves something behind it.
+/// A refusal of a text that was not taken from the source is not right, nor is one that leaves
+/// something behind it.
 pub fn a_refusal_that_takes_nothing_is_wrong()
     ensures { (a b c : CountValue) (byte : ℕ) (rest : List ℕ) → IsRightRun (refused_check (byte ∷ rest)) a b c → ⊥ }
 {}
 
-/// A refusal that names another place is not right, nor one that changes a file, nor is a shelf blamed before a refusal.
+/// A refusal that names another place is not right, nor one that changes a file, nor is a shelf
+/// blamed before a refusal.
 pub fn a_refusal_that_says_or_does_more_is_wrong()
     ensures place { (a b c : CountValue) → IsRightRun (record (refused_check []) { now = codes "refused 7 1 2\n" }) a b c → ⊥ }
     ensures file { (a b c : CountValue) → IsRightRun (record (refused_check []) { files_after = λ name. Some [] }) a b c → ⊥ }

@@ -1,4 +1,5 @@
-//! The top call: what is written, and with which status the program ends, for its words and what it reads.
+//! The top call: what is written, and with which status the program ends, for its words and what it
+//! reads.
 #![tactic(auto)]
 
 mod commands;

@@ -1,22 +1,22 @@
 //! What the source gives.
 
 ghost use Rattle.std.specs.Prelude.{◌≡◌, ◌≢◌, ◌⊎◌, ◌+◌, ◌<◌, ◌≤◌, ℕ, false, true, length, IsTrue, Err, IfOk, IfSome, IfNone, OnOk, drop};
-ghost use Rattle.outer_ports.specs.Port.{Rose, Tells};
+ghost use Rattle.outer_ports.specs.Port.{HasCause, Tells};
 ghost use Rattle.run_rules.specs.Tasks.{limit};
 
 use outer_ports::{ReadFault, Source, read_all};
 use run_rules::{Halt, LIMIT};
 use std::alloc::Global;
 
-/// The bytes that the source gives, where it is to be read, and else none; `None` where more came than are read.
+/// The bytes that the source gives, where it is to be read, and else none; `None` where more came
+/// than are read.
 pub(crate) fn source_text<I: Source>(
     alloc: Global,
     reads: bool,
     source: &mut I,
 ) -> Result<Option<Vec<u8>>, Halt>
     ensures told { Tells (I.tells source.old) (I.tells source.new) }
-    ensures failed { result ≡ Err Halt.Source → Rose (I.faults source.old) (I.faults source.new) }
-    ensures kept { result ≢ Err Halt.Source → I.faults source.new ≡ I.faults source.old }
+    ensures cause { HasCause Halt.Source (I.faults source.old) (I.faults source.new) result }
     ensures reads { result ≡ Err Halt.Source → reads ≡ true }
     ensures shelf { result ≢ Err Halt.Shelf }
     ensures untouched { reads ≡ false → source.new ≡ source.old }

@@ -1,11 +1,11 @@
 //! The top call.
 
 ghost use Rattle.std.specs.Prelude.{◌≡◌, ◌≢◌, ◌⊎◌, ◌+◌, ◌≤◌, ℕ, IsTrue, Err, IfOk, IfErr, drop};
-ghost use Rattle.outer_ports.specs.Port.{Rose, Tells};
+ghost use Rattle.outer_ports.specs.Port.{HasCause, Tells};
 ghost use Rattle.command_words.specs.Words.{command_of, texts};
 ghost use Rattle.run_rules.specs.Commands.{Ask, IsRefusal, Opens, Reads};
 ghost use Rattle.run_rules.specs.Tasks.{limit};
-ghost use Rattle.sccl_run.specs.Answering.{Answers, IsAnswerTo, IsHaltAt};
+ghost use Rattle.sccl_run.specs.inner.Answering.{Answers, IsAnswerTo, IsHaltAt};
 ghost use Rattle.sccl_run.specs.TopCall.{IsRun};
 
 use crate::commands::text_answer;
@@ -28,8 +28,7 @@ fn answer<I: Source, H: Shelf>(
 
     // the source
     ensures told { Tells (I.tells source.old) (I.tells source.new) }
-    ensures failed { result ≡ Err Halt.Source → Rose (I.faults source.old) (I.faults source.new) }
-    ensures kept { result ≢ Err Halt.Source → I.faults source.new ≡ I.faults source.old }
+    ensures cause { HasCause Halt.Source (I.faults source.old) (I.faults source.new) result }
     ensures reads { result ≡ Err Halt.Source → Ask Reads (texts words.now) }
     ensures unread { ¬ Ask Reads (texts words.now) → source.new ≡ source.old }
     ensures read { IsTrue (I.tells source.new) → Ask Reads (texts words.now) → IfOk result (λ _. I.left source.new ≡ drop (limit + 1) (I.left source.old)) }
@@ -39,8 +38,7 @@ fn answer<I: Source, H: Shelf>(
 
     // the shelf
     ensures shelf_told { Tells (H.tells shelf.old) (H.tells shelf.new) }
-    ensures shelf_failed { result ≡ Err Halt.Shelf → Rose (H.faults shelf.old) (H.faults shelf.new) }
-    ensures shelf_kept { result ≢ Err Halt.Shelf → H.faults shelf.new ≡ H.faults shelf.old }
+    ensures shelf_cause { HasCause Halt.Shelf (H.faults shelf.old) (H.faults shelf.new) result }
     ensures opens { result ≡ Err Halt.Shelf → Ask Opens (texts words.now) }
     ensures unopened { ¬ Ask Opens (texts words.now) → shelf.new ≡ shelf.old }
     ensures behind_source { result ≡ Err Halt.Source → shelf.new ≡ shelf.old }
@@ -55,20 +53,23 @@ fn answer<I: Source, H: Shelf>(
     }
 }
 
-/// Does what the words ask for, and writes one text to the sink: what the command gives, or the line of a refusal. The
-/// status says how it ended.
+/// Does what the words ask for, and writes one text to the sink: what the command gives, or the
+/// line of a refusal. The status says how it ended.
 ///
-/// `synth` reads a topology from the source, searches the schedules of a collective, writes the report, and keeps the formulas
-/// and the proofs on the shelf. `check` reads a report from the source and the files beside it from the shelf, and writes
-/// whether they are right. `replay point=N` reads a report, and writes the replay of its point, with `order=SEED` in the order
-/// that the seed draws too. `programs point=N` writes the programs that carry its point out. `family` writes the topology text
-/// of a family, and `trial` the summary of a search that is audited and replayed; neither reads anything.
+/// `synth` reads a topology from the source, searches the schedules of a collective, writes the
+/// report, and keeps the formulas and the proofs on the shelf. `check` reads a report from the
+/// source and the files beside it from the shelf, and writes whether they are right. `replay
+/// point=N` reads a report, and writes the replay of its point, with `order=SEED` in the order that
+/// the seed draws too. `programs point=N` writes the programs that carry its point out. `family`
+/// writes the topology text of a family, and `trial` the summary of a search that is audited and
+/// replayed; neither reads anything.
 ///
-/// `bound` searches as `synth` does, and writes which candidates a cut refutes, and how few rounds any schedule can have for its
-/// chunk count; the shelf has the proofs of the others. `ordered` searches for schedules in which chunks that are alike come in
-/// order, and keeps no file. `degrade` reads a report, audits it over the shelf, and writes the frontier over the links that a
-/// fault leaves, where what was refuted stays refuted. `json` writes a topology, a report or the programs of a point as JSON, and
-/// `unjson` the text that a JSON stands for.
+/// `bound` searches as `synth` does, and writes which candidates a cut refutes, and how few rounds
+/// any schedule can have for its chunk count; the shelf has the proofs of the others. `ordered`
+/// searches for schedules in which chunks that are alike come in order, and keeps no file.
+/// `degrade` reads a report, audits it over the shelf, and writes the frontier over the links that
+/// a fault leaves, where what was refuted stays refuted. `json` writes a topology, a report or the
+/// programs of a point as JSON, and `unjson` the text that a JSON stands for.
 pub fn run<I: Source, O: Sink, H: Shelf>(
     alloc: Global,
     words: &[String],

@@ -41,6 +41,13 @@ run_last pre last s run rounds is all read =
     ∙ (ap (λ r. get_or r (length s.rounds) last) all
     ∙ get_or-map-range_with_len (after pre s) 0 (length s.rounds + 1) (length s.rounds) (length s.rounds) last (omega arith) (omega arith)))
 
+-- and its size, that of the first
+pub last_chunks : (pre last : PlacementValue) (s : ScheduleValue) → last ≡ after pre s (length s.rounds) → last.chunks ≡ pre.chunks
+last_chunks pre last s is = ap (λ p. p.chunks) is ∙ chunks-after pre s (length s.rounds)
+
+pub last_nodes : (pre last : PlacementValue) (s : ScheduleValue) → last ≡ after pre s (length s.rounds) → last.nodes ≡ pre.nodes
+last_nodes pre last s is = ap (λ p. p.nodes) is ∙ nodes-after pre s (length s.rounds)
+
 -- a run goes from placement to placement
 pub placement-after : (pre : PlacementValue) (s : ScheduleValue) (n : ℕ) → IsPlacement pre → IsPlacement (after pre s n)
 placement-after pre s zero is = is

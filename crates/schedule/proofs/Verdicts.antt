@@ -220,22 +220,27 @@ told t pre post s v valid placed is =
 first_is : (t : TopologyValue) (s : ScheduleValue) (sends : List Hop) (first : Option Hop) → sends ≡ s.sends → first ≡ find (unlinked t) sends → first_unlinked t s ≡ first
 first_is t s sends first is found = sym (found ∙ ap (find (unlinked t)) is)
 
-pub verdict_no_link : (t : TopologyValue) (pre post : PlacementValue) (s : ScheduleValue) (sends : List Hop) (hop : Hop) → sends ≡ s.sends → Some hop ≡ find (λ h. not (is_usable t (link_of h))) sends → verdict.NoLink hop ≡ verdict_of t pre post s
-verdict_no_link t pre post s sends hop is found = rw (first_is t s sends (Some hop) is found) refl
+-- where a send has no usable link, that is said
+pub misfit_no_link : (t : TopologyValue) (s : ScheduleValue) (sends : List Hop) (hop : Hop) (lacking : Option (ℕ × ℕ)) → sends ≡ s.sends → Some hop ≡ find (λ h. not (is_usable t (link_of h))) sends → verdict.NoLink hop ≡ judged t s (first_unlinked t s) (first_overfull t s) lacking
+misfit_no_link t s sends hop lacking is found = ap (λ first. judged t s first (first_overfull t s) lacking) (sym (first_is t s sends (Some hop) is found))
 
-pub verdict_overfull : (t : TopologyValue) (pre post : PlacementValue) (s : ScheduleValue) (sends : List Hop) (step group count : ℕ) (carrier : GroupValue) → sends ≡ s.sends → None ≡ find (λ h. not (is_usable t (link_of h))) sends → first_overfull t s ≡ Some (step, group) → carrier ≡ group_at t group → count ≡ load carrier step s.sends → verdict.Overfull step group count ≡ verdict_of t pre post s
-verdict_overfull t pre post s sends step group count carrier is linked found carries loaded =
-    rw (first_is t s sends None is linked, found) (ap (verdict.Overfull step group) (loaded ∙ ap (λ g. load g step s.sends) carries))
+-- where a group is over its bandwidth, that is said
+pub misfit_overfull : (t : TopologyValue) (s : ScheduleValue) (sends : List Hop) (step group count : ℕ) (carrier : GroupValue) (lacking : Option (ℕ × ℕ)) → sends ≡ s.sends → None ≡ find (λ h. not (is_usable t (link_of h))) sends → Some (step, group) ≡ first_overfull t s → carrier ≡ group_at t group → count ≡ load carrier step s.sends → verdict.Overfull step group count ≡ judged t s (first_unlinked t s) (first_overfull t s) lacking
+misfit_overfull t s sends step group count carrier lacking is linked found carries loaded =
+    ap (verdict.Overfull step group) (loaded ∙ ap (λ g. load g step s.sends) carries)
+    ∙ (ap (λ first. judged t s first (Some (step, group)) lacking) (sym (first_is t s sends None is linked))
+    ∙ ap (λ turn. judged t s (first_unlinked t s) turn lacking) found)
 
-pub verdict_lacking : (t : TopologyValue) (pre post last : PlacementValue) (s : ScheduleValue) (sends : List Hop) (chunk node : ℕ) → sends ≡ s.sends → None ≡ find (λ h. not (is_usable t (link_of h))) sends → None ≡ first_overfull t s → last ≡ after pre s (length s.rounds) → find (λ p. not (holds last p)) post.pairs ≡ Some (chunk, node) → verdict.Lacking chunk node ≡ verdict_of t pre post s
-verdict_lacking t pre post last s sends chunk node is linked within ends found =
-    let lacking : first_lacking pre post s ≡ Some (chunk, node) = ap (λ p. find (λ pair. not (holds p pair)) post.pairs) (sym ends) ∙ found in
-    rw (first_is t s sends None is linked, sym within, lacking) refl
+-- where all fits, the pairs that are demanded are judged
+pub misfit_none : (t : TopologyValue) (s : ScheduleValue) (sends : List Hop) (lacking : Option (ℕ × ℕ)) → sends ≡ s.sends → None ≡ find (λ h. not (is_usable t (link_of h))) sends → None ≡ first_overfull t s → judged t s None None lacking ≡ judged t s (first_unlinked t s) (first_overfull t s) lacking
+misfit_none t s sends lacking is linked within =
+    ap (λ first. judged t s first None lacking) (sym (first_is t s sends None is linked)) ∙ ap (λ turn. judged t s (first_unlinked t s) turn lacking) within
 
-pub verdict_solves : (t : TopologyValue) (pre post last : PlacementValue) (s : ScheduleValue) (sends : List Hop) → sends ≡ s.sends → None ≡ find (λ h. not (is_usable t (link_of h))) sends → None ≡ first_overfull t s → last ≡ after pre s (length s.rounds) → None ≡ find (λ p. not (holds last p)) post.pairs → verdict.Solves ≡ verdict_of t pre post s
-verdict_solves t pre post last s sends is linked within ends found =
-    let delivered : first_lacking pre post s ≡ None = ap (λ p. find (λ pair. not (holds p pair)) post.pairs) (sym ends) ∙ sym found in
-    rw (first_is t s sends None is linked, sym within, delivered) refl
+-- and the verdict is what is said of them after the last step
+pub verdict_fitting : (t : TopologyValue) (pre post last : PlacementValue) (s : ScheduleValue) (v : Verdict) → last ≡ after pre s (length s.rounds) → v ≡ judged t s None None (find (λ pair. not (holds last pair)) post.pairs)
+    → ((lacking : Option (ℕ × ℕ)) → judged t s None None lacking ≡ judged t s (first_unlinked t s) (first_overfull t s) lacking) → v ≡ verdict_of t pre post s
+verdict_fitting t pre post last s v ends said fits =
+    said ∙ (ap (λ p. judged t s None None (find (λ pair. not (holds p pair)) post.pairs)) ends ∙ fits (first_lacking pre post s))
 
 -- the group that is over its bandwidth is one of the topology's
 pub overfull_below : (t : TopologyValue) (s : ScheduleValue) (step group : ℕ) → first_overfull t s ≡ Some (step, group) → group < length t.groups

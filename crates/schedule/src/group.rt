@@ -22,7 +22,8 @@ impl Model for Group {
 }
 
 impl Group {
-    /// The group of these links, each once and between two different nodes, with a width from 1 to 16.
+    /// The group of these links, each once and between two different nodes, with a width from 1 to
+    /// 16.
     pub fn new(links: Vec<(u8, u8)>, width: u8) -> Group
         requires { IsGroup (record { links = links.items; width = width }) }
         ensures { result ≡ record { links = links.items; width = width } }

@@ -1,4 +1,5 @@
-/// One send: a chunk goes from a node to another at a step. Chunks and nodes are numbered from 0, steps from 1.
+/// One send: a chunk goes from a node to another at a step. Chunks and nodes are numbered from 0,
+/// steps from 1.
 #[derive(Clone, Copy, Debug, PartialEq, Eq)]
 pub struct Hop {
     pub chunk: u16,

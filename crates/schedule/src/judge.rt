@@ -1,10 +1,11 @@
-ghost use Rattle.std.specs.Prelude.{◌≡◌, ◌<◌, All, IfOk, find, not, true};
+ghost use Rattle.std.specs.Prelude.{◌≡◌, ◌<◌, ℕ, All, IfOk, None, Option, find, not, true, unwrap_or};
 ghost use Rattle.std.specs.List.{range_with_len};
-ghost use Rattle.schedule.specs.Links.{is_usable};
+ghost use Rattle.schedule.specs.Links.{TopologyValue, is_usable};
 ghost use Rattle.schedule.specs.Placed.{holds, lacks};
-ghost use Rattle.schedule.specs.Sends.{IsInRange, is_hop_below, link_of};
+ghost use Rattle.schedule.specs.Running.{run_of};
+ghost use Rattle.schedule.specs.Sends.{ScheduleValue, IsInRange, IsSchedule, is_hop_below, link_of};
 ghost use Rattle.schedule.specs.Failing.{TellsSolves, TellsNoLink, TellsOverfull, TellsLacking};
-ghost use Rattle.schedule.specs.Judging.{verdict_of};
+ghost use Rattle.schedule.specs.Judging.{first_overfull, first_unlinked, judged, verdict_of};
 
 use crate::OutOfMemory;
 use crate::bandwidth::{first_overfull, load_of};
@@ -17,8 +18,9 @@ use crate::topology::Topology;
 use crate::verdict::Verdict;
 use std::alloc::Global;
 
-/// Whether the schedule brings each pair of `post` from `pre` within the bandwidth, and if not, what fails first: the
-/// links of the sends, the bandwidth of the groups, or the pairs that are demanded. The only error is `OutOfMemory`.
+/// Whether the schedule brings each pair of `post` from `pre` within the bandwidth, and if not,
+/// what fails first: the links of the sends, the bandwidth of the groups, or the pairs that are
+/// demanded. The only error is `OutOfMemory`.
 pub fn solves(
     alloc: Global,
     topology: &Topology,
@@ -31,25 +33,73 @@ pub fn solves(
     requires post_chunks { post.now.chunks ≡ pre.now.chunks }
     requires in_range { IsInRange pre.now.chunks pre.now.nodes schedule.now }
     ensures exact { IfOk result (λ v. v ≡ verdict_of topology.now pre.now post.now schedule.now) }
-    // Each verdict comes exactly where its part of the claim is the first to fail, and names the first place there.
+    // Each verdict comes exactly where its part of the claim is the first to fail, and names the
+    // first place there.
     ensures solves { IfOk result (TellsSolves topology.now pre.now post.now schedule.now) }
     ensures no_link { IfOk result (TellsNoLink topology.now schedule.now) }
     ensures overfull { IfOk result (TellsOverfull topology.now schedule.now) }
     ensures lacking { IfOk result (TellsLacking topology.now pre.now post.now schedule.now) }
 {
     let chunks = post.chunks();
-    if let Some(hop) = first_unlinked(topology, schedule.sends()) {
-        return Ok(Verdict::NoLink { hop });
-    }
-    if let Some((step, group)) = first_overfull(topology, schedule) {
-        let count = load_of(&topology.groups()[group as usize], schedule, step);
-        return Ok(Verdict::Overfull { step, group, count });
+    if let Some(misfit) = first_misfit(topology, schedule) {
+        return Ok(misfit);
     }
     let run = run_steps(alloc, pre, schedule)?;
     let last = &run[schedule.rounds().len()];
+    Ok(judge_delivery(last, post, chunks))
+}
+
+/// The verdict that `solves` gives, where the run of the schedule from `pre` is made already.
+pub fn solves_by_run(
+    topology: &Topology,
+    pre: &Placement,
+    post: &Placement,
+    schedule: &Schedule,
+    run: &[Placement],
+) -> Verdict
+    requires nodes { pre.now.nodes ≡ topology.now.nodes }
+    requires post_nodes { post.now.nodes ≡ pre.now.nodes }
+    requires post_chunks { post.now.chunks ≡ pre.now.chunks }
+    requires in_range { IsInRange pre.now.chunks pre.now.nodes schedule.now }
+    requires run { run.now ≡ run_of pre.now schedule.now }
+    ensures { result ≡ verdict_of topology.now pre.now post.now schedule.now }
+{
+    let chunks = pre.chunks();
+    if let Some(misfit) = first_misfit(topology, schedule) {
+        return misfit;
+    }
+    let last = &run[schedule.rounds().len()];
+    judge_delivery(last, post, chunks)
+}
+
+/// The verdict on the first send without a usable link, or else on the first step and group over
+/// the bandwidth.
+fn first_misfit(topology: &Topology, schedule: &Schedule) -> Option<Verdict>
+    requires { IsInRange 65536 topology.now.nodes schedule.now }
+    // It comes before whatever is said of the pairs that are demanded.
+    ensures misfit { (lacking : Option (ℕ × ℕ)) → unwrap_or result (judged topology.now schedule.now None None lacking)
+        ≡ judged topology.now schedule.now (first_unlinked topology.now schedule.now) (first_overfull topology.now schedule.now) lacking }
+    ensures limits { IsSchedule schedule.now }
+{
+    if let Some(hop) = first_unlinked(topology, schedule.sends()) {
+        return Some(Verdict::NoLink { hop });
+    }
+    let (step, group) = first_overfull(topology, schedule)?;
+    let count = load_of(&topology.groups()[group as usize], schedule, step);
+    Some(Verdict::Overfull { step, group, count })
+}
+
+/// The verdict on the pairs that are held after the last step of a schedule that fits, of so many
+/// chunks.
+fn judge_delivery(last: &Placement, post: &Placement, chunks: u16) -> Verdict
+    requires last { last.now.chunks ≡ chunks }
+    requires post { post.now.chunks ≡ chunks }
+    requires nodes { last.now.nodes ≡ post.now.nodes }
+    ensures { (t : TopologyValue) (s : ScheduleValue) → result ≡ judged t s None None (find (λ pair. not (holds last.now pair)) post.now.pairs) }
+{
     match first_lacking(last, post, chunks) {
-        Some((chunk, node)) => Ok(Verdict::Lacking { chunk, node }),
-        None => Ok(Verdict::Solves),
+        Some((chunk, node)) => Verdict::Lacking { chunk, node },
+        None => Verdict::Solves,
     }
 }
 

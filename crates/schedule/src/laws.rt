@@ -62,7 +62,8 @@ pub fn a_bag_counts_each_node()
     ensures joined { (nodes : ℕ) (s : ScheduleValue) (adding n : ℕ) (pair : ℕ × ℕ) → length (joined_after (contributions nodes) s adding n pair) ≡ nodes }
 {}
 
-/// Between two nodes without a link no chunk is brought and no sum is had, however many steps and rounds there are.
+/// Between two nodes without a link no chunk is brought and no sum is had, however many steps and
+/// rounds there are.
 pub fn nothing_is_done_without_links()
     ensures brought { (steps rounds : ℕ) → Solvable two_alone (at_root 1 2) (everywhere 1 2) steps rounds → ⊥ }
     ensures summed { (steps rounds : ℕ) → SummedSolvable two_alone (at_root 1 2) steps rounds → ⊥ }
@@ -74,7 +75,8 @@ pub fn a_clash_is_found()
         → (first_clash chunks nodes s adding ≡ None) ↔ (Clashes s adding → ⊥) }
 {}
 
-/// The inverse of a schedule has as many steps and rounds, and the same chunks and nodes. That of a valid one is valid.
+/// The inverse of a schedule has as many steps and rounds, and the same chunks and nodes. That of a
+/// valid one is valid.
 pub fn an_inverse_is_a_schedule()
     ensures steps { (s : ScheduleValue) → length (inverse_of s).rounds ≡ length s.rounds }
     ensures rounds { (s : ScheduleValue) → sum (inverse_of s).rounds ≡ sum s.rounds }
@@ -87,13 +89,14 @@ pub fn inverting_twice_changes_nothing()
     ensures { (s : ScheduleValue) → IsSchedule s → inverse_of (inverse_of s) ≡ s }
 {}
 
-/// A valid schedule fits the links turned round exactly where its inverse fits the links as they are.
+/// A valid schedule fits the links turned round exactly where its inverse fits the links as they
+/// are.
 pub fn an_inverse_fits_the_links_turned_round()
     ensures { (t : TopologyValue) (s : ScheduleValue) → IsSchedule s → Fits (reversed_of t) s ↔ Fits t (inverse_of s) }
 {}
 
-/// A schedule that wastes no send and brings each chunk from its one holder to every node, over the links turned round:
-/// its inverse adds each chunk up at its holder, over the links as they are.
+/// A schedule that wastes no send and brings each chunk from its one holder to every node, over the
+/// links turned round: its inverse adds each chunk up at its holder, over the links as they are.
 pub fn an_inverse_sums()
     ensures { (t : TopologyValue) (pre : PlacementValue) (s : ScheduleValue) (steps rounds : ℕ) → IsPlacement pre → pre.nodes ≡ t.nodes → HeldByOne pre
         → IsSchedule s → IsInRange pre.chunks pre.nodes s → Tight pre s → Solves (reversed_of t) pre (everywhere pre.chunks pre.nodes) s steps rounds

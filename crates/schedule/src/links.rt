@@ -65,8 +65,8 @@ impl LinkTable {
         self.cells[hop.from as usize * NODES + hop.to as usize]
     }
 
-    /// Its links between nodes below `nodes`, each once, ascending by the node that they leave and then the one that they
-    /// enter.
+    /// Its links between nodes below `nodes`, each once, ascending by the node that they leave and
+    /// then the one that they enter.
     #[tactic(auto, using(crate::proofs::Usable::rows_more))]
     pub(crate) fn between(&self, alloc: Global, nodes: u8) -> Result<Vec<(u8, u8)>, OutOfMemory>
         requires { nodes ≤ 16 }

@@ -7,8 +7,8 @@ use crate::placement::Placement;
 use crate::schedule::Schedule;
 use std::alloc::Global;
 
-/// The placements after step 0, which is `pre`, to the last step. A send whose sender lacks the chunk before its step
-/// brings nothing. The only error is `OutOfMemory`.
+/// The placements after step 0, which is `pre`, to the last step. A send whose sender lacks the
+/// chunk before its step brings nothing. The only error is `OutOfMemory`.
 pub fn run_steps(
     alloc: Global,
     pre: &Placement,

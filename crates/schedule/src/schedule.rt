@@ -4,7 +4,8 @@ ghost use Rattle.schedule.specs.Sends.{ScheduleValue, IsSchedule};
 use crate::hop::Hop;
 use std::marker::Model;
 
-/// The number of rounds of each step, and the sends, in ascending order by step, chunk, from and to.
+/// The number of rounds of each step, and the sends, in ascending order by step, chunk, from and
+/// to.
 #[derive(Clone, Debug, Drop)]
 pub struct Schedule {
     rounds: Vec<u8>,
@@ -22,7 +23,8 @@ impl Model for Schedule {
 }
 
 impl Schedule {
-    /// The schedule of 1 to 16 steps, each of 1 to 9 rounds, and of these sends, each once and of one of the steps.
+    /// The schedule of 1 to 16 steps, each of 1 to 9 rounds, and of these sends, each once and of
+    /// one of the steps.
     pub fn new(rounds: Vec<u8>, sends: Vec<Hop>) -> Schedule
         requires { IsSchedule (record { rounds = rounds.items; sends = sends.items }) }
         ensures { result ≡ record { rounds = rounds.items; sends = sends.items } }

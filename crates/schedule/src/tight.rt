@@ -14,8 +14,8 @@ use crate::run::run_steps;
 use crate::schedule::Schedule;
 use std::alloc::Global;
 
-/// Whether no send is wasted: each sender has the chunk before its step, and each receiver lacks it then and is sent it
-/// once. The only error is `OutOfMemory`.
+/// Whether no send is wasted: each sender has the chunk before its step, and each receiver lacks it
+/// then and is sent it once. The only error is `OutOfMemory`.
 #[tactic(auto, using(crate::proofs::Wasting::tight_decided))]
 pub fn is_tight(alloc: Global, pre: &Placement, schedule: &Schedule) -> Result<bool, OutOfMemory>
     requires { IsInRange pre.now.chunks pre.now.nodes schedule.now }

@@ -6,8 +6,8 @@ use crate::group::Group;
 use crate::links::LinkTable;
 use std::marker::Model;
 
-/// Nodes, numbered from 0, and groups of directed links between them. A link may stand in several groups, and is
-/// charged in each. A link is usable where it stands in some group.
+/// Nodes, numbered from 0, and groups of directed links between them. A link may stand in several
+/// groups, and is charged in each. A link is usable where it stands in some group.
 #[derive(Clone, Debug, Drop)]
 pub struct Topology {
     nodes: u8,
@@ -49,8 +49,8 @@ impl Topology {
         &self.groups
     }
 
-    /// The usable links, each once, ascending by the node that they leave and then the one that they enter. The only error
-    /// is `OutOfMemory`.
+    /// The usable links, each once, ascending by the node that they leave and then the one that
+    /// they enter. The only error is `OutOfMemory`.
     #[tactic(auto, using(crate::proofs::Usable::marked_usable))]
     pub fn links(&self) -> Result<Vec<(u8, u8)>, OutOfMemory>
         ensures { IfOk result (λ links. links.items ≡ usable_links self.now) }

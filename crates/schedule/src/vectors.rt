@@ -102,7 +102,8 @@ pub fn two_nodes_sum_everything()
     ensures all { AllSummed line_of_2 2 pair_allreduce 1 }
 {}
 
-/// Of two senders the greater is copied, if its bag is not empty, and the two clash. Where the step adds, they don't.
+/// Of two senders the greater is copied, if its bag is not empty, and the two clash. Where the step
+/// adds, they don't.
 pub fn the_greatest_sender_is_copied()
     ensures copied { joined_after (contributions 4) met_from_both 0 1 (0, 0) ≡ 0 ∷ 0 ∷ 0 ∷ 1 ∷ [] }
     ensures filled { joined_after (of_placement (at_root 1 2)) (plan (1 ∷ []) (send 0 0 1 1 ∷ send 0 1 1 1 ∷ [])) 0 1 (0, 1)
@@ -112,7 +113,8 @@ pub fn the_greatest_sender_is_copied()
     ensures adding { first_clash 1 4 met_from_both 1 ≡ None }
 {}
 
-/// The broadcast of two chunks on the ring of 4 is the inverse of their sum, and the other way round.
+/// The broadcast of two chunks on the ring of 4 is the inverse of their sum, and the other way
+/// round.
 pub fn a_broadcast_inverts_a_reduce()
     ensures forth { inverse_of ring_broadcast ≡ ring_reduce }
     ensures back { inverse_of (inverse_of ring_broadcast) ≡ ring_broadcast }
@@ -123,7 +125,8 @@ pub fn a_broadcast_inverts_a_reduce()
         ≡ plan (1 ∷ 2 ∷ []) (send 0 2 1 1 ∷ send 0 1 0 2 ∷ []) }
 {}
 
-/// One send adds the chunk of node 1 to that of node 0: so the sum at node 0 can be had in one step of one round.
+/// One send adds the chunk of node 1 to that of node 0: so the sum at node 0 can be had in one step
+/// of one round.
 pub fn one_send_sums()
     ensures sums { Sums line_of_2 (at_root 1 2) (plan (1 ∷ []) (send 0 1 0 1 ∷ [])) 1 1 }
     ensures solvable { SummedSolvable line_of_2 (at_root 1 2) 1 1 }

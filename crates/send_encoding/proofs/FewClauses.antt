@@ -15,7 +15,7 @@ use Rattle.cardinality.proofs.FewClauses.{pairs_are_few}
 use Rattle.cardinality.proofs.Lengths.{flat_length}
 use Rattle.send_encoding.specs.Variables.{SendMapValue, map_of, chunks_of, steps_of, pairs_of, numbered_links, links_into, sends}
 use Rattle.send_encoding.specs.Sending.{at_start, keeps, at_end, send_over, sends_arrive, sends_into, node_arrives, arrives_by_sends, arrives_once, sending}
-use Rattle.send_encoding.specs.Parts.{node_keeps, node_once}
+use Rattle.send_encoding.specs.inner.Parts.{node_keeps, node_once}
 use Rattle.send_encoding.proofs.Entering.{few_enter}
 use Rattle.send_encoding.proofs.Grid.{rows_length}
 

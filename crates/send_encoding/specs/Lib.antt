@@ -1,9 +1,9 @@
 pub mod Variables
 pub mod Sending
-pub mod Parts
 pub mod Sent
 pub mod Moving
 pub mod Telling
 pub mod Leading
 pub mod Assigning
 pub mod Agreeing
+pub mod inner

@@ -1,5 +1,5 @@
-//! The formula's first half: what the nodes have after each step, and what is sent. Where it is satisfied, the sends are a
-//! tight schedule, and what the nodes have is what its run gives.
+//! The formula's first half: what the nodes have after each step, and what is sent. Where it is
+//! satisfied, the sends are a tight schedule, and what the nodes have is what its run gives.
 #![tactic(auto)]
 
 mod arriving;

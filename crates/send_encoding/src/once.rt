@@ -7,7 +7,7 @@ ghost use Rattle.cnf_formula.specs.Formulas.{FormulaValue, with_clauses};
 ghost use Rattle.cardinality.specs.Counting.{at_most_one_of};
 ghost use Rattle.send_encoding.specs.Variables.{SendMapValue, arrivals, sends};
 ghost use Rattle.send_encoding.specs.Sending.{sends_into, arrives_once};
-ghost use Rattle.send_encoding.specs.Parts.{node_once};
+ghost use Rattle.send_encoding.specs.inner.Parts.{node_once};
 
 use crate::OutOfMemory;
 use crate::arriving::push_sends_into;

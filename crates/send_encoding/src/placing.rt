@@ -8,7 +8,7 @@ ghost use Rattle.cnf_formula.specs.Literals.{LitValue, negation};
 ghost use Rattle.cnf_formula.specs.Formulas.{FormulaValue, with_clauses};
 ghost use Rattle.send_encoding.specs.Variables.{SendMapValue, arrival, arrivals, sends};
 ghost use Rattle.send_encoding.specs.Sending.{at_start, keeps, at_end};
-ghost use Rattle.send_encoding.specs.Parts.{node_starts, node_keeps, node_ends};
+ghost use Rattle.send_encoding.specs.inner.Parts.{node_starts, node_keeps, node_ends};
 
 use crate::OutOfMemory;
 use crate::send_map::SendMap;

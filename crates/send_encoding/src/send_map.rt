@@ -11,8 +11,8 @@ use cnf_formula::Lit;
 use schedule::Topology;
 use std::marker::Model;
 
-/// Which variable stands for which arrival and which send: so many chunks and nodes, the usable links in ascending order,
-/// and so many steps.
+/// Which variable stands for which arrival and which send: so many chunks and nodes, the usable
+/// links in ascending order, and so many steps.
 #[derive(Debug, Drop)]
 pub struct SendMap {
     chunks: u16,

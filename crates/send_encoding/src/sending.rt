@@ -53,8 +53,9 @@ fn add_clauses(
     arrives_once(alloc, formula, map)
 }
 
-/// Adds the variables and clauses of arrivals and sends to a new formula, and gives what the variables stand for. An `Err`
-/// comes only where memory runs out, and then the formula may have some of the clauses.
+/// Adds the variables and clauses of arrivals and sends to a new formula, and gives what the
+/// variables stand for. An `Err` comes only where memory runs out, and then the formula may have
+/// some of the clauses.
 pub fn encode_sends(
     alloc: Global,
     formula: &mut Formula,
@@ -69,7 +70,8 @@ pub fn encode_sends(
     requires few { arrivals (map_of topology.now instance.now.pre steps) + sends (map_of topology.now instance.now.pre steps) < 2097152 }
     ensures map { IfOk result (λ m. m ≡ map_of topology.now instance.now.pre steps) }
     ensures formula { OnOk result (formula.new ≡ record { vars = arrivals (map_of topology.now instance.now.pre steps) + sends (map_of topology.now instance.now.pre steps); clauses = sending (map_of topology.now instance.now.pre steps) instance.now.pre instance.now.post }) }
-    // Every assignment that satisfies the formula says a tight schedule, and every schedule that solves is met by one.
+    // Every assignment that satisfies the formula says a tight schedule, and every schedule that
+    // solves is met by one.
     ensures tight { OnOk result ((values : List Bool) → Satisfies values formula.new → IsTightRun (map_of topology.now instance.now.pre steps) instance.now.pre values) }
     ensures complete { OnOk result ((schedule : ScheduleValue) (rounds : ℕ) → IsInRange instance.now.pre.chunks instance.now.pre.nodes schedule → Solves topology.now instance.now.pre instance.now.post schedule steps rounds
         → SatisfiesAs (map_of topology.now instance.now.pre steps) instance.now.pre schedule formula.new) }

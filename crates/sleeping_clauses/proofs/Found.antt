@@ -1,8 +1,8 @@
 -- A clause that sleeps and whose literals all stand in another is found in the list of one of them.
 use Rattle.std.proofs.Common.{◌≡◌, ℕ, ◌+◌, ◌<◌, Bool, true, false, List, [], ◌∷◌, ◌++◌, length, get_or, set, take, sym, ap, ◌∙◌, subst, ⊎_elim, arith}
-use Rattle.std.specs.Prelude.{Contains, map, Option, None, Some, MatchOption}
+use Rattle.std.specs.Prelude.{Contains, Option, None, Some, MatchOption}
 use Rattle.std.proofs.lemmas.Bool.{cases_eq}
-use Rattle.std.proofs.lemmas.List.{get_or-map, get_or-set_same, get_or-set_other, length-set, take_more}
+use Rattle.std.proofs.lemmas.List.{get_or-set_same, get_or-set_other, length-set, take_more}
 use Rattle.std.proofs.lemmas.List.Elements.{Contains-push_cases}
 use Rattle.cnf_formula.specs.Literals.{LitValue, code_of}
 use Rattle.sleeping_clauses.specs.declared.sleepers.Led.{Led}
@@ -12,9 +12,6 @@ use Rattle.sleeping_clauses.specs.Sleeping.{HasMark, IsCover, list_at, AreStored
 pub match_as : {X A B : Type 0} {P Q : X → Type 0} (r : Option X) → MatchOption r A P → (A → B) → ((x : X) → P x → Q x) → MatchOption r B Q
 match_as None m a p = a m
 match_as (Some x) m a p = p x m
-
-pub read_map : {X Y : Type 0} (f : X → Y) (xs : List X) (k : ℕ) (x : X) (e : Y) → k < length xs → x ≡ get_or xs k x → get_or (map f xs) k e ≡ f x
-read_map f xs k x e w h = get_or-map f xs k x e w ∙ ap f (sym h)
 
 -- one literal more has the mark
 pub marked_more : (marks : List ℕ) (stamp : ℕ) (lits : List LitValue) (k : ℕ) (x : LitValue) → k < length lits → x ≡ get_or lits k x → code_of x < length marks → ((o : LitValue) → Contains (take k lits) o → HasMark marks stamp o)

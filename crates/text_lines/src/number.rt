@@ -5,11 +5,14 @@ ghost use Rattle.std.specs.Char.{digit_value};
 ghost use Rattle.std.specs.Str.Parse.{AllDigits, digits_value};
 ghost use Rattle.text_lines.specs.Number.{number_up_to};
 
-use itoa::Buffer;
+use crate::digits::push_number_reserved;
 use std::alloc::AllocError;
 
-/// The number that the token spells in decimal, without sign or leading zero, if it is at most `greatest`.
-/// `None` comes exactly where the token spells no such number.
+/// How many digits a number has at most.
+const MOST_DIGITS: usize = 20;
+
+/// The number that the token spells in decimal, without sign or leading zero, if it is at most
+/// `greatest`. `None` comes exactly where the token spells no such number.
 #[tactic(auto, using(crate::proofs::Numbers::up_to_some, crate::proofs::Numbers::up_to_larger, crate::proofs::Numbers::up_to_absent, crate::proofs::Numbers::larger_not))]
 pub fn read_number(token: &[u8], greatest: u64) -> Option<u64>
     ensures value { result ≡ number_up_to greatest token.now }
@@ -57,15 +60,19 @@ fn with_digit(value: u64, byte: u8) -> Option<u64>
     value.checked_mul(10)?.checked_add(u64::from(byte - b'0'))
 }
 
-/// Appends the number in decimal. An `Err` comes only where memory runs out, and leaves the bytes as they were.
+/// Appends the number in decimal. An `Err` comes only where memory runs out, and leaves the bytes
+/// as they were.
 pub fn push_number(out: &mut Vec<u8>, value: u64) -> Result<(), AllocError>
     ensures appended { OnOk result (out.new.items ≡ out.old.items ++ decimal value) }
     ensures unchanged { OnErr result (out.new.items ≡ out.old.items) }
 {
-    push_word(out, Buffer::new().format(value).as_bytes())
+    out.reserve(MOST_DIGITS)?;
+    push_number_reserved(out, value);
+    Ok(())
 }
 
-/// Appends the bytes of the word. An `Err` comes only where memory runs out, and leaves the bytes as they were.
+/// Appends the bytes of the word. An `Err` comes only where memory runs out, and leaves the bytes
+/// as they were.
 pub fn push_word(out: &mut Vec<u8>, word: &[u8]) -> Result<(), AllocError>
     ensures appended { OnOk result (out.new.items ≡ out.old.items ++ word.now) }
     ensures unchanged { OnErr result (out.new.items ≡ out.old.items) }

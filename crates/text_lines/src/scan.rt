@@ -2,7 +2,8 @@
 
 ghost use Rattle.std.specs.Prelude.{◌≡◌, ◌≢◌, ℕ, ◌<◌, ◌≤◌, length, slice_index};
 
-/// Where the separator stands first in the text from byte `from` on and before byte `to`, or else `to`.
+/// Where the separator stands first in the text from byte `from` on and before byte `to`, or else
+/// `to`.
 pub fn end_of(text: &[u8], from: usize, to: usize, separator: u8) -> usize
     requires ordered { from ≤ to }
     requires within { to ≤ length text.now }

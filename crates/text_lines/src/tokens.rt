@@ -35,7 +35,8 @@ impl<'a> Model for Tokens<'a> {
     ghost invariant = { λ t. (t.at ≤ t.end) × (t.end ≤ length t.text.now) };
 }
 
-/// The tokens of a line: the pieces between its single spaces, so that two spaces in a row have an empty token between them.
+/// The tokens of a line: the pieces between its single spaces, so that two spaces in a row have an
+/// empty token between them.
 pub fn tokens_of(text: &[u8], line: Line) -> Tokens<'_>
     requires { IsIn text.now line }
     ensures text { result.text ≡ text.now }
@@ -51,8 +52,8 @@ pub fn tokens_of(text: &[u8], line: Line) -> Tokens<'_>
 }
 
 impl<'a> Tokens<'a> {
-    /// Takes the next token. `None` comes exactly after the last one, and then nothing changes. The place of the token, also
-    /// of an empty one, is where it stands in the text.
+    /// Takes the next token. `None` comes exactly after the last one, and then nothing changes. The
+    /// place of the token, also of an empty one, is where it stands in the text.
     pub fn next(&mut self) -> Option<Token>
         ensures text { self.new.text ≡ self.old.text }
         ensures end { self.new.end ≡ self.old.end }
@@ -75,7 +76,8 @@ impl<'a> Tokens<'a> {
         Some(token)
     }
 
-    /// Takes the next token, and gives its bytes. `None` comes exactly after the last one, and then nothing changes.
+    /// Takes the next token, and gives its bytes. `None` comes exactly after the last one, and then
+    /// nothing changes.
     pub fn next_word(&mut self) -> Option<&'a [u8]>
         ensures text { self.new.text ≡ self.old.text }
         ensures end { self.new.end ≡ self.old.end }

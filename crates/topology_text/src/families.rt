@@ -81,9 +81,9 @@ fn family_groups(alloc: Global, kind: FamilyKind, size: u8) -> Result<Vec<Group>
     }
 }
 
-/// The family's topology: nodes `n0`, `n1` and so on, and for each directed link a group of its own of width 1,
-/// ascending by the nodes that it leaves and enters. In `Shared` all links are in one group. An `Err` comes only where
-/// memory runs out.
+/// The family's topology: nodes `n0`, `n1` and so on, and for each directed link a group of its own
+/// of width 1, ascending by the nodes that it leaves and enters. In `Shared` all links are in one
+/// group. An `Err` comes only where memory runs out.
 pub fn family(alloc: Global, kind: FamilyKind, size: u8) -> Result<NamedTopology, AllocError>
     requires { IsTrue (is_allowed kind size) }
     ensures { IfOk result (λ t. t ≡ family_of kind size) }

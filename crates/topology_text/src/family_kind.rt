@@ -33,8 +33,8 @@ impl FamilyKind {
     }
 }
 
-/// Whether the kind has a family of this size: 1 to 16 nodes, for `Ring` at least 3, for `Shared` at least 2, and for
-/// `Cube` a power of two from 2 on.
+/// Whether the kind has a family of this size: 1 to 16 nodes, for `Ring` at least 3, for `Shared`
+/// at least 2, and for `Cube` a power of two from 2 on.
 pub fn family_allows(kind: FamilyKind, size: u8) -> bool
     ensures { result ≡ is_allowed kind size }
 {

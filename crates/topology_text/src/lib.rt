@@ -1,5 +1,5 @@
-//! Topologies whose nodes have names, with the pattern of a collective where one is given: their one spelling, read and
-//! printed, and the families that are often met.
+//! Topologies whose nodes have names, with the pattern of a collective where one is given: their
+//! one spelling, read and printed, and the families that are often met.
 #![tactic(auto)]
 
 mod families;
@@ -10,6 +10,7 @@ mod group_line;
 mod link_word;
 mod name;
 mod named_topology;
+mod names_printing;
 mod nodes_line;
 mod parts;
 mod pattern;
@@ -22,6 +23,7 @@ pub use family_kind::{FamilyKind, family_allows};
 pub use fault::{TopologyCode, TopologyFault};
 pub use name::Name;
 pub use named_topology::NamedTopology;
+pub use names_printing::{push_node_field, push_node_name};
 pub use parts::{groups_part, header_part, nodes_part};
 pub use pattern::pattern_part;
 pub use printing::{print_topology, push_topology};

@@ -91,7 +91,8 @@ fn is_name(bytes: &[u8]) -> bool
 }
 
 impl Name {
-    /// The name of these bytes. `None` comes exactly where they are not 1 to 16 bytes of a to z, 0 to 9 and `_`.
+    /// The name of these bytes. `None` comes exactly where they are not 1 to 16 bytes of a to z, 0
+    /// to 9 and `_`.
     pub fn of_bytes(bytes: &[u8]) -> Option<Name>
         ensures { result ≡ name_of bytes.now }
     {

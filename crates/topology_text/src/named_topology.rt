@@ -10,8 +10,8 @@ use schedule::{Group, Topology};
 use std::alloc::{AllocError, Global};
 use std::marker::Model;
 
-/// A topology with as many names as nodes, all different. The node numbered k from 0 has the name at place k. A text of
-/// version 2 gives a pattern too, for as many nodes.
+/// A topology with as many names as nodes, all different. The node numbered k from 0 has the name
+/// at place k. A text of version 2 gives a pattern too, for as many nodes.
 #[derive(Clone, Debug, Drop)]
 pub struct NamedTopology {
     names: Vec<Name>,
@@ -30,8 +30,8 @@ impl Model for NamedTopology {
 }
 
 impl NamedTopology {
-    /// The topology with these names of its nodes: as many as it has nodes, all different; and with this pattern, if
-    /// one is given.
+    /// The topology with these names of its nodes: as many as it has nodes, all different; and with
+    /// this pattern, if one is given.
     pub fn new(names: Vec<Name>, topology: Topology, custom: Option<Pattern>) -> NamedTopology
         requires { IsNamed (record { names = names.items; topology = topology; custom = custom }) }
         ensures { result ≡ record { names = names.items; topology = topology; custom = custom } }
@@ -68,8 +68,8 @@ impl NamedTopology {
         self.custom.as_ref()
     }
 
-    /// The topology with these names of its nodes, in their order, these groups, and this pattern, if one is given. An
-    /// `Err` comes only where memory runs out.
+    /// The topology with these names of its nodes, in their order, these groups, and this pattern,
+    /// if one is given. An `Err` comes only where memory runs out.
     pub fn from_parts(
         alloc: Global,
         names: &IndexSet<Name>,

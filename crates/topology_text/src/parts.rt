@@ -26,14 +26,14 @@ fn version_of(bytes: &[u8]) -> Option<bool>
     None
 }
 
-/// Takes the header's line, and tells whether a pattern follows the groups, as in version 2. A refusal comes with the
-/// number of its line.
-pub fn header_part(text: &[u8], lines: &mut Lines<'_>) -> Result<bool, (TopologyCode, u32)>
-    requires same { lines.old.text ≡ text.now }
+/// Takes the header's line, and tells whether a pattern follows the groups, as in version 2. A
+/// refusal comes with the number of its line.
+pub fn header_part(lines: &mut Lines<'_>) -> Result<bool, (TopologyCode, u32)>
     requires room { lines.old.place.number + 1 < 2 ^ 32 }
     ensures read { Tells (λ patterned. (patterned, lines.new.place)) result (line_part header_line lines.old.place) }
     ensures text { lines.new.text ≡ lines.old.text }
 {
+    let text = lines.text();
     let refused = Err((TopologyCode::BadHeader, lines.number()));
     let Some(line) = lines.next() else {
         return refused;
@@ -50,15 +50,14 @@ pub fn header_part(text: &[u8], lines: &mut Lines<'_>) -> Result<bool, (Topology
 /// Takes the line of the nodes, and gives their names in the order of the line.
 pub fn nodes_part(
     alloc: Global,
-    text: &[u8],
     lines: &mut Lines<'_>,
 ) -> Result<IndexSet<Name>, Stop<(TopologyCode, u32)>>
-    requires same { lines.old.text ≡ text.now }
     requires room { lines.old.place.number + 1 < 2 ^ 32 }
     ensures read { Gives (λ s. (s.keys, lines.new.place)) result (line_part nodes_line lines.old.place) }
     ensures few { IfOk result (λ s. length s.keys ≤ 16) }
     ensures text { lines.new.text ≡ lines.old.text }
 {
+    let text = lines.text();
     let number = lines.number();
     let Some(line) = lines.next() else {
         return Err(Stop::Refused((TopologyCode::NoNodes, number)));
@@ -80,17 +79,16 @@ fn begins_group(text: &[u8], line: Line) -> bool
 /// Takes the lines that begin `group `, up to the first that doesn't.
 pub fn groups_part(
     alloc: Global,
-    text: &[u8],
     names: &IndexSet<Name>,
     lines: &mut Lines<'_>,
 ) -> Result<Vec<Group>, Stop<(TopologyCode, u32)>>
-    requires same { lines.old.text ≡ text.now }
     requires few { length names.now.keys ≤ 16 }
     requires room { lines.old.place.number + 257 < 2 ^ 32 }
     ensures read { Gives (λ v. (v.items, lines.new.place)) result (groups_at names.now.keys lines.old.place) }
     ensures text { lines.new.text ≡ lines.old.text }
     ensures moved { OnOk result (lines.new.place.number ≤ lines.old.place.number + 256) }
 {
+    let text = lines.text();
     let mut groups = Vec::new(alloc);
     while let Some(line) = lines.peek() {
         if !begins_group(text, line) {

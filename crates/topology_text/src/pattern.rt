@@ -15,12 +15,12 @@ use schedule::Placement;
 use std::alloc::{AllocError, Global};
 use text_lines::{Lines, Stop};
 
-fn custom_part(text: &[u8], lines: &mut Lines<'_>) -> Result<u8, (TopologyCode, u32)>
-    requires same { lines.old.text ≡ text.now }
+fn custom_part(lines: &mut Lines<'_>) -> Result<u8, (TopologyCode, u32)>
     requires room { lines.old.place.number + 1 < 2 ^ 32 }
     ensures read { Tells (λ base. (base, lines.new.place)) result (line_part custom_line lines.old.place) }
     ensures text { lines.new.text ≡ lines.old.text }
 {
+    let text = lines.text();
     let number = lines.number();
     match lines.next() {
         None => Err((TopologyCode::BadLine, number)),
@@ -30,19 +30,18 @@ fn custom_part(text: &[u8], lines: &mut Lines<'_>) -> Result<u8, (TopologyCode, 
 
 fn holders_part(
     alloc: Global,
-    text: &[u8],
     names: &IndexSet<Name>,
     word: &[u8],
     chunk: u8,
     lines: &mut Lines<'_>,
 ) -> Result<Vec<u8>, Stop<(TopologyCode, u32)>>
-    requires same { lines.old.text ≡ text.now }
     requires few { length names.now.keys ≤ 16 }
     requires room { lines.old.place.number + 1 < 2 ^ 32 }
     ensures read { Gives (λ v. (v.items, lines.new.place)) result (line_part (holders_line names.now.keys word.now chunk) lines.old.place) }
     ensures text { lines.new.text ≡ lines.old.text }
     ensures moved { OnOk result (lines.new.place.number ≡ lines.old.place.number + 1) }
 {
+    let text = lines.text();
     let number = lines.number();
     let Some(line) = lines.next() else {
         return Err(Stop::Refused((TopologyCode::BadLine, number)));
@@ -74,12 +73,10 @@ struct PairsRead {
 /// Takes the two lines of each of so many chunks.
 fn pairs_part(
     alloc: Global,
-    text: &[u8],
     names: &IndexSet<Name>,
     base: u8,
     lines: &mut Lines<'_>,
 ) -> Result<PairsRead, Stop<(TopologyCode, u32)>>
-    requires same { lines.old.text ≡ text.now }
     requires few { length names.now.keys ≤ 16 }
     requires room { lines.old.place.number + 2 * base < 2 ^ 32 }
     ensures read { Gives (λ found. (record { before = found.before.items; after = found.after.items }, lines.new.place)) result (holders_at names.now.keys base 0 (record { before = []; after = [] }) lines.old.place) }
@@ -89,9 +86,9 @@ fn pairs_part(
     let mut before = Vec::new(alloc);
     let mut after = Vec::new(alloc);
     for chunk in 0..base {
-        let holders = holders_part(alloc, text, names, b"before", chunk, lines)?;
+        let holders = holders_part(alloc, names, b"before", chunk, lines)?;
         push_row(&mut before, chunk, &holders)?;
-        let holders = holders_part(alloc, text, names, b"after", chunk, lines)?;
+        let holders = holders_part(alloc, names, b"after", chunk, lines)?;
         push_row(&mut after, chunk, &holders)?;
     }
     Ok(PairsRead { before, after })
@@ -114,16 +111,15 @@ fn placement_of(
     Ok(placement)
 }
 
-/// Takes the pattern, where the text is `patterned`, as one of version 2 is; where it is not, nothing is taken.
+/// Takes the pattern, where the text is `patterned`, as one of version 2 is; where it is not,
+/// nothing is taken.
 #[tactic(auto, unfolding(crate::specs::Reading::pattern_at))]
 pub fn pattern_part(
     alloc: Global,
-    text: &[u8],
     patterned: bool,
     names: &IndexSet<Name>,
     lines: &mut Lines<'_>,
 ) -> Result<Option<Pattern>, Stop<(TopologyCode, u32)>>
-    requires same { lines.old.text ≡ text.now }
     requires few { length names.now.keys ≤ 16 }
     requires room { lines.old.place.number + 33 < 2 ^ 32 }
     ensures read { Gives (λ pattern. (pattern, lines.new.place)) result (pattern_at patterned names.now.keys lines.old.place) }
@@ -134,8 +130,8 @@ pub fn pattern_part(
     if !patterned {
         return Ok(None);
     }
-    let base = custom_part(text, lines).map_err(Stop::Refused)?;
-    let found = pairs_part(alloc, text, names, base, lines)?;
+    let base = custom_part(lines).map_err(Stop::Refused)?;
+    let found = pairs_part(alloc, names, base, lines)?;
     let nodes = names.len() as u8;
     let before = placement_of(alloc, base, nodes, &found.before)?;
     let after = placement_of(alloc, base, nodes, &found.after)?;

@@ -103,7 +103,8 @@ fn holders_of(
     Ok(nodes)
 }
 
-/// Reads the line of the nodes that hold a chunk, which begins with this word and the number of the chunk.
+/// Reads the line of the nodes that hold a chunk, which begins with this word and the number of the
+/// chunk.
 pub(crate) fn holders_on(
     alloc: Global,
     text: &[u8],

@@ -128,8 +128,9 @@ fn push_pattern(out: &mut Vec<u8>, names: &[Name], pattern: &Pattern) -> Result<
     Ok(())
 }
 
-/// Appends the spelling of the topology, as a report has it among other lines. An `Err` comes only where memory runs
-/// out; then what stood there before stands in front, and some of the spelling may stand behind it.
+/// Appends the spelling of the topology, as a report has it among other lines. An `Err` comes only
+/// where memory runs out; then what stood there before stands in front, and some of the spelling
+/// may stand behind it.
 #[tactic(auto, using(crate::proofs::Printed::kept_rules))]
 pub fn push_topology(out: &mut Vec<u8>, value: &NamedTopology) -> Result<(), AllocError>
     ensures appended { OnOk result (out.new.items ≡ out.old.items ++ spelling value.now) }

@@ -19,25 +19,23 @@ use indexmap::IndexSet;
 use std::alloc::Global;
 use text_lines::{Lines, Stop};
 
-/// Takes what follows the names: the groups end at the first line that doesn't begin `group `, and in version 2 the
-/// pattern follows.
+/// Takes what follows the names: the groups end at the first line that doesn't begin `group `, and
+/// in version 2 the pattern follows.
 #[tactic(auto, unfolding(crate::specs::Reading::named_at))]
 fn named_part(
     alloc: Global,
-    text: &[u8],
     patterned: bool,
     names: &IndexSet<Name>,
     lines: &mut Lines<'_>,
 ) -> Result<NamedTopology, Stop<(TopologyCode, u32)>>
-    requires same { lines.old.text ≡ text.now }
     requires names { AreNames names.now.keys }
     requires room { lines.old.place.number + 290 < 2 ^ 32 }
     ensures read { Gives (λ t. (t, lines.new.place)) result (named_at patterned names.now.keys lines.old.place) }
     ensures text { lines.new.text ≡ lines.old.text }
     ensures moved { OnOk result (lines.new.place.number ≤ lines.old.place.number + 289) }
 {
-    let groups = groups_part(alloc, text, names, lines)?;
-    let custom = pattern_part(alloc, text, patterned, names, lines)?;
+    let groups = groups_part(alloc, names, lines)?;
+    let custom = pattern_part(alloc, patterned, names, lines)?;
     Ok(NamedTopology::from_parts(alloc, names, groups, custom)?)
 }
 
@@ -45,18 +43,16 @@ fn named_part(
 #[tactic(auto, unfolding(crate::specs::Reading::topology_at))]
 pub fn topology_part(
     alloc: Global,
-    text: &[u8],
     lines: &mut Lines<'_>,
 ) -> Result<NamedTopology, Stop<(TopologyCode, u32)>>
-    requires same { lines.old.text ≡ text.now }
     requires room { lines.old.place.number + 292 < 2 ^ 32 }
     ensures read { Gives (λ t. (t, lines.new.place)) result (topology_at lines.old.place) }
     ensures text { lines.new.text ≡ lines.old.text }
     ensures moved { OnOk result (lines.new.place.number ≤ lines.old.place.number + 291) }
 {
-    let patterned = header_part(text, lines).map_err(Stop::Refused)?;
-    let names = nodes_part(alloc, text, lines)?;
-    named_part(alloc, text, patterned, &names, lines)
+    let patterned = header_part(lines).map_err(Stop::Refused)?;
+    let names = nodes_part(alloc, lines)?;
+    named_part(alloc, patterned, &names, lines)
 }
 
 #[tactic(auto, unfolding(crate::specs::Reading::topology_of))]
@@ -64,7 +60,7 @@ fn whole_topology(alloc: Global, text: &[u8]) -> Result<NamedTopology, Stop<(Top
     ensures { Gives (λ t. t) result (topology_of text.now) }
 {
     let mut lines = Lines::new(text);
-    let topology = topology_part(alloc, text, &mut lines)?;
+    let topology = topology_part(alloc, &mut lines)?;
     match lines.peek() {
         None => Ok(topology),
         Some(line) => Err(Stop::Refused((TopologyCode::BadLine, line.number))),
@@ -84,7 +80,8 @@ fn answered(alloc: Global, bytes: &[u8]) -> Result<NamedTopology, TopologyFault>
     }
 }
 
-/// The topology that the text spells, all of the text. A fault names the first check that fails, and its line.
+/// The topology that the text spells, all of the text. A fault names the first check that fails,
+/// and its line.
 pub fn read_topology(alloc: Global, bytes: &[u8]) -> Result<NamedTopology, TopologyFault>
     // What is read is spelled so.
     ensures found { IfOk result (λ t. IsNamed t × (bytes.now ≡ spelling t)) }

@@ -1,6 +1,7 @@
-//! What a clause needs when it is added: room in the lists of its literals, and two literals to watch.
+//! What a clause needs when it is added: room in the lists of its literals, and two literals to
+//! watch.
 
-ghost use Rattle.std.specs.Prelude.{◌≡◌, ◌≢◌, ◌↔◌, ◌⊎◌, ◌==◌, ℕ, ◌+◌, ◌*◌, ◌<◌, ◌≤◌, IsTrue, List, [], ◌∷◌, ◌++◌, Option, Some, None, MatchOption, length, get_or, map, Contains, All, AllPairs, count_by, IfOk, OnErr, OnOk, slice_index};
+ghost use Rattle.std.specs.Prelude.{◌≡◌, ◌≢◌, ◌↔◌, ◌⊎◌, ◌==◌, ℕ, ◌+◌, ◌*◌, ◌<◌, ◌≤◌, IsTrue, List, [], ◌∷◌, ◌++◌, Option, Some, None, MatchOption, length, get_or, map, Contains, All, AllPairs, count_by, IfOk, OnErr, OnOk, slice_index, vec_len, vec_capacity};
 ghost use Rattle.cnf_formula.specs.Literals.{LitValue, negation, code_of};
 ghost use Rattle.cnf_formula.specs.Formulas.{IsAbout};
 ghost use Rattle.trail_core.specs.Assigned.{IsFalse, IsOpen};
@@ -83,8 +84,20 @@ pub(crate) fn watches(lits: &[Lit], trail: &Trail) -> (Lit, Lit)
     }
 }
 
-/// Holds a clause under the next number, and puts back to where the present level begins what waits to be propagated. `Err`
-/// comes only where memory runs out or the numbers do, and then the clauses are as before.
+/// Makes room for a clause among those of less than two literals, if it is one of them.
+fn admit_short(short: &mut Vec<u32>, lits: &[Lit]) -> Result<(), AllocError>
+    ensures items { short.new.items ≡ short.old.items }
+    ensures ok { OnOk result (length lits.now ≤ 1 → vec_len short.new < vec_capacity short.new) }
+{
+    if lits.len() < 2 {
+        short.reserve(1)?;
+    }
+    Ok(())
+}
+
+/// Holds a clause under the next number, and puts back to where the present level begins what waits
+/// to be propagated. `Err` comes only where memory runs out or the numbers do, and then the clauses
+/// are as before.
 pub(crate) fn hold(
     store: &mut ClauseStore,
     lists: &mut WatchLists,
@@ -101,7 +114,7 @@ pub(crate) fn hold(
     ensures ok { IfOk result (λ id. (id ≡ length store.old) × IsHeld store.old lits.now store.new) }
     ensures err { OnErr result (store.new ≡ store.old) }
 {
-    short.reserve(1)?;
+    admit_short(short, lits)?;
     admit_all(lists, lits, trail.vars())?;
     let (first, second) = watches(lits, trail);
     let number = store.push(lits, first, second)?;

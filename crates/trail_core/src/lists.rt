@@ -1,4 +1,5 @@
-//! For each literal the list of the clauses that watch it (two watched literals: Moskewicz, Madigan, Zhao, Zhang and Malik 2001).
+//! For each literal the list of the clauses that watch it (two watched literals: Moskewicz,
+//! Madigan, Zhao, Zhang and Malik 2001).
 
 ghost use Rattle.std.specs.Prelude.{◌-◌, ◌≡◌, ◌↔◌, ℕ, ◌+◌, ◌*◌, ◌<◌, ◌≤◌, IsTrue, List, [], ◌∷◌, ◌++◌, Option, length, get_or, slice_set, slice_index, swap_remove, Contains, IfOk, OnErr, OnOk, IsOk};
 ghost use Rattle.cnf_formula.specs.Literals.{LitValue, negation, code_of};
@@ -9,7 +10,8 @@ use smallvec::SmallVec;
 use std::alloc::{AllocError, Global};
 use std::marker::Model;
 
-/// Lists of clause numbers, by literal. Most literals stand in few clauses, so that their lists need no memory of their own.
+/// Lists of clause numbers, by literal. Most literals stand in few clauses, so that their lists
+/// need no memory of their own.
 #[derive(Drop)]
 pub(crate) struct WatchLists {
     lists: Vec<SmallVec<u32, 4>>,
@@ -99,13 +101,13 @@ impl WatchLists {
         ensures ok { OnOk result ((self.new.uses ≡ slice_set self.old.uses (code_of lit) (slice_index self.old.uses (code_of lit) + 1)) × (slice_index self.old.uses (code_of lit) + 1 ≤ slice_index self.new.rooms (code_of lit))) }
     {
         let code = lit.code();
-        let uses = self.uses[code];
-        if uses == u32::MAX {
+        let uses = &mut self.uses[code];
+        if *uses == u32::MAX {
             return Err(AllocError);
         }
         let list = &mut self.lists[code];
-        make_room(list, uses as usize + 1)?;
-        self.uses[code] = uses + 1;
+        make_room(list, *uses as usize + 1)?;
+        *uses += 1;
         Ok(())
     }
 

@@ -1,4 +1,5 @@
-//! The trail: the literals that are true, in the order in which they became so, with the decision level and the reason of each.
+//! The trail: the literals that are true, in the order in which they became so, with the decision
+//! level and the reason of each.
 
 ghost use Rattle.std.specs.Prelude.{◌≢◌, ◌≡◌, ◌↔◌, ◌⊎◌, ℕ, ◌+◌, ◌<◌, ◌≤◌, IsTrue, true, List, [], ◌∷◌, ◌++◌, Option, Some, None, length, take, get_or, slice_index, Contains, IfOk};
 ghost use Rattle.cnf_formula.specs.Literals.{LitValue, negation};
@@ -14,7 +15,8 @@ use std::marker::Model;
 #[derive(Drop)]
 pub(crate) struct Trail {
     vars: u32,
-    /// By variable: 0 while it is open, 1 where it is true, 2 where it is false. There is no variable 0: it has 3.
+    /// By variable: 0 while it is open, 1 where it is true, 2 where it is false. There is no
+    /// variable 0: it has 3.
     values: Vec<u8>,
     levels: Vec<u32>,
     reasons: Vec<Option<u32>>,
@@ -188,7 +190,8 @@ impl Trail {
         self.lits.push_reserved(lit);
     }
 
-    /// Decides a literal: opens a decision level, on which an open literal is the first that is true.
+    /// Decides a literal: opens a decision level, on which an open literal is the first that is
+    /// true.
     pub(crate) fn decide(&mut self, lit: Lit)
         requires within { lit.var ≤ self.old.vars }
         requires open { IsOpen (lits_of self.old.steps) lit }

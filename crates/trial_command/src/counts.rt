@@ -14,7 +14,8 @@ pub(crate) struct Counts {
     pub unknown: u64,
 }
 
-/// The sum of the two. A sum that does not fit is answered as out of memory, since no memory holds so many things.
+/// The sum of the two. A sum that does not fit is answered as out of memory, since no memory holds
+/// so many things.
 pub(crate) fn plus(a: u64, b: u64) -> Result<u64, OutOfMemory>
     ensures { IfOk result (λ sum. sum ≡ a + b) }
 {

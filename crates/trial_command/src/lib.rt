@@ -1,4 +1,5 @@
-//! The command that tries: each number stands for a search, which is done, audited and replayed, and summed up in a text.
+//! The command that tries: each number stands for a search, which is done, audited and replayed,
+//! and summed up in a text.
 #![tactic(auto)]
 
 mod asked;

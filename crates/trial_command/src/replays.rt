@@ -45,7 +45,8 @@ fn replay_in_orders(
     Ok(events)
 }
 
-/// Replays each point of the report, joined ones too, in each order. The only error is `OutOfMemory`.
+/// Replays each point of the report, joined ones too, in each order. The only error is
+/// `OutOfMemory`.
 pub(crate) fn replay_points(alloc: Global, report: &Report) -> Result<Replays, OutOfMemory>
     ensures count { IfOk result (λ replays. replays.count ≡ replays_in report.now) }
     ensures events { IfOk result (λ replays. replays.events ≡ events_in report.now) }

@@ -1,7 +1,7 @@
 //! The text that sums a trial up.
 
-ghost use Rattle.std.specs.Prelude.{◌≡◌, ◌++◌, ◌∷◌, [], codes, decimal, length, OnOk, IfOk};
-ghost use Rattle.text_lines.specs.Text.{line, text_of};
+ghost use Rattle.std.specs.Prelude.{◌≡◌, ◌++◌, ◌∷◌, [], codes, decimal, OnOk, IfOk};
+ghost use Rattle.text_lines.specs.Text.{line};
 ghost use Rattle.topology_text.specs.FamilyWords.{family_word};
 ghost use Rattle.run_rules.specs.Trials.{events_in, points_in, refuted_in, replays_in, trial_family, trial_size, trial_text, unknown_in};
 

@@ -28,7 +28,8 @@ use std::alloc::Global;
 /// The greatest length of a text that is read.
 const LONGEST: usize = 2_147_483_647;
 
-/// The report of the search that the number stands for, whose files stand on the shelf then. The only error is `OutOfMemory`.
+/// The report of the search that the number stands for, whose files stand on the shelf then. The
+/// only error is `OutOfMemory`.
 fn search_trial(alloc: Global, n: u16, shelf: &mut SureShelf) -> Result<Report, OutOfMemory>
     ensures words { IfOk result (λ r. r.words ≡ trial_words n) }
     ensures topology { IfOk result (λ r. r.topology ≡ trial_topology n) }
@@ -44,8 +45,8 @@ fn search_trial(alloc: Global, n: u16, shelf: &mut SureShelf) -> Result<Report, 
     }
 }
 
-/// The report that is read from this report's text. The only error is `OutOfMemory`, which a text of 2 GiB or more
-/// counts as.
+/// The report that is read from this report's text. The only error is `OutOfMemory`, which a text
+/// of 2 GiB or more counts as.
 fn read_back(alloc: Global, report: &Report) -> Result<Report, OutOfMemory>
     requires { IsReport report.now }
     ensures { IfOk result (λ r. r ≡ report.now) }
@@ -63,7 +64,8 @@ fn read_back(alloc: Global, report: &Report) -> Result<Report, OutOfMemory>
     }
 }
 
-/// Audits a right report beside its files: there is nothing to deny. The only error is `OutOfMemory`.
+/// Audits a right report beside its files: there is nothing to deny. The only error is
+/// `OutOfMemory`.
 fn verify(alloc: Global, report: &Report, shelf: &mut SureShelf) -> Result<(), OutOfMemory>
     requires small { size_of (question_of report.now.words report.now.topology Part.Whole) ≤ size_limit }
     requires right { IsRight report.now }
@@ -86,8 +88,8 @@ fn summed_up(alloc: Global, n: u16, report: &Report) -> Result<Vec<u8>, OutOfMem
     print_trial(alloc, n, report, counts, replays)
 }
 
-/// The summary of a trial that found this report and left these files: the report is printed, read again and audited. The
-/// only error is `OutOfMemory`.
+/// The summary of a trial that found this report and left these files: the report is printed, read
+/// again and audited. The only error is `OutOfMemory`.
 fn tried_out(
     alloc: Global,
     n: u16,
@@ -114,9 +116,10 @@ fn try_out(alloc: Global, n: u16) -> Result<Vec<u8>, OutOfMemory>
     tried_out(alloc, n, &found, &mut shelf)
 }
 
-/// The answer to a trial, whose number is at most 4,095: its search is done, with files in memory, its report is printed,
-/// read again and audited beside these files, and each of its points is replayed in four orders. The answer is the summary;
-/// the only error is `OutOfMemory`, and no trial is denied.
+/// The answer to a trial, whose number is at most 4,095: its search is done, with files in memory,
+/// its report is printed, read again and audited beside these files, and each of its points is
+/// replayed in four orders. The answer is the summary; the only error is `OutOfMemory`, and no
+/// trial is denied.
 pub fn trial_answer(alloc: Global, n: u16) -> Result<Answer, OutOfMemory>
     requires { n ≤ 4095 }
     ensures { IfOk result (λ a. IsAnswerAlone (Ok (Try n)) a.status a.text.items) }

@@ -1,4 +1,5 @@
-//! Counting at sets of nodes by the calls that make no table: on the line of 2 one chunk a round comes to the second node.
+//! Counting at sets of nodes by the calls that make no table: on the line of 2 one chunk a round
+//! comes to the second node.
 
 use collective_spec::{Collective, Kind, Spec, spec_instance};
 use node_cuts::{first_cut, floor_of};

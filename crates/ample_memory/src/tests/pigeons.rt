@@ -6,7 +6,8 @@ use sat_core::{SatAnswer, solve};
 use std::alloc::Global;
 use std::test::Fail;
 
-/// A formula of clauses that are written as in DIMACS CNF, one after another, each with a 0 at its end.
+/// A formula of clauses that are written as in DIMACS CNF, one after another, each with a 0 at its
+/// end.
 fn read(alloc: Global, vars: u32, numbers: &[i32]) -> Result<Formula, Fail> {
     let mut formula = Formula::new(alloc, vars);
     let mut lits = Vec::new(alloc);
@@ -45,7 +46,8 @@ const FOUR_IN_THREE: [i32; 70] = [
     -3, -6, 0, -3, -9, 0, -3, -12, 0, -6, -9, 0, -6, -12, 0, -9, -12, 0,
 ];
 
-/// A limit of 3 to the number of variables is never spent, and four pigeons in three holes take more than one conflict.
+/// A limit of 3 to the number of variables is never spent, and four pigeons in three holes take
+/// more than one conflict.
 #[test]
 fn searches_answer(rt: HostRuntime) -> Result<(), Fail> {
     let alloc = rt.alloc();

@@ -18,8 +18,8 @@ pub type Change = (&'static [u8], &'static [u8]);
 /// The files of the candidate of one step.
 pub type Files<'a> = &'a [(FileKind, &'static [u8])];
 
-/// Checks a report beside files of the candidate of one step, on a shelf that moves pieces of this size, and compares the
-/// line that is written.
+/// Checks a report beside files of the candidate of one step, on a shelf that moves pieces of this
+/// size, and compares the line that is written.
 pub fn checks(
     rt: &(impl Abort + AllocGlobal),
     piece: usize,

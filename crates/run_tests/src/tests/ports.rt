@@ -38,8 +38,8 @@ pub struct Run<'a> {
     pub text: &'a [u8],
 }
 
-/// Runs it where one call of the source, of the shelf and of the sink fails, by their numbers, in pieces of this size, and
-/// compares the status and what is written.
+/// Runs it where one call of the source, of the shelf and of the sink fails, by their numbers, in
+/// pieces of this size, and compares the status and what is written.
 fn ends(
     rt: &(impl Abort + AllocGlobal),
     it: Run,
@@ -68,7 +68,8 @@ fn ends(
     Ok(())
 }
 
-/// Runs it with each call of each port failing in turn, and with those that come behind the last ones.
+/// Runs it with each call of each port failing in turn, and with those that come behind the last
+/// ones.
 pub fn fails_at_each_call(rt: &(impl Abort + AllocGlobal), it: Run) -> Result<(), AllocError> {
     let [small, middle, whole] = it.shelved;
     for (piece, shelved) in [(1, small), (7, middle), (4096, whole)] {

@@ -26,7 +26,8 @@ fn takes(
 
 #[test]
 fn proofs_of_others(rt: HostRuntime) -> Result<(), Fail> {
-    // a comment, blanks, a carriage return, no line feed at the end, a deletion, and two lines that are redundant
+    // a comment, blanks, a carriage return, no line feed at the end, a deletion, and two lines that
+    // are redundant
     let taken: [&[u8]; 7] = [
         b"c made elsewhere\n34 0 2 3 9 16 24 0\n",
         b" 34\t0  2 3 9 16 24 0 \n\n",
@@ -39,8 +40,9 @@ fn proofs_of_others(rt: HostRuntime) -> Result<(), Fail> {
     for proof in taken {
         takes(&rt, proof, b"verified\n")?;
     }
-    // no closing zero, a token too many, a group of a line without a literal, a line behind the last, a number that is not
-    // greater, deletions of what is needed and of what is not held, and a group that is lacking
+    // no closing zero, a token too many, a group of a line without a literal, a line behind the
+    // last, a number that is not greater, deletions of what is needed and of what is not held, and
+    // a group that is lacking
     let refused: [&[u8]; 8] = [
         b"34 0 2 3 9 16 24\n",
         b"34 0 2 3 9 16 24 0 0\n",

@@ -5,7 +5,8 @@ use std::io;
 use std::io::{ErrorKind, Read, Write};
 use std::test::Fail;
 
-/// The first call is interrupted, the second moves a byte, the third fails, and the others move nothing.
+/// The first call is interrupted, the second moves a byte, the third fails, and the others move
+/// nothing.
 #[derive(Drop)]
 struct Flaky {
     calls: u8,

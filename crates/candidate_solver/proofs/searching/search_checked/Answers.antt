@@ -1,5 +1,5 @@
 use Rattle.std.proofs.Common.{◌≡◌, sym, ap, ◌∙◌, subst}
-use Rattle.candidate_solver.specs.Faults.{of_solving}
+use Rattle.candidate_solver.specs.inner.Faults.{of_solving}
 use Rattle.candidate_solver.specs.Trying.{IsSearch}
 use Rattle.candidate_solver.proofs.Searches.{IsSolved, is_search, same_answer}
 use Rattle.candidate_solver.proofs.searching.search_checked.Goals as goal

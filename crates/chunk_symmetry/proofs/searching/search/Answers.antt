@@ -1,5 +1,5 @@
 use Rattle.std.proofs.Common.{◌≡◌, Ok, sym, ap, ◌∙◌, subst}
-use Rattle.chunk_symmetry.specs.Trying.{IsSearch}
+use Rattle.candidate_solver.specs.Trying.{IsSearch}
 use Rattle.chunk_symmetry.proofs.searching.search.Goals as goal
 
 pub returns-in-Ok : goal.returns-in-Ok
@@ -12,7 +12,9 @@ returns-in-Ok c =
     let kept : c.into_lines.result.items ≡ lines = c.into_lines.ensures ∙ ap (λ ledger. ledger.lines.items) c.into_second.ensures.second in
     let search : IsSearch f pair.second.limit lines said = record {
       model = λ values e. c.in-Ok.ensures.model values (ap Ok e);
-      refuted = λ e. c.in-Ok.ensures.refuted (ap Ok e);
+      refuted = λ e. record { refutes = c.in-Ok.ensures.refuted (ap Ok e); few = c.in-Ok.ensures.closed (ap Ok e) };
       spent = λ e. record { spent = c.in-Ok.ensures.log (ap Ok e); not_closed = c.in-Ok.ensures.not_closed (ap Ok e) };
+      numbered = c.in-Ok.ensures.numbered;
+      short = c.in-Ok.ensures.short;
     } in
     subst (λ ls. IsSearch f c.args.limit ls said) (sym kept) (subst (λ n. IsSearch f n lines said) limit search)

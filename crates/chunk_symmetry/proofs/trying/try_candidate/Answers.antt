@@ -1,7 +1,5 @@
-use Rattle.std.proofs.Common.{sym, subst}
 use Rattle.candidate_order.specs.Frontiers.{QuestionValue, instance_for}
 use Rattle.candidate_solver.specs.Questions.{asked}
-use Rattle.chunk_symmetry.specs.Trying.{IsSearch}
 use Rattle.chunk_symmetry.proofs.Engines.{IsEncoded, outcome_by, satisfies_encoding}
 use Rattle.chunk_symmetry.proofs.trying.try_candidate.Goals as goal
 
@@ -36,5 +34,4 @@ returns c =
     let both = c.in_ok-encoding.field-0 in
     let found = c.in_ok-answer.field-0 in
     let encoded : IsEncoded q x both.encoding both.formula = record { encodes = c.in_ok-encoding.ensures.encoding question.limits; formula = c.in_ok-encoding.ensures.formula question.limits } in
-    outcome_by q x both.encoding both.formula question.small c.requires encoded found.lines.items found.answer c.conflicts.result c.in_ok-outcome.outcome c.conflicts.ensures.conflicts
-    (subst (λ n. IsSearch both.formula n found.lines.items found.answer) (sym c.conflicts.ensures.conflicts) c.in_ok-answer.ensures) c.in_ok-outcome.ensures
+    outcome_by q x both.encoding both.formula question.small c.requires encoded found.lines.items found.answer c.conflicts-limit.result c.in_ok-outcome.outcome c.conflicts-limit.ensures.conflicts c.in_ok-answer.ensures c.in_ok-outcome.ensures

@@ -1,6 +1,6 @@
 use Rattle.std.proofs.Common.{◌≡◌, ◌+◌, drop}
 use Rattle.command_words.specs.Values.{AreProper}
-use Rattle.command_words.specs.Counting.{count_of}
+use Rattle.command_words.specs.inner.Counting.{count_of}
 use Rattle.command_words.specs.Words.{nothing, texts, values_from}
 use Rattle.command_words.proofs.reading.values_from.Given as goal
 

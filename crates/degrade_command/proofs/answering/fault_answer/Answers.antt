@@ -3,7 +3,7 @@ use Rattle.run_rules.specs.Answers.{IsAnswer}
 use Rattle.run_rules.specs.Read.{IsSearchableAs}
 use Rattle.run_rules.specs.Tasks.{Degrade, degrade_in}
 use Rattle.run_rules.proofs.Answered.{refused_alone}
-use Rattle.degrade_command.specs.Faults.{refused_first}
+use Rattle.degrade_command.specs.inner.Faults.{refused_first}
 use Rattle.degrade_command.proofs.Taken.{can_degrade, refused_due}
 use Rattle.degrade_command.proofs.answering.fault_answer.Goals as goal
 

@@ -41,7 +41,7 @@ returns-in-Ok c =
     let p : QuestionValue = record { topology = c.args.left.now; spec = c.args.spec.now; limits = c.args.limits } in
     let f = c.in-Ok.frontier in
     let made = made_for p _ _ c.in_ok-inner.ensures.question c.deref.ensures c.in_ok-links.ensures.links in
-    let found = found_with _ (formula_for p) _ (λ x s. Unit {0}) (λ x. c.in-Ok.ensures.formula x ∙ c.new-engine.ensures.formula x ∙ c.in_ok-inner.ensures.formula x ∙ formula_left p _ x made c.requires.single) (λ x s suited. tt) c.in-Ok.ensures.found in
+    let found = found_with _ (formula_for p) _ (λ x s. Unit {0}) (λ x. c.in-Ok.ensures.same.formula x ∙ c.new-engine.ensures.same.formula x ∙ c.in_ok-inner.ensures.formula x ∙ formula_left p _ x made c.requires.single) (λ x s suited. tt) c.in-Ok.ensures.found in
     let is = left_question q c.args.fault.group c.args.fault.width c.requires.left in
     let same : c.frontier_by.new.engine.old.items ≡ c.args.old.items = c.in-Ok.ensures.moves.1 ∙ c.new-engine.ensures.old in
     found_after (narrowed_question q c.args.fault.group c.args.fault.width) c.args.old.items c.old.result.now f (c.old.ensures.old ∙ same)

@@ -15,7 +15,7 @@ returns-clause-found g c =
     let suits = E.suits engine in
     let was = c.args.engine.now in
     found_as_asked formula suits (record { topology = c.args.topology.now; spec = c.args.spec.now; limits = c.args.limits }) c.requires.spec (E.question was) c.requires.question (g.met.E.EngineView.copies was) c.in_ok-frontier.ensures
-    (found_copied formula suits c.in_ok-copied.ensures.right c.in_ok-copied.ensures.searched c.in_ok-copied.ensures.suits c.in_ok-copied.ensures.entries c.search.ensures.within c.search.ensures.question
+    (found_copied formula suits c.in_ok-copied.ensures.right c.in_ok-copied.ensures.searched c.in_ok-copied.ensures.suits c.in_ok-copied.ensures.entries c.search.ensures.within c.search.ensures.same.question
     (g.met.E.EngineView.copies engine) (λ x at. g.met.E.EngineView.exhausted engine x at))
 
 pub returns-clause-recorded : goal.returns-clause-recorded

@@ -1,5 +1,5 @@
 use Rattle.std.specs.Prelude.{◌≡◌, ◌++◌, take}
-use Rattle.frontier_audit.specs.Steps.{unrefuted_among}
+use Rattle.frontier_audit.specs.inner.Steps.{unrefuted_among}
 use Rattle.frontier_audit.proofs.answered.push_unrefuted.Given as goal
 
 abbrev pub invariant-loop-candidate : goal.invariant-loop-candidate

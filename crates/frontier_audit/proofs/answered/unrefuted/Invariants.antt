@@ -1,6 +1,6 @@
 use Rattle.std.specs.Prelude.{◌≡◌, ◌++◌}
 use Rattle.frontier_audit.specs.Candidates.{candidates_within}
-use Rattle.frontier_audit.specs.Steps.{unrefuted_among}
+use Rattle.frontier_audit.specs.inner.Steps.{unrefuted_among}
 use Rattle.frontier_audit.proofs.Listing.{from_step}
 use Rattle.frontier_audit.proofs.answered.unrefuted.Given as goal
 

@@ -1,6 +1,6 @@
 use Rattle.std.proofs.Common.{sym, subst, ◌∙◌}
 use Rattle.frontier_audit.specs.Beside.{AnswersBeside}
-use Rattle.frontier_audit.specs.Steps.{parts_checked}
+use Rattle.frontier_audit.specs.inner.Steps.{parts_checked}
 use Rattle.outer_ports.specs.declared.part.Part.{Part}
 use Rattle.outer_ports.specs.declared.part.Part.TheVariants.{Joined}
 use Rattle.frontier_audit.specs.Denials.{Denial}

@@ -54,7 +54,7 @@ loop-given_up-preserved g c =
     let answer = since tells shelf (H.file l.shelf) (λ files. check files here) c.in_ok-denial.field-0 (λ t. l.invariant.stay (done.told t)) done.beside in
     record {
       told = λ t. l.invariant.told (done.told t);
-      kept = done.kept (λ failed. absurd cc) ∙ l.invariant.kept;
+      kept = done.cause.stays (λ failed. absurd cc) ∙ l.invariant.kept;
       stay = λ t name. done.stay t name ∙ l.invariant.stay (done.told t) name;
       leads = leads_on (H.tells l.shelf) tells shelf check xs i here c.loop-given_up-test.true is done.told l.invariant.leads (is_of here.candidate) (looks_own_unknown c.args.part q here)
           (All-weaker (BeforeIt here) _ (looks_other_unknown c.args.part q here) _ (behind_pairs BeforeIt xs i here c.loop-given_up-test.true is c.requires.ascending))

@@ -1,5 +1,5 @@
 use Rattle.std.specs.Prelude.{None, take}
-use Rattle.frontier_audit.specs.Steps.{JoinsSay, pairs_with}
+use Rattle.frontier_audit.specs.inner.Steps.{JoinsSay, pairs_with}
 use Rattle.frontier_audit.proofs.joins.gathered_denied.Given as goal
 
 abbrev pub invariant-loop-second : goal.invariant-loop-second

@@ -4,7 +4,7 @@ use Rattle.std.specs.Prelude.{length, ◌≤◌}
 use Rattle.std.proofs.lemmas.List.Elements.{All-weaker}
 use Rattle.frontier_audit.specs.Auditing.{frontier_checked}
 use Rattle.frontier_audit.specs.Beside.{AnswersBeside}
-use Rattle.frontier_audit.specs.Steps.{part_checked}
+use Rattle.frontier_audit.specs.inner.Steps.{part_checked}
 use Rattle.frontier_audit.proofs.Merging.{behind_pairs, denies_all, leads_from_start, leads_on, leads_to_all, since}
 use Rattle.frontier_audit.proofs.Parting.{Apart, here_frontier, here_is, here_low, here_part, is_in, looks_other_part, looks_own_part, part_denies, part_passes, parts_apart}
 use Rattle.frontier_audit.proofs.parts.parts_denied.Goals as goal
@@ -62,7 +62,7 @@ loop-part-preserved g c =
     let is = here_is r all.ensures.limits all.result.now l.part-index x all.ensures.frontiers c.loop-part-test.true c.loop-part-item.is in
     record {
       told = λ t. l.invariant.told (done.told t);
-      kept = done.kept (λ failed. absurd cc) ∙ l.invariant.kept;
+      kept = done.cause.stays (λ failed. absurd cc) ∙ l.invariant.kept;
       stay = λ t name. done.stay t name ∙ l.invariant.stay (done.told t) name;
       leads = leads_on (H.tells l.shelf) tells shelf (part_checked r) r.frontiers l.part-index x low is done.told l.invariant.leads (is_in x.0) (looks_own_part r x)
           (All-weaker (Apart x) _ (looks_other_part r x) _ (behind_pairs Apart r.frontiers l.part-index x low is (parts_apart r all.ensures.limits)))

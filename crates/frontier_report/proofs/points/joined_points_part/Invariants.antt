@@ -8,7 +8,7 @@ use Rattle.frontier_report.proofs.points.joined_points_part.Given as goal
 abbrev pub invariant-loop-alloc : goal.invariant-loop-alloc
 invariant-loop-alloc l = record {
   read : parts_from (codes "point ") (joined_point_at l.names.keys (asks l.question)) (length l.initial.lines.place.rows - length l.points.items) l.points.items l.lines.place ≡ parts_at (codes "point ") (joined_point_at l.names.keys (asks l.question)) l.initial.lines.place;
-  text : l.lines.text ≡ l.text;
+  text : l.lines.text ≡ l.initial.lines.text;
   number : l.lines.place.number + length l.lines.place.rows ≤ l.initial.lines.place.number + length l.initial.lines.place.rows;
   fewer : length l.lines.place.rows + length l.points.items ≤ length l.initial.lines.place.rows;
 }

@@ -10,7 +10,7 @@ abbrev pub invariant-loop-alloc : goal.invariant-loop-alloc
 invariant-loop-alloc l = record {
   read : parts_from (codes "point ") (frontier_point_at l.names.keys (asks l.question)) (length l.initial.lines.place.rows - length l.points.items) l.points.items l.lines.place ≡ parts_at (codes "point ") (frontier_point_at l.names.keys (asks l.question)) l.initial.lines.place;
   last : l.last ≡ last_or None (map (λ p. p.candidate) l.points.items);
-  text : l.lines.text ≡ l.text;
+  text : l.lines.text ≡ l.initial.lines.text;
   number : l.lines.place.number + length l.lines.place.rows ≤ l.initial.lines.place.number + length l.initial.lines.place.rows;
   fewer : length l.lines.place.rows + length l.points.items ≤ length l.initial.lines.place.rows;
 }

@@ -1,5 +1,5 @@
 use Rattle.report_form.proofs.ReportTaken.{report_take}
-use Rattle.frontier_report.specs.Bodies.{parts_value}
+use Rattle.frontier_report.specs.inner.Bodies.{parts_value}
 use Rattle.frontier_report.proofs.reading.answered.Goals as goal
 
 pub new-requires : goal.new-requires

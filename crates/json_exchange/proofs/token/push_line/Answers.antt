@@ -3,7 +3,7 @@ use Rattle.std.specs.Prelude.{codes}
 use Rattle.std.proofs.lemmas.Result.{on_ok_weaker}
 use Rattle.text_lines.specs.Text.{line, fields}
 use Rattle.topology_text.proofs.Printed.{appended_three}
-use Rattle.json_exchange.specs.Tokens.{token_bytes}
+use Rattle.json_exchange.specs.inner.Tokens.{token_bytes}
 use Rattle.json_exchange.proofs.Compose.{line_is}
 use Rattle.json_exchange.proofs.token.push_line.Goals as goal
 

@@ -1,5 +1,6 @@
 use Rattle.std.proofs.Common.{◌≡◌, ◌+◌, ◌∷◌, get_or, drop, Ok, refl, sym, ap, ◌∙◌, subst, rules}
 use Rattle.std.specs.Prelude.{pos}
+use Rattle.cnf_formula.proofs.Clauses.{negation_about}
 use lib.IntN.{nat_abs}
 use mir.Syntax.{w64}
 use mir.Val.{SFits, of_z, to_z}
@@ -7,8 +8,8 @@ use Rattle.cnf_formula.specs.Literals.{negation}
 use Rattle.cnf_formula.specs.Formulas.{IsAbout}
 use Rattle.proof_rules.specs.Judging.{led_to}
 use Rattle.proof_rules.specs.Accepting.{leading}
-use Rattle.lrat_checker.specs.Marking.{Extends}
-use Rattle.lrat_checker.proofs.Taken.{unit_hint, hint_here, given_about, negated_about, extends_more}
+use Rattle.lrat_checker.specs.inner.Marking.{Extends}
+use Rattle.lrat_checker.proofs.Taken.{unit_hint, hint_here, given_about, extends_more}
 use Rattle.lrat_checker.proofs.leading.lead.Goals as goal
 
 pub mark-requires : goal.mark-requires
@@ -16,7 +17,7 @@ mark-requires c =
     let lit = c.in-Ok-Some.lit in
     let is : IsAbout c.args.table.now.vars lit = given_about c.args.table.now.vars c.loop-place.marks.falses c.in-Some.clause.now lit c.in-Some.ensures.about (sym c.in-Ok-Some.ensures ∙ ap Ok c.in-Ok-Some.field-0-is) in
     let vars : c.args.table.now.vars ≡ c.loop-place.marks.vars = sym (c.loop-place.invariant.vars ∙ c.requires.same) in
-    subst (λ l. IsAbout c.loop-place.marks.vars l) (sym c.negated.ensures) (negated_about c.loop-place.marks.vars lit (subst (λ n. IsAbout n lit) vars is))
+    subst (λ l. IsAbout c.loop-place.marks.vars l) (sym c.negated.ensures) (negation_about c.loop-place.marks.vars lit (subst (λ n. IsAbout n lit) vars is))
 
 pub loop-place-preserved : goal.loop-place-preserved
 loop-place-preserved c =

@@ -1,5 +1,5 @@
 use Rattle.std.proofs.Common.{◌≢◌, ◌<◌, length, take}
-use Rattle.lrat_checker.specs.Leads.{IsLead}
+use Rattle.lrat_checker.specs.inner.Leads.{IsLead}
 use Rattle.lrat_checker.proofs.leads.lead_of.Given as goal
 
 abbrev pub invariant-loop-lit : goal.invariant-loop-lit

@@ -1,7 +1,7 @@
 use Rattle.std.proofs.Common.{ap, ◌∙◌, take, arith}
 use Rattle.std.proofs.lemmas.List.{take_all}
 use Rattle.std.specs.Prelude.{bit_or}
-use Rattle.lrat_checker.specs.Leads.{signature_of}
+use Rattle.lrat_checker.specs.inner.Leads.{signature_of}
 use Rattle.lrat_checker.proofs.Signed.{one_bit_more}
 use Rattle.lrat_checker.proofs.leads.signature_of.Goals as goal
 

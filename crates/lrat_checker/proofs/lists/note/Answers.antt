@@ -1,9 +1,10 @@
 use Rattle.std.proofs.Common.{◌≡◌, ◌<◌, [], ◌∷◌, ◌++◌, length, map, set, sym, ap, ◌∙◌, subst, arith}
 use Rattle.std.specs.Prelude.{Contains}
 use Rattle.std.proofs.lemmas.List.{get_or-set_same, length-map, map-set, set-get_or}
+use Rattle.std.proofs.lemmas.List.Elements.{Contains-append_left, Contains-push}
+use Rattle.list_laws.proofs.Fronts.{at_map}
 use Rattle.lrat_checker.specs.Stored.{list_at}
-use Rattle.lrat_checker.proofs.Placed.{read_map}
-use Rattle.lrat_checker.proofs.Noted.{contains_more, contains_new, grown}
+use Rattle.lrat_checker.proofs.Noted.{grown}
 use Rattle.lrat_checker.proofs.lists.note.Goals as goal
 
 pub returns-in_err-push-clause-kept : goal.returns-in_err-push-clause-kept
@@ -11,7 +12,7 @@ returns-in_err-push-clause-kept g c = λ other x h.
     let lists = c.args.lists.now.items in
     let k = c.args.code in
     let ls = map (λ v. v.items) lists in
-    let old = read_map (λ v. v.items) lists k c.index_mut-list.result.now [] c.requires c.index_mut-list.ensures.value in
+    let old = at_map (λ v. v.items) lists k c.index_mut-list.result.now [] c.requires c.index_mut-list.ensures.value in
     let eq : map (λ v. v.items) (set lists k c.push.new.self) ≡ ls = map-set (λ v. v.items) lists k c.push.new.self ∙ ap (set ls k) (c.in_err-push.ensures.items ∙ sym old) ∙ set-get_or ls k [] in
     subst (λ m. Contains (list_at m other) x) (sym eq) h
 
@@ -20,19 +21,19 @@ returns-clause-kept g c = λ other x h.
     let lists = c.args.lists.now.items in
     let k = c.args.code in
     let ls = map (λ v. v.items) lists in
-    let old = read_map (λ v. v.items) lists k c.index_mut-list.result.now [] c.requires c.index_mut-list.ensures.value in
+    let old = at_map (λ v. v.items) lists k c.index_mut-list.result.now [] c.requires c.index_mut-list.ensures.value in
     let new = list_at ls k ++ c.args.item ∷ [] in
     let w : k < length ls = omega (arith, c.requires, length-map lists (λ v. v.items)) in
     let eq : map (λ v. v.items) (set lists k c.push.new.self) ≡ set ls k new = map-set (λ v. v.items) lists k c.push.new.self ∙ ap (set ls k) (c.in_ok-push.ensures.items ∙ ap (λ xs. xs ++ c.args.item ∷ []) (sym old)) in
-    subst (λ m. Contains (list_at m other) x) (sym eq) (grown ls k new w (λ y g. contains_more (list_at ls k) c.args.item y g) other x h)
+    subst (λ m. Contains (list_at m other) x) (sym eq) (grown ls k new w (λ y g. Contains-append_left (list_at ls k) (c.args.item ∷ []) y g) other x h)
 
 pub returns-clause-noted : goal.returns-clause-noted
 returns-clause-noted g c =
     let lists = c.args.lists.now.items in
     let k = c.args.code in
     let ls = map (λ v. v.items) lists in
-    let old = read_map (λ v. v.items) lists k c.index_mut-list.result.now [] c.requires c.index_mut-list.ensures.value in
+    let old = at_map (λ v. v.items) lists k c.index_mut-list.result.now [] c.requires c.index_mut-list.ensures.value in
     let new = list_at ls k ++ c.args.item ∷ [] in
     let w : k < length ls = omega (arith, c.requires, length-map lists (λ v. v.items)) in
     let eq : map (λ v. v.items) (set lists k c.push.new.self) ≡ set ls k new = map-set (λ v. v.items) lists k c.push.new.self ∙ ap (set ls k) (c.in_ok-push.ensures.items ∙ ap (λ xs. xs ++ c.args.item ∷ []) (sym old)) in
-    subst (λ xs. Contains xs c.args.item) (sym (ap (λ m. list_at m k) eq ∙ get_or-set_same ls k new [] w)) (contains_new (list_at ls k) c.args.item)
+    subst (λ xs. Contains xs c.args.item) (sym (ap (λ m. list_at m k) eq ∙ get_or-set_same ls k new [] w)) (Contains-push (list_at ls k) c.args.item)

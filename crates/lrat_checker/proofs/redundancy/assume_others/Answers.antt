@@ -3,7 +3,7 @@ use Rattle.std.proofs.lemmas.List.{drop_more}
 use Rattle.cnf_formula.specs.Literals.{same_literal, negation, code_of}
 use Rattle.proof_rules.specs.Judging.{assumed}
 use Rattle.proof_rules.specs.Accepting.{without_negated}
-use Rattle.lrat_checker.specs.Marking.{Extends}
+use Rattle.lrat_checker.specs.inner.Marking.{Extends}
 use Rattle.lrat_checker.proofs.Assumed.{differs, assume_step}
 use Rattle.lrat_checker.proofs.Taken.{extends_more}
 use Rattle.lrat_checker.proofs.redundancy.assume_others.Goals as goal

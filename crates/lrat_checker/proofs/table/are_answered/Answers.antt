@@ -2,10 +2,10 @@ use Rattle.std.proofs.Common.{◌≡◌, ◌+◌, ◌<◌, true, false, [], leng
 use Rattle.std.specs.Prelude.{◌&&◌}
 use Rattle.std.specs.List.{list_all}
 use Rattle.std.proofs.lemmas.List.{length-map, drop_more, drop_all}
+use Rattle.list_laws.proofs.Fronts.{at_map}
 use Rattle.cnf_formula.specs.Formulas.{IsClause}
 use Rattle.proof_rules.specs.Accepting.{is_answered}
 use Rattle.lrat_checker.specs.Stored.{answers}
-use Rattle.lrat_checker.proofs.Placed.{read_map}
 use Rattle.lrat_checker.proofs.table.are_answered.Goals as goal
 
 pub is_answered-requires : goal.is_answered-requires
@@ -13,7 +13,7 @@ is_answered-requires c =
     let clauses = c.args.clauses.now in
     let k = get_or c.args.list.now c.loop-place.place-index 0 in
     let within : k < length clauses = omega (arith, c.requires.within c.loop-place.place-index 0 c.loop-place-test.true, c.requires.many) in
-    let clause = read_map (λ v. v.items) clauses k c.index-clauses-place.result [] within c.index-clauses-place.is ∙ sym c.as_slice-clause.ensures in
+    let clause = at_map (λ v. v.items) clauses k c.index-clauses-place.result [] within c.index-clauses-place.is ∙ sym c.as_slice-clause.ensures in
     let about = c.requires.about k [] (omega (arith, within, length-map clauses (λ v. v.items))) in
     record { about = subst (IsClause c.args.marks.now.vars) clause about }
 
@@ -25,7 +25,7 @@ returns-then-not-is_answered c = λ groups n.
     let k = get_or list j 0 in
     let at = answers c.args.ids.now (map (λ v. v.items) clauses) c.args.pivot c.args.marks.now.falses groups in
     let within : k < length clauses = omega (arith, c.requires.within j 0 c.loop-place-test.true, c.requires.many) in
-    let clause = read_map (λ v. v.items) clauses k c.index-clauses-place.result [] within c.index-clauses-place.is ∙ sym c.as_slice-clause.ensures in
+    let clause = at_map (λ v. v.items) clauses k c.index-clauses-place.result [] within c.index-clauses-place.is ∙ sym c.as_slice-clause.ensures in
     let no : at k ≡ false = ap (λ ls. is_answered c.args.pivot c.args.marks.now.falses groups (get_or c.args.ids.now k 0, ls)) clause ∙ sym (c.is_answered.ensures groups n) ∙ c.if-not-is_answered.true in
     sym (c.loop-place.invariant groups n ∙ ap (list_all at) (drop_more list j 0 c.loop-place-test.true) ∙ ap (λ b. b && list_all at (drop (j + 1) list)) no)
 
@@ -37,7 +37,7 @@ loop-place-preserved c = λ groups n.
     let k = get_or list j 0 in
     let at = answers c.args.ids.now (map (λ v. v.items) clauses) c.args.pivot c.args.marks.now.falses groups in
     let within : k < length clauses = omega (arith, c.requires.within j 0 c.loop-place-test.true, c.requires.many) in
-    let clause = read_map (λ v. v.items) clauses k c.index-clauses-place.result [] within c.index-clauses-place.is ∙ sym c.as_slice-clause.ensures in
+    let clause = at_map (λ v. v.items) clauses k c.index-clauses-place.result [] within c.index-clauses-place.is ∙ sym c.as_slice-clause.ensures in
     let yes : at k ≡ true = ap (λ ls. is_answered c.args.pivot c.args.marks.now.falses groups (get_or c.args.ids.now k 0, ls)) clause ∙ sym (c.is_answered.ensures groups n) ∙ c.if-not-is_answered.false in
     c.loop-place.invariant groups n ∙ ap (list_all at) (drop_more list j 0 c.loop-place-test.true) ∙ ap (λ b. b && list_all at (drop (j + 1) list)) yes
 

@@ -13,5 +13,5 @@ returns c =
     let a = c.in_ok-push_number.ensures.appended in
     let b = c.in_ok-push_word.ensures.appended ∙ ap (λ z. z ++ 32 ∷ 100 ∷ 32 ∷ []) a in
     let d = c.in_ok-push_ids.ensures ∙ ap (λ z. z ++ trailed (map decimal c.deref.result.now)) b ∙ ap (λ xs. out ++ decimal i.id ++ 32 ∷ 100 ∷ 32 ∷ [] ++ trailed (map decimal xs)) c.deref.ensures.value in
-    let e = c.in_ok-push_word-2.ensures.appended ∙ ap (λ z. z ++ 48 ∷ 10 ∷ []) d in
+    let e = c.in_ok-push_zero.ensures ∙ ap (λ z. z ++ 48 ∷ 10 ∷ []) d in
     e ∙ deletion_text out (decimal i.id) (map decimal i.ids.items) ∙ ap (λ x. out ++ line (line_words (Deletion x))) c.deletion.view_is

@@ -12,10 +12,9 @@ returns c =
     let out = c.args.out.now.items in
     let lits : c.deref.result.now ≡ i.lits.items = c.deref.ensures.value in
     let hints : c.deref-2.result.now ≡ i.hints.items = c.deref-2.ensures.value in
-    let a = c.in_ok-push_number.ensures.appended in
-    let b = c.in_ok-push_word.ensures.appended ∙ ap (λ z. z ++ 32 ∷ []) a in
+    let b = c.in_ok-push_id.ensures in
     let d = c.in_ok-push_literals.ensures ∙ ap (λ z. z ++ trailed (map literal_word c.deref.result.now)) b ∙ ap (λ ls. out ++ decimal i.id ++ 32 ∷ [] ++ trailed (map literal_word ls)) lits in
-    let e = c.in_ok-push_word-2.ensures.appended ∙ ap (λ z. z ++ 48 ∷ 32 ∷ []) d in
+    let e = c.in_ok-push_zero.ensures ∙ ap (λ z. z ++ 48 ∷ 32 ∷ []) d in
     let f = c.in_ok-push_hints.ensures ∙ ap (λ z. z ++ trailed (map hint_word c.deref-2.result.now)) e ∙ ap (λ hs. out ++ decimal i.id ++ 32 ∷ [] ++ trailed (map literal_word i.lits.items) ++ 48 ∷ 32 ∷ [] ++ trailed (map hint_word hs)) hints in
-    let g = c.in_ok-push_word-3.ensures.appended ∙ ap (λ z. z ++ 48 ∷ 10 ∷ []) f in
+    let g = c.in_ok-push_zero-2.ensures ∙ ap (λ z. z ++ 48 ∷ 10 ∷ []) f in
     g ∙ addition_text out (decimal i.id) (map literal_word i.lits.items) (map hint_word i.hints.items) ∙ ap (λ l. out ++ line (line_words (Addition l))) c.line.view_is

@@ -9,4 +9,4 @@ pub returns-in-Ok : goal.returns-in-Ok
 returns-in-Ok c =
     let q : QuestionValue = record { topology = c.args.topology.now; spec = c.args.spec.now; limits = c.args.limits } in
     let made = made_for q _ _ c.in_ok-engine.ensures.question c.deref.ensures c.in_ok-links.ensures.links in
-    found_with _ _ _ _ (λ x. c.frontier_by.ensures.formula x ∙ c.in_ok-engine.ensures.formula x ∙ ap (λ p. ordered_formula_for p x) made) (λ x s suited. subst (λ p. OrderedFor p x s) (c.frontier_by.ensures.question ∙ made) suited) c.in-Ok.ensures.found
+    found_with _ _ _ _ (λ x. c.frontier_by.ensures.same.formula x ∙ c.in_ok-engine.ensures.formula x ∙ ap (λ p. ordered_formula_for p x) made) (λ x s suited. subst (λ p. OrderedFor p x s) (c.frontier_by.ensures.same.question ∙ made) suited) c.in-Ok.ensures.found

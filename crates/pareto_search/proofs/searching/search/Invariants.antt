@@ -1,7 +1,6 @@
-use Rattle.std.specs.Prelude.{◌≡◌, ◌↔◌, None}
-use Rattle.schedule.specs.Sends.{ScheduleValue}
-use Rattle.candidate_order.specs.declared.candidate.Candidate.{Candidate}
-use Rattle.pareto_search.specs.Passing.{HasFewerSteps, HasPassed}
+use Rattle.std.specs.Prelude.{◌≡◌}
+use Rattle.engine_rules.specs.Searches.{CanGoOn, IsSameSearch}
+use Rattle.pareto_search.specs.inner.Passing.{HasFewerSteps, HasPassed}
 use Rattle.pareto_search.specs.Recorded.{StaysWithin}
 use Rattle.pareto_search.proofs.searching.search.Given as goal
 
@@ -11,12 +10,9 @@ invariant-loop-step g l =
     let W = g.E.Engine in
     record {
       passed : HasPassed (I.question l.engine) (I.suits l.engine) (HasFewerSteps (I.question l.engine) l.step) (I.entries l.engine) l.findings;
-      running : I.stopped l.engine ≡ None;
       within : StaysWithin (I.question l.fn.engine) (I.entries l.engine) (I.stopped l.engine);
-      question : I.question l.engine ≡ I.question l.fn.engine;
-      formula : (x : Candidate) → I.formula l.engine x ≡ I.formula l.fn.engine x;
-      suits_stay : (x : Candidate) (schedule : ScheduleValue) → I.suits l.engine x schedule ↔ I.suits l.fn.engine x schedule;
+      same : IsSameSearch I l.fn.engine I l.engine;
       moves : W.moves l.fn.engine l.fn.store l.engine l.store;
-      agrees : W.agrees l.engine l.store;
+      goes_on : CanGoOn (I.stopped l.engine) (W.agrees l.engine l.store);
       steady : W.faults l.engine l.store ≡ W.faults l.fn.engine l.fn.store;
     }

@@ -2,7 +2,8 @@ use Rattle.std.proofs.Common.{◌≡◌, ◌+◌, get_or, take, length, subst, s
 use Rattle.std.proofs.lemmas.List.{get_or_default}
 use Rattle.collective_spec.specs.Collectives.{kind_in}
 use Rattle.candidate_order.specs.declared.candidate.Candidate.{Candidate}
-use Rattle.pareto_search.specs.Passing.{HasFewerSteps, IsBefore, IsUpTo, IsThrough, IsStep, HasPassed}
+use Rattle.engine_rules.proofs.Searches.{same_refl, same_trans}
+use Rattle.pareto_search.specs.inner.Passing.{HasFewerSteps, IsBefore, IsUpTo, IsThrough, IsStep, HasPassed}
 use Rattle.pareto_search.specs.Recorded.{StaysWithin}
 use Rattle.pareto_search.proofs.Places.{replaced, before_here, up_to_here, none_yet, whole_step, counts_allowed, listed_step, starts_within}
 use Rattle.pareto_search.proofs.trying.try_step.Goals as goal
@@ -23,13 +24,10 @@ loop-candidate-init g c =
     record {
       step = step;
       passed = replaced q (I.suits e) (HasFewerSteps q c.args.step) (IsThrough q c.args.step (take 0 xs)) (I.entries e) c.args.findings.now (none_yet q c.args.step xs step) c.requires.passed;
-      running = c.requires.running;
       within = starts_within q (HasFewerSteps q c.args.step) (I.entries e) (I.stopped e) (λ x h. h.0) c.requires.passed.were_passed c.requires.running;
-      question = λ i. q;
-      formula = λ x i. I.formula e x;
-      suits_stay = λ x schedule. (λ has. has, λ has. has);
+      same = same_refl;
       moves = g.met.E.Engine.moves_refl e c.args.store.now;
-      agrees = c.requires.agrees;
+      goes_on = record { running = c.requires.running; agrees = c.requires.agrees };
       steady = λ i. g.E.Engine.faults e c.args.store.now;
     }
 
@@ -64,19 +62,16 @@ loop-candidate-preserved g c =
     let none : Candidate = record { s = 0; r = 0; c = 0 } in
     let here = get_or xs i none in
     let done = c.in_ok-try_candidate.ensures in
-    let step = subst (λ a. IsStep a c.args.step xs) (sym done.question) l.invariant.step in
+    let step = subst (λ a. IsStep a c.args.step xs) (sym done.same.question) l.invariant.step in
     let through = up_to_here q c.args.step xs step i here c.loop-candidate-test.true (get_or_default xs i none here c.loop-candidate-test.true) in
     record {
       step = step;
       passed = replaced q (I.suits e) (IsUpTo q here) (IsThrough q c.args.step (take (i + 1) xs)) (I.entries e) c.try_candidate.new.findings through done.passed;
-      running = done.running;
-      within = subst (λ a. StaysWithin a (I.entries e) (I.stopped e)) l.invariant.question done.within;
-      question = done.question ∙ l.invariant.question;
-      formula = λ x. done.formula x ∙ l.invariant.formula x;
-      suits_stay = λ x schedule. (λ has. (l.invariant.suits_stay x schedule).0 ((done.suits_stay x schedule).0 has), λ has. (done.suits_stay x schedule).1 ((l.invariant.suits_stay x schedule).1 has));
+      within = subst (λ a. StaysWithin a (I.entries e) (I.stopped e)) l.invariant.same.question done.within;
+      same = same_trans l.invariant.same done.same;
       moves = g.met.E.Engine.moves_trans _ _ _ _ _ _ l.invariant.moves done.moves;
-      agrees = done.agrees;
-      steady = done.steady (λ failed. absurd cc) ∙ l.invariant.steady;
+      goes_on = done.goes_on;
+      steady = done.cause.stays (λ failed. absurd cc) ∙ l.invariant.steady;
     }
 
 pub returns-clause-passed : goal.returns-clause-passed

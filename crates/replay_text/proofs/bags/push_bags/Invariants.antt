@@ -1,6 +1,6 @@
 use Rattle.std.proofs.Common.{◌≡◌, ◌++◌, ◌∷◌}
 use Rattle.std.specs.List.{flat_map, range_with_len}
-use Rattle.replay_text.specs.Appended.{bag_word}
+use Rattle.replay_text.specs.inner.Appended.{bag_word}
 use Rattle.replay_text.proofs.bags.push_bags.Given as goal
 
 abbrev pub invariant-loop-chunk : goal.invariant-loop-chunk

@@ -9,5 +9,5 @@ pub returns : goal.returns
 returns c =
     let name = name_at c.args.names.now c.args.node in
     let held = held_by c.args.placement.now c.args.node in
-    last_append_three c.push_word.result c.args.out.now.items c.push_name.new.out.items c.push_held.new.out.items c.push_word.new.out.items name (flat_map (λ chunk. 32 ∷ decimal chunk) held) (10 ∷ []) _
-    c.in_ok-push_name.ensures c.in_ok-push_held.ensures c.push_word.ensures.appended (mapped_line name decimal held)
+    last_append_three c.push_word.result c.args.out.now.items c.push_node_name.new.out.items c.push_held.new.out.items c.push_word.new.out.items name (flat_map (λ chunk. 32 ∷ decimal chunk) held) (10 ∷ []) _
+    c.in_ok-push_node_name.ensures c.in_ok-push_held.ensures c.push_word.ensures.appended (mapped_line name decimal held)

@@ -12,9 +12,9 @@ returns c =
     let nodes : c.nodes.result ≡ nodes_of x = cc in
     let count : c.candidate.result.c ≡ x.point.candidate.c = cc in
     append_same c.push_placed_run.result c.args.out.now.items c.push_placed_run.new.out.items _ _
-    (copied_lines x c.requires.copied c.names.result.now c.topology-topology.result.now i i.pre i.post c.schedule-schedule.result.now c.in_ok-verdict.verdict c.args.order
+    (copied_lines x c.requires.copied c.names.result.now c.topology-topology.result.now i i.pre i.post c.schedule-schedule.result.now c.solves_by_run-verdict.result c.args.order
     (c.names.ensures.names ∙ ap (λ (t : NamedTopologyValue). t.names) c.topology-named.ensures.topology)
     (c.topology-topology.ensures.topology ∙ ap (λ (t : NamedTopologyValue). t.topology) c.topology-named.ensures.topology)
     (instance_is x i c.args.spec.now c.nodes.result c.candidate.result.c c.requires.spec nodes count c.in_ok-pre.ensures)
-    refl refl c.schedule-schedule.ensures c.in_ok-verdict.ensures.exact)
+    refl refl c.schedule-schedule.ensures c.solves_by_run-verdict.ensures)
     c.push_placed_run.ensures

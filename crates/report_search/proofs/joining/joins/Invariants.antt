@@ -1,5 +1,5 @@
 use Rattle.std.proofs.Common.{◌≡◌, take}
-use Rattle.report_search.specs.Reporting.{joins_of}
+use Rattle.report_search.specs.inner.Reporting.{joins_of}
 use Rattle.report_search.proofs.joining.joins.Given as goal
 
 abbrev pub invariant-loop-first : goal.invariant-loop-first

@@ -15,13 +15,13 @@ pub returns-clause-found : goal.returns-clause-found
 returns-clause-found g c =
     let q : QuestionValue = record { topology = c.args.topology.now; spec = c.args.spec.now; limits = c.args.limits } in
     let made = made_for q _ _ c.in_ok-engine.ensures.question c.deref.ensures c.in_ok-links.ensures.links in
-    found_with _ _ _ _ (λ x. c.frontier_by.ensures.formula x ∙ c.in_ok-engine.ensures.formula x ∙ alike q _ made c.requires.single x) (λ x s suited. tt) c.in_ok-frontier.ensures.found
+    found_with _ _ _ _ (λ x. c.frontier_by.ensures.same.formula x ∙ c.in_ok-engine.ensures.formula x ∙ alike q _ made c.requires.single x) (λ x s suited. tt) c.in_ok-frontier.ensures.found
 
 pub returns-clause-shelved : goal.returns-clause-shelved
 returns-clause-shelved g c =
     let q : QuestionValue = record { topology = c.args.topology.now; spec = c.args.spec.now; limits = c.args.limits } in
     let made = made_for q _ _ c.in_ok-engine.ensures.question c.deref.ensures c.in_ok-links.ensures.links in
-    shelved_for q c.frontier_by.ensures.moves made c.requires.single c.in_ok-frontier.ensures.recorded c.in_ok-frontier.ensures.agrees c.in_ok-frontier.ensures.running c.in_ok-engine.ensures.part
+    shelved_for q c.frontier_by.ensures.moves made c.requires.single c.in_ok-frontier.ensures.recorded c.in_ok-frontier.ensures.goes_on.agrees c.in_ok-frontier.ensures.goes_on.running c.in_ok-engine.ensures.part
 
 pub returns-clause-begun : goal.returns-clause-begun
 returns-clause-begun g c =

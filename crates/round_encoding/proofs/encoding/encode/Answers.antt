@@ -8,7 +8,7 @@ use Rattle.send_encoding.specs.Agreeing.{SatisfiesAs}
 use Rattle.round_encoding.specs.declared.encoding.Encoding.{Encoding}
 use Rattle.round_encoding.specs.Decoding.{decoded}
 use Rattle.round_encoding.specs.Candidates.{IsTightSolution}
-use Rattle.round_encoding.specs.Counts.{HasLinks, room}
+use Rattle.round_encoding.specs.inner.Counts.{HasLinks, room}
 use Rattle.round_encoding.specs.Frames.{own_variables}
 use Rattle.round_encoding.proofs.Counted.{placed_links}
 use Rattle.round_encoding.proofs.Encoded.{encoded}

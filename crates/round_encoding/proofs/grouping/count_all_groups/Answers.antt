@@ -3,7 +3,7 @@ use Rattle.std.specs.Prelude.{sum_by}
 use Rattle.std.proofs.Math.Nat.{mul-le-mul_right}
 use Rattle.round_encoding.specs.Frames.{Frame}
 use Rattle.round_encoding.specs.Rounding.{count_of_group}
-use Rattle.round_encoding.specs.Counts.{room}
+use Rattle.round_encoding.specs.inner.Counts.{room}
 use Rattle.round_encoding.proofs.Countings.{counts_range}
 use Rattle.round_encoding.proofs.grouping.count_all_groups.Goals as goal
 

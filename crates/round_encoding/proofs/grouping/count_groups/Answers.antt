@@ -5,7 +5,7 @@ use Rattle.schedule.specs.Links.{GroupValue}
 use Rattle.round_encoding.specs.Frames.{Frame}
 use Rattle.send_encoding.specs.Variables.{number_of}
 use Rattle.round_encoding.specs.Rounding.{count_of_group, with_count}
-use Rattle.round_encoding.specs.Counts.{room}
+use Rattle.round_encoding.specs.inner.Counts.{room}
 use Rattle.round_encoding.proofs.Countings.{counts_more}
 use Rattle.round_encoding.proofs.grouping.count_groups.Goals as goal
 

@@ -5,7 +5,7 @@ use Rattle.cnf_formula.specs.Formulas.{FormulaValue, with_clauses}
 use Rattle.round_encoding.specs.Frames.{Frame, own_variables}
 use Rattle.send_encoding.specs.Variables.{arrivals, sends, steps_of}
 use Rattle.round_encoding.specs.Rounding.{extra_in_order, count_of_rounds, count_of_group, counts_of}
-use Rattle.round_encoding.specs.Counts.{with_counts}
+use Rattle.round_encoding.specs.inner.Counts.{with_counts}
 use Rattle.round_encoding.proofs.Countings.{counts_both}
 use Rattle.round_encoding.proofs.grouping.encode_rounds.Goals as goal
 

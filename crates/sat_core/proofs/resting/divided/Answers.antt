@@ -1,5 +1,5 @@
 use Rattle.std.proofs.Common.{◌≡◌, length, ◌∙◌, subst, arith}
-use Rattle.sat_core.specs.Dividing.{IsDividing}
+use Rattle.sat_core.specs.inner.Dividing.{IsDividing}
 use Rattle.sat_core.proofs.resting.divided.Goals as goal
 
 pub loop-place-preserved : goal.loop-place-preserved

@@ -1,5 +1,5 @@
 use Rattle.std.proofs.Common.{◌≡◌, length}
-use Rattle.sat_core.specs.Dividing.{IsDividing}
+use Rattle.sat_core.specs.inner.Dividing.{IsDividing}
 use Rattle.sleeping_clauses.specs.Sleeping.{AreFew}
 use Rattle.sat_core.proofs.resting.divided.Given as goal
 

@@ -1,5 +1,5 @@
 use Rattle.std.proofs.Common.{◌≡◌, ◌<◌, Ok, length, sym, ap, ◌∙◌, subst, arith}
-use Rattle.sat_core.specs.Measure.{remaining}
+use Rattle.sat_core.specs.inner.Measure.{remaining}
 use Rattle.sleeping_clauses.specs.Sleeping.{sleeping}
 use Rattle.sat_core.specs.declared.turn.Turn.TheVariants as turn
 use Rattle.sat_core.proofs.Measure.{conflict_leaves_less}

@@ -1,4 +1,4 @@
-use Rattle.std.proofs.Common.{◌≡◌, ◌≢◌, ℕ, ◌<◌, ◌≤◌, true, length, map, Result, Ok, Err, refl, sym, ap, ◌∙◌, subst, arith}
+use Rattle.std.proofs.Common.{◌≡◌, ◌≢◌, ℕ, ◌<◌, true, length, map, Result, Ok, Err, refl, sym, ap, ◌∙◌, subst, arith}
 use Rattle.std.specs.Result.{IsErrAnd, IsOk, OnOk}
 use Rattle.std.proofs.lemmas.Result.{err_from_is_err_and}
 use Rattle.std.proofs.lemmas.Bool.{true≢false}
@@ -11,7 +11,7 @@ use Rattle.proof_rules.specs.Refuting.{Refutes, SpentLog}
 use Rattle.ledger_rules.specs.Logs.{checker_of}
 use Rattle.trail_core.specs.Meaning.{trues}
 use Rattle.sat_core.specs.Ready.{AreNumbered, AreShort, IsReady}
-use Rattle.sat_core.specs.Totals.{AreValues}
+use Rattle.sat_core.specs.inner.Totals.{AreValues}
 use Rattle.sat_core.specs.declared.fault.SolveFault.TheVariants.{LedgerFailed}
 use Rattle.sat_core.specs.declared.solving.SatAnswer.{SatAnswer}
 use Rattle.sat_core.proofs.Ending.{log_by}
@@ -42,9 +42,9 @@ no_answer is e = cc
 same_fault : {T U E : Type 0} {r : Result T E} {s : Result U E} {a b : E} → r ≡ Err a → s ≡ Err a → s ≡ Err b → r ≡ Err b
 same_fault r_is s_is s_too = cc
 
--- a count that did not fall, where the fault was another
-caused : {T E : Type 0} {fault : E} {before now : ℕ} {r : Result T E} → before ≤ now → r ≢ Err fault → HasCause fault before now r
-caused later other = record { later = later; rose = λ e. absurd (other e) }
+-- a count that stands still, where the fault was another
+caused : {T E : Type 0} {fault : E} {count : ℕ} {r : Result T E} → r ≢ Err fault → HasCause fault count count r
+caused other = record { later = omega arith; rose = λ e. absurd (other e); stays = λ _. refl }
 
 pub search-end-requires-clause-ready : goal.search-end-requires-clause-ready
 search-end-requires-clause-ready g c =
@@ -93,8 +93,11 @@ returns g c =
       agrees = after (g.L.Ledger.agrees now c.search-end.new.store) c.answer_of.result c.search-end.result c.answer_of.ensures.answer c.search-end.ensures.agrees;
       base = c.search-end.ensures.base;
       limit = c.search-end.ensures.limit;
-      cause = record { later = c.search-end.ensures.cause.later; rose = λ e. c.search-end.ensures.cause.rose (c.answer_of.ensures.fault.0 e) };
-      steady = λ other. c.search-end.ensures.steady (λ e. other (c.answer_of.ensures.fault.1 e));
+      cause = record {
+        later = c.search-end.ensures.cause.later;
+        rose = λ e. c.search-end.ensures.cause.rose (c.answer_of.ensures.fault.0 e);
+        stays = λ other. c.search-end.ensures.cause.stays (λ e. other (c.answer_of.ensures.fault.1 e));
+      };
     }
 
 pub returns-in_err-core : goal.returns-in_err-core
@@ -117,6 +120,5 @@ returns-in_err-core g c =
       agrees = held c.from_residual.result c.requires.agrees;
       base = refl;
       limit = refl;
-      cause = caused (omega arith) other;
-      steady = λ _. refl;
+      cause = caused other;
     }

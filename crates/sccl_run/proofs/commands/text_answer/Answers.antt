@@ -7,7 +7,7 @@ use Rattle.run_rules.specs.Refusals.{refused_at}
 use Rattle.run_rules.specs.Tasks.{limit, task_of}
 use Rattle.run_rules.proofs.Answered.{refused_answers}
 use Rattle.run_rules.proofs.Ends.{command_ends}
-use Rattle.sccl_run.specs.Answering.{due_for}
+use Rattle.sccl_run.specs.inner.Answering.{due_for}
 use Rattle.sccl_run.proofs.Dues.{long_due}
 use Rattle.sccl_run.proofs.commands.text_answer.Goals as goal
 

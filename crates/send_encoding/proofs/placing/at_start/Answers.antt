@@ -5,7 +5,7 @@ use Rattle.schedule.specs.Placed.{holds}
 use Rattle.cnf_formula.specs.Literals.{negation}
 use Rattle.cnf_formula.specs.Formulas.{with_clauses}
 use Rattle.send_encoding.specs.Variables.{arrival, pairs_of}
-use Rattle.send_encoding.specs.Parts.{node_starts}
+use Rattle.send_encoding.specs.inner.Parts.{node_starts}
 use Rattle.send_encoding.proofs.Picking.{pairs_of_loops}
 use Rattle.send_encoding.proofs.placing.at_start.Goals as goal
 

@@ -1,7 +1,7 @@
 use Rattle.std.proofs.Common.{◌≡◌}
 use Rattle.std.specs.List.{flat_map, range_with_len}
 use Rattle.cnf_formula.specs.Formulas.{with_clauses}
-use Rattle.send_encoding.specs.Parts.{node_keeps}
+use Rattle.send_encoding.specs.inner.Parts.{node_keeps}
 use Rattle.send_encoding.proofs.placing.keeps.Given as goal
 
 abbrev pub invariant-loop-chunk : goal.invariant-loop-chunk

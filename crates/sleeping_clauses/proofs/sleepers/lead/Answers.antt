@@ -2,8 +2,9 @@ use Rattle.std.proofs.Common.{◌≡◌, ◌<◌, [], ◌∷◌, ◌++◌, lengt
 use Rattle.std.specs.Prelude.{Contains}
 use Rattle.std.proofs.lemmas.List.{get_or-set_same, length-map, map-set, set-get_or}
 use Rattle.std.proofs.lemmas.List.Elements.{Contains-append_left, Contains-push}
+use Rattle.list_laws.proofs.Fronts.{at_map}
 use Rattle.sleeping_clauses.specs.Sleeping.{list_at}
-use Rattle.sleeping_clauses.proofs.Found.{read_map, grown}
+use Rattle.sleeping_clauses.proofs.Found.{grown}
 use Rattle.sleeping_clauses.proofs.sleepers.lead.Goals as goal
 
 pub returns-in_err-push-clause-kept : goal.returns-in_err-push-clause-kept
@@ -11,7 +12,7 @@ returns-in_err-push-clause-kept c = λ other x h.
     let lists = c.args.leads.now.items in
     let k = c.args.code in
     let ls = map (λ v. v.items) lists in
-    let old = read_map (λ v. v.items) lists k c.index_mut-list.result.now [] c.requires c.index_mut-list.ensures.value in
+    let old = at_map (λ v. v.items) lists k c.index_mut-list.result.now [] c.requires c.index_mut-list.ensures.value in
     let eq : map (λ v. v.items) (set lists k c.push.new.self) ≡ ls = map-set (λ v. v.items) lists k c.push.new.self ∙ ap (set ls k) (c.in_err-push.ensures.items ∙ sym old) ∙ set-get_or ls k [] in
     subst (λ m. Contains (list_at m other) x) (sym eq) h
 
@@ -20,7 +21,7 @@ returns-clause-kept c = λ other x h.
     let lists = c.args.leads.now.items in
     let k = c.args.code in
     let ls = map (λ v. v.items) lists in
-    let old = read_map (λ v. v.items) lists k c.index_mut-list.result.now [] c.requires c.index_mut-list.ensures.value in
+    let old = at_map (λ v. v.items) lists k c.index_mut-list.result.now [] c.requires c.index_mut-list.ensures.value in
     let new = list_at ls k ++ c.args.led ∷ [] in
     let w : k < length ls = omega (arith, c.requires, length-map lists (λ v. v.items)) in
     let eq : map (λ v. v.items) (set lists k c.push.new.self) ≡ set ls k new = map-set (λ v. v.items) lists k c.push.new.self ∙ ap (set ls k) (c.in_ok-push.ensures.items ∙ ap (λ xs. xs ++ c.args.led ∷ []) (sym old)) in
@@ -31,7 +32,7 @@ returns-clause-led c =
     let lists = c.args.leads.now.items in
     let k = c.args.code in
     let ls = map (λ v. v.items) lists in
-    let old = read_map (λ v. v.items) lists k c.index_mut-list.result.now [] c.requires c.index_mut-list.ensures.value in
+    let old = at_map (λ v. v.items) lists k c.index_mut-list.result.now [] c.requires c.index_mut-list.ensures.value in
     let new = list_at ls k ++ c.args.led ∷ [] in
     let w : k < length ls = omega (arith, c.requires, length-map lists (λ v. v.items)) in
     let eq : map (λ v. v.items) (set lists k c.push.new.self) ≡ set ls k new = map-set (λ v. v.items) lists k c.push.new.self ∙ ap (set ls k) (c.in_ok-push.ensures.items ∙ ap (λ xs. xs ++ c.args.led ∷ []) (sym old)) in

@@ -10,7 +10,7 @@ use Rattle.topology_text.proofs.parts.groups_part.Goals.{in-Some+then-not-begins
 pub returns-in-Err-Refused-clause-read : goal.returns-in-Err-Refused-clause-read
 returns-in-Err-Refused-clause-read c =
     let before = c.loop-line.groups.items in
-    let row = row_at c.args.text.now c.in-Some.line in
+    let row = row_at c.text-text.result.now c.in-Some.line in
     let here : first c.loop-line.lines.place.rows ≡ Some row = c.in-Some.ensures.some ∙ ap (λ t. Some (row_at t c.in-Some.line)) c.loop-line.invariant.text in
     let count : c.len.result ≡ length before = search rules in
     let failed : group_row c.args.names.now.keys c.len.result row ≡ Err c.in-Err-Refused.code = rw c.in-Err-Refused.field-0-is at c.in-Err-Refused.ensures.read in

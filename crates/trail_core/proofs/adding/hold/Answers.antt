@@ -21,7 +21,7 @@ returns-in_err-number-clause-kept c =
     let a : AreLists t.vars n = subst (λ m. AreLists m n) c.vars.ensures c.admit_all.ensures.are_lists in
     let w : IsWatched rows n = watched_more rows c.args.lists.now n c.requires.kept.can.watched c.admit_all.ensures.lists c.admit_all.ensures.more c.admit_all.ensures.room in
     let k : IsKept rows n t c.args.head.now c.args.short.now.items = kept_lists rows c.args.lists.now n t c.args.head.now c.args.short.now.items c.requires.kept a w in
-    subst (λ ss. IsKept c.push.new.self n t c.args.head.now ss) (sym c.reserve.ensures.items) (subst (λ rs. IsKept rs n t c.args.head.now c.args.short.now.items) (sym c.in_err-number.ensures.err) k)
+    subst (λ ss. IsKept c.push.new.self n t c.args.head.now ss) (sym c.admit_short.ensures.items) (subst (λ rs. IsKept rs n t c.args.head.now c.args.short.now.items) (sym c.in_err-number.ensures.err) k)
 
 pub add-requires-then-lits-gt1-clause-room : goal.add-requires-then-lits-gt1-clause-room
 add-requires-then-lits-gt1-clause-room c =
@@ -56,7 +56,7 @@ returns-clause-kept c =
     let uses : (k : ℕ) → get_or old.uses k 0 + occurrences r k ≤ get_or n.uses k 0 = c.in_ok-admit_all.ensures.ok in
     let fresh : Fresh t r = record { first_open = λ h. (e.above h).0; second_recent = λ h. (e.above h).1; long = λ h. (e.above h).2 } in
     let lens = c.admit_all.ensures.are_lists in
-    let shorts : c.reserve.new.self.items ≡ short = c.reserve.ensures.items in
+    let shorts : c.admit_short.new.short.items ≡ short = c.admit_short.ensures.items in
     elim c.if-lits-gt1.branch [
       | then-lits-gt1 b ↦
           let h = b.if-lits-gt1.true in

@@ -71,8 +71,12 @@ returns-in-Ok-try_candidate-clause-unknown g c = λ n e.
     let u = c.in-Ok-try_candidate.ensures.outcome.unknown n same in
     (u.0, subst (λ ls. SpentOn (formula_for q c.args.candidate) ls n) (sym c.note.ensures.log) u.1)
 
-pub returns-in-Ok-try_candidate-clause-formula : goal.returns-in-Ok-try_candidate-clause-formula
-returns-in-Ok-try_candidate-clause-formula g c = λ x. ap (λ p. formula_for (asked p) x) c.note.ensures.question
+pub returns-in-Ok-try_candidate-clause-same : goal.returns-in-Ok-try_candidate-clause-same
+returns-in-Ok-try_candidate-clause-same g c = record {
+  question = ap asked c.note.ensures.question;
+  formula = λ x. ap (λ p. formula_for (asked p) x) c.note.ensures.question;
+  suits = λ x schedule. (λ _. tt, λ _. tt);
+}
 
 pub returns-in-Ok-try_candidate-clause-moves : goal.returns-in-Ok-try_candidate-clause-moves
 returns-in-Ok-try_candidate-clause-moves g c =
@@ -91,8 +95,8 @@ returns-in-Ok-try_candidate-clause-moves g c =
       begins = c.try_candidate.ensures.begins;
     })
 
-pub returns-in-Ok-try_candidate-clause-agrees : goal.returns-in-Ok-try_candidate-clause-agrees
-returns-in-Ok-try_candidate-clause-agrees g c =
+pub returns-in-Ok-try_candidate-clause-goes_on : goal.returns-in-Ok-try_candidate-clause-goes_on
+returns-in-Ok-try_candidate-clause-goes_on g c =
     let T = g.H.Shelf.tells in
     let F = g.H.Shelf.file in
     let store = c.args.store.now in
@@ -109,5 +113,8 @@ returns-in-Ok-try_candidate-clause-agrees g c =
       tells = c.try_candidate.ensures.told;
       begins = c.try_candidate.ensures.begins;
     } in
-    settled_agrees a b c.args.candidate c.of.result s c.requires.agrees
-    (λ t. subst (λ kind. HasFiles a.part a.question b.files (c.args.candidate, kind)) (sym c.of.ensures) (c.in-Ok-try_candidate.ensures.files t))
+    record {
+      running = c.note.ensures.stopped ∙ c.requires.running;
+      agrees = settled_agrees a b c.args.candidate c.of.result s c.requires.agrees
+          (λ t. subst (λ kind. HasFiles a.part a.question b.files (c.args.candidate, kind)) (sym c.of.ensures) (c.in-Ok-try_candidate.ensures.files t));
+    }

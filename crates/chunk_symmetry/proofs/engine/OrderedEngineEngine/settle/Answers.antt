@@ -36,11 +36,12 @@ returns-in-Ok-try_candidate-clause-unknown g c = λ n e.
     let u = c.in-Ok-try_candidate.ensures.proves.unknown n same in
     (u.0, spent_same (ordered_formula_for q c.args.candidate) c.in-Ok-try_candidate.field-0.lines.items c.note.new.self.log.items n c.note.ensures.log u.1)
 
-pub returns-in-Ok-try_candidate-clause-formula : goal.returns-in-Ok-try_candidate-clause-formula
-returns-in-Ok-try_candidate-clause-formula g c = λ x. ap (λ p. ordered_formula_for (asked p) x) c.note.ensures.question
-
-pub returns-in-Ok-try_candidate-clause-suits : goal.returns-in-Ok-try_candidate-clause-suits
-returns-in-Ok-try_candidate-clause-suits g c = λ x schedule. (
-  λ suits. subst (λ p. OrderedFor (asked p) x schedule) c.note.ensures.question suits,
-  λ suits. subst (λ p. OrderedFor (asked p) x schedule) (sym c.note.ensures.question) suits,
-)
+pub returns-in-Ok-try_candidate-clause-same : goal.returns-in-Ok-try_candidate-clause-same
+returns-in-Ok-try_candidate-clause-same g c = record {
+  question = ap asked c.note.ensures.question;
+  formula = λ x. ap (λ p. ordered_formula_for (asked p) x) c.note.ensures.question;
+  suits = λ x schedule. (
+    λ suits. subst (λ p. OrderedFor (asked p) x schedule) c.note.ensures.question suits,
+    λ suits. subst (λ p. OrderedFor (asked p) x schedule) (sym c.note.ensures.question) suits,
+  );
+}

@@ -8,4 +8,4 @@ pub returns-clause-ahead : goal.returns-clause-ahead
 returns-clause-ahead c =
     let before = c.args.self.now in
     let line = c.args.line.now in
-    c.in_ok-accept.ensures.accepted ∙ ap (λ k. with_line k line) (before.checks c.if-self.false) ∙ sym (after_more before.lines.items (start_of before.checker.formula) line)
+    c.in_ok-accept.ensures.accepted ∙ ap (λ k. with_line k line) (before.checks c.if-self.false) ∙ sym (after_more before.kept.lines.items (start_of before.kept.base.now) line)

@@ -50,10 +50,10 @@ invariant_of-self-in-Ok-settle g c =
     let now : entries ≡ e.entries.items ++ (x, kind) ∷ [] = joined x kind c.push_reserved-in-Ok-settle.ensures.items c.reserve.ensures.items in
     let more : g.E.EngineView.entries inner ≡ g.E.EngineView.entries e.inner ++ (x, kind) ∷ [] = c.in-Ok-settle.ensures.entries ∙ ap (λ k. g.E.EngineView.entries e.inner ++ (x, k) ∷ []) (sym c.of.ensures) in
     record {
-      none = subst (HasNoneCarried old) (sym c.in-Ok-settle.ensures.question) e.none;
+      none = subst (HasNoneCarried old) (sym c.in-Ok-settle.ensures.same.question) e.none;
       alone = alone_with old e.entries.items entries x kind now e.alone (λ is. not_both old x other is);
       kept = kept_with old e.entries.items entries (g.E.EngineView.entries e.inner) (g.E.EngineView.entries inner) x kind now more other e.kept;
-      stops = stops_nowhere (g.E.EngineView.stopped inner) e.stopped c.in-Ok-settle.ensures.running;
+      stops = stops_nowhere (g.E.EngineView.stopped inner) e.stopped c.in-Ok-settle.ensures.goes_on.running;
     }
 
 pub invariant_of-self-in-Err : goal.invariant_of-self-in-Err
@@ -61,7 +61,7 @@ invariant_of-self-in-Err g c =
     let e = c.args.self.now in
     let same : c.reserve.new.self.items ≡ e.entries.items = c.reserve.ensures.items in
     record {
-      none = subst (HasNoneCarried e.old.items) (sym c.in-Err.ensures.question) e.none;
+      none = subst (HasNoneCarried e.old.items) (sym c.in-Err.ensures.same.question) e.none;
       alone = subst (RefutesCarried e.old.items) (sym same) e.alone;
       kept = c.in-Err.ensures.kept ∙ e.kept ∙ ap (not_carried e.old.items) (sym same);
       stops = λ x at. sym c.in-Err.ensures.stopped ∙ at;

@@ -5,9 +5,9 @@ use Rattle.frontier_audit.proofs.part_question.PartQuestion.formula.Goals as goa
 pub encode_candidate-requires : goal.encode_candidate-requires
 encode_candidate-requires c =
     let a = c.self.inside in
-    is_sought a.topology a.searched a.spec a.limits c.args.self.now c.self.view_is c.self.invariant c.args.candidate c.requires
+    is_sought a.topology.now c.deref.result.now a.spec a.limits c.args.self.now c.self.view_is (c.self.invariant.0, c.deref.ensures ∙ c.self.invariant.1) c.args.candidate c.requires
 
 pub returns : goal.returns
 returns c =
     let a = c.self.inside in
-    c.in_ok-encoding.ensures.formula a.limits ∙ formula_is a.topology a.searched a.spec a.limits c.args.self.now c.self.view_is c.self.invariant c.args.candidate
+    c.in_ok-encoding.ensures.formula a.limits ∙ formula_is a.topology.now c.deref.result.now a.spec a.limits c.args.self.now c.self.view_is (c.self.invariant.0, c.deref.ensures ∙ c.self.invariant.1) c.args.candidate

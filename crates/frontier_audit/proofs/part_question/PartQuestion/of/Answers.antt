@@ -1,8 +1,8 @@
 use Rattle.std.proofs.Common.{sym, subst, ap, ◌∙◌}
 use Rattle.topology_text.specs.Value.{NamedTopologyValue}
 use Rattle.report_form.specs.Reports.{WordsValue, question_of}
-use Rattle.frontier_audit.specs.Auditable.{IsAuditable}
-use Rattle.frontier_audit.proofs.Asking.{made_of, part_asked, searched_is}
+use Rattle.frontier_audit.specs.inner.Auditable.{IsAuditable}
+use Rattle.frontier_audit.proofs.Asking.{made_of, part_asked}
 use Rattle.frontier_audit.proofs.part_question.PartQuestion.of.Goals as goal
 
 pub invariant_of-result : goal.invariant_of-result
@@ -11,10 +11,8 @@ invariant_of-result c =
     let part = c.args.part in
     let named = c.topology-topology.ensures.topology ∙ ap (λ (t : NamedTopologyValue). t.topology) c.topology-named.ensures.topology in
     let spec = c.in_ok-spec.ensures ∙ ap (λ (w : WordsValue). (question_of w c.topology-named.result.now part).spec) c.words-words.ensures.words ∙ ap (λ (t : NamedTopologyValue). (question_of r.words t part).spec) c.topology-named.ensures.topology in
-    let made = made_of c.in_ok-copied.field-0 c.in_ok-spec.spec c.limits.result (question_of r.words r.topology part) (c.in_ok-copied.ensures ∙ named) spec (c.limits.ensures ∙ ap (λ (w : WordsValue). w.limits) c.words-words.ensures.words) in (
-      subst IsAuditable (sym made) (part_asked r c.words-words.ensures.limits part c.requires.part c.requires.small),
-      searched_is c.in_ok-copied.field-0 c.topology-topology.result.now c.in_ok-searched.searched c.in_ok-spec.spec c.limits.result c.in_ok-copied.ensures c.in_ok-searched.ensures,
-    )
+    let made = made_of c.topology-topology.result.now c.in_ok-spec.spec c.limits.result (question_of r.words r.topology part) named spec (c.limits.ensures ∙ ap (λ (w : WordsValue). w.limits) c.words-words.ensures.words) in
+    (subst IsAuditable (sym made) (part_asked r c.words-words.ensures.limits part c.requires.part c.requires.small), c.in_ok-searched.ensures.links)
 
 pub returns : goal.returns
 returns c =
@@ -22,4 +20,4 @@ returns c =
     let part = c.args.part in
     let named = c.topology-topology.ensures.topology ∙ ap (λ (t : NamedTopologyValue). t.topology) c.topology-named.ensures.topology in
     let spec = c.in_ok-spec.ensures ∙ ap (λ (w : WordsValue). (question_of w c.topology-named.result.now part).spec) c.words-words.ensures.words ∙ ap (λ (t : NamedTopologyValue). (question_of r.words t part).spec) c.topology-named.ensures.topology in
-    made_of c.in_ok-copied.field-0 c.in_ok-spec.spec c.limits.result (question_of r.words r.topology part) (c.in_ok-copied.ensures ∙ named) spec (c.limits.ensures ∙ ap (λ (w : WordsValue). w.limits) c.words-words.ensures.words)
+    made_of c.topology-topology.result.now c.in_ok-spec.spec c.limits.result (question_of r.words r.topology part) named spec (c.limits.ensures ∙ ap (λ (w : WordsValue). w.limits) c.words-words.ensures.words)

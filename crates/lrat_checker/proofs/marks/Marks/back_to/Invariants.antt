@@ -1,5 +1,5 @@
 use Rattle.std.proofs.Common.{◌≡◌, ◌≤◌, length, take, vec_len}
-use Rattle.lrat_checker.specs.Marking.{IsCounted}
+use Rattle.lrat_checker.specs.inner.Marking.{IsCounted}
 use Rattle.lrat_checker.proofs.marks.Marks.back_to.Given as goal
 
 abbrev pub invariant-loop-self : goal.invariant-loop-self

@@ -2,13 +2,14 @@ use Rattle.std.proofs.Common.{◌≡◌, ◌<◌, true, [], length, map, get_or,
 use Rattle.std.specs.Prelude.{All, filter}
 use Rattle.std.specs.List.{list_all}
 use Rattle.std.proofs.lemmas.List.{length-map, length-set}
+use Rattle.cnf_formula.proofs.Clauses.{negation_about}
+use Rattle.cnf_formula.proofs.Codes.{code_within}
+use Rattle.list_laws.proofs.Fronts.{at_map}
 use Rattle.cnf_formula.specs.Formulas.{IsAbout}
 use Rattle.cnf_formula.specs.Literals.{code_of, negation}
 use Rattle.proof_rules.specs.Accepting.{is_answered}
 use Rattle.lrat_checker.specs.Stored.{list_at, is_held, answers, IsIndexed, IsStored}
-use Rattle.lrat_checker.proofs.Placed.{read_map, live_within}
-use Rattle.lrat_checker.proofs.Marked.{code_within}
-use Rattle.lrat_checker.proofs.Taken.{negated_about}
+use Rattle.lrat_checker.proofs.Placed.{live_within}
 use Rattle.lrat_checker.proofs.Noted.{answered_by_list}
 use Rattle.lrat_checker.proofs.Cleaned.{cleaned, all_held, stored_cleaned}
 use Rattle.lrat_checker.proofs.table.ClauseTable.all_answered.Goals as goal
@@ -20,12 +21,12 @@ are_answered-requires-clause-within c =
     let more = map (λ v. v.items) c.drop_gone.new.lists.items in
     let vars : c.args.self.now.vars ≡ i.vars = sym (ap (λ t. t.vars) c.self.view_is) in
     let code : c.code-code.result ≡ code_of (negation c.args.pivot) = c.code-code.ensures.code ∙ ap code_of c.negated.ensures in
-    let bound = code_within i.vars (negation c.args.pivot) (negated_about i.vars c.args.pivot (subst (λ n. IsAbout n c.args.pivot) vars c.requires.pivot)) in
+    let bound = code_within i.vars (negation c.args.pivot) (negation_about i.vars c.args.pivot (subst (λ n. IsAbout n c.args.pivot) vars c.requires.pivot)) in
     let known : c.code-code.result < length lists = omega (arith, code, bound, c.self.invariant.indexed.long) in
     let new : more ≡ cleaned i.live.items lists c.code-code.result = c.drop_gone.ensures ∙ ap (λ bs. cleaned bs lists c.code-code.result) c.deref.ensures.value in
     let held = all_held i.live.items lists more c.code-code.result known new in
     let known' : c.code-code.result < length c.drop_gone.new.lists.items = omega (arith, known, ap length new, length-set lists c.code-code.result (filter (is_held i.live.items) (list_at lists c.code-code.result)), length-map c.drop_gone.new.lists.items (λ v. v.items)) in
-    let list : list_at more c.code-code.result ≡ c.deref-4.result.now = read_map (λ v. v.items) c.drop_gone.new.lists.items c.code-code.result c.index.result.now [] known' c.index.ensures ∙ sym c.deref-4.ensures.value in
+    let list : list_at more c.code-code.result ≡ c.deref-4.result.now = at_map (λ v. v.items) c.drop_gone.new.lists.items c.code-code.result c.index.result.now [] known' c.index.ensures ∙ sym c.deref-4.ensures.value in
     subst (All (λ k. k < length c.deref-2.result.now)) list (λ j d w. let here = live_within i.live.items (get_or (list_at more c.code-code.result) j d) (held j d w) in omega (arith, here, c.self.invariant.lives, ap length c.deref-2.ensures.value))
 
 pub invariant_of-self : goal.invariant_of-self
@@ -35,7 +36,7 @@ invariant_of-self c =
     let more = map (λ v. v.items) c.drop_gone.new.lists.items in
     let vars : c.args.self.now.vars ≡ i.vars = sym (ap (λ t. t.vars) c.self.view_is) in
     let code : c.code-code.result ≡ code_of (negation c.args.pivot) = c.code-code.ensures.code ∙ ap code_of c.negated.ensures in
-    let bound = code_within i.vars (negation c.args.pivot) (negated_about i.vars c.args.pivot (subst (λ n. IsAbout n c.args.pivot) vars c.requires.pivot)) in
+    let bound = code_within i.vars (negation c.args.pivot) (negation_about i.vars c.args.pivot (subst (λ n. IsAbout n c.args.pivot) vars c.requires.pivot)) in
     let known : c.code-code.result < length lists = omega (arith, code, bound, c.self.invariant.indexed.long) in
     let new : more ≡ cleaned i.live.items lists c.code-code.result = c.drop_gone.ensures ∙ ap (λ bs. cleaned bs lists c.code-code.result) c.deref.ensures.value in
     subst (λ ls. IsStored i.vars i.ids.items i.live.items (map (λ v. v.items) i.clauses.items) ls (map (λ v. v.items) i.leads.items)) (sym new)
@@ -48,12 +49,12 @@ returns-clause-answer c = λ groups n.
     let more = map (λ v. v.items) c.drop_gone.new.lists.items in
     let vars : c.args.self.now.vars ≡ i.vars = sym (ap (λ t. t.vars) c.self.view_is) in
     let code : c.code-code.result ≡ code_of (negation c.args.pivot) = c.code-code.ensures.code ∙ ap code_of c.negated.ensures in
-    let bound = code_within i.vars (negation c.args.pivot) (negated_about i.vars c.args.pivot (subst (λ n. IsAbout n c.args.pivot) vars c.requires.pivot)) in
+    let bound = code_within i.vars (negation c.args.pivot) (negation_about i.vars c.args.pivot (subst (λ n. IsAbout n c.args.pivot) vars c.requires.pivot)) in
     let known : c.code-code.result < length lists = omega (arith, code, bound, c.self.invariant.indexed.long) in
     let new : more ≡ cleaned i.live.items lists c.code-code.result = c.drop_gone.ensures ∙ ap (λ bs. cleaned bs lists c.code-code.result) c.deref.ensures.value in
     let held = all_held i.live.items lists more c.code-code.result known new in
     let known' : c.code-code.result < length c.drop_gone.new.lists.items = omega (arith, known, ap length new, length-set lists c.code-code.result (filter (is_held i.live.items) (list_at lists c.code-code.result)), length-map c.drop_gone.new.lists.items (λ v. v.items)) in
-    let list : list_at more c.code-code.result ≡ c.deref-4.result.now = read_map (λ v. v.items) c.drop_gone.new.lists.items c.code-code.result c.index.result.now [] known' c.index.ensures ∙ sym c.deref-4.ensures.value in
+    let list : list_at more c.code-code.result ≡ c.deref-4.result.now = at_map (λ v. v.items) c.drop_gone.new.lists.items c.code-code.result c.index.result.now [] known' c.index.ensures ∙ sym c.deref-4.ensures.value in
     let clauses = map (λ v. v.items) i.clauses.items in
     let pivot = c.args.pivot in
     let falses = c.args.marks.now.falses in

@@ -1,10 +1,10 @@
 use Rattle.std.proofs.Common.{◌+◌, ◌<◌, ◌≤◌, ℕ, List, [], ◌∷◌, ◌++◌, false, length, map, get_or, sym, ap, ◌∙◌, subst, arith}
 use Rattle.std.specs.Prelude.{if◌then◌else◌}
 use Rattle.std.proofs.lemmas.List.{get_or_read, length-map}
+use Rattle.list_laws.proofs.Fronts.{at_map}
 use Rattle.cnf_formula.specs.Formulas.{IsClause}
 use Rattle.cnf_formula.specs.Literals.{LitValue}
 use Rattle.lrat_checker.specs.Stored.{TableValue, HasForgotten}
-use Rattle.lrat_checker.proofs.Placed.{read_map}
 use Rattle.lrat_checker.proofs.Forgotten.{IsPart, part_push, part_skip, part_all}
 use Rattle.lrat_checker.proofs.table.ClauseTable.forget.Goals as goal
 use Rattle.lrat_checker.proofs.table.ClauseTable.forget.Goals.{then-held+in_ok-push, else-held+else-place-first}
@@ -24,7 +24,7 @@ push-requires-clause-about c =
     let k = c.loop-place.place in
     let w : k < length i.ids.items = omega (arith, c.loop-place-test.true, c.loop-place.auto.place-end, c.len-place-end.ensures) in
     let many : k < length i.clauses.items = omega (arith, w, c.self.invariant.many, length-map i.clauses.items (λ v. v.items)) in
-    let clause = read_map (λ v. v.items) i.clauses.items k c.index-then-held.result.now [] many c.index-then-held.ensures ∙ sym c.as_slice.ensures in
+    let clause = at_map (λ v. v.items) i.clauses.items k c.index-then-held.result.now [] many c.index-then-held.ensures ∙ sym c.as_slice.ensures in
     let about = c.self.invariant.about k [] (omega (arith, w, c.self.invariant.many)) in
     subst (λ n. IsClause n c.as_slice.result.now) (sym c.loop-place.invariant.vars) (subst (IsClause i.vars) clause about)
 
@@ -41,7 +41,7 @@ loop-place-preserved c =
     elim c.if-held.branch [
       | then-held+in_ok-push x ↦
           let many : k < length i.clauses.items = omega (arith, w, s.many, length-map i.clauses.items (λ v. v.items)) in
-          let clause = read_map (λ v. v.items) i.clauses.items k x.index-then-held.result.now [] many x.index-then-held.ensures ∙ sym x.as_slice.ensures in
+          let clause = at_map (λ v. v.items) i.clauses.items k x.index-then-held.result.now [] many x.index-then-held.ensures ∙ sym x.as_slice.ensures in
           let number = get_or_read i.ids.items k x.index.result.now w x.index.ensures 0 in
           let make : ℕ → List LitValue → TableValue = λ n ls. record { vars = t.vars; clauses = t.clauses ++ ls ∷ []; held = t.held ++ (if b then (n, ls) ∷ [] else []); last = n } in
           let is = x.table-is ∙ x.in_ok-push.ensures.added ∙ ap (λ n. make n x.as_slice.result.now) number ∙ ap (make (get_or i.ids.items k 0)) (sym clause) in

@@ -1,7 +1,7 @@
 use Rattle.std.proofs.Common.{◌≡◌, true, false, take, map}
 use Rattle.std.specs.List.{list_any}
 use Rattle.cnf_formula.specs.Literals.{LitValue, has_literal, code_of}
-use Rattle.lrat_checker.specs.Leads.{signature_of}
+use Rattle.lrat_checker.specs.inner.Leads.{signature_of}
 use Rattle.lrat_checker.specs.Stored.{list_at, finds}
 use Rattle.lrat_checker.proofs.table.ClauseTable.has_subset.Given as goal
 

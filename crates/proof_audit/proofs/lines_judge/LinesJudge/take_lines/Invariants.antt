@@ -1,5 +1,5 @@
 use Rattle.std.proofs.Common.{◌≡◌, ◌+◌, ℕ, true, None, List, [], length}
-use Rattle.proof_audit.specs.Lines.{left_says, lines_pass}
+use Rattle.proof_audit.specs.inner.Lines.{left_says, lines_pass}
 use Rattle.proof_audit.proofs.lines_judge.LinesJudge.take_lines.Given as goal
 
 abbrev pub invariant-loop-line : goal.invariant-loop-line

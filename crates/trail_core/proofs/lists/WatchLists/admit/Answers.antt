@@ -1,8 +1,7 @@
-use Rattle.std.proofs.Common.{◌≡◌, ◌<◌, ◌≤◌, [], map, length, get_or, set, refl, sym, ap, subst, ◌∙◌, arith}
+use Rattle.std.proofs.Common.{◌≡◌, ◌<◌, ◌≤◌, map, length, get_or, set, refl, sym, ap, subst, ◌∙◌, arith}
 use Rattle.std.proofs.lemmas.List.{get_or_read, length-map}
-use Rattle.list_laws.proofs.Fronts.{at_map, same_map}
+use Rattle.list_laws.proofs.Fronts.{same_map}
 use Rattle.cnf_formula.specs.Literals.{code_of}
-use Rattle.trail_core.specs.Watching.{list_at}
 use Rattle.trail_core.proofs.Rooms.{no_less, at_written}
 use Rattle.trail_core.proofs.lists.WatchLists.admit.Goals as goal
 
@@ -54,6 +53,6 @@ returns-clause-ok c =
     let r : map (λ z. z.capacity) xs ≡ c.args.self.now.rooms = ap (λ w. w.rooms) c.self.view_is in
     let u : c.self.inside.uses.items ≡ c.args.self.now.uses = ap (λ w. w.uses) c.self.view_is in
     let n : k < length xs = omega (arith, c.code-code.ensures.code, c.requires.known, ap length v, length-map xs (λ z. z.items)) in
-    let known : c.index-uses.result.now ≡ get_or c.args.self.now.uses (code_of c.args.lit) 0 = get_or_read c.self.inside.uses.items k c.index-uses.result.now (omega (arith, c.code-code.ensures.code, c.requires.uses, ap length u)) c.index-uses.ensures 0 ∙ ap (λ ys. get_or ys k 0) u ∙ ap (λ m. get_or c.args.self.now.uses m 0) c.code-code.ensures.code in
+    let known : c.index_mut-uses.result.now ≡ get_or c.args.self.now.uses (code_of c.args.lit) 0 = get_or_read c.self.inside.uses.items k c.index_mut-uses.result.now (omega (arith, c.code-code.ensures.code, c.requires.uses, ap length u)) c.index_mut-uses.ensures.value 0 ∙ ap (λ ys. get_or ys k 0) u ∙ ap (λ m. get_or c.args.self.now.uses m 0) c.code-code.ensures.code in
     let written : get_or (map (λ z. z.capacity) (set xs k c.make_room.new.list)) (code_of c.args.lit) 0 ≡ c.make_room.new.list.capacity = ap (λ m. get_or (map (λ z. z.capacity) (set xs k c.make_room.new.list)) m 0) (sym c.code-code.ensures.code) ∙ at_written (λ z. z.capacity) xs k c.make_room.new.list n in
     (rw (u, known, c.code-code.ensures.code) refl, omega (arith, written, known, c.in_ok-make_room.ensures.ok))

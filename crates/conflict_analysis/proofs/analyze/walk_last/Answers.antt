@@ -1,0 +1,231 @@
+use Rattle.std.proofs.Common.{◌≡◌, ℕ, ◌+◌, ◌-◌, ◌<◌, List, length, refl, sym, ap, ◌∙◌, subst, arith}
+use Rattle.cnf_formula.specs.Literals.{LitValue}
+use Rattle.trail_core.specs.Meaning.{CoreValue, trues}
+use Rattle.trail_core.proofs.Keeping.{lits_length}
+use Rattle.std.proofs.lemmas.Bool.{false≢true}
+use Rattle.conflict_analysis.specs.Met.{value_of, WalkValue, waiting, IsPassed}
+use Rattle.conflict_analysis.proofs.Resolved.{passed_over}
+use Rattle.conflict_analysis.proofs.Waiting.{waits_below, place_below, passed_at, passed_counts, onward_same, onward_then, onward_counts, open_step}
+use Rattle.conflict_analysis.proofs.analyze.walk_last.Goals as goal
+
+-- the end of the trail, as it is read
+end : (core : CoreValue) (read : List LitValue) (n : ℕ) → read ≡ trues core → n ≡ length read → n ≡ length core.trail
+end core read n e l = l ∙ ap length e ∙ lits_length core.trail
+
+pub loop-walk-init : goal.loop-walk-init
+loop-walk-init c = record {
+  sorted = c.requires.sorted;
+  onward = onward_same (value_of c.args.walk.now);
+  some = c.requires.some;
+  within = omega (arith, ap length c.trail-place.ensures.value, lits_length c.args.core.now.trail);
+  passed = subst (IsPassed c.args.core.now 1 (value_of c.args.walk.now)) (sym (end c.args.core.now c.trail-place.result.now (length c.trail-place.result.now) c.trail-place.ensures.value refl)) c.requires.passed;
+}
+
+pub overflow_sub-place : goal.overflow_sub-place
+overflow_sub-place c =
+    let core = c.args.core.now in
+    let w : WalkValue = value_of c.loop-walk.walk in
+    let inv = c.loop-walk.invariant in
+    let from = c.loop-walk.place in
+    let some : 0 < waiting (w.stamp + 1) w.marks = omega (arith, inv.sorted.open_, c.loop-walk-test.true) in
+    let above = waits_below core 1 w from inv.sorted inv.passed some in
+    let within = place_below core 1 w from inv.sorted inv.passed some inv.within in
+    omega (arith, above)
+
+pub is_waiting-requires-clause-place : goal.is_waiting-requires-clause-place
+is_waiting-requires-clause-place c =
+    let core = c.args.core.now in
+    let w : WalkValue = value_of c.loop-walk.walk in
+    let inv = c.loop-walk.invariant in
+    let from = c.loop-walk.place in
+    let some : 0 < waiting (w.stamp + 1) w.marks = omega (arith, inv.sorted.open_, c.loop-walk-test.true) in
+    let above = waits_below core 1 w from inv.sorted inv.passed some in
+    let within = place_below core 1 w from inv.sorted inv.passed some inv.within in
+    within
+
+pub is_waiting-requires-clause-len : goal.is_waiting-requires-clause-len
+is_waiting-requires-clause-len c =
+    let core = c.args.core.now in
+    let w : WalkValue = value_of c.loop-walk.walk in
+    let inv = c.loop-walk.invariant in
+    let from = c.loop-walk.place in
+    let some : 0 < waiting (w.stamp + 1) w.marks = omega (arith, inv.sorted.open_, c.loop-walk-test.true) in
+    let above = waits_below core 1 w from inv.sorted inv.passed some in
+    let within = place_below core 1 w from inv.sorted inv.passed some inv.within in
+    inv.sorted.marked.len
+
+pub is_waiting-requires-clause-few : goal.is_waiting-requires-clause-few
+is_waiting-requires-clause-few c =
+    let core = c.args.core.now in
+    let w : WalkValue = value_of c.loop-walk.walk in
+    let inv = c.loop-walk.invariant in
+    let from = c.loop-walk.place in
+    let some : 0 < waiting (w.stamp + 1) w.marks = omega (arith, inv.sorted.open_, c.loop-walk-test.true) in
+    let above = waits_below core 1 w from inv.sorted inv.passed some in
+    let within = place_below core 1 w from inv.sorted inv.passed some inv.within in
+    omega (arith, inv.onward.stamp, c.requires.few)
+
+pub resolve-requires-clause-formed : goal.resolve-requires-clause-formed
+resolve-requires-clause-formed c =
+    let core = c.args.core.now in
+    let w : WalkValue = value_of c.loop-walk.walk in
+    let inv = c.loop-walk.invariant in
+    let from = c.loop-walk.place in
+    let some : 0 < waiting (w.stamp + 1) w.marks = omega (arith, inv.sorted.open_, c.loop-walk-test.true) in
+    let above = waits_below core 1 w from inv.sorted inv.passed some in
+    let within = place_below core 1 w from inv.sorted inv.passed some inv.within in
+    c.trail-place.ensures.formed
+
+pub resolve-requires-clause-few : goal.resolve-requires-clause-few
+resolve-requires-clause-few c =
+    let core = c.args.core.now in
+    let w : WalkValue = value_of c.loop-walk.walk in
+    let inv = c.loop-walk.invariant in
+    let from = c.loop-walk.place in
+    let some : 0 < waiting (w.stamp + 1) w.marks = omega (arith, inv.sorted.open_, c.loop-walk-test.true) in
+    let above = waits_below core 1 w from inv.sorted inv.passed some in
+    let within = place_below core 1 w from inv.sorted inv.passed some inv.within in
+    omega (arith, inv.onward.stamp, c.requires.few)
+
+pub resolve-requires-clause-place : goal.resolve-requires-clause-place
+resolve-requires-clause-place c =
+    let core = c.args.core.now in
+    let w : WalkValue = value_of c.loop-walk.walk in
+    let inv = c.loop-walk.invariant in
+    let from = c.loop-walk.place in
+    let some : 0 < waiting (w.stamp + 1) w.marks = omega (arith, inv.sorted.open_, c.loop-walk-test.true) in
+    let above = waits_below core 1 w from inv.sorted inv.passed some in
+    let within = place_below core 1 w from inv.sorted inv.passed some inv.within in
+    within
+
+pub resolve-requires-clause-implied : goal.resolve-requires-clause-implied
+resolve-requires-clause-implied c =
+    let core = c.args.core.now in
+    let w : WalkValue = value_of c.loop-walk.walk in
+    let inv = c.loop-walk.invariant in
+    let from = c.loop-walk.place in
+    let some : 0 < waiting (w.stamp + 1) w.marks = omega (arith, inv.sorted.open_, c.loop-walk-test.true) in
+    let above = waits_below core 1 w from inv.sorted inv.passed some in
+    let within = place_below core 1 w from inv.sorted inv.passed some inv.within in
+    let at = passed_at core 1 w from above inv.passed in
+    let step = open_step core w (from - 1) c.trail-place.ensures.formed c.trail-place.ensures.grounded inv.sorted at within c.loop-walk-test.true (c.is_waiting.ensures.0 c.if-is_waiting.true) in
+    step.implied
+
+pub resolve-requires-clause-marked : goal.resolve-requires-clause-marked
+resolve-requires-clause-marked c =
+    let core = c.args.core.now in
+    let w : WalkValue = value_of c.loop-walk.walk in
+    let inv = c.loop-walk.invariant in
+    let from = c.loop-walk.place in
+    let some : 0 < waiting (w.stamp + 1) w.marks = omega (arith, inv.sorted.open_, c.loop-walk-test.true) in
+    let above = waits_below core 1 w from inv.sorted inv.passed some in
+    let within = place_below core 1 w from inv.sorted inv.passed some inv.within in
+    inv.sorted.marked
+
+pub resolve-requires-clause-kept : goal.resolve-requires-clause-kept
+resolve-requires-clause-kept c =
+    let core = c.args.core.now in
+    let w : WalkValue = value_of c.loop-walk.walk in
+    let inv = c.loop-walk.invariant in
+    let from = c.loop-walk.place in
+    let some : 0 < waiting (w.stamp + 1) w.marks = omega (arith, inv.sorted.open_, c.loop-walk-test.true) in
+    let above = waits_below core 1 w from inv.sorted inv.passed some in
+    let within = place_below core 1 w from inv.sorted inv.passed some inv.within in
+    inv.sorted.kept
+
+pub resolve-requires-clause-new : goal.resolve-requires-clause-new
+resolve-requires-clause-new c =
+    let core = c.args.core.now in
+    let w : WalkValue = value_of c.loop-walk.walk in
+    let inv = c.loop-walk.invariant in
+    let from = c.loop-walk.place in
+    let some : 0 < waiting (w.stamp + 1) w.marks = omega (arith, inv.sorted.open_, c.loop-walk-test.true) in
+    let above = waits_below core 1 w from inv.sorted inv.passed some in
+    let within = place_below core 1 w from inv.sorted inv.passed some inv.within in
+    let at = passed_at core 1 w from above inv.passed in
+    let step = open_step core w (from - 1) c.trail-place.ensures.formed c.trail-place.ensures.grounded inv.sorted at within c.loop-walk-test.true (c.is_waiting.ensures.0 c.if-is_waiting.true) in
+    step.waits
+
+pub resolve-requires-clause-open : goal.resolve-requires-clause-open
+resolve-requires-clause-open c =
+    let core = c.args.core.now in
+    let w : WalkValue = value_of c.loop-walk.walk in
+    let inv = c.loop-walk.invariant in
+    let from = c.loop-walk.place in
+    let some : 0 < waiting (w.stamp + 1) w.marks = omega (arith, inv.sorted.open_, c.loop-walk-test.true) in
+    let above = waits_below core 1 w from inv.sorted inv.passed some in
+    let within = place_below core 1 w from inv.sorted inv.passed some inv.within in
+    let at = passed_at core 1 w from above inv.passed in
+    let step = open_step core w (from - 1) c.trail-place.ensures.formed c.trail-place.ensures.grounded inv.sorted at within c.loop-walk-test.true (c.is_waiting.ensures.0 c.if-is_waiting.true) in
+    step.open_is
+
+pub resolve-requires-clause-zeros : goal.resolve-requires-clause-zeros
+resolve-requires-clause-zeros c =
+    let core = c.args.core.now in
+    let w : WalkValue = value_of c.loop-walk.walk in
+    let inv = c.loop-walk.invariant in
+    let from = c.loop-walk.place in
+    let some : 0 < waiting (w.stamp + 1) w.marks = omega (arith, inv.sorted.open_, c.loop-walk-test.true) in
+    let above = waits_below core 1 w from inv.sorted inv.passed some in
+    let within = place_below core 1 w from inv.sorted inv.passed some inv.within in
+    let at = passed_at core 1 w from above inv.passed in
+    let step = open_step core w (from - 1) c.trail-place.ensures.formed c.trail-place.ensures.grounded inv.sorted at within c.loop-walk-test.true (c.is_waiting.ensures.0 c.if-is_waiting.true) in
+    step.zeros_is
+
+pub loop-walk-smaller-in-Continue-1 : goal.loop-walk-smaller-in-Continue-1
+loop-walk-smaller-in-Continue-1 c =
+    let core = c.args.core.now in
+    let w : WalkValue = value_of c.loop-walk.walk in
+    let inv = c.loop-walk.invariant in
+    let from = c.loop-walk.place in
+    let some : 0 < waiting (w.stamp + 1) w.marks = omega (arith, inv.sorted.open_, c.loop-walk-test.true) in
+    let above = waits_below core 1 w from inv.sorted inv.passed some in
+    let within = place_below core 1 w from inv.sorted inv.passed some inv.within in
+    omega (arith, above)
+
+pub loop-walk-smaller : goal.loop-walk-smaller
+loop-walk-smaller c =
+    let core = c.args.core.now in
+    let w : WalkValue = value_of c.loop-walk.walk in
+    let inv = c.loop-walk.invariant in
+    let from = c.loop-walk.place in
+    let some : 0 < waiting (w.stamp + 1) w.marks = omega (arith, inv.sorted.open_, c.loop-walk-test.true) in
+    let above = waits_below core 1 w from inv.sorted inv.passed some in
+    let within = place_below core 1 w from inv.sorted inv.passed some inv.within in
+    omega (arith, above)
+
+pub loop-walk-preserved-in-Continue-1 : goal.loop-walk-preserved-in-Continue-1
+loop-walk-preserved-in-Continue-1 c =
+    let core = c.args.core.now in
+    let w : WalkValue = value_of c.loop-walk.walk in
+    let inv = c.loop-walk.invariant in
+    let from = c.loop-walk.place in
+    let some : 0 < waiting (w.stamp + 1) w.marks = omega (arith, inv.sorted.open_, c.loop-walk-test.true) in
+    let above = waits_below core 1 w from inv.sorted inv.passed some in
+    let within = place_below core 1 w from inv.sorted inv.passed some inv.within in
+    let at = passed_at core 1 w from above inv.passed in
+    record {
+      sorted = c.in_ok-resolve.ensures.sorted;
+      onward = onward_then (value_of c.args.walk.now) w (value_of c.resolve.new.walk) inv.onward (onward_counts w (value_of c.resolve.new.walk) (w.open_ - 1) w.zeros c.in_ok-resolve.ensures.onward);
+      some = omega (arith, c.in_ok-resolve.ensures.more, c.loop-walk-test.true);
+      within = omega (arith, inv.within);
+      passed = c.in_ok-resolve.ensures.passed 1 (λ h. omega (arith, h)) (passed_counts core 1 w (from - 1 + 1) (w.open_ - 1) w.zeros at);
+    }
+
+pub loop-walk-preserved : goal.loop-walk-preserved
+loop-walk-preserved c =
+    let core = c.args.core.now in
+    let w : WalkValue = value_of c.loop-walk.walk in
+    let inv = c.loop-walk.invariant in
+    let from = c.loop-walk.place in
+    let some : 0 < waiting (w.stamp + 1) w.marks = omega (arith, inv.sorted.open_, c.loop-walk-test.true) in
+    let above = waits_below core 1 w from inv.sorted inv.passed some in
+    let within = place_below core 1 w from inv.sorted inv.passed some inv.within in
+    let at = passed_at core 1 w from above inv.passed in
+    record {
+      sorted = inv.sorted;
+      onward = inv.onward;
+      some = inv.some;
+      within = omega (arith, inv.within);
+      passed = passed_over core 1 w (from - 1) at (λ e. false≢true (sym c.if-is_waiting.false ∙ c.is_waiting.ensures.1 e));
+    }

@@ -1,0 +1,156 @@
+//! What is learned from a conflict (conflict analysis): the first literal of the last level through
+//! which it comes about, the first unique implication point (UIP), and literals of lower levels.
+
+ghost use Rattle.std.specs.Prelude.{◌≡◌, ◌≢◌, ◌+◌, ◌<◌, ◌≤◌, None, Some, length, Contains, AllPairs, IfOk, OnOk, MatchOption};
+ghost use Rattle.cnf_formula.specs.Literals.{LitValue};
+ghost use Rattle.trail_core.specs.Kept.{AreGrounded};
+ghost use Rattle.trail_core.specs.Formed.{IsTrail};
+ghost use Rattle.conflict_analysis.specs.Met.{value_of, IsSorted, IsPassed, IsOnward, IsPoint, IsRested, HasSameOpen, AreLeft};
+ghost use Rattle.conflict_analysis.specs.Conflicts.{IsConflict};
+ghost use Rattle.conflict_analysis.specs.Learned.{IsLearned};
+
+use crate::implied::Implied;
+use crate::meeting::{hint, is_waiting, meet_all, resolve};
+use crate::shrinking::walk_middle;
+use crate::walk::{BOTTOM, KEPT, OPEN, Walk};
+use cnf_formula::{Lit, OutOfMemory, ProofLine};
+use std::alloc::Global;
+use std::mem;
+use trail_core::{ClauseId, Core};
+
+/// Resolves steps of the last level from the end of the trail on, until a single one waits. Gives
+/// the place above which all were passed.
+fn walk_last(core: &Core, walk: &mut Walk) -> Result<usize, OutOfMemory>
+    requires sorted { IsSorted core.now (value_of walk.old) }
+    requires few { walk.old.stamp ≤ 251 }
+    requires some { 0 < walk.old.open_ }
+    requires passed { IsPassed core.now 1 (value_of walk.old) (length core.now.trail) }
+    ensures sorted { OnOk result (IsSorted core.now (value_of walk.new)) }
+    ensures onward { OnOk result (IsOnward (value_of walk.old) (value_of walk.new)) }
+    ensures one { OnOk result (walk.new.open_ ≡ 1) }
+    ensures passed { IfOk result (λ place. (place ≤ length core.now.trail) × IsPassed core.now 1 (value_of walk.new) place) }
+{
+    let mut place = core.trail().len();
+    while walk.open_ > 1 {
+        place -= 1;
+        if is_waiting(core, walk, place, OPEN) {
+            walk.open_ -= 1;
+            resolve(core, walk, place)?;
+        }
+    }
+    Ok(place)
+}
+
+/// The literal of the last level whose step still waits.
+fn point_below(core: &Core, walk: &Walk, from: usize) -> Lit
+    requires sorted { IsSorted core.now (value_of walk.now) }
+    requires few { walk.now.stamp ≤ 251 }
+    requires one { walk.now.open_ ≡ 1 }
+    requires from { from ≤ length core.now.trail }
+    requires passed { IsPassed core.now 1 (value_of walk.now) from }
+    ensures { IsPoint core.now (value_of walk.now) result }
+{
+    let mut place = from;
+    loop {
+        place -= 1;
+        if is_waiting(core, walk, place, OPEN) {
+            return core.trail()[place];
+        }
+    }
+}
+
+/// Resolves all steps of level 0 that wait, from a place above them on.
+fn walk_bottom(core: &Core, walk: &mut Walk, from: usize) -> Result<(), OutOfMemory>
+    requires formed { IsTrail core.now.vars core.now.trail core.now.limits }
+    requires grounded { AreGrounded core.now }
+    requires sorted { IsSorted core.now (value_of walk.old) }
+    requires few { walk.old.stamp ≤ 251 }
+    requires from { from ≤ length core.now.trail }
+    requires passed { IsPassed core.now 3 (value_of walk.old) from }
+    ensures sorted { OnOk result (IsSorted core.now (value_of walk.new)) }
+    ensures onward { OnOk result (IsOnward (value_of walk.old) (value_of walk.new)) }
+    ensures none { OnOk result (walk.new.zeros ≡ 0) }
+    ensures same { OnOk result (HasSameOpen core.now (value_of walk.old) (value_of walk.new)) }
+    ensures passed { OnOk result (IsPassed core.now 3 (value_of walk.new) 0) }
+{
+    let mut place = from;
+    while walk.zeros > 0 {
+        place -= 1;
+        if is_waiting(core, walk, place, BOTTOM) {
+            walk.zeros -= 1;
+            resolve(core, walk, place)?;
+        }
+    }
+    Ok(())
+}
+
+/// The literals that are kept still.
+fn kept_lits(alloc: Global, walk: &Walk) -> Result<Vec<Lit>, OutOfMemory>
+    requires room { (o : LitValue) → Contains walk.now.lits.items o → o.var < length walk.now.marks.items }
+    requires once { AllPairs (λ a b. a.var ≢ b.var) walk.now.lits.items }
+    requires few { walk.now.stamp ≤ 251 }
+    ensures { IfOk result (λ lits. AreLeft walk.now.stamp walk.now.marks.items walk.now.lits.items lits.items) }
+{
+    let mut left = Vec::new(alloc);
+    for lit in &walk.lits {
+        if walk.marks[lit.var() as usize] == walk.stamp + KEPT {
+            left.push(*lit)?;
+        }
+    }
+    Ok(left)
+}
+
+/// Resolves all that is to be resolved. The literal of the last level that is left; none where that
+/// is level 0.
+fn walk_all(core: &Core, walk: &mut Walk, implied: &mut Implied) -> Result<Option<Lit>, OutOfMemory>
+    requires formed { IsTrail core.now.vars core.now.trail core.now.limits }
+    requires grounded { AreGrounded core.now }
+    requires sorted { IsSorted core.now (value_of walk.old) }
+    requires few { walk.old.stamp ≤ 251 }
+    requires passed { IsPassed core.now 3 (value_of walk.old) (length core.now.trail) }
+    requires some { 0 < length core.now.limits → 0 < walk.old.open_ }
+    ensures sorted { OnOk result (IsSorted core.now (value_of walk.new)) }
+    ensures onward { OnOk result (IsOnward (value_of walk.old) (value_of walk.new)) }
+    ensures none { OnOk result (walk.new.zeros ≡ 0) }
+    ensures passed { OnOk result (IsPassed core.now 3 (value_of walk.new) 0) }
+    ensures point { IfOk result (λ point. MatchOption point (length core.now.limits ≡ 0) (λ l. IsPoint core.now (value_of walk.new) l × (0 < length core.now.limits))) }
+{
+    if core.depth() == 0 {
+        walk_bottom(core, walk, core.trail().len())?;
+        return Ok(None);
+    }
+    let place = walk_last(core, walk)?;
+    let point = point_below(core, walk, place);
+    walk_middle(core, walk, implied)?;
+    walk_bottom(core, walk, core.height(0))?;
+    Ok(Some(point))
+}
+
+/// The line that is learned from a clause that is falsified: one literal of the last level, as the
+/// last one, and literals that became false between level 0 and the last level; no literal on level
+/// 0. Its hints are by the core's numbers, from 1. `Err` comes only where memory runs out.
+pub fn line_at(
+    alloc: Global,
+    core: &Core,
+    walk: &mut Walk,
+    implied: &mut Implied,
+    conflict: ClauseId,
+) -> Result<ProofLine, OutOfMemory>
+    requires conflict { IsConflict core.now conflict }
+    requires rested { IsRested core.now.vars walk.old.stamp walk.old.marks.items }
+    ensures learned { IfOk result (IsLearned core.now conflict) }
+    ensures rested { OnOk result (IsRested core.now.vars walk.new.stamp walk.new.marks.items) }
+{
+    let id = u64::from(core.count()) + 1;
+    walk.begin();
+    meet_all(core, walk, conflict)?;
+    let point = walk_all(core, walk, implied)?;
+    let mut lits = kept_lits(alloc, walk)?;
+    if let Some(point) = point {
+        lits.push(point.negated())?;
+    }
+    let mut hints = mem::replace(&mut walk.hints, Vec::new(alloc));
+    hints.reverse();
+    hints.push(hint(conflict))?;
+    Ok(ProofLine { id, lits, hints })
+}

@@ -1,0 +1,11 @@
+use Rattle.std.proofs.Common.{◌≡◌, ◌+◌, length}
+use Rattle.std.specs.Prelude.{All}
+use Rattle.decision_order.specs.inner.Orders.{IsVar}
+use Rattle.decision_order.proofs.vsids.Order.new.Given as goal
+
+abbrev pub invariant-loop-index : goal.invariant-loop-index
+invariant-loop-index l = record {
+  places : length l.places.items ≡ l.index + 1;
+  activity : length l.activity.items ≡ l.index + 1;
+  vars : All (IsVar (l.vars + 1)) l.heap.items;
+}

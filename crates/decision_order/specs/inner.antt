@@ -1,0 +1,2 @@
+-- What no contract of a public call says, and only proofs inside this crate cite.
+pub mod Orders

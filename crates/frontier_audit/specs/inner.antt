@@ -1,0 +1,3 @@
+-- What no contract of a public call says, and only proofs inside this crate cite.
+pub mod Auditable
+pub mod Steps

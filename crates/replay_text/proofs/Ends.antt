@@ -1,0 +1,83 @@
+-- The store after the last step of a point that adds up.
+use Rattle.std.proofs.Common.{◌≡◌, ℕ, ◌+◌, ◌<◌, false, List, length, map, get_or, sym, ap, ◌∙◌, arith}
+use Rattle.std.specs.List.{range_with_len}
+use Rattle.std.proofs.lemmas.List.FromFn.{length-map-range_with_len, get_or-map-range_with_len}
+use Rattle.schedule.specs.Links.{TopologyValue}
+use Rattle.schedule.specs.Sends.{ScheduleValue}
+use Rattle.schedule.specs.Bags.{Bags, contributions}
+use Rattle.schedule.specs.JoinedRuns.{joined_after, joined_run}
+use Rattle.bag_runs.specs.Stores.{StoreValue, stored}
+use Rattle.bag_runs.proofs.JoinedSteps.{adding_throughout}
+use Rattle.inversion.specs.Judging.{last_bags}
+use Rattle.allreduce_join.specs.Judging.{joined_bags}
+use Rattle.replay_text.specs.Showing.{Shown, adding_of, chunks_at, is_copied, is_joined, nodes_of}
+use Rattle.replay_text.specs.Points.{IsShowable, last_store_of}
+use Rattle.replay_text.proofs.Bodies.{adding_is}
+use Rattle.replay_text.proofs.Ordered.{mapped_twice}
+
+-- ---- in a run
+
+module _ (chunks nodes : ℕ) (bags : Bags) (s : ScheduleValue) (adding : ℕ) (run : List StoreValue) (rounds : List ℕ) (same : rounds ≡ s.rounds) (is : run ≡ map (stored chunks nodes) (joined_run bags s adding)) where
+  after_each : run ≡ map (λ n. stored chunks nodes (joined_after bags s adding n)) (range_with_len 0 (length s.rounds + 1))
+  after_each = is ∙ mapped_twice (stored chunks nodes) (joined_after bags s adding) (range_with_len 0 (length s.rounds + 1))
+
+  run_inside : length rounds < length run
+  run_inside = omega (arith, ap length same, ap length after_each, length-map-range_with_len (λ n. stored chunks nodes (joined_after bags s adding n)) 0 (length s.rounds + 1))
+
+  run_last : (last : StoreValue) → last ≡ get_or run (length rounds) last → last ≡ stored chunks nodes (joined_after bags s adding (length s.rounds))
+  run_last last read =
+      read
+      ∙ (ap (λ r. get_or run (length r) last) same
+      ∙ (ap (λ r. get_or r (length s.rounds) last) after_each
+      ∙ get_or-map-range_with_len (λ n. stored chunks nodes (joined_after bags s adding n)) 0 (length s.rounds + 1) (length s.rounds) (length s.rounds) last (omega arith) (omega arith)))
+
+-- ---- in that of the point
+
+module _ (x : Shown) (start : StoreValue) (chunks nodes adding : ℕ) (s : ScheduleValue) (run : List StoreValue) (rounds : List ℕ) (own_chunks : chunks ≡ chunks_at x) (own_nodes : nodes ≡ nodes_of x) (own_adding : adding ≡ adding_of x) (own : s ≡ x.point.schedule)
+    (is : start ≡ stored chunks nodes (contributions nodes)) (ran : (bags : Bags) → start ≡ stored start.chunks start.nodes bags → run ≡ map (stored start.chunks start.nodes) (joined_run bags s adding)) (same : rounds ≡ s.rounds) where
+  abbrev bags_of : Bags
+  bags_of = contributions (nodes_of x)
+
+  made : start ≡ stored (chunks_at x) (nodes_of x) bags_of
+  made = is ∙ ap (λ c. stored c nodes (contributions nodes)) own_chunks ∙ ap (λ n. stored (chunks_at x) n (contributions n)) own_nodes
+
+  start_chunks : start.chunks ≡ chunks_at x
+  start_chunks = ap (λ (store : StoreValue). store.chunks) made
+
+  start_nodes : start.nodes ≡ nodes_of x
+  start_nodes = ap (λ (store : StoreValue). store.nodes) made
+
+  from : start ≡ stored start.chunks start.nodes bags_of
+  from = made ∙ sym (ap (λ c. stored c start.nodes bags_of) start_chunks ∙ ap (λ n. stored (chunks_at x) n bags_of) start_nodes)
+
+  pub added_inside : length rounds < length run
+  added_inside = run_inside start.chunks start.nodes bags_of s adding run rounds same (ran bags_of from)
+
+  pub added_last : (last : StoreValue) → last ≡ get_or run (length rounds) last → last ≡ last_store_of x
+  added_last last read =
+      run_last start.chunks start.nodes bags_of s adding run rounds same (ran bags_of from) last read
+      ∙ ap (λ c. stored c start.nodes (joined_after bags_of s adding (length s.rounds))) start_chunks
+      ∙ ap (λ n. stored (chunks_at x) n (joined_after bags_of s adding (length s.rounds))) start_nodes
+      ∙ ap (λ (p : ScheduleValue). stored (chunks_at x) (nodes_of x) (joined_after bags_of p adding (length p.rounds))) own
+      ∙ ap (λ n. stored (chunks_at x) (nodes_of x) (joined_after bags_of x.point.schedule n (length x.point.schedule.rounds))) own_adding
+
+-- ---- as the verdicts take it
+
+module _ (x : Shown) (last : StoreValue) (t : TopologyValue) (chunks : ℕ) (s : ScheduleValue) (topology : t ≡ x.question.topology) (own_chunks : chunks ≡ chunks_at x) (own : s ≡ x.point.schedule) (is : last ≡ last_store_of x) where
+  pub last_joined : (adding : ℕ) → adding ≡ adding_of x → last ≡ stored chunks t.nodes (joined_bags t s adding)
+  last_joined adding own_adding =
+      is
+      ∙ sym (ap (λ c. stored c t.nodes (joined_bags t s adding)) own_chunks
+      ∙ ap (λ (w : TopologyValue). stored (chunks_at x) w.nodes (joined_bags w s adding)) topology
+      ∙ ap (λ (p : ScheduleValue). stored (chunks_at x) (nodes_of x) (joined_bags x.question.topology p adding)) own
+      ∙ ap (λ n. stored (chunks_at x) (nodes_of x) (joined_bags x.question.topology x.point.schedule n)) own_adding)
+
+  -- where the point joins no others, every step adds
+  pub last_summed : IsShowable x → is_copied x ≡ false → is_joined x.part ≡ false → last ≡ stored chunks t.nodes (last_bags t s)
+  last_summed shows adds single =
+      let all : adding_of x ≡ length x.point.schedule.rounds = adding_is x adds ∙ shows.all_add single in
+      is
+      ∙ ap (stored (chunks_at x) (nodes_of x)) (adding_throughout (contributions (nodes_of x)) x.point.schedule (adding_of x) (length x.point.schedule.rounds) (omega (arith, all)))
+      ∙ sym (ap (λ c. stored c t.nodes (last_bags t s)) own_chunks
+      ∙ ap (λ (w : TopologyValue). stored (chunks_at x) w.nodes (last_bags w s)) topology
+      ∙ ap (λ (p : ScheduleValue). stored (chunks_at x) (nodes_of x) (last_bags x.question.topology p)) own)

@@ -1,0 +1,56 @@
+use Rattle.std.proofs.Common.{◌≡◌, ◌≤◌, List, [], Some, length, get_or, refl, sym, ap, ◌∙◌, subst, inl, arith}
+use Rattle.std.specs.Prelude.{Contains}
+use Rattle.std.proofs.lemmas.Bool.{false≢true}
+use Rattle.std.proofs.lemmas.List.Elements.{Contains-push}
+use Rattle.std.proofs.lemmas.List.{length-map, get_or_default}
+use Rattle.cnf_formula.specs.Literals.{LitValue}
+use Rattle.trail_core.specs.Trails.{lits_of}
+use Rattle.trail_core.specs.Watching.{no_row}
+use Rattle.trail_core.specs.Search.{IsUnit, Implied, clauses_of}
+use Rattle.trail_core.specs.Search.Implied.{none, more}
+use Rattle.trail_core.specs.Kept.{IsDue}
+use Rattle.trail_core.proofs.Visits.{lits_at, lits_push}
+use Rattle.trail_core.proofs.propagate.settle.Goals as goal
+
+single : (xs : List LitValue) (l : LitValue) → length xs ≤ 1 → l ≡ get_or xs 0 l → (o : LitValue) → Contains xs o → o ≡ l
+single xs l n e o c =
+    let z : c.0 ≡ 0 = omega (arith, c.1, n) in
+    sym c.2 ∙ ap (λ k. get_or xs k o) z ∙ get_or_default xs 0 o l (omega (arith, c.1)) ∙ sym e
+
+pub returns-then-is_true-clause-implied : goal.returns-then-is_true-clause-implied
+returns-then-is_true-clause-implied c = none c.args.trail.now.steps
+
+pub returns-then-is_false-clause-implied : goal.returns-then-is_false-clause-implied
+returns-then-is_false-clause-implied c = none c.args.trail.now.steps
+
+pub returns-in-empty-clause-implied : goal.returns-in-empty-clause-implied
+returns-in-empty-clause-implied c = none c.args.trail.now.steps
+
+pub returns-else-is_false-clause-implied : goal.returns-else-is_false-clause-implied
+returns-else-is_false-clause-implied c =
+    let t = c.args.trail.now in
+    let l = c.lit-item.result in
+    let cl = c.clause.ensures no_row in
+    let n : length c.clause.result.now ≤ 1 = omega (arith, ap length cl, c.requires.short.short) in
+    let one = single c.clause.result.now l n c.lit-item.is in
+    let unit : IsUnit (lits_of t.steps) c.clause.result.now l = record {
+      stands = (0, c.in-len1-up.len_at_least, sym c.lit-item.is);
+      open_ = record { not_true = λ h. false≢true (sym c.if-is_true.false ∙ c.is_true.ensures.1 h); not_false = λ h. false≢true (sym c.if-is_false.false ∙ c.is_false.ensures.1 h) };
+      others = λ o h. inl (one o h);
+    } in
+    subst (λ ss. Implied (clauses_of c.args.store.now) (IsDue []) t.steps ss) (sym (ap (λ u. u.steps) c.push.ensures))
+    (more t.steps t.steps (record { lit = l; reason = Some c.args.id }) (none t.steps) (record {
+      id = c.args.id;
+      reason = refl;
+      within = omega (arith, c.requires.short.within, length-map c.args.store.now (λ r. r.lits));
+      unit = subst (λ xs. IsUnit (lits_of t.steps) xs l) (cl ∙ lits_at c.args.store.now c.args.id) unit;
+      was_due = inl refl;
+    }))
+
+pub returns-else-is_false-clause-settled : goal.returns-else-is_false-clause-settled
+returns-else-is_false-clause-settled c = λ h.
+    let l = c.lit-item.result in (
+      l,
+      subst (λ xs. Contains xs l) (c.clause.ensures no_row) (0, c.in-len1-up.len_at_least, sym c.lit-item.is),
+      subst (λ ls. Contains ls l) (sym (ap (λ u. lits_of u.steps) c.push.ensures ∙ lits_push c.args.trail.now.steps (record { lit = l; reason = Some c.args.id }))) (Contains-push (lits_of c.args.trail.now.steps) l),
+    )

@@ -1,0 +1,179 @@
+//! Unit propagation by two watched literals, over the clauses that watch a literal which became
+//! false.
+
+ghost use Rattle.std.specs.Prelude.{false, ◌≡◌, ◌≢◌, ◌↔◌, ◌⊎◌, ℕ, ◌+◌, ◌*◌, ◌<◌, ◌≤◌, IsTrue, List, [], ◌∷◌, ◌++◌, Option, Some, None, IfSome, MatchOption, length, get_or, map, slice_index, Contains, All};
+ghost use Rattle.cnf_formula.specs.Literals.{LitValue, negation, code_of};
+ghost use Rattle.cnf_formula.specs.Formulas.{IsAbout};
+ghost use Rattle.trail_core.specs.Assigned.{IsFalse, IsOpen};
+ghost use Rattle.trail_core.specs.Trails.{lits_of};
+ghost use Rattle.trail_core.specs.Watching.{AreRows, watch_count, row_at, list_at};
+ghost use Rattle.trail_core.specs.Search.{CanScan, Scanned, IsSatisfied, IsFalsified, Implied, clauses_of};
+ghost use Rattle.trail_core.specs.Kept.{IsShort, IsDue, IsKept, IsDone};
+
+use crate::lists::WatchLists;
+use crate::store::ClauseStore;
+use crate::trail::Trail;
+use cnf_formula::Lit;
+
+/// A literal of the clause, other than this one, that is not false.
+fn another(clause: &[Lit], trail: &Trail, this: Lit) -> Option<Lit>
+    requires { All (IsAbout trail.now.vars) clause.now }
+    ensures { MatchOption result
+        ((o : LitValue) → Contains clause.now o → (o ≡ this) ⊎ IsFalse (lits_of trail.now.steps) o)
+        (λ l. Contains clause.now l × (l ≢ this) × (IsFalse (lits_of trail.now.steps) l → ⊥)) }
+{
+    for lit in clause {
+        if *lit != this && !trail.is_false(*lit) {
+            return Some(*lit);
+        }
+    }
+    None
+}
+
+/// Visits the clause at a place of the list of a literal that is false: watches another literal of
+/// it, or makes the only one that is left true, or returns the clause, whose literals are all
+/// false.
+fn visit(
+    store: &mut ClauseStore,
+    lists: &mut WatchLists,
+    trail: &mut Trail,
+    falsified: Lit,
+    place: usize,
+) -> Option<u32>
+    requires can { CanScan store.old lists.old trail.old }
+    requires of { IsAbout trail.old.vars falsified }
+    requires is_false { IsFalse (lits_of trail.old.steps) falsified }
+    requires within { place < length (list_at lists.old.lists (code_of falsified)) }
+    ensures can { CanScan store.new lists.new trail.new }
+    ensures scanned { Scanned falsified store.old trail.old store.new trail.new }
+    ensures long { place ≤ length (list_at lists.new.lists (code_of falsified)) }
+    ensures front { (j : ℕ) → j < place → slice_index (list_at lists.new.lists (code_of falsified)) j ≡ slice_index (list_at lists.old.lists (code_of falsified)) j }
+    ensures handled { let id = slice_index (list_at lists.old.lists (code_of falsified)) place in MatchOption result
+        (0 < watch_count (row_at store.new id) (code_of falsified) → IsSatisfied (lits_of trail.new.steps) (row_at store.new id).lits)
+        (λ c. (c < length store.new) × IsFalsified (lits_of trail.new.steps) (row_at store.new c).lits) }
+{
+    let id = lists.entry(falsified, place);
+    let (first, second) = store.watched(id);
+    let other = if first == falsified { second } else { first };
+    if trail.is_true(other) {
+        return None;
+    }
+    if let Some(lit) = another(store.clause(id), trail, other) {
+        store.watch(id, other, lit);
+        lists.shift(falsified, place, lit);
+        return None;
+    }
+    if trail.is_false(other) {
+        return Some(id);
+    }
+    trail.push(other, Some(id));
+    None
+}
+
+/// Visits all clauses that watch a literal that is false, up to one whose literals are all false.
+pub(crate) fn scan(
+    store: &mut ClauseStore,
+    lists: &mut WatchLists,
+    trail: &mut Trail,
+    falsified: Lit,
+) -> Option<u32>
+    requires can { CanScan store.old lists.old trail.old }
+    requires of { IsAbout trail.old.vars falsified }
+    requires is_false { IsFalse (lits_of trail.old.steps) falsified }
+    ensures can { CanScan store.new lists.new trail.new }
+    ensures scanned { Scanned falsified store.old trail.old store.new trail.new }
+    ensures handled { MatchOption result
+        ((e : ℕ) → 0 < watch_count (row_at store.new e) (code_of falsified) → IsSatisfied (lits_of trail.new.steps) (row_at store.new e).lits)
+        (λ c. (c < length store.new) × IsFalsified (lits_of trail.new.steps) (row_at store.new c).lits) }
+{
+    let mut place = lists.count(falsified);
+    while place > 0 {
+        place -= 1;
+        if let Some(conflict) = visit(store, lists, trail, falsified, place) {
+            return Some(conflict);
+        }
+    }
+    None
+}
+
+/// Makes the literal of a clause of less than two literals true; false where the clause is
+/// falsified.
+fn settle(store: &ClauseStore, trail: &mut Trail, id: u32) -> bool
+    requires rows { AreRows trail.old.vars store.now }
+    requires short { IsShort store.now id }
+    requires bottom { trail.old.limits ≡ [] }
+    ensures implied { Implied (clauses_of store.now) (IsDue []) trail.old.steps trail.new.steps }
+    ensures same { trail.new ≡ record trail.old { steps = trail.new.steps } }
+    ensures settled { IsTrue result → IsSatisfied (lits_of trail.new.steps) (row_at store.now id).lits }
+    ensures falsified { result ≡ false → IsFalsified (lits_of trail.new.steps) (row_at store.now id).lits }
+{
+    match store.clause(id) {
+        [] => false,
+        [lit, ..] => {
+            let lit = *lit;
+            if trail.is_true(lit) {
+                return true;
+            }
+            if trail.is_false(lit) {
+                return false;
+            }
+            trail.push(lit, Some(id));
+            true
+        }
+    }
+}
+
+/// Makes the literals of all clauses of less than two literals true, up to one that is falsified.
+pub(crate) fn settle_all(store: &ClauseStore, trail: &mut Trail, short: &[u32]) -> Option<u32>
+    requires rows { AreRows trail.old.vars store.now }
+    requires short { All (IsShort store.now) short.now }
+    requires bottom { trail.old.limits ≡ [] }
+    ensures implied { Implied (clauses_of store.now) (IsDue []) trail.old.steps trail.new.steps }
+    ensures same { trail.new ≡ record trail.old { steps = trail.new.steps } }
+    ensures settled { MatchOption result
+        (All (λ e. IsSatisfied (lits_of trail.new.steps) (row_at store.now e).lits) short.now)
+        (λ c. (c < length store.now) × IsFalsified (lits_of trail.new.steps) (row_at store.now c).lits) }
+{
+    for id in short {
+        if !settle(store, trail, *id) {
+            return Some(*id);
+        }
+    }
+    None
+}
+
+/// Propagates what waits on the trail, up to a clause that is falsified.
+pub(crate) fn propagate_all(
+    store: &mut ClauseStore,
+    lists: &mut WatchLists,
+    trail: &mut Trail,
+    head: &mut u32,
+    short: &[u32],
+) -> Option<u32>
+    requires { IsKept store.old lists.old trail.old head.old short.now }
+    ensures kept { IsKept store.new lists.new trail.new head.new short.now }
+    ensures vars { trail.new.vars ≡ trail.old.vars }
+    ensures limits { trail.new.limits ≡ trail.old.limits }
+    ensures same { clauses_of store.new ≡ clauses_of store.old }
+    ensures implied { Implied (clauses_of store.old) (IsDue trail.old.limits) trail.old.steps trail.new.steps }
+    ensures answer { MatchOption result
+        (IsDone store.new trail.new head.new)
+        (λ c. (c < length store.new) × IsFalsified (lits_of trail.new.steps) (row_at store.new c).lits) }
+{
+    if trail.depth() == 0 {
+        if let Some(id) = settle_all(store, trail, short) {
+            return Some(id);
+        }
+    }
+    let mut at = *head;
+    while (at as usize) < trail.len() {
+        let falsified = trail.lit(at as usize).negated();
+        if let Some(id) = scan(store, lists, trail, falsified) {
+            *head = at;
+            return Some(id);
+        }
+        at += 1;
+    }
+    *head = at;
+    None
+}
