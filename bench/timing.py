@@ -7,6 +7,10 @@ import time
 ROOT = os.path.dirname(os.path.dirname(os.path.abspath(__file__)))
 LIMIT = 1048576
 
+# As the launcher has it: memory that a candidate gives back is kept for the next.
+os.environ.setdefault("MALLOC_TRIM_THRESHOLD_", "268435456")
+os.environ.setdefault("MALLOC_MMAP_THRESHOLD_", "33554432")
+
 
 def program():
     """The program as the launcher left it, which proves and builds it first where it is not current."""
