@@ -27,7 +27,7 @@ pub use laws::{
 pub use limits::{Limits, MAX_CHUNKS, MAX_CONFLICTS, MAX_K, MAX_STEPS};
 pub use listing::list;
 pub use mark::Mark;
-pub use order::{better, cost_cmp, no_worse};
+pub use order::{better, comes_before, cost_cmp, no_worse};
 pub use outcome::Outcome;
 pub use point::Point;
 pub use std::alloc::AllocError as OutOfMemory;

@@ -1,6 +1,6 @@
 ghost use Rattle.std.specs.Prelude.{◌≡◌, ◌*◌, ◌↔◌, IsTrue};
 ghost use Rattle.std.specs.Ordering.{nat_cmp};
-ghost use Rattle.candidate_order.specs.Costs.{NoWorse, Better, search_cmp};
+ghost use Rattle.candidate_order.specs.Costs.{NoWorse, Better, Before, search_cmp};
 
 use crate::candidate::Candidate;
 use std::cmp::Ordering;
@@ -27,6 +27,14 @@ pub fn better(a: Candidate, b: Candidate) -> bool
     ensures { IsTrue result ↔ Better a b }
 {
     no_worse(a, b) && (a.s < b.s || cost_cmp(a, b).is_lt())
+}
+
+/// Whether `a` is tried before `b`: it has fewer steps; or as many, and fewer rounds for each chunk;
+/// or as many of these, and the smaller chunk count.
+pub fn comes_before(a: Candidate, b: Candidate) -> bool
+    ensures { IsTrue result ↔ Before a b }
+{
+    a.s < b.s || (a.s == b.s && cost_cmp(a, b).then(a.c.cmp(&b.c)).is_lt())
 }
 
 // The last comparison matters only without chunks, where costs say nothing: a sort needs an order

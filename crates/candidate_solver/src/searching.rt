@@ -1,6 +1,6 @@
 //! The search for a candidate's schedule by its formula, whose lines are kept on a shelf.
 
-ghost use Rattle.std.specs.Prelude.{◌≡◌, ◌≢◌, [], IsTrue, Err, IfOk};
+ghost use Rattle.std.specs.Prelude.{◌≡◌, ◌≢◌, [], IsTrue, IfOk};
 ghost use Rattle.outer_ports.specs.Port.{HasCause, Tells};
 ghost use Rattle.conflict_ledger.specs.Beside.{beside};
 ghost use Rattle.conflict_ledger.specs.Shelved.{ShelfAgrees, ShelfMoves};

@@ -1,6 +1,6 @@
 //! One try at a candidate.
 
-ghost use Rattle.std.specs.Prelude.{◌≡◌, ◌≢◌, IsTrue, Err, IfOk};
+ghost use Rattle.std.specs.Prelude.{◌≡◌, ◌≢◌, IsTrue, IfOk};
 ghost use Rattle.cnf_formula.specs.Formulas.{FormulaValue};
 ghost use Rattle.proof_rules.specs.Held.{start_of};
 ghost use Rattle.proof_rules.specs.Refuting.{AllImplied};

@@ -1,8 +1,8 @@
 //! What the definitions give on small inputs.
 
 ghost use Rattle.std.specs.Prelude.{◌≡◌, [], ◌∷◌};
-ghost use Rattle.cnf_formula.specs.Literals.{LitValue, yes, no};
-ghost use Rattle.cardinality.specs.Counting.{CounterValue, at_most_one_of};
+ghost use Rattle.cnf_formula.specs.Literals.{yes, no};
+ghost use Rattle.cardinality.specs.Counting.{at_most_one_of};
 ghost use Rattle.cardinality.specs.Totalizers.{totalizer_of};
 
 /// A clause for each pair of three literals.

@@ -1,6 +1,6 @@
 //! What the definitions give on small instances.
 
-ghost use Rattle.std.specs.Prelude.{◌≡◌, true, false, Some, None, [], ◌∷◌};
+ghost use Rattle.std.specs.Prelude.{◌≡◌, true, Some, None, [], ◌∷◌};
 ghost use Rattle.schedule.specs.Rows.{line_of_2, line_of_3, at_root, everywhere};
 ghost use Rattle.schedule.specs.declared.verdict.Verdict.TheVariants as verdict;
 ghost use Rattle.schedule.specs.Judging.{verdict_of};

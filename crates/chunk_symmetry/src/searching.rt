@@ -1,6 +1,6 @@
 //! The search of a formula, each line of which is checked as it is found.
 
-ghost use Rattle.std.specs.Prelude.{◌≡◌, IfOk};
+ghost use Rattle.std.specs.Prelude.{IfOk};
 ghost use Rattle.candidate_solver.specs.Trying.{IsSearch};
 
 use candidate_solver::Found;

@@ -1,5 +1,5 @@
 ghost use Rattle.std.specs.Prelude.{◌≡◌, ◌+◌, ◌<◌, [], ◌∷◌, length, OnOk, OnErr, Decides};
-ghost use Rattle.cnf_formula.specs.Literals.{LitValue, all_hold};
+ghost use Rattle.cnf_formula.specs.Literals.{all_hold};
 ghost use Rattle.cnf_formula.specs.Formulas.{FormulaValue, IsFormula, IsClause, Satisfies, with_clauses};
 
 use crate::OutOfMemory;

@@ -1,4 +1,4 @@
-ghost use Rattle.std.specs.Prelude.{◌≡◌, IsSome, IfSome};
+ghost use Rattle.std.specs.Prelude.{◌≡◌, IfSome};
 ghost use Rattle.collective_spec.specs.Kinds.{number_of, word_of, kind_rows, takes_root, is_custom, allows};
 
 use case_table::{Table, table};

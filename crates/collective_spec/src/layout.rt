@@ -1,4 +1,4 @@
-ghost use Rattle.std.specs.Prelude.{◌≡◌, ◌<◌, ◌≤◌, ◌*◌, ◌^◌, IfOk};
+ghost use Rattle.std.specs.Prelude.{◌≡◌, ◌<◌, ◌≤◌, IfOk};
 ghost use Rattle.collective_spec.specs.Layouts.{stands, laid_out, with_row};
 ghost use Rattle.schedule.specs.Placed.{IsPlacement};
 

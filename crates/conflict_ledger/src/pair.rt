@@ -1,7 +1,6 @@
 //! Two ledgers of the same lines.
 
 ghost use Rattle.std.specs.Prelude.{◌≡◌, []};
-ghost use Rattle.ledger_rules.specs.Logs.{checker_of, learned};
 
 use crate::checked::CheckedLedger;
 use cnf_formula::ProofLine;

@@ -1,6 +1,6 @@
 //! A ledger that writes its lines, the learned clauses as LRAT additions, to a shelf.
 
-ghost use Rattle.std.specs.Prelude.{◌≡◌, ◌≢◌, ◌⊎◌, ℕ, ◌<◌, ◌++◌, [], ◌∷◌, List, Some, IsTrue, length, take, Err, IfOk, OnOk};
+ghost use Rattle.std.specs.Prelude.{◌≡◌, ◌≢◌, ◌⊎◌, ℕ, ◌<◌, ◌++◌, [], List, Some, IsTrue, take, IfOk, OnOk};
 ghost use Rattle.outer_ports.specs.Port.{HasCause, Tells};
 ghost use Rattle.outer_ports.specs.Shelf.{OthersStay};
 ghost use Rattle.conflict_ledger.specs.Shelved.{log_name};

@@ -1,6 +1,6 @@
 //! Variables in the order of their activity (VSIDS).
 
-ghost use Rattle.std.specs.Prelude.{◌≡◌, ℕ, ◌+◌, ◌*◌, ◌<◌, ◌≤◌, All, length, IfOk, IfSome};
+ghost use Rattle.std.specs.Prelude.{◌≡◌, ℕ, ◌+◌, ◌*◌, ◌<◌, All, length, IfOk, IfSome};
 ghost use Rattle.decision_order.specs.inner.Orders.{IsVar};
 
 use cnf_formula::OutOfMemory;

@@ -1,6 +1,6 @@
 //! A shelf that stays empty.
 
-ghost use Rattle.std.specs.Prelude.{ℕ, false, None};
+ghost use Rattle.std.specs.Prelude.{false, None};
 
 use outer_ports::{ProofName, Shelf, ShelfFault};
 

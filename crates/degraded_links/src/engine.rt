@@ -1,10 +1,8 @@
 //! An engine that takes over old refutations, and leaves the other candidates to another engine.
 
-ghost use Rattle.std.specs.Prelude.{◌≡◌, ◌<◌, ◌≤◌, true, false, [], ◌∷◌, ◌++◌, length, None, All, Contains, Ok, vec_len, vec_capacity};
-ghost use Rattle.schedule.specs.Links.{TopologyValue};
+ghost use Rattle.std.specs.Prelude.{◌≡◌, ◌<◌, [], length, None, All, Ok};
 ghost use Rattle.schedule.specs.Judging.{group_at};
 ghost use Rattle.candidate_order.specs.declared.candidate.Candidate.{Candidate};
-ghost use Rattle.engine_rules.specs.Outcomes.{kind_of};
 ghost use Rattle.engine_rules.specs.Searches.{IsSameSearch};
 ghost use Rattle.link_faults.specs.Narrowed.{narrowed};
 ghost use Rattle.link_faults.specs.Carrying.{IsOldRefuted, is_carried, not_carried};

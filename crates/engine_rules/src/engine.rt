@@ -1,6 +1,6 @@
 //! What settles candidates.
 
-ghost use Rattle.std.specs.Prelude.{◌≡◌, ◌≢◌, ◌↔◌, ℕ, false, List, [], ◌∷◌, ◌++◌, Option, None, Some, Ok, Err, IfOk, OnOk, OnErr, Contains};
+ghost use Rattle.std.specs.Prelude.{◌≡◌, ◌↔◌, ℕ, false, List, [], ◌∷◌, ◌++◌, Option, None, Some, Ok, IfOk, OnOk, OnErr, Contains};
 ghost use Rattle.schedule.specs.Sends.{ScheduleValue};
 ghost use Rattle.cnf_formula.specs.Formulas.{FormulaValue, Satisfiable};
 ghost use Rattle.cnf_formula.specs.Lines.{ProofLineValue};

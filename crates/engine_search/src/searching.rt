@@ -1,6 +1,6 @@
 //! The search with an engine, and the inversion of what it found for a reduction.
 
-ghost use Rattle.std.specs.Prelude.{◌≡◌, ◌≢◌, [], None, Err, IfOk, OnOk};
+ghost use Rattle.std.specs.Prelude.{◌≡◌, [], None, IfOk, OnOk};
 ghost use Rattle.std.specs.List.Sorted.{IsPermutation};
 ghost use Rattle.outer_ports.specs.Port.{HasCause};
 ghost use Rattle.engine_rules.specs.Searches.{CanGoOn, IsSameSearch};

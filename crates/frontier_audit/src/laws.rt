@@ -1,6 +1,6 @@
 //! What a right shelf says, and what an audit does.
 
-ghost use Rattle.std.specs.Prelude.{◌≡◌, ◌↔◌, true, List, None, All, AllPairs, Contains};
+ghost use Rattle.std.specs.Prelude.{◌≡◌, ◌↔◌, true, List, None, AllPairs, Contains};
 ghost use Rattle.outer_ports.specs.Files.{Files};
 ghost use Rattle.cnf_formula.specs.Formulas.{Satisfiable};
 ghost use Rattle.schedule.specs.Sends.{hop_before};

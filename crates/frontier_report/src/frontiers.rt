@@ -1,6 +1,6 @@
 //! The parts of a report, and what follows them.
 
-ghost use Rattle.std.specs.Prelude.{◌≡◌, ◌≤◌, ◌+◌, length, OnOk};
+ghost use Rattle.std.specs.Prelude.{◌≡◌, ◌≤◌, length, OnOk};
 ghost use Rattle.report_form.specs.Reports.{parts_of};
 ghost use Rattle.report_form.specs.Reading.{body_of, frontier_at, frontiers_from, joined_at};
 ghost use Rattle.report_lines.specs.Asking.{asks};

@@ -1,6 +1,6 @@
 //! The lines of refuted and of unknown candidates.
 
-ghost use Rattle.std.specs.Prelude.{◌≡◌, ◌≤◌, ◌+◌, Some, codes, length, OnOk};
+ghost use Rattle.std.specs.Prelude.{◌≡◌, Some, codes, OnOk};
 ghost use Rattle.text_lines.specs.Line.{IsIn, row_at};
 ghost use Rattle.report_form.specs.Lines.{lines_at};
 ghost use Rattle.report_form.specs.Reading.{refuted_line, unknown_line};

@@ -1,6 +1,6 @@
 //! The points of a report, each of several lines.
 
-ghost use Rattle.std.specs.Prelude.{◌≡◌, [], ◌≤◌, ◌<◌, ◌+◌, codes, length, OnOk};
+ghost use Rattle.std.specs.Prelude.{◌≡◌, [], ◌≤◌, ◌<◌, codes, length, OnOk};
 ghost use Rattle.report_form.specs.Lines.{parts_at};
 ghost use Rattle.report_form.specs.Points.{frontier_point_at, joined_point_at, schedule_at};
 ghost use Rattle.frontier_report.specs.inner.After.{point_after};

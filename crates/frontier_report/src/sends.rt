@@ -1,8 +1,7 @@
 //! The lines of a point's sends.
 
-ghost use Rattle.std.specs.Prelude.{◌≡◌, ◌≤◌, ◌<◌, Some, None, if◌then◌else◌, codes, length, IfOk, OnOk};
+ghost use Rattle.std.specs.Prelude.{◌≡◌, ◌≤◌, ◌<◌, Some, None, if◌then◌else◌, codes, length, OnOk};
 ghost use Rattle.text_lines.specs.Line.{IsIn, row_at};
-ghost use Rattle.schedule.specs.Sends.{hop_before};
 ghost use Rattle.report_form.specs.Lines.{lines_at};
 ghost use Rattle.report_form.specs.Points.{follows, may_be_sent, send_from, send_line};
 ghost use Rattle.frontier_report.specs.inner.After.{send_after};
@@ -15,7 +14,7 @@ use crate::report_stop::ReportStop;
 use indexmap::IndexSet;
 use report_form::{ReportCode, ReportFault};
 use report_lines::{begins, fixed_word, next_node, next_number, no_more, tokens_on};
-use schedule::Hop;
+use schedule::{Hop, hop_cmp};
 use std::alloc::Global;
 use text_lines::{Line, Lines, Tokens};
 use topology_text::Name;
@@ -71,29 +70,13 @@ fn in_extent(extent: Extent, h: WideHop) -> Option<Hop>
     })
 }
 
-/// The order of sends: by step, chunk, from and to.
-fn is_before(a: Hop, b: Hop) -> bool
-    ensures { result ≡ hop_before a b }
-{
-    if a.step != b.step {
-        return a.step < b.step;
-    }
-    if a.chunk != b.chunk {
-        return a.chunk < b.chunk;
-    }
-    if a.from != b.from {
-        return a.from < b.from;
-    }
-    a.to < b.to
-}
-
 /// Whether a send stands behind the one before it, if there is one.
 fn follows(last: Option<Hop>, hop: Hop) -> bool
     ensures { result ≡ follows last hop }
 {
     match last {
         None => true,
-        Some(last) => is_before(last, hop),
+        Some(last) => hop_cmp(&last, &hop).is_lt(),
     }
 }
 

@@ -4,9 +4,6 @@ use Rattle.std.specs.Prelude.{◌≢◌, reverse, AllPairs, IsPermutation}
 use Rattle.std.specs.Cmp.{IsStrictWeakOrder}
 use Rattle.std.specs.List.{IsDistinct}
 use Rattle.std.specs.List.Sorted.{IsSortedBy}
-use Rattle.std.specs.Ordering.{nat_cmp, ordering_then, is_lt}
-use Rattle.std.specs.declared.cmp.Ordering.{Ordering}
-use Rattle.std.specs.declared.cmp.Ordering.TheVariants.{Less, Equal, Greater}
 use Rattle.std.proofs.lemmas.Bool.{and_parts, and_from, cases_Bool, both_ways, not-true}
 use Rattle.std.proofs.lemmas.List.Elements.{recursion_from_All}
 use Rattle.std.proofs.lemmas.List.Sorted.{Contains-permutation, IsPermutation-sym, sorted_far}
@@ -19,40 +16,6 @@ use Rattle.schedule.proofs.First.{Among-from_Contains, Contains-from_Among, InOr
 use Rattle.schedule.proofs.HopOrder.{Apart, among_in_order, ascending_apart, before_all, in_order_among, neither_before}
 use Rattle.schedule.proofs.Inverting.{apart_inverses, one_order, valid_inverse}
 use Rattle.schedule.proofs.Verdicts.{sends_one_way}
-use Rattle.inversion.specs.inner.Order.{hop_cmp}
-
--- ---- the comparison tells the order
-
-then_grouped : (a b c : Ordering) → ordering_then (ordering_then a b) c ≡ ordering_then a (ordering_then b c)
-then_grouped Less b c = refl
-then_grouped Equal b c = refl
-then_grouped Greater b c = refl
-
-less_first : (less same : Bool) (rest : Ordering) → is_lt (ordering_then (cond less Less (cond same Equal Greater)) rest) ≡ (less || (same && is_lt rest))
-less_first true same rest = refl
-less_first false true rest = refl
-less_first false false rest = refl
-
-less_last : (less same : Bool) → is_lt (cond less Less (cond same Equal Greater)) ≡ less
-less_last true same = refl
-less_last false true = refl
-less_last false false = refl
-
--- the first comes before the second
-abbrev pub comes : Hop → Hop → Bool
-comes a b = is_lt (hop_cmp a b)
-
-comes_is : (a b : Hop) → comes a b ≡ hop_before a b
-comes_is a b =
-    let step : Ordering = nat_cmp a.step b.step in
-    let chunk : Ordering = nat_cmp a.chunk b.chunk in
-    let from : Ordering = nat_cmp a.from b.from in
-    let to : Ordering = nat_cmp a.to b.to in
-    ap is_lt (then_grouped (ordering_then step chunk) from to ∙ then_grouped step chunk (ordering_then from to))
-    ∙ (less_first (ltb a.step b.step) (eqb a.step b.step) (ordering_then chunk (ordering_then from to))
-    ∙ ap (λ x. ltb a.step b.step || (eqb a.step b.step && x)) (less_first (ltb a.chunk b.chunk) (eqb a.chunk b.chunk) (ordering_then from to)
-    ∙ ap (λ x. ltb a.chunk b.chunk || (eqb a.chunk b.chunk && x)) (less_first (ltb a.from b.from) (eqb a.from b.from) to
-    ∙ ap (λ x. ltb a.from b.from || (eqb a.from b.from && x)) (less_last (ltb a.to b.to) (eqb a.to b.to)))))
 
 -- ---- the order is one that a sort can use
 
@@ -71,11 +34,8 @@ chain a b c first second =
     (λ (not_so : hop_before a c ≡ false). not_so)
     (cases_Bool (hop_before a c))
 
-pub comes_is_order : IsStrictWeakOrder comes
-comes_is_order = record {
-  one_way = λ a b there. comes_is b a ∙ one_way a b (sym (comes_is a b) ∙ there);
-  chain = λ a b c first second. comes_is a c ∙ chain a b c (sym (comes_is a b) ∙ first) (sym (comes_is b c) ∙ second);
-}
+pub before_is_order : IsStrictWeakOrder hop_before
+before_is_order = record { one_way = one_way; chain = chain }
 
 -- ---- sends that differ ascend where they are sorted
 
@@ -104,13 +64,13 @@ before_or_tie a b not_back not_tied =
     (λ (neither : hop_before a b ≡ false). absurd (both_ways _ not_tied (and_from _ _ (ap not neither) (ap not not_back))))
     (cases_Bool (hop_before a b))
 
-sorted_ascends : (xs ys : List Hop) → Apart xs → IsPermutation xs ys → IsSortedBy comes ys → AllPairs (λ a b. hop_before a b ≡ true) ys
+sorted_ascends : (xs ys : List Hop) → Apart xs → IsPermutation xs ys → IsSortedBy hop_before ys → AllPairs (λ a b. hop_before a b ≡ true) ys
 sorted_ascends xs ys apart moved sorted i j d before within =
     let a : Hop = get_or ys i d in
     let b : Hop = get_or ys j d in
-    let later : comes b a ≡ false = sorted_far comes comes_is_order ys sorted i j d (omega (arith, before)) within in
+    let later : hop_before b a ≡ false = sorted_far hop_before before_is_order ys sorted i j d (omega (arith, before)) within in
     let other : tie a b ≡ false = apart_from_distinct tie ys i j d (IsDistinct-IsPermutation tie (λ x y. and_comm (not (hop_before x y)) (not (hop_before y x))) xs ys moved (distinct xs apart)) before within in
-    before_or_tie a b (sym (comes_is b a) ∙ later) other
+    before_or_tie a b later other
 
 -- ---- the sends of the inverse
 
@@ -118,7 +78,7 @@ images_apart : (s : ScheduleValue) → IsSchedule s → Apart (map (inverse_hop 
 images_apart s valid =
     apart_inverses (length s.rounds) s.sends (recursion_from_All (λ h. IsStep (length s.rounds) h.step) s.sends valid.steps) (ascending_apart s.sends (InOrder-from_pairs hop_before s.sends valid.ascending))
 
-pub sorted_inverse : (s : ScheduleValue) (ys : List Hop) → IsSchedule s → IsPermutation (map (inverse_hop (length s.rounds)) s.sends) ys → IsSortedBy comes ys → ys ≡ (inverse_of s).sends
+pub sorted_inverse : (s : ScheduleValue) (ys : List Hop) → IsSchedule s → IsPermutation (map (inverse_hop (length s.rounds)) s.sends) ys → IsSortedBy hop_before ys → ys ≡ (inverse_of s).sends
 sorted_inverse s ys valid moved sorted =
     let xs : List Hop = map (inverse_hop (length s.rounds)) s.sends in
     one_order ys (in_order xs)
@@ -128,7 +88,7 @@ sorted_inverse s ys valid moved sorted =
     (λ h among. Among-from_Contains h ys (Contains-permutation xs ys h moved (Contains-from_Among h xs (in_order_among h xs among))))
 
 -- the reversed rounds with the sorted images are the inverse
-pub inverse_made : (s : ScheduleValue) (rounds : List ℕ) (ys : List Hop) → IsSchedule s → rounds ≡ reverse s.rounds → IsPermutation (map (inverse_hop (length s.rounds)) s.sends) ys → IsSortedBy comes ys → record { rounds = rounds; sends = ys } ≡ inverse_of s
+pub inverse_made : (s : ScheduleValue) (rounds : List ℕ) (ys : List Hop) → IsSchedule s → rounds ≡ reverse s.rounds → IsPermutation (map (inverse_hop (length s.rounds)) s.sends) ys → IsSortedBy hop_before ys → record { rounds = rounds; sends = ys } ≡ inverse_of s
 inverse_made s rounds ys valid back moved sorted =
     let made : List ℕ → List Hop → ScheduleValue = λ r h. record { rounds = r; sends = h } in
     ap (λ r. made r ys) back ∙ ap (made (reverse s.rounds)) (sorted_inverse s ys valid moved sorted)

@@ -2,4 +2,3 @@ pub mod Judging
 pub mod Saying
 pub mod Reductions
 pub mod Inverted
-pub mod inner

@@ -12,12 +12,10 @@ ghost use Rattle.collective_spec.specs.Collectives.{IsSpec, adds_up};
 ghost use Rattle.candidate_order.specs.Frontiers.{QuestionValue, RightFrontier, Searched};
 ghost use Rattle.candidate_order.specs.Copied.{copied_question};
 ghost use Rattle.inversion.specs.Inverted.{inverted_frontier, inverted_point};
-ghost use Rattle.inversion.specs.inner.Order.{hop_cmp};
 
 use candidate_order::{Frontier, Point};
-use schedule::{Hop, OutOfMemory, Schedule};
+use schedule::{Hop, OutOfMemory, Schedule, hop_cmp};
 use std::alloc::Global;
-use std::cmp::Ordering;
 
 /// The inverse of a schedule: the rounds from the last step to the first, and each send back, in
 /// the step that is as far from the last as its own is from the first. Of a schedule that wastes no
@@ -32,7 +30,7 @@ pub fn invert_schedule(alloc: Global, schedule: &Schedule) -> Result<Schedule, O
     let mut rounds = schedule.rounds().to_vec(alloc)?;
     rounds.reverse();
     let mut sends = sends_back(alloc, schedule)?;
-    sends.sort_unstable_by(hop_cmp);
+    sends.sort_unstable_by(|a, b| hop_cmp(a, b));
     Ok(Schedule::new(rounds, sends))
 }
 
@@ -51,17 +49,6 @@ fn sends_back(alloc: Global, schedule: &Schedule) -> Result<Vec<Hop>, OutOfMemor
         })?;
     }
     Ok(sends)
-}
-
-/// Compares by step, chunk, from and to.
-fn hop_cmp(a: &Hop, b: &Hop) -> Ordering
-    ensures { result ≡ hop_cmp a.now b.now }
-{
-    a.step
-        .cmp(&b.step)
-        .then(a.chunk.cmp(&b.chunk))
-        .then(a.from.cmp(&b.from))
-        .then(a.to.cmp(&b.to))
 }
 
 /// The frontier with each point's schedule inverted, and the rest as it is. Of a frontier that is

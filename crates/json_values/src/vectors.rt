@@ -1,6 +1,6 @@
 //! Small topologies as JSON.
 
-ghost use Rattle.std.specs.Prelude.{◌≡◌, ◌∷◌, ◌++◌, [], codes, Ok, Err};
+ghost use Rattle.std.specs.Prelude.{◌≡◌, ◌∷◌, [], codes, Ok, Err};
 ghost use Rattle.schedule.specs.Rows.{line_of_2};
 ghost use Rattle.topology_text.specs.Value.{named};
 ghost use Rattle.json_values.specs.declared.fault.JsonCode.{JsonCode};

@@ -1,4 +1,4 @@
--- What no contract of a public call says, and only proofs inside this crate cite.
+-- What no contract of a public call says: contracts and proofs inside this crate alone cite it.
 pub mod Leads
 pub mod Marking
 pub mod Steps

@@ -1,11 +1,10 @@
 //! Lines whose hints lead to no conflict, and the groups by which they leave satisfiable what is
 //! held (RAT).
 
-ghost use Rattle.std.specs.Prelude.{◌≡◌, ◌==◌, ◌||◌, ℕ, ◌+◌, ◌<◌, true, false, List, [], ◌∷◌, Option, Some, None, Ok, length, drop, pos, negsuc, IfOk, if◌then◌else◌};
-ghost use Rattle.std.specs.List.{list_any};
+ghost use Rattle.std.specs.Prelude.{◌≡◌, ◌==◌, ◌||◌, ℕ, ◌+◌, ◌<◌, true, false, List, [], Option, Some, None, Ok, length, drop, IfOk, if◌then◌else◌};
 ghost use Rattle.std.specs.BTreeSet.{contains};
 ghost use Rattle.std.specs.Ordering.{nat_cmp};
-ghost use Rattle.cnf_formula.specs.Formulas.{IsAbout, IsClause};
+ghost use Rattle.cnf_formula.specs.Formulas.{IsClause};
 ghost use Rattle.proof_rules.specs.Held.{clause_at};
 ghost use Rattle.proof_rules.specs.Judging.{assumed, closing_fault, group_fault as fault_of_group, groups_fault as fault_of_groups, redundant_verdict};
 ghost use Rattle.proof_rules.specs.Accepting.{leading, groups_of, without_negated};

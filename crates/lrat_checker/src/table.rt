@@ -1,12 +1,12 @@
 //! Clauses by number, with lists of those in which a literal stands (occurrence lists), and of
 //! those that it leads.
 
-ghost use Rattle.std.specs.Prelude.{◌≡◌, ◌≢◌, ◌==◌, ℕ, ◌+◌, ◌<◌, ◌||◌, ◌&&◌, not, [], ◌∷◌, ◌++◌, Bool, false, List, length, map, filter, All, Contains, IfOk, IfSome, IsTrue, OnOk, OnErr, MatchOption, slice_index, slice_set, true, if◌then◌else◌, ◌≤◌};
+ghost use Rattle.std.specs.Prelude.{◌≡◌, ◌≢◌, ◌==◌, ℕ, ◌+◌, ◌<◌, ◌||◌, ◌&&◌, not, [], ◌∷◌, ◌++◌, Bool, false, List, length, map, filter, All, Contains, IfOk, IfSome, OnOk, OnErr, MatchOption, slice_index, slice_set, true, if◌then◌else◌, ◌≤◌};
 ghost use Rattle.std.specs.List.{list_any, list_all, enumerate_from};
 ghost use Rattle.std.specs.Option.{option_copied};
 ghost use Rattle.cnf_formula.specs.Literals.{LitValue, code_of, has_literal, is_superset};
 ghost use Rattle.cnf_formula.specs.Formulas.{IsAbout, IsClause};
-ghost use Rattle.proof_rules.specs.Held.{Entry, clause_at};
+ghost use Rattle.proof_rules.specs.Held.{clause_at};
 ghost use Rattle.proof_rules.specs.Judging.{are_held, has_number_twice};
 ghost use Rattle.proof_rules.specs.Accepting.{Group, is_made_true, without_negated};
 ghost use Rattle.lrat_checker.specs.Stored.{TableValue, HasForgotten, Rises, list_at, is_live, kept_live, answers};

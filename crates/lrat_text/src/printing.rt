@@ -1,8 +1,7 @@
 //! How formulas and proof lines are printed.
 
-ghost use Rattle.std.specs.Prelude.{◌≡◌, ◌+◌, ◌≤◌, ◌∷◌, ◌++◌, [], ℤ, List, map, OnOk, OnErr, IfOk, decimal, codes, vec_len, vec_capacity};
+ghost use Rattle.std.specs.Prelude.{◌≡◌, ◌+◌, ◌≤◌, ◌∷◌, ◌++◌, [], map, OnOk, OnErr, IfOk, decimal, vec_len, vec_capacity};
 ghost use Rattle.text_lines.specs.Text.{line as text_of_line};
-ghost use Rattle.cnf_formula.specs.Literals.{LitValue};
 ghost use Rattle.cnf_formula.specs.declared.line.LratLine.{LratLine};
 ghost use Rattle.lrat_text.specs.Printing.{literal_word, hint_word, line_words, trailed, cnf_text, closed};
 

@@ -1,13 +1,11 @@
 //! What the definitions give on small texts.
 
-ghost use Rattle.std.specs.Prelude.{◌≡◌, ◌++◌, Bool, true, false, [], ◌∷◌, Some, None, Ok, Err, pos, negsuc, codes};
+ghost use Rattle.std.specs.Prelude.{◌≡◌, ◌++◌, true, false, [], ◌∷◌, Some, None, Ok, Err, pos, negsuc, codes};
 ghost use Rattle.text_lines.specs.Text.{rows_of};
-ghost use Rattle.cnf_formula.specs.Literals.{LitValue, yes, no};
-ghost use Rattle.cnf_formula.specs.Lines.{ProofLineValue, DeletionValue};
-ghost use Rattle.cnf_formula.specs.Formulas.{FormulaValue};
+ghost use Rattle.cnf_formula.specs.Literals.{yes, no};
 ghost use Rattle.cnf_formula.specs.declared.line.LratLine.{LratLine};
 ghost use Rattle.lrat_text.specs.Printing.{cnf_text, lrat_text};
-ghost use Rattle.lrat_text.specs.Reading.{Said, ReaderValue, said_by, new_reader, fed, said_to, after_next};
+ghost use Rattle.lrat_text.specs.Reading.{said_by, new_reader, fed, said_to, after_next};
 
 use crate::fault::LratTextFault;
 use cnf_formula::LratLine;

@@ -1,6 +1,6 @@
 //! The floor: how many rounds each schedule has at least for its chunk count.
 
-ghost use Rattle.std.specs.Prelude.{◌≡◌, ◌≢◌, ◌≤◌, filter, map, All, IfOk};
+ghost use Rattle.std.specs.Prelude.{◌≡◌, ◌≢◌, filter, map, All, IfOk};
 ghost use Rattle.collective_spec.specs.Collectives.{IsSpec, kind_in};
 ghost use Rattle.node_cuts.specs.Floors.{exceeds, first_greatest, floor_of, greater_of, has_need};
 ghost use Rattle.node_cuts.specs.Tables.{IsSmall, fraction_in};

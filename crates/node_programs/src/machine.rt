@@ -1,7 +1,7 @@
 ghost use Rattle.std.specs.Prelude.{◌≡◌, ◌*◌, ◌+◌, ◌^◌, ◌<◌, ◌≤◌, Some, length, slice_get, if◌then◌else◌, unwrap_or, IfOk, MatchOption};
 ghost use Rattle.node_programs.specs.declared.op.Op.TheVariants as op;
 ghost use Rattle.node_programs.specs.declared.machine.Fired.TheVariants as fired;
-ghost use Rattle.node_programs.specs.Machines.{State, event, is_enabled, is_finished, left_of, queue_in, after_send, start_of, take_from_queue};
+ghost use Rattle.node_programs.specs.Machines.{State, event, is_enabled, is_finished, left_of, after_send, start_of};
 ghost use Rattle.node_programs.specs.Runs.{operations};
 ghost use Rattle.node_programs.specs.Below.{AreBelow};
 

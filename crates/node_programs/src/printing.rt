@@ -1,6 +1,6 @@
 //! The text of the programs of a point's schedule.
 
-ghost use Rattle.std.specs.Prelude.{◌≡◌, ◌++◌, ◌∷◌, [], codes, decimal, length, IfOk, OnOk};
+ghost use Rattle.std.specs.Prelude.{◌≡◌, ◌++◌, ◌∷◌, decimal, length, IfOk, OnOk};
 ghost use Rattle.text_lines.specs.Text.{line, text_of};
 ghost use Rattle.node_programs.specs.Printing.{mode_word, node_lines, op_words, programs_text};
 

@@ -1,6 +1,6 @@
 //! The programs that carry a schedule out.
 
-ghost use Rattle.std.specs.Prelude.{◌≡◌, ◌==◌, ℕ, ◌++◌, ◌∷◌, [], List, length, map, filter, replicate, slice_index_or, slice_set, IfOk, OnOk};
+ghost use Rattle.std.specs.Prelude.{◌≡◌, ◌==◌, ℕ, ◌++◌, ◌∷◌, [], List, length, map, filter, slice_index_or, slice_set, IfOk, OnOk};
 ghost use Rattle.std.specs.List.{range_with_len};
 ghost use Rattle.schedule.specs.Sends.{IsInRange};
 ghost use Rattle.node_programs.specs.declared.op.Op.{Op};

@@ -1,4 +1,4 @@
-ghost use Rattle.std.specs.Prelude.{◌≡◌, ◌<◌, [], true, false, slice_get, IfOk, IfSome, IfNone, option_map, None};
+ghost use Rattle.std.specs.Prelude.{◌≡◌, ◌<◌, [], true, false, slice_get, IfOk, IfSome, IfNone, None};
 ghost use Rattle.node_programs.specs.Queues.{QueueValue, is_head, with_message, without_first};
 
 use crate::OutOfMemory;

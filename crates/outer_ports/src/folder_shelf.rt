@@ -1,6 +1,6 @@
 //! A shelf over a folder.
 
-ghost use Rattle.std.specs.Prelude.{◌≡◌, ◌≢◌, ℕ, false, None};
+ghost use Rattle.std.specs.Prelude.{◌≡◌, ℕ, false, None};
 ghost use Rattle.outer_ports.specs.Port.{HasCause};
 
 use crate::folder::Folder;

@@ -1,6 +1,6 @@
 //! Reading to the end.
 
-ghost use Rattle.std.specs.Prelude.{◌≡◌, ◌≢◌, ℕ, ◌+◌, ◌<◌, ◌≤◌, [], ◌++◌, length, take, drop, IfOk, IsTrue, OnErr, OnOk, vec_capacity, vec_len};
+ghost use Rattle.std.specs.Prelude.{◌≡◌, ℕ, ◌+◌, ◌<◌, ◌≤◌, [], ◌++◌, length, drop, IfOk, IsTrue, OnErr, OnOk, vec_capacity, vec_len};
 ghost use Rattle.outer_ports.specs.Port.{failed, HasCause, Tells};
 
 use crate::failed::Failed;

@@ -1,6 +1,6 @@
 //! Where proof files are kept.
 
-ghost use Rattle.std.specs.Prelude.{◌≡◌, ◌≢◌, ℕ, ◌<◌, ◌≤◌, Bool, length, IfOk, IfSome, IsTrue};
+ghost use Rattle.std.specs.Prelude.{ℕ, ◌<◌, ◌≤◌, Bool, length, IfOk, IfSome, IsTrue};
 ghost use Rattle.outer_ports.specs.Files.{Files};
 ghost use Rattle.outer_ports.specs.Port.{HasCause, Tells};
 ghost use Rattle.outer_ports.specs.Shelf.{AppendsTo, Begins, FilesStay, ReadsAt};

@@ -1,6 +1,6 @@
 //! What bytes are written to.
 
-ghost use Rattle.std.specs.Prelude.{◌≡◌, ℕ, ◌<◌, ◌≤◌, Bool, List, length, IfOk, IsTrue, OnOk};
+ghost use Rattle.std.specs.Prelude.{ℕ, ◌<◌, ◌≤◌, Bool, List, length, IfOk, IsTrue};
 ghost use Rattle.outer_ports.specs.Port.{failed, Appends, HasCause, Tells};
 
 use crate::failed::Failed;

@@ -1,6 +1,6 @@
 //! What bytes are read from.
 
-ghost use Rattle.std.specs.Prelude.{◌≡◌, ℕ, ◌≤◌, Bool, List, length, IfOk, IsTrue, OnOk};
+ghost use Rattle.std.specs.Prelude.{ℕ, ◌≤◌, Bool, List, length, IfOk, IsTrue};
 ghost use Rattle.outer_ports.specs.Port.{failed, HasCause, Takes, Tells};
 
 use crate::failed::Failed;

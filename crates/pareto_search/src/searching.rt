@@ -1,6 +1,6 @@
 //! The search, in the order of steps and costs (Cai et al., PPoPP 2021, Pareto-optimal schedules).
 
-ghost use Rattle.std.specs.Prelude.{◌≡◌, ◌≢◌, [], ℕ, None, Err, All, IfOk, OnOk};
+ghost use Rattle.std.specs.Prelude.{◌≡◌, [], None, All, IfOk, OnOk};
 ghost use Rattle.std.specs.List.Sorted.{IsPermutation, IsStrictlyIncreasing};
 ghost use Rattle.outer_ports.specs.Port.{HasCause};
 ghost use Rattle.engine_rules.specs.Searches.{CanGoOn, IsSameSearch};

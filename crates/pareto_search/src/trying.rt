@@ -1,6 +1,6 @@
 //! The candidates that a search tries, one after the other.
 
-ghost use Rattle.std.specs.Prelude.{◌≡◌, ◌≢◌, ◌+◌, ◌≤◌, None, Err, OnOk};
+ghost use Rattle.std.specs.Prelude.{◌≡◌, ◌+◌, ◌≤◌, None, OnOk};
 ghost use Rattle.std.specs.List.Sorted.{IsStrictlyIncreasing};
 ghost use Rattle.outer_ports.specs.Port.{HasCause};
 ghost use Rattle.engine_rules.specs.Searches.{CanGoOn, IsSameSearch};

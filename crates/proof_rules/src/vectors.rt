@@ -1,8 +1,7 @@
 //! What the definitions give on small formulas.
 
 ghost use Rattle.std.specs.Prelude.{◌≡◌, true, false, [], ◌∷◌, pos, negsuc};
-ghost use Rattle.cnf_formula.specs.Literals.{LitValue, yes, no};
-ghost use Rattle.cnf_formula.specs.Formulas.{FormulaValue};
+ghost use Rattle.cnf_formula.specs.Literals.{yes, no};
 ghost use Rattle.cnf_formula.specs.declared.line.LratLine.{LratLine};
 ghost use Rattle.proof_rules.specs.Held.{start_of};
 ghost use Rattle.proof_rules.specs.Judging.{verdict_of, deletion_verdict};

@@ -1,6 +1,6 @@
 //! The run of a point's programs in the order that a seed draws.
 
-ghost use Rattle.std.specs.Prelude.{◌≡◌, ◌++◌, ◌∷◌, map, flat_map, length, if◌then◌else◌, None, OnOk};
+ghost use Rattle.std.specs.Prelude.{◌≡◌, ◌++◌, ◌∷◌, flat_map, length, if◌then◌else◌, None, OnOk};
 ghost use Rattle.schedule.specs.Sends.{IsInRange, IsSchedule};
 ghost use Rattle.node_programs.specs.Programs.{programs_of};
 ghost use Rattle.node_programs.specs.Machines.{start_of};

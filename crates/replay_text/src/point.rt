@@ -1,10 +1,9 @@
 //! The replay of a point of a report.
 
 ghost use Rattle.std.specs.Prelude.{◌≡◌, ◌++◌, true, false, Some, IfOk, OnOk};
-ghost use Rattle.schedule.specs.Sends.{IsInRange};
 ghost use Rattle.report_form.specs.Numbered.{point_at};
 ghost use Rattle.text_lines.specs.Text.{text_of};
-ghost use Rattle.replay_text.specs.Showing.{adding_of, chunks_at, is_copied, shown_in, shown_text, summed_verdict};
+ghost use Rattle.replay_text.specs.Showing.{adding_of, is_copied, shown_in, shown_text, summed_verdict};
 ghost use Rattle.replay_text.specs.Points.{IsShowable, body_lines, last_store_of};
 
 use crate::OutOfMemory;

@@ -2,14 +2,14 @@
 
 ghost use Rattle.std.specs.Prelude.{◌≡◌, ◌≤◌, ◌<◌, ◌*◌, Some, None, if◌then◌else◌, IfSome};
 ghost use Rattle.report_form.specs.Points.{candidate_from, may_join};
-ghost use Rattle.report_form.specs.Tests.{comes_next, is_before, is_within};
+ghost use Rattle.report_form.specs.Tests.{comes_next, is_within};
 ghost use Rattle.report_lines.specs.Asking.{asks};
 ghost use Rattle.text_lines.specs.Check.{Tells};
 ghost use Rattle.report_lines.specs.Wide.{candidate_of};
 
 use crate::fields::next_number;
 use crate::question::Question;
-use candidate_order::Candidate;
+use candidate_order::{Candidate, comes_before};
 use collective_spec::allows;
 use report_form::ReportCode;
 use text_lines::Tokens;
@@ -85,29 +85,12 @@ pub fn joins(question: &Question<'_>, x: WideCandidate, adding: u16) -> Option<C
     })
 }
 
-/// The order of the search.
-fn is_before(a: Candidate, b: Candidate) -> bool
-    ensures { result ≡ is_before a b }
-{
-    if a.s != b.s {
-        return a.s < b.s;
-    }
-    let (here, there) = (
-        u16::from(a.r) * u16::from(b.c),
-        u16::from(b.r) * u16::from(a.c),
-    );
-    if here != there {
-        return here < there;
-    }
-    a.c < b.c
-}
-
 /// Whether a candidate stands behind the one before it, if there is one.
 pub fn comes_next(last: Option<Candidate>, x: Candidate) -> bool
     ensures { result ≡ comes_next last x }
 {
     match last {
         None => true,
-        Some(last) => is_before(last, x),
+        Some(last) => comes_before(last, x),
     }
 }

@@ -1,10 +1,9 @@
 //! The tokens of a line, taken off its front one by one.
 
-ghost use Rattle.std.specs.Prelude.{◌≡◌, ◌≤◌, ◌∷◌, length, IfOk, IfSome, IsTrue};
-ghost use Rattle.std.specs.Str.Parse.{digits_value};
+ghost use Rattle.std.specs.Prelude.{◌≤◌, length};
 ghost use Rattle.text_lines.specs.Check.{need, Tells};
 ghost use Rattle.topology_text.specs.Names.{name_of};
-ghost use Rattle.report_form.specs.Fields.{any_number, behind_key, fixed_word, is_digit, is_number, next_keyed, next_node, next_number, next_word, no_more, small_number};
+ghost use Rattle.report_form.specs.Fields.{fixed_word, next_keyed, next_node, next_number, next_word, no_more, small_number};
 
 use indexmap::IndexSet;
 use report_form::ReportCode;

@@ -1,8 +1,7 @@
 //! What a part of a report answers.
 
-ghost use Rattle.std.specs.Prelude.{◌≡◌, ◌≤◌, ◌<◌, ◌*◌, ◌^◌};
+ghost use Rattle.std.specs.Prelude.{◌≡◌, ◌<◌, ◌*◌};
 ghost use Rattle.collective_spec.specs.Collectives.{chunks_in, kind_in};
-ghost use Rattle.topology_text.specs.Value.{IsNamed};
 ghost use Rattle.report_lines.specs.Asking.{asks};
 
 use candidate_order::Limits;

@@ -1,9 +1,9 @@
 //! The line that says what was asked.
 
-ghost use Rattle.std.specs.Prelude.{◌≡◌, ◌≤◌, Some, None, if◌then◌else◌, IfOk, IfSome, find, bytes_eq, OnOk};
+ghost use Rattle.std.specs.Prelude.{◌≡◌, Some, None, if◌then◌else◌, IfOk, find, bytes_eq, OnOk};
 ghost use Rattle.text_lines.specs.Line.{IsIn, row_at};
 ghost use Rattle.text_lines.specs.Check.{line_part, Tells};
-ghost use Rattle.collective_spec.specs.Kinds.{word_of, standard_kinds, every_kind};
+ghost use Rattle.collective_spec.specs.Kinds.{word_of};
 ghost use Rattle.report_form.specs.SynthLine.{asked_line, kind_named, kinds_of, limits_from, root_from};
 ghost use Rattle.report_form.specs.Fields.{next_keyed};
 ghost use Rattle.report_form.specs.Tests.{are_limits};

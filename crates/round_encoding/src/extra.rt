@@ -1,8 +1,7 @@
 //! The variables of extra rounds.
 
-ghost use Rattle.std.specs.Prelude.{◌≡◌, ◌<◌, ◌≤◌};
+ghost use Rattle.std.specs.Prelude.{◌≡◌, ◌≤◌};
 ghost use Rattle.schedule.specs.Sends.{IsStep};
-ghost use Rattle.cnf_formula.specs.Literals.{LitValue};
 ghost use Rattle.round_encoding.specs.Frames.{extra_round, own_variables};
 
 use cnf_formula::Lit;

@@ -2,10 +2,8 @@
 
 ghost use Rattle.std.specs.Prelude.{◌≡◌, ◌+◌, ◌*◌, ◌<◌, ◌≤◌, ◌++◌, map, sum_by, OnOk};
 ghost use Rattle.std.specs.List.{flat_map};
-ghost use Rattle.schedule.specs.Links.{TopologyValue};
 ghost use Rattle.schedule.specs.Sends.{IsStep};
-ghost use Rattle.cnf_formula.specs.Formulas.{FormulaValue};
-ghost use Rattle.send_encoding.specs.Variables.{SendMapValue, IsSendMap, arrivals, sends, steps_of};
+ghost use Rattle.send_encoding.specs.Variables.{arrivals, sends, steps_of};
 ghost use Rattle.round_encoding.specs.Frames.{own_variables};
 ghost use Rattle.round_encoding.specs.Rounding.{count_of_group, counts_of, extra_in_order};
 ghost use Rattle.round_encoding.specs.inner.Counts.{with_counts, room, HasLinks};

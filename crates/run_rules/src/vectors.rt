@@ -1,6 +1,6 @@
 //! What the definitions give on small and known words, texts and searches.
 
-ghost use Rattle.std.specs.Prelude.{◌≡◌, [], ◌∷◌, None, Some, Ok, Err, codes};
+ghost use Rattle.std.specs.Prelude.{◌≡◌, [], ◌∷◌, Ok, Err, codes};
 ghost use Rattle.topology_text.specs.Family.{family_of};
 ghost use Rattle.report_form.specs.Spelling.{report_text};
 ghost use Rattle.report_form.specs.Rows.{broadcast_report, relay_report};

@@ -1,6 +1,6 @@
 //! The assignment that a search ends with.
 
-ghost use Rattle.std.specs.Prelude.{◌≡◌, ℕ, ◌+◌, ◌<◌, ◌≤◌, true, false, length, Contains, IfOk};
+ghost use Rattle.std.specs.Prelude.{◌≡◌, ◌+◌, ◌<◌, ◌≤◌, true, false, length, Contains, IfOk};
 ghost use Rattle.cnf_formula.specs.Literals.{yes};
 ghost use Rattle.trail_core.specs.Meaning.{trues};
 ghost use Rattle.sat_core.specs.inner.Totals.{AreValues};

@@ -1,6 +1,6 @@
 //! Learned clauses that were of little use fall asleep (clause database reduction).
 
-ghost use Rattle.std.specs.Prelude.{◌≡◌, ℕ, ◌+◌, ◌*◌, ◌<◌, ◌≤◌, [], List, All, length, IfOk, OnOk};
+ghost use Rattle.std.specs.Prelude.{◌≡◌, ◌+◌, ◌*◌, ◌<◌, [], List, All, length, IfOk, OnOk};
 ghost use Rattle.cnf_formula.specs.Formulas.{FormulaValue, IsClause};
 ghost use Rattle.cnf_formula.specs.Lines.{ProofLineValue};
 ghost use Rattle.sat_core.specs.inner.Guided.{IsGuided};

@@ -1,6 +1,6 @@
 //! The search for a model of a formula, or for a refutation.
 
-ghost use Rattle.std.specs.Prelude.{◌≡◌, ◌≢◌, ◌↔◌, ℕ, ◌+◌, ◌<◌, ◌≤◌, ◌^◌, true, Bool, List, [], length, map, Ok, Err, IsOk, IfOk, OnOk};
+ghost use Rattle.std.specs.Prelude.{◌≡◌, ◌≢◌, ◌↔◌, ◌+◌, ◌<◌, ◌≤◌, ◌^◌, true, Bool, List, [], length, map, Ok, Err, IsOk, IfOk, OnOk};
 ghost use Rattle.cnf_formula.specs.Formulas.{Satisfies};
 ghost use Rattle.cnf_formula.specs.Lines.{ProofLineValue};
 ghost use Rattle.cnf_formula.specs.declared.line.LratLine.TheVariants.{Addition};

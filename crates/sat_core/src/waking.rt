@@ -1,6 +1,6 @@
 //! Clauses that slept are added to the core again.
 
-ghost use Rattle.std.specs.Prelude.{◌≡◌, ◌+◌, ◌<◌, ◌≤◌, true, false, List, length, get_or, slice_set, OnOk};
+ghost use Rattle.std.specs.Prelude.{◌≡◌, ◌+◌, ◌<◌, true, false, List, length, get_or, slice_set, OnOk};
 ghost use Rattle.cnf_formula.specs.Formulas.{FormulaValue};
 ghost use Rattle.cnf_formula.specs.Lines.{ProofLineValue};
 ghost use Rattle.sleeping_clauses.specs.Sleeping.{sleeping};

@@ -1,6 +1,6 @@
 //! Topologies of families.
 
-ghost use Rattle.std.specs.Prelude.{◌≡◌, IsTrue, IfOk, Ok};
+ghost use Rattle.std.specs.Prelude.{IsTrue, IfOk, Ok};
 ghost use Rattle.topology_text.specs.Family.{family_of, is_allowed};
 ghost use Rattle.topology_text.specs.Spelling.{spelling};
 ghost use Rattle.run_rules.specs.Answers.{IsAnswerAlone};

@@ -1,6 +1,6 @@
 //! What a right run of the top call says, and runs that are not right.
 
-ghost use Rattle.std.specs.Prelude.{◌≡◌, ◌≢◌, ◌⊎◌, ◌≤◌, ◌∷◌, ◌++◌, ℕ, List, [], codes, length, Option, None, Some, Ok, Err};
+ghost use Rattle.std.specs.Prelude.{◌≡◌, ◌⊎◌, ◌≤◌, ◌∷◌, ◌++◌, ℕ, List, [], codes, length, Option, None, Some, Ok, Err};
 ghost use Rattle.topology_text.specs.Value.{NamedTopologyValue};
 ghost use Rattle.outer_ports.specs.declared.part.Part.{Part};
 ghost use Rattle.outer_ports.specs.Files.{Files};

@@ -1,6 +1,6 @@
 //! What the source gives.
 
-ghost use Rattle.std.specs.Prelude.{◌≡◌, ◌≢◌, ◌⊎◌, ◌+◌, ◌<◌, ◌≤◌, ℕ, false, true, length, IsTrue, Err, IfOk, IfSome, IfNone, OnOk, drop};
+ghost use Rattle.std.specs.Prelude.{◌≡◌, ◌≢◌, ◌+◌, ◌<◌, ◌≤◌, ℕ, false, true, length, IsTrue, Err, IfOk, IfSome, IfNone, OnOk, drop};
 ghost use Rattle.outer_ports.specs.Port.{HasCause, Tells};
 ghost use Rattle.run_rules.specs.Tasks.{limit};
 

@@ -1,6 +1,6 @@
 //! The top call.
 
-ghost use Rattle.std.specs.Prelude.{◌≡◌, ◌≢◌, ◌⊎◌, ◌+◌, ◌≤◌, ℕ, IsTrue, Err, IfOk, IfErr, drop};
+ghost use Rattle.std.specs.Prelude.{◌≡◌, ◌⊎◌, ◌+◌, ◌≤◌, ℕ, IsTrue, Err, IfOk, IfErr, drop};
 ghost use Rattle.outer_ports.specs.Port.{HasCause, Tells};
 ghost use Rattle.command_words.specs.Words.{command_of, texts};
 ghost use Rattle.run_rules.specs.Commands.{Ask, IsRefusal, Opens, Reads};

@@ -52,10 +52,10 @@ grid low rows columns = flat_map (λ row. map (λ column. (row, column)) (range_
 pub in_grid : (low rows columns : ℕ) (pair : ℕ × ℕ) → IsCell low rows columns pair → Among pair (grid low rows columns)
 in_grid low rows columns (row, column) is = among_from_any (row, column) (grid low rows columns) (in_rows row column columns low rows is.column is.from is.to)
 
-row_cells : (row from count columns : ℕ) → from + count ≤ columns → AllByRecursion (IsCell row 1 columns) (map (λ column. (row, column)) (range_with_len from count))
-row_cells row from zero columns fits = tt
-row_cells row from (suc count) columns fits =
-    (record { from = omega arith; to = omega arith; column = omega arith }, row_cells row (from + 1) count columns (omega arith))
+row_cells : (number from count columns : ℕ) → from + count ≤ columns → AllByRecursion (IsCell number 1 columns) (map (λ column. (number, column)) (range_with_len from count))
+row_cells number from zero columns fits = tt
+row_cells number from (suc count) columns fits =
+    (record { from = omega arith; to = omega arith; column = omega arith }, row_cells number (from + 1) count columns (omega arith))
 
 pub grid_cells : (low rows columns : ℕ) → AllByRecursion (IsCell low rows columns) (grid low rows columns)
 grid_cells low zero columns = tt

@@ -1,4 +1,4 @@
-ghost use Rattle.std.specs.Prelude.{◌≡◌, ◌<◌, ◌≤◌, ◌^◌, All, find, length};
+ghost use Rattle.std.specs.Prelude.{◌≡◌, ◌<◌, All, find, length};
 ghost use Rattle.std.specs.List.{range_with_len};
 ghost use Rattle.schedule.specs.Links.{IsBelow};
 ghost use Rattle.schedule.specs.Sends.{IsInRange, IsStep};

@@ -18,7 +18,7 @@ mod verdict;
 
 pub use bandwidth::{first_overfull, load_of};
 pub use group::Group;
-pub use hop::Hop;
+pub use hop::{Hop, hop_cmp};
 pub use judge::{first_unlinked, solves, solves_by_run};
 pub use placement::Placement;
 pub use range::in_range;

@@ -4,9 +4,9 @@ ghost use Rattle.std.specs.Prelude.{◌≡◌, ◌+◌, ◌<◌, ◌≤◌, ◌-
 ghost use Rattle.std.specs.List.{flat_map, range_with_len};
 ghost use Rattle.schedule.specs.Links.{IsBelow};
 ghost use Rattle.schedule.specs.Sends.{IsStep};
-ghost use Rattle.cnf_formula.specs.Literals.{LitValue, negation};
-ghost use Rattle.cnf_formula.specs.Formulas.{FormulaValue, with_clauses};
-ghost use Rattle.send_encoding.specs.Variables.{SendMapValue, arrival, arrivals, sends, steps_of, numbered_links};
+ghost use Rattle.cnf_formula.specs.Literals.{negation};
+ghost use Rattle.cnf_formula.specs.Formulas.{with_clauses};
+ghost use Rattle.send_encoding.specs.Variables.{arrival, arrivals, sends, steps_of, numbered_links};
 ghost use Rattle.send_encoding.specs.Sending.{send_over, sends_arrive, sends_into, node_arrives, arrives_by_sends};
 
 use crate::OutOfMemory;

@@ -1,8 +1,7 @@
 ghost use Rattle.std.specs.Prelude.{◌≡◌, ◌↔◌, ◌+◌, ◌<◌, ◌≤◌, true, length, IsSome, IfSome, IfOk};
 ghost use Rattle.std.specs.List.{list_any};
-ghost use Rattle.schedule.specs.Links.{TopologyValue, same_link, usable_links};
+ghost use Rattle.schedule.specs.Links.{same_link, usable_links};
 ghost use Rattle.schedule.specs.Sends.{IsStep};
-ghost use Rattle.cnf_formula.specs.Literals.{LitValue};
 ghost use Rattle.send_encoding.specs.Variables.{SendMapValue, IsSendMap, arrival, arrivals, sent, sends, number_of};
 
 use crate::OutOfMemory;

@@ -1,12 +1,10 @@
 //! The variables and clauses of arrivals and sends.
 
 ghost use Rattle.std.specs.Prelude.{◌≡◌, ℕ, ◌+◌, ◌<◌, ◌≤◌, Bool, List, [], OnOk, IfOk};
-ghost use Rattle.schedule.specs.Links.{TopologyValue};
-ghost use Rattle.schedule.specs.Placed.{PlacementValue};
 ghost use Rattle.schedule.specs.Sends.{ScheduleValue, IsInRange};
 ghost use Rattle.schedule.specs.Solving.{Solves};
-ghost use Rattle.cnf_formula.specs.Formulas.{FormulaValue, Satisfies, with_clauses};
-ghost use Rattle.send_encoding.specs.Variables.{SendMapValue, map_of, arrivals, sends};
+ghost use Rattle.cnf_formula.specs.Formulas.{Satisfies, with_clauses};
+ghost use Rattle.send_encoding.specs.Variables.{map_of, arrivals, sends};
 ghost use Rattle.send_encoding.specs.Sending.{sending};
 ghost use Rattle.send_encoding.specs.Agreeing.{IsTightRun, SatisfiesAs};
 

@@ -1,7 +1,7 @@
 //! Learned clauses that sleep: the ledger holds them, but no propagation meets them. A line that
 //! one of them states already (subsumption) is not learned: that clause is woken.
 
-ghost use Rattle.std.specs.Prelude.{◌≡◌, ◌≢◌, ℕ, ◌+◌, ◌*◌, ◌<◌, ◌≤◌, [], ◌∷◌, ◌++◌, List, true, false, All, AllPairs, Contains, length, get_or, slice_set, slice_index, IfOk, OnOk, OnErr, MatchOption, IsTrue, map};
+ghost use Rattle.std.specs.Prelude.{◌≡◌, ◌≢◌, ℕ, ◌+◌, ◌*◌, ◌<◌, [], ◌∷◌, ◌++◌, true, false, All, AllPairs, Contains, length, get_or, slice_set, IfOk, OnOk, OnErr, MatchOption, map};
 ghost use Rattle.cnf_formula.specs.Literals.{LitValue, code_of};
 ghost use Rattle.cnf_formula.specs.Formulas.{IsClause};
 ghost use Rattle.sleeping_clauses.specs.Sleeping.{SleepersValue, HasMark, IsCover, AreFew, list_at, sleeping};

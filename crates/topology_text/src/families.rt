@@ -1,9 +1,9 @@
 //! Families of topologies that are often met.
 
-ghost use Rattle.std.specs.Prelude.{◌≡◌, ◌<◌, ◌≤◌, ◌∷◌, ◌++◌, [], All, AllPairs, map, length, IsTrue, IfOk};
+ghost use Rattle.std.specs.Prelude.{◌≡◌, ◌<◌, ◌≤◌, All, map, IsTrue, IfOk};
 ghost use Rattle.std.specs.List.{range_with_len};
 ghost use Rattle.schedule.specs.Links.{IsLink};
-ghost use Rattle.topology_text.specs.Family.{is_allowed, family_links, family_groups, family_of, numbered_name, one_wide, single};
+ghost use Rattle.topology_text.specs.Family.{is_allowed, family_links, family_groups, family_of, numbered_name, single};
 
 use crate::family_kind::{FamilyKind, has_family_link};
 use crate::name::Name;

@@ -1,12 +1,12 @@
 //! What a clause needs when it is added: room in the lists of its literals, and two literals to
 //! watch.
 
-ghost use Rattle.std.specs.Prelude.{◌≡◌, ◌≢◌, ◌↔◌, ◌⊎◌, ◌==◌, ℕ, ◌+◌, ◌*◌, ◌<◌, ◌≤◌, IsTrue, List, [], ◌∷◌, ◌++◌, Option, Some, None, MatchOption, length, get_or, map, Contains, All, AllPairs, count_by, IfOk, OnErr, OnOk, slice_index, vec_len, vec_capacity};
-ghost use Rattle.cnf_formula.specs.Literals.{LitValue, negation, code_of};
+ghost use Rattle.std.specs.Prelude.{◌≡◌, ◌≢◌, ◌==◌, ℕ, ◌+◌, ◌*◌, ◌<◌, ◌≤◌, length, Contains, All, AllPairs, count_by, IfOk, OnErr, OnOk, slice_index, vec_len, vec_capacity};
+ghost use Rattle.cnf_formula.specs.Literals.{LitValue, code_of};
 ghost use Rattle.cnf_formula.specs.Formulas.{IsAbout};
-ghost use Rattle.trail_core.specs.Assigned.{IsFalse, IsOpen};
+ghost use Rattle.trail_core.specs.Assigned.{IsOpen};
 ghost use Rattle.trail_core.specs.Trails.{lits_of};
-ghost use Rattle.trail_core.specs.Watching.{AreLists, HasRoom, list_at};
+ghost use Rattle.trail_core.specs.Watching.{AreLists, HasRoom};
 ghost use Rattle.trail_core.specs.Kept.{IsRecent, IsKept, IsHeld, CanAddTo};
 
 use crate::lists::WatchLists;

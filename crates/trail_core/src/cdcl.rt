@@ -1,12 +1,11 @@
 //! The core of a search (CDCL): clauses, a trail with decision levels, and unit propagation by two
 //! watched literals.
 
-ghost use Rattle.std.specs.Prelude.{◌≡◌, ◌≢◌, ◌↔◌, ◌⊎◌, ℕ, ◌+◌, ◌*◌, ◌<◌, ◌≤◌, IsTrue, List, [], ◌∷◌, ◌++◌, Option, Some, None, IfSome, MatchOption, length, get_or, map, slice_index, Contains, All, AllPairs, IfOk, OnErr, take};
+ghost use Rattle.std.specs.Prelude.{◌≡◌, ◌≢◌, ℕ, ◌+◌, ◌*◌, ◌<◌, ◌≤◌, List, [], ◌∷◌, ◌++◌, Option, Some, None, MatchOption, length, get_or, map, slice_index, Contains, All, AllPairs, IfOk, OnErr, take};
 ghost use Rattle.cnf_formula.specs.Literals.{LitValue, negation};
 ghost use Rattle.cnf_formula.specs.Formulas.{IsAbout, IsClause};
-ghost use Rattle.trail_core.specs.Assigned.{IsFalse, IsOpen, IsValue, level_at};
-ghost use Rattle.trail_core.specs.Trails.{StepValue, lits_of};
-ghost use Rattle.trail_core.specs.Search.{IsSatisfied, IsFalsified, IsUnit, Implied};
+ghost use Rattle.trail_core.specs.Assigned.{IsOpen, IsValue, level_at};
+ghost use Rattle.trail_core.specs.Search.{IsFalsified, IsUnit, Implied};
 ghost use Rattle.trail_core.specs.Kept.{IsDue, AreGrounded, CanAdd};
 ghost use Rattle.trail_core.specs.Meaning.{CoreValue, trues, IsClosed, IsClosedBelow};
 ghost use Rattle.trail_core.specs.Formed.{IsTrail};

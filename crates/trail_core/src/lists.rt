@@ -1,8 +1,8 @@
 //! For each literal the list of the clauses that watch it (two watched literals: Moskewicz,
 //! Madigan, Zhao, Zhang and Malik 2001).
 
-ghost use Rattle.std.specs.Prelude.{◌-◌, ◌≡◌, ◌↔◌, ℕ, ◌+◌, ◌*◌, ◌<◌, ◌≤◌, IsTrue, List, [], ◌∷◌, ◌++◌, Option, length, get_or, slice_set, slice_index, swap_remove, Contains, IfOk, OnErr, OnOk, IsOk};
-ghost use Rattle.cnf_formula.specs.Literals.{LitValue, negation, code_of};
+ghost use Rattle.std.specs.Prelude.{◌-◌, ◌≡◌, ℕ, ◌+◌, ◌*◌, ◌<◌, ◌≤◌, [], ◌∷◌, ◌++◌, length, slice_set, slice_index, swap_remove, IfOk, OnErr, OnOk};
+ghost use Rattle.cnf_formula.specs.Literals.{code_of};
 ghost use Rattle.trail_core.specs.Watching.{ListsValue, list_at};
 
 use cnf_formula::Lit;

@@ -1,10 +1,10 @@
 //! Unit propagation by two watched literals, over the clauses that watch a literal which became
 //! false.
 
-ghost use Rattle.std.specs.Prelude.{false, ◌≡◌, ◌≢◌, ◌↔◌, ◌⊎◌, ℕ, ◌+◌, ◌*◌, ◌<◌, ◌≤◌, IsTrue, List, [], ◌∷◌, ◌++◌, Option, Some, None, IfSome, MatchOption, length, get_or, map, slice_index, Contains, All};
-ghost use Rattle.cnf_formula.specs.Literals.{LitValue, negation, code_of};
+ghost use Rattle.std.specs.Prelude.{false, ◌≡◌, ◌≢◌, ◌⊎◌, ℕ, ◌+◌, ◌*◌, ◌<◌, ◌≤◌, IsTrue, [], Option, Some, None, MatchOption, length, slice_index, Contains, All};
+ghost use Rattle.cnf_formula.specs.Literals.{LitValue, code_of};
 ghost use Rattle.cnf_formula.specs.Formulas.{IsAbout};
-ghost use Rattle.trail_core.specs.Assigned.{IsFalse, IsOpen};
+ghost use Rattle.trail_core.specs.Assigned.{IsFalse};
 ghost use Rattle.trail_core.specs.Trails.{lits_of};
 ghost use Rattle.trail_core.specs.Watching.{AreRows, watch_count, row_at, list_at};
 ghost use Rattle.trail_core.specs.Search.{CanScan, Scanned, IsSatisfied, IsFalsified, Implied, clauses_of};

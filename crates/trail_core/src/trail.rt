@@ -1,10 +1,10 @@
 //! The trail: the literals that are true, in the order in which they became so, with the decision
 //! level and the reason of each.
 
-ghost use Rattle.std.specs.Prelude.{◌≢◌, ◌≡◌, ◌↔◌, ◌⊎◌, ℕ, ◌+◌, ◌<◌, ◌≤◌, IsTrue, true, List, [], ◌∷◌, ◌++◌, Option, Some, None, length, take, get_or, slice_index, Contains, IfOk};
-ghost use Rattle.cnf_formula.specs.Literals.{LitValue, negation};
+ghost use Rattle.std.specs.Prelude.{◌≢◌, ◌≡◌, ◌↔◌, ℕ, ◌+◌, ◌<◌, ◌≤◌, IsTrue, true, [], ◌∷◌, ◌++◌, Option, Some, None, length, take, get_or, slice_index, Contains, IfOk};
+ghost use Rattle.cnf_formula.specs.Literals.{LitValue};
 ghost use Rattle.trail_core.specs.Assigned.{IsFalse, IsOpen, IsValue, IsConsistent, AreLimits, level_at};
-ghost use Rattle.trail_core.specs.Trails.{StepValue, TrailValue, lits_of};
+ghost use Rattle.trail_core.specs.Trails.{TrailValue, lits_of};
 ghost use Rattle.trail_core.specs.Formed.{IsTrail};
 
 use cnf_formula::Lit;
