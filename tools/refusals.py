@@ -75,7 +75,7 @@ CODES = {
         4: "a file of it is not there",
         5: "its `.lrat` file is no text of proof lines, or a line is refused, or no line without a literal is accepted; or it has more than 281,474,976,710,656 bytes",
         6: "its `.cnf` file is not the text of its formula",
-        7: "its `.partial` file is no log of just as many conflicts as are stated",
+        7: "its `.partial` file is no log of just as many conflicts as are stated; or it has more than 281,474,976,710,656 bytes",
         8: "as a joined point it is lacking or wrong, or is one too many",
     },
     9: {0: "it may be 2,000,000 at most"},

@@ -14,11 +14,11 @@ use candidate_order::Candidate;
 use cut_bounds::{Cut, Floor, has_node};
 use report_form::Words;
 use report_printing::{
-    name_at, push_all_refuted, push_all_unknown, push_candidate, push_points, push_synth_line,
+    push_all_refuted, push_all_unknown, push_candidate, push_points, push_synth_line,
 };
 use std::alloc::{AllocError, Global};
-use text_lines::{push_field, push_number_field, push_word};
-use topology_text::{Name, NamedTopology};
+use text_lines::{push_number_field, push_word};
+use topology_text::{Name, NamedTopology, push_node_field};
 
 /// Appends a space and the name of the node, where its bit is set.
 fn push_member(out: &mut Vec<u8>, names: &[Name], nodes: u16, node: u8) -> Result<(), AllocError>
@@ -26,7 +26,7 @@ fn push_member(out: &mut Vec<u8>, names: &[Name], nodes: u16, node: u8) -> Resul
     ensures { OnOk result (out.new.items ≡ out.old.items ++ (if has_bit nodes node then 32 ∷ name_at names.now node else [])) }
 {
     if has_node(nodes, node) {
-        push_field(out, name_at(names, node))?;
+        push_node_field(out, names, node)?;
     }
     Ok(())
 }

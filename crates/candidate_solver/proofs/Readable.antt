@@ -1,5 +1,5 @@
--- The lines of a search are read back from their text: their numbers are small.
-use Rattle.std.proofs.Common.{suc, ◌≡◌, ℕ, ◌+◌, ◌<◌, ◌≤◌, true, false, eqb, List, [], ◌∷◌, ◌++◌, length, get_or, ℤ, pos, negsuc, subst, ⊎_elim, arith}
+-- The lines of a search are read back from their text, since their numbers are small; and they are short.
+use Rattle.std.proofs.Common.{suc, ◌≡◌, ℕ, ◌+◌, ◌<◌, ◌≤◌, true, false, eqb, List, [], ◌∷◌, ◌++◌, length, get_or, ℤ, pos, negsuc, Ok, subst, ⊎_elim, arith}
 use Rattle.std.specs.Prelude.{◌≢◌, ◌==◌, Contains, All, AllPairs, Some, map}
 use Rattle.std.specs.List.{list_any, enumerate_from, IsDistinct, AllByRecursion}
 use Rattle.std.proofs.lemmas.Bool.{cases_Bool, eqb-true, ne_eqb}
@@ -15,11 +15,12 @@ use Rattle.proof_rules.specs.Held.{Entry, CheckerValue, start_of, clause_at}
 use Rattle.proof_rules.specs.Accepting.{Conflicts, Implied, leading, groups_from}
 use Rattle.proof_rules.specs.Refuting.{AllImplied, with_line}
 use Rattle.proof_rules.proofs.Verdicts.{implied_by}
-use Rattle.lrat_text.specs.Printing.{IsId, IsHint, IsReadable}
+use Rattle.lrat_text.specs.Printing.{lrat_text, IsId, IsHint, IsReadable}
 use Rattle.outer_ports.specs.declared.proof_name.ProofName.{ProofName}
 use Rattle.outer_ports.specs.Files.{Files}
 use Rattle.conflict_ledger.specs.Shelved.{log_text}
 use Rattle.sat_core.specs.Ready.{AreNumbered, AreShort}
+use Rattle.candidate_formula.specs.Lines.{lines_of_text}
 use Rattle.candidate_formula.specs.Files.{HoldsLines}
 use Rattle.candidate_formula.specs.Logs.{IsShortLine}
 use Rattle.candidate_formula.proofs.ReadBack.{text_says}
@@ -53,11 +54,11 @@ hints_read held ids (pos id ∷ pos next ∷ hints) place falses g c =
 
 -- ---- literals
 
-lits_read : (vars : ℕ) (lits : List LitValue) → vars < 2097152 → IsClause vars lits → All IsLit lits
-lits_read vars lits few about k d w =
+lits_read : (vars : ℕ) (lits : List LitValue) → vars ≤ 2147483647 → IsClause vars lits → All IsLit lits
+lits_read vars lits named about k d w =
     let l = about k d w in
     let within = l.within in
-    record { some = l.some; small = omega (arith, within, few) }
+    record { some = l.some; small = omega (arith, within, named) }
 
 named_once : (lits : List LitValue) → AllPairs (λ l other. l.var ≢ other.var) lits → IsDistinct eqb (map (λ l. l.var) lits)
 unfolding IsDistinct
@@ -87,35 +88,34 @@ few_lits vars lits few about once =
 
 -- ---- lines
 
--- a reader takes the line's numbers, and it is not long
-record IsKept (line : ProofLineValue) : Type 0 where
-  readable : IsReadable (Addition line)
-  short : IsShortLine line
-
-line_read : (c : CheckerValue) (line : ProofLineValue) → c.formula.vars < 2097152 → AreIds c.held → line.id ≤ 4294967295 → length line.hints ≤ 2097153 → Implied c line → IsKept line
-line_read c line few ids small hints i =
+line_read : (c : CheckerValue) (line : ProofLineValue) → c.formula.vars ≤ 2147483647 → AreIds c.held → line.id ≤ 4294967295 → Implied c line → IsReadable (Addition line)
+line_read c line named ids small i =
     let n = i.new in
-    let above = n.above_formula in
-    record {
-      readable = (
-        record { some = omega (arith, above); small = small },
-        lits_read c.formula.vars line.lits few n.in_range,
-        hints_read c.held ids line.hints 0 line.lits i.no_groups i.conflict,
-      );
-      short = record { lits = few_lits c.formula.vars line.lits few n.in_range n.once; hints = hints };
-    }
+    let above = n.above_formula in (
+      record { some = omega (arith, above); small = small },
+      lits_read c.formula.vars line.lits named n.in_range,
+      hints_read c.held ids line.hints 0 line.lits i.no_groups i.conflict,
+    )
 
 held_more : (held : List Entry) (id : ℕ) (lits : List LitValue) → AreIds held → IsId id → AreIds (held ++ (id, lits) ∷ [])
 held_more held id lits ids is entry at = ⊎_elim (ids entry) (λ e. subst (λ x. IsId x.0) e is) (Contains-push_cases held (id, lits) entry at)
 
-lines_read : (lines : List ProofLineValue) (c : CheckerValue) → c.formula.vars < 2097152 → AreIds c.held → AllImplied c lines
-    → All (λ line. line.id ≤ 4294967295) lines → All (λ line. length line.hints ≤ 2097153) lines → All IsReadable (map Addition lines) × All IsShortLine lines
-lines_read [] c few ids implied small hints = (All-nil IsReadable, All-nil IsShortLine)
-lines_read (line ∷ lines) c few ids implied small hints =
-    let own = line_read c line few ids (small 0 line (omega arith)) (hints 0 line (omega arith)) (implied_by c line implied.0) in
-    let more = lines_read lines (with_line c line) few (held_more c.held line.id line.lits ids own.readable.0) implied.1
-    (λ k d w. small (suc k) d (omega (arith, w))) (λ k d w. hints (suc k) d (omega (arith, w))) in
-    (All-cons IsReadable (Addition line) (map Addition lines) own.readable more.0, All-cons IsShortLine line lines own.short more.1)
+lines_read : (lines : List ProofLineValue) (c : CheckerValue) → c.formula.vars ≤ 2147483647 → AreIds c.held → AllImplied c lines
+    → All (λ line. line.id ≤ 4294967295) lines → All IsReadable (map Addition lines)
+lines_read [] c named ids implied small = All-nil IsReadable
+lines_read (line ∷ lines) c named ids implied small =
+    let own = line_read c line named ids (small 0 line (omega arith)) (implied_by c line implied.0) in
+    All-cons IsReadable (Addition line) (map Addition lines) own
+    (lines_read lines (with_line c line) named (held_more c.held line.id line.lits ids own.0) implied.1 (λ k d w. small (suc k) d (omega (arith, w))))
+
+lines_short : (lines : List ProofLineValue) (c : CheckerValue) → c.formula.vars < 2097152 → AllImplied c lines
+    → All (λ line. length line.hints ≤ 2097153) lines → All IsShortLine lines
+lines_short [] c few implied hints = All-nil IsShortLine
+lines_short (line ∷ lines) c few implied hints =
+    let n = (implied_by c line implied.0).new in
+    All-cons IsShortLine line lines
+    (record { lits = few_lits c.formula.vars line.lits few n.in_range n.once; hints = hints 0 line (omega arith) })
+    (lines_short lines (with_line c line) few implied.1 (λ k d w. hints (suc k) d (omega (arith, w))))
 
 start_ids : (from : ℕ) (clauses : List (List LitValue)) → 0 < from → from + length clauses ≤ 4294967296 → AreIds (enumerate_from from clauses)
 start_ids from [] some few entry at = absurd (omega (arith, at.1))
@@ -123,6 +123,18 @@ start_ids from (clause ∷ clauses) some few entry at = ⊎_elim
     (λ e. subst (λ x. IsId x.0) e (record { some = some; small = omega (arith, few) }))
     (start_ids (from + 1) clauses (omega arith) (omega (arith, few)) entry)
     (cons_cases (from, clause) (enumerate_from (from + 1) clauses) entry at)
+
+-- ---- the lines of a search
+
+search_read : (f : FormulaValue) (lines : List ProofLineValue) → f.vars ≤ 2147483647 → length f.clauses + length lines ≤ 4294967295
+    → AllImplied (start_of f) lines → AreNumbered (length f.clauses) lines → All IsReadable (map Addition lines)
+search_read f lines named fit implied numbered =
+    lines_read lines (start_of f) named (start_ids 1 f.clauses (omega arith) (omega (arith, fit))) implied
+    (λ k d w. let e = numbered k d w in omega (arith, e, w, fit))
+
+pub search_says : (f : FormulaValue) (lines : List ProofLineValue) → f.vars ≤ 2147483647 → length f.clauses + length lines ≤ 4294967295
+    → AllImplied (start_of f) lines → AreNumbered (length f.clauses) lines → lines_of_text (lrat_text (map Addition lines)) ≡ Ok (map Addition lines)
+search_says f lines named fit implied numbered = text_says (map Addition lines) (search_read f lines named fit implied numbered)
 
 -- ---- files
 
@@ -137,12 +149,10 @@ pub holds_lines : (f : FormulaValue) (lines : List ProofLineValue) (files : File
 holds_lines f lines files name small few implied numbered short found =
     let vars = small.few_vars in
     let clauses = small.few_clauses in
-    let read = lines_read lines (start_of f) vars (start_ids 1 f.clauses (omega arith) (omega (arith, clauses))) implied
-    (λ k d w. let e = numbered k d w in omega (arith, e, w, few, clauses))
-    (λ k d w. let s = short k d w in omega (arith, s, vars)) in
+    let read = search_read f lines (omega (arith, vars)) (omega (arith, clauses, few)) implied numbered in
     record {
       bytes = log_text lines;
       found = found;
-      short = log_short lines read.0 read.1 few;
-      reads = text_says (map Addition lines) read.0;
+      short = log_short lines read (lines_short lines (start_of f) vars implied (λ k d w. let s = short k d w in omega (arith, s, vars))) few;
+      reads = text_says (map Addition lines) read;
     }

@@ -60,8 +60,9 @@ impl<'a> CheckedLedger<'a> {
         self.kept.lines()
     }
 
-    /// Gives the checker a line, and makes room for it and a copy. The lines stay. After a fault
-    /// out of memory is answered from then on.
+    /// Gives the checker a line, and makes room for it and a copy. The lines stay. Where the checker
+    /// is ahead of the lines already, since a line that was prepared was not committed, out of
+    /// memory is answered.
     pub(crate) fn prepare(&mut self, line: &ProofLine) -> Result<ProofLine, OutOfMemory>
         requires { verdict_of (checker_of self.old.kept.base.now self.old.kept.lines.items) line.now ≡ Accepted true }
         ensures copy { IfOk result (λ copy. copy ≡ line.now) }

@@ -8,7 +8,9 @@ use Rattle.schedule.specs.Links.{GroupValue}
 use Rattle.collective_spec.specs.Patterns.{PatternValue}
 use Rattle.topology_text.specs.declared.fault.TopologyCode.{TopologyCode}
 use Rattle.topology_text.specs.Reading.{begins, group_row, groups_from, custom_line, holders_line, row_of_pairs, holders_at, Pairs, pattern_of, pattern_at}
-use Rattle.report_lines.specs.Room.{Onward}
+use Rattle.report_form.specs.SynthLine.{AskedValue, asked_line}
+use Rattle.report_form.specs.Reading.{version_line}
+use Rattle.report_lines.specs.Room.{HasRoom, Onward}
 
 pub onward_trans : (p q r : Place) → Onward p q → Onward q r → Onward p r
 onward_trans p q r a b = omega (arith, a, b)
@@ -30,6 +32,12 @@ part_onward {A} {C} check p x code lacking e = by_rows p.rows refl
         let many : length x.1.rows ≡ length (drop 1 p.rows) = ap (λ (q : Place). length q.rows) place_is in
         let some_rows : length p.rows ≡ suc (length rs) = ap length some in
         omega (arith, ap (λ (q : Place). q.number) place_is, many, some_rows, length-drop 1 p.rows)
+
+-- a line that was taken is counted
+pub part_number : {A C : Type 0} (check : Option Row → Result A C) (p : Place) (x : A × Place) → line_part check p ≡ Ok x → x.1.number ≡ p.number + 1
+part_number check p x e =
+    let (passed, place_is) = part_ok check p x e in
+    ap (λ (q : Place). q.number) place_is
 
 pub groups_onward : (names : List (List ℕ)) (before : List GroupValue) (n : ℕ) (rows : List Row) (x : List GroupValue × Place) → groups_from names before n rows ≡ Ok x → x.1.number + length x.1.rows ≤ n + length rows
 groups_onward names before n [] x e =
@@ -90,9 +98,19 @@ rows_few (b ∷ bs) =
     let onto = onto_few b (rows_of bs) in
     elim (b == 10) as (λ t. length (if t then record { bytes = []; whole = true } ∷ rows_of bs else onto_row b (rows_of bs)) ≤ length (b ∷ bs)) [ true ↦ omega arith | false ↦ omega arith ]
 
--- a text that is short enough has room for the numbers of its lines
-pub room_at_first : (text : List ℕ) (p : Place) → length text < 2 ^ 31 → p ≡ start text → p.number + length p.rows ≤ 2 ^ 31
-room_at_first text p short first =
+-- so a text of less than 2 GiB has lines that can be numbered
+pub lines_of_short : (text : List ℕ) → length text < 2 ^ 31 → length (rows_of text) + 2 < 2 ^ 32
+lines_of_short text short = omega (arith, rows_few text, short)
+
+-- a text of not too many lines has room for their numbers
+pub room_at_first : (text : List ℕ) (p : Place) → length (rows_of text) + 2 < 2 ^ 32 → p ≡ start text → HasRoom p
+room_at_first text p few first =
     let number : p.number ≡ 1 = ap (λ (x : Place). x.number) first in
     let rows : length p.rows ≡ length (rows_of text) = ap (λ (x : Place). length x.rows) first in
-    omega (arith, number, rows, rows_few text, short)
+    omega (arith, number, rows, few)
+
+-- behind the line of the version and that of what was asked stands the third line
+pub third_line : (text : List ℕ) (patterned : Bool) (asked : AskedValue) (p p1 p2 : Place) → p ≡ start text → line_part version_line p ≡ Ok (patterned, p1) → line_part (asked_line patterned) p1 ≡ Ok (asked, p2) → p2.number ≡ 3
+third_line text patterned asked p p1 p2 at_first version words =
+    let number : p.number ≡ 1 = ap (λ (x : Place). x.number) at_first in
+    omega (arith, number, part_number version_line p (patterned, p1) version, part_number (asked_line patterned) p1 (asked, p2) words)

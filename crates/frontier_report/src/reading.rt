@@ -1,6 +1,7 @@
 //! The reader of reports.
 
-ghost use Rattle.std.specs.Prelude.{◌≡◌, ◌≢◌, ◌<◌, ◌^◌, Ok, length, IfOk, IfErr};
+ghost use Rattle.std.specs.Prelude.{◌≡◌, ◌≢◌, ◌+◌, ◌<◌, ◌^◌, Ok, length, IfOk, IfErr};
+ghost use Rattle.text_lines.specs.Text.{rows_of};
 ghost use Rattle.report_form.specs.Reports.{ReportValue, IsReport};
 ghost use Rattle.report_form.specs.Spelling.{report_text};
 ghost use Rattle.report_form.specs.Reading.{report_of};
@@ -29,7 +30,7 @@ struct Parts {
 
 #[tactic(auto, unfolding(report_form::specs::Reading::report_of))]
 fn parts_of(alloc: Global, text: &[u8]) -> Result<Parts, ReportStop>
-    requires { length text.now < 2 ^ 31 }
+    requires { length (rows_of text.now) + 2 < 2 ^ 32 }
     ensures { Reads parts_value result (report_of text.now) }
 {
     let mut lines = Lines::new(text);
@@ -56,7 +57,7 @@ fn parts_of(alloc: Global, text: &[u8]) -> Result<Parts, ReportStop>
 }
 
 fn answered(alloc: Global, bytes: &[u8]) -> Result<Report, ReportFault>
-    requires { length bytes.now < 2 ^ 31 }
+    requires { length (rows_of bytes.now) + 2 < 2 ^ 32 }
     ensures { Answers result (report_of bytes.now) }
 {
     match parts_of(alloc, bytes) {
@@ -74,10 +75,10 @@ fn answered(alloc: Global, bytes: &[u8]) -> Result<Report, ReportFault>
     }
 }
 
-/// The report that the text spells, all of the text, which is shorter than 2 GiB, so that its lines
-/// have numbers. A fault names the first check that fails, and its line.
+/// The report that the text spells, all of the text, which has fewer than 4,294,967,294 lines, so
+/// that they have numbers. A fault names the first check that fails, and its line.
 pub fn read_report(alloc: Global, bytes: &[u8]) -> Result<Report, ReportFault>
-    requires { length bytes.now < 2 ^ 31 }
+    requires { length (rows_of bytes.now) + 2 < 2 ^ 32 }
     // What is read is spelled so.
     ensures found { IfOk result (λ r. IsReport r × (bytes.now ≡ report_text r)) }
     // What is spelled so is read, unless memory runs out.

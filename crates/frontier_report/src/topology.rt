@@ -1,6 +1,6 @@
 //! The topology's lines among those of a report.
 
-ghost use Rattle.std.specs.Prelude.{◌≡◌, ◌≤◌, ◌-◌, length, slice_get, IfOk, IfSome, OnOk};
+ghost use Rattle.std.specs.Prelude.{◌≡◌, ◌≤◌, ◌+◌, ◌-◌, length, slice_get, IfOk, IfSome, OnOk};
 ghost use Rattle.text_lines.specs.Text.{rows_of};
 ghost use Rattle.text_lines.specs.Check.{at_line, line_part};
 ghost use Rattle.collective_spec.specs.Patterns.{IsPattern};
@@ -63,6 +63,7 @@ pub fn header_at(lines: &mut Lines<'_>, patterned: bool) -> Result<(), ReportFau
     ensures read { TellsAt (λ _. lines.new.place) result (header_at (rows_of lines.old.text) patterned lines.old.place) }
     ensures text { lines.new.text ≡ lines.old.text }
     ensures onward { OnOk result (Onward lines.old.place lines.new.place) }
+    ensures moved { OnOk result (lines.new.place.number ≤ lines.old.place.number + 1) }
 {
     let text = lines.text();
     let number = lines.number();
@@ -87,6 +88,7 @@ pub fn names_at(alloc: Global, lines: &mut Lines<'_>) -> Result<IndexSet<Name>, 
     ensures few { IfOk result (λ names. length names.keys ≤ 16) }
     ensures text { lines.new.text ≡ lines.old.text }
     ensures onward { OnOk result (Onward lines.old.place lines.new.place) }
+    ensures moved { OnOk result (lines.new.place.number ≤ lines.old.place.number + 1) }
 {
     let text = lines.text();
     match nodes_part(alloc, lines) {
@@ -123,6 +125,7 @@ pub fn groups_in(
     ensures read { Reads (λ v. (v.items, lines.new.place)) result (among (rows_of lines.old.text) (groups_at names.now.keys lines.old.place)) }
     ensures text { lines.new.text ≡ lines.old.text }
     ensures onward { OnOk result (Onward lines.old.place lines.new.place) }
+    ensures moved { OnOk result (lines.new.place.number ≤ lines.old.place.number + 256) }
 {
     let text = lines.text();
     match groups_part(alloc, names, lines) {

@@ -15,7 +15,7 @@ use Rattle.replay_text.specs.Replay.{numbered_steps}
 use Rattle.replay_text.specs.Showing.{Shown, adding_of, chunks_at, holds_as_shown, is_joined, nodes_of, order_lines, shown_in, shown_steps, shown_verdict, steps_that_add}
 
 -- the schedule is valid, its sends are of the collective's chunks and nodes, the collective has the
--- chunk count of the point, and its mark says how many steps add only where it joins two others
+-- chunk count of the point, and where it joins no others all its steps add by its mark
 pub record IsShowable (x : Shown) : Type 0 where
   pub spec : IsSpec (nodes_of x) x.question.spec
   pub schedule : IsSchedule x.point.schedule

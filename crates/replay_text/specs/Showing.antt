@@ -56,7 +56,7 @@ is_joined _ = false
 abbrev pub is_copied : Shown → Bool
 is_copied x = not (is_joined x.part) && not (adds_up x.question.spec)
 
--- how many of the first steps add up: those that the mark of a joined point says, all of a reduction, none of a copying collective
+-- how many of the first steps add up: those that the mark of a joined point says, and else all, as in a reduction
 abbrev pub steps_that_add : Mark → ℕ → ℕ
 steps_that_add (mark.Joined adding) steps = adding
 steps_that_add _ steps = steps

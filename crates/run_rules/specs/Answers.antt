@@ -19,7 +19,7 @@ use Rattle.run_rules.specs.Bounds.{IsBound}
 use Rattle.run_rules.specs.Orders.{IsOrdered}
 use Rattle.run_rules.specs.Degraded.{IsDegraded}
 
--- a search: the text of one report of these words and this topology, which is right and searched in order, and whose proofs the files are
+-- a search: the text of one report of these words and this topology, which is right and searched in order, and whose proofs the files are; a file that changed is one of its own, and holds the text of the formula, or of lines that are accepted in their turn, or the beginning of such a text
 pub record IsSearch (w : WordsValue) (t : NamedTopologyValue) (files : FilesValue) (status : Status) (text : List ℕ) : Type 0 where
   pub report : ReportValue
   pub words : report.words ≡ w
@@ -28,6 +28,7 @@ pub record IsSearch (w : WordsValue) (t : NamedTopologyValue) (files : FilesValu
   pub searched : IsSearched report
   pub says : Says Done (report_text report) status text
   pub proves : IsTrue files.told → Proves report files.before files.after
+  pub begun : IsTrue files.told → BreaksOff w t files.before files.after
 
 -- what a verified report is, whoever made it: it is right, there is a spent log of each candidate that it calls unknown, and the files prove it
 pub record IsVerified (r : ReportValue) (files : Files) : Type 0 where

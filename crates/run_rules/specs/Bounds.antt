@@ -9,7 +9,7 @@ use Rattle.topology_text.specs.Value.{NamedTopologyValue}
 use Rattle.topology_text.specs.Spelling.{name_at}
 use Rattle.report_form.specs.Reports.{WordsValue, question_of, whole_report}
 use Rattle.report_form.specs.Spelling.{candidate_words, part_words, point_lines, refuted_words, synth_words, unknown_words}
-use Rattle.frontier_audit.specs.OwedFiles.{Proves}
+use Rattle.frontier_audit.specs.OwedFiles.{BreaksOff, Proves}
 use Rattle.node_cuts.specs.declared.floor.Floor.{Floor}
 use Rattle.node_cuts.specs.Cuts.{CutValue}
 use Rattle.node_cuts.specs.Floors.{floor_of}
@@ -47,7 +47,7 @@ bound_text w t f = text_of (bound_lines w t f)
 
 -- ---- what is owed
 
--- the frontier is what a search finds; a candidate that was tried is refuted where a listed set refutes it; the text has the frontier, with each candidate that a listed set refutes in a line of its own; and the files prove the others
+-- the frontier is what a search finds; a candidate that was tried is refuted where a listed set refutes it; the text has the frontier, with each candidate that a listed set refutes in a line of its own; the files prove the others, and are begun as those of any search
 pub record IsBound (w : WordsValue) (t : NamedTopologyValue) (files : FilesValue) (status : Status) (text : List ℕ) : Type 0 where
   pub frontier : FrontierValue
   pub found : IsFound (question_of w t Whole) frontier
@@ -55,3 +55,4 @@ pub record IsBound (w : WordsValue) (t : NamedTopologyValue) (files : FilesValue
   pub unknown : All (λ u. is_cut (searched_question (question_of w t Whole)) u.candidate ≡ false) frontier.unknown
   pub says : Says Done (bound_text w t frontier) status text
   pub proves : IsTrue files.told → Proves (whole_report w t (without_cuts (searched_question (question_of w t Whole)) frontier)) files.before files.after
+  pub begun : IsTrue files.told → BreaksOff w t files.before files.after

@@ -122,7 +122,7 @@ fn empty_core(alloc: Global, formula: &Formula, own: u32, clauses: u32) -> Resul
     ensures { IfOk result (λ core. core ≡ record { vars = own; clauses = []; trail = []; limits = [] }) }
 {
     let counts = occurrences(alloc, formula, own)?;
-    Core::new(alloc, own, clauses, &counts)
+    Core::with_room(alloc, own, clauses, &counts)
 }
 
 /// A core with the clauses of a formula in their order, each literal of them once, and the table of

@@ -17,7 +17,8 @@ use sleeping_clauses::{Awake, Sleepers};
 use std::alloc::Global;
 use trail_core::Core;
 
-/// A core without a clause, with room for those of a core that are to stay awake.
+/// A core without a clause, with room for the literals of a core's clauses that are to stay awake,
+/// and for as many clauses as that core has.
 fn empty_core(alloc: Global, core: &Core, awake: &Awake, vars: u32) -> Result<Core, OutOfMemory>
     requires { IsListed core.now.clauses awake.now }
     ensures { IfOk result (λ left. left ≡ record { vars = vars; clauses = []; trail = []; limits = [] }) }
@@ -29,7 +30,7 @@ fn empty_core(alloc: Global, core: &Core, awake: &Awake, vars: u32) -> Result<Co
             count_each(&mut counts, clause);
         }
     }
-    Core::new(alloc, vars, core.count(), &counts)
+    Core::with_room(alloc, vars, core.count(), &counts)
 }
 
 /// Adds the clause at a place to what is left of a core, or puts it to sleep.

@@ -70,8 +70,8 @@ fn touch_all(usage: &mut Vec<Usage>, hints: &[i64], now: u32) {
 }
 
 impl Awake {
-    /// A table of no clause, with room for those of the formula, which has `formula`, where the
-    /// ledger holds `held`. `Err` comes only where memory runs out.
+    /// A table of no clause, with room for the clauses of the formula, whose number is `formula`,
+    /// where the ledger holds `held`. `Err` comes only where memory runs out.
     pub fn new(alloc: Global, formula: u32, held: u32) -> Result<Awake, OutOfMemory>
         ensures { IfOk result (λ a. (a.ids.items ≡ []) × (a.names.items ≡ 0 ∷ []) × (a.formula ≡ formula) × (a.held ≡ held)) }
     {

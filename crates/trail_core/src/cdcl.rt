@@ -79,11 +79,20 @@ fn total(occurrences: &[u32]) -> usize {
 }
 
 impl Core {
+    /// A core of so many variables, numbered from 1, with no clause, all of them open. `Err` comes
+    /// only where memory runs out.
+    pub fn new(alloc: Global, vars: u32) -> Result<Core, AllocError>
+        ensures { IfOk result (λ c. c ≡ record { vars = vars; clauses = []; trail = []; limits = [] }) }
+    {
+        let counts = vec![in alloc; 0u32; 2 * vars as usize + 2]?;
+        Core::with_room(alloc, vars, 0, &counts)
+    }
+
     /// A core of so many variables, numbered from 1, with no clause, all of them open. It is told
     /// how many clauses are to come, and for each literal's number in how many of them the literal
     /// is to stand, for which it makes room; it takes fewer and more of them too. `Err` comes only
     /// where memory runs out.
-    pub fn new(
+    pub fn with_room(
         alloc: Global,
         vars: u32,
         clauses: u32,

@@ -1,5 +1,5 @@
 -- The topology's header among a report's lines, and refusals of the topology. This project's own.
-use Rattle.std.specs.Prelude.{ℕ, ◌+◌, ◌-◌, ◌<◌, ◌^◌, length, not, Bool, List, Result, Ok, slice_get}
+use Rattle.std.specs.Prelude.{ℕ, ◌+◌, ◌-◌, ◌<◌, ◌^◌, not, Bool, List, Result, Ok, slice_get}
 use Rattle.text_lines.specs.Text.{Row, Place, rows_of}
 use Rattle.text_lines.specs.Check.{◌>>=◌, refuse, at_line, line_part}
 use Rattle.text_lines.specs.declared.stop.Stop.{Stop}
@@ -27,4 +27,4 @@ stop_of text (stop.Refused e) = Refused (record { code = blamed (whole_line (sli
 
 -- each line that a topology may have has a number that fits, and so has the one after the last
 abbrev pub HasMuchRoom : Place → Type 0
-HasMuchRoom p = p.number + length p.rows + 300 < 2 ^ 32
+HasMuchRoom p = p.number + 300 < 2 ^ 32

@@ -26,15 +26,16 @@ fn takes(
 
 #[test]
 fn proofs_of_others(rt: HostRuntime) -> Result<(), Fail> {
-    // a comment, blanks, a carriage return, no line feed at the end, a deletion, and two lines that
-    // are redundant
-    let taken: [&[u8]; 7] = [
+    // a comment, blanks, a carriage return, no line feed at the end, a deletion, and three lines
+    // that are redundant
+    let taken: [&[u8]; 8] = [
         b"c made elsewhere\n34 0 2 3 9 16 24 0\n",
         b" 34\t0  2 3 9 16 24 0 \n\n",
         b"34 0 2 3 9 16 24 0\r\n",
         b"34 0 2 3 9 16 24 0",
         b"34 d 1 0\n34 0 2 3 9 16 24 0\n",
         b"34 -18 0 0\n35 0 2 3 9 16 24 0\n",
+        b"34 11 0 0\n35 0 2 3 9 16 24 0\n",
         b"34 -17 0 -32 19 3 0\n35 0 2 3 9 16 24 0\n",
     ];
     for proof in taken {
@@ -74,9 +75,15 @@ const TWO: Given = (
 
 #[test]
 fn logs(rt: HostRuntime) -> Result<(), Fail> {
-    let table: [(Given, &[u8], &[u8]); 6] = [
+    let table: [(Given, &[u8], &[u8]); 9] = [
         (ONE, b"34 -9 0 2 16 0\n", b"verified\n"),
         (TWO, b"34 -9 0 2 16 0\n35 -8 0 2 13 0\n", b"verified\n"),
+        (TWO, b"34 -9 0 2 16 0\n35 -10 0 3 19 0\n", b"verified\n"),
+        (
+            TWO,
+            b"34 -9 0 2 16 0\n35 -9 0 34 0\n",
+            b"refused 8 7 1-1-1\n",
+        ),
         (
             TWO,
             b"34 -9 0 2 16 0\n35 -9 -8 0 2 16 0\n",
@@ -84,6 +91,7 @@ fn logs(rt: HostRuntime) -> Result<(), Fail> {
         ),
         (TWO, b"34 -9 0 2 16 0\n", b"refused 8 7 1-1-1\n"),
         (ONE, b"34 d 1 0\n", b"refused 8 7 1-1-1\n"),
+        (ONE, b"34 11 0 0\n", b"refused 8 7 1-1-1\n"),
         (ONE, PROOF, b"refused 8 7 1-1-1\n"),
     ];
     let alloc = rt.alloc();

@@ -11,4 +11,5 @@ returns-clause-answers g c =
       unknown = bounds.unknown;
       says = record { status = refl; text = c.in_ok-text.ensures };
       proves = c.in_ok-bounds.ensures.proves;
+      begun = c.in_ok-bounds.ensures.begun;
     }

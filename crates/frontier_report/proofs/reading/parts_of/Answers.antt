@@ -10,7 +10,7 @@ use Rattle.report_form.specs.Reading.{body_of, report_of, version_line}
 use Rattle.report_form.proofs.ReportTaken.{among_ok}
 use Rattle.report_lines.specs.Spelled.{asked_value}
 use Rattle.frontier_report.specs.inner.Header.{header_at}
-use Rattle.frontier_report.proofs.Onward.{room_at_first}
+use Rattle.frontier_report.proofs.Onward.{room_at_first, third_line}
 use Rattle.frontier_report.proofs.BehindTopology.{behind_topology}
 use Rattle.frontier_report.proofs.reading.parts_of.Goals as goal
 
@@ -21,16 +21,16 @@ pub asked_part-requires : goal.asked_part-requires
 asked_part-requires c = record { room = omega (arith, room_at_first c.args.text.now c.new-lines.result.place c.requires c.new-lines.ensures.place, c.in_ok-patterned.ensures.onward) }
 
 pub header_at-requires : goal.header_at-requires
-header_at-requires c = record { room = omega (arith, room_at_first c.args.text.now c.new-lines.result.place c.requires c.new-lines.ensures.place, c.in_ok-patterned.ensures.onward, c.in_ok-asked.ensures.onward) }
+header_at-requires c = record { room = omega (arith, third_line c.args.text.now c.in_ok-patterned.patterned (asked_value c.in_ok-asked.asked) c.new-lines.result.place c.version_part.new.lines.place c.asked_part.new.lines.place c.new-lines.ensures.place c.in_ok-patterned.ensures.read c.in_ok-asked.ensures.read) }
 
 pub names_at-requires : goal.names_at-requires
-names_at-requires c = record { room = omega (arith, room_at_first c.args.text.now c.new-lines.result.place c.requires c.new-lines.ensures.place, c.in_ok-patterned.ensures.onward, c.in_ok-asked.ensures.onward, c.in_ok-header_at.ensures.onward) }
+names_at-requires c = record { room = omega (arith, third_line c.args.text.now c.in_ok-patterned.patterned (asked_value c.in_ok-asked.asked) c.new-lines.result.place c.version_part.new.lines.place c.asked_part.new.lines.place c.new-lines.ensures.place c.in_ok-patterned.ensures.read c.in_ok-asked.ensures.read, c.in_ok-header_at.ensures.moved) }
 
 pub groups_in-requires-clause-room : goal.groups_in-requires-clause-room
-groups_in-requires-clause-room c = omega (arith, room_at_first c.args.text.now c.new-lines.result.place c.requires c.new-lines.ensures.place, c.in_ok-patterned.ensures.onward, c.in_ok-asked.ensures.onward, c.in_ok-header_at.ensures.onward, c.in_ok-names.ensures.onward)
+groups_in-requires-clause-room c = omega (arith, third_line c.args.text.now c.in_ok-patterned.patterned (asked_value c.in_ok-asked.asked) c.new-lines.result.place c.version_part.new.lines.place c.asked_part.new.lines.place c.new-lines.ensures.place c.in_ok-patterned.ensures.read c.in_ok-asked.ensures.read, c.in_ok-header_at.ensures.moved, c.in_ok-names.ensures.moved)
 
 pub pattern_in-requires-clause-room : goal.pattern_in-requires-clause-room
-pattern_in-requires-clause-room c = omega (arith, room_at_first c.args.text.now c.new-lines.result.place c.requires c.new-lines.ensures.place, c.in_ok-patterned.ensures.onward, c.in_ok-asked.ensures.onward, c.in_ok-header_at.ensures.onward, c.in_ok-names.ensures.onward, c.in_ok-groups.ensures.onward)
+pattern_in-requires-clause-room c = omega (arith, third_line c.args.text.now c.in_ok-patterned.patterned (asked_value c.in_ok-asked.asked) c.new-lines.result.place c.version_part.new.lines.place c.asked_part.new.lines.place c.new-lines.ensures.place c.in_ok-patterned.ensures.read c.in_ok-asked.ensures.read, c.in_ok-header_at.ensures.moved, c.in_ok-names.ensures.moved, c.in_ok-groups.ensures.moved)
 
 pub body_part-requires-clause-room : goal.body_part-requires-clause-room
 body_part-requires-clause-room c = omega (arith, room_at_first c.args.text.now c.new-lines.result.place c.requires c.new-lines.ensures.place, c.in_ok-patterned.ensures.onward, c.in_ok-asked.ensures.onward, c.in_ok-header_at.ensures.onward, c.in_ok-names.ensures.onward, c.in_ok-groups.ensures.onward, c.in_ok-pattern.ensures.onward)

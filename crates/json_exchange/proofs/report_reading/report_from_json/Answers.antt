@@ -1,5 +1,6 @@
 use Rattle.std.proofs.Common.{◌≡◌, ◌≤◌, ◌*◌, Some, length, ap, ◌∙◌, arith, rules}
 use Rattle.report_form.specs.Spelling.{report_text}
+use Rattle.frontier_report.proofs.Onward.{lines_of_short}
 use Rattle.json_values.proofs.Standing.{stands_for}
 use Rattle.json_rules.specs.ReportJson.{report_text_in}
 use Rattle.json_exchange.proofs.Short.{report_text_short}
@@ -8,7 +9,7 @@ use Rattle.json_exchange.proofs.report_reading.report_from_json.Goals as goal
 pub read_report-requires : goal.read_report-requires
 read_report-requires c =
     let short : length c.in-Ok.text.items ≤ 2000 * length c.args.bytes.now = report_text_short c.args.bytes.now c.in-Ok.text.items c.in-Ok.ensures in
-    omega (arith, c.requires)
+    lines_of_short c.deref.result.now (omega (arith, short, ap length c.deref.ensures.value, c.requires))
 
 pub returns-in-Ok-read_report-clause-found : goal.returns-in-Ok-read_report-clause-found
 returns-in-Ok-read_report-clause-found c =

@@ -12,4 +12,5 @@ returns-clause-answers g c =
       searched = found.searched;
       says = record { status = refl; text = c.in_ok-text.ensures };
       proves = found.proves;
+      begun = c.in_ok-report.ensures.begun;
     }

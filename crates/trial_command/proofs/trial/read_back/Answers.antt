@@ -1,7 +1,11 @@
-use Rattle.std.proofs.Common.{◌≡◌, ◌∙◌}
+use Rattle.std.proofs.Common.{◌≡◌, ◌∙◌, length, ap, arith}
 use Rattle.report_form.specs.Spelling.{report_text}
+use Rattle.frontier_report.proofs.Onward.{lines_of_short}
 use Rattle.trial_command.proofs.Tried.{only_memory}
 use Rattle.trial_command.proofs.trial.read_back.Goals as goal
+
+pub read_report-requires : goal.read_report-requires
+read_report-requires c = lines_of_short c.deref.result.now (omega (arith, ap length c.deref.ensures.value))
 
 pub returns-in-Ok : goal.returns-in-Ok
 returns-in-Ok c =

@@ -2,7 +2,7 @@ use Rattle.std.proofs.Common.{[], sym, subst, ◌∙◌}
 use Rattle.trail_core.specs.Trails.{TrailValue}
 use Rattle.trail_core.specs.Kept.{IsKept}
 use Rattle.trail_core.proofs.Added.{kept_new}
-use Rattle.trail_core.proofs.cdcl.Core.new.Goals as goal
+use Rattle.trail_core.proofs.cdcl.Core.with_room.Goals as goal
 
 pub invariant_of-result : goal.invariant_of-result
 invariant_of-result c =
