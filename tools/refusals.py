@@ -9,7 +9,7 @@ STATUSES = {
     2: "the words are refused",
     3: "the text is no topology",
     4: "standard input could not be read; nothing is written",
-    5: "standard output could not be written; a part of what was due may be",
+    5: "standard output could not be written; a part of what was due may stand there",
     6: "a file of the folder `proofs` could not be written or read; nothing is written",
     7: "the text is no report",
     8: "the report, or a file beside it, is not right",
@@ -84,13 +84,13 @@ CODES = {
     12: {
         1: "the bytes are no JSON: not UTF-8, not of the grammar, nested too deep, a number that no 64-bit float holds, or half a pair of surrogates in an escape",
         2: "their value does not have the form",
-        3: "the text that it stands for is refused",
+        3: "the line is one of the text that the JSON stands for, and is refused there",
     },
 }
 
 LINE = re.compile(r"refused (\d+) (\d+) ([a-z0-9-]+)\n")
 # Refusals of words that the page of usage helps with.
-HELPED = (1, 2, 3, 5)
+HELPED = (1, 2, 3, 5, 6)
 
 
 def explanation(status, words, output, where):

@@ -10,7 +10,6 @@ use collective_spec::Spec;
 use schedule::{Group, Topology};
 
 /// The variables of a group's counters, one counter a step.
-#[tactic(auto)]
 fn group_size(group: &Group, chunks: u16, steps: u8, extra: u8) -> u64
     requires links { length group.now.links ≤ 256 }
     requires steps { steps ≤ 8 }

@@ -15,7 +15,6 @@ use crate::OutOfMemory;
 use crate::alike::{class_of, is_least, watch_node};
 use cnf_formula::Formula;
 use collective_spec::Instance;
-use conflict_ledger::copy_of_formula;
 use round_encoding::Encoding;
 use send_encoding::SendMap;
 use std::alloc::Global;
@@ -128,6 +127,13 @@ fn all_in_order(
     Ok(())
 }
 
+/// The same formula.
+fn copy_of_formula(formula: &Formula) -> Result<Formula, OutOfMemory>
+    ensures { IfOk result (λ copy. copy ≡ formula.now) }
+{
+    Ok(formula.clone()?)
+}
+
 /// The formula of an encoding, followed by the clauses of the order: for each class of chunks that
 /// are alike, by its least chunk, each of its chunks comes to the watch node no later than the
 /// next. It is satisfiable exactly where the candidate is solvable. The only error is
@@ -144,7 +150,7 @@ pub fn order_clauses(
     ensures exactly { IfOk result (λ f. (t : TopologyValue) (steps rounds : ℕ) → IsEncodingOf t instance.now.pre instance.now.post steps rounds encoding.now
         → Satisfiable f ↔ Solvable t instance.now.pre instance.now.post steps rounds) }
 {
-    let mut formula = copy_of_formula(alloc, &encoding.formula)?;
+    let mut formula = copy_of_formula(&encoding.formula)?;
     all_in_order(alloc, &mut formula, &encoding.map, instance)?;
     Ok(formula)
 }

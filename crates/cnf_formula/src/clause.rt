@@ -7,7 +7,7 @@ use smallvec::SmallVec;
 use std::marker::Model;
 
 /// A clause: a list of literals, of which one has to be true.
-#[derive(Debug, Drop)]
+#[derive(Clone, Debug, Drop)]
 pub struct Clause {
     lits: SmallVec<Lit, 4>,
 }

@@ -12,7 +12,7 @@ use std::marker::Model;
 
 /// A formula in conjunctive normal form: variables numbered from 1 to `vars`, and clauses over
 /// them.
-#[derive(Debug, Drop)]
+#[derive(Clone, Debug, Drop)]
 pub struct Formula {
     vars: u32,
     clauses: Vec<Clause>,

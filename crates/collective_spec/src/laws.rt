@@ -1,4 +1,4 @@
-ghost use Rattle.std.specs.Prelude.{◌≡◌, ◌+◌, ◌*◌, ◌<◌, ℕ, true, false, [], ◌∷◌, Option, IfSome};
+ghost use Rattle.std.specs.Prelude.{◌≡◌, ◌+◌, ◌*◌, ◌<◌, ℕ, true, false, Option, IfSome};
 ghost use Rattle.schedule.specs.Placed.{PlacementValue, IsPlacement, holds};
 ghost use Rattle.collective_spec.specs.Kinds.{takes_root};
 ghost use Rattle.collective_spec.specs.Patterns.{PatternValue, IsPattern, IsAmong, copied};
@@ -50,12 +50,4 @@ pub fn what_fits_is_a_spec()
         → kind_in (spec_of collective pattern) ≡ collective.kind }
     ensures spec { (nodes : ℕ) (collective : Collective) (pattern : Option PatternValue) → fits_kind collective.kind pattern ≡ true
         → collective.root < nodes → IfSome pattern (IsPattern nodes) → IsSpec nodes (spec_of collective pattern) }
-{}
-
-/// Two chunks at three nodes, copied twice; and a chunk that is to go from node 0 to node 2.
-pub fn patterns_are_copied()
-    ensures twice { copied 2 2 3 (record { chunks = 2; nodes = 3; pairs = (0, 0) ∷ (1, 1) ∷ (1, 2) ∷ [] })
-        ≡ record { chunks = 4; nodes = 3; pairs = (0, 0) ∷ (1, 1) ∷ (1, 2) ∷ (2, 0) ∷ (3, 1) ∷ (3, 2) ∷ [] } }
-    ensures once { spec_instance (Spec.Custom (record { base = 1; before = record { chunks = 1; nodes = 3; pairs = (0, 0) ∷ [] }; after = record { chunks = 1; nodes = 3; pairs = (0, 2) ∷ [] } })) 3 1
-        ≡ record { chunks = 1; pre = record { chunks = 1; nodes = 3; pairs = (0, 0) ∷ [] }; post = record { chunks = 1; nodes = 3; pairs = (0, 2) ∷ [] } } }
 {}

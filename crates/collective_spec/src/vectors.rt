@@ -2,6 +2,7 @@
 
 ghost use Rattle.std.specs.Prelude.{◌≡◌, true, false, [], ◌∷◌};
 ghost use Rattle.collective_spec.specs.Kinds.{allows};
+ghost use Rattle.collective_spec.specs.Patterns.{copied};
 ghost use Rattle.collective_spec.specs.Collectives.{spec_demand, spec_instance};
 ghost use Rattle.collective_spec.specs.Rows.{demand_on_three, everywhere, instance_on_three, moves, on_three, rooted, scattered, two_given};
 
@@ -26,6 +27,14 @@ pub fn adding_on_three_nodes()
     ensures reduced { demand_on_three Kind.Reduce 1 ≡ on_three 1 ((0, 1) ∷ []) }
     ensures reducescattered { demand_on_three Kind.Reducescatter 1 ≡ on_three 3 scattered }
     ensures allreduced { demand_on_three Kind.Allreduce 1 ≡ on_three 3 everywhere }
+{}
+
+/// Two chunks at three nodes, copied twice; and a chunk that is to go from node 0 to node 2.
+pub fn patterns_are_copied()
+    ensures twice { copied 2 2 3 (record { chunks = 2; nodes = 3; pairs = (0, 0) ∷ (1, 1) ∷ (1, 2) ∷ [] })
+        ≡ record { chunks = 4; nodes = 3; pairs = (0, 0) ∷ (1, 1) ∷ (1, 2) ∷ (2, 0) ∷ (3, 1) ∷ (3, 2) ∷ [] } }
+    ensures once { spec_instance (Spec.Custom (record { base = 1; before = record { chunks = 1; nodes = 3; pairs = (0, 0) ∷ [] }; after = record { chunks = 1; nodes = 3; pairs = (0, 2) ∷ [] } })) 3 1
+        ≡ record { chunks = 1; pre = record { chunks = 1; nodes = 3; pairs = (0, 0) ∷ [] }; post = record { chunks = 1; nodes = 3; pairs = (0, 2) ∷ [] } } }
 {}
 
 /// A pattern of two chunks, copied: chunk 1 of the second copy is the last of four.

@@ -16,6 +16,21 @@ use collective_spec::Kind;
 use text_lines::read_number;
 use topology_text::{FamilyKind, Name};
 
+/// The greatest number of a point.
+const MAX_POINT: u64 = 65_535;
+
+/// The greatest size of a family, in nodes.
+const MAX_SIZE: u64 = 16;
+
+/// The greatest number of a trial.
+const MAX_TRIAL: u64 = 4095;
+
+/// The greatest number of a group, counted from 0.
+const MAX_GROUP: u64 = 255;
+
+/// The greatest width of a group.
+const MAX_WIDTH: u64 = 16;
+
 /// The kind of a collective, and the index of its word.
 #[derive(Clone, Copy)]
 pub struct KindWord {
@@ -160,22 +175,22 @@ impl Values {
                 word,
             }),
             Key::Point => values.point = Some(PointWord {
-                point: number_from(1, 65_535, text)? as u32,
+                point: number_from(1, MAX_POINT, text)? as u32,
                 word,
             }),
             Key::Order => values.order = Some(number_from(0, u64::MAX, text)?),
             Key::Kind => values.kind = Some(kind_from(text)?),
             Key::Size => values.size = Some(SizeWord {
-                size: number_from(1, 16, text)? as u8,
+                size: number_from(1, MAX_SIZE, text)? as u8,
                 word,
             }),
-            Key::N => values.n = Some(number_from(0, 4095, text)? as u16),
+            Key::N => values.n = Some(number_from(0, MAX_TRIAL, text)? as u16),
             Key::Group => values.group = Some(GroupWord {
-                group: number_from(0, 255, text)? as u16,
+                group: number_from(0, MAX_GROUP, text)? as u16,
                 word,
             }),
             Key::Width => values.width = Some(WidthWord {
-                width: number_from(0, 16, text)? as u8,
+                width: number_from(0, MAX_WIDTH, text)? as u8,
                 word,
             }),
             Key::What => values.what = Some(what_from(verb, text)?),

@@ -40,3 +40,17 @@ pub middle_passed : (core : CoreValue) (w : WalkValue) (k : ℕ) → IsMiddle co
 middle_passed core w k m s p = passed_over core 3 w k p (λ e.
     let low = bottom_place core.limits k m.some (s.marked.bottom k m.within e) in
     omega (arith, low, m.above))
+
+-- no step of level 0 waits at any lower place above level 0
+pub passed_lower : (core : CoreValue) (w : WalkValue) (from to : ℕ) → 0 < length core.limits → get_or core.limits 0 0 ≤ to → to ≤ from → IsSorted core w → IsPassed core 3 w from → IsPassed core 3 w to
+passed_lower core w from to some above le s p = record {
+  each = λ k v e. let q = p.each k v e in (omega (arith, q.0, le), q.1);
+  waits = λ k v e. let low = bottom_place core.limits k some (s.marked.bottom k v e) in omega (arith, low, above);
+  hints = p.hints;
+}
+
+-- where a level begins, below which another one ends
+pub level_lower : (core : CoreValue) (w : WalkValue) (low from : ℕ) → IsTrail core.vars core.trail core.limits → low < length core.limits → get_or core.limits low 0 ≤ from → IsSorted core w → IsPassed core 3 w from → IsPassed core 3 w (get_or core.limits low 0)
+level_lower core w low from t below le s p =
+    let first = limits_rise core.limits (length core.trail) 0 low t.levels (omega arith) below in
+    passed_lower core w from (get_or core.limits low 0) (omega (arith, below)) first le s p

@@ -91,7 +91,7 @@ fn kept_lits(alloc: Global, walk: &Walk) -> Result<Vec<Lit>, OutOfMemory>
     requires few { walk.now.stamp ≤ 251 }
     ensures { IfOk result (λ lits. AreLeft walk.now.stamp walk.now.marks.items walk.now.lits.items lits.items) }
 {
-    let mut left = Vec::new(alloc);
+    let mut left = Vec::with_capacity(alloc, walk.lits.len().saturating_add(1))?;
     for lit in &walk.lits {
         if walk.marks[lit.var() as usize] == walk.stamp + KEPT {
             left.push(*lit)?;

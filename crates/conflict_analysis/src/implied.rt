@@ -3,7 +3,7 @@
 ghost use Rattle.std.specs.Prelude.{◌≤◌, ◌<◌, IfSome};
 ghost use Rattle.cnf_formula.specs.Formulas.{IsClause};
 
-use crate::seen::Seen;
+use crate::sought::Sought;
 use cnf_formula::{Lit, OutOfMemory};
 use std::alloc::Global;
 use trail_core::Core;
@@ -29,8 +29,8 @@ pub struct Implied {
     marks: Vec<u32>,
     /// The stamp of this clause, above all marks of those before it.
     stamp: u32,
-    /// The variables of a level that wait to be taken for their reasons.
-    pub(crate) waiting: Seen,
+    /// What a walk over the levels of the clause looks for.
+    pub(crate) sought: Sought,
     ghost small: { stamp < 4294967290 },
 }
 
@@ -64,7 +64,7 @@ impl Implied {
         Ok(Implied {
             marks: vec![in alloc; 0u32; vars as usize + 1]?,
             stamp: 0,
-            waiting: Seen::new(alloc, vars)?,
+            sought: Sought::new(alloc, vars)?,
         })
     }
 

@@ -11,6 +11,7 @@ mod level_point;
 mod meeting;
 mod seen;
 mod shrinking;
+mod sought;
 mod walk;
 
 pub use analyze::line_at;

@@ -10,15 +10,22 @@ ghost use Rattle.trail_core.specs.Formed.{IsTrail};
 ghost use Rattle.conflict_analysis.specs.Met.{value_of, IsSorted, IsPassed, IsOnward, HasSameOpen, mark_of, lit_at, step_at};
 
 use crate::implied::Implied;
-use crate::level_point::point_of;
+use crate::level_point::has_point;
 use crate::meeting::{is_waiting, resolve};
 use crate::walk::{KEPT, Walk};
 use cnf_formula::OutOfMemory;
 use trail_core::Core;
 
-/// Whether the literal at a place is kept, has a reason, and lies above the point of its level or
-/// is found to be implied by others.
-fn is_spare(core: &Core, walk: &Walk, implied: &mut Implied, place: usize, point: usize) -> bool
+/// Passes a place of a level. Whether its literal is kept, has a reason, and the level has a point
+/// or others are found to imply the literal.
+fn is_spare(
+    core: &Core,
+    walk: &Walk,
+    implied: &mut Implied,
+    level: u32,
+    place: usize,
+    shrinks: bool,
+) -> bool
     requires place { place < length core.now.trail }
     requires len { length walk.now.marks.items ≡ core.now.vars + 1 }
     requires few { walk.now.stamp ≤ 251 }
@@ -28,15 +35,17 @@ fn is_spare(core: &Core, walk: &Walk, implied: &mut Implied, place: usize, point
     if !is_waiting(core, walk, place, KEPT) {
         return false;
     }
+    implied.sought.pass(level);
     let lit = core.trail()[place];
     let Some(_reason) = core.reason(lit) else {
         return false;
     };
-    place > point || implied.is_implied(core, lit.negated())
+    shrinks || implied.is_implied(core, lit.negated())
 }
 
 /// Resolves the steps of a level between level 0 and the last level whose literals are to be taken
-/// out.
+/// out. One that is left alone of its level stays: its reasons lead to the decision of the level, so
+/// the others do not imply it.
 fn walk_level(
     core: &Core,
     walk: &mut Walk,
@@ -54,16 +63,22 @@ fn walk_level(
     ensures same { OnOk result (HasSameOpen core.now (value_of walk.old) (value_of walk.new)) }
     ensures passed { (low : ℕ) → low + 1 ≡ level → OnOk result (IsPassed core.now 3 (value_of walk.new) (get_or core.now.limits low 0)) }
 {
+    if implied.sought.kept(level) < 2 {
+        implied.sought.leave(level);
+        return Ok(());
+    }
     let from = core.height(level - 1);
     let to = core.height(level);
-    let point = point_of(core, walk, implied, level, from, to);
+    let shrinks = has_point(core, walk, implied, level, from, to);
     let mut place = to;
-    while place > from {
+    while place > from && implied.sought.kept(level) > 1 {
         place -= 1;
-        if is_spare(core, walk, implied, place, point) {
+        if is_spare(core, walk, implied, level, place, shrinks) {
             resolve(core, walk, place)?;
+            implied.sought.count(core, &walk.lits);
         }
     }
+    implied.sought.leave(level);
     Ok(())
 }
 
@@ -80,6 +95,8 @@ pub fn walk_middle(core: &Core, walk: &mut Walk, implied: &mut Implied) -> Resul
     ensures passed { OnOk result (IsPassed core.now 3 (value_of walk.new) (get_or core.now.limits 0 0)) }
 {
     implied.begin(&walk.lits);
+    implied.sought.begin();
+    implied.sought.count(core, &walk.lits);
     let mut level = core.depth();
     while level > 1 {
         level -= 1;

@@ -4,7 +4,6 @@ ghost use Rattle.std.specs.Prelude.{◌≡◌, ◌≤◌, ◌<◌, ◌+◌, [], 
 ghost use Rattle.ledger_rules.specs.Logs.{learned};
 ghost use Rattle.conflict_ledger.specs.Shelved.{log_text};
 
-use crate::copying::copy_of_line;
 use cnf_formula::{Formula, OutOfMemory, ProofLine};
 use ledger_rules::{Ledger, LedgerFault, LedgerView};
 use lrat_text::print_line;
@@ -59,7 +58,7 @@ impl<'a> KeptLedger<'a> {
         ensures spent { self.new.spent ≡ self.old.spent }
         ensures limit { self.new.limit ≡ self.old.limit }
     {
-        let copy = copy_of_line(*self.lines.allocator(), line)?;
+        let copy = line.clone()?;
         self.lines.reserve(1)?;
         Ok(copy)
     }

@@ -3,13 +3,11 @@
 #![tactic(auto)]
 
 mod checked;
-mod copying;
 mod kept;
 mod pair;
 mod shelved;
 
 pub use checked::CheckedLedger;
-pub use copying::copy_of_formula;
 pub use kept::KeptLedger;
 pub use ledger_rules::{Ledger, LedgerFault, LedgerView};
 pub use pair::PairLedger;

@@ -16,6 +16,12 @@ const FIRST_GAIN: u64 = 1000;
 /// Activities above this are made smaller, all of them.
 const HIGHEST: u64 = 1 << 60;
 
+/// How many bits they lose then.
+const SHRINK_BITS: u32 = 40;
+
+/// At each conflict what is gained grows by its part in so many.
+const GROWTH: u64 = 20;
+
 /// A binary heap of variables, of which the most active is taken first.
 #[derive(Drop)]
 pub struct Order {
@@ -181,15 +187,15 @@ impl Order {
         ensures { self.new ≡ self.old }
     {
         for activity in self.activity.iter_mut() {
-            *activity >>= 40;
+            *activity >>= SHRINK_BITS;
         }
-        self.gain = (self.gain >> 40) + 1;
+        self.gain = (self.gain >> SHRINK_BITS) + 1;
     }
 
     /// Makes what is gained from now on count for more than what was before.
     pub fn age(&mut self)
         ensures { self.new ≡ self.old }
     {
-        self.gain = self.gain.saturating_add(self.gain / 20);
+        self.gain = self.gain.saturating_add(self.gain / GROWTH);
     }
 }

@@ -88,7 +88,7 @@ pub fn points_part(
     while next_begins(lines, b"point ") {
         let point = match point_part(alloc, lines, names, question, last) {
             Ok(point) => point,
-            Err(halt) => return Err(halt),
+            Err(stop) => return Err(stop),
         };
         last = Some(point.candidate());
         points.push(point)?;
@@ -134,7 +134,7 @@ pub fn joined_points_part(
     while next_begins(lines, b"point ") {
         let point = match joined_point_part(alloc, lines, names, question) {
             Ok(point) => point,
-            Err(halt) => return Err(halt),
+            Err(stop) => return Err(stop),
         };
         points.push(point)?;
     }

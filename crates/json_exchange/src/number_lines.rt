@@ -8,7 +8,7 @@ ghost use Rattle.json_rules.specs.ReportJson.{number_in, counts_in, refuted_in, 
 
 use json_values::{Piece, count_in, items_in, push_list};
 use serde_json::Value;
-use text_lines::{Stop, push_number, push_word};
+use text_lines::{Stop, push_number_field, push_word};
 
 /// A space and a number.
 pub(crate) struct NumberToken;
@@ -20,8 +20,7 @@ impl Piece for NumberToken {
         let Some(number) = count_in(value) else {
             return Err(Stop::Refused(()));
         };
-        push_word(out, b" ")?;
-        push_number(out, number)?;
+        push_number_field(out, number)?;
         Ok(())
     }
 }

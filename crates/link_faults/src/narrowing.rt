@@ -1,26 +1,13 @@
 //! What a fault leaves of a topology.
 
 ghost use Rattle.std.specs.Prelude.{◌≡◌, ◌<◌, length, slice_set, IfOk};
-ghost use Rattle.std.specs.List.{list_any};
-ghost use Rattle.schedule.specs.Links.{same_link};
 ghost use Rattle.schedule.specs.Judging.{group_at};
 ghost use Rattle.link_faults.specs.Narrowed.{groups_after, left_of, narrowed, with_width, without};
 
 use crate::OutOfMemory;
-use schedule::{Group, Topology};
+use schedule::{Group, Topology, has_link};
 use std::alloc::Global;
 use topology_text::NamedTopology;
-
-fn has_link(links: &[(u8, u8)], link: (u8, u8)) -> bool
-    ensures { result ≡ list_any (same_link link) links.now }
-{
-    for other in links {
-        if link.0 == other.0 && link.1 == other.1 {
-            return true;
-        }
-    }
-    false
-}
 
 /// The links of a group that do not stand in another.
 fn links_without(alloc: Global, group: &Group, lost: &Group) -> Result<Vec<(u8, u8)>, OutOfMemory>

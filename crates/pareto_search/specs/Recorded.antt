@@ -9,11 +9,12 @@ use Rattle.engine_rules.specs.Outcomes.{RecordValue}
 abbrev pub entries_of : FrontierValue → RecordValue
 entries_of f = map (λ x. (x, Solved)) (solved f) ++ map (λ x. (x, Refuted)) f.refuted ++ map (λ x. (x, Unknown)) (given_up f)
 
--- each candidate of the record, and the one at which the engine failed, is within the limits
+-- the candidate at which the engine failed, if there is one, is within the limits
 abbrev pub IsStoppedWithin : QuestionValue → Option Candidate → Type 0
 IsStoppedWithin q None = Unit {0}
 IsStoppedWithin q (Some x) = IsWithin q x
 
+-- each candidate of the record, and the one at which the engine failed, is within the limits
 pub record StaysWithin (q : QuestionValue) (entries : RecordValue) (stopped : Option Candidate) : Type 0 where
   pub settled : All (λ entry. IsWithin q entry.0) entries
   pub failed : IsStoppedWithin q stopped

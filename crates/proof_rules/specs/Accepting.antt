@@ -106,7 +106,7 @@ pub record Implied (c : CheckerValue) (line : ProofLineValue) : Type 0 where
   pub no_groups : groups_of line.hints ≡ []
   pub conflict : Conflicts c.held line.lits (leading line.hints)
 
--- it leaves satisfiable what is held: where its hints lead to no conflict, a group closes each clause with the negation of its first literal
+-- it leaves satisfiable what is held: where its hints lead to no conflict, a group closes each clause with the negation of its first literal, unless another literal of that clause is true already
 pub record Redundant (c : CheckerValue) (line : ProofLineValue) : Type 0 where
   pub new : IsNew c line
   pub pivot : LitValue

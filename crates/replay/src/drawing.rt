@@ -32,7 +32,8 @@ impl Generator {
     }
 }
 
-/// The next state of the generator, a linear congruence modulo 2^64.
+/// The next state of the generator, a linear congruence modulo 2^64 (with the numbers of Knuth's
+/// MMIX).
 pub(crate) fn next_draw(state: u64) -> u64
     ensures { result ≡ next_draw state }
 {
@@ -41,7 +42,8 @@ pub(crate) fn next_draw(state: u64) -> u64
         .wrapping_add(1442695040888963407)
 }
 
-/// The node that a state of the generator draws among those that are enabled, if there is one.
+/// The node that a state of the generator draws among those that are enabled, if there is one. The
+/// low bits, which are the least random, draw nothing.
 fn ranked(machine: &Machine, state: u64) -> Option<u8>
     ensures node { result ≡ ranked (enabled machine.now) state }
     ensures within { IfSome result (λ node. node < machine.now.store.nodes) }

@@ -10,6 +10,9 @@ use report_form::ReportCode;
 use text_lines::{Tokens, read_number};
 use topology_text::Name;
 
+/// No number of a line is greater, but for conflicts.
+const GREATEST: u64 = 65_535;
+
 /// Takes a token that is known.
 pub fn fixed_word(tokens: &mut Tokens<'_>, word: &[u8]) -> Result<(), ReportCode>
     ensures { Tells (λ _. tokens.new.words) result (fixed_word word.now tokens.old.words) }
@@ -24,7 +27,7 @@ pub fn fixed_word(tokens: &mut Tokens<'_>, word: &[u8]) -> Result<(), ReportCode
 pub fn small_number(token: &[u8]) -> Result<u16, ReportCode>
     ensures { Tells (λ n. n) result (need (small_number token.now) ReportCode.BadLine) }
 {
-    match read_number(token, 65_535) {
+    match read_number(token, GREATEST) {
         Some(number) => Ok(number as u16),
         None => Err(ReportCode::BadLine),
     }

@@ -4,6 +4,5 @@
 mod printing;
 
 pub use printing::{
-    name_at, print_report, push_all_refuted, push_all_unknown, push_candidate, push_points,
-    push_synth_line,
+    print_report, push_all_refuted, push_all_unknown, push_candidate, push_points, push_synth_line,
 };

@@ -3,7 +3,7 @@
 ghost use Rattle.std.specs.Prelude.{◌≡◌, ◌++◌, ◌∷◌, [], codes, decimal, map, OnOk, IfOk};
 ghost use Rattle.std.specs.List.{flat_map};
 ghost use Rattle.text_lines.specs.Text.{line, text_of, fields};
-ghost use Rattle.topology_text.specs.Spelling.{name_at, version_word};
+ghost use Rattle.topology_text.specs.Spelling.{version_word};
 ghost use Rattle.report_form.specs.Spelling.{candidate_words, joined_lines, mark_words, point_words, refuted_words, report_text, root_words, rounds_words, send_words, synth_words, unknown_words};
 ghost use Rattle.report_printing.specs.Printed.{frontier_text, limits_text, point_text};
 
@@ -13,18 +13,8 @@ use outer_ports::Part;
 use report_form::{Report, Words, part_bytes};
 use schedule::Hop;
 use std::alloc::{AllocError, Global};
-use text_lines::{push_field, push_number, push_number_field, push_word};
-use topology_text::{Name, NamedTopology, push_topology};
-
-/// The name of a node; empty where there is none of that number.
-pub fn name_at(names: &[Name], node: u8) -> &[u8]
-    ensures { result.now ≡ name_at names.now node }
-{
-    match names.get(usize::from(node)) {
-        Some(name) => name.as_bytes(),
-        None => &[],
-    }
-}
+use text_lines::{push_number, push_number_field, push_word};
+use topology_text::{Name, NamedTopology, push_node_field, push_node_name, push_topology};
 
 /// Appends the steps, the rounds and the chunk count, each behind a space. An `Err` comes only
 /// where memory runs out.
@@ -84,8 +74,8 @@ fn push_send(out: &mut Vec<u8>, names: &[Name], hop: Hop) -> Result<(), AllocErr
 {
     push_word(out, b"send")?;
     push_number_field(out, u64::from(hop.chunk))?;
-    push_field(out, name_at(names, hop.from))?;
-    push_field(out, name_at(names, hop.to))?;
+    push_node_field(out, names, hop.from)?;
+    push_node_field(out, names, hop.to)?;
     push_number_field(out, u64::from(hop.step))?;
     push_word(out, b"\n")?;
     Ok(())
@@ -230,7 +220,7 @@ fn push_root(out: &mut Vec<u8>, names: &[Name], words: Words) -> Result<(), Allo
 {
     if takes_root(words.collective().kind) {
         push_word(out, b" root=")?;
-        push_word(out, name_at(names, words.collective().root))?;
+        push_node_name(out, names, words.collective().root)?;
     }
     Ok(())
 }

@@ -37,6 +37,7 @@ pub fn wake(
 {
     go_to_bottom(core, decider)?;
     let id = core.add_clause(sleepers.clause(place))?;
+    // Use alone keeps it awake, and not its levels.
     let usage = Usage {
         levels: u32::MAX,
         last: awake.held,

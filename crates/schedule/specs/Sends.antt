@@ -1,7 +1,5 @@
 -- Schedules: rounds for each step, and sends (Cai et al., PPoPP 2021, section on k-synchronous algorithms).
 use Rattle.std.specs.Prelude.{◌≡◌, ◌==◌, ◌&&◌, ◌||◌, ℕ, ◌<◌, ◌≤◌, Bool, true, List, length, nat_lt, All, AllPairs}
-use Rattle.std.specs.Ordering.{nat_cmp, ordering_then}
-use Rattle.std.specs.declared.cmp.Ordering.{Ordering}
 use Rattle.schedule.specs.declared.hop.Hop.{Hop}
 
 -- the number of rounds of each step, and the sends
@@ -19,10 +17,6 @@ hop_before a b =
     && (nat_lt a.chunk b.chunk || (a.chunk == b.chunk
     && (nat_lt a.from b.from || (a.from == b.from
     && nat_lt a.to b.to)))))
-
--- the same order, as a comparison
-abbrev pub hop_cmp : Hop → Hop → Ordering
-hop_cmp a b = ordering_then (ordering_then (ordering_then (nat_cmp a.step b.step) (nat_cmp a.chunk b.chunk)) (nat_cmp a.from b.from)) (nat_cmp a.to b.to)
 
 -- from 1 to 9 rounds in a step
 pub record IsRound (rounds : ℕ) : Type 0 where

@@ -1,5 +1,6 @@
 ghost use Rattle.std.specs.Prelude.{◌≡◌, IfOk};
-ghost use Rattle.schedule.specs.Links.{GroupValue, IsGroup, reversed_group};
+ghost use Rattle.std.specs.List.{list_any};
+ghost use Rattle.schedule.specs.Links.{GroupValue, IsGroup, reversed_group, same_link};
 
 use crate::OutOfMemory;
 use std::marker::Model;
@@ -61,4 +62,16 @@ impl Group {
             width: self.width,
         })
     }
+}
+
+/// Whether the link is one of them.
+pub fn has_link(links: &[(u8, u8)], link: (u8, u8)) -> bool
+    ensures { result ≡ list_any (same_link link) links.now }
+{
+    for other in links {
+        if link.0 == other.0 && link.1 == other.1 {
+            return true;
+        }
+    }
+    false
 }

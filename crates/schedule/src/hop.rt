@@ -1,8 +1,8 @@
 //! Sends, and their order.
 
 ghost use Rattle.std.specs.Prelude.{◌≡◌};
-ghost use Rattle.std.specs.Ordering.{is_lt};
-ghost use Rattle.schedule.specs.Sends.{hop_before, hop_cmp};
+ghost use Rattle.std.specs.Ordering.{is_gt, is_lt};
+ghost use Rattle.schedule.specs.Sends.{hop_before};
 
 use std::cmp::Ordering;
 
@@ -18,8 +18,8 @@ pub struct Hop {
 
 /// Compares by step, chunk, from and to: the order of the sends of a schedule.
 pub fn hop_cmp(a: &Hop, b: &Hop) -> Ordering
-    ensures same { result ≡ hop_cmp a.now b.now }
     ensures less { is_lt result ≡ hop_before a.now b.now }
+    ensures greater { is_gt result ≡ hop_before b.now a.now }
 {
     a.step
         .cmp(&b.step)

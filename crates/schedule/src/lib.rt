@@ -17,7 +17,7 @@ pub mod vectors;
 mod verdict;
 
 pub use bandwidth::{first_overfull, load_of};
-pub use group::Group;
+pub use group::{Group, has_link};
 pub use hop::{Hop, hop_cmp};
 pub use judge::{first_unlinked, solves, solves_by_run};
 pub use placement::Placement;

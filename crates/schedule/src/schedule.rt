@@ -23,8 +23,8 @@ impl Model for Schedule {
 }
 
 impl Schedule {
-    /// The schedule of 1 to 16 steps, each of 1 to 9 rounds, and of these sends, each once and of
-    /// one of the steps.
+    /// The schedule of 1 to 16 steps, each of 1 to 9 rounds, and of these sends, each of one of the
+    /// steps, in strictly ascending order by step, chunk, from and to.
     pub fn new(rounds: Vec<u8>, sends: Vec<Hop>) -> Schedule
         requires { IsSchedule (record { rounds = rounds.items; sends = sends.items }) }
         ensures { result ≡ record { rounds = rounds.items; sends = sends.items } }

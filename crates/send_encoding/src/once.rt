@@ -31,8 +31,7 @@ fn once_at(
     requires step { IsStep map.now.steps step }
     ensures { OnOk result (formula.new ≡ with_clauses formula.old (at_most_one_of (sends_into map.now chunk node step))) }
 {
-    let steps = map.steps();
-    let _ = steps;
+    let _known = map.steps();
     let mut into = Vec::new(alloc);
     push_sends_into(&mut into, map, chunk, node, step)?;
     at_most_one(formula, &into)

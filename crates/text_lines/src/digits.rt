@@ -18,7 +18,7 @@ pub fn push_number_reserved(out: &mut Vec<u8>, value: u64)
     }
 }
 
-/// Appends the digits, from the greatest on.
+/// Appends the digits, from the most significant on.
 #[tactic(auto, using(crate::proofs::Decimals::append_four, crate::proofs::Decimals::length_four))]
 fn push_digits(out: &mut Vec<u8>, number: u64)
     requires { vec_len out.old + length (decimal number) ≤ vec_capacity out.old }

@@ -11,7 +11,7 @@ mod stop;
 mod tokens;
 
 pub use digits::push_number_reserved;
-pub use fields::{push_field, push_number_field};
+pub use fields::push_number_field;
 pub use line::Line;
 pub use lines::Lines;
 pub use number::{push_number, push_word, read_number};

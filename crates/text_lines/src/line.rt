@@ -1,4 +1,5 @@
-/// A piece between line feeds. Lines are numbered from 1, and `whole` says that a line feed ended
+/// A piece between line feeds, from the byte `start` of the text up to but not including `end`,
+/// where its line feed stands. Lines are numbered from 1, and `whole` says that a line feed ended
 /// it.
 #[derive(Clone, Copy, Debug)]
 pub struct Line {

@@ -1,11 +1,9 @@
 //! The line of one group.
 
 ghost use Rattle.std.specs.Prelude.{◌≡◌, ◌<◌, ◌≤◌, [], length, IfOk, nat_le};
-ghost use Rattle.std.specs.List.{list_any};
 ghost use Rattle.text_lines.specs.Text.{words_of};
 ghost use Rattle.text_lines.specs.Line.{IsIn, row_at};
 ghost use Rattle.text_lines.specs.Check.{Gives};
-ghost use Rattle.schedule.specs.Links.{same_link};
 ghost use Rattle.topology_text.specs.Reading.{links_from, width_of, group_row};
 
 use crate::fault::TopologyCode;
@@ -13,7 +11,7 @@ use crate::link_word::link_of;
 use crate::name::Name;
 use crate::nodes_line::has_empty_token;
 use indexmap::IndexSet;
-use schedule::Group;
+use schedule::{Group, has_link};
 use std::alloc::Global;
 use text_lines::{Line, Stop, Tokens, read_number, tokens_of};
 
@@ -31,17 +29,6 @@ fn has_three_tokens(text: &[u8], line: Line) -> bool
     let _ = tokens.next_word();
     let _ = tokens.next_word();
     tokens.next_word().is_some()
-}
-
-fn has_link(links: &[(u8, u8)], link: (u8, u8)) -> bool
-    ensures { result ≡ list_any (same_link link) links.now }
-{
-    for other in links {
-        if link.0 == other.0 && link.1 == other.1 {
-            return true;
-        }
-    }
-    false
 }
 
 fn links_of(

@@ -49,7 +49,6 @@ fn push_link(out: &mut Vec<u8>, names: &[Name], from: u8, to: u8) -> Result<(), 
     push_word(out, names[to as usize].as_bytes())
 }
 
-#[tactic(auto)]
 fn push_links(out: &mut Vec<u8>, names: &[Name], links: &[(u8, u8)]) -> Result<(), AllocError>
     requires { All (IsBelow (length names.now)) links.now }
     ensures appended { OnOk result (out.new.items ≡ out.old.items ++ flat_map (λ w. 32 ∷ w) (map (link_word names.now) links.now)) }

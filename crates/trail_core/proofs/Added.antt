@@ -1,13 +1,13 @@
 -- What a core keeps, as a clause is added.
-use Rattle.std.proofs.Common.{zero, suc, ◌≡◌, ◌≢◌, ◌==◌, ℕ, ◌+◌, ◌-◌, ◌*◌, ◌<◌, ◌≤◌, List, [], ◌∷◌, ◌++◌, length, get_or, set, take, Some, leb, cond, count_by, sum_by, refl, sym, ap, ◌∙◌, subst, inl, inr, ⊎_elim, arith}
+use Rattle.std.proofs.Common.{zero, suc, ◌≡◌, ◌≢◌, ◌==◌, ℕ, ◌+◌, ◌*◌, ◌<◌, ◌≤◌, List, [], ◌∷◌, ◌++◌, length, get_or, set, take, Some, leb, cond, count_by, sum_by, refl, sym, ap, ◌∙◌, subst, inl, inr, ⊎_elim, arith}
 use Rattle.std.specs.Prelude.{◌⊎◌, Contains, All}
 use Rattle.std.proofs.lemmas.Bool.{cases_lt, cases_eq, le-leb, lt-leb}
-use Rattle.std.proofs.lemmas.List.{get_or_past, get_or_append_left, get_or_push, get_or-take, get_or_default, length_push, map_push, length-take-le, get_or-set_same, get_or-set_other, length-set, length-map, take-append-le}
+use Rattle.std.proofs.lemmas.List.{get_or_past, get_or_append_left, get_or_push, get_or-take, get_or_default, length_push, map_push, length-take-le, get_or-set_same, get_or-set_other, length-set, length-map, take-append-le, take-take}
 use Rattle.std.proofs.lemmas.List.Sums.{sum_by_push, sum_by-cons, count_by-le-length}
 use Rattle.std.proofs.lemmas.List.Elements.{All-push, Contains-push, Contains-append_left}
 use Rattle.cnf_formula.specs.Literals.{LitValue, negation, code_of}
 use Rattle.cnf_formula.proofs.Codes.{same_code}
-use Rattle.trail_core.specs.Assigned.{IsFalse, IsOpen, level_at}
+use Rattle.trail_core.specs.Assigned.{IsFalse, level_at}
 use Rattle.trail_core.specs.Trails.{StepValue, TrailValue, lits_of}
 use Rattle.trail_core.specs.Watching.{RowValue, ListsValue, no_row, watch_count, occurrences, spare, row_at, list_at, IsWatched, IsRow, AreRows, AreLists, HasRoom}
 use Rattle.trail_core.specs.Search.{IsSatisfied, IsUnit, clauses_of, CanScan}
@@ -140,28 +140,28 @@ recent_not_below t o m once r j v h f =
     let q< : f.0 < m = omega (arith, f.1, length-take-le m (lits_of t.steps) m≤) in
     once f.0 r.place (negation o) (omega (arith, q<, h, p≥)) p< (sym (get_or-take m (lits_of t.steps) f.0 (negation o) q<) ∙ f.2 ∙ sym (get_or_default (lits_of t.steps) r.place (negation o) o p< ∙ r.here))
 
-pub record Fresh (t : TrailValue) (r : RowValue) : Type 0 where
-  pub first_open : 0 < length t.limits → IsOpen (lits_of t.steps) r.first
-  pub second_recent : 0 < length t.limits → IsRecent t r.second
-  pub long : 0 < length t.limits → 1 < length r.lits
+-- neither of the two watched literals is false
+pub unseen_by : (r : RowValue) (falses : List LitValue) → (IsFalse falses r.first → ⊥) → (IsFalse falses r.second → ⊥) → (l : LitValue) → 0 < watch_count r (code_of l) → IsFalse falses l → ⊥
+unseen_by r falses first second l h f = ⊎_elim
+    (λ a. first (subst (IsFalse falses) (sym (same_code r.first l a)) f))
+    (λ b. second (subst (IsFalse falses) (sym (same_code r.second l b)) f))
+    (watch_which r (code_of l) h)
 
-pub kept_add : (rows : List RowValue) (w w' : ListsValue) (t : TrailValue) (head head' : ℕ) (short short' : List ℕ) (r : RowValue) → IsKept rows w t head short → CanScan (rows ++ r ∷ []) w' t → IsOnce (lits_of t.steps) → Fresh t r
-    → head' ≤ length t.steps → (length t.limits ≡ 0 → head' ≡ 0) → ((j : ℕ) → j < length t.limits → get_or t.limits j 0 ≤ head') → ((j : ℕ) → j + 1 ≡ length t.limits → head' ≡ get_or t.limits j 0)
+-- what is to be propagated begins before the new clause watches a false literal
+pub kept_add : (rows : List RowValue) (w w' : ListsValue) (t : TrailValue) (head head' : ℕ) (short short' : List ℕ) (r : RowValue) → IsKept rows w t head short → CanScan (rows ++ r ∷ []) w' t → (0 < length t.limits → 1 < length r.lits)
+    → head' ≤ head → ((j : ℕ) → j < length t.limits → get_or t.limits j 0 ≤ head') → ((l : LitValue) → 0 < watch_count r (code_of l) → IsFalse (take head' (lits_of t.steps)) l → ⊥)
     → ((e : ℕ) → Contains short e → Contains short' e) → (length r.lits ≤ 1 → Contains short' (length rows)) → All (IsShort (rows ++ r ∷ [])) short' → IsKept (rows ++ r ∷ []) w' t head' short'
-kept_add rows w w' t head head' short short' r k can once fresh within low above last more new all = record {
+kept_add rows w w' t head head' short short' r k can long below above unseen more new all = record {
   can = can;
-  head_within = within;
-  excused = λ e l h f. ⊎_elim
-      (λ z. absurd (none_false l (subst (λ n. IsFalse (take n (lits_of t.steps)) l) (low z) f)))
-      (λ z.
-      let j = length t.limits - 1 in
-      let lt : j < length t.limits = omega (arith, z) in
-      let is : head' ≡ get_or t.limits j 0 = last j (omega (arith, z)) in
-      let s = old_or_new head' j lt (omega (arith, is)) e l h f in
-      s)
-      (zero_or (length t.limits));
+  head_within = omega (arith, below, k.head_within);
+  excused = λ e l h f.
+      let q = old_row (take head' (lits_of t.steps)) unseen e l h f in
+      subst (IsSatisfied (lits_of t.steps)) (ap (λ x. x.lits) (sym (row_old rows r e q.0))) (k.excused e l q.1 (further head' head below l f));
   head_above = above;
-  settled = λ j v e l h f. old_or_new_at j v e l h f;
+  settled = λ j v e l h f.
+      let front = take (get_or t.limits j 0) (lits_of t.steps) in
+      let q = old_row front (λ x g i. unseen x g (further (get_or t.limits j 0) head' (above j v) x i)) e l h f in
+      subst (IsSatisfied front) (ap (λ x. x.lits) (sym (row_old rows r e q.0))) (k.settled j v e l q.1 f);
   short_known = λ e v s. ⊎_elim
       (λ u. more e (k.short_known e u (omega (arith, s, ap (λ x. length x.lits) (row_old rows r e u)))))
       (λ u.
@@ -174,43 +174,22 @@ kept_add rows w w' t head head' short short' r k can once fresh within low above
       (λ u. let h = k.short_true j v e u (omega (arith, s, ap (λ x. length x.lits) (row_old rows r e u))) in subst (IsSatisfied (take (get_or t.limits j 0) (lits_of t.steps))) (ap (λ x. x.lits) (sym (row_old rows r e u))) h)
       (λ u.
       let is : e ≡ length rows = omega (arith, u, n, length_push rows r) in
-      let long = fresh.long (omega (arith, v)) in
-      absurd (omega (arith, s, long, ap (λ m. length (row_at (rows ++ r ∷ []) m).lits) is, ap (λ x. length x.lits) (row_new rows r))))
+      absurd (omega (arith, s, long (omega (arith, v)), ap (λ m. length (row_at (rows ++ r ∷ []) m).lits) is, ap (λ x. length x.lits) (row_new rows r))))
       (cases_lt e (length rows));
 }
   where
-    zero_or : (n : ℕ) → (n ≡ 0) ⊎ (0 < n)
-    zero_or zero = inl refl
-    zero_or (suc n) = inr (omega arith)
+    further : (m n : ℕ) → m ≤ n → (l : LitValue) → IsFalse (take m (lits_of t.steps)) l → IsFalse (take n (lits_of t.steps)) l
+    further m n h l f = in_front m (take n (lits_of t.steps)) (negation l) (subst (λ xs. Contains xs (negation l)) (sym (take-take m n (lits_of t.steps) h)) f)
 
-    none_false : (l : LitValue) → Contains [] (negation l) → ⊥
-    none_false l c = absurd (omega (arith, c.1))
-
-    -- a clause whose watched literal is false below the present level
-    at_row : (m j : ℕ) → j < length t.limits → m ≤ get_or t.limits j 0 → (e : ℕ) (l : LitValue) → 0 < watch_count (row_at (rows ++ r ∷ []) e) (code_of l) → IsFalse (take m (lits_of t.steps)) l → (e < length rows) × (0 < watch_count (row_at rows e) (code_of l))
-    at_row m j v u e l h f = ⊎_elim
+    -- a clause that watches a false literal is an old one
+    old_row : (falses : List LitValue) → ((l : LitValue) → 0 < watch_count r (code_of l) → IsFalse falses l → ⊥) → (e : ℕ) (l : LitValue) → 0 < watch_count (row_at (rows ++ r ∷ []) e) (code_of l) → IsFalse falses l → (e < length rows) × (0 < watch_count (row_at rows e) (code_of l))
+    old_row falses not e l h f = ⊎_elim
         (λ lt. (lt, subst (λ x. 0 < watch_count x (code_of l)) (row_old rows r e lt) h))
         (λ ge. ⊎_elim
-        (λ eq.
-        let h' : 0 < watch_count r (code_of l) = subst (λ x. 0 < watch_count x (code_of l)) (row_new rows r) (subst (λ n. 0 < watch_count (row_at (rows ++ r ∷ []) n) (code_of l)) eq h) in
-        absurd (⊎_elim
-        (λ a. (fresh.first_open (omega (arith, v))).not_false (subst (λ x. Contains (lits_of t.steps) (negation x)) (sym (same_code r.first l a)) (in_front m (lits_of t.steps) (negation l) f)))
-        (λ b. recent_not_below t r.second m once (fresh.second_recent (omega (arith, v))) j v u (subst (λ x. IsFalse (take m (lits_of t.steps)) x) (sym (same_code r.second l b)) f))
-        (watch_which r (code_of l) h')))
+        (λ eq. absurd (not l (subst (λ x. 0 < watch_count x (code_of l)) (row_new rows r) (subst (λ n. 0 < watch_count (row_at (rows ++ r ∷ []) n) (code_of l)) eq h)) f))
         (λ ne. absurd (omega (arith, h, ap (λ x. watch_count x (code_of l)) (row_past rows r e (omega (arith, ge, ne))), none_watch (code_of l))))
         (cases_eq e (length rows)))
         (cases_lt e (length rows))
-
-    old_or_new : (m j : ℕ) → j < length t.limits → m ≡ get_or t.limits j 0 → (e : ℕ) (l : LitValue) → 0 < watch_count (row_at (rows ++ r ∷ []) e) (code_of l) → IsFalse (take m (lits_of t.steps)) l → IsSatisfied (lits_of t.steps) (row_at (rows ++ r ∷ []) e).lits
-    old_or_new m j v u e l h f =
-        let q = at_row m j v (omega (arith, u)) e l h f in
-        let s = k.settled j v e l q.1 (subst (λ n. IsFalse (take n (lits_of t.steps)) l) u f) in
-        subst (IsSatisfied (lits_of t.steps)) (ap (λ x. x.lits) (sym (row_old rows r e q.0))) (s.0, s.1, in_front (get_or t.limits j 0) (lits_of t.steps) s.0 s.2)
-
-    old_or_new_at : (j : ℕ) → j < length t.limits → (e : ℕ) (l : LitValue) → 0 < watch_count (row_at (rows ++ r ∷ []) e) (code_of l) → IsFalse (take (get_or t.limits j 0) (lits_of t.steps)) l → IsSatisfied (take (get_or t.limits j 0) (lits_of t.steps)) (row_at (rows ++ r ∷ []) e).lits
-    old_or_new_at j v e l h f =
-        let q = at_row (get_or t.limits j 0) j v (omega arith) e l h f in
-        subst (IsSatisfied (take (get_or t.limits j 0) (lits_of t.steps))) (ap (λ x. x.lits) (sym (row_old rows r e q.0))) (k.settled j v e l q.1 f)
 
     grounded_add : (before : List StepValue) (step : StepValue) → IsGrounded (clauses_of rows) t.limits before step → IsGrounded (clauses_of (rows ++ r ∷ [])) t.limits before step
     grounded_add before step g = ⊎_elim (λ d. inl d)

@@ -1,10 +1,10 @@
 //! What a clause needs when it is added: room in the lists of its literals, and two literals to
 //! watch.
 
-ghost use Rattle.std.specs.Prelude.{◌≡◌, ◌≢◌, ◌==◌, ℕ, ◌+◌, ◌*◌, ◌<◌, ◌≤◌, length, Contains, All, AllPairs, count_by, IfOk, OnErr, OnOk, slice_index, vec_len, vec_capacity};
+ghost use Rattle.std.specs.Prelude.{◌≡◌, ◌≢◌, ◌==◌, ℕ, ◌+◌, ◌*◌, ◌<◌, ◌≤◌, length, Contains, All, AllPairs, count_by, IfOk, OnErr, OnOk, slice_index, take, vec_len, vec_capacity};
 ghost use Rattle.cnf_formula.specs.Literals.{LitValue, code_of};
 ghost use Rattle.cnf_formula.specs.Formulas.{IsAbout};
-ghost use Rattle.trail_core.specs.Assigned.{IsOpen};
+ghost use Rattle.trail_core.specs.Assigned.{IsFalse, IsOpen};
 ghost use Rattle.trail_core.specs.Trails.{lits_of};
 ghost use Rattle.trail_core.specs.Watching.{AreLists, HasRoom};
 ghost use Rattle.trail_core.specs.Kept.{IsRecent, IsKept, IsHeld, CanAddTo};
@@ -95,9 +95,28 @@ fn admit_short(short: &mut Vec<u32>, lits: &[Lit]) -> Result<(), AllocError>
     Ok(())
 }
 
-/// Holds a clause under the next number, and puts back to where the present level begins what waits
-/// to be propagated. `Err` comes only where memory runs out or the numbers do, and then the clauses
-/// are as before.
+/// From where on the trail is to be propagated once a clause watches these two literals: from where
+/// the present level begins if one of them is false, or else from where it was.
+fn resumed(trail: &Trail, head: u32, first: Lit, second: Lit) -> u32
+    requires first_within { IsAbout trail.now.vars first }
+    requires second_within { IsAbout trail.now.vars second }
+    requires head { (j : ℕ) → j < length trail.now.limits → slice_index trail.now.limits j ≤ head }
+    requires place { 0 < length trail.now.limits → IsOpen (lits_of trail.now.steps) first × IsRecent trail.now second }
+    ensures below { result ≤ head }
+    ensures above { (j : ℕ) → j < length trail.now.limits → slice_index trail.now.limits j ≤ result }
+    ensures first { IsFalse (take result (lits_of trail.now.steps)) first → ⊥ }
+    ensures second { IsFalse (take result (lits_of trail.now.steps)) second → ⊥ }
+{
+    if trail.is_false(first) || trail.is_false(second) {
+        trail.bottom()
+    } else {
+        head
+    }
+}
+
+/// Holds a clause under the next number. Where it watches a false literal, what waits to be
+/// propagated is put back to where the present level begins. `Err` comes only where memory runs out
+/// or the numbers do, and then the clauses are as before.
 pub(crate) fn hold(
     store: &mut ClauseStore,
     lists: &mut WatchLists,
@@ -121,9 +140,9 @@ pub(crate) fn hold(
     if lits.len() > 1 {
         lists.add(first, number);
         lists.add(second, number);
+        *head = resumed(trail, *head, first, second);
     } else {
         short.push_reserved(number);
     }
-    *head = trail.bottom();
     Ok(number)
 }

@@ -14,15 +14,15 @@ reason-requires c =
     let at : x ≡ lit_at core c.args.place = place_read core c.trail.result.now c.args.place x c.trail.ensures.value c.requires.place c.index-trail-place.is in
     subst (λ l. Contains (trues core) l) (sym at) (lit_stands core c.args.place c.requires.place)
 
-pub returns-then-place-point-clause-implied : goal.returns-then-place-point-clause-implied
-returns-then-place-point-clause-implied c = λ h.
+pub returns-then-shrinks-clause-implied : goal.returns-then-shrinks-clause-implied
+returns-then-shrinks-clause-implied c = λ h.
     let core = c.args.core.now in
     let x : LitValue = c.index-trail-place.result in
     let at : x ≡ lit_at core c.args.place = place_read core c.trail.result.now c.args.place x c.trail.ensures.value c.requires.place c.index-trail-place.is in
     reason_implied core c.args.place x c.in-Some._reason c.trail.ensures.grounded c.trail.ensures.formed c.requires.place at c.in-Some.ensures
 
-pub returns-else-place-point-clause-implied : goal.returns-else-place-point-clause-implied
-returns-else-place-point-clause-implied c = λ h.
+pub returns-else-shrinks-clause-implied : goal.returns-else-shrinks-clause-implied
+returns-else-shrinks-clause-implied c = λ h.
     let core = c.args.core.now in
     let x : LitValue = c.index-trail-place.result in
     let at : x ≡ lit_at core c.args.place = place_read core c.trail.result.now c.args.place x c.trail.ensures.value c.requires.place c.index-trail-place.is in

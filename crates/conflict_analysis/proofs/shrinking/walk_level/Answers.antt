@@ -1,7 +1,8 @@
-use Rattle.std.proofs.Common.{◌≡◌, ◌-◌, length, get_or, sym, ap, ◌∙◌, subst, arith}
+use Rattle.std.proofs.Common.{◌≡◌, ◌-◌, ◌<◌, length, get_or, sym, ap, ◌∙◌, subst, arith}
+use Rattle.std.specs.Prelude.{Contains}
 use Rattle.conflict_analysis.specs.Met.{value_of, WalkValue, IsPassed}
 use Rattle.conflict_analysis.proofs.Levels.{limits_rise}
-use Rattle.conflict_analysis.proofs.Middle.{middle_at, middle_passed}
+use Rattle.conflict_analysis.proofs.Middle.{middle_at, middle_passed, level_lower}
 use Rattle.conflict_analysis.proofs.Resolved.{same_open, same_open_then}
 use Rattle.conflict_analysis.proofs.Waiting.{IsStep, kept_step, passed_at, onward_same, onward_then}
 use Rattle.conflict_analysis.proofs.shrinking.walk_level.Goals as goal
@@ -102,8 +103,8 @@ resolve-requires-clause-zeros c =
     let step : IsStep core w k w.open_ w.zeros = kept_step core w k c.requires.formed inv.sorted m.within (c.is_spare.ensures.kept c.if-is_spare.true) (c.is_spare.ensures.implied c.if-is_spare.true) in
     step.zeros_is
 
-pub loop-place-preserved-in-Continue-1 : goal.loop-place-preserved-in-Continue-1
-loop-place-preserved-in-Continue-1 c =
+pub loop-place-preserved-then-is_spare : goal.loop-place-preserved-then-is_spare
+loop-place-preserved-then-is_spare c =
     let core = c.args.core.now in
     let k = c.loop-place.place - 1 in
     let inv = c.loop-place.invariant in
@@ -137,11 +138,20 @@ loop-place-preserved c =
       passed = middle_passed core w k m inv.sorted (passed_at core 3 w c.loop-place.place (omega (arith, c.loop-place-test.true)) inv.passed);
     }
 
+pub count-requires : goal.count-requires
+count-requires c = λ o h. (c.in_ok-resolve.ensures.sorted.kept.of o (subst (λ xs. Contains xs o) c.deref.ensures.value h)).1
+
+pub returns-then-kept-lt2-clause-passed : goal.returns-then-kept-lt2-clause-passed
+returns-then-kept-lt2-clause-passed c = λ low is.
+    let core = c.args.core.now in
+    let rise = limits_rise core.limits (length core.trail) low c.args.level c.requires.formed.levels (omega (arith, is)) c.requires.below in
+    level_lower core (value_of c.args.walk.now) low (get_or core.limits c.args.level 0) c.requires.formed (omega (arith, is, c.requires.below)) rise c.requires.sorted c.requires.passed
+
 pub returns-clause-passed : goal.returns-clause-passed
 returns-clause-passed c = λ low is.
     let core = c.args.core.now in
     let inv = c.loop-place.invariant in
-    let below : c.args.level - 1 ≡ low = omega (arith, is) in
-    let from = c.height-from.ensures.below (omega (arith, c.requires.below)) ∙ ap (λ i. get_or core.limits i 0) below in
-    let at : c.loop-place.place ≡ get_or core.limits low 0 = omega (arith, from, inv.above, c.loop-place-test.false) in
-    subst (IsPassed core 3 (value_of c.loop-place.walk)) at inv.passed
+    let lower : c.args.level - 1 ≡ low = omega (arith, is) in
+    let below : c.args.level - 1 < length core.limits = omega (arith, c.requires.below) in
+    let from : c.height-from.result ≡ get_or core.limits low 0 = c.height-from.ensures.below below ∙ ap (λ i. get_or core.limits i 0) lower in
+    level_lower core (value_of c.loop-place.walk) low c.loop-place.place c.requires.formed (omega (arith, below, lower)) (omega (arith, from, inv.above)) inv.sorted inv.passed

@@ -1,4 +1,5 @@
-use Rattle.std.proofs.Common.{◌-◌, ◌∙◌, arith}
+use Rattle.std.proofs.Common.{◌-◌, ◌∙◌, subst, arith}
+use Rattle.std.specs.Prelude.{Contains}
 use Rattle.conflict_analysis.specs.Met.{value_of, WalkValue}
 use Rattle.conflict_analysis.proofs.Resolved.{same_open, same_open_then}
 use Rattle.conflict_analysis.proofs.Waiting.{onward_same, onward_then}
@@ -40,3 +41,6 @@ pub returns-clause-passed : goal.returns-clause-passed
 returns-clause-passed c =
     let inv = c.loop-level.invariant in
     inv.passed 0 (omega (arith, inv.some, c.loop-level-test.false))
+
+pub count-requires : goal.count-requires
+count-requires c = λ o h. (c.requires.sorted.kept.of o (subst (λ xs. Contains xs o) c.deref-2.ensures.value h)).1

@@ -37,8 +37,8 @@ returns-in-Err-clause-read c =
     let n = length c.args.lines.now.place.rows in
     let before = c.loop-alloc.points.items in
     let p = c.loop-alloc.lines.place in
-    parts_halt (codes "point ") (frontier_point_at keys q) c.in-Err.halt (n - length before) (n - (length before + 1)) before p c.next_begins.result _
-    c.next_begins.ensures c.loop-alloc-test.true (point_halts keys q before c.loop-alloc.last p c.in-Err.halt c.loop-alloc.invariant.last c.in-Err.ensures.read) c.loop-alloc.invariant.read
+    parts_halt (codes "point ") (frontier_point_at keys q) c.in-Err.stop (n - length before) (n - (length before + 1)) before p c.next_begins.result _
+    c.next_begins.ensures c.loop-alloc-test.true (point_halts keys q before c.loop-alloc.last p c.in-Err.stop c.loop-alloc.invariant.last c.in-Err.ensures.read) c.loop-alloc.invariant.read
     (one_more (codes "point ") p.rows c.next_begins.result n (length before) c.next_begins.ensures c.loop-alloc-test.true c.loop-alloc.invariant.fewer)
 
 pub returns-clause-read : goal.returns-clause-read

@@ -1,5 +1,5 @@
 use Rattle.std.proofs.Common.{◌≤◌}
-use Rattle.conflict_analysis.proofs.level_point.point_of.Given as goal
+use Rattle.conflict_analysis.proofs.level_point.has_point.Given as goal
 
 abbrev pub invariant-loop-place : goal.invariant-loop-place
 invariant-loop-place l = l.place ≤ l.to

@@ -1,0 +1,19 @@
+use Rattle.std.proofs.Common.{◌-◌, length, take, subst, ⊎_elim, arith}
+use Rattle.std.proofs.lemmas.Bool.{cases_lt}
+use Rattle.trail_core.specs.Assigned.{IsFalse}
+use Rattle.trail_core.specs.Trails.{lits_of}
+use Rattle.trail_core.proofs.Keeping.{lits_length}
+use Rattle.trail_core.proofs.Added.{IsOnce, recent_not_below}
+use Rattle.trail_core.proofs.adding.resumed.Goals as goal
+
+pub returns-then-is_false-2-clause-second : goal.returns-then-is_false-2-clause-second
+returns-then-is_false-2-clause-second c =
+    let t = c.args.trail.now in
+    let x = c.bottom.ensures in
+    let once : IsOnce (lits_of t.steps) = λ i j d before within. x.once i j d before (omega (arith, within, lits_length t.steps)) in
+    λ f. ⊎_elim
+    (λ above. let j = length t.limits - 1 in
+    recent_not_below t c.args.second c.bottom.result once (c.requires.place above).1 j (omega (arith, above)) (omega (arith, x.high j (omega (arith, above)))) f)
+    (λ low. let none : IsFalse (take 0 (lits_of t.steps)) c.args.second = subst (λ m. IsFalse (take m (lits_of t.steps)) c.args.second) (x.low (omega (arith, low))) f in
+    absurd (omega (arith, none.1)))
+    (cases_lt 0 (length t.limits))
