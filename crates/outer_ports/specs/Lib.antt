@@ -5,4 +5,6 @@ pub mod Shelf
 pub mod FileMaps
 pub mod MemoryShelves
 pub mod Adapters
+pub mod Disks
+pub mod Folders
 pub mod inner

@@ -2,13 +2,17 @@
 //! readers, writers and folders.
 #![tactic(auto)]
 
+mod beginning;
 mod failed;
+mod file_calls;
 mod file_map;
 mod folder;
 mod folder_shelf;
+mod looking;
 mod memory_shelf;
 mod memory_sink;
 mod memory_source;
+mod moving;
 mod open_files;
 mod part;
 mod proof_name;
@@ -28,6 +32,7 @@ mod writer_sink;
 mod writing;
 
 pub use failed::Failed;
+pub use file_calls::FileCalls;
 pub use folder_shelf::FolderShelf;
 pub use memory_shelf::MemoryShelf;
 pub use memory_sink::MemorySink;

@@ -1,23 +1,23 @@
 //! Files that stay open.
 
 ghost use Rattle.std.specs.Prelude.{◌≡◌, ◌≢◌, None, IfSome};
-ghost use Rattle.outer_ports.specs.inner.OpenFiles.{Holds};
+ghost use Rattle.outer_ports.specs.inner.OpenFiles.{open_of, Holds};
 
 use crate::proof_name::{FileKind, ProofName};
+use std::mem;
 
-// Of each kind of file the one that was begun or appended to last, so that the lines of a formula,
-// of its refutation and of its log are one write each, in whatever order they come.
-#[derive(Drop)]
+// Of each kind of file the one that was begun last, so that the lines of a formula, of its
+// refutation and of its log are one write each, in whatever order they come.
 pub(crate) struct OpenFiles<F> {
     cnf: Option<(ProofName, F)>,
     lrat: Option<(ProofName, F)>,
     partial: Option<(ProofName, F)>,
 }
 
-impl<F: Drop> OpenFiles<F> {
+impl<F> OpenFiles<F> {
     // No file.
     pub(crate) fn new() -> OpenFiles<F>
-        ensures { (name : ProofName) (file : F) → Holds result name file → ⊥ }
+        ensures { (kind : FileKind) → open_of result kind ≡ None }
     {
         OpenFiles {
             cnf: None,
@@ -26,34 +26,47 @@ impl<F: Drop> OpenFiles<F> {
         }
     }
 
-    // Takes the file out if it is open, and closes another one of its kind.
-    pub(crate) fn take(&mut self, name: ProofName) -> Option<F>
-        ensures held { IfSome result (Holds self.old name) }
-        ensures none { result ≡ None → (file : F) → Holds self.old name file → ⊥ }
-        ensures gone { (file : F) → Holds self.new name file → ⊥ }
-        ensures others { (other : ProofName) (file : F) → Holds self.new other file → Holds self.old other file }
+    // The open file of that name.
+    pub(crate) fn get(&self, name: ProofName) -> Option<&F>
+        ensures held { IfSome result (λ file. Holds self.now name file.now) }
     {
         let open = match name.kind {
-            FileKind::Cnf => self.cnf.take(),
-            FileKind::Lrat => self.lrat.take(),
-            FileKind::Partial => self.partial.take(),
+            FileKind::Cnf => &self.cnf,
+            FileKind::Lrat => &self.lrat,
+            FileKind::Partial => &self.partial,
         };
         match open {
-            Some((held, file)) if held == name => Some(file),
+            Some((held, file)) if *held == name => Some(file),
             _ => None,
         }
     }
 
-    // Leaves the file open.
-    pub(crate) fn put(&mut self, name: ProofName, file: F)
-        ensures held { Holds self.new name file }
-        ensures others { (other : ProofName) (held : F) → Holds self.new other held → other ≢ name → Holds self.old other held }
+    // Puts a file in place of the open one of that kind, which is given back.
+    pub(crate) fn replace(
+        &mut self,
+        kind: FileKind,
+        file: Option<(ProofName, F)>,
+    ) -> Option<(ProofName, F)>
+        ensures old { result ≡ open_of self.old kind }
+        ensures new { open_of self.new kind ≡ file }
+        ensures others { (other : FileKind) → other ≢ kind → open_of self.new other ≡ open_of self.old other }
     {
-        let open = Some((name, file));
-        match name.kind {
-            FileKind::Cnf => self.cnf = open,
-            FileKind::Lrat => self.lrat = open,
-            FileKind::Partial => self.partial = open,
+        match kind {
+            FileKind::Cnf => mem::replace(&mut self.cnf, file),
+            FileKind::Lrat => mem::replace(&mut self.lrat, file),
+            FileKind::Partial => mem::replace(&mut self.partial, file),
         }
+    }
+
+    // The open files of each kind, with their names.
+    pub(crate) fn into_parts(
+        self,
+    ) -> (
+        Option<(ProofName, F)>,
+        Option<(ProofName, F)>,
+        Option<(ProofName, F)>,
+    ) {
+        let OpenFiles { cnf, lrat, partial } = self;
+        (cnf, lrat, partial)
     }
 }

@@ -1,7 +1,8 @@
 //! How proof files are named.
 
-ghost use Rattle.std.specs.Prelude.{◌≡◌};
+ghost use Rattle.std.specs.Prelude.{◌≡◌, IsTrue};
 ghost use Rattle.outer_ports.specs.Files.{part_prefix, file_ending};
+ghost use Rattle.outer_ports.specs.Folders.{in_range};
 
 use crate::part::Part;
 use std::fmt;
@@ -40,6 +41,13 @@ impl Display for ProofName {
         let ending = ending_of(self.kind);
         write!(f, "{front}{}-{}-{}{ending}", self.s, self.r, self.c)
     }
+}
+
+// Says of the numbers of a name what their type says.
+pub(crate) fn know_range(name: ProofName)
+    ensures { IsTrue (in_range name) }
+{
+    let (_s, _r, _c) = (name.s, name.r, name.c);
 }
 
 // What stands before a candidate of the part.
