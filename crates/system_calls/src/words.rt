@@ -4,21 +4,8 @@ ghost use Rattle.std.specs.Prelude.{◌≡◌, drop, IfOk};
 ghost use Rattle.std.specs.Vec.Iter.{into_iter_items};
 
 use outer_ports::OutOfMemory;
-use sccl_run::Status;
 use std::alloc::Global;
-use std::env;
-use std::env::{Args, Env};
-use std::io::ErrorKind;
-
-/// The words behind the program's name. Words that are not UTF-8 are no command; where memory runs
-/// out there are none.
-pub fn words_of<R: Env + AllocGlobal>(rt: &R) -> Result<Vec<String>, Status> {
-    match env::args(rt) {
-        Ok(args) => behind_name(rt.alloc(), args).map_err(|_| Status::OutOfMemory),
-        Err(error) if error.kind() == ErrorKind::OutOfMemory => Err(Status::OutOfMemory),
-        Err(_) => Err(Status::BadWords),
-    }
-}
+use std::env::Args;
 
 /// The words of a command line behind the first, which is the program's name: each once, in their
 /// order.
