@@ -1,5 +1,5 @@
 -- What is left as it was of the files of a folder.
-use Rattle.std.proofs.Common.{◌≡◌, ◌≢◌, ◌∙◌, refl, sym, ap, ℕ, Bool, true, false, cond, List, [], ◌++◌, take, Option, None, Some, IsTrue, IfOk, Result, if◌then◌else◌, inl, inr, ◌⊎◌}
+use Rattle.std.proofs.Common.{◌≡◌, ◌≢◌, ◌∙◌, refl, sym, ap, ℕ, Bool, true, false, cond, List, [], ◌++◌, Option, None, Some, IsTrue, IfOk, Result, if◌then◌else◌, inl, inr, ◌⊎◌}
 use Rattle.std.specs.Option.{option_map, unwrap_or}
 use Rattle.outer_ports.specs.declared.open_files.OpenFiles.{OpenFiles}
 use Rattle.outer_ports.specs.declared.proof_name.FileKind.{FileKind}

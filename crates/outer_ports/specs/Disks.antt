@@ -1,5 +1,5 @@
 -- A file system, as single calls of it see it. This project's own.
-use Rattle.std.specs.Prelude.{◌≡◌, ◌≢◌, ℕ, Bool, List, [], ◌++◌, Option, None, Some, Result, IfErr, IfOk, IsTrue, OnOk}
+use Rattle.std.specs.Prelude.{◌≡◌, ◌≢◌, ◌⊎◌, ℕ, Bool, false, List, [], ◌++◌, Option, None, Some, Result, IfErr, IfOk, OnOk}
 use Rattle.std.specs.Fs.{file_type, IsFile, IsSymlink}
 use Rattle.std.specs.Option.{option_map}
 use Rattle.std.specs.declared.fs.attrs.Metadata.{Metadata}
@@ -18,9 +18,9 @@ bytes_at disk path = option_map disk.bytes (disk.number path)
 -- what was found under a path, which may be a link itself; some errors say that nothing stands there
 pub record Looks {E : Type 0} (nothing : E → Type 0) (disk : Disk) (path : List ℕ) (result : Result Metadata E) : Type 0 where
   pub file : IfOk result (λ found. IsFile (file_type found) → disk.number path ≢ None)
-  pub odd : IfOk result (λ found. (IsFile (file_type found) → ⊥) → (IsSymlink (file_type found) → ⊥) → IsTrue (disk.odd path))
-  pub no_file : IfOk result (λ found. (IsFile (file_type found) → ⊥) → disk.number path ≡ None)
-  pub missing : IfErr result (λ error. nothing error → disk.number path ≡ None)
+  pub link : IfOk result (λ found. IsSymlink (file_type found) → disk.number path ≡ None)
+  pub plain : IfOk result (λ found. IsFile (file_type found) ⊎ IsSymlink (file_type found) → disk.odd path ≡ false)
+  pub missing : IfErr result (λ error. nothing error → (disk.number path ≡ None) × (disk.odd path ≡ false))
 
 -- a folder was made under a path, where nothing stood
 pub record MakesFolder (path : List ℕ) (before now : Disk) : Type 0 where

@@ -1,6 +1,6 @@
 //! Files that are made anew.
 
-ghost use Rattle.std.specs.Prelude.{◌≡◌, ◌≢◌, [], Err, IfOk, IsTrue, OnErr, OnOk, string_bytes};
+ghost use Rattle.std.specs.Prelude.{◌≡◌, ◌≢◌, ℕ, false, List, [], Err, IfOk, IsTrue, OnErr, OnOk, string_bytes};
 ghost use Rattle.outer_ports.specs.Folders.{fresh_in, in_range, path_in};
 ghost use Rattle.outer_ports.specs.Port.{Tells};
 ghost use Rattle.outer_ports.specs.inner.Keeping.{IsNeither, IsOther, IsOwn, Spares};
@@ -62,6 +62,7 @@ fn fresh_of(alloc: Global, folder: &str) -> Result<String, ShelfFault>
 // Makes an empty file under `fresh`, and gives it the name `path`.
 fn make_renamed<C: FileCalls>(calls: &mut C, fresh: &str, path: &str) -> Result<C::File, Failed>
     requires apart { fresh.now ≢ path.now }
+    requires plain { IsTrue (C.tells calls.old) → (C.disk calls.old).odd path.now ≡ false }
     ensures told { Tells (C.tells calls.old) (C.tells calls.new) }
     ensures own { IsTrue (C.tells calls.new) → IfOk result (λ file. IsOwn (C.disk calls.new) path.now (C.number file)) }
     ensures empty { IsTrue (C.tells calls.new) → IfOk result (λ file. (C.disk calls.new).bytes (C.number file) ≡ []) }
@@ -86,6 +87,7 @@ fn make_fresh<C: FileCalls>(calls: &mut C, fresh: &str) -> Result<C::File, Faile
     ensures own { IsTrue (C.tells calls.new) → IfOk result (λ file. IsOwn (C.disk calls.new) fresh.now (C.number file)) }
     ensures empty { IsTrue (C.tells calls.new) → IfOk result (λ file. (C.disk calls.new).bytes (C.number file) ≡ []) }
     ensures others { IsTrue (C.tells calls.new) → Spares (IsOther fresh.now) (C.disk calls.old) (C.disk calls.new) }
+    ensures odd { IsTrue (C.tells calls.new) → (other : List ℕ) → other ≢ fresh.now → (C.disk calls.new).odd other ≡ (C.disk calls.old).odd other }
     ensures counted { IsTrue (C.tells calls.new) → OnOk result (C.failed calls.new ≡ C.failed calls.old) }
 {
     match calls.make_file(fresh) {

@@ -1,6 +1,6 @@
 //! Single calls of a file system.
 
-ghost use Rattle.std.specs.Prelude.{◌≡◌, ◌≢◌, ℕ, ◌<◌, ◌≤◌, ◌^◌, Bool, None, Some, length, take, IfOk, IsTrue, OnErr, OnOk};
+ghost use Rattle.std.specs.Prelude.{◌≡◌, ◌≢◌, ℕ, ◌<◌, ◌≤◌, ◌^◌, Bool, false, None, Some, length, take, IfOk, IsTrue, OnErr, OnOk};
 ghost use Rattle.std.specs.IoError.{error_kind};
 ghost use Rattle.outer_ports.specs.Disks.{Counts, Disk, Looks, MakesFile, MakesFolder, Removes, Renames, Writes};
 ghost use Rattle.outer_ports.specs.Port.{Tells};
@@ -61,8 +61,8 @@ pub trait FileCalls {
     /// Gives what stands under `from` the name `to`, in place of the file or the link that has it.
     fn rename(&mut self, from: &str, to: &str) -> io::Result<()>
         ensures told { Tells (tells self.old) (tells self.new) }
-        ensures renamed { IsTrue (tells self.new) → (disk self.old).number from.now ≢ (disk self.old).number to.now →
-            OnOk result (Renames from.now to.now (disk self.old) (disk self.new)) }
+        ensures renamed { IsTrue (tells self.new) → (disk self.old).odd to.now ≡ false →
+            (disk self.old).number from.now ≢ (disk self.old).number to.now → OnOk result (Renames from.now to.now (disk self.old) (disk self.new)) }
         ensures fault { IsTrue (tells self.new) → OnErr result (disk self.new ≡ disk self.old) }
         ensures counted { IsTrue (tells self.new) → Counts (λ _. ⊥) (failed self.old) (failed self.new) result };
 

@@ -81,7 +81,7 @@ impl<C: FileCalls> Folder<C> {
         };
         match append_some(&mut self.calls, file, piece) {
             Ok(count) => Ok(count),
-            Err(Failed) => {
+            Err(_) => {
                 close_held(&mut self.calls, self.begun.replace(name.kind, None))?;
                 Err(ShelfFault::Failed)
             }

@@ -48,6 +48,7 @@ pub(crate) fn open_to_read<C: FileCalls>(
 // A file, a link or nothing may stand there. A thing of another kind is a fault.
 pub(crate) fn find_no_odd<C: FileCalls>(calls: &mut C, path: &str) -> Result<(), Failed>
     ensures told { Tells (C.tells calls.old) (C.tells calls.new) }
+    ensures plain { IsTrue (C.tells calls.new) → OnOk result ((C.disk calls.old).odd path.now ≡ false) }
     ensures stays { IsTrue (C.tells calls.new) → C.disk calls.new ≡ C.disk calls.old }
     ensures counted { IsTrue (C.tells calls.new) → OnOk result (C.failed calls.new ≡ C.failed calls.old) }
 {

@@ -1,6 +1,6 @@
-use Rattle.std.proofs.Common.{◌≡◌, length, IsTrue}
+use Rattle.std.proofs.Common.{◌≡◌, IsTrue}
 use Rattle.outer_ports.specs.Port.{Tells}
-use Rattle.outer_ports.proofs.moving.read_some.Given as goal
+use Rattle.outer_ports.proofs.moving.read_again.Given as goal
 
 abbrev pub invariant-loop : goal.invariant-loop
 invariant-loop g l =
