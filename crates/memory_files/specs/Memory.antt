@@ -1,5 +1,5 @@
 -- A file system in memory, as contracts see it. This project's own.
-use Rattle.std.specs.Prelude.{ℕ, ◌+◌, ◌<◌, ◌≡◌, List, [], Option, None, Some, Vec, String, false, slice_index_or}
+use Rattle.std.specs.Prelude.{ℕ, List, [], Vec, String, false}
 use Rattle.std.specs.BTreeMap.{BTreeMap, get_by_text}
 use Rattle.std.specs.Option.{option_map_or}
 use Rattle.std.specs.List.{slice_get}

@@ -31,7 +31,9 @@ pub struct MemoryFiles {
 
 impl MemoryFiles {
     /// No files. A call fails where its number is among `fails`; the calls are numbered from 0.
-    pub fn new(alloc: Global, fails: Vec<u64>) -> MemoryFiles {
+    pub fn new(alloc: Global, fails: Vec<u64>) -> MemoryFiles
+        ensures { (path : List ℕ) → (disk_of result.names result.files.items).number path ≡ None }
+    {
         MemoryFiles {
             alloc,
             names: BTreeMap::new(alloc),
@@ -47,7 +49,8 @@ impl MemoryFiles {
         ensures { option_copied result ≡ bytes_at (disk_of self.now.names self.now.files.items) path.now }
     {
         let number = *self.names.get(path)?;
-        Some(&self.files[number])
+        let bytes = self.files.get(number)?;
+        Some(bytes)
     }
 
     /// Gives the file of a name a second one, in place of the file that has that.

@@ -1,0 +1,6 @@
+use Rattle.std.proofs.Common.{arith}
+use Rattle.std.proofs.lemmas.Map.Text.{text_keys}
+use Rattle.memory_files.proofs.memory_files.MemoryFiles.link.Goals as goal
+
+pub invariant_of-self : goal.invariant_of-self
+invariant_of-self c = record { numbered = λ path n has. grind (arith, text_keys) }
