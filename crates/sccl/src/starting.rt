@@ -1,5 +1,7 @@
 //! What comes before the top call and behind it.
 
+ghost use Rattle.std.specs.Prelude.{◌≡◌, ◌≢◌, IsOk};
+
 use outer_ports::{Failed, FileCalls, FolderShelf, Sink, Source};
 use sccl_run::{Status, run};
 use std::alloc::Global;
@@ -44,7 +46,9 @@ pub fn start<N: NumberCalls + Drop, I: Source + Drop, O: Sink + Drop, C: FileCal
 
 // The status where the number of a stream can't be taken. A file of the folder would have that of
 // standard error.
-fn lacking(stream: Stream) -> Status {
+fn lacking(stream: Stream) -> Status
+    ensures { result ≢ Status.Done }
+{
     match stream {
         Stream::Input => Status::SourceFailed,
         Stream::Output => Status::SinkFailed,
@@ -63,7 +67,10 @@ fn words_of(alloc: Global, words: io::Result<Args>) -> Result<Vec<String>, Statu
 }
 
 // A close that failed is a fault of the shelf, where nothing else ended the run.
-fn ended(status: Status, closed: Result<(), Failed>) -> Status {
+fn ended(status: Status, closed: Result<(), Failed>) -> Status
+    ensures done { result ≡ Status.Done → (status ≡ Status.Done) × IsOk closed }
+    ensures kept { status ≢ Status.Done → result ≡ status }
+{
     match (status, closed) {
         (Status::Done, Err(Failed)) => Status::ShelfFailed,
         _ => status,
