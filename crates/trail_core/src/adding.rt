@@ -131,6 +131,7 @@ pub(crate) fn hold(
     requires place { CanAddTo trail.now lits.now }
     ensures kept { IsKept store.new lists.new trail.now head.new short.new.items }
     ensures ok { IfOk result (λ id. (id ≡ length store.old) × IsHeld store.old lits.now store.new) }
+    ensures small { IfOk result (λ id. id < 4294967295) }
     ensures err { OnErr result (store.new ≡ store.old) }
 {
     admit_short(short, lits)?;

@@ -229,7 +229,8 @@ impl Core {
         requires due { IsDue self.old.limits self.old.trail (get_or self.old.clauses reason []) }
         ensures { self.new ≡ record self.old { trail = self.old.trail ++ record { lit = lit; reason = Some reason } ∷ [] } }
     {
-        self.trail.push(lit, Some(reason.number));
+        let _count = self.store.len();
+        self.trail.push(lit, reason.number);
     }
 
     /// Backjumps to a level: takes back all that became true above it.
@@ -288,7 +289,7 @@ impl Core {
             &mut self.short,
             lits,
         )?;
-        self.trail.push(lit, Some(number));
+        self.trail.push(lit, number);
         // The clause is satisfied now, so nothing waits on its account.
         self.head = head;
         Ok(ClauseId { number })

@@ -66,7 +66,7 @@ fn visit(
     if trail.is_false(other) {
         return Some(id);
     }
-    trail.push(other, Some(id));
+    trail.push(other, id);
     None
 }
 
@@ -117,7 +117,7 @@ fn settle(store: &ClauseStore, trail: &mut Trail, id: u32) -> bool
             if trail.is_false(lit) {
                 return false;
             }
-            trail.push(lit, Some(id));
+            trail.push(lit, id);
             true
         }
     }

@@ -93,7 +93,7 @@ another-requires c =
     let p : Pair store id falsified other = pair_is t.vars store lists id place falsified c.watched-first.result.0 c.watched-first.result.1 other c.requires.can.are_rows c.requires.can.watched c.requires.within c.entry-id.ensures (c.watched-first.ensures.first no_row) (c.watched-first.ensures.second no_row) o in
     let row = c.requires.can.are_rows id p.within in
     let of : IsAbout t.vars other = All-contains (IsAbout t.vars) (row_at store id).lits other row.within p.own in
-    subst (All (IsAbout t.vars)) (sym (c.clause.ensures no_row)) row.within
+    subst (All (IsAbout t.vars)) (sym (c.clause.ensures.lits no_row)) row.within
 
 pub watch-requires : goal.watch-requires
 watch-requires c =
@@ -124,7 +124,7 @@ shift-requires-clause-to_known c =
     let row = c.requires.can.are_rows id p.within in
     let of : IsAbout t.vars other = All-contains (IsAbout t.vars) (row_at store id).lits other row.within p.own in
     let x = c.in-Some.lit in
-    let e = c.clause.ensures no_row in
+    let e = c.clause.ensures.lits no_row in
     let n : Found (lits_of t.steps) (row_at store id).lits other x = record { stands = subst (λ xs. Contains xs x) e c.in-Some.ensures.0; differs = c.in-Some.ensures.1; not_false = c.in-Some.ensures.2 } in
     let of-x : IsAbout t.vars x = All-contains (IsAbout t.vars) (row_at store id).lits x row.within n.stands in
     let wa : code_of falsified < length lists.lists = omega (arith, code_within t.vars falsified c.requires.of, c.requires.can.are_lists.lists_len) in
@@ -145,7 +145,7 @@ shift-requires-clause-room c =
     let row = c.requires.can.are_rows id p.within in
     let of : IsAbout t.vars other = All-contains (IsAbout t.vars) (row_at store id).lits other row.within p.own in
     let x = c.in-Some.lit in
-    let e = c.clause.ensures no_row in
+    let e = c.clause.ensures.lits no_row in
     let n : Found (lits_of t.steps) (row_at store id).lits other x = record { stands = subst (λ xs. Contains xs x) e c.in-Some.ensures.0; differs = c.in-Some.ensures.1; not_false = c.in-Some.ensures.2 } in
     let of-x : IsAbout t.vars x = All-contains (IsAbout t.vars) (row_at store id).lits x row.within n.stands in
     let wa : code_of falsified < length lists.lists = omega (arith, code_within t.vars falsified c.requires.of, c.requires.can.are_lists.lists_len) in
@@ -166,7 +166,7 @@ returns-in-Some-clause-can c =
     let row = c.requires.can.are_rows id p.within in
     let of : IsAbout t.vars other = All-contains (IsAbout t.vars) (row_at store id).lits other row.within p.own in
     let x = c.in-Some.lit in
-    let e = c.clause.ensures no_row in
+    let e = c.clause.ensures.lits no_row in
     let n : Found (lits_of t.steps) (row_at store id).lits other x = record { stands = subst (λ xs. Contains xs x) e c.in-Some.ensures.0; differs = c.in-Some.ensures.1; not_false = c.in-Some.ensures.2 } in
     let of-x : IsAbout t.vars x = All-contains (IsAbout t.vars) (row_at store id).lits x row.within n.stands in
     let wa : code_of falsified < length lists.lists = omega (arith, code_within t.vars falsified c.requires.of, c.requires.can.are_lists.lists_len) in
@@ -201,7 +201,7 @@ returns-in-Some-clause-scanned c =
     let row = c.requires.can.are_rows id p.within in
     let of : IsAbout t.vars other = All-contains (IsAbout t.vars) (row_at store id).lits other row.within p.own in
     let x = c.in-Some.lit in
-    let e = c.clause.ensures no_row in
+    let e = c.clause.ensures.lits no_row in
     let n : Found (lits_of t.steps) (row_at store id).lits other x = record { stands = subst (λ xs. Contains xs x) e c.in-Some.ensures.0; differs = c.in-Some.ensures.1; not_false = c.in-Some.ensures.2 } in
     let of-x : IsAbout t.vars x = All-contains (IsAbout t.vars) (row_at store id).lits x row.within n.stands in
     let wa : code_of falsified < length lists.lists = omega (arith, code_within t.vars falsified c.requires.of, c.requires.can.are_lists.lists_len) in
@@ -224,7 +224,7 @@ returns-in-Some-clause-front c =
     let row = c.requires.can.are_rows id p.within in
     let of : IsAbout t.vars other = All-contains (IsAbout t.vars) (row_at store id).lits other row.within p.own in
     let x = c.in-Some.lit in
-    let e = c.clause.ensures no_row in
+    let e = c.clause.ensures.lits no_row in
     let n : Found (lits_of t.steps) (row_at store id).lits other x = record { stands = subst (λ xs. Contains xs x) e c.in-Some.ensures.0; differs = c.in-Some.ensures.1; not_false = c.in-Some.ensures.2 } in
     let of-x : IsAbout t.vars x = All-contains (IsAbout t.vars) (row_at store id).lits x row.within n.stands in
     let wa : code_of falsified < length lists.lists = omega (arith, code_within t.vars falsified c.requires.of, c.requires.can.are_lists.lists_len) in
@@ -247,7 +247,7 @@ returns-in-Some-clause-handled c =
     let row = c.requires.can.are_rows id p.within in
     let of : IsAbout t.vars other = All-contains (IsAbout t.vars) (row_at store id).lits other row.within p.own in
     let x = c.in-Some.lit in
-    let e = c.clause.ensures no_row in
+    let e = c.clause.ensures.lits no_row in
     let n : Found (lits_of t.steps) (row_at store id).lits other x = record { stands = subst (λ xs. Contains xs x) e c.in-Some.ensures.0; differs = c.in-Some.ensures.1; not_false = c.in-Some.ensures.2 } in
     let of-x : IsAbout t.vars x = All-contains (IsAbout t.vars) (row_at store id).lits x row.within n.stands in
     let wa : code_of falsified < length lists.lists = omega (arith, code_within t.vars falsified c.requires.of, c.requires.can.are_lists.lists_len) in
@@ -297,7 +297,7 @@ returns-then-is_false-clause-handled c =
     let p : Pair store id falsified other = pair_is t.vars store lists id place falsified c.watched-first.result.0 c.watched-first.result.1 other c.requires.can.are_rows c.requires.can.watched c.requires.within c.entry-id.ensures (c.watched-first.ensures.first no_row) (c.watched-first.ensures.second no_row) o in
     let row = c.requires.can.are_rows id p.within in
     let of : IsAbout t.vars other = All-contains (IsAbout t.vars) (row_at store id).lits other row.within p.own in
-    (p.within, λ l h. ⊎_elim (λ e. subst (IsFalse (lits_of t.steps)) (sym e) (c.is_false.ensures.0 c.if-is_false.true)) (λ f. f) (c.in_default.ensures l (subst (λ xs. Contains xs l) (sym (c.clause.ensures no_row)) h)))
+    (p.within, λ l h. ⊎_elim (λ e. subst (IsFalse (lits_of t.steps)) (sym e) (c.is_false.ensures.0 c.if-is_false.true)) (λ f. f) (c.in_default.ensures l (subst (λ xs. Contains xs l) (sym (c.clause.ensures.lits no_row)) h)))
 
 pub push-requires-clause-within : goal.push-requires-clause-within
 push-requires-clause-within c =
@@ -328,7 +328,7 @@ returns-clause-scanned c =
     let row = c.requires.can.are_rows id p.within in
     let of : IsAbout t.vars other = All-contains (IsAbout t.vars) (row_at store id).lits other row.within p.own in
     let open' : IsOpen (lits_of t.steps) other = record { not_true = λ h. false≢true (sym c.if-is_true.false ∙ c.is_true.ensures.1 h); not_false = λ h. false≢true (sym c.if-is_false.false ∙ c.is_false.ensures.1 h) } in
-    pushed_scanned store t c.push.new.self id falsified other p open' (λ l h. c.in_default.ensures l (subst (λ xs. Contains xs l) (sym (c.clause.ensures no_row)) h)) c.push.ensures
+    pushed_scanned store t c.push.new.self id falsified other p open' (λ l h. c.in_default.ensures l (subst (λ xs. Contains xs l) (sym (c.clause.ensures.lits no_row)) h)) c.push.ensures
 
 pub returns-clause-handled : goal.returns-clause-handled
 returns-clause-handled c =
@@ -348,3 +348,11 @@ returns-clause-handled c =
       p.own,
       subst (λ ls. Contains ls other) (sym (ap (λ u. lits_of u.steps) c.push.ensures ∙ lits_push t.steps (record { lit = other; reason = Some id }))) (Contains-push (lits_of t.steps) other),
     )
+
+pub push-requires-clause-small : goal.push-requires-clause-small
+push-requires-clause-small c =
+    let store = c.args.store.now in
+    let lists = c.args.lists.now in
+    let k = code_of c.args.falsified in
+    let within : c.entry-id.result < length store = subst (λ n. n < length store) (sym c.entry-id.ensures) (watch_within store _ k (entry_watches store lists k c.args.place c.requires.can.watched c.requires.within)) in
+    omega (arith, within, c.clause.ensures.small)
