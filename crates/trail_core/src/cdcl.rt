@@ -247,8 +247,8 @@ impl Core {
 
     /// Adds a clause with no literal twice. Above level 0 one of its literals is open, the others
     /// are false, and one of these became false on the present level. `Err` comes only where memory
-    /// runs out or more than 4,294,967,294 literals or clauses would be held, and then the core is
-    /// as before.
+    /// runs out or more than 4,294,967,294 literals or 2,147,483,648 clauses would be held, and then
+    /// the core is as before.
     pub fn add_clause(&mut self, lits: &[Lit]) -> Result<ClauseId, AllocError>
         requires within { All (IsAbout self.old.vars) lits.now }
         requires once { AllPairs (λ a b. a ≢ b) lits.now }
