@@ -1,11 +1,9 @@
 -- Entries of watch lists and their blocking literals, as entries and clauses come.
-use Rattle.std.proofs.Common.{◌≡◌, ◌≢◌, ◌==◌, ℕ, ◌-◌, ◌<◌, true, false, List, [], ◌∷◌, ◌++◌, map, length, get_or, set, take, drop, count_by, sym, ap, ◌∙◌, subst, inl, inr, ⊎_elim, arith}
+use Rattle.std.proofs.Common.{◌≡◌, ◌≢◌, ◌==◌, ℕ, ◌-◌, ◌<◌, true, false, List, [], ◌∷◌, ◌++◌, map, length, get_or, set, take, count_by, sym, ap, ◌∙◌, subst, inl, inr, ⊎_elim, arith}
 use Rattle.std.specs.Prelude.{◌⊎◌, Contains, swap_remove}
-use Rattle.std.specs.List.{refill}
 use Rattle.std.proofs.lemmas.Bool.{eqb-true, cases_lt, cases_eq, false≢true}
-use Rattle.std.proofs.lemmas.List.{get_or-set_same, get_or-set_other, get_or_append_left, get_or_default, get_or_past, get_or_push, length-set, length-map, get_or-map, map-set, map_push, take-map, take_at}
+use Rattle.std.proofs.lemmas.List.{get_or-set_same, get_or-set_other, get_or_append_left, get_or_default, get_or_past, get_or_push, length-set, length-map, get_or-map, map-set, map_push, take-map}
 use Rattle.std.proofs.lemmas.List.Elements.{All-contains, Contains-get_or, Contains-push_cases}
-use Rattle.list_laws.proofs.Fronts.{at_map}
 use Rattle.cnf_formula.specs.Literals.{LitValue, code_of}
 use Rattle.cnf_formula.specs.Formulas.{IsAbout}
 use Rattle.cnf_formula.proofs.Codes.{same_code}
@@ -37,9 +35,6 @@ map_removed f xs i d w =
     ∙ ap (take (length xs - 1)) (map-set f xs i (get_or xs (length xs - 1) d) ∙ ap (set (map f xs) i) last)
     ∙ ap (λ m. take (m - 1) (set (map f xs) i (get_or (map f xs) (m - 1) (f d)))) (sym n)
 
-pub refilled : {X : Type 0} (xs ws : List X) → length ws ≡ length xs → refill (length xs) xs ws ≡ ws
-refilled xs ws e = take_at ws (drop (length ws) xs) (length xs) e
-
 -- ---- one list of entries changes
 
 pub only_new : (old : List (List WatchValue)) (at : ℕ) (ys : List WatchValue) (watch : WatchValue) → at < length old → ((w : WatchValue) → Contains ys w → Contains (watches_at old at) w ⊎ (w ≡ watch)) → IsOnlyNew old (set old at ys) at watch
@@ -51,31 +46,22 @@ only_new old at ys watch h put k w c = ⊎_elim
     (λ d. inl (subst (λ zs. Contains zs w) (get_or-set_other old at k ys [] d) c))
     (cases_eq k at)
 
-only_less : (old : List (List WatchValue)) (at : ℕ) (ys : List WatchValue) → at < length old → ((w : WatchValue) → Contains ys w → Contains (watches_at old at) w) → (k : ℕ) (w : WatchValue) → Contains (watches_at (set old at ys) k) w → Contains (watches_at old k) w
+pub only_less : (old : List (List WatchValue)) (at : ℕ) (ys : List WatchValue) → at < length old → ((w : WatchValue) → Contains ys w → Contains (watches_at old at) w) → (k : ℕ) (w : WatchValue) → Contains (watches_at (set old at ys) k) w → Contains (watches_at old k) w
 only_less old at ys h put k w c = ⊎_elim
     (λ e. subst (λ n. Contains (watches_at old n) w) (sym e) (put w (subst (λ zs. Contains zs w) (get_or-set_same old at ys [] h) (subst (λ n. Contains (watches_at (set old at ys) n) w) e c))))
     (λ d. subst (λ zs. Contains zs w) (get_or-set_other old at k ys [] d) c)
     (cases_eq k at)
+
+pub only_of : (views views' : List (List WatchValue)) (k code : ℕ) (ys : List WatchValue) (watch : WatchValue) (ws : List (List WatchValue)) → k < length views → views ≡ ws → k ≡ code → views' ≡ set views k ys
+    → ((w : WatchValue) → Contains ys w → Contains (watches_at views k) w ⊎ (w ≡ watch)) → IsOnlyNew ws views' code watch
+only_of views views' k code ys watch ws h v e is put =
+    subst (λ us. IsOnlyNew us views' code watch) v (subst (λ us. IsOnlyNew views us code watch) (sym is) (subst (λ m. IsOnlyNew views (set views k ys) m watch) e (only_new views k ys watch h put)))
 
 pub set_entry : (xs : List WatchValue) (i : ℕ) (y w : WatchValue) → i < length xs → Contains (set xs i y) w → Contains xs w ⊎ (w ≡ y)
 set_entry xs i y w h c = in_set xs i y w h c
 
 pub push_entry : (xs : List WatchValue) (y w : WatchValue) → Contains (xs ++ y ∷ []) w → Contains xs w ⊎ (w ≡ y)
 push_entry xs y w c = ⊎_elim (λ h. inl h) (λ e. inr (sym e)) (Contains-push_cases xs y w c)
-
--- the same where the lists are kept in other values
-pub only_at : {X : Type 0} (g : X → List WatchValue) (xs : List X) (k code : ℕ) (old new : X) (watch : WatchValue) (ws : List (List WatchValue)) → k < length xs → old ≡ get_or xs k old → map g xs ≡ ws → k ≡ code
-    → ((w : WatchValue) → Contains (g new) w → Contains (g old) w ⊎ (w ≡ watch)) → IsOnlyNew ws (map g (set xs k new)) code watch
-only_at g xs k code old new watch ws w is v e put =
-    let at : get_or (map g xs) k [] ≡ g old = at_map g xs k old [] w is in
-    let only : IsOnlyNew (map g xs) (set (map g xs) k (g new)) k watch = only_new (map g xs) k (g new) watch (omega (arith, w, length-map xs g))
-    (λ u c. ⊎_elim (λ o. inl (subst (λ ys. Contains ys u) (sym at) o)) (λ s. inr s) (put u c)) in
-    subst (λ us. IsOnlyNew us (map g (set xs k new)) code watch) v (subst (λ us. IsOnlyNew (map g xs) us code watch) (sym (map-set g xs k new)) (subst (λ m. IsOnlyNew (map g xs) (set (map g xs) k (g new)) m watch) e only))
-
-pub less_at : {X : Type 0} (g : X → List WatchValue) (xs : List X) (k : ℕ) (old new : X) → k < length xs → old ≡ get_or xs k old → ((w : WatchValue) → Contains (g new) w → Contains (g old) w) → (j : ℕ) (w : WatchValue) → Contains (watches_at (map g (set xs k new)) j) w → Contains (watches_at (map g xs) j) w
-less_at g xs k old new w is put j u c =
-    let at : get_or (map g xs) k [] ≡ g old = at_map g xs k old [] w is in
-    only_less (map g xs) k (g new) (omega (arith, w, length-map xs g)) (λ y h. subst (λ ys. Contains ys y) (sym at) (put y h)) j u (subst (λ us. Contains (watches_at us j) u) (map-set g xs k new) c)
 
 pub less_new : (old mid new : List (List WatchValue)) (at : ℕ) (watch : WatchValue) → ((k : ℕ) (w : WatchValue) → Contains (watches_at mid k) w → Contains (watches_at old k) w) → IsOnlyNew mid new at watch → IsOnlyNew old new at watch
 less_new old mid new at watch less only k w c = ⊎_elim (λ o. inl (less k w o)) (λ e. inr e) (only k w c)
