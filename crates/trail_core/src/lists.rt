@@ -119,10 +119,8 @@ impl WatchLists {
         let start = span.start as usize;
         self.pool[start + place] = self.pool[start + span.len as usize - 1];
         self.spans[code] = Span {
-            start: span.start,
             len: span.len - 1,
-            room: span.room,
-            uses: span.uses,
+            ..span
         };
     }
 
@@ -158,10 +156,8 @@ impl WatchLists {
         let span = self.spans[code];
         self.pool[(span.start + span.len) as usize] = watch;
         self.spans[code] = Span {
-            start: span.start,
             len: span.len + 1,
-            room: span.room,
-            uses: span.uses,
+            ..span
         };
     }
 }

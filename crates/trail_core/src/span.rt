@@ -40,9 +40,8 @@ fn move_to_end(pool: &mut Vec<Watch>, span: Span) -> Result<Span, AllocError>
     pool.resize((start + room) as usize, Watch::default())?;
     Ok(Span {
         start,
-        len: span.len,
         room,
-        uses: span.uses,
+        ..span
     })
 }
 
@@ -60,17 +59,13 @@ pub(crate) fn admitted(pool: &mut Vec<Watch>, span: Span) -> Result<Span, AllocE
 {
     if span.uses < span.room {
         return Ok(Span {
-            start: span.start,
-            len: span.len,
-            room: span.room,
             uses: span.uses + 1,
+            ..span
         });
     }
     let moved = move_to_end(pool, span)?;
     Ok(Span {
-        start: moved.start,
-        len: moved.len,
-        room: moved.room,
         uses: span.uses + 1,
+        ..moved
     })
 }
