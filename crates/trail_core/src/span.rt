@@ -17,11 +17,8 @@ pub(crate) struct Span {
     pub uses: u32,
 }
 
-/// The greatest room of a list that is moved.
-const WIDEST: u32 = 1_000_000_000;
-
 /// Copies a list to the end of its pool, with more than twice its room there. `Err` comes only where
-/// memory runs out.
+/// memory runs out or the pool would have more than 4,294,967,295 places.
 fn move_to_end(pool: &mut Vec<Watch>, span: Span) -> Result<Span, AllocError>
     requires inside { IsInside (length pool.old.items) span }
     requires small { length pool.old.items < 4294967296 }
@@ -32,10 +29,11 @@ fn move_to_end(pool: &mut Vec<Watch>, span: Span) -> Result<Span, AllocError>
     ensures entries { IfOk result (λ s. entries_of pool.new.items s ≡ entries_of pool.old.items span) }
 {
     let start = pool.len() as u32;
-    if span.room > WIDEST || 2 * span.room + 2 > u32::MAX - start {
+    let room = 2 * u64::from(span.room) + 2;
+    if room > u64::from(u32::MAX - start) {
         return Err(AllocError);
     }
-    let room = 2 * span.room + 2;
+    let room = room as u32;
     pool.extend_from_within(span.start as usize..(span.start + span.len) as usize)?;
     pool.resize((start + room) as usize, Watch::default())?;
     Ok(Span {
@@ -45,8 +43,7 @@ fn move_to_end(pool: &mut Vec<Watch>, span: Span) -> Result<Span, AllocError>
     })
 }
 
-/// Has room for one entry more in a list, which may be moved for it. `Err` comes only where memory
-/// runs out.
+/// Has room for one entry more in a list, which may be moved for it. `Err` is as for `move_to_end`.
 pub(crate) fn admitted(pool: &mut Vec<Watch>, span: Span) -> Result<Span, AllocError>
     requires inside { IsInside (length pool.old.items) span }
     requires small { length pool.old.items < 4294967296 }
