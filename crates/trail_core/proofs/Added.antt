@@ -9,7 +9,7 @@ use Rattle.cnf_formula.specs.Literals.{LitValue, negation, code_of}
 use Rattle.cnf_formula.proofs.Codes.{same_code}
 use Rattle.trail_core.specs.Assigned.{IsFalse, level_at}
 use Rattle.trail_core.specs.Trails.{StepValue, TrailValue, lits_of}
-use Rattle.trail_core.specs.Watching.{RowValue, ListsValue, no_row, watch_count, occurrences, spare, row_at, list_at, IsWatched, IsRow, AreRows, AreLists, HasRoom}
+use Rattle.trail_core.specs.Watching.{RowValue, ListsValue, no_row, watch_count, occurrences, spare, row_at, list_at, watches_at, IsWatched, IsRow, AreRows, AreLists, HasRoom, AreBlocked}
 use Rattle.trail_core.specs.Search.{IsSatisfied, IsUnit, clauses_of, CanScan}
 use Rattle.trail_core.specs.Kept.{IsDue, IsGrounded, IsShort, IsKept, IsRecent}
 use Rattle.trail_core.proofs.Watching.{hit, hit_yes, hit_no, count_long, count_short, watch_which, occurs}
@@ -212,9 +212,9 @@ watched_more rows w w' i e more has = record {
   fits = has.fits;
 }
 
-pub kept_lists : (rows : List RowValue) (w w' : ListsValue) (t : TrailValue) (head : ℕ) (short : List ℕ) → IsKept rows w t head short → AreLists t.vars w' → IsWatched rows w' → IsKept rows w' t head short
-kept_lists rows w w' t head short k a i = record {
-  can = record { are_lists = a; are_rows = k.can.are_rows; watched = i };
+pub kept_lists : (rows : List RowValue) (w w' : ListsValue) (t : TrailValue) (head : ℕ) (short : List ℕ) → IsKept rows w t head short → AreLists t.vars w' → IsWatched rows w' → w'.watches ≡ w.watches → IsKept rows w' t head short
+kept_lists rows w w' t head short k a i same = record {
+  can = record { are_lists = a; are_rows = k.can.are_rows; watched = i; blocked = subst (AreBlocked (clauses_of rows)) (sym same) k.can.blocked };
   head_within = k.head_within;
   excused = k.excused;
   head_above = k.head_above;
@@ -285,8 +285,8 @@ shorts_push rows r short all h = All-push (IsShort (rows ++ r ∷ [])) short (le
 
 -- ---- a new core
 
-pub kept_new : (vars : ℕ) (w : ListsValue) → length w.lists ≡ 2 * vars + 2 → length w.rooms ≡ 2 * vars + 2 → ((k : ℕ) → list_at w.lists k ≡ []) → length w.uses ≡ 2 * vars + 2 → ((k : ℕ) → get_or w.uses k 0 ≡ 0) → IsKept [] w (record { vars = vars; steps = []; limits = [] }) 0 []
-kept_new vars w a b empty d zero' = record {
+pub kept_new : (vars : ℕ) (w : ListsValue) → length w.lists ≡ 2 * vars + 2 → length w.rooms ≡ 2 * vars + 2 → ((k : ℕ) → list_at w.lists k ≡ []) → ((k : ℕ) → watches_at w.watches k ≡ []) → length w.uses ≡ 2 * vars + 2 → ((k : ℕ) → get_or w.uses k 0 ≡ 0) → IsKept [] w (record { vars = vars; steps = []; limits = [] }) 0 []
+kept_new vars w a b empty none d zero' = record {
   can = record {
     are_lists = record { lists_len = a; rooms_len = b; uses_len = d };
     are_rows = λ e v. absurd (omega (arith, v));
@@ -295,6 +295,7 @@ kept_new vars w a b empty d zero' = record {
       room = λ k. omega (arith, ap length (empty k), zero' k);
       fits = λ k. omega (arith, zero' k);
     };
+    blocked = λ k v c. let x = subst (λ xs. Contains xs v) (none k) c in absurd (omega (arith, x.1));
   };
   head_within = omega arith;
   excused = λ e l h f. absurd (omega (arith, f.1));

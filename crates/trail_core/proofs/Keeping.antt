@@ -220,7 +220,7 @@ pub record IsStarted (rows : List RowValue) (w : ListsValue) (t : TrailValue) (h
 pub kept_settled : (rows : List RowValue) (w : ListsValue) (t t' : TrailValue) (head : ℕ) (short : List ℕ) → IsKept rows w t head short → t'.vars ≡ t.vars → t'.limits ≡ t.limits → length t.limits ≡ 0 → Implied (clauses_of rows) (IsDue []) t.steps t'.steps → IsKept rows w t' head short
 kept_settled rows w t t' head short k vars limits bottom implied =
     kept_extend rows rows w w t t' head short k
-    (record { are_lists = subst (λ n. AreLists n w) (sym vars) k.can.are_lists; are_rows = subst (λ n. AreRows n rows) (sym vars) k.can.are_rows; watched = k.can.watched })
+    (record { are_lists = subst (λ n. AreLists n w) (sym vars) k.can.are_lists; are_rows = subst (λ n. AreRows n rows) (sym vars) k.can.are_rows; watched = k.can.watched; blocked = k.can.blocked })
     limits refl refl (λ e n h. inl h) (subst (λ ls. Implied (clauses_of rows) (IsDue ls) t.steps t'.steps) (sym (nil_limits t.limits bottom)) implied)
 
 pub started_low : (rows : List RowValue) (w : ListsValue) (t t' : TrailValue) (head : ℕ) (short : List ℕ) → IsKept rows w t head short → t'.vars ≡ t.vars → t'.limits ≡ t.limits → length t.limits ≡ 0 → Implied (clauses_of rows) (IsDue []) t.steps t'.steps

@@ -108,7 +108,7 @@ found_room rows w trues id falsified other x i p f n =
 
 pub rewatched_is : (rows : List RowValue) (w : ListsValue) (trues : List LitValue) (id place : ℕ) (falsified other x : LitValue) → IsWatched rows w → Pair rows id falsified other → IsFalse trues falsified → Found trues (row_at rows id).lits other x
     → code_of falsified < length w.lists → code_of x < length w.lists → place < length (list_at w.lists (code_of falsified)) → get_or (list_at w.lists (code_of falsified)) place 0 ≡ id
-    → IsWatched (rewatched rows id other x) (record { lists = shifted w.lists (code_of falsified) place (code_of x) id; rooms = w.rooms; uses = w.uses })
+    → IsWatched (rewatched rows id other x) (record { watches = w.watches; lists = shifted w.lists (code_of falsified) place (code_of x) id; rooms = w.rooms; uses = w.uses })
 rewatched_is rows w trues id place falsified other x i p f n wa wb wp at =
     let a = code_of falsified in
     let b = code_of x in
@@ -168,9 +168,9 @@ removed_front xs place c j w h =
     get_or-take (length xs - 1) (set xs place (get_or xs (length xs - 1) c)) j 0 (omega (arith, w, h)) ∙ get_or-set_other xs place j (get_or xs (length xs - 1) c) 0 d
 
 -- the other literal becomes true
-pub pushed_scanned : (rows : List RowValue) (t t' : TrailValue) (id : ℕ) (falsified other : LitValue) → Pair rows id falsified other → IsOpen (lits_of t.steps) other → ((o : LitValue) → Contains (row_at rows id).lits o → (o ≡ other) ⊎ IsFalse (lits_of t.steps) o)
+pub pushed_scanned : (rows : List RowValue) (t t' : TrailValue) (id : ℕ) (falsified other : LitValue) → id < length rows → Contains (row_at rows id).lits other → Contains (row_at rows id).lits falsified → IsOpen (lits_of t.steps) other → ((o : LitValue) → Contains (row_at rows id).lits o → (o ≡ other) ⊎ IsFalse (lits_of t.steps) o)
     → t' ≡ record t { steps = t.steps ++ record { lit = other; reason = Some id } ∷ [] } → Scanned falsified rows t rows t'
-pushed_scanned rows t t' id falsified other p o others e = record {
+pushed_scanned rows t t' id falsified other within own own_false o others e = record {
   vars = ap (λ u. u.vars) e;
   limits = ap (λ u. u.limits) e;
   count = refl;
@@ -180,9 +180,9 @@ pushed_scanned rows t t' id falsified other p o others e = record {
       (more t.steps t.steps (record { lit = other; reason = Some id }) (none t.steps) (record {
         id = id;
         reason = refl;
-        within = omega (arith, p.within, length-map rows (λ r. r.lits));
-        unit = subst (λ xs. IsUnit (lits_of t.steps) xs other) (lits_at rows id) (record { stands = p.own; open_ = o; others = others });
-        was_due = subst (λ xs. Contains xs falsified) (lits_at rows id) p.own_false;
+        within = omega (arith, within, length-map rows (λ r. r.lits));
+        unit = subst (λ xs. IsUnit (lits_of t.steps) xs other) (lits_at rows id) (record { stands = own; open_ = o; others = others });
+        was_due = subst (λ xs. Contains xs falsified) (lits_at rows id) own_false;
       }));
 }
 

@@ -129,7 +129,7 @@ length_removed xs place c w =
 
 pub moved : (rows : List RowValue) (w : ListsValue) (c a b place : ℕ) (r : RowValue) → IsWatched rows w → c < length rows → a < length w.lists → b < length w.lists → a ≢ b → place < length (list_at w.lists a) → get_or (list_at w.lists a) place 0 ≡ c
     → r.lits ≡ (row_at rows c).lits → watch_count (row_at rows c) a ≡ 1 → watch_count r a ≡ 0 → watch_count (row_at rows c) b ≡ 0 → watch_count r b ≡ 1 → ((k : ℕ) → k ≢ a → k ≢ b → watch_count r k ≡ watch_count (row_at rows c) k) → 0 < occurrences (row_at rows c) b
-    → IsWatched (set rows c r) (record { lists = shifted w.lists a place b c; rooms = w.rooms; uses = w.uses })
+    → IsWatched (set rows c r) (record { watches = w.watches; lists = shifted w.lists a place b c; rooms = w.rooms; uses = w.uses })
 moved rows w c a b place r i wc wa wb ab wp at same a1 a0 b0 b1 others occ = record { exact = exact; room = room; fits = i.fits }
   where
     old : RowValue

@@ -3,7 +3,7 @@ use Rattle.std.specs.Prelude.{◌≡◌, ◌⊎◌, ℕ, ◌<◌, List, [], ◌�
 use Rattle.cnf_formula.specs.Literals.{LitValue, code_of}
 use Rattle.trail_core.specs.Assigned.{IsFalse, IsOpen}
 use Rattle.trail_core.specs.Trails.{StepValue, TrailValue, lits_of}
-use Rattle.trail_core.specs.Watching.{RowValue, ListsValue, watch_count, row_at, IsWatched, AreRows, AreLists}
+use Rattle.trail_core.specs.Watching.{RowValue, ListsValue, watch_count, row_at, IsWatched, AreRows, AreLists, AreBlocked}
 
 -- some literal of the clause is true
 abbrev pub IsSatisfied : List LitValue → List LitValue → Type 0
@@ -43,6 +43,7 @@ pub record CanScan (rows : List RowValue) (w : ListsValue) (t : TrailValue) : Ty
   pub are_lists : AreLists t.vars w
   pub are_rows : AreRows t.vars rows
   pub watched : IsWatched rows w
+  pub blocked : AreBlocked (clauses_of rows) w.watches
 
 -- the clauses stay; a clause that watches another literal watches one that was not false; and literals are implied
 pub record Scanned (by : LitValue) (rows : List RowValue) (t : TrailValue) (rows' : List RowValue) (t' : TrailValue) : Type 0 where

@@ -1,5 +1,5 @@
 -- Clauses with two watched literals each, and for each literal the list of the clauses that watch it.
-use Rattle.std.specs.Prelude.{◌≡◌, ◌≢◌, ◌==◌, ℕ, ◌+◌, ◌-◌, ◌*◌, ◌<◌, ◌≤◌, false, List, [], Contains, All, count_by, sum_by, length, get_or, nat_lt, cond, if◌then◌else◌}
+use Rattle.std.specs.Prelude.{◌≡◌, ◌≢◌, ◌==◌, ◌⊎◌, ℕ, ◌+◌, ◌-◌, ◌*◌, ◌<◌, ◌≤◌, Bool, true, false, List, [], Contains, All, count_by, sum_by, length, get_or, nat_lt, cond, if◌then◌else◌}
 use Rattle.cnf_formula.specs.Literals.{LitValue, code_of}
 use Rattle.cnf_formula.specs.Formulas.{IsAbout}
 
@@ -9,8 +9,16 @@ pub record RowValue : Type 0 where
   pub first : LitValue
   pub second : LitValue
 
--- the lists, by the numbers of their literals, how many entries each has room for, and how many it may need
+-- an entry of a literal's list: a clause, another literal of it (a blocking literal), and whether these two are all that it has
+pub record WatchValue : Type 0 where
+  pub clause : ℕ
+  pub pair : Bool
+  pub blocker : LitValue
+
+-- the entries by the numbers of their literals, and the clauses that they name; how many entries each list has room for, and how many
+-- it may need
 pub record ListsValue : Type 0 where
+  pub watches : List (List WatchValue)
   pub lists : List (List ℕ)
   pub rooms : List ℕ
   pub uses : List ℕ
@@ -37,6 +45,21 @@ row_at rows e = get_or rows e no_row
 
 abbrev pub list_at : List (List ℕ) → ℕ → List ℕ
 list_at lists k = get_or lists k []
+
+abbrev pub watches_at : List (List WatchValue) → ℕ → List WatchValue
+watches_at watches k = get_or watches k []
+
+-- the clause has the blocking literal, and it has no other beside the literal of this number if it is marked as one of two
+pub record IsBlocked (clause : List LitValue) (k : ℕ) (w : WatchValue) : Type 0 where
+  pub stands : Contains clause w.blocker
+  pub pair : w.pair ≡ true → (o : LitValue) → Contains clause o → (o ≡ w.blocker) ⊎ (code_of o ≡ k)
+
+abbrev pub AreBlocked : List (List LitValue) → List (List WatchValue) → Type 0
+AreBlocked clauses watches = (k : ℕ) (w : WatchValue) → Contains (watches_at watches k) w → IsBlocked (get_or clauses w.clause []) k w
+
+-- of the entries in the second lists at most this one, in the list of this number, is in none of the first
+abbrev pub IsOnlyNew : List (List WatchValue) → List (List WatchValue) → ℕ → WatchValue → Type 0
+IsOnlyNew old new at watch = (k : ℕ) (w : WatchValue) → Contains (watches_at new k) w → Contains (watches_at old k) w ⊎ ((k ≡ at) × (w ≡ watch))
 
 -- the lists name each clause as often as it watches the literal, and have room for it to be watched elsewhere
 pub record IsWatched (rows : List RowValue) (w : ListsValue) : Type 0 where

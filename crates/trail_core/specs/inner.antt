@@ -1,2 +1,4 @@
 -- What no contract of a public call says: contracts and proofs inside this crate alone cite it.
 pub mod Stored
+pub mod Packed
+pub mod Pooled

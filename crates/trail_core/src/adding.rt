@@ -12,6 +12,7 @@ ghost use Rattle.trail_core.specs.Kept.{IsRecent, IsKept, IsHeld, CanAddTo};
 use crate::lists::WatchLists;
 use crate::store::ClauseStore;
 use crate::trail::Trail;
+use crate::watch::Watch;
 use cnf_formula::Lit;
 use std::alloc::AllocError;
 
@@ -21,6 +22,7 @@ pub(crate) fn admit_all(lists: &mut WatchLists, lits: &[Lit], vars: u32) -> Resu
     requires within { All (IsAbout vars) lits.now }
     requires room { HasRoom lists.old }
     ensures lists { lists.new.lists ≡ lists.old.lists }
+    ensures watches { lists.new.watches ≡ lists.old.watches }
     ensures are_lists { AreLists vars lists.new }
     ensures room { HasRoom lists.new }
     ensures more { (k : ℕ) → slice_index lists.old.uses k ≤ slice_index lists.new.uses k }
@@ -131,6 +133,7 @@ pub(crate) fn hold(
     requires place { CanAddTo trail.now lits.now }
     ensures kept { IsKept store.new lists.new trail.now head.new short.new.items }
     ensures ok { IfOk result (λ id. (id ≡ length store.old) × IsHeld store.old lits.now store.new) }
+    ensures small { IfOk result (λ id. id ≤ 2147483647) }
     ensures err { OnErr result (store.new ≡ store.old) }
 {
     admit_short(short, lits)?;
@@ -138,8 +141,9 @@ pub(crate) fn hold(
     let (first, second) = watches(lits, trail);
     let number = store.push(lits, first, second)?;
     if lits.len() > 1 {
-        lists.add(first, number);
-        lists.add(second, number);
+        let pair = lits.len() == 2;
+        lists.add(first, Watch::new(number, pair, second));
+        lists.add(second, Watch::new(number, pair, first));
         *head = resumed(trail, *head, first, second);
     } else {
         short.push_reserved(number);

@@ -91,7 +91,7 @@ impl Core {
     /// A core of so many variables, numbered from 1, with no clause, all of them open. It is told
     /// how many clauses are to come, and for each literal's number in how many of them the literal
     /// is to stand, for which it makes room; it takes fewer and more of them too. `Err` comes only
-    /// where memory runs out.
+    /// if memory runs out, or if these numbers of literals are more than 4,294,967,295 in all.
     pub fn with_room(
         alloc: Global,
         vars: u32,
@@ -229,7 +229,8 @@ impl Core {
         requires due { IsDue self.old.limits self.old.trail (get_or self.old.clauses reason []) }
         ensures { self.new ≡ record self.old { trail = self.old.trail ++ record { lit = lit; reason = Some reason } ∷ [] } }
     {
-        self.trail.push(lit, Some(reason.number));
+        let _count = self.store.len();
+        self.trail.push(lit, reason.number);
     }
 
     /// Backjumps to a level: takes back all that became true above it.
@@ -245,9 +246,9 @@ impl Core {
     }
 
     /// Adds a clause with no literal twice. Above level 0 one of its literals is open, the others
-    /// are false, and one of these became false on the present level. `Err` comes only where memory
-    /// runs out or more than 4,294,967,294 literals or clauses would be held, and then the core is
-    /// as before.
+    /// are false, and one of these became false on the present level. `Err` comes only if memory
+    /// runs out, or if more than 4,294,967,294 literals, 2,147,483,648 clauses or 4,294,967,295
+    /// places of watch lists would be held, and then the core is as before.
     pub fn add_clause(&mut self, lits: &[Lit]) -> Result<ClauseId, AllocError>
         requires within { All (IsAbout self.old.vars) lits.now }
         requires once { AllPairs (λ a b. a ≢ b) lits.now }
@@ -288,7 +289,7 @@ impl Core {
             &mut self.short,
             lits,
         )?;
-        self.trail.push(lit, Some(number));
+        self.trail.push(lit, number);
         // The clause is satisfied now, so nothing waits on its account.
         self.head = head;
         Ok(ClauseId { number })

@@ -13,6 +13,7 @@ ghost use Rattle.trail_core.specs.Kept.{IsShort, IsDue, IsKept, IsDone};
 use crate::lists::WatchLists;
 use crate::store::ClauseStore;
 use crate::trail::Trail;
+use crate::watch::Watch;
 use cnf_formula::Lit;
 
 /// A literal of the clause, other than this one, that is not false.
@@ -30,9 +31,54 @@ fn another(clause: &[Lit], trail: &Trail, this: Lit) -> Option<Lit>
     None
 }
 
-/// Visits the clause at a place of the list of a literal that is false: watches another literal of
-/// it, or makes the only one that is left true, or returns the clause, whose literals are all
-/// false.
+/// Visits a clause that watches a literal which is false, by its entry at a place of the literal's
+/// list: watches another literal of it, or makes the only one that is left true, or returns the
+/// clause, whose literals are all false.
+fn visit_clause(
+    store: &mut ClauseStore,
+    lists: &mut WatchLists,
+    trail: &mut Trail,
+    falsified: Lit,
+    place: usize,
+    watch: Watch,
+) -> Option<u32>
+    requires can { CanScan store.old lists.old trail.old }
+    requires of { IsAbout trail.old.vars falsified }
+    requires is_false { IsFalse (lits_of trail.old.steps) falsified }
+    requires within { place < length (list_at lists.old.lists (code_of falsified)) }
+    requires is { watch.clause ≡ slice_index (list_at lists.old.lists (code_of falsified)) place }
+    requires long { watch.pair ≡ false }
+    ensures can { CanScan store.new lists.new trail.new }
+    ensures scanned { Scanned falsified store.old trail.old store.new trail.new }
+    ensures long { place ≤ length (list_at lists.new.lists (code_of falsified)) }
+    ensures front { (j : ℕ) → j < place → slice_index (list_at lists.new.lists (code_of falsified)) j ≡ slice_index (list_at lists.old.lists (code_of falsified)) j }
+    ensures handled { let id = slice_index (list_at lists.old.lists (code_of falsified)) place in MatchOption result
+        (0 < watch_count (row_at store.new id) (code_of falsified) → IsSatisfied (lits_of trail.new.steps) (row_at store.new id).lits)
+        (λ c. (c < length store.new) × IsFalsified (lits_of trail.new.steps) (row_at store.new c).lits) }
+{
+    let id = watch.clause();
+    let (first, second) = store.watched(id);
+    let other = if first == falsified { second } else { first };
+    if trail.is_true(other) {
+        lists.replace(falsified, place, watch.blocked_by(other));
+        return None;
+    }
+    if let Some(lit) = another(store.clause(id), trail, other) {
+        store.watch(id, other, lit);
+        lists.shift(falsified, place, lit, watch.blocked_by(other));
+        return None;
+    }
+    if trail.is_false(other) {
+        return Some(id);
+    }
+    trail.push(other, id);
+    None
+}
+
+/// Visits the clause of the entry at a place of the list of a literal that is false: makes the only
+/// literal that is left of it true, or watches another, or returns the clause, whose literals are
+/// all false. A clause that is satisfied by its blocking literal is passed over, and one of two
+/// literals is not read.
 fn visit(
     store: &mut ClauseStore,
     lists: &mut WatchLists,
@@ -52,21 +98,20 @@ fn visit(
         (0 < watch_count (row_at store.new id) (code_of falsified) → IsSatisfied (lits_of trail.new.steps) (row_at store.new id).lits)
         (λ c. (c < length store.new) × IsFalsified (lits_of trail.new.steps) (row_at store.new c).lits) }
 {
-    let id = lists.entry(falsified, place);
-    let (first, second) = store.watched(id);
-    let other = if first == falsified { second } else { first };
-    if trail.is_true(other) {
+    let watch = lists.entry(falsified, place);
+    let blocker = watch.blocker();
+    if trail.is_true(blocker) {
         return None;
     }
-    if let Some(lit) = another(store.clause(id), trail, other) {
-        store.watch(id, other, lit);
-        lists.shift(falsified, place, lit);
-        return None;
+    if !watch.is_pair() {
+        return visit_clause(store, lists, trail, falsified, place, watch);
     }
-    if trail.is_false(other) {
+    let id = watch.clause();
+    if trail.is_false(blocker) {
         return Some(id);
     }
-    trail.push(other, Some(id));
+    let _count = store.len();
+    trail.push(blocker, id);
     None
 }
 
@@ -117,7 +162,7 @@ fn settle(store: &ClauseStore, trail: &mut Trail, id: u32) -> bool
             if trail.is_false(lit) {
                 return false;
             }
-            trail.push(lit, Some(id));
+            trail.push(lit, id);
             true
         }
     }

@@ -1,8 +1,8 @@
 //! The trail: the literals that are true, in the order in which they became so, with the decision
 //! level and the reason of each.
 
-ghost use Rattle.std.specs.Prelude.{◌≢◌, ◌≡◌, ◌↔◌, ℕ, ◌+◌, ◌<◌, ◌≤◌, IsTrue, true, [], ◌∷◌, ◌++◌, Option, Some, None, length, take, get_or, slice_index, Contains, IfOk};
-ghost use Rattle.cnf_formula.specs.Literals.{LitValue};
+ghost use Rattle.std.specs.Prelude.{◌≢◌, ◌≡◌, ◌↔◌, ℕ, ◌+◌, ◌<◌, ◌≤◌, IsTrue, true, [], ◌∷◌, ◌++◌, Option, Some, None, length, take, get_or, slice_set, slice_index, Contains, IfOk};
+ghost use Rattle.cnf_formula.specs.Literals.{LitValue, negation, code_of};
 ghost use Rattle.trail_core.specs.Assigned.{IsFalse, IsOpen, IsValue, IsConsistent, AreLimits, level_at};
 ghost use Rattle.trail_core.specs.Trails.{TrailValue, lits_of};
 ghost use Rattle.trail_core.specs.Formed.{IsTrail};
@@ -11,15 +11,33 @@ use cnf_formula::Lit;
 use std::alloc::{AllocError, Global};
 use std::marker::Model;
 
+/// The value of a literal that is open.
+const OPEN: u8 = 0;
+/// The value of a literal that is true.
+const TRUE: u8 = 1;
+/// The value of a literal that is false.
+const FALSE: u8 = 2;
+/// What stands in the place of a literal of variable 0, which there is not.
+const NEITHER: u8 = 3;
+/// The reason of a decision. No clause has this number.
+const NO_CLAUSE: u32 = u32::MAX;
+
+/// The decision level on which a variable got its value, and the number of the clause that gave
+/// it.
+#[derive(Clone, Copy)]
+pub(crate) struct Assignment {
+    pub level: u32,
+    pub reason: u32,
+}
+
 /// Variables with their values, and the literals that are true, level by level.
 #[derive(Drop)]
 pub(crate) struct Trail {
     vars: u32,
-    /// By variable: 0 while it is open, 1 where it is true, 2 where it is false. There is no
-    /// variable 0: it has 3.
+    /// By literal, so that the value of either sign is one read.
     values: Vec<u8>,
-    levels: Vec<u32>,
-    reasons: Vec<Option<u32>>,
+    /// By variable; what stands there while the variable is open means nothing.
+    assignments: Vec<Assignment>,
     lits: Vec<Lit>,
     /// How long the trail was when each level above 0 was opened.
     limits: Vec<u32>,
@@ -28,19 +46,23 @@ pub(crate) struct Trail {
 impl Model for Trail {
     ghost use Rattle.std.specs.Prelude.{◌≡◌, ◌+◌, ◌<◌, ◌≤◌, map, length, vec_capacity};
     ghost use Rattle.trail_core.specs.Trails.{TrailValue, step_of, IsAssigned, IsLeveled};
+    ghost use Rattle.trail_core.specs.inner.Packed.{levels_of, reasons_of};
 
     ghost Value = { TrailValue };
 
-    ghost view = { λ a. record { vars = a.vars; steps = map (step_of a.reasons.items) a.lits.items; limits = a.limits.items } };
+    ghost view = { λ a. record { vars = a.vars; steps = map (step_of (reasons_of a.assignments.items)) a.lits.items; limits = a.limits.items } };
 
-    ghost invariant = { λ a. IsAssigned a.vars a.values.items a.lits.items × IsLeveled a.vars a.levels.items a.lits.items a.limits.items × (length a.reasons.items ≡ a.vars + 1) × (a.vars ≤ vec_capacity a.lits) × (a.vars ≤ vec_capacity a.limits) × (a.vars < 4294967296) };
+    ghost invariant = { λ a. IsAssigned a.vars a.values.items a.lits.items × IsLeveled a.vars (levels_of a.assignments.items) a.lits.items a.limits.items × (length a.assignments.items ≡ a.vars + 1) × (a.vars ≤ vec_capacity a.lits) × (a.vars ≤ vec_capacity a.limits) × (a.vars < 4294967296) };
 }
 
-/// The value of a variable at which the literal is true.
-fn sign(lit: Lit) -> u8
-    ensures { result ≡ Rattle.trail_core.specs.Trails.sign lit.positive }
+/// Gives a literal and its negation their values.
+fn set_values(values: &mut Vec<u8>, lit: Lit, value: u8, negated: u8)
+    requires here { code_of lit < length values.old.items }
+    requires opposite { code_of (negation lit) < length values.old.items }
+    ensures { values.new.items ≡ slice_set (slice_set values.old.items (code_of lit) value) (code_of (negation lit)) negated }
 {
-    if lit.positive() { 1 } else { 2 }
+    values[lit.code()] = value;
+    values[lit.negated().code()] = negated;
 }
 
 impl Trail {
@@ -49,13 +71,17 @@ impl Trail {
         ensures { IfOk result (λ t. t ≡ record { vars = vars; steps = []; limits = [] }) }
     {
         let count = vars as usize;
-        let mut values = vec![in alloc; 0u8; count + 1]?;
-        values[0] = 3;
+        let mut values = vec![in alloc; OPEN; 2 * count + 2]?;
+        values[0] = NEITHER;
+        values[1] = NEITHER;
+        let decided = Assignment {
+            level: 0,
+            reason: NO_CLAUSE,
+        };
         Ok(Trail {
             vars,
             values,
-            levels: vec![in alloc; 0u32; count + 1]?,
-            reasons: vec![in alloc; None; count + 1]?,
+            assignments: vec![in alloc; decided; count + 1]?,
             lits: Vec::with_capacity(alloc, count)?,
             limits: Vec::with_capacity(alloc, count)?,
         })
@@ -66,7 +92,7 @@ impl Trail {
         requires { lit.var ≤ self.now.vars }
         ensures { IsTrue result ↔ Contains (lits_of self.now.steps) lit }
     {
-        self.values[lit.var() as usize] == sign(lit)
+        self.values[lit.code()] == TRUE
     }
 
     /// Whether the literal is false.
@@ -74,7 +100,7 @@ impl Trail {
         requires { lit.var ≤ self.now.vars }
         ensures { IsTrue result ↔ IsFalse (lits_of self.now.steps) lit }
     {
-        self.values[lit.var() as usize] == 3 - sign(lit)
+        self.values[lit.code()] == FALSE
     }
 
     /// The value of a literal, or none where it is open.
@@ -82,11 +108,11 @@ impl Trail {
         requires { lit.var ≤ self.now.vars }
         ensures { IsValue (lits_of self.now.steps) lit result }
     {
-        let value = self.values[lit.var() as usize];
-        if value == 0 {
+        let value = self.values[lit.code()];
+        if value == OPEN {
             None
         } else {
-            Some(value == sign(lit))
+            Some(value == TRUE)
         }
     }
 
@@ -166,7 +192,7 @@ impl Trail {
         requires { Contains (lits_of self.now.steps) lit }
         ensures { (k : ℕ) → k < length self.now.steps → get_or (lits_of self.now.steps) k lit ≡ lit → result ≡ level_at self.now.limits k }
     {
-        self.levels[lit.var() as usize]
+        self.assignments[lit.var() as usize].level
     }
 
     /// The clause that made a true literal so, its reason; none for a decision.
@@ -174,19 +200,27 @@ impl Trail {
         requires { Contains (lits_of self.now.steps) lit }
         ensures { Contains self.now.steps (record { lit = lit; reason = result }) }
     {
-        self.reasons[lit.var() as usize]
+        let reason = self.assignments[lit.var() as usize].reason;
+        if reason == NO_CLAUSE {
+            None
+        } else {
+            Some(reason)
+        }
     }
 
-    /// Makes an open literal true on the present level.
-    pub(crate) fn push(&mut self, lit: Lit, reason: Option<u32>)
+    /// Makes an open literal true on the present level, by the clause of this number.
+    pub(crate) fn push(&mut self, lit: Lit, reason: u32)
         requires within { lit.var ≤ self.old.vars }
         requires open { IsOpen (lits_of self.old.steps) lit }
-        ensures { self.new ≡ record self.old { steps = self.old.steps ++ record { lit = lit; reason = reason } ∷ [] } }
+        requires small { reason < 4294967295 }
+        ensures { self.new ≡ record self.old { steps = self.old.steps ++ record { lit = lit; reason = Some reason } ∷ [] } }
     {
         let var = lit.var() as usize;
-        self.values[var] = sign(lit);
-        self.levels[var] = self.limits.len() as u32;
-        self.reasons[var] = reason;
+        set_values(&mut self.values, lit, TRUE, FALSE);
+        self.assignments[var] = Assignment {
+            level: self.limits.len() as u32,
+            reason,
+        };
         self.lits.push_reserved(lit);
     }
 
@@ -199,9 +233,11 @@ impl Trail {
     {
         let var = lit.var() as usize;
         self.limits.push_reserved(self.lits.len() as u32);
-        self.values[var] = sign(lit);
-        self.levels[var] = self.limits.len() as u32;
-        self.reasons[var] = None;
+        set_values(&mut self.values, lit, TRUE, FALSE);
+        self.assignments[var] = Assignment {
+            level: self.limits.len() as u32,
+            reason: NO_CLAUSE,
+        };
         self.lits.push_reserved(lit);
     }
 
@@ -219,7 +255,7 @@ impl Trail {
         let keep = self.limits[level] as usize;
         while self.lits.len() > keep {
             let lit = self.lits.take_last();
-            self.values[lit.var() as usize] = 0;
+            set_values(&mut self.values, lit, OPEN, OPEN);
         }
         self.limits.truncate(level);
     }

@@ -1,15 +1,17 @@
-use Rattle.std.proofs.Common.{◌≡◌, ◌≢◌, ℕ, ◌+◌, ◌<◌, ◌≤◌, List, [], ◌∷◌, ◌++◌, length, get_or, set, take, sym, ap, ◌∙◌, subst, arith}
+use Rattle.std.proofs.Common.{◌≡◌, ◌≢◌, ◌==◌, ℕ, ◌+◌, ◌<◌, ◌≤◌, List, [], ◌∷◌, ◌++◌, length, get_or, set, take, sym, ap, ◌∙◌, subst, arith}
 use Rattle.std.proofs.lemmas.List.{get_or-set_other, length-set}
 use Rattle.std.proofs.lemmas.List.Elements.{All-contains, Contains-append_left, Contains-push}
-use Rattle.cnf_formula.specs.Literals.{code_of}
+use Rattle.cnf_formula.specs.Literals.{LitValue, code_of}
 use Rattle.cnf_formula.specs.Formulas.{IsAbout}
 use Rattle.cnf_formula.proofs.Codes.{same_code, code_within}
 use Rattle.trail_core.specs.Watching.{RowValue}
 use Rattle.trail_core.specs.Kept.{IsKept}
-use Rattle.trail_core.specs.Watching.{IsRow, IsWatched, AreLists, occurrences, list_at}
+use Rattle.trail_core.specs.Watching.{IsRow, IsWatched, AreLists, occurrences, list_at, AreBlocked, WatchValue, IsOnlyNew}
+use Rattle.trail_core.specs.Search.{clauses_of}
 use Rattle.trail_core.proofs.Watching.{occurs, count_short}
 use Rattle.trail_core.specs.Trails.{lits_of}
 use Rattle.trail_core.proofs.Added.{Put, watched_add, watched_more, own_count, put_short, put_two, kept_add, kept_lists, rows_add, shorts_add, shorts_push, unseen_by}
+use Rattle.trail_core.proofs.Blocking.{blocked_held, blocked_short}
 use Rattle.trail_core.proofs.adding.hold.Goals as goal
 
 pub returns-in_err-number-clause-kept : goal.returns-in_err-number-clause-kept
@@ -19,8 +21,28 @@ returns-in_err-number-clause-kept c =
     let n = c.admit_all.new.lists in
     let a : AreLists t.vars n = subst (λ m. AreLists m n) c.vars.ensures c.admit_all.ensures.are_lists in
     let w : IsWatched rows n = watched_more rows c.args.lists.now n c.requires.kept.can.watched c.admit_all.ensures.lists c.admit_all.ensures.more c.admit_all.ensures.room in
-    let k : IsKept rows n t c.args.head.now c.args.short.now.items = kept_lists rows c.args.lists.now n t c.args.head.now c.args.short.now.items c.requires.kept a w in
+    let k : IsKept rows n t c.args.head.now c.args.short.now.items = kept_lists rows c.args.lists.now n t c.args.head.now c.args.short.now.items c.requires.kept a w c.admit_all.ensures.watches in
     subst (λ ss. IsKept c.push.new.self n t c.args.head.now ss) (sym c.admit_short.ensures.items) (subst (λ rs. IsKept rs n t c.args.head.now c.args.short.now.items) (sym c.in_err-number.ensures.err) k)
+
+pub returns-in_err-admit_all-clause-kept : goal.returns-in_err-admit_all-clause-kept
+returns-in_err-admit_all-clause-kept c =
+    let rows = c.args.store.now in
+    let t = c.args.trail.now in
+    let n = c.admit_all.new.lists in
+    let a : AreLists t.vars n = subst (λ m. AreLists m n) c.vars.ensures c.admit_all.ensures.are_lists in
+    let w : IsWatched rows n = watched_more rows c.args.lists.now n c.requires.kept.can.watched c.admit_all.ensures.lists c.admit_all.ensures.more c.admit_all.ensures.room in
+    let k : IsKept rows n t c.args.head.now c.args.short.now.items = kept_lists rows c.args.lists.now n t c.args.head.now c.args.short.now.items c.requires.kept a w c.admit_all.ensures.watches in
+    subst (λ ss. IsKept rows n t c.args.head.now ss) (sym c.admit_short.ensures.items) k
+
+pub add-requires-clause-room : goal.add-requires-clause-room
+add-requires-clause-room c =
+    let old = c.args.lists.now in
+    let n = c.admit_all.new.lists in
+    let h = c.if-lits-gt1.true in
+    let a = code_of c.watches-first.result.0 in
+    let same : list_at n.lists a ≡ list_at old.lists a = ap (λ ls. list_at ls a) c.admit_all.ensures.lists in
+    let one = occurs c.args.lits.now c.watches-first.result.0 (c.watches-first.ensures.first h) in
+    omega (arith, ap length same, c.requires.kept.can.watched.room a, c.in_ok-admit_all.ensures.ok a, one, c.admit_all.ensures.room.fits a)
 
 pub add-requires-then-lits-gt1-clause-room : goal.add-requires-then-lits-gt1-clause-room
 add-requires-then-lits-gt1-clause-room c =
@@ -30,7 +52,7 @@ add-requires-then-lits-gt1-clause-room c =
     let a = code_of c.watches-first.result.0 in
     let b = code_of c.watches-first.result.1 in
     let apart : b ≢ a = λ e. c.watches-first.ensures.differ h (same_code c.watches-first.result.0 c.watches-first.result.1 (sym e)) in
-    let same : list_at c.add.new.self.lists b ≡ list_at old.lists b = ap (λ ls. list_at ls b) c.add.ensures.lists ∙ get_or-set_other n.lists a b (list_at n.lists a ++ c.in_ok-number.number ∷ []) [] apart ∙ ap (λ ls. list_at ls b) c.admit_all.ensures.lists in
+    let same : list_at c.add.new.self.lists b ≡ list_at old.lists b = ap (λ ls. list_at ls b) c.add.ensures.lists ∙ get_or-set_other n.lists a b (list_at n.lists a ++ c.new.result.clause ∷ []) [] apart ∙ ap (λ ls. list_at ls b) c.admit_all.ensures.lists in
     let rooms : get_or c.add.new.self.rooms b 0 ≡ get_or n.rooms b 0 = ap (λ rs. get_or rs b 0) c.add.ensures.rooms in
     let one = occurs c.args.lits.now c.watches-first.result.1 (c.watches-first.ensures.second h) in
     omega (arith, ap length same, rooms, c.requires.kept.can.watched.room b, c.in_ok-admit_all.ensures.ok b, one, c.admit_all.ensures.room.fits b)
@@ -56,7 +78,7 @@ returns-then-lits-gt1-clause-kept c =
     let put1 : List (List ℕ) → ℕ → List (List ℕ) = λ ls id. set ls p (list_at ls p ++ id ∷ []) in
     let put2 : List (List ℕ) → ℕ → List (List ℕ) = λ ls id. set ls q (list_at ls q ++ id ∷ []) in
     let lists : w'.lists ≡ put2 (put1 old.lists (length rows)) (length rows) =
-    c.add-then-lits-gt1.ensures.lists ∙ ap (λ ls. put2 ls number) c.add.ensures.lists ∙ ap (λ ls. put2 (put1 ls number) number) c.admit_all.ensures.lists ∙ ap (λ id. put2 (put1 old.lists id) id) id-is in
+    c.add-then-lits-gt1.ensures.lists ∙ ap (put2 c.add.new.self.lists) (ap (λ v. v.clause) c.new-then-lits-gt1.ensures) ∙ ap (λ ls. put2 ls number) (c.add.ensures.lists ∙ ap (put1 n.lists) (ap (λ v. v.clause) c.new.ensures)) ∙ ap (λ ls. put2 (put1 ls number) number) c.admit_all.ensures.lists ∙ ap (λ id. put2 (put1 old.lists id) id) id-is in
     let us : w'.uses ≡ n.uses = c.add-then-lits-gt1.ensures.uses ∙ c.add.ensures.uses in
     let ro : w'.rooms ≡ n.rooms = c.add-then-lits-gt1.ensures.rooms ∙ c.add.ensures.rooms in
     let wp : p < length old.lists = omega (arith, code_within t.vars r.first (All-contains (IsAbout t.vars) r.lits r.first row.within (e.first h)), c.requires.kept.can.are_lists.lists_len) in
@@ -72,10 +94,14 @@ returns-then-lits-gt1-clause-kept c =
       rooms_len = omega (arith, ap length ro, lens.rooms_len, c.vars.ensures);
       uses_len = omega (arith, ap length us, lens.uses_len, c.vars.ensures);
     } in
+    let entry : LitValue → WatchValue = λ l. record { clause = number; pair = length r.lits == 2; blocker = l } in
+    let one : IsOnlyNew old.watches c.add.new.self.watches p (entry r.second) = subst (λ ws. IsOnlyNew ws c.add.new.self.watches p (entry r.second)) c.admit_all.ensures.watches (subst (IsOnlyNew n.watches c.add.new.self.watches p) c.new.ensures c.add.ensures.watches) in
+    let two : IsOnlyNew c.add.new.self.watches w'.watches q (entry r.first) = subst (IsOnlyNew c.add.new.self.watches w'.watches q) c.new-then-lits-gt1.ensures c.add-then-lits-gt1.ensures.watches in
+    let blocked : AreBlocked (clauses_of (rows ++ r ∷ [])) w'.watches = blocked_held rows r old.watches c.add.new.self.watches w'.watches number c.requires.kept.can.blocked id-is (e.first h) (e.second h) (e.differ h) one two in
     let x = c.resumed.ensures in
     let m = c.resumed.result in
     let kept : IsKept (rows ++ r ∷ []) w' t m short = kept_add rows old w' t c.args.head.now m short short r c.requires.kept
-    (record { are_lists = al; are_rows = rows_add t.vars rows r c.requires.kept.can.are_rows row; watched = watched }) (λ above. h)
+    (record { are_lists = al; are_rows = rows_add t.vars rows r c.requires.kept.can.are_rows row; watched = watched; blocked = blocked }) (λ above. h)
     x.below x.above (unseen_by r (take m (lits_of t.steps)) x.first x.second)
     (λ k y. y) (λ y. absurd (omega (arith, y, h))) (shorts_add rows r short c.requires.kept.short_within) in
     subst (λ rs. IsKept rs w' t m c.admit_short.new.short.items) (sym rows-is) (subst (IsKept (rows ++ r ∷ []) w' t m) (sym c.admit_short.ensures.items) kept)
@@ -100,8 +126,9 @@ returns-else-lits-gt1-clause-kept c =
     (λ k. subst (λ ls. Put old.lists ls r (length rows) k) (sym c.admit_all.ensures.lists) (put k)) c.in_ok-admit_all.ensures.ok c.admit_all.ensures.room.fits
     (λ k. own_count r k e.first e.second e.differ) in
     let al : AreLists t.vars n = subst (λ v. AreLists v n) c.vars.ensures c.admit_all.ensures.are_lists in
+    let blocked : AreBlocked (clauses_of (rows ++ r ∷ [])) n.watches = blocked_short rows r old.watches n.watches c.requires.kept.can.blocked c.admit_all.ensures.watches in
     let kept : IsKept (rows ++ r ∷ []) n t head short' = kept_add rows old n t head head short short' r c.requires.kept
-    (record { are_lists = al; are_rows = rows_add t.vars rows r c.requires.kept.can.are_rows row; watched = watched }) (λ above. (e.above above).2)
+    (record { are_lists = al; are_rows = rows_add t.vars rows r c.requires.kept.can.are_rows row; watched = watched; blocked = blocked }) (λ above. (e.above above).2)
     (omega arith) c.requires.kept.head_above (λ l y. absurd (omega (arith, y, count_short r (code_of l) h)))
     (λ k y. Contains-append_left short (length rows ∷ []) k y) (λ y. Contains-push short (length rows)) (shorts_push rows r short c.requires.kept.short_within h) in
     subst (λ rs. IsKept rs n t head c.push_reserved.new.self.items) (sym rows-is) (subst (IsKept (rows ++ r ∷ []) n t head) (sym short-is) kept)

@@ -30,7 +30,7 @@ pub returns-else-is_false-clause-implied : goal.returns-else-is_false-clause-imp
 returns-else-is_false-clause-implied c =
     let t = c.args.trail.now in
     let l = c.lit-item.result in
-    let cl = c.clause.ensures no_row in
+    let cl = c.clause.ensures.lits no_row in
     let n : length c.clause.result.now ≤ 1 = omega (arith, ap length cl, c.requires.short.short) in
     let one = single c.clause.result.now l n c.lit-item.is in
     let unit : IsUnit (lits_of t.steps) c.clause.result.now l = record {
@@ -51,6 +51,6 @@ pub returns-else-is_false-clause-settled : goal.returns-else-is_false-clause-set
 returns-else-is_false-clause-settled c = λ h.
     let l = c.lit-item.result in (
       l,
-      subst (λ xs. Contains xs l) (c.clause.ensures no_row) (0, c.in-len1-up.len_at_least, sym c.lit-item.is),
+      subst (λ xs. Contains xs l) (c.clause.ensures.lits no_row) (0, c.in-len1-up.len_at_least, sym c.lit-item.is),
       subst (λ ls. Contains ls l) (sym (ap (λ u. lits_of u.steps) c.push.ensures ∙ lits_push c.args.trail.now.steps (record { lit = l; reason = Some c.args.id }))) (Contains-push (lits_of c.args.trail.now.steps) l),
     )

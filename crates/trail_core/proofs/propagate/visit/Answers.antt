@@ -1,350 +1,100 @@
-use Rattle.std.proofs.Common.{◌≡◌, ℕ, ◌<◌, List, [], ◌∷◌, ◌++◌, Some, length, get_or, set, sym, ap, ◌∙◌, subst, inl, inr, ⊎_elim, arith}
-use Rattle.std.specs.Prelude.{Contains, All, swap_remove}
+use Rattle.std.proofs.Common.{◌≡◌, ℕ, ◌<◌, true, [], ◌∷◌, ◌++◌, Some, length, sym, ap, ◌∙◌, subst, inl, inr, ⊎_elim, arith}
+use Rattle.std.specs.Prelude.{Contains}
 use Rattle.std.proofs.lemmas.Bool.{false≢true}
-use Rattle.std.proofs.lemmas.List.{length-set}
-use Rattle.std.proofs.lemmas.List.Elements.{All-contains, Contains-push}
-use Rattle.cnf_formula.specs.Literals.{code_of}
-use Rattle.cnf_formula.specs.Formulas.{IsAbout}
-use Rattle.cnf_formula.proofs.Codes.{code_within}
+use Rattle.std.proofs.lemmas.List.Elements.{Contains-push}
+use Rattle.cnf_formula.specs.Literals.{LitValue}
 use Rattle.trail_core.specs.Assigned.{IsFalse, IsOpen}
-use Rattle.trail_core.specs.Trails.{lits_of}
-use Rattle.trail_core.specs.Watching.{ListsValue, no_row, watch_count, row_at, list_at, IsWatched, AreRows}
-use Rattle.trail_core.specs.Search.{Scanned, IsSatisfied}
-use Rattle.trail_core.proofs.Watching.{entry_watches, watch_within, shifted, shifted_a}
-use Rattle.trail_core.proofs.Visits.{Pair, IsOther, pair_is, Found, same_lit, other_lit, scanned_same, found_room, found_apart, rewatched, rewatched_is, rewatched_rows, rewatched_scanned, rewatched_not, removed_front, pushed_scanned, lits_push}
+use Rattle.trail_core.specs.Trails.{TrailValue, lits_of}
+use Rattle.trail_core.specs.Watching.{row_at}
+use Rattle.trail_core.specs.Search.{IsSatisfied}
+use Rattle.trail_core.proofs.Visits.{scanned_same, lits_push, pushed_scanned}
+use Rattle.trail_core.proofs.Blocking.{Visited, visited_by}
 use Rattle.trail_core.proofs.propagate.visit.Goals as goal
-use Rattle.trail_core.proofs.propagate.visit.Goals.{then-eq, else-eq}
-
-pub watched-first-requires : goal.watched-first-requires
-watched-first-requires c =
-    let id = c.entry-id.result in
-    let store = c.args.store.now in
-    let lists = c.args.lists.now in
-    let t = c.args.trail.now in
-    let falsified = c.args.falsified in
-    let place = c.args.place in
-    subst (λ n. n < length store) (sym c.entry-id.ensures) (watch_within store _ (code_of falsified) (entry_watches store lists (code_of falsified) place c.requires.can.watched c.requires.within))
 
 pub is_true-requires : goal.is_true-requires
 is_true-requires c =
-    let id = c.entry-id.result in
     let store = c.args.store.now in
-    let lists = c.args.lists.now in
     let t = c.args.trail.now in
     let falsified = c.args.falsified in
-    let place = c.args.place in
-    let other = c.if-eq.other in
-    let o : IsOther c.watched-first.result.0 c.watched-first.result.1 falsified other = elim c.if-eq.branch [ then-eq w ↦ inl (same_lit c.watched-first.result.0 falsified (sym c.eq.ensures ∙ w.if-eq.true), w.other-is) | else-eq w ↦ inr (other_lit c.watched-first.result.0 falsified (sym c.eq.ensures ∙ w.if-eq.false), w.other-is) ] in
-    let p : Pair store id falsified other = pair_is t.vars store lists id place falsified c.watched-first.result.0 c.watched-first.result.1 other c.requires.can.are_rows c.requires.can.watched c.requires.within c.entry-id.ensures (c.watched-first.ensures.first no_row) (c.watched-first.ensures.second no_row) o in
-    let row = c.requires.can.are_rows id p.within in
-    let of : IsAbout t.vars other = All-contains (IsAbout t.vars) (row_at store id).lits other row.within p.own in
-    of.within
+    let w = c.entry-watch.result in
+    let v : Visited t.vars store falsified w = visited_by store c.args.lists.now t falsified c.args.place w c.requires.can c.requires.within c.entry-watch.ensures.clause c.entry-watch.ensures.stands in
+    omega (arith, v.of_vars.within, ap (λ l. l.var) c.blocker-blocker.ensures)
 
 pub returns-then-is_true-clause-scanned : goal.returns-then-is_true-clause-scanned
-returns-then-is_true-clause-scanned c =
-    let id = c.entry-id.result in
-    let store = c.args.store.now in
-    let lists = c.args.lists.now in
-    let t = c.args.trail.now in
-    let falsified = c.args.falsified in
-    let place = c.args.place in
-    scanned_same falsified store t
+returns-then-is_true-clause-scanned c = scanned_same c.args.falsified c.args.store.now c.args.trail.now
 
 pub returns-then-is_true-clause-handled : goal.returns-then-is_true-clause-handled
 returns-then-is_true-clause-handled c =
-    let id = c.entry-id.result in
     let store = c.args.store.now in
-    let lists = c.args.lists.now in
     let t = c.args.trail.now in
     let falsified = c.args.falsified in
-    let place = c.args.place in
-    let other = c.if-eq.other in
-    let o : IsOther c.watched-first.result.0 c.watched-first.result.1 falsified other = elim c.if-eq.branch [ then-eq w ↦ inl (same_lit c.watched-first.result.0 falsified (sym c.eq.ensures ∙ w.if-eq.true), w.other-is) | else-eq w ↦ inr (other_lit c.watched-first.result.0 falsified (sym c.eq.ensures ∙ w.if-eq.false), w.other-is) ] in
-    let p : Pair store id falsified other = pair_is t.vars store lists id place falsified c.watched-first.result.0 c.watched-first.result.1 other c.requires.can.are_rows c.requires.can.watched c.requires.within c.entry-id.ensures (c.watched-first.ensures.first no_row) (c.watched-first.ensures.second no_row) o in
-    let row = c.requires.can.are_rows id p.within in
-    let of : IsAbout t.vars other = All-contains (IsAbout t.vars) (row_at store id).lits other row.within p.own in
-    λ h. subst (λ n. IsSatisfied (lits_of t.steps) (row_at store n).lits) c.entry-id.ensures (other, p.own, c.is_true.ensures.0 c.if-is_true.true)
-
-pub clause-requires : goal.clause-requires
-clause-requires c =
-    let id = c.entry-id.result in
-    let store = c.args.store.now in
-    let lists = c.args.lists.now in
-    let t = c.args.trail.now in
-    let falsified = c.args.falsified in
-    let place = c.args.place in
-    let other = c.if-eq.other in
-    let o : IsOther c.watched-first.result.0 c.watched-first.result.1 falsified other = elim c.if-eq.branch [ then-eq w ↦ inl (same_lit c.watched-first.result.0 falsified (sym c.eq.ensures ∙ w.if-eq.true), w.other-is) | else-eq w ↦ inr (other_lit c.watched-first.result.0 falsified (sym c.eq.ensures ∙ w.if-eq.false), w.other-is) ] in
-    let p : Pair store id falsified other = pair_is t.vars store lists id place falsified c.watched-first.result.0 c.watched-first.result.1 other c.requires.can.are_rows c.requires.can.watched c.requires.within c.entry-id.ensures (c.watched-first.ensures.first no_row) (c.watched-first.ensures.second no_row) o in
-    let row = c.requires.can.are_rows id p.within in
-    let of : IsAbout t.vars other = All-contains (IsAbout t.vars) (row_at store id).lits other row.within p.own in
-    p.within
-
-pub another-requires : goal.another-requires
-another-requires c =
-    let id = c.entry-id.result in
-    let store = c.args.store.now in
-    let lists = c.args.lists.now in
-    let t = c.args.trail.now in
-    let falsified = c.args.falsified in
-    let place = c.args.place in
-    let other = c.if-eq.other in
-    let o : IsOther c.watched-first.result.0 c.watched-first.result.1 falsified other = elim c.if-eq.branch [ then-eq w ↦ inl (same_lit c.watched-first.result.0 falsified (sym c.eq.ensures ∙ w.if-eq.true), w.other-is) | else-eq w ↦ inr (other_lit c.watched-first.result.0 falsified (sym c.eq.ensures ∙ w.if-eq.false), w.other-is) ] in
-    let p : Pair store id falsified other = pair_is t.vars store lists id place falsified c.watched-first.result.0 c.watched-first.result.1 other c.requires.can.are_rows c.requires.can.watched c.requires.within c.entry-id.ensures (c.watched-first.ensures.first no_row) (c.watched-first.ensures.second no_row) o in
-    let row = c.requires.can.are_rows id p.within in
-    let of : IsAbout t.vars other = All-contains (IsAbout t.vars) (row_at store id).lits other row.within p.own in
-    subst (All (IsAbout t.vars)) (sym (c.clause.ensures no_row)) row.within
-
-pub watch-requires : goal.watch-requires
-watch-requires c =
-    let id = c.entry-id.result in
-    let store = c.args.store.now in
-    let lists = c.args.lists.now in
-    let t = c.args.trail.now in
-    let falsified = c.args.falsified in
-    let place = c.args.place in
-    let other = c.if-eq.other in
-    let o : IsOther c.watched-first.result.0 c.watched-first.result.1 falsified other = elim c.if-eq.branch [ then-eq w ↦ inl (same_lit c.watched-first.result.0 falsified (sym c.eq.ensures ∙ w.if-eq.true), w.other-is) | else-eq w ↦ inr (other_lit c.watched-first.result.0 falsified (sym c.eq.ensures ∙ w.if-eq.false), w.other-is) ] in
-    let p : Pair store id falsified other = pair_is t.vars store lists id place falsified c.watched-first.result.0 c.watched-first.result.1 other c.requires.can.are_rows c.requires.can.watched c.requires.within c.entry-id.ensures (c.watched-first.ensures.first no_row) (c.watched-first.ensures.second no_row) o in
-    let row = c.requires.can.are_rows id p.within in
-    let of : IsAbout t.vars other = All-contains (IsAbout t.vars) (row_at store id).lits other row.within p.own in
-    p.within
-
-pub shift-requires-clause-to_known : goal.shift-requires-clause-to_known
-shift-requires-clause-to_known c =
-    let id = c.entry-id.result in
-    let store = c.args.store.now in
-    let lists = c.args.lists.now in
-    let t = c.args.trail.now in
-    let falsified = c.args.falsified in
-    let place = c.args.place in
-    let other = c.if-eq.other in
-    let o : IsOther c.watched-first.result.0 c.watched-first.result.1 falsified other = elim c.if-eq.branch [ then-eq w ↦ inl (same_lit c.watched-first.result.0 falsified (sym c.eq.ensures ∙ w.if-eq.true), w.other-is) | else-eq w ↦ inr (other_lit c.watched-first.result.0 falsified (sym c.eq.ensures ∙ w.if-eq.false), w.other-is) ] in
-    let p : Pair store id falsified other = pair_is t.vars store lists id place falsified c.watched-first.result.0 c.watched-first.result.1 other c.requires.can.are_rows c.requires.can.watched c.requires.within c.entry-id.ensures (c.watched-first.ensures.first no_row) (c.watched-first.ensures.second no_row) o in
-    let row = c.requires.can.are_rows id p.within in
-    let of : IsAbout t.vars other = All-contains (IsAbout t.vars) (row_at store id).lits other row.within p.own in
-    let x = c.in-Some.lit in
-    let e = c.clause.ensures no_row in
-    let n : Found (lits_of t.steps) (row_at store id).lits other x = record { stands = subst (λ xs. Contains xs x) e c.in-Some.ensures.0; differs = c.in-Some.ensures.1; not_false = c.in-Some.ensures.2 } in
-    let of-x : IsAbout t.vars x = All-contains (IsAbout t.vars) (row_at store id).lits x row.within n.stands in
-    let wa : code_of falsified < length lists.lists = omega (arith, code_within t.vars falsified c.requires.of, c.requires.can.are_lists.lists_len) in
-    let wb : code_of x < length lists.lists = omega (arith, code_within t.vars x of-x, c.requires.can.are_lists.lists_len) in
-    wb
-
-pub shift-requires-clause-room : goal.shift-requires-clause-room
-shift-requires-clause-room c =
-    let id = c.entry-id.result in
-    let store = c.args.store.now in
-    let lists = c.args.lists.now in
-    let t = c.args.trail.now in
-    let falsified = c.args.falsified in
-    let place = c.args.place in
-    let other = c.if-eq.other in
-    let o : IsOther c.watched-first.result.0 c.watched-first.result.1 falsified other = elim c.if-eq.branch [ then-eq w ↦ inl (same_lit c.watched-first.result.0 falsified (sym c.eq.ensures ∙ w.if-eq.true), w.other-is) | else-eq w ↦ inr (other_lit c.watched-first.result.0 falsified (sym c.eq.ensures ∙ w.if-eq.false), w.other-is) ] in
-    let p : Pair store id falsified other = pair_is t.vars store lists id place falsified c.watched-first.result.0 c.watched-first.result.1 other c.requires.can.are_rows c.requires.can.watched c.requires.within c.entry-id.ensures (c.watched-first.ensures.first no_row) (c.watched-first.ensures.second no_row) o in
-    let row = c.requires.can.are_rows id p.within in
-    let of : IsAbout t.vars other = All-contains (IsAbout t.vars) (row_at store id).lits other row.within p.own in
-    let x = c.in-Some.lit in
-    let e = c.clause.ensures no_row in
-    let n : Found (lits_of t.steps) (row_at store id).lits other x = record { stands = subst (λ xs. Contains xs x) e c.in-Some.ensures.0; differs = c.in-Some.ensures.1; not_false = c.in-Some.ensures.2 } in
-    let of-x : IsAbout t.vars x = All-contains (IsAbout t.vars) (row_at store id).lits x row.within n.stands in
-    let wa : code_of falsified < length lists.lists = omega (arith, code_within t.vars falsified c.requires.of, c.requires.can.are_lists.lists_len) in
-    let wb : code_of x < length lists.lists = omega (arith, code_within t.vars x of-x, c.requires.can.are_lists.lists_len) in
-    found_room store lists (lits_of t.steps) id falsified other x c.requires.can.watched p c.requires.is_false n
-
-pub returns-in-Some-clause-can : goal.returns-in-Some-clause-can
-returns-in-Some-clause-can c =
-    let id = c.entry-id.result in
-    let store = c.args.store.now in
-    let lists = c.args.lists.now in
-    let t = c.args.trail.now in
-    let falsified = c.args.falsified in
-    let place = c.args.place in
-    let other = c.if-eq.other in
-    let o : IsOther c.watched-first.result.0 c.watched-first.result.1 falsified other = elim c.if-eq.branch [ then-eq w ↦ inl (same_lit c.watched-first.result.0 falsified (sym c.eq.ensures ∙ w.if-eq.true), w.other-is) | else-eq w ↦ inr (other_lit c.watched-first.result.0 falsified (sym c.eq.ensures ∙ w.if-eq.false), w.other-is) ] in
-    let p : Pair store id falsified other = pair_is t.vars store lists id place falsified c.watched-first.result.0 c.watched-first.result.1 other c.requires.can.are_rows c.requires.can.watched c.requires.within c.entry-id.ensures (c.watched-first.ensures.first no_row) (c.watched-first.ensures.second no_row) o in
-    let row = c.requires.can.are_rows id p.within in
-    let of : IsAbout t.vars other = All-contains (IsAbout t.vars) (row_at store id).lits other row.within p.own in
-    let x = c.in-Some.lit in
-    let e = c.clause.ensures no_row in
-    let n : Found (lits_of t.steps) (row_at store id).lits other x = record { stands = subst (λ xs. Contains xs x) e c.in-Some.ensures.0; differs = c.in-Some.ensures.1; not_false = c.in-Some.ensures.2 } in
-    let of-x : IsAbout t.vars x = All-contains (IsAbout t.vars) (row_at store id).lits x row.within n.stands in
-    let wa : code_of falsified < length lists.lists = omega (arith, code_within t.vars falsified c.requires.of, c.requires.can.are_lists.lists_len) in
-    let wb : code_of x < length lists.lists = omega (arith, code_within t.vars x of-x, c.requires.can.are_lists.lists_len) in
-    let rows-is : c.watch.new.self ≡ rewatched store id other x = c.watch.ensures no_row in
-    let lists-is : c.shift.new.self.lists ≡ shifted lists.lists (code_of falsified) place (code_of x) id = c.shift.ensures.lists ∙ ap (λ i. shifted lists.lists (code_of falsified) place (code_of x) i) (sym c.entry-id.ensures) in
-    let new : ListsValue = record { lists = shifted lists.lists (code_of falsified) place (code_of x) id; rooms = lists.rooms; uses = lists.uses } in
-    let w : IsWatched (rewatched store id other x) new = rewatched_is store lists (lits_of t.steps) id place falsified other x c.requires.can.watched p c.requires.is_false n wa wb c.requires.within (sym c.entry-id.ensures) in
-    let make : List (List ℕ) → List ℕ → List ℕ → ListsValue = λ a b d. record { lists = a; rooms = b; uses = d } in
-    let is : c.shift.new.self ≡ new = ap (λ a. make a c.shift.new.self.rooms c.shift.new.self.uses) lists-is ∙ ap (λ b. make new.lists b c.shift.new.self.uses) c.shift.ensures.rooms ∙ ap (make new.lists new.rooms) c.shift.ensures.uses in
-    record {
-      are_lists = record {
-        lists_len = ap length lists-is ∙ length-set (set lists.lists (code_of falsified) (swap_remove (list_at lists.lists (code_of falsified)) place id)) (code_of x) (list_at lists.lists (code_of x) ++ id ∷ []) ∙ length-set lists.lists (code_of falsified) (swap_remove (list_at lists.lists (code_of falsified)) place id) ∙ c.requires.can.are_lists.lists_len;
-        rooms_len = ap length c.shift.ensures.rooms ∙ c.requires.can.are_lists.rooms_len;
-        uses_len = ap length c.shift.ensures.uses ∙ c.requires.can.are_lists.uses_len;
-      };
-      are_rows = subst (AreRows t.vars) (sym rows-is) (rewatched_rows t.vars store (lits_of t.steps) id falsified other x c.requires.can.are_rows p n);
-      watched = subst (λ rows. IsWatched rows c.shift.new.self) (sym rows-is) (subst (λ l. IsWatched (rewatched store id other x) l) (sym is) w);
-    }
-
-pub returns-in-Some-clause-scanned : goal.returns-in-Some-clause-scanned
-returns-in-Some-clause-scanned c =
-    let id = c.entry-id.result in
-    let store = c.args.store.now in
-    let lists = c.args.lists.now in
-    let t = c.args.trail.now in
-    let falsified = c.args.falsified in
-    let place = c.args.place in
-    let other = c.if-eq.other in
-    let o : IsOther c.watched-first.result.0 c.watched-first.result.1 falsified other = elim c.if-eq.branch [ then-eq w ↦ inl (same_lit c.watched-first.result.0 falsified (sym c.eq.ensures ∙ w.if-eq.true), w.other-is) | else-eq w ↦ inr (other_lit c.watched-first.result.0 falsified (sym c.eq.ensures ∙ w.if-eq.false), w.other-is) ] in
-    let p : Pair store id falsified other = pair_is t.vars store lists id place falsified c.watched-first.result.0 c.watched-first.result.1 other c.requires.can.are_rows c.requires.can.watched c.requires.within c.entry-id.ensures (c.watched-first.ensures.first no_row) (c.watched-first.ensures.second no_row) o in
-    let row = c.requires.can.are_rows id p.within in
-    let of : IsAbout t.vars other = All-contains (IsAbout t.vars) (row_at store id).lits other row.within p.own in
-    let x = c.in-Some.lit in
-    let e = c.clause.ensures no_row in
-    let n : Found (lits_of t.steps) (row_at store id).lits other x = record { stands = subst (λ xs. Contains xs x) e c.in-Some.ensures.0; differs = c.in-Some.ensures.1; not_false = c.in-Some.ensures.2 } in
-    let of-x : IsAbout t.vars x = All-contains (IsAbout t.vars) (row_at store id).lits x row.within n.stands in
-    let wa : code_of falsified < length lists.lists = omega (arith, code_within t.vars falsified c.requires.of, c.requires.can.are_lists.lists_len) in
-    let wb : code_of x < length lists.lists = omega (arith, code_within t.vars x of-x, c.requires.can.are_lists.lists_len) in
-    let rows-is : c.watch.new.self ≡ rewatched store id other x = c.watch.ensures no_row in
-    let lists-is : c.shift.new.self.lists ≡ shifted lists.lists (code_of falsified) place (code_of x) id = c.shift.ensures.lists ∙ ap (λ i. shifted lists.lists (code_of falsified) place (code_of x) i) (sym c.entry-id.ensures) in
-    subst (λ rows. Scanned falsified store t rows t) (sym rows-is) (rewatched_scanned store t id falsified other x p n)
-
-pub returns-in-Some-clause-front : goal.returns-in-Some-clause-front
-returns-in-Some-clause-front c =
-    let id = c.entry-id.result in
-    let store = c.args.store.now in
-    let lists = c.args.lists.now in
-    let t = c.args.trail.now in
-    let falsified = c.args.falsified in
-    let place = c.args.place in
-    let other = c.if-eq.other in
-    let o : IsOther c.watched-first.result.0 c.watched-first.result.1 falsified other = elim c.if-eq.branch [ then-eq w ↦ inl (same_lit c.watched-first.result.0 falsified (sym c.eq.ensures ∙ w.if-eq.true), w.other-is) | else-eq w ↦ inr (other_lit c.watched-first.result.0 falsified (sym c.eq.ensures ∙ w.if-eq.false), w.other-is) ] in
-    let p : Pair store id falsified other = pair_is t.vars store lists id place falsified c.watched-first.result.0 c.watched-first.result.1 other c.requires.can.are_rows c.requires.can.watched c.requires.within c.entry-id.ensures (c.watched-first.ensures.first no_row) (c.watched-first.ensures.second no_row) o in
-    let row = c.requires.can.are_rows id p.within in
-    let of : IsAbout t.vars other = All-contains (IsAbout t.vars) (row_at store id).lits other row.within p.own in
-    let x = c.in-Some.lit in
-    let e = c.clause.ensures no_row in
-    let n : Found (lits_of t.steps) (row_at store id).lits other x = record { stands = subst (λ xs. Contains xs x) e c.in-Some.ensures.0; differs = c.in-Some.ensures.1; not_false = c.in-Some.ensures.2 } in
-    let of-x : IsAbout t.vars x = All-contains (IsAbout t.vars) (row_at store id).lits x row.within n.stands in
-    let wa : code_of falsified < length lists.lists = omega (arith, code_within t.vars falsified c.requires.of, c.requires.can.are_lists.lists_len) in
-    let wb : code_of x < length lists.lists = omega (arith, code_within t.vars x of-x, c.requires.can.are_lists.lists_len) in
-    let rows-is : c.watch.new.self ≡ rewatched store id other x = c.watch.ensures no_row in
-    let lists-is : c.shift.new.self.lists ≡ shifted lists.lists (code_of falsified) place (code_of x) id = c.shift.ensures.lists ∙ ap (λ i. shifted lists.lists (code_of falsified) place (code_of x) i) (sym c.entry-id.ensures) in
-    λ j h. ap (λ ls. get_or (list_at ls (code_of falsified)) j 0) lists-is ∙ ap (λ xs. get_or xs j 0) (shifted_a lists.lists (code_of falsified) place (code_of x) id wa (found_apart (lits_of t.steps) (row_at store id).lits falsified other x c.requires.is_false n)) ∙ removed_front (list_at lists.lists (code_of falsified)) place id j c.requires.within h
-
-pub returns-in-Some-clause-handled : goal.returns-in-Some-clause-handled
-returns-in-Some-clause-handled c =
-    let id = c.entry-id.result in
-    let store = c.args.store.now in
-    let lists = c.args.lists.now in
-    let t = c.args.trail.now in
-    let falsified = c.args.falsified in
-    let place = c.args.place in
-    let other = c.if-eq.other in
-    let o : IsOther c.watched-first.result.0 c.watched-first.result.1 falsified other = elim c.if-eq.branch [ then-eq w ↦ inl (same_lit c.watched-first.result.0 falsified (sym c.eq.ensures ∙ w.if-eq.true), w.other-is) | else-eq w ↦ inr (other_lit c.watched-first.result.0 falsified (sym c.eq.ensures ∙ w.if-eq.false), w.other-is) ] in
-    let p : Pair store id falsified other = pair_is t.vars store lists id place falsified c.watched-first.result.0 c.watched-first.result.1 other c.requires.can.are_rows c.requires.can.watched c.requires.within c.entry-id.ensures (c.watched-first.ensures.first no_row) (c.watched-first.ensures.second no_row) o in
-    let row = c.requires.can.are_rows id p.within in
-    let of : IsAbout t.vars other = All-contains (IsAbout t.vars) (row_at store id).lits other row.within p.own in
-    let x = c.in-Some.lit in
-    let e = c.clause.ensures no_row in
-    let n : Found (lits_of t.steps) (row_at store id).lits other x = record { stands = subst (λ xs. Contains xs x) e c.in-Some.ensures.0; differs = c.in-Some.ensures.1; not_false = c.in-Some.ensures.2 } in
-    let of-x : IsAbout t.vars x = All-contains (IsAbout t.vars) (row_at store id).lits x row.within n.stands in
-    let wa : code_of falsified < length lists.lists = omega (arith, code_within t.vars falsified c.requires.of, c.requires.can.are_lists.lists_len) in
-    let wb : code_of x < length lists.lists = omega (arith, code_within t.vars x of-x, c.requires.can.are_lists.lists_len) in
-    let rows-is : c.watch.new.self ≡ rewatched store id other x = c.watch.ensures no_row in
-    let lists-is : c.shift.new.self.lists ≡ shifted lists.lists (code_of falsified) place (code_of x) id = c.shift.ensures.lists ∙ ap (λ i. shifted lists.lists (code_of falsified) place (code_of x) i) (sym c.entry-id.ensures) in
-    λ h.
-    let z : watch_count (row_at (rewatched store id other x) id) (code_of falsified) ≡ 0 = rewatched_not store (lits_of t.steps) id falsified other x p c.requires.is_false n in
-    let z' : watch_count (row_at c.watch.new.self (get_or (list_at lists.lists (code_of falsified)) place 0)) (code_of falsified) ≡ 0 = ap (λ i. watch_count (row_at c.watch.new.self i) (code_of falsified)) (sym c.entry-id.ensures) ∙ ap (λ rows. watch_count (row_at rows id) (code_of falsified)) rows-is ∙ z in
-    absurd (omega (arith, h, z'))
+    let w = c.entry-watch.result in
+    let v : Visited t.vars store falsified w = visited_by store c.args.lists.now t falsified c.args.place w c.requires.can c.requires.within c.entry-watch.ensures.clause c.entry-watch.ensures.stands in
+    λ h. subst (λ n. IsSatisfied (lits_of t.steps) (row_at store n).lits) c.entry-watch.ensures.clause (w.blocker, v.own, subst (Contains (lits_of t.steps)) c.blocker-blocker.ensures (c.is_true.ensures.0 c.if-is_true.true))
 
 pub is_false-requires : goal.is_false-requires
 is_false-requires c =
-    let id = c.entry-id.result in
     let store = c.args.store.now in
-    let lists = c.args.lists.now in
     let t = c.args.trail.now in
     let falsified = c.args.falsified in
-    let place = c.args.place in
-    let other = c.if-eq.other in
-    let o : IsOther c.watched-first.result.0 c.watched-first.result.1 falsified other = elim c.if-eq.branch [ then-eq w ↦ inl (same_lit c.watched-first.result.0 falsified (sym c.eq.ensures ∙ w.if-eq.true), w.other-is) | else-eq w ↦ inr (other_lit c.watched-first.result.0 falsified (sym c.eq.ensures ∙ w.if-eq.false), w.other-is) ] in
-    let p : Pair store id falsified other = pair_is t.vars store lists id place falsified c.watched-first.result.0 c.watched-first.result.1 other c.requires.can.are_rows c.requires.can.watched c.requires.within c.entry-id.ensures (c.watched-first.ensures.first no_row) (c.watched-first.ensures.second no_row) o in
-    let row = c.requires.can.are_rows id p.within in
-    let of : IsAbout t.vars other = All-contains (IsAbout t.vars) (row_at store id).lits other row.within p.own in
-    of.within
+    let w = c.entry-watch.result in
+    let v : Visited t.vars store falsified w = visited_by store c.args.lists.now t falsified c.args.place w c.requires.can c.requires.within c.entry-watch.ensures.clause c.entry-watch.ensures.stands in
+    omega (arith, v.of_vars.within, ap (λ l. l.var) c.blocker-blocker.ensures)
 
 pub returns-then-is_false-clause-scanned : goal.returns-then-is_false-clause-scanned
-returns-then-is_false-clause-scanned c =
-    let id = c.entry-id.result in
-    let store = c.args.store.now in
-    let lists = c.args.lists.now in
-    let t = c.args.trail.now in
-    let falsified = c.args.falsified in
-    let place = c.args.place in
-    scanned_same falsified store t
+returns-then-is_false-clause-scanned c = scanned_same c.args.falsified c.args.store.now c.args.trail.now
 
 pub returns-then-is_false-clause-handled : goal.returns-then-is_false-clause-handled
 returns-then-is_false-clause-handled c =
-    let id = c.entry-id.result in
     let store = c.args.store.now in
-    let lists = c.args.lists.now in
     let t = c.args.trail.now in
     let falsified = c.args.falsified in
-    let place = c.args.place in
-    let other = c.if-eq.other in
-    let o : IsOther c.watched-first.result.0 c.watched-first.result.1 falsified other = elim c.if-eq.branch [ then-eq w ↦ inl (same_lit c.watched-first.result.0 falsified (sym c.eq.ensures ∙ w.if-eq.true), w.other-is) | else-eq w ↦ inr (other_lit c.watched-first.result.0 falsified (sym c.eq.ensures ∙ w.if-eq.false), w.other-is) ] in
-    let p : Pair store id falsified other = pair_is t.vars store lists id place falsified c.watched-first.result.0 c.watched-first.result.1 other c.requires.can.are_rows c.requires.can.watched c.requires.within c.entry-id.ensures (c.watched-first.ensures.first no_row) (c.watched-first.ensures.second no_row) o in
-    let row = c.requires.can.are_rows id p.within in
-    let of : IsAbout t.vars other = All-contains (IsAbout t.vars) (row_at store id).lits other row.within p.own in
-    (p.within, λ l h. ⊎_elim (λ e. subst (IsFalse (lits_of t.steps)) (sym e) (c.is_false.ensures.0 c.if-is_false.true)) (λ f. f) (c.in_default.ensures l (subst (λ xs. Contains xs l) (sym (c.clause.ensures no_row)) h)))
+    let w = c.entry-watch.result in
+    let v : Visited t.vars store falsified w = visited_by store c.args.lists.now t falsified c.args.place w c.requires.can c.requires.within c.entry-watch.ensures.clause c.entry-watch.ensures.stands in
+    let pair : w.pair ≡ true = sym c.is_pair.ensures ∙ c.if-not-is_pair.false in (
+      subst (λ n. n < length store) (sym c.clause-id.ensures) v.within,
+      λ l h. ⊎_elim
+          (λ e. subst (IsFalse (lits_of t.steps)) (c.blocker-blocker.ensures ∙ sym e) (c.is_false.ensures.0 c.if-is_false.true))
+          (λ e. subst (IsFalse (lits_of t.steps)) (sym e) c.requires.is_false)
+          (v.pair pair l (subst (λ n. Contains (row_at store n).lits l) c.clause-id.ensures h)),
+    )
 
 pub push-requires-clause-within : goal.push-requires-clause-within
 push-requires-clause-within c =
-    let id = c.entry-id.result in
     let store = c.args.store.now in
-    let lists = c.args.lists.now in
     let t = c.args.trail.now in
     let falsified = c.args.falsified in
-    let place = c.args.place in
-    let other = c.if-eq.other in
-    let o : IsOther c.watched-first.result.0 c.watched-first.result.1 falsified other = elim c.if-eq.branch [ then-eq w ↦ inl (same_lit c.watched-first.result.0 falsified (sym c.eq.ensures ∙ w.if-eq.true), w.other-is) | else-eq w ↦ inr (other_lit c.watched-first.result.0 falsified (sym c.eq.ensures ∙ w.if-eq.false), w.other-is) ] in
-    let p : Pair store id falsified other = pair_is t.vars store lists id place falsified c.watched-first.result.0 c.watched-first.result.1 other c.requires.can.are_rows c.requires.can.watched c.requires.within c.entry-id.ensures (c.watched-first.ensures.first no_row) (c.watched-first.ensures.second no_row) o in
-    let row = c.requires.can.are_rows id p.within in
-    let of : IsAbout t.vars other = All-contains (IsAbout t.vars) (row_at store id).lits other row.within p.own in
-    of.within
+    let w = c.entry-watch.result in
+    let v : Visited t.vars store falsified w = visited_by store c.args.lists.now t falsified c.args.place w c.requires.can c.requires.within c.entry-watch.ensures.clause c.entry-watch.ensures.stands in
+    omega (arith, v.of_vars.within, ap (λ l. l.var) c.blocker-blocker.ensures)
 
 pub returns-clause-scanned : goal.returns-clause-scanned
 returns-clause-scanned c =
-    let id = c.entry-id.result in
     let store = c.args.store.now in
-    let lists = c.args.lists.now in
     let t = c.args.trail.now in
     let falsified = c.args.falsified in
-    let place = c.args.place in
-    let other = c.if-eq.other in
-    let o : IsOther c.watched-first.result.0 c.watched-first.result.1 falsified other = elim c.if-eq.branch [ then-eq w ↦ inl (same_lit c.watched-first.result.0 falsified (sym c.eq.ensures ∙ w.if-eq.true), w.other-is) | else-eq w ↦ inr (other_lit c.watched-first.result.0 falsified (sym c.eq.ensures ∙ w.if-eq.false), w.other-is) ] in
-    let p : Pair store id falsified other = pair_is t.vars store lists id place falsified c.watched-first.result.0 c.watched-first.result.1 other c.requires.can.are_rows c.requires.can.watched c.requires.within c.entry-id.ensures (c.watched-first.ensures.first no_row) (c.watched-first.ensures.second no_row) o in
-    let row = c.requires.can.are_rows id p.within in
-    let of : IsAbout t.vars other = All-contains (IsAbout t.vars) (row_at store id).lits other row.within p.own in
-    let open' : IsOpen (lits_of t.steps) other = record { not_true = λ h. false≢true (sym c.if-is_true.false ∙ c.is_true.ensures.1 h); not_false = λ h. false≢true (sym c.if-is_false.false ∙ c.is_false.ensures.1 h) } in
-    pushed_scanned store t c.push.new.self id falsified other p open' (λ l h. c.in_default.ensures l (subst (λ xs. Contains xs l) (sym (c.clause.ensures no_row)) h)) c.push.ensures
+    let w = c.entry-watch.result in
+    let v : Visited t.vars store falsified w = visited_by store c.args.lists.now t falsified c.args.place w c.requires.can c.requires.within c.entry-watch.ensures.clause c.entry-watch.ensures.stands in
+    let id = c.clause-id.result in
+    let make : LitValue → ℕ → TrailValue = λ l n. record { vars = t.vars; steps = t.steps ++ record { lit = l; reason = Some n } ∷ []; limits = t.limits } in
+    let is : c.push.new.self ≡ make w.blocker w.clause = c.push.ensures ∙ ap (λ l. make l id) c.blocker-blocker.ensures ∙ ap (make w.blocker) c.clause-id.ensures in
+    let pair : w.pair ≡ true = sym c.is_pair.ensures ∙ c.if-not-is_pair.false in
+    let left : IsOpen (lits_of t.steps) w.blocker = record {
+      not_true = λ h. false≢true (sym c.if-is_true.false ∙ c.is_true.ensures.1 (subst (Contains (lits_of t.steps)) (sym c.blocker-blocker.ensures) h));
+      not_false = λ h. false≢true (sym c.if-is_false.false ∙ c.is_false.ensures.1 (subst (IsFalse (lits_of t.steps)) (sym c.blocker-blocker.ensures) h));
+    } in
+    pushed_scanned store t c.push.new.self w.clause falsified w.blocker v.within v.own v.own_false left
+    (λ o h. ⊎_elim (λ e. inl e) (λ e. inr (subst (IsFalse (lits_of t.steps)) (sym e) c.requires.is_false)) (v.pair pair o h)) is
 
 pub returns-clause-handled : goal.returns-clause-handled
 returns-clause-handled c =
-    let id = c.entry-id.result in
     let store = c.args.store.now in
-    let lists = c.args.lists.now in
     let t = c.args.trail.now in
     let falsified = c.args.falsified in
-    let place = c.args.place in
-    let other = c.if-eq.other in
-    let o : IsOther c.watched-first.result.0 c.watched-first.result.1 falsified other = elim c.if-eq.branch [ then-eq w ↦ inl (same_lit c.watched-first.result.0 falsified (sym c.eq.ensures ∙ w.if-eq.true), w.other-is) | else-eq w ↦ inr (other_lit c.watched-first.result.0 falsified (sym c.eq.ensures ∙ w.if-eq.false), w.other-is) ] in
-    let p : Pair store id falsified other = pair_is t.vars store lists id place falsified c.watched-first.result.0 c.watched-first.result.1 other c.requires.can.are_rows c.requires.can.watched c.requires.within c.entry-id.ensures (c.watched-first.ensures.first no_row) (c.watched-first.ensures.second no_row) o in
-    let row = c.requires.can.are_rows id p.within in
-    let of : IsAbout t.vars other = All-contains (IsAbout t.vars) (row_at store id).lits other row.within p.own in
-    λ h. subst (λ n. IsSatisfied (lits_of c.push.new.self.steps) (row_at store n).lits) c.entry-id.ensures (
-      other,
-      p.own,
-      subst (λ ls. Contains ls other) (sym (ap (λ u. lits_of u.steps) c.push.ensures ∙ lits_push t.steps (record { lit = other; reason = Some id }))) (Contains-push (lits_of t.steps) other),
-    )
+    let w = c.entry-watch.result in
+    let v : Visited t.vars store falsified w = visited_by store c.args.lists.now t falsified c.args.place w c.requires.can c.requires.within c.entry-watch.ensures.clause c.entry-watch.ensures.stands in
+    let id = c.clause-id.result in
+    let make : LitValue → ℕ → TrailValue = λ l n. record { vars = t.vars; steps = t.steps ++ record { lit = l; reason = Some n } ∷ []; limits = t.limits } in
+    let is : c.push.new.self ≡ make w.blocker w.clause = c.push.ensures ∙ ap (λ l. make l id) c.blocker-blocker.ensures ∙ ap (make w.blocker) c.clause-id.ensures in
+    let steps : lits_of c.push.new.self.steps ≡ lits_of t.steps ++ w.blocker ∷ [] = ap (λ u. lits_of u.steps) is ∙ lits_push t.steps (record { lit = w.blocker; reason = Some w.clause }) in
+    λ h. subst (λ n. IsSatisfied (lits_of c.push.new.self.steps) (row_at store n).lits) c.entry-watch.ensures.clause (w.blocker, v.own, subst (λ ls. Contains ls w.blocker) (sym steps) (Contains-push (lits_of t.steps) w.blocker))

@@ -1,0 +1,235 @@
+-- What the values of literals keep, as literals become true and are taken back.
+use Rattle.std.proofs.Common.{zero, suc, ◌≡◌, ◌≢◌, ◌==◌, ℕ, ◌+◌, ◌*◌, ◌<◌, ◌≤◌, Bool, true, false, List, [], ◌∷◌, ◌++◌, Some, length, get_or, set, cond, eqb, count_by, refl, sym, ap, ◌∙◌, subst, inl, inr, ⊎_elim, arith}
+use Rattle.std.specs.Prelude.{◌⊎◌, Contains, not}
+use Rattle.std.proofs.lemmas.Bool.{cases_lt, cases_eq}
+use Rattle.std.proofs.lemmas.List.Sums.{sum_by-set, get_or-le-sum_by}
+use Rattle.std.proofs.lemmas.List.{get_or-set_same, get_or-set_other, get_or_default, get_or_append_left, get_or_push, length_push, length-set}
+use Rattle.std.proofs.lemmas.List.Elements.{Contains-push, Contains-push_cases, Contains-append_left}
+use Rattle.cnf_formula.specs.Literals.{LitValue, negation, code_of}
+use Rattle.cnf_formula.specs.Formulas.{IsAbout}
+use Rattle.cnf_formula.proofs.Codes.{code_within}
+use Rattle.trail_core.specs.Assigned.{IsOpen, IsValue}
+use Rattle.trail_core.specs.Trails.{IsAssigned}
+use Rattle.trail_core.proofs.Keeping.{negated_twice}
+
+-- ---- the numbers of literals
+
+code_near : (l : LitValue) → (2 * l.var ≤ code_of l) × (code_of l ≤ 2 * l.var + 1)
+code_near l = by_sign l.positive
+  where
+    by_sign : (b : Bool) → (2 * l.var ≤ 2 * l.var + cond {A = ℕ} b 0 1) × (2 * l.var + cond {A = ℕ} b 0 1 ≤ 2 * l.var + 1)
+    by_sign true = (omega arith, omega arith)
+    by_sign false = (omega arith, omega arith)
+
+pub code_turned : (l : LitValue) → code_of (negation l) ≢ code_of l
+code_turned l = by_sign l.positive
+  where
+    by_sign : (b : Bool) → 2 * l.var + cond {A = ℕ} (not b) 0 1 ≡ 2 * l.var + cond {A = ℕ} b 0 1 → ⊥
+    by_sign true e = absurd (omega (arith, e))
+    by_sign false e = absurd (omega (arith, e))
+
+codes_apart : (l m : LitValue) → l.var ≢ m.var → code_of l ≢ code_of m
+codes_apart l m d e =
+    let a = code_near l in
+    let b = code_near m in
+    d (omega (arith, e, a.0, a.1, b.0, b.1))
+
+-- two literals of one variable are one, or each the negation of the other
+same_var : (l m : LitValue) → l.var ≡ m.var → (l ≡ m) ⊎ (l ≡ negation m)
+same_var l m e = go l.positive m.positive refl refl
+  where
+    make : ℕ → Bool → LitValue
+    make v p = record { var = v; positive = p }
+
+    go : (p q : Bool) → l.positive ≡ p → m.positive ≡ q → (l ≡ m) ⊎ (l ≡ negation m)
+    go true true a b = inl (ap (λ v. make v l.positive) e ∙ ap (make m.var) (a ∙ sym b))
+    go true false a b = inr (ap (λ v. make v l.positive) e ∙ ap (make m.var) (a ∙ sym (ap not b)))
+    go false true a b = inr (ap (λ v. make v l.positive) e ∙ ap (make m.var) (a ∙ sym (ap not b)))
+    go false false a b = inl (ap (λ v. make v l.positive) e ∙ ap (make m.var) (a ∙ sym b))
+
+-- ---- a literal and its negation are given values
+
+abbrev pub valued : List ℕ → LitValue → ℕ → ℕ → List ℕ
+valued values x a b = set (set values (code_of x) a) (code_of (negation x)) b
+
+pub valued_length : (values : List ℕ) (x : LitValue) (a b : ℕ) → length (valued values x a b) ≡ length values
+valued_length values x a b = length-set (set values (code_of x) a) (code_of (negation x)) b ∙ length-set values (code_of x) a
+
+valued_here : (values : List ℕ) (x : LitValue) (a b : ℕ) → code_of x < length values → get_or (valued values x a b) (code_of x) 0 ≡ a
+valued_here values x a b w =
+    get_or-set_other (set values (code_of x) a) (code_of (negation x)) (code_of x) b 0 (λ e. code_turned x (sym e)) ∙ get_or-set_same values (code_of x) a 0 w
+
+valued_there : (values : List ℕ) (x : LitValue) (a b : ℕ) → code_of (negation x) < length values → get_or (valued values x a b) (code_of (negation x)) 0 ≡ b
+valued_there values x a b w = get_or-set_same (set values (code_of x) a) (code_of (negation x)) b 0 (omega (arith, w, length-set values (code_of x) a))
+
+valued_else : (values : List ℕ) (x l : LitValue) (a b : ℕ) → l.var ≢ x.var → get_or (valued values x a b) (code_of l) 0 ≡ get_or values (code_of l) 0
+valued_else values x l a b d =
+    get_or-set_other (set values (code_of x) a) (code_of (negation x)) (code_of l) b 0 (codes_apart l (negation x) d)
+    ∙ get_or-set_other values (code_of x) (code_of l) a 0 (codes_apart l x d)
+
+-- how many values are 0, where two of them change
+abbrev pub zero_hit : ℕ → ℕ
+zero_hit n = cond {A = ℕ} (eqb n 0) 1 0
+
+valued_zeros : (values : List ℕ) (x : LitValue) (a b : ℕ) → code_of x < length values → code_of (negation x) < length values
+    → count_by (λ n. n == 0) (valued values x a b) + (zero_hit (get_or values (code_of x) 0) + zero_hit (get_or values (code_of (negation x)) 0)) ≡ count_by (λ n. n == 0) values + (zero_hit a + zero_hit b)
+valued_zeros values x a b w v =
+    let one = sum_by-set (λ n. cond (eqb n 0) 1 0) values (code_of x) a 0 w in
+    let two = sum_by-set (λ n. cond (eqb n 0) 1 0) (set values (code_of x) a) (code_of (negation x)) b 0 (omega (arith, v, length-set values (code_of x) a)) in
+    let e : zero_hit (get_or (set values (code_of x) a) (code_of (negation x)) 0) ≡ zero_hit (get_or values (code_of (negation x)) 0) = ap zero_hit (get_or-set_other values (code_of x) (code_of (negation x)) a 0 (code_turned x)) in
+    omega (arith, one, two, e)
+
+-- ---- what a value says
+
+pub value_by_true : (vars : ℕ) (values : List ℕ) (lits : List LitValue) (l : LitValue) → IsAssigned vars values lits → Contains lits l → get_or values (code_of l) 0 ≡ 1
+value_by_true vars values lits l a c = subst (λ x. get_or values (code_of x) 0 ≡ 1) c.2 (a.known c.0 l c.1)
+
+pub value_by_false : (vars : ℕ) (values : List ℕ) (lits : List LitValue) (l : LitValue) → IsAssigned vars values lits → Contains lits (negation l) → get_or values (code_of l) 0 ≡ 2
+value_by_false vars values lits l a c = subst (λ x. get_or values (code_of x) 0 ≡ 2) (ap negation c.2 ∙ negated_twice l) (a.opposed c.0 (negation l) c.1)
+
+pub true_by_value : (vars : ℕ) (values : List ℕ) (lits : List LitValue) (l : LitValue) → IsAssigned vars values lits → 0 < l.var → l.var ≤ vars → get_or values (code_of l) 0 ≡ 1 → Contains lits l
+true_by_value vars values lits l a some within e =
+    ⊎_elim (λ c. c) (λ c. absurd (omega (arith, e, value_by_false vars values lits l a c))) (a.stands l some within (λ z. absurd (omega (arith, e, z))))
+
+pub false_by_value : (vars : ℕ) (values : List ℕ) (lits : List LitValue) (l : LitValue) → IsAssigned vars values lits → 0 < l.var → l.var ≤ vars → get_or values (code_of l) 0 ≡ 2 → Contains lits (negation l)
+false_by_value vars values lits l a some within e =
+    ⊎_elim (λ c. absurd (omega (arith, e, value_by_true vars values lits l a c))) (λ c. c) (a.stands l some within (λ z. absurd (omega (arith, e, z))))
+
+pub open_by_value : (vars : ℕ) (values : List ℕ) (lits : List LitValue) (l : LitValue) → IsAssigned vars values lits → get_or values (code_of l) 0 ≡ 0 → IsOpen lits l
+open_by_value vars values lits l a e = record {
+  not_true = λ c. absurd (omega (arith, e, value_by_true vars values lits l a c));
+  not_false = λ c. absurd (omega (arith, e, value_by_false vars values lits l a c));
+}
+
+value_by_open : (vars : ℕ) (values : List ℕ) (lits : List LitValue) (l : LitValue) → IsAssigned vars values lits → 0 < l.var → l.var ≤ vars → IsOpen lits l → get_or values (code_of l) 0 ≡ 0
+value_by_open vars values lits l a some within o = go (get_or values (code_of l) 0) refl
+  where
+    go : (n : ℕ) → get_or values (code_of l) 0 ≡ n → get_or values (code_of l) 0 ≡ 0
+    go zero e = e
+    go (suc n) e = absurd (⊎_elim o.not_true o.not_false (a.stands l some within (λ z. absurd (omega (arith, e, z)))))
+
+pub value_some : (vars : ℕ) (values : List ℕ) (lits : List LitValue) (l : LitValue) → IsAssigned vars values lits → 0 < l.var → l.var ≤ vars → get_or values (code_of l) 0 ≢ 0 → IsValue lits l (Some (eqb (get_or values (code_of l) 0) 1))
+value_some vars values lits l a some within nz =
+    ⊎_elim
+    (λ c. let e : eqb (get_or values (code_of l) 0) 1 ≡ true = ap (λ n. eqb n 1) (value_by_true vars values lits l a c) in subst (λ b. IsValue lits l (Some b)) (sym e) c)
+    (λ c. let e : eqb (get_or values (code_of l) 0) 1 ≡ false = ap (λ n. eqb n 1) (value_by_false vars values lits l a c) in subst (λ b. IsValue lits l (Some b)) (sym e) c)
+    (a.stands l some within nz)
+
+pub consistent : (vars : ℕ) (values : List ℕ) (lits : List LitValue) → IsAssigned vars values lits → (l : LitValue) → Contains lits l → Contains lits (negation l) → ⊥
+consistent vars values lits a l p q = absurd (omega (arith, value_by_true vars values lits l a p, value_by_false vars values lits l a q))
+
+-- ---- a literal becomes true
+
+turned_open : (lits : List LitValue) (x : LitValue) → IsOpen lits x → IsOpen lits (negation x)
+turned_open lits x o = record {
+  not_true = o.not_false;
+  not_false = λ c. o.not_true (subst (Contains lits) (negated_twice x) c);
+}
+
+pub code_of_within : (vars : ℕ) (values : List ℕ) (lits : List LitValue) (x : LitValue) → IsAssigned vars values lits → 0 < x.var → x.var ≤ vars → (code_of x < length values) × (code_of (negation x) < length values)
+code_of_within vars values lits x a some within =
+    let here : IsAbout vars x = record { some = some; within = within } in
+    let there : IsAbout vars (negation x) = record { some = some; within = within } in
+    (omega (arith, code_within vars x here, a.values_len), omega (arith, code_within vars (negation x) there, a.values_len))
+
+-- an open literal's variable is new on the trail
+pub var_new : (lits : List LitValue) (x : LitValue) → IsOpen lits x → (k : ℕ) (d : LitValue) → k < length lits → (get_or lits k d).var ≢ x.var
+var_new lits x o k d w e =
+    ⊎_elim (λ s. o.not_true (k, w, is k w x d s)) (λ s. o.not_false (k, w, is k w (negation x) d s)) (same_var (get_or lits k d) x e)
+  where
+    is : (k : ℕ) → k < length lits → (y d : LitValue) → get_or lits k d ≡ y → get_or lits k y ≡ y
+    is k w y d s = get_or_default lits k y d w ∙ s
+
+pub room_for : (vars : ℕ) (values : List ℕ) (lits : List LitValue) (x : LitValue) → IsAssigned vars values lits → 0 < x.var → x.var ≤ vars → IsOpen lits x → length lits < vars
+room_for vars values lits x a some within o =
+    let in' = (code_of_within vars values lits x a some within).0 in
+    let one : cond {A = ℕ} (eqb (get_or values (code_of x) 0) 0) 1 0 ≤ count_by (λ n. n == 0) values = get_or-le-sum_by (λ n. cond (eqb n 0) 1 0) values (code_of x) 0 in' in
+    let e : cond {A = ℕ} (eqb (get_or values (code_of x) 0) 0) 1 0 ≡ 1 = ap (λ n. cond (eqb n 0) 1 0) (value_by_open vars values lits x a some within o) in
+    omega (arith, one, e, a.zeros)
+
+-- a fact of the elements of a list with one more
+pub at_push : {X : Type 0} (P : X → Type 0) (xs : List X) (x : X) → ((k : ℕ) (d : X) → k < length xs → P (get_or xs k d)) → P x → (k : ℕ) (d : X) → k < length (xs ++ x ∷ []) → P (get_or (xs ++ x ∷ []) k d)
+at_push P xs x h p k d w =
+    ⊎_elim (λ v. subst P (sym (get_or_append_left xs (x ∷ []) d k v)) (h k d v)) (λ v. let e : k ≡ length xs = omega (arith, v, w, length_push xs x) in subst P (sym (get_or_push xs x d k (sym e))) p) (cases_lt k (length xs))
+
+pub assigned_push : (vars : ℕ) (values : List ℕ) (lits : List LitValue) (x : LitValue) → IsAssigned vars values lits → 0 < x.var → x.var ≤ vars → IsOpen lits x → IsAssigned vars (valued values x 1 2) (lits ++ x ∷ [])
+assigned_push vars values lits x a some within o =
+    let in' = code_of_within vars values lits x a some within in
+    let new = var_new lits x o in
+    record {
+      values_len = valued_length values x 1 2 ∙ a.values_len;
+      some = at_push (λ l. 0 < l.var) lits x a.some some;
+      within = at_push (λ l. l.var ≤ vars) lits x a.within within;
+      known = at_push (λ l. get_or (valued values x 1 2) (code_of l) 0 ≡ 1) lits x
+          (λ k d w. valued_else values x (get_or lits k d) 1 2 (new k d w) ∙ a.known k d w) (valued_here values x 1 2 in'.0);
+      opposed = at_push (λ l. get_or (valued values x 1 2) (code_of (negation l)) 0 ≡ 2) lits x
+          (λ k d w. valued_else values x (negation (get_or lits k d)) 1 2 (new k d w) ∙ a.opposed k d w) (valued_there values x 1 2 in'.1);
+      stands = λ l p q n. ⊎_elim
+          (λ e. ⊎_elim
+          (λ s. inl (subst (Contains (lits ++ x ∷ [])) (sym s) (Contains-push lits x)))
+          (λ s. inr (subst (Contains (lits ++ x ∷ [])) (sym (ap negation s ∙ negated_twice x)) (Contains-push lits x)))
+          (same_var l x e))
+          (λ d. ⊎_elim
+          (λ c. inl (Contains-append_left lits (x ∷ []) l c))
+          (λ c. inr (Contains-append_left lits (x ∷ []) (negation l) c))
+          (a.stands l p q (λ z. n (valued_else values x l 1 2 d ∙ z))))
+          (cases_eq l.var x.var);
+      apart = λ i j d e lt w. ⊎_elim
+          (λ v. let u : i < length lits = omega (arith, v, lt) in
+          subst (λ l. l.var ≢ (get_or (lits ++ x ∷ []) j e).var) (sym (get_or_append_left lits (x ∷ []) d i u)) (subst (λ l. (get_or lits i d).var ≢ l.var) (sym (get_or_append_left lits (x ∷ []) e j v)) (a.apart i j d e lt v)))
+          (λ v. let s : j ≡ length lits = omega (arith, v, w, length_push lits x) in
+          let u : i < length lits = omega (arith, s, lt) in
+          subst (λ l. l.var ≢ (get_or (lits ++ x ∷ []) j e).var) (sym (get_or_append_left lits (x ∷ []) d i u)) (subst (λ l. (get_or lits i d).var ≢ l.var) (sym (get_or_push lits x e j (sym s))) (new i d u)))
+          (cases_lt j (length lits));
+      zeros =
+          let here : zero_hit (get_or values (code_of x) 0) ≡ 1 = ap zero_hit (value_by_open vars values lits x a some within o) in
+          let there : zero_hit (get_or values (code_of (negation x)) 0) ≡ 1 = ap zero_hit (value_by_open vars values lits (negation x) a some within (turned_open lits x o)) in
+          let none : zero_hit 1 + zero_hit 2 ≡ 0 = refl in
+          omega (arith, valued_zeros values x 1 2 in'.0 in'.1, here, there, none, a.zeros, length_push lits x);
+    }
+
+-- ---- literals are taken back
+
+pub last_within : (vars : ℕ) (values : List ℕ) (lits : List LitValue) (x : LitValue) → IsAssigned vars values (lits ++ x ∷ []) → (code_of x < length values) × (code_of (negation x) < length values)
+last_within vars values lits x a =
+    let last : length lits < length (lits ++ x ∷ []) = omega (arith, length_push lits x) in
+    let here : get_or (lits ++ x ∷ []) (length lits) x ≡ x = get_or_push lits x x (length lits) refl in
+    code_of_within vars values (lits ++ x ∷ []) x a (subst (λ l. 0 < l.var) here (a.some (length lits) x last)) (subst (λ l. l.var ≤ vars) here (a.within (length lits) x last))
+
+pub assigned_pop : (vars : ℕ) (values : List ℕ) (lits : List LitValue) (x : LitValue) → IsAssigned vars values (lits ++ x ∷ []) → IsAssigned vars (valued values x 0 0) lits
+assigned_pop vars values lits x a =
+    let n = length_push lits x in
+    let last : length lits < length (lits ++ x ∷ []) = omega (arith, n) in
+    let here : (d : LitValue) → get_or (lits ++ x ∷ []) (length lits) d ≡ x = λ d. get_or_push lits x d (length lits) refl in
+    let in' = last_within vars values lits x a in
+    let new : (k : ℕ) (d : LitValue) → k < length lits → (get_or lits k d).var ≢ x.var =
+    λ k d w. subst (λ l. (get_or lits k d).var ≢ l.var) (here d) (subst (λ l. l.var ≢ (get_or (lits ++ x ∷ []) (length lits) d).var) (get_or_append_left lits (x ∷ []) d k w) (a.apart k (length lits) d d w last)) in
+    let old : (P : LitValue → Type 0) → ((k : ℕ) (d : LitValue) → k < length (lits ++ x ∷ []) → P (get_or (lits ++ x ∷ []) k d)) → (k : ℕ) (d : LitValue) → k < length lits → P (get_or lits k d) =
+    λ P h k d w. subst P (get_or_append_left lits (x ∷ []) d k w) (h k d (omega (arith, w, n))) in
+    let was_true : get_or values (code_of x) 0 ≡ 1 = subst (λ l. get_or values (code_of l) 0 ≡ 1) (here x) (a.known (length lits) x last) in
+    let was_false : get_or values (code_of (negation x)) 0 ≡ 2 = subst (λ l. get_or values (code_of (negation l)) 0 ≡ 2) (here x) (a.opposed (length lits) x last) in
+    record {
+      values_len = valued_length values x 0 0 ∙ a.values_len;
+      some = old (λ l. 0 < l.var) a.some;
+      within = old (λ l. l.var ≤ vars) a.within;
+      known = λ k d w. valued_else values x (get_or lits k d) 0 0 (new k d w) ∙ old (λ l. get_or values (code_of l) 0 ≡ 1) a.known k d w;
+      opposed = λ k d w. valued_else values x (negation (get_or lits k d)) 0 0 (new k d w) ∙ old (λ l. get_or values (code_of (negation l)) 0 ≡ 2) a.opposed k d w;
+      stands = λ l p q z. ⊎_elim
+          (λ e. absurd (z (⊎_elim
+          (λ s. subst (λ y. get_or (valued values x 0 0) (code_of y) 0 ≡ 0) (sym s) (valued_here values x 0 0 in'.0))
+          (λ s. subst (λ y. get_or (valued values x 0 0) (code_of y) 0 ≡ 0) (sym s) (valued_there values x 0 0 in'.1))
+          (same_var l x e))))
+          (λ d. ⊎_elim (λ c. inl (stays l d c)) (λ c. inr (stays (negation l) d c)) (a.stands l p q (λ y. z (valued_else values x l 0 0 d ∙ y))))
+          (cases_eq l.var x.var);
+      apart = λ i j d e lt w.
+          subst (λ l. l.var ≢ (get_or lits j e).var) (get_or_append_left lits (x ∷ []) d i (omega (arith, lt, w)))
+          (subst (λ l. (get_or (lits ++ x ∷ []) i d).var ≢ l.var) (get_or_append_left lits (x ∷ []) e j w) (a.apart i j d e lt (omega (arith, w, n))));
+      zeros =
+          let here' : zero_hit (get_or values (code_of x) 0) ≡ 0 = ap zero_hit was_true in
+          let there : zero_hit (get_or values (code_of (negation x)) 0) ≡ 0 = ap zero_hit was_false in
+          let two : zero_hit 0 + zero_hit 0 ≡ 2 = refl in
+          omega (arith, valued_zeros values x 0 0 in'.0 in'.1, here', there, two, a.zeros, n);
+    }
+  where
+    stays : (l : LitValue) → l.var ≢ x.var → Contains (lits ++ x ∷ []) l → Contains lits l
+    stays l d c = ⊎_elim (λ h. h) (λ h. absurd (d (ap (λ y. y.var) (sym h)))) (Contains-push_cases lits x l c)
