@@ -7,7 +7,7 @@ use Rattle.std.proofs.lemmas.List.{get_or-set_same, get_or-set_other, get_or_def
 use Rattle.std.proofs.lemmas.Nat.{pow_pos, pow-add, pow_below, pow_apart, and_comm, and_mask, and_assoc, and_le_l, and_or_self, and_or_apart, mod_low, shr_high, bit_set_by_shift, leading_top}
 use lib.Bits.{bit_and, bit_or}
 use lib.Count.{count_leading_zeros}
-use Rattle.conflict_analysis.specs.PlaceSets.{Has}
+use Rattle.conflict_analysis.specs.PlaceSets.{HasPlace}
 
 -- ---- words
 
@@ -86,7 +86,7 @@ highest_last n some fits k gt s =
 -- ---- sets of places
 
 -- a place more
-pub has_more : (words words' : List ℕ) (place n : ℕ) → words' ≡ set words (place / 64) (bit_or n (2 ^ (place % 64))) → n ≡ get_or words (place / 64) 0 → place / 64 < length words → (k : ℕ) → Has words' k ↔ (Has words k ⊎ (k ≡ place))
+pub has_more : (words words' : List ℕ) (place n : ℕ) → words' ≡ set words (place / 64) (bit_or n (2 ^ (place % 64))) → n ≡ get_or words (place / 64) 0 → place / 64 < length words → (k : ℕ) → HasPlace words' k ↔ (HasPlace words k ⊎ (k ≡ place))
 has_more words words' place n is at room k = ⊎_elim
     (λ e.
     let here' : get_or words' (k / 64) 0 ≡ bit_or n (2 ^ (place % 64)) = ap (λ ws. get_or ws (k / 64) 0) is ∙ ap (λ i. get_or (set words (place / 64) (bit_or n (2 ^ (place % 64)))) i 0) e ∙ get_or-set_same words (place / 64) (bit_or n (2 ^ (place % 64))) 0 room in
@@ -106,13 +106,13 @@ has_more words words' place n is at room k = ⊎_elim
     (cases_eq (k / 64) (place / 64))
 
 -- the words are the same
-pub has_same : (words words' : List ℕ) → ((i : ℕ) → get_or words' i 0 ≡ get_or words i 0) → (k : ℕ) → Has words' k ↔ Has words k
+pub has_same : (words words' : List ℕ) → ((i : ℕ) → get_or words' i 0 ≡ get_or words i 0) → (k : ℕ) → HasPlace words' k ↔ HasPlace words k
 has_same words words' e k =
     let at = ap (λ x. bit_and x (2 ^ (k % 64))) (e (k / 64)) in
     (λ h. λ z. h (at ∙ z), λ h. λ z. h (sym at ∙ z))
 
 -- a place more, where room was made before
-pub has_inserted : (old words words' : List ℕ) (place n bit : ℕ) → ((i : ℕ) → get_or words i 0 ≡ get_or old i 0) → words' ≡ set words (place / 64) (bit_or n bit) → bit ≡ 2 ^ (place % 64) → n ≡ get_or words (place / 64) n → place / 64 < length words → (k : ℕ) → Has words' k ↔ (Has old k ⊎ (k ≡ place))
+pub has_inserted : (old words words' : List ℕ) (place n bit : ℕ) → ((i : ℕ) → get_or words i 0 ≡ get_or old i 0) → words' ≡ set words (place / 64) (bit_or n bit) → bit ≡ 2 ^ (place % 64) → n ≡ get_or words (place / 64) n → place / 64 < length words → (k : ℕ) → HasPlace words' k ↔ (HasPlace old k ⊎ (k ≡ place))
 has_inserted old words words' place n bit same is b r room k =
     let at : n ≡ get_or words (place / 64) 0 = r ∙ get_or_default words (place / 64) n 0 room in
     let more = has_more words words' place n (is ∙ ap (λ x. set words (place / 64) (bit_or n x)) b) at room k in
@@ -123,7 +123,7 @@ has_inserted old words words' place n bit same is b r room k =
 pub record IsScan (words : List ℕ) (place index word : ℕ) : Type 0 where
   pub low : index ≤ place / 64
   pub set : (b : ℕ) → b < 64 → IsBitSet word b → (64 * index + b < place) × IsBitSet (get_or words index 0) b
-  pub rest : (k : ℕ) → k < place → Has words k → (k / 64 < index) ⊎ ((k / 64 ≡ index) × IsBitSet word (k % 64))
+  pub rest : (k : ℕ) → k < place → HasPlace words k → (k / 64 < index) ⊎ ((k / 64 ≡ index) × IsBitSet word (k % 64))
 
 pub scan_begin : (words : List ℕ) (place index read word : ℕ) → index ≡ place / 64 → read ≡ get_or words index 0 → ((k : ℕ) → IsBitSet word k ↔ (IsBitSet read k × (k < place % 64))) → IsScan words place index word
 scan_begin words place index read word i r w = record {
@@ -156,13 +156,13 @@ scan_next words place index word next s none some n = record {
       (s.rest k lt h);
 }
 
-pub scan_none : (words : List ℕ) (place index word : ℕ) → IsScan words place index word → word ≡ 0 → index ≡ 0 → (k : ℕ) → k < place → Has words k → ⊥
+pub scan_none : (words : List ℕ) (place index word : ℕ) → IsScan words place index word → word ≡ 0 → index ≡ 0 → (k : ℕ) → k < place → HasPlace words k → ⊥
 scan_none words place index word s none first k lt h = ⊎_elim
     (λ less. omega (arith, less, first))
     (λ here'. no_bit word (k % 64) none here'.1)
     (s.rest k lt h)
 
-pub scan_found : (words : List ℕ) (place index word b p : ℕ) → IsScan words place index word → b < 64 → IsBitSet word b → ((k : ℕ) → b < k → IsBitSet word k → ⊥) → p ≡ 64 * index + b → (p < place) × Has words p × ((k : ℕ) → p < k → k < place → Has words k → ⊥)
+pub scan_found : (words : List ℕ) (place index word b p : ℕ) → IsScan words place index word → b < 64 → IsBitSet word b → ((k : ℕ) → b < k → IsBitSet word k → ⊥) → p ≡ 64 * index + b → (p < place) × HasPlace words p × ((k : ℕ) → p < k → k < place → HasPlace words k → ⊥)
 scan_found words place index word b p s small is top e =
     let h = s.set b small is in
     let row : p / 64 ≡ index = omega (arith, e, small) in

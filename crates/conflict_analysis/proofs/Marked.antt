@@ -14,7 +14,7 @@ use Rattle.trail_core.specs.Meaning.{CoreValue, trues}
 use Rattle.trail_core.specs.Formed.{IsTrail}
 use Rattle.trail_core.proofs.Keeping.{lits_length, negated_twice}
 use Rattle.conflict_analysis.specs.Met.{WalkValue, lit_at, no_step, IsSeen, AreMarks, AreKept, AreNoted, IsSorted, HasMet}
-use Rattle.conflict_analysis.specs.PlaceSets.{Has}
+use Rattle.conflict_analysis.specs.PlaceSets.{HasPlace}
 use Rattle.conflict_analysis.proofs.Members.{here, cons_cases}
 use Rattle.conflict_analysis.proofs.Counted.{waits_more, waits_same}
 
@@ -106,7 +106,7 @@ marked_set core stamp marks k kind t m is = record {
 -- ---- places
 
 -- a literal that is met, or was, and its place with it
-pub noted_more : (core : CoreValue) (stamp : ℕ) (marks places places' : List ℕ) (k y : ℕ) → IsTrail core.vars core.trail core.limits → k < length core.trail → length marks ≡ core.vars + 1 → stamp ≤ y → AreNoted core stamp marks places → ((j : ℕ) → Has places' j ↔ (Has places j ⊎ (j ≡ k))) → AreNoted core stamp (set marks (lit_at core k).var y) places'
+pub noted_more : (core : CoreValue) (stamp : ℕ) (marks places places' : List ℕ) (k y : ℕ) → IsTrail core.vars core.trail core.limits → k < length core.trail → length marks ≡ core.vars + 1 → stamp ≤ y → AreNoted core stamp marks places → ((j : ℕ) → HasPlace places' j ↔ (HasPlace places j ⊎ (j ≡ k))) → AreNoted core stamp (set marks (lit_at core k).var y) places'
 noted_more core stamp marks places places' k y t w len high n a = record {
   within = λ j h. ⊎_elim (λ s. n.within j s) (λ e. omega (arith, e, w)) ((a j).0 h);
   each = λ j v. ⊎_elim
@@ -124,8 +124,8 @@ noted_more core stamp marks places places' k y t w len high n a = record {
 -- one that was met already
 pub noted_same : (core : CoreValue) (stamp : ℕ) (marks places : List ℕ) (k y : ℕ) → IsTrail core.vars core.trail core.limits → k < length core.trail → length marks ≡ core.vars + 1 → stamp ≤ y → AreNoted core stamp marks places → stamp ≤ get_or marks (lit_at core k).var 0 → AreNoted core stamp (set marks (lit_at core k).var y) places
 noted_same core stamp marks places k y t w len high n met =
-    let has : Has places k = (n.each k w).1 met in
-    noted_more core stamp marks places places k y t w len high n (λ j. (λ h. inl h, λ h. ⊎_elim (λ s. s) (λ e. subst (λ i. Has places i) (sym e) has) h))
+    let has : HasPlace places k = (n.each k w).1 met in
+    noted_more core stamp marks places places k y t w len high n (λ j. (λ h. inl h, λ h. ⊎_elim (λ s. s) (λ e. subst (λ i. HasPlace places i) (sym e) has) h))
 
 -- ---- what is kept
 
@@ -232,13 +232,13 @@ unmet_at core w l this k place read u e r lt is =
     let at : lit_at core place ≡ negation l = sym (lit_read core place this within) ∙ ap (λ xs. get_or xs place this) (sym r) ∙ is ∙ e in
     record { formed = u.formed; sorted = u.sorted; low = u.low; at = record { within = within; is = at; var = ap (λ x. x.var) at }; room = u.room }
 
-noted_at : (core : CoreValue) (w : WalkValue) (l : LitValue) (k kind : ℕ) (places : List ℕ) → IsUnmet core w l k → ((j : ℕ) → Has places j ↔ (Has w.met_places j ⊎ (j ≡ k))) → AreNoted core w.stamp (set w.marks l.var (w.stamp + kind)) places
+noted_at : (core : CoreValue) (w : WalkValue) (l : LitValue) (k kind : ℕ) (places : List ℕ) → IsUnmet core w l k → ((j : ℕ) → HasPlace places j ↔ (HasPlace w.met_places j ⊎ (j ≡ k))) → AreNoted core w.stamp (set w.marks l.var (w.stamp + kind)) places
 noted_at core w l k kind places u a = subst (λ x. AreNoted core w.stamp (set w.marks x (w.stamp + kind)) places) u.at.var (noted_more core w.stamp w.marks w.met_places places k (w.stamp + kind) u.formed u.at.within u.sorted.marked.len (omega arith) u.sorted.noted a)
 
 marks_at : (core : CoreValue) (w : WalkValue) (l : LitValue) (k kind : ℕ) → IsUnmet core w l k → IsMark core k kind → AreMarks core w.stamp (set w.marks l.var (w.stamp + kind))
 marks_at core w l k kind u is = subst (λ x. AreMarks core w.stamp (set w.marks x (w.stamp + kind))) u.at.var (marked_set core w.stamp w.marks k kind u.formed u.sorted.marked is)
 
-pub met_bottom : (core : CoreValue) (w w' : WalkValue) (l : LitValue) (k : ℕ) (places : List ℕ) → IsUnmet core w l k → ((j : ℕ) → Has places j ↔ (Has w.met_places j ⊎ (j ≡ k))) → level_at core.limits k ≡ 0 → w' ≡ record w { marks = set w.marks l.var (w.stamp + 3); zeros = w.zeros + 1; met_places = places } → HasMet core (l ∷ []) w w'
+pub met_bottom : (core : CoreValue) (w w' : WalkValue) (l : LitValue) (k : ℕ) (places : List ℕ) → IsUnmet core w l k → ((j : ℕ) → HasPlace places j ↔ (HasPlace w.met_places j ⊎ (j ≡ k))) → level_at core.limits k ≡ 0 → w' ≡ record w { marks = set w.marks l.var (w.stamp + 3); zeros = w.zeros + 1; met_places = places } → HasMet core (l ∷ []) w w'
 met_bottom core w w' l k places u a z e = subst (HasMet core (l ∷ []) w) (sym e)
     (met_new core w (record w { marks = set w.marks l.var (w.stamp + 3); zeros = w.zeros + 1; met_places = places }) l 3
     (record {
@@ -250,7 +250,7 @@ met_bottom core w w' l k places u a z e = subst (HasMet core (l ∷ []) w) (sym 
     })
     refl refl refl u.room u.low (λ h. omega (arith, h)) (omega arith))
 
-pub met_open : (core : CoreValue) (w w' : WalkValue) (l : LitValue) (k : ℕ) (places : List ℕ) → IsUnmet core w l k → ((j : ℕ) → Has places j ↔ (Has w.met_places j ⊎ (j ≡ k))) → level_at core.limits k ≡ length core.limits → 0 < length core.limits → w' ≡ record w { marks = set w.marks l.var (w.stamp + 1); open_ = w.open_ + 1; met_places = places } → HasMet core (l ∷ []) w w'
+pub met_open : (core : CoreValue) (w w' : WalkValue) (l : LitValue) (k : ℕ) (places : List ℕ) → IsUnmet core w l k → ((j : ℕ) → HasPlace places j ↔ (HasPlace w.met_places j ⊎ (j ≡ k))) → level_at core.limits k ≡ length core.limits → 0 < length core.limits → w' ≡ record w { marks = set w.marks l.var (w.stamp + 1); open_ = w.open_ + 1; met_places = places } → HasMet core (l ∷ []) w w'
 met_open core w w' l k places u a top some e = subst (HasMet core (l ∷ []) w) (sym e)
     (met_new core w (record w { marks = set w.marks l.var (w.stamp + 1); open_ = w.open_ + 1; met_places = places }) l 1
     (record {
@@ -262,7 +262,7 @@ met_open core w w' l k places u a top some e = subst (HasMet core (l ∷ []) w) 
     })
     refl refl refl u.room u.low (λ h. omega (arith, h)) (omega arith))
 
-pub met_kept : (core : CoreValue) (w w' : WalkValue) (l : LitValue) (k : ℕ) (places : List ℕ) → IsUnmet core w l k → ((j : ℕ) → Has places j ↔ (Has w.met_places j ⊎ (j ≡ k))) → level_at core.limits k < length core.limits → w' ≡ record w { marks = set w.marks l.var (w.stamp + 0); lits = w.lits ++ l ∷ []; met_places = places } → HasMet core (l ∷ []) w w'
+pub met_kept : (core : CoreValue) (w w' : WalkValue) (l : LitValue) (k : ℕ) (places : List ℕ) → IsUnmet core w l k → ((j : ℕ) → HasPlace places j ↔ (HasPlace w.met_places j ⊎ (j ≡ k))) → level_at core.limits k < length core.limits → w' ≡ record w { marks = set w.marks l.var (w.stamp + 0); lits = w.lits ++ l ∷ []; met_places = places } → HasMet core (l ∷ []) w w'
 met_kept core w w' l k places u a lower e = subst (HasMet core (l ∷ []) w) (sym e)
     (met_new core w (record w { marks = set w.marks l.var (w.stamp + 0); lits = w.lits ++ l ∷ []; met_places = places }) l 0
     (record {

@@ -15,7 +15,7 @@ use Rattle.trail_core.proofs.Trails.{all_counted}
 use Rattle.trail_core.proofs.Keeping.{lits_length}
 use Rattle.conflict_analysis.specs.Conflicts.{IsConflict}
 use Rattle.conflict_analysis.specs.Learning.{number_of}
-use Rattle.conflict_analysis.specs.PlaceSets.{Has}
+use Rattle.conflict_analysis.specs.PlaceSets.{HasPlace}
 use Rattle.conflict_analysis.specs.Met.{WalkValue, no_step, lit_at, mark_of, resolved_by, IsSorted, HasMet, IsPassed, IsPoint}
 use Rattle.conflict_analysis.proofs.Levels.{level_grows, level_below, some_level, limits_rise}
 use Rattle.conflict_analysis.proofs.Counted.{waits_some, waits_none}
@@ -99,7 +99,7 @@ pub record IsBegun (core : CoreValue) (w : WalkValue) : Type 0 where
   pub hints : w.hints ≡ []
   pub open_ : w.open_ ≡ 0
   pub zeros : w.zeros ≡ 0
-  pub none : (k : ℕ) → Has w.met_places k → ⊥
+  pub none : (k : ℕ) → HasPlace w.met_places k → ⊥
 
 pub begun_sorted : (core : CoreValue) (w : WalkValue) → IsBegun core w → IsSorted core w
 begun_sorted core w b = record {

@@ -9,7 +9,7 @@ use Rattle.trail_core.specs.Kept.{IsDue, AreGrounded}
 use Rattle.trail_core.specs.Meaning.{CoreValue}
 use Rattle.trail_core.specs.Formed.{IsTrail}
 use Rattle.conflict_analysis.specs.Met.{WalkValue, step_at, no_step, lit_at, mark_of, IsSeen, IsSorted, IsPassed, IsOnward, waiting}
-use Rattle.conflict_analysis.specs.PlaceSets.{Has}
+use Rattle.conflict_analysis.specs.PlaceSets.{HasPlace}
 use Rattle.conflict_analysis.proofs.Levels.{level_below, some_level}
 use Rattle.conflict_analysis.proofs.Marked.{lit_about, same_place}
 use Rattle.conflict_analysis.proofs.Counted.{waits_some, waits_less, waits_same, waits_where, waits_other, waits_two}
@@ -19,7 +19,7 @@ pub implied_at : (core : CoreValue) (k : ℕ) → AreGrounded core → k < lengt
 implied_at core k g w n = ⊎_elim (λ d. absurd (n (subst (Contains core.limits) (length-take-le k core.trail (omega (arith, w))) d.1))) (λ i. i) (g k no_step w)
 
 -- some step waits below, so the place of a literal that was met lies there
-pub waits_below : (core : CoreValue) (kind : ℕ) (w : WalkValue) (place : ℕ) → IsSorted core w → IsPassed core kind w place → 0 < waiting (w.stamp + kind) w.marks → (k : ℕ) × (k < place) × Has w.met_places k
+pub waits_below : (core : CoreValue) (kind : ℕ) (w : WalkValue) (place : ℕ) → IsSorted core w → IsPassed core kind w place → 0 < waiting (w.stamp + kind) w.marks → (k : ℕ) × (k < place) × HasPlace w.met_places k
 waits_below core kind w place s p some =
     let v = waits_where (w.stamp + kind) w.marks some in
     let k = s.marked.placed v.0 (omega (arith, v.2)) in
@@ -31,7 +31,7 @@ pub record IsNext (core : CoreValue) (kind : ℕ) (w : WalkValue) (place : ℕ) 
   pub within : place < length core.trail
   pub passed : IsPassed core kind w (place + 1)
 
-pub next_by : (core : CoreValue) (kind : ℕ) (w : WalkValue) (from place : ℕ) → IsSorted core w → IsPassed core kind w from → place < from → Has w.met_places place → ((k : ℕ) → place < k → k < from → Has w.met_places k → ⊥) → IsNext core kind w place
+pub next_by : (core : CoreValue) (kind : ℕ) (w : WalkValue) (from place : ℕ) → IsSorted core w → IsPassed core kind w from → place < from → HasPlace w.met_places place → ((k : ℕ) → place < k → k < from → HasPlace w.met_places k → ⊥) → IsNext core kind w place
 next_by core kind w from place s p lt has none = record {
   within = s.noted.within place has;
   passed = record {

@@ -7,7 +7,7 @@ use Rattle.trail_core.specs.Watching.{no_lit}
 use Rattle.trail_core.specs.Meaning.{CoreValue, trues}
 use Rattle.conflict_analysis.specs.declared.walk.Walk.{Walk}
 use Rattle.conflict_analysis.specs.Learning.{hints_of}
-use Rattle.conflict_analysis.specs.PlaceSets.{Has}
+use Rattle.conflict_analysis.specs.PlaceSets.{HasPlace}
 
 -- marks by variable, the stamp of this analysis, what is kept, the reasons that were taken, how many steps wait, and the places of what was met
 pub record WalkValue : Type 0 where
@@ -65,8 +65,8 @@ pub record AreLeft (stamp : ℕ) (marks : List ℕ) (lits left : List LitValue) 
 
 -- in the set are the places of the literals that were met
 pub record AreNoted (core : CoreValue) (stamp : ℕ) (marks places : List ℕ) : Type 0 where
-  pub within : (k : ℕ) → Has places k → k < length core.trail
-  pub each : (k : ℕ) → k < length core.trail → Has places k ↔ (stamp ≤ get_or marks (lit_at core k).var 0)
+  pub within : (k : ℕ) → HasPlace places k → k < length core.trail
+  pub each : (k : ℕ) → k < length core.trail → HasPlace places k ↔ (stamp ≤ get_or marks (lit_at core k).var 0)
 
 abbrev pub waiting : ℕ → List ℕ → ℕ
 waiting mark marks = count_by (λ m. m == mark) marks

@@ -7,7 +7,7 @@ ghost use Rattle.trail_core.specs.Meaning.{trues};
 ghost use Rattle.trail_core.specs.Search.{IsImplied};
 ghost use Rattle.trail_core.specs.Kept.{IsDue};
 ghost use Rattle.trail_core.specs.Formed.{IsTrail};
-ghost use Rattle.conflict_analysis.specs.PlaceSets.{Has};
+ghost use Rattle.conflict_analysis.specs.PlaceSets.{HasPlace};
 ghost use Rattle.conflict_analysis.specs.Met.{value_of, IsSeen, AreMarks, AreKept, AreNoted, IsSorted, HasMet, IsPassed, lit_at, step_at, mark_of, waiting, IsOnward, HasSameOpen};
 
 use crate::walk::{BOTTOM, KEPT, OPEN, RESOLVED, Walk};
@@ -86,10 +86,10 @@ pub fn is_waiting(core: &Core, walk: &Walk, place: usize, mark: u8) -> bool
 
 /// The highest place below another whose literal was met; there is one.
 pub fn met_below(walk: &Walk, place: usize) -> usize
-    requires { (k : ℕ) × (k < place) × Has walk.now.met_places k }
+    requires { (k : ℕ) × (k < place) × HasPlace walk.now.met_places k }
     ensures below { result < place }
-    ensures met { Has walk.now.met_places result }
-    ensures highest { (k : ℕ) → result < k → k < place → Has walk.now.met_places k → ⊥ }
+    ensures met { HasPlace walk.now.met_places result }
+    ensures highest { (k : ℕ) → result < k → k < place → HasPlace walk.now.met_places k → ⊥ }
 {
     walk.met_places.below(place).unwrap()
 }

@@ -1,7 +1,7 @@
 //! Sets of places of a trail, whose highest place below another is found many places at a time.
 
 ghost use Rattle.std.specs.Prelude.{◌≡◌, ◌≢◌, ◌⊎◌, ◌↔◌, ℕ, ◌^◌, ◌<◌, IsBitSet, IsTrue, IfOk, OnOk, MatchOption, length, get_or};
-ghost use Rattle.conflict_analysis.specs.PlaceSets.{Has};
+ghost use Rattle.conflict_analysis.specs.PlaceSets.{HasPlace};
 
 use cnf_formula::OutOfMemory;
 use std::alloc::Global;
@@ -58,7 +58,7 @@ fn highest_bit(word: u64) -> usize
 impl PlaceSet {
     /// The empty set.
     pub fn new(alloc: Global) -> PlaceSet
-        ensures { (k : ℕ) → Has result k → ⊥ }
+        ensures { (k : ℕ) → HasPlace result k → ⊥ }
     {
         PlaceSet {
             words: Vec::new(alloc),
@@ -68,7 +68,7 @@ impl PlaceSet {
 
     /// Takes all places out.
     pub fn clear(&mut self)
-        ensures { (k : ℕ) → Has self.new k → ⊥ }
+        ensures { (k : ℕ) → HasPlace self.new k → ⊥ }
     {
         while let Some(index) = self.used.pop() {
             if let Some(word) = self.words.get_mut(index) {
@@ -100,8 +100,8 @@ impl PlaceSet {
 
     /// Puts a place in. Whether it was not in the set.
     pub fn insert(&mut self, place: usize) -> Result<bool, OutOfMemory>
-        ensures place { OnOk result ((k : ℕ) → Has self.new k ↔ (Has self.old k ⊎ (k ≡ place))) }
-        ensures new { IfOk result (λ new. IsTrue new ↔ (Has self.old place → ⊥)) }
+        ensures place { OnOk result ((k : ℕ) → HasPlace self.new k ↔ (HasPlace self.old k ⊎ (k ≡ place))) }
+        ensures new { IfOk result (λ new. IsTrue new ↔ (HasPlace self.old place → ⊥)) }
     {
         let index = place / PLACES;
         self.reach(index)?;
@@ -117,8 +117,8 @@ impl PlaceSet {
     /// The highest place of the set below another.
     pub fn below(&self, place: usize) -> Option<usize>
         ensures { MatchOption result
-            ((k : ℕ) → k < place → Has self.now k → ⊥)
-            (λ p. (p < place) × Has self.now p × ((k : ℕ) → p < k → k < place → Has self.now k → ⊥)) }
+            ((k : ℕ) → k < place → HasPlace self.now k → ⊥)
+            (λ p. (p < place) × HasPlace self.now p × ((k : ℕ) → p < k → k < place → HasPlace self.now k → ⊥)) }
     {
         let mut index = place / PLACES;
         let mut word = bits_below(self.word(index), place % PLACES);

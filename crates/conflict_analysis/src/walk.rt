@@ -2,7 +2,7 @@
 
 ghost use Rattle.std.specs.Prelude.{◌≡◌, ℕ, ◌+◌, ◌<◌, ◌≤◌, [], length, slice_index, IfOk};
 ghost use Rattle.conflict_analysis.specs.Met.{IsRested};
-ghost use Rattle.conflict_analysis.specs.PlaceSets.{Has};
+ghost use Rattle.conflict_analysis.specs.PlaceSets.{HasPlace};
 
 use crate::place_set::PlaceSet;
 use crate::places::Places;
@@ -73,7 +73,7 @@ impl Walk {
         ensures hints { self.new.hints.items ≡ [] }
         ensures open { self.new.open_ ≡ 0 }
         ensures zeros { self.new.zeros ≡ 0 }
-        ensures none { (k : ℕ) → Has self.new.met_places k → ⊥ }
+        ensures none { (k : ℕ) → HasPlace self.new.met_places k → ⊥ }
     {
         if self.stamp >= LAST {
             self.marks.fill(0);
