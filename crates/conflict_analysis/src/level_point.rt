@@ -2,6 +2,7 @@
 //! first unique implication point).
 
 ghost use Rattle.std.specs.Prelude.{◌≡◌, ◌+◌, ◌<◌, ◌≤◌, length, IfSome};
+ghost use Rattle.conflict_analysis.specs.Met.{value_of};
 
 use crate::implied::{Implied, is_of, reason_of};
 use crate::walk::{KEPT, Walk};
@@ -23,13 +24,14 @@ fn is_kept(walk: &Walk, var: u32) -> bool
 /// neither of the clause nor implied by it. `Err` comes only where memory runs out.
 fn wait_for_reason(
     core: &Core,
-    walk: &Walk,
+    walk: &mut Walk,
     implied: &mut Implied,
     lit: Lit,
     level: u32,
 ) -> Result<Option<u32>, OutOfMemory>
     requires lit { lit.var ≤ core.now.vars }
-    requires few { walk.now.stamp ≤ 251 }
+    requires few { walk.old.stamp ≤ 251 }
+    ensures same { value_of walk.new ≡ value_of walk.old }
 {
     let Some(reason) = reason_of(core, lit) else {
         return Ok(None);
@@ -70,14 +72,15 @@ fn next_between(walk: &Walk, implied: &Implied, from: usize, place: usize) -> Op
 /// level comes in that the clause does not imply. `Err` comes only where memory runs out.
 pub fn has_point(
     core: &Core,
-    walk: &Walk,
+    walk: &mut Walk,
     implied: &mut Implied,
     level: u32,
     from: usize,
     to: usize,
 ) -> Result<bool, OutOfMemory>
     requires within { to ≤ length core.now.trail }
-    requires few { walk.now.stamp ≤ 251 }
+    requires few { walk.old.stamp ≤ 251 }
+    ensures same { value_of walk.new ≡ value_of walk.old }
 {
     let mut open = implied.sought.kept(level);
     implied.sought.waiting.clear();

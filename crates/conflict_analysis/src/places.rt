@@ -1,6 +1,6 @@
 //! Where the literals of a trail stand.
 
-ghost use Rattle.std.specs.Prelude.{◌≡◌, ◌<◌, ◌≤◌, length, get_or, Contains};
+ghost use Rattle.std.specs.Prelude.{◌≡◌, ◌<◌, ◌≤◌, length, get_or, Contains, IfSome};
 ghost use Rattle.cnf_formula.specs.Literals.{LitValue};
 ghost use Rattle.trail_core.specs.Assigned.{IsFalse};
 
@@ -18,7 +18,8 @@ pub struct Places {
     settled: Option<(usize, Lit)>,
 }
 
-/// Where a literal stands, found by going over all of them.
+/// Where a literal stands, found by going over all of them. Since a trail has no variable twice, no
+/// literal has to be looked for once all are noted.
 fn position_of(trail: &[Lit], lit: Lit) -> usize
     requires { Contains trail.now lit }
     ensures within { result < length trail.now }
@@ -62,19 +63,33 @@ impl Places {
         }
     }
 
-    /// Where a literal of a trail stands.
-    pub fn of(&self, trail: &[Lit], lit: Lit) -> usize
+    /// Where a literal stands on a trail, if it stands where that was noted.
+    fn find(&self, trail: &[Lit], lit: Lit) -> Option<usize>
+        ensures { IfSome result (λ place. (place < length trail.now) × (get_or trail.now place lit ≡ lit)) }
+    {
+        let place = *self.noted.get(lit.var() as usize)? as usize;
+        if place < trail.len() && trail[place] == lit {
+            return Some(place);
+        }
+        None
+    }
+
+    /// Where a literal of a trail stands. Where that was noted wrongly the search went back further
+    /// than its line says, so the whole trail is noted anew.
+    pub fn of(&mut self, trail: &[Lit], lit: Lit) -> usize
         requires { Contains trail.now lit }
         ensures within { result < length trail.now }
         ensures is { get_or trail.now result lit ≡ lit }
     {
-        if let Some(noted) = self.noted.get(lit.var() as usize) {
-            let place = *noted as usize;
-            if place < trail.len() && trail[place] == lit {
-                return place;
-            }
+        if let Some(place) = self.find(trail, lit) {
+            return place;
         }
-        position_of(trail, lit)
+        self.settled = None;
+        self.note(trail);
+        match self.find(trail, lit) {
+            Some(place) => place,
+            None => position_of(trail, lit),
+        }
     }
 
     /// Settles how far the trail stays: the search goes back to the highest level on which one of
@@ -82,15 +97,16 @@ impl Places {
     pub fn settle(&mut self, trail: &[Lit], lits: &[Lit])
         requires { (o : LitValue) → Contains lits.now o → IsFalse trail.now o }
     {
-        self.settled = None;
-        let mut highest = 0;
+        let mut settled = None;
+        let mut height = 0;
         for lit in lits {
             let this = lit.negated();
             let place = self.of(trail, this);
-            if place >= highest {
-                highest = place;
-                self.settled = Some((place, this));
+            if place >= height {
+                height = place + 1;
+                settled = Some((place, this));
             }
         }
+        self.settled = settled;
     }
 }

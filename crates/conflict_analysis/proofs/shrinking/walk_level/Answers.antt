@@ -1,6 +1,6 @@
 use Rattle.std.proofs.Common.{◌≡◌, ◌+◌, ◌-◌, ◌<◌, length, get_or, sym, ap, ◌∙◌, subst, arith}
 use Rattle.std.specs.Prelude.{Contains}
-use Rattle.conflict_analysis.specs.Met.{value_of, WalkValue, IsPassed}
+use Rattle.conflict_analysis.specs.Met.{value_of, WalkValue, IsSorted, IsPassed, IsOnward, HasSameOpen}
 use Rattle.conflict_analysis.proofs.Levels.{limits_rise}
 use Rattle.conflict_analysis.proofs.Middle.{middle_at, passed_lower, level_lower}
 use Rattle.conflict_analysis.proofs.Resolved.{same_open, same_open_then}
@@ -11,15 +11,18 @@ pub loop-walk-init : goal.loop-walk-init
 loop-walk-init c =
     let core = c.args.core.now in
     let level = c.args.level in
+    let old : WalkValue = value_of c.args.walk.now in
+    let w : WalkValue = value_of c.has_point.new.walk in
+    let e : old ≡ w = sym c.has_point.ensures.same in
     let rise = limits_rise core.limits (length core.trail) (level - 1) level c.requires.formed.levels (omega arith) c.requires.below in
     let to = c.height-to.ensures.below c.requires.below in
     record {
-      sorted = c.requires.sorted;
-      onward = onward_same (value_of c.args.walk.now);
-      same = same_open core (value_of c.args.walk.now);
+      sorted = subst (IsSorted core) e c.requires.sorted;
+      onward = subst (IsOnward old) e (onward_same old);
+      same = subst (HasSameOpen core old) e (same_open core old);
       within = omega arith;
       above = omega (arith, rise, to, c.height-from.ensures.below (omega (arith, c.requires.below)));
-      passed = subst (IsPassed core 3 (value_of c.args.walk.now)) (sym to) c.requires.passed;
+      passed = subst (IsPassed core 3 w) (sym to) (subst (λ x. IsPassed core 3 x (get_or core.limits level 0)) e c.requires.passed);
     }
 
 pub is_spare-requires-clause-place : goal.is_spare-requires-clause-place

@@ -5,8 +5,8 @@ use Rattle.conflict_analysis.proofs.shrinking.walk_level.Given as goal
 abbrev pub invariant-loop-walk : goal.invariant-loop-walk
 invariant-loop-walk l = record {
   sorted : IsSorted l.core (value_of l.walk);
-  onward : IsOnward (value_of l.initial.walk) (value_of l.walk);
-  same : HasSameOpen l.core (value_of l.initial.walk) (value_of l.walk);
+  onward : IsOnward (value_of l.fn.walk) (value_of l.walk);
+  same : HasSameOpen l.core (value_of l.fn.walk) (value_of l.walk);
   within : l.place ≤ l.to;
   above : l.from ≤ l.place;
   passed : IsPassed l.core 3 (value_of l.walk) l.place;
