@@ -56,6 +56,7 @@ left_sorted core w left s l = record {
     all = λ o f e. l.all o (s.kept.all o f e) e;
     once = l.once;
   };
+  noted = s.noted;
   open_ = s.open_;
   zeros = s.zeros;
 }

@@ -1,3 +1,4 @@
+pub mod Bits
 pub mod Members
 pub mod Levels
 pub mod Counted

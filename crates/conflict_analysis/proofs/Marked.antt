@@ -1,6 +1,6 @@
 -- A literal that is met is marked.
 use Rattle.std.proofs.Common.{◌≡◌, ℕ, ◌+◌, ◌<◌, ◌≤◌, List, [], ◌∷◌, ◌++◌, length, get_or, set, take, refl, sym, ap, ◌∙◌, subst, inl, inr, ⊎_elim, arith}
-use Rattle.std.specs.Prelude.{◌≢◌, ◌⊎◌, Contains, nat_le}
+use Rattle.std.specs.Prelude.{◌≢◌, ◌⊎◌, ◌↔◌, Contains, nat_le}
 use Rattle.std.proofs.lemmas.List.Sums.{count_by-le-length}
 use Rattle.std.proofs.lemmas.Bool.{cases_eq, cases_order}
 use Rattle.std.proofs.lemmas.List.{get_or-set_same, get_or-set_other, get_or-map, get_or_default, length-set, take_more, take_all}
@@ -13,7 +13,8 @@ use Rattle.trail_core.specs.Watching.{no_lit}
 use Rattle.trail_core.specs.Meaning.{CoreValue, trues}
 use Rattle.trail_core.specs.Formed.{IsTrail}
 use Rattle.trail_core.proofs.Keeping.{lits_length, negated_twice}
-use Rattle.conflict_analysis.specs.Met.{WalkValue, lit_at, no_step, IsSeen, AreMarks, AreKept, IsSorted, HasMet}
+use Rattle.conflict_analysis.specs.Met.{WalkValue, lit_at, no_step, IsSeen, AreMarks, AreKept, AreNoted, IsSorted, HasMet}
+use Rattle.conflict_analysis.specs.PlaceSets.{HasPlace}
 use Rattle.conflict_analysis.proofs.Members.{here, cons_cases}
 use Rattle.conflict_analysis.proofs.Counted.{waits_more, waits_same}
 
@@ -101,6 +102,30 @@ marked_set core stamp marks k kind t m is = record {
 
     place : (j : ℕ) → j < length core.trail → (lit_at core j).var ≡ u → k ≡ j
     place j w s = same_place core k j t is.within w (sym s)
+
+-- ---- places
+
+-- a literal that is met, or was, and its place with it
+pub noted_more : (core : CoreValue) (stamp : ℕ) (marks places places' : List ℕ) (k y : ℕ) → IsTrail core.vars core.trail core.limits → k < length core.trail → length marks ≡ core.vars + 1 → stamp ≤ y → AreNoted core stamp marks places → ((j : ℕ) → HasPlace places' j ↔ (HasPlace places j ⊎ (j ≡ k))) → AreNoted core stamp (set marks (lit_at core k).var y) places'
+noted_more core stamp marks places places' k y t w len high n a = record {
+  within = λ j h. ⊎_elim (λ s. n.within j s) (λ e. omega (arith, e, w)) ((a j).0 h);
+  each = λ j v. ⊎_elim
+      (λ e.
+      let at : get_or (set marks (lit_at core k).var y) (lit_at core j).var 0 ≡ y = ap (λ i. get_or (set marks (lit_at core k).var y) (lit_at core i).var 0) e ∙ mark_same core marks k y t len w in
+      (λ h. omega (arith, at, high), λ h. (a j).1 (inr e)))
+      (λ d.
+      let other = get_or-set_other marks (lit_at core k).var (lit_at core j).var y 0 (λ s. d (same_place core j k t v w s)) in (
+        λ h. ⊎_elim (λ s. let q = (n.each j v).0 s in omega (arith, q, other)) (λ e. absurd (d e)) ((a j).0 h),
+        λ h. (a j).1 (inl ((n.each j v).1 (omega (arith, h, other)))),
+      ))
+      (cases_eq j k);
+}
+
+-- one that was met already
+pub noted_same : (core : CoreValue) (stamp : ℕ) (marks places : List ℕ) (k y : ℕ) → IsTrail core.vars core.trail core.limits → k < length core.trail → length marks ≡ core.vars + 1 → stamp ≤ y → AreNoted core stamp marks places → stamp ≤ get_or marks (lit_at core k).var 0 → AreNoted core stamp (set marks (lit_at core k).var y) places
+noted_same core stamp marks places k y t w len high n met =
+    let has : HasPlace places k = (n.each k w).1 met in
+    noted_more core stamp marks places places k y t w len high n (λ j. (λ h. inl h, λ h. ⊎_elim (λ s. s) (λ e. subst (λ i. HasPlace places i) (sym e) has) h))
 
 -- ---- what is kept
 
@@ -200,37 +225,50 @@ unmet_by core w l t s low v h = ⊎_elim
     (λ f. let a = false_at core l f in (a.0, record { formed = t; sorted = s; low = low; at = a.1; room = omega (arith, v, s.marked.len) }))
     h
 
+-- it is known where it stands
+pub unmet_at : (core : CoreValue) (w : WalkValue) (l this : LitValue) (k place : ℕ) (read : List LitValue) → IsUnmet core w l k → this ≡ negation l → read ≡ trues core → place < length read → get_or read place this ≡ this → IsUnmet core w l place
+unmet_at core w l this k place read u e r lt is =
+    let within : place < length core.trail = omega (arith, lt, ap length r, lits_length core.trail) in
+    let at : lit_at core place ≡ negation l = sym (lit_read core place this within) ∙ ap (λ xs. get_or xs place this) (sym r) ∙ is ∙ e in
+    record { formed = u.formed; sorted = u.sorted; low = u.low; at = record { within = within; is = at; var = ap (λ x. x.var) at }; room = u.room }
+
+noted_at : (core : CoreValue) (w : WalkValue) (l : LitValue) (k kind : ℕ) (places : List ℕ) → IsUnmet core w l k → ((j : ℕ) → HasPlace places j ↔ (HasPlace w.met_places j ⊎ (j ≡ k))) → AreNoted core w.stamp (set w.marks l.var (w.stamp + kind)) places
+noted_at core w l k kind places u a = subst (λ x. AreNoted core w.stamp (set w.marks x (w.stamp + kind)) places) u.at.var (noted_more core w.stamp w.marks w.met_places places k (w.stamp + kind) u.formed u.at.within u.sorted.marked.len (omega arith) u.sorted.noted a)
+
 marks_at : (core : CoreValue) (w : WalkValue) (l : LitValue) (k kind : ℕ) → IsUnmet core w l k → IsMark core k kind → AreMarks core w.stamp (set w.marks l.var (w.stamp + kind))
 marks_at core w l k kind u is = subst (λ x. AreMarks core w.stamp (set w.marks x (w.stamp + kind))) u.at.var (marked_set core w.stamp w.marks k kind u.formed u.sorted.marked is)
 
-pub met_bottom : (core : CoreValue) (w w' : WalkValue) (l : LitValue) (k : ℕ) → IsUnmet core w l k → level_at core.limits k ≡ 0 → w' ≡ record w { marks = set w.marks l.var (w.stamp + 3); zeros = w.zeros + 1 } → HasMet core (l ∷ []) w w'
-met_bottom core w w' l k u z e = subst (HasMet core (l ∷ []) w) (sym e)
-    (met_new core w (record w { marks = set w.marks l.var (w.stamp + 3); zeros = w.zeros + 1 }) l 3
+pub met_bottom : (core : CoreValue) (w w' : WalkValue) (l : LitValue) (k : ℕ) (places : List ℕ) → IsUnmet core w l k → ((j : ℕ) → HasPlace places j ↔ (HasPlace w.met_places j ⊎ (j ≡ k))) → level_at core.limits k ≡ 0 → w' ≡ record w { marks = set w.marks l.var (w.stamp + 3); zeros = w.zeros + 1; met_places = places } → HasMet core (l ∷ []) w w'
+met_bottom core w w' l k places u a z e = subst (HasMet core (l ∷ []) w) (sym e)
+    (met_new core w (record w { marks = set w.marks l.var (w.stamp + 3); zeros = w.zeros + 1; met_places = places }) l 3
     (record {
       marked = marks_at core w l k 3 u (record { within = u.at.within; some = omega arith; low = λ h. absurd (omega (arith, h)); top = λ h. absurd (omega (arith, h)); bottom = λ h. z });
       kept = kept_same core w.stamp w.marks w.lits l.var (w.stamp + 3) u.room u.sorted.kept u.low (λ h. omega (arith, h));
+      noted = noted_at core w l k 3 places u a;
       open_ = u.sorted.open_ ∙ sym (waits_same (w.stamp + 1) w.marks l.var (w.stamp + 3) u.room (λ h. omega (arith, h, u.low)) (λ h. omega (arith, h)));
       zeros = ap (λ n. n + 1) u.sorted.zeros ∙ sym (waits_more (w.stamp + 3) w.marks l.var (w.stamp + 3) u.room (λ h. omega (arith, h, u.low)) refl);
     })
     refl refl refl u.room u.low (λ h. omega (arith, h)) (omega arith))
 
-pub met_open : (core : CoreValue) (w w' : WalkValue) (l : LitValue) (k : ℕ) → IsUnmet core w l k → level_at core.limits k ≡ length core.limits → 0 < length core.limits → w' ≡ record w { marks = set w.marks l.var (w.stamp + 1); open_ = w.open_ + 1 } → HasMet core (l ∷ []) w w'
-met_open core w w' l k u top some e = subst (HasMet core (l ∷ []) w) (sym e)
-    (met_new core w (record w { marks = set w.marks l.var (w.stamp + 1); open_ = w.open_ + 1 }) l 1
+pub met_open : (core : CoreValue) (w w' : WalkValue) (l : LitValue) (k : ℕ) (places : List ℕ) → IsUnmet core w l k → ((j : ℕ) → HasPlace places j ↔ (HasPlace w.met_places j ⊎ (j ≡ k))) → level_at core.limits k ≡ length core.limits → 0 < length core.limits → w' ≡ record w { marks = set w.marks l.var (w.stamp + 1); open_ = w.open_ + 1; met_places = places } → HasMet core (l ∷ []) w w'
+met_open core w w' l k places u a top some e = subst (HasMet core (l ∷ []) w) (sym e)
+    (met_new core w (record w { marks = set w.marks l.var (w.stamp + 1); open_ = w.open_ + 1; met_places = places }) l 1
     (record {
       marked = marks_at core w l k 1 u (record { within = u.at.within; some = omega arith; low = λ h. absurd (omega (arith, h)); top = λ h. (top, some); bottom = λ h. absurd (omega (arith, h)) });
       kept = kept_same core w.stamp w.marks w.lits l.var (w.stamp + 1) u.room u.sorted.kept u.low (λ h. omega (arith, h));
+      noted = noted_at core w l k 1 places u a;
       open_ = ap (λ n. n + 1) u.sorted.open_ ∙ sym (waits_more (w.stamp + 1) w.marks l.var (w.stamp + 1) u.room (λ h. omega (arith, h, u.low)) refl);
       zeros = u.sorted.zeros ∙ sym (waits_same (w.stamp + 3) w.marks l.var (w.stamp + 1) u.room (λ h. omega (arith, h, u.low)) (λ h. omega (arith, h)));
     })
     refl refl refl u.room u.low (λ h. omega (arith, h)) (omega arith))
 
-pub met_kept : (core : CoreValue) (w w' : WalkValue) (l : LitValue) (k : ℕ) → IsUnmet core w l k → level_at core.limits k < length core.limits → w' ≡ record w { marks = set w.marks l.var (w.stamp + 0); lits = w.lits ++ l ∷ [] } → HasMet core (l ∷ []) w w'
-met_kept core w w' l k u lower e = subst (HasMet core (l ∷ []) w) (sym e)
-    (met_new core w (record w { marks = set w.marks l.var (w.stamp + 0); lits = w.lits ++ l ∷ [] }) l 0
+pub met_kept : (core : CoreValue) (w w' : WalkValue) (l : LitValue) (k : ℕ) (places : List ℕ) → IsUnmet core w l k → ((j : ℕ) → HasPlace places j ↔ (HasPlace w.met_places j ⊎ (j ≡ k))) → level_at core.limits k < length core.limits → w' ≡ record w { marks = set w.marks l.var (w.stamp + 0); lits = w.lits ++ l ∷ []; met_places = places } → HasMet core (l ∷ []) w w'
+met_kept core w w' l k places u a lower e = subst (HasMet core (l ∷ []) w) (sym e)
+    (met_new core w (record w { marks = set w.marks l.var (w.stamp + 0); lits = w.lits ++ l ∷ []; met_places = places }) l 0
     (record {
       marked = marks_at core w l k 0 u (record { within = u.at.within; some = omega arith; low = λ h. lower; top = λ h. absurd (omega (arith, h)); bottom = λ h. absurd (omega (arith, h)) });
       kept = subst (λ n. AreKept core w.stamp (set w.marks l.var n) (w.lits ++ l ∷ [])) stamp0 (kept_more core w.stamp w.marks w.lits l u.formed u.room u.sorted.kept u.low (at_false core l k u.at));
+      noted = noted_at core w l k 0 places u a;
       open_ = u.sorted.open_ ∙ sym (waits_same (w.stamp + 1) w.marks l.var (w.stamp + 0) u.room (λ h. omega (arith, h, u.low)) (λ h. omega (arith, h)));
       zeros = u.sorted.zeros ∙ sym (waits_same (w.stamp + 3) w.marks l.var (w.stamp + 0) u.room (λ h. omega (arith, h, u.low)) (λ h. omega (arith, h)));
     })

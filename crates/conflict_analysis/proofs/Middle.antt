@@ -8,7 +8,6 @@ use Rattle.conflict_analysis.specs.Met.{WalkValue, IsSorted, IsPassed}
 use Rattle.conflict_analysis.proofs.Levels.{limits_rise}
 use Rattle.conflict_analysis.proofs.Marked.{level_within}
 use Rattle.conflict_analysis.proofs.Pointed.{high_place, bottom_place}
-use Rattle.conflict_analysis.proofs.Resolved.{passed_over}
 
 pub record IsMiddle (core : CoreValue) (k : ℕ) : Type 0 where
   pub within : k < length core.trail
@@ -34,12 +33,6 @@ middle_at core level from to k t some below f e above lt =
           (cases_lt (level_at core.limits k) (length core.limits));
       above = omega (arith, first, f (omega (arith, below)), above);
     }
-
--- no step of level 0 waits there
-pub middle_passed : (core : CoreValue) (w : WalkValue) (k : ℕ) → IsMiddle core k → IsSorted core w → IsPassed core 3 w (k + 1) → IsPassed core 3 w k
-middle_passed core w k m s p = passed_over core 3 w k p (λ e.
-    let low = bottom_place core.limits k m.some (s.marked.bottom k m.within e) in
-    omega (arith, low, m.above))
 
 -- no step of level 0 waits at any lower place above level 0
 pub passed_lower : (core : CoreValue) (w : WalkValue) (from to : ℕ) → 0 < length core.limits → get_or core.limits 0 0 ≤ to → to ≤ from → IsSorted core w → IsPassed core 3 w from → IsPassed core 3 w to

@@ -15,6 +15,7 @@ use Rattle.trail_core.proofs.Trails.{all_counted}
 use Rattle.trail_core.proofs.Keeping.{lits_length}
 use Rattle.conflict_analysis.specs.Conflicts.{IsConflict}
 use Rattle.conflict_analysis.specs.Learning.{number_of}
+use Rattle.conflict_analysis.specs.PlaceSets.{HasPlace}
 use Rattle.conflict_analysis.specs.Met.{WalkValue, no_step, lit_at, mark_of, resolved_by, IsSorted, HasMet, IsPassed, IsPoint}
 use Rattle.conflict_analysis.proofs.Levels.{level_grows, level_below, some_level, limits_rise}
 use Rattle.conflict_analysis.proofs.Counted.{waits_some, waits_none}
@@ -98,6 +99,7 @@ pub record IsBegun (core : CoreValue) (w : WalkValue) : Type 0 where
   pub hints : w.hints ≡ []
   pub open_ : w.open_ ≡ 0
   pub zeros : w.zeros ≡ 0
+  pub none : (k : ℕ) → HasPlace w.met_places k → ⊥
 
 pub begun_sorted : (core : CoreValue) (w : WalkValue) → IsBegun core w → IsSorted core w
 begun_sorted core w b = record {
@@ -113,6 +115,10 @@ begun_sorted core w b = record {
     of = λ o c. absurd (let n : length w.lits ≡ 0 = ap length b.lits in omega (arith, n, c.1));
     all = λ o f e. absurd (low o.var (omega (arith, e)));
     once = λ i j d p q. absurd (let n : length w.lits ≡ 0 = ap length b.lits in omega (arith, n, q));
+  };
+  noted = record {
+    within = λ k h. absurd (b.none k h);
+    each = λ k v. (λ h. absurd (b.none k h), λ h. absurd (low (lit_at core k).var h));
   };
   open_ = b.open_ ∙ sym (waits_none (w.stamp + 1) w.marks (λ v h e. low v (omega (arith, e))));
   zeros = b.zeros ∙ sym (waits_none (w.stamp + 3) w.marks (λ v h e. low v (omega (arith, e))));

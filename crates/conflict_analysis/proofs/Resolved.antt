@@ -14,9 +14,9 @@ use Rattle.trail_core.specs.Meaning.{CoreValue, trues}
 use Rattle.trail_core.specs.Formed.{IsTrail}
 use Rattle.trail_core.proofs.Keeping.{lits_length, in_front}
 use Rattle.conflict_analysis.specs.Learning.{number_of, hints_of}
-use Rattle.conflict_analysis.specs.Met.{WalkValue, step_at, no_step, lit_at, mark_of, resolved_by, IsSeen, AreMarks, AreKept, IsSorted, HasMet, IsReasoned, IsPassed, IsOnward, HasSameOpen, waiting}
+use Rattle.conflict_analysis.specs.Met.{WalkValue, step_at, no_step, lit_at, mark_of, resolved_by, IsSeen, AreMarks, AreKept, AreNoted, IsSorted, HasMet, IsReasoned, IsPassed, IsOnward, HasSameOpen, waiting}
 use Rattle.conflict_analysis.proofs.Levels.{level_grows}
-use Rattle.conflict_analysis.proofs.Marked.{lit_read, lit_about, same_place, mark_same, marked_set, kept_drop}
+use Rattle.conflict_analysis.proofs.Marked.{lit_read, lit_about, same_place, mark_same, marked_set, noted_same, kept_drop}
 
 -- ---- a test that passes at one place more, the first at which it passes
 
@@ -64,13 +64,15 @@ pub record IsTaken (core : CoreValue) (w : WalkValue) (place id : ℕ) : Type 0 
   pub unit : IsUnit (lits_of (take place core.trail)) (get_or core.clauses id []) (lit_at core place)
   pub marked : AreMarks core w.stamp w.marks
   pub kept : AreKept core w.stamp w.marks w.lits
+  pub noted : AreNoted core w.stamp w.marks w.met_places
+  pub was_met : IsSeen w (lit_at core place)
   pub waits : mark_of w (lit_at core place) ≢ w.stamp + 2
   pub open_ : w.open_ ≡ waiting (w.stamp + 1) (set w.marks (lit_at core place).var (w.stamp + 2))
   pub zeros : w.zeros ≡ waiting (w.stamp + 3) (set w.marks (lit_at core place).var (w.stamp + 2))
 
-pub taken_by : (core : CoreValue) (w : WalkValue) (place : ℕ) → IsTrail core.vars core.trail core.limits → place < length core.trail → (i : IsImplied core.clauses (IsDue core.limits) (take place core.trail) (step_at core place)) → AreMarks core w.stamp w.marks → AreKept core w.stamp w.marks w.lits
+pub taken_by : (core : CoreValue) (w : WalkValue) (place : ℕ) → IsTrail core.vars core.trail core.limits → place < length core.trail → (i : IsImplied core.clauses (IsDue core.limits) (take place core.trail) (step_at core place)) → AreMarks core w.stamp w.marks → AreKept core w.stamp w.marks w.lits → AreNoted core w.stamp w.marks w.met_places → IsSeen w (lit_at core place)
     → mark_of w (lit_at core place) ≢ w.stamp + 2 → w.open_ ≡ waiting (w.stamp + 1) (set w.marks (lit_at core place).var (w.stamp + 2)) → w.zeros ≡ waiting (w.stamp + 3) (set w.marks (lit_at core place).var (w.stamp + 2)) → IsTaken core w place i.id
-taken_by core w place t v i m k h o z = record { formed = t; within = v; known = i.within; reason = i.reason; unit = i.unit; marked = m; kept = k; waits = h; open_ = o; zeros = z }
+taken_by core w place t v i m k n s h o z = record { formed = t; within = v; known = i.within; reason = i.reason; unit = i.unit; marked = m; kept = k; noted = n; was_met = s; waits = h; open_ = o; zeros = z }
 
 -- what the walk knows then
 abbrev pub taken : CoreValue → WalkValue → ℕ → ℤ → WalkValue
@@ -83,6 +85,7 @@ pub taken_sorted : (core : CoreValue) (w : WalkValue) (place id : ℕ) (hint : �
 taken_sorted core w place id hint t = record {
   marked = marked_set core w.stamp w.marks place 2 t.formed t.marked (record { within = t.within; some = omega arith; low = λ h. absurd (omega (arith, h)); top = λ h. absurd (omega (arith, h)); bottom = λ h. absurd (omega (arith, h)) });
   kept = kept_drop core w.stamp w.marks w.lits (lit_at core place).var (taken_room core w place id t) t.kept;
+  noted = noted_same core w.stamp w.marks w.met_places place (w.stamp + 2) t.formed t.within t.marked.len (omega arith) t.noted t.was_met;
   open_ = t.open_;
   zeros = t.zeros;
 }

@@ -1,4 +1,5 @@
 pub mod Conflicts
 pub mod Learning
+pub mod PlaceSets
 pub mod Met
 pub mod Learned

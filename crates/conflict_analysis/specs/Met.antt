@@ -1,5 +1,5 @@
 -- What an analysis knows on its walk down the trail: of each variable what becomes of its literal, as a mark above a stamp.
-use Rattle.std.specs.Prelude.{◌≡◌, ◌≢◌, ◌⊎◌, ◌==◌, ℕ, ◌+◌, ◌<◌, ◌≤◌, Bool, List, [], None, Some, Contains, AllPairs, length, get_or, take, count_by, reverse, ℤ}
+use Rattle.std.specs.Prelude.{◌≡◌, ◌≢◌, ◌⊎◌, ◌↔◌, ◌==◌, ℕ, ◌+◌, ◌<◌, ◌≤◌, Bool, List, [], None, Some, Contains, AllPairs, length, get_or, take, count_by, reverse, ℤ}
 use Rattle.cnf_formula.specs.Literals.{LitValue}
 use Rattle.trail_core.specs.Assigned.{IsFalse, level_at}
 use Rattle.trail_core.specs.Trails.{StepValue, lits_of}
@@ -7,8 +7,9 @@ use Rattle.trail_core.specs.Watching.{no_lit}
 use Rattle.trail_core.specs.Meaning.{CoreValue, trues}
 use Rattle.conflict_analysis.specs.declared.walk.Walk.{Walk}
 use Rattle.conflict_analysis.specs.Learning.{hints_of}
+use Rattle.conflict_analysis.specs.PlaceSets.{HasPlace}
 
--- marks by variable, the stamp of this analysis, what is kept, the reasons that were taken, and how many steps wait
+-- marks by variable, the stamp of this analysis, what is kept, the reasons that were taken, how many steps wait, and the places of what was met
 pub record WalkValue : Type 0 where
   pub marks : List ℕ
   pub stamp : ℕ
@@ -16,9 +17,10 @@ pub record WalkValue : Type 0 where
   pub hints : List ℤ
   pub open_ : ℕ
   pub zeros : ℕ
+  pub met_places : List ℕ
 
 abbrev pub value_of : Walk → WalkValue
-value_of w = record { marks = w.marks.items; stamp = w.stamp; lits = w.lits.items; hints = w.hints.items; open_ = w.open_; zeros = w.zeros }
+value_of w = record { marks = w.marks.items; stamp = w.stamp; lits = w.lits.items; hints = w.hints.items; open_ = w.open_; zeros = w.zeros; met_places = w.met_places }
 
 abbrev pub no_step : StepValue
 no_step = record { lit = no_lit; reason = None }
@@ -61,12 +63,18 @@ pub record AreLeft (stamp : ℕ) (marks : List ℕ) (lits left : List LitValue) 
   pub all : (o : LitValue) → Contains lits o → get_or marks o.var 0 ≡ stamp → Contains left o
   pub once : AllPairs (λ a b. a.var ≢ b.var) left
 
+-- in the set are the places of the literals that were met
+pub record AreNoted (core : CoreValue) (stamp : ℕ) (marks places : List ℕ) : Type 0 where
+  pub within : (k : ℕ) → HasPlace places k → k < length core.trail
+  pub each : (k : ℕ) → k < length core.trail → HasPlace places k ↔ (stamp ≤ get_or marks (lit_at core k).var 0)
+
 abbrev pub waiting : ℕ → List ℕ → ℕ
 waiting mark marks = count_by (λ m. m == mark) marks
 
 pub record IsSorted (core : CoreValue) (w : WalkValue) : Type 0 where
   pub marked : AreMarks core w.stamp w.marks
   pub kept : AreKept core w.stamp w.marks w.lits
+  pub noted : AreNoted core w.stamp w.marks w.met_places
   pub open_ : w.open_ ≡ waiting (w.stamp + 1) w.marks
   pub zeros : w.zeros ≡ waiting (w.stamp + 3) w.marks
 

@@ -10,7 +10,7 @@ ghost use Rattle.conflict_analysis.specs.Conflicts.{IsConflict};
 ghost use Rattle.conflict_analysis.specs.Learned.{IsLearned};
 
 use crate::implied::Implied;
-use crate::meeting::{hint, is_waiting, meet_all, resolve};
+use crate::meeting::{hint, is_waiting, meet_all, met_below, resolve};
 use crate::shrinking::walk_middle;
 use crate::walk::{BOTTOM, KEPT, OPEN, Walk};
 use cnf_formula::{Lit, OutOfMemory, ProofLine};
@@ -32,7 +32,7 @@ fn walk_last(core: &Core, walk: &mut Walk) -> Result<usize, OutOfMemory>
 {
     let mut place = core.trail().len();
     while walk.open_ > 1 {
-        place -= 1;
+        place = met_below(walk, place);
         if is_waiting(core, walk, place, OPEN) {
             walk.open_ -= 1;
             resolve(core, walk, place)?;
@@ -52,7 +52,7 @@ fn point_below(core: &Core, walk: &Walk, from: usize) -> Lit
 {
     let mut place = from;
     loop {
-        place -= 1;
+        place = met_below(walk, place);
         if is_waiting(core, walk, place, OPEN) {
             return core.trail()[place];
         }
@@ -75,7 +75,7 @@ fn walk_bottom(core: &Core, walk: &mut Walk, from: usize) -> Result<(), OutOfMem
 {
     let mut place = from;
     while walk.zeros > 0 {
-        place -= 1;
+        place = met_below(walk, place);
         if is_waiting(core, walk, place, BOTTOM) {
             walk.zeros -= 1;
             resolve(core, walk, place)?;
@@ -143,9 +143,11 @@ pub fn line_at(
 {
     let id = u64::from(core.count()) + 1;
     walk.begin();
+    walk.places.note(core.trail());
     meet_all(core, walk, conflict)?;
     let point = walk_all(core, walk, implied)?;
     let mut lits = kept_lits(alloc, walk)?;
+    walk.places.settle(core.trail(), &lits);
     if let Some(point) = point {
         lits.push(point.negated())?;
     }

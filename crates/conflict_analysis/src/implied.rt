@@ -1,7 +1,8 @@
 //! Which literals of a clause the others imply (recursive clause minimisation).
 
-ghost use Rattle.std.specs.Prelude.{◌≤◌, ◌<◌, IfSome};
+ghost use Rattle.std.specs.Prelude.{◌≤◌, ◌<◌, IsTrue, Contains, IfSome};
 ghost use Rattle.cnf_formula.specs.Formulas.{IsClause};
+ghost use Rattle.trail_core.specs.Meaning.{trues};
 
 use crate::sought::Sought;
 use cnf_formula::{Lit, OutOfMemory};
@@ -53,6 +54,7 @@ pub fn reason_of(core: &Core, lit: Lit) -> Option<&[Lit]>
 /// Whether a literal became true on a level.
 pub fn is_of(core: &Core, lit: Lit, level: u32) -> bool
     requires { lit.var ≤ core.now.vars }
+    ensures { IsTrue result → Contains (trues core.now) lit }
 {
     core.value(lit) == Some(true) && core.level(lit) == level
 }

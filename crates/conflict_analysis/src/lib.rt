@@ -9,6 +9,8 @@ mod glue;
 mod implied;
 mod level_point;
 mod meeting;
+mod place_set;
+mod places;
 mod seen;
 mod shrinking;
 mod sought;

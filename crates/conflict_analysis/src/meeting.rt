@@ -1,13 +1,14 @@
 //! The literals of conflicts and of reasons, as an analysis meets them.
 
-ghost use Rattle.std.specs.Prelude.{◌≡◌, ◌≢◌, ◌↔◌, ◌⊎◌, IsTrue, ℕ, ◌+◌, ◌<◌, ◌≤◌, [], ◌∷◌, length, get_or, pos, take, Contains, OnOk, slice_set};
+ghost use Rattle.std.specs.Prelude.{◌≡◌, ◌≢◌, ◌↔◌, ◌⊎◌, IsTrue, ℕ, ◌+◌, ◌<◌, ◌≤◌, [], ◌∷◌, length, get_or, pos, take, Contains, IfSome, OnOk, slice_set};
 ghost use Rattle.cnf_formula.specs.Literals.{LitValue};
 ghost use Rattle.trail_core.specs.Assigned.{IsFalse, level_at};
 ghost use Rattle.trail_core.specs.Meaning.{trues};
 ghost use Rattle.trail_core.specs.Search.{IsImplied};
 ghost use Rattle.trail_core.specs.Kept.{IsDue};
 ghost use Rattle.trail_core.specs.Formed.{IsTrail};
-ghost use Rattle.conflict_analysis.specs.Met.{value_of, IsSeen, AreMarks, AreKept, IsSorted, HasMet, IsPassed, lit_at, step_at, mark_of, waiting, IsOnward, HasSameOpen};
+ghost use Rattle.conflict_analysis.specs.PlaceSets.{HasPlace};
+ghost use Rattle.conflict_analysis.specs.Met.{value_of, IsSeen, AreMarks, AreKept, AreNoted, IsSorted, HasMet, IsPassed, lit_at, step_at, mark_of, waiting, IsOnward, HasSameOpen};
 
 use crate::walk::{BOTTOM, KEPT, OPEN, RESOLVED, Walk};
 use cnf_formula::{Lit, OutOfMemory};
@@ -34,7 +35,10 @@ fn meet(core: &Core, walk: &mut Walk, lit: Lit) -> Result<(), OutOfMemory>
     if walk.marks[var] >= walk.stamp {
         return Ok(());
     }
-    let level = core.level(lit.negated());
+    let this = lit.negated();
+    let place = walk.places.of(core.trail(), this);
+    walk.met_places.insert(place)?;
+    let level = core.level(this);
     if level == 0 {
         walk.marks[var] = walk.stamp + BOTTOM;
         walk.zeros += 1;
@@ -80,6 +84,24 @@ pub fn is_waiting(core: &Core, walk: &Walk, place: usize, mark: u8) -> bool
     walk.marks[lit.var() as usize] == walk.stamp + mark
 }
 
+/// The highest place below another whose literal was met; there is one.
+pub fn met_below(walk: &Walk, place: usize) -> usize
+    requires { (k : ℕ) × (k < place) × HasPlace walk.now.met_places k }
+    ensures below { result < place }
+    ensures met { HasPlace walk.now.met_places result }
+    ensures highest { (k : ℕ) → result < k → k < place → HasPlace walk.now.met_places k → ⊥ }
+{
+    walk.met_places.below(place).unwrap()
+}
+
+/// The highest place below another whose literal was met, if it is no lower than a third.
+pub fn met_between(walk: &Walk, from: usize, place: usize) -> Option<usize>
+    ensures { IfSome result (λ next. (from ≤ next) × (next < place)) }
+{
+    let next = walk.met_places.below(place)?;
+    if next < from { None } else { Some(next) }
+}
+
 /// Takes a step for its reason.
 pub fn resolve(core: &Core, walk: &mut Walk, place: usize) -> Result<(), OutOfMemory>
     requires formed { IsTrail core.now.vars core.now.trail core.now.limits }
@@ -88,6 +110,8 @@ pub fn resolve(core: &Core, walk: &mut Walk, place: usize) -> Result<(), OutOfMe
     requires implied { IsImplied core.now.clauses (IsDue core.now.limits) (take place core.now.trail) (step_at core.now place) }
     requires marked { AreMarks core.now walk.old.stamp walk.old.marks.items }
     requires kept { AreKept core.now walk.old.stamp walk.old.marks.items walk.old.lits.items }
+    requires noted { AreNoted core.now walk.old.stamp walk.old.marks.items walk.old.met_places }
+    requires met { IsSeen (value_of walk.old) (lit_at core.now place) }
     requires new { mark_of (value_of walk.old) (lit_at core.now place) ≢ walk.old.stamp + 2 }
     requires open { walk.old.open_ ≡ waiting (walk.old.stamp + 1) (slice_set walk.old.marks.items (lit_at core.now place).var (walk.old.stamp + 2)) }
     requires zeros { walk.old.zeros ≡ waiting (walk.old.stamp + 3) (slice_set walk.old.marks.items (lit_at core.now place).var (walk.old.stamp + 2)) }

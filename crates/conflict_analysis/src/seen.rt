@@ -41,12 +41,4 @@ impl Seen {
             None => false,
         }
     }
-
-    /// Whether a number is in the set.
-    pub fn has(&self, number: u32) -> bool {
-        match self.marks.get(number as usize) {
-            Some(mark) => *mark == self.stamp,
-            None => false,
-        }
-    }
 }

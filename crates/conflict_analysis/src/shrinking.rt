@@ -11,7 +11,7 @@ ghost use Rattle.conflict_analysis.specs.Met.{value_of, IsSorted, IsPassed, IsOn
 
 use crate::implied::Implied;
 use crate::level_point::has_point;
-use crate::meeting::{is_waiting, resolve};
+use crate::meeting::{is_waiting, met_between, resolve};
 use crate::walk::{KEPT, Walk};
 use cnf_formula::OutOfMemory;
 use trail_core::Core;
@@ -69,10 +69,13 @@ fn walk_level(
     }
     let from = core.height(level - 1);
     let to = core.height(level);
-    let shrinks = has_point(core, walk, implied, level, from, to);
+    let shrinks = has_point(core, walk, implied, level, from, to)?;
     let mut place = to;
-    while place > from && implied.sought.kept(level) > 1 {
-        place -= 1;
+    while implied.sought.kept(level) > 1 {
+        let Some(next) = met_between(walk, from, place) else {
+            break;
+        };
+        place = next;
         if is_spare(core, walk, implied, level, place, shrinks) {
             resolve(core, walk, place)?;
             implied.sought.count(core, &walk.lits);

@@ -6,17 +6,17 @@ ghost use Rattle.cnf_formula.specs.Literals.{LitValue};
 ghost use Rattle.trail_core.specs.Assigned.{IsFalse};
 ghost use Rattle.trail_core.specs.Meaning.{trues};
 
-use crate::seen::Seen;
+use crate::place_set::PlaceSet;
 use cnf_formula::{Lit, OutOfMemory};
 use std::alloc::Global;
 use trail_core::Core;
 
 /// What a walk over the levels of a clause looks for: how many literals of each level are kept, and
-/// which variables of a level wait. Nothing but the length of a clause hangs on it.
+/// which places of a level wait. Nothing but the length of a clause hangs on it.
 #[derive(Drop)]
 pub(crate) struct Sought {
-    /// The variables of a level that wait to be taken for their reasons, and are not kept.
-    pub waiting: Seen,
+    /// The places of a level whose literals wait to be taken for their reasons, and are not kept.
+    pub waiting: PlaceSet,
     /// By level how many of its literals that are kept were counted and not passed. Behind a walk
     /// all are 0, unless memory ran out on it.
     kept: Vec<u32>,
@@ -28,7 +28,7 @@ impl Sought {
     /// Nothing is kept, over so many variables. `Err` comes only where memory runs out.
     pub fn new(alloc: Global, vars: u32) -> Result<Sought, OutOfMemory> {
         Ok(Sought {
-            waiting: Seen::new(alloc, vars)?,
+            waiting: PlaceSet::new(alloc),
             kept: vec![in alloc; 0u32; vars as usize + 1]?,
             counted: 0,
         })

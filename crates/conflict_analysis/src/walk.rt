@@ -2,7 +2,10 @@
 
 ghost use Rattle.std.specs.Prelude.{◌≡◌, ℕ, ◌+◌, ◌<◌, ◌≤◌, [], length, slice_index, IfOk};
 ghost use Rattle.conflict_analysis.specs.Met.{IsRested};
+ghost use Rattle.conflict_analysis.specs.PlaceSets.{HasPlace};
 
+use crate::place_set::PlaceSet;
+use crate::places::Places;
 use cnf_formula::{Lit, OutOfMemory};
 use std::alloc::Global;
 
@@ -35,6 +38,10 @@ pub struct Walk {
     pub zeros: usize,
     /// The literals above level 0 that were met.
     pub met: Vec<Lit>,
+    /// The places of the literals that were met, by which a walk finds the next one.
+    pub(crate) met_places: PlaceSet,
+    /// Where the literals of the trail stand.
+    pub(crate) places: Places,
 }
 
 impl Walk {
@@ -50,6 +57,8 @@ impl Walk {
             open_: 0,
             zeros: 0,
             met: Vec::new(alloc),
+            met_places: PlaceSet::new(alloc),
+            places: Places::new(alloc, vars)?,
         })
     }
 
@@ -64,6 +73,7 @@ impl Walk {
         ensures hints { self.new.hints.items ≡ [] }
         ensures open { self.new.open_ ≡ 0 }
         ensures zeros { self.new.zeros ≡ 0 }
+        ensures none { (k : ℕ) → HasPlace self.new.met_places k → ⊥ }
     {
         if self.stamp >= LAST {
             self.marks.fill(0);
@@ -75,5 +85,6 @@ impl Walk {
         self.open_ = 0;
         self.zeros = 0;
         self.met.clear();
+        self.met_places.clear();
     }
 }

@@ -1,9 +1,11 @@
 use mir.Val.{of_z, to_z}
 use Rattle.std.proofs.lemmas.Int.{to_z-of_z}
-use Rattle.std.proofs.Common.{rules, w64, List, Option, ◌≡◌, ◌+◌, [], ◌∷◌, ◌++◌, sym, ap, ◌∙◌, arith}
-use Rattle.std.specs.Prelude.{pos, reverse}
+use Rattle.std.proofs.Common.{rules, w64, List, Option, ◌≡◌, ◌+◌, [], ◌∷◌, ◌++◌, sym, ap, ◌∙◌, subst, arith}
+use Rattle.std.specs.Prelude.{pos, reverse, Contains}
 use Rattle.std.proofs.lemmas.List.{append-nil}
-use Rattle.cnf_formula.specs.Literals.{LitValue}
+use Rattle.cnf_formula.specs.Literals.{LitValue, negation}
+use Rattle.trail_core.specs.Assigned.{IsFalse}
+use Rattle.trail_core.specs.Meaning.{trues}
 use Rattle.conflict_analysis.specs.Met.{value_of, WalkValue, AreLeft}
 use Rattle.conflict_analysis.proofs.Pointed.{IsBegun, begun_sorted, conflict_within, met_passed, met_open_some}
 use Rattle.conflict_analysis.proofs.Left.{left_in, left_sorted, left_passed, left_point, kept_room}
@@ -15,7 +17,7 @@ pub meet_all-requires-clause-sorted : goal.meet_all-requires-clause-sorted
 meet_all-requires-clause-sorted c =
     let core = c.args.core.now in
     let e = c.begin.ensures in
-    begun_sorted core (value_of c.begin.new.self) (record { len = e.len ∙ c.requires.rested.len; low = e.low; lits = e.lits; hints = e.hints; open_ = e.open; zeros = e.zeros })
+    begun_sorted core (value_of c.begin.new.self) (record { len = e.len ∙ c.requires.rested.len; low = e.low; lits = e.lits; hints = e.hints; open_ = e.open; zeros = e.zeros; none = e.none })
 
 pub meet_all-requires-clause-within : goal.meet_all-requires-clause-within
 meet_all-requires-clause-within c = conflict_within c.args.core.now c.args.conflict c.requires.conflict
@@ -24,14 +26,14 @@ pub walk_all-requires-clause-passed : goal.walk_all-requires-clause-passed
 walk_all-requires-clause-passed c =
     let core = c.args.core.now in
     let e = c.begin.ensures in
-    let begun : IsBegun core (value_of c.begin.new.self) = record { len = e.len ∙ c.requires.rested.len; low = e.low; lits = e.lits; hints = e.hints; open_ = e.open; zeros = e.zeros } in
+    let begun : IsBegun core (value_of c.begin.new.self) = record { len = e.len ∙ c.requires.rested.len; low = e.low; lits = e.lits; hints = e.hints; open_ = e.open; zeros = e.zeros; none = e.none } in
     met_passed core _ (value_of c.begin.new.self) (value_of c.meet_all.new.walk) begun c.in_ok-meet_all.ensures
 
 pub walk_all-requires-clause-some : goal.walk_all-requires-clause-some
 walk_all-requires-clause-some c =
     let core = c.args.core.now in
     let e = c.begin.ensures in
-    let begun : IsBegun core (value_of c.begin.new.self) = record { len = e.len ∙ c.requires.rested.len; low = e.low; lits = e.lits; hints = e.hints; open_ = e.open; zeros = e.zeros } in
+    let begun : IsBegun core (value_of c.begin.new.self) = record { len = e.len ∙ c.requires.rested.len; low = e.low; lits = e.lits; hints = e.hints; open_ = e.open; zeros = e.zeros; none = e.none } in
     met_open_some core c.args.conflict (value_of c.begin.new.self) (value_of c.meet_all.new.walk) c.requires.conflict begun c.in_ok-meet_all.ensures
 
 pub kept_lits-requires-clause-room : goal.kept_lits-requires-clause-room
@@ -67,3 +69,9 @@ returns-clause-learned c =
           let lits = ap (λ v. v.items) b.lits-is ∙ sym (append-nil left) ∙ ap (λ q. left ++ point_lits q) (sym b.in_default.is) in
           learned_by core c.args.conflict w point _ ended (omega (arith, c.from-id.ensures, c.count.ensures)) lits hints
     ]
+
+pub settle-requires : goal.settle-requires
+settle-requires c = λ o h.
+    let kept = (c.in_ok-lits.ensures.of o (subst (λ xs. Contains xs o) c.deref.ensures.value h)).0 in
+    let false' : IsFalse (trues c.args.core.now) o = (c.in_ok-point.ensures.sorted.kept.of o kept).1 in
+    subst (λ xs. Contains xs (negation o)) (sym c.trail-2.ensures.value) false'

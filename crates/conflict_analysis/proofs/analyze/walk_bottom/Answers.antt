@@ -2,7 +2,7 @@ use Rattle.std.proofs.Common.{◌+◌, ◌-◌, ◌<◌, sym, ◌∙◌, arith}
 use Rattle.std.proofs.lemmas.Bool.{false≢true}
 use Rattle.conflict_analysis.specs.Met.{value_of, WalkValue, waiting}
 use Rattle.conflict_analysis.proofs.Resolved.{passed_over, same_open, same_open_then, same_open_counts}
-use Rattle.conflict_analysis.proofs.Waiting.{waits_below, place_below, passed_at, passed_counts, onward_same, onward_then, onward_counts, bottom_step}
+use Rattle.conflict_analysis.proofs.Waiting.{waits_below, next_by, passed_all, passed_counts, onward_same, onward_then, onward_counts, bottom_step}
 use Rattle.conflict_analysis.proofs.analyze.walk_bottom.Goals as goal
 
 pub loop-walk-init : goal.loop-walk-init
@@ -14,16 +14,14 @@ loop-walk-init c = record {
   passed = c.requires.passed;
 }
 
-pub overflow_sub-place : goal.overflow_sub-place
-overflow_sub-place c =
+pub met_below-place-requires : goal.met_below-place-requires
+met_below-place-requires c =
     let core = c.args.core.now in
     let w : WalkValue = value_of c.loop-walk.walk in
     let inv = c.loop-walk.invariant in
     let from = c.loop-walk.place in
     let some : 0 < waiting (w.stamp + 3) w.marks = omega (arith, inv.sorted.zeros, c.loop-walk-test.true) in
-    let above = waits_below core 3 w from inv.sorted inv.passed some in
-    let within = place_below core 3 w from inv.sorted inv.passed some inv.within in
-    omega (arith, above)
+    waits_below core 3 w from inv.sorted inv.passed some
 
 pub is_waiting-requires-clause-place : goal.is_waiting-requires-clause-place
 is_waiting-requires-clause-place c =
@@ -31,10 +29,8 @@ is_waiting-requires-clause-place c =
     let w : WalkValue = value_of c.loop-walk.walk in
     let inv = c.loop-walk.invariant in
     let from = c.loop-walk.place in
-    let some : 0 < waiting (w.stamp + 3) w.marks = omega (arith, inv.sorted.zeros, c.loop-walk-test.true) in
-    let above = waits_below core 3 w from inv.sorted inv.passed some in
-    let within = place_below core 3 w from inv.sorted inv.passed some inv.within in
-    within
+    let next = next_by core 3 w from c.met_below-place.result inv.sorted inv.passed c.met_below-place.ensures.below c.met_below-place.ensures.met c.met_below-place.ensures.highest in
+    next.within
 
 pub is_waiting-requires-clause-len : goal.is_waiting-requires-clause-len
 is_waiting-requires-clause-len c =
@@ -42,9 +38,6 @@ is_waiting-requires-clause-len c =
     let w : WalkValue = value_of c.loop-walk.walk in
     let inv = c.loop-walk.invariant in
     let from = c.loop-walk.place in
-    let some : 0 < waiting (w.stamp + 3) w.marks = omega (arith, inv.sorted.zeros, c.loop-walk-test.true) in
-    let above = waits_below core 3 w from inv.sorted inv.passed some in
-    let within = place_below core 3 w from inv.sorted inv.passed some inv.within in
     inv.sorted.marked.len
 
 pub is_waiting-requires-clause-few : goal.is_waiting-requires-clause-few
@@ -53,9 +46,6 @@ is_waiting-requires-clause-few c =
     let w : WalkValue = value_of c.loop-walk.walk in
     let inv = c.loop-walk.invariant in
     let from = c.loop-walk.place in
-    let some : 0 < waiting (w.stamp + 3) w.marks = omega (arith, inv.sorted.zeros, c.loop-walk-test.true) in
-    let above = waits_below core 3 w from inv.sorted inv.passed some in
-    let within = place_below core 3 w from inv.sorted inv.passed some inv.within in
     omega (arith, inv.onward.stamp, c.requires.few)
 
 pub resolve-requires-clause-formed : goal.resolve-requires-clause-formed
@@ -64,9 +54,6 @@ resolve-requires-clause-formed c =
     let w : WalkValue = value_of c.loop-walk.walk in
     let inv = c.loop-walk.invariant in
     let from = c.loop-walk.place in
-    let some : 0 < waiting (w.stamp + 3) w.marks = omega (arith, inv.sorted.zeros, c.loop-walk-test.true) in
-    let above = waits_below core 3 w from inv.sorted inv.passed some in
-    let within = place_below core 3 w from inv.sorted inv.passed some inv.within in
     c.requires.formed
 
 pub resolve-requires-clause-few : goal.resolve-requires-clause-few
@@ -75,9 +62,6 @@ resolve-requires-clause-few c =
     let w : WalkValue = value_of c.loop-walk.walk in
     let inv = c.loop-walk.invariant in
     let from = c.loop-walk.place in
-    let some : 0 < waiting (w.stamp + 3) w.marks = omega (arith, inv.sorted.zeros, c.loop-walk-test.true) in
-    let above = waits_below core 3 w from inv.sorted inv.passed some in
-    let within = place_below core 3 w from inv.sorted inv.passed some inv.within in
     omega (arith, inv.onward.stamp, c.requires.few)
 
 pub resolve-requires-clause-place : goal.resolve-requires-clause-place
@@ -86,10 +70,8 @@ resolve-requires-clause-place c =
     let w : WalkValue = value_of c.loop-walk.walk in
     let inv = c.loop-walk.invariant in
     let from = c.loop-walk.place in
-    let some : 0 < waiting (w.stamp + 3) w.marks = omega (arith, inv.sorted.zeros, c.loop-walk-test.true) in
-    let above = waits_below core 3 w from inv.sorted inv.passed some in
-    let within = place_below core 3 w from inv.sorted inv.passed some inv.within in
-    within
+    let next = next_by core 3 w from c.met_below-place.result inv.sorted inv.passed c.met_below-place.ensures.below c.met_below-place.ensures.met c.met_below-place.ensures.highest in
+    next.within
 
 pub resolve-requires-clause-implied : goal.resolve-requires-clause-implied
 resolve-requires-clause-implied c =
@@ -97,12 +79,19 @@ resolve-requires-clause-implied c =
     let w : WalkValue = value_of c.loop-walk.walk in
     let inv = c.loop-walk.invariant in
     let from = c.loop-walk.place in
-    let some : 0 < waiting (w.stamp + 3) w.marks = omega (arith, inv.sorted.zeros, c.loop-walk-test.true) in
-    let above = waits_below core 3 w from inv.sorted inv.passed some in
-    let within = place_below core 3 w from inv.sorted inv.passed some inv.within in
-    let at = passed_at core 3 w from above inv.passed in
-    let step = bottom_step core w (from - 1) c.requires.formed c.requires.grounded inv.sorted within (c.is_waiting.ensures.0 c.if-is_waiting.true) in
+    let next = next_by core 3 w from c.met_below-place.result inv.sorted inv.passed c.met_below-place.ensures.below c.met_below-place.ensures.met c.met_below-place.ensures.highest in
+    let step = bottom_step core w c.met_below-place.result c.requires.formed c.requires.grounded inv.sorted next.within (c.is_waiting.ensures.0 c.if-is_waiting.true) in
     step.implied
+
+pub resolve-requires-clause-met : goal.resolve-requires-clause-met
+resolve-requires-clause-met c =
+    let core = c.args.core.now in
+    let w : WalkValue = value_of c.loop-walk.walk in
+    let inv = c.loop-walk.invariant in
+    let from = c.loop-walk.place in
+    let next = next_by core 3 w from c.met_below-place.result inv.sorted inv.passed c.met_below-place.ensures.below c.met_below-place.ensures.met c.met_below-place.ensures.highest in
+    let step = bottom_step core w c.met_below-place.result c.requires.formed c.requires.grounded inv.sorted next.within (c.is_waiting.ensures.0 c.if-is_waiting.true) in
+    step.met
 
 pub resolve-requires-clause-marked : goal.resolve-requires-clause-marked
 resolve-requires-clause-marked c =
@@ -110,9 +99,6 @@ resolve-requires-clause-marked c =
     let w : WalkValue = value_of c.loop-walk.walk in
     let inv = c.loop-walk.invariant in
     let from = c.loop-walk.place in
-    let some : 0 < waiting (w.stamp + 3) w.marks = omega (arith, inv.sorted.zeros, c.loop-walk-test.true) in
-    let above = waits_below core 3 w from inv.sorted inv.passed some in
-    let within = place_below core 3 w from inv.sorted inv.passed some inv.within in
     inv.sorted.marked
 
 pub resolve-requires-clause-kept : goal.resolve-requires-clause-kept
@@ -121,10 +107,15 @@ resolve-requires-clause-kept c =
     let w : WalkValue = value_of c.loop-walk.walk in
     let inv = c.loop-walk.invariant in
     let from = c.loop-walk.place in
-    let some : 0 < waiting (w.stamp + 3) w.marks = omega (arith, inv.sorted.zeros, c.loop-walk-test.true) in
-    let above = waits_below core 3 w from inv.sorted inv.passed some in
-    let within = place_below core 3 w from inv.sorted inv.passed some inv.within in
     inv.sorted.kept
+
+pub resolve-requires-clause-noted : goal.resolve-requires-clause-noted
+resolve-requires-clause-noted c =
+    let core = c.args.core.now in
+    let w : WalkValue = value_of c.loop-walk.walk in
+    let inv = c.loop-walk.invariant in
+    let from = c.loop-walk.place in
+    inv.sorted.noted
 
 pub resolve-requires-clause-new : goal.resolve-requires-clause-new
 resolve-requires-clause-new c =
@@ -132,11 +123,8 @@ resolve-requires-clause-new c =
     let w : WalkValue = value_of c.loop-walk.walk in
     let inv = c.loop-walk.invariant in
     let from = c.loop-walk.place in
-    let some : 0 < waiting (w.stamp + 3) w.marks = omega (arith, inv.sorted.zeros, c.loop-walk-test.true) in
-    let above = waits_below core 3 w from inv.sorted inv.passed some in
-    let within = place_below core 3 w from inv.sorted inv.passed some inv.within in
-    let at = passed_at core 3 w from above inv.passed in
-    let step = bottom_step core w (from - 1) c.requires.formed c.requires.grounded inv.sorted within (c.is_waiting.ensures.0 c.if-is_waiting.true) in
+    let next = next_by core 3 w from c.met_below-place.result inv.sorted inv.passed c.met_below-place.ensures.below c.met_below-place.ensures.met c.met_below-place.ensures.highest in
+    let step = bottom_step core w c.met_below-place.result c.requires.formed c.requires.grounded inv.sorted next.within (c.is_waiting.ensures.0 c.if-is_waiting.true) in
     step.waits
 
 pub resolve-requires-clause-open : goal.resolve-requires-clause-open
@@ -145,11 +133,8 @@ resolve-requires-clause-open c =
     let w : WalkValue = value_of c.loop-walk.walk in
     let inv = c.loop-walk.invariant in
     let from = c.loop-walk.place in
-    let some : 0 < waiting (w.stamp + 3) w.marks = omega (arith, inv.sorted.zeros, c.loop-walk-test.true) in
-    let above = waits_below core 3 w from inv.sorted inv.passed some in
-    let within = place_below core 3 w from inv.sorted inv.passed some inv.within in
-    let at = passed_at core 3 w from above inv.passed in
-    let step = bottom_step core w (from - 1) c.requires.formed c.requires.grounded inv.sorted within (c.is_waiting.ensures.0 c.if-is_waiting.true) in
+    let next = next_by core 3 w from c.met_below-place.result inv.sorted inv.passed c.met_below-place.ensures.below c.met_below-place.ensures.met c.met_below-place.ensures.highest in
+    let step = bottom_step core w c.met_below-place.result c.requires.formed c.requires.grounded inv.sorted next.within (c.is_waiting.ensures.0 c.if-is_waiting.true) in
     step.open_is
 
 pub resolve-requires-clause-zeros : goal.resolve-requires-clause-zeros
@@ -158,11 +143,8 @@ resolve-requires-clause-zeros c =
     let w : WalkValue = value_of c.loop-walk.walk in
     let inv = c.loop-walk.invariant in
     let from = c.loop-walk.place in
-    let some : 0 < waiting (w.stamp + 3) w.marks = omega (arith, inv.sorted.zeros, c.loop-walk-test.true) in
-    let above = waits_below core 3 w from inv.sorted inv.passed some in
-    let within = place_below core 3 w from inv.sorted inv.passed some inv.within in
-    let at = passed_at core 3 w from above inv.passed in
-    let step = bottom_step core w (from - 1) c.requires.formed c.requires.grounded inv.sorted within (c.is_waiting.ensures.0 c.if-is_waiting.true) in
+    let next = next_by core 3 w from c.met_below-place.result inv.sorted inv.passed c.met_below-place.ensures.below c.met_below-place.ensures.met c.met_below-place.ensures.highest in
+    let step = bottom_step core w c.met_below-place.result c.requires.formed c.requires.grounded inv.sorted next.within (c.is_waiting.ensures.0 c.if-is_waiting.true) in
     step.zeros_is
 
 pub loop-walk-smaller-in-Continue-1 : goal.loop-walk-smaller-in-Continue-1
@@ -171,10 +153,7 @@ loop-walk-smaller-in-Continue-1 c =
     let w : WalkValue = value_of c.loop-walk.walk in
     let inv = c.loop-walk.invariant in
     let from = c.loop-walk.place in
-    let some : 0 < waiting (w.stamp + 3) w.marks = omega (arith, inv.sorted.zeros, c.loop-walk-test.true) in
-    let above = waits_below core 3 w from inv.sorted inv.passed some in
-    let within = place_below core 3 w from inv.sorted inv.passed some inv.within in
-    omega (arith, above)
+    omega (arith, c.met_below-place.ensures.below)
 
 pub loop-walk-smaller : goal.loop-walk-smaller
 loop-walk-smaller c =
@@ -182,10 +161,7 @@ loop-walk-smaller c =
     let w : WalkValue = value_of c.loop-walk.walk in
     let inv = c.loop-walk.invariant in
     let from = c.loop-walk.place in
-    let some : 0 < waiting (w.stamp + 3) w.marks = omega (arith, inv.sorted.zeros, c.loop-walk-test.true) in
-    let above = waits_below core 3 w from inv.sorted inv.passed some in
-    let within = place_below core 3 w from inv.sorted inv.passed some inv.within in
-    omega (arith, above)
+    omega (arith, c.met_below-place.ensures.below)
 
 pub loop-walk-preserved-in-Continue-1 : goal.loop-walk-preserved-in-Continue-1
 loop-walk-preserved-in-Continue-1 c =
@@ -193,16 +169,13 @@ loop-walk-preserved-in-Continue-1 c =
     let w : WalkValue = value_of c.loop-walk.walk in
     let inv = c.loop-walk.invariant in
     let from = c.loop-walk.place in
-    let some : 0 < waiting (w.stamp + 3) w.marks = omega (arith, inv.sorted.zeros, c.loop-walk-test.true) in
-    let above = waits_below core 3 w from inv.sorted inv.passed some in
-    let within = place_below core 3 w from inv.sorted inv.passed some inv.within in
-    let at = passed_at core 3 w from above inv.passed in
+    let next = next_by core 3 w from c.met_below-place.result inv.sorted inv.passed c.met_below-place.ensures.below c.met_below-place.ensures.met c.met_below-place.ensures.highest in
     record {
       sorted = c.in_ok-resolve.ensures.sorted;
       onward = onward_then (value_of c.args.walk.now) w (value_of c.resolve.new.walk) inv.onward (onward_counts w (value_of c.resolve.new.walk) w.open_ (w.zeros - 1) c.in_ok-resolve.ensures.onward);
-      same = same_open_then core (value_of c.args.walk.now) w (value_of c.resolve.new.walk) inv.same (same_open_counts core w (value_of c.resolve.new.walk) w.open_ (w.zeros - 1) (c.in_ok-resolve.ensures.below (λ some. let z = inv.sorted.marked.bottom (from - 1) within (c.is_waiting.ensures.0 c.if-is_waiting.true) in omega (arith, z, some))));
-      within = omega (arith, inv.within);
-      passed = c.in_ok-resolve.ensures.passed 3 (λ h. omega (arith, h)) (passed_counts core 3 w (from - 1 + 1) w.open_ (w.zeros - 1) at);
+      same = same_open_then core (value_of c.args.walk.now) w (value_of c.resolve.new.walk) inv.same (same_open_counts core w (value_of c.resolve.new.walk) w.open_ (w.zeros - 1) (c.in_ok-resolve.ensures.below (λ some. let z = inv.sorted.marked.bottom c.met_below-place.result next.within (c.is_waiting.ensures.0 c.if-is_waiting.true) in omega (arith, z, some))));
+      within = omega (arith, next.within);
+      passed = c.in_ok-resolve.ensures.passed 3 (λ h. omega (arith, h)) (passed_counts core 3 w (c.met_below-place.result + 1) w.open_ (w.zeros - 1) next.passed);
     }
 
 pub loop-walk-preserved : goal.loop-walk-preserved
@@ -211,14 +184,16 @@ loop-walk-preserved c =
     let w : WalkValue = value_of c.loop-walk.walk in
     let inv = c.loop-walk.invariant in
     let from = c.loop-walk.place in
-    let some : 0 < waiting (w.stamp + 3) w.marks = omega (arith, inv.sorted.zeros, c.loop-walk-test.true) in
-    let above = waits_below core 3 w from inv.sorted inv.passed some in
-    let within = place_below core 3 w from inv.sorted inv.passed some inv.within in
-    let at = passed_at core 3 w from above inv.passed in
+    let next = next_by core 3 w from c.met_below-place.result inv.sorted inv.passed c.met_below-place.ensures.below c.met_below-place.ensures.met c.met_below-place.ensures.highest in
     record {
       sorted = inv.sorted;
       onward = inv.onward;
       same = inv.same;
-      within = omega (arith, inv.within);
-      passed = passed_over core 3 w (from - 1) at (λ e. false≢true (sym c.if-is_waiting.false ∙ c.is_waiting.ensures.1 e));
+      within = omega (arith, next.within);
+      passed = passed_over core 3 w c.met_below-place.result next.passed (λ e. false≢true (sym c.if-is_waiting.false ∙ c.is_waiting.ensures.1 e));
     }
+
+pub returns-clause-passed : goal.returns-clause-passed
+returns-clause-passed c =
+    let inv = c.loop-walk.invariant in
+    passed_all c.args.core.now (value_of c.loop-walk.walk) c.loop-walk.place c.requires.formed inv.sorted (omega (arith, c.loop-walk-test.false)) inv.passed

@@ -5,7 +5,7 @@ use Rattle.trail_core.proofs.Keeping.{lits_length}
 use Rattle.std.proofs.lemmas.Bool.{false≢true}
 use Rattle.conflict_analysis.specs.Met.{value_of, WalkValue, waiting, IsPassed}
 use Rattle.conflict_analysis.proofs.Resolved.{passed_over}
-use Rattle.conflict_analysis.proofs.Waiting.{waits_below, place_below, passed_at, passed_counts, onward_same, onward_then, onward_counts, open_step}
+use Rattle.conflict_analysis.proofs.Waiting.{waits_below, next_by, passed_counts, onward_same, onward_then, onward_counts, open_step}
 use Rattle.conflict_analysis.proofs.analyze.walk_last.Goals as goal
 
 -- the end of the trail, as it is read
@@ -21,16 +21,14 @@ loop-walk-init c = record {
   passed = subst (IsPassed c.args.core.now 1 (value_of c.args.walk.now)) (sym (end c.args.core.now c.trail-place.result.now (length c.trail-place.result.now) c.trail-place.ensures.value refl)) c.requires.passed;
 }
 
-pub overflow_sub-place : goal.overflow_sub-place
-overflow_sub-place c =
+pub met_below-place-requires : goal.met_below-place-requires
+met_below-place-requires c =
     let core = c.args.core.now in
     let w : WalkValue = value_of c.loop-walk.walk in
     let inv = c.loop-walk.invariant in
     let from = c.loop-walk.place in
     let some : 0 < waiting (w.stamp + 1) w.marks = omega (arith, inv.sorted.open_, c.loop-walk-test.true) in
-    let above = waits_below core 1 w from inv.sorted inv.passed some in
-    let within = place_below core 1 w from inv.sorted inv.passed some inv.within in
-    omega (arith, above)
+    waits_below core 1 w from inv.sorted inv.passed some
 
 pub is_waiting-requires-clause-place : goal.is_waiting-requires-clause-place
 is_waiting-requires-clause-place c =
@@ -38,10 +36,8 @@ is_waiting-requires-clause-place c =
     let w : WalkValue = value_of c.loop-walk.walk in
     let inv = c.loop-walk.invariant in
     let from = c.loop-walk.place in
-    let some : 0 < waiting (w.stamp + 1) w.marks = omega (arith, inv.sorted.open_, c.loop-walk-test.true) in
-    let above = waits_below core 1 w from inv.sorted inv.passed some in
-    let within = place_below core 1 w from inv.sorted inv.passed some inv.within in
-    within
+    let next = next_by core 1 w from c.met_below-place.result inv.sorted inv.passed c.met_below-place.ensures.below c.met_below-place.ensures.met c.met_below-place.ensures.highest in
+    next.within
 
 pub is_waiting-requires-clause-len : goal.is_waiting-requires-clause-len
 is_waiting-requires-clause-len c =
@@ -49,9 +45,6 @@ is_waiting-requires-clause-len c =
     let w : WalkValue = value_of c.loop-walk.walk in
     let inv = c.loop-walk.invariant in
     let from = c.loop-walk.place in
-    let some : 0 < waiting (w.stamp + 1) w.marks = omega (arith, inv.sorted.open_, c.loop-walk-test.true) in
-    let above = waits_below core 1 w from inv.sorted inv.passed some in
-    let within = place_below core 1 w from inv.sorted inv.passed some inv.within in
     inv.sorted.marked.len
 
 pub is_waiting-requires-clause-few : goal.is_waiting-requires-clause-few
@@ -60,9 +53,6 @@ is_waiting-requires-clause-few c =
     let w : WalkValue = value_of c.loop-walk.walk in
     let inv = c.loop-walk.invariant in
     let from = c.loop-walk.place in
-    let some : 0 < waiting (w.stamp + 1) w.marks = omega (arith, inv.sorted.open_, c.loop-walk-test.true) in
-    let above = waits_below core 1 w from inv.sorted inv.passed some in
-    let within = place_below core 1 w from inv.sorted inv.passed some inv.within in
     omega (arith, inv.onward.stamp, c.requires.few)
 
 pub resolve-requires-clause-formed : goal.resolve-requires-clause-formed
@@ -71,9 +61,6 @@ resolve-requires-clause-formed c =
     let w : WalkValue = value_of c.loop-walk.walk in
     let inv = c.loop-walk.invariant in
     let from = c.loop-walk.place in
-    let some : 0 < waiting (w.stamp + 1) w.marks = omega (arith, inv.sorted.open_, c.loop-walk-test.true) in
-    let above = waits_below core 1 w from inv.sorted inv.passed some in
-    let within = place_below core 1 w from inv.sorted inv.passed some inv.within in
     c.trail-place.ensures.formed
 
 pub resolve-requires-clause-few : goal.resolve-requires-clause-few
@@ -82,9 +69,6 @@ resolve-requires-clause-few c =
     let w : WalkValue = value_of c.loop-walk.walk in
     let inv = c.loop-walk.invariant in
     let from = c.loop-walk.place in
-    let some : 0 < waiting (w.stamp + 1) w.marks = omega (arith, inv.sorted.open_, c.loop-walk-test.true) in
-    let above = waits_below core 1 w from inv.sorted inv.passed some in
-    let within = place_below core 1 w from inv.sorted inv.passed some inv.within in
     omega (arith, inv.onward.stamp, c.requires.few)
 
 pub resolve-requires-clause-place : goal.resolve-requires-clause-place
@@ -93,10 +77,8 @@ resolve-requires-clause-place c =
     let w : WalkValue = value_of c.loop-walk.walk in
     let inv = c.loop-walk.invariant in
     let from = c.loop-walk.place in
-    let some : 0 < waiting (w.stamp + 1) w.marks = omega (arith, inv.sorted.open_, c.loop-walk-test.true) in
-    let above = waits_below core 1 w from inv.sorted inv.passed some in
-    let within = place_below core 1 w from inv.sorted inv.passed some inv.within in
-    within
+    let next = next_by core 1 w from c.met_below-place.result inv.sorted inv.passed c.met_below-place.ensures.below c.met_below-place.ensures.met c.met_below-place.ensures.highest in
+    next.within
 
 pub resolve-requires-clause-implied : goal.resolve-requires-clause-implied
 resolve-requires-clause-implied c =
@@ -104,12 +86,19 @@ resolve-requires-clause-implied c =
     let w : WalkValue = value_of c.loop-walk.walk in
     let inv = c.loop-walk.invariant in
     let from = c.loop-walk.place in
-    let some : 0 < waiting (w.stamp + 1) w.marks = omega (arith, inv.sorted.open_, c.loop-walk-test.true) in
-    let above = waits_below core 1 w from inv.sorted inv.passed some in
-    let within = place_below core 1 w from inv.sorted inv.passed some inv.within in
-    let at = passed_at core 1 w from above inv.passed in
-    let step = open_step core w (from - 1) c.trail-place.ensures.formed c.trail-place.ensures.grounded inv.sorted at within c.loop-walk-test.true (c.is_waiting.ensures.0 c.if-is_waiting.true) in
+    let next = next_by core 1 w from c.met_below-place.result inv.sorted inv.passed c.met_below-place.ensures.below c.met_below-place.ensures.met c.met_below-place.ensures.highest in
+    let step = open_step core w c.met_below-place.result c.trail-place.ensures.formed c.trail-place.ensures.grounded inv.sorted next.passed next.within c.loop-walk-test.true (c.is_waiting.ensures.0 c.if-is_waiting.true) in
     step.implied
+
+pub resolve-requires-clause-met : goal.resolve-requires-clause-met
+resolve-requires-clause-met c =
+    let core = c.args.core.now in
+    let w : WalkValue = value_of c.loop-walk.walk in
+    let inv = c.loop-walk.invariant in
+    let from = c.loop-walk.place in
+    let next = next_by core 1 w from c.met_below-place.result inv.sorted inv.passed c.met_below-place.ensures.below c.met_below-place.ensures.met c.met_below-place.ensures.highest in
+    let step = open_step core w c.met_below-place.result c.trail-place.ensures.formed c.trail-place.ensures.grounded inv.sorted next.passed next.within c.loop-walk-test.true (c.is_waiting.ensures.0 c.if-is_waiting.true) in
+    step.met
 
 pub resolve-requires-clause-marked : goal.resolve-requires-clause-marked
 resolve-requires-clause-marked c =
@@ -117,9 +106,6 @@ resolve-requires-clause-marked c =
     let w : WalkValue = value_of c.loop-walk.walk in
     let inv = c.loop-walk.invariant in
     let from = c.loop-walk.place in
-    let some : 0 < waiting (w.stamp + 1) w.marks = omega (arith, inv.sorted.open_, c.loop-walk-test.true) in
-    let above = waits_below core 1 w from inv.sorted inv.passed some in
-    let within = place_below core 1 w from inv.sorted inv.passed some inv.within in
     inv.sorted.marked
 
 pub resolve-requires-clause-kept : goal.resolve-requires-clause-kept
@@ -128,10 +114,15 @@ resolve-requires-clause-kept c =
     let w : WalkValue = value_of c.loop-walk.walk in
     let inv = c.loop-walk.invariant in
     let from = c.loop-walk.place in
-    let some : 0 < waiting (w.stamp + 1) w.marks = omega (arith, inv.sorted.open_, c.loop-walk-test.true) in
-    let above = waits_below core 1 w from inv.sorted inv.passed some in
-    let within = place_below core 1 w from inv.sorted inv.passed some inv.within in
     inv.sorted.kept
+
+pub resolve-requires-clause-noted : goal.resolve-requires-clause-noted
+resolve-requires-clause-noted c =
+    let core = c.args.core.now in
+    let w : WalkValue = value_of c.loop-walk.walk in
+    let inv = c.loop-walk.invariant in
+    let from = c.loop-walk.place in
+    inv.sorted.noted
 
 pub resolve-requires-clause-new : goal.resolve-requires-clause-new
 resolve-requires-clause-new c =
@@ -139,11 +130,8 @@ resolve-requires-clause-new c =
     let w : WalkValue = value_of c.loop-walk.walk in
     let inv = c.loop-walk.invariant in
     let from = c.loop-walk.place in
-    let some : 0 < waiting (w.stamp + 1) w.marks = omega (arith, inv.sorted.open_, c.loop-walk-test.true) in
-    let above = waits_below core 1 w from inv.sorted inv.passed some in
-    let within = place_below core 1 w from inv.sorted inv.passed some inv.within in
-    let at = passed_at core 1 w from above inv.passed in
-    let step = open_step core w (from - 1) c.trail-place.ensures.formed c.trail-place.ensures.grounded inv.sorted at within c.loop-walk-test.true (c.is_waiting.ensures.0 c.if-is_waiting.true) in
+    let next = next_by core 1 w from c.met_below-place.result inv.sorted inv.passed c.met_below-place.ensures.below c.met_below-place.ensures.met c.met_below-place.ensures.highest in
+    let step = open_step core w c.met_below-place.result c.trail-place.ensures.formed c.trail-place.ensures.grounded inv.sorted next.passed next.within c.loop-walk-test.true (c.is_waiting.ensures.0 c.if-is_waiting.true) in
     step.waits
 
 pub resolve-requires-clause-open : goal.resolve-requires-clause-open
@@ -152,11 +140,8 @@ resolve-requires-clause-open c =
     let w : WalkValue = value_of c.loop-walk.walk in
     let inv = c.loop-walk.invariant in
     let from = c.loop-walk.place in
-    let some : 0 < waiting (w.stamp + 1) w.marks = omega (arith, inv.sorted.open_, c.loop-walk-test.true) in
-    let above = waits_below core 1 w from inv.sorted inv.passed some in
-    let within = place_below core 1 w from inv.sorted inv.passed some inv.within in
-    let at = passed_at core 1 w from above inv.passed in
-    let step = open_step core w (from - 1) c.trail-place.ensures.formed c.trail-place.ensures.grounded inv.sorted at within c.loop-walk-test.true (c.is_waiting.ensures.0 c.if-is_waiting.true) in
+    let next = next_by core 1 w from c.met_below-place.result inv.sorted inv.passed c.met_below-place.ensures.below c.met_below-place.ensures.met c.met_below-place.ensures.highest in
+    let step = open_step core w c.met_below-place.result c.trail-place.ensures.formed c.trail-place.ensures.grounded inv.sorted next.passed next.within c.loop-walk-test.true (c.is_waiting.ensures.0 c.if-is_waiting.true) in
     step.open_is
 
 pub resolve-requires-clause-zeros : goal.resolve-requires-clause-zeros
@@ -165,11 +150,8 @@ resolve-requires-clause-zeros c =
     let w : WalkValue = value_of c.loop-walk.walk in
     let inv = c.loop-walk.invariant in
     let from = c.loop-walk.place in
-    let some : 0 < waiting (w.stamp + 1) w.marks = omega (arith, inv.sorted.open_, c.loop-walk-test.true) in
-    let above = waits_below core 1 w from inv.sorted inv.passed some in
-    let within = place_below core 1 w from inv.sorted inv.passed some inv.within in
-    let at = passed_at core 1 w from above inv.passed in
-    let step = open_step core w (from - 1) c.trail-place.ensures.formed c.trail-place.ensures.grounded inv.sorted at within c.loop-walk-test.true (c.is_waiting.ensures.0 c.if-is_waiting.true) in
+    let next = next_by core 1 w from c.met_below-place.result inv.sorted inv.passed c.met_below-place.ensures.below c.met_below-place.ensures.met c.met_below-place.ensures.highest in
+    let step = open_step core w c.met_below-place.result c.trail-place.ensures.formed c.trail-place.ensures.grounded inv.sorted next.passed next.within c.loop-walk-test.true (c.is_waiting.ensures.0 c.if-is_waiting.true) in
     step.zeros_is
 
 pub loop-walk-smaller-in-Continue-1 : goal.loop-walk-smaller-in-Continue-1
@@ -178,10 +160,7 @@ loop-walk-smaller-in-Continue-1 c =
     let w : WalkValue = value_of c.loop-walk.walk in
     let inv = c.loop-walk.invariant in
     let from = c.loop-walk.place in
-    let some : 0 < waiting (w.stamp + 1) w.marks = omega (arith, inv.sorted.open_, c.loop-walk-test.true) in
-    let above = waits_below core 1 w from inv.sorted inv.passed some in
-    let within = place_below core 1 w from inv.sorted inv.passed some inv.within in
-    omega (arith, above)
+    omega (arith, c.met_below-place.ensures.below)
 
 pub loop-walk-smaller : goal.loop-walk-smaller
 loop-walk-smaller c =
@@ -189,10 +168,7 @@ loop-walk-smaller c =
     let w : WalkValue = value_of c.loop-walk.walk in
     let inv = c.loop-walk.invariant in
     let from = c.loop-walk.place in
-    let some : 0 < waiting (w.stamp + 1) w.marks = omega (arith, inv.sorted.open_, c.loop-walk-test.true) in
-    let above = waits_below core 1 w from inv.sorted inv.passed some in
-    let within = place_below core 1 w from inv.sorted inv.passed some inv.within in
-    omega (arith, above)
+    omega (arith, c.met_below-place.ensures.below)
 
 pub loop-walk-preserved-in-Continue-1 : goal.loop-walk-preserved-in-Continue-1
 loop-walk-preserved-in-Continue-1 c =
@@ -200,16 +176,13 @@ loop-walk-preserved-in-Continue-1 c =
     let w : WalkValue = value_of c.loop-walk.walk in
     let inv = c.loop-walk.invariant in
     let from = c.loop-walk.place in
-    let some : 0 < waiting (w.stamp + 1) w.marks = omega (arith, inv.sorted.open_, c.loop-walk-test.true) in
-    let above = waits_below core 1 w from inv.sorted inv.passed some in
-    let within = place_below core 1 w from inv.sorted inv.passed some inv.within in
-    let at = passed_at core 1 w from above inv.passed in
+    let next = next_by core 1 w from c.met_below-place.result inv.sorted inv.passed c.met_below-place.ensures.below c.met_below-place.ensures.met c.met_below-place.ensures.highest in
     record {
       sorted = c.in_ok-resolve.ensures.sorted;
       onward = onward_then (value_of c.args.walk.now) w (value_of c.resolve.new.walk) inv.onward (onward_counts w (value_of c.resolve.new.walk) (w.open_ - 1) w.zeros c.in_ok-resolve.ensures.onward);
       some = omega (arith, c.in_ok-resolve.ensures.more, c.loop-walk-test.true);
-      within = omega (arith, inv.within);
-      passed = c.in_ok-resolve.ensures.passed 1 (λ h. omega (arith, h)) (passed_counts core 1 w (from - 1 + 1) (w.open_ - 1) w.zeros at);
+      within = omega (arith, next.within);
+      passed = c.in_ok-resolve.ensures.passed 1 (λ h. omega (arith, h)) (passed_counts core 1 w (c.met_below-place.result + 1) (w.open_ - 1) w.zeros next.passed);
     }
 
 pub loop-walk-preserved : goal.loop-walk-preserved
@@ -218,14 +191,11 @@ loop-walk-preserved c =
     let w : WalkValue = value_of c.loop-walk.walk in
     let inv = c.loop-walk.invariant in
     let from = c.loop-walk.place in
-    let some : 0 < waiting (w.stamp + 1) w.marks = omega (arith, inv.sorted.open_, c.loop-walk-test.true) in
-    let above = waits_below core 1 w from inv.sorted inv.passed some in
-    let within = place_below core 1 w from inv.sorted inv.passed some inv.within in
-    let at = passed_at core 1 w from above inv.passed in
+    let next = next_by core 1 w from c.met_below-place.result inv.sorted inv.passed c.met_below-place.ensures.below c.met_below-place.ensures.met c.met_below-place.ensures.highest in
     record {
       sorted = inv.sorted;
       onward = inv.onward;
       some = inv.some;
-      within = omega (arith, inv.within);
-      passed = passed_over core 1 w (from - 1) at (λ e. false≢true (sym c.if-is_waiting.false ∙ c.is_waiting.ensures.1 e));
+      within = omega (arith, next.within);
+      passed = passed_over core 1 w c.met_below-place.result next.passed (λ e. false≢true (sym c.if-is_waiting.false ∙ c.is_waiting.ensures.1 e));
     }

@@ -1,8 +1,12 @@
-use Rattle.std.proofs.Common.{◌≤◌}
+use Rattle.std.proofs.Common.{◌≡◌, ◌≤◌}
+use Rattle.conflict_analysis.specs.Met.{value_of}
 use Rattle.conflict_analysis.proofs.level_point.has_point.Given as goal
 
-abbrev pub invariant-loop-place : goal.invariant-loop-place
-invariant-loop-place l = l.place ≤ l.to
+abbrev pub invariant-loop-open : goal.invariant-loop-open
+invariant-loop-open l = record {
+  within : l.place ≤ l.to;
+  same : value_of l.walk ≡ value_of l.initial.walk;
+}
 
-abbrev pub decreases-loop-place : goal.decreases-loop-place
-decreases-loop-place l = l.place
+abbrev pub decreases-loop-open : goal.decreases-loop-open
+decreases-loop-open l = l.place

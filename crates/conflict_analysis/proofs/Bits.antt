@@ -1,0 +1,176 @@
+-- Bits of words, and of sets of places.
+use Rattle.std.proofs.Common.{suc, ◌≡◌, ℕ, ◌+◌, ◌-◌, ◌*◌, ◌/◌, ◌%◌, ◌^◌, ◌<◌, ◌≤◌, List, length, get_or, set, sym, ap, ◌∙◌, inl, inr, ⊎_elim, arith}
+use Rattle.std.specs.Prelude.{◌≢◌, ◌⊎◌, ◌↔◌, IsBitSet}
+use Rattle.std.proofs.Math.Nat.{pow-succ', pow-le-pow_right}
+use Rattle.std.proofs.lemmas.Bool.{cases_lt, cases_eq}
+use Rattle.std.proofs.lemmas.List.{get_or-set_same, get_or-set_other, get_or_default}
+use Rattle.std.proofs.lemmas.Nat.{pow_pos, pow-add, pow_below, pow_apart, and_comm, and_mask, and_assoc, and_le_l, and_or_self, and_or_apart, mod_low, shr_high, bit_set_by_shift, leading_top}
+use lib.Bits.{bit_and, bit_or}
+use lib.Count.{count_leading_zeros}
+use Rattle.conflict_analysis.specs.PlaceSets.{HasPlace}
+
+-- ---- words
+
+-- a power of two by another
+rest_small : (i k : ℕ) → k < i → 2 ^ k % 2 ^ i ≡ 2 ^ k
+rest_small i k lt = let e : 2 ^ k ≡ 0 * 2 ^ i + 2 ^ k = omega arith in ap (λ x. x % 2 ^ i) e ∙ mod_low 0 i (2 ^ k) (pow_below k i lt)
+
+rest_none : (i k : ℕ) → i ≤ k → 2 ^ k % 2 ^ i ≡ 0
+rest_none i k le =
+    let e : k - i + i ≡ k = omega (arith, le) in
+    let s : 2 ^ k ≡ 2 ^ (k - i) * 2 ^ i = ap (λ x. 2 ^ x) (sym e) ∙ pow-add 2 (k - i) i in
+    let z : 2 ^ k ≡ 2 ^ (k - i) * 2 ^ i + 0 = omega (arith, s) in
+    ap (λ x. x % 2 ^ i) z ∙ mod_low (2 ^ (k - i)) i 0 (pow_pos i)
+
+masked : (n i k : ℕ) → bit_and (bit_and n (2 ^ i - 1)) (2 ^ k) ≡ bit_and n (2 ^ k % 2 ^ i)
+masked n i k = and_assoc (2 ^ k) n (2 ^ i - 1) ∙ ap (bit_and n) (and_comm (2 ^ i - 1) (2 ^ k) ∙ and_mask (2 ^ k) i)
+
+and_none : (n : ℕ) → bit_and n 0 ≡ 0
+and_none n = let c = and_comm n 0 in let l = and_le_l 0 n in omega (arith, c, l)
+
+-- the bits below one
+pub bits_lower : (n i k : ℕ) → IsBitSet (bit_and n (2 ^ i - 1)) k ↔ (IsBitSet n k × (k < i))
+bits_lower n i k = (
+  λ s. ⊎_elim
+      (λ lt. (λ z. s (masked n i k ∙ ap (bit_and n) (rest_small i k lt) ∙ z), lt))
+      (λ ge. absurd (s (masked n i k ∙ ap (bit_and n) (rest_none i k ge) ∙ and_none n)))
+      (cases_lt k i),
+  λ h. λ z. h.0 (sym (masked n i k ∙ ap (bit_and n) (rest_small i k h.1)) ∙ z),
+)
+
+-- one bit more
+pub bits_more : (n i k : ℕ) → IsBitSet (bit_or n (2 ^ i)) k ↔ (IsBitSet n k ⊎ (k ≡ i))
+bits_more n i k = (
+  λ s. ⊎_elim (λ e. inr e) (λ d. inl (λ z. s (other d ∙ z))) (cases_eq k i),
+  λ h. ⊎_elim
+      (λ b. ⊎_elim (λ e. same e) (λ d. λ z. b (sym (other d) ∙ z)) (cases_eq k i))
+      (λ e. same e)
+      h,
+)
+  where
+    other : k ≢ i → bit_and (bit_or n (2 ^ i)) (2 ^ k) ≡ bit_and n (2 ^ k)
+    other d = and_or_apart (2 ^ k) n (2 ^ i) (pow_apart i k (λ e. d (sym e)))
+
+    same : k ≡ i → IsBitSet (bit_or n (2 ^ i)) k
+    same e = λ z.
+        let s = and_or_self (2 ^ i) n in
+        let at : bit_and (bit_or n (2 ^ i)) (2 ^ k) ≡ bit_and (bit_or n (2 ^ i)) (2 ^ i) = ap (λ x. bit_and (bit_or n (2 ^ i)) (2 ^ x)) e in
+        let p = pow_pos i in
+        omega (arith, s, at, z, p)
+
+-- a word without bits
+pub no_bit : (n k : ℕ) → n ≡ 0 → IsBitSet n k → ⊥
+no_bit n k e s = s (let l = and_le_l n (2 ^ k) in omega (arith, l, e))
+
+-- the highest bit
+pub highest_set : (n : ℕ) → n ≢ 0 → n < 2 ^ 64 → IsBitSet n (63 - count_leading_zeros 64 n)
+highest_set n some fits =
+    let t = leading_top 64 n (omega (arith, some)) fits in
+    let j : 63 - count_leading_zeros 64 n ≡ t.0 = omega (arith, t.1) in
+    let two : 2 ^ suc t.0 ≡ 2 * 2 ^ t.0 = pow-succ' 2 t.0 in
+    let split : n ≡ 1 * 2 ^ t.0 + (n - 2 ^ t.0) = omega (arith, t.2) in
+    let one : n / 2 ^ t.0 ≡ 1 = ap (λ x. x / 2 ^ t.0) split ∙ shr_high 1 t.0 (n - 2 ^ t.0) (omega (arith, t.3, two)) in
+    let s : IsBitSet n t.0 = (bit_set_by_shift n t.0).0 (ap (λ x. bit_and x 1) one) in
+    λ z. s (ap (λ x. bit_and n (2 ^ x)) (sym j) ∙ z)
+
+pub highest_last : (n : ℕ) → n ≢ 0 → n < 2 ^ 64 → (k : ℕ) → 63 - count_leading_zeros 64 n < k → IsBitSet n k → ⊥
+highest_last n some fits k gt s =
+    let t = leading_top 64 n (omega (arith, some)) fits in
+    let le : 2 ^ suc t.0 ≤ 2 ^ k = pow-le-pow_right (omega arith) (omega (arith, t.1, gt)) in
+    let all : n ≡ 0 * 2 ^ k + n = omega arith in
+    let none : n / 2 ^ k ≡ 0 = ap (λ x. x / 2 ^ k) all ∙ shr_high 0 k n (omega (arith, t.3, le)) in
+    let one = (bit_set_by_shift n k).1 s in
+    let zero' : bit_and (n / 2 ^ k) 1 ≡ 0 = ap (λ x. bit_and x 1) none in
+    omega (arith, one, zero')
+
+-- ---- sets of places
+
+-- a place more
+pub has_more : (words words' : List ℕ) (place n : ℕ) → words' ≡ set words (place / 64) (bit_or n (2 ^ (place % 64))) → n ≡ get_or words (place / 64) 0 → place / 64 < length words → (k : ℕ) → HasPlace words' k ↔ (HasPlace words k ⊎ (k ≡ place))
+has_more words words' place n is at room k = ⊎_elim
+    (λ e.
+    let here' : get_or words' (k / 64) 0 ≡ bit_or n (2 ^ (place % 64)) = ap (λ ws. get_or ws (k / 64) 0) is ∙ ap (λ i. get_or (set words (place / 64) (bit_or n (2 ^ (place % 64)))) i 0) e ∙ get_or-set_same words (place / 64) (bit_or n (2 ^ (place % 64))) 0 room in
+    let was : n ≡ get_or words (k / 64) 0 = at ∙ ap (λ i. get_or words i 0) (sym e) in
+    let b = bits_more n (place % 64) (k % 64) in (
+      λ h. ⊎_elim
+          (λ s. inl (λ z. s (ap (λ x. bit_and x (2 ^ (k % 64))) was ∙ z)))
+          (λ s. inr (omega (arith, s, e)))
+          (b.0 (λ z. h (ap (λ x. bit_and x (2 ^ (k % 64))) here' ∙ z))),
+      λ h. λ z. b.1 (⊎_elim (λ s. inl (λ y. s (sym (ap (λ x. bit_and x (2 ^ (k % 64))) was) ∙ y))) (λ s. inr (ap (λ x. x % 64) s)) h) (sym (ap (λ x. bit_and x (2 ^ (k % 64))) here') ∙ z),
+    ))
+    (λ d.
+    let same : get_or words' (k / 64) 0 ≡ get_or words (k / 64) 0 = ap (λ ws. get_or ws (k / 64) 0) is ∙ get_or-set_other words (place / 64) (k / 64) (bit_or n (2 ^ (place % 64))) 0 d in (
+      λ h. inl (λ z. h (ap (λ x. bit_and x (2 ^ (k % 64))) same ∙ z)),
+      λ h. λ z. ⊎_elim (λ s. s (sym (ap (λ x. bit_and x (2 ^ (k % 64))) same) ∙ z)) (λ s. d (ap (λ x. x / 64) s)) h,
+    ))
+    (cases_eq (k / 64) (place / 64))
+
+-- the words are the same
+pub has_same : (words words' : List ℕ) → ((i : ℕ) → get_or words' i 0 ≡ get_or words i 0) → (k : ℕ) → HasPlace words' k ↔ HasPlace words k
+has_same words words' e k =
+    let at = ap (λ x. bit_and x (2 ^ (k % 64))) (e (k / 64)) in
+    (λ h. λ z. h (at ∙ z), λ h. λ z. h (sym at ∙ z))
+
+-- a place more, where room was made before
+pub has_inserted : (old words words' : List ℕ) (place n bit : ℕ) → ((i : ℕ) → get_or words i 0 ≡ get_or old i 0) → words' ≡ set words (place / 64) (bit_or n bit) → bit ≡ 2 ^ (place % 64) → n ≡ get_or words (place / 64) n → place / 64 < length words → (k : ℕ) → HasPlace words' k ↔ (HasPlace old k ⊎ (k ≡ place))
+has_inserted old words words' place n bit same is b r room k =
+    let at : n ≡ get_or words (place / 64) 0 = r ∙ get_or_default words (place / 64) n 0 room in
+    let more = has_more words words' place n (is ∙ ap (λ x. set words (place / 64) (bit_or n x)) b) at room k in
+    let before = has_same old words same k in
+    (λ h. ⊎_elim (λ s. inl (before.0 s)) (λ e. inr e) (more.0 h), λ h. more.1 (⊎_elim (λ s. inl (before.1 s)) (λ e. inr e) h))
+
+-- on a way down from a place, of a word those bits are left that lie below the place
+pub record IsScan (words : List ℕ) (place index word : ℕ) : Type 0 where
+  pub low : index ≤ place / 64
+  pub set : (b : ℕ) → b < 64 → IsBitSet word b → (64 * index + b < place) × IsBitSet (get_or words index 0) b
+  pub rest : (k : ℕ) → k < place → HasPlace words k → (k / 64 < index) ⊎ ((k / 64 ≡ index) × IsBitSet word (k % 64))
+
+pub scan_begin : (words : List ℕ) (place index read word : ℕ) → index ≡ place / 64 → read ≡ get_or words index 0 → ((k : ℕ) → IsBitSet word k ↔ (IsBitSet read k × (k < place % 64))) → IsScan words place index word
+scan_begin words place index read word i r w = record {
+  low = omega (arith, i);
+  set = λ b lt s.
+      let h = (w b).0 s in
+      (omega (arith, h.1, i), λ z. h.0 (ap (λ x. bit_and x (2 ^ b)) r ∙ z));
+  rest = λ k lt h. ⊎_elim
+      (λ less. inl less)
+      (λ ge.
+      let e : k / 64 ≡ index = omega (arith, ge, lt, i) in
+      let at : read ≡ get_or words (k / 64) 0 = r ∙ ap (λ x. get_or words x 0) (sym e) in
+      inr (e, (w (k % 64)).1 (λ z. h (sym (ap (λ x. bit_and x (2 ^ (k % 64))) at) ∙ z), omega (arith, ge, lt, i))))
+      (cases_lt (k / 64) index);
+}
+
+pub scan_next : (words : List ℕ) (place index word next : ℕ) → IsScan words place index word → word ≡ 0 → 0 < index → next ≡ get_or words (index - 1) 0 → IsScan words place (index - 1) next
+scan_next words place index word next s none some n = record {
+  low = let l = s.low in omega (arith, l);
+  set = λ b lt h. (let l = s.low in omega (arith, l, lt, some), λ z. h (ap (λ x. bit_and x (2 ^ b)) n ∙ z));
+  rest = λ k lt h. ⊎_elim
+      (λ less. ⊎_elim
+      (λ l. inl l)
+      (λ ge.
+      let e : k / 64 ≡ index - 1 = omega (arith, ge, less) in
+      let at : next ≡ get_or words (k / 64) 0 = n ∙ ap (λ x. get_or words x 0) (sym e) in
+      inr (e, λ z. h (sym (ap (λ x. bit_and x (2 ^ (k % 64))) at) ∙ z)))
+      (cases_lt (k / 64) (index - 1)))
+      (λ here'. absurd (no_bit word (k % 64) none here'.1))
+      (s.rest k lt h);
+}
+
+pub scan_none : (words : List ℕ) (place index word : ℕ) → IsScan words place index word → word ≡ 0 → index ≡ 0 → (k : ℕ) → k < place → HasPlace words k → ⊥
+scan_none words place index word s none first k lt h = ⊎_elim
+    (λ less. omega (arith, less, first))
+    (λ here'. no_bit word (k % 64) none here'.1)
+    (s.rest k lt h)
+
+pub scan_found : (words : List ℕ) (place index word b p : ℕ) → IsScan words place index word → b < 64 → IsBitSet word b → ((k : ℕ) → b < k → IsBitSet word k → ⊥) → p ≡ 64 * index + b → (p < place) × HasPlace words p × ((k : ℕ) → p < k → k < place → HasPlace words k → ⊥)
+scan_found words place index word b p s small is top e =
+    let h = s.set b small is in
+    let row : p / 64 ≡ index = omega (arith, e, small) in
+    let column : p % 64 ≡ b = omega (arith, e, small) in (
+      omega (arith, h.0, e),
+      λ z. h.1 (ap (λ x. bit_and (get_or words index 0) (2 ^ x)) (sym column) ∙ ap (λ x. bit_and (get_or words x 0) (2 ^ (p % 64))) (sym row) ∙ z),
+      λ k gt lt has. ⊎_elim
+          (λ less. omega (arith, less, gt, e))
+          (λ here'. top (k % 64) (omega (arith, here'.0, gt, e, small)) here'.1)
+          (s.rest k lt has),
+    )
