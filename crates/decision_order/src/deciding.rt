@@ -6,12 +6,14 @@ ghost use Rattle.trail_core.specs.Assigned.{IsOpen};
 ghost use Rattle.trail_core.specs.Meaning.{trues};
 ghost use Rattle.decision_order.specs.inner.Orders.{IsVar};
 
+use crate::inputs::inputs_of;
+use crate::turns::Mode;
 use crate::vmtf::Queue;
 use crate::vsids::Order;
 use cnf_formula::{Lit, OutOfMemory};
 use std::alloc::Global;
 use std::marker::Model;
-use trail_core::Core;
+use trail_core::{ClauseId, Core};
 
 /// Variables by activity and by the time of their last bump, each with the value that it had last.
 #[derive(Drop)]
@@ -20,8 +22,9 @@ pub struct Decider {
     order: Order,
     queue: Queue,
     phases: Vec<bool>,
-    /// Whether variables are taken from the queue, and not from the order.
-    focused: bool,
+    mode: Mode,
+    /// By variable whether it is an input; empty before the first stable turn.
+    inputs: Vec<bool>,
 }
 
 impl Model for Decider {
@@ -78,15 +81,56 @@ impl Decider {
             order: Order::new(alloc, vars)?,
             queue: Queue::new(alloc, vars)?,
             phases,
-            focused: false,
+            mode: Mode::Opening,
+            inputs: Vec::new(alloc),
         })
     }
 
-    /// From now on the variables are decided by the time of their last bump.
-    pub fn focus(&mut self)
+    /// From now on variables are decided as this mode has it. The first `count` of these clauses
+    /// are the formula's, which says what the inputs are. `Err` comes only where memory runs out.
+    pub fn settle(
+        &mut self,
+        alloc: Global,
+        core: &Core,
+        ids: &[ClauseId],
+        count: u32,
+        mode: Mode,
+    ) -> Result<(), OutOfMemory>
         ensures { self.new ≡ self.old }
     {
-        self.focused = true;
+        if mode == self.mode {
+            return Ok(());
+        }
+        self.mode = mode;
+        if mode != Mode::Stable {
+            return Ok(());
+        }
+        if self.inputs.is_empty() {
+            self.inputs = inputs_of(alloc, core, ids, count, self.vars)?;
+        }
+        self.wake()
+    }
+
+    /// Whether a variable is an input.
+    fn is_input(&self, var: u32) -> bool {
+        self.inputs.get(var as usize) == Some(&true)
+    }
+
+    /// Takes the most active input, and where none is left the variable that was bumped last; none
+    /// where no variable is left.
+    fn pop_input(&mut self) -> Option<u32>
+        ensures same { self.new ≡ self.old }
+        ensures var { IfSome result (IsVar (self.old + 1)) }
+    {
+        for _ in 0..self.vars {
+            let Some(var) = self.order.pop() else {
+                break;
+            };
+            if self.is_input(var) {
+                return Some(var);
+            }
+        }
+        self.queue.pop()
     }
 
     /// Takes the next variable; none where no variable is left.
@@ -94,10 +138,10 @@ impl Decider {
         ensures same { self.new ≡ self.old }
         ensures var { IfSome result (IsVar (self.old + 1)) }
     {
-        if self.focused {
-            self.queue.pop()
-        } else {
-            self.order.pop()
+        match self.mode {
+            Mode::Opening => self.order.pop(),
+            Mode::Stable => self.pop_input(),
+            Mode::Focused => self.queue.pop(),
         }
     }
 
@@ -127,12 +171,15 @@ impl Decider {
         requires { lit.var ≤ self.old }
         ensures { self.new ≡ self.old }
     {
-        self.phases[lit.var() as usize] = lit.positive();
-        if self.focused {
-            self.queue.insert(lit.var());
+        let var = lit.var();
+        self.phases[var as usize] = lit.positive();
+        if self.mode != Mode::Opening {
+            self.queue.insert(var);
+        }
+        if self.mode == Mode::Focused || self.mode == Mode::Stable && !self.is_input(var) {
             return Ok(());
         }
-        self.order.insert(lit.var())
+        self.order.insert(var)
     }
 
     /// Gives all variables to the decisions that come. `Err` comes only where memory runs out.
@@ -152,7 +199,7 @@ impl Decider {
         requires { self.old ≡ core.now.vars }
         ensures { self.new ≡ self.old }
     {
-        if self.focused {
+        if self.mode == Mode::Focused {
             return self.bump(core, met, lits);
         }
         self.raise(met);

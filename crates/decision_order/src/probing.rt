@@ -3,6 +3,7 @@
 ghost use Rattle.std.specs.Prelude.{◌≡◌, ◌+◌, ◌<◌, ◌≤◌, length, IfOk};
 
 use crate::deciding::Decider;
+use crate::turns::Mode;
 use cnf_formula::OutOfMemory;
 use std::alloc::Global;
 use std::marker::Model;
@@ -102,15 +103,15 @@ impl Probes {
         }
     }
 
-    /// Where the search begins anew: the decider is focused where the search is; else, where enough
-    /// lines were learned, begins a probe, while which the decider rests, or ends one, and the
+    /// Where the search begins anew: behind the opening a probe ends, where one lasts; within it, where
+    /// enough lines were learned, begins a probe, while which the decider rests, or ends one, and the
     /// decider that rested goes on. `Err` comes only where memory runs out.
     pub fn turn(
         &mut self,
         alloc: Global,
         decider: &mut Decider,
         anew: bool,
-        focused: bool,
+        mode: Mode,
     ) -> Result<(), OutOfMemory>
         requires { decider.old ≡ self.old }
         ensures decider { decider.new ≡ decider.old }
@@ -119,8 +120,8 @@ impl Probes {
         if !anew {
             return Ok(());
         }
-        if focused {
-            self.focus(decider);
+        if mode != Mode::Opening {
+            self.end(decider);
             return Ok(());
         }
         if self.left > 0 {
@@ -129,8 +130,8 @@ impl Probes {
         self.exchange(alloc, decider)
     }
 
-    /// Ends a probe, where one lasts; the decider is focused.
-    fn focus(&mut self, decider: &mut Decider)
+    /// Ends a probe, where one lasts.
+    fn end(&mut self, decider: &mut Decider)
         requires { decider.old ≡ self.old }
         ensures decider { decider.new ≡ decider.old }
         ensures same { self.new ≡ self.old }
@@ -138,7 +139,6 @@ impl Probes {
         if let Some(rested) = self.resting.take() {
             *decider = rested;
         }
-        decider.focus();
     }
 
     /// Ends a probe, where one lasts, else begins one.

@@ -1,16 +1,13 @@
-//! When a search begins anew, and when it is focused.
+//! When a search begins anew, and how it goes on then.
 
 use crate::averages::Averages;
 use crate::luby::Luby;
+use crate::turns::{Mode, Turns};
 
-/// So many lines are learned before the search is focused.
-const FIRST: u64 = 2000;
-
-/// New beginnings by the Luby sequence at first, and by averages where the search is focused.
+/// New beginnings by averages in focused turns, and by the Luby sequence in others.
 #[derive(Drop)]
 pub struct Restarts {
-    /// How many lines were learned.
-    lines: u64,
+    turns: Turns,
     luby: Luby,
     averages: Averages,
 }
@@ -19,29 +16,28 @@ impl Restarts {
     /// No line is counted yet.
     pub fn new() -> Restarts {
         Restarts {
-            lines: 0,
+            turns: Turns::new(),
             luby: Luby::new(),
             averages: Averages::new(),
         }
     }
 
-    /// Whether the search is focused: what conflicts met last is decided next, and there are no
-    /// probes. It is so once enough lines were learned.
-    pub fn is_focused(&self) -> bool {
-        self.lines >= FIRST
+    /// How the search goes on.
+    pub fn mode(&self) -> Mode {
+        self.turns.mode()
     }
 
     /// Counts a line that is learned, whose literals were false on so many levels. Whether the
-    /// search begins anew after it: it does so too where it becomes focused.
+    /// search begins anew after it: it does so too where a turn begins, and there the Luby sequence
+    /// begins anew.
     pub fn tick(&mut self, levels: u32) -> bool {
-        self.lines = self.lines.saturating_add(1);
-        if self.lines == FIRST {
+        if self.turns.tick() {
+            self.luby = Luby::new();
             return true;
         }
-        if self.is_focused() {
-            self.averages.tick(levels)
-        } else {
-            self.luby.tick()
+        match self.turns.mode() {
+            Mode::Focused => self.averages.tick(levels),
+            Mode::Opening | Mode::Stable => self.luby.tick(),
         }
     }
 }

@@ -56,10 +56,13 @@ fn go_on(
     guide.probes.note(core);
     let levels = guide.glue.count(core, &line.lits);
     let anew = guide.restarts.tick(levels);
-    let focused = guide.restarts.is_focused();
+    let mode = guide.restarts.mode();
     let id = go_back(core, &mut guide.decider, line, anew)?;
     guide.awake.learn(id, levels)?;
-    guide.probes.turn(alloc, &mut guide.decider, anew, focused)?;
+    guide.probes.turn(alloc, &mut guide.decider, anew, mode)?;
+    guide
+        .decider
+        .settle(alloc, core, &guide.awake.ids, guide.awake.formula, mode)?;
     if anew && guide.awake.is_due() {
         return rest(alloc, core, guide);
     }

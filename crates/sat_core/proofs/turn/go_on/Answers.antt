@@ -12,7 +12,7 @@ rest-requires c =
     let core' = c.go_back.new.core in
     let awake' = c.learn-3.new.self in
     let grown : IsGrown core core' guide.awake awake' line = record { vars = c.go_back.ensures.vars; clauses = c.in_ok-id.ensures.added; names = c.in_ok-learn-2.ensures.names; formula = c.in_ok-learn-2.ensures.formula; held = c.in_ok-learn-2.ensures.held } in
-    record { guided = grown_guided core core' guide _ line c.in_ok-id.id c.requires.guided c.requires.backed grown c.in_ok-id.ensures.id c.in_ok-learn-2.ensures.ids refl (c.turn.ensures.decider ∙ c.go_back.ensures.decider ∙ c.learn.ensures) (c.turn.ensures.same ∙ c.note.ensures) c.learn-2.ensures }
+    record { guided = grown_guided core core' guide _ line c.in_ok-id.id c.requires.guided c.requires.backed grown c.in_ok-id.ensures.id c.in_ok-learn-2.ensures.ids refl (c.settle.ensures ∙ c.turn.ensures.decider ∙ c.go_back.ensures.decider ∙ c.learn.ensures) (c.turn.ensures.same ∙ c.note.ensures) c.learn-2.ensures }
 
 pub returns-then-is_due-clause-ready : goal.returns-then-is_due-clause-ready
 returns-then-is_due-clause-ready c = on_ok_weaker c.rest.result (λ after base lines ready written fresh id.
@@ -32,7 +32,7 @@ returns-clause-guided c =
     let core' = c.go_back.new.core in
     let awake' = c.learn-3.new.self in
     let grown : IsGrown core core' guide.awake awake' line = record { vars = c.go_back.ensures.vars; clauses = c.in_ok-id.ensures.added; names = c.in_ok-learn-2.ensures.names; formula = c.in_ok-learn-2.ensures.formula; held = c.in_ok-learn-2.ensures.held } in
-    grown_guided core core' guide _ line c.in_ok-id.id c.requires.guided c.requires.backed grown c.in_ok-id.ensures.id c.in_ok-learn-2.ensures.ids refl (c.turn.ensures.decider ∙ c.go_back.ensures.decider ∙ c.learn.ensures) (c.turn.ensures.same ∙ c.note.ensures) c.learn-2.ensures
+    grown_guided core core' guide _ line c.in_ok-id.id c.requires.guided c.requires.backed grown c.in_ok-id.ensures.id c.in_ok-learn-2.ensures.ids refl (c.settle.ensures ∙ c.turn.ensures.decider ∙ c.go_back.ensures.decider ∙ c.learn.ensures) (c.turn.ensures.same ∙ c.note.ensures) c.learn-2.ensures
 
 pub returns-clause-ready : goal.returns-clause-ready
 returns-clause-ready c = λ base lines ready written fresh id.
