@@ -9,7 +9,7 @@ from .algorithm import need
 # Where the other buffer begins, of a call in place.
 IN_PLACE = {"allgather": "own part", "reducescatter": "own part", "allreduce": "same", "broadcast": "same", "reduce": "same"}
 ALL, PART, NONE = "all", "part", "none"
-# How much of the message the input and the output of the root and of another rank are; of a collective without a root all ranks are as one.
+# How much of all the input and the output of the root and of another rank are; of a collective without a root of each rank.
 ROOMS = {
     "broadcast": ((ALL, ALL), (ALL, ALL)), "reduce": ((ALL, ALL), (ALL, NONE)), "gather": ((PART, ALL), (PART, NONE)),
     "scatter": ((ALL, PART), (NONE, PART)), "allgather": ((PART, ALL), None), "reducescatter": ((ALL, PART), None),
@@ -19,12 +19,13 @@ ROOMS = {
 
 class Memory:
     def __init__(self, algorithm, root, is_in_place):
-        self.collective, self.ranks, self.total, self.root = algorithm.collective, range(algorithm.ranks), algorithm.total, root
-        self.is_in_place = is_in_place
+        self.collective, self.ranks, self.root, self.is_in_place = algorithm.collective, range(algorithm.ranks), root, is_in_place
         need(self.collective in ROOMS, "a collective that there is not")
         need(not is_in_place or self.collective in IN_PLACE, "a collective that has no calls in place")
-        need(self.total % algorithm.ranks == 0 or self.collective in ("broadcast", "reduce", "allreduce"), "a message that is no whole part for each rank")
-        self.part = self.total // algorithm.ranks
+        # what a runtime cuts is all, but of a gather and a scatter the part of one rank
+        self.total = algorithm.total * (algorithm.ranks if self.collective in ("gather", "scatter") else 1)
+        self.part, rest = divmod(self.total, algorithm.ranks)
+        need(rest == 0 or self.collective in ("broadcast", "reduce", "allreduce"), "a message that is no whole part for each rank")
         for rank, rooms in algorithm.rooms.items():
             need((rooms["i"], rooms["o"]) == self.sizes(rank), f"rank {rank} has buffers of other sizes")
 

@@ -20,13 +20,14 @@ WRONG_LINES = [
     ("blocks.py", "self.number(sends_to, takes_from, turn % self.channels)", "self.number(sends_to, takes_from, (turn + (takes_from > 0)) % self.channels)"),
     # chunks exchanged
     ("layouts.py", "return self.owner(chunk) * self.each + self.own(chunk)", "return chunk"),
-    ("layouts.py", "    among = lambda chunk: chunk // it.ranks // it.ranks\n", "    among = lambda _: 0\n"),
+    ("layouts.py", "return chunk // it.ranks // it.ranks", "return 0"),
     ("layouts.py", "lambda chunk: it.owner(chunk) * it.each + among(chunk)", "lambda chunk: receiver(chunk) * it.each + among(chunk)"),
     ("layouts.py", "slot.place + (rank * self.each if is_part else 0)", "slot.place + rank * self.each"),
     ("layouts.py", "Slot(OUTPUT if slot.buffer == INPUT else INPUT, ", "Slot(OUTPUT, "),
     # slots too few, and a buffer of another size
     ("msccl.py", '"s_chunks": len(it.scratch)', '"s_chunks": max(0, len(it.scratch) - 1)'),
     ("msccl.py", "layout.total * head.instances", "layout.total"),
+    ("layouts.py", 'if collective in ("allgather", "reducescatter", "allreduce") else chunks', 'if collective not in ("broadcast", "reduce") else chunks'),
     ("msccl.py", "else slot.place * instances + instance", "else slot.place + instance"),
     ("msccl.py", "(step.waits[0] + first, step.waits[1])", "step.waits"),
     ("msccl.py", "instance * head.channels + block.channel", "block.channel"),

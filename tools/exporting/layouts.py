@@ -28,16 +28,16 @@ Buffers = Tuple[Where, Where, Room, Room]
 class Layout:
     """The slots of a collective at C chunks (for each rank, but in a broadcast and a reduce), with the root's rank or None.
 
-    `total` is the number of slots of the greatest buffer, into which a runtime divides a message.
+    `total` is the number of slots into which a runtime cuts a message, which is the greatest buffer, but of a gather and a scatter what
+    belongs to one rank.
     """
 
     def __init__(self, collective: str, ranks: int, root: int | None, chunks: int, is_in_place: bool) -> None:
         self.collective, self.ranks, self.root = collective, ranks, root
-        is_for_all = collective in ("broadcast", "reduce")
-        # how many slots belong to each rank, or to each two in an alltoall; and how many chunks there are
+        # how many slots belong to each rank, or to each two in an alltoall; and all chunks
         self.each = chunks // ranks if collective == "alltoall" else chunks
-        self.total = chunks if is_for_all or collective == "alltoall" else chunks * ranks
-        self.all_chunks = range(chunks if is_for_all else chunks * ranks)
+        self.total = chunks * ranks if collective in ("allgather", "reducescatter", "allreduce") else chunks
+        self.all_chunks = range(chunks if collective in ("broadcast", "reduce") else chunks * ranks)
         self.is_in_place = is_in_place and collective in IN_PLACE
         self.has, self.due, self.inputs, self.outputs = BUFFERS[collective](self)
 
@@ -105,13 +105,13 @@ def of_reduce(it: Layout) -> Buffers:
 
 
 def of_gather(it: Layout) -> Buffers:
-    room_at_root = lambda rank: it.total if rank == it.root else 0
+    room_at_root = lambda rank: it.total * it.ranks if rank == it.root else 0
     has = at(INPUT, it.own, lambda chunk, rank: it.owner(chunk) == rank)
     return has, at(OUTPUT, it.by_rank, lambda _, rank: rank == it.root), lambda _: it.each, room_at_root
 
 
 def of_scatter(it: Layout) -> Buffers:
-    room_at_root = lambda rank: it.total if rank == it.root else 0
+    room_at_root = lambda rank: it.total * it.ranks if rank == it.root else 0
     due = at(OUTPUT, it.own, lambda chunk, rank: it.owner(chunk) == rank)
     return at(INPUT, it.by_rank, lambda _, rank: rank == it.root), due, room_at_root, lambda _: it.each
 
@@ -132,8 +132,12 @@ def of_allreduce(it: Layout) -> Buffers:
 
 def of_alltoall(it: Layout) -> Buffers:
     """Chunk c goes from its owner to rank (c / P) mod P, and is the (c / P / P)th that does."""
-    receiver = lambda chunk: chunk // it.ranks % it.ranks
-    among = lambda chunk: chunk // it.ranks // it.ranks
+    def receiver(chunk: int) -> int:
+        return chunk // it.ranks % it.ranks
+
+    def among(chunk: int) -> int:
+        return chunk // it.ranks // it.ranks
+
     has = at(INPUT, lambda chunk: receiver(chunk) * it.each + among(chunk), lambda chunk, rank: it.owner(chunk) == rank)
     due = at(OUTPUT, lambda chunk: it.owner(chunk) * it.each + among(chunk), lambda chunk, rank: receiver(chunk) == rank)
     return has, due, lambda _: it.total, lambda _: it.total

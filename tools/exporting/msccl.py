@@ -8,9 +8,9 @@ from .blocks import WAIT, Block, Rank
 from .layouts import INPUT, OUTPUT, Layout, Slot
 
 PROTOCOLS = "Simple", "LL", "LL128"
-# What the parser of RCCL 2.27.7 (ROCm 7.2) takes: thread blocks of a rank, steps of a block, blocks of a rank that send, or that take,
-# over one channel, and the greatest number of a channel.
-MOST_BLOCKS, MOST_STEPS, MOST_PEERS, LAST_CHANNEL = 64, 64, 32, 128
+# What RCCL 2.27.7 (ROCm 7.2) takes: thread blocks of a rank, steps of a block, blocks of a rank that send, or that take, over one channel,
+# and channels.
+MOST_BLOCKS, MOST_STEPS, MOST_PEERS, MOST_CHANNELS = 64, 64, 32, 128
 # What a step names that only waits.
 NO_SOURCE, NO_TARGET = Slot(INPUT, -1), Slot(OUTPUT, -1)
 NO_WAIT = -1, -1
@@ -73,8 +73,8 @@ def attributes(found: Dict[str, Any]) -> str:
 def beyond(head: Head, ranks: List[Rank]) -> Iterator[str]:
     """What of the algorithm is more than the parser of RCCL takes, in sentences."""
     channels = head.channels * head.instances
-    if channels > LAST_CHANNEL + 1:
-        yield f"it has {channels} channels, and RCCL takes {LAST_CHANNEL + 1} at most"
+    if channels > MOST_CHANNELS:
+        yield f"it has {channels} channels, and RCCL takes {MOST_CHANNELS} at most"
     for it in ranks:
         blocks, steps = len(it.blocks) * head.instances, max((len(block.steps) for block in it.blocks), default=0)
         if blocks > MOST_BLOCKS:
