@@ -2,9 +2,16 @@
 
 What slot k of rank r's input has at the start is the contribution (r, k); a slot holds contributions, each so many times.
 """
-from collections import Counter
+from __future__ import annotations
 
-from .algorithm import need
+import collections
+from typing import Counter, Dict, List, Optional, Tuple
+
+from .algorithm import Algorithm, Slot, need
+
+# A rank, a buffer of it and a number in it; and the contributions that stand there.
+Cell = Tuple[int, str, int]
+Value = Counter[Tuple[object, object]]
 
 # Where the other buffer begins, of a call in place.
 IN_PLACE = {"allgather": "own part", "reducescatter": "own part", "allreduce": "same", "broadcast": "same", "reduce": "same"}
@@ -18,7 +25,7 @@ ROOMS = {
 
 
 class Memory:
-    def __init__(self, algorithm, root, is_in_place):
+    def __init__(self, algorithm: Algorithm, root: Optional[int], is_in_place: bool) -> None:
         self.collective, self.ranks, self.root, self.is_in_place = algorithm.collective, range(algorithm.ranks), root, is_in_place
         need(self.collective in ROOMS, "a collective that there is not")
         need(not is_in_place or self.collective in IN_PLACE, "a collective that has no calls in place")
@@ -29,13 +36,13 @@ class Memory:
         for rank, rooms in algorithm.rooms.items():
             need((rooms["i"], rooms["o"]) == self.sizes(rank), f"rank {rank} has buffers of other sizes")
 
-    def sizes(self, rank):
+    def sizes(self, rank: int) -> Tuple[int, ...]:
         """How many slots the rank's input and output have."""
         at_root, elsewhere = ROOMS[self.collective]
         of_rank = at_root if elsewhere is None or rank == self.root else elsewhere
         return tuple({ALL: self.total, PART: self.part, NONE: 0}[it] for it in of_rank)
 
-    def cell(self, rank, slot):
+    def cell(self, rank: int, slot: Slot) -> Cell:
         """The memory of a slot of the rank."""
         buffer, place = slot
         if self.is_in_place and buffer != "s":
@@ -44,21 +51,21 @@ class Memory:
             return rank, whole, begins + place
         return rank, buffer, place
 
-    def start(self):
+    def start(self) -> Dict[Cell, Value]:
         """What each cell has at the start; others have nothing that counts."""
-        ranks = [self.root] if self.collective in ("broadcast", "scatter") else self.ranks
-        return {self.cell(rank, ("i", place)): Counter({(rank, place): 1}) for rank in ranks for place in range(self.sizes(rank)[0])}
+        ranks = [it for it in self.ranks if it == self.root or self.collective not in ("broadcast", "scatter")]
+        return {self.cell(rank, ("i", place)): collections.Counter({(rank, place): 1}) for rank in ranks for place in range(self.sizes(rank)[0])}
 
-    def wanted(self):
+    def wanted(self) -> Dict[Cell, Value]:
         """What has to stand where at the end. Where a call is not in place, its input stays as it was."""
         kept = {} if self.is_in_place else self.start()
         due = {self.cell(rank, ("o", place)): self.due(rank, place) for rank in self.ranks for place in range(self.sizes(rank)[1])}
         return {**kept, **due}
 
-    def due(self, rank, place):
+    def due(self, rank: int, place: int) -> Value:
         """What slot `place` of the rank's output has to have."""
         of_rank, within = divmod(place, self.part) if self.part else (0, place)
-        sources = {
+        sources: Dict[str, List[Tuple[object, object]]] = {
             "broadcast": [(self.root, place)],
             "reduce": [(it, place) for it in self.ranks],
             "gather": [(of_rank, within)],
@@ -68,4 +75,4 @@ class Memory:
             "allreduce": [(it, place) for it in self.ranks],
             "alltoall": [(of_rank, rank * self.part + within)],
         }
-        return Counter(sources[self.collective])
+        return collections.Counter(sources[self.collective])

@@ -3,17 +3,29 @@
 What orders steps: those of a block come one behind the other, a wait comes behind what it waits for, and the n-th take from a queue
 behind the n-th send into it. How long a queue is does not count, so that what is right here is right with queues of any length.
 """
-from .algorithm import need
+from __future__ import annotations
+
+from typing import Dict, List, Tuple
+
+from .algorithm import Algorithm, Block, Queue, Step, need
+from .memory import Cell, Memory
+
+# A rank, a block of it and a step of that.
+Place = Tuple[int, int, int]
 
 
 class Ordering:
-    def __init__(self, algorithm, memory):
+    def __init__(self, algorithm: Algorithm, memory: Memory) -> None:
         self.algorithm, self.memory = algorithm, memory
         # of each step, as a set of bits, the steps that come before it in every order; and of each queue the steps that send into it
-        self.before, self.sent, self.taken = {}, {}, {}
-        self.written, self.read = {}, {}
+        self.before: Dict[Place, int] = {}
+        self.sent: Dict[Queue, List[Place]] = {}
+        self.taken: Dict[Queue, int] = {}
+        # of each cell the last step that wrote it, and those that have read it since
+        self.written: Dict[Cell, int] = {}
+        self.read: Dict[Cell, List[int]] = {}
 
-    def check(self):
+    def check(self) -> None:
         """Wrong says of which cell two uses can come in either order."""
         left = {(it.rank, it.number): 0 for it in self.algorithm.blocks if it.steps}
         bits = 0
@@ -28,7 +40,7 @@ class Ordering:
                     del left[key]
             need(moved, "the blocks wait for each other for ever")
 
-    def place(self, block, number, bit):
+    def place(self, block: Block, number: int, bit: int) -> bool:
         """Puts the step behind those that have to be before it, where all of them stand already."""
         step, rank = block.steps[number], block.rank
         earlier = [(rank, block.number, number - 1)] if number else []
@@ -53,7 +65,7 @@ class Ordering:
         self.use(block, step, bit, found)
         return True
 
-    def use(self, block, step, bit, found):
+    def use(self, block: Block, step: Step, bit: int, found: int) -> None:
         """Each use comes behind the last write of its cell, and each write behind the uses since."""
         reads, writes = ([self.memory.cell(block.rank, it) for it in used] for used in step.uses())
         for cell in reads + writes:

@@ -1,20 +1,28 @@
 """Reports to export: of searches, and of schedules that are made up, each of which a number stands for."""
+from __future__ import annotations
+
 import random
 import subprocess
 import tempfile
+from typing import Iterable, List, Optional, Set, Tuple
 
 COLLECTIVES = "broadcast", "gather", "allgather", "scatter", "alltoall", "reduce", "reducescatter", "allreduce"
 ROOTED = "broadcast", "gather", "scatter", "reduce"
 ADDING = "reduce", "reducescatter", "allreduce"
 
+# A step, a chunk, and the ranks that send and receive it.
+Send = Tuple[int, int, int, int]
 
-def searched(program, topology, words):
+
+def searched(program: str, topology: str, words: List[str]) -> bytes:
     """The report of a search; its files are gone."""
     with tempfile.TemporaryDirectory() as folder:
-        return subprocess.run([program, "synth", *words], input=topology.encode(), cwd=folder, stdout=subprocess.PIPE, timeout=300, check=True).stdout
+        given = topology.encode()
+        ran = subprocess.run([program, "synth", *words], input=given, cwd=folder, stdout=subprocess.PIPE, timeout=300, check=True)
+        return ran.stdout
 
 
-def random_report(program, number):
+def random_report(program: str, number: int) -> bytes:
     """The report of a search: of the collectives in turn, over a topology that is drawn."""
     drawn = random.Random(number)
     collective = COLLECTIVES[number % len(COLLECTIVES)]
@@ -26,7 +34,7 @@ def random_report(program, number):
     return searched(program, random_topology(drawn, nodes), words)
 
 
-def random_topology(drawn, nodes):
+def random_topology(drawn: random.Random, nodes: List[str]) -> str:
     """Links round a ring, some more, and sometimes a port that several share."""
     links = set(zip(nodes, nodes[1:] + nodes[:1]))
     links |= {(other, one) for one, other in sorted(links) if drawn.random() < 0.8}
@@ -39,7 +47,7 @@ def random_topology(drawn, nodes):
     return "\n".join(["topology 1", "nodes " + " ".join(nodes), *rows, ""])
 
 
-def made_report(number):
+def made_report(number: int) -> bytes:
     """A report of a schedule that no search would find; it may lack something at the end, if its collective copies."""
     drawn = random.Random(number)
     collective = COLLECTIVES[number % len(COLLECTIVES)]
@@ -50,23 +58,24 @@ def made_report(number):
     if collective in ADDING:
         steps, sends = summing(drawn, chunks, ranks, root, collective == "allreduce")
     else:
-        steps, sends = spreading(drawn, chunks, ranks, root, collective)
+        first = root if collective in ("broadcast", "scatter") else None
+        steps, sends = spreading(drawn, {(it, it % ranks if first is None else first) for it in chunks}, ranks)
     return report_of(collective, ranks, root, count, steps, sends)
 
 
-def spreading(drawn, chunks, ranks, root, collective):
-    """Whoever has a chunk sends it on, also to nodes that have it already."""
-    at_root = collective in ("broadcast", "scatter")
-    held, sends, steps = {(it, root if at_root else it % ranks) for it in chunks}, set(), drawn.randint(2, 5)
+def spreading(drawn: random.Random, held: Set[Tuple[int, int]], ranks: int) -> Tuple[int, Set[Send]]:
+    """Whoever has a chunk sends it on, also to nodes that have it already; `held` is who has which at the start."""
+    sends: Set[Send] = set()
+    steps = drawn.randint(2, 5)
     for step in range(1, steps + 1):
         pairs = [(it, a, b) for it, a in sorted(held) for b in range(ranks) if a != b]
         found = [it for it in pairs if drawn.random() < 0.5]
         sends |= {(step, *it) for it in found}
-        held |= {(it, b) for it, _, b in found}
+        held = held | {(it, b) for it, _, b in found}
     return steps, sends
 
 
-def summing(drawn, chunks, ranks, root, is_for_all):
+def summing(drawn: random.Random, chunks: range, ranks: int, root: Optional[int], is_for_all: bool) -> Tuple[int, Set[Send]]:
     """A tree for each chunk: in an order that is drawn each node but the last sends to a later one. For all, the sums go back."""
     sends, last = set(), 2 * ranks - 2
     for chunk in chunks:
@@ -80,7 +89,7 @@ def summing(drawn, chunks, ranks, root, is_for_all):
     return (last if is_for_all else ranks - 1), sends
 
 
-def report_of(collective, ranks, root, count, steps, sends):
+def report_of(collective: str, ranks: int, root: Optional[int], count: int, steps: int, sends: Iterable[Send]) -> bytes:
     """The text, over links that are wide enough. Of an allreduce it has one joined point alone."""
     nodes = [f"n{it}" for it in range(ranks)]
     limit = steps // 2 if collective == "allreduce" else steps

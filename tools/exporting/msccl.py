@@ -8,8 +8,8 @@ from .blocks import WAIT, Block, Rank
 from .layouts import INPUT, OUTPUT, Layout, Slot
 
 PROTOCOLS = "Simple", "LL", "LL128"
-# What RCCL 2.27.7 (ROCm 7.2) takes: thread blocks of a rank, steps of a block, blocks of a rank that send, or that take, over one channel,
-# and channels.
+# What RCCL 2.27.7 (ROCm 7.2) takes: thread blocks of a rank, steps of a block, blocks of a rank that send, or that take, over one
+# channel, and channels.
 MOST_BLOCKS, MOST_STEPS, MOST_PEERS, MOST_CHANNELS = 64, 64, 32, 128
 # What a step names that only waits.
 NO_SOURCE, NO_TARGET = Slot(INPUT, -1), Slot(OUTPUT, -1)
