@@ -84,7 +84,7 @@ class Schedule:
         self.nodes: List[str] = self.report["topology"]["nodes"]
         self.collective: str = OF_PART.get(part, self.report["words"]["collective"])
         if self.collective not in BUFFERS:
-            raise NoExport(f"the format has no collective {self.collective}: a runtime takes an algorithm by the name of its collective")
+            raise NoExport(f"{self.collective}: a runtime takes an algorithm by its collective's name, and RCCL has none for one's own")
         self.chunks: int = self.point["c"]
         root = self.report["words"].get("root", self.nodes[0])
         self.root = self.nodes.index(root) if self.collective in ROOTED else None
