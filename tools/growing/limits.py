@@ -69,16 +69,22 @@ class Task:
         found = ((it, self.rounds_at(it)) for it in self.counts())
         return [(count, int(min(rounds)), int(max(rounds))) for count, rounds in found if all(it.denominator == 1 for it in rounds)]
 
-    def limits(self, steps: int) -> Limits:
-        """The smallest limits of so many steps within which the floor can be met; or else those that come nearest."""
-        for count, least, most in self.meeting():
-            if least >= steps and most - steps <= MOST_K:
-                return Limits(steps, most - steps, count, True)
-        rounds = max(self.rounds_at(self.each))
-        if rounds - steps > MOST_K:
+    def limits(self, steps: int, place: int = 0) -> Optional[Limits]:
+        """The limits of so many steps within which the floor can be met, with the smallest chunk count that does, or a later one by its
+        place. Where there is none, the first limits are those that come nearest, and there are no others."""
+        fitting = [(count, most) for count, least, most in self.meeting() if least >= steps and most - steps <= MOST_K]
+        if place < len(fitting):
+            count, rounds = fitting[place]
+            return Limits(steps, rounds - steps, count, True)
+        return None if place or fitting else self.nearest(steps)
+
+    def nearest(self, steps: int) -> Limits:
+        """The limits of so many steps, within which no candidate meets the floor, that let come nearest to it."""
+        if max(self.rounds_at(self.each)) - steps > MOST_K:
             return Limits(steps, MOST_K, self.each, False)
-        most = self.counts()[-1]
-        return Limits(steps, min(MOST_K, max(0, -(-max(self.rounds_at(most)) // 1) - steps)), most, False)
+        count = self.counts()[-1]
+        rounds = -(-max(self.rounds_at(count)) // 1)
+        return Limits(steps, min(MOST_K, max(0, rounds - steps)), count, False)
 
     def least_steps(self) -> int:
         """How many links a chunk has to cross at least, where it has the longest way."""

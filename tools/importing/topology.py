@@ -40,7 +40,7 @@ def groups_of(machine: Machine, boxes: int, speeds: Speeds, rails: bool) -> Tupl
     if not groups:
         raise Refused("no accelerator has a lane to another")
     if len(groups) > MOST_GROUPS:
-        raise Refused(f"{len(groups)} groups of links are more than the {MOST_GROUPS} that sccl takes: leave out accelerators, with --only NAMES")
+        raise Refused(f"{len(groups)} groups of links are more than the {MOST_GROUPS} that sccl takes: leave out some, with --only NAMES")
     return [it for box in names for it in box], groups
 
 
@@ -82,7 +82,7 @@ def spread(machine: Machine, count: int) -> List[Card]:
     """So many network cards in place of those of the machine, each for as many accelerators, in their order."""
     many = len(machine.names)
     if not 1 <= count <= many:
-        raise Refused(f"a box has 1 to {many} network cards, at most one for each accelerator; where one has several, --nic-speed is their sum")
+        raise Refused(f"a box has 1 to {many} network cards, at most one for each accelerator: --nic-speed is the sum where one has several")
     return [Card(f"nic{it}", None, [abs(number * count // many - it) for number in machine.numbers()]) for it in range(count)]
 
 

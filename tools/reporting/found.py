@@ -8,10 +8,12 @@ from .order import Candidate, in_search_order
 
 NAME, NUMBER = "[a-z0-9_]{1,16}", "(?:0|[1-9][0-9]{0,5})"
 HEADERS = {"bound 1": "bound", "ordered 1": "ordered", "degraded 1": "degrade"}
-WORDS = re.compile(rf"(synth collective=([a-z]+) k={NUMBER} steps={NUMBER} chunks={NUMBER} conflicts={NUMBER}(?: root=({NAME}))?)((?: [a-z]+=[a-z]+)*)")
+LIMITS = " ".join(f"{it}={NUMBER}" for it in ("k", "steps", "chunks", "conflicts"))
+WORDS = re.compile(f"(synth collective=([a-z]+) {LIMITS}(?: root=({NAME}))?)((?: [a-z]+=[a-z]+)*)")
 CANDIDATE = f"({NUMBER}) ({NUMBER}) ({NUMBER})"
 # The lines behind `frontier whole`, in the order in which they may stand; those of the schedule of a point belong to it.
-POINT = re.compile(f"point {CANDIDATE} (?:optimal|open)"), re.compile(f"rounds(?: {NUMBER})+"), re.compile(f"send {NUMBER} ({NAME}) ({NAME}) {NUMBER}")
+SEND = re.compile(f"send {NUMBER} ({NAME}) ({NAME}) {NUMBER}")
+POINT = re.compile(f"point {CANDIDATE} (?:optimal|open)"), re.compile(f"rounds(?: {NUMBER})+"), SEND
 REFUTED = {
     "bound": (re.compile(f"cut {CANDIDATE}((?: {NAME})+)"), re.compile(f"refuted {CANDIDATE}")),
     "ordered": (re.compile(f"refuted {CANDIDATE}"),),

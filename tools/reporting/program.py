@@ -22,7 +22,7 @@ class Program:
     def run(self, words: List[str], given: bytes = b"", folder: Optional[str] = None, seconds: Optional[float] = None) -> Tuple[int, bytes]:
         """The status and the output of a run in a folder. What takes longer than so many seconds raises subprocess.TimeoutExpired."""
         try:
-            ran = subprocess.run([self.path, *words], input=given, stdout=subprocess.PIPE, stderr=subprocess.PIPE, cwd=folder, timeout=seconds)
+            ran = subprocess.run([self.path, *words], input=given, capture_output=True, cwd=folder, timeout=seconds)
         except OSError as why:
             raise Failed(f"the program can't be run: {why}") from None
         if ran.returncode not in (0, *STATUSES):

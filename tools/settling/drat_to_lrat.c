@@ -29,8 +29,8 @@ static List *watching(int literal) { return &watches[literal > 0 ? 2 * literal :
 static int value_of(int literal) { return literal > 0 ? values[literal] : -values[-literal]; }
 /* A sum that is the same in every order; clauses that have one sum are taken for one, and at worst a clause is dropped too soon. */
 static uint64_t sum_of(const List *line) {
-  uint64_t sum = line->count;
-  for (size_t i = 0; i < line->count; i++) sum += ((uint64_t)line->at[i] ^ MIXING) * ((uint64_t)line->at[i] + MIXING);
+  uint64_t sum = line->count, mixed;
+  for (size_t i = 0; i < line->count; i++) mixed = (uint64_t)line->at[i] * MIXING, sum += (mixed ^ mixed >> 32) * MIXING;
   return sum;
 }
 /* A new clause, whose hints are those that were pushed since it was begun. */

@@ -46,7 +46,8 @@ def part_settled(report: Value, part: Value, refuted: Set[Candidate], points: Li
     for it in sorted(part["points"] + points, key=lambda it: in_search_order(candidate_of(it))):
         if not any(is_no_worse(candidate_of(other), candidate_of(it)) for other in found):
             found.append(it)
-    unknown = [it for it in part["unknown"] if tuple(it[:3]) not in gone and not any(is_no_worse(candidate_of(one), tuple(it[:3])) for one in found)]
+    is_covered = lambda candidate: any(is_no_worse(candidate_of(it), candidate) for it in found)
+    unknown = [it for it in part["unknown"] if tuple(it[:3]) not in gone and not is_covered(tuple(it[:3]))]
     marked = [{**it, "mark": mark_of(report, candidate_of(it), set(gone))} for it in found]
     return {"part": part["part"], "points": marked, "refuted": gone, "unknown": unknown}
 
