@@ -82,7 +82,7 @@ def spread(machine: Machine, count: int) -> List[Card]:
     """So many network cards in place of those of the machine, each for as many accelerators, in their order."""
     many = len(machine.names)
     if not 1 <= count <= many:
-        raise Refused(f"a box has 1 to {many} network cards, at most one for each accelerator: --nic-speed is the sum where one has several")
+        raise Refused(f"a box has 1 to {many} network cards, one for each accelerator at most: --nic-speed is the sum where one has more")
     return [Card(f"nic{it}", None, [abs(number * count // many - it) for number in machine.numbers()]) for it in range(count)]
 
 
