@@ -9,7 +9,7 @@ import tempfile
 import threading
 import time
 from dataclasses import dataclass
-from typing import List, Optional, Set
+from typing import List, Optional, Set, Tuple
 
 HERE = os.path.dirname(os.path.abspath(__file__))
 # How solvers that are known are told to print a model and to write a proof as text.
@@ -69,7 +69,7 @@ class Solver:
                 answer.why = f"the solver ended with {status}"
         return answer
 
-    def run(self, words: List[str], seconds: float) -> "tuple[Optional[int], bytes]":
+    def run(self, words: List[str], seconds: float) -> Tuple[Optional[int], bytes]:
         """The status and the output; no status where it took too long."""
         with self.lock:
             if self.is_stopped:
