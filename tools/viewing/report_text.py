@@ -1,5 +1,7 @@
 """The text of a report, read as `sccl json what=report` does."""
 
+NUMBERS = "k", "steps", "chunks", "conflicts"
+
 
 def value_of_text(text):
     """The value of a report's text; ValueError says that it is none, with the line. It may take texts that are none."""
@@ -31,7 +33,7 @@ class Reader:
     def report(self):
         self.holds(self.take() in (["sccl", "1"], ["sccl", "2"]), "it does not begin as one")
         words = dict(it.split("=") for it in self.take()[1:])
-        found = {"words": {key: it if key in ("collective", "root") else int(it) for key, it in words.items()}}
+        found = {"words": {key: int(it) if key in NUMBERS else it for key, it in words.items()}}
         found["topology"] = self.topology()
         found["frontiers"] = self.each("frontier", self.frontier)
         found["joined"] = [it for part in self.each("joined", self.joined) for it in part]

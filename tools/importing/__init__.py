@@ -1,0 +1,1 @@
+"""Machines, as other tools tell of them, and the topologies that come out."""
