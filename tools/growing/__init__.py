@@ -1,1 +1,0 @@
-"""Searches whose limits grow until a point meets the floor."""
