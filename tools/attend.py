@@ -25,6 +25,7 @@ FIRST_AFTER, EACH = 1.0, 0.5
 # A pipe that can take bytes can take so many.
 PIECE = select.PIPE_BUF
 LONGEST_REFUSAL = 64
+LONGEST_TEXT = (1 << 20) + 1
 SET_DEATH_SIGNAL = 1
 CLEAR = "\r\033[K"
 IGNORED_BY_PYTHON = {signal.SIGPIPE, signal.SIGXFSZ}
@@ -57,11 +58,32 @@ class Terminal:
         self.clear()
         self.write(f"sccl: {text}\n")
 
+    def columns(self):
+        try:
+            return os.get_terminal_size(2).columns or 80
+        except OSError:
+            return 80
+
     def write(self, text):
         try:
             os.write(2, text.encode("utf-8", "replace"))
         except OSError:
             self.has_lines = False
+
+
+class Input:
+    """What the program reads, where that is a file that can be read again. Where it stands in the file is left as it is."""
+
+    def __init__(self):
+        self.start = None
+        if is_open(0) and stat.S_ISREG(os.fstat(0).st_mode):
+            self.start = os.lseek(0, 0, os.SEEK_CUR)
+
+    def text(self):
+        try:
+            return None if self.start is None else os.pread(0, LONGEST_TEXT, self.start)
+        except OSError:
+            return None
 
 
 class Output:
@@ -104,7 +126,7 @@ class Run:
     """A run of the program, from its beginning to its end."""
 
     def __init__(self, ignored, program, words):
-        self.words, self.terminal, self.output = words, Terminal(), Output()
+        self.words, self.terminal, self.output, self.input = words, Terminal(), Output(), Input()
         self.status, self.came, self.late = None, [], None
         self.progress = progress_of(words)
         if signal.getsignal(signal.SIGINT) != signal.SIG_IGN:
@@ -189,7 +211,8 @@ class Run:
         """Whatever goes wrong in telling of it, the status is the program's."""
         try:
             if status in STATUSES:
-                self.terminal.say(explanation(status, self.words, self.output.head, place_of_output()))
+                text, columns = self.input.text(), self.terminal.columns()
+                self.terminal.say(explanation(status, self.words, self.output.head, place_of_output(), text, columns))
         finally:
             os._exit(status)
 
