@@ -1,6 +1,8 @@
 """Runs the program for somebody at a terminal: says on standard error how far a long run is, and what its status means.
 
-usage: tools/attend.py IGNORED PROGRAM WORDS..   (IGNORED: the signals that are ignored, as /proc/PID/status has them)
+usage: tools/attend.py IGNORED FROM PROGRAM WORDS..
+
+IGNORED are the signals that are ignored, as /proc/PID/status has them, and FROM is the folder that whoever started it stands in.
 
 To whoever started it this is the program: it has its standard input, its output and its signals, stops and goes on with it, and
 ends as it ends. What the program writes comes through here, so that a refusal is seen, and the line on the terminal is cleared
@@ -125,8 +127,8 @@ class Output:
 class Run:
     """A run of the program, from its beginning to its end."""
 
-    def __init__(self, ignored, program, words):
-        self.words, self.terminal, self.output, self.input = words, Terminal(), Output(), Input()
+    def __init__(self, ignored, origin, program, words):
+        self.origin, self.words, self.terminal, self.output, self.input = origin, words, Terminal(), Output(), Input()
         self.status, self.came, self.late = None, [], None
         self.progress = progress_of(words)
         if signal.getsignal(signal.SIGINT) != signal.SIG_IGN:
@@ -212,7 +214,7 @@ class Run:
         try:
             if status in STATUSES:
                 text, columns = self.input.text(), self.terminal.columns()
-                self.terminal.say(explanation(status, self.words, self.output.head, place_of_output(), text, columns))
+                self.terminal.say(explanation(status, self.words, self.output.head, place_of_output(self.origin), text, columns))
         finally:
             os._exit(status)
 
@@ -270,14 +272,14 @@ def drain(number):
         pass
 
 
-def place_of_output():
-    """Where standard output goes, in words."""
+def place_of_output(origin):
+    """Where standard output goes, in words, as seen from the folder `origin`."""
     if is_open(1) and os.isatty(1):
         return "above"
     if is_open(1) and stat.S_ISREG(os.fstat(1).st_mode):
-        return f"in {shown(os.path.relpath(os.readlink('/proc/self/fd/1')))}"
+        return f"in {shown(os.path.relpath(os.readlink('/proc/self/fd/1'), os.path.realpath(origin)))}"
     return "on standard output"
 
 
 if __name__ == "__main__":
-    Run(int(sys.argv[1], 16), sys.argv[2], sys.argv[3:]).attend()
+    Run(int(sys.argv[1], 16), *sys.argv[2:4], sys.argv[4:]).attend()
