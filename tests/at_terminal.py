@@ -1,9 +1,9 @@
 """Runs words as a shell at a terminal does, one of its own: they are its foreground, and standard error is the terminal.
 
-usage: tests/at_terminal.py [--input FILE] [--output FILE] [--when FILE ACT].. WORDS..
+usage: tests/at_terminal.py [--columns N] [--input FILE] [--output FILE] [--when FILE ACT].. WORDS..
 
 Standard input and standard output are the terminal too where no FILE is named for them. Once the FILE behind --when is there, the
-ACT is done: `interrupt`, `quit` and `stop` press a key, `close` closes the terminal, and `kill` and `terminate` are signals to the
+ACT is done: `enter`, `interrupt`, `quit` and `stop` press a key, `close` closes the terminal, and `kill` and `terminate` are signals to the
 process alone. What was stopped goes on soon. What the terminal got is printed, and the status is that of the words, or 128 and the
 number of the signal that ended them, which then stands last.
 """
@@ -17,7 +17,7 @@ import sys
 import termios
 import time
 
-KEYS = {"interrupt": b"\x03", "quit": b"\x1c", "stop": b"\x1a"}
+KEYS = {"enter": b"\n", "interrupt": b"\x03", "quit": b"\x1c", "stop": b"\x1a"}
 SIGNALS = {"kill": signal.SIGKILL, "terminate": signal.SIGTERM}
 LIMIT = 60
 
@@ -49,7 +49,7 @@ def shell(words, files, writer):
     terminal is closed, and tells of their end."""
     for it in (signal.SIGTTOU, signal.SIGINT, signal.SIGQUIT):
         signal.signal(it, signal.SIG_IGN)
-    fcntl.ioctl(2, termios.TIOCSWINSZ, struct.pack("4H", 50, 200, 0, 0))
+    fcntl.ioctl(2, termios.TIOCSWINSZ, struct.pack("4H", 50, int(files.get("--columns", 200)), 0, 0))
     pid = os.fork()
     if not pid:
         start(words, files)

@@ -21,9 +21,10 @@ import time
 sys.path.insert(0, os.path.dirname(os.path.abspath(__file__)))
 from progress import progress_of
 from refusals import STATUSES, explanation, shown
+from words import what_is_read
 
 OUTPUT_FAILED, NOT_STARTED = 5, 70
-FIRST_AFTER, EACH = 1.0, 0.5
+LOOK_AFTER, FIRST_AFTER, EACH = 0.25, 1.0, 0.5
 # A pipe that can take bytes can take so many.
 PIECE = select.PIPE_BUF
 LONGEST_REFUSAL = 64
@@ -42,14 +43,22 @@ class Terminal:
     def __init__(self):
         self.is_shown, self.has_lines = False, os.environ.get("TERM", "dumb") != "dumb"
 
-    def show(self, text):
-        """Writes the line anew, where there is room for it and this is not in the background."""
+    def is_in_front(self):
         try:
-            if self.has_lines and os.tcgetpgrp(2) == os.getpgrp():
-                self.write(CLEAR + text[: (os.get_terminal_size(2).columns or 80) - 1])
-                self.is_shown = True
+            return os.tcgetpgrp(2) == os.getpgrp()
         except OSError:
-            self.has_lines = False
+            return False
+
+    def show(self, first, parts, last):
+        """Writes the line anew, with as many of its parts as there is room for, where it has any and this is in front."""
+        room = self.columns() - 1
+        for it in parts:
+            if len(f"{first}, {it}, {last}") > room:
+                break
+            first = f"{first}, {it}"
+        if self.has_lines and self.is_in_front() and len(f"{first}, {last}") <= room:
+            self.write(f"{CLEAR}{first}, {last}")
+            self.is_shown = True
 
     def clear(self):
         if self.is_shown:
@@ -130,7 +139,8 @@ class Run:
     def __init__(self, ignored, origin, program, words):
         self.origin, self.words, self.terminal, self.output, self.input = origin, words, Terminal(), Output(), Input()
         self.status, self.came, self.late = None, [], None
-        self.progress = progress_of(words)
+        self.progress = progress_of(words, self.input.text())
+        self.is_waiting_told = self.is_found_told = False
         if signal.getsignal(signal.SIGINT) != signal.SIG_IGN:
             signal.signal(signal.SIGINT, signal.SIG_DFL)
         parent, self.start = os.getpid(), time.monotonic()
@@ -158,21 +168,21 @@ class Run:
 
     def attend(self):
         """Waits for the end, and ends likewise."""
-        next_line = self.start + FIRST_AFTER
+        next_line = self.start + LOOK_AFTER
         while self.status is None or not self.output.is_done():
             readers, writers = self.output.waits_for()
             wait = 0 if self.late else max(0, next_line - time.monotonic())
             readers, writers, _ = select.select([*readers, self.woken], writers, [], wait)
             if self.late and not readers and not writers:
-                self.terminal.clear()
-                die(self.late)
+                self.die(self.late)
             self.turn(self.output.reader in readers, writers)
             if time.monotonic() >= next_line:
-                self.show()
-                next_line = time.monotonic() + EACH
-        self.terminal.clear()
+                self.tell()
+                next_line = time.monotonic() + (EACH if time.monotonic() >= self.start + FIRST_AFTER else FIRST_AFTER - LOOK_AFTER)
         if os.WIFSIGNALED(self.status):
-            die(os.WTERMSIG(self.status))
+            self.die(os.WTERMSIG(self.status))
+        self.tell_of_found()
+        self.terminal.clear()
         self.end(OUTPUT_FAILED if self.output.has_failed else os.WEXITSTATUS(self.status))
 
     def turn(self, can_read, can_write):
@@ -191,10 +201,15 @@ class Run:
         if pid and os.WIFSTOPPED(status):
             self.terminal.clear()
             os.kill(os.getpid(), signal.SIGSTOP)
+            self.forget_stop()
             os.kill(self.pid, signal.SIGCONT)
         elif pid:
             self.status = status
             self.late = os.WTERMSIG(status) if os.WIFSIGNALED(status) else None
+
+    def forget_stop(self):
+        """The key that stopped the program came here too: it is not to stop it again. (A signal's handler has run once this begins.)"""
+        self.came = [it for it in self.came if it != signal.SIGTSTP]
 
     def hand_on(self, number):
         """A signal is the program's; where that has ended, it ends this process too once nobody takes its output."""
@@ -203,11 +218,43 @@ class Run:
         else:
             self.late = number
 
-    def show(self):
-        if self.progress and self.status is None:
-            seconds = int(time.monotonic() - self.start)
-            told = [f"sccl: {self.words[0]}", *self.progress.told(self.pid), f"{seconds // 60}:{seconds % 60:02}"]
-            self.terminal.show(", ".join(told))
+    def tell(self):
+        """Says what there is to say of a run that takes longer."""
+        if self.status is not None:
+            return
+        if self.is_waiting():
+            self.tell_of_waiting()
+            return
+        self.tell_of_found()
+        seconds = int(time.monotonic() - self.start)
+        if self.progress and seconds >= FIRST_AFTER:
+            self.terminal.show(f"sccl: {self.words[0]}", self.progress.told(self.pid), f"{seconds // 60}:{seconds % 60:02}")
+
+    def is_waiting(self):
+        """Whether the program waits for standard input: it is in the system call `read` (0), of file 0."""
+        try:
+            with open(f"/proc/{self.pid}/syscall") as file:
+                return file.read().split()[:2] == ["0", "0x0"]
+        except OSError:
+            return is_open(0) and os.isatty(0) and bool(self.progress) and not self.progress.told(self.pid)
+
+    def tell_of_waiting(self):
+        if not self.is_waiting_told and self.terminal.is_in_front():
+            self.is_waiting_told = True
+            end = ", which control-D ends" if os.isatty(0) else ""
+            self.terminal.say(f"{shown(' '.join(self.words[:1]))} waits for {what_is_read(self.words) or 'a text'} on standard input{end}")
+
+    def tell_of_found(self):
+        text = self.progress.found_before() if self.progress and not self.is_found_told else ""
+        if text:
+            self.is_found_told = True
+            self.terminal.say(text)
+
+    def die(self, number):
+        self.terminal.clear()
+        if number == signal.SIGINT and self.progress and self.progress.left():
+            self.terminal.say(self.progress.left())
+        die(number)
 
     def end(self, status):
         """Whatever goes wrong in telling of it, the status is the program's."""
