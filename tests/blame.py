@@ -66,6 +66,7 @@ TOPOLOGIES = [
     (PATTERN + "before 0 b e\n", 5, 5, "e is none of the nodes a b c", 11, 1),
     (PATTERN + "before\n", 2, 5, "due is before, the chunk's number and names", 0, 6),
     (NODES + "group 1 a>b\n", 10, 3, "", None, 1),
+    (NODES + "group 17 a>b\n", 7, 3, "", None, 1),
 ]
 REPORTS = [
     ("sccl 3\n", 1, 1, "due is sccl 1 or sccl 2", 0, 6),
@@ -122,6 +123,7 @@ WORDS = [
     (f"{SYNTH} root=d", 8, 3, NODES, "a root that is no node of the topology: the nodes are a b c (docs"),
     (f"{SYNTH} root=d", 8, 3, None, "a root that is no node of the topology (docs"),
     ("replay point=2", 9, 1, REPORT, "a point that the report does not have: the report has 1 (docs"),
+    ("replay point=2", 9, 1, REPORT.replace("sccl 1", "sccl 2") + "pattern\n", "the report has 1 (docs"),
     ("degrade group=1 width=0", 14, 1, REPORT, "a group that the topology does not have: the topology has 1, which are numbered from 0 (docs"),
     ("degrade group=0 width=2", 15, 2, REPORT, "a width that is not below the group's: that of group 0 is 2 (docs"),
 ]
