@@ -37,7 +37,7 @@ def main():
         os.close(reader)
         shell(words, files, writer)
     os.close(writer)
-    got, status = watch(terminal, reader, int(os.read(reader, 16)), acts)
+    got, status = watch(terminal, reader, int(b"".join(iter(lambda: os.read(reader, 1), b"\n"))), acts)
     os.waitpid(pid, 0)
     sys.stdout.buffer.write(got + (b"" if os.WIFEXITED(status) else b"(signal %d)" % os.WTERMSIG(status)))
     sys.stdout.flush()
