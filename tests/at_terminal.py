@@ -1,11 +1,11 @@
 """Runs words as a shell at a terminal does, one of its own: they are its foreground, and standard error is the terminal.
 
-usage: tests/at_terminal.py [--input FILE] [--output FILE] [--when FILE ACT].. WORDS..
+usage: tests/at_terminal.py [--columns N] [--input FILE] [--output FILE] [--when FILE ACT | --seen TEXT ACT].. WORDS..
 
-Standard input and standard output are the terminal too where no FILE is named for them. Once the FILE behind --when is there, the
-ACT is done: `interrupt`, `quit` and `stop` press a key, `close` closes the terminal, and `kill` and `terminate` are signals to the
-process alone. What was stopped goes on soon. What the terminal got is printed, and the status is that of the words, or 128 and the
-number of the signal that ended them, which then stands last.
+Standard input and standard output are the terminal too where no FILE is named for them. Once the FILE behind --when is there,
+or the terminal got the TEXT behind --seen, the ACT is done: `enter`, `interrupt`, `quit` and `stop` press a key, `close` closes the
+terminal, and `kill` and `terminate` are signals to the process alone. What was stopped goes on soon. What the terminal got is
+printed, and the status is that of the words, or 128 and the number of the signal that ended them, which then stands last.
 """
 import fcntl
 import os
@@ -17,7 +17,7 @@ import sys
 import termios
 import time
 
-KEYS = {"interrupt": b"\x03", "quit": b"\x1c", "stop": b"\x1a"}
+KEYS = {"enter": b"\n", "interrupt": b"\x03", "quit": b"\x1c", "stop": b"\x1a"}
 SIGNALS = {"kill": signal.SIGKILL, "terminate": signal.SIGTERM}
 LIMIT = 60
 
@@ -25,8 +25,8 @@ LIMIT = 60
 def main():
     words, files, acts = sys.argv[1:], {}, []
     while words[0].startswith("--"):
-        if words[0] == "--when":
-            acts.append((words[1], words[2]))
+        if words[0] in ("--when", "--seen"):
+            acts.append(words[:3])
             words = words[3:]
         else:
             files[words[0]] = words[1]
@@ -37,7 +37,7 @@ def main():
         os.close(reader)
         shell(words, files, writer)
     os.close(writer)
-    got, status = watch(terminal, reader, int(os.read(reader, 16)), acts)
+    got, status = watch(terminal, reader, int(b"".join(iter(lambda: os.read(reader, 1), b"\n"))), acts)
     os.waitpid(pid, 0)
     sys.stdout.buffer.write(got + (b"" if os.WIFEXITED(status) else b"(signal %d)" % os.WTERMSIG(status)))
     sys.stdout.flush()
@@ -49,7 +49,7 @@ def shell(words, files, writer):
     terminal is closed, and tells of their end."""
     for it in (signal.SIGTTOU, signal.SIGINT, signal.SIGQUIT):
         signal.signal(it, signal.SIG_IGN)
-    fcntl.ioctl(2, termios.TIOCSWINSZ, struct.pack("4H", 50, 200, 0, 0))
+    fcntl.ioctl(2, termios.TIOCSWINSZ, struct.pack("4H", 50, int(files.get("--columns", 200)), 0, 0))
     pid = os.fork()
     if not pid:
         start(words, files)
@@ -94,8 +94,8 @@ def watch(terminal, reader, pid, acts):
     while terminal is not None or status is None:
         if time.monotonic() > until:
             sys.exit("no end")
-        if acts and os.path.exists(acts[0][0]):
-            terminal = act(terminal, pid, acts.pop(0)[1])
+        if acts and is_due(acts[0], got):
+            terminal = act(terminal, pid, acts.pop(0)[2])
         found = select.select([it for it in (terminal, reader) if it is not None], [], [], 0.02)[0]
         if terminal in found:
             try:
@@ -106,6 +106,10 @@ def watch(terminal, reader, pid, acts):
             status = int(os.read(reader, 16))
             reader = None
     return got, status
+
+
+def is_due(it, got):
+    return it[1].encode() in got if it[0] == "--seen" else os.path.exists(it[1])
 
 
 def act(terminal, pid, what):

@@ -9,6 +9,7 @@ import sys
 ROOT = os.path.dirname(os.path.dirname(os.path.abspath(__file__)))
 sys.path.insert(0, os.path.join(ROOT, "tools"))
 from refusals import CODES, PLACES, STATUSES
+from words import COMMANDS, VALUES
 
 OF_LAUNCHER = {"0", "70"}
 
@@ -37,6 +38,23 @@ def differences(formats, usage):
     yield from unlike("commands and keys of the page of usage", dict.fromkeys(said), dict.fromkeys(words))
 
 
+def unlike_pages():
+    """What differs between the page of each command and the tables: its keys, those that may be left out, and ranges."""
+    for command, (required, free, reads) in COMMANDS.items():
+        page = read(f"tools/help/{command}.txt")
+        usage = re.search(r"^usage: \./sccl (.*?)(?: < [A-Z]+)?$", page, re.M)[1]
+        due = " ".join([command, *(f"{it}=.." for it in required), *(f"[{it}=..]" for it in free)])
+        rows = dict(re.findall(r"^([a-z]+) {2,}(.*)$", page.split("\n\n", 3)[3], re.M))
+        yield from unlike(f"page of {command}", {"usage": due, "reads": reads, "keys": [*required, *free]},
+                          {"usage": usage, "reads": re.search("^Reads +(.*)$", page, re.M)[1], "keys": list(rows)})
+        for key, text in ((it, text) for it, text in rows.items() if it != "root"):
+            yield from unlike(f"page of {command}, {key}", {"numbers": numbers(VALUES[key]) - {"0"}}, {"numbers": numbers(text) - {"0"}})
+
+
+def numbers(text):
+    return set(re.findall("[0-9]+", text.split(": ")[-1] if "size" not in text else text))
+
+
 def without(rows, keys):
     return {it: text for it, text in rows.items() if it not in keys}
 
@@ -52,7 +70,7 @@ def read(name):
         return it.read()
 
 
-found = list(differences(read("docs/FORMATS.md"), read("tools/usage.txt")))
+found = [*differences(read("docs/FORMATS.md"), read("tools/usage.txt")), *unlike_pages()]
 for it in found:
     print(it)
 sys.exit(bool(found))

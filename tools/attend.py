@@ -1,6 +1,8 @@
 """Runs the program for somebody at a terminal: says on standard error how far a long run is, and what its status means.
 
-usage: tools/attend.py IGNORED PROGRAM WORDS..   (IGNORED: the signals that are ignored, as /proc/PID/status has them)
+usage: tools/attend.py IGNORED FROM PROGRAM WORDS..
+
+IGNORED are the signals that are ignored, as /proc/PID/status has them, and FROM is the folder that whoever started it stands in.
 
 To whoever started it this is the program: it has its standard input, its output and its signals, stops and goes on with it, and
 ends as it ends. What the program writes comes through here, so that a refusal is seen, and the line on the terminal is cleared
@@ -19,12 +21,14 @@ import time
 sys.path.insert(0, os.path.dirname(os.path.abspath(__file__)))
 from progress import progress_of
 from refusals import STATUSES, explanation, shown
+from words import what_is_read
 
 OUTPUT_FAILED, NOT_STARTED = 5, 70
-FIRST_AFTER, EACH = 1.0, 0.5
+LOOK_AFTER, FIRST_AFTER, EACH = 0.25, 1.0, 0.5
 # A pipe that can take bytes can take so many.
 PIECE = select.PIPE_BUF
 LONGEST_REFUSAL = 64
+LONGEST_TEXT = (1 << 20) + 1
 SET_DEATH_SIGNAL = 1
 CLEAR = "\r\033[K"
 IGNORED_BY_PYTHON = {signal.SIGPIPE, signal.SIGXFSZ}
@@ -39,14 +43,22 @@ class Terminal:
     def __init__(self):
         self.is_shown, self.has_lines = False, os.environ.get("TERM", "dumb") != "dumb"
 
-    def show(self, text):
-        """Writes the line anew, where there is room for it and this is not in the background."""
+    def is_in_front(self):
         try:
-            if self.has_lines and os.tcgetpgrp(2) == os.getpgrp():
-                self.write(CLEAR + text[: (os.get_terminal_size(2).columns or 80) - 1])
-                self.is_shown = True
+            return os.tcgetpgrp(2) == os.getpgrp()
         except OSError:
-            self.has_lines = False
+            return False
+
+    def show(self, first, parts, last):
+        """Writes the line anew, with as many of its parts as there is room for, where it has any and this is in front."""
+        room = self.columns() - 1
+        for it in parts:
+            if len(f"{first}, {it}, {last}") > room:
+                break
+            first = f"{first}, {it}"
+        if self.has_lines and self.is_in_front() and len(f"{first}, {last}") <= room:
+            self.write(f"{CLEAR}{first}, {last}")
+            self.is_shown = True
 
     def clear(self):
         if self.is_shown:
@@ -57,11 +69,32 @@ class Terminal:
         self.clear()
         self.write(f"sccl: {text}\n")
 
+    def columns(self):
+        try:
+            return os.get_terminal_size(2).columns or 80
+        except OSError:
+            return 80
+
     def write(self, text):
         try:
             os.write(2, text.encode("utf-8", "replace"))
         except OSError:
             self.has_lines = False
+
+
+class Input:
+    """What the program reads, where that is a file that can be read again. Where it stands in the file is left as it is."""
+
+    def __init__(self):
+        self.start = None
+        if is_open(0) and stat.S_ISREG(os.fstat(0).st_mode):
+            self.start = os.lseek(0, 0, os.SEEK_CUR)
+
+    def text(self):
+        try:
+            return None if self.start is None else os.pread(0, LONGEST_TEXT, self.start)
+        except OSError:
+            return None
 
 
 class Output:
@@ -103,10 +136,11 @@ class Output:
 class Run:
     """A run of the program, from its beginning to its end."""
 
-    def __init__(self, ignored, program, words):
-        self.words, self.terminal, self.output = words, Terminal(), Output()
+    def __init__(self, ignored, origin, program, words):
+        self.origin, self.words, self.terminal, self.output, self.input = origin, words, Terminal(), Output(), Input()
         self.status, self.came, self.late = None, [], None
-        self.progress = progress_of(words)
+        self.progress = progress_of(words, self.input.text())
+        self.is_waiting_told = self.is_found_told = False
         if signal.getsignal(signal.SIGINT) != signal.SIG_IGN:
             signal.signal(signal.SIGINT, signal.SIG_DFL)
         parent, self.start = os.getpid(), time.monotonic()
@@ -134,21 +168,21 @@ class Run:
 
     def attend(self):
         """Waits for the end, and ends likewise."""
-        next_line = self.start + FIRST_AFTER
+        next_line = self.start + LOOK_AFTER
         while self.status is None or not self.output.is_done():
             readers, writers = self.output.waits_for()
             wait = 0 if self.late else max(0, next_line - time.monotonic())
             readers, writers, _ = select.select([*readers, self.woken], writers, [], wait)
             if self.late and not readers and not writers:
-                self.terminal.clear()
-                die(self.late)
+                self.die(self.late)
             self.turn(self.output.reader in readers, writers)
             if time.monotonic() >= next_line:
-                self.show()
-                next_line = time.monotonic() + EACH
-        self.terminal.clear()
+                self.tell()
+                next_line = time.monotonic() + (EACH if time.monotonic() >= self.start + FIRST_AFTER else FIRST_AFTER - LOOK_AFTER)
         if os.WIFSIGNALED(self.status):
-            die(os.WTERMSIG(self.status))
+            self.die(os.WTERMSIG(self.status))
+        self.tell_of_found()
+        self.terminal.clear()
         self.end(OUTPUT_FAILED if self.output.has_failed else os.WEXITSTATUS(self.status))
 
     def turn(self, can_read, can_write):
@@ -167,10 +201,15 @@ class Run:
         if pid and os.WIFSTOPPED(status):
             self.terminal.clear()
             os.kill(os.getpid(), signal.SIGSTOP)
+            self.forget_stop()
             os.kill(self.pid, signal.SIGCONT)
         elif pid:
             self.status = status
             self.late = os.WTERMSIG(status) if os.WIFSIGNALED(status) else None
+
+    def forget_stop(self):
+        """The key that stopped the program came here too: it is not to stop it again. (A signal's handler has run once this begins.)"""
+        self.came = [it for it in self.came if it != signal.SIGTSTP]
 
     def hand_on(self, number):
         """A signal is the program's; where that has ended, it ends this process too once nobody takes its output."""
@@ -179,17 +218,50 @@ class Run:
         else:
             self.late = number
 
-    def show(self):
-        if self.progress and self.status is None:
-            seconds = int(time.monotonic() - self.start)
-            told = [f"sccl: {self.words[0]}", *self.progress.told(self.pid), f"{seconds // 60}:{seconds % 60:02}"]
-            self.terminal.show(", ".join(told))
+    def tell(self):
+        """Says what there is to say of a run that takes longer."""
+        if self.status is not None:
+            return
+        if self.is_waiting():
+            self.tell_of_waiting()
+            return
+        self.tell_of_found()
+        seconds = int(time.monotonic() - self.start)
+        if self.progress and seconds >= FIRST_AFTER:
+            self.terminal.show(f"sccl: {self.words[0]}", self.progress.told(self.pid), f"{seconds // 60}:{seconds % 60:02}")
+
+    def is_waiting(self):
+        """Whether the program waits for standard input: it is in the system call `read` (0), of file 0."""
+        try:
+            with open(f"/proc/{self.pid}/syscall") as file:
+                return file.read().split()[:2] == ["0", "0x0"]
+        except OSError:
+            return is_open(0) and os.isatty(0) and bool(self.progress) and not self.progress.told(self.pid)
+
+    def tell_of_waiting(self):
+        if not self.is_waiting_told and self.terminal.is_in_front():
+            self.is_waiting_told = True
+            end = ", which control-D ends" if os.isatty(0) else ""
+            self.terminal.say(f"{shown(' '.join(self.words[:1]))} waits for {what_is_read(self.words) or 'a text'} on standard input{end}")
+
+    def tell_of_found(self):
+        text = self.progress.found_before() if self.progress and not self.is_found_told else ""
+        if text:
+            self.is_found_told = True
+            self.terminal.say(text)
+
+    def die(self, number):
+        self.terminal.clear()
+        if number == signal.SIGINT and self.progress and self.progress.left():
+            self.terminal.say(self.progress.left())
+        die(number)
 
     def end(self, status):
         """Whatever goes wrong in telling of it, the status is the program's."""
         try:
             if status in STATUSES:
-                self.terminal.say(explanation(status, self.words, self.output.head, place_of_output()))
+                text, columns = self.input.text(), self.terminal.columns()
+                self.terminal.say(explanation(status, self.words, self.output.head, place_of_output(self.origin), text, columns))
         finally:
             os._exit(status)
 
@@ -247,14 +319,14 @@ def drain(number):
         pass
 
 
-def place_of_output():
-    """Where standard output goes, in words."""
+def place_of_output(origin):
+    """Where standard output goes, in words, as seen from the folder `origin`."""
     if is_open(1) and os.isatty(1):
         return "above"
     if is_open(1) and stat.S_ISREG(os.fstat(1).st_mode):
-        return f"in {shown(os.path.relpath(os.readlink('/proc/self/fd/1')))}"
+        return f"in {shown(os.path.relpath(os.readlink('/proc/self/fd/1'), os.path.realpath(origin)))}"
     return "on standard output"
 
 
 if __name__ == "__main__":
-    Run(int(sys.argv[1], 16), sys.argv[2], sys.argv[3:]).attend()
+    Run(int(sys.argv[1], 16), *sys.argv[2:4], sys.argv[4:]).attend()

@@ -1,37 +1,68 @@
 """How far a run is that settles candidates or reads proofs, told by the folder `proofs` and by what the system counts."""
 import os
+import re
 
 FOLDER = "proofs"
+KINDS_OF_FILES = ".cnf", ".lrat", ".partial"
 BLOCK = 1 << 20
 
 
 class Untold:
     """A run that leaves no trace."""
 
-    def __init__(self, words):
+    def __init__(self, words, text):
         pass
 
     def told(self, pid):
+        """What there is to tell, the most useful first."""
         return []
 
+    def found_before(self):
+        """What is to be said of files that stood there and are written over."""
+        return ""
 
-class Search:
+    def left(self):
+        """What an interrupted run leaves."""
+        return ""
+
+
+class Search(Untold):
     """A search: for each candidate it writes a formula and then, line by line, what each conflict taught."""
 
-    def __init__(self, words):
-        self.limit = next((it[len("conflicts="):] for it in words if it.startswith("conflicts=")), "")
+    def __init__(self, words, text):
+        self.asked = dict(it.split("=", 1) for it in words if "=" in it)
+        self.most = most_candidates(self.asked, text)
         self.before = times()
         self.log, self.read, self.conflicts = None, 0, 0
 
     def told(self, pid):
-        """The candidate whose files were written to last, its conflicts, and how many candidates there were before it."""
-        written = {name: at for name, at in times().items() if self.before.get(name) != at}
-        if not written:
+        """How many candidates there were before, the candidate whose files were written to last, and its conflicts."""
+        candidate, settled = self.at()
+        if not candidate:
             return []
-        candidate = stem(max(written, key=written.get))
         self.count(f"{candidate}.partial")
-        settled = len({*map(stem, written)}) - 1
-        return [f"candidate {candidate}", f"{self.conflicts} of {self.limit} conflicts", f"{settled} candidates settled before"]
+        return [f"{settled}{f' of at most {self.most}' if self.most else ''} candidates settled", f"at {candidate}",
+                f"{self.conflicts} of {self.asked.get('conflicts', '')} conflicts"]
+
+    def at(self):
+        """The candidate that is searched, or nothing before the first, and how many were before."""
+        written = {name: at for name, at in times().items() if self.before.get(name) != at}
+        return (stem(max(written, key=written.get)), len({*map(stem, written)}) - 1) if written else ("", 0)
+
+    def found_before(self):
+        if not self.at()[0] or not any(name.endswith(KINDS_OF_FILES) for name in self.before):
+            return ""
+        return (f"the folder {FOLDER} had files of an earlier search, whose report check may deny from now on; "
+                "./sccl -C DIR runs a search in a folder of its own")
+
+    def left(self):
+        candidate, settled = self.at()
+        if not candidate:
+            return f"interrupted; no report is written, and no file of the folder {FOLDER} was changed"
+        self.count(f"{candidate}.partial")
+        return (f"interrupted; no report is written. The folder {FOLDER} has the files of {settled} settled candidate{'s' * (settled != 1)}, "
+                f"and {self.conflicts} conflicts of {candidate}. Started again, the search begins anew; with fewer conflicts for each "
+                "candidate, or tighter limits, it ends sooner")
 
     def count(self, log):
         """Reads on in a candidate's log, which has a line for each conflict."""
@@ -46,10 +77,10 @@ class Search:
             pass
 
 
-class Audit:
+class Audit(Untold):
     """A check of proofs. The system counts the bytes that a process has read."""
 
-    def __init__(self, words):
+    def __init__(self, words, text):
         self.all = sum(it.st_size for it in files().values())
 
     def told(self, pid):
@@ -64,10 +95,22 @@ class Audit:
 KINDS = {"synth": Search, "bound": Search, "check": Audit, "degrade": Audit, "ordered": Untold}
 
 
-def progress_of(words):
-    """What tells how far a run of these words is, made before it begins; or None where a run takes no time worth a line."""
+def progress_of(words, text):
+    """What tells how far a run of these words is, made before it begins; or None where a run takes no time worth a line. `text` is
+    what it reads, or None where that is not at hand."""
     kind = KINDS.get(words[0] if words else "")
-    return kind and kind(words)
+    return kind and kind(words, text)
+
+
+def most_candidates(asked, text):
+    """How many candidates a search has at most, or 0 where that can't be told."""
+    if not all(asked.get(it, "").isdecimal() for it in ("k", "steps", "chunks")):
+        return 0
+    k, steps, chunks = (int(asked[it]) for it in ("k", "steps", "chunks"))
+    nodes = re.search(rb"^nodes (.*)$", text or b"", re.M)
+    if asked.get("collective") == "alltoall" and nodes:
+        chunks //= len(nodes[1].split())
+    return steps * (k + 1) * chunks * (2 if asked.get("collective") == "allreduce" else 1)
 
 
 def stem(name):

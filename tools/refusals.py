@@ -1,7 +1,11 @@
 """What a status of the program means, and what the code and the place of a refusal say: the one table of both, with which
 docs/FORMATS.md has to agree.
 """
+import os
 import re
+
+import blame
+import words as command_words
 
 # Each status that is not 0: when it comes. (Those with a line are refusals.)
 STATUSES = {
@@ -91,20 +95,54 @@ CODES = {
 LINE = re.compile(r"refused (\d+) (\d+) ([a-z0-9-]+)\n")
 # Refusals of words that the page of usage helps with.
 HELPED = (1, 2, 3, 5, 6)
+# Codes that stand for one of several things.
+MANY = {(2, 3), (2, 5), (3, 1), (3, 2), (3, 11), (7, 1), (7, 2), (7, 3), (12, 1)}
 
 
-def explanation(status, words, output, where):
-    """One line on a status from 1 on. `output` is what was written, or how it began, and `where` says where that stands."""
+def explanation(status, words, output, where, text=None, columns=80):
+    """What a status from 1 on means: a line, and behind it the line that is blamed. `output` is what was written, or how it began,
+    `where` says where that stands, and `text` is what was read, or None where that is not at hand."""
     found = LINE.fullmatch(output.decode("latin-1"))
-    said = f"status {status}, {STATUSES[status]}"
+    said, drawn = f"status {status}, {STATUSES[status]}", ""
     if found and int(found[1]) == status in CODES:
         code, place = int(found[2]), found[3]
-        said += f": {blamed(status, place, words)}{CODES[status][code]}"
-        said += "; sccl help is a page of usage" if status == 2 and code in HELPED else ""
+        more, drawn = told_of(status, code, place, words, text, columns)
+        said += f": {blamed(status, place, words)}{told(status, code, more)}"
+        said += f"; {page_for(words)} is a page of usage" if status == 2 and code in HELPED else ""
         said += f' (docs/FORMATS.md, "{PLACES[status][1]}"); the line "{found[0].strip()}" stands {where}'
     elif status == 2:
         said += ": they are not UTF-8; nothing is written"
-    return said.replace("`", "")
+    return said.replace("`", "") + (drawn and f"\n{drawn}")
+
+
+def told(status, code, more):
+    """What the code says, and what is wrong in the case at hand: that alone, where the code stands for one of several things."""
+    text = re.sub("^line [12]( is|: )", lambda it: "it is" if it[1] == " is" else "", CODES[status][code])
+    return more if more and (status, code) in MANY else f"{text}: {more}" if more else text
+
+
+def told_of(status, code, place, words, text, columns):
+    """What is wrong in the case at hand, and the line that is blamed with its mark."""
+    if status == 2:
+        return command_words.fault(code, int(place), words, text), ""
+    if status in (3, 7, 12) and text is not None:
+        return blame.shown_line(status, code, int(place), text, columns)
+    if status == 8 and code == 4:
+        return lacking_files(place), ""
+    return "", ""
+
+
+def lacking_files(candidate):
+    """Which files of a candidate are not in the folder."""
+    names = [f"proofs/{candidate}.{kind}" for kind in ("cnf", "lrat", "partial")]
+    there = [it for it in names if os.path.lexists(it)]
+    if there:
+        return f"{', '.join(it for it in names if it not in there)}"
+    return "nothing of it is in the folder proofs here; the files of a report stand where its search ran"
+
+
+def page_for(words):
+    return f"sccl help {words[0]}" if words and words[0] in command_words.COMMANDS else "sccl help"
 
 
 def blamed(status, place, words):
