@@ -4,23 +4,23 @@ from html import escape
 
 from . import diagram, topology
 from .chart import Chart, legend
+from .report import OTHERS
 from .runs import Run
 from .svg import element, many, table
 
 HERE = os.path.dirname(os.path.abspath(__file__))
 PARTS = {"whole": "", "reduce": "reduce part", "gather": "gather part", "joined": "joined points"}
 HEAD = '<svg width="0" height="0" aria-hidden="true"><defs><marker id="head" viewBox="0 0 8 8" refX="7" refY="4" markerWidth="7" markerHeight="7" markerUnits="userSpaceOnUse" orient="auto"><path d="M0 0.5L8 4L0 7.5z"/></marker></defs></svg>'
-MOST_OPEN_GROUPS = 24
+MOST_OPEN_GROUPS, MOST_OPEN_ROWS = 24, 10
 
 
-def page(report, floor):
-    """The page, which needs no other file. `floor` is None, or what `sccl bound` says of one."""
-    words = report["words"]
-    name = f"{words['collective']} on {many(len(report['topology']['nodes']), 'node')}"
+def page(report, title=None):
+    """The page, which needs no other file. The title is that of the topology."""
+    name = named(report, title)
     points = points_of(report)
     inner = [
         element("h1", escape(name)), element("p", escape(summary(report))),
-        *frontiers(report, floor), *topology_section(report["topology"]),
+        *frontiers(report), *topology_section(report["topology"]),
         *(point_section(number, Run(report, part, it)) for number, (part, it) in enumerate(points, 1)),
         element("footer", element("p", "Drawn by a script, which is tested and not proved. What is right of this report "
                                   "<code>sccl check</code> says, and of one point <code>sccl replay</code>.")),
@@ -42,42 +42,63 @@ def points_of(report):
     return found + [("joined", it) for it in report["joined"]]
 
 
+def named(report, title):
+    return f"{report['words']['collective']} on {title or many(len(report['topology']['nodes']), 'node')}"
+
+
 def summary(report):
     words, frontiers = report["words"], report["frontiers"]
-    count = lambda kind: sum(len(it[kind]) for it in frontiers)
+    count = lambda *kinds: sum(len(it[kind]) for it in frontiers for kind in kinds)
     root = f", root {words['root']}" if "root" in words else ""
+    more = {"cuts": "cuts before the search", "ordered": "chunks that are alike in order"}
+    more = "".join(f", {said}" for key, said in more.items() if key in words)
     joined = f", {many(len(report['joined']), 'joined point')}" if report["joined"] else ""
-    return (f"Searched: at most {many(words['steps'], 'step')}, {many(words['k'], 'round')} more than steps, {many(words['chunks'], 'chunk')}{root}; "
-            f"{words['conflicts']} conflicts for each candidate. Found: {many(count('points'), 'point')}{joined}, {count('refuted')} refuted "
+    return (f"Searched: at most {many(words['steps'], 'step')}, {many(words['k'], 'round')} more than steps, {many(words['chunks'], 'chunk')}{root}{more}; "
+            f"{words['conflicts']} conflicts for each candidate. Found: {many(count('points'), 'point')}{joined}, {count('cut', 'carried', 'refuted')} refuted "
             f"and {count('unknown')} unknown candidates. S-R-C is a candidate of S steps, R rounds in all, and C chunks.")
 
 
 # ---- the frontier
 
 
-def frontiers(report, floor):
+def frontiers(report):
     yield element("h2", "Frontier")
     numbers, steps = {}, report["words"]["steps"]
     for number, (part, it) in enumerate(points_of(report), 1):
         numbers.setdefault(part, []).append((number, it))
     for frontier in report["frontiers"]:
-        yield from frontier_section(frontier["part"], numbers.get(frontier["part"], []), frontier, steps, floor)
+        yield from frontier_section(frontier["part"], numbers.get(frontier["part"], []), frontier, steps)
     if report["joined"]:
-        yield from frontier_section("joined", numbers["joined"], {"refuted": [], "unknown": []}, 2 * steps, None)
+        yield from frontier_section("joined", numbers["joined"], {it: [] for it in OTHERS}, 2 * steps)
 
 
-def frontier_section(part, points, frontier, steps, floor):
+def chart_of(points, frontier, steps):
+    """The chart of a frontier, and the kinds of candidates in it."""
     candidates = [(it["mark"], (it["s"], it["r"], it["c"])) for _, it in points]
-    candidates += [(kind, tuple(it[:3])) for kind in ("refuted", "unknown") for it in frontier[kind]]
+    candidates += [(kind, tuple(it[:3])) for kind in OTHERS for it in frontier[kind]]
+    refuted = sum(len(frontier[it]) for it in ("cut", "carried", "refuted"))
+    said = f"Chart of {many(len(points), 'point')}, {refuted} refuted and {len(frontier['unknown'])} unknown candidates."
+    return Chart(candidates, steps, frontier.get("floor"), said), {kind for kind, _ in candidates}
+
+
+def frontier_section(part, points, frontier, steps):
     if PARTS.get(part):
         yield element("h3", PARTS[part].capitalize())
-    said = f"Chart of {many(len(points), 'point')}, {len(frontier['refuted'])} refuted and {len(frontier['unknown'])} unknown candidates."
-    yield element("figure", Chart(candidates, steps, floor, said).drawn(), legend({kind for kind, _ in candidates}))
+    chart, kinds = chart_of(points, frontier, steps)
+    yield element("figure", chart.drawn(), legend(kinds))
     rows = [candidate_row(it["s"], it["r"], it["c"], f'<a href="#point-{number}">point {number}</a>, {it["mark"]}') for number, it in points]
-    rows += [candidate_row(*it, "refuted: it has no schedule") for it in frontier["refuted"]]
-    rows += [candidate_row(*it[:3], f"unknown: given up after {it[3]} conflicts") for it in frontier["unknown"]]
+    rows += [candidate_row(*it[:3], escape(what_is(kind, it))) for kind in OTHERS for it in frontier[kind]]
     head = "Candidate", "Steps", "Rounds", "Chunks", "Rounds for each chunk", "What it is"
-    yield element("details", element("summary", "All candidates in words"), table(head, rows, class_="candidates"), open="")
+    yield element("details", element("summary", f"All {many(len(rows), 'candidate')} in words"), table(head, rows, class_="candidates"),
+                  open="" if len(rows) <= MOST_OPEN_ROWS else None)
+
+
+def what_is(kind, candidate):
+    if kind == "cut":
+        return f"cut: too little can come into {' '.join(candidate[3])}"
+    if kind == "unknown":
+        return f"unknown: given up after {candidate[3]} conflicts"
+    return {"carried": "carried: refuted before the fault", "refuted": "refuted: it has no schedule"}[kind]
 
 
 def candidate_row(steps, rounds, chunks, said):
