@@ -1,7 +1,7 @@
 """Single figures of a report, each a file of its own that any viewer of SVG shows as the page does."""
 import os
 import re
-from typing import Callable, Dict, List
+from typing import Callable, Dict
 
 from . import diagram, topology
 from .page import HERE, MARKER, chart_of, numbered, points_of
@@ -9,10 +9,6 @@ from .runs import Run
 from .svg import element
 
 VARIABLE = re.compile(r"--([a-z]+): (#[0-9a-f]+);")
-
-
-def names_of(report: dict) -> List[str]:
-    return list(figures(report))
 
 
 def figures(report: dict) -> Dict[str, Callable[[], str]]:

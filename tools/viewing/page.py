@@ -1,4 +1,5 @@
 """The page of a report."""
+import json
 import os
 from html import escape
 
@@ -6,11 +7,12 @@ from . import diagram, topology
 from .chart import Chart, legend
 from .report import OTHERS
 from .runs import Run
-from .svg import element, many, table
+from .svg import element, many, picture, table
 
 HERE = os.path.dirname(os.path.abspath(__file__))
 PARTS = {"whole": "", "reduce": "reduce part", "gather": "gather part", "joined": "joined points"}
-HEAD = '<svg width="0" height="0" aria-hidden="true"><defs><marker id="head" viewBox="0 0 8 8" refX="7" refY="4" markerWidth="7" markerHeight="7" markerUnits="userSpaceOnUse" orient="auto"><path d="M0 0.5L8 4L0 7.5z"/></marker></defs></svg>'
+MARKER = '<marker id="head" viewBox="0 0 8 8" refX="7" refY="4" markerWidth="7" markerHeight="7" markerUnits="userSpaceOnUse" orient="auto"><path d="M0 0.5L8 4L0 7.5z"/></marker>'
+HEAD = f'<svg width="0" height="0" aria-hidden="true"><defs>{MARKER}</defs></svg>'
 MOST_OPEN_GROUPS, MOST_OPEN_ROWS = 24, 10
 
 
@@ -20,15 +22,16 @@ def page(report, title=None):
     points = points_of(report)
     inner = [
         element("h1", escape(name)), element("p", escape(summary(report))),
-        *frontiers(report), *topology_section(report["topology"]),
+        element("div", element("section", *frontiers(report)), element("section", *topology_section(report["topology"])), class_="overview"),
+        *chooser(points),
         *(point_section(number, Run(report, part, it)) for number, (part, it) in enumerate(points, 1)),
         element("footer", element("p", "Drawn by a script, which is tested and not proved. What is right of this report "
                                   "<code>sccl check</code> says, and of one point <code>sccl replay</code>.")),
     ]
-    head = [element("title", escape(f"sccl: {name}")), element("style", read("page.css"))]
+    head = [element("title", escape(f"sccl: {name}")), element("style", read("page.css"), read("figures.css"))]
     return (f'<!DOCTYPE html>\n<html lang="en"><head><meta charset="utf-8">'
             f'<meta name="viewport" content="width=device-width, initial-scale=1">{"".join(head)}</head>\n'
-            f'<body>{HEAD}<main>' + "\n".join(inner) + f'</main>{element("script", read("page.js"))}</body></html>\n')
+            f'<body>{HEAD}<main>' + "\n".join(inner) + f'</main>{element("script", read("page.js"), read("chooser.js"))}</body></html>\n')
 
 
 def read(name):
@@ -61,15 +64,21 @@ def summary(report):
 # ---- the frontier
 
 
-def frontiers(report):
-    yield element("h2", "Frontier")
+def numbered(report):
+    """For each part its points with their numbers, the candidates, and how many steps the chart has."""
     numbers, steps = {}, report["words"]["steps"]
     for number, (part, it) in enumerate(points_of(report), 1):
         numbers.setdefault(part, []).append((number, it))
     for frontier in report["frontiers"]:
-        yield from frontier_section(frontier["part"], numbers.get(frontier["part"], []), frontier, steps)
+        yield frontier["part"], numbers.get(frontier["part"], []), frontier, steps
     if report["joined"]:
-        yield from frontier_section("joined", numbers["joined"], {it: [] for it in OTHERS}, 2 * steps)
+        yield "joined", numbers["joined"], {it: [] for it in OTHERS}, 2 * steps
+
+
+def frontiers(report):
+    yield element("h2", "Frontier")
+    for it in numbered(report):
+        yield from frontier_section(*it)
 
 
 def chart_of(points, frontier, steps):
@@ -114,6 +123,30 @@ def topology_section(value):
     yield element("details", element("summary", f"All {many(len(value['groups']), 'group')} in words"), topology.groups_table(value))
 
 
+# ---- which point for which message
+
+
+def chooser(points):
+    """Of an allreduce the joined points are the ones to choose from. What is drawn a script draws."""
+    joined = any(part == "joined" for part, _ in points)
+    given = [{"name": f"{it['s']}-{it['r']}-{it['c']}", "number": number, "s": it["s"], "r": it["r"], "c": it["c"]}
+             for number, (part, it) in enumerate(points, 1) if part == "joined" or not joined]
+    if not given:
+        return
+    sizes = [element("option", said, value=1024 ** power, selected="" if power == 2 else None) for power, said in enumerate(("B", "KiB", "MiB", "GiB"))]
+    number = lambda name, value: element("input", type="number", name=name, value=value, min=0, step="any")
+    asked = [element("label", "alpha, in microseconds ", number("alpha", 5)), element("label", "bandwidth of a width of 1, in GB/s ", number("bandwidth", 25)),
+             element("label", "message size ", number("size", 1)), element("label", "unit ", element("select", *sizes, name="unit"))]
+    drawn = picture(600, 340, "Time over message size for each point, both axes logarithmic.", class_="times")
+    yield element("h2", "Which point for which message")
+    yield element(
+        "div", element("p", "A model, not a measurement: time = S alpha + (R / C) L beta. Alpha is what a step costs, beta the time of a byte over a "
+                       "link of width 1, and L the bytes that C chunks hold together: of a broadcast or a reduce the whole message, else the share of one node.",
+                       class_="meaning"),
+        element("p", *asked, class_="asked"), element("p", class_="fastest-is", aria_live="polite"), element("figure", drawn),
+        table(("Point", "Candidate", "Fastest from", "To"), (), class_="ranges"), class_="chooser", data_points=json.dumps(given))
+
+
 # ---- a point
 
 
@@ -126,7 +159,8 @@ def point_section(number, run):
     return element(
         "section", element("h2", escape(name)),
         element("p", f"{many(len(point['sends']), 'send')} of {many(len(run.chunks), 'chunk')}. Nodes are rows and steps are columns; an arrow "
-                     f"goes from who sends to who receives, with the numbers of the chunks beside it.{adding}"),
+                     f"goes from who sends to who receives, with the numbers of the chunks beside it. A click on an arrow follows its chunk, one on a name that node, and one in a "
+                     f"step that step; the rest is grey, until Escape.{adding}"),
         slider(number, run), element("figure", diagram.drawn(run, f"Point {number} in time."), tabindex="0"), states(run),
         element("details", element("summary", "The load of each group in each step, of what its width allows"), loads,
                 open="" if len(run.groups) <= MOST_OPEN_GROUPS else None),
@@ -136,7 +170,10 @@ def point_section(number, run):
 def slider(number, run):
     steps = run.point["s"]
     chosen = element("input", type="range", min=0, max=steps, value=0, step=1, aria_label=f"Step of point {number}")
-    return element("p", element("label", f"After step <output>0</output> of {steps} ", chosen), class_="slider")
+    names = [*(f"node {it}" for it in run.nodes), *(f"chunk {it}" for it in run.chunks), *(f"step {it}" for it in run.steps)]
+    options = element("option", "everything", value=""), *(element("option", it, value=it) for it in names)
+    follow = element("label", "Follow ", element("select", *options, aria_label=f"What to follow in point {number}"))
+    return element("p", element("label", f"After step <output>0</output> of {steps} ", chosen), follow, class_="slider")
 
 
 def states(run):

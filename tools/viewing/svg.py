@@ -4,7 +4,7 @@ from html import escape
 VOID = "input", "meta"
 
 
-def element(name, *inner, **attributes):
+def element(name, /, *inner, **attributes):
     """An element; in names of attributes `_` stands for `-`, and `class_` for `class`. What is in it is markup already."""
     said = "".join(f' {key.rstrip("_").replace("_", "-")}="{escape(str(it))}"' for key, it in attributes.items() if it is not None)
     return f"<{name}{said}>" if name in VOID else f"<{name}{said}>{''.join(inner)}</{name}>"
