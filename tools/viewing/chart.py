@@ -4,7 +4,11 @@ from .svg import element, line, many, picture, short, text, title
 WIDTH, HEIGHT, LEFT, RIGHT, TOP, BOTTOM = 600, 340, 56, 24, 20, 46
 RADIUS, APART = 6, 15
 STEPS_OF_SCALE = 0.1, 0.2, 0.5, 1, 2, 5, 10, 20
-MEANING = {"optimal": "optimal point", "open": "open point", "joined": "joined point", "refuted": "refuted: no schedule", "unknown": "unknown: given up"}
+MEANING = {
+    "optimal": "optimal point", "open": "open point", "joined": "joined point", "cut": "cut: below the floor",
+    "carried": "carried: refuted before the fault", "refuted": "refuted: no schedule", "unknown": "unknown: given up",
+}
+POINTS, WITH_A_LINE = ("optimal", "open", "joined"), ("optimal", "open")
 
 
 class Chart:
@@ -52,7 +56,7 @@ class Chart:
 
     def stairs(self):
         """The line along the points."""
-        points = [(steps, rounds / chunks) for kind, (steps, rounds, chunks) in self.candidates if kind in ("optimal", "open")]
+        points = [(steps, rounds / chunks) for kind, (steps, rounds, chunks) in self.candidates if kind in WITH_A_LINE]
         if not points:
             return ""
         places = [f"M{short(self.x(points[0][0]))} {short(self.y(points[0][1]))}"]
@@ -69,7 +73,7 @@ class Chart:
             for place, (kind, names) in enumerate(kinds.items()):
                 x, y = self.x(steps) + APART * place, self.y(ratio)
                 yield element("g", title(f"{MEANING[kind]}: {', '.join(names)}"), mark(kind, x, y), class_=f"mark {kind}")
-                if kind not in ("refuted", "unknown"):
+                if kind in POINTS:
                     yield text(x + 10, y - 9, ", ".join(names), "start", class_="named")
 
 
@@ -80,6 +84,10 @@ def mark(kind, x, y):
         return line(near, y - RADIUS + 1, far, y + RADIUS - 1) + line(near, y + RADIUS - 1, far, y - RADIUS + 1)
     if kind == "unknown":
         return text(x, y + 5, "?")
+    if kind == "cut":
+        return element("path", d=f"M{short(x - 5)} {short(y - 4)}h10l-5 9z")
+    if kind == "carried":
+        return line(x - RADIUS, y, x + RADIUS, y)
     if kind == "joined":
         return element("rect", x=short(x - 5), y=short(y - 5), width="10", height="10")
     return element("circle", cx=short(x), cy=short(y), r=RADIUS)

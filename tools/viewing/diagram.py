@@ -54,7 +54,7 @@ def arrows_of(run, step, start, end, rows):
         beside = ",".join(map(str, found)) if len(named) <= MOST_LETTERS else many(len(found), "chunk")
         place = free_place((start, rows[sender]), (end, rows[receiver]), LETTER * len(beside) + 4, taken)
         taken.append((*place, LETTER * len(beside) + 4))
-        labels.append(text(place[0], place[1] + 4, beside, class_="halo"))
+        labels.append(text(place[0], place[1] + 4, beside, class_="halo", data_send=f"{step} {sender} {receiver} {named}"))
     return arrows, labels
 
 

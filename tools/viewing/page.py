@@ -1,34 +1,37 @@
 """The page of a report."""
+import json
 import os
 from html import escape
 
 from . import diagram, topology
 from .chart import Chart, legend
+from .report import OTHERS
 from .runs import Run
-from .svg import element, many, table
+from .svg import element, many, picture, table
 
 HERE = os.path.dirname(os.path.abspath(__file__))
 PARTS = {"whole": "", "reduce": "reduce part", "gather": "gather part", "joined": "joined points"}
-HEAD = '<svg width="0" height="0" aria-hidden="true"><defs><marker id="head" viewBox="0 0 8 8" refX="7" refY="4" markerWidth="7" markerHeight="7" markerUnits="userSpaceOnUse" orient="auto"><path d="M0 0.5L8 4L0 7.5z"/></marker></defs></svg>'
-MOST_OPEN_GROUPS = 24
+MARKER = '<marker id="head" viewBox="0 0 8 8" refX="7" refY="4" markerWidth="7" markerHeight="7" markerUnits="userSpaceOnUse" orient="auto"><path d="M0 0.5L8 4L0 7.5z"/></marker>'
+HEAD = f'<svg width="0" height="0" aria-hidden="true"><defs>{MARKER}</defs></svg>'
+MOST_OPEN_GROUPS, MOST_OPEN_ROWS = 24, 10
 
 
-def page(report, floor):
-    """The page, which needs no other file. `floor` is None, or what `sccl bound` says of one."""
-    words = report["words"]
-    name = f"{words['collective']} on {many(len(report['topology']['nodes']), 'node')}"
+def page(report, title=None):
+    """The page, which needs no other file. The title is that of the topology."""
+    name = named(report, title)
     points = points_of(report)
     inner = [
         element("h1", escape(name)), element("p", escape(summary(report))),
-        *frontiers(report, floor), *topology_section(report["topology"]),
+        element("div", element("section", *frontiers(report)), element("section", *topology_section(report["topology"])), class_="overview"),
+        *chooser(points),
         *(point_section(number, Run(report, part, it)) for number, (part, it) in enumerate(points, 1)),
         element("footer", element("p", "Drawn by a script, which is tested and not proved. What is right of this report "
                                   "<code>sccl check</code> says, and of one point <code>sccl replay</code>.")),
     ]
-    head = [element("title", escape(f"sccl: {name}")), element("style", read("page.css"))]
+    head = [element("title", escape(f"sccl: {name}")), element("style", read("page.css"), read("figures.css"))]
     return (f'<!DOCTYPE html>\n<html lang="en"><head><meta charset="utf-8">'
             f'<meta name="viewport" content="width=device-width, initial-scale=1">{"".join(head)}</head>\n'
-            f'<body>{HEAD}<main>' + "\n".join(inner) + f'</main>{element("script", read("page.js"))}</body></html>\n')
+            f'<body>{HEAD}<main>' + "\n".join(inner) + f'</main>{element("script", read("page.js"), read("chooser.js"))}</body></html>\n')
 
 
 def read(name):
@@ -42,42 +45,69 @@ def points_of(report):
     return found + [("joined", it) for it in report["joined"]]
 
 
+def named(report, title):
+    return f"{report['words']['collective']} on {title or many(len(report['topology']['nodes']), 'node')}"
+
+
 def summary(report):
     words, frontiers = report["words"], report["frontiers"]
-    count = lambda kind: sum(len(it[kind]) for it in frontiers)
+    count = lambda *kinds: sum(len(it[kind]) for it in frontiers for kind in kinds)
     root = f", root {words['root']}" if "root" in words else ""
+    more = {"cuts": "cuts before the search", "ordered": "chunks that are alike in order"}
+    more = "".join(f", {said}" for key, said in more.items() if key in words)
     joined = f", {many(len(report['joined']), 'joined point')}" if report["joined"] else ""
-    return (f"Searched: at most {many(words['steps'], 'step')}, {many(words['k'], 'round')} more than steps, {many(words['chunks'], 'chunk')}{root}; "
-            f"{words['conflicts']} conflicts for each candidate. Found: {many(count('points'), 'point')}{joined}, {count('refuted')} refuted "
+    return (f"Searched: at most {many(words['steps'], 'step')}, {many(words['k'], 'round')} more than steps, {many(words['chunks'], 'chunk')}{root}{more}; "
+            f"{words['conflicts']} conflicts for each candidate. Found: {many(count('points'), 'point')}{joined}, {count('cut', 'carried', 'refuted')} refuted "
             f"and {count('unknown')} unknown candidates. S-R-C is a candidate of S steps, R rounds in all, and C chunks.")
 
 
 # ---- the frontier
 
 
-def frontiers(report, floor):
-    yield element("h2", "Frontier")
+def numbered(report):
+    """For each part its points with their numbers, the candidates, and how many steps the chart has."""
     numbers, steps = {}, report["words"]["steps"]
     for number, (part, it) in enumerate(points_of(report), 1):
         numbers.setdefault(part, []).append((number, it))
     for frontier in report["frontiers"]:
-        yield from frontier_section(frontier["part"], numbers.get(frontier["part"], []), frontier, steps, floor)
+        yield frontier["part"], numbers.get(frontier["part"], []), frontier, steps
     if report["joined"]:
-        yield from frontier_section("joined", numbers["joined"], {"refuted": [], "unknown": []}, 2 * steps, None)
+        yield "joined", numbers["joined"], {it: [] for it in OTHERS}, 2 * steps
 
 
-def frontier_section(part, points, frontier, steps, floor):
+def frontiers(report):
+    yield element("h2", "Frontier")
+    for it in numbered(report):
+        yield from frontier_section(*it)
+
+
+def chart_of(points, frontier, steps):
+    """The chart of a frontier, and the kinds of candidates in it."""
     candidates = [(it["mark"], (it["s"], it["r"], it["c"])) for _, it in points]
-    candidates += [(kind, tuple(it[:3])) for kind in ("refuted", "unknown") for it in frontier[kind]]
+    candidates += [(kind, tuple(it[:3])) for kind in OTHERS for it in frontier[kind]]
+    refuted = sum(len(frontier[it]) for it in ("cut", "carried", "refuted"))
+    said = f"Chart of {many(len(points), 'point')}, {refuted} refuted and {len(frontier['unknown'])} unknown candidates."
+    return Chart(candidates, steps, frontier.get("floor"), said), {kind for kind, _ in candidates}
+
+
+def frontier_section(part, points, frontier, steps):
     if PARTS.get(part):
         yield element("h3", PARTS[part].capitalize())
-    said = f"Chart of {many(len(points), 'point')}, {len(frontier['refuted'])} refuted and {len(frontier['unknown'])} unknown candidates."
-    yield element("figure", Chart(candidates, steps, floor, said).drawn(), legend({kind for kind, _ in candidates}))
+    chart, kinds = chart_of(points, frontier, steps)
+    yield element("figure", chart.drawn(), legend(kinds))
     rows = [candidate_row(it["s"], it["r"], it["c"], f'<a href="#point-{number}">point {number}</a>, {it["mark"]}') for number, it in points]
-    rows += [candidate_row(*it, "refuted: it has no schedule") for it in frontier["refuted"]]
-    rows += [candidate_row(*it[:3], f"unknown: given up after {it[3]} conflicts") for it in frontier["unknown"]]
+    rows += [candidate_row(*it[:3], escape(what_is(kind, it))) for kind in OTHERS for it in frontier[kind]]
     head = "Candidate", "Steps", "Rounds", "Chunks", "Rounds for each chunk", "What it is"
-    yield element("details", element("summary", "All candidates in words"), table(head, rows, class_="candidates"), open="")
+    yield element("details", element("summary", f"All {many(len(rows), 'candidate')} in words"), table(head, rows, class_="candidates"),
+                  open="" if len(rows) <= MOST_OPEN_ROWS else None)
+
+
+def what_is(kind, candidate):
+    if kind == "cut":
+        return f"cut: too little can come into {' '.join(candidate[3])}"
+    if kind == "unknown":
+        return f"unknown: given up after {candidate[3]} conflicts"
+    return {"carried": "carried: refuted before the fault", "refuted": "refuted: it has no schedule"}[kind]
 
 
 def candidate_row(steps, rounds, chunks, said):
@@ -93,6 +123,30 @@ def topology_section(value):
     yield element("details", element("summary", f"All {many(len(value['groups']), 'group')} in words"), topology.groups_table(value))
 
 
+# ---- which point for which message
+
+
+def chooser(points):
+    """Of an allreduce the joined points are the ones to choose from. What is drawn a script draws."""
+    joined = any(part == "joined" for part, _ in points)
+    given = [{"name": f"{it['s']}-{it['r']}-{it['c']}", "number": number, "s": it["s"], "r": it["r"], "c": it["c"]}
+             for number, (part, it) in enumerate(points, 1) if part == "joined" or not joined]
+    if not given:
+        return
+    sizes = [element("option", said, value=1024 ** power, selected="" if power == 2 else None) for power, said in enumerate(("B", "KiB", "MiB", "GiB"))]
+    number = lambda name, value: element("input", type="number", name=name, value=value, min=0, step="any")
+    asked = [element("label", "alpha, in microseconds ", number("alpha", 5)), element("label", "bandwidth of a width of 1, in GB/s ", number("bandwidth", 25)),
+             element("label", "message size ", number("size", 1)), element("label", "unit ", element("select", *sizes, name="unit"))]
+    drawn = picture(600, 340, "Time over message size for each point, both axes logarithmic.", class_="times")
+    yield element("h2", "Which point for which message")
+    yield element(
+        "div", element("p", "A model, not a measurement: time = S alpha + (R / C) L beta. Alpha is what a step costs, beta the time of a byte over a "
+                       "link of width 1, and L the bytes that C chunks hold together: of a broadcast or a reduce the whole message, else the share of one node.",
+                       class_="meaning"),
+        element("p", *asked, class_="asked"), element("p", class_="fastest-is", aria_live="polite"), element("figure", drawn),
+        table(("Point", "Candidate", "Fastest from", "To"), (), class_="ranges"), class_="chooser", data_points=json.dumps(given))
+
+
 # ---- a point
 
 
@@ -105,7 +159,8 @@ def point_section(number, run):
     return element(
         "section", element("h2", escape(name)),
         element("p", f"{many(len(point['sends']), 'send')} of {many(len(run.chunks), 'chunk')}. Nodes are rows and steps are columns; an arrow "
-                     f"goes from who sends to who receives, with the numbers of the chunks beside it.{adding}"),
+                     f"goes from who sends to who receives, with the numbers of the chunks beside it. A click on an arrow follows its chunk, one on a name that node, and one in a "
+                     f"step that step; the rest is grey, until Escape.{adding}"),
         slider(number, run), element("figure", diagram.drawn(run, f"Point {number} in time."), tabindex="0"), states(run),
         element("details", element("summary", "The load of each group in each step, of what its width allows"), loads,
                 open="" if len(run.groups) <= MOST_OPEN_GROUPS else None),
@@ -115,7 +170,10 @@ def point_section(number, run):
 def slider(number, run):
     steps = run.point["s"]
     chosen = element("input", type="range", min=0, max=steps, value=0, step=1, aria_label=f"Step of point {number}")
-    return element("p", element("label", f"After step <output>0</output> of {steps} ", chosen), class_="slider")
+    names = [*(f"node {it}" for it in run.nodes), *(f"chunk {it}" for it in run.chunks), *(f"step {it}" for it in run.steps)]
+    options = element("option", "everything", value=""), *(element("option", it, value=it) for it in names)
+    follow = element("label", "Follow ", element("select", *options, aria_label=f"What to follow in point {number}"))
+    return element("p", element("label", f"After step <output>0</output> of {steps} ", chosen), follow, class_="slider")
 
 
 def states(run):

@@ -2,9 +2,12 @@
 import json
 import re
 
-from .report_text import value_of_text
+from .cuts import floors, is_cut
+from .report_text import SEARCHES, value_of_text
 
 KEYS = "frontiers", "joined", "topology", "words"
+# The lists of candidates without a point.
+OTHERS = "cut", "carried", "refuted", "unknown"
 # The greatest number of a report, which is one of conflicts; and the most steps and rounds of a schedule.
 GREATEST, STEPS, ROUNDS = 100_000, 16, 144
 FLOOR = re.compile(r"floor ([0-9]{1,9}) ([0-9]{1,9})((?: [a-z0-9_]{1,16})*)")
@@ -14,11 +17,47 @@ class NoReport(Exception):
     """The bytes are no report, for the reason that is given."""
 
 
-def report_of(text):
-    """The value that the bytes stand for: JSON, or the text of a report."""
+def drawn_of(texts):
+    """The value of what is given, in whatever order: a report or its JSON, with a text of `bound` or without; or a text of `bound`,
+    `ordered` or `degrade`, the first two with their topology. Each frontier has its floor if one is known, and the candidates
+    below it stand under `cut` with the nodes that show it."""
+    kinds = {}
+    for it in texts:
+        if kinds.setdefault(kind_of(it), it) is not it:
+            raise NoReport(f"{kind_of(it)} is given twice")
+    report, search, topology = (kinds.get(it) for it in ("a report", "a search", "a topology"))
+    if report is None and search is None:
+        raise NoReport("it is no report: none is given")
+    if report is not None and topology is not None:
+        raise NoReport("a report has a topology of its own: give no other")
+    if report is None:
+        return with_floors(report_of(search, topology))
+    return with_floors(report_of(report), floor_of(search) if search is not None else None)
+
+
+def kind_of(text):
+    first = text.split(b"\n", 1)[0].decode("latin-1")
+    return "a search" if first in SEARCHES else "a topology" if first.startswith("topology ") else "a report"
+
+
+def with_floors(report, floor=None):
+    """The report with what lies below the floors, of which one may be given for the part that is the whole."""
+    told = floor or report.get("floor")
+    known = {"whole": told} if told else floors(report) if report["words"].get("cuts") == "yes" else {}
+    for frontier in report["frontiers"]:
+        at = frontier["floor"] = known.get(frontier["part"])
+        below = [it for it in frontier["refuted"] if at and is_cut(at, it[1], it[2])]
+        frontier["cut"] = frontier.get("cut", []) + [[*it, at[2]] for it in below]
+        frontier["refuted"] = [it for it in frontier["refuted"] if it not in below]
+        frontier.setdefault("carried", [])
+    return report
+
+
+def report_of(text, topology=None):
+    """The value that the bytes stand for: JSON, or a text."""
     try:
         if not text.lstrip().startswith(b"{"):
-            return within(value_of_text(text.decode("ascii")))
+            return within(value_of_text(text.decode("ascii"), None if topology is None else topology.decode("ascii")))
         found = json.loads(text)
         return within({it: found[it] for it in KEYS})
     except (ValueError, KeyError, RecursionError) as why:
@@ -30,7 +69,7 @@ def within(report):
     if any(it > GREATEST for it in numbers_in(report)):
         raise NoReport(f"a number is greater than {GREATEST}")
     points = [it for part in report["frontiers"] for it in part["points"]] + report["joined"]
-    others = [it for part in report["frontiers"] for it in (*part["refuted"], *part["unknown"])]
+    others = [it for part in report["frontiers"] for kind in OTHERS for it in part.get(kind, [])]
     sizes = [(report["words"]["steps"], 0), *((it["s"], it["r"]) for it in points), *((it[0], it[1]) for it in others)]
     if any(steps > STEPS or rounds > ROUNDS for steps, rounds in sizes):
         raise NoReport(f"a candidate has more than {STEPS} steps or {ROUNDS} rounds")

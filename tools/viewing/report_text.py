@@ -1,13 +1,18 @@
-"""The text of a report, read as `sccl json what=report` does."""
+"""The text of a report, or of `bound`, `ordered` and `degrade`, read as `sccl json what=report` does."""
 
 NUMBERS = "k", "steps", "chunks", "conflicts"
+# The words behind the limits that are given by `yes` alone.
+KEYS_WITH_YES = "cuts", "ordered"
+REPORTS, SEARCHES = ("sccl 1", "sccl 2"), ("bound 1", "ordered 1", "degraded 1")
 
 
-def value_of_text(text):
-    """The value of a report's text; ValueError says that it is none, with the line. It may take texts that are none."""
-    reader = Reader(text)
+def value_of_text(text, topology=None):
+    """The value of a text, whose topology is that of the second text if it has none of its own. ValueError says that it is none,
+    with the line. It may take texts that are none. What `bound` cut stands under `cut` with the names of the set, what `degrade`
+    carried under `carried`, and the floor under `floor`."""
+    reader, other = Reader(text), None if topology is None else Reader(topology)
     try:
-        return reader.report()
+        return reader.search(other) if reader.lines[0] in SEARCHES else reader.report()
     except (ValueError, IndexError) as why:
         raise ValueError(f"line {reader.at}: {why}") from None
 
@@ -31,14 +36,31 @@ class Reader:
         return found
 
     def report(self):
-        self.holds(self.take() in (["sccl", "1"], ["sccl", "2"]), "it does not begin as one")
-        words = dict(it.split("=") for it in self.take()[1:])
-        found = {"words": {key: int(it) if key in NUMBERS else it for key, it in words.items()}}
-        found["topology"] = self.topology()
+        self.holds(" ".join(self.take()) in REPORTS, "it does not begin as one")
+        found = {"words": self.words(), "topology": self.topology()}
         found["frontiers"] = self.each("frontier", self.frontier)
         found["joined"] = [it for part in self.each("joined", self.joined) for it in part]
         self.holds(self.take() == ["end"], "it does not end as one")
         return found
+
+    def search(self, other):
+        """What `bound`, `ordered` and `degrade` print."""
+        kind = self.take()[0]
+        found = {"words": self.words()}
+        if kind == "bound":
+            _, most, least, *names = self.take()
+            found["floor"] = int(most), int(least), names
+        self.holds(kind == "degraded" or other is not None, f"a text of {kind} has no topology: give that of the search too")
+        found["topology"] = self.topology() if kind == "degraded" else other.topology()
+        found["frontiers"], found["joined"] = self.each("frontier", self.frontier), []
+        self.holds(self.take() == ["end"], "it does not end as one")
+        return found
+
+    def words(self):
+        _, *given = self.take()
+        words = dict(it.split("=") for it in given)
+        self.holds(all(words.get(it, "yes") == "yes" for it in KEYS_WITH_YES), "`cuts` and `ordered` are given by `yes`")
+        return {key: int(it) if key in NUMBERS else it for key, it in words.items()}
 
     def holds(self, test, otherwise):
         if not test:
@@ -57,8 +79,13 @@ class Reader:
 
     def frontier(self):
         part = self.take()[1]
-        return {"part": part, "points": self.each("point", self.point), "refuted": self.each("refuted", self.numbers),
+        return {"part": part, "points": self.each("point", self.point), "cut": self.each("cut", self.cut),
+                "carried": self.each("carried", self.numbers), "refuted": self.each("refuted", self.numbers),
                 "unknown": self.each("unknown", self.numbers)}
+
+    def cut(self):
+        _, steps, rounds, chunks, *names = self.take()
+        return [int(steps), int(rounds), int(chunks), names]
 
     def joined(self):
         self.take()

@@ -4,7 +4,7 @@ from html import escape
 VOID = "input", "meta"
 
 
-def element(name, *inner, **attributes):
+def element(name, /, *inner, **attributes):
     """An element; in names of attributes `_` stands for `-`, and `class_` for `class`. What is in it is markup already."""
     said = "".join(f' {key.rstrip("_").replace("_", "-")}="{escape(str(it))}"' for key, it in attributes.items() if it is not None)
     return f"<{name}{said}>" if name in VOID else f"<{name}{said}>{''.join(inner)}</{name}>"
@@ -22,9 +22,9 @@ def title(said):
     return element("title", escape(said))
 
 
-def picture(width, height, said, *inner, **attributes):
+def picture(width, height, said, *inner, left=0, top=0, **attributes):
     """A picture of its own size, which is named in words."""
-    return element("svg", title(said), *inner, viewBox=f"0 0 {short(width)} {short(height)}", width=short(width), height=short(height),
+    return element("svg", title(said), *inner, viewBox=f"{short(left)} {short(top)} {short(width)} {short(height)}", width=short(width), height=short(height),
                    role="img", aria_label=said, **attributes)
 
 

@@ -1,0 +1,1 @@
+"""What tests/view looks at a page with."""
