@@ -47,6 +47,7 @@ SHAPES = {"optimal": "circle", "open": "circle", "joined": "rect", "cut": "path"
 def check_chart(name, chart, points, count, floor=None):
     """`points` are the candidates of the points with their marks, in their order; `floor` the two numbers of one that is known."""
     across, up = axes_of(chart)
+    count.equal(f"{name}: it is upright", (across(1) > across(0), up(0) > up(1)), (True, True))
     near = lambda found, wanted: abs(found - wanted) < 0.02 * max(1.0, wanted)
     seen = {}
     for it in chart.all("g"):
