@@ -5,8 +5,7 @@ ghost use Rattle.system_calls.specs.Untold.{no_disk};
 
 use outer_ports::FileCalls;
 use std::fs::{File, Metadata, OpenOptions};
-use std::io::{ErrorKind, Write};
-use std::os::fd::IntoRawFd;
+use std::io::Write;
 use std::os::unix::fs::FileExt;
 use std::{fs, io};
 
@@ -79,11 +78,9 @@ impl FileCalls for SystemFiles<'_> {
         file.write(piece)
     }
 
-    /// `close`.
+    /// `close`, as the file is dropped. The library does not tell whether it failed.
     fn close(&mut self, file: File) -> io::Result<()> {
-        match libc::close(file.into_raw_fd()) {
-            0 => Ok(()),
-            _ => Err(io::Error::from(ErrorKind::Other)),
-        }
+        drop(file);
+        Ok(())
     }
 }
