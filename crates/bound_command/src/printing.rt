@@ -11,7 +11,7 @@ ghost use Rattle.run_rules.specs.Bounds.{bound_text, cut_words, floor_words, nam
 
 use bound_search::Bounds;
 use candidate_order::Candidate;
-use cut_bounds::{Cut, Floor, has_node};
+use cut_bounds::{Cut, Floor, Sets, has_node};
 use report_form::Words;
 use report_printing::{
     push_all_refuted, push_all_unknown, push_candidate, push_points, push_synth_line,
@@ -88,10 +88,11 @@ pub(crate) fn print_bounds(
     alloc: Global,
     words: Words,
     topology: &NamedTopology,
+    sets: Sets,
     bounds: &Bounds,
 ) -> Result<Vec<u8>, AllocError>
-    requires bounds { AreBounds (question_of words topology.now Whole) bounds.now }
-    ensures { IfOk result (λ v. v.items ≡ bound_text words topology.now bounds.now.frontier) }
+    requires bounds { AreBounds sets (question_of words topology.now Whole) bounds.now }
+    ensures { IfOk result (λ v. v.items ≡ bound_text words topology.now sets bounds.now.frontier) }
 {
     let names = topology.names();
     let mut out = Vec::new(alloc);

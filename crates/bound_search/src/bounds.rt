@@ -4,7 +4,7 @@ use candidate_order::Frontier;
 use cut_bounds::{Floor, RefutedParts};
 
 /// The frontier of a collective, and what cuts say of it: its refuted candidates, parted by whether
-/// a listed set of nodes refutes them, and how many rounds each schedule has at least for its chunk
+/// a set of nodes refutes them, and how many rounds each schedule has at least for its chunk
 /// count.
 #[derive(Drop)]
 pub struct Bounds {

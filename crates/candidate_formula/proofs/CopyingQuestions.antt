@@ -1,7 +1,8 @@
 -- The question that copies in place of one that is asked.
-use Rattle.std.proofs.Common.{◌≡◌, ◌≢◌, ℕ, ◌+◌, ◌*◌, ◌≤◌, true, sym, ap, ◌∙◌, subst}
-use Rattle.std.specs.Prelude.{IsTrue, if◌then◌else◌, length, sum_by}
+use Rattle.std.proofs.Common.{◌≡◌, ◌≢◌, ℕ, ◌+◌, ◌*◌, ◌≤◌, Bool, true, sym, ap, ◌∙◌, subst}
+use Rattle.std.specs.Prelude.{◌↔◌, IsTrue, if◌then◌else◌, length, sum_by}
 use Rattle.schedule.specs.Links.{TopologyValue, IsTopology, usable_links, reversed_of}
+use Rattle.schedule.specs.Sends.{ScheduleValue}
 use Rattle.collective_spec.specs.declared.kind.Kind.TheVariants as kind
 use Rattle.collective_spec.specs.declared.instance.Instance.{Instance}
 use Rattle.collective_spec.specs.declared.spec.Spec.{Spec}
@@ -11,13 +12,13 @@ use Rattle.candidate_order.specs.declared.candidate.Candidate.{Candidate}
 use Rattle.candidate_order.specs.Ranges.{LimitsValue, IsLimits}
 use Rattle.candidate_order.specs.Frontiers.{QuestionValue, IsWithin, instance_for}
 use Rattle.candidate_order.specs.Copied.{copied_question}
-use Rattle.round_encoding.specs.Rounding.{formula_of}
 use Rattle.round_encoding.specs.Candidates.{group_size, size_limit}
-use Rattle.candidate_formula.specs.Formulas.{formula_for}
+use Rattle.chunk_order.specs.Alike.{Ordered}
+use Rattle.candidate_formula.specs.Formulas.{formula_for, Suits}
 use Rattle.candidate_formula.specs.Sizes.{size_of}
 use Rattle.candidate_formula.specs.Questions.{IsSmallQuestion, copying_question}
 use Rattle.candidate_formula.proofs.Copying.{copies, copied_keeps, same_chunks, same_instance}
-use Rattle.candidate_formula.proofs.Exact.{copied_formula}
+use Rattle.candidate_formula.proofs.Exact.{asked_formula, copied_formula}
 
 module _ (t : TopologyValue) (s : Spec) (limits : LimitsValue) where
   -- the question over these links as it is asked
@@ -53,6 +54,15 @@ within_by t limits x a b same w = record {
 -- the same formula stands for a reduction and for what copies over the links turned round
 pub reduced_formula : (q : QuestionValue) (x : Candidate) → adds_up q.spec ≡ true → kind_in q.spec ≢ kind.Allreduce → formula_for (copied_question q) x ≡ formula_for q x
 reduced_formula q x adds single =
+    let ordered : Bool = q.limits.pruning.ordered in
     copied_formula (copied_question q) x (copies q.spec single)
-    ∙ ap (λ (i : Instance). formula_of (reversed_of q.topology) i.pre i.post x.s x.r) (same_instance q.spec q.topology.nodes x.c)
-    ∙ sym (ap (λ b. formula_of (if b then reversed_of q.topology else q.topology) (instance_for q x).pre (instance_for q x).post x.s x.r) adds)
+    ∙ ap (λ (i : Instance). asked_formula ordered (reversed_of q.topology) i.pre i.post x.s x.r) (same_instance q.spec q.topology.nodes x.c)
+    ∙ sym (ap (λ b. asked_formula ordered (if b then reversed_of q.topology else q.topology) (instance_for q x).pre (instance_for q x).post x.s x.r) adds)
+
+-- and the same is asked of schedules
+pub copied_suits : (q : QuestionValue) (x : Candidate) (s : ScheduleValue) → Suits (copied_question q) x s ↔ Suits q x s
+copied_suits q x s =
+    let same = same_instance q.spec q.topology.nodes x.c in (
+      λ suits ordered. subst (λ (i : Instance). Ordered i.pre i.post s) same (suits ordered),
+      λ suits ordered. subst (λ (i : Instance). Ordered i.pre i.post s) (sym same) (suits ordered),
+    )

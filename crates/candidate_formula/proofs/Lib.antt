@@ -2,8 +2,10 @@ pub mod Sought
 pub mod Bounded
 pub mod Exact
 pub mod Copying
-pub mod Encoded
+pub mod Made
+pub mod Suited
 pub mod CopyingQuestions
+pub mod CutAway
 pub mod ReadBack
 pub mod Short
 pub mod Links

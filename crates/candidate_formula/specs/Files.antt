@@ -1,5 +1,5 @@
 -- Files of formulas and proofs, and what they have to be beside what a search says (this project's own).
-use Rattle.std.specs.Prelude.{◌≡◌, ◌≤◌, ℕ, List, [], length, map, All, Some, Ok}
+use Rattle.std.specs.Prelude.{◌≡◌, ◌≤◌, ℕ, false, List, [], length, map, All, Some, Ok}
 use Rattle.outer_ports.specs.declared.part.Part.{Part}
 use Rattle.outer_ports.specs.declared.proof_name.FileKind.{FileKind}
 use Rattle.outer_ports.specs.declared.proof_name.FileKind.TheVariants.{Cnf, Lrat, Partial}
@@ -13,6 +13,7 @@ use Rattle.cnf_formula.specs.declared.line.LratLine.TheVariants.{Addition}
 use Rattle.proof_rules.specs.Refuting.{Refutes, SpentLog}
 use Rattle.lrat_text.specs.Printing.{cnf_text}
 use Rattle.candidate_formula.specs.Formulas.{formula_for}
+use Rattle.candidate_formula.specs.Pruned.{is_cut_away}
 use Rattle.candidate_formula.specs.Lines.{lines_of_text}
 
 -- the name of a candidate's file
@@ -66,8 +67,8 @@ pub record UnknownFiles (part : Part) (q : QuestionValue) (files : Files) (u : U
   pub no_proof : files (file_of Lrat part u.candidate) ≡ Some []
   pub log : HasLog part q files u
 
--- of each candidate of a frontier
+-- of each candidate of a frontier, but not of a refuted one that is cut away
 pub record FrontierFiles (part : Part) (q : QuestionValue) (files : Files) (f : FrontierValue) : Type 0 where
   pub solved : All (SolvedFiles part q files) (solved f)
-  pub refuted : All (RefutedFiles part q files) f.refuted
+  pub refuted : All (λ x. is_cut_away q x ≡ false → RefutedFiles part q files x) f.refuted
   pub unknown : All (UnknownFiles part q files) f.unknown

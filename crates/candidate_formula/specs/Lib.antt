@@ -1,8 +1,11 @@
 pub mod Formulas
+pub mod Encodings
 pub mod Sizes
 pub mod Questions
+pub mod Searched
 pub mod Counts
 pub mod Lines
+pub mod Pruned
 pub mod Files
 pub mod Begun
 pub mod Logs

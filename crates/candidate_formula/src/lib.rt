@@ -3,6 +3,7 @@
 #![tactic(auto)]
 
 mod counts;
+mod cut_laws;
 mod encoding;
 mod laws;
 mod log_laws;
@@ -12,14 +13,17 @@ mod size;
 mod vectors;
 
 pub use counts::allowed_counts;
-pub use encoding::encode_candidate;
+pub use cut_laws::{what_is_cut_away_has_no_schedule, what_is_searched_is_cut};
+pub use encoding::{Encoded, encode_candidate};
 pub use laws::{
-    candidates_are_small, formulas_are_exact, reductions_are_sought_by_copying,
-    tight_solutions_solve,
+    candidates_are_small, formulas_are_exact, questions_have_exact_ordered_formulas,
+    reductions_are_sought_by_copying, suited_schedules_suffice, tight_solutions_solve,
 };
 pub use log_laws::{logs_are_read_back, logs_are_short};
 pub use naming::file_name;
 pub use searched::{links_to_search, own_links_to_search};
 pub use size::size_number;
 pub use std::alloc::AllocError as OutOfMemory;
-pub use vectors::{counts_on_four_nodes, sizes_on_the_line_of_3};
+pub use vectors::{
+    counts_on_four_nodes, sizes_on_the_line_of_3, three_chunks_are_cut_away_on_the_line_of_3,
+};

@@ -7,12 +7,12 @@ use Rattle.collective_spec.specs.declared.kind.Kind.{Kind}
 use Rattle.collective_spec.specs.declared.spec.Spec.TheVariants.{Standard, Custom}
 use Rattle.candidate_order.specs.declared.candidate.Candidate.{Candidate}
 use Rattle.candidate_order.specs.declared.mark.Mark.TheVariants.{Optimal}
-use Rattle.candidate_order.specs.Ranges.{LimitsValue}
+use Rattle.candidate_order.specs.Ranges.{LimitsValue, unpruned}
 use Rattle.candidate_order.specs.Frontiers.{QuestionValue, FrontierValue}
 
 -- no extra rounds, one step, one chunk, a thousand conflicts
 abbrev pub smallest_limits : LimitsValue
-smallest_limits = record { k = 0; max_s = 1; max_c = 1; conflicts = 1000 }
+smallest_limits = record { k = 0; max_s = 1; max_c = 1; conflicts = 1000; pruning = unpruned }
 
 -- a candidate by its steps, rounds and chunks
 abbrev pub at : ℕ → ℕ → ℕ → Candidate

@@ -11,6 +11,7 @@ mod mark;
 mod order;
 mod outcome;
 mod point;
+mod pruning;
 mod vectors;
 
 pub use candidate::Candidate;
@@ -30,6 +31,7 @@ pub use mark::Mark;
 pub use order::{better, comes_before, cost_cmp, no_worse};
 pub use outcome::Outcome;
 pub use point::Point;
+pub use pruning::Pruning;
 pub use std::alloc::AllocError as OutOfMemory;
 pub use vectors::{
     candidates_in_order, costs_of_candidates, one_node_has_gathered, one_send_broadcasts,

@@ -1,6 +1,7 @@
 ghost use Rattle.std.specs.Prelude.{◌≡◌};
-ghost use Rattle.candidate_order.specs.Ranges.{IsLimits};
+ghost use Rattle.candidate_order.specs.Ranges.{IsLimits, unpruned};
 
+use crate::pruning::Pruning;
 use std::marker::Model;
 
 /// The greatest limit on the number of rounds beyond the number of steps.
@@ -15,13 +16,14 @@ pub const MAX_CHUNKS: u8 = 16;
 /// The greatest limit on the number of conflicts for each candidate.
 pub const MAX_CONFLICTS: u32 = 100_000;
 
-/// How far a search goes.
+/// How far a search goes, and what it may leave out on the way.
 #[derive(Clone, Copy, Debug, PartialEq, Eq)]
 pub struct Limits {
     k: u8,
     max_s: u8,
     max_c: u8,
     conflicts: u32,
+    pruning: Pruning,
 }
 
 impl Model for Limits {
@@ -29,26 +31,34 @@ impl Model for Limits {
 
     ghost Value = { LimitsValue };
 
-    ghost view = { λ l. record { k = l.k; max_s = l.max_s; max_c = l.max_c; conflicts = l.conflicts } };
+    ghost view = { λ l. record { k = l.k; max_s = l.max_s; max_c = l.max_c; conflicts = l.conflicts; pruning = l.pruning } };
 
-    ghost invariant = { λ l. IsLimits (record { k = l.k; max_s = l.max_s; max_c = l.max_c; conflicts = l.conflicts }) };
+    ghost invariant = { λ l. IsLimits (record { k = l.k; max_s = l.max_s; max_c = l.max_c; conflicts = l.conflicts; pruning = l.pruning }) };
 
-    ghost inverse = { λ l. record { k = l.k; max_s = l.max_s; max_c = l.max_c; conflicts = l.conflicts } };
+    ghost inverse = { λ l. record { k = l.k; max_s = l.max_s; max_c = l.max_c; conflicts = l.conflicts; pruning = l.pruning } };
 }
 
 impl Limits {
     /// The limits of these numbers: `k` is at most 8, `max_s` from 1 to 8, `max_c` from 1 to 16,
-    /// and `conflicts` from 1 to 100,000.
+    /// and `conflicts` from 1 to 100,000. Nothing is left out.
     pub fn new(k: u8, max_s: u8, max_c: u8, conflicts: u32) -> Limits
-        requires { IsLimits (record { k = k; max_s = max_s; max_c = max_c; conflicts = conflicts }) }
-        ensures { result ≡ record { k = k; max_s = max_s; max_c = max_c; conflicts = conflicts } }
+        requires { IsLimits (record { k = k; max_s = max_s; max_c = max_c; conflicts = conflicts; pruning = unpruned }) }
+        ensures { result ≡ record { k = k; max_s = max_s; max_c = max_c; conflicts = conflicts; pruning = unpruned } }
     {
         Limits {
             k,
             max_s,
             max_c,
             conflicts,
+            pruning: Pruning::none(),
         }
+    }
+
+    /// The same limits, where this may be left out.
+    pub fn with_pruning(self, pruning: Pruning) -> Limits
+        ensures { result ≡ record self { pruning = pruning } }
+    {
+        Limits { pruning, ..self }
     }
 
     /// The greatest number of rounds beyond the number of steps, at most 8.
@@ -81,5 +91,11 @@ impl Limits {
         ensures limits { IsLimits self.now }
     {
         self.conflicts
+    }
+    /// What may be left out.
+    pub fn pruning(&self) -> Pruning
+        ensures { result ≡ self.now.pruning }
+    {
+        self.pruning
     }
 }

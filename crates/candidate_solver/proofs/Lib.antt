@@ -1,8 +1,9 @@
 mod Names
-mod Begun
+pub mod Begun
 mod Searches
 mod Readable
-mod Tried
+pub mod Tried
+mod FewOrdered
 mod SmallFormulas
 pub mod Noting
-mod Settling
+pub mod Settling

@@ -141,7 +141,7 @@ search_says f lines named fit implied numbered = text_says (map Addition lines) 
 -- a formula of which each line of a search can be read
 pub record IsSmall (f : FormulaValue) : Type 0 where
   pub few_vars : f.vars < 2097152
-  pub few_clauses : length f.clauses < 1000000000
+  pub few_clauses : length f.clauses < 2000000000
 
 -- the text of the lines of a search of it says these lines, and is short
 pub holds_lines : (f : FormulaValue) (lines : List ProofLineValue) (files : Files) (name : ProofName) → IsSmall f → length lines ≤ 100001 → AllImplied (start_of f) lines → AreNumbered (length f.clauses) lines → AreShort f.vars lines

@@ -80,14 +80,14 @@ module _ (a b : EngineState) (x : Candidate) (kind : Settled) (s : IsSettled a b
       (subst (λ r. KeptAgrees (record b { part = a.part; question = a.question; entries = r })) (sym s.entries) (agrees_more agrees has)))
 
 -- an engine that failed at a candidate, with its record as it was
-pub failed_moves : (a : EngineState) (x : Candidate) (entries : RecordValue) (told : Bool) (files : Files) → entries ≡ a.entries → a.stopped ≡ None → Tells a.told told → (IsTrue told → BeginsOwn (formula_for a.question x) a.part x a.files files)
-    → KeptMoves a (record { part = a.part; question = a.question; entries = entries; stopped = Some x; told = told; files = files })
-failed_moves a x entries told files same running tells own = record {
-  same_part = refl;
-  same_question = refl;
+pub failed_moves : (a b : EngineState) (x : Candidate) → b.part ≡ a.part → b.question ≡ a.question → b.entries ≡ a.entries → a.stopped ≡ None → b.stopped ≡ Some x → Tells a.told b.told → (IsTrue b.told → BeginsOwn (formula_for a.question x) a.part x a.files b.files)
+    → KeptMoves a b
+failed_moves a b x part question same running failed tells own = record {
+  same_part = part;
+  same_question = question;
   more = [];
   added = same ∙ sym (append-nil a.entries);
   stays = λ y e. let never : None ≡ Some y = sym running ∙ e in absurd (cc);
   tells = tells;
-  begun = λ t. begun a (record { part = a.part; question = a.question; entries = entries; stopped = Some x; told = told; files = files }) x (own t) (λ name e. inr (ap Some (sym e)));
+  begun = λ t. begun a b x (own t) (λ name e. inr (failed ∙ ap Some (sym e)));
 }

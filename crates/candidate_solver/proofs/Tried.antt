@@ -4,6 +4,7 @@ use Rattle.std.specs.Prelude.{Some, map, Result, Ok, Err, IfOk}
 use Rattle.schedule.specs.Links.{TopologyValue}
 use Rattle.schedule.specs.Placed.{PlacementValue}
 use Rattle.schedule.specs.Sends.{ScheduleValue}
+use Rattle.cnf_formula.specs.Formulas.{FormulaValue, Satisfies}
 use Rattle.cnf_formula.specs.Lines.{ProofLineValue}
 use Rattle.cnf_formula.specs.declared.line.LratLine.TheVariants.{Addition}
 use Rattle.proof_rules.specs.Held.{start_of}
@@ -24,7 +25,8 @@ use Rattle.candidate_order.specs.declared.outcome.Outcome.{Outcome}
 use Rattle.candidate_order.specs.declared.outcome.Outcome.TheVariants as outcome
 use Rattle.candidate_order.specs.Frontiers.{QuestionValue, instance_for}
 use Rattle.candidate_formula.specs.Files.{file_of, HasRefutation, HasLog}
-use Rattle.candidate_formula.specs.Formulas.{formula_for}
+use Rattle.candidate_formula.specs.Encodings.{schedule_said}
+use Rattle.candidate_formula.specs.Formulas.{formula_for, Suits}
 use Rattle.candidate_formula.specs.Questions.{IsSmallQuestion}
 use Rattle.candidate_formula.proofs.Exact.{tight_solves}
 use Rattle.candidate_solver.specs.Kept.{HasFiles}
@@ -49,70 +51,73 @@ says_solved e said limit values s model is h = record {
   unknown = λ n same. absurd (cc);
 }
 
-pub outcome_by : (q : QuestionValue) (x : Candidate) (e : Encoding) (lines : List ProofLineValue) (said : SatAnswer) (limit : ℕ) (out : Outcome) → IsSmallQuestion q → e.formula ≡ formula_for q x → limit ≡ q.limits.conflicts
-    → IsEncodingOf q.topology (instance_for q x).pre (instance_for q x).post x.s x.r e → IsSearch e.formula limit lines said → Says e said limit out → IsOutcome q x (formula_for q x) lines out
-outcome_by q x e lines said limit out small same limited is search says = record {
+pub outcome_by : (q : QuestionValue) (x : Candidate) (e : Encoding) (f : FormulaValue) (lines : List ProofLineValue) (said : SatAnswer) (limit : ℕ) (out : Outcome) → IsSmallQuestion q → f ≡ formula_for q x → limit ≡ q.limits.conflicts
+    → IsEncodingOf q.topology (instance_for q x).pre (instance_for q x).post x.s x.r e → ((values : List Bool) → Satisfies values f → Suits q x (schedule_said e values)) → IsSearch f limit lines said → Says e said limit out → IsOutcome q x (formula_for q x) lines out
+outcome_by q x e f lines said limit out small same limited is suits search says = record {
   solved = λ schedule o.
       let tight = says.solved schedule o q.topology (instance_for q x).pre (instance_for q x).post x.s x.r is in
       record { solves = tight_solves q x schedule small.copies tight; tight = tight.tight };
+  suits = λ schedule o.
+      let found = says.by_model schedule o in
+      subst (Suits q x) (sym found.2) (suits found.0 (search.model found.0 found.1));
   refuted = λ o. subst (Refutes (map Addition lines)) same (search.refuted (says.refuted o)).refutes;
   unknown = λ n o.
       let u = says.unknown n o in (
         u.1 ∙ limited,
-        subst (λ f. SpentOn f lines n) same (subst (SpentOn e.formula lines) (sym u.1) (search.spent u.0)),
+        subst (λ g. SpentOn g lines n) same (subst (SpentOn f lines) (sym u.1) (search.spent u.0)),
       );
 }
 
 -- ---- the files that it leaves
 
 -- the formula and the lines of a search, of which the files were tidied
-pub record IsLeft (q : QuestionValue) (part : Part) (x : Candidate) (e : Encoding) (lines : List ProofLineValue) (said : SatAnswer) (middle now : Files) : Type 0 where
-  pub same : e.formula ≡ formula_for q x
-  pub small : IsSmall e.formula
+pub record IsLeft (q : QuestionValue) (part : Part) (x : Candidate) (f : FormulaValue) (lines : List ProofLineValue) (said : SatAnswer) (middle now : Files) : Type 0 where
+  pub same : f ≡ formula_for q x
+  pub small : IsSmall f
   pub limited : q.limits.conflicts ≤ 100000
-  pub text : HasText e.formula part x middle
+  pub text : HasText f part x middle
   pub kept : now (file_of Cnf part x) ≡ middle (file_of Cnf part x)
   pub has : HasLines part x lines middle
-  pub implied : AllImplied (start_of e.formula) lines
-  pub search : IsSearch e.formula q.limits.conflicts lines said
+  pub implied : AllImplied (start_of f) lines
+  pub search : IsSearch f q.limits.conflicts lines said
 
-has_formula : (q : QuestionValue) (part : Part) (x : Candidate) (e : Encoding) (lines : List ProofLineValue) (said : SatAnswer) (middle now : Files) → IsLeft q part x e lines said middle now → now (file_of Cnf part x) ≡ Some (cnf_text (formula_for q x))
-has_formula q part x e lines said middle now left = left.kept ∙ left.text ∙ ap (λ f. Some (cnf_text f)) left.same
+has_formula : (q : QuestionValue) (part : Part) (x : Candidate) (f : FormulaValue) (lines : List ProofLineValue) (said : SatAnswer) (middle now : Files) → IsLeft q part x f lines said middle now → now (file_of Cnf part x) ≡ Some (cnf_text (formula_for q x))
+has_formula q part x f lines said middle now left = left.kept ∙ left.text ∙ ap (λ g. Some (cnf_text g)) left.same
 
-has_refutation : (q : QuestionValue) (part : Part) (x : Candidate) (e : Encoding) (lines : List ProofLineValue) (said : SatAnswer) (middle now : Files) → IsLeft q part x e lines said middle now
+has_refutation : (q : QuestionValue) (part : Part) (x : Candidate) (f : FormulaValue) (lines : List ProofLineValue) (said : SatAnswer) (middle now : Files) → IsLeft q part x f lines said middle now
     → said ≡ answer.Refuted → now (file_of Lrat part x) ≡ middle (file_of Lrat part x) → HasRefutation part q now x
-has_refutation q part x e lines said middle now left refuted stays =
+has_refutation q part x f lines said middle now left refuted stays =
     let closes = left.search.refuted refuted in
     let few = closes.few in
     let limited = left.limited in
     record {
-      formula = has_formula q part x e lines said middle now left;
+      formula = has_formula q part x f lines said middle now left;
       lines = map Addition lines;
-      holds = holds_lines e.formula lines now (file_of Lrat part x) left.small (omega (arith, few, limited)) left.implied left.search.numbered left.search.short (stays ∙ left.has.whole);
+      holds = holds_lines f lines now (file_of Lrat part x) left.small (omega (arith, few, limited)) left.implied left.search.numbered left.search.short (stays ∙ left.has.whole);
       refutes = subst (Refutes (map Addition lines)) left.same closes.refutes;
     }
 
-has_log : (q : QuestionValue) (part : Part) (x : Candidate) (e : Encoding) (lines : List ProofLineValue) (said : SatAnswer) (middle now : Files) → IsLeft q part x e lines said middle now
+has_log : (q : QuestionValue) (part : Part) (x : Candidate) (f : FormulaValue) (lines : List ProofLineValue) (said : SatAnswer) (middle now : Files) → IsLeft q part x f lines said middle now
     → said ≡ answer.Spent → now (file_of Partial part x) ≡ middle (file_of Partial part x) → HasLog part q now (record { candidate = x; conflicts = q.limits.conflicts })
-has_log q part x e lines said middle now left spent stays =
+has_log q part x f lines said middle now left spent stays =
     let over = left.search.spent spent in
     let count = over.spent.count in
     let limited = left.limited in
-    let all = all_learned lines (start_of e.formula) over.spent.fresh in
+    let all = all_learned lines (start_of f) over.spent.fresh in
     record {
       lines = lines;
-      holds = holds_lines e.formula lines now (file_of Partial part x) left.small (omega (arith, count, limited)) left.implied left.search.numbered left.search.short (stays ∙ left.has.log ∙ ap (λ ls. Some (log_text ls)) all);
-      spent = (subst (λ f. SpentOn f lines q.limits.conflicts) left.same over).spent;
+      holds = holds_lines f lines now (file_of Partial part x) left.small (omega (arith, count, limited)) left.implied left.search.numbered left.search.short (stays ∙ left.has.log ∙ ap (λ ls. Some (log_text ls)) all);
+      spent = (subst (λ g. SpentOn g lines q.limits.conflicts) left.same over).spent;
     }
 
-pub has_files : (q : QuestionValue) (part : Part) (x : Candidate) (e : Encoding) (lines : List ProofLineValue) (said : SatAnswer) (out : Outcome) (middle now : Files) → IsLeft q part x e lines said middle now
+pub has_files : (q : QuestionValue) (part : Part) (x : Candidate) (e : Encoding) (f : FormulaValue) (lines : List ProofLineValue) (said : SatAnswer) (out : Outcome) (middle now : Files) → IsLeft q part x f lines said middle now
     → Says e said q.limits.conflicts out → IsTidy (kind_of out) part x middle now → HasFiles part q now (x, kind_of out)
-has_files q part x e lines said (outcome.Solved s) middle now left says tidy = record { formula = has_formula q part x e lines said middle now left; no_proof = tidy.0; no_log = tidy.1 }
-has_files q part x e lines said outcome.Refuted middle now left says tidy = record { refutation = has_refutation q part x e lines said middle now left (says.refuted refl) tidy.0; no_log = tidy.1 }
-has_files q part x e lines said (outcome.Unknown n) middle now left says tidy = record {
-  formula = has_formula q part x e lines said middle now left;
+has_files q part x e f lines said (outcome.Solved s) middle now left says tidy = record { formula = has_formula q part x f lines said middle now left; no_proof = tidy.0; no_log = tidy.1 }
+has_files q part x e f lines said outcome.Refuted middle now left says tidy = record { refutation = has_refutation q part x f lines said middle now left (says.refuted refl) tidy.0; no_log = tidy.1 }
+has_files q part x e f lines said (outcome.Unknown n) middle now left says tidy = record {
+  formula = has_formula q part x f lines said middle now left;
   no_proof = tidy.0;
-  log = has_log q part x e lines said middle now left (says.unknown n refl).0 tidy.1;
+  log = has_log q part x f lines said middle now left (says.unknown n refl).0 tidy.1;
 }
 
 -- what is said of a result twice

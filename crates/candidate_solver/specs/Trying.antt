@@ -24,6 +24,7 @@ use Rattle.schedule.specs.Sends.{ScheduleValue}
 use Rattle.round_encoding.specs.declared.encoding.Encoding.{Encoding}
 use Rattle.round_encoding.specs.Candidates.{IsEncodingOf, IsTightSolution}
 use Rattle.round_encoding.specs.Decoding.{decoded}
+use Rattle.candidate_formula.specs.Formulas.{Suits}
 use Rattle.candidate_formula.specs.Files.{file_of, candidate_of}
 use Rattle.candidate_formula.specs.Begun.{BegunOnly}
 use Rattle.engine_rules.specs.Outcomes.{SolvesTightly, SpentOn}
@@ -83,5 +84,6 @@ pub record Says (e : Encoding) (said : SatAnswer) (limit : ℕ) (out : Outcome) 
 -- what an outcome says of the candidate, by the lines of the search of its formula
 pub record IsOutcome (q : QuestionValue) (x : Candidate) (f : FormulaValue) (lines : List ProofLineValue) (said : Outcome) : Type 0 where
   pub solved : (schedule : ScheduleValue) → said ≡ outcome.Solved schedule → SolvesTightly q x schedule
+  pub suits : (schedule : ScheduleValue) → said ≡ outcome.Solved schedule → Suits q x schedule
   pub refuted : said ≡ outcome.Refuted → Refutes (map Addition lines) f
   pub unknown : (n : ℕ) → said ≡ outcome.Unknown n → (n ≡ q.limits.conflicts) × SpentOn f lines n

@@ -1,15 +1,16 @@
 //! The files of a candidate.
 
-ghost use Rattle.std.specs.Prelude.{◌≡◌, ◌≢◌, [], IsTrue, Some, OnOk};
+ghost use Rattle.std.specs.Prelude.{◌≡◌, ◌≢◌, [], false, IsTrue, Some, OnOk};
 ghost use Rattle.outer_ports.specs.Port.{HasCause, Tells};
 ghost use Rattle.outer_ports.specs.Shelf.{OthersStay};
 ghost use Rattle.candidate_formula.specs.Files.{file_of};
 ghost use Rattle.cnf_formula.specs.Formulas.{FormulaValue};
-ghost use Rattle.candidate_solver.specs.Trying.{BeginsOwn, HasText, IsTidy};
+ghost use Rattle.ledger_rules.specs.Logs.{learned};
+ghost use Rattle.candidate_solver.specs.Trying.{BeginsOwn, HasLines, HasText, IsTidy};
 
 use candidate_formula::file_name;
 use candidate_order::Candidate;
-use cnf_formula::Formula;
+use cnf_formula::{Formula, ProofLine};
 use engine_rules::{EngineFault, Settled};
 use lrat_text::print_cnf;
 use outer_ports::{FileKind, Part, Shelf, write_file};
@@ -33,43 +34,62 @@ pub(crate) fn write_formula<H: Shelf>(
     Ok(())
 }
 
-/// Empties a file of a candidate that holds lines.
+/// Empties a file of a candidate, where it has lines.
 fn empty<H: Shelf>(
     store: &mut H,
     kind: FileKind,
     part: Part,
     candidate: Candidate,
+    has_lines: bool,
 ) -> Result<(), EngineFault>
-    requires { kind ≢ FileKind.Cnf }
+    requires kind { kind ≢ FileKind.Cnf }
+    requires none { has_lines ≡ false → IsTrue (H.tells store.old) → H.file store.old (file_of kind part candidate) ≡ Some [] }
     ensures told { Tells (H.tells store.old) (H.tells store.new) }
     ensures emptied { IsTrue (H.tells store.new) → OnOk result (H.file store.new (file_of kind part candidate) ≡ Some []) }
     ensures others { IsTrue (H.tells store.new) → OthersStay (file_of kind part candidate) (H.file store.old) (H.file store.new) }
     ensures begins { IsTrue (H.tells store.new) → (f : FormulaValue) → BeginsOwn f part candidate (H.file store.old) (H.file store.new) }
     ensures cause { HasCause EngineFault.ShelfFailed (H.faults store.old) (H.faults store.new) result }
 {
-    store.begin(file_name(kind, part, candidate))?;
+    if has_lines {
+        store.begin(file_name(kind, part, candidate))?;
+    }
     Ok(())
 }
 
-/// Empties the files of a candidate that do not prove such an outcome.
+/// Whether a line may have been learned: one that closes a refutation was not.
+fn has_learned(lines: &[ProofLine]) -> bool
+    ensures { result ≡ false → learned lines.now ≡ [] }
+{
+    match lines.first() {
+        None => false,
+        Some(line) => lines.len() > 1 || !line.lits.is_empty(),
+    }
+}
+
+/// Empties the files of a candidate that do not prove such an outcome. They hold these lines, and
+/// one that holds none is left as it is.
 pub(crate) fn tidy<H: Shelf>(
     store: &mut H,
     part: Part,
     candidate: Candidate,
     kind: Settled,
+    lines: &[ProofLine],
 ) -> Result<(), EngineFault>
+    requires { IsTrue (H.tells store.old) → HasLines part candidate lines.now (H.file store.old) }
     ensures told { Tells (H.tells store.old) (H.tells store.new) }
     ensures tidy { IsTrue (H.tells store.new) → OnOk result (IsTidy kind part candidate (H.file store.old) (H.file store.new)) }
     ensures formula { IsTrue (H.tells store.new) → H.file store.new (file_of FileKind.Cnf part candidate) ≡ H.file store.old (file_of FileKind.Cnf part candidate) }
     ensures begins { IsTrue (H.tells store.new) → (f : FormulaValue) → BeginsOwn f part candidate (H.file store.old) (H.file store.new) }
     ensures cause { HasCause EngineFault.ShelfFailed (H.faults store.old) (H.faults store.new) result }
 {
+    let has_lines = !lines.is_empty();
+    let has_log = has_learned(lines);
     match kind {
         Settled::Solved => {
-            empty(store, FileKind::Lrat, part, candidate)?;
-            empty(store, FileKind::Partial, part, candidate)
+            empty(store, FileKind::Lrat, part, candidate, has_lines)?;
+            empty(store, FileKind::Partial, part, candidate, has_log)
         }
-        Settled::Refuted => empty(store, FileKind::Partial, part, candidate),
-        Settled::Unknown => empty(store, FileKind::Lrat, part, candidate),
+        Settled::Refuted => empty(store, FileKind::Partial, part, candidate, has_log),
+        Settled::Unknown => empty(store, FileKind::Lrat, part, candidate, has_lines),
     }
 }

@@ -1,6 +1,6 @@
 //! An engine that searches, and keeps formulas and proofs on a shelf.
 
-ghost use Rattle.std.specs.Prelude.{◌≡◌, ◌≢◌, ◌<◌, ◌≤◌, [], ◌∷◌, ◌++◌, None, Contains, IfOk, map, vec_len, vec_capacity};
+ghost use Rattle.std.specs.Prelude.{◌≡◌, ◌≢◌, ◌↔◌, ◌<◌, ◌≤◌, [], ◌∷◌, ◌++◌, None, Contains, IfOk, map};
 ghost use Rattle.schedule.specs.Sends.{ScheduleValue};
 ghost use Rattle.cnf_formula.specs.declared.line.LratLine.TheVariants.{Addition};
 ghost use Rattle.proof_rules.specs.Refuting.{Exhausted, Refutes};
@@ -10,7 +10,7 @@ ghost use Rattle.outer_ports.specs.declared.part.Part.TheVariants as part_named;
 ghost use Rattle.candidate_order.specs.declared.candidate.Candidate.{Candidate};
 ghost use Rattle.candidate_order.specs.Copied.{copied_spec};
 ghost use Rattle.candidate_order.specs.Frontiers.{IsSolvable, IsWithin};
-ghost use Rattle.candidate_formula.specs.Formulas.{formula_for};
+ghost use Rattle.candidate_formula.specs.Formulas.{formula_for, Suits};
 ghost use Rattle.candidate_solver.specs.Questions.{asked};
 ghost use Rattle.candidate_formula.specs.Sizes.{size_of};
 ghost use Rattle.engine_rules.specs.declared.settled.Settled.TheVariants as settled;
@@ -24,7 +24,7 @@ use crate::trying::try_candidate;
 use candidate_order::{Candidate, Limits, Outcome};
 use cnf_formula::{OutOfMemory, ProofLine};
 use collective_spec::{Kind, Spec};
-use engine_rules::{Engine, EngineFault, EngineView, Settled};
+use engine_rules::{Engine, EngineFault, EngineView, Record, Settled};
 use outer_ports::{Part, Shelf};
 use schedule::Topology;
 use std::alloc::Global;
@@ -37,13 +37,12 @@ pub struct SatEngine {
     question: Question,
     part: Part,
     checked: bool,
-    entries: Vec<(Candidate, Settled)>,
-    stopped: Option<Candidate>,
+    record: Record,
     log: Vec<ProofLine>,
     ghost named: { part ≢ part_named.Joined },
-    ghost right: { (x : Candidate) → Contains entries.items (x, settled.Refuted) → IsSolvable (asked question) x → ⊥ },
-    ghost exhausted: { (x : Candidate) → Contains entries.items (x, settled.Unknown) → Exhausted (formula_for (asked question) x) question.limits.conflicts },
-    pub ghost proved: { (before : RecordValue) (x : Candidate) → entries.items ≡ before ++ (x, settled.Refuted) ∷ [] → Refutes (map Addition log.items) (formula_for (asked question) x) } by { proved-prop entries.items log.items (formula_for (asked question)) },
+    ghost right: { (x : Candidate) → Contains record.entries (x, settled.Refuted) → IsSolvable (asked question) x → ⊥ },
+    ghost exhausted: { (x : Candidate) → Contains record.entries (x, settled.Unknown) → Exhausted (formula_for (asked question) x) question.limits.conflicts },
+    pub ghost proved: { (before : RecordValue) (x : Candidate) → record.entries ≡ before ++ (x, settled.Refuted) ∷ [] → Refutes (map Addition log.items) (formula_for (asked question) x) } by { proved-prop record.entries log.items (formula_for (asked question)) },
 }
 
 impl SatEngine {
@@ -67,31 +66,30 @@ impl SatEngine {
         ensures entries { IfOk result (λ e. ⟦<SatEngine as EngineView>⟧.entries e ≡ []) }
         ensures stopped { IfOk result (λ e. ⟦<SatEngine as EngineView>⟧.stopped e ≡ None) }
         ensures formula { IfOk result (λ e. (x : Candidate) → ⟦<SatEngine as EngineView>⟧.formula e x ≡ formula_for (⟦<SatEngine as EngineView>⟧.question e) x) }
-        ensures suits { IfOk result (λ e. (x : Candidate) (schedule : ScheduleValue) → ⟦<SatEngine as EngineView>⟧.suits e x schedule) }
+        ensures suits { IfOk result (λ e. (x : Candidate) (schedule : ScheduleValue) → ⟦<SatEngine as EngineView>⟧.suits e x schedule ↔ Suits (⟦<SatEngine as EngineView>⟧.question e) x schedule) }
         ensures part { IfOk result (λ e. e.part ≡ part) }
     {
         Ok(SatEngine {
             question: Question::new(topology, spec, limits)?,
             part,
             checked,
-            entries: Vec::new(alloc),
-            stopped: None,
+            record: Record::new(alloc),
             log: Vec::new(alloc),
         })
     }
 
     /// Adds a candidate to the record, for which there is room, and keeps the lines of its search.
     fn note(&mut self, candidate: Candidate, kind: Settled, lines: Vec<ProofLine>)
-        requires room { vec_len self.old.entries < vec_capacity self.old.entries }
+        requires room { 0 < self.old.record.room }
         requires within { IsWithin (asked self.old.question) candidate }
         requires proved { IsProved (formula_for (asked self.old.question) candidate) self.old.question.limits.conflicts lines.items kind }
-        ensures entries { self.new.entries.items ≡ self.old.entries.items ++ (candidate, kind) ∷ [] }
+        ensures entries { self.new.record.entries ≡ self.old.record.entries ++ (candidate, kind) ∷ [] }
         ensures log { self.new.log.items ≡ lines.items }
         ensures question { self.new.question ≡ self.old.question }
         ensures part { self.new.part ≡ self.old.part }
-        ensures stopped { self.new.stopped ≡ self.old.stopped }
+        ensures stopped { self.new.record.stopped ≡ self.old.record.stopped }
     {
-        self.entries.push_reserved((candidate, kind));
+        self.record.note(candidate, kind);
         self.log = lines;
     }
 }
@@ -101,15 +99,15 @@ impl EngineView for SatEngine {
 
     ghost question = { λ e. asked e.question };
 
-    ghost entries = { λ e. e.entries.items };
+    ghost entries = { λ e. e.record.entries };
 
-    ghost stopped = { λ e. e.stopped };
+    ghost stopped = { λ e. e.record.stopped };
 
     ghost log_lines = { λ e. e.log.items };
 
     ghost formula = { λ e x. formula_for (asked e.question) x };
 
-    ghost suits = { λ e x schedule. Unit {0} };
+    ghost suits = { λ e x schedule. Suits (asked e.question) x schedule };
 
     fn log(&self) -> &[ProofLine] {
         &self.log
@@ -136,11 +134,8 @@ impl<H: Shelf> Engine<H> for SatEngine {
     ghost moves = { λ a r b s. KeptMoves (beside a (H.tells r) (H.file r)) (beside b (H.tells s) (H.file s)) };
 
     fn settle(&mut self, store: &mut H, candidate: Candidate) -> Result<Outcome, EngineFault> {
-        let Ok(()) = self.entries.reserve(1) else {
-            self.stopped = Some(candidate);
-            return Err(EngineFault::OutOfMemory);
-        };
-        let alloc = *self.entries.allocator();
+        self.record.prepare(candidate)?;
+        let alloc = self.record.allocator();
         match try_candidate(
             alloc,
             &self.question,
@@ -154,7 +149,7 @@ impl<H: Shelf> Engine<H> for SatEngine {
                 Ok(outcome)
             }
             Err(fault) => {
-                self.stopped = Some(candidate);
+                self.record.stop(candidate);
                 Err(fault)
             }
         }

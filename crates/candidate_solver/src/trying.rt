@@ -1,12 +1,13 @@
 //! One try at a candidate.
 
-ghost use Rattle.std.specs.Prelude.{◌≡◌, ◌≢◌, IsTrue, IfOk};
-ghost use Rattle.cnf_formula.specs.Formulas.{FormulaValue};
+ghost use Rattle.std.specs.Prelude.{◌≡◌, ◌≢◌, Bool, List, IsTrue, IfOk};
+ghost use Rattle.cnf_formula.specs.Formulas.{FormulaValue, Satisfies};
 ghost use Rattle.proof_rules.specs.Held.{start_of};
 ghost use Rattle.proof_rules.specs.Refuting.{AllImplied};
 ghost use Rattle.outer_ports.specs.Port.{HasCause, Tells};
 ghost use Rattle.round_encoding.specs.Candidates.{IsEncoding};
 ghost use Rattle.candidate_order.specs.Frontiers.{IsWithin};
+ghost use Rattle.candidate_formula.specs.Encodings.{formula_in};
 ghost use Rattle.candidate_formula.specs.Files.{file_of};
 ghost use Rattle.candidate_formula.specs.Formulas.{formula_for};
 ghost use Rattle.candidate_solver.specs.Questions.{asked};
@@ -18,12 +19,11 @@ use crate::attempt::{Attempt, Found, outcome_of};
 use crate::files::{tidy, write_formula};
 use crate::question::Question;
 use crate::searching::search;
-use candidate_formula::encode_candidate;
+use candidate_formula::{Encoded, encode_candidate};
 use candidate_order::Candidate;
 use cnf_formula::Formula;
 use engine_rules::{EngineFault, Settled};
 use outer_ports::{FileKind, Part, Shelf};
-use round_encoding::Encoding;
 use std::alloc::Global;
 
 /// Writes the formula of a candidate, and searches by it.
@@ -53,26 +53,28 @@ fn find<H: Shelf>(
 /// prove it are emptied.
 fn keep<H: Shelf>(
     alloc: Global,
-    encoding: &Encoding,
+    encoded: &Encoded,
     limit: u32,
     found: Found,
     store: &mut H,
     part: Part,
     candidate: Candidate,
 ) -> Result<Attempt, EngineFault>
-    requires encoding { IsEncoding encoding.now }
-    requires search { IsSearch encoding.now.formula limit found.lines.items found.answer }
+    requires encoding { IsEncoding encoded.now.encoding }
+    requires models { (values : List Bool) → Satisfies values (formula_in encoded.now) → Satisfies values encoded.now.encoding.formula }
+    requires search { IsSearch (formula_in encoded.now) limit found.lines.items found.answer }
+    requires has { IsTrue (H.tells store.old) → HasLines part candidate found.lines.items (H.file store.old) }
     ensures told { Tells (H.tells store.old) (H.tells store.new) }
     ensures begins { IsTrue (H.tells store.new) → (f : FormulaValue) → BeginsOwn f part candidate (H.file store.old) (H.file store.new) }
     ensures formula { IsTrue (H.tells store.new) → H.file store.new (file_of FileKind.Cnf part candidate) ≡ H.file store.old (file_of FileKind.Cnf part candidate) }
     ensures tidy { IsTrue (H.tells store.new) → IfOk result (λ attempt. IsTidy (kind_of attempt.outcome) part candidate (H.file store.old) (H.file store.new)) }
-    ensures says { IfOk result (λ attempt. Says encoding.now found.answer limit attempt.outcome) }
+    ensures says { IfOk result (λ attempt. Says encoded.now.encoding found.answer limit attempt.outcome) }
     ensures lines { IfOk result (λ attempt. attempt.lines.items ≡ found.lines.items) }
     ensures cause { HasCause EngineFault.ShelfFailed (H.faults store.old) (H.faults store.new) result }
 {
     let Found { answer, lines } = found;
-    let outcome = outcome_of(alloc, encoding, answer, limit)?;
-    tidy(store, part, candidate, Settled::of(&outcome))?;
+    let outcome = outcome_of(alloc, &encoded.encoding, answer, limit)?;
+    tidy(store, part, candidate, Settled::of(&outcome), &lines)?;
     Ok(Attempt { outcome, lines })
 }
 
@@ -94,16 +96,16 @@ pub(crate) fn try_candidate<H: Shelf>(
     ensures outcome { IfOk result (λ attempt. IsOutcome (asked question.now) candidate (formula_for (asked question.now) candidate) attempt.lines.items attempt.outcome) }
     ensures cause { HasCause EngineFault.ShelfFailed (H.faults store.old) (H.faults store.new) result }
 {
-    let encoding = encode_candidate(alloc, &question.topology, &question.spec, candidate)?;
-    let limit = question.limits.conflicts();
-    let found = find(
+    let pruning = question.limits.pruning();
+    let encoded = encode_candidate(
         alloc,
-        &encoding.formula,
-        limit,
-        checked,
-        store,
-        part,
+        &question.topology,
+        &question.spec,
+        pruning,
         candidate,
     )?;
-    keep(alloc, &encoding, limit, found, store, part, candidate)
+    let formula = encoded.formula();
+    let limit = question.limits.conflicts();
+    let found = find(alloc, formula, limit, checked, store, part, candidate)?;
+    keep(alloc, &encoded, limit, found, store, part, candidate)
 }

@@ -11,11 +11,7 @@ ghost use Rattle.send_encoding.specs.Agreeing.{SatisfiesAs};
 ghost use Rattle.round_encoding.specs.Frames.{frame_of};
 ghost use Rattle.round_encoding.specs.Decoding.{decoded};
 ghost use Rattle.round_encoding.specs.Candidates.{IsCandidate};
-ghost use Rattle.candidate_order.specs.declared.candidate.Candidate.{Candidate};
-ghost use Rattle.candidate_order.specs.Frontiers.{QuestionValue, IsSolvable, IsWithin};
-ghost use Rattle.candidate_formula.specs.Questions.{IsSmallQuestion};
 ghost use Rattle.chunk_order.specs.Alike.{Ordered, is_alike, watch_node};
-ghost use Rattle.chunk_order.specs.Formulas.{ordered_formula_for};
 ghost use Rattle.chunk_order.specs.Ordering.{ordered_formula_of};
 ghost use Rattle.chunk_order.specs.Solutions.{IsOrderedSolution, HasOrderedSolution};
 
@@ -52,10 +48,4 @@ pub fn ordered_formulas_say_ordered_schedules()
         → Satisfies values (ordered_formula_of t pre post steps rounds) → IsOrderedSolution t pre post (decoded (frame_of t pre steps rounds) values) steps rounds }
     ensures met { (t : TopologyValue) (pre post : PlacementValue) (steps rounds : ℕ) → IsCandidate t pre post steps rounds → (s : ScheduleValue) → IsSchedule s → IsInRange pre.chunks pre.nodes s
         → Solves t pre post s steps rounds → Ordered pre post s → SatisfiesAs (map_of t pre steps) pre s (ordered_formula_of t pre post steps rounds) }
-{}
-
-/// The formula of a candidate within the limits of a small question, with the clauses of the order,
-/// is satisfiable exactly where some schedule solves the candidate.
-pub fn questions_have_exact_ordered_formulas()
-    ensures { (q : QuestionValue) (x : Candidate) → IsSmallQuestion q → IsWithin q x → Satisfiable (ordered_formula_for q x) ↔ IsSolvable q x }
 {}

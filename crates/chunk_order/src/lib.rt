@@ -10,7 +10,6 @@ mod vectors;
 pub use laws::{
     alike_chunks_have_one_watch_node, chunks_are_alike_exactly, ordered_formulas_are_exact,
     ordered_formulas_say_ordered_schedules, ordered_schedules_suffice,
-    questions_have_exact_ordered_formulas,
 };
 pub use ordering::order_clauses;
 pub use std::alloc::AllocError as OutOfMemory;

@@ -1,86 +1,68 @@
 -- What a try at a candidate says, by the formula with the clauses of the order.
-use Rattle.std.proofs.Common.{◌≡◌, ℕ, Bool, List, sym, ap, ◌∙◌, subst}
+use Rattle.std.proofs.Common.{◌≡◌, ℕ, Bool, true, false, List, refl, sym, subst}
 use Rattle.std.specs.Prelude.{map}
-use Rattle.schedule.specs.Links.{TopologyValue}
 use Rattle.schedule.specs.Sends.{ScheduleValue}
-use Rattle.collective_spec.specs.declared.instance.Instance.{Instance}
-use Rattle.collective_spec.specs.declared.spec.Spec.{Spec}
-use Rattle.collective_spec.specs.Collectives.{spec_instance}
+use Rattle.collective_spec.specs.Collectives.{adds_up}
 use Rattle.cnf_formula.specs.Formulas.{FormulaValue, Satisfies}
 use Rattle.cnf_formula.specs.Lines.{ProofLineValue}
-use Rattle.cnf_formula.specs.declared.line.LratLine.TheVariants.{Addition}
-use Rattle.proof_rules.specs.Refuting.{Refutes}
 use Rattle.round_encoding.specs.declared.encoding.Encoding.{Encoding}
-use Rattle.round_encoding.specs.Frames.{Frame, frame_of}
-use Rattle.round_encoding.specs.Decoding.{decoded}
 use Rattle.round_encoding.specs.Candidates.{IsEncodingOf}
 use Rattle.sat_core.specs.declared.solving.SatAnswer.{SatAnswer}
 use Rattle.candidate_order.specs.declared.candidate.Candidate.{Candidate}
 use Rattle.candidate_order.specs.declared.outcome.Outcome.{Outcome}
 use Rattle.candidate_order.specs.Ranges.{LimitsValue}
-use Rattle.candidate_order.specs.Frontiers.{QuestionValue, IsWithin, instance_for}
-use Rattle.candidate_formula.specs.Questions.{IsSmallQuestion, IsSought, copying_question}
-use Rattle.candidate_formula.proofs.Copying.{same_instance}
-use Rattle.candidate_formula.proofs.Exact.{tight_solves}
-use Rattle.candidate_formula.proofs.Sought.{candidate_is}
-use Rattle.engine_rules.specs.Outcomes.{SolvesTightly, SpentOn}
-use Rattle.chunk_order.specs.Ordering.{ordered_formula_of}
-use Rattle.chunk_order.specs.Solutions.{IsOrderedSolution}
-use Rattle.chunk_order.specs.Formulas.{ordered_formula_for, OrderedFor}
+use Rattle.candidate_order.specs.Frontiers.{QuestionValue, Achieves, instance_for}
+use Rattle.candidate_formula.specs.Encodings.{schedule_said}
+use Rattle.candidate_formula.specs.Formulas.{ordered_formula_for, OrderedFor}
+use Rattle.candidate_formula.specs.Questions.{IsSmallQuestion}
+use Rattle.engine_rules.specs.Outcomes.{SpentOn}
 use Rattle.candidate_solver.specs.Trying.{IsSearch, Says}
+use Rattle.candidate_solver.proofs.Tried.{outcome_by}
 use Rattle.chunk_symmetry.specs.Trying.{IsOrderedOutcome}
-use Rattle.chunk_order.proofs.Sufficing.{decodes_ordered, parts}
-use Rattle.chunk_order.proofs.Exact.{copied_ordered}
 
--- ---- the formula of a candidate
+-- the same limits, where only ordered schedules are sought
+abbrev pub ordered_limits : LimitsValue → LimitsValue
+ordered_limits l = record l { pruning = record { cuts = false; ordered = true } }
 
--- the instance that is made is that of the question
-pub instance_is : (t : TopologyValue) (s : Spec) (x : Candidate) (i : Instance) (nodes : ℕ) → nodes ≡ t.nodes → i ≡ spec_instance s nodes x.c → (limits : LimitsValue) → i ≡ instance_for (copying_question t s limits) x
-instance_is t s x i nodes own made limits = made ∙ ap (λ n. spec_instance s n x.c) own ∙ sym (same_instance s t.nodes x.c)
+-- the same question, which has only ordered schedules sought
+abbrev pub in_order : QuestionValue → QuestionValue
+in_order q = record q { limits = ordered_limits q.limits }
 
-pub ordered_is : (t : TopologyValue) (s : Spec) (x : Candidate) → IsSought t s x → (i : Instance) (nodes : ℕ) → nodes ≡ t.nodes → i ≡ spec_instance s nodes x.c → (f : FormulaValue) → f ≡ ordered_formula_of t i.pre i.post x.s x.r → (limits : LimitsValue) → f ≡ ordered_formula_for (copying_question t s limits) x
-ordered_is t s x sought i nodes own made f is limits =
-    is ∙ ap (λ (j : Instance). ordered_formula_of t j.pre j.post x.s x.r) (instance_is t s x i nodes own made limits) ∙ sym (copied_ordered (copying_question t s limits) x sought.small.copies)
+as_small : (q : QuestionValue) → IsSmallQuestion q → IsSmallQuestion (in_order q)
+as_small q small = record {
+  topology = small.topology;
+  spec = small.spec;
+  copies = small.copies;
+  limits = record {
+    k = small.limits.k;
+    some_steps = small.limits.some_steps;
+    steps = small.limits.steps;
+    some_chunks = small.limits.some_chunks;
+    chunks = small.limits.chunks;
+    some_conflicts = small.limits.some_conflicts;
+    conflicts = small.limits.conflicts;
+  };
+  size = small.size;
+}
 
--- ---- what its search says
+-- what is asked of a schedule is the same
+achieved : (adds : Bool) (q : QuestionValue) (x : Candidate) (s : ScheduleValue) → Achieves adds (in_order q) x s → Achieves adds q x s
+achieved true q x s has = has
+achieved false q x s has = has
 
--- the encoding of a candidate, and its formula with the clauses of the order
-pub record IsEncoded (q : QuestionValue) (x : Candidate) (e : Encoding) (f : FormulaValue) : Type 0 where
-  pub encodes : IsEncodingOf q.topology (instance_for q x).pre (instance_for q x).post x.s x.r e
-  pub formula : f ≡ ordered_formula_for q x
-
-module _ (q : QuestionValue) (x : Candidate) (e : Encoding) (f : FormulaValue) (small : IsSmallQuestion q) (within : IsWithin q x) (encoded : IsEncoded q x e f) where
-  satisfies_whole : (values : List Bool) → Satisfies values f → Satisfies values (ordered_formula_of q.topology (instance_for q x).pre (instance_for q x).post x.s x.r)
-  satisfies_whole values h = subst (Satisfies values) (encoded.formula ∙ copied_ordered q x small.copies) h
-
-  pub satisfies_encoding : (values : List Bool) → Satisfies values f → Satisfies values e.formula
-  satisfies_encoding values h =
-      subst (λ (k : Encoding). Satisfies values k.formula) (sym encoded.encodes.is)
-      (parts q.topology (instance_for q x).pre (instance_for q x).post x.s x.r (candidate_is q x small within) values (satisfies_whole values h)).0
-
-  said_solves : (values : List Bool) (s : ScheduleValue) → Satisfies values f → s ≡ decoded (record { map = e.map; extra = e.extra }) values → SolvesTightly q x s × OrderedFor q x s
-  said_solves values s h is =
-      let pre = (instance_for q x).pre in
-      let post = (instance_for q x).post in
-      let frame : record { map = e.map; extra = e.extra } ≡ frame_of q.topology pre x.s x.r = ap (λ (k : Encoding). record { map = k.map; extra = k.extra }) encoded.encodes.is in
-      let whole : s ≡ decoded (frame_of q.topology pre x.s x.r) values = is ∙ ap (λ (g : Frame). decoded g values) frame in
-      let good : IsOrderedSolution q.topology pre post s x.s x.r =
-      subst (λ s. IsOrderedSolution q.topology pre post s x.s x.r) (sym whole) (decodes_ordered q.topology pre post x.s x.r (candidate_is q x small within) values (satisfies_whole values h)) in
-      (record { solves = tight_solves q x s small.copies good.solution; tight = good.solution.tight }, good.ordered)
-
-  pub outcome_by : (lines : List ProofLineValue) (said : SatAnswer) (limit : ℕ) (out : Outcome) → limit ≡ q.limits.conflicts → IsSearch f limit lines said → Says e said limit out → IsOrderedOutcome q x lines out
-  outcome_by lines said limit out limited search says = record {
-    proves = record {
-      solved = λ s o. let it = says.by_model s o in (said_solves it.0 s (search.model it.0 it.1) it.2).0;
-      refuted = λ o. subst (Refutes (map Addition lines)) encoded.formula (search.refuted (says.refuted o)).refutes;
-      unknown = λ n o.
-          let u = says.unknown n o in (
-            u.1 ∙ limited,
-            subst (λ g. SpentOn g lines n) encoded.formula (subst (SpentOn f lines) (sym u.1) (search.spent u.0)),
-          );
-    };
-    ordered = λ s o. let it = says.by_model s o in (said_solves it.0 s (search.model it.0 it.1) it.2).1;
-  }
+pub ordered_by : (q : QuestionValue) (x : Candidate) (e : Encoding) (f : FormulaValue) (lines : List ProofLineValue) (said : SatAnswer) (limit : ℕ) (out : Outcome) → IsSmallQuestion q → f ≡ ordered_formula_for q x → limit ≡ q.limits.conflicts
+    → IsEncodingOf q.topology (instance_for q x).pre (instance_for q x).post x.s x.r e → ((values : List Bool) → Satisfies values f → OrderedFor q x (schedule_said e values)) → IsSearch f limit lines said → Says e said limit out → IsOrderedOutcome q x lines out
+ordered_by q x e f lines said limit out small same limited is ordered found says =
+    let by = outcome_by (in_order q) x e f lines said limit out (as_small q small) same limited is (λ values holds _. ordered values holds) found says in
+    record {
+      proves = record {
+        solved = λ s o. let solved = by.solved s o in record { solves = record { valid = solved.solves.valid; in_range = solved.solves.in_range; achieves = achieved (adds_up q.spec) q x s solved.solves.achieves }; tight = solved.tight };
+        suits = λ s o _. by.suits s o refl;
+        refuted = by.refuted;
+        unknown = by.unknown;
+      };
+      ordered = λ s o. by.suits s o refl;
+    }
 
 -- the same lines are a log of the same formula
 pub spent_same : (f : FormulaValue) (lines now : List ProofLineValue) (n : ℕ) → now ≡ lines → SpentOn f lines n → SpentOn f now n

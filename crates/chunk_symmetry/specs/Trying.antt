@@ -7,7 +7,7 @@ use Rattle.candidate_order.specs.declared.outcome.Outcome.{Outcome}
 use Rattle.candidate_order.specs.declared.outcome.Outcome.TheVariants as outcome
 use Rattle.candidate_order.specs.Frontiers.{QuestionValue}
 use Rattle.candidate_solver.specs.Trying.{IsOutcome}
-use Rattle.chunk_order.specs.Formulas.{ordered_formula_for, OrderedFor}
+use Rattle.candidate_formula.specs.Formulas.{ordered_formula_for, OrderedFor}
 
 -- the lines of a search prove the outcome of the candidate, and a schedule that was found is ordered
 pub record IsOrderedOutcome (q : QuestionValue) (x : Candidate) (lines : List ProofLineValue) (said : Outcome) : Type 0 where

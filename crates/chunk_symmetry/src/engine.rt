@@ -1,6 +1,6 @@
 //! An engine that searches for ordered schedules, and keeps its proofs in memory.
 
-ghost use Rattle.std.specs.Prelude.{◌≡◌, ◌≢◌, ◌<◌, ◌≤◌, ◌↔◌, [], ◌∷◌, ◌++◌, None, Contains, IfOk, map, vec_len, vec_capacity};
+ghost use Rattle.std.specs.Prelude.{◌≡◌, ◌≢◌, ◌<◌, ◌≤◌, ◌↔◌, [], ◌∷◌, ◌++◌, None, Contains, IfOk, map};
 ghost use Rattle.schedule.specs.Sends.{ScheduleValue};
 ghost use Rattle.cnf_formula.specs.declared.line.LratLine.TheVariants.{Addition};
 ghost use Rattle.proof_rules.specs.Refuting.{Exhausted, Refutes};
@@ -13,7 +13,7 @@ ghost use Rattle.candidate_formula.specs.Sizes.{size_of};
 ghost use Rattle.engine_rules.specs.declared.settled.Settled.TheVariants as settled;
 ghost use Rattle.engine_rules.specs.Outcomes.{RecordValue};
 ghost use Rattle.candidate_solver.specs.Questions.{asked};
-ghost use Rattle.chunk_order.specs.Formulas.{ordered_formula_for, OrderedFor};
+ghost use Rattle.candidate_formula.specs.Formulas.{ordered_formula_for, OrderedFor};
 ghost use Rattle.candidate_solver.specs.Proved.{IsProved};
 ghost use Rattle.candidate_solver.specs.Single.{proved-prop};
 
@@ -22,7 +22,7 @@ use candidate_order::{Candidate, Limits, Outcome};
 use candidate_solver::{Attempt, Question};
 use cnf_formula::{OutOfMemory, ProofLine};
 use collective_spec::{Kind, Spec};
-use engine_rules::{Engine, EngineFault, EngineView, Settled};
+use engine_rules::{Engine, EngineFault, EngineView, Record, Settled};
 use schedule::Topology;
 use std::alloc::Global;
 
@@ -32,12 +32,11 @@ use std::alloc::Global;
 #[derive(Drop)]
 pub struct OrderedEngine {
     question: Question,
-    entries: Vec<(Candidate, Settled)>,
-    stopped: Option<Candidate>,
+    record: Record,
     log: Vec<ProofLine>,
-    ghost right: { (x : Candidate) → Contains entries.items (x, settled.Refuted) → IsSolvable (asked question) x → ⊥ },
-    ghost exhausted: { (x : Candidate) → Contains entries.items (x, settled.Unknown) → Exhausted (ordered_formula_for (asked question) x) question.limits.conflicts },
-    pub ghost proved: { (before : RecordValue) (x : Candidate) → entries.items ≡ before ++ (x, settled.Refuted) ∷ [] → Refutes (map Addition log.items) (ordered_formula_for (asked question) x) } by { proved-prop entries.items log.items (ordered_formula_for (asked question)) },
+    ghost right: { (x : Candidate) → Contains record.entries (x, settled.Refuted) → IsSolvable (asked question) x → ⊥ },
+    ghost exhausted: { (x : Candidate) → Contains record.entries (x, settled.Unknown) → Exhausted (ordered_formula_for (asked question) x) question.limits.conflicts },
+    pub ghost proved: { (before : RecordValue) (x : Candidate) → record.entries ≡ before ++ (x, settled.Refuted) ∷ [] → Refutes (map Addition log.items) (ordered_formula_for (asked question) x) } by { proved-prop record.entries log.items (ordered_formula_for (asked question)) },
 }
 
 impl OrderedEngine {
@@ -61,35 +60,34 @@ impl OrderedEngine {
     {
         Ok(OrderedEngine {
             question: Question::new(topology, spec, limits)?,
-            entries: Vec::new(alloc),
-            stopped: None,
+            record: Record::new(alloc),
             log: Vec::new(alloc),
         })
     }
 
     /// Adds a candidate to the record, for which there is room, and keeps the lines of its search.
     fn note(&mut self, candidate: Candidate, kind: Settled, lines: Vec<ProofLine>)
-        requires room { vec_len self.old.entries < vec_capacity self.old.entries }
+        requires room { 0 < self.old.record.room }
         requires within { IsWithin (asked self.old.question) candidate }
         requires proved { IsProved (ordered_formula_for (asked self.old.question) candidate) self.old.question.limits.conflicts lines.items kind }
-        ensures entries { self.new.entries.items ≡ self.old.entries.items ++ (candidate, kind) ∷ [] }
+        ensures entries { self.new.record.entries ≡ self.old.record.entries ++ (candidate, kind) ∷ [] }
         ensures log { self.new.log.items ≡ lines.items }
         ensures question { self.new.question ≡ self.old.question }
-        ensures stopped { self.new.stopped ≡ self.old.stopped }
+        ensures stopped { self.new.record.stopped ≡ self.old.record.stopped }
     {
-        self.entries.push_reserved((candidate, kind));
+        self.record.note(candidate, kind);
         self.log = lines;
     }
 }
 
 impl EngineView for OrderedEngine {
-    ghost use Rattle.chunk_order.proofs.Exact.{ordered_exact};
+    ghost use Rattle.candidate_formula.proofs.Exact.{ordered_exact};
 
     ghost question = { λ e. asked e.question };
 
-    ghost entries = { λ e. e.entries.items };
+    ghost entries = { λ e. e.record.entries };
 
-    ghost stopped = { λ e. e.stopped };
+    ghost stopped = { λ e. e.record.stopped };
 
     ghost log_lines = { λ e. e.log.items };
 
@@ -120,18 +118,15 @@ impl<T> Engine<T> for OrderedEngine {
     ghost moves = { λ _ before _ now. now ≡ before };
 
     fn settle(&mut self, store: &mut T, candidate: Candidate) -> Result<Outcome, EngineFault> {
-        let Ok(()) = self.entries.reserve(1) else {
-            self.stopped = Some(candidate);
-            return Err(EngineFault::OutOfMemory);
-        };
-        let alloc = *self.entries.allocator();
+        self.record.prepare(candidate)?;
+        let alloc = self.record.allocator();
         match try_candidate(alloc, &self.question, candidate) {
             Ok(Attempt { outcome, lines }) => {
                 self.note(candidate, Settled::of(&outcome), lines);
                 Ok(outcome)
             }
             Err(_) => {
-                self.stopped = Some(candidate);
+                self.record.stop(candidate);
                 Err(EngineFault::OutOfMemory)
             }
         }

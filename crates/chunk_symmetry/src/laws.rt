@@ -7,7 +7,7 @@ ghost use Rattle.proof_rules.specs.Refuting.{Refutes};
 ghost use Rattle.chunk_symmetry.specs.declared.engine.OrderedEngine.{OrderedEngine};
 ghost use Rattle.engine_rules.specs.declared.settled.Settled.TheVariants as settled;
 ghost use Rattle.engine_rules.specs.Outcomes.{RecordValue};
-ghost use Rattle.chunk_order.specs.Formulas.{ordered_formula_for, OrderedFor};
+ghost use Rattle.candidate_formula.specs.Formulas.{ordered_formula_for, OrderedFor};
 
 use crate::engine::OrderedEngine;
 use candidate_order::Candidate;

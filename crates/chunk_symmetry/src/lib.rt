@@ -1,16 +1,15 @@
 //! What settles the candidates of a search by ordered schedules, one at a time.
 #![tactic(auto)]
 
-mod encoding;
 mod engine;
 mod laws;
 mod searching;
 mod trying;
 
+pub use candidate_formula::questions_have_exact_ordered_formulas;
 pub use chunk_order::{
     OutOfMemory, alike_chunks_have_one_watch_node, chunks_are_alike_exactly, order_clauses,
     ordered_formulas_are_exact, ordered_formulas_say_ordered_schedules, ordered_schedules_suffice,
-    questions_have_exact_ordered_formulas,
 };
 pub use engine::OrderedEngine;
 pub use engine_rules::{Engine, EngineFault, EngineView, Settled};

@@ -5,9 +5,9 @@ ghost use Rattle.candidate_order.specs.Frontiers.{IsWithin};
 ghost use Rattle.candidate_solver.specs.Questions.{asked};
 ghost use Rattle.chunk_symmetry.specs.Trying.{IsOrderedOutcome};
 
-use crate::encoding::{Encoded, encode_ordered};
 use crate::searching::search;
-use candidate_order::Candidate;
+use candidate_formula::encode_candidate;
+use candidate_order::{Candidate, Pruning};
 use candidate_solver::{Attempt, Found, Question, outcome_of};
 use cnf_formula::OutOfMemory;
 use std::alloc::Global;
@@ -22,14 +22,14 @@ pub(crate) fn try_candidate(
     requires { IsWithin (asked question.now) candidate }
     ensures { IfOk result (λ attempt. IsOrderedOutcome (asked question.now) candidate attempt.lines.items attempt.outcome) }
 {
-    let Encoded { encoding, formula } = encode_ordered(
-        alloc,
-        &question.topology,
-        &question.spec,
-        candidate,
-    )?;
+    let order = Pruning {
+        cuts: false,
+        ordered: true,
+    };
+    let encoded = encode_candidate(alloc, &question.topology, &question.spec, order, candidate)?;
+    let formula = encoded.formula();
     let limit = question.limits.conflicts();
-    let Found { answer, lines } = search(alloc, &formula, limit)?;
-    let outcome = outcome_of(alloc, &encoding, answer, limit)?;
+    let Found { answer, lines } = search(alloc, formula, limit)?;
+    let outcome = outcome_of(alloc, &encoded.encoding, answer, limit)?;
     Ok(Attempt { outcome, lines })
 }

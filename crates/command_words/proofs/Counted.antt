@@ -1,17 +1,25 @@
 -- How many values there are with one more.
-use Rattle.std.proofs.Common.{◌≡◌, ◌+◌, ℕ, false, is_some, arith, List, Option, None, Some, Result, Ok, Err, IfOk, refl, sym, subst}
-use Rattle.text_lines.specs.Check.{◌>>=◌}
+use Rattle.std.proofs.Common.{◌≡◌, ◌+◌, ℕ, Bool, true, false, is_some, not, bytes_eq, codes, arith, List, Option, None, Some, Result, Ok, Err, IfOk, refl, sym, subst}
+use Rattle.text_lines.specs.Check.{◌>>=◌, refuse}
 use Rattle.command_words.specs.declared.fault.WordCode.{WordCode}
+use Rattle.command_words.specs.declared.fault.WordCode.TheVariants.{BadValue}
 use Rattle.command_words.specs.declared.key.Key.{Key}
 use Rattle.command_words.specs.declared.key.Key.TheVariants as key
 use Rattle.command_words.specs.declared.values.Values.{Values}
 use Rattle.command_words.specs.declared.verb.Verb.{Verb}
-use Rattle.command_words.specs.inner.Counting.{one, count_of}
-use Rattle.command_words.specs.Values.{collective_from, is_given, kind_from, name_from, number_from, what_from, with_value}
+use Rattle.command_words.specs.inner.Counting.{one, flag, count_of}
+use Rattle.command_words.specs.Values.{collective_from, given_by, is_given, kind_from, name_from, number_from, what_from, with_value}
 
 none_counts : {T : Type 0} (o : Option T) → is_some o ≡ false → one o ≡ 0
 none_counts None e = refl
 none_counts (Some x) e = absurd (cc)
+
+unset_counts : (b : Bool) → b ≡ false → flag b ≡ 0
+unset_counts false e = refl
+unset_counts true e = absurd (cc)
+
+set : (word text : List ℕ) (n : ℕ) (f : Bool → Values) → count_of (f true) ≡ n → IfOk (given_by word text >>= (λ b. Ok (f b))) (λ more. count_of more ≡ n)
+set word text n f counts = elim (bytes_eq text word) as (λ same. IfOk ((refuse (not same) BadValue >>= (λ _. Ok true)) >>= (λ b. Ok (f b))) (λ more. count_of more ≡ n)) [ true ↦ counts | false ↦ tt ]
 
 given : {A : Type 0} (n : ℕ) (r : Result A WordCode) (f : A → Values) → ((x : A) → count_of (f x) ≡ n) → IfOk (r >>= (λ x. Ok (f x))) (λ more. count_of more ≡ n)
 given n (Ok x) f counts = counts x
@@ -32,6 +40,10 @@ counted verb key.N text word v first = given _ (number_from 0 4095 text) _ (λ x
 counted verb key.Group text word v first = given _ (number_from 0 255 text) _ (λ x. omega (arith, none_counts v.group first))
 counted verb key.Width text word v first = given _ (number_from 0 16 text) _ (λ x. omega (arith, none_counts v.width first))
 counted verb key.What text word v first = given _ (what_from verb text) _ (λ x. omega (arith, none_counts v.what first))
+counted verb key.Cuts text word v first = set (codes "yes") text _ (λ b. record v { cuts = b }) (omega (arith, unset_counts v.cuts first))
+counted verb key.Ordered text word v first = set (codes "yes") text _ (λ b. record v { ordered = b }) (omega (arith, unset_counts v.ordered first))
+counted verb key.Kept text word v first = set (codes "yes") text _ (λ b. record v { kept = b }) (omega (arith, unset_counts v.kept first))
+counted verb key.Sets text word v first = set (codes "all") text _ (λ b. record v { all_sets = b }) (omega (arith, unset_counts v.all_sets first))
 
 -- what is read has one more
 pub counted_of : (verb : Verb) (k : Key) (text : List ℕ) (word : ℕ) (v more : Values) → is_given k v ≡ false → Ok more ≡ with_value verb k text word v → count_of more ≡ count_of v + 1

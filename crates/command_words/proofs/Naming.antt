@@ -1,10 +1,12 @@
 -- Words found among the names of values.
-use Rattle.std.proofs.Common.{◌≡◌, sym, refl, ℕ, true, false, cond, List, [], ◌∷◌, Option, Some, None, IfSome, bytes_eq, subst}
+use Rattle.std.proofs.Common.{◌≡◌, sym, refl, ℕ, true, false, cond, List, [], ◌∷◌, Option, Some, None, IfSome, map, find, bytes_eq, subst}
+use Rattle.std.specs.Option.{option_map}
 use Rattle.std.specs.Cmp.Lexicographic.{bytes_decides}
 use Rattle.std.proofs.lemmas.Option.{none-some}
 use Rattle.collective_spec.specs.declared.kind.Kind.{Kind}
 use Rattle.collective_spec.specs.declared.kind.Kind.TheVariants.{Broadcast, Gather, Allgather, Scatter, Alltoall, Reduce, Reducescatter, Allreduce, Custom}
 use Rattle.collective_spec.specs.Kinds.{word_of, every_kind}
+use Rattle.case_table.specs.Rows.{value_at}
 use Rattle.command_words.specs.Tables.{named}
 
 -- no value has a word that none is named by
@@ -13,6 +15,14 @@ not_named name [] word none = refl
 not_named name (v ∷ vs) word none =
     elim (bytes_eq (name v) word) as (λ b. bytes_eq (name v) word ≡ b → cond b (Some v) (named name vs word) ≡ None)
     [ true ↦ (λ e. absurd (none v ((bytes_decides (name v) word).0 e))) | false ↦ (λ _. not_named name vs word none) ] refl
+
+-- no value has a word that the table of their words does not have
+pub not_in_table : {V : Type 0} (name : V → List ℕ) (number : V → ℕ) (values : List V) (word : List ℕ) → None ≡ value_at (map (λ v. (name v, number v)) values) word → None ≡ named name values word
+not_in_table name number [] word none = refl
+not_in_table name number (v ∷ vs) word none =
+    let rest = find (λ (row : List ℕ × ℕ). bytes_eq row.0 word) (map (λ v. (name v, number v)) vs) in
+    elim (bytes_eq (name v) word) as (λ b. None ≡ option_map (λ (row : List ℕ × ℕ). row.1) (cond b (Some (name v, number v)) rest) → None ≡ cond b (Some v) (named name vs word))
+    [ true ↦ (λ e. absurd (none-some (number v) e)) | false ↦ (λ e. not_in_table name number vs word e) ] none
 
 -- each kind of collective is found by its word
 kind_found : (kind : Kind) → named word_of every_kind (word_of kind) ≡ Some kind

@@ -1,5 +1,5 @@
 -- Which codes words are refused with, and at which words.
-use Rattle.std.proofs.Common.{◌≡◌, ◌≤◌, ◌+◌, ℕ, Bool, true, false, not, arith, List, [], ◌∷◌, length, Option, Some, None, IfSome, Result, Ok, Err, IfOk, IfErr, nat_lt, sym, subst}
+use Rattle.std.proofs.Common.{◌≡◌, ◌≤◌, ◌+◌, ℕ, Bool, true, false, not, arith, List, [], ◌∷◌, length, Option, Some, None, IfSome, Result, Ok, Err, IfOk, IfErr, nat_lt, bytes_eq, codes, sym, subst}
 use Rattle.std.specs.declared.string.String.{String}
 use Rattle.std.specs.String.{string_bytes}
 use Rattle.std.proofs.lemmas.List.{length-map}
@@ -24,7 +24,7 @@ use Rattle.command_words.specs.declared.verb.Verb.TheVariants.{Synth, Check, Rep
 use Rattle.collective_spec.specs.declared.kind.Kind.{Kind}
 use Rattle.command_words.specs.Codes.{number_of}
 use Rattle.command_words.specs.Tables.{named, verbs, verb_word, keys, key_word, has_key, takes_kind, takes_what, what_word, whats}
-use Rattle.command_words.specs.Values.{collective_from, kind_from, name_from, number_from, what_from, is_given, with_value}
+use Rattle.command_words.specs.Values.{collective_from, given_by, kind_from, name_from, number_from, what_from, is_given, with_value}
 use Rattle.command_words.specs.Commands.{required, root_taken, point_for, point_taken, search_from, command_from, command_given}
 use Rattle.command_words.specs.Words.{key_and_value, with_word, at_word, values_from, nothing, texts, command_of}
 
@@ -55,6 +55,9 @@ number_low least greatest text =
     err_then IsLow (need (number_up_to greatest text) BadValue) _ (err_need IsLow (number_up_to greatest text) BadValue (omega arith))
     (λ n. err_then {B = ℕ} IsLow (refuse (nat_lt n least) BadValue) (λ _. Ok n) (err_refuse IsLow (nat_lt n least) BadValue (omega arith)) (λ _. tt))
 
+word_only : (word text : List ℕ) → IfErr (given_by word text) IsLow
+word_only word text = err_then {B = Bool} IsLow (refuse (not (bytes_eq text word)) BadValue) (λ _. Ok true) (err_refuse IsLow (not (bytes_eq text word)) BadValue (omega arith)) (λ _. tt)
+
 value_low : (verb : Verb) (k : Key) (text : List ℕ) (word : ℕ) (v : Values) → IfErr (with_value verb k text word v) IsLow
 value_low verb key.Collective text word v =
     err_then IsLow (collective_from verb text) _
@@ -76,6 +79,10 @@ value_low verb key.What text word v =
     err_then IsLow (what_from verb text) _
     (err_then IsLow (need (named what_word whats text) BadValue) _ (err_need IsLow _ BadValue (omega arith)) (λ value. err_then {B = JsonWhat} IsLow (refuse (not (takes_what verb value)) BadValue) (λ _. Ok value) (err_refuse IsLow _ BadValue (omega arith)) (λ _. tt)))
     (λ _. tt)
+value_low verb key.Cuts text word v = err_then IsLow (given_by (codes "yes") text) _ (word_only (codes "yes") text) (λ _. tt)
+value_low verb key.Ordered text word v = err_then IsLow (given_by (codes "yes") text) _ (word_only (codes "yes") text) (λ _. tt)
+value_low verb key.Kept text word v = err_then IsLow (given_by (codes "yes") text) _ (word_only (codes "yes") text) (λ _. tt)
+value_low verb key.Sets text word v = err_then IsLow (given_by (codes "all") text) _ (word_only (codes "all") text) (λ _. tt)
 
 word_low : (verb : Verb) (v : Values) (index : ℕ) (word : List ℕ) → IfErr (with_word verb v index word) IsLow
 word_low verb v index word =
@@ -106,6 +113,10 @@ value_within n verb key.N text word v in_n before = ok_then (AreWithin n) (numbe
 value_within n verb key.Group text word v in_n before = ok_then (AreWithin n) (number_from 0 255 text) _ (λ _. record { root = before.root; size = before.size; point = before.point })
 value_within n verb key.Width text word v in_n before = ok_then (AreWithin n) (number_from 0 16 text) _ (λ _. record { root = before.root; size = before.size; point = before.point })
 value_within n verb key.What text word v in_n before = ok_then (AreWithin n) (what_from verb text) _ (λ _. record { root = before.root; size = before.size; point = before.point })
+value_within n verb key.Cuts text word v in_n before = ok_then (AreWithin n) (given_by (codes "yes") text) _ (λ _. record { root = before.root; size = before.size; point = before.point })
+value_within n verb key.Ordered text word v in_n before = ok_then (AreWithin n) (given_by (codes "yes") text) _ (λ _. record { root = before.root; size = before.size; point = before.point })
+value_within n verb key.Kept text word v in_n before = ok_then (AreWithin n) (given_by (codes "yes") text) _ (λ _. record { root = before.root; size = before.size; point = before.point })
+value_within n verb key.Sets text word v in_n before = ok_then (AreWithin n) (given_by (codes "all") text) _ (λ _. record { root = before.root; size = before.size; point = before.point })
 
 word_within : (n : ℕ) (verb : Verb) (v : Values) (index : ℕ) (word : List ℕ) → index ≤ n → AreWithin n v → IfOk (with_word verb v index word) (AreWithin n)
 word_within n verb v index word in_n before =

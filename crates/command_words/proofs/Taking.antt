@@ -1,12 +1,12 @@
 -- A word taken off the front of the words that are left.
-use Rattle.std.proofs.Common.{◌≡◌, ◌∙◌, ◌<◌, ◌≤◌, ◌+◌, ℕ, zero, suc, sym, ap, arith, List, [], ◌∷◌, length, get_or, drop, Option, Some, None, Result}
+use Rattle.std.proofs.Common.{◌≡◌, ◌∙◌, ◌<◌, ◌≤◌, ◌+◌, ℕ, zero, suc, Bool, true, false, sym, ap, arith, List, [], ◌∷◌, length, get_or, drop, Option, Some, None, Result}
 use Rattle.std.specs.declared.string.String.{String}
 use Rattle.std.specs.String.{string_bytes}
 use Rattle.text_lines.specs.Check.{◌>>=◌}
 use Rattle.command_words.specs.declared.fault.WordFault.{WordFault}
 use Rattle.command_words.specs.declared.verb.Verb.{Verb}
 use Rattle.command_words.specs.declared.values.Values.{Values}
-use Rattle.command_words.specs.inner.Counting.{one, count_of}
+use Rattle.command_words.specs.inner.Counting.{one, flag, count_of}
 use Rattle.command_words.specs.Words.{texts, with_word, at_word, values_from}
 
 -- the texts from place k on begin with that of the word there
@@ -28,7 +28,11 @@ one_few : {T : Type 0} (o : Option T) → one o ≤ 1
 one_few None = omega arith
 one_few (Some _) = omega arith
 
--- there are 14 keys
-pub count_few : (v : Values) → count_of v ≤ 14
+flag_few : (b : Bool) → flag b ≤ 1
+flag_few true = omega arith
+flag_few false = omega arith
+
+-- there are 18 keys
+pub count_few : (v : Values) → count_of v ≤ 18
 count_few v =
-    omega (arith, one_few v.collective, one_few v.k, one_few v.steps, one_few v.chunks, one_few v.conflicts, one_few v.root, one_few v.point, one_few v.order, one_few v.kind, one_few v.size, one_few v.n, one_few v.group, one_few v.width, one_few v.what)
+    omega (arith, one_few v.collective, one_few v.k, one_few v.steps, one_few v.chunks, one_few v.conflicts, one_few v.root, one_few v.point, one_few v.order, one_few v.kind, one_few v.size, one_few v.n, one_few v.group, one_few v.width, one_few v.what, flag_few v.cuts, flag_few v.ordered, flag_few v.kept, flag_few v.all_sets)

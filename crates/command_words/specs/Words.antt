@@ -1,5 +1,5 @@
 -- The words of the command line, read from left to right: the first refusal counts. This project's own.
-use Rattle.std.specs.Prelude.{ℕ, ◌+◌, ◌==◌, not, if◌then◌else◌, List, [], ◌∷◌, length, map, Option, Some, None, Result, Ok, Err}
+use Rattle.std.specs.Prelude.{ℕ, ◌+◌, ◌==◌, false, not, if◌then◌else◌, List, [], ◌∷◌, length, map, Option, Some, None, Result, Ok, Err}
 use Rattle.std.specs.List.{list_any, before_first, after_first}
 use Rattle.std.specs.declared.string.String.{String}
 use Rattle.std.specs.String.{string_bytes}
@@ -24,7 +24,7 @@ key_and_value word = if list_any (λ b. b == 61) word then Some (before_first (�
 
 -- no key has a value
 abbrev pub nothing : Values
-nothing = record { collective = None; k = None; steps = None; chunks = None; conflicts = None; root = None; point = None; order = None; kind = None; size = None; n = None; group = None; width = None; what = None }
+nothing = record { collective = None; k = None; steps = None; chunks = None; conflicts = None; root = None; point = None; order = None; kind = None; size = None; n = None; group = None; width = None; what = None; cuts = false; ordered = false; kept = false; all_sets = false }
 
 -- the checks of the word with this index, behind words that gave these values
 abbrev pub with_word : Verb → Values → ℕ → List ℕ → Result Values WordCode

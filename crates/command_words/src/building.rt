@@ -1,6 +1,7 @@
 //! Commands, from the values of their words.
 
 ghost use Rattle.std.specs.Prelude.{◌≡◌, true, IfOk};
+ghost use Rattle.candidate_order.specs.Ranges.{unpruned};
 ghost use Rattle.command_words.specs.Tables.{takes_kind};
 ghost use Rattle.command_words.specs.Values.{AreProper};
 ghost use Rattle.command_words.specs.Commands.{AreSearchWords, IsProper, bound_from, command_from, degrade_from, family_from, json_from, ordered_from, point_for, point_taken, programs_from, replay_from, required, root_taken, search_from, synth_from, trial_from, unjson_from};
@@ -9,7 +10,7 @@ use crate::command::{Command, JsonWhat, PointWord, RootWord, SearchWords};
 use crate::fault::{WordCode, WordFault};
 use crate::values::Values;
 use crate::verb::Verb;
-use candidate_order::Limits;
+use candidate_order::{Limits, Pruning};
 use collective_spec::{Kind, takes_root};
 use topology_text::family_allows;
 
@@ -42,6 +43,7 @@ fn search_from(values: Values, count: u32, verb: Verb) -> Result<SearchWords, Wo
     ensures read { result ≡ search_from values count }
     ensures proper { IfOk result AreSearchWords }
     ensures taken { IfOk result (λ asked. takes_kind verb asked.kind ≡ true) }
+    ensures unpruned { IfOk result (λ asked. asked.limits.pruning ≡ unpruned) }
 {
     let collective = required(values.collective, count)?;
     let k = required(values.k, count)?;
@@ -62,12 +64,18 @@ fn synth_from(values: Values, count: u32) -> Result<Command, WordFault>
     ensures read { result ≡ synth_from values count }
     ensures proper { IfOk result IsProper }
 {
+    let pruning = Pruning {
+        cuts: values.cuts,
+        ordered: values.ordered,
+    };
+    let kept = values.kept;
     let asked = search_from(values, count, Verb::Synth)?;
     Ok(Command::Synth {
         kind: asked.kind,
         kind_word: asked.kind_word,
-        limits: asked.limits,
+        limits: asked.limits.with_pruning(pruning),
         root: asked.root,
+        kept,
     })
 }
 
@@ -76,12 +84,14 @@ fn bound_from(values: Values, count: u32) -> Result<Command, WordFault>
     ensures read { result ≡ bound_from values count }
     ensures proper { IfOk result IsProper }
 {
+    let all_sets = values.all_sets;
     let asked = search_from(values, count, Verb::Bound)?;
     Ok(Command::Bound {
         kind: asked.kind,
         kind_word: asked.kind_word,
         limits: asked.limits,
         root: asked.root,
+        all_sets,
     })
 }
 

@@ -51,9 +51,12 @@ pub enum Command {
         kind: Kind,
         /// The index of the word `collective`.
         kind_word: u32,
+        /// How far the search goes, and what it leaves out.
         limits: Limits,
         /// The root, where one is named. Only a kind that takes a root has one.
         root: Option<RootWord>,
+        /// Whether proofs that lie there from before are taken in place of a search.
+        kept: bool,
     },
     /// Checks a report, with the files beside it.
     Check,
@@ -79,7 +82,7 @@ pub enum Command {
         size: u8,
     },
     /// Searches as `Synth` does, and tells of each candidate that a cut refutes which cut that is.
-    /// The kind is not allreduce.
+    /// The kind is not allreduce, and the limits leave nothing out.
     Bound {
         kind: Kind,
         /// The index of the word `collective`.
@@ -87,8 +90,11 @@ pub enum Command {
         limits: Limits,
         /// The root, where one is named. Only a kind that takes a root has one.
         root: Option<RootWord>,
+        /// Whether cuts are sought among all sets of nodes, and not only among those that are listed.
+        all_sets: bool,
     },
-    /// Searches schedules in which interchangeable chunks come in order. The kind is not allreduce.
+    /// Searches schedules in which interchangeable chunks come in order. The kind is not allreduce,
+    /// and the limits leave nothing out.
     Ordered {
         kind: Kind,
         /// The index of the word `collective`.

@@ -1,7 +1,7 @@
 //! The keys of the words behind the first.
 
 ghost use Rattle.std.specs.Prelude.{◌≡◌, Some, map};
-ghost use Rattle.command_words.specs.Tables.{key_number, key_word, keys, named, numbered};
+ghost use Rattle.command_words.specs.Tables.{is_search_key, key_number, key_word, keys, named, numbered};
 
 use case_table::{Table, table};
 
@@ -22,10 +22,14 @@ pub enum Key {
     Group,
     Width,
     What,
+    Cuts,
+    Ordered,
+    Kept,
+    Sets,
 }
 
 impl Key {
-    /// The key with this number; `None` exactly where the number is above 13.
+    /// The key with this number; `None` exactly where the number is above 17.
     fn of_number(number: u32) -> Option<Key>
         ensures { result ≡ numbered key_number keys number }
     {
@@ -44,6 +48,10 @@ impl Key {
             11 => Some(Key::Group),
             12 => Some(Key::Width),
             13 => Some(Key::What),
+            14 => Some(Key::Cuts),
+            15 => Some(Key::Ordered),
+            16 => Some(Key::Kept),
+            17 => Some(Key::Sets),
             _ => None,
         }
     }
@@ -56,6 +64,16 @@ impl Key {
             Some(number) => Key::of_number(number),
             None => None,
         }
+    }
+
+    /// Whether each command that searches has the key.
+    pub fn is_for_search(self) -> bool
+        ensures { result ≡ is_search_key self }
+    {
+        matches!(
+            self,
+            Key::Collective | Key::K | Key::Steps | Key::Chunks | Key::Conflicts | Key::Root
+        )
     }
 }
 
@@ -78,5 +96,9 @@ fn words() -> Table
         "group" => 11,
         "width" => 12,
         "what" => 13,
+        "cuts" => 14,
+        "ordered" => 15,
+        "kept" => 16,
+        "sets" => 17,
     ]
 }

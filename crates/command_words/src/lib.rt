@@ -16,6 +16,7 @@ pub use command::{Command, JsonWhat, PointWord, RootWord, SearchWords};
 pub use fault::{WordCode, WordFault};
 pub use reading::read_words;
 pub use vectors::{
-    codes_are_numbered, commands_are_read, first_refusal_counts, more_commands_are_read,
-    numbers_in_their_ranges, refusals, words_without_a_key,
+    codes_are_numbered, commands_are_read, first_refusal_counts, keys_of_one_word_are_read,
+    keys_of_one_word_are_refused, more_commands_are_read, numbers_in_their_ranges, refusals,
+    words_without_a_key,
 };

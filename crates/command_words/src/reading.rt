@@ -52,11 +52,11 @@ fn take_word(verb: Verb, values: Values, index: u32, word: &str) -> Result<Value
     }
 }
 
-/// The values of the words behind the first, of which there are at most 14.
+/// The values of the words behind the first, of which there are at most 18.
 fn values_from(verb: Verb, words: &[String]) -> Result<Values, WordFault>
     ensures read { result ≡ values_from verb nothing 1 (texts words.now) }
     ensures proper { IfOk result (AreProper verb) }
-    ensures few { IfOk result (λ _. length words.now ≤ 14) }
+    ensures few { IfOk result (λ _. length words.now ≤ 18) }
 {
     let mut values = Values::default();
     let mut index: u32 = 1;
@@ -74,7 +74,7 @@ fn command_given(
     count: usize,
 ) -> Result<Command, WordFault>
     requires proper { IfOk values (AreProper verb) }
-    requires few { IfOk values (λ _. count ≤ 15) }
+    requires few { IfOk values (λ _. count ≤ 19) }
     ensures read { result ≡ command_given verb values count }
     ensures proper { IfOk result IsProper }
 {

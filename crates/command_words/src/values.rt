@@ -1,7 +1,7 @@
 //! The values of the words.
 
 ghost use Rattle.std.specs.Prelude.{◌≡◌, ◌≤◌, ◌+◌, false, true, IfOk};
-ghost use Rattle.command_words.specs.Values.{AreProper, collective_from, is_given, kind_from, name_from, number_from, what_from, with_value};
+ghost use Rattle.command_words.specs.Values.{AreProper, collective_from, given_by, is_given, kind_from, name_from, number_from, what_from, with_value};
 ghost use Rattle.command_words.specs.inner.Counting.{count_of};
 ghost use Rattle.command_words.specs.Tables.{takes_kind, takes_what};
 
@@ -59,7 +59,7 @@ pub struct WidthWord {
     pub word: u32,
 }
 
-/// A value for each key that was given.
+/// A value for each key that was given. A key with one word alone was given or not.
 #[derive(Clone, Copy, Default)]
 pub struct Values {
     pub collective: Option<KindWord>,
@@ -76,6 +76,10 @@ pub struct Values {
     pub group: Option<GroupWord>,
     pub width: Option<WidthWord>,
     pub what: Option<JsonWhat>,
+    pub cuts: bool,
+    pub ordered: bool,
+    pub kept: bool,
+    pub all_sets: bool,
 }
 
 /// The number that a value spells, from `least` to `greatest`.
@@ -126,6 +130,17 @@ fn kind_from(text: &str) -> Result<FamilyKind, WordCode>
     FamilyKind::of_word(text).ok_or(WordCode::BadValue)
 }
 
+/// A key is given by this one word alone.
+fn given_by(word: &str, text: &str) -> Result<bool, WordCode>
+    ensures { result ≡ given_by word.now text.now }
+{
+    if text == word {
+        Ok(true)
+    } else {
+        Err(WordCode::BadValue)
+    }
+}
+
 impl Values {
     /// Whether there is a value for the key.
     pub fn has(&self, key: Key) -> bool
@@ -146,6 +161,10 @@ impl Values {
             Key::Group => self.group.is_some(),
             Key::Width => self.width.is_some(),
             Key::What => self.what.is_some(),
+            Key::Cuts => self.cuts,
+            Key::Ordered => self.ordered,
+            Key::Kept => self.kept,
+            Key::Sets => self.all_sets,
         }
     }
 
@@ -194,6 +213,10 @@ impl Values {
                 word,
             }),
             Key::What => values.what = Some(what_from(verb, text)?),
+            Key::Cuts => values.cuts = given_by("yes", text)?,
+            Key::Ordered => values.ordered = given_by("yes", text)?,
+            Key::Kept => values.kept = given_by("yes", text)?,
+            Key::Sets => values.all_sets = given_by("all", text)?,
         }
         Ok(values)
     }

@@ -1,7 +1,8 @@
 //! What the words of command lines are.
 
-ghost use Rattle.std.specs.Prelude.{◌≡◌, [], ◌∷◌, map, Ok, Err, Some, None, codes};
+ghost use Rattle.std.specs.Prelude.{◌≡◌, true, false, [], ◌∷◌, map, Ok, Err, Some, None, codes};
 ghost use Rattle.text_lines.specs.Text.{words_of};
+ghost use Rattle.candidate_order.specs.Ranges.{unpruned};
 ghost use Rattle.command_words.specs.Codes.{number_of};
 ghost use Rattle.command_words.specs.Words.{command_of};
 
@@ -29,9 +30,9 @@ pub fn refusals()
 
 /// A text of each command, and of one the keys in another order.
 pub fn commands_are_read()
-    ensures synth { command_of (words_of (codes "synth collective=broadcast k=0 steps=1 chunks=1 conflicts=1000")) ≡ Ok (Command.Synth Kind.Broadcast 1 (record { k = 0; max_s = 1; max_c = 1; conflicts = 1000 }) None) }
-    ensures root { command_of (words_of (codes "synth root=n0 conflicts=100000 chunks=16 steps=8 k=8 collective=reduce")) ≡ Ok (Command.Synth Kind.Reduce 6 (record { k = 8; max_s = 8; max_c = 16; conflicts = 100000 }) (Some (record { name = codes "n0"; word = 1 }))) }
-    ensures custom { command_of (words_of (codes "synth k=0 collective=custom steps=2 chunks=1 conflicts=1000")) ≡ Ok (Command.Synth Kind.Custom 2 (record { k = 0; max_s = 2; max_c = 1; conflicts = 1000 }) None) }
+    ensures synth { command_of (words_of (codes "synth collective=broadcast k=0 steps=1 chunks=1 conflicts=1000")) ≡ Ok (Command.Synth Kind.Broadcast 1 (record { k = 0; max_s = 1; max_c = 1; conflicts = 1000; pruning = unpruned }) None false) }
+    ensures root { command_of (words_of (codes "synth root=n0 conflicts=100000 chunks=16 steps=8 k=8 collective=reduce")) ≡ Ok (Command.Synth Kind.Reduce 6 (record { k = 8; max_s = 8; max_c = 16; conflicts = 100000; pruning = unpruned }) (Some (record { name = codes "n0"; word = 1 })) false) }
+    ensures custom { command_of (words_of (codes "synth k=0 collective=custom steps=2 chunks=1 conflicts=1000")) ≡ Ok (Command.Synth Kind.Custom 2 (record { k = 0; max_s = 2; max_c = 1; conflicts = 1000; pruning = unpruned }) None false) }
     ensures check { command_of (words_of (codes "check")) ≡ Ok Command.Check }
     ensures replay { command_of (words_of (codes "replay point=1")) ≡ Ok (Command.Replay 1 1 None) }
     ensures order { command_of (words_of (codes "replay order=0 point=65535")) ≡ Ok (Command.Replay 65535 2 (Some 0)) }
@@ -105,9 +106,9 @@ pub fn first_refusal_counts()
 
 /// The commands that search by other engines, that narrow a group, and that read and write JSON.
 pub fn more_commands_are_read()
-    ensures bound { command_of (words_of (codes "bound collective=allgather k=1 steps=3 chunks=2 conflicts=1000")) ≡ Ok (Command.Bound Kind.Allgather 1 (record { k = 1; max_s = 3; max_c = 2; conflicts = 1000 }) None) }
+    ensures bound { command_of (words_of (codes "bound collective=allgather k=1 steps=3 chunks=2 conflicts=1000")) ≡ Ok (Command.Bound Kind.Allgather 1 (record { k = 1; max_s = 3; max_c = 2; conflicts = 1000; pruning = unpruned }) None false) }
     ensures no_allreduce { command_of (words_of (codes "bound k=1 collective=allreduce")) ≡ Err (record { code = WordCode.BadValue; word = 2 }) }
-    ensures ordered { command_of (words_of (codes "ordered collective=reduce k=0 steps=3 chunks=2 conflicts=1000 root=n1")) ≡ Ok (Command.Ordered Kind.Reduce 1 (record { k = 0; max_s = 3; max_c = 2; conflicts = 1000 }) (Some (record { name = codes "n1"; word = 6 }))) }
+    ensures ordered { command_of (words_of (codes "ordered collective=reduce k=0 steps=3 chunks=2 conflicts=1000 root=n1")) ≡ Ok (Command.Ordered Kind.Reduce 1 (record { k = 0; max_s = 3; max_c = 2; conflicts = 1000; pruning = unpruned }) (Some (record { name = codes "n1"; word = 6 }))) }
     ensures no_order_of_allreduce { command_of (words_of (codes "ordered collective=allreduce")) ≡ Err (record { code = WordCode.BadValue; word = 1 }) }
     ensures degrade { command_of (words_of (codes "degrade width=0 group=255")) ≡ Ok (Command.Degrade 255 2 0 1) }
     ensures width_above { command_of (words_of (codes "degrade width=17")) ≡ Err (record { code = WordCode.BadValue; word = 1 }) }
@@ -121,4 +122,41 @@ pub fn more_commands_are_read()
     ensures point_behind_words { command_of (words_of (codes "json what=report point=1 what=report")) ≡ Err (record { code = WordCode.KeyTwice; word = 3 }) }
     ensures unjson { command_of (words_of (codes "unjson what=topology")) ≡ Ok (Command.Unjson JsonWhat.Topology) }
     ensures no_programs { command_of (words_of (codes "unjson what=programs what=report")) ≡ Err (record { code = WordCode.BadValue; word = 1 }) }
+{}
+
+/// The keys that have one word alone: each says what it says, and nothing more.
+pub fn keys_of_one_word_are_read()
+    ensures cuts { command_of (words_of (codes "synth collective=broadcast k=0 steps=1 chunks=1 conflicts=1000 cuts=yes")) ≡ Ok (Command.Synth Kind.Broadcast 1 (record { k = 0; max_s = 1; max_c = 1; conflicts = 1000; pruning = record { cuts = true; ordered = false } }) None false) }
+    ensures ordered { command_of (words_of (codes "synth ordered=yes collective=alltoall k=0 steps=1 chunks=2 conflicts=1000")) ≡ Ok (Command.Synth Kind.Alltoall 2 (record { k = 0; max_s = 1; max_c = 2; conflicts = 1000; pruning = record { cuts = false; ordered = true } }) None false) }
+    ensures kept { command_of (words_of (codes "synth collective=allreduce k=0 steps=1 kept=yes chunks=1 conflicts=1000")) ≡ Ok (Command.Synth Kind.Allreduce 1 (record { k = 0; max_s = 1; max_c = 1; conflicts = 1000; pruning = unpruned }) None true) }
+    ensures together { command_of (words_of (codes "synth kept=yes ordered=yes cuts=yes collective=gather k=0 steps=1 chunks=1 conflicts=1000 root=a")) ≡ Ok (Command.Synth Kind.Gather 4 (record { k = 0; max_s = 1; max_c = 1; conflicts = 1000; pruning = record { cuts = true; ordered = true } }) (Some (record { name = codes "a"; word = 9 })) true) }
+    ensures sets { command_of (words_of (codes "bound collective=allgather k=1 sets=all steps=3 chunks=2 conflicts=1000")) ≡ Ok (Command.Bound Kind.Allgather 1 (record { k = 1; max_s = 3; max_c = 2; conflicts = 1000; pruning = unpruned }) None true) }
+    ensures left_of_missing { command_of (words_of (codes "synth cuts=yes ordered=yes kept=yes")) ≡ Err (record { code = WordCode.KeyMissing; word = 4 }) }
+    ensures root { command_of (words_of (codes "synth collective=alltoall k=0 steps=1 chunks=2 conflicts=1000 cuts=yes root=a")) ≡ Err (record { code = WordCode.RootNotTaken; word = 7 }) }
+{}
+
+/// No other value of them is taken, none is given twice, and no other command has them.
+pub fn keys_of_one_word_are_refused()
+    ensures no { command_of (words_of (codes "synth cuts=no")) ≡ Err (record { code = WordCode.BadValue; word = 1 }) }
+    ensures all { command_of (words_of (codes "synth cuts=all")) ≡ Err (record { code = WordCode.BadValue; word = 1 }) }
+    ensures empty { command_of (words_of (codes "synth k=0 ordered=")) ≡ Err (record { code = WordCode.BadValue; word = 2 }) }
+    ensures longer { command_of (words_of (codes "synth kept=yess")) ≡ Err (record { code = WordCode.BadValue; word = 1 }) }
+    ensures capital { command_of (words_of (codes "synth kept=Yes")) ≡ Err (record { code = WordCode.BadValue; word = 1 }) }
+    ensures sign { command_of (words_of (codes "synth ordered=yes=yes")) ≡ Err (record { code = WordCode.BadValue; word = 1 }) }
+    ensures yes { command_of (words_of (codes "bound sets=yes")) ≡ Err (record { code = WordCode.BadValue; word = 1 }) }
+    ensures cuts_twice { command_of (words_of (codes "synth cuts=yes cuts=no")) ≡ Err (record { code = WordCode.KeyTwice; word = 2 }) }
+    ensures ordered_twice { command_of (words_of (codes "synth ordered=yes kept=yes ordered=yes")) ≡ Err (record { code = WordCode.KeyTwice; word = 3 }) }
+    ensures kept_twice { command_of (words_of (codes "synth kept=yes kept=yes")) ≡ Err (record { code = WordCode.KeyTwice; word = 2 }) }
+    ensures sets_twice { command_of (words_of (codes "bound sets=all sets=all")) ≡ Err (record { code = WordCode.KeyTwice; word = 2 }) }
+    ensures sets_of_synth { command_of (words_of (codes "synth sets=all")) ≡ Err (record { code = WordCode.UnknownKey; word = 1 }) }
+    ensures sets_of_ordered { command_of (words_of (codes "ordered sets=all")) ≡ Err (record { code = WordCode.UnknownKey; word = 1 }) }
+    ensures cuts_of_bound { command_of (words_of (codes "bound cuts=yes")) ≡ Err (record { code = WordCode.UnknownKey; word = 1 }) }
+    ensures ordered_of_bound { command_of (words_of (codes "bound ordered=yes")) ≡ Err (record { code = WordCode.UnknownKey; word = 1 }) }
+    ensures kept_of_bound { command_of (words_of (codes "bound kept=yes")) ≡ Err (record { code = WordCode.UnknownKey; word = 1 }) }
+    ensures cuts_of_ordered { command_of (words_of (codes "ordered cuts=yes")) ≡ Err (record { code = WordCode.UnknownKey; word = 1 }) }
+    ensures ordered_of_ordered { command_of (words_of (codes "ordered ordered=yes")) ≡ Err (record { code = WordCode.UnknownKey; word = 1 }) }
+    ensures kept_of_ordered { command_of (words_of (codes "ordered kept=yes")) ≡ Err (record { code = WordCode.UnknownKey; word = 1 }) }
+    ensures kept_of_check { command_of (words_of (codes "check kept=yes")) ≡ Err (record { code = WordCode.UnknownKey; word = 1 }) }
+    ensures cuts_of_degrade { command_of (words_of (codes "degrade cuts=yes")) ≡ Err (record { code = WordCode.UnknownKey; word = 1 }) }
+    ensures sets_of_degrade { command_of (words_of (codes "degrade sets=all")) ≡ Err (record { code = WordCode.UnknownKey; word = 1 }) }
 {}

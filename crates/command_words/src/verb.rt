@@ -60,10 +60,11 @@ impl Verb {
         ensures { result ≡ has_key self key }
     {
         match self {
-            Verb::Synth | Verb::Bound | Verb::Ordered => matches!(
-                key,
-                Key::Collective | Key::K | Key::Steps | Key::Chunks | Key::Conflicts | Key::Root
-            ),
+            Verb::Synth => {
+                key.is_for_search() || matches!(key, Key::Cuts | Key::Ordered | Key::Kept)
+            }
+            Verb::Bound => key.is_for_search() || matches!(key, Key::Sets),
+            Verb::Ordered => key.is_for_search(),
             Verb::Check => false,
             Verb::Replay => matches!(key, Key::Point | Key::Order),
             Verb::Programs => matches!(key, Key::Point),

@@ -16,9 +16,10 @@ use Rattle.candidate_formula.proofs.Copying.{same_allowed}
 use Rattle.inversion.specs.Reductions.{HeldBySome}
 use Rattle.inversion.proofs.Reducing.{root_some, scattered_some}
 use Rattle.node_cuts.specs.declared.floor.Floor.{Floor}
+use Rattle.node_cuts.specs.declared.sets.Sets.{Sets}
 use Rattle.node_cuts.specs.Floors.{floor_of}
 use Rattle.node_cuts.specs.Sides.{NodeSet}
-use Rattle.node_cuts.specs.Cuts.{need, width}
+use Rattle.node_cuts.specs.Cuts.{need, width_by}
 use Rattle.node_cuts.proofs.Flooring.{IsBroughtIn, floor_below}
 use Rattle.cut_bounds.proofs.Summed.{sums_bring}
 use Rattle.cut_bounds.proofs.Turned.{adding_has_nodes, floor_same}
@@ -46,14 +47,14 @@ back (spec.Standard collective) nodes c adds single is = standard_back collectiv
 back (spec.Custom p) nodes c adds single is = absurd cc
 
 -- whatever its steps, a schedule that sums has no fewer rounds for its chunk count than the floor says
-pub sums_bound : (t : TopologyValue) (spec : Spec) (s : ScheduleValue) (steps rounds c : ℕ) → adds_up spec ≡ true → kind_in spec ≢ kind.Allreduce → IsSpec t.nodes spec → allows (kind_in spec) t.nodes c ≡ true
-    → Sums t (spec_demand spec t.nodes c) s steps rounds → (floor_of (reversed_of t) spec).above * c ≤ rounds * (floor_of (reversed_of t) spec).below
-sums_bound t spec s steps rounds c adds single is allowed sums =
+pub sums_bound : (sets : Sets) (t : TopologyValue) (spec : Spec) (s : ScheduleValue) (steps rounds c : ℕ) → adds_up spec ≡ true → kind_in spec ≢ kind.Allreduce → IsSpec t.nodes spec → allows (kind_in spec) t.nodes c ≡ true
+    → Sums t (spec_demand spec t.nodes c) s steps rounds → (floor_of sets (reversed_of t) spec).above * c ≤ rounds * (floor_of sets (reversed_of t) spec).below
+sums_bound sets t spec s steps rounds c adds single is allowed sums =
     let over : TopologyValue = reversed_of t in
     let demand : PlacementValue = spec_demand spec t.nodes c in
     let from : IsBack spec t.nodes c = back spec t.nodes c adds single is in
-    let brought : IsBroughtIn over (copied_spec spec) rounds c = λ (u : NodeSet).
-    let needed : need u demand (everywhere demand.chunks demand.nodes) ≤ width u over * rounds = sums_bring u t demand s steps rounds from.sized from.held sums in
+    let brought : IsBroughtIn sets over (copied_spec spec) rounds c = λ (u : NodeSet).
+    let needed : need u demand (everywhere demand.chunks demand.nodes) ≤ width_by sets u over * rounds = sums_bring sets u t demand s steps rounds from.sized from.held sums in
     rw (from.pre, from.post) needed in
-    let bound : (floor_of over (copied_spec spec)).above * c ≤ rounds * (floor_of over (copied_spec spec)).below = floor_below over (copied_spec spec) rounds c (adding_has_nodes t.nodes spec adds is) (same_allowed spec t.nodes c ∙ allowed) brought in
-    subst (λ (f : Floor). f.above * c ≤ rounds * f.below) (floor_same over spec) bound
+    let bound : (floor_of sets over (copied_spec spec)).above * c ≤ rounds * (floor_of sets over (copied_spec spec)).below = floor_below sets over (copied_spec spec) rounds c (adding_has_nodes t.nodes spec adds is) (same_allowed spec t.nodes c ∙ allowed) brought in
+    subst (λ (f : Floor). f.above * c ≤ rounds * f.below) (floor_same sets over spec) bound

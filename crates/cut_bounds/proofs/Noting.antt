@@ -1,10 +1,10 @@
 -- One candidate more in the record of an engine over another.
 use Rattle.std.proofs.Common.{◌≡◌, true, false, cond, [], ◌∷◌, ◌++◌, Some, None, refl, sym, ap, ◌∙◌, inl, inr, ⊎_elim, subst}
 use Rattle.std.specs.Prelude.{Contains, Option, not}
-use Rattle.std.specs.Option.{is_some}
 use Rattle.std.proofs.lemmas.Bool.{cases_Bool, not_from_true, not_from_false}
 use Rattle.std.proofs.lemmas.List.{append-nil}
 use Rattle.std.proofs.lemmas.List.Elements.{Contains-push_cases}
+use Rattle.std.proofs.lemmas.Option.{none-some}
 use Rattle.schedule.specs.Solving.{Solvable}
 use Rattle.schedule.proofs.First.{Among, Among-from_Contains, Contains-from_Among}
 use Rattle.collective_spec.specs.Collectives.{adds_up, spec_instance}
@@ -15,119 +15,119 @@ use Rattle.candidate_order.specs.Frontiers.{QuestionValue, Achievable, IsSolvabl
 use Rattle.engine_rules.specs.declared.settled.Settled.{Settled}
 use Rattle.engine_rules.specs.declared.settled.Settled.TheVariants as settled
 use Rattle.engine_rules.specs.Outcomes.{RecordValue, IsNew}
-use Rattle.node_cuts.specs.Cuts.{CutValue}
+use Rattle.node_cuts.specs.declared.sets.Sets.{Sets}
+use Rattle.node_cuts.specs.declared.sets.Sets.TheVariants.{Nothing}
+use Rattle.node_cuts.specs.Cutting.{is_cut}
 use Rattle.node_cuts.proofs.Crossing.{first_says}
-use Rattle.cut_bounds.specs.Cutting.{cut_for, is_cut, uncut_entries, cuts_of}
+use Rattle.cut_bounds.specs.Cutting.{uncut_entries}
 
--- ---- what a cut says
+module _ (sets : Sets) where
+  -- ---- what a cut says
 
-pub cut_refuted : (q : QuestionValue) (x : Candidate) → adds_up q.spec ≡ false → is_cut q x ≡ true → IsSolvable q x → ⊥
-cut_refuted q x copies cut solvable =
-    let i = spec_instance q.spec q.topology.nodes x.c in
-    let copied : Solvable q.topology i.pre i.post x.s x.r = subst (λ b. Achievable b q x) copies solvable in
-    first_says q.topology i.pre i.post copied.schedule x.s x.r cut copied.solves
+  pub cut_refuted : (q : QuestionValue) (x : Candidate) → adds_up q.spec ≡ false → is_cut sets q x ≡ true → IsSolvable q x → ⊥
+  cut_refuted q x copies cut solvable =
+      let i = spec_instance q.spec q.topology.nodes x.c in
+      let copied : Solvable q.topology i.pre i.post x.s x.r = subst (λ b. Achievable b q x) copies solvable in
+      first_says sets q.topology i.pre i.post copied.schedule x.s x.r cut copied.solves
 
--- ---- the record
+  -- ---- the record
 
-uncut_push : (q : QuestionValue) (entries : RecordValue) (e : Candidate × Settled) → uncut_entries q (entries ++ e ∷ []) ≡ uncut_entries q entries ++ cond (not (is_cut q e.0)) (e ∷ []) []
-uncut_push q [] e = refl
-uncut_push q (y ∷ ys) e =
-    let rest = uncut_push q ys e in
-    ⊎_elim
-    (λ (kept : not (is_cut q y.0) ≡ true). rw (kept, rest) refl)
-    (λ (left : not (is_cut q y.0) ≡ false). rw (left, rest) refl)
-    (cases_Bool (not (is_cut q y.0)))
+  uncut_push : (q : QuestionValue) (entries : RecordValue) (e : Candidate × Settled) → uncut_entries sets q (entries ++ e ∷ []) ≡ uncut_entries sets q entries ++ cond (not (is_cut sets q e.0)) (e ∷ []) []
+  uncut_push q [] e = refl
+  uncut_push q (y ∷ ys) e =
+      let rest = uncut_push q ys e in
+      ⊎_elim
+      (λ (kept : not (is_cut sets q y.0) ≡ true). rw (kept, rest) refl)
+      (λ (left : not (is_cut sets q y.0) ≡ false). rw (left, rest) refl)
+      (cases_Bool (not (is_cut sets q y.0)))
 
-pub uncut_cut : (q : QuestionValue) (entries : RecordValue) (x : Candidate) (kind : Settled) → is_cut q x ≡ true → uncut_entries q (entries ++ (x, kind) ∷ []) ≡ uncut_entries q entries
-uncut_cut q entries x kind cut =
-    uncut_push q entries (x, kind) ∙ ap (λ b. uncut_entries q entries ++ cond b ((x, kind) ∷ []) []) (not_from_true (is_cut q x) cut) ∙ append-nil (uncut_entries q entries)
+  pub uncut_cut : (q : QuestionValue) (entries : RecordValue) (x : Candidate) (kind : Settled) → is_cut sets q x ≡ true → uncut_entries sets q (entries ++ (x, kind) ∷ []) ≡ uncut_entries sets q entries
+  uncut_cut q entries x kind cut =
+      uncut_push q entries (x, kind) ∙ ap (λ b. uncut_entries sets q entries ++ cond b ((x, kind) ∷ []) []) (not_from_true (is_cut sets q x) cut) ∙ append-nil (uncut_entries sets q entries)
 
-pub uncut_more : (q : QuestionValue) (entries : RecordValue) (x : Candidate) (kind : Settled) → is_cut q x ≡ false → uncut_entries q (entries ++ (x, kind) ∷ []) ≡ uncut_entries q entries ++ (x, kind) ∷ []
-uncut_more q entries x kind none =
-    uncut_push q entries (x, kind) ∙ ap (λ b. uncut_entries q entries ++ cond b ((x, kind) ∷ []) []) (not_from_false (is_cut q x) none)
+  pub uncut_more : (q : QuestionValue) (entries : RecordValue) (x : Candidate) (kind : Settled) → is_cut sets q x ≡ false → uncut_entries sets q (entries ++ (x, kind) ∷ []) ≡ uncut_entries sets q entries ++ (x, kind) ∷ []
+  uncut_more q entries x kind none =
+      uncut_push q entries (x, kind) ∙ ap (λ b. uncut_entries sets q entries ++ cond b ((x, kind) ∷ []) []) (not_from_false (is_cut sets q x) none)
 
-cuts_push : (q : QuestionValue) (entries : RecordValue) (e : Candidate × Settled) → cuts_of q (entries ++ e ∷ []) ≡ cuts_of q entries ++ cuts_of q (e ∷ [])
-cuts_push q [] e = refl
-cuts_push q (y ∷ ys) e = at (cuts_push q ys e) (cut_for q y.0) refl
-  where
-    at : cuts_of q (ys ++ e ∷ []) ≡ cuts_of q ys ++ cuts_of q (e ∷ []) → (o : Option CutValue) → cut_for q y.0 ≡ o → cuts_of q ((y ∷ ys) ++ e ∷ []) ≡ cuts_of q (y ∷ ys) ++ cuts_of q (e ∷ [])
-    at rest None is = rw (is, rest) refl
-    at rest (Some cut) is = rw (is, rest) refl
+  -- ---- what an engine owes
 
-pub cuts_cut : (q : QuestionValue) (entries : RecordValue) (x : Candidate) (kind : Settled) (cut : CutValue) → cut_for q x ≡ Some cut → cuts_of q (entries ++ (x, kind) ∷ []) ≡ cuts_of q entries ++ (x, cut) ∷ []
-cuts_cut q entries x kind cut is = cuts_push q entries (x, kind) ∙ ap (λ cs. cuts_of q entries ++ cs) (rw is refl)
+  entry_was_there : (q : QuestionValue) (entries : RecordValue) (e : Candidate × Settled) → Among e (uncut_entries sets q entries) → Among e entries
+  entry_was_there q [] e among = among
+  entry_was_there q (y ∷ ys) e among =
+      ⊎_elim
+      (λ (kept : not (is_cut sets q y.0) ≡ true).
+      let now : Among e (y ∷ uncut_entries sets q ys) = rw kept at among in
+      ⊎_elim (λ (here : y ≡ e). inl here) (λ (later : Among e (uncut_entries sets q ys)). inr (entry_was_there q ys e later)) now)
+      (λ (left : not (is_cut sets q y.0) ≡ false).
+      let now : Among e (uncut_entries sets q ys) = rw left at among in
+      inr (entry_was_there q ys e now))
+      (cases_Bool (not (is_cut sets q y.0)))
 
-pub cuts_same : (q : QuestionValue) (entries : RecordValue) (x : Candidate) (kind : Settled) → cut_for q x ≡ None → cuts_of q (entries ++ (x, kind) ∷ []) ≡ cuts_of q entries
-cuts_same q entries x kind is = cuts_push q entries (x, kind) ∙ ap (λ cs. cuts_of q entries ++ cs) (rw is refl) ∙ append-nil (cuts_of q entries)
+  entry_stays : (q : QuestionValue) (entries : RecordValue) (e : Candidate × Settled) → is_cut sets q e.0 ≡ false → Among e entries → Among e (uncut_entries sets q entries)
+  entry_stays q [] e none among = among
+  entry_stays q (y ∷ ys) e none among =
+      ⊎_elim
+      (λ (here : y ≡ e).
+      let kept : not (is_cut sets q y.0) ≡ true = not_from_false (is_cut sets q y.0) (ap (λ (entry : Candidate × Settled). is_cut sets q entry.0) here ∙ none) in
+      rw kept (inl here))
+      (λ (later : Among e ys).
+      let rest : Among e (uncut_entries sets q ys) = entry_stays q ys e none later in
+      ⊎_elim
+      (λ (kept : not (is_cut sets q y.0) ≡ true). rw kept (inr rest))
+      (λ (left : not (is_cut sets q y.0) ≡ false). rw left rest)
+      (cases_Bool (not (is_cut sets q y.0))))
+      among
 
--- ---- what an engine owes
+  pub still_new : (q : QuestionValue) (entries inner : RecordValue) (x : Candidate) → inner ≡ uncut_entries sets q entries → IsNew entries x → IsNew inner x
+  still_new q entries inner x kept fresh kind there =
+      let now : Contains (uncut_entries sets q entries) (x, kind) = subst (λ es. Contains es (x, kind)) kept there in
+      fresh kind (Contains-from_Among (x, kind) entries (entry_was_there q entries (x, kind) (Among-from_Contains (x, kind) (uncut_entries sets q entries) now)))
 
-entry_was_there : (q : QuestionValue) (entries : RecordValue) (e : Candidate × Settled) → Among e (uncut_entries q entries) → Among e entries
-entry_was_there q [] e among = among
-entry_was_there q (y ∷ ys) e among =
-    ⊎_elim
-    (λ (kept : not (is_cut q y.0) ≡ true).
-    let now : Among e (y ∷ uncut_entries q ys) = rw kept at among in
-    ⊎_elim (λ (here : y ≡ e). inl here) (λ (later : Among e (uncut_entries q ys)). inr (entry_was_there q ys e later)) now)
-    (λ (left : not (is_cut q y.0) ≡ false).
-    let now : Among e (uncut_entries q ys) = rw left at among in
-    inr (entry_was_there q ys e now))
-    (cases_Bool (not (is_cut q y.0)))
+  left_inside : (q : QuestionValue) (entries inner : RecordValue) (e : Candidate × Settled) → inner ≡ uncut_entries sets q entries → is_cut sets q e.0 ≡ false → Contains entries e → Contains inner e
+  left_inside q entries inner e kept none there =
+      subst (λ es. Contains es e) (sym kept) (Contains-from_Among e (uncut_entries sets q entries) (entry_stays q entries e none (Among-from_Contains e entries there)))
 
-entry_stays : (q : QuestionValue) (entries : RecordValue) (e : Candidate × Settled) → is_cut q e.0 ≡ false → Among e entries → Among e (uncut_entries q entries)
-entry_stays q [] e none among = among
-entry_stays q (y ∷ ys) e none among =
-    ⊎_elim
-    (λ (here : y ≡ e).
-    let kept : not (is_cut q y.0) ≡ true = not_from_false (is_cut q y.0) (ap (λ (entry : Candidate × Settled). is_cut q entry.0) here ∙ none) in
-    rw kept (inl here))
-    (λ (later : Among e ys).
-    let rest : Among e (uncut_entries q ys) = entry_stays q ys e none later in
-    ⊎_elim
-    (λ (kept : not (is_cut q y.0) ≡ true). rw kept (inr rest))
-    (λ (left : not (is_cut q y.0) ≡ false). rw left rest)
-    (cases_Bool (not (is_cut q y.0))))
-    among
+  pub right_by : (q : QuestionValue) (entries inner : RecordValue) → inner ≡ uncut_entries sets q entries → adds_up q.spec ≡ false → ((x : Candidate) → Contains inner (x, settled.Refuted) → IsSolvable q x → ⊥)
+      → (x : Candidate) → Contains entries (x, settled.Refuted) → IsSolvable q x → ⊥
+  right_by q entries inner kept copies right x there =
+      ⊎_elim
+      (λ (cut : is_cut sets q x ≡ true). cut_refuted q x copies cut)
+      (λ (none : is_cut sets q x ≡ false). right x (left_inside q entries inner (x, settled.Refuted) kept none there))
+      (cases_Bool (is_cut sets q x))
 
-pub still_new : (q : QuestionValue) (entries inner : RecordValue) (x : Candidate) → inner ≡ uncut_entries q entries → IsNew entries x → IsNew inner x
-still_new q entries inner x kept fresh kind there =
-    let now : Contains (uncut_entries q entries) (x, kind) = subst (λ es. Contains es (x, kind)) kept there in
-    fresh kind (Contains-from_Among (x, kind) entries (entry_was_there q entries (x, kind) (Among-from_Contains (x, kind) (uncut_entries q entries) now)))
+  pub exhausted_by : (q : QuestionValue) (formula : Candidate → FormulaValue) (entries inner : RecordValue) → inner ≡ uncut_entries sets q entries
+      → ((x : Candidate) (kind : Settled) → Contains entries (x, kind) → is_cut sets q x ≡ true → kind ≡ settled.Refuted)
+      → ((x : Candidate) → Contains inner (x, settled.Unknown) → Exhausted (formula x) q.limits.conflicts)
+      → (x : Candidate) → Contains entries (x, settled.Unknown) → Exhausted (formula x) q.limits.conflicts
+  exhausted_by q formula entries inner kept refutes exhausted x there =
+      ⊎_elim
+      (λ (cut : is_cut sets q x ≡ true). let same : settled.Unknown ≡ settled.Refuted = refutes x settled.Unknown there cut in absurd (cc))
+      (λ (none : is_cut sets q x ≡ false). exhausted x (left_inside q entries inner (x, settled.Unknown) kept none there))
+      (cases_Bool (is_cut sets q x))
 
-left_inside : (q : QuestionValue) (entries inner : RecordValue) (e : Candidate × Settled) → inner ≡ uncut_entries q entries → is_cut q e.0 ≡ false → Contains entries e → Contains inner e
-left_inside q entries inner e kept none there =
-    subst (λ es. Contains es e) (sym kept) (Contains-from_Among e (uncut_entries q entries) (entry_stays q entries e none (Among-from_Contains e entries there)))
+  -- an entry more, which a cut refutes as refuted
+  pub refutes_more : (q : QuestionValue) (entries : RecordValue) (x : Candidate) (kind : Settled) → (is_cut sets q x ≡ true → kind ≡ settled.Refuted)
+      → ((y : Candidate) (k : Settled) → Contains entries (y, k) → is_cut sets q y ≡ true → k ≡ settled.Refuted)
+      → (y : Candidate) (k : Settled) → Contains (entries ++ (x, kind) ∷ []) (y, k) → is_cut sets q y ≡ true → k ≡ settled.Refuted
+  refutes_more q entries x kind own old y k there cut =
+      ⊎_elim
+      (λ e. old y k e cut)
+      (λ e.
+      let same : x ≡ y = ap (λ p. p.0) e in
+      let kinds : kind ≡ k = ap (λ p. p.1) e in
+      sym kinds ∙ own (ap (is_cut sets q) same ∙ cut))
+      (Contains-push_cases entries (x, kind) (y, k) there)
 
-pub right_by : (q : QuestionValue) (entries inner : RecordValue) → inner ≡ uncut_entries q entries → adds_up q.spec ≡ false → ((x : Candidate) → Contains inner (x, settled.Refuted) → IsSolvable q x → ⊥)
-    → (x : Candidate) → Contains entries (x, settled.Refuted) → IsSolvable q x → ⊥
-right_by q entries inner kept copies right x there =
-    ⊎_elim
-    (λ (cut : is_cut q x ≡ true). cut_refuted q x copies cut)
-    (λ (none : is_cut q x ≡ false). right x (left_inside q entries inner (x, settled.Refuted) kept none there))
-    (cases_Bool (is_cut q x))
+  -- the same of the same entries
+  pub refutes_same : (q : QuestionValue) (now entries : RecordValue) → now ≡ entries → ((y : Candidate) (k : Settled) → Contains entries (y, k) → is_cut sets q y ≡ true → k ≡ settled.Refuted)
+      → (y : Candidate) (k : Settled) → Contains now (y, k) → is_cut sets q y ≡ true → k ≡ settled.Refuted
+  refutes_same q now entries same old y k there = old y k (subst (λ es. Contains es (y, k)) same there)
 
-pub exhausted_by : (q : QuestionValue) (formula : Candidate → FormulaValue) (entries inner : RecordValue) → inner ≡ uncut_entries q entries
-    → ((x : Candidate) (kind : Settled) → Contains entries (x, kind) → is_cut q x ≡ true → kind ≡ settled.Refuted)
-    → ((x : Candidate) → Contains inner (x, settled.Unknown) → Exhausted (formula x) q.limits.conflicts)
-    → (x : Candidate) → Contains entries (x, settled.Unknown) → Exhausted (formula x) q.limits.conflicts
-exhausted_by q formula entries inner kept refutes exhausted x there =
-    ⊎_elim
-    (λ (cut : is_cut q x ≡ true). let same : settled.Unknown ≡ settled.Refuted = refutes x settled.Unknown there cut in absurd (cc))
-    (λ (none : is_cut q x ≡ false). exhausted x (left_inside q entries inner (x, settled.Unknown) kept none there))
-    (cases_Bool (is_cut q x))
+  pub refutes_on : (p q : QuestionValue) (entries : RecordValue) → p ≡ q → ((y : Candidate) (k : Settled) → Contains entries (y, k) → is_cut sets q y ≡ true → k ≡ settled.Refuted)
+      → (y : Candidate) (k : Settled) → Contains entries (y, k) → is_cut sets p y ≡ true → k ≡ settled.Refuted
+  refutes_on p q entries same old y k there cut = old y k there (ap (λ (r : QuestionValue). is_cut sets r y) (sym same) ∙ cut)
 
--- an entry more, which a cut refutes as refuted
-pub refutes_more : (q : QuestionValue) (entries : RecordValue) (x : Candidate) (kind : Settled) → (is_cut q x ≡ true → kind ≡ settled.Refuted)
-    → ((y : Candidate) (k : Settled) → Contains entries (y, k) → is_cut q y ≡ true → k ≡ settled.Refuted)
-    → (y : Candidate) (k : Settled) → Contains (entries ++ (x, kind) ∷ []) (y, k) → is_cut q y ≡ true → k ≡ settled.Refuted
-refutes_more q entries x kind own old y k there cut =
-    ⊎_elim
-    (λ e. old y k e cut)
-    (λ e.
-    let same : x ≡ y = ap (λ p. p.0) e in
-    let kinds : kind ≡ k = ap (λ p. p.1) e in
-    sym kinds ∙ own (ap (is_cut q) same ∙ cut))
-    (Contains-push_cases entries (x, kind) (y, k) there)
+-- ---- of every entry
 
 -- an entry more, which is within the limits
 pub within_more : (q : QuestionValue) (entries : RecordValue) (x : Candidate) (kind : Settled) → IsWithin q x → ((y : Candidate) (k : Settled) → Contains entries (y, k) → IsWithin q y)
@@ -144,26 +144,14 @@ within_same q now entries same old y k there = old y k (subst (λ es. Contains e
 pub within_on : (p q : QuestionValue) (entries : RecordValue) → p ≡ q → ((y : Candidate) (k : Settled) → Contains entries (y, k) → IsWithin q y) → (y : Candidate) (k : Settled) → Contains entries (y, k) → IsWithin p y
 within_on p q entries same old y k there = subst (λ r. IsWithin r y) (sym same) (old y k there)
 
+-- where this one has not stopped, the one within has not
+pub runs_within : (within own : Option Candidate) → ((x : Candidate) → within ≡ Some x → own ≡ Some x) → own ≡ None → within ≡ None
+runs_within None own stops none = refl
+runs_within (Some x) own stops none = absurd (none-some x (sym none ∙ stops x refl))
+
 -- an empty record holds nothing
 pub nothing_holds : {P : Type 0} (entries : RecordValue) (e : Candidate × Settled) → entries ≡ [] → Contains entries e → P
 nothing_holds entries e none there = absurd (Among-from_Contains e [] (subst (λ es. Contains es e) none there))
-
--- ---- options
-
-pub is_cut_of : (q : QuestionValue) (x : Candidate) (cut : CutValue) → cut_for q x ≡ Some cut → is_cut q x ≡ true
-is_cut_of q x cut is = ap is_some is
-
-pub not_cut : (q : QuestionValue) (x : Candidate) → cut_for q x ≡ None → is_cut q x ≡ false
-not_cut q x is = ap is_some is
-
--- the same of the same entries
-pub refutes_same : (q : QuestionValue) (now entries : RecordValue) → now ≡ entries → ((y : Candidate) (k : Settled) → Contains entries (y, k) → is_cut q y ≡ true → k ≡ settled.Refuted)
-    → (y : Candidate) (k : Settled) → Contains now (y, k) → is_cut q y ≡ true → k ≡ settled.Refuted
-refutes_same q now entries same old y k there = old y k (subst (λ es. Contains es (y, k)) same there)
-
-pub refutes_on : (p q : QuestionValue) (entries : RecordValue) → p ≡ q → ((y : Candidate) (k : Settled) → Contains entries (y, k) → is_cut q y ≡ true → k ≡ settled.Refuted)
-    → (y : Candidate) (k : Settled) → Contains entries (y, k) → is_cut p y ≡ true → k ≡ settled.Refuted
-refutes_on p q entries same old y k there cut = old y k there (ap (λ (r : QuestionValue). is_cut r y) (sym same) ∙ cut)
 
 pub right_same : (q : QuestionValue) (now entries : RecordValue) → now ≡ entries → ((x : Candidate) → Contains entries (x, settled.Refuted) → IsSolvable q x → ⊥)
     → (x : Candidate) → Contains now (x, settled.Refuted) → IsSolvable q x → ⊥
@@ -172,3 +160,8 @@ right_same q now entries same right x there = right x (subst (λ es. Contains es
 pub exhausted_same : (q : QuestionValue) (formula : Candidate → FormulaValue) (now entries : RecordValue) → now ≡ entries
     → ((x : Candidate) → Contains entries (x, settled.Unknown) → Exhausted (formula x) q.limits.conflicts) → (x : Candidate) → Contains now (x, settled.Unknown) → Exhausted (formula x) q.limits.conflicts
 exhausted_same q formula now entries same exhausted x there = exhausted x (subst (λ es. Contains es (x, settled.Unknown)) same there)
+
+-- where no set is looked at, every entry is left
+pub all_left : (q : QuestionValue) (entries : RecordValue) → uncut_entries Nothing q entries ≡ entries
+all_left q [] = refl
+all_left q (e ∷ entries) = ap (λ (es : RecordValue). e ∷ es) (all_left q entries)

@@ -1,6 +1,6 @@
 -- A reduction has the cuts of the collective of which it is the inverse.
 use Rattle.std.proofs.Common.{◌≡◌, ℕ, ◌<◌, true, refl, sym, ap, ◌∙◌, arith}
-use Rattle.std.specs.Prelude.{filter, map}
+use Rattle.std.specs.Prelude.{◌*◌, filter, map}
 use Rattle.schedule.specs.Links.{TopologyValue}
 use Rattle.collective_spec.specs.declared.instance.Instance.{Instance}
 use Rattle.collective_spec.specs.declared.kind.Kind.{Kind}
@@ -11,12 +11,13 @@ use Rattle.collective_spec.specs.Collectives.{IsSpec, adds_up, kind_in, spec_ins
 use Rattle.candidate_order.specs.declared.candidate.Candidate.{Candidate}
 use Rattle.candidate_order.specs.Copied.{copied_kind, copied_spec}
 use Rattle.candidate_formula.proofs.Copying.{same_instance}
-use Rattle.node_cuts.specs.Sides.{listed_sides}
-use Rattle.node_cuts.specs.Cuts.{cut_of, first_cut_of}
+use Rattle.node_cuts.specs.declared.floor.Floor.{Floor}
+use Rattle.node_cuts.specs.declared.sets.Sets.{Sets}
+use Rattle.node_cuts.specs.Sides.{NodeSet, mask_of, node_sets}
+use Rattle.node_cuts.specs.Cuts.{first_cut_of, need, width_by}
+use Rattle.node_cuts.specs.Cutting.{cut_in}
 use Rattle.node_cuts.specs.Floors.{first_greatest, floor_of, has_need, least_count}
-use Rattle.node_cuts.specs.Tables.{TableValue, fraction_in, table_of}
-use Rattle.node_cuts.proofs.Tabled.{floor_in}
-use Rattle.cut_bounds.specs.Cutting.{cut_in}
+use Rattle.node_cuts.specs.Tables.{IsTableOf, TableValue, measure_of, table_of}
 
 least_alike : (k : Kind) (nodes : ℕ) → least_count (copied_kind k) nodes ≡ least_count k nodes
 least_alike kind.Broadcast nodes = refl
@@ -33,24 +34,40 @@ least_same : (s : Spec) (nodes : ℕ) → least_count (kind_in (copied_spec s)) 
 least_same (spec.Standard collective) nodes = least_alike collective.kind nodes
 least_same (spec.Custom p) nodes = refl
 
-pub cut_same : (t : TopologyValue) (s : Spec) (x : Candidate) → cut_in t (copied_spec s) x ≡ cut_in t s x
-cut_same t s x = ap (λ (i : Instance). first_cut_of t i.pre i.post x.r) (same_instance s t.nodes x.c)
+pub cut_same : (sets : Sets) (t : TopologyValue) (s : Spec) (x : Candidate) → cut_in sets t (copied_spec s) x ≡ cut_in sets t s x
+cut_same sets t s x = ap (λ (i : Instance). first_cut_of sets t i.pre i.post x.r) (same_instance s t.nodes x.c)
 
--- the table at a chunk count
-abbrev table_at : TopologyValue → ℕ → Instance → TableValue
-table_at t least i = record { least = least; cuts = map (cut_of t i.pre i.post) (listed_sides t.nodes) }
+-- ---- the floor at a chunk count
 
-pub table_same : (t : TopologyValue) (s : Spec) → table_of t (copied_spec s) ≡ table_of t s
-table_same t s =
-    let least : ℕ = least_count (kind_in (copied_spec s)) t.nodes in
-    ap (table_at t least) (same_instance s t.nodes least)
-    ∙ ap (λ n. table_at t n (spec_instance s t.nodes n)) (least_same s t.nodes)
+abbrev fraction_at : Sets → TopologyValue → ℕ → Instance → NodeSet → Floor
+fraction_at sets t least i u = record { above = need u i.pre i.post; below = width_by sets u t * least; nodes = mask_of t.nodes u }
 
-pub floor_same : (t : TopologyValue) (s : Spec) → floor_of t (copied_spec s) ≡ floor_of t s
-floor_same t s =
-    sym (floor_in (table_of t (copied_spec s)) t (copied_spec s) refl)
-    ∙ ap (λ (v : TableValue). first_greatest (filter has_need (map (fraction_in v.least) v.cuts))) (table_same t s)
-    ∙ floor_in (table_of t s) t s refl
+abbrev floor_at : Sets → TopologyValue → ℕ → Instance → Floor
+floor_at sets t least i = first_greatest (filter has_need (map (fraction_at sets t least i) (node_sets sets t.nodes)))
+
+-- what is made of the least chunk count and its instance is the same
+least_alike_in : {X : Type 0} (f : ℕ → Instance → X) (s : Spec) (nodes : ℕ) → let copied = least_count (kind_in (copied_spec s)) nodes in let own = least_count (kind_in s) nodes in
+    f copied (spec_instance (copied_spec s) nodes copied) ≡ f own (spec_instance s nodes own)
+least_alike_in f s nodes =
+    let least : ℕ = least_count (kind_in (copied_spec s)) nodes in
+    ap (f least) (same_instance s nodes least)
+    ∙ ap (λ n. f n (spec_instance s nodes n)) (least_same s nodes)
+
+pub floor_same : (sets : Sets) (t : TopologyValue) (s : Spec) → floor_of sets t (copied_spec s) ≡ floor_of sets t s
+floor_same sets t s = least_alike_in (floor_at sets t) s t.nodes
+
+-- ---- the table
+
+abbrev table_at : Sets → TopologyValue → Floor → ℕ → Instance → TableValue
+table_at sets t floor least i = record { sets = sets; topology = t; least = least; measures = map (measure_of sets t i.pre i.post) (node_sets sets t.nodes); floor = floor }
+
+table_alike : (sets : Sets) (t : TopologyValue) (s : Spec) → table_of sets t (copied_spec s) ≡ table_of sets t s
+table_alike sets t s =
+    least_alike_in (table_at sets t (floor_of sets t (copied_spec s))) s t.nodes
+    ∙ ap (λ (floor : Floor). let least = least_count (kind_in s) t.nodes in table_at sets t floor least (spec_instance s t.nodes least)) (floor_same sets t s)
+
+pub table_same : (sets : Sets) (t : TopologyValue) (s : Spec) (table : TableValue) → IsTableOf sets t s table → IsTableOf sets t (copied_spec s) table
+table_same sets t s table is = is ∙ sym (table_alike sets t s)
 
 -- a reduction has a root among the nodes
 pub adding_has_nodes : (nodes : ℕ) (s : Spec) → adds_up s ≡ true → IsSpec nodes s → 0 < nodes

@@ -1,33 +1,17 @@
--- Which candidates a cut refutes, and which are left to an engine. This project's own.
-use Rattle.std.specs.Prelude.{Bool, not, List, filter, Option}
+-- Which candidates of a record a cut refutes, and which are left to an engine. This project's own.
+use Rattle.std.specs.Prelude.{not, List, filter}
 use Rattle.std.specs.List.{filter_map}
-use Rattle.std.specs.Option.{is_some, option_map}
-use Rattle.schedule.specs.Links.{TopologyValue}
-use Rattle.collective_spec.specs.declared.spec.Spec.{Spec}
-use Rattle.collective_spec.specs.Collectives.{spec_instance}
 use Rattle.candidate_order.specs.declared.candidate.Candidate.{Candidate}
 use Rattle.candidate_order.specs.Frontiers.{QuestionValue}
 use Rattle.engine_rules.specs.Outcomes.{RecordValue}
-use Rattle.node_cuts.specs.Cuts.{CutValue, first_cut_of}
+use Rattle.node_cuts.specs.declared.sets.Sets.{Sets}
+use Rattle.node_cuts.specs.Cuts.{CutValue}
+use Rattle.node_cuts.specs.Cutting.{is_cut, with_cut}
 
--- the first cut of a candidate, if a listed set of nodes refutes it
-abbrev pub cut_in : TopologyValue → Spec → Candidate → Option CutValue
-cut_in t spec x = let i = spec_instance spec t.nodes x.c in first_cut_of t i.pre i.post x.r
-
-abbrev pub cut_for : QuestionValue → Candidate → Option CutValue
-cut_for q x = cut_in q.topology q.spec x
-
-abbrev pub is_cut : QuestionValue → Candidate → Bool
-is_cut q x = is_some (cut_for q x)
-
--- the candidate with its first cut
-abbrev pub with_cut : QuestionValue → Candidate → Option (Candidate × CutValue)
-with_cut q x = option_map (λ cut. (x, cut)) (cut_for q x)
-
--- the candidates of a record that a listed set refutes, in order, each with its first cut
-abbrev pub cuts_of : QuestionValue → RecordValue → List (Candidate × CutValue)
-cuts_of q entries = filter_map (λ e. with_cut q e.0) entries
+-- the candidates of a record that one of the sets of nodes refutes, in order, each with its first cut
+abbrev pub cuts_of : Sets → QuestionValue → RecordValue → List (Candidate × CutValue)
+cuts_of sets q entries = filter_map (λ e. with_cut sets q e.0) entries
 
 -- the entries of the others
-abbrev pub uncut_entries : QuestionValue → RecordValue → RecordValue
-uncut_entries q entries = filter (λ e. not (is_cut q e.0)) entries
+abbrev pub uncut_entries : Sets → QuestionValue → RecordValue → RecordValue
+uncut_entries sets q entries = filter (λ e. not (is_cut sets q e.0)) entries

@@ -3,17 +3,18 @@ use Rattle.std.specs.Prelude.{not, List, filter}
 use Rattle.std.specs.List.{filter_map}
 use Rattle.candidate_order.specs.declared.candidate.Candidate.{Candidate}
 use Rattle.candidate_order.specs.Frontiers.{QuestionValue, FrontierValue}
+use Rattle.node_cuts.specs.declared.sets.Sets.{Sets}
 use Rattle.node_cuts.specs.Cuts.{CutValue}
-use Rattle.cut_bounds.specs.Cutting.{is_cut, with_cut}
+use Rattle.node_cuts.specs.Cutting.{is_cut, with_cut}
 
--- those that a listed set refutes, in order, each with its first cut
-abbrev pub cuts_among : QuestionValue → List Candidate → List (Candidate × CutValue)
-cuts_among q xs = filter_map (with_cut q) xs
+-- those that one of the sets of nodes refutes, in order, each with its first cut
+abbrev pub cuts_among : Sets → QuestionValue → List Candidate → List (Candidate × CutValue)
+cuts_among sets q xs = filter_map (with_cut sets q) xs
 
 -- the others
-abbrev pub uncut_among : QuestionValue → List Candidate → List Candidate
-uncut_among q xs = filter (λ x. not (is_cut q x)) xs
+abbrev pub uncut_among : Sets → QuestionValue → List Candidate → List Candidate
+uncut_among sets q xs = filter (λ x. not (is_cut sets q x)) xs
 
--- the frontier without the refuted candidates that a listed set refutes
-abbrev pub without_cuts : QuestionValue → FrontierValue → FrontierValue
-without_cuts q f = record { points = f.points; refuted = uncut_among q f.refuted; unknown = f.unknown }
+-- the frontier without the refuted candidates that one of the sets refutes
+abbrev pub without_cuts : Sets → QuestionValue → FrontierValue → FrontierValue
+without_cuts sets q f = record { points = f.points; refuted = uncut_among sets q f.refuted; unknown = f.unknown }

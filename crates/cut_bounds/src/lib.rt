@@ -8,5 +8,5 @@ mod parting;
 pub mod vectors;
 
 pub use engine::CutEngine;
-pub use node_cuts::{Cut, CutTable, Floor, OutOfMemory, first_cut, floor_of, has_node};
+pub use node_cuts::{Cut, CutTable, Floor, OutOfMemory, Sets, first_cut, floor_of, has_node};
 pub use parting::{RefutedParts, cuts_are_refuted, part_refuted};

@@ -4,7 +4,8 @@ ghost use Rattle.std.specs.Prelude.{◌≡◌, ◌++◌, ◌∷◌, [], false, A
 ghost use Rattle.std.specs.List.Sorted.{IsPermutation};
 ghost use Rattle.candidate_order.specs.Frontiers.{IsWithin};
 ghost use Rattle.pareto_search.specs.Recorded.{entries_of};
-ghost use Rattle.cut_bounds.specs.Cutting.{cuts_of, is_cut};
+ghost use Rattle.node_cuts.specs.Cutting.{is_cut};
+ghost use Rattle.cut_bounds.specs.Cutting.{cuts_of};
 ghost use Rattle.cut_bounds.specs.Parting.{cuts_among, uncut_among, without_cuts};
 
 use crate::engine::CutEngine;
@@ -13,7 +14,7 @@ use engine_rules::EngineView;
 use node_cuts::{Cut, OutOfMemory};
 use std::alloc::Global;
 
-/// Refuted candidates, in order: those that a listed set of nodes refutes, each with its first cut,
+/// Refuted candidates, in order: those that one of the sets of nodes refutes, each with its first cut,
 /// and the others.
 #[derive(Drop)]
 pub struct RefutedParts {
@@ -36,31 +37,30 @@ impl RefutedParts {
     }
 }
 
-/// After a whole search no candidate of a point, and none that was given up, is refuted by a listed
-/// set of nodes; the engine's cuts are those of the refuted candidates; and the record of the
-/// engine below holds the rest. This does nothing.
+/// After a whole search no candidate of a point, and none that was given up, is refuted by one of
+/// the sets of nodes; what they refute of the engine's record is what they refute of the refuted
+/// candidates; and the record of the engine below holds the rest. This does nothing.
 pub fn cuts_are_refuted<E: EngineView>(engine: &CutEngine<E>, frontier: &Frontier)
     requires { IsPermutation (⟦<CutEngine<E> as EngineView>⟧.entries engine.now) (entries_of frontier.now) }
-    ensures points { All (λ p. is_cut (E.question engine.now.inner) p.candidate ≡ false) frontier.now.points }
-    ensures unknown { All (λ u. is_cut (E.question engine.now.inner) u.candidate ≡ false) frontier.now.unknown }
+    ensures points { All (λ p. is_cut engine.now.sets (E.question engine.now.inner) p.candidate ≡ false) frontier.now.points }
+    ensures unknown { All (λ u. is_cut engine.now.sets (E.question engine.now.inner) u.candidate ≡ false) frontier.now.unknown }
     ensures within { All (IsWithin (E.question engine.now.inner)) frontier.now.refuted }
-    ensures cuts { IsPermutation (cuts_of (E.question engine.now.inner) (⟦<CutEngine<E> as EngineView>⟧.entries engine.now)) (cuts_among (E.question engine.now.inner) frontier.now.refuted) }
-    ensures inner { IsPermutation (E.entries engine.now.inner) (entries_of (without_cuts (E.question engine.now.inner) frontier.now)) }
+    ensures cuts { IsPermutation (cuts_of engine.now.sets (E.question engine.now.inner) (⟦<CutEngine<E> as EngineView>⟧.entries engine.now)) (cuts_among engine.now.sets (E.question engine.now.inner) frontier.now.refuted) }
+    ensures inner { IsPermutation (E.entries engine.now.inner) (entries_of (without_cuts engine.now.sets (E.question engine.now.inner) frontier.now)) }
 {
-    let _cuts = engine.cuts();
     let _inner = engine.inner();
 }
 
 /// Parts the refuted candidates of a frontier, which the engine's search gave, by whether a cut
-/// refutes them: a comparison for each listed set of nodes. The only error is `OutOfMemory`.
+/// refutes them: a comparison for each set of nodes. The only error is `OutOfMemory`.
 pub fn part_refuted<E: EngineView>(
     alloc: Global,
     engine: &CutEngine<E>,
     frontier: &Frontier,
 ) -> Result<RefutedParts, OutOfMemory>
     requires { IsPermutation (⟦<CutEngine<E> as EngineView>⟧.entries engine.now) (entries_of frontier.now) }
-    ensures cuts { IfOk result (λ parts. parts.cuts.items ≡ cuts_among (E.question engine.now.inner) frontier.now.refuted) }
-    ensures others { IfOk result (λ parts. parts.others.items ≡ uncut_among (E.question engine.now.inner) frontier.now.refuted) }
+    ensures cuts { IfOk result (λ parts. parts.cuts.items ≡ cuts_among engine.now.sets (E.question engine.now.inner) frontier.now.refuted) }
+    ensures others { IfOk result (λ parts. parts.others.items ≡ uncut_among engine.now.sets (E.question engine.now.inner) frontier.now.refuted) }
 {
     cuts_are_refuted(engine, frontier);
     let mut parts = RefutedParts {

@@ -6,6 +6,7 @@ use Rattle.candidate_order.specs.declared.candidate.Candidate.{Candidate}
 use Rattle.candidate_order.specs.Frontiers.{QuestionValue}
 use Rattle.topology_text.specs.Value.{NamedTopologyValue}
 use Rattle.report_form.specs.Reports.{WordsValue, ReportValue, question_of}
+use Rattle.candidate_formula.specs.Pruned.{is_cut_away}
 use Rattle.engine_search.specs.Found.{IsFound}
 use Rattle.link_faults.specs.Carrying.{is_carried, narrowed_question}
 use Rattle.run_rules.specs.declared.status.Status.TheVariants.{Done}
@@ -26,6 +27,7 @@ new_search r group width old given found words named left text made are said on 
       found = subst (λ q. IsFound q f) asked after.found;
       points = subst (λ (xs : List Candidate). All (λ p. is_carried xs p.candidate ≡ false) f.points) are after.points;
       unknown = subst (λ (xs : List Candidate). All (λ u. is_carried xs u.candidate ≡ false) f.unknown) are after.unknown;
+      uncut = subst (λ q. All (λ u. is_cut_away q u.candidate ≡ false) f.unknown) asked after.uncut;
       says = record {
         status = refl;
         text = printed ∙ ap (λ w. degraded_text w left old f) said ∙ ap (λ t. degraded_text r.words t old f) left_is ∙ ap (λ xs. degraded_text r.words (left_of r.topology group width) xs f) are;

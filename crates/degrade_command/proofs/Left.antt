@@ -13,7 +13,7 @@ use Rattle.candidate_formula.specs.Formulas.{formula_for}
 use Rattle.candidate_formula.specs.Questions.{copying_question}
 use Rattle.candidate_formula.specs.Sizes.{size_of}
 use Rattle.candidate_formula.specs.Formulas.{searched_links}
-use Rattle.engine_search.specs.Searched.{searched_question}
+use Rattle.candidate_formula.specs.Searched.{searched_question}
 use Rattle.engine_search.proofs.Searched.{same_formulas, searched_itself, searched_turned}
 use Rattle.link_faults.specs.Narrowed.{narrowed}
 use Rattle.link_faults.specs.Carrying.{IsOldRefuted, narrowed_question}

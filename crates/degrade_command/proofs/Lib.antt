@@ -1,6 +1,7 @@
 mod Taken
 mod OldRight
 mod Left
+mod Uncut
 mod Parted
 mod Lines
 mod Told

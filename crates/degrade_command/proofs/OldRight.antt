@@ -6,21 +6,33 @@ use Rattle.std.proofs.lemmas.List.Concat.{flat_map-cons}
 use Rattle.std.proofs.lemmas.List.Elements.{All-append, All-cons, All-nil, recursion_from_All}
 use Rattle.outer_ports.specs.declared.part.Part.{Part}
 use Rattle.outer_ports.specs.declared.part.Part.TheVariants.{Whole}
-use Rattle.collective_spec.specs.declared.kind.Kind.TheVariants.{Allreduce}
+use Rattle.collective_spec.specs.declared.kind.Kind.{Kind}
+use Rattle.collective_spec.specs.declared.kind.Kind.TheVariants as kind
 use Rattle.candidate_order.specs.declared.candidate.Candidate.{Candidate}
 use Rattle.candidate_order.specs.Frontiers.{QuestionValue, FrontierValue, IsWithin, IsSolvable}
 use Rattle.candidate_order.specs.Ranges.{IsLimits}
 use Rattle.round_encoding.proofs.Obeyed.{all_map}
-use Rattle.report_form.specs.Reports.{ReportValue, IsFrontier, IsReport, question_of}
-use Rattle.report_search.proofs.PartQuestions.{one_part}
+use Rattle.report_form.specs.Reports.{ReportValue, IsFrontier, IsReport, parts_of, question_of}
 use Rattle.frontier_audit.specs.Rights.{IsRight, IsRightPart}
 use Rattle.link_faults.specs.Carrying.{HasFewRounds, IsOldRefuted}
 use Rattle.run_rules.specs.Degraded.{old_refuted}
 
 -- ---- the one part
 
+-- all but an allreduce have it
+one_part : (k : Kind) → k ≢ kind.Allreduce → parts_of k ≡ Whole ∷ []
+one_part kind.Broadcast single = refl
+one_part kind.Gather single = refl
+one_part kind.Allgather single = refl
+one_part kind.Scatter single = refl
+one_part kind.Alltoall single = refl
+one_part kind.Reduce single = refl
+one_part kind.Reducescatter single = refl
+one_part kind.Allreduce single = absurd (single refl)
+one_part kind.Custom single = refl
+
 -- each frontier is of it
-all_whole : (r : ReportValue) → IsReport r → r.words.collective.kind ≢ Allreduce → All (λ (x : Part × FrontierValue). x.0 ≡ Whole) r.frontiers
+all_whole : (r : ReportValue) → IsReport r → r.words.collective.kind ≢ kind.Allreduce → All (λ (x : Part × FrontierValue). x.0 ≡ Whole) r.frontiers
 all_whole r ok single =
     let parts : map (λ (x : Part × FrontierValue). x.0) r.frontiers ≡ Whole ∷ [] = ok.parts ∙ one_part r.words.collective.kind single in
     all_map (λ p. p ≡ Whole) (λ (x : Part × FrontierValue). x.0) r.frontiers (subst (All (λ p. p ≡ Whole)) (sym parts) (All-cons (λ p. p ≡ Whole) Whole [] refl (All-nil (λ p. p ≡ Whole))))
@@ -36,7 +48,7 @@ all_flat P [] all = All-nil P
 all_flat P (x ∷ xs) all =
     subst (All P) (sym (flat_map-cons (λ (x : Part × FrontierValue). x.1.refuted) x xs)) (All-append P x.1.refuted (flat_map (λ x. x.1.refuted) xs) all.0 (all_flat P xs all.1))
 
-module _ (r : ReportValue) (right : IsRight r) (single : r.words.collective.kind ≢ Allreduce) where
+module _ (r : ReportValue) (right : IsRight r) (single : r.words.collective.kind ≢ kind.Allreduce) where
   abbrev q : QuestionValue
   q = question_of r.words r.topology Whole
 

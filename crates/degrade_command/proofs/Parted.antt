@@ -3,17 +3,19 @@ use Rattle.std.proofs.Common.{◌≡◌, false, List, Result, Ok, Err, sym, subs
 use Rattle.std.specs.Prelude.{All, IfOk}
 use Rattle.candidate_order.specs.declared.candidate.Candidate.{Candidate}
 use Rattle.candidate_order.specs.Frontiers.{QuestionValue, FrontierValue}
+use Rattle.candidate_formula.specs.Pruned.{is_cut_away}
 use Rattle.engine_search.specs.Found.{IsFound}
 use Rattle.link_faults.specs.Carrying.{is_carried}
 use Rattle.degrade_command.specs.declared.found.Found.{Found}
 use Rattle.degrade_command.specs.inner.After.{ArePartedBy, IsFoundAfter}
 
-module _ (q : QuestionValue) (old lent : List Candidate) (f : FrontierValue) (same : lent ≡ old) (found : IsFound q f) (points : All (λ p. is_carried old p.candidate ≡ false) f.points) (unknown : All (λ u. is_carried old u.candidate ≡ false) f.unknown) where
+module _ (q : QuestionValue) (old lent : List Candidate) (f : FrontierValue) (same : lent ≡ old) (found : IsFound q f) (points : All (λ p. is_carried old p.candidate ≡ false) f.points) (unknown : All (λ u. is_carried old u.candidate ≡ false) f.unknown) (uncut : All (λ u. is_cut_away q u.candidate ≡ false) f.unknown) where
   made_of : (after : Found) → after.frontier ≡ f → ArePartedBy lent after → IsFoundAfter q old after
   made_of after is parted = record {
     found = subst (IsFound q) (sym is) found;
     points = subst (λ (x : FrontierValue). All (λ p. is_carried old p.candidate ≡ false) x.points) (sym is) points;
     unknown = subst (λ (x : FrontierValue). All (λ u. is_carried old u.candidate ≡ false) x.unknown) (sym is) unknown;
+    uncut = subst (λ (x : FrontierValue). All (λ u. is_cut_away q u.candidate ≡ false) x.unknown) (sym is) uncut;
     parted = subst (λ xs. ArePartedBy xs after) same parted;
   }
 

@@ -153,10 +153,10 @@ fn fault_answer<H: Shelf>(
 }
 
 /// The answer to a fault of the links of a report whose text came whole. The report is audited
-/// first, over the shelf; its search is then done anew over the links that are left, where what the
-/// report refutes stays refuted. Before that the text, the fault or the size may be refused, and
-/// the shelf is not looked at. No file of the shelf changes, and no proof of the new search is
-/// kept.
+/// first, over the shelf; its search is then done anew over the links that are left, as its words
+/// say, where what the report refutes stays refuted. Before that the text, the fault or the size
+/// may be refused, and the shelf is not looked at. No file of the shelf changes, and no proof of
+/// the new search is kept.
 ///
 /// [`Halt::Shelf`] comes only where the shelf's count of faults rose, and [`Halt::Source`] never.
 pub fn degrade_answer<H: Shelf>(

@@ -1,12 +1,15 @@
 //! The search over the links that a fault left.
 
-ghost use Rattle.std.specs.Prelude.{◌≡◌, ◌≢◌, ◌<◌, ◌≤◌, length, All, IfOk};
+ghost use Rattle.std.specs.Prelude.{◌≡◌, ◌≢◌, ◌<◌, ◌≤◌, false, length, All, IfOk};
+ghost use Rattle.std.specs.List.Sorted.{IsPermutation};
 ghost use Rattle.schedule.specs.Judging.{group_at};
 ghost use Rattle.collective_spec.specs.Collectives.{IsSpec, kind_in};
 ghost use Rattle.round_encoding.specs.Candidates.{size_limit};
 ghost use Rattle.candidate_formula.specs.Sizes.{size_of};
+ghost use Rattle.pareto_search.specs.Recorded.{entries_of};
+ghost use Rattle.node_cuts.specs.Cutting.{is_cut};
 ghost use Rattle.link_faults.specs.Narrowed.{narrowed};
-ghost use Rattle.link_faults.specs.Carrying.{IsOldRefuted, narrowed_question};
+ghost use Rattle.link_faults.specs.Carrying.{IsOldRefuted, is_carried, narrowed_question};
 ghost use Rattle.degrade_command.specs.inner.After.{IsFoundAfter};
 
 use crate::OutOfMemory;
@@ -14,19 +17,33 @@ use crate::empty_shelf::EmptyShelf;
 use crate::fault::LinkFault;
 use crate::found::Found;
 use candidate_formula::own_links_to_search;
-use candidate_order::{Candidate, Limits};
+use candidate_order::{Candidate, Frontier, Limits};
 use candidate_solver::SatEngine;
 use collective_spec::{Kind, Spec};
-use degraded_links::{CarryEngine, EngineFault, carried_is_refuted};
+use cut_bounds::{CutEngine, Sets};
+use degraded_links::{CarryEngine, EngineFault, EngineView, carried_is_refuted};
 use engine_search::{frontier_by, links_to_search};
 use outer_ports::Part;
 use schedule::Topology;
 use std::alloc::Global;
 
+/// After a whole search no point and no unknown candidate is one that an old one carries, and no
+/// unknown candidate is one that a set of nodes refutes. This does nothing.
+fn nothing_is_left_open(engine: &CarryEngine<CutEngine<SatEngine>>, frontier: &Frontier)
+    requires { IsPermutation (⟦<CarryEngine<CutEngine<SatEngine>> as EngineView>⟧.entries engine.now) (entries_of frontier.now) }
+    ensures points { All (λ p. is_carried engine.now.old.items p.candidate ≡ false) frontier.now.points }
+    ensures unknown { All (λ u. is_carried engine.now.old.items u.candidate ≡ false) frontier.now.unknown }
+    ensures uncut { All (λ u. is_cut engine.now.inner.sets (⟦<CarryEngine<CutEngine<SatEngine>> as EngineView>⟧.question engine.now) u.candidate ≡ false) frontier.now.unknown }
+{
+    carried_is_refuted(engine, frontier);
+    let _within = engine.inner().inner();
+}
+
 /// The frontier of a collective over the links that a fault left of the given ones, and which of
-/// its refuted candidates the old ones carry; these are refuted without a search, and of the others
-/// no proof is kept. The old candidates had no schedule over the given links. The only error is
-/// `OutOfMemory`.
+/// its refuted candidates the old ones carry; these are refuted without a search, and so are those
+/// that a set of nodes refutes over the links that are left, where the limits have cuts made. Of
+/// the others no proof is kept. The old candidates had no schedule over the given links. The only
+/// error is `OutOfMemory`.
 pub(crate) fn search_left(
     alloc: Global,
     given: &Topology,
@@ -48,11 +65,12 @@ pub(crate) fn search_left(
     let before = own_links_to_search(given, spec)?;
     let links = links_to_search(left, spec)?;
     let inner = SatEngine::new(alloc, &links, spec, limits, Part::Whole, false)?;
-    let mut engine = CarryEngine::new(alloc, inner, before, fault.group, fault.width, old);
+    let cuts = CutEngine::new(alloc, inner, &links, spec, Sets::of(limits.pruning()))?;
+    let mut engine = CarryEngine::new(alloc, cuts, before, fault.group, fault.width, old);
     match frontier_by(alloc, &mut engine, &mut EmptyShelf, left, spec, limits) {
         Ok(frontier) => {
-            // This says that no point and no unknown candidate is carried.
-            carried_is_refuted(&engine, &frontier);
+            // This says that no unknown candidate is carried or cut, and no point is carried.
+            nothing_is_left_open(&engine, &frontier);
             Found::new(alloc, engine.old(), frontier)
         }
         Err(EngineFault::OutOfMemory) => Err(OutOfMemory),

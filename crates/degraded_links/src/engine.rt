@@ -10,7 +10,7 @@ ghost use Rattle.degraded_links.specs.Keeping.{HasNoneCarried, RefutesCarried, S
 
 use candidate_order::{Candidate, Outcome};
 use cnf_formula::ProofLine;
-use engine_rules::{Engine, EngineFault, EngineView, Settled};
+use engine_rules::{Engine, EngineFault, EngineView, Record, Settled};
 use link_faults::is_carried;
 use schedule::Topology;
 use std::alloc::Global;
@@ -22,12 +22,11 @@ use std::alloc::Global;
 pub struct CarryEngine<E: EngineView> {
     inner: E,
     old: Vec<Candidate>,
-    entries: Vec<(Candidate, Settled)>,
-    stopped: Option<Candidate>,
+    tried: Record,
     ghost none: { HasNoneCarried old.items (E.question inner) },
-    ghost alone: { RefutesCarried old.items entries.items },
-    ghost kept: { E.entries inner ≡ not_carried old.items entries.items },
-    ghost stops: { StopsAlike (E.stopped inner) stopped },
+    ghost alone: { RefutesCarried old.items tried.entries },
+    ghost kept: { E.entries inner ≡ not_carried old.items tried.entries },
+    ghost stops: { StopsAlike (E.stopped inner) tried.stopped },
 }
 
 impl<E: EngineView> CarryEngine<E> {
@@ -59,8 +58,7 @@ impl<E: EngineView> CarryEngine<E> {
         CarryEngine {
             inner,
             old,
-            entries: Vec::new(alloc),
-            stopped: None,
+            tried: Record::new(alloc),
         }
     }
 
@@ -103,9 +101,9 @@ impl<E: EngineView> EngineView for CarryEngine<E> {
 
     ghost question = { λ e. E.question e.inner };
 
-    ghost entries = { λ e. e.entries.items };
+    ghost entries = { λ e. e.tried.entries };
 
-    ghost stopped = { λ e. e.stopped };
+    ghost stopped = { λ e. e.tried.stopped };
 
     ghost log_lines = { λ e. E.log_lines e.inner };
 
@@ -121,9 +119,9 @@ impl<E: EngineView> EngineView for CarryEngine<E> {
 
     ghost exact = { λ e x within. E.exact e.inner x within };
 
-    ghost right = { λ e x found. of_record e.old.items (λ x. IsSolvable (E.question e.inner) x → ⊥) settled.Refuted e.entries.items (E.entries e.inner) e.kept (λ x _ carried. e.none x carried) (E.right e.inner) x found };
+    ghost right = { λ e x found. of_record e.old.items (λ x. IsSolvable (E.question e.inner) x → ⊥) settled.Refuted e.tried.entries (E.entries e.inner) e.kept (λ x _ carried. e.none x carried) (E.right e.inner) x found };
 
-    ghost exhausted = { λ e x found. of_record e.old.items (λ x. Exhausted (E.formula e.inner x) (E.question e.inner).limits.conflicts) settled.Unknown e.entries.items (E.entries e.inner) e.kept (λ x found carried. unknown_not_refuted (e.alone x settled.Unknown found carried)) (E.exhausted e.inner) x found };
+    ghost exhausted = { λ e x found. of_record e.old.items (λ x. Exhausted (E.formula e.inner x) (E.question e.inner).limits.conflicts) settled.Unknown e.tried.entries (E.entries e.inner) e.kept (λ x found carried. unknown_not_refuted (e.alone x settled.Unknown found carried)) (E.exhausted e.inner) x found };
 }
 
 impl<T, E: Engine<T>> Engine<T> for CarryEngine<E> {
@@ -137,22 +135,18 @@ impl<T, E: Engine<T>> Engine<T> for CarryEngine<E> {
 
     fn settle(&mut self, store: &mut T, candidate: Candidate) -> Result<Outcome, EngineFault> {
         let carried = self.carries(candidate);
-        let Ok(()) = self.entries.reserve(1) else {
-            self.stopped = Some(candidate);
-            return Err(EngineFault::OutOfMemory);
-        };
+        self.tried.prepare(candidate)?;
         if carried {
-            self.entries.push_reserved((candidate, Settled::Refuted));
+            self.tried.note(candidate, Settled::Refuted);
             return Ok(Outcome::Refuted);
         }
         match self.inner.settle(store, candidate) {
             Ok(outcome) => {
-                self.entries
-                    .push_reserved((candidate, Settled::of(&outcome)));
+                self.tried.note(candidate, Settled::of(&outcome));
                 Ok(outcome)
             }
             Err(fault) => {
-                self.stopped = Some(candidate);
+                self.tried.stop(candidate);
                 Err(fault)
             }
         }

@@ -4,8 +4,10 @@
 
 mod engine;
 mod fault;
+mod recording;
 mod settled;
 
 pub use engine::{Engine, EngineView};
 pub use fault::EngineFault;
+pub use recording::Record;
 pub use settled::Settled;

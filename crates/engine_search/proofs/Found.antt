@@ -20,7 +20,8 @@ use Rattle.inversion.specs.Inverted.{inverted_frontier, inverted_point}
 use Rattle.inversion.proofs.Reducing.{reduction_right, reduction_searched}
 use Rattle.pareto_search.specs.Recorded.{StaysWithin, entries_of}
 use Rattle.pareto_search.proofs.Entries.{with}
-use Rattle.engine_search.specs.Searched.{asked_frontier, copying_schedule, searched_question}
+use Rattle.candidate_formula.specs.Searched.{copying_schedule, searched_question}
+use Rattle.engine_search.specs.Searched.{asked_frontier}
 use Rattle.engine_search.specs.Found.{IsFoundBy}
 use Rattle.engine_search.proofs.Searched.{searched_itself, searched_turned, within_alike}
 use Rattle.engine_search.proofs.Recorded.{each_unknown, refuted_within}

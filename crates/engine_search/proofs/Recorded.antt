@@ -38,9 +38,21 @@ entry_tried f x kind at = elim (Contains-append_cases (map (with Solved) (solved
   | inr third ↦ inr (inr (in_list Unknown (given_up f) x kind third))
 ]
 
+entry_refuted : (f : FrontierValue) (x : Candidate) → Contains (entries_of f) (with Refuted x) → Contains f.refuted x
+entry_refuted f x at = elim (Contains-append_cases (map (with Solved) (solved f) ++ map (with Refuted) f.refuted) (map (with Unknown) (given_up f)) (with Refuted x) at) [
+  | inl sooner ↦ elim (Contains-append_cases (map (with Solved) (solved f)) (map (with Refuted) f.refuted) (with Refuted x) sooner) [
+    | inl first ↦ let from = comes_from (with Solved) (solved f) (with Refuted x) first in let other : Refuted ≡ Solved = ap (λ (e : Candidate × Settled). e.1) from.is in absurd (cc)
+    | inr second ↦ in_list Refuted f.refuted x Refuted second
+  ]
+  | inr third ↦ let from = comes_from (with Unknown) (given_up f) (with Refuted x) third in let other : Refuted ≡ Unknown = ap (λ (e : Candidate × Settled). e.1) from.is in absurd (cc)
+]
+
 module _ (f : FrontierValue) (entries : RecordValue) (same : IsPermutation entries (entries_of f)) where
   pub was_tried : (x : Candidate) (kind : Settled) → Contains entries (with kind x) → IsTried f x
   was_tried x kind at = entry_tried f x kind (Contains-permutation entries (entries_of f) (with kind x) same at)
+
+  pub was_refuted : (x : Candidate) → Contains entries (with Refuted x) → Contains f.refuted x
+  was_refuted x at = entry_refuted f x (Contains-permutation entries (entries_of f) (with Refuted x) same at)
 
   -- what holds of each entry of a kind holds of all that the list has
   pub each_unknown : (P : Candidate → Type 0) → ((x : Candidate) → Contains entries (with Unknown x) → P x) → All (λ (u : UnknownValue). P u.candidate) f.unknown

@@ -18,7 +18,7 @@ use Rattle.candidate_formula.proofs.CopyingQuestions.{reduced_formula}
 use Rattle.candidate_formula.proofs.Copying.{copied_stays, same_allowed}
 use Rattle.candidate_formula.proofs.TurnedSize.{copied_size}
 use Rattle.candidate_formula.specs.Formulas.{searched_links}
-use Rattle.engine_search.specs.Searched.{searched_question}
+use Rattle.candidate_formula.specs.Searched.{searched_question}
 
 -- ---- a reduction as its copy over the links turned round, and what copies as it is
 

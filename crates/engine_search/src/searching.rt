@@ -6,7 +6,8 @@ ghost use Rattle.outer_ports.specs.Port.{HasCause};
 ghost use Rattle.engine_rules.specs.Searches.{CanGoOn, IsSameSearch};
 ghost use Rattle.collective_spec.specs.Collectives.{IsSpec};
 ghost use Rattle.pareto_search.specs.Recorded.{StaysWithin, entries_of};
-ghost use Rattle.engine_search.specs.Searched.{asked_frontier, searched_question};
+ghost use Rattle.candidate_formula.specs.Searched.{searched_question};
+ghost use Rattle.engine_search.specs.Searched.{asked_frontier};
 ghost use Rattle.engine_search.specs.Found.{IsFoundBy};
 
 use crate::OutOfMemory;

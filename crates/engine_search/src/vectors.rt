@@ -3,7 +3,8 @@
 ghost use Rattle.std.specs.Prelude.{◌≡◌, [], ◌∷◌};
 ghost use Rattle.schedule.specs.Rows.{back_of_2, only, ring_broadcast, ring_reduce};
 ghost use Rattle.candidate_order.specs.Rows.{asked, solved_by};
-ghost use Rattle.engine_search.specs.Searched.{asked_frontier, copying_schedule, searched_question};
+ghost use Rattle.candidate_formula.specs.Searched.{copying_schedule, searched_question};
+ghost use Rattle.engine_search.specs.Searched.{asked_frontier};
 
 use collective_spec::Kind;
 

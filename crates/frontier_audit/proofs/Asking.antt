@@ -1,6 +1,7 @@
 -- What is asked in a part of a report, and the formulas of its candidates.
 use Rattle.std.proofs.Common.{◌≡◌, ◌≢◌, ℕ, ◌+◌, ◌*◌, ◌≤◌, Bool, true, false, [], ◌∷◌, Option, None, Some, length, refl, sym, ap, ◌∙◌, subst, arith}
-use Rattle.std.specs.Prelude.{if◌then◌else◌, All, Contains, sum_by}
+use Rattle.std.specs.Prelude.{◌<◌, if◌then◌else◌, All, Contains, sum_by}
+use Rattle.std.specs.Option.{is_some}
 use Rattle.std.proofs.lemmas.List.Elements.{All-nil, All-cons, All-contains}
 use Rattle.outer_ports.specs.declared.part.Part.{Part}
 use Rattle.outer_ports.specs.declared.part.Part.TheVariants as part
@@ -10,7 +11,8 @@ use Rattle.collective_spec.specs.declared.kind.Kind.{Kind}
 use Rattle.collective_spec.specs.declared.kind.Kind.TheVariants as kind
 use Rattle.collective_spec.specs.declared.spec.Spec.{Spec}
 use Rattle.collective_spec.specs.Patterns.{PatternValue}
-use Rattle.collective_spec.specs.Collectives.{adds_up, chunks_in, fits_kind, spec_of}
+use Rattle.collective_spec.specs.Collectives.{adds_up, chunks_in, fits_kind, kind_in, spec_instance, spec_of}
+use Rattle.collective_spec.specs.Kinds.{allows}
 use Rattle.collective_spec.proofs.Sized.{fitting_spec}
 use Rattle.candidate_order.specs.declared.candidate.Candidate.{Candidate}
 use Rattle.candidate_order.specs.Ranges.{LimitsValue}
@@ -18,32 +20,42 @@ use Rattle.candidate_order.specs.Frontiers.{QuestionValue, IsWithin}
 use Rattle.candidate_order.specs.Copied.{copied_spec}
 use Rattle.round_encoding.specs.Candidates.{group_size, size_limit}
 use Rattle.report_form.specs.Reports.{ReportValue, IsReport, kind_of, parts_of, question_of}
+use Rattle.node_cuts.specs.declared.sets.Sets.{Sets}
+use Rattle.node_cuts.specs.Cuts.{first_cut_of}
+use Rattle.node_cuts.specs.Cutting.{cut_in, sets_for}
+use Rattle.node_cuts.specs.Tables.{TableValue, IsTableOf}
 use Rattle.candidate_formula.specs.Formulas.{formula_for, searched_on}
+use Rattle.candidate_formula.specs.Pruned.{is_cut_away}
 use Rattle.candidate_formula.specs.Sizes.{size_of}
 use Rattle.candidate_formula.specs.Questions.{IsSmallQuestion, IsSought, copying_question}
 use Rattle.candidate_formula.proofs.CopyingQuestions.{same_size, small_by_copying, within_by, reduced_formula}
 use Rattle.candidate_formula.proofs.Copying.{same_allowed, copied_stays}
 use Rattle.candidate_formula.proofs.TurnedSize.{copied_size}
-use Rattle.frontier_audit.specs.inner.Auditable.{IsAuditable}
+use Rattle.frontier_audit.specs.inner.Auditable.{IsAuditable, IsPrepared}
 use Rattle.frontier_audit.proofs.Right.{apart, apart_in}
 use Rattle.frontier_audit.proofs.Unsolvable.{parts_fit}
 
 -- ---- the links of the formulas
 
-module _ (q : QuestionValue) (asked : IsAuditable q) where
+module _ (q : QuestionValue) where
   abbrev links : Bool → TopologyValue
   links b = if b then reversed_of q.topology else q.topology
 
-  small_over : (b : Bool) → adds_up q.spec ≡ b → IsSmallQuestion (copying_question (links b) q.spec q.limits)
+  nodes_on : (b : Bool) → (links b).nodes ≡ q.topology.nodes
+  nodes_on true = refl
+  nodes_on false = refl
+
+module _ (q : QuestionValue) (asked : IsAuditable q) where
+  small_over : (b : Bool) → adds_up q.spec ≡ b → IsSmallQuestion (copying_question (links q b) q.spec q.limits)
   small_over true e = small_by_copying (reversed_of q.topology) q.spec q.limits (turned_topology q.topology asked.topology) asked.spec asked.single asked.limits
       (subst (λ n. n ≤ size_limit) (sym (copied_size q) ∙ same_size (reversed_of q.topology) q.spec q.limits) asked.size)
   small_over false e = small_by_copying q.topology q.spec q.limits asked.topology asked.spec asked.single asked.limits asked.size
 
-  within_over : (b : Bool) (x : Candidate) → IsWithin q x → IsWithin (copying_question (links b) q.spec q.limits) x
+  within_over : (b : Bool) (x : Candidate) → IsWithin q x → IsWithin (copying_question (links q b) q.spec q.limits) x
   within_over true x w = within_by (reversed_of q.topology) q.limits x q.spec (copied_spec q.spec) (sym (same_allowed q.spec q.topology.nodes x.c)) w
   within_over false x w = within_by q.topology q.limits x q.spec (copied_spec q.spec) (sym (same_allowed q.spec q.topology.nodes x.c)) w
 
-  formula_over : (b : Bool) (x : Candidate) → adds_up q.spec ≡ b → formula_for (copying_question (links b) q.spec q.limits) x ≡ formula_for q x
+  formula_over : (b : Bool) (x : Candidate) → adds_up q.spec ≡ b → formula_for (copying_question (links q b) q.spec q.limits) x ≡ formula_for q x
   formula_over true x e = reduced_formula q x e asked.single
   formula_over false x e = ap (λ s. formula_for (record { topology = q.topology; spec = s; limits = q.limits }) x) (copied_stays q.spec e)
 
@@ -54,13 +66,34 @@ module _ (q : QuestionValue) (asked : IsAuditable q) where
   formula_on x = formula_over (adds_up q.spec) x refl
 
 -- the parts of what is asked are these
-module _ (t searched : TopologyValue) (s : Spec) (l : LimitsValue) (q : QuestionValue) (is : record { topology = t; spec = s; limits = l } ≡ q)
-    (keeps : IsAuditable (record { topology = t; spec = s; limits = l }) × (searched ≡ searched_on (record { topology = t; spec = s; limits = l }))) where
+module _ (t searched : TopologyValue) (s : Spec) (l : LimitsValue) (cuts : TableValue) (q : QuestionValue) (is : record { topology = t; spec = s; limits = l } ≡ q)
+    (keeps : IsPrepared (record { topology = t; spec = s; limits = l }) searched cuts) where
+  abbrev asked : QuestionValue
+  asked = record { topology = t; spec = s; limits = l }
+
+  within_asked : (x : Candidate) → IsWithin q x → IsWithin asked x
+  within_asked x w = subst (λ p. IsWithin p x) (sym is) w
+
   pub is_sought : (x : Candidate) → IsWithin q x → IsSought searched s x
-  is_sought x w = subst (λ links. IsSought links s x) (sym keeps.1) (sought_on (record { topology = t; spec = s; limits = l }) keeps.0 x (subst (λ p. IsWithin p x) (sym is) w))
+  is_sought x w = subst (λ links. IsSought links s x) (sym keeps.links) (sought_on asked keeps.question x (within_asked x w))
 
   pub formula_is : (x : Candidate) → formula_for (copying_question searched s l) x ≡ formula_for q x
-  formula_is x = ap (λ links. formula_for (copying_question links s l) x) keeps.1 ∙ (formula_on (record { topology = t; spec = s; limits = l }) keeps.0 x ∙ ap (λ p. formula_for p x) is)
+  formula_is x = ap (λ links. formula_for (copying_question links s l) x) keeps.links ∙ (formula_on asked keeps.question x ∙ ap (λ p. formula_for p x) is)
+
+  -- what the table of the cuts says
+  abbrev Says : Candidate → Bool → Type 0
+  Says x b = (sets : Sets) (over : TopologyValue) (spec : Spec) → IsTableOf sets over spec cuts → 0 < over.nodes → allows (kind_in spec) over.nodes x.c ≡ true
+      → b ≡ is_some (first_cut_of sets over (spec_instance spec over.nodes x.c).pre (spec_instance spec over.nodes x.c).post x.r)
+
+  pub cut_is : (x : Candidate) (b : Bool) → IsWithin q x → Says x b → b ≡ is_cut_away q x
+  cut_is x b w says =
+      let nodes : searched.nodes ≡ t.nodes = ap (λ (links : TopologyValue). links.nodes) keeps.links ∙ nodes_on asked (adds_up s) in
+      let within = within_asked x w in
+      says (sets_for l.pruning) searched s keeps.cuts (subst (λ n. 0 < n) (sym nodes) (some_nodes keeps.question)) (subst (λ n. allows (kind_in s) n x.c ≡ true) (sym nodes) within.allowed)
+      ∙ (ap (λ links. is_some (cut_in (sets_for l.pruning) links s x)) keeps.links ∙ ap (λ p. is_cut_away p x) is)
+    where
+      some_nodes : IsAuditable asked → 0 < t.nodes
+      some_nodes a = let topology = a.topology in topology.some
 
 -- ---- the parts of a report
 

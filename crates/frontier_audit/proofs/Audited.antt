@@ -13,7 +13,8 @@ use Rattle.frontier_audit.specs.Candidates.{candidates_within}
 use Rattle.frontier_audit.specs.Joining.{joined_checked}
 use Rattle.frontier_audit.specs.Auditing.{point_checked, refuted_checked, unknown_checked, candidate_checked, mark_checked, frontier_checked, report_checked, audit_of}
 use Rattle.frontier_audit.proofs.Passing.{then_ok, ok_then, each_ok, ok_each, in_part_ok, ok_in_part, verified_ok, ok_verified}
-use Rattle.frontier_audit.proofs.Beside.{has_refutation, has_log_of}
+use Rattle.frontier_audit.proofs.Beside.{has_log_of}
+use Rattle.frontier_audit.proofs.CutAway.{owes_refutation}
 use Rattle.frontier_audit.specs.inner.Steps.{part_checked}
 
 -- each check of a part passes
@@ -85,7 +86,7 @@ report_passed r files p =
 
 pub part_right : (part : Part) (q : QuestionValue) (files : Files) (f : FrontierValue) → All (IsUnknown q) f.unknown → Passes part q files f → PartRight part q f files
 part_right part q files f stated p = record {
-  refuted = λ k d w. has_refutation part q files (get_or f.refuted k d) (p.refuted k d w);
+  refuted = λ k d w uncut. owes_refutation part q files (get_or f.refuted k d) (p.refuted k d w) uncut;
   unknown = λ k d w. let u = stated k d w in has_log_of part q files (get_or f.unknown k d) u.conflicts (p.unknown k d w);
 }
 

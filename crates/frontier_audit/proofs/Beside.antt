@@ -18,7 +18,7 @@ use Rattle.candidate_formula.specs.Lines.{lines_of_text}
 use Rattle.candidate_formula.specs.Formulas.{formula_for}
 use Rattle.candidate_formula.specs.Files.{file_of, longest_proof, HasRefutation, HasLog}
 use Rattle.proof_audit.specs.Proving.{do_refute, do_spend, is_refutation, is_spent_log}
-use Rattle.frontier_audit.specs.Auditing.{refuted_checked, unknown_checked}
+use Rattle.frontier_audit.specs.Auditing.{refutation_checked, unknown_checked}
 use Rattle.frontier_audit.proofs.Passing.{then_ok, ok_then, refused_not, not_refused}
 use Rattle.proof_audit.proofs.Proved.{refutes_by, by_refuting, spent_by, by_spending}
 
@@ -55,7 +55,7 @@ passes_beside cnf lrat f x b =
     (not_refused (bytes_eq (cnf_text f) (cnf_text f)) (CnfDiffers, x) ((bytes_eq-Decides (cnf_text f) (cnf_text f)).1 refl))
     (needs lrat (ProofMissing, x) (λ bytes. refuse (not (is_refutation f bytes)) (ProofRefused, x)) b.proof b.there (not_refused (is_refutation f b.proof) (ProofRefused, x) b.refutes)))
 
-pub has_refutation : (part : Part) (q : QuestionValue) (files : Files) (x : Candidate) → refuted_checked part q files x ≡ Ok tt → HasRefutation part q files x
+pub has_refutation : (part : Part) (q : QuestionValue) (files : Files) (x : Candidate) → refutation_checked part q files x ≡ Ok tt → HasRefutation part q files x
 has_refutation part q files x e =
     let b = beside (files (file_of Cnf part x)) (files (file_of Lrat part x)) (formula_for q x) x e in
     let parts = and_parts (nat_le (length b.proof) longest_proof) (do_refute (formula_for q x) (lines_of_text b.proof)) b.refutes in
@@ -67,7 +67,7 @@ has_refutation part q files x e =
       refutes = refutes;
     }
 
-pub passes_refutation : (part : Part) (q : QuestionValue) (files : Files) (x : Candidate) → HasRefutation part q files x → refuted_checked part q files x ≡ Ok tt
+pub passes_refutation : (part : Part) (q : QuestionValue) (files : Files) (x : Candidate) → HasRefutation part q files x → refutation_checked part q files x ≡ Ok tt
 passes_refutation part q files x h =
     passes_beside (files (file_of Cnf part x)) (files (file_of Lrat part x)) (formula_for q x) x
     (record {

@@ -2,6 +2,7 @@ pub mod Shelves
 pub mod Unique
 pub mod Passing
 pub mod Beside
+pub mod CutAway
 pub mod Audited
 pub mod Tried
 pub mod Marked

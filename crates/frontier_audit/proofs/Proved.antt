@@ -1,16 +1,18 @@
 -- The files that a search leaves are what an audit looks for.
+use Rattle.std.proofs.Common.{◌≡◌, false}
 use Rattle.std.proofs.lemmas.List.Elements.{All-weaker}
 use Rattle.outer_ports.specs.declared.part.Part.{Part}
 use Rattle.outer_ports.specs.Files.{Files}
 use Rattle.candidate_order.specs.Frontiers.{QuestionValue, FrontierValue}
 use Rattle.candidate_formula.specs.Files.{HasRefutation, HasLog, RefutedFiles, UnknownFiles, FrontierFiles}
+use Rattle.candidate_formula.specs.Pruned.{is_cut_away}
 use Rattle.report_form.specs.Reports.{ReportValue, question_of}
 use Rattle.frontier_audit.specs.OwedFiles.{Proves}
 use Rattle.frontier_audit.specs.Shelves.{PartRight, ShelfRight}
 
 files_right : (part : Part) (q : QuestionValue) (files : Files) (f : FrontierValue) → FrontierFiles part q files f → PartRight part q f files
 files_right part q files f has = record {
-  refuted = All-weaker (RefutedFiles part q files) (HasRefutation part q files) (λ x own. own.refutation) f.refuted has.refuted;
+  refuted = All-weaker (λ x. is_cut_away q x ≡ false → RefutedFiles part q files x) (λ x. is_cut_away q x ≡ false → HasRefutation part q files x) (λ x own uncut. let files_of = own uncut in files_of.refutation) f.refuted has.refuted;
   unknown = All-weaker (UnknownFiles part q files) (HasLog part q files) (λ u own. own.log) f.unknown has.unknown;
 }
 

@@ -24,7 +24,8 @@ use Rattle.frontier_audit.specs.Solutions.{is_solution, is_optimal, is_mark}
 use Rattle.frontier_audit.specs.Joining.{IsSummable, joins_checked, joined_checked, is_reduce, is_gather, points_of}
 use Rattle.frontier_audit.specs.Auditing.{is_answered, audit_of}
 use Rattle.frontier_audit.proofs.Passing.{refused_not, not_refused, in_part_ok, ok_in_part}
-use Rattle.frontier_audit.proofs.Beside.{passes_refutation, passes_log}
+use Rattle.frontier_audit.proofs.Beside.{passes_log}
+use Rattle.frontier_audit.proofs.CutAway.{passes_refuted}
 use Rattle.frontier_audit.proofs.Audited.{Passes, PartPasses, report_passes, report_passed}
 use Rattle.frontier_audit.proofs.Tried.{listed_contains, within_listed, each_within}
 use Rattle.frontier_audit.proofs.Marked.{answered_decides, optimal_decides, mark_by, by_mark}
@@ -62,7 +63,7 @@ right_part part q files f single ok p unsolvable = record {
 pub part_passes : (part : Part) (q : QuestionValue) (files : Files) (f : FrontierValue) → RightFrontier q f → PartRight part q f files → Passes part q files f
 part_passes part q files f right shelf = record {
   points = λ k d low. let p = right.points k d low in not_refused (is_solution q (get_or f.points k d)) (ScheduleWrong, (get_or f.points k d).candidate) (by_solution q (get_or f.points k d) p.solves);
-  refuted = λ k d low. passes_refutation part q files (get_or f.refuted k d) (shelf.refuted k d low);
+  refuted = λ k d low. passes_refuted part q files (get_or f.refuted k d) (shelf.refuted k d low);
   unknown = λ k d low. let u = right.unknown k d low in passes_log part q files (get_or f.unknown k d) u.conflicts (shelf.unknown k d low);
   candidates = λ k d low.
       let x = get_or (candidates_within q) k d in

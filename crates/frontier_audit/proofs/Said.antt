@@ -1,5 +1,5 @@
 -- What is said of the files of a candidate, and what it denies.
-use Rattle.std.proofs.Common.{◌≡◌, ℕ, Bool, true, false, List, Option, None, Some, refl, sym, ap, ◌∙◌, subst}
+use Rattle.std.proofs.Common.{◌≡◌, ℕ, Bool, true, false, List, Option, None, Some, Ok, refl, sym, ap, ◌∙◌, subst}
 use Rattle.std.specs.Prelude.{not, if◌then◌else◌, bytes_eq, IsTrue}
 use Rattle.text_lines.specs.Check.{◌>>=◌, refuse, need}
 use Rattle.outer_ports.specs.declared.part.Part.{Part}
@@ -17,6 +17,7 @@ use Rattle.candidate_order.specs.Frontiers.{QuestionValue, UnknownValue}
 use Rattle.candidate_order.proofs.Orders.{Before-irrefl}
 use Rattle.candidate_formula.specs.Formulas.{formula_for}
 use Rattle.candidate_formula.specs.Files.{candidate_of, file_of}
+use Rattle.candidate_formula.specs.Pruned.{is_cut_away}
 use Rattle.proof_audit.specs.declared.verdict.FileVerdict.{FileVerdict}
 use Rattle.proof_audit.specs.declared.verdict.FileVerdict.TheVariants.{Refused, Stands}
 use Rattle.proof_audit.specs.Proving.{is_refutation, is_spent_log}
@@ -24,7 +25,7 @@ use Rattle.proof_audit.specs.Files.{file_verdict, IsFileVerdict}
 use Rattle.frontier_audit.specs.declared.verdict.Reason.TheVariants.{ProofMissing, ProofRefused, CnfDiffers, PartialRefused}
 use Rattle.frontier_audit.specs.Denials.{Denial, Checked}
 use Rattle.frontier_audit.specs.Candidates.{same_candidate}
-use Rattle.frontier_audit.specs.Auditing.{refuted_checked, unknown_checked}
+use Rattle.frontier_audit.specs.Auditing.{refutation_checked, refuted_checked, unknown_checked}
 use Rattle.frontier_audit.specs.Beside.{denial_of, AnswersBeside}
 use Rattle.frontier_audit.specs.inner.Steps.{denial_for}
 use Rattle.frontier_audit.proofs.Beside.{over_files}
@@ -91,7 +92,7 @@ module _ (tells : Bool) (shelf : Files) (part : Part) (q : QuestionValue) (x : C
   abbrev Checks : FormulaValue → Option Denial → Type 0
   Checks g d = AnswersBeside tells shelf (λ files. over_files (files (file_of Cnf part x)) (files (file_of Lrat part x)) g x) d
 
-  pub text_denies : (name : ProofName) (v : FileVerdict) (d : Denial) → name ≡ file_of Cnf part x → Said tells shelf name (is_text_of f) v → denial_for v CnfDiffers x ≡ Some d → AnswersBeside tells shelf (λ files. refuted_checked part q files x) (Some d)
+  pub text_denies : (name : ProofName) (v : FileVerdict) (d : Denial) → name ≡ file_of Cnf part x → Said tells shelf name (is_text_of f) v → denial_for v CnfDiffers x ≡ Some d → AnswersBeside tells shelf (λ files. refutation_checked part q files x) (Some d)
   text_denies name v d at said e =
       let s = subst (λ n. Said tells shelf n (is_text_of f) v) at said in
       subst (λ g. Checks g (Some d)) is
@@ -100,7 +101,7 @@ module _ (tells : Bool) (shelf : Files) (part : Part) (q : QuestionValue) (x : C
       (λ n. by_kind s.some.file None None n.kind) (no_text s.some.file None f x v d s.some.is e))
 
   pub proof_decides : (one two : ProofName) (v w : FileVerdict) → one ≡ file_of Cnf part x → Said tells shelf one (is_text_of f) v → denial_for v CnfDiffers x ≡ None → two ≡ file_of Lrat part x → Said tells shelf two (is_refutation f) w
-      → AnswersBeside tells shelf (λ files. refuted_checked part q files x) (denial_for w ProofRefused x)
+      → AnswersBeside tells shelf (λ files. refutation_checked part q files x) (denial_for w ProofRefused x)
   proof_decides one two v w at said e at_proof said_proof =
       let s = subst (λ n. Said tells shelf n (is_text_of f) v) at said in
       let p = subst (λ n. Said tells shelf n (is_refutation f) w) at_proof said_proof in
@@ -141,8 +142,9 @@ log_decides tells shelf part q u x n f name v same count is at said =
 
 pub looks_refuted : (own : ProofName → Bool) (part : Part) (q : QuestionValue) (x : Candidate) → own (file_of Cnf part x) ≡ true → own (file_of Lrat part x) ≡ true → LooksAt own (λ files. refuted_checked part q files x)
 looks_refuted own part q x cnf lrat f g same =
-    ap (λ o. over_files o (f (file_of Lrat part x)) (formula_for q x) x) (same (file_of Cnf part x) cnf)
-    ∙ ap (λ o. over_files (g (file_of Cnf part x)) o (formula_for q x) x) (same (file_of Lrat part x) lrat)
+    ap (λ checked. if is_cut_away q x then Ok tt else checked)
+    (ap (λ o. over_files o (f (file_of Lrat part x)) (formula_for q x) x) (same (file_of Cnf part x) cnf)
+    ∙ ap (λ o. over_files (g (file_of Cnf part x)) o (formula_for q x) x) (same (file_of Lrat part x) lrat))
 
 pub looks_unknown : (own : ProofName → Bool) (part : Part) (q : QuestionValue) (u : UnknownValue) → own (file_of Partial part u.candidate) ≡ true → LooksAt own (λ files. unknown_checked part q files u)
 looks_unknown own part q u log f g same = ap (λ o. over_log o (formula_for q u.candidate) u.conflicts u.candidate) (same (file_of Partial part u.candidate) log)

@@ -1,6 +1,6 @@
 -- A refuted candidate has no solution, since its formula is satisfiable where it has one.
 use Rattle.std.proofs.Common.{◌≡◌, ◌≢◌, ℕ, ◌<◌, Bool, true, false, [], ◌∷◌, get_or, Option, None, Some, refl, sym, ◌∙◌, subst, arith}
-use Rattle.std.specs.Prelude.{All, Contains}
+use Rattle.std.specs.Prelude.{◌↔◌, All, Contains}
 use Rattle.std.proofs.lemmas.List.Elements.{All-nil, All-cons, All-contains, All-contains_itself}
 use Rattle.outer_ports.specs.declared.part.Part.{Part}
 use Rattle.outer_ports.specs.declared.part.Part.TheVariants as part
@@ -25,6 +25,7 @@ use Rattle.cnf_formula.specs.Formulas.{Satisfiable}
 use Rattle.report_form.specs.Reports.{ReportValue, IsReport, IsFrontier, parts_of, kind_of, question_of}
 use Rattle.frontier_audit.specs.declared.verdict.AuditVerdict.TheVariants.{Verified}
 use Rattle.candidate_formula.specs.Formulas.{formula_for}
+use Rattle.candidate_formula.specs.Pruned.{is_cut_away}
 use Rattle.candidate_formula.proofs.CopyingQuestions.{within_by, reduced_formula}
 use Rattle.candidate_formula.proofs.Copying.{copied_keeps, copies, same_allowed}
 use Rattle.candidate_formula.proofs.Exact.{exact_for}
@@ -32,6 +33,7 @@ use Rattle.frontier_audit.specs.Shelves.{ShelfRight}
 use Rattle.frontier_audit.specs.Auditing.{audit_of}
 use Rattle.frontier_audit.proofs.Shelves.{unsatisfiable, question}
 use Rattle.frontier_audit.proofs.Audited.{shelf_right}
+use Rattle.frontier_audit.proofs.CutAway.{cut_unsolvable}
 use Rattle.frontier_audit.proofs.Right.{apart_in, each_apart, verified_right}
 
 -- ---- the spec of a part
@@ -101,27 +103,47 @@ module _ (q : QuestionValue) (x : Candidate) (topology : IsTopology q.topology) 
   unfolding turned
   within_turned = within_by (reversed_of q.topology) q.limits x q.spec (copied_spec q.spec) (sym (same_allowed q.spec q.topology.nodes x.c)) w
 
-  by_kind : (b : Bool) → adds_up q.spec ≡ b → IsSolvable q x → Satisfiable (formula_for q x)
+  by_kind : (b : Bool) → adds_up q.spec ≡ b → Satisfiable (formula_for q x) ↔ IsSolvable q x
   unfolding turned
-  by_kind false copying solvable = (exact_for q x copying (candidate_for q x topology is limits w)).1 solvable
-  by_kind true adds solvable =
-      subst Satisfiable (reduced_formula q x adds single)
-      ((exact_for turned x (copies q.spec single) (candidate_for turned x (turned_topology q.topology topology) (copied_keeps q.topology.nodes q.spec is) limits within_turned)).1
-      ((solvable_exactly q x adds single is).0 solvable))
+  by_kind false copying = exact_for q x copying (candidate_for q x topology is limits w)
+  by_kind true adds =
+      let exact = exact_for turned x (copies q.spec single) (candidate_for turned x (turned_topology q.topology topology) (copied_keeps q.topology.nodes q.spec is) limits within_turned) in
+      let same = reduced_formula q x adds single in
+      let sums = solvable_exactly q x adds single is in
+      (λ some. sums.1 (exact.0 (subst Satisfiable (sym same) some)), λ some. subst Satisfiable same (exact.1 (sums.0 some)))
 
-  satisfiable_where_solved : IsSolvable q x → Satisfiable (formula_for q x)
-  satisfiable_where_solved solvable = by_kind (adds_up q.spec) refl solvable
+  exactly_solved : Satisfiable (formula_for q x) ↔ IsSolvable q x
+  exactly_solved = by_kind (adds_up q.spec) refl
 
 -- ---- refuted candidates
 
+-- one or the other
+by_either : (b : Bool) → (b ≡ true → ⊥) → (b ≡ false → ⊥) → ⊥
+by_either true on off = on refl
+by_either false on off = off refl
+
+module _ (r : ReportValue) (part : Part) (f : FrontierValue) (x : Candidate) (ok : IsReport r) (at : Contains r.frontiers (part, f)) (of : Contains f.refuted x) where
+  alone : kind_in (question r part).spec ≢ kind.Allreduce
+  alone =
+      let single = All-contains (λ y. kind_of r.words.collective.kind y.0 ≢ kind.Allreduce) r.frontiers (part, f) (each_apart r ok) at in
+      apart_in (record { kind = kind_of r.words.collective.kind part; root = r.words.collective.root }) r.topology.custom single
+
+  formula_is_exact : Satisfiable (formula_for (question r part) x) ↔ IsSolvable (question r part) x
+  formula_is_exact =
+      let frontier = All-contains (λ y. IsFrontier (question_of r.words r.topology y.0) y.1) r.frontiers (part, f) ok.frontiers at in
+      let within = All-contains (IsWithin (question r part)) f.refuted x frontier.refuted of in
+      exactly_solved (question r part) x ok.topology.topology (spec_is r part f ok at) alone ok.words.limits within
+
+-- what is cut away has no solution, and the formula of another has a proof beside it
 pub no_solution : (r : ReportValue) (files : Files) (part : Part) (f : FrontierValue) (x : Candidate) → IsReport r → ShelfRight r files → Contains r.frontiers (part, f) → Contains f.refuted x → IsSolvable (question r part) x → ⊥
 no_solution r files part f x ok shelf at of solvable =
-    let q = question r part in
-    let frontier = All-contains (λ y. IsFrontier (question_of r.words r.topology y.0) y.1) r.frontiers (part, f) ok.frontiers at in
-    let within = All-contains (IsWithin q) f.refuted x frontier.refuted of in
-    let single = All-contains (λ y. kind_of r.words.collective.kind y.0 ≢ kind.Allreduce) r.frontiers (part, f) (each_apart r ok) at in
-    let alone = apart_in (record { kind = kind_of r.words.collective.kind part; root = r.words.collective.root }) r.topology.custom single in
-    unsatisfiable r files part f x shelf at of (satisfiable_where_solved q x ok.topology.topology (spec_is r part f ok at) alone ok.words.limits within solvable)
+    let exact = formula_is_exact r part f x ok at of in
+    by_either (is_cut_away (question r part) x)
+    (λ cut. cut_unsolvable (question r part) x (spec_is r part f ok at) (alone r part f x ok at of) cut solvable)
+    (λ uncut. unsatisfiable r files part f x shelf at of uncut (exact.1 solvable))
+
+pub no_model : (r : ReportValue) (files : Files) (part : Part) (f : FrontierValue) (x : Candidate) → IsReport r → ShelfRight r files → Contains r.frontiers (part, f) → Contains f.refuted x → Satisfiable (formula_for (question r part) x) → ⊥
+no_model r files part f x ok shelf at of some = let exact = formula_is_exact r part f x ok at of in no_solution r files part f x ok shelf at of (exact.0 some)
 
 pub all_right : (r : ReportValue) (files : Files) → IsReport r → audit_of r files ≡ Verified → (part : Part) (f : FrontierValue) → Contains r.frontiers (part, f) → RightFrontier (question r part) f
 all_right r files ok e part f at = verified_right r files ok e part f at (λ k d low. no_solution r files part f (get_or f.refuted k d) ok (shelf_right r files ok e) at (All-contains_itself f.refuted k d low))

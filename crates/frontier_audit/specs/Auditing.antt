@@ -1,5 +1,5 @@
 -- The checks of a report and of the files beside it, in their order. This project's own.
-use Rattle.std.specs.Prelude.{◌||◌, not, Bool, bytes_eq}
+use Rattle.std.specs.Prelude.{◌||◌, not, Bool, if◌then◌else◌, bytes_eq, Ok}
 use Rattle.std.specs.List.{list_any}
 use Rattle.text_lines.specs.Check.{◌>>=◌, refuse, need}
 use Rattle.outer_ports.specs.declared.part.Part.{Part}
@@ -15,6 +15,7 @@ use Rattle.frontier_audit.specs.declared.verdict.Reason.TheVariants.{ScheduleWro
 use Rattle.frontier_audit.specs.Denials.{Denial, Checked, each, in_part, verdict_from}
 use Rattle.candidate_formula.specs.Formulas.{formula_for}
 use Rattle.candidate_formula.specs.Files.{file_of}
+use Rattle.candidate_formula.specs.Pruned.{is_cut_away}
 use Rattle.proof_audit.specs.Proving.{is_refutation, is_spent_log}
 use Rattle.frontier_audit.specs.Candidates.{is_listed, candidates_within}
 use Rattle.frontier_audit.specs.Solutions.{is_solution, is_optimal, is_mark}
@@ -24,12 +25,16 @@ abbrev pub point_checked : QuestionValue → PointValue → Checked Denial
 point_checked q p = refuse (not (is_solution q p)) (ScheduleWrong, p.candidate)
 
 -- its formula stands there, and a proof of it
-abbrev pub refuted_checked : Part → QuestionValue → Files → Candidate → Checked Denial
-refuted_checked part q files x = do
+abbrev pub refutation_checked : Part → QuestionValue → Files → Candidate → Checked Denial
+refutation_checked part q files x = do
   formula ← need (files (file_of Cnf part x)) (ProofMissing, x)
   _ ← refuse (not (bytes_eq formula (cnf_text (formula_for q x)))) (CnfDiffers, x)
   proof ← need (files (file_of Lrat part x)) (ProofMissing, x)
   refuse (not (is_refutation (formula_for q x) proof)) (ProofRefused, x)
+
+-- of one that is cut away nothing has to stand there
+abbrev pub refuted_checked : Part → QuestionValue → Files → Candidate → Checked Denial
+refuted_checked part q files x = if is_cut_away q x then Ok tt else refutation_checked part q files x
 
 -- its log stands there
 abbrev pub unknown_checked : Part → QuestionValue → Files → UnknownValue → Checked Denial

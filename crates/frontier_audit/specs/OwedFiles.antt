@@ -1,25 +1,45 @@
 -- What a search owes of the files: what it leaves where it was done, and where it broke off.
-use Rattle.std.specs.Prelude.{◌≡◌, All, Any, Contains}
+use Rattle.std.specs.Prelude.{◌≡◌, false, All, Any, Contains}
 use Rattle.outer_ports.specs.declared.proof_name.ProofName.{ProofName}
 use Rattle.outer_ports.specs.Files.{Files}
-use Rattle.candidate_order.specs.Frontiers.{IsTried, IsWithin}
+use Rattle.candidate_order.specs.declared.candidate.Candidate.{Candidate}
+use Rattle.candidate_order.specs.Frontiers.{QuestionValue, FrontierValue, IsWithin}
 use Rattle.candidate_formula.specs.Formulas.{formula_for}
-use Rattle.candidate_formula.specs.Files.{candidate_of, FrontierFiles}
+use Rattle.outer_ports.specs.declared.part.Part.{Part}
+use Rattle.outer_ports.specs.declared.proof_name.FileKind.TheVariants.{Cnf, Lrat}
+use Rattle.candidate_formula.specs.Files.{candidate_of, file_of, FrontierFiles, HasRefutation}
+use Rattle.candidate_formula.specs.Pruned.{HasOwnFiles, is_cut_away}
 use Rattle.candidate_formula.specs.Begun.{BegunOnly}
 use Rattle.topology_text.specs.Value.{NamedTopologyValue}
 use Rattle.report_form.specs.Reports.{WordsValue, ReportValue, parts_of, question_of}
 
--- the file belongs to a candidate that a part of the report tells of
+-- the file belongs to a candidate of which a part of the report owes files
 abbrev pub IsOf : ReportValue → ProofName → Type 0
-IsOf r name = Any (λ x. (x.0 ≡ name.part) × IsTried x.1 (candidate_of name)) r.frontiers
+IsOf r name = Any (λ x. (x.0 ≡ name.part) × HasOwnFiles (question_of r.words r.topology x.0) x.1 (candidate_of name)) r.frontiers
 
--- where it was done: each candidate of each part of the report has its files, and no other file changed
+-- where it was done: each candidate of each part of the report that is not cut away has its files, and no other file changed
 pub record Proves (report : ReportValue) (before after : Files) : Type 0 where
   pub files : All (λ x. FrontierFiles x.0 (question_of report.words report.topology x.0) after x.1) report.frontiers
   pub others : (name : ProofName) → (IsOf report name → ⊥) → after name ≡ before name
 
--- where it broke off: it began files of parts that it searches and of candidates within its limits, and no other file changed
+-- where it broke off: it began files of parts that it searches and of candidates within its limits that are not cut away, and no other file changed
 abbrev pub BreaksOff : WordsValue → NamedTopologyValue → Files → Files → Type 0
 BreaksOff w t =
-    BegunOnly (λ name. Contains (parts_of w.collective.kind) name.part × IsWithin (question_of w t name.part) (candidate_of name))
+    BegunOnly (λ name. Contains (parts_of w.collective.kind) name.part × (IsWithin (question_of w t name.part) (candidate_of name) × (is_cut_away (question_of w t name.part) (candidate_of name) ≡ false)))
     (λ name. formula_for (question_of w t name.part) (candidate_of name))
+
+-- ---- files that are kept
+
+-- a candidate whose files refuted it before is refuted, and these files stay
+pub record StaysRefuted (part : Part) (f : FrontierValue) (before after : Files) (x : Candidate) : Type 0 where
+  pub refuted : Contains f.refuted x
+  pub formula : after (file_of Cnf part x) ≡ before (file_of Cnf part x)
+  pub proof : after (file_of Lrat part x) ≡ before (file_of Lrat part x)
+
+-- of a part, each candidate that was tried, is not cut away, and was refuted by its files before
+abbrev pub KeepsPart : Part → QuestionValue → FrontierValue → Files → Files → Type 0
+KeepsPart part q f before after = (x : Candidate) → HasOwnFiles q f x → HasRefutation part q before x → StaysRefuted part f before after x
+
+-- of each part of the report
+abbrev pub KeepsProofs : ReportValue → Files → Files → Type 0
+KeepsProofs r before after = All (λ x. KeepsPart x.0 (question_of r.words r.topology x.0) x.1 before after) r.frontiers

@@ -1,12 +1,14 @@
 -- What a report says, and when that is right (Cai et al., PPoPP 2021, Pareto-optimal schedules and allreduce).
-use Rattle.std.specs.Prelude.{◌≡◌, List, [], ◌∷◌, All}
+use Rattle.std.specs.Prelude.{◌≡◌, false, List, [], ◌∷◌, All}
 use Rattle.outer_ports.specs.declared.part.Part.{Part}
 use Rattle.outer_ports.specs.declared.part.Part.TheVariants.{Reduce, Gather}
 use Rattle.proof_rules.specs.Refuting.{Exhausted}
 use Rattle.allreduce_join.specs.Joins.{Joins}
 use Rattle.candidate_order.specs.Frontiers.{FrontierValue, RightFrontier, Searched}
 use Rattle.report_form.specs.Reports.{ReportValue, IsReport, question_of}
-use Rattle.candidate_formula.specs.Formulas.{formula_for}
+use Rattle.candidate_formula.specs.Formulas.{formula_for, Suits}
+use Rattle.candidate_formula.specs.Searched.{copying_schedule, searched_question}
+use Rattle.candidate_formula.specs.Pruned.{is_cut_away}
 use Rattle.proof_audit.specs.Files.{HasSpentLog}
 
 -- the frontier of a part is right
@@ -15,6 +17,14 @@ IsRightPart r x = RightFrontier (question_of r.words r.topology x.0) x.1
 
 abbrev pub IsSearchedPart : ReportValue → Part × FrontierValue → Type 0
 IsSearchedPart r x = Searched (question_of r.words r.topology x.0) x.1
+
+-- no unknown candidate is cut away
+abbrev pub IsUncutPart : ReportValue → Part × FrontierValue → Type 0
+IsUncutPart r x = All (λ u. is_cut_away (question_of r.words r.topology x.0) u.candidate ≡ false) x.1.unknown
+
+-- each schedule, as what is searched has it, is as the words ask beside solving
+abbrev pub IsSuitedPart : ReportValue → Part × FrontierValue → Type 0
+IsSuitedPart r x = let q = question_of r.words r.topology x.0 in All (λ p. Suits (searched_question q) p.candidate (copying_schedule q.spec p.schedule)) x.1.points
 
 -- the formula of each unknown candidate is exhausted by the conflicts that are stated
 abbrev pub IsExhaustedPart : ReportValue → Part × FrontierValue → Type 0
@@ -33,6 +43,8 @@ pub record IsRight (r : ReportValue) : Type 0 where
 pub record IsSearched (r : ReportValue) : Type 0 where
   pub parts : All (IsSearchedPart r) r.frontiers
   pub exhausted : All (IsExhaustedPart r) r.frontiers
+  pub uncut : All (IsUncutPart r) r.frontiers
+  pub suited : All (IsSuitedPart r) r.frontiers
 
 -- there is a spent log of the formula of each unknown candidate of a part
 abbrev pub HasLogsOfPart : ReportValue → Part × FrontierValue → Type 0

@@ -1,24 +1,28 @@
 -- Reports with the files beside them.
-use Rattle.std.specs.Prelude.{ℕ, ◌==◌, ◌&&◌, Bool, if◌then◌else◌, List, [], ◌∷◌, ◌++◌, None, Some, codes}
+use Rattle.std.specs.Prelude.{ℕ, ◌==◌, ◌&&◌, Bool, true, false, if◌then◌else◌, List, [], ◌∷◌, ◌++◌, None, Some, codes}
 use Rattle.outer_ports.specs.declared.part.Part.TheVariants.{Whole}
 use Rattle.outer_ports.specs.declared.proof_name.FileKind.TheVariants.{Cnf, Lrat, Partial}
 use Rattle.outer_ports.specs.declared.proof_name.ProofName.{ProofName}
 use Rattle.outer_ports.specs.Files.{Files, part_number, kind_number}
+use Rattle.cnf_formula.specs.Formulas.{FormulaValue}
+use Rattle.lrat_text.specs.Printing.{cnf_text}
 use Rattle.schedule.specs.declared.hop.Hop.{Hop}
 use Rattle.schedule.specs.Placed.{PlacementValue}
 use Rattle.schedule.specs.Rows.{send}
 use Rattle.candidate_order.specs.declared.candidate.Candidate.{Candidate}
 use Rattle.candidate_order.specs.declared.mark.Mark.{Mark}
-use Rattle.candidate_order.specs.declared.mark.Mark.TheVariants.{Optimal}
-use Rattle.candidate_order.specs.Frontiers.{PointValue, UnknownValue}
+use Rattle.candidate_order.specs.declared.mark.Mark.TheVariants.{Optimal, Open}
+use Rattle.candidate_order.specs.declared.pruning.Pruning.{Pruning}
+use Rattle.candidate_order.specs.Ranges.{unpruned}
+use Rattle.candidate_order.specs.Frontiers.{QuestionValue, PointValue, UnknownValue, FrontierValue}
 use Rattle.collective_spec.specs.declared.kind.Kind.{Kind}
-use Rattle.collective_spec.specs.declared.kind.Kind.TheVariants.{Custom}
+use Rattle.collective_spec.specs.declared.kind.Kind.TheVariants.{Broadcast, Custom}
 use Rattle.candidate_order.specs.Rows.{at}
 use Rattle.topology_text.specs.declared.family_kind.FamilyKind.TheVariants.{Ring}
 use Rattle.topology_text.specs.Family.{family_of}
 use Rattle.topology_text.specs.Value.{NamedTopologyValue}
-use Rattle.report_form.specs.Reports.{WordsValue, ReportValue}
-use Rattle.report_form.specs.Rows.{point, relay_report, allreduce_report}
+use Rattle.report_form.specs.Reports.{WordsValue, ReportValue, question_of}
+use Rattle.report_form.specs.Rows.{point, two_nodes, relay_report, allreduce_report}
 use Rattle.candidate_formula.specs.Files.{file_of}
 
 abbrev pub same_name : ProofName → ProofName → Bool
@@ -34,7 +38,7 @@ one_step = at 1 1 1
 
 -- a search of this kind, with so many extra rounds, steps and chunks
 abbrev pub words : Kind → ℕ → ℕ → ℕ → WordsValue
-words kind k steps chunks = record { collective = record { kind = kind; root = 0 }; limits = record { k = k; max_s = steps; max_c = chunks; conflicts = 1000 } }
+words kind k steps chunks = record { collective = record { kind = kind; root = 0 }; limits = record { k = k; max_s = steps; max_c = chunks; conflicts = 1000; pruning = unpruned } }
 
 -- the ring of four nodes
 abbrev pub four_nodes : NamedTopologyValue
@@ -90,3 +94,38 @@ two_copies sends = record {
   frontiers = (Whole, record { points = record { candidate = at 1 1 2; schedule = record { rounds = 1 ∷ []; sends = sends }; mark = Optimal } ∷ []; refuted = []; unknown = [] }) ∷ [];
   joined = [];
 }
+
+-- candidates that a set of nodes refutes are left out
+abbrev pub cutting : Pruning
+cutting = record { cuts = true; ordered = false }
+
+-- only ordered schedules are sought
+abbrev pub ordering : Pruning
+ordering = record { cuts = false; ordered = true }
+
+-- two nodes, one step, and two chunks at most
+abbrev pub at_most_two : Kind → Pruning → FrontierValue → ReportValue
+at_most_two kind pruning f = record {
+  words = record { collective = record { kind = kind; root = 0 }; limits = record { k = 0; max_s = 1; max_c = 2; conflicts = 1000; pruning = pruning } };
+  topology = two_nodes;
+  frontiers = (Whole, f) ∷ [];
+  joined = [];
+}
+
+abbrev pub two_at_once : Candidate
+two_at_once = at 1 1 2
+
+-- one chunk is sent, and two can't be
+abbrev pub one_of_two : Hop → FrontierValue
+one_of_two hop = record { points = point 1 1 Optimal (1 ∷ []) (hop ∷ []) ∷ []; refuted = two_at_once ∷ []; unknown = [] }
+
+-- two were given up
+abbrev pub two_given_up : FrontierValue
+two_given_up = record { points = point 1 1 Open (1 ∷ []) (send 0 0 1 1 ∷ []) ∷ []; refuted = []; unknown = record { candidate = two_at_once; conflicts = 1000 } ∷ [] }
+
+-- the broadcast of two chunks, and the text of a formula beside it
+abbrev pub two_to_broadcast : QuestionValue
+two_to_broadcast = question_of (words Broadcast 0 1 2) two_nodes Whole
+
+abbrev pub beside_two : FormulaValue → Files
+beside_two f = shelf ((file_of Cnf Whole two_at_once, cnf_text f) ∷ [])

@@ -6,7 +6,7 @@ ghost use Rattle.outer_ports.specs.Shelf.{FilesStay};
 ghost use Rattle.candidate_order.specs.Costs.{Before};
 ghost use Rattle.candidate_order.specs.Frontiers.{IsUnknown, IsWithin};
 ghost use Rattle.frontier_audit.specs.Denials.{each};
-ghost use Rattle.frontier_audit.specs.Auditing.{refuted_checked, unknown_checked};
+ghost use Rattle.frontier_audit.specs.Auditing.{refutation_checked, refuted_checked, unknown_checked};
 ghost use Rattle.frontier_audit.specs.Beside.{AnswersBeside};
 ghost use Rattle.frontier_audit.specs.inner.Steps.{denial_for};
 
@@ -41,7 +41,8 @@ pub(crate) fn refuted_denied<H: Shelf>(
     Ok(None)
 }
 
-/// Whether the files of a refuted candidate are its formula and a proof of it.
+/// Whether the files of a refuted candidate are its formula and a proof of it. Of one that is cut
+/// away no file has to stand there.
 fn refutation_denied<H: Shelf>(
     alloc: Global,
     shelf: &mut H,
@@ -53,6 +54,26 @@ fn refutation_denied<H: Shelf>(
     ensures told { Tells (H.tells shelf.old) (H.tells shelf.new) }
     ensures stay { IsTrue (H.tells shelf.new) → FilesStay (H.file shelf.old) (H.file shelf.new) }
     ensures beside { IfOk result (AnswersBeside (H.tells shelf.new) (H.file shelf.old) (λ files. refuted_checked part asked.now files candidate)) }
+    ensures cause { HasCause AuditFault.ShelfFailed (H.faults shelf.old) (H.faults shelf.new) result }
+{
+    if asked.is_cut_away(candidate) {
+        return Ok(None);
+    }
+    files_denied(alloc, shelf, part, asked, candidate)
+}
+
+/// Whether its formula and a proof of it stand beside a candidate.
+fn files_denied<H: Shelf>(
+    alloc: Global,
+    shelf: &mut H,
+    part: Part,
+    asked: &PartQuestion<'_>,
+    candidate: Candidate,
+) -> Result<Option<(Reason, Candidate)>, AuditFault>
+    requires { IsWithin asked.now candidate }
+    ensures told { Tells (H.tells shelf.old) (H.tells shelf.new) }
+    ensures stay { IsTrue (H.tells shelf.new) → FilesStay (H.file shelf.old) (H.file shelf.new) }
+    ensures beside { IfOk result (AnswersBeside (H.tells shelf.new) (H.file shelf.old) (λ files. refutation_checked part asked.now files candidate)) }
     ensures cause { HasCause AuditFault.ShelfFailed (H.faults shelf.old) (H.faults shelf.new) result }
 {
     let formula = asked.formula(alloc, candidate)?;

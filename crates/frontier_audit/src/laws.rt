@@ -1,6 +1,6 @@
 //! What a right shelf says, and what an audit does.
 
-ghost use Rattle.std.specs.Prelude.{◌≡◌, ◌↔◌, true, List, None, AllPairs, Contains};
+ghost use Rattle.std.specs.Prelude.{◌≡◌, ◌↔◌, true, false, List, None, AllPairs, Contains};
 ghost use Rattle.outer_ports.specs.Files.{Files};
 ghost use Rattle.cnf_formula.specs.Formulas.{Satisfiable};
 ghost use Rattle.schedule.specs.Sends.{hop_before};
@@ -10,6 +10,7 @@ ghost use Rattle.allreduce_join.specs.Joins.{Joins};
 ghost use Rattle.report_form.specs.Reports.{ReportValue, IsReport, question_of};
 ghost use Rattle.candidate_formula.specs.Formulas.{formula_for};
 ghost use Rattle.candidate_formula.specs.Files.{file_of};
+ghost use Rattle.candidate_formula.specs.Pruned.{is_cut_away};
 ghost use Rattle.frontier_audit.specs.OwedFiles.{Proves};
 ghost use Rattle.frontier_audit.specs.Shelves.{ShelfRight};
 ghost use Rattle.frontier_audit.specs.Rights.{IsRight};
@@ -23,10 +24,13 @@ use collective_spec::Kind;
 use outer_ports::{FileKind, Part};
 use schedule::Hop;
 
-/// A shelf that lacks a refuted candidate's formula or its proof is not right.
+/// A shelf that lacks the formula or the proof of a refuted candidate that is not cut away is not
+/// right.
 pub fn refuted_has_files()
-    ensures formula { (r : ReportValue) (files : Files) (part : Part) (f : FrontierValue) (x : Candidate) → ShelfRight r files → Contains r.frontiers (part, f) → Contains f.refuted x → files (file_of FileKind.Cnf part x) ≡ None → ⊥ }
-    ensures proof { (r : ReportValue) (files : Files) (part : Part) (f : FrontierValue) (x : Candidate) → ShelfRight r files → Contains r.frontiers (part, f) → Contains f.refuted x → files (file_of FileKind.Lrat part x) ≡ None → ⊥ }
+    ensures formula { (r : ReportValue) (files : Files) (part : Part) (f : FrontierValue) (x : Candidate) → ShelfRight r files → Contains r.frontiers (part, f) → Contains f.refuted x
+        → is_cut_away (question_of r.words r.topology part) x ≡ false → files (file_of FileKind.Cnf part x) ≡ None → ⊥ }
+    ensures proof { (r : ReportValue) (files : Files) (part : Part) (f : FrontierValue) (x : Candidate) → ShelfRight r files → Contains r.frontiers (part, f) → Contains f.refuted x
+        → is_cut_away (question_of r.words r.topology part) x ≡ false → files (file_of FileKind.Lrat part x) ≡ None → ⊥ }
 {}
 
 /// A shelf that lacks an unknown candidate's log is not right.
@@ -34,9 +38,13 @@ pub fn unknown_has_a_log()
     ensures { (r : ReportValue) (files : Files) (part : Part) (f : FrontierValue) (u : UnknownValue) → ShelfRight r files → Contains r.frontiers (part, f) → Contains f.unknown u → files (file_of FileKind.Partial part u.candidate) ≡ None → ⊥ }
 {}
 
-/// The formula of a refuted candidate beside which its files stand has no satisfying assignment.
+/// The formula of a refuted candidate beside which its files stand has no satisfying assignment,
+/// and nor has that of one that is cut away.
 pub fn refuted_is_unsatisfiable()
-    ensures { (r : ReportValue) (files : Files) (part : Part) (f : FrontierValue) (x : Candidate) → ShelfRight r files → Contains r.frontiers (part, f) → Contains f.refuted x → Satisfiable (formula_for (question_of r.words r.topology part) x) → ⊥ }
+    ensures uncut { (r : ReportValue) (files : Files) (part : Part) (f : FrontierValue) (x : Candidate) → ShelfRight r files → Contains r.frontiers (part, f) → Contains f.refuted x
+        → is_cut_away (question_of r.words r.topology part) x ≡ false → Satisfiable (formula_for (question_of r.words r.topology part) x) → ⊥ }
+    ensures each { (r : ReportValue) (files : Files) (part : Part) (f : FrontierValue) (x : Candidate) → IsReport r → ShelfRight r files → Contains r.frontiers (part, f) → Contains f.refuted x
+        → Satisfiable (formula_for (question_of r.words r.topology part) x) → ⊥ }
 {}
 
 /// Where an audit finds nothing to deny, the shelf is right.

@@ -20,7 +20,7 @@ pub use laws::{
 };
 pub use proof_audit::AuditFault;
 pub use vectors::{
-    allreduce_audited, altered_files_audited, candidates, copies_audited, formula_of_one_step,
-    lines, order_of_audit, relay_audited, unknown_audited,
+    allreduce_audited, altered_files_audited, candidates, copies_audited, cuts_audited,
+    formula_of_one_step, lines, order_of_audit, orders_audited, relay_audited, unknown_audited,
 };
 pub use verdict::{AuditVerdict, Reason};

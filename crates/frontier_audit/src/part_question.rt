@@ -5,6 +5,7 @@ ghost use Rattle.candidate_order.specs.Frontiers.{IsWithin};
 ghost use Rattle.report_form.specs.Reports.{parts_of, question_of};
 ghost use Rattle.round_encoding.specs.Candidates.{size_limit};
 ghost use Rattle.candidate_formula.specs.Formulas.{formula_for};
+ghost use Rattle.candidate_formula.specs.Pruned.{is_cut_away};
 ghost use Rattle.candidate_formula.specs.Sizes.{size_of};
 ghost use Rattle.frontier_audit.specs.inner.Auditable.{IsAuditable};
 
@@ -12,6 +13,7 @@ use candidate_formula::{encode_candidate, links_to_search};
 use candidate_order::{Candidate, Limits, OutOfMemory};
 use cnf_formula::Formula;
 use collective_spec::Spec;
+use node_cuts::{CutTable, Sets};
 use outer_ports::Part;
 use report_form::{Report, spec_of_part};
 use schedule::Topology;
@@ -19,33 +21,37 @@ use std::alloc::Global;
 use std::borrow::Cow;
 use std::marker::Model;
 
-/// What is asked for in a part, and the links over which its formulas are: the topology's own, or
-/// for a reduction those turned round.
+/// What is asked for in a part, the links over which its formulas are, which are the topology's own
+/// or for a reduction those turned round, and what the sets of nodes can refute over these links.
 #[derive(Drop)]
 pub(crate) struct PartQuestion<'a> {
     topology: &'a Topology,
     searched: Cow<'a, Topology>,
     spec: Spec,
     limits: Limits,
+    cuts: CutTable,
 }
 
 impl<'a> Model for PartQuestion<'a> {
     ghost use Rattle.std.specs.Prelude.{◌≡◌};
     ghost use Rattle.std.specs.Cow.{cow_value};
     ghost use Rattle.candidate_order.specs.Frontiers.{QuestionValue};
-    ghost use Rattle.candidate_formula.specs.Formulas.{searched_on};
-    ghost use Rattle.frontier_audit.specs.inner.Auditable.{IsAuditable};
+    ghost use Rattle.frontier_audit.specs.inner.Auditable.{IsPrepared};
 
     ghost Value = { QuestionValue };
 
     ghost view = { λ a. record { topology = a.topology.now; spec = a.spec; limits = a.limits } };
 
-    ghost invariant = { λ a. IsAuditable (record { topology = a.topology.now; spec = a.spec; limits = a.limits }) × (cow_value a.searched ≡ searched_on (record { topology = a.topology.now; spec = a.spec; limits = a.limits })) };
+    ghost invariant = { λ a. IsPrepared (record { topology = a.topology.now; spec = a.spec; limits = a.limits }) (cow_value a.searched) a.cuts };
 }
 
 impl<'a> PartQuestion<'a> {
     /// What a report asks for in one of its parts. The only error is `OutOfMemory`.
-    pub(crate) fn of(report: &'a Report, part: Part) -> Result<PartQuestion<'a>, OutOfMemory>
+    pub(crate) fn of(
+        alloc: Global,
+        report: &'a Report,
+        part: Part,
+    ) -> Result<PartQuestion<'a>, OutOfMemory>
         requires part { Contains (parts_of report.now.words.collective.kind) part }
         requires small { size_of (question_of report.now.words report.now.topology Part.Whole) ≤ size_limit }
         ensures { IfOk result (λ asked. asked ≡ question_of report.now.words report.now.topology part) }
@@ -55,11 +61,15 @@ impl<'a> PartQuestion<'a> {
         let spec = spec_of_part(words, named, part)?;
         let topology = named.topology();
         let searched = links_to_search(topology, &spec)?;
+        let limits = words.limits();
+        let pruning = limits.pruning();
+        let cuts = CutTable::new(alloc, &searched, &spec, Sets::of(pruning))?;
         Ok(PartQuestion {
             topology,
             searched,
             spec,
-            limits: words.limits(),
+            limits,
+            cuts,
         })
     }
 
@@ -87,6 +97,15 @@ impl<'a> PartQuestion<'a> {
         &self.limits
     }
 
+    /// Whether a set of nodes refutes a candidate within the limits, where the words of the report
+    /// have candidates left out for that. It costs a comparison.
+    pub(crate) fn is_cut_away(&self, candidate: Candidate) -> bool
+        requires { IsWithin self.now candidate }
+        ensures { result ≡ is_cut_away self.now candidate }
+    {
+        self.cuts.refutes(candidate.c, candidate.r)
+    }
+
     /// The formula of a candidate within the limits. The only error is `OutOfMemory`.
     pub(crate) fn formula(
         &self,
@@ -96,7 +115,8 @@ impl<'a> PartQuestion<'a> {
         requires { IsWithin self.now candidate }
         ensures { IfOk result (λ formula. formula ≡ formula_for self.now candidate) }
     {
-        let encoding = encode_candidate(alloc, &self.searched, &self.spec, candidate)?;
-        Ok(encoding.formula)
+        let pruning = self.limits.pruning();
+        let encoded = encode_candidate(alloc, &self.searched, &self.spec, pruning, candidate)?;
+        Ok(encoded.into_formula())
     }
 }

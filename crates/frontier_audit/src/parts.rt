@@ -35,7 +35,7 @@ pub(crate) fn parts_denied<H: Shelf>(
     ensures cause { HasCause AuditFault.ShelfFailed (H.faults shelf.old) (H.faults shelf.new) result }
 {
     for (part, frontier) in report.frontiers() {
-        let asked = PartQuestion::of(report, *part)?;
+        let asked = PartQuestion::of(alloc, report, *part)?;
         if let Some(denial) = part_denied(alloc, shelf, *part, &asked, frontier)? {
             return Ok(Some((*part, denial)));
         }

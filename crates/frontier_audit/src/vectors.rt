@@ -7,12 +7,13 @@ ghost use Rattle.lrat_text.specs.Printing.{cnf_text};
 ghost use Rattle.report_form.specs.Reports.{question_of};
 ghost use Rattle.report_form.specs.Rows.{point, relay_report, allreduce_report};
 ghost use Rattle.candidate_formula.specs.Lines.{lines_of_text};
-ghost use Rattle.candidate_formula.specs.Formulas.{formula_for};
+ghost use Rattle.candidate_formula.specs.Formulas.{formula_for, ordered_formula_for, plain_formula_for};
 ghost use Rattle.candidate_formula.specs.Files.{file_of};
 ghost use Rattle.frontier_audit.specs.Candidates.{candidates_within};
 ghost use Rattle.frontier_audit.specs.Auditing.{audit_of};
+ghost use Rattle.candidate_order.specs.Ranges.{unpruned};
 ghost use Rattle.candidate_order.specs.Rows.{at};
-ghost use Rattle.frontier_audit.specs.Rows.{shelf, one_step, rest_of_one_step, cnf_of_one_step, proof_of_one_step, beside_one_step, log_of_one_step, words, four_nodes, relay, joined_sends, allreduce, wide_link, two_copies};
+ghost use Rattle.frontier_audit.specs.Rows.{shelf, one_step, rest_of_one_step, cnf_of_one_step, proof_of_one_step, beside_one_step, log_of_one_step, words, four_nodes, relay, joined_sends, allreduce, wide_link, two_copies, cutting, ordering, at_most_two, two_at_once, one_of_two, two_given_up, two_to_broadcast, beside_two};
 
 use crate::verdict::{AuditVerdict, Reason};
 use candidate_order::Mark;
@@ -110,4 +111,24 @@ pub fn order_of_audit()
     ensures formula_before_proof { audit_of relay_report (shelf ((file_of FileKind.Cnf Part.Whole one_step, []) ∷ [])) ≡ AuditVerdict.Denied Reason.CnfDiffers Part.Whole one_step }
     ensures refuted_before_unknown { audit_of (relay Mark.Open (send 0 1 2 2) (one_step ∷ []) (record { candidate = at 2 2 1; conflicts = 1000 } ∷ [])) (beside_one_step cnf_of_one_step []) ≡ AuditVerdict.Denied Reason.ProofRefused Part.Whole one_step }
     ensures candidates_before_marks { audit_of (relay Mark.Optimal (send 0 1 2 2) [] []) (shelf []) ≡ AuditVerdict.Denied Reason.CandidateMissing Part.Whole one_step }
+{}
+
+/// Two chunks don't come over one link in one round, nor do their sums. Where the words have cuts
+/// made, that needs no file; without that word it does, and so does a candidate that is unknown.
+pub fn cuts_audited()
+    ensures verified { audit_of (at_most_two Kind.Broadcast cutting (one_of_two (send 0 0 1 1))) (shelf []) ≡ AuditVerdict.Verified }
+    ensures summed { audit_of (at_most_two Kind.Reduce cutting (one_of_two (send 0 1 0 1))) (shelf []) ≡ AuditVerdict.Verified }
+    ensures without_the_word { audit_of (at_most_two Kind.Broadcast unpruned (one_of_two (send 0 0 1 1))) (shelf []) ≡ AuditVerdict.Denied Reason.ProofMissing Part.Whole two_at_once }
+    ensures another_word { audit_of (at_most_two Kind.Broadcast ordering (one_of_two (send 0 0 1 1))) (shelf []) ≡ AuditVerdict.Denied Reason.ProofMissing Part.Whole two_at_once }
+    ensures unknown { audit_of (at_most_two Kind.Broadcast cutting two_given_up) (shelf []) ≡ AuditVerdict.Denied Reason.ProofMissing Part.Whole two_at_once }
+{}
+
+/// The two chunks of a broadcast are alike. Where the words have only ordered schedules sought, the
+/// formula with the clauses of the order has to stand there, and else the one without them; a proof
+/// is looked for behind it.
+pub fn orders_audited()
+    ensures plain_where_ordered { audit_of (at_most_two Kind.Broadcast ordering (one_of_two (send 0 0 1 1))) (beside_two (plain_formula_for two_to_broadcast two_at_once)) ≡ AuditVerdict.Denied Reason.CnfDiffers Part.Whole two_at_once }
+    ensures ordered_where_ordered { audit_of (at_most_two Kind.Broadcast ordering (one_of_two (send 0 0 1 1))) (beside_two (ordered_formula_for two_to_broadcast two_at_once)) ≡ AuditVerdict.Denied Reason.ProofMissing Part.Whole two_at_once }
+    ensures plain_where_plain { audit_of (at_most_two Kind.Broadcast unpruned (one_of_two (send 0 0 1 1))) (beside_two (plain_formula_for two_to_broadcast two_at_once)) ≡ AuditVerdict.Denied Reason.ProofMissing Part.Whole two_at_once }
+    ensures ordered_where_plain { audit_of (at_most_two Kind.Broadcast unpruned (one_of_two (send 0 0 1 1))) (beside_two (ordered_formula_for two_to_broadcast two_at_once)) ≡ AuditVerdict.Denied Reason.CnfDiffers Part.Whole two_at_once }
 {}

@@ -22,11 +22,11 @@ use Rattle.topology_text.specs.Names.{is_name}
 use Rattle.topology_text.specs.Spelling.{name_at}
 use Rattle.report_form.specs.Reports.{HasSchedule, IsFrontier, IsJoinedPoint, IsPoint, IsReport, ReportValue, WordsValue, question_of}
 use Rattle.report_laws.proofs.PointsAgain.{base_of}
-use Rattle.serde_json.specs.Data.{string}
+use Rattle.serde_json.specs.Data.{Data, string}
 use Rattle.serde_json.specs.View.{items_of}
-use Rattle.json_values.specs.Json.{count_of, object_of}
-use Rattle.json_rules.specs.ReportJson.{adding_members, candidate_json, frontier_json, part_word, point_json, point_members, report_json, send_json, unknown_json, words_json}
-use Rattle.json_command.proofs.Fitting.{Fits, ItemsFit}
+use Rattle.json_values.specs.Json.{count_of, members_of, object_of}
+use Rattle.json_rules.specs.ReportJson.{adding_members, candidate_json, frontier_json, part_word, point_json, point_members, report_json, said_members, send_json, unknown_json, words_json}
+use Rattle.json_command.proofs.Fitting.{Fits, ItemsFit, MembersFit}
 use Rattle.json_command.proofs.TopologyFits.{name_fits, small, topology_fits}
 
 module _ (names : List (List ℕ)) (named : All (λ n. is_name n ≡ true) names) where
@@ -124,26 +124,46 @@ module _ (names : List (List ℕ)) (named : All (λ n. is_name n ≡ true) names
         part_utf8 part.Gather = IsUtf8-are_ascii _ refl
         part_utf8 part.Joined = IsUtf8-are_ascii _ refl
 
-  words_fit : (w : WordsValue) → IsLimits w.limits → Fits (words_json names w)
-  words_fit w limits = by_root (takes_root w.collective.kind)
-    where
-      word_utf8 : (k : Kind) → IsUtf8 (word_of k)
-      word_utf8 kind.Broadcast = IsUtf8-are_ascii _ refl
-      word_utf8 kind.Gather = IsUtf8-are_ascii _ refl
-      word_utf8 kind.Allgather = IsUtf8-are_ascii _ refl
-      word_utf8 kind.Scatter = IsUtf8-are_ascii _ refl
-      word_utf8 kind.Alltoall = IsUtf8-are_ascii _ refl
-      word_utf8 kind.Reduce = IsUtf8-are_ascii _ refl
-      word_utf8 kind.Reducescatter = IsUtf8-are_ascii _ refl
-      word_utf8 kind.Allreduce = IsUtf8-are_ascii _ refl
-      word_utf8 kind.Custom = IsUtf8-are_ascii _ refl
+  module _ (w : WordsValue) (limits : IsLimits w.limits) where
+    word_utf8 : (k : Kind) → IsUtf8 (word_of k)
+    word_utf8 kind.Broadcast = IsUtf8-are_ascii _ refl
+    word_utf8 kind.Gather = IsUtf8-are_ascii _ refl
+    word_utf8 kind.Allgather = IsUtf8-are_ascii _ refl
+    word_utf8 kind.Scatter = IsUtf8-are_ascii _ refl
+    word_utf8 kind.Alltoall = IsUtf8-are_ascii _ refl
+    word_utf8 kind.Reduce = IsUtf8-are_ascii _ refl
+    word_utf8 kind.Reducescatter = IsUtf8-are_ascii _ refl
+    word_utf8 kind.Allreduce = IsUtf8-are_ascii _ refl
+    word_utf8 kind.Custom = IsUtf8-are_ascii _ refl
 
-      by_root : (b : Bool) → Fits (object_of (
-          (codes "chunks", count_of w.limits.max_c) ∷ (codes "collective", string (word_of w.collective.kind)) ∷ (codes "conflicts", count_of w.limits.conflicts) ∷ (codes "k", count_of w.limits.k)
-          ∷ (if b then (codes "root", string (name_at names w.collective.root)) ∷ [] else []) ++ (codes "steps", count_of w.limits.max_s) ∷ []
-          ))
-      by_root true = (refl, IsUtf8-are_ascii (codes "chunks") refl, omega (arith, limits.chunks), (refl, IsUtf8-are_ascii (codes "collective") refl, word_utf8 w.collective.kind, (refl, IsUtf8-are_ascii (codes "conflicts") refl, omega (arith, limits.conflicts), (refl, IsUtf8-are_ascii (codes "k") refl, omega (arith, limits.k), (refl, IsUtf8-are_ascii (codes "root") refl, name_fits names named w.collective.root, (refl, IsUtf8-are_ascii (codes "steps") refl, omega (arith, limits.steps), tt))))))
-      by_root false = (refl, IsUtf8-are_ascii (codes "chunks") refl, omega (arith, limits.chunks), (refl, IsUtf8-are_ascii (codes "collective") refl, word_utf8 w.collective.kind, (refl, IsUtf8-are_ascii (codes "conflicts") refl, omega (arith, limits.conflicts), (refl, IsUtf8-are_ascii (codes "k") refl, omega (arith, limits.k), (refl, IsUtf8-are_ascii (codes "steps") refl, omega (arith, limits.steps), tt)))))
+    -- the members that always come first
+    abbrev front : List (List ℕ × Data)
+    front = (codes "chunks", count_of w.limits.max_c) ∷ (codes "collective", string (word_of w.collective.kind)) ∷ (codes "conflicts", count_of w.limits.conflicts) ∷ []
+
+    abbrev with_k : Bool → List (List ℕ × Data)
+    with_k cuts = front ++ said_members (codes "cuts") cuts ++ (codes "k", count_of w.limits.k) ∷ []
+
+    -- the last members, behind others
+    abbrev EndFits : List (List ℕ × Data) → Bool → Bool → Type 0
+    EndFits old ordered rooted =
+        MembersFit (members_of old) (members_of (said_members (codes "ordered") ordered ++ (if rooted then (codes "root", string (name_at names w.collective.root)) ∷ [] else []) ++ (codes "steps", count_of w.limits.max_s) ∷ []))
+
+    end_fits : (cuts ordered rooted : Bool) → EndFits (with_k cuts) ordered rooted
+    end_fits true true true = (refl, IsUtf8-are_ascii (codes "ordered") refl, IsUtf8-are_ascii (codes "yes") refl, (refl, IsUtf8-are_ascii (codes "root") refl, name_fits names named w.collective.root, (refl, IsUtf8-are_ascii (codes "steps") refl, omega (arith, limits.steps), tt)))
+    end_fits true true false = (refl, IsUtf8-are_ascii (codes "ordered") refl, IsUtf8-are_ascii (codes "yes") refl, (refl, IsUtf8-are_ascii (codes "steps") refl, omega (arith, limits.steps), tt))
+    end_fits true false true = (refl, IsUtf8-are_ascii (codes "root") refl, name_fits names named w.collective.root, (refl, IsUtf8-are_ascii (codes "steps") refl, omega (arith, limits.steps), tt))
+    end_fits true false false = (refl, IsUtf8-are_ascii (codes "steps") refl, omega (arith, limits.steps), tt)
+    end_fits false true true = (refl, IsUtf8-are_ascii (codes "ordered") refl, IsUtf8-are_ascii (codes "yes") refl, (refl, IsUtf8-are_ascii (codes "root") refl, name_fits names named w.collective.root, (refl, IsUtf8-are_ascii (codes "steps") refl, omega (arith, limits.steps), tt)))
+    end_fits false true false = (refl, IsUtf8-are_ascii (codes "ordered") refl, IsUtf8-are_ascii (codes "yes") refl, (refl, IsUtf8-are_ascii (codes "steps") refl, omega (arith, limits.steps), tt))
+    end_fits false false true = (refl, IsUtf8-are_ascii (codes "root") refl, name_fits names named w.collective.root, (refl, IsUtf8-are_ascii (codes "steps") refl, omega (arith, limits.steps), tt))
+    end_fits false false false = (refl, IsUtf8-are_ascii (codes "steps") refl, omega (arith, limits.steps), tt)
+
+    middle_fits : (cuts ordered rooted : Bool) → MembersFit (members_of front) (members_of (said_members (codes "cuts") cuts ++ (codes "k", count_of w.limits.k) ∷ said_members (codes "ordered") ordered ++ (if rooted then (codes "root", string (name_at names w.collective.root)) ∷ [] else []) ++ (codes "steps", count_of w.limits.max_s) ∷ []))
+    middle_fits true ordered rooted = (refl, IsUtf8-are_ascii (codes "cuts") refl, IsUtf8-are_ascii (codes "yes") refl, (refl, IsUtf8-are_ascii (codes "k") refl, omega (arith, limits.k), end_fits true ordered rooted))
+    middle_fits false ordered rooted = (refl, IsUtf8-are_ascii (codes "k") refl, omega (arith, limits.k), end_fits false ordered rooted)
+
+    words_fit : Fits (words_json names w)
+    words_fit = (refl, IsUtf8-are_ascii (codes "chunks") refl, omega (arith, limits.chunks), (refl, IsUtf8-are_ascii (codes "collective") refl, word_utf8 w.collective.kind, (refl, IsUtf8-are_ascii (codes "conflicts") refl, omega (arith, limits.conflicts), middle_fits w.limits.pruning.cuts w.limits.pruning.ordered (takes_root w.collective.kind))))
 
 -- ---- the whole
 

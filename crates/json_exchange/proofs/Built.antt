@@ -20,7 +20,7 @@ use Rattle.serde_json.specs.Written.{has_float, members_have_float}
 use Rattle.json_values.specs.Json.{array_of, object_of, members_of, count_of}
 use Rattle.json_values.specs.Answer.{of_json, of_text}
 use Rattle.json_values.proofs.Built.{whole_items, flat_items, topology_whole, topology_flat, text_back}
-use Rattle.json_rules.specs.ReportJson.{send_json, adding_members, point_members, point_json, points_json, candidate_json, unknown_json, frontier_json, words_json, report_json, report_text_in}
+use Rattle.json_rules.specs.ReportJson.{send_json, adding_members, point_members, point_json, points_json, candidate_json, unknown_json, frontier_json, said_members, words_json, report_json, report_text_in}
 use Rattle.json_rules.specs.Answer.{report_of_json}
 use Rattle.json_exchange.proofs.ReportForm.{report_form}
 
@@ -74,19 +74,36 @@ module _ (names : List (List ℕ)) where
       let unknown = flat_items 1 unknown_json x.1.unknown (λ u. omega arith) in
       omega (arith, points_flat x.1.points)
 
+  -- the members from the first on that may be left out
+  abbrev behind : WordsValue → Bool → Bool → Bool → List (List ℕ × Data)
+  behind w cuts ordered rooted =
+      said_members (codes "cuts") cuts ++ (codes "k", count_of w.limits.k) ∷ said_members (codes "ordered") ordered ++ (if rooted then (codes "root", string (name_at names w.collective.root)) ∷ [] else []) ++ (codes "steps", count_of w.limits.max_s) ∷ []
+
   words_whole : (w : WordsValue) → has_float (words_json names w) ≡ false
-  words_whole w = go (takes_root w.collective.kind)
+  words_whole w = go w.limits.pruning.cuts w.limits.pruning.ordered (takes_root w.collective.kind)
     where
-      go : (b : Bool) → members_have_float (members_of ((if b then (codes "root", string (name_at names w.collective.root)) ∷ [] else []) ++ (codes "steps", count_of w.limits.max_s) ∷ [])) ≡ false
-      go true = refl
-      go false = refl
+      go : (cuts ordered rooted : Bool) → members_have_float (members_of (behind w cuts ordered rooted)) ≡ false
+      go true true true = refl
+      go true true false = refl
+      go true false true = refl
+      go true false false = refl
+      go false true true = refl
+      go false true false = refl
+      go false false true = refl
+      go false false false = refl
 
   words_flat : (w : WordsValue) → depth (words_json names w) ≤ 1
-  words_flat w = omega (arith, go (takes_root w.collective.kind))
+  words_flat w = omega (arith, go w.limits.pruning.cuts w.limits.pruning.ordered (takes_root w.collective.kind))
     where
-      go : (b : Bool) → members_depth (members_of ((if b then (codes "root", string (name_at names w.collective.root)) ∷ [] else []) ++ (codes "steps", count_of w.limits.max_s) ∷ [])) ≤ 0
-      go true = omega arith
-      go false = omega arith
+      go : (cuts ordered rooted : Bool) → members_depth (members_of (behind w cuts ordered rooted)) ≤ 0
+      go true true true = omega arith
+      go true true false = omega arith
+      go true false true = omega arith
+      go true false false = omega arith
+      go false true true = omega arith
+      go false true false = omega arith
+      go false false true = omega arith
+      go false false false = omega arith
 
 pub report_whole : (r : ReportValue) → has_float (report_json r) ≡ false
 report_whole r =

@@ -7,6 +7,8 @@ use Rattle.std.proofs.lemmas.Grind.{flat_map-append}
 use Rattle.text_lines.specs.declared.stop.Stop.{Stop}
 use Rattle.text_lines.specs.Text.{line, text_of, fields}
 use Rattle.text_lines.proofs.Words.{join_fields}
+use Rattle.candidate_order.specs.declared.pruning.Pruning.{Pruning}
+use Rattle.report_form.specs.Spelling.{pruning_words, word_if}
 use Rattle.serde_json.specs.Data.{Data, Items}
 use Rattle.serde_json.specs.Events.{items_len}
 use Rattle.serde_json.specs.Find.{as_array, get}
@@ -65,17 +67,40 @@ no_counts word n d items h e =
     ap (λ o. o >>= counted word n) (sym h) ∙ ap (λ b. if b then (each_in number_in items >>= λ counts. Some (word ∷ counts)) else None) (ne_eqb (items_len items) n e)
 
 -- the line of the words, part by part
-pub keyed_with : (rooted : Bool) (d : Data) (kind k steps chunks conflicts : List ℕ) (root : List (List ℕ)) → Some kind ≡ kind_in d → Some k ≡ keyed_in (codes "k") d → Some steps ≡ keyed_in (codes "steps") d → Some chunks ≡ keyed_in (codes "chunks") d
-    → Some conflicts ≡ keyed_in (codes "conflicts") d → Some root ≡ root_in rooted d → keyed_words_in rooted d ≡ Some (codes "synth" ∷ (codes "collective=" ++ kind) ∷ k ∷ steps ∷ chunks ∷ conflicts ∷ root)
-keyed_with rooted d kind k steps chunks conflicts root p q r s t u =
+pub keyed_with : (p : Pruning) (rooted : Bool) (d : Data) (kind k steps chunks conflicts : List ℕ) (root : List (List ℕ)) → Some kind ≡ kind_in d → Some k ≡ keyed_in (codes "k") d → Some steps ≡ keyed_in (codes "steps") d → Some chunks ≡ keyed_in (codes "chunks") d
+    → Some conflicts ≡ keyed_in (codes "conflicts") d → Some root ≡ root_in rooted d → keyed_words_in p rooted d ≡ Some (codes "synth" ∷ (codes "collective=" ++ kind) ∷ k ∷ steps ∷ chunks ∷ conflicts ∷ root ++ pruning_words p)
+keyed_with p rooted d kind k steps chunks conflicts root q r s t u v =
     let f : Option (List ℕ) → Option (List ℕ) → Option (List ℕ) → Option (List ℕ) → Option (List ℕ) → Option (List (List ℕ)) → Option (List (List ℕ)) =
-    λ a b c e g h. a >>= λ kind. b >>= λ k. c >>= λ steps. e >>= λ chunks. g >>= λ conflicts. h >>= λ root. Some (codes "synth" ∷ (codes "collective=" ++ kind) ∷ k ∷ steps ∷ chunks ∷ conflicts ∷ root) in
-    ap (λ a. f a (keyed_in (codes "k") d) (keyed_in (codes "steps") d) (keyed_in (codes "chunks") d) (keyed_in (codes "conflicts") d) (root_in rooted d)) (sym p)
-    ∙ ap (λ b. f (Some kind) b (keyed_in (codes "steps") d) (keyed_in (codes "chunks") d) (keyed_in (codes "conflicts") d) (root_in rooted d)) (sym q)
-    ∙ ap (λ b. f (Some kind) (Some k) b (keyed_in (codes "chunks") d) (keyed_in (codes "conflicts") d) (root_in rooted d)) (sym r)
-    ∙ ap (λ b. f (Some kind) (Some k) (Some steps) b (keyed_in (codes "conflicts") d) (root_in rooted d)) (sym s)
-    ∙ ap (λ b. f (Some kind) (Some k) (Some steps) (Some chunks) b (root_in rooted d)) (sym t)
-    ∙ ap (λ b. f (Some kind) (Some k) (Some steps) (Some chunks) (Some conflicts) b) (sym u)
+    λ a b c e g h. a >>= λ kind. b >>= λ k. c >>= λ steps. e >>= λ chunks. g >>= λ conflicts. h >>= λ root. Some (codes "synth" ∷ (codes "collective=" ++ kind) ∷ k ∷ steps ∷ chunks ∷ conflicts ∷ root ++ pruning_words p) in
+    ap (λ a. f a (keyed_in (codes "k") d) (keyed_in (codes "steps") d) (keyed_in (codes "chunks") d) (keyed_in (codes "conflicts") d) (root_in rooted d)) (sym q)
+    ∙ ap (λ b. f (Some kind) b (keyed_in (codes "steps") d) (keyed_in (codes "chunks") d) (keyed_in (codes "conflicts") d) (root_in rooted d)) (sym r)
+    ∙ ap (λ b. f (Some kind) (Some k) b (keyed_in (codes "chunks") d) (keyed_in (codes "conflicts") d) (root_in rooted d)) (sym s)
+    ∙ ap (λ b. f (Some kind) (Some k) (Some steps) b (keyed_in (codes "conflicts") d) (root_in rooted d)) (sym t)
+    ∙ ap (λ b. f (Some kind) (Some k) (Some steps) (Some chunks) b (root_in rooted d)) (sym u)
+    ∙ ap (λ b. f (Some kind) (Some k) (Some steps) (Some chunks) (Some conflicts) b) (sym v)
+
+-- a line that is written in parts: a word, and tokens three times
+pub line_in_parts : (a b c d e f word : List ℕ) (xs ys zs : List (List ℕ)) → b ≡ a ++ word → c ≡ b ++ fields xs → d ≡ c ++ fields ys → e ≡ d ++ fields zs → f ≡ e ++ 10 ∷ [] → f ≡ a ++ line (word ∷ (xs ++ (ys ++ zs)))
+line_in_parts a b c d e f word xs ys zs hb hc hd he hf =
+    let x = fields xs in
+    let y = fields ys in
+    let z = fields zs in
+    let tokens : fields (xs ++ (ys ++ zs)) ≡ x ++ (y ++ z) = flat_map-append (λ w. 32 ∷ w) xs (ys ++ zs) ∙ ap (λ t. x ++ t) (flat_map-append (λ w. 32 ∷ w) ys zs) in
+    let end : x ++ (y ++ (z ++ 10 ∷ [])) ≡ fields (xs ++ (ys ++ zs)) ++ 10 ∷ [] =
+    ap (λ t. x ++ t) (sym (append_assoc y z (10 ∷ []))) ∙ sym (append_assoc x (y ++ z) (10 ∷ [])) ∙ ap (λ t. t ++ 10 ∷ []) (sym tokens) in
+    hf ∙ ap (λ t. t ++ 10 ∷ []) he ∙ append_assoc d z (10 ∷ []) ∙ ap (λ t. t ++ (z ++ 10 ∷ [])) hd ∙ append_assoc c y (z ++ 10 ∷ []) ∙ ap (λ t. t ++ (y ++ (z ++ 10 ∷ []))) hc ∙ append_assoc b x (y ++ (z ++ 10 ∷ []))
+    ∙ ap (λ t. t ++ (x ++ (y ++ (z ++ 10 ∷ [])))) hb ∙ append_assoc a word (x ++ (y ++ (z ++ 10 ∷ []))) ∙ ap (λ t. a ++ (word ++ t)) end ∙ ap (λ t. a ++ t) (line_is word (xs ++ (ys ++ zs)))
+
+-- keys that are appended one after another
+pub keys_in_turn : (k : List (List ℕ)) (p : Pruning) (rooted : Bool) (b c d e f : List (List ℕ)) → b ≡ k ++ word_if (codes "cuts") p.cuts → c ≡ b ++ codes "k" ∷ [] → d ≡ c ++ word_if (codes "ordered") p.ordered → e ≡ d ++ word_if (codes "root") rooted → f ≡ e ++ codes "steps" ∷ []
+    → f ≡ k ++ (word_if (codes "cuts") p.cuts ++ codes "k" ∷ (word_if (codes "ordered") p.ordered ++ (word_if (codes "root") rooted ++ codes "steps" ∷ [])))
+keys_in_turn k p rooted b c d e f hb hc hd he hf =
+    let x = word_if (codes "cuts") p.cuts in
+    let y = word_if (codes "ordered") p.ordered in
+    let z = word_if (codes "root") rooted in
+    let end = codes "steps" ∷ [] in
+    hf ∙ ap (λ t. t ++ end) he ∙ append_assoc d z end ∙ ap (λ t. t ++ (z ++ end)) hd ∙ append_assoc c y (z ++ end) ∙ ap (λ t. t ++ (y ++ (z ++ end))) hc ∙ append_assoc b (codes "k" ∷ []) (y ++ (z ++ end)) ∙ ap (λ t. t ++ codes "k" ∷ (y ++ (z ++ end))) hb
+    ∙ append_assoc k x (codes "k" ∷ (y ++ (z ++ end)))
 
 pub none_there : (vs : List Value) → (length vs == 0) ≡ true → none_in (items_view vs) ≡ Some []
 none_there [] h = refl

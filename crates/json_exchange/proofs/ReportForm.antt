@@ -1,6 +1,6 @@
 -- The JSON of a report has the form, and stands for the report's text.
 use Rattle.std.proofs.Common.{◌≡◌, ◌≢◌, ℕ, ◌<◌, Bool, true, false, List, [], ◌∷◌, ◌++◌, map, length, Option, Some, None, refl, sym, ap, ap₂, ◌∙◌, subst, arith, append_assoc}
-use Rattle.std.specs.Prelude.{codes, decimal, bytes_eq, nat_lt, ◌&&◌}
+use Rattle.std.specs.Prelude.{codes, decimal, bytes_eq, nat_lt, if◌then◌else◌, ◌&&◌}
 use Rattle.std.specs.List.{All, AllByRecursion, flat_map}
 use Rattle.std.proofs.lemmas.List.Elements.{recursion_from_All}
 use Rattle.outer_ports.specs.declared.part.Part.{Part}
@@ -8,10 +8,10 @@ use Rattle.outer_ports.specs.declared.part.Part.TheVariants as part
 use Rattle.schedule.specs.declared.hop.Hop.{Hop}
 use Rattle.collective_spec.specs.declared.kind.Kind.{Kind}
 use Rattle.collective_spec.specs.declared.kind.Kind.TheVariants as kind
-use Rattle.collective_spec.specs.Kinds.{word_of, every_kind}
+use Rattle.collective_spec.specs.Kinds.{word_of, every_kind, takes_root}
 use Rattle.collective_spec.specs.Patterns.{PatternValue}
 use Rattle.schedule.specs.Links.{GroupValue}
-use Rattle.candidate_order.specs.Ranges.{LimitsValue}
+use Rattle.candidate_order.specs.declared.pruning.Pruning.{Pruning}
 use Rattle.candidate_order.specs.declared.candidate.Candidate.{Candidate}
 use Rattle.candidate_order.specs.declared.mark.Mark.{Mark}
 use Rattle.candidate_order.specs.declared.mark.Mark.TheVariants as mark
@@ -24,12 +24,12 @@ use Rattle.schedule.specs.Sends.{is_hop_below}
 use Rattle.schedule.proofs.First.{each_weaker}
 use Rattle.std.proofs.lemmas.Bool.{and_parts, ltb-true}
 use Rattle.list_laws.proofs.Each.{each_always}
-use Rattle.report_form.specs.Spelling.{synth_words, point_lines, rounds_words, send_words, refuted_words, unknown_words, frontier_lines, joined_lines, report_lines}
+use Rattle.report_form.specs.Spelling.{pruning_words, synth_words, point_lines, rounds_words, send_words, refuted_words, unknown_words, frontier_lines, joined_lines, report_lines}
 use Rattle.serde_json.specs.Data.{Data, string}
-use Rattle.json_values.specs.Json.{array_of, count_of}
+use Rattle.json_values.specs.Json.{array_of, object_of, count_of}
 use Rattle.json_values.specs.Shape.{◌>>=◌, ◌⊕◌, one, list_in, lines_in, name_in}
 use Rattle.json_values.specs.TopologyJson.{topology_json}
-use Rattle.json_rules.specs.ReportJson.{send_json, point_json, points_json, candidate_json, unknown_json, frontier_json, words_json, report_json, word_in, number_in, rounds_in, send_in, refuted_in, unknown_in, point_in, frontier_in, words_in, joins_in, joined_in, title_in, report_in}
+use Rattle.json_rules.specs.ReportJson.{send_json, point_json, points_json, candidate_json, unknown_json, frontier_json, said_members, words_json, report_json, word_in, number_in, rounds_in, send_in, refuted_in, unknown_in, point_in, frontier_in, words_in, joins_in, joined_in, title_in, report_in}
 use Rattle.json_values.proofs.TopologyForm.{each_made, name_there, topology_form}
 
 -- what holds of each is what the list has
@@ -94,42 +94,51 @@ module _ (names : List (List ℕ)) (named : AreNames names) where
 
 -- ---- the words
 
+kind_found : (k : Kind) → word_in (map word_of every_kind) (string (word_of k)) ≡ Some (word_of k)
+kind_found kind.Broadcast = refl
+kind_found kind.Gather = refl
+kind_found kind.Allgather = refl
+kind_found kind.Scatter = refl
+kind_found kind.Alltoall = refl
+kind_found kind.Reduce = refl
+kind_found kind.Reducescatter = refl
+kind_found kind.Allreduce = refl
+kind_found kind.Custom = refl
+
 joins_found : (names : List (List ℕ)) (w : WordsValue) (k : Kind) → w.collective.kind ≡ k → joins_in (words_json names w) ≡ Some (bytes_eq (word_of k) (codes "allreduce"))
-joins_found names w k e = ap (λ k. word_in (map word_of every_kind) (string (word_of k)) >>= λ kind. Some (bytes_eq kind (codes "allreduce"))) e ∙ each k
-  where
-    each : (k : Kind) → (word_in (map word_of every_kind) (string (word_of k)) >>= λ kind. Some (bytes_eq kind (codes "allreduce"))) ≡ Some (bytes_eq (word_of k) (codes "allreduce"))
-    each kind.Broadcast = refl
-    each kind.Gather = refl
-    each kind.Allgather = refl
-    each kind.Scatter = refl
-    each kind.Alltoall = refl
-    each kind.Reduce = refl
-    each kind.Reducescatter = refl
-    each kind.Allreduce = refl
-    each kind.Custom = refl
+joins_found names w k e = ap (λ k. word_in (map word_of every_kind) (string (word_of k)) >>= λ kind. Some (bytes_eq kind (codes "allreduce"))) e ∙ ap (λ o. o >>= λ kind. Some (bytes_eq kind (codes "allreduce"))) (kind_found k)
 
-abbrev words_with : Kind → ℕ → LimitsValue → WordsValue
-words_with k root limits = record { collective = record { kind = k; root = root }; limits = limits }
+-- the words of a search, with a root or without, where these are the word of its kind and the name of its root
+module _ (k s c n : ℕ) (kind root : List ℕ) (is_kind : word_in (map word_of every_kind) (string kind) ≡ Some kind) (is_name : name_in (string root) ≡ Some root) where
+  abbrev keyed : List ℕ → List (List ℕ) → List (List ℕ)
+  keyed kind behind =
+      codes "synth" ∷ (codes "collective=" ++ kind) ∷ (codes "k=" ++ decimal k) ∷ (codes "steps=" ++ decimal s) ∷ (codes "chunks=" ++ decimal c) ∷ (codes "conflicts=" ++ decimal n) ∷ behind
 
-abbrev keyed : Kind → LimitsValue → List (List ℕ) → List (List ℕ)
-keyed k limits root =
-    codes "synth" ∷ (codes "collective=" ++ word_of k) ∷ (codes "k=" ++ decimal limits.k) ∷ (codes "steps=" ++ decimal limits.max_s)
-    ∷ (codes "chunks=" ++ decimal limits.max_c) ∷ (codes "conflicts=" ++ decimal limits.conflicts) ∷ root
+  abbrev members : Bool → Bool → Bool → List (List ℕ × Data)
+  members rooted cuts ordered =
+      (codes "chunks", count_of c) ∷ (codes "collective", string kind) ∷ (codes "conflicts", count_of n) ∷ said_members (codes "cuts") cuts
+      ++ (codes "k", count_of k) ∷ said_members (codes "ordered") ordered ++ (if rooted then (codes "root", string root) ∷ [] else []) ++ (codes "steps", count_of s) ∷ []
 
-rooted : (names : List (List ℕ)) → AreNames names → (k : Kind) (root : ℕ) (limits : LimitsValue) → root < length names
-    → ((name_in (string (name_at names root)) >>= λ name. Some ((codes "root=" ++ name) ∷ [])) >>= λ r. Some (keyed k limits r)) ≡ Some (keyed k limits ((codes "root=" ++ name_at names root) ∷ []))
-rooted names named k root limits below = ap (λ o. (o >>= λ name. Some ((codes "root=" ++ name) ∷ [])) >>= λ r. Some (keyed k limits r)) (name_there names named root below)
+  unrooted_found : (p : Pruning) → (word_in (map word_of every_kind) (string kind) >>= λ w. Some (keyed w (pruning_words p))) ≡ Some (keyed kind (pruning_words p))
+  unrooted_found p = ap (λ o. o >>= λ w. Some (keyed w (pruning_words p))) is_kind
 
-words_found : (names : List (List ℕ)) → AreNames names → (k : Kind) (root : ℕ) (limits : LimitsValue) → root < length names → words_in (words_json names (words_with k root limits)) ≡ Some (synth_words names (words_with k root limits))
-words_found names named kind.Broadcast root limits below = rooted names named kind.Broadcast root limits below
-words_found names named kind.Gather root limits below = rooted names named kind.Gather root limits below
-words_found names named kind.Allgather root limits below = refl
-words_found names named kind.Scatter root limits below = rooted names named kind.Scatter root limits below
-words_found names named kind.Alltoall root limits below = refl
-words_found names named kind.Reduce root limits below = rooted names named kind.Reduce root limits below
-words_found names named kind.Reducescatter root limits below = refl
-words_found names named kind.Allreduce root limits below = refl
-words_found names named kind.Custom root limits below = refl
+  rooted_found : (p : Pruning) → (word_in (map word_of every_kind) (string kind) >>= λ w. (name_in (string root) >>= λ r. Some ((codes "root=" ++ r) ∷ [])) >>= λ r. Some (keyed w (r ++ pruning_words p))) ≡ Some (keyed kind ((codes "root=" ++ root) ∷ pruning_words p))
+  rooted_found p = ap₂ (λ o q. o >>= λ w. (q >>= λ r. Some ((codes "root=" ++ r) ∷ [])) >>= λ r. Some (keyed w (r ++ pruning_words p))) is_kind is_name
+
+  members_found : (rooted cuts ordered : Bool) → words_in (object_of (members rooted cuts ordered)) ≡ Some (keyed kind ((if rooted then (codes "root=" ++ root) ∷ [] else []) ++ pruning_words (record { cuts = cuts; ordered = ordered })))
+  members_found true true true = rooted_found (record { cuts = true; ordered = true })
+  members_found true true false = rooted_found (record { cuts = true; ordered = false })
+  members_found true false true = rooted_found (record { cuts = false; ordered = true })
+  members_found true false false = rooted_found (record { cuts = false; ordered = false })
+  members_found false true true = unrooted_found (record { cuts = true; ordered = true })
+  members_found false true false = unrooted_found (record { cuts = true; ordered = false })
+  members_found false false true = unrooted_found (record { cuts = false; ordered = true })
+  members_found false false false = unrooted_found (record { cuts = false; ordered = false })
+
+words_found : (names : List (List ℕ)) → AreNames names → (w : WordsValue) → w.collective.root < length names → words_in (words_json names w) ≡ Some (synth_words names w)
+words_found names named w below =
+    let l = w.limits in
+    members_found l.k l.max_s l.max_c l.conflicts (word_of w.collective.kind) (name_at names w.collective.root) (kind_found w.collective.kind) (name_there names named w.collective.root below) (takes_root w.collective.kind) l.pruning.cuts l.pruning.ordered
 
 -- ---- the whole
 
@@ -200,5 +209,5 @@ report_form r valid =
     let points = each_weaker _ _ (λ (x : Part × FrontierValue) (ok : IsFrontier (question_of w r.topology x.0) x.1). each_weaker _ _ (λ (p : PointValue) (h : IsPoint (question_of w r.topology x.0) p). below (question_of w r.topology x.0) valid.topology.as_many p h.has) x.1.points (recursion_from_All _ x.1.points ok.points)) r.frontiers (recursion_from_All _ r.frontiers valid.frontiers) in
     let joined = each_weaker _ _ (λ (p : PointValue) (h : IsJoinedPoint (question_of w r.topology part.Joined) p). below (question_of w r.topology part.Joined) valid.topology.as_many p h.has) r.joined (recursion_from_All _ r.joined valid.joined) in
     in_parts _ (bytes_eq (word_of k) (codes "allreduce")) _ _ _ _ _ _ (λ j. joined_in j (points_json names r.joined)) _ _ _ (joins_found names w k refl) (title_of names r.topology.topology.nodes r.topology.topology.groups r.topology.custom)
-    (words_found names named k w.collective.root w.limits valid.words.root) (topology_form r.topology valid.topology)
+    (words_found names named w valid.words.root) (topology_form r.topology valid.topology)
     (lines_made frontier_in (frontier_json names) (frontier_lines names) r.frontiers (frontier_each names named r.frontiers parts points)) (joined_found names named k r.joined joined valid.only_allreduce)

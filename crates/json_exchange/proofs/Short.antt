@@ -4,8 +4,11 @@ use Rattle.std.specs.Prelude.{codes, decimal, bytes_eq, if◌then◌else◌, IfS
 use Rattle.std.specs.List.{AllByRecursion, list_any}
 use Rattle.std.specs.Cmp.Lexicographic.{bytes_decides}
 use Rattle.std.proofs.lemmas.Bool.{or_cases}
+use Rattle.std.proofs.lemmas.Grind.{flat_map-append}
 use Rattle.text_lines.specs.Text.{line, text_of, fields}
 use Rattle.collective_spec.specs.Kinds.{word_of, every_kind}
+use Rattle.candidate_order.specs.declared.pruning.Pruning.{Pruning}
+use Rattle.report_form.specs.Spelling.{pruning_words}
 use Rattle.serde_json.specs.Data.{Data, null, boolean, number, string, array, object, Items, no_items, item}
 use Rattle.serde_json.specs.Events.{items_len}
 use Rattle.serde_json.specs.Find.{get}
@@ -17,7 +20,7 @@ use Rattle.json_values.specs.Answer.{text_of_json}
 use Rattle.json_values.proofs.Lines.{parts_listed}
 use Rattle.json_values.proofs.Short.{AtMost, Short, some_size, at_least, decimal_short, name_short, list_short, whole_list, within, field_short, line_length, after_both, one_short, if_short, text_short}
 use Rattle.json_values.proofs.TopologyShort.{token_of, tokens_short, lines_short, topology_short}
-use Rattle.json_rules.specs.ReportJson.{word_in, number_in, counts_in, refuted_in, unknown_in, four_in, send_in, marks, point_keys, adding_in, is_joined, head_in, rounds_in, schedule_in, marked_in, point_in, part_in, lists_in, frontier_body_in, frontier_in, words_keys, kind_in, keyed_in, root_in, keyed_words_in, words_in, none_in, joined_in, title_in, joins_in, end_in, results_in, body_in, rest_of, rest_in, report_text_in}
+use Rattle.json_rules.specs.ReportJson.{word_in, number_in, counts_in, refuted_in, unknown_in, four_in, send_in, marks, point_keys, adding_in, is_joined, head_in, rounds_in, schedule_in, marked_in, point_in, part_in, lists_in, frontier_body_in, frontier_in, words_keys, kind_in, keyed_in, root_in, pruning_in, keyed_words_in, words_in, none_in, joined_in, title_in, joins_in, end_in, results_in, body_in, rest_of, rest_in, report_text_in}
 
 abbrev Lines : Type 0
 Lines = Option (List (List (List ℕ)))
@@ -210,28 +213,43 @@ root_short true d = go (field (codes "root") name_in d) (name_at_key (get (codes
     go None h = tt
     go (Some root) h = omega (arith, one_more (codes "root=" ++ root) [], length-append (codes "root=") root)
 
-words_of : (kind k steps chunks conflicts : Option (List ℕ)) (root : Option (List (List ℕ))) → IfSome kind (λ w. length w ≤ 13) → IfSome k (λ w. length w ≤ 66) → IfSome steps (λ w. length w ≤ 70) → IfSome chunks (λ w. length w ≤ 71)
-    → IfSome conflicts (λ w. length w ≤ 74) → IfSome root (λ ws. length (fields ws) ≤ 22)
-    → AtMost 0 340 (option_map line (kind >>= λ kind. k >>= λ k. steps >>= λ steps. chunks >>= λ chunks. conflicts >>= λ conflicts. root >>= λ root. Some (codes "synth" ∷ (codes "collective=" ++ kind) ∷ k ∷ steps ∷ chunks ∷ conflicts ∷ root)))
-words_of None k steps chunks conflicts root a b c e f g = tt
-words_of (Some kind) None steps chunks conflicts root a b c e f g = tt
-words_of (Some kind) (Some k) None chunks conflicts root a b c e f g = tt
-words_of (Some kind) (Some k) (Some steps) None conflicts root a b c e f g = tt
-words_of (Some kind) (Some k) (Some steps) (Some chunks) None root a b c e f g = tt
-words_of (Some kind) (Some k) (Some steps) (Some chunks) (Some conflicts) None a b c e f g = tt
-words_of (Some kind) (Some k) (Some steps) (Some chunks) (Some conflicts) (Some root) a b c e f g =
+said_short : (p : Pruning) → length (fields (pruning_words p)) ≤ 22
+said_short p = go p.cuts p.ordered
+  where
+    go : (cuts ordered : Bool) → length (fields (pruning_words (record { cuts = cuts; ordered = ordered }))) ≤ 22
+    go true true = omega arith
+    go true false = omega arith
+    go false true = omega arith
+    go false false = omega arith
+
+behind_short : (root said : List (List ℕ)) → length (fields root) ≤ 22 → length (fields said) ≤ 22 → length (fields (root ++ said)) ≤ 44
+behind_short root said h k = omega (arith, ap length (flat_map-append (λ w. 32 ∷ w) root said), length-append (fields root) (fields said))
+
+words_of : (kind k steps chunks conflicts : Option (List ℕ)) (root : Option (List (List ℕ))) (said : List (List ℕ)) → IfSome kind (λ w. length w ≤ 13) → IfSome k (λ w. length w ≤ 66) → IfSome steps (λ w. length w ≤ 70) → IfSome chunks (λ w. length w ≤ 71)
+    → IfSome conflicts (λ w. length w ≤ 74) → IfSome root (λ ws. length (fields ws) ≤ 22) → length (fields said) ≤ 22
+    → AtMost 0 362 (option_map line (kind >>= λ kind. k >>= λ k. steps >>= λ steps. chunks >>= λ chunks. conflicts >>= λ conflicts. root >>= λ root. Some (codes "synth" ∷ (codes "collective=" ++ kind) ∷ k ∷ steps ∷ chunks ∷ conflicts ∷ root ++ said)))
+words_of None k steps chunks conflicts root said a b c e f g h = tt
+words_of (Some kind) None steps chunks conflicts root said a b c e f g h = tt
+words_of (Some kind) (Some k) None chunks conflicts root said a b c e f g h = tt
+words_of (Some kind) (Some k) (Some steps) None conflicts root said a b c e f g h = tt
+words_of (Some kind) (Some k) (Some steps) (Some chunks) None root said a b c e f g h = tt
+words_of (Some kind) (Some k) (Some steps) (Some chunks) (Some conflicts) None said a b c e f g h = tt
+words_of (Some kind) (Some k) (Some steps) (Some chunks) (Some conflicts) (Some root) said a b c e f g h =
     let word = codes "collective=" ++ kind in
-    omega (arith, line_length (codes "synth") (word ∷ k ∷ steps ∷ chunks ∷ conflicts ∷ root), length-append (codes "collective=") kind, one_more word (k ∷ steps ∷ chunks ∷ conflicts ∷ root), one_more k (steps ∷ chunks ∷ conflicts ∷ root), one_more steps (chunks ∷ conflicts ∷ root), one_more chunks (conflicts ∷ root), one_more conflicts root)
+    let behind = root ++ said in
+    omega (arith, line_length (codes "synth") (word ∷ k ∷ steps ∷ chunks ∷ conflicts ∷ behind), length-append (codes "collective=") kind, one_more word (k ∷ steps ∷ chunks ∷ conflicts ∷ behind), one_more k (steps ∷ chunks ∷ conflicts ∷ behind), one_more steps (chunks ∷ conflicts ∷ behind), one_more chunks (conflicts ∷ behind), one_more conflicts behind, behind_short root said g h)
 
-keyed_words_short : (rooted : Bool) (d : Data) → AtMost 0 340 (option_map line (keyed_words_in rooted d))
-keyed_words_short rooted d =
-    words_of (kind_in d) (keyed_in (codes "k") d) (keyed_in (codes "steps") d) (keyed_in (codes "chunks") d) (keyed_in (codes "conflicts") d) (root_in rooted d)
-    (word_at (map word_of every_kind) kinds_short (get (codes "collective") d)) (keyed_short (codes "k") d) (keyed_short (codes "steps") d) (keyed_short (codes "chunks") d) (keyed_short (codes "conflicts") d) (root_short rooted d)
+keyed_words_short : (p : Pruning) (rooted : Bool) (d : Data) → AtMost 0 362 (option_map line (keyed_words_in p rooted d))
+keyed_words_short p rooted d =
+    words_of (kind_in d) (keyed_in (codes "k") d) (keyed_in (codes "steps") d) (keyed_in (codes "chunks") d) (keyed_in (codes "conflicts") d) (root_in rooted d) (pruning_words p)
+    (word_at (map word_of every_kind) kinds_short (get (codes "collective") d)) (keyed_short (codes "k") d) (keyed_short (codes "steps") d) (keyed_short (codes "chunks") d) (keyed_short (codes "conflicts") d) (root_short rooted d) (said_short p)
 
-words_short : Short 340 (line_text words_in)
-words_short d =
-    let rooted = is_some (get (codes "root") d) in
-    at_least 0 340 (340 * size d) (option_map line (words_in d)) (omega (arith, some_size d)) (if_short 340 (has_keys (words_keys rooted) d) line (keyed_words_in rooted d) (keyed_words_short rooted d))
+words_with : (rooted : Bool) (d : Data) (o : Option Pruning) → AtMost 0 362 (option_map line (o >>= λ p. if has_keys (words_keys p rooted) d then keyed_words_in p rooted d else None))
+words_with rooted d None = tt
+words_with rooted d (Some p) = if_short 362 (has_keys (words_keys p rooted) d) line (keyed_words_in p rooted d) (keyed_words_short p rooted d)
+
+words_short : Short 362 (line_text words_in)
+words_short d = at_least 0 362 (362 * size d) (option_map line (words_in d)) (omega (arith, some_size d)) (words_with (is_some (get (codes "root") d)) d (pruning_in d))
 
 -- ---- the whole
 
@@ -266,22 +284,22 @@ results_short joins d =
 rest_body : (joins : Bool) → Short 1426 (λ d. option_map text_of (body_in joins d))
 rest_body joins d = both_short 440 986 (size d) (field (codes "topology") topology_in d) (results_in joins d) (field_short 440 (codes "topology") topology_in text_of topology_short d) (results_short joins d)
 
-rest_at : (d : Data) (o : Option Data) → IfSome o (λ words. size words ≤ size d) → AtMost 0 (1766 * size d) (option_map text_of (o >>= rest_of d))
+rest_at : (d : Data) (o : Option Data) → IfSome o (λ words. size words ≤ size d) → AtMost 0 (1788 * size d) (option_map text_of (o >>= rest_of d))
 rest_at d None h = tt
 rest_at d (Some words) h = go (joins_in words)
   where
-    asked : AtMost 0 (340 * size d) (option_map line (words_in words))
-    asked = at_least 0 (340 * size words) (340 * size d) (option_map line (words_in words)) (omega arith) (words_short words)
+    asked : AtMost 0 (362 * size d) (option_map line (words_in words))
+    asked = at_least 0 (362 * size words) (362 * size d) (option_map line (words_in words)) (omega arith) (words_short words)
 
-    go : (o : Option Bool) → AtMost 0 (1766 * size d) (option_map text_of (o >>= λ joins. one (words_in words) ⊕ body_in joins d))
+    go : (o : Option Bool) → AtMost 0 (1788 * size d) (option_map text_of (o >>= λ joins. one (words_in words) ⊕ body_in joins d))
     go None = tt
-    go (Some joins) = both_short 340 1426 (size d) (one (words_in words)) (body_in joins d) (one_short (340 * size d) (words_in words) asked) (rest_body joins d)
+    go (Some joins) = both_short 362 1426 (size d) (one (words_in words)) (body_in joins d) (one_short (362 * size d) (words_in words) asked) (rest_body joins d)
 
-report_short : Short 1773 report_text_in
+report_short : Short 1795 report_text_in
 report_short d =
-    if_short (1773 * size d) (has_keys (codes "frontiers" ∷ codes "joined" ∷ codes "topology" ∷ codes "words" ∷ []) d) text_of (one (field (codes "topology") title_in d) ⊕ rest_in d)
-    (both_short 7 1766 (size d) (one (field (codes "topology") title_in d)) (rest_in d) (one_short (7 * size d) (field (codes "topology") title_in d) (field_short 7 (codes "topology") title_in line title_short d))
+    if_short (1795 * size d) (has_keys (codes "frontiers" ∷ codes "joined" ∷ codes "topology" ∷ codes "words" ∷ []) d) text_of (one (field (codes "topology") title_in d) ⊕ rest_in d)
+    (both_short 7 1788 (size d) (one (field (codes "topology") title_in d)) (rest_in d) (one_short (7 * size d) (field (codes "topology") title_in d) (field_short 7 (codes "topology") title_in line title_short d))
     (rest_at d (get (codes "words") d) (within (codes "words") d)))
 
 pub report_text_short : (bytes text : List ℕ) → text_of_json report_text_in bytes ≡ Ok text → length text ≤ 2000 * length bytes
-report_text_short bytes text h = omega (arith, text_short 1773 report_text_in report_short bytes text h)
+report_text_short bytes text h = omega (arith, text_short 1795 report_text_in report_short bytes text h)

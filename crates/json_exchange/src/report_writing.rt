@@ -1,11 +1,12 @@
 //! A report as JSON.
 
-ghost use Rattle.std.specs.Prelude.{◌≡◌, Ok, map, IfOk};
+ghost use Rattle.std.specs.Prelude.{◌≡◌, Ok, map, IfOk, OnOk};
 ghost use Rattle.report_form.specs.Reports.{IsReport};
 ghost use Rattle.serde_json.specs.View.{view, members_view};
 ghost use Rattle.json_values.specs.Json.{printed, array_of, count_of, members_of};
 ghost use Rattle.json_rules.specs.ReportJson.{candidate_json, unknown_json, send_json, mark_word, point_members, point_json, points_json, part_word, frontier_json, words_json, report_json};
 ghost use Rattle.json_rules.specs.Answer.{report_of_json};
+ghost use Rattle.json_exchange.specs.inner.Members.{plain_members, with_said};
 
 use candidate_order::{Candidate, Frontier, Mark, Point, Unknown};
 use collective_spec::takes_root;
@@ -175,20 +176,65 @@ fn frontiers_json(
     Ok(Value::Array(values))
 }
 
-fn words_json(alloc: Global, names: &[Name], words: Words) -> Result<Value, AllocError>
-    ensures { IfOk result (λ v. view v ≡ words_json names.now words) }
+/// The members of the words without what is left out.
+fn plain_members(
+    alloc: Global,
+    names: &[Name],
+    words: Words,
+) -> Result<Map<String, Value>, AllocError>
+    ensures { IfOk result (λ m. members_view m.entries ≡ members_of (plain_members names.now words)) }
 {
     let kind = words.collective().kind;
     let collective = kind.word();
     let limits = words.limits();
     let (k, steps) = (limits.k(), limits.max_s());
     let (chunks, conflicts) = (limits.max_c(), limits.conflicts());
+    let mut members = Map::new(alloc);
+    put(&mut members, alloc, "chunks", Value::from(chunks))?;
+    put(
+        &mut members,
+        alloc,
+        "collective",
+        Value::try_from_str(alloc, collective)?,
+    )?;
+    put(&mut members, alloc, "conflicts", Value::from(conflicts))?;
+    put(&mut members, alloc, "k", Value::from(k))?;
+    put(&mut members, alloc, "steps", Value::from(steps))?;
     if takes_root(kind) {
         let root = node_text(names, words.collective().root);
-        json!(in alloc; {"chunks": chunks, "collective": collective, "conflicts": conflicts, "k": k, "root": root, "steps": steps})
-    } else {
-        json!(in alloc; {"chunks": chunks, "collective": collective, "conflicts": conflicts, "k": k, "steps": steps})
+        put(
+            &mut members,
+            alloc,
+            "root",
+            Value::try_from_str(alloc, root)?,
+        )?;
     }
+    Ok(members)
+}
+
+/// Puts the key in with the word `yes`, where it is said.
+fn put_said(
+    members: &mut Map<String, Value>,
+    alloc: Global,
+    key: &str,
+    said: bool,
+) -> Result<(), AllocError>
+    ensures { OnOk result (members_view members.new.entries ≡ with_said key.now said (members_view members.old.entries)) }
+{
+    if said {
+        put(members, alloc, key, Value::try_from_str(alloc, "yes")?)?;
+    }
+    Ok(())
+}
+
+fn words_json(alloc: Global, names: &[Name], words: Words) -> Result<Value, AllocError>
+    ensures { IfOk result (λ v. view v ≡ words_json names.now words) }
+{
+    let pruning = words.limits().pruning();
+    let mut members = plain_members(alloc, names, words)?;
+    put_said(&mut members, alloc, "cuts", pruning.cuts)?;
+    put_said(&mut members, alloc, "ordered", pruning.ordered)?;
+    Ok(Value::Object(members))
 }
 
 /// The report as a value of JSON.

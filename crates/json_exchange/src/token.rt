@@ -43,7 +43,8 @@ fn push_token(out: &mut Vec<u8>, token: &Token<'_>) -> Result<(), AllocError>
     }
 }
 
-fn push_tokens(out: &mut Vec<u8>, tokens: &[Token<'_>]) -> Result<(), AllocError>
+/// Appends the tokens, each with a space before it.
+pub(crate) fn push_tokens(out: &mut Vec<u8>, tokens: &[Token<'_>]) -> Result<(), AllocError>
     ensures { OnOk result (out.new.items ≡ out.old.items ++ fields (map token_bytes tokens.now)) }
 {
     for token in tokens {

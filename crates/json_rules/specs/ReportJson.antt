@@ -9,9 +9,11 @@ use Rattle.collective_spec.specs.Kinds.{word_of, takes_root, every_kind}
 use Rattle.candidate_order.specs.declared.candidate.Candidate.{Candidate}
 use Rattle.candidate_order.specs.declared.mark.Mark.{Mark}
 use Rattle.candidate_order.specs.declared.mark.Mark.TheVariants as mark
+use Rattle.candidate_order.specs.declared.pruning.Pruning.{Pruning}
 use Rattle.candidate_order.specs.Frontiers.{PointValue, UnknownValue, FrontierValue}
 use Rattle.topology_text.specs.Spelling.{name_at}
 use Rattle.report_form.specs.Reports.{WordsValue, ReportValue}
+use Rattle.report_form.specs.Spelling.{word_if, pruning_words}
 use Rattle.serde_json.specs.Data.{Data, string, Items, no_items, item}
 use Rattle.serde_json.specs.Find.{as_array, as_str, get}
 use Rattle.serde_json.specs.Events.{items_len}
@@ -66,10 +68,14 @@ frontier_json names x = object_of (
 abbrev pub root_members : List (List ℕ) → WordsValue → List (List ℕ × Data)
 root_members names w = if takes_root w.collective.kind then (codes "root", string (name_at names w.collective.root)) ∷ [] else []
 
+-- the key with the word `yes`, where it is said
+abbrev pub said_members : List ℕ → Bool → List (List ℕ × Data)
+said_members key said = if said then (key, string (codes "yes")) ∷ [] else []
+
 abbrev pub words_json : List (List ℕ) → WordsValue → Data
 words_json names w = object_of (
-    (codes "chunks", count_of w.limits.max_c) ∷ (codes "collective", string (word_of w.collective.kind)) ∷ (codes "conflicts", count_of w.limits.conflicts) ∷ (codes "k", count_of w.limits.k)
-    ∷ root_members names w ++ (codes "steps", count_of w.limits.max_s) ∷ []
+    (codes "chunks", count_of w.limits.max_c) ∷ (codes "collective", string (word_of w.collective.kind)) ∷ (codes "conflicts", count_of w.limits.conflicts) ∷ said_members (codes "cuts") w.limits.pruning.cuts
+    ++ (codes "k", count_of w.limits.k) ∷ said_members (codes "ordered") w.limits.pruning.ordered ++ root_members names w ++ (codes "steps", count_of w.limits.max_s) ∷ []
     )
 
 abbrev pub report_json : ReportValue → Data
@@ -180,8 +186,9 @@ frontier_in d = if has_keys (codes "part" ∷ codes "points" ∷ codes "refuted"
 
 -- ---- the words
 
-abbrev pub words_keys : Bool → List (List ℕ)
-words_keys rooted = codes "chunks" ∷ codes "collective" ∷ codes "conflicts" ∷ codes "k" ∷ (if rooted then codes "root" ∷ [] else []) ++ codes "steps" ∷ []
+-- the keys of words that leave this out, with a root or without
+abbrev pub words_keys : Pruning → Bool → List (List ℕ)
+words_keys p rooted = codes "chunks" ∷ codes "collective" ∷ codes "conflicts" ∷ word_if (codes "cuts") p.cuts ++ codes "k" ∷ word_if (codes "ordered") p.ordered ++ word_if (codes "root") rooted ++ codes "steps" ∷ []
 
 abbrev pub kind_in : Data → Option (List ℕ)
 kind_in d = field (codes "collective") (word_in (map word_of every_kind)) d
@@ -198,18 +205,34 @@ root_in true d = do
   root ← field (codes "root") name_in d
   Some ((codes "root=" ++ root) ∷ [])
 
-abbrev pub keyed_words_in : Bool → Data → Option (List (List ℕ))
-keyed_words_in rooted d = do
+-- the value of a key that may be left out: the one word `yes`
+abbrev pub yes_in : Option Data → Option Bool
+yes_in None = Some false
+yes_in (Some d) = do
+  word ← as_str d
+  if bytes_eq word (codes "yes") then Some true else None
+
+-- what is left out, each by a key of its own
+abbrev pub pruning_in : Data → Option Pruning
+pruning_in d = do
+  cuts ← yes_in (get (codes "cuts") d)
+  ordered ← yes_in (get (codes "ordered") d)
+  Some (record { cuts = cuts; ordered = ordered })
+
+abbrev pub keyed_words_in : Pruning → Bool → Data → Option (List (List ℕ))
+keyed_words_in p rooted d = do
   kind ← kind_in d
   k ← keyed_in (codes "k") d
   steps ← keyed_in (codes "steps") d
   chunks ← keyed_in (codes "chunks") d
   conflicts ← keyed_in (codes "conflicts") d
   root ← root_in rooted d
-  Some (codes "synth" ∷ (codes "collective=" ++ kind) ∷ k ∷ steps ∷ chunks ∷ conflicts ∷ root)
+  Some (codes "synth" ∷ (codes "collective=" ++ kind) ∷ k ∷ steps ∷ chunks ∷ conflicts ∷ root ++ pruning_words p)
 
 abbrev pub synth_in : Bool → Data → Option (List (List ℕ))
-synth_in rooted d = if has_keys (words_keys rooted) d then keyed_words_in rooted d else None
+synth_in rooted d = do
+  p ← pruning_in d
+  if has_keys (words_keys p rooted) d then keyed_words_in p rooted d else None
 
 abbrev pub words_in : Data → Option (List (List ℕ))
 words_in d = synth_in (is_some (get (codes "root") d)) d

@@ -12,7 +12,7 @@ use Rattle.node_cuts.specs.declared.floor.Floor.{Floor}
 use Rattle.node_cuts.specs.Floors.{has_need, exceeds, is_greatest, nothing_over_1, first_greatest, greater_of}
 
 -- what is no greater than the best so far is less than what is greater than that
-above_all : (f b x : Floor) → 0 < f.above → 0 < b.above → 0 < x.above → exceeds f b ≡ true → exceeds x b ≡ false → exceeds f x ≡ true
+pub above_all : (f b x : Floor) → 0 < f.above → 0 < b.above → 0 < x.above → exceeds f b ≡ true → exceeds x b ≡ false → exceeds f x ≡ true
 above_all f b x fp bp xp greater no_greater =
     let first : b.above * f.below < f.above * b.below = ltb-true (b.above * f.below) (f.above * b.below) greater in
     let second : x.above * b.below ≤ b.above * x.below = ltb-false (b.above * x.below) (x.above * b.below) no_greater in
@@ -33,7 +33,7 @@ above_all f b x fp bp xp greater no_greater =
     let whole : x.above * f.below * b.below < f.above * x.below * b.below = omega (arith, one, two, left, middle, right) in
     lt-ltb (x.above * f.below) (f.above * x.below) (lt_of_mul-lt-mul_right b.below whole)
 
-not_both : (f x : Floor) → exceeds f x ≡ true → exceeds x f ≡ false
+pub not_both : (f x : Floor) → exceeds f x ≡ true → exceeds x f ≡ false
 not_both f x greater =
     let less : x.above * f.below < f.above * x.below = ltb-true (x.above * f.below) (f.above * x.below) greater in
     le-ltb (f.above * x.below) (x.above * f.below) (omega (arith, less))
@@ -62,7 +62,7 @@ none_any : {X : Type 0} (p : X → Bool) (xs : List X) → AllByRecursion (λ x.
 none_any p [] each = refl
 none_any p (x ∷ xs) each = rw (each.0, none_any p xs each.1) refl
 
-any_middle : {X : Type 0} (p : X → Bool) (xs : List X) (y : X) (ys : List X) → p y ≡ true → list_any p (xs ++ y ∷ ys) ≡ true
+pub any_middle : {X : Type 0} (p : X → Bool) (xs : List X) (y : X) (ys : List X) → p y ≡ true → list_any p (xs ++ y ∷ ys) ≡ true
 any_middle p [] y ys passes = rw passes refl
 any_middle p (x ∷ xs) y ys passes =
     ⊎_elim
@@ -74,14 +74,14 @@ find_past : {X : Type 0} (p : X → Bool) (xs : List X) (y : X) (ys : List X) �
 find_past p [] y ys each passes = rw passes refl
 find_past p (x ∷ xs) y ys each passes = rw each.0 (find_past p xs y ys each.1 passes)
 
-abbrev Positive : Floor → Type 0
+abbrev pub Positive : Floor → Type 0
 Positive f = has_need f ≡ true
 
 not_nothing : (f : Floor) → Positive f → (f.above == 0) ≡ false
 not_nothing f some = ne_eqb f.above 0 (λ none. omega (arith, ltb-true 0 f.above some, none))
 
 -- one more that is of something
-step : (fs : List Floor) (best : Option Floor) (f : Floor) → AllByRecursion Positive fs → Positive f → IsBest fs best → IsBest (fs ++ f ∷ []) (greater_of best f)
+pub step : (fs : List Floor) (best : Option Floor) (f : Floor) → AllByRecursion Positive fs → Positive f → IsBest fs best → IsBest (fs ++ f ∷ []) (greater_of best f)
 step fs None f positive some best =
     let now : greater_of None f ≡ Some f = ap (λ b. cond {A = Option Floor} b None (Some f)) (not_nothing f some) in
     let first : IsFirst (fs ++ f ∷ []) f = record {

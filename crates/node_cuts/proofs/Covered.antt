@@ -1,9 +1,11 @@
--- The groups of a cover have every usable link into the set, so that they carry all that comes in.
-use Rattle.std.proofs.Common.{◌≡◌, ℕ, zero, suc, ◌+◌, ◌*◌, ◌<◌, ◌≤◌, Bool, true, false, ◌||◌, ◌&&◌, cond, List, [], ◌∷◌, length, get_or, sym, ap, ◌∙◌, ⊎_elim, arith}
-use Rattle.std.specs.Prelude.{◌==◌, count_by, not}
-use Rattle.std.specs.List.{list_any}
-use Rattle.std.proofs.lemmas.Bool.{false≢true, cases_Bool, cases_eq, or_left, or_right, or_cases, and_parts, and_from, not_from_false, eq-eqb}
+-- The groups of each cover have every usable link into the set, so that they carry all that comes in.
+use Rattle.std.proofs.Common.{◌≡◌, ℕ, zero, suc, ◌+◌, ◌*◌, ◌<◌, ◌≤◌, Bool, true, false, ◌||◌, ◌&&◌, cond, List, [], ◌∷◌, ◌++◌, length, get_or, refl, sym, ap, ◌∙◌, ⊎_elim, arith}
+use Rattle.std.specs.Prelude.{◌==◌, count_by, filter, nat_lt, not, Option, None, Some}
+use Rattle.std.specs.List.{list_any, range_with_len}
+use Rattle.std.specs.Option.{is_some, option_map_or}
+use Rattle.std.proofs.lemmas.Bool.{false≢true, cases_Bool, cases_eq, cases_lt, or_left, or_right, or_cases, and_parts, and_from, not_from_false, eq-eqb}
 use Rattle.std.proofs.Math.Nat.{add-mul}
+use Rattle.std.proofs.lemmas.List.{get_or_past}
 use Rattle.std.proofs.lemmas.List.Folds.{list_any-append}
 use Rattle.std.proofs.lemmas.List.Sums.{sum_by-cons}
 use Rattle.schedule.specs.declared.hop.Hop.{Hop}
@@ -12,9 +14,12 @@ use Rattle.schedule.specs.Sends.{ScheduleValue, link_of}
 use Rattle.schedule.specs.Fitting.{load, rounds_at}
 use Rattle.schedule.specs.Judging.{group_at}
 use Rattle.schedule.proofs.Placing.{pair_is}
-use Rattle.schedule.proofs.First.{any_found, any_among}
+use Rattle.list_laws.proofs.Ranges.{any_at}
+use Rattle.schedule.proofs.First.{any_found, any_among, among_kept}
+use Rattle.node_cuts.specs.declared.sets.Sets.{Sets}
+use Rattle.node_cuts.specs.declared.sets.Sets.TheVariants.{Nothing, Listed, All}
 use Rattle.node_cuts.specs.Sides.{NodeSet}
-use Rattle.node_cuts.specs.Cuts.{enters, is_among, opens, groups_taken, cover, width_of}
+use Rattle.node_cuts.specs.Cuts.{enters, is_among, opens, opens_more, groups_taken, groups_taken_back, best_of, best_taken, all_groups, ascending, cover, cover_back, cover_greedily, cover_by, narrower, width_of}
 use Rattle.node_cuts.proofs.Counting.{no_more_than_both, none_counted}
 
 -- an element that passes stands at a place
@@ -26,35 +31,146 @@ place_of p (x ∷ xs) d some =
     (λ (later : p x ≡ false). let rest = place_of p xs d (rw later at some) in (suc rest.0, omega (arith, rest.1), rest.2))
     (cases_Bool (p x))
 
+some_best : (u : NodeSet) (t : TopologyValue) (taken : List ℕ) (best : ℕ) (others : List ℕ) → best_of u t taken (Some best) others ≡ None → ⊥
+some_best u t taken best [] is = false≢true (sym (ap is_some is))
+some_best u t taken best (g ∷ others) is =
+    ⊎_elim
+    (λ (more : opens_more u t taken g best ≡ true). some_best u t taken g others (rw more at is))
+    (λ (no_more : opens_more u t taken g best ≡ false). some_best u t taken best others (rw no_more at is))
+    (cases_Bool (opens_more u t taken g best))
+
+-- where no group is the best, none opens the set
+pub none_opens : (u : NodeSet) (t : TopologyValue) (taken : List ℕ) (k a n : ℕ) → best_of u t taken None (range_with_len a n) ≡ None → a ≤ k → k < a + n → opens u t taken k ≡ false
+none_opens u t taken k a zero is from to = absurd (omega (arith, from, to))
+none_opens u t taken k a (suc n) is from to =
+    ⊎_elim
+    (λ (yes : opens u t taken a ≡ true). absurd (some_best u t taken a (range_with_len (a + 1) n) (ap (λ b. best_of u t taken (cond b (Some a) None) (range_with_len (a + 1) n)) (sym yes) ∙ is)))
+    (λ (no : opens u t taken a ≡ false).
+    ⊎_elim
+    (λ (here : k ≡ a). ap (opens u t taken) here ∙ no)
+    (λ (later : k ≡ a → ⊥). none_opens u t taken k (a + 1) n (ap (λ b. best_of u t taken (cond b (Some a) None) (range_with_len (a + 1) n)) (sym no) ∙ is) (omega (arith, from, later)) (omega (arith, to)))
+    (cases_eq k a))
+    (cases_Bool (opens u t taken a))
+
+-- what passes both tests is found among what passes the first
+any_kept : {X : Type 0} (p q : X → Bool) (xs : List X) → list_any (λ x. p x && q x) xs ≡ true → list_any q (filter p xs) ≡ true
+any_kept p q xs some =
+    let found = any_found (λ x. p x && q x) xs some in
+    let parts = and_parts (p found.0) (q found.0) found.2 in
+    any_among q found.0 (filter p xs) (among_kept p found.0 xs found.1 parts.0) parts.1
+
 module _ (u : NodeSet) (t : TopologyValue) where
-  -- each link into the set that stands in one of the first groups stands in one that is taken
-  covers : (n : ℕ) (link : ℕ × ℕ) (k : ℕ) → enters u link ≡ true → k < n → has_link (group_at t k) link ≡ true → is_among t (groups_taken u t n) link ≡ true
-  covers zero link k into below stands = absurd (omega (arith, below))
-  covers (suc n) link k into below stands =
-      let before : List ℕ = groups_taken u t n in
-      let has : ℕ → Bool = λ g. has_link (group_at t g) link in
-      list_any-append has before (cond (opens u t before n) (n ∷ []) [])
-      ∙ ⊎_elim
-      (λ (already : is_among t before link ≡ true). or_left (list_any has before) (list_any has (cond (opens u t before n) (n ∷ []) [])) already)
-      (λ (not_yet : is_among t before link ≡ false).
+  module _ (link : ℕ × ℕ) (into : enters u link ≡ true) where
+    abbrev pub has : ℕ → Bool
+    has g = has_link (group_at t g) link
+
+    -- a group that has the link opens the set, where the link stands in no group taken before
+    opens_here : (taken : List ℕ) (n : ℕ) → has n ≡ true → is_among t taken link ≡ false → opens u t taken n ≡ true
+    opens_here taken n stands not_yet =
+        let found = any_found (same_link link) (group_at t n).links stands in
+        let it : link ≡ found.0 = pair_is link found.0 found.2 in
+        let new : (enters u found.0 && not (is_among t taken found.0)) ≡ true = ap (λ l. enters u l && not (is_among t taken l)) (sym it) ∙ and_from (enters u link) (not (is_among t taken link)) into (not_from_false (is_among t taken link) not_yet) in
+        any_among (λ l. enters u l && not (is_among t taken l)) found.0 (group_at t n).links found.1 new
+
+    -- each link into the set that stands in one of the first groups stands in one that is taken
+    covers : (n k : ℕ) → k < n → has k ≡ true → is_among t (groups_taken u t n) link ≡ true
+    covers zero k below stands = absurd (omega (arith, below))
+    covers (suc n) k below stands =
+        let before : List ℕ = groups_taken u t n in
+        list_any-append has before (cond (opens u t before n) (n ∷ []) [])
+        ∙ ⊎_elim
+        (λ (already : is_among t before link ≡ true). or_left (list_any has before) (list_any has (cond (opens u t before n) (n ∷ []) [])) already)
+        (λ (not_yet : is_among t before link ≡ false).
+        ⊎_elim
+        (λ (last : k ≡ n).
+        let stands_here : has n ≡ true = ap has (sym last) ∙ stands in
+        or_right (list_any has before) (list_any has (cond (opens u t before n) (n ∷ []) []))
+        (ap (λ b. list_any has (cond b (n ∷ []) [])) (opens_here before n stands_here not_yet) ∙ or_left (has n) false stands_here))
+        (λ (earlier : k ≡ n → ⊥). absurd (false≢true (sym not_yet ∙ covers n k (omega (arith, below, earlier)) stands)))
+        (cases_eq k n))
+        (cases_Bool (is_among t before link))
+
+    -- what stands in a group taken before stays in one that is taken
+    stays_back : (n : ℕ) (taken : List ℕ) → is_among t taken link ≡ true → is_among t (groups_taken_back u t n taken) link ≡ true
+    stays_back zero taken already = already
+    stays_back (suc n) taken already =
+        ⊎_elim
+        (λ (yes : opens u t taken n ≡ true). rw yes (stays_back n (n ∷ taken) (or_right (has n) (list_any has taken) already)))
+        (λ (no : opens u t taken n ≡ false). rw no (stays_back n taken already))
+        (cases_Bool (opens u t taken n))
+
+    -- the same from the last group to the first
+    covers_back : (n : ℕ) (taken : List ℕ) (k : ℕ) → k < n → has k ≡ true → is_among t (groups_taken_back u t n taken) link ≡ true
+    covers_back zero taken k below stands = absurd (omega (arith, below))
+    covers_back (suc n) taken k below stands =
+        ⊎_elim
+        (λ (last : k ≡ n).
+        let stands_here : has n ≡ true = ap has (sym last) ∙ stands in
+        ⊎_elim
+        (λ (already : is_among t taken link ≡ true). stays_back (suc n) taken already)
+        (λ (not_yet : is_among t taken link ≡ false). rw (opens_here taken n stands_here not_yet) (stays_back n (n ∷ taken) (or_left (has n) (list_any has taken) stands_here)))
+        (cases_Bool (is_among t taken link)))
+        (λ (earlier : k ≡ n → ⊥). covers_back n (cond (opens u t taken n) (n ∷ taken) taken) k (omega (arith, below, earlier)) stands)
+        (cases_eq k n)
+
+    -- a group that has the link is one of the topology's
+    in_range : (g : ℕ) → has g ≡ true → g < length t.groups
+    in_range g stands =
+        ⊎_elim
+        (λ (inside : g < length t.groups). inside)
+        (λ (past : length t.groups ≤ g). absurd (false≢true (sym (ap (λ group. has_link group link) (get_or_past t.groups g (record { links = []; width = 0 }) past)) ∙ stands)))
+        (cases_lt g (length t.groups))
+
+    stays_ascending : (taken : List ℕ) → is_among t taken link ≡ true → is_among t (ascending t taken) link ≡ true
+    stays_ascending taken already =
+        let found = any_found has taken already in
+        let inside : found.0 < length t.groups = in_range found.0 found.2 in
+        let taken_one : list_any (λ other. other == found.0) taken ≡ true = any_among (λ other. other == found.0) found.0 taken found.1 (eq-eqb found.0 found.0 refl) in
+        any_kept (λ g. list_any (λ other. other == g) taken) has (all_groups t)
+        (any_at (λ g. list_any (λ other. other == g) taken && has g) 0 (length t.groups) found.0 (omega arith) (omega (arith, inside))
+        (and_from (list_any (λ other. other == found.0) taken) (has found.0) taken_one found.2))
+
+    by_best : (turns : ℕ) (taken : List ℕ) (k : ℕ) → has k ≡ true → ((g : ℕ) → is_among t (best_taken u t turns (taken ++ g ∷ [])) link ≡ true)
+        → (best : Option ℕ) → best_of u t taken None (all_groups t) ≡ best → is_among t (option_map_or (λ g. best_taken u t turns (taken ++ g ∷ [])) best (ascending t taken)) link ≡ true
+    by_best turns taken k stands more (Some g) is = more g
+    by_best turns taken k stands more None is =
+        ⊎_elim
+        (λ (already : is_among t taken link ≡ true). stays_ascending taken already)
+        (λ (not_yet : is_among t taken link ≡ false).
+        let none : opens u t taken k ≡ false = none_opens u t taken k 0 (length t.groups) is (omega arith) (omega (arith, in_range k stands)) in
+        absurd (false≢true (sym none ∙ opens_here taken k stands not_yet)))
+        (cases_Bool (is_among t taken link))
+
+    -- until no group opens the set, each link into it that stands in a group stands in one that is taken
+    covers_best : (turns : ℕ) (taken : List ℕ) (k : ℕ) → has k ≡ true → is_among t (best_taken u t turns taken) link ≡ true
+    covers_best zero taken k stands = any_at has 0 (length t.groups) k (omega arith) (omega (arith, in_range k stands)) stands
+    covers_best (suc turns) taken k stands =
+        by_best turns taken k stands (λ g. covers_best turns (taken ++ g ∷ []) k stands) (best_of u t taken None (all_groups t)) refl
+
+  abbrev pub Covers : List ℕ → Type 0
+  Covers groups = (link : ℕ × ℕ) → enters u link ≡ true → is_usable t link ≡ true → is_among t groups link ≡ true
+
+  stands_at : (link : ℕ × ℕ) → is_usable t link ≡ true → (k : ℕ) × (k < length t.groups) × (has_link (group_at t k) link ≡ true)
+  stands_at link usable = place_of (λ group. has_link group link) t.groups (record { links = []; width = 0 }) usable
+
+  narrower_covers : (first second : List ℕ) → Covers first → Covers second → Covers (narrower t first second)
+  narrower_covers first second one other =
       ⊎_elim
-      (λ (last : k ≡ n).
-      let stands_here : has_link (group_at t n) link ≡ true = ap (λ g. has_link (group_at t g) link) (sym last) ∙ stands in
-      let found = any_found (same_link link) (group_at t n).links stands_here in
-      let it : link ≡ found.0 = pair_is link found.0 found.2 in
-      let new : (enters u found.0 && not (is_among t before found.0)) ≡ true = ap (λ l. enters u l && not (is_among t before l)) (sym it) ∙ and_from (enters u link) (not (is_among t before link)) into (not_from_false (is_among t before link) not_yet) in
-      let opened : opens u t before n ≡ true = any_among (λ l. enters u l && not (is_among t before l)) found.0 (group_at t n).links found.1 new in
-      or_right (list_any has before) (list_any has (cond (opens u t before n) (n ∷ []) []))
-      (ap (λ b. list_any has (cond b (n ∷ []) [])) opened ∙ or_left (has n) false stands_here))
-      (λ (earlier : k ≡ n → ⊥). absurd (false≢true (sym not_yet ∙ covers n link k into (omega (arith, below, earlier)) stands)))
-      (cases_eq k n))
-      (cases_Bool (is_among t before link))
+      (λ (less : nat_lt (width_of t second) (width_of t first) ≡ true). rw less other)
+      (λ (no_less : nat_lt (width_of t second) (width_of t first) ≡ false). rw no_less one)
+      (cases_Bool (nat_lt (width_of t second) (width_of t first)))
+
+  cover_covers : Covers (cover u t)
+  cover_covers link into usable = let at = stands_at link usable in covers link into (length t.groups) at.0 at.1 at.2
 
   -- each usable link into the set stands in a group of the cover
-  pub covered : (link : ℕ × ℕ) → enters u link ≡ true → is_usable t link ≡ true → is_among t (cover u t) link ≡ true
-  covered link into usable =
-      let at = place_of (λ group. has_link group link) t.groups (record { links = []; width = 0 }) usable in
-      covers (length t.groups) link at.0 into at.1 at.2
+  pub covered : (sets : Sets) → Covers (cover_by sets u t)
+  covered Nothing = cover_covers
+  covered Listed = cover_covers
+  covered All =
+      narrower_covers (narrower t (cover u t) (cover_back u t)) (cover_greedily u t)
+      (narrower_covers (cover u t) (cover_back u t) cover_covers (λ link into usable. let at = stands_at link usable in covers_back link into (length t.groups) [] at.0 at.1 at.2))
+      (λ link into usable. let at = stands_at link usable in covers_best link into (length t.groups) [] at.0 at.2)
 
 -- the sends of a step over links that stand in one of these groups are no more than the groups carry in it
 pub carried : (t : TopologyValue) (s : ScheduleValue) (step : ℕ) (p : Hop → Bool) → ((h : Hop) → p h ≡ true → h.step ≡ step) → ((g : ℕ) → load (group_at t g) step s.sends ≤ (group_at t g).width * rounds_at s step)

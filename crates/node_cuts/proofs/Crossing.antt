@@ -19,9 +19,9 @@ use Rattle.schedule.specs.Judging.{group_at}
 use Rattle.schedule.specs.Solving.{Solves}
 use Rattle.schedule.proofs.First.{Among, among_each, any_found, any_among}
 use Rattle.schedule.proofs.Placing.{pair_is}
-use Rattle.node_cuts.specs.declared.side.Side.{Side}
-use Rattle.node_cuts.specs.Sides.{NodeSet, set_of, listed_sides}
-use Rattle.node_cuts.specs.Cuts.{stands_in, is_needed, need, enters, is_among, cover, width, cut_refutes, cut_of, first_cut_of}
+use Rattle.node_cuts.specs.declared.sets.Sets.{Sets}
+use Rattle.node_cuts.specs.Sides.{NodeSet, node_sets}
+use Rattle.node_cuts.specs.Cuts.{stands_in, is_needed, need, enters, is_among, cover_by, width_by, cut_refutes, cut_of, first_cut_of}
 use Rattle.node_cuts.proofs.Counting.{no_fewer, no_fewer_of, one_more, no_more_than_both, none_counted}
 use Rattle.node_cuts.proofs.Covered.{covered, carried}
 
@@ -114,7 +114,7 @@ module _ (u : NodeSet) (s : ScheduleValue) where
 
   -- ---- what comes in in the first steps
 
-  module _ (t : TopologyValue) (fits : Fits t s) where
+  module _ (sets : Sets) (t : TopologyValue) (fits : Fits t s) where
     within : (step : ℕ) → 0 < step → step ≤ length s.rounds → (g : ℕ) → load (group_at t g) step s.sends ≤ (group_at t g).width * rounds_at s step
     within step from to g =
         ⊎_elim
@@ -125,7 +125,7 @@ module _ (u : NodeSet) (s : ScheduleValue) where
         omega (arith, no_load))
         (cases_lt g (length t.groups))
 
-    in_first_steps : (n : ℕ) → n ≤ length s.rounds → count_by (comes_in n) s.sends ≤ width u t * sum (take n s.rounds)
+    in_first_steps : (n : ℕ) → n ≤ length s.rounds → count_by (comes_in n) s.sends ≤ width_by sets u t * sum (take n s.rounds)
     in_first_steps zero low =
         let none : count_by (comes_in 0) s.sends ≡ 0 = none_counted (comes_in 0) (λ (h : Hop) both.
         let first = and_parts (nat_lt 0 h.step) (nat_le h.step 0 && enters u (link_of h)) both in
@@ -144,31 +144,31 @@ module _ (u : NodeSet) (s : ScheduleValue) where
         let small : h.step ≤ n = omega (arith, leb-true h.step (suc n) second.0, before) in
         or_left (comes_in n h) (now h) (and_from (nat_lt 0 h.step) (nat_le h.step n && enters u (link_of h)) first.0 (and_from (nat_le h.step n) (enters u (link_of h)) (le-leb h.step n small) second.1)))
         (cases_eq h.step step)) s.sends in
-        let over : count_by now s.sends ≤ count_by (λ (h : Hop). now h && is_among t (cover u t) (link_of h)) s.sends = no_fewer_of (λ (h : Hop). is_usable t (link_of h) ≡ true) now (λ (h : Hop). now h && is_among t (cover u t) (link_of h)) (λ (h : Hop) usable it.
+        let over : count_by now s.sends ≤ count_by (λ (h : Hop). now h && is_among t (cover_by sets u t) (link_of h)) s.sends = no_fewer_of (λ (h : Hop). is_usable t (link_of h) ≡ true) now (λ (h : Hop). now h && is_among t (cover_by sets u t) (link_of h)) (λ (h : Hop) usable it.
         let parts = and_parts (h.step == step) (enters u (link_of h)) it in
-        and_from (now h) (is_among t (cover u t) (link_of h)) it (covered u t (link_of h) parts.1 usable)) s.sends (recursion_from_All (λ (h : Hop). is_usable t (link_of h) ≡ true) s.sends fits.usable) in
-        let most : count_by (λ (h : Hop). now h && is_among t (cover u t) (link_of h)) s.sends ≤ width u t * rounds_at s step = carried t s step now (λ (h : Hop) it. eqb-true h.step step (and_parts (h.step == step) (enters u (link_of h)) it).0) (within step (omega arith) (omega (arith, low))) (cover u t) in
+        and_from (now h) (is_among t (cover_by sets u t) (link_of h)) it (covered u t sets (link_of h) parts.1 usable)) s.sends (recursion_from_All (λ (h : Hop). is_usable t (link_of h) ≡ true) s.sends fits.usable) in
+        let most : count_by (λ (h : Hop). now h && is_among t (cover_by sets u t) (link_of h)) s.sends ≤ width_by sets u t * rounds_at s step = carried t s step now (λ (h : Hop) it. eqb-true h.step step (and_parts (h.step == step) (enters u (link_of h)) it).0) (within step (omega arith) (omega (arith, low))) (cover_by sets u t) in
         let place : step - 1 ≡ n = omega arith in
         let rounds_are : rounds_at s step ≡ get_or s.rounds n 0 = ap (λ k. get_or s.rounds k 0) place in
         let one : suc n ≡ n + 1 = omega arith in
         let more : sum (take (suc n) s.rounds) ≡ sum (take n s.rounds) + get_or s.rounds n 0 = ap (λ k. sum (take k s.rounds)) one ∙ sum_by_more (λ x. x) s.rounds n 0 (omega (arith, low)) in
-        let product : width u t * sum (take (suc n) s.rounds) ≡ width u t * sum (take n s.rounds) + width u t * rounds_at s step = ap (λ k. width u t * k) (more ∙ ap (λ k. sum (take n s.rounds) + k) (sym rounds_are)) ∙ mul-add (width u t) (sum (take n s.rounds)) (rounds_at s step) in
+        let product : width_by sets u t * sum (take (suc n) s.rounds) ≡ width_by sets u t * sum (take n s.rounds) + width_by sets u t * rounds_at s step = ap (λ k. width_by sets u t * k) (more ∙ ap (λ k. sum (take n s.rounds) + k) (sym rounds_are)) ∙ mul-add (width_by sets u t) (sum (take n s.rounds)) (rounds_at s step) in
         omega (arith, split, over, most, product, in_first_steps n (omega (arith, low)))
 
 -- chunks that come in by some send each are no more than what can in all rounds
-pub sends_of_their_own : (u : NodeSet) (t : TopologyValue) (s : ScheduleValue) (rounds chunks : ℕ) (p : ℕ → Bool) → Fits t s → sum s.rounds ≡ rounds → ((chunk : ℕ) → p chunk ≡ true → Enters u s (length s.rounds) chunk)
-    → count_by p (range_with_len 0 chunks) ≤ width u t * rounds
-sends_of_their_own u t s rounds chunks p fits rounds_are enter =
+pub sends_of_their_own : (sets : Sets) (u : NodeSet) (t : TopologyValue) (s : ScheduleValue) (rounds chunks : ℕ) (p : ℕ → Bool) → Fits t s → sum s.rounds ≡ rounds → ((chunk : ℕ) → p chunk ≡ true → Enters u s (length s.rounds) chunk)
+    → count_by p (range_with_len 0 chunks) ≤ width_by sets u t * rounds
+sends_of_their_own sets u t s rounds chunks p fits rounds_are enter =
     let all : ℕ = length s.rounds in
     let own : count_by p (range_with_len 0 chunks) ≤ count_by (λ h. nat_le 0 h.chunk && comes_in u s all h) s.sends = by_sends_of_their_own u s all p enter 0 chunks in
     let fewer : count_by (λ h. nat_le 0 h.chunk && comes_in u s all h) s.sends ≤ count_by (comes_in u s all) s.sends = no_fewer (λ h. nat_le 0 h.chunk && comes_in u s all h) (comes_in u s all) (λ h it. (and_parts (nat_le 0 h.chunk) (comes_in u s all h) it).1) s.sends in
-    let most : count_by (comes_in u s all) s.sends ≤ width u t * sum (take all s.rounds) = in_first_steps u s t fits all (omega arith) in
-    let whole : width u t * sum (take all s.rounds) ≡ width u t * rounds = ap (λ k. width u t * k) (ap sum (take_all all s.rounds (omega arith)) ∙ rounds_are) in
+    let most : count_by (comes_in u s all) s.sends ≤ width_by sets u t * sum (take all s.rounds) = in_first_steps u s sets t fits all (omega arith) in
+    let whole : width_by sets u t * sum (take all s.rounds) ≡ width_by sets u t * rounds = ap (λ k. width_by sets u t * k) (ap sum (take_all all s.rounds (omega arith)) ∙ rounds_are) in
     omega (arith, own, fewer, most, whole)
 
 -- what has to come in is no more than what can in the rounds of a schedule that solves
-pub needed_comes_in : (u : NodeSet) (t : TopologyValue) (pre post : PlacementValue) (s : ScheduleValue) (steps rounds : ℕ) → Solves t pre post s steps rounds → need u pre post ≤ width u t * rounds
-needed_comes_in u t pre post s steps rounds solves =
+pub needed_comes_in : (sets : Sets) (u : NodeSet) (t : TopologyValue) (pre post : PlacementValue) (s : ScheduleValue) (steps rounds : ℕ) → Solves t pre post s steps rounds → need u pre post ≤ width_by sets u t * rounds
+needed_comes_in sets u t pre post s steps rounds solves =
     let all : ℕ = length s.rounds in
     let enter : (chunk : ℕ) → is_needed u pre post chunk ≡ true → Enters u s all chunk = λ chunk needed.
     let parts = and_parts (stands_in u post chunk) (not (stands_in u pre chunk)) needed in
@@ -181,11 +181,11 @@ needed_comes_in u t pre post s steps rounds solves =
     (λ (stood : stands_in u pre chunk ≡ true). absurd (both_ways (stands_in u pre chunk) (not-true (stands_in u pre chunk) parts.1) stood))
     (λ (e : Enters u s all chunk). e)
     (arrives u s pre all chunk pair.1 both.1 (ap (λ c. holds (after pre s all) (c, pair.1)) (sym chunk_is) ∙ held)) in
-    sends_of_their_own u t s rounds post.chunks (is_needed u pre post) solves.fits solves.rounds_are enter
+    sends_of_their_own sets u t s rounds post.chunks (is_needed u pre post) solves.fits solves.rounds_are enter
 
-pub cut_says : (u : NodeSet) (t : TopologyValue) (pre post : PlacementValue) (s : ScheduleValue) (steps rounds : ℕ) → cut_refutes u t pre post rounds ≡ true → Solves t pre post s steps rounds → ⊥
-cut_says u t pre post s steps rounds refutes solves =
-    omega (arith, ltb-true (width u t * rounds) (need u pre post) refutes, needed_comes_in u t pre post s steps rounds solves)
+pub cut_says : (sets : Sets) (u : NodeSet) (t : TopologyValue) (pre post : PlacementValue) (s : ScheduleValue) (steps rounds : ℕ) → cut_refutes sets u t pre post rounds ≡ true → Solves t pre post s steps rounds → ⊥
+cut_says sets u t pre post s steps rounds refutes solves =
+    omega (arith, ltb-true (width_by sets u t * rounds) (need u pre post) refutes, needed_comes_in sets u t pre post s steps rounds solves)
 
 some_mapped : {X Y : Type 0} (f : X → Y) (o : Option X) → is_some (option_map f o) ≡ is_some o
 some_mapped f None = refl
@@ -200,8 +200,8 @@ found_one p (x ∷ xs) some =
     (cases_Bool (p x))
 
 -- where there is a first cut, no schedule of so many rounds solves
-pub first_says : (t : TopologyValue) (pre post : PlacementValue) (s : ScheduleValue) (steps rounds : ℕ) → is_some (first_cut_of t pre post rounds) ≡ true → Solves t pre post s steps rounds → ⊥
-first_says t pre post s steps rounds cut solves =
-    let p : Side → Bool = λ side. cut_refutes (set_of side) t pre post rounds in
-    let it = found_one p (listed_sides t.nodes) (sym (some_mapped (cut_of t pre post) (find p (listed_sides t.nodes))) ∙ cut) in
-    cut_says (set_of it.0) t pre post s steps rounds it.1 solves
+pub first_says : (sets : Sets) (t : TopologyValue) (pre post : PlacementValue) (s : ScheduleValue) (steps rounds : ℕ) → is_some (first_cut_of sets t pre post rounds) ≡ true → Solves t pre post s steps rounds → ⊥
+first_says sets t pre post s steps rounds cut solves =
+    let p : NodeSet → Bool = λ u. cut_refutes sets u t pre post rounds in
+    let it = found_one p (node_sets sets t.nodes) (sym (some_mapped (cut_of sets t pre post) (find p (node_sets sets t.nodes))) ∙ cut) in
+    cut_says sets it.0 t pre post s steps rounds it.1 solves

@@ -1,4 +1,4 @@
--- The floor is a fraction of a listed set, or nothing over 1, and no schedule is below it.
+-- The floor is a fraction of a set of nodes, or nothing over 1, and no schedule is below it.
 use Rattle.std.proofs.Common.{◌≡◌, ℕ, ◌*◌, ◌<◌, ◌≤◌, Bool, true, false, List, [], ◌∷◌, sym, ap, ◌∙◌, ⊎_elim, subst, arith}
 use Rattle.std.specs.Prelude.{find, filter, map}
 use Rattle.std.specs.List.{AllByRecursion}
@@ -10,18 +10,18 @@ use Rattle.schedule.specs.Solving.{Solves}
 use Rattle.collective_spec.specs.declared.spec.Spec.{Spec}
 use Rattle.collective_spec.specs.Kinds.{allows}
 use Rattle.collective_spec.specs.Collectives.{kind_in, spec_instance}
-use Rattle.node_cuts.specs.declared.side.Side.{Side}
+use Rattle.node_cuts.specs.declared.sets.Sets.{Sets}
 use Rattle.std.specs.Option.{unwrap_or}
 use Rattle.node_cuts.specs.declared.floor.Floor.{Floor}
-use Rattle.node_cuts.specs.Sides.{NodeSet, set_of, listed_sides}
-use Rattle.node_cuts.specs.Cuts.{need, width}
+use Rattle.node_cuts.specs.Sides.{NodeSet, node_sets}
+use Rattle.node_cuts.specs.Cuts.{need, width_by}
 use Rattle.node_cuts.specs.Floors.{least_count, fraction_of, has_need, fractions, is_greatest, nothing_over_1, floor_of}
 use Rattle.node_cuts.proofs.Crossing.{needed_comes_in}
 use Rattle.node_cuts.proofs.Scaling.{IsScaled, scales}
 
 -- what has to come into each set of nodes can in so many rounds
-abbrev pub IsBroughtIn : TopologyValue → Spec → ℕ → ℕ → Type 0
-IsBroughtIn t spec rounds c = (u : NodeSet) → need u (spec_instance spec t.nodes c).pre (spec_instance spec t.nodes c).post ≤ width u t * rounds
+abbrev pub IsBroughtIn : Sets → TopologyValue → Spec → ℕ → ℕ → Type 0
+IsBroughtIn sets t spec rounds c = (u : NodeSet) → need u (spec_instance spec t.nodes c).pre (spec_instance spec t.nodes c).post ≤ width_by sets u t * rounds
 
 -- what is said of each element, and of nothing over 1, is said of the first that passes
 of_found : (P : Floor → Type 0) (p : Floor → Bool) (fs : List Floor) → AllByRecursion P fs → P nothing_over_1 → P (unwrap_or (find p fs) nothing_over_1)
@@ -32,7 +32,7 @@ of_found P p (f ∷ fs) each none =
     (λ (later : p f ≡ false). rw later (of_found P p fs each.1 none))
     (cases_Bool (p f))
 
-of_some : (P : Floor → Type 0) (g : Side → Floor) → ((side : Side) → P (g side)) → (sides : List Side) → AllByRecursion P (filter has_need (map g sides))
+of_some : (P : Floor → Type 0) (g : NodeSet → Floor) → ((u : NodeSet) → P (g u)) → (sides : List NodeSet) → AllByRecursion P (filter has_need (map g sides))
 of_some P g each [] = tt
 of_some P g each (side ∷ sides) =
     ⊎_elim
@@ -40,14 +40,13 @@ of_some P g each (side ∷ sides) =
     (λ (left : has_need (g side) ≡ false). rw left (of_some P g each sides))
     (cases_Bool (has_need (g side)))
 
--- where what has to come in can in the rounds, each listed set bounds
-side_bounds : (t : TopologyValue) (spec : Spec) (rounds c : ℕ) → 0 < t.nodes → allows (kind_in spec) t.nodes c ≡ true → IsBroughtIn t spec rounds c → (side : Side) → (fraction_of t spec side).above * c ≤ rounds * (fraction_of t spec side).below
-side_bounds t spec rounds c some allowed brought side =
-    let u : NodeSet = set_of side in
+-- where what has to come in can in the rounds, each set bounds
+side_bounds : (sets : Sets) (t : TopologyValue) (spec : Spec) (rounds c : ℕ) → 0 < t.nodes → allows (kind_in spec) t.nodes c ≡ true → IsBroughtIn sets t spec rounds c → (u : NodeSet) → (fraction_of sets t spec u).above * c ≤ rounds * (fraction_of sets t spec u).below
+side_bounds sets t spec rounds c some allowed brought u =
     let least : ℕ = least_count (kind_in spec) t.nodes in
     let scaled : IsScaled u spec t.nodes c = scales u spec t.nodes c some allowed in
     let n : ℕ = need u (spec_instance spec t.nodes least).pre (spec_instance spec t.nodes least).post in
-    let w : ℕ = width u t in
+    let w : ℕ = width_by sets u t in
     let m : ℕ = scaled.times in
     let over : m * n ≤ w * rounds = subst (λ v. v ≤ w * rounds) scaled.needed (brought u) in
     let times : m * n * least ≤ w * rounds * least = mul-le-mul_right least over in
@@ -56,14 +55,14 @@ side_bounds t spec rounds c some allowed brought side =
     omega (arith, left, right, times)
 
 -- so the floor does
-pub floor_below : (t : TopologyValue) (spec : Spec) (rounds c : ℕ) → 0 < t.nodes → allows (kind_in spec) t.nodes c ≡ true → IsBroughtIn t spec rounds c → (floor_of t spec).above * c ≤ rounds * (floor_of t spec).below
-floor_below t spec rounds c some allowed brought =
+pub floor_below : (sets : Sets) (t : TopologyValue) (spec : Spec) (rounds c : ℕ) → 0 < t.nodes → allows (kind_in spec) t.nodes c ≡ true → IsBroughtIn sets t spec rounds c → (floor_of sets t spec).above * c ≤ rounds * (floor_of sets t spec).below
+floor_below sets t spec rounds c some allowed brought =
     let bounds : Floor → Type 0 = λ f. f.above * c ≤ rounds * f.below in
     let none : 0 * c ≤ rounds * 1 = omega arith in
-    of_found bounds (is_greatest (fractions t spec)) (fractions t spec)
-    (of_some bounds (fraction_of t spec) (side_bounds t spec rounds c some allowed brought) (listed_sides t.nodes)) none
+    of_found bounds (is_greatest (fractions sets t spec)) (fractions sets t spec)
+    (of_some bounds (fraction_of sets t spec) (side_bounds sets t spec rounds c some allowed brought) (node_sets sets t.nodes)) none
 
-pub floor_bounds : (t : TopologyValue) (spec : Spec) (s : ScheduleValue) (steps rounds c : ℕ) → 0 < t.nodes → allows (kind_in spec) t.nodes c ≡ true
-    → Solves t (spec_instance spec t.nodes c).pre (spec_instance spec t.nodes c).post s steps rounds → (floor_of t spec).above * c ≤ rounds * (floor_of t spec).below
-floor_bounds t spec s steps rounds c some allowed solves =
-    floor_below t spec rounds c some allowed (λ u. needed_comes_in u t (spec_instance spec t.nodes c).pre (spec_instance spec t.nodes c).post s steps rounds solves)
+pub floor_bounds : (sets : Sets) (t : TopologyValue) (spec : Spec) (s : ScheduleValue) (steps rounds c : ℕ) → 0 < t.nodes → allows (kind_in spec) t.nodes c ≡ true
+    → Solves t (spec_instance spec t.nodes c).pre (spec_instance spec t.nodes c).post s steps rounds → (floor_of sets t spec).above * c ≤ rounds * (floor_of sets t spec).below
+floor_bounds sets t spec s steps rounds c some allowed solves =
+    floor_below sets t spec rounds c some allowed (λ u. needed_comes_in sets u t (spec_instance spec t.nodes c).pre (spec_instance spec t.nodes c).post s steps rounds solves)

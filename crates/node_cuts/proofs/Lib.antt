@@ -7,6 +7,12 @@ pub mod Best
 pub mod Reading
 pub mod Listing
 pub mod Flooring
-pub mod Opening
 pub mod Least
 pub mod Tabled
+pub mod Deciding
+pub mod Filling
+pub mod Opening
+pub mod Choosing
+pub mod Within
+pub mod Holding
+pub mod Apart

@@ -56,7 +56,7 @@ bit_here m k small =
     let whole : (m + 2 ^ k) / 2 ^ k ≡ m / 2 ^ k + 1 = ap (λ v. (m + v) / 2 ^ k) one ∙ add-mul-div_left m 1 (pow_pos k) in
     ap (λ v. v % 2) (whole ∙ ap (λ v. v + 1) (div-eq_of_lt small))
 
-bit_past : (n m : ℕ) → m < 2 ^ n → m / 2 ^ n % 2 ≡ 0
+pub bit_past : (n m : ℕ) → m < 2 ^ n → m / 2 ^ n % 2 ≡ 0
 bit_past n m small = ap (λ v. v % 2) (div-eq_of_lt small)
 
 bit_inside : (u : NodeSet) (nodes n : ℕ) → n < nodes → mask_of nodes u / 2 ^ n % 2 ≡ cond (u n) 1 0

@@ -1,31 +1,26 @@
 -- What a table says at a chunk count is what the sets say of the instance.
-use Rattle.std.proofs.Common.{◌≡◌, ℕ, ◌+◌, ◌*◌, ◌/◌, ◌<◌, Bool, true, false, List, [], ◌∷◌, ◌++◌, length, get_or, take, map, Some, refl, sym, ap, ◌∙◌, ⊎_elim}
-use Rattle.std.specs.Prelude.{find, filter, nat_lt}
+use Rattle.std.proofs.Common.{◌≡◌, ℕ, zero, suc, ◌*◌, ◌/◌, ◌<◌, Bool, true, false, cond, List, [], ◌∷◌, get_or, length, refl, sym, ap, ◌∙◌, subst, arith}
+use Rattle.std.specs.Prelude.{None, Some, count_by, find, nat_lt}
 use Rattle.std.specs.Option.{option_map}
 use Rattle.std.proofs.Math.Nat.{mul_comm, mul-div_cancel}
-use Rattle.std.proofs.lemmas.Bool.{cases_Bool}
-use Rattle.std.proofs.lemmas.List.{map-append, take_more}
+use Rattle.std.proofs.lemmas.List.{get_or_default, length-map}
+use Rattle.list_laws.proofs.Fronts.{at_map}
 use Rattle.schedule.specs.Links.{TopologyValue}
+use Rattle.schedule.specs.Placed.{PlacementValue}
 use Rattle.collective_spec.specs.declared.spec.Spec.{Spec}
 use Rattle.collective_spec.specs.declared.instance.Instance.{Instance}
 use Rattle.collective_spec.specs.Kinds.{allows}
 use Rattle.collective_spec.specs.Collectives.{kind_in, spec_instance}
-use Rattle.node_cuts.specs.declared.side.Side.{Side}
-use Rattle.node_cuts.specs.Sides.{NodeSet, set_of, listed_sides, mask_of}
-use Rattle.node_cuts.specs.Cuts.{CutValue, cover, cut_of, cut_refutes, first_cut_of, need, width}
-use Rattle.node_cuts.specs.Floors.{first_greatest, floor_of, fraction_of, has_need, least_count}
-use Rattle.node_cuts.specs.Tables.{TableValue, fraction_in, table_of, with_times}
+use Rattle.node_cuts.specs.declared.sets.Sets.{Sets}
+use Rattle.node_cuts.specs.declared.measure.Measure.{Measure}
+use Rattle.node_cuts.specs.declared.floor.Floor.{Floor}
+use Rattle.node_cuts.specs.Sides.{NodeSet, mask_of, node_sets}
+use Rattle.node_cuts.specs.Cuts.{CutValue, cover_by, cut_of, cut_refutes, first_cut_of, need, width_by}
+use Rattle.node_cuts.specs.Floors.{fraction_of, least_count}
+use Rattle.node_cuts.specs.Holders.{HoldersValue, is_lacking}
+use Rattle.node_cuts.specs.Tables.{TableValue, IsTableOf, cut_at, measure_of, no_measure, table_of}
 use Rattle.node_cuts.proofs.Least.{least_positive}
 use Rattle.node_cuts.proofs.Scaling.{IsScaled, scales}
-
--- a cut more
-pub cut_more : (f : Side → CutValue) (sides : List Side) (i : ℕ) (d : Side) (cuts now : List CutValue) (cut : CutValue) → i < length sides → cuts ≡ map f (take i sides) → cut ≡ f (get_or sides i d) → now ≡ cuts ++ cut ∷ []
-    → now ≡ map f (take (i + 1) sides)
-cut_more f sides i d cuts now cut inside made is added =
-    added ∙ ap (λ cs. cs ++ cut ∷ []) made ∙ ap (λ c. map f (take i sides) ++ c ∷ []) is
-    ∙ sym (map-append f (take i sides) (get_or sides i d ∷ [])) ∙ ap (map f) (sym (take_more sides i d inside))
-
--- ---- one set
 
 -- the least count divides each count that the collective may have, and as many times as much has to come in
 pub times_more : (u : NodeSet) (spec : Spec) (nodes c : ℕ) → 0 < nodes → allows (kind_in spec) nodes c ≡ true
@@ -38,41 +33,103 @@ times_more u spec nodes c some allowed =
     let times : c / count ≡ scaled.times = ap (λ v. v / count) scaled.count ∙ mul-div_cancel scaled.times positive in
     scaled.needed ∙ mul_comm scaled.times (need u least.pre least.post) ∙ ap (λ v. need u least.pre least.post * v) (sym times)
 
--- ---- all sets
+-- ---- the first of a list that passes
 
-by_sides : (p : CutValue → Bool) (h : CutValue → CutValue) (f g : Side → CutValue) (q : Side → Bool) → ((side : Side) → h (f side) ≡ g side) → ((side : Side) → p (f side) ≡ q side)
-    → (sides : List Side) → option_map h (find p (map f sides)) ≡ option_map g (find q sides)
-by_sides p h f g q made told [] = refl
-by_sides p h f g q made told (side ∷ sides) =
-    ⊎_elim
-    (λ (here : q side ≡ true). rw (told side ∙ here, here) (ap Some (made side)))
-    (λ (later : q side ≡ false). rw (told side ∙ later, later) (by_sides p h f g q made told sides))
-    (cases_Bool (q side))
+pub found_at : {X : Type 0} (p : X → Bool) (xs : List X) (i : ℕ) (d : X) → i < length xs → ((k : ℕ) → k < i → p (get_or xs k d) ≡ false) → p (get_or xs i d) ≡ true → find p xs ≡ Some (get_or xs i d)
+found_at p [] i d inside before passes = absurd (omega (arith, inside))
+found_at p (x ∷ xs) zero d inside before passes = ap (λ b. cond b (Some x) (find p xs)) passes
+found_at p (x ∷ xs) (suc i) d inside before passes =
+    ap (λ b. cond b (Some x) (find p xs)) (before 0 (omega arith)) ∙ found_at p xs i d (omega (arith, inside)) (λ k below. before (suc k) (omega (arith, below))) passes
 
--- the first cut of a table that refutes, at a chunk count
-pub first_in : (table : TableValue) (t : TopologyValue) (spec : Spec) (c r : ℕ) → table ≡ table_of t spec → 0 < t.nodes → allows (kind_in spec) t.nodes c ≡ true
-    → option_map (with_times (c / table.least)) (find (λ cut. nat_lt (cut.width * r) (cut.need * (c / table.least))) table.cuts) ≡ first_cut_of t (spec_instance spec t.nodes c).pre (spec_instance spec t.nodes c).post r
-first_in table t spec c r is some allowed =
-    let i : Instance = spec_instance spec t.nodes c in
-    let count : ℕ = least_count (kind_in spec) t.nodes in
-    let least : Instance = spec_instance spec t.nodes count in
-    let times : ℕ = c / count in
-    let more : (side : Side) → need (set_of side) i.pre i.post ≡ need (set_of side) least.pre least.post * times = λ side. times_more (set_of side) spec t.nodes c some allowed in
-    ap (λ (v : TableValue). option_map (with_times (c / v.least)) (find (λ (cut : CutValue). nat_lt (cut.width * r) (cut.need * (c / v.least))) v.cuts)) is
-    ∙ by_sides (λ (cut : CutValue). nat_lt (cut.width * r) (cut.need * times)) (with_times times) (cut_of t least.pre least.post) (cut_of t i.pre i.post) (λ side. cut_refutes (set_of side) t i.pre i.post r)
-    (λ side. ap (λ n. cut_with t side n) (sym (more side)))
-    (λ side. ap (λ n. nat_lt (width (set_of side) t * r) n) (sym (more side)))
-    (listed_sides t.nodes)
+pub none_found_in : {X : Type 0} (p : X → Bool) (xs : List X) (d : X) → ((k : ℕ) → k < length xs → p (get_or xs k d) ≡ false) → find p xs ≡ None
+none_found_in p [] d each = refl
+none_found_in p (x ∷ xs) d each = ap (λ b. cond b (Some x) (find p xs)) (each 0 (omega arith)) ∙ none_found_in p xs d (λ k below. each (suc k) (omega (arith, below)))
+
+-- ---- one set
+
+pub measure_told : (sets : Sets) (t : TopologyValue) (pre post : PlacementValue) (u : NodeSet) (holders known : List HoldersValue) (measure : Measure) → ((v : NodeSet) → count_by (is_lacking v) known ≡ need v pre post) → holders ≡ known
+    → measure ≡ record { need = count_by (is_lacking u) holders; width = width_by sets u t } → measure ≡ measure_of sets t pre post u
+measure_told sets t pre post u holders known measure counted same is = is ∙ ap of_count (ap (count_by (is_lacking u)) same ∙ counted u)
   where
-    cut_with : TopologyValue → Side → ℕ → CutValue
-    cut_with t side n = record { nodes = mask_of t.nodes (set_of side); groups = cover (set_of side) t; need = n; width = width (set_of side) t }
+    of_count : ℕ → Measure
+    of_count n = record { need = n; width = width_by sets u t }
 
-same_fractions : (t : TopologyValue) (spec : Spec) (sides : List Side) → map (fraction_in (table_of t spec).least) (map (cut_of t (spec_instance spec t.nodes (least_count (kind_in spec) t.nodes)).pre (spec_instance spec t.nodes (least_count (kind_in spec) t.nodes)).post) sides) ≡ map (fraction_of t spec) sides
-same_fractions t spec [] = refl
-same_fractions t spec (side ∷ sides) = ap (λ fs. fraction_of t spec side ∷ fs) (same_fractions t spec sides)
+pub fraction_told : (sets : Sets) (t : TopologyValue) (spec : Spec) (u : NodeSet) (nodes least : ℕ) (instance : Instance) (measure : Measure) (fraction : Floor) → nodes ≡ t.nodes → least ≡ least_count (kind_in spec) t.nodes
+    → instance ≡ spec_instance spec t.nodes (least_count (kind_in spec) t.nodes) → measure ≡ measure_of sets t instance.pre instance.post u → fraction ≡ record { above = measure.need; below = measure.width * least; nodes = mask_of nodes u } → fraction ≡ fraction_of sets t spec u
+fraction_told sets t spec u nodes least instance measure fraction nodes_is least_is instance_is measure_is is =
+    is ∙ ap (λ n. of n least measure) nodes_is ∙ ap (λ n. of t.nodes n measure) least_is ∙ ap (of t.nodes (least_count (kind_in spec) t.nodes)) (measure_is ∙ ap (λ (i : Instance). measure_of sets t i.pre i.post u) instance_is)
+  where
+    of : ℕ → ℕ → Measure → Floor
+    of n l m = record { above = m.need; below = m.width * l; nodes = mask_of n u }
 
--- the first of the greatest fractions of a table
-pub floor_in : (table : TableValue) (t : TopologyValue) (spec : Spec) → table ≡ table_of t spec → first_greatest (filter has_need (map (fraction_in table.least) table.cuts)) ≡ floor_of t spec
-floor_in table t spec is =
-    ap (λ (v : TableValue). first_greatest (filter has_need (map (fraction_in v.least) v.cuts))) is
-    ∙ ap (λ fs. first_greatest (filter has_need fs)) (same_fractions t spec (listed_sides t.nodes))
+-- ---- a table
+
+-- a measure tells that so many times what has to come in is more than can in so many rounds
+abbrev pub is_over : ℕ → ℕ → Measure → Bool
+is_over times r measure = nat_lt (measure.width * r) (measure.need * times)
+
+abbrev pub nobody : NodeSet
+nobody node = false
+
+-- where the table is of a topology and a collective, what is told at a place is what the set there does
+module _ (sets : Sets) (t : TopologyValue) (spec : Spec) (c r : ℕ) (some : 0 < t.nodes) (allowed : allows (kind_in spec) t.nodes c ≡ true) where
+  abbrev least : Instance
+  least = spec_instance spec t.nodes (least_count (kind_in spec) t.nodes)
+
+  abbrev asked : Instance
+  asked = spec_instance spec t.nodes c
+
+  abbrev pub times : ℕ
+  times = c / least_count (kind_in spec) t.nodes
+
+  abbrev table : TableValue
+  table = table_of sets t spec
+
+  abbrev set_at : ℕ → NodeSet
+  set_at k = get_or (node_sets sets t.nodes) k nobody
+
+  measure_at : (k : ℕ) → k < length table.measures → get_or table.measures k no_measure ≡ measure_of sets t least.pre least.post (set_at k)
+  measure_at k below =
+      at_map (measure_of sets t least.pre least.post) (node_sets sets t.nodes) k (set_at k) no_measure (omega (arith, below, length-map (node_sets sets t.nodes) (measure_of sets t least.pre least.post)))
+      (get_or_default (node_sets sets t.nodes) k nobody (set_at k) (omega (arith, below, length-map (node_sets sets t.nodes) (measure_of sets t least.pre least.post))))
+
+  told : (k : ℕ) → k < length table.measures → is_over times r (get_or table.measures k no_measure) ≡ cut_refutes sets (set_at k) t asked.pre asked.post r
+  told k below = ap (is_over times r) (measure_at k below) ∙ ap (nat_lt (width_by sets (set_at k) t * r)) (sym (times_more (set_at k) spec t.nodes c some allowed))
+
+  abbrev of_need : ℕ → ℕ → CutValue
+  of_need k n = record { nodes = mask_of t.nodes (set_at k); groups = cover_by sets (set_at k) t; need = n; width = width_by sets (set_at k) t }
+
+  abbrev of_measure : ℕ → Measure → CutValue
+  of_measure k m = record { nodes = mask_of t.nodes (set_at k); groups = cover_by sets (set_at k) t; need = m.need * times; width = m.width }
+
+  cut_is : (k : ℕ) → k < length table.measures → cut_at table k times ≡ cut_of sets t asked.pre asked.post (set_at k)
+  cut_is k below = ap (of_measure k) (measure_at k below) ∙ ap (of_need k) (sym (times_more (set_at k) spec t.nodes c some allowed))
+
+  as_long : length table.measures ≡ length (node_sets sets t.nodes)
+  as_long = length-map (node_sets sets t.nodes) (measure_of sets t least.pre least.post)
+
+  first_of : (place : ℕ) → place < length table.measures → ((k : ℕ) → k < place → is_over times r (get_or table.measures k no_measure) ≡ false) → is_over times r (get_or table.measures place no_measure) ≡ true
+      → Some (cut_at table place times) ≡ first_cut_of sets t asked.pre asked.post r
+  first_of place inside before passes =
+      let p : NodeSet → Bool = λ u. cut_refutes sets u t asked.pre asked.post r in
+      ap Some (cut_is place inside)
+      ∙ ap (option_map (cut_of sets t asked.pre asked.post))
+      (sym (found_at p (node_sets sets t.nodes) place nobody (omega (arith, inside, as_long))
+      (λ k below. sym (told k (omega (arith, below, inside))) ∙ before k below) (sym (told place inside) ∙ passes)))
+
+  none_of : ((k : ℕ) → k < length table.measures → is_over times r (get_or table.measures k no_measure) ≡ false) → None ≡ first_cut_of sets t asked.pre asked.post r
+  none_of each =
+      ap (option_map (cut_of sets t asked.pre asked.post))
+      (sym (none_found_in (λ u. cut_refutes sets u t asked.pre asked.post r) (node_sets sets t.nodes) nobody (λ k below.
+      let inside : k < length table.measures = omega (arith, below, as_long) in
+      sym (told k inside) ∙ each k inside)))
+
+  -- the cut at the first place of a table whose measure tells so
+  pub first_in : (v : TableValue) → IsTableOf sets t spec v → (place : ℕ) → place < length v.measures
+      → ((k : ℕ) → k < place → is_over (c / v.least) r (get_or v.measures k no_measure) ≡ false) → is_over (c / v.least) r (get_or v.measures place no_measure) ≡ true
+      → Some (cut_at v place (c / v.least)) ≡ first_cut_of sets t asked.pre asked.post r
+  first_in v is = subst (λ (w : TableValue). (place : ℕ) → place < length w.measures → ((k : ℕ) → k < place → is_over (c / w.least) r (get_or w.measures k no_measure) ≡ false)
+      → is_over (c / w.least) r (get_or w.measures place no_measure) ≡ true → Some (cut_at w place (c / w.least)) ≡ first_cut_of sets t asked.pre asked.post r) (sym is) first_of
+
+  pub none_in : (v : TableValue) → IsTableOf sets t spec v → ((k : ℕ) → k < length v.measures → is_over (c / v.least) r (get_or v.measures k no_measure) ≡ false) → None ≡ first_cut_of sets t asked.pre asked.post r
+  none_in v is = subst (λ (w : TableValue). ((k : ℕ) → k < length w.measures → is_over (c / w.least) r (get_or w.measures k no_measure) ≡ false) → None ≡ first_cut_of sets t asked.pre asked.post r) (sym is) none_of

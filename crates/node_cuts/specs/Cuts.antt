@@ -1,12 +1,13 @@
 -- How many chunks have to come into a set of nodes, and how many can in each round; where the first are too many, no schedule of so many rounds solves. This project's own.
-use Rattle.std.specs.Prelude.{◌==◌, ◌&&◌, ℕ, zero, suc, ◌*◌, not, nat_lt, Bool, if◌then◌else◌, List, [], ◌∷◌, ◌++◌, length, find, Option, count_by}
+use Rattle.std.specs.Prelude.{◌==◌, ◌&&◌, ℕ, zero, suc, ◌*◌, not, nat_lt, Bool, if◌then◌else◌, List, [], ◌∷◌, ◌++◌, length, filter, find, Option, None, Some, count_by}
 use Rattle.std.specs.List.{list_any, range_with_len, sum_by}
-use Rattle.std.specs.Option.{option_map}
+use Rattle.std.specs.Option.{option_map, option_map_or}
 use Rattle.schedule.specs.Links.{TopologyValue, has_link}
 use Rattle.schedule.specs.Placed.{PlacementValue}
 use Rattle.schedule.specs.Judging.{group_at}
-use Rattle.node_cuts.specs.declared.side.Side.{Side}
-use Rattle.node_cuts.specs.Sides.{NodeSet, set_of, listed_sides, mask_of}
+use Rattle.node_cuts.specs.declared.sets.Sets.{Sets}
+use Rattle.node_cuts.specs.declared.sets.Sets.TheVariants.{Nothing, Listed, All}
+use Rattle.node_cuts.specs.Sides.{NodeSet, node_sets, mask_of}
 
 -- ---- what has to come in
 
@@ -41,22 +42,75 @@ abbrev pub groups_taken : NodeSet → TopologyValue → ℕ → List ℕ
 groups_taken u t zero = []
 groups_taken u t (suc n) = let before = groups_taken u t n in before ++ (if opens u t before n then n ∷ [] else [])
 
--- the groups that cover all links into the set
+-- the groups that cover all links into the set, in the topology's order
 abbrev pub cover : NodeSet → TopologyValue → List ℕ
 cover u t = groups_taken u t (length t.groups)
+
+-- beside groups that were taken, from the last of the first groups to the first, each that has a link into the set that stands in no group taken before
+abbrev pub groups_taken_back : NodeSet → TopologyValue → ℕ → List ℕ → List ℕ
+groups_taken_back u t zero taken = taken
+groups_taken_back u t (suc n) taken = groups_taken_back u t n (if opens u t taken n then n ∷ taken else taken)
+
+-- the same in the reverse of that order
+abbrev pub cover_back : NodeSet → TopologyValue → List ℕ
+cover_back u t = groups_taken_back u t (length t.groups) []
+
+-- how many links into the set the group has that stand in none of these groups
+abbrev pub opened : NodeSet → TopologyValue → List ℕ → ℕ → ℕ
+opened u t groups group = count_by (λ link. enters u link && not (is_among t groups link)) (group_at t group).links
+
+-- the first group has more of them for its width, by cross products
+abbrev pub opens_more : NodeSet → TopologyValue → List ℕ → ℕ → ℕ → Bool
+opens_more u t groups a b = nat_lt (opened u t groups b * (group_at t a).width) (opened u t groups a * (group_at t b).width)
+
+-- the better of the best group so far and the next, which has to have some; of two that are as good the best so far
+abbrev pub better : NodeSet → TopologyValue → List ℕ → Option ℕ → ℕ → Option ℕ
+better u t groups None next = if opens u t groups next then Some next else None
+better u t groups (Some best) next = if opens_more u t groups next best then Some next else Some best
+
+-- the best of the best so far and these
+abbrev pub best_of : NodeSet → TopologyValue → List ℕ → Option ℕ → List ℕ → Option ℕ
+best_of u t groups best [] = best
+best_of u t groups best (next ∷ others) = best_of u t groups (better u t groups best next) others
+
+abbrev pub all_groups : TopologyValue → List ℕ
+all_groups t = range_with_len 0 (length t.groups)
+
+-- these groups, ascending
+abbrev pub ascending : TopologyValue → List ℕ → List ℕ
+ascending t groups = filter (λ group. list_any (λ other. other == group) groups) (all_groups t)
+
+-- beside groups that were taken, the best group again and again, until none has a link into the set that stands in none taken; after as many turns as there are groups all are taken
+abbrev pub best_taken : NodeSet → TopologyValue → ℕ → List ℕ → List ℕ
+best_taken u t zero taken = all_groups t
+best_taken u t (suc turns) taken = option_map_or (λ best. best_taken u t turns (taken ++ best ∷ [])) (best_of u t taken None (all_groups t)) (ascending t taken)
+
+-- the groups that cover all links into the set, of which each covers the most for its width (Chvatal 1979)
+abbrev pub cover_greedily : NodeSet → TopologyValue → List ℕ
+cover_greedily u t = best_taken u t (length t.groups) []
 
 -- how many chunks they carry together in one round
 abbrev pub width_of : TopologyValue → List ℕ → ℕ
 width_of t groups = sum_by (λ group. (group_at t group).width) groups
 
-abbrev pub width : NodeSet → TopologyValue → ℕ
-width u t = width_of t (cover u t)
+-- the second where it carries less, else the first
+abbrev pub narrower : TopologyValue → List ℕ → List ℕ → List ℕ
+narrower t first second = if nat_lt (width_of t second) (width_of t first) then second else first
+
+-- where every set is looked at, the narrowest of the three covers, and of two that are as narrow the one named first; else the cover in the topology's order
+abbrev pub cover_by : Sets → NodeSet → TopologyValue → List ℕ
+cover_by Nothing u t = cover u t
+cover_by Listed u t = cover u t
+cover_by All u t = narrower t (narrower t (cover u t) (cover_back u t)) (cover_greedily u t)
+
+abbrev pub width_by : Sets → NodeSet → TopologyValue → ℕ
+width_by sets u t = width_of t (cover_by sets u t)
 
 -- ---- what follows
 
 -- more chunks have to come in than can in so many rounds
-abbrev pub cut_refutes : NodeSet → TopologyValue → PlacementValue → PlacementValue → ℕ → Bool
-cut_refutes u t pre post rounds = nat_lt (width u t * rounds) (need u pre post)
+abbrev pub cut_refutes : Sets → NodeSet → TopologyValue → PlacementValue → PlacementValue → ℕ → Bool
+cut_refutes sets u t pre post rounds = nat_lt (width_by sets u t * rounds) (need u pre post)
 
 -- the nodes of a set as bits, the groups that cover the links into it, and what has to come in and can in one round
 pub record CutValue : Type 0 where
@@ -65,12 +119,10 @@ pub record CutValue : Type 0 where
   pub need : ℕ
   pub width : ℕ
 
-abbrev pub cut_of : TopologyValue → PlacementValue → PlacementValue → Side → CutValue
-cut_of t pre post side =
-    let u = set_of side in
-    record { nodes = mask_of t.nodes u; groups = cover u t; need = need u pre post; width = width u t }
+abbrev pub cut_of : Sets → TopologyValue → PlacementValue → PlacementValue → NodeSet → CutValue
+cut_of sets t pre post u = record { nodes = mask_of t.nodes u; groups = cover_by sets u t; need = need u pre post; width = width_by sets u t }
 
--- the cut of the first listed set that refutes so many rounds
-abbrev pub first_cut_of : TopologyValue → PlacementValue → PlacementValue → ℕ → Option CutValue
-first_cut_of t pre post rounds =
-    option_map (cut_of t pre post) (find (λ side. cut_refutes (set_of side) t pre post rounds) (listed_sides t.nodes))
+-- the cut of the first set that refutes so many rounds
+abbrev pub first_cut_of : Sets → TopologyValue → PlacementValue → PlacementValue → ℕ → Option CutValue
+first_cut_of sets t pre post rounds =
+    option_map (cut_of sets t pre post) (find (λ u. cut_refutes sets u t pre post rounds) (node_sets sets t.nodes))

@@ -7,10 +7,10 @@ use Rattle.collective_spec.specs.declared.kind.Kind.{Kind}
 use Rattle.collective_spec.specs.declared.kind.Kind.TheVariants.{Broadcast, Gather, Allgather, Scatter, Alltoall, Reduce, Reducescatter, Allreduce, Custom}
 use Rattle.collective_spec.specs.declared.spec.Spec.{Spec}
 use Rattle.collective_spec.specs.Collectives.{kind_in, spec_instance}
-use Rattle.node_cuts.specs.declared.side.Side.{Side}
+use Rattle.node_cuts.specs.declared.sets.Sets.{Sets}
 use Rattle.node_cuts.specs.declared.floor.Floor.{Floor}
-use Rattle.node_cuts.specs.Sides.{set_of, listed_sides, mask_of}
-use Rattle.node_cuts.specs.Cuts.{need, width}
+use Rattle.node_cuts.specs.Sides.{NodeSet, node_sets, mask_of}
+use Rattle.node_cuts.specs.Cuts.{need, width_by}
 
 -- the least chunk count that the collective may have
 abbrev pub least_count : Kind → ℕ → ℕ
@@ -25,20 +25,19 @@ least_count Allreduce nodes = 1
 least_count Custom nodes = 1
 
 -- what has to come into the set at the least chunk count, over what can in one round times that count
-abbrev pub fraction_of : TopologyValue → Spec → Side → Floor
-fraction_of t spec side =
-    let u = set_of side in
+abbrev pub fraction_of : Sets → TopologyValue → Spec → NodeSet → Floor
+fraction_of sets t spec u =
     let least = least_count (kind_in spec) t.nodes in
     let i = spec_instance spec t.nodes least in
-    record { above = need u i.pre i.post; below = width u t * least; nodes = mask_of t.nodes u }
+    record { above = need u i.pre i.post; below = width_by sets u t * least; nodes = mask_of t.nodes u }
 
 -- something has to come in
 abbrev pub has_need : Floor → Bool
 has_need f = nat_lt 0 f.above
 
--- the fractions of the listed sets into which something has to come
-abbrev pub fractions : TopologyValue → Spec → List Floor
-fractions t spec = filter has_need (map (fraction_of t spec) (listed_sides t.nodes))
+-- the fractions of the sets into which something has to come
+abbrev pub fractions : Sets → TopologyValue → Spec → List Floor
+fractions sets t spec = filter has_need (map (fraction_of sets t spec) (node_sets sets t.nodes))
 
 -- the first is greater, by cross products; so something over 0 is greater than all over another number
 abbrev pub exceeds : Floor → Floor → Bool
@@ -55,8 +54,8 @@ nothing_over_1 = record { above = 0; below = 1; nodes = 0 }
 abbrev pub first_greatest : List Floor → Floor
 first_greatest fs = unwrap_or (find (is_greatest fs) fs) nothing_over_1
 
-abbrev pub floor_of : TopologyValue → Spec → Floor
-floor_of t spec = first_greatest (fractions t spec)
+abbrev pub floor_of : Sets → TopologyValue → Spec → Floor
+floor_of sets t spec = first_greatest (fractions sets t spec)
 
 -- the greater of the best so far and the next, which is not taken where nothing has to come in
 abbrev pub greater_of : Option Floor → Floor → Option Floor

@@ -1,6 +1,10 @@
--- The sets of nodes that are looked at: each one node, each two nodes, and all nodes but these. This project's own.
-use Rattle.std.specs.Prelude.{ℕ, ◌==◌, ◌||◌, ◌+◌, ◌-◌, ◌/◌, ◌%◌, ◌^◌, not, Bool, if◌then◌else◌, List, ◌++◌, map}
+-- The sets of nodes that are looked at: each one node, each two nodes and all nodes but these, or every set. This project's own.
+use Rattle.std.specs.Prelude.{ℕ, ◌==◌, ◌||◌, ◌+◌, ◌-◌, ◌/◌, ◌%◌, ◌^◌, not, Bool, if◌then◌else◌, List, [], ◌++◌, map}
 use Rattle.std.specs.List.{flat_map, range_with_len, sum_by}
+use Rattle.node_cuts.specs.declared.sets.Sets.{Sets}
+use Rattle.node_cuts.specs.declared.sets.Sets.TheVariants.{Nothing, Listed, All}
+use Rattle.node_cuts.specs.declared.members.Members.{Members}
+use Rattle.node_cuts.specs.declared.members.Members.TheVariants.{Sided, Bits}
 use Rattle.node_cuts.specs.declared.side.Side.{Side}
 use Rattle.node_cuts.specs.declared.side.Side.TheVariants.{One, Two, AllButOne, AllButTwo}
 
@@ -39,3 +43,14 @@ has_bit mask n = mask / 2 ^ n % 2 == 1
 -- bit n stands for node n
 abbrev pub mask_of : ℕ → NodeSet → ℕ
 mask_of nodes u = sum_by (λ n. if u n then 2 ^ n else 0) (range_with_len 0 nodes)
+
+-- a set that is given as a side, or as bits
+abbrev pub members : Members → NodeSet
+members (Sided side) = set_of side
+members (Bits bits) = has_bit bits
+
+-- no set, the listed sets, or each set but the empty one, ascending by its bits
+abbrev pub node_sets : Sets → ℕ → List NodeSet
+node_sets Nothing nodes = []
+node_sets Listed nodes = map set_of (listed_sides nodes)
+node_sets All nodes = map has_bit (range_with_len 1 (2 ^ nodes - 1))

@@ -1,39 +1,61 @@
--- The cuts of all listed sets at the least chunk count, of which those at every other are made. This project's own.
-use Rattle.std.specs.Prelude.{ℕ, ◌*◌, ◌<◌, ◌≤◌, List, map, All}
+-- What has to come into each set of nodes at the least chunk count, and what can: what is said at every other count is made of these. This project's own.
+use Rattle.std.specs.Prelude.{◌≡◌, ℕ, ◌*◌, ◌<◌, ◌≤◌, false, List, length, map, slice_index_or, All}
 use Rattle.schedule.specs.Links.{TopologyValue}
+use Rattle.schedule.specs.Placed.{PlacementValue}
 use Rattle.collective_spec.specs.declared.spec.Spec.{Spec}
 use Rattle.collective_spec.specs.Collectives.{kind_in, spec_instance}
+use Rattle.node_cuts.specs.declared.sets.Sets.{Sets}
+use Rattle.node_cuts.specs.declared.measure.Measure.{Measure}
 use Rattle.node_cuts.specs.declared.floor.Floor.{Floor}
-use Rattle.node_cuts.specs.Sides.{listed_sides}
-use Rattle.node_cuts.specs.Cuts.{CutValue, cut_of}
-use Rattle.node_cuts.specs.Floors.{least_count}
+use Rattle.node_cuts.specs.Sides.{NodeSet, mask_of, node_sets}
+use Rattle.node_cuts.specs.Cuts.{CutValue, cover_by, need, width_by}
+use Rattle.node_cuts.specs.Floors.{floor_of, least_count}
 
--- a chunk count, and a cut for each listed set
+-- the sets that are looked at, a topology, a chunk count, what has to come into each set and what can, and the floor
 pub record TableValue : Type 0 where
+  pub sets : Sets
+  pub topology : TopologyValue
   pub least : ℕ
-  pub cuts : List CutValue
+  pub measures : List Measure
+  pub floor : Floor
 
--- the cuts of a collective at its least chunk count
-abbrev pub table_of : TopologyValue → Spec → TableValue
-table_of t spec =
+-- what has to come into a set, and what can in one round
+abbrev pub measure_of : Sets → TopologyValue → PlacementValue → PlacementValue → NodeSet → Measure
+measure_of sets t pre post u = record { need = need u pre post; width = width_by sets u t }
+
+-- the table of a collective at its least chunk count
+abbrev pub table_of : Sets → TopologyValue → Spec → TableValue
+table_of sets t spec =
     let least = least_count (kind_in spec) t.nodes in
     let i = spec_instance spec t.nodes least in
-    record { least = least; cuts = map (cut_of t i.pre i.post) (listed_sides t.nodes) }
+    record { sets = sets; topology = t; least = least; measures = map (measure_of sets t i.pre i.post) (node_sets sets t.nodes); floor = floor_of sets t spec }
 
--- the ranges of a cut's numbers
-pub record IsSmall (cut : CutValue) : Type 0 where
-  pub few : cut.need < 65536
-  pub narrow : cut.width ≤ 4096
+abbrev pub IsTableOf : Sets → TopologyValue → Spec → TableValue → Type 0
+IsTableOf sets t spec table = table ≡ table_of sets t spec
 
--- there is a chunk count, and each cut is in range
+-- the ranges of what has to come into a set and what can
+pub record IsSmall (measure : Measure) : Type 0 where
+  pub few : measure.need < 65536
+  pub narrow : measure.width ≤ 4096
+
+-- the ranges of a fraction of these
+pub record IsLow (f : Floor) : Type 0 where
+  pub above : f.above < 65536
+  pub below : f.below ≤ 65536
+
+-- there is a chunk count and a measure for each set, and each measure and the floor are in range
 pub record IsTable (table : TableValue) : Type 0 where
   pub some : 0 < table.least
-  pub small : All IsSmall table.cuts
+  pub each : length table.measures ≡ length (node_sets table.sets table.topology.nodes)
+  pub small : All IsSmall table.measures
+  pub low : IsLow table.floor
 
--- the same cut, into which so many times as much has to come
-abbrev pub with_times : ℕ → CutValue → CutValue
-with_times times cut = record { nodes = cut.nodes; groups = cut.groups; need = cut.need * times; width = cut.width }
+abbrev pub no_measure : Measure
+no_measure = record { need = 0; width = 0 }
 
--- what has to come in, over what can in one round times the chunk count
-abbrev pub fraction_in : ℕ → CutValue → Floor
-fraction_in least cut = record { above = cut.need; below = cut.width * least; nodes = cut.nodes }
+-- the cut of the set at a place of the table, into which so many times as much has to come
+abbrev pub cut_at : TableValue → ℕ → ℕ → CutValue
+cut_at table place times =
+    let u = slice_index_or (node_sets table.sets table.topology.nodes) place (λ node. false) in
+    let measure = slice_index_or table.measures place no_measure in
+    record { nodes = mask_of table.topology.nodes u; groups = cover_by table.sets u table.topology; need = measure.need * times; width = measure.width }

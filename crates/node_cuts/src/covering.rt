@@ -1,85 +1,80 @@
-//! What can come into a set of nodes: the groups that cover the links into it, and their width.
+//! What can come into a set of nodes: the groups that cover the links into it, in the topology's
+//! order and in its reverse.
 
-ghost use Rattle.std.specs.Prelude.{◌≡◌, ◌<◌, ◌≤◌, ◌++◌, ◌∷◌, ◌&&◌, [], if◌then◌else◌, not, length, All, IfOk, OnOk};
-ghost use Rattle.std.specs.List.{list_any};
-ghost use Rattle.schedule.specs.Links.{IsBelow};
+ghost use Rattle.std.specs.Prelude.{◌≡◌, ◌<◌, ◌++◌, ◌∷◌, ◌&&◌, [], if◌then◌else◌, not, length, All, IfOk, OnOk};
+ghost use Rattle.schedule.specs.Links.{IsBelow, IsTopology, has_link};
 ghost use Rattle.schedule.specs.Tables.{Marks, marked_at};
 ghost use Rattle.schedule.specs.Judging.{group_at};
-ghost use Rattle.node_cuts.specs.Sides.{set_of};
-ghost use Rattle.node_cuts.specs.Cuts.{cover, enters, is_among, opens, width_of};
+ghost use Rattle.node_cuts.specs.Sides.{NodeSet};
+ghost use Rattle.node_cuts.specs.Cuts.{cover, cover_back, enters};
+ghost use Rattle.node_cuts.specs.Opened.{is_open};
 
 use crate::OutOfMemory;
-use crate::link_set::LinkSet;
-use crate::side::Side;
+use crate::open_links::OpenLinks;
 use schedule::{Group, Topology};
 use std::alloc::Global;
 
 /// The group of this number.
 #[tactic(auto, using(schedule::proofs::Overfull::group_read))]
-fn group_at(topology: &Topology, group: u16) -> &Group
+pub(crate) fn group_at(topology: &Topology, group: u16) -> &Group
     requires { group < length topology.now.groups }
     ensures group { result.now ≡ group_at topology.now group }
     ensures links { All (IsBelow 16) result.now.links }
+    ensures limits { IsTopology topology.now }
 {
     &topology.groups()[group as usize]
 }
 
-/// Whether the group has a link into the set that is not covered yet.
-fn opens(side: Side, group: &Group, covered: &LinkSet) -> bool
-    requires { All (IsBelow 16) group.now.links }
-    ensures { result ≡ list_any (λ link. enters (set_of side) link && not (marked_at covered.now.cells link)) group.now.links }
-{
-    for &(from, to) in group.links() {
-        if !side.has(from) && side.has(to) && !covered.has(from, to) {
-            return true;
-        }
-    }
-    false
-}
-
-/// Takes the group, where it opens the set to a link that stands in none taken before.
+/// Takes the group, where it has a link that is open.
 fn take_group(
-    side: Side,
     topology: &Topology,
-    covered: &mut LinkSet,
+    uncovered: &mut OpenLinks,
     groups: &mut Vec<u16>,
     number: u16,
 ) -> Result<(), OutOfMemory>
-    requires group { number < length topology.now.groups }
-    requires covered { Marks covered.old.cells (is_among topology.now groups.old.items) }
-    ensures taken { OnOk result (groups.new.items ≡ groups.old.items ++ (if opens (set_of side) topology.now groups.old.items number then number ∷ [] else [])) }
-    ensures covered { OnOk result (Marks covered.new.cells (is_among topology.now groups.new.items)) }
+    requires { number < length topology.now.groups }
+    ensures taken { OnOk result (groups.new.items ≡ groups.old.items ++ (if is_open uncovered.old.cells (group_at topology.now number) then number ∷ [] else [])) }
+    ensures left { OnOk result (Marks uncovered.new.cells (λ link. marked_at uncovered.old.cells link && not (is_open uncovered.old.cells (group_at topology.now number) && has_link (group_at topology.now number) link))) }
 {
-    let group = group_at(topology, number);
-    if opens(side, group, covered) {
+    let links = group_at(topology, number).links();
+    if uncovered.any(links) {
         groups.push(number)?;
-        covered.add(group.links());
+        uncovered.remove(links);
     }
     Ok(())
 }
 
-/// The numbers of the groups that cover the links into the set.
-pub(crate) fn cover(alloc: Global, side: Side, topology: &Topology) -> Result<Vec<u16>, OutOfMemory>
-    ensures { IfOk result (λ groups. groups.items ≡ cover (set_of side) topology.now) }
+/// The numbers of the groups that cover the links into a set, in the topology's order.
+pub(crate) fn cover(
+    alloc: Global,
+    into: OpenLinks,
+    topology: &Topology,
+) -> Result<Vec<u16>, OutOfMemory>
+    ensures cover { IfOk result (λ groups. (u : NodeSet) → Marks into.cells (enters u) → groups.items ≡ cover u topology.now) }
+    ensures limits { IsTopology topology.now }
 {
-    let mut covered = LinkSet::empty();
+    let mut uncovered = into;
     let mut groups = Vec::new(alloc);
     for number in 0..topology.groups().len() as u16 {
-        take_group(side, topology, &mut covered, &mut groups, number)?;
+        take_group(topology, &mut uncovered, &mut groups, number)?;
     }
     Ok(groups)
 }
 
-/// How many chunks the groups carry together in one round.
-pub(crate) fn width_of(topology: &Topology, groups: &[u16]) -> u32
-    requires within { All (λ group. group < length topology.now.groups) groups.now }
-    requires few { length groups.now ≤ 256 }
-    ensures sum { result ≡ width_of topology.now groups.now }
-    ensures narrow { result ≤ 4096 }
+/// The same in the reverse of that order.
+pub(crate) fn cover_back(
+    alloc: Global,
+    into: OpenLinks,
+    topology: &Topology,
+) -> Result<Vec<u16>, OutOfMemory>
+    ensures { IfOk result (λ groups. (u : NodeSet) → Marks into.cells (enters u) → groups.items ≡ cover_back u topology.now) }
 {
-    let mut width = 0;
-    for &group in groups {
-        width += u32::from(group_at(topology, group).width());
+    let mut uncovered = into;
+    let mut groups = Vec::new(alloc);
+    let all = topology.groups().len() as u16;
+    for turn in 0..all {
+        take_group(topology, &mut uncovered, &mut groups, all - 1 - turn)?;
     }
-    width
+    groups.reverse();
+    Ok(groups)
 }

@@ -1,10 +1,8 @@
 //! A set of nodes with what has to come into it, and what can.
 
-ghost use Rattle.std.specs.Prelude.{◌≡◌, ◌*◌, ◌<◌, ◌^◌, nat_lt, IfOk};
+ghost use Rattle.std.specs.Prelude.{◌≡◌};
 ghost use Rattle.node_cuts.specs.Cuts.{CutValue};
-ghost use Rattle.node_cuts.specs.Tables.{with_times};
 
-use crate::OutOfMemory;
 use std::marker::Model;
 
 /// A set of nodes, the groups that cover the links into it, how many chunks have to come into it,
@@ -64,25 +62,5 @@ impl Cut {
         ensures { result ≡ self.now.width }
     {
         self.width
-    }
-
-    /// Whether so many times what has to come in is more than can in so many rounds.
-    pub(crate) fn refutes(&self, times: u8, rounds: u8) -> bool
-        ensures { result ≡ nat_lt (self.now.width * rounds) (self.now.need * times) }
-    {
-        u64::from(self.need()) * u64::from(times) > u64::from(self.width()) * u64::from(rounds)
-    }
-
-    /// The same cut, into which so many times as much has to come.
-    pub(crate) fn with_times(&self, times: u8) -> Result<Cut, OutOfMemory>
-        requires { self.now.need * times < 2 ^ 32 }
-        ensures { IfOk result (λ cut. cut ≡ with_times times self.now) }
-    {
-        Ok(Cut {
-            nodes: self.nodes,
-            groups: self.groups.clone()?,
-            need: self.need * u32::from(times),
-            width: self.width,
-        })
     }
 }

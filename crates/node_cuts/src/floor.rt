@@ -1,12 +1,17 @@
 //! The floor: how many rounds each schedule has at least for its chunk count.
 
-ghost use Rattle.std.specs.Prelude.{◌≡◌, ◌≢◌, filter, map, All, IfOk};
+ghost use Rattle.std.specs.Prelude.{◌≡◌, ◌≢◌, ◌*◌, ◌≤◌, ◌⊎◌, Some, IfOk};
+ghost use Rattle.std.specs.Option.{unwrap_or};
 ghost use Rattle.collective_spec.specs.Collectives.{IsSpec, kind_in};
-ghost use Rattle.node_cuts.specs.Floors.{exceeds, first_greatest, floor_of, greater_of, has_need};
-ghost use Rattle.node_cuts.specs.Tables.{IsSmall, fraction_in};
+ghost use Rattle.node_cuts.specs.declared.sets.Sets.{Sets};
+ghost use Rattle.node_cuts.specs.Floors.{exceeds, floor_of, greater_of, nothing_over_1};
+ghost use Rattle.node_cuts.specs.Sides.{mask_of, members};
+ghost use Rattle.node_cuts.specs.Tables.{IsLow, IsSmall};
 
 use crate::OutOfMemory;
-use crate::cut::Cut;
+use crate::measure::Measure;
+use crate::members::Members;
+use crate::sets::Sets;
 use crate::table::CutTable;
 use collective_spec::{Kind, Spec};
 use schedule::Topology;
@@ -19,7 +24,8 @@ pub struct Floor {
     pub above: u32,
     /// How many can in one round, times that count; where it is 0, no schedule solves.
     pub below: u32,
-    /// The nodes of the set; 0 where nothing has to come into any listed set.
+    /// The nodes of the set; 0 where nothing has to come into any set that is
+    /// looked at.
     pub nodes: u16,
 }
 
@@ -31,22 +37,26 @@ fn exceeds(first: Floor, second: Floor) -> bool
         > u64::from(second.above) * u64::from(first.below)
 }
 
-/// The fraction of a cut, with its width times the least chunk count below.
-fn fraction_in(least: u8, cut: &Cut) -> Floor
-    requires { IsSmall cut.now }
-    ensures { result ≡ fraction_in least cut.now }
+/// The fraction of a set with this measure, with its width times the least chunk count below.
+pub(crate) fn fraction_of(set: Members, nodes: u8, measure: Measure, least: u8) -> Floor
+    requires nodes { nodes ≤ 16 }
+    requires small { IsSmall measure }
+    requires least { least ≤ 16 }
+    ensures fraction { result ≡ record { above = measure.need; below = measure.width * least; nodes = mask_of nodes (members set) } }
+    ensures low { IsLow result }
 {
     Floor {
-        above: cut.need(),
-        below: cut.width() * u32::from(least),
-        nodes: cut.nodes(),
+        above: measure.need,
+        below: measure.width * u32::from(least),
+        nodes: set.mask(nodes),
     }
 }
 
 /// The greater of the best fraction so far and the next. Of two that are as great it is the best so
 /// far, and a fraction of nothing is not taken.
-fn greater_of(best: Option<Floor>, next: Floor) -> Option<Floor>
-    ensures { result ≡ greater_of best next }
+pub(crate) fn greater_of(best: Option<Floor>, next: Floor) -> Option<Floor>
+    ensures greater { result ≡ greater_of best next }
+    ensures either { (result ≡ best) ⊎ (result ≡ Some next) }
 {
     if next.above == 0 {
         return best;
@@ -63,15 +73,10 @@ fn greater_of(best: Option<Floor>, next: Floor) -> Option<Floor>
     }
 }
 
-/// The first of the greatest fractions of these cuts.
-pub(crate) fn greatest(cuts: &[Cut], least: u8) -> Floor
-    requires { All IsSmall cuts.now }
-    ensures { result ≡ first_greatest (filter has_need (map (fraction_in least) cuts.now)) }
+/// The best fraction, and 0 over 1 where there is none.
+pub(crate) fn greatest(best: Option<Floor>) -> Floor
+    ensures { result ≡ unwrap_or best nothing_over_1 }
 {
-    let mut best = None;
-    for cut in cuts {
-        best = greater_of(best, fraction_in(least, cut));
-    }
     best.unwrap_or(Floor {
         above: 0,
         below: 1,
@@ -87,8 +92,8 @@ pub(crate) fn greatest(cuts: &[Cut], least: u8) -> Floor
 pub fn floor_of(alloc: Global, topology: &Topology, spec: &Spec) -> Result<Floor, OutOfMemory>
     requires spec { IsSpec topology.now.nodes spec.now }
     requires single { kind_in spec.now ≢ Kind.Allreduce }
-    ensures { IfOk result (λ floor. floor ≡ floor_of topology.now spec.now) }
+    ensures { IfOk result (λ floor. floor ≡ floor_of Sets.Listed topology.now spec.now) }
 {
-    let table = CutTable::new(alloc, topology, spec)?;
+    let table = CutTable::new(alloc, topology, spec, Sets::Listed)?;
     Ok(table.floor())
 }

@@ -10,28 +10,29 @@ ghost use Rattle.collective_spec.specs.declared.kind.Kind.{Kind};
 ghost use Rattle.collective_spec.specs.declared.spec.Spec.{Spec};
 ghost use Rattle.collective_spec.specs.Kinds.{allows};
 ghost use Rattle.collective_spec.specs.Collectives.{kind_in, spec_instance};
+ghost use Rattle.node_cuts.specs.declared.sets.Sets.{Sets};
 ghost use Rattle.node_cuts.specs.Sides.{NodeSet, has_bit, mask_of};
-ghost use Rattle.node_cuts.specs.Cuts.{cut_refutes, first_cut_of, need, width};
+ghost use Rattle.node_cuts.specs.Cuts.{cut_refutes, first_cut_of, need, width_by};
 ghost use Rattle.node_cuts.specs.Floors.{floor_of, least_count};
 
 /// What has to come into a set of nodes is at most what can in the rounds of a schedule that
-/// solves, whatever its steps. So where a set of nodes refutes so many rounds, no schedule of so
-/// many solves.
+/// solves, whatever its steps and whichever groups cover the links into the set. So where a set of
+/// nodes refutes so many rounds, no schedule of so many solves.
 pub fn cuts_refute()
-    ensures needed { (u : NodeSet) (t : TopologyValue) (pre post : PlacementValue) (s : ScheduleValue) (steps rounds : ℕ) → Solves t pre post s steps rounds
-        → need u pre post ≤ width u t * rounds }
-    ensures refuted { (u : NodeSet) (t : TopologyValue) (pre post : PlacementValue) (s : ScheduleValue) (steps rounds : ℕ) → cut_refutes u t pre post rounds ≡ true
+    ensures needed { (sets : Sets) (u : NodeSet) (t : TopologyValue) (pre post : PlacementValue) (s : ScheduleValue) (steps rounds : ℕ) → Solves t pre post s steps rounds
+        → need u pre post ≤ width_by sets u t * rounds }
+    ensures refuted { (sets : Sets) (u : NodeSet) (t : TopologyValue) (pre post : PlacementValue) (s : ScheduleValue) (steps rounds : ℕ) → cut_refutes sets u t pre post rounds ≡ true
         → Solves t pre post s steps rounds → ⊥ }
-    ensures first { (t : TopologyValue) (pre post : PlacementValue) (s : ScheduleValue) (steps rounds : ℕ) → is_some (first_cut_of t pre post rounds) ≡ true
+    ensures first { (sets : Sets) (t : TopologyValue) (pre post : PlacementValue) (s : ScheduleValue) (steps rounds : ℕ) → is_some (first_cut_of sets t pre post rounds) ≡ true
         → Solves t pre post s steps rounds → ⊥ }
 {}
 
 /// No schedule that solves has fewer rounds for its chunk count than the floor says, whatever its
 /// steps and its chunk count.
 pub fn floors_bound()
-    ensures { (t : TopologyValue) (spec : Spec) (s : ScheduleValue) (steps rounds c : ℕ) → 0 < t.nodes → allows (kind_in spec) t.nodes c ≡ true
+    ensures { (sets : Sets) (t : TopologyValue) (spec : Spec) (s : ScheduleValue) (steps rounds c : ℕ) → 0 < t.nodes → allows (kind_in spec) t.nodes c ≡ true
         → Solves t (spec_instance spec t.nodes c).pre (spec_instance spec t.nodes c).post s steps rounds
-        → (floor_of t spec).above * c ≤ rounds * (floor_of t spec).below }
+        → (floor_of sets t spec).above * c ≤ rounds * (floor_of sets t spec).below }
 {}
 
 /// The chunk count of the floor is one that the collective may have, and no other is less.

@@ -3,21 +3,29 @@
 //! for its chunk count.
 #![tactic(auto)]
 
+mod alone;
 mod covering;
 mod cut;
 mod floor;
+mod greedy;
+mod holders;
 pub mod laws;
-mod link_set;
 mod mask;
-mod needing;
+mod measure;
+mod members;
+mod open_links;
 mod refuting;
+mod sets;
 mod side;
 mod table;
 pub mod vectors;
+mod widths;
 
 pub use cut::Cut;
 pub use floor::{Floor, floor_of};
 pub use mask::has_node;
+pub use measure::Measure;
 pub use refuting::first_cut;
+pub use sets::Sets;
 pub use std::alloc::AllocError as OutOfMemory;
 pub use table::CutTable;

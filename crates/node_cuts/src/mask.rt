@@ -10,3 +10,10 @@ pub fn has_node(nodes: u16, node: u8) -> bool
 {
     (nodes >> node) & 1 == 1
 }
+
+/// The same of every node: none from 16 on is in the set.
+pub(crate) fn has_any_node(nodes: u16, node: u8) -> bool
+    ensures { result ≡ has_bit nodes node }
+{
+    node < 16 && has_node(nodes, node)
+}

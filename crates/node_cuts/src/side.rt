@@ -2,7 +2,7 @@
 
 ghost use Rattle.std.specs.Prelude.{◌≡◌, ◌<◌, ◌≤◌, ◌+◌, ◌-◌, ◌++◌, map, IfOk, OnOk};
 ghost use Rattle.std.specs.List.{range_with_len};
-ghost use Rattle.node_cuts.specs.Sides.{complement, listed_sides, mask_of, set_of, small_sides, two_sides};
+ghost use Rattle.node_cuts.specs.Sides.{complement, listed_sides, set_of, small_sides, two_sides};
 
 use crate::OutOfMemory;
 use std::alloc::Global;
@@ -39,22 +39,6 @@ impl Side {
             Side::AllButOne(a) => Side::One(a),
             Side::AllButTwo(a, b) => Side::Two(a, b),
         }
-    }
-
-    /// The members among so many nodes, as bits.
-    pub(crate) fn mask(self, nodes: u8) -> u16
-        requires { nodes ≤ 16 }
-        ensures { result ≡ mask_of nodes (set_of self) }
-    {
-        let mut mask = 0;
-        let mut bit: u32 = 1;
-        for node in 0..nodes {
-            if self.has(node) {
-                mask += bit;
-            }
-            bit *= 2;
-        }
-        mask as u16
     }
 }
 

@@ -1,6 +1,7 @@
 //! The answer of a search for ordered schedules.
 
-ghost use Rattle.std.specs.Prelude.{◌≢◌, ◌≤◌, length, IfOk};
+ghost use Rattle.std.specs.Prelude.{◌≡◌, ◌≢◌, ◌≤◌, length, IfOk};
+ghost use Rattle.candidate_order.specs.Ranges.{unpruned};
 ghost use Rattle.command_words.specs.Commands.{AreSearchWords};
 ghost use Rattle.frontier_audit.specs.Searches.{IsAsked};
 ghost use Rattle.run_rules.specs.Answers.{FilesValue, IsAnswerAlone, Stay};
@@ -33,7 +34,8 @@ fn search_answer(alloc: Global, search: &Search) -> Result<Answer, OutOfMemory>
 /// which chunks that are alike come in the order of their numbers; or the refusal of the text, the
 /// root, the size or the chunk counts.
 ///
-/// The proofs are checked as they are made, and none is kept. The only error is `OutOfMemory`.
+/// The words leave nothing out: every search of this command is in order. The proofs are checked as
+/// they are made, and none is kept. The only error is `OutOfMemory`.
 pub fn ordered_answer(
     alloc: Global,
     asked: SearchWords,
@@ -42,6 +44,7 @@ pub fn ordered_answer(
     requires short { length bytes.now ≤ limit }
     requires proper { AreSearchWords asked }
     requires single { asked.kind ≢ Kind.Allreduce }
+    requires plain { asked.limits.pruning ≡ unpruned }
     ensures { IfOk result (λ a. IsAnswerAlone (order_asked asked bytes.now) a.status a.text.items) }
 {
     match search_of_text(alloc, asked, bytes)? {

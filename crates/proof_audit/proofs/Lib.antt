@@ -4,3 +4,4 @@ pub mod Proved
 pub mod Saying
 pub mod Whole
 pub mod Verdicts
+pub mod Standing

@@ -5,6 +5,7 @@
 mod fault;
 mod files;
 mod judge;
+mod laws;
 mod line_test;
 mod lines_judge;
 mod log_test;
@@ -14,4 +15,5 @@ mod verdict;
 
 pub use fault::AuditFault;
 pub use files::{formula_file, log_file, refutation_file};
+pub use laws::files_that_stand_refute;
 pub use verdict::FileVerdict;

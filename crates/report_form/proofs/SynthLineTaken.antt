@@ -11,7 +11,8 @@ use Rattle.text_lines.proofs.Checks.{bind_ok, ok_is, if_some}
 use Rattle.text_lines.proofs.Rows.{row_of}
 use Rattle.collective_spec.specs.declared.kind.Kind.{Kind}
 use Rattle.collective_spec.specs.Kinds.{word_of, takes_root, is_custom, standard_kinds}
-use Rattle.candidate_order.specs.Ranges.{LimitsValue, IsLimits}
+use Rattle.candidate_order.specs.declared.pruning.Pruning.{Pruning}
+use Rattle.candidate_order.specs.Ranges.{LimitsValue, IsLimits, unpruned}
 use Rattle.topology_text.specs.Names.{is_name, name_of}
 use Rattle.topology_text.specs.Spelling.{name_at}
 use Rattle.topology_text.specs.Reading.{node_of}
@@ -19,10 +20,10 @@ use Rattle.topology_text.proofs.Links.{node_is}
 use Rattle.report_form.specs.declared.fault.ReportCode.{ReportCode}
 use Rattle.report_form.specs.declared.fault.ReportCode.TheVariants as code
 use Rattle.report_form.specs.Reports.{IsWords}
-use Rattle.report_form.specs.Spelling.{synth_words}
+use Rattle.report_form.specs.Spelling.{word_if, pruning_words, synth_words}
 use Rattle.report_form.specs.Tests.{are_limits}
 use Rattle.report_form.specs.Fields.{any_number, behind_key, next_keyed, fixed_word, no_more}
-use Rattle.report_form.specs.SynthLine.{AskedValue, kinds_of, kind_named, limits_from, root_from, asked_from, may_be_asked, asked_line, root_of, words_from}
+use Rattle.report_form.specs.SynthLine.{AskedValue, kinds_of, kind_named, limits_from, root_from, said_from, pruning_from, asked_from, may_be_asked, asked_line, root_of, words_from}
 use Rattle.report_form.proofs.Tested.{decides_limits}
 use Rattle.report_form.proofs.Tokens.{word_take, fixed_take, no_more_take, keyed_is, any_number_is}
 use Rattle.report_form.proofs.LineTaken.{words_part_take, ruled}
@@ -71,7 +72,7 @@ name_is w name e = same_Some w name (if_some (is_name w) (Some w) name e).1
 -- ---- the limits
 
 abbrev pub limits : ℕ → ℕ → ℕ → ℕ → LimitsValue
-limits k s c n = record { k = k; max_s = s; max_c = c; conflicts = n }
+limits k s c n = record { k = k; max_s = s; max_c = c; conflicts = n; pruning = unpruned }
 
 -- the tokens of the limits, and those behind them
 abbrev pub limits_words : LimitsValue → List (List ℕ) → List (List ℕ)
@@ -134,13 +135,50 @@ root_take kind words x e = let taken = chosen (takes_root kind) e in record { st
         let P : Option (List ℕ) × List (List ℕ) → Type 0 = λ y. (words ≡ root_tokens y.0 ++ y.1) × RootFits false y.0 in
         subst P same (refl, refl)
 
+-- ---- what may be left out
+
+said_is : (word : List ℕ) (words : List (List ℕ)) → words ≡ word_if word (said_from word words).0 ++ (said_from word words).1
+said_is word [] = refl
+said_is word (w ∷ ws) = by_test (bytes_eq w word) refl
+  where
+    said : Bool → Bool × List (List ℕ)
+    said b = if b then (true, ws) else (false, w ∷ ws)
+
+    by_test : (b : Bool) → bytes_eq w word ≡ b → w ∷ ws ≡ word_if word (said b).0 ++ (said b).1
+    by_test true same = ap (λ v. v ∷ ws) ((bytes_eq-Decides w word).0 same)
+    by_test false other = refl
+
+no_words : (words : List (List ℕ)) → words ++ [] ≡ words
+no_words [] = refl
+no_words (w ∷ ws) = ap (λ vs. w ∷ vs) (no_words ws)
+
+pub pruning_take : (words : List (List ℕ)) (p : Pruning) → pruning_from words ≡ Ok p → words ≡ pruning_words p
+pruning_take words p e =
+    let cuts : Bool × List (List ℕ) = said_from (codes "cuts=yes") words in
+    let ordered : Bool × List (List ℕ) = said_from (codes "ordered=yes") cuts.1 in
+    let found : Pruning = record { cuts = cuts.0; ordered = ordered.0 } in
+    let (u, r1, e1) = bind_ok (no_more ordered.1) (λ none. Ok found) p e in
+    let same : found ≡ p = ok_is {C = ReportCode} found p e1 in
+    said_is (codes "cuts=yes") words
+    ∙ ap (λ ws. word_if (codes "cuts=yes") cuts.0 ++ ws) (said_is (codes "ordered=yes") cuts.1
+    ∙ (ap (λ ws. word_if (codes "ordered=yes") ordered.0 ++ ws) (no_more_take ordered.1 u r1) ∙ no_words (word_if (codes "ordered=yes") ordered.0)))
+    ∙ ap pruning_words same
+
+-- the same numbers, where this may be left out
+abbrev pub pruned : LimitsValue → Pruning → LimitsValue
+pruned l p = record l { pruning = p }
+
+-- the ranges are those of the numbers
+pub in_range : (l : LimitsValue) (p : Pruning) → IsLimits (pruned l p) → IsLimits l
+in_range l p ok = record { k = ok.k; some_steps = ok.some_steps; steps = ok.steps; some_chunks = ok.some_chunks; chunks = ok.chunks; some_conflicts = ok.some_conflicts; conflicts = ok.conflicts }
+
 -- ---- the line
 
 abbrev pub asked : Kind → LimitsValue → Option (List ℕ) → AskedValue
 asked kind l root = record { kind = kind; limits = l; root = root }
 
 abbrev pub asked_words : AskedValue → List (List ℕ)
-asked_words a = codes "synth" ∷ (codes "collective=" ++ word_of a.kind) ∷ limits_words a.limits (root_tokens a.root)
+asked_words a = codes "synth" ∷ (codes "collective=" ++ word_of a.kind) ∷ limits_words a.limits (root_tokens a.root ++ pruning_words a.limits.pruning)
 
 pub record AskedTaken (patterned : Bool) (words : List (List ℕ)) (a : AskedValue) : Type 0 where
   pub stands : IsLimits a.limits → words ≡ asked_words a
@@ -153,28 +191,21 @@ kind_fits patterned w k e version = kind_standard w k (ap (λ b. kind_named b w)
 
 pub asked_take : (patterned : Bool) (words : List (List ℕ)) (a : AskedValue) → asked_from patterned words ≡ Ok a → AskedTaken patterned words a
 asked_take patterned words a e =
-    let (b, r1, e1) = bind_ok (fixed_word (codes "synth") words) (λ w. next_keyed (codes "collective=") (kind_named patterned) w >>= (λ k. limits_from k.1 >>= (λ l. root_from k.0 l.1 >>= (λ r. no_more r.1 >>= (λ u. Ok (asked k.0 l.0 r.0)))))) a e in
-    let (k, r2, e2) = bind_ok (next_keyed (codes "collective=") (kind_named patterned) b) (λ k. limits_from k.1 >>= (λ l. root_from k.0 l.1 >>= (λ r. no_more r.1 >>= (λ u. Ok (asked k.0 l.0 r.0))))) a e1 in
-    let (l, r3, e3) = bind_ok (limits_from k.1) (λ l. root_from k.0 l.1 >>= (λ r. no_more r.1 >>= (λ u. Ok (asked k.0 l.0 r.0)))) a e2 in
-    let (r, r4, e4) = bind_ok (root_from k.0 l.1) (λ r. no_more r.1 >>= (λ u. Ok (asked k.0 l.0 r.0))) a e3 in
-    let (u, r5, e5) = bind_ok (no_more r.1) (λ v. Ok (asked k.0 l.0 r.0)) a e4 in
-    let same : asked k.0 l.0 r.0 ≡ a = ok_is {C = ReportCode} (asked k.0 l.0 r.0) a e5 in
+    let (b, r1, e1) = bind_ok (fixed_word (codes "synth") words) (λ w. next_keyed (codes "collective=") (kind_named patterned) w >>= (λ k. limits_from k.1 >>= (λ l. root_from k.0 l.1 >>= (λ r. pruning_from r.1 >>= (λ p. Ok (asked k.0 (pruned l.0 p) r.0)))))) a e in
+    let (k, r2, e2) = bind_ok (next_keyed (codes "collective=") (kind_named patterned) b) (λ k. limits_from k.1 >>= (λ l. root_from k.0 l.1 >>= (λ r. pruning_from r.1 >>= (λ p. Ok (asked k.0 (pruned l.0 p) r.0))))) a e1 in
+    let (l, r3, e3) = bind_ok (limits_from k.1) (λ l. root_from k.0 l.1 >>= (λ r. pruning_from r.1 >>= (λ p. Ok (asked k.0 (pruned l.0 p) r.0)))) a e2 in
+    let (r, r4, e4) = bind_ok (root_from k.0 l.1) (λ r. pruning_from r.1 >>= (λ p. Ok (asked k.0 (pruned l.0 p) r.0))) a e3 in
+    let (p, r5, e5) = bind_ok (pruning_from r.1) (λ p. Ok (asked k.0 (pruned l.0 p) r.0)) a e4 in
+    let same : asked k.0 (pruned l.0 p) r.0 ≡ a = ok_is {C = ReportCode} (asked k.0 (pruned l.0 p) r.0) a e5 in
     let t = keyed_take (codes "collective=") (kind_named patterned) b k r2 in
     let root = root_take k.0 l.1 r r4 in
     let P : AskedValue → Type 0 = λ y. AskedTaken patterned words y in
     subst P same (record {
       stands = λ ok. fixed_take (codes "synth") words b r1 ∙ ap (λ ws. codes "synth" ∷ ws) (t.stands ∙ (ap (λ v. (codes "collective=" ++ v) ∷ k.1) (kind_is patterned t.value k.0 t.read_as)
-          ∙ ap (λ ws. (codes "collective=" ++ word_of k.0) ∷ ws) (limits_take k.1 l r3 ok ∙ ap (limits_words l.0) (root.stands ∙ last (root_tokens r.0) r.1 (no_more_take r.1 u r5)))));
+          ∙ ap (λ ws. (codes "collective=" ++ word_of k.0) ∷ ws) (limits_take k.1 l r3 (in_range l.0 p ok) ∙ ap (limits_words l.0) (root.stands ∙ ap (λ ws. root_tokens r.0 ++ ws) (pruning_take r.1 p r5)))));
       fits = root.fits;
       kind = kind_fits patterned t.value k.0 t.read_as;
     })
-  where
-    last : (xs ys : List (List ℕ)) → ys ≡ [] → xs ++ ys ≡ xs
-    last xs ys e0 = ap (λ zs. xs ++ zs) e0 ∙ none xs
-      where
-        none : (zs : List (List ℕ)) → zs ++ [] ≡ zs
-        none [] = refl
-        none (z ∷ zs) = ap (λ ws. z ∷ ws) (none zs)
 
 abbrev pub asked_check : Bool → List (List ℕ) → Result AskedValue ReportCode
 asked_check patterned words = asked_from patterned words >>= (λ a. refuse (not (may_be_asked patterned a)) code.Limits >>= (λ u. Ok a))
@@ -212,23 +243,23 @@ words_take names a root some ok fits e = chosen (takes_root a.kind) refl fits
     needed None k = absurd (cc)
     needed (Some n) k = let same : n ≡ root = ok_is {C = ReportCode} n root k in ap (λ m. Some m) same
 
+    -- the line with these tokens of the root
     front : List (List ℕ) → List (List ℕ)
-    front ws = codes "synth" ∷ (codes "collective=" ++ word_of a.kind) ∷ limits_words a.limits ws
+    front ws = codes "synth" ∷ (codes "collective=" ++ word_of a.kind) ∷ limits_words a.limits (ws ++ pruning_words a.limits.pruning)
 
     chosen : (b : Bool) → b ≡ takes_root a.kind → RootFits b a.root → WordsTaken names a root
     chosen true takes (name, is) =
         let found : node_of names name ≡ Some root = needed (node_of names name) (ap (root_of names) (sym is) ∙ e) in
         let (below, named) = node_is names name root found in
         record {
-          spelled = ap (λ o. codes "synth" ∷ (codes "collective=" ++ word_of a.kind) ∷ limits_words a.limits (root_tokens o)) is
-              ∙ (ap (λ v. codes "synth" ∷ (codes "collective=" ++ word_of a.kind) ∷ limits_words a.limits ((codes "root=" ++ v) ∷ [])) (sym named)
-              ∙ ap (λ b. codes "synth" ∷ (codes "collective=" ++ word_of a.kind) ∷ limits_words a.limits (if b then (codes "root=" ++ name_at names root) ∷ [] else [])) takes);
+          spelled = ap (λ o. front (root_tokens o)) is
+              ∙ (ap (λ v. front ((codes "root=" ++ v) ∷ [])) (sym named)
+              ∙ ap (λ b. front (if b then (codes "root=" ++ name_at names root) ∷ [] else [])) takes);
           valid = record { limits = ok; root = below; no_root = λ h. absurd (let both : true ≡ false = takes ∙ h in cc) };
         }
     chosen false takes is =
         let zero_root : 0 ≡ root = ok_is {C = ReportCode} 0 root (ap (root_of names) (sym is) ∙ e) in
         record {
-          spelled = ap (λ o. codes "synth" ∷ (codes "collective=" ++ word_of a.kind) ∷ limits_words a.limits (root_tokens o)) is
-              ∙ ap (λ b. codes "synth" ∷ (codes "collective=" ++ word_of a.kind) ∷ limits_words a.limits (if b then (codes "root=" ++ name_at names root) ∷ [] else [])) takes;
+          spelled = ap (λ o. front (root_tokens o)) is ∙ ap (λ b. front (if b then (codes "root=" ++ name_at names root) ∷ [] else [])) takes;
           valid = record { limits = ok; root = omega (arith, zero_root, some); no_root = λ h. sym zero_root };
         }

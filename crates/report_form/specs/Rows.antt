@@ -1,5 +1,5 @@
 -- Small reports.
-use Rattle.std.specs.Prelude.{ℕ, List, [], ◌∷◌, ◌++◌, codes, None, Some}
+use Rattle.std.specs.Prelude.{ℕ, true, List, [], ◌∷◌, ◌++◌, codes, None, Some}
 use Rattle.outer_ports.specs.declared.part.Part.TheVariants.{Whole, Reduce, Gather}
 use Rattle.schedule.specs.declared.hop.Hop.{Hop}
 use Rattle.schedule.specs.Placed.{PlacementValue}
@@ -8,6 +8,7 @@ use Rattle.collective_spec.specs.declared.kind.Kind.{Kind}
 use Rattle.collective_spec.specs.declared.kind.Kind.TheVariants.{Broadcast, Allreduce, Custom}
 use Rattle.candidate_order.specs.declared.mark.Mark.{Mark}
 use Rattle.candidate_order.specs.declared.mark.Mark.TheVariants as mark
+use Rattle.candidate_order.specs.Ranges.{unpruned}
 use Rattle.candidate_order.specs.Frontiers.{PointValue, FrontierValue}
 use Rattle.topology_text.specs.Value.{NamedTopologyValue}
 use Rattle.report_form.specs.Reports.{WordsValue, ReportValue}
@@ -18,7 +19,7 @@ two_nodes = record { names = codes "n0" ∷ codes "n1" ∷ []; topology = line_o
 
 -- no extra rounds, one step, one chunk, a thousand conflicts
 abbrev pub smallest_words : Kind → WordsValue
-smallest_words kind = record { collective = record { kind = kind; root = 0 }; limits = record { k = 0; max_s = 1; max_c = 1; conflicts = 1000 } }
+smallest_words kind = record { collective = record { kind = kind; root = 0 }; limits = record { k = 0; max_s = 1; max_c = 1; conflicts = 1000; pruning = unpruned } }
 
 abbrev pub point : ℕ → ℕ → Mark → List ℕ → List Hop → PointValue
 point s r mark rounds sends = record { candidate = record { s = s; r = r; c = 1 }; schedule = plan rounds sends; mark = mark }
@@ -51,13 +52,29 @@ allreduce_report = record {
 -- the relay of one chunk along three nodes, in two steps; one step is not enough
 abbrev pub relay_report : ReportValue
 relay_report = record {
-  words = record { collective = record { kind = Broadcast; root = 0 }; limits = record { k = 0; max_s = 2; max_c = 1; conflicts = 1000 } };
+  words = record { collective = record { kind = Broadcast; root = 0 }; limits = record { k = 0; max_s = 2; max_c = 1; conflicts = 1000; pruning = unpruned } };
   topology = record { names = codes "n0" ∷ codes "n1" ∷ codes "n2" ∷ []; topology = line_of_3; custom = None };
   frontiers = (
     Whole,
     record {
       points = point 2 2 mark.Optimal (1 ∷ 1 ∷ []) (send 0 0 1 1 ∷ send 0 1 2 2 ∷ []) ∷ [];
       refuted = record { s = 1; r = 1; c = 1 } ∷ [];
+      unknown = [];
+    },
+  ) ∷ [];
+  joined = [];
+}
+
+-- the broadcast of one chunk, where cuts and the order of chunks are asked for; two chunks in one round are refuted by a cut
+abbrev pub pruned_report : ReportValue
+pruned_report = record {
+  words = record { collective = record { kind = Broadcast; root = 0 }; limits = record { k = 0; max_s = 1; max_c = 2; conflicts = 1000; pruning = record { cuts = true; ordered = true } } };
+  topology = two_nodes;
+  frontiers = (
+    Whole,
+    record {
+      points = point 1 1 mark.Optimal (1 ∷ []) (send 0 0 1 1 ∷ []) ∷ [];
+      refuted = record { s = 1; r = 1; c = 2 } ∷ [];
       unknown = [];
     },
   ) ∷ [];
@@ -77,7 +94,7 @@ moved_topology =
 -- the chunk is moved in two steps; one step is not enough
 abbrev pub moved_report : ReportValue
 moved_report = record {
-  words = record { collective = record { kind = Custom; root = 0 }; limits = record { k = 0; max_s = 2; max_c = 1; conflicts = 1000 } };
+  words = record { collective = record { kind = Custom; root = 0 }; limits = record { k = 0; max_s = 2; max_c = 1; conflicts = 1000; pruning = unpruned } };
   topology = moved_topology;
   frontiers = (
     Whole,

@@ -1,5 +1,5 @@
 -- The one spelling of a report. This project's own.
-use Rattle.std.specs.Prelude.{ℕ, if◌then◌else◌, List, [], ◌∷◌, ◌++◌, map, codes, decimal}
+use Rattle.std.specs.Prelude.{ℕ, Bool, if◌then◌else◌, List, [], ◌∷◌, ◌++◌, map, codes, decimal}
 use Rattle.std.specs.List.{flat_map}
 use Rattle.outer_ports.specs.declared.part.Part.{Part}
 use Rattle.outer_ports.specs.declared.part.Part.TheVariants as part
@@ -10,6 +10,7 @@ use Rattle.collective_spec.specs.Kinds.{word_of, takes_root}
 use Rattle.candidate_order.specs.declared.candidate.Candidate.{Candidate}
 use Rattle.candidate_order.specs.declared.mark.Mark.{Mark}
 use Rattle.candidate_order.specs.declared.mark.Mark.TheVariants as mark
+use Rattle.candidate_order.specs.declared.pruning.Pruning.{Pruning}
 use Rattle.candidate_order.specs.Frontiers.{PointValue, UnknownValue, FrontierValue}
 use Rattle.text_lines.specs.Text.{text_of}
 use Rattle.topology_text.specs.Spelling.{lines_of, name_at, version_word}
@@ -19,11 +20,19 @@ use Rattle.report_form.specs.Reports.{WordsValue, ReportValue}
 abbrev pub root_words : List (List ℕ) → WordsValue → List (List ℕ)
 root_words names w = if takes_root w.collective.kind then (codes "root=" ++ name_at names w.collective.root) ∷ [] else []
 
+-- the word, where it is said
+abbrev pub word_if : List ℕ → Bool → List (List ℕ)
+word_if word said = if said then word ∷ [] else []
+
+-- what may be left out, each by a word of its own
+abbrev pub pruning_words : Pruning → List (List ℕ)
+pruning_words p = word_if (codes "cuts=yes") p.cuts ++ word_if (codes "ordered=yes") p.ordered
+
 -- `synth`, and each key with its value
 abbrev pub synth_words : List (List ℕ) → WordsValue → List (List ℕ)
 synth_words names w =
     codes "synth" ∷ (codes "collective=" ++ word_of w.collective.kind) ∷ (codes "k=" ++ decimal w.limits.k) ∷ (codes "steps=" ++ decimal w.limits.max_s)
-    ∷ (codes "chunks=" ++ decimal w.limits.max_c) ∷ (codes "conflicts=" ++ decimal w.limits.conflicts) ∷ root_words names w
+    ∷ (codes "chunks=" ++ decimal w.limits.max_c) ∷ (codes "conflicts=" ++ decimal w.limits.conflicts) ∷ (root_words names w ++ pruning_words w.limits.pruning)
 
 abbrev pub mark_words : Mark → List (List ℕ)
 mark_words mark.Optimal = codes "optimal" ∷ []

@@ -18,6 +18,6 @@ pub use question::{kind_of_part, spec_of_part};
 pub use report::Report;
 pub use vectors::{
     broadcasts_refused, numbers_checked, order_of_checks, order_of_lines, patterns_refused,
-    relays_refused, texts, texts_read, versions_refused,
+    prunings_refused, relays_refused, texts, texts_read, versions_refused,
 };
 pub use words::Words;

@@ -3,16 +3,17 @@
 ghost use Rattle.std.specs.Prelude.{◌≡◌, ◌++◌, [], Ok, Err, codes};
 ghost use Rattle.report_form.specs.Spelling.{report_text};
 ghost use Rattle.report_form.specs.Reading.{report_of};
-ghost use Rattle.report_form.specs.Rows.{broadcast_report, allreduce_report, relay_report, moved_report, broadcast_head, relay_text, moved_head, moved_body};
+ghost use Rattle.report_form.specs.Rows.{broadcast_report, allreduce_report, relay_report, pruned_report, moved_report, broadcast_head, relay_text, moved_head, moved_body};
 
 use crate::fault::ReportCode;
 
-/// The texts of a broadcast and of an allreduce on two nodes, of a broadcast on three, and of a
-/// chunk that is to go from one node to another.
+/// The texts of a broadcast and of an allreduce on two nodes, of a broadcast on three, of one that
+/// leaves out what it may, and of a chunk that is to go from one node to another.
 pub fn texts()
     ensures broadcast { report_text broadcast_report ≡ codes "sccl 1\nsynth collective=broadcast k=0 steps=1 chunks=1 conflicts=1000 root=n0\ntopology 1\nnodes n0 n1\ngroup 1 n0>n1\ngroup 1 n1>n0\nfrontier whole\npoint 1 1 1 optimal\nrounds 1\nsend 0 n0 n1 1\nend\n" }
     ensures allreduce { report_text allreduce_report ≡ codes "sccl 1\nsynth collective=allreduce k=0 steps=1 chunks=1 conflicts=1000\ntopology 1\nnodes n0 n1\ngroup 1 n0>n1\ngroup 1 n1>n0\nfrontier reduce\npoint 1 1 1 optimal\nrounds 1\nsend 0 n1 n0 1\nsend 1 n0 n1 1\nfrontier gather\npoint 1 1 1 optimal\nrounds 1\nsend 0 n0 n1 1\nsend 1 n1 n0 1\njoined\npoint 2 2 1 joined 1\nrounds 1 1\nsend 0 n1 n0 1\nsend 1 n0 n1 1\nsend 0 n0 n1 2\nsend 1 n1 n0 2\nend\n" }
     ensures moved { report_text moved_report ≡ moved_head ++ (codes "custom 1\nbefore 0 a\nafter 0 c\n" ++ moved_body) }
+    ensures pruned { report_text pruned_report ≡ codes "sccl 1\nsynth collective=broadcast k=0 steps=1 chunks=2 conflicts=1000 root=n0 cuts=yes ordered=yes\ntopology 1\nnodes n0 n1\ngroup 1 n0>n1\ngroup 1 n1>n0\nfrontier whole\npoint 1 1 1 optimal\nrounds 1\nsend 0 n0 n1 1\nrefuted 1 1 2\nend\n" }
     ensures relay { report_text relay_report ≡ relay_text (codes "1000") (codes "n0") (codes "point 2 2 1 optimal\nrounds 1 1\nsend 0 n0 n1 1\nsend 0 n1 n2 2\nrefuted 1 1 1\nend\n") }
 {}
 
@@ -22,6 +23,7 @@ pub fn texts_read()
     ensures allreduce { report_of (report_text allreduce_report) ≡ Ok allreduce_report }
     ensures moved { report_of (report_text moved_report) ≡ Ok moved_report }
     ensures relay { report_of (report_text relay_report) ≡ Ok relay_report }
+    ensures pruned { report_of (report_text pruned_report) ≡ Ok pruned_report }
 {}
 
 /// Texts that are no reports: the broadcast's text cut off or changed, and the empty text.
@@ -108,4 +110,17 @@ pub fn patterns_refused()
     ensures one_more { report_of (moved_head ++ (codes "custom 1\nbefore 0 a\nafter 0 c\nbefore 1\n" ++ moved_body)) ≡ Err (ReportCode.BadLine, 10) }
     ensures chunk { report_of (moved_head ++ codes "custom 1\nbefore 0 a\nafter 0 c\nfrontier whole\npoint 2 2 1 open\nrounds 1 1\nsend 1 a b 1\nend\n") ≡ Err (ReportCode.Limits, 13) }
     ensures joined { report_of (moved_head ++ codes "custom 1\nbefore 0 a\nafter 0 c\nfrontier whole\njoined\nend\n") ≡ Err (ReportCode.BadLine, 11) }
+{}
+
+/// The words for what may be left out: the two in their order, each once, behind all others, and
+/// with no other value; a wrong one is told before a limit that is out of range.
+pub fn prunings_refused()
+    ensures other_order { report_of (codes "sccl 1\nsynth collective=allgather k=0 steps=1 chunks=1 conflicts=1000 ordered=yes cuts=yes\n") ≡ Err (ReportCode.BadLine, 2) }
+    ensures twice { report_of (codes "sccl 1\nsynth collective=allgather k=0 steps=1 chunks=1 conflicts=1000 cuts=yes cuts=yes\n") ≡ Err (ReportCode.BadLine, 2) }
+    ensures no { report_of (codes "sccl 1\nsynth collective=allgather k=0 steps=1 chunks=1 conflicts=1000 cuts=no\n") ≡ Err (ReportCode.BadLine, 2) }
+    ensures no_value { report_of (codes "sccl 1\nsynth collective=allgather k=0 steps=1 chunks=1 conflicts=1000 cuts=yes ordered=\n") ≡ Err (ReportCode.BadLine, 2) }
+    ensures other_key { report_of (codes "sccl 1\nsynth collective=allgather k=0 steps=1 chunks=1 conflicts=1000 kept=yes\n") ≡ Err (ReportCode.BadLine, 2) }
+    ensures before_root { report_of (codes "sccl 1\nsynth collective=broadcast k=0 steps=1 chunks=1 conflicts=1000 cuts=yes root=n0\n") ≡ Err (ReportCode.BadLine, 2) }
+    ensures word_and_limit { report_of (codes "sccl 1\nsynth collective=allgather k=9 steps=1 chunks=1 conflicts=1000 ordered=no\n") ≡ Err (ReportCode.BadLine, 2) }
+    ensures limit { report_of (codes "sccl 1\nsynth collective=allgather k=9 steps=1 chunks=1 conflicts=1000 ordered=yes\n") ≡ Err (ReportCode.Limits, 2) }
 {}

@@ -19,10 +19,10 @@ use Rattle.report_form.specs.declared.fault.ReportCode.{ReportCode}
 use Rattle.report_form.specs.declared.fault.ReportCode.TheVariants as code
 use Rattle.report_form.specs.Reports.{WordsValue, ReportValue, IsWords, IsReport, IsJoinedPoint, question_of, parts_of}
 use Rattle.report_form.specs.Spelling.{report_lines}
-use Rattle.report_form.specs.Fields.{next_keyed, fixed_word, no_more}
-use Rattle.report_form.specs.SynthLine.{AskedValue, kind_named, limits_from, root_from, asked_from, may_be_asked, asked_line, root_of}
+use Rattle.report_form.specs.Fields.{next_keyed, fixed_word}
+use Rattle.report_form.specs.SynthLine.{AskedValue, kind_named, limits_from, root_from, pruning_from, asked_from, may_be_asked, asked_line, root_of}
 use Rattle.report_form.proofs.LineTaken.{words_part_take, ruled}
-use Rattle.report_form.proofs.SynthLineTaken.{keyed_take, asked_check}
+use Rattle.report_form.proofs.SynthLineTaken.{keyed_take, pruned, asked_check}
 use Rattle.topology_text.proofs.Cuts.{Cut}
 use Rattle.report_laws.proofs.FilledParts.{nothings, nothings_parts, nothings_valid}
 use Rattle.report_laws.proofs.SynthLineAgain.{after_root, after_limits, after_kind, after_synth}
@@ -58,8 +58,8 @@ asked_named patterned p x e name is =
     let (k, r2, e2) = bind_ok (next_keyed (codes "collective=") (kind_named patterned) b) after_kind x.0 e1 in
     let (l, r3, e3) = bind_ok (limits_from k.1) (after_limits k.0) x.0 e2 in
     let (r, r4, e4) = bind_ok (root_from k.0 l.1) (after_root k.0 l.0) x.0 e3 in
-    let (u, r5, e5) = bind_ok (no_more r.1) (λ v. made k.0 l.0 r.0) x.0 e4 in
-    let same : r.0 ≡ x.0.root = ap (λ z. z.root) (ok_is {C = ReportCode} (record { kind = k.0; limits = l.0; root = r.0 }) x.0 e5) in
+    let (q, r5, e5) = bind_ok (pruning_from r.1) (λ q. made k.0 (pruned l.0 q) r.0) x.0 e4 in
+    let same : r.0 ≡ x.0.root = ap (λ z. z.root) (ok_is {C = ReportCode} (record { kind = k.0; limits = pruned l.0 q; root = r.0 }) x.0 e5) in
     root_named k.0 l.1 r r4 name (same ∙ is)
 
 -- ---- a report with one node

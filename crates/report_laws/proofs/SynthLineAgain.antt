@@ -11,7 +11,8 @@ use Rattle.text_lines.proofs.Words.{IsWord, AreWords, literal, decimal_word, tok
 use Rattle.collective_spec.specs.declared.kind.Kind.{Kind}
 use Rattle.collective_spec.specs.declared.kind.Kind.TheVariants.{Broadcast, Gather, Allgather, Scatter, Alltoall, Reduce, Reducescatter, Allreduce, Custom}
 use Rattle.collective_spec.specs.Kinds.{word_of, takes_root, is_custom}
-use Rattle.candidate_order.specs.Ranges.{LimitsValue, IsLimits}
+use Rattle.candidate_order.specs.declared.pruning.Pruning.{Pruning}
+use Rattle.candidate_order.specs.Ranges.{LimitsValue, IsLimits, unpruned}
 use Rattle.topology_text.specs.Names.{is_name, name_of, AreNames}
 use Rattle.topology_text.specs.Spelling.{name_at}
 use Rattle.topology_text.proofs.Front.{name_word, name_of_name}
@@ -20,12 +21,12 @@ use Rattle.topology_text.proofs.Links.{node_again}
 use Rattle.report_form.specs.declared.fault.ReportCode.{ReportCode}
 use Rattle.report_form.specs.declared.fault.ReportCode.TheVariants as code
 use Rattle.report_form.specs.Reports.{WordsValue, IsWords}
-use Rattle.report_form.specs.Spelling.{root_words, synth_words}
+use Rattle.report_form.specs.Spelling.{root_words, word_if, pruning_words, synth_words}
 use Rattle.report_form.specs.Tests.{are_limits}
-use Rattle.report_form.specs.Fields.{any_number, next_keyed, no_more}
-use Rattle.report_form.specs.SynthLine.{AskedValue, kind_named, limits_from, root_from, asked_from, may_be_asked, asked_line, root_of}
+use Rattle.report_form.specs.Fields.{any_number, next_keyed}
+use Rattle.report_form.specs.SynthLine.{AskedValue, kind_named, limits_from, root_from, pruning_from, asked_from, may_be_asked, asked_line, root_of}
 use Rattle.report_form.proofs.Tested.{decides_limits}
-use Rattle.report_form.proofs.SynthLineTaken.{limits_words, limits, asked, asked_check}
+use Rattle.report_form.proofs.SynthLineTaken.{limits_words, limits, pruned, asked, asked_check}
 use Rattle.report_laws.proofs.TokensAgain.{fixed_again, keyed_again, any_number_again}
 use Rattle.report_laws.proofs.LinesAgain.{words_part_again}
 use Rattle.report_laws.proofs.ListsAgain.{ruled_again}
@@ -68,7 +69,7 @@ after_k k = next_keyed (codes "steps=") any_number k.1 >>= after_steps k.0
 number_with : (key : List ℕ) (n : ℕ) (rest : List (List ℕ)) → n < 2 ^ 64 → next_keyed key any_number ((key ++ decimal n) ∷ rest) ≡ Ok (n, rest)
 number_with key n rest small = keyed_again key any_number (decimal n) rest n (any_number_again n small)
 
-pub limits_again : (l : LimitsValue) (rest : List (List ℕ)) → IsLimits l → limits_from (limits_words l rest) ≡ Ok (l, rest)
+pub limits_again : (l : LimitsValue) (rest : List (List ℕ)) → IsLimits l → limits_from (limits_words l rest) ≡ Ok (pruned l unpruned, rest)
 limits_again l rest ok =
     let k = ok.k in
     let s = ok.steps in
@@ -100,14 +101,25 @@ unrooted words = Ok (None, words)
 root_is_name : (names : List (List ℕ)) (root : ℕ) → AreNames names → root < length names → is_name (name_at names root) ≡ true
 root_is_name names root named below = All-get_or (λ n. is_name n ≡ true) names root [] below named.each
 
-root_again : (b : Bool) (names : List (List ℕ)) (root : ℕ) → AreNames names → root < length names → (if b then (next_keyed (codes "root=") name_of (root_tokens b names root) >>= rooted) else unrooted (root_tokens b names root)) ≡ Ok (root_asked b names root, [])
-root_again true names root named below = ap (λ r. r >>= rooted) (keyed_again (codes "root=") name_of (name_at names root) [] (name_at names root) (name_of_name (name_at names root) (root_is_name names root named below)))
-root_again false names root named below = refl
+root_again : (b : Bool) (names : List (List ℕ)) (root : ℕ) (rest : List (List ℕ)) → AreNames names → root < length names → (if b then (next_keyed (codes "root=") name_of (root_tokens b names root ++ rest) >>= rooted) else unrooted (root_tokens b names root ++ rest)) ≡ Ok (root_asked b names root, rest)
+root_again true names root rest named below = ap (λ r. r >>= rooted) (keyed_again (codes "root=") name_of (name_at names root) rest (name_at names root) (name_of_name (name_at names root) (root_is_name names root named below)))
+root_again false names root rest named below = refl
 
 -- the number of the root is found by its name
 pub root_of_again : (b : Bool) (names : List (List ℕ)) (root : ℕ) → AreNames names → root < length names → (b ≡ false → root ≡ 0) → root_of names (root_asked b names root) ≡ Ok root
 root_of_again true names root named below none = ap (λ o. need o code.Limits) (node_again names root named.distinct below)
 root_of_again false names root named below none = ap (λ n. Ok n) (sym (none refl))
+
+-- ---- what may be left out
+
+pub pruning_again : (p : Pruning) → pruning_from (pruning_words p) ≡ Ok p
+pruning_again p = each p.cuts p.ordered
+  where
+    each : (cuts ordered : Bool) → pruning_from (pruning_words (record { cuts = cuts; ordered = ordered })) ≡ Ok (record { cuts = cuts; ordered = ordered })
+    each true true = refl
+    each true false = refl
+    each false true = refl
+    each false false = refl
 
 -- ---- the line
 
@@ -115,7 +127,7 @@ abbrev pub asked_of : List (List ℕ) → WordsValue → AskedValue
 asked_of names w = record { kind = w.collective.kind; limits = w.limits; root = root_asked (takes_root w.collective.kind) names w.collective.root }
 
 abbrev pub after_root : Kind → LimitsValue → Option (List ℕ) × List (List ℕ) → Result AskedValue ReportCode
-after_root kind l root = no_more root.1 >>= (λ u. Ok (asked kind l root.0))
+after_root kind l root = pruning_from root.1 >>= (λ p. Ok (asked kind (pruned l p) root.0))
 
 abbrev pub after_limits : Kind → LimitsValue × List (List ℕ) → Result AskedValue ReportCode
 after_limits kind l = root_from kind l.1 >>= after_root kind l.0
@@ -129,11 +141,14 @@ after_synth patterned a = next_keyed (codes "collective=") (kind_named patterned
 pub asked_again : (patterned : Bool) (names : List (List ℕ)) (w : WordsValue) → is_custom w.collective.kind ≡ patterned → AreNames names → IsWords (length names) w → asked_from patterned (synth_words names w) ≡ Ok (asked_of names w)
 asked_again patterned names w version named ok =
     let kind : Kind = w.collective.kind in
-    let root : List (List ℕ) = root_words names w in
+    let said : List (List ℕ) = pruning_words w.limits.pruning in
+    let root : List (List ℕ) = root_words names w ++ said in
+    let l : LimitsValue = pruned w.limits unpruned in
     ap (λ r. r >>= after_synth patterned) (fixed_again (codes "synth") ((codes "collective=" ++ word_of kind) ∷ limits_words w.limits root))
     ∙ ap (λ r. r >>= after_kind) (keyed_again (codes "collective=") (kind_named patterned) (word_of kind) (limits_words w.limits root) kind (kind_again patterned kind version))
     ∙ ap (λ r. r >>= after_limits kind) (limits_again w.limits root ok.limits)
-    ∙ ap (λ r. r >>= after_root kind w.limits) (root_again (takes_root kind) names w.collective.root named ok.root)
+    ∙ ap (λ r. r >>= after_root kind l) (root_again (takes_root kind) names w.collective.root said named ok.root)
+    ∙ ap (λ r. r >>= (λ p. Ok (asked kind (pruned l p) (root_asked (takes_root kind) names w.collective.root)))) (pruning_again w.limits.pruning)
 
 -- ---- its tokens
 
@@ -155,6 +170,19 @@ kind_word Custom = literal (codes "custom") refl
 root_is_word : (b : Bool) (names : List (List ℕ)) (root : ℕ) → AreNames names → root < length names → AreWords (root_tokens b names root)
 root_is_word true names root named below = (keyed_word (codes "root=") (name_at names root) (literal (codes "root=") refl) (name_word (name_at names root) (root_is_name names root named below)), tt)
 root_is_word false names root named below = tt
+
+words_both : (a b : List (List ℕ)) → AreWords a → AreWords b → AreWords (a ++ b)
+words_both [] b first second = second
+words_both (w ∷ ws) b first second = (first.0, words_both ws b first.1 second)
+
+said_word : (word : List ℕ) (said : Bool) → IsWord word → AreWords (word_if word said)
+said_word word true is = (is, tt)
+said_word word false is = tt
+
+pruning_is_words : (p : Pruning) → AreWords (pruning_words p)
+pruning_is_words p =
+    words_both (word_if (codes "cuts=yes") p.cuts) (word_if (codes "ordered=yes") p.ordered) (said_word (codes "cuts=yes") p.cuts (literal (codes "cuts=yes") refl))
+    (said_word (codes "ordered=yes") p.ordered (literal (codes "ordered=yes") refl))
 
 number_word : (key : List ℕ) (n : ℕ) → IsWord key → n < 2 ^ 64 → IsWord (key ++ decimal n)
 number_word key n first small = keyed_word key (decimal n) first (decimal_word n small)
@@ -178,7 +206,7 @@ synth_tokens names w named ok =
               number_word (codes "chunks=") w.limits.max_c (literal (codes "chunks=") refl) (omega (arith, c)),
               (
                 number_word (codes "conflicts=") w.limits.conflicts (literal (codes "conflicts=") refl) (omega (arith, n)),
-                root_is_word (takes_root w.collective.kind) names w.collective.root named ok.root,
+                words_both (root_words names w) (pruning_words w.limits.pruning) (root_is_word (takes_root w.collective.kind) names w.collective.root named ok.root) (pruning_is_words w.limits.pruning),
               ),
             ),
           ),

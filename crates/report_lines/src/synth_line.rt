@@ -4,7 +4,7 @@ ghost use Rattle.std.specs.Prelude.{◌≡◌, Some, None, if◌then◌else◌, 
 ghost use Rattle.text_lines.specs.Line.{IsIn, row_at};
 ghost use Rattle.text_lines.specs.Check.{line_part, Tells};
 ghost use Rattle.collective_spec.specs.Kinds.{word_of};
-ghost use Rattle.report_form.specs.SynthLine.{asked_line, kind_named, kinds_of, limits_from, root_from};
+ghost use Rattle.report_form.specs.SynthLine.{asked_line, kind_named, kinds_of, limits_from, pruning_from, root_from};
 ghost use Rattle.report_form.specs.Fields.{next_keyed};
 ghost use Rattle.report_form.specs.Tests.{are_limits};
 ghost use Rattle.report_lines.specs.Gives.{TellsAt};
@@ -14,11 +14,17 @@ ghost use Rattle.report_lines.specs.Spelled.{AreNumbers, asked_value, limits_of}
 use crate::digits::{keyed_digits, number_in};
 use crate::fields::{fixed_word, next_name, next_value, no_more};
 use crate::lines::{next_line, tokens_on};
-use candidate_order::{Limits, MAX_CHUNKS, MAX_CONFLICTS, MAX_K, MAX_STEPS};
+use candidate_order::{Limits, MAX_CHUNKS, MAX_CONFLICTS, MAX_K, MAX_STEPS, Pruning};
 use collective_spec::{Kind, is_custom, takes_root};
 use report_form::{ReportCode, ReportFault};
 use text_lines::{Line, Lines, Tokens};
 use topology_text::Name;
+
+/// The word for leaving out what a set of nodes refutes.
+const CUTS: &[u8] = b"cuts=yes";
+
+/// The word for leaving out schedules that are not in order.
+const ORDERED: &[u8] = b"ordered=yes";
 
 /// The numbers of the search, as they are spelled.
 #[derive(Clone, Copy)]
@@ -129,7 +135,40 @@ fn root_of(tokens: &mut Tokens<'_>, kind: Kind) -> Result<Option<Name>, ReportCo
     }
 }
 
-/// The numbers, where each is in its range.
+/// Takes the words for what may be left out, each where it stands, and then no other token.
+fn pruning_of(tokens: &mut Tokens<'_>) -> Result<Pruning, ReportCode>
+    ensures { Tells (λ pruning. pruning) result (pruning_from tokens.old.words) }
+{
+    let Some(first) = tokens.next_word() else {
+        return Ok(Pruning::none());
+    };
+    if first != CUTS {
+        if first != ORDERED {
+            return Err(ReportCode::BadLine);
+        }
+        no_more(tokens)?;
+        return Ok(Pruning {
+            cuts: false,
+            ordered: true,
+        });
+    }
+    let Some(second) = tokens.next_word() else {
+        return Ok(Pruning {
+            cuts: true,
+            ordered: false,
+        });
+    };
+    if second != ORDERED {
+        return Err(ReportCode::BadLine);
+    }
+    no_more(tokens)?;
+    Ok(Pruning {
+        cuts: true,
+        ordered: true,
+    })
+}
+
+/// The numbers, where each is in its range. Nothing is left out.
 fn limits_in(spelled: &SpelledLimits<'_>) -> Option<Limits>
     requires { AreNumbers spelled.now }
     ensures { result ≡ (if are_limits (limits_of spelled.now) then Some (limits_of spelled.now) else None) }
@@ -151,14 +190,18 @@ fn asked_on(text: &[u8], line: Line, patterned: bool) -> Result<Asked, ReportCod
     let kind = next_kind(&mut tokens, b"collective=", patterned)?;
     let spelled = limits_of(&mut tokens)?;
     let root = root_of(&mut tokens, kind)?;
-    no_more(&mut tokens)?;
+    let pruning = pruning_of(&mut tokens)?;
     let Some(limits) = limits_in(&spelled) else {
         return Err(ReportCode::Limits);
     };
     if patterned && !is_custom(kind) {
         return Err(ReportCode::Limits);
     }
-    Ok(Asked { kind, limits, root })
+    Ok(Asked {
+        kind,
+        limits: limits.with_pruning(pruning),
+        root,
+    })
 }
 
 /// Takes the line that says what was asked.

@@ -12,7 +12,7 @@ use Rattle.text_lines.proofs.Words.{join_fields}
 use Rattle.topology_text.specs.Spelling.{lines_of, spelling, version_word}
 use Rattle.report_form.specs.Reports.{ReportValue, WordsValue}
 use Rattle.report_form.specs.Reading.{part_bytes}
-use Rattle.report_form.specs.Spelling.{root_words, part_words, point_lines, refuted_words, unknown_words, frontier_lines, joined_lines, synth_words, report_text}
+use Rattle.report_form.specs.Spelling.{root_words, pruning_words, part_words, point_lines, refuted_words, unknown_words, frontier_lines, joined_lines, synth_words, report_text}
 use Rattle.report_printing.specs.Printed.{frontier_text, limits_text, point_text}
 
 -- a piece, and all behind it
@@ -53,15 +53,24 @@ joined_is names joined = sym (ap (λ t. codes "joined\n" ++ t) (text_each (point
 field_first : (word : List ℕ) (words : List (List ℕ)) (rest : List ℕ) → fields (word ∷ words) ++ rest ≡ (32 ∷ word) ++ (fields words ++ rest)
 field_first word words rest = append_assoc (32 ∷ word) (fields words) rest
 
+-- the fields of one list of words, and then those of another
+fields_both : (a b : List (List ℕ)) → fields (a ++ b) ≡ fields a ++ fields b
+fields_both [] b = refl
+fields_both (x ∷ xs) b = ap (λ t. (32 ∷ x) ++ t) (fields_both xs b) ∙ sym (append_assoc (32 ∷ x) (fields xs) (fields b))
+
+-- the words of the root and of what may be left out, and the end of the line
+last_is : (a b : List (List ℕ)) (end : List ℕ) → fields a ++ (fields b ++ end) ≡ fields (a ++ b) ++ end
+last_is a b end = sym (ap (λ t. t ++ end) (fields_both a b) ∙ append_assoc (fields a) (fields b) end)
+
 -- the line of what was asked, with its keys side by side
-pub asked_is : (names : List (List ℕ)) (w : WordsValue) → codes "synth collective=" ++ (word_of w.collective.kind ++ (limits_text w.limits ++ (fields (root_words names w) ++ codes "\n"))) ≡ line (synth_words names w)
+pub asked_is : (names : List (List ℕ)) (w : WordsValue) → codes "synth collective=" ++ (word_of w.collective.kind ++ (limits_text w.limits ++ (fields (root_words names w) ++ (fields (pruning_words w.limits.pruning) ++ codes "\n")))) ≡ line (synth_words names w)
 asked_is names w =
     let k : List ℕ = codes " k=" ++ decimal w.limits.k in
     let s : List ℕ = codes " steps=" ++ decimal w.limits.max_s in
     let c : List ℕ = codes " chunks=" ++ decimal w.limits.max_c in
     let f : List ℕ = codes " conflicts=" ++ decimal w.limits.conflicts in
     let kind : List ℕ = codes "collective=" ++ word_of w.collective.kind in
-    let roots : List (List ℕ) = root_words names w in
+    let roots : List (List ℕ) = root_words names w ++ pruning_words w.limits.pruning in
     let end : List ℕ = codes "\n" in
     let rest : List ℕ = fields roots ++ end in
     let w2 : List (List ℕ) = (codes "k=" ++ decimal w.limits.k) ∷ (codes "steps=" ++ decimal w.limits.max_s) ∷ (codes "chunks=" ++ decimal w.limits.max_c) ∷ (codes "conflicts=" ++ decimal w.limits.conflicts) ∷ roots in
@@ -76,7 +85,8 @@ asked_is names w =
     append_assoc k (s ++ (c ++ f)) rest ∙ (ap (λ t. k ++ t) (append_assoc s (c ++ f) rest) ∙ ap (λ t. k ++ (s ++ t)) (append_assoc c f rest)) in
     let one : fields (kind ∷ w2) ++ end ≡ (32 ∷ kind) ++ (limits_text w.limits ++ rest) = field_first kind w2 end ∙ ap (λ t. (32 ∷ kind) ++ t) (two ∙ sym numbers) in
     let split : (32 ∷ kind) ++ (limits_text w.limits ++ rest) ≡ codes " collective=" ++ (word_of w.collective.kind ++ (limits_text w.limits ++ rest)) = append_assoc (codes " collective=") (word_of w.collective.kind) (limits_text w.limits ++ rest) in
-    ap (λ t. codes "synth" ++ t) (sym (one ∙ split)) ∙ line_is (codes "synth") (kind ∷ w2)
+    ap (λ t. codes "synth collective=" ++ (word_of w.collective.kind ++ (limits_text w.limits ++ t))) (last_is (root_words names w) (pruning_words w.limits.pruning) end)
+    ∙ ap (λ t. codes "synth" ++ t) (sym (one ∙ split)) ∙ line_is (codes "synth") (kind ∷ w2)
 
 pub report_is : (r : ReportValue) → line (codes "sccl" ∷ version_word r.topology.custom ∷ []) ++ (line (synth_words r.topology.names r.words) ++ (spelling r.topology ++ (flat_map (frontier_text r.topology.names) r.frontiers ++ (text_of (joined_lines r.topology.names r.words.collective.kind r.joined) ++ codes "end\n")))) ≡ report_text r
 unfolding report_text spelling

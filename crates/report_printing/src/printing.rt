@@ -4,10 +4,10 @@ ghost use Rattle.std.specs.Prelude.{◌≡◌, ◌++◌, ◌∷◌, [], codes, d
 ghost use Rattle.std.specs.List.{flat_map};
 ghost use Rattle.text_lines.specs.Text.{line, text_of, fields};
 ghost use Rattle.topology_text.specs.Spelling.{version_word};
-ghost use Rattle.report_form.specs.Spelling.{candidate_words, joined_lines, mark_words, point_words, refuted_words, report_text, root_words, rounds_words, send_words, synth_words, unknown_words};
+ghost use Rattle.report_form.specs.Spelling.{candidate_words, joined_lines, mark_words, point_words, pruning_words, refuted_words, report_text, root_words, rounds_words, send_words, synth_words, unknown_words};
 ghost use Rattle.report_printing.specs.Printed.{frontier_text, limits_text, point_text};
 
-use candidate_order::{Candidate, Frontier, Limits, Mark, Point, Unknown};
+use candidate_order::{Candidate, Frontier, Limits, Mark, Point, Pruning, Unknown};
 use collective_spec::{Kind, takes_root};
 use outer_ports::Part;
 use report_form::{Report, Words, part_bytes};
@@ -225,6 +225,18 @@ fn push_root(out: &mut Vec<u8>, names: &[Name], words: Words) -> Result<(), Allo
     Ok(())
 }
 
+fn push_pruning(out: &mut Vec<u8>, pruning: Pruning) -> Result<(), AllocError>
+    ensures { OnOk result (out.new.items ≡ out.old.items ++ fields (pruning_words pruning)) }
+{
+    if pruning.cuts {
+        push_word(out, b" cuts=yes")?;
+    }
+    if pruning.ordered {
+        push_word(out, b" ordered=yes")?;
+    }
+    Ok(())
+}
+
 /// Appends the line of what was asked: `synth`, and each key with its value, nodes by their names.
 /// An `Err` comes only where memory runs out.
 pub fn push_synth_line(out: &mut Vec<u8>, names: &[Name], words: Words) -> Result<(), AllocError>
@@ -234,6 +246,7 @@ pub fn push_synth_line(out: &mut Vec<u8>, names: &[Name], words: Words) -> Resul
     push_word(out, words.collective().kind.word().as_bytes())?;
     push_limits(out, words.limits())?;
     push_root(out, names, words)?;
+    push_pruning(out, words.limits().pruning())?;
     push_word(out, b"\n")?;
     Ok(())
 }

@@ -1,17 +1,19 @@
 -- Where the search of a part breaks off, so does that of the report.
-use Rattle.std.proofs.Common.{◌≡◌, Contains, refl, sym, ap, subst}
+use Rattle.std.proofs.Common.{◌≡◌, false, Contains, Result, IfOk, refl, sym, ap, subst}
 use Rattle.outer_ports.specs.declared.part.Part.{Part}
 use Rattle.outer_ports.specs.Files.{Files}
 use Rattle.schedule.specs.Links.{TopologyValue}
 use Rattle.collective_spec.specs.declared.spec.Spec.{Spec}
 use Rattle.candidate_order.specs.Ranges.{LimitsValue}
-use Rattle.candidate_order.specs.Frontiers.{IsWithin, QuestionValue}
+use Rattle.candidate_order.specs.Frontiers.{FrontierValue, IsWithin, QuestionValue}
 use Rattle.candidate_formula.specs.Formulas.{formula_for}
 use Rattle.candidate_formula.specs.Files.{candidate_of}
+use Rattle.candidate_formula.specs.Pruned.{is_cut_away}
 use Rattle.candidate_formula.proofs.BegunFiles.{begun_weaker}
 use Rattle.topology_text.specs.Value.{NamedTopologyValue}
 use Rattle.report_form.specs.Reports.{WordsValue, parts_of, question_of}
-use Rattle.frontier_audit.specs.OwedFiles.{BreaksOff}
+use Rattle.engine_rules.specs.declared.fault.EngineFault.{EngineFault}
+use Rattle.frontier_audit.specs.OwedFiles.{BreaksOff, KeepsPart}
 use Rattle.report_search.specs.Shelved.{MayHaveBegun}
 
 module _ (w : WordsValue) (t : NamedTopologyValue) where
@@ -20,7 +22,10 @@ module _ (w : WordsValue) (t : NamedTopologyValue) where
       begun_weaker (λ name of. (
         (
           subst (Contains (parts_of w.collective.kind)) (sym of.0) among,
-          subst (λ p. IsWithin (question_of w t p) (candidate_of name)) (sym of.0) of.1,
+          (
+            subst (λ p. IsWithin (question_of w t p) (candidate_of name)) (sym of.0) of.1.0,
+            subst (λ p. is_cut_away (question_of w t p) (candidate_of name) ≡ false) (sym of.0) of.1.1,
+          ),
         ),
         ap (λ p. formula_for (question_of w t p) (candidate_of name)) (sym of.0),
       )) may
@@ -32,3 +37,10 @@ module _ (w : WordsValue) (t : NamedTopologyValue) where
       let asked : QuestionValue = record { topology = links; spec = spec; limits = limits } in
       let same : asked ≡ question_of w t part = rw (over, is, within) refl in
       breaks_off part before after among (subst (λ q. MayHaveBegun part q before after) same may)
+
+  pub keeps_for : (part : Part) (links : TopologyValue) (spec : Spec) (limits : LimitsValue) (before after : Files) (r : Result FrontierValue EngineFault) → links ≡ t.topology → spec ≡ (question_of w t part).spec → limits ≡ w.limits
+      → IfOk r (λ f. KeepsPart part (record { topology = links; spec = spec; limits = limits }) f before after) → IfOk r (λ f. KeepsPart part (question_of w t part) f before after)
+  keeps_for part links spec limits before after r over is within keeps =
+      let asked : QuestionValue = record { topology = links; spec = spec; limits = limits } in
+      let same : asked ≡ question_of w t part = rw (over, is, within) refl in
+      subst (λ q. IfOk r (λ f. KeepsPart part q f before after)) same keeps

@@ -3,23 +3,26 @@ use Rattle.std.proofs.Common.{◌≡◌, List, [], ◌∷◌, All, refl, sym, ap
 use Rattle.std.proofs.lemmas.List.Elements.{All-cons, All-nil}
 use Rattle.outer_ports.specs.declared.part.Part.{Part}
 use Rattle.outer_ports.specs.declared.part.Part.TheVariants.{Reduce, Gather}
+use Rattle.outer_ports.specs.declared.proof_name.FileKind.TheVariants.{Cnf, Lrat}
 use Rattle.outer_ports.specs.declared.proof_name.ProofName.{ProofName}
 use Rattle.outer_ports.specs.Files.{Files}
 use Rattle.collective_spec.specs.declared.kind.Kind.TheVariants as kind
-use Rattle.candidate_order.specs.Frontiers.{FrontierValue, PointValue, IsTried}
-use Rattle.candidate_formula.specs.Files.{candidate_of, FrontierFiles}
+use Rattle.candidate_order.specs.Frontiers.{FrontierValue, PointValue}
+use Rattle.candidate_formula.specs.Files.{candidate_of, file_of, FrontierFiles}
+use Rattle.candidate_formula.specs.Pruned.{HasOwnFiles}
 use Rattle.topology_text.specs.Value.{NamedTopologyValue}
 use Rattle.report_form.specs.Reports.{WordsValue, ReportValue, IsFrontier, IsReport, question_of}
-use Rattle.frontier_audit.specs.Rights.{IsExhaustedPart, IsRight, IsRightPart, IsSearched, IsSearchedPart}
-use Rattle.frontier_audit.specs.OwedFiles.{IsOf, Proves}
+use Rattle.frontier_audit.specs.Rights.{IsExhaustedPart, IsRight, IsRightPart, IsSearched, IsSearchedPart, IsSuitedPart, IsUncutPart}
+use Rattle.frontier_audit.specs.OwedFiles.{IsOf, KeepsPart, KeepsProofs, Proves, StaysRefuted}
 use Rattle.frontier_audit.specs.Searches.{IsAsked}
 use Rattle.engine_search.specs.Found.{IsFound}
-use Rattle.report_search.specs.Shelved.{IsShelved}
+use Rattle.report_search.specs.Shelved.{IsShelved, IsUncut}
 use Rattle.report_search.specs.inner.Reporting.{both_report, joins_of}
 use Rattle.report_search.proofs.PartQuestions.{two_parts}
 use Rattle.report_search.proofs.Valid.{valid_frontier}
 use Rattle.report_search.proofs.JoinedPoints.{joined_points, joins_are}
 use Rattle.report_search.proofs.Staying.{files_stay}
+use Rattle.report_search.proofs.Keeping.{refutes_alike}
 
 module _ (w : WordsValue) (t : NamedTopologyValue) (f g : FrontierValue) where
   abbrev report : ReportValue
@@ -56,25 +59,51 @@ module _ (w : WordsValue) (t : NamedTopologyValue) (f g : FrontierValue) where
       joined = joins_are w t asked is f g found found_too;
     })
 
-    pub both_searched : (r : ReportValue) → r ≡ report → IsSearched r
-    both_searched r same = subst IsSearched (sym same) (record {
+    pub both_searched : (r : ReportValue) → r ≡ report → IsUncut (question_of w t Reduce) f → IsUncut (question_of w t Gather) g → IsSearched r
+    both_searched r same uncut uncut_too = subst IsSearched (sym same) (record {
       parts = two (IsSearchedPart report) found.searched found_too.searched;
       exhausted = two (IsExhaustedPart report) found.exhausted found_too.exhausted;
+      uncut = two (IsUncutPart report) uncut uncut_too;
+      suited = two (IsSuitedPart report) found.suited found_too.suited;
     })
 
   -- ---- its files
 
-  of_first : (name : ProofName) → (name.part ≡ Reduce) × IsTried f (candidate_of name) → IsOf report name
-  of_first name tried = (0, (Reduce, f), omega arith, refl, (sym tried.0, tried.1))
+  of_first : (name : ProofName) → (name.part ≡ Reduce) × HasOwnFiles (question_of w t Reduce) f (candidate_of name) → IsOf report name
+  of_first name mine = (0, (Reduce, f), omega arith, refl, (sym mine.0, mine.1))
 
-  of_second : (name : ProofName) → (name.part ≡ Gather) × IsTried g (candidate_of name) → IsOf report name
-  of_second name tried = (1, (Gather, g), omega arith, refl, (sym tried.0, tried.1))
+  of_second : (name : ProofName) → (name.part ≡ Gather) × HasOwnFiles (question_of w t Gather) g (candidate_of name) → IsOf report name
+  of_second name mine = (1, (Gather, g), omega arith, refl, (sym mine.0, mine.1))
 
   pub both_prove : (r : ReportValue) (before middle after : Files) → r ≡ report → IsShelved Reduce (question_of w t Reduce) f before middle → IsShelved Gather (question_of w t Gather) g middle after → Proves r before after
   both_prove r before middle after same first second = subst (λ x. Proves x before after) (sym same) (record {
     files = two (λ x. FrontierFiles x.0 (question_of w t x.0) after x.1) (files_stay Reduce (question_of w t Reduce) middle after stay f first.files) second.files;
-    others = λ name other. second.others name (λ tried. other (of_second name tried)) ∙ first.others name (λ tried. other (of_first name tried));
+    others = λ name other. second.others name (λ mine. other (of_second name mine)) ∙ first.others name (λ mine. other (of_first name mine));
   })
     where
       stay : (name : ProofName) → name.part ≡ Reduce → after name ≡ middle name
-      stay name reduces = second.others name (λ tried. let both : Gather ≡ Reduce = sym tried.0 ∙ reduces in absurd cc)
+      stay name reduces = second.others name (λ mine. let both : Gather ≡ Reduce = sym mine.0 ∙ reduces in absurd cc)
+
+  -- what refuted before the search of a part refutes behind the search of both
+  pub both_keep : (r : ReportValue) (before middle after : Files) → r ≡ report → IsShelved Reduce (question_of w t Reduce) f before middle → IsShelved Gather (question_of w t Gather) g middle after
+      → KeepsPart Reduce (question_of w t Reduce) f before middle → KeepsPart Gather (question_of w t Gather) g middle after → KeepsProofs r before after
+  both_keep r before middle after same first second keeps keeps_too = subst (λ x. KeepsProofs x before after) (sym same) (two Keeps reduced gathered)
+    where
+      Keeps : Part × FrontierValue → Type 0
+      Keeps x = KeepsPart x.0 (question_of w t x.0) x.1 before after
+
+      later : (name : ProofName) → name.part ≡ Reduce → after name ≡ middle name
+      later name reduces = second.others name (λ mine. let both : Gather ≡ Reduce = sym mine.0 ∙ reduces in absurd cc)
+
+      sooner : (name : ProofName) → name.part ≡ Gather → middle name ≡ before name
+      sooner name gathers = first.others name (λ mine. let both : Reduce ≡ Gather = sym mine.0 ∙ gathers in absurd cc)
+
+      reduced : KeepsPart Reduce (question_of w t Reduce) f before after
+      reduced x mine has =
+          let kept = keeps x mine has in
+          record { refuted = kept.refuted; formula = later (file_of Cnf Reduce x) refl ∙ kept.formula; proof = later (file_of Lrat Reduce x) refl ∙ kept.proof }
+
+      gathered : KeepsPart Gather (question_of w t Gather) g before after
+      gathered x mine has =
+          let kept = keeps_too x mine (refutes_alike Gather (question_of w t Gather) (question_of w t Gather) before middle x refl (λ k. sooner (file_of k Gather x) refl) has) in
+          record { refuted = kept.refuted; formula = kept.formula ∙ sooner (file_of Cnf Gather x) refl; proof = kept.proof ∙ sooner (file_of Lrat Gather x) refl }

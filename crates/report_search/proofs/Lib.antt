@@ -1,4 +1,6 @@
 pub mod Recorded
+pub mod Uncut
+pub mod Keeping
 pub mod PartQuestions
 pub mod Beginning
 pub mod Valid

@@ -6,15 +6,16 @@ use Rattle.outer_ports.specs.declared.part.Part.TheVariants.{Whole, Joined}
 use Rattle.outer_ports.specs.declared.proof_name.ProofName.{ProofName}
 use Rattle.outer_ports.specs.Files.{Files}
 use Rattle.collective_spec.specs.declared.kind.Kind.TheVariants as kind
-use Rattle.candidate_order.specs.Frontiers.{FrontierValue, IsTried}
+use Rattle.candidate_order.specs.Frontiers.{FrontierValue}
 use Rattle.candidate_formula.specs.Files.{candidate_of, FrontierFiles}
+use Rattle.candidate_formula.specs.Pruned.{HasOwnFiles}
 use Rattle.topology_text.specs.Value.{NamedTopologyValue}
 use Rattle.report_form.specs.Reports.{WordsValue, ReportValue, IsFrontier, IsReport, IsJoinedPoint, question_of, whole_report}
-use Rattle.frontier_audit.specs.Rights.{IsExhaustedPart, IsRight, IsRightPart, IsSearched, IsSearchedPart}
-use Rattle.frontier_audit.specs.OwedFiles.{IsOf, Proves}
+use Rattle.frontier_audit.specs.Rights.{IsExhaustedPart, IsRight, IsRightPart, IsSearched, IsSearchedPart, IsSuitedPart, IsUncutPart}
+use Rattle.frontier_audit.specs.OwedFiles.{IsOf, KeepsPart, KeepsProofs, Proves}
 use Rattle.frontier_audit.specs.Searches.{IsAsked}
 use Rattle.engine_search.specs.Found.{IsFound}
-use Rattle.report_search.specs.Shelved.{IsShelved}
+use Rattle.report_search.specs.Shelved.{IsShelved, IsUncut}
 use Rattle.report_search.proofs.PartQuestions.{one_part}
 use Rattle.report_search.proofs.Valid.{valid_frontier}
 
@@ -43,22 +44,30 @@ module _ (w : WordsValue) (t : NamedTopologyValue) (f : FrontierValue) where
     joined = refl;
   })
 
-  pub whole_searched : (r : ReportValue) → r ≡ report → IsFound (question_of w t Whole) f → IsSearched r
-  whole_searched r is found = subst IsSearched (sym is) (record {
+  pub whole_searched : (r : ReportValue) → r ≡ report → IsFound (question_of w t Whole) f → IsUncut (question_of w t Whole) f → IsSearched r
+  whole_searched r is found uncut = subst IsSearched (sym is) (record {
     parts = All-cons (IsSearchedPart report) (Whole, f) [] found.searched (All-nil (IsSearchedPart report));
     exhausted = All-cons (IsExhaustedPart report) (Whole, f) [] found.exhausted (All-nil (IsExhaustedPart report));
+    uncut = All-cons (IsUncutPart report) (Whole, f) [] uncut (All-nil (IsUncutPart report));
+    suited = All-cons (IsSuitedPart report) (Whole, f) [] found.suited (All-nil (IsSuitedPart report));
   })
 
   -- ---- its files
 
-  of_report : (name : ProofName) → (name.part ≡ Whole) × IsTried f (candidate_of name) → IsOf report name
-  of_report name tried = (0, (Whole, f), omega arith, refl, (sym tried.0, tried.1))
+  of_report : (name : ProofName) → (name.part ≡ Whole) × HasOwnFiles (question_of w t Whole) f (candidate_of name) → IsOf report name
+  of_report name mine = (0, (Whole, f), omega arith, refl, (sym mine.0, mine.1))
 
   pub whole_proves : (r : ReportValue) (before after : Files) → r ≡ report → IsShelved Whole (question_of w t Whole) f before after → Proves r before after
   whole_proves r before after is shelved = subst (λ x. Proves x before after) (sym is) (record {
     files = All-cons HasFiles (Whole, f) [] shelved.files (All-nil HasFiles);
-    others = λ name other. shelved.others name (λ tried. other (of_report name tried));
+    others = λ name other. shelved.others name (λ mine. other (of_report name mine));
   })
     where
       HasFiles : Part × FrontierValue → Type 0
       HasFiles x = FrontierFiles x.0 (question_of w t x.0) after x.1
+
+  pub whole_keeps : (r : ReportValue) (before after : Files) → r ≡ report → KeepsPart Whole (question_of w t Whole) f before after → KeepsProofs r before after
+  whole_keeps r before after is keeps = subst (λ x. KeepsProofs x before after) (sym is) (All-cons Keeps (Whole, f) [] keeps (All-nil Keeps))
+    where
+      Keeps : Part × FrontierValue → Type 0
+      Keeps x = KeepsPart x.0 (question_of w t x.0) x.1 before after

@@ -1,8 +1,8 @@
 //! The search of a whole report.
 
-ghost use Rattle.std.specs.Prelude.{◌≡◌, IfOk, IsTrue};
+ghost use Rattle.std.specs.Prelude.{◌≡◌, true, IfOk, IsTrue};
 ghost use Rattle.outer_ports.specs.Port.{HasCause, Tells};
-ghost use Rattle.frontier_audit.specs.OwedFiles.{BreaksOff, Proves};
+ghost use Rattle.frontier_audit.specs.OwedFiles.{BreaksOff, KeepsProofs, Proves};
 ghost use Rattle.frontier_audit.specs.Rights.{IsRight, IsSearched};
 ghost use Rattle.frontier_audit.specs.Searches.{IsAsked};
 
@@ -17,7 +17,9 @@ use topology_text::NamedTopology;
 
 /// The report of what the words ask on the topology: a frontier for each part of the collective,
 /// and for an allreduce the joins of its two parts. Where the limits allow no chunk count, a
-/// frontier is empty. With `checked` a checker sees each proof line before it is kept.
+/// frontier is empty. With `checked` a checker sees each proof line before it is kept. What the words
+/// ask to be cut away is refuted without a file; with `kept` a candidate that its files refute
+/// already is not searched, and these files stay.
 ///
 /// The files that prove the report stand on the shelf then, and no other has changed. Where the
 /// search breaks off, it has begun some. [`EngineFault::ShelfFailed`] comes only where the shelf's
@@ -27,6 +29,7 @@ pub fn search_report<H: Shelf>(
     words: Words,
     topology: NamedTopology,
     checked: bool,
+    kept: bool,
     shelf: &mut H,
 ) -> Result<Report, EngineFault>
     requires { IsAsked words topology }
@@ -36,11 +39,12 @@ pub fn search_report<H: Shelf>(
     ensures searched { IfOk result IsSearched }
     ensures told { Tells (H.tells shelf.old) (H.tells shelf.new) }
     ensures proves { IsTrue (H.tells shelf.new) → IfOk result (λ r. Proves r (H.file shelf.old) (H.file shelf.new)) }
+    ensures keeps { kept ≡ true → IsTrue (H.tells shelf.new) → IfOk result (λ r. KeepsProofs r (H.file shelf.old) (H.file shelf.new)) }
     ensures begun { IsTrue (H.tells shelf.new) → BreaksOff words topology (H.file shelf.old) (H.file shelf.new) }
     ensures cause { HasCause EngineFault.ShelfFailed (H.faults shelf.old) (H.faults shelf.new) result }
 {
     if words.collective().kind == Kind::Allreduce {
-        return search_both(alloc, words, topology, checked, shelf);
+        return search_both(alloc, words, topology, checked, kept, shelf);
     }
-    search_whole(alloc, words, topology, checked, shelf)
+    search_whole(alloc, words, topology, checked, kept, shelf)
 }

@@ -1,9 +1,9 @@
 //! The report of a collective that is searched in one part.
 
-ghost use Rattle.std.specs.Prelude.{◌≡◌, ◌≢◌, IfOk, IsTrue};
+ghost use Rattle.std.specs.Prelude.{◌≡◌, ◌≢◌, true, IfOk, IsTrue};
 ghost use Rattle.outer_ports.specs.Port.{HasCause, Tells};
 ghost use Rattle.report_form.specs.Reports.{question_of, whole_report};
-ghost use Rattle.frontier_audit.specs.OwedFiles.{BreaksOff, Proves};
+ghost use Rattle.frontier_audit.specs.OwedFiles.{BreaksOff, KeepsProofs, Proves};
 ghost use Rattle.frontier_audit.specs.Rights.{IsRight, IsSearched};
 ghost use Rattle.frontier_audit.specs.Searches.{IsAsked};
 ghost use Rattle.engine_search.specs.Found.{IsFound};
@@ -41,6 +41,7 @@ pub(crate) fn search_whole<H: Shelf>(
     words: Words,
     topology: NamedTopology,
     checked: bool,
+    kept: bool,
     shelf: &mut H,
 ) -> Result<Report, EngineFault>
     requires asked { IsAsked words topology }
@@ -51,10 +52,11 @@ pub(crate) fn search_whole<H: Shelf>(
     ensures searched { IfOk result IsSearched }
     ensures told { Tells (H.tells shelf.old) (H.tells shelf.new) }
     ensures proves { IsTrue (H.tells shelf.new) → IfOk result (λ r. Proves r (H.file shelf.old) (H.file shelf.new)) }
+    ensures keeps { kept ≡ true → IsTrue (H.tells shelf.new) → IfOk result (λ r. KeepsProofs r (H.file shelf.old) (H.file shelf.new)) }
     ensures begun { IsTrue (H.tells shelf.new) → BreaksOff words topology (H.file shelf.old) (H.file shelf.new) }
     ensures cause { HasCause EngineFault.ShelfFailed (H.faults shelf.old) (H.faults shelf.new) result }
 {
-    let frontier = part_frontier(alloc, words, &topology, Part::Whole, checked, shelf)?;
+    let frontier = part_frontier(alloc, words, &topology, Part::Whole, checked, kept, shelf)?;
     let report = report_of(alloc, words, topology, frontier)?;
     Ok(report)
 }

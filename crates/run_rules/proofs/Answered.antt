@@ -38,9 +38,9 @@ written_as due words text is e = λ files stay. subst (λ d. IsAnswer d files Do
 pub nothing_left_off : (due : Result Task Refusal) (before after : Files) → FilesStay before after → LeavesOff due before after
 nothing_left_off (Err r) before after stay = stay
 nothing_left_off (Ok (Write text)) before after stay = stay
-nothing_left_off (Ok (Synthesise w t)) before after stay = record { each = λ name. inl (stay name) }
+nothing_left_off (Ok (Synthesise w t kept)) before after stay = record { each = λ name. inl (stay name) }
 nothing_left_off (Ok (Audit r)) before after stay = stay
 nothing_left_off (Ok (Try n)) before after stay = stay
-nothing_left_off (Ok (Bound w t)) before after stay = record { each = λ name. inl (stay name) }
+nothing_left_off (Ok (Bound w t sets)) before after stay = record { each = λ name. inl (stay name) }
 nothing_left_off (Ok (Order w t)) before after stay = stay
 nothing_left_off (Ok (Degrade r group width)) before after stay = stay

@@ -37,7 +37,7 @@ use Rattle.run_rules.specs.Statuses.{number_of}
 use Rattle.command_words.specs.declared.fault.WordCode.TheVariants.{KeyMissing}
 use Rattle.run_rules.specs.Refusals.{Refusal, refused_as, refused_word}
 use Rattle.run_rules.specs.Commands.{IsOneOf, answers_of, row_of, search_row, unkept_row, check_row, fault_row, json_row, point_row, unjson_row}
-use Rattle.run_rules.specs.Tasks.{Task, Write, Synthesise, Audit, Try, Bound, Order, Degrade, audit_in, degrade_in, fault_in, is_allreduce, json_programs_in, point_in, programs_in, programs_value, read_report, replay_in, root_in, search_asked, searchable, task_of, whole_question, words_for}
+use Rattle.run_rules.specs.Tasks.{Task, Write, Synthesise, Audit, Try, Bound, Order, Degrade, audit_in, degrade_in, fault_in, given_sets, is_allreduce, json_programs_in, point_in, programs_in, programs_value, read_report, replay_in, root_in, search_asked, searchable, task_of, whole_question, words_for}
 use Rattle.run_rules.specs.Audits.{audited, not_denied, verdict_status}
 use Rattle.run_rules.specs.Said.{FilesValue}
 use Rattle.run_rules.specs.Answers.{IsAnswer}
@@ -93,7 +93,7 @@ module _ (P : Status → Type 0) where
 -- ---- command by command
 
 refused_in_row : (c : Command) (bytes : List ℕ) → With (IsOneOf (row_of c).refusals) (task_of c bytes)
-refused_in_row (command.Synth kind word limits root) bytes =
+refused_in_row (command.Synth kind word limits root kept) bytes =
     let P : Status → Type 0 = IsOneOf search_row.refusals in
     bind P _ _ (sought P refl refl refl refl (record { kind = kind; kind_word = word; limits = limits; root = root }) bytes) (λ _. tt)
 refused_in_row command.Check bytes =
@@ -107,7 +107,7 @@ refused_in_row (command.Programs number word) bytes =
     bind P _ _ (reported P refl bytes) (λ r. bind P _ _ (pointed P refl r (record { point = number; word = word })) (λ _. tt))
 refused_in_row (command.Family kind size) bytes = tt
 refused_in_row (command.Trial n) bytes = tt
-refused_in_row (command.Bound kind word limits root) bytes =
+refused_in_row (command.Bound kind word limits root all_sets) bytes =
     let P : Status → Type 0 = IsOneOf search_row.refusals in
     bind P _ _ (sought P refl refl refl refl (record { kind = kind; kind_word = word; limits = limits; root = root }) bytes) (λ _. tt)
 refused_in_row (command.Ordered kind word limits root) bytes =
@@ -150,8 +150,8 @@ behind P (Ok a) f g = g a
 behind P (Err r) f g = tt
 
 denied_in_row : (c : Command) (bytes : List ℕ) → MayDeny (IsOneOf (row_of c).refusals) (task_of c bytes)
-denied_in_row (command.Synth kind word limits root) bytes =
-    behind (IsOneOf search_row.refusals) (search_asked (record { kind = kind; kind_word = word; limits = limits; root = root }) bytes) (λ s. Ok (Synthesise s.0 s.1)) (λ _. tt)
+denied_in_row (command.Synth kind word limits root kept) bytes =
+    behind (IsOneOf search_row.refusals) (search_asked (record { kind = kind; kind_word = word; limits = limits; root = root }) bytes) (λ s. Ok (Synthesise s.0 s.1 kept)) (λ _. tt)
 denied_in_row command.Check bytes =
     let P : Status → Type 0 = IsOneOf check_row.refusals in
     behind P (read_report bytes) audit_in (λ r. behind P (searchable (whole_question r.words r.topology)) (λ _. Ok (Audit r)) (λ _. refl))
@@ -165,8 +165,8 @@ denied_in_row (command.Programs number word) bytes =
     behind P (read_report bytes) (λ r. programs_in r asked) (λ r. behind P (point_in r asked) (λ p. Ok (Write (programs_of_point r number p))) (λ _. tt))
 denied_in_row (command.Family kind size) bytes = tt
 denied_in_row (command.Trial n) bytes = tt
-denied_in_row (command.Bound kind word limits root) bytes =
-    behind (IsOneOf search_row.refusals) (search_asked (record { kind = kind; kind_word = word; limits = limits; root = root }) bytes) (λ s. Ok (Bound s.0 s.1)) (λ _. tt)
+denied_in_row (command.Bound kind word limits root all_sets) bytes =
+    behind (IsOneOf search_row.refusals) (search_asked (record { kind = kind; kind_word = word; limits = limits; root = root }) bytes) (λ s. Ok (Bound s.0 s.1 (given_sets all_sets))) (λ _. tt)
 denied_in_row (command.Ordered kind word limits root) bytes =
     behind (IsOneOf unkept_row.refusals) (search_asked (record { kind = kind; kind_word = word; limits = limits; root = root }) bytes) (λ s. Ok (Order s.0 s.1)) (λ _. tt)
 denied_in_row (command.Degrade group group_word width width_word) bytes =
@@ -208,11 +208,11 @@ one_more x xs s there = either (number_of x == number_of s)
 answer_ends : (refusals : List Status) (due : Result Task Refusal) (files : FilesValue) (status : Status) (text : List ℕ) → With (IsOneOf refusals) due → MayDeny (IsOneOf refusals) due → IsAnswer due files status text → IsOneOf (Done ∷ refusals) status
 answer_ends refusals (Err r) files status text listed deny answer = subst (IsOneOf (Done ∷ refusals)) (sym answer.says.status) (one_more Done refusals r.status listed)
 answer_ends refusals (Ok (Write words)) files status text listed deny answer = subst (IsOneOf (Done ∷ refusals)) (sym answer.says.status) refl
-answer_ends refusals (Ok (Synthesise w t)) files status text listed deny answer = subst (IsOneOf (Done ∷ refusals)) (sym answer.says.status) refl
+answer_ends refusals (Ok (Synthesise w t kept)) files status text listed deny answer = subst (IsOneOf (Done ∷ refusals)) (sym answer.says.status) refl
 answer_ends refusals (Ok (Audit r)) files status text listed deny answer =
     subst (IsOneOf (Done ∷ refusals)) (sym answer.says.status) (audit_ends (IsOneOf (Done ∷ refusals)) refl (one_more Done refusals Denied deny) r answer.over)
 answer_ends refusals (Ok (Try n)) files status text listed deny answer = subst (IsOneOf (Done ∷ refusals)) (sym answer.done) refl
-answer_ends refusals (Ok (Bound w t)) files status text listed deny answer = subst (IsOneOf (Done ∷ refusals)) (sym answer.says.status) refl
+answer_ends refusals (Ok (Bound w t sets)) files status text listed deny answer = subst (IsOneOf (Done ∷ refusals)) (sym answer.says.status) refl
 answer_ends refusals (Ok (Order w t)) files status text listed deny answer = subst (IsOneOf (Done ∷ refusals)) (sym answer.says.status) refl
 answer_ends refusals (Ok (Degrade r group width)) files status text listed deny answer = by_verdict (audited r answer.over) refl
   where

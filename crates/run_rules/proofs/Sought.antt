@@ -50,17 +50,23 @@ pub no_topology : (asked : SearchWords) (bytes : List ℕ) (code : TopologyCode)
 no_topology asked bytes code line (inl memory) other = absurd (other memory.0)
 no_topology asked bytes code line (inr e) other = ap (λ x. refused_as BadTopology topology_number x >>= search_over asked) e
 
--- ---- the search is of the kind that the words name
+-- ---- the search is that of the words
 
 same_words : (v w : WordsValue) (t s : NamedTopologyValue) → search_for v t ≡ Ok (w, s) → w ≡ v
 same_words v w t s e =
     let can = bind_ok (searchable (whole_question v t)) (λ _. Ok (v, t)) (w, s) e in
     ap (λ (p : WordsValue × NamedTopologyValue). p.0) (sym (ok_is {C = Refusal} (v, t) (w, s) can.2))
 
-pub same_kind : (asked : SearchWords) (bytes : List ℕ) (w : WordsValue) (t : NamedTopologyValue) → search_asked asked bytes ≡ Ok (w, t) → w.collective.kind ≡ asked.kind
-same_kind asked bytes w t e =
+words_asked_for : (asked : SearchWords) (bytes : List ℕ) (w : WordsValue) (t : NamedTopologyValue) → search_asked asked bytes ≡ Ok (w, t) → (root : ℕ) × (w ≡ words_for asked root)
+words_asked_for asked bytes w t e =
     let read = bind_ok (refused_as BadTopology topology_number (topology_of bytes)) (search_over asked) (w, t) e in
     let given = read.0 in
     let fits = bind_ok (fitting asked given) (λ _. over asked given (root_in given.names asked.root)) (w, t) read.2 in
     let rooted = bind_ok (root_in given.names asked.root) (λ n. search_for (words_for asked n) given) (w, t) fits.2 in
-    ap (λ (v : WordsValue). v.collective.kind) (same_words (words_for asked rooted.0) w given t rooted.2)
+    (rooted.0, same_words (words_for asked rooted.0) w given t rooted.2)
+
+pub same_kind : (asked : SearchWords) (bytes : List ℕ) (w : WordsValue) (t : NamedTopologyValue) → search_asked asked bytes ≡ Ok (w, t) → w.collective.kind ≡ asked.kind
+same_kind asked bytes w t e = ap (λ (v : WordsValue). v.collective.kind) (words_asked_for asked bytes w t e).1
+
+pub same_limits : (asked : SearchWords) (bytes : List ℕ) (w : WordsValue) (t : NamedTopologyValue) → search_asked asked bytes ≡ Ok (w, t) → w.limits ≡ asked.limits
+same_limits asked bytes w t e = ap (λ (v : WordsValue). v.limits) (words_asked_for asked bytes w t e).1

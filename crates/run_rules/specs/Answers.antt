@@ -1,12 +1,12 @@
 -- The answer to what is due: its status, its text, and the files that it leaves. This project's own; the synthesis theorem is the case of a search.
-use Rattle.std.specs.Prelude.{◌≡◌, ℕ, IsTrue, List, Result, Ok, Err}
+use Rattle.std.specs.Prelude.{◌≡◌, ℕ, Bool, IsTrue, List, Result, Ok, Err}
 use Rattle.outer_ports.specs.Files.{Files}
 use Rattle.outer_ports.specs.Shelf.{FilesStay}
 use Rattle.topology_text.specs.Value.{NamedTopologyValue}
 use Rattle.report_form.specs.Reports.{WordsValue, ReportValue}
 use Rattle.report_form.specs.Spelling.{report_text}
 use Rattle.frontier_audit.specs.Rights.{HasLogs, IsRight, IsSearched}
-use Rattle.frontier_audit.specs.OwedFiles.{BreaksOff, Proves}
+use Rattle.frontier_audit.specs.OwedFiles.{BreaksOff, KeepsProofs, Proves}
 use Rattle.frontier_audit.specs.Shelves.{ShelfRight}
 use Rattle.run_rules.specs.declared.status.Status.{Status}
 use Rattle.run_rules.specs.declared.status.Status.TheVariants.{Done}
@@ -19,8 +19,8 @@ use Rattle.run_rules.specs.Bounds.{IsBound}
 use Rattle.run_rules.specs.Orders.{IsOrdered}
 use Rattle.run_rules.specs.Degraded.{IsDegraded}
 
--- a search: the text of one report of these words and this topology, which is right and searched in order, and whose proofs the files are; a file that changed is one of its own, and holds the text of the formula, or of lines that are accepted in their turn, or the beginning of such a text
-pub record IsSearch (w : WordsValue) (t : NamedTopologyValue) (files : FilesValue) (status : Status) (text : List ℕ) : Type 0 where
+-- a search: the text of one report of these words and this topology, which is right and searched in order, and whose proofs the files are; where proofs are kept, what its files refuted before is refuted by them still; a file that changed is one of its own, and holds the text of the formula, or of lines that are accepted in their turn, or the beginning of such a text
+pub record IsSearch (w : WordsValue) (t : NamedTopologyValue) (kept : Bool) (files : FilesValue) (status : Status) (text : List ℕ) : Type 0 where
   pub report : ReportValue
   pub words : report.words ≡ w
   pub topology : report.topology ≡ t
@@ -28,6 +28,7 @@ pub record IsSearch (w : WordsValue) (t : NamedTopologyValue) (files : FilesValu
   pub searched : IsSearched report
   pub says : Says Done (report_text report) status text
   pub proves : IsTrue files.told → Proves report files.before files.after
+  pub keeps : IsTrue kept → IsTrue files.told → KeepsProofs report files.before files.after
   pub begun : IsTrue files.told → BreaksOff w t files.before files.after
 
 -- what a verified report is, whoever made it: it is right, there is a spent log of each candidate that it calls unknown, and the files prove it
@@ -54,10 +55,10 @@ pub record IsTrial (n : ℕ) (files : FilesValue) (status : Status) (text : List
 abbrev pub IsAnswer : Result Task Refusal → FilesValue → Status → List ℕ → Type 0
 IsAnswer (Err r) = IsSaid r.status (refusal_line r)
 IsAnswer (Ok (Write text)) = IsSaid Done text
-IsAnswer (Ok (Synthesise w t)) = IsSearch w t
+IsAnswer (Ok (Synthesise w t kept)) = IsSearch w t kept
 IsAnswer (Ok (Audit r)) = IsAudit r
 IsAnswer (Ok (Try n)) = IsTrial n
-IsAnswer (Ok (Bound w t)) = IsBound w t
+IsAnswer (Ok (Bound w t sets)) = IsBound w t sets
 IsAnswer (Ok (Order w t)) = IsOrdered w t
 IsAnswer (Ok (Degrade r group width)) = IsDegraded r group width
 
@@ -69,6 +70,6 @@ IsAnswerAlone due status text = (files : FilesValue) → Stay files → IsAnswer
 
 -- a search has begun files of its own; of all else every file is as before
 abbrev pub LeavesOff : Result Task Refusal → Files → Files → Type 0
-LeavesOff (Ok (Synthesise w t)) before after = BreaksOff w t before after
-LeavesOff (Ok (Bound w t)) before after = BreaksOff w t before after
+LeavesOff (Ok (Synthesise w t kept)) before after = BreaksOff w t before after
+LeavesOff (Ok (Bound w t sets)) before after = BreaksOff w t before after
 LeavesOff _ before after = FilesStay before after

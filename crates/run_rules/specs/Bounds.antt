@@ -14,9 +14,10 @@ use Rattle.node_cuts.specs.declared.floor.Floor.{Floor}
 use Rattle.node_cuts.specs.Cuts.{CutValue}
 use Rattle.node_cuts.specs.Floors.{floor_of}
 use Rattle.node_cuts.specs.Sides.{has_bit}
-use Rattle.cut_bounds.specs.Cutting.{is_cut}
+use Rattle.node_cuts.specs.declared.sets.Sets.{Sets}
+use Rattle.node_cuts.specs.Cutting.{is_cut}
 use Rattle.cut_bounds.specs.Parting.{cuts_among, uncut_among, without_cuts}
-use Rattle.engine_search.specs.Searched.{searched_question}
+use Rattle.candidate_formula.specs.Searched.{searched_question}
 use Rattle.engine_search.specs.Found.{IsFound}
 use Rattle.run_rules.specs.declared.status.Status.{Status}
 use Rattle.run_rules.specs.declared.status.Status.TheVariants.{Done}
@@ -35,24 +36,24 @@ floor_words names floor = codes "floor" ∷ decimal floor.above ∷ decimal floo
 abbrev pub cut_words : List (List ℕ) → Candidate × CutValue → List (List ℕ)
 cut_words names x = codes "cut" ∷ candidate_words x.0 ++ names_in names x.1.nodes
 
--- the cuts and the floor are those of what is searched: of a reduction, over the links turned round
-abbrev pub bound_lines : WordsValue → NamedTopologyValue → FrontierValue → List (List (List ℕ))
-bound_lines w t f =
+-- the cuts and the floor are those of what is searched, by these sets of nodes: of a reduction, over the links turned round
+abbrev pub bound_lines : WordsValue → NamedTopologyValue → Sets → FrontierValue → List (List (List ℕ))
+bound_lines w t sets f =
     let q = searched_question (question_of w t Whole) in
-    (codes "bound" ∷ codes "1" ∷ []) ∷ synth_words t.names w ∷ floor_words t.names (floor_of q.topology q.spec) ∷ part_words Whole
-    ∷ (flat_map (point_lines t.names) f.points ++ (map (cut_words t.names) (cuts_among q f.refuted) ++ (map refuted_words (uncut_among q f.refuted) ++ (map unknown_words f.unknown ++ (codes "end" ∷ []) ∷ []))))
+    (codes "bound" ∷ codes "1" ∷ []) ∷ synth_words t.names w ∷ floor_words t.names (floor_of sets q.topology q.spec) ∷ part_words Whole
+    ∷ (flat_map (point_lines t.names) f.points ++ (map (cut_words t.names) (cuts_among sets q f.refuted) ++ (map refuted_words (uncut_among sets q f.refuted) ++ (map unknown_words f.unknown ++ (codes "end" ∷ []) ∷ []))))
 
-unfoldable pub bound_text : WordsValue → NamedTopologyValue → FrontierValue → List ℕ
-bound_text w t f = text_of (bound_lines w t f)
+unfoldable pub bound_text : WordsValue → NamedTopologyValue → Sets → FrontierValue → List ℕ
+bound_text w t sets f = text_of (bound_lines w t sets f)
 
 -- ---- what is owed
 
--- the frontier is what a search finds; a candidate that was tried is refuted where a listed set refutes it; the text has the frontier, with each candidate that a listed set refutes in a line of its own; the files prove the others, and are begun as those of any search
-pub record IsBound (w : WordsValue) (t : NamedTopologyValue) (files : FilesValue) (status : Status) (text : List ℕ) : Type 0 where
+-- the frontier is what a search finds; a candidate that was tried is refuted where one of these sets refutes it; the text has the frontier, with each candidate that such a set refutes in a line of its own; the files prove the others, and are begun as those of any search
+pub record IsBound (w : WordsValue) (t : NamedTopologyValue) (sets : Sets) (files : FilesValue) (status : Status) (text : List ℕ) : Type 0 where
   pub frontier : FrontierValue
   pub found : IsFound (question_of w t Whole) frontier
-  pub points : All (λ p. is_cut (searched_question (question_of w t Whole)) p.candidate ≡ false) frontier.points
-  pub unknown : All (λ u. is_cut (searched_question (question_of w t Whole)) u.candidate ≡ false) frontier.unknown
-  pub says : Says Done (bound_text w t frontier) status text
-  pub proves : IsTrue files.told → Proves (whole_report w t (without_cuts (searched_question (question_of w t Whole)) frontier)) files.before files.after
+  pub points : All (λ p. is_cut sets (searched_question (question_of w t Whole)) p.candidate ≡ false) frontier.points
+  pub unknown : All (λ u. is_cut sets (searched_question (question_of w t Whole)) u.candidate ≡ false) frontier.unknown
+  pub says : Says Done (bound_text w t sets frontier) status text
+  pub proves : IsTrue files.told → Proves (whole_report w t (without_cuts sets (searched_question (question_of w t Whole)) frontier)) files.before files.after
   pub begun : IsTrue files.told → BreaksOff w t files.before files.after

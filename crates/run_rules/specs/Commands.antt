@@ -52,13 +52,13 @@ abbrev pub word_row : RowValue
 word_row = record { reads = false; opens = false; changes = false; refusals = [] }
 
 abbrev pub row_of : Command → RowValue
-row_of (command.Synth kind word limits root) = search_row
+row_of (command.Synth kind word limits root kept) = search_row
 row_of command.Check = check_row
 row_of (command.Replay number word order) = point_row
 row_of (command.Programs number word) = point_row
 row_of (command.Family kind size) = word_row
 row_of (command.Trial n) = word_row
-row_of (command.Bound kind word limits root) = search_row
+row_of (command.Bound kind word limits root all_sets) = search_row
 row_of (command.Ordered kind word limits root) = unkept_row
 row_of (command.Degrade group group_word width width_word) = fault_row
 row_of (command.Json value point) = json_row value

@@ -11,6 +11,7 @@ use Rattle.topology_text.specs.Value.{NamedTopologyValue}
 use Rattle.topology_text.specs.Spelling.{lines_of}
 use Rattle.report_form.specs.Reports.{WordsValue, ReportValue, question_of}
 use Rattle.report_form.specs.Spelling.{candidate_words, part_words, point_lines, refuted_words, synth_words, unknown_words}
+use Rattle.candidate_formula.specs.Pruned.{is_cut_away}
 use Rattle.engine_search.specs.Found.{IsFound}
 use Rattle.link_faults.specs.Narrowed.{narrowed}
 use Rattle.link_faults.specs.Carrying.{is_carried}
@@ -45,12 +46,13 @@ degraded_text w t old f = text_of (degraded_lines w t old f)
 
 -- ---- what is owed
 
--- the frontier is what a search over the links that are left finds; what an old refuted candidate carries is refuted; and the text has it
+-- the frontier is what a search over the links that are left finds; what an old refuted candidate carries, or the words ask to be cut away, is refuted; and the text has it
 pub record IsNewSearch (r : ReportValue) (group width : ℕ) (status : Status) (text : List ℕ) : Type 0 where
   pub frontier : FrontierValue
   pub found : IsFound (question_of r.words (left_of r.topology group width) Whole) frontier
   pub points : All (λ p. is_carried (old_refuted r) p.candidate ≡ false) frontier.points
   pub unknown : All (λ u. is_carried (old_refuted r) u.candidate ≡ false) frontier.unknown
+  pub uncut : All (λ u. is_cut_away (question_of r.words (left_of r.topology group width) Whole) u.candidate ≡ false) frontier.unknown
   pub says : Says Done (degraded_text r.words (left_of r.topology group width) (old_refuted r) frontier) status text
 
 -- the old report is audited first, over some files, which are those of the shelf where it tells them: what is denied is refused, and what is verified is searched anew; no file changed

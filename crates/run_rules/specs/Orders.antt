@@ -6,8 +6,8 @@ use Rattle.candidate_order.specs.Frontiers.{QuestionValue, FrontierValue}
 use Rattle.topology_text.specs.Value.{NamedTopologyValue}
 use Rattle.report_form.specs.Reports.{WordsValue, question_of}
 use Rattle.report_form.specs.Spelling.{frontier_lines, synth_words}
-use Rattle.chunk_order.specs.Formulas.{OrderedFor, ordered_formula_for}
-use Rattle.engine_search.specs.Searched.{searched_question}
+use Rattle.candidate_formula.specs.Formulas.{OrderedFor, ordered_formula_for}
+use Rattle.candidate_formula.specs.Searched.{searched_question}
 use Rattle.engine_search.specs.Found.{IsFoundBy}
 use Rattle.run_rules.specs.declared.status.Status.{Status}
 use Rattle.run_rules.specs.declared.status.Status.TheVariants.{Done}

@@ -1,5 +1,5 @@
 -- What the words and the text that is read ask for, or the first check that refuses them: words, length, text, root or point, size, candidates. This project's own.
-use Rattle.std.specs.Prelude.{ℕ, ◌==◌, not, Bool, true, false, List, length, nat_lt, slice_get, Option, None, Some, Result, Ok, Err}
+use Rattle.std.specs.Prelude.{ℕ, ◌==◌, not, Bool, true, false, if◌then◌else◌, List, length, nat_lt, slice_get, Option, None, Some, Result, Ok, Err}
 use Rattle.outer_ports.specs.declared.part.Part.{Part}
 use Rattle.text_lines.specs.Check.{◌>>=◌, refuse, need}
 use Rattle.serde_json.specs.Data.{Data}
@@ -39,17 +39,19 @@ use Rattle.command_words.specs.declared.command.Command.TheVariants as command
 use Rattle.command_words.specs.declared.fault.WordFault.{WordFault}
 use Rattle.command_words.specs.declared.fault.WordCode.TheVariants.{KeyMissing, UnknownRoot, UnknownPoint, CustomMismatch, ReportNotTaken, UnknownGroup, NotNarrower}
 use Rattle.command_words.specs.Words.{command_of}
+use Rattle.node_cuts.specs.declared.sets.Sets.{Sets}
+use Rattle.node_cuts.specs.declared.sets.Sets.TheVariants.{Listed, All}
 use Rattle.run_rules.specs.declared.status.Status.TheVariants.{BadTopology, BadReport, TooLarge, NoCandidate, TooLong, BadJson}
 use Rattle.run_rules.specs.Refusals.{Refusal, refused_at, refused_as, refused_word}
 use Rattle.run_rules.specs.Commands.{row_of}
 
--- what is to be done, with all that it needs
+-- what is to be done, with all that it needs: of a search also whether proofs that stand there are kept, of bounds which sets of nodes are looked at
 pub data Task : Type 0 where
   Write : List ℕ → Task
-  Synthesise : WordsValue → NamedTopologyValue → Task
+  Synthesise : WordsValue → NamedTopologyValue → Bool → Task
   Audit : ReportValue → Task
   Try : ℕ → Task
-  Bound : WordsValue → NamedTopologyValue → Task
+  Bound : WordsValue → NamedTopologyValue → Sets → Task
   Order : WordsValue → NamedTopologyValue → Task
   Degrade : ReportValue → ℕ → ℕ → Task
 
@@ -106,15 +108,19 @@ search_asked asked bytes = do
   topology ← refused_as BadTopology topology_number (topology_of bytes)
   search_over asked topology
 
-abbrev pub synthesis_asked : SearchWords → List ℕ → Result Task Refusal
-synthesis_asked asked bytes = do
+abbrev pub synthesis_asked : SearchWords → Bool → List ℕ → Result Task Refusal
+synthesis_asked asked kept bytes = do
   search ← search_asked asked bytes
-  Ok (Synthesise search.0 search.1)
+  Ok (Synthesise search.0 search.1 kept)
 
-abbrev pub bound_asked : SearchWords → List ℕ → Result Task Refusal
-bound_asked asked bytes = do
+-- every set of nodes, or the listed ones
+abbrev pub given_sets : Bool → Sets
+given_sets all_sets = if all_sets then All else Listed
+
+abbrev pub bound_asked : SearchWords → Bool → List ℕ → Result Task Refusal
+bound_asked asked all_sets bytes = do
   search ← search_asked asked bytes
-  Ok (Bound search.0 search.1)
+  Ok (Bound search.0 search.1 (given_sets all_sets))
 
 abbrev pub order_asked : SearchWords → List ℕ → Result Task Refusal
 order_asked asked bytes = do
@@ -225,13 +231,13 @@ unjson_asked _ bytes = do
 
 -- what a command asks for, over bytes that came whole
 abbrev pub task_of : Command → List ℕ → Result Task Refusal
-task_of (command.Synth kind word limits root) bytes = synthesis_asked (record { kind = kind; kind_word = word; limits = limits; root = root }) bytes
+task_of (command.Synth kind word limits root kept) bytes = synthesis_asked (record { kind = kind; kind_word = word; limits = limits; root = root }) kept bytes
 task_of command.Check bytes = audit_asked bytes
 task_of (command.Replay number word order) bytes = replay_asked (record { point = number; word = word }) order bytes
 task_of (command.Programs number word) bytes = programs_asked (record { point = number; word = word }) bytes
 task_of (command.Family kind size) bytes = Ok (Write (spelling (family_of kind size)))
 task_of (command.Trial n) bytes = Ok (Try n)
-task_of (command.Bound kind word limits root) bytes = bound_asked (record { kind = kind; kind_word = word; limits = limits; root = root }) bytes
+task_of (command.Bound kind word limits root all_sets) bytes = bound_asked (record { kind = kind; kind_word = word; limits = limits; root = root }) all_sets bytes
 task_of (command.Ordered kind word limits root) bytes = order_asked (record { kind = kind; kind_word = word; limits = limits; root = root }) bytes
 task_of (command.Degrade group group_word width width_word) bytes = degrade_asked group group_word width width_word bytes
 task_of (command.Json value point) bytes = json_asked value point bytes

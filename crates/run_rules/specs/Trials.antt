@@ -2,6 +2,7 @@
 use Rattle.std.specs.Prelude.{ℕ, ◌+◌, ◌*◌, ◌/◌, ◌%◌, List, [], ◌∷◌, length, sum_by, slice_index_or, codes, decimal}
 use Rattle.collective_spec.specs.declared.kind.Kind.{Kind}
 use Rattle.collective_spec.specs.declared.kind.Kind.TheVariants.{Broadcast, Gather, Allgather, Scatter, Alltoall, Reduce, Reducescatter, Allreduce}
+use Rattle.candidate_order.specs.Ranges.{unpruned}
 use Rattle.topology_text.specs.declared.family_kind.FamilyKind.{FamilyKind}
 use Rattle.topology_text.specs.declared.family_kind.FamilyKind.TheVariants.{Line, Ring, Complete, Shared}
 use Rattle.topology_text.specs.Value.{NamedTopologyValue}
@@ -36,7 +37,7 @@ trial_chunks n _ = 1 + n / 2048 % 2
 abbrev pub trial_words : ℕ → WordsValue
 trial_words n = record {
   collective = record { kind = trial_kind n; root = 0 };
-  limits = record { k = n / 256 % 2; max_s = 1 + n / 512 % 4; max_c = trial_chunks n (trial_kind n); conflicts = 2000 };
+  limits = record { k = n / 256 % 2; max_s = 1 + n / 512 % 4; max_c = trial_chunks n (trial_kind n); conflicts = 2000; pruning = unpruned };
 }
 
 -- how many points, refuted and unknown candidates there are in all parts

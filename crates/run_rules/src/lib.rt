@@ -22,5 +22,5 @@ pub use search_text::{Search, SearchText, bad_topology, search_of_text};
 pub use searchable::search_refusal;
 pub use status::Status;
 pub use std::alloc::AllocError as OutOfMemory;
-pub use vectors::{reports_due, searches_due, sizes, words_due};
+pub use vectors::{reports_due, searches_due, sizes, tasks_due, words_due};
 pub use verdicts::verdict_answer;

@@ -1,6 +1,7 @@
 //! What the definitions give on small and known words, texts and searches.
 
-ghost use Rattle.std.specs.Prelude.{◌≡◌, [], ◌∷◌, Ok, Err, codes};
+ghost use Rattle.std.specs.Prelude.{◌≡◌, [], ◌∷◌, true, false, Ok, Err, codes};
+ghost use Rattle.candidate_order.specs.Ranges.{unpruned};
 ghost use Rattle.topology_text.specs.Family.{family_of};
 ghost use Rattle.report_form.specs.Spelling.{report_text};
 ghost use Rattle.report_form.specs.Rows.{broadcast_report, relay_report};
@@ -8,19 +9,20 @@ ghost use Rattle.frontier_audit.specs.Rows.{beside_one_step, cnf_of_one_step};
 ghost use Rattle.candidate_formula.specs.Sizes.{size_of};
 ghost use Rattle.run_rules.specs.Audits.{audited};
 ghost use Rattle.run_rules.specs.Refusals.{refusal_line, refused_at, refused_word};
-ghost use Rattle.run_rules.specs.Rows.{moved_text, search, two_nodes_text};
-ghost use Rattle.run_rules.specs.Tasks.{Try, Write, due, searchable};
+ghost use Rattle.run_rules.specs.Rows.{bounds, broadcast_words, moved_text, search, two_nodes_text};
+ghost use Rattle.run_rules.specs.Tasks.{Bound, Synthesise, Try, Write, due, searchable};
 
 use crate::status::Status;
 use collective_spec::{Kind, Spec};
 use command_words::WordCode;
+use node_cuts::Sets;
 use topology_text::FamilyKind;
 
 /// The size of an all-to-all on sixteen nodes, each joined to each, which is too large; and of an
 /// allgather on the cube of eight.
 pub fn sizes()
-    ensures too_large { searchable (record { topology = (family_of FamilyKind.Complete 16).topology; spec = Spec.Standard (record { kind = Kind.Alltoall; root = 0 }); limits = record { k = 8; max_s = 8; max_c = 16; conflicts = 1000 } }) ≡ Err (refused_at Status.TooLarge 0 5406720) }
-    ensures cube { size_of (record { topology = (family_of FamilyKind.Cube 8).topology; spec = Spec.Standard (record { kind = Kind.Allgather; root = 0 }); limits = record { k = 0; max_s = 3; max_c = 1; conflicts = 1000 } }) ≡ 1728 }
+    ensures too_large { searchable (record { topology = (family_of FamilyKind.Complete 16).topology; spec = Spec.Standard (record { kind = Kind.Alltoall; root = 0 }); limits = record { k = 8; max_s = 8; max_c = 16; conflicts = 1000; pruning = unpruned } }) ≡ Err (refused_at Status.TooLarge 0 5406720) }
+    ensures cube { size_of (record { topology = (family_of FamilyKind.Cube 8).topology; spec = Spec.Standard (record { kind = Kind.Allgather; root = 0 }); limits = record { k = 0; max_s = 3; max_c = 1; conflicts = 1000; pruning = unpruned } }) ≡ 1728 }
 {}
 
 /// Words that are refused before anything is read, and words that need no text.
@@ -39,6 +41,16 @@ pub fn searches_due()
     ensures no_pattern { due (search (codes "collective=custom") []) two_nodes_text ≡ Err (refused_word WordCode.CustomMismatch 1) }
     ensures pattern { due (search (codes "collective=broadcast") (codes "root=n9" ∷ [])) moved_text ≡ Err (refused_word WordCode.CustomMismatch 1) }
     ensures candidates { due (search (codes "collective=alltoall") []) two_nodes_text ≡ Err (refused_at Status.NoCandidate 0 0) }
+{}
+
+/// Searches that are to be done: what is left out, whether proofs are kept, and which sets of nodes
+/// are looked at, as the words say.
+pub fn tasks_due()
+    ensures plain { due (search (codes "collective=broadcast") []) two_nodes_text ≡ Ok (Synthesise (broadcast_words unpruned) (family_of FamilyKind.Line 2) false) }
+    ensures kept { due (search (codes "collective=broadcast") (codes "kept=yes" ∷ [])) two_nodes_text ≡ Ok (Synthesise (broadcast_words unpruned) (family_of FamilyKind.Line 2) true) }
+    ensures pruned { due (search (codes "collective=broadcast") (codes "cuts=yes" ∷ codes "ordered=yes" ∷ [])) two_nodes_text ≡ Ok (Synthesise (broadcast_words (record { cuts = true; ordered = true })) (family_of FamilyKind.Line 2) false) }
+    ensures listed { due (bounds (codes "collective=broadcast") []) two_nodes_text ≡ Ok (Bound (broadcast_words unpruned) (family_of FamilyKind.Line 2) Sets.Listed) }
+    ensures all { due (bounds (codes "collective=broadcast") (codes "sets=all" ∷ [])) two_nodes_text ≡ Ok (Bound (broadcast_words unpruned) (family_of FamilyKind.Line 2) Sets.All) }
 {}
 
 /// Reports that are refused for their text, for the point that is asked for, and by the audit.

@@ -10,6 +10,7 @@ mod exchanges;
 mod folders;
 mod ports;
 mod proofs;
+mod pruned;
 mod reports;
 mod search_files;
 mod searches;

@@ -1,5 +1,5 @@
 -- What every run says, whatever the ports tell, from what its answer says.
-use Rattle.std.proofs.Common.{◌≡◌, ◌≢◌, ◌==◌, ◌||◌, ◌++◌, ℕ, Bool, true, false, IsTrue, List, [], ◌∷◌, inl, inr, Result, Ok, Err, refl, sym, subst, ap, ◌∙◌, if◌then◌else◌}
+use Rattle.std.proofs.Common.{◌≡◌, ◌≢◌, ◌==◌, ◌||◌, ◌++◌, ℕ, Bool, true, false, IsTrue, List, [], ◌∷◌, inl, inr, Result, Ok, Err, refl, sym, subst, ◌∙◌, if◌then◌else◌}
 use Rattle.std.specs.List.{list_any}
 use Rattle.outer_ports.specs.Port.{Rose}
 use Rattle.command_words.specs.declared.command.JsonWhat.TheVariants as what
@@ -53,13 +53,13 @@ shelf_ends c opens = shelf_in (row_of c).reads (row_of c).opens (answers_of c) o
 
 -- an answer has no status of a port that failed, or of memory
 not_given : (c : Command) → (IsOneOf (answers_of c) OutOfMemory → ⊥) × (IsOneOf (answers_of c) SourceFailed → ⊥) × (IsOneOf (answers_of c) SinkFailed → ⊥) × (IsOneOf (answers_of c) ShelfFailed → ⊥)
-not_given (command.Synth kind word limits root) = (λ no. absurd (cc), λ no. absurd (cc), λ no. absurd (cc), λ no. absurd (cc))
+not_given (command.Synth kind word limits root kept) = (λ no. absurd (cc), λ no. absurd (cc), λ no. absurd (cc), λ no. absurd (cc))
 not_given command.Check = (λ no. absurd (cc), λ no. absurd (cc), λ no. absurd (cc), λ no. absurd (cc))
 not_given (command.Replay number word order) = (λ no. absurd (cc), λ no. absurd (cc), λ no. absurd (cc), λ no. absurd (cc))
 not_given (command.Programs number word) = (λ no. absurd (cc), λ no. absurd (cc), λ no. absurd (cc), λ no. absurd (cc))
 not_given (command.Family kind size) = (λ no. absurd (cc), λ no. absurd (cc), λ no. absurd (cc), λ no. absurd (cc))
 not_given (command.Trial n) = (λ no. absurd (cc), λ no. absurd (cc), λ no. absurd (cc), λ no. absurd (cc))
-not_given (command.Bound kind word limits root) = (λ no. absurd (cc), λ no. absurd (cc), λ no. absurd (cc), λ no. absurd (cc))
+not_given (command.Bound kind word limits root all_sets) = (λ no. absurd (cc), λ no. absurd (cc), λ no. absurd (cc), λ no. absurd (cc))
 not_given (command.Ordered kind word limits root) = (λ no. absurd (cc), λ no. absurd (cc), λ no. absurd (cc), λ no. absurd (cc))
 not_given (command.Degrade group group_word width width_word) = (λ no. absurd (cc), λ no. absurd (cc), λ no. absurd (cc), λ no. absurd (cc))
 not_given (command.Json what.Topology point) = (λ no. absurd (cc), λ no. absurd (cc), λ no. absurd (cc), λ no. absurd (cc))

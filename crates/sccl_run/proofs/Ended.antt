@@ -1,5 +1,5 @@
 -- How a right run ends, by what is due for its words and the bytes that its source had.
-use Rattle.std.proofs.Common.{◌≡◌, ◌≢◌, ℕ, List, Result, Ok, Err, refl, sym, subst, ap, ◌∙◌}
+use Rattle.std.proofs.Common.{◌≡◌, ℕ, List, Result, Ok, Err, refl, sym, subst, ap, ◌∙◌}
 use Rattle.command_words.specs.declared.command.JsonWhat.TheVariants as what
 use Rattle.command_words.specs.declared.command.Command.{Command}
 use Rattle.command_words.specs.declared.command.Command.TheVariants as command
@@ -16,13 +16,13 @@ use Rattle.sccl_run.proofs.Dues.{due_command, due_refused}
 
 -- what is not read decides nothing
 same_for : (c : Command) (bytes came : List ℕ) → (Reads c → came ≡ bytes) → due_for c came ≡ due_for c bytes
-same_for (command.Synth kind word limits root) bytes came are = ap (due_for (command.Synth kind word limits root)) (are refl)
+same_for (command.Synth kind word limits root kept) bytes came are = ap (due_for (command.Synth kind word limits root kept)) (are refl)
 same_for command.Check bytes came are = ap (due_for command.Check) (are refl)
 same_for (command.Replay number word order) bytes came are = ap (due_for (command.Replay number word order)) (are refl)
 same_for (command.Programs number word) bytes came are = ap (due_for (command.Programs number word)) (are refl)
 same_for (command.Family kind size) bytes came are = refl
 same_for (command.Trial n) bytes came are = refl
-same_for (command.Bound kind word limits root) bytes came are = ap (due_for (command.Bound kind word limits root)) (are refl)
+same_for (command.Bound kind word limits root all_sets) bytes came are = ap (due_for (command.Bound kind word limits root all_sets)) (are refl)
 same_for (command.Ordered kind word limits root) bytes came are = ap (due_for (command.Ordered kind word limits root)) (are refl)
 same_for (command.Degrade group group_word width width_word) bytes came are = ap (due_for (command.Degrade group group_word width width_word)) (are refl)
 same_for (command.Json what.Topology point) bytes came are = ap (due_for (command.Json what.Topology point)) (are refl)

@@ -6,5 +6,9 @@ pub mod Ended
 pub mod RightRuns
 pub mod FamilyRuns
 pub mod WrongRuns
+pub mod KeptRuns
 pub mod Verified
 pub mod ReplaysDue
+pub mod SearchWords
+pub mod Printed
+pub mod Floors

@@ -1,5 +1,5 @@
 -- What a right run says, drawn out.
-use Rattle.std.proofs.Common.{◌≡◌, ◌≢◌, ◌++◌, ℕ, Bool, true, false, nat_lt, length, List, inl, inr, Result, Ok, Err, refl, sym, subst, ap, ◌∙◌}
+use Rattle.std.proofs.Common.{◌≡◌, ◌++◌, ℕ, Bool, true, false, nat_lt, length, List, inl, inr, Result, Ok, Err, refl, sym, subst, ap, ◌∙◌}
 use Rattle.std.proofs.lemmas.List.Elements.{All-contains}
 use Rattle.text_lines.specs.Check.{◌>>=◌, need, refuse}
 use Rattle.topology_text.specs.Answer.{code_number as topology_number}
@@ -32,7 +32,6 @@ use Rattle.run_rules.specs.Commands.{Ask, Changes, IsOneOf, row_of}
 use Rattle.run_rules.specs.Refusals.{Refusal, refused_as, refused_at, refused_word}
 use Rattle.run_rules.specs.Tasks.{Task, Write, Synthesise, Audit, Try, Bound, Order, Degrade, audit_in, degrade_in, due, fault_in, json_programs_in, limit, point_in, programs_in, programs_value, read_report, replay_in, search_asked, searchable, task_of, whole_question, whole_text, words_asked}
 use Rattle.run_rules.proofs.Ends.{refused_with}
-use Rattle.sccl_run.specs.inner.Answering.{due_for}
 use Rattle.sccl_run.specs.Laws.{IsRightRun, WritesWith, NoneIsBetter}
 use Rattle.sccl_run.specs.TopCall.{CountValue, IsAnswered, IsEnd, IsSilent, RunValue}
 use Rattle.sccl_run.specs.Rows.{all_tell}
@@ -67,17 +66,17 @@ none_is_better r right part f p y at point optimal within better solvable =
     let refuted = better_refuted (question_of r.words r.topology part) f frontier p point optimal y within better in
     All-contains (λ x. IsSolvable (question_of r.words r.topology part) x → ⊥) f.refuted y frontier.refuted refuted solvable
 
-pub written_is_right : (x : RunValue) (a b c : CountValue) → IsRightRun x a b c → (w : WordsValue) (t : NamedTopologyValue) → due x.words x.bytes ≡ Ok (Synthesise w t) → x.status ≡ Done → WritesWith NoneIsBetter x.before x.now
-written_is_right x a b c run w t asked done =
-    let end = done_answered (Ok (Synthesise w t)) x (ended x a b c (Ok (Synthesise w t)) run asked) done in
+pub written_is_right : (x : RunValue) (a b c : CountValue) → IsRightRun x a b c → (w : WordsValue) (t : NamedTopologyValue) (kept : Bool) → due x.words x.bytes ≡ Ok (Synthesise w t kept) → x.status ≡ Done → WritesWith NoneIsBetter x.before x.now
+written_is_right x a b c run w t kept asked done =
+    let end = done_answered (Ok (Synthesise w t kept)) x (ended x a b c (Ok (Synthesise w t kept)) run asked) done in
     record { report = end.answer.report; text = end.written refl ∙ ap (λ text. x.before ++ text) end.answer.says.text; says = none_is_better end.answer.report end.answer.right }
 
 -- ---- what changes no file
 
 -- a search whose proofs are kept
 abbrev IsKept : Result Task Refusal → Type 0
-IsKept (Ok (Synthesise w t)) = Unit {0}
-IsKept (Ok (Bound w t)) = Unit {0}
+IsKept (Ok (Synthesise w t kept)) = Unit {0}
+IsKept (Ok (Bound w t sets)) = Unit {0}
 IsKept _ = ⊥
 
 stays_as_due : (d : Result Task Refusal) (x : RunValue) → (IsKept d → ⊥) → IsEnd d x all_tell → FilesStay x.files x.files_after
@@ -87,8 +86,8 @@ stays_as_due (Err r) x other (inr (inr a)) = a.leaves refl
 stays_as_due (Ok (Write text)) x other (inl a) = a.answer.stay refl
 stays_as_due (Ok (Write text)) x other (inr (inl a)) = a.answer.stay refl
 stays_as_due (Ok (Write text)) x other (inr (inr a)) = a.leaves refl
-stays_as_due (Ok (Synthesise w t)) x other end = absurd (other tt)
-stays_as_due (Ok (Bound w t)) x other end = absurd (other tt)
+stays_as_due (Ok (Synthesise w t kept)) x other end = absurd (other tt)
+stays_as_due (Ok (Bound w t sets)) x other end = absurd (other tt)
 stays_as_due (Ok (Audit r)) x other (inl a) = a.answer.stay refl
 stays_as_due (Ok (Audit r)) x other (inr (inl a)) = a.answer.stay refl
 stays_as_due (Ok (Audit r)) x other (inr (inr a)) = a.leaves refl
@@ -108,7 +107,7 @@ no_kept (Ok a) f none kept = none a kept
 no_kept (Err r) f none kept = kept
 
 task_changes : (c : Command) (bytes : List ℕ) → IsKept (task_of c bytes) → Changes c
-task_changes (command.Synth kind word limits root) bytes kept = refl
+task_changes (command.Synth kind word limits root keeps) bytes kept = refl
 task_changes command.Check bytes kept =
     absurd (no_kept (read_report bytes) audit_in (λ r. no_kept (searchable (whole_question r.words r.topology)) (λ _. Ok (Audit r)) (λ _ none. none)) kept)
 task_changes (command.Replay number word order) bytes kept =
@@ -119,7 +118,7 @@ task_changes (command.Programs number word) bytes kept =
     absurd (no_kept (read_report bytes) (λ r. programs_in r asked) (λ r. no_kept (point_in r asked) (λ p. Ok (Write (programs_of_point r number p))) (λ _ none. none)) kept)
 task_changes (command.Family kind size) bytes kept = absurd kept
 task_changes (command.Trial n) bytes kept = absurd kept
-task_changes (command.Bound kind word limits root) bytes kept = refl
+task_changes (command.Bound kind word limits root all_sets) bytes kept = refl
 task_changes (command.Ordered kind word limits root) bytes kept =
     absurd (no_kept (search_asked (record { kind = kind; kind_word = word; limits = limits; root = root }) bytes) (λ s. Ok (Order s.0 s.1)) (λ _ none. none) kept)
 task_changes (command.Degrade group group_word width width_word) bytes kept =
@@ -156,13 +155,13 @@ unchanged x a b c run none = stays_as_due (due x.words x.bytes) x (λ kept. none
 -- ---- what is refused
 
 refused_statuses : (c : Command) → IsOneOf (row_of c).refusals Done → ⊥
-refused_statuses (command.Synth kind word limits root) is = absurd (cc)
+refused_statuses (command.Synth kind word limits root kept) is = absurd (cc)
 refused_statuses command.Check is = absurd (cc)
 refused_statuses (command.Replay number word order) is = absurd (cc)
 refused_statuses (command.Programs number word) is = absurd (cc)
 refused_statuses (command.Family kind size) is = absurd (cc)
 refused_statuses (command.Trial n) is = absurd (cc)
-refused_statuses (command.Bound kind word limits root) is = absurd (cc)
+refused_statuses (command.Bound kind word limits root all_sets) is = absurd (cc)
 refused_statuses (command.Ordered kind word limits root) is = absurd (cc)
 refused_statuses (command.Degrade group group_word width width_word) is = absurd (cc)
 refused_statuses (command.Json what.Topology point) is = absurd (cc)

@@ -1,10 +1,9 @@
 -- How a run ends, from what its answer says.
-use Rattle.std.proofs.Common.{◌≡◌, ◌≢◌, ◌⊎◌, ◌++◌, ◌+◌, ◌≤◌, ℕ, Bool, true, false, IsTrue, List, take, drop, inl, inr, refl, sym, subst, ◌∙◌}
-use Rattle.outer_ports.specs.Files.{Files}
+use Rattle.std.proofs.Common.{◌≡◌, ◌≢◌, ◌⊎◌, ◌++◌, ◌+◌, ◌≤◌, ℕ, Bool, true, false, IsTrue, List, take, drop, inl, inr, refl, subst}
 use Rattle.run_rules.specs.declared.status.Status.{Status}
 use Rattle.run_rules.specs.declared.status.Status.TheVariants.{OutOfMemory, SourceFailed, SinkFailed, ShelfFailed}
 use Rattle.run_rules.specs.declared.halt.Halt.{Halt}
-use Rattle.run_rules.specs.declared.halt.Halt.TheVariants.{Memory, Source, Shelf}
+use Rattle.run_rules.specs.declared.halt.Halt.TheVariants.{Shelf}
 use Rattle.run_rules.specs.Commands.{Ask, Reads}
 use Rattle.run_rules.specs.Tasks.{limit}
 use Rattle.sccl_run.specs.inner.Answering.{IsAnswerTo, IsHaltAt}

@@ -1,15 +1,14 @@
 -- What a search wrote, checked over the files that it left.
-use Rattle.std.proofs.Common.{◌≡◌, ◌⊎◌, ◌≤◌, ◌++◌, inl, inr, ℕ, not, List, [], ◌∷◌, length, Option, Result, Ok, Err, codes, map, refl, append-nil, sym, subst, ap, ◌∙◌}
+use Rattle.std.proofs.Common.{◌≡◌, ◌⊎◌, ◌≤◌, ◌++◌, inl, inr, ℕ, Bool, List, [], ◌∷◌, length, Result, Ok, Err, codes, map, refl, append-nil, sym, subst, ap, ◌∙◌}
 use Rattle.std.proofs.lemmas.List.{append_cancel_left}
 use Rattle.std.proofs.lemmas.List.Elements.{All-contains}
 use Rattle.std.specs.Fmt.{digits}
-use Rattle.text_lines.specs.Check.{◌>>=◌, need, refuse}
+use Rattle.text_lines.specs.Check.{◌>>=◌, need}
 use Rattle.outer_ports.specs.declared.part.Part.{Part}
 use Rattle.outer_ports.specs.declared.part.Part.TheVariants as part
 use Rattle.outer_ports.specs.Files.{Files}
 use Rattle.outer_ports.specs.Shelf.{FilesStay}
 use Rattle.collective_spec.specs.declared.kind.Kind.TheVariants as kind
-use Rattle.collective_spec.specs.Collectives.{fits_kind}
 use Rattle.candidate_order.specs.Frontiers.{FrontierValue}
 use Rattle.topology_text.specs.Value.{NamedTopologyValue}
 use Rattle.topology_text.specs.Answer.{code_number as topology_number}
@@ -21,7 +20,6 @@ use Rattle.json_rules.specs.Answer.{report_of_json}
 use Rattle.command_words.specs.declared.command.JsonWhat.TheVariants as what
 use Rattle.command_words.specs.declared.command.Command.{Command}
 use Rattle.command_words.specs.declared.command.Command.TheVariants as command
-use Rattle.command_words.specs.declared.fault.WordFault.{WordFault}
 use Rattle.command_words.specs.Words.{command_of}
 use Rattle.report_form.specs.Answer.{code_number as report_number}
 use Rattle.report_form.specs.Reports.{ReportValue, WordsValue, parts_of}
@@ -34,10 +32,10 @@ use Rattle.frontier_audit.specs.Rights.{AreJoined, IsRight, IsRightPart}
 use Rattle.frontier_audit.specs.OwedFiles.{Proves}
 use Rattle.frontier_audit.proofs.Proved.{proves_right}
 use Rattle.frontier_audit.proofs.Right.{right_verified}
-use Rattle.run_rules.specs.declared.status.Status.TheVariants.{Done, SinkFailed, BadWords, BadTopology, BadReport, BadJson}
-use Rattle.run_rules.specs.Refusals.{Refusal, refused_as, refused_word}
+use Rattle.run_rules.specs.declared.status.Status.TheVariants.{Done, SinkFailed, BadTopology, BadReport, BadJson}
+use Rattle.run_rules.specs.Refusals.{Refusal, refused_as}
 use Rattle.run_rules.specs.Commands.{row_of}
-use Rattle.run_rules.specs.Tasks.{Task, Write, Synthesise, Audit, Try, Bound, Order, Degrade, due, fault_in, fitting, limit, point_in, programs_asked, read_report, replay_asked, root_in, search_asked, searchable, synthesis_asked, task_of, whole_question, whole_text, words_asked, words_for}
+use Rattle.run_rules.specs.Tasks.{Task, Synthesise, Audit, Degrade, due, fault_in, fitting, limit, point_in, read_report, root_in, search_asked, searchable, task_of, whole_question, whole_text, words_asked, words_for}
 use Rattle.run_rules.specs.Audits.{audited, not_denied, verdict_status}
 use Rattle.sccl_run.specs.Laws.{IsRightRun}
 use Rattle.sccl_run.specs.TopCall.{CountValue, IsEnd, IsSilent, RunValue}
@@ -49,7 +47,7 @@ use Rattle.sccl_run.proofs.RightRuns.{done_answered}
 -- ---- a search that is due is small enough, and has a candidate
 
 abbrev Fits : Result Task Refusal → Type 0
-Fits (Ok (Synthesise w t)) = searchable (whole_question w t) ≡ Ok tt
+Fits (Ok (Synthesise w t kept)) = searchable (whole_question w t) ≡ Ok tt
 Fits _ = Unit {0}
 
 abbrev IsSearchable : Result (WordsValue × NamedTopologyValue) Refusal → Type 0
@@ -67,24 +65,24 @@ sought asked bytes =
     behind (root_in t.names asked.root) _ (λ node _.
     behind (searchable (whole_question (words_for asked node) t)) _ (λ u e. e))))
 
-synthesis_fits : (x : Result (WordsValue × NamedTopologyValue) Refusal) → IsSearchable x → Fits (x >>= (λ s. Ok (Synthesise s.0 s.1)))
-synthesis_fits (Ok s) h = h
-synthesis_fits (Err r) h = tt
+synthesis_fits : (kept : Bool) (x : Result (WordsValue × NamedTopologyValue) Refusal) → IsSearchable x → Fits (x >>= (λ s. Ok (Synthesise s.0 s.1 kept)))
+synthesis_fits kept (Ok s) h = h
+synthesis_fits kept (Err r) h = tt
 
 no_search : {A : Type 0} (x : Result A Refusal) (f : A → Result Task Refusal) → ((a : A) → Fits (f a)) → Fits (x >>= f)
 no_search (Ok a) f h = h a
 no_search (Err r) f h = tt
 
 tasks_fit : (c : Command) (bytes : List ℕ) → Fits (task_of c bytes)
-tasks_fit (command.Synth kind word limits root) bytes =
+tasks_fit (command.Synth kind word limits root kept) bytes =
     let asked : SearchWords = record { kind = kind; kind_word = word; limits = limits; root = root } in
-    synthesis_fits (search_asked asked bytes) (sought asked bytes)
+    synthesis_fits kept (search_asked asked bytes) (sought asked bytes)
 tasks_fit command.Check bytes = no_search (read_report bytes) _ (λ r. no_search (searchable (whole_question r.words r.topology)) _ (λ _. tt))
 tasks_fit (command.Replay number word order) bytes = no_search (read_report bytes) _ (λ r. no_search (point_in r (record { point = number; word = word })) _ (λ p. tt))
 tasks_fit (command.Programs number word) bytes = no_search (read_report bytes) _ (λ r. no_search (point_in r (record { point = number; word = word })) _ (λ p. tt))
 tasks_fit (command.Family kind size) bytes = tt
 tasks_fit (command.Trial n) bytes = tt
-tasks_fit (command.Bound kind word limits root) bytes = no_search (search_asked _ bytes) _ (λ _. tt)
+tasks_fit (command.Bound kind word limits root all_sets) bytes = no_search (search_asked _ bytes) _ (λ _. tt)
 tasks_fit (command.Ordered kind word limits root) bytes = no_search (search_asked _ bytes) _ (λ _. tt)
 tasks_fit (command.Degrade group group_word width width_word) bytes = no_search (read_report bytes) _ (λ r. no_search (fault_in r group group_word width width_word) _ (λ _. no_search (searchable (whole_question r.words r.topology)) (λ _. Ok (Degrade r group width)) (λ _. tt)))
 tasks_fit (command.Json what.Topology point) bytes = no_search (refused_as BadTopology topology_number (topology_of bytes)) _ (λ _. tt)
@@ -98,12 +96,12 @@ due_fits : (words : List (List ℕ)) (bytes : List ℕ) → Fits (due words byte
 unfolding due
 due_fits words bytes = no_search (words_asked (command_of words)) _ (λ c. no_search (whole_text (row_of c).reads bytes) _ (λ _. tasks_fit c bytes))
 
-searched : (words : List (List ℕ)) (bytes : List ℕ) (w : WordsValue) (t : NamedTopologyValue) → due words bytes ≡ Ok (Synthesise w t) → searchable (whole_question w t) ≡ Ok tt
-searched words bytes w t e = subst Fits e (due_fits words bytes)
+searched : (words : List (List ℕ)) (bytes : List ℕ) (w : WordsValue) (t : NamedTopologyValue) (kept : Bool) → due words bytes ≡ Ok (Synthesise w t kept) → searchable (whole_question w t) ≡ Ok tt
+searched words bytes w t kept e = subst Fits e (due_fits words bytes)
 
 -- ---- the check of its report
 
-checks : (words : List (List ℕ)) → words ≡ codes "check" ∷ [] → command_of words ≡ Ok command.Check
+pub checks : (words : List (List ℕ)) → words ≡ codes "check" ∷ [] → command_of words ≡ Ok command.Check
 unfolding command_of digits
 checks words e = rw e refl
 
@@ -142,15 +140,15 @@ audit_done r x accepted (inr (inl cut)) = inr (inl cut.failed)
 audit_done r x accepted (inr (inr halt)) = inr (inr halt.silent)
 
 pub verified_again : (search check : RunValue) (a b c d e f : CountValue) → IsRightRun search a b c → IsRightRun check d e f
-    → (w : WordsValue) (t : NamedTopologyValue) → due search.words search.bytes ≡ Ok (Synthesise w t) → search.status ≡ Done
+    → (w : WordsValue) (t : NamedTopologyValue) (kept : Bool) → due search.words search.bytes ≡ Ok (Synthesise w t kept) → search.status ≡ Done
     → check.words ≡ codes "check" ∷ [] → search.now ≡ search.before ++ check.bytes → length check.bytes ≤ limit → FilesStay search.files_after check.files
     → (check.status ≡ Done) ⊎ ((check.status ≡ SinkFailed) ⊎ IsSilent check.status)
-verified_again search check a b c d e f searching checking w t asks done words written short stay =
-    let end = done_answered (Ok (Synthesise w t)) search (ended search a b c _ searching asks) done in
+verified_again search check a b c d e f searching checking w t kept asks done words written short stay =
+    let end = done_answered (Ok (Synthesise w t kept)) search (ended search a b c _ searching asks) done in
     let report = end.answer.report in
     let text : check.bytes ≡ report_text report = append_cancel_left search.before check.bytes (report_text report) (sym written ∙ end.written refl ∙ ap (λ text. search.before ++ text) end.answer.says.text) in
     let proves : Proves report search.files search.files_after = end.answer.proves refl in
-    let fits : searchable (whole_question report.words report.topology) ≡ Ok tt = rw (end.answer.words, end.answer.topology) (searched search.words search.bytes w t asks) in
+    let fits : searchable (whole_question report.words report.topology) ≡ Ok tt = rw (end.answer.words, end.answer.topology) (searched search.words search.bytes w t kept asks) in
     let is_due : due check.words check.bytes ≡ Ok (Audit report) = check_due check.words check.bytes report words short (ap report_of text ∙ report_again report end.answer.right.valid) fits in
     let shelf : ShelfRight report check.files = subst (ShelfRight report) (sym (files_are search.files_after check.files stay)) (proves_right report _ _ proves) in
     audit_done report check (nothing_denied report check.files end.answer.right shelf) (ended check d e f _ checking is_due)

@@ -1,5 +1,5 @@
 -- Runs that are not right.
-use Rattle.std.proofs.Common.{◌≡◌, ℕ, zero, suc, Any, map, ap, arith, subst, List, [], ◌∷◌, None, Some, Ok, Err, inl, inr, refl, sym, ◌∙◌, codes}
+use Rattle.std.proofs.Common.{◌≡◌, ℕ, false, zero, suc, Any, map, ap, arith, subst, List, [], ◌∷◌, None, Some, Ok, Err, inl, inr, refl, sym, ◌∙◌, codes}
 use Rattle.std.specs.Prelude.{bytes_eq}
 use Rattle.std.specs.Fmt.{digits}
 use Rattle.std.proofs.lemmas.Option.{none-some}
@@ -13,7 +13,8 @@ use Rattle.topology_text.specs.Family.{family_of}
 use Rattle.topology_text.specs.Reading.{pattern_at, topology_of, topology_at, named_at}
 use Rattle.collective_spec.specs.declared.kind.Kind.TheVariants.{Broadcast}
 use Rattle.command_words.specs.Words.{command_of}
-use Rattle.candidate_order.specs.Frontiers.{FrontierValue, IsTried}
+use Rattle.candidate_order.specs.Frontiers.{FrontierValue, QuestionValue}
+use Rattle.candidate_order.specs.Ranges.{unpruned}
 use Rattle.candidate_order.specs.declared.mark.Mark.TheVariants.{Optimal}
 use Rattle.schedule.specs.Rows.{send}
 use Rattle.report_form.specs.Reports.{WordsValue, parts_of, question_of}
@@ -23,6 +24,7 @@ use Rattle.report_form.specs.Reading.{body_of, report_of}
 use Rattle.report_form.proofs.Blamed.{broadcast_read}
 use Rattle.report_laws.proofs.ReportAgain.{report_again}
 use Rattle.candidate_formula.specs.Files.{FrontierFiles}
+use Rattle.candidate_formula.specs.Pruned.{HasOwnFiles}
 use Rattle.frontier_audit.specs.OwedFiles.{Proves}
 use Rattle.run_rules.specs.declared.status.Status.{Status}
 use Rattle.run_rules.specs.declared.status.Status.TheVariants.{SourceFailed, SinkFailed, ShelfFailed, BadReport}
@@ -45,9 +47,9 @@ something_there A x e = absurd (cc)
 -- ---- a search that breaks off
 
 asked_words : WordsValue
-asked_words = record { collective = record { kind = Broadcast; root = 0 }; limits = record { k = 0; max_s = 1; max_c = 1; conflicts = 1000 } }
+asked_words = record { collective = record { kind = Broadcast; root = 0 }; limits = record { k = 0; max_s = 1; max_c = 1; conflicts = 1000; pruning = unpruned } }
 
-is_search : (status : Status) → due (failed_search status).words (failed_search status).bytes ≡ Ok (Synthesise asked_words (family_of Line 2))
+is_search : (status : Status) → due (failed_search status).words (failed_search status).bytes ≡ Ok (Synthesise asked_words (family_of Line 2) false)
 unfolding due command_of topology_of topology_at named_at pattern_at digits asked_words
 is_search status = refl
 
@@ -55,28 +57,28 @@ pub unread_is_wrong : (a b c : CountValue) → IsRightRun (failed_search SourceF
 unread_is_wrong a b c run = none-some _ (run.call.behind_source refl some_name)
 
 -- no file of the part that is joined belongs to a report of one part
-of_one_part : (xs : List (Part × FrontierValue)) → map (λ x. x.0) xs ≡ Whole ∷ [] → Any (λ x. (x.0 ≡ Joined) × IsTried x.1 (record { s = 1; r = 1; c = 1 })) xs → ⊥
-of_one_part [] e any = absurd (cc)
-of_one_part (x ∷ y ∷ xs) e any = absurd (cc)
-of_one_part (x ∷ []) e (zero, y, below, got, such) =
+of_one_part : (q : Part → QuestionValue) (xs : List (Part × FrontierValue)) → map (λ x. x.0) xs ≡ Whole ∷ [] → Any (λ x. (x.0 ≡ Joined) × HasOwnFiles (q x.0) x.1 (record { s = 1; r = 1; c = 1 })) xs → ⊥
+of_one_part q [] e any = absurd (cc)
+of_one_part q (x ∷ y ∷ xs) e any = absurd (cc)
+of_one_part q (x ∷ []) e (zero, y, below, got, such) =
     let whole : x.0 ≡ Whole = cc in
     let same : x ≡ y = got in
     let joined : x.0 ≡ Joined = ap (λ z. z.0) same ∙ such.0 in
     let clash : Whole ≡ Joined = sym whole ∙ joined in
     absurd (cc)
-of_one_part (x ∷ []) e (suc k, y, below, got, such) = absurd (omega (arith, below))
+of_one_part q (x ∷ []) e (suc k, y, below, got, such) = absurd (omega (arith, below))
 
 joined_name : ProofName
 joined_name = record { kind = Cnf; part = Joined; s = 1; r = 1; c = 1 }
 
 -- a search that is done, or whose text was cut off, left the files of no other part
-not_whole : (status : Status) (said : Status) (text : List ℕ) → IsSearch asked_words (family_of Line 2) (files_of (failed_search status) all_tell) said text → ⊥
+not_whole : (status : Status) (said : Status) (text : List ℕ) → IsSearch asked_words (family_of Line 2) false (files_of (failed_search status) all_tell) said text → ⊥
 unfolding asked_words joined_name
 not_whole status said text search =
     let one : map (λ x. x.0) search.report.frontiers ≡ Whole ∷ [] = search.right.valid.parts ∙ ap (λ w. parts_of w.collective.kind) search.words in
-    none-some _ ((search.proves refl).others joined_name (of_one_part search.report.frontiers one))
+    none-some _ ((search.proves refl).others joined_name (of_one_part (question_of search.report.words search.report.topology) search.report.frontiers one))
 
-lost : (status : Status) → IsEnd (Ok (Synthesise asked_words (family_of Line 2))) (failed_search status) all_tell → ⊥
+lost : (status : Status) → IsEnd (Ok (Synthesise asked_words (family_of Line 2) false)) (failed_search status) all_tell → ⊥
 lost status (inl end) = not_whole status status end.text end.answer
 lost status (inr (inl cut)) = not_whole status cut.status cut.text cut.answer
 lost status (inr (inr halt)) =
@@ -129,14 +131,14 @@ blamed_shelf_is_wrong a b c run =
 
 -- ---- a search that ends well
 
-done_is_search : (files : Files) → due (done_search files).words (done_search files).bytes ≡ Ok (Synthesise asked_words (family_of Line 2))
+done_is_search : (files : Files) → due (done_search files).words (done_search files).bytes ≡ Ok (Synthesise asked_words (family_of Line 2) false)
 unfolding due command_of topology_of topology_at named_at pattern_at digits asked_words
 done_is_search files = refl
 
 -- the one report whose text was written has its files there
 kept_there : (files : Files) (a b c : CountValue) → IsRightRun (done_search files) a b c → Proves broadcast_report no_files files
 kept_there files a b c run =
-    let end = done_answered (Ok (Synthesise asked_words (family_of Line 2))) (done_search files) (ended (done_search files) a b c _ run (done_is_search files)) refl in
+    let end = done_answered (Ok (Synthesise asked_words (family_of Line 2) false)) (done_search files) (ended (done_search files) a b c _ run (done_is_search files)) refl in
     let wrote = end.answer.report in
     let text : report_text broadcast_report ≡ report_text wrote = end.written refl ∙ end.answer.says.text in
     let both : Ok wrote ≡ Ok broadcast_report = sym (report_again wrote end.answer.right.valid) ∙ ap report_of (sym text) ∙ broadcast_read in

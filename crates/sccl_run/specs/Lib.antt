@@ -1,4 +1,5 @@
 pub mod TopCall
 pub mod Rows
 pub mod Laws
+pub mod Headline
 pub mod inner

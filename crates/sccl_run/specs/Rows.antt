@@ -4,9 +4,10 @@ use Rattle.outer_ports.specs.declared.part.Part.TheVariants.{Whole}
 use Rattle.outer_ports.specs.declared.proof_name.FileKind.{FileKind}
 use Rattle.outer_ports.specs.declared.proof_name.ProofName.{ProofName}
 use Rattle.outer_ports.specs.Files.{Files}
-use Rattle.report_form.specs.Rows.{broadcast_report}
+use Rattle.report_form.specs.Reports.{question_of}
+use Rattle.report_form.specs.Rows.{broadcast_report, relay_report}
 use Rattle.report_form.specs.Spelling.{report_text}
-use Rattle.candidate_formula.specs.Files.{file_of}
+use Rattle.candidate_formula.specs.Files.{HasRefutation, file_of}
 use Rattle.run_rules.specs.declared.status.Status.{Status}
 use Rattle.run_rules.specs.declared.status.Status.TheVariants.{Done, BadReport}
 use Rattle.run_rules.specs.Rows.{two_nodes_text, search}
@@ -72,6 +73,23 @@ done_search files_after = record {
   files_after = files_after;
 }
 
--- a file of its one candidate
+-- the search of a broadcast along three nodes, where proofs are kept, ends well beside these files, and leaves these
+abbrev pub kept_search : Files → Files → RunValue
+kept_search files files_after = record {
+  words = codes "synth" ∷ codes "collective=broadcast" ∷ codes "k=0" ∷ codes "steps=2" ∷ codes "chunks=1" ∷ codes "conflicts=1000" ∷ codes "kept=yes" ∷ [];
+  status = Done;
+  bytes = codes "topology 1\nnodes n0 n1 n2\ngroup 1 n0>n1\ngroup 1 n1>n0\ngroup 1 n1>n2\ngroup 1 n2>n1\n";
+  left = [];
+  before = [];
+  now = report_text relay_report;
+  files = files;
+  files_after = files_after;
+}
+
+-- the files refute one step of it
+abbrev pub RefuteOneStep : Files → Type 0
+RefuteOneStep files = HasRefutation Whole (question_of relay_report.words relay_report.topology Whole) files (record { s = 1; r = 1; c = 1 })
+
+-- a file of the candidate of one step
 abbrev pub own_file : FileKind → ProofName
 own_file kind = file_of kind Whole (record { s = 1; r = 1; c = 1 })

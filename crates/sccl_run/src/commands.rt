@@ -48,6 +48,7 @@ pub(crate) fn command_answer<H: Shelf>(
             kind_word,
             limits,
             root,
+            kept,
         } => {
             let asked = SearchWords {
                 kind,
@@ -55,7 +56,7 @@ pub(crate) fn command_answer<H: Shelf>(
                 limits,
                 root,
             };
-            synth_answer(alloc, asked, bytes, shelf)
+            synth_answer(alloc, asked, kept, bytes, shelf)
         }
         Command::Check => check_answer(alloc, bytes, shelf),
         Command::Replay {
@@ -74,6 +75,7 @@ pub(crate) fn command_answer<H: Shelf>(
             kind_word,
             limits,
             root,
+            all_sets,
         } => {
             let asked = SearchWords {
                 kind,
@@ -81,7 +83,7 @@ pub(crate) fn command_answer<H: Shelf>(
                 limits,
                 root,
             };
-            bound_answer(alloc, asked, bytes, shelf)
+            bound_answer(alloc, asked, all_sets, bytes, shelf)
         }
         Command::Ordered {
             kind,

@@ -1,6 +1,6 @@
 //! What a right run of the top call says, and runs that are not right.
 
-ghost use Rattle.std.specs.Prelude.{◌≡◌, ◌⊎◌, ◌≤◌, ◌∷◌, ◌++◌, ℕ, List, [], codes, length, Option, None, Some, Ok, Err};
+ghost use Rattle.std.specs.Prelude.{◌≡◌, ◌≢◌, ◌⊎◌, ◌≤◌, ◌∷◌, ◌++◌, ℕ, Bool, List, [], codes, length, Option, None, Some, Ok, Err};
 ghost use Rattle.topology_text.specs.Value.{NamedTopologyValue};
 ghost use Rattle.outer_ports.specs.declared.part.Part.{Part};
 ghost use Rattle.outer_ports.specs.Files.{Files};
@@ -14,7 +14,7 @@ ghost use Rattle.run_rules.specs.Commands.{Ask, Changes};
 ghost use Rattle.run_rules.specs.Refusals.{Refusal, refused_word};
 ghost use Rattle.run_rules.specs.Tasks.{Synthesise, Write, due, limit};
 ghost use Rattle.sccl_run.specs.TopCall.{CountValue, IsSilent, RunValue};
-ghost use Rattle.sccl_run.specs.Rows.{done_search, failed_search, family_run, own_file, refused_check};
+ghost use Rattle.sccl_run.specs.Rows.{RefuteOneStep, done_search, failed_search, family_run, kept_search, own_file, refused_check};
 ghost use Rattle.sccl_run.specs.Laws.{AskReplay, IsRefusedText, IsRightRun, IsTextOf, NoneIsBetter, WritesWith};
 
 use command_words::WordCode;
@@ -31,7 +31,7 @@ pub fn refused_is_not_done()
 /// The report that a search writes marks a point optimal only where no better candidate within the
 /// limits has a schedule.
 pub fn optimal_has_no_better()
-    ensures { (x : RunValue) (a b c : CountValue) → IsRightRun x a b c → (w : WordsValue) (t : NamedTopologyValue) → due x.words x.bytes ≡ Ok (Synthesise w t) → x.status ≡ Status.Done → WritesWith NoneIsBetter x.before x.now }
+    ensures { (x : RunValue) (a b c : CountValue) → IsRightRun x a b c → (w : WordsValue) (t : NamedTopologyValue) (kept : Bool) → due x.words x.bytes ≡ Ok (Synthesise w t kept) → x.status ≡ Status.Done → WritesWith NoneIsBetter x.before x.now }
 {}
 
 /// Only a command that changes files may change one.
@@ -43,7 +43,7 @@ pub fn only_a_search_changes_files()
 /// too long.
 pub fn what_a_search_wrote_is_verified()
     ensures { (search check : RunValue) (a b c d e f : CountValue) → IsRightRun search a b c → IsRightRun check d e f
-        → (w : WordsValue) (t : NamedTopologyValue) → due search.words search.bytes ≡ Ok (Synthesise w t) → search.status ≡ Status.Done
+        → (w : WordsValue) (t : NamedTopologyValue) (kept : Bool) → due search.words search.bytes ≡ Ok (Synthesise w t kept) → search.status ≡ Status.Done
         → check.words ≡ codes "check" ∷ [] → search.now ≡ search.before ++ check.bytes → length check.bytes ≤ limit → FilesStay search.files_after check.files
         → (check.status ≡ Status.Done) ⊎ ((check.status ≡ Status.SinkFailed) ⊎ IsSilent check.status) }
 {}
@@ -100,6 +100,13 @@ pub fn a_search_that_loses_files_is_wrong()
 pub fn a_search_with_other_files_is_wrong()
     ensures formula { (files : Files) (a b c : CountValue) → files (own_file FileKind.Cnf) ≡ None → IsRightRun (done_search files) a b c → ⊥ }
     ensures stale { (files : Files) (byte : ℕ) (rest : List ℕ) (a b c : CountValue) → files (own_file FileKind.Lrat) ≡ Some (byte ∷ rest) → IsRightRun (done_search files) a b c → ⊥ }
+{}
+
+/// A search that was to keep proofs is not right where it changes a file of a candidate that its
+/// files refuted.
+pub fn a_search_that_forgets_to_keep_is_wrong()
+    ensures formula { (before after : Files) (a b c : CountValue) → RefuteOneStep before → after (own_file FileKind.Cnf) ≢ before (own_file FileKind.Cnf) → IsRightRun (kept_search before after) a b c → ⊥ }
+    ensures proof { (before after : Files) (a b c : CountValue) → RefuteOneStep before → after (own_file FileKind.Lrat) ≢ before (own_file FileKind.Lrat) → IsRightRun (kept_search before after) a b c → ⊥ }
 {}
 
 /// A refusal of a text that was not taken from the source is not right, nor is one that leaves

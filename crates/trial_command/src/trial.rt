@@ -38,7 +38,7 @@ fn search_trial(alloc: Global, n: u16, shelf: &mut SureShelf) -> Result<Report, 
     ensures shelf { IfOk result (λ r. ShelfRight r (⟦<SureShelf as Shelf>⟧.file shelf.new)) }
 {
     let topology = trial_topology(alloc, n)?;
-    match search_report(alloc, trial_words(n), topology, true, shelf) {
+    match search_report(alloc, trial_words(n), topology, true, false, shelf) {
         Ok(report) => Ok(report),
         Err(EngineFault::OutOfMemory) => Err(OutOfMemory),
         Err(EngineFault::ShelfFailed) => unreachable!(),

@@ -1,6 +1,7 @@
 //! Runs of each command over ports that fail at any of their calls.
 
 use super::checks::{BOTH, Files};
+use super::pruned::PRUNED;
 use super::reports::{ALLREDUCE, RELAY, REPLAY, REPORT};
 use super::search_files::first;
 use super::searches::{LINE, PAIR, PAIR_REPORT, PAIR_WORDS};
@@ -105,7 +106,7 @@ fn ports_that_fail(rt: HostRuntime) -> Result<(), Fail> {
             words: &PAIR_WORDS,
             given: Some(PAIR),
             files: &[],
-            shelved: [135, 24, 6],
+            shelved: [133, 22, 4],
             status: Status::Done,
             text: PAIR_REPORT,
         },
@@ -120,7 +121,7 @@ fn ports_that_fail(rt: HostRuntime) -> Result<(), Fail> {
             ],
             given: Some(LINE),
             files: &[],
-            shelved: [760, 118, 12],
+            shelved: [757, 115, 9],
             status: Status::Done,
             text: RELAY,
         },
@@ -135,7 +136,7 @@ fn ports_that_fail(rt: HostRuntime) -> Result<(), Fail> {
             ],
             given: Some(PAIR),
             files: &[],
-            shelved: [574, 92, 12],
+            shelved: [570, 88, 8],
             status: Status::Done,
             text: ALLREDUCE,
         },
@@ -150,7 +151,7 @@ fn ports_that_fail(rt: HostRuntime) -> Result<(), Fail> {
             ],
             given: Some(LINE),
             files: &[],
-            shelved: [760, 118, 12],
+            shelved: [757, 115, 9],
             status: Status::Done,
             text: b"bound 1\nsynth collective=broadcast k=0 steps=2 chunks=1 conflicts=1000 root=n0\nfloor 1 1 n2\nfrontier whole\npoint 2 2 1 optimal\nrounds 1 1\nsend 0 n0 n1 1\nsend 0 n1 n2 2\nrefuted 1 1 1\nend\n",
         },
@@ -274,6 +275,51 @@ fn ports_that_fail(rt: HostRuntime) -> Result<(), Fail> {
             shelved: [0; 3],
             status: Status::BadWords,
             text: b"refused 2 9 1\n",
+        },
+    ];
+    for it in table {
+        fails_at_each_call(&rt, it)?;
+    }
+    Ok(())
+}
+
+#[test]
+fn ports_that_fail_under_the_keys(rt: HostRuntime) -> Result<(), Fail> {
+    let table: [Run; 2] = [
+        // the files of the one refuted candidate are kept, and read alone
+        Run {
+            words: &[
+                "synth",
+                "collective=broadcast",
+                "k=0",
+                "steps=2",
+                "chunks=1",
+                "conflicts=1000",
+                "kept=yes",
+            ],
+            given: Some(LINE),
+            files: BOTH,
+            shelved: [758, 116, 10],
+            status: Status::Done,
+            text: RELAY,
+        },
+        // a set of nodes refutes two chunks in one round, and no file of theirs is made
+        Run {
+            words: &[
+                "synth",
+                "collective=broadcast",
+                "k=0",
+                "steps=1",
+                "chunks=2",
+                "conflicts=1000",
+                "cuts=yes",
+                "ordered=yes",
+            ],
+            given: Some(PAIR),
+            files: &[],
+            shelved: [133, 22, 4],
+            status: Status::Done,
+            text: PRUNED,
         },
     ];
     for it in table {

@@ -9,7 +9,7 @@ use Rattle.report_printing.specs.Printed.{point_text}
 use Rattle.report_printing.proofs.Pieces.{before}
 use Rattle.node_cuts.specs.Floors.{floor_of}
 use Rattle.cut_bounds.specs.Parting.{cuts_among, uncut_among}
-use Rattle.engine_search.specs.Searched.{searched_question}
+use Rattle.candidate_formula.specs.Searched.{searched_question}
 use Rattle.run_rules.specs.Bounds.{cut_words, floor_words}
 use Rattle.bound_command.proofs.Pieces.{bound_is}
 use Rattle.bound_command.proofs.printing.print_bounds.Goals as goal
@@ -18,6 +18,7 @@ pub returns : goal.returns
 returns c =
     let w = c.args.words in
     let t = c.args.topology.now in
+    let sets = c.args.sets in
     let f = c.args.bounds.now.frontier in
     let q = searched_question (question_of w t Whole) in
     let b1 = c.push_word.new.out.items in
@@ -33,16 +34,16 @@ returns c =
     let bounds = c.requires.bounds in
     let head : b1 ≡ [] ++ codes "bound 1\n" = search rules in
     let asked : b2 ≡ b1 ++ line (synth_words t.names w) = c.in_ok-push_synth_line.ensures ∙ ap (λ n. b1 ++ line (synth_words n w)) at in
-    let floor : b3 ≡ b2 ++ line (floor_words t.names (floor_of q.topology q.spec)) = c.in_ok-push_floor.ensures ∙ (ap (λ n. b2 ++ line (floor_words n c.args.bounds.now.floor)) at ∙ ap (λ x. b2 ++ line (floor_words t.names x)) bounds.floor) in
+    let floor : b3 ≡ b2 ++ line (floor_words t.names (floor_of sets q.topology q.spec)) = c.in_ok-push_floor.ensures ∙ (ap (λ n. b2 ++ line (floor_words n c.args.bounds.now.floor)) at ∙ ap (λ x. b2 ++ line (floor_words t.names x)) bounds.floor) in
     let points : b5 ≡ b4 ++ flat_map (point_text t.names) f.points = c.in_ok-push_points.ensures ∙ (ap (λ n. b4 ++ flat_map (point_text n) c.points.result.now) at ∙ ap (λ x. b4 ++ flat_map (point_text t.names) x) c.points.ensures) in
-    let cuts : b6 ≡ b5 ++ text_of (map (cut_words t.names) (cuts_among q f.refuted)) = c.in_ok-push_cuts.ensures ∙ (ap (λ n. b5 ++ text_of (map (cut_words n) c.deref.result.now)) at ∙ ap (λ x. b5 ++ text_of (map (cut_words t.names) x)) (c.deref.ensures.value ∙ bounds.cuts)) in
-    let others : b7 ≡ b6 ++ text_of (map refuted_words (uncut_among q f.refuted)) = c.in_ok-push_all_refuted.ensures ∙ ap (λ x. b6 ++ text_of (map refuted_words x)) (c.deref-2.ensures.value ∙ bounds.others) in
+    let cuts : b6 ≡ b5 ++ text_of (map (cut_words t.names) (cuts_among sets q f.refuted)) = c.in_ok-push_cuts.ensures ∙ (ap (λ n. b5 ++ text_of (map (cut_words n) c.deref.result.now)) at ∙ ap (λ x. b5 ++ text_of (map (cut_words t.names) x)) (c.deref.ensures.value ∙ bounds.cuts)) in
+    let others : b7 ≡ b6 ++ text_of (map refuted_words (uncut_among sets q f.refuted)) = c.in_ok-push_all_refuted.ensures ∙ ap (λ x. b6 ++ text_of (map refuted_words x)) (c.deref-2.ensures.value ∙ bounds.others) in
     let unknown : b8 ≡ b7 ++ text_of (map unknown_words f.unknown) = c.in_ok-push_all_unknown.ensures ∙ ap (λ x. b7 ++ text_of (map unknown_words x)) c.unknown.ensures in
     before [] b1 b9 (codes "bound 1\n") _ head
     (before b1 b2 b9 (line (synth_words t.names w)) _ asked
-    (before b2 b3 b9 (line (floor_words t.names (floor_of q.topology q.spec))) _ floor
+    (before b2 b3 b9 (line (floor_words t.names (floor_of sets q.topology q.spec))) _ floor
     (before b3 b4 b9 (codes "frontier whole\n") _ c.in_ok-push_word-2.ensures.appended
     (before b4 b5 b9 (flat_map (point_text t.names) f.points) _ points
-    (before b5 b6 b9 (text_of (map (cut_words t.names) (cuts_among q f.refuted))) _ cuts
-    (before b6 b7 b9 (text_of (map refuted_words (uncut_among q f.refuted))) _ others
-    (before b7 b8 b9 (text_of (map unknown_words f.unknown)) (codes "end\n") unknown c.in_ok-push_word-3.ensures.appended))))))) ∙ bound_is w t f
+    (before b5 b6 b9 (text_of (map (cut_words t.names) (cuts_among sets q f.refuted))) _ cuts
+    (before b6 b7 b9 (text_of (map refuted_words (uncut_among sets q f.refuted))) _ others
+    (before b7 b8 b9 (text_of (map unknown_words f.unknown)) (codes "end\n") unknown c.in_ok-push_word-3.ensures.appended))))))) ∙ bound_is w t sets f

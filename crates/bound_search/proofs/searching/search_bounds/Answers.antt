@@ -5,8 +5,8 @@ use Rattle.bound_search.proofs.searching.search_bounds.Goals as goal
 
 pub returns-clause-proves : goal.returns-clause-proves
 returns-clause-proves g c = λ told.
-    proved_for c.args.words c.args.topology.now _ _ _ c.topology-links.result.now c.in_ok-spec.spec c.limits.result c.topology-links.ensures.topology c.in_ok-spec.ensures c.limits.ensures (c.find_bounds.ensures.shelved told)
+    proved_for c.args.words c.args.topology.now c.args.sets _ _ _ c.topology-links.result.now c.in_ok-spec.spec c.limits.result c.topology-links.ensures.topology c.in_ok-spec.ensures c.limits.ensures (c.find_bounds.ensures.shelved told)
 
 pub returns-clause-begun : goal.returns-clause-begun
 returns-clause-begun g c = λ told.
-    breaks_off_for c.args.words c.args.topology.now Whole c.topology-links.result.now c.in_ok-spec.spec c.limits.result _ _ c.topology-links.ensures.topology c.in_ok-spec.ensures c.limits.ensures (is_a_part c.args.words c.args.topology.now c.requires.single) (c.find_bounds.ensures.begun told)
+    breaks_off_for c.args.words c.args.topology.now Whole c.topology-links.result.now c.in_ok-spec.spec c.limits.result _ _ c.topology-links.ensures.topology c.in_ok-spec.ensures c.limits.ensures (is_a_part c.args.words c.args.topology.now c.args.sets c.requires.single) (c.find_bounds.ensures.begun told)

@@ -1,5 +1,5 @@
-use Rattle.std.proofs.lemmas.Result.{IfOk-weaker}
-use Rattle.candidate_formula.proofs.Encoded.{is_spec, is_single, is_allowed, is_candidate, is_small, has_formula, encodes, is_exact}
+use Rattle.std.proofs.Common.{◌∙◌}
+use Rattle.candidate_formula.proofs.Made.{is_spec, is_single, is_allowed, is_candidate, is_small, encodes_for, encodes_it, has_formula, encodes, is_exact, models, suits}
 use Rattle.candidate_formula.proofs.encoding.encode_candidate.Goals as goal
 
 pub spec_instance-requires-clause-spec : goal.spec_instance-requires-clause-spec
@@ -17,14 +17,35 @@ encode-requires-clause-candidate c = is_candidate c.args.topology.now c.args.spe
 pub encode-requires-clause-size : goal.encode-requires-clause-size
 encode-requires-clause-size c = is_small c.args.topology.now c.args.spec.now c.args.candidate c.requires c.in_ok-instance.instance c.nodes.result c.nodes.ensures.nodes c.in_ok-instance.ensures
 
+pub with_order-requires : goal.with_order-requires
+with_order-requires c = encodes_for c.args.topology.now c.args.spec.now c.args.candidate c.requires c.in_ok-instance.instance c.nodes.result c.nodes.ensures.nodes c.in_ok-instance.ensures c.in_ok-encoding.encoding c.in_ok-encoding.ensures.encoding
+
 pub returns-clause-formula : goal.returns-clause-formula
 returns-clause-formula c =
-    IfOk-weaker c.encode.result _ _ (has_formula c.args.topology.now c.args.spec.now c.args.candidate c.requires c.in_ok-instance.instance c.nodes.result c.nodes.ensures.nodes c.in_ok-instance.ensures) c.encode.ensures.encoding
+    has_formula c.args.topology.now c.args.spec.now c.args.candidate c.requires c.in_ok-instance.instance c.nodes.result c.nodes.ensures.nodes c.in_ok-instance.ensures
+    c.args.pruning c.in_ok-encoded.encoded (c.in_ok-encoded.ensures.encoding ∙ c.in_ok-encoding.ensures.encoding)
+    (c.in_ok-encoded.ensures.formula c.args.topology.now c.args.candidate.s c.args.candidate.r (encodes_it c.args.topology.now c.args.spec.now c.args.candidate c.requires c.in_ok-instance.instance c.nodes.result c.nodes.ensures.nodes c.in_ok-instance.ensures c.in_ok-encoding.encoding c.in_ok-encoding.ensures.encoding))
 
 pub returns-clause-encoding : goal.returns-clause-encoding
 returns-clause-encoding c =
-    IfOk-weaker c.encode.result _ _ (encodes c.args.topology.now c.args.spec.now c.args.candidate c.requires c.in_ok-instance.instance c.nodes.result c.nodes.ensures.nodes c.in_ok-instance.ensures) c.encode.ensures.encoding
+    encodes c.args.topology.now c.args.spec.now c.args.candidate c.requires c.in_ok-instance.instance c.nodes.result c.nodes.ensures.nodes c.in_ok-instance.ensures
+    c.args.pruning c.in_ok-encoded.encoded (c.in_ok-encoded.ensures.encoding ∙ c.in_ok-encoding.ensures.encoding)
+    (c.in_ok-encoded.ensures.formula c.args.topology.now c.args.candidate.s c.args.candidate.r (encodes_it c.args.topology.now c.args.spec.now c.args.candidate c.requires c.in_ok-instance.instance c.nodes.result c.nodes.ensures.nodes c.in_ok-instance.ensures c.in_ok-encoding.encoding c.in_ok-encoding.ensures.encoding))
 
 pub returns-clause-exactly : goal.returns-clause-exactly
 returns-clause-exactly c =
-    IfOk-weaker c.encode.result _ _ (is_exact c.args.topology.now c.args.spec.now c.args.candidate c.requires c.in_ok-instance.instance c.nodes.result c.nodes.ensures.nodes c.in_ok-instance.ensures) c.encode.ensures.encoding
+    is_exact c.args.topology.now c.args.spec.now c.args.candidate c.requires c.in_ok-instance.instance c.nodes.result c.nodes.ensures.nodes c.in_ok-instance.ensures
+    c.args.pruning c.in_ok-encoded.encoded (c.in_ok-encoded.ensures.encoding ∙ c.in_ok-encoding.ensures.encoding)
+    (c.in_ok-encoded.ensures.formula c.args.topology.now c.args.candidate.s c.args.candidate.r (encodes_it c.args.topology.now c.args.spec.now c.args.candidate c.requires c.in_ok-instance.instance c.nodes.result c.nodes.ensures.nodes c.in_ok-instance.ensures c.in_ok-encoding.encoding c.in_ok-encoding.ensures.encoding))
+
+pub returns-clause-models : goal.returns-clause-models
+returns-clause-models c =
+    models c.args.topology.now c.args.spec.now c.args.candidate c.requires c.in_ok-instance.instance c.nodes.result c.nodes.ensures.nodes c.in_ok-instance.ensures
+    c.args.pruning c.in_ok-encoded.encoded (c.in_ok-encoded.ensures.encoding ∙ c.in_ok-encoding.ensures.encoding)
+    (c.in_ok-encoded.ensures.formula c.args.topology.now c.args.candidate.s c.args.candidate.r (encodes_it c.args.topology.now c.args.spec.now c.args.candidate c.requires c.in_ok-instance.instance c.nodes.result c.nodes.ensures.nodes c.in_ok-instance.ensures c.in_ok-encoding.encoding c.in_ok-encoding.ensures.encoding))
+
+pub returns-clause-suits : goal.returns-clause-suits
+returns-clause-suits c =
+    suits c.args.topology.now c.args.spec.now c.args.candidate c.requires c.in_ok-instance.instance c.nodes.result c.nodes.ensures.nodes c.in_ok-instance.ensures
+    c.args.pruning c.in_ok-encoded.encoded (c.in_ok-encoded.ensures.encoding ∙ c.in_ok-encoding.ensures.encoding)
+    (c.in_ok-encoded.ensures.formula c.args.topology.now c.args.candidate.s c.args.candidate.r (encodes_it c.args.topology.now c.args.spec.now c.args.candidate c.requires c.in_ok-instance.instance c.nodes.result c.nodes.ensures.nodes c.in_ok-instance.ensures c.in_ok-encoding.encoding c.in_ok-encoding.ensures.encoding))

@@ -1,7 +1,7 @@
 use Rattle.std.proofs.Common.{sym}
 use Rattle.candidate_order.specs.Copied.{copied_spec}
 use Rattle.candidate_formula.proofs.Copying.{same_allowed, copied_stays}
-use Rattle.candidate_formula.proofs.CopyingQuestions.{small_by_copying, within_by, reduced_formula}
+use Rattle.candidate_formula.proofs.CopyingQuestions.{small_by_copying, within_by, reduced_formula, copied_suits}
 use Rattle.candidate_formula.proofs.TurnedSize.{copied_size}
 use Rattle.candidate_formula.proofs.laws.reductions_are_sought_by_copying.Goals as goal
 
@@ -16,6 +16,9 @@ returns-clause-within c = λ q x. (
 
 pub returns-clause-formula : goal.returns-clause-formula
 returns-clause-formula c = reduced_formula
+
+pub returns-clause-suits : goal.returns-clause-suits
+returns-clause-suits c = copied_suits
 
 pub returns-clause-stays : goal.returns-clause-stays
 returns-clause-stays c = copied_stays

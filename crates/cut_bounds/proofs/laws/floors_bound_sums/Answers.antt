@@ -7,7 +7,7 @@ use Rattle.cut_bounds.proofs.laws.floors_bound_sums.Goals as goal
 pub returns : goal.returns
 returns c = record {
   schedules = sums_bound;
-  solvable = λ q x adds single spec allowed solvable.
+  solvable = λ sets q x adds single spec allowed solvable.
       let summed : SummedSolvable q.topology (demand_for q x) x.s x.r = subst (λ b. Achievable b q x) adds solvable in
-      sums_bound q.topology q.spec summed.schedule x.s x.r x.c adds single spec allowed summed.sums;
+      sums_bound sets q.topology q.spec summed.schedule x.s x.r x.c adds single spec allowed summed.sums;
 }

@@ -8,9 +8,9 @@ returns g c =
     let q = view.question e.inner in
     let f = c.args.frontier.now in
     record {
-      points = points_uncut q f e.entries.items c.requires c.cuts-cuts.ensures.refuted;
-      unknown = given_up_uncut q f e.entries.items c.requires c.cuts-cuts.ensures.refuted;
-      within = refuted_within q f e.entries.items c.requires c.cuts-cuts.ensures.refuted c.inner-inner.ensures.within;
-      cuts = cuts_parted q f e.entries.items c.requires c.cuts-cuts.ensures.refuted;
-      inner = rest_parted q f e.entries.items c.requires c.cuts-cuts.ensures.refuted (view.entries e.inner) c.inner-inner.ensures.kept;
+      points = points_uncut e.sets q f e.tried.entries c.requires c.inner-inner.ensures.refuted;
+      unknown = given_up_uncut e.sets q f e.tried.entries c.requires c.inner-inner.ensures.refuted;
+      within = refuted_within e.sets q f e.tried.entries c.requires c.inner-inner.ensures.refuted c.inner-inner.ensures.within;
+      cuts = cuts_parted e.sets q f e.tried.entries c.requires c.inner-inner.ensures.refuted;
+      inner = rest_parted e.sets q f e.tried.entries c.requires c.inner-inner.ensures.refuted (view.entries e.inner) c.inner-inner.ensures.kept;
     }

@@ -22,6 +22,6 @@ loop-candidate-preserved g c =
     let i : ℕ = c.loop-candidate.candidate-index in
     let d : Candidate = record { s = 0; r = 0; c = 0 } in
     record {
-      cuts = cuts_more q xs i d c.in_ok-cut.cut c.loop-candidate.parts.cuts.items c.add.new.self.cuts.items c.loop-candidate-test.true c.in_ok-cut.ensures c.loop-candidate.invariant.cuts c.in_ok-add.ensures.cuts;
-      others = others_more q xs i d c.in_ok-cut.cut c.loop-candidate.parts.others.items c.add.new.self.others.items c.loop-candidate-test.true c.in_ok-cut.ensures c.loop-candidate.invariant.others c.in_ok-add.ensures.others;
+      cuts = cuts_more c.args.engine.now.sets q xs i d c.in_ok-cut.cut c.loop-candidate.parts.cuts.items c.add.new.self.cuts.items c.loop-candidate-test.true c.in_ok-cut.ensures c.loop-candidate.invariant.cuts c.in_ok-add.ensures.cuts;
+      others = others_more c.args.engine.now.sets q xs i d c.in_ok-cut.cut c.loop-candidate.parts.others.items c.add.new.self.others.items c.loop-candidate-test.true c.in_ok-cut.ensures c.loop-candidate.invariant.others c.in_ok-add.ensures.others;
     }

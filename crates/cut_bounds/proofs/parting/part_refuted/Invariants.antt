@@ -4,6 +4,6 @@ use Rattle.cut_bounds.proofs.parting.part_refuted.Given as goal
 
 abbrev pub invariant-loop-candidate : goal.invariant-loop-candidate
 invariant-loop-candidate g l = record {
-  cuts : l.parts.cuts.items ≡ cuts_among (g.E.EngineView.question l.engine.inner) (take l.candidate-index l.candidate-items);
-  others : l.parts.others.items ≡ uncut_among (g.E.EngineView.question l.engine.inner) (take l.candidate-index l.candidate-items);
+  cuts : l.parts.cuts.items ≡ cuts_among l.engine.sets (g.E.EngineView.question l.engine.inner) (take l.candidate-index l.candidate-items);
+  others : l.parts.others.items ≡ uncut_among l.engine.sets (g.E.EngineView.question l.engine.inner) (take l.candidate-index l.candidate-items);
 }

@@ -6,7 +6,7 @@ returns g c =
     let e = c.args.engine.now in
     let f = c.args.frontier.now in
     let old = e.old.items in
-    let entries = e.entries.items in
+    let entries = e.tried.entries in
     record {
       refuted = carried_refuted f entries c.requires old e.alone;
       points = points_apart f entries c.requires old e.alone;

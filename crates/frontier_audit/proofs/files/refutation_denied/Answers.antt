@@ -1,26 +1,15 @@
-use Rattle.std.proofs.Common.{subst, sym, ◌∙◌}
-use Rattle.frontier_audit.specs.Auditing.{refuted_checked}
-use Rattle.frontier_audit.specs.Beside.{AnswersBeside}
-use Rattle.frontier_audit.proofs.Said.{text_denies, proof_decides, said_before, said_later}
+use Rattle.std.proofs.Common.{sym, ◌∙◌}
+use Rattle.std.proofs.lemmas.Result.{IfOk-weaker}
+use Rattle.frontier_audit.proofs.CutAway.{answers_where_cut, answers_where_uncut}
 use Rattle.frontier_audit.proofs.files.refutation_denied.Goals as goal
 
-pub returns-in-Some-clause-beside : goal.returns-in-Some-clause-beside
-returns-in-Some-clause-beside g c =
+pub returns-then-is_cut_away-clause-beside : goal.returns-then-is_cut_away-clause-beside
+returns-then-is_cut_away-clause-beside g c =
     let H = g.H.Shelf in
-    let text = c.in_ok-text.ensures in
-    text_denies (H.tells c.formula_file.new.shelf) (H.file c.args.shelf.now) c.args.part c.args.asked.now c.args.candidate c.in_ok-formula.formula c.in_ok-formula.ensures
-    c.file_name-name.result c.in_ok-text.text c.in-Some.denial c.file_name-name.ensures (record { exact = text.exact; some = text.some }) (sym c.denial_for.ensures ∙ c.in-Some.is)
+    answers_where_cut (H.tells c.args.shelf.now) (H.file c.args.shelf.now) c.args.part c.args.asked.now c.args.candidate (sym c.is_cut_away.ensures ∙ c.if-is_cut_away.true)
 
 pub returns-clause-beside : goal.returns-clause-beside
 returns-clause-beside g c =
     let H = g.H.Shelf in
-    let q = c.args.asked.now in
-    let shelf = H.file c.args.shelf.now in
-    let tells = H.tells c.refutation_file.new.shelf in
-    let text = c.in_ok-text.ensures in
-    let proof = c.in_ok-proof.ensures in
-    subst (AnswersBeside tells shelf (λ files. refuted_checked c.args.part q files c.args.candidate)) (sym c.denial_for-2.ensures)
-    (proof_decides tells shelf c.args.part q c.args.candidate c.in_ok-formula.formula c.in_ok-formula.ensures
-    c.file_name-name.result c.file_name-name-2.result c.in_ok-text.text c.in_ok-proof.proof
-    c.file_name-name.ensures (said_later (H.tells c.formula_file.new.shelf) tells shelf c.file_name-name.result _ c.in_ok-text.text proof.told (record { exact = text.exact; some = text.some })) (sym c.denial_for.ensures ∙ c.in_default.is)
-    c.file_name-name-2.ensures (said_before tells shelf (H.file c.formula_file.new.shelf) c.file_name-name-2.result _ c.in_ok-proof.proof (λ t. text.stay (proof.told t)) (record { exact = proof.exact; some = proof.some })))
+    let uncut = sym c.is_cut_away.ensures ∙ c.if-is_cut_away.false in
+    IfOk-weaker c.files_denied.result _ _ (λ d beside. answers_where_uncut (H.tells c.files_denied.new.shelf) (H.file c.args.shelf.now) c.args.part c.args.asked.now c.args.candidate d uncut beside) c.files_denied.ensures.beside

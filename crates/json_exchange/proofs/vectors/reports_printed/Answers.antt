@@ -10,3 +10,7 @@ returns-clause-broadcast c = refl
 pub returns-clause-allreduce : goal.returns-clause-allreduce
 unfolding serde_json_on_literals digits
 returns-clause-allreduce c = refl
+
+pub returns-clause-pruned : goal.returns-clause-pruned
+unfolding serde_json_on_literals digits
+returns-clause-pruned c = refl

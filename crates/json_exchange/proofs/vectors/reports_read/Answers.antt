@@ -14,3 +14,15 @@ returns-clause-broadcast c = refl
 pub returns-clause-allreduce : goal.returns-clause-allreduce
 unfolding serde_json_on_literals is_utf8 chars digits report_of pattern_at body_of frontier_at frontier_point_at joined_point_at schedule_at
 returns-clause-allreduce c = refl
+
+pub returns-clause-pruned : goal.returns-clause-pruned
+unfolding serde_json_on_literals is_utf8 chars digits report_of pattern_at body_of frontier_at frontier_point_at joined_point_at schedule_at
+returns-clause-pruned c = refl
+
+pub returns-clause-other_order : goal.returns-clause-other_order
+unfolding serde_json_on_literals is_utf8 chars digits report_of pattern_at body_of frontier_at frontier_point_at joined_point_at schedule_at
+returns-clause-other_order c = refl
+
+pub returns-clause-ordered : goal.returns-clause-ordered
+unfolding serde_json_on_literals is_utf8 chars digits report_of pattern_at body_of frontier_at frontier_point_at joined_point_at schedule_at
+returns-clause-ordered c = refl

@@ -38,3 +38,19 @@ returns-clause-no_root c = refl
 pub returns-clause-other_root : goal.returns-clause-other_root
 unfolding serde_json_on_literals is_utf8 chars digits report_of pattern_at body_of frontier_at frontier_point_at joined_point_at schedule_at
 returns-clause-other_root c = refl
+
+pub returns-clause-cuts : goal.returns-clause-cuts
+unfolding serde_json_on_literals is_utf8 chars digits report_of pattern_at body_of frontier_at frontier_point_at joined_point_at schedule_at
+returns-clause-cuts c = refl
+
+pub returns-clause-no_text : goal.returns-clause-no_text
+unfolding serde_json_on_literals is_utf8 chars digits report_of pattern_at body_of frontier_at frontier_point_at joined_point_at schedule_at
+returns-clause-no_text c = refl
+
+pub returns-clause-ordered : goal.returns-clause-ordered
+unfolding serde_json_on_literals is_utf8 chars digits report_of pattern_at body_of frontier_at frontier_point_at joined_point_at schedule_at
+returns-clause-ordered c = refl
+
+pub returns-clause-other_key : goal.returns-clause-other_key
+unfolding serde_json_on_literals is_utf8 chars digits report_of pattern_at body_of frontier_at frontier_point_at joined_point_at schedule_at
+returns-clause-other_key c = refl

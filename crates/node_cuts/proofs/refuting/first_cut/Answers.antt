@@ -1,43 +1,75 @@
-use Rattle.std.proofs.Common.{◌≡◌, ◌*◌, ℕ, Bool, Some, List, get_or, ap, sym, ◌∙◌}
+use Rattle.std.proofs.Common.{◌≡◌, ◌*◌, ◌<◌, ℕ, Bool, List, Some, get_or, length, map, sym, ap, ◌∙◌, ⊎_elim, arith}
 use Rattle.std.specs.Prelude.{nat_lt}
 use Rattle.std.specs.Option.{option_map}
 use Rattle.std.proofs.Math.Nat.{mul-one}
-use Rattle.std.proofs.lemmas.List.{get_or_default}
-use Rattle.schedule.specs.Links.{TopologyValue}
-use Rattle.schedule.specs.Placed.{PlacementValue}
-use Rattle.node_cuts.specs.declared.side.Side.{Side}
+use Rattle.std.proofs.lemmas.Bool.{cases_eq}
+use Rattle.std.proofs.lemmas.List.{get_or_default, length-map}
+use Rattle.list_laws.proofs.Fronts.{at_map}
+use Rattle.node_cuts.specs.declared.members.Members.{Members}
+use Rattle.node_cuts.specs.declared.members.Members.TheVariants.{Sided}
 use Rattle.node_cuts.specs.declared.side.Side.TheVariants.{One}
-use Rattle.node_cuts.specs.Sides.{set_of}
-use Rattle.node_cuts.specs.Cuts.{CutValue, cut_of, cut_refutes, need, width}
-use Rattle.node_cuts.proofs.Reading.{find_here, find_later}
+use Rattle.node_cuts.specs.declared.sets.Sets.TheVariants.{Listed}
+use Rattle.node_cuts.specs.declared.measure.Measure.{Measure}
+use Rattle.node_cuts.specs.Sides.{NodeSet, mask_of, members, node_sets}
+use Rattle.node_cuts.specs.Cuts.{CutValue, cover_by, cut_of, cut_refutes, need, width_by}
+use Rattle.node_cuts.specs.Tables.{measure_of}
+use Rattle.node_cuts.proofs.Tabled.{found_at, is_over, measure_told, nobody, none_found_in}
 use Rattle.node_cuts.proofs.refuting.first_cut.Goals as goal
 
--- what is tested of a cut is whether its set refutes
-refutes_told : (t : TopologyValue) (pre post : PlacementValue) (side : Side) (cut : CutValue) (r : ℕ) (told : Bool) → cut ≡ cut_of t pre post side → told ≡ nat_lt (cut.width * r) (cut.need * 1) → told ≡ cut_refutes (set_of side) t pre post r
-refutes_told t pre post side cut r told made is =
-    is ∙ ap (λ (v : CutValue). nat_lt (v.width * r) (v.need * 1)) made ∙ ap (λ n. nat_lt (width (set_of side) t * r) n) (mul-one (need (set_of side) pre post))
+-- the element of a list at a place is the one of what is mapped
+at_place : (items : List Members) (us : List NodeSet) (k : ℕ) (d : Members) → map members items ≡ us → k < length items → members (get_or items k d) ≡ get_or us k nobody
+at_place items us k d all inside = sym (at_map members items k (get_or items k d) nobody inside (get_or_default items k d (get_or items k d) inside)) ∙ ap (λ vs. get_or vs k nobody) all
+
+pub loop-set-preserved : goal.loop-set-preserved
+loop-set-preserved c k below =
+    let t = c.args.topology.now in
+    let i = c.args.instance.now in
+    let r : ℕ = c.args.r in
+    let items : List Members = c.deref-set-items.result.now in
+    let us : List NodeSet = node_sets Listed t.nodes in
+    let at : ℕ = c.loop-set.set-index in
+    let all : map members items ≡ us = ap (map members) c.deref-set-items.ensures.value ∙ c.in_ok-node_sets.ensures ∙ ap (node_sets Listed) c.nodes-nodes.ensures.nodes in
+    let set : Members = get_or items at (Sided (One 0)) in
+    let measured : c.in_ok-measure.measure ≡ measure_of Listed t i.pre i.post (members set) =
+    measure_told Listed t i.pre i.post (members set) c.deref-in-loop-set.result.now c.in_ok-holders.holders.items c.in_ok-measure.measure c.in_ok-holders.ensures.need c.deref-in-loop-set.ensures.value c.in_ok-measure.ensures.measure in
+    let told : c.refutes.result ≡ cut_refutes Listed (members set) t i.pre i.post r = c.refutes.ensures ∙ ap (is_over 1 r) measured ∙ ap (nat_lt (width_by Listed (members set) t * r)) (mul-one (need (members set) i.pre i.post)) in
+    ⊎_elim
+    (λ (here : k ≡ at).
+    ap (λ j. cut_refutes Listed (get_or us j nobody) t i.pre i.post r) here
+    ∙ ap (λ u. cut_refutes Listed u t i.pre i.post r) (sym (at_place items us at (Sided (One 0)) all c.loop-set-test.true)) ∙ sym told ∙ c.if-refutes.false)
+    (λ (other : k ≡ at → ⊥). c.loop-set.invariant k (omega (arith, below, other)))
+    (cases_eq k at)
 
 pub returns-then-refutes : goal.returns-then-refutes
 returns-then-refutes c =
     let t = c.args.topology.now in
     let i = c.args.instance.now in
     let r : ℕ = c.args.r in
-    let sides : List Side = c.deref-side-items.result.now in
-    let k : ℕ = c.loop-side.side-index in
-    let side : Side = get_or sides k (One 0) in
-    let told : c.refutes.result ≡ cut_refutes (set_of side) t i.pre i.post r = refutes_told t i.pre i.post side c.in_ok-cut.cut r c.refutes.result c.in_ok-cut.ensures.cut c.refutes.ensures in
-    ap Some c.in_ok-cut.ensures.cut
-    ∙ sym (find_here (λ s. cut_refutes (set_of s) t i.pre i.post r) (cut_of t i.pre i.post) sides k side c.loop-side-test.true (get_or_default sides k (One 0) side c.loop-side-test.true) (sym told ∙ c.if-refutes.true))
-    ∙ c.loop-side.invariant
+    let items : List Members = c.deref-set-items.result.now in
+    let us : List NodeSet = node_sets Listed t.nodes in
+    let at : ℕ = c.loop-set.set-index in
+    let all : map members items ≡ us = ap (map members) c.deref-set-items.ensures.value ∙ c.in_ok-node_sets.ensures ∙ ap (node_sets Listed) c.nodes-nodes.ensures.nodes in
+    let set : Members = get_or items at (Sided (One 0)) in
+    let u : NodeSet = members set in
+    let measured : c.in_ok-measure.measure ≡ measure_of Listed t i.pre i.post u =
+    measure_told Listed t i.pre i.post u c.deref-in-loop-set.result.now c.in_ok-holders.holders.items c.in_ok-measure.measure c.in_ok-holders.ensures.need c.deref-in-loop-set.ensures.value c.in_ok-measure.ensures.measure in
+    let told : c.refutes.result ≡ cut_refutes Listed u t i.pre i.post r = c.refutes.ensures ∙ ap (is_over 1 r) measured ∙ ap (nat_lt (width_by Listed u t * r)) (mul-one (need u i.pre i.post)) in
+    let of : ℕ → List ℕ → Measure → CutValue = λ nodes groups measure. record { nodes = nodes; groups = groups; need = measure.need; width = measure.width } in
+    let made : c.new.result ≡ cut_of Listed t i.pre i.post u =
+    c.new.ensures ∙ ap (λ n. of n c.in_ok-groups.groups.items c.in_ok-measure.measure) (c.mask.ensures ∙ ap (λ n. mask_of n u) c.nodes-nodes.ensures.nodes)
+    ∙ ap (λ gs. of (mask_of t.nodes u) gs c.in_ok-measure.measure) c.in_ok-groups.ensures.cover ∙ ap (of (mask_of t.nodes u) (cover_by Listed u t)) measured in
+    let same : u ≡ get_or us at nobody = at_place items us at (Sided (One 0)) all c.loop-set-test.true in
+    let p : NodeSet → Bool = λ v. cut_refutes Listed v t i.pre i.post r in
+    ap Some (made ∙ ap (cut_of Listed t i.pre i.post) same)
+    ∙ ap (option_map (cut_of Listed t i.pre i.post))
+    (sym (found_at p us at nobody (omega (arith, c.loop-set-test.true, ap length all, length-map items members)) c.loop-set.invariant (ap p (sym same) ∙ sym told ∙ c.if-refutes.true)))
 
-pub loop-side-preserved : goal.loop-side-preserved
-loop-side-preserved c =
+pub returns : goal.returns
+returns c =
     let t = c.args.topology.now in
     let i = c.args.instance.now in
-    let r : ℕ = c.args.r in
-    let sides : List Side = c.deref-side-items.result.now in
-    let k : ℕ = c.loop-side.side-index in
-    let side : Side = get_or sides k (One 0) in
-    let told : c.refutes.result ≡ cut_refutes (set_of side) t i.pre i.post r = refutes_told t i.pre i.post side c.in_ok-cut.cut r c.refutes.result c.in_ok-cut.ensures.cut c.refutes.ensures in
-    ap (option_map (cut_of t i.pre i.post)) (sym (find_later (λ s. cut_refutes (set_of s) t i.pre i.post r) sides k side c.loop-side-test.true (get_or_default sides k (One 0) side c.loop-side-test.true) (sym told ∙ c.if-refutes.false)))
-    ∙ c.loop-side.invariant
+    let items : List Members = c.deref-set-items.result.now in
+    let us : List NodeSet = node_sets Listed t.nodes in
+    let all : map members items ≡ us = ap (map members) c.deref-set-items.ensures.value ∙ c.in_ok-node_sets.ensures ∙ ap (node_sets Listed) c.nodes-nodes.ensures.nodes in
+    ap (option_map (cut_of Listed t i.pre i.post))
+    (sym (none_found_in (λ v. cut_refutes Listed v t i.pre i.post c.args.r) us nobody (λ k below. c.loop-set.invariant k (omega (arith, below, c.loop-set-test.false, ap length all, length-map items members)))))

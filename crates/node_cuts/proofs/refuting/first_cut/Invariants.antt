@@ -1,11 +1,9 @@
-use Rattle.std.proofs.Common.{◌≡◌, drop}
-use Rattle.std.specs.Prelude.{find}
-use Rattle.std.specs.Option.{option_map}
-use Rattle.node_cuts.specs.Sides.{set_of}
-use Rattle.node_cuts.specs.Cuts.{cut_of, cut_refutes, first_cut_of}
+use Rattle.std.proofs.Common.{◌≡◌, ◌<◌, ℕ, false, slice_index_or}
+use Rattle.node_cuts.specs.declared.sets.Sets.TheVariants.{Listed}
+use Rattle.node_cuts.specs.Sides.{node_sets}
+use Rattle.node_cuts.specs.Cuts.{cut_refutes}
+use Rattle.node_cuts.proofs.Tabled.{nobody}
 use Rattle.node_cuts.proofs.refuting.first_cut.Given as goal
 
-abbrev pub invariant-loop-side : goal.invariant-loop-side
-invariant-loop-side l =
-    option_map (cut_of l.topology l.instance.pre l.instance.post) (find (λ side. cut_refutes (set_of side) l.topology l.instance.pre l.instance.post l.r) (drop l.side-index l.side-items))
-    ≡ first_cut_of l.topology l.instance.pre l.instance.post l.r
+abbrev pub invariant-loop-set : goal.invariant-loop-set
+invariant-loop-set l = (k : ℕ) → k < l.set-index → cut_refutes Listed (slice_index_or (node_sets Listed l.topology.nodes) k nobody) l.topology l.instance.pre l.instance.post l.r ≡ false

@@ -1,6 +1,6 @@
 use Rattle.std.proofs.Common.{◌∙◌, ap, subst}
 use Rattle.candidate_order.specs.Frontiers.{QuestionValue}
-use Rattle.chunk_order.specs.Formulas.{OrderedFor, ordered_formula_for}
+use Rattle.candidate_formula.specs.Formulas.{OrderedFor, ordered_formula_for}
 use Rattle.engine_search.proofs.Searched.{made_for}
 use Rattle.engine_search.proofs.Found.{found_with}
 use Rattle.ordered_command.proofs.searching.find_ordered.Goals as goal

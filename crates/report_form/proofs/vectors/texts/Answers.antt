@@ -18,3 +18,7 @@ returns-clause-moved c = refl
 pub returns-clause-relay : goal.returns-clause-relay
 unfolding digits report_text
 returns-clause-relay c = refl
+
+pub returns-clause-pruned : goal.returns-clause-pruned
+unfolding digits report_text
+returns-clause-pruned c = refl

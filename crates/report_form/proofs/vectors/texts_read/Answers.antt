@@ -21,3 +21,7 @@ returns-clause-moved c = refl
 pub returns-clause-relay : goal.returns-clause-relay
 unfolding digits report_of pattern_at body_of frontier_at frontier_point_at joined_point_at schedule_at report_text
 returns-clause-relay c = refl
+
+pub returns-clause-pruned : goal.returns-clause-pruned
+unfolding digits report_of pattern_at body_of frontier_at frontier_point_at joined_point_at schedule_at report_text
+returns-clause-pruned c = refl

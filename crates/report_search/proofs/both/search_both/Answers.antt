@@ -1,7 +1,7 @@
 use Rattle.std.proofs.Common.{refl, subst, sym, arith, Contains}
 use Rattle.outer_ports.specs.declared.part.Part.TheVariants.{Gather}
 use Rattle.candidate_formula.proofs.BegunFiles.{begun_trans}
-use Rattle.report_search.proofs.BothReport.{both_prove, both_right, both_searched}
+use Rattle.report_search.proofs.BothReport.{both_keep, both_prove, both_right, both_searched}
 use Rattle.report_search.proofs.PartQuestions.{two_parts}
 use Rattle.report_search.proofs.both.search_both.Goals as goal
 
@@ -20,7 +20,7 @@ returns-clause-right g c =
 
 pub returns-clause-searched : goal.returns-clause-searched
 returns-clause-searched g c =
-    both_searched c.args.words c.args.topology c.in_ok-reduce.reduce c.in_ok-gather.gather c.requires.asked c.requires.kind c.in_ok-reduce.ensures.found c.in_ok-gather.ensures.found c.in_ok-report.report c.in_ok-report.ensures
+    both_searched c.args.words c.args.topology c.in_ok-reduce.reduce c.in_ok-gather.gather c.requires.asked c.requires.kind c.in_ok-reduce.ensures.found c.in_ok-gather.ensures.found c.in_ok-report.report c.in_ok-report.ensures c.in_ok-reduce.ensures.uncut c.in_ok-gather.ensures.uncut
 
 pub returns-clause-proves : goal.returns-clause-proves
 returns-clause-proves g c = λ told.
@@ -29,3 +29,9 @@ returns-clause-proves g c = λ told.
 
 pub returns-clause-begun : goal.returns-clause-begun
 returns-clause-begun g c = λ told. begun_trans (c.part_frontier.ensures.begun (c.part_frontier-2.ensures.told told)) (c.part_frontier-2.ensures.begun told)
+
+pub returns-clause-keeps : goal.returns-clause-keeps
+returns-clause-keeps g c = λ kept told.
+    let sooner = c.part_frontier-2.ensures.told told in
+    both_keep c.args.words c.args.topology c.in_ok-reduce.reduce c.in_ok-gather.gather c.in_ok-report.report _ (g.H.Shelf.file c.part_frontier.new.shelf) _ c.in_ok-report.ensures (c.in_ok-reduce.ensures.shelved sooner) (c.in_ok-gather.ensures.shelved told)
+    (c.in_ok-reduce.ensures.keeps kept sooner) (c.in_ok-gather.ensures.keeps kept told)

@@ -1,30 +1,74 @@
-use Rattle.std.proofs.Common.{◌∙◌}
+use Rattle.std.proofs.Common.{◌≡◌, ◌∙◌, ap, subst}
 use Rattle.candidate_order.specs.Frontiers.{QuestionValue}
+use Rattle.node_cuts.specs.Cutting.{sets_for}
+use Rattle.candidate_formula.specs.Formulas.{Suits}
+use Rattle.candidate_solver.specs.Questions.{asked}
 use Rattle.engine_search.proofs.Searched.{made_for}
 use Rattle.engine_search.proofs.Found.{found_with}
-use Rattle.report_search.proofs.Recorded.{alike, begun_for, shelved_for}
+use Rattle.report_search.proofs.Recorded.{alike, begun_for, filed_for}
+use Rattle.report_search.proofs.Uncut.{cut_in_place, reached_uncut, runs_below, shelved_uncut, stays_below, unknown_uncut}
+use Rattle.report_search.proofs.Keeping.{keeps_single}
 use Rattle.report_search.proofs.single.single_frontier.Goals as goal
-
-pub returns-in_err-frontier-clause-begun : goal.returns-in_err-frontier-clause-begun
-returns-in_err-frontier-clause-begun g c =
-    let q : QuestionValue = record { topology = c.args.topology.now; spec = c.args.spec.now; limits = c.args.limits } in
-    let made = made_for q _ _ c.in_ok-engine.ensures.question c.deref.ensures c.in_ok-links.ensures.links in
-    begun_for q c.frontier_by.ensures.moves made c.requires.single c.frontier_by.ensures.within c.in_ok-engine.ensures.part
-
-pub returns-clause-found : goal.returns-clause-found
-returns-clause-found g c =
-    let q : QuestionValue = record { topology = c.args.topology.now; spec = c.args.spec.now; limits = c.args.limits } in
-    let made = made_for q _ _ c.in_ok-engine.ensures.question c.deref.ensures c.in_ok-links.ensures.links in
-    found_with _ _ _ _ (λ x. c.frontier_by.ensures.same.formula x ∙ c.in_ok-engine.ensures.formula x ∙ alike q _ made c.requires.single x) (λ x s suited. tt) c.in_ok-frontier.ensures.found
-
-pub returns-clause-shelved : goal.returns-clause-shelved
-returns-clause-shelved g c =
-    let q : QuestionValue = record { topology = c.args.topology.now; spec = c.args.spec.now; limits = c.args.limits } in
-    let made = made_for q _ _ c.in_ok-engine.ensures.question c.deref.ensures c.in_ok-links.ensures.links in
-    shelved_for q c.frontier_by.ensures.moves made c.requires.single c.in_ok-frontier.ensures.recorded c.in_ok-frontier.ensures.goes_on.agrees c.in_ok-frontier.ensures.goes_on.running c.in_ok-engine.ensures.part
 
 pub returns-clause-begun : goal.returns-clause-begun
 returns-clause-begun g c =
     let q : QuestionValue = record { topology = c.args.topology.now; spec = c.args.spec.now; limits = c.args.limits } in
-    let made = made_for q _ _ c.in_ok-engine.ensures.question c.deref.ensures c.in_ok-links.ensures.links in
-    begun_for q c.frontier_by.ensures.moves made c.requires.single c.frontier_by.ensures.within c.in_ok-engine.ensures.part
+    let made = c.in_ok-engine.ensures.same.question ∙ made_for q _ _ c.in_ok-inner.ensures.question c.deref.ensures c.in_ok-links.ensures.links in
+    let engine = c.frontier_by.new.engine in
+    let own : QuestionValue = asked engine.inner.inner.question in
+    let moves = c.frontier_by.ensures.moves in
+    let sets : engine.sets ≡ sets_for q.limits.pruning = moves.1 ∙ (c.in_ok-engine.ensures.sets ∙ (c.of-sets.ensures ∙ ap sets_for c.pruning.ensures)) in
+    begun_for q moves.0.moves made c.requires.single (stays_below engine.sets c.frontier_by.ensures.within c.frontier_by.ensures.same.question engine.kept engine.stops)
+    (reached_uncut q own engine.sets _ engine.kept engine.uncut (cut_in_place q own engine.sets (c.frontier_by.ensures.same.question ∙ made) sets))
+    (ap (λ e. e.part) c.in_ok-engine.ensures.inner ∙ c.in_ok-inner.ensures.part)
+
+pub returns-in-Ok-clause-found : goal.returns-in-Ok-clause-found
+returns-in-Ok-clause-found g c =
+    let q : QuestionValue = record { topology = c.args.topology.now; spec = c.args.spec.now; limits = c.args.limits } in
+    let made = made_for q _ _ c.in_ok-inner.ensures.question c.deref.ensures c.in_ok-links.ensures.links in
+    found_with _ _ _ _ (λ x. c.frontier_by.ensures.same.formula x ∙ (c.in_ok-engine.ensures.same.formula x ∙ (c.in_ok-inner.ensures.formula x ∙ alike q _ made c.requires.single x)))
+    (λ x s suited. subst (λ p. Suits p x s) made ((c.in_ok-inner.ensures.suits x s).0 ((c.in_ok-engine.ensures.same.suits x s).0 ((c.frontier_by.ensures.same.suits x s).0 suited)))) c.in-Ok.ensures.found
+
+pub returns-in-Ok-clause-uncut : goal.returns-in-Ok-clause-uncut
+returns-in-Ok-clause-uncut g c =
+    let q : QuestionValue = record { topology = c.args.topology.now; spec = c.args.spec.now; limits = c.args.limits } in
+    let made = c.in_ok-engine.ensures.same.question ∙ made_for q _ _ c.in_ok-inner.ensures.question c.deref.ensures c.in_ok-links.ensures.links in
+    let engine = c.frontier_by.new.engine in
+    let own : QuestionValue = asked engine.inner.inner.question in
+    let sets : engine.sets ≡ sets_for q.limits.pruning = c.frontier_by.ensures.moves.1 ∙ (c.in_ok-engine.ensures.sets ∙ (c.of-sets.ensures ∙ ap sets_for c.pruning.ensures)) in
+    unknown_uncut q own engine.sets (cut_in_place q own engine.sets (c.frontier_by.ensures.same.question ∙ made) sets) c.in-Ok.frontier c.cuts_are_refuted.ensures.points c.cuts_are_refuted.ensures.unknown
+
+pub returns-in-Ok-clause-shelved : goal.returns-in-Ok-clause-shelved
+returns-in-Ok-clause-shelved g c = λ told.
+    let q : QuestionValue = record { topology = c.args.topology.now; spec = c.args.spec.now; limits = c.args.limits } in
+    let made = c.in_ok-engine.ensures.same.question ∙ made_for q _ _ c.in_ok-inner.ensures.question c.deref.ensures c.in_ok-links.ensures.links in
+    let engine = c.frontier_by.new.engine in
+    let own : QuestionValue = asked engine.inner.inner.question in
+    let moves = c.frontier_by.ensures.moves in
+    let sets : engine.sets ≡ sets_for q.limits.pruning = moves.1 ∙ (c.in_ok-engine.ensures.sets ∙ (c.of-sets.ensures ∙ ap sets_for c.pruning.ensures)) in
+    let filed = filed_for q moves.0.moves made c.requires.single c.cuts_are_refuted.ensures.inner c.in-Ok.ensures.goes_on.agrees (runs_below engine.stops c.in-Ok.ensures.goes_on.running) (ap (λ e. e.part) c.in_ok-engine.ensures.inner ∙ c.in_ok-inner.ensures.part) told in
+    shelved_uncut q own engine.sets (cut_in_place q own engine.sets (c.frontier_by.ensures.same.question ∙ made) sets) c.in-Ok.frontier c.cuts_are_refuted.ensures.points c.cuts_are_refuted.ensures.unknown filed
+
+pub returns-in-Ok-clause-keeps : goal.returns-in-Ok-clause-keeps
+returns-in-Ok-clause-keeps g c = λ is_kept told.
+    let q : QuestionValue = record { topology = c.args.topology.now; spec = c.args.spec.now; limits = c.args.limits } in
+    let made = c.in_ok-engine.ensures.same.question ∙ made_for q _ _ c.in_ok-inner.ensures.question c.deref.ensures c.in_ok-links.ensures.links in
+    let engine = c.frontier_by.new.engine in
+    let own : QuestionValue = asked engine.inner.inner.question in
+    let moves = c.frontier_by.ensures.moves in
+    let sets : engine.sets ≡ sets_for q.limits.pruning = moves.1 ∙ (c.in_ok-engine.ensures.sets ∙ (c.of-sets.ensures ∙ ap sets_for c.pruning.ensures)) in
+    keeps_single q _ _ _ c.in-Ok.frontier c.args.part _ _ engine.sets made c.requires.single c.frontier_by.ensures.same.question sets c.cuts_are_refuted.ensures.inner
+    (ap (λ e. e.part) c.in_ok-engine.ensures.inner ∙ c.in_ok-inner.ensures.part) (ap (λ e. e.tried.entries) c.in_ok-engine.ensures.inner ∙ c.in_ok-inner.ensures.entries)
+    (ap (λ e. e.kept) c.in_ok-engine.ensures.inner ∙ (c.in_ok-inner.ensures.kept ∙ is_kept)) moves.0 told
+
+pub returns-in-Ok-clause-begun : goal.returns-in-Ok-clause-begun
+returns-in-Ok-clause-begun g c =
+    let q : QuestionValue = record { topology = c.args.topology.now; spec = c.args.spec.now; limits = c.args.limits } in
+    let made = c.in_ok-engine.ensures.same.question ∙ made_for q _ _ c.in_ok-inner.ensures.question c.deref.ensures c.in_ok-links.ensures.links in
+    let engine = c.frontier_by.new.engine in
+    let own : QuestionValue = asked engine.inner.inner.question in
+    let moves = c.frontier_by.ensures.moves in
+    let sets : engine.sets ≡ sets_for q.limits.pruning = moves.1 ∙ (c.in_ok-engine.ensures.sets ∙ (c.of-sets.ensures ∙ ap sets_for c.pruning.ensures)) in
+    begun_for q moves.0.moves made c.requires.single (stays_below engine.sets c.frontier_by.ensures.within c.frontier_by.ensures.same.question engine.kept engine.stops)
+    (reached_uncut q own engine.sets _ engine.kept engine.uncut (cut_in_place q own engine.sets (c.frontier_by.ensures.same.question ∙ made) sets))
+    (ap (λ e. e.part) c.in_ok-engine.ensures.inner ∙ c.in_ok-inner.ensures.part)

@@ -1,6 +1,5 @@
-use Rattle.std.proofs.Common.{◌≡◌, rules, Ok, refl, subst, sym, ap, ◌∙◌}
-use Rattle.command_words.specs.Words.{command_of, texts}
-use Rattle.run_rules.specs.Answers.{FilesValue}
+use Rattle.std.proofs.Common.{rules, refl, sym, ◌∙◌}
+use Rattle.command_words.specs.Words.{texts}
 use Rattle.run_rules.specs.Commands.{Reads}
 use Rattle.sccl_run.proofs.Dues.{refused_asks_nothing}
 use Rattle.sccl_run.proofs.Texts.{HasCome, answers_words, halts_before, halts_words, has_come, refused_words}

@@ -12,5 +12,6 @@ returns-clause-answers g c =
       searched = found.searched;
       says = record { status = refl; text = c.in_ok-text.ensures };
       proves = found.proves;
+      keeps = found.keeps;
       begun = c.in_ok-report.ensures.begun;
     }

@@ -11,12 +11,12 @@ pub invariant_of-self : goal.invariant_of-self
 invariant_of-self c =
     let e = c.args.self.now in
     let q : QuestionValue = asked e.question in
-    let entries = e.entries.items in
-    let now = c.push_reserved.new.self.items in
+    let entries = e.record.entries in
+    let now = c.note.new.self.entries in
     let x = c.args.candidate in
     let kind = c.args.kind in
     let lines = c.args.lines.items in
-    let added = c.push_reserved.ensures.items in
+    let added = c.note.ensures.entries in
     let limit = e.question.limits.conflicts in
     let formula : Candidate → FormulaValue = formula_for q in
     let proved = c.requires.proved in

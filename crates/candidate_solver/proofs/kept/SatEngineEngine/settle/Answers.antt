@@ -1,9 +1,9 @@
-use Rattle.std.proofs.Common.{◌≡◌, [], ◌∷◌, ◌++◌, sym, ap, ◌∙◌, subst}
+use Rattle.std.proofs.Common.{◌≡◌, [], ◌∷◌, ◌++◌, refl, sym, ap, ◌∙◌, subst}
 use Rattle.std.specs.Prelude.{Contains}
 use Rattle.candidate_order.specs.declared.candidate.Candidate.{Candidate}
 use Rattle.candidate_order.specs.declared.outcome.Outcome.TheVariants as outcome
 use Rattle.candidate_order.specs.Frontiers.{QuestionValue}
-use Rattle.candidate_formula.specs.Formulas.{formula_for}
+use Rattle.candidate_formula.specs.Formulas.{formula_for, Suits}
 use Rattle.candidate_formula.proofs.Exact.{formula_exact}
 use Rattle.candidate_solver.specs.Questions.{asked}
 use Rattle.engine_rules.specs.declared.settled.Settled.{Settled}
@@ -16,26 +16,29 @@ use Rattle.candidate_solver.proofs.Settling.{IsSettled, settled_moves, settled_a
 use Rattle.candidate_solver.proofs.Noting.{proved_by, not_solvable}
 use Rattle.candidate_solver.proofs.kept.SatEngineEngine.settle.Goals as goal
 
-pub returns-in_default-clause-moves : goal.returns-in_default-clause-moves
-returns-in_default-clause-moves g c =
+pub returns-in_err-prepare-clause-moves : goal.returns-in_err-prepare-clause-moves
+returns-in_err-prepare-clause-moves g c =
+    let T = g.H.Shelf.tells in
+    let F = g.H.Shelf.file in
     let store = c.args.store.now in
-    let a : EngineState = beside c.args.self.now (g.H.Shelf.tells store) (g.H.Shelf.file store) in
-    failed_moves a c.args.candidate c.reserve.new.self.items a.told a.files c.reserve.ensures.items c.requires.running (λ t. t) (λ t. begun_refl)
+    let e = c.args.self.now in
+    failed_moves (beside e (T store) (F store)) (record { part = e.part; question = asked e.question; entries = c.prepare.new.self.entries; stopped = c.prepare.new.self.stopped; told = T store; files = F store }) c.args.candidate refl refl c.prepare.ensures.entries c.requires.running c.in_err-prepare.ensures.stopped (λ t. t) (λ t. begun_refl)
 
 pub returns-in-Err-clause-moves : goal.returns-in-Err-clause-moves
 returns-in-Err-clause-moves g c =
     let T = g.H.Shelf.tells in
     let F = g.H.Shelf.file in
     let store = c.args.store.now in
-    let end = c.try_candidate.new.store in
-    failed_moves (beside c.args.self.now (T store) (F store)) c.args.candidate c.reserve.new.self.items (T end) (F end) c.reserve.ensures.items c.requires.running c.try_candidate.ensures.told c.try_candidate.ensures.begins
-
--- the reserve leaves the record as it was
-pub invariant_of-self-in-Ok-try_candidate : goal.invariant_of-self-in-Ok-try_candidate
-invariant_of-self-in-Ok-try_candidate g c =
     let e = c.args.self.now in
-    let now : RecordValue = c.reserve.new.self.items in
-    let same : now ≡ e.entries.items = c.reserve.ensures.items in
+    let end = c.try_candidate.new.store in
+    failed_moves (beside e (T store) (F store)) (record { part = e.part; question = asked e.question; entries = c.stop.new.self.entries; stopped = c.stop.new.self.stopped; told = T end; files = F end }) c.args.candidate refl refl (c.stop.ensures.entries ∙ c.prepare.ensures.entries) c.requires.running c.stop.ensures.stopped c.try_candidate.ensures.told c.try_candidate.ensures.begins
+
+-- making room leaves the record as it was
+pub invariant_of-self-in-Ok-1 : goal.invariant_of-self-in-Ok-1
+invariant_of-self-in-Ok-1 g c =
+    let e = c.args.self.now in
+    let now : RecordValue = c.prepare.new.self.entries in
+    let same : now ≡ e.record.entries = c.prepare.ensures.entries in
     record {
       named = e.named;
       right = λ x at. e.right x (subst (λ r. Contains r (x, settled.Refuted)) same at);
@@ -47,39 +50,39 @@ pub note-requires-clause-proved : goal.note-requires-clause-proved
 note-requires-clause-proved g c =
     let e = c.args.self.now in
     let q : QuestionValue = asked e.question in
-    let attempt = c.in-Ok-try_candidate.field-0 in
-    proved_by q c.args.candidate (formula_for q c.args.candidate) attempt.lines.items attempt.outcome c.of.result c.of.ensures c.in-Ok-try_candidate.ensures.outcome
+    let attempt = c.in-Ok.field-0 in
+    proved_by q c.args.candidate (formula_for q c.args.candidate) attempt.lines.items attempt.outcome c.of.result c.of.ensures c.in-Ok.ensures.outcome
 
-pub returns-in-Ok-try_candidate-clause-solved : goal.returns-in-Ok-try_candidate-clause-solved
-returns-in-Ok-try_candidate-clause-solved g c = λ schedule e.
-    let same : c.in-Ok-try_candidate.field-0.outcome ≡ outcome.Solved schedule = cc in
-    (c.in-Ok-try_candidate.ensures.outcome.solved schedule same, tt)
+pub returns-in-Ok-clause-solved : goal.returns-in-Ok-clause-solved
+returns-in-Ok-clause-solved g c = λ schedule e.
+    let same : c.in-Ok.field-0.outcome ≡ outcome.Solved schedule = cc in
+    (c.in-Ok.ensures.outcome.solved schedule same, subst (λ p. Suits (asked p) c.args.candidate schedule) (sym c.note.ensures.question) (c.in-Ok.ensures.outcome.suits schedule same))
 
-pub returns-in-Ok-try_candidate-clause-refuted : goal.returns-in-Ok-try_candidate-clause-refuted
-returns-in-Ok-try_candidate-clause-refuted g c = λ e.
+pub returns-in-Ok-clause-refuted : goal.returns-in-Ok-clause-refuted
+returns-in-Ok-clause-refuted g c = λ e.
     let engine = c.args.self.now in
     let q : QuestionValue = asked engine.question in
-    let attempt = c.in-Ok-try_candidate.field-0 in
+    let attempt = c.in-Ok.field-0 in
     let same : attempt.outcome ≡ outcome.Refuted = cc in
-    not_solvable q c.args.candidate (formula_for q c.args.candidate) attempt.lines.items (formula_exact q c.args.candidate engine.question.small c.requires.within).1 (c.in-Ok-try_candidate.ensures.outcome.refuted same)
+    not_solvable q c.args.candidate (formula_for q c.args.candidate) attempt.lines.items (formula_exact q c.args.candidate engine.question.small c.requires.within).1 (c.in-Ok.ensures.outcome.refuted same)
 
-pub returns-in-Ok-try_candidate-clause-unknown : goal.returns-in-Ok-try_candidate-clause-unknown
-returns-in-Ok-try_candidate-clause-unknown g c = λ n e.
+pub returns-in-Ok-clause-unknown : goal.returns-in-Ok-clause-unknown
+returns-in-Ok-clause-unknown g c = λ n e.
     let engine = c.args.self.now in
     let q : QuestionValue = asked engine.question in
-    let same : c.in-Ok-try_candidate.field-0.outcome ≡ outcome.Unknown n = cc in
-    let u = c.in-Ok-try_candidate.ensures.outcome.unknown n same in
+    let same : c.in-Ok.field-0.outcome ≡ outcome.Unknown n = cc in
+    let u = c.in-Ok.ensures.outcome.unknown n same in
     (u.0, subst (λ ls. SpentOn (formula_for q c.args.candidate) ls n) (sym c.note.ensures.log) u.1)
 
-pub returns-in-Ok-try_candidate-clause-same : goal.returns-in-Ok-try_candidate-clause-same
-returns-in-Ok-try_candidate-clause-same g c = record {
+pub returns-in-Ok-clause-same : goal.returns-in-Ok-clause-same
+returns-in-Ok-clause-same g c = record {
   question = ap asked c.note.ensures.question;
   formula = λ x. ap (λ p. formula_for (asked p) x) c.note.ensures.question;
-  suits = λ x schedule. (λ _. tt, λ _. tt);
+  suits = λ x schedule. (subst (λ p. Suits (asked p) x schedule) c.note.ensures.question, subst (λ p. Suits (asked p) x schedule) (sym c.note.ensures.question));
 }
 
-pub returns-in-Ok-try_candidate-clause-moves : goal.returns-in-Ok-try_candidate-clause-moves
-returns-in-Ok-try_candidate-clause-moves g c =
+pub returns-in-Ok-clause-moves : goal.returns-in-Ok-clause-moves
+returns-in-Ok-clause-moves g c =
     let T = g.H.Shelf.tells in
     let F = g.H.Shelf.file in
     let store = c.args.store.now in
@@ -88,15 +91,15 @@ returns-in-Ok-try_candidate-clause-moves g c =
     settled_moves (beside c.args.self.now (T store) (F store)) (beside c.note.new.self (T end) (F end)) c.args.candidate c.of.result (record {
       part = c.note.ensures.part;
       question = ap asked c.note.ensures.question;
-      entries = c.note.ensures.entries ∙ ap (λ r. r ++ entry ∷ []) c.reserve.ensures.items;
+      entries = c.note.ensures.entries ∙ ap (λ r. r ++ entry ∷ []) c.prepare.ensures.entries;
       running = c.requires.running;
       new = c.requires.fresh;
       tells = c.try_candidate.ensures.told;
       begins = c.try_candidate.ensures.begins;
     })
 
-pub returns-in-Ok-try_candidate-clause-goes_on : goal.returns-in-Ok-try_candidate-clause-goes_on
-returns-in-Ok-try_candidate-clause-goes_on g c =
+pub returns-in-Ok-clause-goes_on : goal.returns-in-Ok-clause-goes_on
+returns-in-Ok-clause-goes_on g c =
     let T = g.H.Shelf.tells in
     let F = g.H.Shelf.file in
     let store = c.args.store.now in
@@ -107,14 +110,14 @@ returns-in-Ok-try_candidate-clause-goes_on g c =
     let s : IsSettled a b c.args.candidate c.of.result = record {
       part = c.note.ensures.part;
       question = ap asked c.note.ensures.question;
-      entries = c.note.ensures.entries ∙ ap (λ r. r ++ entry ∷ []) c.reserve.ensures.items;
+      entries = c.note.ensures.entries ∙ ap (λ r. r ++ entry ∷ []) c.prepare.ensures.entries;
       running = c.requires.running;
       new = c.requires.fresh;
       tells = c.try_candidate.ensures.told;
       begins = c.try_candidate.ensures.begins;
     } in
     record {
-      running = c.note.ensures.stopped ∙ c.requires.running;
+      running = c.note.ensures.stopped ∙ (c.in_ok-prepare.ensures.running ∙ c.requires.running);
       agrees = settled_agrees a b c.args.candidate c.of.result s c.requires.agrees
-          (λ t. subst (λ kind. HasFiles a.part a.question b.files (c.args.candidate, kind)) (sym c.of.ensures) (c.in-Ok-try_candidate.ensures.files t));
+          (λ t. subst (λ kind. HasFiles a.part a.question b.files (c.args.candidate, kind)) (sym c.of.ensures) (c.in-Ok.ensures.files t));
     }

@@ -3,20 +3,20 @@ use Rattle.candidate_order.specs.Frontiers.{QuestionValue}
 use Rattle.cnf_formula.specs.Formulas.{FormulaValue}
 use Rattle.candidate_solver.specs.Questions.{asked}
 use Rattle.candidate_solver.proofs.Noting.{right_more, exhausted_more, proved_last}
-use Rattle.chunk_order.specs.Formulas.{ordered_formula_for}
-use Rattle.chunk_order.proofs.Exact.{ordered_exact}
+use Rattle.candidate_formula.specs.Formulas.{ordered_formula_for}
+use Rattle.candidate_formula.proofs.Exact.{ordered_exact}
 use Rattle.chunk_symmetry.proofs.engine.OrderedEngine.note.Goals as goal
 
 pub invariant_of-self : goal.invariant_of-self
 invariant_of-self c =
     let e = c.args.self.now in
     let q : QuestionValue = asked e.question in
-    let entries = e.entries.items in
-    let now = c.push_reserved.new.self.items in
+    let entries = e.record.entries in
+    let now = c.note.new.self.entries in
     let x = c.args.candidate in
     let kind = c.args.kind in
     let lines = c.args.lines.items in
-    let added = c.push_reserved.ensures.items in
+    let added = c.note.ensures.entries in
     let limit = e.question.limits.conflicts in
     let formula : Candidate → FormulaValue = ordered_formula_for q in
     let proved = c.requires.proved in

@@ -4,8 +4,8 @@ use Rattle.schedule.specs.Links.{TopologyValue}
 use Rattle.collective_spec.specs.declared.spec.Spec.{Spec}
 use Rattle.candidate_order.specs.Copied.{copied_spec}
 use Rattle.candidate_order.specs.Frontiers.{QuestionValue}
-use Rattle.node_cuts.specs.Tables.{table_of}
-use Rattle.cut_bounds.specs.Cutting.{cuts_of, uncut_entries}
+use Rattle.node_cuts.specs.Tables.{IsTableOf}
+use Rattle.cut_bounds.specs.Cutting.{uncut_entries}
 use Rattle.cut_bounds.proofs.Noting.{nothing_holds}
 use Rattle.cut_bounds.proofs.Turned.{table_same}
 use Rattle.cut_bounds.proofs.engine.CutEngine.new.Goals as goal
@@ -16,19 +16,20 @@ invariant_of-result g c =
     let q : QuestionValue = view.question c.args.inner in
     let t = c.args.topology.now in
     let s = c.args.spec.now in
-    let none = c.new-2.ensures.items in
+    let table = c.in_ok-table.table in
+    let entries = c.new-2.result.entries in
+    let none = c.new-2.ensures.entries in
     record {
       tabled =
-          c.in_ok-table.ensures.table
-          ∙ sym (table_same t s)
-          ∙ ap (λ (v : TopologyValue). table_of v (copied_spec s)) (sym c.requires.topology)
-          ∙ ap (λ (v : Spec). table_of q.topology v) (sym c.requires.copied);
+          subst (λ (v : Spec). IsTableOf c.args.sets q.topology v table) (sym c.requires.copied)
+          (subst (λ (v : TopologyValue). IsTableOf c.args.sets v (copied_spec s) table) (sym c.requires.topology)
+          (table_same c.args.sets t s table c.in_ok-table.ensures.table));
       some = subst (λ (v : TopologyValue). 0 < v.nodes) (sym c.requires.topology) c.in_ok-table.ensures.limits.some;
-      within = λ x kind at. nothing_holds c.new-2.result.items (x, kind) none at;
-      kept = c.requires.empty ∙ ap (uncut_entries q) (sym none);
-      listed = c.new-3.ensures.items ∙ ap (cuts_of q) (sym none);
+      within = λ x kind at. nothing_holds entries (x, kind) none at;
+      kept = c.requires.empty ∙ ap (uncut_entries c.args.sets q) (sym none);
       stops = λ x at. absurd (none-some x (sym c.requires.running ∙ at));
-      refutes = λ x kind at cut. nothing_holds c.new-2.result.items (x, kind) none at;
-      right = λ x at solvable. nothing_holds c.new-2.result.items (x, _) none at;
-      exhausted = λ x at. nothing_holds c.new-2.result.items (x, _) none at;
+      uncut = λ x at. absurd (none-some x (sym c.requires.running ∙ at));
+      refutes = λ x kind at cut. nothing_holds entries (x, kind) none at;
+      right = λ x at solvable. nothing_holds entries (x, _) none at;
+      exhausted = λ x at. nothing_holds entries (x, _) none at;
     }

@@ -1,13 +1,20 @@
-use Rattle.std.proofs.Common.{◌∙◌}
+use Rattle.std.proofs.Common.{sym, ap, ◌∙◌, subst}
+use Rattle.schedule.specs.Links.{TopologyValue}
+use Rattle.candidate_formula.specs.Formulas.{formula_for}
+use Rattle.candidate_formula.specs.Questions.{IsSought, copying_question}
 use Rattle.frontier_audit.proofs.Asking.{is_sought, formula_is}
 use Rattle.frontier_audit.proofs.part_question.PartQuestion.formula.Goals as goal
 
 pub encode_candidate-requires : goal.encode_candidate-requires
 encode_candidate-requires c =
     let a = c.self.inside in
-    is_sought a.topology.now c.deref.result.now a.spec a.limits c.args.self.now c.self.view_is (c.self.invariant.0, c.deref.ensures ∙ c.self.invariant.1) c.args.candidate c.requires
+    subst (λ (t : TopologyValue). IsSought t a.spec c.args.candidate) (sym c.deref.ensures)
+    (is_sought a.topology.now _ a.spec a.limits a.cuts c.args.self.now c.self.view_is c.self.invariant c.args.candidate c.requires)
 
 pub returns : goal.returns
 returns c =
     let a = c.self.inside in
-    c.in_ok-encoding.ensures.formula a.limits ∙ formula_is a.topology.now c.deref.result.now a.spec a.limits c.args.self.now c.self.view_is (c.self.invariant.0, c.deref.ensures ∙ c.self.invariant.1) c.args.candidate
+    c.into_formula.ensures
+    ∙ (c.in_ok-encoded.ensures.formula a.limits (sym c.pruning-pruning.ensures)
+    ∙ (ap (λ (t : TopologyValue). formula_for (copying_question t a.spec a.limits) c.args.candidate) c.deref.ensures
+    ∙ formula_is a.topology.now _ a.spec a.limits a.cuts c.args.self.now c.self.view_is c.self.invariant c.args.candidate))

@@ -1,39 +1,48 @@
-use Rattle.std.proofs.Common.{◌≡◌, ℕ, ◌*◌, ◌/◌, Bool, List, [], Some, drop, sym, ap, ◌∙◌}
-use Rattle.std.specs.Prelude.{find, nat_lt}
-use Rattle.std.specs.Option.{option_map}
-use Rattle.std.proofs.lemmas.List.{drop_all}
-use Rattle.node_cuts.specs.Cuts.{CutValue}
-use Rattle.node_cuts.specs.Tables.{TableValue, with_times}
-use Rattle.node_cuts.proofs.Reading.{find_here}
-use Rattle.node_cuts.proofs.Tabled.{first_in}
+use Rattle.std.proofs.Common.{◌≡◌, ◌/◌, ◌<◌, ℕ, Bool, true, List, Some, get_or, length, sym, ap, ◌∙◌, ⊎_elim, arith}
+use Rattle.std.proofs.lemmas.Bool.{cases_eq}
+use Rattle.std.proofs.lemmas.List.{get_or_default}
+use Rattle.node_cuts.specs.declared.measure.Measure.{Measure}
+use Rattle.node_cuts.specs.Tables.{TableValue, cut_at, no_measure}
+use Rattle.node_cuts.proofs.Tabled.{first_in, is_over, none_in}
 use Rattle.node_cuts.proofs.table.CutTable.first_cut.Goals as goal
 
-pub returns-then-refutes : goal.returns-then-refutes
-returns-then-refutes c t spec is some allowed =
-    let table = c.args.self.now in
+-- what is told of a measure that was read is told of the one at its place
+read_over : (v w : List Measure) (place times r : ℕ) (measure : Measure) (told : Bool) → v ≡ w → place < length v → measure ≡ get_or v place measure → told ≡ is_over times r measure → is_over times r (get_or w place no_measure) ≡ told
+read_over v w place times r measure told same inside read is =
+    ap (λ ms. is_over times r (get_or ms place no_measure)) (sym same) ∙ ap (is_over times r) (get_or_default v place no_measure measure inside ∙ sym read) ∙ sym is
+
+pub loop-place-preserved : goal.loop-place-preserved
+loop-place-preserved c k below =
     let times : ℕ = c.args.c / c.self.inside.least in
-    let same : times ≡ c.args.c / table.least = ap (λ (v : TableValue). c.args.c / v.least) c.self.view_is in
-    let p : CutValue → Bool = λ cut. nat_lt (cut.width * c.args.r) (cut.need * times) in
-    let items : List CutValue = c.deref-cut-items.result.now in
-    let i : ℕ = c.loop-cut.cut-index in
-    ap Some c.in_ok-with_times.ensures
-    ∙ sym (find_here p (with_times times) items i c.cut-item.result c.loop-cut-test.true c.cut-item.is (sym c.refutes.ensures ∙ c.if-refutes.true))
-    ∙ ap (λ (cuts : List CutValue). option_map (with_times times) (find p (drop i cuts))) (c.deref-cut-items.ensures.value ∙ ap (λ (v : TableValue). v.cuts) c.self.view_is)
-    ∙ ap (option_map (with_times times)) c.loop-cut.invariant
-    ∙ ap (λ n. option_map (with_times n) (find (λ (cut : CutValue). nat_lt (cut.width * c.args.r) (cut.need * n)) table.cuts)) same
-    ∙ first_in table t spec c.args.c c.args.r is some allowed
+    let place : ℕ = c.loop-place.place in
+    ⊎_elim
+    (λ (here : k ≡ place).
+    ap (λ j. is_over times c.args.r (get_or c.args.self.now.measures j no_measure)) here
+    ∙ read_over c.self.inside.measures.items c.args.self.now.measures place times c.args.r c.index.result.now c.refutes.result (ap (λ (v : TableValue). v.measures) c.self.view_is) (omega (arith, c.loop-place-test.true, c.len-place-end.ensures, c.self.inside.measures.ok)) c.index.ensures c.refutes.ensures
+    ∙ c.if-refutes.false)
+    (λ (other : k ≡ place → ⊥). c.loop-place.invariant k (omega (arith, below, other)))
+    (cases_eq k place)
+
+pub returns-then-refutes : goal.returns-then-refutes
+returns-then-refutes c sets t spec is some allowed =
+    let v : TableValue = c.args.self.now in
+    let times : ℕ = c.args.c / c.self.inside.least in
+    let place : ℕ = c.loop-place.place in
+    let same : times ≡ c.args.c / v.least = ap (λ (w : TableValue). c.args.c / w.least) c.self.view_is in
+    let long : length c.self.inside.measures.items ≡ length v.measures = ap (λ (w : TableValue). length w.measures) c.self.view_is in
+    let inside : place < length c.self.inside.measures.items = omega (arith, c.loop-place-test.true, c.len-place-end.ensures, c.self.inside.measures.ok) in
+    let passes : is_over times c.args.r (get_or v.measures place no_measure) ≡ true =
+    read_over c.self.inside.measures.items v.measures place times c.args.r c.index.result.now c.refutes.result (ap (λ (w : TableValue). w.measures) c.self.view_is) inside c.index.ensures c.refutes.ensures ∙ c.if-refutes.true in
+    ap Some (c.in_ok-cut_at.ensures ∙ ap (cut_at v place) same)
+    ∙ first_in sets t spec c.args.c c.args.r some allowed v is place (omega (arith, inside, long))
+    (λ k below. ap (λ n. is_over n c.args.r (get_or v.measures k no_measure)) (sym same) ∙ c.loop-place.invariant k below)
+    (ap (λ n. is_over n c.args.r (get_or v.measures place no_measure)) (sym same) ∙ passes)
 
 pub returns : goal.returns
-returns c t spec is some allowed =
-    let table = c.args.self.now in
+returns c sets t spec is some allowed =
+    let v : TableValue = c.args.self.now in
     let times : ℕ = c.args.c / c.self.inside.least in
-    let same : times ≡ c.args.c / table.least = ap (λ (v : TableValue). c.args.c / v.least) c.self.view_is in
-    let p : CutValue → Bool = λ cut. nat_lt (cut.width * c.args.r) (cut.need * times) in
-    let items : List CutValue = c.deref-cut-items.result.now in
-    let i : ℕ = c.loop-cut.cut-index in
-    let past : drop i items ≡ [] = drop_all i items c.loop-cut-test.false in
-    ap (λ (cuts : List CutValue). option_map (with_times times) (find p cuts)) (sym past)
-    ∙ ap (λ (cuts : List CutValue). option_map (with_times times) (find p (drop i cuts))) (c.deref-cut-items.ensures.value ∙ ap (λ (v : TableValue). v.cuts) c.self.view_is)
-    ∙ ap (option_map (with_times times)) c.loop-cut.invariant
-    ∙ ap (λ n. option_map (with_times n) (find (λ (cut : CutValue). nat_lt (cut.width * c.args.r) (cut.need * n)) table.cuts)) same
-    ∙ first_in table t spec c.args.c c.args.r is some allowed
+    let same : times ≡ c.args.c / v.least = ap (λ (w : TableValue). c.args.c / w.least) c.self.view_is in
+    let long : length c.self.inside.measures.items ≡ length v.measures = ap (λ (w : TableValue). length w.measures) c.self.view_is in
+    none_in sets t spec c.args.c c.args.r some allowed v is
+    (λ k below. ap (λ n. is_over n c.args.r (get_or v.measures k no_measure)) (sym same) ∙ c.loop-place.invariant k (omega (arith, below, long, c.loop-place-test.false, c.len-place-end.ensures, c.self.inside.measures.ok)))

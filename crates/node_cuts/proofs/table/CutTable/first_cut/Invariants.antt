@@ -1,8 +1,7 @@
-use Rattle.std.proofs.Common.{◌≡◌, ◌*◌, drop}
-use Rattle.std.specs.Prelude.{find, nat_lt}
-use Rattle.node_cuts.specs.Cuts.{CutValue}
+use Rattle.std.proofs.Common.{◌≡◌, ◌<◌, ℕ, false, slice_index_or}
+use Rattle.node_cuts.specs.Tables.{no_measure}
+use Rattle.node_cuts.proofs.Tabled.{is_over}
 use Rattle.node_cuts.proofs.table.CutTable.first_cut.Given as goal
 
-abbrev pub invariant-loop-cut : goal.invariant-loop-cut
-invariant-loop-cut l =
-    find (λ (cut : CutValue). nat_lt (cut.width * l.r) (cut.need * l.times)) (drop l.cut-index l.self.cuts) ≡ find (λ (cut : CutValue). nat_lt (cut.width * l.r) (cut.need * l.times)) l.self.cuts
+abbrev pub invariant-loop-place : goal.invariant-loop-place
+invariant-loop-place l = (k : ℕ) → k < l.place → is_over l.times l.r (slice_index_or l.self.measures k no_measure) ≡ false

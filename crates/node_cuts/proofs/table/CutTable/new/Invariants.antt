@@ -1,11 +1,15 @@
 use Rattle.std.proofs.Common.{◌≡◌, map, take}
-use Rattle.std.specs.Prelude.{All}
-use Rattle.node_cuts.specs.Cuts.{cut_of}
-use Rattle.node_cuts.specs.Tables.{IsSmall}
+use Rattle.std.specs.Prelude.{All, MatchOption, filter}
+use Rattle.node_cuts.specs.Sides.{members}
+use Rattle.node_cuts.specs.Floors.{fraction_of, has_need}
+use Rattle.node_cuts.specs.Tables.{IsLow, IsSmall, measure_of}
+use Rattle.node_cuts.proofs.Best.{IsBest}
 use Rattle.node_cuts.proofs.table.CutTable.new.Given as goal
 
-abbrev pub invariant-loop-side : goal.invariant-loop-side
-invariant-loop-side l = record {
-  made : l.cuts.items ≡ map (cut_of l.topology l.instance.pre l.instance.post) (take l.side-index l.side-items);
-  small : All IsSmall l.cuts.items;
+abbrev pub invariant-loop-set : goal.invariant-loop-set
+invariant-loop-set l = record {
+  made : l.measures.items ≡ map (λ m. measure_of l.sets l.topology l.instance.pre l.instance.post (members m)) (take l.set-index l.set-items);
+  small : All IsSmall l.measures.items;
+  best : IsBest (filter has_need (map (λ m. fraction_of l.sets l.topology l.spec (members m)) (take l.set-index l.set-items))) l.best;
+  low : MatchOption l.best Unit IsLow;
 }

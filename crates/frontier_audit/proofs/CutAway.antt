@@ -1,0 +1,68 @@
+-- Of a candidate that is cut away no file is looked at, and it has no solution.
+use Rattle.std.proofs.Common.{◌≡◌, ◌≢◌, Bool, true, false, Option, None, Ok, refl, sym, ap, ◌∙◌, subst}
+use Rattle.std.specs.Prelude.{if◌then◌else◌}
+use Rattle.outer_ports.specs.declared.part.Part.{Part}
+use Rattle.outer_ports.specs.Files.{Files}
+use Rattle.schedule.specs.Solving.{Solvable}
+use Rattle.collective_spec.specs.declared.kind.Kind.TheVariants as kind
+use Rattle.collective_spec.specs.Collectives.{IsSpec, adds_up, kind_in}
+use Rattle.candidate_order.specs.declared.candidate.Candidate.{Candidate}
+use Rattle.candidate_order.specs.Copied.{copied_question}
+use Rattle.candidate_order.specs.Frontiers.{QuestionValue, Achievable, IsSolvable, instance_for}
+use Rattle.inversion.proofs.Copied.{solvable_exactly}
+use Rattle.node_cuts.specs.Cutting.{sets_for}
+use Rattle.node_cuts.proofs.Crossing.{first_says}
+use Rattle.candidate_formula.specs.Files.{HasRefutation}
+use Rattle.candidate_formula.specs.Pruned.{is_cut_away}
+use Rattle.candidate_formula.proofs.Copying.{copies}
+use Rattle.candidate_formula.proofs.CutAway.{copied_cut, reduced_cut}
+use Rattle.frontier_audit.specs.Denials.{Denial, Checked}
+use Rattle.frontier_audit.specs.Auditing.{refutation_checked, refuted_checked}
+use Rattle.frontier_audit.specs.Beside.{denial_of, AnswersBeside}
+use Rattle.frontier_audit.proofs.Beside.{has_refutation, passes_refutation}
+
+-- ---- the check of a refuted candidate
+
+module _ (part : Part) (q : QuestionValue) (files : Files) (x : Candidate) where
+  abbrev over : Bool → Checked Denial
+  over b = if b then Ok tt else refutation_checked part q files x
+
+  passed_where_cut : is_cut_away q x ≡ true → refuted_checked part q files x ≡ Ok tt
+  passed_where_cut cut = ap over cut
+
+  checked_where_uncut : is_cut_away q x ≡ false → refuted_checked part q files x ≡ refutation_checked part q files x
+  checked_where_uncut uncut = ap over uncut
+
+  pub owes_refutation : refuted_checked part q files x ≡ Ok tt → is_cut_away q x ≡ false → HasRefutation part q files x
+  owes_refutation e uncut = has_refutation part q files x (sym (checked_where_uncut uncut) ∙ e)
+
+  pub passes_refuted : (is_cut_away q x ≡ false → HasRefutation part q files x) → refuted_checked part q files x ≡ Ok tt
+  passes_refuted has = by_cut (is_cut_away q x) refl
+    where
+      by_cut : (b : Bool) → is_cut_away q x ≡ b → refuted_checked part q files x ≡ Ok tt
+      by_cut true cut = passed_where_cut cut
+      by_cut false uncut = checked_where_uncut uncut ∙ passes_refutation part q files x (has uncut)
+
+-- what is answered beside the files of a shelf
+module _ (tells : Bool) (shelf : Files) (part : Part) (q : QuestionValue) (x : Candidate) where
+  pub answers_where_cut : is_cut_away q x ≡ true → AnswersBeside tells shelf (λ files. refuted_checked part q files x) None
+  answers_where_cut cut = record { files = shelf; told = λ t name. refl; is = ap denial_of (sym (passed_where_cut part q shelf x cut)) }
+
+  pub answers_where_uncut : (d : Option Denial) → is_cut_away q x ≡ false → AnswersBeside tells shelf (λ files. refutation_checked part q files x) d → AnswersBeside tells shelf (λ files. refuted_checked part q files x) d
+  answers_where_uncut d uncut a = record { files = a.files; told = a.told; is = a.is ∙ ap denial_of (sym (checked_where_uncut part q a.files x uncut)) }
+
+-- ---- no solution
+
+copied_unsolvable : (q : QuestionValue) (x : Candidate) → adds_up q.spec ≡ false → is_cut_away q x ≡ true → IsSolvable q x → ⊥
+copied_unsolvable q x copying cut solvable =
+    let i = instance_for q x in
+    let copied : Solvable q.topology i.pre i.post x.s x.r = subst (λ b. Achievable b q x) copying solvable in
+    first_says (sets_for q.limits.pruning) q.topology i.pre i.post copied.schedule x.s x.r (sym (copied_cut q x copying) ∙ cut) copied.solves
+
+-- a reduction has the cuts of what copies over the links turned round
+pub cut_unsolvable : (q : QuestionValue) (x : Candidate) → IsSpec q.topology.nodes q.spec → kind_in q.spec ≢ kind.Allreduce → is_cut_away q x ≡ true → IsSolvable q x → ⊥
+cut_unsolvable q x is single cut solvable = by_kind (adds_up q.spec) refl
+  where
+    by_kind : (b : Bool) → adds_up q.spec ≡ b → ⊥
+    by_kind false copying = copied_unsolvable q x copying cut solvable
+    by_kind true adds = copied_unsolvable (copied_question q) x (copies q.spec single) (reduced_cut q x adds single ∙ cut) ((solvable_exactly q x adds single is).0 solvable)

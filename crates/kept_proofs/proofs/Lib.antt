@@ -1,0 +1,5 @@
+mod Judged
+mod Taken
+mod Standing
+mod Moving
+mod Below

@@ -1,0 +1,112 @@
+-- What one call of an engine that takes up refutations changes.
+use Rattle.std.proofs.Common.{◌≡◌, Bool, [], ◌∷◌, ◌++◌, None, Some, refl, sym, ap, subst, ⊎_elim}
+use Rattle.std.specs.Prelude.{All, Contains, IsTrue}
+use Rattle.std.proofs.lemmas.List.Elements.{All-contains, Contains-push_cases, Contains-push}
+use Rattle.list_laws.proofs.Each.{all_contained}
+use Rattle.outer_ports.specs.declared.part.Part.{Part}
+use Rattle.outer_ports.specs.Files.{Files}
+use Rattle.outer_ports.specs.Port.{Tells}
+use Rattle.outer_ports.specs.Shelf.{FilesStay}
+use Rattle.candidate_order.specs.declared.candidate.Candidate.{Candidate}
+use Rattle.candidate_order.specs.Frontiers.{QuestionValue}
+use Rattle.candidate_formula.specs.Formulas.{formula_for}
+use Rattle.candidate_formula.specs.Files.{candidate_of, HasRefutation}
+use Rattle.candidate_formula.proofs.BegunFiles.{begun_trans, begun_weaker}
+use Rattle.engine_rules.specs.declared.settled.Settled.{Settled}
+use Rattle.engine_rules.specs.declared.settled.Settled.TheVariants.{Refuted}
+use Rattle.engine_rules.specs.Outcomes.{RecordValue, IsNew}
+use Rattle.candidate_solver.specs.Kept.{EngineState, HasFiles, KeptAgrees, KeptMoves}
+use Rattle.candidate_solver.specs.Trying.{BeginsOwn}
+use Rattle.candidate_solver.proofs.Settling.{IsSettled, settled_moves, failed_moves}
+use Rattle.kept_proofs.proofs.Taken.{begins_none}
+use Rattle.kept_proofs.specs.Keeping.{BothStay, IsTakenUp, KeepsAll, KeepingMoves}
+use Rattle.kept_proofs.specs.Members.{has_entry}
+
+-- ---- one entry more
+
+-- a new candidate of a record with one entry more is that of the entry
+pub pushed_own : (old now : RecordValue) (x : Candidate) (kind : Settled) → now ≡ old ++ (x, kind) ∷ [] → (y : Candidate) (k : Settled) → Contains now (y, k) → IsNew old y → y ≡ x
+pushed_own old now x kind added y k there new = ⊎_elim
+    (λ c. absurd (new k c))
+    (λ e. sym (ap (λ (p : Candidate × Settled). p.0) e))
+    (Contains-push_cases old (x, kind) (y, k) (subst (λ es. Contains es (y, k)) added there))
+
+-- the same record has no new candidate
+pub same_own : (old now : RecordValue) (x : Candidate) → now ≡ old → (y : Candidate) (k : Settled) → Contains now (y, k) → IsNew old y → y ≡ x
+same_own old now x same y k there new = absurd (new k (subst (λ es. Contains es (y, k)) same there))
+
+-- ---- the files that the inner engine began
+
+-- it settled one candidate, or failed at it, and began files of that one alone
+pub began_own : (a b : EngineState) (x : Candidate) → KeptMoves a b → ((y : Candidate) (k : Settled) → Contains b.entries (y, k) → IsNew a.entries y → y ≡ x) → ((y : Candidate) → b.stopped ≡ Some y → y ≡ x)
+    → IsTrue b.told → BeginsOwn (formula_for a.question x) a.part x a.files b.files
+began_own a b x moved settled failed told = begun_weaker
+    (λ name touched.
+    let is : candidate_of name ≡ x = ⊎_elim (λ e. settled (candidate_of name) e.0 e.1 e.2) (failed (candidate_of name)) touched.of_candidate in
+    (record { of_part = touched.of_part; of_candidate = is }, ap (formula_for a.question) is))
+    (moved.begun told)
+
+-- ---- the record beside the files
+
+-- each entry of the inner engine has its files, where each of the engine's own has
+pub agrees_below : (part : Part) (q : QuestionValue) (files : Files) (inner entries : RecordValue) → ((x : Candidate) (kind : Settled) → (Contains entries (x, kind) → ⊥) → Contains inner (x, kind) → ⊥) → All (HasFiles part q files) entries → All (HasFiles part q files) inner
+agrees_below part q files inner entries among all = all_contained (HasFiles part q files) inner (λ e there. ⊎_elim
+    (λ c. All-contains (HasFiles part q files) entries e all c)
+    (λ none. absurd (among e.0 e.1 none there))
+    (has_entry entries e.0 e.1))
+
+-- ---- what is kept
+
+pub keeps_none : (part : Part) (q : QuestionValue) (old now : RecordValue) (before after : Files) → now ≡ old → KeepsAll part q old now before after
+keeps_none part q old now before after same x kind there new has = absurd (new kind (subst (λ es. Contains es (x, kind)) same there))
+
+pub keeps_taken : (part : Part) (q : QuestionValue) (old now : RecordValue) (before after : Files) (x : Candidate) → now ≡ old ++ (x, Refuted) ∷ [] → BothStay part x before after → KeepsAll part q old now before after
+keeps_taken part q old now before after x added stay y kind there new has =
+    subst (IsTakenUp part now before after) (sym (pushed_own old now x Refuted added y kind there new))
+    (record { refuted = subst (λ es. Contains es (x, Refuted)) (sym added) (Contains-push old (x, Refuted)); stay = stay })
+
+pub keeps_searched : (part : Part) (q : QuestionValue) (old now : RecordValue) (before after : Files) (x : Candidate) (kind : Settled) → now ≡ old ++ (x, kind) ∷ [] → (HasRefutation part q before x → ⊥) → KeepsAll part q old now before after
+keeps_searched part q old now before after x kind added lacks y k there new has = absurd (lacks (subst (HasRefutation part q before) (pushed_own old now x kind added y k there new) has))
+
+-- ---- one call
+
+pub failed_keeping : (kept : Bool) (a b : EngineState) (x : Candidate) → b.part ≡ a.part → b.question ≡ a.question → b.entries ≡ a.entries → a.stopped ≡ None → b.stopped ≡ Some x → Tells a.told b.told → (IsTrue b.told → BeginsOwn (formula_for a.question x) a.part x a.files b.files)
+    → KeepingMoves kept kept a b
+failed_keeping kept a b x part question same running failed tells own = record {
+  moves = failed_moves a b x part question same running failed tells own;
+  same = refl;
+  keeps = λ k t. keeps_none a.part a.question a.entries b.entries a.files b.files same;
+}
+
+pub taken_keeping : (kept : Bool) (a b : EngineState) (x : Candidate) → IsSettled a b x Refuted → (IsTrue b.told → BothStay a.part x a.files b.files) → KeepingMoves kept kept a b
+taken_keeping kept a b x settled stay = record {
+  moves = settled_moves a b x Refuted settled;
+  same = refl;
+  keeps = λ k t. keeps_taken a.part a.question a.entries b.entries a.files b.files x settled.entries (stay t);
+}
+
+pub searched_keeping : (kept : Bool) (a b : EngineState) (x : Candidate) (kind : Settled) → IsSettled a b x kind → (IsTrue kept → IsTrue b.told → HasRefutation a.part a.question a.files x → ⊥) → KeepingMoves kept kept a b
+searched_keeping kept a b x kind settled lacks = record {
+  moves = settled_moves a b x kind settled;
+  same = refl;
+  keeps = λ k t. keeps_searched a.part a.question a.entries b.entries a.files b.files x kind settled.entries (lacks k t);
+}
+
+-- what the inner engine began, where no file had changed before it
+pub began_behind : (part : Part) (before : Files) (a b : EngineState) (x : Candidate) → a.part ≡ part → FilesStay before a.files → (IsTrue b.told → BeginsOwn (formula_for a.question x) a.part x a.files b.files) → IsTrue b.told → BeginsOwn (formula_for a.question x) part x before b.files
+began_behind part before a b x same stay own told = begun_trans (begins_none (formula_for a.question x) part x before a.files stay) (subst (λ p. BeginsOwn (formula_for a.question x) p x a.files b.files) same (own told))
+
+-- the inner engine holds what it has to, where no file had changed before it
+pub agrees_behind : (part : Part) (q : QuestionValue) (before : Files) (a : EngineState) (entries : RecordValue) → a.part ≡ part → a.question ≡ q → FilesStay before a.files → ((x : Candidate) (kind : Settled) → (Contains entries (x, kind) → ⊥) → Contains a.entries (x, kind) → ⊥)
+    → All (HasFiles part q before) entries → All (HasFiles a.part a.question a.files) a.entries
+agrees_behind part q before a entries same asked stay among all =
+    subst (λ files. All (HasFiles a.part a.question files) a.entries) (λ i name. sym (stay name) i)
+    (subst (λ p. All (HasFiles p a.question before) a.entries) (sym same)
+    (subst (λ (r : QuestionValue). All (HasFiles part r before) a.entries) (sym asked) (agrees_below part q before a.entries entries among all)))
+
+-- the files of the candidate that the inner engine settled
+pub has_files_of : (part : Part) (q : QuestionValue) (old : RecordValue) (b : EngineState) (x : Candidate) (kind : Settled) → b.part ≡ part → b.question ≡ q → b.entries ≡ old ++ (x, kind) ∷ [] → KeptAgrees b → IsTrue b.told → HasFiles part q b.files (x, kind)
+has_files_of part q old b x kind same asked added agrees told =
+    subst (λ p. HasFiles p q b.files (x, kind)) same
+    (subst (λ (r : QuestionValue). HasFiles b.part r b.files (x, kind)) asked
+    (All-contains (HasFiles b.part b.question b.files) b.entries (x, kind) (agrees told) (subst (λ es. Contains es (x, kind)) (sym added) (Contains-push old (x, kind)))))

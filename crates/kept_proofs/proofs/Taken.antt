@@ -1,0 +1,38 @@
+-- What is taken up, by the files of a candidate.
+use Rattle.std.proofs.Common.{◌≡◌, ◌≢◌, [], Some, ap, ◌∙◌, inl, inr}
+use Rattle.outer_ports.specs.declared.part.Part.{Part}
+use Rattle.outer_ports.specs.declared.proof_name.FileKind.TheVariants.{Cnf, Lrat, Partial}
+use Rattle.outer_ports.specs.declared.proof_name.ProofName.{ProofName}
+use Rattle.outer_ports.specs.Files.{Files}
+use Rattle.outer_ports.specs.Shelf.{FilesStay, OthersStay}
+use Rattle.cnf_formula.specs.Formulas.{FormulaValue}
+use Rattle.candidate_order.specs.declared.candidate.Candidate.{Candidate}
+use Rattle.candidate_order.specs.Frontiers.{QuestionValue}
+use Rattle.candidate_formula.specs.Files.{file_of, HasRefutation}
+use Rattle.candidate_solver.specs.Trying.{BeginsOwn}
+use Rattle.candidate_solver.proofs.Begun.{begins_one, none_begun}
+use Rattle.kept_proofs.specs.Keeping.{BothStay, TakesUp}
+use Rattle.kept_proofs.specs.Laws.{still_refuted}
+
+-- where no file changes, none was begun
+pub begins_none : (f : FormulaValue) (part : Part) (x : Candidate) (before now : Files) → FilesStay before now → BeginsOwn f part x before now
+begins_none f part x before now stay = record { each = λ name. inl (stay name) }
+
+partial_apart : Partial ≢ Cnf
+partial_apart e = absurd (cc)
+
+module _ (part : Part) (x : Candidate) (before middle now : Files) (stay : FilesStay before middle) (others : OthersStay (file_of Partial part x) middle now) (emptied : now (file_of Partial part x) ≡ Some []) where
+  others_from : OthersStay (file_of Partial part x) before now
+  others_from name apart = others name apart ∙ stay name
+
+  pub begins_log : (f : FormulaValue) → BeginsOwn f part x before now
+  begins_log f = begins_one f Partial part x before now others_from (inr (none_begun f Partial part x now partial_apart emptied))
+
+  both : BothStay part x before now
+  both = record {
+    formula = others_from (file_of Cnf part x) (λ e. let k : Cnf ≡ Partial = ap (λ (n : ProofName). n.kind) e in absurd (cc));
+    proof = others_from (file_of Lrat part x) (λ e. let k : Lrat ≡ Partial = ap (λ (n : ProofName). n.kind) e in absurd (cc));
+  }
+
+  pub takes_up : (q : QuestionValue) → HasRefutation part q before x → TakesUp part q x before now
+  takes_up q has = record { refuted = record { refutation = still_refuted part q before now x both has; no_log = emptied }; stay = both }

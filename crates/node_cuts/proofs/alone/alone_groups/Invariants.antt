@@ -1,0 +1,8 @@
+use Rattle.std.proofs.Common.{◌≡◌}
+use Rattle.std.specs.Prelude.{filter}
+use Rattle.std.specs.List.{range_with_len}
+use Rattle.node_cuts.specs.Opened.{is_alone}
+use Rattle.node_cuts.proofs.alone.alone_groups.Given as goal
+
+abbrev pub invariant-loop-number : goal.invariant-loop-number
+invariant-loop-number l = l.groups.items ≡ filter (is_alone l.topology) (range_with_len 0 l.number)

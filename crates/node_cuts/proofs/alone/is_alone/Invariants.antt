@@ -1,0 +1,9 @@
+use Rattle.std.proofs.Common.{◌≡◌, ◌&&◌, false}
+use Rattle.std.specs.Prelude.{◌==◌, not}
+use Rattle.std.specs.List.{list_any, range_with_len}
+use Rattle.schedule.specs.Links.{has_link}
+use Rattle.schedule.specs.Judging.{group_at}
+use Rattle.node_cuts.proofs.alone.is_alone.Given as goal
+
+abbrev pub invariant-loop-other : goal.invariant-loop-other
+invariant-loop-other l = list_any (λ other. not (other == l.group) && list_any (has_link (group_at l.topology l.group)) (group_at l.topology other).links) (range_with_len 0 l.other) ≡ false

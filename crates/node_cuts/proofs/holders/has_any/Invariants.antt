@@ -1,0 +1,7 @@
+use Rattle.std.proofs.Common.{◌≡◌, drop}
+use Rattle.std.specs.List.{list_any}
+use Rattle.node_cuts.specs.Sides.{members}
+use Rattle.node_cuts.proofs.holders.has_any.Given as goal
+
+abbrev pub invariant-loop-node : goal.invariant-loop-node
+invariant-loop-node l = list_any (members l.set) (drop l.node-index l.nodes) ≡ list_any (members l.set) l.nodes

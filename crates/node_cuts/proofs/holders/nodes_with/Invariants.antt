@@ -1,0 +1,8 @@
+use Rattle.std.proofs.Common.{◌≡◌}
+use Rattle.std.specs.Prelude.{filter}
+use Rattle.std.specs.List.{range_with_len}
+use Rattle.schedule.specs.Placed.{holds}
+use Rattle.node_cuts.proofs.holders.nodes_with.Given as goal
+
+abbrev pub invariant-loop-node : goal.invariant-loop-node
+invariant-loop-node l = l.nodes.items ≡ filter (λ node. holds l.placement (l.chunk, node)) (range_with_len 0 l.node)

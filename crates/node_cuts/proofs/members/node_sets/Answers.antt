@@ -1,0 +1,15 @@
+use Rattle.std.proofs.Common.{◌-◌, ◌^◌, map, sym, ap, ◌∙◌}
+use Rattle.std.specs.List.{range_with_len}
+use Rattle.std.proofs.lemmas.Result.{IfOk-weaker}
+use Rattle.std.proofs.lemmas.Simd.{map-map}
+use Rattle.node_cuts.specs.declared.members.Members.TheVariants.{Sided, Bits}
+use Rattle.node_cuts.specs.Sides.{listed_sides, members, node_sets}
+use Rattle.node_cuts.proofs.members.node_sets.Goals as goal
+
+pub returns-in-Listed : goal.returns-in-Listed
+returns-in-Listed c =
+    IfOk-weaker c.sided.result _ _ (λ all is. ap (map members) is ∙ map-map members Sided (listed_sides c.args.nodes) ∙ ap (λ sets. node_sets sets c.args.nodes) (sym c.in-Listed.is)) c.sided.ensures
+
+pub returns-in-All : goal.returns-in-All
+returns-in-All c =
+    IfOk-weaker c.numbered.result _ _ (λ all is. ap (map members) is ∙ map-map members Bits (range_with_len 1 (2 ^ c.args.nodes - 1)) ∙ ap (λ sets. node_sets sets c.args.nodes) (sym c.in-All.is)) c.numbered.ensures
