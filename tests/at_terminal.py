@@ -4,7 +4,7 @@ usage: tests/at_terminal.py [--columns N] [--input FILE] [--output FILE] [--when
 
 Standard input and standard output are the terminal too where no FILE is named for them. Once the FILE behind --when is there,
 or the terminal got the TEXT behind --seen, the ACT is done: `enter`, `interrupt`, `quit` and `stop` press a key, `close` closes the
-terminal, and `kill` and `terminate` are signals to the process alone. What was stopped goes on soon. What the terminal got is
+terminal, and `kill`, `terminate` and `hangup` are signals to the process alone. What was stopped goes on soon. What the terminal got is
 printed, and the status is that of the words, or 128 and the number of the signal that ended them, which then stands last.
 """
 import fcntl
@@ -18,7 +18,7 @@ import termios
 import time
 
 KEYS = {"enter": b"\n", "interrupt": b"\x03", "quit": b"\x1c", "stop": b"\x1a"}
-SIGNALS = {"kill": signal.SIGKILL, "terminate": signal.SIGTERM}
+SIGNALS = {"kill": signal.SIGKILL, "terminate": signal.SIGTERM, "hangup": signal.SIGHUP}
 LIMIT = 60
 
 

@@ -17,6 +17,9 @@ CRLF = "the line ends with a carriage return, as lines of Windows do (CRLF)"
 NO_NAME = "is no name: 1 to 16 of a to z, 0 to 9 and _"
 SYNTH = "synth collective=broadcast k=1"
 
+LINE_2 = ("due is synth collective=WORD k=N steps=N chunks=N conflicts=N, root=NAME where the collective takes a root, and then cuts=yes and "
+          "ordered=yes where the search was asked so")
+
 # The text, the code and the line that is blamed, what is said, and where the mark begins and how long it is (in the line).
 TOPOLOGIES = [
     ("topology 3\n", 1, 1, "due is topology 1 or topology 2", 0, 10),
@@ -70,8 +73,9 @@ TOPOLOGIES = [
 ]
 REPORTS = [
     ("sccl 3\n", 1, 1, "due is sccl 1 or sccl 2", 0, 6),
-    (REPORT.replace("k=0 ", ""), 1, 2, "due is synth collective=WORD k=N steps=N chunks=N conflicts=N, and root=NAME where the collective takes "
-     "a root", 0, 62),
+    (REPORT.replace("k=0 ", ""), 1, 2, LINE_2, 0, 62),
+    (REPORT.replace("root=a", "root=a ordered=yes cuts=yes"), 1, 2, LINE_2, 0, 87),
+    (REPORT.replace("root=a", "root=a kept=yes"), 1, 2, LINE_2, 0, 75),
     (REPORT.replace("k=0", "k=9"), 3, 2, f"a rule is broken: {RULES['synth']}", 0, 66),
     (REPORT.replace("group 2 a>b", "group 2 a>c"), 1, 5, "c is none of the nodes a b", 10, 1),
     (REPORT.replace("group 2", "group 20"), 1, 5, "", 6, 2),
@@ -107,7 +111,8 @@ WORDS = [
     ("", 1, 0, None, f"no command is given: the commands are {', '.join(COMMANDS)}; sccl help "),
     ("sinth", 2, 0, None, "word 0, sinth: it is no command: is synth meant?; sccl help is"),
     ("xyzzy", 2, 0, None, f"word 0, xyzzy: it is no command: the commands are {', '.join(COMMANDS)}; sccl help is"),
-    (f"{SYNTH} step=3", 3, 3, None, "word 3, step=3: synth has the keys collective, k, steps, chunks, conflicts, root (is steps meant?); "
+    (f"{SYNTH} step=3", 3, 3, None, "word 3, step=3: synth has the keys collective, k, steps, chunks, conflicts, root, cuts, ordered, kept "
+     "(is steps meant?); "
      "sccl help synth is"),
     ("check ring.report", 3, 1, None, "word 1, ring.report: a word is KEY=VALUE, without spaces; sccl help check is"),
     ("check k=1", 3, 1, None, "word 1, k=1: check has no keys; sccl help check is"),
@@ -116,6 +121,10 @@ WORDS = [
     ("replay point=1 point=2", 4, 2, None, "word 2, point=2: its key stood before: point= is word 1 too (docs"),
     (SYNTH, 5, 3, None, "behind the last word: lacking: steps, chunks, conflicts; sccl help synth is"),
     ("json what=programs", 5, 2, None, "behind the last word: lacking: point; sccl help json is"),
+    ("bound cuts=yes", 3, 1, None, "word 1, cuts=yes: bound has the keys collective, k, steps, chunks, conflicts, root, sets "
+     "(is chunks meant?); sccl help bound is"),
+    ("synth cuts=no", 6, 1, None, "word 1, cuts=no: it is no value of its key: cuts is yes; sccl help synth is"),
+    ("bound sets=listed", 6, 1, None, "word 1, sets=listed: it is no value of its key: sets is all; sccl help bound is"),
     ("synth k=9", 6, 1, None, "word 1, k=9: it is no value of its key: k is 0 to 8; sccl help synth is"),
     ("synth collective=allgahter", 6, 1, None, f"its key: collective is {VALUES['collective']} (is allgather meant?); sccl help synth is"),
     ("family kind=rign size=4", 6, 1, None, "its key: kind is line, ring, complete, cube or shared (is ring meant?); sccl help family is"),
@@ -157,6 +166,8 @@ def drawings():
     yield "a long line", shown_line(3, 8, 3, text, 40)[1], "  3 | group 17 a>b a>b a>b a>b a>b a>b\n    |       ^^"
     drawn = shown_line(3, 2, 3, text, 40)[1].split("\n")
     yield "its end", (len(drawn[0]) < 40, len(drawn[1]) < 40, drawn[0][drawn[1].index("^") - 3:drawn[1].index("^")]), (True, True, "a>b")
+    drawn = shown_line(3, 5, 3, (NODES + "group 1 a>" + "d" * 100 + "\n").encode(), 40)[1].split("\n")
+    yield "a mark that is too long", ([len(it) for it in drawn], set(drawn[1])), ([39, 39], set(" |^"))
     said = explanation(3, ["synth"], b"refused 3 8 3\n", "above", (NODES + "group 17 a>b\n").encode())
     yield "the whole", said, ('status 3, the text is no topology: line 3: a width that is no number from 1 to 16 (docs/FORMATS.md, "Topology"); '
                               'the line "refused 3 8 3" stands above\n  3 | group 17 a>b\n    |       ^^')
@@ -170,8 +181,8 @@ def tables():
     found = {}
     for it in commands:
         name, required, free, reads = [cell.strip() for cell in it.split("|")[:4]]
-        free = free.split(",")[0]
-        found[name] = (tuple(required.split(", ")) if required else (), (free,) if free else (), reads)
+        free = [it for it in free.split(", ") if it and " " not in it]
+        found[name] = (tuple(required.split(", ")) if required else (), tuple(free), reads)
     yield "the table of commands", COMMANDS, found
     values = dict(it.split(" | ") for it in re.findall(r"^\| (.*) \|$", part, re.M) if it.count("|") == 1)
     yield "the table of keys", VALUES, {name: it for name, it in values.items() if name != "Key"}

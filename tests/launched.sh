@@ -84,7 +84,7 @@ failed_in_one_line() {
 
 nothing_is_left() {
   holds is_empty "$TMPDIR"
-  holds equal "$(ls -A out | sort | tr '\n' ' ')" "${1-build.log lock sccl sccl.look sccl.sums }"
+  holds equal "$(ls -A out | sort | tr '\n' ' ')" "${1-build.log lock sccl sccl.look sccl.names sccl.sums }"
 }
 
 case_of() {

@@ -33,7 +33,7 @@ def differences(formats, usage):
         if section == "Refusals":
             found = {row[1]: row[2] for row in rows[section] if row[0] == str(status) and row[1].isdigit()}
         yield from unlike(f"codes of status {status}", {str(it): text for it, text in codes.items()}, found)
-    words = [row[0].strip("`") for row in rows["Words of the command line"] if row[0].startswith("`")]
+    words = [row[0].strip("`") for row in rows["Words of the command line"] if re.fullmatch("`[a-z]+`", row[0])]
     said = re.findall(r"^([a-z]+) {2,}", usage, re.M)
     yield from unlike("commands and keys of the page of usage", dict.fromkeys(said), dict.fromkeys(words))
 

@@ -96,6 +96,8 @@ CUSTOM = (
     "custom 1\nbefore 0 a\nafter 0 c\nfrontier whole\npoint 2 2 1 optimal\nrounds 1 1\nsend 0 a b 1\nsend 0 b c 2\n"
     "refuted 1 1 1\nend\n"
 )
+# The same by keys of which the words tell.
+KEYED = BROADCAST.replace("root=n0\n", "root=n0 cuts=yes ordered=yes\n")
 
 # JSON that is no topology or no report, or is one that another printer wrote; what is due is told by tests/oracle.
 JSON_LINE = b'{"groups":[{"links":[["n0","n1"]],"width":1}],"nodes":["n0","n1"],"version":1}'
@@ -124,6 +126,23 @@ JSON = [("topology", it) for it in (
     b'"' + b"a" * 1000000 + b'"', b"[" + b"0," * 500000 + b"0]", b" " * 1048576, b"1" * 1048576,
     JSON_LINE.replace(b'["n0","n1"]]', b'["n0","n1"]' + b',["n0","n1"]' * 80000 + b"]"),
     b"{" + b",".join(b'"%d":0' % it for it in range(90000)) + b"}", b"{" + b",".join([b'"a":0'] * 170000) + b"}",
+)]
+JSON_KEYED = (
+    b'{"frontiers":[{"part":"whole","points":[{"c":1,"mark":"optimal","r":1,"rounds":[1],"s":1,"sends":[[0,"n0","n1",1]]}],"refuted":[],'
+    b'"unknown":[]}],"joined":[],"topology":{"groups":[{"links":[["n0","n1"]],"width":1},{"links":[["n1","n0"]],"width":1}],'
+    b'"nodes":["n0","n1"],"version":1},"words":{"chunks":1,"collective":"broadcast","conflicts":1000,"cuts":"yes","k":0,"ordered":"yes",'
+    b'"root":"n0","steps":1}}\n'
+)
+JSON += [("report", it) for it in (
+    JSON_KEYED, JSON_KEYED.replace(b'"cuts":"yes",', b""), JSON_KEYED.replace(b'"ordered":"yes",', b""), JSON_KEYED.replace(b'"root":"n0",', b""),
+    JSON_KEYED.replace(b'"yes"', b'"\\u0079es"'), JSON_KEYED.replace(b'"cuts":"yes"', b'"cuts":"no","cuts":"yes"'),
+    # another value under a key, and keys that there are not
+    *(JSON_KEYED.replace(b'"cuts":"yes"', b'"cuts":' + it) for it in (b'"no"', b'""', b'"Yes"', b'"yes "', b"true", b"1", b"null", b'["yes"]', b'{"yes":1}')),
+    *(JSON_KEYED.replace(b'"ordered":"yes"', b'"ordered":' + it) for it in (b'"no"', b"false", b"0", b'"all"')),
+    *(JSON_KEYED.replace(b'"ordered"', it) for it in (b'"kept"', b'"sets"', b'"order"', b'"cut"', b'"Ordered"')),
+    JSON_KEYED.replace(b'"cuts":"yes"', b'"cuts":"yes","kept":"yes"'), JSON_KEYED.replace(b'"cuts":"yes"', b'"cuts":"yes","cuts":"no"'),
+    # what breaks a rule of line 2, whose keys are right
+    JSON_KEYED.replace(b'"k":0', b'"k":9'), JSON_KEYED.replace(b'"collective":"broadcast"', b'"collective":"allgather"'),
 )]
 
 # Reports: a text, what is replaced in it by what, and the code and the line.
@@ -165,6 +184,21 @@ REPORTS = [
     (CUSTOM, "=custom", "=allgather", 3, 2),
     (CUSTOM, "topology 2", "topology 1", 1, 3),
     (CUSTOM, "before 0 a", "before 0 c a", 1, 8),
+    # keys of which the words tell: each once, in their order, at the very end, and with the one value
+    *((BROADCAST, " root=n0", it, 1, 2) for it in (
+        " root=n0 ordered=yes cuts=yes", " root=n0 cuts=no", " root=n0 cuts=", " root=n0 cuts", " root=n0 Cuts=yes", " root=n0 cuts=yes cuts=yes",
+        " root=n0 ordered=yes ordered=yes", " root=n0 ordered=no", " root=n0 kept=yes", " root=n0 sets=all", " root=n0 cuts=yes kept=yes",
+        " root=n0 cuts=yes ordered=yes kept=yes", " root=n0 cuts=yes ", " root=n0  cuts=yes", " cuts=yes root=n0", " cuts=yes root=n0 ordered=yes",
+        " cuts=yes", " cuts=yes ordered=yes", " root=n0 cuts=yes=", " root=n0 cuts=yesordered=yes", " root=n0 root=n0 cuts=yes",
+    )),
+    (BROADCAST, " k=0", " cuts=yes k=0", 1, 2),
+    (ALLGATHER, "conflicts=7\n", "conflicts=7 root=a cuts=yes\n", 1, 2),
+    (ALLGATHER, "conflicts=7\n", "conflicts=7 ordered=yes cuts=yes\n", 1, 2),
+    (KEYED, "ordered=yes\n", "ordered=yes", 1, 2),
+    (KEYED, "k=0", "k=9", 3, 2),
+    (KEYED, "root=n0", "root=n9", 3, 4),
+    (KEYED, " root=n0", "", 1, 2),
+    (KEYED, "point 1 1", "point 1 2", 3, 8),
 ]
 
 # Families: the kind, the sizes that there are, and how many links there are at each.
@@ -192,6 +226,10 @@ RANGES = [
     ("synth collective=broadcast k=0 steps=1 chunks=1", "conflicts=1", "conflicts=100000", "conflicts=0", "conflicts=100001"),
     ("programs", "point=1", "point=65535", "point=0", "point=65536"),
     ("replay point=1", "order=0", "order=18446744073709551615", "order=-1", "order=18446744073709551616"),
+    ("synth collective=broadcast k=0 steps=1 chunks=1 conflicts=1", "cuts=yes", "cuts=yes", "cuts=no", "cuts=yess"),
+    ("synth collective=allreduce k=0 steps=1 chunks=1 conflicts=1", "ordered=yes", "ordered=yes", "ordered=ye", "ordered=YES"),
+    ("synth cuts=yes k=0 ordered=yes collective=scatter steps=1 chunks=1 conflicts=1", "kept=yes", "kept=yes", "kept=", "kept=all"),
+    ("bound collective=broadcast k=0 steps=1 chunks=1 conflicts=1", "sets=all", "sets=all", "sets=", "sets=yes"),
 ]
 
 # Words that are refused, with the code and the index of the word.
@@ -214,6 +252,23 @@ WORDS = [
     ("family size=17 kind=cone", 6, 1),
     ("synth collective=alltoall k=0 steps=1 chunks=2 conflicts=1000 root=n0", 7, 6),
     ("synth chunks=17", 6, 1),
+    # keys with one value, which no other command has
+    *((f"{command} {word}", 3, 1) for word in ("cuts=yes", "ordered=yes", "kept=yes", "kept=no")
+      for command in ("bound", "ordered", "check", "replay", "programs", "family", "trial", "degrade", "json", "unjson")),
+    *((f"{command} sets=all", 3, 1) for command in ("synth", "ordered", "check", "degrade", "json", "trial")),
+    ("synth cuts", 3, 1),
+    ("synth cuts=yes cuts=yes", 4, 2),
+    ("synth cuts=yes cuts=no", 4, 2),
+    ("synth kept=yes ordered=yes kept=yes", 4, 3),
+    ("bound sets=all sets=listed", 4, 2),
+    ("synth cuts=all", 6, 1),
+    ("synth kept=yes=yes", 6, 1),
+    ("synth ordered=1 k=9", 6, 1),
+    ("bound sets=listed", 6, 1),
+    ("synth cuts=yes ordered=yes kept=yes", 5, 4),
+    ("bound sets=all", 5, 2),
+    ("synth cuts=yes collective=allgather kept=yes k=0 steps=1 chunks=1 conflicts=1 root=n0", 7, 8),
+    ("bound sets=all collective=allreduce", 6, 2),
 ]
 
 TWO_POINTS = (
@@ -382,6 +437,16 @@ FAULTS = [
     (
         "broadcast 1 1 2 root=n0", "topology 1\nnodes n0 n1\ngroup 2 n0>n1\n", "group=0 width=1",
         "topology 1|nodes n0 n1|group 1 n0>n1|frontier whole|point 1 1 1 optimal|rounds 1|send 0 n0 n1 1|refuted 1 1 2|end",
+    ),
+    # by the words of the report: a candidate that is carried is not cut, and one that is cut is refuted
+    (
+        "broadcast 0 2 1 root=n0 cuts=yes ordered=yes", LINE_OF_3, "group=0 width=0",
+        "topology 1|nodes n0 n1 n2|group 1 n1>n0|group 1 n1>n2|group 1 n2>n1|frontier whole|carried 1 1 1|refuted 2 2 1|end",
+    ),
+    (
+        "reduce 0 2 1 root=n0 ordered=yes", LINE_OF_3, "width=0 group=2",
+        "topology 1|nodes n0 n1 n2|group 1 n0>n1|group 1 n1>n0|group 1 n2>n1|frontier whole|point 2 2 1 optimal|rounds 1 1|"
+        "send 0 n2 n1 1|send 0 n1 n0 2|carried 1 1 1|end",
     ),
     (
         "broadcast 0 1 1 root=n0", ONE_WAY_TWICE, "group=0 width=1",

@@ -6,7 +6,8 @@ IGNORED are the signals that are ignored, as /proc/PID/status has them, and FROM
 
 To whoever started it this is the program: it has its standard input, its output and its signals, stops and goes on with it, and
 ends as it ends. What the program writes comes through here, so that a refusal is seen, and the line on the terminal is cleared
-first. Where it can't be passed on, the program is told so, or else its status for that is taken.
+first. Where it can't be passed on, the program is told so, or else its status for that is taken. A text that the program is given by
+a pipe comes through here too, so that the line that a refusal blames can be shown.
 """
 import ctypes
 import fcntl
@@ -26,7 +27,7 @@ from words import what_is_read
 OUTPUT_FAILED, NOT_STARTED = 5, 70
 LOOK_AFTER, FIRST_AFTER, EACH = 0.25, 1.0, 0.5
 # A pipe that can take bytes can take so many.
-PIECE = select.PIPE_BUF
+PIECE, LARGE_PIECE = select.PIPE_BUF, 1 << 16
 LONGEST_REFUSAL = 64
 LONGEST_TEXT = (1 << 20) + 1
 SET_DEATH_SIGNAL = 1
@@ -83,18 +84,56 @@ class Terminal:
 
 
 class Input:
-    """What the program reads, where that is a file that can be read again. Where it stands in the file is left as it is."""
+    """What the program reads. A file can be read again, and where it stands in the file is left as it is; what comes by a pipe is
+    passed on, and as much of it kept as a text may have."""
 
-    def __init__(self):
-        self.start = None
-        if is_open(0) and stat.S_ISREG(os.fstat(0).st_mode):
+    def __init__(self, is_read):
+        self.start, self.kept, self.pending, self.is_known = None, bytearray(), b"", False
+        self.reader = self.writer = None
+        kind = os.fstat(0).st_mode if is_open(0) else 0
+        if stat.S_ISREG(kind):
             self.start = os.lseek(0, 0, os.SEEK_CUR)
+        elif is_read and (stat.S_ISFIFO(kind) or stat.S_ISSOCK(kind)):
+            self.reader, self.writer = pipe()
+            os.set_blocking(self.writer, False)
 
     def text(self):
+        """What was read, as far as that is known; None where it is not."""
+        if self.start is None:
+            return bytes(self.kept) if self.is_known else None
         try:
-            return None if self.start is None else os.pread(0, LONGEST_TEXT, self.start)
+            return os.pread(0, LONGEST_TEXT, self.start)
         except OSError:
             return None
+
+    def waits_for(self):
+        """The lists of what is to be read and written next."""
+        is_open_yet = self.writer is not None
+        return [0] * (is_open_yet and not self.pending), [self.writer] * (is_open_yet and bool(self.pending))
+
+    def read(self):
+        try:
+            self.pending = os.read(0, LARGE_PIECE)
+        except OSError:
+            self.pending = b""
+        self.is_known = True
+        self.kept += self.pending[: LONGEST_TEXT - len(self.kept)]
+        if not self.pending:
+            self.close()
+
+    def write(self):
+        try:
+            self.pending = self.pending[os.write(self.writer, self.pending):]
+        except BlockingIOError:
+            pass
+        except OSError:
+            self.close()
+
+    def close(self):
+        """The program is given no more."""
+        if self.writer is not None:
+            os.close(self.writer)
+        self.writer, self.pending = None, b""
 
 
 class Output:
@@ -137,7 +176,8 @@ class Run:
     """A run of the program, from its beginning to its end."""
 
     def __init__(self, ignored, origin, program, words):
-        self.origin, self.words, self.terminal, self.output, self.input = origin, words, Terminal(), Output(), Input()
+        self.origin, self.words, self.terminal, self.output = origin, words, Terminal(), Output()
+        self.input = Input(bool(what_is_read(words)))
         self.status, self.came, self.late = None, [], None
         self.progress = progress_of(words, self.input.text())
         self.is_waiting_told = self.is_found_told = False
@@ -146,9 +186,10 @@ class Run:
         parent, self.start = os.getpid(), time.monotonic()
         self.pid = os.fork()
         if not self.pid:
-            become(ignored, [program, *words], self.output.writer, parent)
-        if self.output.writer is not None:
-            os.close(self.output.writer)
+            become(ignored, [program, *words], (self.input.reader, self.output.writer), parent)
+        for it in (self.input.reader, self.output.writer):
+            if it is not None:
+                os.close(it)
         if not is_in(signal.SIGXFSZ, ignored):
             signal.signal(signal.SIGXFSZ, signal.SIG_DFL)
         self.woken = self.take_signals()
@@ -170,12 +211,12 @@ class Run:
         """Waits for the end, and ends likewise."""
         next_line = self.start + LOOK_AFTER
         while self.status is None or not self.output.is_done():
-            readers, writers = self.output.waits_for()
+            (reader, writer), (other, more) = self.output.waits_for(), self.input.waits_for()
             wait = 0 if self.late else max(0, next_line - time.monotonic())
-            readers, writers, _ = select.select([*readers, self.woken], writers, [], wait)
+            readers, writers, _ = select.select([*reader, *other, self.woken], [*writer, *more], [], wait)
             if self.late and not readers and not writers:
                 self.die(self.late)
-            self.turn(self.output.reader in readers, writers)
+            self.turn(readers, writers)
             if time.monotonic() >= next_line:
                 self.tell()
                 next_line = time.monotonic() + (EACH if time.monotonic() >= self.start + FIRST_AFTER else FIRST_AFTER - LOOK_AFTER)
@@ -185,15 +226,19 @@ class Run:
         self.terminal.clear()
         self.end(OUTPUT_FAILED if self.output.has_failed else os.WEXITSTATUS(self.status))
 
-    def turn(self, can_read, can_write):
-        """Sees what has come: signals, the program's end or stop, output."""
+    def turn(self, readers, writers):
+        """Sees what has come: signals, the program's end or stop, output, input."""
         drain(self.woken)
         self.look()
         while self.came:
             self.hand_on(self.came.pop(0))
-        if can_read or can_write:
+        if self.output.reader in readers or 1 in writers:
             self.terminal.clear()
-            self.output.write() if can_write else self.output.read()
+            self.output.write() if 1 in writers else self.output.read()
+        if self.input.writer is not None and 0 in readers:
+            self.input.read()
+        elif self.input.writer in writers:
+            self.input.write()
 
     def look(self):
         """Sees whether the program has ended, or was stopped: then this process stops too, and lets it go on when it does."""
@@ -205,6 +250,7 @@ class Run:
             os.kill(self.pid, signal.SIGCONT)
         elif pid:
             self.status = status
+            self.input.close()
             self.late = os.WTERMSIG(status) if os.WIFSIGNALED(status) else None
 
     def forget_stop(self):
@@ -228,7 +274,7 @@ class Run:
         self.tell_of_found()
         seconds = int(time.monotonic() - self.start)
         if self.progress and seconds >= FIRST_AFTER:
-            self.terminal.show(f"sccl: {self.words[0]}", self.progress.told(self.pid), f"{seconds // 60}:{seconds % 60:02}")
+            self.terminal.show(f"sccl: {self.words[0]}", self.progress.told(self.pid), lasted(seconds))
 
     def is_waiting(self):
         """Whether the program waits for standard input: it is in the system call `read` (0), of file 0."""
@@ -266,17 +312,20 @@ class Run:
             os._exit(status)
 
 
-def become(ignored, words, output, parent):
-    """In the new process: becomes the program, as if it were started alone but for its output. It ends where its parent does."""
+def become(ignored, words, streams, parent):
+    """In the new process: becomes the program, as if it were started alone but for its input and output. It ends where its parent does."""
     try:
         ctypes.CDLL(None).prctl(SET_DEATH_SIGNAL, signal.SIGKILL)
         for it in IGNORED_BY_PYTHON:
             if not is_in(it, ignored):
                 signal.signal(it, signal.SIG_DFL)
-        if output is not None:
-            os.dup2(output, 1)
+        for number, it in enumerate(streams):
+            if it is not None:
+                os.dup2(it, number)
         if os.getppid() == parent:
             os.execv(words[0], words)
+    except OSError:
+        os.write(2, f"sccl: {words[0]} can't be started\n".encode("utf-8", "surrogateescape"))
     finally:
         os._exit(NOT_STARTED)
 
@@ -317,6 +366,11 @@ def drain(number):
             pass
     except BlockingIOError:
         pass
+
+
+def lasted(seconds):
+    """A time, in minutes and seconds."""
+    return f"{seconds // 60}:{seconds % 60:02}"
 
 
 def place_of_output(origin):

@@ -174,7 +174,8 @@ def report_shape(line, number, names):
     if number == 1:
         return whole(line, "due is sccl 1 or sccl 2")
     if number == 2:
-        return whole(line, "due is synth collective=WORD k=N steps=N chunks=N conflicts=N, and root=NAME where the collective takes a root")
+        return whole(line, "due is synth collective=WORD k=N steps=N chunks=N conflicts=N, root=NAME where the collective takes a root, "
+                     "and then cuts=yes and ordered=yes where the search was asked so")
     if first in ("nodes", "group", "custom", "before", "after"):
         found = trouble(line, 0, names)
         return found and found[1]

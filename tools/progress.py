@@ -31,7 +31,9 @@ class Search(Untold):
 
     def __init__(self, words, text):
         self.asked = dict(it.split("=", 1) for it in words if "=" in it)
-        self.most = most_candidates(self.asked, text)
+        self.can_keep, self.keeps = words[0] == "synth", self.asked.get("kept") == "yes"
+        # (candidates that are cut leave no trace, so how many there may be would say nothing)
+        self.most = 0 if "cuts" in self.asked else most_candidates(self.asked, text)
         self.before = times()
         self.log, self.read, self.conflicts = None, 0, 0
 
@@ -50,7 +52,7 @@ class Search(Untold):
         return (stem(max(written, key=written.get)), len({*map(stem, written)}) - 1) if written else ("", 0)
 
     def found_before(self):
-        if not self.at()[0] or not any(name.endswith(KINDS_OF_FILES) for name in self.before):
+        if self.keeps or not self.at()[0] or not any(name.endswith(KINDS_OF_FILES) for name in self.before):
             return ""
         return (f"the folder {FOLDER} had files of an earlier search, whose report check may deny from now on; "
                 "./sccl -C DIR runs a search in a folder of its own")
@@ -60,9 +62,11 @@ class Search(Untold):
         if not candidate:
             return f"interrupted; no report is written, and no file of the folder {FOLDER} was changed"
         self.count(f"{candidate}.partial")
+        again = "Started again, the search begins anew"
+        if self.can_keep:
+            again = f"Started again {'so' if self.keeps else 'with kept=yes'}, it searches nothing that is refuted, and the others anew"
         return (f"interrupted; no report is written. The folder {FOLDER} has the files of {settled} settled candidate{'s' * (settled != 1)}, "
-                f"and {self.conflicts} conflicts of {candidate}. Started again, the search begins anew; with fewer conflicts for each "
-                "candidate, or tighter limits, it ends sooner")
+                f"and {self.conflicts} conflicts of {candidate}. {again}; with fewer conflicts for each candidate, or tighter limits, it ends sooner")
 
     def count(self, log):
         """Reads on in a candidate's log, which has a line for each conflict."""

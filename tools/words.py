@@ -4,13 +4,13 @@ import re
 
 # Each command: the keys that it requires, those that may be left out, and what it reads.
 COMMANDS = {
-    "synth": (("collective", "k", "steps", "chunks", "conflicts"), ("root",), "a topology"),
+    "synth": (("collective", "k", "steps", "chunks", "conflicts"), ("root", "cuts", "ordered", "kept"), "a topology"),
     "check": ((), (), "a report"),
     "replay": (("point",), ("order",), "a report"),
     "programs": (("point",), (), "a report"),
     "family": (("kind", "size"), (), "nothing"),
     "trial": (("n",), (), "nothing"),
-    "bound": (("collective", "k", "steps", "chunks", "conflicts"), ("root",), "a topology"),
+    "bound": (("collective", "k", "steps", "chunks", "conflicts"), ("root", "sets"), "a topology"),
     "ordered": (("collective", "k", "steps", "chunks", "conflicts"), ("root",), "a topology"),
     "degrade": (("group", "width"), (), "a report"),
     "json": (("what",), ("point",), "a topology or a report"),
@@ -25,6 +25,10 @@ VALUES = {
     "chunks": "1 to 16",
     "conflicts": "1 to 100000",
     "root": "a name: 1 to 16 bytes of a to z, 0 to 9 and _",
+    "cuts": "yes",
+    "ordered": "yes",
+    "kept": "yes",
+    "sets": "all",
     "point": "1 to 65535",
     "order": "0 to 18446744073709551615",
     "kind": "line, ring, complete, cube or shared",

@@ -1,5 +1,6 @@
 """What `check` answers to a report and the files beside it."""
-from .collective import ADDING, allows, chunks, of_part
+from .collective import allows, chunks, of_part
+from .cuts import Cuts
 from .formula import Formula
 from .proof import is_refutation, is_spent_log
 from .replay import Replay
@@ -67,6 +68,7 @@ class Part:
     def __init__(self, report, part, frontier, files):
         self.report, self.part, self.frontier, self.files = report, part, frontier, files
         self.kind = of_part(report.kind, part)
+        self.cuts = Cuts(self.kind, report.root, report.topology, True) if report.has_cuts else None
 
     def need(self, test, reason, candidate):
         if not test:
@@ -78,7 +80,8 @@ class Part:
             number = 1 + next(place for place, it in enumerate(places) if it is point)
             self.need(Replay(self.report, number).verdict() == "holds", 1, point.candidate)
         for it in frontier.refuted:
-            self.check_refuted(it)
+            if not self.is_cut(it):
+                self.check_refuted(it)
         for it in frontier.unknown:
             log = self.file(it, "partial")
             self.need(len(log) <= LONGEST and is_spent_log(self.formula(it)[1], self.report.limits["conflicts"], log), 7, it)
@@ -89,15 +92,29 @@ class Part:
             is_optimal = all(it in frontier.refuted for it in self.within() if is_better(it, point.candidate))
             self.need(point.mark == ("optimal" if is_optimal else "open"), 2, point.candidate)
 
-    def file(self, candidate, kind):
+    def is_cut(self, candidate):
+        """Whether the words ask for cuts, and some set of nodes refutes it."""
+        return self.cuts is not None and self.cuts.first(*candidate[1:]) is not None
+
+    def name(self, candidate, kind):
         word = "-".join(map(str, candidate)) + "." + kind
-        name = word if self.part == "whole" else f"{self.part}-{word}"
+        return word if self.part == "whole" else f"{self.part}-{word}"
+
+    def file(self, candidate, kind):
+        name = self.name(candidate, kind)
         self.need(name in self.files, 4, candidate)
         return self.files[name]
 
     def formula(self, candidate):
-        found = Formula(self.kind, self.report.root, self.report.topology, candidate)
+        """The text of its formula, by the words of the report, and its variables and clauses."""
+        found = Formula(self.kind, self.report.root, self.report.topology, candidate, self.report.is_ordered)
         return found.text(), (found.variables, found.clauses)
+
+    def is_kept(self, candidate):
+        """Whether the files are its formula, and a refutation of that."""
+        text, formula = self.formula(candidate)
+        proof = self.files.get(self.name(candidate, "lrat"), b"")
+        return self.files.get(self.name(candidate, "cnf")) == text and len(proof) <= LONGEST and is_refutation(formula, proof)
 
     def check_refuted(self, it):
         text, formula = self.formula(it)

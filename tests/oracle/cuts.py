@@ -1,4 +1,5 @@
 """Cuts: the sets of nodes into which more has to come than can, and the floor that they give."""
+from fractions import Fraction
 from itertools import combinations, count
 
 from .collective import COPY_OF, allows, pairs
@@ -6,15 +7,21 @@ from .formula import turned_round
 
 
 class Cuts:
-    """The cuts of a collective over a topology. Those of a reduction are its copy's over the links turned round."""
+    """The cuts of a collective over a topology, at the sets that are listed, or at all. Those of a reduction are its copy's over the
+    links turned round."""
 
-    def __init__(self, kind, root, topology):
+    def __init__(self, kind, root, topology, at_all=False):
         if kind in COPY_OF:
             kind, topology = COPY_OF[kind], turned_round(topology)
         self.kind, self.root, self.topology = kind, root, topology
         nodes = range(len(topology.names))
         small = [*({it} for it in nodes), *(set(it) for it in combinations(nodes, 2))]
         self.listed = small + [set(nodes) - it for it in small]
+        self.covers = [in_order]
+        if at_all:
+            self.listed = [{it for it in nodes if number >> it & 1} for number in range(1, 1 << len(nodes))]
+            self.covers = [in_order, in_reverse, greedy]
+        self.widths = {}
 
     def need(self, inside, many):
         """How many chunks have to come in, where the chunk count is this."""
@@ -22,13 +29,12 @@ class Cuts:
         return len({chunk for chunk, node in after if node in inside} - {chunk for chunk, node in before if node in inside})
 
     def width(self, inside):
-        """How many chunks can come in in a round."""
-        taken, wide = set(), 0
-        for width, links in self.topology.groups:
-            if any(a not in inside and b in inside and (a, b) not in taken for a, b in links):
-                taken.update(links)
-                wide += width
-        return wide
+        """How many chunks can come in in a round: the least of what the covers carry."""
+        key = frozenset(inside)
+        if key not in self.widths:
+            groups = [(width, {(a, b) for a, b in links if a not in inside and b in inside}) for width, links in self.topology.groups]
+            self.widths[key] = min(sum(cover(groups)) for cover in self.covers)
+        return self.widths[key]
 
     def names(self, inside):
         return [self.topology.names[it] for it in sorted(inside)]
@@ -48,3 +54,27 @@ class Cuts:
             if above > 0 and (best[0] == 0 or above * best[1] > best[0] * below):
                 best = (above, below, inside)
         return [str(best[0]), str(best[1]), *self.names(best[2])]
+
+
+# ---- covers: the widths of the groups that are taken, of groups that each have a width and the links that come in
+
+
+def in_order(groups):
+    taken = set()
+    for width, links in groups:
+        if links - taken:
+            taken |= links
+            yield width
+
+
+def in_reverse(groups):
+    return in_order(groups[::-1])
+
+
+def greedy(groups):
+    """Each time the first of those that have the most links for their width that are in no group taken before."""
+    taken = set()
+    while any(links - taken for _, links in groups):
+        width, links = max(groups, key=lambda it: Fraction(len(it[1] - taken), it[0]))
+        taken |= links
+        yield width

@@ -162,10 +162,10 @@ def frontier_lines(value):
 
 def asked_line(value):
     keys = ["collective", "k", "steps", "chunks", "conflicts"]
-    rooted = isinstance(value, dict) and "root" in value
-    kind, *numbers = keyed(value, *keys, *["root"] * rooted)[:5]
-    found = [word(kind, KINDS), *map(count, numbers)] + ([name(value["root"])] if rooted else [])
-    return ["synth", *(f"{key}={it}" for key, it in zip([*keys, "root"], found))]
+    more = [it for it in ("root", "cuts", "ordered") if isinstance(value, dict) and it in value]
+    kind, *numbers = keyed(value, *keys, *more)[:5]
+    found = [word(kind, KINDS), *map(count, numbers), *(name(value[it]) if it == "root" else word(value[it], ["yes"]) for it in more)]
+    return ["synth", *(f"{key}={it}" for key, it in zip([*keys, *more], found))]
 
 
 def report_lines(value):
@@ -232,6 +232,7 @@ def report_value(it):
     words = {"collective": it.kind, **limits}
     if it.kind in ROOTED:
         words["root"] = names_of[it.root]
+    words.update({key: "yes" for key, is_there in (("cuts", it.has_cuts), ("ordered", it.is_ordered)) if is_there})
     frontiers = [
         {
             "part": part,

@@ -10,9 +10,10 @@ def turned_round(topology):
 
 
 class Formula:
-    """The formula that is satisfiable exactly where a schedule solves the candidate. A reduction is sought by copying."""
+    """The formula that is satisfiable exactly where a schedule solves the candidate. A reduction is sought by copying. The clauses of
+    the order stand behind it where they are asked for."""
 
-    def __init__(self, kind, root, topology, candidate):
+    def __init__(self, kind, root, topology, candidate, is_ordered=False):
         if kind in COPY_OF:
             kind, topology = COPY_OF[kind], turned_round(topology)
         self.topology, (self.steps, rounds, many) = topology, candidate
@@ -23,6 +24,8 @@ class Formula:
         self.number_variables()
         self.sending()
         self.rounding()
+        if is_ordered:
+            self.ordering()
 
     def number_variables(self):
         number = count(1)
@@ -79,6 +82,18 @@ class Formula:
             for j in range(1, extra + 1):
                 self.add(-outputs[width * j], more[s, j])
             self.add(-outputs[width * (1 + extra)])
+
+    def ordering(self):
+        """Of chunks that are alike, each comes to the node that waits for them no later than the next."""
+        places = lambda side, it: frozenset(node for chunk, node in side if chunk == it)
+        classes = {}
+        for it in self.chunks:
+            classes.setdefault((places(self.before, it), places(self.after, it)), []).append(it)
+        for (held, due), alike in classes.items():
+            waiting = due - held
+            for c, d in zip(alike, alike[1:]) if waiting else ():
+                for s in self.turns:
+                    self.add(-self.has[d, min(waiting), s], self.has[c, min(waiting), s])
 
     def counter(self, inputs, most):
         """A totalizer that counts up to `most`: a node of the tree sums its two sides. The root alone has all outputs."""

@@ -8,7 +8,7 @@ from .collective import ROOTED, STANDARD, allows, chunks, of_part
 from .texts import Lines, Refused, need, number
 
 SHAPE, LACKS, RULE = 1, 2, 3
-WORDS = re.compile("synth collective=([^ ]+) k=([^ ]+) steps=([^ ]+) chunks=([^ ]+) conflicts=([^ ]+)( root=([^ ]+))?")
+WORDS = re.compile("synth collective=([^ ]+) k=([^ ]+) steps=([^ ]+) chunks=([^ ]+) conflicts=([^ ]+)( root=([^ ]+))?( cuts=yes)?( ordered=yes)?")
 LIMITS = {"k": (0, 8), "steps": (1, 8), "chunks": (1, 16), "conflicts": (1, 100000)}
 
 
@@ -36,6 +36,8 @@ class Report:
     topology: object
     frontiers: dict  # by part
     joined: list
+    has_cuts: bool = False
+    is_ordered: bool = False
 
     def points(self):
         """Each point with its part, in the order of the text."""
@@ -84,13 +86,14 @@ class Reader:
         if self.lines.is_there():
             self.take()
             self.holds(False, SHAPE)
-        return Report(self.kind, self.limits, self.root, self.topology, frontiers, joined)
+        return Report(self.kind, self.limits, self.root, self.topology, frontiers, joined, self.has_cuts, self.is_ordered)
 
     def asked(self, patterned):
         """The words of the search: their shape, of which numbers may have any size, and then their ranges."""
         found = WORDS.fullmatch(self.take())
         self.holds(found, SHAPE)
-        self.kind, *numbers, _, root = found.groups()
+        self.kind, *numbers, _, root, cuts, order = found.groups()
+        self.has_cuts, self.is_ordered = cuts is not None, order is not None
         self.holds(self.kind in STANDARD or patterned and self.kind == "custom", SHAPE)
         self.limits = dict(zip(LIMITS, map(number, numbers)))
         self.holds(None not in self.limits.values(), SHAPE)

@@ -57,7 +57,12 @@ dispatchEvent(new Event("beforeprint"));
 seen.printed = document.querySelectorAll("details:not([open])").length;
 dispatchEvent(new Event("afterprint"));
 document.title = JSON.stringify(seen);
+if (parent !== window) parent.postMessage(document.title, "*");
 </script>"""
+# A window of a browser is not as narrow as that of a telephone; a page in a page can be.
+FRAME = """<!DOCTYPE html><html><head><title></title></head><body><iframe src="page.html" style="width: WIDTHpx; height: 800px; border: 0"></iframe>
+<script>addEventListener("message", event => { document.title = event.data; });</script></body></html>"""
+LEAST_WINDOW = 500
 # Alpha in microseconds, bandwidth in GB/s, and bytes.
 ASKED = (5, 25, 1048576), (0, 1, 1000), (100, 300, 4096), (0.5, 12.5, 1 << 30)
 
@@ -68,6 +73,10 @@ def opened(text, width=1200):
         path = os.path.join(folder, "page.html")
         with open(path, "w") as it:
             it.write(text.replace("</body>", f"{MOVES.replace('ASKED', json.dumps(ASKED))}</body>"))
+        if width < LEAST_WINDOW:
+            path = os.path.join(folder, "frame.html")
+            with open(path, "w") as it:
+                it.write(FRAME.replace("WIDTH", str(width)))
         words = ["chromium", "--headless", "--no-sandbox", "--disable-gpu", f"--user-data-dir={folder}/profile", f"--window-size={width},900"]
         words += ["--enable-logging=stderr", "--dump-dom", f"file://{path}"]
         return subprocess.run(words, capture_output=True, text=True, timeout=120, env={**os.environ, "HOME": folder})
@@ -124,6 +133,7 @@ def check_curves(name, ends, axes, time, count):
     times = [(y - 4, log10(seconds_of(said))) for said, x, y in axes if said.endswith("s") and said[0].isdigit()]
     line = lambda places: lambda it: places[0][1] + (it - places[0][0]) * (places[-1][1] - places[0][1]) / (places[-1][0] - places[0][0])
     at_size, at_time = line(sizes), line(times)
+    count.equal(f"{name}: sizes go to the right, times go up", (sizes == sorted(sizes), [it for it, _ in times] == sorted((it for it, _ in times), reverse=True)), (True, True))
     for candidate, (x, y, to_x, to_y) in ends:
         numbers = tuple(map(int, candidate.split("-")))
         off = [abs(at_time(up) - log10(time(numbers, 2 ** at_size(across)))) for across, up in ((x, y), (to_x, to_y))]

@@ -1,5 +1,6 @@
 """Holds a chart of a frontier to the report: each mark, the stairs and the floor against the numbers that stand at the axes."""
 import re
+from itertools import combinations
 
 
 def numbers(text):
@@ -70,6 +71,10 @@ def check_chart(name, chart, points, count, floor=None):
         x, y = float(it.attributes["x"]) - 10, float(it.attributes["y"]) + 9
         steps, rounds, chunks = map(int, it.text().split(", ")[0].split("-"))
         count.equal(f"{name}: the name {it.text()}", near(up(y), rounds / chunks), True)
+        long, left = 7.5 * len(it.text()), it.attributes["text-anchor"] == "end"
+        count.equal(f"{name}: the name {it.text()} is not cut", x >= long if left else x + 10 + long <= float(chart.attributes["width"]), True)
+        beside = float(it.attributes["x"]) + (10 if left else -10)
+        count.equal(f"{name}: the name {it.text()} stands beside its mark", any(abs(beside - at) < 0.2 for at in seen[steps, rounds * 720720 // chunks]), True)
 
 
 def stairs_of(path, across, up):
@@ -112,6 +117,9 @@ def check_labels(name, column, count):
     sends = {it.attributes["data-send"]: [float(it.one("line").attributes[key]) for key in ("x1", "y1", "x2", "y2")] for it in column.all("g", class_="send")}
     labels = {it.attributes["data-send"]: it for it in column.all("text", class_="halo")}
     count.equal(f"{name}: labels", sorted(labels), sorted(sends))
+    places = [(float(it.attributes["x"]), float(it.attributes["y"]), 7.5 * len(it.text()) + 4, said) for said, it in labels.items()]
+    hidden = [(one[3], other[3]) for one, other in combinations(places, 2) if abs(one[0] - other[0]) < (one[2] + other[2]) / 2 - 0.2 and abs(one[1] - other[1]) < 12.8]
+    count.equal(f"{name}: labels hide no other", hidden, [])
     for said, it in labels.items():
         x, y, to_x, to_y = sends[said]
         at = float(it.attributes["x"])

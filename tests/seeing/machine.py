@@ -51,6 +51,10 @@ def check_machine(name, page, report, count):
     left, top, wide, high = numbers(picture.attributes["viewbox"])
     outside = [it for it in solid + labels if it[0] - it[2] < left or it[0] + it[2] > left + wide or it[1] - it[3] < top or it[1] + it[3] > top + high]
     count.equal(f"{name}: nothing is cut", outside, [])
+    paths = [it.attributes["d"] for it in picture.all("path")]
+    outside = [it for it in paths if any(not (left < x < left + wide and top < y < top + high) for x, y in along(numbers(it)))]
+    count.equal(f"{name}: no line is cut", outside, [])
+    count.equal(f"{name}: lines have heads", [it for it in picture.all("path") if it.attributes.get("marker-end") != "url(#head)"], [])
     groups = {(names[a], names[b]): [it for it, (_, links) in enumerate(topology.groups) if (a, b) in links] for a, b in topology.usable()}
     lines = [it for it in picture.all("g") if it.attributes["class"] in ("link", "link shared")]
     told = sorted(it.one("title").inner[0] for it in lines)
@@ -73,6 +77,8 @@ def check_link(name, link, label, boxes, groups, topology, count):
     count.equal(f"{name}: {a} to {b}: ends", ends, (True, True))
     count.equal(f"{name}: {a} to {b}: width and dashes", (float(path["stroke-width"]), link.attributes["class"]),
                 (round(1 + 0.8 * (min(width, 8) - 1), 1), "link shared" if is_shared else "link"))
+    hidden = [node for node, (x, y, wide, high) in boxes.items() if node not in (a, b) and any(abs(at[0] - x) < wide and abs(at[1] - y) < high for at in along(places))]
+    count.equal(f"{name}: {a} to {b}: it goes over no node", hidden, [])
     if label:
         said = " ".join(f"g{it}" for it in found) if is_shared else str(width)
         count.equal(f"{name}: {a} to {b}: its label", label.text(), said)
@@ -80,6 +86,15 @@ def check_link(name, link, label, boxes, groups, topology, count):
         count.equal(f"{name}: {a} to {b}: its label is beside it", min(xs) - 9 <= x <= max(xs) + 9 and min(ys) - 9 <= y <= max(ys) + 9, True)
     elif "L" not in path["d"] and name.startswith(tuple(CLUSTERS)) and not is_shared:
         count.equal(f"{name}: {a} to {b}: its width stands there", width, 1)
+
+
+def along(places):
+    """Places along a bent line, or along a line with corners."""
+    if len(places) == 6:
+        (x, y), (mid_x, mid_y), (to_x, to_y) = places[:2], places[2:4], places[4:]
+        weights = [((1 - it) ** 2, 2 * it * (1 - it), it ** 2) for it in (part / 40 for part in range(41))]
+        return [(one * x + two * mid_x + three * to_x, one * y + two * mid_y + three * to_y) for one, two, three in weights]
+    return list(zip(places[::2], places[1::2]))
 
 
 def check_hubs(name, picture, hubs, boxes, topology, count):
@@ -95,7 +110,7 @@ def check_hubs(name, picture, hubs, boxes, topology, count):
             count.equal(f"{name}: ports", ends, {("out", a) for a, _ in links} | {("in", b) for _, b in links})
             through |= links
         else:
-            count.equal(f"{name}: a hub without ports has its groups in it", inner, groups)
+            count.equal(f"{name}: a hub without ports has its groups in it", (inner, ".." in hub.text()), (groups[:3], len(groups) > 3))
         for side, node, line in its:
             check_port(f"{name}: {side} of {node}", side, node, line, box_of(hub), boxes, (groups, links, topology), count)
     return through
@@ -108,7 +123,9 @@ def check_port(name, side, node, line, hub, boxes, of, count):
     near, far = (places[:2], places[-2:]) if side == "out" else (places[-2:], places[:2])
     count.equal(f"{name}: ends", (is_at(near, boxes[node]), reaches(far, hub) < 12), (True, True))
     mine = {it for it in links if it[side == "in"] == node}
-    own = [it for it in groups if mine <= named(it, topology) and named(it, topology) != links]
+    of_each = [{it for it in links if it[side == "in"] == other} for other in {it[side == "in"] for it in links}]
+    whole = [it for it in groups if all(its <= named(it, topology) or not its & named(it, topology) for its in of_each)]
+    own = [it for it in whole if mine <= named(it, topology) != links]
     width = min(topology.groups[it][0] for it in own or groups)
     count.equal(f"{name}: width", float(path["stroke-width"]), round(1 + 0.8 * (min(width, 8) - 1), 1))
     said = ", ".join(f"group {it} of width {topology.groups[it][0]}" for it in own) or "no port of its own"

@@ -9,7 +9,7 @@ from .order import Candidate, in_search_order
 NAME, NUMBER = "[a-z0-9_]{1,16}", "(?:0|[1-9][0-9]{0,5})"
 HEADERS = {"bound 1": "bound", "ordered 1": "ordered", "degraded 1": "degrade"}
 LIMITS = " ".join(f"{it}={NUMBER}" for it in ("k", "steps", "chunks", "conflicts"))
-WORDS = re.compile(f"(synth collective=([a-z]+) {LIMITS}(?: root=({NAME}))?)")
+WORDS = re.compile(f"(synth collective=([a-z]+) {LIMITS}(?: root=({NAME}))?)( cuts=yes)?( ordered=yes)?")
 CANDIDATE = f"({NUMBER}) ({NUMBER}) ({NUMBER})"
 # The lines behind `frontier whole`, in the order in which they may stand; those of the schedule of a point belong to it.
 SEND = re.compile(f"send {NUMBER} ({NAME}) ({NAME}) {NUMBER}")
@@ -75,8 +75,8 @@ def topology_of(lines: Lines) -> List[str]:
     return found + [it[0] for it in lines.all(BEHIND_NODES)]
 
 
-def report_of(text: bytes, topology: Optional[bytes]) -> str:
-    """The report of a text, with the topology where the text lacks it."""
+def report_of(text: bytes, topology: Optional[bytes], has_cuts: bool) -> str:
+    """The report of a text, with the topology where the text lacks it. With `has_cuts` its words are those of a search with cuts."""
     lines = Lines(text, "the text")
     kind = HEADERS[lines.take(*map(re.compile, HEADERS), due="`bound 1`, `ordered 1` or `degraded 1`")[0]]
     words = lines.take(WORDS, due="the line of the words")
@@ -92,7 +92,8 @@ def report_of(text: bytes, topology: Optional[bytes]) -> str:
     body += [it[0] for it in lines.all(UNKNOWN)]
     lines.take(re.compile("end"), due="`end`, or a line that may stand here")
     lines.end()
-    return "\n".join([f"sccl {given[0][-1]}", words[1], *given, "frontier whole", *body, "end", ""])
+    cuts = " cuts=yes" if has_cuts and kind == "bound" else words[4] or ""
+    return "\n".join([f"sccl {given[0][-1]}", f"{words[1]}{cuts}{words[5] or ''}", *given, "frontier whole", *body, "end", ""])
 
 
 def given_topology(lines: Lines, kind: str, topology: Optional[bytes]) -> List[str]:

@@ -3,10 +3,13 @@ from .svg import element, line, many, picture, short, text, title
 
 WIDTH, HEIGHT, LEFT, RIGHT, TOP, BOTTOM = 600, 340, 56, 24, 20, 46
 RADIUS, APART = 6, 15
+# The width of a letter, at most: in a narrow window letters are larger.
+LETTER = 10
 STEPS_OF_SCALE = 0.1, 0.2, 0.5, 1, 2, 5, 10, 20
 MEANING = {
     "optimal": "optimal point", "open": "open point", "joined": "joined point", "cut": "cut: below the floor",
     "carried": "carried: refuted before the fault", "refuted": "refuted: no schedule", "unknown": "unknown: given up",
+    "published": "published point",
 }
 POINTS, WITH_A_LINE = ("optimal", "open", "joined"), ("optimal", "open")
 
@@ -74,7 +77,13 @@ class Chart:
                 x, y = self.x(steps) + APART * place, self.y(ratio)
                 yield element("g", title(f"{MEANING[kind]}: {', '.join(names)}"), mark(kind, x, y), class_=f"mark {kind}")
                 if kind in POINTS:
-                    yield text(x + 10, y - 9, ", ".join(names), "start", class_="named")
+                    yield named(x, y, ", ".join(names))
+
+
+def named(x, y, said):
+    """The name of a point, at its right or, if that has no room for it, at its left."""
+    is_right = x + 10 + LETTER * len(said) <= WIDTH
+    return text(x + 10 if is_right else x - 10, y - 9, said, "start" if is_right else "end", class_="named")
 
 
 def mark(kind, x, y):
@@ -86,6 +95,8 @@ def mark(kind, x, y):
         return text(x, y + 5, "?")
     if kind == "cut":
         return element("path", d=f"M{short(x - 5)} {short(y - 4)}h10l-5 9z")
+    if kind == "published":
+        return element("path", d=f"M{short(x)} {short(y - 9)}l9 9l-9 9l-9 -9z")
     if kind == "carried":
         return line(x - RADIUS, y, x + RADIUS, y)
     if kind == "joined":

@@ -6,8 +6,9 @@ Place = Tuple[float, float]
 # A place with half a width and half a height.
 Box = Tuple[float, float, float, float]
 HALF_HEIGHT, LETTER = 17, 7.5
-# How far an arrow is bent, for each unit of its length: the first that hides no node.
-BENDS = 0.07, 0.12, 0.18, 0.25, 0.33, 0.42, -0.18, -0.3
+# How far an arrow is bent, for each unit of its length, and at which part of it: the first that hides no node.
+BENDS = [(it, 0.5) for it in (0.07, 0.12, 0.18, 0.25, 0.33, 0.42, -0.18, -0.3)]
+BENDS += [(it, part) for it in (0.42, 0.52, -0.42, -0.54, 0.64) for part in (0.25, 0.75, 0.5)]
 CLEAR, SAMPLES = 7, [it / 24 for it in range(1, 24)]
 PLACES = 0.5, 0.42, 0.58, 0.34, 0.66, 0.27, 0.73, 0.2, 0.8
 
@@ -30,13 +31,13 @@ def at(curve: Tuple[Place, Place, Place], part: float) -> Place:
 
 def curve_of(start: Box, end: Box, others: List[Box]) -> Tuple[Place, Place, Place]:
     """The bent line from one box to another that hides none of the others."""
-    curves = [bent(start, end, it) for it in BENDS]
+    curves = [bent(start, end, *it) for it in BENDS]
     return next((it for it in curves if is_clear(it, others)), curves[0])
 
 
-def bent(start: Box, end: Box, bend: float) -> Tuple[Place, Place, Place]:
+def bent(start: Box, end: Box, bend: float, part: float) -> Tuple[Place, Place, Place]:
     (x, y), (to_x, to_y) = start[:2], end[:2]
-    middle = (x + to_x) / 2 - (to_y - y) * bend, (y + to_y) / 2 + (to_x - x) * bend
+    middle = x + (to_x - x) * part - (to_y - y) * bend, y + (to_y - y) * part + (to_x - x) * bend
     begin, finish = edge(start, middle, 1), edge(end, middle, 4)
     return begin, middle, finish
 

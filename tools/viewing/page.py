@@ -72,7 +72,7 @@ def numbered(report):
     for frontier in report["frontiers"]:
         yield frontier["part"], numbers.get(frontier["part"], []), frontier, steps
     if report["joined"]:
-        yield "joined", numbers["joined"], {it: [] for it in OTHERS}, 2 * steps
+        yield "joined", numbers["joined"], {**{it: [] for it in OTHERS}, "beside": report.get("beside", [])}, 2 * steps
 
 
 def frontiers(report):
@@ -85,6 +85,9 @@ def chart_of(points, frontier, steps):
     """The chart of a frontier, and the kinds of candidates in it."""
     candidates = [(it["mark"], (it["s"], it["r"], it["c"])) for _, it in points]
     candidates += [(kind, tuple(it[:3])) for kind in OTHERS for it in frontier[kind]]
+    beside = frontier.get("beside", [])
+    candidates += [("published", it) for it in beside]
+    steps = max([steps, *(it[0] for it in beside)])
     refuted = sum(len(frontier[it]) for it in ("cut", "carried", "refuted"))
     said = f"Chart of {many(len(points), 'point')}, {refuted} refuted and {len(frontier['unknown'])} unknown candidates."
     return Chart(candidates, steps, frontier.get("floor"), said), {kind for kind, _ in candidates}
@@ -98,7 +101,7 @@ def frontier_section(part, points, frontier, steps):
     rows = [candidate_row(it["s"], it["r"], it["c"], f'<a href="#point-{number}">point {number}</a>, {it["mark"]}') for number, it in points]
     rows += [candidate_row(*it[:3], escape(what_is(kind, it))) for kind in OTHERS for it in frontier[kind]]
     head = "Candidate", "Steps", "Rounds", "Chunks", "Rounds for each chunk", "What it is"
-    yield element("details", element("summary", f"All {many(len(rows), 'candidate')} in words"), table(head, rows, class_="candidates"),
+    yield element("details", element("summary", all_in_words(len(rows), "candidate")), table(head, rows, class_="candidates"),
                   open="" if len(rows) <= MOST_OPEN_ROWS else None)
 
 
@@ -108,6 +111,10 @@ def what_is(kind, candidate):
     if kind == "unknown":
         return f"unknown: given up after {candidate[3]} conflicts"
     return {"carried": "carried: refuted before the fault", "refuted": "refuted: it has no schedule"}[kind]
+
+
+def all_in_words(count, one):
+    return f"The {one} in words" if count == 1 else f"All {many(count, one)} in words"
 
 
 def candidate_row(steps, rounds, chunks, said):
@@ -120,7 +127,7 @@ def candidate_row(steps, rounds, chunks, said):
 def topology_section(value):
     yield element("h2", "Topology")
     yield element("figure", topology.drawn(value), element("figcaption", topology.explained(value)))
-    yield element("details", element("summary", f"All {many(len(value['groups']), 'group')} in words"), topology.groups_table(value))
+    yield element("details", element("summary", all_in_words(len(value["groups"]), "group")), topology.groups_table(value))
 
 
 # ---- which point for which message
@@ -159,8 +166,9 @@ def point_section(number, run):
     return element(
         "section", element("h2", escape(name)),
         element("p", f"{many(len(point['sends']), 'send')} of {many(len(run.chunks), 'chunk')}. Nodes are rows and steps are columns; an arrow "
-                     f"goes from who sends to who receives, with the numbers of the chunks beside it. A click on an arrow follows its chunk, one on a name that node, and one in a "
-                     f"step that step; the rest is grey, until Escape.{adding}"),
+                     f"goes from who sends to who receives, with the numbers of the chunks beside it.{adding}",
+                element("span", " A click on an arrow follows its chunk, one on a name that node, and one in a step that step; the rest is grey, "
+                        "until Escape.", class_="keys")),
         slider(number, run), element("figure", diagram.drawn(run, f"Point {number} in time."), tabindex="0"), states(run),
         element("details", element("summary", "The load of each group in each step, of what its width allows"), loads,
                 open="" if len(run.groups) <= MOST_OPEN_GROUPS else None),

@@ -53,6 +53,21 @@ def with_floors(report, floor=None):
     return report
 
 
+def with_points_beside(report, words):
+    """The report with schedules of others, which are given as `chunks,steps,rounds`."""
+    found = [re.fullmatch(r"([1-9][0-9]{0,3}),([1-9][0-9]{0,2}),([1-9][0-9]{0,2})", it) for it in words.split()]
+    if not all(found):
+        raise NoReport(f"points beside it are no triples of chunks, steps and rounds: {words}")
+    each = len(report["topology"]["nodes"]) if report["words"]["collective"] == "allreduce" else 1
+    triples = [tuple(map(int, it.groups())) for it in found]
+    if any(steps > STEPS or rounds > ROUNDS or chunks % each for chunks, steps, rounds in triples):
+        raise NoReport(f"a point beside it has more than {STEPS} steps or {ROUNDS} rounds, or chunks that {each} nodes can't share")
+    report["beside"] = [(steps, rounds, chunks // each) for chunks, steps, rounds in triples]
+    for frontier in report["frontiers"]:
+        frontier["beside"] = report["beside"] if frontier["part"] == "whole" else []
+    return report
+
+
 def report_of(text, topology=None):
     """The value that the bytes stand for: JSON, or a text."""
     try:

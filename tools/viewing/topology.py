@@ -3,7 +3,7 @@ from collections import Counter
 from html import escape
 from typing import Any, Dict, List, Tuple
 
-from .curves import HALF_HEIGHT, LETTER, Box, bounds, curve_of, edge, free_box, label_place
+from .curves import HALF_HEIGHT, LETTER, SAMPLES, Box, at, bounds, curve_of, edge, free_box, label_place
 from .hubs import Hub, hubs_of, ports
 from .layout import APART, places_of
 from .svg import element, many, picture, short, table, text, title
@@ -46,7 +46,7 @@ class Drawing:
 
     def add_arrow(self, curve: Any, thickness: float, beside: str, said: str, kind: str, **attributes: Any) -> None:
         begin, middle, finish = curve
-        self.places += [(begin[0] / 4 + middle[0] / 2 + finish[0] / 4, begin[1] / 4 + middle[1] / 2 + finish[1] / 4), finish]
+        self.places += [*(at(curve, it) for it in SAMPLES), finish]
         path = element("path", d=f"M{pair(begin)}Q{pair(middle)} {pair(finish)}", stroke_width=short(thickness), marker_end="url(#head)")
         self.lines.append(element("g", title(said), path, class_=kind, **attributes))
         box = label_place(curve, beside, self.taken) if beside else None
@@ -63,7 +63,7 @@ class Drawing:
     def add_hub(self, hub: Hub) -> None:
         """A hub stands amid its nodes, with the widths of the groups that are no port."""
         at_port = [ports(self.topology, hub, side) for side in (0, 1)]
-        of_port = {it for side in at_port for found in side.values() for it in found}
+        of_port = {it for side in at_port for found in side.values() for it in found if hub.is_whole}
         inner = [it for it in hub.groups if it not in of_port]
         named = ", ".join(f"g{it}: {self.topology['groups'][it]['width']}" for it in inner[:3]) + (", .." if len(inner) > 3 else "") or "switch"
         ends = [self.boxes[it] for it in {*hub.senders(), *hub.receivers()}]

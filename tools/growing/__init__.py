@@ -1,0 +1,1 @@
+"""Searches whose limits grow until a point meets the floor."""
