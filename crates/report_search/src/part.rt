@@ -39,5 +39,14 @@ pub(crate) fn part_frontier<H: Shelf>(
 {
     let spec = spec_of_part(words, topology, part)?;
     let links = topology.topology();
-    single_frontier(alloc, links, &spec, words.limits(), part, checked, kept, shelf)
+    single_frontier(
+        alloc,
+        links,
+        &spec,
+        words.limits(),
+        part,
+        checked,
+        kept,
+        shelf,
+    )
 }
