@@ -4,19 +4,10 @@ import subprocess
 import sys
 import time
 
-ROOT = os.path.dirname(os.path.dirname(os.path.abspath(__file__)))
+sys.path.insert(0, os.path.join(os.path.dirname(os.path.dirname(os.path.abspath(__file__))), "tests"))
+import shelf
+
 LIMIT = 1048576
-
-# As the launcher has it: memory that a candidate gives back is kept for the next.
-os.environ.setdefault("MALLOC_TRIM_THRESHOLD_", "268435456")
-os.environ.setdefault("MALLOC_MMAP_THRESHOLD_", "33554432")
-
-
-def program():
-    """The program as the launcher left it, which proves and builds it first where it is not current."""
-    if subprocess.run([os.path.join(ROOT, "sccl"), "family", "kind=line", "size=1"], stdout=subprocess.DEVNULL).returncode:
-        sys.exit("there is no program to time")
-    return os.path.join(ROOT, "out", "sccl")
 
 
 def report(name, nodes, groups, chunks, sends):
@@ -48,7 +39,7 @@ def seconds(words, text, verdict=b""):
 
 def compare(sizes, verdict):
     """Prints the seconds for each of two sizes, each said in words beside its text, and how they grow beside the texts."""
-    run = program()
+    run = shelf.program()
     empty = seconds([run, "family", "kind=line", "size=1"], b"")
     print(f"empty run: {empty:.4f} s")
     measured = []

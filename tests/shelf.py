@@ -5,7 +5,18 @@ import subprocess
 import sys
 import time
 
-import timing
+ROOT = os.path.dirname(os.path.dirname(os.path.abspath(__file__)))
+
+# As the launcher has it: memory that a candidate gives back is kept for the next.
+os.environ.setdefault("MALLOC_TRIM_THRESHOLD_", "268435456")
+os.environ.setdefault("MALLOC_MMAP_THRESHOLD_", "33554432")
+
+
+def program():
+    """The program as the launcher left it, which proves and builds it first where it is not current."""
+    if subprocess.run([os.path.join(ROOT, "sccl"), "family", "kind=line", "size=1"], stdout=subprocess.DEVNULL).returncode:
+        sys.exit("there is no program to run")
+    return os.path.join(ROOT, "out", "sccl")
 
 
 def add_program(parser):
@@ -13,7 +24,7 @@ def add_program(parser):
 
 
 def chosen(asked):
-    return os.path.abspath(asked.program or timing.program())
+    return os.path.abspath(asked.program or program())
 
 
 def family(program, kind, size):
