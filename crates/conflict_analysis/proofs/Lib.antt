@@ -9,3 +9,4 @@ pub mod Pointed
 pub mod Middle
 pub mod Learned
 pub mod Left
+pub mod Denied

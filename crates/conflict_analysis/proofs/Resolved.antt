@@ -14,6 +14,7 @@ use Rattle.trail_core.specs.Meaning.{CoreValue, trues}
 use Rattle.trail_core.specs.Formed.{IsTrail}
 use Rattle.trail_core.proofs.Keeping.{lits_length, in_front}
 use Rattle.conflict_analysis.specs.Learning.{number_of, hints_of}
+use Rattle.conflict_analysis.specs.Settled.{HasSameOthers, HasSameAbove}
 use Rattle.conflict_analysis.specs.Met.{WalkValue, step_at, no_step, lit_at, mark_of, resolved_by, IsSeen, AreMarks, AreKept, AreNoted, IsSorted, HasMet, IsReasoned, IsPassed, IsOnward, HasSameOpen, waiting}
 use Rattle.conflict_analysis.proofs.Levels.{level_grows}
 use Rattle.conflict_analysis.proofs.Marked.{lit_read, lit_about, same_place, mark_same, marked_set, noted_same, kept_drop}
@@ -298,3 +299,14 @@ same_id r a b e f = injected a b (sym e ∙ f)
 -- a literal that is read at a place
 pub place_read : (core : CoreValue) (read : List LitValue) (k : ℕ) (x : LitValue) → read ≡ trues core → k < length core.trail → x ≡ get_or read k x → x ≡ lit_at core k
 place_read core read k x e w is = is ∙ ap (λ xs. get_or xs k x) e ∙ lit_read core k x w
+
+-- ---- no other step is taken
+
+pub stepped_alone : (core : CoreValue) (w w' : WalkValue) (place id : ℕ) (hint : ℤ) → IsStepped core w w' place id hint → HasSameOthers core place w w'
+stepped_alone core w w' place id hint s = record { others = λ k v n e. resolved_before core w w' place id k hint s v n e }
+
+pub same_above : (core : CoreValue) (from : ℕ) (w : WalkValue) → HasSameAbove core from w w
+same_above core from w = record { above = λ k v ge e. e }
+
+pub same_above_then : (core : CoreValue) (from place : ℕ) (a w b : WalkValue) (opens bottoms : ℕ) → place < from → HasSameAbove core from a w → HasSameOthers core place (record w { open_ = opens; zeros = bottoms }) b → HasSameAbove core from a b
+same_above_then core from place a w b opens bottoms lt p q = record { above = λ k v ge e. p.above k v ge (q.others k v (λ h. omega (arith, h, lt, ge)) e) }

@@ -3,3 +3,4 @@ pub mod Learning
 pub mod PlaceSets
 pub mod Met
 pub mod Learned
+pub mod Settled

@@ -8,6 +8,7 @@ ghost use Rattle.trail_core.specs.Formed.{IsTrail};
 ghost use Rattle.conflict_analysis.specs.Met.{value_of, IsSorted, IsPassed, IsOnward, IsPoint, IsRested, HasSameOpen, AreLeft};
 ghost use Rattle.conflict_analysis.specs.Conflicts.{IsConflict};
 ghost use Rattle.conflict_analysis.specs.Learned.{IsLearned};
+ghost use Rattle.conflict_analysis.specs.Settled.{HasSameAbove};
 
 use crate::implied::Implied;
 use crate::meeting::{hint, is_waiting, meet_all, met_below, resolve};
@@ -60,7 +61,7 @@ fn point_below(core: &Core, walk: &Walk, from: usize) -> Lit
 }
 
 /// Resolves all steps of level 0 that wait, from a place above them on.
-fn walk_bottom(core: &Core, walk: &mut Walk, from: usize) -> Result<(), OutOfMemory>
+pub fn walk_bottom(core: &Core, walk: &mut Walk, from: usize) -> Result<(), OutOfMemory>
     requires formed { IsTrail core.now.vars core.now.trail core.now.limits }
     requires grounded { AreGrounded core.now }
     requires sorted { IsSorted core.now (value_of walk.old) }
@@ -72,6 +73,7 @@ fn walk_bottom(core: &Core, walk: &mut Walk, from: usize) -> Result<(), OutOfMem
     ensures none { OnOk result (walk.new.zeros ≡ 0) }
     ensures same { OnOk result (HasSameOpen core.now (value_of walk.old) (value_of walk.new)) }
     ensures passed { OnOk result (IsPassed core.now 3 (value_of walk.new) 0) }
+    ensures above { OnOk result (HasSameAbove core.now from (value_of walk.old) (value_of walk.new)) }
 {
     let mut place = from;
     while walk.zeros > 0 {

@@ -9,6 +9,7 @@ ghost use Rattle.trail_core.specs.Kept.{IsDue};
 ghost use Rattle.trail_core.specs.Formed.{IsTrail};
 ghost use Rattle.conflict_analysis.specs.PlaceSets.{HasPlace};
 ghost use Rattle.conflict_analysis.specs.Met.{value_of, IsSeen, AreMarks, AreKept, AreNoted, IsSorted, HasMet, IsPassed, lit_at, step_at, mark_of, waiting, IsOnward, HasSameOpen};
+ghost use Rattle.conflict_analysis.specs.Settled.{HasSameOthers};
 
 use crate::walk::{BOTTOM, KEPT, OPEN, RESOLVED, Walk};
 use cnf_formula::{Lit, OutOfMemory};
@@ -23,7 +24,7 @@ pub fn hint(id: ClauseId) -> i64
 
 /// Meets a false literal: it is kept where it became false between level 0 and the last level, and
 /// else its step waits.
-fn meet(core: &Core, walk: &mut Walk, lit: Lit) -> Result<(), OutOfMemory>
+pub fn meet(core: &Core, walk: &mut Walk, lit: Lit) -> Result<(), OutOfMemory>
     requires formed { IsTrail core.now.vars core.now.trail core.now.limits }
     requires sorted { IsSorted core.now (value_of walk.old) }
     requires few { walk.old.stamp ≤ 251 }
@@ -120,6 +121,7 @@ pub fn resolve(core: &Core, walk: &mut Walk, place: usize) -> Result<(), OutOfMe
     ensures more { OnOk result (walk.old.open_ ≤ walk.new.open_) }
     ensures below { (0 < length core.now.limits → level_at core.now.limits place < length core.now.limits) → OnOk result (HasSameOpen core.now (value_of walk.old) (value_of walk.new)) }
     ensures passed { (kind : ℕ) → kind ≢ 2 → IsPassed core.now kind (value_of walk.old) (place + 1) → OnOk result (IsPassed core.now kind (value_of walk.new) place) }
+    ensures alone { OnOk result (HasSameOthers core.now place (value_of walk.old) (value_of walk.new)) }
 {
     let lit = core.trail()[place];
     let reason = core.reason(lit).unwrap();

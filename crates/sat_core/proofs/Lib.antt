@@ -15,3 +15,5 @@ pub mod Ending
 pub mod Loaded
 pub mod Modelled
 pub mod Ternary
+pub mod Listed
+pub mod Stated

@@ -6,4 +6,5 @@ pub mod Holding
 pub mod Jumping
 pub mod Loading
 pub mod Measure
+pub mod Stating
 pub mod Totals

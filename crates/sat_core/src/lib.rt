@@ -11,6 +11,7 @@ mod model;
 mod resting;
 mod searching;
 mod solving;
+mod stating;
 mod step;
 mod turn;
 mod waking;

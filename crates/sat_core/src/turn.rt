@@ -18,7 +18,7 @@ ghost use Rattle.outer_ports.specs.Port.{HasCause};
 use crate::backjump::go_back;
 use crate::fault::SolveFault;
 use crate::guide::Guide;
-use crate::resting::rest;
+use crate::stating::rest_where;
 use crate::waking::{wake, wake_all};
 use cnf_formula::{OutOfMemory, ProofLine};
 use conflict_analysis::line_at;
@@ -34,14 +34,14 @@ pub enum Turn {
     Spent,
 }
 
-/// Adds a line's clause, which was learned, to the core, and goes back from the conflict. Where the
-/// search begins anew clauses may fall asleep.
+/// Adds a line's clause, which was learned, to the core, and goes back from the conflict. Whether
+/// the search begins anew.
 fn go_on(
     alloc: Global,
     core: &mut Core,
     guide: &mut Guide,
     line: &ProofLine,
-) -> Result<(), OutOfMemory>
+) -> Result<bool, OutOfMemory>
     requires formed { IsTrail core.old.vars core.old.trail core.old.limits }
     requires backed { IsBacked core.old line.now.lits }
     requires above { 0 < length core.old.limits }
@@ -63,10 +63,7 @@ fn go_on(
     guide
         .decider
         .settle(alloc, core, &guide.awake.ids, guide.awake.formula, mode)?;
-    if anew && guide.awake.is_due() {
-        return rest(alloc, core, guide);
-    }
-    Ok(())
+    Ok(anew)
 }
 
 /// Learns from a conflict: closes on level 0, else adds a line where there is room for it. Where a
@@ -128,6 +125,7 @@ pub fn at_conflict<T, L: Ledger<T>>(
         return Ok(Turn::Goes);
     }
     ledger.learn(store, &line)?;
-    go_on(alloc, core, guide, &line)?;
+    let anew = go_on(alloc, core, guide, &line)?;
+    rest_where(alloc, ledger, store, core, guide, anew)?;
     Ok(Turn::Goes)
 }

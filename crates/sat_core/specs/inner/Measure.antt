@@ -5,6 +5,6 @@ use Rattle.std.specs.Prelude.{◌≡◌, ◌⊎◌, ℕ, ◌+◌, ◌-◌, ◌*�
 abbrev pub remaining : ℕ → ℕ → ℕ → ℕ → ℕ → ℕ
 remaining limit spent asleep vars len = ((limit - spent) * 18446744073709551616 + asleep) * (vars + 2) + (vars - len)
 
--- a line was learned, or fewer clauses sleep
+-- lines were learned, or fewer clauses sleep
 abbrev pub IsLess : ℕ → ℕ → ℕ → ℕ → Type 0
-IsLess spent asleep spent' asleep' = (spent' ≡ spent + 1) ⊎ ((spent' ≡ spent) × (asleep' < asleep))
+IsLess spent asleep spent' asleep' = (spent < spent') ⊎ ((spent' ≡ spent) × (asleep' < asleep))

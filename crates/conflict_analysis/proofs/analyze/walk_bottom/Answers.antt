@@ -3,6 +3,7 @@ use Rattle.std.proofs.lemmas.Bool.{false≢true}
 use Rattle.conflict_analysis.specs.Met.{value_of, WalkValue, waiting}
 use Rattle.conflict_analysis.proofs.Resolved.{passed_over, same_open, same_open_then, same_open_counts}
 use Rattle.conflict_analysis.proofs.Waiting.{waits_below, next_by, passed_all, passed_counts, onward_same, onward_then, onward_counts, bottom_step}
+use Rattle.conflict_analysis.proofs.Resolved.{same_above, same_above_then}
 use Rattle.conflict_analysis.proofs.analyze.walk_bottom.Goals as goal
 
 pub loop-walk-init : goal.loop-walk-init
@@ -12,6 +13,8 @@ loop-walk-init c = record {
   same = same_open c.args.core.now (value_of c.args.walk.now);
   within = c.requires.from;
   passed = c.requires.passed;
+  under = omega arith;
+  above = same_above c.args.core.now c.args.from (value_of c.args.walk.now);
 }
 
 pub met_below-place-requires : goal.met_below-place-requires
@@ -176,6 +179,8 @@ loop-walk-preserved-in-Continue-1 c =
       same = same_open_then core (value_of c.args.walk.now) w (value_of c.resolve.new.walk) inv.same (same_open_counts core w (value_of c.resolve.new.walk) w.open_ (w.zeros - 1) (c.in_ok-resolve.ensures.below (λ some. let z = inv.sorted.marked.bottom c.met_below-place.result next.within (c.is_waiting.ensures.0 c.if-is_waiting.true) in omega (arith, z, some))));
       within = omega (arith, next.within);
       passed = c.in_ok-resolve.ensures.passed 3 (λ h. omega (arith, h)) (passed_counts core 3 w (c.met_below-place.result + 1) w.open_ (w.zeros - 1) next.passed);
+      under = omega (arith, c.met_below-place.ensures.below, inv.under);
+      above = same_above_then core c.args.from c.met_below-place.result (value_of c.args.walk.now) w (value_of c.resolve.new.walk) w.open_ (w.zeros - 1) (omega (arith, c.met_below-place.ensures.below, inv.under)) inv.above c.in_ok-resolve.ensures.alone;
     }
 
 pub loop-walk-preserved : goal.loop-walk-preserved
@@ -189,6 +194,8 @@ loop-walk-preserved c =
       sorted = inv.sorted;
       onward = inv.onward;
       same = inv.same;
+      under = omega (arith, c.met_below-place.ensures.below, inv.under);
+      above = inv.above;
       within = omega (arith, next.within);
       passed = passed_over core 3 w c.met_below-place.result next.passed (λ e. false≢true (sym c.if-is_waiting.false ∙ c.is_waiting.ensures.1 e));
     }

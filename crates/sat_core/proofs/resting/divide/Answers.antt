@@ -8,16 +8,9 @@ use Rattle.trail_core.specs.Meaning.{CoreValue}
 use Rattle.sleeping_clauses.specs.declared.awake.Awake.{Awake}
 use Rattle.sleeping_clauses.specs.Naming.{IsListed}
 use Rattle.sleeping_clauses.specs.Sleeping.{SleepersValue}
+use Rattle.sat_core.proofs.Listed.{clause_is, once_is}
 use Rattle.sat_core.proofs.Divided.{dividing_awake, dividing_asleep}
 use Rattle.sat_core.proofs.resting.divide.Goals as goal
-
--- the number that is read is the clause's
-id_is : (clauses : List (List LitValue)) (awake : Awake) (place read : ℕ) → IsListed clauses awake → place < length clauses → read ≡ get_or awake.ids.items place read → read ≡ place
-id_is clauses awake place read l w e = e ∙ get_or_default awake.ids.items place read 0 (omega (arith, w, l.ids_len)) ∙ l.ids place w
-
--- so the clause that is read is the one at the place
-clause_is : (clauses : List (List LitValue)) (awake : Awake) (place read : ℕ) (clause : List LitValue) → IsListed clauses awake → place < length clauses → read ≡ get_or awake.ids.items place read → clause ≡ get_or clauses read [] → clause ≡ get_or clauses place []
-clause_is clauses awake place read clause l w e is = is ∙ ap (λ n. get_or clauses n []) (id_is clauses awake place read l w e)
 
 name_is : (clauses : List (List LitValue)) (awake : Awake) (place read : ℕ) → IsListed clauses awake → place < length clauses → read ≡ get_or awake.names.items (place + 1) read → read ≡ get_or awake.names.items (place + 1) 0
 name_is clauses awake place read l w e = e ∙ get_or_default awake.names.items (place + 1) read 0 (omega (arith, w, l.names))
@@ -26,9 +19,6 @@ about_is : (core : CoreValue) (awake : Awake) (place read vars : ℕ) (clause : 
     → ((k : ℕ) (d : List LitValue) → k < length core.clauses → IsClause core.vars (get_or core.clauses k d)) → IsClause vars clause
 about_is core awake place read vars clause l w e is v about =
     subst (λ n. IsClause n clause) (sym v) (subst (IsClause core.vars) (sym (clause_is core.clauses awake place read clause l w e is)) (about place [] w))
-
-once_is : (clauses : List (List LitValue)) (awake : Awake) (place read : ℕ) (clause : List LitValue) → IsListed clauses awake → place < length clauses → read ≡ get_or awake.ids.items place read → clause ≡ get_or clauses read [] → AllPairs (λ a b. a ≢ b) clause
-once_is clauses awake place read clause l w e is = subst (AllPairs (λ a b. a ≢ b)) (sym (clause_is clauses awake place read clause l w e is)) (l.once place w)
 
 -- what a result answers, from two things that it answers
 ok_both : {T E A B C : Type 0} (r : Result T E) → OnOk r A → OnOk r B → (A → B → C) → OnOk r C

@@ -61,8 +61,8 @@ learn-requires-clause-fresh g c =
     let none = none_by guide.sleepers line.lits (λ place w a sub. c.in_default.ensures.found place w a (λ o h. subst (λ xs. Contains xs o) (sym eq) (sub o h))) in
     turn_fresh base lines core guide.awake guide.sleepers c.args.conflict learned line t some none
 
-pub returns-clause-ready : goal.returns-clause-ready
-returns-clause-ready g c = λ h.
+pub rest_where-requires-clause-ready : goal.rest_where-requires-clause-ready
+rest_where-requires-clause-ready g c =
     let base = g.L.LedgerView.base c.args.ledger.now in
     let lines = g.L.LedgerView.lines c.args.ledger.now in
     let core = c.args.core.now in
@@ -76,7 +76,7 @@ returns-clause-ready g c = λ h.
     let none = none_by guide.sleepers line.lits (λ place w a sub. c.in_default.ensures.found place w a (λ o h. subst (λ xs. Contains xs o) (sym eq) (sub o h))) in
     let ready : IsReady base lines core c.named.new.self c.subset_of.new.self = subst (IsReady base lines core c.named.new.self) (sym c.subset_of.ensures.same) (ready_used base lines core guide.awake c.named.new.self guide.sleepers c.requires.ready c.named.ensures.names c.named.ensures.formula c.named.ensures.held) in
     let written = turn_written base base lines (lines ++ line ∷ []) core guide.awake guide.sleepers c.args.conflict learned line t refl refl in
-    let after = c.in_ok-go_on.ensures.ready base lines ready written (turn_fresh base lines core guide.awake guide.sleepers c.args.conflict learned line t some none) (t.named.id ∙ ap (λ n. n + 1) (sym c.named.ensures.held)) in
+    let after = c.in_ok-anew.ensures.ready base lines ready written (turn_fresh base lines core guide.awake guide.sleepers c.args.conflict learned line t some none) (t.named.id ∙ ap (λ n. n + 1) (sym c.named.ensures.held)) in
     subst (λ b. IsReady b (g.L.LedgerView.lines c.learn.new.self) c.go_on.new.core c.go_on.new.guide.awake c.go_on.new.guide.sleepers) (sym c.learn.ensures.base)
     (subst (λ ls. IsReady base ls c.go_on.new.core c.go_on.new.guide.awake c.go_on.new.guide.sleepers) (sym c.in_ok-learn.ensures.lines) after)
 
@@ -90,17 +90,6 @@ returns-then-is_empty-clause-written g c =
     let line = c.in_ok-line.line in
     let t : IsTurn base lines core guide.awake guide.sleepers c.args.conflict learned line = record { ready = c.requires.ready; conflicts = c.requires.conflict; is = c.in_ok-learned.ensures.learned; named = c.in_ok-line.ensures.line } in
     turn_written base _ lines _ core guide.awake guide.sleepers c.args.conflict learned line t c.close.ensures.base c.in_ok-close.ensures.lines
-
-pub returns-clause-written : goal.returns-clause-written
-returns-clause-written g c =
-    let base = g.L.LedgerView.base c.args.ledger.now in
-    let lines = g.L.LedgerView.lines c.args.ledger.now in
-    let core = c.args.core.now in
-    let guide = c.args.guide.now in
-    let learned = c.in_ok-learned.learned in
-    let line = c.in_ok-line.line in
-    let t : IsTurn base lines core guide.awake guide.sleepers c.args.conflict learned line = record { ready = c.requires.ready; conflicts = c.requires.conflict; is = c.in_ok-learned.ensures.learned; named = c.in_ok-line.ensures.line } in
-    turn_written base _ lines _ core guide.awake guide.sleepers c.args.conflict learned line t c.learn.ensures.base c.in_ok-learn.ensures.lines
 
 pub returns-then-is_empty-clause-closed : goal.returns-then-is_empty-clause-closed
 returns-then-is_empty-clause-closed g c = λ h.
@@ -145,8 +134,8 @@ returns-then-is_empty-2-clause-over g c = λ h.
     positive (length line.lits) (λ e. z (omega (arith, e, ap (λ l. length l.lits) c.line.view_is))) in
     turn_over base lines core guide.awake guide.sleepers c.args.conflict learned line t some (c.if-is_empty-2.ensures.none refl)
 
-pub returns-in_err-go_on-clause-written : goal.returns-in_err-go_on-clause-written
-returns-in_err-go_on-clause-written g c =
+pub returns-in_err-anew-clause-written : goal.returns-in_err-anew-clause-written
+returns-in_err-anew-clause-written g c =
     let base = g.L.LedgerView.base c.args.ledger.now in
     let lines = g.L.LedgerView.lines c.args.ledger.now in
     let core = c.args.core.now in

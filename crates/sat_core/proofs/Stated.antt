@@ -1,0 +1,223 @@
+-- The line of a literal of level 0, over plain values: it is accepted, short and fresh.
+use Rattle.std.proofs.Common.{zero, suc, ◌≡◌, ℕ, ◌+◌, ◌<◌, ◌≤◌, true, false, Bool, List, [], ◌∷◌, ◌++◌, length, get_or, set, take, refl, sym, ap, ◌∙◌, subst, ⊎_elim, arith}
+use Rattle.std.specs.Prelude.{◌≢◌, All, AllPairs, Contains, None, map}
+use Rattle.std.proofs.lemmas.Bool.{cases_lt, cases_eq, false≢true}
+use Rattle.std.proofs.lemmas.List.{length-take-le, length_push, length-set, map-append, take-map, get_or-take, get_or-set_same, get_or-set_other, get_or_default, get_or_past}
+use Rattle.std.proofs.lemmas.List.Elements.{All-push, All-contains, Contains-push_cases}
+use Rattle.std.proofs.lemmas.List.Quantifiers.{all_pairs_push}
+use Rattle.list_laws.proofs.Each.{all_contained}
+use Rattle.cnf_formula.specs.Formulas.{FormulaValue, IsAbout, IsClause}
+use Rattle.cnf_formula.specs.Literals.{LitValue, negation, code_of}
+use Rattle.cnf_formula.specs.Lines.{ProofLineValue}
+use Rattle.proof_rules.specs.declared.verdict.LineVerdict.TheVariants.{Accepted}
+use Rattle.proof_rules.specs.Judging.{verdict_of}
+use Rattle.proof_rules.specs.Refuting.{is_fresh}
+use Rattle.ledger_rules.specs.Logs.{checker_of}
+use Rattle.trail_core.specs.Trails.{StepValue, lits_of}
+use Rattle.trail_core.specs.Formed.{IsTrail}
+use Rattle.trail_core.specs.Meaning.{CoreValue, trues}
+use Rattle.trail_core.proofs.Keeping.{lits_length}
+use Rattle.conflict_analysis.specs.Met.{lit_at}
+use Rattle.conflict_analysis.specs.Learning.{hints_to}
+use Rattle.conflict_analysis.specs.Settled.{denied, IsSettled}
+use Rattle.conflict_analysis.proofs.Marked.{lit_read, lit_about, lit_stands, same_place}
+use Rattle.conflict_analysis.proofs.Members.{here, cons_cases}
+use Rattle.sleeping_clauses.specs.Naming.{name, IsName, IsNamed, IsListed}
+use Rattle.sleeping_clauses.specs.Sleeping.{SleepersValue, HasNone}
+use Rattle.sleeping_clauses.specs.declared.awake.Awake.{Awake}
+use Rattle.sat_core.specs.inner.Holding.{Agree}
+use Rattle.sat_core.specs.inner.Stating.{AreStated}
+use Rattle.sat_core.specs.Ready.{AreWritten, IsReady}
+use Rattle.sat_core.proofs.AtConflict.{analysis_accepted}
+use Rattle.sat_core.proofs.Hinted.{few_named, hints_names}
+use Rattle.sat_core.proofs.Fresh.{fresh_by}
+use Rattle.sat_core.proofs.Readiness.{IsGrown, next_number, written_more, ready_more, ready_used, listed_more}
+
+-- the core with the trail below a place, and then the negation of its literal
+abbrev denied_core : CoreValue → ℕ → CoreValue
+denied_core core place = record core { trail = denied core place; limits = [] }
+
+denied_lits : (core : CoreValue) (place : ℕ) → lits_of (denied core place) ≡ take place (trues core) ++ negation (lit_at core place) ∷ []
+denied_lits core place = map-append (λ s. s.lit) (take place core.trail) (record { lit = negation (lit_at core place); reason = None } ∷ []) ∙ ap (λ xs. xs ++ negation (lit_at core place) ∷ []) (sym (take-map (λ s. s.lit) place core.trail))
+
+denied_few : (core : CoreValue) (place : ℕ) → place < length core.trail → length (denied core place) ≡ place + 1
+denied_few core place w =
+    let n : length (take place core.trail) ≡ place = length-take-le place core.trail (omega (arith, w)) in
+    let m = length_push (take place core.trail) (record { lit = negation (lit_at core place); reason = None }) in
+    omega (arith, n, m)
+
+-- a literal before the place is one of the trail
+in_trail : (core : CoreValue) (place : ℕ) (o : LitValue) → Contains (take place (trues core)) o → place < length core.trail → Contains (trues core) o
+in_trail core place o c w =
+    let n = length-take-le place (trues core) (omega (arith, w, lits_length core.trail)) in
+    let lt : c.0 < place = omega (arith, c.1, n) in
+    (c.0, omega (arith, lt, w, lits_length core.trail), sym (get_or-take place (trues core) c.0 o lt) ∙ c.2)
+
+denied_formed : (core : CoreValue) (place : ℕ) → IsTrail core.vars core.trail core.limits → place < length core.trail → IsTrail core.vars (denied core place) []
+denied_formed core place t w =
+    let few = denied_few core place w in
+    let about = lit_about core place t w in
+    record {
+      within = all_contained (IsAbout core.vars) (lits_of (denied core place)) (λ o c. ⊎_elim
+          (λ h. All-contains (IsAbout core.vars) (trues core) o t.within (in_trail core place o h w))
+          (λ e. subst (IsAbout core.vars) e (record { some = about.some; within = about.within }))
+          (Contains-push_cases (take place (trues core)) (negation (lit_at core place)) o (subst (λ xs. Contains xs o) (denied_lits core place) c)));
+      apart = subst (AllPairs (λ a b. a.var ≢ b.var)) (sym (denied_lits core place)) (all_pairs_push (λ a b. a.var ≢ b.var) (take place (trues core)) (negation (lit_at core place)) front last);
+      few = omega (arith, few, w, t.few);
+      levels = record { rising = λ i j lt v. absurd (omega (arith, v)); below = λ i v. absurd (omega (arith, v)) };
+    }
+  where
+    len : length (take place (trues core)) ≡ place
+    len = length-take-le place (trues core) (omega (arith, w, lits_length core.trail))
+
+    front : AllPairs (λ a b. a.var ≢ b.var) (take place (trues core))
+    front i j d lt v e =
+        let lj : j < place = omega (arith, v, len) in
+        let li : i < place = omega (arith, lt, lj) in
+        t.apart i j d lt (omega (arith, lj, w, lits_length core.trail)) (ap (λ x. x.var) (sym (get_or-take place (trues core) i d li)) ∙ e ∙ ap (λ x. x.var) (get_or-take place (trues core) j d lj))
+
+    last : (k : ℕ) (x : LitValue) → k < length (take place (trues core)) → (get_or (take place (trues core)) k x).var ≢ (negation (lit_at core place)).var
+    last k x v e =
+        let lt : k < place = omega (arith, v, len) in
+        let u : k < length core.trail = omega (arith, lt, w) in
+        let at = get_or-take place (trues core) k x lt ∙ lit_read core k x u in
+        let same = same_place core k place t u w (ap (λ y. y.var) (sym at) ∙ e) in
+        omega (arith, same, lt)
+
+one_apart : (l : LitValue) → AllPairs (λ a b. a.var ≢ b.var) (l ∷ [])
+one_apart l i j d lt v e = absurd (omega (arith, lt, v))
+
+pub one_differs : (l : LitValue) → AllPairs (λ a b. a ≢ b) (l ∷ [])
+one_differs l i j d lt v e = absurd (omega (arith, lt, v))
+
+-- ---- the line
+
+-- the search is ready, and has the line of a literal on level 0, by the core's numbers and by the ledger's
+pub record IsStating (base : FormulaValue) (lines : List ProofLineValue) (core : CoreValue) (awake : Awake) (s : SleepersValue) (place : ℕ) (unit line : ProofLineValue) : Type 0 where
+  pub ready : IsReady base lines core awake s
+  pub formed : IsTrail core.vars core.trail core.limits
+  pub within : place < length core.trail
+  pub is : IsSettled core place unit
+  pub named : IsNamed awake.names.items awake.held unit line
+
+pub stating_lits : (base : FormulaValue) (lines : List ProofLineValue) (core : CoreValue) (awake : Awake) (s : SleepersValue) (place : ℕ) (unit line : ProofLineValue) → IsStating base lines core awake s place unit line → line.lits ≡ lit_at core place ∷ []
+stating_lits base lines core awake s place unit line t = t.named.lits ∙ t.is.lits
+
+pub stating_accepted : (base : FormulaValue) (lines : List ProofLineValue) (core : CoreValue) (awake : Awake) (s : SleepersValue) (place : ℕ) (unit line : ProofLineValue) → IsStating base lines core awake s place unit line → verdict_of (checker_of base lines) line ≡ Accepted true
+stating_accepted base lines core awake s place unit line t =
+    let c = checker_of base lines in
+    let a = t.ready.holding.agree in
+    let hints : line.hints ≡ map (name awake.names.items) (hints_to t.is.resolved (denied core place) t.is.conflict) = t.named.hints ∙ ap (map (name awake.names.items)) t.is.hints in
+    let agree : Agree c (denied_core core place) awake.names.items s = record { vars = a.vars; held = a.held } in
+    ap (λ hs. verdict_of c (record { id = line.id; lits = line.lits; hints = hs })) hints
+    ∙ ap (λ ls. verdict_of c (record { id = line.id; lits = ls; hints = map (name awake.names.items) (hints_to t.is.resolved (denied core place) t.is.conflict) })) t.named.lits
+    ∙ analysis_accepted c (denied_core core place) awake.names.items s t.is.resolved t.is.conflict unit.lits line.id agree (denied_formed core place t.formed t.within) t.is.analysis (subst (AllPairs (λ a b. a.var ≢ b.var)) (sym t.is.lits) (one_apart (lit_at core place))) (next_number base lines core awake s line.id t.ready t.named.id)
+
+stating_short : (base : FormulaValue) (lines : List ProofLineValue) (core : CoreValue) (awake : Awake) (s : SleepersValue) (place : ℕ) (unit line : ProofLineValue) → IsStating base lines core awake s place unit line → length line.hints ≤ base.vars + 1
+stating_short base lines core awake s place unit line t =
+    let few = few_named awake.names.items t.is.resolved (denied core place) t.is.conflict in
+    let n = denied_few core place t.within in
+    omega (arith, few, n, ap length (t.named.hints ∙ ap (map (name awake.names.items)) t.is.hints), t.within, t.formed.few, t.ready.holding.agree.vars, ap (λ f. f.vars) t.ready.holding.formula)
+
+pub stating_written : (base base' : FormulaValue) (lines lines' : List ProofLineValue) (core : CoreValue) (awake : Awake) (s : SleepersValue) (place : ℕ) (unit line : ProofLineValue) → IsStating base lines core awake s place unit line → base' ≡ base → lines' ≡ lines ++ line ∷ [] → AreWritten base' lines'
+stating_written base base' lines lines' core awake s place unit line t b l =
+    subst (λ x. AreWritten x lines') (sym b) (subst (AreWritten base) (sym l) (written_more base lines core awake s line t.ready (stating_accepted base lines core awake s place unit line t) t.named.id (stating_short base lines core awake s place unit line t)))
+
+-- no clause of the core has the literal alone, and none that sleeps has
+pub stating_fresh : (base : FormulaValue) (lines : List ProofLineValue) (core : CoreValue) (awake : Awake) (s : SleepersValue) (place : ℕ) (unit line : ProofLineValue) (stated : List Bool) → IsStating base lines core awake s place unit line → AreStated core.clauses stated → get_or stated (code_of (lit_at core place)) true ≡ false → HasNone s line.lits → is_fresh (checker_of base lines) line.lits ≡ true
+stating_fresh base lines core awake s place unit line stated t are new none =
+    let l = lit_at core place in
+    let e = stating_lits base lines core awake s place unit line t in
+    subst (λ ls. is_fresh (checker_of base lines) ls ≡ true) (sym e)
+    (fresh_by (checker_of base lines) core.clauses s (l ∷ []) l t.ready.holding.agree.held.only (subst (HasNone s) e none) (here l [])
+    (λ other w sub. are other l w new (λ o h. ⊎_elim (λ q. sym q) (λ c. absurd (omega (arith, c.1))) (cons_cases l [] o (sub o h)))))
+
+pub stating_names : (core : CoreValue) (place : ℕ) (unit : ProofLineValue) (names : ℕ) → IsSettled core place unit → names ≡ length core.clauses + 1 → All (IsName names) unit.hints
+stating_names core place unit names t e =
+    subst (λ n. All (IsName n) unit.hints) (sym e) (subst (All (IsName (length core.clauses + 1))) (sym t.hints) (hints_names core.clauses (denied core place) t.resolved t.conflict unit.lits t.analysis))
+
+pub stating_about : (core : CoreValue) (place vars : ℕ) (lits : List LitValue) → IsTrail core.vars core.trail core.limits → place < length core.trail → vars ≡ core.vars → lits ≡ lit_at core place ∷ [] → All (IsAbout vars) lits
+stating_about core place vars lits t w v e =
+    subst (All (IsAbout vars)) (sym e) (all_contained (IsAbout vars) (lit_at core place ∷ []) (λ o c. ⊎_elim
+    (λ q. subst (IsAbout vars) q (subst (λ n. IsAbout n (lit_at core place)) (sym v) (lit_about core place t w)))
+    (λ h. absurd (omega (arith, h.1)))
+    (cons_cases (lit_at core place) [] o c)))
+
+-- ---- what is marked
+
+pub stated_nil : (stated : List Bool) → AreStated [] stated
+stated_nil stated clause l c new alone = absurd (omega (arith, c.1))
+
+pub stated_more : (clauses : List (List LitValue)) (lits : List LitValue) (stated stated' : List Bool) → AreStated clauses stated → ((l : LitValue) → get_or stated' (code_of l) true ≡ false → get_or stated (code_of l) true ≡ false) → AreStated (lits ∷ []) stated' → AreStated (clauses ++ lits ∷ []) stated'
+stated_more clauses lits stated stated' are on this clause l c new alone = ⊎_elim
+    (λ h. are clause l h (on l new) alone)
+    (λ e. this clause l (subst (λ x. Contains (lits ∷ []) x) e (here lits [])) new alone)
+    (Contains-push_cases clauses lits clause c)
+
+-- ---- after the line was learned
+
+listed_used : (clauses : List (List LitValue)) (awake awake' : Awake) → IsListed clauses awake → awake'.ids ≡ awake.ids → awake'.names ≡ awake.names → IsListed clauses awake'
+listed_used clauses awake awake' l ids names = record {
+  ids_len = ap (λ v. length v.items) ids ∙ l.ids_len;
+  ids = λ k w. ap (λ v. get_or v.items k 0) ids ∙ l.ids k w;
+  names = ap (λ v. length v.items) names ∙ l.names;
+  once = l.once;
+}
+
+-- the table after the line's hints were looked at, and after it was learned
+pub record IsStatedAfter (core core' : CoreValue) (awake used awake' : Awake) (line : ProofLineValue) (id : ℕ) : Type 0 where
+  pub listed : IsListed core.clauses awake
+  pub ids : used.ids ≡ awake.ids
+  pub names : used.names ≡ awake.names
+  pub formula : used.formula ≡ awake.formula
+  pub held : used.held ≡ awake.held
+  pub grown : IsGrown core core' used awake' line
+  pub at : id ≡ length core.clauses
+  pub more : awake'.ids.items ≡ used.ids.items ++ id ∷ []
+
+pub stated_ready : (base : FormulaValue) (lines : List ProofLineValue) (core core' : CoreValue) (awake used awake' : Awake) (s : SleepersValue) (place : ℕ) (unit line : ProofLineValue) (id : ℕ) → IsStating base lines core awake s place unit line → IsStatedAfter core core' awake used awake' line id → is_fresh (checker_of base lines) line.lits ≡ true → IsReady base (lines ++ line ∷ []) core' awake' s
+stated_ready base lines core core' awake used awake' s place unit line id t a fresh =
+    ready_more base lines core core' used awake' s line (ready_used base lines core awake used s t.ready a.names a.formula a.held) (listed_used core.clauses awake used a.listed a.ids a.names) (stating_written base base lines (lines ++ line ∷ []) core awake s place unit line t refl refl) fresh (t.named.id ∙ ap (λ n. n + 1) (sym a.held)) a.grown
+
+pub stated_listed : (base : FormulaValue) (lines : List ProofLineValue) (core core' : CoreValue) (awake used awake' : Awake) (s : SleepersValue) (place : ℕ) (unit line : ProofLineValue) (id : ℕ) → IsStating base lines core awake s place unit line → IsStatedAfter core core' awake used awake' line id → IsListed core'.clauses awake'
+stated_listed base lines core core' awake used awake' s place unit line id t a =
+    listed_more core.clauses core'.clauses line.lits used awake' id (used.held + 1) (listed_used core.clauses awake used a.listed a.ids a.names) a.grown.clauses a.at a.more a.grown.names
+    (subst (AllPairs (λ x y. x ≢ y)) (sym (stating_lits base lines core awake s place unit line t)) (one_differs (lit_at core place)))
+
+-- ---- how a clause marks
+
+-- a mark that is set takes none away
+pub mark_set : (stated : List Bool) (i k : ℕ) → get_or (set stated i true) k true ≡ false → get_or stated k true ≡ false
+mark_set stated i k e = ⊎_elim
+    (λ s. ⊎_elim
+    (λ w. absurd (false≢true (sym e ∙ ap (λ j. get_or (set stated i true) j true) s ∙ get_or-set_same stated i true true w)))
+    (λ o. absurd (false≢true (sym e ∙ get_or_past (set stated i true) k true (omega (arith, o, s, length-set stated i true)))))
+    (cases_lt i (length stated)))
+    (λ n. sym (get_or-set_other stated i k true true n) ∙ e)
+    (cases_eq k i)
+
+pub stated_one : (stated : List Bool) (lit : LitValue) → get_or stated (code_of lit) true ≡ true → AreStated ((lit ∷ []) ∷ []) stated
+stated_one stated lit is clause l c new alone = ⊎_elim
+    (λ e.
+    let same : lit ≡ l = alone lit (subst (λ x. Contains x lit) e (here lit [])) in
+    false≢true (sym new ∙ ap (λ x. get_or stated (code_of x) true) (sym same) ∙ is))
+    (λ h. omega (arith, h.1))
+    (cons_cases (lit ∷ []) [] clause c)
+
+pub stated_all : (stated : List Bool) (lits : List LitValue) → ((k : ℕ) → get_or stated k true ≡ true) → AreStated (lits ∷ []) stated
+stated_all stated lits all clause l c new alone = false≢true (sym new ∙ all (code_of l))
+
+pub stated_many : (stated : List Bool) (lits : List LitValue) → AllPairs (λ a b. a ≢ b) lits → 1 < length lits → AreStated (lits ∷ []) stated
+stated_many stated lits once many clause l c new alone = ⊎_elim
+    (λ e.
+    let first = alone (get_or lits 0 l) (subst (λ x. Contains x (get_or lits 0 l)) e (0, omega (arith, many), get_or_default lits 0 _ l (omega (arith, many)))) in
+    let second = alone (get_or lits 1 l) (subst (λ x. Contains x (get_or lits 1 l)) e (1, many, get_or_default lits 1 _ l many)) in
+    once 0 1 l (omega arith) many (first ∙ sym second))
+    (λ h. omega (arith, h.1))
+    (cons_cases lits [] clause c)
+
+-- a list of one
+pub alone_is : (lits : List LitValue) (l : LitValue) → 1 ≤ length lits → length lits < 2 → l ≡ get_or lits 0 l → lits ≡ l ∷ []
+alone_is [] l some few e = absurd (omega (arith, some))
+alone_is (x ∷ []) l some few e = ap (λ y. y ∷ []) (sym e)
+alone_is (x ∷ y ∷ ys) l some few e = absurd (omega (arith, few))
