@@ -1,9 +1,10 @@
 """The commands, their keys and the values of those, as docs/FORMATS.md has them, and what is wrong with words that are refused."""
 import difflib
 import re
+from typing import Dict, Iterable, List, Optional, Tuple
 
 # Each command: the keys that it requires, those that may be left out, and what it reads.
-COMMANDS = {
+COMMANDS: Dict[str, Tuple[Tuple[str, ...], Tuple[str, ...], str]] = {
     "synth": (("collective", "k", "steps", "chunks", "conflicts"), ("root", "cuts", "ordered", "kept"), "a topology"),
     "check": ((), (), "a report"),
     "replay": (("point",), ("order",), "a report"),
@@ -31,8 +32,9 @@ VALUES = {
     "sets": "all",
     "point": "1 to 65535",
     "order": "0 to 18446744073709551615",
-    "kind": "line, ring, complete, cube or shared",
-    "size": "1 to 16, and a size that the kind has: a ring has at least 3 nodes, a shared bus at least 2, a cube 2, 4, 8 or 16",
+    "kind": "line, ring, complete, cube, shared, torus, mesh, switch or boxes",
+    "size": "1 to 16, and a size that the kind has: a ring has at least 3 nodes, a shared bus and a switch at least 2, a cube 2, 4, 8 or 16, "
+    "a torus 9, 12 or 16, a mesh 8, boxes 8, 12 or 16",
     "n": "0 to 4095",
     "group": "0 to 255",
     "width": "0 to 16",
@@ -42,18 +44,18 @@ VALUES = {
 HEADER = re.compile(rb"topology [12]|sccl [12]")
 
 
-def keys_of(command):
+def keys_of(command: str) -> List[str]:
     required, free, _ = COMMANDS[command]
     return [*required, *free]
 
 
-def what_is_read(words):
+def what_is_read(words: List[str]) -> str:
     """What a run of these words reads, or nothing where it reads nothing or is refused at once."""
     reads = COMMANDS[words[0]][2] if words and words[0] in COMMANDS else "nothing"
     return "" if reads == "nothing" else reads
 
 
-def fault(code, place, words, text):
+def fault(code: int, place: int, words: List[str], text: Optional[bytes]) -> str:
     """What is wrong with the word at the place, in the case at hand; nothing where there is no more to say. `text` is what was read,
     or None."""
     command, word = words[0] if words else "", words[place] if place < len(words) else ""
@@ -74,7 +76,7 @@ def fault(code, place, words, text):
     return of_text(code, value, words, text) if text is not None else ""
 
 
-def wrong_key(command, key, sign):
+def wrong_key(command: str, key: str, sign: str) -> str:
     keys = keys_of(command)
     if not sign:
         return "a word is KEY=VALUE, without spaces" + (f", as {key}=.." if key in keys else "")
@@ -83,25 +85,25 @@ def wrong_key(command, key, sign):
     return f"{command} has {'the keys ' + ', '.join(keys) if keys else 'no keys'}{near_in(key, keys)}"
 
 
-def lacking(command, words):
+def lacking(command: str, words: List[str]) -> List[str]:
     """The keys that are required and do not stand there."""
     there = {it.partition("=")[0] for it in words[1:]}
     required = [*COMMANDS[command][0], *["point"] * ("what=programs" in words)]
     return [it for it in required if it not in there]
 
 
-def near(word, words):
+def near(word: str, words: Iterable[str]) -> str:
     """A word of these that is like this one, as a question."""
     found = difflib.get_close_matches(word, words, 1)
     return f"is {found[0]} meant?" if found else ""
 
 
-def near_in(word, words):
+def near_in(word: str, words: List[str]) -> str:
     found = near(word, words)
     return f" ({found})" if found else ""
 
 
-def of_text(code, value, words, text):
+def of_text(code: int, value: str, words: List[str], text: bytes) -> str:
     """What the text that was read has, where a word asks for something that it does not have."""
     lines = text.split(b"\n")
     groups = [it.split(b" ") for it in lines if it.startswith(b"group ")]

@@ -25,6 +25,8 @@ pub fn refusals()
     ensures key_missing { command_of (words_of (codes "synth k=0")) ≡ Err (record { code = WordCode.KeyMissing; word = 2 }) }
     ensures bad_value { command_of (words_of (codes "synth k=00")) ≡ Err (record { code = WordCode.BadValue; word = 1 }) }
     ensures size_of_no_cube { command_of (words_of (codes "family kind=cube size=6")) ≡ Err (record { code = WordCode.BadValue; word = 2 }) }
+    ensures size_of_no_torus { command_of (words_of (codes "family kind=torus size=10")) ≡ Err (record { code = WordCode.BadValue; word = 2 }) }
+    ensures size_of_no_boxes { command_of (words_of (codes "family size=4 kind=boxes")) ≡ Err (record { code = WordCode.BadValue; word = 1 }) }
     ensures root_not_taken { command_of (words_of (codes "synth collective=alltoall k=0 steps=1 chunks=2 conflicts=1000 root=n0")) ≡ Err (record { code = WordCode.RootNotTaken; word = 6 }) }
 {}
 
@@ -39,6 +41,10 @@ pub fn commands_are_read()
     ensures programs { command_of (words_of (codes "programs point=1")) ≡ Ok (Command.Programs 1 1) }
     ensures family { command_of (words_of (codes "family kind=line size=1")) ≡ Ok (Command.Family FamilyKind.Line 1) }
     ensures cube { command_of (words_of (codes "family size=16 kind=cube")) ≡ Ok (Command.Family FamilyKind.Cube 16) }
+    ensures torus { command_of (words_of (codes "family kind=torus size=12")) ≡ Ok (Command.Family FamilyKind.Torus 12) }
+    ensures mesh { command_of (words_of (codes "family size=8 kind=mesh")) ≡ Ok (Command.Family FamilyKind.Mesh 8) }
+    ensures switch { command_of (words_of (codes "family kind=switch size=2")) ≡ Ok (Command.Family FamilyKind.Switch 2) }
+    ensures boxes { command_of (words_of (codes "family kind=boxes size=16")) ≡ Ok (Command.Family FamilyKind.Boxes 16) }
     ensures trial { command_of (words_of (codes "trial n=3333")) ≡ Ok (Command.Trial 3333) }
 {}
 

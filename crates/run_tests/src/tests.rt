@@ -7,6 +7,7 @@ use std::process::Abort;
 
 mod checks;
 mod exchanges;
+mod families;
 mod folders;
 mod ports;
 mod proofs;

@@ -10,6 +10,8 @@ pub mod HolderLines
 pub mod Patterns
 pub mod Laws
 pub mod Printed
+pub mod FamilyLinks
+pub mod FamilyGroups
 pub mod FamilyLaws
 pub mod Local
 pub mod Steady

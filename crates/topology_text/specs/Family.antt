@@ -1,9 +1,9 @@
--- Families of topologies that are often met: paths, cycles, complete graphs and hypercubes, and a bus that all links share.
-use Rattle.std.specs.Prelude.{◌==◌, ◌&&◌, ◌||◌, not, ℕ, ◌+◌, ◌*◌, ◌/◌, ◌%◌, Bool, List, [], ◌∷◌, map, filter, nat_le, codes, decimal, ◌++◌, bit_xor}
+-- Families of topologies that are often met: paths, cycles, complete graphs, hypercubes and tori, a bus that all links share, a switch with two ports for each node, boxes with cables between them, and the hybrid cube mesh of eight processors (NVIDIA, DGX-1 system architecture, 2017).
+use Rattle.std.specs.Prelude.{◌==◌, ◌&&◌, ◌||◌, not, if◌then◌else◌, ℕ, ◌+◌, ◌*◌, ◌/◌, ◌%◌, Bool, List, [], ◌∷◌, map, filter, nat_le, codes, decimal, ◌++◌, bit_xor}
 use Rattle.std.specs.List.{list_any, range_with_len}
-use Rattle.schedule.specs.Links.{GroupValue}
+use Rattle.schedule.specs.Links.{GroupValue, same_link, turned}
 use Rattle.topology_text.specs.declared.family_kind.FamilyKind.{FamilyKind}
-use Rattle.topology_text.specs.declared.family_kind.FamilyKind.TheVariants.{Line, Ring, Complete, Cube, Shared}
+use Rattle.topology_text.specs.declared.family_kind.FamilyKind.TheVariants.{Line, Ring, Complete, Cube, Shared, Torus, Mesh, Switch, Boxes}
 use Rattle.topology_text.specs.Value.{NamedTopologyValue, named}
 
 -- the numbers of the kinds (this project's own)
@@ -13,6 +13,10 @@ kind_number Ring = 1
 kind_number Complete = 2
 kind_number Shared = 3
 kind_number Cube = 4
+kind_number Torus = 5
+kind_number Mesh = 6
+kind_number Switch = 7
+kind_number Boxes = 8
 
 -- the sizes that a kind of family has
 abbrev pub is_allowed : FamilyKind → ℕ → Bool
@@ -21,14 +25,48 @@ is_allowed Ring size = nat_le 3 size && nat_le size 16
 is_allowed Complete size = nat_le 1 size && nat_le size 16
 is_allowed Cube size = size == 2 || size == 4 || size == 8 || size == 16
 is_allowed Shared size = nat_le 2 size && nat_le size 16
+is_allowed Torus size = size == 9 || size == 12 || size == 16
+is_allowed Mesh size = size == 8
+is_allowed Switch size = nat_le 2 size && nat_le size 16
+is_allowed Boxes size = size == 8 || size == 12 || size == 16
+
+-- of so many in a circle, the one comes right behind the other
+abbrev pub are_next : ℕ → ℕ → ℕ → Bool
+are_next count a b = b == (a + 1) % count || a == (b + 1) % count
+
+-- a torus has 3 rows of 3 nodes, 3 rows of 4 or 4 rows of 4, and its nodes are numbered row by row
+abbrev pub rows : ℕ → ℕ
+rows size = if size == 16 then 4 else 3
+
+abbrev pub columns : ℕ → ℕ
+columns size = if size == 9 then 3 else 4
+
+-- with so many rows and columns: the one node is next to the other in their row, or in their column
+abbrev pub is_torus_link : ℕ → ℕ → ℕ × ℕ → Bool
+is_torus_link rows columns link = link.0 / columns == link.1 / columns && are_next columns (link.0 % columns) (link.1 % columns) || link.0 % columns == link.1 % columns && are_next rows (link.0 / columns) (link.1 / columns)
+
+-- four nodes to a box, and to a quad of a mesh: which one the node is in, and at which place
+abbrev pub box_of : ℕ → ℕ
+box_of node = node / 4
+
+abbrev pub place_in_box : ℕ → ℕ
+place_in_box node = node % 4
+
+-- the link stays in a box
+abbrev pub is_inside : ℕ × ℕ → Bool
+is_inside link = box_of link.0 == box_of link.1
 
 -- the kind joins the nodes of the link, which is from the first to the second
 abbrev pub is_family_link : FamilyKind → ℕ → ℕ × ℕ → Bool
 is_family_link Line size link = link.1 == link.0 + 1 || link.0 == link.1 + 1
-is_family_link Ring size link = link.1 == (link.0 + 1) % size || link.0 == (link.1 + 1) % size
+is_family_link Ring size link = are_next size link.0 link.1
 is_family_link Complete size link = not (link.0 == link.1)
 is_family_link Cube size link = list_any (λ digit. bit_xor link.0 link.1 == digit) (1 ∷ 2 ∷ 4 ∷ 8 ∷ [])
 is_family_link Shared size link = not (link.0 == link.1)
+is_family_link Torus size link = is_torus_link (rows size) (columns size) link
+is_family_link Mesh size link = not (link.0 == link.1) && (is_inside link || place_in_box link.0 == place_in_box link.1)
+is_family_link Switch size link = not (link.0 == link.1)
+is_family_link Boxes size link = not (link.0 == link.1)
 
 -- the pairs of nodes, ascending by the first and then by the second
 abbrev pub pairs : ℕ → List (ℕ × ℕ)
@@ -46,9 +84,34 @@ one_wide links = record { links = links; width = 1 }
 abbrev pub single : ℕ × ℕ → GroupValue
 single link = one_wide (link ∷ [])
 
--- the links of `Shared` share one group
+-- the links of width 2 of a mesh go round through all its nodes, in both directions: here those of the one direction
+abbrev pub double_ring : List (ℕ × ℕ)
+double_ring = (0, 4) ∷ (4, 7) ∷ (7, 6) ∷ (6, 5) ∷ (5, 1) ∷ (1, 2) ∷ (2, 3) ∷ (3, 0) ∷ []
+
+abbrev pub is_double : ℕ × ℕ → Bool
+is_double link = list_any (same_link link) double_ring || list_any (same_link (turned link)) double_ring
+
+-- a link of a mesh, in a group of its own
+abbrev pub mesh_group : ℕ × ℕ → GroupValue
+mesh_group link = record { links = link ∷ []; width = if is_double link then 2 else 1 }
+
+-- the two ports of a node: the links that leave it, and those that enter it
+abbrev pub port_out : List (ℕ × ℕ) → ℕ → GroupValue
+port_out links node = one_wide (filter (λ link. link.0 == node) links)
+
+abbrev pub port_in : List (ℕ × ℕ) → ℕ → GroupValue
+port_in links node = one_wide (filter (λ link. link.1 == node) links)
+
+-- the cable from the one box to the other: all links from nodes of the one to nodes of the other
+abbrev pub cable : List (ℕ × ℕ) → ℕ × ℕ → GroupValue
+cable links boxes = one_wide (filter (λ link. box_of link.0 == boxes.0 && box_of link.1 == boxes.1) links)
+
+-- the links of `Shared` share one group, those of a `Switch` the ports, and those between `Boxes` the cables
 abbrev pub family_groups : FamilyKind → ℕ → List GroupValue
 family_groups Shared size = one_wide (family_links Shared size) ∷ []
+family_groups Mesh size = map mesh_group (family_links Mesh size)
+family_groups Switch size = map (port_out (family_links Switch size)) (range_with_len 0 size) ++ map (port_in (family_links Switch size)) (range_with_len 0 size)
+family_groups Boxes size = map single (filter is_inside (family_links Boxes size)) ++ map (cable (family_links Boxes size)) (family_links Complete (size / 4))
 family_groups kind size = map single (family_links kind size)
 
 -- n0, n1 and so on

@@ -6,3 +6,4 @@ pub mod First
 pub mod Answer
 pub mod Family
 pub mod FamilyWords
+pub mod Rows

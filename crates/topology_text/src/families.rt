@@ -1,11 +1,11 @@
 //! Families of topologies that are often met.
 
-ghost use Rattle.std.specs.Prelude.{◌≡◌, ◌<◌, ◌≤◌, All, map, IsTrue, IfOk};
+ghost use Rattle.std.specs.Prelude.{◌≡◌, ◌<◌, ◌≤◌, map, IsTrue, IfOk};
 ghost use Rattle.std.specs.List.{range_with_len};
-ghost use Rattle.schedule.specs.Links.{IsLink};
-ghost use Rattle.topology_text.specs.Family.{is_allowed, family_links, family_groups, family_of, numbered_name, single};
+ghost use Rattle.topology_text.specs.Family.{is_allowed, family_links, family_groups, family_of, numbered_name};
 
 use crate::family_kind::{FamilyKind, has_family_link};
+use crate::grouping::{box_groups, mesh_groups, port_groups, single_groups};
 use crate::name::Name;
 use crate::named_topology::NamedTopology;
 use schedule::{Group, Topology};
@@ -53,19 +53,6 @@ fn family_links(alloc: Global, kind: FamilyKind, size: u8) -> Result<Vec<(u8, u8
     Ok(links)
 }
 
-/// A group of its own for each link.
-fn single_groups(alloc: Global, links: &[(u8, u8)]) -> Result<Vec<Group>, AllocError>
-    requires { All IsLink links.now }
-    ensures { IfOk result (λ v. v.items ≡ map single links.now) }
-{
-    let mut groups = Vec::new(alloc);
-    for link in links {
-        let one = Vec::from_slice(alloc, &[*link])?;
-        groups.push(Group::new(one, 1))?;
-    }
-    Ok(groups)
-}
-
 fn family_groups(alloc: Global, kind: FamilyKind, size: u8) -> Result<Vec<Group>, AllocError>
     requires { IsTrue (is_allowed kind size) }
     ensures { IfOk result (λ v. v.items ≡ family_groups kind size) }
@@ -77,13 +64,26 @@ fn family_groups(alloc: Global, kind: FamilyKind, size: u8) -> Result<Vec<Group>
             groups.push(Group::new(links, 1))?;
             Ok(groups)
         }
-        _ => single_groups(alloc, &links),
+        FamilyKind::Mesh => mesh_groups(alloc, &links),
+        FamilyKind::Switch => port_groups(alloc, &links, size),
+        FamilyKind::Boxes => {
+            let cables = family_links(alloc, FamilyKind::Complete, size / 4)?;
+            box_groups(alloc, &links, &cables)
+        }
+        FamilyKind::Line
+        | FamilyKind::Ring
+        | FamilyKind::Complete
+        | FamilyKind::Cube
+        | FamilyKind::Torus => single_groups(alloc, &links),
     }
 }
 
 /// The family's topology: nodes `n0`, `n1` and so on, and for each directed link a group of its own
 /// of width 1, ascending by the nodes that it leaves and enters. In `Shared` all links are in one
-/// group. An `Err` comes only where memory runs out.
+/// group; in `Mesh` a link of the ring 0 4 7 6 5 1 2 3 has width 2; in `Switch` each node has two
+/// groups in place of those, of the links that leave it (all these first) and of those that enter
+/// it; in `Boxes` the links from a box to another are one group, behind all others. An `Err` comes
+/// only where memory runs out.
 pub fn family(alloc: Global, kind: FamilyKind, size: u8) -> Result<NamedTopology, AllocError>
     requires { IsTrue (is_allowed kind size) }
     ensures { IfOk result (λ t. t ≡ family_of kind size) }

@@ -7,7 +7,7 @@ ghost use Rattle.topology_text.specs.FamilyWords.{families, family_named, family
 use crate::family_kind::FamilyKind;
 use case_table::{Table, table};
 
-/// The kind with this number; `None` exactly where the number is above 4.
+/// The kind with this number; `None` exactly where the number is above 8.
 fn family_of_number(number: u32) -> Option<FamilyKind>
     ensures { result ≡ find (λ kind. kind_number kind == number) families }
 {
@@ -17,6 +17,10 @@ fn family_of_number(number: u32) -> Option<FamilyKind>
         2 => Some(FamilyKind::Complete),
         3 => Some(FamilyKind::Shared),
         4 => Some(FamilyKind::Cube),
+        5 => Some(FamilyKind::Torus),
+        6 => Some(FamilyKind::Mesh),
+        7 => Some(FamilyKind::Switch),
+        8 => Some(FamilyKind::Boxes),
         _ => None,
     }
 }
@@ -50,5 +54,9 @@ fn words() -> Table
         "complete" => 2,
         "shared" => 3,
         "cube" => 4,
+        "torus" => 5,
+        "mesh" => 6,
+        "switch" => 7,
+        "boxes" => 8,
     ]
 }

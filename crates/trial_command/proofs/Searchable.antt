@@ -17,7 +17,7 @@ use Rattle.topology_text.proofs.FamilyLaws.{family_named}
 use Rattle.report_form.specs.Reports.{IsWords, question_of}
 use Rattle.frontier_audit.specs.Searches.{IsAsked}
 use Rattle.run_rules.specs.Trials.{trial_chunks, trial_family, trial_kind, trial_size, trial_topology, trial_words}
-use Rattle.trial_command.proofs.Small.{family_small}
+use Rattle.trial_command.proofs.Small.{family_small, trial_light}
 
 -- every kind has every size
 sizes_allowed : (n : ℕ) → is_allowed (trial_family n) (trial_size n) ≡ true
@@ -67,7 +67,7 @@ words_of n =
 
 pub trial_small : (n : ℕ) → size_of (question_of (trial_words n) (trial_topology n) Whole) ≤ size_limit
 trial_small n =
-    let small = family_small (trial_words n) (trial_family n) (trial_size n) (named (trial_family n) (trial_size n) (sizes_allowed n)).topology (omega arith) (chunks_few n (trial_kind n)) (omega arith) (omega arith) in
+    let small = family_small (trial_words n) (trial_family n) (trial_size n) (named (trial_family n) (trial_size n) (sizes_allowed n)).topology (trial_light n (trial_size n)) (omega arith) (chunks_few n (trial_kind n)) (omega arith) (omega arith) in
     omega (arith, small)
 
 pub trial_asked : (n : ℕ) → IsAsked (trial_words n) (trial_topology n)

@@ -1,9 +1,9 @@
--- How large a search on a family of width 1 is at most.
-use Rattle.std.proofs.Common.{◌≡◌, arith, ℕ, ◌+◌, ◌*◌, ◌≤◌, List, [], ◌∷◌, length, map, get_or}
+-- How large a trial's search is at most.
+use Rattle.std.proofs.Common.{◌≡◌, arith, ℕ, ◌+◌, ◌*◌, ◌%◌, ◌≤◌, List, [], ◌∷◌, length, map, get_or}
 use Rattle.std.specs.Prelude.{All, sum_by}
 use Rattle.std.proofs.lemmas.Nat.{mul-le}
 use Rattle.std.proofs.lemmas.List.{length-map}
-use Rattle.std.proofs.lemmas.List.Elements.{All-map}
+use Rattle.std.proofs.lemmas.List.Elements.{All-nil, All-cons, All-get_or, All-map}
 use Rattle.std.proofs.lemmas.List.Sums.{length-filter, count_by-le-length, sum_by-le}
 use Rattle.std.proofs.lemmas.List.FromFn.{length-map-range_with_len}
 use Rattle.outer_ports.specs.declared.part.Part.TheVariants.{Whole}
@@ -14,11 +14,12 @@ use Rattle.collective_spec.specs.Collectives.{chunks_of}
 use Rattle.candidate_formula.specs.Sizes.{size_of}
 use Rattle.candidate_formula.proofs.Links.{few_usable}
 use Rattle.round_encoding.specs.Candidates.{group_size}
-use Rattle.topology_text.proofs.FamilyLaws.{length-pairs}
+use Rattle.topology_text.proofs.FamilyLinks.{length-pairs}
 use Rattle.topology_text.specs.declared.family_kind.FamilyKind.{FamilyKind}
 use Rattle.topology_text.specs.declared.family_kind.FamilyKind.TheVariants as family
 use Rattle.topology_text.specs.Family.{family_groups, family_links, family_of, is_family_link, numbered_name, one_wide, pairs, single}
 use Rattle.report_form.specs.Reports.{WordsValue, question_of}
+use Rattle.run_rules.specs.Trials.{trial_family}
 
 few_pairs : (size : ℕ) → size ≤ 10 → length (pairs size) ≤ 100
 few_pairs size few =
@@ -66,17 +67,30 @@ module _ (chunks steps extra : ℕ) (few : chunks ≤ 100) (short : steps ≤ 4)
   shared_group : (links : List (ℕ × ℕ)) → sum_by (group_size chunks steps extra) (one_wide links ∷ []) ≤ length links * 1200
   shared_group links = let own = one_group links in omega (arith, own)
 
-  groups_small : (kind : FamilyKind) (size : ℕ) → sum_by (group_size chunks steps extra) (family_groups kind size) ≤ length (family_links kind size) * 1200
-  groups_small family.Line size = single_groups (family_links family.Line size)
-  groups_small family.Ring size = single_groups (family_links family.Ring size)
-  groups_small family.Complete size = single_groups (family_links family.Complete size)
-  groups_small family.Cube size = single_groups (family_links family.Cube size)
-  groups_small family.Shared size = shared_group (family_links family.Shared size)
+-- with few chunks, steps and extra rounds its groups are small, by the number of its links
+abbrev pub IsLight : ℕ → FamilyKind → Type 0
+IsLight size kind = (chunks steps extra : ℕ) → chunks ≤ 100 → steps ≤ 4 → extra ≤ 1 → sum_by (group_size chunks steps extra) (family_groups kind size) ≤ length (family_links kind size) * 1200
+
+-- so are the families of trials
+pub trial_light : (n size : ℕ) → IsLight size (trial_family n)
+trial_light n size = All-get_or (IsLight size) (family.Line ∷ family.Ring ∷ family.Complete ∷ family.Shared ∷ []) (n % 4) family.Line (omega arith) line
+  where
+    shared : All (IsLight size) (family.Shared ∷ [])
+    shared = All-cons (IsLight size) family.Shared [] (λ chunks steps extra few short little. shared_group chunks steps extra few short little (family_links family.Shared size)) (All-nil (IsLight size))
+
+    complete : All (IsLight size) (family.Complete ∷ family.Shared ∷ [])
+    complete = All-cons (IsLight size) family.Complete (family.Shared ∷ []) (λ chunks steps extra few short little. single_groups chunks steps extra few short little (family_links family.Complete size)) shared
+
+    ring : All (IsLight size) (family.Ring ∷ family.Complete ∷ family.Shared ∷ [])
+    ring = All-cons (IsLight size) family.Ring (family.Complete ∷ family.Shared ∷ []) (λ chunks steps extra few short little. single_groups chunks steps extra few short little (family_links family.Ring size)) complete
+
+    line : All (IsLight size) (family.Line ∷ family.Ring ∷ family.Complete ∷ family.Shared ∷ [])
+    line = All-cons (IsLight size) family.Line (family.Ring ∷ family.Complete ∷ family.Shared ∷ []) (λ chunks steps extra few short little. single_groups chunks steps extra few short little (family_links family.Line size)) ring
 
 -- with few nodes, steps and chunks
-pub family_small : (w : WordsValue) (kind : FamilyKind) (size : ℕ) → IsTopology (family_of kind size).topology → size ≤ 10 → w.limits.max_c ≤ 10 → w.limits.max_s ≤ 4 → w.limits.k ≤ 1
+pub family_small : (w : WordsValue) (kind : FamilyKind) (size : ℕ) → IsTopology (family_of kind size).topology → IsLight size kind → size ≤ 10 → w.limits.max_c ≤ 10 → w.limits.max_s ≤ 4 → w.limits.k ≤ 1
     → size_of (question_of w (family_of kind size) Whole) ≤ 222400
-family_small w kind size is few chunks steps extra =
+family_small w kind size is light few chunks steps extra =
     let q = question_of w (family_of kind size) Whole in
     let t = (family_of kind size).topology in
     let as_many : t.nodes ≡ size = length-map-range_with_len numbered_name 0 size in
@@ -84,6 +98,6 @@ family_small w kind size is few chunks steps extra =
     let c = chunks_of w.collective.kind t.nodes w.limits.max_c in
     let usable = few_usable t is in
     let sends : c * length (usable_links t) * w.limits.max_s ≤ 100 * 256 * 4 = mul-le (c * length (usable_links t)) w.limits.max_s (100 * 256) 4 (mul-le c (length (usable_links t)) 100 256 most usable) steps in
-    let groups = groups_small c w.limits.max_s w.limits.k most steps extra kind size in
+    let groups = light c w.limits.max_s w.limits.k most steps extra in
     let links = few_links kind size few in
     omega (arith, sends, groups, links)

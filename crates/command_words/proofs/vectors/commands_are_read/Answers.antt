@@ -15,5 +15,9 @@ returns c = record {
   programs = refl;
   family = refl;
   cube = refl;
+  torus = refl;
+  mesh = refl;
+  switch = refl;
+  boxes = refl;
   trial = refl;
 }

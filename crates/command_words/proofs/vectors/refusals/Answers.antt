@@ -13,5 +13,7 @@ returns c = record {
   key_missing = refl;
   bad_value = refl;
   size_of_no_cube = refl;
+  size_of_no_torus = refl;
+  size_of_no_boxes = refl;
   root_not_taken = refl;
 }

@@ -1,0 +1,212 @@
+-- The groups of families.
+use Rattle.std.proofs.Common.{◌≡◌, ◌≢◌, ℕ, zero, suc, ◌+◌, ◌*◌, ◌/◌, ◌%◌, ◌<◌, ◌≤◌, Bool, true, false, ◌&&◌, cond, eqb, not, List, [], ◌∷◌, ◌++◌, map, length, get_or, refl, sym, ap, ◌∙◌, subst, append_assoc, arith}
+use Rattle.std.specs.List.{All, filter, range_with_len}
+use Rattle.std.proofs.lemmas.Bool.{eq-eqb, ne_eqb}
+use Rattle.std.proofs.lemmas.Nat.{div-mul-add, mod-mul-add, mul-le}
+use Rattle.std.proofs.lemmas.List.{length-append, length-map}
+use Rattle.std.proofs.lemmas.List.Elements.{All-nil, All-cons, All-append, All-map, All-filter, All-weaker, All-from_get_or}
+use Rattle.std.proofs.lemmas.List.FromFn.{get_or-range_with_len, map-range_with_len_more, length-map-range_with_len, length-range_with_len}
+use Rattle.std.proofs.lemmas.List.Kept.{AllPairs-filter}
+use Rattle.list_laws.proofs.Tests.{few_kept}
+use Rattle.schedule.specs.Links.{GroupValue, IsLink, IsBelow, IsGroup}
+use Rattle.topology_text.specs.declared.family_kind.FamilyKind.{FamilyKind}
+use Rattle.topology_text.specs.declared.family_kind.FamilyKind.TheVariants.{Line, Ring, Complete, Cube, Shared, Torus, Mesh, Switch, Boxes}
+use Rattle.topology_text.specs.Family.{is_allowed, is_family_link, pairs, family_links, one_wide, single, is_double, mesh_group, box_of, is_inside, port_out, port_in, cable, family_groups}
+use Rattle.topology_text.proofs.Groups.{Groups}
+use Rattle.topology_text.proofs.FamilyLinks.{at_three, within, length-pairs, pair_at, FamilyLinks, family_links_are}
+
+-- ---- links that share a group
+
+kept_both : (p q : ℕ × ℕ → Bool) (links : List (ℕ × ℕ)) (i : ℕ) (d : ℕ × ℕ) → i < length links → p (get_or links i d) ≡ true → q (get_or links i d) ≡ true → 0 < length (filter q (filter p links))
+kept_both p q [] i d within passes too = absurd (omega arith)
+kept_both p q (l ∷ links) zero d within passes too = rw passes (rw too (omega arith))
+kept_both p q (l ∷ links) (suc i) d within passes too =
+    let rest = kept_both p q links i d (omega arith) passes too in
+    elim (p l) as (λ b. 0 < length (filter q (cond b (l ∷ filter p links) (filter p links)))) [
+      | true ↦ elim (q l) as (λ b. 0 < length (cond b (l ∷ filter q (filter p links)) (filter q (filter p links)))) [ true ↦ omega arith | false ↦ rest ]
+      | false ↦ rest
+    ]
+
+-- a link of the family that passes a test
+some_pass : (kind : FamilyKind) (size a b : ℕ) (q : ℕ × ℕ → Bool) → a < size → b < size → is_family_link kind size (a, b) ≡ true → q (a, b) ≡ true → 0 < length (filter q (family_links kind size))
+some_pass kind size a b q low high joined passes =
+    let place : a * size + b < size * size = place_below size a b low high in
+    let here : get_or (pairs size) (a * size + b) (0, 0) ≡ (a, b) = pair_at size (a * size + b) (0, 0) place ∙ ap (λ x. (x, (a * size + b) % size)) (div-mul-add a size b high) ∙ ap (λ y. (a, y)) (mod-mul-add a size b high) in
+    kept_both (is_family_link kind size) q (pairs size) (a * size + b) (0, 0) (omega (arith, length-pairs size, place)) (ap (is_family_link kind size) here ∙ joined) (ap q here ∙ passes)
+  where
+    place_below : (n x y : ℕ) → x < n → y < n → x * n + y < n * n
+    place_below n x y low high =
+        let whole : (x + 1) * n ≤ n * n = mul-le (x + 1) n n n (omega arith) (omega arith) in
+        omega (arith, whole)
+
+-- some of the links, on one width
+part_is_group : (size : ℕ) (links : List (ℕ × ℕ)) (p : ℕ × ℕ → Bool) → FamilyLinks size links → 0 < length (filter p links) → IsGroup (one_wide (filter p links))
+part_is_group size links p ok some = record {
+  positive = omega arith;
+  narrow = omega arith;
+  some = some;
+  each = All-filter p IsLink links ok.each;
+  distinct = AllPairs-filter (λ a b. a ≢ b) p links ok.distinct;
+}
+
+pub shared_is_group : (size : ℕ) → is_allowed Shared size ≡ true → IsGroup (one_wide (family_links Shared size))
+shared_is_group size ok =
+    let (large, few) = within 2 16 size ok in
+    let links = family_links_are Shared size ok in
+    let some = some_pass Shared size 0 1 (λ l. true) (omega arith) (omega arith) refl refl in
+    record { positive = omega arith; narrow = omega arith; some = omega (arith, some, few_kept (λ l. true) (family_links Shared size)); each = links.each; distinct = links.distinct }
+
+-- ---- groups of one link
+
+alone_is_group : (link : ℕ × ℕ) (width : ℕ) → 0 < width → width ≤ 16 → IsLink link → IsGroup (record { links = link ∷ []; width = width })
+alone_is_group link width some few apart = record {
+  positive = some;
+  narrow = few;
+  some = omega arith;
+  each = All-cons IsLink link [] apart (All-nil IsLink);
+  distinct = λ i j d before h. absurd (omega arith);
+}
+
+pub single_is_group : (link : ℕ × ℕ) → IsLink link → IsGroup (single link)
+single_is_group link apart = alone_is_group link 1 (omega arith) (omega arith) apart
+
+pub mesh_is_group : (link : ℕ × ℕ) → IsLink link → IsGroup (mesh_group link)
+mesh_is_group link apart =
+    elim (is_double link) as (λ b. IsGroup (record { links = link ∷ []; width = cond b 2 1 })) [
+      | true ↦ alone_is_group link 2 (omega arith) (omega arith) apart
+      | false ↦ alone_is_group link 1 (omega arith) (omega arith) apart
+    ]
+
+-- ---- ports
+
+out_some : (size node : ℕ) → 2 ≤ size → node < size → 0 < length (filter (λ link. eqb link.0 node) (family_links Switch size))
+out_some size zero large low = some_pass Switch size 0 1 (λ link. eqb link.0 0) (omega arith) (omega arith) refl refl
+out_some size (suc node) large low = some_pass Switch size (suc node) 0 (λ link. eqb link.0 (suc node)) low (omega arith) (ap not (ne_eqb (suc node) 0 (λ e. omega arith))) (eq-eqb (suc node) (suc node) refl)
+
+in_some : (size node : ℕ) → 2 ≤ size → node < size → 0 < length (filter (λ link. eqb link.1 node) (family_links Switch size))
+in_some size zero large low = some_pass Switch size 1 0 (λ link. eqb link.1 0) (omega arith) (omega arith) refl refl
+in_some size (suc node) large low = some_pass Switch size 0 (suc node) (λ link. eqb link.1 (suc node)) (omega arith) low (ap not (ne_eqb 0 (suc node) (λ e. omega arith))) (eq-eqb (suc node) (suc node) refl)
+
+pub ports_out : (size : ℕ) → is_allowed Switch size ≡ true → (node : ℕ) → node < size → IsGroup (port_out (family_links Switch size) node)
+ports_out size ok node low =
+    let (large, few) = within 2 16 size ok in
+    part_is_group size (family_links Switch size) (λ link. eqb link.0 node) (family_links_are Switch size ok) (out_some size node large low)
+
+pub ports_in : (size : ℕ) → is_allowed Switch size ≡ true → (node : ℕ) → node < size → IsGroup (port_in (family_links Switch size) node)
+ports_in size ok node low =
+    let (large, few) = within 2 16 size ok in
+    part_is_group size (family_links Switch size) (λ link. eqb link.1 node) (family_links_are Switch size ok) (in_some size node large low)
+
+-- a loop over the nodes, in which each adds one group
+pub nodes_more : (group : ℕ → GroupValue) (initial before after : List GroupValue) (node : ℕ) (its : GroupValue) → before ≡ initial ++ map group (range_with_len 0 node) → its ≡ group node → after ≡ before ++ its ∷ [] → after ≡ initial ++ map group (range_with_len 0 (node + 1))
+nodes_more group initial before after node its so_far is pushed =
+    pushed
+    ∙ ap (λ g. before ++ g ∷ []) is
+    ∙ ap (λ gs. gs ++ group node ∷ []) so_far
+    ∙ append_assoc initial (map group (range_with_len 0 node)) (group node ∷ [])
+    ∙ ap (λ gs. initial ++ gs) (sym (map-range_with_len_more group 0 node node (omega arith)))
+
+-- what holds at each node
+at_nodes : (P : ℕ → Type 0) (size : ℕ) → ((node : ℕ) → node < size → P node) → All P (range_with_len 0 size)
+at_nodes P size at = All-from_get_or P (range_with_len 0 size) 0 each
+  where
+    each : (i : ℕ) → i < length (range_with_len 0 size) → P (get_or (range_with_len 0 size) i 0)
+    each i h =
+        let low : i < size = omega (arith, h, length-range_with_len 0 size) in
+        let here : get_or (range_with_len 0 size) i 0 ≡ i = get_or-range_with_len 0 size i 0 low ∙ omega arith in
+        subst P (sym here) (at i low)
+
+-- ---- cables
+
+pub cables_allowed : (size : ℕ) → is_allowed Boxes size ≡ true → is_allowed Complete (size / 4) ≡ true
+cables_allowed size ok = at_three (λ s. is_allowed Complete (s / 4) ≡ true) 8 12 16 size refl refl refl ok
+
+-- the first nodes of two boxes are joined by their cable
+cable_some : (size : ℕ) (boxes : ℕ × ℕ) → IsLink boxes → IsBelow (size / 4) boxes → 0 < length (filter (λ link. eqb (box_of link.0) boxes.0 && eqb (box_of link.1) boxes.1) (family_links Boxes size))
+cable_some size boxes link below =
+    let a = boxes.0 in
+    let b = boxes.1 in
+    let low = below.from in
+    let high = below.to in
+    let from : a * 4 / 4 ≡ a = omega arith in
+    let to : b * 4 / 4 ≡ b = omega arith in
+    some_pass Boxes size (a * 4) (b * 4) (λ link. eqb (box_of link.0) a && eqb (box_of link.1) b) (omega (arith, low)) (omega (arith, high)) (ap not (ne_eqb (a * 4) (b * 4) (λ e. link.apart (omega (arith, e))))) (rw (from, to) (rw (eq-eqb a a refl, eq-eqb b b refl) refl))
+
+pub cables_are : (size : ℕ) → is_allowed Boxes size ≡ true → All (λ boxes. IsGroup (cable (family_links Boxes size) boxes)) (family_links Complete (size / 4))
+cables_are size ok =
+    let few = family_links_are Complete (size / 4) (cables_allowed size ok) in
+    λ i d h. part_is_group size (family_links Boxes size) (λ link. eqb (box_of link.0) (get_or (family_links Complete (size / 4)) i d).0 && eqb (box_of link.1) (get_or (family_links Complete (size / 4)) i d).1) (family_links_are Boxes size ok) (cable_some size (get_or (family_links Complete (size / 4)) i d) (few.each i d h) (few.below i d h))
+
+-- ---- the groups of a family
+
+-- a group of its own for each link
+alones : (size : ℕ) (links : List (ℕ × ℕ)) (alone : ℕ × ℕ → GroupValue) → FamilyLinks size links → ((link : ℕ × ℕ) → (alone link).links ≡ link ∷ []) → ((link : ℕ × ℕ) → IsLink link → IsGroup (alone link)) → Groups size (map alone links)
+alones size links alone ok own is_group = record {
+  few = omega (arith, length-map links alone, ok.few);
+  each = All-map IsGroup alone links (All-weaker IsLink (λ l. IsGroup (alone l)) is_group links ok.each);
+  below = All-map (λ g. All (IsBelow size) g.links) alone links (All-weaker (IsBelow size) (λ l. All (IsBelow size) (alone l).links) (λ l h. subst (All (IsBelow size)) (sym (own l)) (All-cons (IsBelow size) l [] h (All-nil (IsBelow size)))) links ok.below);
+}
+
+singles : (size : ℕ) (links : List (ℕ × ℕ)) → FamilyLinks size links → Groups size (map single links)
+singles size links ok = alones size links single ok (λ l. refl) single_is_group
+
+-- groups of some of the links
+parts_below : {X : Type 0} (size : ℕ) (links : List (ℕ × ℕ)) (passes : X → ℕ × ℕ → Bool) (xs : List X) → FamilyLinks size links → All (λ g. All (IsBelow size) g.links) (map (λ x. one_wide (filter (passes x) links)) xs)
+parts_below size links passes xs ok = All-map (λ g. All (IsBelow size) g.links) (λ x. one_wide (filter (passes x) links)) xs (λ i d h. All-filter (passes (get_or xs i d)) (IsBelow size) links ok.below)
+
+ports_are : (size : ℕ) → is_allowed Switch size ≡ true → Groups size (family_groups Switch size)
+ports_are size ok =
+    let (large, small) = within 2 16 size ok in
+    let links = family_links Switch size in
+    let nodes = range_with_len 0 size in
+    let are = family_links_are Switch size ok in
+    let outs = map (port_out links) nodes in
+    let ins = map (port_in links) nodes in
+    record {
+      few = omega (arith, length-append outs ins, length-map-range_with_len (port_out links) 0 size, length-map-range_with_len (port_in links) 0 size, small);
+      each = All-append IsGroup outs ins (All-map IsGroup (port_out links) nodes (at_nodes (λ node. IsGroup (port_out links node)) size (ports_out size ok))) (All-map IsGroup (port_in links) nodes (at_nodes (λ node. IsGroup (port_in links node)) size (ports_in size ok)));
+      below = All-append (λ g. All (IsBelow size) g.links) outs ins (parts_below size links (λ node link. eqb link.0 node) nodes are) (parts_below size links (λ node link. eqb link.1 node) nodes are);
+    }
+
+-- the links that stay in a box
+inside_are : (size : ℕ) → is_allowed Boxes size ≡ true → FamilyLinks size (filter is_inside (family_links Boxes size))
+inside_are size ok =
+    let links = family_links Boxes size in
+    let are = family_links_are Boxes size ok in
+    record {
+      each = All-filter is_inside IsLink links are.each;
+      below = All-filter is_inside (IsBelow size) links are.below;
+      distinct = AllPairs-filter (λ a b. a ≢ b) is_inside links are.distinct;
+      few = omega (arith, few_kept is_inside links, are.few);
+    }
+
+few_boxes : (size : ℕ) → is_allowed Boxes size ≡ true → length (family_groups Boxes size) ≤ 256
+few_boxes size ok = at_three (λ s. length (family_groups Boxes s) ≤ 256) 8 12 16 size (omega arith) (omega arith) (omega arith) ok
+
+boxes_are : (size : ℕ) → is_allowed Boxes size ≡ true → Groups size (family_groups Boxes size)
+boxes_are size ok =
+    let links = family_links Boxes size in
+    let inside = singles size (filter is_inside links) (inside_are size ok) in
+    let boxes = family_links Complete (size / 4) in
+    record {
+      few = few_boxes size ok;
+      each = All-append IsGroup (map single (filter is_inside links)) (map (cable links) boxes) inside.each (All-map IsGroup (cable links) boxes (cables_are size ok));
+      below = All-append (λ g. All (IsBelow size) g.links) (map single (filter is_inside links)) (map (cable links) boxes) inside.below (parts_below size links (λ ends link. eqb (box_of link.0) ends.0 && eqb (box_of link.1) ends.1) boxes (family_links_are Boxes size ok));
+    }
+
+pub family_groups_are : (kind : FamilyKind) (size : ℕ) → is_allowed kind size ≡ true → Groups size (family_groups kind size)
+family_groups_are Line size ok = singles size (family_links Line size) (family_links_are Line size ok)
+family_groups_are Ring size ok = singles size (family_links Ring size) (family_links_are Ring size ok)
+family_groups_are Complete size ok = singles size (family_links Complete size) (family_links_are Complete size ok)
+family_groups_are Cube size ok = singles size (family_links Cube size) (family_links_are Cube size ok)
+family_groups_are Torus size ok = singles size (family_links Torus size) (family_links_are Torus size ok)
+family_groups_are Mesh size ok = alones size (family_links Mesh size) mesh_group (family_links_are Mesh size ok) (λ l. refl) mesh_is_group
+family_groups_are Switch size ok = ports_are size ok
+family_groups_are Boxes size ok = boxes_are size ok
+family_groups_are Shared size ok =
+    let links = family_links_are Shared size ok in
+    record {
+      few = omega arith;
+      each = All-cons IsGroup (one_wide (family_links Shared size)) [] (shared_is_group size ok) (All-nil IsGroup);
+      below = All-cons (λ g. All (IsBelow size) g.links) (one_wide (family_links Shared size)) [] links.below (All-nil (λ g. All (IsBelow size) g.links));
+    }

@@ -1,0 +1,196 @@
+-- The sizes of families and their links.
+use Rattle.std.proofs.Common.{◌≡◌, ◌≢◌, ℕ, ◌+◌, ◌*◌, ◌/◌, ◌%◌, ◌<◌, ◌≤◌, true, false, ◌&&◌, ◌||◌, cond, eqb, leb, not, List, [], ◌∷◌, ◌++◌, map, length, get_or, ◌⊎◌, inl, inr, refl, sym, ap, ◌∙◌, subst, arith}
+use Rattle.std.specs.Prelude.{bit_xor}
+use Rattle.std.specs.Int.Bits.{xor_self}
+use Rattle.std.specs.List.{All, filter, list_any, range_with_len}
+use Rattle.std.proofs.Math.Nat.{div-lt_iff_lt-mul, mod-eq-sub-div-mul, div-mul-le_self, mod-eq_of_lt, mod_self, mul-le-mul_left}
+use Rattle.std.proofs.lemmas.Bool.{cases_lt, and_parts, or_cases, leb-true, eqb-true, eqb-false, not-true}
+use Rattle.std.proofs.lemmas.List.{append-nil, length-map}
+use Rattle.std.proofs.lemmas.List.Elements.{All-filter, All-from_get_or, filter_passes}
+use Rattle.std.proofs.lemmas.List.FromFn.{get_or-map-range_with_len, filter_of_map_range_with_len_more, length-range_with_len}
+use Rattle.std.proofs.lemmas.List.Kept.{AllPairs-filter}
+use Rattle.list_laws.proofs.Tests.{few_kept}
+use Rattle.text_lines.proofs.Distinct.{AreDistinct}
+use Rattle.schedule.specs.Links.{IsLink, IsBelow}
+use Rattle.topology_text.specs.declared.family_kind.FamilyKind.{FamilyKind}
+use Rattle.topology_text.specs.declared.family_kind.FamilyKind.TheVariants.{Line, Ring, Complete, Cube, Shared, Torus, Mesh, Switch, Boxes}
+use Rattle.topology_text.specs.Family.{is_allowed, are_next, rows, columns, is_torus_link, is_inside, place_in_box, is_family_link, pairs, family_links}
+
+-- ---- sizes
+
+pub record IsSize (size : ℕ) : Type 0 where
+  pub some : 0 < size
+  pub few : size ≤ 16
+
+pub within : (low high size : ℕ) → (leb low size && leb size high) ≡ true → (low ≤ size) × (size ≤ high)
+within low high size e = let (above, below) = and_parts (leb low size) (leb size high) e in (leb-true low size above, leb-true size high below)
+
+-- what holds at each of three sizes
+pub at_three : (P : ℕ → Type 0) (a b c size : ℕ) → P a → P b → P c → (eqb size a || eqb size b || eqb size c) ≡ true → P size
+at_three P a b c size at_a at_b at_c e = by_last (or_cases (eqb size a || eqb size b) (eqb size c) e)
+  where
+    is : (n : ℕ) → P n → eqb size n ≡ true → P size
+    is n at_n t = subst P (sym (eqb-true size n t)) at_n
+
+    by_first : (eqb size a ≡ true) ⊎ (eqb size b ≡ true) → P size
+    by_first (inl t) = is a at_a t
+    by_first (inr t) = is b at_b t
+
+    by_last : ((eqb size a || eqb size b) ≡ true) ⊎ (eqb size c ≡ true) → P size
+    by_last (inl t) = by_first (or_cases (eqb size a) (eqb size b) t)
+    by_last (inr t) = is c at_c t
+
+is_size : (n : ℕ) → 0 < n → n ≤ 16 → IsSize n
+is_size n some few = record { some = some; few = few }
+
+cube_size : (size : ℕ) → is_allowed Cube size ≡ true → IsSize size
+cube_size size e = by_size (or_cases (eqb size 2 || eqb size 4 || eqb size 8) (eqb size 16) e)
+  where
+    by_size : ((eqb size 2 || eqb size 4 || eqb size 8) ≡ true) ⊎ (eqb size 16 ≡ true) → IsSize size
+    by_size (inl t) = at_three IsSize 2 4 8 size (is_size 2 (omega arith) (omega arith)) (is_size 4 (omega arith) (omega arith)) (is_size 8 (omega arith) (omega arith)) t
+    by_size (inr t) = subst IsSize (sym (eqb-true size 16 t)) (is_size 16 (omega arith) (omega arith))
+
+pub allowed_size : (kind : FamilyKind) (size : ℕ) → is_allowed kind size ≡ true → IsSize size
+allowed_size Line size e = let (low, high) = within 1 16 size e in record { some = omega arith; few = high }
+allowed_size Ring size e = let (low, high) = within 3 16 size e in record { some = omega arith; few = high }
+allowed_size Complete size e = let (low, high) = within 1 16 size e in record { some = omega arith; few = high }
+allowed_size Cube size e = cube_size size e
+allowed_size Shared size e = let (low, high) = within 2 16 size e in record { some = omega arith; few = high }
+allowed_size Torus size e = at_three IsSize 9 12 16 size (is_size 9 (omega arith) (omega arith)) (is_size 12 (omega arith) (omega arith)) (is_size 16 (omega arith) (omega arith)) e
+allowed_size Mesh size e = subst IsSize (sym (eqb-true size 8 e)) (is_size 8 (omega arith) (omega arith))
+allowed_size Switch size e = let (low, high) = within 2 16 size e in record { some = omega arith; few = high }
+allowed_size Boxes size e = at_three IsSize 8 12 16 size (is_size 8 (omega arith) (omega arith)) (is_size 12 (omega arith) (omega arith)) (is_size 16 (omega arith) (omega arith)) e
+
+-- a torus has three rows and columns at least, and its nodes fill them
+pub record IsGrid (size : ℕ) : Type 0 where
+  pub tall : 3 ≤ rows size
+  pub wide : 3 ≤ columns size
+  pub filled : size ≡ rows size * columns size
+
+torus_grid : (size : ℕ) → is_allowed Torus size ≡ true → IsGrid size
+torus_grid size e = at_three IsGrid 9 12 16 size (record { tall = omega arith; wide = omega arith; filled = refl }) (record { tall = omega arith; wide = omega arith; filled = refl }) (record { tall = omega arith; wide = omega arith; filled = refl }) e
+
+-- ---- links
+
+pub link_kept : (kind : FamilyKind) (size n : ℕ) → is_family_link kind size (n / size, n % size) ≡ true → filter (is_family_link kind size) (map (λ k. (k / size, k % size)) (range_with_len 0 (n + 1))) ≡ filter (is_family_link kind size) (map (λ k. (k / size, k % size)) (range_with_len 0 n)) ++ (n / size, n % size) ∷ []
+link_kept kind size n passes =
+    let before : List (ℕ × ℕ) = filter (is_family_link kind size) (map (λ k. (k / size, k % size)) (range_with_len 0 n)) in
+    filter_of_map_range_with_len_more (is_family_link kind size) (λ k. (k / size, k % size)) 0 n n (omega arith) ∙ ap (λ t. before ++ cond t ((n / size, n % size) ∷ []) []) passes
+
+pub link_skipped : (kind : FamilyKind) (size n : ℕ) → is_family_link kind size (n / size, n % size) ≡ false → filter (is_family_link kind size) (map (λ k. (k / size, k % size)) (range_with_len 0 (n + 1))) ≡ filter (is_family_link kind size) (map (λ k. (k / size, k % size)) (range_with_len 0 n))
+link_skipped kind size n fails =
+    let before : List (ℕ × ℕ) = filter (is_family_link kind size) (map (λ k. (k / size, k % size)) (range_with_len 0 n)) in
+    filter_of_map_range_with_len_more (is_family_link kind size) (λ k. (k / size, k % size)) 0 n n (omega arith) ∙ ap (λ t. before ++ cond t ((n / size, n % size) ∷ []) []) fails ∙ append-nil before
+
+pub pair_at : (size i : ℕ) (d : ℕ × ℕ) → i < size * size → get_or (pairs size) i d ≡ (i / size, i % size)
+pair_at size i d within = get_or-map-range_with_len (λ n. (n / size, n % size)) 0 (size * size) i i d within (omega arith)
+
+pub length-pairs : (size : ℕ) → length (pairs size) ≡ size * size
+length-pairs size = length-map (range_with_len 0 (size * size)) (λ n. (n / size, n % size)) ∙ length-range_with_len 0 (size * size)
+
+pairs_below : (size : ℕ) → 0 < size → All (IsBelow size) (pairs size)
+pairs_below size some = All-from_get_or (IsBelow size) (pairs size) (0, 0) each
+  where
+    each : (i : ℕ) → i < length (pairs size) → IsBelow size (get_or (pairs size) i (0, 0))
+    each i h =
+        let within : i < size * size = omega (arith, length-pairs size) in
+        let P : ℕ × ℕ → Type 0 = λ l. IsBelow size l in
+        subst P (sym (pair_at size i (0, 0) within)) (record { from = (div-lt_iff_lt-mul some).1 within; to = omega arith })
+
+-- a place by its row and its column
+place_is : (size i j : ℕ) → i / size ≡ j / size → i % size ≡ j % size → i ≡ j
+place_is size i j row column =
+    let products : i / size * size ≡ j / size * size = ap (λ q. q * size) row in
+    omega (arith, mod-eq-sub-div-mul i size, mod-eq-sub-div-mul j size, div-mul-le_self i size, div-mul-le_self j size, products, column)
+
+pairs_distinct : (size : ℕ) → 0 < size → AreDistinct (pairs size)
+pairs_distinct size some i j d before h e =
+    let within : j < size * size = omega (arith, length-pairs size) in
+    let early : i < size * size = omega arith in
+    let same : (i / size, i % size) ≡ (j / size, j % size) = sym (pair_at size i d early) ∙ e ∙ pair_at size j d within in
+    absurd (omega (arith, place_is size i j (ap (λ l. l.0) same) (ap (λ l. l.1) same)))
+
+-- each of these links joins two different nodes
+
+next_differs : (a b : ℕ) → (eqb b (a + 1) || eqb a (b + 1)) ≡ true → a ≢ b
+next_differs a b t same = by_side (or_cases (eqb b (a + 1)) (eqb a (b + 1)) t)
+  where
+    by_side : (eqb b (a + 1) ≡ true) ⊎ (eqb a (b + 1) ≡ true) → ⊥
+    by_side (inl h) = let next = eqb-true b (a + 1) h in omega arith
+    by_side (inr h) = let next = eqb-true a (b + 1) h in omega arith
+
+round_differs : (size a : ℕ) → 3 ≤ size → a < size → a ≡ (a + 1) % size → ⊥
+round_differs size a large below e = by_size (cases_lt (a + 1) size)
+  where
+    by_size : (a + 1 < size) ⊎ (size ≤ a + 1) → ⊥
+    by_size (inl small) = let stays : (a + 1) % size ≡ a + 1 = mod-eq_of_lt small in omega arith
+    by_size (inr last) =
+        let whole : a + 1 ≡ size = omega arith in
+        let turned : (a + 1) % size ≡ 0 = ap (λ n. n % size) whole ∙ mod_self size in
+        omega arith
+
+ring_differs : (size a b : ℕ) → 3 ≤ size → a < size → b < size → are_next size a b ≡ true → a ≢ b
+ring_differs size a b large low high t same = by_side (or_cases (eqb b ((a + 1) % size)) (eqb a ((b + 1) % size)) t)
+  where
+    by_side : (eqb b ((a + 1) % size) ≡ true) ⊎ (eqb a ((b + 1) % size) ≡ true) → ⊥
+    by_side (inl h) = round_differs size a large low (same ∙ eqb-true b ((a + 1) % size) h)
+    by_side (inr h) = round_differs size b large high (sym same ∙ eqb-true a ((b + 1) % size) h)
+
+cube_differs : (a b : ℕ) → list_any (λ digit. eqb (bit_xor a b) digit) (1 ∷ 2 ∷ 4 ∷ 8 ∷ []) ≡ true → a ≢ b
+cube_differs a b t same =
+    let nothing : bit_xor a b ≡ 0 = ap (λ x. bit_xor a x) (sym same) ∙ xor_self a in
+    let never : list_any (λ digit. eqb (bit_xor a b) digit) (1 ∷ 2 ∷ 4 ∷ 8 ∷ []) ≡ false = ap (λ x. list_any (λ digit. eqb x digit) (1 ∷ 2 ∷ 4 ∷ 8 ∷ [])) nothing in
+    absurd (cc)
+
+torus_differs : (tall wide a b : ℕ) → 3 ≤ tall → 3 ≤ wide → a < tall * wide → b < tall * wide → is_torus_link tall wide (a, b) ≡ true → a ≢ b
+torus_differs tall wide a b rows_some columns_some low high t same =
+    by_side (or_cases (eqb (a / wide) (b / wide) && are_next wide (a % wide) (b % wide)) (eqb (a % wide) (b % wide) && are_next tall (a / wide) (b / wide)) t)
+  where
+    by_side : ((eqb (a / wide) (b / wide) && are_next wide (a % wide) (b % wide)) ≡ true) ⊎ ((eqb (a % wide) (b % wide) && are_next tall (a / wide) (b / wide)) ≡ true) → ⊥
+    by_side (inl h) =
+        let (row, next) = and_parts (eqb (a / wide) (b / wide)) (are_next wide (a % wide) (b % wide)) h in
+        ring_differs wide (a % wide) (b % wide) columns_some (omega arith) (omega arith) next (ap (λ n. n % wide) same)
+    by_side (inr h) =
+        let (column, next) = and_parts (eqb (a % wide) (b % wide)) (are_next tall (a / wide) (b / wide)) h in
+        let some : 0 < wide = omega arith in
+        ring_differs tall (a / wide) (b / wide) rows_some ((div-lt_iff_lt-mul some).1 low) ((div-lt_iff_lt-mul some).1 high) next (ap (λ n. n / wide) same)
+
+differs : (kind : FamilyKind) (size a b : ℕ) → is_allowed kind size ≡ true → a < size → b < size → is_family_link kind size (a, b) ≡ true → a ≢ b
+differs Line size a b ok low high t = next_differs a b t
+differs Ring size a b ok low high t = let (large, few) = within 3 16 size ok in ring_differs size a b large low high t
+differs Complete size a b ok low high t = eqb-false a b (not-true (eqb a b) t)
+differs Cube size a b ok low high t = cube_differs a b t
+differs Shared size a b ok low high t = eqb-false a b (not-true (eqb a b) t)
+differs Torus size a b ok low high t =
+    let grid = torus_grid size ok in
+    let filled = grid.filled in
+    torus_differs (rows size) (columns size) a b grid.tall grid.wide (omega (arith, filled, low)) (omega (arith, filled, high)) t
+differs Mesh size a b ok low high t =
+    let (apart, near) = and_parts (not (eqb a b)) (is_inside (a, b) || eqb (place_in_box a) (place_in_box b)) t in
+    eqb-false a b (not-true (eqb a b) apart)
+differs Switch size a b ok low high t = eqb-false a b (not-true (eqb a b) t)
+differs Boxes size a b ok low high t = eqb-false a b (not-true (eqb a b) t)
+
+-- the links of a family
+pub record FamilyLinks (size : ℕ) (links : List (ℕ × ℕ)) : Type 0 where
+  pub each : All IsLink links
+  pub below : All (IsBelow size) links
+  pub distinct : AreDistinct links
+  pub few : length links ≤ 256
+
+pub family_links_are : (kind : FamilyKind) (size : ℕ) → is_allowed kind size ≡ true → FamilyLinks size (family_links kind size)
+family_links_are kind size ok =
+    let sizes = allowed_size kind size ok in
+    let links : List (ℕ × ℕ) = family_links kind size in
+    let below : All (IsBelow size) links = All-filter (is_family_link kind size) (IsBelow size) (pairs size) (pairs_below size sizes.some) in
+    let passes : All (λ l. is_family_link kind size l ≡ true) links = filter_passes (is_family_link kind size) (pairs size) in
+    let kept : length links ≤ length (pairs size) = few_kept (is_family_link kind size) (pairs size) in
+    record {
+      each = λ i d h. record { apart = differs kind size (get_or links i d).0 (get_or links i d).1 ok (below i d h).from (below i d h).to (passes i d h) };
+      below = below;
+      distinct = AllPairs-filter (λ a b. a ≢ b) (is_family_link kind size) (pairs size) (pairs_distinct size sizes.some);
+      few = squares size sizes.few (length links) (omega (arith, length-pairs size));
+    }
+  where
+    squares : (n : ℕ) → n ≤ 16 → (m : ℕ) → m ≤ n * n → m ≤ 256
+    squares n few m h = omega (arith, mul-le-mul_left n few)

@@ -1,0 +1,7 @@
+use Rattle.std.proofs.Common.{◌≡◌, ◌++◌, map}
+use Rattle.std.specs.List.{range_with_len}
+use Rattle.topology_text.specs.Family.{port_in}
+use Rattle.topology_text.proofs.grouping.push_ports_in.Given as goal
+
+abbrev pub invariant-loop-node : goal.invariant-loop-node
+invariant-loop-node l = l.groups.items ≡ l.initial.groups.items ++ map (port_in l.links) (range_with_len 0 l.node)

@@ -1,0 +1,7 @@
+use Rattle.std.proofs.Common.{◌≡◌, ◌++◌, map}
+use Rattle.std.specs.List.{range_with_len}
+use Rattle.topology_text.specs.Family.{port_out}
+use Rattle.topology_text.proofs.grouping.push_ports_out.Given as goal
+
+abbrev pub invariant-loop-node : goal.invariant-loop-node
+invariant-loop-node l = l.groups.items ≡ l.initial.groups.items ++ map (port_out l.links) (range_with_len 0 l.node)
