@@ -6,4 +6,4 @@ use Rattle.candidate_solver.specs.Questions.{asked}
 use Rattle.candidate_solver.specs.Kept.{EngineState}
 
 abbrev pub beside : SatEngine → Bool → Files → EngineState
-beside engine told files = record { part = engine.part; question = asked engine.question; entries = engine.record.entries; stopped = engine.record.stopped; told = told; files = files }
+beside engine told files = record { part = engine.part; question = asked engine.question; entries = engine.tried.entries; stopped = engine.tried.stopped; told = told; files = files }

@@ -37,12 +37,12 @@ pub struct SatEngine {
     question: Question,
     part: Part,
     checked: bool,
-    record: Record,
+    tried: Record,
     log: Vec<ProofLine>,
     ghost named: { part ≢ part_named.Joined },
-    ghost right: { (x : Candidate) → Contains record.entries (x, settled.Refuted) → IsSolvable (asked question) x → ⊥ },
-    ghost exhausted: { (x : Candidate) → Contains record.entries (x, settled.Unknown) → Exhausted (formula_for (asked question) x) question.limits.conflicts },
-    pub ghost proved: { (before : RecordValue) (x : Candidate) → record.entries ≡ before ++ (x, settled.Refuted) ∷ [] → Refutes (map Addition log.items) (formula_for (asked question) x) } by { proved-prop record.entries log.items (formula_for (asked question)) },
+    ghost right: { (x : Candidate) → Contains tried.entries (x, settled.Refuted) → IsSolvable (asked question) x → ⊥ },
+    ghost exhausted: { (x : Candidate) → Contains tried.entries (x, settled.Unknown) → Exhausted (formula_for (asked question) x) question.limits.conflicts },
+    pub ghost proved: { (before : RecordValue) (x : Candidate) → tried.entries ≡ before ++ (x, settled.Refuted) ∷ [] → Refutes (map Addition log.items) (formula_for (asked question) x) } by { proved-prop tried.entries log.items (formula_for (asked question)) },
 }
 
 impl SatEngine {
@@ -73,23 +73,23 @@ impl SatEngine {
             question: Question::new(topology, spec, limits)?,
             part,
             checked,
-            record: Record::new(alloc),
+            tried: Record::new(alloc),
             log: Vec::new(alloc),
         })
     }
 
     /// Adds a candidate to the record, for which there is room, and keeps the lines of its search.
     fn note(&mut self, candidate: Candidate, kind: Settled, lines: Vec<ProofLine>)
-        requires room { 0 < self.old.record.room }
+        requires room { 0 < self.old.tried.room }
         requires within { IsWithin (asked self.old.question) candidate }
         requires proved { IsProved (formula_for (asked self.old.question) candidate) self.old.question.limits.conflicts lines.items kind }
-        ensures entries { self.new.record.entries ≡ self.old.record.entries ++ (candidate, kind) ∷ [] }
+        ensures entries { self.new.tried.entries ≡ self.old.tried.entries ++ (candidate, kind) ∷ [] }
         ensures log { self.new.log.items ≡ lines.items }
         ensures question { self.new.question ≡ self.old.question }
         ensures part { self.new.part ≡ self.old.part }
-        ensures stopped { self.new.record.stopped ≡ self.old.record.stopped }
+        ensures stopped { self.new.tried.stopped ≡ self.old.tried.stopped }
     {
-        self.record.note(candidate, kind);
+        self.tried.note(candidate, kind);
         self.log = lines;
     }
 }
@@ -99,9 +99,9 @@ impl EngineView for SatEngine {
 
     ghost question = { λ e. asked e.question };
 
-    ghost entries = { λ e. e.record.entries };
+    ghost entries = { λ e. e.tried.entries };
 
-    ghost stopped = { λ e. e.record.stopped };
+    ghost stopped = { λ e. e.tried.stopped };
 
     ghost log_lines = { λ e. e.log.items };
 
@@ -134,8 +134,8 @@ impl<H: Shelf> Engine<H> for SatEngine {
     ghost moves = { λ a r b s. KeptMoves (beside a (H.tells r) (H.file r)) (beside b (H.tells s) (H.file s)) };
 
     fn settle(&mut self, store: &mut H, candidate: Candidate) -> Result<Outcome, EngineFault> {
-        self.record.prepare(candidate)?;
-        let alloc = self.record.allocator();
+        self.tried.prepare(candidate)?;
+        let alloc = self.tried.allocator();
         match try_candidate(
             alloc,
             &self.question,
@@ -149,7 +149,7 @@ impl<H: Shelf> Engine<H> for SatEngine {
                 Ok(outcome)
             }
             Err(fault) => {
-                self.record.stop(candidate);
+                self.tried.stop(candidate);
                 Err(fault)
             }
         }

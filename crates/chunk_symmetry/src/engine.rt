@@ -32,11 +32,11 @@ use std::alloc::Global;
 #[derive(Drop)]
 pub struct OrderedEngine {
     question: Question,
-    record: Record,
+    tried: Record,
     log: Vec<ProofLine>,
-    ghost right: { (x : Candidate) → Contains record.entries (x, settled.Refuted) → IsSolvable (asked question) x → ⊥ },
-    ghost exhausted: { (x : Candidate) → Contains record.entries (x, settled.Unknown) → Exhausted (ordered_formula_for (asked question) x) question.limits.conflicts },
-    pub ghost proved: { (before : RecordValue) (x : Candidate) → record.entries ≡ before ++ (x, settled.Refuted) ∷ [] → Refutes (map Addition log.items) (ordered_formula_for (asked question) x) } by { proved-prop record.entries log.items (ordered_formula_for (asked question)) },
+    ghost right: { (x : Candidate) → Contains tried.entries (x, settled.Refuted) → IsSolvable (asked question) x → ⊥ },
+    ghost exhausted: { (x : Candidate) → Contains tried.entries (x, settled.Unknown) → Exhausted (ordered_formula_for (asked question) x) question.limits.conflicts },
+    pub ghost proved: { (before : RecordValue) (x : Candidate) → tried.entries ≡ before ++ (x, settled.Refuted) ∷ [] → Refutes (map Addition log.items) (ordered_formula_for (asked question) x) } by { proved-prop tried.entries log.items (ordered_formula_for (asked question)) },
 }
 
 impl OrderedEngine {
@@ -60,22 +60,22 @@ impl OrderedEngine {
     {
         Ok(OrderedEngine {
             question: Question::new(topology, spec, limits)?,
-            record: Record::new(alloc),
+            tried: Record::new(alloc),
             log: Vec::new(alloc),
         })
     }
 
     /// Adds a candidate to the record, for which there is room, and keeps the lines of its search.
     fn note(&mut self, candidate: Candidate, kind: Settled, lines: Vec<ProofLine>)
-        requires room { 0 < self.old.record.room }
+        requires room { 0 < self.old.tried.room }
         requires within { IsWithin (asked self.old.question) candidate }
         requires proved { IsProved (ordered_formula_for (asked self.old.question) candidate) self.old.question.limits.conflicts lines.items kind }
-        ensures entries { self.new.record.entries ≡ self.old.record.entries ++ (candidate, kind) ∷ [] }
+        ensures entries { self.new.tried.entries ≡ self.old.tried.entries ++ (candidate, kind) ∷ [] }
         ensures log { self.new.log.items ≡ lines.items }
         ensures question { self.new.question ≡ self.old.question }
-        ensures stopped { self.new.record.stopped ≡ self.old.record.stopped }
+        ensures stopped { self.new.tried.stopped ≡ self.old.tried.stopped }
     {
-        self.record.note(candidate, kind);
+        self.tried.note(candidate, kind);
         self.log = lines;
     }
 }
@@ -85,9 +85,9 @@ impl EngineView for OrderedEngine {
 
     ghost question = { λ e. asked e.question };
 
-    ghost entries = { λ e. e.record.entries };
+    ghost entries = { λ e. e.tried.entries };
 
-    ghost stopped = { λ e. e.record.stopped };
+    ghost stopped = { λ e. e.tried.stopped };
 
     ghost log_lines = { λ e. e.log.items };
 
@@ -118,15 +118,15 @@ impl<T> Engine<T> for OrderedEngine {
     ghost moves = { λ _ before _ now. now ≡ before };
 
     fn settle(&mut self, store: &mut T, candidate: Candidate) -> Result<Outcome, EngineFault> {
-        self.record.prepare(candidate)?;
-        let alloc = self.record.allocator();
+        self.tried.prepare(candidate)?;
+        let alloc = self.tried.allocator();
         match try_candidate(alloc, &self.question, candidate) {
             Ok(Attempt { outcome, lines }) => {
                 self.note(candidate, Settled::of(&outcome), lines);
                 Ok(outcome)
             }
             Err(_) => {
-                self.record.stop(candidate);
+                self.tried.stop(candidate);
                 Err(EngineFault::OutOfMemory)
             }
         }

@@ -6,10 +6,10 @@ use Rattle.candidate_order.specs.declared.candidate.Candidate.{Candidate}
 use Rattle.candidate_order.specs.Frontiers.{QuestionValue, FrontierValue, IsWithin}
 use Rattle.candidate_formula.specs.Formulas.{formula_for}
 use Rattle.outer_ports.specs.declared.part.Part.{Part}
-use Rattle.outer_ports.specs.declared.proof_name.FileKind.TheVariants.{Cnf, Lrat}
-use Rattle.candidate_formula.specs.Files.{candidate_of, file_of, FrontierFiles, HasRefutation}
+use Rattle.candidate_formula.specs.Files.{candidate_of, FrontierFiles, HasRefutation}
 use Rattle.candidate_formula.specs.Pruned.{HasOwnFiles, is_cut_away}
 use Rattle.candidate_formula.specs.Begun.{BegunOnly}
+use Rattle.proof_audit.specs.Kept.{KeepsEach}
 use Rattle.topology_text.specs.Value.{NamedTopologyValue}
 use Rattle.report_form.specs.Reports.{WordsValue, ReportValue, parts_of, question_of}
 
@@ -30,16 +30,14 @@ BreaksOff w t =
 
 -- ---- files that are kept
 
--- a candidate whose files refuted it before is refuted, and these files stay
-pub record StaysRefuted (part : Part) (f : FrontierValue) (before after : Files) (x : Candidate) : Type 0 where
-  pub refuted : Contains f.refuted x
-  pub formula : after (file_of Cnf part x) ≡ before (file_of Cnf part x)
-  pub proof : after (file_of Lrat part x) ≡ before (file_of Lrat part x)
-
--- of a part, each candidate that was tried, is not cut away, and was refuted by its files before
-abbrev pub KeepsPart : Part → QuestionValue → FrontierValue → Files → Files → Type 0
-KeepsPart part q f before after = (x : Candidate) → HasOwnFiles q f x → HasRefutation part q before x → StaysRefuted part f before after x
+-- of a part, each candidate that was tried, is not cut away, and was refuted by its files before, is refuted
+abbrev pub TakesUpPart : Part → QuestionValue → FrontierValue → Files → Type 0
+TakesUpPart part q f before = (x : Candidate) → HasOwnFiles q f x → HasRefutation part q before x → Contains f.refuted x
 
 -- of each part of the report
-abbrev pub KeepsProofs : ReportValue → Files → Files → Type 0
-KeepsProofs r before after = All (λ x. KeepsPart x.0 (question_of r.words r.topology x.0) x.1 before after) r.frontiers
+abbrev pub TakesUpProofs : ReportValue → Files → Type 0
+TakesUpProofs r before = All (λ x. TakesUpPart x.0 (question_of r.words r.topology x.0) x.1 before) r.frontiers
+
+-- of each part that the words search, each candidate that its files refuted before has these two files still
+abbrev pub KeepsProofs : WordsValue → NamedTopologyValue → Files → Files → Type 0
+KeepsProofs w t before after = (part : Part) → Contains (parts_of w.collective.kind) part → KeepsEach part (question_of w t part) before after

@@ -13,4 +13,4 @@ below e told files = beside_inner e.inner told files
 
 -- what the engine keeps of it
 pub standing_of : (e : KeptEngine) (told : Bool) (files : Files) → Standing e.kept (below e told files).question (formula_for (below e told files).question) (below e told files).entries (below e told files).stopped e.tried.entries e.tried.stopped
-standing_of e told files = record { among = e.among; stops = e.stops; unsettled = e.unsettled; right = e.right; exhausted = e.exhausted; searches = e.searches }
+standing_of e told files = record { among = e.among; stops = e.stops; right = e.right; exhausted = e.exhausted; searches = e.searches }

@@ -4,22 +4,26 @@ use Rattle.std.specs.Prelude.{All, Contains, IsTrue}
 use Rattle.std.proofs.lemmas.List.Elements.{All-contains, Contains-push_cases, Contains-push}
 use Rattle.list_laws.proofs.Each.{all_contained}
 use Rattle.outer_ports.specs.declared.part.Part.{Part}
+use Rattle.outer_ports.specs.declared.proof_name.FileKind.{FileKind}
+use Rattle.outer_ports.specs.declared.proof_name.FileKind.TheVariants.{Cnf, Lrat}
 use Rattle.outer_ports.specs.Files.{Files}
 use Rattle.outer_ports.specs.Port.{Tells}
 use Rattle.outer_ports.specs.Shelf.{FilesStay}
 use Rattle.candidate_order.specs.declared.candidate.Candidate.{Candidate}
 use Rattle.candidate_order.specs.Frontiers.{QuestionValue}
+use Rattle.cnf_formula.specs.Formulas.{FormulaValue}
 use Rattle.candidate_formula.specs.Formulas.{formula_for}
-use Rattle.candidate_formula.specs.Files.{candidate_of, HasRefutation}
+use Rattle.candidate_formula.specs.Files.{candidate_of, file_of, HasRefutation}
 use Rattle.candidate_formula.proofs.BegunFiles.{begun_trans, begun_weaker}
 use Rattle.engine_rules.specs.declared.settled.Settled.{Settled}
 use Rattle.engine_rules.specs.declared.settled.Settled.TheVariants.{Refuted}
 use Rattle.engine_rules.specs.Outcomes.{RecordValue, IsNew}
 use Rattle.candidate_solver.specs.Kept.{EngineState, HasFiles, KeptAgrees, KeptMoves}
 use Rattle.candidate_solver.specs.Trying.{BeginsOwn}
+use Rattle.proof_audit.specs.Kept.{BothStay, KeepsEach}
 use Rattle.candidate_solver.proofs.Settling.{IsSettled, settled_moves, failed_moves}
 use Rattle.kept_proofs.proofs.Taken.{begins_none}
-use Rattle.kept_proofs.specs.Keeping.{BothStay, IsTakenUp, KeepsAll, KeepingMoves}
+use Rattle.kept_proofs.specs.Keeping.{TakesUpEach, KeepingMoves}
 use Rattle.kept_proofs.specs.Members.{has_entry}
 
 -- ---- one entry more
@@ -55,41 +59,56 @@ agrees_below part q files inner entries among all = all_contained (HasFiles part
     (λ none. absurd (among e.0 e.1 none there))
     (has_entry entries e.0 e.1))
 
+-- ---- what is taken up
+
+takes_none : (part : Part) (q : QuestionValue) (old now : RecordValue) (before : Files) → now ≡ old → TakesUpEach part q old now before
+takes_none part q old now before same x kind there new has = absurd (new kind (subst (λ es. Contains es (x, kind)) same there))
+
+takes_one : (part : Part) (q : QuestionValue) (old now : RecordValue) (before : Files) (x : Candidate) → now ≡ old ++ (x, Refuted) ∷ [] → TakesUpEach part q old now before
+takes_one part q old now before x added y kind there new has =
+    subst (λ z. Contains now (z, Refuted)) (sym (pushed_own old now x Refuted added y kind there new))
+    (subst (λ es. Contains es (x, Refuted)) (sym added) (Contains-push old (x, Refuted)))
+
+takes_searched : (part : Part) (q : QuestionValue) (old now : RecordValue) (before : Files) (x : Candidate) (kind : Settled) → now ≡ old ++ (x, kind) ∷ [] → (HasRefutation part q before x → ⊥) → TakesUpEach part q old now before
+takes_searched part q old now before x kind added lacks y k there new has = absurd (lacks (subst (HasRefutation part q before) (pushed_own old now x kind added y k there new) has))
+
 -- ---- what is kept
 
-pub keeps_none : (part : Part) (q : QuestionValue) (old now : RecordValue) (before after : Files) → now ≡ old → KeepsAll part q old now before after
-keeps_none part q old now before after same x kind there new has = absurd (new kind (subst (λ es. Contains es (x, kind)) same there))
-
-pub keeps_taken : (part : Part) (q : QuestionValue) (old now : RecordValue) (before after : Files) (x : Candidate) → now ≡ old ++ (x, Refuted) ∷ [] → BothStay part x before after → KeepsAll part q old now before after
-keeps_taken part q old now before after x added stay y kind there new has =
-    subst (IsTakenUp part now before after) (sym (pushed_own old now x Refuted added y kind there new))
-    (record { refuted = subst (λ es. Contains es (x, Refuted)) (sym added) (Contains-push old (x, Refuted)); stay = stay })
-
-pub keeps_searched : (part : Part) (q : QuestionValue) (old now : RecordValue) (before after : Files) (x : Candidate) (kind : Settled) → now ≡ old ++ (x, kind) ∷ [] → (HasRefutation part q before x → ⊥) → KeepsAll part q old now before after
-keeps_searched part q old now before after x kind added lacks y k there new has = absurd (lacks (subst (HasRefutation part q before) (pushed_own old now x kind added y k there new) has))
+-- where files of one candidate alone were begun, and the two that refuted it stay, those of each that was refuted do
+keeps_own : (f : FormulaValue) (part : Part) (q : QuestionValue) (x : Candidate) (before after : Files) → BeginsOwn f part x before after → (HasRefutation part q before x → BothStay part x before after) → KeepsEach part q before after
+keeps_own f part q x before after own stay y has = record { formula = stays Cnf (λ both. both.formula); proof = stays Lrat (λ both. both.proof) }
+  where
+    stays : (kind : FileKind) → (BothStay part y before after → after (file_of kind part y) ≡ before (file_of kind part y)) → after (file_of kind part y) ≡ before (file_of kind part y)
+    stays kind file = ⊎_elim
+        (λ same. same)
+        (λ begun. file (subst (λ z. BothStay part z before after) (sym begun.0.of_candidate) (stay (subst (HasRefutation part q before) begun.0.of_candidate has))))
+        (own.each (file_of kind part y))
 
 -- ---- one call
 
 pub failed_keeping : (kept : Bool) (a b : EngineState) (x : Candidate) → b.part ≡ a.part → b.question ≡ a.question → b.entries ≡ a.entries → a.stopped ≡ None → b.stopped ≡ Some x → Tells a.told b.told → (IsTrue b.told → BeginsOwn (formula_for a.question x) a.part x a.files b.files)
-    → KeepingMoves kept kept a b
-failed_keeping kept a b x part question same running failed tells own = record {
+    → (IsTrue kept → IsTrue b.told → HasRefutation a.part a.question a.files x → BothStay a.part x a.files b.files) → KeepingMoves kept kept a b
+failed_keeping kept a b x part question same running failed tells own stay = record {
   moves = failed_moves a b x part question same running failed tells own;
   same = refl;
-  keeps = λ k t. keeps_none a.part a.question a.entries b.entries a.files b.files same;
+  takes = λ k t. takes_none a.part a.question a.entries b.entries a.files same;
+  keeps = λ k t. keeps_own (formula_for a.question x) a.part a.question x a.files b.files (own t) (stay k t);
 }
 
 pub taken_keeping : (kept : Bool) (a b : EngineState) (x : Candidate) → IsSettled a b x Refuted → (IsTrue b.told → BothStay a.part x a.files b.files) → KeepingMoves kept kept a b
 taken_keeping kept a b x settled stay = record {
   moves = settled_moves a b x Refuted settled;
   same = refl;
-  keeps = λ k t. keeps_taken a.part a.question a.entries b.entries a.files b.files x settled.entries (stay t);
+  takes = λ k t. takes_one a.part a.question a.entries b.entries a.files x settled.entries;
+  keeps = λ k t. keeps_own (formula_for a.question x) a.part a.question x a.files b.files (settled.begins t) (λ has. stay t);
 }
 
 pub searched_keeping : (kept : Bool) (a b : EngineState) (x : Candidate) (kind : Settled) → IsSettled a b x kind → (IsTrue kept → IsTrue b.told → HasRefutation a.part a.question a.files x → ⊥) → KeepingMoves kept kept a b
 searched_keeping kept a b x kind settled lacks = record {
   moves = settled_moves a b x kind settled;
   same = refl;
-  keeps = λ k t. keeps_searched a.part a.question a.entries b.entries a.files b.files x kind settled.entries (lacks k t);
+  takes = λ k t. takes_searched a.part a.question a.entries b.entries a.files x kind settled.entries (lacks k t);
+  keeps = λ k t. keeps_own (formula_for a.question x) a.part a.question x a.files b.files (settled.begins t) (λ has. absurd (lacks k t has));
 }
 
 -- what the inner engine began, where no file had changed before it

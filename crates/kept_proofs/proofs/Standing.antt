@@ -15,7 +15,7 @@ use Rattle.candidate_order.specs.Frontiers.{QuestionValue, IsSolvable}
 use Rattle.engine_rules.specs.declared.fault.EngineFault.{EngineFault}
 use Rattle.engine_rules.specs.declared.settled.Settled.{Settled}
 use Rattle.engine_rules.specs.declared.settled.Settled.TheVariants.{Refuted, Unknown}
-use Rattle.engine_rules.specs.Outcomes.{RecordValue, IsNew, SpentOn, kind_of}
+use Rattle.engine_rules.specs.Outcomes.{RecordValue, SpentOn, kind_of}
 use Rattle.candidate_order.specs.declared.outcome.Outcome.{Outcome}
 use Rattle.candidate_order.specs.declared.outcome.Outcome.TheVariants as outcome
 use Rattle.cnf_formula.specs.Lines.{ProofLineValue}
@@ -24,7 +24,6 @@ use Rattle.cnf_formula.specs.Lines.{ProofLineValue}
 pub record Standing (kept : Bool) (q : QuestionValue) (f : Candidate → FormulaValue) (inner : RecordValue) (failed : Option Candidate) (entries : RecordValue) (stopped : Option Candidate) : Type 0 where
   pub among : (x : Candidate) (kind : Settled) → (Contains entries (x, kind) → ⊥) → Contains inner (x, kind) → ⊥
   pub stops : (x : Candidate) → failed ≡ Some x → stopped ≡ Some x
-  pub unsettled : (x : Candidate) → stopped ≡ Some x → IsNew entries x
   pub right : (x : Candidate) → Contains entries (x, Refuted) → IsSolvable q x → ⊥
   pub exhausted : (x : Candidate) → Contains entries (x, Unknown) → Exhausted (f x) q.limits.conflicts
   pub searches : kept ≡ false → inner ≡ entries
@@ -42,11 +41,10 @@ pub failed_there : (stopped : Option Candidate) (x y : Candidate) → stopped �
 failed_there stopped x y at also = let same : Some x ≡ Some y = sym at ∙ also in cc
 
 -- an engine that has settled nothing, and has not failed
-pub stands_new : (kept : Bool) (q : QuestionValue) (f : Candidate → FormulaValue) (inner : RecordValue) (failed : Option Candidate) (entries : RecordValue) (stopped : Option Candidate) → inner ≡ [] → failed ≡ None → entries ≡ [] → stopped ≡ None → Standing kept q f inner failed entries stopped
-stands_new kept q f inner failed entries stopped none_below running none running_on = record {
+pub stands_new : (kept : Bool) (q : QuestionValue) (f : Candidate → FormulaValue) (inner : RecordValue) (failed : Option Candidate) (entries : RecordValue) (stopped : Option Candidate) → inner ≡ [] → failed ≡ None → entries ≡ [] → Standing kept q f inner failed entries stopped
+stands_new kept q f inner failed entries stopped none_below running none = record {
   among = λ x kind lacks there. nothing inner (x, kind) none_below there;
   stops = λ x s. never failed x running s;
-  unsettled = λ x s. never stopped x running_on s;
   right = λ x there solvable. nothing entries (x, Refuted) none there;
   exhausted = λ x there. nothing entries (x, Unknown) none there;
   searches = λ off. none_below ∙ sym none;
@@ -55,11 +53,10 @@ stands_new kept q f inner failed entries stopped none_below running none running
 module _ (kept : Bool) (q : QuestionValue) (f : Candidate → FormulaValue) (inner : RecordValue) (failed : Option Candidate) (entries : RecordValue) (stopped : Option Candidate) (old : Standing kept q f inner failed entries stopped) where
   -- with the same records
   pub stands_still : (p : QuestionValue) (g : Candidate → FormulaValue) (below now : RecordValue) (fails at : Option Candidate) → p ≡ q → ((x : Candidate) → g x ≡ f x) → below ≡ inner → now ≡ entries
-      → ((x : Candidate) → fails ≡ Some x → at ≡ Some x) → ((x : Candidate) → at ≡ Some x → IsNew entries x) → Standing kept p g below fails now at
-  stands_still p g below now fails at asked formula same_below same stops new = record {
+      → ((x : Candidate) → fails ≡ Some x → at ≡ Some x) → Standing kept p g below fails now at
+  stands_still p g below now fails at asked formula same_below same stops = record {
     among = λ x kind none there. old.among x kind (λ c. none (subst (λ es. Contains es (x, kind)) (sym same) c)) (subst (λ es. Contains es (x, kind)) same_below there);
     stops = stops;
-    unsettled = λ x s. subst (λ es. IsNew es x) (sym same) (new x s);
     right = λ x there solvable. old.right x (subst (λ es. Contains es (x, Refuted)) same there) (subst (λ r. IsSolvable r x) asked solvable);
     exhausted = λ x there. subst (λ (r : QuestionValue). Exhausted (g x) r.limits.conflicts) (sym asked) (subst (λ h. Exhausted h q.limits.conflicts) (sym (formula x)) (old.exhausted x (subst (λ es. Contains es (x, Unknown)) same there)));
     searches = λ off. same_below ∙ old.searches off ∙ sym same;
@@ -67,23 +64,22 @@ module _ (kept : Bool) (q : QuestionValue) (f : Candidate → FormulaValue) (inn
 
   -- where the engine is ready for one more
   pub stands_ready : (now : RecordValue) (at : Option Candidate) → now ≡ entries → at ≡ stopped → Standing kept q f inner failed now at
-  stands_ready now at same calm = stands_still q f inner now failed at refl (λ x. refl) refl same (λ x s. calm ∙ old.stops x s) (λ x s. old.unsettled x (sym calm ∙ s))
+  stands_ready now at same calm = stands_still q f inner now failed at refl (λ x. refl) refl same (λ x s. calm ∙ old.stops x s)
 
   -- where it failed at a candidate, and so did the inner one, or not at all
   pub stands_failed : (x : Candidate) (p : QuestionValue) (g : Candidate → FormulaValue) (below now : RecordValue) (fails at : Option Candidate) → p ≡ q → ((y : Candidate) → g y ≡ f y) → below ≡ inner → now ≡ entries
-      → ((y : Candidate) → fails ≡ Some y → y ≡ x) → at ≡ Some x → IsNew entries x → Standing kept p g below fails now at
-  stands_failed x p g below now fails at asked formula same_below same own there new = stands_still p g below now fails at asked formula same_below same
+      → ((y : Candidate) → fails ≡ Some y → y ≡ x) → at ≡ Some x → Standing kept p g below fails now at
+  stands_failed x p g below now fails at asked formula same_below same own there = stands_still p g below now fails at asked formula same_below same
       (λ y s. there ∙ ap Some (sym (own y s)))
-      (λ y s. subst (IsNew entries) (failed_there at x y there s) new)
 
   -- the inner one has not failed where the engine has not
   pub calm_below : stopped ≡ None → (y : Candidate) (x : Candidate) → failed ≡ Some y → y ≡ x
   calm_below running y x s = never stopped y running (old.stops y s)
 
   -- where room for one more was made, or was not
-  pub stands_prepared : {U : Type 0} (x : Candidate) (now : RecordValue) (at : Option Candidate) (made : Result U EngineFault) → now ≡ entries → stopped ≡ None → OnOk made (at ≡ stopped) → OnErr made (at ≡ Some x) → IsNew entries x → Standing kept q f inner failed now at
-  stands_prepared x now at (Ok u) same running ok err new = stands_ready now at same ok
-  stands_prepared x now at (Err fault) same running ok err new = stands_failed x q f inner now failed at refl (λ y. refl) refl same (λ y s. never stopped y running (old.stops y s)) err new
+  pub stands_prepared : {U : Type 0} (x : Candidate) (now : RecordValue) (at : Option Candidate) (made : Result U EngineFault) → now ≡ entries → stopped ≡ None → OnOk made (at ≡ stopped) → OnErr made (at ≡ Some x) → Standing kept q f inner failed now at
+  stands_prepared x now at (Ok u) same running ok err = stands_ready now at same ok
+  stands_prepared x now at (Err fault) same running ok err = stands_failed x q f inner now failed at refl (λ y. refl) refl same (λ y s. never stopped y running (old.stops y s)) err
 
   -- the inner one has not failed either
   pub calm : stopped ≡ None → failed ≡ None
@@ -94,11 +90,10 @@ module _ (kept : Bool) (q : QuestionValue) (f : Candidate → FormulaValue) (inn
       go (Some y) is = never stopped y running (old.stops y is)
 
   -- with one candidate more, that its files refute
-  pub stands_taken : (x : Candidate) (now : RecordValue) (at : Option Candidate) → now ≡ entries ++ (x, Refuted) ∷ [] → (IsSolvable q x → ⊥) → kept ≡ true → failed ≡ None → at ≡ None → Standing kept q f inner failed now at
-  stands_taken x now at added unsolvable on running running_on = record {
+  pub stands_taken : (x : Candidate) (now : RecordValue) (at : Option Candidate) → now ≡ entries ++ (x, Refuted) ∷ [] → (IsSolvable q x → ⊥) → kept ≡ true → failed ≡ None → Standing kept q f inner failed now at
+  stands_taken x now at added unsolvable on running = record {
     among = λ y kind none there. old.among y kind (λ c. none (subst (λ es. Contains es (y, kind)) (sym added) (Contains-append_left entries ((x, Refuted) ∷ []) (y, kind) c))) there;
     stops = λ y s. never failed y running s;
-    unsettled = λ y s. never at y running_on s;
     right = λ y there solvable. ⊎_elim
         (λ c. old.right y c solvable)
         (λ e. unsolvable (subst (IsSolvable q) (sym (ap (λ (p : Candidate × Settled). p.0) e)) solvable))
@@ -112,14 +107,13 @@ module _ (kept : Bool) (q : QuestionValue) (f : Candidate → FormulaValue) (inn
 
   -- with one candidate more, that the inner engine settled
   pub stands_searched : (x : Candidate) (kind : Settled) (p : QuestionValue) (g : Candidate → FormulaValue) (below now : RecordValue) (fails at : Option Candidate) → p ≡ q → ((y : Candidate) → g y ≡ f y) → below ≡ inner ++ (x, kind) ∷ [] → now ≡ entries ++ (x, kind) ∷ []
-      → fails ≡ None → at ≡ None → (kind ≡ Refuted → IsSolvable q x → ⊥) → (kind ≡ Unknown → Exhausted (f x) q.limits.conflicts) → Standing kept p g below fails now at
-  stands_searched x kind p g below now fails at asked formula below_added added running running_on unsolvable spent = record {
+      → fails ≡ None → (kind ≡ Refuted → IsSolvable q x → ⊥) → (kind ≡ Unknown → Exhausted (f x) q.limits.conflicts) → Standing kept p g below fails now at
+  stands_searched x kind p g below now fails at asked formula below_added added running unsolvable spent = record {
     among = λ y k none there. ⊎_elim
         (λ c. old.among y k (λ d. none (subst (λ es. Contains es (y, k)) (sym added) (Contains-append_left entries ((x, kind) ∷ []) (y, k) d))) c)
         (λ e. none (subst (λ es. Contains es (y, k)) (sym added) (subst (Contains (entries ++ (x, kind) ∷ [])) e (Contains-push entries (x, kind)))))
         (Contains-push_cases inner (x, kind) (y, k) (subst (λ es. Contains es (y, k)) below_added there));
     stops = λ y s. never fails y running s;
-    unsettled = λ y s. never at y running_on s;
     right = λ y there solvable. ⊎_elim
         (λ c. old.right y c (subst (λ r. IsSolvable r y) asked solvable))
         (λ e. unsolvable (ap (λ (d : Candidate × Settled). d.1) e) (subst (IsSolvable q) (sym (ap (λ (d : Candidate × Settled). d.0) e)) (subst (λ r. IsSolvable r y) asked solvable)))

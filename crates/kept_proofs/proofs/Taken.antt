@@ -8,11 +8,11 @@ use Rattle.outer_ports.specs.Shelf.{FilesStay, OthersStay}
 use Rattle.cnf_formula.specs.Formulas.{FormulaValue}
 use Rattle.candidate_order.specs.declared.candidate.Candidate.{Candidate}
 use Rattle.candidate_order.specs.Frontiers.{QuestionValue}
-use Rattle.candidate_formula.specs.Files.{file_of, HasRefutation}
+use Rattle.candidate_formula.specs.Files.{file_of, HasRefutation, RefutedFiles}
 use Rattle.candidate_solver.specs.Trying.{BeginsOwn}
 use Rattle.candidate_solver.proofs.Begun.{begins_one, none_begun}
-use Rattle.kept_proofs.specs.Keeping.{BothStay, TakesUp}
-use Rattle.kept_proofs.specs.Laws.{still_refuted}
+use Rattle.proof_audit.specs.Kept.{BothStay}
+use Rattle.proof_audit.proofs.Keeping.{still_refuted}
 
 -- where no file changes, none was begun
 pub begins_none : (f : FormulaValue) (part : Part) (x : Candidate) (before now : Files) → FilesStay before now → BeginsOwn f part x before now
@@ -28,11 +28,11 @@ module _ (part : Part) (x : Candidate) (before middle now : Files) (stay : Files
   pub begins_log : (f : FormulaValue) → BeginsOwn f part x before now
   begins_log f = begins_one f Partial part x before now others_from (inr (none_begun f Partial part x now partial_apart emptied))
 
-  both : BothStay part x before now
+  pub both : BothStay part x before now
   both = record {
     formula = others_from (file_of Cnf part x) (λ e. let k : Cnf ≡ Partial = ap (λ (n : ProofName). n.kind) e in absurd (cc));
     proof = others_from (file_of Lrat part x) (λ e. let k : Lrat ≡ Partial = ap (λ (n : ProofName). n.kind) e in absurd (cc));
   }
 
-  pub takes_up : (q : QuestionValue) → HasRefutation part q before x → TakesUp part q x before now
-  takes_up q has = record { refuted = record { refutation = still_refuted part q before now x both has; no_log = emptied }; stay = both }
+  pub refuted_files : (q : QuestionValue) → HasRefutation part q before x → RefutedFiles part q now x
+  refuted_files q has = record { refutation = still_refuted part q before now x both has; no_log = emptied }

@@ -10,15 +10,14 @@ ghost use Rattle.round_encoding.specs.Candidates.{size_limit};
 ghost use Rattle.candidate_order.specs.declared.candidate.Candidate.{Candidate};
 ghost use Rattle.candidate_order.specs.Copied.{copied_spec};
 ghost use Rattle.candidate_order.specs.Frontiers.{IsSolvable, IsWithin};
-ghost use Rattle.candidate_formula.specs.Files.{HasRefutation};
+ghost use Rattle.candidate_formula.specs.Files.{HasRefutation, RefutedFiles};
 ghost use Rattle.candidate_formula.specs.Formulas.{formula_for, Suits};
 ghost use Rattle.candidate_formula.specs.Sizes.{size_of};
 ghost use Rattle.candidate_solver.specs.Questions.{asked};
 ghost use Rattle.candidate_solver.specs.Trying.{BeginsOwn};
+ghost use Rattle.proof_audit.specs.Kept.{BothStay};
 ghost use Rattle.engine_rules.specs.declared.settled.Settled.{Settled};
 ghost use Rattle.engine_rules.specs.declared.settled.Settled.TheVariants as settled;
-ghost use Rattle.engine_rules.specs.Outcomes.{IsNew};
-ghost use Rattle.kept_proofs.specs.Keeping.{TakesUp};
 
 use crate::judging::take_up;
 use candidate_order::{Candidate, Limits, Outcome};
@@ -43,7 +42,6 @@ pub struct KeptEngine {
     ghost same_question: { ⟦<SatEngine as EngineView>⟧.question inner ≡ asked question },
     ghost among: { (x : Candidate) (kind : Settled) → (Contains tried.entries (x, kind) → ⊥) → Contains (⟦<SatEngine as EngineView>⟧.entries inner) (x, kind) → ⊥ },
     ghost stops: { (x : Candidate) → ⟦<SatEngine as EngineView>⟧.stopped inner ≡ Some x → tried.stopped ≡ Some x },
-    ghost unsettled: { (x : Candidate) → tried.stopped ≡ Some x → IsNew tried.entries x },
     ghost right: { (x : Candidate) → Contains tried.entries (x, settled.Refuted) → IsSolvable (⟦<SatEngine as EngineView>⟧.question inner) x → ⊥ },
     ghost exhausted: { (x : Candidate) → Contains tried.entries (x, settled.Unknown) → Exhausted (⟦<SatEngine as EngineView>⟧.formula inner x) (⟦<SatEngine as EngineView>⟧.question inner).limits.conflicts },
     pub ghost searches: { kept ≡ false → ⟦<SatEngine as EngineView>⟧.entries inner ≡ tried.entries },
@@ -94,7 +92,8 @@ impl KeptEngine {
         ensures told { Tells (H.tells store.old) (H.tells store.new) }
         ensures begins { IsTrue (H.tells store.new) → BeginsOwn (formula_for (⟦<SatEngine as EngineView>⟧.question self.now.inner) candidate) self.now.part candidate (H.file store.old) (H.file store.new) }
         ensures kept { result ≡ Ok true → self.now.kept ≡ true }
-        ensures taken { IsTrue (H.tells store.new) → result ≡ Ok true → TakesUp self.now.part (⟦<SatEngine as EngineView>⟧.question self.now.inner) candidate (H.file store.old) (H.file store.new) }
+        ensures taken { IsTrue (H.tells store.new) → result ≡ Ok true → RefutedFiles self.now.part (⟦<SatEngine as EngineView>⟧.question self.now.inner) (H.file store.new) candidate }
+        ensures stay { IsTrue (H.tells store.new) → BothStay self.now.part candidate (H.file store.old) (H.file store.new) }
         ensures left { IsTrue (H.tells store.new) → result ≡ Ok false → FilesStay (H.file store.old) (H.file store.new) }
         ensures lacks { IsTrue (H.tells store.new) → result ≡ Ok false → self.now.kept ≡ true → HasRefutation self.now.part (⟦<SatEngine as EngineView>⟧.question self.now.inner) (H.file store.old) candidate → ⊥ }
         ensures right { result ≡ Ok true → IsSolvable (⟦<SatEngine as EngineView>⟧.question self.now.inner) candidate → ⊥ }
@@ -174,5 +173,5 @@ impl<H: Shelf> Engine<H> for KeptEngine {
 
     ghost moves_refl = { λ e shelf. KeepingMoves-refl e.kept (beside e (H.tells shelf) (H.file shelf)) };
 
-    ghost moves_trans = { λ a r b s c t first second. KeepingMoves-trans a.kept b.kept c.kept (beside a (H.tells r) (H.file r)) (beside b (H.tells s) (H.file s)) (beside c (H.tells t) (H.file t)) c.unsettled first second };
+    ghost moves_trans = { λ a r b s c t first second. KeepingMoves-trans a.kept b.kept c.kept (beside a (H.tells r) (H.file r)) (beside b (H.tells s) (H.file s)) (beside c (H.tells t) (H.file t)) first second };
 }

@@ -4,11 +4,11 @@ ghost use Rattle.std.specs.Prelude.{◌≡◌, true, false, Ok, IfOk, IsTrue};
 ghost use Rattle.outer_ports.specs.Port.{HasCause, Tells};
 ghost use Rattle.outer_ports.specs.Shelf.{FilesStay};
 ghost use Rattle.candidate_order.specs.Frontiers.{IsSolvable, IsWithin};
-ghost use Rattle.candidate_formula.specs.Files.{HasRefutation};
+ghost use Rattle.candidate_formula.specs.Files.{HasRefutation, RefutedFiles};
 ghost use Rattle.candidate_formula.specs.Formulas.{formula_for};
 ghost use Rattle.candidate_solver.specs.Questions.{asked};
 ghost use Rattle.candidate_solver.specs.Trying.{BeginsOwn};
-ghost use Rattle.kept_proofs.specs.Keeping.{TakesUp};
+ghost use Rattle.proof_audit.specs.Kept.{BothStay};
 ghost use Rattle.kept_proofs.specs.inner.Judged.{stands};
 
 use candidate_formula::{encode_candidate, file_name};
@@ -80,7 +80,7 @@ fn is_refuted<H: Shelf>(
 }
 
 /// Takes up what refutes a candidate on the shelf: where its files do, its log is emptied, and no
-/// other file changes; else none does.
+/// other file changes; else none does. Its formula and its proof stay whatever is answered.
 pub(crate) fn take_up<H: Shelf>(
     alloc: Global,
     question: &Question,
@@ -91,7 +91,8 @@ pub(crate) fn take_up<H: Shelf>(
     requires { IsWithin (asked question.now) candidate }
     ensures told { Tells (H.tells store.old) (H.tells store.new) }
     ensures begins { IsTrue (H.tells store.new) → BeginsOwn (formula_for (asked question.now) candidate) part candidate (H.file store.old) (H.file store.new) }
-    ensures taken { IsTrue (H.tells store.new) → result ≡ Ok true → TakesUp part (asked question.now) candidate (H.file store.old) (H.file store.new) }
+    ensures taken { IsTrue (H.tells store.new) → result ≡ Ok true → RefutedFiles part (asked question.now) (H.file store.new) candidate }
+    ensures stay { IsTrue (H.tells store.new) → BothStay part candidate (H.file store.old) (H.file store.new) }
     ensures left { IsTrue (H.tells store.new) → result ≡ Ok false → FilesStay (H.file store.old) (H.file store.new) }
     ensures lacks { IsTrue (H.tells store.new) → result ≡ Ok false → HasRefutation part (asked question.now) (H.file store.old) candidate → ⊥ }
     ensures right { result ≡ Ok true → IsSolvable (asked question.now) candidate → ⊥ }

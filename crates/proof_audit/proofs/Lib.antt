@@ -5,3 +5,4 @@ pub mod Saying
 pub mod Whole
 pub mod Verdicts
 pub mod Standing
+pub mod Keeping

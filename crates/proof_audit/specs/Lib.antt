@@ -1,4 +1,5 @@
 pub mod Proving
 pub mod Faults
 pub mod Files
+pub mod Kept
 pub mod inner

@@ -1,19 +1,22 @@
 -- Where the search of a part breaks off, so does that of the report.
-use Rattle.std.proofs.Common.{◌≡◌, false, Contains, Result, IfOk, refl, sym, ap, subst}
+use Rattle.std.proofs.Common.{◌≡◌, false, Contains, Result, IfOk, refl, sym, ap, subst, ⊎_elim}
 use Rattle.outer_ports.specs.declared.part.Part.{Part}
+use Rattle.outer_ports.specs.declared.proof_name.FileKind.{FileKind}
+use Rattle.outer_ports.specs.declared.proof_name.FileKind.TheVariants.{Cnf, Lrat}
 use Rattle.outer_ports.specs.Files.{Files}
 use Rattle.schedule.specs.Links.{TopologyValue}
 use Rattle.collective_spec.specs.declared.spec.Spec.{Spec}
 use Rattle.candidate_order.specs.Ranges.{LimitsValue}
 use Rattle.candidate_order.specs.Frontiers.{FrontierValue, IsWithin, QuestionValue}
 use Rattle.candidate_formula.specs.Formulas.{formula_for}
-use Rattle.candidate_formula.specs.Files.{candidate_of}
+use Rattle.candidate_formula.specs.Files.{candidate_of, file_of}
 use Rattle.candidate_formula.specs.Pruned.{is_cut_away}
 use Rattle.candidate_formula.proofs.BegunFiles.{begun_weaker}
+use Rattle.proof_audit.specs.Kept.{BothStay, KeepsEach}
 use Rattle.topology_text.specs.Value.{NamedTopologyValue}
 use Rattle.report_form.specs.Reports.{WordsValue, parts_of, question_of}
 use Rattle.engine_rules.specs.declared.fault.EngineFault.{EngineFault}
-use Rattle.frontier_audit.specs.OwedFiles.{BreaksOff, KeepsPart}
+use Rattle.frontier_audit.specs.OwedFiles.{BreaksOff, KeepsProofs, TakesUpPart}
 use Rattle.report_search.specs.Shelved.{MayHaveBegun}
 
 module _ (w : WordsValue) (t : NamedTopologyValue) where
@@ -38,9 +41,26 @@ module _ (w : WordsValue) (t : NamedTopologyValue) where
       let same : asked ≡ question_of w t part = rw (over, is, within) refl in
       breaks_off part before after among (subst (λ q. MayHaveBegun part q before after) same may)
 
-  pub keeps_for : (part : Part) (links : TopologyValue) (spec : Spec) (limits : LimitsValue) (before after : Files) (r : Result FrontierValue EngineFault) → links ≡ t.topology → spec ≡ (question_of w t part).spec → limits ≡ w.limits
-      → IfOk r (λ f. KeepsPart part (record { topology = links; spec = spec; limits = limits }) f before after) → IfOk r (λ f. KeepsPart part (question_of w t part) f before after)
-  keeps_for part links spec limits before after r over is within keeps =
+  pub takes_for : (part : Part) (links : TopologyValue) (spec : Spec) (limits : LimitsValue) (before : Files) (r : Result FrontierValue EngineFault) → links ≡ t.topology → spec ≡ (question_of w t part).spec → limits ≡ w.limits
+      → IfOk r (λ f. TakesUpPart part (record { topology = links; spec = spec; limits = limits }) f before) → IfOk r (λ f. TakesUpPart part (question_of w t part) f before)
+  takes_for part links spec limits before r over is within takes =
       let asked : QuestionValue = record { topology = links; spec = spec; limits = limits } in
       let same : asked ≡ question_of w t part = rw (over, is, within) refl in
-      subst (λ q. IfOk r (λ f. KeepsPart part q f before after)) same keeps
+      subst (λ q. IfOk r (λ f. TakesUpPart part q f before)) same takes
+
+  -- the files of the other parts stay, so what is kept of the part that was searched is kept of each
+  keeps_parts : (part : Part) (before after : Files) → MayHaveBegun part (question_of w t part) before after → KeepsEach part (question_of w t part) before after → KeepsProofs w t before after
+  keeps_parts part before after may keeps other among x has = record { formula = stays Cnf (λ both. both.formula); proof = stays Lrat (λ both. both.proof) }
+    where
+      searched : other ≡ part → BothStay other x before after
+      searched is = subst (λ p. KeepsEach p (question_of w t p) before after) (sym is) keeps x has
+
+      stays : (kind : FileKind) → (BothStay other x before after → after (file_of kind other x) ≡ before (file_of kind other x)) → after (file_of kind other x) ≡ before (file_of kind other x)
+      stays kind file = ⊎_elim (λ same. same) (λ begun. file (searched begun.0.0)) (may.each (file_of kind other x))
+
+  pub keeps_parts_for : (part : Part) (links : TopologyValue) (spec : Spec) (limits : LimitsValue) (before after : Files) → links ≡ t.topology → spec ≡ (question_of w t part).spec → limits ≡ w.limits
+      → MayHaveBegun part (record { topology = links; spec = spec; limits = limits }) before after → KeepsEach part (record { topology = links; spec = spec; limits = limits }) before after → KeepsProofs w t before after
+  keeps_parts_for part links spec limits before after over is within may keeps =
+      let asked : QuestionValue = record { topology = links; spec = spec; limits = limits } in
+      let same : asked ≡ question_of w t part = rw (over, is, within) refl in
+      keeps_parts part before after (subst (λ q. MayHaveBegun part q before after) same may) (subst (λ q. KeepsEach part q before after) same keeps)

@@ -10,10 +10,12 @@ use Rattle.collective_spec.specs.declared.kind.Kind.TheVariants as kind
 use Rattle.candidate_order.specs.Frontiers.{FrontierValue, PointValue}
 use Rattle.candidate_formula.specs.Files.{candidate_of, file_of, FrontierFiles}
 use Rattle.candidate_formula.specs.Pruned.{HasOwnFiles}
+use Rattle.proof_audit.specs.Kept.{BothStay}
+use Rattle.proof_audit.proofs.Keeping.{keeps_trans, still_refuted}
 use Rattle.topology_text.specs.Value.{NamedTopologyValue}
 use Rattle.report_form.specs.Reports.{WordsValue, ReportValue, IsFrontier, IsReport, question_of}
 use Rattle.frontier_audit.specs.Rights.{IsExhaustedPart, IsRight, IsRightPart, IsSearched, IsSearchedPart, IsSuitedPart, IsUncutPart}
-use Rattle.frontier_audit.specs.OwedFiles.{IsOf, KeepsPart, KeepsProofs, Proves, StaysRefuted}
+use Rattle.frontier_audit.specs.OwedFiles.{IsOf, KeepsProofs, Proves, TakesUpPart, TakesUpProofs}
 use Rattle.frontier_audit.specs.Searches.{IsAsked}
 use Rattle.engine_search.specs.Found.{IsFound}
 use Rattle.report_search.specs.Shelved.{IsShelved, IsUncut}
@@ -22,7 +24,6 @@ use Rattle.report_search.proofs.PartQuestions.{two_parts}
 use Rattle.report_search.proofs.Valid.{valid_frontier}
 use Rattle.report_search.proofs.JoinedPoints.{joined_points, joins_are}
 use Rattle.report_search.proofs.Staying.{files_stay}
-use Rattle.report_search.proofs.Keeping.{refutes_alike}
 
 module _ (w : WordsValue) (t : NamedTopologyValue) (f g : FrontierValue) where
   abbrev report : ReportValue
@@ -84,26 +85,19 @@ module _ (w : WordsValue) (t : NamedTopologyValue) (f g : FrontierValue) where
       stay : (name : ProofName) → name.part ≡ Reduce → after name ≡ middle name
       stay name reduces = second.others name (λ mine. let both : Gather ≡ Reduce = sym mine.0 ∙ reduces in absurd cc)
 
-  -- what refuted before the search of a part refutes behind the search of both
-  pub both_keep : (r : ReportValue) (before middle after : Files) → r ≡ report → IsShelved Reduce (question_of w t Reduce) f before middle → IsShelved Gather (question_of w t Gather) g middle after
-      → KeepsPart Reduce (question_of w t Reduce) f before middle → KeepsPart Gather (question_of w t Gather) g middle after → KeepsProofs r before after
-  both_keep r before middle after same first second keeps keeps_too = subst (λ x. KeepsProofs x before after) (sym same) (two Keeps reduced gathered)
+  -- the first search leaves what refuted candidates of the second part
+  pub both_take : (r : ReportValue) (before middle : Files) → r ≡ report → IsShelved Reduce (question_of w t Reduce) f before middle
+      → TakesUpPart Reduce (question_of w t Reduce) f before → TakesUpPart Gather (question_of w t Gather) g middle → TakesUpProofs r before
+  both_take r before middle same first takes takes_too = subst (λ x. TakesUpProofs x before) (sym same) (two (λ x. TakesUpPart x.0 (question_of w t x.0) x.1 before) takes gathered)
     where
-      Keeps : Part × FrontierValue → Type 0
-      Keeps x = KeepsPart x.0 (question_of w t x.0) x.1 before after
-
-      later : (name : ProofName) → name.part ≡ Reduce → after name ≡ middle name
-      later name reduces = second.others name (λ mine. let both : Gather ≡ Reduce = sym mine.0 ∙ reduces in absurd cc)
-
       sooner : (name : ProofName) → name.part ≡ Gather → middle name ≡ before name
       sooner name gathers = first.others name (λ mine. let both : Reduce ≡ Gather = sym mine.0 ∙ gathers in absurd cc)
 
-      reduced : KeepsPart Reduce (question_of w t Reduce) f before after
-      reduced x mine has =
-          let kept = keeps x mine has in
-          record { refuted = kept.refuted; formula = later (file_of Cnf Reduce x) refl ∙ kept.formula; proof = later (file_of Lrat Reduce x) refl ∙ kept.proof }
-
-      gathered : KeepsPart Gather (question_of w t Gather) g before after
+      gathered : TakesUpPart Gather (question_of w t Gather) g before
       gathered x mine has =
-          let kept = keeps_too x mine (refutes_alike Gather (question_of w t Gather) (question_of w t Gather) before middle x refl (λ k. sooner (file_of k Gather x) refl) has) in
-          record { refuted = kept.refuted; formula = kept.formula ∙ sooner (file_of Cnf Gather x) refl; proof = kept.proof ∙ sooner (file_of Lrat Gather x) refl }
+          let stay : BothStay Gather x before middle = record { formula = sooner (file_of Cnf Gather x) refl; proof = sooner (file_of Lrat Gather x) refl } in
+          takes_too x mine (still_refuted Gather (question_of w t Gather) before middle x stay has)
+
+-- what two searches keep in turn
+pub both_keep : (w : WordsValue) (t : NamedTopologyValue) (before middle after : Files) → KeepsProofs w t before middle → KeepsProofs w t middle after → KeepsProofs w t before after
+both_keep w t before middle after first second part among = keeps_trans part (question_of w t part) before middle after (first part among) (second part among)

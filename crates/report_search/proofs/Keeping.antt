@@ -1,10 +1,8 @@
 -- What refuted candidates before a search refutes them still.
-use Rattle.std.proofs.Common.{◌≡◌, ◌≢◌, ◌⊎◌, inl, inr, [], Contains, refl, sym, ap, subst, ◌∙◌, arith}
+use Rattle.std.proofs.Common.{◌≡◌, ◌≢◌, ◌⊎◌, inl, inr, [], Contains, sym, ap, subst, ◌∙◌, arith}
 use Rattle.std.specs.Prelude.{Bool, true, IsTrue, Some, not}
 use Rattle.std.specs.List.Sorted.{IsPermutation}
 use Rattle.outer_ports.specs.declared.part.Part.{Part}
-use Rattle.outer_ports.specs.declared.proof_name.FileKind.{FileKind}
-use Rattle.outer_ports.specs.declared.proof_name.FileKind.TheVariants.{Cnf, Lrat}
 use Rattle.outer_ports.specs.Files.{Files}
 use Rattle.collective_spec.specs.declared.kind.Kind.TheVariants as kind
 use Rattle.collective_spec.specs.Collectives.{kind_in}
@@ -13,7 +11,7 @@ use Rattle.proof_rules.specs.Refuting.{Refutes}
 use Rattle.lrat_text.specs.Printing.{cnf_text}
 use Rattle.candidate_order.specs.declared.candidate.Candidate.{Candidate}
 use Rattle.candidate_order.specs.Frontiers.{QuestionValue, FrontierValue, IsTried}
-use Rattle.candidate_formula.specs.Files.{file_of, HasRefutation}
+use Rattle.candidate_formula.specs.Files.{HasRefutation}
 use Rattle.candidate_formula.specs.Formulas.{formula_for}
 use Rattle.candidate_formula.specs.Pruned.{HasOwnFiles, is_cut_away}
 use Rattle.candidate_formula.specs.Searched.{searched_question}
@@ -27,17 +25,18 @@ use Rattle.pareto_search.specs.Recorded.{entries_of}
 use Rattle.pareto_search.proofs.Entries.{refuted_there, solved_there, unknown_there}
 use Rattle.engine_search.proofs.Recorded.{was_refuted}
 use Rattle.candidate_solver.specs.Kept.{EngineState}
-use Rattle.kept_proofs.specs.Keeping.{KeepingMoves, KeepsAll}
-use Rattle.frontier_audit.specs.OwedFiles.{KeepsPart, StaysRefuted}
+use Rattle.proof_audit.specs.Kept.{KeepsEach}
+use Rattle.kept_proofs.specs.Keeping.{KeepingMoves, TakesUpEach}
+use Rattle.frontier_audit.specs.OwedFiles.{TakesUpPart}
 use Rattle.report_search.proofs.Recorded.{alike}
 use Rattle.report_search.proofs.Uncut.{cut_in_place, from_filter, tried_below}
 
--- the files refute a candidate of another question whose formula it has, where they stay
-pub refutes_alike : (part : Part) (p q : QuestionValue) (before after : Files) (x : Candidate) → formula_for p x ≡ formula_for q x → ((k : FileKind) → after (file_of k part x) ≡ before (file_of k part x)) → HasRefutation part p before x → HasRefutation part q after x
-refutes_alike part p q before after x same stay has = record {
-  formula = stay Cnf ∙ (has.formula ∙ ap (λ f. Some (cnf_text f)) same);
+-- the files refute a candidate of another question whose formula it has
+refutes_alike : (part : Part) (p q : QuestionValue) (files : Files) (x : Candidate) → formula_for p x ≡ formula_for q x → HasRefutation part p files x → HasRefutation part q files x
+refutes_alike part p q files x same has = record {
+  formula = has.formula ∙ ap (λ f. Some (cnf_text f)) same;
   lines = has.lines;
-  holds = record { bytes = has.holds.bytes; found = stay Lrat ∙ has.holds.found; short = has.holds.short; reads = has.holds.reads };
+  holds = record { bytes = has.holds.bytes; found = has.holds.found; short = has.holds.short; reads = has.holds.reads };
   refutes = subst (Refutes has.lines) same has.refutes;
 }
 
@@ -51,23 +50,28 @@ in_record f entries same x (inr (inr unknown)) = (Unknown, unknown_there f entri
 all_new : (x : Candidate) → IsNew [] x
 all_new x kind at = absurd (omega (arith, at.1))
 
-module _ (q own : QuestionValue) (in_place : own ≡ searched_question q) (single : kind_in q.spec ≢ kind.Allreduce) (sets : Sets) (same : (x : Candidate) → is_cut sets own x ≡ is_cut_away q x) where
-  -- a search that took up what refutes keeps it, as the question that was asked has it
-  pub kept_for : {f : FrontierValue} {part : Part} {entries : RecordValue} {before after : Files} → IsPermutation entries (entries_of (without_cuts sets own f)) → KeepsAll part own [] entries before after → KeepsPart part q f before after
-  kept_for {f} {part} {entries} {before} {after} permuted keeps x own_files has =
-      let below = tried_below q own sets same f x own_files in
-      let entry = in_record (without_cuts sets own f) entries permuted x below in
-      let taken = keeps x entry.0 entry.1 (all_new x) (refutes_alike part q own before before x (sym (alike q own in_place single x)) (λ k. refl) has) in
-      record {
-        refuted = (from_filter (λ y. not (is_cut sets own y)) f.refuted x (was_refuted (without_cuts sets own f) entries permuted x taken.refuted)).0;
-        formula = taken.stay.formula;
-        proof = taken.stay.proof;
-      }
+module _ (q own : QuestionValue) (in_place : own ≡ searched_question q) (single : kind_in q.spec ≢ kind.Allreduce) where
+  -- what is kept of the question that was searched is kept of the one that was asked
+  keeps_for : (part : Part) (before after : Files) → KeepsEach part own before after → KeepsEach part q before after
+  keeps_for part before after keeps x has = keeps x (refutes_alike part q own before x (sym (alike q own in_place single x)) has)
+
+  module _ (sets : Sets) (same : (x : Candidate) → is_cut sets own x ≡ is_cut_away q x) where
+    -- and so what is taken up
+    takes_for : {f : FrontierValue} {part : Part} {entries : RecordValue} {before : Files} → IsPermutation entries (entries_of (without_cuts sets own f)) → TakesUpEach part own [] entries before → TakesUpPart part q f before
+    takes_for {f} {part} {entries} {before} permuted takes x own_files has =
+        let below = tried_below q own sets same f x own_files in
+        let entry = in_record (without_cuts sets own f) entries permuted x below in
+        let taken = takes x entry.0 entry.1 (all_new x) (refutes_alike part q own before x (sym (alike q own in_place single x)) has) in
+        (from_filter (λ y. not (is_cut sets own y)) f.refuted x (was_refuted (without_cuts sets own f) entries permuted x taken)).0
 
 -- as the code has it: by what the engine below changed
-pub keeps_single : (q now : QuestionValue) (before after : EngineState) (f : FrontierValue) (part : Part) (kept later : Bool) (sets : Sets) → before.question ≡ searched_question q → kind_in q.spec ≢ kind.Allreduce → now ≡ before.question → sets ≡ sets_for q.limits.pruning
-    → IsPermutation after.entries (entries_of (without_cuts sets now f)) → before.part ≡ part → before.entries ≡ [] → kept ≡ true → KeepingMoves kept later before after → IsTrue after.told → KeepsPart part q f before.files after.files
-keeps_single q now before after f part kept later sets made single same asked permuted of_part none is_kept moves told =
-    subst (λ p. KeepsPart p q f before.files after.files) of_part
-    (kept_for q before.question made single sets (cut_in_place q before.question sets made asked) (subst (λ p. IsPermutation after.entries (entries_of (without_cuts sets p f))) same permuted)
-    (subst (λ r. KeepsAll before.part before.question r after.entries before.files after.files) none (moves.keeps is_kept told)))
+pub keeps_single : (q : QuestionValue) (before after : EngineState) (part : Part) (kept later : Bool) → before.question ≡ searched_question q → kind_in q.spec ≢ kind.Allreduce → before.part ≡ part → kept ≡ true → KeepingMoves kept later before after → IsTrue after.told → KeepsEach part q before.files after.files
+keeps_single q before after part kept later made single of_part is_kept moves told =
+    subst (λ p. KeepsEach p q before.files after.files) of_part (keeps_for q before.question made single before.part before.files after.files (moves.keeps is_kept told))
+
+pub takes_single : (q now : QuestionValue) (before after : EngineState) (f : FrontierValue) (part : Part) (kept later : Bool) (sets : Sets) → before.question ≡ searched_question q → kind_in q.spec ≢ kind.Allreduce → now ≡ before.question → sets ≡ sets_for q.limits.pruning
+    → IsPermutation after.entries (entries_of (without_cuts sets now f)) → before.part ≡ part → before.entries ≡ [] → kept ≡ true → KeepingMoves kept later before after → IsTrue after.told → TakesUpPart part q f before.files
+takes_single q now before after f part kept later sets made single same asked permuted of_part none is_kept moves told =
+    subst (λ p. TakesUpPart p q f before.files) of_part
+    (takes_for q before.question made single sets (cut_in_place q before.question sets made asked) (subst (λ p. IsPermutation after.entries (entries_of (without_cuts sets p f))) same permuted)
+    (subst (λ r. TakesUpEach before.part before.question r after.entries before.files) none (moves.takes is_kept told)))

@@ -12,7 +12,7 @@ use Rattle.candidate_formula.specs.Pruned.{HasOwnFiles}
 use Rattle.topology_text.specs.Value.{NamedTopologyValue}
 use Rattle.report_form.specs.Reports.{WordsValue, ReportValue, IsFrontier, IsReport, IsJoinedPoint, question_of, whole_report}
 use Rattle.frontier_audit.specs.Rights.{IsExhaustedPart, IsRight, IsRightPart, IsSearched, IsSearchedPart, IsSuitedPart, IsUncutPart}
-use Rattle.frontier_audit.specs.OwedFiles.{IsOf, KeepsPart, KeepsProofs, Proves}
+use Rattle.frontier_audit.specs.OwedFiles.{IsOf, Proves, TakesUpPart, TakesUpProofs}
 use Rattle.frontier_audit.specs.Searches.{IsAsked}
 use Rattle.engine_search.specs.Found.{IsFound}
 use Rattle.report_search.specs.Shelved.{IsShelved, IsUncut}
@@ -66,8 +66,8 @@ module _ (w : WordsValue) (t : NamedTopologyValue) (f : FrontierValue) where
       HasFiles : Part × FrontierValue → Type 0
       HasFiles x = FrontierFiles x.0 (question_of w t x.0) after x.1
 
-  pub whole_keeps : (r : ReportValue) (before after : Files) → r ≡ report → KeepsPart Whole (question_of w t Whole) f before after → KeepsProofs r before after
-  whole_keeps r before after is keeps = subst (λ x. KeepsProofs x before after) (sym is) (All-cons Keeps (Whole, f) [] keeps (All-nil Keeps))
+  pub whole_takes : (r : ReportValue) (before : Files) → r ≡ report → TakesUpPart Whole (question_of w t Whole) f before → TakesUpProofs r before
+  whole_takes r before is takes = subst (λ x. TakesUpProofs x before) (sym is) (All-cons Takes (Whole, f) [] takes (All-nil Takes))
     where
-      Keeps : Part × FrontierValue → Type 0
-      Keeps x = KeepsPart x.0 (question_of w t x.0) x.1 before after
+      Takes : Part × FrontierValue → Type 0
+      Takes x = TakesUpPart x.0 (question_of w t x.0) x.1 before

@@ -2,7 +2,7 @@
 
 ghost use Rattle.std.specs.Prelude.{◌≡◌, true, IfOk, IsTrue};
 ghost use Rattle.outer_ports.specs.Port.{HasCause, Tells};
-ghost use Rattle.frontier_audit.specs.OwedFiles.{BreaksOff, KeepsProofs, Proves};
+ghost use Rattle.frontier_audit.specs.OwedFiles.{BreaksOff, KeepsProofs, Proves, TakesUpProofs};
 ghost use Rattle.frontier_audit.specs.Rights.{IsRight, IsSearched};
 ghost use Rattle.frontier_audit.specs.Searches.{IsAsked};
 
@@ -22,8 +22,8 @@ use topology_text::NamedTopology;
 /// already is not searched, and these files stay.
 ///
 /// The files that prove the report stand on the shelf then, and no other has changed. Where the
-/// search breaks off, it has begun some. [`EngineFault::ShelfFailed`] comes only where the shelf's
-/// count of faults rose.
+/// search breaks off, it has begun some; with `kept` none of those that refuted a candidate before.
+/// [`EngineFault::ShelfFailed`] comes only where the shelf's count of faults rose.
 pub fn search_report<H: Shelf>(
     alloc: Global,
     words: Words,
@@ -39,7 +39,8 @@ pub fn search_report<H: Shelf>(
     ensures searched { IfOk result IsSearched }
     ensures told { Tells (H.tells shelf.old) (H.tells shelf.new) }
     ensures proves { IsTrue (H.tells shelf.new) → IfOk result (λ r. Proves r (H.file shelf.old) (H.file shelf.new)) }
-    ensures keeps { kept ≡ true → IsTrue (H.tells shelf.new) → IfOk result (λ r. KeepsProofs r (H.file shelf.old) (H.file shelf.new)) }
+    ensures takes { kept ≡ true → IsTrue (H.tells shelf.new) → IfOk result (λ r. TakesUpProofs r (H.file shelf.old)) }
+    ensures keeps { kept ≡ true → IsTrue (H.tells shelf.new) → KeepsProofs words topology (H.file shelf.old) (H.file shelf.new) }
     ensures begun { IsTrue (H.tells shelf.new) → BreaksOff words topology (H.file shelf.old) (H.file shelf.new) }
     ensures cause { HasCause EngineFault.ShelfFailed (H.faults shelf.old) (H.faults shelf.new) result }
 {

@@ -5,7 +5,8 @@ ghost use Rattle.outer_ports.specs.Port.{HasCause, Tells};
 ghost use Rattle.collective_spec.specs.Collectives.{IsSpec, kind_in};
 ghost use Rattle.round_encoding.specs.Candidates.{size_limit};
 ghost use Rattle.candidate_formula.specs.Sizes.{size_of};
-ghost use Rattle.frontier_audit.specs.OwedFiles.{KeepsPart};
+ghost use Rattle.proof_audit.specs.Kept.{KeepsEach};
+ghost use Rattle.frontier_audit.specs.OwedFiles.{TakesUpPart};
 ghost use Rattle.engine_search.specs.Found.{IsFound};
 ghost use Rattle.report_search.specs.Shelved.{IsShelved, IsUncut, MayHaveBegun};
 
@@ -21,7 +22,7 @@ use std::alloc::Global;
 
 /// The frontier of a collective over these links. The formulas and the proofs are kept on the shelf
 /// as files of the part. What is cut away is refuted without them; with `kept` a candidate that its
-/// files refute already is not searched, and these stay.
+/// files refute already is not searched, and these stay, also where the search breaks off.
 pub(crate) fn single_frontier<H: Shelf>(
     alloc: Global,
     topology: &Topology,
@@ -40,7 +41,8 @@ pub(crate) fn single_frontier<H: Shelf>(
     ensures uncut { IfOk result (IsUncut (record { topology = topology.now; spec = spec.now; limits = limits })) }
     ensures told { Tells (H.tells shelf.old) (H.tells shelf.new) }
     ensures shelved { IsTrue (H.tells shelf.new) → IfOk result (λ f. IsShelved part (record { topology = topology.now; spec = spec.now; limits = limits }) f (H.file shelf.old) (H.file shelf.new)) }
-    ensures keeps { kept ≡ true → IsTrue (H.tells shelf.new) → IfOk result (λ f. KeepsPart part (record { topology = topology.now; spec = spec.now; limits = limits }) f (H.file shelf.old) (H.file shelf.new)) }
+    ensures takes { kept ≡ true → IsTrue (H.tells shelf.new) → IfOk result (λ f. TakesUpPart part (record { topology = topology.now; spec = spec.now; limits = limits }) f (H.file shelf.old)) }
+    ensures keeps { kept ≡ true → IsTrue (H.tells shelf.new) → KeepsEach part (record { topology = topology.now; spec = spec.now; limits = limits }) (H.file shelf.old) (H.file shelf.new) }
     ensures begun { IsTrue (H.tells shelf.new) → MayHaveBegun part (record { topology = topology.now; spec = spec.now; limits = limits }) (H.file shelf.old) (H.file shelf.new) }
     ensures cause { HasCause EngineFault.ShelfFailed (H.faults shelf.old) (H.faults shelf.new) result }
 {

@@ -3,7 +3,7 @@
 ghost use Rattle.std.specs.Prelude.{◌≡◌, ◌≢◌, true, IfOk, IsTrue};
 ghost use Rattle.outer_ports.specs.Port.{HasCause, Tells};
 ghost use Rattle.report_form.specs.Reports.{question_of, whole_report};
-ghost use Rattle.frontier_audit.specs.OwedFiles.{BreaksOff, KeepsProofs, Proves};
+ghost use Rattle.frontier_audit.specs.OwedFiles.{BreaksOff, KeepsProofs, Proves, TakesUpProofs};
 ghost use Rattle.frontier_audit.specs.Rights.{IsRight, IsSearched};
 ghost use Rattle.frontier_audit.specs.Searches.{IsAsked};
 ghost use Rattle.engine_search.specs.Found.{IsFound};
@@ -35,7 +35,7 @@ fn report_of(
 }
 
 /// The report of a search in one part, with its files on the shelf. Where the search breaks off, it
-/// has begun some.
+/// has begun some; with `kept` none of those that refuted a candidate before.
 pub(crate) fn search_whole<H: Shelf>(
     alloc: Global,
     words: Words,
@@ -52,7 +52,8 @@ pub(crate) fn search_whole<H: Shelf>(
     ensures searched { IfOk result IsSearched }
     ensures told { Tells (H.tells shelf.old) (H.tells shelf.new) }
     ensures proves { IsTrue (H.tells shelf.new) → IfOk result (λ r. Proves r (H.file shelf.old) (H.file shelf.new)) }
-    ensures keeps { kept ≡ true → IsTrue (H.tells shelf.new) → IfOk result (λ r. KeepsProofs r (H.file shelf.old) (H.file shelf.new)) }
+    ensures takes { kept ≡ true → IsTrue (H.tells shelf.new) → IfOk result (λ r. TakesUpProofs r (H.file shelf.old)) }
+    ensures keeps { kept ≡ true → IsTrue (H.tells shelf.new) → KeepsProofs words topology (H.file shelf.old) (H.file shelf.new) }
     ensures begun { IsTrue (H.tells shelf.new) → BreaksOff words topology (H.file shelf.old) (H.file shelf.new) }
     ensures cause { HasCause EngineFault.ShelfFailed (H.faults shelf.old) (H.faults shelf.new) result }
 {

@@ -1,8 +1,10 @@
 -- What answers what is due, step by step.
 use Rattle.std.proofs.Common.{◌≡◌, ℕ, inl, List, Result, Ok, Err, refl, sym, subst, ap}
 use Rattle.text_lines.specs.Check.{◌>>=◌}
+use Rattle.outer_ports.specs.declared.proof_name.FileKind.TheVariants.{Cnf, Lrat}
 use Rattle.outer_ports.specs.Files.{Files}
 use Rattle.outer_ports.specs.Shelf.{FilesStay}
+use Rattle.candidate_formula.specs.Files.{file_of}
 use Rattle.run_rules.specs.declared.status.Status.{Status}
 use Rattle.run_rules.specs.declared.status.Status.TheVariants.{Done}
 use Rattle.run_rules.specs.declared.answer.Answer.{Answer}
@@ -38,7 +40,7 @@ written_as due words text is e = λ files stay. subst (λ d. IsAnswer d files Do
 pub nothing_left_off : (due : Result Task Refusal) (before after : Files) → FilesStay before after → LeavesOff due before after
 nothing_left_off (Err r) before after stay = stay
 nothing_left_off (Ok (Write text)) before after stay = stay
-nothing_left_off (Ok (Synthesise w t kept)) before after stay = record { each = λ name. inl (stay name) }
+nothing_left_off (Ok (Synthesise w t kept)) before after stay = record { begun = record { each = λ name. inl (stay name) }; keeps = λ k part among x has. record { formula = stay (file_of Cnf part x); proof = stay (file_of Lrat part x) } }
 nothing_left_off (Ok (Audit r)) before after stay = stay
 nothing_left_off (Ok (Try n)) before after stay = stay
 nothing_left_off (Ok (Bound w t sets)) before after stay = record { each = λ name. inl (stay name) }

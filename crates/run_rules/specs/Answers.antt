@@ -6,7 +6,7 @@ use Rattle.topology_text.specs.Value.{NamedTopologyValue}
 use Rattle.report_form.specs.Reports.{WordsValue, ReportValue}
 use Rattle.report_form.specs.Spelling.{report_text}
 use Rattle.frontier_audit.specs.Rights.{HasLogs, IsRight, IsSearched}
-use Rattle.frontier_audit.specs.OwedFiles.{BreaksOff, KeepsProofs, Proves}
+use Rattle.frontier_audit.specs.OwedFiles.{BreaksOff, KeepsProofs, Proves, TakesUpProofs}
 use Rattle.frontier_audit.specs.Shelves.{ShelfRight}
 use Rattle.run_rules.specs.declared.status.Status.{Status}
 use Rattle.run_rules.specs.declared.status.Status.TheVariants.{Done}
@@ -19,7 +19,7 @@ use Rattle.run_rules.specs.Bounds.{IsBound}
 use Rattle.run_rules.specs.Orders.{IsOrdered}
 use Rattle.run_rules.specs.Degraded.{IsDegraded}
 
--- a search: the text of one report of these words and this topology, which is right and searched in order, and whose proofs the files are; where proofs are kept, what its files refuted before is refuted by them still; a file that changed is one of its own, and holds the text of the formula, or of lines that are accepted in their turn, or the beginning of such a text
+-- a search: the text of one report of these words and this topology, which is right and searched in order, and whose proofs the files are; where proofs are kept, a candidate that was tried and that its files refuted before is refuted, and what refuted any candidate before stands there still; a file that changed is one of its own, and holds the text of the formula, or of lines that are accepted in their turn, or the beginning of such a text
 pub record IsSearch (w : WordsValue) (t : NamedTopologyValue) (kept : Bool) (files : FilesValue) (status : Status) (text : List ℕ) : Type 0 where
   pub report : ReportValue
   pub words : report.words ≡ w
@@ -28,7 +28,8 @@ pub record IsSearch (w : WordsValue) (t : NamedTopologyValue) (kept : Bool) (fil
   pub searched : IsSearched report
   pub says : Says Done (report_text report) status text
   pub proves : IsTrue files.told → Proves report files.before files.after
-  pub keeps : IsTrue kept → IsTrue files.told → KeepsProofs report files.before files.after
+  pub takes : IsTrue kept → IsTrue files.told → TakesUpProofs report files.before
+  pub keeps : IsTrue kept → IsTrue files.told → KeepsProofs w t files.before files.after
   pub begun : IsTrue files.told → BreaksOff w t files.before files.after
 
 -- what a verified report is, whoever made it: it is right, there is a spent log of each candidate that it calls unknown, and the files prove it
@@ -68,8 +69,13 @@ IsAnswerAlone due status text = (files : FilesValue) → Stay files → IsAnswer
 
 -- ---- what is left where there is no answer
 
--- a search has begun files of its own; of all else every file is as before
+-- a search that broke off has begun files of its own; where proofs are kept, what refuted a candidate before stands there still
+pub record SearchLeaves (w : WordsValue) (t : NamedTopologyValue) (kept : Bool) (before after : Files) : Type 0 where
+  pub begun : BreaksOff w t before after
+  pub keeps : IsTrue kept → KeepsProofs w t before after
+
+-- of a search such files; of all else every file is as before
 abbrev pub LeavesOff : Result Task Refusal → Files → Files → Type 0
-LeavesOff (Ok (Synthesise w t kept)) before after = BreaksOff w t before after
+LeavesOff (Ok (Synthesise w t kept)) before after = SearchLeaves w t kept before after
 LeavesOff (Ok (Bound w t sets)) before after = BreaksOff w t before after
 LeavesOff _ before after = FilesStay before after

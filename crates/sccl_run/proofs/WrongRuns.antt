@@ -82,7 +82,7 @@ lost : (status : Status) → IsEnd (Ok (Synthesise asked_words (family_of Line 2
 lost status (inl end) = not_whole status status end.text end.answer
 lost status (inr (inl cut)) = not_whole status cut.status cut.text cut.answer
 lost status (inr (inr halt)) =
-    elim ((halt.leaves refl).each some_name) [
+    elim ((halt.leaves refl).begun.each some_name) [
       | inl same ↦ none-some _ same
       | inr begun ↦ none-some _ begun.1.stands
     ]

@@ -73,15 +73,15 @@ done_search files_after = record {
   files_after = files_after;
 }
 
--- the search of a broadcast along three nodes, where proofs are kept, ends well beside these files, and leaves these
-abbrev pub kept_search : Files → Files → RunValue
-kept_search files files_after = record {
+-- the search of a broadcast along three nodes, where proofs are kept, ends so beside these files, writes this and leaves these
+abbrev pub kept_search : Status → List ℕ → Files → Files → RunValue
+kept_search status text files files_after = record {
   words = codes "synth" ∷ codes "collective=broadcast" ∷ codes "k=0" ∷ codes "steps=2" ∷ codes "chunks=1" ∷ codes "conflicts=1000" ∷ codes "kept=yes" ∷ [];
-  status = Done;
+  status = status;
   bytes = codes "topology 1\nnodes n0 n1 n2\ngroup 1 n0>n1\ngroup 1 n1>n0\ngroup 1 n1>n2\ngroup 1 n2>n1\n";
   left = [];
   before = [];
-  now = report_text relay_report;
+  now = text;
   files = files;
   files_after = files_after;
 }

@@ -103,10 +103,10 @@ pub fn a_search_with_other_files_is_wrong()
 {}
 
 /// A search that was to keep proofs is not right where it changes a file of a candidate that its
-/// files refuted.
+/// files refuted, however it ended and whatever it wrote.
 pub fn a_search_that_forgets_to_keep_is_wrong()
-    ensures formula { (before after : Files) (a b c : CountValue) → RefuteOneStep before → after (own_file FileKind.Cnf) ≢ before (own_file FileKind.Cnf) → IsRightRun (kept_search before after) a b c → ⊥ }
-    ensures proof { (before after : Files) (a b c : CountValue) → RefuteOneStep before → after (own_file FileKind.Lrat) ≢ before (own_file FileKind.Lrat) → IsRightRun (kept_search before after) a b c → ⊥ }
+    ensures formula { (status : Status) (text : List ℕ) (before after : Files) (a b c : CountValue) → RefuteOneStep before → after (own_file FileKind.Cnf) ≢ before (own_file FileKind.Cnf) → IsRightRun (kept_search status text before after) a b c → ⊥ }
+    ensures proof { (status : Status) (text : List ℕ) (before after : Files) (a b c : CountValue) → RefuteOneStep before → after (own_file FileKind.Lrat) ≢ before (own_file FileKind.Lrat) → IsRightRun (kept_search status text before after) a b c → ⊥ }
 {}
 
 /// A refusal of a text that was not taken from the source is not right, nor is one that leaves

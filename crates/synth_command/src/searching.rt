@@ -3,9 +3,8 @@
 ghost use Rattle.std.specs.Prelude.{◌≡◌, ◌≢◌, ◌≤◌, length, IfOk, IsTrue, OnErr, Err};
 ghost use Rattle.outer_ports.specs.Port.{HasCause, Tells};
 ghost use Rattle.command_words.specs.Commands.{AreSearchWords};
-ghost use Rattle.frontier_audit.specs.OwedFiles.{BreaksOff};
 ghost use Rattle.frontier_audit.specs.Searches.{IsAsked};
-ghost use Rattle.run_rules.specs.Answers.{IsAnswer, IsSearch, LeavesOff};
+ghost use Rattle.run_rules.specs.Answers.{IsAnswer, IsSearch, LeavesOff, SearchLeaves};
 ghost use Rattle.run_rules.specs.Commands.{IsRefusal};
 ghost use Rattle.run_rules.specs.Refusals.{Refusal};
 ghost use Rattle.run_rules.specs.Tasks.{limit, synthesis_asked};
@@ -19,7 +18,7 @@ use std::alloc::Global;
 
 /// Searches, and answers the report. The files that prove it stand on the shelf then; where the
 /// search breaks off, it has begun some. With `kept` a candidate that its files refute is not
-/// searched, and these files stay.
+/// searched, and these files stay, also where it breaks off.
 fn search_answer<H: Shelf>(
     alloc: Global,
     search: Search,
@@ -28,7 +27,7 @@ fn search_answer<H: Shelf>(
 ) -> Result<Answer, Halt>
     requires { IsAsked search.words search.topology }
     ensures answers { IfOk result (λ a. IsSearch search.words search.topology kept (record { told = H.tells shelf.new; before = H.file shelf.old; after = H.file shelf.new }) a.status a.text.items) }
-    ensures begun { IsTrue (H.tells shelf.new) → BreaksOff search.words search.topology (H.file shelf.old) (H.file shelf.new) }
+    ensures leaves { IsTrue (H.tells shelf.new) → SearchLeaves search.words search.topology kept (H.file shelf.old) (H.file shelf.new) }
     ensures done { IfOk result (λ a. a.status ≡ Status.Done) }
     ensures source { result ≢ Err Halt.Source }
     ensures told { Tells (H.tells shelf.old) (H.tells shelf.new) }
@@ -45,7 +44,8 @@ fn search_answer<H: Shelf>(
 /// The answer to the words of a search over a text that came whole: the report, or the refusal of
 /// the text, the root, the size or the chunk counts. The shelf is not looked at before the last of
 /// these; where there is no answer, a search has begun some of its files at most. With `kept` a
-/// candidate that its files refute is not searched, and these files stay.
+/// candidate that its files refute is not searched, and these files stay, also where there is no
+/// answer.
 ///
 /// [`Halt::Shelf`] comes only where the shelf's count of faults rose, and [`Halt::Source`] never.
 pub fn synth_answer<H: Shelf>(

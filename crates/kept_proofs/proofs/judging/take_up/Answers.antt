@@ -3,7 +3,7 @@ use Rattle.outer_ports.specs.Shelf.{OthersStay}
 use Rattle.candidate_order.specs.Frontiers.{QuestionValue}
 use Rattle.candidate_formula.specs.Formulas.{formula_for}
 use Rattle.candidate_solver.specs.Questions.{asked}
-use Rattle.kept_proofs.proofs.Taken.{begins_log, takes_up}
+use Rattle.kept_proofs.proofs.Taken.{begins_log, both, refuted_files}
 use Rattle.kept_proofs.proofs.judging.take_up.Goals as goal
 
 pub returns-clause-begins : goal.returns-clause-begins
@@ -29,7 +29,19 @@ returns-clause-taken g c = λ told e.
     let now = F c.begin.new.self in
     let early = c.begin.ensures.told told in
     let begun = c.in_ok-begin.ensures.begun told in
-    takes_up part x (F c.args.store.now) middle now (c.is_refuted.ensures.stay early)
+    refuted_files part x (F c.args.store.now) middle now (c.is_refuted.ensures.stay early)
     (subst (λ n. OthersStay n middle now) c.file_name.ensures begun.others)
     (subst (λ n. now n ≡ Some []) c.file_name.ensures begun.begun)
     q (c.in_ok-refuted.ensures.has early (ap Ok c.if-not-refuted.false))
+
+pub returns-clause-stay : goal.returns-clause-stay
+returns-clause-stay g c = λ told.
+    let F = g.H.Shelf.file in
+    let part = c.args.part in
+    let x = c.args.candidate in
+    let middle = F c.is_refuted.new.store in
+    let now = F c.begin.new.self in
+    let begun = c.in_ok-begin.ensures.begun told in
+    both part x (F c.args.store.now) middle now (c.is_refuted.ensures.stay (c.begin.ensures.told told))
+    (subst (λ n. OthersStay n middle now) c.file_name.ensures begun.others)
+    (subst (λ n. now n ≡ Some []) c.file_name.ensures begun.begun)

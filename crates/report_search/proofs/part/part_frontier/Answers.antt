@@ -1,4 +1,4 @@
-use Rattle.report_search.proofs.Beginning.{breaks_off_for, keeps_for}
+use Rattle.report_search.proofs.Beginning.{breaks_off_for, keeps_parts_for, takes_for}
 use Rattle.report_search.proofs.PartQuestions.{asked_for}
 use Rattle.report_search.proofs.part.part_frontier.Goals as goal
 
@@ -22,6 +22,10 @@ pub returns-clause-begun : goal.returns-clause-begun
 returns-clause-begun g c = λ told.
     breaks_off_for c.args.words c.args.topology.now c.args.part c.topology-links.result.now c.in_ok-spec.spec c.limits.result _ _ c.topology-links.ensures.topology c.in_ok-spec.ensures c.limits.ensures c.requires.part (c.single_frontier.ensures.begun told)
 
+pub returns-clause-takes : goal.returns-clause-takes
+returns-clause-takes g c = λ kept told.
+    takes_for c.args.words c.args.topology.now c.args.part c.topology-links.result.now c.in_ok-spec.spec c.limits.result _ c.single_frontier.result c.topology-links.ensures.topology c.in_ok-spec.ensures c.limits.ensures (c.single_frontier.ensures.takes kept told)
+
 pub returns-clause-keeps : goal.returns-clause-keeps
 returns-clause-keeps g c = λ kept told.
-    keeps_for c.args.words c.args.topology.now c.args.part c.topology-links.result.now c.in_ok-spec.spec c.limits.result _ _ c.single_frontier.result c.topology-links.ensures.topology c.in_ok-spec.ensures c.limits.ensures (c.single_frontier.ensures.keeps kept told)
+    keeps_parts_for c.args.words c.args.topology.now c.args.part c.topology-links.result.now c.in_ok-spec.spec c.limits.result _ _ c.topology-links.ensures.topology c.in_ok-spec.ensures c.limits.ensures (c.single_frontier.ensures.begun told) (c.single_frontier.ensures.keeps kept told)

@@ -7,7 +7,7 @@ use Rattle.engine_search.proofs.Searched.{made_for}
 use Rattle.engine_search.proofs.Found.{found_with}
 use Rattle.report_search.proofs.Recorded.{alike, begun_for, filed_for}
 use Rattle.report_search.proofs.Uncut.{cut_in_place, reached_uncut, runs_below, shelved_uncut, stays_below, unknown_uncut}
-use Rattle.report_search.proofs.Keeping.{keeps_single}
+use Rattle.report_search.proofs.Keeping.{keeps_single, takes_single}
 use Rattle.report_search.proofs.single.single_frontier.Goals as goal
 
 pub returns-clause-begun : goal.returns-clause-begun
@@ -21,6 +21,13 @@ returns-clause-begun g c =
     begun_for q moves.0.moves made c.requires.single (stays_below engine.sets c.frontier_by.ensures.within c.frontier_by.ensures.same.question engine.kept engine.stops)
     (reached_uncut q own engine.sets _ engine.kept engine.uncut (cut_in_place q own engine.sets (c.frontier_by.ensures.same.question ∙ made) sets))
     (ap (λ e. e.part) c.in_ok-engine.ensures.inner ∙ c.in_ok-inner.ensures.part)
+
+pub returns-clause-keeps : goal.returns-clause-keeps
+returns-clause-keeps g c = λ is_kept told.
+    let q : QuestionValue = record { topology = c.args.topology.now; spec = c.args.spec.now; limits = c.args.limits } in
+    let made = c.in_ok-engine.ensures.same.question ∙ made_for q _ _ c.in_ok-inner.ensures.question c.deref.ensures c.in_ok-links.ensures.links in
+    keeps_single q _ _ c.args.part _ _ made c.requires.single (ap (λ e. e.part) c.in_ok-engine.ensures.inner ∙ c.in_ok-inner.ensures.part)
+    (ap (λ e. e.kept) c.in_ok-engine.ensures.inner ∙ (c.in_ok-inner.ensures.kept ∙ is_kept)) c.frontier_by.ensures.moves.0 told
 
 pub returns-in-Ok-clause-found : goal.returns-in-Ok-clause-found
 returns-in-Ok-clause-found g c =
@@ -49,17 +56,24 @@ returns-in-Ok-clause-shelved g c = λ told.
     let filed = filed_for q moves.0.moves made c.requires.single c.cuts_are_refuted.ensures.inner c.in-Ok.ensures.goes_on.agrees (runs_below engine.stops c.in-Ok.ensures.goes_on.running) (ap (λ e. e.part) c.in_ok-engine.ensures.inner ∙ c.in_ok-inner.ensures.part) told in
     shelved_uncut q own engine.sets (cut_in_place q own engine.sets (c.frontier_by.ensures.same.question ∙ made) sets) c.in-Ok.frontier c.cuts_are_refuted.ensures.points c.cuts_are_refuted.ensures.unknown filed
 
-pub returns-in-Ok-clause-keeps : goal.returns-in-Ok-clause-keeps
-returns-in-Ok-clause-keeps g c = λ is_kept told.
+pub returns-in-Ok-clause-takes : goal.returns-in-Ok-clause-takes
+returns-in-Ok-clause-takes g c = λ is_kept told.
     let q : QuestionValue = record { topology = c.args.topology.now; spec = c.args.spec.now; limits = c.args.limits } in
     let made = c.in_ok-engine.ensures.same.question ∙ made_for q _ _ c.in_ok-inner.ensures.question c.deref.ensures c.in_ok-links.ensures.links in
     let engine = c.frontier_by.new.engine in
     let own : QuestionValue = asked engine.inner.inner.question in
     let moves = c.frontier_by.ensures.moves in
     let sets : engine.sets ≡ sets_for q.limits.pruning = moves.1 ∙ (c.in_ok-engine.ensures.sets ∙ (c.of-sets.ensures ∙ ap sets_for c.pruning.ensures)) in
-    keeps_single q _ _ _ c.in-Ok.frontier c.args.part _ _ engine.sets made c.requires.single c.frontier_by.ensures.same.question sets c.cuts_are_refuted.ensures.inner
+    takes_single q _ _ _ c.in-Ok.frontier c.args.part _ _ engine.sets made c.requires.single c.frontier_by.ensures.same.question sets c.cuts_are_refuted.ensures.inner
     (ap (λ e. e.part) c.in_ok-engine.ensures.inner ∙ c.in_ok-inner.ensures.part) (ap (λ e. e.tried.entries) c.in_ok-engine.ensures.inner ∙ c.in_ok-inner.ensures.entries)
     (ap (λ e. e.kept) c.in_ok-engine.ensures.inner ∙ (c.in_ok-inner.ensures.kept ∙ is_kept)) moves.0 told
+
+pub returns-in-Ok-clause-keeps : goal.returns-in-Ok-clause-keeps
+returns-in-Ok-clause-keeps g c = λ is_kept told.
+    let q : QuestionValue = record { topology = c.args.topology.now; spec = c.args.spec.now; limits = c.args.limits } in
+    let made = c.in_ok-engine.ensures.same.question ∙ made_for q _ _ c.in_ok-inner.ensures.question c.deref.ensures c.in_ok-links.ensures.links in
+    keeps_single q _ _ c.args.part _ _ made c.requires.single (ap (λ e. e.part) c.in_ok-engine.ensures.inner ∙ c.in_ok-inner.ensures.part)
+    (ap (λ e. e.kept) c.in_ok-engine.ensures.inner ∙ (c.in_ok-inner.ensures.kept ∙ is_kept)) c.frontier_by.ensures.moves.0 told
 
 pub returns-in-Ok-clause-begun : goal.returns-in-Ok-clause-begun
 returns-in-Ok-clause-begun g c =

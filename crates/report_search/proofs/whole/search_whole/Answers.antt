@@ -1,4 +1,4 @@
-use Rattle.report_search.proofs.WholeReport.{whole_keeps, whole_proves, whole_right, whole_searched}
+use Rattle.report_search.proofs.WholeReport.{whole_proves, whole_right, whole_searched, whole_takes}
 use Rattle.report_search.proofs.whole.search_whole.Goals as goal
 
 pub returns-clause-right : goal.returns-clause-right
@@ -10,5 +10,5 @@ returns-clause-searched g c = whole_searched c.args.words c.args.topology c.in_o
 pub returns-clause-proves : goal.returns-clause-proves
 returns-clause-proves g c = λ told. whole_proves c.args.words c.args.topology c.in_ok-frontier.frontier c.in_ok-report.report _ _ c.in_ok-report.ensures (c.in_ok-frontier.ensures.shelved told)
 
-pub returns-clause-keeps : goal.returns-clause-keeps
-returns-clause-keeps g c = λ kept told. whole_keeps c.args.words c.args.topology c.in_ok-frontier.frontier c.in_ok-report.report _ _ c.in_ok-report.ensures (c.in_ok-frontier.ensures.keeps kept told)
+pub returns-clause-takes : goal.returns-clause-takes
+returns-clause-takes g c = λ kept told. whole_takes c.args.words c.args.topology c.in_ok-frontier.frontier c.in_ok-report.report _ c.in_ok-report.ensures (c.in_ok-frontier.ensures.takes kept told)

@@ -12,6 +12,10 @@ returns-clause-answers g c =
       searched = found.searched;
       says = record { status = refl; text = c.in_ok-text.ensures };
       proves = found.proves;
-      keeps = found.keeps;
+      takes = found.takes;
+      keeps = c.in_ok-report.ensures.keeps;
       begun = c.in_ok-report.ensures.begun;
     }
+
+pub returns-clause-leaves : goal.returns-clause-leaves
+returns-clause-leaves g c = λ told. record { begun = c.in_ok-report.ensures.begun told; keeps = λ kept. c.in_ok-report.ensures.keeps kept told }

@@ -11,7 +11,7 @@ pub invariant_of-self : goal.invariant_of-self
 invariant_of-self c =
     let e = c.args.self.now in
     let q : QuestionValue = asked e.question in
-    let entries = e.record.entries in
+    let entries = e.tried.entries in
     let now = c.note.new.self.entries in
     let x = c.args.candidate in
     let kind = c.args.kind in

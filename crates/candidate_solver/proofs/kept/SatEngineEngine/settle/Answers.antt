@@ -38,7 +38,7 @@ pub invariant_of-self-in-Ok-1 : goal.invariant_of-self-in-Ok-1
 invariant_of-self-in-Ok-1 g c =
     let e = c.args.self.now in
     let now : RecordValue = c.prepare.new.self.entries in
-    let same : now ≡ e.record.entries = c.prepare.ensures.entries in
+    let same : now ≡ e.tried.entries = c.prepare.ensures.entries in
     record {
       named = e.named;
       right = λ x at. e.right x (subst (λ r. Contains r (x, settled.Refuted)) same at);

@@ -1,9 +1,8 @@
 use Rattle.std.proofs.Common.{refl, sym, subst}
-use Rattle.candidate_formula.specs.Files.{HasRefutation}
+use Rattle.candidate_formula.specs.Files.{HasRefutation, RefutedFiles}
 use Rattle.candidate_formula.specs.Formulas.{formula_for}
 use Rattle.candidate_order.specs.Frontiers.{QuestionValue, IsSolvable, IsWithin}
 use Rattle.candidate_solver.specs.Trying.{BeginsOwn}
-use Rattle.kept_proofs.specs.Keeping.{TakesUp}
 use Rattle.kept_proofs.proofs.Taken.{begins_none}
 use Rattle.kept_proofs.proofs.engine.KeptEngine.take.Goals as goal
 
@@ -21,7 +20,7 @@ returns-clause-begins g c = λ told.
 pub returns-clause-taken : goal.returns-clause-taken
 returns-clause-taken g c = λ told e.
     let F = g.H.Shelf.file in
-    subst (λ (q : QuestionValue). TakesUp c.args.self.now.part q c.args.candidate (F c.args.store.now) (F c.take_up.new.store)) (sym c.args.self.now.same_question) (c.take_up.ensures.taken told e)
+    subst (λ (q : QuestionValue). RefutedFiles c.args.self.now.part q (F c.take_up.new.store) c.args.candidate) (sym c.args.self.now.same_question) (c.take_up.ensures.taken told e)
 
 pub returns-clause-lacks : goal.returns-clause-lacks
 returns-clause-lacks g c = λ told e on has.

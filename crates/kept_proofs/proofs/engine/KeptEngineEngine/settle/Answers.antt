@@ -28,8 +28,8 @@ invariant_of-self g c =
     let s : EngineState = beside_inner e.inner (T store) (F store) in
     let q : QuestionValue = s.question in
     let old = standing_of e (T store) (F store) in
-    let now = stands_prepared e.kept q (formula_for q) s.entries s.stopped e.tried.entries e.tried.stopped old x c.prepare.new.self.entries c.prepare.new.self.stopped c.prepare.result c.prepare.ensures.entries c.requires.running c.prepare.ensures.running c.prepare.ensures.stopped c.requires.fresh in
-    record { same_part = e.same_part; same_question = e.same_question; among = now.among; stops = now.stops; unsettled = now.unsettled; right = now.right; exhausted = now.exhausted; searches = now.searches }
+    let now = stands_prepared e.kept q (formula_for q) s.entries s.stopped e.tried.entries e.tried.stopped old x c.prepare.new.self.entries c.prepare.new.self.stopped c.prepare.result c.prepare.ensures.entries c.requires.running c.prepare.ensures.running c.prepare.ensures.stopped in
+    record { same_part = e.same_part; same_question = e.same_question; among = now.among; stops = now.stops; right = now.right; exhausted = now.exhausted; searches = now.searches }
 
 pub returns-in_err-prepare-clause-same : goal.returns-in_err-prepare-clause-same
 returns-in_err-prepare-clause-same g c = record { question = refl; formula = λ y. refl; suits = λ y schedule. (λ has. has, λ has. has) }
@@ -45,7 +45,7 @@ returns-in_err-prepare-clause-moves g c =
     let q : QuestionValue = s.question in
     let a : EngineState = beside e (T store) (F store) in
     let b : EngineState = record { part = e.part; question = q; entries = c.prepare.new.self.entries; stopped = c.prepare.new.self.stopped; told = T store; files = F store } in
-    failed_keeping e.kept a b x refl refl c.prepare.ensures.entries c.requires.running c.in_err-prepare.ensures.stopped (λ t. t) (λ t. begun_refl)
+    failed_keeping e.kept a b x refl refl c.prepare.ensures.entries c.requires.running c.in_err-prepare.ensures.stopped (λ t. t) (λ t. begun_refl) (λ k t has. record { formula = refl; proof = refl })
 
 -- ---- where the files of the candidate refute it
 
@@ -62,8 +62,8 @@ invariant_of-self-in-Ok-true g c =
     let entry : Candidate × Settled = (x, Refuted) in
     let is : c.take.result ≡ Ok true = c.in-Ok-true.is ∙ ap Ok c.in-Ok-true.field-0-test in
     let now = stands_taken e.kept q (formula_for q) s.entries s.stopped e.tried.entries e.tried.stopped old x c.note.new.self.entries c.note.new.self.stopped (c.note.ensures.entries ∙ ap (λ (r : RecordValue). r ++ entry ∷ []) c.prepare.ensures.entries) (c.take.ensures.right is) (c.take.ensures.kept is)
-    (calm e.kept q (formula_for q) s.entries s.stopped e.tried.entries e.tried.stopped old c.requires.running) (c.note.ensures.stopped ∙ c.in_ok-prepare.ensures.running ∙ c.requires.running) in
-    record { same_part = e.same_part; same_question = e.same_question; among = now.among; stops = now.stops; unsettled = now.unsettled; right = now.right; exhausted = now.exhausted; searches = now.searches }
+    (calm e.kept q (formula_for q) s.entries s.stopped e.tried.entries e.tried.stopped old c.requires.running) in
+    record { same_part = e.same_part; same_question = e.same_question; among = now.among; stops = now.stops; right = now.right; exhausted = now.exhausted; searches = now.searches }
 
 pub returns-in-Ok-true-clause-refuted : goal.returns-in-Ok-true-clause-refuted
 returns-in-Ok-true-clause-refuted g c = λ e. c.take.ensures.right (c.in-Ok-true.is ∙ ap Ok c.in-Ok-true.field-0-test)
@@ -94,7 +94,7 @@ returns-in-Ok-true-clause-moves g c =
       tells = c.take.ensures.told;
       begins = c.take.ensures.begins;
     } in
-    taken_keeping e.kept a b x settled (λ t. (c.take.ensures.taken t is).stay)
+    taken_keeping e.kept a b x settled c.take.ensures.stay
 
 pub returns-in-Ok-true-clause-goes_on : goal.returns-in-Ok-true-clause-goes_on
 returns-in-Ok-true-clause-goes_on g c =
@@ -121,7 +121,7 @@ returns-in-Ok-true-clause-goes_on g c =
     } in
     record {
       running = c.note.ensures.stopped ∙ c.in_ok-prepare.ensures.running ∙ c.requires.running;
-      agrees = settled_agrees a b x Refuted settled c.requires.agrees (λ t. (c.take.ensures.taken t is).refuted);
+      agrees = settled_agrees a b x Refuted settled c.requires.agrees (λ t. c.take.ensures.taken t is);
     }
 
 -- ---- where the other engine is asked
@@ -177,10 +177,10 @@ invariant_of-self-in-Ok g c =
     let now = stands_searched e.kept q (formula_for q) s.entries s.stopped e.tried.entries e.tried.stopped old x kind s2.question (formula_for s2.question) s2.entries c.note-in-Ok.new.self.entries s2.stopped c.note-in-Ok.new.self.stopped c.settle.ensures.same.question c.settle.ensures.same.formula
     (c.in-Ok.ensures.entries ∙ ap (λ (k : Settled). s.entries ++ (x, k) ∷ []) (sym c.of.ensures))
     (c.note-in-Ok.ensures.entries ∙ ap (λ (r : RecordValue). r ++ (x, kind) ∷ []) c.prepare.ensures.entries)
-    c.in-Ok.ensures.goes_on.running (c.note-in-Ok.ensures.stopped ∙ c.in_ok-prepare.ensures.running ∙ c.requires.running)
+    c.in-Ok.ensures.goes_on.running
     (unsolvable_by (IsSolvable q x) out kind c.of.ensures (λ r. c.in-Ok.ensures.refuted (ap Ok r)))
     (exhausted_by (formula_for q x) c.settle.new.self.log.items q.limits.conflicts out kind c.of.ensures (λ n u. c.in-Ok.ensures.unknown n (ap Ok u))) in
-    record { same_part = c.settle.ensures.moves.same_part ∙ e.same_part; same_question = c.settle.ensures.same.question ∙ e.same_question; among = now.among; stops = now.stops; unsettled = now.unsettled; right = now.right; exhausted = now.exhausted; searches = now.searches }
+    record { same_part = c.settle.ensures.moves.same_part ∙ e.same_part; same_question = c.settle.ensures.same.question ∙ e.same_question; among = now.among; stops = now.stops; right = now.right; exhausted = now.exhausted; searches = now.searches }
 
 pub returns-in-Ok-clause-same : goal.returns-in-Ok-clause-same
 returns-in-Ok-clause-same g c = record { question = c.settle.ensures.same.question; formula = c.settle.ensures.same.formula; suits = c.settle.ensures.same.suits }
@@ -266,8 +266,8 @@ invariant_of-self-in-Err-settle g c =
     let s2 : EngineState = beside_inner c.settle.new.self (T end) (F end) in
     let now = stands_failed e.kept q (formula_for q) s.entries s.stopped e.tried.entries e.tried.stopped old x s2.question (formula_for s2.question) s2.entries c.stop.new.self.entries s2.stopped c.stop.new.self.stopped c.settle.ensures.same.question c.settle.ensures.same.formula
     c.in-Err-settle.ensures.kept (c.stop.ensures.entries ∙ c.prepare.ensures.entries)
-    (λ y at. sym (failed_there s2.stopped x y c.in-Err-settle.ensures.stopped at)) c.stop.ensures.stopped c.requires.fresh in
-    record { same_part = c.settle.ensures.moves.same_part ∙ e.same_part; same_question = c.settle.ensures.same.question ∙ e.same_question; among = now.among; stops = now.stops; unsettled = now.unsettled; right = now.right; exhausted = now.exhausted; searches = now.searches }
+    (λ y at. sym (failed_there s2.stopped x y c.in-Err-settle.ensures.stopped at)) c.stop.ensures.stopped in
+    record { same_part = c.settle.ensures.moves.same_part ∙ e.same_part; same_question = c.settle.ensures.same.question ∙ e.same_question; among = now.among; stops = now.stops; right = now.right; exhausted = now.exhausted; searches = now.searches }
 
 pub returns-in-Err-settle-clause-same : goal.returns-in-Err-settle-clause-same
 returns-in-Err-settle-clause-same g c = record { question = c.settle.ensures.same.question; formula = c.settle.ensures.same.formula; suits = c.settle.ensures.same.suits }
@@ -292,6 +292,7 @@ returns-in-Err-settle-clause-moves g c =
     failed_keeping e.kept a b x refl c.settle.ensures.same.question (c.stop.ensures.entries ∙ c.prepare.ensures.entries) c.requires.running c.stop.ensures.stopped (λ t. c.take.ensures.told (moved.tells t))
     (λ t. began_behind e.part (F store) s1 s2 x e.same_part (c.take.ensures.left (moved.tells t) is)
     (began_own s1 s2 x moved (same_own s.entries s2.entries x c.in-Err-settle.ensures.kept) (λ y at. sym (failed_there s2.stopped x y c.in-Err-settle.ensures.stopped at))) t)
+    (λ k t has. absurd (c.take.ensures.lacks (moved.tells t) is k has))
 
 -- ---- where the files were not judged
 
@@ -306,8 +307,8 @@ invariant_of-self-in-Err g c =
     let q : QuestionValue = s.question in
     let old = standing_of e (T store) (F store) in
     let now = stands_failed e.kept q (formula_for q) s.entries s.stopped e.tried.entries e.tried.stopped old x q (formula_for q) s.entries c.stop-in-Err.new.self.entries s.stopped c.stop-in-Err.new.self.stopped refl (λ y. refl) refl (c.stop-in-Err.ensures.entries ∙ c.prepare.ensures.entries)
-    (λ y at. calm_below e.kept q (formula_for q) s.entries s.stopped e.tried.entries e.tried.stopped old c.requires.running y x at) c.stop-in-Err.ensures.stopped c.requires.fresh in
-    record { same_part = e.same_part; same_question = e.same_question; among = now.among; stops = now.stops; unsettled = now.unsettled; right = now.right; exhausted = now.exhausted; searches = now.searches }
+    (λ y at. calm_below e.kept q (formula_for q) s.entries s.stopped e.tried.entries e.tried.stopped old c.requires.running y x at) c.stop-in-Err.ensures.stopped in
+    record { same_part = e.same_part; same_question = e.same_question; among = now.among; stops = now.stops; right = now.right; exhausted = now.exhausted; searches = now.searches }
 
 pub returns-in-Err-clause-same : goal.returns-in-Err-clause-same
 returns-in-Err-clause-same g c = record { question = refl; formula = λ y. refl; suits = λ y schedule. (λ has. has, λ has. has) }
@@ -324,4 +325,4 @@ returns-in-Err-clause-moves g c =
     let a : EngineState = beside e (T store) (F store) in
     let end = c.take.new.store in
     let b : EngineState = record { part = e.part; question = q; entries = c.stop-in-Err.new.self.entries; stopped = c.stop-in-Err.new.self.stopped; told = T end; files = F end } in
-    failed_keeping e.kept a b x refl refl (c.stop-in-Err.ensures.entries ∙ c.prepare.ensures.entries) c.requires.running c.stop-in-Err.ensures.stopped c.take.ensures.told c.take.ensures.begins
+    failed_keeping e.kept a b x refl refl (c.stop-in-Err.ensures.entries ∙ c.prepare.ensures.entries) c.requires.running c.stop-in-Err.ensures.stopped c.take.ensures.told c.take.ensures.begins (λ k t has. c.take.ensures.stay t)
