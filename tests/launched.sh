@@ -62,7 +62,7 @@ with_program() {
 }
 
 calls() {
-  grep -c "^all" "$STAND_IN/calls"
+  grep -cE "^(ci|all)" "$STAND_IN/calls"
 }
 
 # Each fact that does not hold makes the case fail.
@@ -74,6 +74,7 @@ is_like() { [[ $1 == $2 ]]; }
 is_gone() { ! kill -0 "$1" 2>/dev/null; }
 is_empty() { [[ -z $(ls -A "$1") ]]; }
 is_there() { [[ -e $1 ]]; }
+is_gone_from_disk() { [[ ! -e $1 ]]; }
 
 failed_in_one_line() {
   holds equal "$status" 70
@@ -84,7 +85,7 @@ failed_in_one_line() {
 
 nothing_is_left() {
   holds is_empty "$TMPDIR"
-  holds equal "$(ls -A out | sort | tr '\n' ' ')" "${1-build.log lock sccl sccl.look sccl.names sccl.sums }"
+  holds equal "$(ls -A out | sort | tr '\n' ' ')" "${1-build.log lock sccl sccl.look sccl.sums }"
 }
 
 case_of() {
