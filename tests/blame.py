@@ -127,7 +127,7 @@ WORDS = [
     ("bound sets=listed", 6, 1, None, "word 1, sets=listed: it is no value of its key: sets is all; sccl help bound is"),
     ("synth k=9", 6, 1, None, "word 1, k=9: it is no value of its key: k is 0 to 8; sccl help synth is"),
     ("synth collective=allgahter", 6, 1, None, f"its key: collective is {VALUES['collective']} (is allgather meant?); sccl help synth is"),
-    ("family kind=rign size=4", 6, 1, None, "its key: kind is line, ring, complete, cube or shared (is ring meant?); sccl help family is"),
+    ("family kind=rign size=4", 6, 1, None, f"its key: kind is {VALUES['kind']} (is ring meant?); sccl help family is"),
     ("family kind=ring size=2", 6, 2, None, f"its key: size is {VALUES['size']}; sccl help family is"),
     (f"{SYNTH} root=d", 8, 3, NODES, "a root that is no node of the topology: the nodes are a b c (docs"),
     (f"{SYNTH} root=d", 8, 3, None, "a root that is no node of the topology (docs"),

@@ -208,6 +208,10 @@ FAMILIES = {
     "complete": {it: it * (it - 1) for it in range(1, 17)},
     "shared": {it: it * (it - 1) for it in range(2, 17)},
     "cube": {2: 2, 4: 8, 8: 24, 16: 64},
+    "torus": {9: 36, 12: 48, 16: 64},
+    "mesh": {8: 32},
+    "switch": {it: 2 * it * (it - 1) for it in range(2, 17)},
+    "boxes": {8: 56, 12: 132, 16: 240},
 }
 FAMILY_TEXTS = {
     ("line", 3): LINE_OF_3,
@@ -216,6 +220,20 @@ FAMILY_TEXTS = {
     ("cube", 4): "topology 1\nnodes n0 n1 n2 n3\ngroup 1 n0>n1\ngroup 1 n0>n2\ngroup 1 n1>n0\ngroup 1 n1>n3\ngroup 1 n2>n0\n"
     "group 1 n2>n3\ngroup 1 n3>n1\ngroup 1 n3>n2\n",
     ("shared", 3): "topology 1\nnodes n0 n1 n2\ngroup 1 n0>n1 n0>n2 n1>n0 n1>n2 n2>n0 n2>n1\n",
+    ("torus", 9): "topology 1\nnodes n0 n1 n2 n3 n4 n5 n6 n7 n8\ngroup 1 n0>n1\ngroup 1 n0>n2\ngroup 1 n0>n3\ngroup 1 n0>n6\n"
+    "group 1 n1>n0\ngroup 1 n1>n2\ngroup 1 n1>n4\ngroup 1 n1>n7\ngroup 1 n2>n0\ngroup 1 n2>n1\ngroup 1 n2>n5\n"
+    "group 1 n2>n8\ngroup 1 n3>n0\ngroup 1 n3>n4\ngroup 1 n3>n5\ngroup 1 n3>n6\ngroup 1 n4>n1\ngroup 1 n4>n3\n"
+    "group 1 n4>n5\ngroup 1 n4>n7\ngroup 1 n5>n2\ngroup 1 n5>n3\ngroup 1 n5>n4\ngroup 1 n5>n8\ngroup 1 n6>n0\n"
+    "group 1 n6>n3\ngroup 1 n6>n7\ngroup 1 n6>n8\ngroup 1 n7>n1\ngroup 1 n7>n4\ngroup 1 n7>n6\ngroup 1 n7>n8\n"
+    "group 1 n8>n2\ngroup 1 n8>n5\ngroup 1 n8>n6\ngroup 1 n8>n7\n",
+    ("switch", 3): "topology 1\nnodes n0 n1 n2\ngroup 1 n0>n1 n0>n2\ngroup 1 n1>n0 n1>n2\ngroup 1 n2>n0 n2>n1\ngroup 1 n1>n0 n2>n0\n"
+    "group 1 n0>n1 n2>n1\ngroup 1 n0>n2 n1>n2\n",
+    ("boxes", 8): "topology 1\nnodes n0 n1 n2 n3 n4 n5 n6 n7\ngroup 1 n0>n1\ngroup 1 n0>n2\ngroup 1 n0>n3\ngroup 1 n1>n0\ngroup 1 n1>n2\n"
+    "group 1 n1>n3\ngroup 1 n2>n0\ngroup 1 n2>n1\ngroup 1 n2>n3\ngroup 1 n3>n0\ngroup 1 n3>n1\ngroup 1 n3>n2\n"
+    "group 1 n4>n5\ngroup 1 n4>n6\ngroup 1 n4>n7\ngroup 1 n5>n4\ngroup 1 n5>n6\ngroup 1 n5>n7\ngroup 1 n6>n4\n"
+    "group 1 n6>n5\ngroup 1 n6>n7\ngroup 1 n7>n4\ngroup 1 n7>n5\ngroup 1 n7>n6\n"
+    "group 1 n0>n4 n0>n5 n0>n6 n0>n7 n1>n4 n1>n5 n1>n6 n1>n7 n2>n4 n2>n5 n2>n6 n2>n7 n3>n4 n3>n5 n3>n6 n3>n7\n"
+    "group 1 n4>n0 n4>n1 n4>n2 n4>n3 n5>n0 n5>n1 n5>n2 n5>n3 n6>n0 n6>n1 n6>n2 n6>n3 n7>n0 n7>n1 n7>n2 n7>n3\n",
 }
 
 # Words, all but one of a command: the last within its range, at both ends, and below and above.
@@ -250,6 +268,11 @@ WORDS = [
     ("family kind=cube size=6", 6, 2),
     ("family size=6 kind=cube", 6, 1),
     ("family size=17 kind=cone", 6, 1),
+    ("family kind=torus size=10", 6, 2),
+    ("family kind=mesh size=16", 6, 2),
+    ("family kind=switch size=1", 6, 2),
+    ("family kind=boxes size=4", 6, 2),
+    ("family size=8 kind=box", 6, 1),
     ("synth collective=alltoall k=0 steps=1 chunks=2 conflicts=1000 root=n0", 7, 6),
     ("synth chunks=17", 6, 1),
     # keys with one value, which no other command has

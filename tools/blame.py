@@ -4,10 +4,19 @@ The checks are those of docs/FORMATS.md, made again for one line. What they find
 """
 import json
 import re
-from collections import namedtuple
+from typing import List, NamedTuple, Optional, Tuple
 
-# What is wrong: where in the line it begins (in bytes), how many it has, and what it is.
-Place = namedtuple("Place", "column length what")
+
+class Place(NamedTuple):
+    """What is wrong: where in the line it begins (in bytes), how many it has, and what it is."""
+    column: int
+    length: int
+    what: str
+
+
+# A word of a line with its column, and the code and the place of a fault.
+Word = Tuple[int, str]
+Trouble = Tuple[int, Place]
 NAME = re.compile("[a-z0-9_]{1,16}")
 NUMBER = re.compile("0|[1-9][0-9]*")
 MOST_NODES = 16
@@ -37,7 +46,7 @@ RULES = {
 }
 
 
-def shown_line(status, code, number, text, columns):
+def shown_line(status: int, code: int, number: int, text: bytes, columns: int) -> Tuple[str, str]:
     """What is wrong in the line, and the line with its mark; nothing where the text has no such line."""
     if status == 12:
         return in_json(text, columns) if code == 1 else ("", "")
@@ -52,7 +61,7 @@ def shown_line(status, code, number, text, columns):
     return found.what if found else "", drawn(number, line, found, columns)
 
 
-def place_in(status, code, number, lines, line, is_cut):
+def place_in(status: int, code: int, number: int, lines: List[bytes], line: str, is_cut: bool) -> Optional[Place]:
     shape = code in ((1, 2, 11) if status == 3 else (1, 2))
     if is_cut and code == 2:
         return Place(len(line), 1, "the last line lacks its line feed")
@@ -69,7 +78,7 @@ def place_in(status, code, number, lines, line, is_cut):
     return found
 
 
-def oddity(line):
+def oddity(line: str) -> Optional[Place]:
     """What a text may not have in any line."""
     if line in ("", "\r"):
         return Place(0, 1, "the line is blank")
@@ -85,26 +94,27 @@ def oddity(line):
     return None
 
 
-def names_of(lines):
+def names_of(lines: List[bytes]) -> List[str]:
     """The names of the nodes, by the first line that has them."""
     return next((it.decode("latin-1").rstrip("\r").split(" ")[1:] for it in lines if it.startswith(b"nodes ")), [])
 
 
-def of_code(code, found):
+def of_code(code: int, found: Optional[Trouble]) -> Optional[Place]:
     """The place, where it is the code's."""
     return found[1] if found and found[0] == code else None
 
 
-def words_of(line):
+def words_of(line: str) -> List[Word]:
     """The words of a line, each with its column."""
-    at, found = 0, []
+    at = 0
+    found: List[Word] = []
     for it in line.split(" "):
         found.append((at, it))
         at += len(it) + 1
     return found
 
 
-def trouble(line, number, names):
+def trouble(line: str, number: int, names: List[str]) -> Optional[Trouble]:
     """The code and the place of the first thing that is wrong in a line of a topology."""
     words = words_of(line)
     first = words[0][1]
@@ -116,7 +126,7 @@ def trouble(line, number, names):
     return kinds[first](words, names) if first in kinds else (2, mark(words[0], "due is group, a width and links"))
 
 
-def nodes_trouble(words, _):
+def nodes_trouble(words: List[Word], _: List[str]) -> Optional[Trouble]:
     if len(words) == 1:
         return (11, mark(words[0], "no name follows"))
     for at, it in enumerate(words[1:]):
@@ -129,12 +139,12 @@ def nodes_trouble(words, _):
     return None
 
 
-def group_trouble(words, names):
+def group_trouble(words: List[Word], names: List[str]) -> Optional[Trouble]:
     if len(words) < 3:
         return (2, mark(words[-1], "due is group, a width and at least one link"))
     if not in_range(words[1][1]):
         return (8, mark(words[1], ""))
-    before = []
+    before: List[str] = []
     for column, link in words[2:]:
         ends = link.split(">")
         if len(ends) != 2:
@@ -148,13 +158,13 @@ def group_trouble(words, names):
     return None
 
 
-def custom_trouble(words, _):
+def custom_trouble(words: List[Word], _: List[str]) -> Optional[Trouble]:
     if len(words) != 2:
         return (2, mark(words[-1], "due is custom and a number"))
     return None if in_range(words[1][1]) else (13, mark(words[1], ""))
 
 
-def holders_trouble(words, names):
+def holders_trouble(words: List[Word], names: List[str]) -> Optional[Trouble]:
     if len(words) < 2:
         return (2, mark(words[0], f"due is {words[0][1]}, the chunk's number and names"))
     last = -1
@@ -167,7 +177,7 @@ def holders_trouble(words, names):
     return None
 
 
-def report_shape(line, number, names):
+def report_shape(line: str, number: int, names: List[str]) -> Optional[Place]:
     """What is wrong with the shape of a line of a report."""
     words = words_of(line)
     first = words[0][1]
@@ -178,14 +188,14 @@ def report_shape(line, number, names):
                      "and then cuts=yes and ordered=yes where the search was asked so")
     if first in ("nodes", "group", "custom", "before", "after"):
         found = trouble(line, 0, names)
-        return found and found[1]
+        return found[1] if found else None
     if first not in SHAPES:
         return mark(words[0], "no line of a report begins so")
     return next((it for it in (word_trouble(word, shape, names) for word, shape in zip(words, SHAPES[first][0].split(" "))) if it), None) \
         or whole(line, f"due is {' or '.join(SHAPES[first])}")
 
 
-def word_trouble(word, shape, names):
+def word_trouble(word: Word, shape: str, names: List[str]) -> Optional[Place]:
     if shape in ("FROM", "TO") and word[1] not in names:
         return unknown(word[0], word[1], names)
     if len(shape) > 1 and shape not in ("CHUNK", "STEP") or shape in ("S", "and") and not word[1]:
@@ -193,14 +203,14 @@ def word_trouble(word, shape, names):
     return None if NUMBER.fullmatch(word[1]) and int(word[1]) <= 65535 else mark(word, f"due is a number, {shape}, of at most 65535")
 
 
-def in_json(text, columns):
+def in_json(text: bytes, columns: int) -> Tuple[str, str]:
     """Where Python's reader stops, and that line. (It takes some bytes that the program refuses, and then there is none.)"""
     try:
         json.loads(text.decode("utf-8"))
-    except UnicodeDecodeError as found:
-        start, what = found.start, "a byte that is no UTF-8"
-    except json.JSONDecodeError as found:
-        start, what = len(found.doc[:found.pos].encode("utf-8")), found.msg
+    except UnicodeDecodeError as fault:
+        start, what = fault.start, "a byte that is no UTF-8"
+    except json.JSONDecodeError as stop:
+        start, what = len(stop.doc[:stop.pos].encode("utf-8")), stop.msg
     except RecursionError:
         return "", ""
     else:
@@ -210,28 +220,28 @@ def in_json(text, columns):
     return f"line {number}: {what}", drawn(number, line, Place(start - begin, 1, what), columns)
 
 
-def in_range(word):
+def in_range(word: str) -> bool:
     return bool(re.fullmatch("[1-9]|1[0-6]", word))
 
 
-def mark(word, what):
+def mark(word: Word, what: str) -> Place:
     return Place(word[0], max(1, len(word[1])), what)
 
 
-def whole(line, what):
+def whole(line: str, what: str) -> Place:
     return Place(0, max(1, len(line)), what)
 
 
-def unknown(at, name, names):
+def unknown(at: int, name: str, names: List[str]) -> Place:
     return Place(at, max(1, len(name)), f"{plain(name) or 'nothing'} is none of the nodes {' '.join(map(plain, names))}")
 
 
-def plain(text):
+def plain(text: str) -> str:
     """Text as it may stand on a terminal, byte for byte."""
     return "".join(it if " " <= it <= "~" else "?" for it in text)
 
 
-def drawn(number, line, found, columns):
+def drawn(number: int, line: str, found: Optional[Place], columns: int) -> str:
     """The line, as far as there is room, with its mark."""
     margin = f"  {number} | "
     room = max(20, columns - len(margin) - 1)

@@ -3,6 +3,7 @@ docs/FORMATS.md has to agree.
 """
 import os
 import re
+from typing import Dict, List, Optional, Tuple
 
 import blame
 import words as command_words
@@ -24,7 +25,7 @@ STATUSES = {
 }
 
 # What a place counts, by status, and the section of docs/FORMATS.md that has the codes.
-PLACES = {
+PLACES: Dict[int, Tuple[Optional[str], str]] = {
     2: ("word", "Words of the command line"),
     3: ("line", "Topology"),
     7: ("line", "Report"),
@@ -47,7 +48,7 @@ CODES = {
         7: "a `root`, which the collective does not take",
         8: "a `root` that is no node of the topology",
         9: "a `point` that the report does not have",
-        12: "a `collective` that does not fit the topology: it is `custom` exactly where the topology has a pattern",
+        12: "a `collective` that does not fit the topology: it is `custom` exactly if the topology has a pattern",
         13: "a command that takes no report of an `allreduce`",
         14: "a `group` that the topology does not have",
         15: "a `width` that is not below the group's",
@@ -99,7 +100,7 @@ HELPED = (1, 2, 3, 5, 6)
 MANY = {(2, 3), (2, 5), (3, 1), (3, 2), (3, 11), (7, 1), (7, 2), (7, 3), (12, 1)}
 
 
-def explanation(status, words, output, where, text=None, columns=80):
+def explanation(status: int, words: List[str], output: bytes, where: str, text: Optional[bytes] = None, columns: int = 80) -> str:
     """What a status from 1 on means: a line, and behind it the line that is blamed. `output` is what was written, or how it began,
     `where` says where that stands, and `text` is what was read, or None where that is not at hand."""
     found = LINE.fullmatch(output.decode("latin-1"))
@@ -115,13 +116,13 @@ def explanation(status, words, output, where, text=None, columns=80):
     return said.replace("`", "") + (drawn and f"\n{drawn}")
 
 
-def told(status, code, more):
+def told(status: int, code: int, more: str) -> str:
     """What the code says, and what is wrong in the case at hand: that alone, where the code stands for one of several things."""
     text = re.sub("^line [12]( is|: )", lambda it: "it is" if it[1] == " is" else "", CODES[status][code])
     return more if more and (status, code) in MANY else f"{text}: {more}" if more else text
 
 
-def told_of(status, code, place, words, text, columns):
+def told_of(status: int, code: int, place: str, words: List[str], text: Optional[bytes], columns: int) -> Tuple[str, str]:
     """What is wrong in the case at hand, and the line that is blamed with its mark."""
     if status == 2:
         return command_words.fault(code, int(place), words, text), ""
@@ -132,7 +133,7 @@ def told_of(status, code, place, words, text, columns):
     return "", ""
 
 
-def lacking_files(candidate):
+def lacking_files(candidate: str) -> str:
     """Which files of a candidate are not in the folder."""
     names = [f"proofs/{candidate}.{kind}" for kind in ("cnf", "lrat", "partial")]
     there = [it for it in names if os.path.lexists(it)]
@@ -141,11 +142,11 @@ def lacking_files(candidate):
     return "nothing of it is in the folder proofs here; the files of a report stand where its search ran"
 
 
-def page_for(words):
+def page_for(words: List[str]) -> str:
     return f"sccl help {words[0]}" if words and words[0] in command_words.COMMANDS else "sccl help"
 
 
-def blamed(status, place, words):
+def blamed(status: int, place: str, words: List[str]) -> str:
     """What is refused, in words."""
     what = PLACES[status][0]
     if what != "word":
@@ -155,7 +156,7 @@ def blamed(status, place, words):
     return "behind the last word: " if words else ""
 
 
-def shown(word):
+def shown(word: str) -> str:
     """A word of the command line as it may stand on a terminal."""
     plain = "".join(it if it.isprintable() else "?" for it in word)
     return plain if len(plain) <= 60 else f"{plain[:57]}..."

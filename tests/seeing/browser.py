@@ -20,7 +20,9 @@ for (const point of document.querySelectorAll(".point")) {
     const marked = [...point.querySelectorAll(".column.now")].map(it => it.dataset.column);
     const frame = figure.getBoundingClientRect();
     const inside = [...point.querySelectorAll(".column.now .step")].map(it => it.getBoundingClientRect()).every(it => it.left < frame.right - 20 && it.right > frame.left + 20);
-    seen.slid.push(`${point.id} ${step}: ${visible} ${marked}${inside ? "" : " out of view"}`);
+    const names = point.querySelector(".names"), rows = [...names.querySelectorAll("text")].map(it => it.getBoundingClientRect()), over = [...point.querySelectorAll(".time .name")].map(it => it.getBoundingClientRect());
+    const beside = rows.length === over.length && rows.every((it, place) => Math.abs(it.top - over[place].top) < 1 && it.left >= frame.left && it.right < frame.right && (figure.scrollLeft > 0 || Math.abs(it.left - over[place].left) < 1));
+    seen.slid.push(`${point.id} ${step}: ${visible} ${marked}${inside ? "" : " out of view"}${beside ? "" : " without names"}`);
   }
   for (const it of [...follow.options].map(it => it.value)) {
     follow.value = it;
@@ -116,7 +118,9 @@ def check_chosen(name, chosen, points, count):
         least = min(time(it, size) for _, it in points)
         best = [f"point {number}, {'-'.join(map(str, it))}," for number, it in points if time(it, size) <= least * (1 + 1e-9)]
         count.equal(f"{name}: {alpha}, {bandwidth}, {size}: the fastest", any(it in said for it in best) and said_time(least) in said, True)
-        count.equal(f"{name}: the ranges follow each other", [it[2] for it in ranges], ["0 B", *(it[3] for it in ranges[:-1])])
+        count.equal(f"{name}: the ranges follow each other", [*(it[2] for it in ranges), "any size"], ["0 B", *(it[3] for it in ranges)])
+        named = [[f"point {number}", "-".join(map(str, it))] for number, it in fastest_of(points, time)]
+        count.equal(f"{name}: the points of the ranges", [it[:2] for it in ranges], named)
         for _, candidate, start, to in ranges:
             low, high = bytes_of(start), bytes_of(to)
             middle = (max(low, 1) * high) ** 0.5
@@ -126,11 +130,22 @@ def check_chosen(name, chosen, points, count):
         check_curves(name, ends, axes, time, count)
 
 
+def fastest_of(points, time):
+    """The points that are fastest for some message size, from small sizes on: between two sizes at which curves cross one is."""
+    lines = [(time(it, 0), time(it, 1 << 40) - time(it, 0)) for _, it in points]
+    crossings = sorted({0.0, *((a - c) / (d - b) for a, b in lines for c, d in lines if (d - b) * (a - c) > 0)})
+    sizes = [(one + other) / 2 for one, other in zip(crossings, [*crossings[1:], 2 * crossings[-1] + 1]) if other - one > 1e-12]
+    found = [min(zip(lines, points), key=lambda it: it[0][0] + it[0][1] * size)[1] for size in sizes]
+    return [it for place, it in enumerate(found) if place == 0 or it != found[place - 1]]
+
+
 def check_curves(name, ends, axes, time, count):
     """The ends of each curve against the axes, both of which are logarithmic."""
     from math import log10, log2
     sizes = [(x, log2(bytes_of(said))) for said, x, y in axes if said.endswith("B")]
     times = [(y - 4, log10(seconds_of(said))) for said, x, y in axes if said.endswith("s") and said[0].isdigit()]
+    words = [(said, y > max(it[2] for it in axes if it[0] != said)) for said, _, y in axes if not said[0].isdigit()]
+    count.equal(f"{name}: what stands below the chart", words, [("message size", True)])
     line = lambda places: lambda it: places[0][1] + (it - places[0][0]) * (places[-1][1] - places[0][1]) / (places[-1][0] - places[0][0])
     at_size, at_time = line(sizes), line(times)
     count.equal(f"{name}: sizes go to the right, times go up", (sizes == sorted(sizes), [it for it, _ in times] == sorted((it for it, _ in times), reverse=True)), (True, True))

@@ -25,8 +25,8 @@ def through(places):
     return lambda at: value + (at - first) * each
 
 
-def centre(mark):
-    """The middle of what marks a candidate."""
+def centre(mark, what):
+    """The middle of what marks a candidate of a kind."""
     shapes = [it for it in mark.inner if not isinstance(it, str) and it.name != "title"]
     kind, attributes = shapes[0].name, shapes[0].attributes
     if kind == "circle":
@@ -37,31 +37,36 @@ def centre(mark):
         return float(attributes["x"]), float(attributes["y"]) - 5
     if kind == "path":
         x, y, *_ = numbers(attributes["d"])
-        return x + 5, y + 4
+        return (x, y + 9) if what == "published" else (x + 5, y + 4)
     lines = [[float(it.attributes[key]) for key in ("x1", "x2", "y1", "y2")] for it in shapes]
     return sum(it[0] + it[1] for it in lines) / 2 / len(lines), sum(it[2] + it[3] for it in lines) / 2 / len(lines)
 
 
-SHAPES = {"optimal": "circle", "open": "circle", "joined": "rect", "cut": "path", "carried": "line", "refuted": "line", "unknown": "text"}
+SHAPES = {"optimal": "circle", "open": "circle", "joined": "rect", "cut": "path", "carried": "line", "refuted": "line", "unknown": "text", "published": "path"}
 
 
 def check_chart(name, chart, points, count, floor=None):
     """`points` are the candidates of the points with their marks, in their order; `floor` the two numbers of one that is known."""
     across, up = axes_of(chart)
     count.equal(f"{name}: it is upright", (across(1) > across(0), up(0) > up(1)), (True, True))
-    near = lambda found, wanted: abs(found - wanted) < 0.02 * max(1.0, wanted)
+    near = lambda found, wanted: abs(found - wanted) < 0.5 * (up(0) - up(1))
     seen = {}
     for it in chart.all("g"):
         kind = it.attributes["class"].split(" ")[1]
-        x, y = centre(it)
+        x, y = centre(it, kind)
         for candidate in it.one("title").inner[0].rsplit(": ", 1)[1].split(", "):
             steps, rounds, chunks = map(int, candidate.split("-"))
             place = seen.setdefault((steps, rounds * 720720 // chunks), [])
-            count.equal(f"{name}: the place of {candidate}", (near(across(x - 15 * place.count(None)), steps) or bool(place), near(up(y), rounds / chunks)), (True, True))
+            count.equal(f"{name}: the place of {candidate}", (abs(across(x - 15 * len(place)) - steps) < 0.01 or kind == "published", near(up(y), rounds / chunks)), (True, True))
             count.equal(f"{name}: the shape of {candidate}", next(one.name for one in it.inner if not isinstance(one, str) and one.name != "title"), SHAPES[kind])
-        place.append(x)
+        if kind == "published":
+            count.equal(f"{name}: a published point frames what is at its place", abs(across(x) - steps) < 0.01, True)
+        else:
+            place.append(x)
     for places in seen.values():
         count.equal(f"{name}: marks at one place stand apart", all(b - a >= 12 for a, b in zip(places, places[1:])), True)
+    drawn = [it.attributes["class"] for it in chart.all("line") if it.attributes.get("class") in ("grid", "axis")]
+    count.equal(f"{name}: no line of the grid is over an axis", drawn, sorted(drawn, reverse=True))
     path = next(iter(chart.all("path", class_="stairs")), None)
     count.equal(f"{name}: stairs", stairs_of(path, across, up), wanted_stairs(points))
     lines = [it.attributes for it in chart.all("line", class_="floor")]
@@ -103,6 +108,8 @@ def check_column(name, column, rounds, step, count):
     count.equal(f"{name}: the head of step {step}", said, [f"step {step}", f"{rounds} round{'' if rounds == 1 else 's'}"])
     box = column.one("rect").attributes
     start, wide = float(box["x"]), float(box["width"])
+    arrows = len(list(column.all("g", class_="send")))
+    count.equal(f"{name}: how wide step {step} is", wide, max(200, min(440, max(110 * rounds, 9 * arrows))))
     lines = [float(it.attributes["x1"]) for it in column.all("line", class_="round")]
     wanted = [start + wide * it / rounds for it in range(1, rounds)]
     count.equal(f"{name}: the rounds of step {step}", len(lines) == len(wanted) and all(abs(a - b) < 0.2 for a, b in zip(lines, wanted)), True)
@@ -117,8 +124,8 @@ def check_labels(name, column, count):
     sends = {it.attributes["data-send"]: [float(it.one("line").attributes[key]) for key in ("x1", "y1", "x2", "y2")] for it in column.all("g", class_="send")}
     labels = {it.attributes["data-send"]: it for it in column.all("text", class_="halo")}
     count.equal(f"{name}: labels", sorted(labels), sorted(sends))
-    places = [(float(it.attributes["x"]), float(it.attributes["y"]), 7.5 * len(it.text()) + 4, said) for said, it in labels.items()]
-    hidden = [(one[3], other[3]) for one, other in combinations(places, 2) if abs(one[0] - other[0]) < (one[2] + other[2]) / 2 - 0.2 and abs(one[1] - other[1]) < 12.8]
+    places = [(float(it.attributes["x"]), float(it.attributes["y"]), 8.3 * len(it.text()) + 4, said) for said, it in labels.items()]
+    hidden = [(one[3], other[3]) for one, other in combinations(places, 2) if abs(one[0] - other[0]) < (one[2] + other[2]) / 2 - 0.2 and abs(one[1] - other[1]) < 13.8]
     count.equal(f"{name}: labels hide no other", hidden, [])
     for said, it in labels.items():
         x, y, to_x, to_y = sends[said]

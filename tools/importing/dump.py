@@ -106,7 +106,7 @@ def links_of(accelerators: List[Element]) -> Tuple[Dict[Tuple[int, int], int], L
 
 def cards_of(system: Element, accelerators: List[Element]) -> List[Card]:
     """The network cards. One is the farther from an accelerator the fewer elements have both inside."""
-    found = []
+    found: List[Card] = []
     for it in system.all("net"):
         around = {id(above) for above in it.chain()}
         common = [sum(id(above) in around for above in one.chain()) for one in accelerators]

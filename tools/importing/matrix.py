@@ -52,7 +52,8 @@ def table_of(text: str) -> Tuple[List[str], Rows]:
 
 def cells_of(head: List[str], rows: Rows, place: Dict[str, int]) -> Tuple[Dict[Tuple[str, str], Tuple[int, str]], Dict[str, int]]:
     """What stands in the row of each accelerator below each name of the head, with its line; and the line of each row."""
-    cells, lines = {}, {}
+    cells: Dict[Tuple[str, str], Tuple[int, str]] = {}
+    lines: Dict[str, int] = {}
     for number, (name, *words) in rows:
         if name not in place or name in lines:
             continue

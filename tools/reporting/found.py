@@ -78,7 +78,7 @@ def topology_of(lines: Lines) -> List[str]:
 def report_of(text: bytes, topology: Optional[bytes], has_cuts: bool) -> str:
     """The report of a text, with the topology where the text lacks it. With `has_cuts` its words are those of a search with cuts."""
     lines = Lines(text, "the text")
-    kind = HEADERS[lines.take(*map(re.compile, HEADERS), due="`bound 1`, `ordered 1` or `degraded 1`")[0]]
+    kind = HEADERS[lines.take(*(re.compile(it) for it in HEADERS), due="`bound 1`, `ordered 1` or `degraded 1`")[0]]
     words = lines.take(WORDS, due="the line of the words")
     given = given_topology(lines, kind, topology)
     nodes = given[1].split(" ")[1:]
@@ -118,7 +118,8 @@ def known(lines: Lines, nodes: List[str], names: List[str]) -> None:
 
 def points_of(lines: Lines, nodes: List[str]) -> List[str]:
     """The lines of the points, as they stand."""
-    found, due = [], POINT[:1]
+    found: List[str] = []
+    due: Tuple["re.Pattern[str]", ...] = POINT[:1]
     it = lines.taken(*due)
     while it:
         if it[0].startswith("send"):

@@ -52,7 +52,8 @@ def settled(report: Value, refuted: Dict[str, Set[Candidate]], points: Dict[str,
 
 def part_settled(report: Value, part: Value, refuted: Set[Candidate], points: List[Value]) -> Value:
     """A part of it: points and unknown candidates that a point makes needless are left out."""
-    gone = sorted({*map(tuple, part["refuted"]), *refuted}, key=in_search_order)
+    before: Set[Candidate] = {(s, r, c) for s, r, c in part["refuted"]}
+    gone = sorted(before | refuted, key=in_search_order)
     found: List[Value] = []
     for it in sorted(part["points"] + points, key=lambda it: in_search_order(candidate_of(it))):
         if not any(is_no_worse(candidate_of(other), candidate_of(it)) for other in found):

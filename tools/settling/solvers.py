@@ -9,7 +9,7 @@ import tempfile
 import threading
 import time
 from dataclasses import dataclass
-from typing import List, Optional, Set, Tuple
+from typing import Dict, List, Optional, Set, Tuple
 
 HERE = os.path.dirname(os.path.abspath(__file__))
 # How solvers that are known are told to print a model and to write a proof as text.
@@ -19,6 +19,7 @@ KNOWN = {
     "glucose": "-model -certified -certified-output={proof} {formula}",
 }
 SOLVED, REFUTED = 10, 20
+SAYS: Dict[Optional[int], str] = {SOLVED: "solved", REFUTED: "refuted"}
 
 
 class Unfit(Exception):
@@ -51,7 +52,7 @@ class Solver:
             proof, lrat, model = (os.path.join(room, it) for it in ("proof", "lrat", "model"))
             start = time.monotonic()
             status, output = self.run([it.format(formula=formula, proof=proof) for it in self.words], seconds)
-            answer = Answer({SOLVED: "solved", REFUTED: "refuted"}.get(status, "unknown"), "", time.monotonic() - start)
+            answer = Answer(SAYS.get(status, "unknown"), "", time.monotonic() - start)
             if answer.says == "solved":
                 with open(model, "wb") as file:
                     file.write(b"".join(it + b"\n" for it in output.split(b"\n") if it.startswith(b"v ")))
@@ -153,7 +154,7 @@ def kind_of(proof: str) -> str:
     """Whether a proof is LRAT or DRAT, by its first line."""
     try:
         with open(proof, "rb") as file:
-            first = next((it.split() for it in file if it.strip() and not it.startswith(b"c")), [])
+            first: List[bytes] = next((it.split() for it in file if it.strip() and not it.startswith(b"c")), [])
     except OSError:
         raise Unfit("it wrote no proof: name one that does, with {proof} in --solver") from None
     if not all(it == b"d" or it.lstrip(b"-").isdigit() for it in first):

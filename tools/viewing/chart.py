@@ -1,7 +1,7 @@
 """The frontier as a chart: steps across, rounds for each chunk up."""
 from .svg import element, line, many, picture, short, text, title
 
-WIDTH, HEIGHT, LEFT, RIGHT, TOP, BOTTOM = 600, 340, 56, 24, 20, 46
+WIDTH, HEIGHT, LEFT, RIGHT, TOP, BOTTOM = 600, 340, 56, 24, 24, 46
 RADIUS, APART = 6, 15
 # The width of a letter, at most: in a narrow window letters are larger.
 LETTER = 10
@@ -11,6 +11,8 @@ MEANING = {
     "carried": "carried: refuted before the fault", "refuted": "refuted: no schedule", "unknown": "unknown: given up",
     "published": "published point",
 }
+# How many letters the words of a floor may have, and how long the sign behind them is.
+MOST_LETTERS, SIGN = 48, 30
 POINTS, WITH_A_LINE = ("optimal", "open", "joined"), ("optimal", "open")
 
 
@@ -32,8 +34,6 @@ class Chart:
 
     def axes(self):
         bottom, right = HEIGHT - BOTTOM, WIDTH - RIGHT
-        yield line(LEFT, bottom, right, bottom, class_="axis")
-        yield line(LEFT, TOP, LEFT, bottom, class_="axis")
         for it in range(1, self.steps + 1):
             yield text(self.x(it), bottom + 18, str(it))
         yield text((LEFT + right) / 2, HEIGHT - 8, "steps")
@@ -41,21 +41,23 @@ class Chart:
         for place in range(int(self.most / each) + 1):
             yield line(LEFT, self.y(place * each), right, self.y(place * each), class_="grid")
             yield text(LEFT - 8, self.y(place * each) + 4, f"{place * each:g}", "end")
+        yield line(LEFT, bottom, right, bottom, class_="axis")
+        yield line(LEFT, TOP, LEFT, bottom, class_="axis")
         yield element("text", "rounds for each chunk", x="14", y=short((TOP + bottom) / 2), text_anchor="middle",
                       transform=f"rotate(-90 14 {short((TOP + bottom) / 2)})")
 
     def bound(self):
-        """The line below which no schedule is; without a line, that there is none at all."""
+        """The line below which no schedule is; without a line, that there is none at all. The words stand above the chart, where no
+        mark is."""
         if not self.floor:
             return
         rounds, chunks, names = self.floor
-        by = f", by {' '.join(names)}" if names else ""
+        said, right = f"floor {rounds}/{chunks}" if chunks else "no schedule in any number of rounds", WIDTH - RIGHT
         if chunks:
             at = self.y(rounds / chunks)
-            yield line(LEFT, at, WIDTH - RIGHT, at, class_="floor")
-            yield text(WIDTH - RIGHT, at + 15, f"floor {rounds}/{chunks}{by}", "end", class_="small")
-        else:
-            yield text(WIDTH - RIGHT, TOP - 6, f"no schedule in any number of rounds{by}", "end", class_="small")
+            yield line(LEFT, at, right, at, class_="floor")
+            yield line(right - SIGN, TOP - 14, right, TOP - 14, class_="floor-sign")
+        yield text(right - SIGN - 6 if chunks else right, TOP - 10, with_names(said, names), "end", class_="small")
 
     def stairs(self):
         """The line along the points."""
@@ -67,17 +69,24 @@ class Chart:
         return element("path", d="".join(places), class_="stairs")
 
     def marks(self):
-        """The marks; those of several kinds at one place stand side by side."""
+        """The marks; those of several kinds at one place stand side by side, and one that is published frames the first."""
         places = {}
         for kind, candidate in self.candidates:
             steps, rounds, chunks = candidate
             places.setdefault((steps, rounds / chunks), {}).setdefault(kind, []).append("-".join(map(str, candidate)))
         for (steps, ratio), kinds in places.items():
+            kinds = {**{kind: its for kind, its in kinds.items() if kind != "published"}, **kinds}
             for place, (kind, names) in enumerate(kinds.items()):
-                x, y = self.x(steps) + APART * place, self.y(ratio)
+                x, y = self.x(steps) + (APART * place if kind != "published" else 0), self.y(ratio)
                 yield element("g", title(f"{MEANING[kind]}: {', '.join(names)}"), mark(kind, x, y), class_=f"mark {kind}")
                 if kind in POINTS:
                     yield named(x, y, ", ".join(names))
+
+
+def with_names(said, names):
+    """The words with the nodes of which they are told, or with their number if the names are long."""
+    whole = f"{said}, by {' '.join(names)}" if names else said
+    return whole if len(whole) <= MOST_LETTERS else f"{said}, by {many(len(names), 'node')}"
 
 
 def named(x, y, said):
@@ -107,6 +116,6 @@ def mark(kind, x, y):
 def legend(kinds):
     """The marks of these kinds, with what they mean."""
     return element("p", *(
-        element("span", picture(18, 16, MEANING[it], element("g", mark(it, 9, 8), class_=f"mark {it}"), class_="sign"), " ", MEANING[it])
+        element("span", picture(22, 22, MEANING[it], element("g", mark(it, 11, 11), class_=f"mark {it}"), class_="sign"), " ", MEANING[it])
         for it in MEANING if it in kinds
     ), class_="legend")

@@ -21,7 +21,7 @@ function ranges(points) {
   }
 }
 
-const LEAST = 2 ** 8, MOST = 2 ** 34, WIDE = 600, HIGH = 340, LEFT = 70, RIGHT = 30, TOP = 16, BOTTOM = 46;
+const LEAST = 2 ** 8, MOST = 2 ** 34, WIDE = 600, HIGH = 340, LEFT = 70, RIGHT = 30, TOP = 16, BOTTOM = 46, LETTER = 11;
 const made = (name, attributes, said) => {
   const it = document.createElementNS(document.querySelector("svg").namespaceURI, name);
   for (const key in attributes) it.setAttribute(key, attributes[key]);
@@ -31,7 +31,8 @@ const made = (name, attributes, said) => {
 
 function chart(svg, points, found, bytes) {
   const times = points.flatMap(it => [time(it, LEAST), time(it, MOST)]).filter(it => it > 0);
-  const low = Math.floor(Math.log10(Math.min(...times))), high = Math.ceil(Math.log10(Math.max(...times)) + 1e-9);
+  // Below the lowest curve there is room for its name.
+  const low = Math.floor(Math.log10(Math.min(...times) * 0.4)), high = Math.ceil(Math.log10(Math.max(...times)) + 1e-9);
   const x = size => LEFT + (Math.log2(Math.min(MOST, Math.max(LEAST, size))) - 8) / 26 * (WIDE - LEFT - RIGHT);
   const y = seconds => HIGH - BOTTOM - (Math.log10(Math.max(seconds, 10 ** low)) - low) / Math.max(1, high - low) * (HIGH - TOP - BOTTOM);
   svg.replaceChildren(made("title", {}, svg.getAttribute("aria-label")));
@@ -46,15 +47,19 @@ function chart(svg, points, found, bytes) {
   svg.append(made("text", { x: (LEFT + WIDE) / 2, y: HIGH - 8, "text-anchor": "middle" }, "message size"));
   const along = (point, from, to) => Array.from({ length: 61 }, (_, it) => from * (to / from) ** (it / 60)).map((size, it) => `${it ? "L" : "M"}${x(size).toFixed(1)} ${y(time(point, size)).toFixed(1)}`).join("");
   for (const it of points) svg.append(made("path", { d: along(it, LEAST, MOST), class: "curve", "data-point": it.name }));
+  if (bytes >= LEAST && bytes <= MOST) svg.append(made("line", { x1: x(bytes), x2: x(bytes), y1: TOP, y2: HIGH - BOTTOM, class: "chosen" }));
+  const names = [];
   found.forEach((it, place) => {
     const from = Math.max(LEAST, it.from), to = Math.min(MOST, place + 1 < found.length ? found[place + 1].from : MOST);
     if (from >= to) return;
     const middle = Math.sqrt(from * to);
     svg.append(made("path", { d: along(it.point, from, to), class: "curve fastest", "data-point": it.point.name }));
     if (from > LEAST) svg.append(made("line", { x1: x(from), x2: x(from), y1: TOP, y2: HIGH - BOTTOM, class: "border" }));
-    if (x(to) - x(from) > 40) svg.append(made("text", { x: x(middle), y: y(time(it.point, middle)) - 10, "text-anchor": "middle", class: "named halo" }, it.point.name));
+    // The name stands below its curve, and below all others: of a curve that rises it is the left end that has to have room.
+    const half = LETTER / 2 * it.point.name.length, left = 2 ** (26 * half / (WIDE - LEFT - RIGHT));
+    if (x(to) - x(from) > 2 * half) names.push(made("text", { x: x(middle), y: y(time(it.point, middle / left)) + 20, "text-anchor": "middle", class: "named halo" }, it.point.name));
   });
-  if (bytes >= LEAST && bytes <= MOST) svg.append(made("line", { x1: x(bytes), x2: x(bytes), y1: TOP, y2: HIGH - BOTTOM, class: "chosen" }));
+  svg.append(...names);
 }
 
 for (const chooser of document.querySelectorAll(".chooser")) {

@@ -4,25 +4,52 @@ from .svg import element, line, many, picture, short, text, title
 ROW, TOP, BETWEEN = 44, 44, 16
 # The width of a step, for each round and for each arrow.
 ROUND, ARROW, NARROWEST, WIDEST = 110, 9, 200, 440
-LETTER, LABEL_HEIGHT, MOST_LETTERS = 7.5, 13, 14
+LETTER, LABEL_HEIGHT, MOST_LETTERS = 8.3, 14, 14
 # Where along its arrow a label may stand, from the sender on.
-PLACES = [it / 20 for it in range(4, 18)]
+PLACES = [it / 40 for it in range(7, 36)]
 CELL, GAP = 11, 2
 
 
 def drawn(run, said):
     """The arrows of one step go from its left to its right; those between two nodes are one arrow, with all their chunks."""
-    left = 16 + LETTER * max(map(len, run.nodes))
+    left = left_of(run)
     columns, x = [], left
     for step in run.steps:
         columns.append((x, width_of(run, step)))
         x += columns[-1][1] + BETWEEN
-    height = TOP + ROW * len(run.nodes)
-    rows = {it: TOP + ROW * (place + 0.5) for place, it in enumerate(run.nodes)}
-    inner = [text(left - 8, y + 4, it, "end", class_="name") for it, y in rows.items()]
+    height, rows = height_of(run), rows_of(run)
+    inner = names_of(run)
     for step, (start, width) in zip(run.steps, columns):
         inner.append(column(run, step, start, width, rows, height))
     return picture(x, height + 4, said, *inner, class_="time")
+
+
+def names(run):
+    """The names of the nodes once more, which stay in view when the diagram is scrolled."""
+    left, height = short(left_of(run)), short(height_of(run) + 4)
+    return element("svg", *names_of(run), viewBox=f"0 0 {left} {height}", width=left, height=height, class_="names", aria_hidden="true",
+                   style=f"margin-right: -{left}px")
+
+
+def names_of(run):
+    return [text(left_of(run) - 8, y + 4, it, "end", class_="name") for it, y in rows_of(run).items()]
+
+
+def rows_of(run):
+    """How high the row of each node is."""
+    return {it: TOP + ROW * (place + 0.5) for place, it in enumerate(run.nodes)}
+
+
+def height_of(run):
+    return TOP + ROW * len(run.nodes)
+
+
+def left_of(run):
+    return 16 + LETTER * max(map(len, run.nodes))
+
+
+def width(run):
+    return left_of(run) + sum(width_of(run, step) + BETWEEN for step in run.steps)
 
 
 def width_of(run, step):
@@ -41,12 +68,12 @@ def column(run, step, start, width, rows, height):
 
 
 def arrows_of(run, step, start, end, rows):
-    """The arrows, and the chunks beside them."""
+    """The arrows, and the chunks beside them: the longest labels find their place first."""
     chunks = {}
     for chunk, sender, receiver, _ in run.sends[step]:
         chunks.setdefault((sender, receiver), []).append(chunk)
     arrows, labels, taken = [], [], []
-    for (sender, receiver), found in chunks.items():
+    for (sender, receiver), found in sorted(chunks.items(), key=lambda it: -len(it[1])):
         named = " ".join(map(str, found))
         said = f"step {step}: {sender} sends {named} to {receiver}"
         arrows.append(element("g", title(said), line(start, rows[sender], end, rows[receiver], marker_end="url(#head)"), class_="send",

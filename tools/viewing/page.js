@@ -8,8 +8,9 @@ for (const point of document.querySelectorAll(".point")) {
     for (const it of point.querySelectorAll(".column")) it.classList.toggle("now", it.dataset.column === slider.value);
     const now = point.querySelector(".column.now");
     if (!now) { figure.scrollLeft = 0; return; }
-    const box = now.getBoundingClientRect(), frame = figure.getBoundingClientRect();
-    if (box.left < frame.left || box.right > frame.right) figure.scrollLeft += box.left - frame.left - Math.max(0, (frame.width - box.width) / 2);
+    // The names stand over what is at the left of the frame.
+    const box = now.getBoundingClientRect(), { right } = figure.getBoundingClientRect(), left = figure.querySelector(".names").getBoundingClientRect().right;
+    if (box.left < left || box.right > right) figure.scrollLeft += box.left - left - Math.max(0, (right - left - box.width) / 2);
   };
   // What is followed keeps its ink, all else is grey: `node n0`, `chunk 3`, `step 2` or nothing.
   const grey = () => {

@@ -14,6 +14,8 @@ PARTS = {"whole": "", "reduce": "reduce part", "gather": "gather part", "joined"
 MARKER = '<marker id="head" viewBox="0 0 8 8" refX="7" refY="4" markerWidth="7" markerHeight="7" markerUnits="userSpaceOnUse" orient="auto"><path d="M0 0.5L8 4L0 7.5z"/></marker>'
 HEAD = f'<svg width="0" height="0" aria-hidden="true"><defs>{MARKER}</defs></svg>'
 MOST_OPEN_GROUPS, MOST_OPEN_ROWS = 24, 10
+# A diagram in time that is wider is printed on a page that lies.
+MOST_UPRIGHT = 1000
 
 
 def page(report, title=None):
@@ -21,14 +23,14 @@ def page(report, title=None):
     name = named(report, title)
     points = points_of(report)
     inner = [
-        element("h1", escape(name)), element("p", escape(summary(report))),
+        element("h1", escape(name)), element("p", escape(summary(report)), " ", element("span", "S-R-C", class_="unbroken"), " is a candidate of S steps, R rounds in all, and C chunks."),
         element("div", element("section", *frontiers(report)), element("section", *topology_section(report["topology"])), class_="overview"),
         *chooser(points),
         *(point_section(number, Run(report, part, it)) for number, (part, it) in enumerate(points, 1)),
         element("footer", element("p", "Drawn by a script, which is tested and not proved. What is right of this report "
                                   "<code>sccl check</code> says, and of one point <code>sccl replay</code>.")),
     ]
-    head = [element("title", escape(f"sccl: {name}")), element("style", read("page.css"), read("figures.css"))]
+    head = [element("title", escape(f"sccl: {name}")), element("style", read("figures.css"), read("page.css"))]
     return (f'<!DOCTYPE html>\n<html lang="en"><head><meta charset="utf-8">'
             f'<meta name="viewport" content="width=device-width, initial-scale=1">{"".join(head)}</head>\n'
             f'<body>{HEAD}<main>' + "\n".join(inner) + f'</main>{element("script", read("page.js"), read("chooser.js"))}</body></html>\n')
@@ -58,7 +60,7 @@ def summary(report):
     joined = f", {many(len(report['joined']), 'joined point')}" if report["joined"] else ""
     return (f"Searched: at most {many(words['steps'], 'step')}, {many(words['k'], 'round')} more than steps, {many(words['chunks'], 'chunk')}{root}{more}; "
             f"{words['conflicts']} conflicts for each candidate. Found: {many(count('points'), 'point')}{joined}, {count('cut', 'carried', 'refuted')} refuted "
-            f"and {count('unknown')} unknown candidates. S-R-C is a candidate of S steps, R rounds in all, and C chunks.")
+            f"and {count('unknown')} unknown candidates.")
 
 
 # ---- the frontier
@@ -163,13 +165,16 @@ def point_section(number, run):
     name = f"Point {number}{part}: {many(point['s'], 'step')}, {many(point['r'], 'round')}, {many(point['c'], 'chunk')}, {point['mark']}"
     adding = f" Of {many(point['s'], 'step')} the first {point['adding']} add up, the others copy." if "adding" in point else ""
     loads = table(("Group", *(f"Step {it}" for it in run.steps)), diagram.loads(run), class_="loads")
-    return element(
-        "section", element("h2", escape(name)),
+    in_time = element(
+        "div", element("h2", escape(name)),
         element("p", f"{many(len(point['sends']), 'send')} of {many(len(run.chunks), 'chunk')}. Nodes are rows and steps are columns; an arrow "
                      f"goes from who sends to who receives, with the numbers of the chunks beside it.{adding}",
                 element("span", " A click on an arrow follows its chunk, one on a name that node, and one in a step that step; the rest is grey, "
                         "until Escape.", class_="keys")),
-        slider(number, run), element("figure", diagram.drawn(run, f"Point {number} in time."), tabindex="0"), states(run),
+        slider(number, run), element("figure", diagram.names(run), diagram.drawn(run, f"Point {number} in time."), tabindex="0"),
+        class_="in-time", data_wide="" if diagram.width(run) > MOST_UPRIGHT else None)
+    return element(
+        "section", in_time, states(run),
         element("details", element("summary", "The load of each group in each step, of what its width allows"), loads,
                 open="" if len(run.groups) <= MOST_OPEN_GROUPS else None),
         id=f"point-{number}", class_="point")

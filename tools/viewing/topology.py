@@ -9,6 +9,8 @@ from .layout import APART, places_of
 from .svg import element, many, picture, short, table, text, title
 
 AROUND = 14
+# How much smaller the drawing may get in a narrow window.
+LEAST_SCALE = 0.7
 
 
 def drawn(topology: dict) -> str:
@@ -42,7 +44,8 @@ class Drawing:
                  for node, (x, y, wide, high) in self.boxes.items()]
         left, top, right, bottom = bounds([*self.taken, *((x, y, 0, 0) for x, y in self.places)])
         view = left - AROUND, top - AROUND, right - left + 2 * AROUND, bottom - top + 2 * AROUND
-        return picture(view[2], view[3], said, *self.lines, *names, *self.labels, class_="topology", left=view[0], top=view[1])
+        return picture(view[2], view[3], said, *self.lines, *names, *self.labels, class_="topology", left=view[0], top=view[1],
+                       style=f"min-width: {short(LEAST_SCALE * view[2])}px")
 
     def add_arrow(self, curve: Any, thickness: float, beside: str, said: str, kind: str, **attributes: Any) -> None:
         begin, middle, finish = curve
