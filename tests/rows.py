@@ -272,7 +272,7 @@ WORDS = [
     ("family kind=mesh size=16", 6, 2),
     ("family kind=switch size=1", 6, 2),
     ("family kind=boxes size=4", 6, 2),
-    ("family size=8 kind=box", 6, 1),
+    ("family size=8 kind=box", 6, 2),
     ("synth collective=alltoall k=0 steps=1 chunks=2 conflicts=1000 root=n0", 7, 6),
     ("synth chunks=17", 6, 1),
     # keys with one value, which no other command has
