@@ -12,35 +12,20 @@ use Rattle.collective_spec.specs.Collectives.{IsSpec, chunks_of, chunks_in}
 standard_some : (k : Kind) (nodes c : ℕ) → is_custom k ≡ false → 0 < nodes → 0 < c → 0 < chunks_of k nodes c
 standard_some kind.Broadcast nodes c standard some one = one
 standard_some kind.Reduce nodes c standard some one = one
-standard_some kind.Gather nodes c standard some one = mul-pos some one
-standard_some kind.Allgather nodes c standard some one = mul-pos some one
-standard_some kind.Scatter nodes c standard some one = mul-pos some one
-standard_some kind.Alltoall nodes c standard some one = mul-pos some one
-standard_some kind.Reducescatter nodes c standard some one = mul-pos some one
-standard_some kind.Allreduce nodes c standard some one = mul-pos some one
 standard_some kind.Custom nodes c standard some one = absurd (cc)
+standard_some k nodes c standard some one = mul-pos some one
 
 standard_few : (k : Kind) (nodes c : ℕ) → nodes ≤ 16 → c ≤ 16 → chunks_of k nodes c ≤ 256
 standard_few kind.Broadcast nodes c few small = omega (arith, small)
 standard_few kind.Reduce nodes c few small = omega (arith, small)
-standard_few kind.Gather nodes c few small = mul-le nodes c 16 16 few small
-standard_few kind.Allgather nodes c few small = mul-le nodes c 16 16 few small
-standard_few kind.Scatter nodes c few small = mul-le nodes c 16 16 few small
-standard_few kind.Alltoall nodes c few small = mul-le nodes c 16 16 few small
-standard_few kind.Reducescatter nodes c few small = mul-le nodes c 16 16 few small
-standard_few kind.Allreduce nodes c few small = mul-le nodes c 16 16 few small
 standard_few kind.Custom nodes c few small = omega arith
+standard_few k nodes c few small = mul-le nodes c 16 16 few small
 
 standard_more : (k : Kind) (nodes c d : ℕ) → c ≤ d → chunks_of k nodes c ≤ chunks_of k nodes d
 standard_more kind.Broadcast nodes c d most = most
 standard_more kind.Reduce nodes c d most = most
-standard_more kind.Gather nodes c d most = mul-le-mul_left nodes most
-standard_more kind.Allgather nodes c d most = mul-le-mul_left nodes most
-standard_more kind.Scatter nodes c d most = mul-le-mul_left nodes most
-standard_more kind.Alltoall nodes c d most = mul-le-mul_left nodes most
-standard_more kind.Reducescatter nodes c d most = mul-le-mul_left nodes most
-standard_more kind.Allreduce nodes c d most = mul-le-mul_left nodes most
 standard_more kind.Custom nodes c d most = omega arith
+standard_more k nodes c d most = mul-le-mul_left nodes most
 
 pub chunks_some : (s : Spec) (nodes c : ℕ) → IsSpec nodes s → 0 < nodes → 0 < c → 0 < chunks_in s nodes c
 chunks_some (spec.Standard collective) nodes c is some one = standard_some collective.kind nodes c is.0 some one

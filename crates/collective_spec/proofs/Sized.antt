@@ -33,15 +33,8 @@ demand_among (spec.Standard collective) nodes c = among _ nodes _
 demand_among (spec.Custom p) nodes c = among _ nodes _
 
 is_kind : (k : Kind) → is_custom k ≡ true → kind.Custom ≡ k
-is_kind kind.Broadcast e = absurd (cc)
-is_kind kind.Gather e = absurd (cc)
-is_kind kind.Allgather e = absurd (cc)
-is_kind kind.Scatter e = absurd (cc)
-is_kind kind.Alltoall e = absurd (cc)
-is_kind kind.Reduce e = absurd (cc)
-is_kind kind.Reducescatter e = absurd (cc)
-is_kind kind.Allreduce e = absurd (cc)
 is_kind kind.Custom e = refl
+is_kind k e = absurd (cc)
 
 pub fitting_kind : (collective : Collective) (pattern : Option PatternValue) → fits_kind collective.kind pattern ≡ true → kind_in (spec_of collective pattern) ≡ collective.kind
 fitting_kind collective None fits = refl

@@ -1,9 +1,9 @@
 -- The instance of a collective, and what it demands (Cai et al., PPoPP 2021, table of collectives).
-use Rattle.std.specs.Prelude.{◌≡◌, ℕ, ◌*◌, ◌<◌, not, Bool, true, false, if◌then◌else◌, Option, None, Some}
+use Rattle.std.specs.Prelude.{◌≡◌, ℕ, ◌*◌, ◌<◌, not, Bool, false, if◌then◌else◌, Option, None, Some, option_map, unwrap_or}
 use Rattle.collective_spec.specs.declared.kind.Kind.{Kind}
-use Rattle.collective_spec.specs.declared.kind.Kind.TheVariants.{Broadcast, Gather, Allgather, Scatter, Alltoall, Reduce, Reducescatter, Allreduce, Custom}
+use Rattle.collective_spec.specs.declared.kind.Kind.TheVariants.{Custom}
 use Rattle.collective_spec.specs.declared.layout.Layout.{Layout}
-use Rattle.collective_spec.specs.declared.layout.Layout.TheVariants.{All, Root, Scattered, Transpose}
+use Rattle.collective_spec.specs.declared.layout.Layout.TheVariants.{All}
 use Rattle.collective_spec.specs.declared.collective.Collective.{Collective}
 use Rattle.collective_spec.specs.declared.instance.Instance.{Instance}
 use Rattle.collective_spec.specs.declared.spec.Spec.{Spec}
@@ -11,55 +11,23 @@ use Rattle.collective_spec.specs.declared.spec.Spec.TheVariants as spec
 use Rattle.collective_spec.specs.Layouts.{laid_out}
 use Rattle.collective_spec.specs.Patterns.{PatternValue, IsPattern, copied}
 use Rattle.schedule.specs.Placed.{PlacementValue}
-use Rattle.collective_spec.specs.Kinds.{is_custom}
+use Rattle.collective_spec.specs.Kinds.{is_custom, row_of}
 
 -- how many chunks there are in all
 abbrev pub chunks_of : Kind → ℕ → ℕ → ℕ
-chunks_of Broadcast nodes c = c
-chunks_of Reduce nodes c = c
-chunks_of Gather nodes c = nodes * c
-chunks_of Allgather nodes c = nodes * c
-chunks_of Scatter nodes c = nodes * c
-chunks_of Alltoall nodes c = nodes * c
-chunks_of Reducescatter nodes c = nodes * c
-chunks_of Allreduce nodes c = nodes * c
-chunks_of Custom nodes c = 0
+chunks_of kind nodes c = unwrap_or (option_map (λ row. if row.per_node then nodes * c else c) (row_of kind)) 0
 
 -- where the chunks are before, or to which chunk which node contributes
 abbrev pub before : Kind → ℕ → Layout
-before Broadcast root = Root root
-before Gather root = Scattered
-before Allgather root = Scattered
-before Scatter root = Root root
-before Alltoall root = Scattered
-before Reduce root = All
-before Reducescatter root = All
-before Allreduce root = All
-before Custom root = All
+before kind root = unwrap_or (option_map (λ row. row.before root) (row_of kind)) All
 
 -- where the chunks, or their sums, have to be after
 abbrev pub after : Kind → ℕ → Layout
-after Broadcast root = All
-after Gather root = Root root
-after Allgather root = All
-after Scatter root = Scattered
-after Alltoall root = Transpose
-after Reduce root = Root root
-after Reducescatter root = Scattered
-after Allreduce root = All
-after Custom root = All
+after kind root = unwrap_or (option_map (λ row. row.after root) (row_of kind)) All
 
 -- the collective adds up what the nodes contribute
 abbrev pub reduces : Kind → Bool
-reduces Broadcast = false
-reduces Gather = false
-reduces Allgather = false
-reduces Scatter = false
-reduces Alltoall = false
-reduces Reduce = true
-reduces Reducescatter = true
-reduces Allreduce = true
-reduces Custom = false
+reduces kind = unwrap_or (option_map (λ row. row.reduces) (row_of kind)) false
 
 -- the first and the last layout; a reduction is the inverse of a copying collective, which leads back from where the sums have to be
 abbrev pub ends_of : Collective → Layout × Layout
@@ -86,8 +54,7 @@ kind_in (spec.Standard collective) = collective.kind
 kind_in (spec.Custom p) = Custom
 
 abbrev pub adds_up : Spec → Bool
-adds_up (spec.Standard collective) = reduces collective.kind
-adds_up (spec.Custom p) = false
+adds_up asked = reduces (kind_in asked)
 
 abbrev pub chunks_in : Spec → ℕ → ℕ → ℕ
 chunks_in (spec.Standard collective) nodes c = chunks_of collective.kind nodes c

@@ -1,62 +1,58 @@
 -- The kinds of collectives (Cai et al., PPoPP 2021, table of collectives).
-use Rattle.std.specs.Prelude.{ℕ, ◌%◌, ◌==◌, ◌&&◌, Bool, true, false, List, [], ◌∷◌, ◌++◌, nat_le, codes}
+use Rattle.std.specs.Prelude.{ℕ, ◌%◌, ◌==◌, ◌&&◌, ◌||◌, not, Bool, true, false, List, [], ◌∷◌, ◌++◌, map, nat_le, codes, Option, None, Some, is_none, option_map, unwrap_or}
 use Rattle.collective_spec.specs.declared.kind.Kind.{Kind}
 use Rattle.collective_spec.specs.declared.kind.Kind.TheVariants.{Broadcast, Gather, Allgather, Scatter, Alltoall, Reduce, Reducescatter, Allreduce, Custom}
+use Rattle.collective_spec.specs.declared.layout.Layout.{Layout}
+use Rattle.collective_spec.specs.declared.layout.Layout.TheVariants.{All, Root, Scattered, Transpose}
+
+-- a standard kind
+pub record KindRow : Type 0 where
+  pub number : ℕ
+  pub word : List ℕ
+  -- the chunk count is that of each node, and not that of all
+  pub per_node : Bool
+  -- the chunk count is a multiple of the number of nodes
+  pub evenly : Bool
+  -- where the chunks are before, or to which chunk which node contributes, if this node is the root
+  pub before : ℕ → Layout
+  -- where the chunks, or their sums, have to be after
+  pub after : ℕ → Layout
+  -- the collective adds up what the nodes contribute
+  pub reduces : Bool
+  -- it has all chunks, or all sums, at one node at one end
+  pub takes_root : Bool
+
+abbrev pub row : ℕ → List ℕ → Bool → Bool → (ℕ → Layout) → (ℕ → Layout) → Bool → Bool → KindRow
+row number word per_node evenly before after reduces takes_root =
+    record { number = number; word = word; per_node = per_node; evenly = evenly; before = before; after = after; reduces = reduces; takes_root = takes_root }
+
+-- the row of a kind: its number, its word, whether the count is per node and whether it is even, the places before and after, whether
+-- it adds up and whether it takes a root. `Custom`, this project's own, has none: users give where the chunks are before and after
+abbrev pub row_of : Kind → Option KindRow
+row_of Broadcast = Some (row 0 (codes "broadcast") false false Root (λ root. All) false true)
+row_of Gather = Some (row 1 (codes "gather") true false (λ root. Scattered) Root false true)
+row_of Allgather = Some (row 2 (codes "allgather") true false (λ root. Scattered) (λ root. All) false false)
+row_of Scatter = Some (row 3 (codes "scatter") true false Root (λ root. Scattered) false true)
+row_of Alltoall = Some (row 4 (codes "alltoall") true true (λ root. Scattered) (λ root. Transpose) false false)
+row_of Reduce = Some (row 5 (codes "reduce") false false (λ root. All) Root true true)
+row_of Reducescatter = Some (row 6 (codes "reducescatter") true false (λ root. All) (λ root. Scattered) true false)
+row_of Allreduce = Some (row 7 (codes "allreduce") true false (λ root. All) (λ root. All) true false)
+row_of Custom = None
+
+-- users give where the chunks are before and have to be after
+abbrev pub is_custom : Kind → Bool
+is_custom kind = is_none (row_of kind)
 
 -- the number that stands for a kind
 abbrev pub number_of : Kind → ℕ
-number_of Broadcast = 0
-number_of Gather = 1
-number_of Allgather = 2
-number_of Scatter = 3
-number_of Alltoall = 4
-number_of Reduce = 5
-number_of Reducescatter = 6
-number_of Allreduce = 7
-number_of Custom = 8
+number_of kind = unwrap_or (option_map (λ row. row.number) (row_of kind)) 8
 
 -- the word that names a kind
 abbrev pub word_of : Kind → List ℕ
-word_of Broadcast = codes "broadcast"
-word_of Gather = codes "gather"
-word_of Allgather = codes "allgather"
-word_of Scatter = codes "scatter"
-word_of Alltoall = codes "alltoall"
-word_of Reduce = codes "reduce"
-word_of Reducescatter = codes "reducescatter"
-word_of Allreduce = codes "allreduce"
-word_of Custom = codes "custom"
+word_of kind = unwrap_or (option_map (λ row. row.word) (row_of kind)) (codes "custom")
 
--- each kind's word, with its number
-abbrev pub kind_rows : List (List ℕ × ℕ)
-kind_rows =
-    (codes "broadcast", 0) ∷ (codes "gather", 1) ∷ (codes "allgather", 2) ∷ (codes "scatter", 3)
-    ∷ (codes "alltoall", 4) ∷ (codes "reduce", 5) ∷ (codes "reducescatter", 6) ∷ (codes "allreduce", 7)
-    ∷ (codes "custom", 8) ∷ []
-
--- the kind has all chunks, or all sums, at one node at one end
 abbrev pub takes_root : Kind → Bool
-takes_root Broadcast = true
-takes_root Gather = true
-takes_root Allgather = false
-takes_root Scatter = true
-takes_root Alltoall = false
-takes_root Reduce = true
-takes_root Reducescatter = false
-takes_root Allreduce = false
-takes_root Custom = false
-
--- users give where the chunks are before and have to be after. This project's own kind
-abbrev pub is_custom : Kind → Bool
-is_custom Broadcast = false
-is_custom Gather = false
-is_custom Allgather = false
-is_custom Scatter = false
-is_custom Alltoall = false
-is_custom Reduce = false
-is_custom Reducescatter = false
-is_custom Allreduce = false
-is_custom Custom = true
+takes_root kind = unwrap_or (option_map (λ row. row.takes_root) (row_of kind)) false
 
 -- the kinds, in the order of their numbers; the last is the one whose pairs are given
 abbrev pub standard_kinds : List Kind
@@ -65,17 +61,13 @@ standard_kinds = Broadcast ∷ Gather ∷ Allgather ∷ Scatter ∷ Alltoall ∷
 abbrev pub every_kind : List Kind
 every_kind = standard_kinds ++ Custom ∷ []
 
+-- each kind's word, with its number
+abbrev pub kind_rows : List (List ℕ × ℕ)
+kind_rows = map (λ kind. (word_of kind, number_of kind)) every_kind
+
 -- in an all-to-all each node has a chunk for each node
 abbrev pub divides_evenly : Kind → ℕ → ℕ → Bool
-divides_evenly Broadcast nodes c = true
-divides_evenly Gather nodes c = true
-divides_evenly Allgather nodes c = true
-divides_evenly Scatter nodes c = true
-divides_evenly Alltoall nodes c = c % nodes == 0
-divides_evenly Reduce nodes c = true
-divides_evenly Reducescatter nodes c = true
-divides_evenly Allreduce nodes c = true
-divides_evenly Custom nodes c = true
+divides_evenly kind nodes c = unwrap_or (option_map (λ row. not row.evenly || c % nodes == 0) (row_of kind)) true
 
 -- the chunk count may be c
 abbrev pub allows : Kind → ℕ → ℕ → Bool
