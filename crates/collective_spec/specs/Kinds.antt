@@ -5,29 +5,24 @@ use Rattle.collective_spec.specs.declared.kind.Kind.TheVariants.{Broadcast, Gath
 use Rattle.collective_spec.specs.declared.layout.Layout.{Layout}
 use Rattle.collective_spec.specs.declared.layout.Layout.TheVariants.{All, Root, Scattered, Transpose}
 
--- a standard kind
+-- a standard kind: its number and its word; whether the chunk count is that of each node, and not of all, and whether it is a multiple of
+-- the number of nodes; where the chunks are before (or to which chunk which node contributes) and where they or their sums have to be
+-- after, if this node is the root; whether it adds up what the nodes contribute, and whether all is at one node at one end
 pub record KindRow : Type 0 where
   pub number : ℕ
   pub word : List ℕ
-  -- the chunk count is that of each node, and not that of all
   pub per_node : Bool
-  -- the chunk count is a multiple of the number of nodes
   pub evenly : Bool
-  -- where the chunks are before, or to which chunk which node contributes, if this node is the root
   pub before : ℕ → Layout
-  -- where the chunks, or their sums, have to be after
   pub after : ℕ → Layout
-  -- the collective adds up what the nodes contribute
   pub reduces : Bool
-  -- it has all chunks, or all sums, at one node at one end
   pub takes_root : Bool
 
 abbrev pub row : ℕ → List ℕ → Bool → Bool → (ℕ → Layout) → (ℕ → Layout) → Bool → Bool → KindRow
 row number word per_node evenly before after reduces takes_root =
     record { number = number; word = word; per_node = per_node; evenly = evenly; before = before; after = after; reduces = reduces; takes_root = takes_root }
 
--- the row of a kind: its number, its word, whether the count is per node and whether it is even, the places before and after, whether
--- it adds up and whether it takes a root. `Custom`, this project's own, has none: users give where the chunks are before and after
+-- the row of a kind. `Custom`, this project's own, has none: users give where the chunks are before and after
 abbrev pub row_of : Kind → Option KindRow
 row_of Broadcast = Some (row 0 (codes "broadcast") false false Root (λ root. All) false true)
 row_of Gather = Some (row 1 (codes "gather") true false (λ root. Scattered) Root false true)
