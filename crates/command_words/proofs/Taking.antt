@@ -7,7 +7,8 @@ use Rattle.command_words.specs.declared.fault.WordFault.{WordFault}
 use Rattle.command_words.specs.declared.verb.Verb.{Verb}
 use Rattle.command_words.specs.declared.values.Values.{Values}
 use Rattle.command_words.specs.inner.Counting.{one, flag, count_of}
-use Rattle.command_words.specs.Words.{texts, with_word, at_word, values_from}
+use Rattle.command_words.specs.Words.{texts, at_word}
+use Rattle.command_words.specs.inner.Reading.{word_value, values_from}
 
 -- the texts from place k on begin with that of the word there
 texts_from : {Z : Type 0} (words : List (String Z)) (k : ℕ) (word : String Z) → k < length words → word ≡ get_or words k word → drop k (texts words) ≡ string_bytes word ∷ drop (suc k) (texts words)
@@ -16,11 +17,11 @@ texts_from (w ∷ ws) zero word inside same = ap (λ x. string_bytes x ∷ texts
 texts_from (w ∷ ws) (suc k) word inside same = texts_from ws k word (omega arith) same
 
 -- what is read of the words that are left is what is read of the first of them, and then of the others
-pub word_read : {Z : Type 0} (verb : Verb) (values : Values) (index : ℕ) (words : List (String Z)) (k : ℕ) (word : String Z) (text : List ℕ) (all read : Result Values WordFault) → values_from verb values index (drop k (texts words)) ≡ all → k < length words → word ≡ get_or words k word → text ≡ string_bytes word → read ≡ at_word index (with_word verb values index text) → (read >>= (λ more. values_from verb more (index + 1) (drop (k + 1) (texts words)))) ≡ all
+pub word_read : {Z : Type 0} (verb : Verb) (values : Values) (index : ℕ) (words : List (String Z)) (k : ℕ) (word : String Z) (text : List ℕ) (all read : Result Values WordFault) → values_from verb values index (drop k (texts words)) ≡ all → k < length words → word ≡ get_or words k word → text ≡ string_bytes word → read ≡ at_word index (word_value verb values index text) → (read >>= (λ more. values_from verb more (index + 1) (drop (k + 1) (texts words)))) ≡ all
 word_read verb values index words k word text all read left inside same bytes taken =
     let next : suc k ≡ k + 1 = omega arith in
     let here = texts_from words k word inside same ∙ ap (λ j. string_bytes word ∷ drop j (texts words)) next in
-    let first = taken ∙ ap (λ t. at_word index (with_word verb values index t)) bytes in
+    let first = taken ∙ ap (λ t. at_word index (word_value verb values index t)) bytes in
     ap (λ r. r >>= (λ more. values_from verb more (index + 1) (drop (k + 1) (texts words)))) first
     ∙ (ap (values_from verb values index) (sym here) ∙ left)
 

@@ -1,6 +1,6 @@
 pub mod Codes
 pub mod Tables
-pub mod Values
+pub mod Given
 pub mod Commands
 pub mod Words
 pub mod inner

@@ -1,18 +1,21 @@
 -- The words of the command line, read from left to right: the first refusal counts. This project's own.
-use Rattle.std.specs.Prelude.{ℕ, ◌+◌, ◌==◌, false, not, if◌then◌else◌, List, [], ◌∷◌, length, map, Option, Some, None, Result, Ok, Err}
+use Rattle.std.specs.Prelude.{ℕ, ◌+◌, ◌==◌, ◌&&◌, Bool, not, if◌then◌else◌, List, [], ◌∷◌, length, map, bytes_eq, nat_le, Option, Some, None, is_some, Result, Ok, Err}
 use Rattle.std.specs.List.{list_any, before_first, after_first}
+use Rattle.std.specs.Str.Parse.{digits_value}
 use Rattle.std.specs.declared.string.String.{String}
 use Rattle.std.specs.String.{string_bytes}
 use Rattle.text_lines.specs.Check.{◌>>=◌, refuse, need}
+use Rattle.text_lines.specs.Number.{number_up_to}
+use Rattle.topology_text.specs.Names.{is_name}
 use Rattle.command_words.specs.declared.command.Command.{Command}
 use Rattle.command_words.specs.declared.fault.WordCode.{WordCode}
-use Rattle.command_words.specs.declared.fault.WordCode.TheVariants.{NoCommand, UnknownCommand, UnknownKey, KeyTwice}
+use Rattle.command_words.specs.declared.fault.WordCode.TheVariants.{NoCommand, UnknownCommand, UnknownKey, KeyTwice, BadValue}
 use Rattle.command_words.specs.declared.fault.WordFault.{WordFault}
+use Rattle.command_words.specs.declared.key.Key.{Key}
 use Rattle.command_words.specs.declared.verb.Verb.{Verb}
-use Rattle.command_words.specs.declared.values.Values.{Values}
-use Rattle.command_words.specs.Tables.{named, verbs, verb_word, keys, key_word, has_key}
-use Rattle.command_words.specs.Values.{is_given, with_value}
-use Rattle.command_words.specs.Commands.{command_given}
+use Rattle.command_words.specs.Tables.{named, verbs, verb_word, verb_row, keys, key_word, key_row, same_key, has_key, Takes, Number, Name, OneOf}
+use Rattle.command_words.specs.Given.{Given, is_given}
+use Rattle.command_words.specs.Commands.{command_from}
 
 -- the words, as bytes
 abbrev pub texts : {Z : Type 0} → List (String Z) → List (List ℕ)
@@ -22,34 +25,43 @@ texts words = map (λ word. string_bytes word) words
 abbrev pub key_and_value : List ℕ → Option (List ℕ × List ℕ)
 key_and_value word = if list_any (λ b. b == 61) word then Some (before_first (λ b. b == 61) word, after_first (λ b. b == 61) word) else None
 
--- no key has a value
-abbrev pub nothing : Values
-nothing = record { collective = None; k = None; steps = None; chunks = None; conflicts = None; root = None; point = None; order = None; kind = None; size = None; n = None; group = None; width = None; what = None; cuts = false; ordered = false; kept = false; all_sets = false }
+-- the text is such a value; a number is in canonical decimal
+abbrev pub fits : Takes → List ℕ → Bool
+fits (Number least greatest) text = is_some (number_up_to greatest text) && nat_le least (digits_value 10 text)
+fits Name text = is_name text
+fits (OneOf words) text = list_any (λ word. bytes_eq word text) words
 
--- the checks of the word with this index, behind words that gave these values
-abbrev pub with_word : Verb → Values → ℕ → List ℕ → Result Values WordCode
-with_word verb values index word = do
+-- the command does not take the value, which its key may take
+abbrev pub is_refused : Verb → Key → List ℕ → Bool
+is_refused verb key text = list_any (λ (not_taken : Key × List ℕ). same_key not_taken.0 key && bytes_eq not_taken.1 text) (verb_row verb).refused
+
+-- the checks of the word with this index, behind those that were given
+abbrev pub with_word : Verb → List Given → ℕ → List ℕ → Result (List Given) WordCode
+with_word verb given index word = do
   parts ← need (key_and_value word) UnknownKey
   key ← need (named key_word keys parts.0) UnknownKey
   _ ← refuse (not (has_key verb key)) UnknownKey
-  _ ← refuse (is_given key values) KeyTwice
-  with_value verb key parts.1 index values
+  _ ← refuse (is_given key given) KeyTwice
+  _ ← refuse (not (fits (key_row key).takes parts.1)) BadValue
+  _ ← refuse (is_refused verb key parts.1) BadValue
+  Ok (record { key = key; text = parts.1; word = index } ∷ given)
 
 -- the code with the index of its word
 abbrev pub at_word : {A : Type 0} → ℕ → Result A WordCode → Result A WordFault
 at_word index (Ok x) = Ok x
 at_word index (Err code) = Err (record { code = code; word = index })
 
--- the values of the words that stand from this index on
-abbrev pub values_from : Verb → Values → ℕ → List (List ℕ) → Result Values WordFault
-values_from verb values index [] = Ok values
-values_from verb values index (word ∷ words) = do
-  more ← at_word index (with_word verb values index word)
-  values_from verb more (index + 1) words
+-- what the words give that stand from this index on
+abbrev pub given_from : Verb → List Given → ℕ → List (List ℕ) → Result (List Given) WordFault
+given_from verb given index [] = Ok given
+given_from verb given index (word ∷ words) = do
+  more ← at_word index (with_word verb given index word)
+  given_from verb more (index + 1) words
 
 -- the command that the words are
 unfoldable pub command_of : List (List ℕ) → Result Command WordFault
 command_of [] = Err (record { code = NoCommand; word = 0 })
 command_of (first ∷ words) = do
   verb ← need (named verb_word verbs first) (record { code = UnknownCommand; word = 0 })
-  command_given verb (values_from verb nothing 1 words) (length words + 1)
+  given ← given_from verb [] 1 words
+  command_from verb given (length words + 1)

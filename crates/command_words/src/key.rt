@@ -1,7 +1,9 @@
 //! The keys of the words behind the first.
 
-ghost use Rattle.std.specs.Prelude.{◌≡◌, Some, map};
-ghost use Rattle.command_words.specs.Tables.{is_search_key, key_number, key_word, keys, named, numbered};
+ghost use Rattle.std.specs.Prelude.{◌≡◌, ◌++◌, [], ◌∷◌, Some, map};
+ghost use Rattle.std.specs.List.{list_any};
+ghost use Rattle.command_words.specs.Tables.{key_word, keys, named, same_key, search};
+ghost use Rattle.command_words.specs.inner.Numbers.{key_number, numbered};
 
 use case_table::{Table, table};
 
@@ -68,7 +70,7 @@ impl Key {
 
     /// Whether each command that searches has the key.
     pub fn is_for_search(self) -> bool
-        ensures { result ≡ is_search_key self }
+        ensures { result ≡ list_any (same_key self) (search ++ Key.Root ∷ []) }
     {
         matches!(
             self,

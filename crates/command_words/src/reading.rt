@@ -2,10 +2,12 @@
 
 ghost use Rattle.std.specs.Prelude.{◌≡◌, ◌+◌, ◌≤◌, length, IfOk, IfErr, option_map};
 ghost use Rattle.command_words.specs.Codes.{number_of};
-ghost use Rattle.command_words.specs.Values.{AreProper};
-ghost use Rattle.command_words.specs.Commands.{IsProper, command_given};
+ghost use Rattle.command_words.specs.Commands.{IsProper};
+ghost use Rattle.command_words.specs.Words.{at_word, command_of, key_and_value, texts};
+ghost use Rattle.command_words.specs.inner.Building.{command_given};
 ghost use Rattle.command_words.specs.inner.Counting.{count_of};
-ghost use Rattle.command_words.specs.Words.{at_word, command_of, key_and_value, nothing, texts, values_from, with_word};
+ghost use Rattle.command_words.specs.inner.Reading.{nothing, values_from, word_value};
+ghost use Rattle.command_words.specs.inner.Values.{AreProper};
 
 use crate::building::command_from;
 use crate::command::Command;
@@ -24,7 +26,7 @@ fn cut(word: &str) -> Option<(&str, &str)>
 /// The values with that of the word with this index.
 fn with_word(verb: Verb, values: Values, index: u32, word: &str) -> Result<Values, WordCode>
     requires { AreProper verb values }
-    ensures read { result ≡ with_word verb values index word.now }
+    ensures read { result ≡ word_value verb values index word.now }
     ensures proper { IfOk result (AreProper verb) }
     ensures counted { IfOk result (λ more. count_of more ≡ count_of values + 1) }
 {
@@ -42,7 +44,7 @@ fn with_word(verb: Verb, values: Values, index: u32, word: &str) -> Result<Value
 /// The values with that of the word with this index, or the refusal of the word.
 fn take_word(verb: Verb, values: Values, index: u32, word: &str) -> Result<Values, WordFault>
     requires { AreProper verb values }
-    ensures read { result ≡ at_word index (with_word verb values index word.now) }
+    ensures read { result ≡ at_word index (word_value verb values index word.now) }
     ensures proper { IfOk result (AreProper verb) }
     ensures counted { IfOk result (λ more. count_of more ≡ count_of values + 1) }
 {

@@ -1,9 +1,8 @@
 //! The values of the words.
 
 ghost use Rattle.std.specs.Prelude.{◌≡◌, ◌≤◌, ◌+◌, false, true, IfOk};
-ghost use Rattle.command_words.specs.Values.{AreProper, collective_from, given_by, is_given, kind_from, name_from, number_from, what_from, with_value};
 ghost use Rattle.command_words.specs.inner.Counting.{count_of};
-ghost use Rattle.command_words.specs.Tables.{takes_kind, takes_what};
+ghost use Rattle.command_words.specs.inner.Values.{AreProper, collective_from, given_by, has_value, kind_from, name_from, number_from, takes_kind, takes_what, what_from, with_value};
 
 use crate::command::{JsonWhat, PointWord, RootWord};
 use crate::fault::WordCode;
@@ -134,7 +133,7 @@ fn kind_from(text: &str) -> Result<FamilyKind, WordCode>
 fn given_by(word: &str, text: &str) -> Result<bool, WordCode>
     ensures { result ≡ given_by word.now text.now }
 {
-    if text == word {
+    if word == text {
         Ok(true)
     } else {
         Err(WordCode::BadValue)
@@ -144,7 +143,7 @@ fn given_by(word: &str, text: &str) -> Result<bool, WordCode>
 impl Values {
     /// Whether there is a value for the key.
     pub fn has(&self, key: Key) -> bool
-        ensures { result ≡ is_given key self.now }
+        ensures { result ≡ has_value key self.now }
     {
         match key {
             Key::Collective => self.collective.is_some(),
@@ -172,7 +171,7 @@ impl Values {
     /// index.
     pub fn with(self, verb: Verb, key: Key, text: &str, word: u32) -> Result<Values, WordCode>
         requires proper { AreProper verb self }
-        requires first { is_given key self ≡ false }
+        requires first { has_value key self ≡ false }
         ensures read { result ≡ with_value verb key text.now word self }
         ensures proper { IfOk result (AreProper verb) }
         ensures counted { IfOk result (λ values. count_of values ≡ count_of self + 1) }

@@ -1,7 +1,8 @@
 use Rattle.std.proofs.Common.{◌≡◌, ◌+◌, drop}
-use Rattle.command_words.specs.Values.{AreProper}
+use Rattle.command_words.specs.Words.{texts}
 use Rattle.command_words.specs.inner.Counting.{count_of}
-use Rattle.command_words.specs.Words.{nothing, texts, values_from}
+use Rattle.command_words.specs.inner.Reading.{nothing, values_from}
+use Rattle.command_words.specs.inner.Values.{AreProper}
 use Rattle.command_words.proofs.reading.values_from.Given as goal
 
 abbrev pub invariant-loop-word : goal.invariant-loop-word

@@ -1,0 +1,59 @@
+-- What words give: keys with their values. This project's own.
+use Rattle.std.specs.Prelude.{ℕ, Bool, List, [], find, Option, is_some, option_map, unwrap_or}
+use Rattle.std.specs.Str.Parse.{digits_value}
+use Rattle.candidate_order.specs.Ranges.{LimitsValue}
+use Rattle.candidate_order.specs.declared.pruning.Pruning.{Pruning}
+use Rattle.collective_spec.specs.declared.kind.Kind.{Kind}
+use Rattle.collective_spec.specs.declared.kind.Kind.TheVariants.{Custom}
+use Rattle.collective_spec.specs.Kinds.{word_of, every_kind}
+use Rattle.topology_text.specs.declared.family_kind.FamilyKind.{FamilyKind}
+use Rattle.topology_text.specs.declared.family_kind.FamilyKind.TheVariants.{Line}
+use Rattle.topology_text.specs.FamilyWords.{family_named}
+use Rattle.command_words.specs.declared.command.JsonWhat.{JsonWhat}
+use Rattle.command_words.specs.declared.command.JsonWhat.TheVariants.{Topology}
+use Rattle.command_words.specs.declared.command.PointWord.{PointWord}
+use Rattle.command_words.specs.declared.command.RootWord.{RootWord}
+use Rattle.command_words.specs.declared.key.Key.{Key}
+use Rattle.command_words.specs.declared.key.Key.TheVariants as key
+use Rattle.command_words.specs.Tables.{named, same_key, what_word, whats}
+
+-- a key, its value as it is written, and the index of its word
+pub record Given : Type 0 where
+  pub key : Key
+  pub text : List ℕ
+  pub word : ℕ
+
+abbrev pub given_at : Key → List Given → Option Given
+given_at k given = find (λ g. same_key k g.key) given
+
+abbrev pub is_given : Key → List Given → Bool
+is_given k given = is_some (given_at k given)
+
+-- ---- the value of a key that is given, and the index of its word
+
+abbrev pub text_at : Key → List Given → List ℕ
+text_at k given = unwrap_or (option_map (λ g. g.text) (given_at k given)) []
+
+abbrev pub word_at : Key → List Given → ℕ
+word_at k given = unwrap_or (option_map (λ g. g.word) (given_at k given)) 0
+
+abbrev pub number_at : Key → List Given → ℕ
+number_at k given = digits_value 10 (text_at k given)
+
+abbrev pub kind_at : List Given → Kind
+kind_at given = unwrap_or (named word_of every_kind (text_at key.Collective given)) Custom
+
+abbrev pub family_at : List Given → FamilyKind
+family_at given = unwrap_or (family_named (text_at key.Kind given)) Line
+
+abbrev pub what_at : List Given → JsonWhat
+what_at given = unwrap_or (named what_word whats (text_at key.What given)) Topology
+
+abbrev pub root_at : List Given → Option RootWord
+root_at given = option_map (λ g. record { name = g.text; word = g.word }) (given_at key.Root given)
+
+abbrev pub point_at : List Given → Option PointWord
+point_at given = option_map (λ g. record { point = digits_value 10 g.text; word = g.word }) (given_at key.Point given)
+
+abbrev pub limits_at : List Given → Pruning → LimitsValue
+limits_at given pruning = record { k = number_at key.K given; max_s = number_at key.Steps given; max_c = number_at key.Chunks given; conflicts = number_at key.Conflicts given; pruning = pruning }
