@@ -61,7 +61,7 @@ abbrev checked : Verb → Key → List ℕ → Values → Result Values WordCode
 checked verb k text more = refuse (not (fits (key_row k).takes text)) BadValue >>= (λ _. refuse (is_refused verb k text) BadValue >>= (λ _. Ok more))
 
 -- commands refuse values of two keys alone
-untaken : (verb : Verb) (k : Key) (text : List ℕ) → same_key key.Collective k ≡ false → same_key key.What k ≡ false → is_refused verb k text ≡ false
+pub untaken : (verb : Verb) (k : Key) (text : List ℕ) → same_key key.Collective k ≡ false → same_key key.What k ≡ false → is_refused verb k text ≡ false
 untaken Bound k text c w = rw c refl
 untaken Ordered k text c w = rw c refl
 untaken Unjson k text c w = rw w refl
@@ -101,7 +101,7 @@ word_kept word text keep = by (bytes_eq word text)
     by false = refl
 
 -- one of the names is the text where a value has it
-any_named : {V : Type 0} (name : V → List ℕ) (values : List V) (text : List ℕ) → list_any (λ w. bytes_eq w text) (map name values) ≡ is_some (named name values text)
+pub any_named : {V : Type 0} (name : V → List ℕ) (values : List V) (text : List ℕ) → list_any (λ w. bytes_eq w text) (map name values) ≡ is_some (named name values text)
 any_named name [] text = refl
 any_named name (v ∷ vs) text = elim (bytes_eq (name v) text) as (λ b. (b || list_any (λ w. bytes_eq w text) (map name vs)) ≡ is_some (cond b (Some v) (named name vs text))) [ true ↦ refl | false ↦ any_named name vs text ]
 

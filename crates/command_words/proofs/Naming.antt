@@ -25,7 +25,7 @@ not_in_table name number (v ∷ vs) word none =
     [ true ↦ (λ e. absurd (none-some (number v) e)) | false ↦ (λ e. not_in_table name number vs word e) ] none
 
 -- each kind of collective is found by its word
-kind_found : (kind : Kind) → named word_of every_kind (word_of kind) ≡ Some kind
+pub kind_found : (kind : Kind) → named word_of every_kind (word_of kind) ≡ Some kind
 kind_found Broadcast = refl
 kind_found Gather = refl
 kind_found Allgather = refl
