@@ -180,20 +180,7 @@ has_given key.Cuts g = refl
 has_given key.Ordered g = refl
 has_given key.Kept g = refl
 has_given key.Sets g = refl
-has_given key.Collective g = some_of _ (given_at key.Collective g)
-has_given key.K g = some_of _ (given_at key.K g)
-has_given key.Steps g = some_of _ (given_at key.Steps g)
-has_given key.Chunks g = some_of _ (given_at key.Chunks g)
-has_given key.Conflicts g = some_of _ (given_at key.Conflicts g)
-has_given key.Root g = some_of _ (given_at key.Root g)
-has_given key.Point g = some_of _ (given_at key.Point g)
-has_given key.Order g = some_of _ (given_at key.Order g)
-has_given key.Kind g = some_of _ (given_at key.Kind g)
-has_given key.Size g = some_of _ (given_at key.Size g)
-has_given key.N g = some_of _ (given_at key.N g)
-has_given key.Group g = some_of _ (given_at key.Group g)
-has_given key.Width g = some_of _ (given_at key.Width g)
-has_given key.What g = some_of _ (given_at key.What g)
+has_given k g = some_of _ (given_at k g)
 
 -- checks in a row that go on alike
 through : {A B C D : Type 0} (out : D → B) (r : Result A C) (f : A → Result B C) (h : A → Result D C) → ((x : A) → f x ≡ (h x >>= (λ y. Ok (out y)))) → (r >>= f) ≡ ((r >>= h) >>= (λ y. Ok (out y)))

@@ -1,16 +1,8 @@
-use Rattle.std.proofs.Common.{refl}
+use Rattle.std.proofs.Common.{rules}
 use Rattle.std.specs.Fmt.{digits}
 use Rattle.command_words.specs.Words.{command_of}
 use Rattle.command_words.proofs.vectors.keys_of_one_word_are_read.Goals as goal
 
 pub returns : goal.returns
 unfolding digits command_of
-returns c = record {
-  cuts = refl;
-  ordered = refl;
-  kept = refl;
-  together = refl;
-  sets = refl;
-  left_of_missing = refl;
-  root = refl;
-}
+returns c = search rules
