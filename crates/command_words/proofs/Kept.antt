@@ -187,8 +187,8 @@ through : {A B C D : Type 0} (out : D → B) (r : Result A C) (f : A → Result 
 through out (Ok x) f h same = same x
 through out (Err e) f h same = refl
 
-word_kept_of : (verb : Verb) (g : List Given) (index : ℕ) (word : List ℕ) → word_value verb (values_of g) index word ≡ (with_word verb g index word >>= (λ more. Ok (values_of more)))
-word_kept_of verb g index word =
+word_alike : (verb : Verb) (g : List Given) (index : ℕ) (word : List ℕ) → word_value verb (values_of g) index word ≡ (with_word verb g index word >>= (λ more. Ok (values_of more)))
+word_alike verb g index word =
     through values_of (need (key_and_value word) UnknownKey) _ _
     (λ parts. through values_of (need (named key_word keys parts.0) UnknownKey) _ _
     (λ k. through values_of (refuse (not (has_key verb k)) UnknownKey) _ _
@@ -207,5 +207,5 @@ at_word_on verb index words (Err code) later = refl
 pub values_given : (verb : Verb) (g : List Given) (index : ℕ) (words : List (List ℕ)) → values_from verb (values_of g) index words ≡ (given_from verb g index words >>= (λ all. Ok (values_of all)))
 values_given verb g index [] = refl
 values_given verb g index (word ∷ words) =
-    ap (λ r. at_word index r >>= (λ v. values_from verb v (index + 1) words)) (word_kept_of verb g index word)
+    ap (λ r. at_word index r >>= (λ v. values_from verb v (index + 1) words)) (word_alike verb g index word)
     ∙ at_word_on verb index words (with_word verb g index word) (λ more. values_given verb more (index + 1) words)

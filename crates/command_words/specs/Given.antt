@@ -29,7 +29,7 @@ given_at k given = find (λ g. same_key k g.key) given
 abbrev pub is_given : Key → List Given → Bool
 is_given k given = is_some (given_at k given)
 
--- ---- the value of a key that is given, and the index of its word
+-- ---- the value of a key that is given, and the index of its word; of a key that is lacking any value, since no command is made without the keys that it requires
 
 abbrev pub text_at : Key → List Given → List ℕ
 text_at k given = unwrap_or (option_map (λ g. g.text) (given_at k given)) []
