@@ -115,6 +115,7 @@ pub fn more_commands_are_read()
     ensures bound { command_of (words_of (codes "bound collective=allgather k=1 steps=3 chunks=2 conflicts=1000")) ≡ Ok (Command.Bound Kind.Allgather 1 (record { k = 1; max_s = 3; max_c = 2; conflicts = 1000; pruning = unpruned }) None false) }
     ensures no_allreduce { command_of (words_of (codes "bound k=1 collective=allreduce")) ≡ Err (record { code = WordCode.BadValue; word = 2 }) }
     ensures ordered { command_of (words_of (codes "ordered collective=reduce k=0 steps=3 chunks=2 conflicts=1000 root=n1")) ≡ Ok (Command.Ordered Kind.Reduce 1 (record { k = 0; max_s = 3; max_c = 2; conflicts = 1000; pruning = unpruned }) (Some (record { name = codes "n1"; word = 6 }))) }
+    ensures node_of_that_name { command_of (words_of (codes "bound root=allreduce")) ≡ Err (record { code = WordCode.KeyMissing; word = 2 }) }
     ensures no_order_of_allreduce { command_of (words_of (codes "ordered collective=allreduce")) ≡ Err (record { code = WordCode.BadValue; word = 1 }) }
     ensures degrade { command_of (words_of (codes "degrade width=0 group=255")) ≡ Ok (Command.Degrade 255 2 0 1) }
     ensures width_above { command_of (words_of (codes "degrade width=17")) ≡ Err (record { code = WordCode.BadValue; word = 1 }) }
