@@ -7,7 +7,7 @@ use Rattle.std.proofs.lemmas.List.Quantifiers.{all_pairs_push}
 use Rattle.cnf_formula.specs.Literals.{LitValue}
 use Rattle.trail_core.specs.Meaning.{CoreValue}
 use Rattle.trail_core.specs.Formed.{IsTrail}
-use Rattle.conflict_analysis.specs.Met.{WalkValue, IsSorted, IsPassed, IsPoint, AreLeft}
+use Rattle.conflict_analysis.specs.Met.{WalkValue, IsSorted, IsPassed, IsImplicationPoint, AreLeft}
 use Rattle.conflict_analysis.proofs.Marked.{false_at, lit_about}
 
 -- one more that is kept
@@ -68,7 +68,7 @@ left_passed core kind w left place p = record {
   hints = p.hints;
 }
 
-pub left_point : (core : CoreValue) (w : WalkValue) (left : List LitValue) (point : Option LitValue) → MatchOption point (length core.limits ≡ 0) (λ l. IsPoint core w l × (0 < length core.limits)) → MatchOption point (length core.limits ≡ 0) (λ l. IsPoint core (left_in w left) l × (0 < length core.limits))
+pub left_point : (core : CoreValue) (w : WalkValue) (left : List LitValue) (point : Option LitValue) → MatchOption point (length core.limits ≡ 0) (λ l. IsImplicationPoint core w l × (0 < length core.limits)) → MatchOption point (length core.limits ≡ 0) (λ l. IsImplicationPoint core (left_in w left) l × (0 < length core.limits))
 left_point core w left None p = p
 left_point core w left (Some l) p = (record { place = p.0.place; within = p.0.within; is = p.0.is; waits = p.0.waits; only = p.0.only }, p.1)
 

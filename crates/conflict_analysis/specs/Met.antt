@@ -113,14 +113,9 @@ pub record IsRested (vars stamp : ℕ) (marks : List ℕ) : Type 0 where
   pub below : (v : ℕ) → get_or marks v 0 < stamp + 4
 
 -- the literal stands on the trail, and its step is the one of the last level that waits
-pub record IsPoint (core : CoreValue) (w : WalkValue) (l : LitValue) : Type 0 where
+pub record IsImplicationPoint (core : CoreValue) (w : WalkValue) (l : LitValue) : Type 0 where
   pub place : ℕ
   pub within : place < length core.trail
   pub is : lit_at core place ≡ l
   pub waits : mark_of w l ≡ w.stamp + 1
   pub only : (k : ℕ) → k < length core.trail → mark_of w (lit_at core k) ≡ w.stamp + 1 → k ≡ place
-
--- of the last level the same steps wait
-pub record HasSameOpen (core : CoreValue) (w w' : WalkValue) : Type 0 where
-  pub before : (k : ℕ) → k < length core.trail → mark_of w' (lit_at core k) ≡ w'.stamp + 1 → mark_of w (lit_at core k) ≡ w.stamp + 1
-  pub after : (k : ℕ) → k < length core.trail → mark_of w (lit_at core k) ≡ w.stamp + 1 → mark_of w' (lit_at core k) ≡ w'.stamp + 1

@@ -37,10 +37,10 @@ walk_all-requires-clause-some c =
     met_open_some core c.args.conflict (value_of c.begin.new.self) (value_of c.meet_all.new.walk) c.requires.conflict begun c.in_ok-meet_all.ensures
 
 pub kept_lits-requires-clause-room : goal.kept_lits-requires-clause-room
-kept_lits-requires-clause-room c = kept_room c.args.core.now (value_of c.walk_all.new.walk) c.requires.conflict.formed c.in_ok-point.ensures.sorted
+kept_lits-requires-clause-room c = kept_room c.args.core.now (value_of c.walk_all.new.walk) c.requires.conflict.formed c.in_ok-point.ensures.walked.sorted
 
 pub kept_lits-requires-clause-once : goal.kept_lits-requires-clause-once
-kept_lits-requires-clause-once c = c.in_ok-point.ensures.sorted.kept.once
+kept_lits-requires-clause-once c = c.in_ok-point.ensures.walked.sorted.kept.once
 
 pub returns-clause-learned : goal.returns-clause-learned
 returns-clause-learned c =
@@ -52,11 +52,11 @@ returns-clause-learned c =
     let point : Option LitValue = c.in_ok-point.point in
     let ended : IsEnded core c.args.conflict w point = record {
       conflicts = c.requires.conflict;
-      met = λ o h. c.in_ok-point.ensures.onward.seen o (c.in_ok-meet_all.ensures.seen o h);
-      sorted = left_sorted core old left c.in_ok-point.ensures.sorted l;
+      met = λ o h. c.in_ok-point.ensures.walked.onward.seen o (c.in_ok-meet_all.ensures.seen o h);
+      sorted = left_sorted core old left c.in_ok-point.ensures.walked.sorted l;
       exact = λ o h. (l.of o h).1;
       none = c.in_ok-point.ensures.none;
-      passed = left_passed core 3 old left 0 c.in_ok-point.ensures.passed;
+      passed = left_passed core 3 old left 0 c.in_ok-point.ensures.walked.passed;
       left = left_point core old left point c.in_ok-point.ensures.point;
     } in
     let hint : to_z w64 (of_z w64 c.hint.result) ≡ pos (c.args.conflict + 1) = to_z-of_z w64 c.hint.result (search rules) ∙ c.hint.ensures in
@@ -73,5 +73,5 @@ returns-clause-learned c =
 pub settle-requires : goal.settle-requires
 settle-requires c = λ o h.
     let kept = (c.in_ok-lits.ensures.of o (subst (λ xs. Contains xs o) c.deref.ensures.value h)).0 in
-    let false' : IsFalse (trues c.args.core.now) o = (c.in_ok-point.ensures.sorted.kept.of o kept).1 in
+    let false' : IsFalse (trues c.args.core.now) o = (c.in_ok-point.ensures.walked.sorted.kept.of o kept).1 in
     subst (λ xs. Contains xs (negation o)) (sym c.trail-2.ensures.value) false'

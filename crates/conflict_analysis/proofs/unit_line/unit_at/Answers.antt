@@ -1,5 +1,5 @@
-use Rattle.std.proofs.Common.{◌≡◌, ◌+◌, ◌<◌, [], ◌∷◌, ◌++◌, length, refl, sym, ap, ◌∙◌, subst, inr, arith}
-use Rattle.std.specs.Prelude.{◌⊎◌, Contains, reverse}
+use Rattle.std.proofs.Common.{◌≡◌, [], ◌∷◌, ◌++◌, sym, ap, ◌∙◌, subst, inr, arith}
+use Rattle.std.specs.Prelude.{Contains, reverse}
 use Rattle.cnf_formula.specs.Literals.{LitValue, negation}
 use Rattle.trail_core.specs.Meaning.{trues}
 use Rattle.trail_core.specs.Assigned.{IsFalse}
@@ -8,8 +8,8 @@ use Rattle.conflict_analysis.specs.Met.{value_of, WalkValue, lit_at}
 use Rattle.conflict_analysis.proofs.Marked.{lit_stands, lit_about}
 use Rattle.conflict_analysis.proofs.Pointed.{IsBegun, begun_sorted}
 use Rattle.conflict_analysis.proofs.Resolved.{place_read}
-use Rattle.conflict_analysis.proofs.Denied.{met_from, walked_by, settled_by}
-use Rattle.conflict_analysis.proofs.settled.unit_at.Goals as goal
+use Rattle.conflict_analysis.proofs.Denied.{met_from, walked_by, unit_line_by}
+use Rattle.conflict_analysis.proofs.unit_line.unit_at.Goals as goal
 
 pub meet-requires-clause-sorted : goal.meet-requires-clause-sorted
 meet-requires-clause-sorted c =
@@ -50,7 +50,7 @@ returns-clause-settled c =
     let begun : IsBegun core (value_of c.begin.new.self) = record { len = e.len ∙ c.requires.rested.len; low = e.low; lits = e.lits; hints = e.hints; open_ = e.open; zeros = e.zeros; none = e.none } in
     let b = c.in_ok-walk_bottom.ensures in
     let w : WalkValue = value_of c.walk_bottom.new.walk in
-    let walked = walked_by core c.args.place c.negated.result (value_of c.begin.new.self) (value_of c.meet.new.walk) w c.requires.place c.requires.bottom (ap (λ y. y.var) c.negated.ensures ∙ ap (λ y. y.var) at) begun c.in_ok-meet.ensures b.onward b.sorted b.passed b.above in
-    settled_by core c.args.place w _ walked
+    let walked = walked_by core c.args.place c.negated.result (value_of c.begin.new.self) (value_of c.meet.new.walk) w c.requires.place c.requires.bottom (ap (λ y. y.var) c.negated.ensures ∙ ap (λ y. y.var) at) begun c.in_ok-meet.ensures b.walked b.above in
+    unit_line_by core c.args.place w _ walked
     (c.in_ok-push.ensures.items ∙ ap (λ xs. xs ++ x ∷ []) c.in_ok-lits.ensures.items ∙ ap (λ y. y ∷ []) at)
     (c.reverse.ensures.items ∙ ap (λ v. reverse v.items) c.replace-hints.ensures.value)
