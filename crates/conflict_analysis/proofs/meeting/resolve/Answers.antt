@@ -1,6 +1,6 @@
 use mir.Val.{of_z, to_z}
 use Rattle.std.proofs.lemmas.Int.{to_z-of_z}
-use Rattle.std.proofs.Common.{rules, w64, ◌≡◌, ◌+◌, ◌<◌, [], length, get_or, sym, ◌∙◌, subst}
+use Rattle.std.proofs.Common.{rules, w64, ℤ, ◌≡◌, ◌+◌, ◌<◌, [], ◌∷◌, ◌++◌, length, get_or, set, sym, ◌∙◌, subst}
 use Rattle.std.specs.Prelude.{◌⊎◌, Contains, pos}
 use Rattle.std.proofs.lemmas.Result.{on_ok_weaker}
 use Rattle.cnf_formula.specs.Literals.{LitValue}
@@ -11,51 +11,49 @@ use Rattle.conflict_analysis.specs.inner.Walks.{without}
 use Rattle.conflict_analysis.proofs.Marked.{lit_stands}
 use Rattle.conflict_analysis.proofs.Resolved.{step_read, place_read, reason_some, without_is, without_sorted, others_met, others_within}
 use Rattle.conflict_analysis.proofs.meeting.resolve.Goals as goal
+use Rattle.conflict_analysis.proofs.meeting.resolve.Goals.{After-var}
 
 pub reason-requires : goal.reason-requires
 reason-requires c =
     let core = c.args.core.now in
-    let x : LitValue = c.index-trail-place.result in
-    let at : x ≡ lit_at core c.args.place = place_read core c.trail.result.now c.args.place x c.trail.ensures.value c.requires.step.within c.index-trail-place.is in
+    let at : c.index-trail-place.result ≡ lit_at core c.args.place = place_read core c.trail.result.now c.args.place c.index-trail-place.result c.trail.ensures.value c.requires.step.within c.index-trail-place.is in
     subst (λ l. Contains (trues core) l) (sym at) (lit_stands core c.args.place c.requires.step.within)
 
 pub unwrap-reason-requires : goal.unwrap-reason-requires
 unwrap-reason-requires c =
     let core = c.args.core.now in
-    let x : LitValue = c.index-trail-place.result in
     let step = c.requires.step in
-    let at : x ≡ lit_at core c.args.place = place_read core c.trail.result.now c.args.place x c.trail.ensures.value step.within c.index-trail-place.is in
-    reason_some c.reason.result step.implied.id (sym (step_read core c.args.place x c.reason.result step.formed step.within at c.reason.ensures) ∙ step.implied.reason)
+    let at : c.index-trail-place.result ≡ lit_at core c.args.place = place_read core c.trail.result.now c.args.place c.index-trail-place.result c.trail.ensures.value step.within c.index-trail-place.is in
+    reason_some c.reason.result step.implied.id (sym (step_read core c.args.place c.index-trail-place.result c.reason.result step.formed step.within at c.reason.ensures) ∙ step.implied.reason)
+
+-- the step is marked, and its reason noted
+marked : (c : After-var) → (c.requires.step.implied.id ≡ c.unwrap-reason.result) × ◌≡◌ {A = WalkValue} (without c.args.core.now (value_of c.args.walk.now) c.args.place c.requires.step.implied.id) (record (value_of c.args.walk.now) { marks = set c.args.walk.now.marks.items c.var.result (c.args.walk.now.stamp + 2); hints = c.push.new.self.items })
+marked c =
+    let at : c.index-trail-place.result ≡ lit_at c.args.core.now c.args.place = place_read c.args.core.now c.trail.result.now c.args.place c.index-trail-place.result c.trail.ensures.value c.requires.step.within c.index-trail-place.is in
+    let hint : to_z w64 (of_z w64 c.hint.result) ≡ pos (c.unwrap-reason.result + 1) = to_z-of_z w64 c.hint.result (search rules) ∙ c.hint.ensures in
+    without_is c.args.core.now (value_of c.args.walk.now) c.args.place c.requires.step c.index-trail-place.result c.reason.result c.unwrap-reason.result c.var.result (to_z w64 (of_z w64 c.hint.result)) c.push.new.self.items at c.reason.ensures c.unwrap-reason.ensures c.var.ensures.var hint c.in_ok-push.ensures.items
 
 pub meet_all-requires : goal.meet_all-requires
 meet_all-requires c =
     let core = c.args.core.now in
     let w : WalkValue = value_of c.args.walk.now in
-    let place = c.args.place in
     let step = c.requires.step in
-    let x : LitValue = c.index-trail-place.result in
-    let at : x ≡ lit_at core place = place_read core c.trail.result.now place x c.trail.ensures.value step.within c.index-trail-place.is in
-    let hint : to_z w64 (of_z w64 c.hint.result) ≡ pos (c.unwrap-reason.result + 1) = to_z-of_z w64 c.hint.result (search rules) ∙ c.hint.ensures in
-    let is = without_is core w place step x c.reason.result c.unwrap-reason.result c.var.result (to_z w64 (of_z w64 c.hint.result)) c.push.new.self.items at c.reason.ensures c.unwrap-reason.ensures c.var.ensures.var hint c.in_ok-push.ensures.items in
+    let is = marked (goal.at.meet_all-requires c).After-var in
     record {
       formed = step.formed;
-      sorted = subst (IsSorted core) is.1 (without_sorted core w place step);
+      sorted = subst (IsSorted core) is.1 (without_sorted core w c.args.place step);
       few = c.requires.few;
       id = subst (λ i. i < length core.clauses) is.0 step.implied.within;
-      met = λ o h. subst (λ y. IsSeen y o ⊎ IsFalse (trues core) o) is.1 (others_met core w place step o (subst (λ i. Contains (get_or core.clauses i []) o) (sym is.0) h));
-      within = λ o h. others_within core w place step o (subst (λ i. Contains (get_or core.clauses i []) o) (sym is.0) h);
+      met = λ o h. subst (λ y. IsSeen y o ⊎ IsFalse (trues core) o) is.1 (others_met core w c.args.place step o (subst (λ i. Contains (get_or core.clauses i []) o) (sym is.0) h));
+      within = λ o h. others_within core w c.args.place step o (subst (λ i. Contains (get_or core.clauses i []) o) (sym is.0) h);
     }
 
 pub returns : goal.returns
 returns c =
     let core = c.args.core.now in
-    let w : WalkValue = value_of c.args.walk.now in
-    let place = c.args.place in
-    let step = c.requires.step in
-    let x : LitValue = c.index-trail-place.result in
-    let at : x ≡ lit_at core place = place_read core c.trail.result.now place x c.trail.ensures.value step.within c.index-trail-place.is in
-    let hint : to_z w64 (of_z w64 c.hint.result) ≡ pos (c.unwrap-reason.result + 1) = to_z-of_z w64 c.hint.result (search rules) ∙ c.hint.ensures in
-    let is = without_is core w place step x c.reason.result c.unwrap-reason.result c.var.result (to_z w64 (of_z w64 c.hint.result)) c.push.new.self.items at c.reason.ensures c.unwrap-reason.ensures c.var.ensures.var hint c.in_ok-push.ensures.items in
+    let id = c.requires.step.implied.id in
+    let now = without core (value_of c.args.walk.now) c.args.place id in
     let after : WalkValue = value_of c.meet_all.new.walk in
-    let met : HasMet core (get_or core.clauses c.unwrap-reason.result []) _ after → HasMet core (get_or core.clauses step.implied.id []) (without core w place step.implied.id) after = λ m. subst (λ i. HasMet core (get_or core.clauses i []) (without core w place step.implied.id) after) (sym is.0) (subst (λ y. HasMet core (get_or core.clauses c.unwrap-reason.result []) y after) (sym is.1) m) in
-    on_ok_weaker c.meet_all.result (λ m. record { step = step; met = met m }) c.meet_all.ensures
+    let is = marked (goal.at.returns c).After-var in
+    let met : HasMet core (get_or core.clauses c.unwrap-reason.result []) _ after → HasMet core (get_or core.clauses id []) now after = λ m. subst (λ i. HasMet core (get_or core.clauses i []) now after) (sym is.0) (subst (λ y. HasMet core (get_or core.clauses c.unwrap-reason.result []) y after) (sym is.1) m) in
+    on_ok_weaker c.meet_all.result (λ m. record { step = c.requires.step; met = met m }) c.meet_all.ensures
