@@ -135,36 +135,18 @@ kept_other stamp marks v u y n h =
     let s = get_or-set_other marks v u y 0 n in
     ⊎_elim (λ a. inl (s ∙ a)) (λ b. inr (s ∙ b)) h
 
--- one whose step is resolved is kept no more
-pub kept_drop : (core : CoreValue) (stamp : ℕ) (marks : List ℕ) (lits : List LitValue) (v : ℕ) → v < length marks → AreKept core stamp marks lits → AreKept core stamp (set marks v (stamp + 2)) lits
-kept_drop core stamp marks lits v w k = record {
-  of = λ o c.
-      let h = k.of o c in (
-        ⊎_elim
-            (λ e. inr (ap (λ x. get_or (set marks v (stamp + 2)) x 0) e ∙ get_or-set_same marks v (stamp + 2) 0 w))
-            (λ n. kept_other stamp marks v o.var (stamp + 2) n h.0)
-            (cases_eq o.var v),
-        h.1,
-      );
-  all = λ o f e. ⊎_elim
-      (λ s. let here' : get_or (set marks v (stamp + 2)) o.var 0 ≡ stamp + 2 = ap (λ x. get_or (set marks v (stamp + 2)) x 0) s ∙ get_or-set_same marks v (stamp + 2) 0 w in absurd (omega (arith, here', e)))
-      (λ d. k.all o f (sym (get_or-set_other marks v o.var (stamp + 2) 0 d) ∙ e))
-      (cases_eq o.var v);
-  once = k.once;
-}
-
--- of a variable that was not met
-pub kept_same : (core : CoreValue) (stamp : ℕ) (marks : List ℕ) (lits : List LitValue) (v y : ℕ) → v < length marks → AreKept core stamp marks lits → get_or marks v 0 < stamp → y ≢ stamp → AreKept core stamp (set marks v y) lits
-kept_same core stamp marks lits v y w k low m = record {
+-- one whose step is resolved is kept no more, nor one of another kind that was not met
+pub kept_set : (core : CoreValue) (stamp : ℕ) (marks : List ℕ) (lits : List LitValue) (v y : ℕ) → v < length marks → AreKept core stamp marks lits → y ≢ stamp → (y ≡ stamp + 2) ⊎ (get_or marks v 0 < stamp) → AreKept core stamp (set marks v y) lits
+kept_set core stamp marks lits v y w k other how = record {
   of = λ o c.
       let h = k.of o c in
-      (kept_other stamp marks v o.var y (λ e. unmet stamp marks v o.var e low h.0) h.0, h.1);
-  all = λ o f e. ⊎_elim
-      (λ s. absurd (m (sym (get_or-set_same marks v y 0 w) ∙ ap (λ x. get_or (set marks v y) x 0) (sym s) ∙ e)))
-      (λ d. k.all o f (sym (get_or-set_other marks v o.var y 0 d) ∙ e))
-      (cases_eq o.var v);
+      (⊎_elim (λ e. ⊎_elim (λ two. inr (here' o e ∙ two)) (λ low. absurd (unmet stamp marks v o.var e low h.0)) how) (λ n. kept_other stamp marks v o.var y n h.0) (cases_eq o.var v), h.1);
+  all = λ o f e. ⊎_elim (λ s. absurd (other (sym (here' o s) ∙ e))) (λ d. k.all o f (sym (get_or-set_other marks v o.var y 0 d) ∙ e)) (cases_eq o.var v);
   once = k.once;
 }
+  where
+    here' : (o : LitValue) → o.var ≡ v → get_or (set marks v y) o.var 0 ≡ y
+    here' o e = ap (λ x. get_or (set marks v y) x 0) e ∙ get_or-set_same marks v y 0 w
 
 pub kept_more : (core : CoreValue) (stamp : ℕ) (marks : List ℕ) (lits : List LitValue) (l : LitValue) → IsTrail core.vars core.trail core.limits → l.var < length marks → AreKept core stamp marks lits → get_or marks l.var 0 < stamp → IsFalse (trues core) l → AreKept core stamp (set marks l.var stamp) (lits ++ l ∷ [])
 kept_more core stamp marks lits l t w k low f = record {
@@ -246,13 +228,13 @@ module _ (core : CoreValue) (w : WalkValue) (l : LitValue) (k : ℕ) (places : L
 
   pub met_bottom : level_at core.limits k ≡ 0 → HasMet core (l ∷ []) w (record w { marks = set w.marks l.var (w.stamp + 3); zeros = w.zeros + 1; met_places = places })
   met_bottom zero =
-      let kept = kept_same core w.stamp w.marks w.lits l.var (w.stamp + 3) u.room u.sorted.kept u.low (λ h. omega (arith, h)) in
+      let kept = kept_set core w.stamp w.marks w.lits l.var (w.stamp + 3) u.room u.sorted.kept (λ h. omega (arith, h)) (inr u.low) in
       let mark : IsMark core k 3 = record { within = u.at.within; some = omega arith; low = λ h. absurd (omega (arith, h)); top = λ h. absurd (omega (arith, h)); bottom = λ h. zero } in
       met_new 3 w.open_ (w.zeros + 1) w.lits mark (λ h. omega (arith, h)) kept (u.sorted.open_ ∙ others_wait 1 (w.stamp + 3) (λ h. omega (arith, h))) (ap (λ n. n + 1) u.sorted.zeros ∙ one_more 3) (omega arith)
 
   pub met_open : level_at core.limits k ≡ length core.limits → 0 < length core.limits → HasMet core (l ∷ []) w (record w { marks = set w.marks l.var (w.stamp + 1); open_ = w.open_ + 1; met_places = places })
   met_open top some =
-      let kept = kept_same core w.stamp w.marks w.lits l.var (w.stamp + 1) u.room u.sorted.kept u.low (λ h. omega (arith, h)) in
+      let kept = kept_set core w.stamp w.marks w.lits l.var (w.stamp + 1) u.room u.sorted.kept (λ h. omega (arith, h)) (inr u.low) in
       let mark : IsMark core k 1 = record { within = u.at.within; some = omega arith; low = λ h. absurd (omega (arith, h)); top = λ h. (top, some); bottom = λ h. absurd (omega (arith, h)) } in
       met_new 1 (w.open_ + 1) w.zeros w.lits mark (λ h. omega (arith, h)) kept (ap (λ n. n + 1) u.sorted.open_ ∙ one_more 1) (u.sorted.zeros ∙ others_wait 3 (w.stamp + 1) (λ h. omega (arith, h))) (omega arith)
 

@@ -1,9 +1,10 @@
 -- A step is taken for its reason.
 use Rattle.std.proofs.Common.{zero, suc, ◌≡◌, ℕ, ◌+◌, ◌<◌, ◌≤◌, ℤ, Bool, true, false, List, [], ◌∷◌, ◌++◌, Option, length, get_or, set, take, cond, refl, sym, ap, ◌∙◌, subst, inl, inr, ⊎_elim, arith, eq-eqb}
 use Rattle.std.specs.Prelude.{◌≢◌, ◌⊎◌, ◌==◌, Contains, None, Some, IsSome, map, filter, pos, reverse}
-use Rattle.std.proofs.lemmas.Bool.{cases_eq, cases_lt, ne_eqb}
+use Rattle.std.proofs.lemmas.Bool.{cases_eq, cases_lt, eqb-true, ne_eqb}
 use Rattle.std.proofs.lemmas.List.{get_or-set_other, get_or_default, length-take-le, reverse-append, get_or-take, take-map}
 use Rattle.std.proofs.lemmas.List.Elements.{All-contains}
+use Rattle.list_laws.proofs.Tests.{same_test}
 use Rattle.cnf_formula.specs.Literals.{LitValue, negation}
 use Rattle.cnf_formula.specs.Formulas.{IsAbout}
 use Rattle.trail_core.specs.Assigned.{IsFalse, level_at}
@@ -17,7 +18,7 @@ use Rattle.conflict_analysis.specs.Learning.{number_of, hints_of}
 use Rattle.conflict_analysis.specs.Met.{WalkValue, step_at, no_step, lit_at, mark_of, resolved_by, IsSeen, IsSorted, IsReasoned, IsPassed, IsOnward}
 use Rattle.conflict_analysis.specs.inner.Walks.{IsStep, without, IsTaken, HasWalked, HasSameOpen, HasSameAbove}
 use Rattle.conflict_analysis.proofs.Levels.{level_grows}
-use Rattle.conflict_analysis.proofs.Marked.{lit_read, lit_about, same_place, mark_same, marked_set, noted_same, kept_drop}
+use Rattle.conflict_analysis.proofs.Marked.{lit_read, lit_about, same_place, mark_same, marked_set, noted_same, kept_set}
 
 -- ---- a test that passes at one place more, the first at which it passes
 
@@ -62,7 +63,7 @@ module _ (core : CoreValue) (w : WalkValue) (place : ℕ) (s : IsStep core w pla
       let room = lit_about core place s.formed s.within in
       record {
         marked = marked_set core w.stamp w.marks place 2 s.formed s.marked (record { within = s.within; some = omega arith; low = λ h. absurd (omega (arith, h)); top = λ h. absurd (omega (arith, h)); bottom = λ h. absurd (omega (arith, h)) });
-        kept = kept_drop core w.stamp w.marks w.lits (lit_at core place).var (omega (arith, room.within, s.marked.len)) s.kept;
+        kept = kept_set core w.stamp w.marks w.lits (lit_at core place).var (w.stamp + 2) (omega (arith, room.within, s.marked.len)) s.kept (λ h. omega (arith, h)) (inl refl);
         noted = noted_same core w.stamp w.marks w.met_places place (w.stamp + 2) s.formed s.within s.marked.len (omega arith) s.noted s.met;
         open_ = s.open_;
         zeros = s.zeros;
@@ -99,12 +100,6 @@ module _ (core : CoreValue) (w : WalkValue) (place : ℕ) (s : IsStep core w pla
       omega (arith, lt, j)
 
 -- ---- and the literals of its reason were met
-
-same_test : (a m b n : ℕ) → (a ≡ m → b ≡ n) → (b ≡ n → a ≡ m) → (a == m) ≡ (b == n)
-same_test a m b n f g = ⊎_elim
-    (λ e. eq-eqb a m e ∙ sym (eq-eqb b n (f e)))
-    (λ d. ne_eqb a m d ∙ sym (ne_eqb b n (λ e. d (g e))))
-    (cases_eq a m)
 
 -- a step that has a reason has it still
 reasoned_on : (core : CoreValue) (w w' : WalkValue) (k : ℕ) → ((o : LitValue) → IsSeen w o → IsSeen w' o) → IsReasoned core w k → IsReasoned core w' k
@@ -160,7 +155,9 @@ module _ (core : CoreValue) (w w' : WalkValue) (place : ℕ) (t : IsTaken core p
       (ne_eqb (mark_of w (lit_at core place)) (w.stamp + 2) t.step.new)
       (λ k gt v.
       let n : k ≢ place = λ e. omega (arith, e, gt) in
-      same_test (mark_of w' (lit_at core k)) (w'.stamp + 2) (mark_of w (lit_at core k)) (w.stamp + 2) (resolved_before k v n) (resolved_after k v n)) in
+      same_test (mark_of w' (lit_at core k) == w'.stamp + 2) (mark_of w (lit_at core k) == w.stamp + 2)
+      (λ e. eq-eqb (mark_of w (lit_at core k)) (w.stamp + 2) (resolved_before k v n (eqb-true (mark_of w' (lit_at core k)) (w'.stamp + 2) e)))
+      (λ e. eq-eqb (mark_of w' (lit_at core k)) (w'.stamp + 2) (resolved_after k v n (eqb-true (mark_of w (lit_at core k)) (w.stamp + 2) e)))) in
       ap reverse t.met.hints
       ∙ reverse-append w.hints (pos (t.step.implied.id + 1) ∷ [])
       ∙ ap (λ hs. pos (t.step.implied.id + 1) ∷ hs) p.hints

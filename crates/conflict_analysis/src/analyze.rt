@@ -1,11 +1,11 @@
 //! What is learned from a conflict (conflict analysis): the first literal of the last level through
 //! which it comes about, the first unique implication point (UIP), and literals of lower levels.
 
-ghost use Rattle.std.specs.Prelude.{◌≡◌, ◌≢◌, ◌+◌, ◌<◌, ◌≤◌, None, Some, length, Contains, AllPairs, IfOk, OnOk, MatchOption};
+ghost use Rattle.std.specs.Prelude.{◌≡◌, ◌+◌, ◌<◌, ◌≤◌, None, Some, length, Contains, IfOk, OnOk, MatchOption};
 ghost use Rattle.cnf_formula.specs.Literals.{LitValue};
 ghost use Rattle.trail_core.specs.Kept.{AreGrounded};
 ghost use Rattle.trail_core.specs.Formed.{IsTrail};
-ghost use Rattle.conflict_analysis.specs.Met.{value_of, IsSorted, IsPassed, IsImplicationPoint, IsRested, AreLeft};
+ghost use Rattle.conflict_analysis.specs.Met.{value_of, IsSorted, IsPassed, IsImplicationPoint, IsRested, left_of};
 ghost use Rattle.conflict_analysis.specs.Conflicts.{IsConflict};
 ghost use Rattle.conflict_analysis.specs.Learned.{IsLearned};
 ghost use Rattle.conflict_analysis.specs.inner.Walks.{HasWalked, HasSameOpen, HasSameAbove};
@@ -74,9 +74,8 @@ pub fn walk_bottom(core: &Core, walk: &mut Walk, from: usize) -> Result<(), OutO
 /// The literals that are kept still.
 fn kept_lits(alloc: Global, walk: &Walk) -> Result<Vec<Lit>, OutOfMemory>
     requires room { (o : LitValue) → Contains walk.now.lits.items o → o.var < length walk.now.marks.items }
-    requires once { AllPairs (λ a b. a.var ≢ b.var) walk.now.lits.items }
     requires few { walk.now.stamp ≤ 251 }
-    ensures { IfOk result (λ lits. AreLeft walk.now.stamp walk.now.marks.items walk.now.lits.items lits.items) }
+    ensures { IfOk result (λ lits. lits.items ≡ left_of walk.now.stamp walk.now.marks.items walk.now.lits.items) }
 {
     let mut left = Vec::with_capacity(alloc, walk.lits.len().saturating_add(1))?;
     for lit in &walk.lits {

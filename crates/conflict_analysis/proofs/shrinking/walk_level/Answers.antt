@@ -13,11 +13,10 @@ returns-then-kept-lt2 c =
     let core = c.args.core.now in
     let w : WalkValue = value_of c.args.walk.now in
     let level = c.args.level in
-    let low : level - 1 < length core.limits = omega (arith, c.requires.below) in
     let rise = limits_rise core.limits (length core.trail) (level - 1) level c.requires.formed.levels (omega arith) c.requires.below in
     let end = c.requires.formed.levels.below level c.requires.below in
     let begun = walked_none core 3 w (get_or core.limits level 0) (omega (arith, end)) c.requires.sorted c.requires.passed in
-    record { walked = walked_lower core w w (level - 1) (get_or core.limits level 0) (get_or core.limits (level - 1) 0) c.requires.formed low (omega arith) rise begun; same = same_open core w }
+    record { walked = walked_lower core w w (level - 1) (get_or core.limits level 0) (get_or core.limits (level - 1) 0) c.requires.formed (omega (arith, c.requires.below)) (omega arith) rise begun; same = same_open core w }
 
 pub loop-walk-init : goal.loop-walk-init
 loop-walk-init c =
@@ -26,22 +25,19 @@ loop-walk-init c =
     let old : WalkValue = value_of c.args.walk.now in
     let rise = limits_rise core.limits (length core.trail) (level - 1) level c.requires.formed.levels (omega arith) c.requires.below in
     let to = c.height-to.ensures.below c.requires.below in
-    let from = c.height-from.ensures.below (omega (arith, c.requires.below)) in
     let end = c.requires.formed.levels.below level c.requires.below in
-    let passed = subst (IsPassed core 3 old) (sym to) c.requires.passed in
+    let begun = walked_none core 3 old c.height-to.result (omega (arith, to, end)) c.requires.sorted (subst (IsPassed core 3 old) (sym to) c.requires.passed) in
     record {
-      under = omega arith;
-      above = omega (arith, rise, to, from);
-      walked = subst (λ w. HasWalked core 3 old w c.height-to.result) (sym c.has_point.ensures.same) (walked_none core 3 old c.height-to.result (omega (arith, to, end)) c.requires.sorted passed);
+      under = omega (arith, to);
+      above = omega (arith, rise, to);
+      walked = subst (λ w. HasWalked core 3 old w c.height-to.result) (sym c.has_point.ensures.same) begun;
       same = subst (λ w. HasSameOpen core old w) (sym c.has_point.ensures.same) (same_open core old);
     }
 
 pub is_spare-requires : goal.is_spare-requires
 is_spare-requires c =
-    let core = c.args.core.now in
     let inv = c.loop-walk.invariant in
-    let to = c.height-to.ensures.below c.requires.below in
-    let middle = middle_at core c.args.level c.in-Some.next c.requires.formed c.requires.below (omega (arith, to, inv.under, c.in-Some.ensures.1)) in
+    let middle = middle_at c.args.core.now c.args.level c.in-Some.next c.requires.formed c.requires.below (omega (arith, inv.under, c.in-Some.ensures.1)) in
     record { sorted = inv.walked.sorted; few = omega (arith, inv.walked.onward.stamp, c.requires.few); place = middle.within }
 
 pub resolve-requires : goal.resolve-requires
@@ -59,37 +55,30 @@ loop-walk-preserved-then-is_spare c =
     let old : WalkValue = value_of c.args.walk.now in
     let w : WalkValue = value_of c.loop-walk.walk in
     let after : WalkValue = value_of c.resolve.new.walk in
-    let low : level - 1 < length core.limits = omega (arith, c.requires.below) in
-    let to = c.height-to.ensures.below c.requires.below in
-    let from = c.height-from.ensures.below low in
-    let middle = middle_at core level k c.requires.formed c.requires.below (omega (arith, to, inv.under, c.in-Some.ensures.1)) in
-    let passed = passed_lower core w (level - 1) c.loop-walk.place (k + 1) c.requires.formed low (omega (arith, from, c.in-Some.ensures.0)) (omega (arith, c.in-Some.ensures.1)) inv.walked.sorted inv.walked.passed in
+    let from = c.height-from.ensures.below (omega (arith, c.requires.below)) in
+    let middle = middle_at core level k c.requires.formed c.requires.below (omega (arith, inv.under, c.in-Some.ensures.1)) in
+    let passed = passed_lower core w (level - 1) c.loop-walk.place (k + 1) c.requires.formed (omega (arith, c.requires.below)) (omega (arith, from, c.in-Some.ensures.0)) (omega (arith, c.in-Some.ensures.1)) inv.walked.sorted inv.walked.passed in
     record {
       under = omega (arith, inv.under, c.in-Some.ensures.1);
-      above = c.in-Some.ensures.0;
+      above = omega (arith, from, c.in-Some.ensures.0);
       walked = walked_on core old w after w.open_ w.zeros k c.in_ok-resolve.ensures 3 (λ h. omega (arith, h)) inv.walked.onward passed;
       same = open_on core old w after w.open_ w.zeros k c.in_ok-resolve.ensures (λ some. middle.lower) inv.same;
     }
 
 pub loop-walk-preserved : goal.loop-walk-preserved
 loop-walk-preserved c =
-    let core = c.args.core.now in
     let level = c.args.level in
     let inv = c.loop-walk.invariant in
-    let low : level - 1 < length core.limits = omega (arith, c.requires.below) in
-    let from = c.height-from.ensures.below low in
+    let from = c.height-from.ensures.below (omega (arith, c.requires.below)) in
     record {
       under = omega (arith, inv.under, c.in-Some.ensures.1);
-      above = c.in-Some.ensures.0;
-      walked = walked_lower core (value_of c.args.walk.now) (value_of c.loop-walk.walk) (level - 1) c.loop-walk.place c.in-Some.next c.requires.formed low (omega (arith, from, c.in-Some.ensures.0)) (omega (arith, c.in-Some.ensures.1)) inv.walked;
+      above = omega (arith, from, c.in-Some.ensures.0);
+      walked = walked_lower c.args.core.now (value_of c.args.walk.now) (value_of c.loop-walk.walk) (level - 1) c.loop-walk.place c.in-Some.next c.requires.formed (omega (arith, c.requires.below)) (omega (arith, from, c.in-Some.ensures.0)) (omega (arith, c.in-Some.ensures.1)) inv.walked;
       same = inv.same;
     }
 
 pub returns-clause-walked : goal.returns-clause-walked
 returns-clause-walked c =
-    let core = c.args.core.now in
     let level = c.args.level in
     let inv = c.loop-walk.invariant in
-    let low : level - 1 < length core.limits = omega (arith, c.requires.below) in
-    let from = c.height-from.ensures.below low in
-    walked_lower core (value_of c.args.walk.now) (value_of c.loop-walk.walk) (level - 1) c.loop-walk.place (get_or core.limits (level - 1) 0) c.requires.formed low (omega arith) (omega (arith, from, inv.above)) inv.walked
+    walked_lower c.args.core.now (value_of c.args.walk.now) (value_of c.loop-walk.walk) (level - 1) c.loop-walk.place (get_or c.args.core.now.limits (level - 1) 0) c.requires.formed (omega (arith, c.requires.below)) (omega arith) inv.above inv.walked
