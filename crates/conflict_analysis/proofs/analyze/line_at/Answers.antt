@@ -1,11 +1,9 @@
 use mir.Val.{of_z, to_z}
 use Rattle.std.proofs.lemmas.Int.{to_z-of_z}
-use Rattle.std.proofs.Common.{rules, w64, List, Option, ◌≡◌, ◌+◌, [], ◌∷◌, ◌++◌, sym, ap, ◌∙◌, subst, arith}
+use Rattle.std.proofs.Common.{rules, w64, Option, ◌≡◌, ◌+◌, [], ◌∷◌, ◌++◌, sym, ap, ◌∙◌, subst, arith}
 use Rattle.std.specs.Prelude.{pos, reverse, Contains}
 use Rattle.std.proofs.lemmas.List.{append-nil}
 use Rattle.cnf_formula.specs.Literals.{LitValue, negation}
-use Rattle.trail_core.specs.Assigned.{IsFalse}
-use Rattle.trail_core.specs.Meaning.{trues}
 use Rattle.conflict_analysis.specs.Met.{value_of, WalkValue}
 use Rattle.conflict_analysis.proofs.Pointed.{IsBegun, begun_sorted, conflict_within, met_passed, met_open_some}
 use Rattle.conflict_analysis.proofs.Left.{left_kept, left_in, left_sorted, left_passed, left_point, kept_room}

@@ -1,9 +1,8 @@
 use mir.Val.{of_z, to_z}
 use Rattle.std.proofs.lemmas.Int.{to_z-of_z}
-use Rattle.std.proofs.Common.{rules, w64, ℤ, ◌≡◌, ◌+◌, ◌<◌, [], ◌∷◌, ◌++◌, length, get_or, set, sym, ◌∙◌, subst}
+use Rattle.std.proofs.Common.{rules, w64, ◌≡◌, ◌+◌, ◌<◌, [], length, get_or, set, sym, ◌∙◌, subst}
 use Rattle.std.specs.Prelude.{◌⊎◌, Contains, pos}
 use Rattle.std.proofs.lemmas.Result.{on_ok_weaker}
-use Rattle.cnf_formula.specs.Literals.{LitValue}
 use Rattle.trail_core.specs.Assigned.{IsFalse}
 use Rattle.trail_core.specs.Meaning.{trues}
 use Rattle.conflict_analysis.specs.Met.{value_of, WalkValue, lit_at, IsSorted, IsSeen, HasMet}

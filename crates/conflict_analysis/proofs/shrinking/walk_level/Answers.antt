@@ -1,4 +1,4 @@
-use Rattle.std.proofs.Common.{◌+◌, ◌-◌, ◌<◌, length, get_or, sym, subst, arith}
+use Rattle.std.proofs.Common.{◌+◌, ◌-◌, length, get_or, sym, subst, arith}
 use Rattle.std.specs.Prelude.{Contains}
 use Rattle.conflict_analysis.specs.Met.{value_of, WalkValue, IsPassed}
 use Rattle.conflict_analysis.specs.inner.Walks.{HasWalked, HasSameOpen}

@@ -1,6 +1,6 @@
 use Rattle.std.proofs.Common.{◌≡◌, [], ◌∷◌, ◌++◌, sym, ap, ◌∙◌, subst, inr, arith}
 use Rattle.std.specs.Prelude.{Contains, reverse}
-use Rattle.cnf_formula.specs.Literals.{LitValue, negation}
+use Rattle.cnf_formula.specs.Literals.{negation}
 use Rattle.trail_core.specs.Meaning.{trues}
 use Rattle.trail_core.specs.Assigned.{IsFalse}
 use Rattle.trail_core.proofs.Keeping.{negated_twice}
