@@ -6,7 +6,7 @@ use Rattle.trail_core.specs.Meaning.{CoreValue}
 use Rattle.trail_core.specs.Search.{IsImplied}
 use Rattle.conflict_analysis.specs.Met.{WalkValue, step_at, lit_at, mark_of, IsSeen, AreMarks, AreKept, AreNoted, IsSorted, HasMet, IsPassed, IsOnward, waiting}
 
--- the step at a place is the highest one that waits
+-- the step at a place is the highest one of a kind that waits
 pub record IsNext (core : CoreValue) (kind : ℕ) (w : WalkValue) (place : ℕ) : Type 0 where
   pub within : place < length core.trail
   pub waits : mark_of w (lit_at core place) ≡ w.stamp + kind
