@@ -1,5 +1,5 @@
 -- Bits of words, and of sets of places.
-use Rattle.std.proofs.Common.{suc, ◌≡◌, ℕ, ◌+◌, ◌-◌, ◌*◌, ◌/◌, ◌%◌, ◌^◌, ◌<◌, ◌≤◌, List, length, get_or, set, sym, ap, ◌∙◌, inl, inr, ⊎_elim, arith}
+use Rattle.std.proofs.Common.{suc, ◌≡◌, ℕ, ◌+◌, ◌-◌, ◌*◌, ◌/◌, ◌%◌, ◌^◌, ◌<◌, ◌≤◌, List, length, get_or, set, sym, ap, ◌∙◌, subst, inl, inr, ⊎_elim, arith}
 use Rattle.std.specs.Prelude.{◌≢◌, ◌⊎◌, ◌↔◌, IsBitSet}
 use Rattle.std.proofs.Math.Nat.{pow-succ', pow-le-pow_right}
 use Rattle.std.proofs.lemmas.Bool.{cases_lt, cases_eq}
@@ -86,38 +86,32 @@ highest_last n some fits k gt s =
 -- ---- sets of places
 
 -- a place more
-pub has_more : (words words' : List ℕ) (place n : ℕ) → words' ≡ set words (place / 64) (bit_or n (2 ^ (place % 64))) → n ≡ get_or words (place / 64) 0 → place / 64 < length words → (k : ℕ) → HasPlace words' k ↔ (HasPlace words k ⊎ (k ≡ place))
-has_more words words' place n is at room k = ⊎_elim
+has_more : (words : List ℕ) (place n : ℕ) → n ≡ get_or words (place / 64) 0 → place / 64 < length words → (k : ℕ) → HasPlace (set words (place / 64) (bit_or n (2 ^ (place % 64)))) k ↔ (HasPlace words k ⊎ (k ≡ place))
+has_more words place n at room k = ⊎_elim
     (λ e.
-    let here' : get_or words' (k / 64) 0 ≡ bit_or n (2 ^ (place % 64)) = ap (λ ws. get_or ws (k / 64) 0) is ∙ ap (λ i. get_or (set words (place / 64) (bit_or n (2 ^ (place % 64)))) i 0) e ∙ get_or-set_same words (place / 64) (bit_or n (2 ^ (place % 64))) 0 room in
+    let new = ap (λ i. get_or (set words (place / 64) (bit_or n (2 ^ (place % 64)))) i 0) e ∙ get_or-set_same words (place / 64) (bit_or n (2 ^ (place % 64))) 0 room in
     let was : n ≡ get_or words (k / 64) 0 = at ∙ ap (λ i. get_or words i 0) (sym e) in
     let b = bits_more n (place % 64) (k % 64) in (
-      λ h. ⊎_elim
-          (λ s. inl (λ z. s (ap (λ x. bit_and x (2 ^ (k % 64))) was ∙ z)))
-          (λ s. inr (omega (arith, s, e)))
-          (b.0 (λ z. h (ap (λ x. bit_and x (2 ^ (k % 64))) here' ∙ z))),
-      λ h. λ z. b.1 (⊎_elim (λ s. inl (λ y. s (sym (ap (λ x. bit_and x (2 ^ (k % 64))) was) ∙ y))) (λ s. inr (ap (λ x. x % 64) s)) h) (sym (ap (λ x. bit_and x (2 ^ (k % 64))) here') ∙ z),
+      λ h. ⊎_elim (λ s. inl (subst Has was s)) (λ s. inr (omega (arith, s, e))) (b.0 (subst Has new h)),
+      λ h. subst Has (sym new) (b.1 (⊎_elim (λ s. inl (subst Has (sym was) s)) (λ s. inr (ap (λ x. x % 64) s)) h)),
     ))
     (λ d.
-    let same : get_or words' (k / 64) 0 ≡ get_or words (k / 64) 0 = ap (λ ws. get_or ws (k / 64) 0) is ∙ get_or-set_other words (place / 64) (k / 64) (bit_or n (2 ^ (place % 64))) 0 d in (
-      λ h. inl (λ z. h (ap (λ x. bit_and x (2 ^ (k % 64))) same ∙ z)),
-      λ h. λ z. ⊎_elim (λ s. s (sym (ap (λ x. bit_and x (2 ^ (k % 64))) same) ∙ z)) (λ s. d (ap (λ x. x / 64) s)) h,
-    ))
+    let same = get_or-set_other words (place / 64) (k / 64) (bit_or n (2 ^ (place % 64))) 0 d in
+    (λ h. inl (subst Has same h), λ h. subst Has (sym same) (⊎_elim (λ s. s) (λ s. absurd (d (ap (λ x. x / 64) s))) h)))
     (cases_eq (k / 64) (place / 64))
-
--- the words are the same
-pub has_same : (words words' : List ℕ) → ((i : ℕ) → get_or words' i 0 ≡ get_or words i 0) → (k : ℕ) → HasPlace words' k ↔ HasPlace words k
-has_same words words' e k =
-    let at = ap (λ x. bit_and x (2 ^ (k % 64))) (e (k / 64)) in
-    (λ h. λ z. h (at ∙ z), λ h. λ z. h (sym at ∙ z))
+  where
+    Has : ℕ → Type 0
+    Has word = IsBitSet word (k % 64)
 
 -- a place more, where room was made before
 pub has_inserted : (old words words' : List ℕ) (place n bit : ℕ) → ((i : ℕ) → get_or words i 0 ≡ get_or old i 0) → words' ≡ set words (place / 64) (bit_or n bit) → bit ≡ 2 ^ (place % 64) → n ≡ get_or words (place / 64) n → place / 64 < length words → (k : ℕ) → HasPlace words' k ↔ (HasPlace old k ⊎ (k ≡ place))
 has_inserted old words words' place n bit same is b r room k =
     let at : n ≡ get_or words (place / 64) 0 = r ∙ get_or_default words (place / 64) n 0 room in
-    let more = has_more words words' place n (is ∙ ap (λ x. set words (place / 64) (bit_or n x)) b) at room k in
-    let before = has_same old words same k in
-    (λ h. ⊎_elim (λ s. inl (before.0 s)) (λ e. inr e) (more.0 h), λ h. more.1 (⊎_elim (λ s. inl (before.1 s)) (λ e. inr e) h))
+    let more = has_more words place n at room k in
+    let new = is ∙ ap (λ x. set words (place / 64) (bit_or n x)) b in (
+      λ h. ⊎_elim (λ s. inl (subst (λ x. IsBitSet x (k % 64)) (same (k / 64)) s)) inr (more.0 (subst (λ ws. HasPlace ws k) new h)),
+      λ h. subst (λ ws. HasPlace ws k) (sym new) (more.1 (⊎_elim (λ s. inl (subst (λ x. IsBitSet x (k % 64)) (sym (same (k / 64))) s)) inr h)),
+    )
 
 -- on a way down from a place, of a word those bits are left that lie below the place
 pub record IsScan (words : List ℕ) (place index word : ℕ) : Type 0 where

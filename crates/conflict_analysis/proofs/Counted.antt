@@ -17,25 +17,17 @@ one_no mark m n = ap (λ b. cond {A = ℕ} b 1 0) (ne_eqb m mark n)
 
 -- one more, one less, the same
 pub waits_more : (mark : ℕ) (marks : List ℕ) (v y : ℕ) → v < length marks → get_or marks v 0 ≢ mark → y ≡ mark → waiting mark (set marks v y) ≡ waiting mark marks + 1
-waits_more mark marks v y w n e =
-    let s = sum_by-set (one_if mark) marks v y 0 w in
-    omega (arith, s, one_no mark (get_or marks v 0) n, one_yes mark y e)
+waits_more mark marks v y w n e = omega (arith, sum_by-set (one_if mark) marks v y 0 w, one_no mark (get_or marks v 0) n, one_yes mark y e)
 
 pub waits_less : (mark : ℕ) (marks : List ℕ) (v y : ℕ) → v < length marks → get_or marks v 0 ≡ mark → y ≢ mark → waiting mark (set marks v y) + 1 ≡ waiting mark marks
-waits_less mark marks v y w e n =
-    let s = sum_by-set (one_if mark) marks v y 0 w in
-    omega (arith, s, one_yes mark (get_or marks v 0) e, one_no mark y n)
+waits_less mark marks v y w e n = omega (arith, sum_by-set (one_if mark) marks v y 0 w, one_yes mark (get_or marks v 0) e, one_no mark y n)
 
 pub waits_same : (mark : ℕ) (marks : List ℕ) (v y : ℕ) → v < length marks → get_or marks v 0 ≢ mark → y ≢ mark → waiting mark (set marks v y) ≡ waiting mark marks
-waits_same mark marks v y w m n =
-    let s = sum_by-set (one_if mark) marks v y 0 w in
-    omega (arith, s, one_no mark (get_or marks v 0) m, one_no mark y n)
+waits_same mark marks v y w m n = omega (arith, sum_by-set (one_if mark) marks v y 0 w, one_no mark (get_or marks v 0) m, one_no mark y n)
 
 -- what is marked so is counted
 pub waits_some : (mark : ℕ) (marks : List ℕ) (v : ℕ) → v < length marks → get_or marks v 0 ≡ mark → 0 < waiting mark marks
-waits_some mark marks v w e =
-    let s = get_or-le-sum_by (one_if mark) marks v 0 w in
-    omega (arith, s, one_yes mark (get_or marks v 0) e)
+waits_some mark marks v w e = omega (arith, get_or-le-sum_by (one_if mark) marks v 0 w, one_yes mark (get_or marks v 0) e)
 
 -- two are counted twice
 pub waits_two : (mark : ℕ) (marks : List ℕ) (u v : ℕ) → mark ≢ 0 → u < length marks → v < length marks → u ≢ v → get_or marks u 0 ≡ mark → get_or marks v 0 ≡ mark → 1 < waiting mark marks

@@ -1,9 +1,9 @@
 -- A literal of level 0 follows from its reason, where the steps that its walk met are taken for theirs.
 use Rattle.std.proofs.Common.{zero, suc, ◌≡◌, ℕ, ◌+◌, ◌<◌, ◌≤◌, Bool, true, false, List, [], ◌∷◌, ◌++◌, length, get_or, take, refl, sym, ap, ◌∙◌, subst, inl, inr, ⊎_elim, arith, eq-eqb}
-use Rattle.std.specs.Prelude.{◌≢◌, Contains, Option, None, Some, filter, map, reverse, pos}
+use Rattle.std.specs.Prelude.{Contains, Option, None, Some, filter, map, reverse, pos}
 use Rattle.std.proofs.lemmas.Bool.{cases_eq, cases_lt, cases_Bool, eqb-true, ne_eqb, false≢true}
 use Rattle.std.proofs.lemmas.List.{get_or_default, get_or-take, get_or_append_left, get_or_push, length-take-le, length_push, map-append, take-map}
-use Rattle.std.proofs.lemmas.List.Elements.{Contains-append_left, Contains-push}
+use Rattle.std.proofs.lemmas.List.Elements.{Contains-push}
 use Rattle.list_laws.proofs.Members.{Contains-map}
 use Rattle.cnf_formula.specs.Literals.{LitValue, negation}
 use Rattle.cnf_formula.specs.Lines.{ProofLineValue}
@@ -13,11 +13,12 @@ use Rattle.trail_core.specs.Trails.{StepValue, lits_of}
 use Rattle.trail_core.specs.Meaning.{CoreValue}
 use Rattle.trail_core.proofs.Keeping.{lits_length}
 use Rattle.conflict_analysis.specs.Learning.{number_of, hints_of, hints_to, IsOut, IsResolved, IsAnalysis}
-use Rattle.conflict_analysis.specs.Met.{WalkValue, no_step, step_at, lit_at, mark_of, resolved_by, IsSeen, IsSorted, HasMet, IsPassed, IsOnward, IsReasoned}
-use Rattle.conflict_analysis.specs.Settled.{denied, IsSettled, HasSameAbove}
+use Rattle.conflict_analysis.specs.Met.{WalkValue, no_step, step_at, lit_at, mark_of, resolved_by, IsSeen, IsSorted, HasMet, IsPassed, IsReasoned}
+use Rattle.conflict_analysis.specs.UnitLines.{denied, IsUnitLine}
+use Rattle.conflict_analysis.specs.inner.Walks.{HasWalked, HasSameAbove}
 use Rattle.conflict_analysis.proofs.Members.{here, cons_cases}
 use Rattle.conflict_analysis.proofs.Marked.{lit_read, same_place}
-use Rattle.conflict_analysis.proofs.Pointed.{four, IsBegun, met_unresolved, met_passed}
+use Rattle.conflict_analysis.proofs.Pointed.{kinds, filter_none, IsBegun, met_unresolved, met_passed}
 
 -- ---- steps that were taken, and have a reason
 
@@ -41,10 +42,6 @@ reason_false None b e = refl
 reason_false (Some x) b e = e
 
 -- ---- the steps up to a place that pass a test are those before it, and the one there
-
-filter_none : (p : StepValue → Bool) (xs : List StepValue) → ((k : ℕ) → k < length xs → p (get_or xs k no_step) ≡ false) → filter p xs ≡ []
-filter_none p [] h = refl
-filter_none p (x ∷ xs) h = let e : p x ≡ false = h 0 (omega arith) in rw e (filter_none p xs (λ k w. h (suc k) (omega (arith, w))))
 
 filter_to : (p q : StepValue → Bool) (xs : List StepValue) (n : ℕ) (y : StepValue) → n < length xs → ((k : ℕ) → k < n → p (get_or xs k no_step) ≡ q (get_or xs k no_step)) → p (get_or xs n no_step) ≡ true → ((k : ℕ) → n < k → k < length xs → p (get_or xs k no_step) ≡ false) → q y ≡ false
     → filter p xs ≡ filter q (take n xs ++ y ∷ []) ++ get_or xs n no_step ∷ []
@@ -72,15 +69,12 @@ pub record IsWalked (core : CoreValue) (place : ℕ) (w : WalkValue) : Type 0 wh
 -- on level 0 all that was met is taken for its reason
 taken_at : (core : CoreValue) (place : ℕ) (w : WalkValue) (k : ℕ) → IsWalked core place w → k < length core.trail → w.stamp ≤ mark_of w (lit_at core k) → mark_of w (lit_at core k) ≡ w.stamp + 2
 taken_at core place w k d v seen = ⊎_elim
-    (λ e. e)
-    (λ n2. ⊎_elim
     (λ e. let low = d.sorted.marked.low k v e in absurd (omega (arith, low, d.bottom)))
-    (λ n0. ⊎_elim
+    (λ q. ⊎_elim
     (λ e. let top = d.sorted.marked.top k v e in absurd (omega (arith, top.1, d.bottom)))
-    (λ n1. let waits = d.passed.waits k v (four (mark_of w (lit_at core k)) w.stamp seen (d.sorted.marked.over (lit_at core k).var) n0 n1 n2) in absurd (omega (arith, waits)))
-    (cases_eq (mark_of w (lit_at core k)) (w.stamp + 1)))
-    (cases_eq (mark_of w (lit_at core k)) w.stamp))
-    (cases_eq (mark_of w (lit_at core k)) (w.stamp + 2))
+    (λ q. ⊎_elim (λ e. e) (λ e. let waits = d.passed.waits k v e in absurd (omega (arith, waits))) q)
+    q)
+    (kinds (mark_of w (lit_at core k)) w.stamp seen (d.sorted.marked.over (lit_at core k).var))
 
 pub reasoned_at : (core : CoreValue) (place : ℕ) (w : WalkValue) (k : ℕ) → IsWalked core place w → k < length core.trail → w.stamp ≤ mark_of w (lit_at core k) → IsReasoned core w k
 reasoned_at core place w k d v seen = (d.passed.each k v (taken_at core place w k d v seen)).1
@@ -124,8 +118,8 @@ out_under core place w k before clause o d le stand seen f =
 
 -- ---- so it is an analysis
 
-pub settled_analysis : (core : CoreValue) (place : ℕ) (w : WalkValue) (d : IsWalked core place w) → IsAnalysis core.clauses (denied core place) (resolved_of w) (reasoned_here core place w d).id (lit_at core place ∷ [])
-settled_analysis core place w d = record {
+pub denied_analysis : (core : CoreValue) (place : ℕ) (w : WalkValue) (d : IsWalked core place w) → IsAnalysis core.clauses (denied core place) (resolved_of w) (reasoned_here core place w d).id (lit_at core place ∷ [])
+denied_analysis core place w d = record {
   each = λ k x v t. ⊎_elim
       (λ lt. below k x lt t)
       (λ ge.
@@ -176,8 +170,8 @@ settled_analysis core place w d = record {
 
 -- ---- and has its hints
 
-pub settled_hints : (core : CoreValue) (place : ℕ) (w : WalkValue) (d : IsWalked core place w) → reverse w.hints ≡ hints_to (resolved_of w) (denied core place) (reasoned_here core place w d).id
-settled_hints core place w d =
+pub denied_hints : (core : CoreValue) (place : ℕ) (w : WalkValue) (d : IsWalked core place w) → reverse w.hints ≡ hints_to (resolved_of w) (denied core place) (reasoned_here core place w d).id
+denied_hints core place w d =
     let r = reasoned_here core place w d in
     let y : StepValue = record { lit = negation (lit_at core place); reason = None } in
     let all = filter_to (resolved_by w) (resolved_of w) core.trail place y d.within same (eq-eqb (mark_of w (lit_at core place)) (w.stamp + 2) (taken_at core place w place d d.within d.seen)) high refl in
@@ -215,24 +209,24 @@ met_from core place o a b t w e begun m =
       hints = all.hints;
     }
 
-pub walked_by : (core : CoreValue) (place : ℕ) (o : LitValue) (a b c : WalkValue) → place < length core.trail → length core.limits ≡ 0 → o.var ≡ (lit_at core place).var → IsBegun core a → HasMet core (o ∷ []) a b → IsOnward b c → IsSorted core c → IsPassed core 3 c 0 → HasSameAbove core (place + 1) b c → IsWalked core place c
-walked_by core place o a b c w bottom e begun m on s p above = record {
+pub walked_by : (core : CoreValue) (place : ℕ) (o : LitValue) (a b c : WalkValue) → place < length core.trail → length core.limits ≡ 0 → o.var ≡ (lit_at core place).var → IsBegun core a → HasMet core (o ∷ []) a b → HasWalked core 3 b c 0 → HasSameAbove core (place + 1) b c → IsWalked core place c
+walked_by core place o a b c w bottom e begun m h above = record {
   bottom = bottom;
   within = w;
-  sorted = s;
-  passed = p;
-  seen = let seen = on.seen o (m.seen o (here o [])) in omega (arith, seen, ap (λ v. get_or c.marks v 0) e);
+  sorted = h.sorted;
+  passed = h.passed;
+  seen = let seen = h.onward.seen o (m.seen o (here o [])) in omega (arith, seen, ap (λ v. get_or c.marks v 0) e);
   under = λ k v r. ⊎_elim
       (λ lt. omega (arith, lt))
       (λ ge. absurd (met_unresolved core (o ∷ []) a b (lit_at core k).var begun m (above.above k v ge r)))
       (cases_lt k (place + 1));
 }
 
-pub settled_by : (core : CoreValue) (place : ℕ) (w : WalkValue) (line : ProofLineValue) → IsWalked core place w → line.lits ≡ lit_at core place ∷ [] → line.hints ≡ reverse w.hints → IsSettled core place line
-settled_by core place w line d lits hints = record {
+pub unit_line_by : (core : CoreValue) (place : ℕ) (w : WalkValue) (line : ProofLineValue) → IsWalked core place w → line.lits ≡ lit_at core place ∷ [] → line.hints ≡ reverse w.hints → IsUnitLine core place line
+unit_line_by core place w line d lits hints = record {
   conflict = (reasoned_here core place w d).id;
   resolved = resolved_of w;
   lits = lits;
-  analysis = subst (IsAnalysis core.clauses (denied core place) (resolved_of w) (reasoned_here core place w d).id) (sym lits) (settled_analysis core place w d);
-  hints = hints ∙ settled_hints core place w d;
+  analysis = subst (IsAnalysis core.clauses (denied core place) (resolved_of w) (reasoned_here core place w d).id) (sym lits) (denied_analysis core place w d);
+  hints = hints ∙ denied_hints core place w d;
 }

@@ -1,7 +1,7 @@
 -- What is left at the end of the walk is learned.
 use Rattle.std.proofs.Common.{◌≡◌, ℕ, ◌+◌, ◌<◌, List, [], ◌∷◌, ◌++◌, length, get_or, take, refl, sym, ap, ◌∙◌, subst, inl, inr, ⊎_elim, arith, eq-eqb}
 use Rattle.std.specs.Prelude.{◌≢◌, ◌⊎◌, Contains, AllPairs, Option, None, Some, MatchOption, reverse, pos}
-use Rattle.std.proofs.lemmas.Bool.{cases_eq, eqb-true}
+use Rattle.std.proofs.lemmas.Bool.{eqb-true}
 use Rattle.std.proofs.lemmas.List.{get_or_default, append-nil, take-map}
 use Rattle.std.proofs.lemmas.List.Elements.{Contains-append_left, Contains-append_right, Contains-push_cases, Contains-get_or}
 use Rattle.std.proofs.lemmas.List.Quantifiers.{all_pairs_push}
@@ -14,11 +14,11 @@ use Rattle.trail_core.proofs.Keeping.{negated_twice, in_front}
 use Rattle.conflict_analysis.specs.Conflicts.{IsConflict}
 use Rattle.conflict_analysis.specs.Learning.{IsOut, IsResolved, IsAnalysis}
 use Rattle.conflict_analysis.specs.Learned.{IsPointed, IsLearned}
-use Rattle.conflict_analysis.specs.Met.{WalkValue, no_step, step_at, lit_at, mark_of, resolved_by, IsSeen, IsSorted, IsPassed, IsPoint}
+use Rattle.conflict_analysis.specs.Met.{WalkValue, no_step, step_at, lit_at, mark_of, resolved_by, IsSeen, IsSorted, IsPassed, IsImplicationPoint}
 use Rattle.conflict_analysis.proofs.Members.{here, from_map, nil_by}
 use Rattle.conflict_analysis.proofs.Counted.{waits_some}
 use Rattle.conflict_analysis.proofs.Marked.{IsAt, false_at, lit_about, lit_stands}
-use Rattle.conflict_analysis.proofs.Pointed.{low_place, high_place, false_below, open_below, four}
+use Rattle.conflict_analysis.proofs.Pointed.{low_place, high_place, false_below, open_below, kinds}
 
 -- the point with its sign turned
 abbrev pub point_lits : Option LitValue → List LitValue
@@ -33,10 +33,10 @@ pub record IsEnded (core : CoreValue) (conflict : ℕ) (w : WalkValue) (point : 
   pub exact : (o : LitValue) → Contains w.lits o → mark_of w o ≡ w.stamp
   pub none : w.zeros ≡ 0
   pub passed : IsPassed core 3 w 0
-  pub left : MatchOption point (length core.limits ≡ 0) (λ l. IsPoint core w l × (0 < length core.limits))
+  pub left : MatchOption point (length core.limits ≡ 0) (λ l. IsImplicationPoint core w l × (0 < length core.limits))
 
 -- a step of the last level that waits is the point
-waits_kept : (core : CoreValue) (w : WalkValue) (point : Option LitValue) (o : LitValue) (k : ℕ) → MatchOption point (length core.limits ≡ 0) (λ l. IsPoint core w l × (0 < length core.limits)) → IsSorted core w → IsAt core o k → mark_of w (lit_at core k) ≡ w.stamp + 1 → Contains (point_lits point) o
+waits_kept : (core : CoreValue) (w : WalkValue) (point : Option LitValue) (o : LitValue) (k : ℕ) → MatchOption point (length core.limits ≡ 0) (λ l. IsImplicationPoint core w l × (0 < length core.limits)) → IsSorted core w → IsAt core o k → mark_of w (lit_at core k) ≡ w.stamp + 1 → Contains (point_lits point) o
 waits_kept core w None o k p s a e = let t = s.marked.top k a.within e in absurd (omega (arith, t.1, p))
 waits_kept core w (Some l) o k p s a e =
     let i : k ≡ p.0.place = p.0.only k a.within e in
@@ -48,19 +48,14 @@ kept_or_resolved : (core : CoreValue) (conflict : ℕ) (w : WalkValue) (point : 
 kept_or_resolved core conflict w point o d seen f =
     let i = false_at core o f in
     let e : mark_of w (lit_at core i.0) ≡ mark_of w o = ap (λ v. get_or w.marks v 0) i.1.var in
-    let over = d.sorted.marked.over o.var in
     let about = lit_about core i.0 d.conflicts.formed i.1.within in
-    let room : o.var < length w.marks = omega (arith, about.within, d.sorted.marked.len, i.1.var) in
     ⊎_elim
     (λ h. inl (Contains-append_left w.lits (point_lits point) o (d.sorted.kept.all o f h)))
-    (λ n0. ⊎_elim
+    (λ q. ⊎_elim
     (λ h. inl (Contains-append_right w.lits (point_lits point) o (waits_kept core w point o i.0 d.left d.sorted i.1 (e ∙ h))))
-    (λ n1. ⊎_elim
-    (λ h. inr h)
-    (λ n2. absurd (let z = waits_some (w.stamp + 3) w.marks o.var room (four (mark_of w o) w.stamp seen over n0 n1 n2) in omega (arith, z, d.sorted.zeros, d.none)))
-    (cases_eq (mark_of w o) (w.stamp + 2)))
-    (cases_eq (mark_of w o) (w.stamp + 1)))
-    (cases_eq (mark_of w o) w.stamp)
+    (λ q. ⊎_elim inr (λ h. let z = waits_some (w.stamp + 3) w.marks o.var (omega (arith, about.within, d.sorted.marked.len, i.1.var)) h in absurd (omega (arith, z, d.sorted.zeros, d.none))) q)
+    q)
+    (kinds (mark_of w o) w.stamp seen (d.sorted.marked.over o.var))
 
 -- so it is out before a place at which it is false
 out_at : (core : CoreValue) (conflict : ℕ) (w : WalkValue) (point : Option LitValue) (before : List StepValue) (o : LitValue) → IsEnded core conflict w point → IsSeen w o → IsFalse (trues core) o → Contains (lits_of before) (negation o) → IsOut (resolved_by w) before (w.lits ++ point_lits point) o
@@ -72,7 +67,7 @@ out_at core conflict w point before o d seen f c = ⊎_elim
     (kept_or_resolved core conflict w point o d seen f)
 
 -- a literal of the clause is false
-kept_false : (core : CoreValue) (w : WalkValue) (point : Option LitValue) (o : LitValue) → IsSorted core w → MatchOption point (length core.limits ≡ 0) (λ l. IsPoint core w l × (0 < length core.limits)) → Contains (w.lits ++ point_lits point) o → IsFalse (trues core) o
+kept_false : (core : CoreValue) (w : WalkValue) (point : Option LitValue) (o : LitValue) → IsSorted core w → MatchOption point (length core.limits ≡ 0) (λ l. IsImplicationPoint core w l × (0 < length core.limits)) → Contains (w.lits ++ point_lits point) o → IsFalse (trues core) o
 kept_false core w None o s p c = let e : w.lits ++ [] ≡ w.lits = append-nil w.lits in (s.kept.of o (subst (λ xs. Contains xs o) e c)).1
 kept_false core w (Some l) o s p c = ⊎_elim
     (λ h. (s.kept.of o h).1)
@@ -97,14 +92,14 @@ ended_analysis core conflict w point d = record {
   falses = λ o c. kept_false core w point o d.sorted d.left c;
 }
 
-ended_once : (core : CoreValue) (w : WalkValue) (point : Option LitValue) → IsSorted core w → ((o : LitValue) → Contains w.lits o → mark_of w o ≡ w.stamp) → MatchOption point (length core.limits ≡ 0) (λ l. IsPoint core w l × (0 < length core.limits)) → AllPairs (λ a b. a.var ≢ b.var) (w.lits ++ point_lits point)
+ended_once : (core : CoreValue) (w : WalkValue) (point : Option LitValue) → IsSorted core w → ((o : LitValue) → Contains w.lits o → mark_of w o ≡ w.stamp) → MatchOption point (length core.limits ≡ 0) (λ l. IsImplicationPoint core w l × (0 < length core.limits)) → AllPairs (λ a b. a.var ≢ b.var) (w.lits ++ point_lits point)
 ended_once core w None s x p = subst (AllPairs (λ a b. a.var ≢ b.var)) (sym (append-nil w.lits)) s.kept.once
 ended_once core w (Some l) s exact p = all_pairs_push (λ a b. a.var ≢ b.var) w.lits (negation l) s.kept.once (λ k x v e.
     let o = get_or w.lits k x in
     let h = exact o (Contains-get_or w.lits k x v) in
     omega (arith, h, ap (λ y. get_or w.marks y 0) e, p.0.waits))
 
-ended_closes : (core : CoreValue) (w : WalkValue) (point : Option LitValue) → IsSorted core w → ((o : LitValue) → Contains w.lits o → mark_of w o ≡ w.stamp) → MatchOption point (length core.limits ≡ 0) (λ l. IsPoint core w l × (0 < length core.limits)) → length core.limits ≡ 0 → w.lits ++ point_lits point ≡ []
+ended_closes : (core : CoreValue) (w : WalkValue) (point : Option LitValue) → IsSorted core w → ((o : LitValue) → Contains w.lits o → mark_of w o ≡ w.stamp) → MatchOption point (length core.limits ≡ 0) (λ l. IsImplicationPoint core w l × (0 < length core.limits)) → length core.limits ≡ 0 → w.lits ++ point_lits point ≡ []
 ended_closes core w None s exact p z = append-nil w.lits ∙ nil_by w.lits (λ o c.
     let h = s.kept.of o c in
     let i = false_at core o h.1 in
@@ -112,7 +107,7 @@ ended_closes core w None s exact p z = append-nil w.lits ∙ nil_by w.lits (λ o
     omega (arith, low, z))
 ended_closes core w (Some l) s exact p z = absurd (omega (arith, p.1, z))
 
-ended_points : (core : CoreValue) (conflict : ℕ) (w : WalkValue) (point : Option LitValue) → IsConflict core conflict → IsSorted core w → ((o : LitValue) → Contains w.lits o → mark_of w o ≡ w.stamp) → MatchOption point (length core.limits ≡ 0) (λ l. IsPoint core w l × (0 < length core.limits)) → 0 < length core.limits → IsPointed core (w.lits ++ point_lits point)
+ended_points : (core : CoreValue) (conflict : ℕ) (w : WalkValue) (point : Option LitValue) → IsConflict core conflict → IsSorted core w → ((o : LitValue) → Contains w.lits o → mark_of w o ≡ w.stamp) → MatchOption point (length core.limits ≡ 0) (λ l. IsImplicationPoint core w l × (0 < length core.limits)) → 0 < length core.limits → IsPointed core (w.lits ++ point_lits point)
 ended_points core conflict w None c s exact p some = absurd (omega (arith, p, some))
 ended_points core conflict w (Some l) c s exact p some = record {
   front = w.lits;

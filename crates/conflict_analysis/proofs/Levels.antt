@@ -2,7 +2,7 @@
 use Rattle.std.proofs.Common.{◌≡◌, ℕ, ◌<◌, ◌≤◌, List, [], ◌∷◌, length, get_or, cond, leb, ap, ⊎_elim, arith}
 use Rattle.std.specs.Prelude.{Contains}
 use Rattle.std.proofs.lemmas.Bool.{le-leb, lt-leb, cases_lt}
-use Rattle.std.proofs.lemmas.List.Sums.{sum_by-cons}
+use Rattle.std.proofs.lemmas.List.Sums.{sum_by-cons, sum_by-le-sum_by, get_or-le-sum_by}
 use Rattle.trail_core.specs.Assigned.{AreLimits, level_at}
 use Rattle.conflict_analysis.proofs.Members.{cons_cases}
 
@@ -20,13 +20,7 @@ grows m p k w = ⊎_elim
     (cases_lt p m)
 
 pub level_grows : (limits : List ℕ) (p k : ℕ) → p ≤ k → level_at limits p ≤ level_at limits k
-level_grows [] p k w = omega arith
-level_grows (m ∷ limits) p k w =
-    let a = grows m p k w in
-    let r = level_grows limits p k w in
-    let x = sum_by-cons (λ n. cond {A = ℕ} (leb n p) 1 0) m limits in
-    let y = sum_by-cons (λ n. cond {A = ℕ} (leb n k) 1 0) m limits in
-    omega (arith, a, r, x, y)
+level_grows limits p k w = sum_by-le-sum_by (λ n. cond {A = ℕ} (leb n p) 1 0) (λ n. cond {A = ℕ} (leb n k) 1 0) limits (λ n. grows n p k w)
 
 -- a place below the first of a level has a lower level
 pub level_below : (limits : List ℕ) (p k : ℕ) → p < k → Contains limits k → level_at limits p < level_at limits k
@@ -48,10 +42,10 @@ level_below (m ∷ limits) p k w c =
 
 -- where a level begins it is not level 0
 pub some_level : (limits : List ℕ) (k : ℕ) → Contains limits k → level_at limits k ≡ 0 → ⊥
-some_level [] k c z = omega (arith, c.1)
-some_level (m ∷ limits) k c z =
-    let y = sum_by-cons (λ n. cond {A = ℕ} (leb n k) 1 0) m limits in
-    ⊎_elim (λ e. let b = one m k (omega (arith, e)) in omega (arith, b, y, z)) (λ d. some_level limits k d (omega (arith, y, z))) (cons_cases m limits k c)
+some_level limits k c z =
+    let counted = get_or-le-sum_by (λ n. cond {A = ℕ} (leb n k) 1 0) limits c.0 k c.1 in
+    let yes' = one (get_or limits c.0 k) k (omega (arith, c.2)) in
+    omega (arith, counted, yes', z)
 
 -- a level begins no higher than one after it
 pub limits_rise : (limits : List ℕ) (len i j : ℕ) → AreLimits limits len → i ≤ j → j < length limits → get_or limits i 0 ≤ get_or limits j 0

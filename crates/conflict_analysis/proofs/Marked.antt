@@ -13,7 +13,7 @@ use Rattle.trail_core.specs.Watching.{no_lit}
 use Rattle.trail_core.specs.Meaning.{CoreValue, trues}
 use Rattle.trail_core.specs.Formed.{IsTrail}
 use Rattle.trail_core.proofs.Keeping.{lits_length, negated_twice}
-use Rattle.conflict_analysis.specs.Met.{WalkValue, lit_at, no_step, IsSeen, AreMarks, AreKept, AreNoted, IsSorted, HasMet}
+use Rattle.conflict_analysis.specs.Met.{WalkValue, lit_at, no_step, IsSeen, AreMarks, AreKept, AreNoted, IsSorted, HasMet, waiting}
 use Rattle.conflict_analysis.specs.PlaceSets.{HasPlace}
 use Rattle.conflict_analysis.proofs.Members.{here, cons_cases}
 use Rattle.conflict_analysis.proofs.Counted.{waits_more, waits_same}
@@ -80,18 +80,9 @@ marked_set core stamp marks k kind t m is = record {
   len = length-set marks u (stamp + kind) ∙ m.len;
   over = λ v. ⊎_elim (λ e. omega (arith, at v e, is.some)) (λ n. let o = m.over v in omega (arith, o, get_or-set_other marks u v (stamp + kind) 0 n)) (cases_eq v u);
   placed = λ v w. ⊎_elim (λ e. (k, is.within, sym e)) (λ n. m.placed v (omega (arith, w, get_or-set_other marks u v (stamp + kind) 0 n))) (cases_eq v u);
-  low = λ j w e. ⊎_elim
-      (λ s. let i = place j w s in subst (λ x. level_at core.limits x < length core.limits) i (is.low (omega (arith, at (lit_at core j).var s, e))))
-      (λ n. m.low j w (sym (get_or-set_other marks u (lit_at core j).var (stamp + kind) 0 n) ∙ e))
-      (cases_eq (lit_at core j).var u);
-  top = λ j w e. ⊎_elim
-      (λ s. let i = place j w s in subst (λ x. (level_at core.limits x ≡ length core.limits) × (0 < length core.limits)) i (is.top (omega (arith, at (lit_at core j).var s, e))))
-      (λ n. m.top j w (sym (get_or-set_other marks u (lit_at core j).var (stamp + kind) 0 n) ∙ e))
-      (cases_eq (lit_at core j).var u);
-  bottom = λ j w e. ⊎_elim
-      (λ s. let i = place j w s in subst (λ x. level_at core.limits x ≡ 0) i (is.bottom (omega (arith, at (lit_at core j).var s, e))))
-      (λ n. m.bottom j w (sym (get_or-set_other marks u (lit_at core j).var (stamp + kind) 0 n) ∙ e))
-      (cases_eq (lit_at core j).var u);
+  low = λ j w e. at_place (λ x. level_at core.limits x < length core.limits) j w (λ h. is.low (omega (arith, h, e))) (λ h. m.low j w (h ∙ e));
+  top = λ j w e. at_place (λ x. (level_at core.limits x ≡ length core.limits) × (0 < length core.limits)) j w (λ h. is.top (omega (arith, h, e))) (λ h. m.top j w (h ∙ e));
+  bottom = λ j w e. at_place (λ x. level_at core.limits x ≡ 0) j w (λ h. is.bottom (omega (arith, h, e))) (λ h. m.bottom j w (h ∙ e));
 }
   where
     u : ℕ
@@ -100,8 +91,11 @@ marked_set core stamp marks k kind t m is = record {
     at : (v : ℕ) → v ≡ u → get_or (set marks u (stamp + kind)) v 0 ≡ stamp + kind
     at v e = ap (λ x. get_or (set marks u (stamp + kind)) x 0) e ∙ mark_same core marks k (stamp + kind) t m.len is.within
 
-    place : (j : ℕ) → j < length core.trail → (lit_at core j).var ≡ u → k ≡ j
-    place j w s = same_place core k j t is.within w (sym s)
+    at_place : (P : ℕ → Type 0) (j : ℕ) → j < length core.trail → (get_or (set marks u (stamp + kind)) (lit_at core j).var 0 ≡ stamp + kind → P k) → (get_or marks (lit_at core j).var 0 ≡ get_or (set marks u (stamp + kind)) (lit_at core j).var 0 → P j) → P j
+    at_place P j w same other = ⊎_elim
+        (λ e. subst P (same_place core k j t is.within w (sym e)) (same (at (lit_at core j).var e)))
+        (λ n. other (sym (get_or-set_other marks u (lit_at core j).var (stamp + kind) 0 n)))
+        (cases_eq (lit_at core j).var u)
 
 -- ---- places
 
@@ -141,36 +135,18 @@ kept_other stamp marks v u y n h =
     let s = get_or-set_other marks v u y 0 n in
     ⊎_elim (λ a. inl (s ∙ a)) (λ b. inr (s ∙ b)) h
 
--- one whose step is resolved is kept no more
-pub kept_drop : (core : CoreValue) (stamp : ℕ) (marks : List ℕ) (lits : List LitValue) (v : ℕ) → v < length marks → AreKept core stamp marks lits → AreKept core stamp (set marks v (stamp + 2)) lits
-kept_drop core stamp marks lits v w k = record {
-  of = λ o c.
-      let h = k.of o c in (
-        ⊎_elim
-            (λ e. inr (ap (λ x. get_or (set marks v (stamp + 2)) x 0) e ∙ get_or-set_same marks v (stamp + 2) 0 w))
-            (λ n. kept_other stamp marks v o.var (stamp + 2) n h.0)
-            (cases_eq o.var v),
-        h.1,
-      );
-  all = λ o f e. ⊎_elim
-      (λ s. let here' : get_or (set marks v (stamp + 2)) o.var 0 ≡ stamp + 2 = ap (λ x. get_or (set marks v (stamp + 2)) x 0) s ∙ get_or-set_same marks v (stamp + 2) 0 w in absurd (omega (arith, here', e)))
-      (λ d. k.all o f (sym (get_or-set_other marks v o.var (stamp + 2) 0 d) ∙ e))
-      (cases_eq o.var v);
-  once = k.once;
-}
-
--- of a variable that was not met
-pub kept_same : (core : CoreValue) (stamp : ℕ) (marks : List ℕ) (lits : List LitValue) (v y : ℕ) → v < length marks → AreKept core stamp marks lits → get_or marks v 0 < stamp → y ≢ stamp → AreKept core stamp (set marks v y) lits
-kept_same core stamp marks lits v y w k low m = record {
+-- one whose step is resolved is kept no more, nor one of another kind that was not met
+pub kept_set : (core : CoreValue) (stamp : ℕ) (marks : List ℕ) (lits : List LitValue) (v y : ℕ) → v < length marks → AreKept core stamp marks lits → y ≢ stamp → (y ≡ stamp + 2) ⊎ (get_or marks v 0 < stamp) → AreKept core stamp (set marks v y) lits
+kept_set core stamp marks lits v y w k other how = record {
   of = λ o c.
       let h = k.of o c in
-      (kept_other stamp marks v o.var y (λ e. unmet stamp marks v o.var e low h.0) h.0, h.1);
-  all = λ o f e. ⊎_elim
-      (λ s. absurd (m (sym (get_or-set_same marks v y 0 w) ∙ ap (λ x. get_or (set marks v y) x 0) (sym s) ∙ e)))
-      (λ d. k.all o f (sym (get_or-set_other marks v o.var y 0 d) ∙ e))
-      (cases_eq o.var v);
+      (⊎_elim (λ e. ⊎_elim (λ two. inr (here' o e ∙ two)) (λ low. absurd (unmet stamp marks v o.var e low h.0)) how) (λ n. kept_other stamp marks v o.var y n h.0) (cases_eq o.var v), h.1);
+  all = λ o f e. ⊎_elim (λ s. absurd (other (sym (here' o s) ∙ e))) (λ d. k.all o f (sym (get_or-set_other marks v o.var y 0 d) ∙ e)) (cases_eq o.var v);
   once = k.once;
 }
+  where
+    here' : (o : LitValue) → o.var ≡ v → get_or (set marks v y) o.var 0 ≡ y
+    here' o e = ap (λ x. get_or (set marks v y) x 0) e ∙ get_or-set_same marks v y 0 w
 
 pub kept_more : (core : CoreValue) (stamp : ℕ) (marks : List ℕ) (lits : List LitValue) (l : LitValue) → IsTrail core.vars core.trail core.limits → l.var < length marks → AreKept core stamp marks lits → get_or marks l.var 0 < stamp → IsFalse (trues core) l → AreKept core stamp (set marks l.var stamp) (lits ++ l ∷ [])
 kept_more core stamp marks lits l t w k low f = record {
@@ -187,30 +163,6 @@ kept_more core stamp marks lits l t w k low f = record {
 
 -- ---- one literal is met
 
--- it is marked now
-pub met_new : (core : CoreValue) (w w' : WalkValue) (l : LitValue) (kind : ℕ) → IsSorted core w' → w'.stamp ≡ w.stamp → w'.hints ≡ w.hints → w'.marks ≡ set w.marks l.var (w.stamp + kind) → l.var < length w.marks → get_or w.marks l.var 0 < w.stamp → kind ≢ 2 → w.open_ ≤ w'.open_ → HasMet core (l ∷ []) w w'
-met_new core w w' l kind s stamp hints marks i low two more = record {
-  sorted = s;
-  stamp = stamp;
-  hints = hints;
-  seen = λ o c. let e = ap (λ x. get_or w'.marks x.var 0) (sym (only o c)) in omega (arith, e, same, stamp);
-  stays = λ v g. other v (λ e. let f = ap (λ x. get_or w.marks x 0) e in omega (arith, f, g, low));
-  new = λ v g. ⊎_elim
-      (λ e. inr (l, here l [], sym e, λ h. let f = ap (λ x. get_or w'.marks x 0) e in two (omega (arith, f, h, same))))
-      (λ n. inl (let f = other v n in omega (arith, g, f)))
-      (cases_eq v l.var);
-  more = more;
-}
-  where
-    same : get_or w'.marks l.var 0 ≡ w.stamp + kind
-    same = ap (λ x. get_or x l.var 0) marks ∙ get_or-set_same w.marks l.var (w.stamp + kind) 0 i
-
-    other : (v : ℕ) → v ≢ l.var → get_or w'.marks v 0 ≡ get_or w.marks v 0
-    other v n = ap (λ x. get_or x v 0) marks ∙ get_or-set_other w.marks l.var v (w.stamp + kind) 0 n
-
-    only : (o : LitValue) → Contains (l ∷ []) o → l ≡ o
-    only o c = ⊎_elim (λ e. e) (λ d. absurd (omega (arith, d.1))) (cons_cases l [] o c)
-
 -- what is known of a literal that was not met before
 pub record IsUnmet (core : CoreValue) (w : WalkValue) (l : LitValue) (k : ℕ) : Type 0 where
   pub formed : IsTrail core.vars core.trail core.limits
@@ -219,11 +171,17 @@ pub record IsUnmet (core : CoreValue) (w : WalkValue) (l : LitValue) (k : ℕ) :
   pub at : IsAt core l k
   pub room : l.var < length w.marks
 
-pub unmet_by : (core : CoreValue) (w : WalkValue) (l : LitValue) → IsTrail core.vars core.trail core.limits → IsSorted core w → get_or w.marks l.var 0 < w.stamp → l.var ≤ core.vars → IsSeen w l ⊎ IsFalse (trues core) l → (k : ℕ) × IsUnmet core w l k
-unmet_by core w l t s low v h = ⊎_elim
+pub unmet_by : (core : CoreValue) (w : WalkValue) (l : LitValue) (var read : ℕ) → IsTrail core.vars core.trail core.limits → IsSorted core w → l.var ≤ core.vars → IsSeen w l ⊎ IsFalse (trues core) l → var ≡ l.var → read ≡ get_or w.marks var read → read < w.stamp → (k : ℕ) × IsUnmet core w l k
+unmet_by core w l var read t s v h e r less = ⊎_elim
     (λ g. absurd (omega (arith, g, low)))
-    (λ f. let a = false_at core l f in (a.0, record { formed = t; sorted = s; low = low; at = a.1; room = omega (arith, v, s.marked.len) }))
+    (λ f. let a = false_at core l f in (a.0, record { formed = t; sorted = s; low = low; at = a.1; room = room }))
     h
+  where
+    room : l.var < length w.marks
+    room = omega (arith, v, s.marked.len)
+
+    low : get_or w.marks l.var 0 < w.stamp
+    low = let z = get_or_default w.marks l.var 0 read room in omega (arith, z, r, ap (λ x. get_or w.marks x read) e, less)
 
 -- it is known where it stands
 pub unmet_at : (core : CoreValue) (w : WalkValue) (l this : LitValue) (k place : ℕ) (read : List LitValue) → IsUnmet core w l k → this ≡ negation l → read ≡ trues core → place < length read → get_or read place this ≡ this → IsUnmet core w l place
@@ -232,50 +190,60 @@ unmet_at core w l this k place read u e r lt is =
     let at : lit_at core place ≡ negation l = sym (lit_read core place this within) ∙ ap (λ xs. get_or xs place this) (sym r) ∙ is ∙ e in
     record { formed = u.formed; sorted = u.sorted; low = u.low; at = record { within = within; is = at; var = ap (λ x. x.var) at }; room = u.room }
 
-noted_at : (core : CoreValue) (w : WalkValue) (l : LitValue) (k kind : ℕ) (places : List ℕ) → IsUnmet core w l k → ((j : ℕ) → HasPlace places j ↔ (HasPlace w.met_places j ⊎ (j ≡ k))) → AreNoted core w.stamp (set w.marks l.var (w.stamp + kind)) places
-noted_at core w l k kind places u a = subst (λ x. AreNoted core w.stamp (set w.marks x (w.stamp + kind)) places) u.at.var (noted_more core w.stamp w.marks w.met_places places k (w.stamp + kind) u.formed u.at.within u.sorted.marked.len (omega arith) u.sorted.noted a)
+module _ (core : CoreValue) (w : WalkValue) (l : LitValue) (k : ℕ) (places : List ℕ) (u : IsUnmet core w l k) (added : (j : ℕ) → HasPlace places j ↔ (HasPlace w.met_places j ⊎ (j ≡ k))) where
+  same_mark : (y : ℕ) → get_or (set w.marks l.var y) l.var 0 ≡ y
+  same_mark y = get_or-set_same w.marks l.var y 0 u.room
 
-marks_at : (core : CoreValue) (w : WalkValue) (l : LitValue) (k kind : ℕ) → IsUnmet core w l k → IsMark core k kind → AreMarks core w.stamp (set w.marks l.var (w.stamp + kind))
-marks_at core w l k kind u is = subst (λ x. AreMarks core w.stamp (set w.marks x (w.stamp + kind))) u.at.var (marked_set core w.stamp w.marks k kind u.formed u.sorted.marked is)
+  -- it is marked now
+  met_new : (kind opens bottoms : ℕ) (lits : List LitValue) → IsMark core k kind → kind ≢ 2 → AreKept core w.stamp (set w.marks l.var (w.stamp + kind)) lits → opens ≡ waiting (w.stamp + 1) (set w.marks l.var (w.stamp + kind)) → bottoms ≡ waiting (w.stamp + 3) (set w.marks l.var (w.stamp + kind)) → w.open_ ≤ opens
+      → HasMet core (l ∷ []) w (record w { marks = set w.marks l.var (w.stamp + kind); lits = lits; open_ = opens; zeros = bottoms; met_places = places })
+  met_new kind opens bottoms lits is two kept open' zeros' more = record {
+    sorted = record {
+      marked = subst (λ x. AreMarks core w.stamp (set w.marks x (w.stamp + kind))) u.at.var (marked_set core w.stamp w.marks k kind u.formed u.sorted.marked is);
+      kept = kept;
+      noted = subst (λ x. AreNoted core w.stamp (set w.marks x (w.stamp + kind)) places) u.at.var (noted_more core w.stamp w.marks w.met_places places k (w.stamp + kind) u.formed u.at.within u.sorted.marked.len (omega arith) u.sorted.noted added);
+      open_ = open';
+      zeros = zeros';
+    };
+    stamp = refl;
+    hints = refl;
+    seen = λ o c. let e = ap (λ x. get_or (set w.marks l.var (w.stamp + kind)) x.var 0) (sym (only o c)) in let m = same_mark (w.stamp + kind) in omega (arith, e, m);
+    stays = λ v g. get_or-set_other w.marks l.var v (w.stamp + kind) 0 (λ e. let f = ap (λ x. get_or w.marks x 0) e in omega (arith, f, g, u.low));
+    new = λ v g. ⊎_elim
+        (λ e. inr (l, here l [], sym e, λ h. let f = ap (λ x. get_or (set w.marks l.var (w.stamp + kind)) x 0) e in let m = same_mark (w.stamp + kind) in two (omega (arith, f, h, m))))
+        (λ n. inl (let f = get_or-set_other w.marks l.var v (w.stamp + kind) 0 n in omega (arith, g, f)))
+        (cases_eq v l.var);
+    more = more;
+  }
+    where
+      only : (o : LitValue) → Contains (l ∷ []) o → l ≡ o
+      only o c = ⊎_elim (λ e. e) (λ d. absurd (omega (arith, d.1))) (cons_cases l [] o c)
 
-pub met_bottom : (core : CoreValue) (w w' : WalkValue) (l : LitValue) (k : ℕ) (places : List ℕ) → IsUnmet core w l k → ((j : ℕ) → HasPlace places j ↔ (HasPlace w.met_places j ⊎ (j ≡ k))) → level_at core.limits k ≡ 0 → w' ≡ record w { marks = set w.marks l.var (w.stamp + 3); zeros = w.zeros + 1; met_places = places } → HasMet core (l ∷ []) w w'
-met_bottom core w w' l k places u a z e = subst (HasMet core (l ∷ []) w) (sym e)
-    (met_new core w (record w { marks = set w.marks l.var (w.stamp + 3); zeros = w.zeros + 1; met_places = places }) l 3
-    (record {
-      marked = marks_at core w l k 3 u (record { within = u.at.within; some = omega arith; low = λ h. absurd (omega (arith, h)); top = λ h. absurd (omega (arith, h)); bottom = λ h. z });
-      kept = kept_same core w.stamp w.marks w.lits l.var (w.stamp + 3) u.room u.sorted.kept u.low (λ h. omega (arith, h));
-      noted = noted_at core w l k 3 places u a;
-      open_ = u.sorted.open_ ∙ sym (waits_same (w.stamp + 1) w.marks l.var (w.stamp + 3) u.room (λ h. omega (arith, h, u.low)) (λ h. omega (arith, h)));
-      zeros = ap (λ n. n + 1) u.sorted.zeros ∙ sym (waits_more (w.stamp + 3) w.marks l.var (w.stamp + 3) u.room (λ h. omega (arith, h, u.low)) refl);
-    })
-    refl refl refl u.room u.low (λ h. omega (arith, h)) (omega arith))
+  -- no other kind waits less
+  others_wait : (kind y : ℕ) → y ≢ w.stamp + kind → waiting (w.stamp + kind) w.marks ≡ waiting (w.stamp + kind) (set w.marks l.var y)
+  others_wait kind y other = sym (waits_same (w.stamp + kind) w.marks l.var y u.room (λ h. omega (arith, h, u.low)) other)
 
-pub met_open : (core : CoreValue) (w w' : WalkValue) (l : LitValue) (k : ℕ) (places : List ℕ) → IsUnmet core w l k → ((j : ℕ) → HasPlace places j ↔ (HasPlace w.met_places j ⊎ (j ≡ k))) → level_at core.limits k ≡ length core.limits → 0 < length core.limits → w' ≡ record w { marks = set w.marks l.var (w.stamp + 1); open_ = w.open_ + 1; met_places = places } → HasMet core (l ∷ []) w w'
-met_open core w w' l k places u a top some e = subst (HasMet core (l ∷ []) w) (sym e)
-    (met_new core w (record w { marks = set w.marks l.var (w.stamp + 1); open_ = w.open_ + 1; met_places = places }) l 1
-    (record {
-      marked = marks_at core w l k 1 u (record { within = u.at.within; some = omega arith; low = λ h. absurd (omega (arith, h)); top = λ h. (top, some); bottom = λ h. absurd (omega (arith, h)) });
-      kept = kept_same core w.stamp w.marks w.lits l.var (w.stamp + 1) u.room u.sorted.kept u.low (λ h. omega (arith, h));
-      noted = noted_at core w l k 1 places u a;
-      open_ = ap (λ n. n + 1) u.sorted.open_ ∙ sym (waits_more (w.stamp + 1) w.marks l.var (w.stamp + 1) u.room (λ h. omega (arith, h, u.low)) refl);
-      zeros = u.sorted.zeros ∙ sym (waits_same (w.stamp + 3) w.marks l.var (w.stamp + 1) u.room (λ h. omega (arith, h, u.low)) (λ h. omega (arith, h)));
-    })
-    refl refl refl u.room u.low (λ h. omega (arith, h)) (omega arith))
+  one_more : (kind : ℕ) → waiting (w.stamp + kind) w.marks + 1 ≡ waiting (w.stamp + kind) (set w.marks l.var (w.stamp + kind))
+  one_more kind = sym (waits_more (w.stamp + kind) w.marks l.var (w.stamp + kind) u.room (λ h. omega (arith, h, u.low)) refl)
 
-pub met_kept : (core : CoreValue) (w w' : WalkValue) (l : LitValue) (k : ℕ) (places : List ℕ) → IsUnmet core w l k → ((j : ℕ) → HasPlace places j ↔ (HasPlace w.met_places j ⊎ (j ≡ k))) → level_at core.limits k < length core.limits → w' ≡ record w { marks = set w.marks l.var (w.stamp + 0); lits = w.lits ++ l ∷ []; met_places = places } → HasMet core (l ∷ []) w w'
-met_kept core w w' l k places u a lower e = subst (HasMet core (l ∷ []) w) (sym e)
-    (met_new core w (record w { marks = set w.marks l.var (w.stamp + 0); lits = w.lits ++ l ∷ []; met_places = places }) l 0
-    (record {
-      marked = marks_at core w l k 0 u (record { within = u.at.within; some = omega arith; low = λ h. lower; top = λ h. absurd (omega (arith, h)); bottom = λ h. absurd (omega (arith, h)) });
-      kept = subst (λ n. AreKept core w.stamp (set w.marks l.var n) (w.lits ++ l ∷ [])) stamp0 (kept_more core w.stamp w.marks w.lits l u.formed u.room u.sorted.kept u.low (at_false core l k u.at));
-      noted = noted_at core w l k 0 places u a;
-      open_ = u.sorted.open_ ∙ sym (waits_same (w.stamp + 1) w.marks l.var (w.stamp + 0) u.room (λ h. omega (arith, h, u.low)) (λ h. omega (arith, h)));
-      zeros = u.sorted.zeros ∙ sym (waits_same (w.stamp + 3) w.marks l.var (w.stamp + 0) u.room (λ h. omega (arith, h, u.low)) (λ h. omega (arith, h)));
-    })
-    refl refl refl u.room u.low (λ h. omega (arith, h)) (omega arith))
-  where
-    stamp0 : w.stamp ≡ w.stamp + 0
-    stamp0 = omega arith
+  pub met_bottom : level_at core.limits k ≡ 0 → HasMet core (l ∷ []) w (record w { marks = set w.marks l.var (w.stamp + 3); zeros = w.zeros + 1; met_places = places })
+  met_bottom zero =
+      let kept = kept_set core w.stamp w.marks w.lits l.var (w.stamp + 3) u.room u.sorted.kept (λ h. omega (arith, h)) (inr u.low) in
+      let mark : IsMark core k 3 = record { within = u.at.within; some = omega arith; low = λ h. absurd (omega (arith, h)); top = λ h. absurd (omega (arith, h)); bottom = λ h. zero } in
+      met_new 3 w.open_ (w.zeros + 1) w.lits mark (λ h. omega (arith, h)) kept (u.sorted.open_ ∙ others_wait 1 (w.stamp + 3) (λ h. omega (arith, h))) (ap (λ n. n + 1) u.sorted.zeros ∙ one_more 3) (omega arith)
+
+  pub met_open : level_at core.limits k ≡ length core.limits → 0 < length core.limits → HasMet core (l ∷ []) w (record w { marks = set w.marks l.var (w.stamp + 1); open_ = w.open_ + 1; met_places = places })
+  met_open top some =
+      let kept = kept_set core w.stamp w.marks w.lits l.var (w.stamp + 1) u.room u.sorted.kept (λ h. omega (arith, h)) (inr u.low) in
+      let mark : IsMark core k 1 = record { within = u.at.within; some = omega arith; low = λ h. absurd (omega (arith, h)); top = λ h. (top, some); bottom = λ h. absurd (omega (arith, h)) } in
+      met_new 1 (w.open_ + 1) w.zeros w.lits mark (λ h. omega (arith, h)) kept (ap (λ n. n + 1) u.sorted.open_ ∙ one_more 1) (u.sorted.zeros ∙ others_wait 3 (w.stamp + 1) (λ h. omega (arith, h))) (omega arith)
+
+  pub met_kept : level_at core.limits k < length core.limits → HasMet core (l ∷ []) w (record w { marks = set w.marks l.var (w.stamp + 0); lits = w.lits ++ l ∷ []; met_places = places })
+  met_kept lower =
+      let stamp : w.stamp ≡ w.stamp + 0 = omega arith in
+      let kept = subst (λ n. AreKept core w.stamp (set w.marks l.var n) (w.lits ++ l ∷ [])) stamp (kept_more core w.stamp w.marks w.lits l u.formed u.room u.sorted.kept u.low (at_false core l k u.at)) in
+      let mark : IsMark core k 0 = record { within = u.at.within; some = omega arith; low = λ h. lower; top = λ h. absurd (omega (arith, h)); bottom = λ h. absurd (omega (arith, h)) } in
+      met_new 0 w.open_ w.zeros (w.lits ++ l ∷ []) mark (λ h. omega (arith, h)) kept (u.sorted.open_ ∙ others_wait 1 (w.stamp + 0) (λ h. omega (arith, h))) (u.sorted.zeros ∙ others_wait 3 (w.stamp + 0) (λ h. omega (arith, h))) (omega arith)
 
 -- ---- and more of them
 
@@ -319,9 +287,6 @@ level_read core l neg k level a e h = h k a.within (lit_read core k neg a.within
 
 pub level_within : (core : CoreValue) (k : ℕ) → level_at core.limits k ≤ length core.limits
 level_within core k = count_by-le-length (λ m. nat_le m k) core.limits
-
-pub low_read : (core : CoreValue) (w : WalkValue) (l : LitValue) (var read : ℕ) → IsSorted core w → l.var ≤ core.vars → var ≡ l.var → read ≡ get_or w.marks var read → read < w.stamp → get_or w.marks l.var 0 < w.stamp
-low_read core w l var read s v e r low = let z = get_or_default w.marks l.var 0 read (omega (arith, v, s.marked.len)) in omega (arith, z, r, ap (λ x. get_or w.marks x read) e, low)
 
 -- ---- a loop over a clause
 

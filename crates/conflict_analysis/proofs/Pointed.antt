@@ -1,5 +1,5 @@
 -- Where the walk begins and ends: one literal of the last level is left, and all others that are kept became false below it.
-use Rattle.std.proofs.Common.{suc, ◌-◌, ◌≡◌, ℕ, ◌+◌, ◌<◌, ◌≤◌, Bool, false, List, [], ◌∷◌, length, get_or, take, refl, sym, ap, ◌∙◌, inl, ⊎_elim, arith}
+use Rattle.std.proofs.Common.{suc, ◌-◌, ◌≡◌, ℕ, ◌+◌, ◌<◌, ◌≤◌, Bool, false, List, [], ◌∷◌, length, get_or, take, refl, sym, ap, ◌∙◌, inl, inr, ⊎_elim, arith}
 use Rattle.std.specs.Prelude.{◌≢◌, ◌⊎◌, Contains, filter, reverse, pos, map, nat_le}
 use Rattle.std.proofs.lemmas.List.Sums.{count_by-le-length}
 use Rattle.std.proofs.lemmas.Bool.{cases_lt, cases_eq, ne_eqb}
@@ -16,17 +16,14 @@ use Rattle.trail_core.proofs.Keeping.{lits_length}
 use Rattle.conflict_analysis.specs.Conflicts.{IsConflict}
 use Rattle.conflict_analysis.specs.Learning.{number_of}
 use Rattle.conflict_analysis.specs.PlaceSets.{HasPlace}
-use Rattle.conflict_analysis.specs.Met.{WalkValue, no_step, lit_at, mark_of, resolved_by, IsSorted, HasMet, IsPassed, IsPoint}
+use Rattle.conflict_analysis.specs.Met.{WalkValue, no_step, lit_at, mark_of, resolved_by, IsSorted, HasMet, IsPassed, IsImplicationPoint}
 use Rattle.conflict_analysis.proofs.Levels.{level_grows, level_below, some_level, limits_rise}
 use Rattle.conflict_analysis.proofs.Counted.{waits_some, waits_none}
 use Rattle.conflict_analysis.proofs.Marked.{IsAt, false_at, lit_read, lit_about, same_place}
 
 -- the kinds of marks
-pub four : (m stamp : ℕ) → stamp ≤ m → m ≤ stamp + 3 → m ≢ stamp → m ≢ stamp + 1 → m ≢ stamp + 2 → m ≡ stamp + 3
-four m stamp low high a b c = grind arith
-
-three : (m stamp : ℕ) → stamp ≤ m → m ≤ stamp + 3 → m ≢ stamp → m ≢ stamp + 1 → m ≢ stamp + 2 → m ≢ stamp + 3 → ⊥
-three m stamp low high a b c d = d (four m stamp low high a b c)
+pub kinds : (m stamp : ℕ) → stamp ≤ m → m ≤ stamp + 3 → (m ≡ stamp) ⊎ ((m ≡ stamp + 1) ⊎ ((m ≡ stamp + 2) ⊎ (m ≡ stamp + 3)))
+kinds m stamp low high = ⊎_elim inl (λ a. inr (⊎_elim inl (λ b. inr (⊎_elim inl (λ c. inr (grind arith)) (cases_eq m (stamp + 2)))) (cases_eq m (stamp + 1)))) (cases_eq m stamp)
 
 -- ---- levels and places
 
@@ -87,7 +84,7 @@ open_below core l k m t w e le = record {
 -- ---- the begin
 
 -- no step is resolved yet
-filter_none : (p : StepValue → Bool) (xs : List StepValue) → ((k : ℕ) → k < length xs → p (get_or xs k no_step) ≡ false) → filter p xs ≡ []
+pub filter_none : (p : StepValue → Bool) (xs : List StepValue) → ((k : ℕ) → k < length xs → p (get_or xs k no_step) ≡ false) → filter p xs ≡ []
 filter_none p [] h = refl
 filter_none p (x ∷ xs) h = let e : p x ≡ false = h 0 (omega arith) in rw e (filter_none p xs (λ k w. h (suc k) (omega (arith, w))))
 
@@ -154,32 +151,32 @@ met_open_some core conflict a b c begun m some = ⊎_elim
     low : (o : LitValue) → Contains (get_or core.clauses conflict []) o → b.open_ ≡ 0 → IsFalse (take (get_or core.limits last 0) (trues core)) o
     low o h z =
         let i = false_at core o (c.falsified o h) in
-        let seen = m.seen o h in
         let e : mark_of b (lit_at core i.0) ≡ mark_of b o = ap (λ v. get_or b.marks v 0) i.1.var in
-        let over = m.sorted.marked.over o.var in
         let about = lit_about core i.0 c.formed i.1.within in
-        let n : mark_of b o ≢ b.stamp + 1 = λ f. let w = waits_some (b.stamp + 1) b.marks o.var (omega (arith, about.within, m.sorted.marked.len, i.1.var)) f in omega (arith, w, m.sorted.open_, z) in
-        let u : mark_of b o ≢ b.stamp + 2 = met_unresolved core (get_or core.clauses conflict []) a b o.var begun m in
         let below : level_at core.limits i.0 < length core.limits = ⊎_elim
         (λ f. m.sorted.marked.low i.0 i.1.within (e ∙ f))
-        (λ d. ⊎_elim (λ f. let y = m.sorted.marked.bottom i.0 i.1.within (e ∙ f) in omega (arith, y, some)) (λ f. absurd (three (mark_of b o) b.stamp seen over d n u f)) (cases_eq (mark_of b o) (b.stamp + 3)))
-        (cases_eq (mark_of b o) b.stamp) in
+        (λ q. ⊎_elim
+        (λ f. let w = waits_some (b.stamp + 1) b.marks o.var (omega (arith, about.within, m.sorted.marked.len, i.1.var)) f in absurd (omega (arith, w, m.sorted.open_, z)))
+        (λ q. ⊎_elim (λ f. absurd (met_unresolved core (get_or core.clauses conflict []) a b o.var begun m f)) (λ f. let y = m.sorted.marked.bottom i.0 i.1.within (e ∙ f) in omega (arith, y, some)) q)
+        q)
+        (kinds (mark_of b o) b.stamp (m.seen o h) (m.sorted.marked.over o.var)) in
         let lt = low_place core.limits (length core.trail) last i.0 c.formed.levels (omega (arith, some)) below in
         let top = c.formed.levels.below last (omega (arith, some)) in
         false_below core o i.0 (get_or core.limits last 0) i.1 lt (omega (arith, top))
 
 -- ---- from the last level to level 0
 
-pub passed_middle : (core : CoreValue) (w : WalkValue) (l : LitValue) (place last : ℕ) → IsTrail core.vars core.trail core.limits → last + 1 ≡ length core.limits → IsSorted core w → IsPoint core w l → IsPassed core 1 w place → IsPassed core 3 w (get_or core.limits last 0)
-passed_middle core w l place last t is s p q =
+pub passed_middle : (core : CoreValue) (w : WalkValue) (l : LitValue) (place : ℕ) → IsTrail core.vars core.trail core.limits → IsSorted core w → IsImplicationPoint core w l → IsPassed core 1 w place → IsPassed core 3 w (get_or core.limits (length core.limits - 1) 0)
+passed_middle core w l place t s p q =
+    let last = length core.limits - 1 in
     let e : mark_of w (lit_at core p.place) ≡ w.stamp + 1 = ap (mark_of w) p.is ∙ p.waits in
     let lt = q.waits p.place p.within e in
     let top = s.marked.top p.place p.within e in
-    let low = high_place core.limits last p.place is top.0 in
-    let rising = limits_rise core.limits (length core.trail) 0 last t.levels (omega arith) (omega (arith, is)) in
+    let low = high_place core.limits last p.place (omega (arith, top.1)) top.0 in
+    let rising = limits_rise core.limits (length core.trail) 0 last t.levels (omega arith) (omega (arith, top.1)) in
     record {
       each = λ k v h. let r = q.each k v h in (omega (arith, r.0, lt, low), r.1);
-      waits = λ k v h. let b = bottom_place core.limits k (omega (arith, is)) (s.marked.bottom k v h) in omega (arith, b, rising);
+      waits = λ k v h. let b = bottom_place core.limits k top.1 (s.marked.bottom k v h) in omega (arith, b, rising);
       hints = q.hints;
     }
 

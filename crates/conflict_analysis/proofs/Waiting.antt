@@ -1,5 +1,5 @@
 -- A step that waits has a reason.
-use Rattle.std.proofs.Common.{◌≡◌, ℕ, ◌+◌, ◌-◌, ◌<◌, length, get_or, set, take, refl, sym, ap, ◌∙◌, subst, ⊎_elim, arith}
+use Rattle.std.proofs.Common.{◌≡◌, ℕ, ◌+◌, ◌-◌, ◌<◌, ◌≤◌, length, get_or, set, take, refl, sym, ap, ◌∙◌, subst, ⊎_elim, arith}
 use Rattle.std.specs.Prelude.{◌≢◌, Contains}
 use Rattle.std.proofs.lemmas.Bool.{cases_lt, cases_eq}
 use Rattle.std.proofs.lemmas.List.{get_or_default, length-take-le}
@@ -8,7 +8,8 @@ use Rattle.trail_core.specs.Search.{IsImplied}
 use Rattle.trail_core.specs.Kept.{IsDue, AreGrounded}
 use Rattle.trail_core.specs.Meaning.{CoreValue}
 use Rattle.trail_core.specs.Formed.{IsTrail}
-use Rattle.conflict_analysis.specs.Met.{WalkValue, step_at, no_step, lit_at, mark_of, IsSeen, IsSorted, IsPassed, IsOnward, waiting}
+use Rattle.conflict_analysis.specs.Met.{WalkValue, step_at, no_step, lit_at, mark_of, IsSorted, IsPassed, IsOnward, waiting}
+use Rattle.conflict_analysis.specs.inner.Walks.{IsNext, IsStep, HasWalked, HasSameOpen, HasSameAbove}
 use Rattle.conflict_analysis.specs.PlaceSets.{HasPlace}
 use Rattle.conflict_analysis.proofs.Levels.{level_below, some_level}
 use Rattle.conflict_analysis.proofs.Marked.{lit_about, same_place}
@@ -26,22 +27,23 @@ waits_below core kind w place s p some =
     let e : mark_of w (lit_at core k.0) ≡ w.stamp + kind = ap (λ x. get_or w.marks x 0) k.2 ∙ v.2 in
     (k.0, p.waits k.0 k.1 e, (s.noted.each k.0 k.1).1 (omega (arith, e)))
 
--- the next place of a literal that was met
-pub record IsNext (core : CoreValue) (kind : ℕ) (w : WalkValue) (place : ℕ) : Type 0 where
-  pub within : place < length core.trail
-  pub passed : IsPassed core kind w (place + 1)
+-- so from the next place of a literal that was met on, all but this place are passed
+pub next_passed : (core : CoreValue) (kind : ℕ) (w : WalkValue) (from place : ℕ) → IsSorted core w → IsPassed core kind w from → place < from → ((k : ℕ) → place < k → k < from → HasPlace w.met_places k → ⊥) → IsPassed core kind w (place + 1)
+next_passed core kind w from place s p lt none = record {
+  each = λ k v e. let q = p.each k v e in (omega (arith, q.0, lt), q.1);
+  waits = λ k v e. ⊎_elim
+      (λ gt. absurd (none k gt (p.waits k v e) ((s.noted.each k v).1 (omega (arith, e)))))
+      (λ le. omega (arith, le))
+      (cases_lt place k);
+  hints = p.hints;
+}
 
-pub next_by : (core : CoreValue) (kind : ℕ) (w : WalkValue) (from place : ℕ) → IsSorted core w → IsPassed core kind w from → place < from → HasPlace w.met_places place → ((k : ℕ) → place < k → k < from → HasPlace w.met_places k → ⊥) → IsNext core kind w place
-next_by core kind w from place s p lt has none = record {
-  within = s.noted.within place has;
-  passed = record {
-    each = λ k v e. let q = p.each k v e in (omega (arith, q.0, lt), q.1);
-    waits = λ k v e. ⊎_elim
-        (λ gt. absurd (none k gt (p.waits k v e) ((s.noted.each k v).1 (omega (arith, e)))))
-        (λ le. omega (arith, le))
-        (cases_lt place k);
-    hints = p.hints;
-  };
+-- a place at which none of the kind waits is passed
+pub passed_over : (core : CoreValue) (kind : ℕ) (w : WalkValue) (place : ℕ) → IsPassed core kind w (place + 1) → mark_of w (lit_at core place) ≢ w.stamp + kind → IsPassed core kind w place
+passed_over core kind w place p n = record {
+  each = λ k v e. let q = p.each k v e in (omega (arith, q.0), q.1);
+  waits = λ k v e. let q = p.waits k v e in ⊎_elim (λ lt. lt) (λ ge. let s : k ≡ place = omega (arith, ge, q) in absurd (n (ap (λ i. mark_of w (lit_at core i)) (sym s) ∙ e))) (cases_lt k place);
+  hints = p.hints;
 }
 
 -- the mark at a place, as it is read
@@ -51,86 +53,56 @@ mark_read core w place x var read t s v e i r =
     let at : var ≡ (lit_at core place).var = i ∙ ap (λ l. l.var) e in
     r ∙ get_or_default w.marks var read 0 (omega (arith, at, a.within, s)) ∙ ap (λ y. get_or w.marks y 0) at
 
--- the step at a place can be taken, and then so many wait
-pub record IsStep (core : CoreValue) (w : WalkValue) (place opens bottoms : ℕ) : Type 0 where
-  pub implied : IsImplied core.clauses (IsDue core.limits) (take place core.trail) (step_at core place)
-  pub met : IsSeen w (lit_at core place)
-  pub waits : mark_of w (lit_at core place) ≢ w.stamp + 2
-  pub open_is : opens ≡ waiting (w.stamp + 1) (set w.marks (lit_at core place).var (w.stamp + 2))
-  pub zeros_is : bottoms ≡ waiting (w.stamp + 3) (set w.marks (lit_at core place).var (w.stamp + 2))
+-- ---- steps that can be taken
+
+module _ (core : CoreValue) (w : WalkValue) (place mark : ℕ) (formed : IsTrail core.vars core.trail core.limits) (s : IsSorted core w) (within : place < length core.trail) (is : mark_of w (lit_at core place) ≡ w.stamp + mark) (new : mark ≢ 2) where
+  room : (lit_at core place).var < length w.marks
+  room = let a = lit_about core place formed within in omega (arith, a.within, s.marked.len)
+
+  -- no other kind waits less
+  others_wait : (kind : ℕ) → mark ≢ kind → kind ≢ 2 → waiting (w.stamp + kind) w.marks ≡ waiting (w.stamp + kind) (set w.marks (lit_at core place).var (w.stamp + 2))
+  others_wait kind other two = sym (waits_same (w.stamp + kind) w.marks (lit_at core place).var (w.stamp + 2) room (λ h. other (omega (arith, h, is))) (λ h. two (omega (arith, h))))
+
+  one_less : waiting (w.stamp + mark) (set w.marks (lit_at core place).var (w.stamp + 2)) + 1 ≡ waiting (w.stamp + mark) w.marks
+  one_less = waits_less (w.stamp + mark) w.marks (lit_at core place).var (w.stamp + 2) room is (λ h. new (omega (arith, h)))
+
+  step_by : (opens bottoms : ℕ) → IsImplied core.clauses (IsDue core.limits) (take place core.trail) (step_at core place) → opens ≡ waiting (w.stamp + 1) (set w.marks (lit_at core place).var (w.stamp + 2)) → bottoms ≡ waiting (w.stamp + 3) (set w.marks (lit_at core place).var (w.stamp + 2)) → IsStep core (record w { open_ = opens; zeros = bottoms }) place
+  step_by opens bottoms implied open' zeros' = record { formed = formed; within = within; implied = implied; marked = s.marked; kept = s.kept; noted = s.noted; met = omega (arith, is); new = λ h. new (omega (arith, h, is)); open_ = open'; zeros = zeros' }
 
 -- of the last level, where more wait than one
-pub open_step : (core : CoreValue) (w : WalkValue) (place : ℕ) → IsTrail core.vars core.trail core.limits → AreGrounded core → IsSorted core w → IsPassed core 1 w (place + 1) → place < length core.trail → 1 < w.open_ → mark_of w (lit_at core place) ≡ w.stamp + 1 → IsStep core w place (w.open_ - 1) w.zeros
-open_step core w place t g s p v many e =
-    let a = lit_about core place t v in
+pub open_step : (core : CoreValue) (w : WalkValue) (place : ℕ) → IsTrail core.vars core.trail core.limits → AreGrounded core → IsSorted core w → 1 < w.open_ → IsNext core 1 w place → IsStep core (record w { open_ = w.open_ - 1; zeros = w.zeros }) place
+open_step core w place t g s many n =
     let u : ℕ = (lit_at core place).var in
-    let room : u < length w.marks = omega (arith, a.within, s.marked.len) in
-    let other = waits_other (w.stamp + 1) w.marks u (λ h. omega (arith, h)) room e (omega (arith, s.open_, many)) in
+    let other = waits_other (w.stamp + 1) w.marks u (λ h. omega (arith, h)) (room core w place 1 t s n.within n.waits (λ h. omega (arith, h))) n.waits (omega (arith, s.open_, many)) in
     let k = s.marked.placed other.0 (omega (arith, other.2)) in
     let m : mark_of w (lit_at core k.0) ≡ w.stamp + 1 = ap (λ x. get_or w.marks x 0) k.2 ∙ other.2 in
-    let lt : k.0 < place + 1 = p.waits k.0 k.1 m in
+    let lt : k.0 < place + 1 = n.passed.waits k.0 k.1 m in
     let differ : k.0 ≢ place = λ h. other.1 (sym k.2 ∙ ap (λ i. (lit_at core i).var) h) in
     let below : k.0 < place = ⊎_elim (λ h. h) (λ h. absurd (differ (omega (arith, h, lt)))) (cases_lt k.0 place) in
-    let here' = s.marked.top place v e in
+    let here' = s.marked.top place n.within n.waits in
     let there' = s.marked.top k.0 k.1 m in
-    let less = waits_less (w.stamp + 1) w.marks u (w.stamp + 2) room e (λ h. omega (arith, h)) in
-    record {
-      met = omega (arith, e);
-      implied = implied_at core place g v (λ c. let r = level_below core.limits k.0 place below c in omega (arith, r, here'.0, there'.0));
-      waits = λ h. omega (arith, h, e);
-      open_is = omega (arith, less, s.open_, many);
-      zeros_is = s.zeros ∙ sym (waits_same (w.stamp + 3) w.marks u (w.stamp + 2) room (λ h. omega (arith, h, e)) (λ h. omega (arith, h)));
-    }
+    let less = one_less core w place 1 t s n.within n.waits (λ h. omega (arith, h)) in
+    step_by core w place 1 t s n.within n.waits (λ h. omega (arith, h)) (w.open_ - 1) w.zeros
+    (implied_at core place g n.within (λ c. let r = level_below core.limits k.0 place below c in omega (arith, r, here'.0, there'.0)))
+    (omega (arith, less, s.open_, many))
+    (s.zeros ∙ others_wait core w place 1 t s n.within n.waits (λ h. omega (arith, h)) 3 (λ h. omega (arith, h)) (λ h. omega (arith, h)))
 
 -- of level 0
-pub bottom_step : (core : CoreValue) (w : WalkValue) (place : ℕ) → IsTrail core.vars core.trail core.limits → AreGrounded core → IsSorted core w → place < length core.trail → mark_of w (lit_at core place) ≡ w.stamp + 3 → IsStep core w place w.open_ (w.zeros - 1)
-bottom_step core w place t g s v e =
-    let a = lit_about core place t v in
-    let u : ℕ = (lit_at core place).var in
-    let room : u < length w.marks = omega (arith, a.within, s.marked.len) in
-    let less = waits_less (w.stamp + 3) w.marks u (w.stamp + 2) room e (λ h. omega (arith, h)) in
-    record {
-      met = omega (arith, e);
-      implied = implied_at core place g v (λ c. some_level core.limits place c (s.marked.bottom place v e));
-      waits = λ h. omega (arith, h, e);
-      open_is = s.open_ ∙ sym (waits_same (w.stamp + 1) w.marks u (w.stamp + 2) room (λ h. omega (arith, h, e)) (λ h. omega (arith, h)));
-      zeros_is = omega (arith, less, s.zeros);
-    }
+pub bottom_step : (core : CoreValue) (w : WalkValue) (place : ℕ) → IsTrail core.vars core.trail core.limits → AreGrounded core → IsSorted core w → IsNext core 3 w place → IsStep core (record w { open_ = w.open_; zeros = w.zeros - 1 }) place
+bottom_step core w place t g s n =
+    let less = one_less core w place 3 t s n.within n.waits (λ h. omega (arith, h)) in
+    step_by core w place 3 t s n.within n.waits (λ h. omega (arith, h)) w.open_ (w.zeros - 1)
+    (implied_at core place g n.within (λ c. some_level core.limits place c (s.marked.bottom place n.within n.waits)))
+    (s.open_ ∙ others_wait core w place 3 t s n.within n.waits (λ h. omega (arith, h)) 1 (λ h. omega (arith, h)) (λ h. omega (arith, h)))
+    (omega (arith, less, s.zeros))
 
 -- of a literal that was kept
-pub kept_step : (core : CoreValue) (w : WalkValue) (place : ℕ) → IsTrail core.vars core.trail core.limits → IsSorted core w → place < length core.trail → mark_of w (lit_at core place) ≡ w.stamp → IsImplied core.clauses (IsDue core.limits) (take place core.trail) (step_at core place) → IsStep core w place w.open_ w.zeros
+pub kept_step : (core : CoreValue) (w : WalkValue) (place : ℕ) → IsTrail core.vars core.trail core.limits → IsSorted core w → place < length core.trail → mark_of w (lit_at core place) ≡ w.stamp + 0 → IsImplied core.clauses (IsDue core.limits) (take place core.trail) (step_at core place) → IsStep core (record w { open_ = w.open_; zeros = w.zeros }) place
 kept_step core w place t s v e i =
-    let a = lit_about core place t v in
-    let u : ℕ = (lit_at core place).var in
-    let room : u < length w.marks = omega (arith, a.within, s.marked.len) in
-    record {
-      implied = i;
-      met = omega (arith, e);
-      waits = λ h. omega (arith, h, e);
-      open_is = s.open_ ∙ sym (waits_same (w.stamp + 1) w.marks u (w.stamp + 2) room (λ h. omega (arith, h, e)) (λ h. omega (arith, h)));
-      zeros_is = s.zeros ∙ sym (waits_same (w.stamp + 3) w.marks u (w.stamp + 2) room (λ h. omega (arith, h, e)) (λ h. omega (arith, h)));
-    }
+    let same = others_wait core w place 0 t s v e (λ h. omega (arith, h)) in
+    step_by core w place 0 t s v e (λ h. omega (arith, h)) w.open_ w.zeros i (s.open_ ∙ same 1 (λ h. omega (arith, h)) (λ h. omega (arith, h))) (s.zeros ∙ same 3 (λ h. omega (arith, h)) (λ h. omega (arith, h)))
 
--- the marks do not tell how many wait
-pub passed_counts : (core : CoreValue) (kind : ℕ) (w : WalkValue) (place opens bottoms : ℕ) → IsPassed core kind w place → IsPassed core kind (record w { open_ = opens; zeros = bottoms }) place
-passed_counts core kind w place opens bottoms p = record {
-  each = λ k v e. let q = p.each k v e in (q.0, record { id = q.1.id; reason = q.1.reason; within = q.1.within; stands = q.1.stands; others = q.1.others });
-  waits = p.waits;
-  hints = p.hints;
-}
-
--- where no step of level 0 waits, all are passed
-pub passed_all : (core : CoreValue) (w : WalkValue) (place : ℕ) → IsTrail core.vars core.trail core.limits → IsSorted core w → w.zeros ≡ 0 → IsPassed core 3 w place → IsPassed core 3 w 0
-passed_all core w place t s none p = record {
-  each = λ k v e. (omega arith, (p.each k v e).1);
-  waits = λ k v e.
-      let a = lit_about core k t v in
-      let some = waits_some (w.stamp + 3) w.marks (lit_at core k).var (omega (arith, a.within, s.marked.len)) e in
-      absurd (omega (arith, some, s.zeros, none));
-  hints = p.hints;
-}
-
--- ---- walks one after another
+-- ---- walks
 
 pub onward_same : (w : WalkValue) → IsOnward w w
 onward_same w = record { stamp = refl; seen = λ o h. h }
@@ -138,8 +110,38 @@ onward_same w = record { stamp = refl; seen = λ o h. h }
 pub onward_then : (a b c : WalkValue) → IsOnward a b → IsOnward b c → IsOnward a c
 onward_then a b c p q = record { stamp = q.stamp ∙ p.stamp; seen = λ o h. q.seen o (p.seen o h) }
 
-pub onward_counts : (w c : WalkValue) (opens bottoms : ℕ) → IsOnward (record w { open_ = opens; zeros = bottoms }) c → IsOnward w c
-onward_counts w c opens bottoms p = record { stamp = p.stamp; seen = p.seen }
+pub same_open : (core : CoreValue) (w : WalkValue) → HasSameOpen core w w
+same_open core w = record { before = λ k v e. e; after = λ k v e. e }
+
+pub same_open_then : (core : CoreValue) (a b c : WalkValue) → HasSameOpen core a b → HasSameOpen core b c → HasSameOpen core a c
+same_open_then core a b c p q = record { before = λ k v e. p.before k v (q.before k v e); after = λ k v e. q.after k v (p.after k v e) }
+
+pub same_above : (core : CoreValue) (from : ℕ) (w : WalkValue) → HasSameAbove core from w w
+same_above core from w = record { above = λ k v ge e. e }
+
+-- before a walk
+pub walked_none : (core : CoreValue) (kind : ℕ) (w : WalkValue) (place : ℕ) → place ≤ length core.trail → IsSorted core w → IsPassed core kind w place → HasWalked core kind w w place
+walked_none core kind w place le s p = record { within = le; sorted = s; onward = onward_same w; passed = p }
+
+-- and one walk after another
+pub walked_then : (core : CoreValue) (first kind : ℕ) (a b c : WalkValue) (from place : ℕ) → HasWalked core first a b from → HasWalked core kind b c place → HasWalked core kind a c place
+walked_then core first kind a b c from place p q = record { within = q.within; sorted = q.sorted; onward = onward_then a b c p.onward q.onward; passed = q.passed }
+
+-- where no step of level 0 waits, all are passed
+pub walked_all : (core : CoreValue) (a w : WalkValue) (place : ℕ) → IsTrail core.vars core.trail core.limits → w.zeros ≡ 0 → HasWalked core 3 a w place → HasWalked core 3 a w 0
+walked_all core a w place t none h = record {
+  within = omega arith;
+  sorted = h.sorted;
+  onward = h.onward;
+  passed = record {
+    each = λ k v e. (omega arith, (h.passed.each k v e).1);
+    waits = λ k v e.
+        let b = lit_about core k t v in
+        let some = waits_some (w.stamp + 3) w.marks (lit_at core k).var (omega (arith, b.within, h.sorted.marked.len)) e in
+        absurd (omega (arith, some, h.sorted.zeros, none));
+    hints = h.passed.hints;
+  };
+}
 
 -- where one step of the last level waits, it is the only one
 pub point_alone : (core : CoreValue) (w : WalkValue) (place k : ℕ) → IsTrail core.vars core.trail core.limits → IsSorted core w → w.open_ ≡ 1 → place < length core.trail → k < length core.trail → mark_of w (lit_at core place) ≡ w.stamp + 1 → mark_of w (lit_at core k) ≡ w.stamp + 1 → k ≡ place

@@ -3,4 +3,5 @@ pub mod Learning
 pub mod PlaceSets
 pub mod Met
 pub mod Learned
-pub mod Settled
+pub mod UnitLines
+pub mod inner

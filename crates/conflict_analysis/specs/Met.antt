@@ -1,5 +1,5 @@
 -- What an analysis knows on its walk down the trail: of each variable what becomes of its literal, as a mark above a stamp.
-use Rattle.std.specs.Prelude.{◌≡◌, ◌≢◌, ◌⊎◌, ◌↔◌, ◌==◌, ℕ, ◌+◌, ◌<◌, ◌≤◌, Bool, List, [], None, Some, Contains, AllPairs, length, get_or, take, count_by, reverse, ℤ}
+use Rattle.std.specs.Prelude.{◌≡◌, ◌≢◌, ◌⊎◌, ◌↔◌, ◌==◌, ℕ, ◌+◌, ◌<◌, ◌≤◌, Bool, List, [], None, Some, Contains, AllPairs, length, get_or, take, count_by, filter, reverse, ℤ}
 use Rattle.cnf_formula.specs.Literals.{LitValue}
 use Rattle.trail_core.specs.Assigned.{IsFalse, level_at}
 use Rattle.trail_core.specs.Trails.{StepValue, lits_of}
@@ -58,10 +58,8 @@ pub record AreKept (core : CoreValue) (stamp : ℕ) (marks : List ℕ) (lits : L
   pub once : AllPairs (λ a b. a.var ≢ b.var) lits
 
 -- the literals that are marked as kept still
-pub record AreLeft (stamp : ℕ) (marks : List ℕ) (lits left : List LitValue) : Type 0 where
-  pub of : (o : LitValue) → Contains left o → Contains lits o × (get_or marks o.var 0 ≡ stamp)
-  pub all : (o : LitValue) → Contains lits o → get_or marks o.var 0 ≡ stamp → Contains left o
-  pub once : AllPairs (λ a b. a.var ≢ b.var) left
+abbrev pub left_of : ℕ → List ℕ → List LitValue → List LitValue
+left_of stamp marks lits = filter (λ o. get_or marks o.var 0 == stamp) lits
 
 -- in the set are the places of the literals that were met
 pub record AreNoted (core : CoreValue) (stamp : ℕ) (marks places : List ℕ) : Type 0 where
@@ -113,14 +111,9 @@ pub record IsRested (vars stamp : ℕ) (marks : List ℕ) : Type 0 where
   pub below : (v : ℕ) → get_or marks v 0 < stamp + 4
 
 -- the literal stands on the trail, and its step is the one of the last level that waits
-pub record IsPoint (core : CoreValue) (w : WalkValue) (l : LitValue) : Type 0 where
+pub record IsImplicationPoint (core : CoreValue) (w : WalkValue) (l : LitValue) : Type 0 where
   pub place : ℕ
   pub within : place < length core.trail
   pub is : lit_at core place ≡ l
   pub waits : mark_of w l ≡ w.stamp + 1
   pub only : (k : ℕ) → k < length core.trail → mark_of w (lit_at core k) ≡ w.stamp + 1 → k ≡ place
-
--- of the last level the same steps wait
-pub record HasSameOpen (core : CoreValue) (w w' : WalkValue) : Type 0 where
-  pub before : (k : ℕ) → k < length core.trail → mark_of w' (lit_at core k) ≡ w'.stamp + 1 → mark_of w (lit_at core k) ≡ w.stamp + 1
-  pub after : (k : ℕ) → k < length core.trail → mark_of w (lit_at core k) ≡ w.stamp + 1 → mark_of w' (lit_at core k) ≡ w'.stamp + 1

@@ -1,17 +1,17 @@
 //! What is learned from a conflict (conflict analysis): the first literal of the last level through
 //! which it comes about, the first unique implication point (UIP), and literals of lower levels.
 
-ghost use Rattle.std.specs.Prelude.{◌≡◌, ◌≢◌, ◌+◌, ◌<◌, ◌≤◌, None, Some, length, Contains, AllPairs, IfOk, OnOk, MatchOption};
+ghost use Rattle.std.specs.Prelude.{◌≡◌, ◌+◌, ◌<◌, ◌≤◌, None, Some, length, Contains, IfOk, OnOk, MatchOption};
 ghost use Rattle.cnf_formula.specs.Literals.{LitValue};
 ghost use Rattle.trail_core.specs.Kept.{AreGrounded};
 ghost use Rattle.trail_core.specs.Formed.{IsTrail};
-ghost use Rattle.conflict_analysis.specs.Met.{value_of, IsSorted, IsPassed, IsOnward, IsPoint, IsRested, HasSameOpen, AreLeft};
+ghost use Rattle.conflict_analysis.specs.Met.{value_of, IsSorted, IsPassed, IsImplicationPoint, IsRested, left_of};
 ghost use Rattle.conflict_analysis.specs.Conflicts.{IsConflict};
 ghost use Rattle.conflict_analysis.specs.Learned.{IsLearned};
-ghost use Rattle.conflict_analysis.specs.Settled.{HasSameAbove};
+ghost use Rattle.conflict_analysis.specs.inner.Walks.{HasWalked, HasSameOpen, HasSameAbove};
 
 use crate::implied::Implied;
-use crate::meeting::{hint, is_waiting, meet_all, met_below, resolve};
+use crate::meeting::{hint, meet_all, resolve, waiting_below};
 use crate::shrinking::walk_middle;
 use crate::walk::{BOTTOM, KEPT, OPEN, Walk};
 use cnf_formula::{Lit, OutOfMemory, ProofLine};
@@ -26,18 +26,14 @@ fn walk_last(core: &Core, walk: &mut Walk) -> Result<usize, OutOfMemory>
     requires few { walk.old.stamp ≤ 251 }
     requires some { 0 < walk.old.open_ }
     requires passed { IsPassed core.now 1 (value_of walk.old) (length core.now.trail) }
-    ensures sorted { OnOk result (IsSorted core.now (value_of walk.new)) }
-    ensures onward { OnOk result (IsOnward (value_of walk.old) (value_of walk.new)) }
+    ensures walked { IfOk result (HasWalked core.now 1 (value_of walk.old) (value_of walk.new)) }
     ensures one { OnOk result (walk.new.open_ ≡ 1) }
-    ensures passed { IfOk result (λ place. (place ≤ length core.now.trail) × IsPassed core.now 1 (value_of walk.new) place) }
 {
     let mut place = core.trail().len();
     while walk.open_ > 1 {
-        place = met_below(walk, place);
-        if is_waiting(core, walk, place, OPEN) {
-            walk.open_ -= 1;
-            resolve(core, walk, place)?;
-        }
+        place = waiting_below(core, walk, place, OPEN);
+        walk.open_ -= 1;
+        resolve(core, walk, place)?;
     }
     Ok(place)
 }
@@ -47,17 +43,10 @@ fn point_below(core: &Core, walk: &Walk, from: usize) -> Lit
     requires sorted { IsSorted core.now (value_of walk.now) }
     requires few { walk.now.stamp ≤ 251 }
     requires one { walk.now.open_ ≡ 1 }
-    requires from { from ≤ length core.now.trail }
     requires passed { IsPassed core.now 1 (value_of walk.now) from }
-    ensures { IsPoint core.now (value_of walk.now) result }
+    ensures { IsImplicationPoint core.now (value_of walk.now) result }
 {
-    let mut place = from;
-    loop {
-        place = met_below(walk, place);
-        if is_waiting(core, walk, place, OPEN) {
-            return core.trail()[place];
-        }
-    }
+    core.trail()[waiting_below(core, walk, from, OPEN)]
 }
 
 /// Resolves all steps of level 0 that wait, from a place above them on.
@@ -68,20 +57,16 @@ pub fn walk_bottom(core: &Core, walk: &mut Walk, from: usize) -> Result<(), OutO
     requires few { walk.old.stamp ≤ 251 }
     requires from { from ≤ length core.now.trail }
     requires passed { IsPassed core.now 3 (value_of walk.old) from }
-    ensures sorted { OnOk result (IsSorted core.now (value_of walk.new)) }
-    ensures onward { OnOk result (IsOnward (value_of walk.old) (value_of walk.new)) }
+    ensures walked { OnOk result (HasWalked core.now 3 (value_of walk.old) (value_of walk.new) 0) }
     ensures none { OnOk result (walk.new.zeros ≡ 0) }
     ensures same { OnOk result (HasSameOpen core.now (value_of walk.old) (value_of walk.new)) }
-    ensures passed { OnOk result (IsPassed core.now 3 (value_of walk.new) 0) }
     ensures above { OnOk result (HasSameAbove core.now from (value_of walk.old) (value_of walk.new)) }
 {
     let mut place = from;
     while walk.zeros > 0 {
-        place = met_below(walk, place);
-        if is_waiting(core, walk, place, BOTTOM) {
-            walk.zeros -= 1;
-            resolve(core, walk, place)?;
-        }
+        place = waiting_below(core, walk, place, BOTTOM);
+        walk.zeros -= 1;
+        resolve(core, walk, place)?;
     }
     Ok(())
 }
@@ -89,9 +74,8 @@ pub fn walk_bottom(core: &Core, walk: &mut Walk, from: usize) -> Result<(), OutO
 /// The literals that are kept still.
 fn kept_lits(alloc: Global, walk: &Walk) -> Result<Vec<Lit>, OutOfMemory>
     requires room { (o : LitValue) → Contains walk.now.lits.items o → o.var < length walk.now.marks.items }
-    requires once { AllPairs (λ a b. a.var ≢ b.var) walk.now.lits.items }
     requires few { walk.now.stamp ≤ 251 }
-    ensures { IfOk result (λ lits. AreLeft walk.now.stamp walk.now.marks.items walk.now.lits.items lits.items) }
+    ensures { IfOk result (λ lits. lits.items ≡ left_of walk.now.stamp walk.now.marks.items walk.now.lits.items) }
 {
     let mut left = Vec::with_capacity(alloc, walk.lits.len().saturating_add(1))?;
     for lit in &walk.lits {
@@ -111,11 +95,9 @@ fn walk_all(core: &Core, walk: &mut Walk, implied: &mut Implied) -> Result<Optio
     requires few { walk.old.stamp ≤ 251 }
     requires passed { IsPassed core.now 3 (value_of walk.old) (length core.now.trail) }
     requires some { 0 < length core.now.limits → 0 < walk.old.open_ }
-    ensures sorted { OnOk result (IsSorted core.now (value_of walk.new)) }
-    ensures onward { OnOk result (IsOnward (value_of walk.old) (value_of walk.new)) }
+    ensures walked { OnOk result (HasWalked core.now 3 (value_of walk.old) (value_of walk.new) 0) }
     ensures none { OnOk result (walk.new.zeros ≡ 0) }
-    ensures passed { OnOk result (IsPassed core.now 3 (value_of walk.new) 0) }
-    ensures point { IfOk result (λ point. MatchOption point (length core.now.limits ≡ 0) (λ l. IsPoint core.now (value_of walk.new) l × (0 < length core.now.limits))) }
+    ensures point { IfOk result (λ point. MatchOption point (length core.now.limits ≡ 0) (λ l. IsImplicationPoint core.now (value_of walk.new) l × (0 < length core.now.limits))) }
 {
     if core.depth() == 0 {
         walk_bottom(core, walk, core.trail().len())?;

@@ -12,13 +12,13 @@ mod meeting;
 mod place_set;
 mod places;
 mod seen;
-mod settled;
 mod shrinking;
 mod sought;
+mod unit_line;
 mod walk;
 
 pub use analyze::line_at;
 pub use glue::Glue;
 pub use implied::Implied;
-pub use settled::unit_at;
+pub use unit_line::unit_at;
 pub use walk::Walk;

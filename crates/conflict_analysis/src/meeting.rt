@@ -1,15 +1,13 @@
 //! The literals of conflicts and of reasons, as an analysis meets them.
 
-ghost use Rattle.std.specs.Prelude.{◌≡◌, ◌≢◌, ◌↔◌, ◌⊎◌, IsTrue, ℕ, ◌+◌, ◌<◌, ◌≤◌, [], ◌∷◌, length, get_or, pos, take, Contains, IfSome, OnOk, slice_set};
+ghost use Rattle.std.specs.Prelude.{◌↔◌, ◌⊎◌, ◌≡◌, ℕ, ◌+◌, ◌<◌, ◌≤◌, [], ◌∷◌, IsTrue, length, get_or, pos, Contains, IfSome, OnOk};
 ghost use Rattle.cnf_formula.specs.Literals.{LitValue};
-ghost use Rattle.trail_core.specs.Assigned.{IsFalse, level_at};
+ghost use Rattle.trail_core.specs.Assigned.{IsFalse};
 ghost use Rattle.trail_core.specs.Meaning.{trues};
-ghost use Rattle.trail_core.specs.Search.{IsImplied};
-ghost use Rattle.trail_core.specs.Kept.{IsDue};
 ghost use Rattle.trail_core.specs.Formed.{IsTrail};
 ghost use Rattle.conflict_analysis.specs.PlaceSets.{HasPlace};
-ghost use Rattle.conflict_analysis.specs.Met.{value_of, IsSeen, AreMarks, AreKept, AreNoted, IsSorted, HasMet, IsPassed, lit_at, step_at, mark_of, waiting, IsOnward, HasSameOpen};
-ghost use Rattle.conflict_analysis.specs.Settled.{HasSameOthers};
+ghost use Rattle.conflict_analysis.specs.Met.{value_of, IsSeen, IsSorted, HasMet, IsPassed, lit_at, mark_of, waiting};
+ghost use Rattle.conflict_analysis.specs.inner.Walks.{IsNext, IsStep, IsTaken};
 
 use crate::walk::{BOTTOM, KEPT, OPEN, RESOLVED, Walk};
 use cnf_formula::{Lit, OutOfMemory};
@@ -95,6 +93,25 @@ pub fn met_below(walk: &Walk, place: usize) -> usize
     walk.met_places.below(place).unwrap()
 }
 
+/// The highest place below another whose step waits with such a mark; there is one.
+pub fn waiting_below(core: &Core, walk: &Walk, from: usize, mark: u8) -> usize
+    requires sorted { IsSorted core.now (value_of walk.now) }
+    requires few { walk.now.stamp ≤ 251 }
+    requires small { mark < 4 }
+    requires passed { IsPassed core.now mark (value_of walk.now) from }
+    requires some { 0 < waiting (walk.now.stamp + mark) walk.now.marks.items }
+    ensures below { result < from }
+    ensures next { IsNext core.now mark (value_of walk.now) result }
+{
+    let mut place = from;
+    loop {
+        place = met_below(walk, place);
+        if is_waiting(core, walk, place, mark) {
+            return place;
+        }
+    }
+}
+
 /// The highest place below another whose literal was met, if it is no lower than a third.
 pub fn met_between(walk: &Walk, from: usize, place: usize) -> Option<usize>
     ensures { IfSome result (λ next. (from ≤ next) × (next < place)) }
@@ -105,23 +122,9 @@ pub fn met_between(walk: &Walk, from: usize, place: usize) -> Option<usize>
 
 /// Takes a step for its reason.
 pub fn resolve(core: &Core, walk: &mut Walk, place: usize) -> Result<(), OutOfMemory>
-    requires formed { IsTrail core.now.vars core.now.trail core.now.limits }
     requires few { walk.old.stamp ≤ 251 }
-    requires place { place < length core.now.trail }
-    requires implied { IsImplied core.now.clauses (IsDue core.now.limits) (take place core.now.trail) (step_at core.now place) }
-    requires marked { AreMarks core.now walk.old.stamp walk.old.marks.items }
-    requires kept { AreKept core.now walk.old.stamp walk.old.marks.items walk.old.lits.items }
-    requires noted { AreNoted core.now walk.old.stamp walk.old.marks.items walk.old.met_places }
-    requires met { IsSeen (value_of walk.old) (lit_at core.now place) }
-    requires new { mark_of (value_of walk.old) (lit_at core.now place) ≢ walk.old.stamp + 2 }
-    requires open { walk.old.open_ ≡ waiting (walk.old.stamp + 1) (slice_set walk.old.marks.items (lit_at core.now place).var (walk.old.stamp + 2)) }
-    requires zeros { walk.old.zeros ≡ waiting (walk.old.stamp + 3) (slice_set walk.old.marks.items (lit_at core.now place).var (walk.old.stamp + 2)) }
-    ensures sorted { OnOk result (IsSorted core.now (value_of walk.new)) }
-    ensures onward { OnOk result (IsOnward (value_of walk.old) (value_of walk.new)) }
-    ensures more { OnOk result (walk.old.open_ ≤ walk.new.open_) }
-    ensures below { (0 < length core.now.limits → level_at core.now.limits place < length core.now.limits) → OnOk result (HasSameOpen core.now (value_of walk.old) (value_of walk.new)) }
-    ensures passed { (kind : ℕ) → kind ≢ 2 → IsPassed core.now kind (value_of walk.old) (place + 1) → OnOk result (IsPassed core.now kind (value_of walk.new) place) }
-    ensures alone { OnOk result (HasSameOthers core.now place (value_of walk.old) (value_of walk.new)) }
+    requires step { IsStep core.now (value_of walk.old) place }
+    ensures { OnOk result (IsTaken core.now place (value_of walk.old) (value_of walk.new)) }
 {
     let lit = core.trail()[place];
     let reason = core.reason(lit).unwrap();

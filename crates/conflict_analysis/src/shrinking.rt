@@ -3,11 +3,10 @@
 //! All-UIP Learned Clause Minimization"); else those are taken out that the others imply (clause
 //! minimisation).
 
-ghost use Rattle.std.specs.Prelude.{◌≡◌, ℕ, ◌+◌, ◌<◌, ◌≤◌, IsTrue, length, get_or, take, OnOk};
-ghost use Rattle.trail_core.specs.Search.{IsImplied};
-ghost use Rattle.trail_core.specs.Kept.{IsDue};
+ghost use Rattle.std.specs.Prelude.{◌-◌, ◌<◌, ◌≤◌, IsTrue, length, get_or, OnOk};
 ghost use Rattle.trail_core.specs.Formed.{IsTrail};
-ghost use Rattle.conflict_analysis.specs.Met.{value_of, IsSorted, IsPassed, IsOnward, HasSameOpen, mark_of, lit_at, step_at};
+ghost use Rattle.conflict_analysis.specs.Met.{value_of, IsSorted, IsPassed};
+ghost use Rattle.conflict_analysis.specs.inner.Walks.{IsStep, HasWalked, HasSameOpen};
 
 use crate::implied::Implied;
 use crate::level_point::has_point;
@@ -26,11 +25,10 @@ fn is_spare(
     place: usize,
     shrinks: bool,
 ) -> bool
-    requires place { place < length core.now.trail }
-    requires len { length walk.now.marks.items ≡ core.now.vars + 1 }
+    requires sorted { IsSorted core.now (value_of walk.now) }
     requires few { walk.now.stamp ≤ 251 }
-    ensures kept { IsTrue result → mark_of (value_of walk.now) (lit_at core.now place) ≡ walk.now.stamp }
-    ensures implied { IsTrue result → IsImplied core.now.clauses (IsDue core.now.limits) (take place core.now.trail) (step_at core.now place) }
+    requires place { place < length core.now.trail }
+    ensures { IsTrue result → IsStep core.now (value_of walk.now) place }
 {
     if !is_waiting(core, walk, place, KEPT) {
         return false;
@@ -58,10 +56,8 @@ fn walk_level(
     requires above { 0 < level }
     requires below { level < length core.now.limits }
     requires passed { IsPassed core.now 3 (value_of walk.old) (get_or core.now.limits level 0) }
-    ensures sorted { OnOk result (IsSorted core.now (value_of walk.new)) }
-    ensures onward { OnOk result (IsOnward (value_of walk.old) (value_of walk.new)) }
+    ensures walked { OnOk result (HasWalked core.now 3 (value_of walk.old) (value_of walk.new) (get_or core.now.limits (level - 1) 0)) }
     ensures same { OnOk result (HasSameOpen core.now (value_of walk.old) (value_of walk.new)) }
-    ensures passed { (low : ℕ) → low + 1 ≡ level → OnOk result (IsPassed core.now 3 (value_of walk.new) (get_or core.now.limits low 0)) }
 {
     if implied.sought.kept(level) < 2 {
         implied.sought.leave(level);
@@ -91,11 +87,9 @@ pub fn walk_middle(core: &Core, walk: &mut Walk, implied: &mut Implied) -> Resul
     requires sorted { IsSorted core.now (value_of walk.old) }
     requires few { walk.old.stamp ≤ 251 }
     requires above { 0 < length core.now.limits }
-    requires passed { (last : ℕ) → last + 1 ≡ length core.now.limits → IsPassed core.now 3 (value_of walk.old) (get_or core.now.limits last 0) }
-    ensures sorted { OnOk result (IsSorted core.now (value_of walk.new)) }
-    ensures onward { OnOk result (IsOnward (value_of walk.old) (value_of walk.new)) }
+    requires passed { IsPassed core.now 3 (value_of walk.old) (get_or core.now.limits (length core.now.limits - 1) 0) }
+    ensures walked { OnOk result (HasWalked core.now 3 (value_of walk.old) (value_of walk.new) (get_or core.now.limits 0 0)) }
     ensures same { OnOk result (HasSameOpen core.now (value_of walk.old) (value_of walk.new)) }
-    ensures passed { OnOk result (IsPassed core.now 3 (value_of walk.new) (get_or core.now.limits 0 0)) }
 {
     implied.begin(&walk.lits);
     implied.sought.begin();

@@ -19,7 +19,7 @@ use Rattle.trail_core.specs.Meaning.{CoreValue, trues}
 use Rattle.trail_core.proofs.Keeping.{lits_length}
 use Rattle.conflict_analysis.specs.Met.{lit_at}
 use Rattle.conflict_analysis.specs.Learning.{hints_to}
-use Rattle.conflict_analysis.specs.Settled.{denied, IsSettled}
+use Rattle.conflict_analysis.specs.UnitLines.{denied, IsUnitLine}
 use Rattle.conflict_analysis.proofs.Marked.{lit_read, lit_about, lit_stands, same_place}
 use Rattle.conflict_analysis.proofs.Members.{here, cons_cases}
 use Rattle.sleeping_clauses.specs.Naming.{name, IsName, IsNamed, IsListed}
@@ -97,7 +97,7 @@ pub record IsStating (base : FormulaValue) (lines : List ProofLineValue) (core :
   pub ready : IsReady base lines core awake s
   pub formed : IsTrail core.vars core.trail core.limits
   pub within : place < length core.trail
-  pub is : IsSettled core place unit
+  pub is : IsUnitLine core place unit
   pub named : IsNamed awake.names.items awake.held unit line
 
 pub stating_lits : (base : FormulaValue) (lines : List ProofLineValue) (core : CoreValue) (awake : Awake) (s : SleepersValue) (place : ℕ) (unit line : ProofLineValue) → IsStating base lines core awake s place unit line → line.lits ≡ lit_at core place ∷ []
@@ -132,7 +132,7 @@ stating_fresh base lines core awake s place unit line stated t are new none =
     (fresh_by (checker_of base lines) core.clauses s (l ∷ []) l t.ready.holding.agree.held.only (subst (HasNone s) e none) (here l [])
     (λ other w sub. are other l w new (λ o h. ⊎_elim (λ q. sym q) (λ c. absurd (omega (arith, c.1))) (cons_cases l [] o (sub o h)))))
 
-pub stating_names : (core : CoreValue) (place : ℕ) (unit : ProofLineValue) (names : ℕ) → IsSettled core place unit → names ≡ length core.clauses + 1 → All (IsName names) unit.hints
+pub stating_names : (core : CoreValue) (place : ℕ) (unit : ProofLineValue) (names : ℕ) → IsUnitLine core place unit → names ≡ length core.clauses + 1 → All (IsName names) unit.hints
 stating_names core place unit names t e =
     subst (λ n. All (IsName n) unit.hints) (sym e) (subst (All (IsName (length core.clauses + 1))) (sym t.hints) (hints_names core.clauses (denied core place) t.resolved t.conflict unit.lits t.analysis))
 

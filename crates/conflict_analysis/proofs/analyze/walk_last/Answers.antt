@@ -1,201 +1,28 @@
-use Rattle.std.proofs.Common.{◌≡◌, ℕ, ◌+◌, ◌-◌, ◌<◌, List, length, refl, sym, ap, ◌∙◌, subst, arith}
-use Rattle.cnf_formula.specs.Literals.{LitValue}
-use Rattle.trail_core.specs.Meaning.{CoreValue, trues}
+use Rattle.std.proofs.Common.{◌≡◌, ◌-◌, length, sym, ap, ◌∙◌, subst, arith}
 use Rattle.trail_core.proofs.Keeping.{lits_length}
-use Rattle.std.proofs.lemmas.Bool.{false≢true}
-use Rattle.conflict_analysis.specs.Met.{value_of, WalkValue, waiting, IsPassed}
-use Rattle.conflict_analysis.proofs.Resolved.{passed_over}
-use Rattle.conflict_analysis.proofs.Waiting.{waits_below, next_by, passed_counts, onward_same, onward_then, onward_counts, open_step}
+use Rattle.conflict_analysis.specs.Met.{value_of}
+use Rattle.conflict_analysis.specs.inner.Walks.{HasWalked}
+use Rattle.conflict_analysis.proofs.Resolved.{walked_on}
+use Rattle.conflict_analysis.proofs.Waiting.{walked_none, open_step}
 use Rattle.conflict_analysis.proofs.analyze.walk_last.Goals as goal
 
--- the end of the trail, as it is read
-end : (core : CoreValue) (read : List LitValue) (n : ℕ) → read ≡ trues core → n ≡ length read → n ≡ length core.trail
-end core read n e l = l ∙ ap length e ∙ lits_length core.trail
-
 pub loop-walk-init : goal.loop-walk-init
-loop-walk-init c = record {
-  sorted = c.requires.sorted;
-  onward = onward_same (value_of c.args.walk.now);
-  some = c.requires.some;
-  within = omega (arith, ap length c.trail-place.ensures.value, lits_length c.args.core.now.trail);
-  passed = subst (IsPassed c.args.core.now 1 (value_of c.args.walk.now)) (sym (end c.args.core.now c.trail-place.result.now (length c.trail-place.result.now) c.trail-place.ensures.value refl)) c.requires.passed;
-}
-
-pub met_below-place-requires : goal.met_below-place-requires
-met_below-place-requires c =
+loop-walk-init c =
     let core = c.args.core.now in
-    let w : WalkValue = value_of c.loop-walk.walk in
-    let inv = c.loop-walk.invariant in
-    let from = c.loop-walk.place in
-    let some : 0 < waiting (w.stamp + 1) w.marks = omega (arith, inv.sorted.open_, c.loop-walk-test.true) in
-    waits_below core 1 w from inv.sorted inv.passed some
+    let end : length c.trail-place.result.now ≡ length core.trail = ap length c.trail-place.ensures.value ∙ lits_length core.trail in
+    record { some = c.requires.some; walked = subst (HasWalked core 1 (value_of c.args.walk.now) (value_of c.args.walk.now)) (sym end) (walked_none core 1 (value_of c.args.walk.now) (length core.trail) (omega arith) c.requires.sorted c.requires.passed) }
 
-pub is_waiting-requires-clause-place : goal.is_waiting-requires-clause-place
-is_waiting-requires-clause-place c =
-    let core = c.args.core.now in
-    let w : WalkValue = value_of c.loop-walk.walk in
-    let inv = c.loop-walk.invariant in
-    let from = c.loop-walk.place in
-    let next = next_by core 1 w from c.met_below-place.result inv.sorted inv.passed c.met_below-place.ensures.below c.met_below-place.ensures.met c.met_below-place.ensures.highest in
-    next.within
+pub waiting_below-place-requires-clause-some : goal.waiting_below-place-requires-clause-some
+waiting_below-place-requires-clause-some c = omega (arith, c.loop-walk.invariant.walked.sorted.open_, c.loop-walk-test.true)
 
-pub is_waiting-requires-clause-len : goal.is_waiting-requires-clause-len
-is_waiting-requires-clause-len c =
-    let core = c.args.core.now in
-    let w : WalkValue = value_of c.loop-walk.walk in
-    let inv = c.loop-walk.invariant in
-    let from = c.loop-walk.place in
-    inv.sorted.marked.len
-
-pub is_waiting-requires-clause-few : goal.is_waiting-requires-clause-few
-is_waiting-requires-clause-few c =
-    let core = c.args.core.now in
-    let w : WalkValue = value_of c.loop-walk.walk in
-    let inv = c.loop-walk.invariant in
-    let from = c.loop-walk.place in
-    omega (arith, inv.onward.stamp, c.requires.few)
-
-pub resolve-requires-clause-formed : goal.resolve-requires-clause-formed
-resolve-requires-clause-formed c =
-    let core = c.args.core.now in
-    let w : WalkValue = value_of c.loop-walk.walk in
-    let inv = c.loop-walk.invariant in
-    let from = c.loop-walk.place in
-    c.trail-place.ensures.formed
-
-pub resolve-requires-clause-few : goal.resolve-requires-clause-few
-resolve-requires-clause-few c =
-    let core = c.args.core.now in
-    let w : WalkValue = value_of c.loop-walk.walk in
-    let inv = c.loop-walk.invariant in
-    let from = c.loop-walk.place in
-    omega (arith, inv.onward.stamp, c.requires.few)
-
-pub resolve-requires-clause-place : goal.resolve-requires-clause-place
-resolve-requires-clause-place c =
-    let core = c.args.core.now in
-    let w : WalkValue = value_of c.loop-walk.walk in
-    let inv = c.loop-walk.invariant in
-    let from = c.loop-walk.place in
-    let next = next_by core 1 w from c.met_below-place.result inv.sorted inv.passed c.met_below-place.ensures.below c.met_below-place.ensures.met c.met_below-place.ensures.highest in
-    next.within
-
-pub resolve-requires-clause-implied : goal.resolve-requires-clause-implied
-resolve-requires-clause-implied c =
-    let core = c.args.core.now in
-    let w : WalkValue = value_of c.loop-walk.walk in
-    let inv = c.loop-walk.invariant in
-    let from = c.loop-walk.place in
-    let next = next_by core 1 w from c.met_below-place.result inv.sorted inv.passed c.met_below-place.ensures.below c.met_below-place.ensures.met c.met_below-place.ensures.highest in
-    let step = open_step core w c.met_below-place.result c.trail-place.ensures.formed c.trail-place.ensures.grounded inv.sorted next.passed next.within c.loop-walk-test.true (c.is_waiting.ensures.0 c.if-is_waiting.true) in
-    step.implied
-
-pub resolve-requires-clause-met : goal.resolve-requires-clause-met
-resolve-requires-clause-met c =
-    let core = c.args.core.now in
-    let w : WalkValue = value_of c.loop-walk.walk in
-    let inv = c.loop-walk.invariant in
-    let from = c.loop-walk.place in
-    let next = next_by core 1 w from c.met_below-place.result inv.sorted inv.passed c.met_below-place.ensures.below c.met_below-place.ensures.met c.met_below-place.ensures.highest in
-    let step = open_step core w c.met_below-place.result c.trail-place.ensures.formed c.trail-place.ensures.grounded inv.sorted next.passed next.within c.loop-walk-test.true (c.is_waiting.ensures.0 c.if-is_waiting.true) in
-    step.met
-
-pub resolve-requires-clause-marked : goal.resolve-requires-clause-marked
-resolve-requires-clause-marked c =
-    let core = c.args.core.now in
-    let w : WalkValue = value_of c.loop-walk.walk in
-    let inv = c.loop-walk.invariant in
-    let from = c.loop-walk.place in
-    inv.sorted.marked
-
-pub resolve-requires-clause-kept : goal.resolve-requires-clause-kept
-resolve-requires-clause-kept c =
-    let core = c.args.core.now in
-    let w : WalkValue = value_of c.loop-walk.walk in
-    let inv = c.loop-walk.invariant in
-    let from = c.loop-walk.place in
-    inv.sorted.kept
-
-pub resolve-requires-clause-noted : goal.resolve-requires-clause-noted
-resolve-requires-clause-noted c =
-    let core = c.args.core.now in
-    let w : WalkValue = value_of c.loop-walk.walk in
-    let inv = c.loop-walk.invariant in
-    let from = c.loop-walk.place in
-    inv.sorted.noted
-
-pub resolve-requires-clause-new : goal.resolve-requires-clause-new
-resolve-requires-clause-new c =
-    let core = c.args.core.now in
-    let w : WalkValue = value_of c.loop-walk.walk in
-    let inv = c.loop-walk.invariant in
-    let from = c.loop-walk.place in
-    let next = next_by core 1 w from c.met_below-place.result inv.sorted inv.passed c.met_below-place.ensures.below c.met_below-place.ensures.met c.met_below-place.ensures.highest in
-    let step = open_step core w c.met_below-place.result c.trail-place.ensures.formed c.trail-place.ensures.grounded inv.sorted next.passed next.within c.loop-walk-test.true (c.is_waiting.ensures.0 c.if-is_waiting.true) in
-    step.waits
-
-pub resolve-requires-clause-open : goal.resolve-requires-clause-open
-resolve-requires-clause-open c =
-    let core = c.args.core.now in
-    let w : WalkValue = value_of c.loop-walk.walk in
-    let inv = c.loop-walk.invariant in
-    let from = c.loop-walk.place in
-    let next = next_by core 1 w from c.met_below-place.result inv.sorted inv.passed c.met_below-place.ensures.below c.met_below-place.ensures.met c.met_below-place.ensures.highest in
-    let step = open_step core w c.met_below-place.result c.trail-place.ensures.formed c.trail-place.ensures.grounded inv.sorted next.passed next.within c.loop-walk-test.true (c.is_waiting.ensures.0 c.if-is_waiting.true) in
-    step.open_is
-
-pub resolve-requires-clause-zeros : goal.resolve-requires-clause-zeros
-resolve-requires-clause-zeros c =
-    let core = c.args.core.now in
-    let w : WalkValue = value_of c.loop-walk.walk in
-    let inv = c.loop-walk.invariant in
-    let from = c.loop-walk.place in
-    let next = next_by core 1 w from c.met_below-place.result inv.sorted inv.passed c.met_below-place.ensures.below c.met_below-place.ensures.met c.met_below-place.ensures.highest in
-    let step = open_step core w c.met_below-place.result c.trail-place.ensures.formed c.trail-place.ensures.grounded inv.sorted next.passed next.within c.loop-walk-test.true (c.is_waiting.ensures.0 c.if-is_waiting.true) in
-    step.zeros_is
-
-pub loop-walk-smaller-in-Continue-1 : goal.loop-walk-smaller-in-Continue-1
-loop-walk-smaller-in-Continue-1 c =
-    let core = c.args.core.now in
-    let w : WalkValue = value_of c.loop-walk.walk in
-    let inv = c.loop-walk.invariant in
-    let from = c.loop-walk.place in
-    omega (arith, c.met_below-place.ensures.below)
-
-pub loop-walk-smaller : goal.loop-walk-smaller
-loop-walk-smaller c =
-    let core = c.args.core.now in
-    let w : WalkValue = value_of c.loop-walk.walk in
-    let inv = c.loop-walk.invariant in
-    let from = c.loop-walk.place in
-    omega (arith, c.met_below-place.ensures.below)
-
-pub loop-walk-preserved-in-Continue-1 : goal.loop-walk-preserved-in-Continue-1
-loop-walk-preserved-in-Continue-1 c =
-    let core = c.args.core.now in
-    let w : WalkValue = value_of c.loop-walk.walk in
-    let inv = c.loop-walk.invariant in
-    let from = c.loop-walk.place in
-    let next = next_by core 1 w from c.met_below-place.result inv.sorted inv.passed c.met_below-place.ensures.below c.met_below-place.ensures.met c.met_below-place.ensures.highest in
-    record {
-      sorted = c.in_ok-resolve.ensures.sorted;
-      onward = onward_then (value_of c.args.walk.now) w (value_of c.resolve.new.walk) inv.onward (onward_counts w (value_of c.resolve.new.walk) (w.open_ - 1) w.zeros c.in_ok-resolve.ensures.onward);
-      some = omega (arith, c.in_ok-resolve.ensures.more, c.loop-walk-test.true);
-      within = omega (arith, next.within);
-      passed = c.in_ok-resolve.ensures.passed 1 (λ h. omega (arith, h)) (passed_counts core 1 w (c.met_below-place.result + 1) (w.open_ - 1) w.zeros next.passed);
-    }
+pub resolve-requires-clause-step : goal.resolve-requires-clause-step
+resolve-requires-clause-step c = open_step c.args.core.now (value_of c.loop-walk.walk) c.waiting_below-place.result c.trail-place.ensures.formed c.trail-place.ensures.grounded c.loop-walk.invariant.walked.sorted c.loop-walk-test.true c.waiting_below-place.ensures.next
 
 pub loop-walk-preserved : goal.loop-walk-preserved
 loop-walk-preserved c =
-    let core = c.args.core.now in
-    let w : WalkValue = value_of c.loop-walk.walk in
-    let inv = c.loop-walk.invariant in
-    let from = c.loop-walk.place in
-    let next = next_by core 1 w from c.met_below-place.result inv.sorted inv.passed c.met_below-place.ensures.below c.met_below-place.ensures.met c.met_below-place.ensures.highest in
+    let w = value_of c.loop-walk.walk in
+    let walked = c.loop-walk.invariant.walked in
     record {
-      sorted = inv.sorted;
-      onward = inv.onward;
-      some = inv.some;
-      within = omega (arith, next.within);
-      passed = passed_over core 1 w c.met_below-place.result next.passed (λ e. false≢true (sym c.if-is_waiting.false ∙ c.is_waiting.ensures.1 e));
+      some = omega (arith, c.in_ok-resolve.ensures.met.more, c.loop-walk-test.true);
+      walked = walked_on c.args.core.now (value_of c.args.walk.now) w (value_of c.resolve.new.walk) (w.open_ - 1) w.zeros c.waiting_below-place.result c.in_ok-resolve.ensures 1 (λ h. omega (arith, h)) walked.onward c.waiting_below-place.ensures.next.passed;
     }

@@ -1,61 +1,54 @@
-use Rattle.std.proofs.Common.{◌≡◌, ◌+◌, ◌<◌, [], ◌∷◌, ◌++◌, length, get_or, set, sym, ap, ◌∙◌, subst, arith}
+use Rattle.std.proofs.Common.{◌≡◌, ◌+◌, [], ◌∷◌, ◌++◌, set, sym, subst, arith}
 use Rattle.std.specs.Prelude.{Contains}
 use Rattle.trail_core.specs.Assigned.{level_at}
 use Rattle.trail_core.specs.Meaning.{trues}
-use Rattle.conflict_analysis.specs.Met.{value_of, WalkValue}
-use Rattle.conflict_analysis.proofs.Marked.{met_bottom, met_open, met_kept, unmet_by, unmet_at, level_read, level_within, low_read, at_false}
+use Rattle.conflict_analysis.specs.Met.{value_of, WalkValue, HasMet}
+use Rattle.conflict_analysis.proofs.Marked.{IsUnmet, met_bottom, met_open, met_kept, unmet_by, unmet_at, level_read, level_within, at_false}
 use Rattle.conflict_analysis.proofs.meeting.meet.Goals as goal
+use Rattle.conflict_analysis.proofs.meeting.meet.Goals.{After-level-level}
 
 pub of-place-requires : goal.of-place-requires
 of-place-requires c =
     let core = c.args.core.now in
     let l = c.args.lit in
+    let was = unmet_by core (value_of c.args.walk.now) l c.var-var.result c.index.result.now c.requires.formed c.requires.sorted c.requires.within c.requires.met c.var-var.ensures.var c.index.ensures (omega (arith, c.if-index-walk.false)) in
+    subst (λ xs. Contains xs c.negated-this.result) (sym c.trail.ensures.value) (subst (Contains (trues core)) (sym c.negated-this.ensures) (at_false core l was.0 was.1.at))
+
+-- the literal was not met, and became false at this place
+unmet : (c : After-level-level) → IsUnmet c.args.core.now (value_of c.args.walk.now) c.args.lit c.of-place.result
+unmet c =
+    let core = c.args.core.now in
     let w : WalkValue = value_of c.args.walk.now in
-    let v : c.var-var.result ≡ l.var = c.var-var.ensures.var in
-    let low : get_or w.marks l.var 0 < w.stamp = low_read core w l c.var-var.result c.index.result.now c.requires.sorted c.requires.within v c.index.ensures (omega (arith, c.if-index-walk.false)) in
-    let was = unmet_by core w l c.requires.formed c.requires.sorted low c.requires.within c.requires.met in
-    subst (λ xs. Contains xs c.negated-this.result) (sym c.trail.ensures.value) (subst (λ x. Contains (trues core) x) (sym c.negated-this.ensures) (at_false core l was.0 was.1.at))
+    let was = unmet_by core w c.args.lit c.var-var.result c.index.result.now c.requires.formed c.requires.sorted c.requires.within c.requires.met c.var-var.ensures.var c.index.ensures (omega (arith, c.if-index-walk.false)) in
+    unmet_at core w c.args.lit c.negated-this.result was.0 c.of-place.result c.trail.result.now was.1 c.negated-this.ensures c.trail.ensures.value c.of-place.ensures.within c.of-place.ensures.is
+
+-- on this level
+level : (c : After-level-level) → c.level-level.result ≡ level_at c.args.core.now.limits c.of-place.result
+level c = level_read c.args.core.now c.args.lit c.negated-this.result c.of-place.result c.level-level.result (unmet c).at c.negated-this.ensures c.level-level.ensures
 
 pub returns-then-level-eq0 : goal.returns-then-level-eq0
 returns-then-level-eq0 c =
-    let core = c.args.core.now in
+    let b = (goal.at.returns-then-level-eq0 c).After-level-level in
     let l = c.args.lit in
     let w : WalkValue = value_of c.args.walk.now in
-    let p = c.of-place.result in
-    let v : c.var-var.result ≡ l.var = c.var-var.ensures.var in
-    let low : get_or w.marks l.var 0 < w.stamp = low_read core w l c.var-var.result c.index.result.now c.requires.sorted c.requires.within v c.index.ensures (omega (arith, c.if-index-walk.false)) in
-    let was = unmet_by core w l c.requires.formed c.requires.sorted low c.requires.within c.requires.met in
-    let u = unmet_at core w l c.negated-this.result was.0 p c.trail.result.now was.1 c.negated-this.ensures c.trail.ensures.value c.of-place.ensures.within c.of-place.ensures.is in
-    let added = c.in_ok-insert.ensures.place in
-    let level = level_read core l c.negated-this.result p c.level-level.result u.at c.negated-this.ensures c.level-level.ensures in
-    met_bottom core w _ l p c.insert.new.self u added (omega (arith, level, c.if-level-eq0.true)) (ap (λ x. record w { marks = set w.marks x (w.stamp + 3); zeros = w.zeros + 1; met_places = c.insert.new.self }) v)
+    let places = c.insert.new.self in
+    let zero = level b in
+    subst (λ v. HasMet c.args.core.now (l ∷ []) w (record w { marks = set w.marks v (w.stamp + 3); zeros = w.zeros + 1; met_places = places })) (sym c.var-var.ensures.var) (met_bottom c.args.core.now w l c.of-place.result places (unmet b) c.in_ok-insert.ensures.place (omega (arith, zero, c.if-level-eq0.true)))
 
 pub returns-then-level-depth : goal.returns-then-level-depth
 returns-then-level-depth c =
-    let core = c.args.core.now in
+    let b = (goal.at.returns-then-level-depth c).After-level-level in
     let l = c.args.lit in
     let w : WalkValue = value_of c.args.walk.now in
-    let p = c.of-place.result in
-    let v : c.var-var.result ≡ l.var = c.var-var.ensures.var in
-    let low : get_or w.marks l.var 0 < w.stamp = low_read core w l c.var-var.result c.index.result.now c.requires.sorted c.requires.within v c.index.ensures (omega (arith, c.if-index-walk.false)) in
-    let was = unmet_by core w l c.requires.formed c.requires.sorted low c.requires.within c.requires.met in
-    let u = unmet_at core w l c.negated-this.result was.0 p c.trail.result.now was.1 c.negated-this.ensures c.trail.ensures.value c.of-place.ensures.within c.of-place.ensures.is in
-    let added = c.in_ok-insert.ensures.place in
-    let level = level_read core l c.negated-this.result p c.level-level.result u.at c.negated-this.ensures c.level-level.ensures in
-    let top : level_at core.limits p ≡ length core.limits = omega (arith, level, c.if-level-depth.true, c.depth.ensures) in
-    met_open core w _ l p c.insert.new.self u added top (omega (arith, top, level, c.if-level-eq0.false)) (ap (λ x. record w { marks = set w.marks x (w.stamp + 1); open_ = w.open_ + 1; met_places = c.insert.new.self }) v)
+    let places = c.insert.new.self in
+    let top = level b in
+    subst (λ v. HasMet c.args.core.now (l ∷ []) w (record w { marks = set w.marks v (w.stamp + 1); open_ = w.open_ + 1; met_places = places })) (sym c.var-var.ensures.var) (met_open c.args.core.now w l c.of-place.result places (unmet b) c.in_ok-insert.ensures.place (omega (arith, top, c.if-level-depth.true, c.depth.ensures)) (omega (arith, top, c.if-level-depth.true, c.depth.ensures, c.if-level-eq0.false)))
 
 pub returns : goal.returns
 returns c =
-    let core = c.args.core.now in
+    let b = (goal.at.returns c).After-level-level in
     let l = c.args.lit in
     let w : WalkValue = value_of c.args.walk.now in
-    let p = c.of-place.result in
-    let v : c.var-var.result ≡ l.var = c.var-var.ensures.var in
-    let low : get_or w.marks l.var 0 < w.stamp = low_read core w l c.var-var.result c.index.result.now c.requires.sorted c.requires.within v c.index.ensures (omega (arith, c.if-index-walk.false)) in
-    let was = unmet_by core w l c.requires.formed c.requires.sorted low c.requires.within c.requires.met in
-    let u = unmet_at core w l c.negated-this.result was.0 p c.trail.result.now was.1 c.negated-this.ensures c.trail.ensures.value c.of-place.ensures.within c.of-place.ensures.is in
-    let added = c.in_ok-insert.ensures.place in
-    let level = level_read core l c.negated-this.result p c.level-level.result u.at c.negated-this.ensures c.level-level.ensures in
-    let lower : level_at core.limits p < length core.limits = omega (arith, level, c.if-level-depth.false, c.depth.ensures, level_within core p) in
-    met_kept core w _ l p c.insert.new.self u added lower (ap (λ xs. record w { marks = set w.marks c.var-var.result (w.stamp + 0); lits = xs; met_places = c.insert.new.self }) c.in_ok-push-2.ensures.items ∙ ap (λ x. record w { marks = set w.marks x (w.stamp + 0); lits = w.lits ++ l ∷ []; met_places = c.insert.new.self }) v)
+    let places = c.insert.new.self in
+    let low = level b in
+    subst (λ xs. HasMet c.args.core.now (l ∷ []) w (record w { marks = set w.marks c.var-var.result (w.stamp + 0); lits = xs; met_places = places })) (sym c.in_ok-push-2.ensures.items) (subst (λ v. HasMet c.args.core.now (l ∷ []) w (record w { marks = set w.marks v (w.stamp + 0); lits = w.lits ++ l ∷ []; met_places = places })) (sym c.var-var.ensures.var) (met_kept c.args.core.now w l c.of-place.result places (unmet b) c.in_ok-insert.ensures.place (omega (arith, low, c.if-level-depth.false, c.depth.ensures, level_within c.args.core.now c.of-place.result))))

@@ -2,10 +2,16 @@ use Rattle.std.proofs.Common.{◌≡◌, sym, subst}
 use Rattle.std.specs.Prelude.{Contains}
 use Rattle.cnf_formula.specs.Literals.{LitValue}
 use Rattle.trail_core.specs.Meaning.{trues}
-use Rattle.conflict_analysis.specs.Met.{lit_at}
+use Rattle.conflict_analysis.specs.Met.{value_of, lit_at}
+use Rattle.conflict_analysis.specs.inner.Walks.{IsStep}
 use Rattle.conflict_analysis.proofs.Marked.{lit_stands}
 use Rattle.conflict_analysis.proofs.Resolved.{place_read, reason_implied}
+use Rattle.conflict_analysis.proofs.Waiting.{kept_step}
 use Rattle.conflict_analysis.proofs.shrinking.is_spare.Goals as goal
+use Rattle.conflict_analysis.proofs.shrinking.is_spare.Goals.{In-Some}
+
+pub is_waiting-requires-clause-len : goal.is_waiting-requires-clause-len
+is_waiting-requires-clause-len c = c.requires.sorted.marked.len
 
 pub reason-requires : goal.reason-requires
 reason-requires c =
@@ -14,16 +20,16 @@ reason-requires c =
     let at : x ≡ lit_at core c.args.place = place_read core c.trail.result.now c.args.place x c.trail.ensures.value c.requires.place c.index-trail-place.is in
     subst (λ l. Contains (trues core) l) (sym at) (lit_stands core c.args.place c.requires.place)
 
-pub returns-then-shrinks-clause-implied : goal.returns-then-shrinks-clause-implied
-returns-then-shrinks-clause-implied c = λ h.
+-- a literal that is kept and has a reason
+step : (c : In-Some) → IsStep c.args.core.now (value_of c.args.walk.now) c.args.place
+step c =
     let core = c.args.core.now in
     let x : LitValue = c.index-trail-place.result in
     let at : x ≡ lit_at core c.args.place = place_read core c.trail.result.now c.args.place x c.trail.ensures.value c.requires.place c.index-trail-place.is in
-    reason_implied core c.args.place x c.in-Some._reason c.trail.ensures.grounded c.trail.ensures.formed c.requires.place at c.in-Some.ensures
+    kept_step core (value_of c.args.walk.now) c.args.place c.trail.ensures.formed c.requires.sorted c.requires.place (c.is_waiting.ensures.0 c.if-not-is_waiting.false) (reason_implied core c.args.place x c.in-Some._reason c.trail.ensures.grounded c.trail.ensures.formed c.requires.place at c.in-Some.ensures)
 
-pub returns-else-shrinks-clause-implied : goal.returns-else-shrinks-clause-implied
-returns-else-shrinks-clause-implied c = λ h.
-    let core = c.args.core.now in
-    let x : LitValue = c.index-trail-place.result in
-    let at : x ≡ lit_at core c.args.place = place_read core c.trail.result.now c.args.place x c.trail.ensures.value c.requires.place c.index-trail-place.is in
-    reason_implied core c.args.place x c.in-Some._reason c.trail.ensures.grounded c.trail.ensures.formed c.requires.place at c.in-Some.ensures
+pub returns-then-shrinks : goal.returns-then-shrinks
+returns-then-shrinks c = λ h. step (goal.at.returns-then-shrinks c).In-Some
+
+pub returns-else-shrinks : goal.returns-else-shrinks
+returns-else-shrinks c = λ h. step (goal.at.returns-else-shrinks c).In-Some

@@ -1,10 +1,10 @@
 -- What is learned of a literal of level 0: a line of this literal alone, and the hints by which it is accepted.
-use Rattle.std.specs.Prelude.{◌≡◌, ◌≢◌, ℕ, ◌+◌, ◌<◌, ◌≤◌, Bool, List, [], ◌++◌, ◌∷◌, None, length, take}
+use Rattle.std.specs.Prelude.{◌≡◌, ℕ, Bool, List, [], ◌++◌, ◌∷◌, None, take}
 use Rattle.cnf_formula.specs.Literals.{negation}
 use Rattle.cnf_formula.specs.Lines.{ProofLineValue}
 use Rattle.trail_core.specs.Trails.{StepValue}
 use Rattle.trail_core.specs.Meaning.{CoreValue}
-use Rattle.conflict_analysis.specs.Met.{WalkValue, lit_at, mark_of}
+use Rattle.conflict_analysis.specs.Met.{lit_at}
 use Rattle.conflict_analysis.specs.Learning.{IsAnalysis, hints_to}
 
 -- the trail below a place, and then the negation of the literal at this place, as a decision
@@ -12,17 +12,9 @@ abbrev pub denied : CoreValue → ℕ → List StepValue
 denied core place = take place core.trail ++ record { lit = negation (lit_at core place); reason = None } ∷ []
 
 -- the line has the literal at a place alone, and follows from the clause that is falsified there where its negation is decided
-pub record IsSettled (core : CoreValue) (place : ℕ) (line : ProofLineValue) : Type 0 where
+pub record IsUnitLine (core : CoreValue) (place : ℕ) (line : ProofLineValue) : Type 0 where
   pub conflict : ℕ
   pub resolved : StepValue → Bool
   pub lits : line.lits ≡ lit_at core place ∷ []
   pub analysis : IsAnalysis core.clauses (denied core place) resolved conflict line.lits
   pub hints : line.hints ≡ hints_to resolved (denied core place) conflict
-
--- no step but the one at a place is taken for its reason anew
-pub record HasSameOthers (core : CoreValue) (place : ℕ) (w w' : WalkValue) : Type 0 where
-  pub others : (k : ℕ) → k < length core.trail → k ≢ place → mark_of w' (lit_at core k) ≡ w'.stamp + 2 → mark_of w (lit_at core k) ≡ w.stamp + 2
-
--- nor is one from a place on
-pub record HasSameAbove (core : CoreValue) (from : ℕ) (w w' : WalkValue) : Type 0 where
-  pub above : (k : ℕ) → k < length core.trail → from ≤ k → mark_of w' (lit_at core k) ≡ w'.stamp + 2 → mark_of w (lit_at core k) ≡ w.stamp + 2

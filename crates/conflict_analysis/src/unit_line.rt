@@ -2,7 +2,7 @@
 
 ghost use Rattle.std.specs.Prelude.{◌≡◌, ◌<◌, length, IfOk, OnOk};
 ghost use Rattle.conflict_analysis.specs.Met.{IsRested};
-ghost use Rattle.conflict_analysis.specs.Settled.{IsSettled};
+ghost use Rattle.conflict_analysis.specs.UnitLines.{IsUnitLine};
 
 use crate::analyze::walk_bottom;
 use crate::meeting::meet;
@@ -24,7 +24,7 @@ pub fn unit_at(
     requires bottom { length core.now.limits ≡ 0 }
     requires place { place < length core.now.trail }
     requires rested { IsRested core.now.vars walk.old.stamp walk.old.marks.items }
-    ensures settled { IfOk result (IsSettled core.now place) }
+    ensures settled { IfOk result (IsUnitLine core.now place) }
     ensures rested { OnOk result (IsRested core.now.vars walk.new.stamp walk.new.marks.items) }
 {
     let id = u64::from(core.count()) + 1;
