@@ -35,7 +35,7 @@ use Rattle.frontier_audit.proofs.Verified.{report_right}
 use Rattle.run_rules.specs.declared.status.Status.{Status}
 use Rattle.run_rules.specs.declared.status.Status.TheVariants.{Done, Denied, BadReport}
 use Rattle.run_rules.specs.Audits.{audited, not_denied}
-use Rattle.run_rules.specs.Degraded.{left_of}
+use Rattle.run_rules.specs.Degraded.{left_topology}
 use Rattle.run_rules.specs.Refusals.{Refusal, refused_as}
 use Rattle.run_rules.specs.Tasks.{Task, Bound, Order, Degrade, due, fault_in, given_sets, read_report, searchable, task_of, whole_question}
 use Rattle.sccl_run.specs.Headline.{AsksBound, AsksDegraded, AsksOrdered, IsFloor, PrintsBound, PrintsDegraded, PrintsOrdered}
@@ -147,5 +147,5 @@ degraded_is_true x a b c run done r group width asks =
       old = report_right r end.answer.over asks.valid (accepted_by r end.answer.over accepted);
       frontier = new.frontier;
       text = end.written refl ∙ ap (λ text. x.before ++ text) new.says.text;
-      searched = found_one (question_of r.words (left_of r.topology group width) Whole) new.frontier new.found.right new.found.searched new.found.within;
+      searched = found_one (question_of r.words (left_topology r.topology group width) Whole) new.frontier new.found.right new.found.searched new.found.within;
     }

@@ -18,7 +18,7 @@ use Rattle.frontier_audit.specs.Rights.{IsRight}
 use Rattle.run_rules.specs.Tasks.{given_sets}
 use Rattle.run_rules.specs.Bounds.{bound_lines, bound_text, floor_words}
 use Rattle.run_rules.specs.Orders.{ordered_text}
-use Rattle.run_rules.specs.Degraded.{degraded_text, left_of, old_refuted}
+use Rattle.run_rules.specs.Degraded.{degraded_text, left_topology, old_refuted}
 
 -- ---- what is asked for
 
@@ -106,5 +106,5 @@ pub record PrintsOrdered (w : WordsValue) (t : NamedTopologyValue) (before now :
 pub record PrintsDegraded (r : ReportValue) (group width : ℕ) (before now : List ℕ) : Type 0 where
   pub old : IsRight r
   pub frontier : FrontierValue
-  pub text : now ≡ before ++ degraded_text r.words (left_of r.topology group width) (old_refuted r) frontier
-  pub searched : SearchedFrontier (question_of r.words (left_of r.topology group width) Whole) frontier
+  pub text : now ≡ before ++ degraded_text r.words (left_topology r.topology group width) (old_refuted r) frontier
+  pub searched : SearchedFrontier (question_of r.words (left_topology r.topology group width) Whole) frontier
