@@ -7,7 +7,7 @@ ghost use Rattle.candidate_order.specs.Ranges.{unpruned};
 ghost use Rattle.frontier_audit.specs.OwedFiles.{BreaksOff};
 ghost use Rattle.frontier_audit.specs.Searches.{IsAsked};
 ghost use Rattle.run_rules.specs.Answers.{IsAnswer, LeavesOff};
-ghost use Rattle.run_rules.specs.Bounds.{IsBound};
+ghost use Rattle.run_rules.specs.Bounds.{IsBoundAnswer};
 ghost use Rattle.run_rules.specs.Commands.{IsRefusal};
 ghost use Rattle.run_rules.specs.Refusals.{Refusal};
 ghost use Rattle.run_rules.specs.Tasks.{bound_asked, given_sets, limit};
@@ -39,7 +39,7 @@ fn search_answer<H: Shelf>(
     requires asked { IsAsked search.words search.topology }
     requires plain { search.words.limits.pruning ≡ unpruned }
     requires single { search.words.collective.kind ≢ Kind.Allreduce }
-    ensures answers { IfOk result (λ a. IsBound search.words search.topology sets (record { told = H.tells shelf.new; before = H.file shelf.old; after = H.file shelf.new }) a.status a.text.items) }
+    ensures answers { IfOk result (λ a. IsBoundAnswer search.words search.topology sets (record { told = H.tells shelf.new; before = H.file shelf.old; after = H.file shelf.new }) a.status a.text.items) }
     ensures begun { IsTrue (H.tells shelf.new) → BreaksOff search.words search.topology (H.file shelf.old) (H.file shelf.new) }
     ensures done { IfOk result (λ a. a.status ≡ Status.Done) }
     ensures source { result ≢ Err Halt.Source }

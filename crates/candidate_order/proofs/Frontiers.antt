@@ -1,6 +1,8 @@
 -- What a right frontier says, drawn out.
-use Rattle.std.proofs.Common.{◌≡◌, subst, Bool, true, false, inl, inr, List, [], arith}
-use Rattle.std.specs.Prelude.{Contains, map}
+use Rattle.std.proofs.Common.{◌≡◌, ◌∙◌, ◌<◌, ◌≤◌, ℕ, sym, subst, ap, Bool, true, false, inl, inr, List, [], length, arith}
+use Rattle.std.specs.Prelude.{Contains, AllPairs, get_or, map}
+use Rattle.std.proofs.lemmas.Bool.{cases_order}
+use Rattle.std.proofs.lemmas.List.{get_or_default, get_or-map, length-map}
 use Rattle.std.proofs.lemmas.List.Elements.{All-contains}
 use Rattle.list_laws.proofs.Members.{Contains-map}
 use Rattle.candidate_order.specs.declared.candidate.Candidate.{Candidate}
@@ -12,6 +14,7 @@ use Rattle.collective_spec.specs.declared.spec.Spec.TheVariants.{Standard, Custo
 use Rattle.candidate_order.specs.Ranges.{LimitsValue}
 use Rattle.candidate_order.specs.declared.mark.Mark.TheVariants.{Optimal, Open}
 use Rattle.candidate_order.specs.Costs.{NoWorse, Better, Before}
+use Rattle.candidate_order.proofs.Orders.{Before-irrefl}
 use Rattle.candidate_order.specs.Frontiers.{QuestionValue, PointValue, FrontierValue, solved, IsWithin, IsSized, Achieves, Achievable, IsSolvable, IsPoint, RightFrontier, Searched}
 
 pub none-contained : {X : Type 0} → (xs : List X) (x : X) → xs ≡ [] → Contains xs x → ⊥
@@ -34,6 +37,31 @@ points_differ q f right searched p h x at before no_worse =
     let tried = inl (Contains-map (λ a. a.candidate) f.points p h) in
     let worth = (searched.tried p.candidate point.within).0 tried in
     All-contains (λ a. Before a p.candidate → NoWorse a p.candidate → ⊥) (solved f) x worth at before no_worse
+
+-- what stands before a candidate, and is no better, is no worse
+no_worse_too : (a b : Candidate) → NoWorse a b → Before b a → NoWorse b a
+no_worse_too a b (steps, cost) (inl fewer) = absurd (omega (arith, steps, fewer))
+no_worse_too a b (steps, cost) (inr (same, inl lower)) = absurd (omega (arith, cost, lower))
+no_worse_too a b (steps, cost) (inr (same, inr (level, fewer))) = (omega (arith, same), omega (arith, level))
+
+module _ (q : QuestionValue) (f : FrontierValue) (right : RightFrontier q f) (searched : Searched q f) where
+  -- the candidates of two points stand in the order of the points
+  in_order : (a b : PointValue) (i j : ℕ) → i < j → j < length f.points → get_or f.points i a ≡ a → get_or f.points j b ≡ b → Before a.candidate b.candidate
+  in_order a b i j first within here there =
+      let ordered = searched.points_ascend i j a.candidate first (subst (λ n. j < n) (sym (length-map f.points (λ (p : PointValue). p.candidate))) within) in
+      let at_first : get_or (solved f) i a.candidate ≡ a.candidate = get_or-map (λ p. p.candidate) f.points i a a.candidate (omega (arith, first, within)) ∙ ap (λ p. p.candidate) here in
+      let at_second : get_or (solved f) j a.candidate ≡ b.candidate = get_or-map (λ p. p.candidate) f.points j b a.candidate within ∙ ap (λ p. p.candidate) there in
+      subst (λ x. Before x b.candidate) at_first (subst (Before (get_or (solved f) i a.candidate)) at_second ordered)
+
+  -- a point is no worse than itself alone
+  pub stands_alone : (a b : PointValue) → Contains f.points a → Contains f.points b → NoWorse a.candidate b.candidate → a ≡ b
+  stands_alone a b (i, i_within, here) (j, j_within, there) no_worse =
+      elim (cases_order i j) [
+        | inl same ↦ sym here ∙ get_or_default f.points i a b i_within ∙ ap (λ k. get_or f.points k b) same ∙ there
+        | inr (inl first) ↦ absurd (points_differ q f right searched b (j, j_within, there) a.candidate (Contains-map (λ p. p.candidate) f.points a (i, i_within, here)) (in_order a b i j first j_within here there) no_worse)
+        | inr (inr second) ↦ (let before = in_order b a j i second i_within there here in
+            absurd (points_differ q f right searched a (i, i_within, here) b.candidate (Contains-map (λ p. p.candidate) f.points b (j, j_within, there)) before (no_worse_too a.candidate b.candidate no_worse before)))
+      ]
 
 -- a schedule that does what is asked shows that it can be done
 pub shown : (adds : Bool) (t : TopologyValue) (spec : Spec) (l : LimitsValue) (x : Candidate) (s : ScheduleValue) → let q : QuestionValue = record { topology = t; spec = spec; limits = l } in IsSchedule s → IsSized q x s → Achieves adds q x s → Achievable adds q x

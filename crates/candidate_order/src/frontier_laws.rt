@@ -25,6 +25,12 @@ pub fn no_point_settles_a_later_one()
     ensures { (q : QuestionValue) (f : FrontierValue) → RightFrontier q f → Searched q f → (p : PointValue) → Contains f.points p → (x : Candidate) → Contains (solved f) x → Before x p.candidate → NoWorse x p.candidate → ⊥ }
 {}
 
+/// No point of a searched frontier is no worse than another, so none is dominated, and none stands
+/// there twice.
+pub fn no_point_is_dominated()
+    ensures { (q : QuestionValue) (f : FrontierValue) → RightFrontier q f → Searched q f → (a b : PointValue) → Contains f.points a → Contains f.points b → NoWorse a.candidate b.candidate → a ≡ b }
+{}
+
 /// No candidate of a right frontier is both a point and refuted.
 pub fn no_point_is_refuted()
     ensures { (q : QuestionValue) (f : FrontierValue) → RightFrontier q f → (p : PointValue) → Contains f.points p → Contains f.refuted p.candidate → ⊥ }

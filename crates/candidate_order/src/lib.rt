@@ -17,8 +17,8 @@ mod vectors;
 pub use candidate::Candidate;
 pub use frontier::{Frontier, Unknown};
 pub use frontier_laws::{
-    better_than_optimal_is_refuted, each_point_does_what_is_asked, no_point_is_refuted,
-    no_point_settles_a_later_one, nothing_said_is_right_only_of_nothing,
+    better_than_optimal_is_refuted, each_point_does_what_is_asked, no_point_is_dominated,
+    no_point_is_refuted, no_point_settles_a_later_one, nothing_said_is_right_only_of_nothing,
     open_points_may_be_bettered, settled_frontiers_agree,
 };
 pub use laws::{

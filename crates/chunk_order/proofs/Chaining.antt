@@ -9,8 +9,8 @@ use Rattle.schedule.proofs.First.{each_weaker}
 use Rattle.cnf_formula.specs.Literals.{LitValue, negation, is_true, clause_holds, all_hold}
 use Rattle.send_encoding.specs.Variables.{SendMapValue, steps_of, arrival}
 use Rattle.send_encoding.proofs.Everywhere.{by_recursion, From, in_range}
-use Rattle.send_encoding.proofs.Said.{passes_flat, passes_map, if_true}
-use Rattle.send_encoding.proofs.Saying.{flat_passes, map_passes, at_range, said_if}
+use Rattle.send_encoding.proofs.Complete.{passes_flat, passes_map, if_true}
+use Rattle.send_encoding.proofs.Sound.{flat_passes, map_passes, at_range, said_if}
 use Rattle.chunk_order.specs.Alike.{is_alike, watch_node}
 use Rattle.chunk_order.specs.Ordering.{is_least, leaders, class_of, next_pairs, pair_in_order, class_in_order, order_clauses}
 use Rattle.chunk_order.proofs.Alikeness.{alike_back, alike_both, watch_alike}

@@ -23,7 +23,7 @@ use Rattle.schedule.proofs.Inverting.{pairs_from_InOrder}
 use Rattle.schedule.proofs.Placing.{pair_is, pair_itself, holds-placed}
 use Rattle.schedule.proofs.Stepping.{chunks-after, nodes-after}
 use Rattle.send_encoding.proofs.Members.{member}
-use Rattle.send_encoding.proofs.Said.{any_alike}
+use Rattle.send_encoding.proofs.Complete.{any_alike}
 use Rattle.send_encoding.proofs.Tightened.{pairs_below}
 use Rattle.chunk_order.specs.Alike.{is_alike}
 use Rattle.chunk_order.proofs.Alikeness.{alike_before, alike_after}

@@ -14,7 +14,7 @@ use Rattle.send_encoding.specs.Variables.{SendMapValue, map_of, arrival, sent}
 use Rattle.send_encoding.specs.Sending.{sending}
 use Rattle.send_encoding.specs.Agreeing.{SatisfiesAs}
 use Rattle.send_encoding.proofs.Mapped.{links_join}
-use Rattle.send_encoding.proofs.Saying.{sending_says}
+use Rattle.send_encoding.proofs.Sound.{sending_says}
 use Rattle.send_encoding.proofs.Decoded.{sends_tell}
 use Rattle.send_encoding.proofs.Running.{run_is}
 use Rattle.round_encoding.specs.Frames.{Frame, frame_of, own_variables}

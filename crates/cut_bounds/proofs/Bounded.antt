@@ -19,7 +19,7 @@ use Rattle.node_cuts.specs.declared.floor.Floor.{Floor}
 use Rattle.node_cuts.specs.declared.sets.Sets.{Sets}
 use Rattle.node_cuts.specs.Floors.{floor_of}
 use Rattle.node_cuts.specs.Sides.{NodeSet}
-use Rattle.node_cuts.specs.Cuts.{need, width_by}
+use Rattle.node_cuts.specs.Cuts.{need_of, width_by}
 use Rattle.node_cuts.proofs.Flooring.{IsBroughtIn, floor_below}
 use Rattle.cut_bounds.proofs.Summed.{sums_bring}
 use Rattle.cut_bounds.proofs.Turned.{adding_has_nodes, floor_same}
@@ -54,7 +54,7 @@ sums_bound sets t spec s steps rounds c adds single is allowed sums =
     let demand : PlacementValue = spec_demand spec t.nodes c in
     let from : IsBack spec t.nodes c = back spec t.nodes c adds single is in
     let brought : IsBroughtIn sets over (copied_spec spec) rounds c = λ (u : NodeSet).
-    let needed : need u demand (everywhere demand.chunks demand.nodes) ≤ width_by sets u over * rounds = sums_bring sets u t demand s steps rounds from.sized from.held sums in
+    let needed : need_of u demand (everywhere demand.chunks demand.nodes) ≤ width_by sets u over * rounds = sums_bring sets u t demand s steps rounds from.sized from.held sums in
     rw (from.pre, from.post) needed in
     let bound : (floor_of sets over (copied_spec spec)).above * c ≤ rounds * (floor_of sets over (copied_spec spec)).below = floor_below sets over (copied_spec spec) rounds c (adding_has_nodes t.nodes spec adds is) (same_allowed spec t.nodes c ∙ allowed) brought in
     subst (λ (f : Floor). f.above * c ≤ rounds * f.below) (floor_same sets over spec) bound

@@ -21,7 +21,7 @@ use Rattle.schedule.proofs.Turning.{turned_usable, turned_has, one_if}
 use Rattle.inversion.specs.Reductions.{HeldBySome}
 use Rattle.node_cuts.specs.declared.sets.Sets.{Sets}
 use Rattle.node_cuts.specs.Sides.{NodeSet}
-use Rattle.node_cuts.specs.Cuts.{enters, is_needed, need, stands_in, width_by}
+use Rattle.node_cuts.specs.Cuts.{enters, is_needed, need_of, stands_in, width_by}
 use Rattle.node_cuts.proofs.Crossing.{Enters, later, sends_of_their_own}
 
 -- ---- the sends turned round, each in its step
@@ -132,7 +132,7 @@ module _ (u : NodeSet) (s : ScheduleValue) (nodes m : ℕ) (inside : m < nodes) 
 -- ---- so each chunk that has to come in is sent out
 
 pub sums_bring : (sets : Sets) (u : NodeSet) (t : TopologyValue) (demand : PlacementValue) (s : ScheduleValue) (steps rounds : ℕ) → demand.nodes ≡ t.nodes → HeldBySome demand → Sums t demand s steps rounds
-    → need u demand (everywhere demand.chunks demand.nodes) ≤ width_by sets u (reversed_of t) * rounds
+    → need_of u demand (everywhere demand.chunks demand.nodes) ≤ width_by sets u (reversed_of t) * rounds
 sums_bring sets u t demand s steps rounds nodes_are some sums =
     sends_of_their_own sets u (reversed_of t) (with_turned s) rounds demand.chunks (is_needed u demand all) (fits_turned t s sums.fits) sums.rounds_are sent
   where

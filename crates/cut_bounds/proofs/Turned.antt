@@ -14,7 +14,7 @@ use Rattle.candidate_formula.proofs.Copying.{same_instance}
 use Rattle.node_cuts.specs.declared.floor.Floor.{Floor}
 use Rattle.node_cuts.specs.declared.sets.Sets.{Sets}
 use Rattle.node_cuts.specs.Sides.{NodeSet, mask_of, node_sets}
-use Rattle.node_cuts.specs.Cuts.{first_cut_of, need, width_by}
+use Rattle.node_cuts.specs.Cuts.{first_cut_of, need_of, width_by}
 use Rattle.node_cuts.specs.Cutting.{cut_in}
 use Rattle.node_cuts.specs.Floors.{first_greatest, floor_of, has_need, least_count}
 use Rattle.node_cuts.specs.Tables.{IsTableOf, TableValue, measure_of, table_of}
@@ -40,7 +40,7 @@ cut_same sets t s x = ap (λ (i : Instance). first_cut_of sets t i.pre i.post x.
 -- ---- the floor at a chunk count
 
 abbrev fraction_at : Sets → TopologyValue → ℕ → Instance → NodeSet → Floor
-fraction_at sets t least i u = record { above = need u i.pre i.post; below = width_by sets u t * least; nodes = mask_of t.nodes u }
+fraction_at sets t least i u = record { above = need_of u i.pre i.post; below = width_by sets u t * least; nodes = mask_of t.nodes u }
 
 abbrev floor_at : Sets → TopologyValue → ℕ → Instance → Floor
 floor_at sets t least i = first_greatest (filter has_need (map (fraction_at sets t least i) (node_sets sets t.nodes)))

@@ -15,7 +15,7 @@ ghost use Rattle.candidate_order.specs.Frontiers.{QuestionValue, IsSolvable};
 ghost use Rattle.engine_rules.specs.Outcomes.{RecordValue};
 ghost use Rattle.inversion.specs.Reductions.{HeldBySome};
 ghost use Rattle.node_cuts.specs.Sides.{NodeSet};
-ghost use Rattle.node_cuts.specs.Cuts.{need, width_by};
+ghost use Rattle.node_cuts.specs.Cuts.{need_of, width_by};
 ghost use Rattle.node_cuts.specs.Cutting.{cut_in, is_cut};
 ghost use Rattle.node_cuts.specs.Floors.{floor_of};
 ghost use Rattle.node_cuts.specs.Tables.{TableValue, IsTableOf};
@@ -48,7 +48,7 @@ pub fn cut_candidates_have_no_schedule()
 /// sums, whatever its steps and whichever groups cover the links into the set.
 pub fn sums_bring_in_what_is_needed()
     ensures { (sets : Sets) (u : NodeSet) (t : TopologyValue) (demand : PlacementValue) (s : ScheduleValue) (steps rounds : ℕ) → demand.nodes ≡ t.nodes → HeldBySome demand
-        → Sums t demand s steps rounds → need u demand (everywhere demand.chunks demand.nodes) ≤ width_by sets u (reversed_of t) * rounds }
+        → Sums t demand s steps rounds → need_of u demand (everywhere demand.chunks demand.nodes) ≤ width_by sets u (reversed_of t) * rounds }
 {}
 
 /// A reduction has no schedule of fewer rounds for its chunk count than the floor over the links

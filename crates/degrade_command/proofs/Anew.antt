@@ -10,18 +10,18 @@ use Rattle.candidate_formula.specs.Pruned.{is_cut_away}
 use Rattle.engine_search.specs.Found.{IsFound}
 use Rattle.link_faults.specs.Carrying.{is_carried, narrowed_question}
 use Rattle.run_rules.specs.declared.status.Status.TheVariants.{Done}
-use Rattle.run_rules.specs.Degraded.{IsNewSearch, degraded_text, left_of, old_refuted}
+use Rattle.run_rules.specs.Degraded.{IsNewSearch, degraded_text, left_topology, old_refuted}
 use Rattle.degrade_command.specs.declared.found.Found.{Found}
 use Rattle.degrade_command.specs.inner.After.{IsFoundAfter}
 
 -- as the code has it: by the parts of the report
 pub new_search : (r : ReportValue) (group width : ℕ) (old : List Candidate) (given : QuestionValue) (found : Found) (words : WordsValue) (named left : NamedTopologyValue) (text : List ℕ)
-    → given ≡ question_of r.words r.topology Whole → old ≡ old_refuted r → words ≡ r.words → named ≡ r.topology → left ≡ left_of named group width
+    → given ≡ question_of r.words r.topology Whole → old ≡ old_refuted r → words ≡ r.words → named ≡ r.topology → left ≡ left_topology named group width
     → IsFoundAfter (narrowed_question given group width) old found → text ≡ degraded_text words left old found.frontier → IsNewSearch r group width Done text
 new_search r group width old given found words named left text made are said on is after printed =
     let f = found.frontier in
-    let asked : narrowed_question given group width ≡ question_of r.words (left_of r.topology group width) Whole = ap (λ (q : QuestionValue). narrowed_question q group width) made in
-    let left_is : left ≡ left_of r.topology group width = is ∙ ap (λ (t : NamedTopologyValue). left_of t group width) on in
+    let asked : narrowed_question given group width ≡ question_of r.words (left_topology r.topology group width) Whole = ap (λ (q : QuestionValue). narrowed_question q group width) made in
+    let left_is : left ≡ left_topology r.topology group width = is ∙ ap (λ (t : NamedTopologyValue). left_topology t group width) on in
     record {
       frontier = f;
       found = subst (λ q. IsFound q f) asked after.found;
@@ -30,6 +30,6 @@ new_search r group width old given found words named left text made are said on 
       uncut = subst (λ q. All (λ u. is_cut_away q u.candidate ≡ false) f.unknown) asked after.uncut;
       says = record {
         status = refl;
-        text = printed ∙ ap (λ w. degraded_text w left old f) said ∙ ap (λ t. degraded_text r.words t old f) left_is ∙ ap (λ xs. degraded_text r.words (left_of r.topology group width) xs f) are;
+        text = printed ∙ ap (λ w. degraded_text w left old f) said ∙ ap (λ t. degraded_text r.words t old f) left_is ∙ ap (λ xs. degraded_text r.words (left_topology r.topology group width) xs f) are;
       };
     }

@@ -8,7 +8,7 @@ use Rattle.frontier_audit.specs.Beside.{IsVerdictOver}
 use Rattle.run_rules.specs.declared.status.Status.{Status}
 use Rattle.run_rules.specs.Refusals.{Refusal, refusal_line}
 use Rattle.run_rules.specs.Audits.{audited, not_denied, verdict_status, verdict_text}
-use Rattle.run_rules.specs.Degraded.{IsDegraded, IsNewSearch}
+use Rattle.run_rules.specs.Degraded.{IsDegradedAnswer, IsNewSearch}
 use Rattle.run_rules.specs.Said.{FilesValue, Says, Stay}
 use Rattle.run_rules.proofs.OverFiles.{HasVerdict, has_verdict}
 use Rattle.degrade_command.specs.inner.Judged.{IsJudged}
@@ -25,7 +25,7 @@ module _ (r : ReportValue) (group width : ℕ) (verdict : AuditVerdict) (files :
   unfolding audited
   over_is = ap not_denied is.is
 
-  pub searched_anew : verdict ≡ audit.Verified → IsNewSearch r group width status text → IsDegraded r group width files status text
+  pub searched_anew : verdict ≡ audit.Verified → IsNewSearch r group width status text → IsDegradedAnswer r group width files status text
   searched_anew verified search = record {
     over = is.over;
     are = is.are;
@@ -42,7 +42,7 @@ module _ (r : ReportValue) (group width : ℕ) (verdict : AuditVerdict) (files :
   is_refusal audit.Verified denied taken = denied refl
   is_refusal (audit.Denied reason part x) denied taken = absurd (cc)
 
-  pub told_denied : verdict ≢ audit.Verified → Says (verdict_status (not_denied verdict)) (verdict_text (not_denied verdict)) status text → IsDegraded r group width files status text
+  pub told_denied : verdict ≢ audit.Verified → Says (verdict_status (not_denied verdict)) (verdict_text (not_denied verdict)) status text → IsDegradedAnswer r group width files status text
   told_denied denied says = record {
     over = is.over;
     are = is.are;

@@ -21,7 +21,7 @@ use Rattle.schedule.proofs.First.{Among, among_each, any_found, any_among}
 use Rattle.schedule.proofs.Placing.{pair_is}
 use Rattle.node_cuts.specs.declared.sets.Sets.{Sets}
 use Rattle.node_cuts.specs.Sides.{NodeSet, node_sets}
-use Rattle.node_cuts.specs.Cuts.{stands_in, is_needed, need, enters, is_among, cover_by, width_by, cut_refutes, cut_of, first_cut_of}
+use Rattle.node_cuts.specs.Cuts.{stands_in, is_needed, need_of, enters, is_among, cover_by, width_by, cut_refutes, cut_of, first_cut_of}
 use Rattle.node_cuts.proofs.Counting.{no_fewer, no_fewer_of, one_more, no_more_than_both, none_counted}
 use Rattle.node_cuts.proofs.Covered.{covered, carried}
 
@@ -167,7 +167,7 @@ sends_of_their_own sets u t s rounds chunks p fits rounds_are enter =
     omega (arith, own, fewer, most, whole)
 
 -- what has to come in is no more than what can in the rounds of a schedule that solves
-pub needed_comes_in : (sets : Sets) (u : NodeSet) (t : TopologyValue) (pre post : PlacementValue) (s : ScheduleValue) (steps rounds : ℕ) → Solves t pre post s steps rounds → need u pre post ≤ width_by sets u t * rounds
+pub needed_comes_in : (sets : Sets) (u : NodeSet) (t : TopologyValue) (pre post : PlacementValue) (s : ScheduleValue) (steps rounds : ℕ) → Solves t pre post s steps rounds → need_of u pre post ≤ width_by sets u t * rounds
 needed_comes_in sets u t pre post s steps rounds solves =
     let all : ℕ = length s.rounds in
     let enter : (chunk : ℕ) → is_needed u pre post chunk ≡ true → Enters u s all chunk = λ chunk needed.
@@ -185,7 +185,7 @@ needed_comes_in sets u t pre post s steps rounds solves =
 
 pub cut_says : (sets : Sets) (u : NodeSet) (t : TopologyValue) (pre post : PlacementValue) (s : ScheduleValue) (steps rounds : ℕ) → cut_refutes sets u t pre post rounds ≡ true → Solves t pre post s steps rounds → ⊥
 cut_says sets u t pre post s steps rounds refutes solves =
-    omega (arith, ltb-true (width_by sets u t * rounds) (need u pre post) refutes, needed_comes_in sets u t pre post s steps rounds solves)
+    omega (arith, ltb-true (width_by sets u t * rounds) (need_of u pre post) refutes, needed_comes_in sets u t pre post s steps rounds solves)
 
 some_mapped : {X Y : Type 0} (f : X → Y) (o : Option X) → is_some (option_map f o) ≡ is_some o
 some_mapped f None = refl

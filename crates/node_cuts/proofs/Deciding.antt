@@ -17,7 +17,7 @@ use Rattle.collective_spec.specs.Collectives.{kind_in, spec_instance}
 use Rattle.node_cuts.specs.declared.sets.Sets.{Sets}
 use Rattle.node_cuts.specs.declared.floor.Floor.{Floor}
 use Rattle.node_cuts.specs.Sides.{NodeSet, node_sets}
-use Rattle.node_cuts.specs.Cuts.{cut_of, cut_refutes, first_cut_of, need, width_by}
+use Rattle.node_cuts.specs.Cuts.{cut_of, cut_refutes, first_cut_of, need_of, width_by}
 use Rattle.node_cuts.specs.Floors.{exceeds, first_greatest, floor_of, fraction_of, fractions, greater_of, has_need, least_count, nothing_over_1}
 use Rattle.node_cuts.proofs.Best.{IsBest, Positive, any_middle, best_is, step}
 use Rattle.node_cuts.proofs.Least.{least_least, least_positive}
@@ -110,7 +110,7 @@ set_told sets t spec c r some allowed u =
     let i : Instance = spec_instance spec t.nodes least in
     let scaled : IsScaled u spec t.nodes c = scales u spec t.nodes c some allowed in
     let positive : 0 < least = least_positive (kind_in spec) t.nodes some in
-    let n : ℕ = need u i.pre i.post in
+    let n : ℕ = need_of u i.pre i.post in
     let w : ℕ = width_by sets u t in
     let m : ℕ = scaled.times in
     let left : w * least * r ≡ w * r * least = mul_right_comm w least r in

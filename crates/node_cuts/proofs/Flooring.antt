@@ -14,14 +14,14 @@ use Rattle.node_cuts.specs.declared.sets.Sets.{Sets}
 use Rattle.std.specs.Option.{unwrap_or}
 use Rattle.node_cuts.specs.declared.floor.Floor.{Floor}
 use Rattle.node_cuts.specs.Sides.{NodeSet, node_sets}
-use Rattle.node_cuts.specs.Cuts.{need, width_by}
+use Rattle.node_cuts.specs.Cuts.{need_of, width_by}
 use Rattle.node_cuts.specs.Floors.{least_count, fraction_of, has_need, fractions, is_greatest, nothing_over_1, floor_of}
 use Rattle.node_cuts.proofs.Crossing.{needed_comes_in}
 use Rattle.node_cuts.proofs.Scaling.{IsScaled, scales}
 
 -- what has to come into each set of nodes can in so many rounds
 abbrev pub IsBroughtIn : Sets → TopologyValue → Spec → ℕ → ℕ → Type 0
-IsBroughtIn sets t spec rounds c = (u : NodeSet) → need u (spec_instance spec t.nodes c).pre (spec_instance spec t.nodes c).post ≤ width_by sets u t * rounds
+IsBroughtIn sets t spec rounds c = (u : NodeSet) → need_of u (spec_instance spec t.nodes c).pre (spec_instance spec t.nodes c).post ≤ width_by sets u t * rounds
 
 -- what is said of each element, and of nothing over 1, is said of the first that passes
 of_found : (P : Floor → Type 0) (p : Floor → Bool) (fs : List Floor) → AllByRecursion P fs → P nothing_over_1 → P (unwrap_or (find p fs) nothing_over_1)
@@ -45,7 +45,7 @@ side_bounds : (sets : Sets) (t : TopologyValue) (spec : Spec) (rounds c : ℕ) �
 side_bounds sets t spec rounds c some allowed brought u =
     let least : ℕ = least_count (kind_in spec) t.nodes in
     let scaled : IsScaled u spec t.nodes c = scales u spec t.nodes c some allowed in
-    let n : ℕ = need u (spec_instance spec t.nodes least).pre (spec_instance spec t.nodes least).post in
+    let n : ℕ = need_of u (spec_instance spec t.nodes least).pre (spec_instance spec t.nodes least).post in
     let w : ℕ = width_by sets u t in
     let m : ℕ = scaled.times in
     let over : m * n ≤ w * rounds = subst (λ v. v ≤ w * rounds) scaled.needed (brought u) in

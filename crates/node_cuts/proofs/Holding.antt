@@ -6,7 +6,7 @@ use Rattle.std.proofs.lemmas.Bool.{cases_Bool}
 use Rattle.std.proofs.lemmas.List.Sums.{sum_by-cons}
 use Rattle.schedule.specs.Placed.{PlacementValue, IsPlacement, holds}
 use Rattle.node_cuts.specs.Sides.{NodeSet}
-use Rattle.node_cuts.specs.Cuts.{is_needed, need, stands_in}
+use Rattle.node_cuts.specs.Cuts.{is_needed, need_of, stands_in}
 use Rattle.node_cuts.specs.Holders.{HoldersValue, is_lacking, nodes_with}
 use Rattle.node_cuts.proofs.Reading.{stands_held}
 
@@ -51,5 +51,5 @@ counted u pre post before after same a (suc n) low =
     ∙ ap (λ k. cond (is_needed u pre post a) 1 0 + k) (counted u pre post before after same (a + 1) n (omega (arith, low)))
     ∙ sym (sum_by-cons (λ chunk. cond (is_needed u pre post chunk) 1 0) a (range_with_len (a + 1) n))
 
-pub need_by_holders : (u : NodeSet) (pre post : PlacementValue) → IsPlacement pre → IsPlacement post → post.chunks ≡ pre.chunks → count_by (is_lacking u) (all_holders pre post) ≡ need u pre post
+pub need_by_holders : (u : NodeSet) (pre post : PlacementValue) → IsPlacement pre → IsPlacement post → post.chunks ≡ pre.chunks → count_by (is_lacking u) (all_holders pre post) ≡ need_of u pre post
 need_by_holders u pre post before after same = counted u pre post before after same 0 post.chunks (omega arith)

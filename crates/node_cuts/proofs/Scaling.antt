@@ -22,7 +22,7 @@ use Rattle.collective_spec.specs.Patterns.{in_copies}
 use Rattle.collective_spec.specs.Kinds.{allows}
 use Rattle.collective_spec.specs.Collectives.{kind_in, spec_instance}
 use Rattle.node_cuts.specs.Sides.{NodeSet}
-use Rattle.node_cuts.specs.Cuts.{stands_in, is_needed, need}
+use Rattle.node_cuts.specs.Cuts.{stands_in, is_needed, need_of}
 use Rattle.node_cuts.specs.Floors.{least_count}
 
 -- ---- ranges
@@ -74,7 +74,7 @@ count_alike p q a (suc n) same =
     let second : count_by q (a ∷ range_with_len (a + 1) n) ≡ cond {A = ℕ} (q a) 1 0 + count_by q (range_with_len (a + 1) n) = sum_by-cons (λ x. cond (q x) 1 0) a (range_with_len (a + 1) n) in
     omega (arith, first, second, rest, ap (λ b. cond {A = ℕ} b 1 0) here)
 
-pub need_by : (u : NodeSet) (chunks nodes : ℕ) (f g : ℕ × ℕ → Bool) → need u (placed chunks nodes f) (placed chunks nodes g) ≡ count_by (needs u nodes f g) (range_with_len 0 chunks)
+pub need_by : (u : NodeSet) (chunks nodes : ℕ) (f g : ℕ × ℕ → Bool) → need_of u (placed chunks nodes f) (placed chunks nodes g) ≡ count_by (needs u nodes f g) (range_with_len 0 chunks)
 need_by u chunks nodes f g =
     count_alike (is_needed u (placed chunks nodes f) (placed chunks nodes g)) (needs u nodes f g) 0 chunks (λ k low high.
     let below : k < chunks = omega (arith, high) in
@@ -122,7 +122,7 @@ periods p period again (suc m) =
 abbrev Repeats : (ℕ × ℕ → Bool) → ℕ → Type 0
 Repeats f period = (chunk node : ℕ) → f (chunk + period, node) ≡ f (chunk, node)
 
-scaled : (u : NodeSet) (nodes : ℕ) (f g : ℕ × ℕ → Bool) (period m size : ℕ) → Repeats f period → Repeats g period → size ≡ m * period → need u (placed size nodes f) (placed size nodes g) ≡ m * need u (placed period nodes f) (placed period nodes g)
+scaled : (u : NodeSet) (nodes : ℕ) (f g : ℕ × ℕ → Bool) (period m size : ℕ) → Repeats f period → Repeats g period → size ≡ m * period → need_of u (placed size nodes f) (placed size nodes g) ≡ m * need_of u (placed period nodes f) (placed period nodes g)
 scaled u nodes f g period m size first second is =
     let p : ℕ → Bool = needs u nodes f g in
     let again : (k : ℕ) → p (k + period) ≡ p k = λ k.
@@ -159,7 +159,7 @@ repeats_copies base p chunk node = ap (λ v. holds p (v, node)) (add-mul-mod_sel
 pub record IsScaled (u : NodeSet) (spec : Spec) (nodes c : ℕ) : Type 0 where
   pub times : ℕ
   pub count : c ≡ times * least_count (kind_in spec) nodes
-  pub needed : need u (spec_instance spec nodes c).pre (spec_instance spec nodes c).post ≡ times * need u (spec_instance spec nodes (least_count (kind_in spec) nodes)).pre (spec_instance spec nodes (least_count (kind_in spec) nodes)).post
+  pub needed : need_of u (spec_instance spec nodes c).pre (spec_instance spec nodes c).post ≡ times * need_of u (spec_instance spec nodes (least_count (kind_in spec) nodes)).pre (spec_instance spec nodes (least_count (kind_in spec) nodes)).post
 
 once : (c : ℕ) → c ≡ c * 1
 once c = sym (mul-one c)
@@ -168,11 +168,11 @@ turned : (nodes c : ℕ) → nodes * c ≡ c * (nodes * 1)
 turned nodes c = mul_comm nodes c ∙ ap (λ v. c * v) (sym (mul-one nodes))
 
 by_nodes : (nodes c : ℕ) (u : NodeSet) (first second : Layout) → Repeats (stands first nodes) (nodes * 1) → Repeats (stands second nodes) (nodes * 1)
-    → need u (laid_out first (nodes * c) nodes) (laid_out second (nodes * c) nodes) ≡ c * need u (laid_out first (nodes * 1) nodes) (laid_out second (nodes * 1) nodes)
+    → need_of u (laid_out first (nodes * c) nodes) (laid_out second (nodes * c) nodes) ≡ c * need_of u (laid_out first (nodes * 1) nodes) (laid_out second (nodes * 1) nodes)
 by_nodes nodes c u first second before after = scaled u nodes (stands first nodes) (stands second nodes) (nodes * 1) c (nodes * c) before after (turned nodes c)
 
 by_chunks : (nodes c : ℕ) (u : NodeSet) (first second : Layout) → Repeats (stands first nodes) 1 → Repeats (stands second nodes) 1
-    → need u (laid_out first c nodes) (laid_out second c nodes) ≡ c * need u (laid_out first 1 nodes) (laid_out second 1 nodes)
+    → need_of u (laid_out first c nodes) (laid_out second c nodes) ≡ c * need_of u (laid_out first 1 nodes) (laid_out second 1 nodes)
 by_chunks nodes c u first second before after = scaled u nodes (stands first nodes) (stands second nodes) 1 c c before after (once c)
 
 of_kind : (u : NodeSet) (kind : Kind) (root nodes c : ℕ) → 0 < nodes → allows kind nodes c ≡ true → IsScaled u (spec.Standard (record { kind = kind; root = root })) nodes c

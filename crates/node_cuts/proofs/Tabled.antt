@@ -15,7 +15,7 @@ use Rattle.node_cuts.specs.declared.sets.Sets.{Sets}
 use Rattle.node_cuts.specs.declared.measure.Measure.{Measure}
 use Rattle.node_cuts.specs.declared.floor.Floor.{Floor}
 use Rattle.node_cuts.specs.Sides.{NodeSet, mask_of, node_sets}
-use Rattle.node_cuts.specs.Cuts.{CutValue, cover_by, cut_of, cut_refutes, first_cut_of, need, width_by}
+use Rattle.node_cuts.specs.Cuts.{CutValue, cover_by, cut_of, cut_refutes, first_cut_of, need_of, width_by}
 use Rattle.node_cuts.specs.Floors.{fraction_of, least_count}
 use Rattle.node_cuts.specs.Holders.{HoldersValue, is_lacking}
 use Rattle.node_cuts.specs.Tables.{TableValue, IsTableOf, cut_at, measure_of, no_measure, table_of}
@@ -24,14 +24,14 @@ use Rattle.node_cuts.proofs.Scaling.{IsScaled, scales}
 
 -- the least count divides each count that the collective may have, and as many times as much has to come in
 pub times_more : (u : NodeSet) (spec : Spec) (nodes c : ℕ) → 0 < nodes → allows (kind_in spec) nodes c ≡ true
-    → need u (spec_instance spec nodes c).pre (spec_instance spec nodes c).post ≡ need u (spec_instance spec nodes (least_count (kind_in spec) nodes)).pre (spec_instance spec nodes (least_count (kind_in spec) nodes)).post * (c / least_count (kind_in spec) nodes)
+    → need_of u (spec_instance spec nodes c).pre (spec_instance spec nodes c).post ≡ need_of u (spec_instance spec nodes (least_count (kind_in spec) nodes)).pre (spec_instance spec nodes (least_count (kind_in spec) nodes)).post * (c / least_count (kind_in spec) nodes)
 times_more u spec nodes c some allowed =
     let count : ℕ = least_count (kind_in spec) nodes in
     let least : Instance = spec_instance spec nodes count in
     let scaled : IsScaled u spec nodes c = scales u spec nodes c some allowed in
     let positive : 0 < count = least_positive (kind_in spec) nodes some in
     let times : c / count ≡ scaled.times = ap (λ v. v / count) scaled.count ∙ mul-div_cancel scaled.times positive in
-    scaled.needed ∙ mul_comm scaled.times (need u least.pre least.post) ∙ ap (λ v. need u least.pre least.post * v) (sym times)
+    scaled.needed ∙ mul_comm scaled.times (need_of u least.pre least.post) ∙ ap (λ v. need_of u least.pre least.post * v) (sym times)
 
 -- ---- the first of a list that passes
 
@@ -47,7 +47,7 @@ none_found_in p (x ∷ xs) d each = ap (λ b. cond b (Some x) (find p xs)) (each
 
 -- ---- one set
 
-pub measure_told : (sets : Sets) (t : TopologyValue) (pre post : PlacementValue) (u : NodeSet) (holders known : List HoldersValue) (measure : Measure) → ((v : NodeSet) → count_by (is_lacking v) known ≡ need v pre post) → holders ≡ known
+pub measure_told : (sets : Sets) (t : TopologyValue) (pre post : PlacementValue) (u : NodeSet) (holders known : List HoldersValue) (measure : Measure) → ((v : NodeSet) → count_by (is_lacking v) known ≡ need_of v pre post) → holders ≡ known
     → measure ≡ record { need = count_by (is_lacking u) holders; width = width_by sets u t } → measure ≡ measure_of sets t pre post u
 measure_told sets t pre post u holders known measure counted same is = is ∙ ap of_count (ap (count_by (is_lacking u)) same ∙ counted u)
   where

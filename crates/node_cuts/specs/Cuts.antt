@@ -20,8 +20,8 @@ abbrev pub is_needed : NodeSet → PlacementValue → PlacementValue → ℕ →
 is_needed u pre post chunk = stands_in u post chunk && not (stands_in u pre chunk)
 
 -- how many chunks are
-abbrev pub need : NodeSet → PlacementValue → PlacementValue → ℕ
-need u pre post = count_by (is_needed u pre post) (range_with_len 0 post.chunks)
+abbrev pub need_of : NodeSet → PlacementValue → PlacementValue → ℕ
+need_of u pre post = count_by (is_needed u pre post) (range_with_len 0 post.chunks)
 
 -- ---- what can come in
 
@@ -110,7 +110,7 @@ width_by sets u t = width_of t (cover_by sets u t)
 
 -- more chunks have to come in than can in so many rounds
 abbrev pub cut_refutes : Sets → NodeSet → TopologyValue → PlacementValue → PlacementValue → ℕ → Bool
-cut_refutes sets u t pre post rounds = nat_lt (width_by sets u t * rounds) (need u pre post)
+cut_refutes sets u t pre post rounds = nat_lt (width_by sets u t * rounds) (need_of u pre post)
 
 -- the nodes of a set as bits, the groups that cover the links into it, and what has to come in and can in one round
 pub record CutValue : Type 0 where
@@ -120,7 +120,7 @@ pub record CutValue : Type 0 where
   pub width : ℕ
 
 abbrev pub cut_of : Sets → TopologyValue → PlacementValue → PlacementValue → NodeSet → CutValue
-cut_of sets t pre post u = record { nodes = mask_of t.nodes u; groups = cover_by sets u t; need = need u pre post; width = width_by sets u t }
+cut_of sets t pre post u = record { nodes = mask_of t.nodes u; groups = cover_by sets u t; need = need_of u pre post; width = width_by sets u t }
 
 -- the cut of the first set that refutes so many rounds
 abbrev pub first_cut_of : Sets → TopologyValue → PlacementValue → PlacementValue → ℕ → Option CutValue

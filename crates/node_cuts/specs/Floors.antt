@@ -10,7 +10,7 @@ use Rattle.collective_spec.specs.Collectives.{kind_in, spec_instance}
 use Rattle.node_cuts.specs.declared.sets.Sets.{Sets}
 use Rattle.node_cuts.specs.declared.floor.Floor.{Floor}
 use Rattle.node_cuts.specs.Sides.{NodeSet, node_sets, mask_of}
-use Rattle.node_cuts.specs.Cuts.{need, width_by}
+use Rattle.node_cuts.specs.Cuts.{need_of, width_by}
 
 -- the least chunk count that the collective may have
 abbrev pub least_count : Kind → ℕ → ℕ
@@ -29,7 +29,7 @@ abbrev pub fraction_of : Sets → TopologyValue → Spec → NodeSet → Floor
 fraction_of sets t spec u =
     let least = least_count (kind_in spec) t.nodes in
     let i = spec_instance spec t.nodes least in
-    record { above = need u i.pre i.post; below = width_by sets u t * least; nodes = mask_of t.nodes u }
+    record { above = need_of u i.pre i.post; below = width_by sets u t * least; nodes = mask_of t.nodes u }
 
 -- something has to come in
 abbrev pub has_need : Floor → Bool

@@ -8,7 +8,7 @@ use Rattle.node_cuts.specs.declared.sets.Sets.{Sets}
 use Rattle.node_cuts.specs.declared.measure.Measure.{Measure}
 use Rattle.node_cuts.specs.declared.floor.Floor.{Floor}
 use Rattle.node_cuts.specs.Sides.{NodeSet, mask_of, node_sets}
-use Rattle.node_cuts.specs.Cuts.{CutValue, cover_by, need, width_by}
+use Rattle.node_cuts.specs.Cuts.{CutValue, cover_by, need_of, width_by}
 use Rattle.node_cuts.specs.Floors.{floor_of, least_count}
 
 -- the sets that are looked at, a topology, a chunk count, what has to come into each set and what can, and the floor
@@ -21,7 +21,7 @@ pub record TableValue : Type 0 where
 
 -- what has to come into a set, and what can in one round
 abbrev pub measure_of : Sets → TopologyValue → PlacementValue → PlacementValue → NodeSet → Measure
-measure_of sets t pre post u = record { need = need u pre post; width = width_by sets u t }
+measure_of sets t pre post u = record { need = need_of u pre post; width = width_by sets u t }
 
 -- the table of a collective at its least chunk count
 abbrev pub table_of : Sets → TopologyValue → Spec → TableValue

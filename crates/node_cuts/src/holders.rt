@@ -3,7 +3,7 @@
 ghost use Rattle.std.specs.Prelude.{◌≡◌, ◌<◌, ◌≤◌, length, count_by, IfOk};
 ghost use Rattle.std.specs.List.{list_any};
 ghost use Rattle.node_cuts.specs.Sides.{NodeSet, members};
-ghost use Rattle.node_cuts.specs.Cuts.{need};
+ghost use Rattle.node_cuts.specs.Cuts.{need_of};
 ghost use Rattle.node_cuts.specs.Holders.{is_lacking, nodes_with};
 
 use crate::OutOfMemory;
@@ -45,7 +45,7 @@ fn nodes_with(alloc: Global, placement: &Placement, chunk: u16) -> Result<Vec<u8
 /// The holders of each chunk, which tell what has to come into every set of nodes.
 pub(crate) fn all_holders(alloc: Global, instance: &Instance) -> Result<Vec<Holders>, OutOfMemory>
     requires { instance.now.post.chunks ≡ instance.now.pre.chunks }
-    ensures need { IfOk result (λ all. (u : NodeSet) → count_by (is_lacking u) all.items ≡ need u instance.now.pre instance.now.post) }
+    ensures need { IfOk result (λ all. (u : NodeSet) → count_by (is_lacking u) all.items ≡ need_of u instance.now.pre instance.now.post) }
     ensures few { IfOk result (λ all. length all.items < 65536) }
 {
     // This says that what stands before is in range.

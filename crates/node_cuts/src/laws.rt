@@ -12,7 +12,7 @@ ghost use Rattle.collective_spec.specs.Kinds.{allows};
 ghost use Rattle.collective_spec.specs.Collectives.{kind_in, spec_instance};
 ghost use Rattle.node_cuts.specs.declared.sets.Sets.{Sets};
 ghost use Rattle.node_cuts.specs.Sides.{NodeSet, has_bit, mask_of};
-ghost use Rattle.node_cuts.specs.Cuts.{cut_refutes, first_cut_of, need, width_by};
+ghost use Rattle.node_cuts.specs.Cuts.{cut_refutes, first_cut_of, need_of, width_by};
 ghost use Rattle.node_cuts.specs.Floors.{floor_of, least_count};
 
 /// What has to come into a set of nodes is at most what can in the rounds of a schedule that
@@ -20,7 +20,7 @@ ghost use Rattle.node_cuts.specs.Floors.{floor_of, least_count};
 /// nodes refutes so many rounds, no schedule of so many solves.
 pub fn cuts_refute()
     ensures needed { (sets : Sets) (u : NodeSet) (t : TopologyValue) (pre post : PlacementValue) (s : ScheduleValue) (steps rounds : ℕ) → Solves t pre post s steps rounds
-        → need u pre post ≤ width_by sets u t * rounds }
+        → need_of u pre post ≤ width_by sets u t * rounds }
     ensures refuted { (sets : Sets) (u : NodeSet) (t : TopologyValue) (pre post : PlacementValue) (s : ScheduleValue) (steps rounds : ℕ) → cut_refutes sets u t pre post rounds ≡ true
         → Solves t pre post s steps rounds → ⊥ }
     ensures first { (sets : Sets) (t : TopologyValue) (pre post : PlacementValue) (s : ScheduleValue) (steps rounds : ℕ) → is_some (first_cut_of sets t pre post rounds) ≡ true
@@ -50,6 +50,6 @@ pub fn bits_are_members()
 /// has to at the least count, as many times over.
 pub fn needs_are_proportional()
     ensures { (u : NodeSet) (spec : Spec) (nodes c : ℕ) → 0 < nodes → allows (kind_in spec) nodes c ≡ true
-        → need u (spec_instance spec nodes c).pre (spec_instance spec nodes c).post
-        ≡ need u (spec_instance spec nodes (least_count (kind_in spec) nodes)).pre (spec_instance spec nodes (least_count (kind_in spec) nodes)).post * (c / least_count (kind_in spec) nodes) }
+        → need_of u (spec_instance spec nodes c).pre (spec_instance spec nodes c).post
+        ≡ need_of u (spec_instance spec nodes (least_count (kind_in spec) nodes)).pre (spec_instance spec nodes (least_count (kind_in spec) nodes)).post * (c / least_count (kind_in spec) nodes) }
 {}

@@ -6,7 +6,7 @@ ghost use Rattle.collective_spec.specs.declared.kind.Kind.{Kind};
 ghost use Rattle.node_cuts.specs.declared.side.Side.{Side};
 ghost use Rattle.node_cuts.specs.declared.sets.Sets.{Sets};
 ghost use Rattle.node_cuts.specs.Sides.{has_bit, listed_sides, mask_of, node_sets, set_of};
-ghost use Rattle.node_cuts.specs.Cuts.{cover, cover_back, cover_by, cover_greedily, first_cut_of, need, width_by};
+ghost use Rattle.node_cuts.specs.Cuts.{cover, cover_back, cover_by, cover_greedily, first_cut_of, need_of, width_by};
 ghost use Rattle.node_cuts.specs.Rows.{cut, cut_at, floor_at, nowhere, one_for_all, switch_in_first, switch_out_first, two_pairs};
 
 /// One node, two nodes, and all but these.
@@ -52,9 +52,9 @@ pub fn a_cover_takes_the_first_of_two_groups()
 /// Nothing has to come to the root of a broadcast, or to a set with the root; and where nothing has
 /// to come into any set, the floor is nothing over 1.
 pub fn nothing_has_to_come_to_the_root()
-    ensures root { need (set_of (Side.One 0)) (at_root 2 4) (everywhere 2 4) ≡ 0 }
-    ensures another { need (set_of (Side.One 1)) (at_root 2 4) (everywhere 2 4) ≡ 2 }
-    ensures with_root { need (set_of (Side.Two 0 1)) (at_root 2 4) (everywhere 2 4) ≡ 0 }
+    ensures root { need_of (set_of (Side.One 0)) (at_root 2 4) (everywhere 2 4) ≡ 0 }
+    ensures another { need_of (set_of (Side.One 1)) (at_root 2 4) (everywhere 2 4) ≡ 2 }
+    ensures with_root { need_of (set_of (Side.Two 0 1)) (at_root 2 4) (everywhere 2 4) ≡ 0 }
     ensures floor { floor_at Sets.Listed one_node Kind.Broadcast ≡ record { above = 0; below = 1; nodes = 0 } }
 {}
 

@@ -9,9 +9,9 @@ LegalRun s [] = Unit {0}
 LegalRun s (node ∷ nodes) = (next : State) × (event s node ≡ Some next) × LegalRun next nodes
 
 -- the state that they lead to, if each is
-abbrev pub run_of : State → List ℕ → Option State
-run_of s [] = Some s
-run_of s (node ∷ nodes) = elim (event s node) [ None ↦ None | Some next ↦ run_of next nodes ]
+abbrev pub machine_run : State → List ℕ → Option State
+machine_run s [] = Some s
+machine_run s (node ∷ nodes) = elim (event s node) [ None ↦ None | Some next ↦ machine_run next nodes ]
 
 -- how many operations there are still to do
 abbrev pub operations : State → ℕ

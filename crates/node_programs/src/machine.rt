@@ -1,7 +1,7 @@
 ghost use Rattle.std.specs.Prelude.{◌≡◌, ◌*◌, ◌+◌, ◌^◌, ◌<◌, ◌≤◌, Some, length, slice_get, if◌then◌else◌, unwrap_or, IfOk, MatchOption};
 ghost use Rattle.node_programs.specs.declared.op.Op.TheVariants as op;
 ghost use Rattle.node_programs.specs.declared.machine.Fired.TheVariants as fired;
-ghost use Rattle.node_programs.specs.Machines.{State, event, is_enabled, is_finished, left_of, after_send, start_of};
+ghost use Rattle.node_programs.specs.Machines.{State, event, is_enabled, is_finished, ops_left, after_send, start_of};
 ghost use Rattle.node_programs.specs.Runs.{operations};
 ghost use Rattle.node_programs.specs.Below.{AreBelow};
 
@@ -144,7 +144,7 @@ impl Machine {
     /// The node's next operation, a send, is done.
     fn send(&mut self, node: u8, chunk: u16, to: u8, step: u8)
         requires node { node < self.old.store.nodes }
-        requires next { slice_get (left_of self.old node) 0 ≡ Some (op.Send chunk to step) }
+        requires next { slice_get (ops_left self.old node) 0 ≡ Some (op.Send chunk to step) }
         ensures { self.new ≡ after_send self.old node chunk to step }
     {
         let bag = self.store.bag(chunk, node);
@@ -156,7 +156,7 @@ impl Machine {
     /// The node's next operation, a take, is done where its message heads the queue.
     fn take(&mut self, node: u8, chunk: u16, from: u8, step: u8, mode: Mode) -> Fired
         requires node { node < self.old.store.nodes }
-        requires next { slice_get (left_of self.old node) 0 ≡ Some (op.Take chunk from step mode) }
+        requires next { slice_get (ops_left self.old node) 0 ≡ Some (op.Take chunk from step mode) }
         ensures fired { result ≡ (if is_enabled self.old node then fired.Fired else fired.NotEnabled) }
         ensures state { self.new ≡ unwrap_or (event self.old node) self.old }
     {

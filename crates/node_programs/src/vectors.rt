@@ -6,7 +6,7 @@ ghost use Rattle.schedule.specs.Rows.{pair_allreduce, plan, send};
 ghost use Rattle.node_programs.specs.Programs.{programs_of};
 ghost use Rattle.node_programs.specs.Printing.{programs_text};
 ghost use Rattle.node_programs.specs.Machines.{is_enabled, is_finished};
-ghost use Rattle.node_programs.specs.Runs.{chosen, drawn, next_draw, run_of};
+ghost use Rattle.node_programs.specs.Runs.{chosen, drawn, next_draw, machine_run};
 ghost use Rattle.node_programs.specs.Relay.{exchange, relay};
 
 use crate::op::Op;
@@ -28,10 +28,10 @@ pub fn programs_in_text()
 
 /// Its nodes can move in this order and no other.
 pub fn relay_and_its_events()
-    ensures finished { option_map is_finished (run_of relay (0 ∷ 1 ∷ 1 ∷ 2 ∷ [])) ≡ Some true }
-    ensures unfinished { option_map is_finished (run_of relay (0 ∷ 1 ∷ [])) ≡ Some false }
-    ensures stopped { is_some (run_of relay (1 ∷ [])) ≡ false }
-    ensures too_long { is_some (run_of relay (0 ∷ 1 ∷ 1 ∷ 2 ∷ 0 ∷ [])) ≡ false }
+    ensures finished { option_map is_finished (machine_run relay (0 ∷ 1 ∷ 1 ∷ 2 ∷ [])) ≡ Some true }
+    ensures unfinished { option_map is_finished (machine_run relay (0 ∷ 1 ∷ [])) ≡ Some false }
+    ensures stopped { is_some (machine_run relay (1 ∷ [])) ≡ false }
+    ensures too_long { is_some (machine_run relay (0 ∷ 1 ∷ 1 ∷ 2 ∷ 0 ∷ [])) ≡ false }
     ensures chosen { chosen relay 0 ≡ 0 ∷ 1 ∷ 1 ∷ 2 ∷ [] }
 {}
 
@@ -45,5 +45,5 @@ pub fn two_nodes_at_once()
     ensures first { is_enabled exchange 0 ≡ true }
     ensures second { is_enabled exchange 1 ≡ true }
     ensures moves { slice_get (chosen exchange 0) 0 ≡ Some 1 }
-    ensures chosen { option_map is_finished (run_of exchange (chosen exchange 0)) ≡ Some true }
+    ensures chosen { option_map is_finished (machine_run exchange (chosen exchange 0)) ≡ Some true }
 {}

@@ -5,7 +5,7 @@ ghost use Rattle.candidate_order.specs.Ranges.{unpruned};
 ghost use Rattle.command_words.specs.Commands.{AreSearchWords};
 ghost use Rattle.frontier_audit.specs.Searches.{IsAsked};
 ghost use Rattle.run_rules.specs.Answers.{FilesValue, IsAnswerAlone, Stay};
-ghost use Rattle.run_rules.specs.Orders.{IsOrdered};
+ghost use Rattle.run_rules.specs.Orders.{IsOrderedAnswer};
 ghost use Rattle.run_rules.specs.Tasks.{limit, order_asked};
 
 use crate::OutOfMemory;
@@ -20,7 +20,7 @@ use std::alloc::Global;
 fn search_answer(alloc: Global, search: &Search) -> Result<Answer, OutOfMemory>
     requires asked { IsAsked search.now.words search.now.topology }
     requires single { search.now.words.collective.kind ≢ Kind.Allreduce }
-    ensures { IfOk result (λ a. (files : FilesValue) → Stay files → IsOrdered search.now.words search.now.topology files a.status a.text.items) }
+    ensures { IfOk result (λ a. (files : FilesValue) → Stay files → IsOrderedAnswer search.now.words search.now.topology files a.status a.text.items) }
 {
     let frontier = search_ordered(alloc, search.words, &search.topology)?;
     let text = print_ordered(alloc, search.words, &search.topology, &frontier)?;

@@ -3,7 +3,7 @@ use Rattle.std.proofs.Common.{◌≡◌, ℕ, zero, suc, ◌+◌, ◌-◌, ◌<�
 use Rattle.std.specs.Prelude.{is_some, unwrap_or}
 use Rattle.std.proofs.lemmas.List.{append-nil}
 use Rattle.node_programs.specs.Machines.{State, event, is_enabled}
-use Rattle.node_programs.specs.Runs.{enabled, next_draw, picked, ranked, run_of}
+use Rattle.node_programs.specs.Runs.{enabled, next_draw, picked, ranked, machine_run}
 use Rattle.node_programs.proofs.Ends.{run_by}
 use Rattle.node_programs.proofs.Legal.{drawn_first, moved}
 
@@ -18,13 +18,13 @@ event_some s next node enabled is = given (event s node) s enabled ∙ ap (λ x.
 
 -- ---- runs
 
-pub run_more : (order : List ℕ) (s now next : State) (node : ℕ) → run_of s order ≡ Some now → event now node ≡ Some next → run_of s (order ++ node ∷ []) ≡ Some next
+pub run_more : (order : List ℕ) (s now next : State) (node : ℕ) → machine_run s order ≡ Some now → event now node ≡ Some next → machine_run s (order ++ node ∷ []) ≡ Some next
 run_more [] s now next node ran is =
     let same : s ≡ now = cc in
     ap (λ x. run_by (event x node) []) same ∙ ap (λ after. run_by after []) is
 run_more (v ∷ order) s now next node ran is = onward (event s v) ran (λ after. run_more order after now next node)
   where
-    onward : (after : Option State) → run_by after order ≡ Some now → ((x : State) → run_of x order ≡ Some now → event now node ≡ Some next → run_of x (order ++ node ∷ []) ≡ Some next) → run_by after (order ++ node ∷ []) ≡ Some next
+    onward : (after : Option State) → run_by after order ≡ Some now → ((x : State) → machine_run x order ≡ Some now → event now node ≡ Some next → machine_run x (order ++ node ∷ []) ≡ Some next) → run_by after (order ++ node ∷ []) ≡ Some next
     onward None rest later = absurd cc
     onward (Some x) rest later = later x rest is
 

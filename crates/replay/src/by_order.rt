@@ -4,7 +4,7 @@ ghost use Rattle.std.specs.Prelude.{◌≡◌, ℕ, ◌+◌, ◌<◌, ◌≤◌,
 ghost use Rattle.std.specs.Vec.{vec_capacity};
 ghost use Rattle.schedule.specs.Bags.{Bags};
 ghost use Rattle.schedule.specs.Sends.{IsInRange, IsSchedule, ScheduleValue};
-ghost use Rattle.node_programs.specs.Runs.{chosen, run_of};
+ghost use Rattle.node_programs.specs.Runs.{chosen, machine_run};
 ghost use Rattle.node_programs.specs.Ended.{machine_of};
 ghost use Rattle.replay.specs.Ends.{IsLast};
 
@@ -21,7 +21,7 @@ pub fn replay_by_order(
     seed: u64,
 ) -> Result<Vec<u8>, OutOfMemory>
     ensures chosen { IfOk result (λ moves. moves.items ≡ chosen machine.old seed) }
-    ensures run { IfOk result (λ moves. run_of machine.old moves.items ≡ Some machine.new) }
+    ensures run { IfOk result (λ moves. machine_run machine.old moves.items ≡ Some machine.new) }
     // The new machine of a schedule ends finished, after as many events as it has operations, and
     // with the last store of the joined run.
     ensures finished { IfOk result (λ moves. (chunks nodes : ℕ) (start : Bags) (s : ScheduleValue) (adding : ℕ) → IsSchedule s → IsInRange chunks nodes s

@@ -30,7 +30,7 @@ use Rattle.send_encoding.specs.Assigning.{arrival_values, send_values, extra_val
 use Rattle.send_encoding.specs.Leading.{had, brought}
 use Rattle.send_encoding.proofs.Grid.{rows_at, rows_length}
 use Rattle.send_encoding.proofs.Assigned.{assigned_length, arrival_value, sent_value, own_length}
-use Rattle.send_encoding.proofs.Said.{sending_holds, if_true, not_true, one_true, passes_flat, passes_map, count_alike}
+use Rattle.send_encoding.proofs.Complete.{sending_holds, if_true, not_true, one_true, passes_flat, passes_map, count_alike}
 use Rattle.send_encoding.proofs.Scheduled.{schedule_moves}
 use Rattle.round_encoding.proofs.Loaded.{table_loads, cells, good_cells, Good}
 use Rattle.round_encoding.proofs.Counting.{Allows, counters_extend}

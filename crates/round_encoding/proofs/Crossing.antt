@@ -17,7 +17,7 @@ use Rattle.send_encoding.specs.Sent.{sends_of}
 use Rattle.send_encoding.specs.Moving.{JoinsNodes}
 use Rattle.send_encoding.specs.Telling.{IsTold}
 use Rattle.send_encoding.proofs.Members.{member, any_weaker, count_weaker}
-use Rattle.send_encoding.proofs.Said.{any_alike, count_alike}
+use Rattle.send_encoding.proofs.Complete.{any_alike, count_alike}
 use Rattle.round_encoding.proofs.Twice.{any_count}
 use Rattle.send_encoding.proofs.Decoded.{any_range, sends_tell}
 use Rattle.round_encoding.proofs.Complete.{map_cells}

@@ -13,7 +13,7 @@ use Rattle.send_encoding.specs.Variables.{steps_of}
 use Rattle.round_encoding.specs.Rounding.{count_of_rounds}
 use Rattle.round_encoding.specs.Decoding.{rounds_said, rounds_left, rounds_of}
 use Rattle.send_encoding.proofs.Everywhere.{From, in_map, in_range}
-use Rattle.send_encoding.proofs.Said.{count_alike}
+use Rattle.send_encoding.proofs.Complete.{count_alike}
 
 -- a sum in which one number of a range has so much more
 sum_with_more : (g : ℕ → ℕ) (v a n last : ℕ) → a + n ≡ last → sum_by (λ k. g k + (if eqb k last then v else 0)) (range_with_len a (suc n)) ≡ sum_by g (range_with_len a (suc n)) + v

@@ -26,7 +26,7 @@ use Rattle.send_encoding.specs.Moving.{Moves}
 use Rattle.send_encoding.specs.Telling.{Tells}
 use Rattle.send_encoding.proofs.Grid.{rows_length}
 use Rattle.send_encoding.proofs.Members.{kept}
-use Rattle.send_encoding.proofs.Saying.{sending_says, flat_passes, map_passes, at_range, said_one, said_if, said_not}
+use Rattle.send_encoding.proofs.Sound.{sending_says, flat_passes, map_passes, at_range, said_one, said_if, said_not}
 use Rattle.send_encoding.proofs.Decoded.{sends_tell}
 use Rattle.send_encoding.proofs.Ascending.{links_ascend, sends_ascend}
 use Rattle.send_encoding.proofs.Tightened.{is_tight, delivers}

@@ -15,9 +15,9 @@ pub use Rattle.run_rules.specs.Said.{FilesValue, IsSaid, Says, Stay}
 use Rattle.run_rules.specs.Tasks.{Task, Write, Synthesise, Audit, Try, Bound, Order, Degrade}
 use Rattle.run_rules.specs.Audits.{audited, verdict_status, verdict_text}
 use Rattle.run_rules.specs.Tries.{Tries}
-use Rattle.run_rules.specs.Bounds.{IsBound}
-use Rattle.run_rules.specs.Orders.{IsOrdered}
-use Rattle.run_rules.specs.Degraded.{IsDegraded}
+use Rattle.run_rules.specs.Bounds.{IsBoundAnswer}
+use Rattle.run_rules.specs.Orders.{IsOrderedAnswer}
+use Rattle.run_rules.specs.Degraded.{IsDegradedAnswer}
 
 -- a search: the text of one report of these words and this topology, which is right and searched in order, and whose proofs the files are; where proofs are kept, a candidate that was tried and that its files refuted before is refuted, and what refuted any candidate before stands there still; a file that changed is one of its own, and holds the text of the formula, or of lines that are accepted in their turn, or the beginning of such a text
 pub record IsSearch (w : WordsValue) (t : NamedTopologyValue) (kept : Bool) (files : FilesValue) (status : Status) (text : List ℕ) : Type 0 where
@@ -59,9 +59,9 @@ IsAnswer (Ok (Write text)) = IsSaid Done text
 IsAnswer (Ok (Synthesise w t kept)) = IsSearch w t kept
 IsAnswer (Ok (Audit r)) = IsAudit r
 IsAnswer (Ok (Try n)) = IsTrial n
-IsAnswer (Ok (Bound w t sets)) = IsBound w t sets
-IsAnswer (Ok (Order w t)) = IsOrdered w t
-IsAnswer (Ok (Degrade r group width)) = IsDegraded r group width
+IsAnswer (Ok (Bound w t sets)) = IsBoundAnswer w t sets
+IsAnswer (Ok (Order w t)) = IsOrderedAnswer w t
+IsAnswer (Ok (Degrade r group width)) = IsDegradedAnswer r group width
 
 -- the same beside any files that stay: of what opens no shelf
 abbrev pub IsAnswerAlone : Result Task Refusal → Status → List ℕ → Type 0

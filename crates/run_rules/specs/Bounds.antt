@@ -49,7 +49,7 @@ bound_text w t sets f = text_of (bound_lines w t sets f)
 -- ---- what is owed
 
 -- the frontier is what a search finds; a candidate that was tried is refuted where one of these sets refutes it; the text has the frontier, with each candidate that such a set refutes in a line of its own; the files prove the others, and are begun as those of any search
-pub record IsBound (w : WordsValue) (t : NamedTopologyValue) (sets : Sets) (files : FilesValue) (status : Status) (text : List ℕ) : Type 0 where
+pub record IsBoundAnswer (w : WordsValue) (t : NamedTopologyValue) (sets : Sets) (files : FilesValue) (status : Status) (text : List ℕ) : Type 0 where
   pub frontier : FrontierValue
   pub found : IsFound (question_of w t Whole) frontier
   pub points : All (λ p. is_cut sets (searched_question (question_of w t Whole)) p.candidate ≡ false) frontier.points

@@ -24,8 +24,8 @@ use Rattle.run_rules.specs.Said.{FilesValue, Says, Stay}
 -- ---- the text
 
 -- the topology after the fault; its names and its pattern stay
-abbrev pub left_of : NamedTopologyValue → ℕ → ℕ → NamedTopologyValue
-left_of t group width = record { names = t.names; topology = narrowed t.topology group width; custom = t.custom }
+abbrev pub left_topology : NamedTopologyValue → ℕ → ℕ → NamedTopologyValue
+left_topology t group width = record { names = t.names; topology = narrowed t.topology group width; custom = t.custom }
 
 -- the candidates that a report calls refuted
 abbrev pub old_refuted : ReportValue → List Candidate
@@ -49,14 +49,14 @@ degraded_text w t old f = text_of (degraded_lines w t old f)
 -- the frontier is what a search over the links that are left finds; what an old refuted candidate carries, or the words ask to be cut away, is refuted; and the text has it
 pub record IsNewSearch (r : ReportValue) (group width : ℕ) (status : Status) (text : List ℕ) : Type 0 where
   pub frontier : FrontierValue
-  pub found : IsFound (question_of r.words (left_of r.topology group width) Whole) frontier
+  pub found : IsFound (question_of r.words (left_topology r.topology group width) Whole) frontier
   pub points : All (λ p. is_carried (old_refuted r) p.candidate ≡ false) frontier.points
   pub unknown : All (λ u. is_carried (old_refuted r) u.candidate ≡ false) frontier.unknown
-  pub uncut : All (λ u. is_cut_away (question_of r.words (left_of r.topology group width) Whole) u.candidate ≡ false) frontier.unknown
-  pub says : Says Done (degraded_text r.words (left_of r.topology group width) (old_refuted r) frontier) status text
+  pub uncut : All (λ u. is_cut_away (question_of r.words (left_topology r.topology group width) Whole) u.candidate ≡ false) frontier.unknown
+  pub says : Says Done (degraded_text r.words (left_topology r.topology group width) (old_refuted r) frontier) status text
 
 -- the old report is audited first, over some files, which are those of the shelf where it tells them: what is denied is refused, and what is verified is searched anew; no file changed
-pub record IsDegraded (r : ReportValue) (group width : ℕ) (files : FilesValue) (status : Status) (text : List ℕ) : Type 0 where
+pub record IsDegradedAnswer (r : ReportValue) (group width : ℕ) (files : FilesValue) (status : Status) (text : List ℕ) : Type 0 where
   pub over : Files
   pub are : IsTrue files.told → FilesStay files.before over
   pub denied : (why : Refusal) → audited r over ≡ Err why → Says why.status (refusal_line why) status text

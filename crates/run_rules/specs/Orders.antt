@@ -24,7 +24,7 @@ abbrev pub IsFoundInOrder : QuestionValue → FrontierValue → Type 0
 IsFoundInOrder q = IsFoundBy q (ordered_formula_for (searched_question q)) (OrderedFor (searched_question q))
 
 -- the frontier is what a search in order finds; the text has it, and no file changed
-pub record IsOrdered (w : WordsValue) (t : NamedTopologyValue) (files : FilesValue) (status : Status) (text : List ℕ) : Type 0 where
+pub record IsOrderedAnswer (w : WordsValue) (t : NamedTopologyValue) (files : FilesValue) (status : Status) (text : List ℕ) : Type 0 where
   pub frontier : FrontierValue
   pub found : IsFoundInOrder (question_of w t Whole) frontier
   pub says : Says Done (ordered_text w t frontier) status text

@@ -12,7 +12,7 @@ use Rattle.run_rules.specs.declared.status.Status.TheVariants.{OutOfMemory, BadW
 use Rattle.run_rules.specs.Commands.{Ask, Opens, Reads, IsOneOf, IsRefusal, answers_of, ends_of, row_of}
 use Rattle.run_rules.specs.Statuses.{number_of}
 use Rattle.sccl_run.specs.inner.Answering.{Answers}
-use Rattle.sccl_run.specs.TopCall.{CountValue, EndsIfItFails, IsCall, IsSilent}
+use Rattle.sccl_run.specs.TopCall.{CountValue, EndsIfItFails, IsTopCall, IsSilent}
 
 -- ---- lists of statuses
 
@@ -109,7 +109,7 @@ heard (inr (inr e)) = absurd (cc)
 module _ (words : List (List ℕ)) (source sink shelf : CountValue) (SourceStays SinkStays ShelfStays : Type 0) where
   -- it is answered
   pub call_answered : (status : Status) → Answers (command_of words) status → source.now ≡ source.before → sink.now ≡ sink.before → shelf.now ≡ shelf.before → (¬ Ask Reads words → SourceStays) → (¬ Ask Opens words → ShelfStays) → (IsRefusal status → ShelfStays)
-      → IsCall words status source sink shelf SourceStays SinkStays ShelfStays
+      → IsTopCall words status source sink shelf SourceStays SinkStays ShelfStays
   call_answered status there read written kept unread unopened refused =
       let g : IsGiven status = given (command_of words) status there in
       record {
@@ -126,7 +126,7 @@ module _ (words : List (List ℕ)) (source sink shelf : CountValue) (SourceStays
 
   -- the sink failed
   pub call_cut_off : source.now ≡ source.before → Rose sink.before sink.now → shelf.now ≡ shelf.before → (¬ Ask Reads words → SourceStays) → (¬ Ask Opens words → ShelfStays)
-      → IsCall words SinkFailed source sink shelf SourceStays SinkStays ShelfStays
+      → IsTopCall words SinkFailed source sink shelf SourceStays SinkStays ShelfStays
   call_cut_off read rose kept unread unopened = record {
     ends = refl;
     source_fails = quiet SourceFailed SinkFailed source (λ e. cc) read;
@@ -141,7 +141,7 @@ module _ (words : List (List ℕ)) (source sink shelf : CountValue) (SourceStays
 
   -- memory ran out
   pub call_without_memory : source.now ≡ source.before → sink.now ≡ sink.before → shelf.now ≡ shelf.before → (¬ Ask Reads words → SourceStays) → SinkStays → (¬ Ask Opens words → ShelfStays)
-      → IsCall words OutOfMemory source sink shelf SourceStays SinkStays ShelfStays
+      → IsTopCall words OutOfMemory source sink shelf SourceStays SinkStays ShelfStays
   call_without_memory read written kept unread stays unopened = record {
     ends = refl;
     source_fails = quiet SourceFailed OutOfMemory source (λ e. cc) read;
@@ -156,7 +156,7 @@ module _ (words : List (List ℕ)) (source sink shelf : CountValue) (SourceStays
 
   -- the source failed
   pub call_unread : Ask Reads words → Rose source.before source.now → sink.now ≡ sink.before → shelf.now ≡ shelf.before → SinkStays → ShelfStays
-      → IsCall words SourceFailed source sink shelf SourceStays SinkStays ShelfStays
+      → IsTopCall words SourceFailed source sink shelf SourceStays SinkStays ShelfStays
   call_unread ask rose written kept stays untouched = record {
     ends = subst (λ x. IsOneOf (OutOfMemory ∷ SinkFailed ∷ ends_of x) SourceFailed) (sym ask.is) (source_ends ask.command ask.such);
     source_fails = loud SourceFailed source rose;
@@ -171,7 +171,7 @@ module _ (words : List (List ℕ)) (source sink shelf : CountValue) (SourceStays
 
   -- the shelf failed
   pub call_unshelved : Ask Opens words → source.now ≡ source.before → sink.now ≡ sink.before → Rose shelf.before shelf.now → (¬ Ask Reads words → SourceStays) → SinkStays
-      → IsCall words ShelfFailed source sink shelf SourceStays SinkStays ShelfStays
+      → IsTopCall words ShelfFailed source sink shelf SourceStays SinkStays ShelfStays
   call_unshelved ask read written rose unread stays = record {
     ends = subst (λ x. IsOneOf (OutOfMemory ∷ SinkFailed ∷ ends_of x) ShelfFailed) (sym ask.is) (shelf_ends ask.command ask.such);
     source_fails = quiet SourceFailed ShelfFailed source (λ e. cc) read;

@@ -5,13 +5,14 @@ use Rattle.text_lines.specs.Check.{◌>>=◌, need, refuse}
 use Rattle.outer_ports.specs.declared.part.Part.TheVariants.{Whole}
 use Rattle.outer_ports.specs.Files.{Files, candidate_word}
 use Rattle.schedule.specs.Links.{GroupValue, reversed_of}
+use Rattle.schedule.specs.Sends.{ScheduleValue}
 use Rattle.collective_spec.specs.declared.kind.Kind.TheVariants as kind
 use Rattle.collective_spec.specs.Collectives.{IsSpec, adds_up, kind_in}
 use Rattle.collective_spec.specs.Kinds.{allows}
 use Rattle.collective_spec.proofs.Sized.{fitting_spec}
 use Rattle.candidate_order.specs.declared.candidate.Candidate.{Candidate}
 use Rattle.candidate_order.specs.Copied.{copied_spec}
-use Rattle.candidate_order.specs.Frontiers.{QuestionValue, Achievable}
+use Rattle.candidate_order.specs.Frontiers.{QuestionValue, Achieves}
 use Rattle.candidate_formula.specs.Searched.{searched_question}
 use Rattle.topology_text.specs.Value.{NamedTopologyValue}
 use Rattle.command_words.specs.declared.command.Command.TheVariants as command
@@ -34,13 +35,14 @@ use Rattle.frontier_audit.proofs.Verified.{report_right}
 use Rattle.run_rules.specs.declared.status.Status.{Status}
 use Rattle.run_rules.specs.declared.status.Status.TheVariants.{Done, Denied, BadReport}
 use Rattle.run_rules.specs.Audits.{audited, not_denied}
+use Rattle.run_rules.specs.Degraded.{left_topology}
 use Rattle.run_rules.specs.Refusals.{Refusal, refused_as}
 use Rattle.run_rules.specs.Tasks.{Task, Bound, Order, Degrade, due, fault_in, given_sets, read_report, searchable, task_of, whole_question}
 use Rattle.sccl_run.specs.Headline.{AsksBound, AsksDegraded, AsksOrdered, IsFloor, PrintsBound, PrintsDegraded, PrintsOrdered}
 use Rattle.sccl_run.specs.Laws.{IsRightRun}
 use Rattle.sccl_run.specs.TopCall.{CountValue, RunValue}
 use Rattle.sccl_run.proofs.Ended.{ended}
-use Rattle.sccl_run.proofs.Printed.{IsJustOr, behind, due_of_done, due_or, passed, searchable_or, searches_or, unless}
+use Rattle.sccl_run.proofs.Printed.{IsJustOr, behind, due_of_done, due_or, found_one, passed, searchable_or, searches_or, unless}
 use Rattle.sccl_run.proofs.RightRuns.{done_answered}
 use Rattle.sccl_run.proofs.SearchWords.{bound_asked, degrade_asked, ordered_asked, root_word}
 
@@ -51,14 +53,14 @@ abbrev floor_by : Bool → Sets → QuestionValue → Floor
 floor_by adds sets q = floor_of sets (if adds then reversed_of q.topology else q.topology) (copied_spec q.spec)
 
 bounded : (adds : Bool) (sets : Sets) (q : QuestionValue) → adds_up q.spec ≡ adds → 0 < q.topology.nodes → IsSpec q.topology.nodes q.spec → kind_in q.spec ≢ kind.Allreduce
-    → (x : Candidate) → allows (kind_in q.spec) q.topology.nodes x.c ≡ true → Achievable adds q x → (floor_by adds sets q).above * x.c ≤ x.r * (floor_by adds sets q).below
-bounded true sets q adds some spec single x allowed summed =
-    subst (λ (f : Floor). f.above * x.c ≤ x.r * f.below) (sym (floor_same sets (reversed_of q.topology) q.spec)) (sums_bound sets q.topology q.spec summed.schedule x.s x.r x.c adds single spec allowed summed.sums)
-bounded false sets q adds some spec single x allowed solved =
-    subst (λ (f : Floor). f.above * x.c ≤ x.r * f.below) (sym (floor_same sets q.topology q.spec)) (floor_bounds sets q.topology q.spec solved.schedule x.s x.r x.c some allowed solved.solves)
+    → (x : Candidate) (s : ScheduleValue) → allows (kind_in q.spec) q.topology.nodes x.c ≡ true → Achieves adds q x s → (floor_by adds sets q).above * x.c ≤ x.r * (floor_by adds sets q).below
+bounded true sets q adds some spec single x s allowed sums =
+    subst (λ (f : Floor). f.above * x.c ≤ x.r * f.below) (sym (floor_same sets (reversed_of q.topology) q.spec)) (sums_bound sets q.topology q.spec s x.s x.r x.c adds single spec allowed sums)
+bounded false sets q adds some spec single x s allowed solves =
+    subst (λ (f : Floor). f.above * x.c ≤ x.r * f.below) (sym (floor_same sets q.topology q.spec)) (floor_bounds sets q.topology q.spec s x.s x.r x.c some allowed solves)
 
 pub floor_is_one : (sets : Sets) (q : QuestionValue) → 0 < q.topology.nodes → IsSpec q.topology.nodes q.spec → kind_in q.spec ≢ kind.Allreduce → IsFloor q (floor_of sets (searched_question q).topology (searched_question q).spec)
-floor_is_one sets q some spec single x allowed solvable = bounded (adds_up q.spec) sets q refl some spec single x allowed solvable
+floor_is_one sets q some spec single x s allowed achieves = bounded (adds_up q.spec) sets q refl some spec single x s allowed achieves
 
 -- ---- a search with cuts, and one in order
 
@@ -80,7 +82,7 @@ module _ (x : RunValue) (a b c : CountValue) (run : IsRightRun x a b c) (done : 
         floor = floor_of sets (searched_question q).topology (searched_question q).spec;
         text = end.written refl ∙ ap (λ text. x.before ++ text) end.answer.says.text;
         told = (2, omega arith, refl);
-        right = end.answer.found.right;
+        searched = found_one q end.answer.frontier end.answer.found.right end.answer.found.searched end.answer.found.within;
         holds = floor_is_one sets q asks.topology.topology.some spec end.answer.found.right.single;
       }
 
@@ -91,7 +93,12 @@ module _ (x : RunValue) (a b c : CountValue) (run : IsRightRun x a b c) (done : 
       let task : Task = Order w t in
       let asked : due x.words x.bytes ≡ Ok task = due_of_done x a b c run done task (due_or x.words x.bytes _ task is (behind _ (w, t) _ task (searches_or _ _ _ x.words x.bytes w t asks) (inl refl))) in
       let end = done_answered (Ok task) x (ended x a b c (Ok task) run asked) done in
-      record { frontier = end.answer.frontier; text = end.written refl ∙ ap (λ text. x.before ++ text) end.answer.says.text; right = end.answer.found.right }
+      let found = end.answer.found in
+      record {
+        frontier = end.answer.frontier;
+        text = end.written refl ∙ ap (λ text. x.before ++ text) end.answer.says.text;
+        searched = found_one (question_of w t Whole) end.answer.frontier found.right found.searched found.within;
+      }
 
 -- ---- a search after a fault
 
@@ -136,4 +143,9 @@ degraded_is_true x a b c run done r group width asks =
     let end = done_answered (Ok task) x (ended x a b c (Ok task) run asked) done in
     let accepted : audited r end.answer.over ≡ Ok tt = not_denied_done r end.answer.over x.status done (λ why e. (end.answer.denied why e).status) in
     let new = end.answer.done accepted in
-    record { old = report_right r end.answer.over asks.valid (accepted_by r end.answer.over accepted); frontier = new.frontier; text = end.written refl ∙ ap (λ text. x.before ++ text) new.says.text; right = new.found.right }
+    record {
+      old = report_right r end.answer.over asks.valid (accepted_by r end.answer.over accepted);
+      frontier = new.frontier;
+      text = end.written refl ∙ ap (λ text. x.before ++ text) new.says.text;
+      searched = found_one (question_of r.words (left_topology r.topology group width) Whole) new.frontier new.found.right new.found.searched new.found.within;
+    }

@@ -1,7 +1,10 @@
 -- What is printed is right: a run that is done was due what its words and its bytes ask for.
 use Rattle.std.proofs.Common.{◌≡◌, ◌⊎◌, inl, inr, ◌<◌, ℕ, Bool, true, false, nat_lt, List, [], ◌∷◌, ◌++◌, length, None, Some, Result, Ok, Err, refl, sym, subst, ap, ◌∙◌}
-use Rattle.std.specs.Prelude.{codes, if◌then◌else◌}
+use Rattle.std.specs.Prelude.{All, Contains, codes, if◌then◌else◌}
 use Rattle.std.proofs.lemmas.List.{append_cancel_left}
+use Rattle.std.proofs.lemmas.List.Elements.{All-contains}
+use Rattle.list_laws.proofs.Each.{all_contained}
+use Rattle.outer_ports.specs.declared.part.Part.{Part}
 use Rattle.std.specs.Fmt.{digits}
 use Rattle.text_lines.specs.Check.{◌>>=◌, need, refuse}
 use Rattle.collective_spec.specs.Kinds.{takes_root}
@@ -13,7 +16,8 @@ use Rattle.topology_text.specs.Spelling.{name_at, spelling}
 use Rattle.topology_text.proofs.Laws.{all_again}
 use Rattle.topology_text.proofs.Links.{node_again}
 use Rattle.candidate_formula.specs.Sizes.{size_of}
-use Rattle.candidate_order.specs.Frontiers.{QuestionValue}
+use Rattle.candidate_order.specs.Frontiers.{QuestionValue, FrontierValue, IsWithin, RightFrontier, Searched}
+use Rattle.candidate_order.proofs.Frontiers.{stands_alone}
 use Rattle.command_words.specs.declared.command.Command.{Command}
 use Rattle.command_words.specs.declared.command.Command.TheVariants as command
 use Rattle.command_words.specs.declared.command.SearchWords.{SearchWords}
@@ -21,20 +25,20 @@ use Rattle.command_words.specs.declared.fault.WordCode.TheVariants.{UnknownRoot}
 use Rattle.command_words.specs.Words.{command_of}
 use Rattle.report_form.specs.declared.fault.ReportCode.{ReportCode}
 use Rattle.report_form.specs.Answer.{code_number as report_number}
-use Rattle.report_form.specs.Reports.{ReportValue, WordsValue, IsWords, IsReport}
+use Rattle.report_form.specs.Reports.{ReportValue, WordsValue, IsFrontier, IsWords, IsReport, question_of}
 use Rattle.report_form.specs.Spelling.{report_text}
 use Rattle.report_form.specs.Reading.{report_of}
 use Rattle.report_form.specs.Rows.{broadcast_report}
 use Rattle.report_form.proofs.Blamed.{broadcast_valid}
 use Rattle.report_form.proofs.ReportTaken.{report_take}
 use Rattle.report_laws.proofs.ReportAgain.{report_again}
-use Rattle.frontier_audit.specs.Rights.{IsRight}
+use Rattle.frontier_audit.specs.Rights.{IsRight, IsRightPart, IsSearched, IsSearchedPart}
 use Rattle.run_rules.specs.declared.status.Status.TheVariants.{Done, BadTopology, BadReport}
 use Rattle.run_rules.specs.Commands.{row_of}
 use Rattle.run_rules.specs.Refusals.{Refusal, refused_as, refused_at, refused_word}
 use Rattle.run_rules.specs.Rows.{search, two_nodes_text}
 use Rattle.run_rules.specs.Tasks.{Task, Write, Synthesise, Audit, Try, audit_in, due, limit, root_in, search_asked, searchable, task_of, whole_question, whole_text}
-use Rattle.sccl_run.specs.Headline.{Asks, AsksSynth, Prints, Verifies, search_words}
+use Rattle.sccl_run.specs.Headline.{Asks, AsksSynth, Prints, SearchedFrontier, Verifies, search_words}
 use Rattle.sccl_run.specs.Laws.{IsRightRun}
 use Rattle.sccl_run.specs.TopCall.{CountValue, RunValue}
 use Rattle.sccl_run.proofs.Dues.{due_command}
@@ -98,13 +102,33 @@ due_of_done x a b c run done task (inr (r, e)) = absurd (refused_not_done x a b 
 
 -- ---- a search, and a check
 
+pub found_one : (q : QuestionValue) (f : FrontierValue) → RightFrontier q f → Searched q f → All (IsWithin q) f.refuted → SearchedFrontier q f
+found_one q f right searched within = record { right = right; within = within; apart = stands_alone q f right searched; tight = searched.tight }
+
+each_found : (r : ReportValue) → IsRight r → IsSearched r → All (λ x. SearchedFrontier (question_of r.words r.topology x.0) x.1) r.frontiers
+each_found r right searched =
+    all_contained (λ (x : Part × FrontierValue). SearchedFrontier (question_of r.words r.topology x.0) x.1) r.frontiers (λ x at.
+    found_one (question_of r.words r.topology x.0) x.1
+    (All-contains (IsRightPart r) r.frontiers x right.parts at)
+    (All-contains (IsSearchedPart r) r.frontiers x searched.parts at)
+    (All-contains (λ (y : Part × FrontierValue). IsFrontier (question_of r.words r.topology y.0) y.1) r.frontiers x right.valid.frontiers at).refuted)
+
+
 pub synth_is_true : (x : RunValue) (a b c : CountValue) → IsRightRun x a b c → x.status ≡ Done → (kept : Bool) (w : WordsValue) (t : NamedTopologyValue) → AsksSynth kept x.words x.bytes w t → Prints w t x.before x.now
 synth_is_true x a b c run done kept w t asks =
     let is : command_of x.words ≡ Ok (command.Synth w.collective.kind 1 w.limits (root_word t.names w) kept) = ap command_of asks.words_are ∙ synth_asked t.names w kept asks.topology.names asks.limits in
     let task : Task = Synthesise w t kept in
     let asked : due x.words x.bytes ≡ Ok task = due_of_done x a b c run done task (due_or x.words x.bytes _ task is (behind _ (w, t) _ task (searches_or _ _ _ x.words x.bytes w t asks) (inl refl))) in
     let end = done_answered (Ok task) x (ended x a b c (Ok task) run asked) done in
-    record { report = end.answer.report; words = end.answer.words; topology = end.answer.topology; text = end.written refl ∙ ap (λ text. x.before ++ text) end.answer.says.text; right = end.answer.right }
+    let answer = end.answer in
+    record {
+      report = answer.report;
+      words = answer.words;
+      topology = answer.topology;
+      text = end.written refl ∙ ap (λ text. x.before ++ text) answer.says.text;
+      right = answer.right;
+      searched = each_found answer.report answer.right answer.searched;
+    }
 
 pub verified_is_true : (x : RunValue) (a b c : CountValue) → IsRightRun x a b c → x.status ≡ Done → x.words ≡ codes "check" ∷ [] → Verifies x.bytes
 verified_is_true x a b c run done words = by_reading (report_of x.bytes) refl

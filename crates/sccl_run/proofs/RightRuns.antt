@@ -33,7 +33,7 @@ use Rattle.run_rules.specs.Refusals.{Refusal, refused_as, refused_at, refused_wo
 use Rattle.run_rules.specs.Tasks.{Task, Write, Synthesise, Audit, Try, Bound, Order, Degrade, audit_in, degrade_in, due, fault_in, json_programs_in, limit, point_in, programs_in, programs_value, read_report, replay_in, search_asked, searchable, task_of, whole_question, whole_text, words_asked}
 use Rattle.run_rules.proofs.Ends.{refused_with}
 use Rattle.sccl_run.specs.Laws.{IsRightRun, WritesWith, NoneIsBetter}
-use Rattle.sccl_run.specs.TopCall.{CountValue, IsAnswered, IsEnd, IsSilent, RunValue}
+use Rattle.sccl_run.specs.TopCall.{CountValue, IsAnsweredRun, IsEnd, IsSilent, RunValue}
 use Rattle.sccl_run.specs.Rows.{all_tell}
 use Rattle.sccl_run.proofs.Dues.{due_command, due_refused}
 use Rattle.sccl_run.proofs.Ended.{ended}
@@ -49,12 +49,12 @@ pub done_not_cut_off : (s : Status) → s ≡ Done → s ≡ SinkFailed → ⊥
 done_not_cut_off s e f = let g : Done ≡ SinkFailed = sym e ∙ f in cc
 
 -- it is answered where its status is none of a run that is not
-pub answered : (d : Result Task Refusal) (x : RunValue) → IsEnd d x all_tell → (x.status ≡ SinkFailed → ⊥) → (IsSilent x.status → ⊥) → IsAnswered d x all_tell
+pub answered : (d : Result Task Refusal) (x : RunValue) → IsEnd d x all_tell → (x.status ≡ SinkFailed → ⊥) → (IsSilent x.status → ⊥) → IsAnsweredRun d x all_tell
 answered d x (inl a) whole loud = a
 answered d x (inr (inl cut)) whole loud = absurd (whole cut.failed)
 answered d x (inr (inr halt)) whole loud = absurd (loud halt.silent)
 
-pub done_answered : (d : Result Task Refusal) (x : RunValue) → IsEnd d x all_tell → x.status ≡ Done → IsAnswered d x all_tell
+pub done_answered : (d : Result Task Refusal) (x : RunValue) → IsEnd d x all_tell → x.status ≡ Done → IsAnsweredRun d x all_tell
 done_answered d x end done = answered d x end (done_not_cut_off x.status done) (done_not_silent x.status done)
 
 -- ---- a search

@@ -7,7 +7,7 @@ use Rattle.run_rules.specs.declared.halt.Halt.TheVariants.{Shelf}
 use Rattle.run_rules.specs.Commands.{Ask, Reads}
 use Rattle.run_rules.specs.Tasks.{limit}
 use Rattle.sccl_run.specs.inner.Answering.{IsAnswerTo, IsHaltAt}
-use Rattle.sccl_run.specs.TopCall.{CountValue, IsCall, IsRun, LeftIsDue, RunValue, ToldValue, files_of}
+use Rattle.sccl_run.specs.TopCall.{CountValue, IsTopCall, IsRun, LeftIsDue, RunValue, ToldValue, files_of}
 
 -- ---- what is left of the source
 
@@ -41,7 +41,7 @@ part_of false before now text other same prefix = record { count = 0; written = 
 
 module _ (x : RunValue) (told : ToldValue) (source sink shelf : CountValue) (SourceStays SinkStays ShelfStays : Type 0) where
   abbrev Call : Type 0
-  Call = IsCall x.words x.status source sink shelf SourceStays SinkStays ShelfStays
+  Call = IsTopCall x.words x.status source sink shelf SourceStays SinkStays ShelfStays
 
   abbrev Left : Type 0
   Left = IsTrue told.source → LeftIsDue x.words x.bytes x.left x.status

@@ -1,12 +1,14 @@
 -- The headline: what a reader may believe of what was printed. Nothing here speaks of ports, files, formulas, proofs, or of how a text is read.
-use Rattle.std.specs.Prelude.{◌≡◌, ◌≢◌, ℕ, ◌*◌, ◌≤◌, Bool, true, false, List, [], ◌∷◌, ◌++◌, drop, length, Contains, codes, decimal}
+use Rattle.std.specs.Prelude.{◌≡◌, ◌≢◌, ℕ, ◌*◌, ◌≤◌, Bool, true, false, List, [], ◌∷◌, ◌++◌, drop, length, All, Contains, codes, decimal}
 use Rattle.outer_ports.specs.declared.part.Part.TheVariants.{Whole}
+use Rattle.schedule.specs.Sends.{ScheduleValue}
 use Rattle.collective_spec.specs.declared.kind.Kind.TheVariants.{Allreduce}
-use Rattle.collective_spec.specs.Collectives.{kind_in, fits_kind}
+use Rattle.collective_spec.specs.Collectives.{adds_up, kind_in, fits_kind}
 use Rattle.collective_spec.specs.Kinds.{allows}
 use Rattle.candidate_order.specs.declared.candidate.Candidate.{Candidate}
 use Rattle.candidate_order.specs.Ranges.{unpruned}
-use Rattle.candidate_order.specs.Frontiers.{QuestionValue, FrontierValue, RightFrontier, IsSolvable}
+use Rattle.candidate_order.specs.Costs.{NoWorse}
+use Rattle.candidate_order.specs.Frontiers.{QuestionValue, PointValue, FrontierValue, Achieves, IsWithin, RightFrontier, WastesNothing}
 use Rattle.topology_text.specs.Value.{NamedTopologyValue, IsNamed}
 use Rattle.topology_text.specs.Spelling.{spelling}
 use Rattle.report_form.specs.Reports.{WordsValue, ReportValue, IsWords, IsReport, question_of}
@@ -16,7 +18,7 @@ use Rattle.frontier_audit.specs.Rights.{IsRight}
 use Rattle.run_rules.specs.Tasks.{given_sets}
 use Rattle.run_rules.specs.Bounds.{bound_lines, bound_text, floor_words}
 use Rattle.run_rules.specs.Orders.{ordered_text}
-use Rattle.run_rules.specs.Degraded.{degraded_text, left_of, old_refuted}
+use Rattle.run_rules.specs.Degraded.{degraded_text, left_topology, old_refuted}
 
 -- ---- what is asked for
 
@@ -59,13 +61,21 @@ pub record AsksDegraded (words : List (List ℕ)) (bytes : List ℕ) (r : Report
 
 -- ---- what is printed
 
--- what is appended is the text of one report of what was asked, and it is right
+-- a right frontier as a search prints it: what it calls refuted is within the limits, no point is no worse than another, and no schedule wastes a send
+pub record SearchedFrontier (q : QuestionValue) (f : FrontierValue) : Type 0 where
+  pub right : RightFrontier q f
+  pub within : All (IsWithin q) f.refuted
+  pub apart : (a b : PointValue) → Contains f.points a → Contains f.points b → NoWorse a.candidate b.candidate → a ≡ b
+  pub tight : All (WastesNothing (adds_up q.spec) q) f.points
+
+-- what is appended is the text of one report of what was asked, it is right, and each of its frontiers is as a search prints it
 pub record Prints (w : WordsValue) (t : NamedTopologyValue) (before now : List ℕ) : Type 0 where
   pub report : ReportValue
   pub words : report.words ≡ w
   pub topology : report.topology ≡ t
   pub text : now ≡ before ++ report_text report
   pub right : IsRight report
+  pub searched : All (λ x. SearchedFrontier (question_of report.words report.topology x.0) x.1) report.frontiers
 
 -- the bytes are the text of one report, and it is right
 pub record Verifies (bytes : List ℕ) : Type 0 where
@@ -73,28 +83,28 @@ pub record Verifies (bytes : List ℕ) : Type 0 where
   pub text : bytes ≡ report_text report
   pub right : IsRight report
 
--- no schedule, of however many steps, has fewer rounds for its chunk count than the fraction says
+-- no schedule, of however many steps and rounds, has fewer rounds for its chunk count than the fraction says
 abbrev pub IsFloor : QuestionValue → Floor → Type 0
-IsFloor q floor = (x : Candidate) → allows (kind_in q.spec) q.topology.nodes x.c ≡ true → IsSolvable q x → floor.above * x.c ≤ x.r * floor.below
+IsFloor q floor = (x : Candidate) (s : ScheduleValue) → allows (kind_in q.spec) q.topology.nodes x.c ≡ true → Achieves (adds_up q.spec) q x s → floor.above * x.c ≤ x.r * floor.below
 
--- what is appended is the text of a right frontier, and of a floor that holds
+-- what is appended is the text of such a frontier, and of a floor that holds
 pub record PrintsBound (all_sets : Bool) (w : WordsValue) (t : NamedTopologyValue) (before now : List ℕ) : Type 0 where
   pub frontier : FrontierValue
   pub floor : Floor
   pub text : now ≡ before ++ bound_text w t (given_sets all_sets) frontier
   pub told : Contains (bound_lines w t (given_sets all_sets) frontier) (floor_words t.names floor)
-  pub right : RightFrontier (question_of w t Whole) frontier
+  pub searched : SearchedFrontier (question_of w t Whole) frontier
   pub holds : IsFloor (question_of w t Whole) floor
 
--- what is appended is the text of a right frontier, whose refuted candidates have no schedule at all, in order or not
+-- what is appended is the text of such a frontier; so its refuted candidates have no schedule at all, in order or not
 pub record PrintsOrdered (w : WordsValue) (t : NamedTopologyValue) (before now : List ℕ) : Type 0 where
   pub frontier : FrontierValue
   pub text : now ≡ before ++ ordered_text w t frontier
-  pub right : RightFrontier (question_of w t Whole) frontier
+  pub searched : SearchedFrontier (question_of w t Whole) frontier
 
--- the report that was read is right, and what is appended is the text of a frontier that is right over the links that are left
+-- the report that was read is right, and what is appended is the text of such a frontier over the links that are left
 pub record PrintsDegraded (r : ReportValue) (group width : ℕ) (before now : List ℕ) : Type 0 where
   pub old : IsRight r
   pub frontier : FrontierValue
-  pub text : now ≡ before ++ degraded_text r.words (left_of r.topology group width) (old_refuted r) frontier
-  pub right : RightFrontier (question_of r.words (left_of r.topology group width) Whole) frontier
+  pub text : now ≡ before ++ degraded_text r.words (left_topology r.topology group width) (old_refuted r) frontier
+  pub searched : SearchedFrontier (question_of r.words (left_topology r.topology group width) Whole) frontier

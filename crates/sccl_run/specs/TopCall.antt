@@ -26,7 +26,7 @@ pub record EndsIfItFails (failed status : Status) (count : CountValue) : Type 0 
 abbrev pub IsSilent : Status → Type 0
 IsSilent status = (status ≡ OutOfMemory) ⊎ ((status ≡ SourceFailed) ⊎ (status ≡ ShelfFailed))
 
-pub record IsCall (words : List (List ℕ)) (status : Status) (source sink shelf : CountValue) (SourceStays SinkStays ShelfStays : Type 0) : Type 0 where
+pub record IsTopCall (words : List (List ℕ)) (status : Status) (source sink shelf : CountValue) (SourceStays SinkStays ShelfStays : Type 0) : Type 0 where
   pub ends : IsOneOf (OutOfMemory ∷ SinkFailed ∷ ends_of (command_of words)) status
   pub source_fails : EndsIfItFails SourceFailed status source
   pub sink_fails : EndsIfItFails SinkFailed status sink
@@ -63,7 +63,7 @@ files_of x told = record { told = told.shelf; before = x.files; after = x.files_
 -- ---- how it ends
 
 -- there is an answer, and its text was written
-pub record IsAnswered (due : Result Task Refusal) (x : RunValue) (told : ToldValue) : Type 0 where
+pub record IsAnsweredRun (due : Result Task Refusal) (x : RunValue) (told : ToldValue) : Type 0 where
   pub text : List ℕ
   pub answer : IsAnswer due (files_of x told) x.status text
   pub written : IsTrue told.sink → x.now ≡ x.before ++ text
@@ -84,7 +84,7 @@ pub record IsHalted (due : Result Task Refusal) (x : RunValue) (told : ToldValue
   pub leaves : IsTrue told.shelf → LeavesOff due x.files x.files_after
 
 abbrev pub IsEnd : Result Task Refusal → RunValue → ToldValue → Type 0
-IsEnd due x told = IsAnswered due x told ⊎ (IsCutOff due x told ⊎ IsHalted due x told)
+IsEnd due x told = IsAnsweredRun due x told ⊎ (IsCutOff due x told ⊎ IsHalted due x told)
 
 -- ---- the whole theorem
 
@@ -96,7 +96,7 @@ pub record LeftIsDue (words : List (List ℕ)) (bytes left : List ℕ) (status :
 
 -- some bytes came, and where the source tells them and is read they are those that it had; the run ends as they and the words say
 pub record IsRun (x : RunValue) (told : ToldValue) (source sink shelf : CountValue) (SourceStays SinkStays ShelfStays : Type 0) : Type 0 where
-  pub call : IsCall x.words x.status source sink shelf SourceStays SinkStays ShelfStays
+  pub call : IsTopCall x.words x.status source sink shelf SourceStays SinkStays ShelfStays
   pub left : IsTrue told.source → LeftIsDue x.words x.bytes x.left x.status
   pub came : List ℕ
   pub are : IsTrue told.source → Ask Reads x.words → came ≡ x.bytes

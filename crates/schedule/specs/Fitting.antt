@@ -12,7 +12,7 @@ load group step sends = count_by (λ h. h.step == step && has_link group (link_o
 abbrev pub rounds_at : ScheduleValue → ℕ → ℕ
 rounds_at s step = slice_index_or s.rounds (step - 1) 0
 
--- each send uses a usable link, and each group carries at most its width in each round of a step
+-- each send uses a usable link, and in a step each group carries at most its width times the rounds of the step
 pub record Fits (t : TopologyValue) (s : ScheduleValue) : Type 0 where
   pub usable : All (λ h. is_usable t (link_of h) ≡ true) s.sends
   pub within : (step : ℕ) → 0 < step → step ≤ length s.rounds → All (λ group. load group step s.sends ≤ group.width * rounds_at s step) t.groups

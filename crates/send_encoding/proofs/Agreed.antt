@@ -12,7 +12,7 @@ use Rattle.send_encoding.specs.Variables.{SendMapValue, arrival, sent}
 use Rattle.send_encoding.specs.Sending.{sending}
 use Rattle.send_encoding.specs.Sent.{sends_of, arrived}
 use Rattle.send_encoding.specs.Moving.{JoinsNodes}
-use Rattle.send_encoding.proofs.Saying.{sending_says}
+use Rattle.send_encoding.proofs.Sound.{sending_says}
 use Rattle.send_encoding.proofs.Decoded.{sends_tell}
 use Rattle.send_encoding.proofs.Running.{run_is}
 use Rattle.send_encoding.proofs.Ascending.{LinkBefore, sends_ascend}

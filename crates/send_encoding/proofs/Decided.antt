@@ -14,7 +14,7 @@ use Rattle.send_encoding.proofs.Mapped.{links_join}
 use Rattle.send_encoding.proofs.Ascending.{links_ascend}
 use Rattle.send_encoding.proofs.Agreed.{sent_tightly, run_arrives}
 use Rattle.send_encoding.proofs.Assigned.{assigned_length, arrival_value, sent_value}
-use Rattle.send_encoding.proofs.Said.{sending_holds}
+use Rattle.send_encoding.proofs.Complete.{sending_holds}
 use Rattle.send_encoding.proofs.Scheduled.{schedule_moves}
 
 pub tight_run : (t : TopologyValue) (pre post : PlacementValue) (steps : ℕ) (values : List Bool) → IsPlacement pre → pre.nodes ≡ t.nodes

@@ -16,7 +16,7 @@ use Rattle.send_encoding.specs.Sent.{sends_of}
 use Rattle.send_encoding.proofs.Everywhere.{From, in_range, in_flat}
 use Rattle.send_encoding.specs.Moving.{IsLinkOf, JoinsNodes}
 use Rattle.send_encoding.specs.Telling.{IsTold, Tells}
-use Rattle.send_encoding.proofs.Said.{numbered_are}
+use Rattle.send_encoding.proofs.Complete.{numbered_are}
 
 -- what one element's list passes, the whole does
 any_flat : {X A : Type 0} (p : A → Bool) (g : X → List A) (xs : List X) (i : ℕ) (d : X) → i < length xs → list_any p (g (get_or xs i d)) ≡ true → list_any p (flat_map g xs) ≡ true

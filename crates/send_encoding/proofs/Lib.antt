@@ -5,11 +5,11 @@ pub mod Picking
 pub mod Mapped
 pub mod Grid
 pub mod Assigned
-pub mod Said
+pub mod Complete
 pub mod First
 pub mod Members
 pub mod Scheduled
-pub mod Saying
+pub mod Sound
 pub mod Running
 pub mod Decoded
 pub mod Orders

@@ -15,7 +15,7 @@ use Rattle.send_encoding.specs.Variables.{SendMapValue, links_into, numbered_lin
 use Rattle.send_encoding.specs.Moving.{IsLinkOf, JoinsNodes, Moves}
 use Rattle.send_encoding.specs.Telling.{IsTold, Tells}
 use Rattle.send_encoding.proofs.Members.{member, any_weaker, kept}
-use Rattle.send_encoding.proofs.Said.{numbered_are}
+use Rattle.send_encoding.proofs.Complete.{numbered_are}
 
 module _ (m : SendMapValue) (pre post : PlacementValue) (a x : ℕ → ℕ → ℕ → Bool) (s : ScheduleValue) (chunks : pre.chunks ≡ m.chunks) (nodes : pre.nodes ≡ m.nodes) (links : All (JoinsNodes m) m.links)
     (moves : Moves m pre post a x) (tells : Tells m x s.sends) where

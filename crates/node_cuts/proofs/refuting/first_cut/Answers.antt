@@ -11,7 +11,7 @@ use Rattle.node_cuts.specs.declared.side.Side.TheVariants.{One}
 use Rattle.node_cuts.specs.declared.sets.Sets.TheVariants.{Listed}
 use Rattle.node_cuts.specs.declared.measure.Measure.{Measure}
 use Rattle.node_cuts.specs.Sides.{NodeSet, mask_of, members, node_sets}
-use Rattle.node_cuts.specs.Cuts.{CutValue, cover_by, cut_of, cut_refutes, need, width_by}
+use Rattle.node_cuts.specs.Cuts.{CutValue, cover_by, cut_of, cut_refutes, need_of, width_by}
 use Rattle.node_cuts.specs.Tables.{measure_of}
 use Rattle.node_cuts.proofs.Tabled.{found_at, is_over, measure_told, nobody, none_found_in}
 use Rattle.node_cuts.proofs.refuting.first_cut.Goals as goal
@@ -32,7 +32,7 @@ loop-set-preserved c k below =
     let set : Members = get_or items at (Sided (One 0)) in
     let measured : c.in_ok-measure.measure ≡ measure_of Listed t i.pre i.post (members set) =
     measure_told Listed t i.pre i.post (members set) c.deref-in-loop-set.result.now c.in_ok-holders.holders.items c.in_ok-measure.measure c.in_ok-holders.ensures.need c.deref-in-loop-set.ensures.value c.in_ok-measure.ensures.measure in
-    let told : c.refutes.result ≡ cut_refutes Listed (members set) t i.pre i.post r = c.refutes.ensures ∙ ap (is_over 1 r) measured ∙ ap (nat_lt (width_by Listed (members set) t * r)) (mul-one (need (members set) i.pre i.post)) in
+    let told : c.refutes.result ≡ cut_refutes Listed (members set) t i.pre i.post r = c.refutes.ensures ∙ ap (is_over 1 r) measured ∙ ap (nat_lt (width_by Listed (members set) t * r)) (mul-one (need_of (members set) i.pre i.post)) in
     ⊎_elim
     (λ (here : k ≡ at).
     ap (λ j. cut_refutes Listed (get_or us j nobody) t i.pre i.post r) here
@@ -53,7 +53,7 @@ returns-then-refutes c =
     let u : NodeSet = members set in
     let measured : c.in_ok-measure.measure ≡ measure_of Listed t i.pre i.post u =
     measure_told Listed t i.pre i.post u c.deref-in-loop-set.result.now c.in_ok-holders.holders.items c.in_ok-measure.measure c.in_ok-holders.ensures.need c.deref-in-loop-set.ensures.value c.in_ok-measure.ensures.measure in
-    let told : c.refutes.result ≡ cut_refutes Listed u t i.pre i.post r = c.refutes.ensures ∙ ap (is_over 1 r) measured ∙ ap (nat_lt (width_by Listed u t * r)) (mul-one (need u i.pre i.post)) in
+    let told : c.refutes.result ≡ cut_refutes Listed u t i.pre i.post r = c.refutes.ensures ∙ ap (is_over 1 r) measured ∙ ap (nat_lt (width_by Listed u t * r)) (mul-one (need_of u i.pre i.post)) in
     let of : ℕ → List ℕ → Measure → CutValue = λ nodes groups measure. record { nodes = nodes; groups = groups; need = measure.need; width = measure.width } in
     let made : c.new.result ≡ cut_of Listed t i.pre i.post u =
     c.new.ensures ∙ ap (λ n. of n c.in_ok-groups.groups.items c.in_ok-measure.measure) (c.mask.ensures ∙ ap (λ n. mask_of n u) c.nodes-nodes.ensures.nodes)

@@ -17,7 +17,7 @@ use Rattle.send_encoding.specs.Variables.{SendMapValue, chunks_of, steps_of, pai
 use Rattle.send_encoding.specs.Sending.{at_start, keeps, at_end, send_over, sends_arrive, sends_into, node_arrives, arrives_by_sends, arrives_once, sending}
 use Rattle.send_encoding.specs.Moving.{IsLinkOf, Moves}
 use Rattle.send_encoding.proofs.Members.{member, filter_any}
-use Rattle.send_encoding.proofs.Said.{any_alike, count_alike}
+use Rattle.send_encoding.proofs.Complete.{any_alike, count_alike}
 
 -- ---- what holds everywhere holds at each
 
