@@ -2,3 +2,4 @@ pub mod Clauses
 pub mod Codes
 pub mod Growing
 pub mod Keeping
+pub mod Lying

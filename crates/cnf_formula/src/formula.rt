@@ -4,9 +4,8 @@ ghost use Rattle.cnf_formula.specs.Formulas.{FormulaValue, IsFormula, IsClause, 
 
 use crate::OutOfMemory;
 use crate::assignment::Assignment;
-use crate::clause::Clause;
+use crate::clause_list::ClauseList;
 use crate::lit::Lit;
-use smallvec::SmallVec;
 use std::alloc::Global;
 use std::marker::Model;
 
@@ -15,7 +14,7 @@ use std::marker::Model;
 #[derive(Clone, Debug, Drop)]
 pub struct Formula {
     vars: u32,
-    clauses: Vec<Clause>,
+    clauses: ClauseList,
 }
 
 impl Model for Formula {
@@ -23,9 +22,22 @@ impl Model for Formula {
 
     ghost Value = { FormulaValue };
 
-    ghost view = { λ f. record { vars = f.vars; clauses = f.clauses.items } };
+    ghost view = { λ f. record { vars = f.vars; clauses = f.clauses } };
 
-    ghost invariant = { λ f. IsFormula (record { vars = f.vars; clauses = f.clauses.items }) };
+    ghost invariant = { λ f. IsFormula (record { vars = f.vars; clauses = f.clauses }) };
+}
+
+/// Whether one of the literals is true where the variables have these values.
+fn clause_holds(lits: &[Lit], values: &[bool]) -> bool
+    requires { IsClause (length values.now) lits.now }
+    ensures { result ≡ Rattle.cnf_formula.specs.Literals.clause_holds values.now lits.now }
+{
+    for lit in lits {
+        if lit.is_true(values) {
+            return true;
+        }
+    }
+    false
 }
 
 impl Formula {
@@ -35,7 +47,7 @@ impl Formula {
     {
         Formula {
             vars,
-            clauses: Vec::new(alloc),
+            clauses: ClauseList::new(alloc),
         }
     }
 
@@ -64,13 +76,11 @@ impl Formula {
         ensures added { OnOk result (self.new ≡ with_clauses self.old (lits.now ∷ [])) }
         ensures kept { OnErr result (self.new ≡ self.old) }
     {
-        let lits = SmallVec::from_slice(*self.clauses.allocator(), lits)?;
-        self.clauses.push(Clause::of(lits))?;
-        Ok(())
+        self.clauses.push(lits)
     }
 
     /// The clauses, in the order in which they were added.
-    pub fn clauses(&self) -> &[Clause]
+    pub fn clauses(&self) -> &ClauseList
         ensures clauses { result.now ≡ self.now.clauses }
         ensures limits { IsFormula self.now }
     {
@@ -90,8 +100,8 @@ impl Formula {
         requires { length values.now ≡ self.now.vars }
         ensures { result ≡ all_hold values.now self.now.clauses }
     {
-        for clause in self.clauses() {
-            if !clause.holds(values) {
+        for place in 0..self.clauses.len() {
+            if !clause_holds(self.clauses.clause(place), values) {
                 return false;
             }
         }

@@ -40,8 +40,9 @@ fn room_of(lits: &[Lit]) -> usize {
 /// The room that a formula takes in a table. Each variable has lists.
 fn room_of_all(formula: &Formula) -> usize {
     let mut room = formula.vars() as usize;
-    for clause in formula.clauses() {
-        room = room.saturating_add(room_of(clause.lits()));
+    let clauses = formula.clauses();
+    for place in 0..clauses.len() {
+        room = room.saturating_add(room_of(clauses.clause(place)));
     }
     room
 }

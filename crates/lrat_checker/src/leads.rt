@@ -1,7 +1,7 @@
 //! Clauses that are led by one of their literals, and signatures, by which most of them are passed
 //! over.
 
-ghost use Rattle.std.specs.Prelude.{◌≡◌, ◌<◌, map, All, length};
+ghost use Rattle.std.specs.Prelude.{◌≡◌, ◌<◌, All, length};
 ghost use Rattle.std.specs.List.{list_any};
 ghost use Rattle.cnf_formula.specs.Literals.{code_of, is_superset};
 ghost use Rattle.cnf_formula.specs.Formulas.{IsClause};
@@ -9,8 +9,7 @@ ghost use Rattle.lrat_checker.specs.inner.Leads.{IsLead};
 ghost use Rattle.lrat_checker.specs.Stored.{finds};
 
 use crate::marks::Marks;
-use cnf_formula::Lit;
-use smallvec::SmallVec;
+use cnf_formula::{ClauseList, Lit};
 
 /// A clause that a literal leads, by its place, and its signature.
 #[derive(Clone, Copy)]
@@ -70,21 +69,21 @@ fn is_marked(clause: &[Lit], marks: &Marks) -> bool
 /// literal marked.
 fn is_covered(
     live: &[bool],
-    clauses: &[SmallVec<Lit, 4>],
+    clauses: &ClauseList,
     led: LedClause,
     marks: &Marks,
     signature: u64,
 ) -> bool
     requires lives { length live.now ≡ length clauses.now }
-    requires about { All (IsClause marks.now.vars) (map (λ c. c.items) clauses.now) }
-    ensures { result ≡ finds live.now (map (λ c. c.items) clauses.now) marks.now.falses signature led }
+    requires about { All (IsClause marks.now.vars) clauses.now }
+    ensures { result ≡ finds live.now clauses.now marks.now.falses signature led }
 {
     if led.signature | signature != signature {
         return false;
     }
     let place = led.place;
     if place < live.len() && live[place] {
-        return is_marked(clauses[place].as_slice(), marks);
+        return is_marked(clauses.clause(place), marks);
     }
     false
 }
@@ -92,14 +91,14 @@ fn is_covered(
 /// Whether there is such a clause in the list.
 pub(crate) fn has_marked(
     live: &[bool],
-    clauses: &[SmallVec<Lit, 4>],
+    clauses: &ClauseList,
     list: &[LedClause],
     marks: &Marks,
     signature: u64,
 ) -> bool
     requires lives { length live.now ≡ length clauses.now }
-    requires about { All (IsClause marks.now.vars) (map (λ c. c.items) clauses.now) }
-    ensures { result ≡ list_any (finds live.now (map (λ c. c.items) clauses.now) marks.now.falses signature) list.now }
+    requires about { All (IsClause marks.now.vars) clauses.now }
+    ensures { result ≡ list_any (finds live.now clauses.now marks.now.falses signature) list.now }
 {
     for led in list {
         if is_covered(live, clauses, *led, marks, signature) {

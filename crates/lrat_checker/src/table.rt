@@ -15,8 +15,7 @@ ghost use Rattle.lrat_checker.specs.inner.Steps.{Names};
 use crate::leads::{LedClause, has_marked, lead_of, signature_of};
 use crate::lists::{empty_lists, note};
 use crate::marks::Marks;
-use cnf_formula::{Formula, Lit, OutOfMemory};
-use smallvec::SmallVec;
+use cnf_formula::{ClauseList, Formula, Lit, OutOfMemory};
 use std::alloc::Global;
 use std::collections::BTreeSet;
 use std::marker::Model;
@@ -31,7 +30,7 @@ pub(crate) struct ClauseTable {
     vars: u32,
     ids: Vec<u64>,
     live: Vec<bool>,
-    clauses: Vec<SmallVec<Lit, 4>>,
+    clauses: ClauseList,
     lists: Vec<Vec<usize>>,
     leads: Vec<Vec<LedClause>>,
 }
@@ -44,12 +43,12 @@ impl Model for ClauseTable {
 
     ghost view = { λ t. record {
       vars = t.vars;
-      clauses = map (λ c. c.items) t.clauses.items;
-      held = held_of t.ids.items t.live.items (map (λ c. c.items) t.clauses.items);
+      clauses = t.clauses;
+      held = held_of t.ids.items t.live.items t.clauses;
       last = last_of t.ids.items;
     } };
 
-    ghost invariant = { λ t. IsStored t.vars t.ids.items t.live.items (map (λ c. c.items) t.clauses.items) (map (λ l. l.items) t.lists.items) (map (λ l. l.items) t.leads.items) };
+    ghost invariant = { λ t. IsStored t.vars t.ids.items t.live.items t.clauses (map (λ l. l.items) t.lists.items) (map (λ l. l.items) t.leads.items) };
 }
 
 /// The place of a number among ascending ones. Mostly they are 1, 2, 3 and so on, and it is found
@@ -156,7 +155,7 @@ fn drop_gone(lists: &mut Vec<Vec<usize>>, code: usize, live: &[bool])
 /// Whether each clause at these places has a group or is true without one.
 fn are_answered(
     ids: &[u64],
-    clauses: &[SmallVec<Lit, 4>],
+    clauses: &ClauseList,
     list: &[usize],
     pivot: Lit,
     marks: &Marks,
@@ -164,11 +163,11 @@ fn are_answered(
 ) -> bool
     requires many { length clauses.now ≡ length ids.now }
     requires within { All (λ k. k < length ids.now) list.now }
-    requires about { All (IsClause marks.now.vars) (map (λ c. c.items) clauses.now) }
-    ensures { (groups : List Group) → Names named.now groups → result ≡ list_all (answers ids.now (map (λ c. c.items) clauses.now) pivot marks.now.falses groups) list.now }
+    requires about { All (IsClause marks.now.vars) clauses.now }
+    ensures { (groups : List Group) → Names named.now groups → result ≡ list_all (answers ids.now clauses.now pivot marks.now.falses groups) list.now }
 {
     for place in list {
-        let clause = clauses[*place].as_slice();
+        let clause = clauses.clause(*place);
         if !is_answered(ids[*place], clause, pivot, marks, named) {
             return false;
         }
@@ -198,7 +197,7 @@ impl ClauseTable {
             vars,
             ids: Vec::new(alloc),
             live: Vec::new(alloc),
-            clauses: Vec::new(alloc),
+            clauses: ClauseList::new(alloc),
             lists: empty_lists(alloc, count)?,
             leads: empty_lists(alloc, count)?,
         })
@@ -209,8 +208,9 @@ impl ClauseTable {
         ensures { IfOk result (λ t. t ≡ record { vars = formula.now.vars; clauses = formula.now.clauses; held = enumerate_from 1 formula.now.clauses; last = length formula.now.clauses }) }
     {
         let mut table = ClauseTable::empty(alloc, formula.vars())?;
-        for (place, clause) in formula.clauses().iter().enumerate() {
-            table.push(place as u64 + 1, clause.lits(), true)?;
+        let clauses = formula.clauses();
+        for place in 0..clauses.len() {
+            table.push(place as u64 + 1, clauses.clause(place), true)?;
         }
         Ok(table)
     }
@@ -229,7 +229,7 @@ impl ClauseTable {
     {
         let place = place_of(&self.ids, id)?;
         if self.live[place] {
-            Some(self.clauses[place].as_slice())
+            Some(self.clauses.clause(place))
         } else {
             None
         }
@@ -243,18 +243,16 @@ impl ClauseTable {
         ensures added { OnOk result (self.new ≡ record { vars = self.old.vars; clauses = self.old.clauses ++ lits.now ∷ []; held = self.old.held ++ (if held then (id, lits.now) ∷ [] else []); last = id }) }
         ensures kept { OnErr result (self.new ≡ self.old) }
     {
-        let clause = SmallVec::from_slice(*self.ids.allocator(), lits)?;
         self.ids.reserve(1)?;
         self.live.reserve(1)?;
-        self.clauses.reserve(1)?;
         let place = self.ids.len();
         let lead = lead_of(&self.lists, lits);
         let signature = signature_of(lits);
         note_literals(&mut self.lists, lits, place)?;
         note(&mut self.leads, lead, LedClause { place, signature })?;
+        self.clauses.push(lits)?;
         self.ids.push_reserved(id);
         self.live.push_reserved(held);
-        self.clauses.push_reserved(clause);
         Ok(())
     }
 
@@ -269,7 +267,7 @@ impl ClauseTable {
         for place in 0..self.ids.len() {
             let held = self.live[place];
             if held || place < first {
-                table.push(self.ids[place], self.clauses[place].as_slice(), held)?;
+                table.push(self.ids[place], self.clauses.clause(place), held)?;
             }
         }
         *self = table;

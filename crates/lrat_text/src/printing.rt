@@ -5,7 +5,7 @@ ghost use Rattle.text_lines.specs.Text.{line as text_of_line};
 ghost use Rattle.cnf_formula.specs.declared.line.LratLine.{LratLine};
 ghost use Rattle.lrat_text.specs.Printing.{literal_word, hint_word, line_words, trailed, cnf_text, closed};
 
-use cnf_formula::{Clause, Deletion, Formula, Lit, OutOfMemory, ProofLine};
+use cnf_formula::{Deletion, Formula, Lit, OutOfMemory, ProofLine};
 use std::alloc::Global;
 use text_lines::{push_number, push_number_reserved, push_word};
 
@@ -130,10 +130,10 @@ fn push_deletion(out: &mut Vec<u8>, deletion: &Deletion) -> Result<(), OutOfMemo
     Ok(())
 }
 
-fn push_clause(out: &mut Vec<u8>, clause: &Clause) -> Result<(), OutOfMemory>
-    ensures { OnOk result (out.new.items ≡ out.old.items ++ text_of_line (closed (map literal_word clause.now))) }
+fn push_clause(out: &mut Vec<u8>, lits: &[Lit]) -> Result<(), OutOfMemory>
+    ensures { OnOk result (out.new.items ≡ out.old.items ++ text_of_line (closed (map literal_word lits.now))) }
 {
-    push_literals(out, clause.lits())?;
+    push_literals(out, lits)?;
     push_zero(out, b'\n')?;
     Ok(())
 }
@@ -166,15 +166,16 @@ pub fn print_deletion(out: &mut Vec<u8>, deletion: &Deletion) -> Result<(), OutO
 pub fn print_cnf(alloc: Global, formula: &Formula) -> Result<Vec<u8>, OutOfMemory>
     ensures { IfOk result (λ text. text.items ≡ cnf_text formula.now) }
 {
-    let room = formula.clauses().len().saturating_mul(CLAUSE_ROOM);
+    let clauses = formula.clauses();
+    let room = clauses.len().saturating_mul(CLAUSE_ROOM);
     let mut out = Vec::with_capacity(alloc, room)?;
     push_word(&mut out, b"p cnf ")?;
     push_number(&mut out, u64::from(formula.vars()))?;
     push_word(&mut out, b" ")?;
-    push_number(&mut out, formula.clauses().len() as u64)?;
+    push_number(&mut out, clauses.len() as u64)?;
     push_word(&mut out, b"\n")?;
-    for clause in formula.clauses() {
-        push_clause(&mut out, clause)?;
+    for place in 0..clauses.len() {
+        push_clause(&mut out, clauses.clause(place))?;
     }
     Ok(out)
 }

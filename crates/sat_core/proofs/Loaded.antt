@@ -1,16 +1,16 @@
 -- Clauses of a formula, each literal once, make a core that is ready.
-use Rattle.std.proofs.Common.{◌≡◌, ℕ, ◌+◌, ◌<◌, ◌≤◌, List, [], ◌∷◌, ◌++◌, length, get_or, take, set, eqb, refl, sym, ap, ◌∙◌, subst, inl, ⊎_elim, arith}
-use Rattle.std.specs.Prelude.{◌≢◌, Contains, Some, All, AllPairs}
-use Rattle.std.specs.List.{enumerate_from}
+use Rattle.std.proofs.Common.{◌≡◌, ℕ, ◌+◌, ◌*◌, ◌<◌, ◌≤◌, List, [], ◌∷◌, ◌++◌, length, get_or, take, set, eqb, refl, sym, ap, ◌∙◌, subst, inl, ⊎_elim, arith}
+use Rattle.std.specs.Prelude.{◌≢◌, Contains, Some, All, AllPairs, flat_map}
+use Rattle.std.specs.List.{enumerate_from, range_with_len}
 use Rattle.std.proofs.lemmas.Bool.{cases_lt, cases_Bool, eqb-true, eqb-false}
 use Rattle.std.proofs.lemmas.List.{get_or_append_left, get_or_push, length_push, get_or-take, get_or_default, length-take-le, get_or-set_same, get_or-set_other, set-get_or}
-use Rattle.std.proofs.lemmas.List.FromFn.{length-enumerate_from, get_or-enumerate_from}
+use Rattle.std.proofs.lemmas.List.FromFn.{length-enumerate_from, get_or-enumerate_from, length-range_with_len, get_or-range_with_len}
 use Rattle.std.proofs.lemmas.List.Quantifiers.{all_pairs_push}
-use Rattle.std.proofs.lemmas.List.Elements.{Contains-push, Contains-push_cases, Contains-append_left, Contains-get_or, All-push, All-nil, All-contains}
+use Rattle.std.proofs.lemmas.List.Elements.{Contains-push, Contains-push_cases, Contains-append_left, Contains-append_right, Contains-get_or, All-push, All-nil, All-cons, All-contains}
 use Rattle.list_laws.proofs.Each.{all_contained}
 use Rattle.cnf_formula.specs.Literals.{LitValue, IsLit, code_of}
 use Rattle.cnf_formula.specs.Formulas.{FormulaValue, IsAbout, IsClause}
-use Rattle.cnf_formula.proofs.Codes.{same_code}
+use Rattle.cnf_formula.proofs.Codes.{same_code, code_within}
 use Rattle.proof_rules.specs.Held.{Entry, clause_at}
 use Rattle.proof_rules.proofs.Numbered.{start_numbered}
 use Rattle.trail_core.specs.Meaning.{CoreValue}
@@ -20,7 +20,6 @@ use Rattle.sat_core.specs.Ready.{IsReady}
 use Rattle.sleeping_clauses.specs.Naming.{IsListed}
 use Rattle.sleeping_clauses.specs.Sleeping.{no_sleepers}
 use Rattle.sleeping_clauses.specs.declared.awake.Awake.{Awake}
-use Rattle.sat_core.proofs.Readiness.{listed_more}
 
 -- ---- a clause with each literal once
 
@@ -84,25 +83,48 @@ about_own vars own clause e a l i c = subst (λ n. IsAbout n l) (sym e) (own_abo
 pub kept_about : (own : ℕ) (clause kept : List LitValue) → ((l : LitValue) → IsLit l → Contains clause l → IsAbout own l) → IsSame clause kept → All IsLit kept → IsClause own kept
 kept_about own clause kept a s i = all_contained (IsAbout own) kept (λ l c. a l (All-contains IsLit kept l i c) (s.from l c))
 
--- ---- a core with them
+each_joined : {X : Type 0} (P : X → Type 0) (xss : List (List X)) → All P (flat_map (λ xs. xs) xss) → All (All P) xss
+each_joined P [] a = All-nil (All P)
+each_joined P (xs ∷ xss) a =
+    let rest = flat_map (λ ys. ys) xss in
+    All-cons (All P) xs xss (all_contained P xs (λ x c. All-contains P (xs ++ rest) x a (Contains-append_left xs rest x c)))
+    (each_joined P xss (all_contained P rest (λ x c. All-contains P (xs ++ rest) x a (Contains-append_right xs rest x c))))
 
-pub loaded_more : (clauses : List (List LitValue)) (k : ℕ) (core core' : CoreValue) (kept : List LitValue) → IsLoaded (take k clauses) core → k < length clauses → IsSame (get_or clauses k []) kept → core'.clauses ≡ core.clauses ++ kept ∷ [] → IsLoaded (take (k + 1) clauses) core'
-loaded_more clauses k core core' kept l w s e =
+pub clauses_own : (vars own : ℕ) (clauses : List (List LitValue)) → own ≡ own_of vars → All (IsClause vars) clauses → All IsLit (flat_map (λ clause. clause) clauses) → All (IsClause own) clauses
+clauses_own vars own clauses e a i k d w =
+    let clause = get_or clauses k d in
+    all_contained (IsAbout own) clause (λ l c. about_own vars own clause e (a k d w) l (All-contains IsLit clause l (each_joined IsLit clauses i k d w) c) c)
+
+-- a table that has a place for each literal of the variables has one for those of a clause
+pub codes_within : (own : ℕ) (clauses : List (List LitValue)) (k : ℕ) (clause : List LitValue) (n : ℕ) → All (IsClause own) clauses → k < length clauses → clause ≡ get_or clauses k [] → n ≡ 2 * own + 2 → (l : LitValue) → IsLit l → Contains clause l → code_of l < n
+codes_within own clauses k clause n a w e len l i c =
+    omega (arith, code_within own l (All-contains (IsAbout own) (get_or clauses k []) l (a k [] w) (subst (λ xs. Contains xs l) e c)), len)
+
+-- ---- the clauses, each literal of them once
+
+pub same_itself : (clause : List LitValue) → IsSame clause clause
+same_itself clause = record { into = λ l c. c; from = λ l c. c }
+
+pub loaded_itself : (clauses : List (List LitValue)) → IsLoaded clauses clauses
+loaded_itself clauses = record { count = refl; same = λ k w. same_itself (get_or clauses k []) }
+
+pub loaded_more : (clauses : List (List LitValue)) (k : ℕ) (loaded loaded' : List (List LitValue)) (kept : List LitValue) → IsLoaded (take k clauses) loaded → k < length clauses → IsSame (get_or clauses k []) kept → loaded' ≡ loaded ++ kept ∷ [] → IsLoaded (take (k + 1) clauses) loaded'
+loaded_more clauses k loaded loaded' kept l w s e =
     let n : length (take k clauses) ≡ k = length-take-le k clauses (omega (arith, w)) in
     let m : length (take (k + 1) clauses) ≡ k + 1 = length-take-le (k + 1) clauses (omega (arith, w)) in
-    let c : length core.clauses ≡ k = omega (arith, l.count, n) in
+    let c : length loaded ≡ k = omega (arith, l.count, n) in
     record {
-      count = omega (arith, ap length e, length_push core.clauses kept, c, m);
+      count = omega (arith, ap length e, length_push loaded kept, c, m);
       same = λ i v. ⊎_elim
           (λ lt.
-          let old : IsSame (get_or (take k clauses) i []) (get_or core.clauses i []) = l.same i (omega (arith, lt, n)) in
+          let old : IsSame (get_or (take k clauses) i []) (get_or loaded i []) = l.same i (omega (arith, lt, n)) in
           let a : get_or (take k clauses) i [] ≡ get_or (take (k + 1) clauses) i [] = get_or-take k clauses i [] lt ∙ sym (get_or-take (k + 1) clauses i [] (omega (arith, lt))) in
-          let b : get_or core.clauses i [] ≡ get_or core'.clauses i [] = sym (get_or_append_left core.clauses (kept ∷ []) [] i (omega (arith, lt, c))) ∙ ap (λ xs. get_or xs i []) (sym e) in
-          subst (IsSame (get_or (take (k + 1) clauses) i [])) b (subst (λ x. IsSame x (get_or core.clauses i [])) a old))
+          let b : get_or loaded i [] ≡ get_or loaded' i [] = sym (get_or_append_left loaded (kept ∷ []) [] i (omega (arith, lt, c))) ∙ ap (λ xs. get_or xs i []) (sym e) in
+          subst (IsSame (get_or (take (k + 1) clauses) i [])) b (subst (λ x. IsSame x (get_or loaded i [])) a old))
           (λ ge.
           let at : k ≡ i = omega (arith, ge, v, m) in
           let a : get_or clauses k [] ≡ get_or (take (k + 1) clauses) i [] = ap (λ j. get_or clauses j []) at ∙ sym (get_or-take (k + 1) clauses i [] (omega (arith, at))) in
-          let b : kept ≡ get_or core'.clauses i [] = sym (get_or_push core.clauses kept [] i (omega (arith, c, at))) ∙ ap (λ xs. get_or xs i []) (sym e) in
+          let b : kept ≡ get_or loaded' i [] = sym (get_or_push loaded kept [] i (omega (arith, c, at))) ∙ ap (λ xs. get_or xs i []) (sym e) in
           subst (IsSame (get_or (take (k + 1) clauses) i [])) b (subst (λ x. IsSame x kept) a s))
           (cases_lt i k);
     }
@@ -114,19 +136,19 @@ pub record IsNumbered (core : CoreValue) (awake : Awake) : Type 0 where
   pub listed : IsListed core.clauses awake
   pub names : (k : ℕ) → k < length core.clauses → get_or awake.names.items (k + 1) 0 ≡ k + 1
 
-pub numbered_more : (core core' : CoreValue) (awake awake' : Awake) (kept : List LitValue) (id number : ℕ) → IsNumbered core awake → core'.clauses ≡ core.clauses ++ kept ∷ [] → id ≡ length core.clauses → number ≡ length core.clauses + 1 → awake'.ids.items ≡ awake.ids.items ++ id ∷ [] → awake'.names.items ≡ awake.names.items ++ number ∷ [] → AllPairs (λ a b. a ≢ b) kept → IsNumbered core' awake'
-numbered_more core core' awake awake' kept id number n cs at next ids names once = record {
-  listed = listed_more core.clauses core'.clauses kept awake awake' id number n.listed cs at ids names once;
-  names = λ k w. ⊎_elim
-      (λ v. ap (λ xs. get_or xs (k + 1) 0) names ∙ get_or_append_left awake.names.items (number ∷ []) 0 (k + 1) (omega (arith, v, n.listed.names)) ∙ n.names k v)
-      (λ v.
-      let e : length core.clauses ≡ k = omega (arith, v, w, ap length cs, length_push core.clauses kept) in
-      ap (λ xs. get_or xs (k + 1) 0) names ∙ get_or_push awake.names.items number 0 (k + 1) (omega (arith, n.listed.names, e)) ∙ next ∙ ap (λ m. m + 1) e)
-      (cases_lt k (length core.clauses));
+pub numbered_from : (core : CoreValue) (awake : Awake) (n : ℕ) → n ≡ length core.clauses → awake.ids.items ≡ range_with_len 0 n → awake.names.items ≡ range_with_len 0 (n + 1) → All (AllPairs (λ a b. a ≢ b)) core.clauses → IsNumbered core awake
+numbered_from core awake n e ids names once = record {
+  listed = record {
+    ids_len = omega (arith, ap length ids, length-range_with_len 0 n, e);
+    ids = λ k w. let at = get_or-range_with_len 0 n k 0 (omega (arith, w, e)) in omega (arith, ap (λ xs. get_or xs k 0) ids, at);
+    names = omega (arith, ap length names, length-range_with_len 0 (n + 1), e);
+    once = λ k w. once k [] w;
+  };
+  names = λ k w. let at = get_or-range_with_len 0 (n + 1) (k + 1) 0 (omega (arith, w, e)) in omega (arith, ap (λ xs. get_or xs (k + 1) 0) names, at);
 }
 
 -- each clause is held under its number
-pub loaded_held : (clauses : List (List LitValue)) (core : CoreValue) (awake : Awake) (vars : ℕ) → IsLoaded clauses core → IsNumbered core awake → AreHeld (enumerate_from 1 clauses) awake.names.items core.clauses (no_sleepers vars)
+pub loaded_held : (clauses : List (List LitValue)) (core : CoreValue) (awake : Awake) (vars : ℕ) → IsLoaded clauses core.clauses → IsNumbered core awake → AreHeld (enumerate_from 1 clauses) awake.names.items core.clauses (no_sleepers vars)
 loaded_held clauses core awake vars l n = record {
   named = λ id w.
       let v : id < length clauses = omega (arith, w, l.count) in
@@ -144,7 +166,7 @@ loaded_held clauses core awake vars l n = record {
       (get_or core.clauses c.0 [], inl (Contains-get_or core.clauses c.0 [] (omega (arith, v, l.count))), subst (λ x. IsSame x (get_or core.clauses c.0 [])) is (l.same c.0 v));
 }
 
-pub ready_loaded : (base : FormulaValue) (core : CoreValue) (awake : Awake) (own : ℕ) → IsLoaded base.clauses core → IsNumbered core awake → awake.formula ≡ length base.clauses → awake.held ≡ length base.clauses → core.vars ≤ base.vars → IsReady base [] core awake (no_sleepers own)
+pub ready_loaded : (base : FormulaValue) (core : CoreValue) (awake : Awake) (own : ℕ) → IsLoaded base.clauses core.clauses → IsNumbered core awake → awake.formula ≡ length base.clauses → awake.held ≡ length base.clauses → core.vars ≤ base.vars → IsReady base [] core awake (no_sleepers own)
 ready_loaded base core awake own l n formula held vars =
     let b = (start_numbered base.clauses).below in
     record {

@@ -22,16 +22,16 @@ use Rattle.conflict_analysis.specs.Learning.{hints_to}
 use Rattle.conflict_analysis.specs.UnitLines.{denied, IsUnitLine}
 use Rattle.conflict_analysis.proofs.Marked.{lit_read, lit_about, lit_stands, same_place}
 use Rattle.conflict_analysis.proofs.Members.{here, cons_cases}
-use Rattle.sleeping_clauses.specs.Naming.{name, IsName, IsNamed, IsListed}
+use Rattle.sleeping_clauses.specs.Naming.{name, IsName, IsNamed}
 use Rattle.sleeping_clauses.specs.Sleeping.{SleepersValue, HasNone}
 use Rattle.sleeping_clauses.specs.declared.awake.Awake.{Awake}
 use Rattle.sat_core.specs.inner.Holding.{Agree}
-use Rattle.sat_core.specs.inner.Stating.{AreStated}
+use Rattle.sat_core.specs.inner.Stating.{AreStated, IsStating}
 use Rattle.sat_core.specs.Ready.{AreWritten, IsReady}
 use Rattle.sat_core.proofs.AtConflict.{analysis_accepted}
 use Rattle.sat_core.proofs.Hinted.{few_named, hints_names}
 use Rattle.sat_core.proofs.Fresh.{fresh_by}
-use Rattle.sat_core.proofs.Readiness.{IsGrown, next_number, written_more, ready_more, ready_used, listed_more}
+use Rattle.sat_core.proofs.Readiness.{next_number, written_more}
 
 -- the core with the trail below a place, and then the negation of its literal
 abbrev denied_core : CoreValue → ℕ → CoreValue
@@ -87,23 +87,23 @@ denied_formed core place t w =
 one_apart : (l : LitValue) → AllPairs (λ a b. a.var ≢ b.var) (l ∷ [])
 one_apart l i j d lt v e = absurd (omega (arith, lt, v))
 
-pub one_differs : (l : LitValue) → AllPairs (λ a b. a ≢ b) (l ∷ [])
+one_differs : (l : LitValue) → AllPairs (λ a b. a ≢ b) (l ∷ [])
 one_differs l i j d lt v e = absurd (omega (arith, lt, v))
 
 -- ---- the line
 
 -- the search is ready, and has the line of a literal on level 0, by the core's numbers and by the ledger's
-pub record IsStating (base : FormulaValue) (lines : List ProofLineValue) (core : CoreValue) (awake : Awake) (s : SleepersValue) (place : ℕ) (unit line : ProofLineValue) : Type 0 where
+pub record IsUnitLine (base : FormulaValue) (lines : List ProofLineValue) (core : CoreValue) (awake : Awake) (s : SleepersValue) (place : ℕ) (unit line : ProofLineValue) : Type 0 where
   pub ready : IsReady base lines core awake s
   pub formed : IsTrail core.vars core.trail core.limits
   pub within : place < length core.trail
   pub is : IsUnitLine core place unit
   pub named : IsNamed awake.names.items awake.held unit line
 
-pub stating_lits : (base : FormulaValue) (lines : List ProofLineValue) (core : CoreValue) (awake : Awake) (s : SleepersValue) (place : ℕ) (unit line : ProofLineValue) → IsStating base lines core awake s place unit line → line.lits ≡ lit_at core place ∷ []
+stating_lits : (base : FormulaValue) (lines : List ProofLineValue) (core : CoreValue) (awake : Awake) (s : SleepersValue) (place : ℕ) (unit line : ProofLineValue) → IsUnitLine base lines core awake s place unit line → line.lits ≡ lit_at core place ∷ []
 stating_lits base lines core awake s place unit line t = t.named.lits ∙ t.is.lits
 
-pub stating_accepted : (base : FormulaValue) (lines : List ProofLineValue) (core : CoreValue) (awake : Awake) (s : SleepersValue) (place : ℕ) (unit line : ProofLineValue) → IsStating base lines core awake s place unit line → verdict_of (checker_of base lines) line ≡ Accepted true
+stating_accepted : (base : FormulaValue) (lines : List ProofLineValue) (core : CoreValue) (awake : Awake) (s : SleepersValue) (place : ℕ) (unit line : ProofLineValue) → IsUnitLine base lines core awake s place unit line → verdict_of (checker_of base lines) line ≡ Accepted true
 stating_accepted base lines core awake s place unit line t =
     let c = checker_of base lines in
     let a = t.ready.holding.agree in
@@ -113,18 +113,18 @@ stating_accepted base lines core awake s place unit line t =
     ∙ ap (λ ls. verdict_of c (record { id = line.id; lits = ls; hints = map (name awake.names.items) (hints_to t.is.resolved (denied core place) t.is.conflict) })) t.named.lits
     ∙ analysis_accepted c (denied_core core place) awake.names.items s t.is.resolved t.is.conflict unit.lits line.id agree (denied_formed core place t.formed t.within) t.is.analysis (subst (AllPairs (λ a b. a.var ≢ b.var)) (sym t.is.lits) (one_apart (lit_at core place))) (next_number base lines core awake s line.id t.ready t.named.id)
 
-stating_short : (base : FormulaValue) (lines : List ProofLineValue) (core : CoreValue) (awake : Awake) (s : SleepersValue) (place : ℕ) (unit line : ProofLineValue) → IsStating base lines core awake s place unit line → length line.hints ≤ base.vars + 1
+stating_short : (base : FormulaValue) (lines : List ProofLineValue) (core : CoreValue) (awake : Awake) (s : SleepersValue) (place : ℕ) (unit line : ProofLineValue) → IsUnitLine base lines core awake s place unit line → length line.hints ≤ base.vars + 1
 stating_short base lines core awake s place unit line t =
     let few = few_named awake.names.items t.is.resolved (denied core place) t.is.conflict in
     let n = denied_few core place t.within in
     omega (arith, few, n, ap length (t.named.hints ∙ ap (map (name awake.names.items)) t.is.hints), t.within, t.formed.few, t.ready.holding.agree.vars, ap (λ f. f.vars) t.ready.holding.formula)
 
-pub stating_written : (base base' : FormulaValue) (lines lines' : List ProofLineValue) (core : CoreValue) (awake : Awake) (s : SleepersValue) (place : ℕ) (unit line : ProofLineValue) → IsStating base lines core awake s place unit line → base' ≡ base → lines' ≡ lines ++ line ∷ [] → AreWritten base' lines'
-stating_written base base' lines lines' core awake s place unit line t b l =
-    subst (λ x. AreWritten x lines') (sym b) (subst (AreWritten base) (sym l) (written_more base lines core awake s line t.ready (stating_accepted base lines core awake s place unit line t) t.named.id (stating_short base lines core awake s place unit line t)))
+stating_written : (base : FormulaValue) (lines : List ProofLineValue) (core : CoreValue) (awake : Awake) (s : SleepersValue) (place : ℕ) (unit line : ProofLineValue) → IsUnitLine base lines core awake s place unit line → AreWritten base (lines ++ line ∷ [])
+stating_written base lines core awake s place unit line t =
+    written_more base lines core awake s line t.ready (stating_accepted base lines core awake s place unit line t) t.named.id (stating_short base lines core awake s place unit line t)
 
 -- no clause of the core has the literal alone, and none that sleeps has
-pub stating_fresh : (base : FormulaValue) (lines : List ProofLineValue) (core : CoreValue) (awake : Awake) (s : SleepersValue) (place : ℕ) (unit line : ProofLineValue) (stated : List Bool) → IsStating base lines core awake s place unit line → AreStated core.clauses stated → get_or stated (code_of (lit_at core place)) true ≡ false → HasNone s line.lits → is_fresh (checker_of base lines) line.lits ≡ true
+stating_fresh : (base : FormulaValue) (lines : List ProofLineValue) (core : CoreValue) (awake : Awake) (s : SleepersValue) (place : ℕ) (unit line : ProofLineValue) (stated : List Bool) → IsUnitLine base lines core awake s place unit line → AreStated core.clauses stated → get_or stated (code_of (lit_at core place)) true ≡ false → HasNone s line.lits → is_fresh (checker_of base lines) line.lits ≡ true
 stating_fresh base lines core awake s place unit line stated t are new none =
     let l = lit_at core place in
     let e = stating_lits base lines core awake s place unit line t in
@@ -154,35 +154,23 @@ stated_more clauses lits stated stated' are on this clause l c new alone = ⊎_e
     (λ e. this clause l (subst (λ x. Contains (lits ∷ []) x) e (here lits [])) new alone)
     (Contains-push_cases clauses lits clause c)
 
--- ---- after the line was learned
+-- ---- the line, as it is handed on
 
-listed_used : (clauses : List (List LitValue)) (awake awake' : Awake) → IsListed clauses awake → awake'.ids ≡ awake.ids → awake'.names ≡ awake.names → IsListed clauses awake'
-listed_used clauses awake awake' l ids names = record {
-  ids_len = ap (λ v. length v.items) ids ∙ l.ids_len;
-  ids = λ k w. ap (λ v. get_or v.items k 0) ids ∙ l.ids k w;
-  names = ap (λ v. length v.items) names ∙ l.names;
-  once = l.once;
-}
+pub stating_is : (base : FormulaValue) (lines : List ProofLineValue) (core : CoreValue) (awake awake' : Awake) (s : SleepersValue) (place : ℕ) (unit line : ProofLineValue) (stated : List Bool) → IsUnitLine base lines core awake s place unit line → awake'.held ≡ awake.held → AreStated core.clauses stated → get_or stated (code_of (lit_at core place)) true ≡ false → HasNone s line.lits
+    → IsStating base lines core awake' line
+stating_is base lines core awake awake' s place unit line stated t held are new none =
+    let lits = stating_lits base lines core awake s place unit line t in
+    record {
+      accepted = stating_accepted base lines core awake s place unit line t;
+      fresh = stating_fresh base lines core awake s place unit line stated t are new none;
+      written = stating_written base lines core awake s place unit line t;
+      next = t.named.id ∙ ap (λ n. n + 1) (sym held);
+      about = stating_about core place core.vars line.lits t.formed t.within refl lits;
+      once = subst (AllPairs (λ a b. a ≢ b)) (sym lits) (one_differs (lit_at core place));
+    }
 
--- the table after the line's hints were looked at, and after it was learned
-pub record IsStatedAfter (core core' : CoreValue) (awake used awake' : Awake) (line : ProofLineValue) (id : ℕ) : Type 0 where
-  pub listed : IsListed core.clauses awake
-  pub ids : used.ids ≡ awake.ids
-  pub names : used.names ≡ awake.names
-  pub formula : used.formula ≡ awake.formula
-  pub held : used.held ≡ awake.held
-  pub grown : IsGrown core core' used awake' line
-  pub at : id ≡ length core.clauses
-  pub more : awake'.ids.items ≡ used.ids.items ++ id ∷ []
-
-pub stated_ready : (base : FormulaValue) (lines : List ProofLineValue) (core core' : CoreValue) (awake used awake' : Awake) (s : SleepersValue) (place : ℕ) (unit line : ProofLineValue) (id : ℕ) → IsStating base lines core awake s place unit line → IsStatedAfter core core' awake used awake' line id → is_fresh (checker_of base lines) line.lits ≡ true → IsReady base (lines ++ line ∷ []) core' awake' s
-stated_ready base lines core core' awake used awake' s place unit line id t a fresh =
-    ready_more base lines core core' used awake' s line (ready_used base lines core awake used s t.ready a.names a.formula a.held) (listed_used core.clauses awake used a.listed a.ids a.names) (stating_written base base lines (lines ++ line ∷ []) core awake s place unit line t refl refl) fresh (t.named.id ∙ ap (λ n. n + 1) (sym a.held)) a.grown
-
-pub stated_listed : (base : FormulaValue) (lines : List ProofLineValue) (core core' : CoreValue) (awake used awake' : Awake) (s : SleepersValue) (place : ℕ) (unit line : ProofLineValue) (id : ℕ) → IsStating base lines core awake s place unit line → IsStatedAfter core core' awake used awake' line id → IsListed core'.clauses awake'
-stated_listed base lines core core' awake used awake' s place unit line id t a =
-    listed_more core.clauses core'.clauses line.lits used awake' id (used.held + 1) (listed_used core.clauses awake used a.listed a.ids a.names) a.grown.clauses a.at a.more a.grown.names
-    (subst (AllPairs (λ x y. x ≢ y)) (sym (stating_lits base lines core awake s place unit line t)) (one_differs (lit_at core place)))
+pub written_is : (base base' : FormulaValue) (lines lines' : List ProofLineValue) (line : ProofLineValue) → AreWritten base (lines ++ line ∷ []) → base' ≡ base → lines' ≡ lines ++ line ∷ [] → AreWritten base' lines'
+written_is base base' lines lines' line w b l = subst (λ x. AreWritten x lines') (sym b) (subst (AreWritten base) (sym l) w)
 
 -- ---- how a clause marks
 

@@ -1,17 +1,44 @@
 //! The core that a search begins with.
 
-ghost use Rattle.std.specs.Prelude.{◌≡◌, ◌≢◌, ℕ, ◌+◌, ◌*◌, ◌<◌, ◌≤◌, true, false, [], length, slice_index, slice_set, Contains, All, AllPairs, IfOk, OnOk};
+ghost use Rattle.std.specs.Prelude.{◌≡◌, ◌≢◌, ℕ, ◌<◌, ◌≤◌, true, false, [], length, slice_index, slice_set, Contains, All, AllPairs, IfOk, OnOk};
 ghost use Rattle.cnf_formula.specs.Literals.{LitValue, IsLit, code_of};
-ghost use Rattle.cnf_formula.specs.Formulas.{IsAbout};
+ghost use Rattle.cnf_formula.specs.Formulas.{IsClause};
 ghost use Rattle.sat_core.specs.inner.Holding.{IsSame};
-ghost use Rattle.sat_core.specs.inner.Loading.{own_of, IsAdded};
+ghost use Rattle.sat_core.specs.inner.Loading.{own_of, IsLoaded};
 ghost use Rattle.sleeping_clauses.specs.Naming.{IsListed};
 ghost use Rattle.sat_core.specs.Ready.{IsReady};
 
-use cnf_formula::{Formula, Lit, OutOfMemory};
-use sleeping_clauses::{Awake, Usage};
+use cnf_formula::{ClauseList, Formula, Lit, OutOfMemory};
+use sleeping_clauses::Awake;
 use std::alloc::{AllocError, Global};
-use trail_core::{ClauseId, Core};
+use trail_core::Core;
+
+/// A clause of so few literals is looked through pair by pair for one that stands twice.
+const FEW: usize = 6;
+
+/// Whether a literal is one of these.
+fn is_among(lit: Lit, lits: &[Lit]) -> bool
+    ensures { result ≡ false → Contains lits.now lit → ⊥ }
+{
+    for other in lits {
+        if *other == lit {
+            return true;
+        }
+    }
+    false
+}
+
+/// Whether no literal stands twice among these, by a look at each pair.
+fn are_few_apart(lits: &[Lit]) -> bool
+    ensures { result ≡ true → AllPairs (λ a b. a ≢ b) lits.now }
+{
+    for place in 0..lits.len() {
+        if is_among(lits[place], &lits[..place]) {
+            return false;
+        }
+    }
+    true
+}
 
 /// Gives a place the mark. Whether it had another.
 fn marks_at(seen: &mut Vec<u64>, place: usize, mark: u64) -> bool
@@ -68,61 +95,78 @@ fn once_each(
     Ok(())
 }
 
-/// Adds the clause of a formula that has this number to a core, each of its literals once. `seen`
-/// has a place for the number of each literal, with marks of the clauses before, two for each;
-/// `kept` is of use where a literal stands twice.
-fn add_once(
-    core: &mut Core,
-    lits: &[Lit],
-    number: u32,
-    seen: &mut Vec<u64>,
-    kept: &mut Vec<Lit>,
-) -> Result<ClauseId, OutOfMemory>
-    requires about { (l : LitValue) → IsLit l → Contains lits.now l → IsAbout core.old.vars l }
-    requires bottom { length core.old.limits ≡ 0 }
-    requires room { length seen.old.items ≡ 2 * core.old.vars + 2 }
-    requires unseen { (k : ℕ) → slice_index seen.old.items k ≤ 2 * number }
+/// Whether no literal stands twice in a clause. `seen` has a place for the number of each literal,
+/// none of which has this mark before.
+fn is_apart(lits: &[Lit], seen: &mut Vec<u64>, mark: u64) -> bool
+    requires room { (l : LitValue) → IsLit l → Contains lits.now l → code_of l < length seen.old.items }
+    requires unseen { (k : ℕ) → slice_index seen.old.items k < mark }
     ensures len { length seen.new.items ≡ length seen.old.items }
-    ensures marked { (k : ℕ) → slice_index seen.new.items k ≤ 2 * number + 2 }
-    ensures id { IfOk result (λ id. id ≡ length core.old.clauses) }
-    ensures added { OnOk result (IsAdded core.old lits.now core.new) }
+    ensures marked { (k : ℕ) → slice_index seen.new.items k ≤ mark }
+    ensures once { result ≡ true → AllPairs (λ a b. a ≢ b) lits.now }
 {
-    let mark = 2 * u64::from(number) + 1;
-    if are_apart(lits, seen, mark) {
-        return Ok(core.add_clause(lits)?);
+    if lits.len() <= FEW {
+        return are_few_apart(lits);
     }
-    once_each(kept, lits, seen, mark + 1)?;
-    Ok(core.add_clause(kept)?)
+    are_apart(lits, seen, mark)
 }
 
-/// Counts the literals of a clause, by their numbers.
-pub fn count_each(counts: &mut Vec<u32>, lits: &[Lit])
-    ensures { length counts.new.items ≡ length counts.old.items }
+/// Whether no clause has a literal twice.
+fn are_all_apart(alloc: Global, own: u32, clauses: &ClauseList) -> Result<bool, OutOfMemory>
+    requires { All (IsClause own) clauses.now }
+    ensures { IfOk result (λ apart. apart ≡ true → All (AllPairs (λ a b. a ≢ b)) clauses.now) }
 {
-    for lit in lits {
-        if let Some(count) = counts.get_mut(lit.code()) {
-            *count = count.saturating_add(1);
+    let mut seen = vec![in alloc; 0u64; 2 * own as usize + 2]?;
+    for place in 0..clauses.len() {
+        if !is_apart(clauses.clause(place), &mut seen, place as u64 + 1) {
+            return Ok(false);
         }
     }
+    Ok(true)
 }
 
-/// How often each literal stands in the formula, by its number.
-fn occurrences(alloc: Global, formula: &Formula, own: u32) -> Result<Vec<u32>, OutOfMemory>
-    ensures { IfOk result (λ counts. length counts.items ≡ 2 * own + 2) }
+/// The clauses in their order, each literal of them once.
+fn once_in_each(alloc: Global, own: u32, clauses: &ClauseList) -> Result<ClauseList, OutOfMemory>
+    requires { All (IsClause own) clauses.now }
+    ensures loaded { IfOk result (λ kept. IsLoaded clauses.now kept) }
+    ensures within { IfOk result (λ kept. All (IsClause own) kept) }
+    ensures once { IfOk result (λ kept. All (AllPairs (λ a b. a ≢ b)) kept) }
 {
-    let mut counts = vec![in alloc; 0u32; 2 * own as usize + 2]?;
-    for clause in formula.clauses() {
-        count_each(&mut counts, clause.lits());
+    let mut once = ClauseList::new(alloc);
+    let mut kept = Vec::new(alloc);
+    let mut seen = vec![in alloc; 0u64; 2 * own as usize + 2]?;
+    for place in 0..clauses.len() {
+        once_each(
+            &mut kept,
+            clauses.clause(place),
+            &mut seen,
+            place as u64 + 1,
+        )?;
+        once.push(&kept)?;
     }
-    Ok(counts)
+    Ok(once)
 }
 
-/// A core without a clause, with room for those of a formula, which are so many.
-fn empty_core(alloc: Global, formula: &Formula, own: u32, clauses: u32) -> Result<Core, OutOfMemory>
-    ensures { IfOk result (λ core. core ≡ record { vars = own; clauses = []; trail = []; limits = [] }) }
+/// A core with these clauses in their order, each literal of them once.
+fn core_of(alloc: Global, own: u32, clauses: &ClauseList) -> Result<Core, OutOfMemory>
+    requires { All (IsClause own) clauses.now }
+    ensures vars { IfOk result (λ core. core.vars ≡ own) }
+    ensures loaded { IfOk result (λ core. IsLoaded clauses.now core.clauses) }
+    ensures once { IfOk result (λ core. All (AllPairs (λ a b. a ≢ b)) core.clauses) }
 {
-    let counts = occurrences(alloc, formula, own)?;
-    Core::with_room(alloc, own, clauses, &counts)
+    if are_all_apart(alloc, own, clauses)? {
+        return Core::of_clauses(alloc, own, clauses);
+    }
+    let once = once_in_each(alloc, own, clauses)?;
+    Core::of_clauses(alloc, own, &once)
+}
+
+/// Each of these is a literal that there is. It costs nothing.
+fn know(lits: &[Lit])
+    ensures { All IsLit lits.now }
+{
+    for lit in lits {
+        let _code = lit.code();
+    }
 }
 
 /// A core with the clauses of a formula in their order, each literal of them once, and the table of
@@ -137,15 +181,8 @@ pub fn load(alloc: Global, formula: &Formula, own: u32) -> Result<(Core, Awake),
     if clauses.len() >= u32::MAX as usize {
         return Err(AllocError);
     }
-    let count = clauses.len() as u32;
-    let mut core = empty_core(alloc, formula, own, count)?;
-    let mut kept = Vec::new(alloc);
-    let mut seen = vec![in alloc; 0u64; 2 * own as usize + 2]?;
-    let mut awake = Awake::new(alloc, count, count)?;
-    for number in 0..count {
-        let lits = clauses[number as usize].lits();
-        let id = add_once(&mut core, lits, number, &mut seen, &mut kept)?;
-        awake.note(id, number + 1, Usage { levels: 0, last: 0 })?;
-    }
+    know(clauses.lits());
+    let core = core_of(alloc, own, clauses)?;
+    let awake = Awake::of_formula(alloc, clauses.len() as u32)?;
     Ok((core, awake))
 }

@@ -1,9 +1,11 @@
 //! Literals of level 0 that conflicts needed get lines of their own, one literal each. Later lines
 //! then have one hint for such a literal, in place of the reasons that led to it.
 
-ghost use Rattle.std.specs.Prelude.{◌≡◌, ◌≢◌, ◌<◌, ◌≤◌, true, [], ◌∷◌, AllPairs, length, take, IfOk, OnOk};
+ghost use Rattle.std.specs.Prelude.{◌≡◌, ◌≢◌, ◌<◌, ◌≤◌, true, List, [], ◌∷◌, ◌++◌, AllPairs, length, IfOk, IfSome, OnOk};
 ghost use Rattle.sat_core.specs.inner.Guided.{IsGuided};
-ghost use Rattle.sat_core.specs.inner.Stating.{IsAlone, AreStated, AreMarkedOn};
+ghost use Rattle.sat_core.specs.inner.Stating.{AreStated, AreMarkedOn, IsStating};
+ghost use Rattle.cnf_formula.specs.Formulas.{FormulaValue, IsClause};
+ghost use Rattle.cnf_formula.specs.Lines.{ProofLineValue};
 ghost use Rattle.sat_core.specs.Ready.{AreWritten, IsReady};
 ghost use Rattle.sleeping_clauses.specs.Naming.{IsListed};
 ghost use Rattle.cnf_formula.specs.Literals.{LitValue, code_of};
@@ -14,7 +16,7 @@ use crate::backjump::go_to_bottom;
 use crate::fault::SolveFault;
 use crate::guide::Guide;
 use crate::resting::rest;
-use cnf_formula::{Lit, OutOfMemory};
+use cnf_formula::{Lit, OutOfMemory, ProofLine};
 use conflict_analysis::unit_at;
 use ledger_rules::Ledger;
 use sleeping_clauses::Awake;
@@ -79,6 +81,61 @@ fn is_needed(core: &Core, awake: &Awake, place: usize) -> bool
     }
 }
 
+/// The line of the literal at a place of the trail, on level 0, where it was needed and no held
+/// clause states it.
+fn line_of(
+    alloc: Global,
+    core: &Core,
+    guide: &mut Guide,
+    stated: &[bool],
+    place: usize,
+) -> Result<Option<ProofLine>, OutOfMemory>
+    requires bottom { length core.now.limits ≡ 0 }
+    requires place { place < length core.now.trail }
+    requires guided { IsGuided core.now guide.old }
+    requires stated { AreStated core.now.clauses stated.now }
+    ensures guided { OnOk result (IsGuided core.now guide.new) }
+    ensures ready { (base : FormulaValue) (lines : List ProofLineValue) → IsReady base lines core.now guide.old.awake guide.old.sleepers → IsReady base lines core.now guide.new.awake guide.new.sleepers }
+    ensures line { IfOk result (λ found. IfSome found (λ line. (base : FormulaValue) (lines : List ProofLineValue) → IsReady base lines core.now guide.old.awake guide.old.sleepers → IsStating base lines core.now guide.new.awake line)) }
+{
+    let lit = core.trail()[place];
+    if !is_needed(core, &guide.awake, place) || is_stated(stated, lit) {
+        return Ok(None);
+    }
+    let unit = unit_at(alloc, core, &mut guide.walk, place)?;
+    let line = guide.awake.named(alloc, unit)?;
+    if let Some(_) = guide.sleepers.subset_of(&line.lits) {
+        return Ok(None);
+    }
+    Ok(Some(line))
+}
+
+/// Adds the clause of a line that was learned to the core, on level 0.
+fn hold(
+    core: &mut Core,
+    guide: &mut Guide,
+    stated: &mut Vec<bool>,
+    line: &ProofLine,
+) -> Result<(), OutOfMemory>
+    requires bottom { length core.old.limits ≡ 0 }
+    requires guided { IsGuided core.old guide.old }
+    requires stated { AreStated core.old.clauses stated.old.items }
+    requires about { IsClause core.old.vars line.now.lits }
+    requires once { AllPairs (λ a b. a ≢ b) line.now.lits }
+    ensures vars { core.new.vars ≡ core.old.vars }
+    ensures trail { core.new.trail ≡ core.old.trail }
+    ensures bottom { core.new.limits ≡ core.old.limits }
+    ensures stated { OnOk result (AreStated core.new.clauses stated.new.items) }
+    ensures guided { OnOk result (IsGuided core.new guide.new) }
+    ensures ready { OnOk result ((base : FormulaValue) (lines : List ProofLineValue) → IsReady base lines core.old guide.old.awake guide.old.sleepers → IsStating base lines core.old guide.old.awake line.now
+        → IsReady base (lines ++ line.now ∷ []) core.new guide.new.awake guide.new.sleepers) }
+{
+    let id = core.add_clause(&line.lits)?;
+    guide.awake.learn(id, 1)?;
+    mark(stated, &line.lits);
+    Ok(())
+}
+
 /// Learns the line of the literal at a place of the trail, on level 0, where it was needed, there
 /// is room for the line and no held clause states it.
 fn state<T, L: Ledger<T>>(
@@ -110,19 +167,14 @@ fn state<T, L: Ledger<T>>(
     ensures guided { OnOk result (IsGuided core.new guide.new) }
     ensures cause { HasCause SolveFault.LedgerFailed (L.faults ledger.old store.old) (L.faults ledger.new store.new) result }
 {
-    let lit = core.trail()[place];
-    if !is_needed(core, &guide.awake, place) || is_stated(stated, lit) || !ledger.room() {
+    if !ledger.room() {
         return Ok(());
     }
-    let unit = unit_at(alloc, core, &mut guide.walk, place)?;
-    let line = guide.awake.named(alloc, unit)?;
-    if let Some(_) = guide.sleepers.subset_of(&line.lits) {
+    let Some(line) = line_of(alloc, core, guide, stated, place)? else {
         return Ok(());
-    }
+    };
     ledger.learn(store, &line)?;
-    let id = core.add_clause(&line.lits)?;
-    guide.awake.learn(id, 1)?;
-    mark(stated, &line.lits);
+    hold(core, guide, stated, &line)?;
     Ok(())
 }
 
@@ -160,7 +212,7 @@ fn state_all<T, L: Ledger<T>>(
 
 /// Where the search begins anew and it is due, literals of level 0 get their lines, and clauses of
 /// little use fall asleep.
-pub fn rest_where<T, L: Ledger<T>>(
+pub fn rest_if_due<T, L: Ledger<T>>(
     alloc: Global,
     ledger: &mut L,
     store: &mut T,

@@ -18,7 +18,7 @@ ghost use Rattle.outer_ports.specs.Port.{HasCause};
 use crate::backjump::go_back;
 use crate::fault::SolveFault;
 use crate::guide::Guide;
-use crate::stating::rest_where;
+use crate::stating::rest_if_due;
 use crate::waking::{wake, wake_all};
 use cnf_formula::{OutOfMemory, ProofLine};
 use conflict_analysis::line_at;
@@ -126,6 +126,6 @@ pub fn at_conflict<T, L: Ledger<T>>(
     }
     ledger.learn(store, &line)?;
     let anew = go_on(alloc, core, guide, &line)?;
-    rest_where(alloc, ledger, store, core, guide, anew)?;
+    rest_if_due(alloc, ledger, store, core, guide, anew)?;
     Ok(Turn::Goes)
 }

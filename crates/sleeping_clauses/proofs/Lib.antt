@@ -1,2 +1,3 @@
 pub mod Stored
 pub mod Found
+pub mod Listed

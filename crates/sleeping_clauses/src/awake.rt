@@ -2,6 +2,7 @@
 //! much use each was.
 
 ghost use Rattle.std.specs.Prelude.{◌≡◌, ◌+◌, ◌<◌, ◌≤◌, ◌∷◌, ◌++◌, [], true, All, length, map, IfOk, OnOk};
+ghost use Rattle.std.specs.List.{range_with_len};
 ghost use Rattle.sleeping_clauses.specs.Naming.{IsName, IsNamed, name};
 
 use cnf_formula::{Lit, OutOfMemory, ProofLine};
@@ -85,6 +86,33 @@ impl Awake {
             formula,
             held,
             slept: held,
+        })
+    }
+
+    /// The table of the clauses of a formula, whose number is `formula`: the core and the ledger
+    /// have them in the same order, the ledger under the numbers from 1. `Err` comes only where
+    /// memory runs out.
+    pub fn of_formula(alloc: Global, formula: u32) -> Result<Awake, OutOfMemory>
+        ensures ids { IfOk result (λ a. a.ids.items ≡ range_with_len 0 formula) }
+        ensures names { IfOk result (λ a. a.names.items ≡ range_with_len 0 (formula + 1)) }
+        ensures formula { IfOk result (λ a. a.formula ≡ formula) }
+        ensures held { IfOk result (λ a. a.held ≡ formula) }
+    {
+        let clauses = formula as usize;
+        let mut ids = Vec::with_capacity(alloc, clauses)?;
+        let mut names = Vec::with_capacity(alloc, clauses + 1)?;
+        names.push_reserved(0u32);
+        for number in 0..formula {
+            ids.push_reserved(ClauseId::new(number));
+            names.push_reserved(number + 1);
+        }
+        Ok(Awake {
+            ids,
+            names,
+            usage: vec![in alloc; Usage { levels: 0, last: 0 }; clauses]?,
+            formula,
+            held: formula,
+            slept: formula,
         })
     }
 

@@ -6,7 +6,7 @@ ghost use Rattle.cnf_formula.specs.Literals.{LitValue, code_of};
 ghost use Rattle.cnf_formula.specs.Formulas.{IsClause};
 ghost use Rattle.sleeping_clauses.specs.Sleeping.{SleepersValue, HasMark, IsCover, AreFew, list_at, sleeping};
 
-use cnf_formula::{Clause, Formula, Lit, OutOfMemory};
+use cnf_formula::{ClauseList, Formula, Lit, OutOfMemory};
 use std::alloc::Global;
 use std::marker::Model;
 
@@ -92,7 +92,7 @@ fn are_marked(marks: &[u32], lits: &[Lit], stamp: u32) -> bool
 }
 
 /// Whether what a literal leads is a clause that sleeps and whose literals have the mark.
-fn covers(clauses: &[Clause], asleep: &[bool], led: Led, marks: &[u32], stamp: u32) -> bool
+fn covers(clauses: &ClauseList, asleep: &[bool], led: Led, marks: &[u32], stamp: u32) -> bool
     requires { length asleep.now ≡ length clauses.now }
     ensures asleep { result ≡ true → (led.place < length clauses.now) × (get_or asleep.now led.place false ≡ true) }
     ensures other { result ≡ false → IsCover clauses.now asleep.now marks.now stamp led → ⊥ }
@@ -104,12 +104,12 @@ fn covers(clauses: &[Clause], asleep: &[bool], led: Led, marks: &[u32], stamp: u
     if place >= clauses.len() || !asleep[place] {
         return false;
     }
-    are_marked(marks, clauses[place].lits(), stamp)
+    are_marked(marks, clauses.clause(place), stamp)
 }
 
 /// A clause of a list that sleeps and whose literals have the mark.
 fn marked_among(
-    clauses: &[Clause],
+    clauses: &ClauseList,
     asleep: &[bool],
     list: &[Led],
     marks: &[u32],
@@ -243,8 +243,7 @@ impl Sleepers {
         ensures about { IsClause self.now.vars result.now }
         ensures once { AllPairs (λ a b. a ≢ b) result.now }
     {
-        let clauses = self.clauses.clauses();
-        clauses[place].lits()
+        self.clauses.clauses().clause(place)
     }
 
     /// The number in the ledger of the clause at a place.
@@ -337,7 +336,7 @@ impl Sleepers {
 
 /// A clause that sleeps, that one of these literals leads, and whose literals have the mark.
 fn first_marked(
-    clauses: &[Clause],
+    clauses: &ClauseList,
     asleep: &[bool],
     leads: &[Vec<Led>],
     lits: &[Lit],

@@ -34,34 +34,34 @@ Put lists lists' r id k = ((list_at lists' k ≡ list_at lists k) × (watch_coun
 none_watch : (k : ℕ) → watch_count no_row k ≡ 0
 none_watch k = count_short no_row k (omega arith)
 
+-- the lists name the clause that came as often as it watches their literals
+pub exact_add : (rows : List RowValue) (lists lists' : List (List ℕ)) (r : RowValue) → ((e k : ℕ) → count_by (λ x. x == e) (list_at lists k) ≡ watch_count (row_at rows e) k) → ((k : ℕ) → Put lists lists' r (length rows) k)
+    → (e k : ℕ) → count_by (λ x. x == e) (list_at lists' k) ≡ watch_count (row_at (rows ++ r ∷ []) e) k
+exact_add rows lists lists' r exact put e k = ⊎_elim
+    (λ p. ap (count_by (λ x. x == e)) p.0 ∙ exact e k ∙ same p.1 (cases_lt e (length rows)) (cases_eq e (length rows)))
+    (λ p. ap (count_by (λ x. x == e)) p.0 ∙ sum_by_push (λ x. hit x e) (list_at lists k) (length rows) ∙ plus p.1 (cases_lt e (length rows)) (cases_eq e (length rows)))
+    (put k)
+  where
+    same : watch_count r k ≡ 0 → ((e < length rows) ⊎ (length rows ≤ e)) → ((e ≡ length rows) ⊎ (e ≢ length rows)) → watch_count (row_at rows e) k ≡ watch_count (row_at (rows ++ r ∷ []) e) k
+    same z (inl u) q = ap (λ x. watch_count x k) (sym (row_old rows r e u))
+    same z (inr u) (inl q) = ap (λ x. watch_count x k) (get_or_past rows e no_row u) ∙ none_watch k ∙ sym z ∙ ap (λ x. watch_count x k) (sym (row_new rows r)) ∙ ap (λ m. watch_count (row_at (rows ++ r ∷ []) m) k) (sym q)
+    same z (inr u) (inr q) = ap (λ x. watch_count x k) (get_or_past rows e no_row u ∙ sym (row_past rows r e (omega (arith, u, q))))
+
+    plus : watch_count r k ≡ 1 → ((e < length rows) ⊎ (length rows ≤ e)) → ((e ≡ length rows) ⊎ (e ≢ length rows)) → count_by (λ x. x == e) (list_at lists k) + hit (length rows) e ≡ watch_count (row_at (rows ++ r ∷ []) e) k
+    plus z (inl u) q = omega (arith, exact e k, hit_no (length rows) e (λ s. absurd (omega (arith, s, u))), ap (λ x. watch_count x k) (row_old rows r e u))
+    plus z (inr u) (inl q) = omega (arith, exact e k, ap (λ x. watch_count x k) (get_or_past rows e no_row u), none_watch k, hit_yes (length rows) e (sym q), z, ap (λ x. watch_count x k) (row_new rows r), ap (λ m. watch_count (row_at (rows ++ r ∷ []) m) k) q)
+    plus z (inr u) (inr q) = omega (arith, exact e k, ap (λ x. watch_count x k) (get_or_past rows e no_row u), none_watch k, hit_no (length rows) e (λ s. q (sym s)), ap (λ x. watch_count x k) (row_past rows r e (omega (arith, u, q))))
+
 pub watched_add : (rows : List RowValue) (w w' : ListsValue) (r : RowValue) → IsWatched rows w → ((k : ℕ) → Put w.lists w'.lists r (length rows) k) → ((k : ℕ) → get_or w.uses k 0 + occurrences r k ≤ get_or w'.uses k 0) → ((k : ℕ) → get_or w'.uses k 0 ≤ get_or w'.rooms k 0)
     → ((k : ℕ) → watch_count r k ≤ occurrences r k) → IsWatched (rows ++ r ∷ []) w'
-watched_add rows w w' r i put uses fits own = record { exact = exact; room = room; fits = fits }
-  where
-    exact : (e k : ℕ) → count_by (λ x. x == e) (list_at w'.lists k) ≡ watch_count (row_at (rows ++ r ∷ []) e) k
-    exact e k = ⊎_elim
-        (λ p. ap (count_by (λ x. x == e)) p.0 ∙ i.exact e k ∙ same p.1 (cases_lt e (length rows)) (cases_eq e (length rows)))
-        (λ p. ap (count_by (λ x. x == e)) p.0 ∙ sum_by_push (λ x. hit x e) (list_at w.lists k) (length rows) ∙ plus p.1 (cases_lt e (length rows)) (cases_eq e (length rows)))
-        (put k)
-      where
-        past : (e < length rows → ⊥) → row_at rows e ≡ no_row
-        past h = get_or_past rows e no_row (⊎_elim (λ u. absurd (h u)) (λ u. u) (cases_lt e (length rows)))
-
-        same : watch_count r k ≡ 0 → ((e < length rows) ⊎ (length rows ≤ e)) → ((e ≡ length rows) ⊎ (e ≢ length rows)) → watch_count (row_at rows e) k ≡ watch_count (row_at (rows ++ r ∷ []) e) k
-        same z (inl u) q = ap (λ x. watch_count x k) (sym (row_old rows r e u))
-        same z (inr u) (inl q) = ap (λ x. watch_count x k) (get_or_past rows e no_row u) ∙ none_watch k ∙ sym z ∙ ap (λ x. watch_count x k) (sym (row_new rows r)) ∙ ap (λ m. watch_count (row_at (rows ++ r ∷ []) m) k) (sym q)
-        same z (inr u) (inr q) = ap (λ x. watch_count x k) (get_or_past rows e no_row u ∙ sym (row_past rows r e (omega (arith, u, q))))
-
-        plus : watch_count r k ≡ 1 → ((e < length rows) ⊎ (length rows ≤ e)) → ((e ≡ length rows) ⊎ (e ≢ length rows)) → count_by (λ x. x == e) (list_at w.lists k) + hit (length rows) e ≡ watch_count (row_at (rows ++ r ∷ []) e) k
-        plus z (inl u) q = omega (arith, i.exact e k, hit_no (length rows) e (λ s. absurd (omega (arith, s, u))), ap (λ x. watch_count x k) (row_old rows r e u))
-        plus z (inr u) (inl q) = omega (arith, i.exact e k, ap (λ x. watch_count x k) (get_or_past rows e no_row u), none_watch k, hit_yes (length rows) e (sym q), z, ap (λ x. watch_count x k) (row_new rows r), ap (λ m. watch_count (row_at (rows ++ r ∷ []) m) k) q)
-        plus z (inr u) (inr q) = omega (arith, i.exact e k, ap (λ x. watch_count x k) (get_or_past rows e no_row u), none_watch k, hit_no (length rows) e (λ s. q (sym s)), ap (λ x. watch_count x k) (row_past rows r e (omega (arith, u, q))))
-
-    room : (k : ℕ) → length (list_at w'.lists k) + sum_by (spare k) (rows ++ r ∷ []) ≤ get_or w'.uses k 0
-    room k = ⊎_elim
-        (λ p. omega (arith, ap length p.0, p.1, sum_by_push (spare k) rows r, i.room k, uses k, own k))
-        (λ p. omega (arith, ap length p.0, length_push (list_at w.lists k) (length rows), p.1, sum_by_push (spare k) rows r, i.room k, uses k, own k))
-        (put k)
+watched_add rows w w' r i put uses fits own = record {
+  exact = exact_add rows w.lists w'.lists r i.exact put;
+  room = λ k. ⊎_elim
+      (λ p. omega (arith, ap length p.0, p.1, sum_by_push (spare k) rows r, i.room k, uses k, own k))
+      (λ p. omega (arith, ap length p.0, length_push (list_at w.lists k) (length rows), p.1, sum_by_push (spare k) rows r, i.room k, uses k, own k))
+      (put k);
+  fits = fits;
+}
 
 -- a clause watches no literal more often than it stands in it
 pub own_count : (r : RowValue) (k : ℕ) → (1 < length r.lits → Contains r.lits r.first) → (1 < length r.lits → Contains r.lits r.second) → (1 < length r.lits → r.first ≢ r.second) → watch_count r k ≤ occurrences r k
@@ -147,6 +147,16 @@ unseen_by r falses first second l h f = ⊎_elim
     (λ b. second (subst (IsFalse falses) (sym (same_code r.second l b)) f))
     (watch_which r (code_of l) h)
 
+-- the short clauses are known still
+pub known_add : (rows : List RowValue) (r : RowValue) (short short' : List ℕ) → ((e : ℕ) → e < length rows → length (row_at rows e).lits ≤ 1 → Contains short e) → ((e : ℕ) → Contains short e → Contains short' e) → (length r.lits ≤ 1 → Contains short' (length rows))
+    → (e : ℕ) → e < length (rows ++ r ∷ []) → length (row_at (rows ++ r ∷ []) e).lits ≤ 1 → Contains short' e
+known_add rows r short short' known more new e v s = ⊎_elim
+    (λ u. more e (known e u (omega (arith, s, ap (λ x. length x.lits) (row_old rows r e u)))))
+    (λ u.
+    let is : e ≡ length rows = omega (arith, u, v, length_push rows r) in
+    subst (Contains short') (sym is) (new (omega (arith, s, ap (λ m. length (row_at (rows ++ r ∷ []) m).lits) is, ap (λ x. length x.lits) (row_new rows r)))))
+    (cases_lt e (length rows))
+
 -- what is to be propagated begins before the new clause watches a false literal
 pub kept_add : (rows : List RowValue) (w w' : ListsValue) (t : TrailValue) (head head' : ℕ) (short short' : List ℕ) (r : RowValue) → IsKept rows w t head short → CanScan (rows ++ r ∷ []) w' t → (0 < length t.limits → 1 < length r.lits)
     → head' ≤ head → ((j : ℕ) → j < length t.limits → get_or t.limits j 0 ≤ head') → ((l : LitValue) → 0 < watch_count r (code_of l) → IsFalse (take head' (lits_of t.steps)) l → ⊥)
@@ -162,12 +172,7 @@ kept_add rows w w' t head head' short short' r k can long below above unseen mor
       let front = take (get_or t.limits j 0) (lits_of t.steps) in
       let q = old_row front (λ x g i. unseen x g (further (get_or t.limits j 0) head' (above j v) x i)) e l h f in
       subst (IsSatisfied front) (ap (λ x. x.lits) (sym (row_old rows r e q.0))) (k.settled j v e l q.1 f);
-  short_known = λ e v s. ⊎_elim
-      (λ u. more e (k.short_known e u (omega (arith, s, ap (λ x. length x.lits) (row_old rows r e u)))))
-      (λ u.
-      let is : e ≡ length rows = omega (arith, u, v, length_push rows r) in
-      subst (Contains short') (sym is) (new (omega (arith, s, ap (λ m. length (row_at (rows ++ r ∷ []) m).lits) is, ap (λ x. length x.lits) (row_new rows r)))))
-      (cases_lt e (length rows));
+  short_known = known_add rows r short short' k.short_known more new;
   short_within = all;
   grounded = λ i d v. grounded_add (take i t.steps) (get_or t.steps i d) (k.grounded i d v);
   short_true = λ j v e n s. ⊎_elim
@@ -282,27 +287,3 @@ shorts_add rows r short all k d w = let s = all k d w in record {
 
 pub shorts_push : (rows : List RowValue) (r : RowValue) (short : List ℕ) → All (IsShort rows) short → length r.lits ≤ 1 → All (IsShort (rows ++ r ∷ [])) (short ++ length rows ∷ [])
 shorts_push rows r short all h = All-push (IsShort (rows ++ r ∷ [])) short (length rows) (shorts_add rows r short all) (record { within = omega (arith, length_push rows r); short = omega (arith, h, ap (λ x. length x.lits) (row_new rows r)) })
-
--- ---- a new core
-
-pub kept_new : (vars : ℕ) (w : ListsValue) → length w.lists ≡ 2 * vars + 2 → length w.rooms ≡ 2 * vars + 2 → ((k : ℕ) → list_at w.lists k ≡ []) → ((k : ℕ) → watches_at w.watches k ≡ []) → length w.uses ≡ 2 * vars + 2 → ((k : ℕ) → get_or w.uses k 0 ≡ 0) → IsKept [] w (record { vars = vars; steps = []; limits = [] }) 0 []
-kept_new vars w a b empty none d zero' = record {
-  can = record {
-    are_lists = record { lists_len = a; rooms_len = b; uses_len = d };
-    are_rows = λ e v. absurd (omega (arith, v));
-    watched = record {
-      exact = λ e k. ap (count_by (λ x. x == e)) (empty k) ∙ sym (none_watch k);
-      room = λ k. omega (arith, ap length (empty k), zero' k);
-      fits = λ k. omega (arith, zero' k);
-    };
-    blocked = λ k v c. let x = subst (λ xs. Contains xs v) (none k) c in absurd (omega (arith, x.1));
-  };
-  head_within = omega arith;
-  excused = λ e l h f. absurd (omega (arith, f.1));
-  head_above = λ j v. absurd (omega (arith, v));
-  settled = λ j v. absurd (omega (arith, v));
-  short_known = λ e v s. absurd (omega (arith, v));
-  short_within = λ k i v. absurd (omega (arith, v));
-  grounded = λ k i v. absurd (omega (arith, v));
-  short_true = λ j v. absurd (omega (arith, v));
-}

@@ -237,11 +237,3 @@ none_listed pool spans empty k =
     (λ w. listed pool spans k x w (get_or_default spans k no x w) ∙ ap (λ n. numbers_of (part pool x.start n)) (empty k no w))
     (λ w. get_or_past (map numbers_of (map (entries_of pool) spans)) k [] (omega (arith, w, spans_many pool spans)))
     (cases_lt k (length spans))
-
-pub none_used : (spans : List Span) → ((i : ℕ) (d : Span) → i < length spans → (get_or spans i d).uses ≡ 0) → (k : ℕ) → get_or (map (λ s. s.uses) spans) k 0 ≡ 0
-none_used spans empty k =
-    let no : Span = record { start = 0; len = 0; room = 0; uses = 0 } in
-    ⊎_elim
-    (λ w. get_or-map (λ s. s.uses) spans k no 0 w ∙ empty k no w)
-    (λ w. get_or_past (map (λ s. s.uses) spans) k 0 (omega (arith, w, length-map spans (λ s. s.uses))))
-    (cases_lt k (length spans))

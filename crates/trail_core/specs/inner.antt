@@ -2,3 +2,4 @@
 pub mod Stored
 pub mod Packed
 pub mod Pooled
+pub mod Begun

@@ -12,10 +12,11 @@ ghost use Rattle.trail_core.specs.Formed.{IsTrail};
 
 use crate::adding::hold;
 use crate::lists::WatchLists;
+use crate::loading::watching;
 use crate::propagate::propagate_all;
-use crate::store::ClauseStore;
+use crate::store::{ClauseStore, LAST};
 use crate::trail::Trail;
-use cnf_formula::Lit;
+use cnf_formula::{ClauseList, Lit};
 use std::alloc::{AllocError, Global};
 use std::marker::Model;
 
@@ -36,6 +37,13 @@ impl Model for ClauseId {
 }
 
 impl ClauseId {
+    /// The clause that has this number.
+    pub fn new(number: u32) -> ClauseId
+        ensures { result ≡ number }
+    {
+        ClauseId { number }
+    }
+
     /// The number of the clause, which is that of clauses added before it.
     pub fn number(self) -> u32
         ensures { result ≡ self }
@@ -69,44 +77,33 @@ impl Model for Core {
     ghost invariant = { λ a. IsKept a.store a.lists a.trail a.head a.short.items };
 }
 
-/// How many literals stand in clauses where each literal stands in so many of them.
-fn total(occurrences: &[u32]) -> usize {
-    let mut sum = 0usize;
-    for count in occurrences {
-        sum = sum.saturating_add(*count as usize);
-    }
-    sum
-}
-
 impl Core {
     /// A core of so many variables, numbered from 1, with no clause, all of them open. `Err` comes
     /// only where memory runs out.
     pub fn new(alloc: Global, vars: u32) -> Result<Core, AllocError>
         ensures { IfOk result (λ c. c ≡ record { vars = vars; clauses = []; trail = []; limits = [] }) }
     {
-        let counts = vec![in alloc; 0u32; 2 * vars as usize + 2]?;
-        Core::with_room(alloc, vars, 0, &counts)
+        Core::of_clauses(alloc, vars, &ClauseList::new(alloc))
     }
 
-    /// A core of so many variables, numbered from 1, with no clause, all of them open. It is told
-    /// how many clauses are to come, and for each literal's number in how many of them the literal
-    /// is to stand, for which it makes room; it takes fewer and more of them too. `Err` comes only
-    /// if memory runs out, or if these numbers of literals are more than 4,294,967,295 in all.
-    pub fn with_room(
-        alloc: Global,
-        vars: u32,
-        clauses: u32,
-        occurrences: &[u32],
-    ) -> Result<Core, AllocError>
-        requires { length occurrences.now ≡ 2 * vars + 2 }
-        ensures { IfOk result (λ c. c ≡ record { vars = vars; clauses = []; trail = []; limits = [] }) }
+    /// A core of so many variables, numbered from 1, all of them open, with these clauses, none of
+    /// which has a literal twice. `Err` comes only if memory runs out, or if there are more than
+    /// 4,294,967,294 literals in all or 2,147,483,648 clauses.
+    pub fn of_clauses(alloc: Global, vars: u32, clauses: &ClauseList) -> Result<Core, AllocError>
+        requires within { All (IsClause vars) clauses.now }
+        requires once { All (AllPairs (λ a b. a ≢ b)) clauses.now }
+        ensures { IfOk result (λ c. c ≡ record { vars = vars; clauses = clauses.now; trail = []; limits = [] }) }
     {
+        if clauses.lits().len() >= u32::MAX as usize || clauses.len() > LAST + 1 {
+            return Err(AllocError);
+        }
+        let (lists, short) = watching(alloc, vars, clauses)?;
         Ok(Core {
-            store: ClauseStore::new(alloc, clauses, total(occurrences))?,
-            lists: WatchLists::new(alloc, occurrences)?,
+            store: ClauseStore::of_clauses(alloc, clauses)?,
+            lists,
             trail: Trail::new(alloc, vars)?,
             head: 0,
-            short: Vec::new(alloc),
+            short,
         })
     }
 

@@ -31,9 +31,13 @@ impl Model for WatchLists {
 }
 
 impl WatchLists {
-    /// Empty lists, each with room for so many clauses.
+    /// Empty lists, each with room for so many clauses, as many as it may come to hold.
     pub(crate) fn new(alloc: Global, rooms: &[u32]) -> Result<WatchLists, AllocError>
-        ensures { IfOk result (λ w. (length w.lists ≡ length rooms.now) × (length w.rooms ≡ length rooms.now) × ((k : ℕ) → list_at w.lists k ≡ []) × ((k : ℕ) → watches_at w.watches k ≡ []) × (length w.uses ≡ length rooms.now) × ((k : ℕ) → slice_index w.uses k ≡ 0)) }
+        ensures len { IfOk result (λ w. length w.lists ≡ length rooms.now) }
+        ensures lists { IfOk result (λ w. (k : ℕ) → list_at w.lists k ≡ []) }
+        ensures watches { IfOk result (λ w. (k : ℕ) → watches_at w.watches k ≡ []) }
+        ensures rooms { IfOk result (λ w. w.rooms ≡ rooms.now) }
+        ensures uses { IfOk result (λ w. w.uses ≡ rooms.now) }
     {
         let mut spans = Vec::with_capacity(alloc, rooms.len())?;
         let mut start = 0u32;
@@ -45,7 +49,7 @@ impl WatchLists {
                 start,
                 len: 0,
                 room: *room,
-                uses: 0,
+                uses: *room,
             });
             start += *room;
         }

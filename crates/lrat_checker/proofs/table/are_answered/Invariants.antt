@@ -1,4 +1,4 @@
-use Rattle.std.proofs.Common.{◌≡◌, List, drop, map}
+use Rattle.std.proofs.Common.{◌≡◌, List, drop}
 use Rattle.std.specs.List.{list_all}
 use Rattle.proof_rules.specs.Accepting.{Group}
 use Rattle.lrat_checker.specs.Stored.{answers}
@@ -6,4 +6,4 @@ use Rattle.lrat_checker.specs.inner.Steps.{Names}
 use Rattle.lrat_checker.proofs.table.are_answered.Given as goal
 
 abbrev pub invariant-loop-place : goal.invariant-loop-place
-invariant-loop-place l = (groups : List Group) → Names l.named groups → let test = answers l.ids (map (λ v. v.items) l.clauses) l.pivot l.marks.falses groups in list_all test l.list ≡ list_all test (drop l.place-index l.list)
+invariant-loop-place l = (groups : List Group) → Names l.named groups → let test = answers l.ids l.clauses l.pivot l.marks.falses groups in list_all test l.list ≡ list_all test (drop l.place-index l.list)

@@ -1,6 +1,7 @@
-use Rattle.std.proofs.Common.{◌≡◌, ℕ, ◌+◌, ◌<◌, true, List, [], ◌∷◌, ◌++◌, length, get_or, sym, ap, ◌∙◌, subst, arith}
-use Rattle.std.specs.Prelude.{◌≢◌, AllPairs, Result, Ok, Err, OnOk}
+use Rattle.std.proofs.Common.{◌≡◌, ℕ, ◌+◌, ◌<◌, true, List, [], ◌∷◌, ◌++◌, length, get_or, refl, sym, ap, ◌∙◌, subst, arith}
+use Rattle.std.specs.Prelude.{◌≢◌, All, AllPairs, Result, Ok, Err, OnOk}
 use Rattle.std.proofs.lemmas.List.{get_or_default}
+use Rattle.std.proofs.lemmas.List.Elements.{All-push}
 use Rattle.std.proofs.lemmas.Result.{on_ok_weaker}
 use Rattle.cnf_formula.specs.Literals.{LitValue}
 use Rattle.cnf_formula.specs.Formulas.{IsClause}
@@ -31,11 +32,11 @@ push-requires-clause-about c = about_is c.args.core.now c.args.awake.now c.args.
 pub push-requires-clause-once : goal.push-requires-clause-once
 push-requires-clause-once c = once_is c.args.core.now.clauses c.args.awake.now c.args.place c.index.result.now c.clause-clause.result.now c.requires.listed c.requires.place c.index.ensures (c.clause-clause.ensures [])
 
-pub add_clause-requires-clause-within : goal.add_clause-requires-clause-within
-add_clause-requires-clause-within c = about_is c.args.core.now c.args.awake.now c.args.place c.index.result.now c.args.left.now.vars c.clause-clause.result.now c.requires.listed c.requires.place c.index.ensures (c.clause-clause.ensures []) c.requires.vars c.requires.about
-
-pub add_clause-requires-clause-once : goal.add_clause-requires-clause-once
-add_clause-requires-clause-once c = once_is c.args.core.now.clauses c.args.awake.now c.args.place c.index.result.now c.clause-clause.result.now c.requires.listed c.requires.place c.index.ensures (c.clause-clause.ensures [])
+pub returns-clause-within : goal.returns-clause-within
+returns-clause-within c =
+    let vars = c.args.core.now.vars in
+    let about = about_is c.args.core.now c.args.awake.now c.args.place c.index.result.now vars c.clause-clause.result.now c.requires.listed c.requires.place c.index.ensures (c.clause-clause.ensures []) refl c.requires.about in
+    subst (All (IsClause vars)) (sym c.in_ok-push.ensures.added) (All-push (IsClause vars) c.args.left.now c.clause-clause.result.now c.requires.within about)
 
 pub returns-then-is_idle-clause-divided : goal.returns-then-is_idle-clause-divided
 returns-then-is_idle-clause-divided c = on_ok_weaker c.push.result (λ e before d.
@@ -46,7 +47,7 @@ returns-then-is_idle-clause-divided c = on_ok_weaker c.push.result (λ e before 
     let clause = clause_is core.clauses awake place c.index.result.now c.clause-clause.result.now c.requires.listed c.requires.place c.index.ensures (c.clause-clause.ensures []) in
     let number = name_is core.clauses awake place c.index-number.result.now c.requires.listed c.requires.place c.index-number.ensures in
     let make : List LitValue → ℕ → SleepersValue = λ x n. record { vars = s.vars; clauses = s.clauses ++ x ∷ []; numbers = s.numbers ++ n ∷ []; asleep = s.asleep ++ true ∷ [] } in
-    dividing_asleep core.clauses awake.names.items awake.formula before place c.args.left.now.clauses c.args.named.now s c.push.new.self d c.requires.place (c.is_idle.ensures.learned c.if-is_idle.true) c.push.ensures.numbers c.push.ensures.flags
+    dividing_asleep core.clauses awake.names.items awake.formula before place c.args.left.now c.args.named.now s c.push.new.self d c.requires.place (c.is_idle.ensures.learned c.if-is_idle.true) c.push.ensures.numbers c.push.ensures.flags
     (e ∙ ap (λ x. make x c.index-number.result.now) clause ∙ ap (make (get_or core.clauses place [])) number)) c.push.ensures.added
 
 pub returns-clause-divided : goal.returns-clause-divided
@@ -57,6 +58,5 @@ returns-clause-divided c = ok_both c.note.result c.note.ensures.ids c.note.ensur
     let left = c.args.left.now in
     let clause = clause_is core.clauses awake place c.index.result.now c.clause-clause.result.now c.requires.listed c.requires.place c.index.ensures (c.clause-clause.ensures []) in
     let number = name_is core.clauses awake place c.index-number.result.now c.requires.listed c.requires.place c.index-number.ensures in
-    let ok = c.in_ok-id.ensures.ok in
-    dividing_awake core.clauses awake.names.items awake.formula before place left.clauses c.add_clause.new.self.clauses c.args.named.now c.note.new.self c.args.sleepers.now c.in_ok-id.id d c.requires.place
-    (ap (λ x. x.clauses) ok.1 ∙ ap (λ x. left.clauses ++ x ∷ []) clause) ok.0 ids (names ∙ ap (λ n. c.args.named.now.names.items ++ n ∷ []) number) (c.requires.listed.once place c.requires.place))
+    dividing_awake core.clauses awake.names.items awake.formula before place left c.push-2.new.self c.args.named.now c.note.new.self c.args.sleepers.now c.new-id.result d c.requires.place
+    (c.in_ok-push.ensures.added ∙ ap (λ x. left ++ x ∷ []) clause) (c.new-id.ensures ∙ c.len.ensures) ids (names ∙ ap (λ n. c.args.named.now.names.items ++ n ∷ []) number) (c.requires.listed.once place c.requires.place))

@@ -61,8 +61,8 @@ learn-requires-clause-fresh g c =
     let none = none_by guide.sleepers line.lits (λ place w a sub. c.in_default.ensures.found place w a (λ o h. subst (λ xs. Contains xs o) (sym eq) (sub o h))) in
     turn_fresh base lines core guide.awake guide.sleepers c.args.conflict learned line t some none
 
-pub rest_where-requires-clause-ready : goal.rest_where-requires-clause-ready
-rest_where-requires-clause-ready g c =
+pub rest_if_due-requires-clause-ready : goal.rest_if_due-requires-clause-ready
+rest_if_due-requires-clause-ready g c =
     let base = g.L.LedgerView.base c.args.ledger.now in
     let lines = g.L.LedgerView.lines c.args.ledger.now in
     let core = c.args.core.now in

@@ -1,7 +1,6 @@
-use Rattle.std.proofs.Common.{◌+◌, ◌<◌, ◌≤◌, ℕ, List, [], ◌∷◌, ◌++◌, false, length, map, get_or, sym, ap, ◌∙◌, subst, arith}
+use Rattle.std.proofs.Common.{◌+◌, ◌<◌, ◌≤◌, ℕ, List, [], ◌∷◌, ◌++◌, false, length, get_or, sym, ap, ◌∙◌, subst, arith}
 use Rattle.std.specs.Prelude.{if◌then◌else◌}
-use Rattle.std.proofs.lemmas.List.{get_or_read, length-map}
-use Rattle.list_laws.proofs.Fronts.{at_map}
+use Rattle.std.proofs.lemmas.List.{get_or_read}
 use Rattle.cnf_formula.specs.Formulas.{IsClause}
 use Rattle.cnf_formula.specs.Literals.{LitValue}
 use Rattle.lrat_checker.specs.Stored.{TableValue, HasForgotten}
@@ -23,10 +22,8 @@ push-requires-clause-about c =
     let i = c.self.inside in
     let k = c.loop-place.place in
     let w : k < length i.ids.items = omega (arith, c.loop-place-test.true, c.loop-place.auto.place-end, c.len-place-end.ensures) in
-    let many : k < length i.clauses.items = omega (arith, w, c.self.invariant.many, length-map i.clauses.items (λ v. v.items)) in
-    let clause = at_map (λ v. v.items) i.clauses.items k c.index-then-held.result.now [] many c.index-then-held.ensures ∙ sym c.as_slice.ensures in
     let about = c.self.invariant.about k [] (omega (arith, w, c.self.invariant.many)) in
-    subst (λ n. IsClause n c.as_slice.result.now) (sym c.loop-place.invariant.vars) (subst (IsClause i.vars) clause about)
+    subst (λ n. IsClause n c.clause.result.now) (sym c.loop-place.invariant.vars) (subst (IsClause i.vars) (sym c.clause.ensures) about)
 
 pub loop-place-preserved : goal.loop-place-preserved
 loop-place-preserved c =
@@ -35,16 +32,14 @@ loop-place-preserved c =
     let t = c.loop-place.table in
     let b = c.index-held.result.now in
     let s = c.self.invariant in
-    let clauses = map (λ v. v.items) i.clauses.items in
+    let clauses = i.clauses in
     let w : k < length i.ids.items = omega (arith, c.loop-place-test.true, c.loop-place.auto.place-end, c.len-place-end.ensures) in
     let live = sym (get_or_read i.live.items k b (omega (arith, w, s.lives)) c.index-held.ensures false) in
     elim c.if-held.branch [
       | then-held+in_ok-push x ↦
-          let many : k < length i.clauses.items = omega (arith, w, s.many, length-map i.clauses.items (λ v. v.items)) in
-          let clause = at_map (λ v. v.items) i.clauses.items k x.index-then-held.result.now [] many x.index-then-held.ensures ∙ sym x.as_slice.ensures in
           let number = get_or_read i.ids.items k x.index.result.now w x.index.ensures 0 in
           let make : ℕ → List LitValue → TableValue = λ n ls. record { vars = t.vars; clauses = t.clauses ++ ls ∷ []; held = t.held ++ (if b then (n, ls) ∷ [] else []); last = n } in
-          let is = x.table-is ∙ x.in_ok-push.ensures.added ∙ ap (λ n. make n x.as_slice.result.now) number ∙ ap (make (get_or i.ids.items k 0)) (sym clause) in
+          let is = x.table-is ∙ x.in_ok-push.ensures.added ∙ ap (λ n. make n x.clause.result.now) number ∙ ap (make (get_or i.ids.items k 0)) x.clause.ensures in
           subst (IsPart i.vars c.args.first (k + 1) i.ids.items i.live.items clauses) (sym is) (part_push i.vars c.args.first k i.ids.items i.live.items clauses t s.rises s.lives s.many w c.loop-place.invariant b live)
       | else-held+else-place-first x ↦
           let none = live ∙ x.if-held.false in
@@ -57,7 +52,7 @@ returns-clause-fewer c =
     let i = c.self.inside in
     let k = c.loop-place.place in
     let s = c.self.invariant in
-    let clauses = map (λ v. v.items) i.clauses.items in
+    let clauses = i.clauses in
     let first = c.args.first in
     let high : length i.ids.items ≤ k = omega (arith, c.loop-place-test.false, c.loop-place.auto.place-end, c.len-place-end.ensures) in
     let low : first ≤ length clauses = omega (arith, c.requires, ap (λ t. length t.clauses) c.self.view_is) in

@@ -1,4 +1,4 @@
-use Rattle.std.proofs.Common.{◌≡◌, ◌+◌, ℕ, List, [], ◌∷◌, ◌++◌, length, take, sym, ap, ◌∙◌, arith}
+use Rattle.std.proofs.Common.{◌≡◌, ◌+◌, ◌<◌, ℕ, List, [], ◌∷◌, ◌++◌, length, get_or, take, sym, ap, ◌∙◌, arith}
 use Rattle.std.specs.List.{enumerate_from}
 use Rattle.std.proofs.lemmas.List.{take_more, length-take-le}
 use Rattle.cnf_formula.specs.Literals.{LitValue}
@@ -8,20 +8,22 @@ use Rattle.lrat_checker.proofs.table.ClauseTable.new.Goals as goal
 
 pub loop-place-preserved : goal.loop-place-preserved
 loop-place-preserved c =
-    let items = c.clauses-clause-items.result.now in
+    let items = c.args.formula.now.clauses in
     let j = c.loop-place.place in
     let i = c.loop-place.invariant in
-    let clause = c.clause-item.result in
+    let clause = get_or items j [] in
+    let same : c.clauses-clauses.result.now ≡ items = c.clauses-clauses.ensures.clauses in
+    let low : j < length items = omega (arith, c.loop-place-test.true, ap length same) in
     let added = c.in_ok-push.ensures.added in
-    let lits : c.lits.result.now ≡ clause = c.lits.ensures in
+    let lits : c.clause.result.now ≡ clause = c.clause.ensures ∙ ap (λ cs. get_or cs j []) same in
     let before = take j items in
-    let more : take (j + 1) items ≡ before ++ clause ∷ [] = take_more items j clause c.loop-place-test.true ∙ ap (λ x. before ++ x ∷ []) (sym c.clause-item.is) in
-    let n : j + 1 ≡ 1 + length before = let w = c.loop-place-test.true in omega (arith, length-take-le j items (omega (arith, w))) in
+    let more : take (j + 1) items ≡ before ++ clause ∷ [] = take_more items j [] low in
+    let n : j + 1 ≡ 1 + length before = omega (arith, length-take-le j items (omega (arith, low))) in
     let pair : ℕ → List LitValue → Entry = λ k l. (k, l) in
     record {
       vars = ap (λ t. t.vars) added ∙ i.vars;
-      clauses = ap (λ t. t.clauses) added ∙ ap (λ cs. cs ++ c.lits.result.now ∷ []) i.clauses ∙ ap (λ l. before ++ l ∷ []) lits ∙ sym more;
-      held = ap (λ t. t.held) added ∙ ap (λ h. h ++ pair (j + 1) c.lits.result.now ∷ []) i.held ∙ ap (λ l. enumerate_from 1 before ++ pair (j + 1) l ∷ []) lits
+      clauses = ap (λ t. t.clauses) added ∙ ap (λ cs. cs ++ c.clause.result.now ∷ []) i.clauses ∙ ap (λ l. before ++ l ∷ []) lits ∙ sym more;
+      held = ap (λ t. t.held) added ∙ ap (λ h. h ++ pair (j + 1) c.clause.result.now ∷ []) i.held ∙ ap (λ l. enumerate_from 1 before ++ pair (j + 1) l ∷ []) lits
           ∙ ap (λ k. enumerate_from 1 before ++ pair k clause ∷ []) n ∙ sym (enumerate-push 1 before clause) ∙ sym (ap (enumerate_from 1) more);
       last = ap (λ t. t.last) added;
     }

@@ -1,5 +1,5 @@
 use Rattle.std.proofs.Common.{◌≡◌, ◌<◌, ℕ, Bool, List, [], ◌∷◌, ◌++◌, length, map, refl, sym, ap, ◌∙◌, subst, arith}
-use Rattle.std.proofs.lemmas.List.{map_push, length-map}
+use Rattle.std.proofs.lemmas.List.{length-map}
 use Rattle.std.specs.Prelude.{Contains, if◌then◌else◌}
 use Rattle.cnf_formula.specs.Literals.{LitValue, code_of}
 use Rattle.cnf_formula.specs.Formulas.{IsClause}
@@ -24,27 +24,34 @@ invariant_of-self-in_err-note_literals c =
     let lists' = map (λ v. v.items) c.note_literals.new.lists.items in
     let leads = map (λ v. v.items) i.leads.items in
     let long : length lists' ≡ length lists = omega (arith, length-map c.note_literals.new.lists.items (λ v. v.items), length-map i.lists.items (λ v. v.items), c.note_literals.ensures.long) in
-    let s = stored_grown i.vars i.ids.items i.live.items (map (λ v. v.items) i.clauses.items) lists lists' leads leads c.self.invariant long c.note_literals.ensures.kept refl (λ code x h. h) in
-    rw (c.in_ok-reserve.ensures.items, c.in_ok-reserve-2.ensures.items, c.in_ok-reserve-3.ensures.items) s
+    let s = stored_grown i.vars i.ids.items i.live.items i.clauses lists lists' leads leads c.self.invariant long c.note_literals.ensures.kept refl (λ code x h. h) in
+    rw (c.in_ok-reserve.ensures.items, c.in_ok-reserve-2.ensures.items) s
 
 pub invariant_of-self-in_err-note : goal.invariant_of-self-in_err-note
 invariant_of-self-in_err-note c =
     let i = c.self.inside in
     let long : length (map (λ v. v.items) c.note_literals.new.lists.items) ≡ length (map (λ v. v.items) i.lists.items) = omega (arith, length-map c.note_literals.new.lists.items (λ v. v.items), length-map i.lists.items (λ v. v.items), c.note_literals.ensures.long) in
     let wide : length (map (λ v. v.items) c.note.new.lists.items) ≡ length (map (λ v. v.items) i.leads.items) = omega (arith, length-map c.note.new.lists.items (λ v. v.items), length-map i.leads.items (λ v. v.items), c.note.ensures.long) in
-    let s = stored_grown i.vars i.ids.items i.live.items (map (λ v. v.items) i.clauses.items) (map (λ v. v.items) i.lists.items) (map (λ v. v.items) c.note_literals.new.lists.items) (map (λ v. v.items) i.leads.items) (map (λ v. v.items) c.note.new.lists.items) c.self.invariant long c.note_literals.ensures.kept wide c.note.ensures.kept in
-    rw (c.in_ok-reserve.ensures.items, c.in_ok-reserve-2.ensures.items, c.in_ok-reserve-3.ensures.items) s
+    let s = stored_grown i.vars i.ids.items i.live.items i.clauses (map (λ v. v.items) i.lists.items) (map (λ v. v.items) c.note_literals.new.lists.items) (map (λ v. v.items) i.leads.items) (map (λ v. v.items) c.note.new.lists.items) c.self.invariant long c.note_literals.ensures.kept wide c.note.ensures.kept in
+    rw (c.in_ok-reserve.ensures.items, c.in_ok-reserve-2.ensures.items) s
+
+pub invariant_of-self-in_err-push : goal.invariant_of-self-in_err-push
+invariant_of-self-in_err-push c =
+    let i = c.self.inside in
+    let long : length (map (λ v. v.items) c.note_literals.new.lists.items) ≡ length (map (λ v. v.items) i.lists.items) = omega (arith, length-map c.note_literals.new.lists.items (λ v. v.items), length-map i.lists.items (λ v. v.items), c.note_literals.ensures.long) in
+    let wide : length (map (λ v. v.items) c.note.new.lists.items) ≡ length (map (λ v. v.items) i.leads.items) = omega (arith, length-map c.note.new.lists.items (λ v. v.items), length-map i.leads.items (λ v. v.items), c.note.ensures.long) in
+    let s = stored_grown i.vars i.ids.items i.live.items i.clauses (map (λ v. v.items) i.lists.items) (map (λ v. v.items) c.note_literals.new.lists.items) (map (λ v. v.items) i.leads.items) (map (λ v. v.items) c.note.new.lists.items) c.self.invariant long c.note_literals.ensures.kept wide c.note.ensures.kept in
+    rw (c.in_ok-reserve.ensures.items, c.in_ok-reserve-2.ensures.items, c.in_err-push.ensures.kept) s
 
 pub invariant_of-self-2 : goal.invariant_of-self-2
 invariant_of-self-2 c =
     let i = c.self.inside in
     let id = c.args.id in
     let lits = c.args.lits.now in
-    let clauses = map (λ v. v.items) i.clauses.items in
+    let clauses = i.clauses in
     let ids : c.push_reserved.new.self.items ≡ i.ids.items ++ id ∷ [] = c.push_reserved.ensures.items ∙ ap (λ xs. xs ++ id ∷ []) c.in_ok-reserve.ensures.items in
     let live : c.push_reserved-2.new.self.items ≡ i.live.items ++ c.args.held ∷ [] = c.push_reserved-2.ensures.items ∙ ap (λ xs. xs ++ c.args.held ∷ []) c.in_ok-reserve-2.ensures.items in
-    let more : map (λ v. v.items) c.push_reserved-3.new.self.items ≡ clauses ++ lits ∷ [] =
-    ap (map (λ v. v.items)) (c.push_reserved-3.ensures.items ∙ ap (λ xs. xs ++ c.in_ok-clause.clause ∷ []) c.in_ok-reserve-3.ensures.items) ∙ map_push (λ v. v.items) i.clauses.items c.in_ok-clause.clause ∙ ap (λ l. clauses ++ l ∷ []) c.in_ok-clause.ensures.ok in
+    let more : c.push.new.self ≡ clauses ++ lits ∷ [] = c.in_ok-push.ensures.added in
     let above : last_of i.ids.items < id = omega (arith, ap (λ t. t.last) c.self.view_is, c.requires.above) in
     let about : IsClause i.vars lits = subst (λ n. IsClause n lits) (sym (ap (λ t. t.vars) c.self.view_is)) c.requires.about in
     let old = map (λ v. v.items) i.lists.items in
@@ -65,16 +72,15 @@ returns-clause-added c =
     let i = c.self.inside in
     let id = c.args.id in
     let lits = c.args.lits.now in
-    let clauses = map (λ v. v.items) i.clauses.items in
+    let clauses = i.clauses in
     let ids : c.push_reserved.new.self.items ≡ i.ids.items ++ id ∷ [] = c.push_reserved.ensures.items ∙ ap (λ xs. xs ++ id ∷ []) c.in_ok-reserve.ensures.items in
     let live : c.push_reserved-2.new.self.items ≡ i.live.items ++ c.args.held ∷ [] = c.push_reserved-2.ensures.items ∙ ap (λ xs. xs ++ c.args.held ∷ []) c.in_ok-reserve-2.ensures.items in
-    let more : map (λ v. v.items) c.push_reserved-3.new.self.items ≡ clauses ++ lits ∷ [] =
-    ap (map (λ v. v.items)) (c.push_reserved-3.ensures.items ∙ ap (λ xs. xs ++ c.in_ok-clause.clause ∷ []) c.in_ok-reserve-3.ensures.items) ∙ map_push (λ v. v.items) i.clauses.items c.in_ok-clause.clause ∙ ap (λ l. clauses ++ l ∷ []) c.in_ok-clause.ensures.ok in
+    let more : c.push.new.self ≡ clauses ++ lits ∷ [] = c.in_ok-push.ensures.added in
     let make : List ℕ → List Bool → List (List LitValue) → TableValue = λ xs bs cs. record { vars = i.vars; clauses = cs; held = held_of xs bs cs; last = last_of xs } in
     let grow : TableValue → TableValue = λ t. record { vars = t.vars; clauses = t.clauses ++ lits ∷ []; held = t.held ++ (if c.args.held then (id, lits) ∷ [] else []); last = id } in
     let fill : List Entry → ℕ → TableValue = λ h n. record { vars = i.vars; clauses = clauses ++ lits ∷ []; held = h; last = n } in
-    ap (λ xs. make xs c.push_reserved-2.new.self.items (map (λ v. v.items) c.push_reserved-3.new.self.items)) ids
-    ∙ ap (λ bs. make (i.ids.items ++ id ∷ []) bs (map (λ v. v.items) c.push_reserved-3.new.self.items)) live
+    ap (λ xs. make xs c.push_reserved-2.new.self.items c.push.new.self) ids
+    ∙ ap (λ bs. make (i.ids.items ++ id ∷ []) bs c.push.new.self) live
     ∙ ap (make (i.ids.items ++ id ∷ []) (i.live.items ++ c.args.held ∷ [])) more
     ∙ ap (λ h. fill h (last_of (i.ids.items ++ id ∷ []))) (held_push i.ids.items i.live.items clauses id lits c.args.held c.self.invariant.lives c.self.invariant.many)
     ∙ ap (fill (held_of i.ids.items i.live.items clauses ++ (if c.args.held then (id, lits) ∷ [] else []))) (last_push i.ids.items id)

@@ -14,7 +14,7 @@ pub returns-clause-answer : goal.returns-clause-answer
 returns-clause-answer c =
     let i = c.self.inside in
     let gone = c.args.gone.now in
-    let clauses = map (λ v. v.items) i.clauses.items in
+    let clauses = i.clauses in
     let same = all_held_live i.ids.items i.live.items clauses gone c.self.invariant.lives c.self.invariant.many in
     let ids = ap (λ xs. list_all (λ id. is_live xs i.live.items id) gone) c.deref.ensures.value in
     let live = ap (λ bs. list_all (λ id. is_live c.deref.result.now bs id) gone) c.deref_mut.ensures.value in
@@ -24,7 +24,7 @@ pub returns-clause-removed : goal.returns-clause-removed
 returns-clause-removed c = λ t.
     let i = c.self.inside in
     let gone = c.args.gone.now in
-    let clauses = map (λ v. v.items) i.clauses.items in
+    let clauses = i.clauses in
     let new : c.let_go.new.live ≡ kept_live i.ids.items i.live.items gone =
     c.let_go.ensures.gone t ∙ ap (λ xs. kept_live xs c.deref_mut.result.now gone) c.deref.ensures.value ∙ ap (λ bs. kept_live i.ids.items bs gone) c.deref_mut.ensures.value in
     let long : length c.let_go.new.live ≡ i.live.len = omega (arith, ap length new, kept_long i.ids.items i.live.items gone c.self.invariant.lives, c.self.invariant.lives, i.live.ok.0) in
@@ -37,7 +37,7 @@ pub invariant_of-self : goal.invariant_of-self
 invariant_of-self c =
     let i = c.self.inside in
     let gone = c.args.gone.now in
-    let clauses = map (λ v. v.items) i.clauses.items in
+    let clauses = i.clauses in
     let lists = map (λ v. v.items) i.lists.items in
     let leads = map (λ v. v.items) i.leads.items in
     let new : (c.let_go.new.live ≡ kept_live i.ids.items i.live.items gone) ⊎ (c.let_go.new.live ≡ i.live.items) =

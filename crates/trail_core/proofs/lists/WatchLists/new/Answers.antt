@@ -1,9 +1,9 @@
-use Rattle.std.proofs.Common.{◌≡◌, ℕ, ◌+◌, ◌<◌, [], ◌∷◌, ◌++◌, length, get_or, refl, sym, ap, subst, ◌∙◌, arith}
-use Rattle.std.proofs.lemmas.List.{length-map, length_push}
+use Rattle.std.proofs.Common.{◌≡◌, ℕ, ◌+◌, ◌<◌, [], ◌∷◌, ◌++◌, map, length, get_or, take, refl, sym, ap, subst, ◌∙◌, arith}
+use Rattle.std.proofs.lemmas.List.{length_push, map_push, take_more, take_all}
 use Rattle.trail_core.specs.inner.Pooled.{ArePooled}
 use Rattle.trail_core.specs.declared.span.Span.{Span}
 use Rattle.trail_core.proofs.Valued.{at_push}
-use Rattle.trail_core.proofs.Pooling.{pooled_push, none_viewed, none_listed, none_used, spans_many}
+use Rattle.trail_core.proofs.Pooling.{pooled_push, none_viewed, none_listed, spans_many}
 use Rattle.trail_core.proofs.lists.WatchLists.new.Goals as goal
 
 pub loop-room-init : goal.loop-room-init
@@ -14,7 +14,8 @@ loop-room-init c =
       long = none;
       pooled = record { inside = λ i d u. absurd (omega (arith, u, none)); apart = λ i j d u v ne. absurd (omega (arith, u, none)); small = omega arith };
       none = λ i d u. absurd (omega (arith, u, none));
-      unused = λ i d u. absurd (omega (arith, u, none));
+      rooms = ap (map (λ s. s.room)) c.in_ok-spans.ensures.items;
+      uses = ap (map (λ s. s.uses)) c.in_ok-spans.ensures.items;
     }
 
 pub push_reserved-requires : goal.push_reserved-requires
@@ -25,8 +26,9 @@ loop-room-preserved c =
     let i = c.loop-room.invariant in
     let spans = c.loop-room.spans.items in
     let room = get_or c.args.rooms.now c.loop-room.room-index 0 in
-    let s : Span = record { start = c.loop-room.start; len = 0; room = room; uses = 0 } in
+    let s : Span = record { start = c.loop-room.start; len = 0; room = room; uses = room } in
     let e : c.push_reserved.new.self.items ≡ spans ++ s ∷ [] = c.push_reserved.ensures.items in
+    let more : take (c.loop-room.room-index + 1) c.args.rooms.now ≡ take c.loop-room.room-index c.args.rooms.now ++ room ∷ [] = take_more c.args.rooms.now c.loop-room.room-index 0 c.loop-room-test.true in
     let fit : c.loop-room.start + room < 4294967296 = omega (arith, c.if-room-start.false, i.pooled.small) in
     let pooled : ArePooled (c.loop-room.start + room) (spans ++ s ∷ []) = pooled_push c.loop-room.start (c.loop-room.start + room) spans s i.pooled (omega arith) fit (record { holds = omega arith; fits = omega arith; ends = omega arith }) refl in
     record {
@@ -34,7 +36,8 @@ loop-room-preserved c =
       long = omega (arith, ap length e, length_push spans s, i.long);
       pooled = subst (ArePooled (c.loop-room.start + room)) (sym e) pooled;
       none = subst (λ xs. (k : ℕ) (d : Span) → k < length xs → (get_or xs k d).len ≡ 0) (sym e) (at_push (λ x. x.len ≡ 0) spans s i.none refl);
-      unused = subst (λ xs. (k : ℕ) (d : Span) → k < length xs → (get_or xs k d).uses ≡ 0) (sym e) (at_push (λ x. x.uses ≡ 0) spans s i.unused refl);
+      rooms = ap (map (λ x. x.room)) e ∙ map_push (λ x. x.room) spans s ∙ ap (λ xs. xs ++ room ∷ []) i.rooms ∙ sym more;
+      uses = ap (map (λ x. x.uses)) e ∙ map_push (λ x. x.uses) spans s ∙ ap (λ xs. xs ++ room ∷ []) i.uses ∙ sym more;
     }
 
 pub invariant_of-result : goal.invariant_of-result
@@ -46,11 +49,13 @@ pub returns : goal.returns
 returns c =
     let i = c.loop-room.invariant in
     let spans = c.loop-room.spans.items in
-    let many : length spans ≡ length c.args.rooms.now = omega (arith, i.long, c.loop-room-test.false, c.loop-room.auto.room-index-end) in (
-      spans_many _ spans ∙ many,
-      length-map spans (λ s. s.room) ∙ many,
-      none_listed _ spans i.none,
-      none_viewed _ spans i.none,
-      length-map spans (λ s. s.uses) ∙ many,
-      none_used spans i.unused,
-    )
+    let rooms = c.args.rooms.now in
+    let many : length spans ≡ length rooms = omega (arith, i.long, c.loop-room-test.false, c.loop-room.auto.room-index-end) in
+    let all : take c.loop-room.room-index rooms ≡ rooms = take_all c.loop-room.room-index rooms (omega (arith, c.loop-room-test.false)) in
+    record {
+      len = spans_many _ spans ∙ many;
+      lists = none_listed _ spans i.none;
+      watches = none_viewed _ spans i.none;
+      rooms = i.rooms ∙ all;
+      uses = i.uses ∙ all;
+    }

@@ -1,0 +1,7 @@
+use Rattle.std.proofs.Common.{take}
+use Rattle.std.specs.Prelude.{All}
+use Rattle.cnf_formula.specs.Literals.{IsLit}
+use Rattle.sat_core.proofs.loading.know.Given as goal
+
+abbrev pub invariant-loop-lit : goal.invariant-loop-lit
+invariant-loop-lit l = All IsLit (take l.lit-index l.lits)

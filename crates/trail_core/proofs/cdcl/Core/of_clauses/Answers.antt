@@ -1,0 +1,28 @@
+use Rattle.std.proofs.Common.{◌≡◌, List, [], map, sym, ap, ◌∙◌, subst, arith}
+use Rattle.cnf_formula.specs.Literals.{LitValue}
+use Rattle.trail_core.specs.Trails.{TrailValue}
+use Rattle.trail_core.specs.Search.{clauses_of}
+use Rattle.trail_core.specs.Meaning.{CoreValue}
+use Rattle.trail_core.specs.Kept.{IsKept}
+use Rattle.trail_core.specs.inner.Begun.{front_row}
+use Rattle.trail_core.proofs.Storing.{occurrences_joined}
+use Rattle.trail_core.proofs.Begun.{kept_begun, rows_front, lits_front}
+use Rattle.trail_core.proofs.cdcl.Core.of_clauses.Goals as goal
+
+pub invariant_of-result-2 : goal.invariant_of-result-2
+invariant_of-result-2 c =
+    let clauses = c.args.clauses.now in
+    let vars = c.args.vars in
+    let w = c.in_ok-lists.lists in
+    let short = c.in_ok-lists.short.items in
+    let e = c.in_ok-lists.ensures in
+    let t : TrailValue = record { vars = vars; steps = []; limits = [] } in
+    let k : IsKept (map front_row clauses) w t 0 short = kept_begun vars (map front_row clauses) w short e.lists (rows_front vars clauses c.requires.within c.requires.once) e.begun (λ code. let n = e.room code in omega (arith, n, occurrences_joined clauses code)) e.fits in
+    subst (λ v. IsKept c.in_ok-of_clauses.field-0 v c.in_ok-new.field-0 0 short) (sym c.lists.view_is)
+    (subst (λ rows. IsKept rows w c.in_ok-new.field-0 0 short) (sym c.in_ok-of_clauses.ensures) (subst (λ u. IsKept (map front_row clauses) w u 0 short) (sym c.in_ok-new.ensures) k))
+
+pub returns : goal.returns
+returns c =
+    let make : List (List LitValue) → TrailValue → CoreValue = λ cs t. record { vars = t.vars; clauses = cs; trail = t.steps; limits = t.limits } in
+    let clauses : clauses_of c.in_ok-of_clauses.field-0 ≡ c.args.clauses.now = ap clauses_of c.in_ok-of_clauses.ensures ∙ lits_front c.args.clauses.now in
+    ap (λ cs. make cs c.in_ok-new.field-0) clauses ∙ ap (make c.args.clauses.now) c.in_ok-new.ensures

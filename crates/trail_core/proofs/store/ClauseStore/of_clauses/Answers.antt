@@ -1,0 +1,56 @@
+use Rattle.std.proofs.Common.{◌≡◌, ◌+◌, ◌<◌, List, [], ◌∷◌, ◌++◌, map, length, get_or, take, sym, ap, ◌∙◌, subst, arith}
+use Rattle.std.specs.Prelude.{All}
+use Rattle.std.proofs.lemmas.List.{map_push}
+use Rattle.std.proofs.lemmas.List.Elements.{All-push}
+use Rattle.cnf_formula.specs.Literals.{LitValue, yes}
+use Rattle.trail_core.specs.Watching.{RowValue}
+use Rattle.trail_core.specs.inner.Begun.{front_row}
+use Rattle.trail_core.specs.inner.Stored.{row_of}
+use Rattle.trail_core.specs.declared.store.Header.{Header}
+use Rattle.trail_core.proofs.Storing.{joined, joined_at, Lies}
+use Rattle.trail_core.proofs.Begun.{rows_more}
+use Rattle.trail_core.proofs.store.ClauseStore.of_clauses.Goals as goal
+
+pub overflow_cast-end : goal.overflow_cast-end
+overflow_cast-end c =
+    let clauses = c.args.clauses.now in
+    let start = c.loop-place.start in
+    let k = c.loop-place.place in
+    let w : k < length clauses = omega (arith, c.loop-place-test.true, c.loop-place.auto.place-end, c.len-place-end.ensures) in
+    let at = joined_at clauses k start (start + length (get_or clauses k [])) w c.loop-place.invariant.start (omega arith) in
+    omega (arith, at.2, ap length c.clause-clause.ensures, c.requires.few_lits)
+
+pub overflow_add-end : goal.overflow_add-end
+overflow_add-end c =
+    let clauses = c.args.clauses.now in
+    let start = c.loop-place.start in
+    let k = c.loop-place.place in
+    let w : k < length clauses = omega (arith, c.loop-place-test.true, c.loop-place.auto.place-end, c.len-place-end.ensures) in
+    let at = joined_at clauses k start (start + length (get_or clauses k [])) w c.loop-place.invariant.start (omega arith) in
+    omega (arith, at.2, ap length c.clause-clause.ensures, c.requires.few_lits)
+
+pub loop-place-preserved : goal.loop-place-preserved
+loop-place-preserved c =
+    let i = c.loop-place.invariant in
+    let clauses = c.args.clauses.now in
+    let lits = joined clauses in
+    let start = c.loop-place.start in
+    let k = c.loop-place.place in
+    let clause = get_or clauses k [] in
+    let w : k < length clauses = omega (arith, c.loop-place-test.true, c.loop-place.auto.place-end, c.len-place-end.ensures) in
+    let long = ap length c.clause-clause.ensures in
+    let end = start + length c.clause-clause.result.now in
+    let at = joined_at clauses k start end w i.start (omega (arith, long)) in
+    let headers : List Header = c.loop-place.headers.items in
+    let h : Header = record { start = start; end = end; first = c.front_pair-first.result.0; second = c.front_pair-first.result.1 } in
+    let is : c.push_reserved.new.self.items ≡ headers ++ h ∷ [] = c.push_reserved.ensures.items in
+    let make : List LitValue → LitValue → LitValue → RowValue = λ xs x y. record { lits = xs; first = x; second = y } in
+    let row : row_of lits h ≡ front_row clause =
+    ap (λ xs. make xs h.first h.second) at.0 ∙ ap (λ x. make clause x h.second) (c.front_pair-first.ensures.first ∙ ap (λ xs. get_or xs 0 (yes 1)) c.clause-clause.ensures)
+    ∙ ap (make clause (get_or clause 0 (yes 1))) (c.front_pair-first.ensures.second ∙ ap (λ xs. get_or xs 1 (yes 1)) c.clause-clause.ensures) in
+    record {
+      capacity = omega (arith, i.capacity, c.push_reserved.ensures.capacity);
+      start = at.1;
+      rows = ap (map (row_of lits)) is ∙ map_push (row_of lits) headers h ∙ ap (λ rs. rs ++ row_of lits h ∷ []) i.rows ∙ ap (λ r. map front_row (take k clauses) ++ r ∷ []) row ∙ sym (rows_more clauses k w);
+      lie = subst (All (Lies lits)) (sym is) (All-push (Lies lits) headers h i.lie (omega arith, at.2));
+    }
