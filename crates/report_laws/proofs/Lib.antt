@@ -23,3 +23,8 @@ pub mod LocalReport
 pub mod FilledReport
 pub mod FilledTexts
 pub mod FirstBlamed
+pub mod ShapesTold
+pub mod Blaming
+pub mod BlamedPoints
+pub mod BlamedReport
+pub mod Readings

@@ -19,7 +19,7 @@ use Rattle.report_laws.proofs.SteadyLists.{steady_lines, steady_parts, shorter_p
 -- ---- points
 
 module _ (names : List (List ℕ)) (q : QuestionValue) where
-  steady_schedule : (head : HeadValue) → Steady (schedule_at names q head) (schedule_at names q head)
+  pub steady_schedule : (head : HeadValue) → Steady (schedule_at names q head) (schedule_at names q head)
   unfolding schedule_at
   steady_schedule head =
       let check = send_line names (chunks_in q.spec q.topology.nodes head.candidate.c) head.candidate.s in

@@ -10,7 +10,6 @@ use Rattle.text_lines.proofs.Rows.{AreTokens, row_of}
 use Rattle.text_lines.proofs.Words.{tokens_from}
 use Rattle.schedule.specs.declared.hop.Hop.{Hop}
 use Rattle.schedule.specs.Sends.{IsStep, is_hop_below}
-use Rattle.collective_spec.specs.declared.kind.Kind.TheVariants as kind
 use Rattle.collective_spec.specs.Collectives.{chunks_in, spec_of}
 use Rattle.collective_spec.specs.Patterns.{PatternValue, IsPattern}
 use Rattle.outer_ports.specs.declared.part.Part.{Part}

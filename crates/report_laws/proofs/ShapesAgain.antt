@@ -30,13 +30,13 @@ pub record IsSmall (x : Candidate) : Type 0 where
   pub rounds : x.r ≤ 65535
   pub chunks : x.c ≤ 65535
 
-abbrev after_c : ℕ → ℕ → ℕ × List (List ℕ) → Result (Candidate × List (List ℕ)) ReportCode
+abbrev pub after_c : ℕ → ℕ → ℕ × List (List ℕ) → Result (Candidate × List (List ℕ)) ReportCode
 after_c s r c = Ok (candidate s r c.0, c.1)
 
-abbrev after_r : ℕ → ℕ × List (List ℕ) → Result (Candidate × List (List ℕ)) ReportCode
+abbrev pub after_r : ℕ → ℕ × List (List ℕ) → Result (Candidate × List (List ℕ)) ReportCode
 after_r s r = next_number r.1 >>= after_c s r.0
 
-abbrev after_s : ℕ × List (List ℕ) → Result (Candidate × List (List ℕ)) ReportCode
+abbrev pub after_s : ℕ × List (List ℕ) → Result (Candidate × List (List ℕ)) ReportCode
 after_s s = next_number s.1 >>= after_r s.0
 
 pub candidate_again : (x : Candidate) (rest : List (List ℕ)) → IsSmall x → candidate_from (decimal x.s ∷ decimal x.r ∷ decimal x.c ∷ rest) ≡ Ok (x, rest)

@@ -54,16 +54,16 @@ kind_again false Reducescatter e = refl
 kind_again false Allreduce e = refl
 kind_again false Custom e = absurd (cc)
 
-abbrev after_conflicts : ℕ → ℕ → ℕ → ℕ × List (List ℕ) → Result (LimitsValue × List (List ℕ)) ReportCode
+abbrev pub after_conflicts : ℕ → ℕ → ℕ → ℕ × List (List ℕ) → Result (LimitsValue × List (List ℕ)) ReportCode
 after_conflicts k s c n = Ok (limits k s c n.0, n.1)
 
-abbrev after_chunks : ℕ → ℕ → ℕ × List (List ℕ) → Result (LimitsValue × List (List ℕ)) ReportCode
+abbrev pub after_chunks : ℕ → ℕ → ℕ × List (List ℕ) → Result (LimitsValue × List (List ℕ)) ReportCode
 after_chunks k s c = next_keyed (codes "conflicts=") any_number c.1 >>= after_conflicts k s c.0
 
-abbrev after_steps : ℕ → ℕ × List (List ℕ) → Result (LimitsValue × List (List ℕ)) ReportCode
+abbrev pub after_steps : ℕ → ℕ × List (List ℕ) → Result (LimitsValue × List (List ℕ)) ReportCode
 after_steps k s = next_keyed (codes "chunks=") any_number s.1 >>= after_chunks k s.0
 
-abbrev after_k : ℕ × List (List ℕ) → Result (LimitsValue × List (List ℕ)) ReportCode
+abbrev pub after_k : ℕ × List (List ℕ) → Result (LimitsValue × List (List ℕ)) ReportCode
 after_k k = next_keyed (codes "steps=") any_number k.1 >>= after_steps k.0
 
 number_with : (key : List ℕ) (n : ℕ) (rest : List (List ℕ)) → n < 2 ^ 64 → next_keyed key any_number ((key ++ decimal n) ∷ rest) ≡ Ok (n, rest)
@@ -92,7 +92,7 @@ root_asked b names root = if b then Some (name_at names root) else None
 abbrev root_tokens : Bool → List (List ℕ) → ℕ → List (List ℕ)
 root_tokens b names root = if b then (codes "root=" ++ name_at names root) ∷ [] else []
 
-abbrev rooted : List ℕ × List (List ℕ) → Result (Option (List ℕ) × List (List ℕ)) ReportCode
+abbrev pub rooted : List ℕ × List (List ℕ) → Result (Option (List ℕ) × List (List ℕ)) ReportCode
 rooted name = Ok (Some name.0, name.1)
 
 abbrev unrooted : List (List ℕ) → Result (Option (List ℕ) × List (List ℕ)) ReportCode

@@ -1,10 +1,11 @@
 //! Laws of the text of a report.
 
-ghost use Rattle.std.specs.Prelude.{◌≡◌, ℕ, List, Ok, Err};
+ghost use Rattle.std.specs.Prelude.{◌≡◌, ℕ, List, Result, Ok, Err};
 ghost use Rattle.report_form.specs.Reports.{ReportValue, IsReport};
 ghost use Rattle.report_form.specs.Spelling.{report_text};
 ghost use Rattle.report_form.specs.Reading.{report_of};
 ghost use Rattle.report_form.specs.First.{FailsFirstAt};
+ghost use Rattle.report_laws.specs.Shapes.{ReadsAs};
 
 use report_form::ReportCode;
 
@@ -17,4 +18,11 @@ pub fn what_is_spelled_is_read()
 /// The line that the checks blame is the first at which the text can no longer be a report's.
 pub fn the_blamed_line_fails_first()
     ensures { (text : List ℕ) (why : ReportCode) (n : ℕ) → report_of text ≡ Err (why, n) → FailsFirstAt text n }
+{}
+
+/// What a text is read as, by the checks, is what its spelling says: the report that it spells, or
+/// the first line at which it can no longer be a report's, with a code by the shape of that line.
+pub fn texts_are_read_by_their_spelling()
+    ensures reads { (text : List ℕ) (result : Result ReportValue (ReportCode × ℕ)) → report_of text ≡ result → ReadsAs text result }
+    ensures only { (text : List ℕ) (result : Result ReportValue (ReportCode × ℕ)) → ReadsAs text result → report_of text ≡ result }
 {}

@@ -4,4 +4,6 @@
 
 mod laws;
 
-pub use laws::{the_blamed_line_fails_first, what_is_spelled_is_read};
+pub use laws::{
+    texts_are_read_by_their_spelling, the_blamed_line_fails_first, what_is_spelled_is_read,
+};

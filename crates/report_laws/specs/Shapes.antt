@@ -1,0 +1,145 @@
+-- Reading by spelling alone: a text is read as the report that it spells. Any other text is blamed at the first line at which it can no longer be a report's, and the shape of that line says with which code. This project's own.
+use Rattle.std.specs.Prelude.{◌≡◌, ℕ, ◌-◌, Bool, true, false, ◌&&◌, ◌||◌, if◌then◌else◌, List, [], ◌∷◌, ◌++◌, map, length, take, drop, slice_get, slice_index_or, bytes_eq, codes, is_some, is_ok, Option, None, Some, Result, Ok, Err}
+use Rattle.std.specs.List.{list_any, last_or}
+use Rattle.text_lines.specs.Text.{Row, rows_of, words_of}
+use Rattle.text_lines.specs.Number.{number_up_to}
+use Rattle.collective_spec.specs.declared.kind.Kind.{Kind}
+use Rattle.collective_spec.specs.Kinds.{word_of, takes_root, standard_kinds, every_kind}
+use Rattle.topology_text.specs.Names.{is_name}
+use Rattle.topology_text.specs.Reading.{begins, node_of, nodes_line}
+use Rattle.report_form.specs.declared.fault.ReportCode.{ReportCode}
+use Rattle.report_form.specs.declared.fault.ReportCode.TheVariants as code
+use Rattle.report_form.specs.Reports.{ReportValue, IsReport}
+use Rattle.report_form.specs.Spelling.{report_text}
+use Rattle.report_form.specs.First.{FailsFirstAt}
+use Rattle.report_form.specs.Fields.{is_number}
+
+-- ---- the shapes of lines
+
+-- a place for a token: this word, or any word that passes the test, or this word if it stands there
+pub data Token : Type 0 where
+  Word : List ℕ → Token
+  Any : (List ℕ → Bool) → Token
+  May : List ℕ → Token
+
+-- each token has its place, and each place its token
+abbrev pub has_shape : List Token → List (List ℕ) → Bool
+has_shape [] [] = true
+has_shape (Word v ∷ shape) (w ∷ words) = bytes_eq w v && has_shape shape words
+has_shape (Any passes ∷ shape) (w ∷ words) = passes w && has_shape shape words
+has_shape (May v ∷ shape) (w ∷ words) = if bytes_eq w v then has_shape shape words else has_shape shape (w ∷ words)
+has_shape (May v ∷ shape) [] = has_shape shape []
+has_shape _ _ = false
+
+-- a number of at most 65,535
+abbrev pub small : Token
+small = Any (λ w. is_some (number_up_to 65535 w))
+
+-- a key, and behind it what passes the test
+abbrev pub keyed : List ℕ → (List ℕ → Bool) → Token
+keyed key passes = Any (λ w. begins key w && passes (drop (length key) w))
+
+-- the line of the words, for a collective
+abbrev pub asked_shape : Kind → List Token
+asked_shape kind =
+    Word (codes "synth") ∷ Word (codes "collective=" ++ word_of kind) ∷ keyed (codes "k=") is_number ∷ keyed (codes "steps=") is_number ∷ keyed (codes "chunks=") is_number ∷ keyed (codes "conflicts=") is_number
+    ∷ (if takes_root kind then keyed (codes "root=") is_name ∷ [] else []) ++ May (codes "cuts=yes") ∷ May (codes "ordered=yes") ∷ []
+
+-- a word, the three numbers of a candidate, and more
+abbrev pub candidate_shape : List ℕ → List Token → List Token
+candidate_shape word more = Word word ∷ small ∷ small ∷ small ∷ more
+
+abbrev pub is_mark : List ℕ → Bool
+is_mark w = bytes_eq w (codes "optimal") || bytes_eq w (codes "open")
+
+-- what stands behind the candidate of a point
+abbrev pub mark_shape : Bool → List Token
+mark_shape joined = if joined then Word (codes "joined") ∷ small ∷ [] else Any is_mark ∷ []
+
+-- as many numbers as there are tokens
+abbrev pub rounds_shape : List (List ℕ) → List Token
+rounds_shape words = Word (codes "rounds") ∷ map (λ w. small) (drop 1 words)
+
+abbrev pub send_shape : List (List ℕ) → List Token
+send_shape names = let node : Token = Any (λ w. is_some (node_of names w)) in Word (codes "send") ∷ small ∷ node ∷ node ∷ small ∷ []
+
+-- ---- lines that have rules
+
+-- a test of a line
+abbrev pub Form : Type 0
+Form = Row → Bool
+
+abbrev pub formed : List Token → Form
+formed shape row = has_shape shape (words_of row.bytes)
+
+-- the words of a collective that may stand behind the first line
+abbrev pub asked : Bool → Form
+asked patterned row = list_any (λ kind. formed (asked_shape kind) row) (if patterned then every_kind else standard_kinds)
+
+-- a line of names that may be a topology's
+abbrev pub nodes : Form
+nodes row = is_ok (nodes_line (Some row))
+
+abbrev pub rounds : Form
+rounds row = formed (rounds_shape (words_of row.bytes)) row
+
+abbrev pub unknown : Form
+unknown = formed (candidate_shape (codes "unknown") (Any is_number ∷ []))
+
+abbrev pub refuted : Form
+refuted = formed (candidate_shape (codes "refuted") [])
+
+-- of a frontier, or of the joined points
+abbrev pub results : Bool → List Form
+results joined = formed (candidate_shape (codes "point") (mark_shape joined)) ∷ (if joined then [] else refuted ∷ unknown ∷ [])
+
+-- the forms of the lines with rules that may stand behind a line with this first word
+abbrev pub forms_after : Bool → List (List ℕ) → Bool → List ℕ → List Form
+forms_after patterned names joined last =
+    if bytes_eq last (codes "sccl") then asked patterned ∷ []
+    else if bytes_eq last (codes "topology") then nodes ∷ []
+    else if bytes_eq last (codes "frontier") || bytes_eq last (codes "joined") then results joined
+    else if bytes_eq last (codes "point") then rounds ∷ []
+    else if bytes_eq last (codes "rounds") || bytes_eq last (codes "send") then formed (send_shape names) ∷ results joined
+    else if bytes_eq last (codes "refuted") then refuted ∷ unknown ∷ []
+    else if bytes_eq last (codes "unknown") then unknown ∷ []
+    else []
+
+-- ---- what the lines before say
+
+abbrev pub first_word : Row → List ℕ
+first_word row = slice_index_or (words_of row.bytes) 0 []
+
+-- the first line is that of version 2
+abbrev pub is_patterned : List Row → Bool
+is_patterned [] = false
+is_patterned (row ∷ rows) = bytes_eq row.bytes (codes "sccl 2")
+
+-- the names stand in the fourth line
+abbrev pub names_in : List Row → List (List ℕ)
+names_in (a ∷ b ∷ c ∷ row ∷ rows) = drop 1 (words_of row.bytes)
+names_in _ = []
+
+abbrev pub is_joined : List (List ℕ) → Bool
+is_joined firsts = list_any (λ w. bytes_eq w (codes "joined")) firsts
+
+-- the forms of the lines with rules that may stand behind these lines
+abbrev pub forms_behind : List Row → Option (List ℕ) → List Form
+forms_behind before None = []
+forms_behind before (Some last) = forms_after (is_patterned before) (names_in before) (is_joined (map first_word before)) last
+
+-- the line has such a form
+abbrev pub fits : List Row → Form
+fits before row = list_any (λ form. form row) (forms_behind before (last_or None (map first_word before)))
+
+-- ---- reading
+
+-- the code of a line that is blamed behind these lines: it is lacking or was not ended; or it breaks a rule; or it has no shape that may stand there
+abbrev pub code_of : List Row → Option Row → ReportCode
+code_of before None = code.Truncated
+code_of before (Some row) = if row.whole then (if fits before row then code.Limits else code.BadLine) else code.Truncated
+
+-- what a text is read as: the report that it spells; or the first line at which it can no longer be a report's, with its code
+abbrev pub ReadsAs : List ℕ → Result ReportValue (ReportCode × ℕ) → Type 0
+ReadsAs text (Ok r) = IsReport r × (text ≡ report_text r)
+ReadsAs text (Err (why, n)) = FailsFirstAt text n × (why ≡ code_of (take (n - 1) (rows_of text)) (slice_get (rows_of text) (n - 1)))
