@@ -6,7 +6,8 @@ ghost use Rattle.round_encoding.specs.Candidates.{IsEncoding};
 ghost use Rattle.candidate_solver.specs.Trying.{Says};
 
 use candidate_order::Outcome;
-use cnf_formula::{OutOfMemory, ProofLine};
+use cnf_formula::OutOfMemory;
+use ledger_rules::LineList;
 use round_encoding::{Encoding, decode};
 use sat_core::SatAnswer;
 use std::alloc::Global;
@@ -15,14 +16,14 @@ use std::alloc::Global;
 #[derive(Drop)]
 pub struct Found {
     pub answer: SatAnswer,
-    pub lines: Vec<ProofLine>,
+    pub lines: LineList,
 }
 
 /// What came of a candidate, and the lines of its search.
 #[derive(Drop)]
 pub struct Attempt {
     pub outcome: Outcome,
-    pub lines: Vec<ProofLine>,
+    pub lines: LineList,
 }
 
 /// What the answer of a search says of the candidate that was encoded, where so many lines could be

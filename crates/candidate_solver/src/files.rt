@@ -5,13 +5,13 @@ ghost use Rattle.outer_ports.specs.Port.{HasCause, Tells};
 ghost use Rattle.outer_ports.specs.Shelf.{OthersStay};
 ghost use Rattle.candidate_formula.specs.Files.{file_of};
 ghost use Rattle.cnf_formula.specs.Formulas.{FormulaValue};
-ghost use Rattle.ledger_rules.specs.Logs.{learned};
 ghost use Rattle.candidate_solver.specs.Trying.{BeginsOwn, HasLines, HasText, IsTidy};
 
 use candidate_formula::file_name;
 use candidate_order::Candidate;
-use cnf_formula::{Formula, ProofLine};
+use cnf_formula::Formula;
 use engine_rules::{EngineFault, Settled};
+use ledger_rules::LineList;
 use lrat_text::print_cnf;
 use outer_ports::{FileKind, Part, Shelf, write_file};
 use std::alloc::Global;
@@ -56,16 +56,6 @@ fn empty<H: Shelf>(
     Ok(())
 }
 
-/// Whether a line may have been learned: one that closes a refutation was not.
-fn has_learned(lines: &[ProofLine]) -> bool
-    ensures { result ≡ false → learned lines.now ≡ [] }
-{
-    match lines.first() {
-        None => false,
-        Some(line) => lines.len() > 1 || !line.lits.is_empty(),
-    }
-}
-
 /// Empties the files of a candidate that do not prove such an outcome. They hold these lines, and
 /// one that holds none is left as it is.
 pub(crate) fn tidy<H: Shelf>(
@@ -73,7 +63,7 @@ pub(crate) fn tidy<H: Shelf>(
     part: Part,
     candidate: Candidate,
     kind: Settled,
-    lines: &[ProofLine],
+    lines: &LineList,
 ) -> Result<(), EngineFault>
     requires { IsTrue (H.tells store.old) → HasLines part candidate lines.now (H.file store.old) }
     ensures told { Tells (H.tells store.old) (H.tells store.new) }
@@ -83,7 +73,7 @@ pub(crate) fn tidy<H: Shelf>(
     ensures cause { HasCause EngineFault.ShelfFailed (H.faults store.old) (H.faults store.new) result }
 {
     let has_lines = !lines.is_empty();
-    let has_log = has_learned(lines);
+    let has_log = lines.has_learned();
     match kind {
         Settled::Solved => {
             empty(store, FileKind::Lrat, part, candidate, has_lines)?;

@@ -22,9 +22,10 @@ use crate::attempt::Attempt;
 use crate::question::Question;
 use crate::trying::try_candidate;
 use candidate_order::{Candidate, Limits, Outcome};
-use cnf_formula::{OutOfMemory, ProofLine};
+use cnf_formula::OutOfMemory;
 use collective_spec::{Kind, Spec};
 use engine_rules::{Engine, EngineFault, EngineView, Record, Settled};
+use ledger_rules::LineList;
 use outer_ports::{Part, Shelf};
 use schedule::Topology;
 use std::alloc::Global;
@@ -38,11 +39,11 @@ pub struct SatEngine {
     part: Part,
     checked: bool,
     tried: Record,
-    log: Vec<ProofLine>,
+    log: LineList,
     ghost named: { part ≢ part_named.Joined },
     ghost right: { (x : Candidate) → Contains tried.entries (x, settled.Refuted) → IsSolvable (asked question) x → ⊥ },
     ghost exhausted: { (x : Candidate) → Contains tried.entries (x, settled.Unknown) → Exhausted (formula_for (asked question) x) question.limits.conflicts },
-    pub ghost proved: { (before : RecordValue) (x : Candidate) → tried.entries ≡ before ++ (x, settled.Refuted) ∷ [] → Refutes (map Addition log.items) (formula_for (asked question) x) } by { proved-prop tried.entries log.items (formula_for (asked question)) },
+    pub ghost proved: { (before : RecordValue) (x : Candidate) → tried.entries ≡ before ++ (x, settled.Refuted) ∷ [] → Refutes (map Addition log) (formula_for (asked question) x) } by { proved-prop tried.entries log (formula_for (asked question)) },
 }
 
 impl SatEngine {
@@ -74,17 +75,17 @@ impl SatEngine {
             part,
             checked,
             tried: Record::new(alloc),
-            log: Vec::new(alloc),
+            log: LineList::new(alloc),
         })
     }
 
     /// Adds a candidate to the record, for which there is room, and keeps the lines of its search.
-    fn note(&mut self, candidate: Candidate, kind: Settled, lines: Vec<ProofLine>)
+    fn note(&mut self, candidate: Candidate, kind: Settled, lines: LineList)
         requires room { 0 < self.old.tried.room }
         requires within { IsWithin (asked self.old.question) candidate }
-        requires proved { IsProved (formula_for (asked self.old.question) candidate) self.old.question.limits.conflicts lines.items kind }
+        requires proved { IsProved (formula_for (asked self.old.question) candidate) self.old.question.limits.conflicts lines kind }
         ensures entries { self.new.tried.entries ≡ self.old.tried.entries ++ (candidate, kind) ∷ [] }
-        ensures log { self.new.log.items ≡ lines.items }
+        ensures log { self.new.log ≡ lines }
         ensures question { self.new.question ≡ self.old.question }
         ensures part { self.new.part ≡ self.old.part }
         ensures stopped { self.new.tried.stopped ≡ self.old.tried.stopped }
@@ -103,13 +104,13 @@ impl EngineView for SatEngine {
 
     ghost stopped = { λ e. e.tried.stopped };
 
-    ghost log_lines = { λ e. e.log.items };
+    ghost log_lines = { λ e. e.log };
 
     ghost formula = { λ e x. formula_for (asked e.question) x };
 
     ghost suits = { λ e x schedule. Suits (asked e.question) x schedule };
 
-    fn log(&self) -> &[ProofLine] {
+    fn log(&self) -> &LineList {
         &self.log
     }
 

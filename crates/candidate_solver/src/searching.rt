@@ -40,8 +40,8 @@ fn search_plain<'a, H: Shelf>(
     requires empty { ⟦<ShelfLedger<'a> as LedgerView>⟧.lines ledger ≡ [] }
     requires agrees { ⟦<ShelfLedger<'a> as Ledger<H>>⟧.agrees ledger store.old }
     ensures moves { ShelfMoves (beside ledger.entry (H.tells store.old) (H.file store.old)) (beside ledger.entry (H.tells store.new) (H.file store.new)) }
-    ensures agrees { IfOk result (λ found. ShelfAgrees (beside ledger.entry (H.tells store.new) (H.file store.new)) found.lines.items) }
-    ensures search { IfOk result (λ found. IsSearch formula.now (⟦<ShelfLedger<'a> as LedgerView>⟧.limit ledger.entry) found.lines.items found.answer) }
+    ensures agrees { IfOk result (λ found. ShelfAgrees (beside ledger.entry (H.tells store.new) (H.file store.new)) found.lines) }
+    ensures search { IfOk result (λ found. IsSearch formula.now (⟦<ShelfLedger<'a> as LedgerView>⟧.limit ledger.entry) found.lines found.answer) }
     ensures cause { HasCause EngineFault.ShelfFailed (H.faults store.old) (H.faults store.new) result }
 {
     let mut ledger = ledger;
@@ -65,8 +65,8 @@ fn search_checked<'a, H: Shelf>(
     requires limit { ⟦<ShelfLedger<'a> as LedgerView>⟧.limit ledger ≡ limit }
     requires agrees { ⟦<ShelfLedger<'a> as Ledger<H>>⟧.agrees ledger store.old }
     ensures moves { ShelfMoves (beside ledger.entry (H.tells store.old) (H.file store.old)) (beside ledger.entry (H.tells store.new) (H.file store.new)) }
-    ensures agrees { IfOk result (λ found. ShelfAgrees (beside ledger.entry (H.tells store.new) (H.file store.new)) found.lines.items) }
-    ensures search { IfOk result (λ found. IsSearch formula.now limit found.lines.items found.answer) }
+    ensures agrees { IfOk result (λ found. ShelfAgrees (beside ledger.entry (H.tells store.new) (H.file store.new)) found.lines) }
+    ensures search { IfOk result (λ found. IsSearch formula.now limit found.lines found.answer) }
     ensures cause { HasCause EngineFault.ShelfFailed (H.faults store.old) (H.faults store.new) result }
 {
     let mut pair = PairLedger::new(CheckedLedger::new(alloc, formula, limit)?, ledger);
@@ -92,9 +92,9 @@ pub(crate) fn search<H: Shelf>(
     ensures told { Tells (H.tells store.old) (H.tells store.new) }
     ensures begins { IsTrue (H.tells store.new) → BeginsOwn formula.now part candidate (H.file store.old) (H.file store.new) }
     ensures formula { IsTrue (H.tells store.new) → H.file store.new (file_of FileKind.Cnf part candidate) ≡ H.file store.old (file_of FileKind.Cnf part candidate) }
-    ensures lines { IsTrue (H.tells store.new) → IfOk result (λ found. HasLines part candidate found.lines.items (H.file store.new)) }
-    ensures implied { IfOk result (λ found. AllImplied (start_of formula.now) found.lines.items) }
-    ensures search { IfOk result (λ found. IsSearch formula.now limit found.lines.items found.answer) }
+    ensures lines { IsTrue (H.tells store.new) → IfOk result (λ found. HasLines part candidate found.lines (H.file store.new)) }
+    ensures implied { IfOk result (λ found. AllImplied (start_of formula.now) found.lines) }
+    ensures search { IfOk result (λ found. IsSearch formula.now limit found.lines found.answer) }
     ensures cause { HasCause EngineFault.ShelfFailed (H.faults store.old) (H.faults store.new) result }
 {
     let place = (candidate.s, candidate.r, candidate.c);

@@ -40,9 +40,9 @@ fn find<H: Shelf>(
     ensures told { Tells (H.tells store.old) (H.tells store.new) }
     ensures begins { IsTrue (H.tells store.new) → BeginsOwn formula.now part candidate (H.file store.old) (H.file store.new) }
     ensures text { IsTrue (H.tells store.new) → IfOk result (λ _. HasText formula.now part candidate (H.file store.new)) }
-    ensures lines { IsTrue (H.tells store.new) → IfOk result (λ found. HasLines part candidate found.lines.items (H.file store.new)) }
-    ensures implied { IfOk result (λ found. AllImplied (start_of formula.now) found.lines.items) }
-    ensures search { IfOk result (λ found. IsSearch formula.now limit found.lines.items found.answer) }
+    ensures lines { IsTrue (H.tells store.new) → IfOk result (λ found. HasLines part candidate found.lines (H.file store.new)) }
+    ensures implied { IfOk result (λ found. AllImplied (start_of formula.now) found.lines) }
+    ensures search { IfOk result (λ found. IsSearch formula.now limit found.lines found.answer) }
     ensures cause { HasCause EngineFault.ShelfFailed (H.faults store.old) (H.faults store.new) result }
 {
     write_formula(alloc, formula, store, part, candidate)?;
@@ -62,14 +62,14 @@ fn keep<H: Shelf>(
 ) -> Result<Attempt, EngineFault>
     requires encoding { IsEncoding encoded.now.encoding }
     requires models { (values : List Bool) → Satisfies values (formula_in encoded.now) → Satisfies values encoded.now.encoding.formula }
-    requires search { IsSearch (formula_in encoded.now) limit found.lines.items found.answer }
-    requires has { IsTrue (H.tells store.old) → HasLines part candidate found.lines.items (H.file store.old) }
+    requires search { IsSearch (formula_in encoded.now) limit found.lines found.answer }
+    requires has { IsTrue (H.tells store.old) → HasLines part candidate found.lines (H.file store.old) }
     ensures told { Tells (H.tells store.old) (H.tells store.new) }
     ensures begins { IsTrue (H.tells store.new) → (f : FormulaValue) → BeginsOwn f part candidate (H.file store.old) (H.file store.new) }
     ensures formula { IsTrue (H.tells store.new) → H.file store.new (file_of FileKind.Cnf part candidate) ≡ H.file store.old (file_of FileKind.Cnf part candidate) }
     ensures tidy { IsTrue (H.tells store.new) → IfOk result (λ attempt. IsTidy (kind_of attempt.outcome) part candidate (H.file store.old) (H.file store.new)) }
     ensures says { IfOk result (λ attempt. Says encoded.now.encoding found.answer limit attempt.outcome) }
-    ensures lines { IfOk result (λ attempt. attempt.lines.items ≡ found.lines.items) }
+    ensures lines { IfOk result (λ attempt. attempt.lines ≡ found.lines) }
     ensures cause { HasCause EngineFault.ShelfFailed (H.faults store.old) (H.faults store.new) result }
 {
     let Found { answer, lines } = found;
@@ -93,7 +93,7 @@ pub(crate) fn try_candidate<H: Shelf>(
     ensures told { Tells (H.tells store.old) (H.tells store.new) }
     ensures begins { IsTrue (H.tells store.new) → BeginsOwn (formula_for (asked question.now) candidate) part candidate (H.file store.old) (H.file store.new) }
     ensures files { IsTrue (H.tells store.new) → IfOk result (λ attempt. HasFiles part (asked question.now) (H.file store.new) (candidate, kind_of attempt.outcome)) }
-    ensures outcome { IfOk result (λ attempt. IsOutcome (asked question.now) candidate (formula_for (asked question.now) candidate) attempt.lines.items attempt.outcome) }
+    ensures outcome { IfOk result (λ attempt. IsOutcome (asked question.now) candidate (formula_for (asked question.now) candidate) attempt.lines attempt.outcome) }
     ensures cause { HasCause EngineFault.ShelfFailed (H.faults store.old) (H.faults store.new) result }
 {
     let pruning = question.limits.pruning();

@@ -20,9 +20,10 @@ ghost use Rattle.candidate_solver.specs.Single.{proved-prop};
 use crate::trying::try_candidate;
 use candidate_order::{Candidate, Limits, Outcome};
 use candidate_solver::{Attempt, Question};
-use cnf_formula::{OutOfMemory, ProofLine};
+use cnf_formula::OutOfMemory;
 use collective_spec::{Kind, Spec};
 use engine_rules::{Engine, EngineFault, EngineView, Record, Settled};
+use ledger_rules::LineList;
 use schedule::Topology;
 use std::alloc::Global;
 
@@ -33,10 +34,10 @@ use std::alloc::Global;
 pub struct OrderedEngine {
     question: Question,
     tried: Record,
-    log: Vec<ProofLine>,
+    log: LineList,
     ghost right: { (x : Candidate) → Contains tried.entries (x, settled.Refuted) → IsSolvable (asked question) x → ⊥ },
     ghost exhausted: { (x : Candidate) → Contains tried.entries (x, settled.Unknown) → Exhausted (ordered_formula_for (asked question) x) question.limits.conflicts },
-    pub ghost proved: { (before : RecordValue) (x : Candidate) → tried.entries ≡ before ++ (x, settled.Refuted) ∷ [] → Refutes (map Addition log.items) (ordered_formula_for (asked question) x) } by { proved-prop tried.entries log.items (ordered_formula_for (asked question)) },
+    pub ghost proved: { (before : RecordValue) (x : Candidate) → tried.entries ≡ before ++ (x, settled.Refuted) ∷ [] → Refutes (map Addition log) (ordered_formula_for (asked question) x) } by { proved-prop tried.entries log (ordered_formula_for (asked question)) },
 }
 
 impl OrderedEngine {
@@ -61,17 +62,17 @@ impl OrderedEngine {
         Ok(OrderedEngine {
             question: Question::new(topology, spec, limits)?,
             tried: Record::new(alloc),
-            log: Vec::new(alloc),
+            log: LineList::new(alloc),
         })
     }
 
     /// Adds a candidate to the record, for which there is room, and keeps the lines of its search.
-    fn note(&mut self, candidate: Candidate, kind: Settled, lines: Vec<ProofLine>)
+    fn note(&mut self, candidate: Candidate, kind: Settled, lines: LineList)
         requires room { 0 < self.old.tried.room }
         requires within { IsWithin (asked self.old.question) candidate }
-        requires proved { IsProved (ordered_formula_for (asked self.old.question) candidate) self.old.question.limits.conflicts lines.items kind }
+        requires proved { IsProved (ordered_formula_for (asked self.old.question) candidate) self.old.question.limits.conflicts lines kind }
         ensures entries { self.new.tried.entries ≡ self.old.tried.entries ++ (candidate, kind) ∷ [] }
-        ensures log { self.new.log.items ≡ lines.items }
+        ensures log { self.new.log ≡ lines }
         ensures question { self.new.question ≡ self.old.question }
         ensures stopped { self.new.tried.stopped ≡ self.old.tried.stopped }
     {
@@ -89,13 +90,13 @@ impl EngineView for OrderedEngine {
 
     ghost stopped = { λ e. e.tried.stopped };
 
-    ghost log_lines = { λ e. e.log.items };
+    ghost log_lines = { λ e. e.log };
 
     ghost formula = { λ e x. ordered_formula_for (asked e.question) x };
 
     ghost suits = { λ e x schedule. OrderedFor (asked e.question) x schedule };
 
-    fn log(&self) -> &[ProofLine] {
+    fn log(&self) -> &LineList {
         &self.log
     }
 

@@ -12,7 +12,7 @@ use std::alloc::Global;
 /// Searches for a model of a formula, or a refutation, and learns at most so many lines, which are
 /// kept in memory. The only error is `OutOfMemory`.
 pub(crate) fn search(alloc: Global, formula: &Formula, limit: u32) -> Result<Found, OutOfMemory>
-    ensures { IfOk result (λ found. IsSearch formula.now limit found.lines.items found.answer) }
+    ensures { IfOk result (λ found. IsSearch formula.now limit found.lines found.answer) }
 {
     let first = CheckedLedger::new(alloc, formula, limit)?;
     let second = KeptLedger::new(alloc, formula, limit)?;

@@ -20,7 +20,7 @@ pub(crate) fn try_candidate(
     candidate: Candidate,
 ) -> Result<Attempt, OutOfMemory>
     requires { IsWithin (asked question.now) candidate }
-    ensures { IfOk result (λ attempt. IsOrderedOutcome (asked question.now) candidate attempt.lines.items attempt.outcome) }
+    ensures { IfOk result (λ attempt. IsOrderedOutcome (asked question.now) candidate attempt.lines attempt.outcome) }
 {
     let order = Pruning {
         cuts: false,

@@ -1,14 +1,15 @@
 //! A ledger that checks each line (as RUP along its hints).
 
-ghost use Rattle.std.specs.Prelude.{◌≡◌, ◌≤◌, ◌<◌, ◌+◌, [], ◌∷◌, ◌++◌, true, false, length, vec_len, vec_capacity, refl, IfOk, OnErr, OnOk};
+ghost use Rattle.std.specs.Prelude.{◌≡◌, ◌≤◌, ◌+◌, List, [], ◌∷◌, ◌++◌, true, false, length, refl, IfOk, OnErr, OnOk};
+ghost use Rattle.cnf_formula.specs.Formulas.{FormulaValue};
+ghost use Rattle.cnf_formula.specs.Lines.{ProofLineValue};
 ghost use Rattle.proof_rules.specs.declared.verdict.LineVerdict.TheVariants.{Accepted};
 ghost use Rattle.proof_rules.specs.Judging.{verdict_of};
-ghost use Rattle.proof_rules.specs.Refuting.{with_line};
 ghost use Rattle.ledger_rules.specs.Logs.{checker_of, learned};
 
 use crate::kept::KeptLedger;
 use cnf_formula::{Formula, OutOfMemory, ProofLine};
-use ledger_rules::{Ledger, LedgerFault, LedgerView};
+use ledger_rules::{Ledger, LedgerFault, LedgerView, LineList};
 use lrat_checker::{Checker, LineVerdict};
 use std::alloc::Global;
 
@@ -17,16 +18,16 @@ use std::alloc::Global;
 #[derive(Drop)]
 pub struct CheckedLedger<'a> {
     pub(crate) kept: KeptLedger<'a>,
-    checker: Checker,
+    pub(crate) checker: Checker,
     /// The checker has accepted a line that is not kept: a fault came between the two.
     pub(crate) ahead: bool,
-    ghost checks: { ahead ≡ false → checker ≡ checker_of kept.base.now kept.lines.items },
+    ghost checks: { ahead ≡ false → checker ≡ checker_of kept.base.now kept.lines },
 }
 
 /// Gives the checker a line that it accepts.
-fn accept(checker: &mut Checker, line: &ProofLine) -> Result<(), OutOfMemory>
+pub(crate) fn accept(checker: &mut Checker, line: &ProofLine) -> Result<(), OutOfMemory>
     requires { verdict_of checker.old line.now ≡ Accepted true }
-    ensures accepted { OnOk result (checker.new ≡ with_line checker.old line.now) }
+    ensures accepted { OnOk result ((base : FormulaValue) (lines : List ProofLineValue) → checker.old ≡ checker_of base lines → checker.new ≡ checker_of base (lines ++ line.now ∷ [])) }
     ensures kept { OnErr result (checker.new ≡ checker.old) }
 {
     match checker.add(line)? {
@@ -54,47 +55,33 @@ impl<'a> CheckedLedger<'a> {
     }
 
     /// The lines, in the order in which they were added.
-    pub fn lines(&self) -> &[ProofLine]
+    pub fn lines(&self) -> &LineList
         ensures { result.now ≡ ⟦<CheckedLedger<'a> as LedgerView>⟧.lines self.now }
     {
         self.kept.lines()
     }
 
-    /// Gives the checker a line, and makes room for it and a copy. The lines stay. Where the checker
-    /// is ahead of the lines already, since a line that was prepared was not committed, out of
-    /// memory is answered.
-    pub(crate) fn prepare(&mut self, line: &ProofLine) -> Result<ProofLine, OutOfMemory>
-        requires { verdict_of (checker_of self.old.kept.base.now self.old.kept.lines.items) line.now ≡ Accepted true }
-        ensures copy { IfOk result (λ copy. copy ≡ line.now) }
-        ensures ahead { OnOk result (self.new.checker ≡ checker_of self.old.kept.base.now (self.old.kept.lines.items ++ line.now ∷ [])) }
-        ensures room { OnOk result (vec_len self.new.kept.lines < vec_capacity self.new.kept.lines) }
+    /// Gives the checker a line, and keeps it, for this much. Where the checker is ahead of the lines
+    /// already, since a line that it has accepted was not kept, out of memory is answered.
+    fn keep(&mut self, line: &ProofLine, charge: u32) -> Result<(), OutOfMemory>
+        requires implied { verdict_of (checker_of self.old.kept.base.now self.old.kept.lines) line.now ≡ Accepted true }
+        requires within { self.old.kept.spent + charge ≤ self.old.kept.limit }
+        requires charged { self.old.kept.spent + charge ≡ length (learned (self.old.kept.lines ++ line.now ∷ [])) }
         ensures base { self.new.kept.base.now ≡ self.old.kept.base.now }
-        ensures lines { self.new.kept.lines.items ≡ self.old.kept.lines.items }
-        ensures spent { self.new.kept.spent ≡ self.old.kept.spent }
+        ensures lines { OnOk result (self.new.kept.lines ≡ self.old.kept.lines ++ line.now ∷ []) }
+        ensures spent { OnOk result (self.new.kept.spent ≡ self.old.kept.spent + charge) }
+        ensures kept_lines { OnErr result (self.new.kept.lines ≡ self.old.kept.lines) }
+        ensures kept_spent { OnErr result (self.new.kept.spent ≡ self.old.kept.spent) }
         ensures limit { self.new.kept.limit ≡ self.old.kept.limit }
     {
         if self.ahead {
             return Err(OutOfMemory);
         }
-        let copy = self.kept.prepare(line)?;
         accept(&mut self.checker, line)?;
         self.ahead = true;
-        Ok(copy)
-    }
-
-    /// Keeps a line that was prepared, and charges this much.
-    pub(crate) fn commit(&mut self, copy: ProofLine, charge: u32)
-        requires ahead { self.old.checker ≡ checker_of self.old.kept.base.now (self.old.kept.lines.items ++ copy ∷ []) }
-        requires room { vec_len self.old.kept.lines < vec_capacity self.old.kept.lines }
-        requires within { self.old.kept.spent + charge ≤ self.old.kept.limit }
-        requires charged { self.old.kept.spent + charge ≡ length (learned (self.old.kept.lines.items ++ copy ∷ [])) }
-        ensures base { self.new.kept.base.now ≡ self.old.kept.base.now }
-        ensures lines { self.new.kept.lines.items ≡ self.old.kept.lines.items ++ copy ∷ [] }
-        ensures spent { self.new.kept.spent ≡ self.old.kept.spent + charge }
-        ensures limit { self.new.kept.limit ≡ self.old.kept.limit }
-    {
-        self.kept.commit(copy, charge);
+        self.kept.keep(line, charge)?;
         self.ahead = false;
+        Ok(())
     }
 }
 
@@ -126,14 +113,12 @@ impl<'a, T> Ledger<T> for CheckedLedger<'a> {
     ghost moves = { λ _ before _ now. now ≡ before };
 
     fn learn(&mut self, store: &mut T, line: &ProofLine) -> Result<(), LedgerFault> {
-        let copy = self.prepare(line)?;
-        self.commit(copy, 1);
+        self.keep(line, 1)?;
         Ok(())
     }
 
     fn close(&mut self, store: &mut T, line: &ProofLine) -> Result<(), LedgerFault> {
-        let copy = self.prepare(line)?;
-        self.commit(copy, 0);
+        self.keep(line, 0)?;
         Ok(())
     }
 

@@ -1,12 +1,10 @@
 //! A ledger that keeps its lines, the learned clauses as LRAT additions, in memory.
 
-ghost use Rattle.std.specs.Prelude.{◌≡◌, ◌≤◌, ◌<◌, ◌+◌, [], ◌∷◌, ◌++◌, length, vec_len, vec_capacity, refl, IfOk, OnOk};
+ghost use Rattle.std.specs.Prelude.{◌≡◌, ◌≤◌, ◌+◌, [], ◌∷◌, ◌++◌, length, refl, IfOk, OnOk, OnErr};
 ghost use Rattle.ledger_rules.specs.Logs.{learned};
-ghost use Rattle.conflict_ledger.specs.Shelved.{log_text};
 
 use cnf_formula::{Formula, OutOfMemory, ProofLine};
-use ledger_rules::{Ledger, LedgerFault, LedgerView};
-use lrat_text::print_line;
+use ledger_rules::{Ledger, LedgerFault, LedgerView, LineList};
 use std::alloc::Global;
 
 /// Keeps its lines in memory, and writes nothing: it works beside any store. Its formula is lent to
@@ -14,11 +12,11 @@ use std::alloc::Global;
 #[derive(Drop)]
 pub struct KeptLedger<'a> {
     base: &'a Formula,
-    lines: Vec<ProofLine>,
+    lines: LineList,
     spent: u32,
     limit: u32,
     ghost within: { spent ≤ limit },
-    ghost charged: { spent ≡ length (learned lines.items) },
+    ghost charged: { spent ≡ length (learned lines) },
 }
 
 impl<'a> KeptLedger<'a> {
@@ -34,59 +32,39 @@ impl<'a> KeptLedger<'a> {
     {
         Ok(KeptLedger {
             base: formula,
-            lines: Vec::new(alloc),
+            lines: LineList::new(alloc),
             spent: 0,
             limit,
         })
     }
 
-    /// The text of a line (LRAT, Cruz-Filipe et al. 2017).
-    pub(crate) fn text_of(&self, line: &ProofLine) -> Result<Vec<u8>, OutOfMemory>
-        ensures { IfOk result (λ text. text.items ≡ log_text (line.now ∷ [])) }
-    {
-        let mut text = Vec::new(*self.lines.allocator());
-        print_line(&mut text, line)?;
-        Ok(text)
-    }
-
-    /// Makes room for a line, and a copy of it. The lines stay.
-    pub(crate) fn prepare(&mut self, line: &ProofLine) -> Result<ProofLine, OutOfMemory>
-        ensures copy { IfOk result (λ copy. copy ≡ line.now) }
-        ensures room { OnOk result (vec_len self.new.lines < vec_capacity self.new.lines) }
-        ensures base { self.new.base.now ≡ self.old.base.now }
-        ensures lines { self.new.lines.items ≡ self.old.lines.items }
-        ensures spent { self.new.spent ≡ self.old.spent }
-        ensures limit { self.new.limit ≡ self.old.limit }
-    {
-        let copy = line.clone()?;
-        self.lines.reserve(1)?;
-        Ok(copy)
-    }
-
-    /// Keeps a line that was prepared, and charges this much.
-    pub(crate) fn commit(&mut self, copy: ProofLine, charge: u32)
-        requires room { vec_len self.old.lines < vec_capacity self.old.lines }
+    /// Keeps a line, and charges this much. An `Err` comes where [`LineList::push`] gives one, and then
+    /// the ledger is as before.
+    pub(crate) fn keep(&mut self, line: &ProofLine, charge: u32) -> Result<(), OutOfMemory>
         requires within { self.old.spent + charge ≤ self.old.limit }
-        requires charged { self.old.spent + charge ≡ length (learned (self.old.lines.items ++ copy ∷ [])) }
+        requires charged { self.old.spent + charge ≡ length (learned (self.old.lines ++ line.now ∷ [])) }
         ensures base { self.new.base.now ≡ self.old.base.now }
-        ensures lines { self.new.lines.items ≡ self.old.lines.items ++ copy ∷ [] }
-        ensures spent { self.new.spent ≡ self.old.spent + charge }
+        ensures lines { OnOk result (self.new.lines ≡ self.old.lines ++ line.now ∷ []) }
+        ensures spent { OnOk result (self.new.spent ≡ self.old.spent + charge) }
+        ensures kept_lines { OnErr result (self.new.lines ≡ self.old.lines) }
+        ensures kept_spent { OnErr result (self.new.spent ≡ self.old.spent) }
         ensures limit { self.new.limit ≡ self.old.limit }
     {
-        self.lines.push_reserved(copy);
+        self.lines.push(line)?;
         self.spent += charge;
+        Ok(())
     }
 
     /// The lines, in the order in which they were added.
-    pub fn lines(&self) -> &[ProofLine]
+    pub fn lines(&self) -> &LineList
         ensures { result.now ≡ ⟦<KeptLedger<'a> as LedgerView>⟧.lines self.now }
     {
         &self.lines
     }
 
     /// The lines, in the order in which they were added.
-    pub fn into_lines(self) -> Vec<ProofLine>
-        ensures { result.items ≡ ⟦<KeptLedger<'a> as LedgerView>⟧.lines self.entry }
+    pub fn into_lines(self) -> LineList
+        ensures { result ≡ ⟦<KeptLedger<'a> as LedgerView>⟧.lines self.entry }
     {
         self.lines
     }
@@ -95,7 +73,7 @@ impl<'a> KeptLedger<'a> {
 impl<'a> LedgerView for KeptLedger<'a> {
     ghost base = { λ ledger. ledger.base.now };
 
-    ghost lines = { λ ledger. ledger.lines.items };
+    ghost lines = { λ ledger. ledger.lines };
 
     ghost spent = { λ ledger. ledger.spent };
 
@@ -120,14 +98,12 @@ impl<'a, T> Ledger<T> for KeptLedger<'a> {
     ghost moves = { λ _ before _ now. now ≡ before };
 
     fn learn(&mut self, store: &mut T, line: &ProofLine) -> Result<(), LedgerFault> {
-        let copy = self.prepare(line)?;
-        self.commit(copy, 1);
+        self.keep(line, 1)?;
         Ok(())
     }
 
     fn close(&mut self, store: &mut T, line: &ProofLine) -> Result<(), LedgerFault> {
-        let copy = self.prepare(line)?;
-        self.commit(copy, 0);
+        self.keep(line, 0)?;
         Ok(())
     }
 

@@ -1,46 +1,52 @@
 //! Two ledgers of the same lines.
 
-ghost use Rattle.std.specs.Prelude.{◌≡◌, []};
+ghost use Rattle.std.specs.Prelude.{◌≡◌, false, []};
+ghost use Rattle.ledger_rules.specs.Logs.{checker_of};
 
-use crate::checked::CheckedLedger;
+use crate::checked::{CheckedLedger, accept};
 use cnf_formula::ProofLine;
 use ledger_rules::{Ledger, LedgerFault, LedgerView};
+use lrat_checker::Checker;
 
-/// Gives each line to a checked ledger and to another, beside whose stores it works.
+/// Gives each line to a checker and to another ledger, beside whose stores it works.
 #[derive(Drop)]
-pub struct PairLedger<'a, B: LedgerView> {
-    first: CheckedLedger<'a>,
+pub struct PairLedger<B: LedgerView> {
+    checker: Checker,
+    /// The checker has accepted a line that is not kept: a fault came between the two.
+    ahead: bool,
     second: B,
-    ghost same_base: { first.kept.base.now ≡ B.base second },
-    ghost same_lines: { first.kept.lines.items ≡ B.lines second },
-    ghost same_spent: { first.kept.spent ≡ B.spent second },
-    ghost same_limit: { first.kept.limit ≡ B.limit second },
+    ghost checks: { ahead ≡ false → checker ≡ checker_of (B.base second) (B.lines second) },
 }
 
-impl<'a, B: LedgerView> PairLedger<'a, B> {
-    /// The two as one. They have one formula and one limit, and no line.
-    pub fn new(first: CheckedLedger<'a>, second: B) -> PairLedger<'a, B>
+impl<B: LedgerView> PairLedger<B> {
+    /// The two as one. They have one formula and one limit, and no line, so of the first no more than
+    /// its checker is needed.
+    pub fn new<'a>(first: CheckedLedger<'a>, second: B) -> PairLedger<B>
         requires base { ⟦<CheckedLedger<'a> as LedgerView>⟧.base first ≡ B.base second }
         requires limit { ⟦<CheckedLedger<'a> as LedgerView>⟧.limit first ≡ B.limit second }
         requires empty { ⟦<CheckedLedger<'a> as LedgerView>⟧.lines first ≡ [] }
         requires none { B.lines second ≡ [] }
         ensures second { result.second ≡ second }
-        ensures base { ⟦<PairLedger<'a, B> as LedgerView>⟧.base result ≡ B.base second }
-        ensures lines { ⟦<PairLedger<'a, B> as LedgerView>⟧.lines result ≡ [] }
-        ensures limit { ⟦<PairLedger<'a, B> as LedgerView>⟧.limit result ≡ B.limit second }
+        ensures base { ⟦<PairLedger<B> as LedgerView>⟧.base result ≡ B.base second }
+        ensures lines { ⟦<PairLedger<B> as LedgerView>⟧.lines result ≡ [] }
+        ensures limit { ⟦<PairLedger<B> as LedgerView>⟧.limit result ≡ B.limit second }
     {
-        PairLedger { first, second }
+        PairLedger {
+            checker: first.checker,
+            ahead: first.ahead,
+            second,
+        }
     }
 
     /// The second.
     pub fn into_second(self) -> B
-        ensures second { result ≡ self.entry.second }
+        ensures second { result ≡ self.second }
     {
         self.second
     }
 }
 
-impl<'a, B: LedgerView> LedgerView for PairLedger<'a, B> {
+impl<B: LedgerView> LedgerView for PairLedger<B> {
     ghost base = { λ pair. B.base pair.second };
 
     ghost lines = { λ pair. B.lines pair.second };
@@ -58,7 +64,7 @@ impl<'a, B: LedgerView> LedgerView for PairLedger<'a, B> {
     ghost charged = { λ pair. B.charged pair.second };
 }
 
-impl<'a, T, B: Ledger<T>> Ledger<T> for PairLedger<'a, B> {
+impl<T, B: Ledger<T>> Ledger<T> for PairLedger<B> {
     ghost faults = { λ pair store. B.faults pair.second store };
 
     ghost agrees = { λ pair store. B.agrees pair.second store };
@@ -66,16 +72,24 @@ impl<'a, T, B: Ledger<T>> Ledger<T> for PairLedger<'a, B> {
     ghost moves = { λ pair store later now. B.moves pair.second store later.second now };
 
     fn learn(&mut self, store: &mut T, line: &ProofLine) -> Result<(), LedgerFault> {
-        let copy = self.first.prepare(line)?;
+        if self.ahead {
+            return Err(LedgerFault::OutOfMemory);
+        }
+        accept(&mut self.checker, line)?;
+        self.ahead = true;
         self.second.learn(store, line)?;
-        self.first.commit(copy, 1);
+        self.ahead = false;
         Ok(())
     }
 
     fn close(&mut self, store: &mut T, line: &ProofLine) -> Result<(), LedgerFault> {
-        let copy = self.first.prepare(line)?;
+        if self.ahead {
+            return Err(LedgerFault::OutOfMemory);
+        }
+        accept(&mut self.checker, line)?;
+        self.ahead = true;
         self.second.close(store, line)?;
-        self.first.commit(copy, 0);
+        self.ahead = false;
         Ok(())
     }
 

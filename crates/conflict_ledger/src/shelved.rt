@@ -1,13 +1,14 @@
 //! A ledger that writes its lines, the learned clauses as LRAT additions, to a shelf.
 
-ghost use Rattle.std.specs.Prelude.{◌≡◌, ◌≢◌, ◌⊎◌, ℕ, ◌<◌, ◌++◌, [], List, Some, IsTrue, take, IfOk, OnOk};
+ghost use Rattle.std.specs.Prelude.{◌≡◌, ◌≢◌, ◌⊎◌, ℕ, ◌<◌, ◌++◌, [], ◌∷◌, List, Some, IsTrue, take, IfOk, OnOk};
 ghost use Rattle.outer_ports.specs.Port.{HasCause, Tells};
 ghost use Rattle.outer_ports.specs.Shelf.{OthersStay};
-ghost use Rattle.conflict_ledger.specs.Shelved.{log_name};
+ghost use Rattle.conflict_ledger.specs.Shelved.{log_name, log_text};
 
 use crate::kept::KeptLedger;
-use cnf_formula::{Formula, ProofLine};
-use ledger_rules::{Ledger, LedgerFault, LedgerView};
+use cnf_formula::{Formula, OutOfMemory, ProofLine};
+use ledger_rules::{Ledger, LedgerFault, LedgerView, LineList};
+use lrat_text::print_line;
 use outer_ports::{FileKind, Part, ProofName, Shelf, append_all};
 use std::alloc::Global;
 
@@ -19,7 +20,18 @@ pub struct ShelfLedger<'a> {
     kept: KeptLedger<'a>,
     lrat: ProofName,
     partial: ProofName,
+    /// The text of a line, whose memory serves the next.
+    text: Vec<u8>,
     ghost apart: { lrat ≢ partial },
+}
+
+/// Writes the text of a line (LRAT, Cruz-Filipe et al. 2017) in place of what was written before.
+fn write_text(text: &mut Vec<u8>, line: &ProofLine) -> Result<(), OutOfMemory>
+    ensures { OnOk result (text.new.items ≡ log_text (line.now ∷ [])) }
+{
+    text.clear();
+    print_line(text, line)?;
+    Ok(())
 }
 
 /// Appends a text to a file. After a fault a part of the text was appended, from its front.
@@ -81,12 +93,13 @@ impl<'a> ShelfLedger<'a> {
             kept,
             lrat,
             partial,
+            text: Vec::new(alloc),
         })
     }
 
     /// The lines, in the order in which they were added.
-    pub fn into_lines(self) -> Vec<ProofLine>
-        ensures { result.items ≡ ⟦<ShelfLedger<'a> as LedgerView>⟧.lines self.entry }
+    pub fn into_lines(self) -> LineList
+        ensures { result ≡ ⟦<ShelfLedger<'a> as LedgerView>⟧.lines self.entry }
     {
         self.kept.into_lines()
     }
@@ -121,16 +134,16 @@ impl<'a, H: Shelf> Ledger<H> for ShelfLedger<'a> {
     ghost moves = { λ a r b s. ShelfMoves (beside a (H.tells r) (H.file r)) (beside b (H.tells s) (H.file s)) };
 
     fn learn(&mut self, store: &mut H, line: &ProofLine) -> Result<(), LedgerFault> {
-        let text = self.kept.text_of(line)?;
-        put(store, self.lrat, &text)?;
-        put(store, self.partial, &text)?;
+        write_text(&mut self.text, line)?;
+        put(store, self.lrat, &self.text)?;
+        put(store, self.partial, &self.text)?;
         self.kept.learn(&mut (), line)?;
         Ok(())
     }
 
     fn close(&mut self, store: &mut H, line: &ProofLine) -> Result<(), LedgerFault> {
-        let text = self.kept.text_of(line)?;
-        put(store, self.lrat, &text)?;
+        write_text(&mut self.text, line)?;
+        put(store, self.lrat, &self.text)?;
         self.kept.close(&mut (), line)?;
         Ok(())
     }

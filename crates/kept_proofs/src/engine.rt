@@ -22,9 +22,10 @@ ghost use Rattle.engine_rules.specs.declared.settled.Settled.TheVariants as sett
 use crate::judging::take_up;
 use candidate_order::{Candidate, Limits, Outcome};
 use candidate_solver::{Question, SatEngine};
-use cnf_formula::{OutOfMemory, ProofLine};
+use cnf_formula::OutOfMemory;
 use collective_spec::{Kind, Spec};
 use engine_rules::{Engine, EngineFault, EngineView, Record, Settled};
+use ledger_rules::LineList;
 use outer_ports::{Part, Shelf};
 use schedule::Topology;
 use std::alloc::Global;
@@ -122,7 +123,7 @@ impl EngineView for KeptEngine {
 
     ghost suits = { λ e x schedule. ⟦<SatEngine as EngineView>⟧.suits e.inner x schedule };
 
-    fn log(&self) -> &[ProofLine] {
+    fn log(&self) -> &LineList {
         self.inner.log()
     }
 

@@ -3,7 +3,10 @@
 #![tactic(auto)]
 
 mod fault;
+mod hints;
 mod ledger;
+mod line_list;
 
 pub use fault::LedgerFault;
 pub use ledger::{Ledger, LedgerView};
+pub use line_list::LineList;

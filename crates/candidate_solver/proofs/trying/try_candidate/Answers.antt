@@ -49,7 +49,7 @@ returns-clause-files g c = λ t.
     let f = c.formula-formula.result.now in
     let same = c.formula-formula.ensures ∙ c.in_ok-encoded.ensures.formula question.limits (sym c.pruning-pruning.ensures) in
     both_ok c.keep.result _ _ _
-    (λ attempt tidy says. has_files q c.args.part x c.in_ok-encoded.encoded.encoding f found.lines.items found.answer attempt.outcome (F c.find.new.store) (F c.keep.new.store)
+    (λ attempt tidy says. has_files q c.args.part x c.in_ok-encoded.encoded.encoding f found.lines found.answer attempt.outcome (F c.find.new.store) (F c.keep.new.store)
     (record {
       same = same;
       small = formula_small q x f same question.small c.requires.within;
@@ -58,7 +58,7 @@ returns-clause-files g c = λ t.
       kept = c.keep.ensures.formula t;
       has = c.in_ok-found.ensures.lines told;
       implied = c.in_ok-found.ensures.implied;
-      search = subst (λ n. IsSearch f n found.lines.items found.answer) c.conflicts-limit.ensures.conflicts c.in_ok-found.ensures.search;
+      search = subst (λ n. IsSearch f n found.lines found.answer) c.conflicts-limit.ensures.conflicts c.in_ok-found.ensures.search;
     })
     (subst (λ n. Says c.in_ok-encoded.encoded.encoding found.answer n attempt.outcome) c.conflicts-limit.ensures.conflicts says) tidy)
     (c.keep.ensures.tidy t) c.keep.ensures.says
@@ -71,7 +71,7 @@ returns-clause-outcome g c =
     let found = c.in_ok-found.found in
     both_ok c.keep.result _ _ _
     (λ attempt lines says. subst (λ ls. IsOutcome q x (formula_for q x) ls attempt.outcome) (sym lines)
-    (outcome_by q x c.in_ok-encoded.encoded.encoding c.formula-formula.result.now found.lines.items found.answer c.conflicts-limit.result attempt.outcome question.small
+    (outcome_by q x c.in_ok-encoded.encoded.encoding c.formula-formula.result.now found.lines found.answer c.conflicts-limit.result attempt.outcome question.small
     (c.formula-formula.ensures ∙ c.in_ok-encoded.ensures.formula question.limits (sym c.pruning-pruning.ensures)) c.conflicts-limit.ensures.conflicts (c.in_ok-encoded.ensures.encoding question.limits)
     (λ values holds. c.in_ok-encoded.ensures.suits question.limits (sym c.pruning-pruning.ensures) values (subst (Satisfies values) c.formula-formula.ensures holds)) c.in_ok-found.ensures.search says))
     c.keep.ensures.lines c.keep.ensures.says

@@ -28,6 +28,6 @@ returns c =
     let question = c.args.question.now in
     let q : QuestionValue = asked question in
     let found = c.in_ok-answer.field-0 in
-    ordered_by q c.args.candidate c.in_ok-encoded.encoded.encoding c.formula-formula.result.now found.lines.items found.answer c.conflicts-limit.result c.in_ok-outcome.outcome question.small
+    ordered_by q c.args.candidate c.in_ok-encoded.encoded.encoding c.formula-formula.result.now found.lines found.answer c.conflicts-limit.result c.in_ok-outcome.outcome question.small
     (c.formula-formula.ensures ∙ c.in_ok-encoded.ensures.formula (ordered_limits question.limits) refl) c.conflicts-limit.ensures.conflicts (c.in_ok-encoded.ensures.encoding question.limits)
     (λ values holds. c.in_ok-encoded.ensures.suits (ordered_limits question.limits) refl values (subst (Satisfies values) c.formula-formula.ensures holds) refl) c.in_ok-answer.ensures c.in_ok-outcome.ensures

@@ -51,7 +51,7 @@ note-requires-clause-proved g c =
     let e = c.args.self.now in
     let q : QuestionValue = asked e.question in
     let attempt = c.in-Ok.field-0 in
-    proved_by q c.args.candidate (formula_for q c.args.candidate) attempt.lines.items attempt.outcome c.of.result c.of.ensures c.in-Ok.ensures.outcome
+    proved_by q c.args.candidate (formula_for q c.args.candidate) attempt.lines attempt.outcome c.of.result c.of.ensures c.in-Ok.ensures.outcome
 
 pub returns-in-Ok-clause-solved : goal.returns-in-Ok-clause-solved
 returns-in-Ok-clause-solved g c = λ schedule e.
@@ -64,7 +64,7 @@ returns-in-Ok-clause-refuted g c = λ e.
     let q : QuestionValue = asked engine.question in
     let attempt = c.in-Ok.field-0 in
     let same : attempt.outcome ≡ outcome.Refuted = cc in
-    not_solvable q c.args.candidate (formula_for q c.args.candidate) attempt.lines.items (formula_exact q c.args.candidate engine.question.small c.requires.within).1 (c.in-Ok.ensures.outcome.refuted same)
+    not_solvable q c.args.candidate (formula_for q c.args.candidate) attempt.lines (formula_exact q c.args.candidate engine.question.small c.requires.within).1 (c.in-Ok.ensures.outcome.refuted same)
 
 pub returns-in-Ok-clause-unknown : goal.returns-in-Ok-clause-unknown
 returns-in-Ok-clause-unknown g c = λ n e.

@@ -12,7 +12,7 @@ pub note-requires-clause-proved : goal.note-requires-clause-proved
 note-requires-clause-proved g c =
     let attempt = c.in-Ok.field-0 in
     let q : QuestionValue = asked c.args.self.now.question in
-    proved_by q c.args.candidate (ordered_formula_for q c.args.candidate) attempt.lines.items attempt.outcome c.of.result c.of.ensures c.in-Ok.ensures.proves
+    proved_by q c.args.candidate (ordered_formula_for q c.args.candidate) attempt.lines attempt.outcome c.of.result c.of.ensures c.in-Ok.ensures.proves
 
 pub returns-in-Ok-clause-solved : goal.returns-in-Ok-clause-solved
 returns-in-Ok-clause-solved g c = λ schedule e.
@@ -27,14 +27,14 @@ returns-in-Ok-clause-refuted g c = λ e.
     let attempt = c.in-Ok.field-0 in
     let same : attempt.outcome ≡ outcome.Refuted = cc in
     let q : QuestionValue = asked engine.question in
-    not_solvable q c.args.candidate (ordered_formula_for q c.args.candidate) attempt.lines.items (ordered_exact q c.args.candidate engine.question.small c.requires.within).1 (c.in-Ok.ensures.proves.refuted same)
+    not_solvable q c.args.candidate (ordered_formula_for q c.args.candidate) attempt.lines (ordered_exact q c.args.candidate engine.question.small c.requires.within).1 (c.in-Ok.ensures.proves.refuted same)
 
 pub returns-in-Ok-clause-unknown : goal.returns-in-Ok-clause-unknown
 returns-in-Ok-clause-unknown g c = λ n e.
     let q : QuestionValue = asked c.args.self.now.question in
     let same : c.in-Ok.field-0.outcome ≡ outcome.Unknown n = cc in
     let u = c.in-Ok.ensures.proves.unknown n same in
-    (u.0, spent_same (ordered_formula_for q c.args.candidate) c.in-Ok.field-0.lines.items c.note.new.self.log.items n c.note.ensures.log u.1)
+    (u.0, spent_same (ordered_formula_for q c.args.candidate) c.in-Ok.field-0.lines c.note.new.self.log n c.note.ensures.log u.1)
 
 pub returns-in-Ok-clause-same : goal.returns-in-Ok-clause-same
 returns-in-Ok-clause-same g c = record {

@@ -179,7 +179,7 @@ invariant_of-self-in-Ok g c =
     (c.note-in-Ok.ensures.entries ∙ ap (λ (r : RecordValue). r ++ (x, kind) ∷ []) c.prepare.ensures.entries)
     c.in-Ok.ensures.goes_on.running
     (unsolvable_by (IsSolvable q x) out kind c.of.ensures (λ r. c.in-Ok.ensures.refuted (ap Ok r)))
-    (exhausted_by (formula_for q x) c.settle.new.self.log.items q.limits.conflicts out kind c.of.ensures (λ n u. c.in-Ok.ensures.unknown n (ap Ok u))) in
+    (exhausted_by (formula_for q x) c.settle.new.self.log q.limits.conflicts out kind c.of.ensures (λ n u. c.in-Ok.ensures.unknown n (ap Ok u))) in
     record { same_part = c.settle.ensures.moves.same_part ∙ e.same_part; same_question = c.settle.ensures.same.question ∙ e.same_question; among = now.among; stops = now.stops; right = now.right; exhausted = now.exhausted; searches = now.searches }
 
 pub returns-in-Ok-clause-same : goal.returns-in-Ok-clause-same
