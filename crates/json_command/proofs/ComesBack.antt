@@ -20,7 +20,7 @@ use Rattle.json_values.specs.Answer.{topology_of_json}
 use Rattle.json_values.proofs.Built.{topology_back, topology_flat}
 use Rattle.json_rules.specs.Answer.{report_of_json}
 use Rattle.json_rules.specs.ReportJson.{report_json}
-use Rattle.json_exchange.proofs.Built.{report_back, report_flat}
+use Rattle.json_reports.proofs.Built.{report_back, report_flat}
 use Rattle.command_words.specs.declared.command.Command.{Command}
 use Rattle.command_words.specs.declared.command.Command.TheVariants as command
 use Rattle.command_words.specs.declared.command.JsonWhat.{JsonWhat}

@@ -1,5 +1,5 @@
 -- A report as JSON (RFC 8259), and the text that JSON of this form stands for. The form is this project's own.
-use Rattle.std.specs.Prelude.{ℕ, ◌==◌, Bool, true, false, if◌then◌else◌, List, [], ◌∷◌, ◌++◌, map, Option, Some, None, option_map, codes, decimal, bytes_eq, is_some}
+use Rattle.std.specs.Prelude.{ℕ, Bool, true, false, if◌then◌else◌, List, [], ◌∷◌, ◌++◌, map, Option, Some, None, option_map, codes, decimal, bytes_eq, is_some}
 use Rattle.std.specs.List.{list_any}
 use Rattle.text_lines.specs.Text.{text_of}
 use Rattle.outer_ports.specs.declared.part.Part.{Part}
@@ -14,12 +14,11 @@ use Rattle.candidate_order.specs.Frontiers.{PointValue, UnknownValue, FrontierVa
 use Rattle.topology_text.specs.Spelling.{name_at}
 use Rattle.report_form.specs.Reports.{WordsValue, ReportValue}
 use Rattle.report_form.specs.Spelling.{word_if, pruning_words}
-use Rattle.serde_json.specs.Data.{Data, string, Items, no_items, item}
-use Rattle.serde_json.specs.Find.{as_array, as_str, get}
-use Rattle.serde_json.specs.Events.{items_len}
+use Rattle.serde_json.specs.Data.{Data, string}
+use Rattle.serde_json.specs.Find.{as_str, get}
 use Rattle.json_values.specs.Json.{array_of, object_of, count_of}
-use Rattle.json_values.specs.Shape.{◌>>=◌, ◌⊕◌, one, each_in, list_in, lines_in, count_in, name_in, has_keys}
-use Rattle.json_values.specs.TopologyJson.{field, topology_json, topology_in, version_in}
+use Rattle.json_values.specs.Shape.{◌>>=◌, ◌⊕◌, one, headed, list_in, lines_in, row_in, count_in, name_in, has_keys, field, number_at}
+use Rattle.json_values.specs.TopologyJson.{topology_json, topology_in, version_in}
 
 -- ---- a report as JSON
 
@@ -87,102 +86,62 @@ report_json r =
 
 -- a text that is one of these words
 abbrev pub word_in : List (List ℕ) → Data → Option (List ℕ)
-word_in words d = do
-  text ← as_str d
-  if list_any (bytes_eq text) words then Some text else None
+word_in words d = as_str d >>= λ text. if list_any (bytes_eq text) words then Some text else None
 
 -- a number, as a token
 abbrev pub number_in : Data → Option (List ℕ)
-number_in d = do
-  n ← count_in d
-  Some (decimal n)
+number_in d = option_map decimal (count_in d)
 
--- a word, and a list of so many numbers
-abbrev pub counts_in : List ℕ → ℕ → Data → Option (List (List ℕ))
-counts_in word n d = do
-  items ← as_array d
-  if items_len items == n then (do
-    counts ← each_in number_in items
-    Some (word ∷ counts)) else None
-
+-- a candidate that is refuted; one that is unknown, with its conflicts
 abbrev pub refuted_in : Data → Option (List (List ℕ))
-refuted_in d = counts_in (codes "refuted") 3 d
+refuted_in d = headed (codes "refuted") (row_in (number_in ∷ number_in ∷ number_in ∷ []) d)
 
 abbrev pub unknown_in : Data → Option (List (List ℕ))
-unknown_in d = counts_in (codes "unknown") 4 d
+unknown_in d = headed (codes "unknown") (row_in (number_in ∷ number_in ∷ number_in ∷ number_in ∷ []) d)
 
--- a number, two names and a number
-abbrev pub four_in : Items → Option (List (List ℕ))
-four_in (item a (item b (item c (item d no_items)))) = do
-  chunk ← count_in a
-  from ← name_in b
-  to ← name_in c
-  step ← count_in d
-  Some (codes "send" ∷ decimal chunk ∷ from ∷ to ∷ decimal step ∷ [])
-four_in _ = None
-
+-- the chunk, the two nodes and the step
 abbrev pub send_in : Data → Option (List (List ℕ))
-send_in d = do
-  items ← as_array d
-  four_in items
+send_in d = headed (codes "send") (row_in (number_in ∷ name_in ∷ name_in ∷ number_in ∷ []) d)
+
+abbrev pub rounds_in : Data → Option (List (List ℕ))
+rounds_in d = headed (codes "rounds") (list_in number_in d)
 
 abbrev pub marks : List (List ℕ)
 marks = codes "optimal" ∷ codes "open" ∷ codes "joined" ∷ []
 
--- a joined point has one key more
-abbrev pub point_keys : Bool → List (List ℕ)
-point_keys joined = (if joined then codes "adding" ∷ [] else []) ++ codes "c" ∷ codes "mark" ∷ codes "r" ∷ codes "rounds" ∷ codes "s" ∷ codes "sends" ∷ []
-
--- and one token more
-abbrev pub adding_in : Bool → Data → Option (List (List ℕ))
-adding_in false d = Some []
-adding_in true d = do
-  adding ← field (codes "adding") count_in d
-  Some (decimal adding ∷ [])
-
 abbrev pub is_joined : List ℕ → Bool
 is_joined mark = bytes_eq mark (codes "joined")
 
+-- a joined point has one key more, and one token
+abbrev pub point_keys : Bool → List (List ℕ)
+point_keys joined = (if joined then codes "adding" ∷ [] else []) ++ codes "c" ∷ codes "mark" ∷ codes "r" ∷ codes "rounds" ∷ codes "s" ∷ codes "sends" ∷ []
+
+abbrev pub adding_in : Bool → Data → Option (List (List ℕ))
+adding_in false d = Some []
+adding_in true d = one (number_at (codes "adding") d)
+
 -- the first line of a point
 abbrev pub head_in : List ℕ → Data → Option (List (List ℕ))
-head_in mark d = do
-  s ← field (codes "s") count_in d
-  r ← field (codes "r") count_in d
-  c ← field (codes "c") count_in d
-  adding ← adding_in (is_joined mark) d
-  Some (codes "point" ∷ decimal s ∷ decimal r ∷ decimal c ∷ mark ∷ adding)
+head_in mark d = headed (codes "point") (one (number_at (codes "s") d) ⊕ one (number_at (codes "r") d) ⊕ one (number_at (codes "c") d) ⊕ headed mark (adding_in (is_joined mark) d))
 
-abbrev pub rounds_in : Data → Option (List (List ℕ))
-rounds_in d = do
-  rounds ← list_in number_in d
-  Some (codes "rounds" ∷ rounds)
-
--- the rounds and the sends
-abbrev pub schedule_in : Data → Option (List (List (List ℕ)))
-schedule_in d = one (field (codes "rounds") rounds_in d) ⊕ field (codes "sends") (list_in send_in) d
-
+-- that line, the rounds and the sends
 abbrev pub marked_in : List ℕ → Data → Option (List (List (List ℕ)))
-marked_in mark d = if has_keys (point_keys (is_joined mark)) d then one (head_in mark d) ⊕ schedule_in d else None
+marked_in mark d =
+    if has_keys (point_keys (is_joined mark)) d then one (head_in mark d) ⊕ one (field (codes "rounds") rounds_in d) ⊕ field (codes "sends") (list_in send_in) d
+    else None
 
 abbrev pub point_in : Data → Option (List (List (List ℕ)))
-point_in d = do
-  mark ← field (codes "mark") (word_in marks) d
-  marked_in mark d
+point_in d = field (codes "mark") (word_in marks) d >>= λ mark. marked_in mark d
 
 abbrev pub part_in : Data → Option (List (List ℕ))
-part_in d = do
-  word ← word_in (codes "whole" ∷ codes "reduce" ∷ codes "gather" ∷ []) d
-  Some (codes "frontier" ∷ word ∷ [])
+part_in d = word_in (codes "whole" ∷ codes "reduce" ∷ codes "gather" ∷ []) d >>= λ word. Some (codes "frontier" ∷ word ∷ [])
 
--- what is refuted, and what is unknown
-abbrev pub lists_in : Data → Option (List (List (List ℕ)))
-lists_in d = field (codes "refuted") (list_in refuted_in) d ⊕ field (codes "unknown") (list_in unknown_in) d
-
-abbrev pub frontier_body_in : Data → Option (List (List (List ℕ)))
-frontier_body_in d = field (codes "points") (lines_in point_in) d ⊕ lists_in d
-
+-- the part, its points, what is refuted, and what is unknown
 abbrev pub frontier_in : Data → Option (List (List (List ℕ)))
-frontier_in d = if has_keys (codes "part" ∷ codes "points" ∷ codes "refuted" ∷ codes "unknown" ∷ []) d then one (field (codes "part") part_in d) ⊕ frontier_body_in d else None
+frontier_in d =
+    if has_keys (codes "part" ∷ codes "points" ∷ codes "refuted" ∷ codes "unknown" ∷ []) d
+    then one (field (codes "part") part_in d) ⊕ field (codes "points") (lines_in point_in) d ⊕ field (codes "refuted") (list_in refuted_in) d ⊕ field (codes "unknown") (list_in unknown_in) d
+    else None
 
 -- ---- the words
 
@@ -195,22 +154,16 @@ kind_in d = field (codes "collective") (word_in (map word_of every_kind)) d
 
 -- a key, the sign `=` and a number
 abbrev pub keyed_in : List ℕ → Data → Option (List ℕ)
-keyed_in key d = do
-  n ← field key count_in d
-  Some (key ++ 61 ∷ decimal n)
+keyed_in key d = field key count_in d >>= λ n. Some (key ++ 61 ∷ decimal n)
 
 abbrev pub root_in : Bool → Data → Option (List (List ℕ))
 root_in false d = Some []
-root_in true d = do
-  root ← field (codes "root") name_in d
-  Some ((codes "root=" ++ root) ∷ [])
+root_in true d = field (codes "root") name_in d >>= λ root. Some ((codes "root=" ++ root) ∷ [])
 
 -- the value of a key that may be left out: the one word `yes`
 abbrev pub yes_in : Option Data → Option Bool
 yes_in None = Some false
-yes_in (Some d) = do
-  word ← as_str d
-  if bytes_eq word (codes "yes") then Some true else None
+yes_in (Some d) = as_str d >>= λ word. if bytes_eq word (codes "yes") then Some true else None
 
 -- what is left out, each by a key of its own
 abbrev pub pruning_in : Data → Option Pruning
@@ -229,60 +182,33 @@ keyed_words_in p rooted d = do
   root ← root_in rooted d
   Some (codes "synth" ∷ (codes "collective=" ++ kind) ∷ k ∷ steps ∷ chunks ∷ conflicts ∷ root ++ pruning_words p)
 
-abbrev pub synth_in : Bool → Data → Option (List (List ℕ))
-synth_in rooted d = do
-  p ← pruning_in d
-  if has_keys (words_keys p rooted) d then keyed_words_in p rooted d else None
-
 abbrev pub words_in : Data → Option (List (List ℕ))
-words_in d = synth_in (is_some (get (codes "root") d)) d
+words_in d =
+    let rooted = is_some (get (codes "root") d) in
+    pruning_in d >>= λ p. if has_keys (words_keys p rooted) d then keyed_words_in p rooted d else None
 
 -- ---- the whole
 
--- a list of no items
-abbrev pub none_in : Items → Option (List (List (List ℕ)))
-none_in no_items = Some []
-none_in (item a rest) = None
+abbrev pub title_in : Data → Option (List (List ℕ))
+title_in d = version_in d >>= λ patterned. Some (codes "sccl" ∷ (if patterned then codes "2" else codes "1") ∷ [])
+
+-- it asks for an allreduce
+abbrev pub joins_in : Data → Option Bool
+joins_in d = kind_in d >>= λ kind. Some (bytes_eq kind (codes "allreduce"))
 
 -- the points of an allreduce; another collective has none
 abbrev pub joined_in : Bool → Data → Option (List (List (List ℕ)))
 joined_in true d = Some ((codes "joined" ∷ []) ∷ []) ⊕ lines_in point_in d
-joined_in false d = do
-  items ← as_array d
-  none_in items
-
-abbrev pub title_in : Data → Option (List (List ℕ))
-title_in d = do
-  patterned ← version_in d
-  Some (codes "sccl" ∷ (if patterned then codes "2" else codes "1") ∷ [])
-
--- it asks for an allreduce
-abbrev pub joins_in : Data → Option Bool
-joins_in d = do
-  kind ← kind_in d
-  Some (bytes_eq kind (codes "allreduce"))
-
--- the joined points and the last line
-abbrev pub end_in : Bool → Data → Option (List (List (List ℕ)))
-end_in joins d = field (codes "joined") (joined_in joins) d ⊕ Some ((codes "end" ∷ []) ∷ [])
-
-abbrev pub results_in : Bool → Data → Option (List (List (List ℕ)))
-results_in joins d = field (codes "frontiers") (lines_in frontier_in) d ⊕ end_in joins d
+joined_in false d = row_in [] d
 
 abbrev pub body_in : Bool → Data → Option (List (List (List ℕ)))
-body_in joins d = field (codes "topology") topology_in d ⊕ results_in joins d
-
--- the line of the words, and what follows it
-abbrev pub rest_of : Data → Data → Option (List (List (List ℕ)))
-rest_of d words = do
-  joins ← joins_in words
-  one (words_in words) ⊕ body_in joins d
-
-abbrev pub rest_in : Data → Option (List (List (List ℕ)))
-rest_in d = field (codes "words") (rest_of d) d
+body_in joins d = field (codes "topology") topology_in d ⊕ field (codes "frontiers") (lines_in frontier_in) d ⊕ field (codes "joined") (joined_in joins) d ⊕ Some ((codes "end" ∷ []) ∷ [])
 
 abbrev pub report_in : Data → Option (List (List (List ℕ)))
-report_in d = if has_keys (codes "frontiers" ∷ codes "joined" ∷ codes "topology" ∷ codes "words" ∷ []) d then one (field (codes "topology") title_in d) ⊕ rest_in d else None
+report_in d =
+    if has_keys (codes "frontiers" ∷ codes "joined" ∷ codes "topology" ∷ codes "words" ∷ []) d
+    then one (field (codes "topology") title_in d) ⊕ field (codes "words") (λ words. joins_in words >>= λ joins. one (words_in words) ⊕ body_in joins d) d
+    else None
 
 -- the text of these lines
 abbrev pub report_text_in : Data → Option (List ℕ)

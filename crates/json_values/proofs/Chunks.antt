@@ -7,8 +7,8 @@ use Rattle.serde_json.specs.Events.{items_len}
 use Rattle.serde_json.specs.Find.{as_array}
 use Rattle.serde_json.specs.View.{items_view}
 use Rattle.serde_json.specs.declared.value.Value.{Value}
-use Rattle.json_values.specs.Shape.{◌>>=◌, list_in, name_in, has_keys}
-use Rattle.json_values.specs.TopologyJson.{holder_line, chunk_lines, field, custom_in}
+use Rattle.json_values.specs.Shape.{◌>>=◌, ◌⊕◌, one, headed, list_in, name_in, field, has_keys}
+use Rattle.json_values.specs.TopologyJson.{chunk_lines, custom_in}
 use Rattle.json_values.specs.inner.Fields.{custom_fields}
 
 -- the bytes, and the lines of these chunks behind them, of which the first has the number g
@@ -16,7 +16,7 @@ abbrev pub with_chunks : ℕ → List ℕ → List Value → List Value → Opti
 with_chunks g out before after = option_map (λ ls. out ++ text_of ls) (chunk_lines g (items_view before) (items_view after))
 
 abbrev two : ℕ → Option (List (List ℕ)) → Option (List (List ℕ)) → Option (List (List (List ℕ))) → Option (List (List (List ℕ)))
-two g x y rest = x >>= λ b. y >>= λ a. rest >>= λ lines. Some (holder_line (codes "before") g b ∷ holder_line (codes "after") g a ∷ lines)
+two g x y rest = one (headed (codes "before") (headed (decimal g) x)) ⊕ one (headed (codes "after") (headed (decimal g) y)) ⊕ rest
 
 no_rest : (g : ℕ) (x y : Option (List (List ℕ))) (rest : Option (List (List (List ℕ)))) → rest ≡ None → two g x y rest ≡ None
 no_rest g None y rest h = refl
@@ -33,9 +33,9 @@ as_many g (item b before) (item a after) h = no_rest g (list_in name_in b) (list
 -- ---- the pattern, by what stands at its keys
 
 abbrev closed : Items × Items → Option (List (List (List ℕ)))
-closed x = chunk_lines 0 x.0 x.1 >>= λ lines. Some ((codes "custom" ∷ decimal (items_len x.0) ∷ []) ∷ lines)
+closed x = headed (codes "custom" ∷ decimal (items_len x.0) ∷ []) (chunk_lines 0 x.0 x.1)
 
-split : (b : Bool) (x y : Option Items) → (if b then (x >>= λ before. y >>= λ after. chunk_lines 0 before after >>= λ lines. Some ((codes "custom" ∷ decimal (items_len before) ∷ []) ∷ lines)) else None) ≡ ((if b then (x >>= λ before. y >>= λ after. Some (before, after)) else None) >>= closed)
+split : (b : Bool) (x y : Option Items) → (if b then (x >>= λ before. y >>= λ after. headed (codes "custom" ∷ decimal (items_len before) ∷ []) (chunk_lines 0 before after)) else None) ≡ ((if b then (x >>= λ before. y >>= λ after. Some (before, after)) else None) >>= closed)
 split false x y = refl
 split true None y = refl
 split true (Some x) None = refl

@@ -1,20 +1,24 @@
 -- The line of a group, by what stands at its keys.
-use Rattle.std.proofs.Common.{◌≡◌, ℕ, Bool, true, false, List, [], ◌∷◌, Option, Some, None, refl, sym, ap, ◌∙◌}
+use Rattle.std.proofs.Common.{◌≡◌, ℕ, Bool, true, false, List, [], ◌∷◌, Option, Some, None, option_map, refl, sym, ap, ◌∙◌}
 use Rattle.std.specs.Prelude.{codes, decimal, if◌then◌else◌}
 use Rattle.serde_json.specs.Data.{Data}
 use Rattle.serde_json.specs.Find.{get}
-use Rattle.json_values.specs.Shape.{◌>>=◌, list_in, count_in, has_keys}
-use Rattle.json_values.specs.TopologyJson.{link_in, field, group_in}
+use Rattle.json_values.specs.Shape.{◌>>=◌, ◌⊕◌, one, headed, list_in, count_in, field, has_keys}
+use Rattle.json_values.specs.TopologyJson.{link_in, group_in}
 use Rattle.json_values.specs.inner.Fields.{group_fields}
 
 abbrev closed : ℕ × Data → Option (List (List ℕ))
-closed x = list_in link_in x.1 >>= λ links. Some (codes "group" ∷ decimal x.0 ∷ links)
+closed x = option_map (λ links. codes "group" ∷ decimal x.0 ∷ links) (list_in link_in x.1)
 
-split : (b : Bool) (w : Option ℕ) (l : Option Data) → (if b then (w >>= λ width. (l >>= λ d. list_in link_in d) >>= λ links. Some (codes "group" ∷ decimal width ∷ links)) else None) ≡ ((if b then (w >>= λ width. l >>= λ links. Some (width, links)) else None) >>= closed)
+joined : (width : ℕ) (links : Option (List (List ℕ))) → headed (codes "group") (one (Some (decimal width)) ⊕ links) ≡ option_map (λ tokens. codes "group" ∷ decimal width ∷ tokens) links
+joined width None = refl
+joined width (Some links) = refl
+
+split : (b : Bool) (w : Option ℕ) (l : Option Data) → (if b then headed (codes "group") (one (option_map decimal w) ⊕ (l >>= list_in link_in)) else None) ≡ ((if b then (w >>= λ width. l >>= λ links. Some (width, links)) else None) >>= closed)
 split false w l = refl
 split true None l = refl
 split true (Some width) None = refl
-split true (Some width) (Some links) = refl
+split true (Some width) (Some links) = joined width (list_in link_in links)
 
 group_is : (d : Data) → group_in d ≡ (group_fields d >>= closed)
 group_is d = split (has_keys (codes "links" ∷ codes "width" ∷ []) d) (field (codes "width") count_in d) (get (codes "links") d)

@@ -10,7 +10,7 @@ use Rattle.text_lines.specs.Text.{line, text_of, fields}
 use Rattle.text_lines.proofs.Words.{join_fields}
 use Rattle.serde_json.specs.Data.{Data, Items, no_items, item}
 use Rattle.serde_json.specs.Find.{as_array}
-use Rattle.json_values.specs.Shape.{◌>>=◌, each_in, list_in, lines_in}
+use Rattle.json_values.specs.Shape.{◌>>=◌, headed, each_in, list_in, lines_in}
 use Rattle.json_values.specs.Appends.{Appends, texts_in, token_text, line_text}
 
 both : {A : Type 0} (piece : A → List ℕ) (o : Option A) (texts : Option (List (List ℕ))) (rest : Option (List A)) → option_map (λ ts. flat_map (λ t. t) ts) texts ≡ option_map (λ xs. flat_map piece xs) rest
@@ -68,9 +68,13 @@ behind_line first word old last None h = absurd cc
 behind_line first word old last (Some xs) h = ap (λ l. Some (old ++ (line first ++ l))) (append-nil (line (word ∷ xs))) ∙ ap Some (sym (append_assoc old (line first) (line (word ∷ xs)))) ∙ h
 
 -- the line of what is made of the tokens of a list
-pub lined : (o : Option (List (List ℕ))) (made : List (List ℕ) → List (List ℕ)) → option_map line (o >>= λ xs. Some (made xs)) ≡ option_map (λ xs. line (made xs)) o
+pub lined : (o : Option (List (List ℕ))) (made : List (List ℕ) → List (List ℕ)) → option_map line (option_map made o) ≡ option_map (λ xs. line (made xs)) o
 lined None made = refl
 lined (Some xs) made = refl
+
+pub headed_twice : (word w : List ℕ) (o : Option (List (List ℕ))) → headed word (headed w o) ≡ option_map (λ xs. word ∷ w ∷ xs) o
+headed_twice word w None = refl
+headed_twice word w (Some xs) = refl
 
 text_joined : (xs : List (List (List (List ℕ)))) → flat_map text_of xs ≡ text_of (flat_map (λ lines. lines) xs)
 text_joined [] = refl

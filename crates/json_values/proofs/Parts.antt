@@ -8,7 +8,7 @@ use Rattle.text_lines.specs.Text.{line, text_of}
 use Rattle.topology_text.specs.Spelling.{head_words}
 use Rattle.serde_json.specs.Data.{Data}
 use Rattle.serde_json.specs.Find.{get}
-use Rattle.json_values.specs.Shape.{◌>>=◌, list_in, name_in, has_keys}
+use Rattle.json_values.specs.Shape.{◌>>=◌, ◌⊕◌, one, headed, list_in, name_in, has_keys}
 use Rattle.json_values.specs.TopologyJson.{group_in, keys_of, version_in, pattern_in, parts_in, topology_in}
 use Rattle.json_values.specs.inner.Fields.{topology_fields}
 use Rattle.json_values.specs.Appends.{Appends}
@@ -21,14 +21,14 @@ behind_front (Err Memory) old middle new front part a h = tt
 behind_front (Err (Refused u)) old middle new front part a h = ap (option_map (λ t. front ++ t)) h
 
 -- a line before these lines
-pub line_before : (first : List (List ℕ)) (lines : Option (List (List (List ℕ)))) → option_map (λ t. line first ++ t) (option_map text_of lines) ≡ option_map text_of (lines >>= λ ls. Some (first ∷ ls))
+pub line_before : (first : List (List ℕ)) (lines : Option (List (List (List ℕ)))) → option_map (λ t. line first ++ t) (option_map text_of lines) ≡ option_map text_of (headed first lines)
 line_before first None = refl
 line_before first (Some ls) = refl
 
 -- ---- a topology
 
 abbrev pub parts : Bool → Option (List (List ℕ)) → Option (List (List (List ℕ))) → Option (List (List (List ℕ))) → Option (List (List (List ℕ)))
-parts p names groups custom = names >>= λ n. groups >>= λ g. custom >>= λ c. Some (head_words p ∷ (codes "nodes" ∷ n) ∷ g ++ c)
+parts p names groups custom = headed (head_words p) (one (headed (codes "nodes") names) ⊕ groups ⊕ custom)
 
 abbrev two_fields : Option Data → Option Data → Option (Data × Data)
 two_fields nodes groups = nodes >>= λ n. groups >>= λ g. Some (n, g)

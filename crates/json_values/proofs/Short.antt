@@ -13,8 +13,7 @@ use Rattle.topology_text.specs.Names.{is_name}
 use Rattle.serde_json.specs.Data.{Data, null, boolean, number, string, array, object, Items, no_items, item, Members, no_members, member}
 use Rattle.serde_json.specs.Find.{get, get_member}
 use Rattle.json_values.specs.Size.{size, items_size, members_size}
-use Rattle.json_values.specs.Shape.{◌>>=◌, ◌⊕◌, one, each_in, name_in}
-use Rattle.json_values.specs.TopologyJson.{field}
+use Rattle.json_values.specs.Shape.{◌>>=◌, ◌⊕◌, one, each_in, name_in, field}
 use Rattle.json_values.specs.Appends.{texts_in}
 use Rattle.json_values.specs.Answer.{text_of_json}
 use Rattle.json_values.proofs.Size.{size_of_value}
@@ -84,7 +83,7 @@ each_short : (k : ℕ) (text : Data → Option (List ℕ)) → Short k text → 
 each_short k text h no_items = omega arith
 each_short k text h (item d ds) = both k (size d) (items_size ds) (text d) (each_in text ds) (h d) (each_short k text h ds)
 
-one_less : (k n : ℕ) (o : Option (List ℕ)) → AtMost 0 (k * n) o → AtMost k (k * (1 + n)) o
+pub one_less : (k n : ℕ) (o : Option (List ℕ)) → AtMost 0 (k * n) o → AtMost k (k * (1 + n)) o
 one_less k n None h = tt
 one_less k n (Some t) h = omega (arith, scaled k 1 n)
 

@@ -1,7 +1,7 @@
 -- The JSON of a topology has the form, and stands for the topology's text.
-use Rattle.std.proofs.Common.{◌≡◌, ℕ, zero, suc, ◌+◌, ◌<◌, ◌≤◌, Bool, true, false, cond, List, [], ◌∷◌, ◌++◌, map, length, Option, Some, None, refl, sym, ap, ◌∙◌, subst, arith}
+use Rattle.std.proofs.Common.{◌≡◌, ℕ, zero, suc, ◌+◌, ◌<◌, ◌≤◌, Bool, true, false, cond, List, [], ◌∷◌, ◌++◌, map, length, Option, Some, None, option_map, refl, sym, ap, ap₂, ◌∙◌, subst, arith}
 use Rattle.std.specs.Prelude.{codes, decimal, if◌then◌else◌, IfSome}
-use Rattle.std.specs.List.{All, AllByRecursion, filter, flat_map, range_with_len}
+use Rattle.std.specs.List.{All, AllByRecursion, filter, flat_map, join_with_byte, range_with_len}
 use Rattle.std.proofs.lemmas.List.Elements.{recursion_from_All, All-get_or}
 use Rattle.std.proofs.lemmas.List.{map-id}
 use Rattle.schedule.specs.Links.{GroupValue, IsBelow}
@@ -15,8 +15,8 @@ use Rattle.serde_json.specs.Data.{Data, string, Items}
 use Rattle.serde_json.specs.Events.{items_len}
 use Rattle.serde_json.specs.View.{items_of}
 use Rattle.json_values.specs.Json.{array_of}
-use Rattle.json_values.specs.Shape.{◌>>=◌, each_in, list_in, name_in}
-use Rattle.json_values.specs.TopologyJson.{link_json, group_json, holders_json, custom_json, topology_json, link_in, group_in, holder_line, chunk_lines, custom_in, topology_in}
+use Rattle.json_values.specs.Shape.{◌>>=◌, ◌⊕◌, one, headed, each_in, list_in, name_in}
+use Rattle.json_values.specs.TopologyJson.{link_json, group_json, holders_json, custom_json, topology_json, link_in, group_in, chunk_lines, custom_in, topology_in}
 
 -- where each item that is made has the shape, so has the list
 pub each_made : {X A : Type 0} (shape : Data → Option A) (make : X → Data) (shown : X → A) (xs : List X) → AllByRecursion (λ x. shape (make x) ≡ Some (shown x)) xs → each_in shape (items_of (map make xs)) ≡ Some (map shown xs)
@@ -36,13 +36,12 @@ module _ (names : List (List ℕ)) (named : AreNames names) where
 
   link_found : (link : ℕ × ℕ) → IsBelow (length names) link → link_in (link_json names link) ≡ Some (link_word names link)
   link_found link below =
-      ap (λ o. o >>= λ from. name_in (string (name_at names link.1)) >>= λ to. Some (from ++ 62 ∷ to)) (name_there link.0 below.from)
-      ∙ ap (λ o. o >>= λ to. Some (name_at names link.0 ++ 62 ∷ to)) (name_there link.1 below.to)
+      ap₂ (λ from to. option_map (join_with_byte 62) (one from ⊕ one to ⊕ Some [])) (name_there link.0 below.from) (name_there link.1 below.to)
 
   group_found : (group : GroupValue) → All (IsBelow (length names)) group.links → group_in (group_json names group) ≡ Some (group_words names group)
   group_found group below =
       let each = each_weaker (IsBelow (length names)) _ link_found group.links (recursion_from_All (IsBelow (length names)) group.links below) in
-      ap (λ o. o >>= λ links. Some (codes "group" ∷ decimal group.width ∷ links)) (each_made link_in (link_json names) (link_word names) group.links each)
+      ap (λ links. headed (codes "group") (one (Some (decimal group.width)) ⊕ links)) (each_made link_in (link_json names) (link_word names) group.links each)
 
   -- ---- the pattern
 
@@ -72,13 +71,15 @@ module _ (names : List (List ℕ)) (named : AreNames names) where
   abbrev listed : PlacementValue → ℕ → ℕ → Items
   listed p g n = items_of (map (holders_json names p) (range_with_len g n))
 
+  abbrev holding : ℕ → Option (List (List ℕ)) → Option (List (List ℕ)) → Option (List (List (List ℕ))) → Option (List (List (List ℕ)))
+  holding g before after rest = one (headed (codes "before") (headed (decimal g) before)) ⊕ one (headed (codes "after") (headed (decimal g) after)) ⊕ rest
+
   chunks_found : (p : PatternValue) → p.before.nodes ≤ length names → p.after.nodes ≤ length names → (g n : ℕ) → chunk_lines g (listed p.before g n) (listed p.after g n) ≡ Some (flat_map (lines_of_chunk p) (range_with_len g n))
   chunks_found p before_fits after_fits g zero = refl
   chunks_found p before_fits after_fits g (suc n) =
       let rest = chunk_lines (g + 1) (listed p.before (g + 1) n) (listed p.after (g + 1) n) in
-      ap (λ o. o >>= λ x. list_in name_in (holders_json names p.after g) >>= λ y. rest >>= λ lines. Some (holder_line (codes "before") g x ∷ holder_line (codes "after") g y ∷ lines)) (holders_found p.before before_fits g)
-      ∙ ap (λ o. o >>= λ y. rest >>= λ lines. Some (holder_line (codes "before") g (held p.before g) ∷ holder_line (codes "after") g y ∷ lines)) (holders_found p.after after_fits g)
-      ∙ ap (λ o. o >>= λ lines. Some (holder_line (codes "before") g (held p.before g) ∷ holder_line (codes "after") g (held p.after g) ∷ lines)) (chunks_found p before_fits after_fits (g + 1) n)
+      ap₂ (λ x y. holding g x y rest) (holders_found p.before before_fits g) (holders_found p.after after_fits g)
+      ∙ ap (holding g (Some (held p.before g)) (Some (held p.after g))) (chunks_found p before_fits after_fits (g + 1) n)
 
   counted : (p : PlacementValue) (g n : ℕ) → items_len (listed p g n) ≡ n
   counted p g zero = refl
@@ -86,7 +87,7 @@ module _ (names : List (List ℕ)) (named : AreNames names) where
 
   custom_found : (p : PatternValue) → p.before.nodes ≤ length names → p.after.nodes ≤ length names → custom_in (custom_json names p) ≡ Some (custom_lines names (Some p))
   custom_found p before_fits after_fits =
-      ap (λ o. o >>= λ lines. Some ((codes "custom" ∷ decimal (items_len (listed p.before 0 p.base)) ∷ []) ∷ lines)) (chunks_found p before_fits after_fits 0 p.base)
+      ap (headed (codes "custom" ∷ decimal (items_len (listed p.before 0 p.base)) ∷ [])) (chunks_found p before_fits after_fits 0 p.base)
       ∙ ap (λ n. Some ((codes "custom" ∷ decimal n ∷ []) ∷ flat_map (lines_of_chunk p) (range_with_len 0 p.base))) (counted p.before 0 p.base)
 
   -- ---- the whole
@@ -98,7 +99,7 @@ module _ (names : List (List ℕ)) (named : AreNames names) where
   names_found list each = each_made name_in string (λ n. n) list (each_weaker _ _ name_found list (recursion_from_All _ list each))
 
 abbrev parts : Bool → Option (List (List ℕ)) → Option (List (List (List ℕ))) → Option (List (List (List ℕ))) → Option (List (List (List ℕ)))
-parts patterned names groups custom = names >>= λ n. groups >>= λ g. custom >>= λ c. Some (head_words patterned ∷ (codes "nodes" ∷ n) ∷ g ++ c)
+parts patterned names groups custom = headed (head_words patterned) (one (headed (codes "nodes") names) ⊕ groups ⊕ custom)
 
 found_parts : (patterned : Bool) (names : List (List ℕ)) (groups custom : List (List (List ℕ))) (n : Option (List (List ℕ))) (g c : Option (List (List (List ℕ)))) → n ≡ Some names → g ≡ Some groups → c ≡ Some custom
     → parts patterned n g c ≡ Some (head_words patterned ∷ (codes "nodes" ∷ names) ∷ groups ++ custom)

@@ -1,14 +1,15 @@
 -- How long the text is that the JSON of a topology stands for.
 use Rattle.std.proofs.Common.{◌≡◌, ℕ, ◌+◌, ◌*◌, ◌≤◌, Bool, true, false, List, [], ◌∷◌, ◌++◌, length, Option, Some, None, option_map, subst, arith, length-append}
 use Rattle.std.specs.Prelude.{codes, decimal, IfSome}
+use Rattle.std.specs.List.{join_with_byte}
 use Rattle.text_lines.specs.Text.{line, text_of, fields}
 use Rattle.topology_text.specs.Spelling.{head_words}
 use Rattle.serde_json.specs.Data.{Data, null, boolean, number, string, array, object, Items, no_items, item}
 use Rattle.serde_json.specs.Events.{items_len}
 use Rattle.serde_json.specs.Find.{as_array, get}
 use Rattle.json_values.specs.Size.{size, items_size}
-use Rattle.json_values.specs.Shape.{◌>>=◌, list_in, count_in, name_in, has_keys}
-use Rattle.json_values.specs.TopologyJson.{pair_in, link_in, field, group_in, holder_line, chunk_lines, custom_in, version_in, keys_of, pattern_in, parts_in, topology_text_in}
+use Rattle.json_values.specs.Shape.{◌>>=◌, ◌⊕◌, one, headed, list_in, count_in, name_in, row_items, field, has_keys}
+use Rattle.json_values.specs.TopologyJson.{link_in, group_in, chunk_lines, custom_in, version_in, keys_of, pattern_in, parts_in, topology_text_in}
 use Rattle.json_values.specs.Appends.{texts_in, token_text, line_text}
 use Rattle.json_values.proofs.Lines.{tokens_listed, lines_listed}
 use Rattle.json_values.proofs.Short.{AtMost, Short, some_size, at_least, decimal_short, name_short, list_short, whole_list, within, field_short, line_length, if_short}
@@ -26,16 +27,25 @@ wider (Some w) m h x = omega arith
 pub name_token : Short 65 (token_text name_in)
 name_token d = token_of (size d) (name_in d) (some_size d) (wider (name_in d) 16 (omega arith) (name_short d))
 
-ends : (from to : Option (List ℕ)) → IfSome from (λ w. length w ≤ 16) → IfSome to (λ w. length w ≤ 16) → IfSome (from >>= λ f. to >>= λ t. Some (f ++ 62 ∷ t)) (λ w. length w ≤ 33)
+ends : (from to : Option (List ℕ)) → IfSome from (λ w. length w ≤ 16) → IfSome to (λ w. length w ≤ 16) → IfSome (option_map (join_with_byte 62) (one from ⊕ one to ⊕ Some [])) (λ w. length w ≤ 33)
 ends None to h k = tt
 ends (Some f) None h k = tt
 ends (Some f) (Some t) h k = omega (arith, length-append f (62 ∷ t))
 
-pair_short : (ds : Items) → IfSome (pair_in ds) (λ w. length w ≤ 33)
+too_few : (from : Option (List ℕ)) → IfSome (option_map (join_with_byte 62) (one from ⊕ None)) (λ w. length w ≤ 33)
+too_few None = tt
+too_few (Some f) = tt
+
+too_many : (from to : Option (List ℕ)) → IfSome (option_map (join_with_byte 62) (one from ⊕ one to ⊕ None)) (λ w. length w ≤ 33)
+too_many None to = tt
+too_many (Some f) None = tt
+too_many (Some f) (Some t) = tt
+
+pair_short : (ds : Items) → IfSome (option_map (join_with_byte 62) (row_items (name_in ∷ name_in ∷ []) ds)) (λ w. length w ≤ 33)
 pair_short no_items = tt
-pair_short (item a no_items) = tt
+pair_short (item a no_items) = too_few (name_in a)
 pair_short (item a (item b no_items)) = ends (name_in a) (name_in b) (name_short a) (name_short b)
-pair_short (item a (item b (item c ds))) = tt
+pair_short (item a (item b (item c ds))) = too_many (name_in a) (name_in b)
 
 link_short : (d : Data) → IfSome (link_in d) (λ w. length w ≤ 33)
 link_short null = tt
@@ -60,7 +70,7 @@ lines_short k tokens h d = subst (AtMost 0 (k * size d)) (lines_listed tokens d)
 
 -- ---- groups
 
-group_of : (n : ℕ) (w : Option ℕ) (l : Option (List (List ℕ))) → 1 ≤ n → AtMost 0 (65 * n) (option_map fields l) → AtMost 0 (140 * n) (option_map line (w >>= λ width. l >>= λ links. Some (codes "group" ∷ decimal width ∷ links)))
+group_of : (n : ℕ) (w : Option ℕ) (l : Option (List (List ℕ))) → 1 ≤ n → AtMost 0 (65 * n) (option_map fields l) → AtMost 0 (140 * n) (option_map line (headed (codes "group") (one (option_map decimal w) ⊕ l)))
 group_of n None l h x = tt
 group_of n (Some width) None h x = tt
 group_of n (Some width) (Some links) h x = omega (arith, line_length (codes "group") (decimal width ∷ links), length-append (decimal width) (fields links), decimal_short width)
@@ -72,17 +82,17 @@ group_line d =
 
 -- ---- the pattern
 
-holders : (n g : ℕ) (word : List ℕ) (names : List (List ℕ)) → length word ≤ 6 → 65 + length (fields names) ≤ 65 * n → length (line (holder_line word g names)) ≤ 7 + 65 * n
+holders : (n g : ℕ) (word : List ℕ) (names : List (List ℕ)) → length word ≤ 6 → 65 + length (fields names) ≤ 65 * n → length (line (word ∷ decimal g ∷ names)) ≤ 7 + 65 * n
 holders n g word names h x = omega (arith, line_length word (decimal g ∷ names), length-append (decimal g) (fields names), decimal_short g)
 
 chunk_of : (g m n k : ℕ) (x y : Option (List (List ℕ))) (rest : Option (List (List (List ℕ)))) → 1 ≤ m → 1 ≤ n → AtMost 65 (65 * m) (option_map fields x) → AtMost 65 (65 * n) (option_map fields y) → AtMost 0 (72 * k) (option_map text_of rest)
-    → AtMost 0 (72 * (m + n + k)) (option_map text_of (x >>= λ b. y >>= λ a. rest >>= λ lines. Some (holder_line (codes "before") g b ∷ holder_line (codes "after") g a ∷ lines)))
+    → AtMost 0 (72 * (m + n + k)) (option_map text_of (one (headed (codes "before") (headed (decimal g) x)) ⊕ one (headed (codes "after") (headed (decimal g) y)) ⊕ rest))
 chunk_of g m n k None y rest p q a b c = tt
 chunk_of g m n k (Some x) None rest p q a b c = tt
 chunk_of g m n k (Some x) (Some y) None p q a b c = tt
 chunk_of g m n k (Some x) (Some y) (Some lines) p q a b c =
-    let before = line (holder_line (codes "before") g x) in
-    let after = line (holder_line (codes "after") g y) in
+    let before = line (codes "before" ∷ decimal g ∷ x) in
+    let after = line (codes "after" ∷ decimal g ∷ y) in
     omega (arith, holders m g (codes "before") x (omega arith) a, holders n g (codes "after") y (omega arith) b, length-append before (after ++ text_of lines), length-append after (text_of lines))
 
 chunks_short : (g : ℕ) (before after : Items) → AtMost 0 (72 * (items_size before + items_size after)) (option_map text_of (chunk_lines g before after))
@@ -110,7 +120,7 @@ items_at n (Some v) h = go (as_array v) (listed v)
     go (Some ds) x = omega arith
 
 custom_of : (n : ℕ) (x y : Option Items) → 1 ≤ n → IfSome x (λ ds. items_size ds ≤ n) → IfSome y (λ ds. items_size ds ≤ n)
-    → AtMost 0 (216 * n) (option_map text_of (x >>= λ before. y >>= λ after. chunk_lines 0 before after >>= λ lines. Some ((codes "custom" ∷ decimal (items_len before) ∷ []) ∷ lines)))
+    → AtMost 0 (216 * n) (option_map text_of (x >>= λ before. y >>= λ after. headed (codes "custom" ∷ decimal (items_len before) ∷ []) (chunk_lines 0 before after)))
 custom_of n None y h p q = tt
 custom_of n (Some b) None h p q = tt
 custom_of n (Some b) (Some a) h p q = go (chunk_lines 0 b a) (chunks_short 0 b a)
@@ -118,7 +128,7 @@ custom_of n (Some b) (Some a) h p q = go (chunk_lines 0 b a) (chunks_short 0 b a
     first : List ℕ
     first = line (codes "custom" ∷ decimal (items_len b) ∷ [])
 
-    go : (o : Option (List (List (List ℕ)))) → AtMost 0 (72 * (items_size b + items_size a)) (option_map text_of o) → AtMost 0 (216 * n) (option_map text_of (o >>= λ lines. Some ((codes "custom" ∷ decimal (items_len b) ∷ []) ∷ lines)))
+    go : (o : Option (List (List (List ℕ)))) → AtMost 0 (72 * (items_size b + items_size a)) (option_map text_of o) → AtMost 0 (216 * n) (option_map text_of (headed (codes "custom" ∷ decimal (items_len b) ∷ []) o))
     go None x = tt
     go (Some lines) x = omega (arith, line_length (codes "custom") (decimal (items_len b) ∷ []), length-append (decimal (items_len b)) [], decimal_short (items_len b), length-append first (text_of lines))
 
@@ -138,7 +148,7 @@ header_length false = omega arith
 header_length true = omega arith
 
 parts_of : (n : ℕ) (p : Bool) (names : Option (List (List ℕ))) (groups custom : Option (List (List (List ℕ)))) → 1 ≤ n → AtMost 0 (65 * n) (option_map fields names) → AtMost 0 (140 * n) (option_map text_of groups) → AtMost 0 (216 * n) (option_map text_of custom)
-    → AtMost 0 (440 * n) (option_map text_of (names >>= λ ns. groups >>= λ gs. custom >>= λ cs. Some (head_words p ∷ (codes "nodes" ∷ ns) ∷ gs ++ cs)))
+    → AtMost 0 (440 * n) (option_map text_of (headed (head_words p) (one (headed (codes "nodes") names) ⊕ groups ⊕ custom)))
 parts_of n p None groups custom h a b c = tt
 parts_of n p (Some ns) None custom h a b c = tt
 parts_of n p (Some ns) (Some gs) None h a b c = tt

@@ -1,17 +1,17 @@
 -- A topology as JSON (RFC 8259), and the text that JSON of this form stands for. The form is this project's own.
 use Rattle.std.specs.Prelude.{ℕ, ◌+◌, ◌==◌, Bool, true, false, if◌then◌else◌, List, [], ◌∷◌, ◌++◌, map, filter, Option, Some, None, option_map, codes, decimal}
-use Rattle.std.specs.List.{range_with_len}
+use Rattle.std.specs.List.{range_with_len, join_with_byte}
 use Rattle.schedule.specs.Links.{GroupValue}
 use Rattle.schedule.specs.Placed.{PlacementValue, holds}
 use Rattle.collective_spec.specs.Patterns.{PatternValue}
 use Rattle.serde_json.specs.Data.{Data, string, Items, no_items, item}
-use Rattle.serde_json.specs.Find.{as_array, get}
+use Rattle.serde_json.specs.Find.{as_array}
 use Rattle.serde_json.specs.Events.{items_len}
 use Rattle.text_lines.specs.Text.{text_of}
 use Rattle.topology_text.specs.Value.{NamedTopologyValue}
 use Rattle.topology_text.specs.Spelling.{name_at, head_words}
 use Rattle.json_values.specs.Json.{array_of, object_of, count_of}
-use Rattle.json_values.specs.Shape.{◌>>=◌, list_in, count_in, name_in, has_keys}
+use Rattle.json_values.specs.Shape.{◌>>=◌, ◌⊕◌, one, headed, list_in, row_in, count_in, name_in, has_keys, field, number_at}
 
 -- ---- a topology as JSON
 
@@ -49,41 +49,21 @@ topology_json t = object_of (
 -- ---- the lines that JSON of this form stands for, each as its tokens
 
 -- a list of two names: the token of a link between them
-abbrev pub pair_in : Items → Option (List ℕ)
-pair_in (item a (item b no_items)) = do
-  from ← name_in a
-  to ← name_in b
-  Some (from ++ 62 ∷ to)
-pair_in _ = None
-
 abbrev pub link_in : Data → Option (List ℕ)
-link_in d = do
-  items ← as_array d
-  pair_in items
-
-abbrev pub field : {A : Type 0} → List ℕ → (Data → Option A) → Data → Option A
-field key shape d = do
-  value ← get key d
-  shape value
+link_in d = option_map (join_with_byte 62) (row_in (name_in ∷ name_in ∷ []) d)
 
 -- an object with a list of links and a number
 abbrev pub group_in : Data → Option (List (List ℕ))
-group_in d = if has_keys (codes "links" ∷ codes "width" ∷ []) d then (do
-  width ← field (codes "width") count_in d
-  links ← field (codes "links") (list_in link_in) d
-  Some (codes "group" ∷ decimal width ∷ links)) else None
+group_in d = if has_keys (codes "links" ∷ codes "width" ∷ []) d then headed (codes "group") (one (number_at (codes "width") d) ⊕ field (codes "links") (list_in link_in) d) else None
 
-abbrev pub holder_line : List ℕ → ℕ → List (List ℕ) → List (List ℕ)
-holder_line word g names = word ∷ decimal g ∷ names
+-- who holds chunk g: a list of names
+abbrev pub holders_in : List ℕ → ℕ → Data → Option (List (List ℕ))
+holders_in word g d = headed word (headed (decimal g) (list_in name_in d))
 
 -- the two lines of each chunk, from chunk g on, where there are as many before as after
 abbrev pub chunk_lines : ℕ → Items → Items → Option (List (List (List ℕ)))
 chunk_lines g no_items no_items = Some []
-chunk_lines g (item b before) (item a after) = do
-  x ← list_in name_in b
-  y ← list_in name_in a
-  lines ← chunk_lines (g + 1) before after
-  Some (holder_line (codes "before") g x ∷ holder_line (codes "after") g y ∷ lines)
+chunk_lines g (item b before) (item a after) = one (holders_in (codes "before") g b) ⊕ one (holders_in (codes "after") g a) ⊕ chunk_lines (g + 1) before after
 chunk_lines g _ _ = None
 
 -- an object with two lists of as many lists of names
@@ -91,17 +71,14 @@ abbrev pub custom_in : Data → Option (List (List (List ℕ)))
 custom_in d = if has_keys (codes "after" ∷ codes "before" ∷ []) d then (do
   before ← field (codes "before") as_array d
   after ← field (codes "after") as_array d
-  lines ← chunk_lines 0 before after
-  Some ((codes "custom" ∷ decimal (items_len before) ∷ []) ∷ lines)) else None
+  headed (codes "custom" ∷ decimal (items_len before) ∷ []) (chunk_lines 0 before after)) else None
 
 -- whether the topology has a pattern: its version is 1 or 2
 abbrev pub has_pattern : ℕ → Option Bool
 has_pattern version = if version == 1 then Some false else (if version == 2 then Some true else None)
 
 abbrev pub version_in : Data → Option Bool
-version_in d = do
-  version ← field (codes "version") count_in d
-  has_pattern version
+version_in d = field (codes "version") count_in d >>= has_pattern
 
 abbrev pub keys_of : Bool → List (List ℕ)
 keys_of patterned = (if patterned then codes "custom" ∷ [] else []) ++ codes "groups" ∷ codes "nodes" ∷ codes "version" ∷ []
@@ -111,16 +88,12 @@ pattern_in false d = Some []
 pattern_in true d = field (codes "custom") custom_in d
 
 abbrev pub parts_in : Bool → Data → Option (List (List (List ℕ)))
-parts_in patterned d = if has_keys (keys_of patterned) d then (do
-  names ← field (codes "nodes") (list_in name_in) d
-  groups ← field (codes "groups") (list_in group_in) d
-  custom ← pattern_in patterned d
-  Some (head_words patterned ∷ (codes "nodes" ∷ names) ∷ groups ++ custom)) else None
+parts_in patterned d =
+    if has_keys (keys_of patterned) d then headed (head_words patterned) (one (headed (codes "nodes") (field (codes "nodes") (list_in name_in) d)) ⊕ field (codes "groups") (list_in group_in) d ⊕ pattern_in patterned d)
+    else None
 
 abbrev pub topology_in : Data → Option (List (List (List ℕ)))
-topology_in d = do
-  patterned ← version_in d
-  parts_in patterned d
+topology_in d = version_in d >>= λ patterned. parts_in patterned d
 
 -- the text of these lines
 abbrev pub topology_text_in : Data → Option (List ℕ)

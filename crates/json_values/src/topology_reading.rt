@@ -8,7 +8,7 @@ ghost use Rattle.topology_text.specs.Value.{IsNamed};
 ghost use Rattle.topology_text.specs.Spelling.{spelling, head_words};
 ghost use Rattle.json_values.specs.Json.{value_of};
 ghost use Rattle.json_values.specs.Shape.{name_in, list_in, has_keys};
-ghost use Rattle.json_values.specs.TopologyJson.{link_in, group_in, holder_line, chunk_lines, custom_in, version_in, keys_of, pattern_in, topology_text_in};
+ghost use Rattle.json_values.specs.TopologyJson.{link_in, group_in, holders_in, chunk_lines, custom_in, version_in, keys_of, pattern_in, topology_text_in};
 ghost use Rattle.json_values.specs.inner.Fields.{group_fields, custom_fields, topology_fields};
 ghost use Rattle.json_values.specs.Appends.{Appends, token_text, line_text};
 ghost use Rattle.json_values.specs.Answer.{topology_of_json, Answers};
@@ -98,7 +98,7 @@ impl Piece for GroupLine {
 
 /// Appends the line that says which nodes hold the chunk.
 fn push_holders(out: &mut Vec<u8>, word: &[u8], chunk: usize, value: &Value) -> Result<(), Stop<()>>
-    ensures { Appends result out.old.items out.new.items (option_map (λ names. line (holder_line word.now chunk names)) (list_in name_in (view value.now))) }
+    ensures { Appends result out.old.items out.new.items (option_map line (holders_in word.now chunk (view value.now))) }
 {
     push_word(out, word)?;
     push_word(out, b" ")?;

@@ -2,8 +2,8 @@
 use Rattle.std.specs.Prelude.{ℕ, Bool, if◌then◌else◌, [], ◌∷◌, Option, Some, None, codes}
 use Rattle.serde_json.specs.Data.{Data, Items}
 use Rattle.serde_json.specs.Find.{as_array, get}
-use Rattle.json_values.specs.Shape.{◌>>=◌, count_in, has_keys}
-use Rattle.json_values.specs.TopologyJson.{field, keys_of}
+use Rattle.json_values.specs.Shape.{◌>>=◌, count_in, field, has_keys}
+use Rattle.json_values.specs.TopologyJson.{keys_of}
 
 -- the width and the links of a group
 abbrev pub group_fields : Data → Option (ℕ × Data)

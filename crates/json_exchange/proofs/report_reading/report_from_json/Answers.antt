@@ -3,7 +3,7 @@ use Rattle.report_form.specs.Spelling.{report_text}
 use Rattle.frontier_report.proofs.Onward.{lines_of_short}
 use Rattle.json_values.proofs.Standing.{stands_for}
 use Rattle.json_rules.specs.ReportJson.{report_text_in}
-use Rattle.json_exchange.proofs.Short.{report_text_short}
+use Rattle.json_reports.proofs.Short.{report_text_short}
 use Rattle.json_exchange.proofs.report_reading.report_from_json.Goals as goal
 
 pub read_report-requires : goal.read_report-requires

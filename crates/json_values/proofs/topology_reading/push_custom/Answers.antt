@@ -1,11 +1,11 @@
-use Rattle.std.proofs.Common.{◌≡◌, ◌≢◌, ℕ, List, [], ◌∷◌, ◌++◌, Some, ap, sym, ◌∙◌, append_assoc, option_map, subst, rules}
+use Rattle.std.proofs.Common.{◌≡◌, ◌≢◌, ℕ, List, [], ◌∷◌, ◌++◌, ap, sym, ◌∙◌, append_assoc, option_map, subst, rules}
 use Rattle.std.specs.Prelude.{codes, decimal}
 use Rattle.text_lines.specs.Text.{line, text_of}
 use Rattle.serde_json.specs.Events.{items_len}
 use Rattle.serde_json.specs.View.{view, items_view}
 use Rattle.serde_json.proofs.Views.{items_len-items_view}
 use Rattle.topology_text.proofs.Printed.{base_is}
-use Rattle.json_values.specs.Shape.{◌>>=◌}
+use Rattle.json_values.specs.Shape.{headed}
 use Rattle.json_values.specs.TopologyJson.{chunk_lines}
 use Rattle.json_values.specs.Appends.{Appends}
 use Rattle.json_values.proofs.Chunks.{as_many, custom_with}
@@ -17,7 +17,7 @@ returns-then-before-after c =
     let before = items_view c.in-Some.before.now in
     let after = items_view c.in-Some.after.now in
     let other : items_len before ≢ items_len after = λ e. c.if-before-after.true (sym (items_len-items_view c.in-Some.before.now) ∙ e ∙ items_len-items_view c.in-Some.after.now) in
-    ap (option_map text_of) (custom_with (view c.args.value.now) before after (search rules) ∙ ap (λ o. o >>= λ lines. Some ((codes "custom" ∷ decimal (items_len before) ∷ []) ∷ lines)) (as_many 0 before after other))
+    ap (option_map text_of) (custom_with (view c.args.value.now) before after (search rules) ∙ ap (headed (codes "custom" ∷ decimal (items_len before) ∷ [])) (as_many 0 before after other))
 
 pub returns : goal.returns
 returns c =

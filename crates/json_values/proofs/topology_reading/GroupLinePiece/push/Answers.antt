@@ -1,9 +1,9 @@
-use Rattle.std.proofs.Common.{◌≡◌, List, ℕ, [], ◌∷◌, ◌++◌, Some, ap, sym, ◌∙◌, append_assoc, option_map, rules}
+use Rattle.std.proofs.Common.{◌≡◌, List, ℕ, [], ◌∷◌, ◌++◌, ap, sym, ◌∙◌, append_assoc, option_map, rules}
 use Rattle.std.specs.Prelude.{codes, decimal}
 use Rattle.std.proofs.lemmas.List.{append-nil}
 use Rattle.text_lines.specs.Text.{line}
 use Rattle.serde_json.specs.View.{view}
-use Rattle.json_values.specs.Shape.{◌>>=◌, list_in}
+use Rattle.json_values.specs.Shape.{list_in}
 use Rattle.json_values.specs.TopologyJson.{link_in}
 use Rattle.json_values.proofs.Lines.{tokens_listed, tokens_refused, line_closed, lined, refused_on}
 use Rattle.json_values.proofs.Groups.{group_with}
@@ -15,7 +15,7 @@ returns-in_err-push_list c =
     let links = view c.in-Some.links.now in
     let group = group_with (view c.args.value.now) width links (search rules) in
     refused_on _ c.in_err-push_list.field-0.0 _ _ _ _ _ _ (search rules)
-    (λ none. ap (option_map line) (group ∙ ap (λ o. o >>= λ tokens. Some (codes "group" ∷ decimal width ∷ tokens)) (tokens_refused link_in links none))) c.in_err-push_list.ensures
+    (λ none. ap (option_map line) (group ∙ ap (option_map (λ tokens. codes "group" ∷ decimal width ∷ tokens)) (tokens_refused link_in links none))) c.in_err-push_list.ensures
 
 pub returns : goal.returns
 returns c =

@@ -1,5 +1,0 @@
-use Rattle.json_exchange.proofs.Short.{report_text_short}
-use Rattle.json_exchange.proofs.laws.text_of_report_json_is_short.Goals as goal
-
-pub returns : goal.returns
-returns c = report_text_short

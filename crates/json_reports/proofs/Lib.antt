@@ -1,0 +1,5 @@
+pub mod Built
+pub mod Compose
+pub mod ReportForm
+pub mod Sends
+pub mod Short

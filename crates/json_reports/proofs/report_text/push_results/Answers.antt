@@ -1,0 +1,29 @@
+use Rattle.std.proofs.Common.{◌++◌, ap, sym, ◌∙◌, option_map, subst, rules}
+use Rattle.std.specs.Prelude.{codes}
+use Rattle.text_lines.specs.Text.{text_of}
+use Rattle.serde_json.specs.View.{view}
+use Rattle.json_values.specs.Shape.{◌⊕◌, lines_in}
+use Rattle.json_rules.specs.ReportJson.{frontier_in}
+use Rattle.json_reports.specs.inner.Pieces.{end_in}
+use Rattle.json_values.specs.Appends.{Appends}
+use Rattle.json_values.proofs.Lines.{parts_listed, not_mapped, refused_on}
+use Rattle.json_reports.proofs.Compose.{in_turn, field_is}
+use Rattle.json_reports.proofs.report_text.push_results.Goals as goal
+
+pub returns-in_err-push_list : goal.returns-in_err-push_list
+returns-in_err-push_list c =
+    let d = view c.args.value.now in
+    let part = view c.in-Some.frontiers.now in
+    refused_on _ c.in_err-push_list.field-0.0 _ _ _ _ _ _ (search rules)
+    (λ none. ap (option_map text_of) (ap (λ o. o ⊕ end_in c.args.joins d) (field_is (codes "frontiers") (lines_in frontier_in) d part (search rules) ∙ not_mapped text_of (lines_in frontier_in part) (sym (parts_listed frontier_in part) ∙ none)))) c.in_err-push_list.ensures
+
+pub returns : goal.returns
+returns c =
+    let d = view c.args.value.now in
+    let part = view c.in-Some.frontiers.now in
+    let old = c.args.out.now.items in
+    let mid = c.push_list.new.out.items in
+    let last = c.push_end.new.out.items in
+    let whole = ap (λ x. x ⊕ end_in c.args.joins d) (field_is (codes "frontiers") (lines_in frontier_in) d part (search rules)) in
+    subst (Appends c.push_end.result old last) (ap (option_map text_of) (sym whole))
+    (in_turn c.push_end.result old mid last (lines_in frontier_in part) (end_in c.args.joins d) (ap (option_map (λ t. old ++ t)) (sym (parts_listed frontier_in part)) ∙ c.in_ok-push_list.ensures) c.push_end.ensures)
