@@ -113,7 +113,6 @@ each_found r right searched =
     (All-contains (IsSearchedPart r) r.frontiers x searched.parts at)
     (All-contains (λ (y : Part × FrontierValue). IsFrontier (question_of r.words r.topology y.0) y.1) r.frontiers x right.valid.frontiers at).refuted)
 
-
 pub synth_is_true : (x : RunValue) (a b c : CountValue) → IsRightRun x a b c → x.status ≡ Done → (kept : Bool) (w : WordsValue) (t : NamedTopologyValue) → AsksSynth kept x.words x.bytes w t → Prints w t x.before x.now
 synth_is_true x a b c run done kept w t asks =
     let is : command_of x.words ≡ Ok (command.Synth w.collective.kind 1 w.limits (root_word t.names w) kept) = ap command_of asks.words_are ∙ synth_asked t.names w kept asks.topology.names asks.limits in

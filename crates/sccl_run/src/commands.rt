@@ -10,17 +10,13 @@ ghost use Rattle.run_rules.specs.Tasks.{limit, task_of};
 ghost use Rattle.sccl_run.specs.inner.Answering.{due_for};
 
 use crate::family::family_answer;
-use bound_command::bound_answer;
-use check_command::check_answer;
 use command_words::{Command, PointWord, SearchWords};
-use degrade_command::{LinkFault, degrade_answer};
 use json_command::{json_answer, unjson_answer};
-use ordered_command::ordered_answer;
 use outer_ports::Shelf;
-use point_commands::{programs_answer, replay_answer};
+use report_commands::{LinkFault, check_answer, degrade_answer, programs_answer, replay_answer};
 use run_rules::{Answer, Halt, too_long};
+use search_commands::{bound_answer, ordered_answer, synth_answer};
 use std::alloc::Global;
-use synth_command::synth_answer;
 use trial_command::trial_answer;
 
 /// The answer of a command to bytes that came whole. Only what opens the shelf is lent it.

@@ -1,2 +1,0 @@
-mod Bounding
-mod OnePart

@@ -1,8 +1,0 @@
-mod Taken
-mod OldRight
-mod Left
-mod Uncut
-mod Parted
-mod Lines
-mod Told
-mod Anew

@@ -1,5 +1,0 @@
-use Rattle.degrade_command.proofs.Told.{judged}
-use Rattle.degrade_command.proofs.answering.judged.Goals as goal
-
-pub returns-clause-judged : goal.returns-clause-judged
-returns-clause-judged g c = judged c.args.report.now c.in_ok-audit.field-0 _ c.in_ok-audit.ensures.exact c.in_ok-audit.ensures.some c.audit.ensures.stay

@@ -1,0 +1,7 @@
+mod Searched
+mod Bounding
+mod OnePart
+mod Pieces
+mod BoundDue
+mod Printed
+mod OrderDue
