@@ -10,12 +10,12 @@ mod empty_shelf;
 mod fault;
 mod found;
 mod old_refuted;
-mod programs;
-mod replay;
+mod programming;
+mod replaying;
 
 pub use check::check_answer;
 pub use degrade::degrade_answer;
 pub use fault::LinkFault;
-pub use programs::programs_answer;
-pub use replay::replay_answer;
+pub use programming::programs_answer;
+pub use replaying::replay_answer;
 pub use std::alloc::AllocError as OutOfMemory;

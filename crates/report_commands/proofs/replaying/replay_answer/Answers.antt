@@ -2,18 +2,18 @@ use Rattle.std.proofs.Common.{◌≡◌, Ok, IfOk, ap, subst, sym}
 use Rattle.text_lines.specs.Check.{◌>>=◌}
 use Rattle.run_rules.specs.Answers.{IsAnswerAlone}
 use Rattle.run_rules.specs.Read.{IsReadAs}
-use Rattle.run_rules.specs.Tasks.{programs_asked, programs_in, read_report}
+use Rattle.run_rules.specs.Tasks.{read_report, replay_asked, replay_in}
 use Rattle.run_rules.proofs.Answered.{refused_alone, refused_behind}
-use Rattle.report_commands.proofs.programs.programs_answer.Goals as goal
+use Rattle.report_commands.proofs.replaying.replay_answer.Goals as goal
 
 pub returns-in-Spelled : goal.returns-in-Spelled
 returns-in-Spelled c =
     let bytes = c.args.bytes.now in
     let read : read_report bytes ≡ Ok c.in-Spelled.report = subst (IsReadAs (read_report bytes)) c.in-Spelled.is c.in_ok-report.ensures in
-    subst (λ due. IfOk c.programs_in_report.result (λ a. IsAnswerAlone due a.status a.text.items)) (sym (ap (λ x. x >>= (λ r. programs_in r c.args.asked)) read)) c.programs_in_report.ensures
+    subst (λ due. IfOk c.replay_in_report.result (λ a. IsAnswerAlone due a.status a.text.items)) (sym (ap (λ x. x >>= (λ r. replay_in r c.args.asked c.args.order)) read)) c.replay_in_report.ensures
 
 pub returns-in-Refused : goal.returns-in-Refused
 returns-in-Refused c =
     let bytes = c.args.bytes.now in
     let refused = subst (IsReadAs (read_report bytes)) c.in-Refused.is c.in_ok-report.ensures in
-    refused_alone (programs_asked c.args.asked bytes) c.in-Refused.answer (refused_behind (read_report bytes) (λ r. programs_in r c.args.asked) c.in-Refused.answer refused)
+    refused_alone (replay_asked c.args.asked c.args.order bytes) c.in-Refused.answer (refused_behind (read_report bytes) (λ r. replay_in r c.args.asked c.args.order) c.in-Refused.answer refused)
