@@ -12,6 +12,7 @@ use Rattle.topology_text.specs.Answer.{code_number as topology_number}
 use Rattle.topology_text.specs.Reading.{topology_of, node_of}
 use Rattle.topology_text.specs.Family.{family_of}
 use Rattle.topology_text.specs.Spelling.{spelling}
+use Rattle.report_form.specs.declared.fault.ReportCode.{ReportCode}
 use Rattle.report_form.specs.Reports.{WordsValue, ReportValue}
 use Rattle.report_form.specs.Numbered.{point_at}
 use Rattle.report_form.specs.Answer.{code_number as report_number}
@@ -22,11 +23,11 @@ use Rattle.candidate_formula.specs.Counts.{counts_of}
 use Rattle.report_form.specs.Spelling.{report_text}
 use Rattle.node_programs.specs.Programs.{programs_of}
 use Rattle.replay_text.specs.Showing.{adding_of, nodes_of, shown_in, shown_text}
-use Rattle.json_values.specs.Answer.{code_number as json_number, topology_of_json}
+use Rattle.json_values.specs.declared.fault.JsonCode.{JsonCode}
+use Rattle.json_values.specs.Answer.{code_number as json_number, of_json, of_text, text_of_json, topology_of_json}
 use Rattle.json_values.specs.Json.{printed}
 use Rattle.json_values.specs.TopologyJson.{topology_json}
-use Rattle.json_rules.specs.Answer.{report_of_json}
-use Rattle.json_rules.specs.ReportJson.{report_json}
+use Rattle.json_rules.specs.ReportJson.{report_json, report_text_in}
 use Rattle.json_rules.specs.ProgramsJson.{programs_json}
 use Rattle.replay_text.specs.Points.{programs_of_point}
 use Rattle.command_words.specs.declared.command.JsonWhat.{JsonWhat}
@@ -133,8 +134,12 @@ abbrev pub is_allreduce : Kind → Bool
 is_allreduce Allreduce = true
 is_allreduce _ = false
 
-abbrev pub read_report : List ℕ → Result ReportValue Refusal
-read_report bytes = refused_as BadReport report_number (report_of bytes)
+-- what each text is read as
+abbrev pub Reader : Type 0
+Reader = List ℕ → Result ReportValue (ReportCode × ℕ)
+
+abbrev pub report_by : Reader → List ℕ → Result ReportValue Refusal
+report_by read bytes = refused_as BadReport report_number (read bytes)
 
 -- the report, where its search can be done
 abbrev pub audit_in : ReportValue → Result Task Refusal
@@ -143,9 +148,9 @@ audit_in report = do
   Ok (Audit report)
 
 -- the report whose files are to be looked at
-abbrev pub audit_asked : List ℕ → Result Task Refusal
-audit_asked bytes = do
-  report ← read_report bytes
+abbrev pub audit_by : Reader → List ℕ → Result Task Refusal
+audit_by read bytes = do
+  report ← report_by read bytes
   audit_in report
 
 -- a fault of a group that the report has, and that it narrows
@@ -162,9 +167,9 @@ degrade_in report group group_word width width_word = do
   _ ← searchable (whole_question report.words report.topology)
   Ok (Degrade report group width)
 
-abbrev pub degrade_asked : ℕ → ℕ → ℕ → ℕ → List ℕ → Result Task Refusal
-degrade_asked group group_word width width_word bytes = do
-  report ← read_report bytes
+abbrev pub degrade_by : Reader → ℕ → ℕ → ℕ → ℕ → List ℕ → Result Task Refusal
+degrade_by read group group_word width width_word bytes = do
+  report ← report_by read bytes
   degrade_in report group group_word width width_word
 
 -- the point that the word asks for
@@ -177,9 +182,9 @@ replay_in report asked order = do
   point ← point_in report asked
   Ok (Write (shown_text asked.point (shown_in report point) order))
 
-abbrev pub replay_asked : PointWord → Option ℕ → List ℕ → Result Task Refusal
-replay_asked asked order bytes = do
-  report ← read_report bytes
+abbrev pub replay_by : Reader → PointWord → Option ℕ → List ℕ → Result Task Refusal
+replay_by read asked order bytes = do
+  report ← report_by read bytes
   replay_in report asked order
 
 -- the programs of a point of this report
@@ -188,9 +193,9 @@ programs_in report asked = do
   point ← point_in report asked
   Ok (Write (programs_of_point report asked.point point))
 
-abbrev pub programs_asked : PointWord → List ℕ → Result Task Refusal
-programs_asked asked bytes = do
-  report ← read_report bytes
+abbrev pub programs_by : Reader → PointWord → List ℕ → Result Task Refusal
+programs_by read asked bytes = do
+  report ← report_by read bytes
   programs_in report asked
 
 -- ---- JSON
@@ -207,50 +212,85 @@ json_programs_in report word = do
   Ok (Write (printed (programs_value report asked.point point)))
 
 -- what is written as JSON
-abbrev pub json_asked : JsonWhat → Option PointWord → List ℕ → Result Task Refusal
-json_asked what.Topology point bytes = do
+abbrev pub json_by : Reader → JsonWhat → Option PointWord → List ℕ → Result Task Refusal
+json_by read what.Topology point bytes = do
   topology ← refused_as BadTopology topology_number (topology_of bytes)
   Ok (Write (printed (topology_json topology)))
-json_asked what.Report point bytes = do
-  report ← read_report bytes
+json_by read what.Report point bytes = do
+  report ← report_by read bytes
   Ok (Write (printed (report_json report)))
-json_asked what.Programs point bytes = do
-  report ← read_report bytes
+json_by read what.Programs point bytes = do
+  report ← report_by read bytes
   json_programs_in report point
 
+-- the report whose text the JSON stands for
+abbrev pub json_report_by : Reader → List ℕ → Result ReportValue (JsonCode × ℕ)
+json_report_by read bytes = do
+  text ← of_json (text_of_json report_text_in bytes)
+  of_text (read text)
+
 -- the text of what is read as JSON
-abbrev pub unjson_asked : JsonWhat → List ℕ → Result Task Refusal
-unjson_asked what.Report bytes = do
-  report ← refused_as BadJson json_number (report_of_json bytes)
+abbrev pub unjson_by : Reader → JsonWhat → List ℕ → Result Task Refusal
+unjson_by read what.Report bytes = do
+  report ← refused_as BadJson json_number (json_report_by read bytes)
   Ok (Write (report_text report))
-unjson_asked _ bytes = do
+unjson_by read _ bytes = do
   topology ← refused_as BadJson json_number (topology_of_json bytes)
   Ok (Write (spelling topology))
 
 -- ---- what is due
 
 -- what a command asks for, over bytes that came whole
-abbrev pub task_of : Command → List ℕ → Result Task Refusal
-task_of (command.Synth kind word limits root kept) bytes = synthesis_asked (record { kind = kind; kind_word = word; limits = limits; root = root }) kept bytes
-task_of command.Check bytes = audit_asked bytes
-task_of (command.Replay number word order) bytes = replay_asked (record { point = number; word = word }) order bytes
-task_of (command.Programs number word) bytes = programs_asked (record { point = number; word = word }) bytes
-task_of (command.Family kind size) bytes = Ok (Write (spelling (family_of kind size)))
-task_of (command.Trial n) bytes = Ok (Try n)
-task_of (command.Bound kind word limits root all_sets) bytes = bound_asked (record { kind = kind; kind_word = word; limits = limits; root = root }) all_sets bytes
-task_of (command.Ordered kind word limits root) bytes = order_asked (record { kind = kind; kind_word = word; limits = limits; root = root }) bytes
-task_of (command.Degrade group group_word width width_word) bytes = degrade_asked group group_word width width_word bytes
-task_of (command.Json value point) bytes = json_asked value point bytes
-task_of (command.Unjson value) bytes = unjson_asked value bytes
+abbrev pub task_by : Reader → Command → List ℕ → Result Task Refusal
+task_by read (command.Synth kind word limits root kept) bytes = synthesis_asked (record { kind = kind; kind_word = word; limits = limits; root = root }) kept bytes
+task_by read command.Check bytes = audit_by read bytes
+task_by read (command.Replay number word order) bytes = replay_by read (record { point = number; word = word }) order bytes
+task_by read (command.Programs number word) bytes = programs_by read (record { point = number; word = word }) bytes
+task_by read (command.Family kind size) bytes = Ok (Write (spelling (family_of kind size)))
+task_by read (command.Trial n) bytes = Ok (Try n)
+task_by read (command.Bound kind word limits root all_sets) bytes = bound_asked (record { kind = kind; kind_word = word; limits = limits; root = root }) all_sets bytes
+task_by read (command.Ordered kind word limits root) bytes = order_asked (record { kind = kind; kind_word = word; limits = limits; root = root }) bytes
+task_by read (command.Degrade group group_word width width_word) bytes = degrade_by read group group_word width width_word bytes
+task_by read (command.Json value point) bytes = json_by read value point bytes
+task_by read (command.Unjson value) bytes = unjson_by read value bytes
 
 -- the words are a command, or are refused
 abbrev pub words_asked : Result Command WordFault → Result Command Refusal
 words_asked (Ok c) = Ok c
 words_asked (Err fault) = Err (refused_word fault.code fault.word)
 
--- the task, or the first refusal, as far as words and bytes decide
-unfoldable pub due : List (List ℕ) → List ℕ → Result Task Refusal
-due words bytes = do
+-- the task, or the first refusal, as far as words, bytes and the reader of reports decide
+abbrev pub due_by : Reader → List (List ℕ) → List ℕ → Result Task Refusal
+due_by read words bytes = do
   command ← words_asked (command_of words)
   _ ← whole_text (row_of command).reads bytes
-  task_of command bytes
+  task_by read command bytes
+
+-- ---- by the checks of a report's text, as the code reads it
+
+abbrev pub read_report : List ℕ → Result ReportValue Refusal
+read_report bytes = report_by report_of bytes
+
+abbrev pub audit_asked : List ℕ → Result Task Refusal
+audit_asked bytes = audit_by report_of bytes
+
+abbrev pub degrade_asked : ℕ → ℕ → ℕ → ℕ → List ℕ → Result Task Refusal
+degrade_asked group group_word width width_word bytes = degrade_by report_of group group_word width width_word bytes
+
+abbrev pub replay_asked : PointWord → Option ℕ → List ℕ → Result Task Refusal
+replay_asked asked order bytes = replay_by report_of asked order bytes
+
+abbrev pub programs_asked : PointWord → List ℕ → Result Task Refusal
+programs_asked asked bytes = programs_by report_of asked bytes
+
+abbrev pub json_asked : JsonWhat → Option PointWord → List ℕ → Result Task Refusal
+json_asked value point bytes = json_by report_of value point bytes
+
+abbrev pub unjson_asked : JsonWhat → List ℕ → Result Task Refusal
+unjson_asked value bytes = unjson_by report_of value bytes
+
+abbrev pub task_of : Command → List ℕ → Result Task Refusal
+task_of command bytes = task_by report_of command bytes
+
+unfoldable pub due : List (List ℕ) → List ℕ → Result Task Refusal
+due words bytes = due_by report_of words bytes

@@ -5,9 +5,21 @@ use Rattle.command_words.specs.declared.command.Command.{Command}
 use Rattle.command_words.specs.declared.command.Command.TheVariants as command
 use Rattle.command_words.specs.declared.fault.WordFault.{WordFault}
 use Rattle.command_words.specs.Words.{command_of}
-use Rattle.run_rules.specs.Commands.{Ask, Reads}
-use Rattle.run_rules.specs.Refusals.{Refusal}
-use Rattle.run_rules.specs.Tasks.{Task, due}
+use Rattle.text_lines.specs.Check.{◌>>=◌}
+use Rattle.report_form.specs.Answer.{code_number as report_number}
+use Rattle.report_form.specs.Reports.{ReportValue}
+use Rattle.report_form.specs.Spelling.{report_text}
+use Rattle.report_form.specs.Reading.{report_of}
+use Rattle.report_laws.specs.Shapes.{ReadsAs}
+use Rattle.report_laws.proofs.Readings.{only_read_as}
+use Rattle.json_values.specs.declared.fault.JsonCode.{JsonCode}
+use Rattle.json_values.specs.Answer.{code_number as json_number, of_json, of_text, text_of_json}
+use Rattle.json_values.specs.Json.{printed}
+use Rattle.json_rules.specs.ReportJson.{report_json, report_text_in}
+use Rattle.run_rules.specs.declared.status.Status.TheVariants.{BadJson, BadReport}
+use Rattle.run_rules.specs.Commands.{Ask, Reads, row_of}
+use Rattle.run_rules.specs.Refusals.{Refusal, refused_as}
+use Rattle.run_rules.specs.Tasks.{Task, Write, Reader, audit_in, degrade_in, due, due_by, json_programs_in, programs_in, replay_in, report_by, task_by, whole_text, words_asked}
 use Rattle.sccl_run.specs.inner.Answering.{due_for}
 use Rattle.sccl_run.specs.Laws.{IsRightRun}
 use Rattle.sccl_run.specs.Rows.{all_tell}
@@ -37,5 +49,41 @@ same_due words bytes came are = by_words (command_of words) refl
     by_words (Ok c) is = due_command words came c is ∙ same_for c bytes came (λ reads. are (record { command = c; is = is; such = reads })) ∙ sym (due_command words bytes c is)
     by_words (Err fault) is = due_refused words came fault is ∙ sym (due_refused words bytes fault is)
 
+-- what is due for whoever reads reports by their spelling is what is due by the checks
+same_reading : (read : Reader) → ((text : List ℕ) → ReadsAs text (read text)) → (words : List (List ℕ)) (bytes : List ℕ) → due_by read words bytes ≡ due words bytes
+unfolding due
+same_reading read reads words bytes = by_words (command_of words)
+  where
+    same : (text : List ℕ) → read text ≡ report_of text
+    same text = sym (only_read_as text (read text) (reads text))
+
+    by_text : (t : Result (List ℕ) (JsonCode × ℕ)) → (refused_as BadJson json_number (t >>= (λ text. of_text (read text))) >>= (λ r. Ok (Write (report_text r)))) ≡ (refused_as BadJson json_number (t >>= (λ text. of_text (report_of text))) >>= (λ r. Ok (Write (report_text r))))
+    by_text (Ok text) = ap (λ r. refused_as BadJson json_number (of_text r) >>= (λ x. Ok (Write (report_text x)))) (same text)
+    by_text (Err e) = refl
+
+    behind : (f : ReportValue → Result Task Refusal) → (report_by read bytes >>= f) ≡ (report_by report_of bytes >>= f)
+    behind f = ap (λ r. refused_as BadReport report_number r >>= f) (same bytes)
+
+    by_task : (c : Command) → task_by read c bytes ≡ task_by report_of c bytes
+    by_task (command.Synth kind word limits root kept) = refl
+    by_task command.Check = behind audit_in
+    by_task (command.Replay number word order) = behind (λ r. replay_in r (record { point = number; word = word }) order)
+    by_task (command.Programs number word) = behind (λ r. programs_in r (record { point = number; word = word }))
+    by_task (command.Family kind size) = refl
+    by_task (command.Trial n) = refl
+    by_task (command.Bound kind word limits root all_sets) = refl
+    by_task (command.Ordered kind word limits root) = refl
+    by_task (command.Degrade group group_word width width_word) = behind (λ r. degrade_in r group group_word width width_word)
+    by_task (command.Json what.Topology point) = refl
+    by_task (command.Json what.Report point) = behind (λ r. Ok (Write (printed (report_json r))))
+    by_task (command.Json what.Programs point) = behind (λ r. json_programs_in r point)
+    by_task (command.Unjson what.Topology) = refl
+    by_task (command.Unjson what.Report) = by_text (of_json (text_of_json report_text_in bytes))
+    by_task (command.Unjson what.Programs) = refl
+
+    by_words : (x : Result Command WordFault) → (words_asked x >>= (λ c. whole_text (row_of c).reads bytes >>= (λ _. task_by read c bytes))) ≡ (words_asked x >>= (λ c. whole_text (row_of c).reads bytes >>= (λ _. task_by report_of c bytes)))
+    by_words (Ok c) = ap (λ t. whole_text (row_of c).reads bytes >>= (λ _. t)) (by_task c)
+    by_words (Err fault) = refl
+
 pub ended : (x : RunValue) (a b c : CountValue) (d : Result Task Refusal) → IsRightRun x a b c → due x.words x.bytes ≡ d → IsEnd d x all_tell
-ended x a b c d run is = subst (λ y. IsEnd y x all_tell) (same_due x.words x.bytes run.came (run.are refl) ∙ is) run.end
+ended x a b c d run is = subst (λ y. IsEnd y x all_tell) (same_reading run.read run.reads x.words run.came ∙ (same_due x.words x.bytes run.came (run.are refl) ∙ is)) run.end

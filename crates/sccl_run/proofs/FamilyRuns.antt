@@ -8,6 +8,8 @@ use Rattle.topology_text.specs.Spelling.{spelling}
 use Rattle.command_words.specs.declared.command.Command.{Command}
 use Rattle.command_words.specs.declared.command.Command.TheVariants as command
 use Rattle.command_words.specs.Words.{command_of}
+use Rattle.report_form.specs.Reading.{report_of}
+use Rattle.report_laws.proofs.Readings.{read_by_spelling}
 use Rattle.run_rules.specs.declared.status.Status.{Status}
 use Rattle.run_rules.specs.declared.status.Status.TheVariants.{Done, SourceFailed, SinkFailed, ShelfFailed}
 use Rattle.run_rules.specs.Commands.{Ask, Reads}
@@ -44,7 +46,7 @@ quiet : (failed : Status) (n : ℕ) → Done ≢ failed → EndsIfItFails failed
 quiet failed n other = record { only = λ e. absurd (other e); kept = λ _. refl }
 
 pub family_is_right : (n : ℕ) → IsRightRun family_run (record { before = n; now = n }) (record { before = n; now = n }) (record { before = n; now = n })
-unfolding command_of digits
+unfolding due command_of digits
 family_is_right n = record {
   call = record {
     ends = refl;
@@ -64,6 +66,8 @@ family_is_right n = record {
   };
   came = codes "left";
   are = λ told ask. refl;
+  read = report_of;
+  reads = read_by_spelling;
   end = subst (λ d. IsEnd d family_run all_tell) (sym is_due) (inl (record {
     text = two_nodes_text;
     answer = record { says = record { status = refl; text = sym text }; stay = λ told name. refl };

@@ -6,6 +6,9 @@ use Rattle.run_rules.specs.declared.halt.Halt.{Halt}
 use Rattle.run_rules.specs.declared.halt.Halt.TheVariants.{Shelf}
 use Rattle.run_rules.specs.Commands.{Ask, Reads}
 use Rattle.run_rules.specs.Tasks.{limit}
+use Rattle.report_form.specs.Reading.{report_of}
+use Rattle.report_laws.proofs.Readings.{read_by_spelling}
+use Rattle.run_rules.specs.Tasks.{due}
 use Rattle.sccl_run.specs.inner.Answering.{IsAnswerTo, IsHaltAt}
 use Rattle.sccl_run.specs.TopCall.{CountValue, IsTopCall, IsRun, LeftIsDue, RunValue, ToldValue, files_of}
 
@@ -51,30 +54,39 @@ module _ (x : RunValue) (told : ToldValue) (source sink shelf : CountValue) (Sou
 
   -- the answer was written
   pub run_answered : (text : List ℕ) → Call → Left → IsAnswerTo x.words told.source x.bytes (files_of x told) x.status text → (IsTrue told.sink → x.now ≡ x.before ++ text) → Run
+  unfolding due
   run_answered text call left to written = record {
     call = call;
     left = left;
     came = to.came;
     are = to.are;
+    read = report_of;
+    reads = read_by_spelling;
     end = inl (record { text = text; answer = to.answer; written = written });
   }
 
   -- a part of it was
   pub run_cut_off : (status : Status) (text : List ℕ) (count : ℕ) → Call → Left → x.status ≡ SinkFailed → IsAnswerTo x.words told.source x.bytes (files_of x told) status text → (IsTrue told.sink → x.now ≡ x.before ++ take count text) → Run
+  unfolding due
   run_cut_off status text count call left failed to written = record {
     call = call;
     left = left;
     came = to.came;
     are = to.are;
+    read = report_of;
+    reads = read_by_spelling;
     end = inr (inl (record { failed = failed; status = status; text = text; answer = to.answer; count = count; written = written }));
   }
 
   -- there is none
   pub run_halted : (halt : Halt) → Call → Left → (x.status ≡ OutOfMemory) ⊎ ((x.status ≡ SourceFailed) ⊎ (x.status ≡ ShelfFailed)) → (x.status ≡ ShelfFailed → halt ≡ Shelf) → IsHaltAt x.words told.source x.bytes (files_of x told) halt → Run
+  unfolding due
   run_halted halt call left silent same at = record {
     call = call;
     left = left;
     came = at.came;
     are = at.are;
+    read = report_of;
+    reads = read_by_spelling;
     end = inr (inr (record { silent = silent; shelf_last = λ e. at.last (same e); leaves = at.leaves }));
   }

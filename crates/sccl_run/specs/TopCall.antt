@@ -3,11 +3,12 @@ use Rattle.std.specs.Prelude.{◌≡◌, ◌≢◌, ◌⊎◌, ℕ, ◌+◌, ◌
 use Rattle.outer_ports.specs.Files.{Files}
 use Rattle.outer_ports.specs.Port.{Rose}
 use Rattle.command_words.specs.Words.{command_of}
+use Rattle.report_laws.specs.Shapes.{ReadsAs}
 use Rattle.run_rules.specs.declared.status.Status.{Status}
 use Rattle.run_rules.specs.declared.status.Status.TheVariants.{OutOfMemory, SourceFailed, SinkFailed, ShelfFailed}
 use Rattle.run_rules.specs.Commands.{Ask, Reads, Opens, IsOneOf, IsRefusal, ends_of}
 use Rattle.run_rules.specs.Refusals.{Refusal}
-use Rattle.run_rules.specs.Tasks.{Task, limit, due}
+use Rattle.run_rules.specs.Tasks.{Task, Reader, limit, due_by}
 use Rattle.run_rules.specs.Answers.{FilesValue, IsAnswer, LeavesOff}
 
 -- ---- every run, whatever the ports tell
@@ -94,10 +95,12 @@ pub record LeftIsDue (words : List (List ℕ)) (bytes left : List ℕ) (status :
   pub memory : status ≡ OutOfMemory → (left ≡ bytes) ⊎ (left ≡ drop (limit + 1) bytes)
   pub failed : status ≡ SourceFailed → (count : ℕ) × (count ≤ limit + 1) × (left ≡ drop count bytes)
 
--- some bytes came, and where the source tells them and is read they are those that it had; the run ends as they and the words say
+-- some bytes came, and where the source tells them and is read they are those that it had; the run ends as they and the words say, where reports are read by their spelling
 pub record IsRun (x : RunValue) (told : ToldValue) (source sink shelf : CountValue) (SourceStays SinkStays ShelfStays : Type 0) : Type 0 where
   pub call : IsTopCall x.words x.status source sink shelf SourceStays SinkStays ShelfStays
   pub left : IsTrue told.source → LeftIsDue x.words x.bytes x.left x.status
   pub came : List ℕ
   pub are : IsTrue told.source → Ask Reads x.words → came ≡ x.bytes
-  pub end : IsEnd (due x.words came) x told
+  pub read : Reader
+  pub reads : (text : List ℕ) → ReadsAs text (read text)
+  pub end : IsEnd (due_by read x.words came) x told
