@@ -93,17 +93,17 @@ one_differs l i j d lt v e = absurd (omega (arith, lt, v))
 -- ---- the line
 
 -- the search is ready, and has the line of a literal on level 0, by the core's numbers and by the ledger's
-pub record IsUnitLine (base : FormulaValue) (lines : List ProofLineValue) (core : CoreValue) (awake : Awake) (s : SleepersValue) (place : ℕ) (unit line : ProofLineValue) : Type 0 where
+pub record HasUnitLine (base : FormulaValue) (lines : List ProofLineValue) (core : CoreValue) (awake : Awake) (s : SleepersValue) (place : ℕ) (unit line : ProofLineValue) : Type 0 where
   pub ready : IsReady base lines core awake s
   pub formed : IsTrail core.vars core.trail core.limits
   pub within : place < length core.trail
   pub is : IsUnitLine core place unit
   pub named : IsNamed awake.names.items awake.held unit line
 
-stating_lits : (base : FormulaValue) (lines : List ProofLineValue) (core : CoreValue) (awake : Awake) (s : SleepersValue) (place : ℕ) (unit line : ProofLineValue) → IsUnitLine base lines core awake s place unit line → line.lits ≡ lit_at core place ∷ []
+stating_lits : (base : FormulaValue) (lines : List ProofLineValue) (core : CoreValue) (awake : Awake) (s : SleepersValue) (place : ℕ) (unit line : ProofLineValue) → HasUnitLine base lines core awake s place unit line → line.lits ≡ lit_at core place ∷ []
 stating_lits base lines core awake s place unit line t = t.named.lits ∙ t.is.lits
 
-stating_accepted : (base : FormulaValue) (lines : List ProofLineValue) (core : CoreValue) (awake : Awake) (s : SleepersValue) (place : ℕ) (unit line : ProofLineValue) → IsUnitLine base lines core awake s place unit line → verdict_of (checker_of base lines) line ≡ Accepted true
+stating_accepted : (base : FormulaValue) (lines : List ProofLineValue) (core : CoreValue) (awake : Awake) (s : SleepersValue) (place : ℕ) (unit line : ProofLineValue) → HasUnitLine base lines core awake s place unit line → verdict_of (checker_of base lines) line ≡ Accepted true
 stating_accepted base lines core awake s place unit line t =
     let c = checker_of base lines in
     let a = t.ready.holding.agree in
@@ -113,18 +113,18 @@ stating_accepted base lines core awake s place unit line t =
     ∙ ap (λ ls. verdict_of c (record { id = line.id; lits = ls; hints = map (name awake.names.items) (hints_to t.is.resolved (denied core place) t.is.conflict) })) t.named.lits
     ∙ analysis_accepted c (denied_core core place) awake.names.items s t.is.resolved t.is.conflict unit.lits line.id agree (denied_formed core place t.formed t.within) t.is.analysis (subst (AllPairs (λ a b. a.var ≢ b.var)) (sym t.is.lits) (one_apart (lit_at core place))) (next_number base lines core awake s line.id t.ready t.named.id)
 
-stating_short : (base : FormulaValue) (lines : List ProofLineValue) (core : CoreValue) (awake : Awake) (s : SleepersValue) (place : ℕ) (unit line : ProofLineValue) → IsUnitLine base lines core awake s place unit line → length line.hints ≤ base.vars + 1
+stating_short : (base : FormulaValue) (lines : List ProofLineValue) (core : CoreValue) (awake : Awake) (s : SleepersValue) (place : ℕ) (unit line : ProofLineValue) → HasUnitLine base lines core awake s place unit line → length line.hints ≤ base.vars + 1
 stating_short base lines core awake s place unit line t =
     let few = few_named awake.names.items t.is.resolved (denied core place) t.is.conflict in
     let n = denied_few core place t.within in
     omega (arith, few, n, ap length (t.named.hints ∙ ap (map (name awake.names.items)) t.is.hints), t.within, t.formed.few, t.ready.holding.agree.vars, ap (λ f. f.vars) t.ready.holding.formula)
 
-stating_written : (base : FormulaValue) (lines : List ProofLineValue) (core : CoreValue) (awake : Awake) (s : SleepersValue) (place : ℕ) (unit line : ProofLineValue) → IsUnitLine base lines core awake s place unit line → AreWritten base (lines ++ line ∷ [])
+stating_written : (base : FormulaValue) (lines : List ProofLineValue) (core : CoreValue) (awake : Awake) (s : SleepersValue) (place : ℕ) (unit line : ProofLineValue) → HasUnitLine base lines core awake s place unit line → AreWritten base (lines ++ line ∷ [])
 stating_written base lines core awake s place unit line t =
     written_more base lines core awake s line t.ready (stating_accepted base lines core awake s place unit line t) t.named.id (stating_short base lines core awake s place unit line t)
 
 -- no clause of the core has the literal alone, and none that sleeps has
-stating_fresh : (base : FormulaValue) (lines : List ProofLineValue) (core : CoreValue) (awake : Awake) (s : SleepersValue) (place : ℕ) (unit line : ProofLineValue) (stated : List Bool) → IsUnitLine base lines core awake s place unit line → AreStated core.clauses stated → get_or stated (code_of (lit_at core place)) true ≡ false → HasNone s line.lits → is_fresh (checker_of base lines) line.lits ≡ true
+stating_fresh : (base : FormulaValue) (lines : List ProofLineValue) (core : CoreValue) (awake : Awake) (s : SleepersValue) (place : ℕ) (unit line : ProofLineValue) (stated : List Bool) → HasUnitLine base lines core awake s place unit line → AreStated core.clauses stated → get_or stated (code_of (lit_at core place)) true ≡ false → HasNone s line.lits → is_fresh (checker_of base lines) line.lits ≡ true
 stating_fresh base lines core awake s place unit line stated t are new none =
     let l = lit_at core place in
     let e = stating_lits base lines core awake s place unit line t in
@@ -156,7 +156,7 @@ stated_more clauses lits stated stated' are on this clause l c new alone = ⊎_e
 
 -- ---- the line, as it is handed on
 
-pub stating_is : (base : FormulaValue) (lines : List ProofLineValue) (core : CoreValue) (awake awake' : Awake) (s : SleepersValue) (place : ℕ) (unit line : ProofLineValue) (stated : List Bool) → IsUnitLine base lines core awake s place unit line → awake'.held ≡ awake.held → AreStated core.clauses stated → get_or stated (code_of (lit_at core place)) true ≡ false → HasNone s line.lits
+pub stating_is : (base : FormulaValue) (lines : List ProofLineValue) (core : CoreValue) (awake awake' : Awake) (s : SleepersValue) (place : ℕ) (unit line : ProofLineValue) (stated : List Bool) → HasUnitLine base lines core awake s place unit line → awake'.held ≡ awake.held → AreStated core.clauses stated → get_or stated (code_of (lit_at core place)) true ≡ false → HasNone s line.lits
     → IsStating base lines core awake' line
 stating_is base lines core awake awake' s place unit line stated t held are new none =
     let lits = stating_lits base lines core awake s place unit line t in
