@@ -1,5 +1,5 @@
 -- What a search says, by what was said of its result.
-use Rattle.std.proofs.Common.{◌≡◌, sym, subst, ℕ, ◌+◌, ◌≤◌, true, Bool, List, [], length, ap, ◌∙◌}
+use Rattle.std.proofs.Common.{◌≡◌, refl, sym, subst, ℕ, ◌+◌, ◌≤◌, true, Bool, List, [], length, ap, ◌∙◌}
 use Rattle.std.specs.Prelude.{map, Result, Ok, Err, MatchResult, IsErrAnd}
 use Rattle.cnf_formula.specs.Formulas.{FormulaValue, Satisfies}
 use Rattle.cnf_formula.specs.Lines.{ProofLineValue}
@@ -8,7 +8,15 @@ use Rattle.proof_rules.specs.declared.verdict.LineVerdict.TheVariants.{Accepted}
 use Rattle.proof_rules.specs.Judging.{verdict_of}
 use Rattle.proof_rules.specs.Refuting.{Refutes, SpentLog}
 use Rattle.ledger_rules.specs.Logs.{checker_of}
+use Rattle.outer_ports.specs.declared.proof_name.ProofName.{ProofName}
+use Rattle.outer_ports.specs.Files.{Files}
+use Rattle.outer_ports.specs.Port.{HasCause}
+use Rattle.conflict_ledger.specs.Shelved.{LedgerState, ShelfAgrees}
+use Rattle.engine_rules.specs.declared.fault.EngineFault.{EngineFault}
+use Rattle.engine_rules.specs.declared.fault.EngineFault.TheVariants.{ShelfFailed, OutOfMemory}
 use Rattle.sat_core.specs.declared.fault.SolveFault.{SolveFault}
+use Rattle.sat_core.specs.declared.fault.SolveFault.TheVariants as solving
+use Rattle.candidate_solver.specs.inner.Faults.{of_solving}
 use Rattle.sat_core.specs.declared.solving.SatAnswer.{SatAnswer}
 use Rattle.sat_core.specs.declared.solving.SatAnswer.TheVariants.{Model, Refuted, Spent}
 use Rattle.sat_core.specs.Ready.{AreNumbered, AreShort}
@@ -22,6 +30,28 @@ answer_in x (Err e) = x
 pub same_answer : {A E D : Type 0} (one : Result A E) (other : Result A D) (P : E → D → Type 0) (x : A) → MatchResult one (λ y. other ≡ Ok y) (λ e. IsErrAnd other (P e)) → other ≡ Ok x → one ≡ Ok x
 same_answer (Ok y) other P x same is = ap Ok (ap (answer_in x) (sym same ∙ is))
 same_answer (Err e) other P x same is = absurd (subst (λ r. IsErrAnd r (P e)) is same)
+
+-- and a fault that was turned into another has its cause
+pub same_cause : {A T : Type 0} (one : Result A SolveFault) (other : Result A EngineFault) (fault : EngineFault) (last : Result T EngineFault) (before now : ℕ) → MatchResult one (λ y. other ≡ Ok y) (λ e. IsErrAnd other (λ f. f ≡ of_solving e)) → other ≡ Err fault → last ≡ Err fault
+    → HasCause solving.LedgerFailed before now one → HasCause ShelfFailed before now last
+same_cause (Ok y) other fault last before now same is ended cause = let clash : Ok y ≡ Err fault = sym same ∙ is in absurd (cc)
+same_cause (Err solving.LedgerFailed) other fault last before now same is ended cause =
+    let told : fault ≡ ShelfFailed = subst (λ r. IsErrAnd r (λ f. f ≡ ShelfFailed)) is same in
+    record { later = cause.later; rose = λ _. cause.rose refl; stays = λ other_one. absurd (other_one (ended ∙ ap Err told)) }
+same_cause (Err solving.OutOfMemory) other fault last before now same is ended cause =
+    let told : fault ≡ OutOfMemory = subst (λ r. IsErrAnd r (λ f. f ≡ OutOfMemory)) is same in
+    record {
+      later = cause.later;
+      rose = λ e. let clash : Err OutOfMemory ≡ Err ShelfFailed = sym (ended ∙ ap Err told) ∙ e in absurd (cc);
+      stays = λ _. cause.stays (λ e. absurd (cc));
+    }
+
+-- what a ledger says of its files it says under the same formula and the same names
+pub same_files : (now : LedgerState) (base : FormulaValue) (lrat partial : ProofName) (lines others : List ProofLineValue) → now.base ≡ base → now.lrat ≡ lrat → now.partial ≡ partial → lines ≡ others → ShelfAgrees now others
+    → ShelfAgrees (record { base = base; lrat = lrat; partial = partial; told = now.told; files = now.files }) lines
+same_files now base lrat partial lines others over first second are agrees =
+    let state : now ≡ record { base = base; lrat = lrat; partial = partial; told = now.told; files = now.files } = λ i. record { base = over i; lrat = first i; partial = second i; told = now.told; files = now.files } in
+    subst (λ ls. ShelfAgrees _ ls) (sym are) (subst (λ s. ShelfAgrees s others) state agrees)
 
 -- what `solve` says of its result, beside a ledger with this limit and these lines
 pub record IsSolved (f : FormulaValue) (limit : ℕ) (lines : List ProofLineValue) (result : Result SatAnswer SolveFault) : Type 0 where

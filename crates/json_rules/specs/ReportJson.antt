@@ -182,10 +182,13 @@ keyed_words_in p rooted d = do
   root ← root_in rooted d
   Some (codes "synth" ∷ (codes "collective=" ++ kind) ∷ k ∷ steps ∷ chunks ∷ conflicts ∷ root ++ pruning_words p)
 
+abbrev pub synth_in : Bool → Data → Option (List (List ℕ))
+synth_in rooted d = do
+  p ← pruning_in d
+  if has_keys (words_keys p rooted) d then keyed_words_in p rooted d else None
+
 abbrev pub words_in : Data → Option (List (List ℕ))
-words_in d =
-    let rooted = is_some (get (codes "root") d) in
-    pruning_in d >>= λ p. if has_keys (words_keys p rooted) d then keyed_words_in p rooted d else None
+words_in d = synth_in (is_some (get (codes "root") d)) d
 
 -- ---- the whole
 

@@ -121,3 +121,25 @@ returns-in-Ok-clause-goes_on g c =
       agrees = settled_agrees a b c.args.candidate c.of.result s c.requires.agrees
           (λ t. subst (λ kind. HasFiles a.part a.question b.files (c.args.candidate, kind)) (sym c.of.ensures) (c.in-Ok.ensures.files t));
     }
+
+pub invariant_of-self : goal.invariant_of-self
+invariant_of-self g c =
+    let e = c.args.self.now in
+    let same : c.prepare.new.self.entries ≡ e.tried.entries = c.prepare.ensures.entries in
+    record {
+      named = e.named;
+      right = λ x at. e.right x (subst (λ r. Contains r (x, settled.Refuted)) same at);
+      exhausted = λ x at. e.exhausted x (subst (λ r. Contains r (x, settled.Unknown)) same at);
+      proved = λ before x is. e.proved before x (sym same ∙ is);
+    }
+
+pub invariant_of-self-in-Err : goal.invariant_of-self-in-Err
+invariant_of-self-in-Err g c =
+    let e = c.args.self.now in
+    let same : c.stop.new.self.entries ≡ e.tried.entries = c.stop.ensures.entries ∙ c.prepare.ensures.entries in
+    record {
+      named = e.named;
+      right = λ x at. e.right x (subst (λ r. Contains r (x, settled.Refuted)) same at);
+      exhausted = λ x at. e.exhausted x (subst (λ r. Contains r (x, settled.Unknown)) same at);
+      proved = λ before x is. e.proved before x (sym same ∙ is);
+    }
