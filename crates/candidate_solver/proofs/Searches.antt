@@ -9,7 +9,6 @@ use Rattle.proof_rules.specs.Judging.{verdict_of}
 use Rattle.proof_rules.specs.Refuting.{Refutes, SpentLog}
 use Rattle.ledger_rules.specs.Logs.{checker_of}
 use Rattle.outer_ports.specs.declared.proof_name.ProofName.{ProofName}
-use Rattle.outer_ports.specs.Files.{Files}
 use Rattle.outer_ports.specs.Port.{HasCause}
 use Rattle.conflict_ledger.specs.Shelved.{LedgerState, ShelfAgrees}
 use Rattle.engine_rules.specs.declared.fault.EngineFault.{EngineFault}
@@ -50,8 +49,9 @@ same_cause (Err solving.OutOfMemory) other fault last before now same is ended c
 pub same_files : (now : LedgerState) (base : FormulaValue) (lrat partial : ProofName) (lines others : List ProofLineValue) → now.base ≡ base → now.lrat ≡ lrat → now.partial ≡ partial → lines ≡ others → ShelfAgrees now others
     → ShelfAgrees (record { base = base; lrat = lrat; partial = partial; told = now.told; files = now.files }) lines
 same_files now base lrat partial lines others over first second are agrees =
-    let state : now ≡ record { base = base; lrat = lrat; partial = partial; told = now.told; files = now.files } = λ i. record { base = over i; lrat = first i; partial = second i; told = now.told; files = now.files } in
-    subst (λ ls. ShelfAgrees _ ls) (sym are) (subst (λ s. ShelfAgrees s others) state agrees)
+    let named : LedgerState = record { base = base; lrat = lrat; partial = partial; told = now.told; files = now.files } in
+    let state : now ≡ named = λ i. record { base = over i; lrat = first i; partial = second i; told = now.told; files = now.files } in
+    subst (ShelfAgrees named) (sym are) (subst (λ s. ShelfAgrees s others) state agrees)
 
 -- what `solve` says of its result, beside a ledger with this limit and these lines
 pub record IsSolved (f : FormulaValue) (limit : ℕ) (lines : List ProofLineValue) (result : Result SatAnswer SolveFault) : Type 0 where
