@@ -1,8 +1,10 @@
-use Rattle.std.proofs.Common.{◌≡◌, sym, ap, subst}
+use Rattle.std.proofs.Common.{◌≡◌, ◌∙◌, sym, ap, subst}
+use Rattle.std.specs.Prelude.{Contains}
 use Rattle.candidate_order.specs.declared.outcome.Outcome.TheVariants as outcome
 use Rattle.candidate_order.specs.Frontiers.{QuestionValue}
 use Rattle.candidate_formula.specs.Formulas.{ordered_formula_for, OrderedFor}
 use Rattle.candidate_solver.specs.Questions.{asked}
+use Rattle.engine_rules.specs.declared.settled.Settled.TheVariants as settled
 use Rattle.candidate_solver.proofs.Noting.{proved_by, not_solvable}
 use Rattle.candidate_formula.proofs.Exact.{ordered_exact}
 use Rattle.chunk_symmetry.proofs.Engines.{spent_same}
@@ -45,3 +47,34 @@ returns-in-Ok-clause-same g c = record {
     λ suits. subst (λ p. OrderedFor (asked p) x schedule) (sym c.note.ensures.question) suits,
   );
 }
+
+-- making room leaves the record as it was
+pub invariant_of-self : goal.invariant_of-self
+invariant_of-self g c =
+    let e = c.args.self.now in
+    let same : c.prepare.new.self.entries ≡ e.tried.entries = c.prepare.ensures.entries in
+    record {
+      right = λ x at. e.right x (subst (λ r. Contains r (x, settled.Refuted)) same at);
+      exhausted = λ x at. e.exhausted x (subst (λ r. Contains r (x, settled.Unknown)) same at);
+      proved = λ before x is. e.proved before x (sym same ∙ is);
+    }
+
+pub invariant_of-self-in-Ok-1 : goal.invariant_of-self-in-Ok-1
+invariant_of-self-in-Ok-1 g c =
+    let e = c.args.self.now in
+    let same : c.prepare.new.self.entries ≡ e.tried.entries = c.prepare.ensures.entries in
+    record {
+      right = λ x at. e.right x (subst (λ r. Contains r (x, settled.Refuted)) same at);
+      exhausted = λ x at. e.exhausted x (subst (λ r. Contains r (x, settled.Unknown)) same at);
+      proved = λ before x is. e.proved before x (sym same ∙ is);
+    }
+
+pub invariant_of-self-in-Err : goal.invariant_of-self-in-Err
+invariant_of-self-in-Err g c =
+    let e = c.args.self.now in
+    let same : c.stop.new.self.entries ≡ e.tried.entries = c.stop.ensures.entries ∙ c.prepare.ensures.entries in
+    record {
+      right = λ x at. e.right x (subst (λ r. Contains r (x, settled.Refuted)) same at);
+      exhausted = λ x at. e.exhausted x (subst (λ r. Contains r (x, settled.Unknown)) same at);
+      proved = λ before x is. e.proved before x (sym same ∙ is);
+    }
