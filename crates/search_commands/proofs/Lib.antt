@@ -5,3 +5,4 @@ mod Pieces
 mod BoundDue
 mod Printed
 mod OrderDue
+mod Passed

@@ -13,6 +13,7 @@ use Rattle.report_search.proofs.Recorded.{alike, begun_for, filed_for}
 use Rattle.report_search.proofs.Uncut.{runs_below, shelved_plain, stays_below}
 use Rattle.search_commands.specs.Bounded.{AreBounds}
 use Rattle.search_commands.proofs.Bounding.{bounds_are}
+use Rattle.search_commands.proofs.Passed.{passed_on}
 use Rattle.search_commands.proofs.bound_finding.find_bounds.Goals as goal
 
 pub returns-in_err-frontier-clause-begun : goal.returns-in_err-frontier-clause-begun
@@ -60,3 +61,6 @@ returns-clause-begun g c =
     let engine = c.frontier_by.new.engine in
     begun_for q c.frontier_by.ensures.moves.0 made c.requires.single (stays_below engine.sets c.frontier_by.ensures.within c.frontier_by.ensures.same.question engine.kept engine.stops) (λ x reached. never_cut_away q x (ap (λ p. p.cuts) c.requires.plain))
     (ap (λ e. e.part) c.in_ok-engine.ensures.inner ∙ c.in_ok-inner.ensures.part)
+
+pub returns-in_err-frontier-clause-cause : goal.returns-in_err-frontier-clause-cause
+returns-in_err-frontier-clause-cause g c = passed_on _ c.in_err-frontier.field-0.0 c.frontier_by.result c.from_residual-in_err-frontier.result _ _ c.in_err-frontier.was c.from_residual-in_err-frontier.ensures.1 c.frontier_by.ensures.cause
