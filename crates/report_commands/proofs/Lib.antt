@@ -8,3 +8,4 @@ mod Parted
 mod Lines
 mod Told
 mod Anew
+mod Faulted

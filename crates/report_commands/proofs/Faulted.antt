@@ -1,0 +1,52 @@
+-- Which check refuses a fault of a report's links, and when none does.
+use Rattle.std.proofs.Common.{◌≡◌, ◌≢◌, ◌<◌, ◌≤◌, ℕ, zero, suc, List, [], ◌∷◌, length, arith, Bool, true, false, nat_lt, not, Option, None, Some, Result, Ok, Err, refl, ap, ◌∙◌}
+use Rattle.std.specs.Prelude.{slice_get}
+use Rattle.std.proofs.lemmas.Bool.{le-ltb, lt-ltb}
+use Rattle.text_lines.specs.Check.{◌>>=◌, need, refuse}
+use Rattle.schedule.specs.Links.{GroupValue}
+use Rattle.collective_spec.specs.declared.kind.Kind.{Kind}
+use Rattle.collective_spec.specs.declared.kind.Kind.TheVariants.{Broadcast, Gather, Allgather, Scatter, Alltoall, Reduce, Reducescatter, Allreduce, Custom}
+use Rattle.command_words.specs.declared.fault.WordCode.TheVariants.{NotNarrower, ReportNotTaken, UnknownGroup}
+use Rattle.report_form.specs.Reports.{ReportValue}
+use Rattle.run_rules.specs.Refusals.{Refusal, refused_word}
+use Rattle.run_rules.specs.Tasks.{fault_in, is_allreduce}
+
+pub none_there : {X : Type 0} (xs : List X) (i : ℕ) → length xs ≤ i → slice_get xs i ≡ None
+none_there [] i h = refl
+none_there (x ∷ xs) zero h = absurd (omega arith)
+none_there (x ∷ xs) (suc i) h = none_there xs i (omega arith)
+
+one_search : (kind : Kind) → kind ≢ Allreduce → is_allreduce kind ≡ false
+one_search Broadcast other = refl
+one_search Gather other = refl
+one_search Allgather other = refl
+one_search Scatter other = refl
+one_search Alltoall other = refl
+one_search Reduce other = refl
+one_search Reducescatter other = refl
+one_search Allreduce other = absurd (other refl)
+one_search Custom other = refl
+
+module _ (r : ReportValue) (group group_word width width_word : ℕ) (single : r.words.collective.kind ≢ Allreduce) where
+  -- the checks of a group that is there or not
+  of_group : Option GroupValue → Result (Unit {0}) Refusal
+  of_group found = need found (refused_word UnknownGroup group_word) >>= λ old. refuse (not (nat_lt width old.width)) (refused_word NotNarrower width_word)
+
+  of_width : Bool → Result (Unit {0}) Refusal
+  of_width narrower = refuse (not narrower) (refused_word NotNarrower width_word)
+
+  by_group : fault_in r group group_word width width_word ≡ of_group (slice_get r.topology.topology.groups group)
+  unfolding of_group
+  by_group = ap (λ b. refuse b (refused_word ReportNotTaken 0) >>= λ _. of_group (slice_get r.topology.topology.groups group)) (one_search r.words.collective.kind single)
+
+  pub no_group : slice_get r.topology.topology.groups group ≡ None → fault_in r group group_word width width_word ≡ Err (refused_word UnknownGroup group_word)
+  unfolding of_group
+  no_group none = by_group ∙ ap of_group none
+
+  pub too_wide : (old : GroupValue) → slice_get r.topology.topology.groups group ≡ Some old → old.width ≤ width → fault_in r group group_word width width_word ≡ Err (refused_word NotNarrower width_word)
+  unfolding of_group of_width
+  too_wide old found wide = by_group ∙ ap of_group found ∙ ap of_width (le-ltb width old.width wide)
+
+  pub taken : (old : GroupValue) → slice_get r.topology.topology.groups group ≡ Some old → width < old.width → fault_in r group group_word width width_word ≡ Ok tt
+  unfolding of_group of_width
+  taken old found narrow = by_group ∙ ap of_group found ∙ ap of_width (lt-ltb width old.width narrow)
