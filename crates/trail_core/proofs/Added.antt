@@ -1,18 +1,20 @@
 -- What a core keeps, as a clause is added.
-use Rattle.std.proofs.Common.{zero, suc, ◌≡◌, ◌≢◌, ◌==◌, ℕ, ◌+◌, ◌*◌, ◌<◌, ◌≤◌, List, [], ◌∷◌, ◌++◌, length, get_or, set, take, Some, leb, cond, count_by, sum_by, refl, sym, ap, ◌∙◌, subst, inl, inr, ⊎_elim, arith}
+use Rattle.std.proofs.Common.{◌≡◌, ◌≢◌, ◌==◌, ℕ, ◌+◌, ◌<◌, ◌≤◌, List, [], ◌∷◌, ◌++◌, length, get_or, set, take, Some, leb, cond, count_by, refl, sym, ap, ◌∙◌, subst, inl, inr, ⊎_elim, arith}
 use Rattle.std.specs.Prelude.{◌⊎◌, Contains, All}
+use Rattle.std.proofs.lemmas.Bool.Decides.{nat_tests}
 use Rattle.std.proofs.lemmas.Bool.{cases_lt, cases_eq, le-leb, lt-leb}
 use Rattle.std.proofs.lemmas.List.{get_or_past, get_or_append_left, get_or_push, get_or-take, get_or_default, length_push, map_push, length-take-le, get_or-set_same, get_or-set_other, length-set, length-map, take-append-le, take-take}
-use Rattle.std.proofs.lemmas.List.Sums.{sum_by_push, sum_by-cons, count_by-le-length}
+use Rattle.std.proofs.lemmas.List.Sums.{sum_by_push, sum_by-set, count_by-le-length}
 use Rattle.std.proofs.lemmas.List.Elements.{All-push, Contains-push, Contains-append_left}
 use Rattle.cnf_formula.specs.Literals.{LitValue, negation, code_of}
 use Rattle.cnf_formula.proofs.Codes.{same_code}
 use Rattle.trail_core.specs.Assigned.{IsFalse, level_at}
 use Rattle.trail_core.specs.Trails.{StepValue, TrailValue, lits_of}
-use Rattle.trail_core.specs.Watching.{RowValue, ListsValue, no_row, watch_count, occurrences, spare, row_at, list_at, watches_at, IsWatched, IsRow, AreRows, AreLists, HasRoom, AreBlocked}
+use Rattle.trail_core.specs.Watching.{RowValue, ListsValue, no_row, watch_count, occurrences, spare, row_at, list_at, IsWatched, IsRow, AreRows, AreLists, HasRoom, AreBlocked}
 use Rattle.trail_core.specs.Search.{IsSatisfied, IsUnit, clauses_of, CanScan}
-use Rattle.trail_core.specs.Kept.{IsDue, IsGrounded, IsShort, IsKept, IsRecent}
-use Rattle.trail_core.proofs.Watching.{hit, hit_yes, hit_no, count_long, count_short, watch_which, occurs}
+use Rattle.trail_core.specs.Kept.{Excused, IsDue, IsGrounded, IsShort, IsKept, IsRecent}
+use Rattle.trail_core.proofs.Places.{at_push}
+use Rattle.trail_core.proofs.Watching.{count_long, count_short, watch_which, occurs}
 use Rattle.trail_core.proofs.Keeping.{lits_length, in_front}
 use Rattle.trail_core.proofs.Levels.{kept_assert}
 
@@ -24,8 +26,9 @@ row_old rows r e w = get_or_append_left rows (r ∷ []) no_row e w
 pub row_new : (rows : List RowValue) (r : RowValue) → row_at (rows ++ r ∷ []) (length rows) ≡ r
 row_new rows r = get_or_push rows r no_row (length rows) refl
 
-pub row_past : (rows : List RowValue) (r : RowValue) (e : ℕ) → length rows < e → row_at (rows ++ r ∷ []) e ≡ no_row
-row_past rows r e w = get_or_past (rows ++ r ∷ []) e no_row (omega (arith, w, length_push rows r))
+-- what holds of each row and of none
+row_push : (rows : List RowValue) (r : RowValue) (P : ℕ → RowValue → Type 0) → ((e : ℕ) → e < length rows → P e (row_at rows e)) → P (length rows) r → ((e : ℕ) → length rows < e → P e no_row) → (e : ℕ) → P e (row_at (rows ++ r ∷ []) e)
+row_push rows r P old new past e = grind (arith, old e, past e, get_or_past, get_or_append_left, get_or_push, length_push)
 
 -- a literal's list after the clause came to the lists that it watches
 abbrev pub Put : List (List ℕ) → List (List ℕ) → RowValue → ℕ → ℕ → Type 0
@@ -37,20 +40,7 @@ none_watch k = count_short no_row k (omega arith)
 -- the lists name the clause that came as often as it watches their literals
 pub exact_add : (rows : List RowValue) (lists lists' : List (List ℕ)) (r : RowValue) → ((e k : ℕ) → count_by (λ x. x == e) (list_at lists k) ≡ watch_count (row_at rows e) k) → ((k : ℕ) → Put lists lists' r (length rows) k)
     → (e k : ℕ) → count_by (λ x. x == e) (list_at lists' k) ≡ watch_count (row_at (rows ++ r ∷ []) e) k
-exact_add rows lists lists' r exact put e k = ⊎_elim
-    (λ p. ap (count_by (λ x. x == e)) p.0 ∙ exact e k ∙ same p.1 (cases_lt e (length rows)) (cases_eq e (length rows)))
-    (λ p. ap (count_by (λ x. x == e)) p.0 ∙ sum_by_push (λ x. hit x e) (list_at lists k) (length rows) ∙ plus p.1 (cases_lt e (length rows)) (cases_eq e (length rows)))
-    (put k)
-  where
-    same : watch_count r k ≡ 0 → ((e < length rows) ⊎ (length rows ≤ e)) → ((e ≡ length rows) ⊎ (e ≢ length rows)) → watch_count (row_at rows e) k ≡ watch_count (row_at (rows ++ r ∷ []) e) k
-    same z (inl u) q = ap (λ x. watch_count x k) (sym (row_old rows r e u))
-    same z (inr u) (inl q) = ap (λ x. watch_count x k) (get_or_past rows e no_row u) ∙ none_watch k ∙ sym z ∙ ap (λ x. watch_count x k) (sym (row_new rows r)) ∙ ap (λ m. watch_count (row_at (rows ++ r ∷ []) m) k) (sym q)
-    same z (inr u) (inr q) = ap (λ x. watch_count x k) (get_or_past rows e no_row u ∙ sym (row_past rows r e (omega (arith, u, q))))
-
-    plus : watch_count r k ≡ 1 → ((e < length rows) ⊎ (length rows ≤ e)) → ((e ≡ length rows) ⊎ (e ≢ length rows)) → count_by (λ x. x == e) (list_at lists k) + hit (length rows) e ≡ watch_count (row_at (rows ++ r ∷ []) e) k
-    plus z (inl u) q = omega (arith, exact e k, hit_no (length rows) e (λ s. absurd (omega (arith, s, u))), ap (λ x. watch_count x k) (row_old rows r e u))
-    plus z (inr u) (inl q) = omega (arith, exact e k, ap (λ x. watch_count x k) (get_or_past rows e no_row u), none_watch k, hit_yes (length rows) e (sym q), z, ap (λ x. watch_count x k) (row_new rows r), ap (λ m. watch_count (row_at (rows ++ r ∷ []) m) k) q)
-    plus z (inr u) (inr q) = omega (arith, exact e k, ap (λ x. watch_count x k) (get_or_past rows e no_row u), none_watch k, hit_no (length rows) e (λ s. q (sym s)), ap (λ x. watch_count x k) (row_past rows r e (omega (arith, u, q))))
+exact_add rows lists lists' r exact put e k = grind (arith, exact e k, put k, nat_tests, sum_by_push, get_or_past, get_or_append_left, get_or_push, length_push, cases_eq e (length rows))
 
 pub watched_add : (rows : List RowValue) (w w' : ListsValue) (r : RowValue) → IsWatched rows w → ((k : ℕ) → Put w.lists w'.lists r (length rows) k) → ((k : ℕ) → get_or w.uses k 0 + occurrences r k ≤ get_or w'.uses k 0) → ((k : ℕ) → get_or w'.uses k 0 ≤ get_or w'.rooms k 0)
     → ((k : ℕ) → watch_count r k ≤ occurrences r k) → IsWatched (rows ++ r ∷ []) w'
@@ -66,18 +56,7 @@ watched_add rows w w' r i put uses fits own = record {
 -- a clause watches no literal more often than it stands in it
 pub own_count : (r : RowValue) (k : ℕ) → (1 < length r.lits → Contains r.lits r.first) → (1 < length r.lits → Contains r.lits r.second) → (1 < length r.lits → r.first ≢ r.second) → watch_count r k ≤ occurrences r k
 own_count r k f s d = ⊎_elim
-    (λ h.
-    let n = count_long r k h in
-    let apart : code_of r.first ≢ code_of r.second = λ e. d h (same_code r.first r.second e) in
-    ⊎_elim
-    (λ e. let o : 0 < occurrences r k = subst (λ m. 0 < occurrences r m) e (occurs r.lits r.first (f h)) in
-    omega (arith, n, hit_yes (code_of r.first) k e, hit_no (code_of r.second) k (λ q. apart (e ∙ sym q)), o))
-    (λ e. ⊎_elim
-    (λ q. let o : 0 < occurrences r k = subst (λ m. 0 < occurrences r m) q (occurs r.lits r.second (s h)) in
-    omega (arith, n, hit_no (code_of r.first) k e, hit_yes (code_of r.second) k q, o))
-    (λ q. omega (arith, n, hit_no (code_of r.first) k e, hit_no (code_of r.second) k q))
-    (cases_eq (code_of r.second) k))
-    (cases_eq (code_of r.first) k))
+    (λ h. grind (arith, count_long r k h, occurs r.lits r.first (f h), occurs r.lits r.second (s h), d h, same_code r.first r.second, nat_tests))
     (λ h. omega (arith, count_short r k h))
     (cases_lt 1 (length r.lits))
 
@@ -86,46 +65,15 @@ put_short lists r id h k = inl (refl, count_short r k h)
 
 pub put_two : (lists : List (List ℕ)) (r : RowValue) (id : ℕ) → 1 < length r.lits → r.first ≢ r.second → code_of r.first < length lists → code_of r.second < length lists
     → (k : ℕ) → Put lists (set (set lists (code_of r.first) (list_at lists (code_of r.first) ++ id ∷ [])) (code_of r.second) (list_at (set lists (code_of r.first) (list_at lists (code_of r.first) ++ id ∷ [])) (code_of r.second) ++ id ∷ [])) r id k
-put_two lists r id h d wa wb k =
-    let a = code_of r.first in
-    let b = code_of r.second in
-    let apart : b ≢ a = λ e. d (same_code r.first r.second (sym e)) in
-    let n = count_long r k h in
-    let at-b : list_at (set lists a (list_at lists a ++ id ∷ [])) b ≡ list_at lists b = get_or-set_other lists a b (list_at lists a ++ id ∷ []) [] apart in
-    let new : List ℕ = list_at (set lists a (list_at lists a ++ id ∷ [])) b ++ id ∷ [] in
-    let wb' : b < length (set lists a (list_at lists a ++ id ∷ [])) = omega (arith, wb, length-set lists a (list_at lists a ++ id ∷ [])) in
-    ⊎_elim
-    (λ e. inr (
-      subst (λ m. list_at (set (set lists a (list_at lists a ++ id ∷ [])) b new) m ≡ list_at lists m ++ id ∷ []) e (get_or-set_same (set lists a (list_at lists a ++ id ∷ [])) b new [] wb' ∙ ap (λ xs. xs ++ id ∷ []) at-b),
-      omega (arith, n, hit_yes b k e, hit_no a k (λ q. apart (e ∙ sym q))),
-    ))
-    (λ nb. ⊎_elim
-    (λ e. inr (
-      subst (λ m. list_at (set (set lists a (list_at lists a ++ id ∷ [])) b new) m ≡ list_at lists m ++ id ∷ []) e (get_or-set_other (set lists a (list_at lists a ++ id ∷ [])) b a new [] (λ q. apart (sym q)) ∙ get_or-set_same lists a (list_at lists a ++ id ∷ []) [] wa),
-      omega (arith, n, hit_yes a k e, hit_no b k nb),
-    ))
-    (λ na. inl (
-      get_or-set_other (set lists a (list_at lists a ++ id ∷ [])) b k new [] (λ q. nb (sym q)) ∙ get_or-set_other lists a k (list_at lists a ++ id ∷ []) [] (λ q. na (sym q)),
-      omega (arith, n, hit_no a k na, hit_no b k nb),
-    ))
-    (cases_eq a k))
-    (cases_eq b k)
+put_two lists r id h d wa wb k = grind (arith, count_long r k h, nat_tests, same_code r.first r.second, get_or-set_same, get_or-set_other, length-set, cases_eq (code_of r.first) k, cases_eq (code_of r.second) k)
 
 -- ---- what is kept
 
-each : (x : ℕ) (xs : List ℕ) (k : ℕ) → x ≤ k → ((j : ℕ) → j < length xs → get_or xs j 0 ≤ k) → (i : ℕ) → i < length (x ∷ xs) → get_or (x ∷ xs) i 0 ≤ k
-each x xs k h rest zero w = h
-each x xs k h rest (suc i) w = rest i (omega (arith, w))
-
-counted_all : (xs : List ℕ) (k : ℕ) → level_at xs k ≡ length xs → (i : ℕ) → i < length xs → get_or xs i 0 ≤ k
-counted_all [] k e i w = absurd (omega (arith, w))
-counted_all (x ∷ xs) k e i w =
-    let c = sum_by-cons (λ m. cond (leb m k) 1 0) x xs in
-    let few : level_at xs k ≤ length xs = count_by-le-length (λ m. leb m k) xs in
-    let here : x ≤ k = ⊎_elim (λ h. let z : cond {A = ℕ} (leb x k) 1 0 ≡ 0 = ap (λ b. cond b 1 0) (lt-leb x k h) in absurd (omega (arith, c, e, z, few))) (λ h. h) (cases_lt k x) in
-    let one : cond {A = ℕ} (leb x k) 1 0 ≡ 1 = ap (λ b. cond b 1 0) (le-leb x k here) in
-    let rest : level_at xs k ≡ length xs = omega (arith, c, e, one) in
-    each x xs k here (counted_all xs k rest) i w
+pub counted_all : (xs : List ℕ) (k : ℕ) → level_at xs k ≡ length xs → (i : ℕ) → i < length xs → get_or xs i 0 ≤ k
+counted_all xs k e i w = ⊎_elim
+    (λ h. absurd (omega (arith, sum_by-set (λ m. cond (leb m k) 1 0) xs i k 0 w, e, ap (λ b. cond {A = ℕ} b 1 0) (lt-leb (get_or xs i 0) k h), ap (λ b. cond {A = ℕ} b 1 0) (le-leb k k (omega arith)), count_by-le-length (λ m. leb m k) (set xs i k), length-set xs i k)))
+    (λ h. h)
+    (cases_lt k (get_or xs i 0))
 
 -- a literal stands on a trail but once
 abbrev pub IsOnce : List LitValue → Type 0
@@ -133,12 +81,7 @@ IsOnce trues = (i j : ℕ) (d : LitValue) → i < j → j < length trues → get
 
 -- a literal that became false on the present level is not false below it
 pub recent_not_below : (t : TrailValue) (o : LitValue) (m : ℕ) → IsOnce (lits_of t.steps) → IsRecent t o → (j : ℕ) → j < length t.limits → m ≤ get_or t.limits j 0 → IsFalse (take m (lits_of t.steps)) o → ⊥
-recent_not_below t o m once r j v h f =
-    let p≥ : get_or t.limits j 0 ≤ r.place = counted_all t.limits r.place r.level j v in
-    let p< : r.place < length (lits_of t.steps) = omega (arith, r.within, lits_length t.steps) in
-    let m≤ : m ≤ length (lits_of t.steps) = omega (arith, h, p≥, p<) in
-    let q< : f.0 < m = omega (arith, f.1, length-take-le m (lits_of t.steps) m≤) in
-    once f.0 r.place (negation o) (omega (arith, q<, h, p≥)) p< (sym (get_or-take m (lits_of t.steps) f.0 (negation o) q<) ∙ f.2 ∙ sym (get_or_default (lits_of t.steps) r.place (negation o) o p< ∙ r.here))
+recent_not_below t o m once r j v h f = grind (arith, counted_all t.limits r.place r.level j v, lits_length t.steps, length-take-le, get_or-take, get_or_default, once f.0 r.place (negation o))
 
 -- neither of the two watched literals is false
 pub unseen_by : (r : RowValue) (falses : List LitValue) → (IsFalse falses r.first → ⊥) → (IsFalse falses r.second → ⊥) → (l : LitValue) → 0 < watch_count r (code_of l) → IsFalse falses l → ⊥
@@ -150,12 +93,12 @@ unseen_by r falses first second l h f = ⊎_elim
 -- the short clauses are known still
 pub known_add : (rows : List RowValue) (r : RowValue) (short short' : List ℕ) → ((e : ℕ) → e < length rows → length (row_at rows e).lits ≤ 1 → Contains short e) → ((e : ℕ) → Contains short e → Contains short' e) → (length r.lits ≤ 1 → Contains short' (length rows))
     → (e : ℕ) → e < length (rows ++ r ∷ []) → length (row_at (rows ++ r ∷ []) e).lits ≤ 1 → Contains short' e
-known_add rows r short short' known more new e v s = ⊎_elim
-    (λ u. more e (known e u (omega (arith, s, ap (λ x. length x.lits) (row_old rows r e u)))))
-    (λ u.
-    let is : e ≡ length rows = omega (arith, u, v, length_push rows r) in
-    subst (Contains short') (sym is) (new (omega (arith, s, ap (λ m. length (row_at (rows ++ r ∷ []) m).lits) is, ap (λ x. length x.lits) (row_new rows r)))))
-    (cases_lt e (length rows))
+known_add rows r short short' known more new = at_push (λ e x. length x.lits ≤ 1 → Contains short' e) rows r no_row (λ e v s. more e (known e v s)) new
+
+-- a clause that watches a false literal is satisfied, where the new one is
+excused_add : (rows : List RowValue) (r : RowValue) (falses falses' trues : List LitValue) → ((l : LitValue) → 0 < watch_count r (code_of l) → IsFalse falses' l → IsSatisfied trues r.lits) → ((l : LitValue) → IsFalse falses' l → IsFalse falses l) → Excused rows falses trues → Excused (rows ++ r ∷ []) falses' trues
+excused_add rows r falses falses' trues new wider old e l h f = row_push rows r (λ n x. 0 < watch_count x (code_of l) → IsSatisfied trues x.lits)
+    (λ n u g. old n l g (wider l f)) (λ g. new l g f) (λ n u g. absurd (omega (arith, g, none_watch (code_of l)))) e h
 
 -- what is to be propagated begins before the new clause watches a false literal
 pub kept_add : (rows : List RowValue) (w w' : ListsValue) (t : TrailValue) (head head' : ℕ) (short short' : List ℕ) (r : RowValue) → IsKept rows w t head short → CanScan (rows ++ r ∷ []) w' t → (0 < length t.limits → 1 < length r.lits)
@@ -164,37 +107,19 @@ pub kept_add : (rows : List RowValue) (w w' : ListsValue) (t : TrailValue) (head
 kept_add rows w w' t head head' short short' r k can long below above unseen more new all = record {
   can = can;
   head_within = omega (arith, below, k.head_within);
-  excused = λ e l h f.
-      let q = old_row (take head' (lits_of t.steps)) unseen e l h f in
-      subst (IsSatisfied (lits_of t.steps)) (ap (λ x. x.lits) (sym (row_old rows r e q.0))) (k.excused e l q.1 (further head' head below l f));
+  excused = excused_add rows r (take head (lits_of t.steps)) (take head' (lits_of t.steps)) (lits_of t.steps) (λ l h f. absurd (unseen l h f)) (further head' head below) k.excused;
   head_above = above;
-  settled = λ j v e l h f.
+  settled = λ j v.
       let front = take (get_or t.limits j 0) (lits_of t.steps) in
-      let q = old_row front (λ x g i. unseen x g (further (get_or t.limits j 0) head' (above j v) x i)) e l h f in
-      subst (IsSatisfied front) (ap (λ x. x.lits) (sym (row_old rows r e q.0))) (k.settled j v e l q.1 f);
+      excused_add rows r front front front (λ l h f. absurd (unseen l h (further (get_or t.limits j 0) head' (above j v) l f))) (λ l f. f) (k.settled j v);
   short_known = known_add rows r short short' k.short_known more new;
   short_within = all;
   grounded = λ i d v. grounded_add (take i t.steps) (get_or t.steps i d) (k.grounded i d v);
-  short_true = λ j v e n s. ⊎_elim
-      (λ u. let h = k.short_true j v e u (omega (arith, s, ap (λ x. length x.lits) (row_old rows r e u))) in subst (IsSatisfied (take (get_or t.limits j 0) (lits_of t.steps))) (ap (λ x. x.lits) (sym (row_old rows r e u))) h)
-      (λ u.
-      let is : e ≡ length rows = omega (arith, u, n, length_push rows r) in
-      absurd (omega (arith, s, long (omega (arith, v)), ap (λ m. length (row_at (rows ++ r ∷ []) m).lits) is, ap (λ x. length x.lits) (row_new rows r))))
-      (cases_lt e (length rows));
+  short_true = λ j v. at_push (λ e x. length x.lits ≤ 1 → IsSatisfied (take (get_or t.limits j 0) (lits_of t.steps)) x.lits) rows r no_row (k.short_true j v) (λ s. absurd (omega (arith, s, long (omega (arith, v)))));
 }
   where
     further : (m n : ℕ) → m ≤ n → (l : LitValue) → IsFalse (take m (lits_of t.steps)) l → IsFalse (take n (lits_of t.steps)) l
     further m n h l f = in_front m (take n (lits_of t.steps)) (negation l) (subst (λ xs. Contains xs (negation l)) (sym (take-take m n (lits_of t.steps) h)) f)
-
-    -- a clause that watches a false literal is an old one
-    old_row : (falses : List LitValue) → ((l : LitValue) → 0 < watch_count r (code_of l) → IsFalse falses l → ⊥) → (e : ℕ) (l : LitValue) → 0 < watch_count (row_at (rows ++ r ∷ []) e) (code_of l) → IsFalse falses l → (e < length rows) × (0 < watch_count (row_at rows e) (code_of l))
-    old_row falses not e l h f = ⊎_elim
-        (λ lt. (lt, subst (λ x. 0 < watch_count x (code_of l)) (row_old rows r e lt) h))
-        (λ ge. ⊎_elim
-        (λ eq. absurd (not l (subst (λ x. 0 < watch_count x (code_of l)) (row_new rows r) (subst (λ n. 0 < watch_count (row_at (rows ++ r ∷ []) n) (code_of l)) eq h)) f))
-        (λ ne. absurd (omega (arith, h, ap (λ x. watch_count x (code_of l)) (row_past rows r e (omega (arith, ge, ne))), none_watch (code_of l))))
-        (cases_eq e (length rows)))
-        (cases_lt e (length rows))
 
     grounded_add : (before : List StepValue) (step : StepValue) → IsGrounded (clauses_of rows) t.limits before step → IsGrounded (clauses_of (rows ++ r ∷ [])) t.limits before step
     grounded_add before step g = ⊎_elim (λ d. inl d)
@@ -236,15 +161,9 @@ pub kept_learned : (rows : List RowValue) (r : RowValue) (w w' : ListsValue) (t 
 kept_learned rows r w w' t head below short short' x old new u d = record {
   can = k.can;
   head_within = omega (arith, old.head_within, length_push t.steps step);
-  excused = λ e l h f. ⊎_elim
-      (λ lt.
-      let s = old.excused e l (subst (λ y. 0 < watch_count y (code_of l)) (row_old rows r e lt) h) (subst (λ xs. IsFalse xs l) front f) in
-      subst (IsSatisfied (lits_of (t.steps ++ step ∷ []))) (ap (λ y. y.lits) (sym (row_old rows r e lt))) (s.0, s.1, further s.0 s.2))
-      (λ ge. ⊎_elim
-      (λ eq. subst (λ n. IsSatisfied (lits_of (t.steps ++ step ∷ [])) (row_at (rows ++ r ∷ []) n).lits) (sym eq) (subst (λ y. IsSatisfied (lits_of (t.steps ++ step ∷ [])) y.lits) (sym (row_new rows r)) (x, u.stands, subst (λ xs. Contains xs x) (sym pushed) (Contains-push (lits_of t.steps) x))))
-      (λ ne. absurd (omega (arith, h, ap (λ y. watch_count y (code_of l)) (row_past rows r e (omega (arith, ge, ne))), none_watch (code_of l))))
-      (cases_eq e (length rows)))
-      (cases_lt e (length rows));
+  excused = excused_add rows r (take head (lits_of t.steps)) (take head (lits_of (t.steps ++ step ∷ []))) (lits_of (t.steps ++ step ∷ []))
+      (λ l h f. (x, u.stands, subst (λ xs. Contains xs x) (sym pushed) (Contains-push (lits_of t.steps) x)))
+      (λ l f. subst (λ xs. IsFalse xs l) front f) (λ e l h f. let s = old.excused e l h f in (s.0, s.1, further s.0 s.2));
   head_above = old.head_above;
   settled = k.settled;
   short_known = k.short_known;
@@ -273,17 +192,11 @@ kept_learned rows r w w' t head below short short' x old new u d = record {
 
 -- rows with one that is a row
 pub rows_add : (vars : ℕ) (rows : List RowValue) (r : RowValue) → AreRows vars rows → IsRow vars r → AreRows vars (rows ++ r ∷ [])
-rows_add vars rows r are is e w = ⊎_elim
-    (λ u. subst (IsRow vars) (sym (row_old rows r e u)) (are e u))
-    (λ u. let q : e ≡ length rows = omega (arith, u, w, length_push rows r) in subst (λ n. IsRow vars (row_at (rows ++ r ∷ []) n)) (sym q) (subst (IsRow vars) (sym (row_new rows r)) is))
-    (cases_lt e (length rows))
+rows_add vars rows r are is = at_push (λ e x. IsRow vars x) rows r no_row are is
 
 -- the short clauses stay so
 pub shorts_add : (rows : List RowValue) (r : RowValue) (short : List ℕ) → All (IsShort rows) short → All (IsShort (rows ++ r ∷ [])) short
-shorts_add rows r short all k d w = let s = all k d w in record {
-  within = omega (arith, s.within, length_push rows r);
-  short = omega (arith, s.short, ap (λ x. length x.lits) (row_old rows r (get_or short k d) s.within));
-}
+shorts_add rows r short all k d w = grind (arith, all k d w, length_push, get_or_append_left)
 
 pub shorts_push : (rows : List RowValue) (r : RowValue) (short : List ℕ) → All (IsShort rows) short → length r.lits ≤ 1 → All (IsShort (rows ++ r ∷ [])) (short ++ length rows ∷ [])
 shorts_push rows r short all h = All-push (IsShort (rows ++ r ∷ [])) short (length rows) (shorts_add rows r short all) (record { within = omega (arith, length_push rows r); short = omega (arith, h, ap (λ x. length x.lits) (row_new rows r)) })

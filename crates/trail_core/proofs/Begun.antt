@@ -1,5 +1,5 @@
 -- The clauses that a core begins with, each of which watches its first two literals.
-use Rattle.std.proofs.Common.{◌≡◌, ◌==◌, ℕ, ◌+◌, ◌*◌, ◌<◌, ◌≤◌, List, [], ◌∷◌, ◌++◌, map, length, get_or, take, drop, cond, count_by, sum_by, refl, sym, ap, ◌∙◌, subst, ⊎_elim, arith}
+use Rattle.std.proofs.Common.{◌≡◌, ◌==◌, ℕ, ◌+◌, ◌<◌, ◌≤◌, List, [], ◌∷◌, ◌++◌, map, length, get_or, take, drop, cond, count_by, sum_by, refl, sym, ap, ◌∙◌, subst, ⊎_elim, arith}
 use Rattle.std.specs.Prelude.{◌≢◌, Contains, All, AllPairs}
 use Rattle.std.proofs.lemmas.List.{get_or-map, length-map, length_push, map_push, take_more, take-append-drop}
 use Rattle.std.proofs.lemmas.List.Concat.{flat_map-append}
@@ -7,11 +7,10 @@ use Rattle.std.proofs.lemmas.List.Sums.{sum_by_push, sum_by-append}
 use Rattle.std.proofs.lemmas.List.Elements.{Contains-get_or}
 use Rattle.cnf_formula.specs.Literals.{LitValue, code_of, yes}
 use Rattle.cnf_formula.specs.Formulas.{IsClause}
-use Rattle.trail_core.specs.Watching.{RowValue, ListsValue, no_row, watch_count, occurrences, spare, row_at, list_at, watches_at, IsRow, AreRows, AreLists, AreBlocked}
+use Rattle.trail_core.specs.Watching.{RowValue, ListsValue, no_row, watch_count, occurrences, spare, list_at, IsRow, AreRows, AreLists, AreBlocked}
 use Rattle.trail_core.specs.Search.{clauses_of}
 use Rattle.trail_core.specs.Kept.{IsShort, IsKept}
 use Rattle.trail_core.specs.inner.Begun.{front_row, IsBegun}
-use Rattle.trail_core.proofs.Watching.{count_short}
 use Rattle.trail_core.proofs.Storing.{joined, joined_more, occurrences_joined}
 use Rattle.trail_core.proofs.Added.{Put, exact_add, known_add, own_count}
 
@@ -65,16 +64,6 @@ begun_add rows w w' r short short' b put own blocked more new all = record {
   blocked = blocked;
   short_known = known_add rows r short short' b.short_known more new;
   short_within = all;
-}
-
--- no clause yet
-pub begun_none : (w : ListsValue) (short : List ℕ) → ((k : ℕ) → list_at w.lists k ≡ []) → ((k : ℕ) → watches_at w.watches k ≡ []) → short ≡ [] → IsBegun [] w short
-begun_none w short empty none e = record {
-  exact = λ e k. ap (count_by (λ x. x == e)) (empty k) ∙ sym (count_short no_row k (omega arith));
-  room = λ k. omega (arith, ap length (empty k));
-  blocked = λ k v c. let x = subst (λ xs. Contains xs v) (none k) c in absurd (omega (arith, x.1));
-  short_known = λ e v s. absurd (omega (arith, v));
-  short_within = λ k d v. absurd (omega (arith, v, ap length e));
 }
 
 -- where nothing is decided nor implied

@@ -1,31 +1,26 @@
 -- Entries of watch lists and their blocking literals, as entries and clauses come.
-use Rattle.std.proofs.Common.{◌≡◌, ◌≢◌, ◌==◌, ℕ, ◌-◌, ◌<◌, true, false, List, [], ◌∷◌, ◌++◌, map, length, get_or, set, take, count_by, sym, ap, ◌∙◌, subst, inl, inr, ⊎_elim, arith}
+use Rattle.std.proofs.Common.{◌≡◌, ◌≢◌, ◌==◌, ℕ, ◌-◌, ◌<◌, true, false, List, [], ◌∷◌, ◌++◌, map, length, get_or, set, take, count_by, refl, sym, ap, ◌∙◌, subst, inl, inr, ⊎_elim, arith}
 use Rattle.std.specs.Prelude.{◌⊎◌, Contains, swap_remove}
-use Rattle.std.proofs.lemmas.Bool.{eqb-true, cases_lt, cases_eq, false≢true}
-use Rattle.std.proofs.lemmas.List.{get_or-set_same, get_or-set_other, get_or_append_left, get_or_default, get_or_past, get_or_push, length-set, length-map, get_or-map, map-set, map_push, take-map}
-use Rattle.std.proofs.lemmas.List.Elements.{All-contains, Contains-get_or, Contains-push_cases}
+use Rattle.std.proofs.lemmas.Bool.{eqb-true, cases_lt, false≢true}
+use Rattle.std.proofs.lemmas.List.{get_or-set_same, get_or-set_other, get_or_append_left, get_or_default, get_or_past, get_or_push, length-set, length-take-le, get_or-take, length-map, get_or-map, map-set, map_push, take-map}
+use Rattle.std.proofs.lemmas.List.Elements.{All-contains, Contains-push_cases}
 use Rattle.cnf_formula.specs.Literals.{LitValue, code_of}
 use Rattle.cnf_formula.specs.Formulas.{IsAbout}
 use Rattle.cnf_formula.proofs.Codes.{same_code}
 use Rattle.trail_core.specs.Trails.{TrailValue}
 use Rattle.trail_core.specs.Watching.{RowValue, WatchValue, ListsValue, watch_count, row_at, list_at, watches_at, IsWatched, IsBlocked, AreBlocked, IsOnlyNew}
 use Rattle.trail_core.specs.Search.{clauses_of, CanScan}
+use Rattle.trail_core.proofs.Places.{at_set}
 use Rattle.trail_core.proofs.Watching.{entry_watches, watch_within, watch_long, watch_which}
 use Rattle.trail_core.proofs.Visits.{lits_at}
-use Rattle.trail_core.proofs.Keeping.{in_front}
 
 -- ---- elements of lists that change
 
-in_set : {X : Type 0} (xs : List X) (i : ℕ) (y x : X) → i < length xs → Contains (set xs i y) x → Contains xs x ⊎ (x ≡ y)
-in_set xs i y x w c = ⊎_elim
-    (λ e. inr (sym c.2 ∙ ap (λ n. get_or (set xs i y) n x) e ∙ get_or-set_same xs i y x w))
-    (λ d. inl (c.0, omega (arith, c.1, length-set xs i y), sym (get_or-set_other xs i c.0 y x d) ∙ c.2))
-    (cases_eq c.0 i)
+pub in_set : {X : Type 0} (xs : List X) (i : ℕ) (y x : X) → i < length xs → Contains (set xs i y) x → Contains xs x ⊎ (x ≡ y)
+in_set xs i y x w c = grind (arith, get_or-set_same, get_or-set_other, length-set)
 
 pub in_removed : {X : Type 0} (xs : List X) (i : ℕ) (d x : X) → i < length xs → Contains (swap_remove xs i d) x → Contains xs x
-in_removed xs i d x w c =
-    let last = get_or xs (length xs - 1) d in
-    ⊎_elim (λ h. h) (λ e. subst (Contains xs) (sym e) (Contains-get_or xs (length xs - 1) d (omega (arith, w)))) (in_set xs i last x w (in_front (length xs - 1) (set xs i last) x c))
+in_removed xs i d x w c = grind (arith, get_or-take, get_or-set_same, get_or-set_other, length-take-le, length-set, get_or_default)
 
 pub map_removed : {X Y : Type 0} (f : X → Y) (xs : List X) (i : ℕ) (d : X) → i < length xs → map f (swap_remove xs i d) ≡ swap_remove (map f xs) i (f d)
 map_removed f xs i d w =
@@ -38,27 +33,10 @@ map_removed f xs i d w =
 -- ---- one list of entries changes
 
 pub only_new : (old : List (List WatchValue)) (at : ℕ) (ys : List WatchValue) (watch : WatchValue) → at < length old → ((w : WatchValue) → Contains ys w → Contains (watches_at old at) w ⊎ (w ≡ watch)) → IsOnlyNew old (set old at ys) at watch
-only_new old at ys watch h put k w c = ⊎_elim
-    (λ e. ⊎_elim
-    (λ o. inl (subst (λ n. Contains (watches_at old n) w) (sym e) o))
-    (λ s. inr (e, s))
-    (put w (subst (λ zs. Contains zs w) (get_or-set_same old at ys [] h) (subst (λ n. Contains (watches_at (set old at ys) n) w) e c))))
-    (λ d. inl (subst (λ zs. Contains zs w) (get_or-set_other old at k ys [] d) c))
-    (cases_eq k at)
+only_new old at ys watch h put k w = at_set (λ n zs. Contains zs w → Contains (watches_at old n) w ⊎ ((n ≡ at) × (w ≡ watch))) old at ys [] h (λ n d c. inl c) (λ c. ⊎_elim (λ o. inl o) (λ s. inr (refl, s)) (put w c)) k
 
 pub only_less : (old : List (List WatchValue)) (at : ℕ) (ys : List WatchValue) → at < length old → ((w : WatchValue) → Contains ys w → Contains (watches_at old at) w) → (k : ℕ) (w : WatchValue) → Contains (watches_at (set old at ys) k) w → Contains (watches_at old k) w
-only_less old at ys h put k w c = ⊎_elim
-    (λ e. subst (λ n. Contains (watches_at old n) w) (sym e) (put w (subst (λ zs. Contains zs w) (get_or-set_same old at ys [] h) (subst (λ n. Contains (watches_at (set old at ys) n) w) e c))))
-    (λ d. subst (λ zs. Contains zs w) (get_or-set_other old at k ys [] d) c)
-    (cases_eq k at)
-
-pub only_of : (views views' : List (List WatchValue)) (k code : ℕ) (ys : List WatchValue) (watch : WatchValue) (ws : List (List WatchValue)) → k < length views → views ≡ ws → k ≡ code → views' ≡ set views k ys
-    → ((w : WatchValue) → Contains ys w → Contains (watches_at views k) w ⊎ (w ≡ watch)) → IsOnlyNew ws views' code watch
-only_of views views' k code ys watch ws h v e is put =
-    subst (λ us. IsOnlyNew us views' code watch) v (subst (λ us. IsOnlyNew views us code watch) (sym is) (subst (λ m. IsOnlyNew views (set views k ys) m watch) e (only_new views k ys watch h put)))
-
-pub set_entry : (xs : List WatchValue) (i : ℕ) (y w : WatchValue) → i < length xs → Contains (set xs i y) w → Contains xs w ⊎ (w ≡ y)
-set_entry xs i y w h c = in_set xs i y w h c
+only_less old at ys h put k w = at_set (λ n zs. Contains zs w → Contains (watches_at old n) w) old at ys [] h (λ n d c. c) (put w) k
 
 pub push_entry : (xs : List WatchValue) (y w : WatchValue) → Contains (xs ++ y ∷ []) w → Contains xs w ⊎ (w ≡ y)
 push_entry xs y w c = ⊎_elim (λ h. inl h) (λ e. inr (sym e)) (Contains-push_cases xs y w c)
@@ -75,12 +53,7 @@ blocked_new clauses old new at watch b only is k w c = ⊎_elim
     (only k w c)
 
 pub blocked_longer : (clauses : List (List LitValue)) (clause : List LitValue) (watches : List (List WatchValue)) → AreBlocked clauses watches → AreBlocked (clauses ++ clause ∷ []) watches
-blocked_longer clauses clause watches b k w c =
-    let i = b k w c in
-    ⊎_elim
-    (λ lt. subst (λ ls. IsBlocked ls k w) (sym (get_or_append_left clauses (clause ∷ []) [] w.clause lt)) i)
-    (λ ge. let none = subst (λ ls. Contains ls w.blocker) (get_or_past clauses w.clause [] ge) i.stands in absurd (omega (arith, none.1)))
-    (cases_lt w.clause (length clauses))
+blocked_longer clauses clause watches b k w c = grind (arith, b k w c, get_or_append_left, get_or_past, cases_lt w.clause (length clauses))
 
 -- an entry that is not marked needs but a literal of its clause
 pub long_blocked : (rows : List RowValue) (id k : ℕ) (w : WatchValue) → Contains (row_at rows id).lits w.blocker → w.pair ≡ false → IsBlocked (get_or (clauses_of rows) id []) k w
@@ -90,16 +63,8 @@ long_blocked rows id k w stands long = record {
 }
 
 -- a clause of two literals has no other
-same_place : (xs : List LitValue) (i : ℕ) (x y : LitValue) → i < length xs → get_or xs i x ≡ x → get_or xs i y ≡ y → x ≡ y
-same_place xs i x y w p q = sym p ∙ get_or_default xs i x y w ∙ q
-
 two_only : (lits : List LitValue) (a b : LitValue) → length lits ≡ 2 → Contains lits a → Contains lits b → a ≢ b → (o : LitValue) → Contains lits o → (o ≡ a) ⊎ (o ≡ b)
-two_only lits a b n ca cb d o co =
-    let apart : ca.0 ≢ cb.0 = λ e. d (same_place lits cb.0 a b cb.1 (subst (λ i. get_or lits i a ≡ a) e ca.2) cb.2) in
-    ⊎_elim
-    (λ e. inl (same_place lits ca.0 o a ca.1 (subst (λ i. get_or lits i o ≡ o) e co.2) ca.2))
-    (λ ne. let e : co.0 ≡ cb.0 = omega (arith, n, co.1, ca.1, cb.1, apart, ne) in inr (same_place lits cb.0 o b cb.1 (subst (λ i. get_or lits i o ≡ o) e co.2) cb.2))
-    (cases_eq co.0 ca.0)
+two_only lits a b n ca cb d o co = grind (arith, get_or_default)
 
 -- the entry of a new clause in the list of one of the two literals that it watches
 pub entry_blocked : (lits : List LitValue) (a b : LitValue) (id : ℕ) → Contains lits a → Contains lits b → a ≢ b → IsBlocked lits (code_of a) (record { clause = id; pair = length lits == 2; blocker = b })
@@ -146,10 +111,7 @@ visited_by rows lists t falsified place w can within named stands =
       within = inside;
       of_vars = All-contains (IsAbout t.vars) r.lits w.blocker row.within own;
       own = own;
-      own_false = ⊎_elim
-          (λ e. subst (Contains r.lits) (same_code r.first falsified e) (row.first long))
-          (λ e. subst (Contains r.lits) (same_code r.second falsified e) (row.second long))
-          (watch_which r k watches);
+      own_false = grind (arith, row.first long, row.second long, watch_which r k watches, same_code r.first falsified, same_code r.second falsified);
       pair = λ p o c. ⊎_elim (λ e. inl e) (λ e. inr (same_code o falsified e)) (blocked.pair p o (subst (λ ls. Contains ls o) (lits_at rows w.clause) c));
     }
 

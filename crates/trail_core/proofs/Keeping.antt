@@ -1,18 +1,20 @@
 -- What a core keeps, as it propagates.
 use Rattle.std.proofs.Common.{◌≡◌, ℕ, ◌+◌, ◌<◌, ◌≤◌, Bool, List, [], ◌∷◌, ◌++◌, length, get_or, take, refl, sym, ap, ◌∙◌, subst, inl, inr, ⊎_elim, arith}
 use Rattle.std.specs.Prelude.{◌⊎◌, Contains, All}
+use Rattle.std.proofs.lemmas.Grind.{common_steps}
 use Rattle.std.proofs.lemmas.Bool.{cases_lt}
-use Rattle.std.proofs.lemmas.List.{map-append, take-append-le, take_at, take_all, get_or-take, get_or-map, get_or_append_left, get_or_push, length-append, length-map, length-take-le, length_push}
+use Rattle.std.proofs.lemmas.List.{map-append, take-append-le, take_at, take_all, get_or-take, get_or-map, get_or_append_left, length-append, length-map, length-take-le}
 use Rattle.std.proofs.lemmas.List.Elements.{Contains-get_or, All-contains}
 use Rattle.std.proofs.Math.Bool.{not-not}
 use Rattle.cnf_formula.specs.Literals.{LitValue, negation, code_of}
 use Rattle.trail_core.specs.Assigned.{IsFalse, IsConsistent}
 use Rattle.trail_core.specs.Trails.{StepValue, TrailValue, lits_of}
-use Rattle.trail_core.specs.Watching.{RowValue, ListsValue, no_row, watch_count, row_at, AreRows, AreLists}
+use Rattle.trail_core.specs.Watching.{RowValue, ListsValue, watch_count, row_at, AreRows, AreLists}
 use Rattle.trail_core.specs.Search.{IsSatisfied, IsFalsified, IsUnit, Implied, HasLit, clauses_of, CanScan}
 use Rattle.trail_core.specs.Search.Implied.{none, more}
 use Rattle.trail_core.specs.Meaning.{IsClosed}
 use Rattle.trail_core.specs.Kept.{Excused, ShortTrue, IsDue, IsGrounded, IsKept, IsDone}
+use Rattle.trail_core.proofs.Places.{at_push}
 use Rattle.trail_core.proofs.Trails.{all_counted}
 use Rattle.trail_core.proofs.Watching.{hit_yes, count_long}
 use Rattle.trail_core.proofs.Scans.{implied_front, implied_grows, implied_weaker, lits_same}
@@ -25,13 +27,7 @@ negated_twice l =
     ap make (not-not l.positive)
 
 pub in_front : {X : Type 0} (n : ℕ) (xs : List X) (l : X) → Contains (take n xs) l → Contains xs l
-in_front n xs l c = ⊎_elim
-    (λ w. (c.0, omega (arith, c.1, w, length-take-le n xs w), sym (get_or-take n xs c.0 l (omega (arith, c.1, length-take-le n xs w))) ∙ c.2))
-    (λ w. subst (λ ys. Contains ys l) (take_all n xs (omega (arith, w))) c)
-    (cases n (length xs))
-  where
-    cases : (a b : ℕ) → (a ≤ b) ⊎ (b < a)
-    cases a b = ⊎_elim (λ w. inr w) (λ w. inl w) (cases_lt b a)
+in_front n xs l c = grind (arith, common_steps)
 
 pub lits_length : (steps : List StepValue) → length (lits_of steps) ≡ length steps
 lits_length steps = length-map steps (λ s. s.lit)
@@ -44,19 +40,20 @@ front_same {clauses} {due} {ss} {ts} i n w =
     let r = implied_front i in
     ap (λ xs. take n (lits_of xs)) r.1 ∙ ap (take n) (map-append (λ s. s.lit) ss r.0) ∙ take-append-le n (lits_of ss) (lits_of r.0) (omega (arith, w, lits_length ss))
 
+-- a literal of the trail stays at its place
+pub stays_at : {clauses : List (List LitValue)} {due : List StepValue → List LitValue → Type 0} {ss ts : List StepValue} → Implied clauses due ss ts → (k : ℕ) (d : LitValue) → k < length ss → get_or (lits_of ts) k d ≡ get_or (lits_of ss) k d
+stays_at {clauses} {due} {ss} {ts} i k d w =
+    let r = implied_front i in
+    ap (λ xs. get_or (lits_of xs) k d) r.1 ∙ ap (λ xs. get_or xs k d) (map-append (λ s. s.lit) ss r.0) ∙ get_or_append_left (lits_of ss) (lits_of r.0) d k (omega (arith, w, lits_length ss))
+
 -- ---- reasons
 
 pub grounded_more : {clauses : List (List LitValue)} (limits : List ℕ) {ss ts : List StepValue} → ((k : ℕ) (d : StepValue) → k < length ss → IsGrounded clauses limits (take k ss) (get_or ss k d)) → Implied clauses (IsDue limits) ss ts
     → (k : ℕ) (d : StepValue) → k < length ts → IsGrounded clauses limits (take k ts) (get_or ts k d)
-grounded_more limits g (none ss) = g
-grounded_more {clauses} limits g (more ss later step i q) = λ k d w. ⊎_elim
-    (λ v. subst (λ xs. IsGrounded clauses limits xs (get_or (later ++ step ∷ []) k d)) (sym (take-append-le k later (step ∷ []) (omega (arith, v))))
-    (subst (λ s. IsGrounded clauses limits (take k later) s) (sym (get_or_append_left later (step ∷ []) d k v)) (grounded_more limits g i k d v)))
-    (λ v.
-    let e : k ≡ length later = omega (arith, v, w, length_push later step) in
-    subst (λ xs. IsGrounded clauses limits xs (get_or (later ++ step ∷ []) k d)) (sym (take_at later (step ∷ []) k (sym e)))
-    (subst (λ s. IsGrounded clauses limits later s) (sym (get_or_push later step d k (sym e))) (inr q)))
-    (cases_lt k (length later))
+grounded_more limits g (none ss) k d = g k d
+grounded_more {clauses} limits g (more ss later step i q) k d = at_push (λ n s. IsGrounded clauses limits (take n (later ++ step ∷ [])) s) later step d
+    (λ n v. subst (λ xs. IsGrounded clauses limits xs (get_or later n d)) (sym (take-append-le n later (step ∷ []) (omega (arith, v)))) (grounded_more limits g i n d v))
+    (subst (λ xs. IsGrounded clauses limits xs step) (sym (take_at later (step ∷ []) (length later) refl)) (inr q)) k
 
 -- ---- a scan, or the short clauses
 
@@ -64,43 +61,36 @@ pub kept_extend : (rows rows' : List RowValue) (w w' : ListsValue) (t t' : Trail
     → ((e k : ℕ) → 0 < watch_count (row_at rows' e) k → (0 < watch_count (row_at rows e) k) ⊎ ((l : LitValue) → code_of l ≡ k → IsFalse (lits_of t.steps) l → ⊥))
     → Implied (clauses_of rows) (IsDue t.limits) t.steps t'.steps → IsKept rows' w' t' head short
 kept_extend rows rows' w w' t t' head short k can limits count same watches implied =
-    let below : (j : ℕ) → j < length t'.limits → j < length t.limits = λ j v. omega (arith, v, ap length limits) in
-    let limit : (j : ℕ) → get_or t'.limits j 0 ≡ get_or t.limits j 0 = λ j. ap (λ m. get_or m j 0) limits in
-    let front : (j : ℕ) → j < length t'.limits → take (get_or t'.limits j 0) (lits_of t'.steps) ≡ take (get_or t.limits j 0) (lits_of t.steps) =
-    λ j v. ap (λ m. take m (lits_of t'.steps)) (limit j) ∙ front_same implied (get_or t.limits j 0) (omega (arith, k.head_above j (below j v), k.head_within)) in
-    let at : (e : ℕ) (trues : List LitValue) → IsSatisfied trues (row_at rows e).lits → IsSatisfied trues (row_at rows' e).lits =
-    λ e trues h. subst (IsSatisfied trues) (sym (lits_same rows rows' e same)) h in
-    let was : (e : ℕ) (l : LitValue) (falses : List LitValue) (n : ℕ) → 0 < watch_count (row_at rows' e) (code_of l) → falses ≡ take n (lits_of t.steps) → IsFalse falses l → 0 < watch_count (row_at rows e) (code_of l) =
-    λ e l falses n h f g. ⊎_elim (λ y. y) (λ y. absurd (y l refl (in_front n (lits_of t.steps) (negation l) (subst (λ xs. Contains xs (negation l)) f g)))) (watches e (code_of l) h) in
+    let now : List ℕ → TrailValue = λ ls. record { vars = t'.vars; steps = t'.steps; limits = ls } in
+    let before = lits_of t.steps in
+    let after = lits_of t'.steps in
+    let low : (j : ℕ) → j < length t.limits → get_or t.limits j 0 ≤ length t.steps = λ j v. omega (arith, k.head_above j v, k.head_within) in
+    let stays : (j : ℕ) → j < length t.limits → (l : LitValue) → Contains (take (get_or t.limits j 0) before) l → Contains (take (get_or t.limits j 0) after) l = λ j v l c. subst (λ xs. Contains xs l) (sym (front_same implied (get_or t.limits j 0) (low j v))) c in
+    let own : (e : ℕ) (l : LitValue) → Contains (row_at rows e).lits l → Contains (row_at rows' e).lits l = λ e l c. subst (λ xs. Contains xs l) (sym (lits_same rows rows' e same)) c in
     let shorter : (e : ℕ) → length (row_at rows' e).lits ≡ length (row_at rows e).lits = λ e. ap length (lits_same rows rows' e same) in
-    record {
-      can = can;
+    let ex : (n : ℕ) (trues trues' : List LitValue) → n ≤ length t.steps → ((l : LitValue) → Contains trues l → Contains trues' l) → Excused rows (take n before) trues → Excused rows' (take n after) trues' =
+    λ n trues trues' v more old e l h f.
+    let g = subst (λ xs. Contains xs (negation l)) (front_same implied n v) f in
+    let s = old e l (⊎_elim (λ y. y) (λ y. absurd (y l refl (in_front n before (negation l) g))) (watches e (code_of l) h)) g in
+    (s.0, own e s.0 s.1, more s.0 s.2) in
+    subst (λ ls. IsKept rows' w' (now ls) head short) (sym limits) (record {
+      can = subst (λ ls. CanScan rows' w' (now ls)) limits can;
       head_within = omega (arith, k.head_within, implied_longer implied);
-      excused = λ e l h f.
-          let fr = front_same implied head k.head_within in
-          let s = k.excused e l (was e l (take head (lits_of t'.steps)) head h fr f) (subst (λ xs. Contains xs (negation l)) fr f) in
-          at e (lits_of t'.steps) (s.0, s.1, implied_grows implied s.0 s.2);
-      head_above = λ j v. omega (arith, limit j, k.head_above j (below j v));
-      settled = λ j v e l h f.
-          let fr = front j v in
-          let s = k.settled j (below j v) e l (was e l (take (get_or t'.limits j 0) (lits_of t'.steps)) (get_or t.limits j 0) h fr f) (subst (λ xs. Contains xs (negation l)) fr f) in
-          at e (take (get_or t'.limits j 0) (lits_of t'.steps)) (subst (λ xs. IsSatisfied xs (row_at rows e).lits) (sym fr) s);
+      excused = ex head before after k.head_within (implied_grows implied) k.excused;
+      head_above = k.head_above;
+      settled = λ j v. ex (get_or t.limits j 0) (take (get_or t.limits j 0) before) (take (get_or t.limits j 0) after) (low j v) (stays j v) (k.settled j v);
       short_known = λ e v s. k.short_known e (omega (arith, v, count)) (omega (arith, s, shorter e));
       short_within = λ i d v. let s = k.short_within i d v in record { within = omega (arith, s.within, count); short = omega (arith, s.short, shorter (get_or short i d)) };
-      grounded = subst (λ cs. (i : ℕ) (d : StepValue) → i < length t'.steps → IsGrounded cs t'.limits (take i t'.steps) (get_or t'.steps i d)) (sym same)
-          (subst (λ ls. (i : ℕ) (d : StepValue) → i < length t'.steps → IsGrounded (clauses_of rows) ls (take i t'.steps) (get_or t'.steps i d)) (sym limits) (grounded_more t.limits k.grounded implied));
-      short_true = λ j v e n s. at e (take (get_or t'.limits j 0) (lits_of t'.steps)) (subst (λ xs. IsSatisfied xs (row_at rows e).lits) (sym (front j v)) (k.short_true j (below j v) e (omega (arith, n, count)) (omega (arith, s, shorter e))));
-    }
+      grounded = subst (λ cs. (i : ℕ) (d : StepValue) → i < length t'.steps → IsGrounded cs t.limits (take i t'.steps) (get_or t'.steps i d)) (sym same) (grounded_more t.limits k.grounded implied);
+      short_true = λ j v e n s. let x = k.short_true j v e (omega (arith, n, count)) (omega (arith, s, shorter e)) in (x.0, own e x.0 x.1, stays j v x.0 x.2);
+    })
 
 -- what a scan makes true is due
 pub scan_due : {clauses : List (List LitValue)} {ss ts : List StepValue} → (limits : List ℕ) (head : ℕ) (falsified : LitValue) → head < length ss → ((d : LitValue) → falsified ≡ negation (get_or (lits_of ss) head d)) → ((j : ℕ) → j < length limits → get_or limits j 0 ≤ head)
     → Implied clauses (HasLit falsified) ss ts → Implied clauses (IsDue limits) ss ts
 scan_due {clauses} {ss} {ts} limits head falsified w is above = implied_weaker (λ before clause i h.
-    let r = implied_front i in
     let n : length ss ≤ length before = implied_longer i in
-    let here : get_or (lits_of before) head falsified ≡ get_or (lits_of ss) head falsified =
-    ap (λ xs. get_or (lits_of xs) head falsified) r.1 ∙ ap (λ xs. get_or xs head falsified) (map-append (λ s. s.lit) ss r.0) ∙ get_or_append_left (lits_of ss) (lits_of r.0) falsified head (omega (arith, w, lits_length ss)) in
-    let at : get_or (lits_of before) head falsified ≡ negation falsified = here ∙ sym (negated_twice (get_or (lits_of ss) head falsified)) ∙ ap negation (sym (is falsified)) in
+    let at : get_or (lits_of before) head falsified ≡ negation falsified = stays_at i head falsified w ∙ sym (negated_twice (get_or (lits_of ss) head falsified)) ∙ ap negation (sym (is falsified)) in
     inr (
       falsified,
       head,
@@ -118,20 +108,8 @@ kept_next rows w t head short falsified k v is handled = record {
   can = k.can;
   head_within = omega (arith, v);
   excused = λ e l h f.
-      let n : length (take (head + 1) (lits_of t.steps)) ≡ head + 1 = length-take-le (head + 1) (lits_of t.steps) (omega (arith, v, lits_length t.steps)) in
-      let q = f.0 in
-      let q< : q < head + 1 = omega (arith, f.1, n) in
-      let here : get_or (lits_of t.steps) q (negation l) ≡ negation l = sym (get_or-take (head + 1) (lits_of t.steps) q (negation l) q<) ∙ f.2 in
-      ⊎_elim
-      (λ lt.
-      let m : length (take head (lits_of t.steps)) ≡ head = length-take-le head (lits_of t.steps) (omega (arith, v, lits_length t.steps)) in
-      k.excused e l h (q, omega (arith, lt, m), get_or-take head (lits_of t.steps) q (negation l) lt ∙ here))
-      (λ ge.
-      let s : q ≡ head = omega (arith, q<, ge) in
-      let x : get_or (lits_of t.steps) head (negation l) ≡ negation l = ap (λ i. get_or (lits_of t.steps) i (negation l)) (sym s) ∙ here in
-      let y : falsified ≡ l = is (negation l) ∙ ap negation x ∙ negated_twice l in
-      handled e (subst (λ z. 0 < watch_count (row_at rows e) (code_of z)) (sym y) h))
-      (cases_lt q head);
+      let here : (falsified ≡ l) ⊎ IsFalse (take head (lits_of t.steps)) l = grind (arith, lits_length t.steps, length-take-le, get_or-take, is (negation l), negated_twice l) in
+      ⊎_elim (λ y. handled e (subst (λ z. 0 < watch_count (row_at rows e) (code_of z)) (sym y) h)) (k.excused e l h) here;
   head_above = λ j u. omega (arith, k.head_above j u);
   settled = k.settled;
   short_known = k.short_known;
@@ -144,9 +122,7 @@ kept_next rows w t head short falsified k v is handled = record {
 
 -- each clause is one of a row
 pub row_of_clause : (rows : List RowValue) (clause : List LitValue) → Contains (clauses_of rows) clause → (e : ℕ) × (e < length rows) × ((row_at rows e).lits ≡ clause)
-row_of_clause rows clause c =
-    let w : c.0 < length rows = omega (arith, c.1, length-map rows (λ r. r.lits)) in
-    (c.0, w, sym (get_or-map (λ r. r.lits) rows c.0 no_row clause w) ∙ c.2)
+row_of_clause rows clause c = grind (arith, get_or-map, length-map)
 
 watches_first : (r : RowValue) → 1 < length r.lits → 0 < watch_count r (code_of r.first)
 watches_first r h = omega (arith, count_long r (code_of r.first) h, hit_yes (code_of r.first) (code_of r.first) refl)
@@ -160,32 +136,23 @@ closed_by vars rows trues are con ex sh = record {
   not_unit = λ clause l c u. let r = row_of_clause rows clause c in uni r.0 r.1 l (subst (λ xs. IsUnit trues xs l) (sym r.2) u);
 }
   where
-    not_sat : (e : ℕ) → IsSatisfied trues (row_at rows e).lits → IsFalsified trues (row_at rows e).lits → ⊥
-    not_sat e s f = con s.0 s.2 (f s.0 s.1)
+    -- a clause is satisfied where one of the literals that it watches is false
+    sat : (e : ℕ) → e < length rows → (1 < length (row_at rows e).lits → IsFalse trues (row_at rows e).first ⊎ IsFalse trues (row_at rows e).second) → IsSatisfied trues (row_at rows e).lits
+    sat e w f = ⊎_elim
+        (λ h. ⊎_elim (ex e (row_at rows e).first (watches_first (row_at rows e) h)) (ex e (row_at rows e).second (watches_second (row_at rows e) h)) (f h))
+        (sh e w)
+        (cases_lt 1 (length (row_at rows e).lits))
 
     fal : (e : ℕ) → e < length rows → IsFalsified trues (row_at rows e).lits → ⊥
-    fal e w f = ⊎_elim
-        (λ h. not_sat e (ex e (row_at rows e).first (watches_first (row_at rows e) h) (f (row_at rows e).first ((are e w).first h))) f)
-        (λ h. not_sat e (sh e w h) f)
-        (cases_lt 1 (length (row_at rows e).lits))
-
-    sat_uni : (e : ℕ) (l : LitValue) → IsSatisfied trues (row_at rows e).lits → IsUnit trues (row_at rows e).lits l → ⊥
-    sat_uni e l s u = ⊎_elim (λ i. u.open_.not_true (subst (λ x. Contains trues x) i s.2)) (λ f. con s.0 s.2 f) (u.others s.0 s.1)
+    fal e w f = let s = sat e w (λ h. inl (f (row_at rows e).first ((are e w).first h))) in con s.0 s.2 (f s.0 s.1)
 
     uni : (e : ℕ) → e < length rows → (l : LitValue) → IsUnit trues (row_at rows e).lits l → ⊥
-    uni e w l u = ⊎_elim
-        (λ h.
-        let a = (are e w).first h in
-        let b = (are e w).second h in
-        ⊎_elim
-        (λ i. ⊎_elim
-        (λ j. (are e w).differ h (i ∙ sym j))
-        (λ f. sat_uni e l (ex e (row_at rows e).second (watches_second (row_at rows e) h) f) u)
-        (u.others (row_at rows e).second b))
-        (λ f. sat_uni e l (ex e (row_at rows e).first (watches_first (row_at rows e) h) f) u)
-        (u.others (row_at rows e).first a))
-        (λ h. sat_uni e l (sh e w h) u)
-        (cases_lt 1 (length (row_at rows e).lits))
+    uni e w l u =
+        let s = sat e w (λ h. ⊎_elim
+        (λ i. ⊎_elim (λ j. absurd ((are e w).differ h (i ∙ sym j))) (λ g. inr g) (u.others (row_at rows e).second ((are e w).second h)))
+        (λ g. inl g)
+        (u.others (row_at rows e).first ((are e w).first h))) in
+        ⊎_elim (λ i. u.open_.not_true (subst (λ x. Contains trues x) i s.2)) (λ g. con s.0 s.2 g) (u.others s.0 s.1)
 
 pub done_by : (rows : List RowValue) (w : ListsValue) (t : TrailValue) (head : ℕ) (short : List ℕ) → IsKept rows w t head short → length t.steps ≤ head → ShortTrue rows (lits_of t.steps) → IsConsistent (lits_of t.steps) → IsDone rows t head
 done_by rows w t head short k h sh con =
@@ -241,9 +208,3 @@ started_high rows w t head short k above = record {
   implied = none t.steps;
   short_true = λ e v s. let h = k.short_true 0 above e v s in (h.0, h.1, in_front (get_or t.limits 0 0) (lits_of t.steps) h.0 h.2);
 }
-
--- a literal of the trail stays at its place
-pub stays_at : {clauses : List (List LitValue)} {due : List StepValue → List LitValue → Type 0} {ss ts : List StepValue} → Implied clauses due ss ts → (k : ℕ) (d : LitValue) → k < length ss → get_or (lits_of ts) k d ≡ get_or (lits_of ss) k d
-stays_at {clauses} {due} {ss} {ts} i k d w =
-    let r = implied_front i in
-    ap (λ xs. get_or (lits_of xs) k d) r.1 ∙ ap (λ xs. get_or xs k d) (map-append (λ s. s.lit) ss r.0) ∙ get_or_append_left (lits_of ss) (lits_of r.0) d k (omega (arith, w, lits_length ss))

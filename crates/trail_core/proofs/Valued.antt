@@ -1,7 +1,7 @@
 -- What the values of literals keep, as literals become true and are taken back.
-use Rattle.std.proofs.Common.{zero, suc, ◌≡◌, ◌≢◌, ◌==◌, ℕ, ◌+◌, ◌*◌, ◌<◌, ◌≤◌, Bool, true, false, List, [], ◌∷◌, ◌++◌, Some, length, get_or, set, cond, eqb, count_by, refl, sym, ap, ◌∙◌, subst, inl, inr, ⊎_elim, arith}
-use Rattle.std.specs.Prelude.{◌⊎◌, Contains, not}
-use Rattle.std.proofs.lemmas.Bool.{cases_lt, cases_eq}
+use Rattle.std.proofs.Common.{◌≡◌, ◌≢◌, ◌==◌, ℕ, ◌+◌, ◌<◌, ◌≤◌, true, false, List, [], ◌∷◌, ◌++◌, Some, length, get_or, set, cond, eqb, count_by, refl, sym, ap, ◌∙◌, subst, inl, inr, ⊎_elim, arith}
+use Rattle.std.specs.Prelude.{◌⊎◌, Contains}
+use Rattle.std.proofs.lemmas.Bool.{cases_eq}
 use Rattle.std.proofs.lemmas.List.Sums.{sum_by-set, get_or-le-sum_by}
 use Rattle.std.proofs.lemmas.List.{get_or-set_same, get_or-set_other, get_or_default, get_or_append_left, get_or_push, length_push, length-set}
 use Rattle.std.proofs.lemmas.List.Elements.{Contains-push, Contains-push_cases, Contains-append_left}
@@ -10,42 +10,20 @@ use Rattle.cnf_formula.specs.Formulas.{IsAbout}
 use Rattle.cnf_formula.proofs.Codes.{code_within}
 use Rattle.trail_core.specs.Assigned.{IsOpen, IsValue}
 use Rattle.trail_core.specs.Trails.{IsAssigned}
+use Rattle.trail_core.proofs.Places.{at_push}
 use Rattle.trail_core.proofs.Keeping.{negated_twice}
 
 -- ---- the numbers of literals
 
-code_near : (l : LitValue) → (2 * l.var ≤ code_of l) × (code_of l ≤ 2 * l.var + 1)
-code_near l = by_sign l.positive
-  where
-    by_sign : (b : Bool) → (2 * l.var ≤ 2 * l.var + cond {A = ℕ} b 0 1) × (2 * l.var + cond {A = ℕ} b 0 1 ≤ 2 * l.var + 1)
-    by_sign true = (omega arith, omega arith)
-    by_sign false = (omega arith, omega arith)
-
 pub code_turned : (l : LitValue) → code_of (negation l) ≢ code_of l
-code_turned l = by_sign l.positive
-  where
-    by_sign : (b : Bool) → 2 * l.var + cond {A = ℕ} (not b) 0 1 ≡ 2 * l.var + cond {A = ℕ} b 0 1 → ⊥
-    by_sign true e = absurd (omega (arith, e))
-    by_sign false e = absurd (omega (arith, e))
+code_turned l = grind arith
 
 codes_apart : (l m : LitValue) → l.var ≢ m.var → code_of l ≢ code_of m
-codes_apart l m d e =
-    let a = code_near l in
-    let b = code_near m in
-    d (omega (arith, e, a.0, a.1, b.0, b.1))
+codes_apart l m d = grind arith
 
 -- two literals of one variable are one, or each the negation of the other
 same_var : (l m : LitValue) → l.var ≡ m.var → (l ≡ m) ⊎ (l ≡ negation m)
-same_var l m e = go l.positive m.positive refl refl
-  where
-    make : ℕ → Bool → LitValue
-    make v p = record { var = v; positive = p }
-
-    go : (p q : Bool) → l.positive ≡ p → m.positive ≡ q → (l ≡ m) ⊎ (l ≡ negation m)
-    go true true a b = inl (ap (λ v. make v l.positive) e ∙ ap (make m.var) (a ∙ sym b))
-    go true false a b = inr (ap (λ v. make v l.positive) e ∙ ap (make m.var) (a ∙ sym (ap not b)))
-    go false true a b = inr (ap (λ v. make v l.positive) e ∙ ap (make m.var) (a ∙ sym (ap not b)))
-    go false false a b = inl (ap (λ v. make v l.positive) e ∙ ap (make m.var) (a ∙ sym b))
+same_var l m e = grind arith
 
 -- ---- a literal and its negation are given values
 
@@ -88,12 +66,10 @@ pub value_by_false : (vars : ℕ) (values : List ℕ) (lits : List LitValue) (l 
 value_by_false vars values lits l a c = subst (λ x. get_or values (code_of x) 0 ≡ 2) (ap negation c.2 ∙ negated_twice l) (a.opposed c.0 (negation l) c.1)
 
 pub true_by_value : (vars : ℕ) (values : List ℕ) (lits : List LitValue) (l : LitValue) → IsAssigned vars values lits → 0 < l.var → l.var ≤ vars → get_or values (code_of l) 0 ≡ 1 → Contains lits l
-true_by_value vars values lits l a some within e =
-    ⊎_elim (λ c. c) (λ c. absurd (omega (arith, e, value_by_false vars values lits l a c))) (a.stands l some within (λ z. absurd (omega (arith, e, z))))
+true_by_value vars values lits l a some within e = grind (arith, value_by_false vars values lits l a, a.stands l some within)
 
 pub false_by_value : (vars : ℕ) (values : List ℕ) (lits : List LitValue) (l : LitValue) → IsAssigned vars values lits → 0 < l.var → l.var ≤ vars → get_or values (code_of l) 0 ≡ 2 → Contains lits (negation l)
-false_by_value vars values lits l a some within e =
-    ⊎_elim (λ c. absurd (omega (arith, e, value_by_true vars values lits l a c))) (λ c. c) (a.stands l some within (λ z. absurd (omega (arith, e, z))))
+false_by_value vars values lits l a some within e = grind (arith, value_by_true vars values lits l a, a.stands l some within)
 
 pub open_by_value : (vars : ℕ) (values : List ℕ) (lits : List LitValue) (l : LitValue) → IsAssigned vars values lits → get_or values (code_of l) 0 ≡ 0 → IsOpen lits l
 open_by_value vars values lits l a e = record {
@@ -102,11 +78,7 @@ open_by_value vars values lits l a e = record {
 }
 
 value_by_open : (vars : ℕ) (values : List ℕ) (lits : List LitValue) (l : LitValue) → IsAssigned vars values lits → 0 < l.var → l.var ≤ vars → IsOpen lits l → get_or values (code_of l) 0 ≡ 0
-value_by_open vars values lits l a some within o = go (get_or values (code_of l) 0) refl
-  where
-    go : (n : ℕ) → get_or values (code_of l) 0 ≡ n → get_or values (code_of l) 0 ≡ 0
-    go zero e = e
-    go (suc n) e = absurd (⊎_elim o.not_true o.not_false (a.stands l some within (λ z. absurd (omega (arith, e, z)))))
+value_by_open vars values lits l a some within o = ⊎_elim (λ e. e) (λ n. absurd (⊎_elim o.not_true o.not_false (a.stands l some within n))) (cases_eq (get_or values (code_of l) 0) 0)
 
 pub value_some : (vars : ℕ) (values : List ℕ) (lits : List LitValue) (l : LitValue) → IsAssigned vars values lits → 0 < l.var → l.var ≤ vars → get_or values (code_of l) 0 ≢ 0 → IsValue lits l (Some (eqb (get_or values (code_of l) 0) 1))
 value_some vars values lits l a some within nz =
@@ -147,23 +119,18 @@ room_for vars values lits x a some within o =
     let e : cond {A = ℕ} (eqb (get_or values (code_of x) 0) 0) 1 0 ≡ 1 = ap (λ n. cond (eqb n 0) 1 0) (value_by_open vars values lits x a some within o) in
     omega (arith, one, e, a.zeros)
 
--- a fact of the elements of a list with one more
-pub at_push : {X : Type 0} (P : X → Type 0) (xs : List X) (x : X) → ((k : ℕ) (d : X) → k < length xs → P (get_or xs k d)) → P x → (k : ℕ) (d : X) → k < length (xs ++ x ∷ []) → P (get_or (xs ++ x ∷ []) k d)
-at_push P xs x h p k d w =
-    ⊎_elim (λ v. subst P (sym (get_or_append_left xs (x ∷ []) d k v)) (h k d v)) (λ v. let e : k ≡ length xs = omega (arith, v, w, length_push xs x) in subst P (sym (get_or_push xs x d k (sym e))) p) (cases_lt k (length xs))
-
 pub assigned_push : (vars : ℕ) (values : List ℕ) (lits : List LitValue) (x : LitValue) → IsAssigned vars values lits → 0 < x.var → x.var ≤ vars → IsOpen lits x → IsAssigned vars (valued values x 1 2) (lits ++ x ∷ [])
 assigned_push vars values lits x a some within o =
     let in' = code_of_within vars values lits x a some within in
     let new = var_new lits x o in
     record {
       values_len = valued_length values x 1 2 ∙ a.values_len;
-      some = at_push (λ l. 0 < l.var) lits x a.some some;
-      within = at_push (λ l. l.var ≤ vars) lits x a.within within;
-      known = at_push (λ l. get_or (valued values x 1 2) (code_of l) 0 ≡ 1) lits x
-          (λ k d w. valued_else values x (get_or lits k d) 1 2 (new k d w) ∙ a.known k d w) (valued_here values x 1 2 in'.0);
-      opposed = at_push (λ l. get_or (valued values x 1 2) (code_of (negation l)) 0 ≡ 2) lits x
-          (λ k d w. valued_else values x (negation (get_or lits k d)) 1 2 (new k d w) ∙ a.opposed k d w) (valued_there values x 1 2 in'.1);
+      some = λ k d. at_push (λ n l. 0 < l.var) lits x d (λ n. a.some n d) some k;
+      within = λ k d. at_push (λ n l. l.var ≤ vars) lits x d (λ n. a.within n d) within k;
+      known = λ k d. at_push (λ n l. get_or (valued values x 1 2) (code_of l) 0 ≡ 1) lits x d
+          (λ n w. valued_else values x (get_or lits n d) 1 2 (new n d w) ∙ a.known n d w) (valued_here values x 1 2 in'.0) k;
+      opposed = λ k d. at_push (λ n l. get_or (valued values x 1 2) (code_of (negation l)) 0 ≡ 2) lits x d
+          (λ n w. valued_else values x (negation (get_or lits n d)) 1 2 (new n d w) ∙ a.opposed n d w) (valued_there values x 1 2 in'.1) k;
       stands = λ l p q n. ⊎_elim
           (λ e. ⊎_elim
           (λ s. inl (subst (Contains (lits ++ x ∷ [])) (sym s) (Contains-push lits x)))
@@ -174,13 +141,9 @@ assigned_push vars values lits x a some within o =
           (λ c. inr (Contains-append_left lits (x ∷ []) (negation l) c))
           (a.stands l p q (λ z. n (valued_else values x l 1 2 d ∙ z))))
           (cases_eq l.var x.var);
-      apart = λ i j d e lt w. ⊎_elim
-          (λ v. let u : i < length lits = omega (arith, v, lt) in
-          subst (λ l. l.var ≢ (get_or (lits ++ x ∷ []) j e).var) (sym (get_or_append_left lits (x ∷ []) d i u)) (subst (λ l. (get_or lits i d).var ≢ l.var) (sym (get_or_append_left lits (x ∷ []) e j v)) (a.apart i j d e lt v)))
-          (λ v. let s : j ≡ length lits = omega (arith, v, w, length_push lits x) in
-          let u : i < length lits = omega (arith, s, lt) in
-          subst (λ l. l.var ≢ (get_or (lits ++ x ∷ []) j e).var) (sym (get_or_append_left lits (x ∷ []) d i u)) (subst (λ l. (get_or lits i d).var ≢ l.var) (sym (get_or_push lits x e j (sym s))) (new i d u)))
-          (cases_lt j (length lits));
+      apart = λ i j d e lt w. at_push (λ m l. (n : ℕ) → n < m → (get_or (lits ++ x ∷ []) n d).var ≢ l.var) lits x e
+          (λ m u n s. subst (λ l. l.var ≢ (get_or lits m e).var) (sym (get_or_append_left lits (x ∷ []) d n (omega (arith, s, u)))) (a.apart n m d e s u))
+          (λ n s. subst (λ l. l.var ≢ x.var) (sym (get_or_append_left lits (x ∷ []) d n s)) (new n d s)) j w i lt;
       zeros =
           let here : zero_hit (get_or values (code_of x) 0) ≡ 1 = ap zero_hit (value_by_open vars values lits x a some within o) in
           let there : zero_hit (get_or values (code_of (negation x)) 0) ≡ 1 = ap zero_hit (value_by_open vars values lits (negation x) a some within (turned_open lits x o)) in
@@ -202,8 +165,7 @@ assigned_pop vars values lits x a =
     let last : length lits < length (lits ++ x ∷ []) = omega (arith, n) in
     let here : (d : LitValue) → get_or (lits ++ x ∷ []) (length lits) d ≡ x = λ d. get_or_push lits x d (length lits) refl in
     let in' = last_within vars values lits x a in
-    let new : (k : ℕ) (d : LitValue) → k < length lits → (get_or lits k d).var ≢ x.var =
-    λ k d w. subst (λ l. (get_or lits k d).var ≢ l.var) (here d) (subst (λ l. l.var ≢ (get_or (lits ++ x ∷ []) (length lits) d).var) (get_or_append_left lits (x ∷ []) d k w) (a.apart k (length lits) d d w last)) in
+    let new : (k : ℕ) (d : LitValue) → k < length lits → (get_or lits k d).var ≢ x.var = λ k d w. grind (arith, a.apart k (length lits) d d w, get_or_append_left, get_or_push, length_push) in
     let old : (P : LitValue → Type 0) → ((k : ℕ) (d : LitValue) → k < length (lits ++ x ∷ []) → P (get_or (lits ++ x ∷ []) k d)) → (k : ℕ) (d : LitValue) → k < length lits → P (get_or lits k d) =
     λ P h k d w. subst P (get_or_append_left lits (x ∷ []) d k w) (h k d (omega (arith, w, n))) in
     let was_true : get_or values (code_of x) 0 ≡ 1 = subst (λ l. get_or values (code_of l) 0 ≡ 1) (here x) (a.known (length lits) x last) in

@@ -1,7 +1,7 @@
 -- One visit of a clause that watches a literal which is false.
-use Rattle.std.proofs.Common.{◌≡◌, ◌≢◌, ℕ, ◌+◌, ◌-◌, ◌<◌, true, false, List, [], ◌∷◌, ◌++◌, Some, length, get_or, set, eqb, refl, sym, ap, ◌∙◌, subst, inl, inr, ⊎_elim, arith}
+use Rattle.std.proofs.Common.{◌≡◌, ◌≢◌, ℕ, ◌+◌, ◌<◌, true, false, List, [], ◌∷◌, ◌++◌, Some, length, get_or, set, eqb, refl, sym, ap, ◌∙◌, subst, inl, inr, ⊎_elim, arith}
 use Rattle.std.specs.Prelude.{◌⊎◌, Contains, swap_remove}
-use Rattle.std.proofs.lemmas.Bool.{eqb-true, eqb-false, cases_lt, cases_eq}
+use Rattle.std.proofs.lemmas.Bool.{eqb-true, eqb-false, cases_eq}
 use Rattle.std.proofs.lemmas.List.{get_or-set_same, get_or-set_other, get_or-take, get_or_default, length-set, length-map, get_or-map, get_or_past, map_push}
 use Rattle.list_laws.proofs.Fronts.{same_map}
 use Rattle.cnf_formula.specs.Literals.{LitValue, code_of}
@@ -11,6 +11,7 @@ use Rattle.trail_core.specs.Trails.{StepValue, TrailValue, lits_of}
 use Rattle.trail_core.specs.Watching.{RowValue, ListsValue, no_row, watch_count, row_at, list_at, IsWatched, IsRow, AreRows}
 use Rattle.trail_core.specs.Search.{IsUnit, Implied, HasLit, clauses_of, Scanned}
 use Rattle.trail_core.specs.Search.Implied.{none, more}
+use Rattle.trail_core.proofs.Places.{at_set}
 use Rattle.trail_core.proofs.Watching.{hit, hit_yes, hit_no, count_long, watch_long, watch_which, watch_within, entry_watches, occurs, room_in_list, shifted, moved}
 
 -- the clause and the two literals that it watches, of which one is false
@@ -26,49 +27,29 @@ pub record Pair (rows : List RowValue) (id : ℕ) (falsified other : LitValue) :
 abbrev pub IsOther : LitValue → LitValue → LitValue → LitValue → Type 0
 IsOther first second falsified other = ((first ≡ falsified) × (other ≡ second)) ⊎ ((first ≢ falsified) × (other ≡ first))
 
+pair_straight : (vars : ℕ) (rows : List RowValue) (id : ℕ) → id < length rows → IsRow vars (row_at rows id) → 1 < length (row_at rows id).lits → Pair rows id (row_at rows id).first (row_at rows id).second
+pair_straight vars rows id w row long = record { within = w; long = long; own = row.second long; own_false = row.first long; apart = λ e. row.differ long (sym e); counts = λ k. count_long (row_at rows id) k long }
+
+pair_crossed : (vars : ℕ) (rows : List RowValue) (id : ℕ) → id < length rows → IsRow vars (row_at rows id) → 1 < length (row_at rows id).lits → Pair rows id (row_at rows id).second (row_at rows id).first
+pair_crossed vars rows id w row long = record { within = w; long = long; own = row.first long; own_false = row.second long; apart = row.differ long; counts = λ k. omega (arith, count_long (row_at rows id) k long) }
+
 pub pair_is : (vars : ℕ) (rows : List RowValue) (w : ListsValue) (id place : ℕ) (falsified first second other : LitValue) → AreRows vars rows → IsWatched rows w → place < length (list_at w.lists (code_of falsified)) → id ≡ get_or (list_at w.lists (code_of falsified)) place 0
     → first ≡ (row_at rows id).first → second ≡ (row_at rows id).second → IsOther first second falsified other → Pair rows id falsified other
 pair_is vars rows w id place falsified first second other are i p at f s o =
-    let watches : 0 < watch_count (row_at rows id) (code_of falsified) = subst (λ e. 0 < watch_count (row_at rows e) (code_of falsified)) (sym at) (entry_watches rows w (code_of falsified) place i p) in
+    let r = row_at rows id in
+    let watches : 0 < watch_count r (code_of falsified) = subst (λ e. 0 < watch_count (row_at rows e) (code_of falsified)) (sym at) (entry_watches rows w (code_of falsified) place i p) in
     let within = watch_within rows id (code_of falsified) watches in
-    let row = are id within in
-    let long = watch_long (row_at rows id) (code_of falsified) watches in
-    let counts = λ (k : ℕ). count_long (row_at rows id) k long in
+    let long = watch_long r (code_of falsified) watches in
     ⊎_elim
+    (λ q. subst (λ l. Pair rows id l other) (sym f ∙ q.0) (subst (Pair rows id r.first) (sym s ∙ sym q.1) (pair_straight vars rows id within (are id within) long)))
     (λ q.
-    let is-first : (row_at rows id).first ≡ falsified = sym f ∙ q.0 in
-    let is-second : (row_at rows id).second ≡ other = sym s ∙ sym q.1 in
-    record {
-      within = within;
-      long = long;
-      own = subst (λ l. Contains (row_at rows id).lits l) is-second (row.second long);
-      own_false = subst (λ l. Contains (row_at rows id).lits l) is-first (row.first long);
-      apart = λ e. row.differ long (is-first ∙ sym e ∙ sym is-second);
-      counts = λ k. counts k ∙ ap (λ l. hit (code_of l) k + hit (code_of (row_at rows id).second) k) is-first ∙ ap (λ l. hit (code_of falsified) k + hit (code_of l) k) is-second;
-    })
-    (λ q.
-    let is-first : (row_at rows id).first ≡ other = sym f ∙ sym q.1 in
-    let is-second : (row_at rows id).second ≡ falsified =
-    ⊎_elim (λ e. absurd (q.0 (f ∙ same_code (row_at rows id).first falsified e))) (λ e. same_code (row_at rows id).second falsified e) (watch_which (row_at rows id) (code_of falsified) watches) in
-    record {
-      within = within;
-      long = long;
-      own = subst (λ l. Contains (row_at rows id).lits l) is-first (row.first long);
-      own_false = subst (λ l. Contains (row_at rows id).lits l) is-second (row.second long);
-      apart = λ e. row.differ long (is-first ∙ e ∙ sym is-second);
-      counts = λ k.
-          let n = counts k in
-          omega (arith, n, ap (λ l. hit (code_of l) k) is-first, ap (λ l. hit (code_of l) k) is-second);
-    })
+    let is : r.second ≡ falsified = ⊎_elim (λ e. absurd (q.0 (f ∙ same_code r.first falsified e))) (λ e. same_code r.second falsified e) (watch_which r (code_of falsified) watches) in
+    subst (λ l. Pair rows id l other) is (subst (Pair rows id r.second) (sym f ∙ sym q.1) (pair_crossed vars rows id within (are id within) long)))
     o
 
 -- a row's clause
 pub lits_at : (rows : List RowValue) (e : ℕ) → (row_at rows e).lits ≡ get_or (clauses_of rows) e []
-lits_at rows e =
-    ⊎_elim
-    (λ w. sym (get_or-map (λ r. r.lits) rows e no_row [] w))
-    (λ w. ap (λ r. r.lits) (get_or_past rows e no_row w) ∙ sym (get_or_past (clauses_of rows) e [] (omega (arith, w, length-map rows (λ r. r.lits)))))
-    (cases_lt e (length rows))
+lits_at rows e = grind (arith, get_or-map, get_or_past, length-map)
 
 pub scanned_same : (by : LitValue) (rows : List RowValue) (t : TrailValue) → Scanned by rows t rows t
 scanned_same by rows t = record {
@@ -126,15 +107,8 @@ rewatched_is rows w trues id place falsified other x i p f n wa wb wp at =
 
 pub rewatched_rows : (vars : ℕ) (rows : List RowValue) (trues : List LitValue) (id : ℕ) (falsified other x : LitValue) → AreRows vars rows → Pair rows id falsified other → Found trues (row_at rows id).lits other x → AreRows vars (rewatched rows id other x)
 rewatched_rows vars rows trues id falsified other x are p n e w =
-    ⊎_elim
-    (λ s. subst (λ r. IsRow vars r) (sym (ap (row_at (rewatched rows id other x)) s ∙ get_or-set_same rows id _ no_row p.within)) (record {
-      within = (are id p.within).within;
-      first = λ h. p.own;
-      second = λ h. n.stands;
-      differ = λ h q. n.differs (sym q);
-    }))
-    (λ d. subst (λ r. IsRow vars r) (sym (get_or-set_other rows id e _ no_row d)) (are e (omega (arith, w, length-set rows id (record { lits = (row_at rows id).lits; first = other; second = x })))))
-    (cases_eq e id)
+    let r : RowValue = record { lits = (row_at rows id).lits; first = other; second = x } in
+    at_set (λ i y. i < length rows → IsRow vars y) rows id r no_row p.within (λ i d. are i) (λ v. record { within = (are id v).within; first = λ h. p.own; second = λ h. n.stands; differ = λ h q. n.differs (sym q) }) e (omega (arith, w, length-set rows id r))
 
 pub rewatched_scanned : (rows : List RowValue) (t : TrailValue) (id : ℕ) (falsified other x : LitValue) → Pair rows id falsified other → Found (lits_of t.steps) (row_at rows id).lits other x → Scanned falsified rows t (rewatched rows id other x) t
 rewatched_scanned rows t id falsified other x p n = record {
@@ -142,16 +116,12 @@ rewatched_scanned rows t id falsified other x p n = record {
   limits = refl;
   count = length-set rows id (record { lits = (row_at rows id).lits; first = other; second = x });
   same = same_map (λ r. r.lits) rows id (row_at rows id) (record { lits = (row_at rows id).lits; first = other; second = x }) p.within (get_or_default rows id no_row (row_at rows id) p.within) refl;
-  watches = λ e k h. ⊎_elim
-      (λ s.
-      let r : watch_count (row_at (rewatched rows id other x) e) k ≡ hit (code_of other) k + hit (code_of x) k =
-      ap (λ m. watch_count (row_at (rewatched rows id other x) m) k) s ∙ ap (λ r. watch_count r k) (get_or-set_same rows id _ no_row p.within) ∙ new_counts rows id falsified other x p k in
-      ⊎_elim
+  watches = λ e k. at_set (λ i y. 0 < watch_count y k → (0 < watch_count (row_at rows i) k) ⊎ ((l : LitValue) → code_of l ≡ k → IsFalse (lits_of t.steps) l → ⊥)) rows id (record { lits = (row_at rows id).lits; first = other; second = x }) no_row p.within
+      (λ i d h. inl h)
+      (λ h. ⊎_elim
       (λ y. inr (λ l q f. n.not_false (subst (λ z. IsFalse (lits_of t.steps) z) (same_code l x (q ∙ sym y)) f)))
-      (λ y. inl (omega (arith, h, r, hit_no (code_of x) k y, p.counts k, ap (λ m. watch_count (row_at rows m) k) s)))
-      (cases_eq (code_of x) k))
-      (λ d. inl (subst (λ r. 0 < watch_count r k) (get_or-set_other rows id e _ no_row d) h))
-      (cases_eq e id);
+      (λ y. inl (omega (arith, h, new_counts rows id falsified other x p k, hit_no (code_of x) k y, p.counts k)))
+      (cases_eq (code_of x) k)) e;
   implied = none t.steps;
 }
 
@@ -163,9 +133,7 @@ rewatched_not rows trues id falsified other x p f n =
 
 -- below the place that is taken out the list stays
 pub removed_front : (xs : List ℕ) (place c j : ℕ) → place < length xs → j < place → get_or (swap_remove xs place c) j 0 ≡ get_or xs j 0
-removed_front xs place c j w h =
-    let d : j ≢ place = λ e. absurd (omega (arith, h, e)) in
-    get_or-take (length xs - 1) (set xs place (get_or xs (length xs - 1) c)) j 0 (omega (arith, w, h)) ∙ get_or-set_other xs place j (get_or xs (length xs - 1) c) 0 d
+removed_front xs place c j w h = grind (arith, get_or-take, get_or-set_other)
 
 -- the other literal becomes true
 pub pushed_scanned : (rows : List RowValue) (t t' : TrailValue) (id : ℕ) (falsified other : LitValue) → id < length rows → Contains (row_at rows id).lits other → Contains (row_at rows id).lits falsified → IsOpen (lits_of t.steps) other → ((o : LitValue) → Contains (row_at rows id).lits o → (o ≡ other) ⊎ IsFalse (lits_of t.steps) o)

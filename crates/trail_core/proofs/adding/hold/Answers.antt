@@ -13,26 +13,24 @@ use Rattle.trail_core.specs.Trails.{lits_of}
 use Rattle.trail_core.proofs.Added.{Put, watched_add, watched_more, own_count, put_short, put_two, kept_add, kept_lists, rows_add, shorts_add, shorts_push, unseen_by}
 use Rattle.trail_core.proofs.Blocking.{blocked_held, blocked_short}
 use Rattle.trail_core.proofs.adding.hold.Goals as goal
+use Rattle.trail_core.proofs.adding.hold.Goals.{After-admit_all}
+
+-- the lists have room for the clause
+admitted : (c : After-admit_all) → IsKept c.args.store.now c.admit_all.new.lists c.args.trail.now c.args.head.now c.args.short.now.items
+admitted c =
+    let rows = c.args.store.now in
+    let n = c.admit_all.new.lists in
+    let e = c.admit_all.ensures in
+    kept_lists rows c.args.lists.now n c.args.trail.now c.args.head.now c.args.short.now.items c.requires.kept (subst (λ m. AreLists m n) c.vars.ensures e.are_lists) (watched_more rows c.args.lists.now n c.requires.kept.can.watched e.lists e.more e.room) e.watches
 
 pub returns-in_err-number-clause-kept : goal.returns-in_err-number-clause-kept
 returns-in_err-number-clause-kept c =
-    let rows = c.args.store.now in
-    let t = c.args.trail.now in
     let n = c.admit_all.new.lists in
-    let a : AreLists t.vars n = subst (λ m. AreLists m n) c.vars.ensures c.admit_all.ensures.are_lists in
-    let w : IsWatched rows n = watched_more rows c.args.lists.now n c.requires.kept.can.watched c.admit_all.ensures.lists c.admit_all.ensures.more c.admit_all.ensures.room in
-    let k : IsKept rows n t c.args.head.now c.args.short.now.items = kept_lists rows c.args.lists.now n t c.args.head.now c.args.short.now.items c.requires.kept a w c.admit_all.ensures.watches in
-    subst (λ ss. IsKept c.push.new.self n t c.args.head.now ss) (sym c.admit_short.ensures.items) (subst (λ rs. IsKept rs n t c.args.head.now c.args.short.now.items) (sym c.in_err-number.ensures.err) k)
+    let t = c.args.trail.now in
+    subst (λ ss. IsKept c.push.new.self n t c.args.head.now ss) (sym c.admit_short.ensures.items) (subst (λ rs. IsKept rs n t c.args.head.now c.args.short.now.items) (sym c.in_err-number.ensures.err) (admitted (goal.at.returns-in_err-number-clause-kept c).After-admit_all))
 
 pub returns-in_err-admit_all-clause-kept : goal.returns-in_err-admit_all-clause-kept
-returns-in_err-admit_all-clause-kept c =
-    let rows = c.args.store.now in
-    let t = c.args.trail.now in
-    let n = c.admit_all.new.lists in
-    let a : AreLists t.vars n = subst (λ m. AreLists m n) c.vars.ensures c.admit_all.ensures.are_lists in
-    let w : IsWatched rows n = watched_more rows c.args.lists.now n c.requires.kept.can.watched c.admit_all.ensures.lists c.admit_all.ensures.more c.admit_all.ensures.room in
-    let k : IsKept rows n t c.args.head.now c.args.short.now.items = kept_lists rows c.args.lists.now n t c.args.head.now c.args.short.now.items c.requires.kept a w c.admit_all.ensures.watches in
-    subst (λ ss. IsKept rows n t c.args.head.now ss) (sym c.admit_short.ensures.items) k
+returns-in_err-admit_all-clause-kept c = subst (λ ss. IsKept c.args.store.now c.admit_all.new.lists c.args.trail.now c.args.head.now ss) (sym c.admit_short.ensures.items) (admitted (goal.at.returns-in_err-admit_all-clause-kept c).After-admit_all)
 
 pub add-requires-clause-room : goal.add-requires-clause-room
 add-requires-clause-room c =

@@ -1,9 +1,9 @@
-use Rattle.std.proofs.Common.{◌≡◌, ◌≢◌, ◌==◌, ◌<◌, ◌≤◌, ℕ, List, [], ◌∷◌, ◌++◌, length, get_or, set, refl, sym, ap, ◌∙◌, subst, arith}
+use Rattle.std.proofs.Common.{◌≡◌, ◌≢◌, ◌==◌, ◌<◌, ◌≤◌, ℕ, List, [], ◌∷◌, ◌++◌, length, set, refl, sym, ap, ◌∙◌, subst, arith}
 use Rattle.std.specs.Prelude.{Contains}
 use Rattle.std.proofs.lemmas.List.{get_or_read}
 use Rattle.std.proofs.lemmas.List.Elements.{Contains-append_left, Contains-push, Contains-get_or}
 use Rattle.cnf_formula.specs.Literals.{LitValue, code_of, yes}
-use Rattle.trail_core.specs.Watching.{RowValue, WatchValue, list_at, IsOnlyNew, AreBlocked}
+use Rattle.trail_core.specs.Watching.{WatchValue, list_at, IsOnlyNew, AreBlocked}
 use Rattle.trail_core.specs.Search.{clauses_of}
 use Rattle.trail_core.specs.inner.Begun.{front_row, IsBegun}
 use Rattle.trail_core.proofs.Added.{Put, put_short, put_two, shorts_add, shorts_push}

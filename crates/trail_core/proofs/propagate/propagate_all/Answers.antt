@@ -7,7 +7,25 @@ use Rattle.trail_core.specs.Kept.{IsDue, IsKept}
 use Rattle.trail_core.proofs.Scans.{implied_trans, implied_grows, lits_same}
 use Rattle.trail_core.proofs.Keeping.{kept_extend, kept_next, scan_due, done_by, nil_limits, stays_at, implied_longer, IsStarted, kept_settled, started_low, started_high}
 use Rattle.trail_core.proofs.propagate.propagate_all.Goals as goal
-use Rattle.trail_core.proofs.propagate.propagate_all.Goals.{then-depth-eq0+in_default, else-depth-eq0}
+use Rattle.trail_core.proofs.propagate.propagate_all.Goals.{After-scan, then-depth-eq0+in_default, else-depth-eq0}
+
+-- the literal that is scanned for is false, and what the scan made true was due
+is_next : (c : After-scan) → (d : LitValue) → c.negated-falsified.result ≡ negation (get_or (lits_of c.loop-at.trail.steps) c.loop-at.at d)
+is_next c d = c.negated-falsified.ensures ∙ ap negation (c.lit.ensures.is d)
+
+waits : (c : After-scan) → c.loop-at.at < length c.loop-at.trail.steps
+waits c = omega (arith, c.loop-at-test.true, c.len.ensures.count)
+
+due : (c : After-scan) → Implied (clauses_of c.loop-at.store) (IsDue c.loop-at.trail.limits) c.loop-at.trail.steps c.scan.new.trail.steps
+due c = scan_due c.loop-at.trail.limits c.loop-at.at c.negated-falsified.result (waits c) (is_next c) c.loop-at.invariant.kept.head_above c.scan.ensures.scanned.implied
+
+kept : (c : After-scan) → IsKept c.scan.new.store c.scan.new.lists c.scan.new.trail c.loop-at.at c.args.short.now
+kept c = let s = c.scan.ensures.scanned in kept_extend c.loop-at.store c.scan.new.store c.loop-at.lists c.scan.new.lists c.loop-at.trail c.scan.new.trail c.loop-at.at c.args.short.now c.loop-at.invariant.kept c.scan.ensures.can s.limits s.count s.same s.watches (due c)
+
+implied : (c : After-scan) → Implied (clauses_of c.args.store.now) (IsDue c.args.trail.now.limits) c.args.trail.now.steps c.scan.new.trail.steps
+implied c =
+    let l = c.loop-at in
+    implied_trans l.invariant.implied (subst (λ ls. Implied (clauses_of c.args.store.now) (IsDue ls) l.trail.steps c.scan.new.trail.steps) l.invariant.limits (subst (λ cs. Implied cs (IsDue l.trail.limits) l.trail.steps c.scan.new.trail.steps) l.invariant.same (due c)))
 
 pub settle_all-requires : goal.settle_all-requires
 settle_all-requires c =
@@ -15,23 +33,13 @@ settle_all-requires c =
 
 pub returns-in-Some-clause-kept : goal.returns-in-Some-clause-kept
 returns-in-Some-clause-kept c =
-    let rows = c.args.store.now in
-    let w = c.args.lists.now in
-    let t = c.args.trail.now in
-    let head = c.args.head.now in
-    let short = c.args.short.now in
     let e = c.settle_all.ensures in
-    kept_settled rows w t c.settle_all.new.trail head short c.requires (ap (λ u. u.vars) e.same) (ap (λ u. u.limits) e.same) (omega (arith, c.if-depth-eq0.true, c.depth.ensures)) e.implied
+    kept_settled c.args.store.now c.args.lists.now c.args.trail.now c.settle_all.new.trail c.args.head.now c.args.short.now c.requires (ap (λ u. u.vars) e.same) (ap (λ u. u.limits) e.same) (omega (arith, c.if-depth-eq0.true, c.depth.ensures)) e.implied
 
 pub returns-in-Some-clause-implied : goal.returns-in-Some-clause-implied
 returns-in-Some-clause-implied c =
-    let rows = c.args.store.now in
-    let w = c.args.lists.now in
     let t = c.args.trail.now in
-    let head = c.args.head.now in
-    let short = c.args.short.now in
-    let e = c.settle_all.ensures in
-    subst (λ ls. Implied (clauses_of rows) (IsDue ls) t.steps c.settle_all.new.trail.steps) (sym (nil_limits t.limits (omega (arith, c.if-depth-eq0.true, c.depth.ensures)))) e.implied
+    subst (λ ls. Implied (clauses_of c.args.store.now) (IsDue ls) t.steps c.settle_all.new.trail.steps) (sym (nil_limits t.limits (omega (arith, c.if-depth-eq0.true, c.depth.ensures)))) c.settle_all.ensures.implied
 
 pub loop-at-init : goal.loop-at-init
 loop-at-init c =
@@ -51,32 +59,10 @@ loop-at-init c =
     record { kept = s.kept; vars = s.vars; limits = s.limits; same = refl; implied = s.implied; short_true = s.short_true }
 
 pub returns-in-Some-scan-clause-kept : goal.returns-in-Some-scan-clause-kept
-returns-in-Some-scan-clause-kept c =
-    let l = c.loop-at in
-    let i = l.invariant in
-    let n = c.scan.new in
-    let s = c.scan.ensures.scanned in
-    let short = c.args.short.now in
-    let at< : l.at < length l.trail.steps = omega (arith, c.loop-at-test.true, c.len.ensures.count) in
-    let is = λ (d : LitValue). c.negated-falsified.ensures ∙ ap negation (c.lit.ensures.is d) in
-    let due : Implied (clauses_of l.store) (IsDue l.trail.limits) l.trail.steps n.trail.steps = scan_due l.trail.limits l.at c.negated-falsified.result at< is i.kept.head_above s.implied in
-    let kept : IsKept n.store n.lists n.trail l.at short = kept_extend l.store n.store l.lists n.lists l.trail n.trail l.at short i.kept c.scan.ensures.can s.limits s.count s.same s.watches due in
-    let due' : Implied (clauses_of c.args.store.now) (IsDue c.args.trail.now.limits) l.trail.steps n.trail.steps = subst (λ ls. Implied (clauses_of c.args.store.now) (IsDue ls) l.trail.steps n.trail.steps) i.limits (subst (λ cs. Implied cs (IsDue l.trail.limits) l.trail.steps n.trail.steps) i.same due) in
-    kept
+returns-in-Some-scan-clause-kept c = kept (goal.at.returns-in-Some-scan-clause-kept c).After-scan
 
 pub returns-in-Some-scan-clause-implied : goal.returns-in-Some-scan-clause-implied
-returns-in-Some-scan-clause-implied c =
-    let l = c.loop-at in
-    let i = l.invariant in
-    let n = c.scan.new in
-    let s = c.scan.ensures.scanned in
-    let short = c.args.short.now in
-    let at< : l.at < length l.trail.steps = omega (arith, c.loop-at-test.true, c.len.ensures.count) in
-    let is = λ (d : LitValue). c.negated-falsified.ensures ∙ ap negation (c.lit.ensures.is d) in
-    let due : Implied (clauses_of l.store) (IsDue l.trail.limits) l.trail.steps n.trail.steps = scan_due l.trail.limits l.at c.negated-falsified.result at< is i.kept.head_above s.implied in
-    let kept : IsKept n.store n.lists n.trail l.at short = kept_extend l.store n.store l.lists n.lists l.trail n.trail l.at short i.kept c.scan.ensures.can s.limits s.count s.same s.watches due in
-    let due' : Implied (clauses_of c.args.store.now) (IsDue c.args.trail.now.limits) l.trail.steps n.trail.steps = subst (λ ls. Implied (clauses_of c.args.store.now) (IsDue ls) l.trail.steps n.trail.steps) i.limits (subst (λ cs. Implied cs (IsDue l.trail.limits) l.trail.steps n.trail.steps) i.same due) in
-    implied_trans i.implied due'
+returns-in-Some-scan-clause-implied c = implied (goal.at.returns-in-Some-scan-clause-implied c).After-scan
 
 pub loop-at-preserved : goal.loop-at-preserved
 loop-at-preserved c =
@@ -84,19 +70,14 @@ loop-at-preserved c =
     let i = l.invariant in
     let n = c.scan.new in
     let s = c.scan.ensures.scanned in
-    let short = c.args.short.now in
-    let at< : l.at < length l.trail.steps = omega (arith, c.loop-at-test.true, c.len.ensures.count) in
-    let is = λ (d : LitValue). c.negated-falsified.ensures ∙ ap negation (c.lit.ensures.is d) in
-    let due : Implied (clauses_of l.store) (IsDue l.trail.limits) l.trail.steps n.trail.steps = scan_due l.trail.limits l.at c.negated-falsified.result at< is i.kept.head_above s.implied in
-    let kept : IsKept n.store n.lists n.trail l.at short = kept_extend l.store n.store l.lists n.lists l.trail n.trail l.at short i.kept c.scan.ensures.can s.limits s.count s.same s.watches due in
-    let due' : Implied (clauses_of c.args.store.now) (IsDue c.args.trail.now.limits) l.trail.steps n.trail.steps = subst (λ ls. Implied (clauses_of c.args.store.now) (IsDue ls) l.trail.steps n.trail.steps) i.limits (subst (λ cs. Implied cs (IsDue l.trail.limits) l.trail.steps n.trail.steps) i.same due) in
-    let is' : (d : LitValue) → c.negated-falsified.result ≡ negation (get_or (lits_of n.trail.steps) l.at d) = λ d. is d ∙ ap negation (sym (stays_at s.implied l.at d at<)) in
+    let after = (goal.at.loop-at-preserved c).After-scan in
+    let at< = waits after in
     record {
-      kept = kept_next n.store n.lists n.trail l.at short c.negated-falsified.result kept (omega (arith, at<, implied_longer s.implied)) is' c.in_default-scan.ensures.handled;
+      kept = kept_next n.store n.lists n.trail l.at c.args.short.now c.negated-falsified.result (kept after) (omega (arith, at<, implied_longer s.implied)) (λ d. is_next after d ∙ ap negation (sym (stays_at s.implied l.at d at<))) c.in_default-scan.ensures.handled;
       vars = s.vars ∙ i.vars;
       limits = s.limits ∙ i.limits;
       same = s.same ∙ i.same;
-      implied = implied_trans i.implied due';
+      implied = implied after;
       short_true = λ e v h.
           let q = lits_same l.store n.store e s.same in
           let x = i.short_true e (omega (arith, v, s.count)) (omega (arith, h, ap length q)) in

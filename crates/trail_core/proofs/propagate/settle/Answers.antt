@@ -13,9 +13,7 @@ use Rattle.trail_core.proofs.Visits.{lits_at, lits_push}
 use Rattle.trail_core.proofs.propagate.settle.Goals as goal
 
 single : (xs : List LitValue) (l : LitValue) → length xs ≤ 1 → l ≡ get_or xs 0 l → (o : LitValue) → Contains xs o → o ≡ l
-single xs l n e o c =
-    let z : c.0 ≡ 0 = omega (arith, c.1, n) in
-    sym c.2 ∙ ap (λ k. get_or xs k o) z ∙ get_or_default xs 0 o l (omega (arith, c.1)) ∙ sym e
+single xs l n e o c = grind (arith, get_or_default)
 
 pub returns-then-is_true-clause-implied : goal.returns-then-is_true-clause-implied
 returns-then-is_true-clause-implied c = none c.args.trail.now.steps

@@ -10,36 +10,25 @@ use Rattle.trail_core.specs.Search.{IsSatisfied}
 use Rattle.trail_core.proofs.Visits.{scanned_same, lits_push, pushed_scanned}
 use Rattle.trail_core.proofs.Blocking.{Visited, visited_by}
 use Rattle.trail_core.proofs.propagate.visit.Goals as goal
+use Rattle.trail_core.proofs.propagate.visit.Goals.{After-entry-watch}
+
+visited : (c : After-entry-watch) → Visited c.args.trail.now.vars c.args.store.now c.args.falsified c.entry-watch.result
+visited c = visited_by c.args.store.now c.args.lists.now c.args.trail.now c.args.falsified c.args.place c.entry-watch.result c.requires.can c.requires.within c.entry-watch.ensures.clause c.entry-watch.ensures.stands
 
 pub is_true-requires : goal.is_true-requires
-is_true-requires c =
-    let store = c.args.store.now in
-    let t = c.args.trail.now in
-    let falsified = c.args.falsified in
-    let w = c.entry-watch.result in
-    let v : Visited t.vars store falsified w = visited_by store c.args.lists.now t falsified c.args.place w c.requires.can c.requires.within c.entry-watch.ensures.clause c.entry-watch.ensures.stands in
-    omega (arith, v.of_vars.within, ap (λ l. l.var) c.blocker-blocker.ensures)
+is_true-requires c = let v = visited (goal.at.is_true-requires c).After-entry-watch in omega (arith, v.of_vars.within, ap (λ l. l.var) c.blocker-blocker.ensures)
 
 pub returns-then-is_true-clause-scanned : goal.returns-then-is_true-clause-scanned
 returns-then-is_true-clause-scanned c = scanned_same c.args.falsified c.args.store.now c.args.trail.now
 
 pub returns-then-is_true-clause-handled : goal.returns-then-is_true-clause-handled
-returns-then-is_true-clause-handled c =
-    let store = c.args.store.now in
+returns-then-is_true-clause-handled c = λ h.
     let t = c.args.trail.now in
-    let falsified = c.args.falsified in
-    let w = c.entry-watch.result in
-    let v : Visited t.vars store falsified w = visited_by store c.args.lists.now t falsified c.args.place w c.requires.can c.requires.within c.entry-watch.ensures.clause c.entry-watch.ensures.stands in
-    λ h. subst (λ n. IsSatisfied (lits_of t.steps) (row_at store n).lits) c.entry-watch.ensures.clause (w.blocker, v.own, subst (Contains (lits_of t.steps)) c.blocker-blocker.ensures (c.is_true.ensures.0 c.if-is_true.true))
+    let v = visited (goal.at.returns-then-is_true-clause-handled c).After-entry-watch in
+    subst (λ n. IsSatisfied (lits_of t.steps) (row_at c.args.store.now n).lits) c.entry-watch.ensures.clause (c.entry-watch.result.blocker, v.own, subst (Contains (lits_of t.steps)) c.blocker-blocker.ensures (c.is_true.ensures.0 c.if-is_true.true))
 
 pub is_false-requires : goal.is_false-requires
-is_false-requires c =
-    let store = c.args.store.now in
-    let t = c.args.trail.now in
-    let falsified = c.args.falsified in
-    let w = c.entry-watch.result in
-    let v : Visited t.vars store falsified w = visited_by store c.args.lists.now t falsified c.args.place w c.requires.can c.requires.within c.entry-watch.ensures.clause c.entry-watch.ensures.stands in
-    omega (arith, v.of_vars.within, ap (λ l. l.var) c.blocker-blocker.ensures)
+is_false-requires c = let v = visited (goal.at.is_false-requires c).After-entry-watch in omega (arith, v.of_vars.within, ap (λ l. l.var) c.blocker-blocker.ensures)
 
 pub returns-then-is_false-clause-scanned : goal.returns-then-is_false-clause-scanned
 returns-then-is_false-clause-scanned c = scanned_same c.args.falsified c.args.store.now c.args.trail.now
@@ -48,10 +37,8 @@ pub returns-then-is_false-clause-handled : goal.returns-then-is_false-clause-han
 returns-then-is_false-clause-handled c =
     let store = c.args.store.now in
     let t = c.args.trail.now in
-    let falsified = c.args.falsified in
-    let w = c.entry-watch.result in
-    let v : Visited t.vars store falsified w = visited_by store c.args.lists.now t falsified c.args.place w c.requires.can c.requires.within c.entry-watch.ensures.clause c.entry-watch.ensures.stands in
-    let pair : w.pair ≡ true = sym c.is_pair.ensures ∙ c.if-not-is_pair.false in (
+    let v = visited (goal.at.returns-then-is_false-clause-handled c).After-entry-watch in
+    let pair : c.entry-watch.result.pair ≡ true = sym c.is_pair.ensures ∙ c.if-not-is_pair.false in (
       subst (λ n. n < length store) (sym c.clause-id.ensures) v.within,
       λ l h. ⊎_elim
           (λ e. subst (IsFalse (lits_of t.steps)) (c.blocker-blocker.ensures ∙ sym e) (c.is_false.ensures.0 c.if-is_false.true))
@@ -60,41 +47,26 @@ returns-then-is_false-clause-handled c =
     )
 
 pub push-requires-clause-within : goal.push-requires-clause-within
-push-requires-clause-within c =
-    let store = c.args.store.now in
-    let t = c.args.trail.now in
-    let falsified = c.args.falsified in
-    let w = c.entry-watch.result in
-    let v : Visited t.vars store falsified w = visited_by store c.args.lists.now t falsified c.args.place w c.requires.can c.requires.within c.entry-watch.ensures.clause c.entry-watch.ensures.stands in
-    omega (arith, v.of_vars.within, ap (λ l. l.var) c.blocker-blocker.ensures)
+push-requires-clause-within c = let v = visited (goal.at.push-requires-clause-within c).After-entry-watch in omega (arith, v.of_vars.within, ap (λ l. l.var) c.blocker-blocker.ensures)
 
 pub returns-clause-scanned : goal.returns-clause-scanned
 returns-clause-scanned c =
-    let store = c.args.store.now in
     let t = c.args.trail.now in
-    let falsified = c.args.falsified in
     let w = c.entry-watch.result in
-    let v : Visited t.vars store falsified w = visited_by store c.args.lists.now t falsified c.args.place w c.requires.can c.requires.within c.entry-watch.ensures.clause c.entry-watch.ensures.stands in
-    let id = c.clause-id.result in
+    let v = visited (goal.at.returns-clause-scanned c).After-entry-watch in
     let make : LitValue → ℕ → TrailValue = λ l n. record { vars = t.vars; steps = t.steps ++ record { lit = l; reason = Some n } ∷ []; limits = t.limits } in
-    let is : c.push.new.self ≡ make w.blocker w.clause = c.push.ensures ∙ ap (λ l. make l id) c.blocker-blocker.ensures ∙ ap (make w.blocker) c.clause-id.ensures in
-    let pair : w.pair ≡ true = sym c.is_pair.ensures ∙ c.if-not-is_pair.false in
+    let is : c.push.new.self ≡ make w.blocker w.clause = c.push.ensures ∙ ap (λ l. make l c.clause-id.result) c.blocker-blocker.ensures ∙ ap (make w.blocker) c.clause-id.ensures in
     let left : IsOpen (lits_of t.steps) w.blocker = record {
       not_true = λ h. false≢true (sym c.if-is_true.false ∙ c.is_true.ensures.1 (subst (Contains (lits_of t.steps)) (sym c.blocker-blocker.ensures) h));
       not_false = λ h. false≢true (sym c.if-is_false.false ∙ c.is_false.ensures.1 (subst (IsFalse (lits_of t.steps)) (sym c.blocker-blocker.ensures) h));
     } in
-    pushed_scanned store t c.push.new.self w.clause falsified w.blocker v.within v.own v.own_false left
-    (λ o h. ⊎_elim (λ e. inl e) (λ e. inr (subst (IsFalse (lits_of t.steps)) (sym e) c.requires.is_false)) (v.pair pair o h)) is
+    pushed_scanned c.args.store.now t c.push.new.self w.clause c.args.falsified w.blocker v.within v.own v.own_false left
+    (λ o h. ⊎_elim (λ e. inl e) (λ e. inr (subst (IsFalse (lits_of t.steps)) (sym e) c.requires.is_false)) (v.pair (sym c.is_pair.ensures ∙ c.if-not-is_pair.false) o h)) is
 
 pub returns-clause-handled : goal.returns-clause-handled
-returns-clause-handled c =
-    let store = c.args.store.now in
+returns-clause-handled c = λ h.
     let t = c.args.trail.now in
-    let falsified = c.args.falsified in
-    let w = c.entry-watch.result in
-    let v : Visited t.vars store falsified w = visited_by store c.args.lists.now t falsified c.args.place w c.requires.can c.requires.within c.entry-watch.ensures.clause c.entry-watch.ensures.stands in
-    let id = c.clause-id.result in
-    let make : LitValue → ℕ → TrailValue = λ l n. record { vars = t.vars; steps = t.steps ++ record { lit = l; reason = Some n } ∷ []; limits = t.limits } in
-    let is : c.push.new.self ≡ make w.blocker w.clause = c.push.ensures ∙ ap (λ l. make l id) c.blocker-blocker.ensures ∙ ap (make w.blocker) c.clause-id.ensures in
-    let steps : lits_of c.push.new.self.steps ≡ lits_of t.steps ++ w.blocker ∷ [] = ap (λ u. lits_of u.steps) is ∙ lits_push t.steps (record { lit = w.blocker; reason = Some w.clause }) in
-    λ h. subst (λ n. IsSatisfied (lits_of c.push.new.self.steps) (row_at store n).lits) c.entry-watch.ensures.clause (w.blocker, v.own, subst (λ ls. Contains ls w.blocker) (sym steps) (Contains-push (lits_of t.steps) w.blocker))
+    let l = c.blocker-blocker.result in
+    let v = visited (goal.at.returns-clause-handled c).After-entry-watch in
+    let steps = ap (λ u. lits_of u.steps) c.push.ensures ∙ lits_push t.steps (record { lit = l; reason = Some c.clause-id.result }) in
+    subst (λ n. IsSatisfied (lits_of c.push.new.self.steps) (row_at c.args.store.now n).lits) c.entry-watch.ensures.clause (l, subst (Contains (row_at c.args.store.now c.entry-watch.result.clause).lits) (sym c.blocker-blocker.ensures) v.own, subst (λ ls. Contains ls l) (sym steps) (Contains-push (lits_of t.steps) l))

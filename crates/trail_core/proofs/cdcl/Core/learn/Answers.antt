@@ -1,4 +1,4 @@
-use Rattle.std.proofs.Common.{◌≡◌, ℕ, [], ◌∷◌, ◌++◌, Some, length, sym, ap, subst}
+use Rattle.std.proofs.Common.{ℕ, [], ◌∷◌, ◌++◌, Some, length, sym, ap, subst}
 use Rattle.trail_core.specs.Trails.{TrailValue, lits_of}
 use Rattle.trail_core.specs.Search.{IsUnit}
 use Rattle.trail_core.specs.Meaning.{CoreValue}
@@ -14,13 +14,10 @@ hold-requires-clause-place c =
 pub invariant_of-self-2 : goal.invariant_of-self-2
 invariant_of-self-2 c =
     let i = c.self.inside in
-    let v = c.self.view_is in
-    let ts : i.trail.steps ≡ c.args.self.now.trail = ap (λ x. x.trail) v in
-    let lm : i.trail.limits ≡ c.args.self.now.limits = ap (λ x. x.limits) v in
     let held : IsHeld i.store c.args.lits.now c.hold.new.store = c.in_ok-number.ensures.ok.1 in
     let x = c.args.lit in
-    let u : IsUnit (lits_of i.trail.steps) held.row.lits x = subst (λ ss. IsUnit (lits_of ss) held.row.lits x) (sym ts) (subst (λ ls. IsUnit (lits_of c.args.self.now.trail) ls x) (sym held.lits) c.requires.alone) in
-    let d : IsDue i.trail.limits i.trail.steps held.row.lits = subst (λ ls. IsDue ls i.trail.steps held.row.lits) (sym lm) (subst (λ ss. IsDue c.args.self.now.limits ss held.row.lits) (sym ts) (subst (IsDue c.args.self.now.limits c.args.self.now.trail) (sym held.lits) c.requires.due)) in
+    let u : IsUnit (lits_of i.trail.steps) held.row.lits x = subst (λ y. IsUnit (lits_of y.trail) held.row.lits x) (sym c.self.view_is) (subst (λ ls. IsUnit (lits_of c.args.self.now.trail) ls x) (sym held.lits) c.requires.alone) in
+    let d : IsDue i.trail.limits i.trail.steps held.row.lits = subst (λ y. IsDue y.limits y.trail held.row.lits) (sym c.self.view_is) (subst (IsDue c.args.self.now.limits c.args.self.now.trail) (sym held.lits) c.requires.due) in
     let make : ℕ → TrailValue = λ n. record { vars = i.trail.vars; steps = i.trail.steps ++ record { lit = x; reason = Some n } ∷ []; limits = i.trail.limits } in
     let new : IsKept (i.store ++ held.row ∷ []) c.hold.new.lists i.trail c.hold.new.head c.hold.new.short.items = subst (λ rows. IsKept rows c.hold.new.lists i.trail c.hold.new.head c.hold.new.short.items) held.is c.hold.ensures.kept in
     let k = kept_learned i.store held.row i.lists c.hold.new.lists i.trail i.head c.hold.new.head i.short.items c.hold.new.short.items x c.self.invariant new u d in

@@ -1,79 +1,20 @@
-use Rattle.std.proofs.Common.{◌≡◌, ◌<◌, [], map, length, get_or, sym, ap, ◌∙◌, arith}
-use Rattle.std.proofs.lemmas.List.{get_or-map}
+use Rattle.std.proofs.Common.{arith}
 use Rattle.cnf_formula.specs.Literals.{code_of}
-use Rattle.trail_core.specs.Watching.{list_at, watches_at}
-use Rattle.trail_core.specs.inner.Pooled.{entries_of, numbers_of, IsInside}
-use Rattle.trail_core.proofs.Pooling.{part_at, viewed, listed, entries_len, numbers_len, inside_at, spans_many}
+use Rattle.trail_core.proofs.Listing.{Known, known, entry_at}
 use Rattle.trail_core.proofs.lists.WatchLists.entry.Goals as goal
+use Rattle.trail_core.proofs.lists.WatchLists.entry.Goals.{After-index}
+
+found : (c : After-index) → Known c.self.inside.pool.items c.self.inside.spans.items c.args.self.now c.code.result (code_of c.args.lit) c.index.result.now
+found c = known _ _ _ _ _ _ c.self.invariant c.self.view_is c.code.ensures.code c.requires.known c.index.ensures
 
 pub overflow_add-index : goal.overflow_add-index
-overflow_add-index c =
-    let pool = c.self.inside.pool.items in
-    let spans = c.self.inside.spans.items in
-    let k = c.code.result in
-    let x = c.index.result.now in
-    let ws = c.args.self.now.watches in
-    let ls = c.args.self.now.lists in
-    let vw : map (entries_of pool) spans ≡ ws = ap (λ w. w.watches) c.self.view_is in
-    let vl : map numbers_of (map (entries_of pool) spans) ≡ ls = ap (λ w. w.lists) c.self.view_is in
-    let n : k < length spans = omega (arith, c.code.ensures.code, c.requires.known, ap length vl, spans_many pool spans) in
-    let inside : IsInside (length pool) x = inside_at (length pool) spans k x c.self.invariant n c.index.ensures in
-    let entries : watches_at ws (code_of c.args.lit) ≡ entries_of pool x = ap (watches_at ws) (sym c.code.ensures.code) ∙ ap (λ ys. get_or ys k []) (sym vw) ∙ viewed pool spans k x n c.index.ensures in
-    let numbers : list_at ls (code_of c.args.lit) ≡ numbers_of (entries_of pool x) = ap (list_at ls) (sym c.code.ensures.code) ∙ ap (λ ys. get_or ys k []) (sym vl) ∙ listed pool spans k x n c.index.ensures in
-    let at : c.args.place < x.len = omega (arith, c.requires.within, ap length numbers, numbers_len pool x inside) in
-    omega (arith, at, inside.holds, inside.ends, c.self.invariant.small)
+overflow_add-index c = let n = found (goal.at.overflow_add-index c).After-index in omega arith
 
 pub index-requires-2 : goal.index-requires-2
-index-requires-2 c =
-    let pool = c.self.inside.pool.items in
-    let spans = c.self.inside.spans.items in
-    let k = c.code.result in
-    let x = c.index.result.now in
-    let ws = c.args.self.now.watches in
-    let ls = c.args.self.now.lists in
-    let vw : map (entries_of pool) spans ≡ ws = ap (λ w. w.watches) c.self.view_is in
-    let vl : map numbers_of (map (entries_of pool) spans) ≡ ls = ap (λ w. w.lists) c.self.view_is in
-    let n : k < length spans = omega (arith, c.code.ensures.code, c.requires.known, ap length vl, spans_many pool spans) in
-    let inside : IsInside (length pool) x = inside_at (length pool) spans k x c.self.invariant n c.index.ensures in
-    let entries : watches_at ws (code_of c.args.lit) ≡ entries_of pool x = ap (watches_at ws) (sym c.code.ensures.code) ∙ ap (λ ys. get_or ys k []) (sym vw) ∙ viewed pool spans k x n c.index.ensures in
-    let numbers : list_at ls (code_of c.args.lit) ≡ numbers_of (entries_of pool x) = ap (list_at ls) (sym c.code.ensures.code) ∙ ap (λ ys. get_or ys k []) (sym vl) ∙ listed pool spans k x n c.index.ensures in
-    let at : c.args.place < x.len = omega (arith, c.requires.within, ap length numbers, numbers_len pool x inside) in
-    omega (arith, at, inside.holds, inside.ends)
+index-requires-2 c = let n = found (goal.at.index-requires-2 c).After-index in omega arith
 
-pub returns-clause-clause : goal.returns-clause-clause
-returns-clause-clause c =
-    let pool = c.self.inside.pool.items in
-    let spans = c.self.inside.spans.items in
-    let k = c.code.result in
-    let x = c.index.result.now in
-    let ws = c.args.self.now.watches in
-    let ls = c.args.self.now.lists in
-    let vw : map (entries_of pool) spans ≡ ws = ap (λ w. w.watches) c.self.view_is in
-    let vl : map numbers_of (map (entries_of pool) spans) ≡ ls = ap (λ w. w.lists) c.self.view_is in
-    let n : k < length spans = omega (arith, c.code.ensures.code, c.requires.known, ap length vl, spans_many pool spans) in
-    let inside : IsInside (length pool) x = inside_at (length pool) spans k x c.self.invariant n c.index.ensures in
-    let entries : watches_at ws (code_of c.args.lit) ≡ entries_of pool x = ap (watches_at ws) (sym c.code.ensures.code) ∙ ap (λ ys. get_or ys k []) (sym vw) ∙ viewed pool spans k x n c.index.ensures in
-    let numbers : list_at ls (code_of c.args.lit) ≡ numbers_of (entries_of pool x) = ap (list_at ls) (sym c.code.ensures.code) ∙ ap (λ ys. get_or ys k []) (sym vl) ∙ listed pool spans k x n c.index.ensures in
-    let at : c.args.place < x.len = omega (arith, c.requires.within, ap length numbers, numbers_len pool x inside) in
-    let y = c.index-2.result.now in
-    let here : get_or (entries_of pool x) c.args.place y ≡ y = part_at pool x.start x.len c.args.place y at ∙ sym c.index-2.ensures in
-    sym (ap (λ ys. get_or ys c.args.place 0) numbers ∙ get_or-map (λ w. w.clause) (entries_of pool x) c.args.place y 0 (omega (arith, at, entries_len pool x inside)) ∙ ap (λ w. w.clause) here)
-
-pub returns-clause-stands : goal.returns-clause-stands
-returns-clause-stands c =
-    let pool = c.self.inside.pool.items in
-    let spans = c.self.inside.spans.items in
-    let k = c.code.result in
-    let x = c.index.result.now in
-    let ws = c.args.self.now.watches in
-    let ls = c.args.self.now.lists in
-    let vw : map (entries_of pool) spans ≡ ws = ap (λ w. w.watches) c.self.view_is in
-    let vl : map numbers_of (map (entries_of pool) spans) ≡ ls = ap (λ w. w.lists) c.self.view_is in
-    let n : k < length spans = omega (arith, c.code.ensures.code, c.requires.known, ap length vl, spans_many pool spans) in
-    let inside : IsInside (length pool) x = inside_at (length pool) spans k x c.self.invariant n c.index.ensures in
-    let entries : watches_at ws (code_of c.args.lit) ≡ entries_of pool x = ap (watches_at ws) (sym c.code.ensures.code) ∙ ap (λ ys. get_or ys k []) (sym vw) ∙ viewed pool spans k x n c.index.ensures in
-    let numbers : list_at ls (code_of c.args.lit) ≡ numbers_of (entries_of pool x) = ap (list_at ls) (sym c.code.ensures.code) ∙ ap (λ ys. get_or ys k []) (sym vl) ∙ listed pool spans k x n c.index.ensures in
-    let at : c.args.place < x.len = omega (arith, c.requires.within, ap length numbers, numbers_len pool x inside) in
-    let y = c.index-2.result.now in
-    let here : get_or (entries_of pool x) c.args.place y ≡ y = part_at pool x.start x.len c.args.place y at ∙ sym c.index-2.ensures in
-    (c.args.place, omega (arith, at, ap length entries, entries_len pool x inside), ap (λ ys. get_or ys c.args.place y) entries ∙ here)
+pub returns : goal.returns
+returns c =
+    let n = found (goal.at.returns c).After-index in
+    let e = entry_at _ _ _ _ _ _ n c.args.place c.index-2.result.now (omega arith) c.index-2.ensures in
+    record { clause = e.0; stands = e.1 }

@@ -1,4 +1,4 @@
-use Rattle.std.proofs.Common.{◌≡◌, ◌+◌, ◌<◌, List, [], ◌∷◌, ◌++◌, map, length, get_or, take, sym, ap, ◌∙◌, subst, arith}
+use Rattle.std.proofs.Common.{◌≡◌, ◌+◌, ◌<◌, ◌≤◌, List, [], ◌∷◌, ◌++◌, map, length, get_or, take, sym, ap, ◌∙◌, subst, arith}
 use Rattle.std.specs.Prelude.{All}
 use Rattle.std.proofs.lemmas.List.{map_push}
 use Rattle.std.proofs.lemmas.List.Elements.{All-push}
@@ -10,24 +10,20 @@ use Rattle.trail_core.specs.declared.store.Header.{Header}
 use Rattle.trail_core.proofs.Storing.{joined, joined_at, Lies}
 use Rattle.trail_core.proofs.Begun.{rows_more}
 use Rattle.trail_core.proofs.store.ClauseStore.of_clauses.Goals as goal
+use Rattle.trail_core.proofs.store.ClauseStore.of_clauses.Goals.{After-clause-clause}
+
+-- the clause lies among the literals
+within : (c : After-clause-clause) → c.loop-place.start + length c.clause-clause.result.now ≤ length (joined c.args.clauses.now)
+within c =
+    let clauses = c.args.clauses.now in
+    let w : c.loop-place.place < length clauses = omega (arith, c.loop-place-test.true, c.loop-place.auto.place-end, c.len-place-end.ensures) in
+    (joined_at clauses c.loop-place.place c.loop-place.start _ w c.loop-place.invariant.start (omega (arith, ap length c.clause-clause.ensures))).2
 
 pub overflow_cast-end : goal.overflow_cast-end
-overflow_cast-end c =
-    let clauses = c.args.clauses.now in
-    let start = c.loop-place.start in
-    let k = c.loop-place.place in
-    let w : k < length clauses = omega (arith, c.loop-place-test.true, c.loop-place.auto.place-end, c.len-place-end.ensures) in
-    let at = joined_at clauses k start (start + length (get_or clauses k [])) w c.loop-place.invariant.start (omega arith) in
-    omega (arith, at.2, ap length c.clause-clause.ensures, c.requires.few_lits)
+overflow_cast-end c = omega (arith, within (goal.at.overflow_cast-end c).After-clause-clause, c.requires.few_lits)
 
 pub overflow_add-end : goal.overflow_add-end
-overflow_add-end c =
-    let clauses = c.args.clauses.now in
-    let start = c.loop-place.start in
-    let k = c.loop-place.place in
-    let w : k < length clauses = omega (arith, c.loop-place-test.true, c.loop-place.auto.place-end, c.len-place-end.ensures) in
-    let at = joined_at clauses k start (start + length (get_or clauses k [])) w c.loop-place.invariant.start (omega arith) in
-    omega (arith, at.2, ap length c.clause-clause.ensures, c.requires.few_lits)
+overflow_add-end c = omega (arith, within (goal.at.overflow_add-end c).After-clause-clause, c.requires.few_lits)
 
 pub loop-place-preserved : goal.loop-place-preserved
 loop-place-preserved c =

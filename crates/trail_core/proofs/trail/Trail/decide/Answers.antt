@@ -1,94 +1,55 @@
-use Rattle.std.proofs.Common.{◌≡◌, ◌+◌, ◌≤◌, [], ◌∷◌, ◌++◌, None, map, length, set, sym, ap, subst, ◌∙◌, refl, arith}
-use Rattle.std.proofs.lemmas.List.{length-set, length-map, length_push}
-use Rattle.trail_core.specs.inner.Packed.{reason_of, levels_of, reasons_of}
+use Rattle.std.proofs.Common.{◌≡◌, ◌+◌, [], ◌∷◌, ◌++◌, None, length, ap, refl, arith}
+use Rattle.std.proofs.lemmas.List.{length-set}
+use Rattle.trail_core.specs.inner.Packed.{levels_of}
 use Rattle.trail_core.specs.declared.trail.Assignment.{Assignment}
-use Rattle.trail_core.specs.Assigned.{IsOpen}
-use Rattle.trail_core.specs.Trails.{lits_of, step_of, IsLeveled}
-use Rattle.trail_core.proofs.Trails.{same_trail, lits-steps, leveled_decide, few_limits, steps_push}
-use Rattle.trail_core.proofs.Packed.{levels_set, reasons_set, no_reason}
-use Rattle.trail_core.proofs.Valued.{code_of_within, var_new, room_for, assigned_push}
+use Rattle.trail_core.proofs.Trails.{same_trail, leveled_decide}
+use Rattle.trail_core.proofs.Packed.{no_reason}
+use Rattle.trail_core.proofs.Valued.{assigned_push}
+use Rattle.trail_core.proofs.Fields.{seen, CanPush, can_push, pushed}
 use Rattle.trail_core.proofs.trail.Trail.decide.Goals as goal
+use Rattle.trail_core.proofs.trail.Trail.decide.Goals.{After-len}
+
+ready : (c : After-len) → CanPush c.self.inside.vars c.self.inside.values.items c.self.inside.lits.items c.self.inside.limits.items c.args.lit
+ready c =
+    let i = c.self.inside in
+    can_push i.vars i.values.items (levels_of i.assignments.items) i.lits.items i.limits.items c.args.self.now c.args.lit c.self.invariant.0 c.self.invariant.1 (seen i.vars i.assignments.items i.lits.items i.limits.items c.args.self.now c.self.view_is) c.var-var.ensures.limits.some c.requires.within c.requires.open
 
 pub push_reserved-requires : goal.push_reserved-requires
-push_reserved-requires c =
-    let i = c.self.inside in
-    let v = ap (λ t. t.steps) c.self.view_is in
-    let vs : i.vars ≡ c.args.self.now.vars = ap (λ t. t.vars) c.self.view_is in
-    let ls : lits_of c.args.self.now.steps ≡ i.lits.items = ap lits_of (sym v) ∙ lits-steps (reasons_of i.assignments.items) i.lits.items in
-    let w : c.args.lit.var ≤ i.vars = omega (arith, vs, c.requires.within) in
-    let is_open : IsOpen i.lits.items c.args.lit = subst (λ xs. IsOpen xs c.args.lit) ls c.requires.open in
-    let r = room_for i.vars i.values.items i.lits.items c.args.lit c.self.invariant.0 c.var-var.ensures.limits.some w is_open in
-    omega (arith, r, c.self.invariant, few_limits i.vars (levels_of i.assignments.items) i.lits.items i.limits.items c.self.invariant.1)
+push_reserved-requires c = let r = ready (goal.at.push_reserved-requires c).After-len in omega (arith, r.room, r.few, c.self.invariant)
 
 pub set_values-requires-clause-here : goal.set_values-requires-clause-here
-set_values-requires-clause-here c =
-    let i = c.self.inside in
-    let w : c.args.lit.var ≤ i.vars = omega (arith, ap (λ t. t.vars) c.self.view_is, c.requires.within) in
-    (code_of_within i.vars i.values.items i.lits.items c.args.lit c.self.invariant.0 c.var-var.ensures.limits.some w).0
+set_values-requires-clause-here c = (ready (goal.at.set_values-requires-clause-here c).After-len).here
 
 pub set_values-requires-clause-opposite : goal.set_values-requires-clause-opposite
-set_values-requires-clause-opposite c =
-    let i = c.self.inside in
-    let w : c.args.lit.var ≤ i.vars = omega (arith, ap (λ t. t.vars) c.self.view_is, c.requires.within) in
-    (code_of_within i.vars i.values.items i.lits.items c.args.lit c.self.invariant.0 c.var-var.ensures.limits.some w).1
+set_values-requires-clause-opposite c = (ready (goal.at.set_values-requires-clause-opposite c).After-len).there
 
 pub overflow_cast-len-2 : goal.overflow_cast-len-2
-overflow_cast-len-2 c =
-    let i = c.self.inside in
-    let v = ap (λ t. t.steps) c.self.view_is in
-    let vs : i.vars ≡ c.args.self.now.vars = ap (λ t. t.vars) c.self.view_is in
-    let ls : lits_of c.args.self.now.steps ≡ i.lits.items = ap lits_of (sym v) ∙ lits-steps (reasons_of i.assignments.items) i.lits.items in
-    let w : c.args.lit.var ≤ i.vars = omega (arith, vs, c.requires.within) in
-    let is_open : IsOpen i.lits.items c.args.lit = subst (λ xs. IsOpen xs c.args.lit) ls c.requires.open in
-    let r = room_for i.vars i.values.items i.lits.items c.args.lit c.self.invariant.0 c.var-var.ensures.limits.some w is_open in
-    let n : length c.push_reserved.new.self.items ≡ length i.limits.items + 1 = rw c.push_reserved.ensures.items (length_push i.limits.items _) in
-    omega (arith, r, n, c.self.invariant.5, few_limits i.vars (levels_of i.assignments.items) i.lits.items i.limits.items c.self.invariant.1, c.len-2.ensures)
+overflow_cast-len-2 c = let r = ready (goal.at.overflow_cast-len-2 c).After-len in omega (arith, r.room, r.few, c.push_reserved.ensures.len, c.self.invariant.5, c.len-2.ensures)
 
 pub push_reserved-requires-2 : goal.push_reserved-requires-2
-push_reserved-requires-2 c =
-    let i = c.self.inside in
-    let v = ap (λ t. t.steps) c.self.view_is in
-    let vs : i.vars ≡ c.args.self.now.vars = ap (λ t. t.vars) c.self.view_is in
-    let ls : lits_of c.args.self.now.steps ≡ i.lits.items = ap lits_of (sym v) ∙ lits-steps (reasons_of i.assignments.items) i.lits.items in
-    let w : c.args.lit.var ≤ i.vars = omega (arith, vs, c.requires.within) in
-    let is_open : IsOpen i.lits.items c.args.lit = subst (λ xs. IsOpen xs c.args.lit) ls c.requires.open in
-    let r = room_for i.vars i.values.items i.lits.items c.args.lit c.self.invariant.0 c.var-var.ensures.limits.some w is_open in
-    omega (arith, r, c.self.invariant)
+push_reserved-requires-2 c = let r = ready (goal.at.push_reserved-requires-2 c).After-len in omega (arith, r.room, c.self.invariant)
 
 pub invariant_of-self : goal.invariant_of-self
 invariant_of-self c =
     let i = c.self.inside in
-    let v = ap (λ t. t.steps) c.self.view_is in
-    let vs : i.vars ≡ c.args.self.now.vars = ap (λ t. t.vars) c.self.view_is in
-    let ls : lits_of c.args.self.now.steps ≡ i.lits.items = ap lits_of (sym v) ∙ lits-steps (reasons_of i.assignments.items) i.lits.items in
-    let w : c.args.lit.var ≤ i.vars = omega (arith, vs, c.requires.within) in
-    let is_open : IsOpen i.lits.items c.args.lit = subst (λ xs. IsOpen xs c.args.lit) ls c.requires.open in
-    let a = assigned_push i.vars i.values.items i.lits.items c.args.lit c.self.invariant.0 c.var-var.ensures.limits.some w is_open in
-    let new = var_new i.lits.items c.args.lit is_open in
-    let b = leveled_decide i.vars (levels_of i.assignments.items) i.lits.items i.limits.items c.args.lit c.self.invariant.1 w new in
+    let r = ready (goal.at.invariant_of-self c).After-len in
     let m : c.len.result ≡ length i.lits.items = omega (arith, c.len.ensures) in
-    let limits : c.push_reserved.new.self.items ≡ i.limits.items ++ length i.lits.items ∷ [] = rw (← m) c.push_reserved.ensures.items in
     let n : c.len-2.result ≡ length i.limits.items + 1 = omega (arith, c.len-2.ensures, c.push_reserved.ensures.len) in
     let x : Assignment = record { level = length i.limits.items + 1; reason = 4294967295 } in
-    let b' : IsLeveled i.vars (levels_of (set i.assignments.items c.args.lit.var x)) (i.lits.items ++ c.args.lit ∷ []) (i.limits.items ++ length i.lits.items ∷ []) = subst (λ xs. IsLeveled i.vars xs (i.lits.items ++ c.args.lit ∷ []) (i.limits.items ++ length i.lits.items ∷ [])) (sym (levels_set i.assignments.items c.args.lit.var x)) b in
-    rw (c.var-var.ensures.var, c.set_values.ensures, n, c.push_reserved-2.ensures.items, limits) (a, b', omega (arith, length-set i.assignments.items c.args.lit.var x, c.self.invariant.2), omega (arith, c.push_reserved-2.ensures.capacity, c.self.invariant.3), omega (arith, c.push_reserved.ensures.capacity, c.self.invariant.4), c.self.invariant.5)
+    let a = assigned_push i.vars i.values.items i.lits.items c.args.lit c.self.invariant.0 c.var-var.ensures.limits.some r.within r.is_open in
+    let b = leveled_decide i.vars i.assignments.items i.lits.items i.limits.items c.args.lit x c.self.invariant.1 r.within r.new refl in
+    let limits : c.push_reserved.new.self.items ≡ i.limits.items ++ length i.lits.items ∷ [] = rw (← m) c.push_reserved.ensures.items in
+    rw (c.var-var.ensures.var, c.set_values.ensures, n, c.push_reserved-2.ensures.items, limits) (a, b, omega (arith, length-set i.assignments.items c.args.lit.var x, c.self.invariant.2), omega (arith, c.push_reserved-2.ensures.capacity, c.self.invariant.3), omega (arith, c.push_reserved.ensures.capacity, c.self.invariant.4), c.self.invariant.5)
 
 pub returns : goal.returns
 returns c =
     let i = c.self.inside in
-    let v = ap (λ t. t.steps) c.self.view_is in
-    let vs : i.vars ≡ c.args.self.now.vars = ap (λ t. t.vars) c.self.view_is in
-    let ls : lits_of c.args.self.now.steps ≡ i.lits.items = ap lits_of (sym v) ∙ lits-steps (reasons_of i.assignments.items) i.lits.items in
-    let w : c.args.lit.var ≤ i.vars = omega (arith, vs, c.requires.within) in
-    let is_open : IsOpen i.lits.items c.args.lit = subst (λ xs. IsOpen xs c.args.lit) ls c.requires.open in
-    let lm : i.limits.items ≡ c.args.self.now.limits = ap (λ t. t.limits) c.self.view_is in
-    let new = var_new i.lits.items c.args.lit is_open in
-    let b = steps_push (reasons_of i.assignments.items) i.lits.items c.args.lit None (omega (arith, c.self.invariant.2, w, length-map i.assignments.items reason_of)) new in
-    let x : Assignment = record { level = c.len-2.result; reason = 4294967295 } in
-    let rs : reasons_of (set i.assignments.items c.var-var.result x) ≡ set (reasons_of i.assignments.items) c.args.lit.var None =
-    reasons_set i.assignments.items c.var-var.result x ∙ ap (λ m. set (reasons_of i.assignments.items) m (reason_of x)) c.var-var.ensures.var ∙ ap (set (reasons_of i.assignments.items) c.args.lit.var) (no_reason x refl) in
-    let e : map (step_of (reasons_of (set i.assignments.items c.var-var.result x))) c.push_reserved-2.new.self.items ≡ c.args.self.now.steps ++ record { lit = c.args.lit; reason = None } ∷ [] =
-    rw (rs, c.push_reserved-2.ensures.items) (b ∙ ap (λ ss. ss ++ record { lit = c.args.lit; reason = None } ∷ []) v) in
-    let m : c.len.result ≡ length c.args.self.now.steps = omega (arith, c.len.ensures, ap length v, length-map i.lits.items (step_of (reasons_of i.assignments.items))) in
-    let ms : i.limits.items ++ c.len.result ∷ [] ≡ c.args.self.now.limits ++ length c.args.self.now.steps ∷ [] = ap (λ m. i.limits.items ++ m ∷ []) m ∙ ap (λ xs. xs ++ length c.args.self.now.steps ∷ []) lm in
-    same_trail _ _ _ _ _ _ vs e (c.push_reserved.ensures.items ∙ ms)
+    let t = c.args.self.now in
+    let r = ready (goal.at.returns c).After-len in
+    let a : Assignment = record { level = c.len-2.result; reason = 4294967295 } in
+    let m : c.len.result ≡ length t.steps = omega (arith, c.len.ensures, (seen i.vars i.assignments.items i.lits.items i.limits.items t c.self.view_is).count) in
+    let old : i.limits.items ≡ t.limits = ap (λ u. u.limits) c.self.view_is in
+    let limits : c.push_reserved.new.self.items ≡ t.limits ++ length t.steps ∷ [] = rw (← m, ← old) c.push_reserved.ensures.items in
+    rw (c.var-var.ensures.var, c.push_reserved-2.ensures.items) (same_trail _ _ _ _ _ _ (ap (λ u. u.vars) c.self.view_is)
+    (pushed i.assignments.items i.lits.items c.args.lit a None t.steps (ap (λ u. u.steps) c.self.view_is) (omega (arith, c.self.invariant.2, r.within)) r.new (no_reason a refl))
+    limits)
