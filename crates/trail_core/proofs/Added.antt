@@ -13,7 +13,7 @@ use Rattle.trail_core.specs.Trails.{StepValue, TrailValue, lits_of}
 use Rattle.trail_core.specs.Watching.{RowValue, ListsValue, no_row, watch_count, occurrences, spare, row_at, list_at, IsWatched, IsRow, AreRows, AreLists, HasRoom, AreBlocked}
 use Rattle.trail_core.specs.Search.{IsSatisfied, IsUnit, clauses_of, CanScan}
 use Rattle.trail_core.specs.Kept.{Excused, IsDue, IsGrounded, IsShort, IsKept, IsRecent}
-use Rattle.trail_core.proofs.Places.{at_push}
+use Rattle.list_laws.proofs.Places.{by_place_push}
 use Rattle.trail_core.proofs.Watching.{count_long, count_short, watch_which, occurs}
 use Rattle.trail_core.proofs.Keeping.{lits_length, in_front}
 use Rattle.trail_core.proofs.Levels.{kept_assert}
@@ -93,7 +93,7 @@ unseen_by r falses first second l h f = ⊎_elim
 -- the short clauses are known still
 pub known_add : (rows : List RowValue) (r : RowValue) (short short' : List ℕ) → ((e : ℕ) → e < length rows → length (row_at rows e).lits ≤ 1 → Contains short e) → ((e : ℕ) → Contains short e → Contains short' e) → (length r.lits ≤ 1 → Contains short' (length rows))
     → (e : ℕ) → e < length (rows ++ r ∷ []) → length (row_at (rows ++ r ∷ []) e).lits ≤ 1 → Contains short' e
-known_add rows r short short' known more new = at_push (λ e x. length x.lits ≤ 1 → Contains short' e) rows r no_row (λ e v s. more e (known e v s)) new
+known_add rows r short short' known more new = by_place_push (λ e x. length x.lits ≤ 1 → Contains short' e) rows r no_row (λ e v s. more e (known e v s)) new
 
 -- a clause that watches a false literal is satisfied, where the new one is
 excused_add : (rows : List RowValue) (r : RowValue) (falses falses' trues : List LitValue) → ((l : LitValue) → 0 < watch_count r (code_of l) → IsFalse falses' l → IsSatisfied trues r.lits) → ((l : LitValue) → IsFalse falses' l → IsFalse falses l) → Excused rows falses trues → Excused (rows ++ r ∷ []) falses' trues
@@ -115,7 +115,7 @@ kept_add rows w w' t head head' short short' r k can long below above unseen mor
   short_known = known_add rows r short short' k.short_known more new;
   short_within = all;
   grounded = λ i d v. grounded_add (take i t.steps) (get_or t.steps i d) (k.grounded i d v);
-  short_true = λ j v. at_push (λ e x. length x.lits ≤ 1 → IsSatisfied (take (get_or t.limits j 0) (lits_of t.steps)) x.lits) rows r no_row (k.short_true j v) (λ s. absurd (omega (arith, s, long (omega (arith, v)))));
+  short_true = λ j v. by_place_push (λ e x. length x.lits ≤ 1 → IsSatisfied (take (get_or t.limits j 0) (lits_of t.steps)) x.lits) rows r no_row (k.short_true j v) (λ s. absurd (omega (arith, s, long (omega (arith, v)))));
 }
   where
     further : (m n : ℕ) → m ≤ n → (l : LitValue) → IsFalse (take m (lits_of t.steps)) l → IsFalse (take n (lits_of t.steps)) l
@@ -192,7 +192,7 @@ kept_learned rows r w w' t head below short short' x old new u d = record {
 
 -- rows with one that is a row
 pub rows_add : (vars : ℕ) (rows : List RowValue) (r : RowValue) → AreRows vars rows → IsRow vars r → AreRows vars (rows ++ r ∷ [])
-rows_add vars rows r are is = at_push (λ e x. IsRow vars x) rows r no_row are is
+rows_add vars rows r are is = by_place_push (λ e x. IsRow vars x) rows r no_row are is
 
 -- the short clauses stay so
 pub shorts_add : (rows : List RowValue) (r : RowValue) (short : List ℕ) → All (IsShort rows) short → All (IsShort (rows ++ r ∷ [])) short

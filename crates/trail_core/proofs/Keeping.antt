@@ -14,7 +14,7 @@ use Rattle.trail_core.specs.Search.{IsSatisfied, IsFalsified, IsUnit, Implied, H
 use Rattle.trail_core.specs.Search.Implied.{none, more}
 use Rattle.trail_core.specs.Meaning.{IsClosed}
 use Rattle.trail_core.specs.Kept.{Excused, ShortTrue, IsDue, IsGrounded, IsKept, IsDone}
-use Rattle.trail_core.proofs.Places.{at_push}
+use Rattle.list_laws.proofs.Places.{by_place_push}
 use Rattle.trail_core.proofs.Trails.{all_counted}
 use Rattle.trail_core.proofs.Watching.{hit_yes, count_long}
 use Rattle.trail_core.proofs.Scans.{implied_front, implied_grows, implied_weaker, lits_same}
@@ -51,7 +51,7 @@ stays_at {clauses} {due} {ss} {ts} i k d w =
 pub grounded_more : {clauses : List (List LitValue)} (limits : List ℕ) {ss ts : List StepValue} → ((k : ℕ) (d : StepValue) → k < length ss → IsGrounded clauses limits (take k ss) (get_or ss k d)) → Implied clauses (IsDue limits) ss ts
     → (k : ℕ) (d : StepValue) → k < length ts → IsGrounded clauses limits (take k ts) (get_or ts k d)
 grounded_more limits g (none ss) k d = g k d
-grounded_more {clauses} limits g (more ss later step i q) k d = at_push (λ n s. IsGrounded clauses limits (take n (later ++ step ∷ [])) s) later step d
+grounded_more {clauses} limits g (more ss later step i q) k d = by_place_push (λ n s. IsGrounded clauses limits (take n (later ++ step ∷ [])) s) later step d
     (λ n v. subst (λ xs. IsGrounded clauses limits xs (get_or later n d)) (sym (take-append-le n later (step ∷ []) (omega (arith, v)))) (grounded_more limits g i n d v))
     (subst (λ xs. IsGrounded clauses limits xs step) (sym (take_at later (step ∷ []) (length later) refl)) (inr q)) k
 

@@ -10,7 +10,7 @@ use Rattle.cnf_formula.specs.Formulas.{IsAbout}
 use Rattle.cnf_formula.proofs.Codes.{code_within}
 use Rattle.trail_core.specs.Assigned.{IsOpen, IsValue}
 use Rattle.trail_core.specs.Trails.{IsAssigned}
-use Rattle.trail_core.proofs.Places.{at_push}
+use Rattle.list_laws.proofs.Places.{by_place_push}
 use Rattle.trail_core.proofs.Keeping.{negated_twice}
 
 -- ---- the numbers of literals
@@ -125,11 +125,11 @@ assigned_push vars values lits x a some within o =
     let new = var_new lits x o in
     record {
       values_len = valued_length values x 1 2 ∙ a.values_len;
-      some = λ k d. at_push (λ n l. 0 < l.var) lits x d (λ n. a.some n d) some k;
-      within = λ k d. at_push (λ n l. l.var ≤ vars) lits x d (λ n. a.within n d) within k;
-      known = λ k d. at_push (λ n l. get_or (valued values x 1 2) (code_of l) 0 ≡ 1) lits x d
+      some = λ k d. by_place_push (λ n l. 0 < l.var) lits x d (λ n. a.some n d) some k;
+      within = λ k d. by_place_push (λ n l. l.var ≤ vars) lits x d (λ n. a.within n d) within k;
+      known = λ k d. by_place_push (λ n l. get_or (valued values x 1 2) (code_of l) 0 ≡ 1) lits x d
           (λ n w. valued_else values x (get_or lits n d) 1 2 (new n d w) ∙ a.known n d w) (valued_here values x 1 2 in'.0) k;
-      opposed = λ k d. at_push (λ n l. get_or (valued values x 1 2) (code_of (negation l)) 0 ≡ 2) lits x d
+      opposed = λ k d. by_place_push (λ n l. get_or (valued values x 1 2) (code_of (negation l)) 0 ≡ 2) lits x d
           (λ n w. valued_else values x (negation (get_or lits n d)) 1 2 (new n d w) ∙ a.opposed n d w) (valued_there values x 1 2 in'.1) k;
       stands = λ l p q n. ⊎_elim
           (λ e. ⊎_elim
@@ -141,7 +141,7 @@ assigned_push vars values lits x a some within o =
           (λ c. inr (Contains-append_left lits (x ∷ []) (negation l) c))
           (a.stands l p q (λ z. n (valued_else values x l 1 2 d ∙ z))))
           (cases_eq l.var x.var);
-      apart = λ i j d e lt w. at_push (λ m l. (n : ℕ) → n < m → (get_or (lits ++ x ∷ []) n d).var ≢ l.var) lits x e
+      apart = λ i j d e lt w. by_place_push (λ m l. (n : ℕ) → n < m → (get_or (lits ++ x ∷ []) n d).var ≢ l.var) lits x e
           (λ m u n s. subst (λ l. l.var ≢ (get_or lits m e).var) (sym (get_or_append_left lits (x ∷ []) d n (omega (arith, s, u)))) (a.apart n m d e s u))
           (λ n s. subst (λ l. l.var ≢ x.var) (sym (get_or_append_left lits (x ∷ []) d n s)) (new n d s)) j w i lt;
       zeros =

@@ -2,7 +2,7 @@ use Rattle.std.proofs.Common.{◌≡◌, ℕ, ◌+◌, ◌<◌, [], ◌∷◌, �
 use Rattle.std.proofs.lemmas.List.{length_push, map_push, take_more, take_all}
 use Rattle.trail_core.specs.inner.Pooled.{ArePooled}
 use Rattle.trail_core.specs.declared.span.Span.{Span}
-use Rattle.trail_core.proofs.Places.{at_push}
+use Rattle.list_laws.proofs.Places.{by_place_push}
 use Rattle.trail_core.proofs.Pooling.{pooled_push, none_viewed, none_listed, spans_many}
 use Rattle.trail_core.proofs.lists.WatchLists.new.Goals as goal
 
@@ -35,7 +35,7 @@ loop-room-preserved c =
       capacity = omega (arith, i.capacity, c.push_reserved.ensures.capacity);
       long = omega (arith, ap length e, length_push spans s, i.long);
       pooled = subst (ArePooled (c.loop-room.start + room)) (sym e) pooled;
-      none = subst (λ xs. (k : ℕ) (d : Span) → k < length xs → (get_or xs k d).len ≡ 0) (sym e) (λ k d. at_push (λ n x. x.len ≡ 0) spans s d (λ n. i.none n d) refl k);
+      none = subst (λ xs. (k : ℕ) (d : Span) → k < length xs → (get_or xs k d).len ≡ 0) (sym e) (λ k d. by_place_push (λ n x. x.len ≡ 0) spans s d (λ n. i.none n d) refl k);
       rooms = ap (map (λ x. x.room)) e ∙ map_push (λ x. x.room) spans s ∙ ap (λ xs. xs ++ room ∷ []) i.rooms ∙ sym more;
       uses = ap (map (λ x. x.uses)) e ∙ map_push (λ x. x.uses) spans s ∙ ap (λ xs. xs ++ room ∷ []) i.uses ∙ sym more;
     }
