@@ -1,9 +1,10 @@
 -- Literals that are assumed false.
-use Rattle.std.proofs.Common.{◌≡◌, ℕ, zero, suc, ◌+◌, Bool, true, false, List, [], ◌∷◌, drop, eqb, refl, sym, ap, ◌∙◌, inl, inr, ⊎_elim}
-use Rattle.std.specs.Prelude.{◌⊎◌, ◌==◌, ◌&&◌, not, None, if◌then◌else◌}
+use Rattle.std.proofs.Common.{◌≡◌, ℕ, zero, suc, ◌+◌, Bool, true, false, List, [], ◌∷◌, drop, eqb, arith, refl, sym, ap, ◌∙◌, ⊎_elim}
+use Rattle.std.specs.Prelude.{◌⊎◌, ◌==◌, not, None, if◌then◌else◌}
 use Rattle.std.specs.List.{list_any}
-use Rattle.std.proofs.lemmas.Bool.{false≢true, cases_Bool, or_cases, or_left, or_right, or_parts, or_from, eq-eqb, eqb-true}
-use Rattle.cnf_formula.specs.Literals.{LitValue, same_sign, same_literal, has_literal, negation, code_of}
+use Rattle.std.proofs.lemmas.Bool.Decides.{nat_tests}
+use Rattle.std.proofs.lemmas.Bool.{false≢true, or_left, or_right, or_from, eq-eqb}
+use Rattle.cnf_formula.specs.Literals.{LitValue, same_literal, has_literal, negation, code_of}
 use Rattle.cnf_formula.proofs.Clauses.{same_is}
 use Rattle.proof_rules.specs.Judging.{has_variable_twice, assumed}
 use Rattle.proof_rules.specs.Accepting.{without_negated, is_made_true}
@@ -16,35 +17,18 @@ by_literal l x s = eq-eqb x.var l.var (ap (λ y. y.var) (sym (same_is l x s)))
 
 pub some_literal : (ls : List LitValue) (l : LitValue) → has_literal ls l ≡ true → has_variable ls l ≡ true
 some_literal [] l h = absurd (false≢true h)
-some_literal (x ∷ ls) l h =
-    ⊎_elim (λ s. or_left (x.var == l.var) (has_variable ls l) (by_literal l x s)) (λ r. or_right (x.var == l.var) (has_variable ls l) (some_literal ls l r))
-    (or_cases (same_literal l x) (has_literal ls l) h)
+some_literal (x ∷ ls) l h = grind (arith, some_literal ls l, by_literal l x)
 
 some_negation : (ls : List LitValue) (l : LitValue) → has_literal ls (negation l) ≡ true → has_variable ls l ≡ true
 some_negation [] l h = absurd (false≢true h)
-some_negation (x ∷ ls) l h =
-    ⊎_elim (λ s. or_left (x.var == l.var) (has_variable ls l) (by_literal (negation l) x s)) (λ r. or_right (x.var == l.var) (has_variable ls l) (some_negation ls l r))
-    (or_cases (same_literal (negation l) x) (has_literal ls (negation l)) h)
+some_negation (x ∷ ls) l h = grind (arith, some_negation ls l, by_literal (negation l) x)
 
 one_of : (l x : LitValue) → (x.var == l.var) ≡ true → (same_literal l x ≡ true) ⊎ (same_literal (negation l) x ≡ true)
-one_of l x e =
-    let same : (l.var == x.var) ≡ true = eq-eqb l.var x.var (sym (eqb-true x.var l.var e)) in
-    ⊎_elim (λ s. inl (ap (λ b. b && same_sign l.positive x.positive) same ∙ s)) (λ s. inr (ap (λ b. b && same_sign (not l.positive) x.positive) same ∙ s)) (go l.positive x.positive)
-  where
-    go : (a b : Bool) → (same_sign a b ≡ true) ⊎ (same_sign (not a) b ≡ true)
-    go true true = inl refl
-    go true false = inr refl
-    go false true = inr refl
-    go false false = inl refl
+one_of l x e = grind (arith, nat_tests)
 
 pub no_variable : (ls : List LitValue) (l : LitValue) → has_literal ls l ≡ false → has_literal ls (negation l) ≡ false → has_variable ls l ≡ false
 no_variable [] l f g = refl
-no_variable (x ∷ ls) l f g =
-    let a = or_parts (same_literal l x) (has_literal ls l) f in
-    let b = or_parts (same_literal (negation l) x) (has_literal ls (negation l)) g in
-    ⊎_elim (λ t. ⊎_elim (λ s. absurd (false≢true (sym a.0 ∙ s))) (λ s. absurd (false≢true (sym b.0 ∙ s))) (one_of l x t))
-    (λ n. or_from (x.var == l.var) (has_variable ls l) n (no_variable ls l a.1 b.1))
-    (cases_Bool (x.var == l.var))
+no_variable (x ∷ ls) l f g = grind (arith, no_variable ls l, one_of l x)
 
 twice-drop : (k : ℕ) (ls : List LitValue) → has_variable_twice (drop k ls) ≡ true → has_variable_twice ls ≡ true
 twice-drop zero ls h = h
@@ -62,7 +46,7 @@ once_here ls k l rest e f g t = ap has_variable_twice e ∙ or_from (has_variabl
 -- ---- the other literals of a clause
 
 pub differs : (a b : LitValue) → eqb (code_of a) (code_of b) ≡ false → same_literal b a ≡ false
-differs a b e = ⊎_elim (λ s. absurd (false≢true (sym e ∙ eq-eqb (code_of a) (code_of b) (ap code_of (sym (same_is b a s)))))) (λ f. f) (cases_Bool (same_literal b a))
+differs a b e = grind (arith, nat_tests, same_is b a)
 
 pub assume_step : (pivot : LitValue) (falses clause : List LitValue) (k : ℕ) (l : LitValue) → drop k clause ≡ l ∷ drop (k + 1) clause → same_literal (negation pivot) l ≡ false → is_made_true falses l ≡ false
     → assumed falses (without_negated pivot (drop k clause)) ≡ assumed (l ∷ falses) (without_negated pivot (drop (k + 1) clause))

@@ -2,14 +2,14 @@
 use Rattle.std.proofs.Common.{◌≡◌, ℕ, ◌<◌, ◌≤◌, max, Bool, true, false, List, [], ◌∷◌, ◌++◌, length, take, Result, Ok, Err, refl, sym, ap, ◌∙◌, subst, arith}
 use Rattle.std.specs.Prelude.{◌&&◌, ◌||◌, ◌==◌, not, filter, IfOk, if◌then◌else◌}
 use Rattle.std.specs.List.{list_any}
-use Rattle.std.proofs.lemmas.Bool.{false≢true, and_parts, not-true, lt-leb, ne_eqb}
+use Rattle.std.proofs.lemmas.Bool.{false≢true, lt-leb, ne_eqb}
 use Rattle.std.proofs.lemmas.List.{take-append-le, length-take-le, length_push}
 use Rattle.cnf_formula.specs.Lines.{ProofLineValue, DeletionValue}
 use Rattle.cnf_formula.specs.Literals.{LitValue}
 use Rattle.cnf_formula.specs.declared.line.LratLine.TheVariants.{Addition, Deletion}
 use Rattle.proof_rules.specs.declared.verdict.LineVerdict.{LineVerdict}
 use Rattle.proof_rules.specs.declared.verdict.LineVerdict.TheVariants.{Accepted, Refused}
-use Rattle.proof_rules.specs.declared.verdict.LineCode.TheVariants.{IdNotGreater, VariableRange, VariableTwice, UnknownDeletion}
+use Rattle.proof_rules.specs.declared.verdict.LineCode.TheVariants.{IdNotGreater, VariableRange, VariableTwice}
 use Rattle.proof_rules.specs.Held.{Entry, CheckerValue}
 use Rattle.proof_rules.specs.Judging.{verdict_of, deletion_verdict, are_held, has_number_twice, is_foreign, has_variable_twice, led_verdict}
 use Rattle.proof_rules.specs.Accepting.{IsNew}
@@ -60,10 +60,7 @@ abbrev pub table_without : TableValue → List ℕ → TableValue
 table_without table ids = record { vars = table.vars; clauses = table.clauses; held = filter (λ entry. not (list_any (λ id. id == entry.0) ids)) table.held; last = table.last }
 
 pub deletion_accepted : (c : CheckerValue) (deletion : DeletionValue) → (are_held c.held deletion.ids && not (has_number_twice deletion.ids)) ≡ true → deletion_verdict c deletion ≡ Accepted false
-deletion_accepted c deletion h =
-    let parts = and_parts (are_held c.held deletion.ids) (not (has_number_twice deletion.ids)) h in
-    ap (λ a. if not a || has_number_twice deletion.ids then Refused UnknownDeletion 0 else Accepted false) parts.0
-    ∙ ap (λ b. if b then Refused UnknownDeletion 0 else Accepted false) (not-true (has_number_twice deletion.ids) parts.1)
+deletion_accepted c deletion h = grind arith
 
 pub can_delete : (table : TableValue) (marks : MarksValue) (o g : ℕ) (r : Bool) (deletion : DeletionValue) → CanCheck table marks o g r → (are_held table.held deletion.ids && not (has_number_twice deletion.ids)) ≡ true
     → CanCheck (table_without table deletion.ids) marks o g r

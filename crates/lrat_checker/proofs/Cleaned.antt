@@ -1,7 +1,7 @@
 -- Lists without the places of clauses that are no longer held.
-use Rattle.std.proofs.Common.{◌≡◌, ◌⊎◌, ℕ, ◌<◌, Bool, true, List, [], length, get_or, set, sym, ap, ◌∙◌, subst, ⊎_elim, arith}
-use Rattle.std.specs.Prelude.{not, All, Contains, filter}
-use Rattle.std.proofs.lemmas.Bool.{cases_eq, and_parts}
+use Rattle.std.proofs.Common.{◌≡◌, ◌⊎◌, ℕ, ◌<◌, Bool, true, List, [], length, set, sym, ap, ◌∙◌, subst, ⊎_elim, arith}
+use Rattle.std.specs.Prelude.{All, Contains, filter}
+use Rattle.std.proofs.lemmas.Bool.{cases_eq}
 use Rattle.std.proofs.lemmas.List.{get_or-set_same, get_or-set_other, length-set}
 use Rattle.std.proofs.lemmas.List.Elements.{filter_passes}
 use Rattle.list_laws.proofs.Members.{Contains-filter}
@@ -9,7 +9,7 @@ use Rattle.cnf_formula.specs.Literals.{LitValue, code_of}
 use Rattle.lrat_checker.specs.declared.leads.LedClause.{LedClause}
 use Rattle.lrat_checker.specs.Stored.{list_at, is_held, kept_live, IsStored}
 use Rattle.lrat_checker.proofs.Placed.{live_within}
-use Rattle.lrat_checker.proofs.Removed.{among, kept_at, kept_long}
+use Rattle.lrat_checker.proofs.Removed.{kept_at, kept_long}
 
 -- a list without what is no longer held
 abbrev pub cleaned : List Bool → List (List ℕ) → ℕ → List (List ℕ)
@@ -17,10 +17,7 @@ cleaned live lists code = set lists code (filter (is_held live) (list_at lists c
 
 pub still_there : (live : List Bool) (lists : List (List ℕ)) (code other k : ℕ) → code < length lists → is_held live k ≡ true → Contains (list_at lists other) k → Contains (list_at (cleaned live lists code) other) k
 still_there live lists code other k w a h =
-    let new = filter (is_held live) (list_at lists code) in
-    ⊎_elim (λ e. subst (λ xs. Contains xs k) (sym (ap (list_at (cleaned live lists code)) e ∙ get_or-set_same lists code new [] w)) (Contains-filter (is_held live) (list_at lists code) k a (subst (λ c. Contains (list_at lists c) k) e h)))
-    (λ n. subst (λ xs. Contains xs k) (sym (get_or-set_other lists code other new [] n)) h)
-    (cases_eq other code)
+    grind (arith, Contains-filter (is_held live) (list_at lists code) k a, get_or-set_same, get_or-set_other, cases_eq other code)
 
 pub all_held : (live : List Bool) (lists new : List (List ℕ)) (code : ℕ) → code < length lists → new ≡ cleaned live lists code → All (λ k. is_held live k ≡ true) (list_at new code)
 all_held live lists new code w e =
@@ -45,9 +42,7 @@ stored_cleaned vars ids live clauses lists leads code s w = record {
 -- ---- clauses that are let go
 
 held_before : (ids : List ℕ) (live : List Bool) (gone : List ℕ) (k : ℕ) → length live ≡ length ids → is_held (kept_live ids live gone) k ≡ true → is_held live k ≡ true
-held_before ids live gone k l a =
-    let w : k < length ids = omega (arith, live_within (kept_live ids live gone) k a, kept_long ids live gone l) in
-    (and_parts (is_held live k) (not (among gone (get_or ids k 0))) (sym (kept_at ids live gone k l w) ∙ a)).0
+held_before ids live gone k l a = grind (arith, live_within (kept_live ids live gone) k a, kept_long ids live gone l, kept_at ids live gone k l)
 
 pub stored_let_go : (vars : ℕ) (ids : List ℕ) (live live' : List Bool) (clauses : List (List LitValue)) (lists : List (List ℕ)) (leads : List (List LedClause)) (gone : List ℕ) → IsStored vars ids live clauses lists leads
     → (live' ≡ kept_live ids live gone) ⊎ (live' ≡ live) → IsStored vars ids live' clauses lists leads

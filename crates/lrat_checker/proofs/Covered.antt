@@ -2,19 +2,19 @@
 use Rattle.std.proofs.Common.{◌≡◌, ℕ, zero, suc, ◌<◌, Bool, true, false, List, [], ◌∷◌, length, get_or, refl, sym, ap, ◌∙◌, ⊎_elim, arith}
 use Rattle.std.specs.Prelude.{◌||◌, Contains}
 use Rattle.std.specs.List.{list_any}
-use Rattle.std.proofs.lemmas.Bool.{false≢true, cases_Bool, cases_lt, and_parts, and_from, or_right, or_from, or_parts}
-use Rattle.std.proofs.lemmas.List.{get_or_default, get_or_past}
+use Rattle.std.proofs.lemmas.Bool.{false≢true, cases_Bool, or_parts}
+use Rattle.std.proofs.lemmas.List.{get_or_default}
 use Rattle.std.proofs.lemmas.List.Elements.{All-contains}
 use Rattle.std.proofs.lemmas.List.Sums.{AllPass-from_list_all}
 use Rattle.std.proofs.lemmas.Map.Views.{Contains-from_any}
 use Rattle.cnf_formula.specs.Literals.{LitValue, has_literal, is_superset, code_of}
 use Rattle.cnf_formula.proofs.Clauses.{same_is}
-use Rattle.lrat_checker.specs.inner.Leads.{signature_of, has_bits_within, IsLead}
+use Rattle.lrat_checker.specs.inner.Leads.{signature_of, IsLead}
 use Rattle.lrat_checker.specs.declared.leads.LedClause.{LedClause}
-use Rattle.lrat_checker.specs.Stored.{list_at, led_as, IsLed, held_of, covers, finds}
+use Rattle.lrat_checker.specs.Stored.{list_at, led_as, IsLed, held_of, finds}
 use Rattle.lrat_checker.proofs.Signed.{signature_within}
 use Rattle.proof_rules.specs.Held.{Entry}
-use Rattle.lrat_checker.proofs.Placed.{held_true, held_false}
+use Rattle.lrat_checker.proofs.Placed.{live_within}
 
 -- ---- a test of what is held, by places
 
@@ -24,17 +24,13 @@ module _ (test : Entry → Bool) where
   any_by_place (x ∷ ids) [] clauses k l m w t f = absurd (omega (arith, l))
   any_by_place (x ∷ ids) (b ∷ live) [] k l m w t f = absurd (omega (arith, m))
   any_by_place (x ∷ ids) (b ∷ live) (c ∷ clauses) zero l m w t f = rw (t, f) refl
-  any_by_place (x ∷ ids) (b ∷ live) (c ∷ clauses) (suc k) l m w t f =
-      let rest = any_by_place ids live clauses k (omega (arith, l)) (omega (arith, m)) (omega (arith, w)) t f in
-      ⊎_elim (λ y. ap (list_any test) (held_true x ids b live c clauses y) ∙ or_right (test (x, c)) (list_any test (held_of ids live clauses)) rest) (λ n. ap (list_any test) (held_false x ids b live c clauses n) ∙ rest) (cases_Bool b)
+  any_by_place (x ∷ ids) (b ∷ live) (c ∷ clauses) (suc k) l m w t f = grind (arith, any_by_place ids live clauses k (omega (arith, l)) (omega (arith, m)) (omega (arith, w)) t f)
 
   pub none_by_place : (ids : List ℕ) (live : List Bool) (clauses : List (List LitValue)) → ((k : ℕ) → k < length ids → get_or live k false ≡ true → test (get_or ids k 0, get_or clauses k []) ≡ false) → list_any test (held_of ids live clauses) ≡ false
   none_by_place [] live clauses h = refl
   none_by_place (x ∷ ids) [] clauses h = refl
   none_by_place (x ∷ ids) (b ∷ live) [] h = refl
-  none_by_place (x ∷ ids) (b ∷ live) (c ∷ clauses) h =
-      let rest = none_by_place ids live clauses (λ k w t. h (suc k) (omega (arith, w)) t) in
-      ⊎_elim (λ t. rw t (or_from (test (x, c)) (list_any test (held_of ids live clauses)) (h 0 (omega arith) t) rest)) (λ f. rw f rest) (cases_Bool b)
+  none_by_place (x ∷ ids) (b ∷ live) (c ∷ clauses) h = grind (arith, h 0 (omega arith), none_by_place ids live clauses (λ k w t. h (suc k) (omega (arith, w)) t))
 
 -- ---- a member of a list that passes, and one that can't
 
@@ -67,29 +63,17 @@ module _ (lits : List LitValue) (ids : List ℕ) (live : List Bool) (clauses : L
   nothing = record { place = 0; signature = 0 }
 
   held_within : (k : ℕ) → get_or live k false ≡ true → k < length ids
-  held_within k t = ⊎_elim (λ lt. omega (arith, lt, l)) (λ ge. absurd (false≢true (sym (get_or_past live k false ge) ∙ t))) (cases_lt k (length live))
+  held_within k t = omega (arith, live_within live k t, l)
 
   pub one_covered : (list : List LedClause) → list_any test list ≡ true → list_any subset (held_of ids live clauses) ≡ true
   one_covered list h =
       let (j, w, t) = some_passes test nothing list h in
-      let led = get_or list j nothing in
-      let k = led.place in
-      let found = (and_parts (has_bits_within led.signature (signature_of lits)) (covers live clauses lits k) t).1 in
-      let parts = and_parts (get_or live k false) (is_superset lits (get_or clauses k [])) found in
-      any_by_place subset ids live clauses k l m (held_within k parts.0) parts.0 parts.1
+      let k = (get_or list j nothing).place in
+      let held : get_or live k false ≡ true = grind arith in
+      any_by_place subset ids live clauses k l m (held_within k held) held (grind arith)
 
   covered_at : (list : List LedClause) (k : ℕ) → list_any test list ≡ false → Contains list (led_as k (get_or clauses k [])) → get_or live k false ≡ true → is_superset lits (get_or clauses k []) ≡ false
-  covered_at list k none (j, w, at) t =
-      let clause = get_or clauses k [] in
-      let led = led_as k clause in
-      let is : get_or list j nothing ≡ led = get_or_default list j nothing led w ∙ at in
-      let here : test led ≡ false = ap test (sym is) ∙ none_passes test nothing list none j w in
-      ⊎_elim
-      (λ y.
-      let within = signature_within lits clause y in
-      let covered = and_from (get_or live k false) (is_superset lits clause) t y in
-      absurd (false≢true (sym here ∙ and_from (has_bits_within (signature_of clause) (signature_of lits)) (covers live clauses lits k) within covered)))
-      (λ n. n) (cases_Bool (is_superset lits clause))
+  covered_at list k none (j, w, at) t = grind (arith, none_passes test nothing list none j w, get_or_default, signature_within lits (get_or clauses k []))
 
   -- what leads a clause of which every literal stands among these leads nothing that is held
   none_led : (leads : List (List LedClause)) → list_any test (list_at leads 0) ≡ false → ((x : LitValue) → has_literal lits x ≡ true → list_any test (list_at leads (code_of x)) ≡ false)

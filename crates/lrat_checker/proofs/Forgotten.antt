@@ -43,14 +43,14 @@ module _ (vars first k : ℕ) (ids : List ℕ) (live : List Bool) (clauses : Lis
 
   -- how many clauses there are, at least
   room : (n : ℕ) → n ≤ first → n ≤ k → n ≤ length table.clauses
-  room n a b = ⊎_elim (λ lt. let e = p.long (omega (arith, lt)) in omega (arith, b, e)) (λ ge. let e = p.many ge in omega (arith, a, e)) (cases_lt k first)
+  room n a b = grind (arith, p.long, p.many)
 
   pub part_push : (b : Bool) → get_or live k false ≡ b → IsPart vars first (k + 1) ids live clauses (record { vars = table.vars; clauses = table.clauses ++ clause ∷ []; held = table.held ++ (if b then (number, clause) ∷ [] else []); last = number })
   part_push b e = record {
     vars = p.vars;
     held = sym (more_held b e);
-    long = λ u. let here = p.long (omega (arith, u)) in omega (arith, here, n);
-    many = λ u. ⊎_elim (λ lt. let here = p.long (omega (arith, lt)) in omega (arith, here, n, u)) (λ ge. let here = p.many ge in omega (arith, here, n)) (cases_lt k first);
+    long = λ u. grind (arith, p.long, n);
+    many = λ u. grind (arith, p.long, p.many, n);
     front = λ q a u. ⊎_elim (λ lt. let in' : q ≤ k = omega (arith, lt) in take-append-le q table.clauses (clause ∷ []) (room q a in') ∙ p.front q a in')
         (λ ge. let at : q ≡ k + 1 = omega (arith, ge, u) in ap (λ r. take r (table.clauses ++ clause ∷ [])) at ∙ whole (omega (arith, at, a)) ∙ sym (ap (λ r. take r clauses) at)) (cases_lt q (k + 1));
     below = λ j u v. rises k j (omega (arith, u)) v;

@@ -36,10 +36,7 @@ module _ (held : List Entry) (pivot : LitValue) (start : List LitValue) (hints :
   faulty named at n fault l e f = l.fault ∙ ap (groups_fault held pivot start l.earlier) (group_here at n e) ∙ rw (f, groups_fault) refl
 
   swap : (a b c : Bool) → (a || (b || c)) ≡ ((b || a) || c)
-  swap true true c = refl
-  swap true false c = refl
-  swap false true c = refl
-  swap false false c = refl
+  swap a b c = grind arith
 
   pub passes : (named named' : BTreeSet ℕ) (at n next : ℕ) (l : Left held pivot start hints named at) → drop at hints ≡ negsuc n ∷ drop (at + 1) hints
       → group_fault held pivot start l.earlier (group_at at (n + 1)) (clause_at held (n + 1)) ≡ None → ((k : ℕ) → contains nat_cmp named' k ≡ (n + 1 == k || contains nat_cmp named k))

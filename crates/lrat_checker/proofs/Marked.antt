@@ -1,8 +1,10 @@
 -- Marks on literals, counted in a table.
-use Rattle.std.proofs.Common.{◌≡◌, ℕ, ◌+◌, ◌-◌, ◌<◌, ◌≤◌, Bool, true, false, cond, List, [], ◌∷◌, ◌++◌, length, take, drop, get_or, set, refl, sym, ap, ◌∙◌, subst, ⊎_elim, arith}
+use Rattle.std.proofs.Common.{◌≡◌, ℕ, ◌+◌, ◌-◌, ◌<◌, ◌≤◌, Bool, true, false, cond, List, [], ◌∷◌, ◌++◌, length, take, drop, get_or, set, refl, sym, ap, ◌∙◌, subst, arith}
 use Rattle.std.specs.Prelude.{◌||◌, nat_lt, All, reverse}
-use Rattle.std.proofs.lemmas.Bool.{false≢true, cases_Bool, lt-ltb}
+use Rattle.std.proofs.lemmas.Bool.Decides.{nat_tests}
+use Rattle.std.proofs.lemmas.Bool.{false≢true, cases_Bool}
 use Rattle.std.proofs.lemmas.List.{length-set, get_or_append_left, get_or-set_same, get_or-set_other, length_push, reverse-append, length-reverse, take-append-drop, drop_at, length-drop, get_or_read}
+use Rattle.std.proofs.lemmas.List.Folds.{list_any-append}
 use Rattle.std.proofs.lemmas.List.Elements.{All-head, All-tail, All-push}
 use Rattle.cnf_formula.specs.Literals.{LitValue, same_literal, has_literal, code_of}
 use Rattle.cnf_formula.specs.Formulas.{IsAbout}
@@ -21,11 +23,7 @@ times-push l x [] = omega arith
 times-push l x (y ∷ xs) = let e = times-push l x xs in omega (arith, e)
 
 once_small : (l x : LitValue) → once l x ≤ 1
-once_small l x = go (same_literal l x)
-  where
-    go : (b : Bool) → cond {A = ℕ} b 1 0 ≤ 1
-    go true = omega arith
-    go false = omega arith
+once_small l x = grind arith
 
 pub times_few : (l : LitValue) (xs : List LitValue) → times l xs ≤ length xs
 times_few l [] = omega arith
@@ -33,26 +31,14 @@ times_few l (x ∷ xs) = let a = times_few l xs in let b = once_small l x in ome
 
 pub has_times : (l : LitValue) (xs : List LitValue) → has_literal xs l ≡ nat_lt 0 (times l xs)
 has_times l [] = refl
-has_times l (x ∷ xs) =
-    ⊎_elim (λ t. let some : 0 < cond {A = ℕ} (same_literal l x) 1 0 + times l xs = rw t (omega arith) in ap (λ b. b || has_literal xs l) t ∙ sym (lt-ltb 0 (cond {A = ℕ} (same_literal l x) 1 0 + times l xs) some))
-    (λ f. let none : cond {A = ℕ} (same_literal l x) 1 0 + times l xs ≡ times l xs = rw f (omega arith) in ap (λ b. b || has_literal xs l) f ∙ has_times l xs ∙ ap (nat_lt 0) (sym none))
-    (cases_Bool (same_literal l x))
+has_times l (x ∷ xs) = grind (arith, nat_tests, has_times l xs)
 
-has-append : (l : LitValue) (xs ys : List LitValue) → has_literal (xs ++ ys) l ≡ (has_literal xs l || has_literal ys l)
-has-append l [] ys = refl
-has-append l (x ∷ xs) ys = let e = has-append l xs ys in ⊎_elim (λ t. rw t refl) (λ f. rw f e) (cases_Bool (same_literal l x))
-
-or_comm : (a b : Bool) → (a || b) ≡ (b || a)
-or_comm true true = refl
-or_comm true false = refl
-or_comm false true = refl
-or_comm false false = refl
+turned : (a b c : Bool) → a ≡ c → (a || (b || false)) ≡ (b || c)
+turned a b c e = grind arith
 
 pub has-reverse : (l : LitValue) (xs : List LitValue) → has_literal (reverse xs) l ≡ has_literal xs l
 has-reverse l [] = refl
-has-reverse l (x ∷ xs) =
-    ap (λ ys. has_literal ys l) (reverse-append (x ∷ []) xs) ∙ has-append l (reverse xs) (x ∷ []) ∙ or_comm (has_literal (reverse xs) l) (has_literal (x ∷ []) l)
-    ∙ ap (λ b. has_literal (x ∷ []) l || b) (has-reverse l xs) ∙ sym (has-append l (x ∷ []) xs)
+has-reverse l (x ∷ xs) = ap (λ ys. has_literal ys l) (reverse-append (x ∷ []) xs) ∙ list_any-append (same_literal l) (reverse xs) (x ∷ []) ∙ turned (has_literal (reverse xs) l) (same_literal l x) (has_literal xs l) (has-reverse l xs)
 
 -- ---- the table
 
@@ -63,19 +49,7 @@ pub counted_more : (vars : ℕ) (counts : List ℕ) (marked : List LitValue) (x 
 counted_more vars counts marked x n c a e = record {
   long = length-set counts (code_of x) (n + 1) ∙ c.long;
   about = All-push (IsAbout vars) marked x c.about a;
-  each = λ l b. ⊎_elim
-      (λ t.
-      let is = same_is l x t in
-      let here : get_or (set counts (code_of x) (n + 1)) (code_of l) 0 ≡ n + 1 =
-      ap (λ y. get_or (set counts (code_of x) (n + 1)) (code_of y) 0) is ∙ get_or-set_same counts (code_of x) (n + 1) 0 (let w = code_within vars x a in omega (arith, w, c.long)) in
-      let old : n ≡ times l marked = e ∙ ap (λ y. get_or counts (code_of y) 0) (sym is) ∙ c.each l b in
-      let more : times l (marked ++ x ∷ []) ≡ times l marked + 1 = rw t at (times-push l x marked) in
-      here ∙ ap (λ k. k + 1) old ∙ sym more)
-      (λ f.
-      let more : times l (marked ++ x ∷ []) ≡ times l marked + 0 = rw f at (times-push l x marked) in
-      let none : times l marked ≡ times l marked + 0 = omega arith in
-      get_or-set_other counts (code_of x) (code_of l) (n + 1) 0 (apart l x f) ∙ c.each l b ∙ none ∙ sym more)
-      (cases_Bool (same_literal l x));
+  each = λ l b. grind (arith, same_is l x, apart l x, code_within vars x a, c.each l b, c.long, times-push l x marked, get_or-set_same, get_or-set_other, cases_Bool (same_literal l x));
 }
 
 pub some_times : (marked : List LitValue) (x : LitValue) → times x (marked ++ x ∷ []) ≡ times x marked + 1
@@ -92,20 +66,7 @@ counted_fewer vars counts marked x n c e =
     record {
       long = length-set counts (code_of x) (n - 1) ∙ c.long;
       about = about_front marked c.about;
-      each = λ l b. ⊎_elim
-          (λ t.
-          let is = same_is l x t in
-          let here : get_or (set counts (code_of x) (n - 1)) (code_of l) 0 ≡ n - 1 =
-          ap (λ y. get_or (set counts (code_of x) (n - 1)) (code_of y) 0) is ∙ get_or-set_same counts (code_of x) (n - 1) 0 (let w = code_within vars x a in omega (arith, w, c.long)) in
-          let old : n ≡ times l (marked ++ x ∷ []) = e ∙ ap (λ y. get_or counts (code_of y) 0) (sym is) ∙ c.each l b in
-          let more : times l (marked ++ x ∷ []) ≡ times l marked + 1 = rw t at (times-push l x marked) in
-          omega (arith, here, old, more))
-          (λ f.
-          let more : times l (marked ++ x ∷ []) ≡ times l marked + 0 = rw f at (times-push l x marked) in
-          let other = get_or-set_other counts (code_of x) (code_of l) (n - 1) 0 (apart l x f) in
-          let old = c.each l b in
-          omega (arith, other, old, more))
-          (cases_Bool (same_literal l x));
+      each = λ l b. grind (arith, same_is l x, apart l x, code_within vars x a, c.each l b, c.long, times-push l x marked, get_or-set_same, get_or-set_other, cases_Bool (same_literal l x));
     }
   where
     about_front : (ms : List LitValue) → All (IsAbout vars) (ms ++ x ∷ []) → All (IsAbout vars) ms

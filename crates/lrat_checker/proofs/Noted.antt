@@ -1,8 +1,8 @@
 -- Places in the lists of literals.
-use Rattle.std.proofs.Common.{◌≡◌, ℕ, ◌+◌, ◌<◌, Bool, true, false, List, [], ◌∷◌, ◌++◌, length, take, get_or, set, refl, sym, ap, ◌∙◌, subst, ⊎_elim, arith}
-use Rattle.std.specs.Prelude.{◌||◌, All, Contains}
+use Rattle.std.proofs.Common.{◌≡◌, ℕ, ◌+◌, ◌<◌, Bool, true, false, List, [], ◌∷◌, ◌++◌, length, take, get_or, set, refl, sym, ◌∙◌, ⊎_elim, arith}
+use Rattle.std.specs.Prelude.{All, Contains}
 use Rattle.std.specs.List.{list_all}
-use Rattle.std.proofs.lemmas.Bool.{false≢true, cases_eq, cases_Bool, or_cases}
+use Rattle.std.proofs.lemmas.Bool.{cases_eq, cases_Bool}
 use Rattle.std.proofs.lemmas.List.{get_or-set_same, get_or-set_other, take_more, get_or_append_left, length_push}
 use Rattle.std.proofs.lemmas.List.Folds.{list_any-append}
 use Rattle.list_laws.proofs.Places.{by_place_push}
@@ -18,31 +18,19 @@ use Rattle.std.proofs.lemmas.List.Sums.{AllPass-from_list_all}
 use Rattle.cnf_formula.specs.Formulas.{IsClause}
 
 pub grown : {A : Type 0} (ls : List (List A)) (k : ℕ) (new : List A) → k < length ls → ((x : A) → Contains (list_at ls k) x → Contains new x) → (code : ℕ) (x : A) → Contains (list_at ls code) x → Contains (list_at (set ls k new) code) x
-grown ls k new w more code x h =
-    ⊎_elim (λ e. subst (λ xs. Contains xs x) (sym (ap (λ j. get_or (set ls k new) j []) e ∙ get_or-set_same ls k new [] w)) (more x (subst (λ j. Contains (list_at ls j) x) e h)))
-    (λ a. subst (λ xs. Contains xs x) (sym (get_or-set_other ls k code new [] a)) h)
-    (cases_eq code k)
+grown ls k new w more code x h = grind (arith, more x, get_or-set_same, get_or-set_other, cases_eq code k)
 
 -- ---- one literal more
 
 pub one_more : (P : LitValue → Type 0) (lits : List LitValue) (j : ℕ) (lit : LitValue) → ((d : LitValue) → get_or lits j d ≡ lit) → j < length lits → P lit → ((x : LitValue) → has_literal (take j lits) x ≡ true → P x)
     → (x : LitValue) → has_literal (take (j + 1) lits) x ≡ true → P x
-one_more P lits j lit at w new old x h =
-    let split : (has_literal (take j lits) x || has_literal (lit ∷ []) x) ≡ true =
-    sym (ap (λ ys. has_literal ys x) (take_more lits j lit w ∙ ap (λ y. take j lits ++ y ∷ []) (at lit)) ∙ list_any-append (same_literal x) (take j lits) (lit ∷ [])) ∙ h in
-    ⊎_elim (λ before. old x before)
-    (λ here. subst P (sym (same_is x lit (⊎_elim (λ s. s) (λ n. absurd (false≢true n)) (or_cases (same_literal x lit) false here)))) new)
-    (or_cases (has_literal (take j lits) x) (has_literal (lit ∷ []) x) split)
+one_more P lits j lit at w new old x h = grind (arith, old x, same_is x lit, take_more lits j lit w, at lit, list_any-append (same_literal x) (take j lits) (lit ∷ []))
 
 -- ---- whether all that is held is answered
 
 module _ (pivot : LitValue) (start : List LitValue) (groups : List Group) where
   abbrev test : ℕ × List LitValue → Bool
   test = is_answered pivot start groups
-
-  pub one_unanswered : (ids : List ℕ) (live : List Bool) (clauses : List (List LitValue)) (k : ℕ) → length live ≡ length ids → length clauses ≡ length ids → k < length ids → get_or live k false ≡ true → test (get_or ids k 0, get_or clauses k []) ≡ false
-      → list_all test (held_of ids live clauses) ≡ false
-  one_unanswered ids live clauses k l m w t f = not_all test ids live clauses k l m w t f
 
   lacks : (id : ℕ) (clause : List LitValue) → has_negated pivot clause ≡ false → test (id, clause) ≡ true
   lacks id clause f = rw f refl
@@ -69,7 +57,7 @@ module _ (pivot : LitValue) (start : List LitValue) (groups : List Group) where
           let (j, w, fails) = some_fails at list f in
           let k = get_or list j 0 in
           let a : get_or live k false ≡ true = held j 0 w in
-          one_unanswered ids live clauses k l m (omega (arith, live_within live k a, l)) a fails
+          not_all test ids live clauses k l m (omega (arith, live_within live k a, l)) a fails
 
 -- ---- places more in the lists
 
@@ -117,16 +105,11 @@ pub stored_push : (vars : ℕ) (ids : List ℕ) (live : List Bool) (clauses : Li
     → IsIndexed vars (live ++ held ∷ []) (clauses ++ lits ∷ []) lists' → IsLed vars (clauses ++ lits ∷ []) leads'
     → IsStored vars (ids ++ id ∷ []) (live ++ held ∷ []) (clauses ++ lits ∷ []) lists' leads'
 stored_push vars ids live clauses lists lists' leads leads' id lits held s above about indexed led =
-    let n = length_push ids id in
-    let a = length_push live held in
-    let b = length_push clauses lits in
-    let l = s.lives in
-    let m = s.many in
     record {
       rises = rises_push ids id above s.rises;
       some = All-push (λ x. 0 < x) ids id s.some (omega (arith, above));
-      lives = omega (arith, n, a, l);
-      many = omega (arith, n, b, m);
+      lives = omega (arith, length_push ids id, length_push live held, s.lives);
+      many = omega (arith, length_push ids id, length_push clauses lits, s.many);
       about = All-push (IsClause vars) clauses lits s.about about;
       indexed = indexed;
       led = led;

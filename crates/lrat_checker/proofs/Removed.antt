@@ -1,15 +1,15 @@
 -- Clauses that are let go, and held again.
 use Rattle.std.proofs.Common.{◌≡◌, ℕ, zero, suc, ◌+◌, ◌<◌, Bool, true, false, List, [], ◌∷◌, ◌++◌, length, take, drop, get_or, set, refl, sym, ap, ◌∙◌, inl, inr, ⊎_elim, arith}
-use Rattle.std.specs.Prelude.{◌⊎◌, ◌≢◌, ◌==◌, ◌&&◌, ◌||◌, not, if◌then◌else◌, filter}
+use Rattle.std.specs.Prelude.{◌⊎◌, ◌≢◌, ◌==◌, ◌&&◌, ◌||◌, not, filter}
 use Rattle.std.specs.List.{list_any, list_all}
-use Rattle.std.proofs.lemmas.Bool.{false≢true, eq-eqb, ne_eqb, eqb-true, eqb-false, cases_Bool, cases_eq, cases_order, and_cases, and_from, and_parts, or_cases, or_from, or_left, or_right, or_parts, not-true, not-false}
+use Rattle.std.proofs.lemmas.Bool.Decides.{nat_tests}
+use Rattle.std.proofs.lemmas.Bool.{false≢true, eqb-true, cases_eq, and_cases, and_parts, not-true, not-false}
 use Rattle.std.proofs.lemmas.List.{length-set, get_or-set_same, get_or-set_other, get_or_default, same_lists, drop_more, take_more, take-append-drop}
 use Rattle.std.proofs.lemmas.List.Elements.{All-head, All-tail}
 use Rattle.cnf_formula.specs.Literals.{LitValue}
-use Rattle.proof_rules.specs.Held.{Entry}
 use Rattle.proof_rules.specs.Judging.{has_number_twice, are_held}
 use Rattle.lrat_checker.specs.Stored.{held_of, is_live, kept_live, Rises}
-use Rattle.lrat_checker.proofs.Placed.{Others, rises_tail, head_below, held_true, held_false, others_above}
+use Rattle.lrat_checker.proofs.Placed.{Others, rises_tail, head_below, others_above}
 
 abbrev pub among : List ℕ → ℕ → Bool
 among gone x = list_any (λ id. id == x) gone
@@ -19,41 +19,19 @@ among gone x = list_any (λ id. id == x) gone
 pub live_not : (ids : List ℕ) (live : List Bool) (id : ℕ) → Others id ids → is_live ids live id ≡ false
 live_not [] live id a = refl
 live_not (x ∷ ids) [] id a = refl
-live_not (x ∷ ids) (b ∷ live) id a =
-    let rest = live_not ids live id (All-tail (λ other. other ≢ id) x ids a) in
-    let no : (b && x == id) ≡ false = ⊎_elim (λ t. rw t (ne_eqb x id (All-head (λ other. other ≢ id) x ids a))) (λ f. rw f refl) (cases_Bool b) in
-    or_from (b && x == id) (is_live ids live id) no rest
+live_not (x ∷ ids) (b ∷ live) id a = grind (arith, nat_tests, live_not ids live id (All-tail (λ other. other ≢ id) x ids a), All-head (λ other. other ≢ id) x ids a)
 
 pub live_at : (ids : List ℕ) (live : List Bool) (place : ℕ) → Rises ids → length live ≡ length ids → place < length ids → is_live ids live (get_or ids place 0) ≡ get_or live place false
 live_at [] live place r l w = absurd (omega (arith, w))
 live_at (x ∷ ids) [] place r l w = absurd (omega (arith, l))
-live_at (x ∷ ids) (b ∷ live) zero r l w =
-    let rest = live_not ids live x (others_above x ids (head_below x ids r)) in
-    rw (eq-eqb x x refl, rest) (go b)
-  where
-    go : (a : Bool) → (a && true || false) ≡ a
-    go true = refl
-    go false = refl
-live_at (x ∷ ids) (b ∷ live) (suc place) r l w =
-    let in' : place < length ids = omega (arith, w) in
-    let apart : x ≡ get_or ids place 0 → ⊥ = λ e. let lt = head_below x ids r place 0 in' in omega (arith, lt, e) in
-    let rest = live_at ids live place (rises_tail x ids r) (omega (arith, l)) in' in
-    rw (ne_eqb x (get_or ids place 0) apart, rest) (go b (get_or live place false))
-  where
-    go : (a c : Bool) → (a && false || c) ≡ c
-    go true c = refl
-    go false c = refl
+live_at (x ∷ ids) (b ∷ live) zero r l w = grind (arith, nat_tests, live_not ids live x (others_above x ids (head_below x ids r)))
+live_at (x ∷ ids) (b ∷ live) (suc place) r l w = grind (arith, nat_tests, head_below x ids r place 0, live_at ids live place (rises_tail x ids r) (omega (arith, l)) (omega (arith, w)))
 
 pub held_live : (ids : List ℕ) (live : List Bool) (clauses : List (List LitValue)) (id : ℕ) → length live ≡ length ids → length clauses ≡ length ids → list_any (λ entry. entry.0 == id) (held_of ids live clauses) ≡ is_live ids live id
 held_live [] live clauses id l m = refl
 held_live (x ∷ ids) [] clauses id l m = absurd (omega (arith, l))
 held_live (x ∷ ids) (b ∷ live) [] id l m = absurd (omega (arith, m))
-held_live (x ∷ ids) (b ∷ live) (c ∷ clauses) id l m =
-    let rest = held_live ids live clauses id (omega (arith, l)) (omega (arith, m)) in
-    let p : Entry → Bool = λ entry. entry.0 == id in
-    ⊎_elim (λ t. ap (list_any p) (held_true x ids b live c clauses t) ∙ ap (λ r. x == id || r) rest ∙ sym (ap (λ a. a && x == id || is_live ids live id) t))
-    (λ f. ap (list_any p) (held_false x ids b live c clauses f) ∙ rest ∙ sym (ap (λ a. a && x == id || is_live ids live id) f))
-    (cases_Bool b)
+held_live (x ∷ ids) (b ∷ live) (c ∷ clauses) id l m = grind (arith, held_live ids live clauses id (omega (arith, l)) (omega (arith, m)))
 
 pub all_held_live : (ids : List ℕ) (live : List Bool) (clauses : List (List LitValue)) (gone : List ℕ) → length live ≡ length ids → length clauses ≡ length ids → are_held (held_of ids live clauses) gone ≡ list_all (λ id. is_live ids live id) gone
 all_held_live ids live clauses [] l m = refl
@@ -76,39 +54,23 @@ pub kept_none : (ids : List ℕ) (live : List Bool) → length live ≡ length i
 kept_none [] [] l = refl
 kept_none [] (b ∷ live) l = absurd (omega (arith, l))
 kept_none (x ∷ ids) [] l = absurd (omega (arith, l))
-kept_none (x ∷ ids) (b ∷ live) l = ⊎_elim (λ t. rw t (ap (λ bs. true ∷ bs) (kept_none ids live (omega (arith, l))))) (λ f. rw f (ap (λ bs. false ∷ bs) (kept_none ids live (omega (arith, l))))) (cases_Bool b)
+kept_none (x ∷ ids) (b ∷ live) l = grind (arith, kept_none ids live (omega (arith, l)))
 
 pub held_kept : (ids : List ℕ) (live : List Bool) (clauses : List (List LitValue)) (gone : List ℕ) → length live ≡ length ids → length clauses ≡ length ids
     → held_of ids (kept_live ids live gone) clauses ≡ filter (λ entry. not (list_any (λ id. id == entry.0) gone)) (held_of ids live clauses)
 held_kept [] live clauses gone l m = refl
 held_kept (x ∷ ids) [] clauses gone l m = absurd (omega (arith, l))
 held_kept (x ∷ ids) (b ∷ live) [] gone l m = absurd (omega (arith, m))
-held_kept (x ∷ ids) (b ∷ live) (c ∷ clauses) gone l m =
-    let rest = held_kept ids live clauses gone (omega (arith, l)) (omega (arith, m)) in
-    let p : Entry → Bool = λ entry. not (among gone entry.0) in
-    let kept = kept_live ids live gone in
-    let now : Bool = b && not (among gone x) in
-    ⊎_elim (λ t.
-    let old = ap (filter p) (held_true x ids b live c clauses t) in
-    ⊎_elim (λ g. let out : now ≡ false = ap (λ a. a && not (among gone x)) t ∙ ap not g in held_false x ids now kept c clauses out ∙ rest ∙ sym (old ∙ ap (λ y. if not y then (x, c) ∷ filter p (held_of ids live clauses) else filter p (held_of ids live clauses)) g))
-    (λ n. let in' : now ≡ true = ap (λ a. a && not (among gone x)) t ∙ ap not n in held_true x ids now kept c clauses in' ∙ ap (λ es. (x, c) ∷ es) rest ∙ sym (old ∙ ap (λ y. if not y then (x, c) ∷ filter p (held_of ids live clauses) else filter p (held_of ids live clauses)) n))
-    (cases_Bool (among gone x)))
-    (λ f. let out : now ≡ false = ap (λ a. a && not (among gone x)) f in held_false x ids now kept c clauses out ∙ rest ∙ sym (ap (filter p) (held_false x ids b live c clauses f)))
-    (cases_Bool b)
+held_kept (x ∷ ids) (b ∷ live) (c ∷ clauses) gone l m = grind (arith, held_kept ids live clauses gone (omega (arith, l)) (omega (arith, m)))
 
 -- ---- one more is let go
 
 among_push : (gone : List ℕ) (g x : ℕ) → among (gone ++ g ∷ []) x ≡ (among gone x || g == x)
-among_push [] g x = go (g == x)
-  where
-    go : (b : Bool) → (b || false) ≡ b
-    go true = refl
-    go false = refl
-among_push (h ∷ gone) g x = let rest = among_push gone g x in ⊎_elim (λ t. rw t refl) (λ f. rw f rest) (cases_Bool (h == x))
+among_push [] g x = grind arith
+among_push (h ∷ gone) g x = grind (arith, among_push gone g x)
 
 pub places_apart : (ids : List ℕ) → Rises ids → (i j : ℕ) → i < length ids → j < length ids → (i ≡ j → ⊥) → get_or ids i 0 ≡ get_or ids j 0 → ⊥
-places_apart ids r i j a b n e =
-    ⊎_elim (λ same. n same) (λ o. ⊎_elim (λ lt. let x = r i j lt b in omega (arith, x, e)) (λ gt. let x = r j i gt a in omega (arith, x, e)) o) (cases_order i j)
+places_apart ids r i j a b n e = grind (arith, r i j, r j i)
 
 pub goes : (ids : List ℕ) (live : List Bool) (gone : List ℕ) (place : ℕ) → Rises ids → length live ≡ length ids → place < length ids
     → set (kept_live ids live gone) place false ≡ kept_live ids live (gone ++ get_or ids place 0 ∷ [])
@@ -120,90 +82,34 @@ goes ids live gone place r l w =
     (length-set (kept_live ids live gone) place false ∙ n ∙ sym n')
     (λ k d u.
     let in' : k < length ids = omega (arith, u, length-set (kept_live ids live gone) place false, n) in
-    let new : get_or (kept_live ids live (gone ++ g ∷ [])) k false ≡ (get_or live k false && not (among gone (get_or ids k 0) || g == get_or ids k 0)) =
-    kept_at ids live (gone ++ g ∷ []) k l in' ∙ ap (λ b. get_or live k false && not b) (among_push gone g (get_or ids k 0)) in
-    let at_false : get_or (set (kept_live ids live gone) place false) k false ≡ get_or (kept_live ids live (gone ++ g ∷ [])) k false =
-    ⊎_elim (λ e.
-    let same : (g == get_or ids k 0) ≡ true = eq-eqb g (get_or ids k 0) (ap (λ j. get_or ids j 0) (sym e)) in
-    ap (λ j. get_or (set (kept_live ids live gone) place false) j false) e ∙ get_or-set_same (kept_live ids live gone) place false false (omega (arith, w, n))
-    ∙ sym (new ∙ rw same (gone_so (get_or live k false) (among gone (get_or ids k 0)))))
-    (λ a.
-    let apart : g ≡ get_or ids k 0 → ⊥ = λ e. places_apart ids r place k w in' (λ i. a (sym i)) e in
-    get_or-set_other (kept_live ids live gone) place k false false a ∙ kept_at ids live gone k l in' ∙ sym (new ∙ rw (ne_eqb g (get_or ids k 0) apart) (stays_so (get_or live k false) (among gone (get_or ids k 0)))))
-    (cases_eq k place) in
-    get_or_default (set (kept_live ids live gone) place false) k d false u ∙ at_false ∙ get_or_default (kept_live ids live (gone ++ g ∷ [])) k false d (omega (arith, in', n')))
-  where
-    gone_so : (a b : Bool) → (a && not (b || true)) ≡ false
-    gone_so true true = refl
-    gone_so true false = refl
-    gone_so false b = refl
-
-    stays_so : (a b : Bool) → (a && not (b || false)) ≡ (a && not b)
-    stays_so a true = refl
-    stays_so a false = refl
+    grind (arith, nat_tests, kept_at ids live (gone ++ g ∷ []) k l in', kept_at ids live gone k l in', among_push gone g (get_or ids k 0), places_apart ids r place k w in', get_or-set_same, get_or-set_other, get_or_default, length-set, n, n', cases_eq k place))
 
 -- ---- the answer
 
 pub live_kept : (ids : List ℕ) (live : List Bool) (gone : List ℕ) (g : ℕ) → is_live ids (kept_live ids live gone) g ≡ (is_live ids live g && not (among gone g))
 live_kept [] live gone g = refl
 live_kept (x ∷ ids) [] gone g = refl
-live_kept (x ∷ ids) (b ∷ live) gone g =
-    let rest = live_kept ids live gone g in
-    let m = among gone x in
-    let n = among gone g in
-    let l = is_live ids live g in
-    let kept = is_live ids (kept_live ids live gone) g in
-    ⊎_elim (λ e.
-    ap (λ q. b && not m && q || kept) e ∙ ap (λ r. b && not m && true || r) rest ∙ ap (λ y. b && not y && true || l && not n) (ap (among gone) (eqb-true x g e)) ∙ both b n l
-    ∙ sym (ap (λ q. (b && q || l) && not n) e))
-    (λ e. ap (λ q. b && not m && q || kept) e ∙ ap (λ r. b && not m && false || r) rest ∙ other b m l n ∙ sym (ap (λ q. (b && q || l) && not n) e))
-    (cases_Bool (x == g))
-  where
-    both : (b a c : Bool) → (b && not a && true || c && not a) ≡ ((b && true || c) && not a)
-    both true true true = refl
-    both true true false = refl
-    both true false true = refl
-    both true false false = refl
-    both false true true = refl
-    both false true false = refl
-    both false false true = refl
-    both false false false = refl
-
-    other : (b a c d : Bool) → (b && not a && false || c && not d) ≡ ((b && false || c) && not d)
-    other true true c d = refl
-    other true false c d = refl
-    other false a c d = refl
+live_kept (x ∷ ids) (b ∷ live) gone g = grind (arith, live_kept ids live gone g, eqb-true x g)
 
 pub twice_push : (gone : List ℕ) (g : ℕ) → has_number_twice gone ≡ false → among gone g ≡ false → has_number_twice (gone ++ g ∷ []) ≡ false
 twice_push [] g t a = refl
-twice_push (h ∷ gone) g t a =
-    let parts = or_parts (among gone h) (has_number_twice gone) t in
-    let apart = or_parts (h == g) (among gone g) a in
-    let no : (g == h) ≡ false = ne_eqb g h (λ e. eqb-false h g apart.0 (sym e)) in
-    or_from (among (gone ++ g ∷ []) h) (has_number_twice (gone ++ g ∷ [])) (among_push gone g h ∙ rw (parts.0, no) refl) (twice_push gone g parts.1 apart.1)
+twice_push (h ∷ gone) g t a = grind (arith, nat_tests, twice_push gone g, among_push gone g h)
+
+among_there : (gone : List ℕ) (g : ℕ) (more : List ℕ) → among (gone ++ g ∷ more) g ≡ true
+among_there [] g more = grind (arith, nat_tests)
+among_there (h ∷ gone) g more = grind (arith, among_there gone g more)
 
 pub twice_again : (gone : List ℕ) (g : ℕ) (more : List ℕ) → among gone g ≡ true → has_number_twice (gone ++ g ∷ more) ≡ true
 twice_again [] g more a = absurd (false≢true a)
-twice_again (h ∷ gone) g more a =
-    ⊎_elim (λ e. or_left (among (gone ++ g ∷ more) h) (has_number_twice (gone ++ g ∷ more)) (found gone (eq-eqb g h (sym (eqb-true h g e)))))
-    (λ r. or_right (among (gone ++ g ∷ more) h) (has_number_twice (gone ++ g ∷ more)) (twice_again gone g more r))
-    (or_cases (h == g) (among gone g) a)
-  where
-    found : (gone : List ℕ) → (g == h) ≡ true → among (gone ++ g ∷ more) h ≡ true
-    found [] e = or_left (g == h) (among more h) e
-    found (y ∷ gone) e = or_right (y == h) (among (gone ++ g ∷ more) h) (found gone e)
+twice_again (h ∷ gone) g more a = grind (arith, nat_tests, twice_again gone g more, among_there gone g more)
 
 pub not_all_live : (test : ℕ → Bool) (gone : List ℕ) (g : ℕ) (more : List ℕ) → test g ≡ false → list_all test (gone ++ g ∷ more) ≡ false
 not_all_live test [] g more f = rw f refl
-not_all_live test (h ∷ gone) g more f = rw (not_all_live test gone g more f) (none (test h))
-  where
-    none : (a : Bool) → (a && false) ≡ false
-    none true = refl
-    none false = refl
+not_all_live test (h ∷ gone) g more f = grind (arith, not_all_live test gone g more f)
 
 pub all_push : (test : ℕ → Bool) (gone : List ℕ) (g : ℕ) → list_all test gone ≡ true → test g ≡ true → list_all test (gone ++ g ∷ []) ≡ true
 all_push test [] g a t = rw t refl
-all_push test (h ∷ gone) g a t = let parts = and_parts (test h) (list_all test gone) a in and_from (test h) (list_all test (gone ++ g ∷ [])) parts.0 (all_push test gone g parts.1 t)
+all_push test (h ∷ gone) g a t = grind (arith, all_push test gone g)
 
 -- ---- a step that lets a clause go, and one that refuses
 
@@ -227,13 +133,7 @@ one_goes ids live now gone place k r l w p at is t held once =
     }
 
 refused : (a b : Bool) → (a ≡ false) ⊎ (b ≡ true) → (a && not b) ≡ false
-refused a true h = none a
-  where
-    none : (a : Bool) → (a && false) ≡ false
-    none true = refl
-    none false = refl
-refused true false h = ⊎_elim (λ e. e) (λ e. absurd (false≢true e)) h
-refused false false h = refl
+refused a b h = grind arith
 
 pub one_stays : (ids : List ℕ) (live now : List Bool) (gone : List ℕ) (k : ℕ) → k < length gone → now ≡ kept_live ids live (take k gone) → is_live ids now (get_or gone k 0) ≡ false
     → (list_all (λ id. is_live ids live id) gone && not (has_number_twice gone)) ≡ false
@@ -254,29 +154,14 @@ abbrev pub Back : List ℕ → List Bool → List Bool → List ℕ → Type 0
 Back ids live before rest = (k : ℕ) → k < length ids → among rest (get_or ids k 0) ≡ false → get_or live k false ≡ get_or before k false
 
 pub back_first : (ids : List ℕ) (live before : List Bool) (gone : List ℕ) → length before ≡ length ids → live ≡ kept_live ids before gone → Back ids live before gone
-back_first ids live before gone n e k w f =
-    ap (λ bs. get_or bs k false) e ∙ kept_at ids before gone k n w ∙ ap (λ b. get_or before k false && not b) f ∙ and_true (get_or before k false)
-  where
-    and_true : (a : Bool) → (a && true) ≡ a
-    and_true true = refl
-    and_true false = refl
+back_first ids live before gone n e k w f = grind (arith, kept_at ids before gone k n w)
 
 pub back_one : (ids : List ℕ) (live before : List Bool) (rest : List ℕ) (g place : ℕ) → Rises ids → length live ≡ length ids → length before ≡ length ids → place < length ids → get_or ids place 0 ≡ g → is_live ids before g ≡ true
     → Back ids live before (g ∷ rest) → Back ids (set live place true) before rest
-back_one ids live before rest g place r l m p at t b k w f =
-    ⊎_elim (λ e.
-    let was : get_or before place false ≡ true = sym (live_at ids before place r m p) ∙ ap (is_live ids before) at ∙ t in
-    ap (λ j. get_or (set live place true) j false) e ∙ get_or-set_same live place true false (omega (arith, p, l)) ∙ sym (ap (λ j. get_or before j false) e ∙ was))
-    (λ a.
-    let apart : g ≡ get_or ids k 0 → ⊥ = λ e. places_apart ids r place k p w (λ i. a (sym i)) (at ∙ e) in
-    get_or-set_other live place k true false a ∙ b k w (or_from (g == get_or ids k 0) (among rest (get_or ids k 0)) (ne_eqb g (get_or ids k 0) apart) f))
-    (cases_eq k place)
+back_one ids live before rest g place r l m p at t b k w f = grind (arith, nat_tests, live_at ids before place r m p, places_apart ids r place k p w, b k w, get_or-set_same, get_or-set_other, cases_eq k place)
 
 pub back_none : (ids : List ℕ) (live before : List Bool) (rest : List ℕ) (g : ℕ) → Others g ids → Back ids live before (g ∷ rest) → Back ids live before rest
-back_none ids live before rest g o b k w f =
-    b k w (or_from (g == get_or ids k 0) (among rest (get_or ids k 0)) (ne_eqb g (get_or ids k 0) (λ e. o k 0 w (sym e))) f)
+back_none ids live before rest g o b k w f = grind (arith, nat_tests, b k w, o k 0 w)
 
 pub back_all : (ids : List ℕ) (live before : List Bool) → length live ≡ length ids → length before ≡ length ids → Back ids live before [] → live ≡ before
-back_all ids live before l m b =
-    same_lists live before (l ∙ sym m)
-    (λ k d w. get_or_default live k d false w ∙ b k (omega (arith, w, l)) refl ∙ get_or_default before k false d (omega (arith, w, l, m)))
+back_all ids live before l m b = same_lists live before (l ∙ sym m) (λ k d w. grind (arith, b k, get_or_default))

@@ -3,7 +3,7 @@ use Rattle.std.proofs.Common.{◌≡◌, ℕ, ◌+◌, ◌<◌, ◌≤◌, true,
 use Rattle.std.specs.Prelude.{max, bit_or}
 use Rattle.std.specs.Int.{bit_at}
 use Rattle.std.specs.Int.Bits.{or_zero_r, or_zero_l}
-use Rattle.std.proofs.Math.Nat.{le_antisymm, le_trans, le-max_left, le-max_right, max-le, max-eq_right}
+use Rattle.std.proofs.Math.Nat.{le_trans, le-max_left, le-max_right, max-le, max-eq_right}
 use Rattle.std.proofs.lemmas.Bool.{false≢true, eq-eqb, and_parts, or_cases}
 use Rattle.std.proofs.lemmas.List.{take_more}
 use Rattle.std.proofs.lemmas.Nat.Bits.{bit_at_or, bit_at-zero, same_from_bits}
@@ -14,9 +14,7 @@ use Rattle.lrat_checker.specs.inner.Leads.{bit_of, signature_of, has_bits_within
 -- ---- one literal more
 
 max_assoc : (a b c : ℕ) → max (max a b) c ≡ max a (max b c)
-max_assoc a b c = le_antisymm
-    (max-le (max-le (le-max_left a (max b c)) (le_trans (le-max_left b c) (le-max_right a (max b c)))) (le_trans (le-max_right b c) (le-max_right a (max b c))))
-    (max-le (le_trans (le-max_left a b) (le-max_left (max a b) c)) (max-le (le_trans (le-max_right a b) (le-max_left (max a b) c)) (le-max_right (max a b) c)))
+max_assoc a b c = omega arith
 
 or_assoc : (a b c : ℕ) → bit_or (bit_or a b) c ≡ bit_or a (bit_or b c)
 or_assoc a b c = same_from_bits (bit_or (bit_or a b) c) (bit_or a (bit_or b c))

@@ -13,53 +13,59 @@ use Rattle.lrat_checker.proofs.Placed.{live_within}
 use Rattle.lrat_checker.proofs.Noted.{answered_by_list}
 use Rattle.lrat_checker.proofs.Cleaned.{cleaned, all_held, stored_cleaned}
 use Rattle.lrat_checker.proofs.table.ClauseTable.all_answered.Goals as goal
+use Rattle.lrat_checker.proofs.table.ClauseTable.all_answered.Goals.{After-drop_gone, After-deref-3}
+
+known : (c : After-drop_gone) → c.code-code.result < length (map (λ v. v.items) c.self.inside.lists.items)
+known c =
+    let i = c.self.inside in
+    let about : IsAbout i.vars c.args.pivot = subst (λ n. IsAbout n c.args.pivot) (sym (ap (λ t. t.vars) c.self.view_is)) c.requires.pivot in
+    omega (arith, c.code-code.ensures.code, ap code_of c.negated.ensures, code_within i.vars (negation c.args.pivot) (negation_about i.vars c.args.pivot about), c.self.invariant.indexed.long)
+
+new : (c : After-drop_gone) → map (λ v. v.items) c.drop_gone.new.lists.items ≡ cleaned c.self.inside.live.items (map (λ v. v.items) c.self.inside.lists.items) c.code-code.result
+new c = c.drop_gone.ensures ∙ ap (λ bs. cleaned bs (map (λ v. v.items) c.self.inside.lists.items) c.code-code.result) c.deref.ensures.value
+
+-- the list of the negated pivot, of which all clauses are held
+list : (c : After-deref-3) → c.code-code.result < length (map (λ v. v.items) c.self.inside.lists.items) → map (λ v. v.items) c.drop_gone.new.lists.items ≡ cleaned c.self.inside.live.items (map (λ v. v.items) c.self.inside.lists.items) c.code-code.result
+    → list_at (map (λ v. v.items) c.drop_gone.new.lists.items) c.code-code.result ≡ c.deref-3.result.now
+list c w e =
+    let k = c.code-code.result in
+    let lists = map (λ v. v.items) c.self.inside.lists.items in
+    let w' : k < length c.drop_gone.new.lists.items = omega (arith, w, ap length e, length-set lists k (filter (is_held c.self.inside.live.items) (list_at lists k)), length-map c.drop_gone.new.lists.items (λ v. v.items)) in
+    at_map (λ v. v.items) c.drop_gone.new.lists.items k c.index.result.now [] w' c.index.ensures ∙ sym c.deref-3.ensures.value
 
 pub are_answered-requires-clause-within : goal.are_answered-requires-clause-within
 are_answered-requires-clause-within c =
     let i = c.self.inside in
-    let lists = map (λ v. v.items) i.lists.items in
     let more = map (λ v. v.items) c.drop_gone.new.lists.items in
-    let vars : c.args.self.now.vars ≡ i.vars = sym (ap (λ t. t.vars) c.self.view_is) in
-    let code : c.code-code.result ≡ code_of (negation c.args.pivot) = c.code-code.ensures.code ∙ ap code_of c.negated.ensures in
-    let bound = code_within i.vars (negation c.args.pivot) (negation_about i.vars c.args.pivot (subst (λ n. IsAbout n c.args.pivot) vars c.requires.pivot)) in
-    let known : c.code-code.result < length lists = omega (arith, code, bound, c.self.invariant.indexed.long) in
-    let new : more ≡ cleaned i.live.items lists c.code-code.result = c.drop_gone.ensures ∙ ap (λ bs. cleaned bs lists c.code-code.result) c.deref.ensures.value in
-    let held = all_held i.live.items lists more c.code-code.result known new in
-    let known' : c.code-code.result < length c.drop_gone.new.lists.items = omega (arith, known, ap length new, length-set lists c.code-code.result (filter (is_held i.live.items) (list_at lists c.code-code.result)), length-map c.drop_gone.new.lists.items (λ v. v.items)) in
-    let list : list_at more c.code-code.result ≡ c.deref-3.result.now = at_map (λ v. v.items) c.drop_gone.new.lists.items c.code-code.result c.index.result.now [] known' c.index.ensures ∙ sym c.deref-3.ensures.value in
-    subst (All (λ k. k < length c.deref-2.result.now)) list (λ j d w. let here = live_within i.live.items (get_or (list_at more c.code-code.result) j d) (held j d w) in omega (arith, here, c.self.invariant.lives, ap length c.deref-2.ensures.value))
+    let at = goal.at.are_answered-requires-clause-within c in
+    let w = known at.After-drop_gone in
+    let e = new at.After-drop_gone in
+    let held = all_held i.live.items (map (λ v. v.items) i.lists.items) more c.code-code.result w e in
+    subst (All (λ k. k < length c.deref-2.result.now)) (list at.After-deref-3 w e) (λ j d u. let here = live_within i.live.items (get_or (list_at more c.code-code.result) j d) (held j d u) in omega (arith, here, c.self.invariant.lives, ap length c.deref-2.ensures.value))
 
 pub invariant_of-self : goal.invariant_of-self
 invariant_of-self c =
     let i = c.self.inside in
-    let lists = map (λ v. v.items) i.lists.items in
-    let more = map (λ v. v.items) c.drop_gone.new.lists.items in
-    let vars : c.args.self.now.vars ≡ i.vars = sym (ap (λ t. t.vars) c.self.view_is) in
-    let code : c.code-code.result ≡ code_of (negation c.args.pivot) = c.code-code.ensures.code ∙ ap code_of c.negated.ensures in
-    let bound = code_within i.vars (negation c.args.pivot) (negation_about i.vars c.args.pivot (subst (λ n. IsAbout n c.args.pivot) vars c.requires.pivot)) in
-    let known : c.code-code.result < length lists = omega (arith, code, bound, c.self.invariant.indexed.long) in
-    let new : more ≡ cleaned i.live.items lists c.code-code.result = c.drop_gone.ensures ∙ ap (λ bs. cleaned bs lists c.code-code.result) c.deref.ensures.value in
-    subst (λ ls. IsStored i.vars i.ids.items i.live.items i.clauses ls (map (λ v. v.items) i.leads.items)) (sym new)
-    (stored_cleaned i.vars i.ids.items i.live.items i.clauses lists (map (λ v. v.items) i.leads.items) c.code-code.result c.self.invariant known)
+    let leads = map (λ v. v.items) i.leads.items in
+    let at = goal.at.invariant_of-self c in
+    subst (λ ls. IsStored i.vars i.ids.items i.live.items i.clauses ls leads) (sym (new at.After-drop_gone))
+    (stored_cleaned i.vars i.ids.items i.live.items i.clauses (map (λ v. v.items) i.lists.items) leads c.code-code.result c.self.invariant (known at.After-drop_gone))
 
 pub returns-clause-answer : goal.returns-clause-answer
 returns-clause-answer c = λ groups n.
     let i = c.self.inside in
     let lists = map (λ v. v.items) i.lists.items in
     let more = map (λ v. v.items) c.drop_gone.new.lists.items in
-    let vars : c.args.self.now.vars ≡ i.vars = sym (ap (λ t. t.vars) c.self.view_is) in
+    let at = goal.at.returns-clause-answer c in
+    let w = known at.After-drop_gone in
+    let e = new at.After-drop_gone in
     let code : c.code-code.result ≡ code_of (negation c.args.pivot) = c.code-code.ensures.code ∙ ap code_of c.negated.ensures in
-    let bound = code_within i.vars (negation c.args.pivot) (negation_about i.vars c.args.pivot (subst (λ n. IsAbout n c.args.pivot) vars c.requires.pivot)) in
-    let known : c.code-code.result < length lists = omega (arith, code, bound, c.self.invariant.indexed.long) in
-    let new : more ≡ cleaned i.live.items lists c.code-code.result = c.drop_gone.ensures ∙ ap (λ bs. cleaned bs lists c.code-code.result) c.deref.ensures.value in
-    let held = all_held i.live.items lists more c.code-code.result known new in
-    let known' : c.code-code.result < length c.drop_gone.new.lists.items = omega (arith, known, ap length new, length-set lists c.code-code.result (filter (is_held i.live.items) (list_at lists c.code-code.result)), length-map c.drop_gone.new.lists.items (λ v. v.items)) in
-    let list : list_at more c.code-code.result ≡ c.deref-3.result.now = at_map (λ v. v.items) c.drop_gone.new.lists.items c.code-code.result c.index.result.now [] known' c.index.ensures ∙ sym c.deref-3.ensures.value in
+    let held = all_held i.live.items lists more c.code-code.result w e in
     let clauses = i.clauses in
     let pivot = c.args.pivot in
     let falses = c.args.marks.now.falses in
-    let stored = stored_cleaned i.vars i.ids.items i.live.items clauses lists (map (λ v. v.items) i.leads.items) c.code-code.result c.self.invariant known in
-    let indexed = subst (IsIndexed i.vars i.live.items clauses) (sym new) stored.indexed in
+    let stored = stored_cleaned i.vars i.ids.items i.live.items clauses lists (map (λ v. v.items) i.leads.items) c.code-code.result c.self.invariant w in
+    let indexed = subst (IsIndexed i.vars i.live.items clauses) (sym e) stored.indexed in
     let all = answered_by_list pivot falses groups i.vars i.ids.items i.live.items clauses more indexed c.self.invariant.lives c.self.invariant.many (subst (λ k. All (λ p. is_held i.live.items p ≡ true) (list_at more k)) code held) in
     c.are_answered.ensures groups n ∙ ap (λ ids. list_all (answers ids clauses pivot falses groups) c.deref-3.result.now) c.deref-2.ensures.value
-    ∙ ap (list_all (answers i.ids.items clauses pivot falses groups)) (sym list ∙ ap (list_at more) code) ∙ all ∙ ap (λ t. list_all (is_answered pivot falses groups) t.held) c.self.view_is
+    ∙ ap (list_all (answers i.ids.items clauses pivot falses groups)) (sym (list at.After-deref-3 w e) ∙ ap (list_at more) code) ∙ all ∙ ap (λ t. list_all (is_answered pivot falses groups) t.held) c.self.view_is

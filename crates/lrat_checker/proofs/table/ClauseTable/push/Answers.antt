@@ -4,11 +4,23 @@ use Rattle.std.specs.Prelude.{Contains, if◌then◌else◌}
 use Rattle.cnf_formula.specs.Literals.{LitValue, code_of}
 use Rattle.cnf_formula.specs.Formulas.{IsClause}
 use Rattle.proof_rules.specs.Held.{Entry}
-use Rattle.lrat_checker.specs.Stored.{TableValue, held_of, last_of, list_at, led_as}
+use Rattle.lrat_checker.specs.Stored.{TableValue, IsStored, held_of, last_of, list_at, led_as}
 use Rattle.lrat_checker.proofs.Placed.{held_push, last_push}
 use Rattle.lrat_checker.proofs.Noted.{indexed_push, led_push, stored_grown, stored_push}
 use Rattle.lrat_checker.proofs.Led.{lead_within}
 use Rattle.lrat_checker.proofs.table.ClauseTable.push.Goals as goal
+use Rattle.lrat_checker.proofs.table.ClauseTable.push.Goals.{After-note_literals, After-note}
+
+long : (c : After-note_literals) → length (map (λ v. v.items) c.note_literals.new.lists.items) ≡ length (map (λ v. v.items) c.self.inside.lists.items)
+long c = omega (arith, length-map c.note_literals.new.lists.items (λ v. v.items), length-map c.self.inside.lists.items (λ v. v.items), c.note_literals.ensures.long)
+
+wide : (c : After-note) → length (map (λ v. v.items) c.note.new.lists.items) ≡ length (map (λ v. v.items) c.self.inside.leads.items)
+wide c = omega (arith, length-map c.note.new.lists.items (λ v. v.items), length-map c.self.inside.leads.items (λ v. v.items), c.note.ensures.long)
+
+-- the lists have places more
+grown : (c : After-note) → length (map (λ v. v.items) c.note_literals.new.lists.items) ≡ length (map (λ v. v.items) c.self.inside.lists.items)
+    → IsStored c.self.inside.vars c.self.inside.ids.items c.self.inside.live.items c.self.inside.clauses (map (λ v. v.items) c.note_literals.new.lists.items) (map (λ v. v.items) c.note.new.lists.items)
+grown c l = stored_grown _ _ _ _ (map (λ v. v.items) c.self.inside.lists.items) _ (map (λ v. v.items) c.self.inside.leads.items) _ c.self.invariant l c.note_literals.ensures.kept (wide c) c.note.ensures.kept
 
 pub note-requires : goal.note-requires
 note-requires c =
@@ -20,27 +32,21 @@ note-requires c =
 pub invariant_of-self-in_err-note_literals : goal.invariant_of-self-in_err-note_literals
 invariant_of-self-in_err-note_literals c =
     let i = c.self.inside in
-    let lists = map (λ v. v.items) i.lists.items in
-    let lists' = map (λ v. v.items) c.note_literals.new.lists.items in
     let leads = map (λ v. v.items) i.leads.items in
-    let long : length lists' ≡ length lists = omega (arith, length-map c.note_literals.new.lists.items (λ v. v.items), length-map i.lists.items (λ v. v.items), c.note_literals.ensures.long) in
-    let s = stored_grown i.vars i.ids.items i.live.items i.clauses lists lists' leads leads c.self.invariant long c.note_literals.ensures.kept refl (λ code x h. h) in
+    let l = long (goal.at.invariant_of-self-in_err-note_literals c).After-note_literals in
+    let s = stored_grown i.vars i.ids.items i.live.items i.clauses (map (λ v. v.items) i.lists.items) (map (λ v. v.items) c.note_literals.new.lists.items) leads leads c.self.invariant l c.note_literals.ensures.kept refl (λ code x h. h) in
     rw (c.in_ok-reserve.ensures.items, c.in_ok-reserve-2.ensures.items) s
 
 pub invariant_of-self-in_err-note : goal.invariant_of-self-in_err-note
 invariant_of-self-in_err-note c =
-    let i = c.self.inside in
-    let long : length (map (λ v. v.items) c.note_literals.new.lists.items) ≡ length (map (λ v. v.items) i.lists.items) = omega (arith, length-map c.note_literals.new.lists.items (λ v. v.items), length-map i.lists.items (λ v. v.items), c.note_literals.ensures.long) in
-    let wide : length (map (λ v. v.items) c.note.new.lists.items) ≡ length (map (λ v. v.items) i.leads.items) = omega (arith, length-map c.note.new.lists.items (λ v. v.items), length-map i.leads.items (λ v. v.items), c.note.ensures.long) in
-    let s = stored_grown i.vars i.ids.items i.live.items i.clauses (map (λ v. v.items) i.lists.items) (map (λ v. v.items) c.note_literals.new.lists.items) (map (λ v. v.items) i.leads.items) (map (λ v. v.items) c.note.new.lists.items) c.self.invariant long c.note_literals.ensures.kept wide c.note.ensures.kept in
+    let at = goal.at.invariant_of-self-in_err-note c in
+    let s = grown at.After-note (long at.After-note_literals) in
     rw (c.in_ok-reserve.ensures.items, c.in_ok-reserve-2.ensures.items) s
 
 pub invariant_of-self-in_err-push : goal.invariant_of-self-in_err-push
 invariant_of-self-in_err-push c =
-    let i = c.self.inside in
-    let long : length (map (λ v. v.items) c.note_literals.new.lists.items) ≡ length (map (λ v. v.items) i.lists.items) = omega (arith, length-map c.note_literals.new.lists.items (λ v. v.items), length-map i.lists.items (λ v. v.items), c.note_literals.ensures.long) in
-    let wide : length (map (λ v. v.items) c.note.new.lists.items) ≡ length (map (λ v. v.items) i.leads.items) = omega (arith, length-map c.note.new.lists.items (λ v. v.items), length-map i.leads.items (λ v. v.items), c.note.ensures.long) in
-    let s = stored_grown i.vars i.ids.items i.live.items i.clauses (map (λ v. v.items) i.lists.items) (map (λ v. v.items) c.note_literals.new.lists.items) (map (λ v. v.items) i.leads.items) (map (λ v. v.items) c.note.new.lists.items) c.self.invariant long c.note_literals.ensures.kept wide c.note.ensures.kept in
+    let at = goal.at.invariant_of-self-in_err-push c in
+    let s = grown at.After-note (long at.After-note_literals) in
     rw (c.in_ok-reserve.ensures.items, c.in_ok-reserve-2.ensures.items, c.in_err-push.ensures.kept) s
 
 pub invariant_of-self-2 : goal.invariant_of-self-2
@@ -58,12 +64,12 @@ invariant_of-self-2 c =
     let lists = map (λ v. v.items) c.note_literals.new.lists.items in
     let led = map (λ v. v.items) i.leads.items in
     let leads = map (λ v. v.items) c.note.new.lists.items in
-    let long : length lists ≡ length old = omega (arith, length-map c.note_literals.new.lists.items (λ v. v.items), length-map i.lists.items (λ v. v.items), c.note_literals.ensures.long) in
-    let wide : length leads ≡ length led = omega (arith, length-map c.note.new.lists.items (λ v. v.items), length-map i.leads.items (λ v. v.items), c.note.ensures.long) in
+    let l = long (goal.at.invariant_of-self-2 c).After-note_literals in
+    let m = wide (goal.at.invariant_of-self-2 c).After-note in
     let place : c.len-place.result ≡ length clauses = omega (arith, c.len-place.ensures, ap length c.in_ok-reserve.ensures.items, c.self.invariant.many) in
-    let indexed = indexed_push i.vars i.live.items clauses old lists lits c.args.held c.self.invariant.indexed (omega (arith, c.self.invariant.lives, c.self.invariant.many)) long c.note_literals.ensures.kept (λ l h. subst (Contains (list_at lists (code_of l))) place (c.in_ok-note_literals.ensures.noted l h)) in
+    let indexed = indexed_push i.vars i.live.items clauses old lists lits c.args.held c.self.invariant.indexed (omega (arith, c.self.invariant.lives, c.self.invariant.many)) l c.note_literals.ensures.kept (λ l h. subst (Contains (list_at lists (code_of l))) place (c.in_ok-note_literals.ensures.noted l h)) in
     let is : record { place = c.len-place.result; signature = c.signature_of-signature.result } ≡ led_as (length clauses) lits = λ i. record { place = place i; signature = c.signature_of-signature.ensures i } in
-    let leading = led_push i.vars clauses led leads lits c.lead_of-lead.result c.self.invariant.led wide c.note.ensures.kept c.lead_of-lead.ensures (subst (Contains (list_at leads c.lead_of-lead.result)) is c.in_ok-note.ensures.noted) in
+    let leading = led_push i.vars clauses led leads lits c.lead_of-lead.result c.self.invariant.led m c.note.ensures.kept c.lead_of-lead.ensures (subst (Contains (list_at leads c.lead_of-lead.result)) is c.in_ok-note.ensures.noted) in
     let s = stored_push i.vars i.ids.items i.live.items clauses old lists led leads id lits c.args.held c.self.invariant above about indexed leading in
     rw (ids, live, more) s
 
