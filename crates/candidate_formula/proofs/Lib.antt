@@ -7,6 +7,7 @@ pub mod Suited
 pub mod CopyingQuestions
 pub mod CutAway
 pub mod ReadBack
+pub mod Said
 pub mod Short
 pub mod Links
 pub mod Sizes

@@ -1,5 +1,5 @@
 -- Files that a search began, and may not have ended.
-use Rattle.std.specs.Prelude.{◌≡◌, ◌⊎◌, ℕ, List, ◌++◌, Some}
+use Rattle.std.specs.Prelude.{◌≡◌, ◌⊎◌, ℕ, true, List, ◌++◌, Some}
 use Rattle.outer_ports.specs.declared.proof_name.FileKind.{FileKind}
 use Rattle.outer_ports.specs.declared.proof_name.FileKind.TheVariants.{Cnf}
 use Rattle.outer_ports.specs.declared.proof_name.ProofName.{ProofName}
@@ -7,13 +7,13 @@ use Rattle.outer_ports.specs.Files.{Files}
 use Rattle.cnf_formula.specs.Formulas.{FormulaValue}
 use Rattle.cnf_formula.specs.declared.line.LratLine.{LratLine}
 use Rattle.proof_rules.specs.Held.{start_of}
-use Rattle.proof_rules.specs.Refuting.{AllAccepted}
+use Rattle.proof_rules.specs.Refuting.{all_accepted}
 use Rattle.lrat_text.specs.Printing.{cnf_text, lrat_text}
 
 -- what a file may come to hold: the text of the formula, or the text of lines that are accepted in their turn
 abbrev pub IsWholeText : FormulaValue → FileKind → List ℕ → Type 0
 IsWholeText f Cnf text = text ≡ cnf_text f
-IsWholeText f _ text = (lines : List LratLine) × AllAccepted (start_of f) lines × (text ≡ lrat_text lines)
+IsWholeText f _ text = (lines : List LratLine) × (all_accepted (start_of f) lines ≡ true) × (text ≡ lrat_text lines)
 
 -- the file stands there, and begins such a text
 pub record IsBegun (f : FormulaValue) (files : Files) (name : ProofName) : Type 0 where

@@ -1,5 +1,5 @@
 -- Files of formulas and proofs, and what they have to be beside what a search says (this project's own).
-use Rattle.std.specs.Prelude.{◌≡◌, ◌≤◌, ℕ, false, List, [], length, map, All, Some, Ok}
+use Rattle.std.specs.Prelude.{◌≡◌, ◌≤◌, ℕ, false, List, [], length, map, All, Some}
 use Rattle.outer_ports.specs.declared.part.Part.{Part}
 use Rattle.outer_ports.specs.declared.proof_name.FileKind.{FileKind}
 use Rattle.outer_ports.specs.declared.proof_name.FileKind.TheVariants.{Cnf, Lrat, Partial}
@@ -14,7 +14,7 @@ use Rattle.proof_rules.specs.Refuting.{Refutes, SpentLog}
 use Rattle.lrat_text.specs.Printing.{cnf_text}
 use Rattle.candidate_formula.specs.Formulas.{formula_for}
 use Rattle.candidate_formula.specs.Pruned.{is_cut_away}
-use Rattle.candidate_formula.specs.Lines.{lines_of_text}
+use Rattle.candidate_formula.specs.Said.{lines_said}
 
 -- the name of a candidate's file
 abbrev pub file_of : FileKind → Part → Candidate → ProofName
@@ -33,7 +33,7 @@ pub record HoldsLines (files : Files) (name : ProofName) (lines : List LratLine)
   pub bytes : List ℕ
   pub found : files name ≡ Some bytes
   pub short : length bytes ≤ longest_proof
-  pub reads : lines_of_text bytes ≡ Ok lines
+  pub reads : lines_said bytes ≡ Some lines
 
 -- beside a refuted candidate stand its formula and a proof of that formula
 pub record HasRefutation (part : Part) (q : QuestionValue) (files : Files) (x : Candidate) : Type 0 where

@@ -5,6 +5,7 @@ pub mod Questions
 pub mod Searched
 pub mod Counts
 pub mod Lines
+pub mod Said
 pub mod Pruned
 pub mod Files
 pub mod Begun

@@ -1,13 +1,19 @@
 //! Laws of the texts of proof lines.
 
-ghost use Rattle.std.specs.Prelude.{◌≡◌, ◌≤◌, List, Ok, All, length, map};
+ghost use Rattle.std.specs.Prelude.{◌≡◌, ◌↔◌, ◌≤◌, ℕ, List, Ok, Some, All, length, map};
 ghost use Rattle.cnf_formula.specs.Lines.{ProofLineValue};
 ghost use Rattle.cnf_formula.specs.declared.line.LratLine.{LratLine};
 ghost use Rattle.cnf_formula.specs.declared.line.LratLine.TheVariants.{Addition};
 ghost use Rattle.lrat_text.specs.Printing.{lrat_text, IsReadable};
 ghost use Rattle.candidate_formula.specs.Lines.{lines_of_text};
+ghost use Rattle.candidate_formula.specs.Said.{lines_said};
 ghost use Rattle.candidate_formula.specs.Files.{longest_proof};
 ghost use Rattle.candidate_formula.specs.Logs.{IsShortLine, most_lines};
+
+/// The lines that a text says are the same where its faults are told, and where they are not.
+pub fn lines_are_said_without_their_faults()
+    ensures { (bytes : List ℕ) (lines : List LratLine) → (lines_of_text bytes ≡ Ok lines) ↔ (lines_said bytes ≡ Some lines) }
+{}
 
 /// The text of lines whose numbers a reader takes says just these lines.
 pub fn logs_are_read_back()

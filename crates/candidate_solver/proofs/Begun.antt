@@ -74,8 +74,8 @@ written_front f part x before now name text own is others front =
 
 pub none_begun : (f : FormulaValue) (kind : FileKind) (part : Part) (x : Candidate) (now : Files) → kind ≢ Cnf → now (file_of kind part x) ≡ Some [] → IsBegun f now (file_of kind part x)
 none_begun f Cnf part x now apart e = absurd (apart refl)
-none_begun f Lrat part x now apart e = record { bytes = []; rest = []; stands = e; begins = ([], tt, refl) }
-none_begun f Partial part x now apart e = record { bytes = []; rest = []; stands = e; begins = ([], tt, refl) }
+none_begun f Lrat part x now apart e = record { bytes = []; rest = []; stands = e; begins = ([], refl, refl) }
+none_begun f Partial part x now apart e = record { bytes = []; rest = []; stands = e; begins = ([], refl, refl) }
 
 lines_begun : (f : FormulaValue) (kind : FileKind) (part : Part) (x : Candidate) (now : Files) → kind ≢ Cnf → IsLogFront f (now (file_of kind part x)) → IsBegun f now (file_of kind part x)
 lines_begun f Cnf part x now apart b = absurd (apart refl)

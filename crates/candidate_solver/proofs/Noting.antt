@@ -7,6 +7,8 @@ use Rattle.cnf_formula.specs.Lines.{ProofLineValue}
 use Rattle.cnf_formula.specs.declared.line.LratLine.TheVariants.{Addition}
 use Rattle.proof_rules.specs.Refuting.{Exhausted, Refutes}
 use Rattle.proof_rules.proofs.Calm.{never_refuted}
+use Rattle.proof_rules.proofs.Tested.{not_rup}
+use Rattle.ledger_rules.specs.Logs.{checker_of}
 use Rattle.candidate_order.specs.declared.candidate.Candidate.{Candidate}
 use Rattle.candidate_order.specs.declared.outcome.Outcome.{Outcome}
 use Rattle.candidate_order.specs.declared.outcome.Outcome.TheVariants as outcome
@@ -52,7 +54,7 @@ module _ (formula : Candidate → FormulaValue) (entries now : RecordValue) (x :
       (λ e. old y e)
       (λ e.
       let over = proved.unknown (ap (λ p. p.1) e) in
-      subst (λ y. Exhausted (formula y) limit) (ap (λ p. p.0) e) ∣ record { lines = lines; spent = over.spent; not_closed = over.not_closed } ∣₁)
+      subst (λ y. Exhausted (formula y) limit) (ap (λ p. p.0) e) ∣ record { lines = lines; spent = over.spent; not_closed = not_rup (checker_of (formula x) lines) [] over.not_closed } ∣₁)
       (Contains-push_cases entries (x, kind) (y, settled.Unknown) (subst (λ r. Contains r (y, settled.Unknown)) added at))
 
   pub proved_last : (before : RecordValue) (y : Candidate) → now ≡ before ++ (y, settled.Refuted) ∷ [] → Refutes (map Addition lines) (formula y)

@@ -13,7 +13,8 @@ use Rattle.cnf_formula.specs.Lines.{ProofLineValue}
 use Rattle.cnf_formula.specs.declared.line.LratLine.TheVariants.{Addition}
 use Rattle.proof_rules.specs.Held.{Entry, CheckerValue, start_of, clause_at}
 use Rattle.proof_rules.specs.Accepting.{Conflicts, Implied, leading, groups_from}
-use Rattle.proof_rules.specs.Refuting.{AllImplied, with_line}
+use Rattle.proof_rules.specs.Refuting.{with_line}
+use Rattle.proof_rules.specs.Learning.{AllImplied}
 use Rattle.proof_rules.proofs.Verdicts.{implied_by}
 use Rattle.lrat_text.specs.Printing.{lrat_text, IsId, IsHint, IsReadable}
 use Rattle.outer_ports.specs.declared.proof_name.ProofName.{ProofName}
@@ -24,6 +25,7 @@ use Rattle.candidate_formula.specs.Lines.{lines_of_text}
 use Rattle.candidate_formula.specs.Files.{HoldsLines}
 use Rattle.candidate_formula.specs.Logs.{IsShortLine}
 use Rattle.candidate_formula.proofs.ReadBack.{text_says}
+use Rattle.candidate_formula.proofs.Said.{said_exactly}
 use Rattle.candidate_formula.proofs.Short.{log_short}
 use Rattle.conflict_analysis.proofs.Members.{here, cons_cases}
 
@@ -154,5 +156,5 @@ holds_lines f lines files name small few implied numbered short found =
       bytes = log_text lines;
       found = found;
       short = log_short lines read (lines_short lines (start_of f) vars implied (λ k d w. let s = short k d w in omega (arith, s, vars))) few;
-      reads = text_says (map Addition lines) read;
+      reads = (said_exactly (log_text lines) (map Addition lines)).0 (text_says (map Addition lines) read);
     }

@@ -8,7 +8,9 @@ use Rattle.cnf_formula.specs.Formulas.{FormulaValue, Satisfies}
 use Rattle.cnf_formula.specs.Lines.{ProofLineValue}
 use Rattle.cnf_formula.specs.declared.line.LratLine.TheVariants.{Addition}
 use Rattle.proof_rules.specs.Held.{start_of}
-use Rattle.proof_rules.specs.Refuting.{AllImplied, Refutes}
+use Rattle.proof_rules.specs.Refuting.{Refutes}
+use Rattle.proof_rules.specs.Learning.{AllImplied}
+use Rattle.proof_rules.proofs.InTurn.{learned_in_turn}
 use Rattle.lrat_text.specs.Printing.{cnf_text}
 use Rattle.outer_ports.specs.declared.part.Part.{Part}
 use Rattle.outer_ports.specs.declared.proof_name.FileKind.TheVariants.{Cnf, Lrat, Partial}
@@ -103,7 +105,7 @@ has_log q part x f lines said middle now left spent stays =
     let over = left.search.spent spent in
     let count = over.spent.count in
     let limited = left.limited in
-    let all = all_learned lines (start_of f) over.spent.fresh in
+    let all = all_learned lines (start_of f) (learned_in_turn lines (start_of f) over.spent.learned).1 in
     record {
       lines = lines;
       holds = holds_lines f lines now (file_of Partial part x) left.small (omega (arith, count, limited)) left.implied left.search.numbered left.search.short (stays ∙ left.has.log ∙ ap (λ ls. Some (log_text ls)) all);

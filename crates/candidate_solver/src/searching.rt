@@ -8,7 +8,7 @@ ghost use Rattle.candidate_formula.specs.Files.{file_of};
 ghost use Rattle.candidate_solver.specs.inner.Faults.{of_solving};
 ghost use Rattle.candidate_solver.specs.Trying.{BeginsOwn, HasLines, IsSearch};
 ghost use Rattle.proof_rules.specs.Held.{start_of};
-ghost use Rattle.proof_rules.specs.Refuting.{AllImplied};
+ghost use Rattle.proof_rules.specs.Learning.{AllImplied};
 
 use crate::attempt::Found;
 use candidate_order::Candidate;

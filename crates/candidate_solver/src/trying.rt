@@ -3,7 +3,7 @@
 ghost use Rattle.std.specs.Prelude.{◌≡◌, ◌≢◌, Bool, List, IsTrue, IfOk};
 ghost use Rattle.cnf_formula.specs.Formulas.{FormulaValue, Satisfies};
 ghost use Rattle.proof_rules.specs.Held.{start_of};
-ghost use Rattle.proof_rules.specs.Refuting.{AllImplied};
+ghost use Rattle.proof_rules.specs.Learning.{AllImplied};
 ghost use Rattle.outer_ports.specs.Port.{HasCause, Tells};
 ghost use Rattle.round_encoding.specs.Candidates.{IsEncoding};
 ghost use Rattle.candidate_order.specs.Frontiers.{IsWithin};

@@ -10,8 +10,9 @@ use Rattle.cnf_formula.specs.Literals.{LitValue, is_superset}
 use Rattle.cnf_formula.specs.Formulas.{FormulaValue}
 use Rattle.cnf_formula.specs.Lines.{ProofLineValue}
 use Rattle.cnf_formula.specs.declared.line.LratLine.TheVariants.{Addition}
-use Rattle.proof_rules.specs.Held.{Entry, CheckerValue, start_of}
-use Rattle.proof_rules.specs.Refuting.{is_empty, is_fresh, with_line, after, AllImplied}
+use Rattle.proof_rules.specs.Held.{Entry, CheckerValue, start_of, is_empty}
+use Rattle.proof_rules.specs.Refuting.{is_fresh, with_line, after}
+use Rattle.proof_rules.specs.Learning.{AllImplied}
 use Rattle.text_lines.specs.Text.{line as text_line}
 use Rattle.lrat_text.specs.Printing.{line_words}
 use Rattle.outer_ports.specs.declared.proof_name.ProofName.{ProofName}

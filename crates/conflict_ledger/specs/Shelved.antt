@@ -5,7 +5,7 @@ use Rattle.cnf_formula.specs.Formulas.{FormulaValue}
 use Rattle.cnf_formula.specs.Lines.{ProofLineValue}
 use Rattle.cnf_formula.specs.declared.line.LratLine.TheVariants.{Addition}
 use Rattle.proof_rules.specs.Held.{start_of}
-use Rattle.proof_rules.specs.Refuting.{AllImplied}
+use Rattle.proof_rules.specs.Learning.{AllImplied}
 use Rattle.lrat_text.specs.Printing.{lrat_text}
 use Rattle.outer_ports.specs.declared.part.Part.{Part}
 use Rattle.outer_ports.specs.declared.proof_name.FileKind.{FileKind}

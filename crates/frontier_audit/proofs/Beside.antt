@@ -14,7 +14,7 @@ use Rattle.candidate_order.specs.declared.candidate.Candidate.{Candidate}
 use Rattle.candidate_order.specs.Frontiers.{QuestionValue, UnknownValue}
 use Rattle.frontier_audit.specs.declared.verdict.Reason.TheVariants.{ProofMissing, ProofRefused, CnfDiffers, PartialRefused}
 use Rattle.frontier_audit.specs.Denials.{Denial, Checked}
-use Rattle.candidate_formula.specs.Lines.{lines_of_text}
+use Rattle.candidate_formula.specs.Said.{lines_said}
 use Rattle.candidate_formula.specs.Formulas.{formula_for}
 use Rattle.candidate_formula.specs.Files.{file_of, longest_proof, HasRefutation, HasLog}
 use Rattle.proof_audit.specs.Proving.{do_refute, do_spend, is_refutation, is_spent_log}
@@ -58,8 +58,8 @@ passes_beside cnf lrat f x b =
 pub has_refutation : (part : Part) (q : QuestionValue) (files : Files) (x : Candidate) → refutation_checked part q files x ≡ Ok tt → HasRefutation part q files x
 has_refutation part q files x e =
     let b = beside (files (file_of Cnf part x)) (files (file_of Lrat part x)) (formula_for q x) x e in
-    let parts = and_parts (nat_le (length b.proof) longest_proof) (do_refute (formula_for q x) (lines_of_text b.proof)) b.refutes in
-    let (lines, reads, refutes) = refutes_by (formula_for q x) (lines_of_text b.proof) parts.1 in
+    let parts = and_parts (nat_le (length b.proof) longest_proof) (do_refute (formula_for q x) (lines_said b.proof)) b.refutes in
+    let (lines, reads, refutes) = refutes_by (formula_for q x) (lines_said b.proof) parts.1 in
     record {
       formula = b.formula;
       lines = lines;
@@ -74,9 +74,9 @@ passes_refutation part q files x h =
       formula = h.formula;
       proof = h.holds.bytes;
       there = h.holds.found;
-      refutes = and_from (nat_le (length h.holds.bytes) longest_proof) (do_refute (formula_for q x) (lines_of_text h.holds.bytes))
+      refutes = and_from (nat_le (length h.holds.bytes) longest_proof) (do_refute (formula_for q x) (lines_said h.holds.bytes))
           (le-leb (length h.holds.bytes) longest_proof h.holds.short)
-          (by_refuting (formula_for q x) (lines_of_text h.holds.bytes) h.lines h.holds.reads h.refutes);
+          (by_refuting (formula_for q x) (lines_said h.holds.bytes) h.lines h.holds.reads h.refutes);
     })
 
 -- ---- an unknown candidate
@@ -85,12 +85,12 @@ pub has_log_of : (part : Part) (q : QuestionValue) (files : Files) (u : UnknownV
 has_log_of part q files u same e =
     let f = formula_for q u.candidate in
     let (log, there, last) = need_ok (files (file_of Partial part u.candidate)) (ProofMissing, u.candidate) (λ bytes. refuse (not (is_spent_log f u.conflicts bytes)) (PartialRefused, u.candidate)) tt e in
-    let parts = and_parts (nat_le (length log) longest_proof) (do_spend f u.conflicts (lines_of_text log)) (refused_not (is_spent_log f u.conflicts log) (PartialRefused, u.candidate) last) in
-    let by = spent_by f u.conflicts (lines_of_text log) parts.1 in
+    let parts = and_parts (nat_le (length log) longest_proof) (do_spend f u.conflicts (lines_said log)) (refused_not (is_spent_log f u.conflicts log) (PartialRefused, u.candidate) last) in
+    let by = spent_by f u.conflicts (lines_said log) parts.1 in
     record {
       lines = by.added;
       holds = record { bytes = log; found = there; short = leb-true (length log) longest_proof parts.0; reads = by.says };
-      spent = record { count = by.spent.count ∙ same; implied = by.spent.implied; fresh = by.spent.fresh };
+      spent = record { count = by.spent.count ∙ same; learned = by.spent.learned };
     }
 
 pub passes_log : (part : Part) (q : QuestionValue) (files : Files) (u : UnknownValue) → u.conflicts ≡ q.limits.conflicts → HasLog part q files u → unknown_checked part q files u ≡ Ok tt
@@ -98,6 +98,6 @@ passes_log part q files u same h =
     let f = formula_for q u.candidate in
     needs (files (file_of Partial part u.candidate)) (ProofMissing, u.candidate) (λ bytes. refuse (not (is_spent_log f u.conflicts bytes)) (PartialRefused, u.candidate)) h.holds.bytes h.holds.found
     (not_refused (is_spent_log f u.conflicts h.holds.bytes) (PartialRefused, u.candidate)
-    (and_from (nat_le (length h.holds.bytes) longest_proof) (do_spend f u.conflicts (lines_of_text h.holds.bytes))
+    (and_from (nat_le (length h.holds.bytes) longest_proof) (do_spend f u.conflicts (lines_said h.holds.bytes))
     (le-leb (length h.holds.bytes) longest_proof h.holds.short)
-    (by_spending f u.conflicts (lines_of_text h.holds.bytes) h.lines h.holds.reads (record { count = h.spent.count ∙ sym same; implied = h.spent.implied; fresh = h.spent.fresh }))))
+    (by_spending f u.conflicts (lines_said h.holds.bytes) h.lines h.holds.reads (record { count = h.spent.count ∙ sym same; learned = h.spent.learned }))))

@@ -8,6 +8,8 @@ use Rattle.schedule.specs.Links.{TopologyValue}
 use Rattle.collective_spec.specs.declared.spec.Spec.{Spec}
 use Rattle.cnf_formula.specs.Formulas.{FormulaValue}
 use Rattle.proof_rules.specs.Refuting.{Exhausted}
+use Rattle.proof_rules.proofs.Tested.{not_rup}
+use Rattle.ledger_rules.specs.Logs.{checker_of}
 use Rattle.candidate_order.specs.declared.candidate.Candidate.{Candidate}
 use Rattle.candidate_order.specs.Ranges.{LimitsValue}
 use Rattle.candidate_formula.specs.Questions.{copying_question}
@@ -150,4 +152,4 @@ exhausted_by f lines limit out kind is said same =
     let unknown = unknown_kind out (sym is ∙ same) in
     let over = said unknown.0 unknown.1 in
     let spent = subst (SpentOn f lines) over.0 over.1 in
-    ∣ record { lines = lines; spent = spent.spent; not_closed = spent.not_closed } ∣₁
+    ∣ record { lines = lines; spent = spent.spent; not_closed = not_rup (checker_of f lines) [] spent.not_closed } ∣₁

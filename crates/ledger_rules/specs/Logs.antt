@@ -3,8 +3,8 @@ use Rattle.std.specs.Prelude.{List, map, filter, not}
 use Rattle.cnf_formula.specs.Formulas.{FormulaValue}
 use Rattle.cnf_formula.specs.Lines.{ProofLineValue}
 use Rattle.cnf_formula.specs.declared.line.LratLine.TheVariants.{Addition}
-use Rattle.proof_rules.specs.Held.{CheckerValue, start_of}
-use Rattle.proof_rules.specs.Refuting.{is_empty, after}
+use Rattle.proof_rules.specs.Held.{CheckerValue, start_of, is_empty}
+use Rattle.proof_rules.specs.Refuting.{after}
 
 -- the checker that has accepted these lines, which are all additions
 abbrev pub checker_of : FormulaValue → List ProofLineValue → CheckerValue

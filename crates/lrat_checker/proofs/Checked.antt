@@ -10,13 +10,14 @@ use Rattle.cnf_formula.specs.declared.line.LratLine.TheVariants.{Addition, Delet
 use Rattle.proof_rules.specs.declared.verdict.LineVerdict.{LineVerdict}
 use Rattle.proof_rules.specs.declared.verdict.LineVerdict.TheVariants.{Accepted, Refused}
 use Rattle.proof_rules.specs.declared.verdict.LineCode.TheVariants.{IdNotGreater, VariableRange, VariableTwice}
-use Rattle.proof_rules.specs.Held.{Entry, CheckerValue}
-use Rattle.proof_rules.specs.Judging.{verdict_of, deletion_verdict, are_held, has_number_twice, is_foreign, has_variable_twice, led_verdict}
+use Rattle.proof_rules.specs.Held.{Entry, CheckerValue, is_empty}
+use Rattle.proof_rules.specs.Testing.{are_held, has_number_twice}
+use Rattle.proof_rules.specs.Judging.{verdict_of, deletion_verdict, is_foreign, has_variable_twice, led_verdict, is_accepted}
 use Rattle.proof_rules.specs.Accepting.{IsNew}
 use Rattle.lrat_checker.specs.inner.Marking.{MarksValue}
 use Rattle.lrat_checker.specs.Stored.{TableValue}
 use Rattle.lrat_checker.specs.Checking.{checker_of, CanCheck}
-use Rattle.proof_rules.specs.Refuting.{is_accepted, is_empty, with_line, IsChecker}
+use Rattle.proof_rules.specs.Refuting.{with_line, IsChecker}
 use Rattle.proof_rules.proofs.Kept.{stays_checker}
 use Rattle.proof_rules.proofs.Verdicts.{implied_by, redundant_by}
 

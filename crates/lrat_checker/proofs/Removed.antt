@@ -7,7 +7,7 @@ use Rattle.std.proofs.lemmas.Bool.{false≢true, eqb-true, cases_eq, and_cases, 
 use Rattle.std.proofs.lemmas.List.{length-set, get_or-set_same, get_or-set_other, get_or_default, same_lists, drop_more, take_more, take-append-drop}
 use Rattle.std.proofs.lemmas.List.Elements.{All-head, All-tail}
 use Rattle.cnf_formula.specs.Literals.{LitValue}
-use Rattle.proof_rules.specs.Judging.{has_number_twice, are_held}
+use Rattle.proof_rules.specs.Testing.{has_number_twice, are_held}
 use Rattle.lrat_checker.specs.Stored.{held_of, is_live, kept_live, Rises}
 use Rattle.lrat_checker.proofs.Placed.{Others, rises_tail, head_below, others_above}
 

@@ -4,7 +4,7 @@ ghost use Rattle.std.specs.Prelude.{◌≡◌, ◌||◌, not, [], IfOk, OnOk};
 ghost use Rattle.std.specs.List.{list_any};
 ghost use Rattle.cnf_formula.specs.Literals.{is_superset};
 ghost use Rattle.cnf_formula.specs.Formulas.{IsClause};
-ghost use Rattle.proof_rules.specs.Refuting.{is_empty};
+ghost use Rattle.proof_rules.specs.Held.{is_empty};
 
 use crate::marks::Marks;
 use crate::table::ClauseTable;

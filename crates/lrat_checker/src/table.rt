@@ -7,7 +7,7 @@ ghost use Rattle.std.specs.Option.{option_copied};
 ghost use Rattle.cnf_formula.specs.Literals.{LitValue, code_of, has_literal, is_superset};
 ghost use Rattle.cnf_formula.specs.Formulas.{IsAbout, IsClause};
 ghost use Rattle.proof_rules.specs.Held.{clause_at};
-ghost use Rattle.proof_rules.specs.Judging.{are_held, has_number_twice};
+ghost use Rattle.proof_rules.specs.Testing.{are_held, has_number_twice};
 ghost use Rattle.proof_rules.specs.Accepting.{Group, is_made_true, without_negated};
 ghost use Rattle.lrat_checker.specs.Stored.{TableValue, HasForgotten, Rises, list_at, is_live, kept_live, answers};
 ghost use Rattle.lrat_checker.specs.inner.Steps.{Names};

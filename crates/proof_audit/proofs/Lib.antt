@@ -5,4 +5,5 @@ pub mod Saying
 pub mod Whole
 pub mod Verdicts
 pub mod Standing
+pub mod Turns
 pub mod Keeping

@@ -11,7 +11,7 @@ use Rattle.candidate_order.specs.declared.candidate.Candidate.{Candidate}
 use Rattle.candidate_order.specs.Frontiers.{QuestionValue}
 use Rattle.candidate_formula.specs.Files.{file_of, longest_proof, HasRefutation}
 use Rattle.candidate_formula.specs.Formulas.{formula_for}
-use Rattle.candidate_formula.specs.Lines.{lines_of_text}
+use Rattle.candidate_formula.specs.Said.{lines_said}
 use Rattle.proof_audit.specs.declared.verdict.FileVerdict.TheVariants.{Refused, Stands}
 use Rattle.proof_audit.specs.Files.{file_verdict}
 use Rattle.proof_audit.specs.Proving.{do_refute, is_refutation}
@@ -43,8 +43,8 @@ standing_refute part q files x =
       λ both.
           let text = passes is_text (files (file_of Cnf part x)) both.0 in
           let proof = passes (is_refutation f) (files (file_of Lrat part x)) both.1 in
-          let parts = and_parts (nat_le (length proof.bytes) longest_proof) (do_refute f (lines_of_text proof.bytes)) proof.pass in
-          let (lines, reads, refutes) = refutes_by f (lines_of_text proof.bytes) parts.1 in
+          let parts = and_parts (nat_le (length proof.bytes) longest_proof) (do_refute f (lines_said proof.bytes)) proof.pass in
+          let (lines, reads, refutes) = refutes_by f (lines_said proof.bytes) parts.1 in
           record {
             formula = text.found ∙ ap (λ b. Some b) ((bytes_eq-Decides text.bytes (cnf_text f)).0 text.pass);
             lines = lines;
@@ -54,8 +54,8 @@ standing_refute part q files x =
       λ h. (
         stands is_text (files (file_of Cnf part x)) (cnf_text f) h.formula ((bytes_eq-Decides (cnf_text f) (cnf_text f)).1 refl),
         stands (is_refutation f) (files (file_of Lrat part x)) h.holds.bytes h.holds.found
-            (and_from (nat_le (length h.holds.bytes) longest_proof) (do_refute f (lines_of_text h.holds.bytes))
+            (and_from (nat_le (length h.holds.bytes) longest_proof) (do_refute f (lines_said h.holds.bytes))
             (le-leb (length h.holds.bytes) longest_proof h.holds.short)
-            (by_refuting f (lines_of_text h.holds.bytes) h.lines h.holds.reads h.refutes)),
+            (by_refuting f (lines_said h.holds.bytes) h.lines h.holds.reads h.refutes)),
       ),
     )

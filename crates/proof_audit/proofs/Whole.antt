@@ -9,14 +9,18 @@ use Rattle.proof_rules.proofs.Calm.{never_refuted}
 use Rattle.lrat_text.specs.declared.fault.LratTextFault.{LratTextFault}
 use Rattle.lrat_text.specs.Reading.{new_reader}
 use Rattle.candidate_formula.specs.Lines.{lines_of_text}
+use Rattle.candidate_formula.specs.Said.{lines_said}
+use Rattle.candidate_formula.proofs.Said.{plain, said_plain}
 use Rattle.candidate_formula.specs.Files.{longest_proof}
 use Rattle.proof_audit.specs.declared.fault.AuditFault.{AuditFault}
 use Rattle.proof_audit.specs.declared.verdict.FileVerdict.{FileVerdict}
 use Rattle.proof_audit.specs.declared.verdict.FileVerdict.TheVariants.{Stands, Refused}
-use Rattle.proof_audit.specs.Proving.{is_refuted, checker_after, do_refute, is_refutation, are_learned, do_spend, is_spent_log}
+use Rattle.proof_audit.specs.Proving.{do_refute, is_refutation, do_spend, is_spent_log}
 use Rattle.proof_audit.specs.Files.{file_verdict, short_and, SomePass, HasSpentLog}
 use Rattle.proof_audit.specs.inner.Lines.{left_says, lines_pass}
+use Rattle.proof_audit.specs.inner.Turns.{checker_after, is_refuted, are_taken}
 use Rattle.proof_audit.proofs.Proved.{refutes_by, spent_by}
+use Rattle.proof_audit.proofs.Turns.{same_refuting, same_learning}
 
 -- ---- tests that agree
 
@@ -36,29 +40,29 @@ module _ (test other : List ℕ → Bool) (same : (bytes : List ℕ) → test by
 
 module _ (f : FormulaValue) (passes : List ℕ → Bool) (test : List LratLine → Bool) (by_lines : (bytes : List ℕ) → passes bytes ≡ lines_pass test (left_says new_reader bytes)) where
   pub refutation_is : ((lines : List LratLine) → test lines ≡ is_refuted (checker_after (start_of f) lines)) → (bytes : List ℕ) → short_and longest_proof passes bytes ≡ is_refutation f bytes
-  refutation_is refutes bytes = ap (λ b. nat_le (length bytes) longest_proof && b) (by_lines bytes ∙ go (lines_of_text bytes))
+  refutation_is refutes bytes = ap (λ b. nat_le (length bytes) longest_proof && b) (by_lines bytes ∙ (go (lines_of_text bytes) ∙ ap (do_refute f) (said_plain bytes)))
     where
-      go : (said : Result (List LratLine) LratTextFault) → lines_pass test said ≡ do_refute f said
-      go (Ok lines) = refutes lines
+      go : (said : Result (List LratLine) LratTextFault) → lines_pass test said ≡ do_refute f (plain said)
+      go (Ok lines) = refutes lines ∙ same_refuting (start_of f) lines
       go (Err fault) = refl
 
-  pub log_is : (n : ℕ) → ((lines : List LratLine) → test lines ≡ (length lines == n && are_learned (start_of f) lines)) → (bytes : List ℕ) → short_and longest_proof passes bytes ≡ is_spent_log f n bytes
-  log_is n learned bytes = ap (λ b. nat_le (length bytes) longest_proof && b) (by_lines bytes ∙ go (lines_of_text bytes))
+  pub log_is : (n : ℕ) → ((lines : List LratLine) → test lines ≡ (length lines == n && are_taken (start_of f) lines)) → (bytes : List ℕ) → short_and longest_proof passes bytes ≡ is_spent_log f n bytes
+  log_is n learned bytes = ap (λ b. nat_le (length bytes) longest_proof && b) (by_lines bytes ∙ (go (lines_of_text bytes) ∙ ap (do_spend f n) (said_plain bytes)))
     where
-      go : (said : Result (List LratLine) LratTextFault) → lines_pass test said ≡ do_spend f n said
-      go (Ok lines) = learned lines
+      go : (said : Result (List LratLine) LratTextFault) → lines_pass test said ≡ do_spend f n (plain said)
+      go (Ok lines) = learned lines ∙ ap (λ b. length lines == n && b) (same_learning (start_of f) lines)
       go (Err fault) = refl
 
 -- bytes that refute a formula leave it no satisfying assignment
 pub never_satisfied : (f : FormulaValue) → SomePass (is_refutation f) → Satisfiable f → ⊥
 never_satisfied f some s =
-    let parts = and_parts (nat_le (length some.bytes) longest_proof) (do_refute f (lines_of_text some.bytes)) some.pass in
-    let (lines, says, refutes) = refutes_by f (lines_of_text some.bytes) parts.1 in
+    let parts = and_parts (nat_le (length some.bytes) longest_proof) (do_refute f (lines_said some.bytes)) some.pass in
+    let (lines, says, refutes) = refutes_by f (lines_said some.bytes) parts.1 in
     never_refuted f lines s refutes
 
 -- bytes that are a log give one
 pub has_log : (f : FormulaValue) (n : ℕ) → SomePass (is_spent_log f n) → HasSpentLog f n
 has_log f n some =
-    let parts = and_parts (nat_le (length some.bytes) longest_proof) (do_spend f n (lines_of_text some.bytes)) some.pass in
-    let by = spent_by f n (lines_of_text some.bytes) parts.1 in
+    let parts = and_parts (nat_le (length some.bytes) longest_proof) (do_spend f n (lines_said some.bytes)) some.pass in
+    let by = spent_by f n (lines_said some.bytes) parts.1 in
     ∣ record { lines = by.added; spent = by.spent } ∣₁

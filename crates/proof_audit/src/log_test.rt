@@ -3,9 +3,9 @@
 ghost use Rattle.std.specs.Prelude.{◌≡◌, ◌==◌, ◌&&◌, ◌⊎◌, ◌+◌, true, false, Ok, IfOk, List, length};
 ghost use Rattle.cnf_formula.specs.declared.line.LratLine.{LratLine};
 ghost use Rattle.proof_rules.specs.Held.{start_of};
-ghost use Rattle.proof_rules.specs.Judging.{verdict_of};
-ghost use Rattle.proof_rules.specs.Refuting.{is_implied, is_fresh, with_line};
-ghost use Rattle.proof_audit.specs.Proving.{are_learned};
+ghost use Rattle.proof_rules.specs.Judging.{verdict_of, is_implied};
+ghost use Rattle.proof_rules.specs.Refuting.{is_fresh, with_line};
+ghost use Rattle.proof_audit.specs.inner.Turns.{are_taken};
 
 use crate::line_test::LineTest;
 use cnf_formula::{Formula, LratLine, OutOfMemory, ProofLine};
@@ -23,7 +23,7 @@ pub(crate) struct LogTest {
 impl LogTest {
     /// A test that took no line, of so many. An `Err` comes only where memory runs out.
     pub(crate) fn new(alloc: Global, formula: &Formula, count: u32) -> Result<LogTest, OutOfMemory>
-        ensures { IfOk result (λ test. (lines : List LratLine) → ⟦<LogTest as LineTest>⟧.passes test lines ≡ (length lines == count && are_learned (start_of formula.now) lines)) }
+        ensures { IfOk result (λ test. (lines : List LratLine) → ⟦<LogTest as LineTest>⟧.passes test lines ≡ (length lines == count && are_taken (start_of formula.now) lines)) }
     {
         Ok(LogTest {
             checker: Checker::new(alloc, formula)?,
@@ -45,7 +45,7 @@ impl LogTest {
 }
 
 impl LineTest for LogTest {
-    ghost passes = { λ test lines. length lines == test.left && are_learned test.checker lines };
+    ghost passes = { λ test lines. length lines == test.left && are_taken test.checker lines };
 
     fn take(&mut self, line: LratLine) -> Result<bool, OutOfMemory> {
         match line {

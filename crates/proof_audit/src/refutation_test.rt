@@ -3,7 +3,7 @@
 ghost use Rattle.std.specs.Prelude.{◌≡◌, IfOk, List};
 ghost use Rattle.cnf_formula.specs.declared.line.LratLine.{LratLine};
 ghost use Rattle.proof_rules.specs.Held.{start_of};
-ghost use Rattle.proof_audit.specs.Proving.{is_refuted, checker_after};
+ghost use Rattle.proof_audit.specs.inner.Turns.{is_refuted, checker_after};
 
 use crate::line_test::LineTest;
 use cnf_formula::{Formula, LratLine, OutOfMemory};

@@ -1,25 +1,22 @@
 -- Where some assignment satisfies a formula, some assignment satisfies all that is held after any accepted lines, and none of them refutes it.
 use Rattle.std.proofs.Common.{◌≡◌, ℕ, ◌+◌, ◌≤◌, max, Bool, true, false, List, [], ◌∷◌, ◌++◌, length, get_or, refl, sym, ap, ◌∙◌, subst, ⊎_elim, arith}
-use Rattle.std.specs.Prelude.{◌==◌, not, All}
+use Rattle.std.specs.Prelude.{◌==◌, ◌||◌, not, All}
 use Rattle.std.specs.List.{list_any, enumerate_from}
-use Rattle.std.proofs.lemmas.Bool.{false≢true, and_parts, or_from, cases_Bool}
+use Rattle.std.proofs.lemmas.Bool.{false≢true, and_parts, or_from, or_cases, or_left, cases_Bool}
 use Rattle.std.proofs.lemmas.List.Elements.{All-nil, All-cons, All-push, All-filter}
 use Rattle.cnf_formula.specs.Literals.{LitValue, same_literal, has_literal, value_of, all_hold, clause_holds}
 use Rattle.cnf_formula.specs.Formulas.{FormulaValue, Satisfiable}
 use Rattle.cnf_formula.specs.Lines.{ProofLineValue}
 use Rattle.cnf_formula.specs.declared.line.LratLine.{LratLine}
 use Rattle.cnf_formula.specs.declared.line.LratLine.TheVariants.{Addition, Deletion}
-use Rattle.proof_rules.specs.declared.verdict.LineVerdict.{LineVerdict}
-use Rattle.proof_rules.specs.declared.verdict.LineVerdict.TheVariants.{Accepted as AcceptedVerdict, Refused}
-use Rattle.proof_rules.specs.Held.{CheckerValue, start_of}
-use Rattle.proof_rules.specs.Judging.{verdict_of}
+use Rattle.proof_rules.specs.Held.{CheckerValue, start_of, is_empty}
+use Rattle.proof_rules.specs.Testing.{is_rup, is_rat, accepts}
 use Rattle.proof_rules.specs.Accepting.{Implied, Redundant, groups_of, leading, IsNew}
-use Rattle.proof_rules.specs.Refuting.{is_empty, is_accepted, verdict_on, with_line, with_accepted, AllAccepted, after, IsChecker, Refutes}
-use Rattle.proof_rules.proofs.Verdicts.{implied_by, redundant_by}
+use Rattle.proof_rules.specs.Refuting.{with_line, with_accepted, all_accepted, after, IsChecker, Refutes}
+use Rattle.proof_rules.proofs.Tested.{rup_by, rat_by}
 use Rattle.proof_rules.proofs.Sound.{none_any, is_so, holds, Holds, no_conflict, still_untrue, turned, own_holds, entry_holds}
 use Rattle.proof_rules.proofs.Taking.{same_itself}
 use Rattle.proof_rules.proofs.Numbered.{Numbered, start_numbered, more_numbered, fewer_numbered}
-use Rattle.std.proofs.lemmas.Bool.{or_left}
 
 -- all that is held can be satisfied together, each by its number, and nothing was refuted
 pub record Calm (c : CheckerValue) : Type 0 where
@@ -64,13 +61,8 @@ by_redundant_line c line r q =
     with_clause c line w r.new q all (ap (holds w) r.first ∙ own))
     (cases_Bool (holds v line.lits))
 
-stays_calm : (c : CheckerValue) (line : LratLine) → is_accepted (verdict_on c line) ≡ true → Calm c → Calm (with_accepted c line)
-stays_calm c (Addition line) h q = go (verdict_of c line) refl h
-  where
-    go : (v : LineVerdict) → verdict_of c line ≡ v → is_accepted v ≡ true → Calm (with_line c line)
-    go (AcceptedVerdict true) e a = by_implied_line c line (implied_by c line e) q
-    go (AcceptedVerdict false) e a = by_redundant_line c line (redundant_by c line e) q
-    go (Refused code hint) e a = absurd (false≢true a)
+stays_calm : (c : CheckerValue) (line : LratLine) → accepts c line ≡ true → Calm c → Calm (with_accepted c line)
+stays_calm c (Addition line) h q = ⊎_elim (λ r. by_implied_line c line (rup_by c line r) q) (λ r. by_redundant_line c line (rat_by c line r) q) (or_cases (is_rup c line) (is_rat c line) h)
 stays_calm c (Deletion deletion) h q =
     let stays : ℕ → Bool = λ id. not (list_any (λ other. other == id) deletion.ids) in
     record {
@@ -80,9 +72,11 @@ stays_calm c (Deletion deletion) h q =
       numbered = fewer_numbered stays c.held (max (length c.formula.clauses) c.greatest + 1) q.numbered;
     }
 
-pub all_calm : (lines : List LratLine) (c : CheckerValue) → AllAccepted c lines → Calm c → Calm (after c lines)
+pub all_calm : (lines : List LratLine) (c : CheckerValue) → all_accepted c lines ≡ true → Calm c → Calm (after c lines)
 all_calm [] c a q = q
-all_calm (line ∷ lines) c a q = all_calm lines (with_accepted c line) a.1 (stays_calm c line a.0 q)
+all_calm (line ∷ lines) c a q =
+    let parts = and_parts (accepts c line) (all_accepted (with_accepted c line) lines) a in
+    all_calm lines (with_accepted c line) parts.1 (stays_calm c line parts.0 q)
 
 start_holds : (values : List Bool) (clauses : List (List LitValue)) (n : ℕ) → all_hold values clauses ≡ true → All (Holds (value_of values)) (enumerate_from n clauses)
 start_holds values [] n h = All-nil (Holds (value_of values))

@@ -1,11 +1,17 @@
 -- Additions that follow from what is held, each in its turn: one line more, and what they are among all lines.
-use Rattle.std.proofs.Common.{◌≡◌, true, List, [], ◌∷◌, ◌++◌, map, refl, ap}
+use Rattle.std.proofs.Common.{◌≡◌, true, List, [], ◌∷◌, ◌++◌, map, refl, sym, ap, ◌∙◌}
+use Rattle.std.specs.Prelude.{◌↔◌, ◌&&◌}
+use Rattle.std.proofs.lemmas.Bool.{and_parts, and_from}
 use Rattle.cnf_formula.specs.Lines.{ProofLineValue}
 use Rattle.cnf_formula.specs.declared.line.LratLine.TheVariants.{Addition}
 use Rattle.proof_rules.specs.declared.verdict.LineVerdict.TheVariants.{Accepted}
 use Rattle.proof_rules.specs.Held.{CheckerValue}
-use Rattle.proof_rules.specs.Judging.{verdict_of}
-use Rattle.proof_rules.specs.Refuting.{AllAccepted, AllImplied, after, is_accepted, with_line}
+use Rattle.proof_rules.specs.Testing.{is_rup, accepts}
+use Rattle.proof_rules.specs.Judging.{verdict_of, is_accepted}
+use Rattle.proof_rules.specs.Refuting.{all_accepted, after, with_line, is_fresh, are_learned}
+use Rattle.proof_rules.specs.Learning.{AllImplied, AllFresh}
+use Rattle.proof_rules.proofs.Verdicts.{implied_by, by_implied}
+use Rattle.proof_rules.proofs.Tested.{rup_by, by_rup, acceptance_said}
 
 -- the checker after one line more
 pub after_more : (lines : List ProofLineValue) (c : CheckerValue) (line : ProofLineValue) → after c (map Addition (lines ++ line ∷ [])) ≡ with_line (after c (map Addition lines)) line
@@ -17,6 +23,26 @@ implied_more [] c line all last = (last, tt)
 implied_more (l ∷ lines) c line all last = (all.0, implied_more lines (with_line c l) line all.1 last)
 
 -- lines that follow are accepted
-pub implied_accepted : (lines : List ProofLineValue) (c : CheckerValue) → AllImplied c lines → AllAccepted c (map Addition lines)
-implied_accepted [] c all = tt
-implied_accepted (l ∷ lines) c all = (ap is_accepted all.0, implied_accepted lines (with_line c l) all.1)
+pub implied_accepted : (lines : List ProofLineValue) (c : CheckerValue) → AllImplied c lines → all_accepted c (map Addition lines) ≡ true
+implied_accepted [] c all = refl
+implied_accepted (l ∷ lines) c all =
+    and_from (accepts c (Addition l)) (all_accepted (with_line c l) (map Addition lines)) (acceptance_said c (Addition l) ∙ ap is_accepted all.0) (implied_accepted lines (with_line c l) all.1)
+
+-- lines are learned where each follows and is fresh
+pub are_learned_by : (lines : List ProofLineValue) (c : CheckerValue) → AllImplied c lines → AllFresh c lines → are_learned c (map Addition lines) ≡ true
+are_learned_by [] c all fresh = refl
+are_learned_by (l ∷ lines) c all fresh =
+    and_from (is_rup c l && is_fresh c l.lits) (are_learned (with_line c l) (map Addition lines))
+    (and_from (is_rup c l) (is_fresh c l.lits) (by_rup c l (implied_by c l all.0)) fresh.0)
+    (are_learned_by lines (with_line c l) all.1 fresh.1)
+
+pub learned_in_turn : (lines : List ProofLineValue) (c : CheckerValue) → are_learned c (map Addition lines) ≡ true → AllImplied c lines × AllFresh c lines
+learned_in_turn [] c h = (tt, tt)
+learned_in_turn (l ∷ lines) c h =
+    let outer = and_parts (is_rup c l && is_fresh c l.lits) (are_learned (with_line c l) (map Addition lines)) h in
+    let inner = and_parts (is_rup c l) (is_fresh c l.lits) outer.0 in
+    let rest = learned_in_turn lines (with_line c l) outer.1 in
+    ((by_implied c l (rup_by c l inner.0), rest.0), (inner.1, rest.1))
+
+pub learned_exactly : (c : CheckerValue) (lines : List ProofLineValue) → (AllImplied c lines × AllFresh c lines) ↔ (are_learned c (map Addition lines) ≡ true)
+learned_exactly c lines = (λ both. are_learned_by lines c both.0 both.1, λ h. learned_in_turn lines c h)

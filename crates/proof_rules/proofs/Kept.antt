@@ -1,8 +1,8 @@
 -- What is held stays held under more additions, and so does a conflict.
 use Rattle.std.proofs.Common.{ap, sym, ◌∙◌, ◌≡◌, ℕ, suc, max, List, [], ◌∷◌, ◌++◌, length, Some, refl, subst, ⊎_elim, arith}
 use Rattle.std.proofs.Math.Logic.{∥∥₁_elim}
-use Rattle.std.specs.Prelude.{◌==◌, true, map}
-use Rattle.std.proofs.lemmas.Bool.{cases_Bool}
+use Rattle.std.specs.Prelude.{◌==◌, ◌&&◌, true, map}
+use Rattle.std.proofs.lemmas.Bool.{cases_Bool, and_parts, and_from}
 use Rattle.std.proofs.lemmas.List.Elements.{All-nil}
 use Rattle.cnf_formula.specs.Literals.{LitValue, negation}
 use Rattle.cnf_formula.specs.Formulas.{FormulaValue, IsAbout}
@@ -11,10 +11,12 @@ use Rattle.cnf_formula.specs.declared.line.LratLine.{LratLine}
 use Rattle.cnf_formula.specs.declared.line.LratLine.TheVariants.{Addition, Deletion}
 use Rattle.proof_rules.specs.declared.verdict.LineVerdict.TheVariants.{Accepted as AcceptedVerdict}
 use Rattle.proof_rules.specs.Held.{Entry, CheckerValue, start_of, clause_at}
-use Rattle.proof_rules.specs.Judging.{verdict_of}
+use Rattle.proof_rules.specs.Testing.{accepts}
+use Rattle.proof_rules.specs.Judging.{verdict_of, is_accepted, verdict_on}
 use Rattle.proof_rules.specs.Accepting.{Conflicts, Implied, leading}
-use Rattle.proof_rules.specs.Refuting.{with_line, is_accepted, verdict_on, with_accepted, AllAccepted, after, IsChecker, Exhaustion, Exhausted}
-use Rattle.proof_rules.proofs.Verdicts.{implied_by, by_implied}
+use Rattle.proof_rules.specs.Refuting.{with_line, with_accepted, all_accepted, after, IsChecker, Exhaustion, Exhausted}
+use Rattle.proof_rules.proofs.Verdicts.{implied_by}
+use Rattle.proof_rules.proofs.Tested.{by_rup, acceptance_said}
 
 abbrev pub Keeps : List Entry → List Entry → Type 0
 Keeps held more = (id : ℕ) (clause : List LitValue) → clause_at held id ≡ Some clause → clause_at more id ≡ Some clause
@@ -56,23 +58,25 @@ no_exhaustion f line n e v x =
       no_groups = i.no_groups;
       conflict = conflict_kept (start_of f).held end.held (additions_keep x.lines (start_of f)) [] (leading line.hints) conflict;
     } in
-    x.not_closed again refl (by_implied end again implied)
+    x.not_closed again refl (by_rup end again implied)
 
 pub never_exhausted : (f : FormulaValue) (line : ProofLineValue) (n : ℕ) → line.lits ≡ [] → verdict_of (start_of f) line ≡ AcceptedVerdict true → Exhausted f n → ⊥
 never_exhausted f line n e v x = ∥∥₁_elim x (λ a b. absurd a) (no_exhaustion f line n e v)
 
 -- ---- checkers
 
-more_accepted : (lines : List LratLine) (c : CheckerValue) (line : LratLine) → AllAccepted c lines → is_accepted (verdict_on (after c lines) line) ≡ true → AllAccepted c (lines ++ line ∷ [])
-more_accepted [] c line a v = (v, tt)
-more_accepted (l ∷ lines) c line a v = (a.0, more_accepted lines (with_accepted c l) line a.1 v)
+more_accepted : (lines : List LratLine) (c : CheckerValue) (line : LratLine) → all_accepted c lines ≡ true → accepts (after c lines) line ≡ true → all_accepted c (lines ++ line ∷ []) ≡ true
+more_accepted [] c line a v = and_from (accepts c line) true v refl
+more_accepted (l ∷ lines) c line a v =
+    let parts = and_parts (accepts c l) (all_accepted (with_accepted c l) lines) a in
+    and_from (accepts c l) (all_accepted (with_accepted c l) (lines ++ line ∷ [])) parts.0 (more_accepted lines (with_accepted c l) line parts.1 v)
 
 after_more : (lines : List LratLine) (c : CheckerValue) (line : LratLine) → after c (lines ++ line ∷ []) ≡ with_accepted (after c lines) line
 after_more [] c line = refl
 after_more (l ∷ lines) c line = after_more lines (with_accepted c l) line
 
 pub starts_as_checker : (f : FormulaValue) → IsChecker (start_of f)
-starts_as_checker f = record { lines = []; accepted = tt; is = refl }
+starts_as_checker f = record { lines = []; accepted = refl; is = refl }
 
 pub same_formula : (c : CheckerValue) (line : LratLine) → (with_accepted c line).formula ≡ c.formula
 same_formula c (Addition line) = refl
@@ -80,11 +84,11 @@ same_formula c (Deletion deletion) = refl
 
 pub stays_checker : (c : CheckerValue) (line : LratLine) → IsChecker c → is_accepted (verdict_on c line) ≡ true → IsChecker (with_accepted c line)
 stays_checker c line i v =
-    let accepted : AllAccepted (start_of c.formula) (i.lines ++ line ∷ []) = more_accepted i.lines (start_of c.formula) line i.accepted (ap (λ d. is_accepted (verdict_on d line)) i.is ∙ v) in
+    let accepted : all_accepted (start_of c.formula) (i.lines ++ line ∷ []) ≡ true = more_accepted i.lines (start_of c.formula) line i.accepted (ap (λ d. accepts d line) i.is ∙ (acceptance_said c line ∙ v)) in
     let is : after (start_of c.formula) (i.lines ++ line ∷ []) ≡ with_accepted c line = after_more i.lines (start_of c.formula) line ∙ ap (λ d. with_accepted d line) i.is in
     let e : c.formula ≡ (with_accepted c line).formula = sym (same_formula c line) in
     record {
       lines = i.lines ++ line ∷ [];
-      accepted = subst (λ f. AllAccepted (start_of f) (i.lines ++ line ∷ [])) e accepted;
+      accepted = subst (λ f. all_accepted (start_of f) (i.lines ++ line ∷ []) ≡ true) e accepted;
       is = subst (λ f. after (start_of f) (i.lines ++ line ∷ []) ≡ with_accepted c line) e is;
     }

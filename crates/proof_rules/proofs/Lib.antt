@@ -5,7 +5,9 @@ pub mod InTurn
 pub mod Kept
 pub mod Numbered
 pub mod Open
+pub mod Propagated
 pub mod Sound
 pub mod Taking
+pub mod Tested
 pub mod Together
 pub mod Verdicts

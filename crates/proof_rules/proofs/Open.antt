@@ -6,12 +6,11 @@ use Rattle.std.proofs.lemmas.Bool.{false≢true, cases_Bool, and_parts, not_from
 use Rattle.std.proofs.lemmas.List.Elements.{All-head, All-tail}
 use Rattle.cnf_formula.specs.Literals.{LitValue, same_literal}
 use Rattle.cnf_formula.specs.Lines.{ProofLineValue}
-use Rattle.proof_rules.specs.declared.verdict.LineVerdict.TheVariants.{Accepted as AcceptedVerdict}
 use Rattle.proof_rules.specs.Held.{Entry, CheckerValue, clause_at}
-use Rattle.proof_rules.specs.Judging.{verdict_of}
+use Rattle.proof_rules.specs.Testing.{is_rup}
 use Rattle.proof_rules.specs.Accepting.{IsFalse, Conflicts, leading}
 use Rattle.proof_rules.proofs.Taking.{FalseOrIs, same_itself}
-use Rattle.proof_rules.proofs.Verdicts.{implied_by}
+use Rattle.proof_rules.proofs.Tested.{rup_by}
 
 -- the first two literals of the clause differ
 abbrev pub has_two : List LitValue → Bool
@@ -52,5 +51,5 @@ no_conflict_at_once held (id ∷ next ∷ ids) a c =
     let t = c.1 in
     none_taken t.clause c.0 (found held id t.clause a t.names) t.others
 
-pub nothing_falls : (c : CheckerValue) → all_two c.held ≡ true → (line : ProofLineValue) → line.lits ≡ [] → verdict_of c line ≡ AcceptedVerdict true → ⊥
-nothing_falls c a line e v = no_conflict_at_once c.held (leading line.hints) a (subst (λ lits. Conflicts c.held lits (leading line.hints)) e (implied_by c line v).conflict)
+pub nothing_falls : (c : CheckerValue) → all_two c.held ≡ true → (line : ProofLineValue) → line.lits ≡ [] → is_rup c line ≡ true → ⊥
+nothing_falls c a line e v = no_conflict_at_once c.held (leading line.hints) a (subst (λ lits. Conflicts c.held lits (leading line.hints)) e (rup_by c line v).conflict)

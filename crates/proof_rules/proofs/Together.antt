@@ -1,20 +1,18 @@
 -- Where some assignment satisfies a formula, some assignment of its variables satisfies all that is held after any accepted lines.
-use Rattle.std.proofs.Common.{◌≡◌, ℕ, ◌+◌, ◌-◌, Bool, true, false, List, [], ◌∷◌, map, refl, ap, ◌∙◌, subst, arith}
-use Rattle.std.specs.Prelude.{◌==◌, not, All}
+use Rattle.std.proofs.Common.{◌≡◌, ℕ, ◌+◌, ◌-◌, Bool, true, false, List, [], ◌∷◌, map, refl, ap, ◌∙◌, subst, ⊎_elim, arith}
+use Rattle.std.specs.Prelude.{◌==◌, ◌||◌, not, All}
 use Rattle.std.specs.List.{list_any, enumerate_from, range_with_len}
-use Rattle.std.proofs.lemmas.Bool.{and_from}
+use Rattle.std.proofs.lemmas.Bool.{and_parts, and_from, or_cases}
 use Rattle.std.proofs.lemmas.List.FromFn.{get_or-map-range_with_len, length-map-range_with_len}
 use Rattle.std.proofs.lemmas.List.Elements.{All-nil, All-cons, All-head, All-tail, All-push, All-filter}
 use Rattle.cnf_formula.specs.Literals.{LitValue, value_of, clause_holds, all_hold}
 use Rattle.cnf_formula.specs.Formulas.{FormulaValue, IsFormula, IsClause, IsAbout, Satisfiable}
 use Rattle.cnf_formula.specs.declared.line.LratLine.{LratLine}
 use Rattle.cnf_formula.specs.declared.line.LratLine.TheVariants.{Addition, Deletion}
-use Rattle.proof_rules.specs.declared.verdict.LineVerdict.{LineVerdict}
-use Rattle.proof_rules.specs.declared.verdict.LineVerdict.TheVariants.{Accepted as AcceptedVerdict, Refused}
 use Rattle.proof_rules.specs.Held.{Entry, CheckerValue, start_of}
-use Rattle.proof_rules.specs.Judging.{verdict_of}
-use Rattle.proof_rules.specs.Refuting.{is_accepted, verdict_on, with_line, with_accepted, AllAccepted, after, formula_after}
-use Rattle.proof_rules.proofs.Verdicts.{implied_by, redundant_by}
+use Rattle.proof_rules.specs.Testing.{is_rup, is_rat, accepts}
+use Rattle.proof_rules.specs.Refuting.{with_line, with_accepted, all_accepted, after, formula_after}
+use Rattle.proof_rules.proofs.Tested.{rup_by, rat_by}
 use Rattle.proof_rules.proofs.Sound.{holds, Holds}
 use Rattle.proof_rules.proofs.Calm.{all_calm, starts_calm}
 use Rattle.proof_rules.proofs.Kept.{same_formula}
@@ -35,20 +33,18 @@ record Kept (f : FormulaValue) (c : CheckerValue) : Type 0 where
   same : c.formula ≡ f
   in_range : All (InRange f.vars) c.held
 
-new_in_range : (c : CheckerValue) (line : LratLine) (vars : ℕ) → c.formula.vars ≡ vars → is_accepted (verdict_on c line) ≡ true → All (InRange vars) c.held → All (InRange vars) (with_accepted c line).held
+new_in_range : (c : CheckerValue) (line : LratLine) (vars : ℕ) → c.formula.vars ≡ vars → accepts c line ≡ true → All (InRange vars) c.held → All (InRange vars) (with_accepted c line).held
 new_in_range c (Deletion deletion) vars e a h = All-filter (λ entry. not (list_any (λ id. id == entry.0) deletion.ids)) (InRange vars) c.held h
-new_in_range c (Addition line) vars e a h = go (verdict_of c line) refl a
-  where
-    go : (v : LineVerdict) → verdict_of c line ≡ v → is_accepted v ≡ true → All (InRange vars) (with_line c line).held
-    go (AcceptedVerdict true) is a = All-push (InRange vars) c.held (line.id, line.lits) h (subst (λ n. IsClause n line.lits) e (implied_by c line is).new.in_range)
-    go (AcceptedVerdict false) is a = All-push (InRange vars) c.held (line.id, line.lits) h (subst (λ n. IsClause n line.lits) e (redundant_by c line is).new.in_range)
-    go (Refused code hint) is a = absurd (cc)
+new_in_range c (Addition line) vars e a h =
+    let own : IsClause c.formula.vars line.lits = ⊎_elim (λ r. (rup_by c line r).new.in_range) (λ r. (rat_by c line r).new.in_range) (or_cases (is_rup c line) (is_rat c line) a) in
+    All-push (InRange vars) c.held (line.id, line.lits) h (subst (λ n. IsClause n line.lits) e own)
 
-all_kept : (f : FormulaValue) (lines : List LratLine) (c : CheckerValue) → AllAccepted c lines → Kept f c → Kept f (after c lines)
+all_kept : (f : FormulaValue) (lines : List LratLine) (c : CheckerValue) → all_accepted c lines ≡ true → Kept f c → Kept f (after c lines)
 all_kept f [] c a k = k
 all_kept f (line ∷ lines) c a k =
-    all_kept f lines (with_accepted c line) a.1
-    (record { same = same_formula c line ∙ k.same; in_range = new_in_range c line f.vars (ap (λ g. g.vars) k.same) a.0 k.in_range })
+    let parts = and_parts (accepts c line) (all_accepted (with_accepted c line) lines) a in
+    all_kept f lines (with_accepted c line) parts.1
+    (record { same = same_formula c line ∙ k.same; in_range = new_in_range c line f.vars (ap (λ g. g.vars) k.same) parts.0 k.in_range })
 
 -- ---- a valuation of all numbers as an assignment
 
@@ -73,7 +69,7 @@ all_listed v vars (entry ∷ held) r h =
     (clause_listed v vars entry.1 (All-head (InRange vars) entry held r) ∙ All-head (Holds v) entry held h)
     (all_listed v vars held (All-tail (InRange vars) entry held r) (All-tail (Holds v) entry held h))
 
-pub still_satisfiable : (f : FormulaValue) (lines : List LratLine) → IsFormula f → Satisfiable f → AllAccepted (start_of f) lines → Satisfiable (formula_after f lines)
+pub still_satisfiable : (f : FormulaValue) (lines : List LratLine) → IsFormula f → Satisfiable f → all_accepted (start_of f) lines ≡ true → Satisfiable (formula_after f lines)
 still_satisfiable f lines i s a =
     let end = all_calm lines (start_of f) a (starts_calm f s) in
     let kept = all_kept f lines (start_of f) a (record { same = refl; in_range = start_in_range f.vars f.clauses 1 i }) in

@@ -3,12 +3,15 @@ use Rattle.std.specs.Prelude.{◌==◌, ◌||◌, ℕ, ◌+◌, Bool, true, fals
 use Rattle.std.specs.List.{list_any, list_all}
 use Rattle.cnf_formula.specs.Literals.{LitValue, negation, same_literal}
 use Rattle.cnf_formula.specs.Lines.{ProofLineValue, DeletionValue}
+use Rattle.cnf_formula.specs.declared.line.LratLine.{LratLine}
+use Rattle.cnf_formula.specs.declared.line.LratLine.TheVariants.{Addition, Deletion}
 use Rattle.proof_rules.specs.declared.verdict.LineCode.{LineCode}
 use Rattle.proof_rules.specs.declared.verdict.LineCode.TheVariants.{IdNotGreater, UnknownHint, HintNotUnit, NoConflict, HintsAfterConflict, UnknownDeletion, VariableRange, VariableTwice, NoPivot, PivotNotNegated, GroupTwice, GroupMissing}
 use Rattle.proof_rules.specs.declared.verdict.LineVerdict.{LineVerdict}
 use Rattle.proof_rules.specs.declared.verdict.LineVerdict.TheVariants.{Accepted, Refused}
 use Rattle.proof_rules.specs.Held.{Entry, CheckerValue, clause_at, open_literals}
 use Rattle.proof_rules.specs.Accepting.{Group, leading, groups_of, has_negated, without_negated, is_made_true, is_answered}
+use Rattle.proof_rules.specs.Testing.{has_number_twice, are_held}
 
 -- ---- hints of one sign
 
@@ -117,14 +120,22 @@ verdict_of c line =
 
 -- ---- a deletion
 
-abbrev pub has_number_twice : List ℕ → Bool
-has_number_twice [] = false
-has_number_twice (id ∷ ids) = list_any (λ other. other == id) ids || has_number_twice ids
-
--- each of these numbers is held
-abbrev pub are_held : List Entry → List ℕ → Bool
-are_held held ids = list_all (λ id. list_any (λ entry. entry.0 == id) held) ids
-
 -- the verdict on a deletion; the number at its front is not checked
 abbrev pub deletion_verdict : CheckerValue → DeletionValue → LineVerdict
 deletion_verdict c deletion = if not (are_held c.held deletion.ids) || has_number_twice deletion.ids then Refused UnknownDeletion 0 else Accepted false
+
+-- ---- a line
+
+abbrev pub verdict_on : CheckerValue → LratLine → LineVerdict
+verdict_on c (Addition line) = verdict_of c line
+verdict_on c (Deletion deletion) = deletion_verdict c deletion
+
+-- accepted, whether implied or not
+abbrev pub is_accepted : LineVerdict → Bool
+is_accepted (Accepted implied) = true
+is_accepted (Refused code hint) = false
+
+-- accepted as an addition that follows from what is held
+abbrev pub is_implied : LineVerdict → Bool
+is_implied (Accepted implied) = implied
+is_implied (Refused code hint) = false

@@ -1,20 +1,14 @@
 -- Lines in their turn, refutations, and spent logs (LRAT: Cruz-Filipe et al. 2017; logs are this project's own): a spent log is the
 -- RUP additions of so many learned clauses, none subsumed by a clause held before.
-use Rattle.std.specs.Prelude.{◌≡◌, ◌==◌, ◌||◌, ℕ, Bool, true, false, not, List, [], ◌∷◌, ◌++◌, length, map, filter}
+use Rattle.std.specs.Prelude.{◌≡◌, ◌==◌, ◌&&◌, ◌||◌, ℕ, Bool, true, false, not, List, [], ◌∷◌, ◌++◌, length, map, filter}
 use Rattle.std.specs.List.{list_any}
 use Rattle.cnf_formula.specs.Literals.{LitValue, is_superset}
 use Rattle.cnf_formula.specs.Formulas.{FormulaValue}
 use Rattle.cnf_formula.specs.Lines.{ProofLineValue, DeletionValue}
 use Rattle.cnf_formula.specs.declared.line.LratLine.{LratLine}
 use Rattle.cnf_formula.specs.declared.line.LratLine.TheVariants.{Addition, Deletion}
-use Rattle.proof_rules.specs.declared.verdict.LineVerdict.{LineVerdict}
-use Rattle.proof_rules.specs.declared.verdict.LineVerdict.TheVariants.{Accepted, Refused}
-use Rattle.proof_rules.specs.Held.{CheckerValue, start_of}
-use Rattle.proof_rules.specs.Judging.{verdict_of, deletion_verdict}
-
-abbrev pub is_empty : {X : Type 0} → List X → Bool
-is_empty [] = true
-is_empty (x ∷ xs) = false
+use Rattle.proof_rules.specs.Held.{CheckerValue, start_of, is_empty}
+use Rattle.proof_rules.specs.Testing.{is_rup, accepts}
 
 -- after an accepted addition its clause is held under its number
 abbrev pub with_line : CheckerValue → ProofLineValue → CheckerValue
@@ -28,28 +22,14 @@ with_line c line = record c {
 abbrev pub without : CheckerValue → DeletionValue → CheckerValue
 without c deletion = record c { held = filter (λ entry. not (list_any (λ id. id == entry.0) deletion.ids)) c.held }
 
-abbrev pub verdict_on : CheckerValue → LratLine → LineVerdict
-verdict_on c (Addition line) = verdict_of c line
-verdict_on c (Deletion deletion) = deletion_verdict c deletion
-
 abbrev pub with_accepted : CheckerValue → LratLine → CheckerValue
 with_accepted c (Addition line) = with_line c line
 with_accepted c (Deletion deletion) = without c deletion
 
--- accepted, whether implied or not
-abbrev pub is_accepted : LineVerdict → Bool
-is_accepted (Accepted implied) = true
-is_accepted (Refused code hint) = false
-
--- accepted as an addition that follows from what is held
-abbrev pub is_implied : LineVerdict → Bool
-is_implied (Accepted implied) = implied
-is_implied (Refused code hint) = false
-
 -- each line is accepted in its turn
-abbrev pub AllAccepted : CheckerValue → List LratLine → Type 0
-AllAccepted c [] = Unit {0}
-AllAccepted c (line ∷ lines) = (is_accepted (verdict_on c line) ≡ true) × AllAccepted (with_accepted c line) lines
+abbrev pub all_accepted : CheckerValue → List LratLine → Bool
+all_accepted c [] = true
+all_accepted c (line ∷ lines) = accepts c line && all_accepted (with_accepted c line) lines
 
 -- the checker after them
 abbrev pub after : CheckerValue → List LratLine → CheckerValue
@@ -63,12 +43,12 @@ formula_after f lines = record { vars = f.vars; clauses = map (λ entry. entry.1
 -- some lines, accepted in their turn, lead from the formula's clauses to this
 pub record IsChecker (c : CheckerValue) : Type 0 where
   pub lines : List LratLine
-  pub accepted : AllAccepted (start_of c.formula) lines
+  pub accepted : all_accepted (start_of c.formula) lines ≡ true
   pub is : after (start_of c.formula) lines ≡ c
 
 -- the lines refute a formula: each is accepted in its turn, and an addition has no literal
 pub record Refutes (lines : List LratLine) (f : FormulaValue) : Type 0 where
-  pub accepted : AllAccepted (start_of f) lines
+  pub accepted : all_accepted (start_of f) lines ≡ true
   pub refuted : (after (start_of f) lines).refuted ≡ true
 
 -- ---- spent logs
@@ -77,27 +57,22 @@ pub record Refutes (lines : List LratLine) (f : FormulaValue) : Type 0 where
 abbrev pub is_fresh : CheckerValue → List LitValue → Bool
 is_fresh c clause = not (is_empty clause || list_any (λ entry. is_superset clause entry.1) c.held)
 
--- each clause is fresh in its turn
-abbrev pub AllFresh : CheckerValue → List ProofLineValue → Type 0
-AllFresh c [] = Unit {0}
-AllFresh c (line ∷ lines) = (is_fresh c line.lits ≡ true) × AllFresh (with_line c line) lines
-
--- each addition follows from what is held in its turn
-abbrev pub AllImplied : CheckerValue → List ProofLineValue → Type 0
-AllImplied c [] = Unit {0}
-AllImplied c (line ∷ lines) = (verdict_of c line ≡ Accepted true) × AllImplied (with_line c line) lines
+-- each line is an addition that follows from what is held in its turn, and is fresh then
+abbrev pub are_learned : CheckerValue → List LratLine → Bool
+are_learned c [] = true
+are_learned c (Deletion deletion ∷ lines) = false
+are_learned c (Addition line ∷ lines) = is_rup c line && is_fresh c line.lits && are_learned (with_line c line) lines
 
 -- so many additions, each implied and fresh in its turn
 pub record SpentLog (lines : List ProofLineValue) (f : FormulaValue) (n : ℕ) : Type 0 where
   pub count : length lines ≡ n
-  pub implied : AllImplied (start_of f) lines
-  pub fresh : AllFresh (start_of f) lines
+  pub learned : are_learned (start_of f) (map Addition lines) ≡ true
 
 -- a spent log of so many lines, after which no addition without a literal is implied
 pub record Exhaustion (f : FormulaValue) (n : ℕ) : Type 0 where
   pub lines : List ProofLineValue
   pub spent : SpentLog lines f n
-  pub not_closed : (line : ProofLineValue) → line.lits ≡ [] → verdict_of (after (start_of f) (map Addition lines)) line ≡ Accepted true → ⊥
+  pub not_closed : (line : ProofLineValue) → line.lits ≡ [] → is_rup (after (start_of f) (map Addition lines)) line ≡ true → ⊥
 
 -- there is such a log
 abbrev pub Exhausted : FormulaValue → ℕ → Type 0

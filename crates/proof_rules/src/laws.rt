@@ -1,13 +1,16 @@
 //! Laws of refutations (soundness of LRAT).
 
-ghost use Rattle.std.specs.Prelude.{◌≡◌, ◌↔◌, ℕ, true, false, List, []};
+ghost use Rattle.std.specs.Prelude.{◌≡◌, ◌↔◌, ℕ, true, false, List, [], map};
 ghost use Rattle.cnf_formula.specs.Formulas.{FormulaValue, IsFormula, Satisfiable};
 ghost use Rattle.cnf_formula.specs.declared.line.LratLine.{LratLine};
+ghost use Rattle.cnf_formula.specs.declared.line.LratLine.TheVariants.{Addition};
 ghost use Rattle.cnf_formula.specs.Lines.{ProofLineValue};
 ghost use Rattle.proof_rules.specs.Held.{CheckerValue, start_of};
-ghost use Rattle.proof_rules.specs.Judging.{verdict_of};
+ghost use Rattle.proof_rules.specs.Testing.{is_rup, is_rat, accepts};
+ghost use Rattle.proof_rules.specs.Judging.{verdict_of, verdict_on, is_accepted, is_implied};
+ghost use Rattle.proof_rules.specs.Learning.{AllImplied, AllFresh};
 ghost use Rattle.proof_rules.specs.Accepting.{Implied, Redundant};
-ghost use Rattle.proof_rules.specs.Refuting.{is_accepted, verdict_on, with_accepted, AllAccepted, formula_after, IsChecker, Refutes, Exhausted};
+ghost use Rattle.proof_rules.specs.Refuting.{with_accepted, all_accepted, are_learned, formula_after, IsChecker, Refutes, Exhausted};
 
 use crate::verdict::LineVerdict;
 
@@ -19,11 +22,27 @@ pub fn additions_are_accepted_exactly()
     ensures redundant { (c : CheckerValue) (line : ProofLineValue) → (verdict_of c line ≡ LineVerdict.Accepted false) ↔ Redundant c line }
 {}
 
+/// The tests pass an addition as RUP, or as RAT, exactly by the definitions.
+#[tactic(auto, using(crate::proofs::Tested::rup_exactly, crate::proofs::Tested::rat_exactly))]
+pub fn additions_are_tested_exactly()
+    ensures implied { (c : CheckerValue) (line : ProofLineValue) → (is_rup c line ≡ true) ↔ Implied c line }
+    ensures redundant { (c : CheckerValue) (line : ProofLineValue) → (is_rat c line ≡ true) ↔ Redundant c line }
+{}
+
+/// Whether a line is accepted, and whether as implied, is the same by the tests and by its verdict.
+/// So are additions learned, each in its turn.
+#[tactic(auto, using(crate::proofs::Tested::acceptance_said, crate::proofs::Tested::rup_said))]
+pub fn lines_are_accepted_by_their_verdicts()
+    ensures accepted { (c : CheckerValue) (line : LratLine) → accepts c line ≡ is_accepted (verdict_on c line) }
+    ensures implied { (c : CheckerValue) (line : ProofLineValue) → is_rup c line ≡ is_implied (verdict_of c line) }
+    ensures learned { (c : CheckerValue) (lines : List ProofLineValue) → (AllImplied c lines × AllFresh c lines) ↔ (are_learned c (map Addition lines) ≡ true) }
+{}
+
 /// Where some assignment satisfies a formula, some assignment satisfies all that is held after any
 /// accepted lines.
 #[tactic(auto, using(crate::proofs::Together::still_satisfiable))]
 pub fn satisfiable_stays_satisfiable()
-    ensures { (f : FormulaValue) (lines : List LratLine) → IsFormula f → Satisfiable f → AllAccepted (start_of f) lines → Satisfiable (formula_after f lines) }
+    ensures { (f : FormulaValue) (lines : List LratLine) → IsFormula f → Satisfiable f → all_accepted (start_of f) lines ≡ true → Satisfiable (formula_after f lines) }
 {}
 
 /// A formula that some assignment satisfies is refuted by no lines.

@@ -40,7 +40,7 @@ pub enum LineVerdict {
 
 impl LineVerdict {
     ghost use Rattle.std.specs.Prelude.{◌≡◌};
-    ghost use Rattle.proof_rules.specs.Refuting.{is_accepted};
+    ghost use Rattle.proof_rules.specs.Judging.{is_accepted};
 
     /// Whether the line was accepted.
     pub fn is_accepted(self) -> bool

@@ -6,8 +6,10 @@ use Rattle.std.proofs.lemmas.List.{length-append}
 use Rattle.cnf_formula.specs.Formulas.{FormulaValue}
 use Rattle.cnf_formula.specs.Lines.{ProofLineValue}
 use Rattle.cnf_formula.specs.Literals.{LitValue}
-use Rattle.proof_rules.specs.Held.{CheckerValue, start_of}
-use Rattle.proof_rules.specs.Refuting.{is_empty, is_fresh, with_line, AllFresh, SpentLog}
+use Rattle.proof_rules.specs.Held.{CheckerValue, start_of, is_empty}
+use Rattle.proof_rules.specs.Refuting.{is_fresh, with_line, SpentLog}
+use Rattle.proof_rules.specs.Learning.{AllFresh}
+use Rattle.proof_rules.proofs.InTurn.{are_learned_by}
 use Rattle.ledger_rules.specs.Logs.{learned}
 use Rattle.sat_core.specs.Ready.{AreWritten, IsOver}
 
@@ -23,8 +25,7 @@ all_learned (line ∷ lines) c f = rw (some line.lits f.0) (ap (λ ls. line ∷ 
 pub log_by : (base formula : FormulaValue) (lines : List ProofLineValue) (spent limit : ℕ) → base ≡ formula → AreWritten base lines → IsOver base lines → spent ≡ length (learned lines) → spent ≡ limit → SpentLog lines formula limit
 log_by base formula lines spent limit e w o charged full = subst (λ f. SpentLog lines f limit) e (record {
   count = sym (ap length (all_learned lines (start_of base) o.fresh)) ∙ sym charged ∙ full;
-  implied = w.implied;
-  fresh = o.fresh;
+  learned = are_learned_by lines (start_of base) w.implied o.fresh;
 })
 
 -- of the lines, all but one that closes were learned

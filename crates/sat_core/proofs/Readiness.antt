@@ -9,9 +9,10 @@ use Rattle.cnf_formula.specs.Formulas.{FormulaValue}
 use Rattle.cnf_formula.specs.Lines.{ProofLineValue}
 use Rattle.cnf_formula.specs.declared.line.LratLine.TheVariants.{Addition}
 use Rattle.proof_rules.specs.declared.verdict.LineVerdict.TheVariants.{Accepted as AcceptedVerdict}
-use Rattle.proof_rules.specs.Held.{Entry, CheckerValue, start_of, clause_at}
+use Rattle.proof_rules.specs.Held.{Entry, CheckerValue, start_of, clause_at, is_empty}
 use Rattle.proof_rules.specs.Judging.{verdict_of}
-use Rattle.proof_rules.specs.Refuting.{is_empty, is_fresh, with_line, after, AllFresh, Refutes}
+use Rattle.proof_rules.specs.Refuting.{is_fresh, with_line, after, Refutes}
+use Rattle.proof_rules.specs.Learning.{AllFresh}
 use Rattle.proof_rules.proofs.InTurn.{after_more, implied_more, implied_accepted}
 use Rattle.proof_rules.proofs.Kept.{keeps_append}
 use Rattle.ledger_rules.specs.Logs.{checker_of}

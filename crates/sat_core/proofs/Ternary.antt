@@ -12,8 +12,10 @@ use Rattle.list_laws.proofs.Members.{Contains-cons}
 use Rattle.cnf_formula.specs.Literals.{LitValue, yes, no, has_literal, is_superset}
 use Rattle.cnf_formula.specs.Formulas.{FormulaValue, IsAbout, IsClause}
 use Rattle.cnf_formula.specs.Lines.{ProofLineValue}
-use Rattle.proof_rules.specs.Held.{Entry, CheckerValue, start_of}
-use Rattle.proof_rules.specs.Refuting.{is_empty, with_line, is_fresh, AllImplied, AllFresh, SpentLog}
+use Rattle.proof_rules.specs.Held.{Entry, CheckerValue, start_of, is_empty}
+use Rattle.proof_rules.specs.Refuting.{with_line, is_fresh, SpentLog}
+use Rattle.proof_rules.specs.Learning.{AllImplied, AllFresh}
+use Rattle.proof_rules.proofs.InTurn.{learned_in_turn}
 use Rattle.proof_rules.proofs.Verdicts.{implied_by}
 use Rattle.conflict_analysis.proofs.Members.{here, cons_cases}
 use Rattle.sat_core.proofs.Members.{found_by, stands_by, not_found}
@@ -234,4 +236,7 @@ few_lines lines c a f =
     omega (arith, few, length-map lines (λ line. number_to line.lits n))
 
 pub few_spent : (f : FormulaValue) (lines : List ProofLineValue) (n : ℕ) → SpentLog lines f n → n < 3 ^ f.vars
-few_spent f lines n s = let few = few_lines lines (start_of f) s.implied s.fresh in omega (arith, few, s.count)
+few_spent f lines n s =
+    let each = learned_in_turn lines (start_of f) s.learned in
+    let few = few_lines lines (start_of f) each.0 each.1 in
+    omega (arith, few, s.count)

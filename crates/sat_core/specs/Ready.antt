@@ -5,7 +5,7 @@ use Rattle.cnf_formula.specs.Lines.{ProofLineValue}
 use Rattle.proof_rules.specs.declared.verdict.LineVerdict.TheVariants.{Accepted}
 use Rattle.proof_rules.specs.Held.{CheckerValue, start_of}
 use Rattle.proof_rules.specs.Judging.{verdict_of}
-use Rattle.proof_rules.specs.Refuting.{AllImplied, AllFresh}
+use Rattle.proof_rules.specs.Learning.{AllImplied, AllFresh}
 use Rattle.ledger_rules.specs.Logs.{checker_of}
 use Rattle.trail_core.specs.Meaning.{CoreValue}
 use Rattle.sat_core.specs.inner.Holding.{Agree, IsSame}

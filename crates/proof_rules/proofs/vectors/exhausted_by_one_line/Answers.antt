@@ -8,6 +8,6 @@ use Rattle.proof_rules.proofs.vectors.exhausted_by_one_line.Goals as goal
 pub returns : goal.returns
 returns c = ∣ record {
   lines = pair_of_eight ∷ [];
-  spent = record { count = refl; implied = (refl, tt); fresh = (refl, tt) };
+  spent = record { count = refl; learned = refl };
   not_closed = nothing_falls (with_line (start_of eight_clauses) pair_of_eight) refl;
 } ∣₁

@@ -1,7 +1,7 @@
 use Rattle.std.proofs.Common.{[], ◌∷◌, ◌++◌, List, sym, subst}
 use Rattle.cnf_formula.specs.Lines.{ProofLineValue}
 use Rattle.proof_rules.specs.Held.{start_of}
-use Rattle.proof_rules.specs.Refuting.{AllImplied}
+use Rattle.proof_rules.specs.Learning.{AllImplied}
 use Rattle.proof_rules.proofs.InTurn.{implied_more}
 use Rattle.conflict_ledger.specs.Beside.{beside}
 use Rattle.conflict_ledger.specs.Shelved.{LedgerState, ShelfMoves, ShelfAgrees}

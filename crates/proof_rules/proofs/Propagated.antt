@@ -1,0 +1,112 @@
+-- Propagation by tests is that of the verdicts without their faults, so it is as the relations say.
+use Rattle.std.proofs.Common.{◌≡◌, ℕ, ◌+◌, Bool, true, false, List, [], ◌∷◌, Option, Some, None, Result, Ok, Err, refl, sym, ap, ◌∙◌, inl, inr, ⊎_elim}
+use Rattle.std.specs.Prelude.{◌&&◌, if◌then◌else◌, option_map}
+use Rattle.std.specs.List.{list_all}
+use Rattle.std.proofs.lemmas.Bool.{false≢true, and_parts, and_from, or_cases, or_left, or_right}
+use Rattle.cnf_formula.specs.Literals.{LitValue, negation, same_literal}
+use Rattle.proof_rules.specs.declared.verdict.LineCode.{LineCode}
+use Rattle.proof_rules.specs.declared.verdict.LineCode.TheVariants.{HintNotUnit}
+use Rattle.proof_rules.specs.Held.{Entry, clause_at, open_literals, is_empty}
+use Rattle.proof_rules.specs.Judging.{given_by, given_by_clause, after_conflict, led_to}
+use Rattle.proof_rules.specs.Accepting.{Group, has_negated, without_negated, is_made_true, LeadsTo, Conflicts, Closes, Answers}
+use Rattle.proof_rules.specs.Testing.{propagated, is_conflict, closes, closes_one}
+use Rattle.proof_rules.proofs.Hints.{Led, conflicts, leads_to_conflict, leads, led_by}
+
+abbrev Propagated : Type 0
+Propagated = Option (Option (List LitValue))
+
+abbrev plain : Led → Propagated
+plain (Err fault) = None
+plain (Ok end) = Some end
+
+-- ---- one hint, by the literals that are left of its clause
+
+abbrev tested : List Entry → List LitValue → List ℕ → Option (List LitValue) → Propagated
+tested held falses ids left = elim left [
+  | None ↦ None
+  | Some [] ↦ if is_empty ids then Some None else None
+  | Some (l ∷ ls) ↦ if list_all (same_literal l) ls then propagated held (negation l ∷ falses) ids else None
+]
+
+abbrev judged : List Entry → List LitValue → ℕ → List ℕ → Result (Option LitValue) LineCode → Led
+judged held falses place ids given = elim given [
+  | Err code ↦ Err (code, place)
+  | Ok None ↦ after_conflict (place + 1) ids
+  | Ok (Some l) ↦ led_to held (negation l ∷ falses) (place + 1) ids
+]
+
+at_end : (place : ℕ) (ids : List ℕ) → (if is_empty ids then Some None else None) ≡ plain (after_conflict place ids)
+at_end place [] = refl
+at_end place (id ∷ ids) = refl
+
+module _ (held : List Entry) (falses : List LitValue) (place : ℕ) (ids : List ℕ) (more : (l : LitValue) → propagated held (negation l ∷ falses) ids ≡ plain (led_to held (negation l ∷ falses) (place + 1) ids)) where
+  by_unit : (l : LitValue) (b : Bool) → (if b then propagated held (negation l ∷ falses) ids else None) ≡ plain (judged held falses place ids (if b then Ok (Some l) else Err HintNotUnit))
+  by_unit l true = more l
+  by_unit l false = refl
+
+  by_left : (left : List LitValue) → tested held falses ids (Some left) ≡ plain (judged held falses place ids (given_by left))
+  by_left [] = at_end (place + 1) ids
+  by_left (l ∷ ls) = by_unit l (list_all (same_literal l) ls)
+
+  by_clause : (found : Option (List LitValue)) → tested held falses ids (option_map (open_literals falses) found) ≡ plain (judged held falses place ids (given_by_clause falses found))
+  by_clause None = refl
+  by_clause (Some clause) = by_left (open_literals falses clause)
+
+propagated_plain : (held : List Entry) (falses : List LitValue) (place : ℕ) (ids : List ℕ) → propagated held falses ids ≡ plain (led_to held falses place ids)
+propagated_plain held falses place [] = refl
+propagated_plain held falses place (id ∷ ids) = by_clause held falses place ids (λ l. propagated_plain held (negation l ∷ falses) (place + 1) ids) (clause_at held id)
+
+-- ---- all hints
+
+pub conflict_by : (held : List Entry) (falses : List LitValue) (ids : List ℕ) → is_conflict (propagated held falses ids) ≡ true → Conflicts held falses ids
+conflict_by held falses ids h = conflicts held falses 0 ids (go (led_to held falses 0 ids) (sym (ap is_conflict (propagated_plain held falses 0 ids)) ∙ h))
+  where
+    go : (r : Led) → is_conflict (plain r) ≡ true → r ≡ Ok None
+    go (Err fault) e = absurd (false≢true e)
+    go (Ok None) e = refl
+    go (Ok (Some last)) e = absurd (false≢true e)
+
+pub by_conflict : (held : List Entry) (falses : List LitValue) (ids : List ℕ) → Conflicts held falses ids → is_conflict (propagated held falses ids) ≡ true
+by_conflict held falses ids c = ap is_conflict (propagated_plain held falses 0 ids) ∙ ap (λ (r : Led). is_conflict (plain r)) (leads_to_conflict held falses 0 ids c)
+
+pub leads_by : (held : List Entry) (falses : List LitValue) (ids : List ℕ) (last : List LitValue) → propagated held falses ids ≡ Some (Some last) → LeadsTo last held falses ids
+leads_by held falses ids last h = leads held falses 0 ids last (go (led_to held falses 0 ids) (sym (propagated_plain held falses 0 ids) ∙ h))
+  where
+    go : (r : Led) → plain r ≡ Some (Some last) → r ≡ Ok (Some last)
+    go (Err fault) e = absurd (cc)
+    go (Ok end) e = let same : end ≡ Some last = cc in ap (λ o. Ok o) same
+
+pub by_leading : (held : List Entry) (falses : List LitValue) (ids : List ℕ) (last : List LitValue) → LeadsTo last held falses ids → propagated held falses ids ≡ Some (Some last)
+by_leading held falses ids last h = propagated_plain held falses 0 ids ∙ ap plain (led_by held falses 0 ids last h)
+
+-- ---- groups
+
+pub closes_by : (held : List Entry) (ids : List ℕ) (falses ls : List LitValue) → closes held ids falses ls ≡ true → Closes held ids falses ls
+closes_by held ids falses [] h = conflict_by held falses ids h
+closes_by held ids falses (l ∷ ls) h = ⊎_elim (λ e. inl e) (λ e. inr (closes_by held ids (l ∷ falses) ls e)) (or_cases (is_made_true falses l) (closes held ids (l ∷ falses) ls) h)
+
+pub by_closing : (held : List Entry) (ids : List ℕ) (falses ls : List LitValue) → Closes held ids falses ls → closes held ids falses ls ≡ true
+by_closing held ids falses [] c = by_conflict held falses ids c
+by_closing held ids falses (l ∷ ls) c =
+    ⊎_elim (λ e. or_left (is_made_true falses l) (closes held ids (l ∷ falses) ls) e) (λ e. or_right (is_made_true falses l) (closes held ids (l ∷ falses) ls) (by_closing held ids (l ∷ falses) ls e)) c
+
+module _ (held : List Entry) (pivot : LitValue) (start : List LitValue) (group : Group) where
+  abbrev closes_found : Option (List LitValue) → Bool
+  closes_found found = elim found [
+    | None ↦ false
+    | Some clause ↦ has_negated pivot clause && closes held group.hints start (without_negated pivot clause)
+  ]
+
+  pub answers_by : closes_one held pivot start group ≡ true → Answers held pivot start group
+  answers_by h = go (clause_at held group.named) refl h
+    where
+      go : (found : Option (List LitValue)) → clause_at held group.named ≡ found → closes_found found ≡ true → Answers held pivot start group
+      go None e c = absurd (false≢true c)
+      go (Some clause) e c =
+          let parts = and_parts (has_negated pivot clause) (closes held group.hints start (without_negated pivot clause)) c in
+          record { clause = clause; names = e; negated = parts.0; closes = closes_by held group.hints start (without_negated pivot clause) parts.1 }
+
+  pub by_answering : Answers held pivot start group → closes_one held pivot start group ≡ true
+  by_answering a =
+      ap closes_found a.names
+      ∙ and_from (has_negated pivot a.clause) (closes held group.hints start (without_negated pivot a.clause)) a.negated (by_closing held group.hints start (without_negated pivot a.clause) a.closes)
