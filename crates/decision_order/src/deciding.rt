@@ -20,7 +20,8 @@ use trail_core::{ClauseId, Core};
 pub struct Decider {
     vars: u32,
     order: Order,
-    queue: Queue,
+    /// None in the opening, which does not go by it.
+    queue: Option<Queue>,
     phases: Vec<bool>,
     mode: Mode,
     /// By variable whether it is an input; empty before the first stable turn.
@@ -28,13 +29,13 @@ pub struct Decider {
 }
 
 impl Model for Decider {
-    ghost use Rattle.std.specs.Prelude.{◌≡◌, ℕ, ◌+◌, ◌<◌, length};
+    ghost use Rattle.std.specs.Prelude.{◌≡◌, ℕ, ◌+◌, ◌<◌, length, IfSome};
 
     ghost Value = { ℕ };
 
     ghost view = { λ a. a.vars };
 
-    ghost invariant = { λ a. (a.order ≡ a.vars) × (a.queue ≡ a.vars) × (length a.phases.items ≡ a.vars + 1) × (a.vars < 2147483648) };
+    ghost invariant = { λ a. (a.order ≡ a.vars) × IfSome a.queue (λ queue. queue ≡ a.vars) × (length a.phases.items ≡ a.vars + 1) × (a.vars < 2147483648) };
 }
 
 /// An open variable, as false.
@@ -68,6 +69,34 @@ fn reason_of(core: &Core, lit: Lit, vars: u32) -> Option<&[Lit]>
     Some(core.clause(id))
 }
 
+/// Takes the variable of a queue that was bumped last; none where no variable is left, or no queue.
+fn pop_latest(queue: &mut Option<Queue>, vars: u32) -> Option<u32>
+    requires { IfSome queue.old (λ queue. queue ≡ vars) }
+    ensures same { IfSome queue.new (λ queue. queue ≡ vars) }
+    ensures var { IfSome result (IsVar (vars + 1)) }
+{
+    match queue {
+        Some(queue) => queue.pop(),
+        None => None,
+    }
+}
+
+/// Bumps variables, and those in the reasons of literals; those past the last are passed over.
+/// `Err` comes only where memory runs out.
+fn bump(queue: &mut Queue, core: &Core, met: &[Lit], lits: &[Lit]) -> Result<(), OutOfMemory>
+    requires { queue.old ≡ core.now.vars }
+    ensures { queue.new ≡ queue.old }
+{
+    queue.meet(met)?;
+    for lit in lits {
+        if let Some(clause) = reason_of(core, lit.negated(), queue.vars()) {
+            queue.meet(clause)?;
+        }
+    }
+    queue.bump_met();
+    Ok(())
+}
+
 impl Decider {
     /// The variables 1 to `vars` in the order of their numbers, each with the value that it is to
     /// have first, which stands in `phases` at its number. `Err` comes only where memory runs out.
@@ -79,7 +108,7 @@ impl Decider {
         Ok(Decider {
             vars,
             order: Order::new(alloc, vars)?,
-            queue: Queue::new(alloc, vars)?,
+            queue: None,
             phases,
             mode: Mode::Opening,
             inputs: Vec::new(alloc),
@@ -102,6 +131,9 @@ impl Decider {
             return Ok(());
         }
         self.mode = mode;
+        if self.queue.is_none() {
+            self.queue = Some(Queue::new(alloc, self.vars)?);
+        }
         if mode != Mode::Stable {
             return Ok(());
         }
@@ -130,7 +162,7 @@ impl Decider {
                 return Some(var);
             }
         }
-        self.queue.pop()
+        pop_latest(&mut self.queue, self.vars)
     }
 
     /// Takes the next variable; none where no variable is left.
@@ -141,7 +173,7 @@ impl Decider {
         match self.mode {
             Mode::Opening => self.order.pop(),
             Mode::Stable => self.pop_input(),
-            Mode::Focused => self.queue.pop(),
+            Mode::Focused => pop_latest(&mut self.queue, self.vars),
         }
     }
 
@@ -173,8 +205,8 @@ impl Decider {
     {
         let var = lit.var();
         self.phases[var as usize] = lit.positive();
-        if self.mode != Mode::Opening {
-            self.queue.insert(var);
+        if let Some(queue) = &mut self.queue {
+            queue.insert(var);
         }
         if self.mode == Mode::Focused || self.mode == Mode::Stable && !self.is_input(var) {
             return Ok(());
@@ -200,7 +232,9 @@ impl Decider {
         ensures { self.new ≡ self.old }
     {
         if self.mode == Mode::Focused {
-            return self.bump(core, met, lits);
+            if let Some(queue) = &mut self.queue {
+                return bump(queue, core, met, lits);
+            }
         }
         self.raise(met);
         Ok(())
@@ -216,20 +250,5 @@ impl Decider {
             }
         }
         self.order.age();
-    }
-
-    /// Bumps variables, and those in the reasons of literals.
-    fn bump(&mut self, core: &Core, met: &[Lit], lits: &[Lit]) -> Result<(), OutOfMemory>
-        requires { self.old ≡ core.now.vars }
-        ensures { self.new ≡ self.old }
-    {
-        self.queue.meet(met)?;
-        for lit in lits {
-            if let Some(clause) = reason_of(core, lit.negated(), self.vars) {
-                self.queue.meet(clause)?;
-            }
-        }
-        self.queue.bump_met();
-        Ok(())
     }
 }

@@ -69,6 +69,13 @@ impl Queue {
         })
     }
 
+    /// How many variables there are.
+    pub fn vars(&self) -> u32
+        ensures { result ≡ self.now }
+    {
+        self.vars
+    }
+
     /// Takes the next variable, which is the latest that was not passed; none where no variable is
     /// left.
     pub fn pop(&mut self) -> Option<u32>

@@ -121,12 +121,12 @@ impl Order {
         let mut heap = Vec::with_capacity(alloc, count)?;
         let mut places = Vec::with_capacity(alloc, count + 1)?;
         let mut activity = Vec::with_capacity(alloc, count + 1)?;
-        places.push(ABSENT)?;
-        activity.push(u64::from(vars))?;
+        places.push_reserved(ABSENT);
+        activity.push_reserved(u64::from(vars));
         for index in 0..vars {
-            heap.push(index + 1)?;
-            places.push(index as usize)?;
-            activity.push(u64::from(vars - index - 1))?;
+            heap.push_reserved(index + 1);
+            places.push_reserved(index as usize);
+            activity.push_reserved(u64::from(vars - index - 1));
         }
         Ok(Order {
             vars,

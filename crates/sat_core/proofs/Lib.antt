@@ -13,6 +13,7 @@ pub mod Turning
 pub mod Totality
 pub mod Ending
 pub mod Loaded
+pub mod Apart
 pub mod Modelled
 pub mod Ternary
 pub mod Listed

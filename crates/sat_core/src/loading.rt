@@ -28,8 +28,36 @@ fn is_among(lit: Lit, lits: &[Lit]) -> bool
     false
 }
 
-/// Whether no literal stands twice among these, by a look at each pair.
+/// Whether no literal stands twice among these, by a look at each pair. Most clauses have two or
+/// three.
 fn are_few_apart(lits: &[Lit]) -> bool
+    ensures { result ≡ true → AllPairs (λ a b. a ≢ b) lits.now }
+{
+    match lits {
+        [first, second] => are_two_apart(*first, *second),
+        [first, second, third] => are_three_apart(*first, *second, *third),
+        _ => are_paired_apart(lits),
+    }
+}
+
+/// Whether two literals are not the same.
+fn are_two_apart(first: Lit, second: Lit) -> bool
+    ensures { result ≡ true → first ≢ second }
+{
+    first != second
+}
+
+/// Whether no two of three literals are the same.
+fn are_three_apart(first: Lit, second: Lit, third: Lit) -> bool
+    ensures second { result ≡ true → first ≢ second }
+    ensures third { result ≡ true → first ≢ third }
+    ensures last { result ≡ true → second ≢ third }
+{
+    first != second && first != third && second != third
+}
+
+/// The same for any number of literals.
+fn are_paired_apart(lits: &[Lit]) -> bool
     ensures { result ≡ true → AllPairs (λ a b. a ≢ b) lits.now }
 {
     for place in 0..lits.len() {
@@ -95,19 +123,19 @@ fn once_each(
     Ok(())
 }
 
-/// Whether no literal stands twice in a clause. `seen` has a place for the number of each literal,
-/// none of which has this mark before.
-fn is_apart(lits: &[Lit], seen: &mut Vec<u64>, mark: u64) -> bool
-    requires room { (l : LitValue) → IsLit l → Contains lits.now l → code_of l < length seen.old.items }
+/// Whether no literal stands twice in a clause over so many variables. `seen` has this mark nowhere
+/// before. `Err` comes only where memory runs out.
+fn is_apart(own: u32, lits: &[Lit], seen: &mut Vec<u64>, mark: u64) -> Result<bool, OutOfMemory>
+    requires about { IsClause own lits.now }
     requires unseen { (k : ℕ) → slice_index seen.old.items k < mark }
-    ensures len { length seen.new.items ≡ length seen.old.items }
     ensures marked { (k : ℕ) → slice_index seen.new.items k ≤ mark }
-    ensures once { result ≡ true → AllPairs (λ a b. a ≢ b) lits.now }
+    ensures once { IfOk result (λ apart. apart ≡ true → AllPairs (λ a b. a ≢ b) lits.now) }
 {
     if lits.len() <= FEW {
-        return are_few_apart(lits);
+        return Ok(are_few_apart(lits));
     }
-    are_apart(lits, seen, mark)
+    seen.resize(2 * own as usize + 2, 0)?;
+    Ok(are_apart(lits, seen, mark))
 }
 
 /// Whether no clause has a literal twice.
@@ -115,9 +143,9 @@ fn are_all_apart(alloc: Global, own: u32, clauses: &ClauseList) -> Result<bool, 
     requires { All (IsClause own) clauses.now }
     ensures { IfOk result (λ apart. apart ≡ true → All (AllPairs (λ a b. a ≢ b)) clauses.now) }
 {
-    let mut seen = vec![in alloc; 0u64; 2 * own as usize + 2]?;
+    let mut seen = Vec::new(alloc);
     for place in 0..clauses.len() {
-        if !is_apart(clauses.clause(place), &mut seen, place as u64 + 1) {
+        if !is_apart(own, clauses.clause(place), &mut seen, place as u64 + 1)? {
             return Ok(false);
         }
     }

@@ -100,9 +100,10 @@ pub(crate) fn push_sends_into(
     Ok(())
 }
 
-/// A node that has a chunk after a step had it before, or was sent it.
+/// A node that has a chunk after a step had it before, or was sent it. What `clause` held is left
+/// out.
 fn arrives_at(
-    alloc: Global,
+    clause: &mut Vec<Lit>,
     formula: &mut Formula,
     map: &SendMap,
     chunk: u16,
@@ -117,14 +118,16 @@ fn arrives_at(
 {
     let before = map.arrival(chunk, node, step - 1);
     let after = map.arrival(chunk, node, step);
-    let mut clause = vec![in alloc; before, after.negated()]?;
-    push_sends_into(&mut clause, map, chunk, node, step)?;
-    formula.add(&clause)
+    clause.clear();
+    clause.push(before)?;
+    clause.push(after.negated())?;
+    push_sends_into(clause, map, chunk, node, step)?;
+    formula.add(clause)
 }
 
 #[tactic(auto, using(cnf_formula::proofs::Growing::grows_by_one))]
 fn arrives_at_node(
-    alloc: Global,
+    clause: &mut Vec<Lit>,
     formula: &mut Formula,
     map: &SendMap,
     chunk: u16,
@@ -136,14 +139,14 @@ fn arrives_at_node(
     ensures { OnOk result (formula.new ≡ with_clauses formula.old (node_arrives map.now (chunk, node))) }
 {
     for index in 0..map.steps() {
-        arrives_at(alloc, formula, map, chunk, node, index + 1)?;
+        arrives_at(clause, formula, map, chunk, node, index + 1)?;
     }
     Ok(())
 }
 
 #[tactic(auto, using(cnf_formula::proofs::Growing::grows_more))]
 fn chunk_arrives(
-    alloc: Global,
+    clause: &mut Vec<Lit>,
     formula: &mut Formula,
     map: &SendMap,
     chunk: u16,
@@ -153,7 +156,7 @@ fn chunk_arrives(
     ensures { OnOk result (formula.new ≡ with_clauses formula.old (flat_map (λ n. node_arrives map.now (chunk, n)) (range_with_len 0 map.now.nodes))) }
 {
     for node in 0..map.nodes() {
-        arrives_at_node(alloc, formula, map, chunk, node)?;
+        arrives_at_node(clause, formula, map, chunk, node)?;
     }
     Ok(())
 }
@@ -168,8 +171,9 @@ pub(crate) fn arrives_by_sends(
     requires vars { arrivals map.now + sends map.now ≤ formula.old.vars }
     ensures { OnOk result (formula.new ≡ with_clauses formula.old (arrives_by_sends map.now)) }
 {
+    let mut clause = Vec::new(alloc);
     for chunk in 0..map.chunks() {
-        chunk_arrives(alloc, formula, map, chunk)?;
+        chunk_arrives(&mut clause, formula, map, chunk)?;
     }
     Ok(())
 }

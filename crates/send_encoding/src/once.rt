@@ -13,12 +13,12 @@ use crate::OutOfMemory;
 use crate::arriving::push_sends_into;
 use crate::send_map::SendMap;
 use cardinality::at_most_one;
-use cnf_formula::Formula;
+use cnf_formula::{Formula, Lit};
 use std::alloc::Global;
 
-/// A node is sent a chunk at a step at most once.
+/// A node is sent a chunk at a step at most once. What `into` held is left out.
 fn once_at(
-    alloc: Global,
+    into: &mut Vec<Lit>,
     formula: &mut Formula,
     map: &SendMap,
     chunk: u16,
@@ -32,14 +32,14 @@ fn once_at(
     ensures { OnOk result (formula.new ≡ with_clauses formula.old (at_most_one_of (sends_into map.now chunk node step))) }
 {
     let _known = map.steps();
-    let mut into = Vec::new(alloc);
-    push_sends_into(&mut into, map, chunk, node, step)?;
-    at_most_one(formula, &into)
+    into.clear();
+    push_sends_into(into, map, chunk, node, step)?;
+    at_most_one(formula, into)
 }
 
 #[tactic(auto, using(cnf_formula::proofs::Growing::grows_more))]
 fn node_once(
-    alloc: Global,
+    into: &mut Vec<Lit>,
     formula: &mut Formula,
     map: &SendMap,
     chunk: u16,
@@ -51,14 +51,14 @@ fn node_once(
     ensures { OnOk result (formula.new ≡ with_clauses formula.old (node_once map.now (chunk, node))) }
 {
     for index in 0..map.steps() {
-        once_at(alloc, formula, map, chunk, node, index + 1)?;
+        once_at(into, formula, map, chunk, node, index + 1)?;
     }
     Ok(())
 }
 
 #[tactic(auto, using(cnf_formula::proofs::Growing::grows_more))]
 fn chunk_once(
-    alloc: Global,
+    into: &mut Vec<Lit>,
     formula: &mut Formula,
     map: &SendMap,
     chunk: u16,
@@ -68,7 +68,7 @@ fn chunk_once(
     ensures { OnOk result (formula.new ≡ with_clauses formula.old (flat_map (λ n. node_once map.now (chunk, n)) (range_with_len 0 map.now.nodes))) }
 {
     for node in 0..map.nodes() {
-        node_once(alloc, formula, map, chunk, node)?;
+        node_once(into, formula, map, chunk, node)?;
     }
     Ok(())
 }
@@ -83,8 +83,9 @@ pub(crate) fn arrives_once(
     requires vars { arrivals map.now + sends map.now ≤ formula.old.vars }
     ensures { OnOk result (formula.new ≡ with_clauses formula.old (arrives_once map.now)) }
 {
+    let mut into = Vec::new(alloc);
     for chunk in 0..map.chunks() {
-        chunk_once(alloc, formula, map, chunk)?;
+        chunk_once(&mut into, formula, map, chunk)?;
     }
     Ok(())
 }

@@ -1,5 +1,5 @@
 -- A clause that sleeps and whose literals all stand in another is found in the list of one of them.
-use Rattle.std.proofs.Common.{◌≡◌, ℕ, ◌+◌, ◌<◌, Bool, true, false, List, [], ◌∷◌, ◌++◌, length, get_or, set, take, sym, ap, ◌∙◌, subst, ⊎_elim, arith}
+use Rattle.std.proofs.Common.{◌≡◌, ℕ, ◌+◌, ◌<◌, Bool, true, false, List, [], ◌∷◌, ◌++◌, zero, suc, length, get_or, set, take, sym, ap, ◌∙◌, subst, ⊎_elim, arith}
 use Rattle.std.specs.Prelude.{Contains, Option, None, Some, MatchOption}
 use Rattle.std.proofs.lemmas.Bool.{cases_eq}
 use Rattle.std.proofs.lemmas.List.{get_or-set_same, get_or-set_other, length-set, take_more}
@@ -41,6 +41,11 @@ grown ls k new w more code x h =
     ⊎_elim (λ e. subst (λ xs. Contains xs x) (sym (ap (λ j. get_or (set ls k new) j []) e ∙ get_or-set_same ls k new [] w)) (more x (subst (λ j. Contains (list_at ls j) x) e h)))
     (λ a. subst (λ xs. Contains xs x) (sym (get_or-set_other ls k code new [] a)) h)
     (cases_eq code k)
+
+pub longer : (ls : List (List Led)) (new : List Led) (code : ℕ) (x : Led) → Contains (list_at ls code) x → Contains (list_at (ls ++ new ∷ []) code) x
+longer [] new code x h = absurd (omega (arith, h.1))
+longer (l ∷ ls) new zero x h = h
+longer (l ∷ ls) new (suc code) x h = longer ls new code x h
 
 -- ---- what is not found is not there
 

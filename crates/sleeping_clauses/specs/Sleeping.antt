@@ -1,5 +1,5 @@
 -- Learned clauses that sleep, and the lists in which they are found.
-use Rattle.std.specs.Prelude.{◌≡◌, ◌≢◌, ℕ, ◌+◌, ◌*◌, ◌<◌, Bool, true, false, List, [], length, get_or, AllPairs, Contains, count_by}
+use Rattle.std.specs.Prelude.{◌≡◌, ◌≢◌, ℕ, ◌+◌, ◌*◌, ◌<◌, ◌≤◌, Bool, true, false, List, [], length, get_or, AllPairs, Contains, count_by}
 use Rattle.cnf_formula.specs.Literals.{LitValue, code_of}
 use Rattle.sleeping_clauses.specs.declared.sleepers.Led.{Led}
 
@@ -60,12 +60,12 @@ pub record IsLed (clause : List LitValue) (leads : List (List Led)) (place : ℕ
   pub second : Contains clause led.second
   pub third : Contains clause led.third
 
--- what the tables keep
+-- what the tables keep; those by literal are made when the first clause falls asleep
 pub record AreStored (vars : ℕ) (clauses : List (List LitValue)) (numbers : List ℕ) (asleep : List Bool) (count : ℕ) (leads : List (List Led)) (marks : List ℕ) : Type 0 where
   pub numbers_len : length numbers ≡ length clauses
   pub asleep_len : length asleep ≡ length clauses
   pub counted : count ≡ count_by (λ b. b) asleep
   pub once : (place : ℕ) → place < length clauses → AllPairs (λ a b. a ≢ b) (get_or clauses place [])
-  pub leads_len : length leads ≡ 2 * vars + 2
-  pub marks_len : length marks ≡ 2 * vars + 2
+  pub leads_room : 0 < count → 2 * vars + 2 ≤ length leads
+  pub marks_room : 0 < count → 2 * vars + 2 ≤ length marks
   pub led : (place : ℕ) → place < length clauses → IsLed (get_or clauses place []) leads place

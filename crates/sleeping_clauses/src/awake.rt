@@ -28,6 +28,9 @@ pub struct Usage {
     pub last: u32,
 }
 
+/// Of how much use a clause of the formula was before the first conflict.
+const UNUSED: Usage = Usage { levels: 0, last: 0 };
+
 /// The clauses that a core has, of those that a ledger holds; the formula's come first.
 #[derive(Drop)]
 pub struct Awake {
@@ -36,7 +39,7 @@ pub struct Awake {
     /// Of each, by its number in the core from 1, its number in the ledger. The first place is no
     /// clause's.
     pub names: Vec<u32>,
-    /// Of how much use each was.
+    /// Of how much use each was; empty before the first is learned.
     pub usage: Vec<Usage>,
     /// How many clauses the formula has.
     pub formula: u32,
@@ -68,6 +71,21 @@ fn touch_all(usage: &mut Vec<Usage>, hints: &[i64], now: u32) {
             touch(usage, *hint as usize - 1, now);
         }
     }
+}
+
+/// The hints of a line took part in a conflict, of so many clauses. A line that closes the search
+/// leaves no use to note. `Err` comes only where memory runs out.
+fn touch_by(
+    usage: &mut Vec<Usage>,
+    clauses: usize,
+    line: &ProofLine,
+    now: u32,
+) -> Result<(), OutOfMemory> {
+    if !line.lits.is_empty() {
+        usage.resize(clauses, UNUSED)?;
+        touch_all(usage, &line.hints, now);
+    }
+    Ok(())
 }
 
 impl Awake {
@@ -109,7 +127,7 @@ impl Awake {
         Ok(Awake {
             ids,
             names,
-            usage: vec![in alloc; Usage { levels: 0, last: 0 }; clauses]?,
+            usage: Vec::new(alloc),
             formula,
             held: formula,
             slept: formula,
@@ -156,7 +174,8 @@ impl Awake {
     }
 
     /// A line by the ledger's numbers, of one by the core's. The clauses that are its hints took
-    /// part in a conflict. `Err` comes only where memory runs out.
+    /// part in a conflict, which is noted unless the line closes the search. `Err` comes only where
+    /// memory runs out.
     pub fn named(&mut self, alloc: Global, line: ProofLine) -> Result<ProofLine, OutOfMemory>
         requires known { All (IsName (length self.old.names.items)) line.hints }
         ensures line { IfOk result (IsNamed self.old.names.items self.old.held line) }
@@ -165,7 +184,7 @@ impl Awake {
         ensures formula { self.new.formula ≡ self.old.formula }
         ensures held { self.new.held ≡ self.old.held }
     {
-        touch_all(&mut self.usage, &line.hints, self.held);
+        touch_by(&mut self.usage, self.ids.len(), &line, self.held)?;
         let hints = renamed(alloc, &self.names, &line.hints)?;
         Ok(ProofLine {
             id: u64::from(self.held) + 1,
@@ -178,7 +197,7 @@ impl Awake {
     pub fn usage_of(&self, place: usize) -> Usage {
         match self.usage.get(place) {
             Some(usage) => *usage,
-            None => Usage { levels: 0, last: 0 },
+            None => UNUSED,
         }
     }
 

@@ -1,7 +1,7 @@
 //! Learned clauses that sleep: the ledger holds them, but no propagation meets them. A line that
 //! one of them states already (subsumption) is not learned: that clause is woken.
 
-ghost use Rattle.std.specs.Prelude.{◌≡◌, ◌≢◌, ℕ, ◌+◌, ◌*◌, ◌<◌, [], ◌∷◌, ◌++◌, true, false, All, AllPairs, Contains, length, get_or, slice_set, IfOk, OnOk, OnErr, MatchOption, map};
+ghost use Rattle.std.specs.Prelude.{◌≡◌, ◌≢◌, ℕ, ◌+◌, ◌*◌, ◌<◌, ◌≤◌, [], ◌∷◌, ◌++◌, true, false, All, AllPairs, Contains, length, get_or, slice_set, IfOk, OnOk, OnErr, MatchOption, map};
 ghost use Rattle.cnf_formula.specs.Literals.{LitValue, code_of};
 ghost use Rattle.cnf_formula.specs.Formulas.{IsClause};
 ghost use Rattle.sleeping_clauses.specs.Sleeping.{SleepersValue, HasMark, IsCover, AreFew, list_at, sleeping};
@@ -27,9 +27,10 @@ pub struct Sleepers {
     asleep: Vec<bool>,
     /// How many sleep.
     count: usize,
-    /// By literal the clauses that it leads.
+    /// By literal the clauses that it leads; empty before the first falls asleep.
     leads: Vec<Vec<Led>>,
-    /// By literal the stamp of the last clause that was looked for and has it.
+    /// By literal the stamp of the last clause that was looked for and has it; empty before the
+    /// first falls asleep.
     marks: Vec<u32>,
     stamp: u32,
     /// By literal in how many learned clauses it stands.
@@ -163,28 +164,33 @@ fn is_among(lit: Lit, lits: &[Lit]) -> bool {
     false
 }
 
-/// Puts a clause into the list of the literal that leads it. `Err` comes only where memory runs
-/// out.
-fn lead(leads: &mut Vec<Vec<Led>>, code: usize, led: Led) -> Result<(), OutOfMemory>
-    requires { code < length leads.old.items }
-    ensures len { length leads.new.items ≡ length leads.old.items }
+/// Adds empty lists, until there are so many. `Err` comes only where memory runs out.
+fn reach(leads: &mut Vec<Vec<Led>>, count: usize) -> Result<(), OutOfMemory>
+    ensures long { length leads.old.items ≤ length leads.new.items }
+    ensures room { OnOk result (count ≤ length leads.new.items) }
     ensures kept { (other : ℕ) (x : Led) → Contains (list_at (map (λ l. l.items) leads.old.items) other) x → Contains (list_at (map (λ l. l.items) leads.new.items) other) x }
-    ensures led { OnOk result (Contains (list_at (map (λ l. l.items) leads.new.items) code) led) }
 {
-    let list = &mut leads[code];
-    list.push(led)?;
+    let alloc = *leads.allocator();
+    leads.reserve(count.saturating_sub(leads.len()))?;
+    while leads.len() < count {
+        leads.push_reserved(Vec::new(alloc));
+    }
     Ok(())
 }
 
-/// So many empty lists.
-fn empty_lists(alloc: Global, count: usize) -> Result<Vec<Vec<Led>>, OutOfMemory>
-    ensures { IfOk result (λ lists. length lists.items ≡ count) }
+/// Puts a clause into the list of the literal that leads it, of which there are to be so many.
+/// `Err` comes only where memory runs out.
+fn lead(leads: &mut Vec<Vec<Led>>, count: usize, code: usize, led: Led) -> Result<(), OutOfMemory>
+    requires { code < count }
+    ensures long { length leads.old.items ≤ length leads.new.items }
+    ensures room { OnOk result (count ≤ length leads.new.items) }
+    ensures kept { (other : ℕ) (x : Led) → Contains (list_at (map (λ l. l.items) leads.old.items) other) x → Contains (list_at (map (λ l. l.items) leads.new.items) other) x }
+    ensures led { OnOk result (Contains (list_at (map (λ l. l.items) leads.new.items) code) led) }
 {
-    let mut lists = Vec::with_capacity(alloc, count)?;
-    for _ in 0..count {
-        lists.push_reserved(Vec::new(alloc));
-    }
-    Ok(lists)
+    reach(leads, count)?;
+    let list = &mut leads[code];
+    list.push(led)?;
+    Ok(())
 }
 
 impl Sleepers {
@@ -198,8 +204,8 @@ impl Sleepers {
             numbers: Vec::new(alloc),
             asleep: Vec::new(alloc),
             count: 0,
-            leads: empty_lists(alloc, codes)?,
-            marks: vec![in alloc; 0u32; codes]?,
+            leads: Vec::new(alloc),
+            marks: Vec::new(alloc),
             stamp: 0,
             common: vec![in alloc; 0u32; codes]?,
         })
@@ -281,9 +287,12 @@ impl Sleepers {
         let third = rarest(&self.common, lits, &[first, second]);
         self.numbers.reserve(1)?;
         self.asleep.reserve(1)?;
+        let codes = 2 * self.clauses.vars() as usize + 2;
+        self.marks.resize(codes, 0)?;
         let place = self.numbers.len();
         lead(
             &mut self.leads,
+            codes,
             first.code(),
             Led {
                 place,

@@ -2,11 +2,12 @@ use Rattle.std.proofs.Common.{◌≡◌, ◌+◌, ◌<◌, [], ◌∷◌, ◌++�
 use Rattle.std.specs.Prelude.{◌≢◌, All, AllPairs}
 use Rattle.std.proofs.lemmas.List.{take_more, take_all}
 use Rattle.std.proofs.lemmas.List.Elements.{All-push}
-use Rattle.sat_core.proofs.Loaded.{codes_within}
+use Rattle.cnf_formula.specs.Formulas.{IsAbout}
 use Rattle.sat_core.proofs.loading.are_all_apart.Goals as goal
 
-pub is_apart-requires-clause-room : goal.is_apart-requires-clause-room
-is_apart-requires-clause-room c = codes_within c.args.own c.args.clauses.now c.loop-place.place c.clause.result.now (length c.loop-place.seen.items) c.requires (omega (arith, c.loop-place-test.true, c.loop-place.auto.place-end, c.len-place-end.ensures)) c.clause.ensures c.loop-place.invariant.len
+pub is_apart-requires-clause-about : goal.is_apart-requires-clause-about
+is_apart-requires-clause-about c =
+    subst (All (IsAbout c.args.own)) (sym c.clause.ensures) (c.requires c.loop-place.place [] (omega (arith, c.loop-place-test.true, c.loop-place.auto.place-end, c.len-place-end.ensures)))
 
 pub is_apart-requires-clause-unseen : goal.is_apart-requires-clause-unseen
 is_apart-requires-clause-unseen c = λ k. let b = c.loop-place.invariant.below k in omega (arith, b)
@@ -17,9 +18,8 @@ loop-place-preserved c =
     let clauses = c.args.clauses.now in
     let n = c.loop-place.place in
     let w : n < length clauses = omega (arith, c.loop-place-test.true, c.loop-place.auto.place-end, c.len-place-end.ensures) in
-    let here : AllPairs (λ a b. a ≢ b) (get_or clauses n []) = subst (AllPairs (λ a b. a ≢ b)) c.clause.ensures (c.is_apart.ensures.once c.if-not-is_apart.false) in
+    let here : AllPairs (λ a b. a ≢ b) (get_or clauses n []) = subst (AllPairs (λ a b. a ≢ b)) c.clause.ensures (c.in_ok-is_apart.ensures.once c.if-not-branch.false) in
     record {
-      len = c.is_apart.ensures.len ∙ i.len;
       below = λ k. let b = c.is_apart.ensures.marked k in omega (arith, b);
       once = subst (All (AllPairs (λ a b. a ≢ b))) (sym (take_more clauses n [] w)) (All-push (AllPairs (λ a b. a ≢ b)) (take n clauses) (get_or clauses n []) i.once here);
     }

@@ -1,19 +1,9 @@
-use Rattle.std.proofs.Common.{◌≡◌, ◌+◌, ◌<◌, [], ◌∷◌, ◌++◌, length, take, sym, ap, ◌∙◌, subst, arith}
-use Rattle.std.specs.Prelude.{◌≢◌, AllPairs, Contains}
-use Rattle.std.proofs.lemmas.List.{take_more, take_all}
-use Rattle.std.proofs.lemmas.List.Elements.{Contains-get_or}
-use Rattle.std.proofs.lemmas.List.Quantifiers.{all_pairs_push}
-use Rattle.cnf_formula.specs.Literals.{LitValue}
+use Rattle.std.proofs.Common.{arith}
+use Rattle.sat_core.proofs.Apart.{pair_apart, three_apart}
 use Rattle.sat_core.proofs.loading.are_few_apart.Goals as goal
 
-pub loop-place-preserved : goal.loop-place-preserved
-loop-place-preserved c =
-    let lits = c.args.lits.now in
-    let n = c.loop-place.place in
-    let x : LitValue = c.index-lits-place.result in
-    let w : n < length lits = omega (arith, c.loop-place-test.true, c.loop-place.auto.place-end) in
-    let more : take (n + 1) lits ≡ take n lits ++ x ∷ [] = take_more lits n x w ∙ ap (λ y. take n lits ++ y ∷ []) (sym c.index-lits-place.is) in
-    subst (AllPairs (λ a b. a ≢ b)) (sym more) (all_pairs_push (λ a b. a ≢ b) (take n lits) x c.loop-place.invariant (λ k d v e. c.is_among.ensures c.if-is_among.false (subst (Contains (take n lits)) e (Contains-get_or (take n lits) k d v))))
+pub returns-in-len2 : goal.returns-in-len2
+returns-in-len2 c = λ e. pair_apart c.args.lits.now c.first-item.result c.second-item.result (omega (arith, c.in-len2.len_at_least, c.in-len2.len_below)) c.first-item.is c.second-item.is (c.are_two_apart.ensures e)
 
-pub returns : goal.returns
-returns c = λ e. subst (AllPairs (λ a b. a ≢ b)) (take_all c.loop-place.place c.args.lits.now (omega (arith, c.loop-place-test.false, c.loop-place.auto.place-end))) c.loop-place.invariant
+pub returns-in-len3 : goal.returns-in-len3
+returns-in-len3 c = λ e. three_apart c.args.lits.now c.first-item-then-lits-lt4.result c.second-item-then-lits-lt4.result c.third-item.result (omega (arith, c.in-len3.len_at_least, c.in-len3.len_below)) c.first-item-then-lits-lt4.is c.second-item-then-lits-lt4.is c.third-item.is (c.are_three_apart.ensures.second e) (c.are_three_apart.ensures.third e) (c.are_three_apart.ensures.last e)

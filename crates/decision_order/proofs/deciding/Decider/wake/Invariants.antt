@@ -5,6 +5,6 @@ abbrev pub invariant-loop-index : goal.invariant-loop-index
 invariant-loop-index l = record {
   vars : l.self-inside.vars ≡ l.initial.self-inside.vars;
   order : l.self-inside.order ≡ l.self-inside.vars;
-  queue : l.self-inside.queue ≡ l.self-inside.vars;
+  queue : l.self-inside.queue ≡ l.initial.self-inside.queue;
   phases : length l.self-inside.phases.items ≡ length l.initial.self-inside.phases.items;
 }

@@ -1,4 +1,4 @@
-use Rattle.std.proofs.Common.{◌≡◌, ◌+◌, true, refl, [], ◌∷◌, ◌++◌, length, map, ap, ◌∙◌, subst, arith}
+use Rattle.std.proofs.Common.{◌≡◌, ◌≤◌, ◌+◌, ◌*◌, true, refl, [], ◌∷◌, ◌++◌, length, map, ap, ◌∙◌, subst, arith}
 use Rattle.std.proofs.lemmas.List.{length-map}
 use Rattle.std.specs.Prelude.{Contains}
 use Rattle.sleeping_clauses.specs.declared.sleepers.Led.{Led}
@@ -17,7 +17,8 @@ invariant_of-self-2 c =
     let leads = map (λ v. v.items) c.lead.new.leads.items in
     let numbers : c.push_reserved.new.self.items ≡ i.numbers.items ++ number ∷ [] = c.push_reserved.ensures.items ∙ ap (λ xs. xs ++ number ∷ []) c.in_ok-reserve.ensures.items in
     let flags : c.push_reserved-2.new.self.items ≡ i.asleep.items ++ true ∷ [] = c.push_reserved-2.ensures.items ∙ ap (λ xs. xs ++ true ∷ []) c.in_ok-reserve-2.ensures.items in
-    let long : length leads ≡ length led = omega (arith, length-map c.lead.new.leads.items (λ v. v.items), length-map i.leads.items (λ v. v.items), c.lead.ensures.len) in
+    let long : 2 * vars + 2 ≤ length leads = omega (arith, length-map c.lead.new.leads.items (λ v. v.items), c.in_ok-lead.ensures.room) in
+    let wide : 2 * vars + 2 ≤ length c.resize.new.self.items = omega (arith, c.in_ok-resize.ensures.len) in
     let place : c.len-place.result ≡ length clauses = omega (arith, c.len-place.ensures, ap length c.in_ok-reserve.ensures.items, c.self.invariant.numbers_len) in
     let x : Led = record { place = c.len-place.result; second = c.rarest-second.result; third = c.rarest-third.result } in
     let is : IsLed lits leads (length clauses) = record {
@@ -29,5 +30,5 @@ invariant_of-self-2 c =
       second = c.rarest-second.ensures;
       third = c.rarest-third.ensures;
     } in
-    let s = stored_push vars clauses i.numbers.items i.asleep.items i.count (i.count + 1) led leads i.marks.items lits number c.self.invariant refl long c.lead.ensures.kept c.requires.once is in
+    let s = stored_push vars clauses i.numbers.items i.asleep.items i.count (i.count + 1) led leads i.marks.items c.resize.new.self.items lits number c.self.invariant refl long wide c.lead.ensures.kept c.requires.once is in
     rw (ap (λ f. f.vars) c.in_ok-add.ensures.added, ap (λ f. f.clauses) c.in_ok-add.ensures.added, numbers, flags) s
