@@ -1,6 +1,6 @@
 """What single commands cite of the theorem: the cases of the definitions that go by the command, and by what it asks for.
 
-The rule: a definition by cases has a line for each case. The cases of a command are those of `task_of` and `row_of` that name its
+The rule: a definition by cases has a line for each case. The cases of a command are those of `task_by` and `row_of` that name its
 variant; and those of `IsAnswer` and `LeavesOff` that name a variant of `Task` that the former cite. A refusal's case is every command's."""
 import re
 from collections.abc import Iterator
@@ -8,7 +8,7 @@ from collections.abc import Iterator
 from citing import Module, Name, Reading, cited, read_on, together
 
 RULES = "Rattle.run_rules.specs."
-BY_COMMAND = [(RULES + "Tasks", "task_of"), (RULES + "Commands", "row_of")]
+BY_COMMAND = [(RULES + "Tasks", "task_by"), (RULES + "Commands", "row_of")]
 BY_TASK = [(RULES + "Answers", "IsAnswer"), (RULES + "Answers", "LeavesOff")]
 TASK = (RULES + "Tasks", "Task")
 # What chooses between commands: nobody goes on from these to read one of them.
@@ -48,7 +48,7 @@ def variants(modules: dict[str, Module], reading: Reading) -> set[str]:
 
 def of_command(modules: dict[str, Module], command: str) -> Reading:
     due = together(of_cases(modules, it, command) for it in BY_COMMAND)
-    own = "\n".join(it for it in cases(modules[TASK[0]], "task_of") if re.search(rf"command\.{command}\b", it))
+    own = "\n".join(it for it in cases(modules[TASK[0]], "task_by") if re.search(rf"command\.{command}\b", it))
     asked = variants(modules, due) | {it for it in ("Write", "Try") if re.search(rf"\b{it}\b", own)}
     return together([due, *(of_cases(modules, where, it) for where in BY_TASK for it in asked)])
 

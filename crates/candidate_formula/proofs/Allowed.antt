@@ -9,7 +9,7 @@ use Rattle.std.proofs.lemmas.List.FromFn.{length-range_with_len, get_or-range_wi
 use Rattle.std.proofs.lemmas.List.Kept.{IsStrictlyIncreasing-filter}
 use Rattle.schedule.proofs.First.{Among-from_Contains, Contains-from_Among, among_kept}
 use Rattle.collective_spec.specs.declared.kind.Kind.{Kind}
-use Rattle.collective_spec.specs.Kinds.{allows, divides_evenly}
+use Rattle.collective_spec.specs.Kinds.{allows}
 use Rattle.candidate_order.specs.Ranges.{LimitsValue}
 use Rattle.candidate_order.specs.Listed.{AreAllowed}
 use Rattle.candidate_order.proofs.Rows.{Contains-range}
@@ -57,7 +57,7 @@ allowed_all limits kind nodes = λ c.
           let within = All-contains (From 1 limits.max_c) (filter p range) c (All-filter p (From 1 limits.max_c) range (in_range 1 limits.max_c)) at in
           (omega (arith, within.1), All-contains (λ x. p x ≡ true) (filter p range) c (filter_passes p range) at),
       λ ok.
-          let some = leb-true 1 c (and_parts (nat_le 1 c) (divides_evenly kind nodes c) ok.1).0 in
+          let some = leb-true 1 c (and_parts (nat_le 1 c) _ ok.1).0 in
           Contains-from_Among c (filter p range) (among_kept p c range (Among-from_Contains c range (Contains-range 1 limits.max_c c some (let most = ok.0 in omega (arith, most)))) ok.1),
     )
 

@@ -8,7 +8,8 @@ use Rattle.schedule.specs.Solving.{Solvable}
 use Rattle.collective_spec.specs.Collectives.{adds_up}
 use Rattle.collective_spec.proofs.Sized.{before_among}
 use Rattle.candidate_order.specs.declared.candidate.Candidate.{Candidate}
-use Rattle.candidate_order.specs.Frontiers.{QuestionValue, IsWithin, Achieves, Achievable, IsSolvedBy, IsSolvable, instance_for}
+use Rattle.candidate_order.specs.Frontiers.{QuestionValue, IsWithin, Achieves, IsSolvedBy, IsSolvable, instance_for}
+use Rattle.candidate_order.proofs.Achieved.{Achievable, achieved, solvable_by_one}
 use Rattle.cnf_formula.specs.Formulas.{FormulaValue, Satisfies, Satisfiable}
 use Rattle.round_encoding.specs.Rounding.{formula_of}
 use Rattle.round_encoding.specs.Candidates.{IsCandidate, IsTightSolution}
@@ -42,8 +43,8 @@ plain_holds false t pre post steps rounds is values h = h
 -- a formula that is satisfiable exactly where what copies is solvable
 pub solvable_by : (q : QuestionValue) (x : Candidate) (f g : FormulaValue) → adds_up q.spec ≡ false → f ≡ g → Satisfiable g ↔ Solvable q.topology (instance_for q x).pre (instance_for q x).post x.s x.r → Satisfiable f ↔ IsSolvable q x
 solvable_by q x f g copies formula both = (
-  λ some. subst (λ b. Achievable b q x) (sym copies) (both.0 (subst Satisfiable formula some)),
-  λ some. subst Satisfiable (sym formula) (both.1 (subst (λ b. Achievable b q x) copies some)),
+  λ some. solvable_by_one q x (subst (λ b. Achievable b q x) (sym copies) (both.0 (subst Satisfiable formula some))),
+  λ some. subst Satisfiable (sym formula) (both.1 (subst (λ b. Achievable b q x) copies (achieved q x some))),
 )
 
 pub exact_for : (q : QuestionValue) (x : Candidate) → adds_up q.spec ≡ false → IsCandidate q.topology (instance_for q x).pre (instance_for q x).post x.s x.r → Satisfiable (formula_for q x) ↔ IsSolvable q x

@@ -15,7 +15,7 @@ use Rattle.candidate_order.specs.Ranges.{LimitsValue}
 use Rattle.candidate_order.specs.declared.mark.Mark.TheVariants.{Optimal, Open}
 use Rattle.candidate_order.specs.Costs.{NoWorse, Better, Before}
 use Rattle.candidate_order.proofs.Orders.{Before-irrefl}
-use Rattle.candidate_order.specs.Frontiers.{QuestionValue, PointValue, FrontierValue, solved, IsWithin, IsSized, Achieves, Achievable, IsSolvable, IsPoint, RightFrontier, Searched}
+use Rattle.candidate_order.specs.Frontiers.{QuestionValue, PointValue, FrontierValue, solved, IsWithin, Achieves, IsSolvable, IsPoint, RightFrontier, Searched}
 
 pub none-contained : {X : Type 0} → (xs : List X) (x : X) → xs ≡ [] → Contains xs x → ⊥
 none-contained xs x e h = absurd (let lt = rw e at h.1 in omega (arith, lt))
@@ -63,18 +63,10 @@ module _ (q : QuestionValue) (f : FrontierValue) (right : RightFrontier q f) (se
             absurd (points_differ q f right searched a (i, i_within, here) b.candidate (Contains-map (λ p. p.candidate) f.points b (j, j_within, there)) before (no_worse_too a.candidate b.candidate no_worse before)))
       ]
 
--- a schedule that does what is asked shows that it can be done
-pub shown : (adds : Bool) (t : TopologyValue) (spec : Spec) (l : LimitsValue) (x : Candidate) (s : ScheduleValue) → let q : QuestionValue = record { topology = t; spec = spec; limits = l } in IsSchedule s → IsSized q x s → Achieves adds q x s → Achievable adds q x
-shown true t (Standard collective) l x s valid in_range sums = record { schedule = s; valid = valid; in_range = in_range; sums = sums }
-shown true t (Custom p) l x s valid in_range sums = record { schedule = s; valid = valid; in_range = in_range; sums = sums }
-shown false t (Standard collective) l x s valid in_range solves = record { schedule = s; valid = valid; in_range = in_range; solves = solves }
-shown false t (Custom p) l x s valid in_range solves = record { schedule = s; valid = valid; in_range = in_range; solves = solves }
-
 pub never_both : (q : QuestionValue) (f : FrontierValue) → RightFrontier q f → (p : PointValue) → Contains f.points p → Contains f.refuted p.candidate → ⊥
 never_both q f right p h r =
     let point : IsPoint q f.refuted p = All-contains (IsPoint q f.refuted) f.points p right.points h in
-    let by = point.solves in
-    All-contains (λ x. IsSolvable q x → ⊥) f.refuted p.candidate right.refuted r (shown (adds_up q.spec) q.topology q.spec q.limits p.candidate p.schedule by.valid by.in_range by.achieves)
+    All-contains (λ x. IsSolvable q x → ⊥) f.refuted p.candidate right.refuted r (p.schedule, point.solves)
 
 pub point_achieves : (q : QuestionValue) (f : FrontierValue) → RightFrontier q f → (p : PointValue) → Contains f.points p → Achieves (adds_up q.spec) q p.candidate p.schedule
 point_achieves q f right p h = let point : IsPoint q f.refuted p = All-contains (IsPoint q f.refuted) f.points p right.points h in point.solves.achieves

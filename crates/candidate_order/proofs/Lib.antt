@@ -4,5 +4,6 @@ pub mod Ranks
 pub mod Orders
 pub mod Unique
 pub mod Turns
+pub mod Achieved
 pub mod Frontiers
 pub mod Settled

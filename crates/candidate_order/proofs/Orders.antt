@@ -3,7 +3,6 @@ use Rattle.std.proofs.Common.{◌≡◌, ℕ, ◌*◌, ◌≤◌, ◌⊎◌, inl
 use Rattle.std.specs.Prelude.{nat_le}
 use Rattle.std.proofs.lemmas.Bool.{cases_order, and_parts, leb-true}
 use Rattle.collective_spec.specs.declared.kind.Kind.{Kind}
-use Rattle.collective_spec.specs.Kinds.{divides_evenly}
 use Rattle.collective_spec.specs.Collectives.{kind_in}
 use Rattle.candidate_order.specs.declared.candidate.Candidate.{Candidate}
 use Rattle.candidate_order.specs.Ranges.{LimitsValue}
@@ -17,7 +16,7 @@ HasChunk x = 1 ≤ x.c
 
 -- a candidate within the limits has a chunk
 pub has_chunk : (q : QuestionValue) (x : Candidate) → IsWithin q x → HasChunk x
-has_chunk q x within = leb-true 1 x.c (and_parts (nat_le 1 x.c) (divides_evenly (kind_in q.spec) q.topology.nodes x.c) within.allowed).0
+has_chunk q x within = leb-true 1 x.c (and_parts (nat_le 1 x.c) _ within.allowed).0
 
 pub Before-irrefl : (x : Candidate) → Before x x → ⊥
 Before-irrefl x (inl fewer) = absurd (omega arith)

@@ -9,7 +9,7 @@ use Rattle.candidate_order.specs.declared.candidate.Candidate.{Candidate}
 use Rattle.candidate_order.specs.Costs.{NoWorse, Before}
 use Rattle.candidate_order.specs.Frontiers.{QuestionValue, PointValue, FrontierValue, solved, given_up, IsWithin, IsSolvable, IsPoint, RightFrontier, IsTried, IsWorthTrying, Searched}
 use Rattle.candidate_order.proofs.Orders.{Before-trans, Before-total, has_chunk, HasChunk}
-use Rattle.candidate_order.proofs.Frontiers.{none-contained, shown}
+use Rattle.candidate_order.proofs.Frontiers.{none-contained}
 use Rattle.candidate_order.proofs.Unique.{candidates_apart, one_list_of_candidates}
 use Rattle.candidate_order.proofs.Turns.{Settles, one_by_turns}
 
@@ -20,12 +20,7 @@ module _ (q : QuestionValue) where
     solvable : IsSolvable q x
 
   settled_by : (refuted : List Candidate) (p : PointValue) → IsPoint q refuted p → IsSettled p.candidate
-  settled_by refuted p point =
-      let by = point.solves in
-      record {
-        within = point.within;
-        solvable = shown (adds_up q.spec) q.topology q.spec q.limits p.candidate p.schedule by.valid by.in_range by.achieves;
-      }
+  settled_by refuted p point = record { within = point.within; solvable = (p.schedule, point.solves) }
 
   settled : (f : FrontierValue) → RightFrontier q f → (x : Candidate) → Contains (solved f) x → IsSettled x
   settled f right x has =

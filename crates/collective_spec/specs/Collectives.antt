@@ -65,7 +65,7 @@ spec_instance (spec.Standard collective) nodes c = instance_of collective nodes 
 spec_instance (spec.Custom p) nodes c = record { chunks = p.base * c; pre = copied p.base c nodes p.before; post = copied p.base c nodes p.after }
 
 abbrev pub spec_demand : Spec → ℕ → ℕ → PlacementValue
-spec_demand (spec.Standard collective) nodes c = demand_of collective nodes c
+spec_demand (spec.Standard collective) nodes c = laid_out (after collective.kind collective.root) (chunks_of collective.kind nodes c) nodes
 spec_demand (spec.Custom p) nodes c = copied p.base c nodes p.after
 
 -- the table has the collective, with a root among so many nodes; or the pattern is one for so many nodes

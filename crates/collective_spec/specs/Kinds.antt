@@ -60,10 +60,6 @@ every_kind = standard_kinds ++ Custom ∷ []
 abbrev pub kind_rows : List (List ℕ × ℕ)
 kind_rows = map (λ kind. (word_of kind, number_of kind)) every_kind
 
--- in an all-to-all each node has a chunk for each node
-abbrev pub divides_evenly : Kind → ℕ → ℕ → Bool
-divides_evenly kind nodes c = unwrap_or (option_map (λ row. not row.evenly || c % nodes == 0) (row_of kind)) true
-
--- the chunk count may be c
+-- the chunk count may be c; in an all-to-all each node has a chunk for each node
 abbrev pub allows : Kind → ℕ → ℕ → Bool
-allows kind nodes c = nat_le 1 c && divides_evenly kind nodes c
+allows kind nodes c = nat_le 1 c && unwrap_or (option_map (λ row. not row.evenly || c % nodes == 0) (row_of kind)) true

@@ -11,7 +11,8 @@ use Rattle.collective_spec.specs.Collectives.{adds_up, spec_instance}
 use Rattle.proof_rules.specs.Refuting.{Exhausted}
 use Rattle.cnf_formula.specs.Formulas.{FormulaValue}
 use Rattle.candidate_order.specs.declared.candidate.Candidate.{Candidate}
-use Rattle.candidate_order.specs.Frontiers.{QuestionValue, Achievable, IsSolvable, IsWithin}
+use Rattle.candidate_order.specs.Frontiers.{QuestionValue, IsSolvable, IsWithin}
+use Rattle.candidate_order.proofs.Achieved.{Achievable, achieved}
 use Rattle.engine_rules.specs.declared.settled.Settled.{Settled}
 use Rattle.engine_rules.specs.declared.settled.Settled.TheVariants as settled
 use Rattle.engine_rules.specs.Outcomes.{RecordValue, IsNew}
@@ -27,7 +28,7 @@ module _ (sets : Sets) where
   pub cut_refuted : (q : QuestionValue) (x : Candidate) → adds_up q.spec ≡ false → is_cut sets q x ≡ true → IsSolvable q x → ⊥
   cut_refuted q x copies cut solvable =
       let i = spec_instance q.spec q.topology.nodes x.c in
-      let copied : Solvable q.topology i.pre i.post x.s x.r = subst (λ b. Achievable b q x) copies solvable in
+      let copied : Solvable q.topology i.pre i.post x.s x.r = subst (λ b. Achievable b q x) copies (achieved q x solvable) in
       first_says sets q.topology i.pre i.post copied.schedule x.s x.r cut copied.solves
 
   -- ---- the record

@@ -8,7 +8,8 @@ use Rattle.collective_spec.specs.declared.kind.Kind.TheVariants as kind
 use Rattle.collective_spec.specs.Collectives.{IsSpec, adds_up, kind_in}
 use Rattle.candidate_order.specs.declared.candidate.Candidate.{Candidate}
 use Rattle.candidate_order.specs.Copied.{copied_question}
-use Rattle.candidate_order.specs.Frontiers.{QuestionValue, Achievable, IsSolvable, instance_for}
+use Rattle.candidate_order.specs.Frontiers.{QuestionValue, IsSolvable, instance_for}
+use Rattle.candidate_order.proofs.Achieved.{Achievable, achieved}
 use Rattle.inversion.proofs.Copied.{solvable_exactly}
 use Rattle.node_cuts.specs.Cutting.{sets_for}
 use Rattle.node_cuts.proofs.Crossing.{first_says}
@@ -56,7 +57,7 @@ module _ (tells : Bool) (shelf : Files) (part : Part) (q : QuestionValue) (x : C
 copied_unsolvable : (q : QuestionValue) (x : Candidate) → adds_up q.spec ≡ false → is_cut_away q x ≡ true → IsSolvable q x → ⊥
 copied_unsolvable q x copying cut solvable =
     let i = instance_for q x in
-    let copied : Solvable q.topology i.pre i.post x.s x.r = subst (λ b. Achievable b q x) copying solvable in
+    let copied : Solvable q.topology i.pre i.post x.s x.r = subst (λ b. Achievable b q x) copying (achieved q x solvable) in
     first_says (sets_for q.limits.pruning) q.topology i.pre i.post copied.schedule x.s x.r (sym (copied_cut q x copying) ∙ cut) copied.solves
 
 -- a reduction has the cuts of what copies over the links turned round

@@ -37,7 +37,7 @@ AreJoined r _ = r.joined ≡ []
 
 pub record IsRight (r : ReportValue) : Type 0 where
   pub valid : IsReport r
-  pub parts : All (IsRightPart r) r.frontiers
+  pub parts : All (λ x. RightFrontier (question_of r.words r.topology x.0) x.1) r.frontiers
   pub joined : AreJoined r r.frontiers
 
 pub record IsSearched (r : ReportValue) : Type 0 where

@@ -21,6 +21,7 @@ use Rattle.collective_spec.specs.Layouts.{laid_out, stands}
 use Rattle.candidate_order.specs.declared.candidate.Candidate.{Candidate}
 use Rattle.candidate_order.specs.Ranges.{LimitsValue}
 use Rattle.candidate_order.specs.Frontiers.{QuestionValue, IsSolvable, instance_for}
+use Rattle.candidate_order.proofs.Achieved.{IsAchievable, achieved, solvable_by_one}
 use Rattle.candidate_order.specs.Copied.{copied_kind, copied_question, copied_spec}
 use Rattle.inversion.proofs.Reducing.{question, root_alone, root_some, scattered_alone, scattered_some}
 
@@ -60,23 +61,26 @@ same_sizes (spec.Custom p) nodes c = (refl, refl)
 laid_exactly : (layout : Layout) (chunks : ℕ) (t : TopologyValue) (steps rounds : ℕ) → HeldByOne (laid_out layout chunks t.nodes) → HeldBySome (laid_out layout chunks t.nodes) → SummedSolvable t (laid_out layout chunks t.nodes) steps rounds ↔ Solvable (reversed_of t) (laid_out layout chunks t.nodes) (everywhere chunks t.nodes) steps rounds
 laid_exactly layout chunks t steps rounds alone some = summed_exactly t (laid_out layout chunks t.nodes) steps rounds (placement-placed chunks t.nodes (stands layout t.nodes)) refl alone some
 
-solvable_at : (k : Kind) (root : ℕ) (t : TopologyValue) (limits : LimitsValue) (x : Candidate) → reduces k ≡ true → k ≢ kind.Allreduce → root < t.nodes → IsSolvable (question k root t limits) x ↔ IsSolvable (copied_question (question k root t limits)) x
-solvable_at kind.Broadcast root t limits x adds single below = absurd cc
-solvable_at kind.Gather root t limits x adds single below = absurd cc
-solvable_at kind.Allgather root t limits x adds single below = absurd cc
-solvable_at kind.Scatter root t limits x adds single below = absurd cc
-solvable_at kind.Alltoall root t limits x adds single below = absurd cc
-solvable_at kind.Reduce root t limits x adds single below =
+achievable_at : (k : Kind) (root : ℕ) (t : TopologyValue) (limits : LimitsValue) (x : Candidate) → reduces k ≡ true → k ≢ kind.Allreduce → root < t.nodes → IsAchievable (question k root t limits) x ↔ IsAchievable (copied_question (question k root t limits)) x
+achievable_at kind.Broadcast root t limits x adds single below = absurd cc
+achievable_at kind.Gather root t limits x adds single below = absurd cc
+achievable_at kind.Allgather root t limits x adds single below = absurd cc
+achievable_at kind.Scatter root t limits x adds single below = absurd cc
+achievable_at kind.Alltoall root t limits x adds single below = absurd cc
+achievable_at kind.Reduce root t limits x adds single below =
     laid_exactly (Root root) x.c t x.s x.r (root_alone root x.c t.nodes) (root_some root x.c t.nodes below)
-solvable_at kind.Reducescatter root t limits x adds single below =
+achievable_at kind.Reducescatter root t limits x adds single below =
     laid_exactly Scattered (t.nodes * x.c) t x.s x.r (scattered_alone (t.nodes * x.c) t.nodes) (scattered_some (t.nodes * x.c) t.nodes (omega (arith, below)))
-solvable_at kind.Allreduce root t limits x adds single below = absurd (single refl)
-solvable_at kind.Custom root t limits x adds single below = absurd cc
+achievable_at kind.Allreduce root t limits x adds single below = absurd (single refl)
+achievable_at kind.Custom root t limits x adds single below = absurd cc
 
-spec_solvable : (t : TopologyValue) (asked : Spec) (limits : LimitsValue) (x : Candidate) → adds_up asked ≡ true → kind_in asked ≢ kind.Allreduce → IsSpec t.nodes asked → IsSolvable (record { topology = t; spec = asked; limits = limits }) x ↔ IsSolvable (copied_question (record { topology = t; spec = asked; limits = limits })) x
-spec_solvable t (spec.Standard collective) limits x adds single is = solvable_at collective.kind collective.root t limits x adds single is.1
-spec_solvable t (spec.Custom p) limits x adds single is = absurd cc
+spec_achievable : (t : TopologyValue) (asked : Spec) (limits : LimitsValue) (x : Candidate) → adds_up asked ≡ true → kind_in asked ≢ kind.Allreduce → IsSpec t.nodes asked → IsAchievable (record { topology = t; spec = asked; limits = limits }) x ↔ IsAchievable (copied_question (record { topology = t; spec = asked; limits = limits })) x
+spec_achievable t (spec.Standard collective) limits x adds single is = achievable_at collective.kind collective.root t limits x adds single is.1
+spec_achievable t (spec.Custom p) limits x adds single is = absurd cc
 
 -- a reduction is solvable exactly where the collective is of which it is the inverse
 pub solvable_exactly : (q : QuestionValue) (x : Candidate) → adds_up q.spec ≡ true → kind_in q.spec ≢ kind.Allreduce → IsSpec q.topology.nodes q.spec → IsSolvable q x ↔ IsSolvable (copied_question q) x
-solvable_exactly q x adds single is = spec_solvable q.topology q.spec q.limits x adds single is
+solvable_exactly q x adds single is =
+    let both = spec_achievable q.topology q.spec q.limits x adds single is in
+    let p = copied_question q in
+    (λ some. solvable_by_one p x (both.0 (achieved q x some)), λ some. solvable_by_one q x (both.1 (achieved p x some)))

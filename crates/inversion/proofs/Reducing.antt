@@ -28,6 +28,7 @@ use Rattle.collective_spec.specs.Layouts.{laid_out, stands}
 use Rattle.candidate_order.specs.Ranges.{LimitsValue}
 use Rattle.candidate_order.specs.Frontiers.{QuestionValue, FrontierValue, RightFrontier, Searched}
 use Rattle.candidate_order.specs.Copied.{copied_kind, copied_question}
+use Rattle.candidate_order.proofs.Achieved.{achieved, solvable_by_one}
 use Rattle.inversion.specs.Inverted.{inverted_frontier}
 use Rattle.inversion.proofs.Inverted.{Inverts, right_inverted, searched_inverted}
 
@@ -82,8 +83,8 @@ reduce_inverts root t limits below = record {
     in_range = inverse_in_range a.candidate.c t.nodes a.schedule by.in_range;
     achieves = inverse_adds (Root root) a.candidate.c t a.candidate.s a.candidate.r a.schedule (root_alone root a.candidate.c t.nodes) by.valid by.in_range tight by.achieves;
   };
-  solvable = λ x summed. copies_back (Root root) x.c t x.s x.r (root_some root x.c t.nodes below) summed;
-  wastes = λ a by tight. record { copied = a.schedule; valid = by.valid; in_range = by.in_range; tight = tight; inverse = refl };
+  solvable = λ x some. solvable_by_one (copied_question (question kind.Reduce root t limits)) x (copies_back (Root root) x.c t x.s x.r (root_some root x.c t.nodes below) (achieved (question kind.Reduce root t limits) x some));
+  wastes = λ a by tight. (a.schedule, (by.valid, (by.in_range, (tight, refl))));
 }
 
 reducescatter_inverts : (root : ℕ) (t : TopologyValue) (limits : LimitsValue) → root < t.nodes → Inverts (question kind.Reducescatter root t limits) (copied_question (question kind.Reducescatter root t limits))
@@ -97,8 +98,8 @@ reducescatter_inverts root t limits below = record {
     in_range = inverse_in_range (t.nodes * a.candidate.c) t.nodes a.schedule by.in_range;
     achieves = inverse_adds Scattered (t.nodes * a.candidate.c) t a.candidate.s a.candidate.r a.schedule (scattered_alone (t.nodes * a.candidate.c) t.nodes) by.valid by.in_range tight by.achieves;
   };
-  solvable = λ x summed. copies_back Scattered (t.nodes * x.c) t x.s x.r (scattered_some (t.nodes * x.c) t.nodes (omega (arith, below))) summed;
-  wastes = λ a by tight. record { copied = a.schedule; valid = by.valid; in_range = by.in_range; tight = tight; inverse = refl };
+  solvable = λ x some. solvable_by_one (copied_question (question kind.Reducescatter root t limits)) x (copies_back Scattered (t.nodes * x.c) t x.s x.r (scattered_some (t.nodes * x.c) t.nodes (omega (arith, below))) (achieved (question kind.Reducescatter root t limits) x some));
+  wastes = λ a by tight. (a.schedule, (by.valid, (by.in_range, (tight, refl))));
 }
 
 -- the question of a reduction to one node for each chunk

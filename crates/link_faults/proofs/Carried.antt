@@ -12,7 +12,8 @@ use Rattle.collective_spec.specs.Layouts.{stands}
 use Rattle.collective_spec.specs.Patterns.{in_copies}
 use Rattle.collective_spec.proofs.Chunks.{chunks_more}
 use Rattle.candidate_order.specs.declared.candidate.Candidate.{Candidate}
-use Rattle.candidate_order.specs.Frontiers.{QuestionValue, Achievable, IsSolvable}
+use Rattle.candidate_order.specs.Frontiers.{QuestionValue, IsSolvable}
+use Rattle.candidate_order.proofs.Achieved.{Achievable, achieved, solvable_by_one}
 use Rattle.link_faults.specs.Narrowed.{narrowed}
 use Rattle.link_faults.specs.Carrying.{Carries, HasFewRounds, narrowed_question}
 use Rattle.link_faults.proofs.Fitting.{fits_before}
@@ -55,7 +56,7 @@ module _ (t : TopologyValue) (nodes c d steps rounds more_rounds : ℕ) (fewer :
 
 -- what b has after the fault, a has before it
 pub carried : (q : QuestionValue) (g w : ℕ) (a b : Candidate) → w ≤ (group_at q.topology g).width → HasFewRounds a → Carries a b → IsSolvable (narrowed_question q g w) b → IsSolvable q a
-carried q g w a b less few carries = of_kind (adds_up q.spec)
+carried q g w a b less few carries some = solvable_by_one q a (of_kind (adds_up q.spec) (achieved (narrowed_question q g w) b some))
   where
     of_kind : (adds : Bool) → Achievable adds (narrowed_question q g w) b → Achievable adds q a
     of_kind true solvable =

@@ -7,7 +7,8 @@ use Rattle.std.proofs.lemmas.List.Sums.{sum_by-cons}
 use Rattle.std.proofs.lemmas.Map.Views.{any-filter_same}
 use Rattle.std.proofs.Math.Bool.{and-false}
 use Rattle.schedule.specs.declared.hop.Hop.{Hop}
-use Rattle.schedule.specs.Links.{GroupValue, has_link, same_link}
+use Rattle.schedule.specs.Links.{GroupValue, has_link}
+use Rattle.schedule.specs.Placed.{same_pair}
 use Rattle.schedule.specs.Sends.{link_of}
 use Rattle.schedule.specs.Fitting.{load}
 use Rattle.schedule.proofs.Placing.{pair_is}
@@ -15,7 +16,7 @@ use Rattle.link_faults.specs.Narrowed.{without, has_links, left_of}
 
 -- a link is left in a group exactly where it was there and is not gone
 pub left_link : (lost group : GroupValue) (link : ℕ × ℕ) → has_link (without lost group) link ≡ (not (has_link lost link) && has_link group link)
-left_link lost group link = any-filter_same (same_link link) (λ l. not (has_link lost l)) (not (has_link lost link)) (λ l same. ap (λ x. not (has_link lost x)) (sym (pair_is link l same))) group.links
+left_link lost group link = any-filter_same (same_pair link) (λ l. not (has_link lost l)) (not (has_link lost link)) (λ l same. ap (λ x. not (has_link lost x)) (sym (pair_is link l same))) group.links
 
 -- a link that is left was there
 pub was_there : (lost group : GroupValue) (link : ℕ × ℕ) → has_link (without lost group) link ≡ true → has_link group link ≡ true
@@ -63,7 +64,7 @@ no_load group step (h ∷ sends) none =
     ∙ ap (λ b. cond {A = ℕ} b 1 0 + load group step sends) (and-false (eqb h.step step))
     ∙ ap (λ n. 0 + n) (no_load group step sends none)
   where
-    without_links : (links : List (ℕ × ℕ)) → has_links (record { links = links; width = group.width }) ≡ false → list_any (same_link (link_of h)) links ≡ false
+    without_links : (links : List (ℕ × ℕ)) → has_links (record { links = links; width = group.width }) ≡ false → list_any (same_pair (link_of h)) links ≡ false
     without_links [] e = refl
     without_links (l ∷ links) e = absurd (false≢true (sym e ∙ lt-ltb 0 (length (l ∷ links)) (omega arith)))
 

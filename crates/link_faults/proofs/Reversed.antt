@@ -5,7 +5,8 @@ use Rattle.std.specs.List.{list_any}
 use Rattle.std.proofs.lemmas.List.{length-map}
 use Rattle.std.proofs.lemmas.List.Elements.{All-weaker}
 use Rattle.std.proofs.Math.Bool.{and_comm}
-use Rattle.schedule.specs.Links.{GroupValue, TopologyValue, has_link, same_link, turned, reversed_group, reversed_of}
+use Rattle.schedule.specs.Links.{GroupValue, TopologyValue, has_link, turned, reversed_group, reversed_of}
+use Rattle.schedule.specs.Placed.{same_pair}
 use Rattle.schedule.specs.Judging.{group_at}
 use Rattle.collective_spec.specs.declared.kind.Kind.TheVariants as kind
 use Rattle.collective_spec.specs.Collectives.{IsSpec, adds_up, kind_in}
@@ -16,11 +17,11 @@ use Rattle.link_faults.specs.Narrowed.{with_width, without, has_links, left_of, 
 use Rattle.inversion.proofs.Copied.{solvable_exactly}
 use Rattle.link_faults.specs.Carrying.{IsOldRefuted, narrowed_question}
 
-any_turned : (link : ℕ × ℕ) (links : List (ℕ × ℕ)) → list_any (same_link (turned link)) (map turned links) ≡ list_any (same_link link) links
+any_turned : (link : ℕ × ℕ) (links : List (ℕ × ℕ)) → list_any (same_pair (turned link)) (map turned links) ≡ list_any (same_pair link) links
 any_turned link [] = refl
 any_turned link (l ∷ links) =
-    ap (λ b. b || list_any (same_link (turned link)) (map turned links)) (and_comm (eqb link.1 l.1) (eqb link.0 l.0))
-    ∙ ap (λ b. same_link link l || b) (any_turned link links)
+    ap (λ b. b || list_any (same_pair (turned link)) (map turned links)) (and_comm (eqb link.1 l.1) (eqb link.0 l.0))
+    ∙ ap (λ b. same_pair link l || b) (any_turned link links)
 
 links_turned : (lost : GroupValue) (links : List (ℕ × ℕ)) → filter (λ link. not (has_link (reversed_group lost) link)) (map turned links) ≡ map turned (filter (λ link. not (has_link lost link)) links)
 links_turned lost [] = refl

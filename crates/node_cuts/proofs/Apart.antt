@@ -12,7 +12,8 @@ use Rattle.list_laws.proofs.Each.{each_always}
 use Rattle.std.proofs.lemmas.List.FromFn.{length-range_with_len}
 use Rattle.list_laws.proofs.Ranges.{any_at}
 use Rattle.list_laws.proofs.Tests.{few_kept}
-use Rattle.schedule.specs.Links.{TopologyValue, has_link, same_link}
+use Rattle.schedule.specs.Links.{TopologyValue, has_link}
+use Rattle.schedule.specs.Placed.{same_pair}
 use Rattle.schedule.specs.Judging.{group_at}
 use Rattle.schedule.proofs.First.{among_each, any_among, any_found, each_among, each_weaker, filter_among}
 use Rattle.schedule.proofs.Placing.{pair_is}
@@ -130,7 +131,7 @@ module _ (u : NodeSet) (t : TopologyValue) where
   keep_left false = refl
   keep_left true = refl
 
-  same_self : (link : ℕ × ℕ) → same_link link link ≡ true
+  same_self : (link : ℕ × ℕ) → same_pair link link ≡ true
   same_self link = and_from (link.0 == link.0) (link.1 == link.1) (eq-eqb link.0 link.0 refl) (eq-eqb link.1 link.1 refl)
 
   in_range : (g : ℕ) (link : ℕ × ℕ) → has_link (group_at t g) link ≡ true → g < length t.groups
@@ -163,9 +164,9 @@ module _ (u : NodeSet) (t : TopologyValue) where
     agree_itself taken h other =
         each_among (λ link. is_among t taken link ≡ is_among t (taken ++ h ∷ []) link) (group_at t g).links (λ link among.
         let none : has_link (group_at t h) link ≡ false = false_from_ne_true (has_link (group_at t h) link) (λ it.
-        let found = any_found (same_link link) (group_at t h).links it in
+        let found = any_found (same_pair link) (group_at t h).links it in
         let is : link ≡ found.0 = pair_is link found.0 found.2 in
-        let its : of_it found.0 ≡ true = ap of_it (sym is) ∙ any_among (same_link link) link (group_at t g).links among (same_self link) in
+        let its : of_it found.0 ≡ true = ap of_it (sym is) ∙ any_among (same_pair link) link (group_at t g).links among (same_self link) in
         false≢true (sym (apart_from h (in_range h link it) other) ∙ any_among of_it found.0 (group_at t h).links found.1 its)) in
         sym (list_any-append (λ k. has_link (group_at t k) link) taken (h ∷ []) ∙ ap (λ b. is_among t taken link || (b || false)) none ∙ keep_left (is_among t taken link)))
 
@@ -178,7 +179,7 @@ module _ (u : NodeSet) (t : TopologyValue) where
         let link : ℕ × ℕ = found.0 in
         let parts = and_parts (enters u link) (not (is_among t (taken ++ g ∷ []) link)) found.2 in
         let among : is_among t (taken ++ g ∷ []) link ≡ true = list_any-append (λ k. has_link (group_at t k) link) taken (g ∷ [])
-        ∙ or_right (is_among t taken link) (of_it link || false) (or_left (of_it link) false (any_among (same_link link) link (group_at t g).links found.1 (same_self link))) in
+        ∙ or_right (is_among t taken link) (of_it link || false) (or_left (of_it link) false (any_among (same_pair link) link (group_at t g).links found.1 (same_self link))) in
         false≢true (sym (not-true (is_among t (taken ++ g ∷ []) link) parts.1) ∙ among))
 
     abbrev another : ℕ → Bool

@@ -9,7 +9,8 @@ use Rattle.std.proofs.lemmas.List.{get_or_past}
 use Rattle.std.proofs.lemmas.List.Folds.{list_any-append}
 use Rattle.std.proofs.lemmas.List.Sums.{sum_by-cons}
 use Rattle.schedule.specs.declared.hop.Hop.{Hop}
-use Rattle.schedule.specs.Links.{TopologyValue, same_link, has_link, is_usable}
+use Rattle.schedule.specs.Links.{TopologyValue, has_link, is_usable}
+use Rattle.schedule.specs.Placed.{same_pair}
 use Rattle.schedule.specs.Sends.{ScheduleValue, link_of}
 use Rattle.schedule.specs.Fitting.{load, rounds_at}
 use Rattle.schedule.specs.Judging.{group_at}
@@ -67,7 +68,7 @@ module _ (u : NodeSet) (t : TopologyValue) where
     -- a group that has the link opens the set, where the link stands in no group taken before
     opens_here : (taken : List ℕ) (n : ℕ) → has n ≡ true → is_among t taken link ≡ false → opens u t taken n ≡ true
     opens_here taken n stands not_yet =
-        let found = any_found (same_link link) (group_at t n).links stands in
+        let found = any_found (same_pair link) (group_at t n).links stands in
         let it : link ≡ found.0 = pair_is link found.0 found.2 in
         let new : (enters u found.0 && not (is_among t taken found.0)) ≡ true = ap (λ l. enters u l && not (is_among t taken l)) (sym it) ∙ and_from (enters u link) (not (is_among t taken link)) into (not_from_false (is_among t taken link) not_yet) in
         any_among (λ l. enters u l && not (is_among t taken l)) found.0 (group_at t n).links found.1 new

@@ -5,7 +5,7 @@ use Rattle.std.proofs.Math.Nat.{mod_self, mod-eq_of_lt}
 use Rattle.std.proofs.lemmas.Bool.{and_from, and_parts, le-leb, leb-true, eq-eqb, eqb-true, cases_lt}
 use Rattle.collective_spec.specs.declared.kind.Kind.{Kind}
 use Rattle.collective_spec.specs.declared.kind.Kind.TheVariants.{Broadcast, Gather, Allgather, Scatter, Alltoall, Reduce, Reducescatter, Allreduce, Custom}
-use Rattle.collective_spec.specs.Kinds.{allows, divides_evenly}
+use Rattle.collective_spec.specs.Kinds.{allows}
 use Rattle.node_cuts.specs.Floors.{least_count}
 
 pub least_allowed : (kind : Kind) (nodes : ℕ) → 0 < nodes → allows kind nodes (least_count kind nodes) ≡ true
@@ -42,5 +42,5 @@ least_least Custom nodes c allowed = positive c true allowed
 
 pub least_positive : (kind : Kind) (nodes : ℕ) → 0 < nodes → 0 < least_count kind nodes
 least_positive kind nodes some =
-    let one : 1 ≤ least_count kind nodes = positive (least_count kind nodes) (divides_evenly kind nodes (least_count kind nodes)) (least_allowed kind nodes some) in
+    let one : 1 ≤ least_count kind nodes = positive (least_count kind nodes) _ (least_allowed kind nodes some) in
     omega (arith, one)

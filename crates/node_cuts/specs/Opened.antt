@@ -1,7 +1,8 @@
 -- Tables of what a cover has not covered yet. This project's own.
 use Rattle.std.specs.Prelude.{◌≡◌, ◌==◌, ◌&&◌, ◌<◌, not, Bool, false, ℕ, List, slice_index_or}
 use Rattle.std.specs.List.{list_any}
-use Rattle.schedule.specs.Links.{GroupValue, TopologyValue, has_link, same_link}
+use Rattle.schedule.specs.Links.{GroupValue, TopologyValue, has_link}
+use Rattle.schedule.specs.Placed.{same_pair}
 use Rattle.schedule.specs.Tables.{Marks, marked_at}
 use Rattle.schedule.specs.Judging.{group_at}
 use Rattle.node_cuts.specs.declared.greedy.Choice.{Choice}
@@ -10,7 +11,7 @@ use Rattle.node_cuts.specs.Cuts.{all_groups, enters, is_among, opened}
 
 -- the new table has the links of the old that are none of these
 abbrev pub RemovesLinks : List Bool → List Bool → List (ℕ × ℕ) → Type 0
-RemovesLinks old new links = Marks new (λ link. marked_at old link && not (list_any (same_link link) links))
+RemovesLinks old new links = Marks new (λ link. marked_at old link && not (list_any (same_pair link) links))
 
 -- the table has the links into the set that stand in none of these groups
 abbrev pub MarksOpen : List Bool → NodeSet → TopologyValue → List ℕ → Type 0

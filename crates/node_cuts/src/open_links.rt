@@ -2,7 +2,8 @@
 
 ghost use Rattle.std.specs.Prelude.{◌≡◌, ◌<◌, ◌≤◌, length, count_by, All};
 ghost use Rattle.std.specs.List.{list_any};
-ghost use Rattle.schedule.specs.Links.{IsBelow, same_link};
+ghost use Rattle.schedule.specs.Links.{IsBelow};
+ghost use Rattle.schedule.specs.Placed.{same_pair};
 ghost use Rattle.schedule.specs.Tables.{Marks, marked_at};
 ghost use Rattle.node_cuts.specs.Sides.{members};
 ghost use Rattle.node_cuts.specs.Cuts.{enters};
@@ -37,7 +38,7 @@ impl OpenLinks {
     /// These links.
     pub(crate) fn of(links: &[(u8, u8)]) -> OpenLinks
         requires { All (IsBelow 16) links.now }
-        ensures { Marks result.cells (λ link. list_any (same_link link) links.now) }
+        ensures { Marks result.cells (λ link. list_any (same_pair link) links.now) }
     {
         let mut cells = [false; 256];
         for &(from, to) in links {

@@ -10,7 +10,7 @@ use Rattle.collective_spec.specs.declared.kind.Kind.{Kind}
 use Rattle.collective_spec.specs.declared.collective.Collective.{Collective}
 use Rattle.collective_spec.specs.declared.spec.Spec.{Spec}
 use Rattle.collective_spec.specs.declared.spec.Spec.TheVariants as spec
-use Rattle.collective_spec.specs.Kinds.{allows, divides_evenly, is_custom}
+use Rattle.collective_spec.specs.Kinds.{allows, is_custom}
 use Rattle.collective_spec.specs.Patterns.{PatternValue, IsPattern}
 use Rattle.collective_spec.specs.Collectives.{IsSpec, chunks_in, fits_kind, spec_demand, spec_instance, spec_of}
 use Rattle.candidate_order.specs.declared.mark.Mark.{Mark}
@@ -48,7 +48,7 @@ spec_valid r part valid =
 -- ---- each point of a report can be shown
 
 some_count : (k : Kind) (nodes c : ℕ) → IsTrue (allows k nodes c) → 1 ≤ c
-some_count k nodes c e = leb-true 1 c (and_parts (nat_le 1 c) (divides_evenly k nodes c) e).0
+some_count k nodes c e = leb-true 1 c (and_parts (nat_le 1 c) _ e).0
 
 -- the mark of a point that joins no others says nothing of its steps
 every_step : (m : Mark) (steps : ℕ) → (m ≡ mark.Optimal) ⊎ (m ≡ mark.Open) → steps_that_add m steps ≡ steps

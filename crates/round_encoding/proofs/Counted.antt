@@ -7,8 +7,8 @@ use Rattle.std.proofs.lemmas.List.Elements.{All-nil, All-cons, All-head, All-tai
 use Rattle.std.proofs.lemmas.List.Folds.{list_any_at}
 use Rattle.std.proofs.lemmas.List.FromFn.{length-map-range_with_len}
 use Rattle.std.proofs.Math.Nat.{mul-le-mul_left}
-use Rattle.schedule.specs.Links.{GroupValue, TopologyValue, IsTopology, IsBelow, same_link, has_link, is_usable, usable_links}
-use Rattle.schedule.specs.Placed.{PlacementValue}
+use Rattle.schedule.specs.Links.{GroupValue, TopologyValue, IsTopology, IsBelow, has_link, is_usable, usable_links}
+use Rattle.schedule.specs.Placed.{PlacementValue, same_pair}
 use Rattle.schedule.proofs.Placing.{holds-placed, pair_itself}
 use Rattle.cnf_formula.specs.Literals.{LitValue, yes, negation}
 use Rattle.cnf_formula.specs.Formulas.{IsAbout, IsClause, IsFormula}
@@ -105,19 +105,19 @@ module _ (f : Frame) where
 
 -- ---- a topology's links
 
-link_listed : (t : TopologyValue) (link : ℕ × ℕ) → IsBelow t.nodes link → is_usable t link ≡ true → list_any (same_link link) (usable_links t) ≡ true
+link_listed : (t : TopologyValue) (link : ℕ × ℕ) → IsBelow t.nodes link → is_usable t link ≡ true → list_any (same_pair link) (usable_links t) ≡ true
 link_listed t link below usable = holds-placed t.nodes t.nodes (is_usable t) link below.from below.to ∙ usable
 
 in_group : (t : TopologyValue) (k j : ℕ) (d : GroupValue) (e : ℕ × ℕ) → k < length t.groups → j < length (get_or t.groups k d).links → is_usable t (get_or (get_or t.groups k d).links j e) ≡ true
 in_group t k j d e low few =
     let group = get_or t.groups k d in
     let link = get_or group.links j e in
-    list_any_at (λ g. has_link g link) t.groups k d low (list_any_at (same_link link) group.links j e few (pair_itself link))
+    list_any_at (λ g. has_link g link) t.groups k d low (list_any_at (same_pair link) group.links j e few (pair_itself link))
 
 pub placed_links : (t : TopologyValue) (pre : PlacementValue) (steps k : ℕ) (d : GroupValue) → IsTopology t → k < length t.groups → All (λ link. number_of (map_of t pre steps) link < length (usable_links t)) (get_or t.groups k d).links
 placed_links t pre steps k d ok low = λ j e few.
     let link = get_or (get_or t.groups k d).links j e in
-    place_below (same_link link) (usable_links t) (link_listed t link (ok.nodes k d low j e few) (in_group t k j d e low few))
+    place_below (same_pair link) (usable_links t) (link_listed t link (ok.nodes k d low j e few) (in_group t k j d e low few))
 
 -- a group has links, and each has its number
 abbrev Carries : TopologyValue → PlacementValue → ℕ → GroupValue → Type 0

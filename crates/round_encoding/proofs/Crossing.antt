@@ -4,7 +4,8 @@ use Rattle.std.specs.Prelude.{◌&&◌, flat_map, count_by, All, AllPairs}
 use Rattle.std.specs.List.{list_any, range_with_len}
 use Rattle.std.proofs.lemmas.Bool.{and_parts, and_from, eqb-true, eq-eqb}
 use Rattle.schedule.specs.declared.hop.Hop.{Hop}
-use Rattle.schedule.specs.Links.{GroupValue, same_link, has_link}
+use Rattle.schedule.specs.Links.{GroupValue, has_link}
+use Rattle.schedule.specs.Placed.{same_pair}
 use Rattle.schedule.specs.Sends.{hop_before, link_of}
 use Rattle.schedule.specs.Fitting.{load}
 use Rattle.schedule.proofs.Placing.{pair_is}
@@ -39,7 +40,7 @@ module _ (f : Frame) (values : List Bool) (links : All (JoinsNodes f.map) f.map.
 
   -- the send carries this chunk over this link
   abbrev carries : Hop → ℕ × (ℕ × ℕ) → Bool
-  carries h z = eqb h.chunk z.0 && same_link (link_of h) z.1
+  carries h z = eqb h.chunk z.0 && same_pair (link_of h) z.1
 
   abbrev hit : Hop → ℕ × (ℕ × ℕ) → Bool
   hit h z = eqb h.step k && carries h z
@@ -47,15 +48,15 @@ module _ (f : Frame) (values : List Bool) (links : All (JoinsNodes f.map) f.map.
   cell_of : (h : Hop) → h.chunk < m.chunks → has_link group (link_of h) ≡ true → list_any (carries h) cells ≡ true
   cell_of h low has =
       any_range (carries h) (λ c. map (λ l. (c, l)) group.links) 0 m.chunks h.chunk (omega arith) (omega (arith, low))
-      (any_alike (carries h) (same_link (link_of h)) (λ l. Unit {0}) (λ l. (h.chunk, l)) group.links (λ l _. ap (λ b. b && same_link (link_of h) l) (eq-eqb h.chunk h.chunk refl)) (λ i d low. tt) ∙ has)
+      (any_alike (carries h) (same_pair (link_of h)) (λ l. Unit {0}) (λ l. (h.chunk, l)) group.links (λ l _. ap (λ b. b && same_pair (link_of h) l) (eq-eqb h.chunk h.chunk refl)) (λ i d low. tt) ∙ has)
 
   hit_once : (z : ℕ × (ℕ × ℕ)) → count_by (λ h. hit h z) sends ≤ 1
   hit_once z =
       apart_once (λ a b. hop_before a b ≡ true) (λ h. hit h z) (λ a b before at bt.
       let pa = and_parts (eqb a.step k) (carries a z) at in
       let pb = and_parts (eqb b.step k) (carries b z) bt in
-      let qa = and_parts (eqb a.chunk z.0) (same_link (link_of a) z.1) pa.1 in
-      let qb = and_parts (eqb b.chunk z.0) (same_link (link_of b) z.1) pb.1 in
+      let qa = and_parts (eqb a.chunk z.0) (same_pair (link_of a) z.1) pa.1 in
+      let qb = and_parts (eqb b.chunk z.0) (same_pair (link_of b) z.1) pb.1 in
       let link : link_of a ≡ link_of b = pair_is (link_of a) z.1 qa.1 ∙ sym (pair_is (link_of b) z.1 qb.1) in
       never_twice a b before (eqb-true a.step k pa.0 ∙ sym (eqb-true b.step k pb.0)) (eqb-true a.chunk z.0 qa.0 ∙ sym (eqb-true b.chunk z.0 qb.0)) (ap (λ l. l.0) link) (ap (λ l. l.1) link)) sends
       (sends_ascend m values ascend)
@@ -77,7 +78,7 @@ module _ (f : Frame) (values : List Bool) (links : All (JoinsNodes f.map) f.map.
       let h = found.0 in
       let it = found.3 in
       let now = and_parts (eqb h.step k) (carries h z) found.1 in
-      let what = and_parts (eqb h.chunk z.0) (same_link (link_of h) z.1) now.1 in
+      let what = and_parts (eqb h.chunk z.0) (same_pair (link_of h) z.1) now.1 in
       let link : link_of h ≡ z.1 = pair_is (link_of h) z.1 what.1 in
       let number : number_of m z.1 ≡ it.link.0 = place_is m.links ascend z.1 it.link.0 it.is_link.number (sym link ∙ sym it.ends ∙ it.is_link.is) in
       ap (λ e. x z.0 e k) number ∙ ap (λ c. x c it.link.0 k) (sym (eqb-true h.chunk z.0 what.0)) ∙ ap (x h.chunk it.link.0) (sym (eqb-true h.step k now.0)) ∙ it.sent) in

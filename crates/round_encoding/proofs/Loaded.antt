@@ -5,8 +5,8 @@ use Rattle.std.specs.List.{list_any, range_with_len}
 use Rattle.std.proofs.lemmas.Bool.{and_parts, and_from}
 use Rattle.std.proofs.lemmas.List.Folds.{list_any_at}
 use Rattle.schedule.specs.declared.hop.Hop.{Hop}
-use Rattle.schedule.specs.Links.{TopologyValue, GroupValue, IsTopology, same_link, has_link, is_usable, usable_links}
-use Rattle.schedule.specs.Placed.{PlacementValue}
+use Rattle.schedule.specs.Links.{TopologyValue, GroupValue, IsTopology, has_link, is_usable, usable_links}
+use Rattle.schedule.specs.Placed.{PlacementValue, same_pair}
 use Rattle.schedule.specs.Sends.{ScheduleValue, IsStep, IsInRange, link_of}
 use Rattle.schedule.specs.Fitting.{load}
 use Rattle.schedule.specs.Solving.{Solves}
@@ -30,8 +30,8 @@ module _ (t : TopologyValue) (pre post : PlacementValue) (s : ScheduleValue) (st
 
     link_is : (link : ℕ × ℕ) → (link.0 < t.nodes) × (link.1 < t.nodes) × (is_usable t link ≡ true) → IsLinkOf m (number_of m link, link)
     link_is link at =
-        let listed : list_any (same_link link) (usable_links t) ≡ true = holds-placed t.nodes t.nodes (is_usable t) link at.0 at.1 ∙ at.2 in
-        record { number = place_below (same_link link) (usable_links t) listed; from = at.0; to = at.1; is = pair_is link (get_or (usable_links t) (number_of m link) (0, 0)) (passes_at (same_link link) (usable_links t) (0, 0) listed) }
+        let listed : list_any (same_pair link) (usable_links t) ≡ true = holds-placed t.nodes t.nodes (is_usable t) link at.0 at.1 ∙ at.2 in
+        record { number = place_below (same_pair link) (usable_links t) listed; from = at.0; to = at.1; is = pair_is link (get_or (usable_links t) (number_of m link) (0, 0)) (passes_at (same_pair link) (usable_links t) (0, 0) listed) }
 
     -- each link of the group is one of the map, and stands in the group
     abbrev pub Good : ℕ × ℕ → Type 0
@@ -41,7 +41,7 @@ module _ (t : TopologyValue) (pre post : PlacementValue) (s : ScheduleValue) (st
     good = λ j e few.
         let link = get_or group.links j e in
         let below = ok.nodes i d low j e few in
-        let own : has_link group link ≡ true = list_any_at (same_link link) group.links j e few (pair_itself link) in
+        let own : has_link group link ≡ true = list_any_at (same_pair link) group.links j e few (pair_itself link) in
         (link_is link (below.from, below.to, list_any_at (λ g. has_link g link) t.groups i d low own), own)
 
     abbrev pub cells : List (ℕ × (ℕ × ℕ))
@@ -53,16 +53,16 @@ module _ (t : TopologyValue) (pre post : PlacementValue) (s : ScheduleValue) (st
 
     pub table_loads : (k : ℕ) → IsStep steps k → count_by (λ z. brought m pre s z.0 (number_of m z.1) k) cells ≤ load group k s.sends
     table_loads k step =
-        let hit = λ (z : ℕ × (ℕ × ℕ)) (h : Hop). eqb h.step k && (eqb h.chunk z.0 && same_link (link_of h) z.1) in
+        let hit = λ (z : ℕ × (ℕ × ℕ)) (h : Hop). eqb h.step k && (eqb h.chunk z.0 && same_pair (link_of h) z.1) in
         let sent = count_weaker (λ z. brought m pre s z.0 (number_of m z.1) k) (λ z. list_any (hit z) s.sends) (λ z. (z.0 < m.chunks) × Good z.1) cells good_cells (λ z at h.
         (and_parts (had pre s z.0 z.1.0 (k - 1)) (list_any (hit z) s.sends) (first t pre post s steps rounds nodes links range solves z.0 k (number_of m z.1, z.1) at.1.0 h).carries).1) in
         let once : (h : Hop) → count_by (λ z. hit z h) cells ≤ 1 = λ h.
-        let fewer = count_weaker (λ z. hit z h) (λ z. eqb h.chunk z.0 && same_link (link_of h) z.1) (λ z. (z.0 < m.chunks) × Good z.1) cells good_cells (λ z at u. (and_parts (eqb h.step k) (eqb h.chunk z.0 && same_link (link_of h) z.1) u).1) in
+        let fewer = count_weaker (λ z. hit z h) (λ z. eqb h.chunk z.0 && same_pair (link_of h) z.1) (λ z. (z.0 < m.chunks) × Good z.1) cells good_cells (λ z at u. (and_parts (eqb h.step k) (eqb h.chunk z.0 && same_pair (link_of h) z.1) u).1) in
         omega (arith, fewer, meets_once h.chunk (link_of h) group.links 0 m.chunks (ok.groups i d low).distinct) in
         let turned = any_count hit cells s.sends once in
         let loaded = count_weaker (λ h. list_any (λ z. hit z h) cells) (λ h. eqb h.step k && has_link group (link_of h)) (λ h. Unit {0}) s.sends (λ j e few. tt) (λ h _ u.
         let found = member (λ z. hit z h) (λ z. (z.0 < m.chunks) × Good z.1) cells good_cells u in
-        let now = and_parts (eqb h.step k) (eqb h.chunk found.0.0 && same_link (link_of h) found.0.1) found.1 in
-        let same = pair_is (link_of h) found.0.1 (and_parts (eqb h.chunk found.0.0) (same_link (link_of h) found.0.1) now.1).1 in
+        let now = and_parts (eqb h.step k) (eqb h.chunk found.0.0 && same_pair (link_of h) found.0.1) found.1 in
+        let same = pair_is (link_of h) found.0.1 (and_parts (eqb h.chunk found.0.0) (same_pair (link_of h) found.0.1) now.1).1 in
         and_from (eqb h.step k) (has_link group (link_of h)) now.0 (ap (has_link group) same ∙ found.3.1.1)) in
         omega (arith, sent, turned, loaded)

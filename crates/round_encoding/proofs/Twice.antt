@@ -4,7 +4,7 @@ use Rattle.std.specs.Prelude.{◌||◌, ◌&&◌, flat_map, count_by, AllPairs}
 use Rattle.std.specs.List.{list_any, range_with_len}
 use Rattle.std.proofs.lemmas.Bool.{or_parts, cases_Bool, eqb-true, false_from_ne_true}
 use Rattle.std.proofs.lemmas.List.Sums.{sum_by-cons, sum_by-append}
-use Rattle.schedule.specs.Links.{same_link}
+use Rattle.schedule.specs.Placed.{same_pair}
 use Rattle.schedule.proofs.Placing.{pair_is}
 use Rattle.send_encoding.proofs.Members.{none_of}
 
@@ -41,52 +41,52 @@ any_count hit zs (h ∷ hops) once =
 
 -- ---- pairs of a number and a link of a list without doubles
 
-pub link_once : (link : ℕ × ℕ) (ls : List (ℕ × ℕ)) → AllPairs (λ a b. a ≢ b) ls → count_by (same_link link) ls ≤ 1
+pub link_once : (link : ℕ × ℕ) (ls : List (ℕ × ℕ)) → AllPairs (λ a b. a ≢ b) ls → count_by (same_pair link) ls ≤ 1
 link_once link [] apart = omega arith
 link_once link (l ∷ ls) apart =
-    let rest : count_by (same_link link) ls ≤ 1 = link_once link ls (λ i j d low few. apart (suc i) (suc j) d (omega (arith, low)) (omega (arith, few))) in
+    let rest : count_by (same_pair link) ls ≤ 1 = link_once link ls (λ i j d low few. apart (suc i) (suc j) d (omega (arith, low)) (omega (arith, few))) in
     ⊎_elim (λ t.
     let is : link ≡ l = pair_is link l t in
-    let none : count_by (same_link link) ls ≡ 0 = none_of (same_link link) ls (λ k d low. false_from_ne_true (same_link link (get_or ls k d)) (λ u.
+    let none : count_by (same_pair link) ls ≡ 0 = none_of (same_pair link) ls (λ k d low. false_from_ne_true (same_pair link (get_or ls k d)) (λ u.
     apart 0 (suc k) d (omega arith) (omega (arith, low)) (sym is ∙ pair_is link (get_or ls k d) u))) in
-    omega (arith, count_cons (same_link link) l ls ∙ ap (λ b. cond b 1 0 + count_by (same_link link) ls) t, none))
-    (λ f. omega (arith, count_cons (same_link link) l ls ∙ ap (λ b. cond b 1 0 + count_by (same_link link) ls) f, rest))
-    (cases_Bool (same_link link l))
+    omega (arith, count_cons (same_pair link) l ls ∙ ap (λ b. cond b 1 0 + count_by (same_pair link) ls) t, none))
+    (λ f. omega (arith, count_cons (same_pair link) l ls ∙ ap (λ b. cond b 1 0 + count_by (same_pair link) ls) f, rest))
+    (cases_Bool (same_pair link l))
 
 module _ (chunk : ℕ) (link : ℕ × ℕ) (ls : List (ℕ × ℕ)) where
   abbrev meets : ℕ × (ℕ × ℕ) → Bool
-  meets z = eqb chunk z.0 && same_link link z.1
+  meets z = eqb chunk z.0 && same_pair link z.1
 
-  in_row : (c : ℕ) (ks : List (ℕ × ℕ)) → count_by meets (map (λ l. (c, l)) ks) ≡ cond (eqb chunk c) (count_by (same_link link) ks) 0
+  in_row : (c : ℕ) (ks : List (ℕ × ℕ)) → count_by meets (map (λ l. (c, l)) ks) ≡ cond (eqb chunk c) (count_by (same_pair link) ks) 0
   in_row c [] = go (eqb chunk c)
     where
       go : (b : Bool) → zero ≡ cond b zero zero
       go true = refl
       go false = refl
   in_row c (k ∷ ks) =
-      count_cons meets (c, k) (map (λ l. (c, l)) ks) ∙ ap (λ n. cond (eqb chunk c && same_link link k) 1 0 + n) (in_row c ks) ∙ go (eqb chunk c)
-      ∙ ap (λ n. cond (eqb chunk c) n 0) (sym (count_cons (same_link link) k ks))
+      count_cons meets (c, k) (map (λ l. (c, l)) ks) ∙ ap (λ n. cond (eqb chunk c && same_pair link k) 1 0 + n) (in_row c ks) ∙ go (eqb chunk c)
+      ∙ ap (λ n. cond (eqb chunk c) n 0) (sym (count_cons (same_pair link) k ks))
     where
-      go : (b : Bool) → cond (b && same_link link k) 1 0 + cond b (count_by (same_link link) ks) 0 ≡ cond b (cond (same_link link k) 1 0 + count_by (same_link link) ks) 0
+      go : (b : Bool) → cond (b && same_pair link k) 1 0 + cond b (count_by (same_pair link) ks) 0 ≡ cond b (cond (same_pair link k) 1 0 + count_by (same_pair link) ks) 0
       go true = refl
       go false = omega arith
 
   abbrev rows : ℕ → ℕ → List (ℕ × (ℕ × ℕ))
   rows a n = flat_map (λ c. map (λ l. (c, l)) ls) (range_with_len a n)
 
-  rows_are : (a n : ℕ) → count_by meets (rows a (suc n)) ≡ cond (eqb chunk a) (count_by (same_link link) ls) 0 + count_by meets (rows (a + 1) n)
+  rows_are : (a n : ℕ) → count_by meets (rows a (suc n)) ≡ cond (eqb chunk a) (count_by (same_pair link) ls) 0 + count_by meets (rows (a + 1) n)
   rows_are a n = sum_by-append (λ z. cond (meets z) 1 0) (map (λ l. (a, l)) ls) (rows (a + 1) n) ∙ ap (λ k. k + count_by meets (rows (a + 1) n)) (in_row a ls)
 
   past : (a n : ℕ) → chunk < a → count_by meets (rows a n) ≡ 0
   past a zero low = refl
   past a (suc n) low =
       let no : eqb chunk a ≡ false = false_from_ne_true (eqb chunk a) (λ t. absurd (omega (arith, low, eqb-true chunk a t))) in
-      rows_are a n ∙ ap (λ b. cond b (count_by (same_link link) ls) 0 + count_by meets (rows (a + 1) n)) no ∙ omega (arith, past (a + 1) n (omega (arith, low)))
+      rows_are a n ∙ ap (λ b. cond b (count_by (same_pair link) ls) 0 + count_by meets (rows (a + 1) n)) no ∙ omega (arith, past (a + 1) n (omega (arith, low)))
 
   pub meets_once : (a n : ℕ) → AllPairs (λ a b. a ≢ b) ls → count_by meets (rows a n) ≤ 1
   meets_once a zero apart = omega arith
   meets_once a (suc n) apart =
       let one = link_once link ls apart in
-      ⊎_elim (λ t. omega (arith, rows_are a n ∙ ap (λ b. cond b (count_by (same_link link) ls) 0 + count_by meets (rows (a + 1) n)) t, one, past (a + 1) n (omega (arith, eqb-true chunk a t))))
-      (λ f. omega (arith, rows_are a n ∙ ap (λ b. cond b (count_by (same_link link) ls) 0 + count_by meets (rows (a + 1) n)) f, meets_once (a + 1) n apart))
+      ⊎_elim (λ t. omega (arith, rows_are a n ∙ ap (λ b. cond b (count_by (same_pair link) ls) 0 + count_by meets (rows (a + 1) n)) t, one, past (a + 1) n (omega (arith, eqb-true chunk a t))))
+      (λ f. omega (arith, rows_are a n ∙ ap (λ b. cond b (count_by (same_pair link) ls) 0 + count_by meets (rows (a + 1) n)) f, meets_once (a + 1) n apart))
       (cases_Bool (eqb chunk a))

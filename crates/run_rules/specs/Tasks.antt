@@ -147,12 +147,6 @@ audit_in report = do
   _ ← searchable (whole_question report.words report.topology)
   Ok (Audit report)
 
--- the report whose files are to be looked at
-abbrev pub audit_by : Reader → List ℕ → Result Task Refusal
-audit_by read bytes = do
-  report ← report_by read bytes
-  audit_in report
-
 -- a fault of a group that the report has, and that it narrows
 abbrev pub fault_in : ReportValue → ℕ → ℕ → ℕ → ℕ → Result (Unit {0}) Refusal
 fault_in report group group_word width width_word = do
@@ -167,11 +161,6 @@ degrade_in report group group_word width width_word = do
   _ ← searchable (whole_question report.words report.topology)
   Ok (Degrade report group width)
 
-abbrev pub degrade_by : Reader → ℕ → ℕ → ℕ → ℕ → List ℕ → Result Task Refusal
-degrade_by read group group_word width width_word bytes = do
-  report ← report_by read bytes
-  degrade_in report group group_word width width_word
-
 -- the point that the word asks for
 abbrev pub point_in : ReportValue → PointWord → Result (Part × PointValue) Refusal
 point_in report asked = need (point_at report asked.point) (refused_word UnknownPoint asked.word)
@@ -182,21 +171,11 @@ replay_in report asked order = do
   point ← point_in report asked
   Ok (Write (shown_text asked.point (shown_in report point) order))
 
-abbrev pub replay_by : Reader → PointWord → Option ℕ → List ℕ → Result Task Refusal
-replay_by read asked order bytes = do
-  report ← report_by read bytes
-  replay_in report asked order
-
 -- the programs of a point of this report
 abbrev pub programs_in : ReportValue → PointWord → Result Task Refusal
 programs_in report asked = do
   point ← point_in report asked
   Ok (Write (programs_of_point report asked.point point))
-
-abbrev pub programs_by : Reader → PointWord → List ℕ → Result Task Refusal
-programs_by read asked bytes = do
-  report ← report_by read bytes
-  programs_in report asked
 
 -- ---- JSON
 
@@ -211,48 +190,42 @@ json_programs_in report word = do
   point ← point_in report asked
   Ok (Write (printed (programs_value report asked.point point)))
 
--- what is written as JSON
-abbrev pub json_by : Reader → JsonWhat → Option PointWord → List ℕ → Result Task Refusal
-json_by read what.Topology point bytes = do
-  topology ← refused_as BadTopology topology_number (topology_of bytes)
-  Ok (Write (printed (topology_json topology)))
-json_by read what.Report point bytes = do
-  report ← report_by read bytes
-  Ok (Write (printed (report_json report)))
-json_by read what.Programs point bytes = do
-  report ← report_by read bytes
-  json_programs_in report point
-
--- the report whose text the JSON stands for
-abbrev pub json_report_by : Reader → List ℕ → Result ReportValue (JsonCode × ℕ)
-json_report_by read bytes = do
-  text ← of_json (text_of_json report_text_in bytes)
-  of_text (read text)
-
--- the text of what is read as JSON
-abbrev pub unjson_by : Reader → JsonWhat → List ℕ → Result Task Refusal
-unjson_by read what.Report bytes = do
-  report ← refused_as BadJson json_number (json_report_by read bytes)
-  Ok (Write (report_text report))
-unjson_by read _ bytes = do
-  topology ← refused_as BadJson json_number (topology_of_json bytes)
-  Ok (Write (spelling topology))
-
 -- ---- what is due
 
 -- what a command asks for, over bytes that came whole
 abbrev pub task_by : Reader → Command → List ℕ → Result Task Refusal
 task_by read (command.Synth kind word limits root kept) bytes = synthesis_asked (record { kind = kind; kind_word = word; limits = limits; root = root }) kept bytes
-task_by read command.Check bytes = audit_by read bytes
-task_by read (command.Replay number word order) bytes = replay_by read (record { point = number; word = word }) order bytes
-task_by read (command.Programs number word) bytes = programs_by read (record { point = number; word = word }) bytes
+task_by read command.Check bytes = do
+  report ← report_by read bytes
+  audit_in report
+task_by read (command.Replay number word order) bytes = do
+  report ← report_by read bytes
+  replay_in report (record { point = number; word = word }) order
+task_by read (command.Programs number word) bytes = do
+  report ← report_by read bytes
+  programs_in report (record { point = number; word = word })
 task_by read (command.Family kind size) bytes = Ok (Write (spelling (family_of kind size)))
 task_by read (command.Trial n) bytes = Ok (Try n)
 task_by read (command.Bound kind word limits root all_sets) bytes = bound_asked (record { kind = kind; kind_word = word; limits = limits; root = root }) all_sets bytes
 task_by read (command.Ordered kind word limits root) bytes = order_asked (record { kind = kind; kind_word = word; limits = limits; root = root }) bytes
-task_by read (command.Degrade group group_word width width_word) bytes = degrade_by read group group_word width width_word bytes
-task_by read (command.Json value point) bytes = json_by read value point bytes
-task_by read (command.Unjson value) bytes = unjson_by read value bytes
+task_by read (command.Degrade group group_word width width_word) bytes = do
+  report ← report_by read bytes
+  degrade_in report group group_word width width_word
+task_by read (command.Json what.Topology point) bytes = do
+  topology ← refused_as BadTopology topology_number (topology_of bytes)
+  Ok (Write (printed (topology_json topology)))
+task_by read (command.Json what.Report point) bytes = do
+  report ← report_by read bytes
+  Ok (Write (printed (report_json report)))
+task_by read (command.Json what.Programs point) bytes = do
+  report ← report_by read bytes
+  json_programs_in report point
+task_by read (command.Unjson what.Report) bytes = do
+  report ← refused_as BadJson json_number (of_json (text_of_json report_text_in bytes) >>= (λ text. of_text (read text)))
+  Ok (Write (report_text report))
+task_by read (command.Unjson _) bytes = do
+  topology ← refused_as BadJson json_number (topology_of_json bytes)
+  Ok (Write (spelling topology))
 
 -- the words are a command, or are refused
 abbrev pub words_asked : Result Command WordFault → Result Command Refusal
@@ -272,22 +245,22 @@ abbrev pub read_report : List ℕ → Result ReportValue Refusal
 read_report bytes = report_by report_of bytes
 
 abbrev pub audit_asked : List ℕ → Result Task Refusal
-audit_asked bytes = audit_by report_of bytes
+audit_asked bytes = task_by report_of command.Check bytes
 
 abbrev pub degrade_asked : ℕ → ℕ → ℕ → ℕ → List ℕ → Result Task Refusal
-degrade_asked group group_word width width_word bytes = degrade_by report_of group group_word width width_word bytes
+degrade_asked group group_word width width_word bytes = task_by report_of (command.Degrade group group_word width width_word) bytes
 
 abbrev pub replay_asked : PointWord → Option ℕ → List ℕ → Result Task Refusal
-replay_asked asked order bytes = replay_by report_of asked order bytes
+replay_asked asked order bytes = task_by report_of (command.Replay asked.point asked.word order) bytes
 
 abbrev pub programs_asked : PointWord → List ℕ → Result Task Refusal
-programs_asked asked bytes = programs_by report_of asked bytes
+programs_asked asked bytes = task_by report_of (command.Programs asked.point asked.word) bytes
 
 abbrev pub json_asked : JsonWhat → Option PointWord → List ℕ → Result Task Refusal
-json_asked value point bytes = json_by report_of value point bytes
+json_asked value point bytes = task_by report_of (command.Json value point) bytes
 
 abbrev pub unjson_asked : JsonWhat → List ℕ → Result Task Refusal
-unjson_asked value bytes = unjson_by report_of value bytes
+unjson_asked value bytes = task_by report_of (command.Unjson value) bytes
 
 abbrev pub task_of : Command → List ℕ → Result Task Refusal
 task_of command bytes = task_by report_of command bytes

@@ -9,7 +9,8 @@ use Rattle.std.proofs.lemmas.List.Elements.{All-from_recursion, recursion_from_A
 use Rattle.std.proofs.lemmas.List.Sums.{sum_by-cons}
 use Rattle.std.proofs.Math.Bool.{and_comm}
 use Rattle.schedule.specs.declared.hop.Hop.{Hop}
-use Rattle.schedule.specs.Links.{GroupValue, TopologyValue, has_link, is_usable, reversed_group, reversed_of, same_link, turned}
+use Rattle.schedule.specs.Links.{GroupValue, TopologyValue, has_link, is_usable, reversed_group, reversed_of, turned}
+use Rattle.schedule.specs.Placed.{same_pair}
 use Rattle.schedule.specs.Sends.{ScheduleValue, IsSchedule, IsStep, hop_before, link_of}
 use Rattle.schedule.specs.Fitting.{Fits, load, rounds_at}
 use Rattle.schedule.specs.Inverse.{in_order, inverse_hop, inverse_of, with_hop}
@@ -19,11 +20,11 @@ use Rattle.schedule.proofs.Reversing.{reversed-reversed}
 
 -- ---- links turned round
 
-turned_link : (links : List (ℕ × ℕ)) (link : ℕ × ℕ) → list_any (same_link link) (map turned links) ≡ list_any (same_link (turned link)) links
+turned_link : (links : List (ℕ × ℕ)) (link : ℕ × ℕ) → list_any (same_pair link) (map turned links) ≡ list_any (same_pair (turned link)) links
 turned_link [] link = refl
 turned_link (l ∷ links) link =
-    ap (λ b. b || list_any (same_link link) (map turned links)) (and_comm (eqb link.0 l.1) (eqb link.1 l.0))
-    ∙ ap (λ b. same_link (turned link) l || b) (turned_link links link)
+    ap (λ b. b || list_any (same_pair link) (map turned links)) (and_comm (eqb link.0 l.1) (eqb link.1 l.0))
+    ∙ ap (λ b. same_pair (turned link) l || b) (turned_link links link)
 
 pub turned_has : (group : GroupValue) (link : ℕ × ℕ) → has_link (reversed_group group) link ≡ has_link group (turned link)
 turned_has group link = turned_link group.links link

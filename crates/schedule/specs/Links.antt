@@ -1,7 +1,7 @@
 -- Topologies: nodes, and groups of directed links that share a width (Cai et al., PPoPP 2021, section on topologies).
-use Rattle.std.specs.Prelude.{◌≢◌, ◌==◌, ◌&&◌, ℕ, ◌<◌, ◌≤◌, Bool, List, length, map, filter, All, AllPairs}
+use Rattle.std.specs.Prelude.{◌≢◌, ℕ, ◌<◌, ◌≤◌, Bool, List, length, map, filter, All, AllPairs}
 use Rattle.std.specs.List.{list_any}
-use Rattle.schedule.specs.Placed.{all_pairs}
+use Rattle.schedule.specs.Placed.{all_pairs, same_pair}
 
 -- links that share a width: at most so many chunks cross them together in one round
 pub record GroupValue : Type 0 where
@@ -13,11 +13,8 @@ pub record TopologyValue : Type 0 where
   pub nodes : ℕ
   pub groups : List GroupValue
 
-abbrev pub same_link : ℕ × ℕ → ℕ × ℕ → Bool
-same_link a b = a.0 == b.0 && a.1 == b.1
-
 abbrev pub has_link : GroupValue → ℕ × ℕ → Bool
-has_link group link = list_any (same_link link) group.links
+has_link group link = list_any (same_pair link) group.links
 
 -- a link is usable where it stands in some group
 abbrev pub is_usable : TopologyValue → ℕ × ℕ → Bool

@@ -1,7 +1,7 @@
 -- A table of truth values, one for each link between nodes below 16.
 use Rattle.std.specs.Prelude.{◌≡◌, ℕ, ◌+◌, ◌*◌, ◌<◌, ◌||◌, Bool, false, List, slice_index_or}
 use Rattle.std.specs.List.{list_any}
-use Rattle.schedule.specs.Links.{same_link}
+use Rattle.schedule.specs.Placed.{same_pair}
 
 -- what the table says of a link
 abbrev pub marked_at : List Bool → ℕ × ℕ → Bool
@@ -13,7 +13,7 @@ Marks cells test = (link : ℕ × ℕ) → link.0 < 16 → link.1 < 16 → marke
 
 -- the new table has these links too
 abbrev pub AddsLinks : List Bool → List Bool → List (ℕ × ℕ) → Type 0
-AddsLinks old new links = Marks new (λ link. marked_at old link || list_any (same_link link) links)
+AddsLinks old new links = Marks new (λ link. marked_at old link || list_any (same_pair link) links)
 
 -- a link between nodes below 16
 abbrev pub IsTabled : ℕ × ℕ → Type 0

@@ -1,6 +1,7 @@
 ghost use Rattle.std.specs.Prelude.{◌≡◌, IfOk};
 ghost use Rattle.std.specs.List.{list_any};
-ghost use Rattle.schedule.specs.Links.{GroupValue, IsGroup, reversed_group, same_link};
+ghost use Rattle.schedule.specs.Links.{GroupValue, IsGroup, reversed_group};
+ghost use Rattle.schedule.specs.Placed.{same_pair};
 
 use crate::OutOfMemory;
 use std::marker::Model;
@@ -66,7 +67,7 @@ impl Group {
 
 /// Whether the link is one of them.
 pub fn has_link(links: &[(u8, u8)], link: (u8, u8)) -> bool
-    ensures { result ≡ list_any (same_link link) links.now }
+    ensures { result ≡ list_any (same_pair link) links.now }
 {
     for other in links {
         if link.0 == other.0 && link.1 == other.1 {

@@ -8,8 +8,8 @@ use Rattle.std.proofs.lemmas.List.Folds.{list_any_at}
 use Rattle.std.proofs.lemmas.List.Kept.{AllPairs-filter}
 use Rattle.list_laws.proofs.Pairs.{no_pairs}
 use Rattle.schedule.specs.declared.hop.Hop.{Hop}
-use Rattle.schedule.specs.Links.{TopologyValue, is_usable, same_link, usable_links}
-use Rattle.schedule.specs.Placed.{all_pairs}
+use Rattle.schedule.specs.Links.{TopologyValue, is_usable, usable_links}
+use Rattle.schedule.specs.Placed.{all_pairs, same_pair}
 use Rattle.schedule.specs.Sends.{hop_before, link_of}
 use Rattle.schedule.proofs.Placing.{pair_is, pair_itself}
 use Rattle.cnf_formula.specs.Literals.{is_true}
@@ -42,13 +42,13 @@ pub links_ascend : (t : TopologyValue) → AllPairs LinkBefore (usable_links t)
 links_ascend t = AllPairs-filter LinkBefore (is_usable t) (all_pairs t.nodes t.nodes) (all_pairs_ascend t.nodes t.nodes)
 
 -- a link of an ascending list has one place
-pub place_is : (links : List (ℕ × ℕ)) → AllPairs LinkBefore links → (link : ℕ × ℕ) (e : ℕ) → e < length links → link ≡ get_or links e (0, 0) → position_or_len (same_link link) links ≡ e
+pub place_is : (links : List (ℕ × ℕ)) → AllPairs LinkBefore links → (link : ℕ × ℕ) (e : ℕ) → e < length links → link ≡ get_or links e (0, 0) → position_or_len (same_pair link) links ≡ e
 place_is links ascend link e low is =
-    let here : same_link link (get_or links e (0, 0)) ≡ true = ap (same_link link) (sym is) ∙ pair_itself link in
-    let listed : list_any (same_link link) links ≡ true = list_any_at (same_link link) links e (0, 0) low here in
-    let p : ℕ = position_or_len (same_link link) links in
-    let few : p < length links = place_below (same_link link) links listed in
-    let at : link ≡ get_or links p (0, 0) = pair_is link (get_or links p (0, 0)) (passes_at (same_link link) links (0, 0) listed) in
+    let here : same_pair link (get_or links e (0, 0)) ≡ true = ap (same_pair link) (sym is) ∙ pair_itself link in
+    let listed : list_any (same_pair link) links ≡ true = list_any_at (same_pair link) links e (0, 0) low here in
+    let p : ℕ = position_or_len (same_pair link) links in
+    let few : p < length links = place_below (same_pair link) links listed in
+    let at : link ≡ get_or links p (0, 0) = pair_is link (get_or links p (0, 0)) (passes_at (same_pair link) links (0, 0) listed) in
     let same : get_or links p (0, 0) ≡ get_or links e (0, 0) = sym at ∙ is in
     ⊎_elim (λ less. absurd (never_before_itself (get_or links p (0, 0)) (get_or links e (0, 0)) (ascend p e (0, 0) less low) same))
     (λ not_less. ⊎_elim (λ more. absurd (never_before_itself (get_or links e (0, 0)) (get_or links p (0, 0)) (ascend e p (0, 0) more few) (sym same)))

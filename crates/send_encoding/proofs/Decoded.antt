@@ -7,7 +7,7 @@ use Rattle.std.proofs.lemmas.List.Elements.{All-nil, All-cons}
 use Rattle.std.proofs.lemmas.List.Folds.{list_any-append}
 use Rattle.std.proofs.lemmas.List.FromFn.{length-range_with_len, get_or-range_with_len, length-enumerate_from, get_or-enumerate_from}
 use Rattle.schedule.specs.declared.hop.Hop.{Hop}
-use Rattle.schedule.specs.Links.{same_link}
+use Rattle.schedule.specs.Placed.{same_pair}
 use Rattle.schedule.specs.Sends.{IsStep, link_of}
 use Rattle.schedule.proofs.Placing.{pair_itself}
 use Rattle.cnf_formula.specs.Literals.{is_true}
@@ -54,8 +54,8 @@ module _ (m : SendMapValue) (values : List Bool) (links : All (JoinsNodes m) m.l
         (λ c low. in_flat (IsTold m x) (IsLinkOf m) (at_link k c) (numbered_links m)
         (λ z at. one_told k c z (record { from = omega (arith, st.0); to = omega (arith, st.1) }) (omega (arith, low.1)) at) (numbered_are m links)) (in_range 0 m.chunks)) (in_range 1 m.steps);
     tells = λ c k z low at step h.
-        let p : Hop → Bool = λ h. eqb h.step k && (eqb h.chunk c && same_link (link_of h) z.1) in
-        let passes : p (hop k c z) ≡ true = and_from (eqb k k) (eqb c c && same_link z.1 z.1) (eq-eqb k k refl) (and_from (eqb c c) (same_link z.1 z.1) (eq-eqb c c refl) (pair_itself z.1)) in
+        let p : Hop → Bool = λ h. eqb h.step k && (eqb h.chunk c && same_pair (link_of h) z.1) in
+        let passes : p (hop k c z) ≡ true = and_from (eqb k k) (eqb c c && same_pair z.1 z.1) (eq-eqb k k refl) (and_from (eqb c c) (same_pair z.1 z.1) (eq-eqb c c refl) (pair_itself z.1)) in
         let there : list_any p (at_link k c z) ≡ true = ap (λ b. list_any p (if b then hop k c z ∷ [] else [])) h ∙ or_left (p (hop k c z)) false passes in
         let is : get_or (numbered_links m) z.0 (0, (0, 0)) ≡ z = get_or-enumerate_from 0 m.links z.0 (0, (0, 0)) at.number ∙ ap (λ n. (n, get_or m.links z.0 (0, 0))) (omega arith) ∙ ap (λ l. (z.0, l)) (sym at.is) in
         any_range p (λ k. flat_map (λ c. flat_map (at_link k c) (numbered_links m)) (chunks_of m)) 1 m.steps k step.from (omega (arith, step.to))

@@ -5,7 +5,6 @@ use Rattle.std.specs.List.{list_any}
 use Rattle.std.proofs.lemmas.Bool.{and_parts, and_from, or_left, or_right, or_cases, cases_Bool, eqb-true, eq-eqb}
 use Rattle.list_laws.proofs.Tests.{same_test}
 use Rattle.schedule.specs.declared.hop.Hop.{Hop}
-use Rattle.schedule.specs.Links.{same_link}
 use Rattle.schedule.specs.Placed.{PlacementValue, holds, same_pair}
 use Rattle.schedule.specs.Sends.{ScheduleValue, IsStep, link_of}
 use Rattle.schedule.specs.Running.{after, brings}
@@ -56,9 +55,9 @@ module _ (m : SendMapValue) (pre post : PlacementValue) (a x : ℕ → ℕ → �
       let node : z.1.1 ≡ n = eqb-true z.1.1 n found.3.1 in
       let sender : holds before (c, z.1.0) ≡ true = run_is k c z.1.0 low cl at.from ∙ ap (a c z.1.0) (sym back) ∙ moves.sender c (suc k) z cl at step found.1 in
       or_right (holds before (c, n)) (list_any bring s.sends)
-      (any_weaker (λ h. eqb h.step (suc k) && (eqb h.chunk c && same_link (link_of h) z.1)) bring (λ h. Unit {0}) s.sends (λ i d w. tt) (λ hop _ u.
-      let now = and_parts (eqb hop.step (suc k)) (eqb hop.chunk c && same_link (link_of hop) z.1) u in
-      let what = and_parts (eqb hop.chunk c) (same_link (link_of hop) z.1) now.1 in
+      (any_weaker (λ h. eqb h.step (suc k) && (eqb h.chunk c && same_pair (link_of h) z.1)) bring (λ h. Unit {0}) s.sends (λ i d w. tt) (λ hop _ u.
+      let now = and_parts (eqb hop.step (suc k)) (eqb hop.chunk c && same_pair (link_of hop) z.1) u in
+      let what = and_parts (eqb hop.chunk c) (same_pair (link_of hop) z.1) now.1 in
       let chunk : hop.chunk ≡ c = eqb-true hop.chunk c what.0 in
       let link : link_of hop ≡ z.1 = pair_is (link_of hop) z.1 what.1 in
       let from : hop.from ≡ z.1.0 = ap (λ l. l.0) link in

@@ -3,7 +3,7 @@ use Rattle.std.proofs.Common.{◌≡◌, ℕ, suc, ◌+◌, ◌-◌, ◌<◌, �
 use Rattle.std.specs.Prelude.{◌&&◌, ◌||◌, not, count_by, All}
 use Rattle.std.specs.List.{list_any}
 use Rattle.std.proofs.lemmas.Bool.{false≢true, and_parts, and_from, or_left, or_cases, not-true, not_from_false, eqb-true, eq-eqb, ltb-true}
-use Rattle.schedule.specs.Links.{TopologyValue, same_link, is_usable, usable_links}
+use Rattle.schedule.specs.Links.{TopologyValue, is_usable, usable_links}
 use Rattle.schedule.specs.Placed.{PlacementValue, holds, same_pair}
 use Rattle.schedule.specs.Sends.{ScheduleValue, IsStep, IsInRange, link_of, is_hop_below}
 use Rattle.schedule.specs.Running.{after, brings}
@@ -68,7 +68,7 @@ module _ (t : TopologyValue) (pre post : PlacementValue) (s : ScheduleValue) (st
       let led = leader (carried pre s c k) (λ y. IsLinkOf m y × (eqb y.1.1 n ≡ true)) (links_into m n) z.0 (into n) q.1 in
       let other = led.0 in
       let link : other.1 ≡ z.1 = led.3.0.is ∙ ap (λ e. get_or m.links e (0, 0)) led.1 ∙ sym at.is in
-      let same : ℕ × ℕ → Bool = λ l. a c l.0 (k - 1) && list_any (λ h. eqb h.step k && (eqb h.chunk c && same_link (link_of h) l)) s.sends in
+      let same : ℕ × ℕ → Bool = λ l. a c l.0 (k - 1) && list_any (λ h. eqb h.step k && (eqb h.chunk c && same_pair (link_of h) l)) s.sends in
       record {
         lacked = subst (λ v. a c v (k - 1) ≡ false) node (not-true (a c n (k - 1)) p.0);
         has = subst (λ v. a c v k ≡ true) node q.0;
@@ -77,11 +77,11 @@ module _ (t : TopologyValue) (pre post : PlacementValue) (s : ScheduleValue) (st
 
   -- ---- a node that comes to have a chunk is brought it
 
-  usable_into : (n : ℕ) (link : ℕ × ℕ) → link.0 < t.nodes → link.1 < t.nodes → link.1 ≡ n → is_usable t link ≡ true → list_any (λ z. same_link link z.1) (links_into m n) ≡ true
+  usable_into : (n : ℕ) (link : ℕ × ℕ) → link.0 < t.nodes → link.1 < t.nodes → link.1 ≡ n → is_usable t link ≡ true → list_any (λ z. same_pair link z.1) (links_into m n) ≡ true
   usable_into n link fl tl e u =
-      let listed : list_any (same_link link) (usable_links t) ≡ true = holds-placed t.nodes t.nodes (is_usable t) link fl tl ∙ u in
-      filter_any (λ z. eqb z.1.1 n) (λ z. same_link link z.1) (numbered_links m)
-      (λ z h. eq-eqb z.1.1 n (ap (λ l. l.1) (sym (pair_is link z.1 h)) ∙ e)) (numbered_any (same_link link) 0 (usable_links t) listed)
+      let listed : list_any (same_pair link) (usable_links t) ≡ true = holds-placed t.nodes t.nodes (is_usable t) link fl tl ∙ u in
+      filter_any (λ z. eqb z.1.1 n) (λ z. same_pair link z.1) (numbered_links m)
+      (λ z h. eq-eqb z.1.1 n (ap (λ l. l.1) (sym (pair_is link z.1 h)) ∙ e)) (numbered_any (same_pair link) 0 (usable_links t) listed)
 
   some_carry : (c n k : ℕ) → c < m.chunks → n < m.nodes → list_any (brings (after pre s (k - 1)) k (c, n)) s.sends ≡ true → list_any (carried pre s c k) (links_into m n) ≡ true
   some_carry c n k cl nl h =
@@ -97,11 +97,11 @@ module _ (t : TopologyValue) (pre post : PlacementValue) (s : ScheduleValue) (st
       let ends = and_parts (ltb hop.from pre.nodes) (ltb hop.to pre.nodes) below.1 in
       let fl : hop.from < t.nodes = omega (arith, nodes, ltb-true hop.from pre.nodes ends.0) in
       let tl : hop.to < t.nodes = omega (arith, nodes, ltb-true hop.to pre.nodes ends.1) in
-      any_weaker (λ z. same_link (link_of hop) z.1) (carried pre s c k) (λ z. IsLinkOf m z × (eqb z.1.1 n ≡ true)) (links_into m n) (into n) (λ z at same.
+      any_weaker (λ z. same_pair (link_of hop) z.1) (carried pre s c k) (λ z. IsLinkOf m z × (eqb z.1.1 n ≡ true)) (links_into m n) (into n) (λ z at same.
       let link : link_of hop ≡ z.1 = pair_is (link_of hop) z.1 same in
       let sender : a c z.1.0 (k - 1) ≡ true = ap (λ p. holds (after pre s (k - 1)) p) (ap (λ l. (c, l.0)) (sym link) ∙ ap (λ v. (v, hop.from)) (sym chunk)) ∙ rest.1 in
-      let sent = found.2 (λ h. eqb h.step k && (eqb h.chunk c && same_link (link_of h) z.1)) (and_from (eqb hop.step k) (eqb hop.chunk c && same_link (link_of hop) z.1) now.0 (and_from (eqb hop.chunk c) (same_link (link_of hop) z.1) (eq-eqb hop.chunk c chunk) same)) in
-      and_from (a c z.1.0 (k - 1)) (list_any (λ h. eqb h.step k && (eqb h.chunk c && same_link (link_of h) z.1)) s.sends) sender sent)
+      let sent = found.2 (λ h. eqb h.step k && (eqb h.chunk c && same_pair (link_of h) z.1)) (and_from (eqb hop.step k) (eqb hop.chunk c && same_pair (link_of hop) z.1) now.0 (and_from (eqb hop.chunk c) (same_pair (link_of hop) z.1) (eq-eqb hop.chunk c chunk) same)) in
+      and_from (a c z.1.0 (k - 1)) (list_any (λ h. eqb h.step k && (eqb h.chunk c && same_pair (link_of h) z.1)) s.sends) sender sent)
       (usable_into n (link_of hop) fl tl to found.3.1)
 
   is_sent : (c n k : ℕ) → c < m.chunks → n < m.nodes → IsStep m.steps k → a c n k ≡ true → a c n (k - 1) ≡ false → list_any (λ z. x c z.0 k) (links_into m n) ≡ true
@@ -132,7 +132,7 @@ module _ (t : TopologyValue) (pre post : PlacementValue) (s : ScheduleValue) (st
     starts = λ c n cl nl. refl;
     keeps = keeps_had;
     ends = ends_had;
-    sender = λ c k z cl at step h. (and_parts (a c z.1.0 (k - 1)) (list_any (λ h. eqb h.step k && (eqb h.chunk c && same_link (link_of h) z.1)) s.sends) (first c k z at h).carries).0;
+    sender = λ c k z cl at step h. (and_parts (a c z.1.0 (k - 1)) (list_any (λ h. eqb h.step k && (eqb h.chunk c && same_pair (link_of h) z.1)) s.sends) (first c k z at h).carries).0;
     receiver = λ c k z cl at step h. (first c k z at h).lacked;
     brings = λ c k z cl at step h. (first c k z at h).has;
     sent = is_sent;

@@ -8,7 +8,6 @@ use Rattle.std.proofs.lemmas.List.Folds.{list_any_at}
 use Rattle.std.proofs.lemmas.List.Sums.{sum_by-cons}
 use Rattle.std.proofs.lemmas.List.FromFn.{length-enumerate_from, get_or-enumerate_from}
 use Rattle.schedule.specs.declared.hop.Hop.{Hop}
-use Rattle.schedule.specs.Links.{same_link}
 use Rattle.schedule.specs.Placed.{PlacementValue, IsPlacement, holds, same_pair, all_pairs}
 use Rattle.schedule.specs.Sends.{ScheduleValue, IsStep, hop_before}
 use Rattle.schedule.specs.Running.{after}
@@ -97,25 +96,25 @@ module _ (m : SendMapValue) (pre post : PlacementValue) (a x : ℕ → ℕ → �
 
   -- the link is the same
   abbrev is_it : ℕ × (ℕ × ℕ) → ℕ × (ℕ × ℕ) → Bool
-  is_it z y = eqb y.0 z.0 && same_link y.1 z.1
+  is_it z y = eqb y.0 z.0 && same_pair y.1 z.1
 
   listed_into : (z : ℕ × (ℕ × ℕ)) (n : ℕ) → IsLinkOf m z → z.1.1 ≡ n → list_any (is_it z) (links_into m n) ≡ true
   listed_into z n at node =
       let zero_more : 0 + z.0 ≡ z.0 = omega arith in
       let is : get_or (numbered_links m) z.0 (0, (0, 0)) ≡ z = get_or-enumerate_from 0 m.links z.0 (0, (0, 0)) at.number ∙ ap (λ n. (n, get_or m.links z.0 (0, 0))) zero_more ∙ ap (λ l. (z.0, l)) (sym at.is) in
-      let itself : is_it z z ≡ true = and_from (eqb z.0 z.0) (same_link z.1 z.1) (eq-eqb z.0 z.0 refl) (pair_itself z.1) in
+      let itself : is_it z z ≡ true = and_from (eqb z.0 z.0) (same_pair z.1 z.1) (eq-eqb z.0 z.0 refl) (pair_itself z.1) in
       filter_any (λ y. eqb y.1.1 n) (is_it z) (numbered_links m)
-      (λ y h. eq-eqb y.1.1 n (ap (λ l. l.1) (pair_is y.1 z.1 (and_parts (eqb y.0 z.0) (same_link y.1 z.1) h).1) ∙ node))
+      (λ y h. eq-eqb y.1.1 n (ap (λ l. l.1) (pair_is y.1 z.1 (and_parts (eqb y.0 z.0) (same_pair y.1 z.1) h).1) ∙ node))
       (list_any_at (is_it z) (numbered_links m) z.0 (0, (0, 0)) (omega (arith, at.number, length-enumerate_from 0 m.links)) (ap (is_it z) is ∙ itself))
 
   -- two links that bring a chunk to a node at a step are one
   one_link : (c n k : ℕ) (y z : ℕ × (ℕ × ℕ)) → c < m.chunks → n < m.nodes → IsStep m.steps k → IsLinkOf m y → IsLinkOf m z → y.1.1 ≡ n → z.1.1 ≡ n → x c y.0 k ≡ true → x c z.0 k ≡ true → y.1 ≡ z.1
   one_link c n k y z cl nl step at_y at_z to_y to_z sent_y sent_z =
-      let alike : (w v : ℕ × (ℕ × ℕ)) → x c w.0 k ≡ true → is_it w v ≡ true → x c v.0 k ≡ true = λ w v sent h. ap (λ e. x c e k) (eqb-true v.0 w.0 (and_parts (eqb v.0 w.0) (same_link v.1 w.1) h).0) ∙ sent in
+      let alike : (w v : ℕ × (ℕ × ℕ)) → x c w.0 k ≡ true → is_it w v ≡ true → x c v.0 k ≡ true = λ w v sent h. ap (λ e. x c e k) (eqb-true v.0 w.0 (and_parts (eqb v.0 w.0) (same_pair v.1 w.1) h).0) ∙ sent in
       let both = both_are_one (λ v. x c v.0 k) (is_it y) (is_it z) (links_into m n) (moves.once c n k cl nl step) (λ v h. alike y v sent_y h) (λ v h. alike z v sent_z h) (listed_into y n at_y to_y) (listed_into z n at_z to_z) in
       let found = member (λ v. is_it y v && is_it z v) (λ v. Unit {0}) (links_into m n) (λ i d low. tt) both in
       let parts = and_parts (is_it y found.0) (is_it z found.0) found.1 in
-      sym (pair_is found.0.1 y.1 (and_parts (eqb found.0.0 y.0) (same_link found.0.1 y.1) parts.0).1) ∙ pair_is found.0.1 z.1 (and_parts (eqb found.0.0 z.0) (same_link found.0.1 z.1) parts.1).1
+      sym (pair_is found.0.1 y.1 (and_parts (eqb found.0.0 y.0) (same_pair found.0.1 y.1) parts.0).1) ∙ pair_is found.0.1 z.1 (and_parts (eqb found.0.0 z.0) (same_pair found.0.1 z.1) parts.1).1
 
   never_received_twice : (i j : ℕ) (d : Hop) → i < j → j < length s.sends → (get_or s.sends i d).chunk ≡ (get_or s.sends j d).chunk → (get_or s.sends i d).to ≡ (get_or s.sends j d).to → ⊥
   never_received_twice i j d low few chunk to =

@@ -1,8 +1,7 @@
 -- A schedule's tables: who holds what, and which link brings a chunk to a node first.
 use Rattle.std.specs.Prelude.{ℕ, ◌-◌, ◌==◌, ◌&&◌, not, Bool, false, if◌then◌else◌, List, [], ◌∷◌, slice_index_or}
 use Rattle.std.specs.List.{list_any}
-use Rattle.schedule.specs.Links.{same_link}
-use Rattle.schedule.specs.Placed.{PlacementValue, holds}
+use Rattle.schedule.specs.Placed.{PlacementValue, holds, same_pair}
 use Rattle.schedule.specs.Sends.{ScheduleValue, link_of}
 use Rattle.schedule.specs.Running.{after}
 use Rattle.send_encoding.specs.Variables.{SendMapValue, links_into}
@@ -17,7 +16,7 @@ had pre s chunk node step = holds (after pre s step) (chunk, node)
 
 -- a send of the step carries the chunk over the link from a node that has it
 abbrev pub carried : PlacementValue → ScheduleValue → ℕ → ℕ → ℕ × (ℕ × ℕ) → Bool
-carried pre s chunk step z = had pre s chunk z.1.0 (step - 1) && list_any (λ h. h.step == step && (h.chunk == chunk && same_link (link_of h) z.1)) s.sends
+carried pre s chunk step z = had pre s chunk z.1.0 (step - 1) && list_any (λ h. h.step == step && (h.chunk == chunk && same_pair (link_of h) z.1)) s.sends
 
 -- the link is the first that brings the chunk to its node, at the step at which the node comes to have it
 abbrev pub brought : SendMapValue → PlacementValue → ScheduleValue → ℕ → ℕ → ℕ → Bool

@@ -2,7 +2,7 @@
 use Rattle.std.specs.Prelude.{◌≡◌, ℕ, ◌==◌, ◌&&◌, ◌<◌, Bool, true, List, All}
 use Rattle.std.specs.List.{list_any}
 use Rattle.schedule.specs.declared.hop.Hop.{Hop}
-use Rattle.schedule.specs.Links.{same_link}
+use Rattle.schedule.specs.Placed.{same_pair}
 use Rattle.schedule.specs.Sends.{IsStep, link_of}
 use Rattle.send_encoding.specs.Variables.{SendMapValue}
 use Rattle.send_encoding.specs.Moving.{IsLinkOf}
@@ -19,4 +19,4 @@ pub record IsTold (m : SendMapValue) (x : ℕ → ℕ → ℕ → Bool) (h : Hop
 -- each send is one of the table's, and each of the table's is there
 pub record Tells (m : SendMapValue) (x : ℕ → ℕ → ℕ → Bool) (sends : List Hop) : Type 0 where
   pub told : All (IsTold m x) sends
-  pub tells : (c k : ℕ) (z : ℕ × (ℕ × ℕ)) → c < m.chunks → IsLinkOf m z → IsStep m.steps k → x c z.0 k ≡ true → list_any (λ h. h.step == k && (h.chunk == c && same_link (link_of h) z.1)) sends ≡ true
+  pub tells : (c k : ℕ) (z : ℕ × (ℕ × ℕ)) → c < m.chunks → IsLinkOf m z → IsStep m.steps k → x c z.0 k ≡ true → list_any (λ h. h.step == k && (h.chunk == c && same_pair (link_of h) z.1)) sends ≡ true

@@ -1,8 +1,8 @@
 -- The variables of arrivals and sends, in the order of their numbers (Cai et al., PPoPP 2021, section on the encoding; the numbers are this project's own).
 use Rattle.std.specs.Prelude.{ℕ, ◌+◌, ◌-◌, ◌*◌, ◌/◌, ◌%◌, ◌==◌, ◌<◌, ◌≤◌, List, length, map, filter, All}
 use Rattle.std.specs.List.{range_with_len, enumerate_from, position_or_len}
-use Rattle.schedule.specs.Links.{TopologyValue, IsBelow, same_link, usable_links}
-use Rattle.schedule.specs.Placed.{PlacementValue, all_pairs}
+use Rattle.schedule.specs.Links.{TopologyValue, IsBelow, usable_links}
+use Rattle.schedule.specs.Placed.{PlacementValue, all_pairs, same_pair}
 use Rattle.cnf_formula.specs.Literals.{LitValue, yes}
 
 -- so many chunks and nodes, the usable links in ascending order, and so many steps
@@ -56,8 +56,8 @@ pub record IsSendMap (m : SendMapValue) : Type 0 where
 
 -- the number of a link, or that of all where it is not usable
 abbrev pub number_of : SendMapValue → ℕ × ℕ → ℕ
-number_of m link = position_or_len (same_link link) m.links
+number_of m link = position_or_len (same_pair link) m.links
 
 -- the number of each link between nodes below 16, among these
 abbrev pub numbers_among : List (ℕ × ℕ) → List ℕ
-numbers_among links = map (λ k. position_or_len (same_link (k / 16, k % 16)) links) (range_with_len 0 256)
+numbers_among links = map (λ k. position_or_len (same_pair (k / 16, k % 16)) links) (range_with_len 0 256)

@@ -2,7 +2,7 @@
 
 ghost use Rattle.std.specs.Prelude.{◌≡◌, length, IfOk};
 ghost use Rattle.std.specs.List.{position_or_len};
-ghost use Rattle.schedule.specs.Links.{same_link};
+ghost use Rattle.schedule.specs.Placed.{same_pair};
 
 use crate::OutOfMemory;
 use std::marker::Model;
@@ -59,7 +59,7 @@ impl LinkNumbers {
     /// The number of a link, or that of all where it is not one of them.
     #[tactic(auto, using(crate::proofs::Places::numbered))]
     pub(crate) fn number(&self, link: (u8, u8)) -> usize
-        ensures { result ≡ position_or_len (same_link link) self.now }
+        ensures { result ≡ position_or_len (same_pair link) self.now }
     {
         let (from, to) = link;
         if from < NODES && to < NODES {
@@ -72,7 +72,7 @@ impl LinkNumbers {
 
 /// The place of a link in a list, or the length of the list.
 fn place_in(links: &[(u8, u8)], link: (u8, u8)) -> usize
-    ensures { result ≡ position_or_len (same_link link) links.now }
+    ensures { result ≡ position_or_len (same_pair link) links.now }
 {
     for (number, other) in links.iter().enumerate() {
         if link.0 == other.0 && link.1 == other.1 {

@@ -1,6 +1,7 @@
 ghost use Rattle.std.specs.Prelude.{◌≡◌, ◌↔◌, ◌+◌, ◌<◌, ◌≤◌, true, length, IsSome, IfSome, IfOk};
 ghost use Rattle.std.specs.List.{list_any};
-ghost use Rattle.schedule.specs.Links.{same_link, usable_links};
+ghost use Rattle.schedule.specs.Links.{usable_links};
+ghost use Rattle.schedule.specs.Placed.{same_pair};
 ghost use Rattle.schedule.specs.Sends.{IsStep};
 ghost use Rattle.send_encoding.specs.Variables.{SendMapValue, IsSendMap, arrival, arrivals, sent, sends, number_of};
 
@@ -88,7 +89,7 @@ impl SendMap {
     pub fn sent(&self, chunk: u16, link: (u8, u8), step: u8) -> Option<Lit>
         requires chunk { chunk < self.now.chunks }
         requires step { IsStep self.now.steps step }
-        ensures usable { IsSome result ↔ (list_any (same_link link) self.now.links ≡ true) }
+        ensures usable { IsSome result ↔ (list_any (same_pair link) self.now.links ≡ true) }
         ensures literal { IfSome result (λ lit. lit ≡ sent self.now chunk (number_of self.now link) step) }
     {
         let number = self.number(link);

@@ -15,7 +15,8 @@ use Rattle.text_lines.specs.Number.{number_up_to}
 use Rattle.text_lines.proofs.Checks.{bind_ok, refuse_ok, need_ok, ok_is}
 use Rattle.text_lines.proofs.Distinct.{AreDistinct, distinct_nil, distinct_push, none_before, next_has}
 use Rattle.text_lines.proofs.Numbers.{up_to_found, up_to_some}
-use Rattle.schedule.specs.Links.{same_link, IsLink, IsBelow, IsGroup}
+use Rattle.schedule.specs.Links.{IsLink, IsBelow, IsGroup}
+use Rattle.schedule.specs.Placed.{same_pair}
 use Rattle.topology_text.specs.declared.fault.TopologyCode.{TopologyCode}
 use Rattle.topology_text.specs.declared.fault.TopologyCode.TheVariants.{UnknownNode, SelfLink, LinkTwice, WidthRange}
 use Rattle.topology_text.specs.Names.{is_name}
@@ -93,15 +94,15 @@ link_again names link ok apart below =
 
 -- ---- the links of a group
 
-pub same_link-Decides : (a b : ℕ × ℕ) → Decides (same_link a b) (a ≡ b)
-same_link-Decides a b = (both, again)
+pub same_pair-Decides : (a b : ℕ × ℕ) → Decides (same_pair a b) (a ≡ b)
+same_pair-Decides a b = (both, again)
   where
-    both : same_link a b ≡ true → a ≡ b
+    both : same_pair a b ≡ true → a ≡ b
     both t =
         let (from, to) = and_parts (eqb a.0 b.0) (eqb a.1 b.1) t in
         λ i. (eqb-true a.0 b.0 from i, eqb-true a.1 b.1 to i)
 
-    again : a ≡ b → same_link a b ≡ true
+    again : a ≡ b → same_pair a b ≡ true
     again e = and_from (eqb a.0 b.0) (eqb a.1 b.1) (eq-eqb a.0 b.0 (ap (λ l. l.0) e)) (eq-eqb a.1 b.1 (ap (λ l. l.1) e))
 
 -- links that were read, of which there may be none
@@ -113,15 +114,15 @@ pub record Links (nodes : ℕ) (links : List (ℕ × ℕ)) : Type 0 where
 pub links_nil : (nodes : ℕ) → Links nodes []
 links_nil nodes = record { each = All-nil IsLink; below = All-nil (IsBelow nodes); distinct = distinct_nil }
 
-push_link : (nodes : ℕ) (before : List (ℕ × ℕ)) (link : ℕ × ℕ) → IsLink link → IsBelow nodes link → list_any (same_link link) before ≡ false → Links nodes before → Links nodes (before ++ link ∷ [])
+push_link : (nodes : ℕ) (before : List (ℕ × ℕ)) (link : ℕ × ℕ) → IsLink link → IsBelow nodes link → list_any (same_pair link) before ≡ false → Links nodes before → Links nodes (before ++ link ∷ [])
 push_link nodes before link apart below fresh ok = record {
   each = All-push IsLink before link ok.each apart;
   below = All-push (IsBelow nodes) before link ok.below below;
-  distinct = distinct_push same_link same_link-Decides before link fresh ok.distinct;
+  distinct = distinct_push same_pair same_pair-Decides before link fresh ok.distinct;
 }
 
 abbrev after_link : List (List ℕ) → List (ℕ × ℕ) → List (List ℕ) → ℕ × ℕ → Result (List (ℕ × ℕ)) TopologyCode
-after_link names before words link = refuse (list_any (same_link link) before) LinkTwice >>= (λ u. links_from names (before ++ link ∷ []) words)
+after_link names before words link = refuse (list_any (same_pair link) before) LinkTwice >>= (λ u. links_from names (before ++ link ∷ []) words)
 
 pub links_take : (names : List (List ℕ)) (before : List (ℕ × ℕ)) (words : List (List ℕ)) (links : List (ℕ × ℕ)) → links_from names before words ≡ Ok links → Links (length names) before → (map (link_word names) links ≡ map (link_word names) before ++ words) × Links (length names) links
 links_take names before [] links e ok =
@@ -130,7 +131,7 @@ links_take names before [] links e ok =
     (ap (map (link_word names)) (sym same) ∙ sym (append-nil (map (link_word names) before)), subst P same ok)
 links_take names before (word ∷ words) links e ok =
     let (link, read, e1) = bind_ok (link_of names word) (after_link names before words) links e in
-    let (fresh, e2) = refuse_ok (list_any (same_link link) before) LinkTwice (λ u. links_from names (before ++ link ∷ []) words) links e1 in
+    let (fresh, e2) = refuse_ok (list_any (same_pair link) before) LinkTwice (λ u. links_from names (before ++ link ∷ []) words) links e1 in
     let taken = link_take names word link read in
     let (all, valid) = links_take names (before ++ link ∷ []) words links e2 (push_link (length names) before link taken.apart taken.below fresh ok) in (
       all ∙ ap (λ ws. ws ++ words) (map_push (link_word names) before link) ∙ append_assoc (map (link_word names) before) (link_word names link ∷ []) words
@@ -142,7 +143,7 @@ pub links_again : (names : List (List ℕ)) (before rest : List (ℕ × ℕ)) �
 links_again names before [] ok valid = ap (λ l. Ok l) (sym (append-nil before))
 links_again names before (link ∷ rest) ok valid =
     let read = link_again names link ok (next_has IsLink before link rest valid.each) (next_has (IsBelow (length names)) before link rest valid.below) in
-    let fresh = none_before same_link same_link-Decides before link rest valid.distinct in
+    let fresh = none_before same_pair same_pair-Decides before link rest valid.distinct in
     let P : List (ℕ × ℕ) → Type 0 = λ l. Links (length names) l in
     let more = links_again names (before ++ link ∷ []) rest ok (subst P (sym (append_assoc before (link ∷ []) rest)) valid) in
     ap (λ r. r >>= after_link names before (map (link_word names) rest)) read

@@ -1,7 +1,8 @@
 -- Families of topologies that are often met: paths, cycles, complete graphs, hypercubes and tori, a bus that all links share, a switch with two ports for each node, boxes with cables between them, and the hybrid cube mesh of eight processors (NVIDIA, DGX-1 system architecture, 2017).
 use Rattle.std.specs.Prelude.{◌==◌, ◌&&◌, ◌||◌, not, if◌then◌else◌, ℕ, ◌+◌, ◌*◌, ◌/◌, ◌%◌, Bool, List, [], ◌∷◌, map, filter, nat_le, codes, decimal, ◌++◌, bit_xor}
 use Rattle.std.specs.List.{list_any, range_with_len}
-use Rattle.schedule.specs.Links.{GroupValue, same_link, turned}
+use Rattle.schedule.specs.Links.{GroupValue, turned}
+use Rattle.schedule.specs.Placed.{same_pair}
 use Rattle.topology_text.specs.declared.family_kind.FamilyKind.{FamilyKind}
 use Rattle.topology_text.specs.declared.family_kind.FamilyKind.TheVariants.{Line, Ring, Complete, Cube, Shared, Torus, Mesh, Switch, Boxes}
 use Rattle.topology_text.specs.Value.{NamedTopologyValue, named}
@@ -89,7 +90,7 @@ abbrev pub double_ring : List (ℕ × ℕ)
 double_ring = (0, 4) ∷ (4, 7) ∷ (7, 6) ∷ (6, 5) ∷ (5, 1) ∷ (1, 2) ∷ (2, 3) ∷ (3, 0) ∷ []
 
 abbrev pub is_double : ℕ × ℕ → Bool
-is_double link = list_any (same_link link) double_ring || list_any (same_link (turned link)) double_ring
+is_double link = list_any (same_pair link) double_ring || list_any (same_pair (turned link)) double_ring
 
 -- a link of a mesh, in a group of its own
 abbrev pub mesh_group : ℕ × ℕ → GroupValue

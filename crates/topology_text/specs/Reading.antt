@@ -5,7 +5,8 @@ use Rattle.std.specs.List.{list_any, list_all, starts_with, slice_split}
 use Rattle.text_lines.specs.Text.{Row, Place, words_of, start}
 use Rattle.text_lines.specs.Check.{◌>>=◌, refuse, need, at_line, line_part}
 use Rattle.text_lines.specs.Number.{number_up_to}
-use Rattle.schedule.specs.Links.{GroupValue, same_link}
+use Rattle.schedule.specs.Links.{GroupValue}
+use Rattle.schedule.specs.Placed.{same_pair}
 use Rattle.topology_text.specs.declared.fault.TopologyCode.{TopologyCode}
 use Rattle.topology_text.specs.declared.fault.TopologyCode.TheVariants.{BadHeader, BadLine, BadName, NameTwice, UnknownNode, SelfLink, LinkTwice, WidthRange, TooManyNodes, TooManyGroups, NoNodes, BaseRange, NameOrder}
 use Rattle.topology_text.specs.Names.{name_of}
@@ -80,7 +81,7 @@ abbrev pub links_from : List (List ℕ) → List (ℕ × ℕ) → List (List ℕ
 links_from names before [] = Ok before
 links_from names before (word ∷ words) = do
   link ← link_of names word
-  _ ← refuse (list_any (same_link link) before) LinkTwice
+  _ ← refuse (list_any (same_pair link) before) LinkTwice
   links_from names (before ++ link ∷ []) words
 
 -- a number from 1 to 16

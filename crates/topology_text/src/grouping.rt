@@ -2,7 +2,8 @@
 
 ghost use Rattle.std.specs.Prelude.{◌≡◌, ◌==◌, ◌<◌, ◌++◌, [], ◌∷◌, ℕ, All, map, filter, IfOk, OnOk};
 ghost use Rattle.std.specs.List.{list_any, range_with_len};
-ghost use Rattle.schedule.specs.Links.{IsLink, IsGroup, same_link};
+ghost use Rattle.schedule.specs.Links.{IsLink, IsGroup};
+ghost use Rattle.schedule.specs.Placed.{same_pair};
 ghost use Rattle.topology_text.specs.Family.{cable, double_ring, is_inside, mesh_group, port_in, port_out, single};
 
 use crate::family_kind::is_inside;
@@ -31,7 +32,7 @@ pub(crate) fn single_groups(alloc: Global, links: &[(u8, u8)]) -> Result<Vec<Gro
 
 /// Whether a mesh has the link in its ring of double links, in the one direction.
 fn is_in_double_ring(from: u8, to: u8) -> bool
-    ensures { result ≡ list_any (same_link (from, to)) double_ring }
+    ensures { result ≡ list_any (same_pair (from, to)) double_ring }
 {
     matches!(
         (from, to),

@@ -3,7 +3,8 @@ use Rattle.std.specs.Prelude.{◌==◌, not}
 use Rattle.std.specs.List.{list_any, range_with_len}
 use Rattle.std.proofs.lemmas.List.Folds.{list_any-append}
 use Rattle.list_laws.proofs.Ranges.{any_at}
-use Rattle.schedule.specs.Links.{GroupValue, has_link, same_link}
+use Rattle.schedule.specs.Links.{GroupValue, has_link}
+use Rattle.schedule.specs.Placed.{same_pair}
 use Rattle.schedule.specs.Tables.{Marks}
 use Rattle.schedule.specs.Judging.{group_at}
 use Rattle.node_cuts.proofs.Masks.{range_more}
@@ -16,7 +17,7 @@ returns-then-shares c =
     let g : ℕ = c.args.group in
     let p : ℕ → Bool = λ other. not (other == g) && list_any (has_link (group_at t g)) (group_at t other).links in
     let other : ℕ = c.loop-other.other in
-    let marks : Marks c.of-links.result.cells (has_link (group_at t g)) = subst (λ links. Marks c.of-links.result.cells (λ link. list_any (same_link link) links)) (c.links.ensures.links ∙ ap (λ (group : GroupValue). group.links) c.group_at.ensures.group) c.of-links.ensures in
+    let marks : Marks c.of-links.result.cells (has_link (group_at t g)) = subst (λ links. Marks c.of-links.result.cells (λ link. list_any (same_pair link) links)) (c.links.ensures.links ∙ ap (λ (group : GroupValue). group.links) c.group_at.ensures.group) c.of-links.ensures in
     let told : p other ≡ true = ap (λ b. not (other == g) && b) (sym (any_has t g other c.of-links.result.cells c.group_at.ensures.limits marks)) ∙ sym c.shares.ensures.shares ∙ c.if-shares.true in
     ap not (sym (any_at p 0 (length t.groups) other (omega arith) (omega (arith, c.loop-other-test.true, ap length c.groups.ensures.groups)) told))
 
@@ -26,6 +27,6 @@ loop-other-preserved c =
     let g : ℕ = c.args.group in
     let p : ℕ → Bool = λ other. not (other == g) && list_any (has_link (group_at t g)) (group_at t other).links in
     let other : ℕ = c.loop-other.other in
-    let marks : Marks c.of-links.result.cells (has_link (group_at t g)) = subst (λ links. Marks c.of-links.result.cells (λ link. list_any (same_link link) links)) (c.links.ensures.links ∙ ap (λ (group : GroupValue). group.links) c.group_at.ensures.group) c.of-links.ensures in
+    let marks : Marks c.of-links.result.cells (has_link (group_at t g)) = subst (λ links. Marks c.of-links.result.cells (λ link. list_any (same_pair link) links)) (c.links.ensures.links ∙ ap (λ (group : GroupValue). group.links) c.group_at.ensures.group) c.of-links.ensures in
     let told : p other ≡ false = ap (λ b. not (other == g) && b) (sym (any_has t g other c.of-links.result.cells c.group_at.ensures.limits marks)) ∙ sym c.shares.ensures.shares ∙ c.if-shares.false in
     ap (list_any p) (range_more 0 other other (omega arith)) ∙ list_any-append p (range_with_len 0 other) (other ∷ []) ∙ ap (λ b. b || (p other || false)) c.loop-other.invariant ∙ ap (λ b. b || false) told

@@ -4,7 +4,8 @@ use Rattle.std.specs.List.{list_any}
 use Rattle.std.specs.Option.{option_map_or}
 use Rattle.std.proofs.lemmas.List.Elements.{All-append, All-cons, All-filter, All-nil, All-same}
 use Rattle.std.proofs.lemmas.Result.{IfOk-weaker}
-use Rattle.schedule.specs.Links.{GroupValue, has_link, same_link}
+use Rattle.schedule.specs.Links.{GroupValue, has_link}
+use Rattle.schedule.specs.Placed.{same_pair}
 use Rattle.schedule.specs.Tables.{Marks, marked_at}
 use Rattle.schedule.specs.Judging.{group_at}
 use Rattle.node_cuts.specs.Cuts.{all_groups, ascending, best_of, best_taken, opens}
@@ -103,7 +104,7 @@ loop-turn-preserved c =
           let few : length t.groups - turn ≡ suc (length t.groups - (turn + 1)) = omega (arith, c.loop-turn-test.true, ap length c.groups-turn-end.ensures.groups) in
           let chosen : best_of u t taken None (all_groups t) ≡ Some best = sym (best_left u t taken None (all_groups t)) ∙ ap (best_of u t taken None) (sym (c.deref-in-loop-turn.ensures.value ∙ prior.1))
           ∙ sym (c.best_of.ensures.best u taken prior.0) ∙ c.in-Some.is in
-          let after : Marks new (λ link. marked_at cells link && not (has_link (group_at t best) link)) = subst (λ links. Marks new (λ link. marked_at cells link && not (list_any (same_link link) links))) links_are c.remove.ensures in
+          let after : Marks new (λ link. marked_at cells link && not (has_link (group_at t best) link)) = subst (λ links. Marks new (λ link. marked_at cells link && not (list_any (same_pair link) links))) links_are c.remove.ensures in
           let marks : MarksOpen new u t (taken ++ best ∷ []) = taken_next u t taken cells prior.0 best true new after in (
             subst (MarksOpen new u t) (sym taken_is) marks,
             left_is ∙ filter_alike keeps (opens u t (taken ++ best ∷ [])) (λ g. told u t (taken ++ best ∷ []) new marks g c.groups-turn-end.ensures.limits) left

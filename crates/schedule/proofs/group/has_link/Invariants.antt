@@ -1,7 +1,7 @@
 use Rattle.std.proofs.Common.{◌≡◌, drop}
 use Rattle.std.specs.List.{list_any}
-use Rattle.schedule.specs.Links.{same_link}
+use Rattle.schedule.specs.Placed.{same_pair}
 use Rattle.schedule.proofs.group.has_link.Given as goal
 
 abbrev pub invariant-loop-other : goal.invariant-loop-other
-invariant-loop-other l = list_any (same_link l.link) (drop l.other-index l.links) ≡ list_any (same_link l.link) l.links
+invariant-loop-other l = list_any (same_pair l.link) (drop l.other-index l.links) ≡ list_any (same_pair l.link) l.links

@@ -1,11 +1,11 @@
 use Rattle.std.proofs.Common.{◌≡◌, length, take}
 use Rattle.std.specs.List.{list_any}
-use Rattle.schedule.specs.Links.{same_link}
+use Rattle.schedule.specs.Placed.{same_pair}
 use Rattle.schedule.specs.Tables.{Marks}
 use Rattle.node_cuts.proofs.open_links.OpenLinks.of.Given as goal
 
 abbrev pub invariant-loop-from : goal.invariant-loop-from
 invariant-loop-from l = record {
-  marks : Marks l.cells (λ link. list_any (same_link link) (take l.from-index l.links));
+  marks : Marks l.cells (λ link. list_any (same_pair link) (take l.from-index l.links));
   whole : length l.cells ≡ 256;
 }

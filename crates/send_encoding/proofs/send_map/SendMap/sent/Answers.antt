@@ -1,6 +1,6 @@
 use Rattle.std.proofs.Common.{◌<◌, ◌≤◌, length, refl, arith, rules}
 use Rattle.std.proofs.lemmas.Bool.{false≢true}
-use Rattle.schedule.specs.Links.{same_link}
+use Rattle.schedule.specs.Placed.{same_pair}
 use Rattle.send_encoding.specs.Variables.{number_of}
 use Rattle.send_encoding.proofs.Everywhere.{place_below, below_listed}
 use Rattle.send_encoding.proofs.send_map.SendMap.sent.Goals as goal
@@ -9,10 +9,10 @@ pub returns-then-number-len-clause-usable : goal.returns-then-number-len-clause-
 returns-then-number-len-clause-usable c =
     let m = c.args.self.now in
     let low : number_of m c.args.link < length m.links = search rules in
-    (λ _. below_listed (same_link c.args.link) m.links low, λ _. refl)
+    (λ _. below_listed (same_pair c.args.link) m.links low, λ _. refl)
 
 pub returns-else-number-len-clause-usable : goal.returns-else-number-len-clause-usable
 returns-else-number-len-clause-usable c =
     let m = c.args.self.now in
     let high : length m.links ≤ number_of m c.args.link = search rules in
-    (λ e. absurd (false≢true e), λ e. absurd (omega (arith, high, place_below (same_link c.args.link) m.links e)))
+    (λ e. absurd (false≢true e), λ e. absurd (omega (arith, high, place_below (same_pair c.args.link) m.links e)))
