@@ -157,11 +157,9 @@ impl WatchLists {
         ensures watches { IsOnlyNew self.old.watches self.new.watches (code_of lit) watch }
     {
         let code = lit.code();
-        let span = self.spans[code];
-        self.pool[(span.start + span.len) as usize] = watch;
-        self.spans[code] = Span {
-            len: span.len + 1,
-            ..span
-        };
+        let span = &mut self.spans[code];
+        let place = (span.start + span.len) as usize;
+        span.len += 1;
+        self.pool[place] = watch;
     }
 }

@@ -25,6 +25,16 @@ fn counts_of(alloc: Global, vars: u32, lits: &[Lit]) -> Result<Vec<u32>, AllocEr
     Ok(counts)
 }
 
+/// Puts a clause among those of less than two literals. It stands apart, since few clauses are, and
+/// the loop over all is to have its registers for the others.
+#[inline(never)]
+fn put_short(short: &mut Vec<u32>, number: u32) -> Result<(), AllocError>
+    ensures { OnOk result (short.new.items ≡ short.old.items ++ number ∷ []) }
+{
+    short.push(number)?;
+    Ok(())
+}
+
 /// Puts a clause into the lists of its first two literals, or among those of less than two.
 fn put(
     lists: &mut WatchLists,
@@ -42,11 +52,12 @@ fn put(
     ensures begun { OnOk result ((rows : List RowValue) → number ≡ length rows → IsBegun rows lists.old short.old.items → IsBegun (rows ++ front_row lits.now ∷ []) lists.new short.new.items) }
 {
     if let [first, second, ..] = lits {
+        let (first, second) = (*first, *second);
         let pair = lits.len() == 2;
-        lists.add(*first, Watch::new(number, pair, *second));
-        lists.add(*second, Watch::new(number, pair, *first));
+        lists.add(first, Watch::new(number, pair, second));
+        lists.add(second, Watch::new(number, pair, first));
     } else {
-        short.push(number)?;
+        put_short(short, number)?;
     }
     Ok(())
 }

@@ -11,13 +11,13 @@ use Rattle.trail_core.proofs.Begun.{begun_add, front_own}
 use Rattle.trail_core.proofs.Blocking.{blocked_held, blocked_short}
 use Rattle.trail_core.proofs.loading.put.Goals as goal
 
-pub returns-in_ok-push-clause-begun : goal.returns-in_ok-push-clause-begun
-returns-in_ok-push-clause-begun c = λ rows n b.
+pub returns-in_ok-put_short-clause-begun : goal.returns-in_ok-put_short-clause-begun
+returns-in_ok-put_short-clause-begun c = λ rows n b.
     let w = c.args.lists.now in
     let short : List ℕ = c.args.short.now.items in
     let r = front_row c.args.lits.now in
     let few : length c.args.lits.now ≤ 1 = omega (arith, c.in_default.len_below) in
-    let is : c.push.new.self.items ≡ short ++ length rows ∷ [] = c.in_ok-push.ensures.items ∙ ap (λ k. short ++ k ∷ []) n in
+    let is : c.put_short.new.short.items ≡ short ++ length rows ∷ [] = c.in_ok-put_short.ensures ∙ ap (λ k. short ++ k ∷ []) n in
     subst (λ ss. IsBegun (rows ++ r ∷ []) w ss) (sym is) (begun_add rows w w r short (short ++ length rows ∷ []) b (put_short w.lists r (length rows) few) (front_own c.args.lits.now c.requires.once) (blocked_short rows r w.watches w.watches b.blocked refl)
     (λ e h. Contains-append_left short (length rows ∷ []) e h) (λ h. Contains-push short (length rows)) (shorts_push rows r short b.short_within few))
 
