@@ -9,7 +9,7 @@ use Rattle.engine_rules.specs.Outcomes.{RecordValue}
 use Rattle.node_cuts.specs.Cutting.{is_cut}
 use Rattle.node_cuts.specs.Tables.{IsTableOf}
 use Rattle.cut_bounds.specs.Cutting.{uncut_entries}
-use Rattle.cut_bounds.proofs.Noting.{exhausted_by, exhausted_same, refutes_more, refutes_on, refutes_same, right_by, right_same, runs_within, still_new, uncut_cut, uncut_more, within_more, within_on, within_same}
+use Rattle.cut_bounds.proofs.Noting.{cut_refuted, exhausted_by, exhausted_same, refutes_more, refutes_on, refutes_same, right_by, right_same, runs_within, still_new, uncut_cut, uncut_more, within_more, within_on, within_same}
 use Rattle.cut_bounds.proofs.engine.CutEngineEngine.settle.Goals as goal
 
 pub invariant_of-self : goal.invariant_of-self
@@ -55,6 +55,11 @@ invariant_of-self-then-cut g c =
       right = right_by e.sets q now (view.entries e.inner) kept (g.met.E.EngineView.copies e.inner) (g.met.E.EngineView.right e.inner);
       exhausted = exhausted_by e.sets q (view.formula e.inner) now (view.entries e.inner) kept refutes (g.met.E.EngineView.exhausted e.inner);
     }
+
+pub returns-then-cut-clause-refuted : goal.returns-then-cut-clause-refuted
+returns-then-cut-clause-refuted g c = λ e.
+    let old = c.args.self.now in
+    cut_refuted old.sets (g.E.EngineView.question old.inner) c.args.candidate (g.met.E.EngineView.copies old.inner) (sym c.refutes-cut.ensures ∙ c.if-cut.true)
 
 pub settle-requires-clause-fresh : goal.settle-requires-clause-fresh
 settle-requires-clause-fresh g c =
