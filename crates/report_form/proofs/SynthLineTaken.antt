@@ -26,7 +26,8 @@ use Rattle.report_form.specs.Fields.{any_number, behind_key, next_keyed, fixed_w
 use Rattle.report_form.specs.SynthLine.{AskedValue, kinds_of, kind_named, limits_from, root_from, said_from, pruning_from, asked_from, may_be_asked, asked_line, root_of, words_from}
 use Rattle.report_form.proofs.Tested.{decides_limits}
 use Rattle.report_form.proofs.Tokens.{word_take, fixed_take, no_more_take, keyed_is, any_number_is}
-use Rattle.report_form.proofs.LineTaken.{words_part_take, ruled}
+use Rattle.report_form.proofs.Gives.{Gives, Between}
+use Rattle.report_form.proofs.LineTaken.{ruled_gives}
 
 -- ---- keys
 
@@ -66,8 +67,8 @@ found_among p q (x ∷ xs) k all e = let parts = and_parts (q x) (list_all q xs)
 kind_standard : (w : List ℕ) (k : Kind) → kind_named false w ≡ Some k → is_custom k ≡ false
 kind_standard w k e = not-true (is_custom k) (found_among (λ kind. bytes_eq (word_of kind) w) (λ kind. not (is_custom kind)) standard_kinds k refl e)
 
-name_is : (w name : List ℕ) → name_of w ≡ Some name → w ≡ name
-name_is w name e = same_Some w name (if_some (is_name w) (Some w) name e).1
+name_is : (w name : List ℕ) → name_of w ≡ Some name → (w ≡ name) × (is_name name ≡ true)
+name_is w name e = let (good, found) = if_some (is_name w) (Some w) name e in let same = same_Some w name found in (same, ap is_name (sym same) ∙ good)
 
 -- ---- the limits
 
@@ -109,7 +110,7 @@ root_tokens (Some name) = (codes "root=" ++ name) ∷ []
 
 -- there is a name exactly where the collective takes a root
 abbrev pub RootFits : Bool → Option (List ℕ) → Type 0
-RootFits true root = (name : List ℕ) × (root ≡ Some name)
+RootFits true root = (name : List ℕ) × (root ≡ Some name) × (is_name name ≡ true)
 RootFits false root = root ≡ None
 
 pub record RootTaken (kind : Kind) (words : List (List ℕ)) (x : Option (List ℕ) × List (List ℕ)) : Type 0 where
@@ -128,7 +129,8 @@ root_take kind words x e = let taken = chosen (takes_root kind) e in record { st
         let t = keyed_take (codes "root=") name_of words n r1 in
         let same : (Some n.0, n.1) ≡ x = ok_is {C = ReportCode} (Some n.0, n.1) x e1 in
         let P : Option (List ℕ) × List (List ℕ) → Type 0 = λ y. (words ≡ root_tokens y.0 ++ y.1) × RootFits true y.0 in
-        subst P same (t.stands ∙ ap (λ v. (codes "root=" ++ v) ∷ n.1) (name_is t.value n.0 t.read_as), (n.0, refl))
+        let (is, good) = name_is t.value n.0 t.read_as in
+        subst P same (t.stands ∙ ap (λ v. (codes "root=" ++ v) ∷ n.1) is, (n.0, refl, good))
     chosen false h =
         let none : Option (List ℕ) × List (List ℕ) = (None, words) in
         let same : none ≡ x = ok_is {C = ReportCode} none x h in
@@ -207,28 +209,23 @@ asked_take patterned words a e =
       kind = kind_fits patterned t.value k.0 t.read_as;
     })
 
-abbrev pub asked_check : Bool → List (List ℕ) → Result AskedValue ReportCode
-asked_check patterned words = asked_from patterned words >>= (λ a. refuse (not (may_be_asked patterned a)) code.Limits >>= (λ u. Ok a))
-
-pub record AskedPart (patterned : Bool) (p : Place) (x : AskedValue × Place) : Type 0 where
-  pub rows : p.rows ≡ row_of (asked_words x.0) ∷ x.1.rows
-  pub limits : IsLimits x.0.limits
-  pub fits : RootFits (takes_root x.0.kind) x.0.root
-  pub kind : is_custom x.0.kind ≡ patterned
-
 -- the kind is that of the version
 kind_of_version : (patterned : Bool) (k : Kind) → (patterned ≡ false → is_custom k ≡ false) → (not patterned || is_custom k) ≡ true → is_custom k ≡ patterned
 kind_of_version true k standard may = may
 kind_of_version false k standard may = standard refl
 
-pub asked_part : (patterned : Bool) (p : Place) (x : AskedValue × Place) → line_part (asked_line patterned) p ≡ Ok x → AskedPart patterned p x
-asked_part patterned p x e =
-    let t = words_part_take (asked_check patterned) p x e in
-    let (shape, rule) = ruled (asked_from patterned t.words) (may_be_asked patterned) code.Limits x.0 t.checked in
-    let taken = asked_take patterned t.words x.0 shape in
-    let (within, may) = and_parts (are_limits x.0.limits) (not patterned || is_custom x.0.kind) rule in
-    let ok = (decides_limits x.0.limits).0 within in
-    record { rows = t.line.rows ∙ ap (λ ws. row_of ws ∷ x.1.rows) (taken.stands ok); limits = ok; fits = taken.fits; kind = kind_of_version patterned x.0.kind taken.kind may }
+pub record IsAsked (patterned : Bool) (a : AskedValue) : Type 0 where
+  pub limits : IsLimits a.limits
+  pub fits : RootFits (takes_root a.kind) a.root
+  pub kind : is_custom a.kind ≡ patterned
+
+pub asked_gives : (patterned : Bool) (p : Place) → Gives (λ (e : ReportCode × ℕ). e.1 ≡ p.number) (λ (x : AskedValue × Place). IsAsked patterned x.0 × Between (asked_words x.0 ∷ []) p x.1) (line_part (asked_line patterned) p)
+asked_gives patterned p = ruled_gives (asked_from patterned) (may_be_asked patterned) (λ a. a) asked_words (IsAsked patterned)
+    (λ words a shape rule.
+    let taken = asked_take patterned words a shape in
+    let (within, may) = and_parts (are_limits a.limits) (not patterned || is_custom a.kind) rule in
+    let ok = (decides_limits a.limits).0 within in
+    (taken.stands ok, record { limits = ok; fits = taken.fits; kind = kind_of_version patterned a.kind taken.kind may })) p
 
 -- ---- with the names
 
@@ -248,7 +245,7 @@ words_take names a root some ok fits e = chosen (takes_root a.kind) refl fits
     front ws = codes "synth" ∷ (codes "collective=" ++ word_of a.kind) ∷ limits_words a.limits (ws ++ pruning_words a.limits.pruning)
 
     chosen : (b : Bool) → b ≡ takes_root a.kind → RootFits b a.root → WordsTaken names a root
-    chosen true takes (name, is) =
+    chosen true takes (name, is, good) =
         let found : node_of names name ≡ Some root = needed (node_of names name) (ap (root_of names) (sym is) ∙ e) in
         let (below, named) = node_is names name root found in
         record {
