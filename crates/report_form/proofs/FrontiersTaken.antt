@@ -16,7 +16,7 @@ use Rattle.report_form.specs.Reports.{WordsValue, IsFrontier, IsJoinedPoint, que
 use Rattle.report_form.specs.Spelling.{point_lines, refuted_words, unknown_words, part_words, frontier_lines, joined_lines}
 use Rattle.report_form.specs.Points.{frontier_point_at, joined_point_at}
 use Rattle.report_form.specs.Reading.{refuted_line, unknown_line, part_bytes, frontier_at, frontiers_from, joined_at}
-use Rattle.report_form.proofs.Gives.{gives_done, gives_like, gives_then, here, then_on, cut_on, Reads, parts_give, lines_give}
+use Rattle.report_form.proofs.Gives.{gives_done, gives_like, gives_then, here, then_on, cut_on, GivesPart, parts_give, lines_give}
 use Rattle.report_form.proofs.LineTaken.{fixed_gives}
 use Rattle.report_form.proofs.ListsTaken.{AreListed, none_listed, refuted_takes, AreUnknown, none_unknown, unknown_takes}
 use Rattle.report_form.proofs.PointsTaken.{ArePoints, no_points, point_steps}
@@ -46,7 +46,7 @@ module _ (names : List (List ℕ)) (q : QuestionValue) (as_many : length names �
   nothing_valid = frontier_valid [] [] [] (no_points names q as_many) (none_listed q) (none_unknown q)
 
   -- the frontier that was read, or one whose first lines were
-  pub frontier_gives : IsLimits q.limits → (x : Part) (p : Place) → Reads (λ f. frontier_lines names (x, f)) (IsFrontier q) p (frontier_at names q x p)
+  pub frontier_gives : IsLimits q.limits → (x : Part) (p : Place) → GivesPart (λ f. frontier_lines names (x, f)) (IsFrontier q) p (frontier_at names q x p)
   unfolding frontier_at
   frontier_gives ok x p =
       let A : List PointValue → List (List (List ℕ)) = flat_map (point_lines names) in
@@ -100,7 +100,7 @@ module _ (words : WordsValue) (t : NamedTopologyValue) (as_many : length t.names
   nothings_are [] = record { parts_are = refl; valid = All-nil (IsFrontierOf words t) }
   nothings_are (x ∷ parts) = one_more words t x nothing_found parts (nothings parts) (nothing_valid t.names (question_of words t x) as_many) (nothings_are parts)
 
-  pub frontiers_give : IsLimits words.limits → (parts : List Part) (p : Place) → Reads (flat_map (frontier_lines t.names)) (AreFrontiers words t parts) p (frontiers_from words t parts p)
+  pub frontiers_give : IsLimits words.limits → (parts : List Part) (p : Place) → GivesPart (flat_map (frontier_lines t.names)) (AreFrontiers words t parts) p (frontiers_from words t parts p)
   frontiers_give ok [] p = gives_done _ (record { valid = nothings_are []; lines = here p })
   frontiers_give ok (x ∷ parts) p =
       let F : List (Part × FrontierValue) → List (List (List ℕ)) = flat_map (frontier_lines t.names) in
@@ -112,7 +112,7 @@ module _ (words : WordsValue) (t : NamedTopologyValue) (as_many : length t.names
 
   -- ---- joined points
 
-  pub joined_gives : IsLimits words.limits → (k : Kind) (p : Place) → Reads (joined_lines t.names k) (AreJoined words t k) p (joined_at k words t p)
+  pub joined_gives : IsLimits words.limits → (k : Kind) (p : Place) → GivesPart (joined_lines t.names k) (AreJoined words t k) p (joined_at k words t p)
   joined_gives ok kind.Broadcast p = gives_done _ (record { valid = none_joined words t kind.Broadcast; lines = here p })
   joined_gives ok kind.Gather p = gives_done _ (record { valid = none_joined words t kind.Gather; lines = here p })
   joined_gives ok kind.Allgather p = gives_done _ (record { valid = none_joined words t kind.Allgather; lines = here p })

@@ -84,8 +84,8 @@ pub record Stops {A : Type 0} (spell : A → List (List (List ℕ))) (Q : A → 
   pub valid : Q value
   pub cut : Cut (spell value) p n
 
-abbrev pub Reads : {A C : Type 0} → (A → List (List (List ℕ))) → (A → Type 0) → Place → Result (A × Place) (C × ℕ) → Type 0
-Reads {A} {C} spell Q p r = Gives (λ (e : C × ℕ). Stops spell Q p e.1) (λ (x : A × Place). Took spell Q p x) r
+abbrev pub GivesPart : {A C : Type 0} → (A → List (List (List ℕ))) → (A → Type 0) → Place → Result (A × Place) (C × ℕ) → Type 0
+GivesPart {A} {C} spell Q p r = Gives (λ (e : C × ℕ). Stops spell Q p e.1) (λ (x : A × Place). Took spell Q p x) r
 
 -- ---- lists that go on
 
@@ -142,12 +142,12 @@ parts_more word check one Q steps (suc fuel) before p q =
     (λ begun. gives_like (λ e s. s) (λ x t. (t.valid, t.lines)) (steps before p q)) (λ x read valid. parts_more word check one Q steps fuel (before ++ x.0 ∷ []) x.1 valid)
 
 -- those behind none are all of them
-pub all_more : {A C : Type 0} (spells : List A → List (List (List ℕ))) (one : A → List (List (List ℕ))) (Q : List A → Type 0) (p : Place) (r : Result (List A × Place) (C × ℕ)) → ((xs : List A) → flat_map one xs ≡ spells xs) → Many one Q [] p r → Reads spells Q p r
+pub all_more : {A C : Type 0} (spells : List A → List (List (List ℕ))) (one : A → List (List (List ℕ))) (Q : List A → Type 0) (p : Place) (r : Result (List A × Place) (C × ℕ)) → ((xs : List A) → flat_map one xs ≡ spells xs) → Many one Q [] p r → GivesPart spells Q p r
 all_more spells one Q p r same = gives_like
     (λ e s. record { value = s.value; valid = s.valid; cut = subst (λ (ls : List (List (List ℕ))). Cut ls p e.1) (same s.value) s.cut })
     (λ x m. record { valid = m.valid; lines = subst (λ (ls : List (List (List ℕ))). Between ls p x.1) (same m.more ∙ ap spells (sym m.all)) m.lines })
 
-pub parts_give : {A : Type 0} (word : List ℕ) (check : List A → Place → Result (A × Place) (ReportCode × ℕ)) (one : A → List (List (List ℕ))) (Q : List A → Type 0) → Steps check one Q → Q [] → (p : Place) → Reads (flat_map one) Q p (parts_at word check p)
+pub parts_give : {A : Type 0} (word : List ℕ) (check : List A → Place → Result (A × Place) (ReportCode × ℕ)) (one : A → List (List (List ℕ))) (Q : List A → Type 0) → Steps check one Q → Q [] → (p : Place) → GivesPart (flat_map one) Q p (parts_at word check p)
 parts_give word check one Q steps none p = all_more (flat_map one) one Q p _ (λ xs. refl) (parts_more word check one Q steps (length p.rows) [] p none)
 
 -- a check that takes the line of its value, and keeps what holds of the values before it
@@ -170,5 +170,5 @@ module _ {A : Type 0} (word : List ℕ) (check : List A → Option Row → Resul
   each_line [] = refl
   each_line (x ∷ xs) = ap (λ ls. spell x ∷ ls) (each_line xs)
 
-  pub lines_give : Q [] → (p : Place) → Reads (map spell) Q p (lines_at word check p)
+  pub lines_give : Q [] → (p : Place) → GivesPart (map spell) Q p (lines_at word check p)
   lines_give none p = all_more (map spell) (λ x. spell x ∷ []) Q p _ each_line (lines_more p.rows [] p.number none)

@@ -43,7 +43,7 @@ keyed_take key read words x e =
     let (is, found) = keyed_is key read t.word x.0 t.read_as in
     record { value = drop (length key) t.word; stands = t.stands ∙ ap (λ w. w ∷ x.1) is; read_as = found }
 
-found_is : (p : Kind → Bool) (kinds : List Kind) (k : Kind) → find p kinds ≡ Some k → p k ≡ true
+pub found_is : (p : Kind → Bool) (kinds : List Kind) (k : Kind) → find p kinds ≡ Some k → p k ≡ true
 found_is p [] k e = absurd (cc)
 found_is p (x ∷ xs) k e = chosen (p x) refl e (found_is p xs k)
   where
