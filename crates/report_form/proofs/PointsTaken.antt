@@ -1,5 +1,5 @@
 -- What the checks of a point took stands there, and is valid.
-use Rattle.std.proofs.Common.{◌≡◌, ℕ, zero, suc, ◌+◌, ◌-◌, ◌*◌, min, ◌≤◌, Bool, true, ◌&&◌, not, ltb, List, [], ◌∷◌, ◌++◌, map, length, sum, Option, None, Result, Ok, ◌⊎◌, inl, inr, refl, sym, ap, ◌∙◌, subst, arith}
+use Rattle.std.proofs.Common.{◌≡◌, ℕ, zero, suc, ◌+◌, ◌-◌, ◌*◌, min, ◌≤◌, Bool, true, ◌&&◌, ltb, List, [], ◌∷◌, ◌++◌, map, length, sum, Option, None, Result, Ok, ◌⊎◌, inl, inr, refl, sym, ap, ◌∙◌, subst, arith}
 use Rattle.std.specs.Prelude.{◌==◌, codes, nat_le, nat_lt, All, AllPairs}
 use Rattle.std.specs.List.{last_or, list_all}
 use Rattle.std.proofs.lemmas.Bool.{and_parts, and_from, eqb-true, leb-true, lt-ltb}
@@ -21,7 +21,6 @@ use Rattle.report_form.specs.declared.fault.ReportCode.{ReportCode}
 use Rattle.report_form.specs.Reports.{HasSchedule, IsPoint}
 use Rattle.report_form.specs.Spelling.{rounds_words, send_words, point_words, point_lines}
 use Rattle.report_form.specs.Tests.{is_within, comes_next}
-use Rattle.report_form.specs.Lines.{lines_at}
 use Rattle.report_form.specs.Points.{HeadValue, head_from, head_line, rounds_from, are_rounds, rounds_line, send_from, follows, may_be_sent, send_line, schedule_at, frontier_point_at}
 use Rattle.report_form.proofs.Tested.{decides_within}
 use Rattle.report_form.proofs.Ascending.{HopBefore, push_hop}

@@ -1,5 +1,5 @@
 -- A text that the checks take is the text of the report that they give, which is valid; where they fail, some valid report has the lines before the one that is blamed.
-use Rattle.std.proofs.Common.{◌≡◌, ℕ, ◌+◌, Bool, true, false, not, List, [], ◌∷◌, ◌++◌, map, length, Option, None, Some, Result, Ok, Err, refl, sym, ap, ◌∙◌, subst, arith}
+use Rattle.std.proofs.Common.{◌≡◌, ℕ, Bool, true, false, not, List, [], ◌∷◌, ◌++◌, map, length, Option, None, Some, Result, Ok, Err, refl, sym, ap, ◌∙◌, subst, arith}
 use Rattle.std.specs.Prelude.{codes, flat_map, bytes_eq, if◌then◌else◌, is_some, IfSome}
 use Rattle.std.proofs.lemmas.Bool.{not-false}
 use Rattle.std.proofs.lemmas.List.{append-nil, length-map, map-append}
@@ -7,7 +7,7 @@ use Rattle.std.proofs.lemmas.List.Elements.{All-nil, All-cons}
 use Rattle.std.proofs.lemmas.Slice.Eq.{bytes_eq-Decides}
 use Rattle.text_lines.specs.Text.{Row, Place, words_of, rows_of, start}
 use Rattle.text_lines.specs.Check.{◌>>=◌, refuse, need, at_line, first, line_part}
-use Rattle.text_lines.proofs.Checks.{bind_ok, refuse_alone, at_line_ok, line_err, part_ok, part_err_at, ok_is}
+use Rattle.text_lines.proofs.Checks.{bind_ok, refuse_alone, at_line_ok, line_err, part_err_at, ok_is}
 use Rattle.text_lines.proofs.Distinct.{AreDistinct}
 use Rattle.text_lines.proofs.Rows.{row_of, text_back}
 use Rattle.schedule.specs.Links.{GroupValue}
@@ -35,8 +35,8 @@ use Rattle.topology_text.proofs.Filled.{GroupsFilled, fill_groups, PatternFilled
 use Rattle.report_form.specs.declared.fault.ReportCode.{ReportCode}
 use Rattle.report_form.specs.declared.fault.ReportCode.TheVariants as code
 use Rattle.report_form.specs.Reports.{WordsValue, ReportValue, IsReport, parts_of}
-use Rattle.report_form.specs.Spelling.{synth_words, frontier_lines, joined_lines, report_lines, report_text}
-use Rattle.report_form.specs.Lines.{whole_line, fixed_line, no_line, among}
+use Rattle.report_form.specs.Spelling.{frontier_lines, joined_lines, report_lines, report_text}
+use Rattle.report_form.specs.Lines.{whole_line, no_line, among}
 use Rattle.report_form.specs.SynthLine.{AskedValue, asked_line, root_of, words_from}
 use Rattle.report_form.specs.Reading.{body_of, version_of, version_line, is_same, report_of}
 use Rattle.report_form.proofs.Gives.{Gives, gives_done, gives_like, gives_then, Between, then_on, cut_on, line_gives, Stops}
