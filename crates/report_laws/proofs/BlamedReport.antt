@@ -1,11 +1,11 @@
 -- The line that the checks of a report blame has the code of its form.
-use Rattle.std.proofs.Common.{◌≡◌, ℕ, zero, suc, ◌+◌, Bool, true, false, ◌||◌, not, List, [], ◌∷◌, ◌++◌, map, length, drop, Option, None, Some, Result, Ok, Err, refl, sym, ap, ◌∙◌, subst, arith}
+use Rattle.std.proofs.Common.{◌≡◌, ℕ, zero, suc, ◌+◌, Bool, true, false, ◌||◌, not, List, [], ◌∷◌, ◌++◌, map, length, drop, Option, None, Some, Result, Ok, Err, refl, sym, ap, ◌∙◌, arith}
 use Rattle.std.specs.Prelude.{◌==◌, codes, decimal, bytes_eq, if◌then◌else◌, slice_index_or, is_ok}
 use Rattle.std.specs.List.{list_any}
 use Rattle.std.proofs.lemmas.Bool.{and_parts, not-false, or_parts}
 use Rattle.std.proofs.lemmas.Slice.Eq.{bytes_eq-Decides}
 use Rattle.text_lines.specs.Text.{Row, Place, words_of, rows_of, start, behind}
-use Rattle.text_lines.specs.Check.{◌>>=◌, refuse, need, at_line, first, line_part}
+use Rattle.text_lines.specs.Check.{◌>>=◌, refuse, need, first, line_part}
 use Rattle.text_lines.proofs.Checks.{refuse_ok}
 use Rattle.text_lines.proofs.Rows.{row_of, words_again}
 use Rattle.text_lines.proofs.Words.{tokens_from}
@@ -21,16 +21,16 @@ use Rattle.topology_text.specs.declared.fault.TopologyCode.TheVariants.{BadLine}
 use Rattle.topology_text.specs.Value.{NamedTopologyValue, named_with}
 use Rattle.topology_text.specs.Names.{AreNames}
 use Rattle.topology_text.specs.Spelling.{nodes_words, head_words}
-use Rattle.topology_text.specs.Reading.{begins, has_empty, has_front, node_of, header_line, nodes_line, groups_at, groups_from, group_row, base_of, custom_line, holders_from, holders_line, holders_at, Pairs, row_of_pairs, pattern_of, pattern_at}
+use Rattle.topology_text.specs.Reading.{begins, has_empty, has_front, node_of, header_line, nodes_line, groups_at, groups_from, group_row, base_of, custom_line, holders_from, holders_line, holders_at, Pairs, pattern_at}
 use Rattle.topology_text.proofs.Front.{header_takes, nodes_line_take, nodes_are_words}
 use Rattle.topology_text.proofs.Groups.{place}
 use Rattle.report_form.specs.declared.fault.ReportCode.{ReportCode}
 use Rattle.report_form.specs.declared.fault.ReportCode.TheVariants as code
 use Rattle.report_form.specs.Reports.{WordsValue, ReportValue, parts_of, question_of}
-use Rattle.report_form.specs.Lines.{fixed_line, no_line, among, parts_at}
+use Rattle.report_form.specs.Lines.{no_line, parts_at}
 use Rattle.report_form.specs.Points.{joined_point_at}
 use Rattle.report_form.specs.SynthLine.{AskedValue, kinds_of, asked_from, may_be_asked, asked_line, root_of, words_from}
-use Rattle.report_form.specs.Reading.{part_bytes, frontier_at, frontiers_from, joined_at, body_of, version_of, version_line, is_same, report_of}
+use Rattle.report_form.specs.Reading.{part_bytes, frontiers_from, joined_at, body_of, version_of, version_line, is_same, report_of}
 use Rattle.report_form.proofs.LineTaken.{row_is}
 use Rattle.report_form.proofs.ReportTaken.{after_root, after_names, after_same, after_asked, after_head, report_at, report_is}
 use Rattle.report_form.proofs.Gives.{Gives, gives_done, gives_like}
@@ -244,8 +244,11 @@ module _ (text : List ℕ) where
           (λ c e. unfit_on all (r1 ∷ r2 ∷ []) a.1 (c, a.1.number) on2 refl (λ row h. header_fits row))))
           (λ d read i.
           let is : i.row ≡ row_of (head_words d.0) = row_is i.row (head_words d.0) (header_takes (Some i.row) d.0 i.read) in
-          goes_on _ _ (at_line_goes {N = λ (u : Unit {0}). Unit {0}} (Coded all) a.1.number (refuse (not (is_same d.0 head.0)) code.BadLine) (record { ok = λ u e. tt; err = λ c e. told_on all (r1 ∷ r2 ∷ []) a.1 i.row c on2 i.here
-          (refused (is_same d.0 head.0) c e ∙ (ap (λ b. if b then code.BadLine else code.Truncated) (sym (ap (λ r. r.whole) is)) ∙ ap (λ b. told_code b i.row) (sym (header_fits i.row)))) }))
+          goes_on _ _ (at_line_goes {N = λ (u : Unit {0}). Unit {0}} (Coded all) a.1.number (refuse (not (is_same d.0 head.0)) code.BadLine) (record {
+            ok = λ u e. tt;
+            err = λ c e. told_on all (r1 ∷ r2 ∷ []) a.1 i.row c on2 i.here
+                (refused (is_same d.0 head.0) c e ∙ (ap (λ b. if b then code.BadLine else code.Truncated) (sym (ap (λ r. r.whole) is)) ∙ ap (λ b. told_code b i.row) (sym (header_fits i.row))));
+          }))
           (λ u same v. behind_header d i.row i.on (ap first_word is ∙ first_header d.0)))
         where
           refused : (b : Bool) (c : ReportCode) → refuse (not b) code.BadLine ≡ Err c → c ≡ code.BadLine

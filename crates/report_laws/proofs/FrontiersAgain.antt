@@ -1,10 +1,9 @@
 -- The lines of a report's parts that are spelled are read.
-use Rattle.std.proofs.Common.{◌≡◌, ℕ, ◌+◌, ◌≤◌, List, [], ◌∷◌, ◌++◌, map, length, Result, Ok, refl, sym, ap, ◌∙◌, subst, arith}
+use Rattle.std.proofs.Common.{◌≡◌, ℕ, ◌≤◌, List, [], ◌∷◌, ◌++◌, map, length, Ok, refl, sym, ap, ◌∙◌, subst, arith}
 use Rattle.std.specs.Prelude.{◌≢◌, codes, flat_map, All, IfSome}
 use Rattle.std.proofs.lemmas.List.{length-append, length-map}
 use Rattle.std.proofs.lemmas.List.Elements.{All-head, All-tail, All-map, All-weaker}
-use Rattle.text_lines.specs.Text.{Row, Place}
-use Rattle.text_lines.specs.Check.{◌>>=◌}
+use Rattle.text_lines.specs.Text.{Row}
 use Rattle.text_lines.proofs.Rows.{row_of}
 use Rattle.outer_ports.specs.declared.part.Part.{Part}
 use Rattle.outer_ports.specs.declared.part.Part.TheVariants as part
@@ -12,16 +11,14 @@ use Rattle.collective_spec.specs.declared.kind.Kind.{Kind}
 use Rattle.collective_spec.specs.declared.kind.Kind.TheVariants as kind
 use Rattle.collective_spec.specs.Patterns.{IsPattern}
 use Rattle.collective_spec.proofs.Chunks.{FewBase}
-use Rattle.candidate_order.specs.declared.candidate.Candidate.{Candidate}
 use Rattle.candidate_order.specs.Ranges.{IsLimits}
-use Rattle.candidate_order.specs.Frontiers.{QuestionValue, PointValue, UnknownValue, FrontierValue, IsWithin, IsUnknown}
+use Rattle.candidate_order.specs.Frontiers.{QuestionValue, PointValue, FrontierValue, IsWithin, IsUnknown}
 use Rattle.topology_text.specs.Value.{NamedTopologyValue}
 use Rattle.topology_text.specs.Names.{AreNames}
 use Rattle.topology_text.proofs.Groups.{place, EndsGroups}
-use Rattle.report_form.specs.declared.fault.ReportCode.{ReportCode}
 use Rattle.report_form.specs.Reports.{WordsValue, IsPoint, IsFrontier, IsJoinedPoint, question_of}
 use Rattle.report_form.specs.Spelling.{point_lines, refuted_words, unknown_words, part_words, frontier_lines, joined_lines}
-use Rattle.report_form.specs.Lines.{lines_at, parts_at}
+use Rattle.report_form.specs.Lines.{parts_at}
 use Rattle.report_form.specs.Points.{frontier_point_at, joined_point_at}
 use Rattle.report_form.specs.Reading.{refuted_line, unknown_line, part_bytes, frontier_at, frontiers_from, joined_at}
 use Rattle.report_form.proofs.ListsTaken.{AreListed, AreUnknown}

@@ -1,25 +1,21 @@
 -- A report's checks fail alike on texts whose lines are the same, so that no report has the lines up to one that fails.
-use Rattle.std.proofs.Common.{◌≡◌, ℕ, Bool, not, List, [], ◌∷◌, Option, Result, Ok, Err, refl, sym, ◌∙◌, arith}
+use Rattle.std.proofs.Common.{◌≡◌, ℕ, Bool, not, List, [], ◌∷◌, Result, Ok, Err, refl, sym, ◌∙◌, arith}
 use Rattle.std.specs.Prelude.{codes}
 use Rattle.text_lines.specs.Text.{Row, Place, rows_of, start}
 use Rattle.text_lines.specs.Check.{◌>>=◌, refuse, line_part}
-use Rattle.schedule.specs.Links.{GroupValue}
 use Rattle.outer_ports.specs.declared.part.Part.{Part}
 use Rattle.outer_ports.specs.declared.part.Part.TheVariants as part
 use Rattle.collective_spec.specs.declared.kind.Kind.{Kind}
 use Rattle.collective_spec.specs.declared.kind.Kind.TheVariants as kind
-use Rattle.collective_spec.specs.Patterns.{PatternValue}
-use Rattle.candidate_order.specs.Frontiers.{PointValue, FrontierValue}
 use Rattle.topology_text.specs.Value.{NamedTopologyValue, named_with}
 use Rattle.topology_text.specs.Reading.{header_line, nodes_line, groups_at, pattern_at}
 use Rattle.report_form.specs.declared.fault.ReportCode.{ReportCode}
 use Rattle.report_form.specs.declared.fault.ReportCode.TheVariants as code
 use Rattle.report_form.specs.Reports.{WordsValue, ReportValue, IsReport, parts_of, question_of}
 use Rattle.report_form.specs.Spelling.{report_text}
-use Rattle.report_form.specs.Lines.{fixed_line, no_line, parts_at, among}
+use Rattle.report_form.specs.Lines.{fixed_line, no_line, among}
 use Rattle.report_form.specs.SynthLine.{AskedValue, asked_line, root_of, words_from}
-use Rattle.report_form.specs.Points.{joined_point_at}
-use Rattle.report_form.specs.Reading.{part_bytes, frontier_at, frontiers_from, joined_at, body_of, version_line, is_same, report_of}
+use Rattle.report_form.specs.Reading.{part_bytes, frontiers_from, joined_at, body_of, version_line, is_same, report_of}
 use Rattle.report_form.specs.First.{Agrees}
 use Rattle.topology_text.proofs.Local.{Same}
 use Rattle.report_form.proofs.ReportTaken.{report, after_root, after_same, after_header, after_asked, after_head, report_at, report_is}

@@ -1,14 +1,13 @@
 -- The lines of points that are spelled are read.
-use Rattle.std.proofs.Common.{◌≡◌, ℕ, ◌+◌, ◌≤◌, Bool, true, ◌&&◌, not, List, [], ◌∷◌, ◌++◌, map, length, Option, None, Some, Result, Ok, ◌⊎◌, inl, inr, refl, sym, ap, ◌∙◌, subst, arith}
+use Rattle.std.proofs.Common.{◌≡◌, ℕ, ◌≤◌, Bool, true, ◌&&◌, List, [], ◌∷◌, ◌++◌, map, length, Option, None, Some, Result, Ok, ◌⊎◌, inl, inr, refl, sym, subst, arith}
 use Rattle.std.specs.Prelude.{codes, All, IfSome}
 use Rattle.std.specs.List.{last_or, AllByRecursion}
 use Rattle.std.proofs.lemmas.Bool.{and_from}
-use Rattle.text_lines.specs.Text.{Row, Place}
-use Rattle.text_lines.specs.Check.{◌>>=◌, at_line, line_part}
+use Rattle.text_lines.specs.Text.{Row}
+use Rattle.text_lines.specs.Check.{◌>>=◌, line_part}
 use Rattle.text_lines.proofs.Distinct.{next_has}
 use Rattle.text_lines.proofs.Rows.{AreTokens, row_of}
 use Rattle.text_lines.proofs.Words.{tokens_from}
-use Rattle.schedule.specs.declared.hop.Hop.{Hop}
 use Rattle.schedule.specs.Sends.{IsStep, is_hop_below}
 use Rattle.collective_spec.specs.Collectives.{chunks_in, spec_of}
 use Rattle.collective_spec.specs.Patterns.{PatternValue, IsPattern}
@@ -23,12 +22,10 @@ use Rattle.topology_text.specs.Value.{NamedTopologyValue}
 use Rattle.topology_text.specs.Names.{AreNames}
 use Rattle.topology_text.proofs.Groups.{place}
 use Rattle.report_form.specs.declared.fault.ReportCode.{ReportCode}
-use Rattle.report_form.specs.declared.fault.ReportCode.TheVariants as code
 use Rattle.report_form.specs.Reports.{WordsValue, HasSchedule, IsPoint, kind_of}
 use Rattle.report_form.specs.Spelling.{rounds_words, send_words, point_words, point_lines}
 use Rattle.report_form.specs.Tests.{is_within, comes_next}
-use Rattle.report_form.specs.Lines.{lines_at}
-use Rattle.report_form.specs.Points.{HeadValue, head_from, head_line, rounds_from, are_rounds, send_line, schedule_at, frontier_point_at}
+use Rattle.report_form.specs.Points.{HeadValue, head_from, head_line, rounds_from, are_rounds, schedule_at, frontier_point_at}
 use Rattle.report_form.proofs.Tested.{decides_within}
 use Rattle.report_form.proofs.PointsTaken.{schedule_lines, AreSends, ArePoints}
 use Rattle.report_laws.proofs.LinesAgain.{Reads, reads_here, reads_then, line_again, Ends, lines_again, ReadsPart}

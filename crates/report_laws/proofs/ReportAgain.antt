@@ -1,10 +1,10 @@
 -- The text of a valid report is read as that report.
-use Rattle.std.proofs.Common.{◌≡◌, ℕ, ◌+◌, Bool, true, false, not, List, [], ◌∷◌, ◌++◌, map, length, Option, None, Some, Result, Ok, refl, sym, ap, ◌∙◌, subst}
+use Rattle.std.proofs.Common.{◌≡◌, ℕ, ◌+◌, Bool, true, false, not, List, [], ◌∷◌, ◌++◌, map, length, Option, None, Some, Ok, refl, sym, ap, ◌∙◌, subst}
 use Rattle.std.specs.Prelude.{codes, flat_map, is_some}
 use Rattle.std.proofs.lemmas.Bool.{not-true}
 use Rattle.std.proofs.lemmas.List.{map-append}
-use Rattle.text_lines.specs.Text.{Row, Place, rows_of}
-use Rattle.text_lines.specs.Check.{◌>>=◌, refuse, at_line, line_part}
+use Rattle.text_lines.specs.Text.{Row, rows_of}
+use Rattle.text_lines.specs.Check.{refuse, at_line, line_part}
 use Rattle.text_lines.proofs.Checks.{ok_is}
 use Rattle.text_lines.proofs.Rows.{row_of}
 use Rattle.outer_ports.specs.declared.part.Part.{Part}
@@ -12,7 +12,6 @@ use Rattle.collective_spec.specs.declared.kind.Kind.{Kind}
 use Rattle.collective_spec.specs.Kinds.{takes_root, is_custom}
 use Rattle.collective_spec.specs.Patterns.{PatternValue}
 use Rattle.collective_spec.specs.Collectives.{fits_kind}
-use Rattle.candidate_order.specs.Frontiers.{PointValue, FrontierValue}
 use Rattle.topology_text.specs.Value.{NamedTopologyValue, named_with}
 use Rattle.topology_text.specs.Spelling.{version_word, header_words, nodes_words, group_words, custom_lines, lines_of}
 use Rattle.topology_text.specs.Reading.{groups_at}
@@ -23,11 +22,11 @@ use Rattle.topology_text.proofs.Patterns.{pattern_again, pattern_ends}
 use Rattle.topology_text.proofs.Laws.{names_are, groups_are, pattern_is, rows_same, header_part_again, nodes_part_again}
 use Rattle.report_form.specs.declared.fault.ReportCode.{ReportCode}
 use Rattle.report_form.specs.declared.fault.ReportCode.TheVariants as code
-use Rattle.report_form.specs.Reports.{WordsValue, ReportValue, IsReport, parts_of}
+use Rattle.report_form.specs.Reports.{WordsValue, ReportValue, IsReport}
 use Rattle.report_form.specs.Spelling.{synth_words, frontier_lines, joined_lines, body_lines, report_lines, report_text}
-use Rattle.report_form.specs.Lines.{fixed_line, no_line, among}
+use Rattle.report_form.specs.Lines.{among}
 use Rattle.report_form.specs.SynthLine.{AskedValue}
-use Rattle.report_form.specs.Reading.{frontiers_from, joined_at, body_of, version_line, is_same, report_of}
+use Rattle.report_form.specs.Reading.{frontiers_from, body_of, version_line, is_same, report_of}
 use Rattle.report_form.proofs.ReportTaken.{head_words, head_spelled, report_at, report_is, end_words}
 use Rattle.report_form.proofs.Gives.{rows_split}
 use Rattle.report_laws.proofs.TokensAgain.{ok_then}

@@ -1,10 +1,9 @@
 -- The lines of rounds and of sends that are spelled are read.
-use Rattle.std.proofs.Common.{◌≡◌, ℕ, ◌≤◌, Bool, true, ◌&&◌, not, ltb, List, [], ◌∷◌, map, length, sum, Option, None, Some, IfSome, Result, Ok, refl, arith}
+use Rattle.std.proofs.Common.{◌≡◌, ℕ, ◌≤◌, Bool, true, ◌&&◌, ltb, List, [], ◌∷◌, map, length, sum, Option, None, Some, IfSome, refl, arith}
 use Rattle.std.specs.Prelude.{◌==◌, codes, nat_le, nat_lt, All}
 use Rattle.std.specs.List.{last_or, list_all, AllByRecursion}
 use Rattle.std.proofs.lemmas.Bool.{and_parts, and_from, eq-eqb, le-leb, ltb-true}
 use Rattle.std.proofs.lemmas.List.Elements.{All-head, All-tail, All-weaker}
-use Rattle.text_lines.specs.Check.{◌>>=◌, refuse}
 use Rattle.text_lines.proofs.Distinct.{next_has}
 use Rattle.text_lines.proofs.Rows.{AreTokens}
 use Rattle.text_lines.proofs.Words.{tokens_from}
@@ -12,8 +11,6 @@ use Rattle.schedule.specs.declared.hop.Hop.{Hop}
 use Rattle.schedule.specs.Sends.{IsRound, IsStep, is_hop_below}
 use Rattle.candidate_order.specs.declared.candidate.Candidate.{Candidate}
 use Rattle.topology_text.specs.Names.{AreNames}
-use Rattle.report_form.specs.declared.fault.ReportCode.{ReportCode}
-use Rattle.report_form.specs.declared.fault.ReportCode.TheVariants as code
 use Rattle.report_form.specs.Spelling.{rounds_words, send_words}
 use Rattle.report_form.specs.Points.{are_rounds, send_from, follows, may_be_sent, send_line}
 use Rattle.report_form.proofs.Ascending.{HopBefore}

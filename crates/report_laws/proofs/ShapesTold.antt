@@ -10,24 +10,20 @@ use Rattle.std.proofs.lemmas.Slice.Eq.{bytes_eq-Decides, starts_is}
 use Rattle.std.proofs.lemmas.Option.{same_Some}
 use Rattle.text_lines.specs.Check.{◌>>=◌, refuse, need}
 use Rattle.collective_spec.specs.declared.kind.Kind.{Kind}
-use Rattle.collective_spec.specs.declared.kind.Kind.TheVariants as kind
 use Rattle.collective_spec.specs.Kinds.{word_of, takes_root}
 use Rattle.candidate_order.specs.declared.candidate.Candidate.{Candidate}
-use Rattle.candidate_order.specs.declared.mark.Mark.{Mark}
 use Rattle.candidate_order.specs.declared.mark.Mark.TheVariants as mark
 use Rattle.candidate_order.specs.declared.pruning.Pruning.{Pruning}
 use Rattle.candidate_order.specs.Ranges.{LimitsValue}
-use Rattle.candidate_order.specs.Frontiers.{UnknownValue}
-use Rattle.schedule.specs.declared.hop.Hop.{Hop}
 use Rattle.topology_text.specs.Names.{is_name, name_of}
 use Rattle.topology_text.specs.Reading.{begins, node_of}
 use Rattle.report_form.specs.declared.fault.ReportCode.{ReportCode}
 use Rattle.report_form.specs.declared.fault.ReportCode.TheVariants.{BadLine}
 use Rattle.report_form.specs.Fields.{is_number, any_number, small_number, next_word, behind_key, next_keyed, fixed_word, next_number, next_node, no_more}
-use Rattle.report_form.specs.Points.{HeadValue, candidate_from, mark_named, head_from, joined_head_from, numbers_from, rounds_from, send_from}
+use Rattle.report_form.specs.Points.{candidate_from, mark_named, head_from, joined_head_from, numbers_from, rounds_from, send_from}
 use Rattle.report_form.specs.Reading.{refuted_from, unknown_from}
 use Rattle.report_form.specs.SynthLine.{AskedValue, kind_named, kinds_of, limits_from, root_from, said_from, pruning_from, asked_from}
-use Rattle.report_form.proofs.Shapes.{candidate, hop}
+use Rattle.report_form.proofs.Shapes.{candidate}
 use Rattle.report_form.proofs.SynthLineTaken.{found_is, limits, pruned, asked}
 use Rattle.report_laws.specs.Shapes.{Token, Word, Any, May, has_shape, small, keyed, asked_shape, candidate_shape, is_mark, mark_shape, rounds_shape, send_shape}
 use Rattle.report_laws.proofs.SynthLineAgain.{kind_back, rooted}

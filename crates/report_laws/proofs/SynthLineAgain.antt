@@ -1,5 +1,5 @@
 -- The line that says what was asked is read, where it is spelled.
-use Rattle.std.proofs.Common.{◌≡◌, ℕ, ◌+◌, ◌<◌, ◌^◌, Bool, true, false, ◌||◌, not, List, [], ◌∷◌, ◌++◌, length, Option, None, Some, Result, Ok, refl, sym, ap, ◌∙◌, arith}
+use Rattle.std.proofs.Common.{◌≡◌, ℕ, ◌<◌, ◌^◌, Bool, true, false, ◌||◌, not, List, [], ◌∷◌, ◌++◌, length, Option, None, Some, Result, Ok, refl, sym, ap, arith}
 use Rattle.std.specs.Prelude.{codes, decimal, if◌then◌else◌}
 use Rattle.std.proofs.lemmas.Bool.{and_from}
 use Rattle.std.proofs.lemmas.List.{length-append}
@@ -24,7 +24,7 @@ use Rattle.report_form.specs.Reports.{WordsValue, IsWords}
 use Rattle.report_form.specs.Spelling.{root_words, word_if, pruning_words, synth_words}
 use Rattle.report_form.specs.Tests.{are_limits}
 use Rattle.report_form.specs.Fields.{any_number, next_keyed}
-use Rattle.report_form.specs.SynthLine.{AskedValue, kind_named, limits_from, root_from, pruning_from, asked_from, may_be_asked, asked_line, root_of}
+use Rattle.report_form.specs.SynthLine.{AskedValue, kind_named, limits_from, pruning_from, asked_from, may_be_asked, asked_line, root_of}
 use Rattle.report_form.proofs.Tested.{decides_limits}
 use Rattle.report_form.proofs.SynthLineTaken.{limits_words, pruned}
 use Rattle.report_laws.proofs.TokensAgain.{ok_then, keyed_again, any_number_again}

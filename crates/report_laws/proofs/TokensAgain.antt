@@ -7,17 +7,16 @@ use Rattle.std.proofs.Math.Seq.{drop-append_seam}
 use Rattle.std.proofs.lemmas.Bool.{and_from, cond-true, le-leb, ne_eqb}
 use Rattle.std.proofs.lemmas.Bool.Decides.{Decides-eqb}
 use Rattle.std.proofs.lemmas.Fmt.{decimal_is_IsNumeral, decimal_nonempty}
-use Rattle.std.proofs.lemmas.Slice.Eq.{bytes_eq-Decides, starts_is}
+use Rattle.std.proofs.lemmas.Slice.Eq.{starts_is}
 use Rattle.std.proofs.lemmas.Str.Parse.{digit_at}
-use Rattle.text_lines.specs.Check.{◌>>=◌, refuse, need}
+use Rattle.text_lines.specs.Check.{◌>>=◌, need}
 use Rattle.text_lines.proofs.Distinct.{AreDistinct}
 use Rattle.text_lines.proofs.Numbers.{up_to_some, zero_not}
 use Rattle.topology_text.specs.Spelling.{name_at}
 use Rattle.topology_text.specs.Reading.{begins, node_of}
 use Rattle.topology_text.proofs.Links.{node_again}
-use Rattle.report_form.specs.declared.fault.ReportCode.{ReportCode}
 use Rattle.report_form.specs.declared.fault.ReportCode.TheVariants.{BadLine}
-use Rattle.report_form.specs.Fields.{is_digit, is_number, any_number, small_number, next_word, behind_key, next_keyed, fixed_word, next_number, next_node}
+use Rattle.report_form.specs.Fields.{is_digit, is_number, any_number, small_number, next_word, behind_key, next_keyed, next_number, next_node}
 
 -- one step that passes, and then the rest
 pub ok_then : {A B C : Type 0} {x : A} {y : B} (r : Result A C) (f : A → Result B C) → r ≡ Ok x → f x ≡ Ok y → (r >>= f) ≡ Ok y
