@@ -22,6 +22,7 @@ use Rattle.report_form.proofs.ReportTaken.{report, after_root, after_same, after
 use Rattle.topology_text.proofs.SteadyParts.{steady_groups, steady_pattern}
 use Rattle.report_laws.proofs.Judged.{judged, steady_judged, judged_passed}
 use Rattle.topology_text.proofs.Steady.{Steady, Settles, steady_line, steady_found, settles_ok}
+use Rattle.report_laws.proofs.LocalLines.{same_for_each}
 use Rattle.report_laws.proofs.SteadyLists.{steady_next, settles_next, steady_among}
 use Rattle.report_laws.proofs.ReportAgain.{report_again}
 use Rattle.report_laws.proofs.LocalParts.{steady_joined_points, steady_frontier}
@@ -78,10 +79,6 @@ settles_report rows others =
     (λ c. settles_body (words_from a z.1) (named_with z.0 groups c)))))))
 
 -- ---- as the reader is written
-
-same_for_each : {X B E : Type 0} (r : Result X E) (f g : X → Result B E) → ((x : X) → f x ≡ g x) → (r >>= f) ≡ (r >>= g)
-same_for_each (Ok x) f g each = each x
-same_for_each (Err e) f g each = refl
 
 header_is : (rows : List Row) (b : Bool) (a : AskedValue) (p : Place) → (among rows (line_part header_line p) >>= after_header rows b a p.number) ≡ behind_asked rows b a p
 header_is rows b a p =

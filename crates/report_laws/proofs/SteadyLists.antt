@@ -1,5 +1,5 @@
 -- Readers that fail alike where their lines are the same, and how they are put together.
-use Rattle.std.proofs.Common.{◌≡◌, ℕ, ◌-◌, ◌<◌, true, List, [], ◌∷◌, length, drop, Option, Result, Ok, Err, refl, ap, subst, arith}
+use Rattle.std.proofs.Common.{◌≡◌, ℕ, ◌-◌, ◌<◌, true, List, [], ◌∷◌, length, drop, Option, Result, Ok, Err, refl, sym, ap, subst, arith}
 use Rattle.std.specs.Prelude.{slice_get}
 use Rattle.text_lines.specs.Text.{Row, Place}
 use Rattle.text_lines.specs.Check.{◌>>=◌, first, line_part}
@@ -10,7 +10,7 @@ use Rattle.report_form.specs.Lines.{row_begins, lines_at, parts_at, whole_line, 
 use Rattle.topology_text.proofs.Local.{FailsAt}
 use Rattle.topology_text.proofs.Steady.{Moves, Alike, Steady, Settles, steady_line, steady_then, settles_then}
 use Rattle.report_form.proofs.ReportTaken.{among_ok}
-use Rattle.report_laws.proofs.LocalLines.{moves_lines, alike_lines, moves_parts, alike_parts}
+use Rattle.report_laws.proofs.LocalLines.{lines_are_parts, moves_parts, alike_parts}
 
 -- one after the other, and to the end
 pub steady_next : {A B C D : Type 0} (f : Place → Result (A × Place) (C × ℕ)) (g : Place → Result (A × Place) (D × ℕ)) (h : A × Place → Result (B × Place) (C × ℕ)) (k : A × Place → Result (B × Place) (D × ℕ))
@@ -21,9 +21,6 @@ pub settles_next : {A B C D : Type 0} (f : Place → Result (A × Place) (C × �
     → Steady f g → ((x : A) → Settles (λ p. h (x, p)) (λ p. k (x, p))) → Settles (λ p. f p >>= h) (λ p. g p >>= k)
 settles_next f g h k begin later = settles_then f g (λ x p. h (x, p)) (λ x p. k (x, p)) begin later
 
-pub steady_lines : {A : Type 0} (word : List ℕ) (check : List A → Option Row → Result A ReportCode) → Steady (lines_at word check) (lines_at word check)
-steady_lines word check = record { moves = λ p. moves_lines word check p.rows [] p.number; alike = λ p q. alike_lines word check p.rows [] p.number q }
-
 pub steady_parts : {A : Type 0} (word : List ℕ) (check : List A → Place → Result (A × Place) (ReportCode × ℕ)) → ((before : List A) → Steady (check before) (check before))
     → ((before : List A) (p : Place) (x : A × Place) → row_begins word (first p.rows) ≡ true → check before p ≡ Ok x → length x.1.rows < length p.rows) → Steady (parts_at word check) (parts_at word check)
 steady_parts {A} word check each shorter =
@@ -31,18 +28,30 @@ steady_parts {A} word check each shorter =
     let alike : (before : List A) (p q : Place) → Alike (check before p) (check before q) p q = λ before p q. let s = each before in s.alike p q in
     record { moves = λ p. moves_parts word check moves (length p.rows) [] p; alike = λ p q. alike_parts word check moves alike shorter (length p.rows) (length q.rows) [] p q (omega arith) (omega arith) }
 
--- a part that begins with a line takes a line
-pub shorter_part : {A B : Type 0} (word : List ℕ) (check : Option Row → Result A ReportCode) (g : A × Place → Result (B × Place) (ReportCode × ℕ)) → ((x : A) → Steady (λ p. g (x, p)) (λ p. g (x, p)))
-    → (p : Place) (y : B × Place) → row_begins word (first p.rows) ≡ true → (line_part check p >>= g) ≡ Ok y → length y.1.rows < length p.rows
-shorter_part word check g steady p y goes read =
-    let (x, begun, rest) = bind_ok (line_part check p) g y read in
-    let at = (part_ok check p x begun).1 in
-    let on = ((steady x.0).moves x.1).onward y rest in
-    omega (arith, on, ap (λ z. length z.rows) at, one_less p.rows goes)
+-- a line takes a line, and so does a part that begins with one
+shorter_line : {A : Type 0} (word : List ℕ) (check : Option Row → Result A ReportCode) (p : Place) (x : A × Place) → row_begins word (first p.rows) ≡ true → line_part check p ≡ Ok x → length x.1.rows < length p.rows
+shorter_line word check p x goes read =
+    let at = (part_ok check p x read).1 in
+    omega (arith, ap (λ z. length z.rows) at, one_less p.rows goes)
   where
     one_less : (rows : List Row) → row_begins word (first rows) ≡ true → length (drop 1 rows) < length rows
     one_less [] e = absurd (cc)
     one_less (row ∷ rows) e = omega arith
+
+pub shorter_part : {A B : Type 0} (word : List ℕ) (check : Option Row → Result A ReportCode) (g : A × Place → Result (B × Place) (ReportCode × ℕ)) → ((x : A) → Steady (λ p. g (x, p)) (λ p. g (x, p)))
+    → (p : Place) (y : B × Place) → row_begins word (first p.rows) ≡ true → (line_part check p >>= g) ≡ Ok y → length y.1.rows < length p.rows
+shorter_part word check g steady p y goes read =
+    let (x, begun, rest) = bind_ok (line_part check p) g y read in
+    let on = ((steady x.0).moves x.1).onward y rest in
+    let less = shorter_line word check p x goes begun in
+    omega (arith, on, less)
+
+pub steady_lines : {A : Type 0} (word : List ℕ) (check : List A → Option Row → Result A ReportCode) → Steady (lines_at word check) (lines_at word check)
+steady_lines {A} word check =
+    let s = steady_parts word (λ before p. line_part (check before) p) (λ before. steady_line (check before)) (λ before p x goes read. shorter_line word (check before) p x goes read) in
+    let is = λ (p : Place). sym (lines_are_parts word check p.rows [] p.number) in
+    let R : Type 0 = Result (List A × Place) (ReportCode × ℕ) in
+    record { moves = λ p. subst (λ (r : R). Moves r p) (is p) (s.moves p); alike = λ p q. subst (λ (r : R). Alike r (lines_at word check q) p q) (is p) (subst (λ (r : R). Alike (parts_at word (λ b z. line_part (check b) z) p) r p q) (is q) (s.alike p q)) }
 
 -- parts that begin with a line
 pub steady_pieces : {A B : Type 0} (word : List ℕ) (check : List A → Option Row → Result B ReportCode) (g : B × Place → Result (A × Place) (ReportCode × ℕ)) → ((x : B) → Steady (λ p. g (x, p)) (λ p. g (x, p)))
