@@ -1,14 +1,14 @@
 -- What the checks of a point took stands there, and is valid.
-use Rattle.std.proofs.Common.{◌≡◌, ℕ, ◌≤◌, Bool, true, ◌&&◌, not, ltb, List, [], ◌∷◌, ◌++◌, map, length, sum, None, Some, Result, Ok, ◌⊎◌, refl, sym, ap, ◌∙◌, subst, arith}
+use Rattle.std.proofs.Common.{◌≡◌, ℕ, zero, suc, ◌+◌, ◌-◌, ◌*◌, min, ◌≤◌, Bool, true, ◌&&◌, ltb, List, [], ◌∷◌, ◌++◌, map, length, sum, Option, None, Result, Ok, ◌⊎◌, inl, inr, refl, sym, ap, ◌∙◌, subst, arith}
 use Rattle.std.specs.Prelude.{◌==◌, codes, nat_le, nat_lt, All, AllPairs}
 use Rattle.std.specs.List.{last_or, list_all}
 use Rattle.std.proofs.lemmas.Bool.{and_parts, and_from, eqb-true, leb-true, lt-ltb}
 use Rattle.std.proofs.lemmas.List.Elements.{All-push, All-nil, All-cons}
+use Rattle.std.proofs.lemmas.List.Sums.{sum_by-cons}
 use Rattle.list_laws.proofs.Pairs.{no_pairs}
-use Rattle.text_lines.specs.Text.{Place}
-use Rattle.text_lines.specs.Check.{◌>>=◌, refuse, line_part}
-use Rattle.text_lines.proofs.Checks.{bind_ok, ok_is}
-use Rattle.text_lines.proofs.Rows.{row_of}
+use Rattle.text_lines.specs.Text.{Row, Place}
+use Rattle.text_lines.specs.Check.{◌>>=◌, line_part}
+use Rattle.topology_text.proofs.Cuts.{cut_here}
 use Rattle.schedule.specs.declared.hop.Hop.{Hop}
 use Rattle.schedule.specs.Sends.{IsRound, IsStep, is_hop_below}
 use Rattle.collective_spec.specs.Collectives.{chunks_in}
@@ -18,17 +18,16 @@ use Rattle.candidate_order.specs.declared.mark.Mark.TheVariants as mark
 use Rattle.candidate_order.specs.Ranges.{IsLimits}
 use Rattle.candidate_order.specs.Frontiers.{QuestionValue, PointValue, IsWithin}
 use Rattle.report_form.specs.declared.fault.ReportCode.{ReportCode}
-use Rattle.report_form.specs.declared.fault.ReportCode.TheVariants as code
 use Rattle.report_form.specs.Reports.{HasSchedule, IsPoint}
 use Rattle.report_form.specs.Spelling.{rounds_words, send_words, point_words, point_lines}
 use Rattle.report_form.specs.Tests.{is_within, comes_next}
-use Rattle.report_form.specs.Lines.{lines_at}
 use Rattle.report_form.specs.Points.{HeadValue, head_from, head_line, rounds_from, are_rounds, rounds_line, send_from, follows, may_be_sent, send_line, schedule_at, frontier_point_at}
 use Rattle.report_form.proofs.Tested.{decides_within}
 use Rattle.report_form.proofs.Ascending.{HopBefore, push_hop}
-use Rattle.report_form.proofs.LineTaken.{on_words_take, words_part_take, Takes, TakesPart, lines_take, ruled, row_is, map_both}
+use Rattle.report_form.proofs.Gives.{Gives, gives_done, gives_like, gives_then, Between, then_on, cut_on, Took, Stops, Steps, Takes, lines_give}
+use Rattle.report_form.proofs.LineTaken.{ruled_gives, ruled_takes}
 use Rattle.report_form.proofs.Shapes.{head_take, rounds_take, send_take}
-use Rattle.report_form.proofs.ListsTaken.{AreListed, none_listed, push_listed}
+use Rattle.report_form.proofs.ListsTaken.{AreListed, none_listed, push_part}
 
 each_of : {X : Type 0} (p : X → Bool) (P : X → Type 0) (h : (x : X) → p x ≡ true → P x) (xs : List X) → list_all p xs ≡ true → All P xs
 each_of p P h [] e = All-nil P
@@ -51,18 +50,30 @@ rounds_valid x rounds e =
       total = eqb-true (sum rounds) x.r outer.1;
     }
 
-abbrev pub rounds_check : Candidate → List (List ℕ) → Result (List ℕ) ReportCode
-rounds_check x words = rounds_from words >>= (λ rounds. refuse (not (are_rounds x rounds)) code.Limits >>= (λ u. Ok rounds))
+pub rounds_give : (x : Candidate) (p : Place) → Gives (λ (e : ReportCode × ℕ). e.1 ≡ p.number) (λ (y : List ℕ × Place). AreRounds x y.0 × Between (rounds_words y.0 ∷ []) p y.1) (line_part (rounds_line x) p)
+rounds_give x p = ruled_gives rounds_from (are_rounds x) (λ rounds. rounds) rounds_words (AreRounds x) (λ words rounds shape rule. (rounds_take words rounds shape, rounds_valid x rounds rule)) p
 
-pub record RoundsTaken (x : Candidate) (p : Place) (y : List ℕ × Place) : Type 0 where
-  pub rows : p.rows ≡ row_of (rounds_words y.0) ∷ y.1.rows
-  pub valid : AreRounds x y.0
+-- so many rounds in so many steps, from 1 to 9 in each
+pub record SomeRounds (s r : ℕ) : Type 0 where
+  pub rounds : List ℕ
+  pub many : length rounds ≡ s
+  pub each : All IsRound rounds
+  pub total : sum rounds ≡ r
 
-pub rounds_part : (x : Candidate) (p : Place) (y : List ℕ × Place) → line_part (rounds_line x) p ≡ Ok y → RoundsTaken x p y
-rounds_part x p y e =
-    let t = words_part_take (rounds_check x) p y e in
-    let (shape, rule) = ruled (rounds_from t.words) (are_rounds x) code.Limits y.0 t.checked in
-    record { rows = t.line.rows ∙ ap (λ ws. row_of ws ∷ y.1.rows) (rounds_take t.words y.0 shape); valid = rounds_valid x y.0 rule }
+pub some_rounds : (s r : ℕ) → s ≤ r → r ≤ 9 * s → SomeRounds s r
+some_rounds zero r low high = record { rounds = []; many = refl; each = All-nil IsRound; total = omega (arith, high) }
+some_rounds (suc s) r low high =
+    let f : ℕ = min 9 (r - s) in
+    let later = some_rounds s (r - f) (omega (arith, low)) (omega (arith, low, high)) in
+    let many = later.many in
+    let total = later.total in
+    let both : f + (r - f) ≡ r = omega (arith, low) in
+    record {
+      rounds = f ∷ later.rounds;
+      many = omega (arith, many);
+      each = All-cons IsRound f later.rounds (record { some = omega (arith, low); few = omega arith }) later.each;
+      total = sum_by-cons (λ (x : ℕ). x) f later.rounds ∙ ap (λ n. f + n) total ∙ both;
+    }
 
 -- ---- sends
 
@@ -75,46 +86,50 @@ module _ (names : List (List ℕ)) (chunks steps : ℕ) where
   pub no_sends : AreSends []
   no_sends = record { steps_are = All-nil (λ h. IsStep steps h.step); below = All-nil (λ h. is_hop_below chunks (length names) h ≡ true); ascending = no_pairs HopBefore }
 
-  abbrev send_rule : List Hop → Hop → Bool
-  send_rule before h = may_be_sent chunks steps h && follows (last_or None before) h
-
-  abbrev send_check : List Hop → List (List ℕ) → Result Hop ReportCode
-  send_check before words = send_from names words >>= (λ h. refuse (not (send_rule before h)) code.Limits >>= (λ u. Ok h))
-
   pub send_takes : Takes (send_line names chunks steps) (send_words names) AreSends
-  send_takes = record {
-    line = λ before row h are e.
-        let t = on_words_take (send_check before) (Some row) h e in
-        let (shape, rule) = ruled (send_from names t.words) (send_rule before) code.Limits h t.checked in
-        let taken = send_take names t.words h shape in
-        row_is row t.words t.is ∙ ap row_of taken.stands;
-    keeps = λ before row h are e.
-        let t = on_words_take (send_check before) (Some row) h e in
-        let (shape, rule) = ruled (send_from names t.words) (send_rule before) code.Limits h t.checked in
-        let taken = send_take names t.words h shape in
-        let parts = and_parts (may_be_sent chunks steps h) (follows (last_or None before) h) rule in
-        let outer = and_parts (nat_lt h.chunk chunks && nat_le 1 h.step) (nat_le h.step steps) parts.0 in
-        let inner = and_parts (nat_lt h.chunk chunks) (nat_le 1 h.step) outer.0 in
-        let low = leb-true 1 h.step inner.1 in
+  send_takes = ruled_takes (send_from names) (λ before h. may_be_sent chunks steps h && follows (last_or None before) h) (send_words names) AreSends
+      (λ before words h are shape rule.
+      let taken = send_take names words h shape in
+      let parts = and_parts (may_be_sent chunks steps h) (follows (last_or None before) h) rule in
+      let outer = and_parts (nat_lt h.chunk chunks && nat_le 1 h.step) (nat_le h.step steps) parts.0 in
+      let inner = and_parts (nat_lt h.chunk chunks) (nat_le 1 h.step) outer.0 in
+      let low = leb-true 1 h.step inner.1 in (
+        taken.stands,
         record {
           steps_are = All-push (λ k. IsStep steps k.step) before h are.steps_are (record { from = omega (arith, low); to = leb-true h.step steps outer.1 });
           below = All-push (λ k. is_hop_below chunks (length names) k ≡ true) before h are.below
               (and_from (ltb h.chunk chunks) (ltb h.from (length names) && ltb h.to (length names)) inner.0
               (and_from (ltb h.from (length names)) (ltb h.to (length names)) (lt-ltb h.from (length names) taken.from) (lt-ltb h.to (length names) taken.to)));
           ascending = push_hop before h are.ascending parts.1;
-        };
-  }
+        },
+      ))
 
 -- ---- a schedule behind the head of its point
 
 abbrev pub point_of : HeadValue → List ℕ → List Hop → PointValue
 point_of head rounds sends = record { candidate = head.candidate; schedule = record { rounds = rounds; sends = sends }; mark = head.mark }
 
-pub record ScheduleTaken (names : List (List ℕ)) (q : QuestionValue) (head : HeadValue) (p : Place) (x : PointValue × Place) : Type 0 where
-  pub candidate : x.0.candidate ≡ head.candidate
-  pub mark : x.0.mark ≡ head.mark
-  pub rows : p.rows ≡ (row_of (rounds_words x.0.schedule.rounds) ∷ map row_of (map (send_words names) x.0.schedule.sends)) ++ x.1.rows
-  pub has : 1 ≤ head.candidate.s → head.candidate.s ≤ 16 → HasSchedule q x.0
+abbrev pub schedule_lines : List (List ℕ) → PointValue → List (List (List ℕ))
+schedule_lines names p = rounds_words p.schedule.rounds ∷ map (send_words names) p.schedule.sends
+
+-- a point of this candidate and mark
+pub record Scheduled (q : QuestionValue) (head : HeadValue) (x : PointValue) : Type 0 where
+  pub candidate : x.candidate ≡ head.candidate
+  pub mark : x.mark ≡ head.mark
+  pub has : 1 ≤ head.candidate.s → head.candidate.s ≤ 16 → HasSchedule q x
+
+-- the words of a point's line
+abbrev pub headed : HeadValue → List (List ℕ)
+headed head = point_words (point_of head [] [])
+
+pub same_head : (q : QuestionValue) (head : HeadValue) (x : PointValue) → Scheduled q head x → headed head ≡ point_words x
+same_head q head x s =
+    ap (λ c. point_words (record { candidate = c; schedule = x.schedule; mark = head.mark })) (sym s.candidate) ∙ ap (λ m. point_words (record { candidate = x.candidate; schedule = x.schedule; mark = m })) (sym s.mark)
+
+-- a point of this head may stand behind those before it
+pub record Headed (q : QuestionValue) (Q : List PointValue → Type 0) (before : List PointValue) (head : HeadValue) : Type 0 where
+  pub some : SomeRounds head.candidate.s head.candidate.r
+  pub keeps : (x : PointValue) → Scheduled q head x → Q (before ++ x ∷ [])
 
 module _ (names : List (List ℕ)) (q : QuestionValue) (as_many : length names ≡ q.topology.nodes) where
   abbrev chunks_at : HeadValue → ℕ
@@ -132,22 +147,33 @@ module _ (names : List (List ℕ)) (q : QuestionValue) (as_many : length names �
         in_range = subst N as_many sent.below;
       }
 
-  pub schedule_take : (head : HeadValue) (p : Place) (x : PointValue × Place) → schedule_at names q head p ≡ Ok x → ScheduleTaken names q head p x
+  -- the schedule that was read, or one whose first lines were
+  pub schedule_gives : (head : HeadValue) (p : Place)
+      → Gives (λ (e : ReportCode × ℕ). SomeRounds head.candidate.s head.candidate.r → Stops (schedule_lines names) (Scheduled q head) p e.1) (λ (x : PointValue × Place). Took (schedule_lines names) (Scheduled q head) p x) (schedule_at names q head p)
   unfolding schedule_at
-  schedule_take head p x e =
-      let check = send_line names (chunks_at head) head.candidate.s in
-      let (rounds, r1, e1) = bind_ok (line_part (rounds_line head.candidate) p) (λ y. lines_at (codes "send ") check y.1 >>= (λ z. Ok (point_of head y.0 z.0, z.1))) x e in
-      let (sends, r2, e2) = bind_ok (lines_at (codes "send ") check rounds.1) (λ z. Ok (point_of head rounds.0 z.0, z.1)) x e1 in
-      let same : (point_of head rounds.0 sends.0, sends.1) ≡ x = ok_is {C = ReportCode × ℕ} (point_of head rounds.0 sends.0, sends.1) x e2 in
-      let first = rounds_part head.candidate p rounds r1 in
-      let rest = lines_take (codes "send ") check (send_words names) (AreSends names (chunks_at head) head.candidate.s) (send_takes names (chunks_at head) head.candidate.s) [] rounds.1.number rounds.1.rows sends (no_sends names (chunks_at head) head.candidate.s) r2 in
-      let P : PointValue × Place → Type 0 = λ y. ScheduleTaken names q head p y in
-      subst P same (record {
-        candidate = refl;
-        mark = refl;
-        rows = first.rows ∙ ap (λ rs. row_of (rounds_words rounds.0) ∷ rs) (rest.lines ∙ ap (λ hs. map row_of (map (send_words names) hs) ++ sends.1.rows) (sym rest.all));
-        has = schedule_valid head rounds.0 sends.0 first.valid rest.valid;
-      })
+  schedule_gives head p =
+      let steps : ℕ = head.candidate.s in
+      let made : (rounds : List ℕ) (sends : List Hop) → AreRounds head.candidate rounds → AreSends names (chunks_at head) steps sends → Scheduled q head (point_of head rounds sends) =
+      λ rounds sends are sent. record { candidate = refl; mark = refl; has = schedule_valid head rounds sends are sent } in
+      gives_then _ _ (rounds_give head.candidate p)
+      (λ e line some. record { value = point_of head some.rounds []; valid = made some.rounds [] (record { many = some.many; each = some.each; total = some.total }) (no_sends names (chunks_at head) steps); cut = cut_here _ p e.1 line })
+      (λ y read first. gives_then _ _ (lines_give (codes "send ") _ (send_words names) (AreSends names (chunks_at head) steps) (send_takes names (chunks_at head) steps) (no_sends names (chunks_at head) steps) y.1)
+      (λ e s some. record { value = point_of head y.0 s.value; valid = made y.0 s.value first.0 s.valid; cut = cut_on (rounds_words y.0 ∷ []) (map (send_words names) s.value) p y.1 e.1 first.1 s.cut })
+      (λ z sent t. gives_done _ (record { valid = made y.0 z.0 first.0 t.valid; lines = then_on (rounds_words y.0 ∷ []) (map (send_words names) z.0) p y.1 z.1 first.1 t.lines })))
+
+  pub schedule_take : (head : HeadValue) (p : Place) (x : PointValue × Place) → schedule_at names q head p ≡ Ok x → Scheduled q head x.0
+  schedule_take head p x e = ((schedule_gives head p).ok x e).valid
+
+  -- a part that begins with such a head
+  pub headed_steps : (check : List PointValue → Option Row → Result HeadValue ReportCode) (Q : List PointValue → Type 0)
+      → ((before : List PointValue) (p : Place) → Q before → Gives (λ (e : ReportCode × ℕ). e.1 ≡ p.number) (λ (h : HeadValue × Place). Headed q Q before h.0 × Between (headed h.0 ∷ []) p h.1) (line_part (check before) p))
+      → Steps (λ before p. line_part (check before) p >>= (λ h. schedule_at names q h.0 h.1)) (point_lines names) Q
+  headed_steps check Q heads before p are = gives_then _ _ (heads before p are) (λ e line. inl line)
+      (λ h read head. let lines : (x : PointValue) → Scheduled q h.0 x → Between (point_words x ∷ []) p h.1 = λ x s. subst (λ (ws : List (List ℕ)). Between (ws ∷ []) p h.1) (same_head q h.0 x s) head.1 in
+      gives_like
+      (λ e stops. let s = stops head.0.some in inr (record { value = s.value; valid = head.0.keeps s.value s.valid; cut = cut_on (point_words s.value ∷ []) (schedule_lines names s.value) p h.1 e.1 (lines s.value s.valid) s.cut }))
+      (λ x t. record { valid = head.0.keeps x.0 t.valid; lines = then_on (point_words x.0 ∷ []) (schedule_lines names x.0) p h.1 x.1 (lines x.0 t.valid) t.lines })
+      (schedule_gives h.0 h.1))
 
   -- ---- points of a frontier
 
@@ -158,52 +184,30 @@ module _ (names : List (List ℕ)) (q : QuestionValue) (as_many : length names �
     pub each : All (IsPoint q) ps
     pub listed : AreListed q (solved_by ps)
 
-  abbrev head_rule : List PointValue → HeadValue → Bool
-  head_rule before head = is_within q head.candidate && comes_next (last_or None (solved_by before)) head.candidate
-
-  abbrev head_check : List PointValue → List (List ℕ) → Result HeadValue ReportCode
-  head_check before words = head_from words >>= (λ head. refuse (not (head_rule before head)) code.Limits >>= (λ u. Ok head))
-
-  -- what the two parts of a point took
-  record PointTaken (before : List PointValue) (p : Place) (x : PointValue × Place) : Type 0 where
-    lines : p.rows ≡ map row_of (point_lines names x.0) ++ x.1.rows
-    valid : IsPoint q x.0
-    next : comes_next (last_or None (solved_by before)) x.0.candidate ≡ true
-
-  point_take : IsLimits q.limits → (before : List PointValue) (p : Place) (x : PointValue × Place) → frontier_point_at names q before p ≡ Ok x → PointTaken before p x
-  unfolding frontier_point_at
-  point_take ok before p x e =
-      let (head, r1, e1) = bind_ok (line_part (head_line q (last_or None (solved_by before))) p) (λ h. schedule_at names q h.0 h.1) x e in
-      let t = words_part_take (head_check before) p head r1 in
-      let (shape, rule) = ruled (head_from t.words) (head_rule before) code.Limits head.0 t.checked in
-      let taken = head_take t.words head.0 shape in
-      let parts = and_parts (is_within q head.0.candidate) (comes_next (last_or None (solved_by before)) head.0.candidate) rule in
-      let w : IsWithin q head.0.candidate = (decides_within q head.0.candidate).0 parts.0 in
-      let s = schedule_take head.0 head.1 x e1 in
-      let steps = w.steps in
-      let most = ok.steps in
-      let W : Candidate → Type 0 = IsWithin q in
-      let M : Mark → Type 0 = λ m. (m ≡ mark.Optimal) ⊎ (m ≡ mark.Open) in
-      record {
-        lines = t.line.rows ∙ (ap (λ ws. row_of ws ∷ head.1.rows) (taken.stands ∙ head_words head.0 x.0 s.candidate s.mark) ∙ ap (λ rs. row_of (point_words x.0) ∷ rs) s.rows);
-        valid = record { has = s.has w.some_steps (omega (arith, steps, most)); within = subst W (sym s.candidate) w; mark = subst M (sym s.mark) taken.mark };
-        next = ap (comes_next (last_or None (solved_by before))) s.candidate ∙ parts.1;
-      }
-    where
-      head_words : (h : HeadValue) (y : PointValue) → y.candidate ≡ h.candidate → y.mark ≡ h.mark → point_words (point_of h [] []) ≡ point_words y
-      head_words h y a b = ap (λ c. point_words (record { candidate = c; schedule = y.schedule; mark = h.mark })) (sym a) ∙ ap (λ m. point_words (record { candidate = y.candidate; schedule = y.schedule; mark = m })) (sym b)
-
   pub no_points : ArePoints []
   no_points = record { each = All-nil (IsPoint q); listed = none_listed q }
 
-  pub point_takes : IsLimits q.limits → TakesPart (frontier_point_at names q) (point_lines names) ArePoints
-  point_takes ok = record {
-    lines = λ before p x are e. let t = point_take ok before p x e in t.lines;
-    keeps = λ before p x are e.
-        let t = point_take ok before p x e in
-        let within = t.valid.within in
+  pub point_steps : IsLimits q.limits → Steps (frontier_point_at names q) (point_lines names) ArePoints
+  unfolding frontier_point_at
+  point_steps ok = headed_steps (λ before. head_line q (last_or None (solved_by before))) ArePoints
+      (λ before p are. ruled_gives head_from (λ h. is_within q h.candidate && comes_next (last_or None (solved_by before)) h.candidate) (λ h. h) headed (Headed q ArePoints before)
+      (λ words h shape rule.
+      let taken = head_take words h shape in
+      let parts = and_parts (is_within q h.candidate) (comes_next (last_or None (solved_by before)) h.candidate) rule in
+      let w : IsWithin q h.candidate = (decides_within q h.candidate).0 parts.0 in
+      let some = w.some_steps in
+      let steps = w.steps in
+      let rounds = w.rounds in
+      let most = ok.steps in
+      let more = ok.k in
+      let W : Candidate → Type 0 = IsWithin q in
+      let M : Mark → Type 0 = λ m. (m ≡ mark.Optimal) ⊎ (m ≡ mark.Open) in (
+        taken.stands,
         record {
-          each = All-push (IsPoint q) before x.0 are.each t.valid;
-          listed = subst (AreListed q) (sym (map_both (λ y. y.candidate) before (x.0 ∷ []))) (push_listed q (solved_by before) x.0.candidate are.listed within t.next);
-        };
-  }
+          some = some_rounds h.candidate.s h.candidate.r w.all_rounds (omega (arith, some, rounds, more));
+          keeps = λ x s. let within : IsWithin q x.candidate = subst W (sym s.candidate) w in record {
+            each = All-push (IsPoint q) before x are.each (record { has = s.has some (omega (arith, steps, most)); within = within; mark = subst M (sym s.mark) taken.mark });
+            listed = push_part q (λ y. y.candidate) before x are.listed within (ap (comes_next (last_or None (solved_by before))) s.candidate ∙ parts.1);
+          };
+        },
+      )) p)

@@ -1,36 +1,48 @@
--- A text that the checks take is the text of the report that they give, which is valid.
-use Rattle.std.proofs.Common.{◌≡◌, ℕ, Bool, true, false, not, List, [], ◌∷◌, ◌++◌, map, length, Option, None, Some, Result, Ok, Err, refl, sym, ap, ◌∙◌, subst}
-use Rattle.std.specs.Prelude.{codes, flat_map, bytes_eq, if◌then◌else◌, is_some}
+-- A text that the checks take is the text of the report that they give, which is valid; where they fail, some valid report has the lines before the one that is blamed.
+use Rattle.std.proofs.Common.{◌≡◌, ℕ, Bool, true, false, not, List, [], ◌∷◌, ◌++◌, map, length, Option, None, Some, Result, Ok, Err, refl, sym, ap, ◌∙◌, subst, arith}
+use Rattle.std.specs.Prelude.{codes, flat_map, bytes_eq, if◌then◌else◌, is_some, IfSome}
 use Rattle.std.proofs.lemmas.Bool.{not-false}
+use Rattle.std.proofs.lemmas.List.{append-nil, length-map, map-append}
+use Rattle.std.proofs.lemmas.List.Elements.{All-nil, All-cons}
 use Rattle.std.proofs.lemmas.Slice.Eq.{bytes_eq-Decides}
 use Rattle.text_lines.specs.Text.{Row, Place, words_of, rows_of, start}
 use Rattle.text_lines.specs.Check.{◌>>=◌, refuse, need, at_line, first, line_part}
-use Rattle.text_lines.proofs.Checks.{bind_ok, refuse_alone, at_line_ok, part_ok, ok_is}
-use Rattle.text_lines.proofs.Rows.{row_of, row_back, text_back}
+use Rattle.text_lines.proofs.Checks.{bind_ok, refuse_alone, at_line_ok, line_err, part_err_at, ok_is}
+use Rattle.text_lines.proofs.Distinct.{AreDistinct}
+use Rattle.text_lines.proofs.Rows.{row_of, text_back}
 use Rattle.schedule.specs.Links.{GroupValue}
 use Rattle.outer_ports.specs.declared.part.Part.{Part}
 use Rattle.collective_spec.specs.declared.kind.Kind.{Kind}
-use Rattle.collective_spec.specs.Kinds.{is_custom}
-use Rattle.collective_spec.specs.Patterns.{PatternValue}
+use Rattle.collective_spec.specs.Kinds.{is_custom, takes_root}
+use Rattle.collective_spec.specs.Patterns.{PatternValue, IsPattern}
 use Rattle.collective_spec.specs.Collectives.{fits_kind}
-use Rattle.candidate_order.specs.Ranges.{IsLimits}
+use Rattle.collective_spec.specs.declared.kind.Kind.TheVariants as kind
+use Rattle.candidate_order.specs.Ranges.{IsLimits, unpruned}
 use Rattle.candidate_order.specs.Frontiers.{PointValue, FrontierValue}
 use Rattle.topology_text.specs.declared.fault.TopologyCode.{TopologyCode}
 use Rattle.topology_text.specs.Value.{NamedTopologyValue, IsNamed, named_with}
-use Rattle.topology_text.specs.Spelling.{lines_of, version_word}
-use Rattle.topology_text.specs.Reading.{header_line, nodes_line, groups_at, pattern_at, named_at, topology_at}
+use Rattle.topology_text.specs.Names.{is_name, AreNames}
+use Rattle.topology_text.specs.Spelling.{lines_of, version_word, header_words, nodes_words, group_words, custom_lines}
+use Rattle.topology_text.specs.Spelling as spelling
+use Rattle.topology_text.specs.Reading.{header_line, nodes_line, groups_at, pattern_at}
+use Rattle.topology_text.proofs.Front.{head_is}
+use Rattle.topology_text.proofs.Links.{node_again}
+use Rattle.topology_text.proofs.Groups.{place, Groups, groups_nil, groups_take}
 use Rattle.topology_text.proofs.Patterns.{pattern_take}
-use Rattle.topology_text.proofs.Laws.{topology_rows, topology_take}
+use Rattle.topology_text.proofs.Laws.{header_taken, names_taken, nodes_taken, named_valid, group_lines}
+use Rattle.topology_text.proofs.Cuts.{Cut, cut_here, cut_more}
+use Rattle.topology_text.proofs.Filled.{GroupsFilled, fill_groups, PatternFilled, some_pattern, fill_pattern}
 use Rattle.report_form.specs.declared.fault.ReportCode.{ReportCode}
 use Rattle.report_form.specs.declared.fault.ReportCode.TheVariants as code
-use Rattle.report_form.specs.Reports.{WordsValue, ReportValue, IsWords, IsReport, parts_of}
-use Rattle.report_form.specs.Spelling.{synth_words, frontier_lines, joined_lines, body_lines, report_lines, report_text}
-use Rattle.report_form.specs.Lines.{whole_line, fixed_line, no_line, among}
+use Rattle.report_form.specs.Reports.{WordsValue, ReportValue, IsReport, parts_of}
+use Rattle.report_form.specs.Spelling.{frontier_lines, joined_lines, report_lines, report_text}
+use Rattle.report_form.specs.Lines.{whole_line, no_line, among}
 use Rattle.report_form.specs.SynthLine.{AskedValue, asked_line, root_of, words_from}
-use Rattle.report_form.specs.Reading.{frontiers_from, joined_at, body_of, version_of, version_line, is_same, report_of}
-use Rattle.report_form.proofs.LineTaken.{LineTaken, line_taken, whole_take, fixed_part_take, nothing_take}
-use Rattle.report_form.proofs.SynthLineTaken.{asked_words, asked_part, words_take}
-use Rattle.report_form.proofs.FrontiersTaken.{rows_split, frontiers_take, joined_lines_take}
+use Rattle.report_form.specs.Reading.{body_of, version_of, version_line, is_same, report_of}
+use Rattle.report_form.proofs.Gives.{Gives, gives_done, gives_like, gives_then, Between, then_on, cut_on, line_gives, Stops}
+use Rattle.report_form.proofs.LineTaken.{whole_words, fixed_gives, nothing_take}
+use Rattle.report_form.proofs.SynthLineTaken.{RootFits, asked_words, IsAsked, asked_gives, WordsTaken, words_take}
+use Rattle.report_form.proofs.FrontiersTaken.{AreFrontiers, AreJoined, none_joined, nothings, nothings_are, frontiers_give, joined_gives}
 
 -- ---- the body
 
@@ -40,58 +52,45 @@ report words t frontiers joined = record { words = words; topology = t; frontier
 abbrev pub end_words : List (List ℕ)
 end_words = codes "end" ∷ []
 
-pub record BodyTaken (words : WordsValue) (t : NamedTopologyValue) (p : Place) (r : ReportValue) : Type 0 where
-  pub words_are : r.words ≡ words
-  pub topology_is : r.topology ≡ t
-  pub lines : p.rows ≡ map row_of (body_lines r ++ end_words ∷ [])
-  pub valid : IsNamed t → fits_kind words.collective.kind t.custom ≡ true → IsWords (length t.names) words → IsReport r
+-- what stands behind the topology
+abbrev pub Behind : Type 0
+Behind = List (Part × FrontierValue) × List PointValue
 
--- the frontiers, the joined points, and the end
-body_rows : (a b : List (List (List ℕ))) (r0 r1 r2 r3 : List Row) → r0 ≡ map row_of a ++ r1 → r1 ≡ map row_of b ++ r2 → r2 ≡ row_of end_words ∷ r3 → r3 ≡ [] → r0 ≡ map row_of ((a ++ b) ++ end_words ∷ [])
-body_rows a b r0 r1 r2 r3 e0 e1 e2 e3 =
-    let last : r2 ≡ map row_of (end_words ∷ []) = e2 ∙ ap (λ rs. row_of end_words ∷ rs) e3 in
-    e0 ∙ (ap (λ rs. map row_of a ++ rs) (e1 ∙ ap (λ rs. map row_of b ++ rs) last)
-    ∙ (sym (rows_split a b (map row_of (end_words ∷ []))) ∙ mapped (a ++ b)))
-  where
-    mapped : (xs : List (List (List ℕ))) → map row_of xs ++ map row_of (end_words ∷ []) ≡ map row_of (xs ++ end_words ∷ [])
-    mapped [] = refl
-    mapped (x ∷ xs) = ap (λ rs. row_of x ∷ rs) (mapped xs)
+module _ (words : WordsValue) (t : NamedTopologyValue) where
+  abbrev lines_behind : Behind → List (List (List ℕ))
+  lines_behind b = (flat_map (frontier_lines t.names) b.0 ++ joined_lines t.names words.collective.kind b.1) ++ end_words ∷ []
 
-pub body_take : (words : WordsValue) (t : NamedTopologyValue) (p : Place) (r : ReportValue) → length t.names ≡ t.topology.nodes → IsLimits words.limits → body_of words t p ≡ Ok r → BodyTaken words t p r
-unfolding body_of
-body_take words t p r as_many ok e =
-    let kind = words.collective.kind in
-    let (frontiers, r1, e1) = bind_ok (frontiers_from words t (parts_of kind) p) (λ f. joined_at kind words t f.1 >>= (λ j. line_part (fixed_line (codes "end")) j.1 >>= (λ n. line_part no_line n.1 >>= (λ u. Ok (report words t f.0 j.0))))) r e in
-    let (joined, r2, e2) = bind_ok (joined_at kind words t frontiers.1) (λ j. line_part (fixed_line (codes "end")) j.1 >>= (λ n. line_part no_line n.1 >>= (λ u. Ok (report words t frontiers.0 j.0)))) r e1 in
-    let (end, r3, e3) = bind_ok (line_part (fixed_line (codes "end")) joined.1) (λ n. line_part no_line n.1 >>= (λ u. Ok (report words t frontiers.0 joined.0))) r e2 in
-    let (none, r4, e4) = bind_ok (line_part no_line end.1) (λ u. Ok (report words t frontiers.0 joined.0)) r e3 in
-    let same : report words t frontiers.0 joined.0 ≡ r = ok_is {C = ReportCode × ℕ} (report words t frontiers.0 joined.0) r e4 in
-    let t1 = frontiers_take words t as_many ok (parts_of kind) p frontiers r1 in
-    let t2 = joined_lines_take kind words t as_many ok frontiers.1 joined r2 in
-    let t3 = fixed_part_take (codes "end") end_words joined.1 end refl r3 in
-    let t4 = nothing_take end.1 none r4 in
-    let P : ReportValue → Type 0 = λ z. BodyTaken words t p z in
-    subst P same (record {
-      words_are = refl;
-      topology_is = refl;
-      lines = body_rows (flat_map (frontier_lines t.names) frontiers.0) (joined_lines t.names kind joined.0) p.rows frontiers.1.rows joined.1.rows end.1.rows t1.lines t2.lines t3.rows t4;
-      valid = λ topology fits valid. record { topology = topology; pattern = fits; words = valid; parts = t1.parts_are; frontiers = t1.valid; joined = t2.valid; only_allreduce = t2.only };
-    })
+  record AreBehind (b : Behind) : Type 0 where
+    frontiers : AreFrontiers words t (parts_of words.collective.kind) b.0
+    joined : AreJoined words t words.collective.kind b.1
 
--- ---- the topology
+  record BodyTaken (p : Place) (r : ReportValue) : Type 0 where
+    behind : Behind
+    is : report words t behind.0 behind.1 ≡ r
+    valid : AreBehind behind
+    rows : p.rows ≡ map row_of (lines_behind behind)
 
-pub among_ok : {A : Type 0} (rows : List Row) (r : Result A (TopologyCode × ℕ)) (x : A) → among rows r ≡ Ok x → r ≡ Ok x
-among_ok rows (Ok y) x e = let same : y ≡ x = ok_is {C = ReportCode × ℕ} y x e in ap (λ z. Ok z) same
-among_ok rows (Err c) x e = absurd (cc)
-
-topology_read : (p : Place) (header : Bool × Place) (names : List (List ℕ) × Place) (groups : List GroupValue × Place) (pattern : Option PatternValue × Place) → line_part header_line p ≡ Ok header → line_part nodes_line header.1 ≡ Ok names → groups_at names.0 names.1 ≡ Ok groups → pattern_at header.0 names.0 groups.1 ≡ Ok pattern
-    → topology_at p ≡ Ok (named_with names.0 groups.0 pattern.0, pattern.1)
-unfolding topology_at named_at
-topology_read p header names groups pattern e1 e2 e3 e4 =
-    ap (λ r. r >>= (λ h. line_part nodes_line h.1 >>= (λ n. groups_at n.0 n.1 >>= (λ g. pattern_at h.0 n.0 g.1 >>= (λ c. Ok (named_with n.0 g.0 c.0, c.1)))))) e1
-    ∙ ap (λ r. r >>= (λ n. groups_at n.0 n.1 >>= (λ g. pattern_at header.0 n.0 g.1 >>= (λ c. Ok (named_with n.0 g.0 c.0, c.1))))) e2
-    ∙ ap (λ r. r >>= (λ g. pattern_at header.0 names.0 g.1 >>= (λ c. Ok (named_with names.0 g.0 c.0, c.1)))) e3
-    ∙ ap (λ r. r >>= (λ c. Ok (named_with names.0 groups.0 c.0, c.1))) e4
+  body_gives : length t.names ≡ t.topology.nodes → IsLimits words.limits → (p : Place) → Gives (λ (e : ReportCode × ℕ). Stops lines_behind AreBehind p e.1) (λ (r : ReportValue). BodyTaken p r) (body_of words t p)
+  unfolding body_of
+  body_gives as_many ok p =
+      let kind : Kind = words.collective.kind in
+      let F : List (Part × FrontierValue) → List (List (List ℕ)) = flat_map (frontier_lines t.names) in
+      let J : List PointValue → List (List (List ℕ)) = joined_lines t.names kind in
+      let last : List (List (List ℕ)) = end_words ∷ [] in
+      gives_then _ _ (frontiers_give words t as_many ok (parts_of kind) p)
+      (λ e s. record { value = (s.value, []); valid = record { frontiers = s.valid; joined = none_joined words t kind }; cut = cut_more (F s.value ++ J []) last p e.1 (cut_more (F s.value) (J []) p e.1 s.cut) })
+      (λ f rf tf. gives_then _ _ (joined_gives words t as_many ok kind f.1)
+      (λ e s. record { value = (f.0, s.value); valid = record { frontiers = tf.valid; joined = s.valid }; cut = cut_more (F f.0 ++ J s.value) last p e.1 (cut_on (F f.0) (J s.value) p f.1 e.1 tf.lines s.cut) })
+      (λ j rj tj.
+      let front = then_on (F f.0) (J j.0) p f.1 j.1 tf.lines tj.lines in
+      let valid : AreBehind (f.0, j.0) = record { frontiers = tf.valid; joined = tj.valid } in
+      gives_then _ _ (fixed_gives (codes "end") end_words refl j.1)
+      (λ e line. record { value = (f.0, j.0); valid = valid; cut = cut_on (F f.0 ++ J j.0) last p j.1 e.1 front (cut_here last j.1 e.1 line) })
+      (λ d rd td.
+      let all = then_on (F f.0 ++ J j.0) last p j.1 d.1 front td.1 in
+      gives_then {E = λ (e : ReportCode × ℕ). e.1 ≡ d.1.number} {N = λ (u : Unit {0} × Place). d.1.rows ≡ []} _ _ (record { ok = λ u e. nothing_take d.1 u e; err = λ e h. (part_err_at no_line d.1 e h).1 })
+      (λ e line. record { value = (f.0, j.0); valid = valid; cut = cut_on (F f.0 ++ J j.0) last p j.1 e.1 front (cut_on last [] j.1 d.1 e.1 td.1 (cut_here [] d.1 e.1 line)) })
+      (λ u ru none. gives_done _ (record { behind = (f.0, j.0); is = refl; valid = valid; rows = all.rows ∙ ap (λ rs. map row_of ((F f.0 ++ J j.0) ++ last) ++ rs) none ∙ append-nil (map row_of ((F f.0 ++ J j.0) ++ last)) })))))
 
 -- ---- the version
 
@@ -115,18 +114,19 @@ version_is bytes b e = chosen (bytes_eq bytes (codes "sccl 1")) (bytes_eq bytes 
     chosen false true first second k = ap words_of (second refl) ∙ ap head_words (is_version true k)
     chosen false false first second k = absurd (cc)
 
-pub version_take : (p : Place) (x : Bool × Place) → line_part version_line p ≡ Ok x → LineTaken (head_words x.0) p x.1
-version_take p x e =
-    let (passed, place_is) = part_ok version_line p x e in
-    let (row, found, e1) = bind_ok (whole_line (first p.rows)) (λ r. need (version_of r.bytes) code.BadLine) x.0 passed in
-    let taken = whole_take (first p.rows) row found in
-    line_taken version_line p x (head_words x.0) e (taken.is ∙ ap (λ r. Some r) (row_back row (head_words x.0) taken.whole (version_is row.bytes x.0 (needed (version_of row.bytes) e1))))
+version_gives : (p : Place) → Gives (λ (e : ReportCode × ℕ). e.1 ≡ p.number) (λ (x : Bool × Place). Unit {0} × Between (head_words x.0 ∷ []) p x.1) (line_part version_line p)
+version_gives p = line_gives version_line head_words p (λ b e. (there (first p.rows) b e, tt))
   where
-    needed : (o : Option Bool) → need o code.BadLine ≡ Ok x.0 → o ≡ Some x.0
-    needed None k = absurd (cc)
-    needed (Some b) k = let same : b ≡ x.0 = ok_is {C = ReportCode} b x.0 k in ap (λ v. Some v) same
+    needed : (o : Option Bool) (b : Bool) → need o code.BadLine ≡ Ok b → o ≡ Some b
+    needed None b k = absurd (cc)
+    needed (Some c) b k = let same : c ≡ b = ok_is {C = ReportCode} c b k in ap (λ v. Some v) same
 
-pub same_is : (a b : Bool) → is_same a b ≡ true → a ≡ b
+    there : (line : Option Row) (b : Bool) → version_line line ≡ Ok b → line ≡ Some (row_of (head_words b))
+    there line b e =
+        let (row, found, e1) = bind_ok (whole_line line) (λ r. need (version_of r.bytes) code.BadLine) b e in
+        whole_words line row (head_words b) found (version_is row.bytes b (needed (version_of row.bytes) b e1))
+
+same_is : (a b : Bool) → is_same a b ≡ true → a ≡ b
 same_is true true e = refl
 same_is true false e = sym e
 same_is false true e = e
@@ -137,35 +137,148 @@ pub pattern_fits : (k : Kind) (c : Option PatternValue) → is_custom k ≡ is_s
 pattern_fits k None e = ap not e
 pattern_fits k (Some p) e = e
 
+-- ---- the topology
+
+pub among_ok : {A : Type 0} (rows : List Row) (r : Result A (TopologyCode × ℕ)) (x : A) → among rows r ≡ Ok x → r ≡ Ok x
+among_ok rows (Ok y) x e = let same : y ≡ x = ok_is {C = ReportCode × ℕ} y x e in ap (λ z. Ok z) same
+among_ok rows (Err c) x e = absurd (cc)
+
+among_gives : {A : Type 0} {N : A → Type 0} (E : ℕ → Type 0) (rows : List Row) (r : Result A (TopologyCode × ℕ)) → Gives (λ (e : TopologyCode × ℕ). E e.1) N r → Gives (λ (e : ReportCode × ℕ). E e.1) N (among rows r)
+among_gives E rows (Ok x) g = gives_done x (g.ok x refl)
+among_gives E rows (Err c) g = record { ok = λ x e. absurd (cc); err = λ e h. let at : c.1 ≡ e.1 = cc in subst E at (g.err c refl) }
+
+at_line_gives : {A : Type 0} (n : ℕ) (r : Result A ReportCode) → Gives (λ (e : ReportCode × ℕ). e.1 ≡ n) (λ (x : A). r ≡ Ok x) (at_line n r)
+at_line_gives n r = record { ok = λ x e. at_line_ok n r x e; err = λ e h. (line_err n r e h).1 }
+
+-- a topology with the root that was asked for
+abbrev Rooted : Type 0
+Rooted = NamedTopologyValue × ℕ
+
+record IsRooted (b : Bool) (a : AskedValue) (z : Rooted) : Type 0 where
+  named : IsNamed z.0
+  shown : is_some z.0.custom ≡ b
+  found : root_of z.0.names a.root ≡ Ok z.1
+
+-- ---- a topology with one node
+
+-- the name of the root, or some name
+abbrev name_for : Option (List ℕ) → List ℕ
+name_for None = codes "n0"
+name_for (Some name) = name
+
+alone : (name : List ℕ) → AreDistinct (name ∷ [])
+alone name = λ i j d ordered h. absurd (omega (arith, ordered, h))
+
+one_name : (takes : Bool) (root : Option (List ℕ)) → RootFits takes root → AreNames (name_for root ∷ [])
+one_name takes root fits = record { some = omega arith; few = omega arith; each = All-cons (λ n. is_name n ≡ true) (name_for root) [] (good takes fits) (All-nil (λ n. is_name n ≡ true)); distinct = alone (name_for root) }
+  where
+    good : (b : Bool) → RootFits b root → is_name (name_for root) ≡ true
+    good true (name, is, named) = ap (λ o. is_name (name_for o)) is ∙ named
+    good false none = ap (λ o. is_name (name_for o)) none
+
+root_found : (root : Option (List ℕ)) → root_of (name_for root ∷ []) root ≡ Ok 0
+root_found None = refl
+root_found (Some name) = ap (λ o. need o code.Limits) (node_again (name ∷ []) 0 (alone name) (omega arith))
+
 -- ---- the whole
 
-pub record ReportTaken (text : List ℕ) (r : ReportValue) : Type 0 where
-  pub valid : IsReport r
-  pub spelled : text ≡ report_text r
+module _ (b : Bool) (a : AskedValue) (asked : IsAsked b a) where
+  -- one node, and a pattern where one is due
+  one_pattern : PatternFilled (name_for a.root ∷ []) b (place 1 []) 1
+  one_pattern = some_pattern b (name_for a.root ∷ []) (place 1 []) 1 refl
 
--- the lines of a report, part by part
-report_rows : (r : ReportValue) (words : List (List ℕ)) (r0 r1 r2 r3 : List Row) → r0 ≡ row_of (head_words (is_some r.topology.custom)) ∷ r1 → r1 ≡ row_of words ∷ r2 → r2 ≡ topology_rows r.topology ++ r3 → r3 ≡ map row_of (body_lines r ++ end_words ∷ []) → words ≡ synth_words r.topology.names r.words → r0 ≡ map row_of (report_lines r)
-report_rows r words r0 r1 r2 r3 e0 e1 e2 e3 same =
-    e0 ∙ ap (λ ws. row_of ws ∷ r1) (head_spelled r.topology.custom) ∙ ap (λ rs. row_of (codes "sccl" ∷ version_word r.topology.custom ∷ []) ∷ rs) (e1 ∙ (ap (λ ws. row_of ws ∷ r2) same
-    ∙ ap (λ rs. row_of (synth_words r.topology.names r.words) ∷ rs) (e2 ∙ (ap (λ rs. topology_rows r.topology ++ rs) e3 ∙ mapped (lines_of r.topology) (body_lines r ++ end_words ∷ [])))))
-  where
-    mapped : (xs ys : List (List (List ℕ))) → map row_of xs ++ map row_of ys ≡ map row_of (xs ++ ys)
-    mapped [] ys = refl
-    mapped (x ∷ xs) ys = ap (λ rs. row_of x ∷ rs) (mapped xs ys)
+  abbrev one_node : Rooted
+  one_node = (named_with (name_for a.root ∷ []) [] one_pattern.custom, 0)
 
-taken_from : (text : List ℕ) (a : AskedValue) (root : ℕ) (t : NamedTopologyValue) (rest : Place) (r1 r2 : List Row) (r : ReportValue) → rows_of text ≡ row_of (head_words (is_some t.custom)) ∷ r1 → r1 ≡ row_of (asked_words a) ∷ r2 → r2 ≡ topology_rows t ++ rest.rows → IsNamed t → fits_kind a.kind t.custom ≡ true → asked_words a ≡ synth_words t.names (words_from a root)
-    → IsWords (length t.names) (words_from a root) → BodyTaken (words_from a root) t rest r → ReportTaken text r
-unfolding report_text
-taken_from text a root t rest r1 r2 r e0 e1 e2 topology fits spelled words body =
-    let H : NamedTopologyValue → Type 0 = λ x. rows_of text ≡ row_of (head_words (is_some x.custom)) ∷ r1 in
-    let T : NamedTopologyValue → Type 0 = λ x. r2 ≡ topology_rows x ++ rest.rows in
-    let S : NamedTopologyValue → Type 0 = λ x. asked_words a ≡ synth_words x.names (words_from a root) in
-    let W : WordsValue → Type 0 = λ w. asked_words a ≡ synth_words r.topology.names w in
-    record {
-      valid = body.valid topology fits words;
-      spelled = text_back text (report_lines r)
-          (report_rows r (asked_words a) (rows_of text) r1 r2 rest.rows (subst H (sym body.topology_is) e0) e1 (subst T (sym body.topology_is) e2) body.lines (subst W (sym body.words_are) (subst S (sym body.topology_is) spelled)));
+  one_rooted : IsRooted b a one_node
+  one_rooted = record { named = named_valid (name_for a.root ∷ []) [] one_pattern.custom (one_name (takes_root a.kind) a.root asked.fits) (groups_nil 1) one_pattern.valid; shown = one_pattern.shown; found = root_found a.root }
+
+  module _ (z : Rooted) (is : IsRooted b a z) (w : Behind) (valid : AreBehind (words_from a z.1) z.0 w) where
+    abbrev made : ReportValue
+    made = report (words_from a z.1) z.0 w.0 w.1
+
+    words_are : WordsTaken z.0.names a z.1
+    words_are = words_take z.0.names a z.1 is.named.names.some asked.limits asked.fits is.found
+
+    made_valid : IsReport made
+    made_valid = record {
+      topology = is.named;
+      pattern = pattern_fits a.kind z.0.custom (asked.kind ∙ sym is.shown);
+      words = words_are.valid;
+      parts = valid.frontiers.parts_are;
+      frontiers = valid.frontiers.valid;
+      joined = valid.joined.valid;
+      only_allreduce = valid.joined.only;
     }
+
+    -- its lines behind the first two
+    abbrev later : List (List (List ℕ))
+    later = lines_of z.0 ++ lines_behind (words_from a z.1) z.0 w
+
+    made_lines : head_words b ∷ asked_words a ∷ later ≡ report_lines made
+    made_lines =
+        ap (λ c. head_words c ∷ asked_words a ∷ later) (sym is.shown)
+        ∙ ap (λ ws. ws ∷ asked_words a ∷ later) (head_spelled z.0.custom)
+        ∙ ap (λ ws. (codes "sccl" ∷ version_word z.0.custom ∷ []) ∷ ws ∷ later) words_are.spelled
+
+    made_stops : (p q : Place) (n : ℕ) → Between (head_words b ∷ asked_words a ∷ []) p q → Cut later q n → Stops report_lines IsReport p n
+    made_stops p q n front cut = record { value = made; valid = made_valid; cut = subst (λ (ls : List (List (List ℕ))). Cut ls p n) made_lines (cut_on (head_words b ∷ asked_words a ∷ []) later p q n front cut) }
+
+  quiet_valid : (z : Rooted) → IsRooted b a z → AreBehind (words_from a z.1) z.0 (nothings (parts_of a.kind), [])
+  quiet_valid z is = record { frontiers = nothings_are (words_from a z.1) z.0 is.named.as_many (parts_of a.kind); joined = none_joined (words_from a z.1) z.0 a.kind }
+
+  -- a report that says nothing of its parts, with the lines of this topology before the one that is blamed
+  topology_stops : (p q : Place) (n : ℕ) → Between (head_words b ∷ asked_words a ∷ []) p q → Stops (λ (z : Rooted). lines_of z.0) (IsRooted b a) q n → Stops report_lines IsReport p n
+  topology_stops p q n front s =
+      let w : Behind = (nothings (parts_of a.kind), []) in
+      made_stops s.value s.valid w (quiet_valid s.value s.valid) p q n front (cut_more (lines_of s.value.0) (lines_behind (words_from a s.value.1) s.value.0 w) q n s.cut)
+
+  one_stops : (q : Place) (n : ℕ) → n ≡ q.number → Stops (λ (z : Rooted). lines_of z.0) (IsRooted b a) q n
+  one_stops q n line = record { value = one_node; valid = one_rooted; cut = cut_here (lines_of one_node.0) q n line }
+
+  -- behind the topology's first line
+  header_on : (q d : Place) (c : Option PatternValue) → is_some c ≡ b → Between (spelling.head_words b ∷ []) q d → Between (header_words c ∷ []) q d
+  header_on q d c shown t = subst (λ (ws : List (List ℕ)). Between (ws ∷ []) q d) (ap spelling.head_words (sym shown) ∙ sym (head_is c)) t
+
+  node_stops : (q d : Place) (n : ℕ) → Between (spelling.head_words b ∷ []) q d → n ≡ d.number → Stops (λ (z : Rooted). lines_of z.0) (IsRooted b a) q n
+  node_stops q d n header line =
+      let c = one_pattern.custom in
+      let names : List (List ℕ) = name_for a.root ∷ [] in
+      record { value = one_node; valid = one_rooted; cut = cut_on (header_words c ∷ []) (nodes_words names ∷ custom_lines names c) q d n (header_on q d c one_pattern.shown header) (cut_here (nodes_words names ∷ custom_lines names c) d n line) }
+
+  module _ (q d : Place) (header : Between (spelling.head_words b ∷ []) q d) (names : List (List ℕ)) (named : AreNames names) (m : Place) (nodes : Between (nodes_words names ∷ []) d m) (root : ℕ) (found : root_of names a.root ≡ Ok root) where
+    abbrev groups_of : List GroupValue → List (List (List ℕ))
+    groups_of gs = map (group_words names) gs
+
+    names_on : (c : Option PatternValue) → is_some c ≡ b → Between (header_words c ∷ nodes_words names ∷ []) q m
+    names_on c shown = then_on (header_words c ∷ []) (nodes_words names ∷ []) q d m (header_on q d c shown header) nodes
+
+    rooted : (gs : List GroupValue) (c : Option PatternValue) → Groups (length names) gs → IfSome c (IsPattern (length names)) → is_some c ≡ b → IsRooted b a (named_with names gs c, root)
+    rooted gs c groups pattern shown = record { named = named_valid names gs c named groups pattern; shown = shown; found = found }
+
+    rooted_stops : (n : ℕ) (gs : List GroupValue) (c : Option PatternValue) → Groups (length names) gs → IfSome c (IsPattern (length names)) → is_some c ≡ b → Cut (groups_of gs ++ custom_lines names c) m n → Stops (λ (z : Rooted). lines_of z.0) (IsRooted b a) q n
+    rooted_stops n gs c groups pattern shown cut = record { value = (named_with names gs c, root); valid = rooted gs c groups pattern shown; cut = cut_on (header_words c ∷ nodes_words names ∷ []) (groups_of gs ++ custom_lines names c) q m n (names_on c shown) cut }
+
+-- a report of each version
+some_asked : (b : Bool) → (a : AskedValue) × IsAsked b a
+some_asked b = (record { kind = if b then kind.Custom else kind.Allgather; limits = record { k = 0; max_s = 1; max_c = 1; conflicts = 1; pruning = unpruned }; root = None }, record { limits = record { k = omega arith; some_steps = omega arith; steps = omega arith; some_chunks = omega arith; chunks = omega arith; some_conflicts = omega arith; conflicts = omega arith }; fits = no_root b; kind = of_version b })
+  where
+    no_root : (c : Bool) → RootFits (takes_root (if c then kind.Custom else kind.Allgather)) None
+    no_root true = refl
+    no_root false = refl
+
+    of_version : (c : Bool) → is_custom (if c then kind.Custom else kind.Allgather) ≡ c
+    of_version true = refl
+    of_version false = refl
+
+some_report : (b : Bool) → (r : ReportValue) × IsReport r × (rest : List (List (List ℕ))) × (head_words b ∷ rest ≡ report_lines r)
+some_report b =
+    let (a, asked) = some_asked b in
+    let z : Rooted = one_node b a asked in
+    let w : Behind = (nothings (parts_of a.kind), []) in
+    let is = one_rooted b a asked in
+    let valid = quiet_valid b a asked z is in
+    (made b a asked z is w valid, made_valid b a asked z is w valid, asked_words a ∷ later b a asked z is w valid, made_lines b a asked z is w valid)
 
 -- what is left of the checks after each part, where a fault is looked for among these rows
 abbrev pub after_pattern : AskedValue → ℕ → List (List ℕ) → List GroupValue → Option PatternValue × Place → Result ReportValue (ReportCode × ℕ)
@@ -199,51 +312,69 @@ pub report_is : (text : List ℕ) → report_of text ≡ report_at (rows_of text
 unfolding report_of
 report_is text = refl
 
-module _ (text : List ℕ) (r : ReportValue) (head : Bool × Place) (q0 : line_part version_line (start text) ≡ Ok head) (a : AskedValue × Place) (q1 : line_part (asked_line head.0) head.1 ≡ Ok a) (d : Bool × Place) (q2 : among (rows_of text) (line_part header_line a.1) ≡ Ok d) (same : d.0 ≡ head.0) where
-  abbrev rows : List Row
-  rows = rows_of text
+pub record ReportTaken (text : List ℕ) (r : ReportValue) : Type 0 where
+  pub valid : IsReport r
+  pub spelled : text ≡ report_text r
 
-  -- every part was read
-  all_taken : (n : List (List ℕ) × Place) → among rows (line_part nodes_line d.1) ≡ Ok n → (root : ℕ) → root_of n.0 a.0.root ≡ Ok root → (g : List GroupValue × Place) → among rows (groups_at n.0 n.1) ≡ Ok g → (c : Option PatternValue × Place) → pattern_at head.0 n.0 g.1 ≡ Ok c
-      → body_of (words_from a.0 root) (named_with n.0 g.0 c.0) c.1 ≡ Ok r → ReportTaken text r
-  all_taken n q3 root q4 g q5 c pattern e =
-      let t : NamedTopologyValue = named_with n.0 g.0 c.0 in
-      let t0 = version_take (start text) head q0 in
-      let t1 = asked_part head.0 head.1 a q1 in
-      let taken = pattern_take head.0 n.0 g.1 c pattern in
-      let given = taken.shown in
-      let topology = topology_take a.1 t c.1 (topology_read a.1 d n g c (among_ok rows (line_part header_line a.1) d q2) (among_ok rows (line_part nodes_line d.1) n q3) (among_ok rows (groups_at n.0 n.1) g q5) (ap (λ b. pattern_at b n.0 g.1) same ∙ pattern)) in
-      let valid = topology.valid in
-      let words = words_take t.names a.0 root valid.names.some t1.limits t1.fits q4 in
-      let body = body_take (words_from a.0 root) t c.1 r valid.as_many t1.limits e in
-      taken_from text a.0 root t c.1 head.1.rows a.1.rows r (t0.rows ∙ ap (λ b. row_of (head_words b) ∷ head.1.rows) (sym given)) t1.rows topology.lines valid (pattern_fits a.0.kind c.0 (t1.kind ∙ sym given)) words.spelled words.valid body
+header_gives : (q : Place) → Gives (λ (e : TopologyCode × ℕ). e.1 ≡ q.number) (λ (x : Bool × Place). Between (spelling.head_words x.0 ∷ []) q x.1) (line_part header_line q)
+header_gives q = record { ok = λ x e. let (rows, number) = header_taken q x e in record { rows = rows; number = number }; err = λ e h. (part_err_at header_line q e h).1 }
 
-  -- behind the root
-  behind_root : (n : List (List ℕ) × Place) → among rows (line_part nodes_line d.1) ≡ Ok n → (root : ℕ) → root_of n.0 a.0.root ≡ Ok root → after_root rows head.0 a.0 n root ≡ Ok r → ReportTaken text r
-  behind_root n q3 root q4 e =
-      let (g, q5, e5) = bind_ok (among rows (groups_at n.0 n.1)) (after_groups rows head.0 a.0 root n.0) r e in
-      let (c, q7, e7) = bind_ok (among rows (pattern_at head.0 n.0 g.1)) (after_pattern a.0 root n.0 g.0) r e5 in
-      all_taken n q3 root q4 g q5 c (among_ok rows (pattern_at head.0 n.0 g.1) c q7) e7
+nodes_give : (q : Place) → Gives (λ (e : TopologyCode × ℕ). e.1 ≡ q.number) (λ (x : List (List ℕ) × Place). AreNames x.0 × Between (nodes_words x.0 ∷ []) q x.1) (line_part nodes_line q)
+nodes_give q = record { ok = λ x e. let (rows, number) = nodes_taken q x e in (names_taken q x e, record { rows = rows; number = number }); err = λ e h. (part_err_at nodes_line q e h).1 }
 
-  -- behind the topology's first line
-  behind_header : after_same rows head.0 a.0 d.1 tt ≡ Ok r → ReportTaken text r
-  behind_header e =
-      let (n, q3, e3) = bind_ok (among rows (line_part nodes_line d.1)) (after_names rows head.0 a.0 d.1.number) r e in
-      let (root, q4, e4) = bind_ok (at_line d.1.number (root_of n.0 a.0.root)) (after_root rows head.0 a.0 n) r e3 in
-      behind_root n q3 root (at_line_ok d.1.number (root_of n.0 a.0.root) root q4) e4
+groups_give : (names : List (List ℕ)) (q : Place)
+    → Gives (λ (e : TopologyCode × ℕ). GroupsFilled names [] q e.1) (λ (x : List GroupValue × Place). Groups (length names) x.0 × Between (map (group_words names) x.0) q x.1) (groups_at names q)
+groups_give names q = record {
+  ok = λ x e.
+      let t = groups_take names [] q.number q.rows x.0 x.1 e (groups_nil (length names)) in
+      let number = t.number in
+      (t.valid, record { rows = group_lines names x.0 t.more q.rows x.1.rows t.all t.lines; number = omega (arith, number, ap length t.all, length-map x.0 (group_words names)) });
+  err = λ e h. fill_groups names q.rows [] q.number e (groups_nil (length names)) h;
+}
 
--- both first lines are of one version
-pub version_kept : (b c : Bool) (n : ℕ) (u : Unit {0}) → at_line n (refuse (not (is_same b c)) code.BadLine) ≡ Ok u → b ≡ c
-version_kept b c n u e = same_is b c (not-false (is_same b c) (refuse_alone (not (is_same b c)) code.BadLine u (at_line_ok n (refuse (not (is_same b c)) code.BadLine) u e)))
-
-at_report : (text : List ℕ) (r : ReportValue) → report_at (rows_of text) (start text) ≡ Ok r → ReportTaken text r
-at_report text r e =
-    let rows = rows_of text in
-    let (head, q0, e0) = bind_ok (line_part version_line (start text)) (after_head rows) r e in
-    let (a, q1, e1) = bind_ok (line_part (asked_line head.0) head.1) (after_asked rows head.0) r e0 in
-    let (d, q2, e2) = bind_ok (among rows (line_part header_line a.1)) (after_header rows head.0 a.0 a.1.number) r e1 in
-    let (u, q6, e6) = bind_ok (at_line a.1.number (refuse (not (is_same d.0 head.0)) code.BadLine)) (after_same rows head.0 a.0 d.1) r e2 in
-    behind_header text r head q0 a q1 d q2 (version_kept d.0 head.0 a.1.number u q6) e6
+-- the report that was read, or one whose first lines were
+pub report_gives : (rows : List Row) (p : Place) → Gives (λ (e : ReportCode × ℕ). Stops report_lines IsReport p e.1) (λ (r : ReportValue). IsReport r × (p.rows ≡ map row_of (report_lines r))) (report_at rows p)
+report_gives rows p =
+    gives_then _ _ (version_gives p) (λ e line. let (r, valid, rest, is) = some_report false in record { value = r; valid = valid; cut = cut_here (report_lines r) p e.1 line })
+    (λ h rh th. gives_then _ _ (asked_gives h.0 h.1)
+    (λ e line. let (r, valid, rest, is) = some_report h.0 in record { value = r; valid = valid; cut = subst (λ (ls : List (List (List ℕ))). Cut ls p e.1) is (cut_on (head_words h.0 ∷ []) rest p h.1 e.1 th.1 (cut_here rest h.1 e.1 line)) })
+    (λ a ra ta.
+    let front = then_on (head_words h.0 ∷ []) (asked_words a.0 ∷ []) p h.1 a.1 th.1 ta.1 in
+    let stop : (n : ℕ) → Stops (λ (z : Rooted). lines_of z.0) (IsRooted h.0 a.0) a.1 n → Stops report_lines IsReport p n = λ n s. topology_stops h.0 a.0 ta.0 p a.1 n front s in
+    gives_then _ _ (among_gives (λ n. n ≡ a.1.number) rows (line_part header_line a.1) (header_gives a.1)) (λ e line. stop e.1 (one_stops h.0 a.0 ta.0 a.1 e.1 line))
+    (λ d rd td. gives_then _ _ (at_line_gives a.1.number (refuse (not (is_same d.0 h.0)) code.BadLine)) (λ e line. stop e.1 (one_stops h.0 a.0 ta.0 a.1 e.1 line))
+    (λ u ru kept.
+    let same : d.0 ≡ h.0 = same_is d.0 h.0 (not-false (is_same d.0 h.0) (refuse_alone (not (is_same d.0 h.0)) code.BadLine u kept)) in
+    let header : Between (spelling.head_words h.0 ∷ []) a.1 d.1 = subst (λ (b : Bool). Between (spelling.head_words b ∷ []) a.1 d.1) same td in
+    gives_then _ _ (among_gives (λ n. n ≡ d.1.number) rows (line_part nodes_line d.1) (nodes_give d.1)) (λ e line. stop e.1 (node_stops h.0 a.0 ta.0 a.1 d.1 e.1 header line))
+    (λ n rn tn. gives_then _ _ (at_line_gives d.1.number (root_of n.0 a.0.root)) (λ e line. stop e.1 (node_stops h.0 a.0 ta.0 a.1 d.1 e.1 header line))
+    (λ root rr found.
+    let groups_of : List GroupValue → List (List (List ℕ)) = map (group_words n.0) in
+    let rooted_at = rooted_stops h.0 a.0 ta.0 a.1 d.1 header n.0 tn.0 n.1 tn.1 root found in
+    gives_then _ _ (among_gives (λ k. GroupsFilled n.0 [] n.1 k) rows (groups_at n.0 n.1) (groups_give n.0 n.1))
+    (λ e f. let c = some_pattern h.0 n.0 (place 1 []) 1 refl in stop e.1 (rooted_at e.1 f.more c.custom f.valid c.valid c.shown (cut_more (groups_of f.more) (custom_lines n.0 c.custom) n.1 e.1 f.cut)))
+    (λ g rg tg. gives_then _ _ (among_gives (λ k. PatternFilled n.0 h.0 g.1 k) rows (pattern_at h.0 n.0 g.1) (record { ok = λ x e. pattern_take h.0 n.0 g.1 x e; err = λ e failed. fill_pattern h.0 n.0 g.1 e failed }))
+    (λ e f. stop e.1 (rooted_at e.1 g.0 f.custom tg.0 f.valid f.shown (cut_on (groups_of g.0) (custom_lines n.0 f.custom) n.1 g.1 e.1 tg.1 f.cut)))
+    (λ c rc tc.
+    let z : Rooted = (named_with n.0 g.0 c.0, root) in
+    let is = rooted h.0 a.0 ta.0 a.1 d.1 header n.0 tn.0 n.1 tn.1 root found g.0 c.0 tg.0 tc.valid tc.shown in
+    let topology : Between (lines_of z.0) a.1 c.1 =
+    then_on (header_words c.0 ∷ nodes_words n.0 ∷ []) (groups_of g.0 ++ custom_lines n.0 c.0) a.1 n.1 c.1 (names_on h.0 a.0 ta.0 a.1 d.1 header n.0 tn.0 n.1 tn.1 root found c.0 tc.shown)
+    (then_on (groups_of g.0) (custom_lines n.0 c.0) n.1 g.1 c.1 tg.1 (record { rows = tc.lines; number = tc.number })) in
+    gives_like
+    (λ e s. made_stops h.0 a.0 ta.0 z is s.value s.valid p a.1 e.1 front (cut_on (lines_of z.0) (lines_behind (words_from a.0 root) z.0 s.value) a.1 c.1 e.1 topology s.cut))
+    (λ r t.
+    let first : List (List (List ℕ)) = head_words h.0 ∷ asked_words a.0 ∷ lines_of z.0 in
+    let lines = then_on (head_words h.0 ∷ asked_words a.0 ∷ []) (lines_of z.0) p a.1 c.1 front topology in
+    let P : ReportValue → Type 0 = λ x. IsReport x × (p.rows ≡ map row_of (report_lines x)) in
+    subst P t.is (
+      made_valid h.0 a.0 ta.0 z is t.behind t.valid,
+      lines.rows ∙ ap (λ rs. map row_of first ++ rs) t.rows ∙ sym (map-append row_of first (lines_behind (words_from a.0 root) z.0 t.behind)) ∙ ap (map row_of) (made_lines h.0 a.0 ta.0 z is t.behind t.valid),
+    ))
+    (body_gives (words_from a.0 root) z.0 refl ta.0.limits c.1)))))))))
 
 pub report_take : (text : List ℕ) (r : ReportValue) → report_of text ≡ Ok r → ReportTaken text r
-report_take text r e = at_report text r (sym (report_is text) ∙ e)
+unfolding report_text
+report_take text r e =
+    let (valid, rows) = (report_gives (rows_of text) (start text)).ok r (sym (report_is text) ∙ e) in
+    record { valid = valid; spelled = text_back text (report_lines r) rows }

@@ -1,14 +1,14 @@
 -- What the checks of the line that says what was asked took stands there, and is valid.
-use Rattle.std.proofs.Common.{◌≡◌, ℕ, ◌<◌, Bool, true, false, ◌||◌, not, List, [], ◌∷◌, ◌++◌, length, drop, Option, None, Some, Result, Ok, refl, sym, ap, ◌∙◌, subst, arith}
+use Rattle.std.proofs.Common.{◌≡◌, ℕ, ◌<◌, Bool, true, false, ◌||◌, not, List, [], ◌∷◌, ◌++◌, length, drop, Option, None, Some, Ok, refl, sym, ap, ◌∙◌, arith}
 use Rattle.std.specs.Prelude.{codes, decimal, bytes_eq, find, if◌then◌else◌}
 use Rattle.std.specs.List.{list_all}
 use Rattle.std.proofs.lemmas.Bool.{and_parts, not-true}
 use Rattle.std.proofs.lemmas.Slice.Eq.{bytes_eq-Decides}
+use Rattle.std.proofs.lemmas.List.{append-nil}
 use Rattle.std.proofs.lemmas.Option.{same_Some}
 use Rattle.text_lines.specs.Text.{Place}
-use Rattle.text_lines.specs.Check.{◌>>=◌, refuse, need, line_part}
-use Rattle.text_lines.proofs.Checks.{bind_ok, ok_is, if_some}
-use Rattle.text_lines.proofs.Rows.{row_of}
+use Rattle.text_lines.specs.Check.{◌>>=◌, need, line_part}
+use Rattle.text_lines.proofs.Checks.{ok_is, if_some}
 use Rattle.collective_spec.specs.declared.kind.Kind.{Kind}
 use Rattle.collective_spec.specs.Kinds.{word_of, takes_root, is_custom, standard_kinds}
 use Rattle.candidate_order.specs.declared.pruning.Pruning.{Pruning}
@@ -22,11 +22,12 @@ use Rattle.report_form.specs.declared.fault.ReportCode.TheVariants as code
 use Rattle.report_form.specs.Reports.{IsWords}
 use Rattle.report_form.specs.Spelling.{word_if, pruning_words, synth_words}
 use Rattle.report_form.specs.Tests.{are_limits}
-use Rattle.report_form.specs.Fields.{any_number, behind_key, next_keyed, fixed_word, no_more}
+use Rattle.report_form.specs.Fields.{any_number, behind_key, next_keyed}
 use Rattle.report_form.specs.SynthLine.{AskedValue, kinds_of, kind_named, limits_from, root_from, said_from, pruning_from, asked_from, may_be_asked, asked_line, root_of, words_from}
 use Rattle.report_form.proofs.Tested.{decides_limits}
-use Rattle.report_form.proofs.Tokens.{word_take, fixed_take, no_more_take, keyed_is, any_number_is}
-use Rattle.report_form.proofs.LineTaken.{words_part_take, ruled}
+use Rattle.report_form.proofs.Tokens.{pass_then, pass_done, word_take, fixed_take, no_more_take, keyed_is, any_number_is}
+use Rattle.report_form.proofs.Gives.{Gives, Between}
+use Rattle.report_form.proofs.LineTaken.{ruled_gives}
 
 -- ---- keys
 
@@ -42,7 +43,7 @@ keyed_take key read words x e =
     let (is, found) = keyed_is key read t.word x.0 t.read_as in
     record { value = drop (length key) t.word; stands = t.stands ∙ ap (λ w. w ∷ x.1) is; read_as = found }
 
-found_is : (p : Kind → Bool) (kinds : List Kind) (k : Kind) → find p kinds ≡ Some k → p k ≡ true
+pub found_is : (p : Kind → Bool) (kinds : List Kind) (k : Kind) → find p kinds ≡ Some k → p k ≡ true
 found_is p [] k e = absurd (cc)
 found_is p (x ∷ xs) k e = chosen (p x) refl e (found_is p xs k)
   where
@@ -66,8 +67,8 @@ found_among p q (x ∷ xs) k all e = let parts = and_parts (q x) (list_all q xs)
 kind_standard : (w : List ℕ) (k : Kind) → kind_named false w ≡ Some k → is_custom k ≡ false
 kind_standard w k e = not-true (is_custom k) (found_among (λ kind. bytes_eq (word_of kind) w) (λ kind. not (is_custom kind)) standard_kinds k refl e)
 
-name_is : (w name : List ℕ) → name_of w ≡ Some name → w ≡ name
-name_is w name e = same_Some w name (if_some (is_name w) (Some w) name e).1
+name_is : (w name : List ℕ) → name_of w ≡ Some name → (w ≡ name) × (is_name name ≡ true)
+name_is w name e = let (good, found) = if_some (is_name w) (Some w) name e in let same = same_Some w name found in (same, ap is_name (sym same) ∙ good)
 
 -- ---- the limits
 
@@ -79,26 +80,18 @@ abbrev pub limits_words : LimitsValue → List (List ℕ) → List (List ℕ)
 limits_words l rest = (codes "k=" ++ decimal l.k) ∷ (codes "steps=" ++ decimal l.max_s) ∷ (codes "chunks=" ++ decimal l.max_c) ∷ (codes "conflicts=" ++ decimal l.conflicts) ∷ rest
 
 pub limits_take : (words : List (List ℕ)) (x : LimitsValue × List (List ℕ)) → limits_from words ≡ Ok x → IsLimits x.0 → words ≡ limits_words x.0 x.1
-limits_take words x e =
-    let (k, r1, e1) = bind_ok (next_keyed (codes "k=") any_number words) (λ a. next_keyed (codes "steps=") any_number a.1 >>= (λ b. next_keyed (codes "chunks=") any_number b.1 >>= (λ c. next_keyed (codes "conflicts=") any_number c.1 >>= (λ d. Ok (limits a.0 b.0 c.0 d.0, d.1))))) x e in
-    let (s, r2, e2) = bind_ok (next_keyed (codes "steps=") any_number k.1) (λ b. next_keyed (codes "chunks=") any_number b.1 >>= (λ c. next_keyed (codes "conflicts=") any_number c.1 >>= (λ d. Ok (limits k.0 b.0 c.0 d.0, d.1)))) x e1 in
-    let (c, r3, e3) = bind_ok (next_keyed (codes "chunks=") any_number s.1) (λ a. next_keyed (codes "conflicts=") any_number a.1 >>= (λ d. Ok (limits k.0 s.0 a.0 d.0, d.1))) x e2 in
-    let (n, r4, e4) = bind_ok (next_keyed (codes "conflicts=") any_number c.1) (λ d. Ok (limits k.0 s.0 c.0 d.0, d.1)) x e3 in
-    let same : (limits k.0 s.0 c.0 n.0, n.1) ≡ x = ok_is {C = ReportCode} (limits k.0 s.0 c.0 n.0, n.1) x e4 in
-    let t1 = keyed_take (codes "k=") any_number words k r1 in
-    let t2 = keyed_take (codes "steps=") any_number k.1 s r2 in
-    let t3 = keyed_take (codes "chunks=") any_number s.1 c r3 in
-    let t4 = keyed_take (codes "conflicts=") any_number c.1 n r4 in
-    let P : LimitsValue × List (List ℕ) → Type 0 = λ y. IsLimits y.0 → words ≡ limits_words y.0 y.1 in
-    subst P same (λ ok.
+limits_take words =
+    pass_then _ _ _ _ (keyed_take (codes "k=") any_number words) (λ k t1. pass_then _ _ _ _ (keyed_take (codes "steps=") any_number k.1) (λ s t2. pass_then _ _ _ _ (keyed_take (codes "chunks=") any_number s.1)
+    (λ c t3. pass_then _ _ _ _ (keyed_take (codes "conflicts=") any_number c.1) (λ n t4. pass_done _ _ (λ ok.
     let most_k = ok.k in
     let most_s = ok.steps in
     let most_c = ok.chunks in
     let most_n = ok.conflicts in
-    t1.stands ∙ (ap (λ v. (codes "k=" ++ v) ∷ k.1) (any_number_is t1.value k.0 t1.read_as (omega (arith, most_k)))
-    ∙ ap (λ ws. (codes "k=" ++ decimal k.0) ∷ ws) (t2.stands ∙ (ap (λ v. (codes "steps=" ++ v) ∷ s.1) (any_number_is t2.value s.0 t2.read_as (omega (arith, most_s)))
-    ∙ ap (λ ws. (codes "steps=" ++ decimal s.0) ∷ ws) (t3.stands ∙ (ap (λ v. (codes "chunks=" ++ v) ∷ c.1) (any_number_is t3.value c.0 t3.read_as (omega (arith, most_c)))
-    ∙ ap (λ ws. (codes "chunks=" ++ decimal c.0) ∷ ws) (t4.stands ∙ ap (λ v. (codes "conflicts=" ++ v) ∷ n.1) (any_number_is t4.value n.0 t4.read_as (omega (arith, most_n))))))))))
+    let e1 = any_number_is t1.value k.0 t1.read_as (omega (arith, most_k)) in
+    let e2 = any_number_is t2.value s.0 t2.read_as (omega (arith, most_s)) in
+    let e3 = any_number_is t3.value c.0 t3.read_as (omega (arith, most_c)) in
+    let e4 = any_number_is t4.value n.0 t4.read_as (omega (arith, most_n)) in
+    cc)))))
 
 -- ---- the root
 
@@ -109,31 +102,19 @@ root_tokens (Some name) = (codes "root=" ++ name) ∷ []
 
 -- there is a name exactly where the collective takes a root
 abbrev pub RootFits : Bool → Option (List ℕ) → Type 0
-RootFits true root = (name : List ℕ) × (root ≡ Some name)
+RootFits true root = (name : List ℕ) × (root ≡ Some name) × (is_name name ≡ true)
 RootFits false root = root ≡ None
 
-pub record RootTaken (kind : Kind) (words : List (List ℕ)) (x : Option (List ℕ) × List (List ℕ)) : Type 0 where
+pub record RootTaken (takes : Bool) (words : List (List ℕ)) (x : Option (List ℕ) × List (List ℕ)) : Type 0 where
   pub stands : words ≡ root_tokens x.0 ++ x.1
-  pub fits : RootFits (takes_root kind) x.0
+  pub fits : RootFits takes x.0
 
-pub root_take : (kind : Kind) (words : List (List ℕ)) (x : Option (List ℕ) × List (List ℕ)) → root_from kind words ≡ Ok x → RootTaken kind words x
-root_take kind words x e = let taken = chosen (takes_root kind) e in record { stands = taken.0; fits = taken.1 }
+pub root_take : (kind : Kind) (words : List (List ℕ)) (x : Option (List ℕ) × List (List ℕ)) → root_from kind words ≡ Ok x → RootTaken (takes_root kind) words x
+root_take kind words = chosen (takes_root kind)
   where
-    named : List ℕ → List (List ℕ) → Option (List ℕ) × List (List ℕ)
-    named name rest = (Some name, rest)
-
-    chosen : (b : Bool) → (if b then (next_keyed (codes "root=") name_of words >>= (λ n. Ok (Some n.0, n.1))) else Ok (None, words)) ≡ Ok x → (words ≡ root_tokens x.0 ++ x.1) × RootFits b x.0
-    chosen true h =
-        let (n, r1, e1) = bind_ok (next_keyed (codes "root=") name_of words) (λ m. Ok (Some m.0, m.1)) x h in
-        let t = keyed_take (codes "root=") name_of words n r1 in
-        let same : (Some n.0, n.1) ≡ x = ok_is {C = ReportCode} (Some n.0, n.1) x e1 in
-        let P : Option (List ℕ) × List (List ℕ) → Type 0 = λ y. (words ≡ root_tokens y.0 ++ y.1) × RootFits true y.0 in
-        subst P same (t.stands ∙ ap (λ v. (codes "root=" ++ v) ∷ n.1) (name_is t.value n.0 t.read_as), (n.0, refl))
-    chosen false h =
-        let none : Option (List ℕ) × List (List ℕ) = (None, words) in
-        let same : none ≡ x = ok_is {C = ReportCode} none x h in
-        let P : Option (List ℕ) × List (List ℕ) → Type 0 = λ y. (words ≡ root_tokens y.0 ++ y.1) × RootFits false y.0 in
-        subst P same (refl, refl)
+    chosen : (b : Bool) (x : Option (List ℕ) × List (List ℕ)) → (if b then (next_keyed (codes "root=") name_of words >>= (λ n. Ok (Some n.0, n.1))) else Ok (None, words)) ≡ Ok x → RootTaken b words x
+    chosen true = pass_then _ _ _ _ (keyed_take (codes "root=") name_of words) (λ n t. let (is, good) = name_is t.value n.0 t.read_as in pass_done _ _ (record { stands = (let e = t.stands in cc); fits = (n.0, refl, good) }))
+    chosen false = pass_done _ _ (record { stands = refl; fits = refl })
 
 -- ---- what may be left out
 
@@ -148,21 +129,12 @@ said_is word (w ∷ ws) = by_test (bytes_eq w word) refl
     by_test true same = ap (λ v. v ∷ ws) ((bytes_eq-Decides w word).0 same)
     by_test false other = refl
 
-no_words : (words : List (List ℕ)) → words ++ [] ≡ words
-no_words [] = refl
-no_words (w ∷ ws) = ap (λ vs. w ∷ vs) (no_words ws)
-
 pub pruning_take : (words : List (List ℕ)) (p : Pruning) → pruning_from words ≡ Ok p → words ≡ pruning_words p
-pruning_take words p e =
+pruning_take words =
     let cuts : Bool × List (List ℕ) = said_from (codes "cuts=yes") words in
     let ordered : Bool × List (List ℕ) = said_from (codes "ordered=yes") cuts.1 in
-    let found : Pruning = record { cuts = cuts.0; ordered = ordered.0 } in
-    let (u, r1, e1) = bind_ok (no_more ordered.1) (λ none. Ok found) p e in
-    let same : found ≡ p = ok_is {C = ReportCode} found p e1 in
-    said_is (codes "cuts=yes") words
-    ∙ ap (λ ws. word_if (codes "cuts=yes") cuts.0 ++ ws) (said_is (codes "ordered=yes") cuts.1
-    ∙ (ap (λ ws. word_if (codes "ordered=yes") ordered.0 ++ ws) (no_more_take ordered.1 u r1) ∙ no_words (word_if (codes "ordered=yes") ordered.0)))
-    ∙ ap pruning_words same
+    pass_then _ _ _ _ (no_more_take ordered.1) (λ u e. pass_done _ _ (said_is (codes "cuts=yes") words
+    ∙ ap (λ ws. word_if (codes "cuts=yes") cuts.0 ++ ws) (said_is (codes "ordered=yes") cuts.1 ∙ (ap (λ ws. word_if (codes "ordered=yes") ordered.0 ++ ws) e ∙ append-nil (word_if (codes "ordered=yes") ordered.0)))))
 
 -- the same numbers, where this may be left out
 abbrev pub pruned : LimitsValue → Pruning → LimitsValue
@@ -190,45 +162,31 @@ kind_fits : (patterned : Bool) (w : List ℕ) (k : Kind) → kind_named patterne
 kind_fits patterned w k e version = kind_standard w k (ap (λ b. kind_named b w) (sym version) ∙ e)
 
 pub asked_take : (patterned : Bool) (words : List (List ℕ)) (a : AskedValue) → asked_from patterned words ≡ Ok a → AskedTaken patterned words a
-asked_take patterned words a e =
-    let (b, r1, e1) = bind_ok (fixed_word (codes "synth") words) (λ w. next_keyed (codes "collective=") (kind_named patterned) w >>= (λ k. limits_from k.1 >>= (λ l. root_from k.0 l.1 >>= (λ r. pruning_from r.1 >>= (λ p. Ok (asked k.0 (pruned l.0 p) r.0)))))) a e in
-    let (k, r2, e2) = bind_ok (next_keyed (codes "collective=") (kind_named patterned) b) (λ k. limits_from k.1 >>= (λ l. root_from k.0 l.1 >>= (λ r. pruning_from r.1 >>= (λ p. Ok (asked k.0 (pruned l.0 p) r.0))))) a e1 in
-    let (l, r3, e3) = bind_ok (limits_from k.1) (λ l. root_from k.0 l.1 >>= (λ r. pruning_from r.1 >>= (λ p. Ok (asked k.0 (pruned l.0 p) r.0)))) a e2 in
-    let (r, r4, e4) = bind_ok (root_from k.0 l.1) (λ r. pruning_from r.1 >>= (λ p. Ok (asked k.0 (pruned l.0 p) r.0))) a e3 in
-    let (p, r5, e5) = bind_ok (pruning_from r.1) (λ p. Ok (asked k.0 (pruned l.0 p) r.0)) a e4 in
-    let same : asked k.0 (pruned l.0 p) r.0 ≡ a = ok_is {C = ReportCode} (asked k.0 (pruned l.0 p) r.0) a e5 in
-    let t = keyed_take (codes "collective=") (kind_named patterned) b k r2 in
-    let root = root_take k.0 l.1 r r4 in
-    let P : AskedValue → Type 0 = λ y. AskedTaken patterned words y in
-    subst P same (record {
-      stands = λ ok. fixed_take (codes "synth") words b r1 ∙ ap (λ ws. codes "synth" ∷ ws) (t.stands ∙ (ap (λ v. (codes "collective=" ++ v) ∷ k.1) (kind_is patterned t.value k.0 t.read_as)
-          ∙ ap (λ ws. (codes "collective=" ++ word_of k.0) ∷ ws) (limits_take k.1 l r3 (in_range l.0 p ok) ∙ ap (limits_words l.0) (root.stands ∙ ap (λ ws. root_tokens r.0 ++ ws) (pruning_take r.1 p r5)))));
+asked_take patterned words =
+    pass_then _ _ _ _ (fixed_take (codes "synth") words) (λ b e1. pass_then _ _ _ _ (keyed_take (codes "collective=") (kind_named patterned) b) (λ k t. pass_then _ _ _ _ (limits_take k.1)
+    (λ l ranged. pass_then _ _ _ _ (root_take k.0 l.1) (λ r root. pass_then _ _ _ _ (pruning_take r.1) (λ p e5. pass_done _ _ (record {
+      stands = λ ok. let e2 = kind_is patterned t.value k.0 t.read_as in let e3 = ranged (in_range l.0 p ok) in let e4 = root.stands in let e6 = t.stands in cc;
       fits = root.fits;
       kind = kind_fits patterned t.value k.0 t.read_as;
-    })
-
-abbrev pub asked_check : Bool → List (List ℕ) → Result AskedValue ReportCode
-asked_check patterned words = asked_from patterned words >>= (λ a. refuse (not (may_be_asked patterned a)) code.Limits >>= (λ u. Ok a))
-
-pub record AskedPart (patterned : Bool) (p : Place) (x : AskedValue × Place) : Type 0 where
-  pub rows : p.rows ≡ row_of (asked_words x.0) ∷ x.1.rows
-  pub limits : IsLimits x.0.limits
-  pub fits : RootFits (takes_root x.0.kind) x.0.root
-  pub kind : is_custom x.0.kind ≡ patterned
+    }))))))
 
 -- the kind is that of the version
 kind_of_version : (patterned : Bool) (k : Kind) → (patterned ≡ false → is_custom k ≡ false) → (not patterned || is_custom k) ≡ true → is_custom k ≡ patterned
 kind_of_version true k standard may = may
 kind_of_version false k standard may = standard refl
 
-pub asked_part : (patterned : Bool) (p : Place) (x : AskedValue × Place) → line_part (asked_line patterned) p ≡ Ok x → AskedPart patterned p x
-asked_part patterned p x e =
-    let t = words_part_take (asked_check patterned) p x e in
-    let (shape, rule) = ruled (asked_from patterned t.words) (may_be_asked patterned) code.Limits x.0 t.checked in
-    let taken = asked_take patterned t.words x.0 shape in
-    let (within, may) = and_parts (are_limits x.0.limits) (not patterned || is_custom x.0.kind) rule in
-    let ok = (decides_limits x.0.limits).0 within in
-    record { rows = t.line.rows ∙ ap (λ ws. row_of ws ∷ x.1.rows) (taken.stands ok); limits = ok; fits = taken.fits; kind = kind_of_version patterned x.0.kind taken.kind may }
+pub record IsAsked (patterned : Bool) (a : AskedValue) : Type 0 where
+  pub limits : IsLimits a.limits
+  pub fits : RootFits (takes_root a.kind) a.root
+  pub kind : is_custom a.kind ≡ patterned
+
+pub asked_gives : (patterned : Bool) (p : Place) → Gives (λ (e : ReportCode × ℕ). e.1 ≡ p.number) (λ (x : AskedValue × Place). IsAsked patterned x.0 × Between (asked_words x.0 ∷ []) p x.1) (line_part (asked_line patterned) p)
+asked_gives patterned p = ruled_gives (asked_from patterned) (may_be_asked patterned) (λ a. a) asked_words (IsAsked patterned)
+    (λ words a shape rule.
+    let taken = asked_take patterned words a shape in
+    let (within, may) = and_parts (are_limits a.limits) (not patterned || is_custom a.kind) rule in
+    let ok = (decides_limits a.limits).0 within in
+    (taken.stands ok, record { limits = ok; fits = taken.fits; kind = kind_of_version patterned a.kind taken.kind may })) p
 
 -- ---- with the names
 
@@ -248,7 +206,7 @@ words_take names a root some ok fits e = chosen (takes_root a.kind) refl fits
     front ws = codes "synth" ∷ (codes "collective=" ++ word_of a.kind) ∷ limits_words a.limits (ws ++ pruning_words a.limits.pruning)
 
     chosen : (b : Bool) → b ≡ takes_root a.kind → RootFits b a.root → WordsTaken names a root
-    chosen true takes (name, is) =
+    chosen true takes (name, is, good) =
         let found : node_of names name ≡ Some root = needed (node_of names name) (ap (root_of names) (sym is) ∙ e) in
         let (below, named) = node_is names name root found in
         record {

@@ -11,7 +11,7 @@ use Rattle.candidate_order.specs.Costs.{NoWorse, Better, Before}
 use Rattle.candidate_order.specs.Frontiers.{QuestionValue, IsWithin}
 use Rattle.report_form.specs.Tests.{are_limits, is_within, is_no_worse, is_better, is_before}
 
-leb_decides : (a b : ℕ) → Decides (nat_le a b) (a ≤ b)
+pub leb_decides : (a b : ℕ) → Decides (nat_le a b) (a ≤ b)
 leb_decides a b = (leb-true a b, le-leb a b)
 
 itself : (b : Bool) → Decides b (IsTrue b)
@@ -32,7 +32,7 @@ decides_before a b =
     Decides-or (nat_lt a.s b.s) (a.s == b.s && (nat_lt (a.r * b.c) (b.r * a.c) || (a.r * b.c == b.r * a.c && nat_lt a.c b.c))) (Decides-ltb _ _) steps
 
 -- six tests in a row
-six : {P Q R S T U : Type 0} (p q r s t u : Bool) → Decides p P → Decides q Q → Decides r R → Decides s S → Decides t T → Decides u U
+pub six : {P Q R S T U : Type 0} (p q r s t u : Bool) → Decides p P → Decides q Q → Decides r R → Decides s S → Decides t T → Decides u U
     → Decides (p && q && r && s && t && u) (((((P × Q) × R) × S) × T) × U)
 six p q r s t u dp dq dr ds dt du =
     Decides-and (p && q && r && s && t) u

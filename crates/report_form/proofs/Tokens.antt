@@ -7,7 +7,8 @@ use Rattle.std.proofs.lemmas.Bool.{and_parts, not-true, not-false, leb-true, eqb
 use Rattle.std.proofs.lemmas.Bool.Decides.{Decides-eqb}
 use Rattle.std.proofs.lemmas.Slice.Eq.{bytes_eq-Decides, starts_is}
 use Rattle.std.proofs.lemmas.Option.{same_Some}
-use Rattle.text_lines.proofs.Checks.{need_ok, refuse_ok, ok_is, if_some}
+use Rattle.text_lines.specs.Check.{◌>>=◌}
+use Rattle.text_lines.proofs.Checks.{bind_ok, done, need_ok, refuse_ok, ok_is, if_some}
 use Rattle.text_lines.proofs.Numbers.{up_to_found, spells, digit_is}
 use Rattle.topology_text.specs.Spelling.{name_at}
 use Rattle.topology_text.specs.Reading.{begins, node_of}
@@ -15,6 +16,13 @@ use Rattle.topology_text.proofs.Links.{node_is}
 use Rattle.report_form.specs.declared.fault.ReportCode.{ReportCode}
 use Rattle.report_form.specs.declared.fault.ReportCode.TheVariants.{BadLine}
 use Rattle.report_form.specs.Fields.{is_digit, is_number, any_number, small_number, next_word, behind_key, fixed_word, next_number, next_node, no_more}
+
+-- one step that passed, and then the rest
+pub pass_then : {A B C : Type 0} (N : A → Type 0) (M : B → Type 0) (r : Result A C) (f : A → Result B C) → ((x : A) → r ≡ Ok x → N x) → ((x : A) → N x → (y : B) → f x ≡ Ok y → M y) → (y : B) → (r >>= f) ≡ Ok y → M y
+pass_then N M r f begin later y e = let (x, read, rest) = bind_ok r f y e in later x (begin x read) y rest
+
+pub pass_done : {A C : Type 0} (N : A → Type 0) (x : A) → N x → (y : A) → done {C = C} x ≡ Ok y → N y
+pass_done {A} {C} N x n y e = subst N (ok_is {C = C} x y e) n
 
 -- ---- one token
 

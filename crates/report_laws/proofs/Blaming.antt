@@ -1,5 +1,5 @@
 -- A line that a check blames has the code of its form, where the lines before it say which forms may stand there.
-use Rattle.std.proofs.Common.{◌≡◌, ℕ, zero, suc, ◌+◌, ◌-◌, ◌<◌, ◌≤◌, Bool, true, false, ◌&&◌, ◌||◌, not, eqb, List, [], ◌∷◌, ◌++◌, map, length, take, drop, Option, None, Some, Result, Ok, Err, refl, sym, ap, ◌∙◌, append_assoc, arith}
+use Rattle.std.proofs.Common.{◌≡◌, ℕ, zero, suc, ◌+◌, ◌-◌, ◌<◌, ◌≤◌, Bool, true, false, ◌&&◌, ◌||◌, not, eqb, List, [], ◌∷◌, ◌++◌, map, length, take, drop, Option, None, Some, Result, Ok, Err, refl, sym, ap, ◌∙◌, subst, append_assoc, arith}
 use Rattle.std.specs.Prelude.{codes, bytes_eq, if◌then◌else◌, slice_get, slice_index_or, nat_eq}
 use Rattle.std.specs.List.{list_any, list_all, last_or, starts_with, join_with_byte}
 use Rattle.std.proofs.Math.Seq.{take-append_seam}
@@ -17,30 +17,32 @@ use Rattle.topology_text.specs.Reading.{begins}
 use Rattle.topology_text.proofs.Groups.{place}
 use Rattle.report_form.specs.declared.fault.ReportCode.{ReportCode}
 use Rattle.report_form.specs.declared.fault.ReportCode.TheVariants as code
-use Rattle.report_form.specs.Lines.{whole_line, tokens_line, fixed_line, row_begins, blamed, among, lines_from, parts_from}
+use Rattle.report_form.specs.Lines.{whole_line, fixed_line, row_begins, blamed, among, lines_from, parts_from}
+use Rattle.report_form.proofs.Gives.{Gives, gives_done, gives_like, gives_then}
+use Rattle.report_form.proofs.LineTaken.{on_words, ruled_by}
 use Rattle.report_laws.specs.Shapes.{Token, Word, Any, has_shape, Form, forms_after, first_word, is_patterned, names_in, is_joined, forms_behind, fits, code_of}
 use Rattle.report_laws.proofs.ShapesTold.{Told}
 
 -- ---- results
 
--- of a value this holds, and of a fault that
-abbrev pub Goes : {A C : Type 0} → (C → Type 0) → (A → Type 0) → Result A C → Type 0
-Goes E N (Ok x) = N x
-Goes E N (Err e) = E e
+-- one step, and then the rest
+pub goes_on : {A B C : Type 0} {E : C → Type 0} {N : A → Type 0} {M : B → Type 0} (r : Result A C) (f : A → Result B C) → Gives E N r → ((x : A) → r ≡ Ok x → N x → Gives E M (f x)) → Gives E M (r >>= f)
+goes_on r f one later = gives_then r f one (λ e holds. holds) later
 
-pub goes_then : {A B C : Type 0} (E : C → Type 0) (N : A → Type 0) (M : B → Type 0) (r : Result A C) (f : A → Result B C) → Goes E N r → ((x : A) → r ≡ Ok x → N x → Goes E M (f x)) → Goes E M (r >>= f)
-goes_then E N M (Ok x) f here next = next x refl here
-goes_then E N M (Err e) f here next = here
+pub gives_fail : {A C : Type 0} {E : C → Type 0} {N : A → Type 0} (c : C) → E c → Gives {A = A} E N (Err c)
+gives_fail {A} {C} {E} {N} c holds = record { ok = λ x e. absurd (cc); err = λ f e. let same : c ≡ f = cc in subst E same holds }
 
-pub goes_with : {A C : Type 0} (E : C → Type 0) (N Q : A → Type 0) (r : Result A C) → Goes E N r → ((x : A) → r ≡ Ok x → Q x) → Goes E (λ x. N x × Q x) r
-goes_with E N Q (Ok x) here also = (here, also x refl)
-goes_with E N Q (Err e) here also = here
+pub choose_gives : {A C : Type 0} {E : C → Type 0} {N : A → Type 0} (b : Bool) (r : Result A C) (x : A) → (b ≡ true → Gives E N r) → (b ≡ false → N x) → Gives E N (if b then r else Ok x)
+choose_gives true r x goes stays = goes refl
+choose_gives false r x goes stays = gives_done x (stays refl)
 
-abbrev wrong : {A C : Type 0} → C → Result A C
-wrong c = Err c
+pub at_line_goes : {A C : Type 0} {N : A → Type 0} (E : C × ℕ → Type 0) (n : ℕ) (r : Result A C) → Gives (λ (c : C). E (c, n)) N r → Gives E N (at_line n r)
+at_line_goes E n (Ok x) g = gives_done x (g.ok x refl)
+at_line_goes E n (Err c) g = gives_fail (c, n) (g.err c refl)
 
-err_is : {A C : Type 0} (b c : C) → wrong {A = A} b ≡ wrong c → c ≡ b
-err_is b c e = let same : b ≡ c = cc in sym same
+-- a check of the line at a place
+pub part_goes : {A C : Type 0} (E : C × ℕ → Type 0) (N : A × Place → Type 0) (check : Option Row → Result A C) (p : Place) → Gives (λ (c : C). E (c, p.number)) (λ (x : A). N (x, behind p)) (check (first p.rows)) → Gives E N (line_part check p)
+part_goes E N check p g = goes_on _ _ (at_line_goes E p.number (check (first p.rows)) g) (λ x read holds. gives_done (x, behind p) holds)
 
 -- ---- one line
 
@@ -54,60 +56,33 @@ told_code fit row = if row.whole then (if fit then code.Limits else code.BadLine
 
 -- a shape, and then a rule
 module _ {A B : Type 0} (test : List (List ℕ) → Bool) (shape : List (List ℕ) → Result A ReportCode) (rule : A → Bool) (made : A → B) (told : (words : List (List ℕ)) → Told (test words) (shape words)) where
-  abbrev by_rule : A → Result B ReportCode
-  by_rule x = refuse (not (rule x)) code.Limits >>= (λ u. Ok (made x))
-
-  abbrev by_words : List (List ℕ) → Result B ReportCode
-  by_words words = shape words >>= by_rule
-
-  pub ruled_code : (row : Row) (why : ReportCode) → (tokens_line (Some row) >>= by_words) ≡ Err why → why ≡ told_code (test (words_of row.bytes)) row
-  ruled_code row why e = by_end row.whole e
+  pub ruled_goes : (row : Row) → Gives (λ (why : ReportCode). why ≡ told_code (test (words_of row.bytes)) row) (λ (y : B). test (words_of row.bytes) ≡ true) (on_words (ruled_by shape rule made) (Some row))
+  ruled_goes row = by_end row.whole
     where
-      broken : (b : Bool) (x : A) → (refuse (not b) code.Limits >>= (λ u. Ok (made x))) ≡ Err why → why ≡ code.Limits
-      broken true x h = absurd (cc)
-      broken false x h = err_is {A = B} code.Limits why h
+      by_rule : (t kept : Bool) (x : A) → t ≡ true → Gives (λ (why : ReportCode). why ≡ (if t then code.Limits else code.BadLine)) (λ (y : B). t ≡ true) (refuse (not kept) code.Limits >>= (λ u. Ok (made x)))
+      by_rule t true x here = gives_done (made x) here
+      by_rule t false x here = gives_fail code.Limits (ap (λ b. if b then code.Limits else code.BadLine) (sym here))
 
-      by_shape : (t : Bool) (r : Result A ReportCode) → Told t r → (r >>= by_rule) ≡ Err why → why ≡ (if t then code.Limits else code.BadLine)
-      by_shape t (Ok x) here h = broken (rule x) x h ∙ ap (λ b. if b then code.Limits else code.BadLine) (sym here)
-      by_shape t (Err c) here h = err_is {A = B} c why h ∙ (here.1 ∙ ap (λ b. if b then code.Limits else code.BadLine) (sym here.0))
+      by_shape : (t : Bool) (r : Result A ReportCode) → Told t r → Gives (λ (why : ReportCode). why ≡ (if t then code.Limits else code.BadLine)) (λ (y : B). t ≡ true) (r >>= (λ x. refuse (not (rule x)) code.Limits >>= (λ u. Ok (made x))))
+      by_shape t (Ok x) here = by_rule t (rule x) x (here.ok x refl)
+      by_shape t (Err c) here = let (fails, bad) = here.err c refl in gives_fail c (bad ∙ ap (λ b. if b then code.Limits else code.BadLine) (sym fails))
 
-      by_end : (b : Bool) → (((refuse (not b) code.Truncated >>= (λ u. Ok row)) >>= (λ r. Ok (words_of r.bytes))) >>= by_words) ≡ Err why → why ≡ (if b then (if test (words_of row.bytes) then code.Limits else code.BadLine) else code.Truncated)
-      by_end true h = by_shape (test (words_of row.bytes)) (shape (words_of row.bytes)) (told (words_of row.bytes)) h
-      by_end false h = err_is {A = B} code.Truncated why h
+      by_end : (b : Bool) → Gives (λ (why : ReportCode). why ≡ (if b then (if test (words_of row.bytes) then code.Limits else code.BadLine) else code.Truncated)) (λ (y : B). test (words_of row.bytes) ≡ true)
+          (((refuse (not b) code.Truncated >>= (λ u. Ok row)) >>= (λ r. Ok (words_of r.bytes))) >>= ruled_by shape rule made)
+      by_end true = by_shape (test (words_of row.bytes)) (shape (words_of row.bytes)) (told (words_of row.bytes))
+      by_end false = gives_fail code.Truncated refl
 
-  pub ruled_form : (row : Row) (y : B) → (tokens_line (Some row) >>= by_words) ≡ Ok y → test (words_of row.bytes) ≡ true
-  ruled_form row y e = by_end row.whole e
-    where
-      by_shape : (t : Bool) (r : Result A ReportCode) → Told t r → (r >>= by_rule) ≡ Ok y → t ≡ true
-      by_shape t (Ok x) here h = here
-      by_shape t (Err c) here h = absurd (cc)
-
-      by_end : (b : Bool) → (((refuse (not b) code.Truncated >>= (λ u. Ok row)) >>= (λ r. Ok (words_of r.bytes))) >>= by_words) ≡ Ok y → test (words_of row.bytes) ≡ true
-      by_end true h = by_shape (test (words_of row.bytes)) (shape (words_of row.bytes)) (told (words_of row.bytes)) h
-      by_end false h = absurd (cc)
-
--- a line of one word
-pub fixed_code : (bytes : List ℕ) (row : Row) (why : ReportCode) → fixed_line bytes (Some row) ≡ Err why → why ≡ told_code false row
-fixed_code bytes row why e = by_end row.whole e
+-- a line that is written out
+pub fixed_goes : (bytes : List ℕ) (row : Row) → Gives (λ (why : ReportCode). why ≡ told_code false row) (λ (u : Unit {0}). row.bytes ≡ bytes) (fixed_line bytes (Some row))
+fixed_goes bytes row = by_end row.whole
   where
-    by_same : (same : Bool) → refuse (not same) code.BadLine ≡ Err why → why ≡ code.BadLine
-    by_same true h = absurd (cc)
-    by_same false h = err_is {A = Unit {0}} code.BadLine why h
+    by_same : (same : Bool) → bytes_eq row.bytes bytes ≡ same → Gives (λ (why : ReportCode). why ≡ code.BadLine) (λ (u : Unit {0}). row.bytes ≡ bytes) (refuse (not same) code.BadLine)
+    by_same true is = gives_done tt ((bytes_eq-Decides row.bytes bytes).0 is)
+    by_same false is = gives_fail code.BadLine refl
 
-    by_end : (b : Bool) → ((refuse (not b) code.Truncated >>= (λ u. Ok row)) >>= (λ r. refuse (not (bytes_eq r.bytes bytes)) code.BadLine)) ≡ Err why → why ≡ (if b then code.BadLine else code.Truncated)
-    by_end true h = by_same (bytes_eq row.bytes bytes) h
-    by_end false h = err_is {A = Unit {0}} code.Truncated why h
-
-pub fixed_is : (bytes : List ℕ) (row : Row) (u : Unit {0}) → fixed_line bytes (Some row) ≡ Ok u → row.bytes ≡ bytes
-fixed_is bytes row u e = by_end row.whole e
-  where
-    by_same : (same : Bool) → bytes_eq row.bytes bytes ≡ same → refuse (not same) code.BadLine ≡ Ok u → row.bytes ≡ bytes
-    by_same true is h = (bytes_eq-Decides row.bytes bytes).0 is
-    by_same false is h = absurd (cc)
-
-    by_end : (b : Bool) → ((refuse (not b) code.Truncated >>= (λ v. Ok row)) >>= (λ r. refuse (not (bytes_eq r.bytes bytes)) code.BadLine)) ≡ Ok u → row.bytes ≡ bytes
-    by_end true h = by_same (bytes_eq row.bytes bytes) refl h
-    by_end false h = absurd (cc)
+    by_end : (b : Bool) → Gives (λ (why : ReportCode). why ≡ (if b then code.BadLine else code.Truncated)) (λ (u : Unit {0}). row.bytes ≡ bytes) ((refuse (not b) code.Truncated >>= (λ v. Ok row)) >>= (λ r. refuse (not (bytes_eq r.bytes bytes)) code.BadLine))
+    by_end true = by_same (bytes_eq row.bytes bytes) refl
+    by_end false = gives_fail code.Truncated refl
 
 -- ---- the first word of a line
 
@@ -210,9 +185,9 @@ module _ (rows : List Row) where
       by_line None each = refl
       by_line (Some row) each = by_end row.whole row (each row refl)
 
-  pub among_goes : {A : Type 0} (N : A → Type 0) (r : Result A (TopologyCode × ℕ)) → Goes Unfit N r → Goes Coded N (among rows r)
-  among_goes N (Ok x) here = here
-  among_goes N (Err e) here = here
+  pub among_goes : {A : Type 0} (N : A → Type 0) (r : Result A (TopologyCode × ℕ)) → Gives Unfit N r → Gives Coded N (among rows r)
+  among_goes N (Ok x) g = gives_done x (g.ok x refl)
+  among_goes N (Err e) g = gives_fail (blamed (whole_line (slice_get rows (e.1 - 1))), e.1) (g.err e refl)
 
   next_on : (before : List Row) (p : Place) (row : Row) → On before p → first p.rows ≡ Some row → On (before ++ row ∷ []) (behind p)
   next_on before p row on here =
@@ -223,19 +198,23 @@ module _ (rows : List Row) where
         number = omega (arith, number, length-append before (row ∷ []));
       }
 
-  -- a check of one line
-  pub step_goes : {A C : Type 0} (E : C × ℕ → Type 0) (N : A × Place → Type 0) (check : Option Row → Result A C) (before : List Row) (p : Place) → On before p
-      → ((c : C) → check (first p.rows) ≡ Err c → E (c, p.number)) → ((x : A) → check None ≡ Ok x → ⊥)
-      → ((row : Row) (x : A) → first p.rows ≡ Some row → check (Some row) ≡ Ok x → On (before ++ row ∷ []) (behind p) → N (x, behind p)) → Goes E N (line_part check p)
-  step_goes {A} {C} E N check before p on blames lacking reads = by_result (check (first p.rows)) refl
-    where
-      by_line : (o : Option Row) (x : A) → first p.rows ≡ o → check o ≡ Ok x → N (x, behind p)
-      by_line None x here e = absurd (lacking x e)
-      by_line (Some row) x here e = reads row x here e (next_on before p row on here)
+  -- a line that stands behind these, and was read
+  pub record Stands {A C : Type 0} (check : Option Row → Result A C) (before : List Row) (p : Place) (x : A × Place) : Type 0 where
+    pub row : Row
+    pub here : first p.rows ≡ Some row
+    pub read : check (Some row) ≡ Ok x.0
+    pub on : On (before ++ row ∷ []) x.1
 
-      by_result : (r : Result A C) → check (first p.rows) ≡ r → Goes E N (at_line p.number r >>= (λ x. Ok (x, behind p)))
-      by_result (Ok x) e = by_line (first p.rows) x refl e
-      by_result (Err c) e = blames c e
+  pub stands_goes : {A C : Type 0} (E : C × ℕ → Type 0) (check : Option Row → Result A C) (before : List Row) (p : Place) → On before p → ((x : A) → check None ≡ Ok x → ⊥) → ((c : C) → check (first p.rows) ≡ Err c → E (c, p.number)) → Gives E (Stands check before p) (line_part check p)
+  stands_goes {A} E check before p on lacking blames = part_goes E (Stands check before p) check p (record { ok = λ x e. by_line (first p.rows) refl x e; err = blames })
+    where
+      by_line : (o : Option Row) → first p.rows ≡ o → (x : A) → check o ≡ Ok x → Stands check before p (x, behind p)
+      by_line None here x e = absurd (lacking x e)
+      by_line (Some row) here x e = record { row = row; here = here; read = e; on = next_on before p row on here }
+
+  -- the code of a line that was blamed there
+  pub told_on : (before : List Row) (p : Place) (row : Row) (why : ReportCode) → On before p → first p.rows ≡ Some row → why ≡ told_code (fits before row) row → Coded (why, p.number)
+  told_on before p row why on here e = e ∙ (ap (code_of before) (sym here) ∙ sym (code_on before p p.number on refl))
 
   -- ---- places behind the names
 
@@ -272,66 +251,39 @@ module _ (rows : List Row) where
 
     pub line_goes : {A : Type 0} (w : List ℕ) (now : Bool) (later : List Form) → (joined || bytes_eq w (codes "joined")) ≡ now → ((patterned : Bool) → forms_after patterned names now w ≡ later)
         → (check : Option Row → Result A ReportCode) (p : Place) → At names joined forms p → check None ≡ Err code.Truncated
-        → ((row : Row) (why : ReportCode) → first p.rows ≡ Some row → check (Some row) ≡ Err why → why ≡ told_code (list_any (λ form. form row) forms) row)
-        → ((row : Row) (x : A) → first p.rows ≡ Some row → check (Some row) ≡ Ok x → first_word row ≡ w) → Goes Coded (λ (x : A × Place). At names now later x.1) (line_part check p)
-    line_goes {A} w now later section next check p at lacks blames reads = by_line (first p.rows) refl
+        → ((row : Row) → first p.rows ≡ Some row → Gives (λ (why : ReportCode). why ≡ told_code (list_any (λ form. form row) forms) row) (λ (x : A). first_word row ≡ w) (check (Some row)))
+        → Gives Coded (λ (x : A × Place). At names now later x.1) (line_part check p)
+    line_goes {A} w now later section next check p at lacks goes = part_goes Coded (λ (x : A × Place). At names now later x.1) check p (by_line (first p.rows) refl)
       where
-        lacking : (r : Result A ReportCode) → r ≡ Err code.Truncated → first p.rows ≡ None → Goes Coded (λ (x : A × Place). At names now later x.1) (at_line p.number r >>= (λ x. Ok (x, behind p)))
-        lacking (Ok x) e here = absurd (cc)
-        lacking (Err c) e here = sym (err_is {A = A} c code.Truncated e) ∙ lacking_at p at here
-
-        there : (row : Row) (r : Result A ReportCode) → first p.rows ≡ Some row → check (Some row) ≡ r → Goes Coded (λ (x : A × Place). At names now later x.1) (at_line p.number r >>= (λ x. Ok (x, behind p)))
-        there row (Ok x) here e = onward w now later section next p row at here (reads row x here e)
-        there row (Err why) here e = coded_at p row why at here (blames row why here e)
-
-        by_line : (o : Option Row) → first p.rows ≡ o → Goes Coded (λ (x : A × Place). At names now later x.1) (at_line p.number (check o) >>= (λ x. Ok (x, behind p)))
-        by_line None here = lacking (check None) lacks here
-        by_line (Some row) here = there row (check (Some row)) here refl
+        by_line : (o : Option Row) → first p.rows ≡ o → Gives (λ (why : ReportCode). Coded (why, p.number)) (λ (x : A). At names now later (behind p)) (check o)
+        by_line None here = subst (λ (r : Result A ReportCode). Gives (λ (why : ReportCode). Coded (why, p.number)) (λ (x : A). At names now later (behind p)) r) (sym lacks) (gives_fail code.Truncated (lacking_at p at here))
+        by_line (Some row) here = gives_like (λ why is. coded_at p row why at here is) (λ x is. onward w now later section next p row at here is) (goes row here)
 
     -- no line begins with the word
     abbrev pub Behind : {A : Type 0} → List ℕ → A × Place → Type 0
     Behind word x = At names joined forms x.1 × ((row : Row) → first x.1.rows ≡ Some row → begins word row.bytes ≡ false)
 
     module _ {A : Type 0} (word : List ℕ) (free : IsOneWord word) (section : (joined || bytes_eq word (codes "joined")) ≡ joined) (next : (patterned : Bool) → forms_after patterned names joined word ≡ forms) (check : List A → Option Row → Result A ReportCode) (blames : (before : List A) (row : Row) (why : ReportCode) → begins (word ++ 32 ∷ []) row.bytes ≡ true → check before (Some row) ≡ Err why → why ≡ told_code (list_any (λ form. form row) forms) row) where
-      pub lines_go : (rs : List Row) (before : List A) (n : ℕ) → At names joined forms (place n rs) → Goes Coded (Behind (word ++ 32 ∷ [])) (lines_from (word ++ 32 ∷ []) check before n rs)
-      lines_go [] before n at = (at, λ row h. absurd (cc))
-      lines_go (row ∷ rs) before n at = by_test (begins (word ++ 32 ∷ []) row.bytes) refl (λ a later. lines_go rs (before ++ a ∷ []) (n + 1) later)
-        where
-          Later : A → Type 0
-          Later a = At names joined forms (place (n + 1) rs) → Goes Coded (Behind (word ++ 32 ∷ [])) (lines_from (word ++ 32 ∷ []) check (before ++ a ∷ []) (n + 1) rs)
-
-          by_result : (r : Result A ReportCode) → begins (word ++ 32 ∷ []) row.bytes ≡ true → check before (Some row) ≡ r → ((a : A) → Later a)
-              → Goes Coded (Behind (word ++ 32 ∷ [])) (at_line n r >>= (λ a. lines_from (word ++ 32 ∷ []) check (before ++ a ∷ []) (n + 1) rs))
-          by_result (Ok a) begun e later = later a (onward word joined forms section next (place n (row ∷ rs)) row at refl (first_of_front word row free begun))
-          by_result (Err why) begun e later = coded_at (place n (row ∷ rs)) row why at refl (blames before row why begun e)
-
-          other : (r : Row) → begins (word ++ 32 ∷ []) row.bytes ≡ false → first (row ∷ rs) ≡ Some r → begins (word ++ 32 ∷ []) r.bytes ≡ false
-          other r e h = let same : row ≡ r = cc in ap (λ q. begins (word ++ 32 ∷ []) q.bytes) (sym same) ∙ e
-
-          by_test : (b : Bool) → begins (word ++ 32 ∷ []) row.bytes ≡ b → ((a : A) → Later a)
-              → Goes Coded (Behind (word ++ 32 ∷ [])) (if b then (at_line n (check before (Some row)) >>= (λ a. lines_from (word ++ 32 ∷ []) check (before ++ a ∷ []) (n + 1) rs)) else Ok (before, place n (row ∷ rs)))
-          by_test true e later = by_result (check before (Some row)) e refl later
-          by_test false e later = (at, λ r h. other r e h)
+      pub lines_go : (rs : List Row) (before : List A) (n : ℕ) → At names joined forms (place n rs) → Gives Coded (Behind (word ++ 32 ∷ [])) (lines_from (word ++ 32 ∷ []) check before n rs)
+      lines_go [] before n at = gives_done (before, place n []) (at, λ row h. absurd (cc))
+      lines_go (row ∷ rs) before n at =
+          let p : Place = place n (row ∷ rs) in
+          choose_gives (begins (word ++ 32 ∷ []) row.bytes) _ (before, p)
+          (λ begun. goes_on _ _ (at_line_goes {N = λ (a : A). Unit {0}} Coded n (check before (Some row)) (record { ok = λ a e. tt; err = λ why e. coded_at p row why at refl (blames before row why begun e) }))
+          (λ a read u. lines_go rs (before ++ a ∷ []) (n + 1) (onward word joined forms section next p row at refl (first_of_front word row free begun))))
+          (λ other. (at, λ r h. let same : row ≡ r = cc in ap (λ q. begins (word ++ 32 ∷ []) q.bytes) (sym same) ∙ other))
 
     none_left : (rs : List Row) (row : Row) → length rs ≤ 0 → first rs ≡ Some row → ⊥
     none_left [] row few h = absurd (cc)
     none_left (r ∷ rs) row few h = absurd (omega (arith, few))
 
-    module _ {A : Type 0} (word : List ℕ) (check : List A → Place → Result (A × Place) (ReportCode × ℕ)) (each : (before : List A) (p : Place) → At names joined forms p → row_begins word (first p.rows) ≡ true → Goes Coded (λ x. At names joined forms x.1 × (length x.1.rows < length p.rows)) (check before p)) where
-      pub parts_go : (fuel : ℕ) (before : List A) (p : Place) → length p.rows ≤ fuel → At names joined forms p → Goes Coded (Behind word) (parts_from word check fuel before p)
-      parts_go zero before p few at = (at, λ row h. absurd (none_left p.rows row few h))
-      parts_go (suc fuel) before p few at = by_test (row_begins word (first p.rows)) refl (λ x enough later. parts_go fuel (before ++ x.0 ∷ []) x.1 enough later)
-        where
-          Later : A × Place → Type 0
-          Later x = length x.1.rows ≤ fuel → At names joined forms x.1 → Goes Coded (Behind word) (parts_from word check fuel (before ++ x.0 ∷ []) x.1)
-
-          other : (b : Bool) → row_begins word (first p.rows) ≡ false → (row : Row) → first p.rows ≡ Some row → begins word row.bytes ≡ false
-          other b e row h = ap (row_begins word) (sym h) ∙ e
-
-          by_test : (b : Bool) → row_begins word (first p.rows) ≡ b → ((x : A × Place) → Later x) → Goes Coded (Behind word) (if b then (check before p >>= (λ x. parts_from word check fuel (before ++ x.0 ∷ []) x.1)) else Ok (before, p))
-          by_test true e later = goes_then Coded (λ x. At names joined forms x.1 × (length x.1.rows < length p.rows)) (Behind word) (check before p) (λ x. parts_from word check fuel (before ++ x.0 ∷ []) x.1) (each before p at e)
-              (λ x read gone. let shorter = gone.1 in later x (omega (arith, shorter, few)) gone.0)
-          by_test false e later = (at, λ row h. other false e row h)
+    module _ {A : Type 0} (word : List ℕ) (check : List A → Place → Result (A × Place) (ReportCode × ℕ)) (each : (before : List A) (p : Place) → At names joined forms p → row_begins word (first p.rows) ≡ true → Gives Coded (λ x. At names joined forms x.1 × (length x.1.rows < length p.rows)) (check before p)) where
+      pub parts_go : (fuel : ℕ) (before : List A) (p : Place) → length p.rows ≤ fuel → At names joined forms p → Gives Coded (Behind word) (parts_from word check fuel before p)
+      parts_go zero before p few at = gives_done (before, p) (at, λ row h. absurd (none_left p.rows row few h))
+      parts_go (suc fuel) before p few at =
+          choose_gives (row_begins word (first p.rows)) _ (before, p)
+          (λ begun. goes_on _ _ (each before p at begun) (λ x read gone. let shorter = gone.1 in parts_go fuel (before ++ x.0 ∷ []) x.1 (omega (arith, shorter, few)) gone.0))
+          (λ other. (at, λ row h. ap (row_begins word) (sym h) ∙ other))
 
   -- the line there has not the first of these forms
   pub less : (names : List (List ℕ)) (joined : Bool) (form : Form) (forms : List Form) (p : Place) → At names joined (form ∷ forms) p → ((row : Row) → first p.rows ≡ Some row → form row ≡ false) → At names joined forms p

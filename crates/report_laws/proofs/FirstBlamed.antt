@@ -5,17 +5,12 @@ use Rattle.topology_text.proofs.Cuts.{cut_agrees}
 use Rattle.report_form.specs.declared.fault.ReportCode.{ReportCode}
 use Rattle.report_form.specs.Spelling.{report_lines}
 use Rattle.report_form.specs.Reading.{report_of}
-use Rattle.report_form.specs.First.{Agrees, FailsFirstAt}
-use Rattle.report_form.proofs.ReportTaken.{report_is}
+use Rattle.report_form.specs.First.{FailsFirstAt}
+use Rattle.report_form.proofs.ReportTaken.{report_is, report_gives}
 use Rattle.report_laws.proofs.SpelledTokens.{rows_of_report}
 use Rattle.report_laws.proofs.LocalReport.{none_agrees}
-use Rattle.report_laws.proofs.FilledReport.{ReportFilled}
-use Rattle.report_laws.proofs.FilledTexts.{fill_report}
-
-filled_agrees : (text : List ℕ) (n : ℕ) (f : ReportFilled (start text) n) → Agrees (n - 1) text f.report
-filled_agrees text n f = cut_agrees (report_lines f.report) (start text) n refl f.cut ∙ ap (take (n - 1)) (sym (rows_of_report f.report f.valid))
 
 pub first_is_blamed : (text : List ℕ) (why : ReportCode) (n : ℕ) → report_of text ≡ Err (why, n) → FailsFirstAt text n
 first_is_blamed text why n failed =
-    let f = fill_report (rows_of text) (start text) (why, n) (sym (report_is text) ∙ failed) in
-    record { before = (f.report, f.valid, filled_agrees text n f); now = none_agrees text why n failed }
+    let s = (report_gives (rows_of text) (start text)).err (why, n) (sym (report_is text) ∙ failed) in
+    record { before = (s.value, s.valid, cut_agrees (report_lines s.value) (start text) n refl s.cut ∙ ap (take (n - 1)) (sym (rows_of_report s.value s.valid))); now = none_agrees text why n failed }

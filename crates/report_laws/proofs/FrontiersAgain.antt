@@ -1,10 +1,9 @@
 -- The lines of a report's parts that are spelled are read.
-use Rattle.std.proofs.Common.{◌≡◌, ℕ, ◌+◌, ◌≤◌, List, [], ◌∷◌, ◌++◌, map, length, Result, Ok, refl, sym, ap, ◌∙◌, arith}
+use Rattle.std.proofs.Common.{◌≡◌, ℕ, ◌≤◌, List, [], ◌∷◌, ◌++◌, map, length, Ok, refl, sym, ap, ◌∙◌, subst, arith}
 use Rattle.std.specs.Prelude.{◌≢◌, codes, flat_map, All, IfSome}
 use Rattle.std.proofs.lemmas.List.{length-append, length-map}
 use Rattle.std.proofs.lemmas.List.Elements.{All-head, All-tail, All-map, All-weaker}
-use Rattle.text_lines.specs.Text.{Row, Place}
-use Rattle.text_lines.specs.Check.{◌>>=◌}
+use Rattle.text_lines.specs.Text.{Row}
 use Rattle.text_lines.proofs.Rows.{row_of}
 use Rattle.outer_ports.specs.declared.part.Part.{Part}
 use Rattle.outer_ports.specs.declared.part.Part.TheVariants as part
@@ -12,22 +11,21 @@ use Rattle.collective_spec.specs.declared.kind.Kind.{Kind}
 use Rattle.collective_spec.specs.declared.kind.Kind.TheVariants as kind
 use Rattle.collective_spec.specs.Patterns.{IsPattern}
 use Rattle.collective_spec.proofs.Chunks.{FewBase}
-use Rattle.candidate_order.specs.declared.candidate.Candidate.{Candidate}
 use Rattle.candidate_order.specs.Ranges.{IsLimits}
-use Rattle.candidate_order.specs.Frontiers.{QuestionValue, PointValue, UnknownValue, FrontierValue, IsWithin, IsUnknown}
+use Rattle.candidate_order.specs.Frontiers.{QuestionValue, PointValue, FrontierValue, IsWithin, IsUnknown}
 use Rattle.topology_text.specs.Value.{NamedTopologyValue}
 use Rattle.topology_text.specs.Names.{AreNames}
 use Rattle.topology_text.proofs.Groups.{place, EndsGroups}
-use Rattle.report_form.specs.declared.fault.ReportCode.{ReportCode}
 use Rattle.report_form.specs.Reports.{WordsValue, IsPoint, IsFrontier, IsJoinedPoint, question_of}
 use Rattle.report_form.specs.Spelling.{point_lines, refuted_words, unknown_words, part_words, frontier_lines, joined_lines}
-use Rattle.report_form.specs.Lines.{lines_at, parts_at}
+use Rattle.report_form.specs.Lines.{parts_at}
 use Rattle.report_form.specs.Points.{frontier_point_at, joined_point_at}
 use Rattle.report_form.specs.Reading.{refuted_line, unknown_line, part_bytes, frontier_at, frontiers_from, joined_at}
 use Rattle.report_form.proofs.ListsTaken.{AreListed, AreUnknown}
 use Rattle.report_form.proofs.PointsTaken.{ArePoints}
-use Rattle.report_form.proofs.FrontiersTaken.{rows_split, frontier, IsFrontierOf}
-use Rattle.report_laws.proofs.LinesAgain.{fixed_part_again, Reads, Ends, lines_again, parts_again}
+use Rattle.report_form.proofs.Gives.{rows_split}
+use Rattle.report_form.proofs.FrontiersTaken.{IsFrontierOf}
+use Rattle.report_laws.proofs.LinesAgain.{fixed_part_again, Reads, reads_here, reads_as, reads_then, Ends, lines_again, parts_again}
 use Rattle.report_laws.proofs.ListsAgain.{behind_lines, refuted_reads, unknown_reads}
 use Rattle.report_laws.proofs.PointsAgain.{base_of, point_reads}
 use Rattle.report_laws.proofs.JoinedAgain.{joined_reads}
@@ -80,18 +78,6 @@ points_fit names ps rest = parts_fit (point_lines names) (λ p. omega arith) ps 
 -- ---- one frontier
 
 module _ (names : List (List ℕ)) (q : QuestionValue) (as_many : length names ≡ q.topology.nodes) (named : AreNames names) (ok : IsLimits q.limits) (base : FewBase q.spec) where
-  abbrev after_unknown : List PointValue → List Candidate → List UnknownValue × Place → Result (FrontierValue × Place) (ReportCode × ℕ)
-  after_unknown points refuted c = Ok (frontier points refuted c.0, c.1)
-
-  abbrev after_refuted : List PointValue → List Candidate × Place → Result (FrontierValue × Place) (ReportCode × ℕ)
-  after_refuted points b = lines_at (codes "unknown ") (unknown_line q) b.1 >>= after_unknown points b.0
-
-  abbrev after_points : List PointValue × Place → Result (FrontierValue × Place) (ReportCode × ℕ)
-  after_points a = lines_at (codes "refuted ") (refuted_line q) a.1 >>= after_refuted a.0
-
-  abbrev after_head : Unit {0} × Place → Result (FrontierValue × Place) (ReportCode × ℕ)
-  after_head h = parts_at (codes "point ") (frontier_point_at names q) h.1 >>= after_points
-
   points_are : (f : FrontierValue) → IsFrontier q f → ArePoints names q as_many f.points
   points_are f is = record { each = is.points; listed = record { within = All-map (IsWithin q) (λ p. p.candidate) f.points (All-weaker (IsPoint q) (λ p. IsWithin q p.candidate) (λ p i. i.within) f.points is.points); ascending = is.points_ascend } }
 
@@ -105,21 +91,16 @@ module _ (names : List (List ℕ)) (q : QuestionValue) (as_many : length names �
       let second : List Row = map row_of refuted ++ third in
       let rows : List Row = map row_of points ++ second in
       let split : map row_of (points ++ (refuted ++ unknown)) ++ rest ≡ rows = rows_split points (refuted ++ unknown) rest ∙ ap (λ rs. map row_of points ++ rs) (rows_split refuted unknown rest) in
-      let t1 = parts_again (codes "point ") (frontier_point_at names q) (point_lines names) (ArePoints names q as_many) (Ends (codes "send ")) (point_reads names q as_many named ok base) (length rows) [] f.points (n + 1) second (points_fit names f.points second) (points_are f is)
+      subst (λ (rs : List Row). Reads (frontier_at names q x (place n (row_of (part_words x) ∷ rs))) f rest) (sym split)
+      (reads_then _ _ (fixed_part_again (part_bytes x) (part_words x) n rows (part_line x))
+      (λ k. reads_then _ _ (parts_again (codes "point ") (frontier_point_at names q) (point_lines names) (ArePoints names q as_many) (Ends (codes "send ")) (point_reads names q as_many named ok base) (length rows) [] f.points k second (points_fit names f.points second) (points_are f is)
       (behind_lines (codes "point ") refuted_words f.refuted third (λ y. refl) (behind_lines (codes "point ") unknown_words f.unknown rest (λ y. refl) ends.point))
-      (behind_lines (codes "send ") refuted_words f.refuted third (λ y. refl) (behind_lines (codes "send ") unknown_words f.unknown rest (λ y. refl) ends.send)) in
-      let t2 = lines_again (codes "refuted ") (refuted_line q) refuted_words (AreListed q) (refuted_reads q ok) [] f.refuted t1.number third (record { within = is.refuted; ascending = is.refuted_ascend })
-      (behind_lines (codes "refuted ") unknown_words f.unknown rest (λ y. refl) ends.refuted) in
-      let t3 = lines_again (codes "unknown ") (unknown_line q) unknown_words (AreUnknown q) (unknown_reads q ok) [] f.unknown t2.number rest
-      (record { each = is.unknown; listed = record { within = All-map (IsWithin q) (λ u. u.candidate) f.unknown (All-weaker (IsUnknown q) (λ u. IsWithin q u.candidate) (λ u i. i.within) f.unknown is.unknown); ascending = is.unknown_ascend } }) ends.unknown in
-      record {
-        number = t3.number;
-        is = ap (λ rs. frontier_at names q x (place n (row_of (part_words x) ∷ rs))) split
-            ∙ ap (λ r. r >>= after_head) (fixed_part_again (part_bytes x) (part_words x) n rows (part_line x))
-            ∙ ap (λ r. r >>= after_points) t1.is
-            ∙ ap (λ r. r >>= after_refuted f.points) t2.is
-            ∙ ap (λ r. r >>= after_unknown f.points f.refuted) t3.is;
-      }
+      (behind_lines (codes "send ") refuted_words f.refuted third (λ y. refl) (behind_lines (codes "send ") unknown_words f.unknown rest (λ y. refl) ends.send)))
+      (λ k2. reads_then _ _ (lines_again (codes "refuted ") (refuted_line q) refuted_words (AreListed q) (refuted_reads q ok) [] f.refuted k2 third (record { within = is.refuted; ascending = is.refuted_ascend })
+      (behind_lines (codes "refuted ") unknown_words f.unknown rest (λ y. refl) ends.refuted))
+      (λ k3. reads_then _ _ (lines_again (codes "unknown ") (unknown_line q) unknown_words (AreUnknown q) (unknown_reads q ok) [] f.unknown k3 rest
+      (record { each = is.unknown; listed = record { within = All-map (IsWithin q) (λ u. u.candidate) f.unknown (All-weaker (IsUnknown q) (λ u. IsWithin q u.candidate) (λ u i. i.within) f.unknown is.unknown); ascending = is.unknown_ascend } }) ends.unknown)
+      (λ m. reads_here f m rest)))))
 
 -- ---- all frontiers
 
@@ -130,38 +111,20 @@ frontiers_end names (x ∷ fs) rest ends =
     part_ends x.0 (map row_of ((flat_map (point_lines names) x.1.points ++ (map refuted_words x.1.refuted ++ map unknown_words x.1.unknown)) ++ flat_map (frontier_lines names) fs) ++ rest)
 
 module _ (words : WordsValue) (t : NamedTopologyValue) (as_many : length t.names ≡ t.topology.nodes) (named : AreNames t.names) (ok : IsLimits words.limits) (pattern : IfSome t.custom (IsPattern t.topology.nodes)) where
-  abbrev after_rest : Part → FrontierValue → List (Part × FrontierValue) × Place → Result (List (Part × FrontierValue) × Place) (ReportCode × ℕ)
-  after_rest x f rest = Ok ((x, f) ∷ rest.0, rest.1)
-
-  abbrev after_first : Part → List Part → FrontierValue × Place → Result (List (Part × FrontierValue) × Place) (ReportCode × ℕ)
-  after_first x parts f = frontiers_from words t parts f.1 >>= after_rest x f.0
-
   pub frontiers_again : (fs : List (Part × FrontierValue)) (n : ℕ) (rest : List Row) → All (λ x. IsFrontier (question_of words t x.0) x.1) fs → EndsPart rest
       → Reads (frontiers_from words t (map (λ x. x.0) fs) (place n (map row_of (flat_map (frontier_lines t.names) fs) ++ rest))) fs rest
-  frontiers_again [] n rest all ends = record { number = n; is = refl }
+  frontiers_again [] n rest all ends = reads_here [] n rest
   frontiers_again (x ∷ fs) n rest all ends =
       let behind : List Row = map row_of (flat_map (frontier_lines t.names) fs) ++ rest in
-      let parts : List Part = map (λ y. y.0) fs in
-      let one = frontier_again t.names (question_of words t x.0) as_many named ok (base_of words t x.0 pattern) x.0 x.1 n behind (All-head (IsFrontierOf words t) x fs all) (frontiers_end t.names fs rest ends) in
-      let later = frontiers_again fs one.number rest (All-tail (IsFrontierOf words t) x fs all) ends in
-      record {
-        number = later.number;
-        is = ap (λ rs. frontiers_from words t (x.0 ∷ parts) (place n rs)) (rows_split (frontier_lines t.names (x.0, x.1)) (flat_map (frontier_lines t.names) fs) rest)
-            ∙ ap (λ r. r >>= after_first x.0 parts) one.is
-            ∙ ap (λ r. r >>= after_rest x.0 x.1) later.is;
-      }
+      subst (λ (rs : List Row). Reads (frontiers_from words t (map (λ y. y.0) (x ∷ fs)) (place n rs)) (x ∷ fs) rest) (sym (rows_split (frontier_lines t.names x) (flat_map (frontier_lines t.names) fs) rest))
+      (reads_then _ _ (frontier_again t.names (question_of words t x.0) as_many named ok (base_of words t x.0 pattern) x.0 x.1 n behind (All-head (IsFrontierOf words t) x fs all) (frontiers_end t.names fs rest ends))
+      (λ k. reads_then _ _ (frontiers_again fs k rest (All-tail (IsFrontierOf words t) x fs all) ends) (λ m. reads_here (x ∷ fs) m rest)))
 
   -- ---- joined points
 
-  abbrev no_points : Place → Result (List PointValue × Place) (ReportCode × ℕ)
-  no_points p = Ok ([], p)
-
-  abbrev stay : Place → List PointValue → Result (List PointValue × Place) (ReportCode × ℕ)
-  stay p js = Ok (js, p)
-
   -- a kind that joins no points has no line of them
-  none_again : (js : List PointValue) (n : ℕ) (rest : List Row) → js ≡ [] → Reads (no_points (place n rest)) js rest
-  none_again js n rest none = record { number = n; is = ap (stay (place n rest)) (sym none) }
+  none_again : (js : List PointValue) (n : ℕ) (rest : List Row) → js ≡ [] → Reads (Ok ([], place n rest)) js rest
+  none_again js n rest none = reads_as _ (sym none) (reads_here [] n rest)
 
   pub joined_again : (k : Kind) (js : List PointValue) (n : ℕ) (rest : List Row) → All (IsJoinedPoint (question_of words t part.Joined)) js → (k ≢ kind.Allreduce → js ≡ []) → EndsPart rest
       → Reads (joined_at k words t (place n (map row_of (joined_lines t.names k js) ++ rest))) js rest
@@ -176,9 +139,8 @@ module _ (words : WordsValue) (t : NamedTopologyValue) (as_many : length t.names
   joined_again kind.Allreduce js n rest all only ends =
       let q = question_of words t part.Joined in
       let rows : List Row = map row_of (flat_map (point_lines t.names) js) ++ rest in
-      let after : Unit {0} × Place → Result (List PointValue × Place) (ReportCode × ℕ) = λ h. parts_at (codes "point ") (joined_point_at t.names q) h.1 in
-      let points = parts_again (codes "point ") (joined_point_at t.names q) (point_lines t.names) (λ ps. All (IsJoinedPoint q) ps) (Ends (codes "send ")) (joined_reads t.names q as_many named ok (base_of words t part.Joined pattern)) (length rows) [] js (n + 1) rest (points_fit t.names js rest) all ends.point ends.send in
-      record { number = points.number; is = ap (λ r. r >>= after) (fixed_part_again (part_bytes part.Joined) (part_words part.Joined) n rows refl) ∙ points.is }
+      reads_then _ (λ h. parts_at (codes "point ") (joined_point_at t.names q) h.1) (fixed_part_again (part_bytes part.Joined) (part_words part.Joined) n rows refl)
+      (λ k. parts_again (codes "point ") (joined_point_at t.names q) (point_lines t.names) (λ ps. All (IsJoinedPoint q) ps) (Ends (codes "send ")) (joined_reads t.names q as_many named ok (base_of words t part.Joined pattern)) (length rows) [] js k rest (points_fit t.names js rest) all ends.point ends.send)
 
   -- what follows the frontiers: the line of the joined points, or what follows them
   pub joined_end : (k : Kind) (js : List PointValue) (rest : List Row) → EndsPart rest → EndsPart (map row_of (joined_lines t.names k js) ++ rest)

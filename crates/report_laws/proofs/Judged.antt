@@ -8,6 +8,7 @@ use Rattle.topology_text.proofs.Local.{Same, FailsAt, ReadsTo, line_reads_here}
 use Rattle.topology_text.proofs.Steady.{Moves, Alike, Steady, steady_line}
 use Rattle.report_form.specs.declared.fault.ReportCode.{ReportCode}
 use Rattle.report_form.specs.Lines.{among}
+use Rattle.report_form.proofs.Gives.{Gives, gives_done, gives_like, gives_then}
 use Rattle.report_form.proofs.ReportTaken.{among_ok}
 use Rattle.report_laws.proofs.SteadyLists.{steady_among}
 
@@ -22,17 +23,9 @@ module _ {A B : Type 0} (check : Option Row → Result A TopologyCode) (later : 
   abbrev pub judged : List Row → Place → Result ((A × B) × Place) (ReportCode × ℕ)
   judged rows p = among rows (line_part check p) >>= later_at p.number
 
-  -- the later check fails
-  record Unfit (at : ℕ) (x : A × Place) (e : ReportCode × ℕ) : Type 0 where
-    why : later x.0 ≡ Err e.0
-    line : e.1 ≡ at
-
-  unfit_at : (at : ℕ) (x : A × Place) (e : ReportCode × ℕ) → later_at at x ≡ Err e → Unfit at x e
-  unfit_at at x e there = by_step (bind_err (at_line at (later x.0)) (with_later x) e there)
-    where
-      by_step : (at_line at (later x.0) ≡ Err e) ⊎ ((y : B) × (at_line at (later x.0) ≡ Ok y) × (with_later x y ≡ Err e)) → Unfit at x e
-      by_step (inl here) = let (why, line) = line_err at (later x.0) e here in record { why = why; line = line }
-      by_step (inr (y, fit, rest)) = absurd (cc)
+  -- where the later check fails
+  later_fails : (at : ℕ) (x : A × Place) → Gives (λ (e : ReportCode × ℕ). (later x.0 ≡ Err e.0) × (e.1 ≡ at)) (λ (y : (A × B) × Place). Unit {0}) (later_at at x)
+  later_fails at x = gives_then {N = λ (y : B). Unit {0}} (at_line at (later x.0)) (with_later x) (record { ok = λ y e. tt; err = λ e h. line_err at (later x.0) e h }) (λ e f. f) (λ y read u. gives_done _ tt)
 
   module _ (rows others : List Row) where
     checked_line : Steady (λ p. among rows (line_part check p)) (λ p. among others (line_part check p))
@@ -41,25 +34,19 @@ module _ {A B : Type 0} (check : Option Row → Result A TopologyCode) (later : 
     judged_moves : (p : Place) → Moves (judged rows p) p
     judged_moves p =
         let m = checked_line.moves p in record {
-          late = λ e failed. by_step e m.late (bind_err (among rows (line_part check p)) (later_at p.number) e failed);
+          late = λ e failed. (gives_then {E = λ (f : ReportCode × ℕ). p.number ≤ f.1} {N = λ (n : A × Place). Unit {0}} (among rows (line_part check p)) (later_at p.number) (record { ok = λ n e. tt; err = m.late }) (λ f low. low)
+              (λ n named u. gives_like (λ f fails. let at = fails.1 in omega (arith, at)) (λ y v. v) (later_fails p.number n))).err e failed;
           onward = λ x read.
               let (n, named, rest) = bind_ok (among rows (line_part check p)) (later_at p.number) x read in
               let (root, rooted, last) = bind_ok (at_line p.number (later n.0)) (with_later n) x rest in
-              let same : ((n.0, root), n.1) ≡ x = ok_is {C = ReportCode × ℕ} ((n.0, root), n.1) x last in
               let P : (A × B) × Place → Type 0 = λ z. (p.number ≤ z.1.number) × (length z.1.rows ≤ length p.rows) in
-              subst P same (m.onward n named);
+              subst P (ok_is {C = ReportCode × ℕ} ((n.0, root), n.1) x last) (m.onward n named);
         }
-      where
-        by_step : (e : ReportCode × ℕ) → ((f : ReportCode × ℕ) → among rows (line_part check p) ≡ Err f → p.number ≤ f.1)
-            → (among rows (line_part check p) ≡ Err e) ⊎ ((n : A × Place) × (among rows (line_part check p) ≡ Ok n) × (later_at p.number n ≡ Err e)) → p.number ≤ e.1
-        by_step e late (inl here) = late e here
-        by_step e late (inr (n, named, there)) = let f = unfit_at p.number n e there in let at = f.line in omega (arith, at)
 
     judged_alike : (p q : Place) → Alike (judged rows p) (judged others q) p q
     judged_alike p q =
-        let a = checked_line.alike p q in
-        let m = checked_line.moves p in record {
-          fails = λ e same failed. by_step e same a.fails (bind_err (among rows (line_part check p)) (later_at p.number) e failed);
+        let a = checked_line.alike p q in record {
+          fails = λ e same failed. by_step e same (bind_err (among rows (line_part check p)) (later_at p.number) e failed);
           reads = λ k x same low read.
               let (n, named, rest) = bind_ok (among rows (line_part check p)) (later_at p.number) x read in
               let (root, rooted, last) = bind_ok (at_line p.number (later n.0)) (with_later n) x rest in
@@ -73,17 +60,15 @@ module _ {A B : Type 0} (check : Option Row → Result A TopologyCode) (later : 
               });
         }
       where
-        by_step : (e : ReportCode × ℕ) → Same e.1 p q → ((f : ReportCode × ℕ) → Same f.1 p q → among rows (line_part check p) ≡ Err f → FailsAt (among others (line_part check q)) f.1)
-            → (among rows (line_part check p) ≡ Err e) ⊎ ((n : A × Place) × (among rows (line_part check p) ≡ Ok n) × (later_at p.number n ≡ Err e)) → FailsAt (judged others q) e.1
-        by_step e same fails (inl here) = let f = fails e same here in record { why = f.why; is = ap (λ r. r >>= later_at q.number) f.is }
-        by_step e same fails (inr (n, named, there)) =
-            let f = unfit_at p.number n e there in
-            let at = f.line in
+        by_step : (e : ReportCode × ℕ) → Same e.1 p q → (among rows (line_part check p) ≡ Err e) ⊎ ((n : A × Place) × (among rows (line_part check p) ≡ Ok n) × (later_at p.number n ≡ Err e)) → FailsAt (judged others q) e.1
+        by_step e same (inl here) = let f = (checked_line.alike p q).fails e same here in record { why = f.why; is = ap (λ r. r >>= later_at q.number) f.is }
+        by_step e same (inr (n, named, there)) =
+            let (why, at) = (later_fails p.number n).err e there in
             let to = line_reads_here check p q e.1 n same (omega (arith, at)) (among_ok rows (line_part check p) n named) in
             let wrong : ℕ → Result B (ReportCode × ℕ) = λ k. Err (e.0, k) in
             record {
               why = e.0;
-              is = ap (λ r. among others r >>= later_at q.number) to.is ∙ ap (λ r. at_line q.number r >>= with_later (n.0, to.rest)) f.why
+              is = ap (λ r. among others r >>= later_at q.number) to.is ∙ ap (λ r. at_line q.number r >>= with_later (n.0, to.rest)) why
                   ∙ ap (λ k. wrong k >>= with_later (n.0, to.rest)) (sym same.number ∙ sym at);
             }
 

@@ -11,17 +11,9 @@ pub mod SpelledTokens
 pub mod LocalLines
 pub mod SteadyLists
 pub mod LocalParts
-pub mod Cuts
-pub mod FilledSchedules
-pub mod FilledPoints
-pub mod FilledFrontiers
-pub mod FilledParts
-pub mod FilledBody
 pub mod ReportAgain
 pub mod Judged
 pub mod LocalReport
-pub mod FilledReport
-pub mod FilledTexts
 pub mod FirstBlamed
 pub mod ShapesTold
 pub mod Blaming

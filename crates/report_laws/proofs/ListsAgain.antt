@@ -1,16 +1,17 @@
 -- The lines of refuted and unknown candidates that are spelled are read.
-use Rattle.std.proofs.Common.{◌≡◌, ℕ, suc, ◌≤◌, ◌^◌, Bool, true, false, ◌&&◌, not, List, [], ◌∷◌, ◌++◌, map, length, get_or, Option, None, Some, IfSome, Result, Ok, refl, sym, ap, ◌∙◌, subst, arith}
+use Rattle.std.proofs.Common.{◌≡◌, ℕ, suc, ◌≤◌, ◌^◌, Bool, true, false, ◌&&◌, not, List, [], ◌∷◌, ◌++◌, map, length, get_or, Option, None, Some, IfSome, Result, Ok, refl, sym, ap, subst, arith}
 use Rattle.std.specs.Prelude.{◌==◌, codes, All, AllPairs}
 use Rattle.std.specs.List.{last_or, AllByRecursion}
 use Rattle.std.proofs.lemmas.Bool.{and_from, eq-eqb}
-use Rattle.std.proofs.lemmas.List.{length-append, get_or_append_left, get_or_at}
+use Rattle.std.proofs.lemmas.List.{length-append, map-append, get_or_append_left, get_or_at}
 use Rattle.std.proofs.lemmas.List.Elements.{All-head, All-tail}
 use Rattle.text_lines.specs.Text.{Row}
-use Rattle.text_lines.specs.Check.{◌>>=◌, refuse}
+use Rattle.text_lines.specs.Check.{◌>>=◌, refuse, line_part}
 use Rattle.text_lines.proofs.Distinct.{next_has}
 use Rattle.text_lines.proofs.Rows.{AreTokens, row_of}
 use Rattle.text_lines.proofs.Words.{tokens_from}
 use Rattle.topology_text.specs.Reading.{begins}
+use Rattle.topology_text.proofs.Groups.{place}
 use Rattle.candidate_order.specs.declared.candidate.Candidate.{Candidate}
 use Rattle.candidate_order.specs.Ranges.{IsLimits}
 use Rattle.candidate_order.specs.Costs.{Before}
@@ -22,16 +23,22 @@ use Rattle.report_form.specs.Tests.{is_within, comes_next}
 use Rattle.report_form.specs.Reading.{refuted_from, refuted_line, unknown_from, unknown_line}
 use Rattle.report_form.proofs.Tested.{decides_within, decides_before}
 use Rattle.report_form.proofs.Ascending.{last_is}
-use Rattle.report_form.proofs.LineTaken.{map_both}
+use Rattle.report_form.proofs.LineTaken.{on_words, ruled_by}
 use Rattle.report_form.proofs.ListsTaken.{AreListed, AreUnknown}
-use Rattle.report_laws.proofs.LinesAgain.{on_words_again, Ends, ReadsLine}
+use Rattle.report_laws.proofs.TokensAgain.{ok_then}
+use Rattle.report_laws.proofs.LinesAgain.{on_words_again, words_part_again, Reads, Ends, ReadsLine}
 use Rattle.report_laws.proofs.ShapesAgain.{IsSmall, refuted_again, refuted_are_words, unknown_again, unknown_are_words}
 
 -- a shape that is read, and a rule that is kept
-pub ruled_again : {A : Type 0} (shape : Result A ReportCode) (rule : A → Bool) (why : ReportCode) (x : A) → shape ≡ Ok x → rule x ≡ true → (shape >>= (λ a. refuse (not (rule a)) why >>= (λ u. Ok a))) ≡ Ok x
-ruled_again {A} shape rule why x read kept =
-    let next : A → Result A ReportCode = λ a. refuse (not (rule a)) why >>= (λ u. Ok a) in
-    ap (λ r. r >>= next) read ∙ ap (λ t. refuse (not t) why >>= (λ u. Ok x)) kept
+pub ruled_again : {A B : Type 0} (shape : List (List ℕ) → Result A ReportCode) (rule : A → Bool) (made : A → B) (words : List (List ℕ)) (x : A) → shape words ≡ Ok x → rule x ≡ true → ruled_by shape rule made words ≡ Ok (made x)
+ruled_again shape rule made words x read kept = ok_then _ _ read (ap (λ t. refuse (not t) code.Limits >>= (λ u. Ok (made x))) kept)
+
+module _ {A B : Type 0} (shape : List (List ℕ) → Result A ReportCode) (rule : A → Bool) (made : A → B) (words : List (List ℕ)) (x : A) (tokens : AreTokens words) (read : shape words ≡ Ok x) (kept : rule x ≡ true) where
+  pub ruled_line : on_words (ruled_by shape rule made) (Some (row_of words)) ≡ Ok (made x)
+  ruled_line = on_words_again (ruled_by shape rule made) words (made x) tokens (ruled_again shape rule made words x read kept)
+
+  pub ruled_part : (n : ℕ) (rows : List Row) → Reads (line_part (on_words (ruled_by shape rule made)) (place n (row_of words ∷ rows))) (made x) rows
+  ruled_part n rows = words_part_again (ruled_by shape rule made) words (made x) n rows tokens (ruled_again shape rule made words x read kept)
 
 -- ---- the element before the next
 
@@ -57,7 +64,7 @@ comes_again before x more pairs = comes_from (last_or None before) x (next_follo
 
 -- the same by a part of each element
 pub part_comes_again : {A : Type 0} (part : A → Candidate) (before : List A) (x : A) (more : List A) → AllPairs Before (map part (before ++ x ∷ more)) → comes_next (last_or None (map part before)) (part x) ≡ true
-part_comes_again part before x more pairs = comes_again (map part before) (part x) (map part more) (subst (AllPairs Before) (map_both part before (x ∷ more)) pairs)
+part_comes_again part before x more pairs = comes_again (map part before) (part x) (map part more) (subst (AllPairs Before) (map-append part before (x ∷ more)) pairs)
 
 -- ---- what follows lines
 
@@ -87,28 +94,14 @@ module _ (q : QuestionValue) (ok : IsLimits q.limits) where
   pub refuted_tokens : (x : Candidate) → IsWithin q x → AreTokens (refuted_words x)
   refuted_tokens x w = tokens_from (refuted_words x) (omega arith) (refuted_are_words x (within_small x w))
 
-  abbrev refuted_rule : List Candidate → Candidate → Bool
-  refuted_rule before x = is_within q x && comes_next (last_or None before) x
-
-  abbrev refuted_check : List Candidate → List (List ℕ) → Result Candidate ReportCode
-  refuted_check before words = refuted_from words >>= (λ x. refuse (not (refuted_rule before x)) code.Limits >>= (λ u. Ok x))
-
   pub refuted_reads : ReadsLine (codes "refuted ") (refuted_line q) refuted_words (AreListed q)
   refuted_reads = record {
     line = λ before x more are.
         let w = next_has (IsWithin q) before x more are.within in
-        let next = comes_again before x more are.ascending in
-        let kept = and_from (is_within q x) (comes_next (last_or None before) x) ((decides_within q x).1 w) next in
-        on_words_again (refuted_check before) (refuted_words x) x (refuted_tokens x w)
-        (ruled_again (refuted_from (refuted_words x)) (refuted_rule before) code.Limits x (refuted_again x (within_small x w)) kept);
+        let kept = and_from (is_within q x) (comes_next (last_or None before) x) ((decides_within q x).1 w) (comes_again before x more are.ascending) in
+        ruled_line refuted_from (λ y. is_within q y && comes_next (last_or None before) y) (λ y. y) (refuted_words x) x (refuted_tokens x w) (refuted_again x (within_small x w)) kept;
     starts = λ x. refl;
   }
-
-  abbrev unknown_rule : List UnknownValue → UnknownValue → Bool
-  unknown_rule before u = is_within q u.candidate && comes_next (last_or None (map (λ v. v.candidate) before)) u.candidate && u.conflicts == q.limits.conflicts
-
-  abbrev unknown_check : List UnknownValue → List (List ℕ) → Result UnknownValue ReportCode
-  unknown_check before words = unknown_from words >>= (λ u. refuse (not (unknown_rule before u)) code.Limits >>= (λ v. Ok u))
 
   unknown_few : (u : UnknownValue) → IsUnknown q u → suc u.conflicts ≤ 2 ^ 64
   unknown_few u is =
@@ -124,10 +117,9 @@ module _ (q : QuestionValue) (ok : IsLimits q.limits) where
     line = λ before u more are.
         let is = next_has (IsUnknown q) before u more are.each in
         let few = unknown_few u is in
-        let next = part_comes_again (λ v. v.candidate) before u more are.listed.ascending in
-        let front = and_from (is_within q u.candidate) (comes_next (last_or None (map (λ v. v.candidate) before)) u.candidate) ((decides_within q u.candidate).1 is.within) next in
-        let kept = and_from (is_within q u.candidate && comes_next (last_or None (map (λ v. v.candidate) before)) u.candidate) (u.conflicts == q.limits.conflicts) front (eq-eqb u.conflicts q.limits.conflicts is.conflicts) in
-        on_words_again (unknown_check before) (unknown_words u) u (unknown_tokens u is)
-        (ruled_again (unknown_from (unknown_words u)) (unknown_rule before) code.Limits u (unknown_again u (within_small u.candidate is.within) (omega (arith, few))) kept);
+        let next : List UnknownValue → UnknownValue → Bool = λ vs v. is_within q v.candidate && comes_next (last_or None (map (λ y. y.candidate) vs)) v.candidate in
+        let front = and_from (is_within q u.candidate) (comes_next (last_or None (map (λ v. v.candidate) before)) u.candidate) ((decides_within q u.candidate).1 is.within) (part_comes_again (λ v. v.candidate) before u more are.listed.ascending) in
+        let kept = and_from (next before u) (u.conflicts == q.limits.conflicts) front (eq-eqb u.conflicts q.limits.conflicts is.conflicts) in
+        ruled_line unknown_from (λ v. next before v && v.conflicts == q.limits.conflicts) (λ v. v) (unknown_words u) u (unknown_tokens u is) (unknown_again u (within_small u.candidate is.within) (omega (arith, few))) kept;
     starts = λ u. refl;
   }

@@ -1,49 +1,38 @@
 -- A report's checks fail alike on texts whose lines are the same, so that no report has the lines up to one that fails.
-use Rattle.std.proofs.Common.{◌≡◌, ℕ, Bool, not, List, [], ◌∷◌, Option, Result, Ok, Err, refl, sym, ◌∙◌, arith}
+use Rattle.std.proofs.Common.{◌≡◌, ℕ, Bool, not, List, [], ◌∷◌, Result, Ok, Err, refl, sym, ◌∙◌, arith}
 use Rattle.std.specs.Prelude.{codes}
 use Rattle.text_lines.specs.Text.{Row, Place, rows_of, start}
 use Rattle.text_lines.specs.Check.{◌>>=◌, refuse, line_part}
-use Rattle.schedule.specs.Links.{GroupValue}
 use Rattle.outer_ports.specs.declared.part.Part.{Part}
 use Rattle.outer_ports.specs.declared.part.Part.TheVariants as part
 use Rattle.collective_spec.specs.declared.kind.Kind.{Kind}
 use Rattle.collective_spec.specs.declared.kind.Kind.TheVariants as kind
-use Rattle.collective_spec.specs.Patterns.{PatternValue}
-use Rattle.candidate_order.specs.Frontiers.{PointValue, FrontierValue}
 use Rattle.topology_text.specs.Value.{NamedTopologyValue, named_with}
 use Rattle.topology_text.specs.Reading.{header_line, nodes_line, groups_at, pattern_at}
 use Rattle.report_form.specs.declared.fault.ReportCode.{ReportCode}
 use Rattle.report_form.specs.declared.fault.ReportCode.TheVariants as code
 use Rattle.report_form.specs.Reports.{WordsValue, ReportValue, IsReport, parts_of, question_of}
 use Rattle.report_form.specs.Spelling.{report_text}
-use Rattle.report_form.specs.Lines.{fixed_line, no_line, parts_at, among}
+use Rattle.report_form.specs.Lines.{fixed_line, no_line, among}
 use Rattle.report_form.specs.SynthLine.{AskedValue, asked_line, root_of, words_from}
-use Rattle.report_form.specs.Points.{joined_point_at}
-use Rattle.report_form.specs.Reading.{part_bytes, frontier_at, frontiers_from, joined_at, body_of, version_line, is_same, report_of}
+use Rattle.report_form.specs.Reading.{part_bytes, frontiers_from, joined_at, body_of, version_line, is_same, report_of}
 use Rattle.report_form.specs.First.{Agrees}
 use Rattle.topology_text.proofs.Local.{Same}
-use Rattle.report_form.proofs.ReportTaken.{after_same, after_header, after_asked, after_head, report_at, report_is}
+use Rattle.report_form.proofs.ReportTaken.{report, after_root, after_same, after_header, after_asked, after_head, report_at, report_is}
 use Rattle.topology_text.proofs.SteadyParts.{steady_groups, steady_pattern}
 use Rattle.report_laws.proofs.Judged.{judged, steady_judged, judged_passed}
-use Rattle.topology_text.proofs.Steady.{Steady, Settles, steady_line, steady_found, steady_then, settles_ok, settles_then}
-use Rattle.report_laws.proofs.SteadyLists.{steady_among}
+use Rattle.topology_text.proofs.Steady.{Steady, Settles, steady_line, steady_found, settles_ok}
+use Rattle.report_laws.proofs.LocalLines.{same_for_each}
+use Rattle.report_laws.proofs.SteadyLists.{steady_next, settles_next, steady_among}
 use Rattle.report_laws.proofs.ReportAgain.{report_again}
 use Rattle.report_laws.proofs.LocalParts.{steady_joined_points, steady_frontier}
 
 -- ---- all parts
 
 module _ (words : WordsValue) (t : NamedTopologyValue) where
-  abbrev behind_rest : Part → FrontierValue → List (Part × FrontierValue) → Place → Result (List (Part × FrontierValue) × Place) (ReportCode × ℕ)
-  behind_rest x f rest p = Ok ((x, f) ∷ rest, p)
-
-  abbrev behind_first : Part → List Part → FrontierValue → Place → Result (List (Part × FrontierValue) × Place) (ReportCode × ℕ)
-  behind_first x parts f p = frontiers_from words t parts p >>= (λ rest. behind_rest x f rest.0 rest.1)
-
   steady_frontiers : (parts : List Part) → Steady (frontiers_from words t parts) (frontiers_from words t parts)
   steady_frontiers [] = steady_found []
-  steady_frontiers (x ∷ parts) =
-      steady_then (frontier_at t.names (question_of words t x) x) (frontier_at t.names (question_of words t x) x) (behind_first x parts) (behind_first x parts) (steady_frontier t.names (question_of words t x) x)
-      (λ f. steady_then (frontiers_from words t parts) (frontiers_from words t parts) (behind_rest x f) (behind_rest x f) (steady_frontiers parts) (λ rest. steady_found ((x, f) ∷ rest)))
+  steady_frontiers (x ∷ parts) = steady_next _ _ _ _ (steady_frontier t.names (question_of words t x) x) (λ f. steady_next _ _ _ _ (steady_frontiers parts) (λ rest. steady_found ((x, f) ∷ rest)))
 
   steady_joined : (k : Kind) → Steady (joined_at k words t) (joined_at k words t)
   steady_joined kind.Broadcast = steady_found []
@@ -54,97 +43,50 @@ module _ (words : WordsValue) (t : NamedTopologyValue) where
   steady_joined kind.Reduce = steady_found []
   steady_joined kind.Reducescatter = steady_found []
   steady_joined kind.Custom = steady_found []
-  steady_joined kind.Allreduce =
-      let points : Unit {0} → Place → Result (List PointValue × Place) (ReportCode × ℕ) = λ u p. parts_at (codes "point ") (joined_point_at t.names (question_of words t part.Joined)) p in
-      steady_then (line_part (fixed_line (part_bytes part.Joined))) (line_part (fixed_line (part_bytes part.Joined))) points points (steady_line (fixed_line (part_bytes part.Joined))) (λ u. steady_joined_points t.names (question_of words t part.Joined))
+  steady_joined kind.Allreduce = steady_next _ _ _ _ (steady_line (fixed_line (part_bytes part.Joined))) (λ u. steady_joined_points t.names (question_of words t part.Joined))
 
-  -- ---- the body
-
-  abbrev report : List (Part × FrontierValue) → List PointValue → ReportValue
-  report frontiers joined = record { words = words; topology = t; frontiers = frontiers; joined = joined }
-
-  abbrev at_end : List (Part × FrontierValue) → List PointValue → Unit {0} → Place → Result ReportValue (ReportCode × ℕ)
-  at_end fs js u p = Ok (report fs js)
-
-  abbrev behind_end : List (Part × FrontierValue) → List PointValue → Unit {0} → Place → Result ReportValue (ReportCode × ℕ)
-  behind_end fs js u p = line_part no_line p >>= (λ v. at_end fs js v.0 v.1)
-
-  abbrev behind_joined : List (Part × FrontierValue) → List PointValue → Place → Result ReportValue (ReportCode × ℕ)
-  behind_joined fs js p = line_part (fixed_line (codes "end")) p >>= (λ e. behind_end fs js e.0 e.1)
-
-  abbrev behind_frontiers : List (Part × FrontierValue) → Place → Result ReportValue (ReportCode × ℕ)
-  behind_frontiers fs p = joined_at words.collective.kind words t p >>= (λ j. behind_joined fs j.0 j.1)
-
-  pub settles_body : Settles (body_of words t) (body_of words t)
+  settles_body : Settles (body_of words t) (body_of words t)
   unfolding body_of
   settles_body =
-      settles_then (frontiers_from words t (parts_of words.collective.kind)) (frontiers_from words t (parts_of words.collective.kind)) behind_frontiers behind_frontiers (steady_frontiers (parts_of words.collective.kind))
-      (λ fs. settles_then (joined_at words.collective.kind words t) (joined_at words.collective.kind words t) (behind_joined fs) (behind_joined fs) (steady_joined words.collective.kind)
-      (λ js. settles_then (line_part (fixed_line (codes "end"))) (line_part (fixed_line (codes "end"))) (behind_end fs js) (behind_end fs js) (steady_line (fixed_line (codes "end")))
-      (λ u. settles_then (line_part no_line) (line_part no_line) (at_end fs js) (at_end fs js) (steady_line no_line)
-      (λ v. settles_ok (λ p. report fs js) (λ p. report fs js)))))
+      settles_next _ _ _ _ (steady_frontiers (parts_of words.collective.kind)) (λ fs. settles_next _ _ _ _ (steady_joined words.collective.kind)
+      (λ js. settles_next _ _ _ _ (steady_line (fixed_line (codes "end"))) (λ u. settles_next _ _ _ _ (steady_line no_line) (λ v. settles_ok (λ p. report words t fs js) (λ p. report words t fs js)))))
 
 -- ---- the whole
-
--- what is left of the checks, where a fault is looked for among these rows
-abbrev behind_pattern : AskedValue → ℕ → List (List ℕ) → List GroupValue → Option PatternValue → Place → Result ReportValue (ReportCode × ℕ)
-behind_pattern a root names groups c p = body_of (words_from a root) (named_with names groups c) p
-
-abbrev behind_groups : List Row → Bool → AskedValue → ℕ → List (List ℕ) → List GroupValue → Place → Result ReportValue (ReportCode × ℕ)
-behind_groups rows b a root names groups p = among rows (pattern_at b names p) >>= (λ c. behind_pattern a root names groups c.0 c.1)
-
-abbrev behind_root : List Row → Bool → AskedValue → List (List ℕ) × ℕ → Place → Result ReportValue (ReportCode × ℕ)
-behind_root rows b a z p = among rows (groups_at z.0 p) >>= (λ g. behind_groups rows b a z.1 z.0 g.0 g.1)
 
 -- the root is told at the line of the names
 abbrev root_among : AskedValue → List (List ℕ) → Result ℕ ReportCode
 root_among a names = root_of names a.root
 
-abbrev behind_names : List Row → Bool → AskedValue → Bool × Unit {0} → Place → Result ReportValue (ReportCode × ℕ)
-behind_names rows b a v p = judged nodes_line (root_among a) rows p >>= (λ z. behind_root rows b a z.0 z.1)
-
 -- the topology is of the report's version
 abbrev same_version : Bool → Bool → Result (Unit {0}) ReportCode
 same_version b h = refuse (not (is_same h b)) code.BadLine
 
-abbrev behind_asked : List Row → Bool → AskedValue → Place → Result ReportValue (ReportCode × ℕ)
-behind_asked rows b a p = judged header_line (same_version b) rows p >>= (λ h. behind_names rows b a h.0 h.1)
+-- what is left of the checks, where a fault is looked for among these rows
+abbrev behind_names : List Row → Bool → AskedValue → Place → Result ReportValue (ReportCode × ℕ)
+behind_names rows b a p = judged nodes_line (root_among a) rows p >>= (λ z. after_root rows b a (z.0.0, z.1) z.0.1)
 
-abbrev behind_version : List Row → Bool → Place → Result ReportValue (ReportCode × ℕ)
-behind_version rows b p = line_part (asked_line b) p >>= (λ a. behind_asked rows b a.0 a.1)
+abbrev behind_asked : List Row → Bool → AskedValue → Place → Result ReportValue (ReportCode × ℕ)
+behind_asked rows b a p = judged header_line (same_version b) rows p >>= (λ h. behind_names rows b a h.1)
 
 abbrev in_parts : List Row → Place → Result ReportValue (ReportCode × ℕ)
-in_parts rows p = line_part version_line p >>= (λ h. behind_version rows h.0 h.1)
+in_parts rows p = line_part version_line p >>= (λ h. line_part (asked_line h.0) h.1 >>= (λ a. behind_asked rows h.0 a.0 a.1))
 
-pub settles_report : (rows others : List Row) → Settles (in_parts rows) (in_parts others)
+settles_report : (rows others : List Row) → Settles (in_parts rows) (in_parts others)
 settles_report rows others =
-    settles_then (line_part version_line) (line_part version_line) (behind_version rows) (behind_version others) (steady_line version_line)
-    (λ b. settles_then (line_part (asked_line b)) (line_part (asked_line b)) (behind_asked rows b) (behind_asked others b) (steady_line (asked_line b))
-    (λ a. settles_then (judged header_line (same_version b) rows) (judged header_line (same_version b) others) (behind_names rows b a) (behind_names others b a) (steady_judged header_line (same_version b) rows others)
-    (λ v. settles_then (judged nodes_line (root_among a) rows) (judged nodes_line (root_among a) others) (behind_root rows b a) (behind_root others b a) (steady_judged nodes_line (root_among a) rows others)
-    (λ z. settles_then (λ p. among rows (groups_at z.0 p)) (λ p. among others (groups_at z.0 p)) (behind_groups rows b a z.1 z.0) (behind_groups others b a z.1 z.0) (steady_among rows others (groups_at z.0) (groups_at z.0) (steady_groups z.0))
-    (λ groups. settles_then (λ p. among rows (pattern_at b z.0 p)) (λ p. among others (pattern_at b z.0 p)) (behind_pattern a z.1 z.0 groups) (behind_pattern a z.1 z.0 groups) (steady_among rows others (pattern_at b z.0) (pattern_at b z.0) (steady_pattern z.0 b))
+    settles_next _ _ _ _ (steady_line version_line) (λ b. settles_next _ _ _ _ (steady_line (asked_line b))
+    (λ a. settles_next _ _ _ _ (steady_judged header_line (same_version b) rows others) (λ v. settles_next _ _ _ _ (steady_judged nodes_line (root_among a) rows others)
+    (λ z. settles_next _ _ _ _ (steady_among rows others (groups_at z.0) (groups_at z.0) (steady_groups z.0)) (λ groups. settles_next _ _ _ _ (steady_among rows others (pattern_at b z.0) (pattern_at b z.0) (steady_pattern z.0 b))
     (λ c. settles_body (words_from a z.1) (named_with z.0 groups c)))))))
 
 -- ---- as the reader is written
 
-same_for_each : {X B E : Type 0} (r : Result X E) (f g : X → Result B E) → ((x : X) → f x ≡ g x) → (r >>= f) ≡ (r >>= g)
-same_for_each (Ok x) f g each = each x
-same_for_each (Err e) f g each = refl
-
-names_is : (rows : List Row) (b : Bool) (a : AskedValue) (p : Place) (u : Bool × Unit {0}) → after_same rows b a p tt ≡ behind_names rows b a u p
-names_is rows b a p u = judged_passed (root_among a) p.number (among rows (line_part nodes_line p)) (λ names root q. behind_root rows b a (names, root) q)
-
 header_is : (rows : List Row) (b : Bool) (a : AskedValue) (p : Place) → (among rows (line_part header_line p) >>= after_header rows b a p.number) ≡ behind_asked rows b a p
 header_is rows b a p =
     judged_passed (same_version b) p.number (among rows (line_part header_line p)) (λ h u q. after_same rows b a q tt)
-    ∙ same_for_each (judged header_line (same_version b) rows p) (λ z. after_same rows b a z.1 tt) (λ z. behind_names rows b a z.0 z.1) (λ z. names_is rows b a z.1 z.0)
+    ∙ same_for_each (judged header_line (same_version b) rows p) (λ z. after_same rows b a z.1 tt) (λ z. behind_names rows b a z.1) (λ z. judged_passed (root_among a) z.1.number (among rows (line_part nodes_line z.1)) (λ names root q. after_root rows b a (names, q) root))
 
-pub parts_is : (rows : List Row) (p : Place) → report_at rows p ≡ in_parts rows p
-parts_is rows p =
-    same_for_each (line_part version_line p) (after_head rows) (λ h. behind_version rows h.0 h.1)
-    (λ h. same_for_each (line_part (asked_line h.0) h.1) (after_asked rows h.0) (λ a. behind_asked rows h.0 a.0 a.1)
-    (λ a. header_is rows h.0 a.0 a.1))
+parts_is : (rows : List Row) (p : Place) → report_at rows p ≡ in_parts rows p
+parts_is rows p = same_for_each (line_part version_line p) (after_head rows) _ (λ h. same_for_each (line_part (asked_line h.0) h.1) (after_asked rows h.0) _ (λ a. header_is rows h.0 a.0 a.1))
 
 in_parts_is : (text : List ℕ) → report_of text ≡ in_parts (rows_of text) (start text)
 in_parts_is text = report_is text ∙ parts_is (rows_of text) (start text)

@@ -1,14 +1,13 @@
 -- The lines of points that are spelled are read.
-use Rattle.std.proofs.Common.{◌≡◌, ℕ, ◌+◌, ◌≤◌, Bool, true, ◌&&◌, not, List, [], ◌∷◌, ◌++◌, map, length, Option, None, Some, Result, Ok, ◌⊎◌, inl, inr, refl, sym, ap, ◌∙◌, subst, arith}
+use Rattle.std.proofs.Common.{◌≡◌, ℕ, ◌≤◌, Bool, true, ◌&&◌, List, [], ◌∷◌, ◌++◌, map, length, Option, None, Some, Result, Ok, ◌⊎◌, inl, inr, refl, sym, subst, arith}
 use Rattle.std.specs.Prelude.{codes, All, IfSome}
 use Rattle.std.specs.List.{last_or, AllByRecursion}
 use Rattle.std.proofs.lemmas.Bool.{and_from}
-use Rattle.text_lines.specs.Text.{Row, Place}
-use Rattle.text_lines.specs.Check.{◌>>=◌, refuse}
+use Rattle.text_lines.specs.Text.{Row}
+use Rattle.text_lines.specs.Check.{◌>>=◌, line_part}
 use Rattle.text_lines.proofs.Distinct.{next_has}
 use Rattle.text_lines.proofs.Rows.{AreTokens, row_of}
 use Rattle.text_lines.proofs.Words.{tokens_from}
-use Rattle.schedule.specs.declared.hop.Hop.{Hop}
 use Rattle.schedule.specs.Sends.{IsStep, is_hop_below}
 use Rattle.collective_spec.specs.Collectives.{chunks_in, spec_of}
 use Rattle.collective_spec.specs.Patterns.{PatternValue, IsPattern}
@@ -23,17 +22,15 @@ use Rattle.topology_text.specs.Value.{NamedTopologyValue}
 use Rattle.topology_text.specs.Names.{AreNames}
 use Rattle.topology_text.proofs.Groups.{place}
 use Rattle.report_form.specs.declared.fault.ReportCode.{ReportCode}
-use Rattle.report_form.specs.declared.fault.ReportCode.TheVariants as code
 use Rattle.report_form.specs.Reports.{WordsValue, HasSchedule, IsPoint, kind_of}
 use Rattle.report_form.specs.Spelling.{rounds_words, send_words, point_words, point_lines}
 use Rattle.report_form.specs.Tests.{is_within, comes_next}
-use Rattle.report_form.specs.Lines.{lines_at}
-use Rattle.report_form.specs.Points.{HeadValue, head_from, rounds_from, are_rounds, send_line, schedule_at, frontier_point_at}
+use Rattle.report_form.specs.Points.{HeadValue, head_from, head_line, rounds_from, are_rounds, schedule_at, frontier_point_at}
 use Rattle.report_form.proofs.Tested.{decides_within}
-use Rattle.report_form.proofs.PointsTaken.{AreSends, ArePoints, rounds_check}
-use Rattle.report_laws.proofs.LinesAgain.{words_part_again, Reads, Ends, lines_again, ReadsPart}
+use Rattle.report_form.proofs.PointsTaken.{schedule_lines, AreSends, ArePoints}
+use Rattle.report_laws.proofs.LinesAgain.{Reads, reads_here, reads_then, line_again, Ends, lines_again, ReadsPart}
 use Rattle.report_laws.proofs.ShapesAgain.{MarkIsSmall, head_again, head_are_words, rounds_again}
-use Rattle.report_laws.proofs.ListsAgain.{ruled_again, part_comes_again, within_small}
+use Rattle.report_laws.proofs.ListsAgain.{ruled_line, ruled_part, part_comes_again, within_small}
 use Rattle.report_laws.proofs.SendsAgain.{rounds_small, rounds_kept, rounds_tokens, send_reads, sends_are_tokens}
 
 -- ---- a schedule behind the head of its point
@@ -47,9 +44,6 @@ base_of words t x given = by_pattern t.custom given
 
 abbrev pub head_of : PointValue → HeadValue
 head_of p = record { candidate = p.candidate; mark = p.mark }
-
-abbrev pub schedule_lines : List (List ℕ) → PointValue → List (List (List ℕ))
-schedule_lines names p = rounds_words p.schedule.rounds ∷ map (send_words names) p.schedule.sends
 
 module _ (names : List (List ℕ)) (q : QuestionValue) (as_many : length names ≡ q.topology.nodes) (named : AreNames names) (ok : IsLimits q.limits) (base : FewBase q.spec) where
   abbrev chunks_at : PointValue → ℕ
@@ -76,31 +70,30 @@ module _ (names : List (List ℕ)) (q : QuestionValue) (as_many : length names �
   pub schedule_again : (p : PointValue) (n : ℕ) (rest : List Row) → HasSchedule q p → p.candidate.c ≤ 16 → Ends (codes "send ") rest → Reads (schedule_at names q (head_of p) (place n (map row_of (schedule_lines names p) ++ rest))) p rest
   unfolding schedule_at
   schedule_again p n rest has small ends =
-      let check = send_line names (chunks_at p) p.candidate.s in
       let rounds : List ℕ = p.schedule.rounds in
-      let behind : List Row = map row_of (map (send_words names) p.schedule.sends) ++ rest in
-      let finish : List Hop × Place → Result (PointValue × Place) (ReportCode × ℕ) = λ z. Ok (record { candidate = p.candidate; schedule = record { rounds = rounds; sends = z.0 }; mark = p.mark }, z.1) in
-      let next : List ℕ × Place → Result (PointValue × Place) (ReportCode × ℕ) = λ y. lines_at (codes "send ") check y.1 >>= (λ z. Ok (record { candidate = p.candidate; schedule = record { rounds = y.0; sends = z.0 }; mark = p.mark }, z.1)) in
-      let first = words_part_again (rounds_check p.candidate) (rounds_words rounds) rounds n behind (rounds_tokens rounds has.schedule.rounds)
-      (ruled_again (rounds_from (rounds_words rounds)) (are_rounds p.candidate) code.Limits rounds (rounds_again rounds (rounds_small rounds has.schedule.rounds)) (rounds_kept p.candidate rounds has.steps has.schedule.rounds has.rounds)) in
-      let sends = lines_again (codes "send ") check (send_words names) (AreSends names (chunks_at p) p.candidate.s) (send_reads names named (chunks_at p) p.candidate.s (few_chunks_at p small) (few_steps_at p has)) [] p.schedule.sends (n + 1) rest (sends_are p has) ends in
-      record { number = sends.number; is = ap (λ r. r >>= next) first ∙ ap (λ r. r >>= finish) sends.is }
+      let kept = rounds_kept p.candidate rounds has.steps has.schedule.rounds has.rounds in
+      reads_then _ _ (ruled_part rounds_from (are_rounds p.candidate) (λ rs. rs) (rounds_words rounds) rounds (rounds_tokens rounds has.schedule.rounds) (rounds_again rounds (rounds_small rounds has.schedule.rounds)) kept n _)
+      (λ k. reads_then _ _ (lines_again (codes "send ") _ (send_words names) (AreSends names (chunks_at p) p.candidate.s) (send_reads names named (chunks_at p) p.candidate.s (few_chunks_at p small) (few_steps_at p has)) [] p.schedule.sends k rest (sends_are p has) ends)
+      (λ m. reads_here p m rest))
 
   pub schedule_are_tokens : (p : PointValue) → HasSchedule q p → p.candidate.c ≤ 16 → AllByRecursion AreTokens (schedule_lines names p)
   schedule_are_tokens p has small =
       let are = sends_are p has in
       (rounds_tokens p.schedule.rounds has.schedule.rounds, sends_are_tokens names named (chunks_at p) p.candidate.s (few_chunks_at p small) (few_steps_at p has) p.schedule.sends are.steps_are are.below)
 
+  -- a part that begins with the line of its head
+  pub headed_reads : (check : List PointValue → Option Row → Result HeadValue ReportCode) (Q : List PointValue → Type 0)
+      → ((before : List PointValue) (p : PointValue) (more : List PointValue) → Q (before ++ p ∷ more) → (check before (Some (row_of (point_words p))) ≡ Ok (head_of p)) × HasSchedule q p × (p.candidate.c ≤ 16))
+      → ReadsPart (codes "point ") (λ before p. line_part (check before) p >>= (λ h. schedule_at names q h.0 h.1)) (point_lines names) Q (Ends (codes "send "))
+  headed_reads check Q heads = record {
+    part = λ before p more n rest are ends.
+        let (read, has, few) = heads before p more are in
+        reads_then _ _ (line_again (check before) (row_of (point_words p)) (head_of p) n (map row_of (schedule_lines names p) ++ rest) read) (λ k. schedule_again p k rest has few ends);
+    starts = λ p rest. refl;
+    stops = λ p rest. refl;
+  }
+
   -- ---- points of a frontier
-
-  abbrev solved_by : List PointValue → List Candidate
-  solved_by ps = map (λ p. p.candidate) ps
-
-  abbrev head_rule : List PointValue → HeadValue → Bool
-  head_rule before h = is_within q h.candidate && comes_next (last_or None (solved_by before)) h.candidate
-
-  abbrev head_check : List PointValue → List (List ℕ) → Result HeadValue ReportCode
-  head_check before words = head_from words >>= (λ h. refuse (not (head_rule before h)) code.Limits >>= (λ u. Ok h))
 
   few_chunks : (x : Candidate) → IsWithin q x → x.c ≤ 16
   few_chunks x w =
@@ -122,20 +115,12 @@ module _ (names : List (List ℕ)) (q : QuestionValue) (as_many : length names �
 
   pub point_reads : ReadsPart (codes "point ") (frontier_point_at names q) (point_lines names) (ArePoints names q as_many) (Ends (codes "send "))
   unfolding frontier_point_at
-  point_reads = record {
-    part = λ before p more n rest are ends.
-        let is = next_has (IsPoint q) before p more are.each in
-        let next = part_comes_again (λ y. y.candidate) before p more are.listed.ascending in
-        let kept = and_from (is_within q p.candidate) (comes_next (last_or None (solved_by before)) p.candidate) ((decides_within q p.candidate).1 is.within) next in
-        let behind : List Row = map row_of (schedule_lines names p) ++ rest in
-        let after : HeadValue × Place → Result (PointValue × Place) (ReportCode × ℕ) = λ h. schedule_at names q h.0 h.1 in
-        let first = words_part_again (head_check before) (point_words p) (head_of p) n behind (head_tokens p is)
-        (ruled_again (head_from (point_words p)) (head_rule before) code.Limits (head_of p) (head_again p.candidate p.mark (within_small q ok p.candidate is.within) is.mark) kept) in
-        let rest_read = schedule_again p (n + 1) rest is.has (few_chunks p.candidate is.within) ends in
-        record { number = rest_read.number; is = ap (λ r. r >>= after) first ∙ rest_read.is };
-    starts = λ p rest. refl;
-    stops = λ p rest. refl;
-  }
+  point_reads = headed_reads (λ before. head_line q (last_or None (map (λ y. y.candidate) before))) (ArePoints names q as_many)
+      (λ before p more are.
+      let is = next_has (IsPoint q) before p more are.each in
+      let rule : HeadValue → Bool = λ h. is_within q h.candidate && comes_next (last_or None (map (λ y. y.candidate) before)) h.candidate in
+      let kept = and_from (is_within q p.candidate) (comes_next (last_or None (map (λ y. y.candidate) before)) p.candidate) ((decides_within q p.candidate).1 is.within) (part_comes_again (λ y. y.candidate) before p more are.listed.ascending) in
+      (ruled_line head_from rule (λ h. h) (point_words p) (head_of p) (head_tokens p is) (head_again p.candidate p.mark (within_small q ok p.candidate is.within) is.mark) kept, is.has, few_chunks p.candidate is.within))
 
   pub point_are_tokens : (p : PointValue) → IsPoint q p → AllByRecursion AreTokens (point_lines names p)
   point_are_tokens p is = (head_tokens p is, schedule_are_tokens p is.has (few_chunks p.candidate is.within))

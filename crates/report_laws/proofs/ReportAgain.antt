@@ -1,9 +1,10 @@
 -- The text of a valid report is read as that report.
-use Rattle.std.proofs.Common.{◌≡◌, ℕ, ◌+◌, Bool, true, false, not, List, [], ◌∷◌, ◌++◌, map, length, Option, None, Some, Result, Ok, refl, sym, ap, ◌∙◌, subst}
+use Rattle.std.proofs.Common.{◌≡◌, ℕ, ◌+◌, Bool, true, false, not, List, [], ◌∷◌, ◌++◌, map, length, Option, None, Some, Ok, refl, sym, ap, ◌∙◌, subst}
 use Rattle.std.specs.Prelude.{codes, flat_map, is_some}
 use Rattle.std.proofs.lemmas.Bool.{not-true}
-use Rattle.text_lines.specs.Text.{Row, Place, rows_of}
-use Rattle.text_lines.specs.Check.{◌>>=◌, refuse, at_line, line_part}
+use Rattle.std.proofs.lemmas.List.{map-append}
+use Rattle.text_lines.specs.Text.{Row, rows_of}
+use Rattle.text_lines.specs.Check.{refuse, at_line, line_part}
 use Rattle.text_lines.proofs.Checks.{ok_is}
 use Rattle.text_lines.proofs.Rows.{row_of}
 use Rattle.outer_ports.specs.declared.part.Part.{Part}
@@ -11,7 +12,6 @@ use Rattle.collective_spec.specs.declared.kind.Kind.{Kind}
 use Rattle.collective_spec.specs.Kinds.{takes_root, is_custom}
 use Rattle.collective_spec.specs.Patterns.{PatternValue}
 use Rattle.collective_spec.specs.Collectives.{fits_kind}
-use Rattle.candidate_order.specs.Frontiers.{PointValue, FrontierValue}
 use Rattle.topology_text.specs.Value.{NamedTopologyValue, named_with}
 use Rattle.topology_text.specs.Spelling.{version_word, header_words, nodes_words, group_words, custom_lines, lines_of}
 use Rattle.topology_text.specs.Reading.{groups_at}
@@ -22,14 +22,15 @@ use Rattle.topology_text.proofs.Patterns.{pattern_again, pattern_ends}
 use Rattle.topology_text.proofs.Laws.{names_are, groups_are, pattern_is, rows_same, header_part_again, nodes_part_again}
 use Rattle.report_form.specs.declared.fault.ReportCode.{ReportCode}
 use Rattle.report_form.specs.declared.fault.ReportCode.TheVariants as code
-use Rattle.report_form.specs.Reports.{WordsValue, ReportValue, IsReport, parts_of}
+use Rattle.report_form.specs.Reports.{WordsValue, ReportValue, IsReport}
 use Rattle.report_form.specs.Spelling.{synth_words, frontier_lines, joined_lines, body_lines, report_lines, report_text}
-use Rattle.report_form.specs.Lines.{fixed_line, no_line, among}
+use Rattle.report_form.specs.Lines.{among}
 use Rattle.report_form.specs.SynthLine.{AskedValue}
-use Rattle.report_form.specs.Reading.{frontiers_from, joined_at, body_of, version_line, is_same, report_of}
-use Rattle.report_form.proofs.LineTaken.{map_both}
-use Rattle.report_form.proofs.ReportTaken.{head_words, head_spelled, after_pattern, after_groups, after_root, after_names, after_same, after_header, after_asked, after_head, report_at, report_is, report, end_words}
-use Rattle.report_form.proofs.FrontiersTaken.{rows_split}
+use Rattle.report_form.specs.Reading.{frontiers_from, body_of, version_line, is_same, report_of}
+use Rattle.report_form.proofs.ReportTaken.{head_words, head_spelled, report_at, report_is, end_words}
+use Rattle.report_form.proofs.Gives.{rows_split}
+use Rattle.report_laws.proofs.TokensAgain.{ok_then}
+use Rattle.report_laws.proofs.LinesAgain.{Reads}
 use Rattle.report_laws.proofs.FrontiersAgain.{end_ends, groups_end, frontiers_end, frontiers_again, joined_again, joined_end}
 use Rattle.report_laws.proofs.SynthLineAgain.{asked_of, asked_part_again, root_of_again}
 use Rattle.report_laws.proofs.SpelledTokens.{rows_of_report}
@@ -40,22 +41,12 @@ use Rattle.report_laws.proofs.SpelledTokens.{rows_of_report}
 abbrev pub behind_topology : ReportValue → List (List (List ℕ))
 behind_topology r = body_lines r ++ end_words ∷ []
 
--- what is left of the checks after the joined points, and after the frontiers
-abbrev after_joined : WordsValue → NamedTopologyValue → List (Part × FrontierValue) → List PointValue × Place → Result ReportValue (ReportCode × ℕ)
-after_joined words t fs j = line_part (fixed_line (codes "end")) j.1 >>= (λ e. line_part no_line e.1 >>= (λ u. Ok (report words t fs j.0)))
-
-abbrev after_frontiers : WordsValue → NamedTopologyValue → List (Part × FrontierValue) × Place → Result ReportValue (ReportCode × ℕ)
-after_frontiers words t f = joined_at words.collective.kind words t f.1 >>= after_joined words t f.0
-
-last_again : (words : WordsValue) (t : NamedTopologyValue) (fs : List (Part × FrontierValue)) (js : List PointValue) (n : ℕ) → after_joined words t fs (js, place n (row_of end_words ∷ [])) ≡ Ok (report words t fs js)
-last_again words t fs js n = refl
-
 -- the frontiers' lines, those of the joined points, and the end
 body_rows : (r : ReportValue) → map row_of (behind_topology r) ≡ map row_of (flat_map (frontier_lines r.topology.names) r.frontiers) ++ (map row_of (joined_lines r.topology.names r.words.collective.kind r.joined) ++ row_of end_words ∷ [])
 body_rows r =
     let frontiers = flat_map (frontier_lines r.topology.names) r.frontiers in
     let joined = joined_lines r.topology.names r.words.collective.kind r.joined in
-    map_both row_of (frontiers ++ joined) (end_words ∷ []) ∙ rows_split frontiers joined (row_of end_words ∷ [])
+    map-append row_of (frontiers ++ joined) (end_words ∷ []) ∙ rows_split frontiers joined (row_of end_words ∷ [])
 
 pub body_again : (r : ReportValue) (n : ℕ) → IsReport r → body_of r.words r.topology (place n (map row_of (behind_topology r))) ≡ Ok r
 unfolding body_of
@@ -70,11 +61,8 @@ body_again r n is =
     let first : List Row = map row_of (flat_map (frontier_lines t.names) r.frontiers) ++ second in
     let fs = frontiers_again words t as_many named ok is.topology.custom r.frontiers n second is.frontiers (joined_end words t as_many named ok is.topology.custom words.collective.kind r.joined last (end_ends [])) in
     let js = joined_again words t as_many named ok is.topology.custom words.collective.kind r.joined fs.number last is.joined is.only_allreduce (end_ends []) in
-    ap (λ rows. frontiers_from words t (parts_of words.collective.kind) (place n rows) >>= after_frontiers words t) (body_rows r)
-    ∙ ap (λ parts. frontiers_from words t parts (place n first) >>= after_frontiers words t) (sym is.parts)
-    ∙ ap (λ x. x >>= after_frontiers words t) fs.is
-    ∙ ap (λ x. x >>= after_joined words t r.frontiers) js.is
-    ∙ last_again words t r.frontiers r.joined js.number
+    let start = subst (λ (parts : List Part). Reads (frontiers_from words t parts (place n first)) r.frontiers second) is.parts fs in
+    ap (λ rows. body_of words t (place n rows)) (body_rows r) ∙ ok_then _ _ start.is (ok_then _ _ js.is refl)
 
 -- no line behind the topology begins a group
 body_ends : (r : ReportValue) → IsReport r → EndsGroups (map row_of (behind_topology r))
@@ -111,7 +99,7 @@ report_rows_are r =
     let groups : List (List (List ℕ)) = map (group_words t.names) t.topology.groups in
     let custom : List (List (List ℕ)) = custom_lines t.names t.custom in
     let last : List Row = map row_of (behind_topology r) in
-    ap (λ rows. row_of (codes "sccl" ∷ version_word t.custom ∷ []) ∷ row_of (synth_words t.names r.words) ∷ rows) (map_both row_of (lines_of t) (behind_topology r))
+    ap (λ rows. row_of (codes "sccl" ∷ version_word t.custom ∷ []) ∷ row_of (synth_words t.names r.words) ∷ rows) (map-append row_of (lines_of t) (behind_topology r))
     ∙ ap (λ ws. row_of ws ∷ row_of (synth_words t.names r.words) ∷ (map row_of (lines_of t) ++ last)) (sym (head_spelled t.custom))
     ∙ ap (λ rows. row_of (head_words (is_some t.custom)) ∷ row_of (synth_words t.names r.words) ∷ row_of (header_words t.custom) ∷ row_of (nodes_words t.names) ∷ rows) (rows_split groups custom last)
     ∙ ap (λ ws. row_of (head_words (is_some t.custom)) ∷ row_of (synth_words t.names r.words) ∷ row_of ws ∷ row_of (nodes_words t.names) ∷ (map row_of groups ++ (map row_of custom ++ last))) (head_is t.custom)
@@ -131,21 +119,18 @@ rows_read rows r is =
     let fourth : List Row = map row_of (map (group_words names) groups) ++ fifth in
     let third : List Row = row_of (nodes_words names) ∷ fourth in
     let second : List Row = row_of (spelling.head_words b) ∷ third in
-    let at : ℕ = 1 + 1 + 1 + 1 + 1 + length groups in
+    let said = asked_part_again b names words (1 + 1) second (kind_of_pattern words.collective.kind t.custom is.pattern) ok is.words in
+    let front : ℕ = said.number + 1 + 1 in
+    let at : ℕ = front + length groups in
     let behind : ℕ = at + length (custom_lines names t.custom) in
     let same : named_with names groups t.custom ≡ t = λ i. record { names = names; topology = record { nodes = is.topology.as_many i; groups = groups }; custom = t.custom } in
-    let read : groups_at names (place (1 + 1 + 1 + 1 + 1) fourth) ≡ Ok (groups, place at fifth) =
-    ap (λ x. groups_at names (place (1 + 1 + 1 + 1 + 1) (x ++ fifth))) (sym (rows_same names groups)) ∙ groups_again names [] groups (1 + 1 + 1 + 1 + 1) fifth (names_are names ok) (groups_are t is.topology) (pattern_ends names t.custom last (body_ends r is)) in
-    ap (λ x. x >>= after_head rows) (version_again b 1 (row_of (synth_words names words) ∷ second))
-    ∙ ap (λ x. x >>= after_asked rows b) (asked_part_again b names words (1 + 1) second (kind_of_pattern words.collective.kind t.custom is.pattern) ok is.words)
-    ∙ ap (λ x. among rows x >>= after_header rows b a (1 + 1 + 1)) (header_part_again b (1 + 1 + 1) third)
-    ∙ ap (λ x. at_line (1 + 1 + 1) (refuse (not x) code.BadLine) >>= after_same rows b a (place (1 + 1 + 1 + 1) third)) (same_itself b)
-    ∙ ap (λ x. among rows x >>= after_names rows b a (1 + 1 + 1 + 1)) (nodes_part_again (1 + 1 + 1 + 1) names fourth ok)
-    ∙ ap (λ x. at_line (1 + 1 + 1 + 1) x >>= after_root rows b a (names, place (1 + 1 + 1 + 1 + 1) fourth)) (root_of_again (takes_root words.collective.kind) names words.collective.root ok is.words.root is.words.no_root)
-    ∙ ap (λ x. among rows x >>= after_groups rows b a words.collective.root names) read
-    ∙ ap (λ x. among rows x >>= after_pattern a words.collective.root names groups) (pattern_again names t.custom at last (names_are names ok) (pattern_is t is.topology))
-    ∙ ap (λ x. body_of words x (place behind last)) same
-    ∙ body_again r behind is
+    let read : groups_at names (place front fourth) ≡ Ok (groups, place at fifth) =
+    ap (λ x. groups_at names (place front (x ++ fifth))) (sym (rows_same names groups)) ∙ groups_again names [] groups front fifth (names_are names ok) (groups_are t is.topology) (pattern_ends names t.custom last (body_ends r is)) in
+    ok_then _ _ (version_again b 1 (row_of (synth_words names words) ∷ second)) (ok_then _ _ said.is
+    (ok_then _ _ (ap (among rows) (header_part_again b said.number third)) (ok_then _ _ (ap (λ x. at_line said.number (refuse (not x) code.BadLine)) (same_itself b))
+    (ok_then _ _ (ap (among rows) (nodes_part_again (said.number + 1) names fourth ok)) (ok_then _ _ (ap (at_line (said.number + 1)) (root_of_again (takes_root words.collective.kind) names words.collective.root ok is.words.root is.words.no_root))
+    (ok_then _ _ (ap (among rows) read) (ok_then _ _ (ap (among rows) (pattern_again names t.custom at last (names_are names ok) (pattern_is t is.topology)))
+    (ap (λ x. body_of words x (place behind last)) same ∙ body_again r behind is))))))))
 
 pub report_again : (r : ReportValue) → IsReport r → report_of (report_text r) ≡ Ok r
 report_again r is =

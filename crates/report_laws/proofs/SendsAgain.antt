@@ -1,10 +1,9 @@
 -- The lines of rounds and of sends that are spelled are read.
-use Rattle.std.proofs.Common.{◌≡◌, ℕ, ◌≤◌, Bool, true, ◌&&◌, not, ltb, List, [], ◌∷◌, map, length, sum, Option, None, Some, IfSome, Result, Ok, refl, arith}
+use Rattle.std.proofs.Common.{◌≡◌, ℕ, ◌≤◌, Bool, true, ◌&&◌, ltb, List, [], ◌∷◌, map, length, sum, Option, None, Some, IfSome, refl, arith}
 use Rattle.std.specs.Prelude.{◌==◌, codes, nat_le, nat_lt, All}
 use Rattle.std.specs.List.{last_or, list_all, AllByRecursion}
 use Rattle.std.proofs.lemmas.Bool.{and_parts, and_from, eq-eqb, le-leb, ltb-true}
 use Rattle.std.proofs.lemmas.List.Elements.{All-head, All-tail, All-weaker}
-use Rattle.text_lines.specs.Check.{◌>>=◌, refuse}
 use Rattle.text_lines.proofs.Distinct.{next_has}
 use Rattle.text_lines.proofs.Rows.{AreTokens}
 use Rattle.text_lines.proofs.Words.{tokens_from}
@@ -12,15 +11,13 @@ use Rattle.schedule.specs.declared.hop.Hop.{Hop}
 use Rattle.schedule.specs.Sends.{IsRound, IsStep, is_hop_below}
 use Rattle.candidate_order.specs.declared.candidate.Candidate.{Candidate}
 use Rattle.topology_text.specs.Names.{AreNames}
-use Rattle.report_form.specs.declared.fault.ReportCode.{ReportCode}
-use Rattle.report_form.specs.declared.fault.ReportCode.TheVariants as code
 use Rattle.report_form.specs.Spelling.{rounds_words, send_words}
 use Rattle.report_form.specs.Points.{are_rounds, send_from, follows, may_be_sent, send_line}
 use Rattle.report_form.proofs.Ascending.{HopBefore}
 use Rattle.report_form.proofs.PointsTaken.{AreSends}
-use Rattle.report_laws.proofs.LinesAgain.{on_words_again, ReadsLine}
+use Rattle.report_laws.proofs.LinesAgain.{ReadsLine}
 use Rattle.report_laws.proofs.ShapesAgain.{Small, IsSpelled, rounds_are_words, send_again, send_are_words}
-use Rattle.report_laws.proofs.ListsAgain.{ruled_again, next_follows}
+use Rattle.report_laws.proofs.ListsAgain.{ruled_line, next_follows}
 
 -- ---- rounds
 
@@ -59,12 +56,6 @@ module _ (names : List (List ℕ)) (named : AreNames names) (chunks steps : ℕ)
   send_tokens : (h : Hop) → IsSpelled names h → AreTokens (send_words names h)
   send_tokens h ok = tokens_from (send_words names h) (omega arith) (send_are_words names h named ok)
 
-  abbrev send_rule : List Hop → Hop → Bool
-  send_rule before h = may_be_sent chunks steps h && follows (last_or None before) h
-
-  abbrev send_check : List Hop → List (List ℕ) → Result Hop ReportCode
-  send_check before words = send_from names words >>= (λ h. refuse (not (send_rule before h)) code.Limits >>= (λ u. Ok h))
-
   pub send_reads : ReadsLine (codes "send ") (send_line names chunks steps) (send_words names) (AreSends names chunks steps)
   send_reads = record {
     line = λ before h more are.
@@ -75,8 +66,7 @@ module _ (names : List (List ℕ)) (named : AreNames names) (chunks steps : ℕ)
         let may = and_from (nat_lt h.chunk chunks && nat_le 1 h.step) (nat_le h.step steps) (and_from (nat_lt h.chunk chunks) (nat_le 1 h.step) chunk (le-leb 1 h.step (omega (arith, some)))) (le-leb h.step steps at.to) in
         let behind = follows_from (last_or None before) h (next_follows HopBefore before h more are.ascending) in
         let ok = send_spelled h at below in
-        on_words_again (send_check before) (send_words names h) h (send_tokens h ok)
-        (ruled_again (send_from names (send_words names h)) (send_rule before) code.Limits h (send_again names h named.distinct ok) (and_from (may_be_sent chunks steps h) (follows (last_or None before) h) may behind));
+        ruled_line (send_from names) (λ k. may_be_sent chunks steps k && follows (last_or None before) k) (λ k. k) (send_words names h) h (send_tokens h ok) (send_again names h named.distinct ok) (and_from (may_be_sent chunks steps h) (follows (last_or None before) h) may behind);
     starts = λ h. refl;
   }
 

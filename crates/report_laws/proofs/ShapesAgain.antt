@@ -1,8 +1,8 @@
 -- The tokens of a line that is spelled are those of its shape, and the shape is read from them.
-use Rattle.std.proofs.Common.{◌≡◌, ℕ, ◌<◌, ◌≤◌, ◌^◌, true, List, [], ◌∷◌, ◌++◌, map, length, Some, Result, Ok, ◌⊎◌, inl, inr, refl, ap, ◌∙◌, arith}
+use Rattle.std.proofs.Common.{◌≡◌, ℕ, ◌<◌, ◌≤◌, ◌^◌, true, List, [], ◌∷◌, ◌++◌, map, length, Some, Ok, ◌⊎◌, inl, inr, refl, ap, arith}
 use Rattle.std.specs.Prelude.{codes, decimal, All}
 use Rattle.std.proofs.lemmas.List.Elements.{All-head, All-tail, All-get_or}
-use Rattle.text_lines.specs.Check.{◌>>=◌, need}
+use Rattle.text_lines.specs.Check.{need}
 use Rattle.text_lines.proofs.Distinct.{AreDistinct}
 use Rattle.text_lines.proofs.Words.{AreWords, literal, decimal_word}
 use Rattle.schedule.specs.declared.hop.Hop.{Hop}
@@ -13,14 +13,13 @@ use Rattle.candidate_order.specs.Frontiers.{UnknownValue}
 use Rattle.topology_text.specs.Names.{is_name, AreNames}
 use Rattle.topology_text.proofs.Front.{name_word}
 use Rattle.topology_text.specs.Spelling.{name_at}
-use Rattle.report_form.specs.declared.fault.ReportCode.{ReportCode}
 use Rattle.report_form.specs.declared.fault.ReportCode.TheVariants.{BadLine}
 use Rattle.report_form.specs.Spelling.{candidate_words, mark_words, rounds_words, send_words, refuted_words, unknown_words}
-use Rattle.report_form.specs.Fields.{any_number, next_word, next_number, next_node, fixed_word, no_more}
-use Rattle.report_form.specs.Points.{HeadValue, candidate_from, mark_named, head_from, joined_head_from, numbers_from, rounds_from, send_from}
+use Rattle.report_form.specs.Fields.{any_number}
+use Rattle.report_form.specs.Points.{candidate_from, mark_named, head_from, joined_head_from, numbers_from, rounds_from, send_from}
 use Rattle.report_form.specs.Reading.{refuted_from, unknown_from}
-use Rattle.report_form.proofs.Shapes.{candidate, head, hop}
-use Rattle.report_laws.proofs.TokensAgain.{word_again, fixed_again, small_again, number_again, next_node_again, any_number_again}
+use Rattle.report_form.proofs.Shapes.{head}
+use Rattle.report_laws.proofs.TokensAgain.{ok_then, word_again, small_again, number_again, next_node_again, any_number_again}
 
 -- ---- a candidate
 
@@ -30,20 +29,8 @@ pub record IsSmall (x : Candidate) : Type 0 where
   pub rounds : x.r ≤ 65535
   pub chunks : x.c ≤ 65535
 
-abbrev pub after_c : ℕ → ℕ → ℕ × List (List ℕ) → Result (Candidate × List (List ℕ)) ReportCode
-after_c s r c = Ok (candidate s r c.0, c.1)
-
-abbrev pub after_r : ℕ → ℕ × List (List ℕ) → Result (Candidate × List (List ℕ)) ReportCode
-after_r s r = next_number r.1 >>= after_c s r.0
-
-abbrev pub after_s : ℕ × List (List ℕ) → Result (Candidate × List (List ℕ)) ReportCode
-after_s s = next_number s.1 >>= after_r s.0
-
 pub candidate_again : (x : Candidate) (rest : List (List ℕ)) → IsSmall x → candidate_from (decimal x.s ∷ decimal x.r ∷ decimal x.c ∷ rest) ≡ Ok (x, rest)
-candidate_again x rest small =
-    ap (λ r. r >>= after_s) (number_again x.s (decimal x.r ∷ decimal x.c ∷ rest) small.steps)
-    ∙ ap (λ r. r >>= after_r x.s) (number_again x.r (decimal x.c ∷ rest) small.rounds)
-    ∙ ap (λ r. r >>= after_c x.s x.r) (number_again x.c rest small.chunks)
+candidate_again x rest small = ok_then _ _ (number_again x.s _ small.steps) (ok_then _ _ (number_again x.r _ small.rounds) (ok_then _ _ (number_again x.c rest small.chunks) refl))
 
 pub candidate_are_words : (x : Candidate) (rest : List (List ℕ)) → IsSmall x → AreWords rest → AreWords (decimal x.s ∷ decimal x.r ∷ decimal x.c ∷ rest)
 candidate_are_words x rest small words =
@@ -55,23 +42,13 @@ candidate_are_words x rest small words =
 -- ---- refuted and unknown candidates
 
 pub refuted_again : (x : Candidate) → IsSmall x → refuted_from (refuted_words x) ≡ Ok x
-refuted_again x small =
-    let after : Candidate × List (List ℕ) → Result Candidate ReportCode = λ y. no_more y.1 >>= (λ u. Ok y.0) in
-    let front : List (List ℕ) → Result Candidate ReportCode = λ a. candidate_from a >>= after in
-    ap (λ r. r >>= front) (fixed_again (codes "refuted") (candidate_words x)) ∙ ap (λ r. r >>= after) (candidate_again x [] small)
+refuted_again x small = ok_then _ _ (candidate_again x [] small) refl
 
 pub refuted_are_words : (x : Candidate) → IsSmall x → AreWords (refuted_words x)
 refuted_are_words x small = (literal (codes "refuted") refl, candidate_are_words x [] small tt)
 
 pub unknown_again : (u : UnknownValue) → IsSmall u.candidate → u.conflicts < 2 ^ 64 → unknown_from (unknown_words u) ≡ Ok u
-unknown_again u small few =
-    let x : Candidate = u.candidate in
-    let last : ℕ × List (List ℕ) → Result UnknownValue ReportCode = λ n. no_more n.1 >>= (λ v. Ok (record { candidate = x; conflicts = n.0 })) in
-    let after : Candidate × List (List ℕ) → Result UnknownValue ReportCode = λ y. next_word any_number y.1 >>= (λ n. no_more n.1 >>= (λ v. Ok (record { candidate = y.0; conflicts = n.0 }))) in
-    let front : List (List ℕ) → Result UnknownValue ReportCode = λ a. candidate_from a >>= after in
-    ap (λ r. r >>= front) (fixed_again (codes "unknown") (candidate_words x ++ decimal u.conflicts ∷ []))
-    ∙ ap (λ r. r >>= after) (candidate_again x (decimal u.conflicts ∷ []) small)
-    ∙ ap (λ r. r >>= last) (word_again any_number (decimal u.conflicts) [] u.conflicts (any_number_again u.conflicts few))
+unknown_again u small few = ok_then _ _ (candidate_again u.candidate (decimal u.conflicts ∷ []) small) (ok_then _ _ (word_again any_number (decimal u.conflicts) [] u.conflicts (any_number_again u.conflicts few)) refl)
 
 pub unknown_are_words : (u : UnknownValue) → IsSmall u.candidate → u.conflicts < 2 ^ 64 → AreWords (unknown_words u)
 unknown_are_words u small few = (literal (codes "unknown") refl, candidate_are_words u.candidate (decimal u.conflicts ∷ []) small (decimal_word u.conflicts few, tt))
@@ -82,13 +59,7 @@ abbrev pub head_words : Candidate → Mark → List (List ℕ)
 head_words x m = codes "point" ∷ candidate_words x ++ mark_words m
 
 head_with : (x : Candidate) (w : List ℕ) (m : Mark) → IsSmall x → mark_named w ≡ Some m → head_from (codes "point" ∷ candidate_words x ++ w ∷ []) ≡ Ok (head x m)
-head_with x w m small named =
-    let last : Mark × List (List ℕ) → Result HeadValue ReportCode = λ n. no_more n.1 >>= (λ u. Ok (head x n.0)) in
-    let after : Candidate × List (List ℕ) → Result HeadValue ReportCode = λ y. next_word mark_named y.1 >>= (λ n. no_more n.1 >>= (λ u. Ok (head y.0 n.0))) in
-    let front : List (List ℕ) → Result HeadValue ReportCode = λ a. candidate_from a >>= after in
-    ap (λ r. r >>= front) (fixed_again (codes "point") (candidate_words x ++ w ∷ []))
-    ∙ ap (λ r. r >>= after) (candidate_again x (w ∷ []) small)
-    ∙ ap (λ r. r >>= last) (word_again mark_named w [] m named)
+head_with x w m small named = ok_then _ _ (candidate_again x (w ∷ []) small) (ok_then _ _ (word_again mark_named w [] m named) refl)
 
 pub head_again : (x : Candidate) (m : Mark) → IsSmall x → (m ≡ mark.Optimal) ⊎ (m ≡ mark.Open) → head_from (head_words x m) ≡ Ok (record { candidate = x; mark = m })
 head_again x mark.Optimal small which = head_with x (codes "optimal") mark.Optimal small refl
@@ -98,14 +69,7 @@ head_again x (mark.Joined n) small (inr e) = absurd (cc)
 
 pub joined_head_again : (x : Candidate) (adding : ℕ) → IsSmall x → adding ≤ 65535 → joined_head_from (head_words x (mark.Joined adding)) ≡ Ok (x, adding)
 joined_head_again x adding small few =
-    let last : ℕ × List (List ℕ) → Result (Candidate × ℕ) ReportCode = λ n. no_more n.1 >>= (λ u. Ok (x, n.0)) in
-    let said : List (List ℕ) → Result (Candidate × ℕ) ReportCode = λ b. next_number b >>= last in
-    let after : Candidate × List (List ℕ) → Result (Candidate × ℕ) ReportCode = λ y. fixed_word (codes "joined") y.1 >>= (λ b. next_number b >>= (λ n. no_more n.1 >>= (λ u. Ok (y.0, n.0)))) in
-    let front : List (List ℕ) → Result (Candidate × ℕ) ReportCode = λ a. candidate_from a >>= after in
-    ap (λ r. r >>= front) (fixed_again (codes "point") (candidate_words x ++ codes "joined" ∷ decimal adding ∷ []))
-    ∙ ap (λ r. r >>= after) (candidate_again x (codes "joined" ∷ decimal adding ∷ []) small)
-    ∙ ap (λ r. r >>= said) (fixed_again (codes "joined") (decimal adding ∷ []))
-    ∙ ap (λ r. r >>= last) (number_again adding [] few)
+    ok_then _ _ (candidate_again x (codes "joined" ∷ decimal adding ∷ []) small) (ok_then _ _ (number_again adding [] few) refl)
 
 -- a mark's number may stand in a text
 abbrev pub MarkIsSmall : Mark → Type 0
@@ -125,14 +89,10 @@ Small n = n ≤ 65535
 
 numbers_again : (ns : List ℕ) → All Small ns → numbers_from (map decimal ns) ≡ Ok ns
 numbers_again [] small = refl
-numbers_again (n ∷ ns) small =
-    let front : List ℕ → Result (List ℕ) ReportCode = λ ms. Ok (n ∷ ms) in
-    let next : ℕ → Result (List ℕ) ReportCode = λ m. numbers_from (map decimal ns) >>= (λ ms. Ok (m ∷ ms)) in
-    ap (λ o. need o BadLine >>= next) (small_again n (All-head Small n ns small))
-    ∙ ap (λ r. r >>= front) (numbers_again ns (All-tail Small n ns small))
+numbers_again (n ∷ ns) small = ok_then _ _ (ap (λ o. need o BadLine) (small_again n (All-head Small n ns small))) (ok_then _ _ (numbers_again ns (All-tail Small n ns small)) refl)
 
 pub rounds_again : (rounds : List ℕ) → All Small rounds → rounds_from (rounds_words rounds) ≡ Ok rounds
-rounds_again rounds small = ap (λ r. r >>= numbers_from) (fixed_again (codes "rounds") (map decimal rounds)) ∙ numbers_again rounds small
+rounds_again rounds small = numbers_again rounds small
 
 numbers_are_words : (ns : List ℕ) → All Small ns → AreWords (map decimal ns)
 numbers_are_words [] small = tt
@@ -150,19 +110,7 @@ pub record IsSpelled (names : List (List ℕ)) (h : Hop) : Type 0 where
 
 pub send_again : (names : List (List ℕ)) (h : Hop) → AreDistinct names → IsSpelled names h → send_from names (send_words names h) ≡ Ok h
 send_again names h distinct ok =
-    let last : ℕ × List (List ℕ) → Result Hop ReportCode = λ s. no_more s.1 >>= (λ z. Ok (hop h.chunk h.from h.to s.0)) in
-    let to : ℕ × List (List ℕ) → Result Hop ReportCode = λ v. next_number v.1 >>= (λ s. no_more s.1 >>= (λ z. Ok (hop h.chunk h.from v.0 s.0))) in
-    let from : ℕ × List (List ℕ) → Result Hop ReportCode = λ u. next_node names u.1 >>= (λ v. next_number v.1 >>= (λ s. no_more s.1 >>= (λ z. Ok (hop h.chunk u.0 v.0 s.0)))) in
-    let chunk : ℕ × List (List ℕ) → Result Hop ReportCode = λ c. next_node names c.1 >>= (λ u. next_node names u.1 >>= (λ v. next_number v.1 >>= (λ s. no_more s.1 >>= (λ z. Ok (hop c.0 u.0 v.0 s.0))))) in
-    let front : List (List ℕ) → Result Hop ReportCode = λ a. next_number a >>= chunk in
-    let w4 : List (List ℕ) = decimal h.step ∷ [] in
-    let w3 : List (List ℕ) = name_at names h.to ∷ w4 in
-    let w2 : List (List ℕ) = name_at names h.from ∷ w3 in
-    ap (λ r. r >>= front) (fixed_again (codes "send") (decimal h.chunk ∷ w2))
-    ∙ ap (λ r. r >>= chunk) (number_again h.chunk w2 ok.chunk)
-    ∙ ap (λ r. r >>= from) (next_node_again names h.from w3 distinct ok.from)
-    ∙ ap (λ r. r >>= to) (next_node_again names h.to w4 distinct ok.to)
-    ∙ ap (λ r. r >>= last) (number_again h.step [] ok.step)
+    ok_then _ _ (number_again h.chunk _ ok.chunk) (ok_then _ _ (next_node_again names h.from _ distinct ok.from) (ok_then _ _ (next_node_again names h.to _ distinct ok.to) (ok_then _ _ (number_again h.step [] ok.step) refl)))
 
 pub send_are_words : (names : List (List ℕ)) (h : Hop) → AreNames names → IsSpelled names h → AreWords (send_words names h)
 send_are_words names h named ok =

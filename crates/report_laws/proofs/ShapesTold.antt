@@ -10,73 +10,78 @@ use Rattle.std.proofs.lemmas.Slice.Eq.{bytes_eq-Decides, starts_is}
 use Rattle.std.proofs.lemmas.Option.{same_Some}
 use Rattle.text_lines.specs.Check.{◌>>=◌, refuse, need}
 use Rattle.collective_spec.specs.declared.kind.Kind.{Kind}
-use Rattle.collective_spec.specs.declared.kind.Kind.TheVariants as kind
 use Rattle.collective_spec.specs.Kinds.{word_of, takes_root}
 use Rattle.candidate_order.specs.declared.candidate.Candidate.{Candidate}
-use Rattle.candidate_order.specs.declared.mark.Mark.{Mark}
 use Rattle.candidate_order.specs.declared.mark.Mark.TheVariants as mark
 use Rattle.candidate_order.specs.declared.pruning.Pruning.{Pruning}
 use Rattle.candidate_order.specs.Ranges.{LimitsValue}
-use Rattle.candidate_order.specs.Frontiers.{UnknownValue}
-use Rattle.schedule.specs.declared.hop.Hop.{Hop}
 use Rattle.topology_text.specs.Names.{is_name, name_of}
 use Rattle.topology_text.specs.Reading.{begins, node_of}
 use Rattle.report_form.specs.declared.fault.ReportCode.{ReportCode}
 use Rattle.report_form.specs.declared.fault.ReportCode.TheVariants.{BadLine}
 use Rattle.report_form.specs.Fields.{is_number, any_number, small_number, next_word, behind_key, next_keyed, fixed_word, next_number, next_node, no_more}
-use Rattle.report_form.specs.Points.{HeadValue, candidate_from, mark_named, head_from, joined_head_from, numbers_from, rounds_from, send_from}
+use Rattle.report_form.specs.Points.{candidate_from, mark_named, head_from, joined_head_from, numbers_from, rounds_from, send_from}
 use Rattle.report_form.specs.Reading.{refuted_from, unknown_from}
 use Rattle.report_form.specs.SynthLine.{AskedValue, kind_named, kinds_of, limits_from, root_from, said_from, pruning_from, asked_from}
-use Rattle.report_form.proofs.Shapes.{candidate, hop}
-use Rattle.report_form.proofs.SynthLineTaken.{limits, pruned, asked}
+use Rattle.report_form.proofs.Shapes.{candidate}
+use Rattle.report_form.proofs.SynthLineTaken.{found_is, limits, pruned, asked}
 use Rattle.report_laws.specs.Shapes.{Token, Word, Any, May, has_shape, small, keyed, asked_shape, candidate_shape, is_mark, mark_shape, rounds_shape, send_shape}
-use Rattle.report_laws.proofs.ShapesAgain.{after_c, after_r, after_s}
-use Rattle.report_laws.proofs.SynthLineAgain.{after_conflicts, after_chunks, after_steps, after_k, rooted}
+use Rattle.report_laws.proofs.SynthLineAgain.{kind_back, rooted}
 
 -- the check passes where the test holds, and else says that the line is bad
-abbrev pub Told : {A : Type 0} → Bool → Result A ReportCode → Type 0
-Told holds (Ok x) = holds ≡ true
-Told holds (Err code) = (holds ≡ false) × (code ≡ BadLine)
+pub record Told {A : Type 0} (holds : Bool) (r : Result A ReportCode) : Type 0 where
+  pub ok : (x : A) → r ≡ Ok x → holds ≡ true
+  pub err : (code : ReportCode) → r ≡ Err code → (holds ≡ false) × (code ≡ BadLine)
+
+told_ok : {A : Type 0} {holds : Bool} (x : A) → holds ≡ true → Told holds (Ok x)
+told_ok x is = record { ok = λ y e. is; err = λ code e. absurd (cc) }
+
+told_bad : {A : Type 0} {holds : Bool} → holds ≡ false → Told {A = A} holds (Err BadLine)
+told_bad is = record { ok = λ x e. absurd (cc); err = λ code e. let same : BadLine ≡ code = cc in (is, sym same) }
+
+-- the same of the test of a shape
+pub record Shaped {A : Type 0} (shape : List Token) (words : List (List ℕ)) (r : Result A ReportCode) : Type 0 where
+  pub told : Told (has_shape shape words) r
 
 -- ---- one place
 
-pub assoc_told : {A B C : Type 0} (holds : Bool) (r : Result A ReportCode) (g : A → Result B ReportCode) (f : B → Result C ReportCode) → Told holds (r >>= (λ x. g x >>= f)) → Told holds ((r >>= g) >>= f)
-assoc_told holds (Ok x) g f told = told
-assoc_told holds (Err code) g f told = told
+assoc_told : {A B C : Type 0} {shape : List Token} {words : List (List ℕ)} (r : Result A ReportCode) (g : A → Result B ReportCode) (f : B → Result C ReportCode) → Shaped shape words (r >>= (λ x. g x >>= f)) → Shaped shape words ((r >>= g) >>= f)
+assoc_told (Ok x) g f told = told
+assoc_told (Err code) g f told = told
 
 -- a value that is made of what is read
-made_told : {A B : Type 0} (holds : Bool) (r : Result A ReportCode) (g : A → B) → Told holds r → Told holds (r >>= (λ x. Ok (g x)))
-made_told holds (Ok x) g told = told
-made_told holds (Err code) g told = told
+made_told : {A B : Type 0} {shape : List Token} {words : List (List ℕ)} (r : Result A ReportCode) (g : A → B) → Shaped shape words r → Shaped shape words (r >>= (λ x. Ok (g x)))
+made_told (Ok x) g s = record { told = told_ok (g x) (s.told.ok x refl) }
+made_told (Err code) g s = record { told = record { ok = λ y e. absurd (cc); err = λ c e. let same : code ≡ c = cc in s.told.err c (ap (λ z. Err z) same) } }
 
-word_told : {A B : Type 0} (read : List ℕ → Option A) (passes : List ℕ → Bool) (shape : List Token) (f : A × List (List ℕ) → Result B ReportCode) → ((w : List ℕ) → passes w ≡ is_some (read w)) → ((x : A) (ws : List (List ℕ)) → Told (has_shape shape ws) (f (x, ws)))
-    → (words : List (List ℕ)) → Told (has_shape (Any passes ∷ shape) words) (next_word read words >>= f)
-word_told read passes shape f same next [] = (refl, refl)
-word_told {A} read passes shape f same next (w ∷ ws) = by_read (passes w) (read w) (same w)
+word_told : {A B : Type 0} (read : List ℕ → Option A) (passes : List ℕ → Bool) (shape : List Token) (f : A × List (List ℕ) → Result B ReportCode) → ((w : List ℕ) → passes w ≡ is_some (read w)) → ((x : A) (ws : List (List ℕ)) → Shaped shape ws (f (x, ws)))
+    → (words : List (List ℕ)) → Shaped (Any passes ∷ shape) words (next_word read words >>= f)
+word_told read passes shape f same next [] = record { told = told_bad refl }
+word_told {A} read passes shape f same next (w ∷ ws) = record { told = by_read (passes w) (read w) (same w) }
   where
     by_read : (b : Bool) (o : Option A) → b ≡ is_some o → Told (b && has_shape shape ws) ((need o BadLine >>= (λ x. Ok (x, ws))) >>= f)
-    by_read true (Some x) e = next x ws
+    by_read true (Some x) e = (next x ws).told
     by_read true None e = absurd (cc)
     by_read false (Some x) e = absurd (cc)
-    by_read false None e = (refl, refl)
+    by_read false None e = told_bad refl
 
-fixed_told : {B : Type 0} (word : List ℕ) (shape : List Token) (f : List (List ℕ) → Result B ReportCode) → ((ws : List (List ℕ)) → Told (has_shape shape ws) (f ws)) → (words : List (List ℕ)) → Told (has_shape (Word word ∷ shape) words) (fixed_word word words >>= f)
-fixed_told word shape f next [] = (refl, refl)
-fixed_told word shape f next (w ∷ ws) = by_test (bytes_eq w word)
+fixed_told : {B : Type 0} (word : List ℕ) (shape : List Token) (f : List (List ℕ) → Result B ReportCode) → ((ws : List (List ℕ)) → Shaped shape ws (f ws)) → (words : List (List ℕ)) → Shaped (Word word ∷ shape) words (fixed_word word words >>= f)
+fixed_told word shape f next [] = record { told = told_bad refl }
+fixed_told word shape f next (w ∷ ws) = record { told = by_test (bytes_eq w word) }
   where
     by_test : (b : Bool) → Told (b && has_shape shape ws) ((refuse (not b) BadLine >>= (λ u. Ok ws)) >>= f)
-    by_test true = next ws
-    by_test false = (refl, refl)
+    by_test true = (next ws).told
+    by_test false = told_bad refl
 
-end_told : {B : Type 0} (y : B) (words : List (List ℕ)) → Told (has_shape [] words) (no_more words >>= (λ u. Ok y))
-end_told y [] = refl
-end_told y (w ∷ ws) = (refl, refl)
+end_told : {B : Type 0} (y : B) (words : List (List ℕ)) → Shaped [] words (no_more words >>= (λ u. Ok y))
+end_told y [] = record { told = told_ok y refl }
+end_told y (w ∷ ws) = record { told = told_bad refl }
 
-number_told : {B : Type 0} (shape : List Token) (f : ℕ × List (List ℕ) → Result B ReportCode) → ((n : ℕ) (ws : List (List ℕ)) → Told (has_shape shape ws) (f (n, ws))) → (words : List (List ℕ)) → Told (has_shape (small ∷ shape) words) (next_number words >>= f)
+number_told : {B : Type 0} (shape : List Token) (f : ℕ × List (List ℕ) → Result B ReportCode) → ((n : ℕ) (ws : List (List ℕ)) → Shaped shape ws (f (n, ws))) → (words : List (List ℕ)) → Shaped (small ∷ shape) words (next_number words >>= f)
 number_told shape f next words = word_told small_number (λ w. is_some (small_number w)) shape f (λ w. refl) next words
 
-node_told : {B : Type 0} (names : List (List ℕ)) (shape : List Token) (f : ℕ × List (List ℕ) → Result B ReportCode) → ((n : ℕ) (ws : List (List ℕ)) → Told (has_shape shape ws) (f (n, ws)))
-    → (words : List (List ℕ)) → Told (has_shape (Any (λ w. is_some (node_of names w)) ∷ shape) words) (next_node names words >>= f)
+node_told : {B : Type 0} (names : List (List ℕ)) (shape : List Token) (f : ℕ × List (List ℕ) → Result B ReportCode) → ((n : ℕ) (ws : List (List ℕ)) → Shaped shape ws (f (n, ws)))
+    → (words : List (List ℕ)) → Shaped (Any (λ w. is_some (node_of names w)) ∷ shape) words (next_node names words >>= f)
 node_told names shape f next words = word_told (node_of names) (λ w. is_some (node_of names w)) shape f (λ w. refl) next words
 
 -- what a test lets through
@@ -87,38 +92,33 @@ some_if false x = refl
 any_passes : (w : List ℕ) → is_number w ≡ is_some (any_number w)
 any_passes w = some_if (is_number w) (digits_value 10 w)
 
-keyed_told : {A B : Type 0} (key : List ℕ) (read : List ℕ → Option A) (passes : List ℕ → Bool) (shape : List Token) (f : A × List (List ℕ) → Result B ReportCode) → ((w : List ℕ) → passes w ≡ is_some (read w)) → ((x : A) (ws : List (List ℕ)) → Told (has_shape shape ws) (f (x, ws)))
-    → (words : List (List ℕ)) → Told (has_shape (keyed key passes ∷ shape) words) (next_keyed key read words >>= f)
+keyed_told : {A B : Type 0} (key : List ℕ) (read : List ℕ → Option A) (passes : List ℕ → Bool) (shape : List Token) (f : A × List (List ℕ) → Result B ReportCode) → ((w : List ℕ) → passes w ≡ is_some (read w)) → ((x : A) (ws : List (List ℕ)) → Shaped shape ws (f (x, ws)))
+    → (words : List (List ℕ)) → Shaped (keyed key passes ∷ shape) words (next_keyed key read words >>= f)
 keyed_told {A} key read passes shape f same next words = word_told (behind_key key read) (λ w. begins key w && passes (drop (length key) w)) shape f (λ w. by_front (begins key w) (passes (drop (length key) w)) (read (drop (length key) w)) (same (drop (length key) w))) next words
   where
     by_front : (b c : Bool) (o : Option A) → c ≡ is_some o → (b && c) ≡ is_some (if b then o else None)
     by_front true c o e = e
     by_front false c o e = refl
 
-may_told : {B : Type 0} (word : List ℕ) (shape : List Token) (f : Bool × List (List ℕ) → Result B ReportCode) → ((said : Bool) (ws : List (List ℕ)) → Told (has_shape shape ws) (f (said, ws))) → (words : List (List ℕ)) → Told (has_shape (May word ∷ shape) words) (f (said_from word words))
-may_told word shape f next [] = next false []
-may_told word shape f next (w ∷ ws) = by_test (bytes_eq w word)
+may_told : {B : Type 0} (word : List ℕ) (shape : List Token) (f : Bool × List (List ℕ) → Result B ReportCode) → ((said : Bool) (ws : List (List ℕ)) → Shaped shape ws (f (said, ws))) → (words : List (List ℕ)) → Shaped (May word ∷ shape) words (f (said_from word words))
+may_told word shape f next [] = record { told = (next false []).told }
+may_told word shape f next (w ∷ ws) = record { told = by_test (bytes_eq w word) }
   where
     by_test : (b : Bool) → Told (if b then has_shape shape ws else has_shape shape (w ∷ ws)) (f (if b then (true, ws) else (false, w ∷ ws)))
-    by_test true = next true ws
-    by_test false = next false (w ∷ ws)
+    by_test true = (next true ws).told
+    by_test false = (next false (w ∷ ws)).told
 
 -- ---- candidates
 
-candidate_told : {B : Type 0} (more : List Token) (f : Candidate × List (List ℕ) → Result B ReportCode) → ((x : Candidate) (ws : List (List ℕ)) → Told (has_shape more ws) (f (x, ws))) → (words : List (List ℕ)) → Told (has_shape (small ∷ small ∷ small ∷ more) words) (candidate_from words >>= f)
+candidate_told : {B : Type 0} (more : List Token) (f : Candidate × List (List ℕ) → Result B ReportCode) → ((x : Candidate) (ws : List (List ℕ)) → Shaped more ws (f (x, ws))) → (words : List (List ℕ)) → Shaped (small ∷ small ∷ small ∷ more) words (candidate_from words >>= f)
 candidate_told more f next words =
-    assoc_told (has_shape (small ∷ small ∷ small ∷ more) words) (next_number words) after_s f (number_told (small ∷ small ∷ more) (λ s. after_s s >>= f) (λ s ws.
-    assoc_told (has_shape (small ∷ small ∷ more) ws) (next_number ws) (after_r s) f (number_told (small ∷ more) (λ r. after_r s r >>= f) (λ r vs.
-    assoc_told (has_shape (small ∷ more) vs) (next_number vs) (after_c s r) f (number_told more (λ c. after_c s r c >>= f) (λ c us. next (candidate s r c) us) vs)) ws)) words)
+    assoc_told (next_number words) _ f (number_told _ _ (λ s ws. assoc_told (next_number ws) _ f (number_told _ _ (λ r vs. assoc_told (next_number vs) _ f (number_told _ _ (λ c us. next (candidate s r c) us) vs)) ws)) words)
 
-pub refuted_told : (words : List (List ℕ)) → Told (has_shape (candidate_shape (codes "refuted") []) words) (refuted_from words)
-refuted_told words = fixed_told (codes "refuted") (small ∷ small ∷ small ∷ []) (λ a. candidate_from a >>= (λ x. no_more x.1 >>= (λ u. Ok x.0))) (λ ws. candidate_told [] (λ x. no_more x.1 >>= (λ u. Ok x.0)) (λ x vs. end_told x vs) ws) words
+pub refuted_told : (words : List (List ℕ)) → Shaped (candidate_shape (codes "refuted") []) words (refuted_from words)
+refuted_told words = fixed_told _ _ _ (λ ws. candidate_told _ _ (λ x vs. end_told x vs) ws) words
 
-pub unknown_told : (words : List (List ℕ)) → Told (has_shape (candidate_shape (codes "unknown") (Any is_number ∷ [])) words) (unknown_from words)
-unknown_told words =
-    let made : Candidate → ℕ × List (List ℕ) → Result UnknownValue ReportCode = λ x n. no_more n.1 >>= (λ v. Ok (record { candidate = x; conflicts = n.0 })) in
-    let last : Candidate × List (List ℕ) → Result UnknownValue ReportCode = λ x. next_word any_number x.1 >>= (λ n. no_more n.1 >>= (λ v. Ok (record { candidate = x.0; conflicts = n.0 }))) in
-    fixed_told (codes "unknown") (small ∷ small ∷ small ∷ Any is_number ∷ []) (λ a. candidate_from a >>= last) (λ ws. candidate_told (Any is_number ∷ []) last (λ x vs. word_told any_number is_number [] (made x) any_passes (λ n us. end_told (record { candidate = x; conflicts = n }) us) vs) ws) words
+pub unknown_told : (words : List (List ℕ)) → Shaped (candidate_shape (codes "unknown") (Any is_number ∷ [])) words (unknown_from words)
+unknown_told words = fixed_told _ _ _ (λ ws. candidate_told _ _ (λ x vs. word_told any_number is_number _ _ any_passes (λ n us. end_told _ us) vs) ws) words
 
 mark_passes : (w : List ℕ) → is_mark w ≡ is_some (mark_named w)
 mark_passes w = by_tests (bytes_eq w (codes "optimal")) (bytes_eq w (codes "open"))
@@ -128,46 +128,32 @@ mark_passes w = by_tests (bytes_eq w (codes "optimal")) (bytes_eq w (codes "open
     by_tests false true = refl
     by_tests false false = refl
 
-pub head_told : (words : List (List ℕ)) → Told (has_shape (candidate_shape (codes "point") (mark_shape false)) words) (head_from words)
-head_told words =
-    let made : Candidate → Mark × List (List ℕ) → Result HeadValue ReportCode = λ x n. no_more n.1 >>= (λ v. Ok (record { candidate = x; mark = n.0 })) in
-    let last : Candidate × List (List ℕ) → Result HeadValue ReportCode = λ x. next_word mark_named x.1 >>= (λ n. no_more n.1 >>= (λ v. Ok (record { candidate = x.0; mark = n.0 }))) in
-    fixed_told (codes "point") (small ∷ small ∷ small ∷ Any is_mark ∷ []) (λ a. candidate_from a >>= last) (λ ws. candidate_told (Any is_mark ∷ []) last (λ x vs. word_told mark_named is_mark [] (made x) mark_passes (λ n us. end_told (record { candidate = x; mark = n }) us) vs) ws) words
+pub head_told : (words : List (List ℕ)) → Shaped (candidate_shape (codes "point") (mark_shape false)) words (head_from words)
+head_told words = fixed_told _ _ _ (λ ws. candidate_told _ _ (λ x vs. word_told mark_named is_mark _ _ mark_passes (λ n us. end_told _ us) vs) ws) words
 
-pub joined_head_told : (words : List (List ℕ)) → Told (has_shape (candidate_shape (codes "point") (mark_shape true)) words) (joined_head_from words)
-joined_head_told words =
-    let made : Candidate → ℕ × List (List ℕ) → Result (Candidate × ℕ) ReportCode = λ x n. no_more n.1 >>= (λ v. Ok (x, n.0)) in
-    let last : Candidate × List (List ℕ) → Result (Candidate × ℕ) ReportCode = λ x. fixed_word (codes "joined") x.1 >>= (λ b. next_number b >>= (λ n. no_more n.1 >>= (λ v. Ok (x.0, n.0)))) in
-    fixed_told (codes "point") (small ∷ small ∷ small ∷ Word (codes "joined") ∷ small ∷ []) (λ a. candidate_from a >>= last)
-    (λ ws. candidate_told (Word (codes "joined") ∷ small ∷ []) last (λ x vs. fixed_told (codes "joined") (small ∷ []) (λ b. next_number b >>= made x) (λ us. number_told [] (made x) (λ n ts. end_told (x, n) ts) us) vs) ws) words
+pub joined_head_told : (words : List (List ℕ)) → Shaped (candidate_shape (codes "point") (mark_shape true)) words (joined_head_from words)
+joined_head_told words = fixed_told _ _ _ (λ ws. candidate_told _ _ (λ x vs. fixed_told _ _ _ (λ us. number_told _ _ (λ n ts. end_told _ ts) us) vs) ws) words
 
 -- ---- rounds and sends
 
-numbers_told : (ws : List (List ℕ)) → Told (has_shape (map (λ w. small) ws) ws) (numbers_from ws)
-numbers_told [] = refl
-numbers_told (w ∷ ws) = by_read (small_number w) (numbers_told ws)
+numbers_told : (ws : List (List ℕ)) → Shaped (map (λ w. small) ws) ws (numbers_from ws)
+numbers_told [] = record { told = told_ok [] refl }
+numbers_told (w ∷ ws) = record { told = by_read (small_number w) (numbers_told ws) }
   where
-    by_read : (o : Option ℕ) → Told (has_shape (map (λ w. small) ws) ws) (numbers_from ws) → Told (is_some o && has_shape (map (λ w. small) ws) ws) (need o BadLine >>= (λ n. numbers_from ws >>= (λ ns. Ok (n ∷ ns))))
-    by_read None told = (refl, refl)
-    by_read (Some n) told = made_told (has_shape (map (λ w. small) ws) ws) (numbers_from ws) (λ ns. n ∷ ns) told
+    by_read : (o : Option ℕ) → Shaped (map (λ w. small) ws) ws (numbers_from ws) → Told (is_some o && has_shape (map (λ w. small) ws) ws) (need o BadLine >>= (λ n. numbers_from ws >>= (λ ns. Ok (n ∷ ns))))
+    by_read None s = told_bad refl
+    by_read (Some n) s = (made_told (numbers_from ws) (λ ns. n ∷ ns) s).told
 
-pub rounds_told : (words : List (List ℕ)) → Told (has_shape (rounds_shape words) words) (rounds_from words)
-rounds_told [] = (refl, refl)
-rounds_told (w ∷ ws) = by_test (bytes_eq w (codes "rounds"))
+pub rounds_told : (words : List (List ℕ)) → Shaped (rounds_shape words) words (rounds_from words)
+rounds_told [] = record { told = told_bad refl }
+rounds_told (w ∷ ws) = record { told = by_test (bytes_eq w (codes "rounds")) }
   where
     by_test : (b : Bool) → Told (b && has_shape (map (λ w. small) ws) ws) ((refuse (not b) BadLine >>= (λ u. Ok ws)) >>= numbers_from)
-    by_test true = numbers_told ws
-    by_test false = (refl, refl)
+    by_test true = (numbers_told ws).told
+    by_test false = told_bad refl
 
-pub send_told : (names words : List (List ℕ)) → Told (has_shape (send_shape names) words) (send_from names words)
-send_told names words =
-    let node : Token = Any (λ w. is_some (node_of names w)) in
-    let last : ℕ → ℕ → ℕ → ℕ × List (List ℕ) → Result Hop ReportCode = λ c u v s. no_more s.1 >>= (λ z. Ok (hop c u v s.0)) in
-    let to : ℕ → ℕ → ℕ × List (List ℕ) → Result Hop ReportCode = λ c u v. next_number v.1 >>= (λ s. no_more s.1 >>= (λ z. Ok (hop c u v.0 s.0))) in
-    let from : ℕ → ℕ × List (List ℕ) → Result Hop ReportCode = λ c u. next_node names u.1 >>= (λ v. next_number v.1 >>= (λ s. no_more s.1 >>= (λ z. Ok (hop c u.0 v.0 s.0)))) in
-    let chunk : ℕ × List (List ℕ) → Result Hop ReportCode = λ c. next_node names c.1 >>= (λ u. next_node names u.1 >>= (λ v. next_number v.1 >>= (λ s. no_more s.1 >>= (λ z. Ok (hop c.0 u.0 v.0 s.0))))) in
-    fixed_told (codes "send") (small ∷ node ∷ node ∷ small ∷ []) (λ a. next_number a >>= chunk) (λ ws. number_told (node ∷ node ∷ small ∷ []) chunk (λ c vs.
-    node_told names (node ∷ small ∷ []) (from c) (λ u us. node_told names (small ∷ []) (to c u) (λ v ts. number_told [] (last c u v) (λ s rs. end_told (hop c u v s) rs) ts) us) vs) ws) words
+pub send_told : (names words : List (List ℕ)) → Shaped (send_shape names) words (send_from names words)
+send_told names words = fixed_told _ _ _ (λ ws. number_told _ _ (λ c vs. node_told names _ _ (λ u us. node_told names _ _ (λ v ts. number_told _ _ (λ s rs. end_told _ rs) ts) us) vs) ws) words
 
 -- ---- the words of a search
 
@@ -198,75 +184,42 @@ found_any {A} p K (x ∷ xs) only one = by_test (p x) (K x) refl refl (found_any
     by_test false true here holds later = let e : false ≡ true = sym here ∙ only x holds in absurd (cc)
     by_test false false here holds later = later
 
-found_passes : {A : Type 0} (p : A → Bool) (xs : List A) (x : A) → find p xs ≡ Some x → p x ≡ true
-found_passes p [] x e = absurd (cc)
-found_passes p (y ∷ ys) x e = by_test (p y) refl e (found_passes p ys x)
-  where
-    by_test : (b : Bool) → p y ≡ b → (if b then Some y else find p ys) ≡ Some x → (find p ys ≡ Some x → p x ≡ true) → p x ≡ true
-    by_test true here h later = ap p (sym (same_Some y x h)) ∙ here
-    by_test false here h later = later h
-
-kind_back : (k : Kind) → kind_named true (word_of k) ≡ Some k
-kind_back kind.Broadcast = refl
-kind_back kind.Gather = refl
-kind_back kind.Allgather = refl
-kind_back kind.Scatter = refl
-kind_back kind.Alltoall = refl
-kind_back kind.Reduce = refl
-kind_back kind.Reducescatter = refl
-kind_back kind.Allreduce = refl
-kind_back kind.Custom = refl
-
 one_kind : (a b : Kind) → word_of a ≡ word_of b → a ≡ b
 one_kind a b e = same_Some a b (sym (kind_back a) ∙ (ap (kind_named true) e ∙ kind_back b))
 
 abbrev numbers_shape : List Token → List Token
 numbers_shape more = keyed (codes "k=") is_number ∷ keyed (codes "steps=") is_number ∷ keyed (codes "chunks=") is_number ∷ keyed (codes "conflicts=") is_number ∷ more
 
-limits_told : {B : Type 0} (more : List Token) (f : LimitsValue × List (List ℕ) → Result B ReportCode) → ((l : LimitsValue) (ws : List (List ℕ)) → Told (has_shape more ws) (f (l, ws))) → (words : List (List ℕ)) → Told (has_shape (numbers_shape more) words) (limits_from words >>= f)
+limits_told : {B : Type 0} (more : List Token) (f : LimitsValue × List (List ℕ) → Result B ReportCode) → ((l : LimitsValue) (ws : List (List ℕ)) → Shaped more ws (f (l, ws))) → (words : List (List ℕ)) → Shaped (numbers_shape more) words (limits_from words >>= f)
 limits_told more f next words =
-    let n4 : List Token = keyed (codes "conflicts=") is_number ∷ more in
-    let n3 : List Token = keyed (codes "chunks=") is_number ∷ n4 in
-    let n2 : List Token = keyed (codes "steps=") is_number ∷ n3 in
-    assoc_told (has_shape (numbers_shape more) words) (next_keyed (codes "k=") any_number words) after_k f (keyed_told (codes "k=") any_number is_number n2 (λ k. after_k k >>= f) any_passes (λ k ws.
-    assoc_told (has_shape n2 ws) (next_keyed (codes "steps=") any_number ws) (after_steps k) f (keyed_told (codes "steps=") any_number is_number n3 (λ s. after_steps k s >>= f) any_passes (λ s vs.
-    assoc_told (has_shape n3 vs) (next_keyed (codes "chunks=") any_number vs) (after_chunks k s) f (keyed_told (codes "chunks=") any_number is_number n4 (λ c. after_chunks k s c >>= f) any_passes (λ c us.
-    assoc_told (has_shape n4 us) (next_keyed (codes "conflicts=") any_number us) (after_conflicts k s c) f (keyed_told (codes "conflicts=") any_number is_number more (λ n. after_conflicts k s c n >>= f) any_passes (λ n ts. next (limits k s c n) ts) us)) vs)) ws)) words)
+    assoc_told (next_keyed (codes "k=") any_number words) _ f (keyed_told (codes "k=") any_number is_number _ _ any_passes (λ k ws. assoc_told (next_keyed (codes "steps=") any_number ws) _ f (keyed_told (codes "steps=") any_number is_number _ _ any_passes
+    (λ s vs. assoc_told (next_keyed (codes "chunks=") any_number vs) _ f (keyed_told (codes "chunks=") any_number is_number _ _ any_passes (λ c us. assoc_told (next_keyed (codes "conflicts=") any_number us) _ f (keyed_told (codes "conflicts=") any_number is_number _ _ any_passes (λ n ts. next (limits k s c n) ts) us)) vs)) ws)) words)
 
 abbrev root_shape : Bool → List Token → List Token
 root_shape b more = (if b then keyed (codes "root=") is_name ∷ [] else []) ++ more
 
-root_told : {B : Type 0} (b : Bool) (more : List Token) (f : Option (List ℕ) × List (List ℕ) → Result B ReportCode) → ((root : Option (List ℕ)) (ws : List (List ℕ)) → Told (has_shape more ws) (f (root, ws)))
-    → (words : List (List ℕ)) → Told (has_shape (root_shape b more) words) ((if b then (next_keyed (codes "root=") name_of words >>= rooted) else Ok (None, words)) >>= f)
-root_told true more f next words =
-    assoc_told (has_shape (root_shape true more) words) (next_keyed (codes "root=") name_of words) rooted f (keyed_told (codes "root=") name_of is_name more (λ n. rooted n >>= f) (λ w. some_if (is_name w) w) (λ name ws. next (Some name) ws) words)
+root_told : {B : Type 0} (b : Bool) (more : List Token) (f : Option (List ℕ) × List (List ℕ) → Result B ReportCode) → ((root : Option (List ℕ)) (ws : List (List ℕ)) → Shaped more ws (f (root, ws)))
+    → (words : List (List ℕ)) → Shaped (root_shape b more) words ((if b then (next_keyed (codes "root=") name_of words >>= rooted) else Ok (None, words)) >>= f)
+root_told true more f next words = assoc_told (next_keyed (codes "root=") name_of words) rooted f (keyed_told (codes "root=") name_of is_name _ _ (λ w. some_if (is_name w) w) (λ name ws. next (Some name) ws) words)
 root_told false more f next words = next None words
 
 abbrev said_shape : List Token
 said_shape = May (codes "cuts=yes") ∷ May (codes "ordered=yes") ∷ []
 
-pruning_told : (words : List (List ℕ)) → Told (has_shape said_shape words) (pruning_from words)
+pruning_told : (words : List (List ℕ)) → Shaped said_shape words (pruning_from words)
 pruning_told words =
     let made : Bool → Bool × List (List ℕ) → Result Pruning ReportCode = λ cuts o. no_more o.1 >>= (λ u. Ok (record { cuts = cuts; ordered = o.0 })) in
-    may_told (codes "cuts=yes") (May (codes "ordered=yes") ∷ []) (λ c. made c.0 (said_from (codes "ordered=yes") c.1))
-    (λ cuts ws. may_told (codes "ordered=yes") [] (made cuts) (λ ordered vs. end_told (record { cuts = cuts; ordered = ordered }) vs) ws) words
-
-abbrev after_root : Kind → LimitsValue → Option (List ℕ) × List (List ℕ) → Result AskedValue ReportCode
-after_root kind l root = pruning_from root.1 >>= (λ p. Ok (asked kind (pruned l p) root.0))
-
-abbrev after_limits : Kind → LimitsValue × List (List ℕ) → Result AskedValue ReportCode
-after_limits kind l = root_from kind l.1 >>= after_root kind l.0
+    may_told (codes "cuts=yes") _ (λ c. made c.0 (said_from (codes "ordered=yes") c.1)) (λ cuts ws. may_told (codes "ordered=yes") _ (made cuts) (λ ordered vs. end_told _ vs) ws) words
 
 abbrev after_kind : Kind × List (List ℕ) → Result AskedValue ReportCode
-after_kind kind = limits_from kind.1 >>= after_limits kind.0
+after_kind kind = limits_from kind.1 >>= (λ l. root_from kind.0 l.1 >>= (λ root. pruning_from root.1 >>= (λ p. Ok (asked kind.0 (pruned l.0 p) root.0))))
 
 -- what stands behind the kind
 abbrev tail_shape : Kind → List Token
 tail_shape kind = numbers_shape (root_shape (takes_root kind) said_shape)
 
-tail_told : (kind : Kind) (words : List (List ℕ)) → Told (has_shape (tail_shape kind) words) (after_kind (kind, words))
-tail_told kind words =
-    limits_told (root_shape (takes_root kind) said_shape) (after_limits kind) (λ l ws. root_told (takes_root kind) said_shape (after_root kind l) (λ root vs. made_told (has_shape said_shape vs) (pruning_from vs) (λ p. asked kind (pruned l p) root) (pruning_told vs)) ws) words
+tail_told : (kind : Kind) (words : List (List ℕ)) → Shaped (tail_shape kind) words (after_kind (kind, words))
+tail_told kind words = limits_told _ _ (λ l ws. root_told (takes_root kind) _ _ (λ root vs. made_told _ _ (pruning_told vs)) ws) words
 
 module _ (patterned : Bool) where
   abbrev kinds : List Kind
@@ -298,23 +251,23 @@ module _ (patterned : Bool) where
       front_is h = (starts_is Decides-eqb c (codes "collective=") (starts_with nat_eq c (codes "collective=")) refl).0 h
 
       by_found : (o : Option Kind) → ((k : Kind) → o ≡ Some k → named k ≡ true) → begins (codes "collective=") c ≡ true → Told (of_found K o) ((need o BadLine >>= (λ x. Ok (x, ws))) >>= after_kind)
-      by_found None is front = (refl, refl)
+      by_found None is front = told_bad refl
       by_found (Some k) is front =
           let same : bytes_eq c (codes "collective=" ++ word_of k) ≡ true = (bytes_eq-Decides c (codes "collective=" ++ word_of k)).1 (front_is front ∙ ap (λ v. codes "collective=" ++ v) (sym (named_is k (is k refl)))) in
-          subst (λ b. Told (b && has_shape (tail_shape k) ws) (after_kind (k, ws))) (sym same) (tail_told k ws)
+          subst (λ b. Told (b && has_shape (tail_shape k) ws) (after_kind (k, ws))) (sym same) (tail_told k ws).told
 
       by_front : (b : Bool) → begins (codes "collective=") c ≡ b → Told (list_any K kinds) ((need (if b then find named kinds else None) BadLine >>= (λ x. Ok (x, ws))) >>= after_kind)
-      by_front true front = subst (λ b. Told b ((need (find named kinds) BadLine >>= (λ x. Ok (x, ws))) >>= after_kind)) (sym (found_any named K kinds only (λ a b x y. one_kind a b (named_is a x ∙ sym (named_is b y))))) (by_found (find named kinds) (λ k e. found_passes named kinds k e) front)
-      by_front false front = (none_any K kinds (λ k h. other k (word_is k h)), refl)
+      by_front true front = subst (λ b. Told b ((need (find named kinds) BadLine >>= (λ x. Ok (x, ws))) >>= after_kind)) (sym (found_any named K kinds only (λ a b x y. one_kind a b (named_is a x ∙ sym (named_is b y))))) (by_found (find named kinds) (λ k e. found_is named kinds k e) front)
+      by_front false front = told_bad (none_any K kinds (λ k h. other k (word_is k h)))
         where
           other : (k : Kind) → c ≡ codes "collective=" ++ word_of k → ⊥
           other k is = let e : false ≡ true = sym front ∙ (starts_is Decides-eqb c (codes "collective=") (starts_with nat_eq c (codes "collective=")) refl).1 (word_of k) is in absurd (cc)
 
   pub asked_told : (words : List (List ℕ)) → Told (list_any (λ k. has_shape (asked_shape k) words) kinds) (asked_from patterned words)
-  asked_told [] = (none_any (λ k. has_shape (asked_shape k) []) kinds (λ k h. absurd (cc)), refl)
+  asked_told [] = told_bad (none_any (λ k. has_shape (asked_shape k) []) kinds (λ k h. absurd (cc)))
   asked_told (s ∷ ws) = by_first (bytes_eq s (codes "synth")) ws
     where
       by_first : (b : Bool) (vs : List (List ℕ)) → Told (list_any (λ k. b && has_shape (drop 1 (asked_shape k)) vs) kinds) ((refuse (not b) BadLine >>= (λ u. Ok vs)) >>= (λ a. next_keyed (codes "collective=") (kind_named patterned) a >>= after_kind))
-      by_first false vs = (none_any (λ k. false) kinds (λ k h. absurd (cc)), refl)
-      by_first true [] = (none_any (λ k. false) kinds (λ k h. absurd (cc)), refl)
+      by_first false vs = told_bad (none_any (λ k. false) kinds (λ k h. absurd (cc)))
+      by_first true [] = told_bad (none_any (λ k. false) kinds (λ k h. absurd (cc)))
       by_first true (c ∷ vs) = kind_told c vs

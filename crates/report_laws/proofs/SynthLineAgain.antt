@@ -1,5 +1,5 @@
 -- The line that says what was asked is read, where it is spelled.
-use Rattle.std.proofs.Common.{◌≡◌, ℕ, ◌+◌, ◌<◌, ◌^◌, Bool, true, false, ◌||◌, not, List, [], ◌∷◌, ◌++◌, length, Option, None, Some, Result, Ok, refl, sym, ap, ◌∙◌, arith}
+use Rattle.std.proofs.Common.{◌≡◌, ℕ, ◌<◌, ◌^◌, Bool, true, false, ◌||◌, not, List, [], ◌∷◌, ◌++◌, length, Option, None, Some, Result, Ok, refl, sym, ap, arith}
 use Rattle.std.specs.Prelude.{codes, decimal, if◌then◌else◌}
 use Rattle.std.proofs.lemmas.Bool.{and_from}
 use Rattle.std.proofs.lemmas.List.{length-append}
@@ -24,26 +24,29 @@ use Rattle.report_form.specs.Reports.{WordsValue, IsWords}
 use Rattle.report_form.specs.Spelling.{root_words, word_if, pruning_words, synth_words}
 use Rattle.report_form.specs.Tests.{are_limits}
 use Rattle.report_form.specs.Fields.{any_number, next_keyed}
-use Rattle.report_form.specs.SynthLine.{AskedValue, kind_named, limits_from, root_from, pruning_from, asked_from, may_be_asked, asked_line, root_of}
+use Rattle.report_form.specs.SynthLine.{AskedValue, kind_named, limits_from, pruning_from, asked_from, may_be_asked, asked_line, root_of}
 use Rattle.report_form.proofs.Tested.{decides_limits}
-use Rattle.report_form.proofs.SynthLineTaken.{limits_words, limits, pruned, asked, asked_check}
-use Rattle.report_laws.proofs.TokensAgain.{fixed_again, keyed_again, any_number_again}
-use Rattle.report_laws.proofs.LinesAgain.{words_part_again}
-use Rattle.report_laws.proofs.ListsAgain.{ruled_again}
+use Rattle.report_form.proofs.SynthLineTaken.{limits_words, pruned}
+use Rattle.report_laws.proofs.TokensAgain.{ok_then, keyed_again, any_number_again}
+use Rattle.report_laws.proofs.LinesAgain.{Reads}
+use Rattle.report_laws.proofs.ListsAgain.{ruled_part}
 
 -- ---- the kind and the limits
 
+pub kind_back : (k : Kind) → kind_named true (word_of k) ≡ Some k
+kind_back Broadcast = refl
+kind_back Gather = refl
+kind_back Allgather = refl
+kind_back Scatter = refl
+kind_back Alltoall = refl
+kind_back Reduce = refl
+kind_back Reducescatter = refl
+kind_back Allreduce = refl
+kind_back Custom = refl
+
 -- in version 1 only where no pairs are given
-pub kind_again : (patterned : Bool) (k : Kind) → is_custom k ≡ patterned → kind_named patterned (word_of k) ≡ Some k
-kind_again true Custom e = refl
-kind_again true Broadcast e = absurd (cc)
-kind_again true Gather e = absurd (cc)
-kind_again true Allgather e = absurd (cc)
-kind_again true Scatter e = absurd (cc)
-kind_again true Alltoall e = absurd (cc)
-kind_again true Reduce e = absurd (cc)
-kind_again true Reducescatter e = absurd (cc)
-kind_again true Allreduce e = absurd (cc)
+kind_again : (patterned : Bool) (k : Kind) → is_custom k ≡ patterned → kind_named patterned (word_of k) ≡ Some k
+kind_again true k e = kind_back k
 kind_again false Broadcast e = refl
 kind_again false Gather e = refl
 kind_again false Allgather e = refl
@@ -54,18 +57,6 @@ kind_again false Reducescatter e = refl
 kind_again false Allreduce e = refl
 kind_again false Custom e = absurd (cc)
 
-abbrev pub after_conflicts : ℕ → ℕ → ℕ → ℕ × List (List ℕ) → Result (LimitsValue × List (List ℕ)) ReportCode
-after_conflicts k s c n = Ok (limits k s c n.0, n.1)
-
-abbrev pub after_chunks : ℕ → ℕ → ℕ × List (List ℕ) → Result (LimitsValue × List (List ℕ)) ReportCode
-after_chunks k s c = next_keyed (codes "conflicts=") any_number c.1 >>= after_conflicts k s c.0
-
-abbrev pub after_steps : ℕ → ℕ × List (List ℕ) → Result (LimitsValue × List (List ℕ)) ReportCode
-after_steps k s = next_keyed (codes "chunks=") any_number s.1 >>= after_chunks k s.0
-
-abbrev pub after_k : ℕ × List (List ℕ) → Result (LimitsValue × List (List ℕ)) ReportCode
-after_k k = next_keyed (codes "steps=") any_number k.1 >>= after_steps k.0
-
 number_with : (key : List ℕ) (n : ℕ) (rest : List (List ℕ)) → n < 2 ^ 64 → next_keyed key any_number ((key ++ decimal n) ∷ rest) ≡ Ok (n, rest)
 number_with key n rest small = keyed_again key any_number (decimal n) rest n (any_number_again n small)
 
@@ -75,13 +66,8 @@ limits_again l rest ok =
     let s = ok.steps in
     let c = ok.chunks in
     let n = ok.conflicts in
-    let last : List (List ℕ) = (codes "conflicts=" ++ decimal l.conflicts) ∷ rest in
-    let third : List (List ℕ) = (codes "chunks=" ++ decimal l.max_c) ∷ last in
-    let second : List (List ℕ) = (codes "steps=" ++ decimal l.max_s) ∷ third in
-    ap (λ r. r >>= after_k) (number_with (codes "k=") l.k second (omega (arith, k)))
-    ∙ ap (λ r. r >>= after_steps l.k) (number_with (codes "steps=") l.max_s third (omega (arith, s)))
-    ∙ ap (λ r. r >>= after_chunks l.k l.max_s) (number_with (codes "chunks=") l.max_c last (omega (arith, c)))
-    ∙ ap (λ r. r >>= after_conflicts l.k l.max_s l.max_c) (number_with (codes "conflicts=") l.conflicts rest (omega (arith, n)))
+    ok_then _ _ (number_with (codes "k=") l.k _ (omega (arith, k))) (ok_then _ _ (number_with (codes "steps=") l.max_s _ (omega (arith, s)))
+    (ok_then _ _ (number_with (codes "chunks=") l.max_c _ (omega (arith, c))) (ok_then _ _ (number_with (codes "conflicts=") l.conflicts rest (omega (arith, n))) refl)))
 
 -- ---- the root
 
@@ -92,17 +78,18 @@ root_asked b names root = if b then Some (name_at names root) else None
 abbrev root_tokens : Bool → List (List ℕ) → ℕ → List (List ℕ)
 root_tokens b names root = if b then (codes "root=" ++ name_at names root) ∷ [] else []
 
+root_is_name : (names : List (List ℕ)) (root : ℕ) → AreNames names → root < length names → is_name (name_at names root) ≡ true
+root_is_name names root named below = All-get_or (λ n. is_name n ≡ true) names root [] below named.each
+
 abbrev pub rooted : List ℕ × List (List ℕ) → Result (Option (List ℕ) × List (List ℕ)) ReportCode
 rooted name = Ok (Some name.0, name.1)
 
 abbrev unrooted : List (List ℕ) → Result (Option (List ℕ) × List (List ℕ)) ReportCode
 unrooted words = Ok (None, words)
 
-root_is_name : (names : List (List ℕ)) (root : ℕ) → AreNames names → root < length names → is_name (name_at names root) ≡ true
-root_is_name names root named below = All-get_or (λ n. is_name n ≡ true) names root [] below named.each
-
-root_again : (b : Bool) (names : List (List ℕ)) (root : ℕ) (rest : List (List ℕ)) → AreNames names → root < length names → (if b then (next_keyed (codes "root=") name_of (root_tokens b names root ++ rest) >>= rooted) else unrooted (root_tokens b names root ++ rest)) ≡ Ok (root_asked b names root, rest)
-root_again true names root rest named below = ap (λ r. r >>= rooted) (keyed_again (codes "root=") name_of (name_at names root) rest (name_at names root) (name_of_name (name_at names root) (root_is_name names root named below)))
+root_again : (b : Bool) (names : List (List ℕ)) (root : ℕ) (rest : List (List ℕ)) → AreNames names → root < length names
+    → (if b then (next_keyed (codes "root=") name_of (root_tokens b names root ++ rest) >>= rooted) else unrooted (root_tokens b names root ++ rest)) ≡ Ok (root_asked b names root, rest)
+root_again true names root rest named below = ok_then _ _ (keyed_again (codes "root=") name_of (name_at names root) rest (name_at names root) (name_of_name (name_at names root) (root_is_name names root named below))) refl
 root_again false names root rest named below = refl
 
 -- the number of the root is found by its name
@@ -126,29 +113,11 @@ pruning_again p = each p.cuts p.ordered
 abbrev pub asked_of : List (List ℕ) → WordsValue → AskedValue
 asked_of names w = record { kind = w.collective.kind; limits = w.limits; root = root_asked (takes_root w.collective.kind) names w.collective.root }
 
-abbrev pub after_root : Kind → LimitsValue → Option (List ℕ) × List (List ℕ) → Result AskedValue ReportCode
-after_root kind l root = pruning_from root.1 >>= (λ p. Ok (asked kind (pruned l p) root.0))
-
-abbrev pub after_limits : Kind → LimitsValue × List (List ℕ) → Result AskedValue ReportCode
-after_limits kind l = root_from kind l.1 >>= after_root kind l.0
-
-abbrev pub after_kind : Kind × List (List ℕ) → Result AskedValue ReportCode
-after_kind kind = limits_from kind.1 >>= after_limits kind.0
-
-abbrev pub after_synth : Bool → List (List ℕ) → Result AskedValue ReportCode
-after_synth patterned a = next_keyed (codes "collective=") (kind_named patterned) a >>= after_kind
-
 pub asked_again : (patterned : Bool) (names : List (List ℕ)) (w : WordsValue) → is_custom w.collective.kind ≡ patterned → AreNames names → IsWords (length names) w → asked_from patterned (synth_words names w) ≡ Ok (asked_of names w)
 asked_again patterned names w version named ok =
-    let kind : Kind = w.collective.kind in
-    let said : List (List ℕ) = pruning_words w.limits.pruning in
-    let root : List (List ℕ) = root_words names w ++ said in
-    let l : LimitsValue = pruned w.limits unpruned in
-    ap (λ r. r >>= after_synth patterned) (fixed_again (codes "synth") ((codes "collective=" ++ word_of kind) ∷ limits_words w.limits root))
-    ∙ ap (λ r. r >>= after_kind) (keyed_again (codes "collective=") (kind_named patterned) (word_of kind) (limits_words w.limits root) kind (kind_again patterned kind version))
-    ∙ ap (λ r. r >>= after_limits kind) (limits_again w.limits root ok.limits)
-    ∙ ap (λ r. r >>= after_root kind l) (root_again (takes_root kind) names w.collective.root said named ok.root)
-    ∙ ap (λ r. r >>= (λ p. Ok (asked kind (pruned l p) (root_asked (takes_root kind) names w.collective.root)))) (pruning_again w.limits.pruning)
+    ok_then _ _ (keyed_again (codes "collective=") (kind_named patterned) (word_of w.collective.kind) _ w.collective.kind (kind_again patterned w.collective.kind version))
+    (ok_then _ _ (limits_again w.limits (root_words names w ++ pruning_words w.limits.pruning) ok.limits) (ok_then _ _ (root_again (takes_root w.collective.kind) names w.collective.root (pruning_words w.limits.pruning) named ok.root)
+    (ok_then _ _ (pruning_again w.limits.pruning) refl)))
 
 -- ---- its tokens
 
@@ -194,25 +163,13 @@ synth_tokens names w named ok =
     let s = l.steps in
     let c = l.chunks in
     let n = l.conflicts in
-    tokens_from (synth_words names w) (omega arith) (
-      literal (codes "synth") refl,
-      (
-        keyed_word (codes "collective=") (word_of w.collective.kind) (literal (codes "collective=") refl) (kind_word w.collective.kind),
-        (
-          number_word (codes "k=") w.limits.k (literal (codes "k=") refl) (omega (arith, k)),
-          (
-            number_word (codes "steps=") w.limits.max_s (literal (codes "steps=") refl) (omega (arith, s)),
-            (
-              number_word (codes "chunks=") w.limits.max_c (literal (codes "chunks=") refl) (omega (arith, c)),
-              (
-                number_word (codes "conflicts=") w.limits.conflicts (literal (codes "conflicts=") refl) (omega (arith, n)),
-                words_both (root_words names w) (pruning_words w.limits.pruning) (root_is_word (takes_root w.collective.kind) names w.collective.root named ok.root) (pruning_is_words w.limits.pruning),
-              ),
-            ),
-          ),
-        ),
-      ),
-    )
+    let kind = keyed_word (codes "collective=") (word_of w.collective.kind) (literal (codes "collective=") refl) (kind_word w.collective.kind) in
+    let k_word = number_word (codes "k=") w.limits.k (literal (codes "k=") refl) (omega (arith, k)) in
+    let s_word = number_word (codes "steps=") w.limits.max_s (literal (codes "steps=") refl) (omega (arith, s)) in
+    let c_word = number_word (codes "chunks=") w.limits.max_c (literal (codes "chunks=") refl) (omega (arith, c)) in
+    let n_word = number_word (codes "conflicts=") w.limits.conflicts (literal (codes "conflicts=") refl) (omega (arith, n)) in
+    let rest = words_both (root_words names w) (pruning_words w.limits.pruning) (root_is_word (takes_root w.collective.kind) names w.collective.root named ok.root) (pruning_is_words w.limits.pruning) in
+    tokens_from (synth_words names w) (omega arith) (literal (codes "synth") refl, (kind, (k_word, (s_word, (c_word, (n_word, rest))))))
 
 -- in version 2 the kind is the one whose pairs are given
 may_be : (patterned : Bool) (k : Kind) → is_custom k ≡ patterned → (not patterned || is_custom k) ≡ true
@@ -220,8 +177,7 @@ may_be true k e = e
 may_be false k e = refl
 
 pub asked_part_again : (patterned : Bool) (names : List (List ℕ)) (w : WordsValue) (n : ℕ) (rows : List Row) → is_custom w.collective.kind ≡ patterned → AreNames names → IsWords (length names) w
-    → line_part (asked_line patterned) (place n (row_of (synth_words names w) ∷ rows)) ≡ Ok (asked_of names w, place (n + 1) rows)
+    → Reads (line_part (asked_line patterned) (place n (row_of (synth_words names w) ∷ rows))) (asked_of names w) rows
 asked_part_again patterned names w n rows version named ok =
-    words_part_again (asked_check patterned) (synth_words names w) (asked_of names w) n rows (synth_tokens names w named ok)
-    (ruled_again (asked_from patterned (synth_words names w)) (may_be_asked patterned) code.Limits (asked_of names w) (asked_again patterned names w version named ok)
-    (and_from (are_limits w.limits) (not patterned || is_custom w.collective.kind) ((decides_limits w.limits).1 ok.limits) (may_be patterned w.collective.kind version)))
+    ruled_part (asked_from patterned) (may_be_asked patterned) (λ a. a) (synth_words names w) (asked_of names w) (synth_tokens names w named ok) (asked_again patterned names w version named ok)
+    (and_from (are_limits w.limits) (not patterned || is_custom w.collective.kind) ((decides_limits w.limits).1 ok.limits) (may_be patterned w.collective.kind version)) n rows

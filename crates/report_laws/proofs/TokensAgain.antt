@@ -7,28 +7,26 @@ use Rattle.std.proofs.Math.Seq.{drop-append_seam}
 use Rattle.std.proofs.lemmas.Bool.{and_from, cond-true, le-leb, ne_eqb}
 use Rattle.std.proofs.lemmas.Bool.Decides.{Decides-eqb}
 use Rattle.std.proofs.lemmas.Fmt.{decimal_is_IsNumeral, decimal_nonempty}
-use Rattle.std.proofs.lemmas.Slice.Eq.{bytes_eq-Decides, starts_is}
+use Rattle.std.proofs.lemmas.Slice.Eq.{starts_is}
 use Rattle.std.proofs.lemmas.Str.Parse.{digit_at}
-use Rattle.text_lines.specs.Check.{◌>>=◌, refuse, need}
+use Rattle.text_lines.specs.Check.{◌>>=◌, need}
 use Rattle.text_lines.proofs.Distinct.{AreDistinct}
 use Rattle.text_lines.proofs.Numbers.{up_to_some, zero_not}
 use Rattle.topology_text.specs.Spelling.{name_at}
 use Rattle.topology_text.specs.Reading.{begins, node_of}
 use Rattle.topology_text.proofs.Links.{node_again}
-use Rattle.report_form.specs.declared.fault.ReportCode.{ReportCode}
 use Rattle.report_form.specs.declared.fault.ReportCode.TheVariants.{BadLine}
-use Rattle.report_form.specs.Fields.{is_digit, is_number, any_number, small_number, next_word, behind_key, next_keyed, fixed_word, next_number, next_node}
+use Rattle.report_form.specs.Fields.{is_digit, is_number, any_number, small_number, next_word, behind_key, next_keyed, next_number, next_node}
+
+-- one step that passes, and then the rest
+pub ok_then : {A B C : Type 0} {x : A} {y : B} (r : Result A C) (f : A → Result B C) → r ≡ Ok x → f x ≡ Ok y → (r >>= f) ≡ Ok y
+ok_then r f one two = ap (λ z. z >>= f) one ∙ two
 
 -- ---- one token
 
 -- a token that is read so is taken, and those behind it are left
 pub word_again : {A : Type 0} (read : List ℕ → Option A) (w : List ℕ) (ws : List (List ℕ)) (x : A) → read w ≡ Some x → next_word read (w ∷ ws) ≡ Ok (x, ws)
-word_again {A} read w ws x e =
-    let next : A → Result (A × List (List ℕ)) ReportCode = λ y. Ok (y, ws) in
-    ap (λ o. need o BadLine >>= next) e
-
-pub fixed_again : (word : List ℕ) (rest : List (List ℕ)) → fixed_word word (word ∷ rest) ≡ Ok rest
-fixed_again word rest = ap (λ t. refuse (not t) BadLine >>= (λ u. Ok rest)) ((bytes_eq-Decides word word).1 refl)
+word_again read w ws x e = ok_then _ _ (ap (λ o. need o BadLine) e) refl
 
 -- a key and a value that is read so
 pub keyed_again : {A : Type 0} (key : List ℕ) (read : List ℕ → Option A) (value : List ℕ) (rest : List (List ℕ)) (x : A) → read value ≡ Some x → next_keyed key read ((key ++ value) ∷ rest) ≡ Ok (x, rest)

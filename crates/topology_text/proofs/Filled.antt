@@ -1,6 +1,6 @@
 -- Where the checks of a topology text fail, some topology has the lines before the one that is blamed.
-use Rattle.std.proofs.Common.{◌≡◌, ℕ, zero, suc, ◌+◌, ◌≤◌, Bool, true, false, cond, List, [], ◌∷◌, ◌++◌, map, length, Option, None, Some, Result, Ok, Err, ◌⊎◌, inl, inr, refl, sym, ap, ◌∙◌, subst, append_assoc, arith}
-use Rattle.std.specs.Prelude.{codes, IfSome}
+use Rattle.std.proofs.Common.{◌≡◌, ℕ, zero, suc, ◌+◌, ◌≤◌, Bool, true, false, List, [], ◌∷◌, ◌++◌, map, length, Option, None, Some, Result, Ok, Err, ◌⊎◌, inl, inr, refl, sym, ap, ◌∙◌, subst, append_assoc, arith}
+use Rattle.std.specs.Prelude.{codes, if◌then◌else◌, IfSome}
 use Rattle.std.specs.Option.{is_some}
 use Rattle.std.proofs.lemmas.List.{append-nil, length-map}
 use Rattle.std.proofs.lemmas.List.Elements.{All-nil, All-cons}
@@ -16,12 +16,24 @@ use Rattle.topology_text.specs.Value.{NamedTopologyValue, IsNamed, named_with}
 use Rattle.topology_text.specs.Spelling.{header_words, nodes_words, group_words, custom_lines, lines_of, head_words}
 use Rattle.topology_text.specs.Reading.{begins, header_line, nodes_line, group_row, groups_from, groups_at, custom_line, holders_line, Pairs, holders_at, pattern_at, named_at, topology_at}
 use Rattle.topology_text.proofs.Front.{head_is}
-use Rattle.topology_text.proofs.Groups.{Groups, groups_nil, group_take, groups_take, push_group, place, answer, after_group, line_taken}
+use Rattle.topology_text.proofs.Groups.{Groups, groups_nil, group_take, groups_take, push_group, place, line_taken}
 use Rattle.topology_text.proofs.PatternLines.{base_words, custom_take, named_words}
 use Rattle.topology_text.proofs.HolderLines.{Holders, AreHeld, holder_lines, pushed, no_pairs, behind_after, behind_before, line_held}
 use Rattle.topology_text.proofs.Patterns.{pattern_from, pattern_valid, pattern_spelled, behind_holders, behind_base}
 use Rattle.topology_text.proofs.Laws.{named_valid, header_taken, names_taken, nodes_taken, group_lines, after_pattern, after_groups, after_names, after_header}
 use Rattle.topology_text.proofs.Cuts.{Cut, cut_here, cut_more, cut_after}
+
+-- where a block fails, its first step does, or the rest after it
+err_then : {A B C : Type 0} {G : Type 0} {e : C} (r : Result A C) (f : A → Result B C) → (r >>= f) ≡ Err e → (r ≡ Err e → G) → ((x : A) → r ≡ Ok x → f x ≡ Err e → G) → G
+err_then {A} {B} {C} {G} {e} r f failed here later = elim (bind_err r f e failed) [
+  | inl first ↦ here first
+  | inr (x, read, there) ↦ later x read there
+]
+
+-- where a test chose what fails
+goes : {X E : Type 0} {G : Type 0} (b : Bool) (r : Result X E) (x : X) (e : E) → (if b then r else Ok x) ≡ Err e → (b ≡ true → r ≡ Err e → G) → G
+goes true r x e failed later = later refl failed
+goes false r x e failed later = absurd (cc)
 
 -- ---- groups that go on
 
@@ -32,28 +44,19 @@ pub record GroupsFilled (names : List (List ℕ)) (before : List GroupValue) (p 
 
 pub fill_groups : (names : List (List ℕ)) (rows : List Row) (before : List GroupValue) (n : ℕ) (e : TopologyCode × ℕ) → Groups (length names) before → groups_from names before n rows ≡ Err e → GroupsFilled names before (place n rows) e.1
 fill_groups names [] before n e ok failed = absurd (cc)
-fill_groups names (row ∷ rows) before n e ok failed = by_test (begins (codes "group ") row.bytes) refl failed (λ g valid k. fill_groups names rows (before ++ g ∷ []) (n + 1) e valid k)
-  where
-    Later : GroupValue → Type 0
-    Later g = Groups (length names) (before ++ g ∷ []) → groups_from names (before ++ g ∷ []) (n + 1) rows ≡ Err e → GroupsFilled names (before ++ g ∷ []) (place (n + 1) rows) e.1
-
-    by_step : begins (codes "group ") row.bytes ≡ true → ((g : GroupValue) → Later g)
-        → (at_line n (group_row names (length before) row) ≡ Err e) ⊎ ((g : GroupValue) × (at_line n (group_row names (length before) row) ≡ Ok g) × (groups_from names (before ++ g ∷ []) (n + 1) rows ≡ Err e)) → GroupsFilled names before (place n (row ∷ rows)) e.1
-    by_step front again (inl here) =
-        let (why, line) = line_err n (group_row names (length before) row) e here in
-        record { more = []; valid = subst (λ (gs : List GroupValue). Groups (length names) gs) (sym (append-nil before)) ok; cut = cut_here [] (place n (row ∷ rows)) e.1 line }
-    by_step front again (inr (g, read, there)) =
-        let taken = group_take names (length before) row g front (at_line_ok n (group_row names (length before) row) g read) in
-        let later = again g (push_group names before row g taken ok) there in
-        record {
-          more = g ∷ later.more;
-          valid = subst (λ (gs : List GroupValue). Groups (length names) gs) (append_assoc before (g ∷ []) later.more) later.valid;
-          cut = cut_after (group_words names g ∷ []) (map (group_words names) later.more) (place n (row ∷ rows)) (place (n + 1) rows) e.1 (ap (λ r. r ∷ rows) taken.spelled) refl later.cut;
-        }
-
-    by_test : (b : Bool) → begins (codes "group ") row.bytes ≡ b → cond b (at_line n (group_row names (length before) row) >>= after_group names before n rows) (answer before (place n (row ∷ rows))) ≡ Err e → ((g : GroupValue) → Later g) → GroupsFilled names before (place n (row ∷ rows)) e.1
-    by_test true front k again = by_step front again (bind_err (at_line n (group_row names (length before) row)) (after_group names before n rows) e k)
-    by_test false front k again = absurd (cc)
+fill_groups names (row ∷ rows) before n e ok failed =
+    let p : Place = place n (row ∷ rows) in
+    let G : List GroupValue → Type 0 = Groups (length names) in
+    goes (begins (codes "group ") row.bytes) _ (before, p) e failed (λ front k. err_then _ _ k
+    (λ here. record { more = []; valid = subst G (sym (append-nil before)) ok; cut = cut_here [] p e.1 (line_err n (group_row names (length before) row) e here).1 })
+    (λ g read there.
+    let taken = group_take names (length before) row g front (at_line_ok n (group_row names (length before) row) g read) in
+    let later = fill_groups names rows (before ++ g ∷ []) (n + 1) e (push_group names before row g taken ok) there in
+    record {
+      more = g ∷ later.more;
+      valid = subst G (append_assoc before (g ∷ []) later.more) later.valid;
+      cut = cut_after (group_words names g ∷ []) (map (group_words names) later.more) p (place (n + 1) rows) e.1 (ap (λ r. r ∷ rows) taken.spelled) refl later.cut;
+    }))
 
 -- ---- lines of holders that go on
 
@@ -78,53 +81,38 @@ pub record HoldersFilled (names : List (List ℕ)) (left g : ℕ) (p : Place) (n
 
 pub fill_holders : (names : List (List ℕ)) (left g : ℕ) (found : Pairs) (p : Place) (e : TopologyCode × ℕ) → holders_at names left g found p ≡ Err e → HoldersFilled names left g p e.1
 fill_holders names zero g found p e failed = absurd (cc)
-fill_holders names (suc left) g found p e failed = by_before (bind_err (line_part before p) (behind_before names left g found) e failed) (λ b a q k. fill_holders names left (g + 1) (pushed found g b a) q e k)
-  where
-    before : Option Row → Result (List ℕ) TopologyCode
-    before o = holders_line names (codes "before") g o
-
-    after : Option Row → Result (List ℕ) TopologyCode
-    after o = holders_line names (codes "after") g o
-
-    Later : Type 0
-    Later = (b a : List ℕ) (q : Place) → holders_at names left (g + 1) (pushed found g b a) q ≡ Err e → HoldersFilled names left (g + 1) q e.1
-
-    rest : List Holders
-    rest = nothing_held left
-
-    by_after : (b : List ℕ × Place) → line_part before p ≡ Ok b → (line_part after b.1 ≡ Err e) ⊎ ((a : List ℕ × Place) × (line_part after b.1 ≡ Ok a) × (behind_after names left g found b.0 a ≡ Err e)) → Later → HoldersFilled names (suc left) g p e.1
-    by_after b read (inl here) again =
-        let one = line_held names (codes "before") g p b read in
-        let (why, line) = part_err_at after b.1 e here in
-        record {
-          held = (b.0, []) ∷ rest;
-          many = ap suc (length-nothing_held left);
-          valid = ((one.valid, tt), nothing_valid (length names) left);
-          cut = cut_after (named_words names (codes "before") g b.0 ∷ []) (named_words names (codes "after") g [] ∷ holder_lines names (g + 1) rest) p b.1 e.1 one.rows one.number
-              (cut_here (named_words names (codes "after") g [] ∷ holder_lines names (g + 1) rest) b.1 e.1 line);
-        }
-    by_after b read (inr (a, read_too, there)) again =
-        let one = line_held names (codes "before") g p b read in
-        let two = line_held names (codes "after") g b.1 a read_too in
-        let later = again b.0 a.0 a.1 there in
-        record {
-          held = (b.0, a.0) ∷ later.held;
-          many = ap suc later.many;
-          valid = ((one.valid, two.valid), later.valid);
-          cut = cut_after (named_words names (codes "before") g b.0 ∷ []) (named_words names (codes "after") g a.0 ∷ holder_lines names (g + 1) later.held) p b.1 e.1 one.rows one.number
-              (cut_after (named_words names (codes "after") g a.0 ∷ []) (holder_lines names (g + 1) later.held) b.1 a.1 e.1 two.rows two.number later.cut);
-        }
-
-    by_before : (line_part before p ≡ Err e) ⊎ ((b : List ℕ × Place) × (line_part before p ≡ Ok b) × (behind_before names left g found b ≡ Err e)) → Later → HoldersFilled names (suc left) g p e.1
-    by_before (inl here) again =
-        let (why, line) = part_err_at before p e here in
-        record {
-          held = ([], []) ∷ rest;
-          many = ap suc (length-nothing_held left);
-          valid = ((tt, tt), nothing_valid (length names) left);
-          cut = cut_here (holder_lines names g (([], []) ∷ rest)) p e.1 line;
-        }
-    by_before (inr (b, read, there)) again = by_after b read (bind_err (line_part after b.1) (behind_after names left g found b.0) e there) again
+fill_holders names (suc left) g found p e failed =
+    let before : Option Row → Result (List ℕ) TopologyCode = holders_line names (codes "before") g in
+    let after : Option Row → Result (List ℕ) TopologyCode = holders_line names (codes "after") g in
+    let rest : List Holders = nothing_held left in
+    let second : List ℕ → List Holders → List (List (List ℕ)) = λ a hs. named_words names (codes "after") g a ∷ holder_lines names (g + 1) hs in
+    err_then (line_part before p) (behind_before names left g found) failed
+    (λ here. record {
+      held = ([], []) ∷ rest;
+      many = ap suc (length-nothing_held left);
+      valid = ((tt, tt), nothing_valid (length names) left);
+      cut = cut_here (holder_lines names g (([], []) ∷ rest)) p e.1 (part_err_at before p e here).1;
+    })
+    (λ b read there.
+    let one = line_held names (codes "before") g p b read in
+    let behind : (hs : List Holders) (a : List ℕ) → Cut (second a hs) b.1 e.1 → Cut (holder_lines names g ((b.0, a) ∷ hs)) p e.1 =
+    λ hs a cut. cut_after (named_words names (codes "before") g b.0 ∷ []) (second a hs) p b.1 e.1 one.rows one.number cut in
+    err_then (line_part after b.1) (behind_after names left g found b.0) there
+    (λ here. record {
+      held = (b.0, []) ∷ rest;
+      many = ap suc (length-nothing_held left);
+      valid = ((one.valid, tt), nothing_valid (length names) left);
+      cut = behind rest [] (cut_here (second [] rest) b.1 e.1 (part_err_at after b.1 e here).1);
+    })
+    (λ a read_too more.
+    let two = line_held names (codes "after") g b.1 a read_too in
+    let later = fill_holders names left (g + 1) (pushed found g b.0 a.0) a.1 e more in
+    record {
+      held = (b.0, a.0) ∷ later.held;
+      many = ap suc later.many;
+      valid = ((one.valid, two.valid), later.valid);
+      cut = behind later.held a.0 (cut_after (named_words names (codes "after") g a.0 ∷ []) (holder_lines names (g + 1) later.held) b.1 a.1 e.1 two.rows two.number later.cut);
+    }))
 
 -- ---- a pattern that goes on
 
@@ -153,20 +141,15 @@ some_pattern true names p n here = pattern_with names 1 (nothing_held 1) p n ref
 pub fill_pattern : (patterned : Bool) (names : List (List ℕ)) (p : Place) (e : TopologyCode × ℕ) → pattern_at patterned names p ≡ Err e → PatternFilled names patterned p e.1
 unfolding pattern_at
 fill_pattern false names p e failed = absurd (cc)
-fill_pattern true names p e failed = by_base (bind_err (line_part custom_line p) (behind_base names) e failed)
-  where
-    by_holders : (base : ℕ × Place) → line_part custom_line p ≡ Ok base → (holders_at names base.0 0 no_pairs base.1 ≡ Err e) ⊎ ((x : Pairs × Place) × (holders_at names base.0 0 no_pairs base.1 ≡ Ok x) × (behind_holders names base.0 x ≡ Err e)) → PatternFilled names true p e.1
-    by_holders base read (inl here) =
-        let (passed, at) = part_ok custom_line p base read in
-        let head = custom_take (first p.rows) base.0 passed in
-        let (rows, number) = line_taken custom_line p base (row_of (base_words base.0)) read (λ y k. head.spelled) in
-        let f = fill_holders names base.0 0 no_pairs base.1 e here in
-        pattern_with names base.0 f.held p e.1 f.many head.some head.few f.valid (cut_after (base_words base.0 ∷ []) (holder_lines names 0 f.held) p base.1 e.1 rows number f.cut)
-    by_holders base read (inr (x, read_too, there)) = absurd (cc)
-
-    by_base : (line_part custom_line p ≡ Err e) ⊎ ((base : ℕ × Place) × (line_part custom_line p ≡ Ok base) × (behind_base names base ≡ Err e)) → PatternFilled names true p e.1
-    by_base (inl here) = let (why, line) = part_err_at custom_line p e here in some_pattern true names p e.1 line
-    by_base (inr (base, read, there)) = by_holders base read (bind_err (holders_at names base.0 0 no_pairs base.1) (behind_holders names base.0) e there)
+fill_pattern true names p e failed =
+    err_then _ (behind_base names) failed (λ here. some_pattern true names p e.1 (part_err_at custom_line p e here).1)
+    (λ base read there. err_then _ (behind_holders names base.0) there
+    (λ here.
+    let head = custom_take (first p.rows) base.0 (part_ok custom_line p base read).0 in
+    let (rows, number) = line_taken custom_line p base (row_of (base_words base.0)) read (λ y k. head.spelled) in
+    let f = fill_holders names base.0 0 no_pairs base.1 e here in
+    pattern_with names base.0 f.held p e.1 f.many head.some head.few f.valid (cut_after (base_words base.0 ∷ []) (holder_lines names 0 f.held) p base.1 e.1 rows number f.cut))
+    (λ x read_too more. absurd (cc)))
 
 -- ---- a topology that goes on
 
@@ -225,25 +208,13 @@ module _ (p : Place) (e : TopologyCode × ℕ) where
           let number : g.1.number ≡ n.1.number + length (map (group_words n.0) g.0) = omega (arith, taken.number, ap length taken.all, length-map g.0 (group_words n.0)) in
           behind_nodes g.0 f.custom taken.valid f.valid f.shown (cut_after (map (group_words n.0) g.0) (custom_lines n.0 f.custom) n.1 g.1 e.1 rows number f.cut)
 
-      by_pattern : (g : List GroupValue × Place) → groups_at n.0 n.1 ≡ Ok g → (pattern_at h.0 n.0 g.1 ≡ Err e) ⊎ ((c : Option PatternValue × Place) × (pattern_at h.0 n.0 g.1 ≡ Ok c) × (after_pattern n.0 g.0 c ≡ Err e)) → TopologyFilled p e.1
-      by_pattern g rg (inl here) = at_pattern g rg here
-      by_pattern g rg (inr (c, rc, there)) = absurd (cc)
-
-      by_groups : (groups_at n.0 n.1 ≡ Err e) ⊎ ((g : List GroupValue × Place) × (groups_at n.0 n.1 ≡ Ok g) × (after_groups h.0 n.0 g ≡ Err e)) → TopologyFilled p e.1
-      by_groups (inl here) = at_groups here
-      by_groups (inr (g, rg, there)) = by_pattern g rg (bind_err (pattern_at h.0 n.0 g.1) (after_pattern n.0 g.0) e there)
-
-    by_nodes : (line_part nodes_line h.1 ≡ Err e) ⊎ ((n : List (List ℕ) × Place) × (line_part nodes_line h.1 ≡ Ok n) × (after_names h.0 n ≡ Err e)) → TopologyFilled p e.1
-    by_nodes (inl here) = let (why, line) = part_err_at nodes_line h.1 e here in at_nodes line
-    by_nodes (inr (n, rn, there)) = by_groups n rn (bind_err (groups_at n.0 n.1) (after_groups h.0 n.0) e there)
-
   pub fill_topology : topology_at p ≡ Err e → TopologyFilled p e.1
   unfolding topology_at named_at
-  fill_topology failed = by_header (bind_err (line_part header_line p) after_header e failed)
-    where
-      by_header : (line_part header_line p ≡ Err e) ⊎ ((h : Bool × Place) × (line_part header_line p ≡ Ok h) × (after_header h ≡ Err e)) → TopologyFilled p e.1
-      by_header (inl here) =
-          let (why, line) = part_err_at header_line p e here in
-          let t : NamedTopologyValue = named_with (codes "n0" ∷ []) [] None in
-          record { topology = t; valid = named_valid (codes "n0" ∷ []) [] None one_name (groups_nil 1) tt; cut = cut_here (lines_of t) p e.1 line }
-      by_header (inr (h, rh, there)) = by_nodes h rh (bind_err (line_part nodes_line h.1) (after_names h.0) e there)
+  fill_topology failed =
+      err_then _ after_header failed
+      (λ here.
+      let t : NamedTopologyValue = named_with (codes "n0" ∷ []) [] None in
+      record { topology = t; valid = named_valid (codes "n0" ∷ []) [] None one_name (groups_nil 1) tt; cut = cut_here (lines_of t) p e.1 (part_err_at header_line p e here).1 })
+      (λ h rh k1. err_then _ (after_names h.0) k1 (λ here. at_nodes h rh (part_err_at nodes_line h.1 e here).1)
+      (λ n rn k2. err_then _ (after_groups h.0 n.0) k2 (λ here. at_groups h rh n rn here)
+      (λ g rg k3. err_then _ (after_pattern n.0 g.0) k3 (λ here. at_pattern h rh n rn g rg here) (λ c rc k4. absurd (cc)))))
