@@ -1,28 +1,19 @@
 -- What the checks of a report's parts took stands there, and is valid.
-use Rattle.std.proofs.Common.{◌≡◌, ℕ, List, [], ◌∷◌, ◌++◌, map, length, Ok, refl, sym, ap, ◌∙◌, subst, append_assoc}
-use Rattle.std.specs.Prelude.{◌≢◌, codes, flat_map, All}
+use Rattle.std.proofs.Common.{◌≡◌, ℕ, List, [], ◌∷◌, ◌++◌, map, length, Ok, refl, sym, ap, ◌∙◌, subst, append_assoc, ◌≢◌, codes, flat_map, All}
 use Rattle.std.proofs.lemmas.List.Elements.{All-nil, All-cons}
-use Rattle.text_lines.specs.Text.{Row, Place, words_of}
-use Rattle.text_lines.specs.Check.{◌>>=◌, line_part}
-use Rattle.text_lines.proofs.Checks.{bind_ok, ok_is}
-use Rattle.text_lines.proofs.Rows.{row_of}
+use Rattle.text_lines.{specs.{Text.{Row, Place, words_of}, Check.{◌>>=◌, line_part}}, proofs.{Checks.{bind_ok, ok_is}, Rows.row_of}}
 use Rattle.outer_ports.specs.declared.part.Part.{Part}
 use Rattle.outer_ports.specs.declared.part.Part.TheVariants as part
 use Rattle.collective_spec.specs.declared.kind.Kind.{Kind}
 use Rattle.collective_spec.specs.declared.kind.Kind.TheVariants as kind
-use Rattle.candidate_order.specs.declared.candidate.Candidate.{Candidate}
-use Rattle.candidate_order.specs.Ranges.{IsLimits}
-use Rattle.candidate_order.specs.Frontiers.{QuestionValue, PointValue, UnknownValue, FrontierValue}
+use Rattle.candidate_order.specs.{declared.candidate.Candidate.Candidate, Ranges.IsLimits, Frontiers.{QuestionValue, PointValue, UnknownValue, FrontierValue}}
 use Rattle.topology_text.specs.Value.{NamedTopologyValue}
-use Rattle.report_form.specs.declared.fault.ReportCode.{ReportCode}
-use Rattle.report_form.specs.Reports.{WordsValue, IsFrontier, IsJoinedPoint, question_of}
+use Rattle.report_form.specs.{declared.fault.ReportCode.ReportCode, Reports.{WordsValue, IsFrontier, IsJoinedPoint, question_of}}
 use Rattle.report_form.specs.Spelling.{point_lines, refuted_words, unknown_words, part_words, frontier_lines, joined_lines}
-use Rattle.report_form.specs.Lines.{fixed_line, lines_at, parts_at}
-use Rattle.report_form.specs.Points.{frontier_point_at, joined_point_at}
+use Rattle.report_form.specs.{Lines.{fixed_line, lines_at, parts_at}, Points.{frontier_point_at, joined_point_at}}
 use Rattle.report_form.specs.Reading.{refuted_line, unknown_line, part_bytes, frontier_at, frontiers_from, joined_at}
-use Rattle.report_form.proofs.LineTaken.{fixed_part_take, lines_take, parts_take, map_both}
+use Rattle.report_form.proofs.{LineTaken.{fixed_part_take, lines_take, parts_take, map_both}, PointsTaken.{ArePoints, no_points, point_takes}}
 use Rattle.report_form.proofs.ListsTaken.{AreListed, none_listed, refuted_takes, AreUnknown, none_unknown, unknown_takes}
-use Rattle.report_form.proofs.PointsTaken.{ArePoints, no_points, point_takes}
 use Rattle.report_form.proofs.JoinedTaken.{joined_takes, no_joined}
 
 pub rows_split : (a b : List (List (List ℕ))) (rest : List Row) → map row_of (a ++ b) ++ rest ≡ map row_of a ++ (map row_of b ++ rest)

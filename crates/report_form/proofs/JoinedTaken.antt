@@ -1,24 +1,13 @@
 -- What the checks of a joined point took stands there, and is valid.
-use Rattle.std.proofs.Common.{◌≡◌, ℕ, ◌+◌, ◌*◌, ◌<◌, ◌≤◌, true, ◌&&◌, not, List, [], ◌∷◌, ◌++◌, map, length, Result, Ok, sym, ap, ◌∙◌, subst, arith}
-use Rattle.std.specs.Prelude.{nat_le, nat_lt, All}
-use Rattle.std.proofs.lemmas.Bool.{and_parts, not-false, leb-true, ltb-true}
-use Rattle.std.proofs.lemmas.List.Elements.{All-push, All-nil}
-use Rattle.text_lines.specs.Text.{Place}
-use Rattle.text_lines.specs.Check.{◌>>=◌, refuse, line_part}
-use Rattle.text_lines.proofs.Checks.{bind_ok, refuse_ok, ok_is}
-use Rattle.text_lines.proofs.Rows.{row_of}
-use Rattle.candidate_order.specs.declared.candidate.Candidate.{Candidate}
+use Rattle.std.proofs.Common.{◌≡◌, ℕ, ◌+◌, ◌*◌, ◌<◌, ◌≤◌, true, ◌&&◌, not, List, [], ◌∷◌, ◌++◌, map, length, Result, Ok, sym, ap, ◌∙◌, subst, arith, nat_le, nat_lt, All}
+use Rattle.std.proofs.lemmas.{Bool.{and_parts, not-false, leb-true, ltb-true}, List.Elements.{All-push, All-nil}}
+use Rattle.text_lines.{specs.{Text.Place, Check.{◌>>=◌, refuse, line_part}}, proofs.{Checks.{bind_ok, refuse_ok, ok_is}, Rows.row_of}}
+use Rattle.candidate_order.specs.{declared.candidate.Candidate.Candidate, Ranges.IsLimits, Frontiers.{QuestionValue, PointValue}}
 use Rattle.candidate_order.specs.declared.mark.Mark.TheVariants as mark
-use Rattle.candidate_order.specs.Ranges.{IsLimits}
-use Rattle.candidate_order.specs.Frontiers.{QuestionValue, PointValue}
-use Rattle.report_form.specs.declared.fault.ReportCode.{ReportCode}
-use Rattle.report_form.specs.declared.fault.ReportCode.TheVariants as code
-use Rattle.report_form.specs.Reports.{HasSchedule, IsJoinedPoint}
-use Rattle.report_form.specs.Spelling.{point_words, point_lines}
+use Rattle.report_form.specs.{declared.fault.ReportCode.ReportCode, Reports.{HasSchedule, IsJoinedPoint}, Spelling.{point_words, point_lines}}
 use Rattle.report_form.specs.Points.{HeadValue, may_join, joined_head_from, joined_head_line, schedule_at, joined_point_at}
-use Rattle.report_form.proofs.LineTaken.{words_part_take, TakesPart}
-use Rattle.report_form.proofs.Shapes.{joined_head_take}
-use Rattle.report_form.proofs.PointsTaken.{point_of, schedule_take}
+use Rattle.report_form.proofs.{LineTaken.{words_part_take, TakesPart}, Shapes.joined_head_take, PointsTaken.{point_of, schedule_take}}
+use Rattle.report_form.specs.declared.fault.ReportCode.TheVariants as code
 
 abbrev pub joined_of : Candidate × ℕ → HeadValue
 joined_of x = record { candidate = x.0; mark = mark.Joined x.1 }

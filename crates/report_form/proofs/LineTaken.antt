@@ -1,17 +1,10 @@
 -- What the checks of lines took stands there.
-use Rattle.std.proofs.Common.{◌≡◌, ℕ, zero, suc, ◌+◌, Bool, true, false, not, List, [], ◌∷◌, ◌++◌, map, drop, Option, None, Some, Result, Ok, Err, refl, sym, ap, ◌∙◌, subst, append_assoc}
-use Rattle.std.specs.Prelude.{bytes_eq, if◌then◌else◌, flat_map}
-use Rattle.std.proofs.lemmas.Bool.{not-false}
-use Rattle.std.proofs.lemmas.Slice.Eq.{bytes_eq-Decides}
-use Rattle.std.proofs.lemmas.List.{append-nil}
-use Rattle.text_lines.specs.Text.{Row, Place, words_of}
-use Rattle.text_lines.specs.Check.{◌>>=◌, refuse, at_line, first, line_part}
-use Rattle.text_lines.proofs.Checks.{bind_ok, refuse_ok, refuse_alone, at_line_ok, ok_is, first_is, part_ok}
-use Rattle.text_lines.proofs.Rows.{row_of, row_back}
-use Rattle.topology_text.specs.Reading.{begins}
-use Rattle.topology_text.proofs.Groups.{place}
-use Rattle.report_form.specs.declared.fault.ReportCode.{ReportCode}
-use Rattle.report_form.specs.declared.fault.ReportCode.TheVariants.{BadLine, Truncated}
+use Rattle.std.proofs.Common.{◌≡◌, ℕ, zero, suc, ◌+◌, Bool, true, false, not, List, [], ◌∷◌, ◌++◌, map, drop, Option, None, Some, Result, Ok, Err, refl, sym, ap, ◌∙◌, subst, append_assoc, bytes_eq, if◌then◌else◌, flat_map}
+use Rattle.std.proofs.lemmas.{Bool.not-false, Slice.Eq.bytes_eq-Decides, List.append-nil}
+use Rattle.text_lines.specs.{Text.{Row, Place, words_of}, Check.{◌>>=◌, refuse, at_line, first, line_part}}
+use Rattle.text_lines.proofs.{Checks.{bind_ok, refuse_ok, refuse_alone, at_line_ok, ok_is, first_is, part_ok}, Rows.{row_of, row_back}}
+use Rattle.topology_text.{specs.Reading.begins, proofs.Groups.place}
+use Rattle.report_form.specs.declared.fault.ReportCode.{ReportCode, TheVariants.{BadLine, Truncated}}
 use Rattle.report_form.specs.Lines.{whole_line, tokens_line, fixed_line, no_line, row_begins, lines_from, parts_from}
 
 pub record WholeTaken (line : Option Row) (row : Row) : Type 0 where

@@ -1,36 +1,22 @@
 -- A text that the checks take is the text of the report that they give, which is valid.
-use Rattle.std.proofs.Common.{◌≡◌, ℕ, Bool, true, false, not, List, [], ◌∷◌, ◌++◌, map, length, Option, None, Some, Result, Ok, Err, refl, sym, ap, ◌∙◌, subst}
-use Rattle.std.specs.Prelude.{codes, flat_map, bytes_eq, if◌then◌else◌, is_some}
-use Rattle.std.proofs.lemmas.Bool.{not-false}
-use Rattle.std.proofs.lemmas.Slice.Eq.{bytes_eq-Decides}
-use Rattle.text_lines.specs.Text.{Row, Place, words_of, rows_of, start}
-use Rattle.text_lines.specs.Check.{◌>>=◌, refuse, need, at_line, first, line_part}
-use Rattle.text_lines.proofs.Checks.{bind_ok, refuse_alone, at_line_ok, part_ok, ok_is}
-use Rattle.text_lines.proofs.Rows.{row_of, row_back, text_back}
+use Rattle.std.proofs.Common.{◌≡◌, ℕ, Bool, true, false, not, List, [], ◌∷◌, ◌++◌, map, length, Option, None, Some, Result, Ok, Err, refl, sym, ap, ◌∙◌, subst, codes, flat_map, bytes_eq, if◌then◌else◌, is_some}
+use Rattle.std.proofs.lemmas.{Bool.not-false, Slice.Eq.bytes_eq-Decides}
+use Rattle.text_lines.specs.{Text.{Row, Place, words_of, rows_of, start}, Check.{◌>>=◌, refuse, need, at_line, first, line_part}}
+use Rattle.text_lines.proofs.{Checks.{bind_ok, refuse_alone, at_line_ok, part_ok, ok_is}, Rows.{row_of, row_back, text_back}}
 use Rattle.schedule.specs.Links.{GroupValue}
 use Rattle.outer_ports.specs.declared.part.Part.{Part}
-use Rattle.collective_spec.specs.declared.kind.Kind.{Kind}
-use Rattle.collective_spec.specs.Kinds.{is_custom}
-use Rattle.collective_spec.specs.Patterns.{PatternValue}
-use Rattle.collective_spec.specs.Collectives.{fits_kind}
-use Rattle.candidate_order.specs.Ranges.{IsLimits}
-use Rattle.candidate_order.specs.Frontiers.{PointValue, FrontierValue}
-use Rattle.topology_text.specs.declared.fault.TopologyCode.{TopologyCode}
-use Rattle.topology_text.specs.Value.{NamedTopologyValue, IsNamed, named_with}
-use Rattle.topology_text.specs.Spelling.{lines_of, version_word}
+use Rattle.collective_spec.specs.{declared.kind.Kind.Kind, Kinds.is_custom, Patterns.PatternValue, Collectives.fits_kind}
+use Rattle.candidate_order.specs.{Ranges.IsLimits, Frontiers.{PointValue, FrontierValue}}
+use Rattle.topology_text.specs.{declared.fault.TopologyCode.TopologyCode, Value.{NamedTopologyValue, IsNamed, named_with}, Spelling.{lines_of, version_word}}
 use Rattle.topology_text.specs.Reading.{header_line, nodes_line, groups_at, pattern_at, named_at, topology_at}
-use Rattle.topology_text.proofs.Patterns.{pattern_take}
-use Rattle.topology_text.proofs.Laws.{topology_rows, topology_take}
-use Rattle.report_form.specs.declared.fault.ReportCode.{ReportCode}
-use Rattle.report_form.specs.declared.fault.ReportCode.TheVariants as code
-use Rattle.report_form.specs.Reports.{WordsValue, ReportValue, IsWords, IsReport, parts_of}
+use Rattle.topology_text.proofs.{Patterns.pattern_take, Laws.{topology_rows, topology_take}}
+use Rattle.report_form.specs.{declared.fault.ReportCode.ReportCode, Reports.{WordsValue, ReportValue, IsWords, IsReport, parts_of}}
 use Rattle.report_form.specs.Spelling.{synth_words, frontier_lines, joined_lines, body_lines, report_lines, report_text}
-use Rattle.report_form.specs.Lines.{whole_line, fixed_line, no_line, among}
-use Rattle.report_form.specs.SynthLine.{AskedValue, asked_line, root_of, words_from}
+use Rattle.report_form.specs.{Lines.{whole_line, fixed_line, no_line, among}, SynthLine.{AskedValue, asked_line, root_of, words_from}}
 use Rattle.report_form.specs.Reading.{frontiers_from, joined_at, body_of, version_of, version_line, is_same, report_of}
 use Rattle.report_form.proofs.LineTaken.{LineTaken, line_taken, whole_take, fixed_part_take, nothing_take}
-use Rattle.report_form.proofs.SynthLineTaken.{asked_words, asked_part, words_take}
-use Rattle.report_form.proofs.FrontiersTaken.{rows_split, frontiers_take, joined_lines_take}
+use Rattle.report_form.proofs.{SynthLineTaken.{asked_words, asked_part, words_take}, FrontiersTaken.{rows_split, frontiers_take, joined_lines_take}}
+use Rattle.report_form.specs.declared.fault.ReportCode.TheVariants as code
 
 -- ---- the body
 
