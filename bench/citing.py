@@ -49,17 +49,37 @@ class Reading:
         return f"{len(self.definitions)} definitions in {self.lines():,} lines"
 
 
+def parts(names: str) -> Iterator[str]:
+    """The parts of a list that stand between commas, each with the list that it has in braces."""
+    depth = start = 0
+    for at, sign in enumerate(names + ","):
+        depth += (sign == "{") - (sign == "}")
+        if sign == "," and not depth:
+            yield names[start:at].strip()
+            start = at + 1
+
+
+def brought(path: str, names: str) -> Iterator[tuple[str, str, str | None]]:
+    """The names of a list in braces behind a path."""
+    for part in filter(None, parts(names)):
+        inner, _, rest = part.partition(".{")
+        if rest:
+            yield from brought(f"{path}.{inner}", rest.removesuffix("}"))
+            continue
+        whole, _, new = part.partition(" as ")
+        where, _, old = f"{path}.{whole.strip()}".rpartition(".")
+        yield new.strip() or old, where, old
+
+
 def imported(line: str) -> Iterator[tuple[str, str, str | None]]:
     """The names that a line brings in, each with where it comes from."""
-    path, _, names = line.split("use ", 1)[1].rstrip(";").partition(".{")
-    if not names:
-        old, _, new = path.partition(" as ")
-        if new:
-            yield new.strip(), old.strip(), None
+    path, _, names = line.split("use ", 1)[1].strip().rstrip(";").partition(".{")
+    if names:
+        yield from brought(path, names.removesuffix("}"))
         return
-    for name in filter(None, (it.strip() for it in names.rstrip("}").split(","))):
-        old, _, new = name.partition(" as ")
-        yield (new or old).strip(), path.strip(), old.strip()
+    old, _, new = path.partition(" as ")
+    if new:
+        yield new.strip(), old.strip(), None
 
 
 def is_case_of(line: str, current: str | None) -> bool:

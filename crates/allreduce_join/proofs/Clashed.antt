@@ -1,16 +1,10 @@
 -- The first clash, step by step.
 use Rattle.std.proofs.Common.{◌≡◌, ℕ, ◌+◌, ◌-◌, ◌<◌, ◌≤◌, Bool, false, ◌&&◌, cond, leb, List, [], ◌∷◌, length, map, Option, Some, None, refl, sym, ap, ◌∙◌, arith}
-use Rattle.std.specs.List.{AllByRecursion, find, flat_map, range_with_len}
-use Rattle.std.specs.Option.{option_map, option_or}
-use Rattle.std.proofs.lemmas.Bool.{le-ltb, lt-ltb}
+use Rattle.std.{specs.{List.{AllByRecursion, find, flat_map, range_with_len}, Option.{option_map, option_or}}, proofs.lemmas.Bool.{le-ltb, lt-ltb}}
 use Rattle.std.proofs.lemmas.List.Folds.{find-append}
 use Rattle.list_laws.proofs.Tests.{find-map}
-use Rattle.schedule.specs.Sends.{ScheduleValue}
-use Rattle.schedule.specs.Placed.{PlacementValue, all_pairs, holds}
-use Rattle.schedule.specs.JoinedRuns.{first_clash, is_clash}
-use Rattle.schedule.proofs.First.{each_among, none_found}
-use Rattle.schedule.proofs.Grids.{range_more, range_none}
-use Rattle.schedule.proofs.Placing.{IsBelow, all_below, holds-placed}
+use Rattle.schedule.specs.{Sends.ScheduleValue, Placed.{PlacementValue, all_pairs, holds}, JoinedRuns.{first_clash, is_clash}}
+use Rattle.schedule.proofs.{First.{each_among, none_found}, Grids.{range_more, range_none}, Placing.{IsBelow, all_below, holds-placed}}
 use Rattle.allreduce_join.proofs.Meeting.{arrivals, met_by}
 
 -- the first clash of a step

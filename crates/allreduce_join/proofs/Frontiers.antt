@@ -1,18 +1,11 @@
 -- The points of right and searched frontiers of the two parts of an allreduce have their joins.
-use Rattle.std.proofs.Common.{◌≡◌, ℕ, ◌*◌, ◌<◌, false, map, refl, subst, arith}
-use Rattle.std.proofs.lemmas.List.Elements.{All-contains, All-from_recursion}
-use Rattle.schedule.specs.Links.{TopologyValue, reversed_of}
-use Rattle.schedule.proofs.First.{Contains-from_Among, each_among}
-use Rattle.collective_spec.specs.declared.layout.Layout.TheVariants.{Scattered}
-use Rattle.collective_spec.specs.Layouts.{laid_out}
-use Rattle.candidate_order.specs.Ranges.{LimitsValue}
-use Rattle.candidate_order.specs.Frontiers.{PointValue, FrontierValue, IsPoint, IsSolvedBy, RightFrontier, Searched, WastesNothing}
-use Rattle.inversion.specs.Inverted.{inverted_frontier}
-use Rattle.inversion.proofs.Reducing.{reduction_right, reduction_searched}
-use Rattle.allreduce_join.specs.Joins.{IsJoin, Joins, join_of, pairs_of}
-use Rattle.allreduce_join.specs.Parts.{gather_part, reduce_part}
-use Rattle.allreduce_join.proofs.Paired.{IsPair, pairs_among}
-use Rattle.allreduce_join.proofs.Summed.{join_sums}
+use Rattle.std.proofs.{Common.{◌≡◌, ℕ, ◌*◌, ◌<◌, false, map, refl, subst, arith}, lemmas.List.Elements.{All-contains, All-from_recursion}}
+use Rattle.schedule.{specs.Links.{TopologyValue, reversed_of}, proofs.First.{Contains-from_Among, each_among}}
+use Rattle.collective_spec.specs.{declared.layout.Layout.TheVariants.Scattered, Layouts.laid_out}
+use Rattle.candidate_order.specs.{Ranges.LimitsValue, Frontiers.{PointValue, FrontierValue, IsPoint, IsSolvedBy, RightFrontier, Searched, WastesNothing}}
+use Rattle.inversion.{specs.Inverted.inverted_frontier, proofs.Reducing.{reduction_right, reduction_searched}}
+use Rattle.allreduce_join.specs.{Joins.{IsJoin, Joins, join_of, pairs_of}, Parts.{gather_part, reduce_part}}
+use Rattle.allreduce_join.proofs.{Paired.{IsPair, pairs_among}, Summed.join_sums}
 
 -- what is had of a point of the second part
 record Gathers (root : ℕ) (t : TopologyValue) (limits : LimitsValue) (c : ℕ) (b : PointValue) : Type 0 where

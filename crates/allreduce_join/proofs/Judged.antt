@@ -1,19 +1,11 @@
 -- The verdict on a joined schedule, from what fails first.
-use Rattle.std.proofs.Common.{◌≡◌, ℕ, true, List, [], ◌∷◌, Option, Some, None, refl, sym, ap, ◌∙◌}
-use Rattle.std.specs.Prelude.{◌↔◌}
-use Rattle.std.specs.List.{filter}
-use Rattle.schedule.specs.Links.{TopologyValue}
-use Rattle.schedule.specs.Sends.{ScheduleValue, IsSchedule, IsInRange}
-use Rattle.schedule.specs.Placed.{PlacementValue, all_pairs, placed}
-use Rattle.schedule.specs.Bags.{Bags}
-use Rattle.schedule.specs.Judging.{first_overfull, first_unlinked}
-use Rattle.schedule.specs.JoinedRuns.{AllSummed, first_clash}
-use Rattle.inversion.specs.declared.verdict.SumVerdict.{SumVerdict}
-use Rattle.inversion.specs.declared.verdict.SumVerdict.TheVariants as verdict
-use Rattle.inversion.specs.Judging.{counts_judged, first_uneven, misfit_of, sum_judged}
+use Rattle.std.{proofs.Common.{◌≡◌, ℕ, true, List, [], ◌∷◌, Option, Some, None, refl, sym, ap, ◌∙◌, ◌↔◌}, specs.List.filter}
+use Rattle.schedule.specs.{Links.TopologyValue, Sends.{ScheduleValue, IsSchedule, IsInRange}, Placed.{PlacementValue, all_pairs, placed}, Bags.Bags}
+use Rattle.schedule.specs.{Judging.{first_overfull, first_unlinked}, JoinedRuns.{AllSummed, first_clash}}
+use Rattle.inversion.specs.{declared.verdict.SumVerdict.SumVerdict, Judging.{counts_judged, first_uneven, misfit_of, sum_judged}}
 use Rattle.inversion.proofs.Misfits.{judged_fitting, judged_misfit}
-use Rattle.allreduce_join.specs.Judging.{joined_bags, joined_verdict_of}
-use Rattle.allreduce_join.proofs.Told.{all_summed_exactly}
+use Rattle.inversion.specs.declared.verdict.SumVerdict.TheVariants as verdict
+use Rattle.allreduce_join.{specs.Judging.{joined_bags, joined_verdict_of}, proofs.Told.all_summed_exactly}
 
 all_pass : (pairs : List (ℕ × ℕ)) → filter (λ pair. true) pairs ≡ pairs
 all_pass [] = refl

@@ -1,17 +1,9 @@
 -- Chunks that come to a node twice, send by send.
-use Rattle.std.proofs.Common.{◌≡◌, ℕ, suc, ◌+◌, ◌<◌, ◌≤◌, Bool, true, false, ◌&&◌, ◌||◌, cond, eqb, leb, List, [], ◌∷◌, ◌++◌, length, get_or, take, refl, sym, ap, ◌∙◌, ⊎_elim, subst, arith}
-use Rattle.std.specs.Prelude.{count_by}
-use Rattle.std.specs.List.{filter}
-use Rattle.std.proofs.lemmas.Bool.{and_parts, cases_Bool, eq-eqb, both_ways}
-use Rattle.std.proofs.lemmas.Bool.Decides.{nat_tests}
-use Rattle.std.proofs.lemmas.List.{take_more, take_all}
-use Rattle.std.proofs.lemmas.List.Sums.{sum_by-append, sum_by-cons}
-use Rattle.std.proofs.Math.Bool.{or-true}
-use Rattle.schedule.specs.declared.hop.Hop.{Hop}
-use Rattle.schedule.specs.Placed.{PlacementValue, empty_placement, holds, placed, same_pair, with_pair}
-use Rattle.schedule.specs.Summing.{goes_to}
-use Rattle.schedule.proofs.Joining.{step_alone}
-use Rattle.schedule.proofs.Placing.{holds-placed, pair_is, placed-alike, placed-none}
+use Rattle.std.proofs.Common.{◌≡◌, ℕ, suc, ◌+◌, ◌<◌, ◌≤◌, Bool, true, false, ◌&&◌, ◌||◌, cond, eqb, leb, List, [], ◌∷◌, ◌++◌, length, get_or, take, refl, sym, ap, ◌∙◌, ⊎_elim, subst, arith, count_by}
+use Rattle.std.{specs.List.filter, proofs.lemmas.{Bool.{and_parts, cases_Bool, eq-eqb, both_ways, Decides.nat_tests}, List.{take_more, take_all}}}
+use Rattle.std.proofs.{lemmas.List.Sums.{sum_by-append, sum_by-cons}, Math.Bool.or-true}
+use Rattle.schedule.specs.{declared.hop.Hop.Hop, Placed.{PlacementValue, empty_placement, holds, placed, same_pair, with_pair}, Summing.goes_to}
+use Rattle.schedule.proofs.{Joining.step_alone, Placing.{holds-placed, pair_is, placed-alike, placed-none}}
 
 abbrev pub arrivals : ℕ → ℕ × ℕ → List Hop → ℕ
 arrivals step pair hops = count_by (goes_to step pair) hops

@@ -1,18 +1,10 @@
 -- The verdict on a joined schedule is that it sums exactly where it sums everything everywhere.
-use Rattle.std.proofs.Common.{◌≡◌, ℕ, refl, length}
-use Rattle.std.specs.Prelude.{◌↔◌}
-use Rattle.schedule.specs.Links.{TopologyValue}
-use Rattle.schedule.specs.Sends.{ScheduleValue, IsSchedule, IsInRange}
-use Rattle.schedule.specs.Placed.{all_pairs}
-use Rattle.schedule.specs.Judging.{first_unlinked, first_overfull}
+use Rattle.std.proofs.Common.{◌≡◌, ℕ, refl, length, ◌↔◌}
+use Rattle.schedule.specs.{Links.TopologyValue, Sends.{ScheduleValue, IsSchedule, IsInRange}, Placed.all_pairs, Judging.{first_unlinked, first_overfull}}
 use Rattle.schedule.specs.JoinedRuns.{AllSummed, first_clash}
-use Rattle.schedule.proofs.Verdicts.{fits_exactly}
-use Rattle.schedule.proofs.Bagging.{counted_run}
-use Rattle.schedule.proofs.Clashing.{no_clash_from_none, none_from_no_clash}
+use Rattle.schedule.proofs.{Verdicts.fits_exactly, Bagging.counted_run, Clashing.{no_clash_from_none, none_from_no_clash}}
 use Rattle.inversion.specs.declared.verdict.SumVerdict.TheVariants as verdict
-use Rattle.inversion.specs.Judging.{first_uneven}
-use Rattle.inversion.proofs.Counts.{even_everywhere, none_uneven}
-use Rattle.inversion.proofs.Told.{judged_sums}
+use Rattle.inversion.{specs.Judging.first_uneven, proofs.{Counts.{even_everywhere, none_uneven}, Told.judged_sums}}
 use Rattle.allreduce_join.specs.Judging.{joined_bags, joined_verdict_of}
 
 pub all_summed_exactly : (t : TopologyValue) (chunks : ℕ) (s : ScheduleValue) (adding : ℕ) → IsSchedule s → IsInRange chunks t.nodes s → (joined_verdict_of t chunks s adding ≡ verdict.Sums) ↔ AllSummed t chunks s adding

@@ -1,17 +1,11 @@
 -- What the sends of one step bring to a chunk of a node, and in which order.
-use Rattle.std.proofs.Common.{◌≡◌, ℕ, ◌≤◌, Bool, true, false, ◌&&◌, cond, ltb, max, List, [], ◌∷◌, map, ⊎_elim, refl, sym, ap, ◌∙◌, arith}
-use Rattle.std.specs.Prelude.{filter, fold, not, nat_le}
-use Rattle.std.specs.List.{AllByRecursion, reduce}
-use Rattle.std.proofs.lemmas.Bool.{and_parts, eqb-true, ltb-true, or_cases}
-use Rattle.schedule.specs.declared.hop.Hop.{Hop}
-use Rattle.schedule.specs.Sends.{hop_before}
-use Rattle.schedule.specs.Bags.{Bag, Bags, held_at_2, is_empty}
-use Rattle.schedule.specs.Summing.{goes_to, summed_step}
+use Rattle.std.proofs.Common.{◌≡◌, ℕ, ◌≤◌, Bool, true, false, ◌&&◌, cond, ltb, max, List, [], ◌∷◌, map, ⊎_elim, refl, sym, ap, ◌∙◌, arith, filter, fold, not, nat_le}
+use Rattle.std.{specs.List.{AllByRecursion, reduce}, proofs.lemmas.Bool.{and_parts, eqb-true, ltb-true, or_cases}}
+use Rattle.schedule.specs.{declared.hop.Hop.Hop, Sends.hop_before, Bags.{Bag, Bags, held_at_2, is_empty}, Summing.{goes_to, summed_step}}
 use Rattle.schedule.specs.JoinedRuns.{copied_step, joined_step, replaced}
 use Rattle.schedule.proofs.First.{InOrder, InOrder-filter, each_filter, each_passes}
 use Rattle.bag_runs.specs.declared.mode.Mode.TheVariants as mode
-use Rattle.bag_runs.specs.Stores.{received, mode_at}
-use Rattle.bag_runs.proofs.Merging.{Rises, adds_held, copied, copies_held}
+use Rattle.bag_runs.{specs.Stores.{received, mode_at}, proofs.Merging.{Rises, adds_held, copied, copies_held}}
 
 -- two tests, one after the other
 pub filter_both : {X : Type 0} (p q r : X → Bool) → ((x : X) → (p x && q x) ≡ r x) → (xs : List X) → filter q (filter p xs) ≡ filter r xs

@@ -1,21 +1,11 @@
 -- Where every step copies, the bags of a placement stay those of what is held.
-use Rattle.std.proofs.Common.{◌≡◌, ℕ, zero, suc, ◌+◌, ◌<◌, ⊎_elim, Bool, true, false, not, ◌&&◌, ◌||◌, cond, eqb, List, [], ◌∷◌, map, refl, sym, ap, ◌∙◌, subst, arith}
-use Rattle.std.specs.Prelude.{filter, max}
-use Rattle.std.specs.List.{AllByRecursion, list_any, range_with_len, reduce}
-use Rattle.std.proofs.lemmas.Bool.{and_parts, eqb-true, cases_Bool}
+use Rattle.std.proofs.Common.{◌≡◌, ℕ, zero, suc, ◌+◌, ◌<◌, ⊎_elim, Bool, true, false, not, ◌&&◌, ◌||◌, cond, eqb, List, [], ◌∷◌, map, refl, sym, ap, ◌∙◌, subst, arith, filter, max}
+use Rattle.std.{specs.List.{AllByRecursion, list_any, range_with_len, reduce}, proofs.{lemmas.Bool.{and_parts, eqb-true, cases_Bool}, Math.Bool.and_assoc}}
 use Rattle.std.proofs.lemmas.List.Elements.{recursion_from_All}
-use Rattle.std.proofs.Math.Bool.{and_assoc}
-use Rattle.schedule.specs.declared.hop.Hop.{Hop}
-use Rattle.schedule.specs.Sends.{ScheduleValue, IsInRange, is_hop_below}
-use Rattle.schedule.specs.Placed.{PlacementValue, holds, same_pair}
-use Rattle.schedule.specs.Running.{after, brings}
-use Rattle.schedule.specs.Bags.{Bag, Bags, empty_bag, is_empty, of_placement, one_of}
-use Rattle.schedule.specs.Summing.{goes_to}
+use Rattle.schedule.specs.{declared.hop.Hop.Hop, Sends.{ScheduleValue, IsInRange, is_hop_below}, Placed.{PlacementValue, holds, same_pair}, Summing.goes_to}
+use Rattle.schedule.specs.{Running.{after, brings}, Bags.{Bag, Bags, empty_bag, is_empty, of_placement, one_of}}
 use Rattle.schedule.specs.JoinedRuns.{copied_step, joined_after, replaced}
-use Rattle.schedule.proofs.First.{each_weaker}
-use Rattle.schedule.proofs.Joining.{IsHopBelow, hop_below}
-use Rattle.schedule.proofs.Placing.{filter_alike, holds-placed}
-use Rattle.schedule.proofs.Stepping.{chunks-after, nodes-after}
+use Rattle.schedule.proofs.{First.each_weaker, Joining.{IsHopBelow, hop_below}, Placing.{filter_alike, holds-placed}, Stepping.{chunks-after, nodes-after}}
 use Rattle.bag_runs.proofs.JoinedSteps.{greatest_has, step_copies}
 
 -- ---- which bags of a placement are empty

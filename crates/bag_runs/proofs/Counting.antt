@@ -1,13 +1,9 @@
 -- Bags with places for 16 counts, and the counts of so many nodes that they stand for.
 use Rattle.std.proofs.Common.{◌≡◌, ℕ, zero, suc, ◌+◌, ◌<◌, ◌≤◌, Bool, true, false, ◌&&◌, cond, eqb, min, List, [], ◌∷◌, length, map, get_or, set, replicate, take, refl, sym, ap, ◌∙◌, arith, ⊎_elim, get_or-set_same, get_or-set_other}
-use Rattle.std.specs.List.{list_all, range_with_len}
-use Rattle.std.proofs.lemmas.Bool.{cases_lt, eq-eqb}
-use Rattle.std.proofs.lemmas.List.{get_or_past, get_or-replicate, take_all}
+use Rattle.std.{specs.List.{list_all, range_with_len}, proofs.lemmas.{Bool.{cases_lt, eq-eqb}, List.{get_or_past, get_or-replicate, take_all}}}
 use Rattle.std.proofs.lemmas.List.FromFn.{get_or-map-range_with_len}
 use Rattle.schedule.specs.Bags.{is_empty, one_of}
-use Rattle.bag_runs.specs.Stores.{added_at_2}
-use Rattle.bag_runs.specs.Kept.{IsHeld, counted}
-use Rattle.bag_runs.proofs.Cells.{differ, same_or_not}
+use Rattle.bag_runs.{specs.{Stores.added_at_2, Kept.{IsHeld, counted}}, proofs.Cells.{differ, same_or_not}}
 
 -- functions that agree give the same list
 pub map_alike : {X : Type 0} (f g : ℕ → X) → ((k : ℕ) → f k ≡ g k) → (ks : List ℕ) → map f ks ≡ map g ks

@@ -1,12 +1,7 @@
 -- Steps of joined runs: one that adds, one that copies, and what the greatest of its senders has.
-use Rattle.std.proofs.Common.{◌≡◌, ℕ, zero, suc, ◌+◌, ◌<◌, ◌≤◌, ◌⊎◌, ⊎_elim, cond, List, [], ◌∷◌, refl, sym, ap, ◌∙◌, subst, arith}
-use Rattle.std.specs.Prelude.{fold, max}
-use Rattle.std.specs.List.{AllByRecursion, reduce}
-use Rattle.std.proofs.lemmas.Bool.{le-leb, lt-leb}
-use Rattle.schedule.specs.Sends.{ScheduleValue}
-use Rattle.schedule.specs.Bags.{Bag, Bags}
-use Rattle.schedule.specs.Summing.{summed_step}
-use Rattle.schedule.specs.JoinedRuns.{copied_step, joined_after, replaced}
+use Rattle.std.proofs.Common.{◌≡◌, ℕ, zero, suc, ◌+◌, ◌<◌, ◌≤◌, ◌⊎◌, ⊎_elim, cond, List, [], ◌∷◌, refl, sym, ap, ◌∙◌, subst, arith, fold, max}
+use Rattle.std.{specs.List.{AllByRecursion, reduce}, proofs.lemmas.Bool.{le-leb, lt-leb}}
+use Rattle.schedule.specs.{Sends.ScheduleValue, Bags.{Bag, Bags}, Summing.summed_step, JoinedRuns.{copied_step, joined_after, replaced}}
 use Rattle.bag_runs.specs.Throughout.{AddsThroughout}
 
 -- ---- which steps add

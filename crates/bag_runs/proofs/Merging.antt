@@ -1,10 +1,7 @@
 -- Takes of one step, one after the other, on bags with counts held at 2: what they add, and what they copy.
-use Rattle.std.proofs.Common.{◌≡◌, ℕ, zero, suc, ◌+◌, ◌≤◌, Bool, true, false, ◌&&◌, cond, eqb, min, max, List, [], ◌∷◌, map, refl, sym, ap, ◌∙◌, arith}
-use Rattle.std.specs.Prelude.{filter, fold, not}
+use Rattle.std.proofs.Common.{◌≡◌, ℕ, zero, suc, ◌+◌, ◌≤◌, Bool, true, false, ◌&&◌, cond, eqb, min, max, List, [], ◌∷◌, map, refl, sym, ap, ◌∙◌, arith, filter, fold, not}
 use Rattle.std.specs.List.{AllByRecursion, reduce}
-use Rattle.schedule.specs.declared.hop.Hop.{Hop}
-use Rattle.schedule.specs.Bags.{Bag, Bags, added, held_at_2, is_empty}
-use Rattle.schedule.specs.JoinedRuns.{replaced}
+use Rattle.schedule.specs.{declared.hop.Hop.Hop, Bags.{Bag, Bags, added, held_at_2, is_empty}, JoinedRuns.replaced}
 use Rattle.bag_runs.specs.Stores.{added_at_2}
 
 -- ---- counts held at 2

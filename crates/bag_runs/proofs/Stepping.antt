@@ -1,10 +1,7 @@
 -- The stores of a run step by step.
-use Rattle.std.proofs.Common.{◌≡◌, ℕ, suc, ◌+◌, List, [], ◌∷◌, ◌++◌, length, map, refl, sym, ap, ◌∙◌, arith}
-use Rattle.std.specs.List.{range_with_len}
+use Rattle.std.{proofs.Common.{◌≡◌, ℕ, suc, ◌+◌, List, [], ◌∷◌, ◌++◌, length, map, refl, sym, ap, ◌∙◌, arith}, specs.List.range_with_len}
 use Rattle.std.proofs.lemmas.List.FromFn.{map-range_with_len_more}
-use Rattle.schedule.specs.Bags.{Bags}
-use Rattle.schedule.specs.Sends.{IsInRange, ScheduleValue}
-use Rattle.schedule.specs.JoinedRuns.{joined_after, joined_run, joined_step}
+use Rattle.schedule.specs.{Bags.Bags, Sends.{IsInRange, ScheduleValue}, JoinedRuns.{joined_after, joined_run, joined_step}}
 use Rattle.bag_runs.specs.Stores.{StoreValue, stored}
 
 -- the store after so many steps

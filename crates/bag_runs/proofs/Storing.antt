@@ -1,19 +1,10 @@
 -- Stores as lists of bags, a row of nodes for each chunk.
 use Rattle.std.proofs.Common.{◌≡◌, ℕ, zero, suc, ◌+◌, ◌*◌, ◌<◌, ◌≤◌, cond, eqb, min, List, [], ◌∷◌, ◌++◌, length, map, get_or, set, refl, sym, ap, ◌∙◌, arith}
-use Rattle.std.specs.List.{AllByRecursion, flat_map, range_with_len}
-use Rattle.std.proofs.lemmas.Grind.{flat_map-append}
-use Rattle.std.proofs.lemmas.List.{append-nil, append_assoc, get_or-map, length-map, length-set, map-append, map-id, map-set}
-use Rattle.std.proofs.lemmas.List.Elements.{All-from_recursion}
-use Rattle.std.proofs.lemmas.List.FromFn.{map-range_with_len_more}
-use Rattle.std.proofs.lemmas.Nat.{mul-add-lt}
-use Rattle.schedule.specs.Placed.{all_pairs}
-use Rattle.schedule.specs.Bags.{Bag, empty_bag, held_at_2, one_of}
-use Rattle.schedule.proofs.First.{each_append}
-use Rattle.bag_runs.specs.declared.mode.Mode.{Mode}
-use Rattle.bag_runs.specs.Stores.{StoreValue, bag_in, received, with_bag}
-use Rattle.bag_runs.specs.Kept.{IsFilled, IsHeld, IsStore, counted}
-use Rattle.bag_runs.proofs.Tables.{same_table, table_length}
-use Rattle.bag_runs.proofs.Counting.{few}
+use Rattle.std.{specs.List.{AllByRecursion, flat_map, range_with_len}, proofs.lemmas.{Grind.flat_map-append, List.Elements.All-from_recursion, Nat.mul-add-lt}}
+use Rattle.std.proofs.lemmas.List.{append-nil, append_assoc, get_or-map, length-map, length-set, map-append, map-id, map-set, FromFn.map-range_with_len_more}
+use Rattle.schedule.{specs.{Placed.all_pairs, Bags.{Bag, empty_bag, held_at_2, one_of}}, proofs.First.each_append}
+use Rattle.bag_runs.specs.{declared.mode.Mode.Mode, Stores.{StoreValue, bag_in, received, with_bag}, Kept.{IsFilled, IsHeld, IsStore, counted}}
+use Rattle.bag_runs.proofs.{Tables.{same_table, table_length}, Counting.few}
 
 -- ---- what is held at 2 stays as it is
 

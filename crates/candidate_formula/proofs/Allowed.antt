@@ -1,18 +1,11 @@
 -- The chunk counts that are allowed.
-use Rattle.std.proofs.Common.{◌≡◌, ℕ, ◌+◌, ◌-◌, ◌≤◌, Bool, true, false, cond, List, [], ◌∷◌, ◌++◌, map-id, refl, sym, ap, ◌∙◌, subst, arith, append-nil}
-use Rattle.std.specs.Prelude.{◌↔◌, IsTrue, filter, nat_le}
-use Rattle.std.specs.List.{range_with_len}
-use Rattle.std.specs.List.Sorted.{IsStrictlyIncreasing}
-use Rattle.std.proofs.lemmas.Bool.{and_parts, leb-true}
+use Rattle.std.proofs.Common.{◌≡◌, ℕ, ◌+◌, ◌-◌, ◌≤◌, Bool, true, false, cond, List, [], ◌∷◌, ◌++◌, map-id, refl, sym, ap, ◌∙◌, subst, arith, append-nil, ◌↔◌, IsTrue, filter, nat_le}
+use Rattle.std.{specs.List.{range_with_len, Sorted.IsStrictlyIncreasing}, proofs.lemmas.{Bool.{and_parts, leb-true}, List.Kept.IsStrictlyIncreasing-filter}}
 use Rattle.std.proofs.lemmas.List.Elements.{All-filter, All-contains, filter_passes}
 use Rattle.std.proofs.lemmas.List.FromFn.{length-range_with_len, get_or-range_with_len, filter_of_map_range_with_len_more}
-use Rattle.std.proofs.lemmas.List.Kept.{IsStrictlyIncreasing-filter}
 use Rattle.schedule.proofs.First.{Among-from_Contains, Contains-from_Among, among_kept}
-use Rattle.collective_spec.specs.declared.kind.Kind.{Kind}
-use Rattle.collective_spec.specs.Kinds.{allows}
-use Rattle.candidate_order.specs.Ranges.{LimitsValue}
-use Rattle.candidate_order.specs.Listed.{AreAllowed}
-use Rattle.candidate_order.proofs.Rows.{Contains-range}
+use Rattle.collective_spec.specs.{declared.kind.Kind.Kind, Kinds.allows}
+use Rattle.candidate_order.{specs.{Ranges.LimitsValue, Listed.AreAllowed}, proofs.Rows.Contains-range}
 use Rattle.send_encoding.proofs.Everywhere.{From, in_range}
 use Rattle.candidate_formula.specs.Counts.{allowed_up_to}
 

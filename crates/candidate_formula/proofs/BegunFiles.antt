@@ -1,7 +1,6 @@
 -- Files that are as before or begun, from call to call.
 use Rattle.std.proofs.Common.{◌≡◌, refl, ◌∙◌, subst, inl, inr, ⊎_elim}
-use Rattle.outer_ports.specs.declared.proof_name.ProofName.{ProofName}
-use Rattle.outer_ports.specs.Files.{Files}
+use Rattle.outer_ports.specs.{declared.proof_name.ProofName.ProofName, Files.Files}
 use Rattle.cnf_formula.specs.Formulas.{FormulaValue}
 use Rattle.candidate_formula.specs.Begun.{IsBegun, BegunOnly}
 

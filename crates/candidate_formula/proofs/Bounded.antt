@@ -1,15 +1,10 @@
 -- The size of a question bounds that of each candidate within its limits.
-use Rattle.std.proofs.Common.{ℕ, ◌+◌, ◌-◌, ◌*◌, ◌≤◌, length, arith}
-use Rattle.std.proofs.lemmas.Nat.{mul-le}
-use Rattle.std.proofs.lemmas.List.Sums.{sum_by-le-sum_by}
+use Rattle.std.proofs.{Common.{ℕ, ◌+◌, ◌-◌, ◌*◌, ◌≤◌, length, arith}, lemmas.{Nat.mul-le, List.Sums.sum_by-le-sum_by}}
 use Rattle.schedule.specs.Links.{GroupValue, usable_links}
-use Rattle.collective_spec.proofs.Sized.{before_among}
-use Rattle.collective_spec.proofs.Chunks.{chunks_more}
-use Rattle.candidate_order.specs.declared.candidate.Candidate.{Candidate}
-use Rattle.candidate_order.specs.Frontiers.{QuestionValue, IsWithin, instance_for}
+use Rattle.collective_spec.proofs.{Sized.before_among, Chunks.chunks_more}
+use Rattle.candidate_order.specs.{declared.candidate.Candidate.Candidate, Frontiers.{QuestionValue, IsWithin, instance_for}}
 use Rattle.round_encoding.specs.Candidates.{group_size, size_of as candidate_size, size_limit}
-use Rattle.candidate_formula.specs.Sizes.{most_chunks, size_of}
-use Rattle.candidate_formula.specs.Questions.{IsSmallQuestion}
+use Rattle.candidate_formula.specs.{Sizes.{most_chunks, size_of}, Questions.IsSmallQuestion}
 
 -- a group's counters have no more variables where there are no more chunks, steps and extra rounds
 group_more : (chunks steps extra most_c most_s most_e : ℕ) → chunks ≤ most_c → steps ≤ most_s → extra ≤ most_e → (group : GroupValue) → group_size chunks steps extra group ≤ group_size most_c most_s most_e group

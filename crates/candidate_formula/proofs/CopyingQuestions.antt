@@ -1,24 +1,14 @@
 -- The question that copies in place of one that is asked.
-use Rattle.std.proofs.Common.{◌≡◌, ◌≢◌, ℕ, ◌+◌, ◌*◌, ◌≤◌, Bool, true, sym, ap, ◌∙◌, subst}
-use Rattle.std.specs.Prelude.{◌↔◌, IsTrue, if◌then◌else◌, length, sum_by}
-use Rattle.schedule.specs.Links.{TopologyValue, IsTopology, usable_links, reversed_of}
-use Rattle.schedule.specs.Sends.{ScheduleValue}
+use Rattle.std.proofs.Common.{◌≡◌, ◌≢◌, ℕ, ◌+◌, ◌*◌, ◌≤◌, Bool, true, sym, ap, ◌∙◌, subst, ◌↔◌, IsTrue, if◌then◌else◌, length, sum_by}
+use Rattle.schedule.specs.{Links.{TopologyValue, IsTopology, usable_links, reversed_of}, Sends.ScheduleValue}
 use Rattle.collective_spec.specs.declared.kind.Kind.TheVariants as kind
-use Rattle.collective_spec.specs.declared.instance.Instance.{Instance}
-use Rattle.collective_spec.specs.declared.spec.Spec.{Spec}
-use Rattle.collective_spec.specs.Kinds.{allows}
-use Rattle.collective_spec.specs.Collectives.{IsSpec, adds_up, kind_in}
-use Rattle.candidate_order.specs.declared.candidate.Candidate.{Candidate}
-use Rattle.candidate_order.specs.Ranges.{LimitsValue, IsLimits}
-use Rattle.candidate_order.specs.Frontiers.{QuestionValue, IsWithin, instance_for}
+use Rattle.collective_spec.specs.{declared.{instance.Instance.Instance, spec.Spec.Spec}, Kinds.allows, Collectives.{IsSpec, adds_up, kind_in}}
+use Rattle.candidate_order.specs.{declared.candidate.Candidate.Candidate, Ranges.{LimitsValue, IsLimits}, Frontiers.{QuestionValue, IsWithin, instance_for}}
 use Rattle.candidate_order.specs.Copied.{copied_question}
 use Rattle.round_encoding.specs.Candidates.{group_size, size_limit}
 use Rattle.chunk_order.specs.Alike.{Ordered}
-use Rattle.candidate_formula.specs.Formulas.{formula_for, Suits}
-use Rattle.candidate_formula.specs.Sizes.{size_of}
-use Rattle.candidate_formula.specs.Questions.{IsSmallQuestion, copying_question}
-use Rattle.candidate_formula.proofs.Copying.{copies, copied_keeps, same_chunks, same_instance}
-use Rattle.candidate_formula.proofs.Exact.{asked_formula, copied_formula}
+use Rattle.candidate_formula.specs.{Formulas.{formula_for, Suits}, Sizes.size_of, Questions.{IsSmallQuestion, copying_question}}
+use Rattle.candidate_formula.proofs.{Copying.{copies, copied_keeps, same_chunks, same_instance}, Exact.{asked_formula, copied_formula}}
 
 module _ (t : TopologyValue) (s : Spec) (limits : LimitsValue) where
   -- the question over these links as it is asked

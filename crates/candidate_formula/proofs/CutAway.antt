@@ -1,19 +1,11 @@
 -- What is cut away, over the links that are searched.
-use Rattle.std.proofs.Common.{◌≡◌, ◌≢◌, Bool, true, false, sym, ap, ◌∙◌}
-use Rattle.std.specs.Prelude.{if◌then◌else◌}
-use Rattle.std.specs.Option.{is_some}
+use Rattle.std.{proofs.Common.{◌≡◌, ◌≢◌, Bool, true, false, sym, ap, ◌∙◌, if◌then◌else◌}, specs.Option.is_some}
 use Rattle.schedule.specs.Links.{TopologyValue, reversed_of}
-use Rattle.collective_spec.specs.declared.instance.Instance.{Instance}
+use Rattle.collective_spec.specs.{declared.instance.Instance.Instance, Collectives.{adds_up, kind_in}}
 use Rattle.collective_spec.specs.declared.kind.Kind.TheVariants as kind
-use Rattle.collective_spec.specs.Collectives.{adds_up, kind_in}
-use Rattle.candidate_order.specs.declared.candidate.Candidate.{Candidate}
-use Rattle.candidate_order.specs.Copied.{copied_question}
-use Rattle.candidate_order.specs.Frontiers.{QuestionValue}
-use Rattle.node_cuts.specs.declared.sets.Sets.TheVariants.{Nothing, All}
-use Rattle.node_cuts.specs.Cuts.{first_cut_of}
-use Rattle.node_cuts.specs.Cutting.{sets_for, cut_in, is_cut}
-use Rattle.candidate_formula.specs.Pruned.{is_cut_away}
-use Rattle.candidate_formula.proofs.Copying.{copies, same_instance}
+use Rattle.candidate_order.specs.{declared.candidate.Candidate.Candidate, Copied.copied_question, Frontiers.QuestionValue}
+use Rattle.node_cuts.specs.{declared.sets.Sets.TheVariants.{Nothing, All}, Cuts.first_cut_of, Cutting.{sets_for, cut_in, is_cut}}
+use Rattle.candidate_formula.{specs.Pruned.is_cut_away, proofs.Copying.{copies, same_instance}}
 
 -- whether a candidate is cut over such links
 abbrev cut_over : QuestionValue → Candidate → TopologyValue → Bool

@@ -1,24 +1,13 @@
 -- The formula of a candidate of a small question is satisfiable exactly where the candidate is solvable.
-use Rattle.std.proofs.Common.{◌≡◌, ℕ, Bool, true, false, List, sym, ap, subst}
-use Rattle.std.specs.Prelude.{◌↔◌, if◌then◌else◌}
-use Rattle.schedule.specs.Links.{TopologyValue, reversed_of}
-use Rattle.schedule.specs.Placed.{PlacementValue}
-use Rattle.schedule.specs.Sends.{ScheduleValue, IsInRange}
-use Rattle.schedule.specs.Solving.{Solvable}
-use Rattle.collective_spec.specs.Collectives.{adds_up}
-use Rattle.collective_spec.proofs.Sized.{before_among}
-use Rattle.candidate_order.specs.declared.candidate.Candidate.{Candidate}
-use Rattle.candidate_order.specs.Frontiers.{QuestionValue, IsWithin, Achieves, IsSolvedBy, IsSolvable, instance_for}
+use Rattle.std.proofs.Common.{◌≡◌, ℕ, Bool, true, false, List, sym, ap, subst, ◌↔◌, if◌then◌else◌}
+use Rattle.schedule.specs.{Links.{TopologyValue, reversed_of}, Placed.PlacementValue, Sends.{ScheduleValue, IsInRange}, Solving.Solvable}
+use Rattle.collective_spec.{specs.Collectives.adds_up, proofs.Sized.before_among}
+use Rattle.candidate_order.specs.{declared.candidate.Candidate.Candidate, Frontiers.{QuestionValue, IsWithin, Achieves, IsSolvedBy, IsSolvable, instance_for}}
 use Rattle.candidate_order.proofs.Achieved.{Achievable, achieved, solvable_by_one}
 use Rattle.cnf_formula.specs.Formulas.{FormulaValue, Satisfies, Satisfiable}
-use Rattle.round_encoding.specs.Rounding.{formula_of}
-use Rattle.round_encoding.specs.Candidates.{IsCandidate, IsTightSolution}
-use Rattle.round_encoding.proofs.Exactly.{exactly}
-use Rattle.chunk_order.specs.Ordering.{ordered_formula_of}
-use Rattle.chunk_order.proofs.Sufficing.{parts, exactly_solvable}
-use Rattle.candidate_formula.specs.Formulas.{formula_for, ordered_formula_for}
-use Rattle.candidate_formula.specs.Questions.{IsSmallQuestion}
-use Rattle.candidate_formula.proofs.Sought.{candidate_is}
+use Rattle.round_encoding.{specs.{Rounding.formula_of, Candidates.{IsCandidate, IsTightSolution}}, proofs.Exactly.exactly}
+use Rattle.chunk_order.{specs.Ordering.ordered_formula_of, proofs.Sufficing.{parts, exactly_solvable}}
+use Rattle.candidate_formula.{specs.{Formulas.{formula_for, ordered_formula_for}, Questions.IsSmallQuestion}, proofs.Sought.candidate_is}
 
 -- the formula, with the clauses of the order where these are asked for
 abbrev pub asked_formula : Bool → TopologyValue → PlacementValue → PlacementValue → ℕ → ℕ → FormulaValue

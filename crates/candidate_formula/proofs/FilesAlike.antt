@@ -1,16 +1,10 @@
 -- The files of a candidate prove the same where they stay, and of another question whose formula it has.
-use Rattle.std.proofs.Common.{◌≡◌, ℕ, ap, ◌∙◌, subst}
-use Rattle.std.specs.Prelude.{Some}
-use Rattle.outer_ports.specs.declared.part.Part.{Part}
-use Rattle.outer_ports.specs.declared.proof_name.FileKind.{FileKind}
-use Rattle.outer_ports.specs.declared.proof_name.FileKind.TheVariants.{Cnf, Lrat, Partial}
-use Rattle.outer_ports.specs.Files.{Files}
-use Rattle.candidate_order.specs.declared.candidate.Candidate.{Candidate}
-use Rattle.candidate_order.specs.Frontiers.{QuestionValue}
+use Rattle.std.proofs.Common.{◌≡◌, ℕ, ap, ◌∙◌, subst, Some}
+use Rattle.outer_ports.specs.{declared.{part.Part.Part, proof_name.FileKind.{FileKind, TheVariants.{Cnf, Lrat, Partial}}}, Files.Files}
+use Rattle.candidate_order.specs.{declared.candidate.Candidate.Candidate, Frontiers.QuestionValue}
 use Rattle.proof_rules.specs.Refuting.{Refutes, SpentLog}
 use Rattle.lrat_text.specs.Printing.{cnf_text}
-use Rattle.candidate_formula.specs.Files.{file_of, SolvedFiles, RefutedFiles, UnknownFiles}
-use Rattle.candidate_formula.specs.Formulas.{formula_for}
+use Rattle.candidate_formula.specs.{Files.{file_of, SolvedFiles, RefutedFiles, UnknownFiles}, Formulas.formula_for}
 
 module _ (part : Part) (p q : QuestionValue) (before after : Files) (x : Candidate) (same : formula_for p x ≡ formula_for q x) (stay : (kind : FileKind) → after (file_of kind part x) ≡ before (file_of kind part x)) where
   formula_alike : before (file_of Cnf part x) ≡ Some (cnf_text (formula_for p x)) → after (file_of Cnf part x) ≡ Some (cnf_text (formula_for q x))

@@ -1,22 +1,10 @@
 -- How many links a group has, and a topology, at most.
-use Rattle.std.proofs.Common.{◌≡◌, inl, inr, ℕ, ◌+◌, ◌*◌, ◌<◌, ◌≤◌, true, List, [], ◌∷◌, length, get_or, ap, ◌∙◌, subst, arith, length-append}
-use Rattle.std.specs.List.{flat_map, range_with_len}
-use Rattle.std.proofs.Math.Nat.{add-mul}
-use Rattle.std.proofs.lemmas.Nat.{mul-le}
-use Rattle.std.proofs.lemmas.List.Sums.{length-filter, count_by-le-length}
-use Rattle.std.proofs.lemmas.List.FromFn.{length-range_with_len, length-map-range_with_len}
-use Rattle.std.specs.Prelude.{◌&&◌, ◌==◌, All}
-use Rattle.std.specs.Bool.{Decides}
-use Rattle.std.specs.Cmp.{IsEquivalence}
-use Rattle.std.specs.Cmp.{nat_eq_equiv}
-use Rattle.std.proofs.lemmas.List.Elements.{All-head, All-tail}
-use Rattle.std.proofs.lemmas.Map.Made.{IsDistinct-from_AllPairs, length-le_from_is_member}
-use Rattle.schedule.specs.Links.{TopologyValue, IsGroup, IsBelow, IsTopology, GroupValue, usable_links, is_usable}
-use Rattle.schedule.specs.Placed.{same_pair, all_pairs}
-use Rattle.schedule.proofs.First.{Among}
-use Rattle.schedule.proofs.Placing.{pair_itself, pair_is, among_all}
-use Rattle.schedule.proofs.Ordered.{among_from_any}
-use Rattle.schedule.proofs.Usable.{row}
+use Rattle.std.proofs.Common.{◌≡◌, inl, inr, ℕ, ◌+◌, ◌*◌, ◌<◌, ◌≤◌, true, List, [], ◌∷◌, length, get_or, ap, ◌∙◌, subst, arith, length-append, ◌&&◌, ◌==◌, All}
+use Rattle.std.{specs.List.{flat_map, range_with_len}, proofs.{Math.Nat.add-mul, lemmas.{Nat.mul-le, List.Sums.{length-filter, count_by-le-length}}}}
+use Rattle.std.{proofs.lemmas.List.FromFn.{length-range_with_len, length-map-range_with_len}, specs.{Bool.Decides, Cmp.{IsEquivalence, nat_eq_equiv}}}
+use Rattle.std.proofs.lemmas.{List.Elements.{All-head, All-tail}, Map.Made.{IsDistinct-from_AllPairs, length-le_from_is_member}}
+use Rattle.schedule.specs.{Links.{TopologyValue, IsGroup, IsBelow, IsTopology, GroupValue, usable_links, is_usable}, Placed.{same_pair, all_pairs}}
+use Rattle.schedule.proofs.{First.Among, Placing.{pair_itself, pair_is, among_all}, Ordered.among_from_any, Usable.row}
 
 pair_decides : (a b : ℕ × ℕ) → Decides (same_pair a b) (a ≡ b)
 pair_decides a b = (pair_is a b, λ e. subst (λ c. same_pair a c ≡ true) e (pair_itself a))

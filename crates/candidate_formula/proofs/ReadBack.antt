@@ -1,13 +1,9 @@
 -- The text of proof lines says those lines.
-use Rattle.std.proofs.Common.{◌≡◌, ℕ, ◌+◌, List, [], ◌∷◌, Some, Ok, refl, ap, ◌∙◌}
-use Rattle.std.specs.Prelude.{All}
-use Rattle.std.specs.List.{join_with_byte}
+use Rattle.std.{proofs.Common.{◌≡◌, ℕ, ◌+◌, List, [], ◌∷◌, Some, Ok, refl, ap, ◌∙◌, All}, specs.List.join_with_byte}
 use Rattle.std.proofs.lemmas.List.Elements.{All-head, All-tail}
 use Rattle.text_lines.specs.Text.{rows_of}
 use Rattle.cnf_formula.specs.declared.line.LratLine.{LratLine}
-use Rattle.lrat_text.specs.Printing.{line_words, lrat_text, IsReadable}
-use Rattle.lrat_text.specs.Reading.{size_of}
-use Rattle.lrat_text.proofs.Printed.{whole, row_of_line, row_says_line}
+use Rattle.lrat_text.{specs.{Printing.{line_words, lrat_text, IsReadable}, Reading.size_of}, proofs.Printed.{whole, row_of_line, row_says_line}}
 use Rattle.candidate_formula.specs.Lines.{in_front, lines_from, lines_of_text}
 
 says_lines : (lines : List LratLine) (place : ℕ) → All IsReadable lines → lines_from place (rows_of (lrat_text lines)) ≡ Ok lines

@@ -1,11 +1,7 @@
 -- A candidate of a small question is one of its instance.
 use Rattle.std.proofs.Common.{ℕ, sym, ◌∙◌, arith}
-use Rattle.collective_spec.specs.declared.spec.Spec.{Spec}
-use Rattle.collective_spec.proofs.Sized.{before_among, after_among}
-use Rattle.collective_spec.proofs.Chunks.{chunks_some, few_base, chunks_few}
-use Rattle.candidate_order.specs.declared.candidate.Candidate.{Candidate}
-use Rattle.candidate_order.specs.Frontiers.{QuestionValue, IsWithin, instance_for}
-use Rattle.candidate_order.proofs.Orders.{has_chunk}
+use Rattle.collective_spec.{specs.declared.spec.Spec.Spec, proofs.{Sized.{before_among, after_among}, Chunks.{chunks_some, few_base, chunks_few}}}
+use Rattle.candidate_order.{specs.{declared.candidate.Candidate.Candidate, Frontiers.{QuestionValue, IsWithin, instance_for}}, proofs.Orders.has_chunk}
 use Rattle.round_encoding.specs.Candidates.{IsCandidate}
 use Rattle.candidate_formula.specs.Questions.{IsSmallQuestion}
 

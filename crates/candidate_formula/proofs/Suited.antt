@@ -1,16 +1,10 @@
 -- Schedules that have what a question asks beside solving.
-use Rattle.std.proofs.Common.{subst}
-use Rattle.std.specs.Prelude.{◌↔◌}
+use Rattle.std.proofs.Common.{subst, ◌↔◌}
 use Rattle.schedule.specs.Solving.{Solvable}
-use Rattle.candidate_order.specs.declared.candidate.Candidate.{Candidate}
-use Rattle.candidate_order.specs.Frontiers.{QuestionValue, IsWithin, IsSolvable, instance_for}
+use Rattle.candidate_order.specs.{declared.candidate.Candidate.Candidate, Frontiers.{QuestionValue, IsWithin, IsSolvable, instance_for}}
 use Rattle.candidate_order.proofs.Achieved.{Achievable, achieved}
-use Rattle.chunk_order.specs.Solutions.{HasOrderedSolution}
-use Rattle.chunk_order.proofs.Sufficing.{ordered_suffice}
-use Rattle.candidate_formula.specs.Formulas.{HasSuited}
-use Rattle.candidate_formula.specs.Questions.{IsSmallQuestion}
-use Rattle.candidate_formula.proofs.Exact.{tight_solves}
-use Rattle.candidate_formula.proofs.Sought.{candidate_is}
+use Rattle.chunk_order.{specs.Solutions.HasOrderedSolution, proofs.Sufficing.ordered_suffice}
+use Rattle.candidate_formula.{specs.{Formulas.HasSuited, Questions.IsSmallQuestion}, proofs.{Exact.tight_solves, Sought.candidate_is}}
 
 module _ (q : QuestionValue) (x : Candidate) (small : IsSmallQuestion q) (within : IsWithin q x) where
   suited : IsSolvable q x → HasSuited q x

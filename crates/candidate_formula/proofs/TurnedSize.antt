@@ -1,19 +1,12 @@
 -- A search over links that are turned round is as large.
-use Rattle.std.proofs.Common.{◌≡◌, ℕ, ◌+◌, ◌*◌, Bool, true, false, cond, List, [], ◌∷◌, ◌++◌, length, map, refl, sym, ap, ◌∙◌, arith, length-append}
-use Rattle.std.specs.Prelude.{filter, sum_by}
-use Rattle.std.specs.List.{flat_map, range_with_len}
-use Rattle.std.proofs.lemmas.List.{length-map}
-use Rattle.std.proofs.lemmas.List.Elements.{filter-append}
-use Rattle.std.proofs.lemmas.List.Sums.{sum_by-cons}
+use Rattle.std.proofs.Common.{◌≡◌, ℕ, ◌+◌, ◌*◌, Bool, true, false, cond, List, [], ◌∷◌, ◌++◌, length, map, refl, sym, ap, ◌∙◌, arith, length-append, filter, sum_by}
+use Rattle.std.{specs.List.{flat_map, range_with_len}, proofs.lemmas.List.{length-map, Elements.filter-append, Sums.sum_by-cons}}
 use Rattle.schedule.specs.Links.{GroupValue, TopologyValue, is_usable, usable_links, turned, reversed_group, reversed_of}
 use Rattle.schedule.proofs.Turning.{turned_usable, one_if}
 use Rattle.collective_spec.specs.declared.spec.Spec.{Spec}
-use Rattle.candidate_order.specs.Ranges.{LimitsValue}
-use Rattle.candidate_order.specs.Frontiers.{QuestionValue}
-use Rattle.candidate_order.specs.Copied.{copied_question}
+use Rattle.candidate_order.specs.{Ranges.LimitsValue, Frontiers.QuestionValue, Copied.copied_question}
 use Rattle.round_encoding.specs.Candidates.{group_size}
-use Rattle.candidate_formula.specs.Sizes.{most_chunks, size_of}
-use Rattle.candidate_formula.proofs.CopyingQuestions.{same_size}
+use Rattle.candidate_formula.{specs.Sizes.{most_chunks, size_of}, proofs.CopyingQuestions.same_size}
 
 -- ---- how many pairs of a grid pass a test
 

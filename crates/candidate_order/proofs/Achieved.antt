@@ -1,14 +1,8 @@
 -- A candidate is solvable if and only if some schedule of the size of its instance does what is asked.
 use Rattle.std.proofs.Common.{Bool, true, false}
-use Rattle.schedule.specs.Links.{TopologyValue}
-use Rattle.schedule.specs.Sends.{ScheduleValue, IsSchedule}
-use Rattle.schedule.specs.Solving.{Solvable}
-use Rattle.schedule.specs.Summing.{SummedSolvable}
-use Rattle.collective_spec.specs.declared.spec.Spec.{Spec}
-use Rattle.collective_spec.specs.declared.spec.Spec.TheVariants.{Standard, Custom}
-use Rattle.collective_spec.specs.Collectives.{adds_up}
-use Rattle.candidate_order.specs.declared.candidate.Candidate.{Candidate}
-use Rattle.candidate_order.specs.Ranges.{LimitsValue}
+use Rattle.schedule.specs.{Links.TopologyValue, Sends.{ScheduleValue, IsSchedule}, Solving.Solvable, Summing.SummedSolvable}
+use Rattle.collective_spec.specs.{declared.spec.Spec.{Spec, TheVariants.{Standard, Custom}}, Collectives.adds_up}
+use Rattle.candidate_order.specs.{declared.candidate.Candidate.Candidate, Ranges.LimitsValue}
 use Rattle.candidate_order.specs.Frontiers.{QuestionValue, IsSized, Achieves, IsSolvable, demand_for, instance_for}
 
 abbrev pub Achievable : Bool → QuestionValue → Candidate → Type 0

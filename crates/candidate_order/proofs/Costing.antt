@@ -1,7 +1,6 @@
 -- Fractions of rounds and chunk counts, compared by cross products.
-use Rattle.std.proofs.Common.{◌≡◌, ℕ, zero, suc, ◌*◌, ◌<◌, ◌≤◌, ◌⊎◌, inl, inr, ⊎_elim, refl, arith}
+use Rattle.std.proofs.{Common.{◌≡◌, ℕ, zero, suc, ◌*◌, ◌<◌, ◌≤◌, ◌⊎◌, inl, inr, ⊎_elim, refl, arith}, lemmas.Bool.{cases_lt, cases_order}}
 use Rattle.std.proofs.Math.Nat.{mul-le-mul_right, mul-lt-mul_of_pos_right, lt_of_mul-lt-mul_right, mul_right_comm, mul-pos}
-use Rattle.std.proofs.lemmas.Bool.{cases_lt, cases_order}
 
 -- the first fraction is at most the third
 pub cost_upto : (r1 c1 r2 c2 r3 c3 : ℕ) → 0 < c2 → r1 * c2 ≤ r2 * c1 → r2 * c3 ≤ r3 * c2 → r1 * c3 ≤ r3 * c1

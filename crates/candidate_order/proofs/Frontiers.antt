@@ -1,21 +1,10 @@
 -- What a right frontier says, drawn out.
-use Rattle.std.proofs.Common.{◌≡◌, ◌∙◌, ◌<◌, ◌≤◌, ℕ, sym, subst, ap, Bool, true, false, inl, inr, List, [], length, arith}
-use Rattle.std.specs.Prelude.{Contains, AllPairs, get_or, map}
-use Rattle.std.proofs.lemmas.Bool.{cases_order}
-use Rattle.std.proofs.lemmas.List.{get_or_default, get_or-map, length-map}
-use Rattle.std.proofs.lemmas.List.Elements.{All-contains}
+use Rattle.std.proofs.Common.{◌≡◌, ◌∙◌, ◌<◌, ℕ, sym, subst, ap, true, false, inl, inr, List, [], length, arith, Contains, get_or, map}
+use Rattle.std.proofs.lemmas.{Bool.cases_order, List.{get_or_default, get_or-map, length-map, Elements.All-contains}}
 use Rattle.list_laws.proofs.Members.{Contains-map}
-use Rattle.candidate_order.specs.declared.candidate.Candidate.{Candidate}
-use Rattle.schedule.specs.Links.{TopologyValue}
-use Rattle.schedule.specs.Sends.{ScheduleValue, IsSchedule}
-use Rattle.collective_spec.specs.Collectives.{adds_up}
-use Rattle.collective_spec.specs.declared.spec.Spec.{Spec}
-use Rattle.collective_spec.specs.declared.spec.Spec.TheVariants.{Standard, Custom}
-use Rattle.candidate_order.specs.Ranges.{LimitsValue}
-use Rattle.candidate_order.specs.declared.mark.Mark.TheVariants.{Optimal, Open}
-use Rattle.candidate_order.specs.Costs.{NoWorse, Better, Before}
-use Rattle.candidate_order.proofs.Orders.{Before-irrefl}
+use Rattle.candidate_order.specs.{declared.{candidate.Candidate.Candidate, mark.Mark.TheVariants.{Optimal, Open}}, Costs.{NoWorse, Better, Before}}
 use Rattle.candidate_order.specs.Frontiers.{QuestionValue, PointValue, FrontierValue, solved, IsWithin, Achieves, IsSolvable, IsPoint, RightFrontier, Searched}
+use Rattle.collective_spec.specs.Collectives.{adds_up}
 
 pub none-contained : {X : Type 0} → (xs : List X) (x : X) → xs ≡ [] → Contains xs x → ⊥
 none-contained xs x e h = absurd (let lt = rw e at h.1 in omega (arith, lt))

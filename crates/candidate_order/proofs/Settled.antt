@@ -1,17 +1,11 @@
 -- Two searches that give up nothing find points of the same candidates, and refute the same ones.
-use Rattle.std.proofs.Common.{◌≡◌, List, [], inl, inr, ⊎_elim, sym, subst}
-use Rattle.std.specs.Prelude.{◌⊎◌, All, Contains}
-use Rattle.std.proofs.lemmas.List.Elements.{All-contains}
+use Rattle.std.proofs.{Common.{◌≡◌, List, [], inl, inr, ⊎_elim, sym, subst, ◌⊎◌, All, Contains}, lemmas.List.Elements.All-contains}
 use Rattle.list_laws.proofs.Each.{all_contained}
 use Rattle.schedule.proofs.First.{Among, Among-from_Contains, Contains-from_Among, map_among}
-use Rattle.collective_spec.specs.Collectives.{adds_up}
-use Rattle.candidate_order.specs.declared.candidate.Candidate.{Candidate}
-use Rattle.candidate_order.specs.Costs.{NoWorse, Before}
+use Rattle.candidate_order.specs.{declared.candidate.Candidate.Candidate, Costs.{NoWorse, Before}}
 use Rattle.candidate_order.specs.Frontiers.{QuestionValue, PointValue, FrontierValue, solved, given_up, IsWithin, IsSolvable, IsPoint, RightFrontier, IsTried, IsWorthTrying, Searched}
-use Rattle.candidate_order.proofs.Orders.{Before-trans, Before-total, has_chunk, HasChunk}
-use Rattle.candidate_order.proofs.Frontiers.{none-contained}
+use Rattle.candidate_order.proofs.{Orders.{Before-trans, Before-total, has_chunk, HasChunk}, Frontiers.none-contained, Turns.{Settles, one_by_turns}}
 use Rattle.candidate_order.proofs.Unique.{candidates_apart, one_list_of_candidates}
-use Rattle.candidate_order.proofs.Turns.{Settles, one_by_turns}
 
 module _ (q : QuestionValue) where
   -- the candidate of a point is within the limits, and its schedule shows that it can be solved

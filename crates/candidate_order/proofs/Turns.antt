@@ -1,6 +1,5 @@
 -- Two ascending lists of which each has what the other has, as long as they agree on what comes before it, are one list.
-use Rattle.std.proofs.Common.{◌≡◌, List, [], ◌∷◌, ◌⊎◌, inl, inr, ⊎_elim, refl, sym, subst}
-use Rattle.std.specs.Prelude.{AllPairs}
+use Rattle.std.proofs.Common.{◌≡◌, List, [], ◌∷◌, ◌⊎◌, inl, inr, ⊎_elim, refl, sym, subst, AllPairs}
 use Rattle.list_laws.proofs.Pairs.{pairs_tail}
 use Rattle.schedule.proofs.First.{Among}
 use Rattle.candidate_order.proofs.Unique.{Same, first_before, same_lists}

@@ -1,10 +1,8 @@
 -- Two ascending lists with the same members are one list.
-use Rattle.std.proofs.Common.{◌≡◌, suc, List, [], ◌∷◌, inl, inr, refl, sym, ap, ◌∙◌, subst, arith}
-use Rattle.std.specs.Prelude.{◌↔◌, AllPairs, Contains}
+use Rattle.std.proofs.Common.{◌≡◌, suc, List, [], ◌∷◌, inl, inr, refl, sym, ap, ◌∙◌, subst, arith, ◌↔◌, AllPairs, Contains}
 use Rattle.list_laws.proofs.Pairs.{pairs_tail}
 use Rattle.schedule.proofs.First.{Among, Among-from_Contains, Contains-from_Among}
-use Rattle.candidate_order.specs.declared.candidate.Candidate.{Candidate}
-use Rattle.candidate_order.specs.Costs.{Before}
+use Rattle.candidate_order.specs.{declared.candidate.Candidate.Candidate, Costs.Before}
 
 -- the two lists have the same items
 abbrev pub Same : {X : Type 0} → List X → List X → Type 0

@@ -1,15 +1,9 @@
 -- A totalizer is small: each node of its tree joins two sides of at most so many outputs, and there are fewer nodes than inputs.
 use Rattle.std.proofs.Common.{◌≡◌, ℕ, zero, suc, ◌+◌, ◌*◌, ◌/◌, ◌<◌, ◌≤◌, Bool, true, false, List, [], ◌∷◌, ◌++◌, length, map, take, drop, ap, arith, length-append}
-use Rattle.std.specs.List.{flat_map, range_with_len}
-use Rattle.std.proofs.lemmas.List.{length-take, length-drop, length-map}
-use Rattle.std.proofs.lemmas.List.FromFn.{length-range_with_len}
-use Rattle.std.proofs.lemmas.Nat.{mul-le}
+use Rattle.std.{specs.List.{flat_map, range_with_len}, proofs.lemmas.{List.{length-take, length-drop, length-map, FromFn.length-range_with_len}, Nat.mul-le}}
 use Rattle.cnf_formula.specs.Literals.{LitValue, negation}
-use Rattle.cardinality.specs.Counting.{at_most_one_of}
-use Rattle.cardinality.specs.Totalizers.{Tree, tree_within, tree_of, only_where, joins_at, joins, totals, totalizer_of, side_of}
-use Rattle.cardinality.proofs.Lengths.{flat_length}
-use Rattle.cardinality.proofs.Sides.{side_few, side_fewer}
-use Rattle.cardinality.proofs.Totals.{many_outputs}
+use Rattle.cardinality.specs.{Counting.at_most_one_of, Totalizers.{Tree, tree_within, tree_of, only_where, joins_at, joins, totals, totalizer_of, side_of}}
+use Rattle.cardinality.proofs.{Lengths.flat_length, Sides.{side_few, side_fewer}, Totals.many_outputs}
 
 -- ---- pairs
 

@@ -1,13 +1,8 @@
 -- What the clauses say that join the outputs of two sides.
-use Rattle.std.proofs.Common.{◌≡◌, ℕ, zero, suc, ◌+◌, ◌<◌, ◌≤◌, Bool, true, false, List, [], ◌∷◌, ◌++◌, length, get_or, ltb, leb, refl, sym, ap, ◌∙◌, arith}
-use Rattle.std.specs.Prelude.{◌||◌, ◌&&◌, not, flat_map, All}
-use Rattle.std.specs.List.{range_with_len}
-use Rattle.std.proofs.lemmas.Bool.{false≢true, and_parts, and_from, lt-ltb, ltb-true, le-leb, leb-true}
-use Rattle.std.proofs.lemmas.List.Elements.{All-nil, All-cons, All-append}
-use Rattle.std.proofs.lemmas.List.Folds.{list_any-append}
-use Rattle.cnf_formula.specs.Literals.{LitValue, yes, negation, is_true, clause_holds, all_hold}
-use Rattle.cnf_formula.specs.Formulas.{IsAbout, IsClause}
-use Rattle.cnf_formula.proofs.Clauses.{negation_is}
+use Rattle.std.proofs.Common.{◌≡◌, ℕ, zero, suc, ◌+◌, ◌<◌, ◌≤◌, Bool, true, false, List, [], ◌∷◌, ◌++◌, length, get_or, ltb, leb, refl, sym, ap, ◌∙◌, arith, ◌||◌, ◌&&◌, not, flat_map, All}
+use Rattle.std.{specs.List.range_with_len, proofs.lemmas.Bool.{false≢true, and_parts, and_from, lt-ltb, ltb-true, le-leb, leb-true}}
+use Rattle.std.proofs.lemmas.List.{Elements.{All-nil, All-cons, All-append}, Folds.list_any-append}
+use Rattle.cnf_formula.{specs.{Literals.{LitValue, yes, negation, is_true, clause_holds, all_hold}, Formulas.{IsAbout, IsClause}}, proofs.Clauses.negation_is}
 use Rattle.cardinality.specs.Totalizers.{only_where, unless, joins_at, joins}
 use Rattle.cardinality.proofs.Ranges.{range_passes, passes_range, only_holds, holds_only, all_of_range}
 

@@ -1,10 +1,7 @@
 -- What holds of every number of a range, and of clauses that are there where a test passes.
-use Rattle.std.proofs.Common.{◌≡◌, ℕ, zero, suc, ◌+◌, ◌<◌, ◌≤◌, Bool, true, false, List, map, refl, sym, ◌∙◌, subst, ⊎_elim, arith}
-use Rattle.std.specs.Prelude.{flat_map, All}
-use Rattle.std.specs.List.{list_all, range_with_len}
-use Rattle.std.proofs.lemmas.Bool.{false≢true, and_parts, and_from, cases_eq}
+use Rattle.std.proofs.Common.{◌≡◌, ℕ, zero, suc, ◌+◌, ◌<◌, ◌≤◌, Bool, true, false, List, map, refl, sym, ◌∙◌, subst, ⊎_elim, arith, flat_map, All}
+use Rattle.std.{specs.List.{list_all, range_with_len}, proofs.lemmas.{Bool.{false≢true, and_parts, and_from, cases_eq}, List.Folds.list_all-append}}
 use Rattle.std.proofs.lemmas.List.Elements.{All-nil, All-cons, All-append}
-use Rattle.std.proofs.lemmas.List.Folds.{list_all-append}
 use Rattle.cnf_formula.specs.Literals.{LitValue, clause_holds, all_hold}
 use Rattle.cardinality.specs.Totalizers.{only_where}
 

@@ -1,19 +1,12 @@
 -- A totalizer counts: each tree counts its inputs, since two sides that count their own are joined so that both are counted.
-use Rattle.std.proofs.Common.{◌≡◌, ℕ, zero, suc, ◌+◌, ◌-◌, ◌/◌, ◌<◌, ◌≤◌, min, Bool, true, false, cond, List, [], ◌∷◌, ◌++◌, length, get_or, map, take, drop, leb, refl, sym, ap, ◌∙◌, subst, arith, append_assoc, length-append}
-use Rattle.std.specs.Prelude.{All}
-use Rattle.std.specs.List.{range_with_len}
-use Rattle.std.proofs.lemmas.Bool.{and_parts, and_from, leb-true, le-leb}
-use Rattle.std.proofs.lemmas.List.{get_or-append-add, length-take, length-drop, take-append-drop, append-nil}
-use Rattle.std.proofs.lemmas.List.Elements.{All-nil, All-cons, All-head, All-append}
-use Rattle.std.proofs.lemmas.List.Folds.{list_all-append}
-use Rattle.std.proofs.lemmas.List.FromFn.{get_or-map-range_with_len, length-map-range_with_len}
-use Rattle.std.proofs.lemmas.List.Sums.{sum_by-append, count_by-le-length}
-use Rattle.cnf_formula.specs.Literals.{LitValue, yes, is_true, clause_holds, all_hold}
-use Rattle.cnf_formula.specs.Formulas.{IsAbout, IsClause}
+use Rattle.std.proofs.Common.{◌≡◌, ℕ, zero, suc, ◌+◌, ◌-◌, ◌/◌, ◌<◌, ◌≤◌, min, Bool, true, false, cond, List, [], ◌∷◌, ◌++◌, length, get_or, map, take, drop, leb, refl, sym, ap, ◌∙◌, subst, arith, append_assoc, length-append, All}
+use Rattle.std.{specs.List.range_with_len, proofs.lemmas.{Bool.{and_parts, and_from, leb-true, le-leb}, List.Folds.list_all-append}}
+use Rattle.std.proofs.lemmas.List.{get_or-append-add, length-take, length-drop, take-append-drop, append-nil, Sums.{sum_by-append, count_by-le-length}}
+use Rattle.std.proofs.lemmas.List.{Elements.{All-nil, All-cons, All-head, All-append}, FromFn.{get_or-map-range_with_len, length-map-range_with_len}}
+use Rattle.cnf_formula.specs.{Literals.{LitValue, yes, is_true, clause_holds, all_hold}, Formulas.{IsAbout, IsClause}}
 use Rattle.cardinality.specs.Counting.{CounterValue, true_inputs, output, Reaches, Extends, IsCounter}
 use Rattle.cardinality.specs.Totalizers.{Tree, none, one, both, inputs_of, tree_within, tree_of, joins, joined_counters, totals, totalizer_of}
-use Rattle.cardinality.proofs.Ranges.{all_of_map}
-use Rattle.cardinality.proofs.Wider.{old_is_same, All-front, All-back, clause_more, clauses_more, clauses_same, count_same}
+use Rattle.cardinality.proofs.{Ranges.all_of_map, Wider.{old_is_same, All-front, All-back, clause_more, clauses_more, clauses_same, count_same}}
 use Rattle.cardinality.proofs.Joins.{is_reached, joins_say, say_joins, joins_about}
 
 -- a counter of inputs about the first so many variables, with as many outputs as it has

@@ -1,11 +1,7 @@
 -- Literals and clauses about the first variables, in an assignment of more.
-use Rattle.std.proofs.Common.{◌≡◌, ℕ, ◌+◌, ◌-◌, ◌≤◌, Bool, false, cond, List, [], ◌∷◌, ◌++◌, length, get_or, refl, sym, ap, ◌∙◌, arith}
-use Rattle.std.specs.Prelude.{◌||◌, ◌&&◌, All}
-use Rattle.std.proofs.lemmas.List.{get_or_append_left}
-use Rattle.std.proofs.lemmas.List.Elements.{All-nil, All-cons, All-head, All-tail}
-use Rattle.std.proofs.lemmas.List.Sums.{sum_by-cons}
-use Rattle.cnf_formula.specs.Literals.{LitValue, same_sign, is_true, clause_holds, all_hold}
-use Rattle.cnf_formula.specs.Formulas.{IsAbout, IsClause}
+use Rattle.std.proofs.Common.{◌≡◌, ℕ, ◌+◌, ◌-◌, ◌≤◌, Bool, false, cond, List, [], ◌∷◌, ◌++◌, length, get_or, refl, sym, ap, ◌∙◌, arith, ◌||◌, ◌&&◌, All}
+use Rattle.std.proofs.lemmas.List.{get_or_append_left, Elements.{All-nil, All-cons, All-head, All-tail}, Sums.sum_by-cons}
+use Rattle.cnf_formula.specs.{Literals.{LitValue, same_sign, is_true, clause_holds, all_hold}, Formulas.{IsAbout, IsClause}}
 use Rattle.cardinality.specs.Counting.{true_inputs}
 
 pub old_is_same : (values more : List Bool) (y : LitValue) → IsAbout (length values) y → is_true (values ++ more) y ≡ is_true values y

@@ -1,8 +1,6 @@
 -- What a search through a list finds.
 use Rattle.std.proofs.Common.{◌≡◌, suc, zero, Bool, true, false, cond, not, ◌&&◌, List, [], ◌∷◌, map, refl, sym, ap, ◌∙◌, arith, Option, Some, None, All, Contains, MatchOption, find, Decides}
-use Rattle.std.specs.List.{list_any}
-use Rattle.std.proofs.lemmas.List.Elements.{All-cons}
-use Rattle.std.proofs.lemmas.Bool.{or_right, or_left, false≢true}
+use Rattle.std.{specs.List.list_any, proofs.lemmas.{List.Elements.All-cons, Bool.{or_right, or_left, false≢true}}}
 use Rattle.list_laws.proofs.Members.{Contains-cons}
 use Rattle.case_table.specs.Rows.{all_differ}
 

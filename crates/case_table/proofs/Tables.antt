@@ -1,16 +1,9 @@
 -- The two look-ups of a table.
-use Rattle.std.proofs.Common.{◌≡◌, ◌≢◌, ℕ, ◌==◌, Bool, false, List, refl, sym, ap, ◌∙◌, Option, Some, None, All, Contains, IfSome, IfNone, Decides, IsTrue, subst, Bor}
-use Rattle.std.specs.Prelude.{bytes_eq, find}
-use Rattle.std.specs.Option.{option_map, option_copied}
-use Rattle.std.proofs.lemmas.List.Elements.{All-weaker}
-use Rattle.std.proofs.lemmas.Slice.Eq.{bytes_eq-Decides}
-use Rattle.std.proofs.lemmas.Bool.{and_parts, false≢true}
+use Rattle.std.proofs.Common.{◌≡◌, ◌≢◌, ℕ, ◌==◌, Bool, false, List, refl, sym, ap, ◌∙◌, Option, Some, None, All, Contains, IfSome, IfNone, Decides, IsTrue, subst, Bor, bytes_eq, find}
+use Rattle.std.{specs.Option.{option_map, option_copied}, proofs.lemmas.{List.Elements.All-weaker, Slice.Eq.bytes_eq-Decides, Bool.{and_parts, false≢true}}}
 use Rattle.std.proofs.lemmas.Bool.Decides.{Decides-eqb}
 use Rattle.list_laws.proofs.Tests.{find-map}
-use Rattle.case_table.specs.Rows.{is_one_to_one, value_at, word_at}
-use Rattle.case_table.specs.Shown.{entries}
-use Rattle.case_table.specs.declared.row.Row.{Row}
-use Rattle.case_table.proofs.Finding.{Found, find-Found, find-only}
+use Rattle.case_table.{specs.{Rows.{is_one_to_one, value_at, word_at}, Shown.entries, declared.row.Row.Row}, proofs.Finding.{Found, find-Found, find-only}}
 
 ne_from_false : {A : Type 0} (b : Bool) (x y : A) → Decides b (x ≡ y) → b ≡ false → x ≢ y
 ne_from_false b x y d e h = false≢true (sym e ∙ d.1 h)

@@ -1,9 +1,7 @@
 -- Chunks that are alike: the test decides an equivalence, and chunks that are alike have one watch node.
-use Rattle.std.proofs.Common.{◌≡◌, ℕ, zero, suc, ◌+◌, ◌<◌, ◌≤◌, Bool, true, false, cond, Some, refl, sym, ap, ◌∙◌, ⊎_elim, arith}
+use Rattle.std.proofs.Common.{◌≡◌, ℕ, zero, suc, ◌+◌, ◌<◌, ◌≤◌, Bool, true, false, cond, Some, refl, sym, ap, ◌∙◌, ⊎_elim, arith, ◌&&◌, not, find}
+use Rattle.std.{specs.List.{list_all, range_with_len}, proofs.lemmas.Bool.{false≢true, and_parts, and_from, cases_Bool, cases_eq, false_from_ne_true}}
 use mathlib.Core.Bool.{beq}
-use Rattle.std.specs.Prelude.{◌&&◌, not, find}
-use Rattle.std.specs.List.{list_all, range_with_len}
-use Rattle.std.proofs.lemmas.Bool.{false≢true, and_parts, and_from, cases_Bool, cases_eq, false_from_ne_true}
 use Rattle.schedule.specs.Placed.{PlacementValue, holds, lacks}
 use Rattle.chunk_order.specs.Alike.{agree, stand_alike, is_alike, watch_node}
 

@@ -1,20 +1,13 @@
 -- The clauses of the order hold exactly where, after each step, of two chunks that are alike the first is at the watch node where the second is.
-use Rattle.std.proofs.Common.{◌≡◌, ℕ, ◌<◌, Bool, true, List, [], ◌∷◌, Some, None, refl, sym, ap, ◌∙◌, arith}
-use Rattle.std.specs.Prelude.{Option, flat_map}
-use Rattle.std.specs.List.{AllByRecursion}
+use Rattle.std.{proofs.Common.{◌≡◌, ℕ, ◌<◌, Bool, true, List, [], ◌∷◌, Some, None, refl, sym, ap, ◌∙◌, arith, Option, flat_map}, specs.List.AllByRecursion}
 use Rattle.std.proofs.lemmas.List.Elements.{recursion_from_All}
-use Rattle.schedule.specs.Placed.{PlacementValue}
-use Rattle.schedule.specs.Sends.{IsStep}
-use Rattle.schedule.proofs.First.{each_weaker}
+use Rattle.schedule.{specs.{Placed.PlacementValue, Sends.IsStep}, proofs.First.each_weaker}
 use Rattle.cnf_formula.specs.Literals.{LitValue, negation, is_true, clause_holds, all_hold}
 use Rattle.send_encoding.specs.Variables.{SendMapValue, steps_of, arrival}
-use Rattle.send_encoding.proofs.Everywhere.{by_recursion, From, in_range}
-use Rattle.send_encoding.proofs.Complete.{passes_flat, passes_map, if_true}
+use Rattle.send_encoding.proofs.{Everywhere.{by_recursion, From, in_range}, Complete.{passes_flat, passes_map, if_true}}
 use Rattle.send_encoding.proofs.Sound.{flat_passes, map_passes, at_range, said_if}
-use Rattle.chunk_order.specs.Alike.{is_alike, watch_node}
-use Rattle.chunk_order.specs.Ordering.{is_least, leaders, class_of, next_pairs, pair_in_order, class_in_order, order_clauses}
-use Rattle.chunk_order.proofs.Alikeness.{alike_back, alike_both, watch_alike}
-use Rattle.chunk_order.proofs.Classes.{IsNext, Leads, leads, nexts_of_class, filter_at, chained, later_at}
+use Rattle.chunk_order.specs.{Alike.{is_alike, watch_node}, Ordering.{is_least, leaders, class_of, next_pairs, pair_in_order, class_in_order, order_clauses}}
+use Rattle.chunk_order.proofs.{Alikeness.{alike_back, alike_both, watch_alike}, Classes.{IsNext, Leads, leads, nexts_of_class, filter_at, chained, later_at}}
 
 module _ (m : SendMapValue) (pre post : PlacementValue) (values : List Bool) (nodes : post.nodes ≡ pre.nodes) where
   -- after each step, the first chunk is at the node where the second is

@@ -1,10 +1,7 @@
 -- Two chunks that are alike change places.
-use Rattle.std.proofs.Common.{◌≡◌, ℕ, ◌<◌, true, cond, eqb, ◌⊎◌, inl, inr, refl, sym, ap, ◌∙◌, ⊎_elim, arith}
-use Rattle.std.proofs.lemmas.Bool.{cases_eq, eq-eqb, ne_eqb}
+use Rattle.std.proofs.{Common.{◌≡◌, ℕ, ◌<◌, true, cond, eqb, ◌⊎◌, inl, inr, refl, sym, ap, ◌∙◌, ⊎_elim, arith}, lemmas.Bool.{cases_eq, eq-eqb, ne_eqb}}
 use Rattle.schedule.specs.Placed.{PlacementValue}
-use Rattle.chunk_order.specs.Alike.{is_alike}
-use Rattle.chunk_order.proofs.Alikeness.{alike_itself, alike_back}
-use Rattle.chunk_order.proofs.Renaming.{IsExchange}
+use Rattle.chunk_order.{specs.Alike.is_alike, proofs.{Alikeness.{alike_itself, alike_back}, Renaming.IsExchange}}
 
 -- two numbers change places, and the others stay
 abbrev pub exchanged : ℕ → ℕ → ℕ → ℕ

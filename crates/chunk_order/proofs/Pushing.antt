@@ -1,19 +1,11 @@
 -- Loops that push the clauses of the order.
-use Rattle.std.proofs.Common.{◌≡◌, ℕ, zero, suc, ◌+◌, ◌-◌, ◌<◌, ◌≤◌, Bool, true, false, cond, List, [], ◌∷◌, ◌++◌, length, get_or, refl, sym, ap, ◌∙◌, subst, arith}
-use Rattle.std.specs.Prelude.{All, filter, flat_map}
-use Rattle.std.specs.List.{range_with_len}
-use Rattle.std.proofs.lemmas.List.Elements.{All-from_recursion}
-use Rattle.schedule.specs.Placed.{PlacementValue}
-use Rattle.schedule.proofs.First.{each_filter}
+use Rattle.std.proofs.Common.{◌≡◌, ℕ, zero, suc, ◌+◌, ◌-◌, ◌<◌, ◌≤◌, Bool, true, false, cond, List, [], ◌∷◌, ◌++◌, length, get_or, refl, sym, ap, ◌∙◌, subst, arith, All, filter, flat_map}
+use Rattle.std.{specs.List.range_with_len, proofs.lemmas.List.Elements.All-from_recursion}
+use Rattle.schedule.{specs.Placed.PlacementValue, proofs.First.each_filter}
 use Rattle.send_encoding.specs.Variables.{arrivals, sends}
-use Rattle.round_encoding.specs.declared.encoding.Encoding.{Encoding}
-use Rattle.round_encoding.specs.Frames.{frame_of, own_variables}
-use Rattle.round_encoding.specs.Rounding.{counts_of, encoding_of}
+use Rattle.round_encoding.specs.{declared.encoding.Encoding.Encoding, Frames.{frame_of, own_variables}, Rounding.{counts_of, encoding_of}}
 use Rattle.round_encoding.proofs.Counted.{more_variables}
-use Rattle.chunk_order.specs.Alike.{is_alike}
-use Rattle.chunk_order.specs.Ordering.{class_of, next_pairs}
-use Rattle.chunk_order.specs.Solutions.{IsEncodingFor}
-use Rattle.chunk_order.proofs.Classes.{range_high}
+use Rattle.chunk_order.{specs.{Alike.is_alike, Ordering.{class_of, next_pairs}, Solutions.IsEncodingFor}, proofs.Classes.range_high}
 
 -- ---- next pairs by their places
 

@@ -1,32 +1,16 @@
 -- Chunks that are renamed: a schedule that solves still does, where each chunk gets the name of one that is alike.
-use Rattle.std.proofs.Common.{◌≡◌, ℕ, zero, suc, ◌+◌, ◌<◌, ◌≤◌, ◌*◌, Bool, true, false, ◌||◌, cond, eqb, ltb, List, [], ◌∷◌, length, get_or, map, refl, sym, ap, ◌∙◌, ⊎_elim, arith}
-use Rattle.std.specs.Prelude.{◌≢◌, ◌&&◌, IsPermutation}
-use Rattle.std.specs.List.{list_any}
-use Rattle.std.proofs.lemmas.Bool.{and_parts, and_from, cases_Bool, eqb-true, eq-eqb, ltb-true, lt-ltb}
-use Rattle.std.proofs.lemmas.List.Elements.{All-from_recursion, recursion_from_All}
-use Rattle.std.proofs.lemmas.List.Folds.{list_any_at}
+use Rattle.std.proofs.Common.{◌≡◌, ℕ, zero, suc, ◌+◌, ◌<◌, ◌≤◌, ◌*◌, Bool, true, false, ◌||◌, cond, eqb, ltb, List, [], ◌∷◌, length, get_or, map, refl, sym, ap, ◌∙◌, ⊎_elim, arith, ◌≢◌, ◌&&◌, IsPermutation}
+use Rattle.std.{specs.List.list_any, proofs.lemmas.{Bool.{and_parts, and_from, cases_Bool, eqb-true, eq-eqb, ltb-true, lt-ltb}, List.Folds.list_any_at}}
+use Rattle.std.proofs.lemmas.List.{Elements.{All-from_recursion, recursion_from_All}, Sums.sum_by-cons}
 use Rattle.std.proofs.lemmas.List.Sorted.{IsPermutation-refl, IsPermutation-cons, IsPermutation-append_comm, IsPermutation-append_left, IsPermutation-trans, sum_by-IsPermutation, list_any-IsPermutation}
-use Rattle.std.proofs.lemmas.List.Sums.{sum_by-cons}
-use Rattle.list_laws.proofs.Tests.{same_test}
-use Rattle.list_laws.proofs.Each.{each_map}
-use Rattle.schedule.specs.declared.hop.Hop.{Hop}
-use Rattle.schedule.specs.Links.{GroupValue, TopologyValue, has_link, is_usable}
-use Rattle.schedule.specs.Placed.{PlacementValue, IsPlacement, holds, same_pair}
-use Rattle.schedule.specs.Sends.{ScheduleValue, IsSchedule, IsInRange, IsStep, hop_before, is_hop_below, link_of}
-use Rattle.schedule.specs.Running.{after, brings}
-use Rattle.schedule.specs.Fitting.{Fits, load, rounds_at}
-use Rattle.schedule.specs.Solving.{Solves}
-use Rattle.schedule.specs.Inverse.{with_hop, in_order}
-use Rattle.schedule.proofs.First.{InOrder-from_pairs}
-use Rattle.schedule.proofs.HopOrder.{Apart, same_hop, each_in_order, ascends, ascending_apart}
-use Rattle.schedule.proofs.Inverting.{pairs_from_InOrder}
-use Rattle.schedule.proofs.Placing.{pair_is, pair_itself, holds-placed}
-use Rattle.schedule.proofs.Stepping.{chunks-after, nodes-after}
-use Rattle.send_encoding.proofs.Members.{member}
-use Rattle.send_encoding.proofs.Complete.{any_alike}
-use Rattle.send_encoding.proofs.Tightened.{pairs_below}
-use Rattle.chunk_order.specs.Alike.{is_alike}
-use Rattle.chunk_order.proofs.Alikeness.{alike_before, alike_after}
+use Rattle.list_laws.proofs.{Tests.same_test, Each.each_map}
+use Rattle.schedule.specs.{declared.hop.Hop.Hop, Links.{GroupValue, TopologyValue, has_link, is_usable}, Placed.{PlacementValue, IsPlacement, holds, same_pair}}
+use Rattle.schedule.specs.{Sends.{ScheduleValue, IsSchedule, IsInRange, IsStep, hop_before, is_hop_below, link_of}, Running.{after, brings}, Solving.Solves}
+use Rattle.schedule.specs.{Fitting.{Fits, load, rounds_at}, Inverse.{with_hop, in_order}}
+use Rattle.schedule.proofs.{First.InOrder-from_pairs, HopOrder.{Apart, same_hop, each_in_order, ascends, ascending_apart}, Inverting.pairs_from_InOrder}
+use Rattle.schedule.proofs.{Placing.{pair_is, pair_itself, holds-placed}, Stepping.{chunks-after, nodes-after}}
+use Rattle.send_encoding.proofs.{Members.member, Complete.any_alike, Tightened.pairs_below}
+use Rattle.chunk_order.{specs.Alike.is_alike, proofs.Alikeness.{alike_before, alike_after}}
 
 -- ---- sends put in order
 

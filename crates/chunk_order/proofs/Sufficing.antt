@@ -1,34 +1,17 @@
 -- Ordered schedules suffice: a candidate is solvable exactly where an ordered schedule that wastes no send solves it, and the formula with the clauses of the order is satisfiable exactly there.
-use Rattle.std.proofs.Common.{◌≡◌, ℕ, zero, suc, ◌<◌, ◌≤◌, Bool, true, List, ◌++◌, refl, sym, ◌∙◌, arith}
-use Rattle.std.specs.Prelude.{◌↔◌, Some}
-use Rattle.std.proofs.lemmas.Bool.{and_from}
+use Rattle.std.proofs.{Common.{◌≡◌, ℕ, zero, suc, ◌<◌, ◌≤◌, Bool, true, List, ◌++◌, refl, sym, ◌∙◌, arith, ◌↔◌, Some}, lemmas.Bool.and_from}
 use Rattle.std.proofs.lemmas.List.Folds.{list_all-append}
-use Rattle.schedule.specs.Links.{TopologyValue}
-use Rattle.schedule.specs.Placed.{PlacementValue, holds}
-use Rattle.schedule.specs.Sends.{ScheduleValue, IsSchedule, IsInRange}
-use Rattle.schedule.specs.Running.{after}
+use Rattle.schedule.specs.{Links.TopologyValue, Placed.{PlacementValue, holds}, Sends.{ScheduleValue, IsSchedule, IsInRange}, Running.after}
 use Rattle.schedule.specs.Solving.{Solves, Solvable}
-use Rattle.cnf_formula.specs.Literals.{is_true, clause_holds, all_hold}
-use Rattle.cnf_formula.specs.Formulas.{Satisfies, Satisfiable}
-use Rattle.send_encoding.specs.Variables.{SendMapValue, map_of, arrival, sent}
-use Rattle.send_encoding.specs.Sending.{sending}
-use Rattle.send_encoding.specs.Agreeing.{SatisfiesAs}
-use Rattle.send_encoding.proofs.Mapped.{links_join}
-use Rattle.send_encoding.proofs.Sound.{sending_says}
-use Rattle.send_encoding.proofs.Decoded.{sends_tell}
-use Rattle.send_encoding.proofs.Running.{run_is}
-use Rattle.round_encoding.specs.Frames.{Frame, frame_of, own_variables}
-use Rattle.round_encoding.specs.Rounding.{counts_of, counters_after, extra_in_order, formula_of}
-use Rattle.round_encoding.specs.Decoding.{decoded}
+use Rattle.cnf_formula.specs.{Literals.{is_true, clause_holds, all_hold}, Formulas.{Satisfies, Satisfiable}}
+use Rattle.send_encoding.specs.{Variables.{SendMapValue, map_of, arrival, sent}, Sending.sending, Agreeing.SatisfiesAs}
+use Rattle.send_encoding.proofs.{Mapped.links_join, Sound.sending_says, Decoded.sends_tell, Running.run_is}
+use Rattle.round_encoding.specs.{Frames.{Frame, frame_of, own_variables}, Rounding.{counts_of, counters_after, extra_in_order, formula_of}, Decoding.decoded}
 use Rattle.round_encoding.specs.Candidates.{IsCandidate, IsTightSolution}
-use Rattle.round_encoding.proofs.Obeyed.{both_hold}
-use Rattle.round_encoding.proofs.Exactly.{sound, completely}
-use Rattle.chunk_order.specs.Alike.{Ordered, is_alike, watch_node}
-use Rattle.chunk_order.specs.Ordering.{order_clauses, ordered_formula_of}
+use Rattle.round_encoding.proofs.{Obeyed.both_hold, Exactly.{sound, completely}}
+use Rattle.chunk_order.specs.{Alike.{Ordered, is_alike, watch_node}, Ordering.{order_clauses, ordered_formula_of}}
 use Rattle.chunk_order.specs.Solutions.{IsOrderedSolution, HasOrderedSolution}
-use Rattle.chunk_order.proofs.Alikeness.{alike_before, watch_below}
-use Rattle.chunk_order.proofs.Sorting.{reordered}
-use Rattle.chunk_order.proofs.Chaining.{clauses_hold, they_follow}
+use Rattle.chunk_order.proofs.{Alikeness.{alike_before, watch_below}, Sorting.reordered, Chaining.{clauses_hold, they_follow}}
 
 module _ (t : TopologyValue) (pre post : PlacementValue) (steps rounds : ℕ) (candidate : IsCandidate t pre post steps rounds) where
   abbrev m : SendMapValue

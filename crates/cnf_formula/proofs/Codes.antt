@@ -1,8 +1,6 @@
 -- A literal and its number give each other.
-use Rattle.std.proofs.Common.{◌≡◌, ℕ, ◌+◌, ◌*◌, ◌/◌, ◌%◌, ◌<◌, Bool, true, false, eqb, ap, sym, ◌∙◌, arith, cond}
-use Rattle.std.proofs.lemmas.Nat.{div-mul-add, mod-mul-add}
-use Rattle.cnf_formula.specs.Literals.{LitValue, code_of, literal_of}
-use Rattle.cnf_formula.specs.Formulas.{IsAbout}
+use Rattle.std.proofs.{Common.{◌≡◌, ℕ, ◌+◌, ◌*◌, ◌/◌, ◌%◌, ◌<◌, Bool, true, false, eqb, ap, sym, ◌∙◌, arith, cond}, lemmas.Nat.{div-mul-add, mod-mul-add}}
+use Rattle.cnf_formula.specs.{Literals.{LitValue, code_of, literal_of}, Formulas.IsAbout}
 
 -- the number of a variable and a sign
 pub halves : (v d : ℕ) → d < 2 → ((2 * v + d) / 2 ≡ v) × ((2 * v + d) % 2 ≡ d)

@@ -1,14 +1,9 @@
 -- A formula that grows clause by clause, in a loop.
-use Rattle.std.proofs.Common.{◌≡◌, ℕ, zero, ◌+◌, List, [], ◌∷◌, ◌++◌, map, length, get_or, take, ◌<◌, ◌≤◌, refl, sym, ap, ◌∙◌, arith, append_assoc}
-use Rattle.std.specs.Prelude.{flat_map}
-use Rattle.std.specs.List.{range_with_len, enumerate_from}
-use Rattle.std.proofs.lemmas.List.{append-nil, map-append, take_more, take_all}
-use Rattle.std.proofs.lemmas.List.Concat.{flat_map-append, flat_map_single}
-use Rattle.std.proofs.lemmas.List.Folds.{flat_map-map}
-use Rattle.std.proofs.lemmas.List.FromFn.{map-range_with_len_more, length-enumerate_from, get_or-enumerate_from}
+use Rattle.std.proofs.Common.{◌≡◌, ℕ, zero, ◌+◌, List, [], ◌∷◌, ◌++◌, map, length, get_or, take, ◌<◌, ◌≤◌, refl, sym, ap, ◌∙◌, arith, append_assoc, flat_map}
+use Rattle.std.{specs.List.{range_with_len, enumerate_from}, proofs.lemmas.List.{append-nil, map-append, take_more, take_all, Folds.flat_map-map}}
+use Rattle.std.proofs.lemmas.List.{Concat.{flat_map-append, flat_map_single}, FromFn.{map-range_with_len_more, length-enumerate_from, get_or-enumerate_from}}
 use Rattle.list_laws.proofs.Ranges.{flat_map-range_more}
-use Rattle.cnf_formula.specs.Literals.{LitValue}
-use Rattle.cnf_formula.specs.Formulas.{FormulaValue, with_clauses}
+use Rattle.cnf_formula.specs.{Literals.LitValue, Formulas.{FormulaValue, with_clauses}}
 
 -- one more turn of a loop over a range
 pub grows_more : (old before after : FormulaValue) (g : ℕ → List (List LitValue)) (a n j : ℕ) → a + n ≡ j

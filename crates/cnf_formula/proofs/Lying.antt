@@ -1,10 +1,7 @@
 -- Clauses that lie one after another in one list of literals, as it grows.
-use Rattle.std.proofs.Common.{zero, suc, ◌≡◌, ℕ, ◌+◌, ◌-◌, ◌<◌, ◌≤◌, List, [], ◌∷◌, ◌++◌, length, get_or, take, drop, refl, sym, ap, ◌∙◌, arith, length-drop}
-use Rattle.std.specs.Prelude.{slice_range, flat_map}
-use Rattle.std.proofs.lemmas.List.{take-append-le, drop-append-le, drop_at, take_all, drop_all}
-use Rattle.std.proofs.lemmas.List.Folds.{drop_split}
-use Rattle.cnf_formula.specs.Literals.{LitValue}
-use Rattle.cnf_formula.specs.inner.Lying.{cut, AreEnds}
+use Rattle.std.proofs.Common.{zero, suc, ◌≡◌, ℕ, ◌+◌, ◌-◌, ◌<◌, ◌≤◌, List, [], ◌∷◌, ◌++◌, length, get_or, take, drop, refl, sym, ap, ◌∙◌, arith, length-drop, slice_range, flat_map}
+use Rattle.std.proofs.lemmas.List.{take-append-le, drop-append-le, drop_at, take_all, drop_all, Folds.drop_split}
+use Rattle.cnf_formula.specs.{Literals.LitValue, inner.Lying.{cut, AreEnds}}
 
 pub range_longer : {X : Type 0} (old new : List X) (start end : ℕ) → start ≤ end → end ≤ length old → slice_range (old ++ new) start end ≡ slice_range old start end
 range_longer old new start end h w =

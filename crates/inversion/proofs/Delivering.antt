@@ -1,24 +1,12 @@
 -- The inverse of a schedule that adds each chunk up somewhere brings it from there everywhere.
-use Rattle.std.proofs.Common.{◌≡◌, ℕ, ◌<◌, true, List, length, get_or, sym, ap, ◌∙◌, subst, arith}
+use Rattle.std.proofs.{Common.{◌≡◌, ℕ, ◌<◌, true, List, length, get_or, sym, ap, ◌∙◌, subst, arith}, lemmas.List.FromFn.get_or-map-range_with_len}
 use Rattle.std.proofs.lemmas.List.Elements.{All-from_recursion, recursion_from_All}
-use Rattle.std.proofs.lemmas.List.FromFn.{get_or-map-range_with_len}
-use Rattle.schedule.specs.Links.{TopologyValue, reversed_of}
-use Rattle.schedule.specs.Sends.{ScheduleValue, IsSchedule, IsInRange}
-use Rattle.schedule.specs.Placed.{PlacementValue, all_pairs, holds}
-use Rattle.schedule.specs.Running.{after}
-use Rattle.schedule.specs.Fitting.{Fits}
-use Rattle.schedule.specs.Solving.{Solves, Solvable}
-use Rattle.schedule.specs.Bags.{contributions, one_of_each}
+use Rattle.schedule.specs.{Links.{TopologyValue, reversed_of}, Sends.{ScheduleValue, IsSchedule, IsInRange}, Placed.{PlacementValue, all_pairs, holds}}
+use Rattle.schedule.specs.{Running.after, Fitting.Fits, Solving.{Solves, Solvable}, Bags.{contributions, one_of_each}, Inverse.inverse_of, Rows.everywhere}
 use Rattle.schedule.specs.Summing.{SummedSolvable, Sums, bags_after}
-use Rattle.schedule.specs.Inverse.{inverse_of}
-use Rattle.inversion.specs.Reductions.{HeldBySome}
-use Rattle.schedule.specs.Rows.{everywhere}
-use Rattle.schedule.proofs.First.{among_each, each_filter, each_weaker}
-use Rattle.schedule.proofs.Inverting.{inverse_in_range, inverse_inverse, same_rounds, valid_inverse}
-use Rattle.schedule.proofs.Ordered.{IsCell, among_from_any, grid_cells}
-use Rattle.inversion.proofs.Reaching.{reached_back}
-use Rattle.schedule.proofs.Returning.{own, returned}
-use Rattle.schedule.proofs.Turning.{fits_both_ways}
+use Rattle.schedule.proofs.{First.{among_each, each_filter, each_weaker}, Inverting.{inverse_in_range, inverse_inverse, same_rounds, valid_inverse}}
+use Rattle.schedule.proofs.{Ordered.{IsCell, among_from_any, grid_cells}, Returning.{own, returned}, Turning.fits_both_ways}
+use Rattle.inversion.{specs.Reductions.HeldBySome, proofs.Reaching.reached_back}
 
 -- where a bag has one of each node, it counts each node
 counted_once : (nodes m : ℕ) (bag : List ℕ) → m < nodes → bag ≡ one_of_each nodes → get_or bag m 0 ≡ 1

@@ -1,25 +1,13 @@
 -- The counts of a store, which are held at 2, tell the first uneven count, and which it is.
-use Rattle.std.proofs.Common.{◌≡◌, ℕ, zero, suc, ◌+◌, ◌<◌, ◌≤◌, Bool, true, false, not, cond, eqb, List, [], ◌∷◌, length, map, get_or, Some, None, refl, sym, ap, ◌∙◌, subst, arith}
-use Rattle.std.specs.Prelude.{min}
-use Rattle.std.specs.List.{AllByRecursion, find, range_with_len}
-use Rattle.std.specs.Option.{option_map, option_or}
-use Rattle.std.proofs.lemmas.Bool.{eq-eqb, ne_eqb}
-use Rattle.std.proofs.lemmas.Bool.Decides.{nat_tests}
-use Rattle.schedule.specs.Placed.{PlacementValue, IsPlacement, all_pairs, holds}
-use Rattle.schedule.specs.Sends.{IsInRange, ScheduleValue}
-use Rattle.schedule.specs.Bags.{Bag, Bags, contributions, held_at_2}
+use Rattle.std.proofs.Common.{◌≡◌, ℕ, zero, suc, ◌+◌, ◌<◌, ◌≤◌, Bool, true, false, not, cond, eqb, List, [], ◌∷◌, length, map, get_or, Some, None, refl, sym, ap, ◌∙◌, subst, arith, min}
+use Rattle.std.{specs.{List.{AllByRecursion, find, range_with_len}, Option.{option_map, option_or}}, proofs.lemmas.Bool.{eq-eqb, ne_eqb, Decides.nat_tests}}
+use Rattle.schedule.specs.{Placed.{PlacementValue, IsPlacement, all_pairs, holds}, Sends.{IsInRange, ScheduleValue}, Bags.{Bag, Bags, contributions, held_at_2}}
 use Rattle.schedule.specs.JoinedRuns.{joined_after}
-use Rattle.schedule.proofs.First.{each_filter, each_weaker, each_append}
-use Rattle.schedule.proofs.Placing.{IsBelow, all_below}
-use Rattle.bag_runs.specs.Stores.{StoreValue, bag_in, bags_in, stored}
-use Rattle.bag_runs.specs.Kept.{counted}
-use Rattle.bag_runs.proofs.Counting.{counted_at}
-use Rattle.bag_runs.proofs.Tables.{table_cell}
-use Rattle.bag_runs.proofs.Merging.{min_none}
-use Rattle.inversion.specs.declared.verdict.SumVerdict.{SumVerdict}
-use Rattle.inversion.specs.declared.verdict.SumVerdict.TheVariants as verdict
-use Rattle.inversion.specs.Judging.{count_of, counts_due, counts_judged, first_uneven}
+use Rattle.schedule.proofs.{First.{each_filter, each_weaker, each_append}, Placing.{IsBelow, all_below}}
+use Rattle.bag_runs.{specs.{Stores.{StoreValue, bag_in, bags_in, stored}, Kept.counted}, proofs.{Counting.counted_at, Tables.table_cell, Merging.min_none}}
+use Rattle.inversion.specs.{declared.verdict.SumVerdict.SumVerdict, Judging.{count_of, counts_due, counts_judged, first_uneven}}
 use Rattle.inversion.proofs.Uneven.{uneven_cons, uneven_node}
+use Rattle.inversion.specs.declared.verdict.SumVerdict.TheVariants as verdict
 
 -- ---- a bag is kept with places for more counts
 

@@ -1,24 +1,13 @@
 -- Where some schedule solves an instance, one that wastes no send does; so where chunks can be brought everywhere, their sums can be had.
-use Rattle.std.proofs.Common.{◌≡◌, ℕ, ◌-◌, ◌*◌, ◌≤◌, true, false, ◌&&◌, eqb, length, sym, ap, ◌∙◌, subst, arith}
-use Rattle.std.specs.Prelude.{◌↔◌, filter}
-use Rattle.std.specs.List.{All}
+use Rattle.std.{proofs.Common.{◌≡◌, ℕ, ◌-◌, ◌*◌, ◌≤◌, true, false, ◌&&◌, eqb, length, sym, ap, ◌∙◌, subst, arith, ◌↔◌, filter}, specs.List.All}
 use Rattle.std.proofs.lemmas.List.Elements.{All-from_recursion, All-weaker, recursion_from_All}
-use Rattle.schedule.specs.declared.hop.Hop.{Hop}
-use Rattle.schedule.specs.Links.{GroupValue, TopologyValue, has_link, is_usable, reversed_of}
-use Rattle.schedule.specs.Sends.{ScheduleValue, IsSchedule, IsInRange, IsStep, hop_before, is_hop_below, link_of}
-use Rattle.schedule.specs.Placed.{PlacementValue, HeldByOne, IsPlacement, holds}
-use Rattle.schedule.specs.Running.{after}
-use Rattle.schedule.specs.Fitting.{Fits, load, rounds_at}
-use Rattle.schedule.specs.Solving.{Solvable, Solves, Tight}
-use Rattle.schedule.specs.Summing.{SummedSolvable}
-use Rattle.schedule.specs.Inverse.{inverse_of}
-use Rattle.inversion.specs.Reductions.{HeldBySome, is_useful, tightened}
-use Rattle.schedule.specs.Rows.{everywhere}
-use Rattle.inversion.proofs.Delivering.{solvable_back}
-use Rattle.schedule.proofs.First.{InOrder-filter, InOrder-from_pairs, each_filter, each_weaker}
-use Rattle.inversion.proofs.Firsts.{counted_firsts, counted_kept, each_first, once_firsts, ordered_firsts}
-use Rattle.schedule.proofs.Inverted.{inverse_sums}
+use Rattle.schedule.specs.{declared.hop.Hop.Hop, Links.{GroupValue, TopologyValue, has_link, is_usable, reversed_of}, Running.after, Summing.SummedSolvable}
+use Rattle.schedule.specs.{Sends.{ScheduleValue, IsSchedule, IsInRange, IsStep, hop_before, is_hop_below, link_of}, Fitting.{Fits, load, rounds_at}}
+use Rattle.schedule.specs.{Placed.{PlacementValue, HeldByOne, IsPlacement, holds}, Solving.{Solvable, Solves, Tight}, Inverse.inverse_of, Rows.everywhere}
+use Rattle.schedule.proofs.{First.{InOrder-filter, InOrder-from_pairs, each_filter, each_weaker}, Inverted.inverse_sums}
 use Rattle.schedule.proofs.Inverting.{inverse_in_range, pairs_from_InOrder, valid_inverse}
+use Rattle.inversion.specs.Reductions.{HeldBySome, is_useful, tightened}
+use Rattle.inversion.proofs.{Delivering.solvable_back, Firsts.{counted_firsts, counted_kept, each_first, once_firsts, ordered_firsts}}
 use Rattle.inversion.proofs.Tightening.{kept_useful, same_after, useful_is}
 
 -- what each send has, each that is kept has

@@ -1,18 +1,10 @@
 -- The verdict is that it sums exactly where nothing fails.
-use Rattle.std.proofs.Common.{◌≡◌, ℕ, Bool, true, false, eqb, Option, Some, None, refl, length}
-use Rattle.std.specs.Prelude.{◌↔◌, cond, sum}
-use Rattle.schedule.specs.declared.hop.Hop.{Hop}
-use Rattle.schedule.specs.Links.{TopologyValue}
-use Rattle.schedule.specs.Sends.{ScheduleValue}
-use Rattle.schedule.specs.Placed.{PlacementValue}
-use Rattle.schedule.specs.Judging.{first_unlinked, first_overfull}
-use Rattle.schedule.specs.Bags.{Bags}
-use Rattle.schedule.specs.Summing.{Sums}
-use Rattle.schedule.proofs.Verdicts.{fits_exactly}
-use Rattle.schedule.proofs.Bagging.{counted_after}
+use Rattle.std.proofs.Common.{◌≡◌, ℕ, Bool, true, false, eqb, Option, Some, None, refl, length, ◌↔◌, cond, sum}
+use Rattle.schedule.specs.{declared.hop.Hop.Hop, Links.TopologyValue, Sends.ScheduleValue, Placed.PlacementValue, Judging.{first_unlinked, first_overfull}}
+use Rattle.schedule.specs.{Bags.Bags, Summing.Sums}
+use Rattle.schedule.proofs.{Verdicts.fits_exactly, Bagging.counted_after}
 use Rattle.inversion.specs.declared.verdict.SumVerdict.TheVariants as verdict
-use Rattle.inversion.specs.Judging.{count_of, first_uneven, last_bags, sum_judged, sum_verdict_of}
-use Rattle.inversion.proofs.Counts.{even_everywhere, none_uneven}
+use Rattle.inversion.{specs.Judging.{count_of, first_uneven, last_bags, sum_judged, sum_verdict_of}, proofs.Counts.{even_everywhere, none_uneven}}
 
 never_even : (chunk node giver : ℕ) (lacking : Bool) → cond lacking (verdict.Missing chunk node giver) (verdict.Twice chunk node giver) ≡ verdict.Sums → ⊥
 never_even chunk node giver true is = cc

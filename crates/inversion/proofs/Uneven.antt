@@ -1,13 +1,9 @@
 -- The first uneven count, row by row and node by node.
 use Rattle.std.proofs.Common.{◌≡◌, ℕ, ◌+◌, ◌-◌, ◌<◌, ◌≤◌, Bool, true, false, not, cond, eqb, List, ◌∷◌, ◌++◌, map, get_or, Option, Some, None, refl, sym, ap, ◌∙◌}
-use Rattle.std.specs.List.{filter, find, flat_map, range_with_len}
-use Rattle.std.specs.Option.{option_map, option_or}
-use Rattle.std.proofs.lemmas.List.Elements.{filter-append}
-use Rattle.std.proofs.lemmas.List.Concat.{flat_map-append}
-use Rattle.std.proofs.lemmas.List.Folds.{find-append}
+use Rattle.std.{specs.{List.{filter, find, flat_map, range_with_len}, Option.{option_map, option_or}}, proofs.lemmas.List.Elements.filter-append}
+use Rattle.std.proofs.lemmas.List.{Concat.flat_map-append, Folds.find-append}
 use Rattle.list_laws.proofs.Tests.{find-map}
-use Rattle.schedule.specs.Placed.{PlacementValue, IsPlacement, all_pairs, holds}
-use Rattle.schedule.specs.Bags.{Bag, Bags}
+use Rattle.schedule.specs.{Placed.{PlacementValue, IsPlacement, all_pairs, holds}, Bags.{Bag, Bags}}
 use Rattle.schedule.proofs.Grids.{range_more, range_none, rows_from, rows_start}
 use Rattle.inversion.specs.Judging.{count_of, counts_due, first_uneven}
 

@@ -1,13 +1,9 @@
 -- Lines that lie one after another in two lists, as these grow.
-use Rattle.std.proofs.Common.{◌≡◌, ℕ, ◌+◌, ◌-◌, ◌≤◌, List, [], ◌∷◌, ◌++◌, map, length, take, drop, refl, sym, ap, ◌∙◌, arith, pos}
-use Rattle.std.specs.Prelude.{All, slice_range}
+use Rattle.std.proofs.Common.{◌≡◌, ℕ, ◌+◌, ◌-◌, ◌≤◌, List, [], ◌∷◌, ◌++◌, map, length, take, drop, refl, sym, ap, ◌∙◌, arith, pos, All, slice_range}
 use Rattle.std.proofs.lemmas.List.{take-append-le, drop-append-le, drop_at, drop_all, take_all, length-drop, length-append, map_push}
 use Rattle.std.proofs.lemmas.List.Elements.{All-head, All-tail, All-push, All-weaker}
-use Rattle.cnf_formula.specs.Literals.{LitValue}
-use Rattle.cnf_formula.specs.Lines.{ProofLineValue}
-use Rattle.ledger_rules.specs.Logs.{learned}
-use Rattle.ledger_rules.specs.declared.line_list.LineRow.{LineRow}
-use Rattle.ledger_rules.specs.inner.Stored.{line_in, Lies}
+use Rattle.cnf_formula.specs.{Literals.LitValue, Lines.ProofLineValue}
+use Rattle.ledger_rules.specs.{Logs.learned, declared.line_list.LineRow.LineRow, inner.Stored.{line_in, Lies}}
 
 range_longer : {X : Type 0} (old new : List X) (start end : ℕ) → start ≤ end → end ≤ length old → slice_range (old ++ new) start end ≡ slice_range old start end
 range_longer old new start end h w =

@@ -1,7 +1,5 @@
 -- What holds of each element.
-use Rattle.std.proofs.Common.{List, [], ◌∷◌, ◌++◌, map}
-use Rattle.std.specs.List.{AllByRecursion, All, Contains}
-use Rattle.std.proofs.lemmas.List.Elements.{All-contains_itself}
+use Rattle.std.{proofs.{Common.{List, [], ◌∷◌, ◌++◌, map}, lemmas.List.Elements.All-contains_itself}, specs.List.{AllByRecursion, All, Contains}}
 
 pub each_always : {X : Type 0} (P : X → Type 0) → ((x : X) → P x) → (xs : List X) → AllByRecursion P xs
 each_always P always [] = tt

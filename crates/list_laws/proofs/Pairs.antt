@@ -1,6 +1,5 @@
 -- What holds of each element and each later one.
-use Rattle.std.proofs.Common.{suc, List, [], ◌∷◌, arith}
-use Rattle.std.specs.List.{All, AllPairs}
+use Rattle.std.{proofs.Common.{suc, List, [], ◌∷◌, arith}, specs.List.{All, AllPairs}}
 
 pub no_pairs : {X : Type 0} (R : X → X → Type 0) → AllPairs R []
 no_pairs R = λ i j d low few. absurd (omega (arith, few))

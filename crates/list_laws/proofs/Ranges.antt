@@ -1,8 +1,6 @@
 -- Lists made along a range of numbers.
-use Rattle.std.proofs.Common.{◌≡◌, ℕ, zero, suc, ◌+◌, ◌<◌, ◌≤◌, Bool, true, List, ◌++◌, sym, ap, ◌∙◌, ⊎_elim, arith, append_assoc}
-use Rattle.std.specs.List.{flat_map, list_any, range_with_len}
-use Rattle.std.proofs.lemmas.Bool.{cases_eq, or_left, or_right}
-use Rattle.std.proofs.lemmas.List.{append-nil}
+use Rattle.std.proofs.{Common.{◌≡◌, ℕ, zero, suc, ◌+◌, ◌<◌, ◌≤◌, Bool, true, List, ◌++◌, sym, ap, ◌∙◌, ⊎_elim, arith, append_assoc}, lemmas.List.append-nil}
+use Rattle.std.{specs.List.{flat_map, list_any, range_with_len}, proofs.lemmas.Bool.{cases_eq, or_left, or_right}}
 
 -- one number more at the end
 pub flat_map-range_suc : {X : Type 0} (g : ℕ → List X) (a n j : ℕ) → a + n ≡ j → flat_map g (range_with_len a (suc n)) ≡ flat_map g (range_with_len a n) ++ g j

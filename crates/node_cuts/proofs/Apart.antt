@@ -1,30 +1,14 @@
 -- Groups that share no link with another may be taken at any turn, so the greedy cover is the same with these taken first.
-use Rattle.std.proofs.Common.{◌≡◌, ℕ, zero, suc, ◌+◌, ◌-◌, ◌*◌, ◌<◌, ◌≤◌, ◌⊎◌, Bool, true, false, ◌&&◌, ◌||◌, cond, List, [], ◌∷◌, ◌++◌, append_assoc, length, refl, sym, ap, ◌∙◌, inl, inr, ⊎_elim, subst, arith}
-use Rattle.std.specs.Prelude.{◌==◌, Option, None, Some, count_by, filter, nat_lt, not}
-use Rattle.std.specs.List.{AllByRecursion, list_any, range_with_len}
-use Rattle.std.specs.Option.{option_map_or, unwrap_or}
+use Rattle.std.proofs.Common.{◌≡◌, ℕ, zero, suc, ◌+◌, ◌-◌, ◌*◌, ◌<◌, ◌≤◌, ◌⊎◌, Bool, true, false, ◌&&◌, ◌||◌, cond, List, [], ◌∷◌, ◌++◌, append_assoc, length, refl, sym, ap, ◌∙◌, inl, inr, ⊎_elim, subst, arith, ◌==◌, Option, None, Some, count_by, filter, nat_lt, not}
+use Rattle.std.{specs.{List.{AllByRecursion, list_any, range_with_len}, Option.{option_map_or, unwrap_or}}, proofs.lemmas.List.{append-nil, get_or_past}}
 use Rattle.std.proofs.lemmas.Bool.{cases_Bool, cases_eq, cases_lt, false≢true, false_from_ne_true, and_parts, and_from, eq-eqb, ne_eqb, ltb-true, lt-ltb, not-true, not_from_false, or_left, or_right}
-use Rattle.std.proofs.lemmas.List.{append-nil, get_or_past}
-use Rattle.std.proofs.lemmas.List.Elements.{recursion_from_All}
-use Rattle.std.proofs.lemmas.List.Folds.{list_any-append}
-use Rattle.std.proofs.lemmas.List.Sums.{sum_by-cons}
-use Rattle.list_laws.proofs.Each.{each_always}
-use Rattle.std.proofs.lemmas.List.FromFn.{length-range_with_len}
-use Rattle.list_laws.proofs.Ranges.{any_at}
-use Rattle.list_laws.proofs.Tests.{few_kept}
-use Rattle.schedule.specs.Links.{TopologyValue, has_link}
-use Rattle.schedule.specs.Placed.{same_pair}
-use Rattle.schedule.specs.Judging.{group_at}
-use Rattle.schedule.proofs.First.{among_each, any_among, any_found, each_among, each_weaker, filter_among}
-use Rattle.schedule.proofs.Placing.{pair_is}
-use Rattle.node_cuts.specs.declared.floor.Floor.{Floor}
-use Rattle.node_cuts.specs.Sides.{NodeSet}
+use Rattle.std.proofs.lemmas.List.{Elements.recursion_from_All, Folds.list_any-append, Sums.sum_by-cons, FromFn.length-range_with_len}
+use Rattle.list_laws.proofs.{Each.each_always, Ranges.any_at, Tests.few_kept}
+use Rattle.schedule.specs.{Links.{TopologyValue, has_link}, Placed.same_pair, Judging.group_at}
+use Rattle.schedule.proofs.{First.{among_each, any_among, any_found, each_among, each_weaker, filter_among}, Placing.pair_is}
+use Rattle.node_cuts.specs.{declared.floor.Floor.Floor, Sides.NodeSet, Opened.is_alone}
 use Rattle.node_cuts.specs.Cuts.{all_groups, ascending, best_of, best_taken, better, enters, is_among, opened, opens, opens_more}
-use Rattle.node_cuts.specs.Opened.{is_alone}
-use Rattle.node_cuts.proofs.Best.{above_all, not_both}
-use Rattle.node_cuts.proofs.Choosing.{any_counts, filter_alike, no_better}
-use Rattle.node_cuts.proofs.Covered.{none_opens}
-use Rattle.node_cuts.proofs.Within.{all_within}
+use Rattle.node_cuts.proofs.{Best.{above_all, not_both}, Choosing.{any_counts, filter_alike, no_better}, Covered.none_opens, Within.all_within}
 
 -- ---- tests that agree on a list
 

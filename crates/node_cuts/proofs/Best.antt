@@ -1,15 +1,11 @@
 -- The best fraction so far is the first of the greatest.
-use Rattle.std.proofs.Common.{◌≡◌, ◌*◌, ◌<◌, ◌≤◌, Bool, true, false, cond, List, [], ◌∷◌, ◌++◌, map, Some, None, append_assoc, refl, sym, ap, ◌∙◌, ⊎_elim, subst, arith}
-use Rattle.std.specs.Prelude.{Option, find, filter, ◌==◌}
-use Rattle.std.specs.List.{AllByRecursion, list_any}
+use Rattle.std.proofs.Common.{◌≡◌, ◌*◌, ◌<◌, ◌≤◌, Bool, true, false, cond, List, [], ◌∷◌, ◌++◌, map, Some, None, append_assoc, refl, sym, ap, ◌∙◌, ⊎_elim, subst, arith, Option, find, filter, ◌==◌}
+use Rattle.std.{specs.{List.{AllByRecursion, list_any}, Option.unwrap_or}, proofs.lemmas.List.append-nil}
 use Rattle.std.proofs.Math.Nat.{mul_right_comm, mul-le-mul_right, mul-lt-mul_of_pos_right, lt_of_mul-lt-mul_right, mul-pos}
-use Rattle.std.proofs.lemmas.List.{append-nil}
 use Rattle.std.proofs.lemmas.Bool.{cases_Bool, cases_eq, ltb-true, ltb-false, lt-ltb, le-ltb, eq-eqb, ne_eqb, not_from_true, not_from_false}
-use Rattle.std.specs.Option.{unwrap_or}
 use Rattle.list_laws.proofs.Each.{each_middle}
 use Rattle.schedule.proofs.First.{each_append, each_passes}
-use Rattle.node_cuts.specs.declared.floor.Floor.{Floor}
-use Rattle.node_cuts.specs.Floors.{has_need, exceeds, is_greatest, nothing_over_1, first_greatest, greater_of}
+use Rattle.node_cuts.specs.{declared.floor.Floor.Floor, Floors.{has_need, exceeds, is_greatest, nothing_over_1, first_greatest, greater_of}}
 
 -- what is no greater than the best so far is less than what is greater than that
 pub above_all : (f b x : Floor) → 0 < f.above → 0 < b.above → 0 < x.above → exceeds f b ≡ true → exceeds x b ≡ false → exceeds f x ≡ true

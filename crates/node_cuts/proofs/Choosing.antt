@@ -1,16 +1,9 @@
 -- The best of some groups, and those that are left for later turns.
-use Rattle.std.proofs.Common.{◌≡◌, ℕ, ◌+◌, ◌*◌, ◌≤◌, Bool, true, false, ◌&&◌, ◌||◌, cond, List, [], ◌∷◌, ◌++◌, refl, sym, ap, ◌∙◌, ⊎_elim, arith}
-use Rattle.std.specs.Prelude.{Option, None, Some, count_by, filter, nat_lt, not}
-use Rattle.std.specs.List.{list_any}
-use Rattle.std.specs.Option.{is_some, option_map}
+use Rattle.std.proofs.Common.{◌≡◌, ℕ, ◌+◌, ◌*◌, ◌≤◌, Bool, true, false, ◌&&◌, ◌||◌, cond, List, [], ◌∷◌, ◌++◌, refl, sym, ap, ◌∙◌, ⊎_elim, arith, Option, None, Some, count_by, filter, nat_lt, not}
+use Rattle.std.{specs.{List.list_any, Option.{is_some, option_map}}, proofs.lemmas.List.{Folds.list_any-append, Sums.sum_by-cons}}
 use Rattle.std.proofs.lemmas.Bool.{cases_Bool, false≢true, false_from_ne_true, and_parts, and_from, le-ltb, lt-ltb, ltb-false, not-true, not_from_false, or_left}
-use Rattle.std.proofs.lemmas.List.Folds.{list_any-append}
-use Rattle.std.proofs.lemmas.List.Sums.{sum_by-cons}
-use Rattle.schedule.specs.Links.{TopologyValue, has_link}
-use Rattle.schedule.specs.Judging.{group_at}
-use Rattle.schedule.proofs.First.{any_among, any_found}
-use Rattle.node_cuts.specs.Sides.{NodeSet}
-use Rattle.node_cuts.specs.Cuts.{best_of, better, enters, is_among, opened, opens}
+use Rattle.schedule.{specs.{Links.{TopologyValue, has_link}, Judging.group_at}, proofs.First.{any_among, any_found}}
+use Rattle.node_cuts.specs.{Sides.NodeSet, Cuts.{best_of, better, enters, is_among, opened, opens}}
 
 -- something passes exactly where some are counted
 pub any_counts : {X : Type 0} (p : X → Bool) (xs : List X) → list_any p xs ≡ nat_lt 0 (count_by p xs)

@@ -1,25 +1,13 @@
 -- The groups of each cover have every usable link into the set, so that they carry all that comes in.
-use Rattle.std.proofs.Common.{◌≡◌, ℕ, zero, suc, ◌+◌, ◌*◌, ◌<◌, ◌≤◌, Bool, true, false, ◌||◌, ◌&&◌, cond, List, [], ◌∷◌, ◌++◌, length, get_or, refl, sym, ap, ◌∙◌, ⊎_elim, arith}
-use Rattle.std.specs.Prelude.{◌==◌, count_by, filter, nat_lt, not, Option, None, Some}
-use Rattle.std.specs.List.{list_any, range_with_len}
-use Rattle.std.specs.Option.{is_some, option_map_or}
+use Rattle.std.proofs.Common.{◌≡◌, ℕ, zero, suc, ◌+◌, ◌*◌, ◌<◌, ◌≤◌, Bool, true, false, ◌||◌, ◌&&◌, cond, List, [], ◌∷◌, ◌++◌, length, get_or, refl, sym, ap, ◌∙◌, ⊎_elim, arith, ◌==◌, count_by, filter, nat_lt, not, Option, None, Some}
+use Rattle.std.{specs.{List.{list_any, range_with_len}, Option.{is_some, option_map_or}}, proofs.{Math.Nat.add-mul, lemmas.List.get_or_past}}
 use Rattle.std.proofs.lemmas.Bool.{false≢true, cases_Bool, cases_eq, cases_lt, or_left, or_right, or_cases, and_parts, and_from, not_from_false, eq-eqb}
-use Rattle.std.proofs.Math.Nat.{add-mul}
-use Rattle.std.proofs.lemmas.List.{get_or_past}
-use Rattle.std.proofs.lemmas.List.Folds.{list_any-append}
-use Rattle.std.proofs.lemmas.List.Sums.{sum_by-cons}
-use Rattle.schedule.specs.declared.hop.Hop.{Hop}
-use Rattle.schedule.specs.Links.{TopologyValue, has_link, is_usable}
-use Rattle.schedule.specs.Placed.{same_pair}
-use Rattle.schedule.specs.Sends.{ScheduleValue, link_of}
+use Rattle.std.proofs.lemmas.List.{Folds.list_any-append, Sums.sum_by-cons}
+use Rattle.schedule.specs.{declared.hop.Hop.Hop, Links.{TopologyValue, has_link, is_usable}, Placed.same_pair, Sends.{ScheduleValue, link_of}, Judging.group_at}
 use Rattle.schedule.specs.Fitting.{load, rounds_at}
-use Rattle.schedule.specs.Judging.{group_at}
-use Rattle.schedule.proofs.Placing.{pair_is}
+use Rattle.schedule.proofs.{Placing.pair_is, First.{any_found, any_among, among_kept}}
 use Rattle.list_laws.proofs.Ranges.{any_at}
-use Rattle.schedule.proofs.First.{any_found, any_among, among_kept}
-use Rattle.node_cuts.specs.declared.sets.Sets.{Sets}
-use Rattle.node_cuts.specs.declared.sets.Sets.TheVariants.{Nothing, Listed, All}
-use Rattle.node_cuts.specs.Sides.{NodeSet}
+use Rattle.node_cuts.specs.{declared.sets.Sets.{Sets, TheVariants.{Nothing, Listed, All}}, Sides.NodeSet}
 use Rattle.node_cuts.specs.Cuts.{enters, is_among, opens, opens_more, groups_taken, groups_taken_back, best_of, best_taken, all_groups, ascending, cover, cover_back, cover_greedily, cover_by, narrower, width_of}
 use Rattle.node_cuts.proofs.Counting.{no_more_than_both, none_counted}
 

@@ -1,29 +1,14 @@
 -- Whatever its steps, a schedule that solves brings each needed chunk into the set by a send of its own, so that they are no more than come in in its rounds.
-use Rattle.std.proofs.Common.{◌≡◌, ℕ, zero, suc, ◌+◌, ◌-◌, ◌*◌, ◌<◌, ◌≤◌, Bool, true, false, ◌||◌, ◌&&◌, cond, List, [], ◌∷◌, length, get_or, take, refl, sym, ap, ◌∙◌, inl, inr, ⊎_elim, arith}
-use Rattle.std.specs.Option.{is_some, option_map}
-use Rattle.std.specs.Prelude.{Option, None, Some, find, ◌==◌, count_by, not, nat_le, nat_lt, sum, ◌⊎◌}
-use Rattle.std.specs.List.{list_any, range_with_len}
-use Rattle.std.proofs.Math.Nat.{mul-add}
+use Rattle.std.proofs.Common.{◌≡◌, ℕ, zero, suc, ◌+◌, ◌-◌, ◌*◌, ◌<◌, ◌≤◌, Bool, true, false, ◌||◌, ◌&&◌, cond, List, [], ◌∷◌, length, get_or, take, refl, sym, ap, ◌∙◌, inl, inr, ⊎_elim, arith, Option, None, Some, find, ◌==◌, count_by, not, nat_le, nat_lt, sum, ◌⊎◌}
+use Rattle.std.{specs.{Option.{is_some, option_map}, List.{list_any, range_with_len}}, proofs.{Math.Nat.mul-add, lemmas.List.{take_all, get_or_past}}}
 use Rattle.std.proofs.lemmas.Bool.{false≢true, cases_Bool, cases_eq, cases_lt, or_left, or_right, or_cases, and_parts, and_from, and_left, both_ways, lt-leb, not_from_false, not-true, eq-eqb, eqb-true, le-leb, leb-true, lt-ltb, ltb-true}
-use Rattle.std.proofs.lemmas.List.{take_all, get_or_past}
-use Rattle.std.proofs.lemmas.List.Sums.{sum_by-cons, sum_by_more}
-use Rattle.std.proofs.lemmas.List.Elements.{All-get_or, recursion_from_All}
-use Rattle.std.proofs.lemmas.Map.Views.{any-filter_same}
-use Rattle.schedule.specs.declared.hop.Hop.{Hop}
-use Rattle.schedule.specs.Links.{TopologyValue, is_usable}
-use Rattle.schedule.specs.Placed.{PlacementValue, holds, placed, same_pair, all_pairs}
-use Rattle.schedule.specs.Sends.{ScheduleValue, link_of}
-use Rattle.schedule.specs.Running.{after, brings}
-use Rattle.schedule.specs.Fitting.{Fits, load, rounds_at}
-use Rattle.schedule.specs.Judging.{group_at}
-use Rattle.schedule.specs.Solving.{Solves}
-use Rattle.schedule.proofs.First.{Among, among_each, any_found, any_among}
-use Rattle.schedule.proofs.Placing.{pair_is}
-use Rattle.node_cuts.specs.declared.sets.Sets.{Sets}
-use Rattle.node_cuts.specs.Sides.{NodeSet, node_sets}
+use Rattle.std.proofs.lemmas.{List.{Sums.{sum_by-cons, sum_by_more}, Elements.{All-get_or, recursion_from_All}}, Map.Views.any-filter_same}
+use Rattle.schedule.specs.{declared.hop.Hop.Hop, Links.{TopologyValue, is_usable}, Placed.{PlacementValue, holds, placed, same_pair, all_pairs}, Solving.Solves}
+use Rattle.schedule.specs.{Sends.{ScheduleValue, link_of}, Running.{after, brings}, Fitting.{Fits, load, rounds_at}, Judging.group_at}
+use Rattle.schedule.proofs.{First.{Among, among_each, any_found, any_among}, Placing.pair_is}
+use Rattle.node_cuts.specs.{declared.sets.Sets.Sets, Sides.{NodeSet, node_sets}}
 use Rattle.node_cuts.specs.Cuts.{stands_in, is_needed, need_of, enters, is_among, cover_by, width_by, cut_refutes, cut_of, first_cut_of}
-use Rattle.node_cuts.proofs.Counting.{no_fewer, no_fewer_of, one_more, no_more_than_both, none_counted}
-use Rattle.node_cuts.proofs.Covered.{covered, carried}
+use Rattle.node_cuts.proofs.{Counting.{no_fewer, no_fewer_of, one_more, no_more_than_both, none_counted}, Covered.{covered, carried}}
 
 -- what the placement of a test holds passes it
 passes_placed : (chunks nodes : ℕ) (f : ℕ × ℕ → Bool) (pair : ℕ × ℕ) → holds (placed chunks nodes f) pair ≡ true → f pair ≡ true

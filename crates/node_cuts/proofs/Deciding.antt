@@ -1,27 +1,15 @@
 -- The greatest fraction alone tells whether one of the sets refutes so many rounds.
-use Rattle.std.proofs.Common.{◌≡◌, ℕ, ◌*◌, ◌<◌, ◌≤◌, Bool, true, false, ◌||◌, List, [], ◌∷◌, ◌++◌, map, refl, sym, ap, ◌∙◌, ⊎_elim, subst, arith, append_assoc}
-use Rattle.std.specs.Prelude.{Option, None, Some, find, filter, nat_lt}
-use Rattle.std.specs.List.{AllByRecursion, list_any}
-use Rattle.std.specs.Option.{is_some, option_map, unwrap_or}
+use Rattle.std.proofs.Common.{◌≡◌, ℕ, ◌*◌, ◌<◌, ◌≤◌, Bool, true, false, ◌||◌, List, [], ◌∷◌, ◌++◌, map, refl, sym, ap, ◌∙◌, ⊎_elim, subst, arith, append_assoc, Option, None, Some, find, filter, nat_lt}
+use Rattle.std.{specs.{List.{AllByRecursion, list_any}, Option.{is_some, option_map, unwrap_or}}, proofs.lemmas.List.append-nil}
 use Rattle.std.proofs.Math.Nat.{mul_comm, mul_assoc, mul_right_comm, mul-le-mul_right, mul-lt-mul_of_pos_right, lt_of_mul-lt-mul_right, mul-pos}
 use Rattle.std.proofs.lemmas.Bool.{cases_Bool, cases_eq, cases_lt, ltb-true, ltb-false, lt-ltb, le-ltb}
-use Rattle.std.proofs.lemmas.List.{append-nil}
-use Rattle.list_laws.proofs.Each.{each_middle}
-use Rattle.list_laws.proofs.Tests.{same_test}
-use Rattle.schedule.specs.Links.{TopologyValue}
-use Rattle.schedule.proofs.First.{any_found, among_each, each_append, each_passes}
-use Rattle.collective_spec.specs.declared.spec.Spec.{Spec}
-use Rattle.collective_spec.specs.declared.instance.Instance.{Instance}
-use Rattle.collective_spec.specs.Kinds.{allows}
-use Rattle.collective_spec.specs.Collectives.{kind_in, spec_instance}
-use Rattle.node_cuts.specs.declared.sets.Sets.{Sets}
-use Rattle.node_cuts.specs.declared.floor.Floor.{Floor}
-use Rattle.node_cuts.specs.Sides.{NodeSet, node_sets}
+use Rattle.list_laws.proofs.{Each.each_middle, Tests.same_test}
+use Rattle.schedule.{specs.Links.TopologyValue, proofs.First.{any_found, among_each, each_append, each_passes}}
+use Rattle.collective_spec.specs.{declared.{spec.Spec.Spec, instance.Instance.Instance}, Kinds.allows, Collectives.{kind_in, spec_instance}}
+use Rattle.node_cuts.specs.{declared.{sets.Sets.Sets, floor.Floor.Floor}, Sides.{NodeSet, node_sets}}
 use Rattle.node_cuts.specs.Cuts.{cut_of, cut_refutes, first_cut_of, need_of, width_by}
 use Rattle.node_cuts.specs.Floors.{exceeds, first_greatest, floor_of, fraction_of, fractions, greater_of, has_need, least_count, nothing_over_1}
-use Rattle.node_cuts.proofs.Best.{IsBest, Positive, any_middle, best_is, step}
-use Rattle.node_cuts.proofs.Least.{least_least, least_positive}
-use Rattle.node_cuts.proofs.Scaling.{IsScaled, scales}
+use Rattle.node_cuts.proofs.{Best.{IsBest, Positive, any_middle, best_is, step}, Least.{least_least, least_positive}, Scaling.{IsScaled, scales}}
 
 -- the fraction times the chunk count is more than the rounds
 abbrev pub is_above : ℕ → ℕ → Floor → Bool

@@ -1,9 +1,6 @@
 -- Tables and lists that loops fill.
-use Rattle.std.proofs.Common.{◌≡◌, ℕ, ◌+◌, ◌<◌, Bool, false, cond, List, [], ◌∷◌, ◌++◌, get_or, length, map, slice_index_or, slice_set, take, sym, ap, ◌∙◌, ⊎_elim, arith}
-use Rattle.std.specs.Prelude.{filter}
-use Rattle.std.specs.List.{range_with_len}
-use Rattle.std.proofs.lemmas.Bool.{cases_eq}
-use Rattle.std.proofs.lemmas.List.{get_or-set_same, get_or-set_other, map-append, take_more}
+use Rattle.std.proofs.Common.{◌≡◌, ℕ, ◌+◌, ◌<◌, Bool, false, cond, List, [], ◌∷◌, ◌++◌, get_or, length, map, slice_index_or, slice_set, take, sym, ap, ◌∙◌, ⊎_elim, arith, filter}
+use Rattle.std.{specs.List.range_with_len, proofs.lemmas.{Bool.cases_eq, List.{get_or-set_same, get_or-set_other, map-append, take_more}}}
 use Rattle.std.proofs.lemmas.List.Elements.{filter-append}
 use Rattle.node_cuts.proofs.Masks.{range_more}
 

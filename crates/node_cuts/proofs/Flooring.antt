@@ -1,23 +1,11 @@
 -- The floor is a fraction of a set of nodes, or nothing over 1, and no schedule is below it.
-use Rattle.std.proofs.Common.{◌≡◌, ℕ, ◌*◌, ◌<◌, ◌≤◌, Bool, true, false, List, [], ◌∷◌, sym, ap, ◌∙◌, ⊎_elim, subst, arith}
-use Rattle.std.specs.Prelude.{find, filter, map}
-use Rattle.std.specs.List.{AllByRecursion}
-use Rattle.std.proofs.Math.Nat.{mul_comm, mul_assoc, mul-le-mul_right}
-use Rattle.std.proofs.lemmas.Bool.{cases_Bool}
-use Rattle.schedule.specs.Links.{TopologyValue}
-use Rattle.schedule.specs.Sends.{ScheduleValue}
-use Rattle.schedule.specs.Solving.{Solves}
-use Rattle.collective_spec.specs.declared.spec.Spec.{Spec}
-use Rattle.collective_spec.specs.Kinds.{allows}
-use Rattle.collective_spec.specs.Collectives.{kind_in, spec_instance}
-use Rattle.node_cuts.specs.declared.sets.Sets.{Sets}
-use Rattle.std.specs.Option.{unwrap_or}
-use Rattle.node_cuts.specs.declared.floor.Floor.{Floor}
-use Rattle.node_cuts.specs.Sides.{NodeSet, node_sets}
-use Rattle.node_cuts.specs.Cuts.{need_of, width_by}
+use Rattle.std.proofs.Common.{◌≡◌, ℕ, ◌*◌, ◌<◌, ◌≤◌, Bool, true, false, List, [], ◌∷◌, sym, ap, ◌∙◌, ⊎_elim, subst, arith, find, filter, map}
+use Rattle.std.{specs.{List.AllByRecursion, Option.unwrap_or}, proofs.{Math.Nat.{mul_comm, mul_assoc, mul-le-mul_right}, lemmas.Bool.cases_Bool}}
+use Rattle.schedule.specs.{Links.TopologyValue, Sends.ScheduleValue, Solving.Solves}
+use Rattle.collective_spec.specs.{declared.spec.Spec.Spec, Kinds.allows, Collectives.{kind_in, spec_instance}}
+use Rattle.node_cuts.specs.{declared.{sets.Sets.Sets, floor.Floor.Floor}, Sides.{NodeSet, node_sets}, Cuts.{need_of, width_by}}
 use Rattle.node_cuts.specs.Floors.{least_count, fraction_of, has_need, fractions, is_greatest, nothing_over_1, floor_of}
-use Rattle.node_cuts.proofs.Crossing.{needed_comes_in}
-use Rattle.node_cuts.proofs.Scaling.{IsScaled, scales}
+use Rattle.node_cuts.proofs.{Crossing.needed_comes_in, Scaling.{IsScaled, scales}}
 
 -- what has to come into each set of nodes can in so many rounds
 abbrev pub IsBroughtIn : Sets → TopologyValue → Spec → ℕ → ℕ → Type 0

@@ -1,14 +1,8 @@
 -- The holders of each chunk tell what has to come into a set.
-use Rattle.std.proofs.Common.{◌≡◌, ℕ, zero, suc, ◌+◌, ◌<◌, ◌≤◌, Bool, ◌&&◌, ◌||◌, true, false, cond, List, [], ◌∷◌, map, refl, sym, ap, ◌∙◌, ⊎_elim, arith}
-use Rattle.std.specs.Prelude.{count_by, filter, not}
-use Rattle.std.specs.List.{list_any, range_with_len}
-use Rattle.std.proofs.lemmas.Bool.{cases_Bool}
-use Rattle.std.proofs.lemmas.List.Sums.{sum_by-cons}
+use Rattle.std.proofs.Common.{◌≡◌, ℕ, zero, suc, ◌+◌, ◌<◌, ◌≤◌, Bool, ◌&&◌, ◌||◌, true, false, cond, List, [], ◌∷◌, map, refl, sym, ap, ◌∙◌, ⊎_elim, arith, count_by, filter, not}
+use Rattle.std.{specs.List.{list_any, range_with_len}, proofs.lemmas.{Bool.cases_Bool, List.Sums.sum_by-cons}}
 use Rattle.schedule.specs.Placed.{PlacementValue, IsPlacement, holds}
-use Rattle.node_cuts.specs.Sides.{NodeSet}
-use Rattle.node_cuts.specs.Cuts.{is_needed, need_of, stands_in}
-use Rattle.node_cuts.specs.Holders.{HoldersValue, is_lacking, nodes_with}
-use Rattle.node_cuts.proofs.Reading.{stands_held}
+use Rattle.node_cuts.{specs.{Sides.NodeSet, Cuts.{is_needed, need_of, stands_in}, Holders.{HoldersValue, is_lacking, nodes_with}}, proofs.Reading.stands_held}
 
 -- the holders of each chunk
 abbrev pub all_holders : PlacementValue → PlacementValue → List HoldersValue

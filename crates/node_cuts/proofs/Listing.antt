@@ -1,12 +1,7 @@
 -- The listed sets, one after another.
-use Rattle.std.proofs.Common.{◌≡◌, ℕ, ◌+◌, ◌-◌, ◌≤◌, List, [], ◌∷◌, ◌++◌, map, append_assoc, ap, sym, ◌∙◌, arith}
-use Rattle.std.specs.List.{flat_map, range_with_len}
-use Rattle.std.proofs.lemmas.List.FromFn.{map-range_with_len_more}
-use Rattle.std.proofs.lemmas.List.Concat.{flat_map-append}
-use Rattle.std.proofs.lemmas.List.{append-nil}
-use Rattle.node_cuts.specs.declared.side.Side.{Side}
-use Rattle.node_cuts.specs.declared.side.Side.TheVariants.{One, Two}
-use Rattle.node_cuts.proofs.Masks.{range_more}
+use Rattle.std.{proofs.Common.{◌≡◌, ℕ, ◌+◌, ◌-◌, ◌≤◌, List, [], ◌∷◌, ◌++◌, map, append_assoc, ap, sym, ◌∙◌, arith}, specs.List.{flat_map, range_with_len}}
+use Rattle.std.proofs.lemmas.List.{append-nil, FromFn.map-range_with_len_more, Concat.flat_map-append}
+use Rattle.node_cuts.{specs.declared.side.Side.{Side, TheVariants.{One, Two}}, proofs.Masks.range_more}
 
 pub ones_more : (n : ℕ) → map One (range_with_len 0 (n + 1)) ≡ map One (range_with_len 0 n) ++ One n ∷ []
 ones_more n = map-range_with_len_more One 0 n n (omega arith)

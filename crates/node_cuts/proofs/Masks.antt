@@ -1,11 +1,7 @@
 -- A set of nodes as bits.
-use Rattle.std.proofs.Common.{◌≡◌, ℕ, zero, suc, ◌+◌, ◌-◌, ◌*◌, ◌/◌, ◌%◌, ◌^◌, ◌<◌, ◌≤◌, Bool, true, false, cond, ◌&&◌, [], ◌∷◌, ◌++◌, map-id, refl, ap, sym, ◌∙◌, ⊎_elim, arith}
-use Rattle.std.specs.Prelude.{◌==◌, ◌⊎◌, nat_lt}
-use Rattle.std.proofs.Math.Nat.{mul-one, add-mul-div_left, add-mul-mod_self_left, div-eq_of_lt, pow-le-pow_right}
-use Rattle.std.specs.List.{range_with_len, sum_by}
-use Rattle.std.proofs.lemmas.Bool.{cases_Bool, cases_eq, cases_lt, lt-ltb, le-ltb}
-use Rattle.std.proofs.lemmas.Nat.{pow-add, pow_below, pow_pos}
-use Rattle.std.proofs.lemmas.List.FromFn.{map-range_with_len_more}
+use Rattle.std.proofs.Common.{◌≡◌, ℕ, zero, suc, ◌+◌, ◌-◌, ◌*◌, ◌/◌, ◌%◌, ◌^◌, ◌<◌, ◌≤◌, Bool, true, false, cond, ◌&&◌, [], ◌∷◌, ◌++◌, map-id, refl, ap, sym, ◌∙◌, ⊎_elim, arith, ◌==◌, ◌⊎◌, nat_lt}
+use Rattle.std.{proofs.Math.Nat.{mul-one, add-mul-div_left, add-mul-mod_self_left, div-eq_of_lt, pow-le-pow_right}, specs.List.{range_with_len, sum_by}}
+use Rattle.std.proofs.lemmas.{Bool.{cases_Bool, cases_eq, cases_lt, lt-ltb, le-ltb}, Nat.{pow-add, pow_below, pow_pos}, List.FromFn.map-range_with_len_more}
 use Rattle.std.proofs.lemmas.List.Sums.{sum_by_push}
 use Rattle.node_cuts.specs.Sides.{NodeSet, has_bit, mask_of}
 

@@ -1,19 +1,9 @@
 -- A table of open links tells what groups open, and what is left after one is taken.
-use Rattle.std.proofs.Common.{◌≡◌, ℕ, ◌+◌, ◌<◌, ◌≤◌, Bool, true, false, ◌&&◌, ◌||◌, cond, List, [], ◌∷◌, ◌++◌, length, reverse, refl, sym, ap, ◌∙◌, ⊎_elim, arith}
-use Rattle.std.specs.Prelude.{count_by, not}
-use Rattle.std.specs.List.{All, AllByRecursion, list_any}
-use Rattle.std.proofs.lemmas.Bool.{cases_lt}
-use Rattle.std.proofs.lemmas.List.{append-nil, get_or_past, reverse-append}
-use Rattle.std.proofs.lemmas.List.Elements.{All-get_or, recursion_from_All}
-use Rattle.std.proofs.lemmas.List.Folds.{list_any-append}
-use Rattle.std.proofs.lemmas.List.Sums.{sum_by-cons}
-use Rattle.schedule.specs.Links.{TopologyValue, IsBelow, IsTopology, has_link}
-use Rattle.schedule.specs.Tables.{Marks, marked_at}
-use Rattle.schedule.specs.Judging.{group_at}
-use Rattle.schedule.proofs.First.{each_weaker}
-use Rattle.node_cuts.specs.Sides.{NodeSet}
-use Rattle.node_cuts.specs.Cuts.{enters, is_among, opened, opens}
-use Rattle.node_cuts.specs.Opened.{MarksOpen, RemovesGroups, is_open}
+use Rattle.std.proofs.Common.{◌≡◌, ℕ, ◌+◌, ◌<◌, ◌≤◌, Bool, true, false, ◌&&◌, ◌||◌, cond, List, [], ◌∷◌, ◌++◌, length, reverse, refl, sym, ap, ◌∙◌, ⊎_elim, arith, count_by, not}
+use Rattle.std.{specs.List.{All, AllByRecursion, list_any}, proofs.lemmas.{Bool.cases_lt, List.{append-nil, get_or_past, reverse-append, Sums.sum_by-cons}}}
+use Rattle.std.proofs.lemmas.List.{Elements.{All-get_or, recursion_from_All}, Folds.list_any-append}
+use Rattle.schedule.{specs.{Links.{TopologyValue, IsBelow, IsTopology, has_link}, Tables.{Marks, marked_at}, Judging.group_at}, proofs.First.each_weaker}
+use Rattle.node_cuts.specs.{Sides.NodeSet, Cuts.{enters, is_among, opened, opens}, Opened.{MarksOpen, RemovesGroups, is_open}}
 
 -- the links of each group join nodes below 16
 pub links_below : (t : TopologyValue) (g : ℕ) → IsTopology t → AllByRecursion (IsBelow 16) (group_at t g).links

@@ -1,18 +1,10 @@
 -- What loops read of placements, groups and links.
-use Rattle.std.proofs.Common.{◌≡◌, ℕ, zero, suc, ◌+◌, ◌<◌, ◌≤◌, Bool, true, false, ◌&&◌, cond, List, [], ◌∷◌, ◌++◌, length, get_or, length-append, drop, drop-cons, Some, ap, sym, ◌∙◌, ⊎_elim, arith}
-use Rattle.std.specs.Prelude.{count_by, find}
-use Rattle.std.specs.Option.{option_map}
-use Rattle.std.specs.List.{All, range_with_len}
-use Rattle.std.proofs.lemmas.List.Sums.{sum_by_push}
+use Rattle.std.proofs.Common.{◌≡◌, ℕ, zero, suc, ◌+◌, ◌<◌, ◌≤◌, Bool, true, false, ◌&&◌, cond, List, [], ◌∷◌, ◌++◌, length, get_or, length-append, drop, drop-cons, Some, ap, sym, ◌∙◌, ⊎_elim, arith, count_by, find}
+use Rattle.std.{specs.{Option.option_map, List.{All, range_with_len}}, proofs.lemmas.List.{Sums.sum_by_push, Elements.{All-append, All-cons, All-nil}}}
 use Rattle.std.proofs.lemmas.Bool.{false≢true, cases_Bool, false_from_ne_true, and_from}
-use Rattle.std.proofs.lemmas.List.Elements.{All-append, All-cons, All-nil}
 use Rattle.list_laws.proofs.Ranges.{any_at}
-use Rattle.schedule.specs.Links.{TopologyValue}
-use Rattle.schedule.specs.Placed.{PlacementValue, IsPlacement, holds}
-use Rattle.node_cuts.specs.Sides.{NodeSet}
-use Rattle.node_cuts.specs.Cuts.{stands_in, opens, groups_taken}
-use Rattle.node_cuts.proofs.Masks.{range_more}
-use Rattle.node_cuts.proofs.Scaling.{some_stands, stands_by, range_found}
+use Rattle.schedule.specs.{Links.TopologyValue, Placed.{PlacementValue, IsPlacement, holds}}
+use Rattle.node_cuts.{specs.{Sides.NodeSet, Cuts.{stands_in, opens, groups_taken}}, proofs.{Masks.range_more, Scaling.{some_stands, stands_by, range_found}}}
 
 pub stands_held : (u : NodeSet) (p : PlacementValue) (chunk : ℕ) → IsPlacement p → chunk < p.chunks → stands_in u p chunk ≡ some_stands u p.nodes (holds p) chunk
 stands_held u p chunk is below = ap (λ q. stands_in u q chunk) is ∙ stands_by u p.chunks p.nodes (holds p) chunk below

@@ -1,29 +1,16 @@
 -- At each chunk count that a collective may have, what has to come into a set is what has to at the least one, so many times over.
-use Rattle.std.proofs.Common.{◌≡◌, ℕ, zero, suc, ◌+◌, ◌*◌, ◌/◌, ◌%◌, ◌<◌, ◌≤◌, Bool, true, ◌&&◌, cond, ◌∷◌, refl, sym, ap, ◌∙◌, ⊎_elim, arith}
-use Rattle.std.specs.Prelude.{◌==◌, count_by, not, nat_le, filter}
-use Rattle.std.specs.List.{list_any, range_with_len}
-use Rattle.std.proofs.Math.Nat.{mul_comm, mul_assoc, mul-one, add-mul-mod_self_left, add-mul-div_left}
-use Rattle.std.proofs.lemmas.Bool.{false≢true, or_cases, and_parts, and_from, eqb-true, eq-eqb}
-use Rattle.std.proofs.lemmas.Nat.{div-add-mod'}
-use Rattle.std.proofs.lemmas.List.Sums.{sum_by-cons}
-use Rattle.list_laws.proofs.Tests.{same_test, any_alike}
-use Rattle.list_laws.proofs.Ranges.{any_at}
+use Rattle.std.proofs.Common.{◌≡◌, ℕ, zero, suc, ◌+◌, ◌*◌, ◌/◌, ◌%◌, ◌<◌, ◌≤◌, Bool, true, ◌&&◌, cond, ◌∷◌, refl, sym, ap, ◌∙◌, ⊎_elim, arith, ◌==◌, count_by, not, nat_le, filter}
+use Rattle.std.{specs.List.{list_any, range_with_len}, proofs.Math.Nat.{mul_comm, mul_assoc, mul-one, add-mul-mod_self_left, add-mul-div_left}}
+use Rattle.std.proofs.lemmas.{Bool.{false≢true, or_cases, and_parts, and_from, eqb-true, eq-eqb}, Nat.div-add-mod', List.Sums.sum_by-cons}
+use Rattle.list_laws.proofs.{Tests.{same_test, any_alike}, Ranges.any_at}
 use Rattle.schedule.specs.Placed.{PlacementValue, holds, placed, same_pair, all_pairs}
-use Rattle.schedule.proofs.First.{among_each, any_found, any_among, filter_among}
-use Rattle.schedule.proofs.Placing.{IsBelow, all_below, pair_is, holds-placed}
-use Rattle.collective_spec.specs.declared.kind.Kind.{Kind}
+use Rattle.schedule.proofs.{First.{among_each, any_found, any_among, filter_among}, Placing.{IsBelow, all_below, pair_is, holds-placed}}
+use Rattle.collective_spec.specs.{declared.{kind.Kind.Kind, layout.Layout.Layout, spec.Spec.Spec}, Layouts.{stands, laid_out}, Patterns.in_copies, Kinds.allows}
 use Rattle.collective_spec.specs.declared.kind.Kind.TheVariants.{Broadcast, Gather, Allgather, Scatter, Alltoall, Reduce, Reducescatter, Allreduce, Custom}
-use Rattle.collective_spec.specs.declared.layout.Layout.{Layout}
-use Rattle.collective_spec.specs.declared.layout.Layout.TheVariants as layout
-use Rattle.collective_spec.specs.declared.spec.Spec.{Spec}
-use Rattle.collective_spec.specs.declared.spec.Spec.TheVariants as spec
-use Rattle.collective_spec.specs.Layouts.{stands, laid_out}
-use Rattle.collective_spec.specs.Patterns.{in_copies}
-use Rattle.collective_spec.specs.Kinds.{allows}
 use Rattle.collective_spec.specs.Collectives.{kind_in, spec_instance}
-use Rattle.node_cuts.specs.Sides.{NodeSet}
-use Rattle.node_cuts.specs.Cuts.{stands_in, is_needed, need_of}
-use Rattle.node_cuts.specs.Floors.{least_count}
+use Rattle.collective_spec.specs.declared.layout.Layout.TheVariants as layout
+use Rattle.collective_spec.specs.declared.spec.Spec.TheVariants as spec
+use Rattle.node_cuts.specs.{Sides.NodeSet, Cuts.{stands_in, is_needed, need_of}, Floors.least_count}
 
 -- ---- ranges
 

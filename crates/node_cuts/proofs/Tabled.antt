@@ -1,26 +1,13 @@
 -- What a table says at a chunk count is what the sets say of the instance.
-use Rattle.std.proofs.Common.{◌≡◌, ℕ, zero, suc, ◌*◌, ◌/◌, ◌<◌, Bool, true, false, cond, List, [], ◌∷◌, get_or, length, refl, sym, ap, ◌∙◌, subst, arith}
-use Rattle.std.specs.Prelude.{None, Some, count_by, find, nat_lt}
-use Rattle.std.specs.Option.{option_map}
-use Rattle.std.proofs.Math.Nat.{mul_comm, mul-div_cancel}
-use Rattle.std.proofs.lemmas.List.{get_or_default, length-map}
+use Rattle.std.proofs.Common.{◌≡◌, ℕ, zero, suc, ◌*◌, ◌/◌, ◌<◌, Bool, true, false, cond, List, [], ◌∷◌, get_or, length, refl, sym, ap, ◌∙◌, subst, arith, None, Some, count_by, find, nat_lt}
+use Rattle.std.{specs.Option.option_map, proofs.{Math.Nat.{mul_comm, mul-div_cancel}, lemmas.List.{get_or_default, length-map}}}
 use Rattle.list_laws.proofs.Fronts.{at_map}
-use Rattle.schedule.specs.Links.{TopologyValue}
-use Rattle.schedule.specs.Placed.{PlacementValue}
-use Rattle.collective_spec.specs.declared.spec.Spec.{Spec}
-use Rattle.collective_spec.specs.declared.instance.Instance.{Instance}
-use Rattle.collective_spec.specs.Kinds.{allows}
-use Rattle.collective_spec.specs.Collectives.{kind_in, spec_instance}
-use Rattle.node_cuts.specs.declared.sets.Sets.{Sets}
-use Rattle.node_cuts.specs.declared.measure.Measure.{Measure}
-use Rattle.node_cuts.specs.declared.floor.Floor.{Floor}
-use Rattle.node_cuts.specs.Sides.{NodeSet, mask_of, node_sets}
-use Rattle.node_cuts.specs.Cuts.{CutValue, cover_by, cut_of, cut_refutes, first_cut_of, need_of, width_by}
-use Rattle.node_cuts.specs.Floors.{fraction_of, least_count}
-use Rattle.node_cuts.specs.Holders.{HoldersValue, is_lacking}
-use Rattle.node_cuts.specs.Tables.{TableValue, IsTableOf, cut_at, measure_of, no_measure, table_of}
-use Rattle.node_cuts.proofs.Least.{least_positive}
-use Rattle.node_cuts.proofs.Scaling.{IsScaled, scales}
+use Rattle.schedule.specs.{Links.TopologyValue, Placed.PlacementValue}
+use Rattle.collective_spec.specs.{declared.{spec.Spec.Spec, instance.Instance.Instance}, Kinds.allows, Collectives.{kind_in, spec_instance}}
+use Rattle.node_cuts.specs.{declared.{sets.Sets.Sets, measure.Measure.Measure, floor.Floor.Floor}, Sides.{NodeSet, mask_of, node_sets}}
+use Rattle.node_cuts.specs.{Cuts.{CutValue, cover_by, cut_of, cut_refutes, first_cut_of, need_of, width_by}, Floors.{fraction_of, least_count}}
+use Rattle.node_cuts.specs.{Holders.{HoldersValue, is_lacking}, Tables.{TableValue, IsTableOf, cut_at, measure_of, no_measure, table_of}}
+use Rattle.node_cuts.proofs.{Least.least_positive, Scaling.{IsScaled, scales}}
 
 -- the least count divides each count that the collective may have, and as many times as much has to come in
 pub times_more : (u : NodeSet) (spec : Spec) (nodes c : ℕ) → 0 < nodes → allows (kind_in spec) nodes c ≡ true

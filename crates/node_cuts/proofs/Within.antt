@@ -1,18 +1,13 @@
 -- The groups of each cover are the topology's, and no more than these.
-use Rattle.std.proofs.Common.{◌≡◌, ℕ, zero, suc, ◌+◌, ◌<◌, ◌≤◌, Bool, true, false, List, [], ◌∷◌, ◌++◌, length, ⊎_elim, arith}
-use Rattle.std.specs.Prelude.{◌==◌, Option, None, Some, nat_lt}
-use Rattle.std.specs.List.{All, list_any, range_with_len}
-use Rattle.std.specs.Option.{option_map_or}
-use Rattle.std.proofs.lemmas.Bool.{cases_Bool}
-use Rattle.std.proofs.lemmas.List.Elements.{All-cons, All-filter, All-nil}
-use Rattle.std.proofs.lemmas.List.FromFn.{get_or-range_with_len, length-range_with_len}
+use Rattle.std.proofs.Common.{◌≡◌, ℕ, zero, suc, ◌+◌, ◌<◌, ◌≤◌, Bool, true, false, List, [], ◌∷◌, ◌++◌, length, ⊎_elim, arith, ◌==◌, Option, None, Some, nat_lt}
+use Rattle.std.{specs.{List.{All, list_any, range_with_len}, Option.option_map_or}, proofs.lemmas.Bool.cases_Bool}
+use Rattle.std.proofs.lemmas.List.{Elements.{All-cons, All-filter, All-nil}, FromFn.{get_or-range_with_len, length-range_with_len}}
 use Rattle.list_laws.proofs.Tests.{few_kept}
 use Rattle.schedule.specs.Links.{TopologyValue}
-use Rattle.node_cuts.specs.declared.sets.Sets.{Sets}
-use Rattle.node_cuts.specs.declared.sets.Sets.TheVariants as sets
-use Rattle.node_cuts.specs.Sides.{NodeSet}
+use Rattle.node_cuts.specs.{declared.sets.Sets.Sets, Sides.NodeSet}
 use Rattle.node_cuts.specs.Cuts.{all_groups, ascending, best_of, best_taken, cover, cover_back, cover_by, cover_greedily, groups_taken_back, narrower, opens, width_of}
 use Rattle.node_cuts.proofs.Reading.{taken_below, taken_few}
+use Rattle.node_cuts.specs.declared.sets.Sets.TheVariants as sets
 
 -- these are groups of the topology, and no more than it has
 pub record IsWithin (t : TopologyValue) (groups : List ℕ) : Type 0 where

@@ -1,14 +1,10 @@
 -- The groups of a line have no fault exactly where each closes its clause, and no clause has two.
-use Rattle.std.proofs.Common.{◌≡◌, ℕ, ◌+◌, Bool, false, List, [], ◌∷◌, get_or, Option, Some, None, Ok, Err, refl, sym, ap, ◌∙◌, inl, inr, ⊎_elim, arith}
-use Rattle.std.specs.Prelude.{◌≢◌, ◌==◌, not, All, AllPairs}
-use Rattle.std.specs.List.{list_any}
-use Rattle.std.proofs.lemmas.Bool.{false≢true, cases_Bool, not_from_true, eqb-false, ne_eqb, or_parts, or_from}
-use Rattle.std.proofs.lemmas.List.Elements.{All-nil, All-cons, All-head, All-tail}
-use Rattle.std.proofs.lemmas.List.Kept.{AllPairs-cons}
+use Rattle.std.proofs.Common.{◌≡◌, ℕ, ◌+◌, Bool, false, List, [], ◌∷◌, get_or, Option, Some, None, Ok, Err, refl, sym, ap, ◌∙◌, inl, inr, ⊎_elim, arith, ◌≢◌, ◌==◌, not, All, AllPairs}
+use Rattle.std.{specs.List.list_any, proofs.lemmas.Bool.{false≢true, cases_Bool, not_from_true, eqb-false, ne_eqb, or_parts, or_from}}
+use Rattle.std.proofs.lemmas.List.{Elements.{All-nil, All-cons, All-head, All-tail}, Kept.AllPairs-cons}
 use Rattle.list_laws.proofs.Pairs.{pairs_head, pairs_tail}
 use Rattle.cnf_formula.specs.Literals.{LitValue}
-use Rattle.proof_rules.specs.declared.verdict.LineCode.TheVariants.{NoConflict, PivotNotNegated, GroupTwice}
-use Rattle.proof_rules.specs.Held.{Entry, clause_at}
+use Rattle.proof_rules.specs.{declared.verdict.LineCode.TheVariants.{NoConflict, PivotNotNegated, GroupTwice}, Held.{Entry, clause_at}}
 use Rattle.proof_rules.specs.Judging.{Fault, led_to, assumed, closing_fault, group_fault, groups_fault}
 use Rattle.proof_rules.specs.Accepting.{Group, has_negated, without_negated, is_made_true, Closes, Answers}
 use Rattle.proof_rules.proofs.Hints.{Led, conflicts, leads_to_conflict}

@@ -1,12 +1,8 @@
 -- Hints in a row lead to a conflict, or to literals that are false, exactly where they are taken so.
-use Rattle.std.proofs.Common.{◌≡◌, ℕ, ◌+◌, true, List, [], ◌∷◌, Option, Some, None, Result, Ok, Err, refl, sym, ap, ◌∙◌, subst}
-use Rattle.std.specs.List.{list_all}
+use Rattle.std.{proofs.Common.{◌≡◌, ℕ, ◌+◌, true, List, [], ◌∷◌, Option, Some, None, Result, Ok, Err, refl, sym, ap, ◌∙◌, subst}, specs.List.list_all}
 use Rattle.cnf_formula.specs.Literals.{LitValue, negation, same_literal}
-use Rattle.proof_rules.specs.declared.verdict.LineCode.{LineCode}
-use Rattle.proof_rules.specs.declared.verdict.LineCode.TheVariants.{HintsAfterConflict}
-use Rattle.proof_rules.specs.Held.{Entry, clause_at, open_literals}
-use Rattle.proof_rules.specs.Judging.{Fault, given_by, given_by_clause, after_conflict, led_to}
-use Rattle.proof_rules.specs.Accepting.{Takes, Falsifies, LeadsTo, Conflicts}
+use Rattle.proof_rules.specs.{declared.verdict.LineCode.{LineCode, TheVariants.HintsAfterConflict}, Held.{Entry, clause_at, open_literals}}
+use Rattle.proof_rules.specs.{Judging.{Fault, given_by, given_by_clause, after_conflict, led_to}, Accepting.{Takes, Falsifies, LeadsTo, Conflicts}}
 use Rattle.proof_rules.proofs.Taking.{none_open, open_none, rest_is, first_open, gives_none, gives_some, given_one, all_same}
 
 -- ---- one hint

@@ -1,17 +1,9 @@
 -- Additions that follow from what is held, each in its turn: one line more, and what they are among all lines.
-use Rattle.std.proofs.Common.{◌≡◌, true, List, [], ◌∷◌, ◌++◌, map, refl, sym, ap, ◌∙◌}
-use Rattle.std.specs.Prelude.{◌↔◌, ◌&&◌}
-use Rattle.std.proofs.lemmas.Bool.{and_parts, and_from}
-use Rattle.cnf_formula.specs.Lines.{ProofLineValue}
-use Rattle.cnf_formula.specs.declared.line.LratLine.TheVariants.{Addition}
-use Rattle.proof_rules.specs.declared.verdict.LineVerdict.TheVariants.{Accepted}
-use Rattle.proof_rules.specs.Held.{CheckerValue}
-use Rattle.proof_rules.specs.Testing.{is_rup, accepts}
-use Rattle.proof_rules.specs.Judging.{verdict_of, is_accepted}
-use Rattle.proof_rules.specs.Refuting.{all_accepted, after, with_line, is_fresh, are_learned}
-use Rattle.proof_rules.specs.Learning.{AllImplied, AllFresh}
-use Rattle.proof_rules.proofs.Verdicts.{implied_by, by_implied}
-use Rattle.proof_rules.proofs.Tested.{rup_by, by_rup, acceptance_said}
+use Rattle.std.proofs.{Common.{◌≡◌, true, List, [], ◌∷◌, ◌++◌, map, refl, ap, ◌∙◌, ◌↔◌, ◌&&◌}, lemmas.Bool.{and_parts, and_from}}
+use Rattle.cnf_formula.specs.{Lines.ProofLineValue, declared.line.LratLine.TheVariants.Addition}
+use Rattle.proof_rules.specs.{declared.verdict.LineVerdict.TheVariants.Accepted, Held.CheckerValue, Testing.{is_rup, accepts}, Learning.{AllImplied, AllFresh}}
+use Rattle.proof_rules.specs.{Judging.{verdict_of, is_accepted}, Refuting.{all_accepted, after, with_line, is_fresh, are_learned}}
+use Rattle.proof_rules.proofs.{Verdicts.{implied_by, by_implied}, Tested.{rup_by, by_rup, acceptance_said}}
 
 -- the checker after one line more
 pub after_more : (lines : List ProofLineValue) (c : CheckerValue) (line : ProofLineValue) → after c (map Addition (lines ++ line ∷ [])) ≡ with_line (after c (map Addition lines)) line

@@ -1,22 +1,12 @@
 -- What is held stays held under more additions, and so does a conflict.
-use Rattle.std.proofs.Common.{ap, sym, ◌∙◌, ◌≡◌, ℕ, suc, max, List, [], ◌∷◌, ◌++◌, length, Some, refl, subst, ⊎_elim, arith}
-use Rattle.std.proofs.Math.Logic.{∥∥₁_elim}
-use Rattle.std.specs.Prelude.{◌==◌, ◌&&◌, true, map}
-use Rattle.std.proofs.lemmas.Bool.{cases_Bool, and_parts, and_from}
-use Rattle.std.proofs.lemmas.List.Elements.{All-nil}
-use Rattle.cnf_formula.specs.Literals.{LitValue, negation}
-use Rattle.cnf_formula.specs.Formulas.{FormulaValue, IsAbout}
-use Rattle.cnf_formula.specs.Lines.{ProofLineValue}
-use Rattle.cnf_formula.specs.declared.line.LratLine.{LratLine}
+use Rattle.std.proofs.Common.{ap, sym, ◌∙◌, ◌≡◌, ℕ, suc, max, List, [], ◌∷◌, ◌++◌, length, Some, refl, subst, ⊎_elim, arith, ◌==◌, true, map}
+use Rattle.std.proofs.{Math.Logic.∥∥₁_elim, lemmas.{Bool.{cases_Bool, and_parts, and_from}, List.Elements.All-nil}}
+use Rattle.cnf_formula.specs.{Literals.{LitValue, negation}, Formulas.{FormulaValue, IsAbout}, Lines.ProofLineValue, declared.line.LratLine.LratLine}
 use Rattle.cnf_formula.specs.declared.line.LratLine.TheVariants.{Addition, Deletion}
-use Rattle.proof_rules.specs.declared.verdict.LineVerdict.TheVariants.{Accepted as AcceptedVerdict}
-use Rattle.proof_rules.specs.Held.{Entry, CheckerValue, start_of, clause_at}
-use Rattle.proof_rules.specs.Testing.{accepts}
-use Rattle.proof_rules.specs.Judging.{verdict_of, is_accepted, verdict_on}
-use Rattle.proof_rules.specs.Accepting.{Conflicts, Implied, leading}
+use Rattle.proof_rules.specs.{declared.verdict.LineVerdict.TheVariants.Accepted as AcceptedVerdict, Held.{Entry, CheckerValue, start_of, clause_at}}
+use Rattle.proof_rules.specs.{Testing.accepts, Judging.{verdict_of, is_accepted, verdict_on}, Accepting.{Conflicts, Implied, leading}}
 use Rattle.proof_rules.specs.Refuting.{with_line, with_accepted, all_accepted, after, IsChecker, Exhaustion, Exhausted}
-use Rattle.proof_rules.proofs.Verdicts.{implied_by}
-use Rattle.proof_rules.proofs.Tested.{by_rup, acceptance_said}
+use Rattle.proof_rules.proofs.{Verdicts.implied_by, Tested.{by_rup, acceptance_said}}
 
 abbrev pub Keeps : List Entry → List Entry → Type 0
 Keeps held more = (id : ℕ) (clause : List LitValue) → clause_at held id ≡ Some clause → clause_at more id ≡ Some clause

@@ -1,16 +1,9 @@
 -- Where each clause that is held has two literals, nothing falls at once.
-use Rattle.std.proofs.Common.{◌≡◌, ℕ, Bool, true, false, List, [], ◌∷◌, Some, sym, ◌∙◌, subst, ⊎_elim}
-use Rattle.std.specs.Prelude.{◌==◌, not, All}
-use Rattle.std.specs.List.{list_all}
-use Rattle.std.proofs.lemmas.Bool.{false≢true, cases_Bool, and_parts, not_from_true}
-use Rattle.std.proofs.lemmas.List.Elements.{All-head, All-tail}
-use Rattle.cnf_formula.specs.Literals.{LitValue, same_literal}
-use Rattle.cnf_formula.specs.Lines.{ProofLineValue}
-use Rattle.proof_rules.specs.Held.{Entry, CheckerValue, clause_at}
-use Rattle.proof_rules.specs.Testing.{is_rup}
-use Rattle.proof_rules.specs.Accepting.{IsFalse, Conflicts, leading}
-use Rattle.proof_rules.proofs.Taking.{FalseOrIs, same_itself}
-use Rattle.proof_rules.proofs.Tested.{rup_by}
+use Rattle.std.{proofs.Common.{◌≡◌, ℕ, Bool, true, false, List, [], ◌∷◌, Some, sym, ◌∙◌, subst, ⊎_elim, ◌==◌, not, All}, specs.List.list_all}
+use Rattle.std.proofs.lemmas.{Bool.{false≢true, cases_Bool, and_parts, not_from_true}, List.Elements.{All-head, All-tail}}
+use Rattle.cnf_formula.specs.{Literals.{LitValue, same_literal}, Lines.ProofLineValue}
+use Rattle.proof_rules.specs.{Held.{Entry, CheckerValue, clause_at}, Testing.is_rup, Accepting.{IsFalse, Conflicts, leading}}
+use Rattle.proof_rules.proofs.{Taking.{FalseOrIs, same_itself}, Tested.rup_by}
 
 -- the first two literals of the clause differ
 abbrev pub has_two : List LitValue → Bool

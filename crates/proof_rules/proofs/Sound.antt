@@ -1,12 +1,8 @@
 -- Where some assignment satisfies a formula, some assignment satisfies all that is held after any accepted lines, and no line refutes it.
-use Rattle.std.proofs.Common.{◌≡◌, ℕ, Bool, true, false, cond, List, [], ◌∷◌, Some, refl, sym, ap, ◌∙◌, subst, ⊎_elim}
-use Rattle.std.specs.Prelude.{◌==◌, ◌||◌, ◌&&◌, not, All}
-use Rattle.std.specs.List.{list_any}
+use Rattle.std.proofs.Common.{◌≡◌, ℕ, Bool, true, false, cond, List, [], ◌∷◌, Some, refl, sym, ap, ◌∙◌, subst, ⊎_elim, ◌==◌, ◌||◌, ◌&&◌, not, All}
+use Rattle.std.{specs.List.list_any, proofs.lemmas.List.{Elements.{All-nil, All-cons, All-head, All-tail}, Folds.list_any_none}}
 use Rattle.std.proofs.lemmas.Bool.{false≢true, eq-eqb, or_cases, or_left, or_right, cases_Bool, not_from_true, not_from_false, not-true, not-false, eqb-true, or_parts}
-use Rattle.std.proofs.lemmas.List.Elements.{All-nil, All-cons, All-head, All-tail}
-use Rattle.std.proofs.lemmas.List.Folds.{list_any_none}
-use Rattle.cnf_formula.specs.Literals.{LitValue, same_sign, same_literal, has_literal, negation}
-use Rattle.cnf_formula.proofs.Clauses.{same_is}
+use Rattle.cnf_formula.{specs.Literals.{LitValue, same_sign, same_literal, has_literal, negation}, proofs.Clauses.same_is}
 use Rattle.proof_rules.specs.Held.{Entry, clause_at}
 use Rattle.proof_rules.specs.Accepting.{IsFalse, Takes, LeadsTo, Conflicts, Group, has_negated, without_negated, is_made_true, Closes, Answers, is_answered}
 use Rattle.proof_rules.proofs.Taking.{FalseOrIs, same_sign_itself}

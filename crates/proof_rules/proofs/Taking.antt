@@ -1,15 +1,9 @@
 -- What a clause gives, by its literals that are not false.
-use Rattle.std.proofs.Common.{◌≡◌, Bool, true, false, List, [], ◌∷◌, Some, None, Ok, Err, refl, sym, ap, ◌∙◌, subst, inl, inr, ⊎_elim, eqb}
-use Rattle.std.specs.Prelude.{◌⊎◌, All}
-use Rattle.std.specs.List.{list_all}
-use Rattle.std.proofs.lemmas.Bool.{false≢true, and_parts, and_from, or_left, or_right, eq-eqb, or_cases, cases_Bool}
+use Rattle.std.proofs.Common.{◌≡◌, Bool, true, false, List, [], ◌∷◌, Some, None, Ok, Err, refl, sym, ap, ◌∙◌, subst, inl, inr, ⊎_elim, eqb, ◌⊎◌, All}
+use Rattle.std.{specs.List.list_all, proofs.lemmas.Bool.{false≢true, and_parts, and_from, or_left, or_right, eq-eqb, or_cases, cases_Bool}}
 use Rattle.std.proofs.lemmas.List.Elements.{All-nil, All-cons, All-head, All-tail}
-use Rattle.cnf_formula.specs.Literals.{LitValue, same_sign, same_literal, has_literal}
-use Rattle.cnf_formula.proofs.Clauses.{same_is}
-use Rattle.proof_rules.specs.declared.verdict.LineCode.TheVariants.{HintNotUnit}
-use Rattle.proof_rules.specs.Held.{open_literals}
-use Rattle.proof_rules.specs.Judging.{given_by}
-use Rattle.proof_rules.specs.Accepting.{IsFalse}
+use Rattle.cnf_formula.{specs.Literals.{LitValue, same_sign, same_literal, has_literal}, proofs.Clauses.same_is}
+use Rattle.proof_rules.specs.{declared.verdict.LineCode.TheVariants.HintNotUnit, Held.open_literals, Judging.given_by, Accepting.IsFalse}
 
 pub same_sign_itself : (b : Bool) → same_sign b b ≡ true
 same_sign_itself true = refl

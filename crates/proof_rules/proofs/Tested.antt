@@ -1,20 +1,12 @@
 -- The tests of a line say what the relations say, and so whether its verdict is that it is accepted.
-use Rattle.std.proofs.Common.{◌≡◌, ℕ, ◌<◌, ◌≤◌, max, Bool, true, false, List, [], ◌∷◌, length, map, get_or, Option, Some, None, refl, sym, ap, ◌∙◌, ⊎_elim, arith}
-use Rattle.std.specs.Prelude.{◌↔◌, ◌==◌, ◌≢◌, ◌&&◌, ◌||◌, not, if◌then◌else◌, All, AllPairs, nat_le, nat_lt}
-use Rattle.std.specs.List.{list_any, list_all}
+use Rattle.std.proofs.Common.{◌≡◌, ℕ, ◌<◌, max, Bool, true, false, List, [], ◌∷◌, length, map, get_or, Option, Some, None, refl, sym, ap, ◌∙◌, ⊎_elim, arith, ◌↔◌, ◌==◌, ◌≢◌, ◌&&◌, ◌||◌, not, if◌then◌else◌, All, AllPairs, nat_le, nat_lt}
+use Rattle.std.{specs.List.{list_any, list_all}, proofs.lemmas.List.{Elements.{All-nil, All-cons, All-head, All-tail}, Kept.AllPairs-cons}}
 use Rattle.std.proofs.lemmas.Bool.{false≢true, and_parts, and_from, or_cases, or_left, or_right, or_parts, or_from, not-true, not_from_false, ltb-true, lt-ltb, leb-true, le-leb, eqb-false, ne_eqb}
-use Rattle.std.proofs.lemmas.List.Elements.{All-nil, All-cons, All-head, All-tail}
 use Rattle.std.proofs.lemmas.List.Sums.{AllPass-from_list_all, list_all-from_AllPass}
-use Rattle.std.proofs.lemmas.List.Kept.{AllPairs-cons}
 use Rattle.list_laws.proofs.Pairs.{no_pairs, pairs_head, pairs_tail}
-use Rattle.cnf_formula.specs.Literals.{LitValue}
-use Rattle.cnf_formula.specs.Lines.{ProofLineValue}
-use Rattle.cnf_formula.specs.declared.line.LratLine.{LratLine}
-use Rattle.cnf_formula.specs.declared.line.LratLine.TheVariants.{Addition, Deletion}
-use Rattle.proof_rules.specs.declared.verdict.LineCode.TheVariants.{UnknownDeletion}
-use Rattle.proof_rules.specs.declared.verdict.LineVerdict.{LineVerdict}
+use Rattle.cnf_formula.specs.{Literals.LitValue, Lines.ProofLineValue, declared.line.LratLine.{LratLine, TheVariants.{Addition, Deletion}}}
+use Rattle.proof_rules.specs.{declared.verdict.{LineCode.TheVariants.UnknownDeletion, LineVerdict.LineVerdict}, Held.{CheckerValue, is_empty}}
 use Rattle.proof_rules.specs.declared.verdict.LineVerdict.TheVariants.{Accepted as AcceptedVerdict, Refused}
-use Rattle.proof_rules.specs.Held.{CheckerValue, is_empty}
 use Rattle.proof_rules.specs.Accepting.{Group, leading, groups_of, is_answered, IsNew, Implied, Redundant}
 use Rattle.proof_rules.specs.Testing.{propagated, is_conflict, closes_one, has_number_twice, is_new, is_rup, are_resolved, is_rat, are_held, accepts}
 use Rattle.proof_rules.specs.Judging.{verdict_of, verdict_on, is_accepted, is_implied}

@@ -1,21 +1,13 @@
 -- Where some assignment satisfies a formula, some assignment of its variables satisfies all that is held after any accepted lines.
-use Rattle.std.proofs.Common.{◌≡◌, ℕ, ◌+◌, ◌-◌, Bool, true, false, List, [], ◌∷◌, map, refl, ap, ◌∙◌, subst, ⊎_elim, arith}
-use Rattle.std.specs.Prelude.{◌==◌, ◌||◌, not, All}
-use Rattle.std.specs.List.{list_any, enumerate_from, range_with_len}
-use Rattle.std.proofs.lemmas.Bool.{and_parts, and_from, or_cases}
+use Rattle.std.proofs.Common.{◌≡◌, ℕ, ◌+◌, ◌-◌, Bool, true, false, List, [], ◌∷◌, map, refl, ap, ◌∙◌, subst, ⊎_elim, arith, ◌==◌, not, All}
+use Rattle.std.{specs.List.{list_any, enumerate_from, range_with_len}, proofs.lemmas.Bool.{and_parts, and_from, or_cases}}
 use Rattle.std.proofs.lemmas.List.FromFn.{get_or-map-range_with_len, length-map-range_with_len}
 use Rattle.std.proofs.lemmas.List.Elements.{All-nil, All-cons, All-head, All-tail, All-push, All-filter}
-use Rattle.cnf_formula.specs.Literals.{LitValue, value_of, clause_holds, all_hold}
-use Rattle.cnf_formula.specs.Formulas.{FormulaValue, IsFormula, IsClause, IsAbout, Satisfiable}
-use Rattle.cnf_formula.specs.declared.line.LratLine.{LratLine}
-use Rattle.cnf_formula.specs.declared.line.LratLine.TheVariants.{Addition, Deletion}
-use Rattle.proof_rules.specs.Held.{Entry, CheckerValue, start_of}
-use Rattle.proof_rules.specs.Testing.{is_rup, is_rat, accepts}
-use Rattle.proof_rules.specs.Refuting.{with_line, with_accepted, all_accepted, after, formula_after}
-use Rattle.proof_rules.proofs.Tested.{rup_by, rat_by}
-use Rattle.proof_rules.proofs.Sound.{holds, Holds}
-use Rattle.proof_rules.proofs.Calm.{all_calm, starts_calm}
-use Rattle.proof_rules.proofs.Kept.{same_formula}
+use Rattle.cnf_formula.specs.{Literals.{LitValue, value_of, clause_holds, all_hold}, Formulas.{FormulaValue, IsFormula, IsClause, IsAbout, Satisfiable}}
+use Rattle.cnf_formula.specs.declared.line.LratLine.{LratLine, TheVariants.{Addition, Deletion}}
+use Rattle.proof_rules.specs.{Held.{Entry, CheckerValue, start_of}, Testing.{is_rup, is_rat, accepts}}
+use Rattle.proof_rules.specs.Refuting.{with_accepted, all_accepted, after, formula_after}
+use Rattle.proof_rules.proofs.{Tested.{rup_by, rat_by}, Sound.{holds, Holds}, Calm.{all_calm, starts_calm}, Kept.same_formula}
 
 -- ---- what is held is about the formula's variables
 

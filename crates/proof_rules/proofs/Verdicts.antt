@@ -1,24 +1,14 @@
 -- An addition has the verdict that it is implied, or that it is accepted without being so, exactly by the definitions.
-use Rattle.std.proofs.Common.{◌≡◌, ℕ, ◌<◌, max, Bool, true, false, List, [], ◌∷◌, length, get_or, Option, Some, None, Ok, Err, refl, sym, ap, ◌∙◌, ⊎_elim, arith}
-use Rattle.std.specs.Prelude.{◌↔◌, ◌==◌, ◌≢◌, if◌then◌else◌, All, AllPairs, nat_le, nat_lt}
-use Rattle.std.specs.List.{list_any, list_all}
-use Rattle.std.proofs.lemmas.Bool.{cases_Bool, cases_eq, ltb-false, leb-false, le-ltb, lt-leb, eqb-false, ne_eqb, or_parts, or_from}
-use Rattle.std.proofs.lemmas.List.Folds.{list_any_none}
-use Rattle.std.proofs.lemmas.List.Sums.{AllPass-from_list_all, list_all-from_AllPass}
-use Rattle.std.proofs.lemmas.List.Kept.{AllPairs-cons}
+use Rattle.std.proofs.Common.{◌≡◌, ℕ, ◌<◌, max, Bool, true, false, List, [], ◌∷◌, length, get_or, Option, Some, None, Ok, Err, refl, sym, ap, ◌∙◌, ⊎_elim, arith, ◌↔◌, ◌==◌, ◌≢◌, if◌then◌else◌, All, AllPairs, nat_le, nat_lt}
+use Rattle.std.{specs.List.{list_any, list_all}, proofs.lemmas.List.{Folds.list_any_none, Sums.{AllPass-from_list_all, list_all-from_AllPass}}}
+use Rattle.std.proofs.lemmas.{Bool.{cases_Bool, cases_eq, ltb-false, leb-false, le-ltb, lt-leb, eqb-false, ne_eqb, or_parts, or_from}, List.Kept.AllPairs-cons}
 use Rattle.list_laws.proofs.Pairs.{pairs_head, pairs_tail}
-use Rattle.cnf_formula.specs.Literals.{LitValue}
-use Rattle.cnf_formula.specs.Formulas.{IsAbout}
-use Rattle.cnf_formula.specs.Lines.{ProofLineValue}
-use Rattle.proof_rules.specs.declared.verdict.LineCode.TheVariants.{IdNotGreater, VariableRange, VariableTwice}
-use Rattle.proof_rules.specs.declared.verdict.LineVerdict.{LineVerdict}
-use Rattle.proof_rules.specs.declared.verdict.LineVerdict.TheVariants.{Accepted as AcceptedVerdict, Refused}
-use Rattle.proof_rules.specs.Held.{Entry, CheckerValue}
+use Rattle.cnf_formula.specs.{Literals.LitValue, Formulas.IsAbout, Lines.ProofLineValue}
+use Rattle.proof_rules.specs.declared.verdict.{LineCode.TheVariants.{IdNotGreater, VariableRange, VariableTwice}, LineVerdict.LineVerdict}
+use Rattle.proof_rules.specs.{declared.verdict.LineVerdict.TheVariants.{Accepted as AcceptedVerdict, Refused}, Held.{Entry, CheckerValue}}
 use Rattle.proof_rules.specs.Judging.{is_foreign, Fault, led_to, groups_fault, implied_verdict, pivotless_verdict, unanswered_code, redundant_verdict, has_variable_twice, led_verdict, verdict_of}
 use Rattle.proof_rules.specs.Accepting.{Group, leading, groups_of, is_answered, IsNew, Implied, Redundant}
-use Rattle.proof_rules.proofs.Hints.{Led, conflicts, leads_to_conflict, leads, led_by}
-use Rattle.proof_rules.proofs.Groups.{AreRight, right, no_fault}
-use Rattle.proof_rules.proofs.Sound.{none_any}
+use Rattle.proof_rules.proofs.{Hints.{Led, conflicts, leads_to_conflict, leads, led_by}, Groups.{AreRight, right, no_fault}, Sound.none_any}
 
 -- ---- tests of lists
 

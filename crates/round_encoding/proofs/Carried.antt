@@ -1,18 +1,10 @@
 -- A group's counter, in the order in which it is made.
-use Rattle.std.proofs.Common.{◌≡◌, ℕ, suc, ◌+◌, ◌*◌, ◌<◌, ◌≤◌, List, [], ◌∷◌, map, length, refl, ap, ◌∙◌, arith}
-use Rattle.std.specs.Prelude.{All}
-use Rattle.schedule.specs.Links.{GroupValue, IsGroup}
-use Rattle.schedule.specs.Sends.{IsStep}
-use Rattle.cnf_formula.specs.Literals.{LitValue}
-use Rattle.cnf_formula.specs.Formulas.{FormulaValue, IsClause, with_clauses}
-use Rattle.cardinality.specs.Counting.{CounterValue, with_counter}
-use Rattle.cardinality.specs.Totalizers.{totalizer_of}
-use Rattle.cardinality.proofs.Wider.{clause_more}
-use Rattle.round_encoding.specs.Frames.{Frame, own_variables}
-use Rattle.send_encoding.specs.Variables.{sent, number_of}
-use Rattle.send_encoding.proofs.Grid.{rows_length}
-use Rattle.round_encoding.specs.Rounding.{count_of_group, output_at, said_of_group, with_count}
-use Rattle.round_encoding.proofs.Counted.{group_counted}
+use Rattle.std.proofs.Common.{◌≡◌, ℕ, suc, ◌+◌, ◌*◌, ◌<◌, ◌≤◌, List, [], ◌∷◌, map, length, refl, ap, ◌∙◌, arith, All}
+use Rattle.schedule.specs.{Links.{GroupValue, IsGroup}, Sends.IsStep}
+use Rattle.cnf_formula.specs.{Literals.LitValue, Formulas.{FormulaValue, IsClause, with_clauses}}
+use Rattle.cardinality.{specs.{Counting.{CounterValue, with_counter}, Totalizers.totalizer_of}, proofs.Wider.clause_more}
+use Rattle.round_encoding.{specs.{Frames.{Frame, own_variables}, Rounding.{count_of_group, output_at, said_of_group, with_count}}, proofs.Counted.group_counted}
+use Rattle.send_encoding.{specs.Variables.{sent, number_of}, proofs.Grid.rows_length}
 
 mapped_length : {X Y : Type 0} (g : X → Y) (xs : List X) → length (map g xs) ≡ length xs
 mapped_length g [] = refl

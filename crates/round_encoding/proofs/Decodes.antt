@@ -1,15 +1,10 @@
 -- What an encoding and an assignment that satisfies it decode to.
 use Rattle.std.proofs.Common.{◌≡◌, ℕ, ◌≤◌, Bool, List, length, sym, ap, subst, arith}
-use Rattle.schedule.specs.Links.{TopologyValue}
-use Rattle.schedule.specs.Placed.{PlacementValue}
+use Rattle.schedule.specs.{Links.TopologyValue, Placed.PlacementValue}
 use Rattle.cnf_formula.specs.Formulas.{Satisfies}
-use Rattle.round_encoding.specs.declared.encoding.Encoding.{Encoding}
-use Rattle.round_encoding.specs.Frames.{Frame, frame_of, own_variables}
-use Rattle.round_encoding.specs.Rounding.{counts_of, formula_of}
-use Rattle.round_encoding.specs.Decoding.{decoded}
-use Rattle.round_encoding.specs.Candidates.{IsEncodingOf, IsTightSolution}
-use Rattle.round_encoding.proofs.Counted.{more_variables}
-use Rattle.round_encoding.proofs.Exactly.{sound}
+use Rattle.round_encoding.specs.{declared.encoding.Encoding.Encoding, Frames.{Frame, frame_of, own_variables}, Rounding.{counts_of, formula_of}}
+use Rattle.round_encoding.specs.{Decoding.decoded, Candidates.{IsEncodingOf, IsTightSolution}}
+use Rattle.round_encoding.proofs.{Counted.more_variables, Exactly.sound}
 
 module _ (t : TopologyValue) (pre post : PlacementValue) (steps rounds : ℕ) (e : Encoding) (encodes : IsEncodingOf t pre post steps rounds e) (values : List Bool) (satisfies : Satisfies values e.formula) where
   abbrev frame : Frame

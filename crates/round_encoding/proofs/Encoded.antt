@@ -1,15 +1,11 @@
 -- The formula that is made in parts is that of the candidate.
 use Rattle.std.proofs.Common.{◌≡◌, ℕ, ◌+◌, ◌-◌, ◌++◌, ap, ◌∙◌}
-use Rattle.schedule.specs.Links.{TopologyValue}
-use Rattle.schedule.specs.Placed.{PlacementValue}
+use Rattle.schedule.specs.{Links.TopologyValue, Placed.PlacementValue}
 use Rattle.cnf_formula.specs.Formulas.{FormulaValue}
-use Rattle.round_encoding.specs.declared.encoding.Encoding.{Encoding}
-use Rattle.send_encoding.specs.Variables.{SendMapValue, map_of, arrivals, sends}
-use Rattle.round_encoding.specs.Frames.{Frame, frame_of, own_variables, extra_from}
-use Rattle.send_encoding.specs.Sending.{sending}
+use Rattle.round_encoding.specs.{declared.encoding.Encoding.Encoding, Frames.{Frame, frame_of, own_variables, extra_from}, inner.Counts.with_counts}
 use Rattle.round_encoding.specs.Rounding.{extra_in_order, counts_of, formula_of, encoding_of}
-use Rattle.round_encoding.specs.inner.Counts.{with_counts}
 use Rattle.round_encoding.proofs.Countings.{counted_is}
+use Rattle.send_encoding.specs.{Variables.{SendMapValue, map_of, arrivals, sends}, Sending.sending}
 
 pub encoded : (t : TopologyValue) (pre post : PlacementValue) (steps rounds : ℕ) (m : SendMapValue) (v : ℕ) (f1 f2 : FormulaValue) → m ≡ map_of t pre steps
     → f1 ≡ record { vars = arrivals (map_of t pre steps) + sends (map_of t pre steps); clauses = sending (map_of t pre steps) pre post } → v ≡ f1.vars

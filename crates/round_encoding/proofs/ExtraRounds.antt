@@ -1,19 +1,12 @@
 -- The rounds that an assignment says: one of each step, the extra rounds that are true, and what is left to the last step.
-use Rattle.std.proofs.Common.{◌≡◌, ℕ, zero, suc, ◌+◌, ◌-◌, ◌<◌, ◌≤◌, Bool, true, false, cond, eqb, List, [], ◌∷◌, map, length, get_or, sum, refl, sym, ap, ◌∙◌, subst, ⊎_elim, arith}
-use Rattle.std.specs.Prelude.{if◌then◌else◌, flat_map, count_by, sum_by, All}
-use Rattle.std.specs.List.{range_with_len}
-use Rattle.std.proofs.lemmas.Bool.{false≢true, false_from_ne_true, cases_Bool, cases_eq, eq-eqb, ne_eqb}
-use Rattle.std.proofs.lemmas.List.Sums.{sum_by-cons, sum_by-append, sum-map}
-use Rattle.std.proofs.lemmas.List.FromFn.{length-map-range_with_len, get_or-map-range_with_len}
+use Rattle.std.proofs.Common.{◌≡◌, ℕ, zero, suc, ◌+◌, ◌-◌, ◌<◌, ◌≤◌, Bool, true, false, cond, eqb, List, [], ◌∷◌, map, length, get_or, sum, refl, sym, ap, ◌∙◌, subst, ⊎_elim, arith, if◌then◌else◌, flat_map, count_by, sum_by, All}
+use Rattle.std.{specs.List.range_with_len, proofs.lemmas.Bool.{false≢true, false_from_ne_true, cases_Bool, cases_eq, eq-eqb, ne_eqb}}
+use Rattle.std.proofs.lemmas.List.{Sums.{sum_by-cons, sum_by-append, sum-map}, FromFn.{length-map-range_with_len, get_or-map-range_with_len}}
 use Rattle.schedule.specs.Sends.{IsRound, IsStep}
 use Rattle.cnf_formula.specs.Literals.{is_true}
 use Rattle.cardinality.specs.Counting.{true_inputs}
-use Rattle.round_encoding.specs.Frames.{Frame, extra_of, extra_round}
-use Rattle.send_encoding.specs.Variables.{steps_of}
-use Rattle.round_encoding.specs.Rounding.{count_of_rounds}
-use Rattle.round_encoding.specs.Decoding.{rounds_said, rounds_left, rounds_of}
-use Rattle.send_encoding.proofs.Everywhere.{From, in_map, in_range}
-use Rattle.send_encoding.proofs.Complete.{count_alike}
+use Rattle.round_encoding.specs.{Frames.{Frame, extra_of, extra_round}, Rounding.count_of_rounds, Decoding.{rounds_said, rounds_left, rounds_of}}
+use Rattle.send_encoding.{specs.Variables.steps_of, proofs.{Everywhere.{From, in_map, in_range}, Complete.count_alike}}
 
 -- a sum in which one number of a range has so much more
 sum_with_more : (g : ℕ → ℕ) (v a n last : ℕ) → a + n ≡ last → sum_by (λ k. g k + (if eqb k last then v else 0)) (range_with_len a (suc n)) ≡ sum_by g (range_with_len a (suc n)) + v

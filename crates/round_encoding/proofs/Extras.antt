@@ -1,21 +1,12 @@
 -- The literals of a frame are about its own variables, those of arrivals and sends among them.
-use Rattle.std.proofs.Common.{ℕ, ◌+◌, ◌-◌, ◌<◌, ◌≤◌, List, [], ◌∷◌, length, map, arith}
-use Rattle.std.specs.Prelude.{All}
-use Rattle.std.specs.List.{range_with_len}
-use Rattle.schedule.specs.Placed.{PlacementValue}
-use Rattle.schedule.specs.Sends.{IsStep}
-use Rattle.cnf_formula.specs.Literals.{LitValue, negation}
-use Rattle.cnf_formula.specs.Formulas.{IsAbout, IsClause}
-use Rattle.cnf_formula.proofs.Clauses.{negation_about}
-use Rattle.send_encoding.specs.Variables.{SendMapValue, arrival, arrivals, sent, sends, steps_of}
-use Rattle.send_encoding.specs.Sending.{sending}
-use Rattle.send_encoding.proofs.Everywhere.{in_map, in_flat, From, in_range, slot}
+use Rattle.std.{proofs.Common.{ℕ, ◌+◌, ◌-◌, ◌<◌, ◌≤◌, List, [], ◌∷◌, length, map, arith, All}, specs.List.range_with_len}
+use Rattle.schedule.specs.{Placed.PlacementValue, Sends.IsStep}
+use Rattle.cnf_formula.{specs.{Literals.{LitValue, negation}, Formulas.{IsAbout, IsClause}}, proofs.Clauses.negation_about}
+use Rattle.send_encoding.specs.{Variables.{SendMapValue, arrival, arrivals, sent, sends, steps_of}, Sending.sending, Moving.JoinsNodes}
+use Rattle.send_encoding.proofs.{Everywhere.{in_map, in_flat, From, in_range, slot}, About.{IsStepOf, two}}
 use Rattle.send_encoding.proofs.About as base
-use Rattle.send_encoding.proofs.About.{IsStepOf, two}
-use Rattle.send_encoding.specs.Moving.{JoinsNodes}
 use Rattle.cardinality.proofs.Wider.{clauses_more, about_more}
-use Rattle.round_encoding.specs.Frames.{Frame, extra_round, own_variables}
-use Rattle.round_encoding.specs.Rounding.{extra_in_order}
+use Rattle.round_encoding.specs.{Frames.{Frame, extra_round, own_variables}, Rounding.extra_in_order}
 
 module _ (f : Frame) where
   abbrev m : SendMapValue

@@ -1,24 +1,12 @@
 -- The counters of a candidate are small.
-use Rattle.std.proofs.Common.{◌≡◌, ℕ, zero, suc, ◌+◌, ◌*◌, ◌<◌, ◌≤◌, Bool, true, false, List, [], ◌∷◌, map, length, refl, sym, ap, arith, length-append}
-use Rattle.std.specs.Prelude.{if◌then◌else◌, flat_map, nat_lt, sum_by, All}
-use Rattle.std.specs.List.{range_with_len}
-use Rattle.std.proofs.Math.Nat.{mul-le-mul_left, mul-le-mul_right}
-use Rattle.std.proofs.lemmas.Bool.{ltb-true}
-use Rattle.std.proofs.lemmas.List.Elements.{All-nil, All-cons, All-append}
-use Rattle.std.proofs.lemmas.List.FromFn.{length-map-range_with_len}
-use Rattle.std.proofs.lemmas.List.Sums.{sum_by-cons, sum_by-append}
-use Rattle.std.proofs.lemmas.Nat.{mul-le}
+use Rattle.std.proofs.Common.{◌≡◌, ℕ, zero, suc, ◌+◌, ◌*◌, ◌<◌, ◌≤◌, Bool, true, false, List, [], ◌∷◌, map, length, refl, sym, ap, arith, length-append, if◌then◌else◌, flat_map, nat_lt, sum_by, All}
+use Rattle.std.{specs.List.range_with_len, proofs.{Math.Nat.{mul-le-mul_left, mul-le-mul_right}, lemmas.{Bool.ltb-true, List.FromFn.length-map-range_with_len}}}
+use Rattle.std.proofs.lemmas.{List.{Elements.{All-nil, All-cons, All-append}, Sums.{sum_by-cons, sum_by-append}}, Nat.mul-le}
 use Rattle.schedule.specs.Links.{GroupValue, TopologyValue, IsGroup}
 use Rattle.cnf_formula.specs.Literals.{LitValue, negation}
-use Rattle.send_encoding.specs.Variables.{steps_of}
-use Rattle.send_encoding.proofs.Everywhere.{in_map, in_flat, From, in_range}
-use Rattle.send_encoding.proofs.Grid.{rows_length}
-use Rattle.round_encoding.specs.inner.Counts.{room}
-use Rattle.round_encoding.specs.Frames.{Frame, extra_of, extra_round}
-use Rattle.round_encoding.specs.Rounding.{Count, count_of_rounds, count_of_group, counts_of}
-use Rattle.round_encoding.proofs.Carried.{inputs_length}
-use Rattle.round_encoding.proofs.Counted.{rounds_counted}
-use Rattle.round_encoding.proofs.LowCounts.{space, IsLow}
+use Rattle.send_encoding.{specs.Variables.steps_of, proofs.{Everywhere.{in_map, in_flat, From, in_range}, Grid.rows_length}}
+use Rattle.round_encoding.specs.{inner.Counts.room, Frames.{Frame, extra_of, extra_round}, Rounding.{Count, count_of_rounds, count_of_group, counts_of}}
+use Rattle.round_encoding.proofs.{Carried.inputs_length, Counted.rounds_counted, LowCounts.{space, IsLow}}
 
 module _ (f : Frame) (few : f.extra ≤ 8) where
   rounds_low : 0 < f.map.steps → 0 < f.extra → IsLow (count_of_rounds f)

@@ -1,9 +1,7 @@
 -- Chunks laid out over a topology's nodes make a candidate.
 use Rattle.std.proofs.Common.{ℕ, ◌+◌, ◌<◌, ◌≤◌, refl}
-use Rattle.schedule.specs.Links.{TopologyValue, IsTopology}
-use Rattle.schedule.proofs.Placing.{placement-placed}
-use Rattle.collective_spec.specs.declared.layout.Layout.{Layout}
-use Rattle.collective_spec.specs.Layouts.{stands, laid_out}
+use Rattle.schedule.{specs.Links.{TopologyValue, IsTopology}, proofs.Placing.placement-placed}
+use Rattle.collective_spec.specs.{declared.layout.Layout.Layout, Layouts.{stands, laid_out}}
 use Rattle.round_encoding.specs.Candidates.{IsCandidate}
 
 pub laid_candidate : (t : TopologyValue) (first last : Layout) (chunks steps rounds : ℕ) → IsTopology t → 0 < chunks → chunks ≤ 256 → 0 < steps → steps ≤ 16 → steps ≤ rounds → rounds ≤ steps + 8

@@ -1,23 +1,12 @@
 -- The sends of a schedule's table load no group more than the schedule does.
-use Rattle.std.proofs.Common.{◌≡◌, ℕ, ◌-◌, ◌<◌, ◌≤◌, true, List, map, length, get_or, eqb, ap, ◌∙◌, arith}
-use Rattle.std.specs.Prelude.{◌&&◌, flat_map, count_by, All}
-use Rattle.std.specs.List.{list_any, range_with_len}
-use Rattle.std.proofs.lemmas.Bool.{and_parts, and_from}
-use Rattle.std.proofs.lemmas.List.Folds.{list_any_at}
-use Rattle.schedule.specs.declared.hop.Hop.{Hop}
-use Rattle.schedule.specs.Links.{TopologyValue, GroupValue, IsTopology, has_link, is_usable, usable_links}
-use Rattle.schedule.specs.Placed.{PlacementValue, same_pair}
-use Rattle.schedule.specs.Sends.{ScheduleValue, IsStep, IsInRange, link_of}
-use Rattle.schedule.specs.Fitting.{load}
-use Rattle.schedule.specs.Solving.{Solves}
+use Rattle.std.proofs.Common.{◌≡◌, ℕ, ◌-◌, ◌<◌, ◌≤◌, true, List, map, length, get_or, eqb, ap, ◌∙◌, arith, ◌&&◌, flat_map, count_by, All}
+use Rattle.std.{specs.List.{list_any, range_with_len}, proofs.lemmas.{Bool.{and_parts, and_from}, List.Folds.list_any_at}}
+use Rattle.schedule.specs.{declared.hop.Hop.Hop, Links.{TopologyValue, GroupValue, IsTopology, has_link, is_usable, usable_links}, Fitting.load, Solving.Solves}
+use Rattle.schedule.specs.{Placed.{PlacementValue, same_pair}, Sends.{ScheduleValue, IsStep, IsInRange, link_of}}
 use Rattle.schedule.proofs.Placing.{pair_is, pair_itself, holds-placed}
-use Rattle.send_encoding.specs.Variables.{SendMapValue, map_of, number_of}
-use Rattle.send_encoding.proofs.Everywhere.{in_map, in_flat, From, in_range, place_below}
-use Rattle.send_encoding.specs.Moving.{IsLinkOf, JoinsNodes}
-use Rattle.send_encoding.specs.Leading.{had, brought}
-use Rattle.send_encoding.proofs.Members.{passes_at, member, count_weaker}
+use Rattle.send_encoding.specs.{Variables.{SendMapValue, map_of, number_of}, Moving.{IsLinkOf, JoinsNodes}, Leading.{had, brought}}
+use Rattle.send_encoding.proofs.{Everywhere.{in_map, in_flat, From, in_range, place_below}, Members.{passes_at, member, count_weaker}, Scheduled.first}
 use Rattle.round_encoding.proofs.Twice.{any_count, meets_once}
-use Rattle.send_encoding.proofs.Scheduled.{first}
 
 module _ (t : TopologyValue) (pre post : PlacementValue) (s : ScheduleValue) (steps rounds : ℕ) (nodes : pre.nodes ≡ t.nodes) (links : All (JoinsNodes (map_of t pre steps)) (usable_links t))
     (range : IsInRange pre.chunks pre.nodes s) (solves : Solves t pre post s steps rounds) (ok : IsTopology t) where

@@ -1,13 +1,8 @@
 -- Counters up to low bounds have few variables and clauses together.
-use Rattle.std.proofs.Common.{◌≡◌, ℕ, ◌+◌, ◌*◌, ◌<◌, ◌≤◌, List, [], ◌∷◌, ◌++◌, length, ap, sym, ◌∙◌, arith, length-append}
-use Rattle.std.specs.Prelude.{sum_by, All}
-use Rattle.std.proofs.Math.Nat.{mul-add, mul_assoc, mul-le-mul_left, mul-le-mul_right}
-use Rattle.std.proofs.lemmas.List.Elements.{All-head, All-tail}
-use Rattle.std.proofs.lemmas.List.Sums.{sum_by-cons}
+use Rattle.std.proofs.Common.{◌≡◌, ℕ, ◌+◌, ◌*◌, ◌<◌, ◌≤◌, List, [], ◌∷◌, ◌++◌, length, ap, sym, ◌∙◌, arith, length-append, sum_by, All}
+use Rattle.std.proofs.{Math.Nat.{mul-add, mul_assoc, mul-le-mul_left, mul-le-mul_right}, lemmas.List.{Elements.{All-head, All-tail}, Sums.sum_by-cons}}
 use Rattle.cnf_formula.specs.Literals.{LitValue}
-use Rattle.cardinality.specs.Counting.{output}
-use Rattle.cardinality.specs.Totalizers.{totalizer_of}
-use Rattle.cardinality.proofs.FewClauses.{few_variables, few_clauses}
+use Rattle.cardinality.{specs.{Counting.output, Totalizers.totalizer_of}, proofs.FewClauses.{few_variables, few_clauses}}
 use Rattle.round_encoding.specs.Rounding.{Count, counters_after}
 
 -- the most variables of a count

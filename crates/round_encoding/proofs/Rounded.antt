@@ -1,14 +1,9 @@
 -- The counter of extra rounds, in the order in which it is made.
-use Rattle.std.proofs.Common.{◌≡◌, ℕ, ◌+◌, ◌*◌, ◌<◌, ◌≤◌, List, [], ◌∷◌, length, ap, ◌∙◌, map}
-use Rattle.std.proofs.lemmas.List.FromFn.{length-map-range_with_len}
-use Rattle.cnf_formula.specs.Literals.{LitValue, negation}
-use Rattle.cnf_formula.specs.Formulas.{FormulaValue, IsClause, with_clauses}
-use Rattle.cardinality.specs.Counting.{CounterValue, with_counter}
-use Rattle.cardinality.specs.Totalizers.{totalizer_of}
-use Rattle.cardinality.proofs.Wider.{clause_more}
+use Rattle.std.proofs.{Common.{◌≡◌, ℕ, ◌+◌, ◌*◌, ◌<◌, ◌≤◌, List, [], ◌∷◌, length, ap, ◌∙◌, map}, lemmas.List.FromFn.length-map-range_with_len}
+use Rattle.cnf_formula.specs.{Literals.{LitValue, negation}, Formulas.{FormulaValue, IsClause, with_clauses}}
+use Rattle.cardinality.{specs.{Counting.{CounterValue, with_counter}, Totalizers.totalizer_of}, proofs.Wider.clause_more}
 use Rattle.send_encoding.proofs.Grid.{rows_length}
-use Rattle.round_encoding.specs.Frames.{Frame, extra_of, extra_round, own_variables}
-use Rattle.round_encoding.specs.Rounding.{count_of_rounds, output_at, with_count}
+use Rattle.round_encoding.specs.{Frames.{Frame, extra_of, extra_round, own_variables}, Rounding.{count_of_rounds, output_at, with_count}}
 use Rattle.round_encoding.proofs.Counted.{rounds_counted}
 
 module _ (f : Frame) where

@@ -1,14 +1,9 @@
 -- A candidate whose size is within the limit has few variables.
-use Rattle.std.proofs.Common.{◌≡◌, ℕ, ◌+◌, ◌-◌, ◌*◌, ◌<◌, ◌≤◌, List, [], ◌∷◌, length, sym, ap, ◌∙◌, arith}
-use Rattle.std.specs.Prelude.{sum_by}
+use Rattle.std.proofs.{Common.{◌≡◌, ℕ, ◌+◌, ◌-◌, ◌*◌, ◌<◌, ◌≤◌, List, [], ◌∷◌, length, sym, ap, ◌∙◌, arith, sum_by}, lemmas.List.Sums.sum_by-cons}
 use Rattle.std.proofs.Math.Nat.{mul-add, mul_comm, mul_assoc, mul-le-mul_left, mul-le-mul_right}
-use Rattle.std.proofs.lemmas.List.Sums.{sum_by-cons}
-use Rattle.schedule.specs.Links.{GroupValue, TopologyValue}
-use Rattle.schedule.specs.Placed.{PlacementValue}
+use Rattle.schedule.specs.{Links.{GroupValue, TopologyValue}, Placed.PlacementValue}
 use Rattle.send_encoding.specs.Variables.{map_of, arrivals, sends}
-use Rattle.round_encoding.specs.Frames.{Frame, frame_of, own_variables}
-use Rattle.round_encoding.specs.inner.Counts.{room}
-use Rattle.round_encoding.specs.Candidates.{IsCandidate, group_size, size_of}
+use Rattle.round_encoding.specs.{Frames.{Frame, frame_of, own_variables}, inner.Counts.room, Candidates.{IsCandidate, group_size, size_of}}
 
 pub row_most : (a b c d : ℕ) → a ≤ b → c ≤ d → a * c ≤ b * d
 row_most a b c d low few =

@@ -1,11 +1,8 @@
 -- Counting pairs that meet, from either side.
-use Rattle.std.proofs.Common.{◌≡◌, ◌≢◌, ℕ, zero, suc, ◌+◌, ◌<◌, ◌≤◌, Bool, true, false, cond, eqb, List, [], ◌∷◌, map, get_or, refl, sym, ap, ◌∙◌, subst, ⊎_elim, arith}
-use Rattle.std.specs.Prelude.{◌||◌, ◌&&◌, flat_map, count_by, AllPairs}
-use Rattle.std.specs.List.{list_any, range_with_len}
-use Rattle.std.proofs.lemmas.Bool.{or_parts, cases_Bool, eqb-true, false_from_ne_true}
+use Rattle.std.proofs.Common.{◌≡◌, ◌≢◌, ℕ, zero, suc, ◌+◌, ◌<◌, ◌≤◌, Bool, true, false, cond, eqb, List, [], ◌∷◌, map, get_or, refl, sym, ap, ◌∙◌, subst, ⊎_elim, arith, ◌||◌, ◌&&◌, flat_map, count_by, AllPairs}
+use Rattle.std.{specs.List.{list_any, range_with_len}, proofs.lemmas.Bool.{or_parts, cases_Bool, eqb-true, false_from_ne_true}}
 use Rattle.std.proofs.lemmas.List.Sums.{sum_by-cons, sum_by-append}
-use Rattle.schedule.specs.Placed.{same_pair}
-use Rattle.schedule.proofs.Placing.{pair_is}
+use Rattle.schedule.{specs.Placed.same_pair, proofs.Placing.pair_is}
 use Rattle.send_encoding.proofs.Members.{none_of}
 
 module _ {X : Type 0} where

@@ -1,14 +1,7 @@
 -- Without links nothing is brought and nothing adds up.
-use Rattle.std.proofs.Common.{◌≡◌, ℕ, zero, suc, ◌+◌, true, false, List, [], ◌∷◌, length, get_or, refl, sym, ap, ◌∙◌, arith}
-use Rattle.std.specs.List.{All}
-use Rattle.schedule.specs.declared.hop.Hop.{Hop}
-use Rattle.schedule.specs.Links.{is_usable}
-use Rattle.schedule.specs.Sends.{ScheduleValue, link_of}
-use Rattle.schedule.specs.Placed.{PlacementValue, holds}
-use Rattle.schedule.specs.Running.{after, step_of}
-use Rattle.schedule.specs.Solving.{Solvable}
-use Rattle.schedule.specs.Bags.{Bags, contributions, one_of_each}
-use Rattle.schedule.specs.Summing.{SummedSolvable, bags_after}
+use Rattle.std.{proofs.Common.{◌≡◌, ℕ, zero, suc, ◌+◌, true, false, List, [], ◌∷◌, length, get_or, refl, sym, ap, ◌∙◌, arith}, specs.List.All}
+use Rattle.schedule.specs.{declared.hop.Hop.Hop, Links.is_usable, Sends.{ScheduleValue, link_of}, Placed.{PlacementValue, holds}, Running.{after, step_of}}
+use Rattle.schedule.specs.{Solving.Solvable, Bags.{Bags, contributions, one_of_each}, Summing.{SummedSolvable, bags_after}}
 use Rattle.schedule.specs.Rows.{at_root, everywhere, plan, two_alone}
 
 -- without a group no send has a usable link

@@ -1,14 +1,9 @@
 -- The first clash is found exactly where there is one.
-use Rattle.std.proofs.Common.{◌≡◌, ℕ, ◌<◌, ⊎_elim, true, false, length, map, None, sym, ◌∙◌, arith}
+use Rattle.std.proofs.{Common.{◌≡◌, ℕ, ◌<◌, ⊎_elim, true, false, length, map, None, sym, ◌∙◌, arith}, lemmas.List.Elements.recursion_from_All}
 use Rattle.std.proofs.lemmas.Bool.{and_parts, and_from, cases_Bool, eqb-true, leb-true, ltb-true, lt-ltb, le-leb}
-use Rattle.std.proofs.lemmas.List.Elements.{recursion_from_All}
-use Rattle.schedule.specs.declared.hop.Hop.{Hop}
-use Rattle.schedule.specs.Sends.{ScheduleValue, IsSchedule, IsInRange, IsStep, is_hop_below}
-use Rattle.schedule.specs.Placed.{all_pairs}
-use Rattle.schedule.specs.Summing.{goes_to}
+use Rattle.schedule.specs.{declared.hop.Hop.Hop, Sends.{ScheduleValue, IsSchedule, IsInRange, IsStep, is_hop_below}, Placed.all_pairs, Summing.goes_to}
 use Rattle.schedule.specs.JoinedRuns.{Clashes, first_clash, is_clash}
-use Rattle.schedule.proofs.First.{among_each, among_map, among_parts, each_among, found_none, none_found, some_passes}
-use Rattle.schedule.proofs.Ordered.{in_grid}
+use Rattle.schedule.proofs.{First.{among_each, among_map, among_parts, each_among, found_none, none_found, some_passes}, Ordered.in_grid}
 
 pub no_clash_from_none : (chunks nodes : ℕ) (s : ScheduleValue) (adding : ℕ) → IsSchedule s → IsInRange chunks nodes s → first_clash chunks nodes s adding ≡ None → Clashes s adding → ⊥
 no_clash_from_none chunks nodes s adding valid in_range none clash =

@@ -1,8 +1,6 @@
 -- Pairs by rows and then by columns, and the first of them that passes a test.
 use Rattle.std.proofs.Common.{◌≡◌, ℕ, suc, ◌+◌, ◌-◌, ◌<◌, ◌≤◌, Bool, true, false, ◌&&◌, cond, List, [], ◌∷◌, map, Some, None, refl, sym, ap, ◌∙◌, arith}
-use Rattle.std.specs.List.{find, filter, flat_map, range_with_len}
-use Rattle.std.specs.Option.{option_map, option_or}
-use Rattle.std.proofs.lemmas.List.Folds.{find-append}
+use Rattle.std.{specs.{List.{find, filter, flat_map, range_with_len}, Option.{option_map, option_or}}, proofs.lemmas.List.Folds.find-append}
 
 -- the pairs of the rows from one on and below another, each with so many columns
 abbrev pub rows_from : ℕ → ℕ → ℕ → List (ℕ × ℕ)

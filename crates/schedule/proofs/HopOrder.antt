@@ -1,14 +1,9 @@
 -- Sends in ascending order: the order is total, and a list of different sends has one ascending order.
-use Rattle.std.proofs.Common.{◌≡◌, ℕ, Bool, true, false, ◌&&◌, ◌||◌, eqb, ltb, List, [], ◌∷◌, inl, inr, ◌⊎◌, ⊎_elim, sym, ap, ◌∙◌, arith}
-use Rattle.std.specs.Prelude.{◌≢◌}
-use Rattle.std.specs.List.{AllByRecursion}
+use Rattle.std.proofs.Common.{◌≡◌, ℕ, Bool, true, false, ◌&&◌, ◌||◌, eqb, ltb, List, [], ◌∷◌, inl, inr, ◌⊎◌, ⊎_elim, sym, ap, ◌∙◌, arith, ◌≢◌}
+use Rattle.std.{specs.List.AllByRecursion, proofs.lemmas.Bool.Decides.nat_tests}
 use Rattle.std.proofs.lemmas.Bool.{cases_Bool, and_parts, and_from, or_cases, or_left, or_right, ltb-true, lt-ltb, eqb-true, eq-eqb}
-use Rattle.std.proofs.lemmas.Bool.Decides.{nat_tests}
-use Rattle.schedule.specs.declared.hop.Hop.{Hop}
-use Rattle.schedule.specs.Sends.{hop_before}
-use Rattle.schedule.specs.Inverse.{with_hop, in_order}
-use Rattle.schedule.proofs.First.{Among, InOrder, each_weaker}
-use Rattle.schedule.proofs.Verdicts.{sends_one_way}
+use Rattle.schedule.specs.{declared.hop.Hop.Hop, Sends.hop_before, Inverse.{with_hop, in_order}}
+use Rattle.schedule.proofs.{First.{Among, InOrder, each_weaker}, Verdicts.sends_one_way}
 
 -- where neither of two comes first by a number, the number is the same, and what follows decides
 untied : (a b : ℕ) (there back : Bool) → (ltb a b || (eqb a b && there)) ≡ false → (ltb b a || (eqb b a && back)) ≡ false → (a ≡ b) × (there ≡ false) × (back ≡ false)

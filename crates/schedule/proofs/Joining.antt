@@ -1,16 +1,9 @@
 -- A step send by send: what one more of its sends brings.
 use Rattle.std.proofs.Common.{◌≡◌, ℕ, ◌+◌, ◌<◌, ◌≤◌, Bool, true, false, ◌&&◌, ◌||◌, eqb, List, [], ◌∷◌, ◌++◌, length, get_or, take, refl, sym, ap, ◌∙◌}
-use Rattle.std.specs.List.{list_any, filter}
-use Rattle.std.proofs.lemmas.Bool.{and_parts, ltb-true, eqb-true, eq-eqb}
-use Rattle.std.proofs.lemmas.List.{take_more, take_all}
-use Rattle.std.proofs.lemmas.List.Folds.{list_any-append}
-use Rattle.std.proofs.lemmas.List.Elements.{All-filter, filter_passes, All-same}
-use Rattle.std.proofs.lemmas.Map.Views.{any-filter_same}
-use Rattle.std.proofs.Math.Bool.{or-false}
-use Rattle.schedule.specs.declared.hop.Hop.{Hop}
-use Rattle.schedule.specs.Sends.{ScheduleValue, is_hop_below, IsInRange}
+use Rattle.std.{specs.List.{list_any, filter}, proofs.lemmas.{Bool.{and_parts, ltb-true, eqb-true, eq-eqb}, List.{take_more, take_all, Folds.list_any-append}}}
+use Rattle.std.proofs.{lemmas.{List.Elements.{All-filter, filter_passes, All-same}, Map.Views.any-filter_same}, Math.Bool.or-false}
+use Rattle.schedule.specs.{declared.hop.Hop.Hop, Sends.{ScheduleValue, is_hop_below, IsInRange}, Running.{brings, step_of}}
 use Rattle.schedule.specs.Placed.{PlacementValue, same_pair, holds, IsPlacement, with_pair}
-use Rattle.schedule.specs.Running.{brings, step_of}
 use Rattle.schedule.proofs.Placing.{placed-alike, holds-placed}
 
 -- the numbers of a send are in range

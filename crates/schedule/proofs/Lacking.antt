@@ -1,8 +1,6 @@
 -- The first pair that is demanded and not held.
-use Rattle.std.proofs.Common.{◌≡◌, ℕ, not, sym, ap, ◌∙◌}
-use Rattle.std.specs.List.{find}
-use Rattle.schedule.specs.Placed.{PlacementValue, IsPlacement, holds, lacks, all_pairs}
-use Rattle.schedule.proofs.Grids.{rows_from, rows_start, find-filter}
+use Rattle.std.{proofs.Common.{◌≡◌, ℕ, not, sym, ap, ◌∙◌}, specs.List.find}
+use Rattle.schedule.{specs.Placed.{PlacementValue, IsPlacement, holds, lacks, all_pairs}, proofs.Grids.{rows_from, rows_start, find-filter}}
 
 pub all_lacking : (last post : PlacementValue) (chunks nodes : ℕ) → post.chunks ≡ chunks → nodes ≡ post.nodes → IsPlacement post → find (lacks post last) (rows_from 0 chunks nodes) ≡ find (λ pair. not (holds last pair)) post.pairs
 all_lacking last post chunks nodes chunks_are nodes_are is =

@@ -2,10 +2,8 @@
 use Rattle.std.proofs.Common.{◌≡◌, ℕ, zero, suc, ◌+◌, ◌<◌, ◌≤◌, true, ◌&&◌, eqb, ltb, List, [], ◌∷◌, map, inl, inr, ⊎_elim, refl, sym, ap, ◌∙◌, arith}
 use Rattle.std.specs.List.{list_any, flat_map, range_with_len, filter, AllByRecursion}
 use Rattle.std.proofs.lemmas.Bool.{and_parts, and_from, or_cases, or_left, or_right, ltb-true, lt-ltb, eqb-true, eq-eqb}
-use Rattle.schedule.specs.Failing.{pair_before}
-use Rattle.schedule.specs.Placed.{PlacementValue, IsPlacement, same_pair, holds, all_pairs}
-use Rattle.schedule.proofs.Placing.{pair_is, pair_itself, in_rows}
-use Rattle.schedule.proofs.First.{Among, InOrder, OneWay, InOrder-append, InOrder-filter, each_weaker, each_append}
+use Rattle.schedule.specs.{Failing.pair_before, Placed.{PlacementValue, IsPlacement, same_pair, holds, all_pairs}}
+use Rattle.schedule.proofs.{Placing.{pair_is, pair_itself, in_rows}, First.{Among, InOrder, OneWay, InOrder-append, InOrder-filter, each_weaker, each_append}}
 
 pub pairs_one_way : OneWay pair_before
 pairs_one_way a b there back =

@@ -1,13 +1,7 @@
 -- Whether a group is over its bandwidth in a step, by its load and what its width allows.
-use Rattle.std.proofs.Common.{◌≡◌, ℕ, ◌+◌, ◌-◌, ◌*◌, ◌<◌, ◌≤◌, Bool, ltb, List, [], Some, length, get_or, cond, refl, ap, ◌∙◌, arith}
-use Rattle.std.specs.List.{find, range_with_len}
-use Rattle.std.proofs.lemmas.Bool.{lt-ltb, le-ltb}
-use Rattle.std.proofs.lemmas.List.{get_or_read}
-use Rattle.std.specs.List.{All}
-use Rattle.std.proofs.lemmas.List.Elements.{All-same, All-weaker}
-use Rattle.schedule.specs.Links.{GroupValue, TopologyValue, IsTopology, IsBelow}
-use Rattle.schedule.specs.Sends.{ScheduleValue}
-use Rattle.schedule.specs.Fitting.{load, rounds_at}
+use Rattle.std.proofs.{Common.{◌≡◌, ℕ, ◌+◌, ◌-◌, ◌*◌, ◌<◌, ◌≤◌, Bool, ltb, List, [], Some, length, get_or, cond, refl, ap, ◌∙◌, arith}, lemmas.List.get_or_read}
+use Rattle.std.{specs.List.{find, range_with_len, All}, proofs.lemmas.{Bool.{lt-ltb, le-ltb}, List.Elements.{All-same, All-weaker}}}
+use Rattle.schedule.specs.{Links.{GroupValue, TopologyValue, IsTopology, IsBelow}, Sends.ScheduleValue, Fitting.{load, rounds_at}}
 use Rattle.schedule.specs.Judging.{group_at, is_overfull}
 use Rattle.schedule.proofs.Grids.{range_more}
 

@@ -1,11 +1,8 @@
 -- What a placement holds, when it is given by a test, made empty, or had a pair added; and when two are the same.
 use Rattle.std.proofs.Common.{◌≡◌, ℕ, zero, suc, ◌+◌, ◌<◌, ◌≤◌, Bool, true, false, ◌||◌, ◌&&◌, List, [], ◌∷◌, map, refl, sym, ap, ◌∙◌, ⊎_elim, arith}
-use Rattle.std.specs.List.{list_any, flat_map, range_with_len, filter, AllByRecursion}
+use Rattle.std.{specs.List.{list_any, flat_map, range_with_len, filter, AllByRecursion}, proofs.lemmas.{List.Folds.list_any-append, Map.Views.any-filter_same}}
 use Rattle.std.proofs.lemmas.Bool.{eqb-true, eq-eqb, and_parts, and_from, or_left, or_right, cases_eq}
-use Rattle.std.proofs.lemmas.List.Folds.{list_any-append}
-use Rattle.std.proofs.lemmas.Map.Views.{any-filter_same}
-use Rattle.schedule.specs.Placed.{PlacementValue, same_pair, holds, all_pairs, placed, IsPlacement, empty_placement, with_pair}
-use Rattle.schedule.proofs.First.{each_append}
+use Rattle.schedule.{specs.Placed.{PlacementValue, same_pair, holds, all_pairs, placed, IsPlacement, empty_placement, with_pair}, proofs.First.each_append}
 
 -- the test on pairs tells them apart
 pub pair_is : (a b : ℕ × ℕ) → same_pair a b ≡ true → a ≡ b

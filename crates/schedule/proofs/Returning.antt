@@ -1,19 +1,10 @@
 -- The bags of an inverse's run, count by count: a step gives each sender back what its receivers had.
-use Rattle.std.proofs.Common.{◌≡◌, ℕ, zero, suc, ◌+◌, ◌-◌, ◌<◌, ◌≤◌, Bool, true, false, ◌&&◌, cond, eqb, List, [], ◌∷◌, length, map, get_or, refl, sym, ap, ◌∙◌, ⊎_elim, subst, arith}
-use Rattle.std.specs.Prelude.{filter, fold, sum_by}
-use Rattle.std.specs.List.{AllByRecursion}
-use Rattle.std.proofs.lemmas.Bool.{and_parts, cases_Bool, eqb-true}
-use Rattle.std.proofs.lemmas.List.Elements.{recursion_from_All}
-use Rattle.std.proofs.lemmas.List.Sums.{sum_by-cons}
+use Rattle.std.proofs.Common.{◌≡◌, ℕ, zero, suc, ◌+◌, ◌-◌, ◌<◌, ◌≤◌, Bool, true, false, ◌&&◌, cond, eqb, List, [], ◌∷◌, length, map, get_or, refl, sym, ap, ◌∙◌, ⊎_elim, subst, arith, filter, fold, sum_by}
+use Rattle.std.{specs.List.AllByRecursion, proofs.lemmas.{Bool.{and_parts, cases_Bool, eqb-true}, List.{Elements.recursion_from_All, Sums.sum_by-cons}}}
 use Rattle.list_laws.proofs.Tests.{if_so}
-use Rattle.schedule.specs.declared.hop.Hop.{Hop}
-use Rattle.schedule.specs.Sends.{ScheduleValue, IsSchedule, IsStep, hop_before}
-use Rattle.schedule.specs.Bags.{Bag, Bags, added, contributions}
-use Rattle.schedule.specs.Summing.{bags_after, goes_to}
-use Rattle.schedule.specs.Inverse.{in_order, inverse_hop, inverse_of, with_hop}
-use Rattle.schedule.proofs.Bagging.{counted_after, counted_sum}
-use Rattle.schedule.proofs.Spreading.{spread}
-use Rattle.schedule.proofs.Turning.{same_turn}
+use Rattle.schedule.specs.{declared.hop.Hop.Hop, Sends.{ScheduleValue, IsSchedule, IsStep, hop_before}, Bags.{Bag, Bags, added, contributions}}
+use Rattle.schedule.specs.{Summing.{bags_after, goes_to}, Inverse.{in_order, inverse_hop, inverse_of, with_hop}}
+use Rattle.schedule.proofs.{Bagging.{counted_after, counted_sum}, Spreading.spread, Turning.same_turn}
 
 -- ---- counts of sums of bags
 

@@ -1,9 +1,6 @@
 -- One step: what the senders get back of the receivers is what the receivers had.
-use Rattle.std.proofs.Common.{◌≡◌, ℕ, zero, suc, ◌+◌, ◌<◌, ◌≤◌, ◌⊎◌, inl, inr, Bool, true, false, ◌&&◌, ◌||◌, cond, eqb, List, [], ◌∷◌, refl, sym, ap, ◌∙◌, ⊎_elim, subst, arith}
-use Rattle.std.specs.Prelude.{sum_by}
-use Rattle.std.specs.List.{AllByRecursion, list_any, range_with_len}
-use Rattle.std.proofs.lemmas.Bool.{cases_Bool, eqb-true, eq-eqb, ne_eqb}
-use Rattle.std.proofs.lemmas.List.Sums.{sum_by-cons}
+use Rattle.std.proofs.Common.{◌≡◌, ℕ, zero, suc, ◌+◌, ◌<◌, ◌≤◌, ◌⊎◌, inl, inr, Bool, true, false, ◌&&◌, ◌||◌, cond, eqb, List, [], ◌∷◌, refl, sym, ap, ◌∙◌, ⊎_elim, subst, arith, sum_by}
+use Rattle.std.{specs.List.{AllByRecursion, list_any, range_with_len}, proofs.lemmas.{Bool.{cases_Bool, eqb-true, eq-eqb, ne_eqb}, List.Sums.sum_by-cons}}
 use Rattle.list_laws.proofs.Tests.{if_so}
 use Rattle.schedule.specs.declared.hop.Hop.{Hop}
 

@@ -2,9 +2,7 @@
 use Rattle.std.proofs.Common.{◌≡◌, ℕ, zero, suc, ◌+◌, ◌<◌, ◌≤◌, ◌||◌, List, [], ◌∷◌, ◌++◌, length, get_or, map, refl, sym, ap, ◌∙◌, arith}
 use Rattle.std.specs.List.{list_any, range_with_len}
 use Rattle.std.proofs.lemmas.List.FromFn.{map-range_with_len_more, length-map-range_with_len, get_or-map-range_with_len}
-use Rattle.schedule.specs.Sends.{ScheduleValue, IsInRange}
-use Rattle.schedule.specs.Placed.{PlacementValue, IsPlacement, holds}
-use Rattle.schedule.specs.Running.{after, brings, step_of, run_of}
+use Rattle.schedule.specs.{Sends.{ScheduleValue, IsInRange}, Placed.{PlacementValue, IsPlacement, holds}, Running.{after, brings, step_of, run_of}}
 use Rattle.schedule.proofs.Placing.{placement-placed}
 
 -- a run keeps the numbers of chunks and of nodes

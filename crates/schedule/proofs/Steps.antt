@@ -1,13 +1,10 @@
 -- The sends of a step stand side by side.
 use Rattle.std.proofs.Common.{◌≡◌, ℕ, ◌+◌, ◌≤◌, Bool, true, false, ◌&&◌, ◌||◌, eqb, ltb, leb, List, [], ◌∷◌, ◌++◌, length, get_or, take, drop, refl, sym, ap, ◌∙◌, ⊎_elim, arith, length-drop}
-use Rattle.std.specs.List.{filter, All, AllPairs, AllWithin, AllByRecursion}
-use Rattle.std.specs.List.Sorted.{IsNonDecreasingBy, IsPartitionPoint}
+use Rattle.std.specs.List.{filter, All, AllPairs, AllWithin, AllByRecursion, Sorted.{IsNonDecreasingBy, IsPartitionPoint}}
 use Rattle.std.proofs.lemmas.Bool.{ltb-true, ltb-false, leb-true, leb-false, eqb-true, eq-eqb, ne_eqb, and_parts, or_cases, cases_eq}
-use Rattle.std.proofs.lemmas.List.{append-nil, get_or-take, get_or-drop, take-append-drop, length-take-le}
-use Rattle.std.proofs.lemmas.List.Elements.{filter-append, recursion_from_All}
+use Rattle.std.proofs.lemmas.List.{append-nil, get_or-take, get_or-drop, take-append-drop, length-take-le, Elements.{filter-append, recursion_from_All}}
 use Rattle.list_laws.proofs.Tests.{filter_none}
-use Rattle.schedule.specs.declared.hop.Hop.{Hop}
-use Rattle.schedule.specs.Sends.{hop_before}
+use Rattle.schedule.specs.{declared.hop.Hop.Hop, Sends.hop_before}
 
 -- the order of sends is an order by step first
 pub steps_ordered : (a b : Hop) → hop_before a b ≡ true → a.step ≤ b.step

@@ -1,9 +1,6 @@
 -- Tables of links: an empty one, and one that had the links of a group added.
-use Rattle.std.proofs.Common.{◌≡◌, ℕ, ◌+◌, ◌*◌, ◌<◌, Bool, false, ◌||◌, List, replicate, ap, ◌∙◌, arith}
-use Rattle.std.specs.List.{list_any}
-use Rattle.std.proofs.lemmas.List.{get_or-replicate}
-use Rattle.schedule.specs.Placed.{same_pair}
-use Rattle.schedule.specs.Tables.{marked_at, Marks, AddsLinks}
+use Rattle.std.{proofs.{Common.{◌≡◌, ℕ, ◌+◌, ◌*◌, ◌<◌, Bool, false, ◌||◌, List, replicate, ap, ◌∙◌, arith}, lemmas.List.get_or-replicate}, specs.List.list_any}
+use Rattle.schedule.specs.{Placed.same_pair, Tables.{marked_at, Marks, AddsLinks}}
 
 -- an empty table marks no link
 pub unmarked : (link : ℕ × ℕ) → link.0 < 16 → link.1 < 16 → marked_at (replicate 256 false) link ≡ false

@@ -1,22 +1,11 @@
 -- A schedule fits the links turned round exactly where its inverse fits the links.
-use Rattle.std.proofs.Common.{◌≡◌, ℕ, ◌+◌, ◌-◌, ◌*◌, ◌<◌, ◌≤◌, Bool, true, false, ◌&&◌, ◌||◌, cond, eqb, List, [], ◌∷◌, length, get_or, map, refl, sym, ap, ◌∙◌, ⊎_elim, subst, arith}
-use Rattle.std.specs.Prelude.{◌↔◌, count_by}
-use Rattle.std.specs.List.{AllByRecursion, list_any}
-use Rattle.std.proofs.lemmas.Bool.{cases_Bool}
-use Rattle.std.proofs.lemmas.Bool.Decides.{nat_tests}
-use Rattle.std.proofs.lemmas.List.{length-reverse, get_or-reverse}
-use Rattle.std.proofs.lemmas.List.Elements.{All-from_recursion, recursion_from_All}
-use Rattle.std.proofs.lemmas.List.Sums.{sum_by-cons}
-use Rattle.std.proofs.Math.Bool.{and_comm}
-use Rattle.schedule.specs.declared.hop.Hop.{Hop}
-use Rattle.schedule.specs.Links.{GroupValue, TopologyValue, has_link, is_usable, reversed_group, reversed_of, turned}
-use Rattle.schedule.specs.Placed.{same_pair}
-use Rattle.schedule.specs.Sends.{ScheduleValue, IsSchedule, IsStep, hop_before, link_of}
-use Rattle.schedule.specs.Fitting.{Fits, load, rounds_at}
+use Rattle.std.proofs.Common.{◌≡◌, ℕ, ◌+◌, ◌-◌, ◌*◌, ◌<◌, ◌≤◌, Bool, true, false, ◌&&◌, ◌||◌, cond, eqb, List, [], ◌∷◌, length, get_or, map, refl, sym, ap, ◌∙◌, ⊎_elim, subst, arith, ◌↔◌, count_by}
+use Rattle.std.{specs.List.{AllByRecursion, list_any}, proofs.lemmas.{Bool.{cases_Bool, Decides.nat_tests}, List.{length-reverse, get_or-reverse}}}
+use Rattle.std.proofs.{lemmas.List.{Elements.{All-from_recursion, recursion_from_All}, Sums.sum_by-cons}, Math.Bool.and_comm}
+use Rattle.schedule.specs.{declared.hop.Hop.Hop, Links.{GroupValue, TopologyValue, has_link, is_usable, reversed_group, reversed_of, turned}, Placed.same_pair}
+use Rattle.schedule.specs.{Sends.{ScheduleValue, IsSchedule, IsStep, hop_before, link_of}, Fitting.{Fits, load, rounds_at}}
 use Rattle.schedule.specs.Inverse.{in_order, inverse_hop, inverse_of, with_hop}
-use Rattle.schedule.proofs.HopOrder.{each_in_order}
-use Rattle.schedule.proofs.Inverting.{inverse_inverse, valid_inverse}
-use Rattle.schedule.proofs.Reversing.{reversed-reversed}
+use Rattle.schedule.proofs.{HopOrder.each_in_order, Inverting.{inverse_inverse, valid_inverse}, Reversing.reversed-reversed}
 
 -- ---- links turned round
 

@@ -1,22 +1,15 @@
 -- What the verdict says, from the first send, the first turn and the first pair that fail.
-use Rattle.std.proofs.Common.{◌≡◌, ℕ, ◌*◌, ◌<◌, ◌≤◌, Bool, true, false, not, ◌&&◌, ◌||◌, eqb, ltb, List, length, get_or, Option, Some, None, ⊎_elim, refl, sym, ap, ◌∙◌, arith}
-use Rattle.std.specs.Prelude.{◌↔◌}
-use Rattle.std.specs.List.{find, All}
+use Rattle.std.proofs.Common.{◌≡◌, ℕ, ◌*◌, ◌<◌, ◌≤◌, Bool, true, false, not, ◌&&◌, ◌||◌, eqb, ltb, List, length, get_or, Option, Some, None, ⊎_elim, refl, sym, ap, ◌∙◌, arith, ◌↔◌}
+use Rattle.std.{specs.List.{find, All}, proofs.lemmas.List.{get_or_default, Elements.{All-from_recursion, recursion_from_All}}}
 use Rattle.std.proofs.lemmas.Bool.{and_parts, or_cases, ltb-true, ltb-false, lt-ltb, le-ltb, eqb-true, not-true, not-false, not_from_true, not_from_false}
-use Rattle.std.proofs.lemmas.List.{get_or_default}
-use Rattle.std.proofs.lemmas.List.Elements.{All-from_recursion, recursion_from_All}
-use Rattle.schedule.specs.declared.hop.Hop.{Hop}
-use Rattle.schedule.specs.declared.verdict.Verdict.{Verdict}
-use Rattle.schedule.specs.declared.verdict.Verdict.TheVariants as verdict
-use Rattle.schedule.specs.Links.{GroupValue, TopologyValue, is_usable}
-use Rattle.schedule.specs.Sends.{ScheduleValue, IsSchedule, IsStep, hop_before, link_of}
-use Rattle.schedule.specs.Placed.{PlacementValue, IsPlacement, holds}
-use Rattle.schedule.specs.Running.{after}
+use Rattle.schedule.specs.{declared.{hop.Hop.Hop, verdict.Verdict.Verdict}, Links.{GroupValue, TopologyValue, is_usable}, Running.after}
+use Rattle.schedule.specs.{Sends.{ScheduleValue, IsSchedule, IsStep, hop_before, link_of}, Placed.{PlacementValue, IsPlacement, holds}}
 use Rattle.schedule.specs.Fitting.{Fits, load, rounds_at}
 use Rattle.schedule.specs.Judging.{first_unlinked, first_overfull, first_lacking, group_at, turns, is_overfull, judged, verdict_of}
 use Rattle.schedule.specs.Failing.{AllUsable, IsFirstUnlinked, IsFirstOverfull, IsFirstLacking, pair_before, TellsSolves, TellsNoLink, TellsOverfull, TellsLacking}
 use Rattle.schedule.proofs.First.{OneWay, IsFirst, InOrder-from_pairs, Among-from_Contains, Contains-from_Among, among_each, each_weaker, found_first, first_found, found_none, none_found}
 use Rattle.schedule.proofs.Ordered.{IsCell, in_grid, grid_cells, grid_order, pairs_one_way, placement_order, among_from_any, any_from_among}
+use Rattle.schedule.specs.declared.verdict.Verdict.TheVariants as verdict
 
 -- of two orders by a number first, both ways round, the number decides neither
 tied : (a b : ℕ) (there back : Bool) → (ltb a b || (eqb a b && there)) ≡ true → (ltb b a || (eqb b a && back)) ≡ true → (there ≡ true) × (back ≡ true)

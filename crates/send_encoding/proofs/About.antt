@@ -1,17 +1,13 @@
 -- The literals of arrivals and sends are about their own variables.
-use Rattle.std.proofs.Common.{ℕ, ◌+◌, ◌-◌, ◌*◌, ◌<◌, ◌≤◌, Bool, true, false, List, [], ◌∷◌, ◌++◌, length, map, arith}
-use Rattle.std.specs.Prelude.{if◌then◌else◌, flat_map, filter, All}
+use Rattle.std.proofs.Common.{ℕ, ◌+◌, ◌-◌, ◌*◌, ◌<◌, ◌≤◌, Bool, true, false, List, [], ◌∷◌, ◌++◌, length, map, arith, if◌then◌else◌, flat_map, filter, All}
 use Rattle.std.proofs.lemmas.List.Elements.{All-nil, All-cons, All-head, All-tail, All-append, All-filter}
-use Rattle.schedule.specs.Placed.{PlacementValue, holds}
-use Rattle.schedule.proofs.Placing.{all_below}
-use Rattle.cnf_formula.specs.Literals.{LitValue, negation}
-use Rattle.cnf_formula.specs.Formulas.{IsAbout, IsClause}
-use Rattle.cnf_formula.proofs.Clauses.{negation_about}
+use Rattle.schedule.{specs.Placed.{PlacementValue, holds}, proofs.Placing.all_below}
+use Rattle.cnf_formula.{specs.{Literals.{LitValue, negation}, Formulas.{IsAbout, IsClause}}, proofs.Clauses.negation_about}
 use Rattle.cardinality.specs.Counting.{at_most_one_of}
 use Rattle.send_encoding.specs.Variables.{SendMapValue, chunks_of, steps_of, pairs_of, numbered_links, links_into, arrival, arrivals, sent, sends}
 use Rattle.send_encoding.specs.Sending.{at_start, keeps, at_end, send_over, sends_arrive, sends_into, arrives_by_sends, arrives_once, sending}
-use Rattle.send_encoding.proofs.Everywhere.{by_recursion, in_map, in_flat, From, in_range, Numbered, in_numbers, slot}
 use Rattle.send_encoding.specs.Moving.{JoinsNodes}
+use Rattle.send_encoding.proofs.Everywhere.{by_recursion, in_map, in_flat, From, in_range, Numbered, in_numbers, slot}
 
 -- ---- clauses of a few literals
 

@@ -1,22 +1,10 @@
 -- Where the clauses of arrivals and sends hold, the run of a schedule of the sends that are true holds the arrivals.
-use Rattle.std.proofs.Common.{◌≡◌, ℕ, ◌≤◌, Bool, true, List, ◌∙◌, arith, sym, ◌<◌}
-use Rattle.std.specs.Prelude.{All, AllPairs}
-use Rattle.schedule.specs.Placed.{PlacementValue, IsPlacement}
-use Rattle.schedule.specs.Sends.{ScheduleValue}
-use Rattle.schedule.specs.Running.{after}
-use Rattle.schedule.specs.Solving.{Tight}
-use Rattle.schedule.proofs.Placing.{same_placement, placement-placed, holds-placed}
-use Rattle.schedule.proofs.Stepping.{chunks-after, nodes-after, placement-after}
+use Rattle.std.proofs.Common.{◌≡◌, ℕ, ◌≤◌, Bool, true, List, ◌∙◌, arith, sym, ◌<◌, All, AllPairs}
+use Rattle.schedule.specs.{Placed.{PlacementValue, IsPlacement}, Sends.ScheduleValue, Running.after, Solving.Tight}
+use Rattle.schedule.proofs.{Placing.{same_placement, placement-placed, holds-placed}, Stepping.{chunks-after, nodes-after, placement-after}}
 use Rattle.cnf_formula.specs.Literals.{is_true, all_hold}
-use Rattle.send_encoding.specs.Variables.{SendMapValue, arrival, sent}
-use Rattle.send_encoding.specs.Sending.{sending}
-use Rattle.send_encoding.specs.Sent.{sends_of, arrived}
-use Rattle.send_encoding.specs.Moving.{JoinsNodes}
-use Rattle.send_encoding.proofs.Sound.{sending_says}
-use Rattle.send_encoding.proofs.Decoded.{sends_tell}
-use Rattle.send_encoding.proofs.Running.{run_is}
-use Rattle.send_encoding.proofs.Ascending.{LinkBefore, sends_ascend}
-use Rattle.send_encoding.proofs.Tightened.{is_tight}
+use Rattle.send_encoding.specs.{Variables.{SendMapValue, arrival, sent}, Sending.sending, Sent.{sends_of, arrived}, Moving.JoinsNodes}
+use Rattle.send_encoding.proofs.{Sound.sending_says, Decoded.sends_tell, Running.run_is, Ascending.{LinkBefore, sends_ascend}, Tightened.is_tight}
 
 module _ (m : SendMapValue) (pre post : PlacementValue) (values : List Bool) (rounds : List ℕ) (chunks : pre.chunks ≡ m.chunks) (nodes : pre.nodes ≡ m.nodes) (links : All (JoinsNodes m) m.links) (ascend : AllPairs LinkBefore m.links)
     (all : all_hold values (sending m pre post) ≡ true) where

@@ -1,22 +1,13 @@
 -- The usable links ascend, and so do the sends that an assignment says.
-use Rattle.std.proofs.Common.{◌≡◌, ℕ, ◌<◌, Bool, true, false, List, [], ◌∷◌, map, length, get_or, eqb, ltb, refl, sym, ap, ◌∙◌, subst, ◌⊎◌, inl, inr, ⊎_elim, arith}
-use Rattle.std.specs.Prelude.{◌||◌, ◌&&◌, if◌then◌else◌, flat_map, All, AllPairs}
-use Rattle.std.specs.List.{list_any, range_with_len, position_or_len}
-use Rattle.std.proofs.lemmas.Bool.{and_parts, and_from, or_left, or_right, or_cases, ltb-true, lt-ltb, eq-eqb, cases_lt}
-use Rattle.std.proofs.lemmas.List.Elements.{All-nil, All-cons}
-use Rattle.std.proofs.lemmas.List.Folds.{list_any_at}
-use Rattle.std.proofs.lemmas.List.Kept.{AllPairs-filter}
+use Rattle.std.proofs.Common.{◌≡◌, ℕ, ◌<◌, Bool, true, false, List, [], ◌∷◌, map, length, get_or, eqb, ltb, refl, sym, ap, ◌∙◌, subst, ◌⊎◌, inl, inr, ⊎_elim, arith, ◌||◌, ◌&&◌, if◌then◌else◌, flat_map, All, AllPairs}
+use Rattle.std.{specs.List.{list_any, range_with_len, position_or_len}, proofs.lemmas.List.{Elements.{All-nil, All-cons}, Folds.list_any_at}}
+use Rattle.std.proofs.lemmas.{Bool.{and_parts, and_from, or_left, or_right, or_cases, ltb-true, lt-ltb, eq-eqb, cases_lt}, List.Kept.AllPairs-filter}
 use Rattle.list_laws.proofs.Pairs.{no_pairs}
-use Rattle.schedule.specs.declared.hop.Hop.{Hop}
-use Rattle.schedule.specs.Links.{TopologyValue, is_usable, usable_links}
-use Rattle.schedule.specs.Placed.{all_pairs, same_pair}
-use Rattle.schedule.specs.Sends.{hop_before, link_of}
+use Rattle.schedule.specs.{declared.hop.Hop.Hop, Links.{TopologyValue, is_usable, usable_links}, Placed.{all_pairs, same_pair}, Sends.{hop_before, link_of}}
 use Rattle.schedule.proofs.Placing.{pair_is, pair_itself}
 use Rattle.cnf_formula.specs.Literals.{is_true}
-use Rattle.send_encoding.specs.Variables.{SendMapValue, chunks_of, steps_of, numbered_links, sent}
-use Rattle.send_encoding.specs.Sent.{sends_of}
-use Rattle.send_encoding.proofs.Everywhere.{in_map, in_flat, place_below}
-use Rattle.send_encoding.proofs.Members.{passes_at}
+use Rattle.send_encoding.specs.{Variables.{SendMapValue, chunks_of, steps_of, numbered_links, sent}, Sent.sends_of}
+use Rattle.send_encoding.proofs.{Everywhere.{in_map, in_flat, place_below}, Members.passes_at}
 use Rattle.send_encoding.proofs.Orders.{one_pairs, flat_pairs, map_pairs, range_pairs, numbered_pairs}
 
 -- by the first number, and then the second

@@ -3,10 +3,8 @@ use Rattle.std.proofs.Common.{◌≡◌, ℕ, ◌+◌, ◌-◌, ◌*◌, ◌<◌
 use Rattle.std.proofs.lemmas.List.{get_or-append-add, get_or_append_left}
 use Rattle.schedule.specs.Sends.{IsStep}
 use Rattle.cnf_formula.specs.Literals.{is_true}
-use Rattle.send_encoding.specs.Variables.{SendMapValue, arrival, arrivals, sent, sends}
-use Rattle.send_encoding.proofs.Everywhere.{slot}
-use Rattle.send_encoding.specs.Assigning.{arrival_values, send_values, assigned}
-use Rattle.send_encoding.proofs.Grid.{cube_length, cube_at}
+use Rattle.send_encoding.specs.{Variables.{SendMapValue, arrival, arrivals, sent, sends}, Assigning.{arrival_values, send_values, assigned}}
+use Rattle.send_encoding.proofs.{Everywhere.slot, Grid.{cube_length, cube_at}}
 
 module _ (m : SendMapValue) (a x : ℕ → ℕ → ℕ → Bool) (rest : List Bool) where
   held_length : length (arrival_values m a) ≡ arrivals m

@@ -1,25 +1,15 @@
 -- Where the tables move chunks, the clauses of arrivals and sends hold.
-use Rattle.std.proofs.Common.{◌≡◌, ℕ, zero, ◌+◌, ◌-◌, ◌<◌, ◌≤◌, Bool, true, false, cond, List, [], ◌∷◌, ◌++◌, map, length, get_or, refl, sym, ap, ◌∙◌, ⊎_elim, arith}
-use Rattle.std.specs.Prelude.{◌||◌, if◌then◌else◌, flat_map, filter, count_by, All}
-use Rattle.std.specs.List.{list_any, list_all}
-use Rattle.std.proofs.lemmas.Bool.{and_from, or_left, or_right, cases_Bool, not_from_false}
-use Rattle.std.proofs.lemmas.List.Elements.{All-cons, All-head, All-tail, All-filter}
-use Rattle.std.proofs.lemmas.List.Folds.{list_all-append}
-use Rattle.std.proofs.lemmas.List.Sums.{sum_by-cons}
-use Rattle.std.proofs.lemmas.List.FromFn.{length-enumerate_from, get_or-enumerate_from}
+use Rattle.std.proofs.Common.{◌≡◌, ℕ, zero, ◌+◌, ◌-◌, ◌<◌, ◌≤◌, Bool, true, false, cond, List, [], ◌∷◌, ◌++◌, map, length, get_or, refl, sym, ap, ◌∙◌, ⊎_elim, arith, ◌||◌, if◌then◌else◌, flat_map, filter, count_by, All}
+use Rattle.std.{specs.List.{list_any, list_all}, proofs.lemmas.{Bool.{and_from, or_left, or_right, cases_Bool, not_from_false}, List.Folds.list_all-append}}
+use Rattle.std.proofs.lemmas.List.{Elements.{All-cons, All-head, All-tail, All-filter}, Sums.sum_by-cons, FromFn.{length-enumerate_from, get_or-enumerate_from}}
 use Rattle.std.proofs.lemmas.List.{get_or_default}
-use Rattle.schedule.specs.Placed.{PlacementValue, holds}
-use Rattle.schedule.specs.Sends.{IsStep}
-use Rattle.schedule.proofs.Placing.{all_below}
-use Rattle.cnf_formula.specs.Literals.{LitValue, negation, is_true, clause_holds, all_hold}
-use Rattle.cnf_formula.proofs.Clauses.{negation_is}
-use Rattle.cardinality.specs.Counting.{at_most_one_of}
-use Rattle.cardinality.proofs.Pairs.{pairs_decide}
+use Rattle.schedule.{specs.{Placed.{PlacementValue, holds}, Sends.IsStep}, proofs.Placing.all_below}
+use Rattle.cnf_formula.{specs.Literals.{LitValue, negation, is_true, clause_holds, all_hold}, proofs.Clauses.negation_is}
+use Rattle.cardinality.{specs.Counting.at_most_one_of, proofs.Pairs.pairs_decide}
 use Rattle.send_encoding.specs.Variables.{SendMapValue, chunks_of, steps_of, pairs_of, numbered_links, links_into, arrival, sent}
 use Rattle.send_encoding.specs.Sending.{at_start, keeps, at_end, send_over, sends_arrive, sends_into, node_arrives, arrives_by_sends, arrives_once, sending}
-use Rattle.send_encoding.proofs.Everywhere.{by_recursion, From, in_range, in_numbers}
-use Rattle.send_encoding.proofs.About.{InGrid, IsStepOf}
 use Rattle.send_encoding.specs.Moving.{IsLinkOf, Moves, JoinsNodes}
+use Rattle.send_encoding.proofs.{Everywhere.{by_recursion, From, in_range, in_numbers}, About.{InGrid, IsStepOf}}
 
 pub numbered_are : (m : SendMapValue) → All (JoinsNodes m) m.links → All (IsLinkOf m) (numbered_links m)
 numbered_are m links = λ k d h.

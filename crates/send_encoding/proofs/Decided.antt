@@ -1,21 +1,11 @@
 -- The clauses of arrivals and sends hold exactly for the tight runs of schedules.
 use Rattle.std.proofs.Common.{◌≡◌, ℕ, ◌+◌, Bool, true, List, [], refl, ◌∙◌, arith}
-use Rattle.schedule.specs.Links.{TopologyValue}
-use Rattle.schedule.specs.Placed.{PlacementValue, IsPlacement}
-use Rattle.schedule.specs.Sends.{ScheduleValue, IsInRange}
-use Rattle.schedule.specs.Solving.{Solves}
+use Rattle.schedule.specs.{Links.TopologyValue, Placed.{PlacementValue, IsPlacement}, Sends.{ScheduleValue, IsInRange}, Solving.Solves}
 use Rattle.cnf_formula.specs.Literals.{all_hold}
-use Rattle.send_encoding.specs.Variables.{map_of, arrivals, sends}
-use Rattle.send_encoding.specs.Sending.{sending}
-use Rattle.send_encoding.specs.Assigning.{assigned}
-use Rattle.send_encoding.specs.Leading.{had, brought}
+use Rattle.send_encoding.specs.{Variables.{map_of, arrivals, sends}, Sending.sending, Assigning.assigned, Leading.{had, brought}}
 use Rattle.send_encoding.specs.Agreeing.{IsTightRun, SatisfiesAs}
-use Rattle.send_encoding.proofs.Mapped.{links_join}
-use Rattle.send_encoding.proofs.Ascending.{links_ascend}
-use Rattle.send_encoding.proofs.Agreed.{sent_tightly, run_arrives}
-use Rattle.send_encoding.proofs.Assigned.{assigned_length, arrival_value, sent_value}
-use Rattle.send_encoding.proofs.Complete.{sending_holds}
-use Rattle.send_encoding.proofs.Scheduled.{schedule_moves}
+use Rattle.send_encoding.proofs.{Mapped.links_join, Ascending.links_ascend, Agreed.{sent_tightly, run_arrives}, Complete.sending_holds}
+use Rattle.send_encoding.proofs.{Assigned.{assigned_length, arrival_value, sent_value}, Scheduled.schedule_moves}
 
 pub tight_run : (t : TopologyValue) (pre post : PlacementValue) (steps : ℕ) (values : List Bool) → IsPlacement pre → pre.nodes ≡ t.nodes
     → all_hold values (sending (map_of t pre steps) pre post) ≡ true → IsTightRun (map_of t pre steps) pre values

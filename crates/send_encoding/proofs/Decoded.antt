@@ -1,22 +1,12 @@
 -- The sends of an assignment tell its table.
-use Rattle.std.proofs.Common.{◌≡◌, ℕ, zero, suc, ◌+◌, ◌-◌, ◌<◌, ◌≤◌, Bool, true, false, List, [], ◌∷◌, length, get_or, eqb, refl, sym, ap, ◌∙◌, arith}
-use Rattle.std.specs.Prelude.{◌&&◌, if◌then◌else◌, flat_map, All}
-use Rattle.std.specs.List.{list_any, range_with_len}
-use Rattle.std.proofs.lemmas.Bool.{and_from, or_left, or_right, eq-eqb}
-use Rattle.std.proofs.lemmas.List.Elements.{All-nil, All-cons}
-use Rattle.std.proofs.lemmas.List.Folds.{list_any-append}
-use Rattle.std.proofs.lemmas.List.FromFn.{length-range_with_len, get_or-range_with_len, length-enumerate_from, get_or-enumerate_from}
-use Rattle.schedule.specs.declared.hop.Hop.{Hop}
-use Rattle.schedule.specs.Placed.{same_pair}
-use Rattle.schedule.specs.Sends.{IsStep, link_of}
-use Rattle.schedule.proofs.Placing.{pair_itself}
+use Rattle.std.proofs.Common.{◌≡◌, ℕ, zero, suc, ◌+◌, ◌-◌, ◌<◌, ◌≤◌, Bool, true, false, List, [], ◌∷◌, length, get_or, eqb, refl, sym, ap, ◌∙◌, arith, ◌&&◌, if◌then◌else◌, flat_map, All}
+use Rattle.std.{specs.List.{list_any, range_with_len}, proofs.lemmas.{Bool.{and_from, or_left, or_right, eq-eqb}, List.Elements.{All-nil, All-cons}}}
+use Rattle.std.proofs.lemmas.List.{Folds.list_any-append, FromFn.{length-range_with_len, get_or-range_with_len, length-enumerate_from, get_or-enumerate_from}}
+use Rattle.schedule.{specs.{declared.hop.Hop.Hop, Placed.same_pair, Sends.{IsStep, link_of}}, proofs.Placing.pair_itself}
 use Rattle.cnf_formula.specs.Literals.{is_true}
-use Rattle.send_encoding.specs.Variables.{SendMapValue, chunks_of, steps_of, numbered_links, sent}
-use Rattle.send_encoding.specs.Sent.{sends_of}
-use Rattle.send_encoding.proofs.Everywhere.{From, in_range, in_flat}
-use Rattle.send_encoding.specs.Moving.{IsLinkOf, JoinsNodes}
+use Rattle.send_encoding.specs.{Variables.{SendMapValue, chunks_of, steps_of, numbered_links, sent}, Sent.sends_of, Moving.{IsLinkOf, JoinsNodes}}
 use Rattle.send_encoding.specs.Telling.{IsTold, Tells}
-use Rattle.send_encoding.proofs.Complete.{numbered_are}
+use Rattle.send_encoding.proofs.{Everywhere.{From, in_range, in_flat}, Complete.numbered_are}
 
 -- what one element's list passes, the whole does
 any_flat : {X A : Type 0} (p : A → Bool) (g : X → List A) (xs : List X) (i : ℕ) (d : X) → i < length xs → list_any p (g (get_or xs i d)) ≡ true → list_any p (flat_map g xs) ≡ true

@@ -1,12 +1,8 @@
 -- No more links lead into a node than there are nodes.
-use Rattle.std.proofs.Common.{◌≡◌, ◌==◌, ℕ, zero, suc, ◌+◌, ◌<◌, ◌≤◌, Bool, cond, eqb, List, [], ◌∷◌, length, map, refl, sym, ap, ◌∙◌, ⊎_elim, arith}
-use Rattle.std.specs.Prelude.{flat_map, count_by, not}
-use Rattle.std.specs.List.{range_with_len, enumerate_from}
-use Rattle.std.proofs.lemmas.Bool.{eqb-true, cases_Bool}
-use Rattle.std.proofs.lemmas.List.Filters.{sum_by-filter_both}
+use Rattle.std.proofs.Common.{◌≡◌, ◌==◌, ℕ, zero, suc, ◌+◌, ◌<◌, ◌≤◌, Bool, cond, eqb, List, [], ◌∷◌, length, map, refl, sym, ap, ◌∙◌, ⊎_elim, arith, flat_map, count_by, not}
+use Rattle.std.{specs.List.{range_with_len, enumerate_from}, proofs.lemmas.{Bool.{eqb-true, cases_Bool}, List.Filters.sum_by-filter_both}}
 use Rattle.std.proofs.lemmas.List.Sums.{length-filter, sum_by-cons, sum_by-append}
-use Rattle.schedule.specs.Links.{TopologyValue, is_usable, usable_links}
-use Rattle.schedule.specs.Placed.{PlacementValue, all_pairs}
+use Rattle.schedule.specs.{Links.{TopologyValue, is_usable, usable_links}, Placed.{PlacementValue, all_pairs}}
 use Rattle.send_encoding.specs.Variables.{map_of, links_into}
 
 abbrev one_if : {X : Type 0} → (X → Bool) → X → ℕ

@@ -1,10 +1,7 @@
 -- What holds of each element of a list that is made of others.
-use Rattle.std.proofs.Common.{◌≡◌, ℕ, zero, suc, ◌+◌, ◌*◌, ◌<◌, ◌≤◌, Bool, true, false, cond, ◌||◌, List, [], ◌∷◌, ◌++◌, length, map, subst, ⊎_elim, arith}
-use Rattle.std.specs.Prelude.{flat_map, not, All}
-use Rattle.std.specs.List.{list_any, range_with_len, enumerate_from, position_or_len, AllByRecursion}
-use Rattle.std.proofs.lemmas.Bool.{or_left, or_right, cases_Bool}
-use Rattle.std.proofs.lemmas.List.Elements.{All-nil, All-cons, All-head, All-tail, All-append}
-use Rattle.std.proofs.Math.Nat.{mul-le-mul_right}
+use Rattle.std.proofs.Common.{◌≡◌, ℕ, zero, suc, ◌+◌, ◌*◌, ◌<◌, ◌≤◌, Bool, true, false, cond, ◌||◌, List, [], ◌∷◌, ◌++◌, length, map, subst, ⊎_elim, arith, flat_map, not, All}
+use Rattle.std.{specs.List.{list_any, range_with_len, enumerate_from, position_or_len, AllByRecursion}, proofs.lemmas.Bool.{or_left, or_right, cases_Bool}}
+use Rattle.std.proofs.{lemmas.List.Elements.{All-nil, All-cons, All-head, All-tail, All-append}, Math.Nat.mul-le-mul_right}
 
 pub by_recursion : {X : Type 0} (P : X → Type 0) (xs : List X) → AllByRecursion P xs → All P xs
 by_recursion P [] a = All-nil P

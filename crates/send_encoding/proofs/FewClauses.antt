@@ -1,23 +1,14 @@
 -- Arrivals and sends have few clauses.
-use Rattle.std.proofs.Common.{◌≡◌, ℕ, ◌+◌, ◌*◌, ◌≤◌, List, ◌++◌, length, map, ap, sym, ◌∙◌, arith, length-append}
-use Rattle.std.specs.Prelude.{flat_map, filter}
-use Rattle.std.specs.List.{range_with_len}
-use Rattle.std.proofs.Math.Nat.{mul_assoc, mul-add}
-use Rattle.std.proofs.lemmas.List.{length-map}
+use Rattle.std.{proofs.Common.{◌≡◌, ℕ, ◌+◌, ◌*◌, ◌≤◌, List, ◌++◌, length, map, ap, sym, ◌∙◌, arith, length-append, flat_map, filter}, specs.List.range_with_len}
+use Rattle.std.proofs.{Math.Nat.{mul_assoc, mul-add}, lemmas.{List.{length-map, Sums.{length-filter, count_by-le-length}}, Nat.mul-le}}
 use Rattle.std.proofs.lemmas.List.FromFn.{length-range_with_len, length-map-range_with_len, length-enumerate_from}
-use Rattle.std.proofs.lemmas.List.Sums.{length-filter, count_by-le-length}
-use Rattle.std.proofs.lemmas.Nat.{mul-le}
-use Rattle.schedule.specs.Links.{TopologyValue}
-use Rattle.schedule.specs.Placed.{PlacementValue, holds}
+use Rattle.schedule.specs.{Links.TopologyValue, Placed.{PlacementValue, holds}}
 use Rattle.cnf_formula.specs.Literals.{LitValue}
-use Rattle.cardinality.specs.Counting.{at_most_one_of}
-use Rattle.cardinality.proofs.FewClauses.{pairs_are_few}
-use Rattle.cardinality.proofs.Lengths.{flat_length}
+use Rattle.cardinality.{specs.Counting.at_most_one_of, proofs.{FewClauses.pairs_are_few, Lengths.flat_length}}
 use Rattle.send_encoding.specs.Variables.{SendMapValue, map_of, chunks_of, steps_of, pairs_of, numbered_links, links_into, sends}
 use Rattle.send_encoding.specs.Sending.{at_start, keeps, at_end, send_over, sends_arrive, sends_into, node_arrives, arrives_by_sends, arrives_once, sending}
 use Rattle.send_encoding.specs.inner.Parts.{node_keeps, node_once}
-use Rattle.send_encoding.proofs.Entering.{few_enter}
-use Rattle.send_encoding.proofs.Grid.{rows_length}
+use Rattle.send_encoding.proofs.{Entering.few_enter, Grid.rows_length}
 
 six_lists : {X : Type 0} (a b c d e f : List X) → length (a ++ b ++ c ++ d ++ e ++ f) ≡ length a + length b + length c + length d + length e + length f
 six_lists a b c d e f =

@@ -1,18 +1,10 @@
 -- The links of a topology make a map of arrivals and sends.
-use Rattle.std.proofs.Common.{◌≡◌, ℕ, ◌+◌, ◌*◌, ◌<◌, ◌≤◌, List, map, length, arith}
-use Rattle.std.specs.Prelude.{All}
-use Rattle.std.specs.List.{range_with_len}
-use Rattle.std.proofs.lemmas.List.Elements.{All-filter}
-use Rattle.std.proofs.lemmas.List.FromFn.{length-map-range_with_len}
-use Rattle.std.proofs.Math.Nat.{mul-le-mul_left}
+use Rattle.std.{proofs.{Common.{◌≡◌, ℕ, ◌+◌, ◌*◌, ◌<◌, ◌≤◌, List, map, length, arith, All}, lemmas.List.Elements.All-filter}, specs.List.range_with_len}
+use Rattle.std.proofs.{lemmas.List.FromFn.length-map-range_with_len, Math.Nat.mul-le-mul_left}
 use Rattle.list_laws.proofs.Tests.{few_kept}
-use Rattle.schedule.specs.Links.{TopologyValue, IsTopology, is_usable, usable_links}
-use Rattle.schedule.specs.Placed.{PlacementValue, all_pairs, empty_placement}
+use Rattle.schedule.specs.{Links.{TopologyValue, IsTopology, is_usable, usable_links}, Placed.{PlacementValue, all_pairs, empty_placement}}
 use Rattle.schedule.proofs.Placing.{all_below}
-use Rattle.send_encoding.specs.Variables.{map_of, IsSendMap, arrivals, sends}
-use Rattle.send_encoding.proofs.Everywhere.{by_recursion}
-use Rattle.send_encoding.proofs.Grid.{rows_length}
-use Rattle.send_encoding.specs.Moving.{JoinsNodes}
+use Rattle.send_encoding.{specs.{Variables.{map_of, IsSendMap, arrivals, sends}, Moving.JoinsNodes}, proofs.{Everywhere.by_recursion, Grid.rows_length}}
 
 square : (n : ℕ) → n ≤ 16 → n * n ≤ 256
 square n le =

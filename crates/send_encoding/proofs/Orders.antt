@@ -1,15 +1,9 @@
 -- Lists made of others whose elements stand in an order.
-use Rattle.std.proofs.Common.{◌≡◌, ℕ, ◌+◌, ◌<◌, ◌≤◌, Bool, true, cond, List, [], ◌∷◌, ◌++◌, map, length, get_or, ap, ◌∙◌, ⊎_elim, arith}
-use Rattle.std.specs.Prelude.{flat_map, count_by, All, AllPairs}
-use Rattle.std.specs.List.{range_with_len, enumerate_from}
-use Rattle.std.proofs.lemmas.Bool.{cases_Bool, false_from_ne_true}
-use Rattle.std.proofs.lemmas.List.Elements.{All-append, All-head, All-tail}
-use Rattle.std.proofs.lemmas.List.Kept.{AllPairs-cons}
-use Rattle.std.proofs.lemmas.List.Sums.{sum_by-cons}
-use Rattle.std.proofs.lemmas.List.FromFn.{length-range_with_len, get_or-range_with_len}
+use Rattle.std.proofs.Common.{◌≡◌, ℕ, ◌+◌, ◌<◌, ◌≤◌, Bool, true, cond, List, [], ◌∷◌, ◌++◌, map, length, get_or, ap, ◌∙◌, ⊎_elim, arith, flat_map, count_by, All, AllPairs}
+use Rattle.std.{specs.List.{range_with_len, enumerate_from}, proofs.lemmas.{Bool.{cases_Bool, false_from_ne_true}, List.{Kept.AllPairs-cons, Sums.sum_by-cons}}}
+use Rattle.std.proofs.lemmas.List.{Elements.{All-append, All-head, All-tail}, FromFn.{length-range_with_len, get_or-range_with_len}}
 use Rattle.list_laws.proofs.Pairs.{no_pairs, pairs_tail, pairs_head}
-use Rattle.send_encoding.proofs.Everywhere.{in_map, in_flat, in_numbers}
-use Rattle.send_encoding.proofs.Members.{none_of}
+use Rattle.send_encoding.proofs.{Everywhere.{in_map, in_flat, in_numbers}, Members.none_of}
 
 pub one_pairs : {X : Type 0} (R : X → X → Type 0) (x : X) → AllPairs R (x ∷ [])
 one_pairs R x = λ i j d low few. absurd (omega (arith, low, few))

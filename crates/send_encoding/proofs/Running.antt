@@ -1,20 +1,11 @@
 -- Where the tables move the chunks, the run of a schedule that tells the sends holds what the arrivals say.
-use Rattle.std.proofs.Common.{◌≡◌, ℕ, zero, suc, ◌+◌, ◌-◌, ◌<◌, ◌≤◌, Bool, true, eqb, sym, ap, ◌∙◌, ⊎_elim, arith}
-use Rattle.std.specs.Prelude.{◌&&◌, ◌||◌, All}
-use Rattle.std.specs.List.{list_any}
+use Rattle.std.{proofs.Common.{◌≡◌, ℕ, zero, suc, ◌+◌, ◌-◌, ◌<◌, ◌≤◌, Bool, true, eqb, sym, ap, ◌∙◌, ⊎_elim, arith, ◌&&◌, ◌||◌, All}, specs.List.list_any}
 use Rattle.std.proofs.lemmas.Bool.{and_parts, and_from, or_left, or_right, or_cases, cases_Bool, eqb-true, eq-eqb}
 use Rattle.list_laws.proofs.Tests.{same_test}
-use Rattle.schedule.specs.declared.hop.Hop.{Hop}
-use Rattle.schedule.specs.Placed.{PlacementValue, holds, same_pair}
-use Rattle.schedule.specs.Sends.{ScheduleValue, IsStep, link_of}
-use Rattle.schedule.specs.Running.{after, brings}
-use Rattle.schedule.proofs.Placing.{pair_is, holds-placed}
-use Rattle.schedule.proofs.Stepping.{chunks-after, nodes-after}
-use Rattle.send_encoding.specs.Variables.{SendMapValue, links_into, numbered_links}
-use Rattle.send_encoding.specs.Moving.{IsLinkOf, JoinsNodes, Moves}
-use Rattle.send_encoding.specs.Telling.{IsTold, Tells}
-use Rattle.send_encoding.proofs.Members.{member, any_weaker, kept}
-use Rattle.send_encoding.proofs.Complete.{numbered_are}
+use Rattle.schedule.specs.{declared.hop.Hop.Hop, Placed.{PlacementValue, holds, same_pair}, Sends.{ScheduleValue, IsStep, link_of}, Running.{after, brings}}
+use Rattle.schedule.proofs.{Placing.{pair_is, holds-placed}, Stepping.{chunks-after, nodes-after}}
+use Rattle.send_encoding.specs.{Variables.{SendMapValue, links_into, numbered_links}, Moving.{IsLinkOf, JoinsNodes, Moves}, Telling.{IsTold, Tells}}
+use Rattle.send_encoding.proofs.{Members.{member, any_weaker, kept}, Complete.numbered_are}
 
 module _ (m : SendMapValue) (pre post : PlacementValue) (a x : ℕ → ℕ → ℕ → Bool) (s : ScheduleValue) (chunks : pre.chunks ≡ m.chunks) (nodes : pre.nodes ≡ m.nodes) (links : All (JoinsNodes m) m.links)
     (moves : Moves m pre post a x) (tells : Tells m x s.sends) where

@@ -1,20 +1,13 @@
 -- The tables of a schedule that solves move the chunks.
-use Rattle.std.proofs.Common.{◌≡◌, ℕ, suc, ◌+◌, ◌-◌, ◌<◌, ◌≤◌, Bool, true, false, length, get_or, eqb, ltb, refl, sym, ap, ◌∙◌, subst, ⊎_elim, arith}
-use Rattle.std.specs.Prelude.{◌&&◌, ◌||◌, not, count_by, All}
+use Rattle.std.proofs.Common.{◌≡◌, ℕ, suc, ◌+◌, ◌-◌, ◌<◌, ◌≤◌, Bool, true, false, length, get_or, eqb, ltb, refl, sym, ap, ◌∙◌, subst, ⊎_elim, arith, ◌&&◌, ◌||◌, not, count_by, All}
 use Rattle.std.specs.List.{list_any}
 use Rattle.std.proofs.lemmas.Bool.{false≢true, and_parts, and_from, or_left, or_cases, not-true, not_from_false, eqb-true, eq-eqb, ltb-true}
-use Rattle.schedule.specs.Links.{TopologyValue, is_usable, usable_links}
-use Rattle.schedule.specs.Placed.{PlacementValue, holds, same_pair}
+use Rattle.schedule.specs.{Links.{TopologyValue, is_usable, usable_links}, Placed.{PlacementValue, holds, same_pair}, Running.{after, brings}, Solving.Solves}
 use Rattle.schedule.specs.Sends.{ScheduleValue, IsStep, IsInRange, link_of, is_hop_below}
-use Rattle.schedule.specs.Running.{after, brings}
-use Rattle.schedule.specs.Solving.{Solves}
-use Rattle.schedule.proofs.Placing.{pair_is, holds-placed}
-use Rattle.schedule.proofs.Stepping.{chunks-after, nodes-after}
-use Rattle.send_encoding.specs.Variables.{SendMapValue, map_of, links_into, numbered_links}
-use Rattle.send_encoding.specs.Moving.{IsLinkOf, JoinsNodes, Moves}
+use Rattle.schedule.proofs.{Placing.{pair_is, holds-placed}, Stepping.{chunks-after, nodes-after}}
+use Rattle.send_encoding.specs.{Variables.{SendMapValue, map_of, links_into, numbered_links}, Moving.{IsLinkOf, JoinsNodes, Moves}}
 use Rattle.send_encoding.specs.Leading.{leads, had, carried, brought}
-use Rattle.send_encoding.proofs.First.{some_leads, leader, one_leads, passes_once}
-use Rattle.send_encoding.proofs.Members.{member, any_weaker, numbered_any, filter_any, kept, count_weaker}
+use Rattle.send_encoding.proofs.{First.{some_leads, leader, one_leads, passes_once}, Members.{member, any_weaker, numbered_any, filter_any, kept, count_weaker}}
 use Rattle.send_encoding.proofs.Complete.{numbered_are}
 
 module _ (t : TopologyValue) (pre post : PlacementValue) (s : ScheduleValue) (steps rounds : ℕ) (nodes : pre.nodes ≡ t.nodes) (links : All (JoinsNodes (map_of t pre steps)) (usable_links t))

@@ -1,23 +1,14 @@
 -- Where the clauses of arrivals and sends hold, the tables of an assignment move the chunks.
-use Rattle.std.proofs.Common.{◌≡◌, ℕ, ◌+◌, ◌-◌, ◌<◌, ◌≤◌, Bool, true, false, List, [], ◌∷◌, ◌++◌, map, get_or, refl, sym, ap, ◌∙◌, subst, ⊎_elim, arith}
-use Rattle.std.specs.Prelude.{if◌then◌else◌, flat_map, filter, All}
-use Rattle.std.specs.List.{list_any, list_all, range_with_len}
-use Rattle.std.proofs.lemmas.Bool.{false≢true, and_parts, or_cases, not-true, not_from_true}
-use Rattle.std.proofs.lemmas.List.Elements.{All-nil, All-cons}
-use Rattle.std.proofs.lemmas.List.Folds.{list_all-append}
+use Rattle.std.proofs.Common.{◌≡◌, ℕ, ◌+◌, ◌-◌, ◌<◌, ◌≤◌, Bool, true, false, List, [], ◌∷◌, ◌++◌, map, get_or, refl, sym, ap, ◌∙◌, subst, ⊎_elim, arith, if◌then◌else◌, flat_map, filter, All}
+use Rattle.std.{specs.List.{list_any, list_all, range_with_len}, proofs.lemmas.Bool.{false≢true, and_parts, or_cases, not-true, not_from_true}}
+use Rattle.std.proofs.lemmas.List.{Elements.{All-nil, All-cons}, Folds.list_all-append}
 use Rattle.std.proofs.lemmas.List.FromFn.{length-range_with_len, get_or-range_with_len, length-enumerate_from, get_or-enumerate_from}
-use Rattle.schedule.specs.Placed.{PlacementValue, holds, same_pair}
-use Rattle.schedule.specs.Sends.{IsStep}
-use Rattle.schedule.proofs.Placing.{pair_is, among_all}
-use Rattle.cnf_formula.specs.Literals.{LitValue, negation, is_true, clause_holds, all_hold}
-use Rattle.cnf_formula.proofs.Clauses.{negation_is}
-use Rattle.cardinality.specs.Counting.{at_most_one_of}
-use Rattle.cardinality.proofs.Pairs.{pairs_decide}
-use Rattle.send_encoding.specs.Variables.{SendMapValue, chunks_of, steps_of, pairs_of, numbered_links, links_into, arrival, sent}
+use Rattle.schedule.{specs.{Placed.{PlacementValue, holds, same_pair}, Sends.IsStep}, proofs.Placing.{pair_is, among_all}}
+use Rattle.cnf_formula.{specs.Literals.{LitValue, negation, is_true, clause_holds, all_hold}, proofs.Clauses.negation_is}
+use Rattle.cardinality.{specs.Counting.at_most_one_of, proofs.Pairs.pairs_decide}
+use Rattle.send_encoding.specs.{Variables.{SendMapValue, chunks_of, steps_of, pairs_of, numbered_links, links_into, arrival, sent}, Moving.{IsLinkOf, Moves}}
 use Rattle.send_encoding.specs.Sending.{at_start, keeps, at_end, send_over, sends_arrive, sends_into, node_arrives, arrives_by_sends, arrives_once, sending}
-use Rattle.send_encoding.specs.Moving.{IsLinkOf, Moves}
-use Rattle.send_encoding.proofs.Members.{member, filter_any}
-use Rattle.send_encoding.proofs.Complete.{any_alike, count_alike}
+use Rattle.send_encoding.proofs.{Members.{member, filter_any}, Complete.{any_alike, count_alike}}
 
 -- ---- what holds everywhere holds at each
 

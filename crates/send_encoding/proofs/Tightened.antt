@@ -1,26 +1,13 @@
 -- Where tables move the chunks, a schedule that tells the sends in ascending order wastes none of them, and delivers.
-use Rattle.std.proofs.Common.{◌≡◌, ℕ, zero, suc, ◌+◌, ◌-◌, ◌<◌, ◌≤◌, Bool, true, false, cond, List, [], ◌∷◌, length, get_or, eqb, refl, sym, ap, ◌∙◌, subst, ⊎_elim, arith}
-use Rattle.std.specs.Prelude.{◌&&◌, count_by, All, AllPairs}
-use Rattle.std.specs.List.{list_any}
+use Rattle.std.proofs.Common.{◌≡◌, ℕ, zero, suc, ◌+◌, ◌-◌, ◌<◌, ◌≤◌, Bool, true, false, cond, List, [], ◌∷◌, length, get_or, eqb, refl, sym, ap, ◌∙◌, subst, ⊎_elim, arith, ◌&&◌, count_by, All, AllPairs}
+use Rattle.std.{specs.List.list_any, proofs.lemmas.List.{Elements.All-filter, Folds.list_any_at, Sums.sum_by-cons}}
 use Rattle.std.proofs.lemmas.Bool.{false≢true, false_from_ne_true, and_parts, and_from, or_left, or_right, or_cases, cases_lt, eqb-true, eq-eqb}
-use Rattle.std.proofs.lemmas.List.Elements.{All-filter}
-use Rattle.std.proofs.lemmas.List.Folds.{list_any_at}
-use Rattle.std.proofs.lemmas.List.Sums.{sum_by-cons}
 use Rattle.std.proofs.lemmas.List.FromFn.{length-enumerate_from, get_or-enumerate_from}
-use Rattle.schedule.specs.declared.hop.Hop.{Hop}
-use Rattle.schedule.specs.Placed.{PlacementValue, IsPlacement, holds, same_pair, all_pairs}
-use Rattle.schedule.specs.Sends.{ScheduleValue, IsStep, hop_before}
-use Rattle.schedule.specs.Running.{after}
-use Rattle.schedule.specs.Solving.{Tight}
-use Rattle.schedule.proofs.Placing.{IsBelow, pair_is, pair_itself, all_below}
-use Rattle.schedule.proofs.Steps.{steps_ordered}
-use Rattle.send_encoding.specs.Variables.{SendMapValue, links_into, numbered_links}
-use Rattle.send_encoding.proofs.Everywhere.{by_recursion}
-use Rattle.send_encoding.specs.Moving.{IsLinkOf, JoinsNodes, Moves}
-use Rattle.send_encoding.specs.Telling.{Tells}
-use Rattle.send_encoding.proofs.Members.{member, filter_any}
-use Rattle.send_encoding.proofs.Running.{run_is}
-use Rattle.send_encoding.proofs.Ascending.{never_twice}
+use Rattle.schedule.specs.{declared.hop.Hop.Hop, Placed.{PlacementValue, IsPlacement, holds, same_pair, all_pairs}, Sends.{ScheduleValue, IsStep, hop_before}}
+use Rattle.schedule.specs.{Running.after, Solving.Tight}
+use Rattle.schedule.proofs.{Placing.{IsBelow, pair_is, pair_itself, all_below}, Steps.steps_ordered}
+use Rattle.send_encoding.specs.{Variables.{SendMapValue, links_into, numbered_links}, Moving.{IsLinkOf, JoinsNodes, Moves}, Telling.Tells}
+use Rattle.send_encoding.proofs.{Everywhere.by_recursion, Members.{member, filter_any}, Running.run_is, Ascending.never_twice}
 
 module _ {X : Type 0} (p q r : X → Bool) where
   some_counts : (xs : List X) → list_any p xs ≡ true → 1 ≤ count_by p xs

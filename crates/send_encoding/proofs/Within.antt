@@ -1,16 +1,10 @@
 -- The variables of arrivals and sends are those of the map.
-use Rattle.std.proofs.Common.{ℕ, ◌+◌, ◌-◌, ◌<◌, ◌≤◌, ◌∷◌, length, arith}
-use Rattle.std.specs.Prelude.{All}
-use Rattle.std.proofs.lemmas.List.Elements.{All-cons}
-use Rattle.cnf_formula.specs.Literals.{negation}
-use Rattle.cnf_formula.specs.Formulas.{IsAbout, IsClause}
+use Rattle.std.proofs.{Common.{ℕ, ◌+◌, ◌-◌, ◌<◌, ◌≤◌, ◌∷◌, length, arith, All}, lemmas.List.Elements.All-cons}
+use Rattle.cnf_formula.{specs.{Literals.negation, Formulas.{IsAbout, IsClause}}, proofs.Clauses.negation_about}
 use Rattle.schedule.specs.Sends.{IsStep}
-use Rattle.cnf_formula.proofs.Clauses.{negation_about}
 use Rattle.cardinality.proofs.Wider.{clause_more}
-use Rattle.send_encoding.specs.Variables.{SendMapValue, IsSendMap, arrival, arrivals, sent, sends}
-use Rattle.send_encoding.specs.Sending.{sends_into}
+use Rattle.send_encoding.specs.{Variables.{SendMapValue, IsSendMap, arrival, arrivals, sent, sends}, Sending.sends_into, Moving.JoinsNodes}
 use Rattle.send_encoding.proofs.About.{IsStepOf, arrival_about, sent_about, into_about}
-use Rattle.send_encoding.specs.Moving.{JoinsNodes}
 
 pub arrival_within : (m : SendMapValue) (c n s : ℕ) → c < m.chunks → n < m.nodes → s ≤ m.steps → (arrival m c n s).var ≤ arrivals m + sends m
 arrival_within m c n s low few last = let a = arrival_about m c n s low few last in omega (arith, a.within)

@@ -1,13 +1,7 @@
 -- A trail of literals of its variables, each once; and clauses of them.
-use Rattle.std.proofs.Common.{◌≡◌, ℕ, ◌<◌, List, Option, length, map, sym, subst, arith}
-use Rattle.std.specs.Prelude.{◌≢◌, All, AllPairs}
-use Rattle.std.proofs.lemmas.List.{length-map, get_or-map}
-use Rattle.cnf_formula.specs.Literals.{LitValue}
-use Rattle.cnf_formula.specs.Formulas.{IsAbout, IsClause}
-use Rattle.trail_core.specs.Formed.{IsTrail}
-use Rattle.trail_core.specs.Trails.{lits_of, step_of, IsAssigned, IsLeveled}
-use Rattle.trail_core.specs.Search.{clauses_of}
-use Rattle.trail_core.specs.Watching.{RowValue, no_row, AreRows}
+use Rattle.std.proofs.{Common.{◌≡◌, ℕ, ◌<◌, List, Option, length, map, sym, subst, arith, ◌≢◌, All, AllPairs}, lemmas.List.{length-map, get_or-map}}
+use Rattle.cnf_formula.specs.{Literals.LitValue, Formulas.{IsAbout, IsClause}}
+use Rattle.trail_core.specs.{Formed.IsTrail, Trails.{lits_of, step_of, IsAssigned, IsLeveled}, Search.clauses_of, Watching.{RowValue, no_row, AreRows}}
 use Rattle.trail_core.proofs.Trails.{lits-steps}
 
 pub formed_by : (vars : ℕ) (values levels : List ℕ) (reasons : List (Option ℕ)) (lits : List LitValue) (limits : List ℕ) → IsAssigned vars values lits → IsLeveled vars levels lits limits → IsTrail vars (map (step_of reasons) lits) limits

@@ -1,9 +1,6 @@
 -- The decision level and the reason of each variable, in one table.
-use Rattle.std.proofs.Common.{◌≡◌, ◌≢◌, ℕ, List, Some, None, set, eqb, cond, ap}
-use Rattle.std.proofs.lemmas.Bool.{ne_eqb}
-use Rattle.std.proofs.lemmas.List.{map-set}
-use Rattle.trail_core.specs.inner.Packed.{reason_of, reasons_of, levels_of}
-use Rattle.trail_core.specs.declared.trail.Assignment.{Assignment}
+use Rattle.std.proofs.{Common.{◌≡◌, ◌≢◌, ℕ, List, Some, None, set, eqb, cond, ap}, lemmas.{Bool.ne_eqb, List.map-set}}
+use Rattle.trail_core.specs.{inner.Packed.{reason_of, reasons_of, levels_of}, declared.trail.Assignment.Assignment}
 
 pub levels_set : (xs : List Assignment) (i : ℕ) (a : Assignment) → levels_of (set xs i a) ≡ set (levels_of xs) i a.level
 levels_set xs i a = map-set (λ x. x.level) xs i a

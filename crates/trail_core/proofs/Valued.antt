@@ -1,17 +1,10 @@
 -- What the values of literals keep, as literals become true and are taken back.
-use Rattle.std.proofs.Common.{◌≡◌, ◌≢◌, ◌==◌, ℕ, ◌+◌, ◌<◌, ◌≤◌, true, false, List, [], ◌∷◌, ◌++◌, Some, length, get_or, set, cond, eqb, count_by, refl, sym, ap, ◌∙◌, subst, inl, inr, ⊎_elim, arith}
-use Rattle.std.specs.Prelude.{◌⊎◌, Contains}
-use Rattle.std.proofs.lemmas.Bool.{cases_eq}
-use Rattle.std.proofs.lemmas.List.Sums.{sum_by-set, get_or-le-sum_by}
+use Rattle.std.proofs.Common.{◌≡◌, ◌≢◌, ◌==◌, ℕ, ◌+◌, ◌<◌, ◌≤◌, true, false, List, [], ◌∷◌, ◌++◌, Some, length, get_or, set, cond, eqb, count_by, refl, sym, ap, ◌∙◌, subst, inl, inr, ⊎_elim, arith, ◌⊎◌, Contains}
+use Rattle.std.proofs.lemmas.{Bool.cases_eq, List.{Sums.{sum_by-set, get_or-le-sum_by}, Elements.{Contains-push, Contains-push_cases, Contains-append_left}}}
 use Rattle.std.proofs.lemmas.List.{get_or-set_same, get_or-set_other, get_or_default, get_or_append_left, get_or_push, length_push, length-set}
-use Rattle.std.proofs.lemmas.List.Elements.{Contains-push, Contains-push_cases, Contains-append_left}
-use Rattle.cnf_formula.specs.Literals.{LitValue, negation, code_of}
-use Rattle.cnf_formula.specs.Formulas.{IsAbout}
-use Rattle.cnf_formula.proofs.Codes.{code_within}
-use Rattle.trail_core.specs.Assigned.{IsOpen, IsValue}
-use Rattle.trail_core.specs.Trails.{IsAssigned}
+use Rattle.cnf_formula.{specs.{Literals.{LitValue, negation, code_of}, Formulas.IsAbout}, proofs.Codes.code_within}
+use Rattle.trail_core.{specs.{Assigned.{IsOpen, IsValue}, Trails.IsAssigned}, proofs.Keeping.negated_twice}
 use Rattle.list_laws.proofs.Places.{by_place_push}
-use Rattle.trail_core.proofs.Keeping.{negated_twice}
 
 -- ---- the numbers of literals
 

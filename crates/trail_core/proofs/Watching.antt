@@ -1,13 +1,10 @@
 -- The lists and the rows agree, before and after a clause watches another literal.
-use Rattle.std.proofs.Common.{suc, ◌≡◌, ◌≢◌, ◌==◌, ℕ, ◌+◌, ◌-◌, ◌<◌, ◌≤◌, List, [], ◌∷◌, ◌++◌, length, get_or, set, cond, eqb, count_by, sum_by, refl, ap, ◌∙◌, ⊎_elim, arith}
-use Rattle.std.specs.Prelude.{◌⊎◌, Contains, swap_remove}
-use Rattle.std.proofs.lemmas.Bool.Decides.{nat_tests}
-use Rattle.std.proofs.lemmas.Bool.{eq-eqb, ne_eqb, cases_eq}
+use Rattle.std.proofs.Common.{suc, ◌≡◌, ◌≢◌, ◌==◌, ℕ, ◌+◌, ◌-◌, ◌<◌, ◌≤◌, List, [], ◌∷◌, ◌++◌, length, get_or, set, cond, eqb, count_by, sum_by, refl, ap, ◌∙◌, ⊎_elim, arith, ◌⊎◌, Contains, swap_remove}
+use Rattle.std.proofs.lemmas.Bool.{eq-eqb, ne_eqb, cases_eq, Decides.nat_tests}
 use Rattle.std.proofs.lemmas.List.{get_or-set_same, get_or-set_other, get_or_past, get_or_default, length_push, length-set, length-take-le}
 use Rattle.std.proofs.lemmas.List.Sums.{sum_by_push, sum_by-cons, sum_by-set, sum_by-swap_remove, get_or-le-sum_by}
 use Rattle.cnf_formula.specs.Literals.{LitValue, code_of}
-use Rattle.trail_core.proofs.Places.{at_set}
-use Rattle.trail_core.specs.Watching.{RowValue, ListsValue, no_row, watch_count, occurrences, spare, row_at, list_at, IsWatched}
+use Rattle.trail_core.{proofs.Places.at_set, specs.Watching.{RowValue, ListsValue, no_row, watch_count, occurrences, spare, row_at, list_at, IsWatched}}
 
 -- ---- how often a literal is watched
 
@@ -19,9 +16,6 @@ hit_yes a k e = ap (λ b. cond b 1 0) (eq-eqb a k e)
 
 pub hit_no : (a k : ℕ) → a ≢ k → hit a k ≡ 0
 hit_no a k e = ap (λ b. cond b 1 0) (ne_eqb a k e)
-
-pub hit_some : (a k : ℕ) → 0 < hit a k → a ≡ k
-hit_some a k h = ⊎_elim (λ e. e) (λ n. absurd (omega (arith, h, hit_no a k n))) (cases_eq a k)
 
 pub count_long : (r : RowValue) (k : ℕ) → 1 < length r.lits → watch_count r k ≡ hit (code_of r.first) k + hit (code_of r.second) k
 count_long r k h = grind (arith, nat_tests)

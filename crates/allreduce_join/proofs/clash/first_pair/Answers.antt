@@ -1,6 +1,5 @@
 use Rattle.std.proofs.Common.{find, sym, ap, ◌∙◌}
-use Rattle.schedule.specs.Placed.{all_pairs, holds}
-use Rattle.schedule.proofs.Grids.{find_here, find_later, find_nowhere, rows_start}
+use Rattle.schedule.{specs.Placed.{all_pairs, holds}, proofs.Grids.{find_here, find_later, find_nowhere, rows_start}}
 use Rattle.allreduce_join.proofs.clash.first_pair.Goals as goal
 
 pub loop-chunk-init : goal.loop-chunk-init

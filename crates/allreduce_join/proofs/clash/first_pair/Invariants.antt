@@ -1,6 +1,5 @@
 use Rattle.std.proofs.Common.{◌≡◌, find}
-use Rattle.schedule.specs.Placed.{all_pairs, holds}
-use Rattle.schedule.proofs.Grids.{rows_from}
+use Rattle.schedule.{specs.Placed.{all_pairs, holds}, proofs.Grids.rows_from}
 use Rattle.allreduce_join.proofs.clash.first_pair.Given as goal
 
 abbrev pub invariant-loop-chunk : goal.invariant-loop-chunk

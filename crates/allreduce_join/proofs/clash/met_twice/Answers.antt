@@ -1,7 +1,5 @@
 use Rattle.std.proofs.Common.{ℕ, List, get_or, sym, ap, ◌∙◌, arith}
-use Rattle.schedule.specs.declared.hop.Hop.{Hop}
-use Rattle.schedule.specs.Placed.{PlacementValue}
-use Rattle.schedule.proofs.Joining.{IsHopBelow, step_below}
+use Rattle.schedule.{specs.{declared.hop.Hop.Hop, Placed.PlacementValue}, proofs.Joining.{IsHopBelow, step_below}}
 use Rattle.allreduce_join.proofs.Meeting.{again, first_time, met_all, met_none}
 use Rattle.allreduce_join.proofs.clash.met_twice.Goals as goal
 use Rattle.allreduce_join.proofs.clash.met_twice.Goals.{then-holds, else-holds}

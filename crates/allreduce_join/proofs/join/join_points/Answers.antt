@@ -1,15 +1,10 @@
-use Rattle.std.proofs.Common.{◌≡◌, ◌+◌, ◌≤◌, length, sym, ap, ◌∙◌, subst, arith}
-use Rattle.std.specs.Prelude.{sum}
-use Rattle.schedule.specs.Sends.{ScheduleValue, IsSchedule}
-use Rattle.schedule.specs.JoinedRuns.{AllSummed}
+use Rattle.std.proofs.Common.{◌≡◌, ◌+◌, ◌≤◌, length, sym, ap, ◌∙◌, subst, arith, sum}
+use Rattle.schedule.specs.{Sends.{ScheduleValue, IsSchedule}, JoinedRuns.AllSummed}
 use Rattle.collective_spec.specs.Collectives.{chunks_of}
 use Rattle.collective_spec.specs.declared.kind.Kind.TheVariants as kind
-use Rattle.candidate_order.specs.declared.candidate.Candidate.{Candidate}
+use Rattle.candidate_order.specs.{declared.candidate.Candidate.Candidate, Frontiers.PointValue}
 use Rattle.candidate_order.specs.declared.mark.Mark.TheVariants as mark
-use Rattle.candidate_order.specs.Frontiers.{PointValue}
-use Rattle.allreduce_join.specs.Joins.{IsJoinable, both_costs, join_of, one_after}
-use Rattle.allreduce_join.proofs.Bounded.{rounds_bounded}
-use Rattle.allreduce_join.proofs.Frontiers.{points_join}
+use Rattle.allreduce_join.{specs.Joins.{IsJoinable, both_costs, join_of, one_after}, proofs.{Bounded.rounds_bounded, Frontiers.points_join}}
 use Rattle.allreduce_join.proofs.join.join_points.Goals as goal
 
 -- what is made of the parts of two points is their join

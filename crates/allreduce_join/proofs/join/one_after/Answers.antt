@@ -1,8 +1,6 @@
 use Rattle.std.proofs.Common.{◌≡◌, ℕ, List, ◌++◌, length, map, sym, ap, ◌∙◌, subst, arith}
-use Rattle.schedule.specs.declared.hop.Hop.{Hop}
-use Rattle.schedule.specs.Sends.{ScheduleValue, IsSchedule}
-use Rattle.allreduce_join.specs.Joins.{later, one_after}
-use Rattle.allreduce_join.proofs.Sequence.{valid_sequence}
+use Rattle.schedule.specs.{declared.hop.Hop.Hop, Sends.{ScheduleValue, IsSchedule}}
+use Rattle.allreduce_join.{specs.Joins.{later, one_after}, proofs.Sequence.valid_sequence}
 use Rattle.allreduce_join.proofs.join.one_after.Goals as goal
 
 -- the rounds and the sends are those of the one and then of the other

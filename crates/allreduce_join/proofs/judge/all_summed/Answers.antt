@@ -1,9 +1,6 @@
-use Rattle.std.proofs.Common.{sym, ap, ◌∙◌}
-use Rattle.std.specs.Prelude.{unwrap_or}
-use Rattle.std.proofs.lemmas.Result.{IfOk-weaker}
+use Rattle.std.{proofs.{Common.{sym, ap, ◌∙◌}, lemmas.Result.IfOk-weaker}, specs.Prelude.unwrap_or}
 use Rattle.inversion.specs.Judging.{counts_judged}
-use Rattle.allreduce_join.specs.Judging.{joined_bags}
-use Rattle.allreduce_join.proofs.Judged.{joined_counts, joined_due, told}
+use Rattle.allreduce_join.{specs.Judging.joined_bags, proofs.Judged.{joined_counts, joined_due, told}}
 use Rattle.allreduce_join.proofs.judge.all_summed.Goals as goal
 
 pub returns-in-Some : goal.returns-in-Some

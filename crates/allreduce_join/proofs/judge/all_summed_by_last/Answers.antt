@@ -1,11 +1,8 @@
-use Rattle.std.proofs.Common.{sym, ap, ◌∙◌}
-use Rattle.std.specs.Prelude.{unwrap_or}
+use Rattle.std.{proofs.Common.{sym, ap, ◌∙◌}, specs.Prelude.unwrap_or}
 use Rattle.schedule.specs.Placed.{PlacementValue}
 use Rattle.bag_runs.specs.Stores.{StoreValue}
-use Rattle.inversion.specs.Judging.{counts_judged}
-use Rattle.inversion.proofs.Evening.{run_judged}
-use Rattle.allreduce_join.specs.Judging.{joined_bags}
-use Rattle.allreduce_join.proofs.Judged.{joined_counts, joined_due}
+use Rattle.inversion.{specs.Judging.counts_judged, proofs.Evening.run_judged}
+use Rattle.allreduce_join.{specs.Judging.joined_bags, proofs.Judged.{joined_counts, joined_due}}
 use Rattle.allreduce_join.proofs.judge.all_summed_by_last.Goals as goal
 
 pub returns-in-Some : goal.returns-in-Some

@@ -1,6 +1,5 @@
 use Rattle.std.proofs.Common.{◌∙◌, ap, take}
-use Rattle.bag_runs.specs.Stores.{mode_at}
-use Rattle.bag_runs.proofs.Arriving.{arrived_all, arrived_next, chunks_arrived, hop_in_range, nodes_arrived}
+use Rattle.bag_runs.{specs.Stores.mode_at, proofs.Arriving.{arrived_all, arrived_next, chunks_arrived, hop_in_range, nodes_arrived}}
 use Rattle.bag_runs.proofs.steps.stepped.Goals as goal
 
 pub loop-hop-init : goal.loop-hop-init

@@ -1,6 +1,5 @@
 use Rattle.std.proofs.Common.{◌≡◌, take}
-use Rattle.bag_runs.specs.Stores.{mode_at}
-use Rattle.bag_runs.proofs.Arriving.{arrived}
+use Rattle.bag_runs.{specs.Stores.mode_at, proofs.Arriving.arrived}
 use Rattle.bag_runs.proofs.steps.stepped.Given as goal
 
 abbrev pub invariant-loop-hop : goal.invariant-loop-hop

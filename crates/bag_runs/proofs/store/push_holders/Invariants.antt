@@ -1,5 +1,4 @@
-use Rattle.std.proofs.Common.{◌≡◌, ◌++◌, map}
-use Rattle.std.specs.List.{AllByRecursion, range_with_len}
+use Rattle.std.{proofs.Common.{◌≡◌, ◌++◌, map}, specs.List.{AllByRecursion, range_with_len}}
 use Rattle.schedule.specs.Bags.{held_at_2, of_placement}
 use Rattle.bag_runs.specs.Kept.{IsHeld, counted}
 use Rattle.bag_runs.proofs.store.push_holders.Given as goal

@@ -1,7 +1,6 @@
 use Rattle.std.proofs.Common.{sym, ◌∙◌, subst}
 use Rattle.schedule.specs.Solving.{Solvable}
-use Rattle.candidate_order.specs.Frontiers.{instance_for}
-use Rattle.candidate_order.proofs.Achieved.{Achievable, achieved}
+use Rattle.candidate_order.{specs.Frontiers.instance_for, proofs.Achieved.{Achievable, achieved}}
 use Rattle.node_cuts.specs.Cutting.{sets_for}
 use Rattle.candidate_formula.proofs.CutAway.{copied_cut}
 use Rattle.candidate_formula.proofs.cut_laws.what_is_cut_away_has_no_schedule.Goals as goal

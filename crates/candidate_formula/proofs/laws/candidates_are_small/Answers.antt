@@ -1,5 +1,4 @@
-use Rattle.candidate_formula.proofs.Sought.{candidate_is}
-use Rattle.candidate_formula.proofs.Bounded.{candidate_small}
+use Rattle.candidate_formula.proofs.{Sought.candidate_is, Bounded.candidate_small}
 use Rattle.candidate_formula.proofs.laws.candidates_are_small.Goals as goal
 
 pub returns-clause-candidate : goal.returns-clause-candidate

@@ -1,7 +1,6 @@
 use Rattle.std.proofs.Common.{sym}
 use Rattle.candidate_order.specs.Copied.{copied_spec}
-use Rattle.candidate_formula.proofs.Copying.{same_allowed, copied_stays}
-use Rattle.candidate_formula.proofs.CopyingQuestions.{small_by_copying, within_by, reduced_formula, copied_suits}
+use Rattle.candidate_formula.proofs.{Copying.{same_allowed, copied_stays}, CopyingQuestions.{small_by_copying, within_by, reduced_formula, copied_suits}}
 use Rattle.candidate_formula.proofs.TurnedSize.{copied_size}
 use Rattle.candidate_formula.proofs.laws.reductions_are_sought_by_copying.Goals as goal
 

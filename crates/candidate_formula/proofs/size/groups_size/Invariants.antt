@@ -1,5 +1,4 @@
-use Rattle.std.proofs.Common.{◌≡◌, take}
-use Rattle.std.specs.Prelude.{sum_by}
+use Rattle.std.proofs.Common.{◌≡◌, take, sum_by}
 use Rattle.round_encoding.specs.Candidates.{group_size}
 use Rattle.candidate_formula.proofs.size.groups_size.Given as goal
 

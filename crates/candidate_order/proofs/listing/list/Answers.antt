@@ -1,5 +1,4 @@
-use Rattle.std.proofs.Common.{rules}
-use Rattle.std.proofs.lemmas.List.Sorted.{answers_always}
+use Rattle.std.proofs.{Common.rules, lemmas.List.Sorted.answers_always}
 use Rattle.candidate_order.proofs.Ranks.{comes, comes_is_order, members-made, Before-made}
 use Rattle.candidate_order.proofs.listing.list.Goals as goal
 

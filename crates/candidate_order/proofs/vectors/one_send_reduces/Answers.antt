@@ -1,10 +1,7 @@
-use Rattle.std.proofs.Common.{true, [], ◌∷◌, refl, rules}
-use Rattle.std.proofs.lemmas.List.Elements.{All-from_recursion}
+use Rattle.std.proofs.{Common.{true, [], ◌∷◌, refl, rules}, lemmas.List.Elements.All-from_recursion}
 use Rattle.schedule.specs.Rows.{line_of_2, plan, send}
 use Rattle.collective_spec.specs.declared.kind.Kind.TheVariants.{Reduce}
-use Rattle.candidate_order.specs.declared.mark.Mark.TheVariants.{Optimal}
-use Rattle.candidate_order.specs.Frontiers.{WastesNothing}
-use Rattle.candidate_order.specs.Rows.{asked, smallest, solved_by}
+use Rattle.candidate_order.specs.{declared.mark.Mark.TheVariants.Optimal, Frontiers.WastesNothing, Rows.{asked, smallest, solved_by}}
 use Rattle.candidate_order.proofs.vectors.one_send_reduces.Goals as goal
 
 forth : WastesNothing true (asked line_of_2 Reduce) (record { candidate = smallest; schedule = plan (1 ∷ []) (send 0 1 0 1 ∷ []); mark = Optimal })

@@ -1,11 +1,7 @@
-use Rattle.std.proofs.Common.{[], ◌∷◌, rules}
-use Rattle.std.proofs.lemmas.List.Elements.{All-from_recursion}
-use Rattle.schedule.specs.Rows.{two_alone}
-use Rattle.schedule.proofs.Alone.{alone_never_solves, alone_never_sums}
+use Rattle.std.proofs.{Common.{[], ◌∷◌, rules}, lemmas.List.Elements.All-from_recursion}
+use Rattle.schedule.{specs.Rows.two_alone, proofs.Alone.{alone_never_solves, alone_never_sums}}
 use Rattle.collective_spec.specs.declared.kind.Kind.TheVariants.{Broadcast, Reduce}
-use Rattle.candidate_order.specs.Frontiers.{IsSolvable}
-use Rattle.candidate_order.specs.Rows.{asked, smallest}
-use Rattle.candidate_order.proofs.Achieved.{achieved}
+use Rattle.candidate_order.{specs.{Frontiers.IsSolvable, Rows.{asked, smallest}}, proofs.Achieved.achieved}
 use Rattle.candidate_order.proofs.vectors.two_nodes_alone_do_nothing.Goals as goal
 
 pub returns-clause-broadcast : goal.returns-clause-broadcast

@@ -1,11 +1,6 @@
-use Rattle.std.proofs.Common.{ℕ, ◌+◌, ◌<◌, List, arith, refl, sym, ap, ◌∙◌, ◌≡◌, subst, cond, Bool, true, false, [], ◌∷◌, ◌++◌}
-use Rattle.std.specs.Prelude.{All, filter}
-use Rattle.std.specs.List.{range_with_len}
-use Rattle.std.proofs.lemmas.List.{append-nil}
-use Rattle.chunk_order.specs.Alike.{is_alike}
-use Rattle.chunk_order.specs.Ordering.{class_of}
-use Rattle.chunk_order.proofs.Looking.{picks_more}
-use Rattle.chunk_order.proofs.Pushing.{class_below}
+use Rattle.std.proofs.Common.{ℕ, ◌+◌, ◌<◌, List, arith, refl, sym, ap, ◌∙◌, ◌≡◌, subst, cond, Bool, true, false, [], ◌∷◌, ◌++◌, All, filter}
+use Rattle.std.{specs.List.range_with_len, proofs.lemmas.List.append-nil}
+use Rattle.chunk_order.{specs.{Alike.is_alike, Ordering.class_of}, proofs.{Looking.picks_more, Pushing.class_below}}
 use Rattle.chunk_order.proofs.alike.class_of.Goals as goal
 use Rattle.chunk_order.proofs.alike.class_of.Goals.{then-is_alike+in_ok-push, else-is_alike}
 

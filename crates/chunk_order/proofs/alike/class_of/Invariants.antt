@@ -1,6 +1,4 @@
-use Rattle.std.proofs.Common.{◌≡◌}
-use Rattle.std.specs.Prelude.{filter}
-use Rattle.std.specs.List.{range_with_len}
+use Rattle.std.{proofs.Common.{◌≡◌, filter}, specs.List.range_with_len}
 use Rattle.chunk_order.specs.Alike.{is_alike}
 use Rattle.chunk_order.proofs.alike.class_of.Given as goal
 

@@ -1,9 +1,6 @@
-use Rattle.std.proofs.Common.{arith, sym, ◌∙◌}
-use Rattle.std.specs.List.{list_any, range_with_len}
-use Rattle.std.proofs.lemmas.Bool.{not_from_true, not_from_false}
+use Rattle.std.{proofs.{Common.{arith, sym, ◌∙◌}, lemmas.Bool.{not_from_true, not_from_false}}, specs.List.{list_any, range_with_len}}
 use Rattle.list_laws.proofs.Ranges.{any_at}
-use Rattle.chunk_order.specs.Alike.{is_alike}
-use Rattle.chunk_order.proofs.Classes.{none_in_range}
+use Rattle.chunk_order.{specs.Alike.is_alike, proofs.Classes.none_in_range}
 use Rattle.chunk_order.proofs.alike.is_least.Goals as goal
 
 pub returns-then-is_alike : goal.returns-then-is_alike

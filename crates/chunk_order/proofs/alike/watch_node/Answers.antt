@@ -1,6 +1,4 @@
-use Rattle.std.proofs.Common.{ℕ, arith, sym}
-use Rattle.std.specs.Prelude.{not}
-use Rattle.std.proofs.lemmas.Bool.{and_from, not_from_false}
+use Rattle.std.proofs.{Common.{ℕ, arith, sym, not}, lemmas.Bool.{and_from, not_from_false}}
 use Rattle.schedule.specs.Placed.{lacks, holds}
 use Rattle.chunk_order.proofs.Looking.{find_first, find_none}
 use Rattle.chunk_order.proofs.alike.watch_node.Goals as goal

@@ -1,10 +1,6 @@
-use Rattle.std.proofs.Common.{◌≡◌, arith, sym, ap, ◌∙◌}
-use Rattle.std.specs.Prelude.{flat_map}
-use Rattle.std.specs.List.{range_with_len}
+use Rattle.std.{proofs.Common.{◌≡◌, arith, sym, ap, ◌∙◌, flat_map}, specs.List.range_with_len}
 use Rattle.cnf_formula.specs.Formulas.{with_clauses}
-use Rattle.chunk_order.specs.Alike.{watch_node}
-use Rattle.chunk_order.specs.Ordering.{is_least, class_in_order, class_of, leads_in_order}
-use Rattle.chunk_order.proofs.Pushing.{flat_filter}
+use Rattle.chunk_order.{specs.{Alike.watch_node, Ordering.{is_least, class_in_order, class_of, leads_in_order}}, proofs.Pushing.flat_filter}
 use Rattle.chunk_order.proofs.ordering.all_in_order.Goals as goal
 
 pub returns : goal.returns

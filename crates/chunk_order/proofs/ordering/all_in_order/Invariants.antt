@@ -1,5 +1,4 @@
-use Rattle.std.proofs.Common.{◌≡◌}
-use Rattle.std.specs.List.{flat_map, range_with_len}
+use Rattle.std.{proofs.Common.◌≡◌, specs.List.{flat_map, range_with_len}}
 use Rattle.cnf_formula.specs.Formulas.{with_clauses}
 use Rattle.chunk_order.specs.Ordering.{leads_in_order}
 use Rattle.chunk_order.proofs.ordering.all_in_order.Given as goal

@@ -1,7 +1,6 @@
 use Rattle.std.proofs.Common.{ℕ, ◌≡◌, ◌-◌, length, arith, sym, ap, ◌∙◌}
 use Rattle.cnf_formula.specs.Formulas.{with_clauses}
-use Rattle.chunk_order.specs.Ordering.{pair_in_order}
-use Rattle.chunk_order.proofs.Pushing.{nexts_by_place}
+use Rattle.chunk_order.{specs.Ordering.pair_in_order, proofs.Pushing.nexts_by_place}
 use Rattle.chunk_order.proofs.ordering.class_in_order.Goals as goal
 
 pub returns : goal.returns

@@ -1,6 +1,4 @@
-use Rattle.std.proofs.Common.{◌≡◌, ◌-◌, ◌≤◌, length}
-use Rattle.std.specs.Prelude.{flat_map, slice_index_or}
-use Rattle.std.specs.List.{range_with_len}
+use Rattle.std.{proofs.Common.{◌≡◌, ◌-◌, ◌≤◌, length, flat_map, slice_index_or}, specs.List.range_with_len}
 use Rattle.cnf_formula.specs.Formulas.{with_clauses}
 use Rattle.chunk_order.specs.Ordering.{pair_in_order}
 use Rattle.chunk_order.proofs.ordering.class_in_order.Given as goal

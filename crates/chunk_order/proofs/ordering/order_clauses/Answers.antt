@@ -1,9 +1,7 @@
 use Rattle.std.proofs.Common.{◌≡◌, sym, ap, ◌∙◌, subst}
 use Rattle.cnf_formula.specs.Formulas.{FormulaValue, Satisfiable, with_clauses}
 use Rattle.round_encoding.specs.declared.encoding.Encoding.{Encoding}
-use Rattle.chunk_order.specs.Ordering.{order_clauses, ordered_formula_of}
-use Rattle.chunk_order.proofs.Pushing.{own_within}
-use Rattle.chunk_order.proofs.Sufficing.{exactly_solvable}
+use Rattle.chunk_order.{specs.Ordering.{order_clauses, ordered_formula_of}, proofs.{Pushing.own_within, Sufficing.exactly_solvable}}
 use Rattle.chunk_order.proofs.ordering.order_clauses.Goals as goal
 
 pub all_in_order-requires-clause-vars : goal.all_in_order-requires-clause-vars

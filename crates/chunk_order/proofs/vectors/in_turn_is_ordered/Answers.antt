@@ -1,10 +1,6 @@
-use Rattle.std.proofs.Common.{◌≡◌, ℕ, zero, suc, ◌≤◌, true, Some, refl, sym, subst, arith}
-use Rattle.std.proofs.lemmas.Bool.{false≢true}
-use Rattle.schedule.specs.Placed.{holds}
-use Rattle.schedule.specs.Running.{after}
-use Rattle.schedule.specs.Rows.{at_root, everywhere}
-use Rattle.chunk_order.specs.Alike.{watch_node}
-use Rattle.chunk_order.specs.Rows.{in_turn}
+use Rattle.std.proofs.{Common.{◌≡◌, ℕ, zero, suc, ◌≤◌, true, Some, refl, sym, subst, arith}, lemmas.Bool.false≢true}
+use Rattle.schedule.specs.{Placed.holds, Running.after, Rows.{at_root, everywhere}}
+use Rattle.chunk_order.specs.{Alike.watch_node, Rows.in_turn}
 use Rattle.chunk_order.proofs.vectors.in_turn_is_ordered.Goals as goal
 
 -- after each step node 1 has the first chunk where it has the second

@@ -1,5 +1,4 @@
-use Rattle.std.proofs.Common.{refl, arith}
-use Rattle.std.proofs.lemmas.Bool.{false≢true}
+use Rattle.std.proofs.{Common.{refl, arith}, lemmas.Bool.false≢true}
 use Rattle.chunk_order.proofs.vectors.out_of_turn_is_not_ordered.Goals as goal
 
 pub returns : goal.returns

@@ -1,5 +1,4 @@
-use Rattle.std.proofs.Common.{◌≡◌, drop}
-use Rattle.std.specs.List.{list_any}
+use Rattle.std.{proofs.Common.{◌≡◌, drop}, specs.List.list_any}
 use Rattle.cnf_formula.specs.Literals.{is_true}
 use Rattle.cnf_formula.proofs.formula.clause_holds.Given as goal
 

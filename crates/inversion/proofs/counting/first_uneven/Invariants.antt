@@ -1,8 +1,7 @@
 use Rattle.std.proofs.Common.{◌≡◌}
 use Rattle.schedule.specs.Placed.{holds}
 use Rattle.bag_runs.specs.Stores.{bags_in}
-use Rattle.inversion.specs.Judging.{first_uneven}
-use Rattle.inversion.proofs.Uneven.{grid_from}
+use Rattle.inversion.{specs.Judging.first_uneven, proofs.Uneven.grid_from}
 use Rattle.inversion.proofs.counting.first_uneven.Given as goal
 
 abbrev pub invariant-loop-chunk : goal.invariant-loop-chunk

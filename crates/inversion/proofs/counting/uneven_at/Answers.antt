@@ -1,7 +1,6 @@
 use Rattle.std.proofs.Common.{◌∙◌, None, cond, sym, ap}
 use Rattle.bag_runs.specs.Stores.{StoreValue, bags_in}
-use Rattle.inversion.proofs.Evening.{uneven_told}
-use Rattle.inversion.proofs.Uneven.{uneven_node}
+use Rattle.inversion.proofs.{Evening.uneven_told, Uneven.uneven_node}
 use Rattle.inversion.proofs.counting.uneven_at.Goals as goal
 
 pub returns-then-holds : goal.returns-then-holds

@@ -1,9 +1,6 @@
-use Rattle.std.proofs.Common.{◌≡◌, ◌∙◌, ℕ, List, map, take, sym, ap, subst}
-use Rattle.std.proofs.lemmas.List.{take_all}
-use Rattle.candidate_order.specs.declared.candidate.Candidate.{Candidate}
-use Rattle.candidate_order.specs.Frontiers.{FrontierValue, PointValue, UnknownValue, RightFrontier, Searched}
-use Rattle.inversion.specs.Inverted.{inverted_frontier, inverted_point}
-use Rattle.inversion.proofs.Reducing.{reduction_right, reduction_searched}
+use Rattle.std.proofs.{Common.{◌≡◌, ◌∙◌, ℕ, List, map, take, sym, ap, subst}, lemmas.List.take_all}
+use Rattle.candidate_order.specs.{declared.candidate.Candidate.Candidate, Frontiers.{FrontierValue, PointValue, UnknownValue, RightFrontier, Searched}}
+use Rattle.inversion.{specs.Inverted.{inverted_frontier, inverted_point}, proofs.Reducing.{reduction_right, reduction_searched}}
 use Rattle.inversion.proofs.invert.invert_frontier.Goals as goal
 
 pub returns : goal.returns

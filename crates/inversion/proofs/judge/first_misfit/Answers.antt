@@ -1,9 +1,5 @@
-use Rattle.std.proofs.Common.{◌<◌, not, sym, ap, ◌∙◌, length, arith}
-use Rattle.std.specs.List.{find}
-use Rattle.schedule.specs.Links.{is_usable}
-use Rattle.schedule.specs.Sends.{link_of}
-use Rattle.schedule.proofs.Overfull.{group_read, group_tabled}
-use Rattle.schedule.proofs.Verdicts.{overfull_below}
+use Rattle.std.{proofs.Common.{◌<◌, not, sym, ap, ◌∙◌, length, arith}, specs.List.find}
+use Rattle.schedule.{specs.{Links.is_usable, Sends.link_of}, proofs.{Overfull.{group_read, group_tabled}, Verdicts.overfull_below}}
 use Rattle.inversion.proofs.Misfits.{misfit_overfull}
 use Rattle.inversion.proofs.judge.first_misfit.Goals as goal
 

@@ -1,6 +1,5 @@
 use Rattle.std.proofs.Common.{◌∙◌, sym, ap, length}
-use Rattle.schedule.specs.Bags.{contributions}
-use Rattle.schedule.specs.JoinedRuns.{joined_after}
+use Rattle.schedule.specs.{Bags.contributions, JoinedRuns.joined_after}
 use Rattle.bag_runs.specs.Stores.{StoreValue}
 use Rattle.inversion.proofs.Evening.{last_kept, run_judged, starts_in_range}
 use Rattle.inversion.proofs.judge.judge_counts.Goals as goal

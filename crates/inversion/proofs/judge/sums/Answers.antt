@@ -1,7 +1,5 @@
-use Rattle.std.proofs.Common.{None, ap, length, arith}
-use Rattle.std.proofs.lemmas.Result.{IfOk-weaker}
-use Rattle.inversion.specs.Judging.{first_uneven, last_bags}
-use Rattle.inversion.proofs.Misfits.{judged_misfit, told, verdict_counts}
+use Rattle.std.proofs.{Common.{None, ap, length, arith}, lemmas.Result.IfOk-weaker}
+use Rattle.inversion.{specs.Judging.{first_uneven, last_bags}, proofs.Misfits.{judged_misfit, told, verdict_counts}}
 use Rattle.inversion.proofs.judge.sums.Goals as goal
 
 pub returns-in-Some : goal.returns-in-Some

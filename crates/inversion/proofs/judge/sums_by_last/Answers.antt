@@ -1,8 +1,6 @@
 use Rattle.std.proofs.Common.{◌∙◌, None, sym, ap}
 use Rattle.bag_runs.specs.Stores.{StoreValue}
-use Rattle.inversion.specs.Judging.{first_uneven, last_bags}
-use Rattle.inversion.proofs.Evening.{run_judged}
-use Rattle.inversion.proofs.Misfits.{judged_fitting, judged_misfit}
+use Rattle.inversion.{specs.Judging.{first_uneven, last_bags}, proofs.{Evening.run_judged, Misfits.{judged_fitting, judged_misfit}}}
 use Rattle.inversion.proofs.judge.sums_by_last.Goals as goal
 
 pub returns-in-Some : goal.returns-in-Some

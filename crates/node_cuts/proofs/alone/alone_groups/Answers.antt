@@ -1,9 +1,5 @@
-use Rattle.std.proofs.Common.{ℕ, Bool, cond, [], ◌∷◌, ◌++◌, sym, ap, ◌∙◌}
-use Rattle.std.specs.Prelude.{filter}
-use Rattle.std.specs.List.{range_with_len}
-use Rattle.std.proofs.lemmas.List.{append-nil}
-use Rattle.node_cuts.specs.Opened.{is_alone}
-use Rattle.node_cuts.proofs.Filling.{kept_more}
+use Rattle.std.{proofs.{Common.{ℕ, Bool, cond, [], ◌∷◌, ◌++◌, sym, ap, ◌∙◌, filter}, lemmas.List.append-nil}, specs.List.range_with_len}
+use Rattle.node_cuts.{specs.Opened.is_alone, proofs.Filling.kept_more}
 use Rattle.node_cuts.proofs.alone.alone_groups.Goals as goal
 use Rattle.node_cuts.proofs.alone.alone_groups.Goals.{then-is_alone+in_ok-push, else-is_alone}
 

@@ -1,6 +1,4 @@
-use Rattle.std.proofs.Common.{◌≡◌}
-use Rattle.std.specs.Prelude.{filter}
-use Rattle.std.specs.List.{range_with_len}
+use Rattle.std.{proofs.Common.{◌≡◌, filter}, specs.List.range_with_len}
 use Rattle.node_cuts.specs.Opened.{is_alone}
 use Rattle.node_cuts.proofs.alone.alone_groups.Given as goal
 

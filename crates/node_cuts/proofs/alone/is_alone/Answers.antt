@@ -1,14 +1,8 @@
-use Rattle.std.proofs.Common.{◌≡◌, ◌&&◌, ◌||◌, ℕ, Bool, true, false, [], ◌∷◌, length, sym, ap, ◌∙◌, subst, arith}
-use Rattle.std.specs.Prelude.{◌==◌, not}
-use Rattle.std.specs.List.{list_any, range_with_len}
-use Rattle.std.proofs.lemmas.List.Folds.{list_any-append}
+use Rattle.std.proofs.Common.{◌≡◌, ◌&&◌, ◌||◌, ℕ, Bool, true, false, [], ◌∷◌, length, sym, ap, ◌∙◌, subst, arith, ◌==◌, not}
+use Rattle.std.{specs.List.{list_any, range_with_len}, proofs.lemmas.List.Folds.list_any-append}
 use Rattle.list_laws.proofs.Ranges.{any_at}
-use Rattle.schedule.specs.Links.{GroupValue, has_link}
-use Rattle.schedule.specs.Placed.{same_pair}
-use Rattle.schedule.specs.Tables.{Marks}
-use Rattle.schedule.specs.Judging.{group_at}
-use Rattle.node_cuts.proofs.Masks.{range_more}
-use Rattle.node_cuts.proofs.Opening.{any_has}
+use Rattle.schedule.specs.{Links.{GroupValue, has_link}, Placed.same_pair, Tables.Marks, Judging.group_at}
+use Rattle.node_cuts.proofs.{Masks.range_more, Opening.any_has}
 use Rattle.node_cuts.proofs.alone.is_alone.Goals as goal
 
 pub returns-then-shares : goal.returns-then-shares

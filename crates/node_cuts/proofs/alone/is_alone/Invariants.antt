@@ -1,8 +1,5 @@
-use Rattle.std.proofs.Common.{◌≡◌, ◌&&◌, false}
-use Rattle.std.specs.Prelude.{◌==◌, not}
-use Rattle.std.specs.List.{list_any, range_with_len}
-use Rattle.schedule.specs.Links.{has_link}
-use Rattle.schedule.specs.Judging.{group_at}
+use Rattle.std.{proofs.Common.{◌≡◌, ◌&&◌, false, ◌==◌, not}, specs.List.{list_any, range_with_len}}
+use Rattle.schedule.specs.{Links.has_link, Judging.group_at}
 use Rattle.node_cuts.proofs.alone.is_alone.Given as goal
 
 abbrev pub invariant-loop-other : goal.invariant-loop-other

@@ -1,8 +1,6 @@
 use Rattle.std.proofs.Common.{◌≡◌, ◌+◌, ℕ, suc, Bool, List, [], ◌∷◌, ◌++◌, cond, sym, ap, ◌∙◌, subst, arith}
 use Rattle.schedule.specs.Judging.{group_at}
-use Rattle.node_cuts.specs.Cuts.{groups_taken, opens}
-use Rattle.node_cuts.specs.Opened.{MarksOpen, is_open}
-use Rattle.node_cuts.proofs.Opening.{taken_next, told}
+use Rattle.node_cuts.{specs.{Cuts.{groups_taken, opens}, Opened.{MarksOpen, is_open}}, proofs.Opening.{taken_next, told}}
 use Rattle.node_cuts.proofs.covering.cover.Goals as goal
 
 pub loop-number-preserved : goal.loop-number-preserved

@@ -1,8 +1,6 @@
 use Rattle.std.proofs.Common.{◌≡◌}
 use Rattle.schedule.specs.Tables.{Marks}
-use Rattle.node_cuts.specs.Sides.{NodeSet}
-use Rattle.node_cuts.specs.Cuts.{enters, groups_taken}
-use Rattle.node_cuts.specs.Opened.{MarksOpen}
+use Rattle.node_cuts.specs.{Sides.NodeSet, Cuts.{enters, groups_taken}, Opened.MarksOpen}
 use Rattle.node_cuts.proofs.covering.cover.Given as goal
 
 abbrev pub invariant-loop-number : goal.invariant-loop-number

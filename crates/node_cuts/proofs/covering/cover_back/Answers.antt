@@ -1,8 +1,6 @@
 use Rattle.std.proofs.Common.{◌≡◌, ◌+◌, ◌-◌, ℕ, suc, Bool, List, ◌∷◌, cond, length, reverse, sym, ap, ◌∙◌, subst, arith}
 use Rattle.schedule.specs.Judging.{group_at}
-use Rattle.node_cuts.specs.Cuts.{groups_taken_back, opens}
-use Rattle.node_cuts.specs.Opened.{MarksOpen, is_open}
-use Rattle.node_cuts.proofs.Opening.{reversed_more, taken_back, told}
+use Rattle.node_cuts.{specs.{Cuts.{groups_taken_back, opens}, Opened.{MarksOpen, is_open}}, proofs.Opening.{reversed_more, taken_back, told}}
 use Rattle.node_cuts.proofs.covering.cover_back.Goals as goal
 
 pub loop-turn-preserved : goal.loop-turn-preserved

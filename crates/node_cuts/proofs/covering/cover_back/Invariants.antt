@@ -1,8 +1,6 @@
 use Rattle.std.proofs.Common.{◌≡◌, ◌-◌, length, reverse}
 use Rattle.schedule.specs.Tables.{Marks}
-use Rattle.node_cuts.specs.Sides.{NodeSet}
-use Rattle.node_cuts.specs.Cuts.{cover_back, enters, groups_taken_back}
-use Rattle.node_cuts.specs.Opened.{MarksOpen}
+use Rattle.node_cuts.specs.{Sides.NodeSet, Cuts.{cover_back, enters, groups_taken_back}, Opened.MarksOpen}
 use Rattle.node_cuts.proofs.covering.cover_back.Given as goal
 
 abbrev pub invariant-loop-turn : goal.invariant-loop-turn

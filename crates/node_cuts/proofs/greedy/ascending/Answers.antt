@@ -1,6 +1,4 @@
-use Rattle.std.proofs.Common.{ℕ, Bool, cond, length, [], ◌∷◌, ◌++◌, sym, ap, ◌∙◌, arith}
-use Rattle.std.specs.Prelude.{◌==◌, filter}
-use Rattle.std.specs.List.{list_any, range_with_len}
+use Rattle.std.{proofs.Common.{ℕ, Bool, cond, length, [], ◌∷◌, ◌++◌, sym, ap, ◌∙◌, arith, ◌==◌, filter}, specs.List.{list_any, range_with_len}}
 use Rattle.std.proofs.lemmas.List.{append-nil}
 use Rattle.node_cuts.proofs.Filling.{kept_more}
 use Rattle.node_cuts.proofs.greedy.ascending.Goals as goal

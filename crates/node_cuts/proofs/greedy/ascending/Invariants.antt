@@ -1,6 +1,4 @@
-use Rattle.std.proofs.Common.{◌≡◌}
-use Rattle.std.specs.Prelude.{◌==◌, filter}
-use Rattle.std.specs.List.{list_any, range_with_len}
+use Rattle.std.{proofs.Common.{◌≡◌, ◌==◌, filter}, specs.List.{list_any, range_with_len}}
 use Rattle.node_cuts.proofs.greedy.ascending.Given as goal
 
 abbrev pub invariant-loop-number : goal.invariant-loop-number

@@ -1,8 +1,6 @@
-use Rattle.std.proofs.Common.{◌≡◌, ◌+◌, ◌<◌, ℕ, suc, List, ◌∷◌, drop, drop-cons, get_or, length, sym, ap, ◌∙◌, ⊎_elim, subst, arith}
-use Rattle.std.specs.Prelude.{Option, Some}
+use Rattle.std.proofs.Common.{◌≡◌, ◌+◌, ◌<◌, ℕ, suc, List, ◌∷◌, drop, drop-cons, get_or, length, sym, ap, ◌∙◌, ⊎_elim, subst, arith, Option, Some}
 use Rattle.std.specs.Option.{unwrap_or}
-use Rattle.node_cuts.specs.declared.greedy.Choice.{Choice}
-use Rattle.node_cuts.specs.Cuts.{best_of, better}
+use Rattle.node_cuts.specs.{declared.greedy.Choice.Choice, Cuts.{best_of, better}}
 use Rattle.node_cuts.proofs.greedy.best_of.Goals as goal
 
 pub loop-number-preserved : goal.loop-number-preserved

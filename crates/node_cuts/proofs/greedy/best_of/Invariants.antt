@@ -1,10 +1,5 @@
-use Rattle.std.proofs.Common.{◌≡◌, ◌<◌, ℕ, List, drop, length}
-use Rattle.std.specs.Prelude.{Option, None, Some}
-use Rattle.std.specs.Option.{option_map}
-use Rattle.node_cuts.specs.declared.greedy.Choice.{Choice}
-use Rattle.node_cuts.specs.Sides.{NodeSet}
-use Rattle.node_cuts.specs.Cuts.{best_of}
-use Rattle.node_cuts.specs.Opened.{MarksOpen, choice_of}
+use Rattle.std.{proofs.Common.{◌≡◌, ◌<◌, ℕ, List, drop, length, Option, None, Some}, specs.Option.option_map}
+use Rattle.node_cuts.specs.{declared.greedy.Choice.Choice, Sides.NodeSet, Cuts.best_of, Opened.{MarksOpen, choice_of}}
 use Rattle.node_cuts.proofs.greedy.best_of.Given as goal
 
 abbrev pub invariant-loop-number : goal.invariant-loop-number

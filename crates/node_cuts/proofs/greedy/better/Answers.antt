@@ -1,11 +1,7 @@
-use Rattle.std.proofs.Common.{◌≡◌, ◌&&◌, ℕ, true, false, cond, sym, ap, ◌∙◌}
-use Rattle.std.specs.Prelude.{Option, None, Some, nat_lt, not}
-use Rattle.std.specs.Option.{option_map}
+use Rattle.std.{proofs.Common.{◌≡◌, ◌&&◌, ℕ, true, false, cond, sym, ap, ◌∙◌, Option, None, Some, nat_lt, not}, specs.Option.option_map}
 use Rattle.std.proofs.lemmas.Bool.{lt-ltb, le-ltb}
 use Rattle.schedule.specs.Judging.{group_at}
-use Rattle.node_cuts.specs.declared.greedy.Choice.{Choice}
-use Rattle.node_cuts.specs.Cuts.{better, enters, is_among, opens}
-use Rattle.node_cuts.specs.Opened.{choice_of}
+use Rattle.node_cuts.specs.{declared.greedy.Choice.Choice, Cuts.{better, enters, is_among, opens}, Opened.choice_of}
 use Rattle.node_cuts.proofs.Choosing.{any_counts, none_mapped}
 use Rattle.node_cuts.proofs.greedy.better.Goals as goal
 

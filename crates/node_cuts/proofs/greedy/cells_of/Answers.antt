@@ -1,5 +1,4 @@
-use Rattle.std.proofs.Common.{false}
-use Rattle.std.proofs.lemmas.List.{get_or-replicate, length-replicate}
+use Rattle.std.proofs.{Common.false, lemmas.List.{get_or-replicate, length-replicate}}
 use Rattle.node_cuts.proofs.greedy.cells_of.Goals as goal
 
 pub loop-number-init : goal.loop-number-init

@@ -1,10 +1,6 @@
 use Rattle.std.proofs.Common.{◌≡◌, ℕ, count_by, ap, ◌∙◌}
-use Rattle.schedule.specs.Links.{GroupValue}
-use Rattle.schedule.specs.Tables.{marked_at}
-use Rattle.schedule.specs.Judging.{group_at}
-use Rattle.node_cuts.specs.declared.greedy.Choice.{Choice}
-use Rattle.node_cuts.specs.Cuts.{opened}
-use Rattle.node_cuts.proofs.Opening.{counted}
+use Rattle.schedule.specs.{Links.GroupValue, Tables.marked_at, Judging.group_at}
+use Rattle.node_cuts.{specs.{declared.greedy.Choice.Choice, Cuts.opened}, proofs.Opening.counted}
 use Rattle.node_cuts.proofs.greedy.choice_of.Goals as goal
 
 pub returns-clause-choice : goal.returns-clause-choice

@@ -1,10 +1,6 @@
-use Rattle.std.proofs.Common.{◌≡◌, ◌-◌, ◌<◌, length}
-use Rattle.std.specs.Prelude.{filter}
-use Rattle.std.specs.List.{All}
+use Rattle.std.{proofs.Common.{◌≡◌, ◌-◌, ◌<◌, length, filter}, specs.List.All}
 use Rattle.schedule.specs.Tables.{Marks}
-use Rattle.node_cuts.specs.Sides.{NodeSet}
-use Rattle.node_cuts.specs.Cuts.{all_groups, best_taken, cover_greedily, enters, opens}
-use Rattle.node_cuts.specs.Opened.{MarksOpen}
+use Rattle.node_cuts.specs.{Sides.NodeSet, Cuts.{all_groups, best_taken, cover_greedily, enters, opens}, Opened.MarksOpen}
 use Rattle.node_cuts.proofs.greedy.cover_greedily.Given as goal
 
 abbrev pub invariant-loop-turn : goal.invariant-loop-turn

@@ -1,5 +1,4 @@
-use Rattle.std.proofs.Common.{◌≡◌, take}
-use Rattle.std.specs.Prelude.{filter}
+use Rattle.std.proofs.Common.{◌≡◌, take, filter}
 use Rattle.schedule.specs.Judging.{group_at}
 use Rattle.node_cuts.specs.Opened.{is_open}
 use Rattle.node_cuts.proofs.greedy.still_open.Given as goal

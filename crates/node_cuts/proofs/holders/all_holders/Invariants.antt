@@ -1,5 +1,4 @@
-use Rattle.std.proofs.Common.{◌≡◌, map}
-use Rattle.std.specs.List.{range_with_len}
+use Rattle.std.{proofs.Common.{◌≡◌, map}, specs.List.range_with_len}
 use Rattle.node_cuts.specs.Holders.{nodes_with}
 use Rattle.node_cuts.proofs.holders.all_holders.Given as goal
 

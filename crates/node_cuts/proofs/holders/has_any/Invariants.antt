@@ -1,5 +1,4 @@
-use Rattle.std.proofs.Common.{◌≡◌, drop}
-use Rattle.std.specs.List.{list_any}
+use Rattle.std.{proofs.Common.{◌≡◌, drop}, specs.List.list_any}
 use Rattle.node_cuts.specs.Sides.{members}
 use Rattle.node_cuts.proofs.holders.has_any.Given as goal
 

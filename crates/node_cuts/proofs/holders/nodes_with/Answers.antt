@@ -1,7 +1,4 @@
-use Rattle.std.proofs.Common.{ℕ, Bool, cond, List, [], ◌∷◌, ◌++◌, sym, ap, ◌∙◌}
-use Rattle.std.specs.Prelude.{filter}
-use Rattle.std.specs.List.{range_with_len}
-use Rattle.std.proofs.lemmas.List.{append-nil}
+use Rattle.std.{proofs.{Common.{ℕ, Bool, cond, List, [], ◌∷◌, ◌++◌, sym, ap, ◌∙◌, filter}, lemmas.List.append-nil}, specs.List.range_with_len}
 use Rattle.schedule.specs.Placed.{holds}
 use Rattle.node_cuts.proofs.Filling.{kept_more}
 use Rattle.node_cuts.proofs.holders.nodes_with.Goals as goal

@@ -1,7 +1,4 @@
-use Rattle.std.proofs.Common.{◌^◌, ◌<◌, ◌≤◌, ℕ, ap, sym, ◌∙◌, arith}
-use Rattle.std.specs.Prelude.{◌==◌}
-use Rattle.std.proofs.Math.Nat.{pow-le-pow_right}
-use Rattle.std.proofs.lemmas.Bool.{le-ltb}
+use Rattle.std.proofs.{Common.{◌^◌, ◌<◌, ◌≤◌, ℕ, ap, sym, ◌∙◌, arith, ◌==◌}, Math.Nat.pow-le-pow_right, lemmas.Bool.le-ltb}
 use Rattle.node_cuts.proofs.Masks.{bit_past}
 use Rattle.node_cuts.proofs.mask.has_any_node.Goals as goal
 

@@ -1,9 +1,5 @@
-use Rattle.std.proofs.Common.{◌-◌, ◌^◌, map, sym, ap, ◌∙◌}
-use Rattle.std.specs.List.{range_with_len}
-use Rattle.std.proofs.lemmas.Result.{IfOk-weaker}
-use Rattle.std.proofs.lemmas.Simd.{map-map}
-use Rattle.node_cuts.specs.declared.members.Members.TheVariants.{Sided, Bits}
-use Rattle.node_cuts.specs.Sides.{listed_sides, members, node_sets}
+use Rattle.std.{proofs.{Common.{◌-◌, ◌^◌, map, sym, ap, ◌∙◌}, lemmas.{Result.IfOk-weaker, Simd.map-map}}, specs.List.range_with_len}
+use Rattle.node_cuts.specs.{declared.members.Members.TheVariants.{Sided, Bits}, Sides.{listed_sides, members, node_sets}}
 use Rattle.node_cuts.proofs.members.node_sets.Goals as goal
 
 pub returns-in-Listed : goal.returns-in-Listed

@@ -1,8 +1,6 @@
-use Rattle.std.proofs.Common.{◌≡◌, ◌+◌, ◌-◌, ◌≤◌, ℕ, List, [], ◌∷◌, ◌++◌, map, sym, ap, ◌∙◌, arith}
-use Rattle.std.specs.List.{range_with_len}
+use Rattle.std.{proofs.Common.{◌≡◌, ◌+◌, ◌-◌, ◌≤◌, ℕ, List, [], ◌∷◌, ◌++◌, map, sym, ap, ◌∙◌, arith}, specs.List.range_with_len}
 use Rattle.std.proofs.lemmas.List.FromFn.{map-range_with_len_more}
-use Rattle.node_cuts.specs.declared.members.Members.{Members}
-use Rattle.node_cuts.specs.declared.members.Members.TheVariants.{Bits}
+use Rattle.node_cuts.specs.declared.members.Members.{Members, TheVariants.Bits}
 use Rattle.node_cuts.proofs.members.numbered.Goals as goal
 
 pub loop-bits-preserved : goal.loop-bits-preserved

@@ -1,18 +1,9 @@
-use Rattle.std.proofs.Common.{◌≡◌, ◌*◌, ◌<◌, ℕ, Bool, List, Some, get_or, length, map, sym, ap, ◌∙◌, ⊎_elim, arith}
-use Rattle.std.specs.Prelude.{nat_lt}
-use Rattle.std.specs.Option.{option_map}
-use Rattle.std.proofs.Math.Nat.{mul-one}
-use Rattle.std.proofs.lemmas.Bool.{cases_eq}
-use Rattle.std.proofs.lemmas.List.{get_or_default, length-map}
+use Rattle.std.{proofs.Common.{◌≡◌, ◌*◌, ◌<◌, ℕ, Bool, List, Some, get_or, length, map, sym, ap, ◌∙◌, ⊎_elim, arith, nat_lt}, specs.Option.option_map}
+use Rattle.std.proofs.{Math.Nat.mul-one, lemmas.{Bool.cases_eq, List.{get_or_default, length-map}}}
 use Rattle.list_laws.proofs.Fronts.{at_map}
-use Rattle.node_cuts.specs.declared.members.Members.{Members}
-use Rattle.node_cuts.specs.declared.members.Members.TheVariants.{Sided}
-use Rattle.node_cuts.specs.declared.side.Side.TheVariants.{One}
-use Rattle.node_cuts.specs.declared.sets.Sets.TheVariants.{Listed}
-use Rattle.node_cuts.specs.declared.measure.Measure.{Measure}
-use Rattle.node_cuts.specs.Sides.{NodeSet, mask_of, members, node_sets}
+use Rattle.node_cuts.specs.{declared.{members.Members.{Members, TheVariants.Sided}, side.Side.TheVariants.One, sets.Sets.TheVariants.Listed}, Tables.measure_of}
+use Rattle.node_cuts.specs.{declared.measure.Measure.Measure, Sides.{NodeSet, mask_of, members, node_sets}}
 use Rattle.node_cuts.specs.Cuts.{CutValue, cover_by, cut_of, cut_refutes, need_of, width_by}
-use Rattle.node_cuts.specs.Tables.{measure_of}
 use Rattle.node_cuts.proofs.Tabled.{found_at, is_over, measure_told, nobody, none_found_in}
 use Rattle.node_cuts.proofs.refuting.first_cut.Goals as goal
 

@@ -1,8 +1,5 @@
 use Rattle.std.proofs.Common.{◌≡◌, ◌<◌, ℕ, false, slice_index_or}
-use Rattle.node_cuts.specs.declared.sets.Sets.TheVariants.{Listed}
-use Rattle.node_cuts.specs.Sides.{node_sets}
-use Rattle.node_cuts.specs.Cuts.{cut_refutes}
-use Rattle.node_cuts.proofs.Tabled.{nobody}
+use Rattle.node_cuts.{specs.{declared.sets.Sets.TheVariants.Listed, Sides.node_sets, Cuts.cut_refutes}, proofs.Tabled.nobody}
 use Rattle.node_cuts.proofs.refuting.first_cut.Given as goal
 
 abbrev pub invariant-loop-set : goal.invariant-loop-set

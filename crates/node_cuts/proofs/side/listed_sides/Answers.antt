@@ -1,6 +1,4 @@
-use Rattle.std.proofs.Common.{sym, ◌∙◌}
-use Rattle.std.proofs.lemmas.List.{append-nil}
-use Rattle.std.proofs.lemmas.List.Elements.{same_from_all_zip}
+use Rattle.std.proofs.{Common.{sym, ◌∙◌}, lemmas.List.{append-nil, Elements.same_from_all_zip}}
 use Rattle.node_cuts.proofs.side.listed_sides.Goals as goal
 
 pub loop-side-init : goal.loop-side-init

@@ -1,5 +1,4 @@
-use Rattle.std.proofs.Common.{◌≡◌, ◌+◌, ◌-◌, ◌++◌, map}
-use Rattle.std.specs.List.{flat_map, range_with_len}
+use Rattle.std.{proofs.Common.{◌≡◌, ◌+◌, ◌-◌, ◌++◌, map}, specs.List.{flat_map, range_with_len}}
 use Rattle.node_cuts.specs.declared.side.Side.TheVariants.{Two}
 use Rattle.node_cuts.proofs.side.push_twos.Given as goal
 

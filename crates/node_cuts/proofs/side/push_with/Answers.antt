@@ -1,6 +1,5 @@
 use Rattle.std.proofs.Common.{◌++◌, ◌∷◌, [], arith, sym, ap, ◌∙◌}
-use Rattle.node_cuts.specs.declared.side.Side.TheVariants.{Two}
-use Rattle.node_cuts.proofs.Listing.{twos_more}
+use Rattle.node_cuts.{specs.declared.side.Side.TheVariants.Two, proofs.Listing.twos_more}
 use Rattle.node_cuts.proofs.side.push_with.Goals as goal
 
 pub loop-second-preserved : goal.loop-second-preserved

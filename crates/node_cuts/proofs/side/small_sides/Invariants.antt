@@ -1,5 +1,4 @@
-use Rattle.std.proofs.Common.{◌≡◌, map}
-use Rattle.std.specs.List.{range_with_len}
+use Rattle.std.{proofs.Common.{◌≡◌, map}, specs.List.range_with_len}
 use Rattle.node_cuts.specs.declared.side.Side.TheVariants.{One}
 use Rattle.node_cuts.proofs.side.small_sides.Given as goal
 

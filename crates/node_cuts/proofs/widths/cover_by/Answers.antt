@@ -1,10 +1,7 @@
-use Rattle.std.proofs.Common.{◌≡◌, ◌<◌, ◌≤◌, ℕ, List, length, ap, sym, ◌∙◌, ⊎_elim, arith}
-use Rattle.std.specs.List.{All}
-use Rattle.std.proofs.lemmas.List.Elements.{All-same}
+use Rattle.std.{proofs.{Common.{◌≡◌, ◌<◌, ◌≤◌, ℕ, List, length, ap, sym, ◌∙◌, ⊎_elim, arith}, lemmas.List.Elements.All-same}, specs.List.All}
 use Rattle.schedule.specs.Links.{TopologyValue}
 use Rattle.node_cuts.specs.declared.sets.Sets.TheVariants as sets
-use Rattle.node_cuts.specs.Sides.{NodeSet, members}
-use Rattle.node_cuts.specs.Cuts.{cover, cover_back, cover_by, cover_greedily, narrower}
+use Rattle.node_cuts.specs.{Sides.{NodeSet, members}, Cuts.{cover, cover_back, cover_by, cover_greedily, narrower}}
 use Rattle.node_cuts.proofs.Within.{IsWithin, back_within, cover_within, greedily_within, narrower_within, within_by}
 use Rattle.node_cuts.proofs.widths.cover_by.Goals as goal
 

@@ -1,8 +1,5 @@
 use Rattle.std.proofs.Common.{[], ◌∷◌, refl}
-use Rattle.proof_rules.specs.Held.{start_of}
-use Rattle.proof_rules.specs.Refuting.{with_line}
-use Rattle.proof_rules.specs.Examples.{eight_clauses, pair_of_eight}
-use Rattle.proof_rules.proofs.Open.{nothing_falls}
+use Rattle.proof_rules.{specs.{Held.start_of, Refuting.with_line, Examples.{eight_clauses, pair_of_eight}}, proofs.Open.nothing_falls}
 use Rattle.proof_rules.proofs.vectors.exhausted_by_one_line.Goals as goal
 
 pub returns : goal.returns

@@ -1,9 +1,6 @@
-use Rattle.std.proofs.Common.{◌≡◌, ℕ, ◌+◌, ◌*◌, ◌<◌, length, arith, sym, ap, ◌∙◌, subst}
-use Rattle.std.proofs.lemmas.Result.{on_ok_weaker}
+use Rattle.std.proofs.{Common.{◌≡◌, ℕ, ◌+◌, ◌*◌, ◌<◌, length, arith, sym, ap, ◌∙◌, subst}, lemmas.Result.on_ok_weaker}
 use Rattle.cnf_formula.specs.Formulas.{FormulaValue, IsClause}
-use Rattle.round_encoding.specs.Frames.{Frame}
-use Rattle.round_encoding.specs.Rounding.{count_of_group}
-use Rattle.round_encoding.proofs.Carried.{inputs_length, inputs_about, counts_grow}
+use Rattle.round_encoding.{specs.{Frames.Frame, Rounding.count_of_group}, proofs.Carried.{inputs_length, inputs_about, counts_grow}}
 use Rattle.round_encoding.proofs.carrying.count_group.Goals as goal
 
 pub count_up_to-requires-clause-about : goal.count_up_to-requires-clause-about

@@ -1,11 +1,6 @@
-use Rattle.std.proofs.Common.{◌≡◌, ◌+◌, ◌*◌, ◌-◌, ◌<◌, ◌≤◌, ◌∷◌, [], length, get_or, arith, ap, ◌∙◌}
-use Rattle.std.proofs.lemmas.List.{get_or_read}
-use Rattle.std.proofs.Math.Nat.{mul-le-mul_left}
-use Rattle.cnf_formula.specs.Literals.{yes, negation}
-use Rattle.cnf_formula.specs.Formulas.{with_clauses}
-use Rattle.cnf_formula.proofs.Growing.{grows_by_one}
-use Rattle.round_encoding.specs.Frames.{Frame, extra_round}
-use Rattle.round_encoding.specs.Rounding.{output_at}
+use Rattle.std.proofs.{Common.{◌≡◌, ◌+◌, ◌*◌, ◌-◌, ◌<◌, ◌≤◌, ◌∷◌, [], length, get_or, arith, ap, ◌∙◌}, lemmas.List.get_or_read, Math.Nat.mul-le-mul_left}
+use Rattle.cnf_formula.{specs.{Literals.{yes, negation}, Formulas.with_clauses}, proofs.Growing.grows_by_one}
+use Rattle.round_encoding.specs.{Frames.{Frame, extra_round}, Rounding.output_at}
 use Rattle.round_encoding.proofs.carrying.push_said.Goals as goal
 
 pub loop-index-preserved : goal.loop-index-preserved

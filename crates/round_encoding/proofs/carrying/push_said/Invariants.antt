@@ -1,9 +1,6 @@
-use Rattle.std.proofs.Common.{◌≡◌, ◌+◌, ◌*◌, ◌∷◌, [], map}
-use Rattle.std.specs.List.{range_with_len}
-use Rattle.cnf_formula.specs.Literals.{negation}
-use Rattle.cnf_formula.specs.Formulas.{with_clauses}
-use Rattle.round_encoding.specs.Frames.{extra_round}
-use Rattle.round_encoding.specs.Rounding.{output_at}
+use Rattle.std.{proofs.Common.{◌≡◌, ◌+◌, ◌*◌, ◌∷◌, [], map}, specs.List.range_with_len}
+use Rattle.cnf_formula.specs.{Literals.negation, Formulas.with_clauses}
+use Rattle.round_encoding.specs.{Frames.extra_round, Rounding.output_at}
 use Rattle.round_encoding.proofs.carrying.push_said.Given as goal
 
 abbrev pub invariant-loop-index : goal.invariant-loop-index

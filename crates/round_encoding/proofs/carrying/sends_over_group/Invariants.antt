@@ -1,5 +1,4 @@
-use Rattle.std.proofs.Common.{◌≡◌, map}
-use Rattle.std.specs.List.{flat_map, range_with_len}
+use Rattle.std.{proofs.Common.{◌≡◌, map}, specs.List.{flat_map, range_with_len}}
 use Rattle.send_encoding.specs.Variables.{sent, number_of}
 use Rattle.round_encoding.proofs.carrying.sends_over_group.Given as goal
 

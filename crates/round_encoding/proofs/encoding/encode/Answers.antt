@@ -1,19 +1,10 @@
-use Rattle.std.proofs.Common.{◌≡◌, ℕ, ◌+◌, ◌-◌, ◌*◌, ◌<◌, Bool, List, sym, subst, arith}
-use Rattle.std.specs.Prelude.{◌↔◌, sum_by}
-use Rattle.schedule.specs.Sends.{ScheduleValue, IsSchedule, IsInRange}
-use Rattle.schedule.specs.Solving.{Solves, Solvable}
+use Rattle.std.proofs.Common.{◌≡◌, ℕ, ◌+◌, ◌-◌, ◌*◌, ◌<◌, Bool, List, sym, subst, arith, ◌↔◌, sum_by}
+use Rattle.schedule.specs.{Sends.{ScheduleValue, IsSchedule, IsInRange}, Solving.{Solves, Solvable}}
 use Rattle.cnf_formula.specs.Formulas.{Satisfies, Satisfiable}
-use Rattle.send_encoding.specs.Variables.{SendMapValue, map_of}
-use Rattle.send_encoding.specs.Agreeing.{SatisfiesAs}
-use Rattle.round_encoding.specs.declared.encoding.Encoding.{Encoding}
-use Rattle.round_encoding.specs.Decoding.{decoded}
-use Rattle.round_encoding.specs.Candidates.{IsTightSolution}
-use Rattle.round_encoding.specs.inner.Counts.{HasLinks, room}
+use Rattle.send_encoding.specs.{Variables.{SendMapValue, map_of}, Agreeing.SatisfiesAs}
+use Rattle.round_encoding.specs.{declared.encoding.Encoding.Encoding, Decoding.decoded, Candidates.IsTightSolution, inner.Counts.{HasLinks, room}}
 use Rattle.round_encoding.specs.Frames.{own_variables}
-use Rattle.round_encoding.proofs.Counted.{placed_links}
-use Rattle.round_encoding.proofs.Encoded.{encoded}
-use Rattle.round_encoding.proofs.Exactly.{sound, exactly, completely}
-use Rattle.round_encoding.proofs.Sizes.{few_sends, few_variables}
+use Rattle.round_encoding.proofs.{Counted.placed_links, Encoded.encoded, Exactly.{sound, exactly, completely}, Sizes.{few_sends, few_variables}}
 use Rattle.round_encoding.proofs.encoding.encode.Goals as goal
 
 pub encode_sends-requires-clause-few : goal.encode_sends-requires-clause-few

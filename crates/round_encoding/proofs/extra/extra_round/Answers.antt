@@ -1,7 +1,5 @@
 use Rattle.std.proofs.Common.{◌≡◌, ◌+◌, ◌*◌, ◌-◌, ◌≤◌, arith, sym, subst, rules}
-use Rattle.round_encoding.specs.Frames.{extra_round, own_variables}
-use Rattle.round_encoding.proofs.Extras.{extra_within}
-use Rattle.round_encoding.proofs.Sizes.{row_most}
+use Rattle.round_encoding.{specs.Frames.{extra_round, own_variables}, proofs.{Extras.extra_within, Sizes.row_most}}
 use Rattle.round_encoding.proofs.extra.extra_round.Goals as goal
 
 pub new-requires : goal.new-requires

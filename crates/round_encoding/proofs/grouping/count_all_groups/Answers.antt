@@ -1,10 +1,5 @@
-use Rattle.std.proofs.Common.{ℕ, ◌+◌, ◌*◌, ◌≤◌, map, arith}
-use Rattle.std.specs.Prelude.{sum_by}
-use Rattle.std.proofs.Math.Nat.{mul-le-mul_right}
-use Rattle.round_encoding.specs.Frames.{Frame}
-use Rattle.round_encoding.specs.Rounding.{count_of_group}
-use Rattle.round_encoding.specs.inner.Counts.{room}
-use Rattle.round_encoding.proofs.Countings.{counts_range}
+use Rattle.std.proofs.{Common.{ℕ, ◌+◌, ◌*◌, ◌≤◌, map, arith, sum_by}, Math.Nat.mul-le-mul_right}
+use Rattle.round_encoding.{specs.{Frames.Frame, Rounding.count_of_group, inner.Counts.room}, proofs.Countings.counts_range}
 use Rattle.round_encoding.proofs.grouping.count_all_groups.Goals as goal
 
 pub count_groups-requires-clause-small : goal.count_groups-requires-clause-small

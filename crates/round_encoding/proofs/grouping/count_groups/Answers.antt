@@ -1,12 +1,7 @@
-use Rattle.std.proofs.Common.{◌≡◌, ℕ, ◌<◌, [], All, length, get_or, arith, sym, ap, ◌∙◌, subst}
-use Rattle.std.proofs.lemmas.List.{get_or_read}
-use Rattle.std.proofs.lemmas.List.Sums.{sum_by_more}
+use Rattle.std.proofs.{Common.{◌≡◌, ℕ, ◌<◌, [], All, length, get_or, arith, sym, ap, ◌∙◌, subst}, lemmas.List.{get_or_read, Sums.sum_by_more}}
 use Rattle.schedule.specs.Links.{GroupValue}
-use Rattle.round_encoding.specs.Frames.{Frame}
+use Rattle.round_encoding.{specs.{Frames.Frame, Rounding.{count_of_group, with_count}, inner.Counts.room}, proofs.Countings.counts_more}
 use Rattle.send_encoding.specs.Variables.{number_of}
-use Rattle.round_encoding.specs.Rounding.{count_of_group, with_count}
-use Rattle.round_encoding.specs.inner.Counts.{room}
-use Rattle.round_encoding.proofs.Countings.{counts_more}
 use Rattle.round_encoding.proofs.grouping.count_groups.Goals as goal
 
 pub count_group-requires-clause-links : goal.count_group-requires-clause-links

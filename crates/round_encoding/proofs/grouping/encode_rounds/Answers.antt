@@ -1,12 +1,8 @@
-use Rattle.std.proofs.Common.{◌≡◌, ◌+◌, ◌*◌, ◌++◌, ◌∷◌, [], map, ap, ◌∙◌}
-use Rattle.std.specs.Prelude.{if◌then◌else◌, nat_lt, flat_map}
-use Rattle.std.proofs.lemmas.Result.{on_ok_weaker}
+use Rattle.std.proofs.{Common.{◌≡◌, ◌+◌, ◌*◌, ◌++◌, ◌∷◌, [], map, ap, ◌∙◌, if◌then◌else◌, nat_lt, flat_map}, lemmas.Result.on_ok_weaker}
 use Rattle.cnf_formula.specs.Formulas.{FormulaValue, with_clauses}
-use Rattle.round_encoding.specs.Frames.{Frame, own_variables}
-use Rattle.send_encoding.specs.Variables.{arrivals, sends, steps_of}
-use Rattle.round_encoding.specs.Rounding.{extra_in_order, count_of_rounds, count_of_group, counts_of}
-use Rattle.round_encoding.specs.inner.Counts.{with_counts}
+use Rattle.round_encoding.specs.{Frames.{Frame, own_variables}, Rounding.{extra_in_order, count_of_rounds, count_of_group, counts_of}, inner.Counts.with_counts}
 use Rattle.round_encoding.proofs.Countings.{counts_both}
+use Rattle.send_encoding.specs.Variables.{arrivals, sends, steps_of}
 use Rattle.round_encoding.proofs.grouping.encode_rounds.Goals as goal
 
 pub returns : goal.returns

@@ -1,9 +1,6 @@
-use Rattle.std.proofs.Common.{◌≡◌, ℕ, ◌+◌, ◌*◌, ◌<◌, length, arith, sym, ap, ◌∙◌, subst}
-use Rattle.std.proofs.lemmas.Result.{on_ok_weaker}
+use Rattle.std.proofs.{Common.{◌≡◌, ℕ, ◌+◌, ◌*◌, ◌<◌, length, arith, sym, ap, ◌∙◌, subst}, lemmas.Result.on_ok_weaker}
 use Rattle.cnf_formula.specs.Formulas.{FormulaValue, IsClause}
-use Rattle.round_encoding.specs.Frames.{Frame}
-use Rattle.round_encoding.specs.Rounding.{count_of_rounds}
-use Rattle.round_encoding.proofs.Rounded.{extra_length, extra_some, extra_inputs_about, rounds_grow}
+use Rattle.round_encoding.{specs.{Frames.Frame, Rounding.count_of_rounds}, proofs.Rounded.{extra_length, extra_some, extra_inputs_about, rounds_grow}}
 use Rattle.round_encoding.proofs.rounding.count_extra.Goals as goal
 
 pub count_up_to-requires-clause-some : goal.count_up_to-requires-clause-some

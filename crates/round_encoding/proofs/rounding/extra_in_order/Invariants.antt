@@ -1,7 +1,5 @@
-use Rattle.std.proofs.Common.{◌≡◌, ◌+◌, ◌-◌, ◌∷◌, [], map}
-use Rattle.std.specs.List.{flat_map, range_with_len}
-use Rattle.cnf_formula.specs.Literals.{negation}
-use Rattle.cnf_formula.specs.Formulas.{with_clauses}
+use Rattle.std.{proofs.Common.{◌≡◌, ◌+◌, ◌-◌, ◌∷◌, [], map}, specs.List.{flat_map, range_with_len}}
+use Rattle.cnf_formula.specs.{Literals.negation, Formulas.with_clauses}
 use Rattle.round_encoding.specs.Frames.{extra_round}
 use Rattle.round_encoding.proofs.rounding.extra_in_order.Given as goal
 

@@ -1,5 +1,4 @@
-use Rattle.std.proofs.Common.{◌≡◌, ◌++◌, map}
-use Rattle.std.specs.List.{range_with_len}
+use Rattle.std.{proofs.Common.{◌≡◌, ◌++◌, map}, specs.List.range_with_len}
 use Rattle.round_encoding.specs.Frames.{extra_round}
 use Rattle.round_encoding.proofs.rounding.push_extra.Given as goal
 

@@ -1,7 +1,5 @@
-use Rattle.std.proofs.Common.{◌≡◌, ◌+◌, ◌∷◌, [], map}
-use Rattle.std.specs.List.{range_with_len}
-use Rattle.cnf_formula.specs.Literals.{negation}
-use Rattle.cnf_formula.specs.Formulas.{with_clauses}
+use Rattle.std.{proofs.Common.{◌≡◌, ◌+◌, ◌∷◌, [], map}, specs.List.range_with_len}
+use Rattle.cnf_formula.specs.{Literals.negation, Formulas.with_clauses}
 use Rattle.round_encoding.specs.Frames.{extra_round}
 use Rattle.round_encoding.proofs.rounding.step_in_order.Given as goal
 

@@ -1,6 +1,5 @@
 use Rattle.std.proofs.Common.{ℕ, ◌+◌, arith, ap}
-use Rattle.round_encoding.specs.Frames.{Frame}
-use Rattle.round_encoding.specs.Decoding.{rounds_said}
+use Rattle.round_encoding.specs.{Frames.Frame, Decoding.rounds_said}
 use Rattle.send_encoding.proofs.Picking.{sums_one_more}
 use Rattle.round_encoding.proofs.schedule_said.all_said.Goals as goal
 

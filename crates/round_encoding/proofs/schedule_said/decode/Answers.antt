@@ -1,10 +1,7 @@
 use Rattle.std.proofs.Common.{◌≡◌, ℕ, List, sym, ap, ◌∙◌, subst, arith, rules}
-use Rattle.schedule.specs.declared.hop.Hop.{Hop}
-use Rattle.schedule.specs.Sends.{ScheduleValue, IsSchedule}
-use Rattle.round_encoding.specs.Decoding.{rounds_of, decoded}
+use Rattle.schedule.specs.{declared.hop.Hop.Hop, Sends.{ScheduleValue, IsSchedule}}
+use Rattle.round_encoding.{specs.{Decoding.{rounds_of, decoded}, Candidates.IsTightSolution}, proofs.Decodes.{valued, decodes}}
 use Rattle.send_encoding.specs.Sent.{sends_of}
-use Rattle.round_encoding.specs.Candidates.{IsTightSolution}
-use Rattle.round_encoding.proofs.Decodes.{valued, decodes}
 use Rattle.round_encoding.proofs.schedule_said.decode.Goals as goal
 
 pub rounds_of-requires-clause-vars : goal.rounds_of-requires-clause-vars

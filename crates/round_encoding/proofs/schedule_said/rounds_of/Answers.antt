@@ -1,8 +1,6 @@
-use Rattle.std.proofs.Common.{◌≡◌, ℕ, ◌+◌, ◌∷◌, ◌++◌, [], eqb, arith, ap, ◌∙◌, rules}
-use Rattle.std.specs.Prelude.{if◌then◌else◌}
+use Rattle.std.proofs.Common.{◌≡◌, ℕ, ◌+◌, ◌∷◌, ◌++◌, [], eqb, arith, ap, ◌∙◌, rules, if◌then◌else◌}
 use Rattle.cnf_formula.proofs.Growing.{pushes_more}
-use Rattle.round_encoding.specs.Frames.{Frame}
-use Rattle.round_encoding.specs.Decoding.{rounds_said, rounds_left}
+use Rattle.round_encoding.specs.{Frames.Frame, Decoding.{rounds_said, rounds_left}}
 use Rattle.round_encoding.proofs.schedule_said.rounds_of.Goals as goal
 
 pub loop-index-preserved : goal.loop-index-preserved

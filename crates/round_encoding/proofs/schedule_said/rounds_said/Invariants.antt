@@ -1,6 +1,4 @@
-use Rattle.std.proofs.Common.{◌≡◌, ◌+◌, ◌≤◌}
-use Rattle.std.specs.Prelude.{count_by}
-use Rattle.std.specs.List.{range_with_len}
+use Rattle.std.{proofs.Common.{◌≡◌, ◌+◌, ◌≤◌, count_by}, specs.List.range_with_len}
 use Rattle.cnf_formula.specs.Literals.{is_true}
 use Rattle.round_encoding.specs.Frames.{extra_round}
 use Rattle.round_encoding.proofs.schedule_said.rounds_said.Given as goal

@@ -1,6 +1,5 @@
 use Rattle.std.proofs.Common.{◌∙◌, ◌+◌, sym, ap, length, arith}
-use Rattle.schedule.specs.Judging.{is_overfull}
-use Rattle.schedule.proofs.Grids.{find_here, find_later}
+use Rattle.schedule.{specs.Judging.is_overfull, proofs.Grids.{find_here, find_later}}
 use Rattle.schedule.proofs.bandwidth.first_overfull.Goals as goal
 
 pub returns-in-Some : goal.returns-in-Some

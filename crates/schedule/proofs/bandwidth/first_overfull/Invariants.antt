@@ -1,6 +1,5 @@
 use Rattle.std.proofs.Common.{◌≡◌, ◌+◌, find, length}
-use Rattle.schedule.specs.Judging.{is_overfull, first_overfull}
-use Rattle.schedule.proofs.Grids.{rows_from}
+use Rattle.schedule.{specs.Judging.{is_overfull, first_overfull}, proofs.Grids.rows_from}
 use Rattle.schedule.proofs.bandwidth.first_overfull.Given as goal
 
 abbrev pub invariant-loop-index : goal.invariant-loop-index

@@ -1,5 +1,4 @@
-use Rattle.schedule.proofs.Few.{narrow}
-use Rattle.schedule.proofs.Loads.{step_tabled, step_few, load_counted}
+use Rattle.schedule.proofs.{Few.narrow, Loads.{step_tabled, step_few, load_counted}}
 use Rattle.schedule.proofs.bandwidth.load_of.Goals as goal
 
 pub count-requires-clause-links : goal.count-requires-clause-links

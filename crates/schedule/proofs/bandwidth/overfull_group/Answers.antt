@@ -1,8 +1,5 @@
 use Rattle.std.proofs.Common.{◌≡◌, ◌∙◌, ◌*◌, ◌<◌, sym, ap, length, arith}
-use Rattle.schedule.specs.Links.{GroupValue}
-use Rattle.schedule.specs.Fitting.{rounds_at}
-use Rattle.schedule.specs.Judging.{group_at}
-use Rattle.schedule.proofs.Overfull.{group_read, over_here, over_later}
+use Rattle.schedule.{specs.{Links.GroupValue, Fitting.rounds_at, Judging.group_at}, proofs.Overfull.{group_read, over_here, over_later}}
 use Rattle.schedule.proofs.bandwidth.overfull_group.Goals as goal
 
 pub returns-then-load_of-bandwidth : goal.returns-then-load_of-bandwidth

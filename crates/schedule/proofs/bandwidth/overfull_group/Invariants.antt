@@ -1,5 +1,4 @@
-use Rattle.std.proofs.Common.{◌≡◌, ◌-◌, find, length}
-use Rattle.std.specs.List.{range_with_len}
+use Rattle.std.{proofs.Common.{◌≡◌, ◌-◌, find, length}, specs.List.range_with_len}
 use Rattle.schedule.specs.Judging.{is_overfull}
 use Rattle.schedule.proofs.bandwidth.overfull_group.Given as goal
 

@@ -1,7 +1,5 @@
 use Rattle.std.proofs.Common.{◌∙◌, sym, arith}
-use Rattle.schedule.specs.Placed.{lacks}
-use Rattle.schedule.proofs.Grids.{find_here, find_later}
-use Rattle.schedule.proofs.Lacking.{all_lacking}
+use Rattle.schedule.{specs.Placed.lacks, proofs.{Grids.{find_here, find_later}, Lacking.all_lacking}}
 use Rattle.schedule.proofs.judge.first_lacking.Goals as goal
 
 pub loop-chunk-init : goal.loop-chunk-init

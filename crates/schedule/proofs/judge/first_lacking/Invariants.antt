@@ -1,6 +1,5 @@
 use Rattle.std.proofs.Common.{◌≡◌, find, not}
-use Rattle.schedule.specs.Placed.{holds, lacks}
-use Rattle.schedule.proofs.Grids.{rows_from}
+use Rattle.schedule.{specs.Placed.{holds, lacks}, proofs.Grids.rows_from}
 use Rattle.schedule.proofs.judge.first_lacking.Given as goal
 
 abbrev pub invariant-loop-chunk : goal.invariant-loop-chunk

@@ -1,8 +1,6 @@
-use Rattle.std.proofs.Common.{◌<◌, ◌∙◌, None, sym, ap, length, arith}
-use Rattle.std.specs.Prelude.{unwrap_or}
+use Rattle.std.{proofs.Common.{◌<◌, ◌∙◌, None, sym, ap, length, arith}, specs.Prelude.unwrap_or}
 use Rattle.schedule.specs.Judging.{judged}
-use Rattle.schedule.proofs.Overfull.{group_read, group_tabled}
-use Rattle.schedule.proofs.Verdicts.{misfit_no_link, misfit_none, misfit_overfull, overfull_below}
+use Rattle.schedule.proofs.{Overfull.{group_read, group_tabled}, Verdicts.{misfit_no_link, misfit_none, misfit_overfull, overfull_below}}
 use Rattle.schedule.proofs.judge.first_misfit.Goals as goal
 
 pub returns-in-Some-clause-misfit : goal.returns-in-Some-clause-misfit

@@ -1,6 +1,5 @@
 use Rattle.std.proofs.Common.{◌≡◌, drop, find, not}
-use Rattle.schedule.specs.Links.{is_usable}
-use Rattle.schedule.specs.Sends.{link_of}
+use Rattle.schedule.specs.{Links.is_usable, Sends.link_of}
 use Rattle.schedule.proofs.judge.first_unlinked.Given as goal
 
 abbrev pub invariant-loop-hop : goal.invariant-loop-hop

@@ -1,8 +1,6 @@
 use Rattle.std.proofs.Common.{◌≡◌, ◌∙◌, sym, length, arith}
-use Rattle.schedule.specs.Judging.{first_lacking}
-use Rattle.schedule.specs.Running.{after}
-use Rattle.schedule.proofs.Stepping.{last_chunks, last_nodes, run_last_inside, run_last}
-use Rattle.schedule.proofs.Verdicts.{verdict_fitting}
+use Rattle.schedule.specs.{Judging.first_lacking, Running.after}
+use Rattle.schedule.proofs.{Stepping.{last_chunks, last_nodes, run_last_inside, run_last}, Verdicts.verdict_fitting}
 use Rattle.schedule.proofs.judge.solves_by_run.Goals as goal
 
 pub returns-in-Some : goal.returns-in-Some

@@ -1,7 +1,5 @@
-use Rattle.std.proofs.Common.{◌≡◌, ◌∙◌, ◌+◌, ap, length, map, arith}
-use Rattle.std.specs.List.{range_with_len}
-use Rattle.schedule.specs.Running.{after}
-use Rattle.schedule.proofs.Stepping.{range-after, after_more, run_more}
+use Rattle.std.{proofs.Common.{◌≡◌, ◌∙◌, ◌+◌, ap, length, map, arith}, specs.List.range_with_len}
+use Rattle.schedule.{specs.Running.after, proofs.Stepping.{range-after, after_more, run_more}}
 use Rattle.schedule.proofs.run.run_steps.Goals as goal
 
 pub joined-requires : goal.joined-requires

@@ -1,12 +1,6 @@
-use Rattle.std.proofs.Common.{◌≡◌, ◌+◌, ◌-◌, Bool, true, false, ◌&&◌, get_or, drop, sym, ap, ◌∙◌, subst, arith, rules}
-use Rattle.std.specs.List.{list_all}
-use Rattle.std.proofs.lemmas.List.{at_drop_more}
-use Rattle.std.proofs.lemmas.List.Folds.{list_all_at}
-use Rattle.schedule.specs.declared.hop.Hop.{Hop}
-use Rattle.schedule.specs.Placed.{PlacementValue}
-use Rattle.schedule.specs.Sends.{is_hop_below}
-use Rattle.schedule.specs.Running.{after}
-use Rattle.schedule.specs.Solving.{moves}
+use Rattle.std.{proofs.Common.{◌≡◌, ◌+◌, ◌-◌, Bool, true, false, ◌&&◌, get_or, drop, sym, ap, ◌∙◌, subst, arith, rules}, specs.List.list_all}
+use Rattle.std.proofs.lemmas.List.{at_drop_more, Folds.list_all_at}
+use Rattle.schedule.specs.{declared.hop.Hop.Hop, Placed.PlacementValue, Sends.is_hop_below, Running.after, Solving.moves}
 use Rattle.schedule.proofs.Wasting.{in_run, before_is, hop_in_range}
 use Rattle.schedule.proofs.tight.all_move.Goals as goal
 

@@ -1,7 +1,5 @@
-use Rattle.std.proofs.Common.{◌≡◌, ◌-◌, drop}
-use Rattle.std.specs.List.{list_all}
-use Rattle.schedule.specs.Running.{after}
-use Rattle.schedule.specs.Solving.{moves}
+use Rattle.std.{proofs.Common.{◌≡◌, ◌-◌, drop}, specs.List.list_all}
+use Rattle.schedule.specs.{Running.after, Solving.moves}
 use Rattle.schedule.proofs.tight.all_move.Given as goal
 
 abbrev pub invariant-loop-hop : goal.invariant-loop-hop

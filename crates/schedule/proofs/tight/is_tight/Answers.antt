@@ -1,5 +1,4 @@
-use Rattle.std.proofs.Common.{sym, ◌∙◌}
-use Rattle.std.proofs.lemmas.Bool.{false≢true}
+use Rattle.std.proofs.{Common.{sym, ◌∙◌}, lemmas.Bool.false≢true}
 use Rattle.schedule.proofs.Wasting.{tight_moves}
 use Rattle.schedule.proofs.tight.is_tight.Goals as goal
 

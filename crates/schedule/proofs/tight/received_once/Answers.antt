@@ -1,8 +1,5 @@
-use Rattle.std.proofs.Common.{◌≡◌, true, false, get_or, rules}
-use Rattle.std.proofs.lemmas.Bool.{false≢true}
-use Rattle.schedule.specs.declared.hop.Hop.{Hop}
-use Rattle.schedule.specs.Placed.{holds, with_pair}
-use Rattle.schedule.proofs.Wasting.{to_pair, received_more, received_twice}
+use Rattle.std.proofs.{Common.{◌≡◌, true, false, get_or, rules}, lemmas.Bool.false≢true}
+use Rattle.schedule.{specs.{declared.hop.Hop.Hop, Placed.{holds, with_pair}}, proofs.Wasting.{to_pair, received_more, received_twice}}
 use Rattle.schedule.proofs.tight.received_once.Goals as goal
 
 abbrev none : Hop

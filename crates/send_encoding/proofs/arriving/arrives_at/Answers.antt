@@ -1,9 +1,6 @@
 use Rattle.std.proofs.Common.{◌≡◌, ◌-◌, ◌∷◌, sym, subst, rules}
-use Rattle.cnf_formula.specs.Literals.{negation}
-use Rattle.cnf_formula.specs.Formulas.{IsClause}
-use Rattle.send_encoding.specs.Variables.{IsSendMap, arrival}
-use Rattle.send_encoding.specs.Sending.{sends_into}
-use Rattle.send_encoding.proofs.Within.{arrives_about}
+use Rattle.cnf_formula.specs.{Literals.negation, Formulas.IsClause}
+use Rattle.send_encoding.{specs.{Variables.{IsSendMap, arrival}, Sending.sends_into}, proofs.Within.arrives_about}
 use Rattle.send_encoding.proofs.arriving.arrives_at.Goals as goal
 
 pub add-requires : goal.add-requires

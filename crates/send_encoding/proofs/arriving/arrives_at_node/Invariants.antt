@@ -1,9 +1,6 @@
-use Rattle.std.proofs.Common.{◌≡◌, ◌-◌, ◌∷◌, map}
-use Rattle.std.specs.List.{range_with_len}
-use Rattle.cnf_formula.specs.Literals.{negation}
-use Rattle.cnf_formula.specs.Formulas.{with_clauses}
-use Rattle.send_encoding.specs.Variables.{arrival}
-use Rattle.send_encoding.specs.Sending.{sends_into}
+use Rattle.std.{proofs.Common.{◌≡◌, ◌-◌, ◌∷◌, map}, specs.List.range_with_len}
+use Rattle.cnf_formula.specs.{Literals.negation, Formulas.with_clauses}
+use Rattle.send_encoding.specs.{Variables.arrival, Sending.sends_into}
 use Rattle.send_encoding.proofs.arriving.arrives_at_node.Given as goal
 
 abbrev pub invariant-loop-index : goal.invariant-loop-index

@@ -1,6 +1,4 @@
-use Rattle.std.proofs.Common.{◌≡◌, ◌++◌, ◌==◌, map, take}
-use Rattle.std.specs.Prelude.{filter}
-use Rattle.std.specs.List.{enumerate_from}
+use Rattle.std.{proofs.Common.{◌≡◌, ◌++◌, ◌==◌, map, take, filter}, specs.List.enumerate_from}
 use Rattle.send_encoding.specs.Variables.{sent}
 use Rattle.send_encoding.proofs.arriving.push_sends_into.Given as goal
 

@@ -1,7 +1,6 @@
 use Rattle.std.specs.List.{flat_map}
 use Rattle.cnf_formula.proofs.Growing.{grows_numbered, grown_numbered}
-use Rattle.send_encoding.specs.Variables.{steps_of}
-use Rattle.send_encoding.specs.Sending.{send_over}
+use Rattle.send_encoding.specs.{Variables.steps_of, Sending.send_over}
 use Rattle.send_encoding.proofs.arriving.sends_of_chunk.Goals as goal
 
 pub loop-number-preserved : goal.loop-number-preserved

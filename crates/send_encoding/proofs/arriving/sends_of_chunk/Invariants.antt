@@ -1,8 +1,6 @@
-use Rattle.std.proofs.Common.{◌≡◌, take}
-use Rattle.std.specs.List.{flat_map, enumerate_from}
+use Rattle.std.{proofs.Common.{◌≡◌, take}, specs.List.{flat_map, enumerate_from}}
 use Rattle.cnf_formula.specs.Formulas.{with_clauses}
-use Rattle.send_encoding.specs.Variables.{steps_of}
-use Rattle.send_encoding.specs.Sending.{send_over}
+use Rattle.send_encoding.specs.{Variables.steps_of, Sending.send_over}
 use Rattle.send_encoding.proofs.arriving.sends_of_chunk.Given as goal
 
 abbrev pub invariant-loop-number : goal.invariant-loop-number

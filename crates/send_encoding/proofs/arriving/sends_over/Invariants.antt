@@ -1,5 +1,4 @@
-use Rattle.std.proofs.Common.{◌≡◌}
-use Rattle.std.specs.List.{flat_map, range_with_len}
+use Rattle.std.{proofs.Common.◌≡◌, specs.List.{flat_map, range_with_len}}
 use Rattle.cnf_formula.specs.Formulas.{with_clauses}
 use Rattle.send_encoding.specs.Sending.{send_over}
 use Rattle.send_encoding.proofs.arriving.sends_over.Given as goal

@@ -1,7 +1,5 @@
-use Rattle.std.proofs.Common.{◌≡◌, ◌++◌}
-use Rattle.std.specs.List.{flat_map, range_with_len}
-use Rattle.send_encoding.specs.Variables.{numbered_links}
-use Rattle.send_encoding.specs.Sent.{hop_over}
+use Rattle.std.{proofs.Common.{◌≡◌, ◌++◌}, specs.List.{flat_map, range_with_len}}
+use Rattle.send_encoding.specs.{Variables.numbered_links, Sent.hop_over}
 use Rattle.send_encoding.proofs.decoding.push_sends_at.Given as goal
 
 abbrev pub invariant-loop-chunk : goal.invariant-loop-chunk

@@ -1,9 +1,6 @@
-use Rattle.std.proofs.Common.{◌++◌, ◌≤◌, length, arith, ap, ◌∙◌}
-use Rattle.std.specs.List.{flat_map, enumerate_from}
-use Rattle.std.proofs.lemmas.List.{take_all}
+use Rattle.std.{proofs.{Common.{◌++◌, ◌≤◌, length, arith, ap, ◌∙◌}, lemmas.List.take_all}, specs.List.{flat_map, enumerate_from}}
 use Rattle.std.proofs.lemmas.List.FromFn.{length-enumerate_from}
-use Rattle.send_encoding.specs.Sent.{hop_over}
-use Rattle.send_encoding.proofs.Picking.{appends_numbered}
+use Rattle.send_encoding.{specs.Sent.hop_over, proofs.Picking.appends_numbered}
 use Rattle.send_encoding.proofs.decoding.push_sends_of.Goals as goal
 
 pub loop-number-preserved : goal.loop-number-preserved

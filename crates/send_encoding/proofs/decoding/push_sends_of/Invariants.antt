@@ -1,5 +1,4 @@
-use Rattle.std.proofs.Common.{◌≡◌, ◌++◌, take}
-use Rattle.std.specs.List.{flat_map, enumerate_from}
+use Rattle.std.{proofs.Common.{◌≡◌, ◌++◌, take}, specs.List.{flat_map, enumerate_from}}
 use Rattle.send_encoding.specs.Sent.{hop_over}
 use Rattle.send_encoding.proofs.decoding.push_sends_of.Given as goal
 

@@ -1,5 +1,4 @@
-use Rattle.std.proofs.Common.{◌≡◌, ◌+◌, drop}
-use Rattle.std.specs.List.{position_or_len}
+use Rattle.std.{proofs.Common.{◌≡◌, ◌+◌, drop}, specs.List.position_or_len}
 use Rattle.schedule.specs.Placed.{same_pair}
 use Rattle.send_encoding.proofs.link_numbers.place_in.Given as goal
 

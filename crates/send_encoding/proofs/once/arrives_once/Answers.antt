@@ -1,6 +1,5 @@
 use Rattle.std.proofs.Common.{◌≡◌, arith}
-use Rattle.send_encoding.specs.inner.Parts.{node_once}
-use Rattle.send_encoding.proofs.Picking.{pairs_of_loops}
+use Rattle.send_encoding.{specs.inner.Parts.node_once, proofs.Picking.pairs_of_loops}
 use Rattle.send_encoding.proofs.once.arrives_once.Goals as goal
 
 pub returns : goal.returns

@@ -1,8 +1,6 @@
 use Rattle.std.proofs.Common.{◌≡◌, sym, subst, rules}
 use Rattle.cnf_formula.specs.Formulas.{IsClause}
-use Rattle.send_encoding.specs.Variables.{IsSendMap}
-use Rattle.send_encoding.specs.Sending.{sends_into}
-use Rattle.send_encoding.proofs.Within.{into_within}
+use Rattle.send_encoding.{specs.{Variables.IsSendMap, Sending.sends_into}, proofs.Within.into_within}
 use Rattle.send_encoding.proofs.once.once_at.Goals as goal
 
 pub at_most_one-requires : goal.at_most_one-requires

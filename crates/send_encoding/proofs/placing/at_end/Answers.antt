@@ -1,9 +1,7 @@
 use Rattle.std.proofs.Common.{◌≡◌, ◌∷◌, [], arith, sym, ap, ◌∙◌}
 use Rattle.schedule.specs.Placed.{holds}
 use Rattle.cnf_formula.specs.Formulas.{with_clauses}
-use Rattle.send_encoding.specs.Variables.{arrival, pairs_of}
-use Rattle.send_encoding.specs.inner.Parts.{node_ends}
-use Rattle.send_encoding.proofs.Picking.{pairs_of_loops, picked_flat}
+use Rattle.send_encoding.{specs.{Variables.{arrival, pairs_of}, inner.Parts.node_ends}, proofs.Picking.{pairs_of_loops, picked_flat}}
 use Rattle.send_encoding.proofs.placing.at_end.Goals as goal
 
 pub returns : goal.returns

@@ -1,12 +1,7 @@
-use Rattle.std.proofs.Common.{◌≡◌, ◌∷◌, [], arith, ap, ◌∙◌}
-use Rattle.std.specs.Prelude.{if◌then◌else◌}
-use Rattle.std.proofs.lemmas.List.Concat.{flat_map_single}
+use Rattle.std.proofs.{Common.{◌≡◌, ◌∷◌, [], arith, ap, ◌∙◌, if◌then◌else◌}, lemmas.List.Concat.flat_map_single}
 use Rattle.schedule.specs.Placed.{holds}
-use Rattle.cnf_formula.specs.Literals.{negation}
-use Rattle.cnf_formula.specs.Formulas.{with_clauses}
-use Rattle.send_encoding.specs.Variables.{arrival, pairs_of}
-use Rattle.send_encoding.specs.inner.Parts.{node_starts}
-use Rattle.send_encoding.proofs.Picking.{pairs_of_loops}
+use Rattle.cnf_formula.specs.{Literals.negation, Formulas.with_clauses}
+use Rattle.send_encoding.{specs.{Variables.{arrival, pairs_of}, inner.Parts.node_starts}, proofs.Picking.pairs_of_loops}
 use Rattle.send_encoding.proofs.placing.at_start.Goals as goal
 
 pub returns : goal.returns

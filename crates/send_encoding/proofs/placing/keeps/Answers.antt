@@ -1,6 +1,5 @@
 use Rattle.std.proofs.Common.{◌≡◌, arith}
-use Rattle.send_encoding.specs.inner.Parts.{node_keeps}
-use Rattle.send_encoding.proofs.Picking.{pairs_of_loops}
+use Rattle.send_encoding.{specs.inner.Parts.node_keeps, proofs.Picking.pairs_of_loops}
 use Rattle.send_encoding.proofs.placing.keeps.Goals as goal
 
 pub returns : goal.returns

@@ -1,7 +1,5 @@
-use Rattle.std.proofs.Common.{◌++◌}
-use Rattle.std.proofs.lemmas.Result.{on_ok_weaker}
-use Rattle.send_encoding.specs.Sending.{at_start, keeps, at_end, sends_arrive, arrives_by_sends, arrives_once}
-use Rattle.send_encoding.proofs.Picking.{with_both}
+use Rattle.std.proofs.{Common.◌++◌, lemmas.Result.on_ok_weaker}
+use Rattle.send_encoding.{specs.Sending.{at_start, keeps, at_end, sends_arrive, arrives_by_sends, arrives_once}, proofs.Picking.with_both}
 use Rattle.send_encoding.proofs.sending.add_clauses.Goals as goal
 
 pub returns : goal.returns

@@ -1,10 +1,6 @@
 use Rattle.std.proofs.Common.{◌≡◌, ◌+◌, true, sym, subst, rules}
-use Rattle.cnf_formula.specs.Literals.{all_hold}
-use Rattle.cnf_formula.specs.Formulas.{FormulaValue}
-use Rattle.send_encoding.specs.Variables.{map_of, arrivals, sends}
-use Rattle.send_encoding.specs.Sending.{sending}
-use Rattle.send_encoding.specs.Agreeing.{SatisfiesAs}
-use Rattle.send_encoding.proofs.Decided.{tight_run, run_satisfies}
+use Rattle.cnf_formula.specs.{Literals.all_hold, Formulas.FormulaValue}
+use Rattle.send_encoding.{specs.{Variables.{map_of, arrivals, sends}, Sending.sending, Agreeing.SatisfiesAs}, proofs.Decided.{tight_run, run_satisfies}}
 use Rattle.send_encoding.proofs.sending.encode_sends.Goals as goal
 
 pub returns-clause-tight : goal.returns-clause-tight

@@ -1,17 +1,10 @@
 use Rattle.std.proofs.Common.{◌≡◌, ◌≢◌, ◌==◌, ℕ, ◌+◌, ◌<◌, ◌≤◌, List, [], ◌∷◌, ◌++◌, length, get_or, set, take, sym, ap, ◌∙◌, subst, arith}
-use Rattle.std.proofs.lemmas.List.{get_or-set_other, length-set}
-use Rattle.std.proofs.lemmas.List.Elements.{All-contains, Contains-append_left, Contains-push}
-use Rattle.cnf_formula.specs.Literals.{LitValue, code_of}
-use Rattle.cnf_formula.specs.Formulas.{IsAbout}
-use Rattle.cnf_formula.proofs.Codes.{same_code, code_within}
-use Rattle.trail_core.specs.Watching.{RowValue}
-use Rattle.trail_core.specs.Kept.{IsKept}
-use Rattle.trail_core.specs.Watching.{IsRow, IsWatched, AreLists, occurrences, list_at, AreBlocked, WatchValue, IsOnlyNew}
-use Rattle.trail_core.specs.Search.{clauses_of}
-use Rattle.trail_core.proofs.Watching.{occurs, count_short}
-use Rattle.trail_core.specs.Trails.{lits_of}
+use Rattle.std.proofs.lemmas.List.{get_or-set_other, length-set, Elements.{All-contains, Contains-append_left, Contains-push}}
+use Rattle.cnf_formula.{specs.{Literals.{LitValue, code_of}, Formulas.IsAbout}, proofs.Codes.{same_code, code_within}}
+use Rattle.trail_core.specs.{Watching.{RowValue, IsRow, IsWatched, AreLists, occurrences, list_at, AreBlocked, WatchValue, IsOnlyNew}, Kept.IsKept}
+use Rattle.trail_core.specs.{Search.clauses_of, Trails.lits_of}
+use Rattle.trail_core.proofs.{Watching.{occurs, count_short}, Blocking.{blocked_held, blocked_short}}
 use Rattle.trail_core.proofs.Added.{Put, watched_add, watched_more, own_count, put_short, put_two, kept_add, kept_lists, rows_add, shorts_add, shorts_push, unseen_by}
-use Rattle.trail_core.proofs.Blocking.{blocked_held, blocked_short}
 use Rattle.trail_core.proofs.adding.hold.Goals as goal
 use Rattle.trail_core.proofs.adding.hold.Goals.{After-admit_all}
 

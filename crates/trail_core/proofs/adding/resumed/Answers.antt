@@ -1,9 +1,5 @@
-use Rattle.std.proofs.Common.{◌-◌, length, take, subst, ⊎_elim, arith}
-use Rattle.std.proofs.lemmas.Bool.{cases_lt}
-use Rattle.trail_core.specs.Assigned.{IsFalse}
-use Rattle.trail_core.specs.Trails.{lits_of}
-use Rattle.trail_core.proofs.Keeping.{lits_length}
-use Rattle.trail_core.proofs.Added.{IsOnce, recent_not_below}
+use Rattle.std.proofs.{Common.{◌-◌, length, take, subst, ⊎_elim, arith}, lemmas.Bool.cases_lt}
+use Rattle.trail_core.{specs.{Assigned.IsFalse, Trails.lits_of}, proofs.{Keeping.lits_length, Added.{IsOnce, recent_not_below}}}
 use Rattle.trail_core.proofs.adding.resumed.Goals as goal
 
 pub returns-then-is_false-2-clause-second : goal.returns-then-is_false-2-clause-second

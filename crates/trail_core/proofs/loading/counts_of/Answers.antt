@@ -1,10 +1,5 @@
-use Rattle.std.proofs.Common.{◌==◌, ◌<◌, length, take, sym, arith}
-use Rattle.std.proofs.lemmas.List.{get_or_read, length-take-le}
-use Rattle.std.proofs.lemmas.List.Sums.{count_by-le-length}
-use Rattle.std.proofs.lemmas.List.Elements.{All-contains}
-use Rattle.cnf_formula.specs.Literals.{LitValue, code_of}
-use Rattle.cnf_formula.specs.Formulas.{IsAbout}
-use Rattle.cnf_formula.proofs.Codes.{code_within}
+use Rattle.std.proofs.{Common.{◌==◌, ◌<◌, length, take, sym, arith}, lemmas.List.{get_or_read, length-take-le, Sums.count_by-le-length, Elements.All-contains}}
+use Rattle.cnf_formula.{specs.{Literals.{LitValue, code_of}, Formulas.IsAbout}, proofs.Codes.code_within}
 use Rattle.trail_core.proofs.loading.counts_of.Goals as goal
 
 pub overflow_add-index_mut : goal.overflow_add-index_mut

@@ -1,14 +1,8 @@
-use Rattle.std.proofs.Common.{◌≡◌, ◌≢◌, ◌==◌, ◌<◌, ◌≤◌, ℕ, List, [], ◌∷◌, ◌++◌, length, set, refl, sym, ap, ◌∙◌, subst, arith}
-use Rattle.std.specs.Prelude.{Contains}
-use Rattle.std.proofs.lemmas.List.{get_or_read}
-use Rattle.std.proofs.lemmas.List.Elements.{Contains-append_left, Contains-push, Contains-get_or}
+use Rattle.std.proofs.Common.{◌≡◌, ◌≢◌, ◌==◌, ◌<◌, ◌≤◌, ℕ, List, [], ◌∷◌, ◌++◌, length, set, refl, sym, ap, ◌∙◌, subst, arith, Contains}
+use Rattle.std.proofs.lemmas.List.{get_or_read, Elements.{Contains-append_left, Contains-push, Contains-get_or}}
 use Rattle.cnf_formula.specs.Literals.{LitValue, code_of, yes}
-use Rattle.trail_core.specs.Watching.{WatchValue, list_at, IsOnlyNew, AreBlocked}
-use Rattle.trail_core.specs.Search.{clauses_of}
-use Rattle.trail_core.specs.inner.Begun.{front_row, IsBegun}
-use Rattle.trail_core.proofs.Added.{Put, put_short, put_two, shorts_add, shorts_push}
-use Rattle.trail_core.proofs.Begun.{begun_add, front_own}
-use Rattle.trail_core.proofs.Blocking.{blocked_held, blocked_short}
+use Rattle.trail_core.specs.{Watching.{WatchValue, list_at, IsOnlyNew, AreBlocked}, Search.clauses_of, inner.Begun.{front_row, IsBegun}}
+use Rattle.trail_core.proofs.{Added.{Put, put_short, put_two, shorts_add, shorts_push}, Begun.{begun_add, front_own}, Blocking.{blocked_held, blocked_short}}
 use Rattle.trail_core.proofs.loading.put.Goals as goal
 
 pub returns-in_ok-put_short-clause-begun : goal.returns-in_ok-put_short-clause-begun

@@ -1,11 +1,7 @@
-use Rattle.std.proofs.Common.{◌≡◌, ◌==◌, ◌<◌, ℕ, List, [], ◌∷◌, ◌++◌, map, length, get_or, take, count_by, sym, ap, ◌∙◌, subst, arith}
-use Rattle.std.specs.Prelude.{All}
+use Rattle.std.proofs.Common.{◌≡◌, ◌==◌, ◌<◌, ℕ, List, [], ◌∷◌, ◌++◌, map, length, get_or, take, count_by, sym, ap, ◌∙◌, subst, arith, All}
 use Rattle.std.proofs.lemmas.List.{length-map, length-take-le}
-use Rattle.cnf_formula.specs.Literals.{LitValue, code_of}
-use Rattle.cnf_formula.specs.Formulas.{IsAbout}
-use Rattle.trail_core.specs.inner.Begun.{front_row, IsBegun}
-use Rattle.trail_core.proofs.Storing.{all_joined}
-use Rattle.trail_core.proofs.Begun.{few_front, rows_more}
+use Rattle.cnf_formula.specs.{Literals.{LitValue, code_of}, Formulas.IsAbout}
+use Rattle.trail_core.{specs.inner.Begun.{front_row, IsBegun}, proofs.{Storing.all_joined, Begun.{few_front, rows_more}}}
 use Rattle.trail_core.proofs.loading.watching.Goals as goal
 
 pub counts_of-requires-clause-about : goal.counts_of-requires-clause-about

@@ -1,7 +1,6 @@
 use Rattle.std.proofs.Common.{◌≡◌, ◌⊎◌, ℕ, ◌<◌, get_or}
 use Rattle.cnf_formula.specs.Literals.{LitValue}
-use Rattle.trail_core.specs.Assigned.{IsFalse}
-use Rattle.trail_core.specs.Trails.{lits_of}
+use Rattle.trail_core.specs.{Assigned.IsFalse, Trails.lits_of}
 use Rattle.trail_core.proofs.propagate.another.Given as goal
 
 abbrev pub invariant-loop-lit : goal.invariant-loop-lit

@@ -1,9 +1,6 @@
-use Rattle.std.proofs.Common.{◌≡◌, ◌≢◌, ◌<◌, length, get_or, refl, sym, ap, ◌∙◌, subst, arith}
-use Rattle.std.specs.Prelude.{Contains}
+use Rattle.std.proofs.Common.{◌≡◌, ◌≢◌, ◌<◌, length, get_or, refl, sym, ap, ◌∙◌, subst, arith, Contains}
 use Rattle.cnf_formula.specs.Literals.{LitValue, negation}
-use Rattle.trail_core.specs.Trails.{lits_of}
-use Rattle.trail_core.specs.Search.{Implied, clauses_of}
-use Rattle.trail_core.specs.Kept.{IsDue, IsKept}
+use Rattle.trail_core.specs.{Trails.lits_of, Search.{Implied, clauses_of}, Kept.{IsDue, IsKept}}
 use Rattle.trail_core.proofs.Scans.{implied_trans, implied_grows, lits_same}
 use Rattle.trail_core.proofs.Keeping.{kept_extend, kept_next, scan_due, done_by, nil_limits, stays_at, implied_longer, IsStarted, kept_settled, started_low, started_high}
 use Rattle.trail_core.proofs.propagate.propagate_all.Goals as goal

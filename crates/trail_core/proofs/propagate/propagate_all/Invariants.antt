@@ -1,7 +1,5 @@
 use Rattle.std.proofs.Common.{◌≡◌, ◌-◌}
-use Rattle.trail_core.specs.Trails.{lits_of}
-use Rattle.trail_core.specs.Search.{Implied, clauses_of}
-use Rattle.trail_core.specs.Kept.{IsDue, IsKept, ShortTrue}
+use Rattle.trail_core.specs.{Trails.lits_of, Search.{Implied, clauses_of}, Kept.{IsDue, IsKept, ShortTrue}}
 use Rattle.trail_core.proofs.propagate.propagate_all.Given as goal
 
 abbrev pub invariant-loop-at : goal.invariant-loop-at

@@ -1,12 +1,7 @@
-use Rattle.std.proofs.Common.{◌≡◌, ◌-◌, ◌<◌, get_or, refl, sym, ap, ◌∙◌, subst, inl, inr, ⊎_elim, arith}
-use Rattle.std.proofs.lemmas.Bool.{cases_lt}
+use Rattle.std.proofs.{Common.{◌≡◌, ◌-◌, ◌<◌, get_or, refl, sym, ap, ◌∙◌, subst, inl, inr, ⊎_elim, arith}, lemmas.Bool.cases_lt}
 use Rattle.cnf_formula.specs.Literals.{negation, code_of}
-use Rattle.trail_core.specs.Trails.{lits_of}
-use Rattle.trail_core.specs.Watching.{watch_count, row_at, list_at}
-use Rattle.trail_core.specs.Search.{IsSatisfied}
-use Rattle.trail_core.proofs.Watching.{watch_entry}
-use Rattle.trail_core.proofs.Visits.{scanned_same}
-use Rattle.trail_core.proofs.Scans.{implied_grows, scanned_trans, satisfied_grows}
+use Rattle.trail_core.specs.{Trails.lits_of, Watching.{watch_count, row_at, list_at}, Search.IsSatisfied}
+use Rattle.trail_core.proofs.{Watching.watch_entry, Visits.scanned_same, Scans.{implied_grows, scanned_trans, satisfied_grows}}
 use Rattle.trail_core.proofs.propagate.scan.Goals as goal
 
 pub loop-place-init : goal.loop-place-init

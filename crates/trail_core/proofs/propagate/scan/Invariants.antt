@@ -1,10 +1,6 @@
 use Rattle.std.proofs.Common.{◌≡◌, ◌⊎◌, ℕ, ◌<◌, ◌≤◌, length, get_or}
-use Rattle.cnf_formula.specs.Literals.{code_of}
-use Rattle.cnf_formula.specs.Formulas.{IsAbout}
-use Rattle.trail_core.specs.Assigned.{IsFalse}
-use Rattle.trail_core.specs.Trails.{lits_of}
-use Rattle.trail_core.specs.Watching.{watch_count, row_at, list_at}
-use Rattle.trail_core.specs.Search.{CanScan, Scanned, IsSatisfied}
+use Rattle.cnf_formula.specs.{Literals.code_of, Formulas.IsAbout}
+use Rattle.trail_core.specs.{Assigned.IsFalse, Trails.lits_of, Watching.{watch_count, row_at, list_at}, Search.{CanScan, Scanned, IsSatisfied}}
 use Rattle.trail_core.proofs.propagate.scan.Given as goal
 
 abbrev pub invariant-loop-place : goal.invariant-loop-place

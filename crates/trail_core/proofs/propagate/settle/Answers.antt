@@ -1,14 +1,7 @@
-use Rattle.std.proofs.Common.{◌≡◌, ◌≤◌, List, [], Some, length, get_or, refl, sym, ap, ◌∙◌, subst, inl, arith}
-use Rattle.std.specs.Prelude.{Contains}
-use Rattle.std.proofs.lemmas.Bool.{false≢true}
-use Rattle.std.proofs.lemmas.List.Elements.{Contains-push}
-use Rattle.std.proofs.lemmas.List.{length-map, get_or_default}
+use Rattle.std.proofs.{Common.{◌≡◌, ◌≤◌, List, [], Some, length, get_or, refl, sym, ap, ◌∙◌, subst, inl, arith, Contains}, lemmas.Bool.false≢true}
+use Rattle.std.proofs.lemmas.List.{length-map, get_or_default, Elements.Contains-push}
 use Rattle.cnf_formula.specs.Literals.{LitValue}
-use Rattle.trail_core.specs.Trails.{lits_of}
-use Rattle.trail_core.specs.Watching.{no_row}
-use Rattle.trail_core.specs.Search.{IsUnit, Implied, clauses_of}
-use Rattle.trail_core.specs.Search.Implied.{none, more}
-use Rattle.trail_core.specs.Kept.{IsDue}
+use Rattle.trail_core.specs.{Trails.lits_of, Watching.no_row, Search.{IsUnit, Implied, clauses_of, Implied.{none, more}}, Kept.IsDue}
 use Rattle.trail_core.proofs.Visits.{lits_at, lits_push}
 use Rattle.trail_core.proofs.propagate.settle.Goals as goal
 

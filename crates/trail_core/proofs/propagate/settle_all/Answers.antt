@@ -1,11 +1,5 @@
-use Rattle.std.proofs.Common.{◌≡◌, get_or, refl, sym, ap, ◌∙◌, subst, ⊎_elim, arith}
-use Rattle.std.proofs.lemmas.Bool.{cases_lt}
-use Rattle.std.proofs.lemmas.List.{get_or_default}
-use Rattle.trail_core.specs.Trails.{lits_of}
-use Rattle.trail_core.specs.Watching.{row_at, AreRows}
-use Rattle.trail_core.specs.Search.{IsSatisfied}
-use Rattle.trail_core.specs.Search.Implied.{none}
-use Rattle.trail_core.proofs.Scans.{implied_trans, implied_grows}
+use Rattle.std.proofs.{Common.{◌≡◌, get_or, refl, sym, ap, ◌∙◌, subst, ⊎_elim, arith}, lemmas.{Bool.cases_lt, List.get_or_default}}
+use Rattle.trail_core.{specs.{Trails.lits_of, Watching.{row_at, AreRows}, Search.{IsSatisfied, Implied.none}}, proofs.Scans.{implied_trans, implied_grows}}
 use Rattle.trail_core.proofs.propagate.settle_all.Goals as goal
 
 pub loop-id-init : goal.loop-id-init

@@ -1,8 +1,5 @@
 use Rattle.std.proofs.Common.{◌≡◌, ℕ, ◌<◌, [], get_or}
-use Rattle.trail_core.specs.Trails.{lits_of}
-use Rattle.trail_core.specs.Watching.{row_at, AreRows}
-use Rattle.trail_core.specs.Search.{IsSatisfied, Implied, clauses_of}
-use Rattle.trail_core.specs.Kept.{IsDue}
+use Rattle.trail_core.specs.{Trails.lits_of, Watching.{row_at, AreRows}, Search.{IsSatisfied, Implied, clauses_of}, Kept.IsDue}
 use Rattle.trail_core.proofs.propagate.settle_all.Given as goal
 
 abbrev pub invariant-loop-id : goal.invariant-loop-id

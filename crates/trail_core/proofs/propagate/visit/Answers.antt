@@ -1,14 +1,8 @@
-use Rattle.std.proofs.Common.{◌≡◌, ℕ, ◌<◌, true, [], ◌∷◌, ◌++◌, Some, length, sym, ap, ◌∙◌, subst, inl, inr, ⊎_elim, arith}
-use Rattle.std.specs.Prelude.{Contains}
-use Rattle.std.proofs.lemmas.Bool.{false≢true}
+use Rattle.std.proofs.{Common.{◌≡◌, ℕ, ◌<◌, true, [], ◌∷◌, ◌++◌, Some, length, sym, ap, ◌∙◌, subst, inl, inr, ⊎_elim, arith, Contains}, lemmas.Bool.false≢true}
 use Rattle.std.proofs.lemmas.List.Elements.{Contains-push}
 use Rattle.cnf_formula.specs.Literals.{LitValue}
-use Rattle.trail_core.specs.Assigned.{IsFalse, IsOpen}
-use Rattle.trail_core.specs.Trails.{TrailValue, lits_of}
-use Rattle.trail_core.specs.Watching.{row_at}
-use Rattle.trail_core.specs.Search.{IsSatisfied}
-use Rattle.trail_core.proofs.Visits.{scanned_same, lits_push, pushed_scanned}
-use Rattle.trail_core.proofs.Blocking.{Visited, visited_by}
+use Rattle.trail_core.specs.{Assigned.{IsFalse, IsOpen}, Trails.{TrailValue, lits_of}, Watching.row_at, Search.IsSatisfied}
+use Rattle.trail_core.proofs.{Visits.{scanned_same, lits_push, pushed_scanned}, Blocking.{Visited, visited_by}}
 use Rattle.trail_core.proofs.propagate.visit.Goals as goal
 use Rattle.trail_core.proofs.propagate.visit.Goals.{After-entry-watch}
 

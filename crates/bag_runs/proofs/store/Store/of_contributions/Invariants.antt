@@ -1,7 +1,5 @@
-use Rattle.std.proofs.Common.{◌≡◌, map}
-use Rattle.std.specs.List.{AllByRecursion}
-use Rattle.schedule.specs.Placed.{all_pairs}
-use Rattle.schedule.specs.Bags.{contributions, held_at_2}
+use Rattle.std.{proofs.Common.{◌≡◌, map}, specs.List.AllByRecursion}
+use Rattle.schedule.specs.{Placed.all_pairs, Bags.{contributions, held_at_2}}
 use Rattle.bag_runs.specs.Kept.{IsHeld, counted}
 use Rattle.bag_runs.proofs.store.Store.of_contributions.Given as goal
 

@@ -1,6 +1,5 @@
 use Rattle.std.proofs.Common.{◌≡◌, ◌∙◌, ap, map, arith}
-use Rattle.schedule.specs.Bags.{held_at_2, of_placement}
-use Rattle.schedule.specs.Placed.{all_pairs}
+use Rattle.schedule.specs.{Bags.{held_at_2, of_placement}, Placed.all_pairs}
 use Rattle.bag_runs.proofs.Storing.{filled_all, row_pushed}
 use Rattle.bag_runs.proofs.store.Store.of_placement.Goals as goal
 

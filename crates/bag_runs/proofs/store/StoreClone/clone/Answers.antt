@@ -1,5 +1,4 @@
-use Rattle.std.proofs.Common.{◌≡◌, ap, ◌∙◌}
-use Rattle.std.proofs.lemmas.List.Elements.{same_from_all_zip}
+use Rattle.std.proofs.{Common.{◌≡◌, ap, ◌∙◌}, lemmas.List.Elements.same_from_all_zip}
 use Rattle.bag_runs.proofs.Storing.{store_stored, value}
 use Rattle.bag_runs.proofs.store.StoreClone.clone.Goals as goal
 

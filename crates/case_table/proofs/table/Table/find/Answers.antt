@@ -1,6 +1,5 @@
 use Rattle.std.proofs.Common.{◌∙◌, IsTrue, ℕ, List, subst}
-use Rattle.case_table.specs.Rows.{is_one_to_one}
-use Rattle.case_table.proofs.Tables.{value_shown, value_some, value_none, value_undone}
+use Rattle.case_table.{specs.Rows.is_one_to_one, proofs.Tables.{value_shown, value_some, value_none, value_undone}}
 use Rattle.case_table.proofs.table.Table.find.Goals as goal
 
 pub returns-clause-value : goal.returns-clause-value

@@ -1,7 +1,5 @@
-use Rattle.std.proofs.Common.{◌≡◌, ◌≢◌, ◌∙◌, IsTrue, ℕ, List, subst, ap, All, Contains, Some}
-use Rattle.std.specs.Option.{option_copied}
-use Rattle.case_table.specs.Rows.{is_one_to_one, value_at, word_at}
-use Rattle.case_table.proofs.Tables.{word_shown, word_some, word_none, word_undone, lent_some, lent_none}
+use Rattle.std.{proofs.Common.{◌≡◌, ◌≢◌, ◌∙◌, IsTrue, ℕ, List, subst, ap, All, Contains, Some}, specs.Option.option_copied}
+use Rattle.case_table.{specs.Rows.{is_one_to_one, value_at, word_at}, proofs.Tables.{word_shown, word_some, word_none, word_undone, lent_some, lent_none}}
 use Rattle.case_table.proofs.table.Table.word_of.Goals as goal
 
 pub returns-clause-word : goal.returns-clause-word

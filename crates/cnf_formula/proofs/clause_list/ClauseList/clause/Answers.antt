@@ -1,6 +1,4 @@
-use Rattle.std.proofs.Common.{◌≡◌, ◌<◌, [], ◌∷◌, length, get_or, sym, ap, ◌∙◌, arith}
-use Rattle.std.specs.Prelude.{slice_range}
-use Rattle.std.proofs.lemmas.List.{get_or_read}
+use Rattle.std.proofs.{Common.{◌<◌, [], ◌∷◌, length, get_or, sym, ap, ◌∙◌, arith, slice_range}, lemmas.List.get_or_read}
 use Rattle.cnf_formula.proofs.Lying.{cut_long, cut_at, ends_at}
 use Rattle.cnf_formula.proofs.clause_list.ClauseList.clause.Goals as goal
 

@@ -1,5 +1,4 @@
-use Rattle.std.proofs.Common.{sym, ap, ◌∙◌}
-use Rattle.std.specs.Prelude.{flat_map}
+use Rattle.std.proofs.Common.{sym, ap, ◌∙◌, flat_map}
 use Rattle.cnf_formula.proofs.Lying.{cut_joined}
 use Rattle.cnf_formula.proofs.clause_list.ClauseList.lits.Goals as goal
 

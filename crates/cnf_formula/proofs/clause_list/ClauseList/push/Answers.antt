@@ -1,7 +1,5 @@
-use Rattle.std.proofs.Common.{◌≡◌, ◌+◌, [], ◌∷◌, ◌++◌, length, sym, ap, ◌∙◌, subst, arith}
-use Rattle.std.proofs.lemmas.List.{length-append}
-use Rattle.cnf_formula.specs.inner.Lying.{cut, AreEnds}
-use Rattle.cnf_formula.proofs.Lying.{cut_push, ends_push}
+use Rattle.std.proofs.{Common.{◌≡◌, ◌+◌, [], ◌∷◌, ◌++◌, length, sym, ap, ◌∙◌, subst, arith}, lemmas.List.length-append}
+use Rattle.cnf_formula.{specs.inner.Lying.{cut, AreEnds}, proofs.Lying.{cut_push, ends_push}}
 use Rattle.cnf_formula.proofs.clause_list.ClauseList.push.Goals as goal
 
 pub invariant_of-self-2 : goal.invariant_of-self-2

@@ -1,5 +1,4 @@
-use Rattle.std.proofs.Common.{◌≡◌, drop}
-use Rattle.std.specs.List.{list_all}
+use Rattle.std.{proofs.Common.{◌≡◌, drop}, specs.List.list_all}
 use Rattle.cnf_formula.specs.Literals.{clause_holds}
 use Rattle.cnf_formula.proofs.formula.Formula.clauses_hold.Given as goal
 

@@ -1,9 +1,5 @@
-use Rattle.std.proofs.Common.{◌≡◌, [], map, length, sym, subst, arith}
-use Rattle.std.proofs.lemmas.Bool.Decides.{nat_tests}
-use Rattle.std.proofs.lemmas.List.{nil_from_length}
-use Rattle.ledger_rules.specs.Logs.{learned}
-use Rattle.ledger_rules.specs.inner.Stored.{line_in}
-use Rattle.ledger_rules.proofs.Storing.{none_learned}
+use Rattle.std.proofs.{Common.{◌≡◌, [], map, length, sym, subst, arith}, lemmas.{Bool.Decides.nat_tests, List.nil_from_length}}
+use Rattle.ledger_rules.{specs.{Logs.learned, inner.Stored.line_in}, proofs.Storing.none_learned}
 use Rattle.ledger_rules.proofs.line_list.LineList.has_learned.Goals as goal
 
 pub returns : goal.returns

@@ -1,10 +1,6 @@
-use Rattle.std.proofs.Common.{◌≡◌, ℕ, List, [], ◌∷◌, ◌++◌, map, pos, length, ap, ◌∙◌, arith}
-use Rattle.std.proofs.lemmas.List.{length-append}
-use Rattle.cnf_formula.specs.Literals.{LitValue}
-use Rattle.cnf_formula.specs.Lines.{ProofLineValue}
-use Rattle.ledger_rules.specs.declared.line_list.LineRow.{LineRow}
-use Rattle.ledger_rules.specs.inner.Stored.{line_in}
-use Rattle.ledger_rules.proofs.Storing.{IsNext, lines_push}
+use Rattle.std.proofs.{Common.{◌≡◌, ℕ, List, [], ◌∷◌, ◌++◌, map, pos, length, ap, ◌∙◌, arith}, lemmas.List.length-append}
+use Rattle.cnf_formula.specs.{Literals.LitValue, Lines.ProofLineValue}
+use Rattle.ledger_rules.{specs.{declared.line_list.LineRow.LineRow, inner.Stored.line_in}, proofs.Storing.{IsNext, lines_push}}
 use Rattle.ledger_rules.proofs.line_list.LineList.push.Goals as goal
 
 pub returns-clause-added : goal.returns-clause-added

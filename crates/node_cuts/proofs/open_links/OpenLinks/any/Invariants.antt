@@ -1,5 +1,4 @@
-use Rattle.std.proofs.Common.{◌≡◌, drop}
-use Rattle.std.specs.List.{list_any}
+use Rattle.std.{proofs.Common.{◌≡◌, drop}, specs.List.list_any}
 use Rattle.schedule.specs.Tables.{marked_at}
 use Rattle.node_cuts.proofs.open_links.OpenLinks.any.Given as goal
 

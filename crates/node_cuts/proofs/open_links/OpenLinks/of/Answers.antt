@@ -1,5 +1,4 @@
-use Rattle.std.proofs.Common.{false}
-use Rattle.std.proofs.lemmas.List.{length-replicate}
+use Rattle.std.proofs.{Common.false, lemmas.List.length-replicate}
 use Rattle.schedule.proofs.Tabled.{unmarked}
 use Rattle.node_cuts.proofs.open_links.OpenLinks.of.Goals as goal
 

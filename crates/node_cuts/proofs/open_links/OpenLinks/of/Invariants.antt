@@ -1,7 +1,5 @@
-use Rattle.std.proofs.Common.{◌≡◌, length, take}
-use Rattle.std.specs.List.{list_any}
-use Rattle.schedule.specs.Placed.{same_pair}
-use Rattle.schedule.specs.Tables.{Marks}
+use Rattle.std.{proofs.Common.{◌≡◌, length, take}, specs.List.list_any}
+use Rattle.schedule.specs.{Placed.same_pair, Tables.Marks}
 use Rattle.node_cuts.proofs.open_links.OpenLinks.of.Given as goal
 
 abbrev pub invariant-loop-from : goal.invariant-loop-from

@@ -1,9 +1,6 @@
-use Rattle.std.proofs.Common.{◌≡◌, ◌/◌, ◌<◌, ℕ, Bool, true, List, Some, get_or, length, sym, ap, ◌∙◌, ⊎_elim, arith}
-use Rattle.std.proofs.lemmas.Bool.{cases_eq}
+use Rattle.std.proofs.{Common.{◌≡◌, ◌/◌, ◌<◌, ℕ, Bool, true, List, Some, get_or, length, sym, ap, ◌∙◌, ⊎_elim, arith}, lemmas.Bool.cases_eq}
 use Rattle.std.proofs.lemmas.List.{get_or_default}
-use Rattle.node_cuts.specs.declared.measure.Measure.{Measure}
-use Rattle.node_cuts.specs.Tables.{TableValue, cut_at, no_measure}
-use Rattle.node_cuts.proofs.Tabled.{first_in, is_over, none_in}
+use Rattle.node_cuts.{specs.{declared.measure.Measure.Measure, Tables.{TableValue, cut_at, no_measure}}, proofs.Tabled.{first_in, is_over, none_in}}
 use Rattle.node_cuts.proofs.table.CutTable.first_cut.Goals as goal
 
 -- what is told of a measure that was read is told of the one at its place

@@ -1,6 +1,5 @@
 use Rattle.std.proofs.Common.{◌≡◌, ◌<◌, ℕ, false, slice_index_or}
-use Rattle.node_cuts.specs.Tables.{no_measure}
-use Rattle.node_cuts.proofs.Tabled.{is_over}
+use Rattle.node_cuts.{specs.Tables.no_measure, proofs.Tabled.is_over}
 use Rattle.node_cuts.proofs.table.CutTable.first_cut.Given as goal
 
 abbrev pub invariant-loop-place : goal.invariant-loop-place

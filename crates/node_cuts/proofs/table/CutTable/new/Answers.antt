@@ -1,21 +1,10 @@
-use Rattle.std.proofs.Common.{◌≡◌, ◌+◌, ◌++◌, ℕ, List, [], ◌∷◌, get_or, map, take, sym, ap, ◌∙◌, ⊎_elim, subst}
-use Rattle.std.specs.Prelude.{All, MatchOption, Some, filter}
-use Rattle.std.proofs.lemmas.List.{take_all, take_more}
-use Rattle.std.proofs.lemmas.List.Elements.{All-append, All-cons, All-nil}
-use Rattle.std.proofs.lemmas.Simd.{map-map}
-use Rattle.collective_spec.specs.declared.instance.Instance.{Instance}
-use Rattle.collective_spec.specs.Collectives.{kind_in, spec_instance}
-use Rattle.node_cuts.specs.declared.members.Members.{Members}
-use Rattle.node_cuts.specs.declared.members.Members.TheVariants.{Sided}
-use Rattle.node_cuts.specs.declared.side.Side.TheVariants.{One}
-use Rattle.node_cuts.specs.declared.measure.Measure.{Measure}
-use Rattle.node_cuts.specs.declared.floor.Floor.{Floor}
-use Rattle.node_cuts.specs.Sides.{NodeSet, members, node_sets}
-use Rattle.node_cuts.specs.Floors.{first_greatest, floor_of, fraction_of, greater_of, has_need, least_count}
+use Rattle.std.proofs.Common.{◌≡◌, ◌+◌, ◌++◌, ℕ, List, [], ◌∷◌, get_or, map, take, sym, ap, ◌∙◌, ⊎_elim, subst, All, MatchOption, Some, filter}
+use Rattle.std.proofs.lemmas.{List.{take_all, take_more, Elements.{All-append, All-cons, All-nil}}, Simd.map-map}
+use Rattle.collective_spec.specs.{declared.instance.Instance.Instance, Collectives.{kind_in, spec_instance}}
+use Rattle.node_cuts.specs.declared.{members.Members.{Members, TheVariants.Sided}, side.Side.TheVariants.One, measure.Measure.Measure, floor.Floor.Floor}
+use Rattle.node_cuts.specs.{Sides.{NodeSet, members, node_sets}, Floors.{first_greatest, floor_of, fraction_of, greater_of, has_need, least_count}}
 use Rattle.node_cuts.specs.Tables.{IsLow, IsSmall, TableValue, measure_of, table_of}
-use Rattle.node_cuts.proofs.Best.{IsBest, best_is, best_more}
-use Rattle.node_cuts.proofs.Filling.{mapped_more}
-use Rattle.node_cuts.proofs.Tabled.{fraction_told, measure_told}
+use Rattle.node_cuts.proofs.{Best.{IsBest, best_is, best_more}, Filling.mapped_more, Tabled.{fraction_told, measure_told}}
 use Rattle.node_cuts.proofs.table.CutTable.new.Goals as goal
 
 pub loop-set-preserved : goal.loop-set-preserved

@@ -1,9 +1,5 @@
-use Rattle.std.proofs.Common.{◌≡◌, map, take}
-use Rattle.std.specs.Prelude.{All, MatchOption, filter}
-use Rattle.node_cuts.specs.Sides.{members}
-use Rattle.node_cuts.specs.Floors.{fraction_of, has_need}
-use Rattle.node_cuts.specs.Tables.{IsLow, IsSmall, measure_of}
-use Rattle.node_cuts.proofs.Best.{IsBest}
+use Rattle.std.proofs.Common.{◌≡◌, map, take, All, MatchOption, filter}
+use Rattle.node_cuts.{specs.{Sides.members, Floors.{fraction_of, has_need}, Tables.{IsLow, IsSmall, measure_of}}, proofs.Best.IsBest}
 use Rattle.node_cuts.proofs.table.CutTable.new.Given as goal
 
 abbrev pub invariant-loop-set : goal.invariant-loop-set

@@ -1,8 +1,5 @@
-use Rattle.std.proofs.Common.{◌≡◌, ℕ, ◌*◌, sym, ap, ◌∙◌}
-use Rattle.std.specs.Prelude.{nat_lt}
-use Rattle.node_cuts.specs.Floors.{floor_of}
-use Rattle.node_cuts.specs.Tables.{TableValue}
-use Rattle.node_cuts.proofs.Deciding.{floor_decides, is_above}
+use Rattle.std.proofs.Common.{◌≡◌, ℕ, ◌*◌, sym, ap, ◌∙◌, nat_lt}
+use Rattle.node_cuts.{specs.{Floors.floor_of, Tables.TableValue}, proofs.Deciding.{floor_decides, is_above}}
 use Rattle.node_cuts.proofs.table.CutTable.refutes.Goals as goal
 
 -- the same numbers compare alike

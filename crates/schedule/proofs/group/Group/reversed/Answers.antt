@@ -1,7 +1,5 @@
-use Rattle.std.proofs.Common.{◌≡◌, ◌≤◌, List, ℕ, length, map, take, sym, subst, ap, ◌∙◌, rules}
-use Rattle.std.proofs.lemmas.List.{take_all}
-use Rattle.schedule.specs.Links.{GroupValue, IsGroup, turned}
-use Rattle.schedule.proofs.Turned.{turned_group}
+use Rattle.std.proofs.{Common.{◌≡◌, ◌≤◌, List, ℕ, length, map, take, sym, subst, ap, ◌∙◌, rules}, lemmas.List.take_all}
+use Rattle.schedule.{specs.Links.{GroupValue, IsGroup, turned}, proofs.Turned.turned_group}
 use Rattle.schedule.proofs.group.Group.reversed.Goals as goal
 
 pub invariant_of-result : goal.invariant_of-result

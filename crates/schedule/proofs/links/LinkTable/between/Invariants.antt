@@ -1,7 +1,5 @@
-use Rattle.std.proofs.Common.{◌≡◌}
-use Rattle.std.specs.Prelude.{filter}
-use Rattle.schedule.specs.Placed.{all_pairs}
-use Rattle.schedule.specs.Tables.{marked_at}
+use Rattle.std.proofs.Common.{◌≡◌, filter}
+use Rattle.schedule.specs.{Placed.all_pairs, Tables.marked_at}
 use Rattle.schedule.proofs.links.LinkTable.between.Given as goal
 
 abbrev pub invariant-loop-from : goal.invariant-loop-from

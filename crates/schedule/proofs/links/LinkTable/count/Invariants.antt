@@ -1,7 +1,5 @@
-use Rattle.std.proofs.Common.{◌≡◌, take}
-use Rattle.std.specs.List.{count_by}
-use Rattle.schedule.specs.Sends.{link_of}
-use Rattle.schedule.specs.Tables.{marked_at}
+use Rattle.std.{proofs.Common.{◌≡◌, take}, specs.List.count_by}
+use Rattle.schedule.specs.{Sends.link_of, Tables.marked_at}
 use Rattle.schedule.proofs.links.LinkTable.count.Given as goal
 
 abbrev pub invariant-loop-hop : goal.invariant-loop-hop

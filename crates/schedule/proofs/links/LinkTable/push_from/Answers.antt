@@ -1,5 +1,4 @@
-use Rattle.schedule.specs.Tables.{marked_at}
-use Rattle.schedule.proofs.Usable.{row_more}
+use Rattle.schedule.{specs.Tables.marked_at, proofs.Usable.row_more}
 use Rattle.schedule.proofs.links.LinkTable.push_from.Goals as goal
 
 pub loop-to-preserved : goal.loop-to-preserved

@@ -1,7 +1,5 @@
-use Rattle.std.proofs.Common.{take}
-use Rattle.std.specs.List.{list_any}
-use Rattle.schedule.specs.Links.{has_link}
-use Rattle.schedule.specs.Tables.{Marks}
+use Rattle.std.{proofs.Common.take, specs.List.list_any}
+use Rattle.schedule.specs.{Links.has_link, Tables.Marks}
 use Rattle.schedule.proofs.links.LinkTable.usable.Given as goal
 
 abbrev pub invariant-loop-group : goal.invariant-loop-group

@@ -1,7 +1,5 @@
-use Rattle.std.proofs.Common.{◌≡◌, ap, ◌∙◌}
-use Rattle.std.proofs.lemmas.List.Elements.{same_from_all_zip}
-use Rattle.schedule.specs.Cells.{marked}
-use Rattle.schedule.proofs.Marked.{placement-marked}
+use Rattle.std.proofs.{Common.{◌≡◌, ap, ◌∙◌}, lemmas.List.Elements.same_from_all_zip}
+use Rattle.schedule.{specs.Cells.marked, proofs.Marked.placement-marked}
 use Rattle.schedule.proofs.placement.PlacementClone.clone.Goals as goal
 
 pub returns : goal.returns

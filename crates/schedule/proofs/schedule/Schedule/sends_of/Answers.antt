@@ -1,8 +1,6 @@
-use Rattle.std.proofs.Common.{List, leb, ltb, rules}
-use Rattle.std.specs.List.Sorted.{IsNonDecreasingBy}
+use Rattle.std.{proofs.Common.{List, leb, ltb, rules}, specs.List.Sorted.IsNonDecreasingBy}
 use Rattle.std.proofs.lemmas.List.Sorted.{IsPartitionedBy-leb, IsPartitionedBy-ltb, IsPartitionPoint-from_clause, IsNonDecreasingBy-take}
-use Rattle.schedule.specs.declared.hop.Hop.{Hop}
-use Rattle.schedule.proofs.Steps.{step_found, steps_ascend}
+use Rattle.schedule.{specs.declared.hop.Hop.Hop, proofs.Steps.{step_found, steps_ascend}}
 use Rattle.schedule.proofs.schedule.Schedule.sends_of.Goals as goal
 
 pub returns-clause-sends : goal.returns-clause-sends

@@ -1,7 +1,5 @@
-use Rattle.std.proofs.Common.{◌≡◌, ◌≤◌, List, length, map, take, sym, subst, ap, ◌∙◌, rules}
-use Rattle.std.proofs.lemmas.List.{take_all}
-use Rattle.schedule.specs.Links.{GroupValue, TopologyValue, IsTopology, reversed_group}
-use Rattle.schedule.proofs.Turned.{turned_topology}
+use Rattle.std.proofs.{Common.{◌≡◌, ◌≤◌, List, length, map, take, sym, subst, ap, ◌∙◌, rules}, lemmas.List.take_all}
+use Rattle.schedule.{specs.Links.{GroupValue, TopologyValue, IsTopology, reversed_group}, proofs.Turned.turned_topology}
 use Rattle.schedule.proofs.topology.Topology.reversed.Goals as goal
 
 pub invariant_of-result : goal.invariant_of-result

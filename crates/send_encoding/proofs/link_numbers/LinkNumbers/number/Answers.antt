@@ -1,5 +1,4 @@
-use Rattle.std.proofs.Common.{◌≡◌, ap, ◌∙◌}
-use Rattle.std.specs.List.{position_or_len}
+use Rattle.std.{proofs.Common.{◌≡◌, ap, ◌∙◌}, specs.List.position_or_len}
 use Rattle.schedule.specs.Placed.{same_pair}
 use Rattle.send_encoding.proofs.Places.{numbered}
 use Rattle.send_encoding.proofs.link_numbers.LinkNumbers.number.Goals as goal

@@ -1,5 +1,4 @@
-use Rattle.std.proofs.Common.{◌≡◌, ◌/◌, ◌%◌, map}
-use Rattle.std.specs.List.{position_or_len, range_with_len}
+use Rattle.std.{proofs.Common.{◌≡◌, ◌/◌, ◌%◌, map}, specs.List.{position_or_len, range_with_len}}
 use Rattle.schedule.specs.Placed.{same_pair}
 use Rattle.send_encoding.proofs.link_numbers.LinkNumbers.of.Given as goal
 

@@ -1,6 +1,5 @@
 use Rattle.std.proofs.Common.{◌≡◌, ◌+◌, ◌≤◌, sym, subst, rules}
-use Rattle.send_encoding.specs.Variables.{arrival, arrivals, sends}
-use Rattle.send_encoding.proofs.Within.{arrival_within}
+use Rattle.send_encoding.{specs.Variables.{arrival, arrivals, sends}, proofs.Within.arrival_within}
 use Rattle.send_encoding.proofs.send_map.SendMap.arrival.Goals as goal
 
 pub returns-clause-within : goal.returns-clause-within

@@ -1,7 +1,6 @@
 use Rattle.std.proofs.Common.{◌≡◌, ℕ, List, sym, ap, ◌∙◌, subst, arith, rules}
 use Rattle.schedule.specs.Links.{usable_links}
-use Rattle.send_encoding.specs.Variables.{SendMapValue, IsSendMap}
-use Rattle.send_encoding.proofs.Mapped.{links_make_map}
+use Rattle.send_encoding.{specs.Variables.{SendMapValue, IsSendMap}, proofs.Mapped.links_make_map}
 use Rattle.send_encoding.proofs.send_map.SendMap.of.Goals as goal
 
 pub invariant_of-result : goal.invariant_of-result

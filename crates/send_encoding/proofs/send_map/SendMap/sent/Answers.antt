@@ -1,8 +1,6 @@
-use Rattle.std.proofs.Common.{◌<◌, ◌≤◌, length, refl, arith, rules}
-use Rattle.std.proofs.lemmas.Bool.{false≢true}
+use Rattle.std.proofs.{Common.{◌<◌, ◌≤◌, length, refl, arith, rules}, lemmas.Bool.false≢true}
 use Rattle.schedule.specs.Placed.{same_pair}
-use Rattle.send_encoding.specs.Variables.{number_of}
-use Rattle.send_encoding.proofs.Everywhere.{place_below, below_listed}
+use Rattle.send_encoding.{specs.Variables.number_of, proofs.Everywhere.{place_below, below_listed}}
 use Rattle.send_encoding.proofs.send_map.SendMap.sent.Goals as goal
 
 pub returns-then-number-len-clause-usable : goal.returns-then-number-len-clause-usable

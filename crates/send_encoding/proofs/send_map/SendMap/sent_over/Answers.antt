@@ -1,6 +1,5 @@
 use Rattle.std.proofs.Common.{◌≡◌, ◌+◌, ◌*◌, ◌-◌, ◌<◌, ◌≤◌, arith, sym, subst, rules}
-use Rattle.send_encoding.specs.Variables.{arrivals, sent, sends}
-use Rattle.send_encoding.proofs.Within.{sent_within}
+use Rattle.send_encoding.{specs.Variables.{arrivals, sent, sends}, proofs.Within.sent_within}
 use Rattle.send_encoding.proofs.send_map.SendMap.sent_over.Goals as goal
 
 pub new-requires : goal.new-requires

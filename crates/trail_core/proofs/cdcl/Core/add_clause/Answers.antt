@@ -1,7 +1,5 @@
 use Rattle.std.proofs.Common.{sym, ap, subst}
-use Rattle.trail_core.specs.Trails.{TrailValue}
-use Rattle.trail_core.specs.Meaning.{CoreValue}
-use Rattle.trail_core.specs.Kept.{CanAddTo}
+use Rattle.trail_core.specs.{Trails.TrailValue, Meaning.CoreValue, Kept.CanAddTo}
 use Rattle.trail_core.proofs.cdcl.Core.add_clause.Goals as goal
 
 pub hold-requires-clause-place : goal.hold-requires-clause-place

@@ -1,14 +1,7 @@
-use Rattle.std.proofs.Common.{ℕ, ◌<◌, [], ◌∷◌, ◌++◌, Some, length, get_or, sym, ap, subst, arith}
-use Rattle.std.specs.Prelude.{Contains}
-use Rattle.std.proofs.lemmas.List.{length-map}
-use Rattle.std.proofs.lemmas.List.Elements.{All-contains}
+use Rattle.std.proofs.{Common.{ℕ, ◌<◌, [], ◌∷◌, ◌++◌, Some, length, get_or, sym, ap, subst, arith, Contains}, lemmas.List.{length-map, Elements.All-contains}}
 use Rattle.cnf_formula.specs.Formulas.{IsAbout}
-use Rattle.trail_core.specs.Trails.{TrailValue, lits_of}
-use Rattle.trail_core.specs.Watching.{row_at}
-use Rattle.trail_core.specs.Search.{IsUnit, clauses_of}
-use Rattle.trail_core.specs.Kept.{IsDue, IsKept}
-use Rattle.trail_core.proofs.Visits.{lits_at}
-use Rattle.trail_core.proofs.Levels.{kept_assert}
+use Rattle.trail_core.specs.{Trails.{TrailValue, lits_of}, Watching.row_at, Search.{IsUnit, clauses_of}, Kept.{IsDue, IsKept}}
+use Rattle.trail_core.proofs.{Visits.lits_at, Levels.kept_assert}
 use Rattle.trail_core.proofs.cdcl.Core.assert.Goals as goal
 
 pub push-requires-clause-within : goal.push-requires-clause-within

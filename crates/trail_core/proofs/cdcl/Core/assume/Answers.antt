@@ -1,12 +1,7 @@
 use Rattle.std.proofs.Common.{◌≡◌, ℕ, List, [], ◌∷◌, ◌++◌, None, length, sym, ap, ◌∙◌, subst}
 use Rattle.cnf_formula.specs.Literals.{LitValue}
-use Rattle.trail_core.specs.Assigned.{IsOpen}
-use Rattle.trail_core.specs.Trails.{StepValue, lits_of}
-use Rattle.trail_core.specs.Search.{clauses_of}
-use Rattle.trail_core.specs.Meaning.{CoreValue, IsClosed}
-use Rattle.trail_core.specs.Kept.{IsKept}
-use Rattle.trail_core.proofs.Keeping.{implied_closed}
-use Rattle.trail_core.proofs.Levels.{done_closed, kept_decide}
+use Rattle.trail_core.specs.{Assigned.IsOpen, Trails.{StepValue, lits_of}, Search.clauses_of, Meaning.{CoreValue, IsClosed}, Kept.IsKept}
+use Rattle.trail_core.proofs.{Keeping.implied_closed, Levels.{done_closed, kept_decide}}
 use Rattle.trail_core.proofs.cdcl.Core.assume.Goals as goal
 use Rattle.trail_core.proofs.cdcl.Core.assume.Goals.{After-propagate_all-closed}
 

@@ -1,7 +1,5 @@
 use Rattle.std.proofs.Common.{◌<◌, length, get_or, take, sym, ap, ◌∙◌, subst, arith}
-use Rattle.trail_core.specs.Trails.{TrailValue}
-use Rattle.trail_core.specs.Kept.{IsKept}
-use Rattle.trail_core.proofs.Levels.{kept_cut}
+use Rattle.trail_core.{specs.{Trails.TrailValue, Kept.IsKept}, proofs.Levels.kept_cut}
 use Rattle.trail_core.proofs.cdcl.Core.back_to.Goals as goal
 
 pub invariant_of-self : goal.invariant_of-self

@@ -1,12 +1,7 @@
 use Rattle.std.proofs.Common.{◌≡◌, List, [], map, sym, ap, ◌∙◌, subst, arith}
 use Rattle.cnf_formula.specs.Literals.{LitValue}
-use Rattle.trail_core.specs.Trails.{TrailValue}
-use Rattle.trail_core.specs.Search.{clauses_of}
-use Rattle.trail_core.specs.Meaning.{CoreValue}
-use Rattle.trail_core.specs.Kept.{IsKept}
-use Rattle.trail_core.specs.inner.Begun.{front_row}
-use Rattle.trail_core.proofs.Storing.{occurrences_joined}
-use Rattle.trail_core.proofs.Begun.{kept_begun, rows_front, lits_front}
+use Rattle.trail_core.specs.{Trails.TrailValue, Search.clauses_of, Meaning.CoreValue, Kept.IsKept, inner.Begun.front_row}
+use Rattle.trail_core.proofs.{Storing.occurrences_joined, Begun.{kept_begun, rows_front, lits_front}}
 use Rattle.trail_core.proofs.cdcl.Core.of_clauses.Goals as goal
 
 pub invariant_of-result-2 : goal.invariant_of-result-2

@@ -1,11 +1,6 @@
-use Rattle.std.proofs.Common.{subst}
-use Rattle.std.specs.Prelude.{All}
+use Rattle.std.proofs.Common.{subst, All}
 use Rattle.cnf_formula.specs.Formulas.{IsClause}
-use Rattle.trail_core.specs.Formed.{IsTrail}
-use Rattle.trail_core.specs.Kept.{AreGrounded}
-use Rattle.trail_core.specs.Meaning.{IsClosedBelow}
-use Rattle.trail_core.proofs.Forming.{about_by}
-use Rattle.trail_core.proofs.Levels.{closed_below}
+use Rattle.trail_core.{specs.{Formed.IsTrail, Kept.AreGrounded, Meaning.IsClosedBelow}, proofs.{Forming.about_by, Levels.closed_below}}
 use Rattle.trail_core.proofs.cdcl.Core.trail.Goals as goal
 
 pub returns-clause-closed_below : goal.returns-clause-closed_below

@@ -1,8 +1,6 @@
 use Rattle.std.proofs.Common.{length, map, ap, ◌∙◌, rules}
 use Rattle.cnf_formula.specs.Literals.{code_of}
-use Rattle.trail_core.specs.inner.Pooled.{numbers_of}
-use Rattle.trail_core.proofs.Pooling.{pooled_longer, pooled_roomy, views_same}
-use Rattle.trail_core.proofs.Listing.{Known, known, admitted}
+use Rattle.trail_core.{specs.inner.Pooled.numbers_of, proofs.{Pooling.{pooled_longer, pooled_roomy, views_same}, Listing.{Known, known, admitted}}}
 use Rattle.trail_core.proofs.lists.WatchLists.admit.Goals as goal
 use Rattle.trail_core.proofs.lists.WatchLists.admit.Goals.{After-index-span}
 

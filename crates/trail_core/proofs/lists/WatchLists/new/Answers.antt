@@ -1,9 +1,7 @@
 use Rattle.std.proofs.Common.{◌≡◌, ℕ, ◌+◌, ◌<◌, [], ◌∷◌, ◌++◌, map, length, get_or, take, refl, sym, ap, subst, ◌∙◌, arith}
 use Rattle.std.proofs.lemmas.List.{length_push, map_push, take_more, take_all}
-use Rattle.trail_core.specs.inner.Pooled.{ArePooled}
-use Rattle.trail_core.specs.declared.span.Span.{Span}
+use Rattle.trail_core.{specs.{inner.Pooled.ArePooled, declared.span.Span.Span}, proofs.Pooling.{pooled_push, none_viewed, none_listed, spans_many}}
 use Rattle.list_laws.proofs.Places.{by_place_push}
-use Rattle.trail_core.proofs.Pooling.{pooled_push, none_viewed, none_listed, spans_many}
 use Rattle.trail_core.proofs.lists.WatchLists.new.Goals as goal
 
 pub loop-room-init : goal.loop-room-init

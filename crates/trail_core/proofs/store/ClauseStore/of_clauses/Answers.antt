@@ -1,14 +1,8 @@
-use Rattle.std.proofs.Common.{◌≡◌, ◌+◌, ◌<◌, ◌≤◌, List, [], ◌∷◌, ◌++◌, map, length, get_or, take, sym, ap, ◌∙◌, subst, arith}
-use Rattle.std.specs.Prelude.{All}
-use Rattle.std.proofs.lemmas.List.{map_push}
+use Rattle.std.proofs.{Common.{◌≡◌, ◌+◌, ◌<◌, ◌≤◌, List, [], ◌∷◌, ◌++◌, map, length, get_or, take, sym, ap, ◌∙◌, subst, arith, All}, lemmas.List.map_push}
 use Rattle.std.proofs.lemmas.List.Elements.{All-push}
 use Rattle.cnf_formula.specs.Literals.{LitValue, yes}
-use Rattle.trail_core.specs.Watching.{RowValue}
-use Rattle.trail_core.specs.inner.Begun.{front_row}
-use Rattle.trail_core.specs.inner.Stored.{row_of}
-use Rattle.trail_core.specs.declared.store.Header.{Header}
-use Rattle.trail_core.proofs.Storing.{joined, joined_at, Lies}
-use Rattle.trail_core.proofs.Begun.{rows_more}
+use Rattle.trail_core.specs.{Watching.RowValue, inner.{Begun.front_row, Stored.row_of}, declared.store.Header.Header}
+use Rattle.trail_core.proofs.{Storing.{joined, joined_at, Lies}, Begun.rows_more}
 use Rattle.trail_core.proofs.store.ClauseStore.of_clauses.Goals as goal
 use Rattle.trail_core.proofs.store.ClauseStore.of_clauses.Goals.{After-clause-clause}
 

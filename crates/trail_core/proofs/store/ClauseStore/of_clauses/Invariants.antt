@@ -1,8 +1,5 @@
-use Rattle.std.proofs.Common.{◌≡◌, ◌≤◌, length, map, take}
-use Rattle.std.specs.Prelude.{All, vec_capacity}
-use Rattle.trail_core.specs.inner.Begun.{front_row}
-use Rattle.trail_core.specs.inner.Stored.{row_of}
-use Rattle.trail_core.proofs.Storing.{joined, Lies}
+use Rattle.std.proofs.Common.{◌≡◌, ◌≤◌, length, map, take, All, vec_capacity}
+use Rattle.trail_core.{specs.inner.{Begun.front_row, Stored.row_of}, proofs.Storing.{joined, Lies}}
 use Rattle.trail_core.proofs.store.ClauseStore.of_clauses.Given as goal
 
 abbrev pub invariant-loop-place : goal.invariant-loop-place

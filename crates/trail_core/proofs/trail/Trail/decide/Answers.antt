@@ -1,11 +1,6 @@
-use Rattle.std.proofs.Common.{◌≡◌, ◌+◌, [], ◌∷◌, ◌++◌, None, length, ap, refl, arith}
-use Rattle.std.proofs.lemmas.List.{length-set}
-use Rattle.trail_core.specs.inner.Packed.{levels_of}
-use Rattle.trail_core.specs.declared.trail.Assignment.{Assignment}
-use Rattle.trail_core.proofs.Trails.{same_trail, leveled_decide}
-use Rattle.trail_core.proofs.Packed.{no_reason}
-use Rattle.trail_core.proofs.Valued.{assigned_push}
-use Rattle.trail_core.proofs.Fields.{seen, CanPush, can_push, pushed}
+use Rattle.std.proofs.{Common.{◌≡◌, ◌+◌, [], ◌∷◌, ◌++◌, None, length, ap, refl, arith}, lemmas.List.length-set}
+use Rattle.trail_core.specs.{inner.Packed.levels_of, declared.trail.Assignment.Assignment}
+use Rattle.trail_core.proofs.{Trails.{same_trail, leveled_decide}, Packed.no_reason, Valued.assigned_push, Fields.{seen, CanPush, can_push, pushed}}
 use Rattle.trail_core.proofs.trail.Trail.decide.Goals as goal
 use Rattle.trail_core.proofs.trail.Trail.decide.Goals.{After-len}
 

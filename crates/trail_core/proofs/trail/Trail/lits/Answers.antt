@@ -1,9 +1,5 @@
 use Rattle.std.proofs.Common.{sym, ap, subst, ◌∙◌}
-use Rattle.trail_core.specs.inner.Packed.{levels_of, reasons_of}
-use Rattle.trail_core.specs.Formed.{IsTrail}
-use Rattle.trail_core.specs.Trails.{lits_of}
-use Rattle.trail_core.proofs.Trails.{lits-steps}
-use Rattle.trail_core.proofs.Forming.{formed_by}
+use Rattle.trail_core.{specs.{inner.Packed.{levels_of, reasons_of}, Formed.IsTrail, Trails.lits_of}, proofs.{Trails.lits-steps, Forming.formed_by}}
 use Rattle.trail_core.proofs.trail.Trail.lits.Goals as goal
 
 pub returns-clause-value : goal.returns-clause-value

@@ -1,10 +1,6 @@
-use Rattle.std.proofs.Common.{◌≡◌, Some, length, refl, ap, arith}
-use Rattle.std.proofs.lemmas.List.{length-set}
-use Rattle.trail_core.specs.inner.Packed.{levels_of}
-use Rattle.trail_core.specs.declared.trail.Assignment.{Assignment}
-use Rattle.trail_core.proofs.Trails.{same_trail, leveled_push}
-use Rattle.trail_core.proofs.Packed.{some_reason}
-use Rattle.trail_core.proofs.Valued.{code_of_within, assigned_push}
+use Rattle.std.proofs.{Common.{◌≡◌, Some, length, refl, ap, arith}, lemmas.List.length-set}
+use Rattle.trail_core.specs.{inner.Packed.levels_of, declared.trail.Assignment.Assignment}
+use Rattle.trail_core.proofs.{Trails.{same_trail, leveled_push}, Packed.some_reason, Valued.{code_of_within, assigned_push}}
 use Rattle.trail_core.proofs.Fields.{seen, CanPush, can_push, pushed}
 use Rattle.trail_core.proofs.trail.Trail.push.Goals as goal
 use Rattle.trail_core.proofs.trail.Trail.push.Goals.{After-len}
