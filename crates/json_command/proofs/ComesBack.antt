@@ -17,9 +17,12 @@ use Rattle.serde_json.specs.Written.{compact_text}
 use Rattle.json_values.specs.Json.{printed}
 use Rattle.json_values.specs.TopologyJson.{topology_json}
 use Rattle.json_values.specs.Answer.{topology_of_json}
+use Rattle.json_forms.proofs.TopologyTable.{topology_printed}
 use Rattle.json_values.proofs.Built.{topology_back, topology_flat}
 use Rattle.json_rules.specs.Answer.{report_of_json}
+use Rattle.json_forms.specs.ReportForm.{report as report_form}
 use Rattle.json_rules.specs.ReportJson.{report_json}
+use Rattle.json_forms.proofs.ReportTable.{report_printed}
 use Rattle.json_reports.proofs.Built.{report_back, report_flat}
 use Rattle.command_words.specs.declared.command.Command.{Command}
 use Rattle.command_words.specs.declared.command.Command.TheVariants as command
@@ -30,7 +33,7 @@ use Rattle.run_rules.specs.declared.status.Status.TheVariants.{BadReport, TooLon
 use Rattle.run_rules.specs.Commands.{json_row, row_of, unjson_row}
 use Rattle.run_rules.specs.Refusals.{Refusal, refused_as, refused_at}
 use Rattle.run_rules.specs.Tasks.{Task, Write, due, json_asked, json_programs_in, limit, read_report, task_of, unjson_asked, whole_text, words_asked}
-use Rattle.json_command.proofs.Exchanged.{topology_due, topology_read_due, report_read_due}
+use Rattle.json_command.proofs.Exchanged.{topology_due, topology_read_due, topology_same, report_read_due, report_same}
 use Rattle.json_command.proofs.Fitting.{Fits, read_again, text_utf8}
 use Rattle.json_command.proofs.TopologyFits.{topology_fits}
 use Rattle.json_command.proofs.ReportFits.{report_fits}
@@ -49,12 +52,12 @@ module _ (bytes text : List ℕ) where
       let value = topology_json t in
       let fits : Fits value = topology_fits t taken.0 in
       let shallow : depth value ≤ max_depth = omega (arith, topology_flat t) in
-      let shown : text ≡ printed value = sym (ap written_of due) in
+      let shown : text ≡ printed value = sym (ap written_of due) ∙ ap printed (topology_printed t) in
       let back : topology_of_json text ≡ Ok t = topology_back t text (compact_text value) taken.0 shown (text_utf8 value fits) (read_again value fits shallow) in
-      ap topology_read_due back ∙ ap (λ s. Ok (Write s)) (sym taken.1)
+      ap topology_read_due (topology_same text ∙ back) ∙ ap (λ s. Ok (Write s)) (sym taken.1)
 
   report_due : Result ReportValue (ReportCode × ℕ) → Result Task Refusal
-  report_due read = refused_as BadReport report_number read >>= (λ r. Ok (Write (printed (report_json r))))
+  report_due read = refused_as BadReport report_number read >>= (λ r. Ok (Write (printed ((report_form r.topology.names).json r))))
 
   report_comes_back : (read : Result ReportValue (ReportCode × ℕ)) → report_of bytes ≡ read → report_due read ≡ Ok (Write text) → unjson_asked what.Report text ≡ Ok (Write bytes)
   unfolding report_due written_of
@@ -64,9 +67,9 @@ module _ (bytes text : List ℕ) where
       let value = report_json r in
       let fits : Fits value = report_fits r taken.valid in
       let shallow : depth value ≤ max_depth = omega (arith, report_flat r) in
-      let shown : text ≡ printed value = sym (ap written_of due) in
+      let shown : text ≡ printed value = sym (ap written_of due) ∙ ap printed (report_printed r) in
       let back : report_of_json text ≡ Ok r = report_back r text (compact_text value) taken.valid shown (text_utf8 value fits) (read_again value fits shallow) in
-      ap report_read_due back ∙ ap (λ s. Ok (Write s)) (sym taken.spelled)
+      ap report_read_due (report_same text ∙ back) ∙ ap (λ s. Ok (Write s)) (sym taken.spelled)
 
   -- programs are not written without a point
   no_programs : (read : Result ReportValue Refusal) → read >>= (λ r. json_programs_in r None) ≡ Ok (Write text) → ⊥

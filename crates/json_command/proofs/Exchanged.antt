@@ -1,5 +1,5 @@
 -- What answers the words for JSON: what was read of the bytes, or its refusal.
-use Rattle.std.proofs.Common.{◌≡◌, ◌≢◌, ◌⊎◌, inl, inr, ℕ, List, Option, None, Some, Result, Ok, Err, refl, ap, ◌∙◌, IfOk}
+use Rattle.std.proofs.Common.{◌≡◌, ◌≢◌, ◌⊎◌, inl, inr, ℕ, List, [], Option, None, Some, Result, Ok, Err, refl, sym, ap, ◌∙◌, IfOk}
 use Rattle.outer_ports.specs.declared.part.Part.{Part}
 use Rattle.text_lines.specs.Check.{◌>>=◌, need}
 use Rattle.candidate_order.specs.Frontiers.{PointValue}
@@ -9,16 +9,23 @@ use Rattle.topology_text.specs.Value.{NamedTopologyValue}
 use Rattle.topology_text.specs.Answer.{code_number as topology_number}
 use Rattle.topology_text.specs.Reading.{topology_of}
 use Rattle.topology_text.specs.Spelling.{spelling}
+use Rattle.report_form.specs.Reading.{report_of}
 use Rattle.report_form.specs.Reports.{ReportValue}
 use Rattle.report_form.specs.Numbered.{point_at}
 use Rattle.report_form.specs.Spelling.{report_text}
 use Rattle.json_values.specs.declared.fault.JsonCode.{JsonCode}
 use Rattle.json_values.specs.declared.fault.JsonCode.TheVariants as json
 use Rattle.json_values.specs.Answer.{code_number as json_number, topology_of_json}
+use Rattle.json_forms.specs.Reading.{read_json}
 use Rattle.json_values.specs.Json.{printed}
-use Rattle.json_values.specs.TopologyJson.{topology_json}
+use Rattle.json_forms.specs.TopologyForm.{topology as topology_form}
+use Rattle.json_values.specs.TopologyJson.{topology_in, topology_json}
+use Rattle.json_forms.proofs.ReadJson.{read_alike}
+use Rattle.json_forms.proofs.TopologyTable as topology_table
 use Rattle.json_rules.specs.Answer.{report_of_json}
-use Rattle.json_rules.specs.ReportJson.{report_json}
+use Rattle.json_forms.specs.ReportForm.{report as report_form}
+use Rattle.json_rules.specs.ReportJson.{report_in, report_json}
+use Rattle.json_forms.proofs.ReportTable as report_table
 use Rattle.command_words.specs.declared.command.JsonWhat.TheVariants as what
 use Rattle.command_words.specs.declared.command.PointWord.{PointWord}
 use Rattle.command_words.specs.declared.fault.WordCode.TheVariants.{UnknownPoint}
@@ -46,11 +53,11 @@ refused_unless due read memory code place after status number (Ok a) is then (in
 -- ---- what is written as JSON
 
 abbrev pub topology_due : Result NamedTopologyValue (TopologyCode × ℕ) → Result Task Refusal
-topology_due read = refused_as BadTopology topology_number read >>= (λ t. Ok (Write (printed (topology_json t))))
+topology_due read = refused_as BadTopology topology_number read >>= (λ t. Ok (Write (printed ((topology_form t.names).json t))))
 
 module _ (bytes : List ℕ) where
   pub topology_written : (t : NamedTopologyValue) (text : List ℕ) → topology_of bytes ≡ Ok t → text ≡ printed (topology_json t) → IsAnswerAlone (json_asked what.Topology None bytes) Done text
-  topology_written t text read shown = written_as (json_asked what.Topology None bytes) (printed (topology_json t)) text (ap topology_due read) shown
+  topology_written t text read shown = written_as (json_asked what.Topology None bytes) (printed ((topology_form t.names).json t)) text (ap topology_due read) (shown ∙ ap printed (sym (topology_table.topology_printed t)))
 
   pub no_topology : {E : Type 0} (code : TopologyCode) (line : ℕ) (result : Result Answer E)
       → ((code ≡ topology.OutOfMemory) × (line ≡ 0)) ⊎ (topology_of bytes ≡ Err (code, line)) → IfOk result (λ _. code ≢ topology.OutOfMemory) → IfOk result (SaysAt BadTopology (topology_number code) line)
@@ -58,7 +65,7 @@ module _ (bytes : List ℕ) where
   no_topology code line result = refused_unless (json_asked what.Topology None bytes) (topology_of bytes) topology.OutOfMemory code line topology_due BadTopology topology_number result refl refl
 
   pub report_written : (r : ReportValue) (text : List ℕ) → read_report bytes ≡ Ok r → text ≡ printed (report_json r) → IsAnswerAlone (json_asked what.Report None bytes) Done text
-  report_written r text read shown = written_as (json_asked what.Report None bytes) (printed (report_json r)) text (ap (λ x. x >>= (λ report. Ok (Write (printed (report_json report))))) read) shown
+  report_written r text read shown = written_as (json_asked what.Report None bytes) (printed ((report_form r.topology.names).json r)) text (ap (λ x. x >>= (λ report. Ok (Write (printed ((report_form report.topology.names).json report))))) read) (shown ∙ ap printed (sym (report_table.report_printed r)))
 
 module _ (r : ReportValue) (asked : PointWord) where
   abbrev programs_from : Option (Part × PointValue) → Result Task Refusal
@@ -79,18 +86,25 @@ abbrev pub topology_read_due : Result NamedTopologyValue (JsonCode × ℕ) → R
 topology_read_due read = refused_as BadJson json_number read >>= (λ t. Ok (Write (spelling t)))
 
 module _ (bytes : List ℕ) where
+  -- by the tables
+  pub topology_same : read_json (topology_form []) topology_of bytes ≡ topology_of_json bytes
+  topology_same = read_alike (topology_form []) topology_in (topology_table.topology_read []) topology_of bytes
+
+  pub report_same : read_json (report_form []) report_of bytes ≡ report_of_json bytes
+  report_same = read_alike (report_form []) report_in (report_table.report_read []) report_of bytes
+
   pub topology_read : (t : NamedTopologyValue) (text : List ℕ) → topology_of_json bytes ≡ Ok t → text ≡ spelling t → IsAnswerAlone (unjson_asked what.Topology bytes) Done text
-  topology_read t text read spelled = written_as (unjson_asked what.Topology bytes) (spelling t) text (ap topology_read_due read) spelled
+  topology_read t text read spelled = written_as (unjson_asked what.Topology bytes) (spelling t) text (ap topology_read_due (topology_same ∙ read)) spelled
 
   pub report_read : (r : ReportValue) (text : List ℕ) → report_of_json bytes ≡ Ok r → text ≡ report_text r → IsAnswerAlone (unjson_asked what.Report bytes) Done text
-  report_read r text read spelled = written_as (unjson_asked what.Report bytes) (report_text r) text (ap report_read_due read) spelled
+  report_read r text read spelled = written_as (unjson_asked what.Report bytes) (report_text r) text (ap report_read_due (report_same ∙ read)) spelled
 
   pub no_topology_json : {E : Type 0} (code : JsonCode) (place : ℕ) (result : Result Answer E)
       → ((code ≡ json.OutOfMemory) × (place ≡ 0)) ⊎ (topology_of_json bytes ≡ Err (code, place)) → IfOk result (λ _. code ≢ json.OutOfMemory) → IfOk result (SaysAt BadJson (json_number code) place)
       → IfOk result (λ a. IsAnswerAlone (unjson_asked what.Topology bytes) a.status a.text.items)
-  no_topology_json code place result = refused_unless (unjson_asked what.Topology bytes) (topology_of_json bytes) json.OutOfMemory code place topology_read_due BadJson json_number result refl refl
+  no_topology_json code place result = refused_unless (unjson_asked what.Topology bytes) (topology_of_json bytes) json.OutOfMemory code place topology_read_due BadJson json_number result (ap topology_read_due topology_same) refl
 
   pub no_report_json : {E : Type 0} (code : JsonCode) (place : ℕ) (result : Result Answer E)
       → ((code ≡ json.OutOfMemory) × (place ≡ 0)) ⊎ (report_of_json bytes ≡ Err (code, place)) → IfOk result (λ _. code ≢ json.OutOfMemory) → IfOk result (SaysAt BadJson (json_number code) place)
       → IfOk result (λ a. IsAnswerAlone (unjson_asked what.Report bytes) a.status a.text.items)
-  no_report_json code place result = refused_unless (unjson_asked what.Report bytes) (report_of_json bytes) json.OutOfMemory code place report_read_due BadJson json_number result refl refl
+  no_report_json code place result = refused_unless (unjson_asked what.Report bytes) (report_of_json bytes) json.OutOfMemory code place report_read_due BadJson json_number result (ap report_read_due report_same) refl

@@ -5,17 +5,17 @@ use Rattle.topology_text.specs.Spelling.{name_at}
 use Rattle.node_programs.specs.declared.op.Op.{Op}
 use Rattle.node_programs.specs.declared.op.Op.TheVariants.{Send, Take}
 use Rattle.node_programs.specs.Printing.{mode_word}
-use Rattle.serde_json.specs.Data.{Data, string}
-use Rattle.json_values.specs.Json.{array_of, object_of, count_of}
+use Rattle.serde_json.specs.Data.{Data, array, number, object, string, unsigned, no_members, member}
+use Rattle.serde_json.specs.View.{items_of}
 
 -- the step, what is done, the chunk and the other node; of a take, also whether it copies or adds
 abbrev pub op_json : List (List ℕ) → Op → Data
-op_json names (Send chunk to step) = array_of (count_of step ∷ string (codes "send") ∷ count_of chunk ∷ string (name_at names to) ∷ [])
-op_json names (Take chunk from step how) = array_of (count_of step ∷ string (codes "take") ∷ count_of chunk ∷ string (name_at names from) ∷ string (mode_word how) ∷ [])
+op_json names (Send chunk to step) = array (items_of (number (unsigned step) ∷ string (codes "send") ∷ number (unsigned chunk) ∷ string (name_at names to) ∷ []))
+op_json names (Take chunk from step how) = array (items_of (number (unsigned step) ∷ string (codes "take") ∷ number (unsigned chunk) ∷ string (name_at names from) ∷ string (mode_word how) ∷ []))
 
 abbrev pub node_json : List (List ℕ) → List (List Op) → ℕ → Data
-node_json names programs node = object_of ((codes "node", string (name_at names node)) ∷ (codes "ops", array_of (map (op_json names) (slice_index_or programs node []))) ∷ [])
+node_json names programs node = object (member (codes "node") (string (name_at names node)) (member (codes "ops") (array (items_of (map (op_json names) (slice_index_or programs node [])))) no_members))
 
 -- the point's number, and each node with its program
 abbrev pub programs_json : ℕ → List (List ℕ) → List (List Op) → Data
-programs_json point names programs = object_of ((codes "point", count_of point) ∷ (codes "programs", array_of (map (node_json names programs) (range_with_len 0 (length names)))) ∷ [])
+programs_json point names programs = object (member (codes "point") (number (unsigned point)) (member (codes "programs") (array (items_of (map (node_json names programs) (range_with_len 0 (length names))))) no_members))

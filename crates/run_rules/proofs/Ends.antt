@@ -1,5 +1,5 @@
 -- With which statuses the answer to what is due ends: those of the command's row.
-use Rattle.std.proofs.Common.{◌≡◌, ◌==◌, ◌||◌, ℕ, Bool, true, false, not, IsTrue, nat_lt, slice_get, length, List, ◌∷◌, Option, None, Some, Result, Ok, Err, refl, sym, subst}
+use Rattle.std.proofs.Common.{◌≡◌, ◌==◌, ◌||◌, ℕ, Bool, true, false, not, IsTrue, nat_lt, slice_get, length, List, [], ◌∷◌, Option, None, Some, Result, Ok, Err, refl, sym, subst}
 use Rattle.std.specs.List.{list_any}
 use Rattle.text_lines.specs.Check.{◌>>=◌, refuse, need}
 use Rattle.outer_ports.specs.Files.{Files}
@@ -21,10 +21,10 @@ use Rattle.replay_text.specs.Points.{programs_of_point}
 use Rattle.topology_text.specs.Spelling.{spelling}
 use Rattle.report_form.specs.Spelling.{report_text}
 use Rattle.json_values.specs.Json.{printed}
-use Rattle.json_values.specs.TopologyJson.{topology_json}
-use Rattle.json_rules.specs.ReportJson.{report_json}
-use Rattle.json_values.specs.Answer.{code_number as json_number, topology_of_json}
-use Rattle.json_rules.specs.Answer.{report_of_json}
+use Rattle.json_forms.specs.TopologyForm.{topology as topology_form}
+use Rattle.json_forms.specs.ReportForm.{report as report_form}
+use Rattle.json_values.specs.Answer.{code_number as json_number}
+use Rattle.json_forms.specs.Reading.{read_json}
 use Rattle.command_words.specs.declared.command.JsonWhat.TheVariants as what
 use Rattle.command_words.specs.declared.command.RootWord.{RootWord}
 use Rattle.command_words.specs.declared.command.SearchWords.{SearchWords}
@@ -127,13 +127,13 @@ refused_in_row (command.Json what.Programs point) bytes =
     bind P _ _ (reported P refl bytes) (λ r. bind P _ _ (needed P point _ refl) (λ asked. bind P _ _ (pointed P refl r asked) (λ _. tt)))
 refused_in_row (command.Unjson what.Topology) bytes =
     let P : Status → Type 0 = IsOneOf unjson_row.refusals in
-    bind P _ _ (coded P BadJson json_number (topology_of_json bytes) refl) (λ _. tt)
+    bind P _ _ (coded P BadJson json_number (read_json (topology_form []) topology_of bytes) refl) (λ _. tt)
 refused_in_row (command.Unjson what.Report) bytes =
     let P : Status → Type 0 = IsOneOf unjson_row.refusals in
-    bind P _ _ (coded P BadJson json_number (report_of_json bytes) refl) (λ _. tt)
+    bind P _ _ (coded P BadJson json_number (read_json (report_form []) report_of bytes) refl) (λ _. tt)
 refused_in_row (command.Unjson what.Programs) bytes =
     let P : Status → Type 0 = IsOneOf unjson_row.refusals in
-    bind P _ _ (coded P BadJson json_number (topology_of_json bytes) refl) (λ _. tt)
+    bind P _ _ (coded P BadJson json_number (read_json (topology_form []) topology_of bytes) refl) (λ _. tt)
 
 -- and so is each refusal of a command
 pub refused_with : (c : Command) (bytes : List ℕ) (r : Refusal) → task_of c bytes ≡ Err r → IsOneOf (row_of c).refusals r.status
@@ -174,19 +174,19 @@ denied_in_row (command.Degrade group group_word width width_word) bytes =
     behind P (read_report bytes) (λ r. degrade_in r group group_word width width_word) (λ r. behind P (fault_in r group group_word width width_word) (λ _. searchable (whole_question r.words r.topology) >>= (λ _. Ok (Degrade r group width)))
     (λ _. behind P (searchable (whole_question r.words r.topology)) (λ _. Ok (Degrade r group width)) (λ _. refl)))
 denied_in_row (command.Json what.Topology point) bytes =
-    behind (IsOneOf (json_row what.Topology).refusals) (refused_as BadTopology topology_number (topology_of bytes)) (λ t. Ok (Write (printed (topology_json t)))) (λ _. tt)
+    behind (IsOneOf (json_row what.Topology).refusals) (refused_as BadTopology topology_number (topology_of bytes)) (λ t. Ok (Write (printed ((topology_form t.names).json t)))) (λ _. tt)
 denied_in_row (command.Json what.Report point) bytes =
-    behind (IsOneOf (json_row what.Report).refusals) (read_report bytes) (λ r. Ok (Write (printed (report_json r)))) (λ _. tt)
+    behind (IsOneOf (json_row what.Report).refusals) (read_report bytes) (λ r. Ok (Write (printed ((report_form r.topology.names).json r)))) (λ _. tt)
 denied_in_row (command.Json what.Programs point) bytes =
     let P : Status → Type 0 = IsOneOf point_row.refusals in
     behind P (read_report bytes) (λ r. json_programs_in r point) (λ r. behind P (need point (refused_word KeyMissing 0)) (λ asked. point_in r asked >>= (λ p. Ok (Write (printed (programs_value r asked.point p)))))
     (λ asked. behind P (point_in r asked) (λ p. Ok (Write (printed (programs_value r asked.point p)))) (λ _. tt)))
 denied_in_row (command.Unjson what.Topology) bytes =
-    behind (IsOneOf unjson_row.refusals) (refused_as BadJson json_number (topology_of_json bytes)) (λ t. Ok (Write (spelling t))) (λ _. tt)
+    behind (IsOneOf unjson_row.refusals) (refused_as BadJson json_number (read_json (topology_form []) topology_of bytes)) (λ t. Ok (Write (spelling t))) (λ _. tt)
 denied_in_row (command.Unjson what.Report) bytes =
-    behind (IsOneOf unjson_row.refusals) (refused_as BadJson json_number (report_of_json bytes)) (λ r. Ok (Write (report_text r))) (λ _. tt)
+    behind (IsOneOf unjson_row.refusals) (refused_as BadJson json_number (read_json (report_form []) report_of bytes)) (λ r. Ok (Write (report_text r))) (λ _. tt)
 denied_in_row (command.Unjson what.Programs) bytes =
-    behind (IsOneOf unjson_row.refusals) (refused_as BadJson json_number (topology_of_json bytes)) (λ t. Ok (Write (spelling t))) (λ _. tt)
+    behind (IsOneOf unjson_row.refusals) (refused_as BadJson json_number (read_json (topology_form []) topology_of bytes)) (λ t. Ok (Write (spelling t))) (λ _. tt)
 
 -- ---- an answer
 

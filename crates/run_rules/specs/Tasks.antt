@@ -1,5 +1,5 @@
 -- What the words and the text that is read ask for, or the first check that refuses them: words, length, text, root or point, size, candidates. This project's own.
-use Rattle.std.specs.Prelude.{ℕ, ◌==◌, not, Bool, true, false, if◌then◌else◌, List, length, nat_lt, slice_get, Option, None, Some, Result, Ok, Err}
+use Rattle.std.specs.Prelude.{ℕ, ◌==◌, not, Bool, true, false, if◌then◌else◌, List, [], length, nat_lt, slice_get, Option, None, Some, Result, Ok, Err}
 use Rattle.outer_ports.specs.declared.part.Part.{Part}
 use Rattle.text_lines.specs.Check.{◌>>=◌, refuse, need}
 use Rattle.serde_json.specs.Data.{Data}
@@ -23,11 +23,11 @@ use Rattle.candidate_formula.specs.Counts.{counts_of}
 use Rattle.report_form.specs.Spelling.{report_text}
 use Rattle.node_programs.specs.Programs.{programs_of}
 use Rattle.replay_text.specs.Showing.{adding_of, nodes_of, shown_in, shown_text}
-use Rattle.json_values.specs.declared.fault.JsonCode.{JsonCode}
-use Rattle.json_values.specs.Answer.{code_number as json_number, of_json, of_text, text_of_json, topology_of_json}
+use Rattle.json_values.specs.Answer.{code_number as json_number}
+use Rattle.json_forms.specs.Reading.{read_json}
 use Rattle.json_values.specs.Json.{printed}
-use Rattle.json_values.specs.TopologyJson.{topology_json}
-use Rattle.json_rules.specs.ReportJson.{report_json, report_text_in}
+use Rattle.json_forms.specs.TopologyForm.{topology as topology_form}
+use Rattle.json_forms.specs.ReportForm.{report as report_form}
 use Rattle.json_rules.specs.ProgramsJson.{programs_json}
 use Rattle.replay_text.specs.Points.{programs_of_point}
 use Rattle.command_words.specs.declared.command.JsonWhat.{JsonWhat}
@@ -213,18 +213,18 @@ task_by read (command.Degrade group group_word width width_word) bytes = do
   degrade_in report group group_word width width_word
 task_by read (command.Json what.Topology point) bytes = do
   topology ← refused_as BadTopology topology_number (topology_of bytes)
-  Ok (Write (printed (topology_json topology)))
+  Ok (Write (printed ((topology_form topology.names).json topology)))
 task_by read (command.Json what.Report point) bytes = do
   report ← report_by read bytes
-  Ok (Write (printed (report_json report)))
+  Ok (Write (printed ((report_form report.topology.names).json report)))
 task_by read (command.Json what.Programs point) bytes = do
   report ← report_by read bytes
   json_programs_in report point
 task_by read (command.Unjson what.Report) bytes = do
-  report ← refused_as BadJson json_number (of_json (text_of_json report_text_in bytes) >>= (λ text. of_text (read text)))
+  report ← refused_as BadJson json_number (read_json (report_form []) read bytes)
   Ok (Write (report_text report))
 task_by read (command.Unjson _) bytes = do
-  topology ← refused_as BadJson json_number (topology_of_json bytes)
+  topology ← refused_as BadJson json_number (read_json (topology_form []) topology_of bytes)
   Ok (Write (spelling topology))
 
 -- the words are a command, or are refused

@@ -1,5 +1,5 @@
 -- How a right run ends, by what is due for its words and the bytes that its source had.
-use Rattle.std.proofs.Common.{◌≡◌, ℕ, List, Result, Ok, Err, refl, sym, subst, ap, ◌∙◌}
+use Rattle.std.proofs.Common.{◌≡◌, ℕ, List, [], Result, Ok, Err, refl, sym, subst, ap, ◌∙◌}
 use Rattle.command_words.specs.declared.command.JsonWhat.TheVariants as what
 use Rattle.command_words.specs.declared.command.Command.{Command}
 use Rattle.command_words.specs.declared.command.Command.TheVariants as command
@@ -12,10 +12,10 @@ use Rattle.report_form.specs.Spelling.{report_text}
 use Rattle.report_form.specs.Reading.{report_of}
 use Rattle.report_laws.specs.Shapes.{ReadsAs}
 use Rattle.report_laws.proofs.Readings.{only_read_as}
-use Rattle.json_values.specs.declared.fault.JsonCode.{JsonCode}
-use Rattle.json_values.specs.Answer.{code_number as json_number, of_json, of_text, text_of_json}
+use Rattle.json_values.specs.Answer.{code_number as json_number}
 use Rattle.json_values.specs.Json.{printed}
-use Rattle.json_rules.specs.ReportJson.{report_json, report_text_in}
+use Rattle.json_forms.proofs.ReadJson.{readers_alike}
+use Rattle.json_forms.specs.ReportForm.{report as report_form}
 use Rattle.run_rules.specs.declared.status.Status.TheVariants.{BadJson, BadReport}
 use Rattle.run_rules.specs.Commands.{Ask, Reads, row_of}
 use Rattle.run_rules.specs.Refusals.{Refusal, refused_as}
@@ -57,10 +57,6 @@ same_reading read reads words bytes = by_words (command_of words)
     same : (text : List ℕ) → read text ≡ report_of text
     same text = sym (only_read_as text (read text) (reads text))
 
-    by_text : (t : Result (List ℕ) (JsonCode × ℕ)) → (refused_as BadJson json_number (t >>= (λ text. of_text (read text))) >>= (λ r. Ok (Write (report_text r)))) ≡ (refused_as BadJson json_number (t >>= (λ text. of_text (report_of text))) >>= (λ r. Ok (Write (report_text r))))
-    by_text (Ok text) = ap (λ r. refused_as BadJson json_number (of_text r) >>= (λ x. Ok (Write (report_text x)))) (same text)
-    by_text (Err e) = refl
-
     behind : (f : ReportValue → Result Task Refusal) → (report_by read bytes >>= f) ≡ (report_by report_of bytes >>= f)
     behind f = ap (λ r. refused_as BadReport report_number r >>= f) (same bytes)
 
@@ -75,10 +71,10 @@ same_reading read reads words bytes = by_words (command_of words)
     by_task (command.Ordered kind word limits root) = refl
     by_task (command.Degrade group group_word width width_word) = behind (λ r. degrade_in r group group_word width width_word)
     by_task (command.Json what.Topology point) = refl
-    by_task (command.Json what.Report point) = behind (λ r. Ok (Write (printed (report_json r))))
+    by_task (command.Json what.Report point) = behind (λ r. Ok (Write (printed ((report_form r.topology.names).json r))))
     by_task (command.Json what.Programs point) = behind (λ r. json_programs_in r point)
     by_task (command.Unjson what.Topology) = refl
-    by_task (command.Unjson what.Report) = by_text (of_json (text_of_json report_text_in bytes))
+    by_task (command.Unjson what.Report) = ap (λ read. refused_as BadJson json_number read >>= (λ r. Ok (Write (report_text r)))) (readers_alike (report_form []) read report_of same bytes)
     by_task (command.Unjson what.Programs) = refl
 
     by_words : (x : Result Command WordFault) → (words_asked x >>= (λ c. whole_text (row_of c).reads bytes >>= (λ _. task_by read c bytes))) ≡ (words_asked x >>= (λ c. whole_text (row_of c).reads bytes >>= (λ _. task_by report_of c bytes)))

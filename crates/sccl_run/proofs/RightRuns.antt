@@ -1,15 +1,16 @@
 -- What a right run says, drawn out.
-use Rattle.std.proofs.Common.{◌≡◌, ◌++◌, ℕ, Bool, true, false, nat_lt, length, List, inl, inr, Result, Ok, Err, refl, sym, subst, ap, ◌∙◌}
+use Rattle.std.proofs.Common.{◌≡◌, ◌++◌, ℕ, Bool, true, false, nat_lt, length, List, [], inl, inr, Result, Ok, Err, refl, sym, subst, ap, ◌∙◌}
 use Rattle.std.proofs.lemmas.List.Elements.{All-contains}
 use Rattle.text_lines.specs.Check.{◌>>=◌, need, refuse}
 use Rattle.topology_text.specs.Answer.{code_number as topology_number}
 use Rattle.topology_text.specs.Reading.{topology_of}
-use Rattle.json_values.specs.Answer.{code_number as json_number, topology_of_json}
-use Rattle.json_rules.specs.Answer.{report_of_json}
+use Rattle.json_values.specs.Answer.{code_number as json_number}
+use Rattle.json_forms.specs.Reading.{read_json}
 use Rattle.outer_ports.specs.Shelf.{FilesStay}
 use Rattle.topology_text.specs.Value.{NamedTopologyValue}
 use Rattle.candidate_order.specs.Frontiers.{RightFrontier, IsSolvable}
 use Rattle.candidate_order.proofs.Frontiers.{better_refuted}
+use Rattle.report_form.specs.Reading.{report_of}
 use Rattle.report_form.specs.Reports.{WordsValue, ReportValue, question_of}
 use Rattle.frontier_audit.specs.Rights.{IsRight, IsRightPart}
 use Rattle.replay_text.specs.Showing.{shown_in, shown_text}
@@ -17,8 +18,8 @@ use Rattle.replay_text.specs.Points.{programs_of_point}
 use Rattle.topology_text.specs.Spelling.{spelling}
 use Rattle.report_form.specs.Spelling.{report_text}
 use Rattle.json_values.specs.Json.{printed}
-use Rattle.json_values.specs.TopologyJson.{topology_json}
-use Rattle.json_rules.specs.ReportJson.{report_json}
+use Rattle.json_forms.specs.TopologyForm.{topology as topology_form}
+use Rattle.json_forms.specs.ReportForm.{report as report_form}
 use Rattle.command_words.specs.declared.fault.WordCode.TheVariants.{KeyMissing}
 use Rattle.run_rules.specs.declared.status.Status.{Status}
 use Rattle.command_words.specs.declared.command.JsonWhat.TheVariants as what
@@ -125,18 +126,18 @@ task_changes (command.Degrade group group_word width width_word) bytes kept =
     absurd (no_kept (read_report bytes) (λ r. degrade_in r group group_word width width_word) (λ r. no_kept (fault_in r group group_word width width_word) (λ _. searchable (whole_question r.words r.topology) >>= (λ _. Ok (Degrade r group width)))
     (λ _. no_kept (searchable (whole_question r.words r.topology)) (λ _. Ok (Degrade r group width)) (λ _ none. none))) kept)
 task_changes (command.Json what.Topology point) bytes kept =
-    absurd (no_kept (refused_as BadTopology topology_number (topology_of bytes)) (λ t. Ok (Write (printed (topology_json t)))) (λ _ none. none) kept)
+    absurd (no_kept (refused_as BadTopology topology_number (topology_of bytes)) (λ t. Ok (Write (printed ((topology_form t.names).json t)))) (λ _ none. none) kept)
 task_changes (command.Json what.Report point) bytes kept =
-    absurd (no_kept (read_report bytes) (λ r. Ok (Write (printed (report_json r)))) (λ _ none. none) kept)
+    absurd (no_kept (read_report bytes) (λ r. Ok (Write (printed ((report_form r.topology.names).json r)))) (λ _ none. none) kept)
 task_changes (command.Json what.Programs point) bytes kept =
     absurd (no_kept (read_report bytes) (λ r. json_programs_in r point) (λ r. no_kept (need point (refused_word KeyMissing 0)) (λ asked. point_in r asked >>= (λ p. Ok (Write (printed (programs_value r asked.point p)))))
     (λ asked. no_kept (point_in r asked) (λ p. Ok (Write (printed (programs_value r asked.point p)))) (λ _ none. none))) kept)
 task_changes (command.Unjson what.Topology) bytes kept =
-    absurd (no_kept (refused_as BadJson json_number (topology_of_json bytes)) (λ t. Ok (Write (spelling t))) (λ _ none. none) kept)
+    absurd (no_kept (refused_as BadJson json_number (read_json (topology_form []) topology_of bytes)) (λ t. Ok (Write (spelling t))) (λ _ none. none) kept)
 task_changes (command.Unjson what.Report) bytes kept =
-    absurd (no_kept (refused_as BadJson json_number (report_of_json bytes)) (λ r. Ok (Write (report_text r))) (λ _ none. none) kept)
+    absurd (no_kept (refused_as BadJson json_number (read_json (report_form []) report_of bytes)) (λ r. Ok (Write (report_text r))) (λ _ none. none) kept)
 task_changes (command.Unjson what.Programs) bytes kept =
-    absurd (no_kept (refused_as BadJson json_number (topology_of_json bytes)) (λ t. Ok (Write (spelling t))) (λ _ none. none) kept)
+    absurd (no_kept (refused_as BadJson json_number (read_json (topology_form []) topology_of bytes)) (λ t. Ok (Write (spelling t))) (λ _ none. none) kept)
 
 due_changes : (words : List (List ℕ)) (bytes : List ℕ) → IsKept (due words bytes) → Ask Changes words
 due_changes words bytes kept = by_words (command_of words) refl

@@ -15,8 +15,10 @@ use Rattle.topology_text.specs.Answer.{code_number as topology_number}
 use Rattle.topology_text.specs.Reading.{topology_of}
 use Rattle.allreduce_join.specs.Joins.{Joins}
 use Rattle.command_words.specs.declared.command.SearchWords.{SearchWords}
-use Rattle.json_values.specs.Answer.{code_number as json_number, topology_of_json}
-use Rattle.json_rules.specs.Answer.{report_of_json}
+use Rattle.json_values.specs.Answer.{code_number as json_number}
+use Rattle.json_forms.specs.Reading.{read_json}
+use Rattle.json_forms.specs.TopologyForm.{topology as topology_form}
+use Rattle.json_forms.specs.ReportForm.{report as report_form}
 use Rattle.command_words.specs.declared.command.JsonWhat.TheVariants as what
 use Rattle.command_words.specs.declared.command.Command.{Command}
 use Rattle.command_words.specs.declared.command.Command.TheVariants as command
@@ -88,9 +90,9 @@ tasks_fit (command.Degrade group group_word width width_word) bytes = no_search 
 tasks_fit (command.Json what.Topology point) bytes = no_search (refused_as BadTopology topology_number (topology_of bytes)) _ (λ _. tt)
 tasks_fit (command.Json what.Report point) bytes = no_search (read_report bytes) _ (λ _. tt)
 tasks_fit (command.Json what.Programs point) bytes = no_search (read_report bytes) _ (λ r. no_search (need point _) _ (λ asked. no_search (point_in r asked) _ (λ _. tt)))
-tasks_fit (command.Unjson what.Topology) bytes = no_search (refused_as BadJson json_number (topology_of_json bytes)) _ (λ _. tt)
-tasks_fit (command.Unjson what.Report) bytes = no_search (refused_as BadJson json_number (report_of_json bytes)) _ (λ _. tt)
-tasks_fit (command.Unjson what.Programs) bytes = no_search (refused_as BadJson json_number (topology_of_json bytes)) _ (λ _. tt)
+tasks_fit (command.Unjson what.Topology) bytes = no_search (refused_as BadJson json_number (read_json (topology_form []) topology_of bytes)) _ (λ _. tt)
+tasks_fit (command.Unjson what.Report) bytes = no_search (refused_as BadJson json_number (read_json (report_form []) report_of bytes)) _ (λ _. tt)
+tasks_fit (command.Unjson what.Programs) bytes = no_search (refused_as BadJson json_number (read_json (topology_form []) topology_of bytes)) _ (λ _. tt)
 
 due_fits : (words : List (List ℕ)) (bytes : List ℕ) → Fits (due words bytes)
 unfolding due

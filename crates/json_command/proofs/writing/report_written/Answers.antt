@@ -1,7 +1,7 @@
 use Rattle.std.proofs.Common.{◌≡◌, None, Ok, subst}
 use Rattle.command_words.specs.declared.command.JsonWhat.TheVariants as what
 use Rattle.json_values.specs.Json.{printed}
-use Rattle.json_rules.specs.ReportJson.{report_json}
+use Rattle.json_forms.specs.ReportForm.{report as report_form}
 use Rattle.run_rules.specs.Read.{IsReadAs}
 use Rattle.run_rules.specs.Tasks.{Write, json_asked, read_report}
 use Rattle.run_rules.proofs.Answered.{refused_alone, refused_behind}
@@ -18,4 +18,4 @@ pub returns-in-Refused : goal.returns-in-Refused
 returns-in-Refused c =
     let bytes = c.args.bytes.now in
     let refused = subst (IsReadAs (read_report bytes)) c.in-Refused.is c.in_ok-report.ensures in
-    refused_alone (json_asked what.Report None bytes) c.in-Refused.answer (refused_behind (read_report bytes) (λ r. Ok (Write (printed (report_json r)))) c.in-Refused.answer refused)
+    refused_alone (json_asked what.Report None bytes) c.in-Refused.answer (refused_behind (read_report bytes) (λ r. Ok (Write (printed ((report_form r.topology.names).json r)))) c.in-Refused.answer refused)

@@ -1,0 +1,4 @@
+pub mod Alike
+pub mod ReadJson
+pub mod TopologyTable
+pub mod ReportTable
