@@ -9,7 +9,8 @@ use Rattle.run_rules.specs.declared.halt.Halt.{Halt}
 use Rattle.run_rules.specs.declared.halt.Halt.TheVariants.{Shelf}
 use Rattle.run_rules.specs.Commands.{Ask, Reads, IsOneOf, answers_of, row_of}
 use Rattle.run_rules.specs.Refusals.{Refusal}
-use Rattle.run_rules.specs.Tasks.{Task, due, task_of, whole_text}
+use Rattle.run_rules.specs.Tasks.{Task, due, task_of}
+use Rattle.run_rules.specs.Steps.{whole_text}
 use Rattle.run_rules.specs.Answers.{FilesValue, IsAnswer, LeavesOff}
 
 -- what is due for a command over these bytes
