@@ -1,8 +1,6 @@
 -- What answers an audit, from its verdict.
-use Rattle.std.proofs.Common.{◌≡◌, ℕ, Bool, true, false, IsTrue, List, Ok, Err, refl, sym, subst, ap, ◌∙◌}
+use Rattle.std.proofs.Common.{◌≡◌, ℕ, IsTrue, List, Ok, Err, sym, subst, ap, ◌∙◌}
 use Rattle.text_lines.specs.Check.{◌>>=◌}
-use Rattle.outer_ports.specs.Files.{Files}
-use Rattle.outer_ports.specs.Shelf.{FilesStay}
 use Rattle.report_form.specs.Reports.{ReportValue, IsReport}
 use Rattle.frontier_audit.specs.declared.verdict.AuditVerdict.{AuditVerdict}
 use Rattle.frontier_audit.specs.declared.verdict.AuditVerdict.TheVariants as audit

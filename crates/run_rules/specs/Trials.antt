@@ -5,8 +5,6 @@ use Rattle.collective_spec.specs.declared.kind.Kind.TheVariants.{Broadcast, Gath
 use Rattle.candidate_order.specs.Ranges.{unpruned}
 use Rattle.topology_text.specs.declared.family_kind.FamilyKind.{FamilyKind}
 use Rattle.topology_text.specs.declared.family_kind.FamilyKind.TheVariants.{Line, Ring, Complete, Shared}
-use Rattle.topology_text.specs.Value.{NamedTopologyValue}
-use Rattle.topology_text.specs.Family.{family_of}
 use Rattle.text_lines.specs.Text.{text_of}
 use Rattle.report_form.specs.Reports.{WordsValue, ReportValue}
 use Rattle.report_form.specs.Spelling.{synth_words}

@@ -1,5 +1,5 @@
 -- What the other searches print is right, and no schedule is below the floor.
-use Rattle.std.proofs.Common.{◌≡◌, ◌≢◌, ◌<◌, ◌≤◌, ◌*◌, ◌++◌, inl, inr, ℕ, Bool, true, false, not, nat_lt, Option, None, Some, Result, Ok, Err, refl, sym, subst, ap, ◌∙◌, arith}
+use Rattle.std.proofs.Common.{◌≡◌, ◌≢◌, ◌<◌, ◌≤◌, ◌*◌, ◌++◌, inl, inr, ℕ, Bool, true, false, not, nat_lt, Option, None, Some, Ok, refl, sym, subst, ap, ◌∙◌, arith}
 use Rattle.std.specs.Prelude.{if◌then◌else◌, slice_get}
 use Rattle.text_lines.specs.Check.{◌>>=◌, need, refuse}
 use Rattle.outer_ports.specs.declared.part.Part.TheVariants.{Whole}
@@ -30,7 +30,6 @@ use Rattle.cut_bounds.proofs.Turned.{floor_same}
 use Rattle.frontier_audit.specs.declared.verdict.AuditVerdict.TheVariants as audit
 use Rattle.frontier_audit.specs.Auditing.{audit_of}
 use Rattle.frontier_audit.proofs.Verified.{report_right}
-use Rattle.run_rules.specs.declared.status.Status.{Status}
 use Rattle.run_rules.specs.declared.status.Status.TheVariants.{Done, BadReport}
 use Rattle.run_rules.specs.Audits.{audited}
 use Rattle.run_rules.specs.Degraded.{left_topology}
