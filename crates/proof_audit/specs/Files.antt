@@ -27,4 +27,4 @@ pub record SomePass (test : List ℕ → Bool) : Type 0 where
 
 -- there is a spent log of so many lines
 abbrev pub HasSpentLog : FormulaValue → ℕ → Type 0
-HasSpentLog f n = ∥ (lines : List ProofLineValue) × SpentLog lines f n ∥₁
+HasSpentLog f n = ∥ ((lines : List ProofLineValue) × SpentLog lines f n) ∥₁
