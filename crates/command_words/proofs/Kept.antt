@@ -58,7 +58,7 @@ values_of g = record {
 
 -- those of the tables, and then what is kept
 abbrev checked : Verb → Key → List ℕ → Values → Result Values WordCode
-checked verb k text more = refuse (not (fits (key_row k).takes text)) BadValue >>= (λ _. refuse (is_refused verb k text) BadValue >>= (λ _. Ok more))
+checked verb k text more = refuse (not (fits (key_row k).1 text)) BadValue >>= (λ _. refuse (is_refused verb k text) BadValue >>= (λ _. Ok more))
 
 -- commands refuse values of two keys alone
 pub untaken : (verb : Verb) (k : Key) (text : List ℕ) → same_key key.Collective k ≡ false → same_key key.What k ≡ false → is_refused verb k text ≡ false
@@ -69,8 +69,8 @@ untaken _ k text c w = refl
 
 -- a value that is checked by its key alone
 alone : (verb : Verb) (k : Key) (text : List ℕ) (more : Values) (r : Result Values WordCode) → same_key key.Collective k ≡ false → same_key key.What k ≡ false
-    → r ≡ (refuse (not (fits (key_row k).takes text)) BadValue >>= (λ _. Ok more)) → r ≡ checked verb k text more
-alone verb k text more r c w e = e ∙ ap (λ b. refuse (not (fits (key_row k).takes text)) BadValue >>= (λ _. refuse b BadValue >>= (λ _. Ok more))) (sym (untaken verb k text c w))
+    → r ≡ (refuse (not (fits (key_row k).1 text)) BadValue >>= (λ _. Ok more)) → r ≡ checked verb k text more
+alone verb k text more r c w e = e ∙ ap (λ b. refuse (not (fits (key_row k).1 text)) BadValue >>= (λ _. refuse b BadValue >>= (λ _. Ok more))) (sym (untaken verb k text c w))
 
 number_checks : (d : ℕ) (b : Bool) (under : ℕ → Bool) (m : Bool) (keep : ℕ → Values) → under d ≡ not m
     → ((need (if b then Some d else None) BadValue >>= (λ n. refuse (under n) BadValue >>= (λ _. Ok n))) >>= (λ n. Ok (keep n)))
@@ -195,7 +195,7 @@ word_alike verb g index word =
     (λ _. ap (λ b. refuse b KeyTwice >>= (λ _. with_value verb k parts.1 index (values_of g))) (has_given k g)
     ∙ through values_of (refuse (is_given k g) KeyTwice) _ _
     (λ _. kept verb k parts.1 index g
-    ∙ through values_of (refuse (not (fits (key_row k).takes parts.1)) BadValue) _ _
+    ∙ through values_of (refuse (not (fits (key_row k).1 parts.1)) BadValue) _ _
     (λ _. through values_of (refuse (is_refused verb k parts.1) BadValue) _ _ (λ _. refl))))))
 
 at_word_on : (verb : Verb) (index : ℕ) (words : List (List ℕ)) (r : Result (List Given) WordCode) → ((more : List Given) → values_from verb (values_of more) (index + 1) words ≡ (given_from verb more (index + 1) words >>= (λ all. Ok (values_of all))))

@@ -49,7 +49,7 @@ word_low verb g index word =
     (λ parts. err_then IsLow (need (named key_word keys parts.0) UnknownKey) _ (err_need IsLow _ UnknownKey (omega arith))
     (λ k. err_then IsLow (refuse (not (has_key verb k)) UnknownKey) _ (err_refuse IsLow _ UnknownKey (omega arith))
     (λ _. err_then IsLow (refuse (is_given k g) KeyTwice) _ (err_refuse IsLow _ KeyTwice (omega arith))
-    (λ _. err_then IsLow (refuse (not (fits (key_row k).takes parts.1)) BadValue) _ (err_refuse IsLow _ BadValue (omega arith))
+    (λ _. err_then IsLow (refuse (not (fits (key_row k).1 parts.1)) BadValue) _ (err_refuse IsLow _ BadValue (omega arith))
     (λ _. err_then IsLow (refuse (is_refused verb k parts.1) BadValue) _ (err_refuse IsLow _ BadValue (omega arith)) (λ _. tt))))))
 
 -- what is given stands at the words up to the nth
@@ -63,7 +63,7 @@ word_within n verb g index word in_n before =
     (λ parts. ok_then (AreWithin n) (need (named key_word keys parts.0) UnknownKey) _
     (λ k. ok_then (AreWithin n) (refuse (not (has_key verb k)) UnknownKey) _
     (λ _. ok_then (AreWithin n) (refuse (is_given k g) KeyTwice) _
-    (λ _. ok_then (AreWithin n) (refuse (not (fits (key_row k).takes parts.1)) BadValue) _
+    (λ _. ok_then (AreWithin n) (refuse (not (fits (key_row k).1 parts.1)) BadValue) _
     (λ _. ok_then (AreWithin n) (refuse (is_refused verb k parts.1) BadValue) _ (λ _. (in_n, before)))))))
 
 at_within : (n : ℕ) (k : Key) (g : List Given) → AreWithin n g → word_at k g ≤ n

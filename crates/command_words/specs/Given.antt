@@ -11,7 +11,6 @@ use Rattle.topology_text.specs.declared.family_kind.FamilyKind.TheVariants.{Line
 use Rattle.topology_text.specs.FamilyWords.{family_named}
 use Rattle.command_words.specs.declared.command.JsonWhat.{JsonWhat}
 use Rattle.command_words.specs.declared.command.JsonWhat.TheVariants.{Topology}
-use Rattle.command_words.specs.declared.command.PointWord.{PointWord}
 use Rattle.command_words.specs.declared.command.RootWord.{RootWord}
 use Rattle.command_words.specs.declared.key.Key.{Key}
 use Rattle.command_words.specs.declared.key.Key.TheVariants as key
@@ -51,9 +50,6 @@ what_at given = unwrap_or (named what_word whats (text_at key.What given)) Topol
 
 abbrev pub root_at : List Given → Option RootWord
 root_at given = option_map (λ g. record { name = g.text; word = g.word }) (given_at key.Root given)
-
-abbrev pub point_at : List Given → Option PointWord
-point_at given = option_map (λ g. record { point = digits_value 10 g.text; word = g.word }) (given_at key.Point given)
 
 abbrev pub limits_at : List Given → Pruning → LimitsValue
 limits_at given pruning = record { k = number_at key.K given; max_s = number_at key.Steps given; max_c = number_at key.Chunks given; conflicts = number_at key.Conflicts given; pruning = pruning }

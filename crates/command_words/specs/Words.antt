@@ -42,7 +42,7 @@ with_word verb given index word = do
   key ← need (named key_word keys parts.0) UnknownKey
   _ ← refuse (not (has_key verb key)) UnknownKey
   _ ← refuse (is_given key given) KeyTwice
-  _ ← refuse (not (fits (key_row key).takes parts.1)) BadValue
+  _ ← refuse (not (fits (key_row key).1 parts.1)) BadValue
   _ ← refuse (is_refused verb key parts.1) BadValue
   Ok (record { key = key; text = parts.1; word = index } ∷ given)
 

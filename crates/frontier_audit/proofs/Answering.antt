@@ -9,10 +9,8 @@ use Rattle.report_form.specs.Tests.{is_better}
 use Rattle.frontier_audit.specs.declared.verdict.Reason.TheVariants.{CandidateMissing, MarkWrong}
 use Rattle.frontier_audit.specs.Denials.{Denial, Checked, each}
 use Rattle.frontier_audit.specs.Candidates.{candidates_within, is_listed, same_candidate}
-use Rattle.frontier_audit.specs.Solutions.{is_mark}
-use Rattle.frontier_audit.specs.Auditing.{candidate_checked, mark_checked}
 use Rattle.frontier_audit.specs.Beside.{denial_of}
-use Rattle.frontier_audit.specs.inner.Steps.{answers_checked, is_bettered, is_given_up, is_settled, left_checked, marked_among, unrefuted_among}
+use Rattle.frontier_audit.specs.inner.Steps.{answers_checked, is_bettered, is_given_up, is_settled, left_checked, marked_among, unrefuted_among, candidate_checked, mark_checked, is_mark}
 use Rattle.frontier_audit.proofs.Walking.{first_decides, rest_decides}
 
 -- ---- candidates

@@ -11,11 +11,11 @@ use Rattle.frontier_audit.specs.Denials.{each}
 use Rattle.frontier_audit.specs.Shelves.{PartRight, ShelfRight}
 use Rattle.frontier_audit.specs.Candidates.{candidates_within}
 use Rattle.frontier_audit.specs.Joining.{joined_checked}
-use Rattle.frontier_audit.specs.Auditing.{point_checked, refuted_checked, unknown_checked, candidate_checked, mark_checked, frontier_checked, report_checked, audit_of}
+use Rattle.frontier_audit.specs.Auditing.{unknown_checked, frontier_checked, audit_of}
 use Rattle.frontier_audit.proofs.Passing.{then_ok, ok_then, each_ok, ok_each, in_part_ok, ok_in_part, verified_ok, ok_verified}
 use Rattle.frontier_audit.proofs.Beside.{has_log_of}
 use Rattle.frontier_audit.proofs.CutAway.{owes_refutation}
-use Rattle.frontier_audit.specs.inner.Steps.{part_checked}
+use Rattle.frontier_audit.specs.inner.Steps.{part_checked, point_checked, refuted_checked, candidate_checked, mark_checked, report_checked}
 
 -- each check of a part passes
 pub record Passes (part : Part) (q : QuestionValue) (files : Files) (f : FrontierValue) : Type 0 where
@@ -62,7 +62,7 @@ PartPasses r files x = Passes x.0 (question_of r.words r.topology x.0) files x.1
 -- each check of a report passes
 pub record ReportPasses (r : ReportValue) (files : Files) : Type 0 where
   pub parts : All (PartPasses r files) r.frontiers
-  pub joined : joined_checked r.words.collective.kind r ≡ Ok tt
+  pub joined : joined_checked r r.frontiers ≡ Ok tt
 
 part_passes : (r : ReportValue) (files : Files) (x : Part × FrontierValue) → part_checked r files x ≡ Ok tt → PartPasses r files x
 part_passes r files x e = passes x.0 (question_of r.words r.topology x.0) files x.1 (in_part_ok x.0 (frontier_checked x.0 (question_of r.words r.topology x.0) files x.1) e)
@@ -72,14 +72,14 @@ part_passed r files x p = ok_in_part x.0 (frontier_checked x.0 (question_of r.wo
 
 pub report_passes : (r : ReportValue) (files : Files) → audit_of r files ≡ Verified → ReportPasses r files
 report_passes r files e =
-    let parts = then_ok (each (part_checked r files) r.frontiers) (joined_checked r.words.collective.kind r) (verified_ok (report_checked r files) e) in
+    let parts = then_ok (each (part_checked r files) r.frontiers) (joined_checked r r.frontiers) (verified_ok (report_checked r files) e) in
     let every = each_ok (part_checked r files) r.frontiers parts.0 in
     record { parts = λ k d w. part_passes r files (get_or r.frontiers k d) (every k d w); joined = parts.1 }
 
 pub report_passed : (r : ReportValue) (files : Files) → ReportPasses r files → audit_of r files ≡ Verified
 report_passed r files p =
     ok_verified (report_checked r files)
-    (ok_then (each (part_checked r files) r.frontiers) (joined_checked r.words.collective.kind r)
+    (ok_then (each (part_checked r files) r.frontiers) (joined_checked r r.frontiers)
     (ok_each (part_checked r files) r.frontiers (λ k d w. part_passed r files (get_or r.frontiers k d) (p.parts k d w))) p.joined)
 
 -- ---- the files

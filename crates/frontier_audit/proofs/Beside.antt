@@ -17,7 +17,8 @@ use Rattle.frontier_audit.specs.Denials.{Denial, Checked}
 use Rattle.candidate_formula.specs.Said.{lines_said}
 use Rattle.candidate_formula.specs.Formulas.{formula_for}
 use Rattle.candidate_formula.specs.Files.{file_of, longest_proof, HasRefutation, HasLog}
-use Rattle.proof_audit.specs.Proving.{do_refute, do_spend, is_refutation, is_spent_log}
+use Rattle.proof_audit.specs.Proving.{is_refutation, is_spent_log}
+use Rattle.proof_audit.specs.Tested.{do_refute, do_spend}
 use Rattle.frontier_audit.specs.Auditing.{refutation_checked, unknown_checked}
 use Rattle.frontier_audit.proofs.Passing.{then_ok, ok_then, refused_not, not_refused}
 use Rattle.proof_audit.proofs.Proved.{refutes_by, by_refuting, spent_by, by_spending}

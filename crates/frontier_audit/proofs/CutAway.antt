@@ -18,7 +18,8 @@ use Rattle.candidate_formula.specs.Pruned.{is_cut_away}
 use Rattle.candidate_formula.proofs.Copying.{copies}
 use Rattle.candidate_formula.proofs.CutAway.{copied_cut, reduced_cut}
 use Rattle.frontier_audit.specs.Denials.{Denial, Checked}
-use Rattle.frontier_audit.specs.Auditing.{refutation_checked, refuted_checked}
+use Rattle.frontier_audit.specs.Auditing.{refutation_checked}
+use Rattle.frontier_audit.specs.inner.Steps.{refuted_checked}
 use Rattle.frontier_audit.specs.Beside.{denial_of, AnswersBeside}
 use Rattle.frontier_audit.proofs.Beside.{has_refutation, passes_refutation}
 

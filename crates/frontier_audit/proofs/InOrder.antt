@@ -18,7 +18,8 @@ use Rattle.report_form.proofs.Tested.{decides_before}
 use Rattle.send_encoding.proofs.Everywhere.{in_map, in_flat, From, in_range}
 use Rattle.send_encoding.proofs.Orders.{pairs_append}
 use Rattle.candidate_formula.specs.Counts.{counts_of}
-use Rattle.frontier_audit.specs.Candidates.{candidates_of_step, put_in_order, in_search_order, candidates_within}
+use Rattle.frontier_audit.specs.Candidates.{put_in_order, in_search_order, candidates_within}
+use Rattle.frontier_audit.specs.inner.Steps.{candidates_of_step}
 use Rattle.frontier_audit.proofs.Tried.{all_put, all_ordered}
 
 -- ---- pairs of a list

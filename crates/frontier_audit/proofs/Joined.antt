@@ -21,7 +21,8 @@ use Rattle.allreduce_join.proofs.Told.{all_summed_exactly}
 use Rattle.frontier_audit.specs.declared.verdict.Reason.TheVariants.{JoinWrong}
 use Rattle.inversion.specs.Saying.{says_sums}
 use Rattle.frontier_audit.specs.Candidates.{same_candidate}
-use Rattle.frontier_audit.specs.Joining.{same_hop, same_schedule, same_mark, same_point, is_join, joins_checked, IsSummable}
+use Rattle.frontier_audit.specs.Joining.{same_mark, same_point, joins_checked, IsSummable}
+use Rattle.frontier_audit.specs.inner.Steps.{same_hop, same_schedule, is_join}
 use Rattle.frontier_audit.proofs.Passing.{then_ok, ok_then, refused_not, not_refused}
 use Rattle.frontier_audit.proofs.Tried.{same_is, same_itself}
 use Rattle.frontier_audit.proofs.Solved.{sums_said}

@@ -20,5 +20,6 @@ pub mod Answering
 pub mod Parting
 pub mod Pairing
 pub mod Jointly
+pub mod JoinedParts
 pub mod Verified
 pub mod Proved

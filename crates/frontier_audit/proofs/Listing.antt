@@ -13,8 +13,8 @@ use Rattle.candidate_order.specs.Frontiers.{QuestionValue, IsWithin}
 use Rattle.candidate_formula.specs.Counts.{allowed_up_to}
 use Rattle.send_encoding.proofs.Everywhere.{in_map, in_flat, From, in_range}
 use Rattle.candidate_formula.specs.Counts.{counts_of}
-use Rattle.frontier_audit.specs.Candidates.{candidates_of_step, candidates_within, in_search_order, is_listed}
-use Rattle.frontier_audit.specs.inner.Steps.{unrefuted_among}
+use Rattle.frontier_audit.specs.Candidates.{candidates_within, in_search_order, is_listed}
+use Rattle.frontier_audit.specs.inner.Steps.{unrefuted_among, candidates_of_step}
 use Rattle.frontier_audit.proofs.InOrder.{step_ascends}
 use Rattle.frontier_audit.proofs.Tried.{IsCountOf, all_ordered, counts_allowed, listed_contains, step_listed}
 use Rattle.candidate_order.proofs.Unique.{one_list_of_candidates}

@@ -14,8 +14,8 @@ use Rattle.candidate_order.specs.Frontiers.{QuestionValue, PointValue, FrontierV
 use Rattle.report_form.specs.Tests.{is_better, is_no_worse}
 use Rattle.report_form.proofs.Tested.{decides_no_worse, decides_better}
 use Rattle.frontier_audit.specs.Candidates.{is_listed, candidates_within}
-use Rattle.frontier_audit.specs.Solutions.{is_optimal, is_mark}
-use Rattle.frontier_audit.specs.Auditing.{is_answered}
+use Rattle.frontier_audit.specs.Solutions.{is_optimal}
+use Rattle.frontier_audit.specs.inner.Steps.{is_answered, is_mark}
 use Rattle.frontier_audit.proofs.Tried.{listed_contains, contains_listed, within_listed, each_within}
 
 -- ---- answers

@@ -14,9 +14,9 @@ use Rattle.allreduce_join.specs.Judging.{joined_verdict_of}
 use Rattle.inversion.specs.Saying.{says_sums}
 use Rattle.frontier_audit.specs.declared.verdict.Reason.TheVariants.{JoinWrong}
 use Rattle.frontier_audit.specs.Denials.{Denial}
-use Rattle.frontier_audit.specs.Joining.{is_join, joins_checked, same_point}
+use Rattle.frontier_audit.specs.Joining.{joins_checked, same_point}
 use Rattle.frontier_audit.specs.Beside.{denial_of}
-use Rattle.frontier_audit.specs.inner.Steps.{JoinsSay, join_checked, pairs_with}
+use Rattle.frontier_audit.specs.inner.Steps.{JoinsSay, join_checked, pairs_with, is_join}
 use Rattle.frontier_audit.proofs.Joined.{point_is}
 use Rattle.frontier_audit.proofs.Walking.{failing_denies, first_decides, passing_denies_none, rest_decides}
 

@@ -18,9 +18,9 @@ use Rattle.candidate_order.specs.Frontiers.{QuestionValue, FrontierValue}
 use Rattle.report_form.specs.Reports.{ReportValue, IsReport, IsFrontier, parts_of, question_of}
 use Rattle.send_encoding.proofs.Orders.{one_pairs}
 use Rattle.frontier_audit.specs.Denials.{Denial, Checked, each, in_part}
-use Rattle.frontier_audit.specs.Auditing.{point_checked, refuted_checked, unknown_checked, frontier_checked}
+use Rattle.frontier_audit.specs.Auditing.{unknown_checked, frontier_checked}
 use Rattle.frontier_audit.specs.Beside.{denial_of, AnswersBeside}
-use Rattle.frontier_audit.specs.inner.Steps.{answers_checked, part_checked}
+use Rattle.frontier_audit.specs.inner.Steps.{answers_checked, part_checked, point_checked, refuted_checked}
 use Rattle.frontier_audit.proofs.Merging.{LooksAt, goes_on, looks_each, looks_then, plain, plainly_then, stops, then_plainly}
 use Rattle.frontier_audit.proofs.Said.{looks_refuted, looks_unknown}
 

@@ -20,9 +20,11 @@ use Rattle.frontier_audit.specs.declared.verdict.AuditVerdict.TheVariants.{Verif
 use Rattle.frontier_audit.specs.declared.verdict.Reason.TheVariants.{ScheduleWrong, MarkWrong, CandidateMissing}
 use Rattle.frontier_audit.specs.Shelves.{PartRight, ShelfRight}
 use Rattle.frontier_audit.specs.Candidates.{candidates_within}
-use Rattle.frontier_audit.specs.Solutions.{is_solution, is_optimal, is_mark}
-use Rattle.frontier_audit.specs.Joining.{IsSummable, joins_checked, joined_checked, is_reduce, is_gather, points_of}
-use Rattle.frontier_audit.specs.Auditing.{is_answered, audit_of}
+use Rattle.frontier_audit.specs.Solutions.{is_solution, is_optimal}
+use Rattle.frontier_audit.specs.Joining.{IsSummable, joins_checked, joined_checked}
+use Rattle.frontier_audit.specs.Parts.{is_reduce, is_gather, points_of}
+use Rattle.frontier_audit.specs.Auditing.{audit_of}
+use Rattle.frontier_audit.specs.inner.Steps.{is_answered, is_mark, joins_of}
 use Rattle.frontier_audit.proofs.Passing.{refused_not, not_refused, in_part_ok, ok_in_part}
 use Rattle.frontier_audit.proofs.Beside.{passes_log}
 use Rattle.frontier_audit.proofs.CutAway.{passes_refuted}
@@ -31,6 +33,7 @@ use Rattle.frontier_audit.proofs.Tried.{listed_contains, within_listed, each_wit
 use Rattle.frontier_audit.proofs.Marked.{answered_decides, optimal_decides, mark_by, by_mark}
 use Rattle.frontier_audit.proofs.Solved.{solved_by, by_solution}
 use Rattle.frontier_audit.proofs.Joined.{are_joined, joined_are}
+use Rattle.frontier_audit.proofs.JoinedParts.{joined_by_kind}
 use Rattle.frontier_audit.proofs.Shelves.{question}
 
 -- ---- a part
@@ -127,26 +130,30 @@ joinable r ok e k d low =
 abbrev JoinsOf : ReportValue → Type 0
 JoinsOf r = Joins r.topology.topology (points_of is_reduce r.frontiers) (points_of is_gather r.frontiers) r.joined
 
-only_then : (k : Kind) (r : ReportValue) → k ≡ kind.Allreduce → joined_checked k r ≡ Ok tt → joins_checked r.topology.topology (pairs_of (points_of is_reduce r.frontiers) (points_of is_gather r.frontiers)) r.joined ≡ Ok tt
-only_then k r same e =
-    in_part_ok part.Joined (joins_checked r.topology.topology (pairs_of (points_of is_reduce r.frontiers) (points_of is_gather r.frontiers)) r.joined) (ap (λ x. joined_checked x r) (sym same) ∙ e)
+only_then : (r : ReportValue) → IsReport r → r.words.collective.kind ≡ kind.Allreduce → joined_checked r r.frontiers ≡ Ok tt → joins_checked r.topology.topology (pairs_of (points_of is_reduce r.frontiers) (points_of is_gather r.frontiers)) r.joined ≡ Ok tt
+only_then r ok same e =
+    in_part_ok part.Joined (joins_checked r.topology.topology (pairs_of (points_of is_reduce r.frontiers) (points_of is_gather r.frontiers)) r.joined) (joined_by_kind kind.Allreduce r same ok ∙ e)
 
 pub verified_joins : (r : ReportValue) (files : Files) → IsReport r → audit_of r files ≡ Verified → r.words.collective.kind ≡ kind.Allreduce → JoinsOf r
 verified_joins r files ok e same =
     let pairs = pairs_of (points_of is_reduce r.frontiers) (points_of is_gather r.frontiers) in
-    let are = are_joined r.topology.topology pairs r.joined (joinable r ok same) (only_then r.words.collective.kind r same (report_passes r files e).joined) in
+    let are = are_joined r.topology.topology pairs r.joined (joinable r ok same) (only_then r ok same (report_passes r files e).joined) in
     record { in_order = are.in_order; summed = are.summed }
 
-joined_passes : (k : Kind) (r : ReportValue) → (k ≡ kind.Allreduce → joins_checked r.topology.topology (pairs_of (points_of is_reduce r.frontiers) (points_of is_gather r.frontiers)) r.joined ≡ Ok tt) → joined_checked k r ≡ Ok tt
-joined_passes kind.Broadcast r h = refl
-joined_passes kind.Gather r h = refl
-joined_passes kind.Allgather r h = refl
-joined_passes kind.Scatter r h = refl
-joined_passes kind.Alltoall r h = refl
-joined_passes kind.Reduce r h = refl
-joined_passes kind.Reducescatter r h = refl
-joined_passes kind.Custom r h = refl
-joined_passes kind.Allreduce r h = ok_in_part part.Joined (joins_checked r.topology.topology (pairs_of (points_of is_reduce r.frontiers) (points_of is_gather r.frontiers)) r.joined) (h refl)
+joins_pass : (k : Kind) (r : ReportValue) → (k ≡ kind.Allreduce → joins_checked r.topology.topology (pairs_of (points_of is_reduce r.frontiers) (points_of is_gather r.frontiers)) r.joined ≡ Ok tt) → joins_of k r ≡ Ok tt
+joins_pass kind.Broadcast r h = refl
+joins_pass kind.Gather r h = refl
+joins_pass kind.Allgather r h = refl
+joins_pass kind.Scatter r h = refl
+joins_pass kind.Alltoall r h = refl
+joins_pass kind.Reduce r h = refl
+joins_pass kind.Reducescatter r h = refl
+joins_pass kind.Custom r h = refl
+joins_pass kind.Allreduce r h = h refl
+
+joined_passes : (r : ReportValue) → IsReport r → (r.words.collective.kind ≡ kind.Allreduce → joins_checked r.topology.topology (pairs_of (points_of is_reduce r.frontiers) (points_of is_gather r.frontiers)) r.joined ≡ Ok tt) → joined_checked r r.frontiers ≡ Ok tt
+joined_passes r ok h =
+    sym (joined_by_kind r.words.collective.kind r refl ok) ∙ ok_in_part part.Joined (joins_of r.words.collective.kind r) (joins_pass r.words.collective.kind r h)
 
 pub right_verified : (r : ReportValue) (files : Files) → IsReport r → ShelfRight r files → ((part : Part) (f : FrontierValue) → Contains r.frontiers (part, f) → RightFrontier (question r part) f) → (r.words.collective.kind ≡ kind.Allreduce → JoinsOf r) → audit_of r files ≡ Verified
 right_verified r files ok shelf right joins =
@@ -154,7 +161,7 @@ right_verified r files ok shelf right joins =
       parts = λ k d low.
           let x = get_or r.frontiers k d in
           part_passes x.0 (question r x.0) files x.1 (right x.0 x.1 (All-contains_itself r.frontiers k d low)) (shelf k d low);
-      joined = joined_passes r.words.collective.kind r (λ same.
+      joined = joined_passes r ok (λ same.
           let j = joins same in
           joined_are r.topology.topology (pairs_of (points_of is_reduce r.frontiers) (points_of is_gather r.frontiers)) r.joined (joinable r ok same) (record { in_order = j.in_order; summed = j.summed }));
     })

@@ -25,9 +25,9 @@ use Rattle.proof_audit.specs.Files.{file_verdict, IsFileVerdict}
 use Rattle.frontier_audit.specs.declared.verdict.Reason.TheVariants.{ProofMissing, ProofRefused, CnfDiffers, PartialRefused}
 use Rattle.frontier_audit.specs.Denials.{Denial, Checked}
 use Rattle.frontier_audit.specs.Candidates.{same_candidate}
-use Rattle.frontier_audit.specs.Auditing.{refutation_checked, refuted_checked, unknown_checked}
+use Rattle.frontier_audit.specs.Auditing.{refutation_checked, unknown_checked}
 use Rattle.frontier_audit.specs.Beside.{denial_of, AnswersBeside}
-use Rattle.frontier_audit.specs.inner.Steps.{denial_for}
+use Rattle.frontier_audit.specs.inner.Steps.{denial_for, refuted_checked}
 use Rattle.frontier_audit.proofs.Beside.{over_files}
 use Rattle.frontier_audit.proofs.Merging.{LooksAt}
 use Rattle.frontier_audit.proofs.Tried.{same_is, same_itself}

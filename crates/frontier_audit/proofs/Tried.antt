@@ -16,7 +16,8 @@ use Rattle.send_encoding.proofs.Everywhere.{in_map, in_flat, From, in_range}
 use Rattle.send_encoding.proofs.Decoded.{any_range}
 use Rattle.send_encoding.proofs.Members.{kept}
 use Rattle.candidate_formula.specs.Counts.{counts_of}
-use Rattle.frontier_audit.specs.Candidates.{same_candidate, is_listed, candidates_of_step, put_in_order, in_search_order, candidates_within}
+use Rattle.frontier_audit.specs.Candidates.{same_candidate, is_listed, put_in_order, in_search_order, candidates_within}
+use Rattle.frontier_audit.specs.inner.Steps.{candidates_of_step}
 
 -- ---- the test of the same candidate
 

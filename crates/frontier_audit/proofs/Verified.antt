@@ -15,13 +15,15 @@ use Rattle.proof_audit.specs.Files.{HasSpentLog}
 use Rattle.frontier_audit.specs.declared.verdict.AuditVerdict.{AuditVerdict}
 use Rattle.frontier_audit.specs.declared.verdict.AuditVerdict.TheVariants.{Verified, Denied}
 use Rattle.frontier_audit.specs.Denials.{Denial, Checked, in_part, verdict_from}
-use Rattle.frontier_audit.specs.Joining.{is_gather, is_reduce, joined_checked, points_of}
-use Rattle.frontier_audit.specs.Auditing.{audit_of, report_checked}
+use Rattle.frontier_audit.specs.Joining.{joined_checked}
+use Rattle.frontier_audit.specs.Parts.{is_gather, is_reduce, points_of}
+use Rattle.frontier_audit.specs.Auditing.{audit_of}
 use Rattle.frontier_audit.specs.Beside.{denial_of, AnswersBeside, IsVerdictOver}
 use Rattle.frontier_audit.specs.Rights.{AreJoined, HasLogs, IsRight}
-use Rattle.frontier_audit.specs.inner.Steps.{joins_of, parts_checked}
+use Rattle.frontier_audit.specs.inner.Steps.{joins_of, parts_checked, report_checked}
 use Rattle.frontier_audit.proofs.Audited.{shelf_right}
 use Rattle.frontier_audit.proofs.Jointly.{parts_are}
+use Rattle.frontier_audit.proofs.JoinedParts.{joined_by_kind}
 use Rattle.frontier_audit.proofs.Merging.{stops, then_plainly}
 use Rattle.frontier_audit.proofs.Right.{verified_joins}
 use Rattle.frontier_audit.proofs.Unsolvable.{all_right}
@@ -67,7 +69,7 @@ report_logs r files ok e k d low i u at =
     let frontier = ok.frontiers k d low in
     let unknown = frontier.unknown i u at in
     let log = (shelf_right r files ok e k d low).unknown i u at in
-    subst (HasSpentLog (formula_for (question_of r.words r.topology x.0) (get_or x.1.unknown i u).candidate)) (sym unknown.conflicts) ∣ record { lines = log.lines; spent = log.spent } ∣₁
+    subst (HasSpentLog (formula_for (question_of r.words r.topology x.0) (get_or x.1.unknown i u).candidate)) (sym unknown.conflicts) ∣ (log.lines, log.spent) ∣₁
 
 -- ---- the verdict
 
@@ -79,17 +81,6 @@ same_verdict : (checked : Checked (Part × Denial)) → verdict_of (denial_of ch
 unfolding verdict_of
 same_verdict (Ok u) = refl
 same_verdict (Err (p, (reason, x))) = refl
-
-joined_named : (k : Kind) (r : ReportValue) → in_part part.Joined (joins_of k r) ≡ joined_checked k r
-joined_named kind.Broadcast r = refl
-joined_named kind.Gather r = refl
-joined_named kind.Allgather r = refl
-joined_named kind.Scatter r = refl
-joined_named kind.Alltoall r = refl
-joined_named kind.Reduce r = refl
-joined_named kind.Reducescatter r = refl
-joined_named kind.Allreduce r = refl
-joined_named kind.Custom r = refl
 
 named_denial : (checked : Checked Denial) (d : Denial) → Some d ≡ denial_of checked → Some (part.Joined, d) ≡ denial_of (in_part part.Joined checked)
 named_denial (Ok u) d e = absurd (cc)
@@ -107,13 +98,13 @@ module _ (tells : Bool) (shelf : Files) (r : ReportValue) where
   parts files = parts_checked r files r.frontiers
 
   pub parts_decide : (d : Part × Denial) → AnswersBeside tells shelf parts (Some d) → Answers (Some d)
-  parts_decide d a = stops tells shelf parts (λ files. joined_checked r.words.collective.kind r) d a
+  parts_decide d a = stops tells shelf parts (λ files. joined_checked r r.frontiers) d a
 
-  pub joins_decide : (d : Denial) → AnswersBeside tells shelf parts None → Some d ≡ denial_of (joins_of r.words.collective.kind r) → Answers (Some (part.Joined, d))
-  joins_decide d a e = then_plainly tells shelf parts (joined_checked r.words.collective.kind r) (Some (part.Joined, d)) a (named_denial (joins_of r.words.collective.kind r) d e ∙ ap denial_of (joined_named r.words.collective.kind r))
+  pub joins_decide : IsReport r → (d : Denial) → AnswersBeside tells shelf parts None → Some d ≡ denial_of (joins_of r.words.collective.kind r) → Answers (Some (part.Joined, d))
+  joins_decide ok d a e = then_plainly tells shelf parts (joined_checked r r.frontiers) (Some (part.Joined, d)) a (named_denial (joins_of r.words.collective.kind r) d e ∙ ap denial_of (joined_by_kind r.words.collective.kind r refl ok))
 
-  pub none_decides : AnswersBeside tells shelf parts None → None ≡ denial_of (joins_of r.words.collective.kind r) → Answers None
-  none_decides a e = then_plainly tells shelf parts (joined_checked r.words.collective.kind r) None a (named_none (joins_of r.words.collective.kind r) e ∙ ap denial_of (joined_named r.words.collective.kind r))
+  pub none_decides : IsReport r → AnswersBeside tells shelf parts None → None ≡ denial_of (joins_of r.words.collective.kind r) → Answers None
+  none_decides ok a e = then_plainly tells shelf parts (joined_checked r r.frontiers) None a (named_none (joins_of r.words.collective.kind r) e ∙ ap denial_of (joined_by_kind r.words.collective.kind r refl ok))
 
   -- what a denial, or the lack of one, says
   pub denied_exact : (d : Part × Denial) (v : AuditVerdict) → v ≡ Denied d.1.0 d.0 d.1.1 → Answers (Some d) → IsTrue tells → v ≡ audit_of r shelf

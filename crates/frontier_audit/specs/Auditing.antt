@@ -1,12 +1,13 @@
 -- The checks of a report and of the files beside it, in their order. This project's own.
-use Rattle.std.specs.Prelude.{◌||◌, not, Bool, if◌then◌else◌, bytes_eq, Ok}
+use Rattle.std.specs.Prelude.{◌||◌, not, if◌then◌else◌, bytes_eq, Ok}
 use Rattle.std.specs.List.{list_any}
 use Rattle.text_lines.specs.Check.{◌>>=◌, refuse, need}
 use Rattle.outer_ports.specs.declared.part.Part.{Part}
 use Rattle.outer_ports.specs.declared.proof_name.FileKind.TheVariants.{Cnf, Lrat, Partial}
 use Rattle.outer_ports.specs.Files.{Files}
 use Rattle.candidate_order.specs.declared.candidate.Candidate.{Candidate}
-use Rattle.candidate_order.specs.Frontiers.{QuestionValue, PointValue, UnknownValue, FrontierValue, given_up}
+use Rattle.candidate_order.specs.declared.mark.Mark.TheVariants.{Optimal, Open}
+use Rattle.candidate_order.specs.Frontiers.{QuestionValue, UnknownValue, FrontierValue, given_up}
 use Rattle.lrat_text.specs.Printing.{cnf_text}
 use Rattle.report_form.specs.Tests.{is_no_worse}
 use Rattle.report_form.specs.Reports.{ReportValue, question_of}
@@ -18,11 +19,8 @@ use Rattle.candidate_formula.specs.Files.{file_of}
 use Rattle.candidate_formula.specs.Pruned.{is_cut_away}
 use Rattle.proof_audit.specs.Proving.{is_refutation, is_spent_log}
 use Rattle.frontier_audit.specs.Candidates.{is_listed, candidates_within}
-use Rattle.frontier_audit.specs.Solutions.{is_solution, is_optimal, is_mark}
-use Rattle.frontier_audit.specs.Joining.{joined_checked}
-
-abbrev pub point_checked : QuestionValue → PointValue → Checked Denial
-point_checked q p = refuse (not (is_solution q p)) (ScheduleWrong, p.candidate)
+use Rattle.frontier_audit.specs.Solutions.{is_solution, is_optimal}
+use Rattle.frontier_audit.specs.Joining.{same_mark, joined_checked}
 
 -- its formula stands there, and a proof of it
 abbrev pub refutation_checked : Part → QuestionValue → Files → Candidate → Checked Denial
@@ -32,41 +30,23 @@ refutation_checked part q files x = do
   proof ← need (files (file_of Lrat part x)) (ProofMissing, x)
   refuse (not (is_refutation (formula_for q x) proof)) (ProofRefused, x)
 
--- of one that is cut away nothing has to stand there
-abbrev pub refuted_checked : Part → QuestionValue → Files → Candidate → Checked Denial
-refuted_checked part q files x = if is_cut_away q x then Ok tt else refutation_checked part q files x
-
 -- its log stands there
 abbrev pub unknown_checked : Part → QuestionValue → Files → UnknownValue → Checked Denial
 unknown_checked part q files u = do
   log ← need (files (file_of Partial part u.candidate)) (ProofMissing, u.candidate)
   refuse (not (is_spent_log (formula_for q u.candidate) u.conflicts log)) (PartialRefused, u.candidate)
 
--- a point is no worse, or the candidate is refuted, or unknown
-abbrev pub is_answered : FrontierValue → Candidate → Bool
-is_answered f x = list_any (λ p. is_no_worse p.candidate x) f.points || is_listed f.refuted x || is_listed (given_up f) x
-
-abbrev pub candidate_checked : FrontierValue → Candidate → Checked Denial
-candidate_checked f x = refuse (not (is_answered f x)) (CandidateMissing, x)
-
-abbrev pub mark_checked : QuestionValue → FrontierValue → PointValue → Checked Denial
-mark_checked q f p = refuse (not (is_mark (is_optimal q f p.candidate) p.mark)) (MarkWrong, p.candidate)
-
--- the points, the refuted candidates, the unknown ones, then all candidates within the limits, then the marks
+-- each point has a schedule that solves what is asked; each refuted candidate that is not cut away has its refutation, each unknown one its log; of each candidate within the limits a point is no worse, or it is refuted or unknown; and each mark is right
 abbrev pub frontier_checked : Part → QuestionValue → Files → FrontierValue → Checked Denial
 frontier_checked part q files f = do
-  _ ← each (point_checked q) f.points
-  _ ← each (refuted_checked part q files) f.refuted
+  _ ← each (λ p. refuse (not (is_solution q p)) (ScheduleWrong, p.candidate)) f.points
+  _ ← each (λ x. if is_cut_away q x then Ok tt else refutation_checked part q files x) f.refuted
   _ ← each (unknown_checked part q files) f.unknown
-  _ ← each (candidate_checked f) (candidates_within q)
-  each (mark_checked q f) f.points
+  _ ← each (λ x. refuse (not (list_any (λ p. is_no_worse p.candidate x) f.points || is_listed f.refuted x || is_listed (given_up f) x)) (CandidateMissing, x)) (candidates_within q)
+  each (λ p. refuse (not (same_mark (if is_optimal q f p.candidate then Optimal else Open) p.mark)) (MarkWrong, p.candidate)) f.points
 
--- each part, and then what is joined
-abbrev pub report_checked : ReportValue → Files → Checked (Part × Denial)
-report_checked r files = do
-  _ ← each (λ x. in_part x.0 (frontier_checked x.0 (question_of r.words r.topology x.0) files x.1)) r.frontiers
-  joined_checked r.words.collective.kind r
-
--- the report and the files are right, or the first check that fails
+-- the report and the files are right, or the first check that fails: each part, and then what is joined
 abbrev pub audit_of : ReportValue → Files → AuditVerdict
-audit_of r files = verdict_from (report_checked r files)
+audit_of r files = verdict_from do
+  _ ← each (λ x. in_part x.0 (frontier_checked x.0 (question_of r.words r.topology x.0) files x.1)) r.frontiers
+  joined_checked r r.frontiers

@@ -1,5 +1,5 @@
 -- The candidates of a search in its order (Cai et al., PPoPP 2021, Pareto-optimal schedules).
-use Rattle.std.specs.Prelude.{◌+◌, ◌==◌, ◌&&◌, ℕ, Bool, if◌then◌else◌, List, [], ◌∷◌, map}
+use Rattle.std.specs.Prelude.{◌+◌, ◌==◌, ◌&&◌, Bool, if◌then◌else◌, List, [], ◌∷◌, map}
 use Rattle.std.specs.List.{list_any, flat_map, range_with_len}
 use Rattle.candidate_order.specs.declared.candidate.Candidate.{Candidate}
 use Rattle.candidate_order.specs.Listed.{candidate_at}
@@ -14,10 +14,6 @@ same_candidate a b = a.s == b.s && a.r == b.r && a.c == b.c
 abbrev pub is_listed : List Candidate → Candidate → Bool
 is_listed xs x = list_any (same_candidate x) xs
 
--- the candidates of a step, by rounds and then by chunk count
-abbrev pub candidates_of_step : QuestionValue → ℕ → List Candidate
-candidates_of_step q s = flat_map (λ r. map (λ c. candidate_at s (r, c)) (counts_of q)) (range_with_len s (q.limits.k + 1))
-
 -- a candidate is put in front of the first that it comes before
 abbrev pub put_in_order : Candidate → List Candidate → List Candidate
 put_in_order x [] = x ∷ []
@@ -27,6 +23,6 @@ abbrev pub in_search_order : List Candidate → List Candidate
 in_search_order [] = []
 in_search_order (x ∷ xs) = put_in_order x (in_search_order xs)
 
--- the candidates within the limits, in the order in which a search tries them
+-- the candidates within the limits, in the order in which a search tries them: by steps, and then by their costs
 abbrev pub candidates_within : QuestionValue → List Candidate
-candidates_within q = flat_map (λ s. in_search_order (candidates_of_step q s)) (range_with_len 1 q.limits.max_s)
+candidates_within q = flat_map (λ s. in_search_order (flat_map (λ r. map (λ c. candidate_at s (r, c)) (counts_of q)) (range_with_len s (q.limits.k + 1)))) (range_with_len 1 q.limits.max_s)

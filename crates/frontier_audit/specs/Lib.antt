@@ -6,6 +6,7 @@ pub mod Joining
 pub mod Auditing
 pub mod Beside
 pub mod Rights
+pub mod Parts
 pub mod OwedFiles
 pub mod Rows
 pub mod Searches

@@ -11,25 +11,6 @@ use Rattle.candidate_formula.specs.Searched.{copying_schedule, searched_question
 use Rattle.candidate_formula.specs.Pruned.{is_cut_away}
 use Rattle.proof_audit.specs.Files.{HasSpentLog}
 
--- the frontier of a part is right
-abbrev pub IsRightPart : ReportValue → Part × FrontierValue → Type 0
-IsRightPart r x = RightFrontier (question_of r.words r.topology x.0) x.1
-
-abbrev pub IsSearchedPart : ReportValue → Part × FrontierValue → Type 0
-IsSearchedPart r x = Searched (question_of r.words r.topology x.0) x.1
-
--- no unknown candidate is cut away
-abbrev pub IsUncutPart : ReportValue → Part × FrontierValue → Type 0
-IsUncutPart r x = All (λ u. is_cut_away (question_of r.words r.topology x.0) u.candidate ≡ false) x.1.unknown
-
--- each schedule, as what is searched has it, is as the words ask beside solving
-abbrev pub IsSuitedPart : ReportValue → Part × FrontierValue → Type 0
-IsSuitedPart r x = let q = question_of r.words r.topology x.0 in All (λ p. Suits (searched_question q) p.candidate (copying_schedule q.spec p.schedule)) x.1.points
-
--- the formula of each unknown candidate is exhausted by the conflicts that are stated
-abbrev pub IsExhaustedPart : ReportValue → Part × FrontierValue → Type 0
-IsExhaustedPart r x = All (λ u. Exhausted (formula_for (question_of r.words r.topology x.0) u.candidate) u.conflicts) x.1.unknown
-
 -- the joined points are the joins of the two parts of an allreduce
 abbrev pub AreJoined : ReportValue → List (Part × FrontierValue) → Type 0
 AreJoined r ((Reduce, f) ∷ (Gather, h) ∷ []) = Joins r.topology.topology f.points h.points r.joined
@@ -40,15 +21,13 @@ pub record IsRight (r : ReportValue) : Type 0 where
   pub parts : All (λ x. RightFrontier (question_of r.words r.topology x.0) x.1) r.frontiers
   pub joined : AreJoined r r.frontiers
 
+-- each frontier is as a search leaves it: the formula of each unknown candidate is exhausted by the conflicts that are stated, no unknown candidate is cut away, and each schedule, as what is searched has it, is as the words ask beside solving
 pub record IsSearched (r : ReportValue) : Type 0 where
-  pub parts : All (IsSearchedPart r) r.frontiers
-  pub exhausted : All (IsExhaustedPart r) r.frontiers
-  pub uncut : All (IsUncutPart r) r.frontiers
-  pub suited : All (IsSuitedPart r) r.frontiers
+  pub parts : All (λ x. Searched (question_of r.words r.topology x.0) x.1) r.frontiers
+  pub exhausted : All (λ x. All (λ u. Exhausted (formula_for (question_of r.words r.topology x.0) u.candidate) u.conflicts) x.1.unknown) r.frontiers
+  pub uncut : All (λ x. All (λ u. is_cut_away (question_of r.words r.topology x.0) u.candidate ≡ false) x.1.unknown) r.frontiers
+  pub suited : All (λ x. let q = question_of r.words r.topology x.0 in All (λ p. Suits (searched_question q) p.candidate (copying_schedule q.spec p.schedule)) x.1.points) r.frontiers
 
--- there is a spent log of the formula of each unknown candidate of a part
-abbrev pub HasLogsOfPart : ReportValue → Part × FrontierValue → Type 0
-HasLogsOfPart r x = All (λ u. HasSpentLog (formula_for (question_of r.words r.topology x.0) u.candidate) u.conflicts) x.1.unknown
-
+-- there is a spent log of the formula of each unknown candidate
 abbrev pub HasLogs : ReportValue → Type 0
-HasLogs r = All (HasLogsOfPart r) r.frontiers
+HasLogs r = All (λ x. All (λ u. HasSpentLog (formula_for (question_of r.words r.topology x.0) u.candidate) u.conflicts) x.1.unknown) r.frontiers

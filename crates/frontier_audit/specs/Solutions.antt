@@ -1,13 +1,11 @@
 -- The checks of a point's schedule and of its mark (Cai et al., PPoPP 2021, Pareto-optimal schedules; marks are this project's own).
-use Rattle.std.specs.Prelude.{◌||◌, not, Bool, true, false, if◌then◌else◌}
+use Rattle.std.specs.Prelude.{◌||◌, not, Bool, if◌then◌else◌}
 use Rattle.std.specs.List.{list_all}
 use Rattle.schedule.specs.Judging.{verdict_of}
 use Rattle.inversion.specs.Judging.{sum_verdict_of}
 use Rattle.inversion.specs.Saying.{says_solves, says_sums}
 use Rattle.collective_spec.specs.Collectives.{spec_instance, spec_demand, adds_up}
 use Rattle.candidate_order.specs.declared.candidate.Candidate.{Candidate}
-use Rattle.candidate_order.specs.declared.mark.Mark.{Mark}
-use Rattle.candidate_order.specs.declared.mark.Mark.TheVariants as mark
 use Rattle.candidate_order.specs.Frontiers.{QuestionValue, PointValue, FrontierValue}
 use Rattle.report_form.specs.Tests.{is_better}
 use Rattle.frontier_audit.specs.Candidates.{is_listed, candidates_within}
@@ -22,9 +20,3 @@ is_solution q p =
 -- every better candidate within the limits is refuted
 abbrev pub is_optimal : QuestionValue → FrontierValue → Candidate → Bool
 is_optimal q f x = list_all (λ y. not (is_better y x) || is_listed f.refuted y) (candidates_within q)
-
--- the mark says whether that is so
-abbrev pub is_mark : Bool → Mark → Bool
-is_mark true mark.Optimal = true
-is_mark false mark.Open = true
-is_mark _ _ = false

@@ -6,9 +6,9 @@ ghost use Rattle.outer_ports.specs.Shelf.{FilesStay};
 ghost use Rattle.candidate_order.specs.Costs.{Before};
 ghost use Rattle.candidate_order.specs.Frontiers.{IsUnknown, IsWithin};
 ghost use Rattle.frontier_audit.specs.Denials.{each};
-ghost use Rattle.frontier_audit.specs.Auditing.{refutation_checked, refuted_checked, unknown_checked};
+ghost use Rattle.frontier_audit.specs.Auditing.{refutation_checked, unknown_checked};
 ghost use Rattle.frontier_audit.specs.Beside.{AnswersBeside};
-ghost use Rattle.frontier_audit.specs.inner.Steps.{denial_for};
+ghost use Rattle.frontier_audit.specs.inner.Steps.{denial_for, refuted_checked};
 
 use crate::part_question::PartQuestion;
 use crate::verdict::Reason;

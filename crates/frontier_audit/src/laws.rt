@@ -15,7 +15,7 @@ ghost use Rattle.frontier_audit.specs.OwedFiles.{Proves};
 ghost use Rattle.frontier_audit.specs.Shelves.{ShelfRight};
 ghost use Rattle.frontier_audit.specs.Rights.{IsRight};
 ghost use Rattle.frontier_audit.specs.Candidates.{candidates_within};
-ghost use Rattle.frontier_audit.specs.Joining.{is_reduce, is_gather, points_of};
+ghost use Rattle.frontier_audit.specs.Parts.{is_reduce, is_gather, points_of};
 ghost use Rattle.frontier_audit.specs.Auditing.{audit_of};
 
 use crate::verdict::AuditVerdict;

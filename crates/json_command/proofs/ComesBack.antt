@@ -32,7 +32,8 @@ use Rattle.command_words.specs.Words.{command_of}
 use Rattle.run_rules.specs.declared.status.Status.TheVariants.{BadReport, TooLong}
 use Rattle.run_rules.specs.Commands.{json_row, row_of, unjson_row}
 use Rattle.run_rules.specs.Refusals.{Refusal, refused_as, refused_at}
-use Rattle.run_rules.specs.Tasks.{Task, Write, due, json_asked, json_programs_in, limit, read_report, task_of, unjson_asked, whole_text, words_asked}
+use Rattle.run_rules.specs.Tasks.{Task, Write, due, json_asked, json_programs_in, limit, read_report, task_of, unjson_asked, words_asked}
+use Rattle.run_rules.specs.Steps.{whole_text}
 use Rattle.json_command.proofs.Exchanged.{topology_due, topology_read_due, topology_same, report_read_due, report_same}
 use Rattle.json_command.proofs.Fitting.{Fits, read_again, text_utf8}
 use Rattle.json_command.proofs.TopologyFits.{topology_fits}

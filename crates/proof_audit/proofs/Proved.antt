@@ -9,7 +9,7 @@ use Rattle.cnf_formula.specs.declared.line.LratLine.TheVariants.{Addition, Delet
 use Rattle.proof_rules.specs.Held.{CheckerValue, start_of}
 use Rattle.proof_rules.specs.Testing.{is_rup}
 use Rattle.proof_rules.specs.Refuting.{all_accepted, with_line, is_fresh, after, are_learned, Refutes, SpentLog}
-use Rattle.proof_audit.specs.Proving.{do_refute, do_spend}
+use Rattle.proof_audit.specs.Tested.{do_refute, do_spend}
 
 -- ---- refutations
 

@@ -14,7 +14,8 @@ use Rattle.candidate_formula.specs.Formulas.{formula_for}
 use Rattle.candidate_formula.specs.Said.{lines_said}
 use Rattle.proof_audit.specs.declared.verdict.FileVerdict.TheVariants.{Refused, Stands}
 use Rattle.proof_audit.specs.Files.{file_verdict}
-use Rattle.proof_audit.specs.Proving.{do_refute, is_refutation}
+use Rattle.proof_audit.specs.Proving.{is_refutation}
+use Rattle.proof_audit.specs.Tested.{do_refute}
 use Rattle.proof_audit.proofs.Proved.{refutes_by, by_refuting}
 
 -- a file whose bytes pass a test

@@ -15,7 +15,8 @@ use Rattle.candidate_formula.specs.Files.{longest_proof}
 use Rattle.proof_audit.specs.declared.fault.AuditFault.{AuditFault}
 use Rattle.proof_audit.specs.declared.verdict.FileVerdict.{FileVerdict}
 use Rattle.proof_audit.specs.declared.verdict.FileVerdict.TheVariants.{Stands, Refused}
-use Rattle.proof_audit.specs.Proving.{do_refute, is_refutation, do_spend, is_spent_log}
+use Rattle.proof_audit.specs.Proving.{is_refutation, is_spent_log}
+use Rattle.proof_audit.specs.Tested.{do_refute, do_spend}
 use Rattle.proof_audit.specs.Files.{file_verdict, short_and, SomePass, HasSpentLog}
 use Rattle.proof_audit.specs.inner.Lines.{left_says, lines_pass}
 use Rattle.proof_audit.specs.inner.Turns.{checker_after, is_refuted, are_taken}
@@ -65,4 +66,4 @@ pub has_log : (f : FormulaValue) (n : ℕ) → SomePass (is_spent_log f n) → H
 has_log f n some =
     let parts = and_parts (nat_le (length some.bytes) longest_proof) (do_spend f n (lines_said some.bytes)) some.pass in
     let by = spent_by f n (lines_said some.bytes) parts.1 in
-    ∣ record { lines = by.added; spent = by.spent } ∣₁
+    ∣ (by.added, by.spent) ∣₁

@@ -25,11 +25,6 @@ pub record SomePass (test : List ℕ → Bool) : Type 0 where
   pub bytes : List ℕ
   pub pass : test bytes ≡ true
 
--- a spent log of so many lines
-pub record SomeLog (f : FormulaValue) (n : ℕ) : Type 0 where
-  pub lines : List ProofLineValue
-  pub spent : SpentLog lines f n
-
--- there is such a log
+-- there is a spent log of so many lines
 abbrev pub HasSpentLog : FormulaValue → ℕ → Type 0
-HasSpentLog f n = ∥ SomeLog f n ∥₁
+HasSpentLog f n = ∥ ((lines : List ProofLineValue) × SpentLog lines f n) ∥₁

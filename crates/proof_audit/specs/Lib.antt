@@ -1,4 +1,5 @@
 pub mod Proving
+pub mod Tested
 pub mod Faults
 pub mod Files
 pub mod Kept

@@ -23,9 +23,9 @@ use Rattle.text_lines.specs.Text.{line, text_of}
 use Rattle.topology_text.specs.Spelling.{name_at}
 use Rattle.replay_text.specs.Replay.{node_lines, numbered_steps, verdict_words}
 use Rattle.replay_text.specs.Showing as showing
-use Rattle.replay_text.specs.Showing.{Shown, adding_of, bag_lines, bag_words, chunks_at, copied_verdict, counts_word, holds_as_shown, instance_at, is_copied, is_joined, nodes_of, order_lines, shown_lines, shown_steps, shown_text, shown_verdict, start_bags, steps_that_add, sum_words, summed_verdict}
+use Rattle.replay_text.specs.Showing.{Shown, adding_of, bag_lines, chunks_at, copied_verdict, holds_as_shown, instance_at, is_copied, is_joined, nodes_of, order_lines, shown_steps, shown_text, shown_verdict, steps_that_add, sum_words, summed_verdict}
 use Rattle.replay_text.specs.Points.{body_lines}
-use Rattle.replay_text.specs.inner.Appended.{bag_word, digits_of, keeper_words, more_lines, placed_lines, placed_steps, store_lines, stored_lines, stored_steps}
+use Rattle.replay_text.specs.inner.Appended.{bag_word, digits_of, keeper_words, more_lines, placed_lines, placed_steps, store_lines, stored_lines, stored_steps, bag_words, counts_word, start_bags}
 use Rattle.replay_text.proofs.Lines.{appends}
 use Rattle.replay_text.proofs.Showable.{pre_chunks, pre_nodes}
 

@@ -13,8 +13,8 @@ use Rattle.text_lines.specs.Text.{line, text_of}
 use Rattle.text_lines.proofs.Words.{join_fields}
 use Rattle.topology_text.specs.Spelling.{name_at}
 use Rattle.topology_text.proofs.Printed.{appended_three}
-use Rattle.replay_text.specs.Replay.{numbered_steps, step_head}
-use Rattle.replay_text.specs.inner.Appended.{digits_of, last_of, move_lines}
+use Rattle.replay_text.specs.Replay.{numbered_steps}
+use Rattle.replay_text.specs.inner.Appended.{digits_of, last_of, move_lines, step_head}
 
 pub range_more : (a n : ℕ) → range_with_len a (n + 1) ≡ range_with_len a n ++ (a + n) ∷ []
 range_more a zero = ap (λ x. x ∷ []) (sym (add-zero a))

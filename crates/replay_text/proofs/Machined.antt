@@ -12,7 +12,8 @@ use Rattle.node_programs.specs.Programs.{programs_of}
 use Rattle.node_programs.specs.Runs.{chosen, operations}
 use Rattle.node_programs.proofs.Everywhere.{every_seed}
 use Rattle.replay_text.specs.Points.{IsShowable}
-use Rattle.replay_text.specs.Showing.{Shown, adding_of, chunks_at, machine_of, nodes_of, start_bags}
+use Rattle.replay_text.specs.Showing.{Shown, adding_of, chunks_at, machine_of, nodes_of}
+use Rattle.replay_text.specs.inner.Appended.{start_bags}
 
 -- the programs of as many nodes, and of the same schedule
 pub below_same : {E : Type 0} (made : Result (List (List Op)) E) (m n : ℕ) (s t : ScheduleValue) → m ≡ n → s ≡ t

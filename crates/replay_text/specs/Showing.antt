@@ -3,7 +3,7 @@ use Rattle.std.specs.Prelude.{◌&&◌, ℕ, ◌+◌, not, Bool, true, false, if
 use Rattle.std.specs.List.{range_with_len, last_or}
 use Rattle.outer_ports.specs.declared.part.Part.{Part}
 use Rattle.outer_ports.specs.declared.part.Part.TheVariants as part
-use Rattle.schedule.specs.Bags.{Bag, Bags, contributions, of_placement, held_at_2}
+use Rattle.schedule.specs.Bags.{Bags, contributions, of_placement, held_at_2}
 use Rattle.schedule.specs.Running.{run_of}
 use Rattle.schedule.specs.JoinedRuns.{joined_run}
 use Rattle.schedule.specs.declared.verdict.Verdict.{Verdict}
@@ -25,7 +25,7 @@ use Rattle.text_lines.specs.Text.{text_of}
 use Rattle.topology_text.specs.Spelling.{name_at}
 use Rattle.report_form.specs.Reports.{ReportValue, question_of}
 use Rattle.inversion.specs.Saying.{says_solves, says_sums}
-use Rattle.replay_text.specs.Replay.{node_lines, replay_lines, verdict_words}
+use Rattle.replay_text.specs.Replay.{node_lines, numbered_steps, verdict_words}
 
 -- a point, its part, and what its part is asked for
 pub record Shown : Type 0 where
@@ -66,16 +66,10 @@ adding_of x = if is_copied x then 0 else steps_that_add x.point.mark (length x.p
 
 -- ---- the lines of the nodes
 
--- a digit for each node: how often it has contributed, where 2 stands for two or more
-abbrev pub counts_word : Bag → List ℕ
-counts_word bag = map (λ count. 48 + count) (held_at_2 bag)
-
--- a node's name, and each chunk with the counts of its bag
-abbrev pub bag_words : Shown → Bags → ℕ → List (List ℕ)
-bag_words x bags node = name_at x.names node ∷ map (λ chunk. decimal chunk ++ 61 ∷ counts_word (bags (chunk, node))) (range_with_len 0 (chunks_at x))
-
+-- a node's name, and each chunk with a digit for each node: how often it has contributed, where 2 stands for two or more
 abbrev pub bag_lines : Shown → Bags → List (List (List ℕ))
-bag_lines x bags = map (bag_words x bags) (range_with_len 0 (nodes_of x))
+bag_lines x bags =
+    map (λ node. name_at x.names node ∷ map (λ chunk. decimal chunk ++ 61 ∷ map (λ count. 48 + count) (held_at_2 (bags (chunk, node)))) (range_with_len 0 (chunks_at x))) (range_with_len 0 (nodes_of x))
 
 -- after step 0, 1 and so on: the chunks that each node holds, or its bags
 abbrev pub shown_steps : Shown → List (List (List (List ℕ)))
@@ -112,11 +106,11 @@ holds_as_shown x = if is_copied x then says_solves (copied_verdict x) else says_
 
 -- ---- the programs, and their run in an order
 
-abbrev pub start_bags : Shown → Bags
-start_bags x = if is_copied x then of_placement (instance_at x).pre else contributions (nodes_of x)
-
+-- from what is held, or from one contribution of each node
 abbrev pub machine_of : Shown → State
-machine_of x = start_of (programs_of (nodes_of x) x.point.schedule (adding_of x)) (stored (chunks_at x) (nodes_of x) (start_bags x))
+machine_of x =
+    start_of (programs_of (nodes_of x) x.point.schedule (adding_of x))
+    (stored (chunks_at x) (nodes_of x) (if is_copied x then of_placement (instance_at x).pre else contributions (nodes_of x)))
 
 -- how many events a run has, which nodes move, and what they have in the end
 abbrev pub order_lines : Shown → Option ℕ → List (List (List ℕ))
@@ -127,9 +121,8 @@ order_lines x (Some seed) =
     ∷ (codes "moves" ∷ map (name_at x.names) (chosen (machine_of x) seed))
     ∷ unwrap_or (last_or None (shown_steps x)) []
 
--- the order is shown only where the verdict holds
-abbrev pub shown_lines : ℕ → Shown → Option ℕ → List (List (List ℕ))
-shown_lines number x order = replay_lines number (shown_steps x) (shown_verdict x) (if holds_as_shown x then order_lines x order else [])
-
+-- the number of the point, its steps, the verdict, and, only where this holds, the order
 unfoldable pub shown_text : ℕ → Shown → Option ℕ → List ℕ
-shown_text number x order = text_of (shown_lines number x order)
+shown_text number x order =
+    text_of ((codes "replay" ∷ decimal number ∷ [])
+    ∷ (numbered_steps 0 (shown_steps x) ++ (shown_verdict x ∷ ((if holds_as_shown x then order_lines x order else []) ++ (codes "end" ∷ []) ∷ []))))

@@ -7,7 +7,8 @@ ghost use Rattle.node_programs.specs.Machines.{start_of};
 ghost use Rattle.node_programs.specs.Runs.{chosen, operations};
 ghost use Rattle.report_form.specs.Numbered.{points_of};
 ghost use Rattle.replay_text.specs.Points.{IsShowable};
-ghost use Rattle.replay_text.specs.Showing.{chunks_at, machine_of, nodes_of, shown_in, start_bags};
+ghost use Rattle.replay_text.specs.Showing.{chunks_at, machine_of, nodes_of, shown_in};
+ghost use Rattle.replay_text.specs.inner.Appended.{start_bags};
 
 use crate::OutOfMemory;
 use crate::adding::copies;

@@ -2,7 +2,7 @@
 
 ghost use Rattle.std.specs.Prelude.{◌≡◌, ◌++◌, ◌∷◌, [], decimal, OnOk};
 ghost use Rattle.text_lines.specs.Text.{line};
-ghost use Rattle.replay_text.specs.Replay.{step_head};
+ghost use Rattle.replay_text.specs.inner.Appended.{step_head};
 
 use crate::OutOfMemory;
 use text_lines::{push_number_field, push_word};

@@ -1,8 +1,6 @@
 -- What answers an audit, from its verdict.
-use Rattle.std.proofs.Common.{◌≡◌, ℕ, Bool, true, false, IsTrue, List, Ok, refl, sym, subst, ap, ◌∙◌}
+use Rattle.std.proofs.Common.{◌≡◌, ℕ, IsTrue, List, Ok, Err, sym, subst, ap, ◌∙◌}
 use Rattle.text_lines.specs.Check.{◌>>=◌}
-use Rattle.outer_ports.specs.Files.{Files}
-use Rattle.outer_ports.specs.Shelf.{FilesStay}
 use Rattle.report_form.specs.Reports.{ReportValue, IsReport}
 use Rattle.frontier_audit.specs.declared.verdict.AuditVerdict.{AuditVerdict}
 use Rattle.frontier_audit.specs.declared.verdict.AuditVerdict.TheVariants as audit
@@ -11,10 +9,11 @@ use Rattle.frontier_audit.specs.Beside.{IsVerdictOver}
 use Rattle.frontier_audit.specs.Rights.{HasLogs, IsRight}
 use Rattle.frontier_audit.proofs.Audited.{shelf_right}
 use Rattle.run_rules.specs.declared.status.Status.{Status}
-use Rattle.run_rules.specs.declared.status.Status.TheVariants.{Denied, Done}
-use Rattle.run_rules.specs.Tasks.{Audit, audit_in, searchable, whole_question}
-use Rattle.run_rules.specs.Audits.{audited, not_denied, verdict_status, verdict_text}
-use Rattle.run_rules.specs.Answers.{FilesValue, IsAnswer, IsAudit, Says, Stay}
+use Rattle.run_rules.specs.Tasks.{Audit, searchable}
+use Rattle.run_rules.specs.Steps.{audit_in, verdict_status, verdict_text, whole_question}
+use Rattle.run_rules.specs.Audits.{IsAudited, audited, not_denied}
+use Rattle.run_rules.specs.Answers.{FilesValue, IsAnswer, IsVerified, Says, Stay}
+use Rattle.run_rules.proofs.Denied.{accepted_so, said_as}
 use Rattle.run_rules.proofs.OverFiles.{HasVerdict, has_verdict}
 
 -- ---- a report whose search can be done is audited
@@ -24,19 +23,18 @@ can_audit r e = ap (λ x. x >>= (λ _. Ok (Audit r))) e
 
 -- ---- the verdict
 
-verified_by : (verdict : AuditVerdict) (status : Status) (text : List ℕ) → Says (verdict_status (not_denied verdict)) (verdict_text (not_denied verdict)) status text → status ≡ Done → verdict ≡ audit.Verified
-verified_by audit.Verified status text says done = refl
-verified_by (audit.Denied reason part x) status text says done = let e : Denied ≡ Done = sym says.status ∙ done in absurd (cc)
-
 module _ (r : ReportValue) (files : FilesValue) (verdict : AuditVerdict) (status : Status) (text : List ℕ) (valid : IsReport r) (exact : IsTrue files.told → verdict ≡ audit_of r files.before) (some : IsVerdictOver r verdict)
     (right : verdict ≡ audit.Verified → IsRight r) (logs : verdict ≡ audit.Verified → HasLogs r) (says : Says (verdict_status (not_denied verdict)) (verdict_text (not_denied verdict)) status text) (stay : Stay files) where
-  audit_answered : HasVerdict r verdict files.told files.before → IsAudit r files status text
+  audit_answered : HasVerdict r verdict files.told files.before → IsAudited r (IsVerified r) files status text
   unfolding audited
   audit_answered has = record {
     over = has.over;
     are = has.are;
-    says = subst (λ v. Says (verdict_status (not_denied v)) (verdict_text (not_denied v)) status text) (sym has.is) says;
-    verified = λ done. let verified = verified_by verdict status text says done in record { right = right verified; logs = logs verified; shelf = shelf_right r has.over valid (has.is ∙ verified) };
+    denied = λ why refused. said_as (not_denied verdict) (Err why) status text (sym (ap not_denied has.is) ∙ refused) says;
+    done = λ taken.
+        let accepted : not_denied verdict ≡ Ok tt = sym (ap not_denied has.is) ∙ taken in
+        let verified : verdict ≡ audit.Verified = accepted_so verdict accepted in
+        record { says = said_as (not_denied verdict) (Ok tt) status text accepted says; right = right verified; logs = logs verified; shelf = shelf_right r has.over valid (has.is ∙ verified) };
     stay = stay;
   }
 

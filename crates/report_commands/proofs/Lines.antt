@@ -13,7 +13,8 @@ use Rattle.report_form.specs.Spelling.{part_words, point_lines, refuted_words, s
 use Rattle.report_printing.specs.Printed.{point_text}
 use Rattle.report_printing.proofs.Pieces.{text_append, text_each}
 use Rattle.link_faults.specs.Carrying.{is_carried}
-use Rattle.run_rules.specs.Degraded.{carried_words, degraded_text}
+use Rattle.run_rules.specs.Degraded.{degraded_text}
+use Rattle.run_rules.specs.Lines.{carried_words}
 
 module _ (w : WordsValue) (t : NamedTopologyValue) (old : List Candidate) (f : FrontierValue) where
   abbrev points : List (List (List ℕ))

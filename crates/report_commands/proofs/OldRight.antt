@@ -13,7 +13,8 @@ use Rattle.candidate_order.specs.Frontiers.{QuestionValue, FrontierValue, IsWith
 use Rattle.candidate_order.specs.Ranges.{IsLimits}
 use Rattle.round_encoding.proofs.Obeyed.{all_map}
 use Rattle.report_form.specs.Reports.{ReportValue, IsFrontier, IsReport, parts_of, question_of}
-use Rattle.frontier_audit.specs.Rights.{IsRight, IsRightPart}
+use Rattle.frontier_audit.specs.Rights.{IsRight}
+use Rattle.frontier_audit.specs.Parts.{IsRightPart}
 use Rattle.link_faults.specs.Carrying.{HasFewRounds, IsOldRefuted}
 use Rattle.run_rules.specs.Degraded.{old_refuted}
 

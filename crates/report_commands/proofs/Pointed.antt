@@ -13,7 +13,8 @@ use Rattle.run_rules.specs.declared.status.Status.{Status}
 use Rattle.run_rules.specs.declared.status.Status.TheVariants.{BadWords, Done}
 use Rattle.run_rules.specs.Answers.{IsAnswerAlone, Says}
 use Rattle.run_rules.specs.Refusals.{Refusal, refused_word, refusal_line}
-use Rattle.run_rules.specs.Tasks.{Task, Write, programs_in, replay_in}
+use Rattle.run_rules.specs.Tasks.{Task, Write}
+use Rattle.run_rules.specs.Steps.{programs_in, replay_in}
 use Rattle.run_rules.proofs.Answered.{refused_answers, written_as}
 
 -- the line that refuses the word of a point

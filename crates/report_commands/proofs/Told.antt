@@ -1,16 +1,17 @@
 -- What answers a fault, by the verdict on the report.
-use Rattle.std.proofs.Common.{◌≡◌, ◌≢◌, ℕ, IsTrue, List, Result, Ok, Err, refl, sym, subst, ap, ◌∙◌}
+use Rattle.std.proofs.Common.{◌≡◌, ◌≢◌, ℕ, IsTrue, List, Ok, Err, refl, sym, ap, ◌∙◌}
 use Rattle.report_form.specs.Reports.{ReportValue}
 use Rattle.frontier_audit.specs.declared.verdict.AuditVerdict.{AuditVerdict}
 use Rattle.frontier_audit.specs.declared.verdict.AuditVerdict.TheVariants as audit
 use Rattle.frontier_audit.specs.Auditing.{audit_of}
 use Rattle.frontier_audit.specs.Beside.{IsVerdictOver}
 use Rattle.run_rules.specs.declared.status.Status.{Status}
-use Rattle.run_rules.specs.Refusals.{Refusal, refusal_line}
-use Rattle.run_rules.specs.Audits.{audited, not_denied, verdict_status, verdict_text}
-use Rattle.run_rules.specs.Degraded.{IsDegradedAnswer, IsNewSearch}
+use Rattle.run_rules.specs.Audits.{IsAudited, audited, not_denied}
+use Rattle.run_rules.specs.Steps.{verdict_status, verdict_text}
+use Rattle.run_rules.specs.Degraded.{IsNewSearch}
 use Rattle.run_rules.specs.Said.{FilesValue, Says, Stay}
 use Rattle.run_rules.proofs.OverFiles.{HasVerdict, has_verdict}
+use Rattle.run_rules.proofs.Denied.{said_as}
 use Rattle.report_commands.specs.inner.Judged.{IsJudged}
 
 -- by what an audit says of its verdict
@@ -25,7 +26,7 @@ module _ (r : ReportValue) (group width : ℕ) (verdict : AuditVerdict) (files :
   unfolding audited
   over_is = ap not_denied is.is
 
-  pub searched_anew : verdict ≡ audit.Verified → IsNewSearch r group width status text → IsDegradedAnswer r group width files status text
+  pub searched_anew : verdict ≡ audit.Verified → IsNewSearch r group width status text → IsAudited r (λ _. IsNewSearch r group width) files status text
   searched_anew verified search = record {
     over = is.over;
     are = is.are;
@@ -34,19 +35,15 @@ module _ (r : ReportValue) (group width : ℕ) (verdict : AuditVerdict) (files :
     stay = is.stay;
   }
 
-  -- a refusal says itself
-  as_refused : (told : Result (Unit {0}) Refusal) (why : Refusal) → told ≡ Err why → Says (verdict_status told) (verdict_text told) status text → Says why.status (refusal_line why) status text
-  as_refused told why refused says = subst (λ x. Says (verdict_status x) (verdict_text x) status text) refused says
-
   is_refusal : (told : AuditVerdict) → told ≢ audit.Verified → not_denied told ≡ Ok tt → ⊥
   is_refusal audit.Verified denied taken = denied refl
   is_refusal (audit.Denied reason part x) denied taken = absurd (cc)
 
-  pub told_denied : verdict ≢ audit.Verified → Says (verdict_status (not_denied verdict)) (verdict_text (not_denied verdict)) status text → IsDegradedAnswer r group width files status text
+  pub told_denied : verdict ≢ audit.Verified → Says (verdict_status (not_denied verdict)) (verdict_text (not_denied verdict)) status text → IsAudited r (λ _. IsNewSearch r group width) files status text
   told_denied denied says = record {
     over = is.over;
     are = is.are;
-    denied = λ why refused. as_refused (not_denied verdict) why (sym over_is ∙ refused) says;
+    denied = λ why refused. said_as (not_denied verdict) (Err why) status text (sym over_is ∙ refused) says;
     done = λ taken. absurd (is_refusal verdict denied (sym over_is ∙ taken));
     stay = is.stay;
   }

@@ -6,7 +6,8 @@ ghost use Rattle.outer_ports.specs.Shelf.{FilesStay};
 ghost use Rattle.run_rules.specs.Answers.{IsAnswer, LeavesOff};
 ghost use Rattle.run_rules.specs.Commands.{IsRefusal};
 ghost use Rattle.run_rules.specs.Refusals.{Refusal};
-ghost use Rattle.run_rules.specs.Tasks.{audit_asked, audit_in, limit};
+ghost use Rattle.run_rules.specs.Tasks.{audit_asked, limit};
+ghost use Rattle.run_rules.specs.Steps.{audit_in};
 
 use frontier_audit::audit;
 use outer_ports::Shelf;

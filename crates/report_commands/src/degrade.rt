@@ -10,11 +10,13 @@ ghost use Rattle.candidate_formula.specs.Sizes.{size_of};
 ghost use Rattle.frontier_audit.specs.Rights.{IsRight};
 ghost use Rattle.run_rules.specs.Answers.{IsAnswer, LeavesOff};
 ghost use Rattle.run_rules.specs.Commands.{IsRefusal};
-ghost use Rattle.run_rules.specs.Degraded.{IsDegradedAnswer, IsNewSearch};
+ghost use Rattle.run_rules.specs.Audits.{IsAudited};
+ghost use Rattle.run_rules.specs.Degraded.{IsNewSearch};
 ghost use Rattle.run_rules.specs.Read.{IsSearchableAs};
 ghost use Rattle.run_rules.specs.Refusals.{Refusal};
 ghost use Rattle.run_rules.specs.Said.{FilesValue};
-ghost use Rattle.run_rules.specs.Tasks.{degrade_asked, degrade_in, limit};
+ghost use Rattle.run_rules.specs.Tasks.{degrade_asked, limit};
+ghost use Rattle.run_rules.specs.Steps.{degrade_in};
 ghost use Rattle.report_commands.specs.inner.Faults.{CanFail, refused_first};
 ghost use Rattle.report_commands.specs.inner.Judged.{IsJudged};
 
@@ -83,7 +85,7 @@ fn judged_answer(
     requires fault { CanFail report.now fault.group fault.width }
     requires small { size_of (question_of report.now.words report.now.topology Whole) ≤ size_limit }
     requires right { verdict ≡ AuditVerdict.Verified → IsRight report.now }
-    ensures answers { (files : FilesValue) → IsJudged report.now verdict files → IfOk result (λ a. IsDegradedAnswer report.now fault.group fault.width files a.status a.text.items) }
+    ensures answers { (files : FilesValue) → IsJudged report.now verdict files → IfOk result (λ a. IsAudited report.now (λ _. IsNewSearch report.now fault.group fault.width) files a.status a.text.items) }
     ensures accepted { IfOk result (λ a. ¬ IsRefusal a.status) }
 {
     match verdict {
@@ -102,7 +104,7 @@ fn audited_answer<H: Shelf>(
 ) -> Result<Answer, Halt>
     requires fault { CanFail report.now fault.group fault.width }
     requires small { size_of (question_of report.now.words report.now.topology Whole) ≤ size_limit }
-    ensures answers { IfOk result (λ a. IsDegradedAnswer report.now fault.group fault.width (record { told = H.tells shelf.new; before = H.file shelf.old; after = H.file shelf.new }) a.status a.text.items) }
+    ensures answers { IfOk result (λ a. IsAudited report.now (λ _. IsNewSearch report.now fault.group fault.width) (record { told = H.tells shelf.new; before = H.file shelf.old; after = H.file shelf.new }) a.status a.text.items) }
     ensures stay { IsTrue (H.tells shelf.new) → FilesStay (H.file shelf.old) (H.file shelf.new) }
     ensures accepted { IfOk result (λ a. ¬ IsRefusal a.status) }
     ensures source { result ≢ Err Halt.Source }

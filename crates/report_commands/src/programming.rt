@@ -2,7 +2,8 @@
 
 ghost use Rattle.std.specs.Prelude.{◌≤◌, length, IfOk};
 ghost use Rattle.run_rules.specs.Answers.{IsAnswerAlone};
-ghost use Rattle.run_rules.specs.Tasks.{limit, programs_asked, programs_in};
+ghost use Rattle.run_rules.specs.Tasks.{limit, programs_asked};
+ghost use Rattle.run_rules.specs.Steps.{programs_in};
 
 use crate::OutOfMemory;
 use command_words::{PointWord, WordCode};

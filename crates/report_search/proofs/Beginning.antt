@@ -16,7 +16,8 @@ use Rattle.proof_audit.specs.Kept.{BothStay, KeepsEach}
 use Rattle.topology_text.specs.Value.{NamedTopologyValue}
 use Rattle.report_form.specs.Reports.{WordsValue, parts_of, question_of}
 use Rattle.engine_rules.specs.declared.fault.EngineFault.{EngineFault}
-use Rattle.frontier_audit.specs.OwedFiles.{BreaksOff, KeepsProofs, TakesUpPart}
+use Rattle.frontier_audit.specs.OwedFiles.{BreaksOff, KeepsProofs}
+use Rattle.frontier_audit.specs.Parts.{TakesUpPart}
 use Rattle.report_search.specs.Shelved.{MayHaveBegun}
 
 module _ (w : WordsValue) (t : NamedTopologyValue) where

@@ -14,8 +14,9 @@ use Rattle.proof_audit.specs.Kept.{BothStay}
 use Rattle.proof_audit.proofs.Keeping.{keeps_trans, still_refuted}
 use Rattle.topology_text.specs.Value.{NamedTopologyValue}
 use Rattle.report_form.specs.Reports.{WordsValue, ReportValue, IsFrontier, IsReport, question_of}
-use Rattle.frontier_audit.specs.Rights.{IsExhaustedPart, IsRight, IsRightPart, IsSearched, IsSearchedPart, IsSuitedPart, IsUncutPart}
-use Rattle.frontier_audit.specs.OwedFiles.{IsOf, KeepsProofs, Proves, TakesUpPart, TakesUpProofs}
+use Rattle.frontier_audit.specs.Rights.{IsRight, IsSearched}
+use Rattle.frontier_audit.specs.Parts.{IsExhaustedPart, IsRightPart, IsSearchedPart, IsSuitedPart, IsUncutPart, IsOf, TakesUpPart}
+use Rattle.frontier_audit.specs.OwedFiles.{KeepsProofs, Proves, TakesUpProofs}
 use Rattle.frontier_audit.specs.Searches.{IsAsked}
 use Rattle.engine_search.specs.Found.{IsFound}
 use Rattle.report_search.specs.Shelved.{IsShelved, IsUncut}

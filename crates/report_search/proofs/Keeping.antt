@@ -27,7 +27,7 @@ use Rattle.engine_search.proofs.Recorded.{was_refuted}
 use Rattle.candidate_solver.specs.Kept.{EngineState}
 use Rattle.proof_audit.specs.Kept.{KeepsEach}
 use Rattle.kept_proofs.specs.Keeping.{KeepingMoves, TakesUpEach}
-use Rattle.frontier_audit.specs.OwedFiles.{TakesUpPart}
+use Rattle.frontier_audit.specs.Parts.{TakesUpPart}
 use Rattle.report_search.proofs.Recorded.{alike}
 use Rattle.report_search.proofs.Uncut.{cut_in_place, from_filter, tried_below}
 

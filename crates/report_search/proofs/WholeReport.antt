@@ -11,8 +11,9 @@ use Rattle.candidate_formula.specs.Files.{candidate_of, FrontierFiles}
 use Rattle.candidate_formula.specs.Pruned.{HasOwnFiles}
 use Rattle.topology_text.specs.Value.{NamedTopologyValue}
 use Rattle.report_form.specs.Reports.{WordsValue, ReportValue, IsFrontier, IsReport, IsJoinedPoint, question_of, whole_report}
-use Rattle.frontier_audit.specs.Rights.{IsExhaustedPart, IsRight, IsRightPart, IsSearched, IsSearchedPart, IsSuitedPart, IsUncutPart}
-use Rattle.frontier_audit.specs.OwedFiles.{IsOf, Proves, TakesUpPart, TakesUpProofs}
+use Rattle.frontier_audit.specs.Rights.{IsRight, IsSearched}
+use Rattle.frontier_audit.specs.Parts.{IsExhaustedPart, IsRightPart, IsSearchedPart, IsSuitedPart, IsUncutPart, IsOf, TakesUpPart}
+use Rattle.frontier_audit.specs.OwedFiles.{Proves, TakesUpProofs}
 use Rattle.frontier_audit.specs.Searches.{IsAsked}
 use Rattle.engine_search.specs.Found.{IsFound}
 use Rattle.report_search.specs.Shelved.{IsShelved, IsUncut}

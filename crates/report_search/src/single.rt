@@ -6,7 +6,7 @@ ghost use Rattle.collective_spec.specs.Collectives.{IsSpec, kind_in};
 ghost use Rattle.round_encoding.specs.Candidates.{size_limit};
 ghost use Rattle.candidate_formula.specs.Sizes.{size_of};
 ghost use Rattle.proof_audit.specs.Kept.{KeepsEach};
-ghost use Rattle.frontier_audit.specs.OwedFiles.{TakesUpPart};
+ghost use Rattle.frontier_audit.specs.Parts.{TakesUpPart};
 ghost use Rattle.engine_search.specs.Found.{IsFound};
 ghost use Rattle.report_search.specs.Shelved.{IsShelved, IsUncut, MayHaveBegun};
 

@@ -1,5 +1,5 @@
 -- With which statuses the answer to what is due ends: those of the command's row.
-use Rattle.std.proofs.Common.{◌≡◌, ◌==◌, ◌||◌, ℕ, Bool, true, false, not, IsTrue, nat_lt, slice_get, length, List, [], ◌∷◌, Option, None, Some, Result, Ok, Err, refl, sym, subst}
+use Rattle.std.proofs.Common.{◌≡◌, ◌==◌, ◌||◌, ℕ, Bool, true, false, not, IsTrue, nat_lt, slice_get, length, List, [], ◌∷◌, Option, None, Some, Result, Ok, Err, refl, sym, subst, ◌∙◌}
 use Rattle.std.specs.List.{list_any}
 use Rattle.text_lines.specs.Check.{◌>>=◌, refuse, need}
 use Rattle.outer_ports.specs.Files.{Files}
@@ -12,9 +12,6 @@ use Rattle.report_form.specs.Reading.{report_of}
 use Rattle.report_form.specs.Reports.{ReportValue}
 use Rattle.round_encoding.specs.Candidates.{size_limit}
 use Rattle.candidate_formula.specs.Sizes.{size_of}
-use Rattle.frontier_audit.specs.declared.verdict.AuditVerdict.{AuditVerdict}
-use Rattle.frontier_audit.specs.declared.verdict.AuditVerdict.TheVariants as audit
-use Rattle.frontier_audit.specs.Auditing.{audit_of}
 use Rattle.candidate_formula.specs.Counts.{counts_of}
 use Rattle.replay_text.specs.Showing.{shown_in, shown_text}
 use Rattle.replay_text.specs.Points.{programs_of_point}
@@ -36,11 +33,14 @@ use Rattle.run_rules.specs.declared.status.Status.TheVariants.{Done, BadWords, B
 use Rattle.run_rules.specs.Statuses.{number_of}
 use Rattle.command_words.specs.declared.fault.WordCode.TheVariants.{KeyMissing}
 use Rattle.run_rules.specs.Refusals.{Refusal, refused_as, refused_word}
-use Rattle.run_rules.specs.Commands.{IsOneOf, answers_of, row_of, search_row, unkept_row, check_row, fault_row, json_row, point_row, unjson_row}
-use Rattle.run_rules.specs.Tasks.{Task, Write, Synthesise, Audit, Try, Bound, Order, Degrade, audit_in, degrade_in, fault_in, given_sets, is_allreduce, json_programs_in, point_in, programs_in, programs_value, read_report, replay_in, root_in, search_asked, searchable, task_of, whole_question, words_for}
-use Rattle.run_rules.specs.Audits.{audited, not_denied, verdict_status}
+use Rattle.run_rules.specs.Commands.{IsOneOf, answers_of, row_of, json_row, point_row, unjson_row}
+use Rattle.run_rules.specs.Tasks.{Task, Write, Synthesise, Audit, Try, Bound, Order, Degrade, fault_in, given_sets, is_allreduce, json_programs_in, point_in, programs_value, read_report, root_in, search_asked, searchable, task_of}
+use Rattle.run_rules.specs.Steps.{audit_in, degrade_in, programs_in, replay_in, whole_question, words_for}
+use Rattle.run_rules.specs.Audits.{IsAudited, audited}
+use Rattle.run_rules.specs.Degraded.{IsNewSearch}
 use Rattle.run_rules.specs.Said.{FilesValue}
-use Rattle.run_rules.specs.Answers.{IsAnswer}
+use Rattle.run_rules.specs.Answers.{IsAnswer, IsVerified}
+use Rattle.run_rules.proofs.Denied.{denied_by}
 
 -- what is refused is refused with such a status
 abbrev pub With : {A : Type 0} → (Status → Type 0) → Result A Refusal → Type 0
@@ -94,10 +94,10 @@ module _ (P : Status → Type 0) where
 
 refused_in_row : (c : Command) (bytes : List ℕ) → With (IsOneOf (row_of c).refusals) (task_of c bytes)
 refused_in_row (command.Synth kind word limits root kept) bytes =
-    let P : Status → Type 0 = IsOneOf search_row.refusals in
+    let P : Status → Type 0 = IsOneOf (row_of (command.Synth kind word limits root kept)).refusals in
     bind P _ _ (sought P refl refl refl refl (record { kind = kind; kind_word = word; limits = limits; root = root }) bytes) (λ _. tt)
 refused_in_row command.Check bytes =
-    let P : Status → Type 0 = IsOneOf check_row.refusals in
+    let P : Status → Type 0 = IsOneOf (row_of command.Check).refusals in
     bind P _ _ (reported P refl bytes) (λ r. bind P _ _ (sized P refl refl (whole_question r.words r.topology)) (λ _. tt))
 refused_in_row (command.Replay number word order) bytes =
     let P : Status → Type 0 = IsOneOf point_row.refusals in
@@ -108,13 +108,13 @@ refused_in_row (command.Programs number word) bytes =
 refused_in_row (command.Family kind size) bytes = tt
 refused_in_row (command.Trial n) bytes = tt
 refused_in_row (command.Bound kind word limits root all_sets) bytes =
-    let P : Status → Type 0 = IsOneOf search_row.refusals in
+    let P : Status → Type 0 = IsOneOf (row_of (command.Bound kind word limits root all_sets)).refusals in
     bind P _ _ (sought P refl refl refl refl (record { kind = kind; kind_word = word; limits = limits; root = root }) bytes) (λ _. tt)
 refused_in_row (command.Ordered kind word limits root) bytes =
-    let P : Status → Type 0 = IsOneOf unkept_row.refusals in
+    let P : Status → Type 0 = IsOneOf (row_of (command.Ordered kind word limits root)).refusals in
     bind P _ _ (sought P refl refl refl refl (record { kind = kind; kind_word = word; limits = limits; root = root }) bytes) (λ _. tt)
 refused_in_row (command.Degrade group group_word width width_word) bytes =
-    let P : Status → Type 0 = IsOneOf fault_row.refusals in
+    let P : Status → Type 0 = IsOneOf (row_of (command.Degrade group group_word width width_word)).refusals in
     bind P _ _ (reported P refl bytes) (λ r. bind P _ _ (faulted P refl r group group_word width width_word) (λ _. bind P _ _ (sized P refl refl (whole_question r.words r.topology)) (λ _. tt)))
 refused_in_row (command.Json what.Topology point) bytes =
     let P : Status → Type 0 = IsOneOf (json_row what.Topology).refusals in
@@ -151,9 +151,9 @@ behind P (Err r) f g = tt
 
 denied_in_row : (c : Command) (bytes : List ℕ) → MayDeny (IsOneOf (row_of c).refusals) (task_of c bytes)
 denied_in_row (command.Synth kind word limits root kept) bytes =
-    behind (IsOneOf search_row.refusals) (search_asked (record { kind = kind; kind_word = word; limits = limits; root = root }) bytes) (λ s. Ok (Synthesise s.0 s.1 kept)) (λ _. tt)
+    behind (IsOneOf (row_of (command.Synth kind word limits root kept)).refusals) (search_asked (record { kind = kind; kind_word = word; limits = limits; root = root }) bytes) (λ s. Ok (Synthesise s.0 s.1 kept)) (λ _. tt)
 denied_in_row command.Check bytes =
-    let P : Status → Type 0 = IsOneOf check_row.refusals in
+    let P : Status → Type 0 = IsOneOf (row_of command.Check).refusals in
     behind P (read_report bytes) audit_in (λ r. behind P (searchable (whole_question r.words r.topology)) (λ _. Ok (Audit r)) (λ _. refl))
 denied_in_row (command.Replay number word order) bytes =
     let P : Status → Type 0 = IsOneOf point_row.refusals in
@@ -166,11 +166,11 @@ denied_in_row (command.Programs number word) bytes =
 denied_in_row (command.Family kind size) bytes = tt
 denied_in_row (command.Trial n) bytes = tt
 denied_in_row (command.Bound kind word limits root all_sets) bytes =
-    behind (IsOneOf search_row.refusals) (search_asked (record { kind = kind; kind_word = word; limits = limits; root = root }) bytes) (λ s. Ok (Bound s.0 s.1 (given_sets all_sets))) (λ _. tt)
+    behind (IsOneOf (row_of (command.Bound kind word limits root all_sets)).refusals) (search_asked (record { kind = kind; kind_word = word; limits = limits; root = root }) bytes) (λ s. Ok (Bound s.0 s.1 (given_sets all_sets))) (λ _. tt)
 denied_in_row (command.Ordered kind word limits root) bytes =
-    behind (IsOneOf unkept_row.refusals) (search_asked (record { kind = kind; kind_word = word; limits = limits; root = root }) bytes) (λ s. Ok (Order s.0 s.1)) (λ _. tt)
+    behind (IsOneOf (row_of (command.Ordered kind word limits root)).refusals) (search_asked (record { kind = kind; kind_word = word; limits = limits; root = root }) bytes) (λ s. Ok (Order s.0 s.1)) (λ _. tt)
 denied_in_row (command.Degrade group group_word width width_word) bytes =
-    let P : Status → Type 0 = IsOneOf fault_row.refusals in
+    let P : Status → Type 0 = IsOneOf (row_of (command.Degrade group group_word width width_word)).refusals in
     behind P (read_report bytes) (λ r. degrade_in r group group_word width width_word) (λ r. behind P (fault_in r group group_word width width_word) (λ _. searchable (whole_question r.words r.topology) >>= (λ _. Ok (Degrade r group width)))
     (λ _. behind P (searchable (whole_question r.words r.topology)) (λ _. Ok (Degrade r group width)) (λ _. refl)))
 denied_in_row (command.Json what.Topology point) bytes =
@@ -190,14 +190,6 @@ denied_in_row (command.Unjson what.Programs) bytes =
 
 -- ---- an answer
 
-verdict_ends : (P : Status → Type 0) → P Done → P Denied → (verdict : AuditVerdict) → P (verdict_status (not_denied verdict))
-verdict_ends P done denied audit.Verified = done
-verdict_ends P done denied (audit.Denied reason part x) = denied
-
-audit_ends : (P : Status → Type 0) → P Done → P Denied → (r : ReportValue) (files : Files) → P (verdict_status (audited r files))
-unfolding audited
-audit_ends P done denied r files = verdict_ends P done denied (audit_of r files)
-
 one_more : (x : Status) (xs : List Status) (s : Status) → IsOneOf xs s → IsOneOf (x ∷ xs) s
 one_more x xs s there = either (number_of x == number_of s)
   where
@@ -205,20 +197,26 @@ one_more x xs s there = either (number_of x == number_of s)
     either true = refl
     either false = there
 
+-- an audit ends with its denial, or as what is verified is done
+audited_ends : (refusals : List Status) (r : ReportValue) (files : FilesValue) (status : Status) (text : List ℕ) (Then : Files → Status → List ℕ → Type 0) → ((over : Files) → Then over status text → status ≡ Done)
+    → IsOneOf refusals Denied → IsAudited r Then files status text → IsOneOf (Done ∷ refusals) status
+audited_ends refusals r files status text Then done deny answer = by_verdict (audited r answer.over) refl
+  where
+    by_verdict : (x : Result (Unit {0}) Refusal) → audited r answer.over ≡ x → IsOneOf (Done ∷ refusals) status
+    by_verdict (Ok u) is = subst (IsOneOf (Done ∷ refusals)) (sym (done answer.over (answer.done is))) refl
+    by_verdict (Err why) is = subst (IsOneOf (Done ∷ refusals)) (sym ((answer.denied why is).status ∙ denied_by r answer.over why is)) (one_more Done refusals Denied deny)
+
 answer_ends : (refusals : List Status) (due : Result Task Refusal) (files : FilesValue) (status : Status) (text : List ℕ) → With (IsOneOf refusals) due → MayDeny (IsOneOf refusals) due → IsAnswer due files status text → IsOneOf (Done ∷ refusals) status
 answer_ends refusals (Err r) files status text listed deny answer = subst (IsOneOf (Done ∷ refusals)) (sym answer.says.status) (one_more Done refusals r.status listed)
 answer_ends refusals (Ok (Write words)) files status text listed deny answer = subst (IsOneOf (Done ∷ refusals)) (sym answer.says.status) refl
 answer_ends refusals (Ok (Synthesise w t kept)) files status text listed deny answer = subst (IsOneOf (Done ∷ refusals)) (sym answer.says.status) refl
 answer_ends refusals (Ok (Audit r)) files status text listed deny answer =
-    subst (IsOneOf (Done ∷ refusals)) (sym answer.says.status) (audit_ends (IsOneOf (Done ∷ refusals)) refl (one_more Done refusals Denied deny) r answer.over)
+    audited_ends refusals r files status text (IsVerified r) (λ over said. said.says.status) deny answer
 answer_ends refusals (Ok (Try n)) files status text listed deny answer = subst (IsOneOf (Done ∷ refusals)) (sym answer.done) refl
 answer_ends refusals (Ok (Bound w t sets)) files status text listed deny answer = subst (IsOneOf (Done ∷ refusals)) (sym answer.says.status) refl
 answer_ends refusals (Ok (Order w t)) files status text listed deny answer = subst (IsOneOf (Done ∷ refusals)) (sym answer.says.status) refl
-answer_ends refusals (Ok (Degrade r group width)) files status text listed deny answer = by_verdict (audited r answer.over) refl
-  where
-    by_verdict : (x : Result (Unit {0}) Refusal) → audited r answer.over ≡ x → IsOneOf (Done ∷ refusals) status
-    by_verdict (Ok u) is = subst (IsOneOf (Done ∷ refusals)) (sym (answer.done is).says.status) refl
-    by_verdict (Err why) is = subst (IsOneOf (Done ∷ refusals)) (sym (answer.denied why is).status) (subst (λ x. IsOneOf (Done ∷ refusals) (verdict_status x)) is (audit_ends (IsOneOf (Done ∷ refusals)) refl (one_more Done refusals Denied deny) r answer.over))
+answer_ends refusals (Ok (Degrade r group width)) files status text listed deny answer =
+    audited_ends refusals r files status text (λ _. IsNewSearch r group width) (λ over said. said.says.status) deny answer
 
 pub command_ends : (c : Command) (bytes : List ℕ) (files : FilesValue) (status : Status) (text : List ℕ) → IsAnswer (task_of c bytes) files status text → IsOneOf (answers_of c) status
 command_ends c bytes files status text = answer_ends (row_of c).refusals (task_of c bytes) files status text (refused_in_row c bytes) (denied_in_row c bytes)

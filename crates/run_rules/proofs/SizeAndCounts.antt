@@ -18,7 +18,8 @@ use Rattle.report_form.specs.Reports.{WordsValue}
 use Rattle.candidate_formula.specs.Counts.{counts_of}
 use Rattle.run_rules.specs.declared.status.Status.TheVariants.{TooLarge, NoCandidate}
 use Rattle.run_rules.specs.Refusals.{Refusal, refused_at}
-use Rattle.run_rules.specs.Tasks.{searchable, whole_question}
+use Rattle.run_rules.specs.Tasks.{searchable}
+use Rattle.run_rules.specs.Steps.{whole_question}
 
 -- ---- the size and the chunk counts of a question
 

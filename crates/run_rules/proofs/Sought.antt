@@ -13,7 +13,8 @@ use Rattle.command_words.specs.declared.fault.WordCode.TheVariants.{CustomMismat
 use Rattle.report_form.specs.Reports.{WordsValue}
 use Rattle.run_rules.specs.declared.status.Status.TheVariants.{BadTopology}
 use Rattle.run_rules.specs.Refusals.{Refusal, refused_as, refused_at, refused_word}
-use Rattle.run_rules.specs.Tasks.{fitting, root_in, search_asked, search_for, search_over, searchable, whole_question, words_for}
+use Rattle.run_rules.specs.Tasks.{root_in, search_asked, searchable}
+use Rattle.run_rules.specs.Steps.{fitting, search_for, search_over, whole_question, words_for}
 
 -- ---- what can be searched
 

@@ -1,5 +1,6 @@
 -- The answer to what is due: its status, its text, and the files that it leaves. This project's own; the synthesis theorem is the case of a search.
-use Rattle.std.specs.Prelude.{◌≡◌, ℕ, Bool, IsTrue, List, Result, Ok, Err}
+use Rattle.std.specs.Prelude.{◌≡◌, ℕ, Bool, IsTrue, List, [], ◌∷◌, Result, Ok, Err, codes}
+use Rattle.text_lines.specs.Text.{line}
 use Rattle.outer_ports.specs.Files.{Files}
 use Rattle.outer_ports.specs.Shelf.{FilesStay}
 use Rattle.topology_text.specs.Value.{NamedTopologyValue}
@@ -13,11 +14,11 @@ use Rattle.run_rules.specs.declared.status.Status.TheVariants.{Done}
 use Rattle.run_rules.specs.Refusals.{Refusal, refusal_line}
 pub use Rattle.run_rules.specs.Said.{FilesValue, IsSaid, Says, Stay}
 use Rattle.run_rules.specs.Tasks.{Task, Write, Synthesise, Audit, Try, Bound, Order, Degrade}
-use Rattle.run_rules.specs.Audits.{audited, verdict_status, verdict_text}
+use Rattle.run_rules.specs.Audits.{IsAudited}
 use Rattle.run_rules.specs.Tries.{Tries}
 use Rattle.run_rules.specs.Bounds.{IsBoundAnswer}
 use Rattle.run_rules.specs.Orders.{IsOrderedAnswer}
-use Rattle.run_rules.specs.Degraded.{IsDegradedAnswer}
+use Rattle.run_rules.specs.Degraded.{IsNewSearch}
 
 -- a search: the text of one report of these words and this topology, which is right and searched in order, and whose proofs the files are; where proofs are kept, a candidate that was tried and that its files refuted before is refuted, and what refuted any candidate before stands there still; a file that changed is one of its own, and holds the text of the formula, or of lines that are accepted in their turn, or the beginning of such a text
 pub record IsSearch (w : WordsValue) (t : NamedTopologyValue) (kept : Bool) (files : FilesValue) (status : Status) (text : List ℕ) : Type 0 where
@@ -33,18 +34,11 @@ pub record IsSearch (w : WordsValue) (t : NamedTopologyValue) (kept : Bool) (fil
   pub begun : IsTrue files.told → BreaksOff w t files.before files.after
 
 -- what a verified report is, whoever made it: it is right, there is a spent log of each candidate that it calls unknown, and the files prove it
-pub record IsVerified (r : ReportValue) (files : Files) : Type 0 where
+pub record IsVerified (r : ReportValue) (files : Files) (status : Status) (text : List ℕ) : Type 0 where
+  pub says : Says Done (line (codes "verified" ∷ [])) status text
   pub right : IsRight r
   pub logs : HasLogs r
   pub shelf : ShelfRight r files
-
--- an audit: the verdict on the report over these files, which are those of the shelf where it tells them; no file changed
-pub record IsAudit (r : ReportValue) (files : FilesValue) (status : Status) (text : List ℕ) : Type 0 where
-  pub over : Files
-  pub are : IsTrue files.told → FilesStay files.before over
-  pub says : Says (verdict_status (audited r over)) (verdict_text (audited r over)) status text
-  pub verified : status ≡ Done → IsVerified r over
-  pub stay : Stay files
 
 -- a trial: the summary of a search with files of its own
 pub record IsTrial (n : ℕ) (files : FilesValue) (status : Status) (text : List ℕ) : Type 0 where
@@ -52,16 +46,16 @@ pub record IsTrial (n : ℕ) (files : FilesValue) (status : Status) (text : List
   pub tries : Tries n text
   pub stay : Stay files
 
--- the answer to what is due
+-- the answer to what is due; after a fault the old report is audited first
 abbrev pub IsAnswer : Result Task Refusal → FilesValue → Status → List ℕ → Type 0
 IsAnswer (Err r) = IsSaid r.status (refusal_line r)
 IsAnswer (Ok (Write text)) = IsSaid Done text
 IsAnswer (Ok (Synthesise w t kept)) = IsSearch w t kept
-IsAnswer (Ok (Audit r)) = IsAudit r
+IsAnswer (Ok (Audit r)) = IsAudited r (IsVerified r)
 IsAnswer (Ok (Try n)) = IsTrial n
 IsAnswer (Ok (Bound w t sets)) = IsBoundAnswer w t sets
 IsAnswer (Ok (Order w t)) = IsOrderedAnswer w t
-IsAnswer (Ok (Degrade r group width)) = IsDegradedAnswer r group width
+IsAnswer (Ok (Degrade r group width)) = IsAudited r (λ _. IsNewSearch r group width)
 
 -- the same beside any files that stay: of what opens no shelf
 abbrev pub IsAnswerAlone : Result Task Refusal → Status → List ℕ → Type 0

@@ -1,15 +1,16 @@
--- What the files decide of a report, and what is written of it. This project's own.
-use Rattle.std.specs.Prelude.{ℕ, List, [], ◌∷◌, Result, Ok, Err, codes}
-use Rattle.text_lines.specs.Text.{line}
+-- What the files decide of a report, and what is said of it. This project's own.
+use Rattle.std.specs.Prelude.{◌≡◌, ℕ, IsTrue, List, Result, Ok, Err}
 use Rattle.outer_ports.specs.Files.{Files, candidate_word}
+use Rattle.outer_ports.specs.Shelf.{FilesStay}
 use Rattle.report_form.specs.Reports.{ReportValue}
 use Rattle.frontier_audit.specs.declared.verdict.AuditVerdict.{AuditVerdict}
 use Rattle.frontier_audit.specs.declared.verdict.AuditVerdict.TheVariants as audit
 use Rattle.frontier_audit.specs.Denials.{reason_number}
 use Rattle.frontier_audit.specs.Auditing.{audit_of}
 use Rattle.run_rules.specs.declared.status.Status.{Status}
-use Rattle.run_rules.specs.declared.status.Status.TheVariants.{Done, Denied}
+use Rattle.run_rules.specs.declared.status.Status.TheVariants.{Denied}
 use Rattle.run_rules.specs.Refusals.{Refusal, refusal_line}
+use Rattle.run_rules.specs.Said.{FilesValue, Says, Stay}
 
 -- a report that is denied is refused with the reason and the candidate
 abbrev pub not_denied : AuditVerdict → Result (Unit {0}) Refusal
@@ -20,12 +21,10 @@ not_denied (audit.Denied reason part x) = Err (record { status = Denied; code = 
 unfoldable pub audited : ReportValue → Files → Result (Unit {0}) Refusal
 audited report files = not_denied (audit_of report files)
 
--- ---- what is written of it
-
-abbrev pub verdict_status : Result (Unit {0}) Refusal → Status
-verdict_status (Ok x) = Done
-verdict_status (Err r) = r.status
-
-abbrev pub verdict_text : Result (Unit {0}) Refusal → List ℕ
-verdict_text (Ok x) = line (codes "verified" ∷ [])
-verdict_text (Err r) = refusal_line r
+-- the answer to a report that is audited over some files, which are those of the shelf where it tells them: what is denied is refused, and of what is verified this is said; no file changed
+pub record IsAudited (r : ReportValue) (Then : Files → Status → List ℕ → Type 0) (files : FilesValue) (status : Status) (text : List ℕ) : Type 0 where
+  pub over : Files
+  pub are : IsTrue files.told → FilesStay files.before over
+  pub denied : (why : Refusal) → audited r over ≡ Err why → Says why.status (refusal_line why) status text
+  pub done : audited r over ≡ Ok tt → Then over status text
+  pub stay : Stay files

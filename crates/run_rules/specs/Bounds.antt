@@ -3,7 +3,6 @@ use Rattle.std.specs.Prelude.{◌≡◌, ℕ, false, IsTrue, List, [], ◌∷◌
 use Rattle.std.specs.List.{flat_map, range_with_len}
 use Rattle.outer_ports.specs.declared.part.Part.TheVariants.{Whole}
 use Rattle.text_lines.specs.Text.{text_of}
-use Rattle.candidate_order.specs.declared.candidate.Candidate.{Candidate}
 use Rattle.candidate_order.specs.Frontiers.{FrontierValue}
 use Rattle.topology_text.specs.Value.{NamedTopologyValue}
 use Rattle.topology_text.specs.Spelling.{name_at}
@@ -11,7 +10,6 @@ use Rattle.report_form.specs.Reports.{WordsValue, question_of, whole_report}
 use Rattle.report_form.specs.Spelling.{candidate_words, part_words, point_lines, refuted_words, synth_words, unknown_words}
 use Rattle.frontier_audit.specs.OwedFiles.{BreaksOff, Proves}
 use Rattle.node_cuts.specs.declared.floor.Floor.{Floor}
-use Rattle.node_cuts.specs.Cuts.{CutValue}
 use Rattle.node_cuts.specs.Floors.{floor_of}
 use Rattle.node_cuts.specs.Sides.{has_bit}
 use Rattle.node_cuts.specs.declared.sets.Sets.{Sets}
@@ -32,16 +30,12 @@ names_in names nodes = map (name_at names) (filter (has_bit nodes) (range_with_l
 abbrev pub floor_words : List (List ℕ) → Floor → List (List ℕ)
 floor_words names floor = codes "floor" ∷ decimal floor.above ∷ decimal floor.below ∷ names_in names floor.nodes
 
--- the candidate, and the nodes of its first cut
-abbrev pub cut_words : List (List ℕ) → Candidate × CutValue → List (List ℕ)
-cut_words names x = codes "cut" ∷ candidate_words x.0 ++ names_in names x.1.nodes
-
--- the cuts and the floor are those of what is searched, by these sets of nodes: of a reduction, over the links turned round
+-- a candidate that is cut stands with the nodes of its first cut; the cuts and the floor are those of what is searched, by these sets of nodes: of a reduction, over the links turned round
 abbrev pub bound_lines : WordsValue → NamedTopologyValue → Sets → FrontierValue → List (List (List ℕ))
 bound_lines w t sets f =
     let q = searched_question (question_of w t Whole) in
     (codes "bound" ∷ codes "1" ∷ []) ∷ synth_words t.names w ∷ floor_words t.names (floor_of sets q.topology q.spec) ∷ part_words Whole
-    ∷ (flat_map (point_lines t.names) f.points ++ (map (cut_words t.names) (cuts_among sets q f.refuted) ++ (map refuted_words (uncut_among sets q f.refuted) ++ (map unknown_words f.unknown ++ (codes "end" ∷ []) ∷ []))))
+    ∷ (flat_map (point_lines t.names) f.points ++ (map (λ x. codes "cut" ∷ candidate_words x.0 ++ names_in t.names x.1.nodes) (cuts_among sets q f.refuted) ++ (map refuted_words (uncut_among sets q f.refuted) ++ (map unknown_words f.unknown ++ (codes "end" ∷ []) ∷ []))))
 
 unfoldable pub bound_text : WordsValue → NamedTopologyValue → Sets → FrontierValue → List ℕ
 bound_text w t sets f = text_of (bound_lines w t sets f)

@@ -18,22 +18,6 @@ pub record RowValue : Type 0 where
   pub changes : Bool
   pub refusals : List Status
 
--- a search over a topology
-abbrev pub search_row : RowValue
-search_row = record { reads = true; opens = true; changes = true; refusals = BadWords ∷ BadTopology ∷ TooLarge ∷ NoCandidate ∷ TooLong ∷ [] }
-
--- the check of a report
-abbrev pub check_row : RowValue
-check_row = record { reads = true; opens = true; changes = false; refusals = BadReport ∷ Denied ∷ TooLarge ∷ NoCandidate ∷ TooLong ∷ [] }
-
--- a search whose proofs are not kept
-abbrev pub unkept_row : RowValue
-unkept_row = record { reads = true; opens = false; changes = false; refusals = BadWords ∷ BadTopology ∷ TooLarge ∷ NoCandidate ∷ TooLong ∷ [] }
-
--- a report that is checked, and searched anew after a fault
-abbrev pub fault_row : RowValue
-fault_row = record { reads = true; opens = true; changes = false; refusals = BadWords ∷ BadReport ∷ Denied ∷ TooLarge ∷ NoCandidate ∷ TooLong ∷ [] }
-
 -- what is shown of a point of a report
 abbrev pub point_row : RowValue
 point_row = record { reads = true; opens = false; changes = false; refusals = BadWords ∷ BadReport ∷ TooLong ∷ [] }
@@ -47,20 +31,17 @@ json_row what.Programs = point_row
 abbrev pub unjson_row : RowValue
 unjson_row = record { reads = true; opens = false; changes = false; refusals = TooLong ∷ BadJson ∷ [] }
 
--- what words alone decide
-abbrev pub word_row : RowValue
-word_row = record { reads = false; opens = false; changes = false; refusals = [] }
-
+-- a search over a topology keeps its proofs as files, but for one in order; a report that is checked is over files, and one that is searched anew after a fault too; `family` and `trial` are decided by words alone
 abbrev pub row_of : Command → RowValue
-row_of (command.Synth kind word limits root kept) = search_row
-row_of command.Check = check_row
+row_of (command.Synth kind word limits root kept) = record { reads = true; opens = true; changes = true; refusals = BadWords ∷ BadTopology ∷ TooLarge ∷ NoCandidate ∷ TooLong ∷ [] }
+row_of command.Check = record { reads = true; opens = true; changes = false; refusals = BadReport ∷ Denied ∷ TooLarge ∷ NoCandidate ∷ TooLong ∷ [] }
 row_of (command.Replay number word order) = point_row
 row_of (command.Programs number word) = point_row
-row_of (command.Family kind size) = word_row
-row_of (command.Trial n) = word_row
-row_of (command.Bound kind word limits root all_sets) = search_row
-row_of (command.Ordered kind word limits root) = unkept_row
-row_of (command.Degrade group group_word width width_word) = fault_row
+row_of (command.Family kind size) = record { reads = false; opens = false; changes = false; refusals = [] }
+row_of (command.Trial n) = record { reads = false; opens = false; changes = false; refusals = [] }
+row_of (command.Bound kind word limits root all_sets) = record { reads = true; opens = true; changes = true; refusals = BadWords ∷ BadTopology ∷ TooLarge ∷ NoCandidate ∷ TooLong ∷ [] }
+row_of (command.Ordered kind word limits root) = record { reads = true; opens = false; changes = false; refusals = BadWords ∷ BadTopology ∷ TooLarge ∷ NoCandidate ∷ TooLong ∷ [] }
+row_of (command.Degrade group group_word width width_word) = record { reads = true; opens = true; changes = false; refusals = BadWords ∷ BadReport ∷ Denied ∷ TooLarge ∷ NoCandidate ∷ TooLong ∷ [] }
 row_of (command.Json value point) = json_row value
 row_of (command.Unjson value) = unjson_row
 

@@ -1,9 +1,7 @@
 -- What is owed for a report after a fault: its search done anew over the links that are left, where what was refuted stays refuted. This project's own.
-use Rattle.std.specs.Prelude.{◌≡◌, false, not, ℕ, IsTrue, List, [], ◌∷◌, ◌++◌, filter, map, All, Ok, Err, codes}
+use Rattle.std.specs.Prelude.{◌≡◌, false, not, ℕ, List, [], ◌∷◌, ◌++◌, filter, map, All, codes}
 use Rattle.std.specs.List.{flat_map}
 use Rattle.outer_ports.specs.declared.part.Part.TheVariants.{Whole}
-use Rattle.outer_ports.specs.Files.{Files}
-use Rattle.outer_ports.specs.Shelf.{FilesStay}
 use Rattle.text_lines.specs.Text.{text_of}
 use Rattle.candidate_order.specs.declared.candidate.Candidate.{Candidate}
 use Rattle.candidate_order.specs.Frontiers.{FrontierValue}
@@ -17,9 +15,7 @@ use Rattle.link_faults.specs.Narrowed.{narrowed}
 use Rattle.link_faults.specs.Carrying.{is_carried}
 use Rattle.run_rules.specs.declared.status.Status.{Status}
 use Rattle.run_rules.specs.declared.status.Status.TheVariants.{Done}
-use Rattle.run_rules.specs.Refusals.{Refusal, refusal_line}
-use Rattle.run_rules.specs.Audits.{audited}
-use Rattle.run_rules.specs.Said.{FilesValue, Says, Stay}
+use Rattle.run_rules.specs.Said.{Says}
 
 -- ---- the text
 
@@ -31,18 +27,12 @@ left_topology t group width = record { names = t.names; topology = narrowed t.to
 abbrev pub old_refuted : ReportValue → List Candidate
 old_refuted r = flat_map (λ x. x.1.refuted) r.frontiers
 
-abbrev pub carried_words : Candidate → List (List ℕ)
-carried_words x = codes "carried" ∷ candidate_words x
-
 -- the words, what is left of the topology, and the frontier; a refuted candidate that an old one carries has a line of its own
-abbrev pub degraded_lines : WordsValue → NamedTopologyValue → List Candidate → FrontierValue → List (List (List ℕ))
-degraded_lines w t old f =
-    (codes "degraded" ∷ codes "1" ∷ []) ∷ synth_words t.names w
-    ∷ (lines_of t ++ (part_words Whole ∷ (flat_map (point_lines t.names) f.points
-    ++ (map carried_words (filter (is_carried old) f.refuted) ++ (map refuted_words (filter (λ x. not (is_carried old x)) f.refuted) ++ (map unknown_words f.unknown ++ (codes "end" ∷ []) ∷ []))))))
-
 unfoldable pub degraded_text : WordsValue → NamedTopologyValue → List Candidate → FrontierValue → List ℕ
-degraded_text w t old f = text_of (degraded_lines w t old f)
+degraded_text w t old f =
+    text_of ((codes "degraded" ∷ codes "1" ∷ []) ∷ synth_words t.names w
+    ∷ (lines_of t ++ (part_words Whole ∷ (flat_map (point_lines t.names) f.points
+    ++ (map (λ x. codes "carried" ∷ candidate_words x) (filter (is_carried old) f.refuted) ++ (map refuted_words (filter (λ x. not (is_carried old x)) f.refuted) ++ (map unknown_words f.unknown ++ (codes "end" ∷ []) ∷ [])))))))
 
 -- ---- what is owed
 
@@ -54,11 +44,3 @@ pub record IsNewSearch (r : ReportValue) (group width : ℕ) (status : Status) (
   pub unknown : All (λ u. is_carried (old_refuted r) u.candidate ≡ false) frontier.unknown
   pub uncut : All (λ u. is_cut_away (question_of r.words (left_topology r.topology group width) Whole) u.candidate ≡ false) frontier.unknown
   pub says : Says Done (degraded_text r.words (left_topology r.topology group width) (old_refuted r) frontier) status text
-
--- the old report is audited first, over some files, which are those of the shelf where it tells them: what is denied is refused, and what is verified is searched anew; no file changed
-pub record IsDegradedAnswer (r : ReportValue) (group width : ℕ) (files : FilesValue) (status : Status) (text : List ℕ) : Type 0 where
-  pub over : Files
-  pub are : IsTrue files.told → FilesStay files.before over
-  pub denied : (why : Refusal) → audited r over ≡ Err why → Says why.status (refusal_line why) status text
-  pub done : audited r over ≡ Ok tt → IsNewSearch r group width status text
-  pub stay : Stay files

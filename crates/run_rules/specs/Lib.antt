@@ -5,11 +5,13 @@ pub mod Commands
 pub mod Trials
 pub mod Tries
 pub mod Tasks
+pub mod Steps
 pub mod Audits
 pub mod Said
 pub mod Bounds
 pub mod Orders
 pub mod Degraded
+pub mod Lines
 pub mod Answers
 pub mod Read
 pub mod Rows

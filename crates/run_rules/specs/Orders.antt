@@ -13,11 +13,8 @@ use Rattle.run_rules.specs.declared.status.Status.{Status}
 use Rattle.run_rules.specs.declared.status.Status.TheVariants.{Done}
 use Rattle.run_rules.specs.Said.{FilesValue, Says, Stay}
 
-abbrev pub ordered_lines : WordsValue → NamedTopologyValue → FrontierValue → List (List (List ℕ))
-ordered_lines w t f = (codes "ordered" ∷ codes "1" ∷ []) ∷ synth_words t.names w ∷ (frontier_lines t.names (Whole, f) ++ (codes "end" ∷ []) ∷ [])
-
 unfoldable pub ordered_text : WordsValue → NamedTopologyValue → FrontierValue → List ℕ
-ordered_text w t f = text_of (ordered_lines w t f)
+ordered_text w t f = text_of ((codes "ordered" ∷ codes "1" ∷ []) ∷ synth_words t.names w ∷ (frontier_lines t.names (Whole, f) ++ (codes "end" ∷ []) ∷ []))
 
 -- what a search finds by the formulas with the clauses of the order; each schedule is ordered, or of a reduction its inverse is
 abbrev pub IsFoundInOrder : QuestionValue → FrontierValue → Type 0

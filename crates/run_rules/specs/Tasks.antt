@@ -1,11 +1,12 @@
 -- What the words and the text that is read ask for, or the first check that refuses them: words, length, text, root or point, size, candidates. This project's own.
-use Rattle.std.specs.Prelude.{ℕ, ◌==◌, not, Bool, true, false, if◌then◌else◌, List, [], length, nat_lt, slice_get, Option, None, Some, Result, Ok, Err}
+use Rattle.std.specs.Prelude.{ℕ, ◌==◌, ◌&&◌, not, Bool, true, false, if◌then◌else◌, List, [], length, nat_lt, slice_get, Option, None, Some, Result, Ok, Err}
 use Rattle.outer_ports.specs.declared.part.Part.{Part}
+use Rattle.outer_ports.specs.declared.part.Part.TheVariants.{Whole}
 use Rattle.text_lines.specs.Check.{◌>>=◌, refuse, need}
 use Rattle.serde_json.specs.Data.{Data}
 use Rattle.collective_spec.specs.declared.kind.Kind.{Kind}
 use Rattle.collective_spec.specs.declared.kind.Kind.TheVariants.{Allreduce}
-use Rattle.collective_spec.specs.Collectives.{spec_of, fits_kind}
+use Rattle.collective_spec.specs.Collectives.{fits_kind}
 use Rattle.candidate_order.specs.Frontiers.{QuestionValue, PointValue}
 use Rattle.topology_text.specs.Value.{NamedTopologyValue}
 use Rattle.topology_text.specs.Answer.{code_number as topology_number}
@@ -13,7 +14,7 @@ use Rattle.topology_text.specs.Reading.{topology_of, node_of}
 use Rattle.topology_text.specs.Family.{family_of}
 use Rattle.topology_text.specs.Spelling.{spelling}
 use Rattle.report_form.specs.declared.fault.ReportCode.{ReportCode}
-use Rattle.report_form.specs.Reports.{WordsValue, ReportValue}
+use Rattle.report_form.specs.Reports.{WordsValue, ReportValue, question_of}
 use Rattle.report_form.specs.Numbered.{point_at}
 use Rattle.report_form.specs.Answer.{code_number as report_number}
 use Rattle.report_form.specs.Reading.{report_of}
@@ -62,16 +63,7 @@ pub data Task : Type 0 where
 abbrev pub limit : ℕ
 limit = 1048576
 
--- what is read came whole
-abbrev pub whole_text : Bool → List ℕ → Result (Unit {0}) Refusal
-whole_text true bytes = refuse (nat_lt limit (length bytes)) (refused_at TooLong 0 limit)
-whole_text false bytes = Ok tt
-
 -- ---- searches
-
--- a topology with a pattern is for the kind custom, and only it
-abbrev pub fitting : SearchWords → NamedTopologyValue → Result (Unit {0}) Refusal
-fitting asked t = refuse (not (fits_kind asked.kind t.custom)) (refused_word CustomMismatch asked.kind_word)
 
 -- the node that the word names; the first node where there is no word
 abbrev pub root_in : List (List ℕ) → Option RootWord → Result ℕ Refusal
@@ -84,49 +76,19 @@ searchable q = do
   _ ← refuse (nat_lt size_limit (size_of q)) (refused_at TooLarge 0 (size_of q))
   refuse (length (counts_of q) == 0) (refused_at NoCandidate 0 0)
 
--- what is asked for in all
-abbrev pub whole_question : WordsValue → NamedTopologyValue → QuestionValue
-whole_question w t = record { topology = t.topology; spec = spec_of w.collective t.custom; limits = w.limits }
-
-abbrev pub words_for : SearchWords → ℕ → WordsValue
-words_for asked root = record { collective = record { kind = asked.kind; root = root }; limits = asked.limits }
-
--- the words and the topology of the search, where it is small enough and has a candidate
-abbrev pub search_for : WordsValue → NamedTopologyValue → Result (WordsValue × NamedTopologyValue) Refusal
-search_for w t = do
-  _ ← searchable (whole_question w t)
-  Ok (w, t)
-
-abbrev pub search_over : SearchWords → NamedTopologyValue → Result (WordsValue × NamedTopologyValue) Refusal
-search_over asked t = do
-  _ ← fitting asked t
-  root ← root_in t.names asked.root
-  search_for (words_for asked root) t
-
--- the search of these words over the topology that the bytes spell
+-- the search of these words over the topology that the bytes spell: one with a pattern is for the kind custom, and only it
 abbrev pub search_asked : SearchWords → List ℕ → Result (WordsValue × NamedTopologyValue) Refusal
 search_asked asked bytes = do
-  topology ← refused_as BadTopology topology_number (topology_of bytes)
-  search_over asked topology
-
-abbrev pub synthesis_asked : SearchWords → Bool → List ℕ → Result Task Refusal
-synthesis_asked asked kept bytes = do
-  search ← search_asked asked bytes
-  Ok (Synthesise search.0 search.1 kept)
+  t ← refused_as BadTopology topology_number (topology_of bytes)
+  _ ← refuse (not (fits_kind asked.kind t.custom)) (refused_word CustomMismatch asked.kind_word)
+  root ← root_in t.names asked.root
+  let w : WordsValue = record { collective = record { kind = asked.kind; root = root }; limits = asked.limits }
+  _ ← searchable (question_of w t Whole)
+  Ok (w, t)
 
 -- every set of nodes, or the listed ones
 abbrev pub given_sets : Bool → Sets
 given_sets all_sets = if all_sets then All else Listed
-
-abbrev pub bound_asked : SearchWords → Bool → List ℕ → Result Task Refusal
-bound_asked asked all_sets bytes = do
-  search ← search_asked asked bytes
-  Ok (Bound search.0 search.1 (given_sets all_sets))
-
-abbrev pub order_asked : SearchWords → List ℕ → Result Task Refusal
-order_asked asked bytes = do
-  search ← search_asked asked bytes
-  Ok (Order search.0 search.1)
 
 -- ---- reports
 
@@ -141,12 +103,6 @@ Reader = List ℕ → Result ReportValue (ReportCode × ℕ)
 abbrev pub report_by : Reader → List ℕ → Result ReportValue Refusal
 report_by read bytes = refused_as BadReport report_number (read bytes)
 
--- the report, where its search can be done
-abbrev pub audit_in : ReportValue → Result Task Refusal
-audit_in report = do
-  _ ← searchable (whole_question report.words report.topology)
-  Ok (Audit report)
-
 -- a fault of a group that the report has, and that it narrows
 abbrev pub fault_in : ReportValue → ℕ → ℕ → ℕ → ℕ → Result (Unit {0}) Refusal
 fault_in report group group_word width width_word = do
@@ -154,28 +110,9 @@ fault_in report group group_word width width_word = do
   old ← need (slice_get report.topology.topology.groups group) (refused_word UnknownGroup group_word)
   refuse (not (nat_lt width old.width)) (refused_word NotNarrower width_word)
 
--- the report whose files are to be looked at, and whose search is to be done anew
-abbrev pub degrade_in : ReportValue → ℕ → ℕ → ℕ → ℕ → Result Task Refusal
-degrade_in report group group_word width width_word = do
-  _ ← fault_in report group group_word width width_word
-  _ ← searchable (whole_question report.words report.topology)
-  Ok (Degrade report group width)
-
 -- the point that the word asks for
 abbrev pub point_in : ReportValue → PointWord → Result (Part × PointValue) Refusal
 point_in report asked = need (point_at report asked.point) (refused_word UnknownPoint asked.word)
-
--- the replay of a point of this report
-abbrev pub replay_in : ReportValue → PointWord → Option ℕ → Result Task Refusal
-replay_in report asked order = do
-  point ← point_in report asked
-  Ok (Write (shown_text asked.point (shown_in report point) order))
-
--- the programs of a point of this report
-abbrev pub programs_in : ReportValue → PointWord → Result Task Refusal
-programs_in report asked = do
-  point ← point_in report asked
-  Ok (Write (programs_of_point report asked.point point))
 
 -- ---- JSON
 
@@ -194,23 +131,34 @@ json_programs_in report word = do
 
 -- what a command asks for, over bytes that came whole
 abbrev pub task_by : Reader → Command → List ℕ → Result Task Refusal
-task_by read (command.Synth kind word limits root kept) bytes = synthesis_asked (record { kind = kind; kind_word = word; limits = limits; root = root }) kept bytes
+task_by read (command.Synth kind word limits root kept) bytes = do
+  (w, t) ← search_asked (record { kind = kind; kind_word = word; limits = limits; root = root }) bytes
+  Ok (Synthesise w t kept)
 task_by read command.Check bytes = do
   report ← report_by read bytes
-  audit_in report
+  _ ← searchable (question_of report.words report.topology Whole)
+  Ok (Audit report)
 task_by read (command.Replay number word order) bytes = do
   report ← report_by read bytes
-  replay_in report (record { point = number; word = word }) order
+  point ← point_in report (record { point = number; word = word })
+  Ok (Write (shown_text number (shown_in report point) order))
 task_by read (command.Programs number word) bytes = do
   report ← report_by read bytes
-  programs_in report (record { point = number; word = word })
+  point ← point_in report (record { point = number; word = word })
+  Ok (Write (programs_of_point report number point))
 task_by read (command.Family kind size) bytes = Ok (Write (spelling (family_of kind size)))
 task_by read (command.Trial n) bytes = Ok (Try n)
-task_by read (command.Bound kind word limits root all_sets) bytes = bound_asked (record { kind = kind; kind_word = word; limits = limits; root = root }) all_sets bytes
-task_by read (command.Ordered kind word limits root) bytes = order_asked (record { kind = kind; kind_word = word; limits = limits; root = root }) bytes
+task_by read (command.Bound kind word limits root all_sets) bytes = do
+  (w, t) ← search_asked (record { kind = kind; kind_word = word; limits = limits; root = root }) bytes
+  Ok (Bound w t (given_sets all_sets))
+task_by read (command.Ordered kind word limits root) bytes = do
+  (w, t) ← search_asked (record { kind = kind; kind_word = word; limits = limits; root = root }) bytes
+  Ok (Order w t)
 task_by read (command.Degrade group group_word width width_word) bytes = do
   report ← report_by read bytes
-  degrade_in report group group_word width width_word
+  _ ← fault_in report group group_word width width_word
+  _ ← searchable (question_of report.words report.topology Whole)
+  Ok (Degrade report group width)
 task_by read (command.Json what.Topology point) bytes = do
   topology ← refused_as BadTopology topology_number (topology_of bytes)
   Ok (Write (printed ((topology_form topology.names).json topology)))
@@ -232,11 +180,11 @@ abbrev pub words_asked : Result Command WordFault → Result Command Refusal
 words_asked (Ok c) = Ok c
 words_asked (Err fault) = Err (refused_word fault.code fault.word)
 
--- the task, or the first refusal, as far as words, bytes and the reader of reports decide
+-- the task, or the first refusal, as far as words, bytes and the reader of reports decide; what is read has to come whole
 abbrev pub due_by : Reader → List (List ℕ) → List ℕ → Result Task Refusal
 due_by read words bytes = do
   command ← words_asked (command_of words)
-  _ ← whole_text (row_of command).reads bytes
+  _ ← refuse ((row_of command).reads && nat_lt limit (length bytes)) (refused_at TooLong 0 limit)
   task_by read command bytes
 
 -- ---- by the checks of a report's text, as the code reads it

@@ -5,8 +5,6 @@ use Rattle.collective_spec.specs.declared.kind.Kind.TheVariants.{Broadcast, Gath
 use Rattle.candidate_order.specs.Ranges.{unpruned}
 use Rattle.topology_text.specs.declared.family_kind.FamilyKind.{FamilyKind}
 use Rattle.topology_text.specs.declared.family_kind.FamilyKind.TheVariants.{Line, Ring, Complete, Shared}
-use Rattle.topology_text.specs.Value.{NamedTopologyValue}
-use Rattle.topology_text.specs.Family.{family_of}
 use Rattle.text_lines.specs.Text.{text_of}
 use Rattle.report_form.specs.Reports.{WordsValue, ReportValue}
 use Rattle.report_form.specs.Spelling.{synth_words}
@@ -20,9 +18,6 @@ trial_family n = slice_index_or (Line ∷ Ring ∷ Complete ∷ Shared ∷ []) (
 
 abbrev pub trial_size : ℕ → ℕ
 trial_size n = 3 + n / 4 % 8
-
-abbrev pub trial_topology : ℕ → NamedTopologyValue
-trial_topology n = family_of (trial_family n) (trial_size n)
 
 abbrev pub trial_kind : ℕ → Kind
 trial_kind n =
@@ -40,33 +35,14 @@ trial_words n = record {
   limits = record { k = n / 256 % 2; max_s = 1 + n / 512 % 4; max_c = trial_chunks n (trial_kind n); conflicts = 2000; pruning = unpruned };
 }
 
--- how many points, refuted and unknown candidates there are in all parts
-abbrev pub points_in : ReportValue → ℕ
-points_in r = sum_by (λ x. length x.1.points) r.frontiers
-
-abbrev pub refuted_in : ReportValue → ℕ
-refuted_in r = sum_by (λ x. length x.1.refuted) r.frontiers
-
-abbrev pub unknown_in : ReportValue → ℕ
-unknown_in r = sum_by (λ x. length x.1.unknown) r.frontiers
-
--- each point is replayed in four orders, and each replay does all operations of its programs
-abbrev pub replays_in : ReportValue → ℕ
-replays_in r = 4 * length (points_of r)
-
-abbrev pub events_in : ReportValue → ℕ
-events_in r = 4 * sum_by (λ p. operations (machine_of (shown_in r p))) (points_of r)
-
-abbrev pub trial_lines : ℕ → ReportValue → List (List (List ℕ))
-trial_lines n r =
-    (codes "trial" ∷ decimal n ∷ [])
+-- the search, and how many points, refuted and unknown candidates there are in all parts; each point is replayed in four orders, and each replay does all operations of its programs
+unfoldable pub trial_text : ℕ → ReportValue → List ℕ
+trial_text n r =
+    text_of ((codes "trial" ∷ decimal n ∷ [])
     ∷ synth_words r.topology.names r.words
     ∷ (codes "family" ∷ family_word (trial_family n) ∷ decimal (trial_size n) ∷ [])
-    ∷ (codes "points" ∷ decimal (points_in r) ∷ codes "refuted" ∷ decimal (refuted_in r) ∷ codes "unknown" ∷ decimal (unknown_in r) ∷ codes "joined" ∷ decimal (length r.joined) ∷ [])
+    ∷ (codes "points" ∷ decimal (sum_by (λ x. length x.1.points) r.frontiers) ∷ codes "refuted" ∷ decimal (sum_by (λ x. length x.1.refuted) r.frontiers) ∷ codes "unknown" ∷ decimal (sum_by (λ x. length x.1.unknown) r.frontiers) ∷ codes "joined" ∷ decimal (length r.joined) ∷ [])
     ∷ (codes "check" ∷ codes "verified" ∷ [])
-    ∷ (codes "replays" ∷ decimal (replays_in r) ∷ codes "events" ∷ decimal (events_in r) ∷ [])
+    ∷ (codes "replays" ∷ decimal (4 * length (points_of r)) ∷ codes "events" ∷ decimal (4 * sum_by (λ p. operations (machine_of (shown_in r p))) (points_of r)) ∷ [])
     ∷ (codes "end" ∷ [])
-    ∷ []
-
-unfoldable pub trial_text : ℕ → ReportValue → List ℕ
-trial_text n r = text_of (trial_lines n r)
+    ∷ [])

@@ -15,7 +15,7 @@ mod verdicts;
 
 pub use answer::{Answer, LIMIT, refusal, refusal_at, refused_word, too_long};
 pub use halt::Halt;
-pub use laws::answers_end_as_their_row_says;
+pub use laws::{answers_end_as_their_row_says, audits_say_their_verdict};
 pub use report_text::{ReportText, report_of_text};
 pub use row::reads_source;
 pub use search_text::{Search, SearchText, bad_topology, search_of_text};

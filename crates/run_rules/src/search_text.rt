@@ -10,7 +10,8 @@ ghost use Rattle.report_form.specs.Reports.{IsWords};
 ghost use Rattle.run_rules.specs.Answers.{Says};
 ghost use Rattle.run_rules.specs.Read.{IsSearchAs};
 ghost use Rattle.run_rules.specs.Refusals.{refusal_line, refused_at, refused_word};
-ghost use Rattle.run_rules.specs.Tasks.{limit, root_in, search_asked, search_for, search_over};
+ghost use Rattle.run_rules.specs.Tasks.{limit, root_in, search_asked};
+ghost use Rattle.run_rules.specs.Steps.{search_for, search_over};
 
 use crate::OutOfMemory;
 use crate::answer::{Answer, refusal, refused_word};

@@ -2,7 +2,8 @@
 
 ghost use Rattle.std.specs.Prelude.{◌≡◌, true, IfOk};
 ghost use Rattle.collective_spec.specs.Collectives.{fits_kind};
-ghost use Rattle.run_rules.specs.Tasks.{searchable, whole_question};
+ghost use Rattle.run_rules.specs.Tasks.{searchable};
+ghost use Rattle.run_rules.specs.Steps.{whole_question};
 ghost use Rattle.run_rules.specs.Read.{IsSearchableAs};
 
 use crate::OutOfMemory;

@@ -9,7 +9,8 @@ use Rattle.command_words.specs.Words.{command_of}
 use Rattle.run_rules.specs.declared.status.Status.TheVariants.{TooLong}
 use Rattle.run_rules.specs.Commands.{Ask, Reads, row_of}
 use Rattle.run_rules.specs.Refusals.{refused_at, refused_word}
-use Rattle.run_rules.specs.Tasks.{due, limit, task_of, whole_text, words_asked}
+use Rattle.run_rules.specs.Tasks.{due, limit, task_of, words_asked}
+use Rattle.run_rules.specs.Steps.{whole_text}
 use Rattle.json_command.proofs.ComesBack.{short_whole}
 use Rattle.sccl_run.specs.inner.Answering.{due_for}
 

@@ -19,7 +19,8 @@ use Rattle.json_forms.specs.ReportForm.{report as report_form}
 use Rattle.run_rules.specs.declared.status.Status.TheVariants.{BadJson, BadReport}
 use Rattle.run_rules.specs.Commands.{Ask, Reads, row_of}
 use Rattle.run_rules.specs.Refusals.{Refusal, refused_as}
-use Rattle.run_rules.specs.Tasks.{Task, Write, Reader, audit_in, degrade_in, due, due_by, json_programs_in, programs_in, replay_in, report_by, task_by, whole_text, words_asked}
+use Rattle.run_rules.specs.Tasks.{Task, Write, Reader, due, due_by, json_programs_in, report_by, task_by, words_asked}
+use Rattle.run_rules.specs.Steps.{audit_in, degrade_in, programs_in, replay_in, whole_text}
 use Rattle.sccl_run.specs.inner.Answering.{due_for}
 use Rattle.sccl_run.specs.Laws.{IsRightRun}
 use Rattle.sccl_run.specs.Rows.{all_tell}

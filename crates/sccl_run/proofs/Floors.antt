@@ -1,9 +1,9 @@
 -- What the other searches print is right, and no schedule is below the floor.
-use Rattle.std.proofs.Common.{◌≡◌, ◌≢◌, ◌<◌, ◌≤◌, ◌*◌, ◌++◌, inl, inr, ℕ, Bool, true, false, not, nat_lt, Option, None, Some, Result, Ok, Err, refl, sym, subst, ap, ◌∙◌, arith}
+use Rattle.std.proofs.Common.{◌≡◌, ◌≢◌, ◌<◌, ◌≤◌, ◌*◌, ◌++◌, inl, inr, ℕ, Bool, true, false, not, nat_lt, Option, None, Some, Ok, refl, sym, subst, ap, ◌∙◌, arith}
 use Rattle.std.specs.Prelude.{if◌then◌else◌, slice_get}
 use Rattle.text_lines.specs.Check.{◌>>=◌, need, refuse}
 use Rattle.outer_ports.specs.declared.part.Part.TheVariants.{Whole}
-use Rattle.outer_ports.specs.Files.{Files, candidate_word}
+use Rattle.outer_ports.specs.Files.{Files}
 use Rattle.schedule.specs.Links.{GroupValue, reversed_of}
 use Rattle.schedule.specs.Sends.{ScheduleValue}
 use Rattle.collective_spec.specs.declared.kind.Kind.TheVariants as kind
@@ -27,17 +27,16 @@ use Rattle.node_cuts.specs.Floors.{floor_of}
 use Rattle.node_cuts.proofs.Flooring.{floor_bounds}
 use Rattle.cut_bounds.proofs.Bounded.{sums_bound}
 use Rattle.cut_bounds.proofs.Turned.{floor_same}
-use Rattle.frontier_audit.specs.declared.verdict.AuditVerdict.{AuditVerdict}
 use Rattle.frontier_audit.specs.declared.verdict.AuditVerdict.TheVariants as audit
-use Rattle.frontier_audit.specs.Denials.{reason_number}
 use Rattle.frontier_audit.specs.Auditing.{audit_of}
 use Rattle.frontier_audit.proofs.Verified.{report_right}
-use Rattle.run_rules.specs.declared.status.Status.{Status}
-use Rattle.run_rules.specs.declared.status.Status.TheVariants.{Done, Denied, BadReport}
-use Rattle.run_rules.specs.Audits.{audited, not_denied}
+use Rattle.run_rules.specs.declared.status.Status.TheVariants.{Done, BadReport}
+use Rattle.run_rules.specs.Audits.{audited}
 use Rattle.run_rules.specs.Degraded.{left_topology}
 use Rattle.run_rules.specs.Refusals.{Refusal, refused_as}
-use Rattle.run_rules.specs.Tasks.{Task, Bound, Order, Degrade, due, fault_in, given_sets, read_report, searchable, task_of, whole_question}
+use Rattle.run_rules.specs.Tasks.{Task, Bound, Order, Degrade, due, fault_in, given_sets, read_report, searchable, task_of}
+use Rattle.run_rules.specs.Steps.{whole_question}
+use Rattle.run_rules.proofs.Denied.{accepted_so, not_denied_done}
 use Rattle.sccl_run.specs.Headline.{AsksBound, AsksDegraded, AsksOrdered, IsFloor, PrintsBound, PrintsDegraded, PrintsOrdered}
 use Rattle.sccl_run.specs.Laws.{IsRightRun}
 use Rattle.sccl_run.specs.TopCall.{CountValue, RunValue}
@@ -106,26 +105,6 @@ module _ (x : RunValue) (a b c : CountValue) (run : IsRightRun x a b c) (done : 
 faulted : (groups : Option GroupValue) (width : ℕ) (missing wider : Refusal) → IsJustOr (need groups missing >>= (λ old. refuse (not (nat_lt width old.width)) wider)) tt
 faulted None width missing wider = inr (missing, refl)
 faulted (Some old) width missing wider = passed (not (nat_lt width old.width)) wider
-
-denied_so : (v : AuditVerdict) (why : Refusal) → not_denied v ≡ Err why → why.status ≡ Denied
-denied_so audit.Verified why e = absurd (cc)
-denied_so (audit.Denied reason part x) why e = let same : record { status = Denied; code = reason_number reason; place = candidate_word part x.s x.r x.c } ≡ why = cc in sym (ap (λ r. r.status) same)
-
-denied_by : (r : ReportValue) (files : Files) (why : Refusal) → audited r files ≡ Err why → why.status ≡ Denied
-unfolding audited
-denied_by r files why e = denied_so (audit_of r files) why e
-
--- what is done was not denied
-not_denied_done : (r : ReportValue) (files : Files) (status : Status) → status ≡ Done → ((why : Refusal) → audited r files ≡ Err why → status ≡ why.status) → audited r files ≡ Ok tt
-not_denied_done r files status done denied = each (audited r files) refl
-  where
-    each : (y : Result (Unit {0}) Refusal) → audited r files ≡ y → audited r files ≡ Ok tt
-    each (Ok u) e = e
-    each (Err why) e = let clash : Done ≡ Denied = sym done ∙ denied why e ∙ denied_by r files why e in absurd (cc)
-
-accepted_so : (v : AuditVerdict) → not_denied v ≡ Ok tt → v ≡ audit.Verified
-accepted_so audit.Verified e = refl
-accepted_so (audit.Denied reason part x) e = absurd (cc)
 
 accepted_by : (r : ReportValue) (files : Files) → audited r files ≡ Ok tt → audit_of r files ≡ audit.Verified
 unfolding audited

@@ -32,15 +32,18 @@ use Rattle.report_form.specs.Rows.{broadcast_report}
 use Rattle.report_form.proofs.Blamed.{broadcast_valid}
 use Rattle.report_form.proofs.ReportTaken.{report_take}
 use Rattle.report_laws.proofs.ReportAgain.{report_again}
-use Rattle.frontier_audit.specs.Rights.{IsRight, IsRightPart, IsSearched, IsSearchedPart}
+use Rattle.frontier_audit.specs.Rights.{IsRight, IsSearched}
+use Rattle.frontier_audit.specs.Parts.{IsRightPart, IsSearchedPart}
 use Rattle.run_rules.specs.declared.status.Status.TheVariants.{Done, BadTopology, BadReport}
 use Rattle.run_rules.specs.Commands.{row_of}
 use Rattle.run_rules.specs.Refusals.{Refusal, refused_as, refused_at, refused_word}
 use Rattle.run_rules.specs.Rows.{search, two_nodes_text}
-use Rattle.run_rules.specs.Tasks.{Task, Write, Synthesise, Audit, Try, audit_in, due, limit, root_in, search_asked, searchable, task_of, whole_question, whole_text}
+use Rattle.run_rules.specs.Tasks.{Task, Write, Synthesise, Audit, Try, due, limit, root_in, search_asked, searchable, task_of}
+use Rattle.run_rules.specs.Steps.{audit_in, whole_question, whole_text}
 use Rattle.sccl_run.specs.Headline.{Asks, AsksSynth, Prints, SearchedFrontier, Verifies, search_words}
 use Rattle.sccl_run.specs.Laws.{IsRightRun}
 use Rattle.sccl_run.specs.TopCall.{CountValue, RunValue}
+use Rattle.run_rules.proofs.Denied.{verified_where_done}
 use Rattle.sccl_run.proofs.Dues.{due_command}
 use Rattle.sccl_run.proofs.Ended.{ended}
 use Rattle.sccl_run.proofs.RightRuns.{done_answered, refused_not_done}
@@ -139,7 +142,7 @@ verified_is_true x a b c run done words = by_reading (report_of x.bytes) refl
     by_reading (Ok r) is =
         let asked : due x.words x.bytes ≡ Ok (Audit r) = audits (Ok r) is (Audit r) (behind (searchable (whole_question r.words r.topology)) tt _ (Audit r) (searchable_or (whole_question r.words r.topology)) (inl refl)) in
         let end = done_answered (Ok (Audit r)) x (ended x a b c (Ok (Audit r)) run asked) done in
-        record { report = r; text = (report_take x.bytes r is).spelled; right = (end.answer.verified done).right }
+        record { report = r; text = (report_take x.bytes r is).spelled; right = (verified_where_done r _ x.status end.text end.answer done).right }
     by_reading (Err e) is =
         let refused : (task : Task) → due x.words x.bytes ≡ Ok task = λ task. audits (Err e) is task (inr (refused_at BadReport (report_number e.0) e.1, refl)) in
         let clash : Ok (Write []) ≡ Ok (Try 0) = sym (refused (Write [])) ∙ refused (Try 0) in

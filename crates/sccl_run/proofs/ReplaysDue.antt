@@ -18,7 +18,8 @@ use Rattle.report_laws.proofs.FirstBlamed.{first_is_blamed}
 use Rattle.replay_text.specs.Showing.{shown_in, shown_text}
 use Rattle.run_rules.specs.declared.status.Status.TheVariants.{BadReport}
 use Rattle.run_rules.specs.Refusals.{Refusal, refused_at, refused_as, refused_word}
-use Rattle.run_rules.specs.Tasks.{Task, Write, due, limit, replay_asked, replay_in}
+use Rattle.run_rules.specs.Tasks.{Task, Write, due, limit, replay_asked}
+use Rattle.run_rules.specs.Steps.{replay_in}
 use Rattle.report_commands.proofs.Pointed.{no_point, some_point}
 use Rattle.sccl_run.specs.Laws.{AskReplay, IsRefusedText, IsTextOf}
 use Rattle.sccl_run.proofs.Dues.{due_command, short_due}

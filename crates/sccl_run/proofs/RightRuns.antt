@@ -12,7 +12,8 @@ use Rattle.candidate_order.specs.Frontiers.{RightFrontier, IsSolvable}
 use Rattle.candidate_order.proofs.Frontiers.{better_refuted}
 use Rattle.report_form.specs.Reading.{report_of}
 use Rattle.report_form.specs.Reports.{WordsValue, ReportValue, question_of}
-use Rattle.frontier_audit.specs.Rights.{IsRight, IsRightPart}
+use Rattle.frontier_audit.specs.Rights.{IsRight}
+use Rattle.frontier_audit.specs.Parts.{IsRightPart}
 use Rattle.replay_text.specs.Showing.{shown_in, shown_text}
 use Rattle.replay_text.specs.Points.{programs_of_point}
 use Rattle.topology_text.specs.Spelling.{spelling}
@@ -31,7 +32,8 @@ use Rattle.command_words.specs.Words.{command_of}
 use Rattle.run_rules.specs.declared.status.Status.TheVariants.{Done, BadWords, BadTopology, BadJson, TooLong, OutOfMemory, SourceFailed, SinkFailed, ShelfFailed}
 use Rattle.run_rules.specs.Commands.{Ask, Changes, IsOneOf, row_of}
 use Rattle.run_rules.specs.Refusals.{Refusal, refused_as, refused_at, refused_word}
-use Rattle.run_rules.specs.Tasks.{Task, Write, Synthesise, Audit, Try, Bound, Order, Degrade, audit_in, degrade_in, due, fault_in, json_programs_in, limit, point_in, programs_in, programs_value, read_report, replay_in, search_asked, searchable, task_of, whole_question, whole_text, words_asked}
+use Rattle.run_rules.specs.Tasks.{Task, Write, Synthesise, Audit, Try, Bound, Order, Degrade, due, fault_in, json_programs_in, limit, point_in, programs_value, read_report, search_asked, searchable, task_of, words_asked}
+use Rattle.run_rules.specs.Steps.{audit_in, degrade_in, programs_in, replay_in, whole_question, whole_text}
 use Rattle.run_rules.proofs.Ends.{refused_with}
 use Rattle.sccl_run.specs.Laws.{IsRightRun, WritesWith, NoneIsBetter}
 use Rattle.sccl_run.specs.TopCall.{CountValue, IsAnsweredRun, IsEnd, IsSilent, RunValue}

@@ -9,8 +9,8 @@ use Rattle.run_rules.specs.Tasks.{limit}
 use Rattle.report_form.specs.Reading.{report_of}
 use Rattle.report_laws.proofs.Readings.{read_by_spelling}
 use Rattle.run_rules.specs.Tasks.{due}
-use Rattle.sccl_run.specs.inner.Answering.{IsAnswerTo, IsHaltAt}
-use Rattle.sccl_run.specs.TopCall.{CountValue, IsTopCall, IsRun, LeftIsDue, RunValue, ToldValue, files_of}
+use Rattle.sccl_run.specs.inner.Answering.{IsAnswerTo, IsHaltAt, files_of}
+use Rattle.sccl_run.specs.TopCall.{CountValue, IsTopCall, IsRun, LeftIsDue, RunValue, ToldValue}
 
 -- ---- what is left of the source
 

@@ -41,18 +41,18 @@ number_fits least greatest n above below room =
     ap (λ o. is_some o && nat_le least (digits_value 10 (decimal n))) (up_to_some greatest n (decimal n) room refl below)
     ∙ ap (nat_le least) (value_of_decimal n small) ∙ far
 
-kind_fits : (kind : Kind) → fits (key_row key.Collective).takes (word_of kind) ≡ true
+kind_fits : (kind : Kind) → fits (key_row key.Collective).1 (word_of kind) ≡ true
 kind_fits kind = any_named word_of every_kind (word_of kind) ∙ ap is_some (kind_found kind)
 
 -- ---- words from left to right
 
 -- a key of the command that is not given yet takes the value
-key_again : (v : Verb) (k : Key) (text : List ℕ) (i : ℕ) (had : List Given) → has_key v k ≡ true → is_given k had ≡ false → fits (key_row k).takes text ≡ true → is_refused v k text ≡ false
-    → (refuse (not (has_key v k)) UnknownKey >>= (λ _. refuse (is_given k had) KeyTwice >>= (λ _. refuse (not (fits (key_row k).takes text)) BadValue >>= (λ _. refuse (is_refused v k text) BadValue >>= (λ _. Ok (record { key = k; text = text; word = i } ∷ had))))))
+key_again : (v : Verb) (k : Key) (text : List ℕ) (i : ℕ) (had : List Given) → has_key v k ≡ true → is_given k had ≡ false → fits (key_row k).1 text ≡ true → is_refused v k text ≡ false
+    → (refuse (not (has_key v k)) UnknownKey >>= (λ _. refuse (is_given k had) KeyTwice >>= (λ _. refuse (not (fits (key_row k).1 text)) BadValue >>= (λ _. refuse (is_refused v k text) BadValue >>= (λ _. Ok (record { key = k; text = text; word = i } ∷ had))))))
     ≡ Ok (record { key = k; text = text; word = i } ∷ had)
 key_again v k text i had has fresh fit taken =
-    ap (λ b. refuse (not b) UnknownKey >>= (λ _. refuse (is_given k had) KeyTwice >>= (λ _. refuse (not (fits (key_row k).takes text)) BadValue >>= (λ _. refuse (is_refused v k text) BadValue >>= (λ _. Ok (record { key = k; text = text; word = i } ∷ had)))))) has
-    ∙ ap (λ b. refuse b KeyTwice >>= (λ _. refuse (not (fits (key_row k).takes text)) BadValue >>= (λ _. refuse (is_refused v k text) BadValue >>= (λ _. Ok (record { key = k; text = text; word = i } ∷ had))))) fresh
+    ap (λ b. refuse (not b) UnknownKey >>= (λ _. refuse (is_given k had) KeyTwice >>= (λ _. refuse (not (fits (key_row k).1 text)) BadValue >>= (λ _. refuse (is_refused v k text) BadValue >>= (λ _. Ok (record { key = k; text = text; word = i } ∷ had)))))) has
+    ∙ ap (λ b. refuse b KeyTwice >>= (λ _. refuse (not (fits (key_row k).1 text)) BadValue >>= (λ _. refuse (is_refused v k text) BadValue >>= (λ _. Ok (record { key = k; text = text; word = i } ∷ had))))) fresh
     ∙ ap (λ b. refuse (not b) BadValue >>= (λ _. refuse (is_refused v k text) BadValue >>= (λ _. Ok (record { key = k; text = text; word = i } ∷ had)))) fit
     ∙ ap (λ b. refuse b BadValue >>= (λ _. Ok (record { key = k; text = text; word = i } ∷ had))) taken
 

@@ -28,17 +28,18 @@ use Rattle.report_form.specs.Reports.{ReportValue, WordsValue, parts_of}
 use Rattle.report_form.specs.Reading.{report_of}
 use Rattle.report_form.specs.Spelling.{report_text}
 use Rattle.report_laws.proofs.ReportAgain.{report_again}
-use Rattle.frontier_audit.specs.Joining.{is_reduce, is_gather, points_of}
 use Rattle.frontier_audit.specs.Shelves.{ShelfRight}
-use Rattle.frontier_audit.specs.Rights.{AreJoined, IsRight, IsRightPart}
+use Rattle.frontier_audit.specs.Rights.{AreJoined, IsRight}
+use Rattle.frontier_audit.specs.Parts.{IsRightPart, is_reduce, is_gather, points_of}
 use Rattle.frontier_audit.specs.OwedFiles.{Proves}
 use Rattle.frontier_audit.proofs.Proved.{proves_right}
 use Rattle.frontier_audit.proofs.Right.{right_verified}
 use Rattle.run_rules.specs.declared.status.Status.TheVariants.{Done, SinkFailed, BadTopology, BadReport, BadJson}
 use Rattle.run_rules.specs.Refusals.{Refusal, refused_as}
 use Rattle.run_rules.specs.Commands.{row_of}
-use Rattle.run_rules.specs.Tasks.{Task, Synthesise, Audit, Degrade, due, fault_in, fitting, limit, point_in, read_report, root_in, search_asked, searchable, task_of, whole_question, whole_text, words_asked, words_for}
-use Rattle.run_rules.specs.Audits.{audited, not_denied, verdict_status}
+use Rattle.run_rules.specs.Tasks.{Task, Synthesise, Audit, Degrade, due, fault_in, limit, point_in, read_report, root_in, search_asked, searchable, task_of, words_asked}
+use Rattle.run_rules.specs.Steps.{fitting, whole_question, words_for, whole_text}
+use Rattle.run_rules.specs.Audits.{audited, not_denied}
 use Rattle.sccl_run.specs.Laws.{IsRightRun}
 use Rattle.sccl_run.specs.TopCall.{CountValue, IsEnd, IsSilent, RunValue}
 use Rattle.sccl_run.specs.Rows.{all_tell}
@@ -137,7 +138,7 @@ nothing_denied r files right shelf =
 audit_done : (r : ReportValue) (x : RunValue) → audited r x.files ≡ Ok tt → IsEnd (Ok (Audit r)) x all_tell → (x.status ≡ Done) ⊎ ((x.status ≡ SinkFailed) ⊎ IsSilent x.status)
 audit_done r x accepted (inl end) =
     let over : end.answer.over ≡ x.files = files_are x.files end.answer.over (end.answer.are refl) in
-    inl (end.answer.says.status ∙ ap verdict_status (ap (audited r) over ∙ accepted))
+    inl (end.answer.done (ap (audited r) over ∙ accepted)).says.status
 audit_done r x accepted (inr (inl cut)) = inr (inl cut.failed)
 audit_done r x accepted (inr (inr halt)) = inr (inr halt.silent)
 

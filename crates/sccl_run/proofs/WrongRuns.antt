@@ -33,7 +33,8 @@ use Rattle.run_rules.specs.Tasks.{Synthesise, due}
 use Rattle.run_rules.specs.Answers.{IsSearch}
 use Rattle.sccl_run.specs.Laws.{IsRightRun}
 use Rattle.sccl_run.specs.Rows.{all_tell, done_search, failed_search, no_files, own_file, refused_check}
-use Rattle.sccl_run.specs.TopCall.{CountValue, IsEnd, IsSilent, files_of}
+use Rattle.sccl_run.specs.TopCall.{CountValue, IsEnd, IsSilent}
+use Rattle.sccl_run.specs.inner.Answering.{files_of}
 use Rattle.sccl_run.proofs.Ended.{ended}
 use Rattle.sccl_run.proofs.FamilyRuns.{differ}
 use Rattle.sccl_run.proofs.RightRuns.{answered, done_answered}

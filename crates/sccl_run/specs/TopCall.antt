@@ -9,7 +9,7 @@ use Rattle.run_rules.specs.declared.status.Status.TheVariants.{OutOfMemory, Sour
 use Rattle.run_rules.specs.Commands.{Ask, Reads, Opens, IsOneOf, IsRefusal, ends_of}
 use Rattle.run_rules.specs.Refusals.{Refusal}
 use Rattle.run_rules.specs.Tasks.{Task, Reader, limit, due_by}
-use Rattle.run_rules.specs.Answers.{FilesValue, IsAnswer, LeavesOff}
+use Rattle.run_rules.specs.Answers.{IsAnswer, LeavesOff}
 
 -- ---- every run, whatever the ports tell
 
@@ -58,15 +58,12 @@ pub record ToldValue : Type 0 where
   pub sink : Bool
   pub shelf : Bool
 
-abbrev pub files_of : RunValue → ToldValue → FilesValue
-files_of x told = record { told = told.shelf; before = x.files; after = x.files_after }
-
 -- ---- how it ends
 
 -- there is an answer, and its text was written
 pub record IsAnsweredRun (due : Result Task Refusal) (x : RunValue) (told : ToldValue) : Type 0 where
   pub text : List ℕ
-  pub answer : IsAnswer due (files_of x told) x.status text
+  pub answer : IsAnswer due (record { told = told.shelf; before = x.files; after = x.files_after }) x.status text
   pub written : IsTrue told.sink → x.now ≡ x.before ++ text
 
 -- there is an answer, and the sink failed behind the beginning of its text
@@ -74,7 +71,7 @@ pub record IsCutOff (due : Result Task Refusal) (x : RunValue) (told : ToldValue
   pub failed : x.status ≡ SinkFailed
   pub status : Status
   pub text : List ℕ
-  pub answer : IsAnswer due (files_of x told) status text
+  pub answer : IsAnswer due (record { told = told.shelf; before = x.files; after = x.files_after }) status text
   pub count : ℕ
   pub written : IsTrue told.sink → x.now ≡ x.before ++ take count text
 

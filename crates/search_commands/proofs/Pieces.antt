@@ -21,7 +21,8 @@ use Rattle.node_cuts.specs.Floors.{floor_of}
 use Rattle.node_cuts.specs.Sides.{has_bit}
 use Rattle.cut_bounds.specs.Parting.{cuts_among, uncut_among}
 use Rattle.candidate_formula.specs.Searched.{searched_question}
-use Rattle.run_rules.specs.Bounds.{bound_text, cut_words, floor_words}
+use Rattle.run_rules.specs.Bounds.{bound_text, floor_words}
+use Rattle.run_rules.specs.Lines.{cut_words}
 
 -- ---- the names of a set
 

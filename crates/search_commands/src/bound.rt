@@ -10,7 +10,8 @@ ghost use Rattle.run_rules.specs.Answers.{IsAnswer, LeavesOff};
 ghost use Rattle.run_rules.specs.Bounds.{IsBoundAnswer};
 ghost use Rattle.run_rules.specs.Commands.{IsRefusal};
 ghost use Rattle.run_rules.specs.Refusals.{Refusal};
-ghost use Rattle.run_rules.specs.Tasks.{bound_asked, given_sets, limit};
+ghost use Rattle.run_rules.specs.Tasks.{given_sets, limit};
+ghost use Rattle.run_rules.specs.Steps.{bound_asked};
 
 use crate::bound_printing::print_bounds;
 use crate::bound_searching::search_bounds;

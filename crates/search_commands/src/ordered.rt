@@ -6,7 +6,8 @@ ghost use Rattle.command_words.specs.Commands.{AreSearchWords};
 ghost use Rattle.frontier_audit.specs.Searches.{IsAsked};
 ghost use Rattle.run_rules.specs.Answers.{FilesValue, IsAnswerAlone, Stay};
 ghost use Rattle.run_rules.specs.Orders.{IsOrderedAnswer};
-ghost use Rattle.run_rules.specs.Tasks.{limit, order_asked};
+ghost use Rattle.run_rules.specs.Tasks.{limit};
+ghost use Rattle.run_rules.specs.Steps.{order_asked};
 
 use crate::OutOfMemory;
 use crate::ordered_printing::print_ordered;

@@ -7,7 +7,8 @@ ghost use Rattle.frontier_audit.specs.Searches.{IsAsked};
 ghost use Rattle.run_rules.specs.Answers.{IsAnswer, IsSearch, LeavesOff, SearchLeaves};
 ghost use Rattle.run_rules.specs.Commands.{IsRefusal};
 ghost use Rattle.run_rules.specs.Refusals.{Refusal};
-ghost use Rattle.run_rules.specs.Tasks.{limit, synthesis_asked};
+ghost use Rattle.run_rules.specs.Tasks.{limit};
+ghost use Rattle.run_rules.specs.Steps.{synthesis_asked};
 
 use command_words::SearchWords;
 use outer_ports::Shelf;

@@ -10,7 +10,8 @@ use Rattle.candidate_order.proofs.Settled.{same_points, same_refuted}
 use Rattle.topology_text.specs.Value.{NamedTopologyValue}
 use Rattle.report_form.specs.Reports.{WordsValue, ReportValue, IsFrontier, parts_of, question_of}
 use Rattle.frontier_audit.specs.Rights.{IsRight, IsSearched}
-use Rattle.run_rules.specs.Trials.{points_in, refuted_in, unknown_in, trial_words, trial_topology}
+use Rattle.run_rules.specs.Trials.{trial_words}
+use Rattle.trial_command.specs.Counts.{points_in, refuted_in, unknown_in, trial_topology}
 use Rattle.run_rules.specs.Tries.{Tries}
 
 -- a part of a report in which everything is settled

@@ -16,7 +16,8 @@ use Rattle.topology_text.specs.Value.{IsNamed}
 use Rattle.topology_text.proofs.FamilyLaws.{family_named}
 use Rattle.report_form.specs.Reports.{IsWords, question_of}
 use Rattle.frontier_audit.specs.Searches.{IsAsked}
-use Rattle.run_rules.specs.Trials.{trial_chunks, trial_family, trial_kind, trial_size, trial_topology, trial_words}
+use Rattle.run_rules.specs.Trials.{trial_chunks, trial_family, trial_kind, trial_size, trial_words}
+use Rattle.trial_command.specs.Counts.{trial_topology}
 use Rattle.trial_command.proofs.Small.{family_small, trial_light}
 
 -- every kind has every size

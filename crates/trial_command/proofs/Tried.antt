@@ -11,7 +11,8 @@ use Rattle.report_form.specs.Answer.{Answers}
 use Rattle.report_form.specs.Reports.{ReportValue, WordsValue, question_of}
 use Rattle.frontier_audit.specs.Rights.{IsRight, IsSearched}
 use Rattle.frontier_audit.specs.Shelves.{ShelfRight}
-use Rattle.run_rules.specs.Trials.{trial_text, trial_topology, trial_words}
+use Rattle.run_rules.specs.Trials.{trial_text, trial_words}
+use Rattle.trial_command.specs.Counts.{trial_topology}
 use Rattle.run_rules.specs.Tries.{Tries}
 use Rattle.trial_command.proofs.Searchable.{trial_small}
 

@@ -9,8 +9,8 @@ use Rattle.candidate_order.specs.Frontiers.{FrontierValue, PointValue}
 use Rattle.report_form.specs.Reports.{ReportValue, parts_of}
 use Rattle.frontier_audit.specs.declared.verdict.AuditVerdict.TheVariants.{Verified}
 use Rattle.frontier_audit.specs.Auditing.{audit_of}
-use Rattle.frontier_audit.specs.Joining.{is_gather, is_reduce, points_of}
-use Rattle.frontier_audit.specs.Rights.{AreJoined, IsRight, IsRightPart}
+use Rattle.frontier_audit.specs.Rights.{AreJoined, IsRight}
+use Rattle.frontier_audit.specs.Parts.{IsRightPart, is_gather, is_reduce, points_of}
 use Rattle.frontier_audit.specs.Shelves.{ShelfRight}
 use Rattle.frontier_audit.proofs.Right.{right_verified}
 

@@ -1,7 +1,8 @@
 //! The search that a number stands for.
 
 ghost use Rattle.std.specs.Prelude.{◌≡◌, ◌≤◌, IfOk};
-ghost use Rattle.run_rules.specs.Trials.{trial_chunks, trial_family, trial_kind, trial_size, trial_topology, trial_words};
+ghost use Rattle.run_rules.specs.Trials.{trial_chunks, trial_family, trial_kind, trial_size, trial_words};
+ghost use Rattle.trial_command.specs.Counts.{trial_topology};
 
 use crate::OutOfMemory;
 use candidate_order::Limits;

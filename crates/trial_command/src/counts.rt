@@ -1,7 +1,7 @@
 //! How much a search found.
 
 ghost use Rattle.std.specs.Prelude.{◌≡◌, ◌+◌, IfOk};
-ghost use Rattle.run_rules.specs.Trials.{points_in, refuted_in, unknown_in};
+ghost use Rattle.trial_command.specs.Counts.{points_in, refuted_in, unknown_in};
 
 use crate::OutOfMemory;
 use report_form::Report;

@@ -1,7 +1,7 @@
 //! What trials of one number have in common.
 
 ghost use Rattle.std.specs.Prelude.{◌≡◌, ℕ, List};
-ghost use Rattle.run_rules.specs.Trials.{points_in, refuted_in, unknown_in};
+ghost use Rattle.trial_command.specs.Counts.{points_in, refuted_in, unknown_in};
 ghost use Rattle.run_rules.specs.Tries.{Tries};
 
 /// Two trials of one number whose reports leave nothing unknown count as many points, and as many

@@ -4,7 +4,7 @@ ghost use Rattle.std.specs.Prelude.{◌≡◌, ◌*◌, Contains, IfOk};
 ghost use Rattle.node_programs.specs.Runs.{operations};
 ghost use Rattle.report_form.specs.Numbered.{points_of};
 ghost use Rattle.replay_text.specs.Showing.{machine_of, shown_in};
-ghost use Rattle.run_rules.specs.Trials.{events_in, replays_in};
+ghost use Rattle.trial_command.specs.Counts.{events_in, replays_in};
 
 use crate::OutOfMemory;
 use crate::counts::plus;

@@ -3,7 +3,8 @@
 ghost use Rattle.std.specs.Prelude.{◌≡◌, ◌++◌, ◌∷◌, [], codes, decimal, OnOk, IfOk};
 ghost use Rattle.text_lines.specs.Text.{line};
 ghost use Rattle.topology_text.specs.FamilyWords.{family_word};
-ghost use Rattle.run_rules.specs.Trials.{events_in, points_in, refuted_in, replays_in, trial_family, trial_size, trial_text, unknown_in};
+ghost use Rattle.run_rules.specs.Trials.{trial_family, trial_size, trial_text};
+ghost use Rattle.trial_command.specs.Counts.{events_in, points_in, refuted_in, replays_in, unknown_in};
 
 use crate::OutOfMemory;
 use crate::asked::{trial_family, trial_size};

@@ -8,7 +8,8 @@ ghost use Rattle.frontier_audit.specs.Rights.{IsRight, IsSearched};
 ghost use Rattle.frontier_audit.specs.Shelves.{ShelfRight};
 ghost use Rattle.run_rules.specs.Answers.{IsAnswerAlone};
 ghost use Rattle.run_rules.specs.Tasks.{Try};
-ghost use Rattle.run_rules.specs.Trials.{trial_text, trial_topology, trial_words};
+ghost use Rattle.run_rules.specs.Trials.{trial_text, trial_words};
+ghost use Rattle.trial_command.specs.Counts.{trial_topology};
 ghost use Rattle.run_rules.specs.Tries.{Tries};
 
 use crate::OutOfMemory;

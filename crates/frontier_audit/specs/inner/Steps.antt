@@ -1,27 +1,66 @@
 -- The checks of an audit as its steps do them.
-use Rattle.std.specs.Prelude.{◌≡◌, ◌==◌, ◌&&◌, ◌||◌, ◌++◌, not, ℕ, Bool, List, Option, None, Some, drop, filter, map, Ok, Err}
-use Rattle.std.specs.List.{list_any}
+use Rattle.std.specs.Prelude.{◌≡◌, ◌==◌, ◌&&◌, ◌||◌, ◌+◌, ◌++◌, not, if◌then◌else◌, ℕ, Bool, List, Option, None, Some, bytes_eq, drop, filter, map, Ok, Err}
+use Rattle.std.specs.Cmp.Lexicographic.{pointwise}
+use Rattle.std.specs.List.{list_any, flat_map, range_with_len}
 use Rattle.text_lines.specs.Check.{◌>>=◌, refuse}
 use Rattle.outer_ports.specs.declared.part.Part.{Part}
 use Rattle.outer_ports.specs.Files.{Files}
+use Rattle.schedule.specs.declared.hop.Hop.{Hop}
 use Rattle.schedule.specs.Links.{TopologyValue}
+use Rattle.schedule.specs.Sends.{ScheduleValue}
+use Rattle.inversion.specs.Saying.{says_sums}
 use Rattle.collective_spec.specs.declared.kind.Kind.{Kind}
 use Rattle.collective_spec.specs.declared.kind.Kind.TheVariants.{Allreduce}
 use Rattle.candidate_order.specs.declared.candidate.Candidate.{Candidate}
-use Rattle.candidate_order.specs.Frontiers.{QuestionValue, PointValue, UnknownValue, FrontierValue}
+use Rattle.collective_spec.specs.Collectives.{chunks_of}
+use Rattle.candidate_order.specs.declared.mark.Mark.{Mark}
+use Rattle.candidate_order.specs.declared.mark.Mark.TheVariants as mark
+use Rattle.candidate_order.specs.Listed.{candidate_at}
+use Rattle.candidate_order.specs.Frontiers.{QuestionValue, PointValue, UnknownValue, FrontierValue, given_up}
 use Rattle.allreduce_join.specs.Joins.{join_of, pairs_of}
+use Rattle.allreduce_join.specs.Judging.{joined_verdict_of}
+use Rattle.candidate_formula.specs.Counts.{counts_of}
+use Rattle.candidate_formula.specs.Pruned.{is_cut_away}
 use Rattle.report_form.specs.Tests.{is_better, is_no_worse}
 use Rattle.report_form.specs.Reports.{ReportValue, question_of}
 use Rattle.proof_audit.specs.declared.verdict.FileVerdict.{FileVerdict}
 use Rattle.proof_audit.specs.declared.verdict.FileVerdict.TheVariants.{Missing, Refused, Stands}
 use Rattle.frontier_audit.specs.declared.verdict.Reason.{Reason}
-use Rattle.frontier_audit.specs.declared.verdict.Reason.TheVariants.{CandidateMissing, JoinWrong, MarkWrong, ProofMissing}
+use Rattle.frontier_audit.specs.declared.verdict.Reason.TheVariants.{CandidateMissing, JoinWrong, MarkWrong, ProofMissing, ScheduleWrong}
 use Rattle.frontier_audit.specs.Denials.{Denial, Checked, each, in_part}
 use Rattle.frontier_audit.specs.Candidates.{candidates_within, is_listed, same_candidate}
-use Rattle.frontier_audit.specs.Solutions.{is_mark}
-use Rattle.frontier_audit.specs.Joining.{is_gather, is_join, is_reduce, joins_checked, points_of, same_point}
-use Rattle.frontier_audit.specs.Auditing.{candidate_checked, frontier_checked, mark_checked}
+use Rattle.frontier_audit.specs.Solutions.{is_optimal, is_solution}
+use Rattle.frontier_audit.specs.Joining.{joined_checked, joins_checked, same_mark, same_point}
+use Rattle.frontier_audit.specs.Parts.{is_gather, is_reduce, points_of}
+use Rattle.frontier_audit.specs.Auditing.{frontier_checked, refutation_checked}
 use Rattle.frontier_audit.specs.Beside.{denial_of}
+
+-- ---- the checks of each part by name
+
+-- the mark says whether that is so
+abbrev pub is_mark : Bool → Mark → Bool
+is_mark optimal m = same_mark (if optimal then mark.Optimal else mark.Open) m
+
+abbrev pub point_checked : QuestionValue → PointValue → Checked Denial
+point_checked q p = refuse (not (is_solution q p)) (ScheduleWrong, p.candidate)
+
+-- of one that is cut away nothing has to stand there
+abbrev pub refuted_checked : Part → QuestionValue → Files → Candidate → Checked Denial
+refuted_checked part q files x = if is_cut_away q x then Ok tt else refutation_checked part q files x
+
+-- a point is no worse, or the candidate is refuted, or unknown
+abbrev pub is_answered : FrontierValue → Candidate → Bool
+is_answered f x = list_any (λ p. is_no_worse p.candidate x) f.points || is_listed f.refuted x || is_listed (given_up f) x
+
+abbrev pub candidate_checked : FrontierValue → Candidate → Checked Denial
+candidate_checked f x = refuse (not (is_answered f x)) (CandidateMissing, x)
+
+abbrev pub mark_checked : QuestionValue → FrontierValue → PointValue → Checked Denial
+mark_checked q f p = refuse (not (is_mark (is_optimal q f p.candidate) p.mark)) (MarkWrong, p.candidate)
+
+-- the candidates of a step, by rounds and then by chunk count
+abbrev pub candidates_of_step : QuestionValue → ℕ → List Candidate
+candidates_of_step q s = flat_map (λ r. map (λ c. candidate_at s (r, c)) (counts_of q)) (range_with_len s (q.limits.k + 1))
 
 -- ---- files
 
@@ -78,7 +117,23 @@ part_checked r files x = in_part x.0 (frontier_checked x.0 (question_of r.words 
 abbrev pub parts_checked : ReportValue → Files → List (Part × FrontierValue) → Checked (Part × Denial)
 parts_checked r files xs = each (part_checked r files) xs
 
+-- each part, and then what is joined
+abbrev pub report_checked : ReportValue → Files → Checked (Part × Denial)
+report_checked r files = do
+  _ ← parts_checked r files r.frontiers
+  joined_checked r r.frontiers
+
 -- ---- joined points
+
+abbrev pub same_hop : Hop → Hop → Bool
+same_hop a b = a.chunk == b.chunk && a.from == b.from && a.to == b.to && a.step == b.step
+
+abbrev pub same_schedule : ScheduleValue → ScheduleValue → Bool
+same_schedule a b = bytes_eq a.rounds b.rounds && pointwise same_hop a.sends b.sends
+
+-- the join of the two sums every chunk at every node
+abbrev pub is_join : TopologyValue → PointValue × PointValue → Bool
+is_join t pair = says_sums (joined_verdict_of t (chunks_of Allreduce t.nodes pair.0.candidate.c) (join_of pair.0 pair.1).schedule pair.0.candidate.s)
 
 -- a point with each of the others that has its chunk count
 abbrev pub pairs_with : PointValue → List PointValue → List (PointValue × PointValue)

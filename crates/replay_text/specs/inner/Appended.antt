@@ -1,9 +1,9 @@
 -- What the printers of a replay append, of the values that the code keeps.
-use Rattle.std.specs.Prelude.{ℕ, ◌+◌, List, [], ◌∷◌, ◌++◌, if◌then◌else◌, map, Option, None, Some, unwrap_or, codes, decimal}
+use Rattle.std.specs.Prelude.{ℕ, ◌+◌, List, [], ◌∷◌, ◌++◌, if◌then◌else◌, filter, map, Option, None, Some, unwrap_or, codes, decimal}
 use Rattle.std.specs.List.{range_with_len, last_or}
 use Rattle.schedule.specs.Sends.{ScheduleValue}
-use Rattle.schedule.specs.Placed.{PlacementValue}
-use Rattle.schedule.specs.Bags.{Bags, of_placement}
+use Rattle.schedule.specs.Placed.{PlacementValue, holds}
+use Rattle.schedule.specs.Bags.{Bag, Bags, contributions, held_at_2, of_placement}
 use Rattle.schedule.specs.Running.{run_of}
 use Rattle.schedule.specs.JoinedRuns.{joined_run}
 use Rattle.schedule.specs.declared.verdict.Verdict.{Verdict}
@@ -15,13 +15,38 @@ use Rattle.node_programs.specs.Runs.{operations, chosen}
 use Rattle.node_programs.specs.Ended.{machine_of}
 use Rattle.topology_text.specs.Spelling.{name_at}
 use Rattle.replay_text.specs.Replay.{node_lines, numbered_steps, verdict_words}
-use Rattle.replay_text.specs.Showing.{sum_words}
+use Rattle.replay_text.specs.Showing.{Shown, chunks_at, instance_at, is_copied, nodes_of, sum_words}
 
--- ---- the lines of a store
+-- ---- parts of the lines of a step
+
+abbrev pub step_head : ℕ → List (List ℕ)
+step_head step = codes "step" ∷ decimal step ∷ []
+
+-- the chunks that a node holds, ascending
+abbrev pub held_by : PlacementValue → ℕ → List ℕ
+held_by p node = filter (λ chunk. holds p (chunk, node)) (range_with_len 0 p.chunks)
+
+-- a node's name, and its chunks
+abbrev pub holder_words : List (List ℕ) → PlacementValue → ℕ → List (List ℕ)
+holder_words names p node = name_at names node ∷ map decimal (held_by p node)
 
 -- a digit for each count
 abbrev pub digits_of : List ℕ → List ℕ
 digits_of counts = map (λ count. 48 + count) counts
+
+-- a digit for each node
+abbrev pub counts_word : Bag → List ℕ
+counts_word bag = digits_of (held_at_2 bag)
+
+-- a node's name, and each chunk with the counts of its bag
+abbrev pub bag_words : Shown → Bags → ℕ → List (List ℕ)
+bag_words x bags node = name_at x.names node ∷ map (λ chunk. decimal chunk ++ 61 ∷ counts_word (bags (chunk, node))) (range_with_len 0 (chunks_at x))
+
+-- what each node has before the first step
+abbrev pub start_bags : Shown → Bags
+start_bags x = if is_copied x then of_placement (instance_at x).pre else contributions (nodes_of x)
+
+-- ---- the lines of a store
 
 -- a chunk, and how often each node has contributed to it at this node
 abbrev pub bag_word : StoreValue → ℕ → ℕ → List ℕ

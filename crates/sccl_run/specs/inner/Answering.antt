@@ -9,8 +9,14 @@ use Rattle.run_rules.specs.declared.halt.Halt.{Halt}
 use Rattle.run_rules.specs.declared.halt.Halt.TheVariants.{Shelf}
 use Rattle.run_rules.specs.Commands.{Ask, Reads, IsOneOf, answers_of, row_of}
 use Rattle.run_rules.specs.Refusals.{Refusal}
-use Rattle.run_rules.specs.Tasks.{Task, due, task_of, whole_text}
+use Rattle.run_rules.specs.Tasks.{Task, due, task_of}
+use Rattle.run_rules.specs.Steps.{whole_text}
 use Rattle.run_rules.specs.Answers.{FilesValue, IsAnswer, LeavesOff}
+use Rattle.sccl_run.specs.TopCall.{RunValue, ToldValue}
+
+-- the files of a run, and whether the shelf tells them
+abbrev pub files_of : RunValue → ToldValue → FilesValue
+files_of x told = record { told = told.shelf; before = x.files; after = x.files_after }
 
 -- what is due for a command over these bytes
 abbrev pub due_for : Command → List ℕ → Result Task Refusal

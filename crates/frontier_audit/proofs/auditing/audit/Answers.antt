@@ -32,7 +32,7 @@ returns-in-Some-2-clause-exact g c =
     let tells = H.tells c.parts_denied.new.shelf in
     let shelf = H.file c.args.shelf.now in
     let parts = subst (AnswersBeside tells shelf (λ files. parts_checked r files r.frontiers)) c.in_default.is c.in_ok-part.ensures.beside in
-    denied_exact tells shelf r (Joined, c.in-Some-2.denial) c.denied-in-Some-2.result c.denied-in-Some-2.ensures (joins_decide tells shelf r c.in-Some-2.denial parts (sym c.in-Some-2.is ∙ c.in_ok-denial.ensures))
+    denied_exact tells shelf r (Joined, c.in-Some-2.denial) c.denied-in-Some-2.result c.denied-in-Some-2.ensures (joins_decide tells shelf r c.parts_denied.ensures.valid c.in-Some-2.denial parts (sym c.in-Some-2.is ∙ c.in_ok-denial.ensures))
 
 pub returns-in-Some-2-clause-some : goal.returns-in-Some-2-clause-some
 returns-in-Some-2-clause-some g c =
@@ -41,7 +41,7 @@ returns-in-Some-2-clause-some g c =
     let tells = H.tells c.parts_denied.new.shelf in
     let shelf = H.file c.args.shelf.now in
     let parts = subst (AnswersBeside tells shelf (λ files. parts_checked r files r.frontiers)) c.in_default.is c.in_ok-part.ensures.beside in
-    denied_some tells shelf r (Joined, c.in-Some-2.denial) c.denied-in-Some-2.result c.denied-in-Some-2.ensures (joins_decide tells shelf r c.in-Some-2.denial parts (sym c.in-Some-2.is ∙ c.in_ok-denial.ensures))
+    denied_some tells shelf r (Joined, c.in-Some-2.denial) c.denied-in-Some-2.result c.denied-in-Some-2.ensures (joins_decide tells shelf r c.parts_denied.ensures.valid c.in-Some-2.denial parts (sym c.in-Some-2.is ∙ c.in_ok-denial.ensures))
 
 pub returns-clause-exact : goal.returns-clause-exact
 returns-clause-exact g c =
@@ -50,7 +50,7 @@ returns-clause-exact g c =
     let tells = H.tells c.parts_denied.new.shelf in
     let shelf = H.file c.args.shelf.now in
     let parts = subst (AnswersBeside tells shelf (λ files. parts_checked r files r.frontiers)) c.in_default.is c.in_ok-part.ensures.beside in
-    verified_exact tells shelf r (none_decides tells shelf r parts (sym c.in_default-2.is ∙ c.in_ok-denial.ensures))
+    verified_exact tells shelf r (none_decides tells shelf r c.parts_denied.ensures.valid parts (sym c.in_default-2.is ∙ c.in_ok-denial.ensures))
 
 pub returns-clause-some : goal.returns-clause-some
 returns-clause-some g c =
@@ -59,7 +59,7 @@ returns-clause-some g c =
     let tells = H.tells c.parts_denied.new.shelf in
     let shelf = H.file c.args.shelf.now in
     let parts = subst (AnswersBeside tells shelf (λ files. parts_checked r files r.frontiers)) c.in_default.is c.in_ok-part.ensures.beside in
-    verified_some tells shelf r (none_decides tells shelf r parts (sym c.in_default-2.is ∙ c.in_ok-denial.ensures))
+    verified_some tells shelf r (none_decides tells shelf r c.parts_denied.ensures.valid parts (sym c.in_default-2.is ∙ c.in_ok-denial.ensures))
 
 pub returns-clause-right : goal.returns-clause-right
 returns-clause-right g c = λ _.
@@ -68,7 +68,7 @@ returns-clause-right g c = λ _.
     let tells = H.tells c.parts_denied.new.shelf in
     let shelf = H.file c.args.shelf.now in
     let parts = subst (AnswersBeside tells shelf (λ files. parts_checked r files r.frontiers)) c.in_default.is c.in_ok-part.ensures.beside in
-    verified_rights tells shelf r c.parts_denied.ensures.valid (none_decides tells shelf r parts (sym c.in_default-2.is ∙ c.in_ok-denial.ensures))
+    verified_rights tells shelf r c.parts_denied.ensures.valid (none_decides tells shelf r c.parts_denied.ensures.valid parts (sym c.in_default-2.is ∙ c.in_ok-denial.ensures))
 
 pub returns-clause-logs : goal.returns-clause-logs
 returns-clause-logs g c = λ _.
@@ -77,4 +77,4 @@ returns-clause-logs g c = λ _.
     let tells = H.tells c.parts_denied.new.shelf in
     let shelf = H.file c.args.shelf.now in
     let parts = subst (AnswersBeside tells shelf (λ files. parts_checked r files r.frontiers)) c.in_default.is c.in_ok-part.ensures.beside in
-    verified_logs tells shelf r c.parts_denied.ensures.valid (none_decides tells shelf r parts (sym c.in_default-2.is ∙ c.in_ok-denial.ensures))
+    verified_logs tells shelf r c.parts_denied.ensures.valid (none_decides tells shelf r c.parts_denied.ensures.valid parts (sym c.in_default-2.is ∙ c.in_ok-denial.ensures))

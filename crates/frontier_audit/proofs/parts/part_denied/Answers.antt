@@ -3,7 +3,8 @@ use Rattle.std.specs.Prelude.{AllPairs}
 use Rattle.candidate_order.specs.Costs.{Before}
 use Rattle.candidate_order.specs.Frontiers.{PointValue, UnknownValue}
 use Rattle.frontier_audit.specs.Denials.{each}
-use Rattle.frontier_audit.specs.Auditing.{point_checked, refuted_checked, unknown_checked}
+use Rattle.frontier_audit.specs.Auditing.{unknown_checked}
+use Rattle.frontier_audit.specs.inner.Steps.{point_checked, refuted_checked}
 use Rattle.frontier_audit.specs.Beside.{denial_of}
 use Rattle.frontier_audit.proofs.Merging.{later, reworded, since}
 use Rattle.frontier_audit.proofs.Parting.{answers_decide, points_decide, refuted_decide, unknown_decide, unnamed_pairs}

@@ -1,6 +1,6 @@
 use Rattle.std.specs.Prelude.{◌≡◌, drop}
 use Rattle.frontier_audit.specs.Denials.{each}
-use Rattle.frontier_audit.specs.Auditing.{point_checked}
+use Rattle.frontier_audit.specs.inner.Steps.{point_checked}
 use Rattle.frontier_audit.specs.Beside.{denial_of}
 use Rattle.frontier_audit.proofs.solutions.points_denied.Given as goal
 

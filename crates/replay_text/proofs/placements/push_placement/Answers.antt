@@ -1,7 +1,7 @@
 use Rattle.std.proofs.Common.{map}
 use Rattle.std.specs.List.{range_with_len}
 use Rattle.text_lines.specs.Text.{line, text_of}
-use Rattle.replay_text.specs.Replay.{holder_words}
+use Rattle.replay_text.specs.inner.Appended.{holder_words}
 use Rattle.replay_text.proofs.Lines.{appends, lines_more}
 use Rattle.replay_text.proofs.placements.push_placement.Goals as goal
 

@@ -1,6 +1,7 @@
 use Rattle.std.proofs.Common.{refl, subst}
 use Rattle.run_rules.specs.Read.{IsReadAs}
-use Rattle.run_rules.specs.Tasks.{degrade_asked, degrade_in, read_report}
+use Rattle.run_rules.specs.Tasks.{degrade_asked, read_report}
+use Rattle.run_rules.specs.Steps.{degrade_in}
 use Rattle.run_rules.proofs.Answered.{refused_alone, refused_behind}
 use Rattle.report_commands.proofs.degrade.degrade_answer.Goals as goal
 

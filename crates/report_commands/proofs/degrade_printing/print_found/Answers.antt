@@ -7,7 +7,7 @@ use Rattle.report_form.specs.Spelling.{refuted_words, synth_words, unknown_words
 use Rattle.report_printing.specs.Printed.{point_text}
 use Rattle.report_printing.proofs.Pieces.{before}
 use Rattle.link_faults.specs.Carrying.{is_carried}
-use Rattle.run_rules.specs.Degraded.{carried_words}
+use Rattle.run_rules.specs.Lines.{carried_words}
 use Rattle.report_commands.proofs.Lines.{degraded_is}
 use Rattle.report_commands.proofs.degrade_printing.print_found.Goals as goal
 

@@ -1,6 +1,6 @@
 use Rattle.std.proofs.Common.{◌≡◌, ◌++◌, map, take}
 use Rattle.text_lines.specs.Text.{text_of}
-use Rattle.run_rules.specs.Degraded.{carried_words}
+use Rattle.run_rules.specs.Lines.{carried_words}
 use Rattle.report_commands.proofs.degrade_printing.push_all_carried.Given as goal
 
 abbrev pub invariant-loop-x : goal.invariant-loop-x

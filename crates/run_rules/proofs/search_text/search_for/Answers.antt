@@ -1,6 +1,7 @@
 use Rattle.std.proofs.Common.{subst}
 use Rattle.run_rules.specs.Read.{IsSearchableAs}
-use Rattle.run_rules.specs.Tasks.{searchable, whole_question}
+use Rattle.run_rules.specs.Tasks.{searchable}
+use Rattle.run_rules.specs.Steps.{whole_question}
 use Rattle.run_rules.proofs.Sought.{cannot_search}
 use Rattle.run_rules.proofs.search_text.search_for.Goals as goal
 

@@ -3,7 +3,8 @@ use Rattle.collective_spec.specs.Collectives.{fits_kind}
 use Rattle.command_words.specs.declared.fault.WordCode.TheVariants.{CustomMismatch, UnknownRoot}
 use Rattle.run_rules.specs.Read.{IsSearchAs}
 use Rattle.run_rules.specs.Refusals.{refused_word}
-use Rattle.run_rules.specs.Tasks.{root_in, search_for}
+use Rattle.run_rules.specs.Tasks.{root_in}
+use Rattle.run_rules.specs.Steps.{search_for}
 use Rattle.run_rules.proofs.Sought.{misfits, no_root, some_root}
 use Rattle.run_rules.proofs.search_text.search_over.Goals as goal
 

@@ -10,7 +10,8 @@ use Rattle.report_printing.proofs.Pieces.{before}
 use Rattle.node_cuts.specs.Floors.{floor_of}
 use Rattle.cut_bounds.specs.Parting.{cuts_among, uncut_among}
 use Rattle.candidate_formula.specs.Searched.{searched_question}
-use Rattle.run_rules.specs.Bounds.{cut_words, floor_words}
+use Rattle.run_rules.specs.Bounds.{floor_words}
+use Rattle.run_rules.specs.Lines.{cut_words}
 use Rattle.search_commands.proofs.Pieces.{bound_is}
 use Rattle.search_commands.proofs.bound_printing.print_bounds.Goals as goal
 

@@ -1,6 +1,6 @@
 use Rattle.std.proofs.Common.{◌≡◌, ◌++◌, map, take}
 use Rattle.text_lines.specs.Text.{text_of}
-use Rattle.run_rules.specs.Bounds.{cut_words}
+use Rattle.run_rules.specs.Lines.{cut_words}
 use Rattle.search_commands.proofs.bound_printing.push_cuts.Given as goal
 
 abbrev pub invariant-loop-candidate : goal.invariant-loop-candidate
