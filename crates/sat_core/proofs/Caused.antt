@@ -66,6 +66,10 @@ no_memory_after last is h cause = record {
   stays = λ _. cause.stays (λ e. cc);
 }
 
+-- a call that gave an answer left the count as it was
+pub unmoved : {T E : Type 0} {fault : E} {before now : ℕ} {answer : T} {one : Result T E} → one ≡ Ok answer → HasCause fault before now one → now ≡ before
+unmoved is cause = cause.stays (λ e. cc)
+
 -- what comes after calls that left the count as it was
 pub after : {T E : Type 0} {fault : E} {before mid now : ℕ} {last : Result T E} → mid ≡ before → HasCause fault mid now last → HasCause fault before now last
 after {T} {E} {fault} {before} {mid} {now} {last} same cause = subst (λ n. HasCause fault n now last) same cause

@@ -1,6 +1,6 @@
 -- A turn at a conflict, over plain values.
-use Rattle.std.proofs.Common.{◌≡◌, ℕ, ◌+◌, ◌-◌, ◌<◌, ◌≤◌, true, List, [], ◌∷◌, ◌++◌, length, get_or, take, sym, ap, ◌∙◌, subst, ⊎_elim, arith}
-use Rattle.std.proofs.lemmas.Bool.{cases_lt}
+use Rattle.std.proofs.Common.{◌≡◌, ℕ, Bool, eqb, ◌+◌, ◌-◌, ◌<◌, ◌≤◌, true, List, [], ◌∷◌, ◌++◌, length, get_or, take, sym, ap, ◌∙◌, subst, ⊎_elim, arith}
+use Rattle.std.proofs.lemmas.Bool.{cases_lt, eqb-false}
 use Rattle.cnf_formula.specs.Formulas.{FormulaValue, IsClause}
 use Rattle.cnf_formula.specs.Literals.{LitValue}
 use Rattle.cnf_formula.specs.Lines.{ProofLineValue}
@@ -73,24 +73,24 @@ module _ {base : FormulaValue} {lines : List ProofLineValue} {core : CoreValue} 
   turn_refuted e = refuted_by base lines line turn_written e
 
   module _ (some : 0 < length line.lits) where
-    above : 0 < length core.limits
-    above = ⊎_elim (λ h. h) (λ z. absurd (let n = ap length (t.found.named.lits ∙ t.found.is.closes (omega (arith, z))) in omega (arith, n, some))) (cases_lt 0 (length core.limits))
+    pub turn_above : 0 < length core.limits
+    turn_above = ⊎_elim (λ h. h) (λ z. absurd (let n = ap length (t.found.named.lits ∙ t.found.is.closes (omega (arith, z))) in omega (arith, n, some))) (cases_lt 0 (length core.limits))
 
     -- no clause that sleeps states it: so it is fresh
     pub turn_fresh : HasNone s line.lits → is_fresh (checker_of base lines) line.lits ≡ true
     turn_fresh none =
         let e = t.found.named.lits in
-        subst (λ ls. is_fresh (checker_of base lines) ls ≡ true) (sym e) (learned_fresh (checker_of base lines) core awake.names.items s conflict t.found.learned t.ready.holding.agree (subst (HasNone s) e none) t.conflicts above t.found.is)
+        subst (λ ls. is_fresh (checker_of base lines) ls ≡ true) (sym e) (learned_fresh (checker_of base lines) core awake.names.items s conflict t.found.learned t.ready.holding.agree (subst (HasNone s) e none) t.conflicts turn_above t.found.is)
 
     -- where none sleeps the search may end
     pub turn_over : sleeping s ≡ 0 → IsOver base lines
     turn_over none = record {
-      not_closed = no_line_closes (checker_of base lines) core awake.names.items s conflict t.ready.holding.agree none t.conflicts above;
+      not_closed = no_line_closes (checker_of base lines) core awake.names.items s conflict t.ready.holding.agree none t.conflicts turn_above;
       fresh = t.ready.fresh;
     }
 
     pub turn_backed : IsBacked core line.lits
-    turn_backed = subst (IsBacked core) (sym t.found.named.lits) (learned_backed core conflict t.found.learned above t.found.is)
+    turn_backed = subst (IsBacked core) (sym t.found.named.lits) (learned_backed core conflict t.found.learned turn_above t.found.is)
 
     pub turn_about : (vars : ℕ) → vars ≡ core.vars → IsClause vars line.lits
     turn_about vars e = subst (λ n. IsClause n line.lits) (sym e) (backed_within core line.lits t.conflicts.formed turn_backed)
@@ -101,6 +101,9 @@ none_by s clause none = λ other a sub. none a.0 a.1.within a.1.asleep (λ l c. 
 
 pub positive : (n : ℕ) → (n ≡ 0 → ⊥) → 0 < n
 positive n h = ⊎_elim (λ w. w) (λ z. absurd (h (omega (arith, z)))) (cases_lt 0 n)
+
+pub not_empty : {n : ℕ} {empty : Bool} (lits : List LitValue) → empty ≡ eqb n 0 → empty ≡ false → n ≡ length lits → 0 < length lits
+not_empty {n} lits is full len = positive (length lits) (λ e. eqb-false n 0 (sym is ∙ full) (omega (arith, e, len)))
 
 -- ---- what is kept beside the core
 

@@ -1,5 +1,6 @@
 -- What no contract of a public call says: contracts and proofs inside this crate alone cite it.
 pub mod Dividing
+pub mod Ending
 pub mod Going
 pub mod Guided
 pub mod Hints

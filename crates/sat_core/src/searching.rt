@@ -1,10 +1,9 @@
 //! The search: turn after turn, until it ends (the loop of CDCL).
 
-ghost use Rattle.std.specs.Prelude.{◌≡◌, ◌<◌, length, Ok, OnOk};
-ghost use Rattle.sat_core.specs.inner.Going.{CanSearch, HasRefuted, HasSpent, IsWrittenOn};
-ghost use Rattle.sat_core.specs.Ready.{IsReady};
+ghost use Rattle.std.specs.Prelude.{◌≡◌, IfOk};
+ghost use Rattle.sat_core.specs.inner.Going.{CanSearch, IsWrittenOn};
+ghost use Rattle.sat_core.specs.inner.Ending.{IsEnded};
 ghost use Rattle.outer_ports.specs.Port.{HasCause};
-ghost use Rattle.sat_core.specs.inner.Totals.{IsTotal};
 
 use crate::fault::SolveFault;
 use crate::guide::Guide;
@@ -33,12 +32,8 @@ pub fn search<T, L: Ledger<T>>(
 ) -> Result<End, SolveFault>
     requires can { CanSearch L.LedgerView L.Ledger.own ledger.old store.old core.old guide.old }
     ensures written { IsWrittenOn L.LedgerView L.Ledger.own ledger.old store.old ledger.new store.new }
-    ensures agrees { OnOk result (L.agrees ledger.new store.new) }
     ensures vars { core.new.vars ≡ core.old.vars }
-    ensures ready { result ≡ Ok End.Total → IsReady (L.base ledger.new) (L.lines ledger.new) core.new guide.new.awake guide.new.sleepers }
-    ensures total { result ≡ Ok End.Total → IsTotal core.new }
-    ensures refuted { result ≡ Ok End.Refuted → HasRefuted L.LedgerView ledger.new }
-    ensures spent { result ≡ Ok End.Spent → HasSpent L.LedgerView ledger.new }
+    ensures ended { IfOk result (IsEnded L.LedgerView L.Ledger.own ledger.new store.new core.new guide.new) }
     ensures cause { HasCause SolveFault.LedgerFailed (L.faults ledger.old store.old) (L.faults ledger.new store.new) result }
 {
     loop {

@@ -1,15 +1,14 @@
 //! One turn of the search at a conflict: analysis, learning, backjump.
 
-ghost use Rattle.std.specs.Prelude.{◌≡◌, ◌+◌, ◌<◌, ◌∷◌, ◌++◌, [], true, List, length, Ok, IfOk, OnOk};
+ghost use Rattle.std.specs.Prelude.{◌≡◌, ◌+◌, ◌<◌, ◌∷◌, ◌++◌, [], true, List, length, IfOk, OnOk};
 ghost use Rattle.cnf_formula.specs.Formulas.{FormulaValue};
 ghost use Rattle.cnf_formula.specs.Lines.{ProofLineValue};
 ghost use Rattle.conflict_analysis.specs.Conflicts.{IsConflict};
-ghost use Rattle.sat_core.specs.inner.Measure.{IsLess};
 ghost use Rattle.sat_core.specs.inner.Jumping.{IsBacked};
-ghost use Rattle.sat_core.specs.inner.Turning.{IsConflictLine};
+ghost use Rattle.sat_core.specs.inner.Turning.{IsConflictLine, IsTurned};
 ghost use Rattle.sleeping_clauses.specs.Sleeping.{sleeping};
 ghost use Rattle.sat_core.specs.inner.Guided.{IsGuided};
-ghost use Rattle.sat_core.specs.inner.Going.{CanSearch, HasRefuted, HasSpent, IsWrittenOn, StaysReady};
+ghost use Rattle.sat_core.specs.inner.Going.{CanSearch, IsWrittenOn, StaysReady};
 ghost use Rattle.sat_core.specs.Ready.{AreWritten, IsReady};
 ghost use Rattle.proof_rules.specs.Refuting.{is_fresh};
 ghost use Rattle.ledger_rules.specs.Logs.{checker_of};
@@ -99,12 +98,8 @@ pub fn at_conflict<T, L: Ledger<T>>(
     requires can { CanSearch L.LedgerView L.Ledger.own ledger.old store.old core.old guide.old }
     requires conflict { IsConflict core.old conflict }
     ensures written { IsWrittenOn L.LedgerView L.Ledger.own ledger.old store.old ledger.new store.new }
-    ensures agrees { OnOk result (L.agrees ledger.new store.new) }
     ensures vars { core.new.vars ≡ core.old.vars }
-    ensures can { result ≡ Ok Turn.Goes → CanSearch L.LedgerView L.Ledger.own ledger.new store.new core.new guide.new }
-    ensures less { result ≡ Ok Turn.Goes → IsLess (L.spent ledger.old) (sleeping guide.old.sleepers) (L.spent ledger.new) (sleeping guide.new.sleepers) }
-    ensures refuted { result ≡ Ok Turn.Refuted → HasRefuted L.LedgerView ledger.new }
-    ensures spent { result ≡ Ok Turn.Spent → HasSpent L.LedgerView ledger.new }
+    ensures turned { IfOk result (IsTurned L.LedgerView L.Ledger.own ledger.old (sleeping guide.old.sleepers) ledger.new store.new core.new guide.new) }
     ensures cause { HasCause SolveFault.LedgerFailed (L.faults ledger.old store.old) (L.faults ledger.new store.new) result }
 {
     let line = line_of_conflict(alloc, core, guide, conflict)?;

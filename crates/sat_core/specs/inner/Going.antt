@@ -28,14 +28,16 @@ pub record CanSearch {L T : Type 0} (V : view.Ghosts L) (W : own.Ghosts L T) (le
   pub agrees : W.agrees ledger store
 
 -- a search ends here: the ledger's lines refute its formula, and all but the last of them were learned
-pub record HasRefuted {L : Type 0} (V : view.Ghosts L) (ledger : L) : Type 0 where
+pub record HasRefuted {L T : Type 0} (V : view.Ghosts L) (W : own.Ghosts L T) (ledger : L) (store : T) : Type 0 where
   pub refutes : Refutes (map Addition (V.lines ledger)) (V.base ledger)
   pub few : length (V.lines ledger) ≤ V.limit ledger + 1
+  pub agrees : W.agrees ledger store
 
 -- or it ends here: as many lines were learned as may be, and none that closes is implied
-pub record HasSpent {L : Type 0} (V : view.Ghosts L) (ledger : L) : Type 0 where
+pub record HasSpent {L T : Type 0} (V : view.Ghosts L) (W : own.Ghosts L T) (ledger : L) (store : T) : Type 0 where
   pub all : V.spent ledger ≡ V.limit ledger
   pub over : IsOver (V.base ledger) (V.lines ledger)
+  pub agrees : W.agrees ledger store
 
 -- where a search was ready, it is ready still
 abbrev pub StaysReady : CoreValue → Awake → SleepersValue → CoreValue → Awake → SleepersValue → Type 0

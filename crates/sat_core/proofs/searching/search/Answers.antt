@@ -5,16 +5,32 @@ use Rattle.sat_core.specs.declared.turn.Turn.TheVariants as turn
 use Rattle.sat_core.proofs.Measure.{conflict_leaves_less}
 use Rattle.sat_core.proofs.searching.search.Goals as goal
 
+pub loop-conflict-init : goal.loop-conflict-init
+loop-conflict-init g c = ?
+
+pub at_conflict-requires : goal.at_conflict-requires
+at_conflict-requires g c = ?
+
+pub returns-in_err-at_conflict-in-Conflict : goal.returns-in_err-at_conflict-in-Conflict
+returns-in_err-at_conflict-in-Conflict g c = ?
+
+pub loop-conflict-preserved-in-Goes : goal.loop-conflict-preserved-in-Goes
+loop-conflict-preserved-in-Goes g c = ?
+
 pub loop-conflict-smaller-in-Goes : goal.loop-conflict-smaller-in-Goes
-loop-conflict-smaller-in-Goes g c =
-    let L = g.L.LedgerView in
-    let old = c.loop-conflict in
-    let new = c.at_conflict.new in
-    let e : c.at_conflict.result ≡ Ok turn.Goes = c.in_ok-at_conflict-in-Conflict.was ∙ ap Ok c.in-Goes.is in
-    let limit : L.limit new.ledger ≡ L.limit old.ledger = c.at_conflict.ensures.limit in
-    let vars : new.core.vars ≡ old.core.vars = c.at_conflict.ensures.vars ∙ c.advance.ensures.vars in
-    let within = g.met.L.LedgerView.within new.ledger in
-    let before = remaining (L.limit old.ledger) (L.spent old.ledger) (sleeping old.guide.sleepers) old.core.vars (length old.core.trail) in
-    let less = conflict_leaves_less (L.limit old.ledger) (L.spent old.ledger) (L.spent new.ledger) (sleeping old.guide.sleepers) (sleeping new.guide.sleepers) old.core.vars (length old.core.trail) (length new.core.trail) (c.at_conflict.ensures.less e) (omega (arith, within, limit)) (c.at_conflict.ensures.guided e).few in
-    subst (λ v. remaining (L.limit new.ledger) (L.spent new.ledger) (sleeping new.guide.sleepers) v (length new.core.trail) < before) (sym vars)
-    (subst (λ n. remaining n (L.spent new.ledger) (sleeping new.guide.sleepers) old.core.vars (length new.core.trail) < before) (sym limit) less)
+loop-conflict-smaller-in-Goes g c = ?
+
+pub returns-in-Refuted : goal.returns-in-Refuted
+returns-in-Refuted g c = ?
+
+pub returns-in-Spent : goal.returns-in-Spent
+returns-in-Spent g c = ?
+
+pub loop-conflict-preserved-in-Decided : goal.loop-conflict-preserved-in-Decided
+loop-conflict-preserved-in-Decided g c = ?
+
+pub loop-conflict-smaller-in-Decided : goal.loop-conflict-smaller-in-Decided
+loop-conflict-smaller-in-Decided g c = ?
+
+pub returns-in-Total : goal.returns-in-Total
+returns-in-Total g c = ?

@@ -12,3 +12,15 @@ named-requires c =
     let l = c.in_ok-learned.ensures.learned in
     let names : All (IsName (length core.clauses + 1)) learned.hints = subst (All (IsName (length core.clauses + 1))) (sym l.hints) (hints_names core.clauses core.trail l.resolved c.args.conflict learned.lits l.analysis) in
     record { known = subst (λ n. All (IsName n) learned.hints) (sym c.requires.guided.listed.names) names }
+
+pub returns-clause-line : goal.returns-clause-line
+returns-clause-line c =
+    let old = c.args.guide.now.awake in
+    let now = c.named.new.self in
+    let learned = c.in_ok-learned.learned in
+    let line = c.in_ok-named.field-0 in
+    record {
+      learned = learned;
+      is = c.in_ok-learned.ensures.learned;
+      named = subst (λ n. IsNamed now.names.items n learned line) (sym c.named.ensures.held) (subst (λ names. IsNamed names.items old.held learned line) (sym c.named.ensures.names) c.in_ok-named.ensures.line);
+    }
