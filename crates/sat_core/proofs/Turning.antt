@@ -14,7 +14,7 @@ use Rattle.ledger_rules.specs.Logs.{checker_of}
 use Rattle.trail_core.specs.Meaning.{CoreValue, trues}
 use Rattle.conflict_analysis.specs.Conflicts.{IsConflict}
 use Rattle.sat_core.specs.inner.Holding.{Agree, IsNext}
-use Rattle.sat_core.specs.inner.Turning.{IsConflictLine}
+use Rattle.sat_core.specs.inner.Turning.{IsTurn}
 use Rattle.conflict_analysis.specs.Learned.{IsLearned}
 use Rattle.sat_core.specs.inner.Jumping.{IsBacked}
 use Rattle.conflict_analysis.specs.Learning.{hints_to}
@@ -51,36 +51,30 @@ learned_fresh c core names s conflict learned a none k above l =
     let p = l.points above in
     unit_is_fresh c core.clauses s (take (get_or core.limits last 0) (trues core)) learned.lits p.point a.held.only none (k.closed_below last (omega (arith, above))) (pointed_unit core learned.lits last p e)
 
--- the search is ready, is at a conflict, and has its line by the ledger's numbers
-pub record IsTurn (base : FormulaValue) (lines : List ProofLineValue) (core : CoreValue) (awake : Awake) (s : SleepersValue) (conflict : ℕ) (line : ProofLineValue) : Type 0 where
-  pub ready : IsReady base lines core awake s
-  pub conflicts : IsConflict core conflict
-  pub found : IsConflictLine core conflict awake line
-
 module _ {base : FormulaValue} {lines : List ProofLineValue} {core : CoreValue} {awake : Awake} {s : SleepersValue} {conflict : ℕ} {line : ProofLineValue} (t : IsTurn base lines core awake s conflict line) where
   pub turn_accepted : verdict_of (checker_of base lines) line ≡ Accepted true
-  turn_accepted = learned_accepted (checker_of base lines) core awake.names.items awake.held s conflict t.found.learned line t.ready.holding.agree t.conflicts t.found.is t.found.named (next_number base lines core awake s line.id t.ready t.found.named.id)
+  turn_accepted = learned_accepted (checker_of base lines) core awake.names.items awake.held s conflict t.learned line t.ready.holding.agree t.conflicts t.is t.named (next_number base lines core awake s line.id t.ready t.named.id)
 
   turn_short : length line.hints ≤ base.vars + 1
   turn_short =
-      let short = learned_short core awake.names.items awake.held conflict t.found.learned line t.conflicts t.found.is t.found.named in
+      let short = learned_short core awake.names.items awake.held conflict t.learned line t.conflicts t.is t.named in
       omega (arith, short, t.ready.holding.agree.vars, ap (λ f. f.vars) t.ready.holding.formula)
 
   pub turn_written : AreWritten base (lines ++ line ∷ [])
-  turn_written = written_more base lines core awake s line t.ready turn_accepted t.found.named.id turn_short
+  turn_written = written_more base lines core awake s line t.ready turn_accepted t.named.id turn_short
 
   pub turn_refuted : line.lits ≡ [] → Refutes (map Addition (lines ++ line ∷ [])) base
   turn_refuted e = refuted_by base lines line turn_written e
 
   module _ (some : 0 < length line.lits) where
     pub turn_above : 0 < length core.limits
-    turn_above = ⊎_elim (λ h. h) (λ z. absurd (let n = ap length (t.found.named.lits ∙ t.found.is.closes (omega (arith, z))) in omega (arith, n, some))) (cases_lt 0 (length core.limits))
+    turn_above = ⊎_elim (λ h. h) (λ z. absurd (let n = ap length (t.named.lits ∙ t.is.closes (omega (arith, z))) in omega (arith, n, some))) (cases_lt 0 (length core.limits))
 
     -- no clause that sleeps states it: so it is fresh
     pub turn_fresh : HasNone s line.lits → is_fresh (checker_of base lines) line.lits ≡ true
     turn_fresh none =
-        let e = t.found.named.lits in
-        subst (λ ls. is_fresh (checker_of base lines) ls ≡ true) (sym e) (learned_fresh (checker_of base lines) core awake.names.items s conflict t.found.learned t.ready.holding.agree (subst (HasNone s) e none) t.conflicts turn_above t.found.is)
+        let e = t.named.lits in
+        subst (λ ls. is_fresh (checker_of base lines) ls ≡ true) (sym e) (learned_fresh (checker_of base lines) core awake.names.items s conflict t.learned t.ready.holding.agree (subst (HasNone s) e none) t.conflicts turn_above t.is)
 
     -- where none sleeps the search may end
     pub turn_over : sleeping s ≡ 0 → IsOver base lines
@@ -90,7 +84,7 @@ module _ {base : FormulaValue} {lines : List ProofLineValue} {core : CoreValue} 
     }
 
     pub turn_backed : IsBacked core line.lits
-    turn_backed = subst (IsBacked core) (sym t.found.named.lits) (learned_backed core conflict t.found.learned turn_above t.found.is)
+    turn_backed = subst (IsBacked core) (sym t.named.lits) (learned_backed core conflict t.learned turn_above t.is)
 
     pub turn_about : (vars : ℕ) → vars ≡ core.vars → IsClause vars line.lits
     turn_about vars e = subst (λ n. IsClause n line.lits) (sym e) (backed_within core line.lits t.conflicts.formed turn_backed)

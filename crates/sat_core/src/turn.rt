@@ -5,10 +5,10 @@ ghost use Rattle.cnf_formula.specs.Formulas.{FormulaValue};
 ghost use Rattle.cnf_formula.specs.Lines.{ProofLineValue};
 ghost use Rattle.conflict_analysis.specs.Conflicts.{IsConflict};
 ghost use Rattle.sat_core.specs.inner.Jumping.{IsBacked};
-ghost use Rattle.sat_core.specs.inner.Turning.{IsConflictLine, IsTurned};
+ghost use Rattle.sat_core.specs.inner.Turning.{IsTurn, IsTurned};
 ghost use Rattle.sleeping_clauses.specs.Sleeping.{sleeping};
 ghost use Rattle.sat_core.specs.inner.Guided.{IsGuided};
-ghost use Rattle.sat_core.specs.inner.Going.{CanSearch, IsWrittenOn, StaysReady};
+ghost use Rattle.sat_core.specs.inner.Going.{CanSearch, IsWrittenOn};
 ghost use Rattle.sat_core.specs.Ready.{AreWritten, IsReady};
 ghost use Rattle.proof_rules.specs.Refuting.{is_fresh};
 ghost use Rattle.ledger_rules.specs.Logs.{checker_of};
@@ -76,9 +76,8 @@ fn line_of_conflict(
     requires conflict { IsConflict core.now conflict }
     requires guided { IsGuided core.now guide.old }
     ensures guided { OnOk result (IsGuided core.now guide.new) }
-    ensures ready { StaysReady core.now guide.old.awake guide.old.sleepers core.now guide.new.awake guide.new.sleepers }
     ensures sleepers { guide.new.sleepers ≡ guide.old.sleepers }
-    ensures line { IfOk result (IsConflictLine core.now conflict guide.new.awake) }
+    ensures turn { IfOk result (λ line. (base : FormulaValue) (lines : List ProofLineValue) → IsReady base lines core.now guide.old.awake guide.old.sleepers → IsTurn base lines core.now guide.new.awake guide.new.sleepers conflict line) }
 {
     let learned = line_at(alloc, core, &mut guide.walk, &mut guide.implied, conflict)?;
     Ok(guide.awake.named(alloc, learned)?)

@@ -1,21 +1,26 @@
 -- A turn at a conflict: the line of the conflict, and what the turn came to.
-use Rattle.std.specs.Prelude.{ℕ}
+use Rattle.std.specs.Prelude.{ℕ, List}
+use Rattle.cnf_formula.specs.Formulas.{FormulaValue}
 use Rattle.cnf_formula.specs.Lines.{ProofLineValue}
 use Rattle.ledger_rules.specs.declared.ledger.Ledger as own
 use Rattle.ledger_rules.specs.declared.ledger.LedgerView as view
 use Rattle.trail_core.specs.Meaning.{CoreValue}
+use Rattle.conflict_analysis.specs.Conflicts.{IsConflict}
 use Rattle.conflict_analysis.specs.Learned.{IsLearned}
 use Rattle.sleeping_clauses.specs.Naming.{IsNamed}
-use Rattle.sleeping_clauses.specs.Sleeping.{sleeping}
+use Rattle.sleeping_clauses.specs.Sleeping.{SleepersValue, sleeping}
 use Rattle.sleeping_clauses.specs.declared.awake.Awake.{Awake}
 use Rattle.sat_core.specs.declared.guide.Guide.{Guide}
 use Rattle.sat_core.specs.declared.turn.Turn.{Turn}
 use Rattle.sat_core.specs.declared.turn.Turn.TheVariants.{Goes, Refuted, Spent}
 use Rattle.sat_core.specs.inner.Going.{CanSearch, HasRefuted, HasSpent}
 use Rattle.sat_core.specs.inner.Measure.{IsLess}
+use Rattle.sat_core.specs.Ready.{IsReady}
 
--- what is learned from the conflict, by the ledger's numbers
-pub record IsConflictLine (core : CoreValue) (conflict : ℕ) (awake : Awake) (line : ProofLineValue) : Type 0 where
+-- a search is ready and at a conflict, and has what is learned from it as a line by the ledger's numbers
+pub record IsTurn (base : FormulaValue) (lines : List ProofLineValue) (core : CoreValue) (awake : Awake) (s : SleepersValue) (conflict : ℕ) (line : ProofLineValue) : Type 0 where
+  pub ready : IsReady base lines core awake s
+  pub conflicts : IsConflict core conflict
   pub learned : ProofLineValue
   pub is : IsLearned core conflict learned
   pub named : IsNamed awake.names.items awake.held learned line

@@ -12,7 +12,7 @@ use Rattle.sat_core.specs.Ready.{IsReady}
 use Rattle.sat_core.proofs.Caused.{after, answered, answered_after, handed_on, no_memory, no_memory_after, of_ledger, unmoved}
 use Rattle.sat_core.proofs.Ending.{closed_few, no_room}
 use Rattle.sat_core.proofs.Going.{ready_at, still_written, written_then, written_to}
-use Rattle.sat_core.proofs.Turning.{IsTurn, guided_more, none_by, not_empty, turn_about, turn_above, turn_accepted, turn_backed, turn_fresh, turn_over, turn_refuted, turn_written}
+use Rattle.sat_core.proofs.Turning.{guided_more, none_by, not_empty, turn_about, turn_above, turn_accepted, turn_backed, turn_fresh, turn_over, turn_refuted, turn_written}
 use Rattle.sat_core.proofs.turn.at_conflict.Goals as goal
 
 pub returns-in_err-line : goal.returns-in_err-line
@@ -24,7 +24,7 @@ returns-in_err-line g c = record {
 }
 
 pub close-requires-clause-implied : goal.close-requires-clause-implied
-close-requires-clause-implied g c = turn_accepted (record { ready = c.line_of_conflict.ensures.ready _ _ c.requires.can.ready; conflicts = c.requires.conflict; found = c.in_ok-line.ensures.line })
+close-requires-clause-implied g c = turn_accepted (c.in_ok-line.ensures.turn _ _ c.requires.can.ready)
 
 pub returns-in_err-close : goal.returns-in_err-close
 returns-in_err-close g c =
@@ -47,8 +47,7 @@ returns-then-is_empty g c =
     let line = c.in_ok-line.line in
     let lines = V.lines old ++ line ∷ [] in
     let are : V.lines now ≡ lines = c.in_ok-close.ensures.lines in
-    let guide = c.line_of_conflict.new.guide in
-    let t : IsTurn (V.base old) (V.lines old) c.args.core.now guide.awake guide.sleepers c.args.conflict line = record { ready = c.line_of_conflict.ensures.ready _ _ c.requires.can.ready; conflicts = c.requires.conflict; found = c.in_ok-line.ensures.line } in
+    let t = c.in_ok-line.ensures.turn _ _ c.requires.can.ready in
     let none : line.lits ≡ [] = let z : vec_len c.line.inside.lits ≡ 0 = eqb-true _ 0 (sym c.is_empty.ensures ∙ c.if-is_empty.true) in
     nil_from_length line.lits (omega (arith, z, ap (λ l. length l.lits) c.line.view_is)) in
     let few = closed_few (V.base old) (V.lines old) (V.lines now) line (V.spent old) (V.limit old) c.requires.can.ready.fresh (laws.charged old) (laws.within old) are in
@@ -65,11 +64,9 @@ returns-then-is_empty g c =
 
 pub returns-then-is_empty-2 : goal.returns-then-is_empty-2
 returns-then-is_empty-2 g c =
-    let V = g.L.LedgerView in
     let old = c.args.ledger.now in
     let line = c.in_ok-line.line in
-    let guide = c.line_of_conflict.new.guide in
-    let t : IsTurn (V.base old) (V.lines old) c.args.core.now guide.awake guide.sleepers c.args.conflict line = record { ready = c.line_of_conflict.ensures.ready _ _ c.requires.can.ready; conflicts = c.requires.conflict; found = c.in_ok-line.ensures.line } in
+    let t = c.in_ok-line.ensures.turn _ _ c.requires.can.ready in
     let some = not_empty line.lits c.is_empty.ensures c.if-is_empty.false (omega (arith, ap (λ l. length l.lits) c.line.view_is)) in
     record {
       written = still_written (g.met.L.Ledger.moves_refl old c.args.store.now) c.requires.can.ready.written;
@@ -102,7 +99,7 @@ returns-then-not-room g c =
       vars = woken.vars;
       turned = (
         record {
-          ready = woken.ready _ _ (c.line_of_conflict.ensures.ready _ _ can.ready);
+          ready = woken.ready _ _ (c.in_ok-line.ensures.turn _ _ can.ready).ready;
           guided = guided_more c.args.core.now _ _ guided.rested (woken.decider ∙ guided.decider) guided.probes woken.listed (woken.same ∙ guided.sleepers) (omega (arith, woken.none)) woken.vars;
           agrees = can.agrees;
         },
@@ -113,11 +110,9 @@ returns-then-not-room g c =
 
 pub subset_of-requires : goal.subset_of-requires
 subset_of-requires g c =
-    let V = g.L.LedgerView in
-    let old = c.args.ledger.now in
     let line = c.in_ok-line.line in
     let guide = c.line_of_conflict.new.guide in
-    let t : IsTurn (V.base old) (V.lines old) c.args.core.now guide.awake guide.sleepers c.args.conflict line = record { ready = c.line_of_conflict.ensures.ready _ _ c.requires.can.ready; conflicts = c.requires.conflict; found = c.in_ok-line.ensures.line } in
+    let t = c.in_ok-line.ensures.turn _ _ c.requires.can.ready in
     let some = not_empty line.lits c.is_empty.ensures c.if-is_empty.false (omega (arith, ap (λ l. length l.lits) c.line.view_is)) in
     let eq : c.deref.result.now ≡ line.lits = c.deref.ensures.value ∙ ap (λ l. l.lits) c.line.view_is in
     subst (IsClause guide.sleepers.vars) (sym eq) (turn_about t some guide.sleepers.vars c.in_ok-line.ensures.guided.sleepers)
@@ -147,7 +142,7 @@ returns-in-Some g c =
       vars = woken.vars;
       turned = (
         record {
-          ready = woken.ready _ _ (subst (IsReady (V.base old) (V.lines old) c.args.core.now guide.awake) (sym same) (c.line_of_conflict.ensures.ready _ _ can.ready));
+          ready = woken.ready _ _ (subst (IsReady (V.base old) (V.lines old) c.args.core.now guide.awake) (sym same) (c.in_ok-line.ensures.turn _ _ can.ready).ready);
           guided = guided_more c.args.core.now _ _ guided.rested (woken.decider ∙ guided.decider) guided.probes woken.listed (woken.same ∙ ap (λ s. s.vars) same ∙ guided.sleepers) (omega (arith, woken.fewer, few, guided.few)) woken.vars;
           agrees = can.agrees;
         },
@@ -157,15 +152,13 @@ returns-in-Some g c =
     }
 
 pub learn-requires-clause-implied : goal.learn-requires-clause-implied
-learn-requires-clause-implied g c = turn_accepted (record { ready = c.line_of_conflict.ensures.ready _ _ c.requires.can.ready; conflicts = c.requires.conflict; found = c.in_ok-line.ensures.line })
+learn-requires-clause-implied g c = turn_accepted (c.in_ok-line.ensures.turn _ _ c.requires.can.ready)
 
 pub learn-requires-clause-fresh : goal.learn-requires-clause-fresh
 learn-requires-clause-fresh g c =
-    let V = g.L.LedgerView in
-    let old = c.args.ledger.now in
     let line = c.in_ok-line.line in
     let guide = c.line_of_conflict.new.guide in
-    let t : IsTurn (V.base old) (V.lines old) c.args.core.now guide.awake guide.sleepers c.args.conflict line = record { ready = c.line_of_conflict.ensures.ready _ _ c.requires.can.ready; conflicts = c.requires.conflict; found = c.in_ok-line.ensures.line } in
+    let t = c.in_ok-line.ensures.turn _ _ c.requires.can.ready in
     let some = not_empty line.lits c.is_empty.ensures c.if-is_empty.false (omega (arith, ap (λ l. length l.lits) c.line.view_is)) in
     let eq : c.deref.result.now ≡ line.lits = c.deref.ensures.value ∙ ap (λ l. l.lits) c.line.view_is in
     turn_fresh t some (none_by guide.sleepers line.lits (λ place w a sub. c.in_default.ensures.found place w a (λ o h. subst (λ xs. Contains xs o) (sym eq) (sub o h))))
@@ -184,12 +177,10 @@ returns-in_err-learn g c =
 
 pub go_on-requires : goal.go_on-requires
 go_on-requires g c =
-    let V = g.L.LedgerView in
-    let old = c.args.ledger.now in
     let core = c.args.core.now in
     let line = c.in_ok-line.line in
     let guide = c.line_of_conflict.new.guide in
-    let t : IsTurn (V.base old) (V.lines old) core guide.awake guide.sleepers c.args.conflict line = record { ready = c.line_of_conflict.ensures.ready _ _ c.requires.can.ready; conflicts = c.requires.conflict; found = c.in_ok-line.ensures.line } in
+    let t = c.in_ok-line.ensures.turn _ _ c.requires.can.ready in
     let some = not_empty line.lits c.is_empty.ensures c.if-is_empty.false (omega (arith, ap (λ l. length l.lits) c.line.view_is)) in
     record {
       formed = c.requires.conflict.formed;
@@ -203,8 +194,7 @@ returns-in_err-anew g c =
     let V = g.L.LedgerView in
     let old = c.args.ledger.now in
     let line = c.in_ok-line.line in
-    let guide = c.line_of_conflict.new.guide in
-    let t : IsTurn (V.base old) (V.lines old) c.args.core.now guide.awake guide.sleepers c.args.conflict line = record { ready = c.line_of_conflict.ensures.ready _ _ c.requires.can.ready; conflicts = c.requires.conflict; found = c.in_ok-line.ensures.line } in
+    let t = c.in_ok-line.ensures.turn _ _ c.requires.can.ready in
     let learned = c.learn.ensures in
     let added = c.in_ok-learn.ensures in
     let fault = c.from_residual-in_err-anew in
@@ -221,14 +211,14 @@ rest_if_due-requires g c =
     let old = c.args.ledger.now in
     let line = c.in_ok-line.line in
     let guide = c.line_of_conflict.new.guide in
-    let t : IsTurn (V.base old) (V.lines old) c.args.core.now guide.awake guide.sleepers c.args.conflict line = record { ready = c.line_of_conflict.ensures.ready _ _ c.requires.can.ready; conflicts = c.requires.conflict; found = c.in_ok-line.ensures.line } in
+    let t = c.in_ok-line.ensures.turn _ _ c.requires.can.ready in
     let some = not_empty line.lits c.is_empty.ensures c.if-is_empty.false (omega (arith, ap (λ l. length l.lits) c.line.view_is)) in
     let eq : c.deref.result.now ≡ line.lits = c.deref.ensures.value ∙ ap (λ l. l.lits) c.line.view_is in
     let fresh = turn_fresh t some (none_by guide.sleepers line.lits (λ place w a sub. c.in_default.ensures.found place w a (λ o h. subst (λ xs. Contains xs o) (sym eq) (sub o h)))) in
     let ready : IsReady (V.base old) (V.lines old) c.args.core.now guide.awake c.subset_of.new.self = subst (IsReady (V.base old) (V.lines old) c.args.core.now guide.awake) (sym c.subset_of.ensures.same) t.ready in
     record {
       can = record {
-        ready = ready_at V (V.lines old ++ line ∷ []) c.learn.ensures.base c.in_ok-learn.ensures.lines (c.in_ok-anew.ensures.ready (V.base old) (V.lines old) ready (turn_written t) fresh t.found.named.id);
+        ready = ready_at V (V.lines old ++ line ∷ []) c.learn.ensures.base c.in_ok-learn.ensures.lines (c.in_ok-anew.ensures.ready (V.base old) (V.lines old) ready (turn_written t) fresh t.named.id);
         guided = c.in_ok-anew.ensures.guided;
         agrees = c.in_ok-learn.ensures.agrees;
       };
@@ -239,8 +229,7 @@ returns-in_err-rest_if_due g c =
     let V = g.L.LedgerView in
     let old = c.args.ledger.now in
     let line = c.in_ok-line.line in
-    let guide = c.line_of_conflict.new.guide in
-    let t : IsTurn (V.base old) (V.lines old) c.args.core.now guide.awake guide.sleepers c.args.conflict line = record { ready = c.line_of_conflict.ensures.ready _ _ c.requires.can.ready; conflicts = c.requires.conflict; found = c.in_ok-line.ensures.line } in
+    let t = c.in_ok-line.ensures.turn _ _ c.requires.can.ready in
     let learned = c.learn.ensures in
     let added = c.in_ok-learn.ensures in
     let rested = c.rest_if_due.ensures in
@@ -257,8 +246,7 @@ returns g c =
     let V = g.L.LedgerView in
     let old = c.args.ledger.now in
     let line = c.in_ok-line.line in
-    let guide = c.line_of_conflict.new.guide in
-    let t : IsTurn (V.base old) (V.lines old) c.args.core.now guide.awake guide.sleepers c.args.conflict line = record { ready = c.line_of_conflict.ensures.ready _ _ c.requires.can.ready; conflicts = c.requires.conflict; found = c.in_ok-line.ensures.line } in
+    let t = c.in_ok-line.ensures.turn _ _ c.requires.can.ready in
     let learned = c.learn.ensures in
     let added = c.in_ok-learn.ensures in
     let rested = c.rest_if_due.ensures in

@@ -13,14 +13,17 @@ named-requires c =
     let names : All (IsName (length core.clauses + 1)) learned.hints = subst (All (IsName (length core.clauses + 1))) (sym l.hints) (hints_names core.clauses core.trail l.resolved c.args.conflict learned.lits l.analysis) in
     record { known = subst (λ n. All (IsName n) learned.hints) (sym c.requires.guided.listed.names) names }
 
-pub returns-clause-line : goal.returns-clause-line
-returns-clause-line c =
-    let old = c.args.guide.now.awake in
+pub returns-clause-turn : goal.returns-clause-turn
+returns-clause-turn c = λ base lines ready.
+    let old = c.args.guide.now in
     let now = c.named.new.self in
+    let same = c.named.ensures in
     let learned = c.in_ok-learned.learned in
     let line = c.in_ok-named.field-0 in
     record {
+      ready = ready_used base lines c.args.core.now old.awake now old.sleepers ready same.names same.formula same.held;
+      conflicts = c.requires.conflict;
       learned = learned;
       is = c.in_ok-learned.ensures.learned;
-      named = subst (λ n. IsNamed now.names.items n learned line) (sym c.named.ensures.held) (subst (λ names. IsNamed names.items old.held learned line) (sym c.named.ensures.names) c.in_ok-named.ensures.line);
+      named = subst (λ n. IsNamed now.names.items n learned line) (sym same.held) (subst (λ names. IsNamed names.items old.awake.held learned line) (sym same.names) c.in_ok-named.ensures.line);
     }
