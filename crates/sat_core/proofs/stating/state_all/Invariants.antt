@@ -1,4 +1,4 @@
-use Rattle.std.proofs.Common.{◌≡◌, length}
+use Rattle.std.proofs.Common.{◌≡◌}
 use Rattle.sat_core.specs.inner.Going.{CanSearch, IsSameTrail, IsWrittenOn}
 use Rattle.sat_core.specs.inner.Stating.{AreStated}
 use Rattle.sat_core.proofs.stating.state_all.Given as goal
