@@ -42,6 +42,10 @@ handed_on last is h cause =
     let ended = fault_is last _ h in
     record { later = cause.later; rose = λ e. cause.rose (cc); stays = λ other. cause.stays (λ e. other (cc)) }
 
+-- and is another than this if that was
+pub handed_other : {A T E : Type 0} {fault told : E} {one : Result A E} (last : Result T E) → one ≡ Err told → IsErrAnd last (λ e. e ≡ told) → one ≢ Err fault → last ≢ Err fault
+handed_other last is h other = let ended = fault_is last _ h in λ e. other (cc)
+
 -- a ledger's fault has the cause that it had there
 pub of_ledger : {A T : Type 0} {before now : ℕ} {told : LedgerFault} {one : Result A LedgerFault} (last : Result T SolveFault) → one ≡ Err told → IsErrAnd last (λ e. e ≡ fault_of told) → HasCause ledger.Failed before now one → HasCause LedgerFailed before now last
 of_ledger last is h cause = same_kind _ (fault_is last _ h) is cause

@@ -51,18 +51,17 @@ impl Guide {
         requires { vars < 2147483648 }
         ensures { IfOk result (IsNewGuide vars awake) }
     {
-        let (walk, implied, glue) = tables_of(alloc, vars)?;
-        let (decider, probes) = deciders_of(alloc, vars)?;
-        let sleepers = Sleepers::new(alloc, vars)?;
+        let tables = tables_of(alloc, vars)?;
+        let deciders = deciders_of(alloc, vars)?;
         Ok(Guide {
-            walk,
-            implied,
-            decider,
+            sleepers: Sleepers::new(alloc, vars)?,
+            walk: tables.0,
+            implied: tables.1,
+            decider: deciders.0,
             restarts: Restarts::new(),
-            probes,
+            probes: deciders.1,
             awake,
-            sleepers,
-            glue,
+            glue: tables.2,
         })
     }
 }

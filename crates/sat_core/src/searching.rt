@@ -15,7 +15,7 @@ use trail_core::Core;
 
 /// Every variable has a value and no clause is falsified; or the formula is refuted, or what may be
 /// spent is spent.
-#[derive(Debug, Drop)]
+#[derive(Drop)]
 pub enum End {
     Total,
     Refuted,

@@ -27,7 +27,7 @@ use std::alloc::Global;
 use trail_core::{ClauseId, Core};
 
 /// What a turn at a conflict came to.
-#[derive(Debug, Drop)]
+#[derive(Drop)]
 pub enum Turn {
     Goes,
     Refuted,

@@ -1,10 +1,9 @@
 use Rattle.std.proofs.Common.{◌≡◌, ◌≢◌, ℕ, ◌<◌, true, length, map, Result, Ok, Err, refl, sym, ap, ◌∙◌, subst, arith}
-use Rattle.std.specs.Result.{IsErrAnd, IsOk, OnOk}
-use Rattle.std.proofs.lemmas.Result.{err_from_is_err_and, IfOk-at_ok}
+use Rattle.std.specs.Result.{IsOk, OnOk}
+use Rattle.std.proofs.lemmas.Result.{IfOk-at_ok}
 use Rattle.std.proofs.lemmas.Bool.{true≢false}
 use Rattle.cnf_formula.specs.Formulas.{Satisfies}
 use Rattle.cnf_formula.specs.declared.line.LratLine.TheVariants.{Addition}
-use Rattle.outer_ports.specs.Port.{HasCause}
 use Rattle.proof_rules.specs.declared.verdict.LineVerdict.TheVariants.{Accepted}
 use Rattle.proof_rules.specs.Judging.{verdict_of}
 use Rattle.proof_rules.specs.Refuting.{Refutes, SpentLog}
@@ -12,43 +11,22 @@ use Rattle.ledger_rules.specs.Logs.{checker_of}
 use Rattle.trail_core.specs.Meaning.{trues}
 use Rattle.sat_core.specs.Ready.{AreNumbered, AreShort, IsReady}
 use Rattle.sat_core.specs.inner.Totals.{AreValues}
-use Rattle.sat_core.specs.declared.fault.SolveFault.TheVariants.{LedgerFailed}
 use Rattle.sat_core.specs.declared.solving.SatAnswer.{SatAnswer}
 use Rattle.sat_core.specs.declared.searching.End.{End}
 use Rattle.sat_core.specs.declared.searching.End.TheVariants.{Total, Refuted, Spent}
 use Rattle.sat_core.specs.inner.Ending.{IsEnded}
+use Rattle.sat_core.proofs.Caused.{handed_other, no_answer, on_fault, still}
 use Rattle.sat_core.proofs.Going.{ended_agrees}
 use Rattle.sat_core.proofs.Ending.{log_by}
 use Rattle.sat_core.proofs.Modelled.{model_satisfies}
 use Rattle.sat_core.proofs.Ternary.{few_spent}
 use Rattle.sat_core.proofs.solving.solve.Goals as goal
 
--- `?` hands a fault on as it is
-handed : {T E : Type 0} (r : Result T E) (fault : E) → IsErrAnd r (λ e. e ≡ fault) → r ≡ Err fault
-handed r fault h = let w = err_from_is_err_and r h in w.1 ∙ ap Err w.2
-
--- what holds anyway holds of a success
-held : {T E P : Type 0} (r : Result T E) → P → OnOk r P
-held (Ok x) p = p
-held (Err y) p = tt
-
 -- what holds of a success before it holds of a success
 after : {T U E : Type 0} (P : Type 0) (r : Result T E) (s : Result U E) → OnOk r (IsOk s) → OnOk s P → OnOk r P
 after P (Ok x) (Ok y) is p = p
 after P (Ok x) (Err e) is p = absurd (true≢false (sym is))
 after P (Err e) s is p = tt
-
--- a fault is no answer
-no_answer : {T E : Type 0} {r : Result T E} {fault : E} {answer : T} → r ≡ Err fault → r ≡ Ok answer → ⊥
-no_answer is e = cc
-
--- two results with one fault
-same_fault : {T U E : Type 0} {r : Result T E} {s : Result U E} {a b : E} → r ≡ Err a → s ≡ Err a → s ≡ Err b → r ≡ Err b
-same_fault r_is s_is s_too = cc
-
--- a count that stands still, where the fault was another
-caused : {T E : Type 0} {fault : E} {count : ℕ} {r : Result T E} → r ≢ Err fault → HasCause fault count count r
-caused other = record { later = omega arith; rose = λ e. absurd (other e); stays = λ _. refl }
 
 pub search-end-requires : goal.search-end-requires
 search-end-requires g c =
@@ -109,22 +87,21 @@ returns g c =
 pub returns-in_err-core : goal.returns-in_err-core
 returns-in_err-core g c =
     let lines = g.L.LedgerView.lines c.args.ledger.now in
-    let is : c.from_residual.result ≡ Err c.in_err-core.field-0.0 = handed c.from_residual.result c.in_err-core.field-0.0 c.from_residual.ensures.1 in
-    let other : c.from_residual.result ≢ Err LedgerFailed = λ e. c.in_err-core.ensures.fault (same_fault refl is e) in
+    let fault = c.from_residual in
     let none : (k : ℕ) → k < length lines → ⊥ = λ k lt. omega (arith, lt, ap length c.requires.empty) in
     record {
-      model = λ values e. absurd (no_answer is e);
-      refuted = λ e. absurd (no_answer is e);
-      closed = λ e. absurd (no_answer is e);
-      spent = λ e. absurd (no_answer is e);
-      log = λ e. absurd (no_answer is e);
-      not_closed = λ e line empty accepted. no_answer is e;
-      few = λ e. absurd (no_answer is e);
+      model = λ values e. absurd (no_answer fault.ensures.0 e);
+      refuted = λ e. absurd (no_answer fault.ensures.0 e);
+      closed = λ e. absurd (no_answer fault.ensures.0 e);
+      spent = λ e. absurd (no_answer fault.ensures.0 e);
+      log = λ e. absurd (no_answer fault.ensures.0 e);
+      not_closed = λ e line empty accepted. no_answer fault.ensures.0 e;
+      few = λ e. absurd (no_answer fault.ensures.0 e);
       numbered = λ k d lt. absurd (none k lt);
       short = λ k d lt. absurd (none k lt);
       moves = g.met.L.Ledger.moves_refl c.args.ledger.now c.args.store.now;
-      agrees = held c.from_residual.result c.requires.agrees;
+      agrees = on_fault _ fault.result fault.ensures.0;
       base = refl;
       limit = refl;
-      cause = caused other;
+      cause = still (handed_other fault.result c.in_err-core.was fault.ensures.1 c.prepared.ensures.fault);
     }

@@ -1,5 +1,5 @@
-use Rattle.std.proofs.Common.{◌≡◌, ◌++◌, ◌∷◌, length, [], map, refl, sym, ap, ◌∙◌, subst, inl, inr, arith}
-use Rattle.std.specs.Prelude.{vec_len, Contains}
+use Rattle.std.proofs.Common.{◌≡◌, ◌<◌, ◌++◌, ◌∷◌, length, [], map, refl, sym, ap, ◌∙◌, subst, inl, inr, arith}
+use Rattle.std.specs.Prelude.{vec_len, get_or, false, Contains}
 use Rattle.std.proofs.lemmas.Bool.{eqb-true}
 use Rattle.std.proofs.lemmas.List.{nil_from_length}
 use Rattle.std.proofs.lemmas.Result.{IfOk-from_err}
@@ -79,6 +79,11 @@ returns-then-is_empty-2 g c =
       cause = answered;
     }
 
+pub wake_all-requires : goal.wake_all-requires
+wake_all-requires g c =
+    let guided = c.in_ok-line.ensures.guided in
+    record { decider = guided.decider; vars = guided.sleepers; listed = guided.listed }
+
 pub returns-in_err-wake_all : goal.returns-in_err-wake_all
 returns-in_err-wake_all g c =
     let fault = c.from_residual-in_err-wake_all in
@@ -116,6 +121,19 @@ subset_of-requires g c =
     let some = not_empty line.lits c.is_empty.ensures c.if-is_empty.false (omega (arith, ap (λ l. length l.lits) c.line.view_is)) in
     let eq : c.deref.result.now ≡ line.lits = c.deref.ensures.value ∙ ap (λ l. l.lits) c.line.view_is in
     subst (IsClause guide.sleepers.vars) (sym eq) (turn_about t some guide.sleepers.vars c.in_ok-line.ensures.guided.sleepers)
+
+pub wake-requires : goal.wake-requires
+wake-requires g c =
+    let guided = c.in_ok-line.ensures.guided in
+    let same = c.subset_of.ensures.same in
+    let found = c.in-Some.ensures.found in
+    record {
+      within = subst (λ s. c.in-Some.place < length s.clauses) (sym same) found.0;
+      asleep = ap (λ s. get_or s.asleep c.in-Some.place false) same ∙ found.1;
+      decider = guided.decider;
+      vars = ap (λ s. s.vars) same ∙ guided.sleepers;
+      listed = guided.listed;
+    }
 
 pub returns-in_err-wake : goal.returns-in_err-wake
 returns-in_err-wake g c =
