@@ -1,7 +1,7 @@
 -- Where a search has learned as many lines as may be, they are a spent log; where it closes, there is one line more at most.
-use Rattle.std.proofs.Common.{◌≡◌, ℕ, ◌+◌, ◌≤◌, List, [], ◌∷◌, ◌++◌, length, refl, sym, ap, ◌∙◌, subst, arith}
-use Rattle.std.specs.Prelude.{true, not}
-use Rattle.std.proofs.lemmas.Bool.{false≢true}
+use Rattle.std.proofs.Common.{◌≡◌, ℕ, ◌+◌, ◌≤◌, List, [], ◌∷◌, ◌++◌, length, refl, sym, ap, ◌∙◌, subst, ⊎_elim, arith}
+use Rattle.std.specs.Prelude.{◌↔◌, ◌<◌, IsTrue, Bool, true, false, not}
+use Rattle.std.proofs.lemmas.Bool.{cases_lt, false≢true}
 use Rattle.std.proofs.lemmas.List.{length-append}
 use Rattle.cnf_formula.specs.Formulas.{FormulaValue}
 use Rattle.cnf_formula.specs.Lines.{ProofLineValue}
@@ -35,3 +35,7 @@ closed_few base lines now line spent limit fresh charged within added =
     let many = ap length added in
     let more = length-append lines (line ∷ []) in
     omega (arith, all, many, more, charged, within)
+
+-- where there is no room, what may be spent is spent
+pub no_room : {spent limit : ℕ} {room : Bool} → room ≡ false → IsTrue room ↔ (spent < limit) → spent ≤ limit → spent ≡ limit
+no_room {spent} {limit} none says within = ⊎_elim (λ lt. absurd (false≢true (sym none ∙ says.1 lt))) (λ ge. omega (arith, ge, within)) (cases_lt spent limit)

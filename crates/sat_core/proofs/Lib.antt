@@ -18,3 +18,5 @@ pub mod Modelled
 pub mod Ternary
 pub mod Listed
 pub mod Stated
+pub mod Caused
+pub mod Going

@@ -1,6 +1,6 @@
 -- A turn at a conflict, over plain values.
-use Rattle.std.proofs.Common.{◌≡◌, ℕ, ◌+◌, ◌-◌, ◌<◌, ◌≤◌, true, List, [], ◌∷◌, ◌++◌, length, get_or, take, refl, sym, ap, ◌∙◌, subst, ⊎_elim, arith}
-use Rattle.std.proofs.lemmas.Bool.{cases_lt}
+use Rattle.std.proofs.Common.{◌≡◌, ℕ, Bool, eqb, ◌+◌, ◌-◌, ◌<◌, ◌≤◌, true, List, [], ◌∷◌, ◌++◌, length, get_or, take, sym, ap, ◌∙◌, subst, ⊎_elim, arith}
+use Rattle.std.proofs.lemmas.Bool.{cases_lt, eqb-false}
 use Rattle.cnf_formula.specs.Formulas.{FormulaValue, IsClause}
 use Rattle.cnf_formula.specs.Literals.{LitValue}
 use Rattle.cnf_formula.specs.Lines.{ProofLineValue}
@@ -14,6 +14,7 @@ use Rattle.ledger_rules.specs.Logs.{checker_of}
 use Rattle.trail_core.specs.Meaning.{CoreValue, trues}
 use Rattle.conflict_analysis.specs.Conflicts.{IsConflict}
 use Rattle.sat_core.specs.inner.Holding.{Agree, IsNext}
+use Rattle.sat_core.specs.inner.Turning.{IsTurn}
 use Rattle.conflict_analysis.specs.Learned.{IsLearned}
 use Rattle.sat_core.specs.inner.Jumping.{IsBacked}
 use Rattle.conflict_analysis.specs.Learning.{hints_to}
@@ -29,13 +30,6 @@ use Rattle.sat_core.proofs.Hinted.{few_named}
 use Rattle.sat_core.proofs.Fresh.{unit_is_fresh}
 use Rattle.sat_core.proofs.Readiness.{IsGrown, next_number, written_more, ready_more, refuted_by, listed_more}
 use Rattle.sat_core.proofs.Jumping.{pointed_unit, learned_backed, backed_within, backed_differ}
-
--- the search is ready, is at a conflict, and has its line, by the core's numbers and by the ledger's
-pub record IsTurn (base : FormulaValue) (lines : List ProofLineValue) (core : CoreValue) (awake : Awake) (s : SleepersValue) (conflict : ℕ) (learned line : ProofLineValue) : Type 0 where
-  pub ready : IsReady base lines core awake s
-  pub conflicts : IsConflict core conflict
-  pub is : IsLearned core conflict learned
-  pub named : IsNamed awake.names.items awake.held learned line
 
 -- what is learned is accepted, short, and fresh above level 0
 pub learned_accepted : (c : CheckerValue) (core : CoreValue) (names : List ℕ) (held : ℕ) (s : SleepersValue) (conflict : ℕ) (learned line : ProofLineValue) → Agree c core names s → IsConflict core conflict → IsLearned core conflict learned → IsNamed names held learned line → IsNext c line.id → verdict_of c line ≡ Accepted true
@@ -57,45 +51,43 @@ learned_fresh c core names s conflict learned a none k above l =
     let p = l.points above in
     unit_is_fresh c core.clauses s (take (get_or core.limits last 0) (trues core)) learned.lits p.point a.held.only none (k.closed_below last (omega (arith, above))) (pointed_unit core learned.lits last p e)
 
-pub turn_accepted : (base : FormulaValue) (lines : List ProofLineValue) (core : CoreValue) (awake : Awake) (s : SleepersValue) (conflict : ℕ) (learned line : ProofLineValue) → IsTurn base lines core awake s conflict learned line → verdict_of (checker_of base lines) line ≡ Accepted true
-turn_accepted base lines core awake s conflict learned line t = learned_accepted (checker_of base lines) core awake.names.items awake.held s conflict learned line t.ready.holding.agree t.conflicts t.is t.named (next_number base lines core awake s line.id t.ready t.named.id)
+module _ {base : FormulaValue} {lines : List ProofLineValue} {core : CoreValue} {awake : Awake} {s : SleepersValue} {conflict : ℕ} {line : ProofLineValue} (t : IsTurn base lines core awake s conflict line) where
+  pub turn_accepted : verdict_of (checker_of base lines) line ≡ Accepted true
+  turn_accepted = learned_accepted (checker_of base lines) core awake.names.items awake.held s conflict t.learned line t.ready.holding.agree t.conflicts t.is t.named (next_number base lines core awake s line.id t.ready t.named.id)
 
-turn_short : (base : FormulaValue) (lines : List ProofLineValue) (core : CoreValue) (awake : Awake) (s : SleepersValue) (conflict : ℕ) (learned line : ProofLineValue) → IsTurn base lines core awake s conflict learned line → length line.hints ≤ base.vars + 1
-turn_short base lines core awake s conflict learned line t =
-    let short = learned_short core awake.names.items awake.held conflict learned line t.conflicts t.is t.named in
-    omega (arith, short, t.ready.holding.agree.vars, ap (λ f. f.vars) t.ready.holding.formula)
+  turn_short : length line.hints ≤ base.vars + 1
+  turn_short =
+      let short = learned_short core awake.names.items awake.held conflict t.learned line t.conflicts t.is t.named in
+      omega (arith, short, t.ready.holding.agree.vars, ap (λ f. f.vars) t.ready.holding.formula)
 
-pub turn_written : (base base' : FormulaValue) (lines lines' : List ProofLineValue) (core : CoreValue) (awake : Awake) (s : SleepersValue) (conflict : ℕ) (learned line : ProofLineValue) → IsTurn base lines core awake s conflict learned line → base' ≡ base → lines' ≡ lines ++ line ∷ [] → AreWritten base' lines'
-turn_written base base' lines lines' core awake s conflict learned line t b l =
-    subst (λ x. AreWritten x lines') (sym b) (subst (AreWritten base) (sym l) (written_more base lines core awake s line t.ready (turn_accepted base lines core awake s conflict learned line t) t.named.id (turn_short base lines core awake s conflict learned line t)))
+  pub turn_written : AreWritten base (lines ++ line ∷ [])
+  turn_written = written_more base lines core awake s line t.ready turn_accepted t.named.id turn_short
 
-pub turn_refuted : (base base' : FormulaValue) (lines lines' : List ProofLineValue) (core : CoreValue) (awake : Awake) (s : SleepersValue) (conflict : ℕ) (learned line : ProofLineValue) → IsTurn base lines core awake s conflict learned line → line.lits ≡ [] → base' ≡ base → lines' ≡ lines ++ line ∷ [] → Refutes (map Addition lines') base'
-turn_refuted base base' lines lines' core awake s conflict learned line t e b l =
-    subst (Refutes (map Addition lines')) (sym b) (subst (λ x. Refutes (map Addition x) base) (sym l) (refuted_by base lines line (turn_written base base lines (lines ++ line ∷ []) core awake s conflict learned line t refl refl) e))
+  pub turn_refuted : line.lits ≡ [] → Refutes (map Addition (lines ++ line ∷ [])) base
+  turn_refuted e = refuted_by base lines line turn_written e
 
-pub turn_above : (base : FormulaValue) (lines : List ProofLineValue) (core : CoreValue) (awake : Awake) (s : SleepersValue) (conflict : ℕ) (learned line : ProofLineValue) → IsTurn base lines core awake s conflict learned line → 0 < length line.lits → 0 < length core.limits
-turn_above base lines core awake s conflict learned line t w = ⊎_elim (λ h. h) (λ z. absurd (let n = ap length (t.named.lits ∙ t.is.closes (omega (arith, z))) in omega (arith, n, w))) (cases_lt 0 (length core.limits))
+  module _ (some : 0 < length line.lits) where
+    pub turn_above : 0 < length core.limits
+    turn_above = ⊎_elim (λ h. h) (λ z. absurd (let n = ap length (t.named.lits ∙ t.is.closes (omega (arith, z))) in omega (arith, n, some))) (cases_lt 0 (length core.limits))
 
--- no clause that sleeps states it: so it is fresh
-pub turn_fresh : (base : FormulaValue) (lines : List ProofLineValue) (core : CoreValue) (awake : Awake) (s : SleepersValue) (conflict : ℕ) (learned line : ProofLineValue) → IsTurn base lines core awake s conflict learned line → 0 < length line.lits → HasNone s line.lits → is_fresh (checker_of base lines) line.lits ≡ true
-turn_fresh base lines core awake s conflict learned line t w none =
-    let e = t.named.lits in
-    subst (λ ls. is_fresh (checker_of base lines) ls ≡ true) (sym e) (learned_fresh (checker_of base lines) core awake.names.items s conflict learned t.ready.holding.agree (subst (HasNone s) e none) t.conflicts (turn_above base lines core awake s conflict learned line t w) t.is)
+    -- no clause that sleeps states it: so it is fresh
+    pub turn_fresh : HasNone s line.lits → is_fresh (checker_of base lines) line.lits ≡ true
+    turn_fresh none =
+        let e = t.named.lits in
+        subst (λ ls. is_fresh (checker_of base lines) ls ≡ true) (sym e) (learned_fresh (checker_of base lines) core awake.names.items s conflict t.learned t.ready.holding.agree (subst (HasNone s) e none) t.conflicts turn_above t.is)
 
--- where none sleeps the search may end
-pub turn_over : (base : FormulaValue) (lines : List ProofLineValue) (core : CoreValue) (awake : Awake) (s : SleepersValue) (conflict : ℕ) (learned line : ProofLineValue) → IsTurn base lines core awake s conflict learned line → 0 < length line.lits → sleeping s ≡ 0 → IsOver base lines
-turn_over base lines core awake s conflict learned line t w none = record {
-  not_closed = no_line_closes (checker_of base lines) core awake.names.items s conflict t.ready.holding.agree none t.conflicts (turn_above base lines core awake s conflict learned line t w);
-  fresh = t.ready.fresh;
-}
+    -- where none sleeps the search may end
+    pub turn_over : sleeping s ≡ 0 → IsOver base lines
+    turn_over none = record {
+      not_closed = no_line_closes (checker_of base lines) core awake.names.items s conflict t.ready.holding.agree none t.conflicts turn_above;
+      fresh = t.ready.fresh;
+    }
 
-pub turn_backed : (base : FormulaValue) (lines : List ProofLineValue) (core : CoreValue) (awake : Awake) (s : SleepersValue) (conflict : ℕ) (learned line : ProofLineValue) → IsTurn base lines core awake s conflict learned line → 0 < length line.lits → IsBacked core line.lits
-turn_backed base lines core awake s conflict learned line t w =
-    subst (IsBacked core) (sym t.named.lits) (learned_backed core conflict learned (turn_above base lines core awake s conflict learned line t w) t.is)
+    pub turn_backed : IsBacked core line.lits
+    turn_backed = subst (IsBacked core) (sym t.named.lits) (learned_backed core conflict t.learned turn_above t.is)
 
-pub turn_about : (base : FormulaValue) (lines : List ProofLineValue) (core : CoreValue) (awake : Awake) (s : SleepersValue) (conflict : ℕ) (learned line : ProofLineValue) (vars : ℕ) → IsTurn base lines core awake s conflict learned line → 0 < length line.lits → vars ≡ core.vars → IsClause vars line.lits
-turn_about base lines core awake s conflict learned line vars t w e =
-    subst (λ n. IsClause n line.lits) (sym e) (backed_within core line.lits t.conflicts.formed (turn_backed base lines core awake s conflict learned line t w))
+    pub turn_about : (vars : ℕ) → vars ≡ core.vars → IsClause vars line.lits
+    turn_about vars e = subst (λ n. IsClause n line.lits) (sym e) (backed_within core line.lits t.conflicts.formed turn_backed)
 
 -- the clauses that sleep, of which by place none has its literals in a clause
 pub none_by : (s : SleepersValue) (clause : List LitValue) → ((place : ℕ) → place < length s.clauses → get_or s.asleep place false ≡ true → ((l : LitValue) → Contains (get_or s.clauses place []) l → Contains clause l) → ⊥) → HasNone s clause
@@ -103,6 +95,9 @@ none_by s clause none = λ other a sub. none a.0 a.1.within a.1.asleep (λ l c. 
 
 pub positive : (n : ℕ) → (n ≡ 0 → ⊥) → 0 < n
 positive n h = ⊎_elim (λ w. w) (λ z. absurd (h (omega (arith, z)))) (cases_lt 0 n)
+
+pub not_empty : {n : ℕ} {empty : Bool} (lits : List LitValue) → empty ≡ eqb n 0 → empty ≡ false → n ≡ length lits → 0 < length lits
+not_empty {n} lits is full len = positive (length lits) (λ e. eqb-false n 0 (sym is ∙ full) (omega (arith, e, len)))
 
 -- ---- what is kept beside the core
 

@@ -1,5 +1,7 @@
 -- What no contract of a public call says: contracts and proofs inside this crate alone cite it.
 pub mod Dividing
+pub mod Ending
+pub mod Going
 pub mod Guided
 pub mod Hints
 pub mod Holding
@@ -8,3 +10,4 @@ pub mod Loading
 pub mod Measure
 pub mod Stating
 pub mod Totals
+pub mod Turning

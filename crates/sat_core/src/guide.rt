@@ -1,7 +1,8 @@
 //! What a search keeps from turn to turn beside its core.
 
-ghost use Rattle.std.specs.Prelude.{◌≡◌, ◌<◌, [], IfOk};
+ghost use Rattle.std.specs.Prelude.{◌≡◌, ◌<◌, IfOk};
 ghost use Rattle.conflict_analysis.specs.Met.{IsRested};
+ghost use Rattle.sat_core.specs.inner.Guided.{IsNewGuide};
 
 use cnf_formula::OutOfMemory;
 use conflict_analysis::{Glue, Implied, Walk};
@@ -23,25 +24,44 @@ pub struct Guide {
     pub glue: Glue,
 }
 
+/// The tables of analyses.
+fn tables_of(alloc: Global, vars: u32) -> Result<(Walk, Implied, Glue), OutOfMemory>
+    ensures { IfOk result (λ all. IsRested vars all.0.stamp all.0.marks.items) }
+{
+    let walk = Walk::new(alloc, vars)?;
+    let implied = Implied::new(alloc, vars)?;
+    let glue = Glue::new(alloc, vars)?;
+    Ok((walk, implied, glue))
+}
+
+/// What decides next, and what says when another decider takes over.
+fn deciders_of(alloc: Global, vars: u32) -> Result<(Decider, Probes), OutOfMemory>
+    requires { vars < 2147483648 }
+    ensures decider { IfOk result (λ both. both.0 ≡ vars) }
+    ensures probes { IfOk result (λ both. both.1 ≡ vars) }
+{
+    let decider = Decider::new(alloc, vars, vec![in alloc; false; vars as usize + 1]?)?;
+    let probes = Probes::new(alloc, vars)?;
+    Ok((decider, probes))
+}
+
 impl Guide {
     /// What a search begins with: no clause sleeps.
     pub fn new(alloc: Global, vars: u32, awake: Awake) -> Result<Guide, OutOfMemory>
         requires { vars < 2147483648 }
-        ensures decider { IfOk result (λ guide. guide.decider ≡ vars) }
-        ensures probes { IfOk result (λ guide. guide.probes ≡ vars) }
-        ensures awake { IfOk result (λ guide. guide.awake ≡ awake) }
-        ensures sleepers { IfOk result (λ guide. guide.sleepers ≡ record { vars = vars; clauses = []; numbers = []; asleep = [] }) }
-        ensures rested { IfOk result (λ guide. IsRested vars guide.walk.stamp guide.walk.marks.items) }
+        ensures { IfOk result (IsNewGuide vars awake) }
     {
+        let tables = tables_of(alloc, vars)?;
+        let deciders = deciders_of(alloc, vars)?;
         Ok(Guide {
-            walk: Walk::new(alloc, vars)?,
-            implied: Implied::new(alloc, vars)?,
-            decider: Decider::new(alloc, vars, vec![in alloc; false; vars as usize + 1]?)?,
-            restarts: Restarts::new(),
-            probes: Probes::new(alloc, vars)?,
-            awake,
             sleepers: Sleepers::new(alloc, vars)?,
-            glue: Glue::new(alloc, vars)?,
+            walk: tables.0,
+            implied: tables.1,
+            decider: deciders.0,
+            restarts: Restarts::new(),
+            probes: deciders.1,
+            awake,
+            glue: tables.2,
         })
     }
 }

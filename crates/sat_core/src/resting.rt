@@ -1,10 +1,9 @@
 //! Learned clauses that were of little use fall asleep (clause database reduction).
 
-ghost use Rattle.std.specs.Prelude.{◌≡◌, ◌+◌, ◌<◌, ◌≤◌, List, All, length, IfOk, OnOk};
-ghost use Rattle.cnf_formula.specs.Formulas.{FormulaValue, IsClause};
-ghost use Rattle.cnf_formula.specs.Lines.{ProofLineValue};
+ghost use Rattle.std.specs.Prelude.{◌≡◌, ◌+◌, ◌<◌, ◌≤◌, All, length, IfOk, OnOk};
+ghost use Rattle.cnf_formula.specs.Formulas.{IsClause};
+ghost use Rattle.sat_core.specs.inner.Going.{StaysReady};
 ghost use Rattle.sat_core.specs.inner.Guided.{IsGuided};
-ghost use Rattle.sat_core.specs.Ready.{IsReady};
 ghost use Rattle.sleeping_clauses.specs.Naming.{IsListed};
 ghost use Rattle.sleeping_clauses.specs.Sleeping.{SleepersValue, AreFew};
 ghost use Rattle.sat_core.specs.inner.Dividing.{IsDividing};
@@ -83,7 +82,7 @@ pub fn rest(alloc: Global, core: &mut Core, guide: &mut Guide) -> Result<(), Out
     requires guided { IsGuided core.old guide.old }
     ensures guided { OnOk result (IsGuided core.new guide.new) }
     ensures vars { core.new.vars ≡ core.old.vars }
-    ensures ready { OnOk result ((base : FormulaValue) (lines : List ProofLineValue) → IsReady base lines core.old guide.old.awake guide.old.sleepers → IsReady base lines core.new guide.new.awake guide.new.sleepers) }
+    ensures ready { OnOk result (StaysReady core.old guide.old.awake guide.old.sleepers core.new guide.new.awake guide.new.sleepers) }
 {
     release_from(core, &mut guide.decider, 0)?;
     guide.awake.keep_reasons(core);

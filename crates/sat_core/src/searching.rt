@@ -1,12 +1,9 @@
 //! The search: turn after turn, until it ends (the loop of CDCL).
 
-ghost use Rattle.std.specs.Prelude.{◌≡◌, ◌+◌, ◌<◌, ◌≤◌, length, map, Ok, OnOk};
-ghost use Rattle.sat_core.specs.inner.Guided.{IsGuided};
-ghost use Rattle.sat_core.specs.Ready.{AreWritten, IsReady, IsOver};
-ghost use Rattle.cnf_formula.specs.declared.line.LratLine.TheVariants.{Addition};
-ghost use Rattle.proof_rules.specs.Refuting.{Refutes};
+ghost use Rattle.std.specs.Prelude.{◌≡◌, IfOk};
+ghost use Rattle.sat_core.specs.inner.Going.{CanSearch, IsWrittenOn};
+ghost use Rattle.sat_core.specs.inner.Ending.{IsEnded};
 ghost use Rattle.outer_ports.specs.Port.{HasCause};
-ghost use Rattle.sat_core.specs.inner.Totals.{IsTotal};
 
 use crate::fault::SolveFault;
 use crate::guide::Guide;
@@ -18,7 +15,7 @@ use trail_core::Core;
 
 /// Every variable has a value and no clause is falsified; or the formula is refuted, or what may be
 /// spent is spent.
-#[derive(Debug, Drop)]
+#[derive(Drop)]
 pub enum End {
     Total,
     Refuted,
@@ -33,21 +30,10 @@ pub fn search<T, L: Ledger<T>>(
     core: &mut Core,
     guide: &mut Guide,
 ) -> Result<End, SolveFault>
-    requires ready { IsReady (L.base ledger.old) (L.lines ledger.old) core.old guide.old.awake guide.old.sleepers }
-    requires guided { IsGuided core.old guide.old }
-    requires agrees { L.agrees ledger.old store.old }
+    requires can { CanSearch L.LedgerView L.Ledger.own ledger.old store.old core.old guide.old }
+    ensures written { IsWrittenOn L.LedgerView L.Ledger.own ledger.old store.old ledger.new store.new }
     ensures vars { core.new.vars ≡ core.old.vars }
-    ensures written { AreWritten (L.base ledger.new) (L.lines ledger.new) }
-    ensures moves { L.moves ledger.old store.old ledger.new store.new }
-    ensures agrees { OnOk result (L.agrees ledger.new store.new) }
-    ensures base { L.base ledger.new ≡ L.base ledger.old }
-    ensures limit { L.limit ledger.new ≡ L.limit ledger.old }
-    ensures ready { result ≡ Ok End.Total → IsReady (L.base ledger.new) (L.lines ledger.new) core.new guide.new.awake guide.new.sleepers }
-    ensures total { result ≡ Ok End.Total → IsTotal core.new }
-    ensures refuted { result ≡ Ok End.Refuted → Refutes (map Addition (L.lines ledger.new)) (L.base ledger.new) }
-    ensures closed { result ≡ Ok End.Refuted → length (L.lines ledger.new) ≤ L.limit ledger.new + 1 }
-    ensures spent { result ≡ Ok End.Spent → L.spent ledger.new ≡ L.limit ledger.new }
-    ensures over { result ≡ Ok End.Spent → IsOver (L.base ledger.new) (L.lines ledger.new) }
+    ensures ended { IfOk result (IsEnded L.LedgerView L.Ledger.own ledger.new store.new core.new guide.new) }
     ensures cause { HasCause SolveFault.LedgerFailed (L.faults ledger.old store.old) (L.faults ledger.new store.new) result }
 {
     loop {

@@ -2,11 +2,12 @@
 //! then have one hint for such a literal, in place of the reasons that led to it.
 
 ghost use Rattle.std.specs.Prelude.{◌≡◌, ◌≢◌, ◌<◌, ◌≤◌, true, List, [], ◌∷◌, ◌++◌, AllPairs, length, IfOk, IfSome, OnOk};
+ghost use Rattle.sat_core.specs.inner.Going.{CanSearch, IsSameTrail, IsWrittenOn, StaysReady};
 ghost use Rattle.sat_core.specs.inner.Guided.{IsGuided};
 ghost use Rattle.sat_core.specs.inner.Stating.{AreStated, AreMarkedOn, IsStating};
 ghost use Rattle.cnf_formula.specs.Formulas.{FormulaValue, IsClause};
 ghost use Rattle.cnf_formula.specs.Lines.{ProofLineValue};
-ghost use Rattle.sat_core.specs.Ready.{AreWritten, IsReady};
+ghost use Rattle.sat_core.specs.Ready.{IsReady};
 ghost use Rattle.sleeping_clauses.specs.Naming.{IsListed};
 ghost use Rattle.cnf_formula.specs.Literals.{LitValue, code_of};
 ghost use Rattle.std.specs.Prelude.{get_or, false};
@@ -95,7 +96,7 @@ fn line_of(
     requires guided { IsGuided core.now guide.old }
     requires stated { AreStated core.now.clauses stated.now }
     ensures guided { OnOk result (IsGuided core.now guide.new) }
-    ensures ready { (base : FormulaValue) (lines : List ProofLineValue) → IsReady base lines core.now guide.old.awake guide.old.sleepers → IsReady base lines core.now guide.new.awake guide.new.sleepers }
+    ensures ready { StaysReady core.now guide.old.awake guide.old.sleepers core.now guide.new.awake guide.new.sleepers }
     ensures line { IfOk result (λ found. IfSome found (λ line. (base : FormulaValue) (lines : List ProofLineValue) → IsReady base lines core.now guide.old.awake guide.old.sleepers → IsStating base lines core.now guide.new.awake line)) }
 {
     let lit = core.trail()[place];
@@ -122,9 +123,7 @@ fn hold(
     requires stated { AreStated core.old.clauses stated.old.items }
     requires about { IsClause core.old.vars line.now.lits }
     requires once { AllPairs (λ a b. a ≢ b) line.now.lits }
-    ensures vars { core.new.vars ≡ core.old.vars }
-    ensures trail { core.new.trail ≡ core.old.trail }
-    ensures bottom { core.new.limits ≡ core.old.limits }
+    ensures same { IsSameTrail core.old core.new }
     ensures stated { OnOk result (AreStated core.new.clauses stated.new.items) }
     ensures guided { OnOk result (IsGuided core.new guide.new) }
     ensures ready { OnOk result ((base : FormulaValue) (lines : List ProofLineValue) → IsReady base lines core.old guide.old.awake guide.old.sleepers → IsStating base lines core.old guide.old.awake line.now
@@ -149,22 +148,12 @@ fn state<T, L: Ledger<T>>(
 ) -> Result<(), SolveFault>
     requires bottom { length core.old.limits ≡ 0 }
     requires place { place < length core.old.trail }
-    requires ready { IsReady (L.base ledger.old) (L.lines ledger.old) core.old guide.old.awake guide.old.sleepers }
-    requires guided { IsGuided core.old guide.old }
+    requires can { CanSearch L.LedgerView L.Ledger.own ledger.old store.old core.old guide.old }
     requires stated { AreStated core.old.clauses stated.old.items }
-    requires agrees { L.agrees ledger.old store.old }
-    ensures written { AreWritten (L.base ledger.new) (L.lines ledger.new) }
-    ensures moves { L.moves ledger.old store.old ledger.new store.new }
-    ensures agrees { OnOk result (L.agrees ledger.new store.new) }
-    ensures base { L.base ledger.new ≡ L.base ledger.old }
-    ensures limit { L.limit ledger.new ≡ L.limit ledger.old }
-    ensures spent { L.spent ledger.old ≤ L.spent ledger.new }
-    ensures vars { core.new.vars ≡ core.old.vars }
-    ensures trail { core.new.trail ≡ core.old.trail }
-    ensures bottom { core.new.limits ≡ core.old.limits }
+    ensures written { IsWrittenOn L.LedgerView L.Ledger.own ledger.old store.old ledger.new store.new }
+    ensures can { OnOk result (CanSearch L.LedgerView L.Ledger.own ledger.new store.new core.new guide.new) }
+    ensures same { IsSameTrail core.old core.new }
     ensures stated { OnOk result (AreStated core.new.clauses stated.new.items) }
-    ensures ready { OnOk result (IsReady (L.base ledger.new) (L.lines ledger.new) core.new guide.new.awake guide.new.sleepers) }
-    ensures guided { OnOk result (IsGuided core.new guide.new) }
     ensures cause { HasCause SolveFault.LedgerFailed (L.faults ledger.old store.old) (L.faults ledger.new store.new) result }
 {
     if !ledger.room() {
@@ -187,18 +176,10 @@ fn state_all<T, L: Ledger<T>>(
     core: &mut Core,
     guide: &mut Guide,
 ) -> Result<(), SolveFault>
-    requires ready { IsReady (L.base ledger.old) (L.lines ledger.old) core.old guide.old.awake guide.old.sleepers }
-    requires guided { IsGuided core.old guide.old }
-    requires agrees { L.agrees ledger.old store.old }
-    ensures written { AreWritten (L.base ledger.new) (L.lines ledger.new) }
-    ensures moves { L.moves ledger.old store.old ledger.new store.new }
-    ensures agrees { OnOk result (L.agrees ledger.new store.new) }
-    ensures base { L.base ledger.new ≡ L.base ledger.old }
-    ensures limit { L.limit ledger.new ≡ L.limit ledger.old }
-    ensures spent { L.spent ledger.old ≤ L.spent ledger.new }
+    requires can { CanSearch L.LedgerView L.Ledger.own ledger.old store.old core.old guide.old }
+    ensures written { IsWrittenOn L.LedgerView L.Ledger.own ledger.old store.old ledger.new store.new }
+    ensures can { OnOk result (CanSearch L.LedgerView L.Ledger.own ledger.new store.new core.new guide.new) }
     ensures vars { core.new.vars ≡ core.old.vars }
-    ensures ready { OnOk result (IsReady (L.base ledger.new) (L.lines ledger.new) core.new guide.new.awake guide.new.sleepers) }
-    ensures guided { OnOk result (IsGuided core.new guide.new) }
     ensures cause { HasCause SolveFault.LedgerFailed (L.faults ledger.old store.old) (L.faults ledger.new store.new) result }
 {
     go_to_bottom(core, &mut guide.decider)?;
@@ -220,18 +201,10 @@ pub fn rest_if_due<T, L: Ledger<T>>(
     guide: &mut Guide,
     anew: bool,
 ) -> Result<(), SolveFault>
-    requires ready { IsReady (L.base ledger.old) (L.lines ledger.old) core.old guide.old.awake guide.old.sleepers }
-    requires guided { IsGuided core.old guide.old }
-    requires agrees { L.agrees ledger.old store.old }
-    ensures written { AreWritten (L.base ledger.new) (L.lines ledger.new) }
-    ensures moves { L.moves ledger.old store.old ledger.new store.new }
-    ensures agrees { OnOk result (L.agrees ledger.new store.new) }
-    ensures base { L.base ledger.new ≡ L.base ledger.old }
-    ensures limit { L.limit ledger.new ≡ L.limit ledger.old }
-    ensures spent { L.spent ledger.old ≤ L.spent ledger.new }
+    requires can { CanSearch L.LedgerView L.Ledger.own ledger.old store.old core.old guide.old }
+    ensures written { IsWrittenOn L.LedgerView L.Ledger.own ledger.old store.old ledger.new store.new }
+    ensures can { OnOk result (CanSearch L.LedgerView L.Ledger.own ledger.new store.new core.new guide.new) }
     ensures vars { core.new.vars ≡ core.old.vars }
-    ensures ready { OnOk result (IsReady (L.base ledger.new) (L.lines ledger.new) core.new guide.new.awake guide.new.sleepers) }
-    ensures guided { OnOk result (IsGuided core.new guide.new) }
     ensures cause { HasCause SolveFault.LedgerFailed (L.faults ledger.old store.old) (L.faults ledger.new store.new) result }
 {
     if !anew || !guide.awake.is_due() {

@@ -9,7 +9,7 @@ use decision_order::Decider;
 use trail_core::{ClauseId, Core};
 
 /// What a step of the search came to.
-#[derive(Debug, Drop)]
+#[derive(Drop)]
 pub enum Step {
     Conflict(ClauseId),
     Decided,

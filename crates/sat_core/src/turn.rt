@@ -1,16 +1,16 @@
 //! One turn of the search at a conflict: analysis, learning, backjump.
 
-ghost use Rattle.std.specs.Prelude.{◌≡◌, ◌+◌, ◌<◌, ◌≤◌, ◌∷◌, ◌++◌, [], true, List, length, map, Ok, OnOk};
+ghost use Rattle.std.specs.Prelude.{◌≡◌, ◌+◌, ◌<◌, ◌∷◌, ◌++◌, [], true, List, length, IfOk, OnOk};
 ghost use Rattle.cnf_formula.specs.Formulas.{FormulaValue};
 ghost use Rattle.cnf_formula.specs.Lines.{ProofLineValue};
 ghost use Rattle.conflict_analysis.specs.Conflicts.{IsConflict};
-ghost use Rattle.sat_core.specs.inner.Measure.{IsLess};
 ghost use Rattle.sat_core.specs.inner.Jumping.{IsBacked};
+ghost use Rattle.sat_core.specs.inner.Turning.{IsTurn, IsTurned};
 ghost use Rattle.sleeping_clauses.specs.Sleeping.{sleeping};
 ghost use Rattle.sat_core.specs.inner.Guided.{IsGuided};
-ghost use Rattle.sat_core.specs.Ready.{AreWritten, IsReady, IsOver};
-ghost use Rattle.cnf_formula.specs.declared.line.LratLine.TheVariants.{Addition};
-ghost use Rattle.proof_rules.specs.Refuting.{Refutes, is_fresh};
+ghost use Rattle.sat_core.specs.inner.Going.{CanSearch, IsWrittenOn};
+ghost use Rattle.sat_core.specs.Ready.{AreWritten, IsReady};
+ghost use Rattle.proof_rules.specs.Refuting.{is_fresh};
 ghost use Rattle.ledger_rules.specs.Logs.{checker_of};
 ghost use Rattle.trail_core.specs.Formed.{IsTrail};
 ghost use Rattle.outer_ports.specs.Port.{HasCause};
@@ -27,7 +27,7 @@ use std::alloc::Global;
 use trail_core::{ClauseId, Core};
 
 /// What a turn at a conflict came to.
-#[derive(Debug, Drop)]
+#[derive(Drop)]
 pub enum Turn {
     Goes,
     Refuted,
@@ -66,6 +66,23 @@ fn go_on(
     Ok(anew)
 }
 
+/// The line that is learned from a conflict, by the ledger's numbers.
+fn line_of_conflict(
+    alloc: Global,
+    core: &Core,
+    guide: &mut Guide,
+    conflict: ClauseId,
+) -> Result<ProofLine, OutOfMemory>
+    requires conflict { IsConflict core.now conflict }
+    requires guided { IsGuided core.now guide.old }
+    ensures guided { OnOk result (IsGuided core.now guide.new) }
+    ensures sleepers { guide.new.sleepers ≡ guide.old.sleepers }
+    ensures turn { IfOk result (λ line. (base : FormulaValue) (lines : List ProofLineValue) → IsReady base lines core.now guide.old.awake guide.old.sleepers → IsTurn base lines core.now guide.new.awake guide.new.sleepers conflict line) }
+{
+    let learned = line_at(alloc, core, &mut guide.walk, &mut guide.implied, conflict)?;
+    Ok(guide.awake.named(alloc, learned)?)
+}
+
 /// Learns from a conflict: closes on level 0, else adds a line where there is room for it. Where a
 /// clause that sleeps states the line already, that clause is woken in its place; where there is no
 /// room, all clauses are.
@@ -77,27 +94,14 @@ pub fn at_conflict<T, L: Ledger<T>>(
     guide: &mut Guide,
     conflict: ClauseId,
 ) -> Result<Turn, SolveFault>
-    requires ready { IsReady (L.base ledger.old) (L.lines ledger.old) core.old guide.old.awake guide.old.sleepers }
+    requires can { CanSearch L.LedgerView L.Ledger.own ledger.old store.old core.old guide.old }
     requires conflict { IsConflict core.old conflict }
-    requires guided { IsGuided core.old guide.old }
-    requires agrees { L.agrees ledger.old store.old }
-    ensures written { AreWritten (L.base ledger.new) (L.lines ledger.new) }
-    ensures moves { L.moves ledger.old store.old ledger.new store.new }
-    ensures agrees { OnOk result (L.agrees ledger.new store.new) }
-    ensures base { L.base ledger.new ≡ L.base ledger.old }
-    ensures limit { L.limit ledger.new ≡ L.limit ledger.old }
+    ensures written { IsWrittenOn L.LedgerView L.Ledger.own ledger.old store.old ledger.new store.new }
     ensures vars { core.new.vars ≡ core.old.vars }
-    ensures ready { result ≡ Ok Turn.Goes → IsReady (L.base ledger.new) (L.lines ledger.new) core.new guide.new.awake guide.new.sleepers }
-    ensures guided { result ≡ Ok Turn.Goes → IsGuided core.new guide.new }
-    ensures less { result ≡ Ok Turn.Goes → IsLess (L.spent ledger.old) (sleeping guide.old.sleepers) (L.spent ledger.new) (sleeping guide.new.sleepers) }
-    ensures refuted { result ≡ Ok Turn.Refuted → Refutes (map Addition (L.lines ledger.new)) (L.base ledger.new) }
-    ensures closed { result ≡ Ok Turn.Refuted → length (L.lines ledger.new) ≤ L.limit ledger.new + 1 }
-    ensures spent { result ≡ Ok Turn.Spent → L.spent ledger.new ≡ L.limit ledger.new }
-    ensures over { result ≡ Ok Turn.Spent → IsOver (L.base ledger.new) (L.lines ledger.new) }
+    ensures turned { IfOk result (IsTurned L.LedgerView L.Ledger.own ledger.old (sleeping guide.old.sleepers) ledger.new store.new core.new guide.new) }
     ensures cause { HasCause SolveFault.LedgerFailed (L.faults ledger.old store.old) (L.faults ledger.new store.new) result }
 {
-    let learned = line_at(alloc, core, &mut guide.walk, &mut guide.implied, conflict)?;
-    let line = guide.awake.named(alloc, learned)?;
+    let line = line_of_conflict(alloc, core, guide, conflict)?;
     if line.lits.is_empty() {
         ledger.close(store, &line)?;
         return Ok(Turn::Refuted);

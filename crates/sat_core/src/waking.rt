@@ -1,11 +1,9 @@
 //! Clauses that slept are added to the core again.
 
-ghost use Rattle.std.specs.Prelude.{◌≡◌, ◌+◌, ◌<◌, true, false, List, length, get_or, slice_set, OnOk};
-ghost use Rattle.cnf_formula.specs.Formulas.{FormulaValue};
-ghost use Rattle.cnf_formula.specs.Lines.{ProofLineValue};
+ghost use Rattle.std.specs.Prelude.{◌≡◌, ◌+◌, ◌<◌, true, false, length, get_or, slice_set, OnOk};
 ghost use Rattle.sleeping_clauses.specs.Sleeping.{sleeping};
 ghost use Rattle.sleeping_clauses.specs.Naming.{IsListed};
-ghost use Rattle.sat_core.specs.Ready.{IsReady};
+ghost use Rattle.sat_core.specs.inner.Going.{StaysReady};
 
 use crate::backjump::go_to_bottom;
 use cnf_formula::OutOfMemory;
@@ -30,7 +28,7 @@ pub fn wake(
     ensures vars { core.new.vars ≡ core.old.vars }
     ensures same { sleepers.new.vars ≡ sleepers.old.vars }
     ensures listed { OnOk result (IsListed core.new.clauses awake.new) }
-    ensures ready { OnOk result ((base : FormulaValue) (lines : List ProofLineValue) → IsReady base lines core.old awake.old sleepers.old → IsReady base lines core.new awake.new sleepers.new) }
+    ensures ready { OnOk result (StaysReady core.old awake.old sleepers.old core.new awake.new sleepers.new) }
     ensures len { length sleepers.new.clauses ≡ length sleepers.old.clauses }
     ensures woken { OnOk result (sleepers.new.asleep ≡ slice_set sleepers.old.asleep place false) }
     ensures fewer { OnOk result (sleeping sleepers.new + 1 ≡ sleeping sleepers.old) }
@@ -61,7 +59,7 @@ pub fn wake_all(
     ensures vars { core.new.vars ≡ core.old.vars }
     ensures same { sleepers.new.vars ≡ sleepers.old.vars }
     ensures listed { OnOk result (IsListed core.new.clauses awake.new) }
-    ensures ready { OnOk result ((base : FormulaValue) (lines : List ProofLineValue) → IsReady base lines core.old awake.old sleepers.old → IsReady base lines core.new awake.new sleepers.new) }
+    ensures ready { OnOk result (StaysReady core.old awake.old sleepers.old core.new awake.new sleepers.new) }
     ensures none { OnOk result (sleeping sleepers.new ≡ 0) }
 {
     for place in 0..sleepers.len() {

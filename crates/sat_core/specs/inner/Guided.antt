@@ -1,10 +1,11 @@
 -- What a search keeps beside its core.
-use Rattle.std.specs.Prelude.{◌≡◌}
+use Rattle.std.specs.Prelude.{◌≡◌, ℕ, []}
 use Rattle.trail_core.specs.Meaning.{CoreValue}
 use Rattle.sat_core.specs.declared.guide.Guide.{Guide}
 use Rattle.conflict_analysis.specs.Met.{IsRested}
 use Rattle.sleeping_clauses.specs.Naming.{IsListed}
 use Rattle.sleeping_clauses.specs.Sleeping.{AreFew}
+use Rattle.sleeping_clauses.specs.declared.awake.Awake.{Awake}
 
 -- its tables are of the core's variables and clauses, and no mark is above those of the last analysis
 pub record IsGuided (core : CoreValue) (guide : Guide) : Type 0 where
@@ -14,3 +15,11 @@ pub record IsGuided (core : CoreValue) (guide : Guide) : Type 0 where
   pub listed : IsListed core.clauses guide.awake
   pub sleepers : guide.sleepers.vars ≡ core.vars
   pub few : AreFew guide.sleepers
+
+-- it is of so many variables and of this table of clauses, and no clause sleeps
+pub record IsNewGuide (vars : ℕ) (table : Awake) (guide : Guide) : Type 0 where
+  pub rested : IsRested vars guide.walk.stamp guide.walk.marks.items
+  pub decider : guide.decider ≡ vars
+  pub probes : guide.probes ≡ vars
+  pub awake : guide.awake ≡ table
+  pub sleepers : guide.sleepers ≡ record { vars = vars; clauses = []; numbers = []; asleep = [] }

@@ -10,7 +10,6 @@ use Rattle.sat_core.proofs.backjump.highest.Goals.{then-level-top, else-level-to
 
 pub level-level-requires : goal.level-level-requires
 level-level-requires c =
-    let lits = c.args.lits.now in
     let x : LitValue = c.lit-item.result in
     subst (λ l. Contains (trues c.args.core.now) l) (sym c.negated.ensures) (c.requires x (c.loop-lit.lit-index, c.loop-lit-test.true, sym c.lit-item.is))
 

@@ -13,14 +13,12 @@ pub overflow_sub-lits : goal.overflow_sub-lits
 overflow_sub-lits c =
     let core = c.args.core.now in
     let lits = c.args.lits.now in
-    let level = c.args.level in
     let some = backed_some core lits c.requires.backed in omega (arith, some)
 
 pub bounds-lits-lits : goal.bounds-lits-lits
 bounds-lits-lits c =
     let core = c.args.core.now in
     let lits = c.args.lits.now in
-    let level = c.args.level in
     let some = backed_some core lits c.requires.backed in omega (arith, some)
 
 pub learn-requires-clause-within : goal.learn-requires-clause-within
@@ -35,7 +33,6 @@ pub learn-requires-clause-once : goal.learn-requires-clause-once
 learn-requires-clause-once c =
     let core = c.args.core.now in
     let lits = c.args.lits.now in
-    let level = c.args.level in
     backed_differ core lits c.requires.backed
 
 pub learn-requires-clause-place : goal.learn-requires-clause-place
@@ -72,7 +69,6 @@ learn-requires-clause-due c =
 pub returns-clause-vars : goal.returns-clause-vars
 returns-clause-vars c =
     let core = c.args.core.now in
-    let lits = c.args.lits.now in
     let level = c.args.level in
     let b : c.back_to.new.self ≡ gone_back core level = c.back_to.ensures.back c.requires.above in
     ap (λ x. x.vars) c.in_ok-learn.ensures.ok.1 ∙ ap (λ x. x.vars) b
@@ -88,7 +84,6 @@ returns-clause-added c =
 pub returns-in_err-learn-clause-vars : goal.returns-in_err-learn-clause-vars
 returns-in_err-learn-clause-vars c =
     let core = c.args.core.now in
-    let lits = c.args.lits.now in
     let level = c.args.level in
     let b : c.back_to.new.self ≡ gone_back core level = c.back_to.ensures.back c.requires.above in
     ap (λ x. x.vars) c.in_err-learn.ensures.err ∙ ap (λ x. x.vars) b

@@ -1,10 +1,9 @@
-use Rattle.std.proofs.Common.{◌≡◌, ◌≢◌, ℕ, ◌<◌, true, length, map, Result, Ok, Err, refl, sym, ap, ◌∙◌, subst, arith}
-use Rattle.std.specs.Result.{IsErrAnd, IsOk, OnOk}
-use Rattle.std.proofs.lemmas.Result.{err_from_is_err_and}
+use Rattle.std.proofs.Common.{◌≡◌, ℕ, ◌<◌, true, length, map, Result, Ok, Err, refl, sym, ap, ◌∙◌, subst, arith}
+use Rattle.std.specs.Result.{IsOk, OnOk}
+use Rattle.std.proofs.lemmas.Result.{IfOk-at_ok}
 use Rattle.std.proofs.lemmas.Bool.{true≢false}
 use Rattle.cnf_formula.specs.Formulas.{Satisfies}
 use Rattle.cnf_formula.specs.declared.line.LratLine.TheVariants.{Addition}
-use Rattle.outer_ports.specs.Port.{HasCause}
 use Rattle.proof_rules.specs.declared.verdict.LineVerdict.TheVariants.{Accepted}
 use Rattle.proof_rules.specs.Judging.{verdict_of}
 use Rattle.proof_rules.specs.Refuting.{Refutes, SpentLog}
@@ -12,21 +11,16 @@ use Rattle.ledger_rules.specs.Logs.{checker_of}
 use Rattle.trail_core.specs.Meaning.{trues}
 use Rattle.sat_core.specs.Ready.{AreNumbered, AreShort, IsReady}
 use Rattle.sat_core.specs.inner.Totals.{AreValues}
-use Rattle.sat_core.specs.declared.fault.SolveFault.TheVariants.{LedgerFailed}
 use Rattle.sat_core.specs.declared.solving.SatAnswer.{SatAnswer}
+use Rattle.sat_core.specs.declared.searching.End.{End}
+use Rattle.sat_core.specs.declared.searching.End.TheVariants.{Total, Refuted, Spent}
+use Rattle.sat_core.specs.inner.Ending.{IsEnded}
+use Rattle.sat_core.proofs.Caused.{handed_other, no_answer, on_fault, still}
+use Rattle.sat_core.proofs.Going.{ended_agrees}
 use Rattle.sat_core.proofs.Ending.{log_by}
 use Rattle.sat_core.proofs.Modelled.{model_satisfies}
 use Rattle.sat_core.proofs.Ternary.{few_spent}
 use Rattle.sat_core.proofs.solving.solve.Goals as goal
-
--- `?` hands a fault on as it is
-handed : {T E : Type 0} (r : Result T E) (fault : E) → IsErrAnd r (λ e. e ≡ fault) → r ≡ Err fault
-handed r fault h = let w = err_from_is_err_and r h in w.1 ∙ ap Err w.2
-
--- what holds anyway holds of a success
-held : {T E P : Type 0} (r : Result T E) → P → OnOk r P
-held (Ok x) p = p
-held (Err y) p = tt
 
 -- what holds of a success before it holds of a success
 after : {T U E : Type 0} (P : Type 0) (r : Result T E) (s : Result U E) → OnOk r (IsOk s) → OnOk s P → OnOk r P
@@ -34,29 +28,17 @@ after P (Ok x) (Ok y) is p = p
 after P (Ok x) (Err e) is p = absurd (true≢false (sym is))
 after P (Err e) s is p = tt
 
--- a fault is no answer
-no_answer : {T E : Type 0} {r : Result T E} {fault : E} {answer : T} → r ≡ Err fault → r ≡ Ok answer → ⊥
-no_answer is e = cc
-
--- two results with one fault
-same_fault : {T U E : Type 0} {r : Result T E} {s : Result U E} {a b : E} → r ≡ Err a → s ≡ Err a → s ≡ Err b → r ≡ Err b
-same_fault r_is s_is s_too = cc
-
--- a count that stands still, where the fault was another
-caused : {T E : Type 0} {fault : E} {count : ℕ} {r : Result T E} → r ≢ Err fault → HasCause fault count count r
-caused other = record { later = omega arith; rose = λ e. absurd (other e); stays = λ _. refl }
-
-pub search-end-requires-clause-ready : goal.search-end-requires-clause-ready
-search-end-requires-clause-ready g c =
+pub search-end-requires : goal.search-end-requires
+search-end-requires g c =
     let core = c.in_ok-core.core in
     let guide = c.in_ok-core.guide in
-    subst (λ f. IsReady f (g.L.LedgerView.lines c.args.ledger.now) core guide.awake guide.sleepers) (sym c.requires.base) (subst (λ lines. IsReady c.args.formula.now lines core guide.awake guide.sleepers) (sym c.requires.empty) c.in_ok-core.ensures.ready)
-
-pub search-end-requires-clause-guided : goal.search-end-requires-clause-guided
-search-end-requires-clause-guided g c = c.in_ok-core.ensures.guided
-
-pub search-end-requires-clause-agrees : goal.search-end-requires-clause-agrees
-search-end-requires-clause-agrees g c = c.requires.agrees
+    record {
+      can = record {
+        ready = subst (λ f. IsReady f (g.L.LedgerView.lines c.args.ledger.now) core guide.awake guide.sleepers) (sym c.requires.base) (subst (λ lines. IsReady c.args.formula.now lines core guide.awake guide.sleepers) (sym c.requires.empty) c.in_ok-core.ensures.ready);
+        guided = c.in_ok-core.ensures.guided;
+        agrees = c.requires.agrees;
+      };
+    }
 
 pub answer_of-requires-clause-own : goal.answer_of-requires-clause-own
 answer_of-requires-clause-own g c = sym (c.search-end.ensures.vars ∙ c.in_ok-core.ensures.vars)
@@ -64,61 +46,62 @@ answer_of-requires-clause-own g c = sym (c.search-end.ensures.vars ∙ c.in_ok-c
 pub returns : goal.returns
 returns g c =
     let L = g.L.LedgerView in
+    let end = c.search-end.ensures in
     let now = c.search-end.new.ledger in
     let formula = c.args.formula.now in
     let core = c.search-end.new.core in
     let guide = c.search-end.new.guide in
-    let same : L.base now ≡ formula = c.search-end.ensures.base ∙ c.requires.base in
+    let same : L.base now ≡ formula = end.written.base ∙ c.requires.base in
+    let ended : (x : End) → c.search-end.result ≡ Ok x → IsEnded L g.L.Ledger now c.search-end.new.store core guide x = λ x e. IfOk-at_ok (IsEnded L g.L.Ledger now c.search-end.new.store core guide) e end.ended in
     let log : c.answer_of.result ≡ Ok SatAnswer.Spent → SpentLog (L.lines now) formula (L.limit now) =
-    λ e. let done = c.answer_of.ensures.spent e in
-    log_by (L.base now) formula (L.lines now) (L.spent now) (L.limit now) same c.search-end.ensures.written (c.search-end.ensures.over done) (g.met.L.LedgerView.charged now) (c.search-end.ensures.spent done) in
+    λ e. let spent = ended Spent (c.answer_of.ensures.spent e) in
+    log_by (L.base now) formula (L.lines now) (L.spent now) (L.limit now) same end.written.written spent.over (g.met.L.LedgerView.charged now) spent.all in
     record {
       model = λ values e.
           let found = c.answer_of.ensures.model values e in
-          let done = found.0 in
-          let own : c.min-own.result ≡ core.vars = sym (c.search-end.ensures.vars ∙ c.in_ok-core.ensures.vars) in
+          let total = ended Total found.0 in
+          let own : c.min-own.result ≡ core.vars = sym (end.vars ∙ c.in_ok-core.ensures.vars) in
           let len : length values ≡ (L.base now).vars = found.1 ∙ c.vars-2.ensures.vars ∙ sym (ap (λ f. f.vars) same) in
           let are : AreValues (trues core) core.vars values = subst (λ n. AreValues (trues core) n values) own found.2 in
-          subst (Satisfies values) same (model_satisfies (L.base now) (L.lines now) core guide.awake guide.sleepers values (c.search-end.ensures.ready done) (c.search-end.ensures.total done) len are);
-      refuted = λ e. subst (Refutes (map Addition (L.lines now))) same (c.search-end.ensures.refuted (c.answer_of.ensures.refuted e));
-      closed = λ e. c.search-end.ensures.closed (c.answer_of.ensures.refuted e);
-      spent = λ e. c.search-end.ensures.spent (c.answer_of.ensures.spent e);
+          subst (Satisfies values) same (model_satisfies (L.base now) (L.lines now) core guide.awake guide.sleepers values total.0.ready total.1 len are);
+      refuted = λ e. subst (Refutes (map Addition (L.lines now))) same (ended Refuted (c.answer_of.ensures.refuted e)).refutes;
+      closed = λ e. (ended Refuted (c.answer_of.ensures.refuted e)).few;
+      spent = λ e. (ended Spent (c.answer_of.ensures.spent e)).all;
       log = log;
       not_closed = λ e line empty accepted.
-          (c.search-end.ensures.over (c.answer_of.ensures.spent e)).not_closed line empty (subst (λ f. verdict_of (checker_of f (L.lines now)) line ≡ Accepted true) (sym same) accepted);
+          (ended Spent (c.answer_of.ensures.spent e)).over.not_closed line empty (subst (λ f. verdict_of (checker_of f (L.lines now)) line ≡ Accepted true) (sym same) accepted);
       few = λ e. few_spent formula (L.lines now) (L.limit now) (log e);
-      numbered = subst (λ f. AreNumbered (length f.clauses) (L.lines now)) same c.search-end.ensures.written.numbered;
-      short = subst (λ f. AreShort f.vars (L.lines now)) same c.search-end.ensures.written.short;
-      moves = c.search-end.ensures.moves;
-      agrees = after (g.L.Ledger.agrees now c.search-end.new.store) c.answer_of.result c.search-end.result c.answer_of.ensures.answer c.search-end.ensures.agrees;
-      base = c.search-end.ensures.base;
-      limit = c.search-end.ensures.limit;
+      numbered = subst (λ f. AreNumbered (length f.clauses) (L.lines now)) same end.written.written.numbered;
+      short = subst (λ f. AreShort f.vars (L.lines now)) same end.written.written.short;
+      moves = end.written.moves;
+      agrees = after (g.L.Ledger.agrees now c.search-end.new.store) c.answer_of.result c.search-end.result c.answer_of.ensures.answer (ended_agrees L g.L.Ledger now c.search-end.new.store core guide c.search-end.result end.ended);
+      base = end.written.base;
+      limit = end.written.limit;
       cause = record {
-        later = c.search-end.ensures.cause.later;
-        rose = λ e. c.search-end.ensures.cause.rose (c.answer_of.ensures.fault.0 e);
-        stays = λ other. c.search-end.ensures.cause.stays (λ e. other (c.answer_of.ensures.fault.1 e));
+        later = end.cause.later;
+        rose = λ e. end.cause.rose (c.answer_of.ensures.fault.0 e);
+        stays = λ other. end.cause.stays (λ e. other (c.answer_of.ensures.fault.1 e));
       };
     }
 
 pub returns-in_err-core : goal.returns-in_err-core
 returns-in_err-core g c =
     let lines = g.L.LedgerView.lines c.args.ledger.now in
-    let is : c.from_residual.result ≡ Err c.in_err-core.field-0.0 = handed c.from_residual.result c.in_err-core.field-0.0 c.from_residual.ensures.1 in
-    let other : c.from_residual.result ≢ Err LedgerFailed = λ e. c.in_err-core.ensures.fault (same_fault refl is e) in
+    let fault = c.from_residual in
     let none : (k : ℕ) → k < length lines → ⊥ = λ k lt. omega (arith, lt, ap length c.requires.empty) in
     record {
-      model = λ values e. absurd (no_answer is e);
-      refuted = λ e. absurd (no_answer is e);
-      closed = λ e. absurd (no_answer is e);
-      spent = λ e. absurd (no_answer is e);
-      log = λ e. absurd (no_answer is e);
-      not_closed = λ e line empty accepted. no_answer is e;
-      few = λ e. absurd (no_answer is e);
+      model = λ values e. absurd (no_answer fault.ensures.0 e);
+      refuted = λ e. absurd (no_answer fault.ensures.0 e);
+      closed = λ e. absurd (no_answer fault.ensures.0 e);
+      spent = λ e. absurd (no_answer fault.ensures.0 e);
+      log = λ e. absurd (no_answer fault.ensures.0 e);
+      not_closed = λ e line empty accepted. no_answer fault.ensures.0 e;
+      few = λ e. absurd (no_answer fault.ensures.0 e);
       numbered = λ k d lt. absurd (none k lt);
       short = λ k d lt. absurd (none k lt);
       moves = g.met.L.Ledger.moves_refl c.args.ledger.now c.args.store.now;
-      agrees = held c.from_residual.result c.requires.agrees;
+      agrees = on_fault _ fault.result fault.ensures.0;
       base = refl;
       limit = refl;
-      cause = caused other;
+      cause = still (handed_other fault.result c.in_err-core.was fault.ensures.1 c.prepared.ensures.fault);
     }

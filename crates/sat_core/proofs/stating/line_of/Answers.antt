@@ -1,4 +1,4 @@
-use Rattle.std.proofs.Common.{◌≡◌, length, sym, ap, ◌∙◌, subst}
+use Rattle.std.proofs.Common.{◌≡◌, sym, ap, ◌∙◌, subst}
 use Rattle.std.specs.Prelude.{Contains, get_or, true}
 use Rattle.cnf_formula.specs.Literals.{LitValue, code_of}
 use Rattle.conflict_analysis.specs.Met.{lit_at}

@@ -1,146 +1,276 @@
-use Rattle.std.proofs.Common.{◌≡◌, ◌<◌, ◌+◌, ◌∷◌, ◌++◌, length, [], refl, sym, ap, ◌∙◌, subst, arith}
-use Rattle.std.specs.Prelude.{vec_len, All, Contains}
-use Rattle.std.proofs.lemmas.Bool.{eqb-true, eqb-false}
+use Rattle.std.proofs.Common.{◌≡◌, ◌<◌, ◌++◌, ◌∷◌, length, [], map, refl, sym, ap, ◌∙◌, subst, inl, inr, arith}
+use Rattle.std.specs.Prelude.{vec_len, get_or, false, Contains}
+use Rattle.std.proofs.lemmas.Bool.{eqb-true}
 use Rattle.std.proofs.lemmas.List.{nil_from_length}
-use Rattle.sat_core.proofs.Turning.{positive, IsTurn, turn_accepted, turn_written, turn_refuted, turn_fresh, turn_over, turn_about, none_by}
-use Rattle.sat_core.proofs.Readiness.{ready_used}
+use Rattle.std.proofs.lemmas.Result.{IfOk-from_err}
 use Rattle.cnf_formula.specs.Formulas.{IsClause}
-use Rattle.sleeping_clauses.specs.Naming.{IsName}
+use Rattle.cnf_formula.specs.declared.line.LratLine.TheVariants.{Addition}
+use Rattle.proof_rules.specs.Refuting.{Refutes}
+use Rattle.sleeping_clauses.specs.Sleeping.{sleeping}
+use Rattle.sat_core.specs.inner.Guided.{IsGuided}
 use Rattle.sat_core.specs.Ready.{IsReady}
-use Rattle.sat_core.proofs.Hinted.{hints_names}
-use Rattle.sat_core.proofs.Ending.{closed_few}
+use Rattle.sat_core.proofs.Caused.{after, answered, answered_after, handed_on, no_memory, no_memory_after, of_ledger, unmoved}
+use Rattle.sat_core.proofs.Ending.{closed_few, no_room}
+use Rattle.sat_core.proofs.Going.{ready_at, still_written, written_then, written_to}
+use Rattle.sat_core.proofs.Turning.{guided_more, none_by, not_empty, turn_about, turn_above, turn_accepted, turn_backed, turn_fresh, turn_over, turn_refuted, turn_written}
 use Rattle.sat_core.proofs.turn.at_conflict.Goals as goal
 
-pub close-requires-clause-implied : goal.close-requires-clause-implied
-close-requires-clause-implied g c =
-    let base = g.L.LedgerView.base c.args.ledger.now in
-    let lines = g.L.LedgerView.lines c.args.ledger.now in
-    let core = c.args.core.now in
-    let guide = c.args.guide.now in
-    let learned = c.in_ok-learned.learned in
-    let line = c.in_ok-line.line in
-    let t : IsTurn base lines core guide.awake guide.sleepers c.args.conflict learned line = record { ready = c.requires.ready; conflicts = c.requires.conflict; is = c.in_ok-learned.ensures.learned; named = c.in_ok-line.ensures.line } in
-    turn_accepted base lines core guide.awake guide.sleepers c.args.conflict learned line t
+pub returns-in_err-line : goal.returns-in_err-line
+returns-in_err-line g c = record {
+  written = still_written (g.met.L.Ledger.moves_refl c.args.ledger.now c.args.store.now) c.requires.can.ready.written;
+  vars = refl;
+  turned = IfOk-from_err c.from_residual.result _ c.from_residual.ensures.0;
+  cause = no_memory c.from_residual.result c.from_residual.ensures.1;
+}
 
-pub returns-then-is_empty-clause-refuted : goal.returns-then-is_empty-clause-refuted
-returns-then-is_empty-clause-refuted g c =
-    let base = g.L.LedgerView.base c.args.ledger.now in
-    let lines = g.L.LedgerView.lines c.args.ledger.now in
-    let core = c.args.core.now in
-    let guide = c.args.guide.now in
-    let learned = c.in_ok-learned.learned in
+pub close-requires-clause-implied : goal.close-requires-clause-implied
+close-requires-clause-implied g c = turn_accepted (c.in_ok-line.ensures.turn _ _ c.requires.can.ready)
+
+pub returns-in_err-close : goal.returns-in_err-close
+returns-in_err-close g c =
+    let closed = c.close.ensures in
+    let fault = c.from_residual-in_err-close in
+    record {
+      written = written_to (g.L.LedgerView.lines c.args.ledger.now) closed.moves closed.base closed.limit (omega (arith, closed.spent)) c.in_err-close.ensures.kept c.requires.can.ready.written;
+      vars = refl;
+      turned = IfOk-from_err fault.result _ fault.ensures.0;
+      cause = of_ledger fault.result c.in_err-close.was fault.ensures.1 closed.cause;
+    }
+
+pub returns-then-is_empty : goal.returns-then-is_empty
+returns-then-is_empty g c =
+    let V = g.L.LedgerView in
+    let laws = g.met.L.LedgerView in
+    let old = c.args.ledger.now in
+    let now = c.close.new.self in
+    let closed = c.close.ensures in
     let line = c.in_ok-line.line in
-    let t : IsTurn base lines core guide.awake guide.sleepers c.args.conflict learned line = record { ready = c.requires.ready; conflicts = c.requires.conflict; is = c.in_ok-learned.ensures.learned; named = c.in_ok-line.ensures.line } in
+    let lines = V.lines old ++ line ∷ [] in
+    let are : V.lines now ≡ lines = c.in_ok-close.ensures.lines in
+    let t = c.in_ok-line.ensures.turn _ _ c.requires.can.ready in
     let none : line.lits ≡ [] = let z : vec_len c.line.inside.lits ≡ 0 = eqb-true _ 0 (sym c.is_empty.ensures ∙ c.if-is_empty.true) in
     nil_from_length line.lits (omega (arith, z, ap (λ l. length l.lits) c.line.view_is)) in
-    λ h. turn_refuted base _ lines _ core guide.awake guide.sleepers c.args.conflict learned line t none c.close.ensures.base c.in_ok-close.ensures.lines
+    let few = closed_few (V.base old) (V.lines old) (V.lines now) line (V.spent old) (V.limit old) c.requires.can.ready.fresh (laws.charged old) (laws.within old) are in
+    record {
+      written = written_to lines closed.moves closed.base closed.limit (omega (arith, closed.spent)) are (turn_written t);
+      vars = refl;
+      turned = record {
+        refutes = subst (Refutes (map Addition (V.lines now))) (sym closed.base) (subst (λ ls. Refutes (map Addition ls) (V.base old)) (sym are) (turn_refuted t none));
+        few = omega (arith, few, closed.limit);
+        agrees = c.in_ok-close.ensures.agrees;
+      };
+      cause = answered_after c.in_ok-close.was closed.cause;
+    }
 
-pub learn-requires-clause-implied : goal.learn-requires-clause-implied
-learn-requires-clause-implied g c =
-    let base = g.L.LedgerView.base c.args.ledger.now in
-    let lines = g.L.LedgerView.lines c.args.ledger.now in
-    let core = c.args.core.now in
-    let guide = c.args.guide.now in
-    let learned = c.in_ok-learned.learned in
-    let line = c.in_ok-line.line in
-    let t : IsTurn base lines core guide.awake guide.sleepers c.args.conflict learned line = record { ready = c.requires.ready; conflicts = c.requires.conflict; is = c.in_ok-learned.ensures.learned; named = c.in_ok-line.ensures.line } in
-    turn_accepted base lines core guide.awake guide.sleepers c.args.conflict learned line t
-
-pub learn-requires-clause-fresh : goal.learn-requires-clause-fresh
-learn-requires-clause-fresh g c =
-    let base = g.L.LedgerView.base c.args.ledger.now in
-    let lines = g.L.LedgerView.lines c.args.ledger.now in
-    let core = c.args.core.now in
-    let guide = c.args.guide.now in
-    let learned = c.in_ok-learned.learned in
-    let line = c.in_ok-line.line in
-    let t : IsTurn base lines core guide.awake guide.sleepers c.args.conflict learned line = record { ready = c.requires.ready; conflicts = c.requires.conflict; is = c.in_ok-learned.ensures.learned; named = c.in_ok-line.ensures.line } in
-    let some : 0 < length line.lits = let z = eqb-false (vec_len c.line.inside.lits) 0 (sym c.is_empty.ensures ∙ c.if-is_empty.false) in
-    positive (length line.lits) (λ e. z (omega (arith, e, ap (λ l. length l.lits) c.line.view_is))) in
-    let eq : c.deref.result.now ≡ line.lits = c.deref.ensures.value ∙ ap (λ l. l.lits) c.line.view_is in
-    let none = none_by guide.sleepers line.lits (λ place w a sub. c.in_default.ensures.found place w a (λ o h. subst (λ xs. Contains xs o) (sym eq) (sub o h))) in
-    turn_fresh base lines core guide.awake guide.sleepers c.args.conflict learned line t some none
-
-pub rest_if_due-requires-clause-ready : goal.rest_if_due-requires-clause-ready
-rest_if_due-requires-clause-ready g c =
-    let base = g.L.LedgerView.base c.args.ledger.now in
-    let lines = g.L.LedgerView.lines c.args.ledger.now in
-    let core = c.args.core.now in
-    let guide = c.args.guide.now in
-    let learned = c.in_ok-learned.learned in
-    let line = c.in_ok-line.line in
-    let t : IsTurn base lines core guide.awake guide.sleepers c.args.conflict learned line = record { ready = c.requires.ready; conflicts = c.requires.conflict; is = c.in_ok-learned.ensures.learned; named = c.in_ok-line.ensures.line } in
-    let some : 0 < length line.lits = let z = eqb-false (vec_len c.line.inside.lits) 0 (sym c.is_empty.ensures ∙ c.if-is_empty.false) in
-    positive (length line.lits) (λ e. z (omega (arith, e, ap (λ l. length l.lits) c.line.view_is))) in
-    let eq : c.deref.result.now ≡ line.lits = c.deref.ensures.value ∙ ap (λ l. l.lits) c.line.view_is in
-    let none = none_by guide.sleepers line.lits (λ place w a sub. c.in_default.ensures.found place w a (λ o h. subst (λ xs. Contains xs o) (sym eq) (sub o h))) in
-    let ready : IsReady base lines core c.named.new.self c.subset_of.new.self = subst (IsReady base lines core c.named.new.self) (sym c.subset_of.ensures.same) (ready_used base lines core guide.awake c.named.new.self guide.sleepers c.requires.ready c.named.ensures.names c.named.ensures.formula c.named.ensures.held) in
-    let written = turn_written base base lines (lines ++ line ∷ []) core guide.awake guide.sleepers c.args.conflict learned line t refl refl in
-    let after = c.in_ok-anew.ensures.ready base lines ready written (turn_fresh base lines core guide.awake guide.sleepers c.args.conflict learned line t some none) (t.named.id ∙ ap (λ n. n + 1) (sym c.named.ensures.held)) in
-    subst (λ b. IsReady b (g.L.LedgerView.lines c.learn.new.self) c.go_on.new.core c.go_on.new.guide.awake c.go_on.new.guide.sleepers) (sym c.learn.ensures.base)
-    (subst (λ ls. IsReady base ls c.go_on.new.core c.go_on.new.guide.awake c.go_on.new.guide.sleepers) (sym c.in_ok-learn.ensures.lines) after)
-
-pub returns-then-is_empty-clause-written : goal.returns-then-is_empty-clause-written
-returns-then-is_empty-clause-written g c =
-    let base = g.L.LedgerView.base c.args.ledger.now in
-    let lines = g.L.LedgerView.lines c.args.ledger.now in
-    let core = c.args.core.now in
-    let guide = c.args.guide.now in
-    let learned = c.in_ok-learned.learned in
-    let line = c.in_ok-line.line in
-    let t : IsTurn base lines core guide.awake guide.sleepers c.args.conflict learned line = record { ready = c.requires.ready; conflicts = c.requires.conflict; is = c.in_ok-learned.ensures.learned; named = c.in_ok-line.ensures.line } in
-    turn_written base _ lines _ core guide.awake guide.sleepers c.args.conflict learned line t c.close.ensures.base c.in_ok-close.ensures.lines
-
-pub returns-then-is_empty-clause-closed : goal.returns-then-is_empty-clause-closed
-returns-then-is_empty-clause-closed g c = λ h.
-    let L = g.L.LedgerView in
+pub returns-then-is_empty-2 : goal.returns-then-is_empty-2
+returns-then-is_empty-2 g c =
     let old = c.args.ledger.now in
-    let limit = c.close.ensures.limit in
-    let few = closed_few (L.base old) (L.lines old) (L.lines c.close.new.self) c.in_ok-line.line (L.spent old) (L.limit old) c.requires.ready.fresh (g.met.L.LedgerView.charged old) (g.met.L.LedgerView.within old) c.in_ok-close.ensures.lines in
-    omega (arith, few, limit)
+    let line = c.in_ok-line.line in
+    let t = c.in_ok-line.ensures.turn _ _ c.requires.can.ready in
+    let some = not_empty line.lits c.is_empty.ensures c.if-is_empty.false (omega (arith, ap (λ l. length l.lits) c.line.view_is)) in
+    record {
+      written = still_written (g.met.L.Ledger.moves_refl old c.args.store.now) c.requires.can.ready.written;
+      vars = refl;
+      turned = record {
+        all = no_room c.if-not-room.true c.room.ensures (g.met.L.LedgerView.within old);
+        over = turn_over t some (c.if-is_empty-2.ensures.none refl);
+        agrees = c.requires.can.agrees;
+      };
+      cause = answered;
+    }
 
-pub named-requires : goal.named-requires
-named-requires g c =
-    let core = c.args.core.now in
-    let learned = c.in_ok-learned.learned in
-    let l = c.in_ok-learned.ensures.learned in
-    let names : All (IsName (length core.clauses + 1)) learned.hints = subst (All (IsName (length core.clauses + 1))) (sym l.hints) (hints_names core.clauses core.trail l.resolved c.args.conflict learned.lits l.analysis) in
-    record { known = subst (λ n. All (IsName n) learned.hints) (sym c.requires.guided.listed.names) names }
+pub wake_all-requires : goal.wake_all-requires
+wake_all-requires g c =
+    let guided = c.in_ok-line.ensures.guided in
+    record { decider = guided.decider; vars = guided.sleepers; listed = guided.listed }
+
+pub returns-in_err-wake_all : goal.returns-in_err-wake_all
+returns-in_err-wake_all g c =
+    let fault = c.from_residual-in_err-wake_all in
+    record {
+      written = still_written (g.met.L.Ledger.moves_refl c.args.ledger.now c.args.store.now) c.requires.can.ready.written;
+      vars = c.wake_all.ensures.vars;
+      turned = IfOk-from_err fault.result _ fault.ensures.0;
+      cause = no_memory fault.result fault.ensures.1;
+    }
+
+pub returns-then-not-room : goal.returns-then-not-room
+returns-then-not-room g c =
+    let can = c.requires.can in
+    let guided = c.in_ok-line.ensures.guided in
+    let woken = c.in_ok-wake_all.ensures in
+    record {
+      written = still_written (g.met.L.Ledger.moves_refl c.args.ledger.now c.args.store.now) can.ready.written;
+      vars = woken.vars;
+      turned = (
+        record {
+          ready = woken.ready _ _ (c.in_ok-line.ensures.turn _ _ can.ready).ready;
+          guided = guided_more c.args.core.now _ _ guided.rested (woken.decider ∙ guided.decider) guided.probes woken.listed (woken.same ∙ guided.sleepers) (omega (arith, woken.none)) woken.vars;
+          agrees = can.agrees;
+        },
+        inr (refl, omega (arith, woken.none, c.if-is_empty-2.ensures.some refl, ap (λ s. sleeping s) c.line_of_conflict.ensures.sleepers)),
+      );
+      cause = answered;
+    }
 
 pub subset_of-requires : goal.subset_of-requires
 subset_of-requires g c =
-    let base = g.L.LedgerView.base c.args.ledger.now in
-    let lines = g.L.LedgerView.lines c.args.ledger.now in
-    let core = c.args.core.now in
-    let guide = c.args.guide.now in
-    let learned = c.in_ok-learned.learned in
     let line = c.in_ok-line.line in
-    let t : IsTurn base lines core guide.awake guide.sleepers c.args.conflict learned line = record { ready = c.requires.ready; conflicts = c.requires.conflict; is = c.in_ok-learned.ensures.learned; named = c.in_ok-line.ensures.line } in
-    let some : 0 < length line.lits = let z = eqb-false (vec_len c.line.inside.lits) 0 (sym c.is_empty.ensures ∙ c.if-is_empty.false) in
-    positive (length line.lits) (λ e. z (omega (arith, e, ap (λ l. length l.lits) c.line.view_is))) in
+    let guide = c.line_of_conflict.new.guide in
+    let t = c.in_ok-line.ensures.turn _ _ c.requires.can.ready in
+    let some = not_empty line.lits c.is_empty.ensures c.if-is_empty.false (omega (arith, ap (λ l. length l.lits) c.line.view_is)) in
     let eq : c.deref.result.now ≡ line.lits = c.deref.ensures.value ∙ ap (λ l. l.lits) c.line.view_is in
-    subst (IsClause guide.sleepers.vars) (sym eq) (turn_about base lines core guide.awake guide.sleepers c.args.conflict learned line guide.sleepers.vars t some c.requires.guided.sleepers)
+    subst (IsClause guide.sleepers.vars) (sym eq) (turn_about t some guide.sleepers.vars c.in_ok-line.ensures.guided.sleepers)
 
-pub returns-then-is_empty-2-clause-over : goal.returns-then-is_empty-2-clause-over
-returns-then-is_empty-2-clause-over g c = λ h.
-    let base = g.L.LedgerView.base c.args.ledger.now in
-    let lines = g.L.LedgerView.lines c.args.ledger.now in
-    let core = c.args.core.now in
-    let guide = c.args.guide.now in
-    let learned = c.in_ok-learned.learned in
-    let line = c.in_ok-line.line in
-    let t : IsTurn base lines core guide.awake guide.sleepers c.args.conflict learned line = record { ready = c.requires.ready; conflicts = c.requires.conflict; is = c.in_ok-learned.ensures.learned; named = c.in_ok-line.ensures.line } in
-    let some : 0 < length line.lits = let z = eqb-false (vec_len c.line.inside.lits) 0 (sym c.is_empty.ensures ∙ c.if-is_empty.false) in
-    positive (length line.lits) (λ e. z (omega (arith, e, ap (λ l. length l.lits) c.line.view_is))) in
-    turn_over base lines core guide.awake guide.sleepers c.args.conflict learned line t some (c.if-is_empty-2.ensures.none refl)
+pub wake-requires : goal.wake-requires
+wake-requires g c =
+    let guided = c.in_ok-line.ensures.guided in
+    let same = c.subset_of.ensures.same in
+    let found = c.in-Some.ensures.found in
+    record {
+      within = subst (λ s. c.in-Some.place < length s.clauses) (sym same) found.0;
+      asleep = ap (λ s. get_or s.asleep c.in-Some.place false) same ∙ found.1;
+      decider = guided.decider;
+      vars = ap (λ s. s.vars) same ∙ guided.sleepers;
+      listed = guided.listed;
+    }
 
-pub returns-in_err-anew-clause-written : goal.returns-in_err-anew-clause-written
-returns-in_err-anew-clause-written g c =
-    let base = g.L.LedgerView.base c.args.ledger.now in
-    let lines = g.L.LedgerView.lines c.args.ledger.now in
-    let core = c.args.core.now in
-    let guide = c.args.guide.now in
-    let learned = c.in_ok-learned.learned in
+pub returns-in_err-wake : goal.returns-in_err-wake
+returns-in_err-wake g c =
+    let fault = c.from_residual-in_err-wake in
+    record {
+      written = still_written (g.met.L.Ledger.moves_refl c.args.ledger.now c.args.store.now) c.requires.can.ready.written;
+      vars = c.wake.ensures.vars;
+      turned = IfOk-from_err fault.result _ fault.ensures.0;
+      cause = no_memory fault.result fault.ensures.1;
+    }
+
+pub returns-in-Some : goal.returns-in-Some
+returns-in-Some g c =
+    let V = g.L.LedgerView in
+    let old = c.args.ledger.now in
+    let can = c.requires.can in
+    let guide = c.line_of_conflict.new.guide in
+    let guided = c.in_ok-line.ensures.guided in
+    let woken = c.in_ok-wake.ensures in
+    let same : c.subset_of.new.self ≡ guide.sleepers = c.subset_of.ensures.same in
+    let few : sleeping c.subset_of.new.self ≡ sleeping guide.sleepers = ap (λ s. sleeping s) same in
+    record {
+      written = still_written (g.met.L.Ledger.moves_refl old c.args.store.now) can.ready.written;
+      vars = woken.vars;
+      turned = (
+        record {
+          ready = woken.ready _ _ (subst (IsReady (V.base old) (V.lines old) c.args.core.now guide.awake) (sym same) (c.in_ok-line.ensures.turn _ _ can.ready).ready);
+          guided = guided_more c.args.core.now _ _ guided.rested (woken.decider ∙ guided.decider) guided.probes woken.listed (woken.same ∙ ap (λ s. s.vars) same ∙ guided.sleepers) (omega (arith, woken.fewer, few, guided.few)) woken.vars;
+          agrees = can.agrees;
+        },
+        inr (refl, omega (arith, woken.fewer, few, ap (λ s. sleeping s) c.line_of_conflict.ensures.sleepers)),
+      );
+      cause = answered;
+    }
+
+pub learn-requires-clause-implied : goal.learn-requires-clause-implied
+learn-requires-clause-implied g c = turn_accepted (c.in_ok-line.ensures.turn _ _ c.requires.can.ready)
+
+pub learn-requires-clause-fresh : goal.learn-requires-clause-fresh
+learn-requires-clause-fresh g c =
     let line = c.in_ok-line.line in
-    let t : IsTurn base lines core guide.awake guide.sleepers c.args.conflict learned line = record { ready = c.requires.ready; conflicts = c.requires.conflict; is = c.in_ok-learned.ensures.learned; named = c.in_ok-line.ensures.line } in
-    turn_written base _ lines _ core guide.awake guide.sleepers c.args.conflict learned line t c.learn.ensures.base c.in_ok-learn.ensures.lines
+    let guide = c.line_of_conflict.new.guide in
+    let t = c.in_ok-line.ensures.turn _ _ c.requires.can.ready in
+    let some = not_empty line.lits c.is_empty.ensures c.if-is_empty.false (omega (arith, ap (λ l. length l.lits) c.line.view_is)) in
+    let eq : c.deref.result.now ≡ line.lits = c.deref.ensures.value ∙ ap (λ l. l.lits) c.line.view_is in
+    turn_fresh t some (none_by guide.sleepers line.lits (λ place w a sub. c.in_default.ensures.found place w a (λ o h. subst (λ xs. Contains xs o) (sym eq) (sub o h))))
+
+pub returns-in_err-learn : goal.returns-in_err-learn
+returns-in_err-learn g c =
+    let learned = c.learn.ensures in
+    let kept = c.in_err-learn.ensures.kept in
+    let fault = c.from_residual-in_err-learn in
+    record {
+      written = written_to (g.L.LedgerView.lines c.args.ledger.now) learned.moves learned.base learned.limit (omega (arith, kept.1)) kept.0 c.requires.can.ready.written;
+      vars = refl;
+      turned = IfOk-from_err fault.result _ fault.ensures.0;
+      cause = of_ledger fault.result c.in_err-learn.was fault.ensures.1 learned.cause;
+    }
+
+pub go_on-requires : goal.go_on-requires
+go_on-requires g c =
+    let core = c.args.core.now in
+    let line = c.in_ok-line.line in
+    let guide = c.line_of_conflict.new.guide in
+    let t = c.in_ok-line.ensures.turn _ _ c.requires.can.ready in
+    let some = not_empty line.lits c.is_empty.ensures c.if-is_empty.false (omega (arith, ap (λ l. length l.lits) c.line.view_is)) in
+    record {
+      formed = c.requires.conflict.formed;
+      backed = turn_backed t some;
+      above = turn_above t some;
+      guided = subst (λ s. IsGuided core (record guide { sleepers = s })) (sym c.subset_of.ensures.same) c.in_ok-line.ensures.guided;
+    }
+
+pub returns-in_err-anew : goal.returns-in_err-anew
+returns-in_err-anew g c =
+    let V = g.L.LedgerView in
+    let old = c.args.ledger.now in
+    let line = c.in_ok-line.line in
+    let t = c.in_ok-line.ensures.turn _ _ c.requires.can.ready in
+    let learned = c.learn.ensures in
+    let added = c.in_ok-learn.ensures in
+    let fault = c.from_residual-in_err-anew in
+    record {
+      written = written_to (V.lines old ++ line ∷ []) learned.moves learned.base learned.limit (omega (arith, added.spent)) added.lines (turn_written t);
+      vars = c.go_on.ensures.vars;
+      turned = IfOk-from_err fault.result _ fault.ensures.0;
+      cause = no_memory_after fault.result c.in_ok-learn.was fault.ensures.1 learned.cause;
+    }
+
+pub rest_if_due-requires : goal.rest_if_due-requires
+rest_if_due-requires g c =
+    let V = g.L.LedgerView in
+    let old = c.args.ledger.now in
+    let line = c.in_ok-line.line in
+    let guide = c.line_of_conflict.new.guide in
+    let t = c.in_ok-line.ensures.turn _ _ c.requires.can.ready in
+    let some = not_empty line.lits c.is_empty.ensures c.if-is_empty.false (omega (arith, ap (λ l. length l.lits) c.line.view_is)) in
+    let eq : c.deref.result.now ≡ line.lits = c.deref.ensures.value ∙ ap (λ l. l.lits) c.line.view_is in
+    let fresh = turn_fresh t some (none_by guide.sleepers line.lits (λ place w a sub. c.in_default.ensures.found place w a (λ o h. subst (λ xs. Contains xs o) (sym eq) (sub o h)))) in
+    let ready : IsReady (V.base old) (V.lines old) c.args.core.now guide.awake c.subset_of.new.self = subst (IsReady (V.base old) (V.lines old) c.args.core.now guide.awake) (sym c.subset_of.ensures.same) t.ready in
+    record {
+      can = record {
+        ready = ready_at V (V.lines old ++ line ∷ []) c.learn.ensures.base c.in_ok-learn.ensures.lines (c.in_ok-anew.ensures.ready (V.base old) (V.lines old) ready (turn_written t) fresh t.named.id);
+        guided = c.in_ok-anew.ensures.guided;
+        agrees = c.in_ok-learn.ensures.agrees;
+      };
+    }
+
+pub returns-in_err-rest_if_due : goal.returns-in_err-rest_if_due
+returns-in_err-rest_if_due g c =
+    let V = g.L.LedgerView in
+    let old = c.args.ledger.now in
+    let line = c.in_ok-line.line in
+    let t = c.in_ok-line.ensures.turn _ _ c.requires.can.ready in
+    let learned = c.learn.ensures in
+    let added = c.in_ok-learn.ensures in
+    let rested = c.rest_if_due.ensures in
+    let fault = c.from_residual-in_err-rest_if_due in
+    record {
+      written = written_then (g.met.L.Ledger.moves_trans _ _ _ _ _ _) (written_to (V.lines old ++ line ∷ []) learned.moves learned.base learned.limit (omega (arith, added.spent)) added.lines (turn_written t)) rested.written;
+      vars = rested.vars ∙ c.go_on.ensures.vars;
+      turned = IfOk-from_err fault.result _ fault.ensures.0;
+      cause = after (unmoved c.in_ok-learn.was learned.cause) (handed_on fault.result c.in_err-rest_if_due.was fault.ensures.1 rested.cause);
+    }
+
+pub returns : goal.returns
+returns g c =
+    let V = g.L.LedgerView in
+    let old = c.args.ledger.now in
+    let line = c.in_ok-line.line in
+    let t = c.in_ok-line.ensures.turn _ _ c.requires.can.ready in
+    let learned = c.learn.ensures in
+    let added = c.in_ok-learn.ensures in
+    let rested = c.rest_if_due.ensures in
+    record {
+      written = written_then (g.met.L.Ledger.moves_trans _ _ _ _ _ _) (written_to (V.lines old ++ line ∷ []) learned.moves learned.base learned.limit (omega (arith, added.spent)) added.lines (turn_written t)) rested.written;
+      vars = rested.vars ∙ c.go_on.ensures.vars;
+      turned = (c.in_ok-rest_if_due.ensures.can, inl (omega (arith, added.spent, rested.written.spent)));
+      cause = after (unmoved c.in_ok-learn.was learned.cause) (answered_after c.in_ok-rest_if_due.was rested.cause);
+    }

@@ -1,4 +1,4 @@
-use Rattle.std.proofs.Common.{[], ◌∷◌, ◌++◌, refl, ◌∙◌}
+use Rattle.std.proofs.Common.{refl, ◌∙◌}
 use Rattle.sat_core.proofs.Readiness.{IsGrown}
 use Rattle.sat_core.proofs.Turning.{grown_guided, grown_ready}
 use Rattle.sat_core.proofs.turn.go_on.Goals as goal

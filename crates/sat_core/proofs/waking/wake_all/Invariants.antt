@@ -1,8 +1,6 @@
-use Rattle.std.proofs.Common.{◌≡◌, ℕ, ◌<◌, false, List, length, get_or}
-use Rattle.cnf_formula.specs.Formulas.{FormulaValue}
-use Rattle.cnf_formula.specs.Lines.{ProofLineValue}
+use Rattle.std.proofs.Common.{◌≡◌, ℕ, ◌<◌, false, length, get_or}
 use Rattle.sleeping_clauses.specs.Naming.{IsListed}
-use Rattle.sat_core.specs.Ready.{IsReady}
+use Rattle.sat_core.specs.inner.Going.{StaysReady}
 use Rattle.sat_core.proofs.waking.wake_all.Given as goal
 
 abbrev pub invariant-loop-place : goal.invariant-loop-place
@@ -13,6 +11,6 @@ invariant-loop-place l = record {
   len : length l.sleepers.clauses ≡ length l.initial.sleepers.clauses;
   flags : length l.sleepers.asleep ≡ length l.initial.sleepers.asleep;
   listed : IsListed l.core.clauses l.awake;
-  ready : (base : FormulaValue) (lines : List ProofLineValue) → IsReady base lines l.initial.core l.initial.awake l.initial.sleepers → IsReady base lines l.core l.awake l.sleepers;
+  ready : StaysReady l.initial.core l.initial.awake l.initial.sleepers l.core l.awake l.sleepers;
   woken : (k : ℕ) → k < l.place → get_or l.sleepers.asleep k false ≡ false;
 }
