@@ -1,15 +1,10 @@
 -- An allreduce as a reducescatter and then an allgather (Cai et al., PPoPP 2021, allreduce). That a join keeps the chunk count is this project's own way of counting.
-use Rattle.std.specs.Prelude.{◌≡◌, ◌==◌, ℕ, ◌+◌, ◌≤◌, List, ◌++◌, length, map, filter, sum, All, Contains}
-use Rattle.std.specs.List.{flat_map}
-use Rattle.schedule.specs.declared.hop.Hop.{Hop}
-use Rattle.schedule.specs.Links.{TopologyValue}
-use Rattle.schedule.specs.Sends.{ScheduleValue}
-use Rattle.schedule.specs.JoinedRuns.{AllSummed}
+use Rattle.std.specs.{Prelude.{◌≡◌, ◌==◌, ℕ, ◌+◌, ◌≤◌, List, ◌++◌, length, map, filter, sum, All, Contains}, List.flat_map}
+use Rattle.schedule.specs.{declared.hop.Hop.Hop, Links.TopologyValue, Sends.ScheduleValue, JoinedRuns.AllSummed}
 use Rattle.collective_spec.specs.declared.kind.Kind.TheVariants as kind
 use Rattle.collective_spec.specs.Collectives.{chunks_of}
-use Rattle.candidate_order.specs.declared.candidate.Candidate.{Candidate}
+use Rattle.candidate_order.specs.{declared.candidate.Candidate.Candidate, Frontiers.PointValue}
 use Rattle.candidate_order.specs.declared.mark.Mark.TheVariants as mark
-use Rattle.candidate_order.specs.Frontiers.{PointValue}
 
 -- the point has the steps and the rounds of its schedule, and at most 8 steps
 pub record IsJoinable (p : PointValue) : Type 0 where

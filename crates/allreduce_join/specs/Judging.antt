@@ -1,13 +1,8 @@
 -- The verdict on a schedule whose first steps add and whose later ones copy (this project's own order).
 use Rattle.std.specs.Prelude.{ℕ, length}
-use Rattle.schedule.specs.Links.{TopologyValue}
-use Rattle.schedule.specs.Sends.{ScheduleValue}
-use Rattle.schedule.specs.Placed.{all_pairs}
-use Rattle.schedule.specs.Judging.{first_unlinked, first_overfull}
-use Rattle.schedule.specs.Bags.{Bags, contributions}
+use Rattle.schedule.specs.{Links.TopologyValue, Sends.ScheduleValue, Placed.all_pairs, Judging.{first_unlinked, first_overfull}, Bags.{Bags, contributions}}
 use Rattle.schedule.specs.JoinedRuns.{first_clash, joined_after}
-use Rattle.inversion.specs.declared.verdict.SumVerdict.{SumVerdict}
-use Rattle.inversion.specs.Judging.{first_uneven, sum_judged}
+use Rattle.inversion.specs.{declared.verdict.SumVerdict.SumVerdict, Judging.{first_uneven, sum_judged}}
 
 -- the bags after the last step
 abbrev pub joined_bags : TopologyValue → ScheduleValue → ℕ → Bags

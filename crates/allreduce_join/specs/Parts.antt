@@ -3,8 +3,7 @@ use Rattle.std.specs.Prelude.{ℕ}
 use Rattle.schedule.specs.Links.{TopologyValue}
 use Rattle.collective_spec.specs.declared.kind.Kind.TheVariants as kind
 use Rattle.collective_spec.specs.declared.spec.Spec.TheVariants as spec
-use Rattle.candidate_order.specs.Ranges.{LimitsValue}
-use Rattle.candidate_order.specs.Frontiers.{QuestionValue}
+use Rattle.candidate_order.specs.{Ranges.LimitsValue, Frontiers.QuestionValue}
 
 -- each sum at one node; the root counts for nothing
 abbrev pub reduce_part : ℕ → TopologyValue → LimitsValue → QuestionValue

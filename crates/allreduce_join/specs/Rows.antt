@@ -1,10 +1,8 @@
 -- The points of an allreduce on two nodes.
 use Rattle.std.specs.Prelude.{ℕ, [], ◌∷◌}
-use Rattle.schedule.specs.Sends.{ScheduleValue}
-use Rattle.schedule.specs.Rows.{plan, send, pair_allreduce}
-use Rattle.candidate_order.specs.declared.mark.Mark.{Mark}
+use Rattle.schedule.specs.{Sends.ScheduleValue, Rows.{plan, send, pair_allreduce}}
+use Rattle.candidate_order.specs.{declared.mark.Mark.Mark, Frontiers.PointValue}
 use Rattle.candidate_order.specs.declared.mark.Mark.TheVariants as mark
-use Rattle.candidate_order.specs.Frontiers.{PointValue}
 
 -- a point of so many steps, rounds and chunks
 abbrev pub point : ℕ → ℕ → ℕ → Mark → ScheduleValue → PointValue

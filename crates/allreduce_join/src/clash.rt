@@ -1,11 +1,7 @@
 //! Chunks that come to a node twice in a step that copies.
 
-ghost use Rattle.std.specs.Prelude.{◌≡◌, ◌<◌, find, nat_le, count_by, IfOk};
-ghost use Rattle.std.specs.List.{range_with_len};
-ghost use Rattle.schedule.specs.Placed.{all_pairs, holds, placed};
-ghost use Rattle.schedule.specs.Sends.{IsInRange};
-ghost use Rattle.schedule.specs.Summing.{goes_to};
-ghost use Rattle.schedule.specs.JoinedRuns.{first_clash, is_clash};
+ghost use Rattle.std.specs.{Prelude.{◌≡◌, ◌<◌, find, nat_le, count_by, IfOk}, List.range_with_len};
+ghost use Rattle.schedule.specs.{Placed.{all_pairs, holds, placed}, Sends.IsInRange, Summing.goes_to, JoinedRuns.{first_clash, is_clash}};
 
 use schedule::{OutOfMemory, Placement, Schedule};
 use std::alloc::Global;

@@ -1,15 +1,10 @@
 //! A reducescatter and then an allgather, as one schedule (Cai et al., PPoPP 2021, allreduce).
 
 ghost use Rattle.std.specs.Prelude.{◌≡◌, ◌+◌, ◌<◌, ◌≤◌, ◌++◌, ℕ, map, length, IfOk, OnOk};
-ghost use Rattle.schedule.specs.Links.{TopologyValue};
-ghost use Rattle.schedule.specs.Sends.{IsSchedule};
-ghost use Rattle.schedule.specs.Solving.{Tight};
-ghost use Rattle.schedule.specs.JoinedRuns.{AllSummed};
+ghost use Rattle.schedule.specs.{Links.TopologyValue, Sends.IsSchedule, Solving.Tight, JoinedRuns.AllSummed};
 ghost use Rattle.collective_spec.specs.Collectives.{chunks_of};
-ghost use Rattle.candidate_order.specs.Ranges.{LimitsValue};
-ghost use Rattle.candidate_order.specs.Frontiers.{IsSolvedBy, instance_for};
-ghost use Rattle.allreduce_join.specs.Joins.{IsJoinable, both_costs, join_of, later, one_after};
-ghost use Rattle.allreduce_join.specs.Parts.{gather_part, reduce_part};
+ghost use Rattle.candidate_order.specs.{Ranges.LimitsValue, Frontiers.{IsSolvedBy, instance_for}};
+ghost use Rattle.allreduce_join.specs.{Joins.{IsJoinable, both_costs, join_of, later, one_after}, Parts.{gather_part, reduce_part}};
 
 use candidate_order::{Candidate, Mark, Point};
 use collective_spec::Kind;

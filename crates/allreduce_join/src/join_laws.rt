@@ -1,19 +1,12 @@
 //! What makes a join sum everything everywhere.
 
 ghost use Rattle.std.specs.Prelude.{◌≡◌, ℕ, ◌+◌, ◌<◌, ◌≤◌, map, length, sum};
-ghost use Rattle.schedule.specs.Links.{TopologyValue, reversed_of};
-ghost use Rattle.schedule.specs.Placed.{PlacementValue};
-ghost use Rattle.schedule.specs.Sends.{ScheduleValue, IsSchedule, IsInRange};
-ghost use Rattle.schedule.specs.Solving.{Solves, Tight};
-ghost use Rattle.schedule.specs.Summing.{Sums};
-ghost use Rattle.schedule.specs.JoinedRuns.{AllSummed};
-ghost use Rattle.schedule.specs.Rows.{everywhere};
+ghost use Rattle.schedule.specs.{Links.{TopologyValue, reversed_of}, Placed.PlacementValue, Sends.{ScheduleValue, IsSchedule, IsInRange}, Summing.Sums};
+ghost use Rattle.schedule.specs.{Solving.{Solves, Tight}, JoinedRuns.AllSummed, Rows.everywhere};
 ghost use Rattle.collective_spec.specs.Collectives.{chunks_of};
-ghost use Rattle.candidate_order.specs.Ranges.{LimitsValue};
-ghost use Rattle.candidate_order.specs.Frontiers.{FrontierValue, IsSolvedBy, PointValue, RightFrontier, Searched, instance_for};
+ghost use Rattle.candidate_order.specs.{Ranges.LimitsValue, Frontiers.{FrontierValue, IsSolvedBy, PointValue, RightFrontier, Searched, instance_for}};
 ghost use Rattle.inversion.specs.Inverted.{inverted_frontier};
-ghost use Rattle.allreduce_join.specs.Joins.{Joins, join_of, one_after, pairs_of};
-ghost use Rattle.allreduce_join.specs.Parts.{gather_part, reduce_part};
+ghost use Rattle.allreduce_join.specs.{Joins.{Joins, join_of, one_after, pairs_of}, Parts.{gather_part, reduce_part}};
 
 use collective_spec::Kind;
 

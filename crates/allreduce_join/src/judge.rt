@@ -1,10 +1,7 @@
 //! The verdict on a schedule whose first steps add and whose later ones copy.
 
 ghost use Rattle.std.specs.Prelude.{◌≡◌, ◌↔◌, ℕ, IfOk, Option, unwrap_or};
-ghost use Rattle.schedule.specs.Bags.{Bags};
-ghost use Rattle.schedule.specs.Judging.{first_overfull, first_unlinked};
-ghost use Rattle.schedule.specs.Sends.{IsInRange, IsSchedule};
-ghost use Rattle.schedule.specs.JoinedRuns.{AllSummed, first_clash};
+ghost use Rattle.schedule.specs.{Bags.Bags, Judging.{first_overfull, first_unlinked}, Sends.{IsInRange, IsSchedule}, JoinedRuns.{AllSummed, first_clash}};
 ghost use Rattle.bag_runs.specs.Stores.{stored};
 ghost use Rattle.inversion.specs.Judging.{counts_judged, sum_judged};
 ghost use Rattle.allreduce_join.specs.Judging.{joined_bags, joined_verdict_of};

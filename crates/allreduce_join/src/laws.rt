@@ -1,12 +1,9 @@
 //! What joins are, and what the verdict on one says.
 
 ghost use Rattle.std.specs.Prelude.{◌≡◌, ◌↔◌, ℕ, List, Contains};
-ghost use Rattle.schedule.specs.Links.{TopologyValue};
-ghost use Rattle.schedule.specs.Sends.{ScheduleValue, IsSchedule, IsInRange};
-ghost use Rattle.schedule.specs.JoinedRuns.{AllSummed};
+ghost use Rattle.schedule.specs.{Links.TopologyValue, Sends.{ScheduleValue, IsSchedule, IsInRange}, JoinedRuns.AllSummed};
 ghost use Rattle.candidate_order.specs.Frontiers.{PointValue};
-ghost use Rattle.allreduce_join.specs.Joins.{IsJoinedPoint, Joins, join_of};
-ghost use Rattle.allreduce_join.specs.Judging.{joined_verdict_of};
+ghost use Rattle.allreduce_join.specs.{Joins.{IsJoinedPoint, Joins, join_of}, Judging.joined_verdict_of};
 
 use inversion::SumVerdict;
 

@@ -2,9 +2,7 @@
 
 ghost use Rattle.std.specs.Prelude.{◌≡◌, [], ◌∷◌};
 ghost use Rattle.schedule.specs.Rows.{line_of_2, plan, ring_of_4, met_from_both, pair_allreduce, send};
-ghost use Rattle.allreduce_join.specs.Joins.{Joins, join_of, pairs_of};
-ghost use Rattle.allreduce_join.specs.Judging.{joined_verdict_of};
-ghost use Rattle.allreduce_join.specs.Rows.{pair_gather, pair_joined, pair_reduce, point};
+ghost use Rattle.allreduce_join.specs.{Joins.{Joins, join_of, pairs_of}, Judging.joined_verdict_of, Rows.{pair_gather, pair_joined, pair_reduce, point}};
 
 use candidate_order::Mark;
 use inversion::SumVerdict;

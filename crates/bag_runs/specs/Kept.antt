@@ -1,6 +1,5 @@
 -- How bags are kept: with places for the counts of 16 nodes (this project's own).
-use Rattle.std.specs.Prelude.{◌≡◌, ℕ, ◌*◌, ◌≤◌, List, length, map, slice_index}
-use Rattle.std.specs.List.{AllByRecursion, range_with_len}
+use Rattle.std.specs.{Prelude.{◌≡◌, ℕ, ◌*◌, ◌≤◌, List, length, map, slice_index}, List.{AllByRecursion, range_with_len}}
 use Rattle.schedule.specs.Bags.{Bag}
 use Rattle.bag_runs.specs.Stores.{StoreValue, bags_in, stored}
 

@@ -1,7 +1,6 @@
 -- Stores: the bag of each chunk at each node, with counts held at 2, and what becomes of a bag where another arrives (this project's own).
 use Rattle.std.specs.Prelude.{ℕ, ◌+◌, ◌*◌, if◌then◌else◌, List, [], map, nat_le, slice_index_or, slice_set}
-use Rattle.schedule.specs.Placed.{all_pairs}
-use Rattle.schedule.specs.Bags.{Bag, Bags, added, held_at_2, is_empty}
+use Rattle.schedule.specs.{Placed.all_pairs, Bags.{Bag, Bags, added, held_at_2, is_empty}}
 use Rattle.bag_runs.specs.declared.mode.Mode.{Mode}
 use Rattle.bag_runs.specs.declared.mode.Mode.TheVariants as mode
 

@@ -1,7 +1,6 @@
 ghost use Rattle.std.specs.Prelude.{◌≡◌, ℕ, ◌+◌, ◌≤◌, ◌<◌, min, slice_index};
 ghost use Rattle.schedule.specs.Bags.{empty_bag, is_empty, one_of};
-ghost use Rattle.bag_runs.specs.Stores.{received, added_at_2};
-ghost use Rattle.bag_runs.specs.Kept.{IsHeld, counted};
+ghost use Rattle.bag_runs.specs.{Stores.{received, added_at_2}, Kept.{IsHeld, counted}};
 
 use crate::mode::Mode;
 use std::marker::Model;

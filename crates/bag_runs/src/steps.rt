@@ -1,9 +1,7 @@
 //! The stores of a schedule's run, step by step, and the last of them.
 
 ghost use Rattle.std.specs.Prelude.{◌≡◌, true, map, length, IfOk};
-ghost use Rattle.schedule.specs.Bags.{Bags};
-ghost use Rattle.schedule.specs.Sends.{IsInRange, is_hop_below};
-ghost use Rattle.schedule.specs.JoinedRuns.{joined_after, joined_run, joined_step};
+ghost use Rattle.schedule.specs.{Bags.Bags, Sends.{IsInRange, is_hop_below}, JoinedRuns.{joined_after, joined_run, joined_step}};
 ghost use Rattle.bag_runs.specs.Stores.{bag_in, received, stored, with_bag};
 
 use crate::OutOfMemory;

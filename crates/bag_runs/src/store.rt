@@ -1,8 +1,6 @@
-ghost use Rattle.std.specs.Prelude.{◌≡◌, ℕ, ◌<◌, ◌≤◌, ◌++◌, if◌then◌else◌, map, IfOk, OnOk};
-ghost use Rattle.std.specs.List.{range_with_len, AllByRecursion};
+ghost use Rattle.std.specs.{Prelude.{◌≡◌, ℕ, ◌<◌, ◌≤◌, ◌++◌, if◌then◌else◌, map, IfOk, OnOk}, List.{range_with_len, AllByRecursion}};
 ghost use Rattle.schedule.specs.Bags.{contributions, empty_bag, held_at_2, of_placement, one_of};
-ghost use Rattle.bag_runs.specs.Stores.{StoreValue, bag_in, received, stored, with_bag};
-ghost use Rattle.bag_runs.specs.Kept.{IsHeld, IsStore, counted};
+ghost use Rattle.bag_runs.specs.{Stores.{StoreValue, bag_in, received, stored, with_bag}, Kept.{IsHeld, IsStore, counted}};
 
 use crate::OutOfMemory;
 use crate::bag::Bag;
@@ -21,8 +19,7 @@ pub struct Store {
 
 impl Model for Store {
     ghost use Rattle.std.specs.Prelude.{map};
-    ghost use Rattle.bag_runs.specs.Stores.{StoreValue};
-    ghost use Rattle.bag_runs.specs.Kept.{IsFilled, counted};
+    ghost use Rattle.bag_runs.specs.{Stores.StoreValue, Kept.{IsFilled, counted}};
 
     ghost Value = { StoreValue };
 

@@ -1,13 +1,8 @@
 -- Files that a search began, and may not have ended.
 use Rattle.std.specs.Prelude.{◌≡◌, ◌⊎◌, ℕ, true, List, ◌++◌, Some}
-use Rattle.outer_ports.specs.declared.proof_name.FileKind.{FileKind}
-use Rattle.outer_ports.specs.declared.proof_name.FileKind.TheVariants.{Cnf}
-use Rattle.outer_ports.specs.declared.proof_name.ProofName.{ProofName}
-use Rattle.outer_ports.specs.Files.{Files}
-use Rattle.cnf_formula.specs.Formulas.{FormulaValue}
-use Rattle.cnf_formula.specs.declared.line.LratLine.{LratLine}
-use Rattle.proof_rules.specs.Held.{start_of}
-use Rattle.proof_rules.specs.Refuting.{all_accepted}
+use Rattle.outer_ports.specs.{declared.proof_name.{FileKind.{FileKind, TheVariants.Cnf}, ProofName.ProofName}, Files.Files}
+use Rattle.cnf_formula.specs.{Formulas.FormulaValue, declared.line.LratLine.LratLine}
+use Rattle.proof_rules.specs.{Held.start_of, Refuting.all_accepted}
 use Rattle.lrat_text.specs.Printing.{cnf_text, lrat_text}
 
 -- what a file may come to hold: the text of the formula, or the text of lines that are accepted in their turn

@@ -1,9 +1,6 @@
 -- The chunk counts of a search (Cai et al., PPoPP 2021, Pareto-optimal schedules).
-use Rattle.std.specs.Prelude.{ℕ, List, filter}
-use Rattle.std.specs.List.{range_with_len}
-use Rattle.collective_spec.specs.declared.kind.Kind.{Kind}
-use Rattle.collective_spec.specs.Kinds.{allows}
-use Rattle.collective_spec.specs.Collectives.{kind_in}
+use Rattle.std.specs.{Prelude.{ℕ, List, filter}, List.range_with_len}
+use Rattle.collective_spec.specs.{declared.kind.Kind.Kind, Kinds.allows, Collectives.kind_in}
 use Rattle.candidate_order.specs.Frontiers.{QuestionValue}
 
 -- the counts up to a greatest one that a kind allows on so many nodes

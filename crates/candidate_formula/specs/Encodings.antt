@@ -2,8 +2,7 @@
 use Rattle.std.specs.Prelude.{Bool, List, unwrap_or}
 use Rattle.schedule.specs.Sends.{ScheduleValue}
 use Rattle.cnf_formula.specs.Formulas.{FormulaValue}
-use Rattle.round_encoding.specs.declared.encoding.Encoding.{Encoding}
-use Rattle.round_encoding.specs.Decoding.{decoded}
+use Rattle.round_encoding.specs.{declared.encoding.Encoding.Encoding, Decoding.decoded}
 use Rattle.candidate_formula.specs.declared.encoding.Encoded.{Encoded}
 
 -- the formula that is searched: that with the clauses of the order, where there is one

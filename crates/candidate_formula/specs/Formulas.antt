@@ -1,15 +1,11 @@
 -- The formula of a candidate of a question, and what the question asks of schedules.
 use Rattle.std.specs.Prelude.{IsTrue, if◌then◌else◌}
-use Rattle.schedule.specs.Links.{TopologyValue, reversed_of}
-use Rattle.schedule.specs.Sends.{ScheduleValue}
-use Rattle.collective_spec.specs.declared.spec.Spec.{Spec}
-use Rattle.collective_spec.specs.Collectives.{spec_instance, adds_up}
-use Rattle.candidate_order.specs.declared.candidate.Candidate.{Candidate}
-use Rattle.candidate_order.specs.Frontiers.{QuestionValue, IsSolvedBy, instance_for}
+use Rattle.schedule.specs.{Links.{TopologyValue, reversed_of}, Sends.ScheduleValue}
+use Rattle.collective_spec.specs.{declared.spec.Spec.Spec, Collectives.{spec_instance, adds_up}}
+use Rattle.candidate_order.specs.{declared.candidate.Candidate.Candidate, Frontiers.{QuestionValue, IsSolvedBy, instance_for}}
 use Rattle.cnf_formula.specs.Formulas.{FormulaValue}
 use Rattle.round_encoding.specs.Rounding.{formula_of}
-use Rattle.chunk_order.specs.Alike.{Ordered}
-use Rattle.chunk_order.specs.Ordering.{ordered_formula_of}
+use Rattle.chunk_order.specs.{Alike.Ordered, Ordering.ordered_formula_of}
 
 -- the links turned round for a reduction, and else the links as they are
 abbrev pub searched_links : TopologyValue → Spec → TopologyValue

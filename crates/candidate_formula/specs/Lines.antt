@@ -1,10 +1,8 @@
 -- The lines that a whole file of proof lines says (LRAT: Cruz-Filipe et al. 2017).
 use Rattle.std.specs.Prelude.{ℕ, ◌+◌, List, [], ◌∷◌, Option, None, Some, Result, Ok}
-use Rattle.text_lines.specs.Text.{Row, rows_of}
-use Rattle.text_lines.specs.Check.{◌>>=◌}
+use Rattle.text_lines.specs.{Text.{Row, rows_of}, Check.◌>>=◌}
 use Rattle.cnf_formula.specs.declared.line.LratLine.{LratLine}
-use Rattle.lrat_text.specs.declared.fault.LratTextFault.{LratTextFault}
-use Rattle.lrat_text.specs.Reading.{row_says, size_of}
+use Rattle.lrat_text.specs.{declared.fault.LratTextFault.LratTextFault, Reading.{row_says, size_of}}
 
 -- a row that says nothing is passed over
 abbrev pub in_front : Option (Result LratLine LratTextFault) → Result (List LratLine) LratTextFault → Result (List LratLine) LratTextFault

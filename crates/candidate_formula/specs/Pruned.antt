@@ -1,8 +1,6 @@
 -- What a search leaves out, and which candidates have files of their own. This project's own.
-use Rattle.std.specs.Prelude.{◌≡◌, Bool, false}
-use Rattle.std.specs.Option.{is_some}
-use Rattle.candidate_order.specs.declared.candidate.Candidate.{Candidate}
-use Rattle.candidate_order.specs.Frontiers.{QuestionValue, FrontierValue, IsTried}
+use Rattle.std.specs.{Prelude.{◌≡◌, Bool, false}, Option.is_some}
+use Rattle.candidate_order.specs.{declared.candidate.Candidate.Candidate, Frontiers.{QuestionValue, FrontierValue, IsTried}}
 use Rattle.node_cuts.specs.Cutting.{sets_for, cut_in}
 use Rattle.candidate_formula.specs.Formulas.{searched_on}
 

@@ -1,12 +1,9 @@
 -- The lines that a whole file of proof lines says, or nothing where it is at fault (LRAT: Cruz-Filipe et al. 2017; the leniency is this
 -- project's own).
 use Rattle.std.specs.Prelude.{ℕ, ◌==◌, ◌&&◌, ◌||◌, not, Bool, true, if◌then◌else◌, List, [], ◌∷◌, length, drop, filter, slice_index, nat_le, nat_lt, Option, None, Some, option_map, ℤ, pos, neg_ℤ, bytes_eq, codes}
-use Rattle.std.specs.List.{slice_split}
-use Rattle.std.specs.Str.Parse.{digits_value}
+use Rattle.std.specs.{List.slice_split, Str.Parse.digits_value}
 use Rattle.text_lines.specs.Text.{Row, rows_of}
-use Rattle.cnf_formula.specs.Literals.{LitValue}
-use Rattle.cnf_formula.specs.declared.line.LratLine.{LratLine}
-use Rattle.cnf_formula.specs.declared.line.LratLine.TheVariants.{Addition, Deletion}
+use Rattle.cnf_formula.specs.{Literals.LitValue, declared.line.LratLine.{LratLine, TheVariants.{Addition, Deletion}}}
 use Rattle.lrat_text.specs.Tokens.{content, is_number}
 
 -- ---- words

@@ -1,12 +1,9 @@
 -- What is searched in place of a collective (Cai et al., PPoPP 2021, inversion).
 use Rattle.std.specs.Prelude.{if◌then◌else◌}
-use Rattle.schedule.specs.Sends.{ScheduleValue}
-use Rattle.schedule.specs.Inverse.{inverse_of}
-use Rattle.collective_spec.specs.declared.spec.Spec.{Spec}
-use Rattle.collective_spec.specs.Collectives.{adds_up}
+use Rattle.schedule.specs.{Sends.ScheduleValue, Inverse.inverse_of}
+use Rattle.collective_spec.specs.{declared.spec.Spec.Spec, Collectives.adds_up}
 use Rattle.candidate_order.specs.Frontiers.{QuestionValue}
-use Rattle.candidate_formula.specs.Formulas.{searched_links}
-use Rattle.candidate_formula.specs.Questions.{copying_question}
+use Rattle.candidate_formula.specs.{Formulas.searched_links, Questions.copying_question}
 
 -- over the links to search the collective itself, or that of which a reduction is the inverse, within the same limits
 abbrev pub searched_question : QuestionValue → QuestionValue

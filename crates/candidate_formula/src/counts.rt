@@ -1,7 +1,6 @@
 //! The chunk counts of a search.
 
-ghost use Rattle.std.specs.Prelude.{◌≡◌, ◌≤◌, ◌↔◌, ℕ, [], IsTrue, IfOk};
-ghost use Rattle.std.specs.List.Sorted.{IsStrictlyIncreasing};
+ghost use Rattle.std.specs.{Prelude.{◌≡◌, ◌≤◌, ◌↔◌, ℕ, [], IsTrue, IfOk}, List.Sorted.IsStrictlyIncreasing};
 ghost use Rattle.collective_spec.specs.Kinds.{allows};
 ghost use Rattle.candidate_order.specs.Listed.{AreAllowed};
 ghost use Rattle.candidate_formula.specs.Counts.{allowed_up_to};

@@ -2,8 +2,7 @@
 
 ghost use Rattle.std.specs.Prelude.{◌≡◌, ◌≢◌, true, false};
 ghost use Rattle.collective_spec.specs.Collectives.{adds_up, kind_in};
-ghost use Rattle.candidate_order.specs.Copied.{copied_question};
-ghost use Rattle.candidate_order.specs.Frontiers.{QuestionValue, IsSolvable};
+ghost use Rattle.candidate_order.specs.{Copied.copied_question, Frontiers.{QuestionValue, IsSolvable}};
 ghost use Rattle.node_cuts.specs.Cutting.{is_cut, sets_for};
 ghost use Rattle.candidate_formula.specs.Pruned.{is_cut_away};
 

@@ -3,15 +3,10 @@
 ghost use Rattle.std.specs.Prelude.{◌≡◌, ◌↔◌, ℕ, Bool, List, IfOk, unwrap_or, if◌then◌else◌};
 ghost use Rattle.schedule.specs.Links.{TopologyValue};
 ghost use Rattle.cnf_formula.specs.Formulas.{Satisfies, Satisfiable};
-ghost use Rattle.candidate_order.specs.Ranges.{LimitsValue};
-ghost use Rattle.candidate_order.specs.Frontiers.{IsSolvable, instance_for};
-ghost use Rattle.round_encoding.specs.Candidates.{IsEncodingOf};
-ghost use Rattle.round_encoding.specs.Rounding.{formula_of};
-ghost use Rattle.chunk_order.specs.Ordering.{ordered_formula_of};
-ghost use Rattle.chunk_order.specs.Solutions.{IsEncodingFor};
-ghost use Rattle.candidate_formula.specs.Encodings.{formula_in, schedule_said};
-ghost use Rattle.candidate_formula.specs.Formulas.{formula_for, Suits};
-ghost use Rattle.candidate_formula.specs.Questions.{IsSought, copying_question};
+ghost use Rattle.candidate_order.specs.{Ranges.LimitsValue, Frontiers.{IsSolvable, instance_for}};
+ghost use Rattle.round_encoding.specs.{Candidates.IsEncodingOf, Rounding.formula_of};
+ghost use Rattle.chunk_order.specs.{Ordering.ordered_formula_of, Solutions.IsEncodingFor};
+ghost use Rattle.candidate_formula.specs.{Encodings.{formula_in, schedule_said}, Formulas.{formula_for, Suits}, Questions.{IsSought, copying_question}};
 
 use crate::OutOfMemory;
 use candidate_order::{Candidate, Pruning};

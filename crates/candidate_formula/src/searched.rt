@@ -1,11 +1,9 @@
 //! The links over which a collective is searched.
 
-ghost use Rattle.std.specs.Prelude.{◌≡◌, false, IfOk, IsOk};
-ghost use Rattle.std.specs.Cow.{cow_value};
+ghost use Rattle.std.specs.{Prelude.{◌≡◌, false, IfOk, IsOk}, Cow.cow_value};
 ghost use Rattle.collective_spec.specs.Collectives.{adds_up};
 ghost use Rattle.candidate_order.specs.Ranges.{LimitsValue};
-ghost use Rattle.candidate_formula.specs.Formulas.{searched_links};
-ghost use Rattle.candidate_formula.specs.Sizes.{size_of};
+ghost use Rattle.candidate_formula.specs.{Formulas.searched_links, Sizes.size_of};
 
 use crate::OutOfMemory;
 use collective_spec::Spec;

@@ -3,9 +3,7 @@
 ghost use Rattle.std.specs.Prelude.{◌≡◌, true, false, [], ◌∷◌};
 ghost use Rattle.schedule.specs.Rows.{line_of_3};
 ghost use Rattle.candidate_order.specs.Ranges.{unpruned};
-ghost use Rattle.candidate_formula.specs.Counts.{allowed_up_to};
-ghost use Rattle.candidate_formula.specs.Pruned.{is_cut_away};
-ghost use Rattle.candidate_formula.specs.Sizes.{size_of};
+ghost use Rattle.candidate_formula.specs.{Counts.allowed_up_to, Pruned.is_cut_away, Sizes.size_of};
 
 use collective_spec::{Kind, Spec};
 

@@ -1,8 +1,6 @@
 -- A reduction as a question of copying over the links turned round (Cai et al., PPoPP 2021, inversion).
 use Rattle.schedule.specs.Links.{reversed_of}
-use Rattle.collective_spec.specs.declared.kind.Kind.{Kind}
-use Rattle.collective_spec.specs.declared.kind.Kind.TheVariants.{Broadcast, Allgather, Reduce, Reducescatter}
-use Rattle.collective_spec.specs.declared.spec.Spec.{Spec}
+use Rattle.collective_spec.specs.declared.{kind.Kind.{Kind, TheVariants.{Broadcast, Allgather, Reduce, Reducescatter}}, spec.Spec.Spec}
 use Rattle.collective_spec.specs.declared.spec.Spec.TheVariants as spec
 use Rattle.candidate_order.specs.Frontiers.{QuestionValue}
 

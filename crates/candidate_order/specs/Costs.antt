@@ -1,7 +1,5 @@
 -- Costs of candidates (Cai et al., PPoPP 2021, latency and bandwidth): steps, and rounds for each chunk, compared as whole numbers.
-use Rattle.std.specs.Prelude.{◌≡◌, ◌*◌, ◌<◌, ◌≤◌, ◌⊎◌}
-use Rattle.std.specs.Ordering.{nat_cmp, ordering_then}
-use Rattle.std.specs.declared.cmp.Ordering.{Ordering}
+use Rattle.std.specs.{Prelude.{◌≡◌, ◌*◌, ◌<◌, ◌≤◌, ◌⊎◌}, Ordering.{nat_cmp, ordering_then}, declared.cmp.Ordering.Ordering}
 use Rattle.candidate_order.specs.declared.candidate.Candidate.{Candidate}
 
 -- a costs no more steps than b, and no more rounds for each chunk

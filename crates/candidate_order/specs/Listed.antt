@@ -1,9 +1,7 @@
 -- Which candidates a search tries (Cai et al., PPoPP 2021, k-synchronous schedules).
 use Rattle.std.specs.Prelude.{◌≡◌, ℕ, ◌+◌, ◌≤◌, ◌↔◌, List, Contains, IsTrue}
-use Rattle.candidate_order.specs.declared.candidate.Candidate.{Candidate}
-use Rattle.candidate_order.specs.Ranges.{LimitsValue}
-use Rattle.collective_spec.specs.declared.kind.Kind.{Kind}
-use Rattle.collective_spec.specs.Kinds.{allows}
+use Rattle.candidate_order.specs.{declared.candidate.Candidate.Candidate, Ranges.LimitsValue}
+use Rattle.collective_spec.specs.{declared.kind.Kind.Kind, Kinds.allows}
 
 -- the candidate is within the limits, for a collective of that kind on so many nodes
 pub record Within (limits : LimitsValue) (kind : Kind) (nodes : ℕ) (x : Candidate) : Type 0 where

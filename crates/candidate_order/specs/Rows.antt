@@ -1,13 +1,8 @@
 -- Small questions, whose answers are known.
 use Rattle.std.specs.Prelude.{ℕ, [], ◌∷◌}
-use Rattle.schedule.specs.Links.{TopologyValue}
-use Rattle.schedule.specs.Sends.{ScheduleValue}
-use Rattle.schedule.specs.Placed.{PlacementValue}
-use Rattle.collective_spec.specs.declared.kind.Kind.{Kind}
-use Rattle.collective_spec.specs.declared.spec.Spec.TheVariants.{Standard, Custom}
-use Rattle.candidate_order.specs.declared.candidate.Candidate.{Candidate}
-use Rattle.candidate_order.specs.declared.mark.Mark.TheVariants.{Optimal}
-use Rattle.candidate_order.specs.Ranges.{LimitsValue, unpruned}
+use Rattle.schedule.specs.{Links.TopologyValue, Sends.ScheduleValue, Placed.PlacementValue}
+use Rattle.collective_spec.specs.declared.{kind.Kind.Kind, spec.Spec.TheVariants.{Standard, Custom}}
+use Rattle.candidate_order.specs.{declared.{candidate.Candidate.Candidate, mark.Mark.TheVariants.Optimal}, Ranges.{LimitsValue, unpruned}}
 use Rattle.candidate_order.specs.Frontiers.{QuestionValue, FrontierValue}
 
 -- no extra rounds, one step, one chunk, a thousand conflicts

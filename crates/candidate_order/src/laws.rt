@@ -1,6 +1,5 @@
 ghost use Rattle.std.specs.Prelude.{◌≡◌, ◌≤◌, ◌⊎◌, ◌↔◌};
-ghost use Rattle.candidate_order.specs.Costs.{NoWorse, Better, Before};
-ghost use Rattle.candidate_order.specs.Listed.{Within, IsListed, AreAllowed};
+ghost use Rattle.candidate_order.specs.{Costs.{NoWorse, Better, Before}, Listed.{Within, IsListed, AreAllowed}};
 
 use crate::candidate::Candidate;
 use crate::limits::Limits;

@@ -1,9 +1,6 @@
-ghost use Rattle.std.specs.Prelude.{◌≡◌, ◌+◌, ◌<◌, ◌≤◌, ◌↔◌, map, All, AllPairs, Contains, IfOk};
-ghost use Rattle.std.specs.List.{range_with_len};
-ghost use Rattle.std.specs.List.Sorted.{IsStrictlyIncreasing};
+ghost use Rattle.std.specs.{Prelude.{◌≡◌, ◌+◌, ◌<◌, ◌≤◌, ◌↔◌, map, All, AllPairs, Contains, IfOk}, List.{range_with_len, Sorted.IsStrictlyIncreasing}};
 ghost use Rattle.itertools.specs.Product.{rows};
-ghost use Rattle.candidate_order.specs.Costs.{Before};
-ghost use Rattle.candidate_order.specs.Listed.{IsListed, IsCount, candidate_at};
+ghost use Rattle.candidate_order.specs.{Costs.Before, Listed.{IsListed, IsCount, candidate_at}};
 
 use crate::OutOfMemory;
 use crate::candidate::Candidate;

@@ -1,5 +1,4 @@
-ghost use Rattle.std.specs.Prelude.{◌≡◌, ◌*◌, ◌↔◌, IsTrue};
-ghost use Rattle.std.specs.Ordering.{nat_cmp};
+ghost use Rattle.std.specs.{Prelude.{◌≡◌, ◌*◌, ◌↔◌, IsTrue}, Ordering.nat_cmp};
 ghost use Rattle.candidate_order.specs.Costs.{NoWorse, Better, Before, search_cmp};
 
 use crate::candidate::Candidate;

@@ -1,10 +1,8 @@
 //! Laws of counting.
 
 ghost use Rattle.std.specs.Prelude.{◌≡◌, ◌+◌, ◌*◌, ℕ, ◌<◌, ◌≤◌, Bool, List, length, All, Decides};
-ghost use Rattle.cnf_formula.specs.Literals.{LitValue, all_hold};
-ghost use Rattle.cnf_formula.specs.Formulas.{IsAbout};
-ghost use Rattle.cardinality.specs.Counting.{IsCounter, true_inputs, at_most_one_of};
-ghost use Rattle.cardinality.specs.Totalizers.{totalizer_of};
+ghost use Rattle.cnf_formula.specs.{Literals.{LitValue, all_hold}, Formulas.IsAbout};
+ghost use Rattle.cardinality.specs.{Counting.{IsCounter, true_inputs, at_most_one_of}, Totalizers.totalizer_of};
 
 /// The clauses of pairs hold exactly where at most one of the inputs is true.
 #[tactic(auto, using(crate::proofs::Pairs::pairs_decide))]

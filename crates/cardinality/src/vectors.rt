@@ -2,8 +2,7 @@
 
 ghost use Rattle.std.specs.Prelude.{◌≡◌, [], ◌∷◌};
 ghost use Rattle.cnf_formula.specs.Literals.{yes, no};
-ghost use Rattle.cardinality.specs.Counting.{at_most_one_of};
-ghost use Rattle.cardinality.specs.Totalizers.{totalizer_of};
+ghost use Rattle.cardinality.specs.{Counting.at_most_one_of, Totalizers.totalizer_of};
 
 /// A clause for each pair of three literals.
 pub fn pairs_of_three()

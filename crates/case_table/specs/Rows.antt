@@ -1,7 +1,5 @@
 -- Tables of words and their numbers: lists of pairs of a word's bytes and its number. This project's own.
-use Rattle.std.specs.Prelude.{◌==◌, ◌&&◌, ℕ, Bool, true, not, List, [], ◌∷◌, Option, map, find, bytes_eq}
-use Rattle.std.specs.List.{list_any}
-use Rattle.std.specs.Option.{option_map}
+use Rattle.std.specs.{Prelude.{◌==◌, ◌&&◌, ℕ, Bool, true, not, List, [], ◌∷◌, Option, map, find, bytes_eq}, List.list_any, Option.option_map}
 
 -- no two elements are the same
 abbrev pub all_differ : {K : Type 0} → (K → K → Bool) → List K → Bool

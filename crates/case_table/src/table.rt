@@ -1,9 +1,7 @@
 //! A table, and its two look-ups.
 
-ghost use Rattle.std.specs.Prelude.{◌≡◌, ◌≢◌, ◌==◌, IsTrue, IfSome, IfNone, Some, All, Contains, bytes_eq, find};
-ghost use Rattle.std.specs.Option.{option_copied, option_map};
-ghost use Rattle.case_table.specs.Rows.{is_one_to_one, value_at, word_at};
-ghost use Rattle.case_table.specs.Shown.{entries};
+ghost use Rattle.std.specs.{Prelude.{◌≡◌, ◌≢◌, ◌==◌, IsTrue, IfSome, IfNone, Some, All, Contains, bytes_eq, find}, Option.{option_copied, option_map}};
+ghost use Rattle.case_table.specs.{Rows.{is_one_to_one, value_at, word_at}, Shown.entries};
 
 use crate::row::Row;
 use std::marker::Model;
@@ -16,8 +14,7 @@ pub struct Table {
 
 impl Model for Table {
     ghost use Rattle.std.specs.Prelude.{ℕ, List, IsTrue};
-    ghost use Rattle.case_table.specs.Rows.{is_one_to_one};
-    ghost use Rattle.case_table.specs.Shown.{entries};
+    ghost use Rattle.case_table.specs.{Rows.is_one_to_one, Shown.entries};
 
     ghost Value = { List (List ℕ × ℕ) };
 

@@ -1,10 +1,7 @@
 -- The clauses that put chunks that are alike in order, and the formula of a candidate with them. This project's own.
-use Rattle.std.specs.Prelude.{ℕ, not, Bool, if◌then◌else◌, List, [], ◌∷◌, map, filter, flat_map, Option, None, Some}
-use Rattle.std.specs.List.{list_any, range_with_len}
-use Rattle.schedule.specs.Links.{TopologyValue}
-use Rattle.schedule.specs.Placed.{PlacementValue}
-use Rattle.cnf_formula.specs.Literals.{LitValue, negation}
-use Rattle.cnf_formula.specs.Formulas.{FormulaValue, with_clauses}
+use Rattle.std.specs.{Prelude.{ℕ, not, Bool, if◌then◌else◌, List, [], ◌∷◌, map, filter, flat_map, Option, None, Some}, List.{list_any, range_with_len}}
+use Rattle.schedule.specs.{Links.TopologyValue, Placed.PlacementValue}
+use Rattle.cnf_formula.specs.{Literals.{LitValue, negation}, Formulas.{FormulaValue, with_clauses}}
 use Rattle.send_encoding.specs.Variables.{SendMapValue, map_of, steps_of, arrival}
 use Rattle.round_encoding.specs.Rounding.{formula_of}
 use Rattle.chunk_order.specs.Alike.{is_alike, watch_node}

@@ -1,10 +1,7 @@
 -- Schedules that solve a candidate, waste no send and are ordered, and what encodes a candidate. This project's own.
 use Rattle.std.specs.Prelude.{ℕ}
-use Rattle.schedule.specs.Links.{TopologyValue}
-use Rattle.schedule.specs.Placed.{PlacementValue}
-use Rattle.schedule.specs.Sends.{ScheduleValue}
-use Rattle.round_encoding.specs.declared.encoding.Encoding.{Encoding}
-use Rattle.round_encoding.specs.Candidates.{IsEncodingOf, IsTightSolution}
+use Rattle.schedule.specs.{Links.TopologyValue, Placed.PlacementValue, Sends.ScheduleValue}
+use Rattle.round_encoding.specs.{declared.encoding.Encoding.Encoding, Candidates.{IsEncodingOf, IsTightSolution}}
 use Rattle.chunk_order.specs.Alike.{Ordered}
 
 -- the schedule is one

@@ -1,8 +1,7 @@
 //! Chunks that are alike.
 
 ghost use Rattle.std.specs.Prelude.{◌≡◌, ◌<◌, All, IfOk, IfSome};
-ghost use Rattle.chunk_order.specs.Alike.{stand_alike, is_alike, watch_node};
-ghost use Rattle.chunk_order.specs.Ordering.{is_least, class_of};
+ghost use Rattle.chunk_order.specs.{Alike.{stand_alike, is_alike, watch_node}, Ordering.{is_least, class_of}};
 
 use crate::OutOfMemory;
 use collective_spec::Instance;

@@ -1,19 +1,11 @@
 //! Ordered schedules suffice, and the clauses of the order say them.
 
 ghost use Rattle.std.specs.Prelude.{◌≡◌, ◌↔◌, ◌<◌, ℕ, Bool, true, List};
-ghost use Rattle.schedule.specs.Links.{TopologyValue};
-ghost use Rattle.schedule.specs.Placed.{PlacementValue, holds};
-ghost use Rattle.schedule.specs.Sends.{ScheduleValue, IsSchedule, IsInRange};
-ghost use Rattle.schedule.specs.Solving.{Solvable, Solves};
+ghost use Rattle.schedule.specs.{Links.TopologyValue, Placed.{PlacementValue, holds}, Sends.{ScheduleValue, IsSchedule, IsInRange}, Solving.{Solvable, Solves}};
 ghost use Rattle.cnf_formula.specs.Formulas.{Satisfies, Satisfiable};
-ghost use Rattle.send_encoding.specs.Variables.{map_of};
-ghost use Rattle.send_encoding.specs.Agreeing.{SatisfiesAs};
-ghost use Rattle.round_encoding.specs.Frames.{frame_of};
-ghost use Rattle.round_encoding.specs.Decoding.{decoded};
-ghost use Rattle.round_encoding.specs.Candidates.{IsCandidate};
-ghost use Rattle.chunk_order.specs.Alike.{Ordered, is_alike, watch_node};
-ghost use Rattle.chunk_order.specs.Ordering.{ordered_formula_of};
-ghost use Rattle.chunk_order.specs.Solutions.{IsOrderedSolution, HasOrderedSolution};
+ghost use Rattle.send_encoding.specs.{Variables.map_of, Agreeing.SatisfiesAs};
+ghost use Rattle.round_encoding.specs.{Frames.frame_of, Decoding.decoded, Candidates.IsCandidate};
+ghost use Rattle.chunk_order.specs.{Alike.{Ordered, is_alike, watch_node}, Ordering.ordered_formula_of, Solutions.{IsOrderedSolution, HasOrderedSolution}};
 
 /// Two chunks are alike exactly where they are at the same nodes before, and have to be at the same
 /// nodes after.

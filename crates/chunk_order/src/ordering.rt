@@ -1,15 +1,11 @@
 //! The clauses that put chunks that are alike in order.
 
 ghost use Rattle.std.specs.Prelude.{◌≡◌, ◌<◌, ◌≤◌, ◌+◌, ◌∷◌, ◌↔◌, [], ℕ, Some, All, IfOk, OnOk};
-ghost use Rattle.schedule.specs.Links.{TopologyValue};
-ghost use Rattle.schedule.specs.Sends.{IsStep};
-ghost use Rattle.schedule.specs.Solving.{Solvable};
-ghost use Rattle.cnf_formula.specs.Literals.{negation};
-ghost use Rattle.cnf_formula.specs.Formulas.{Satisfiable, with_clauses};
+ghost use Rattle.schedule.specs.{Links.TopologyValue, Sends.IsStep, Solving.Solvable};
+ghost use Rattle.cnf_formula.specs.{Literals.negation, Formulas.{Satisfiable, with_clauses}};
 ghost use Rattle.send_encoding.specs.Variables.{arrival, arrivals, sends};
 ghost use Rattle.round_encoding.specs.Candidates.{IsEncodingOf};
-ghost use Rattle.chunk_order.specs.Ordering.{class_in_order, leads_in_order, order_clauses, ordered_formula_of, pair_in_order};
-ghost use Rattle.chunk_order.specs.Solutions.{IsEncodingFor};
+ghost use Rattle.chunk_order.specs.{Ordering.{class_in_order, leads_in_order, order_clauses, ordered_formula_of, pair_in_order}, Solutions.IsEncodingFor};
 
 use crate::OutOfMemory;
 use crate::alike::{class_of, is_least, watch_node};

@@ -1,17 +1,12 @@
 //! What the definitions give on small instances.
 
 ghost use Rattle.std.specs.Prelude.{◌≡◌, true, Some, None, [], ◌∷◌};
-ghost use Rattle.schedule.specs.Rows.{line_of_2, line_of_3, at_root, everywhere};
+ghost use Rattle.schedule.specs.{Rows.{line_of_2, line_of_3, at_root, everywhere}, Judging.verdict_of};
 ghost use Rattle.schedule.specs.declared.verdict.Verdict.TheVariants as verdict;
-ghost use Rattle.schedule.specs.Judging.{verdict_of};
 ghost use Rattle.cnf_formula.specs.Literals.{yes, no};
 ghost use Rattle.send_encoding.specs.Variables.{map_of};
-ghost use Rattle.collective_spec.specs.declared.kind.Kind.{Kind};
-ghost use Rattle.collective_spec.specs.Collectives.{instance_of};
-ghost use Rattle.collective_spec.specs.Patterns.{copied};
-ghost use Rattle.collective_spec.specs.Rows.{instance_on_three, two_given};
-ghost use Rattle.chunk_order.specs.Alike.{Ordered, is_alike, watch_node};
-ghost use Rattle.chunk_order.specs.Ordering.{class_of, leaders, next_pairs, order_clauses};
+ghost use Rattle.collective_spec.specs.{declared.kind.Kind.Kind, Collectives.instance_of, Patterns.copied, Rows.{instance_on_three, two_given}};
+ghost use Rattle.chunk_order.specs.{Alike.{Ordered, is_alike, watch_node}, Ordering.{class_of, leaders, next_pairs, order_clauses}};
 ghost use Rattle.chunk_order.specs.Rows.{in_turn, out_of_turn};
 
 /// All chunks of a broadcast are alike, and node 1 is the first to get them.

@@ -18,8 +18,7 @@ pub struct ClauseList {
 
 impl Model for ClauseList {
     ghost use Rattle.std.specs.Prelude.{List, length};
-    ghost use Rattle.cnf_formula.specs.Literals.{LitValue};
-    ghost use Rattle.cnf_formula.specs.inner.Lying.{cut, AreEnds};
+    ghost use Rattle.cnf_formula.specs.{Literals.LitValue, inner.Lying.{cut, AreEnds}};
 
     ghost Value = { List (List LitValue) };
 

@@ -1,6 +1,5 @@
 ghost use Rattle.std.specs.Prelude.{◌≡◌, ◌+◌, ◌<◌, [], ◌∷◌, length, OnOk, OnErr, Decides};
-ghost use Rattle.cnf_formula.specs.Literals.{all_hold};
-ghost use Rattle.cnf_formula.specs.Formulas.{FormulaValue, IsFormula, IsClause, Satisfies, with_clauses};
+ghost use Rattle.cnf_formula.specs.{Literals.all_hold, Formulas.{FormulaValue, IsFormula, IsClause, Satisfies, with_clauses}};
 
 use crate::OutOfMemory;
 use crate::assignment::Assignment;

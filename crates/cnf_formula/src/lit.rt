@@ -12,9 +12,7 @@ pub struct Lit {
 }
 
 impl Model for Lit {
-    ghost use Rattle.std.specs.Prelude.{◌≡◌, ℕ, ◌+◌, ◌*◌, ◌/◌, ◌%◌, ◌<◌, nat_eq};
-    ghost use Rattle.std.proofs.Common.{arith};
-    ghost use Rattle.std.proofs.lemmas.Nat.{div-add-mod', mod_below};
+    ghost use Rattle.std.{specs.Prelude.{◌≡◌, ℕ, ◌+◌, ◌*◌, ◌/◌, ◌%◌, ◌<◌, nat_eq}, proofs.{Common.arith, lemmas.Nat.{div-add-mod', mod_below}}};
     ghost use Rattle.std.proofs.lemmas.Bool.{cond_both, eqb-true, eqb-false};
     ghost use Rattle.cnf_formula.specs.Literals.{LitValue, IsLit, code_of, literal_of};
 

@@ -1,13 +1,8 @@
 -- How many chunks there are in all: some, few, and no fewer where the chunk count is greater.
-use Rattle.std.proofs.Common.{◌≡◌, ℕ, ◌<◌, ◌≤◌, false, arith}
-use Rattle.std.proofs.Math.Nat.{mul-pos, mul-le-mul_left}
-use Rattle.std.proofs.lemmas.Nat.{mul-le}
-use Rattle.collective_spec.specs.declared.kind.Kind.{Kind}
+use Rattle.std.proofs.{Common.{◌≡◌, ℕ, ◌<◌, ◌≤◌, false, arith}, Math.Nat.{mul-pos, mul-le-mul_left}, lemmas.Nat.mul-le}
+use Rattle.collective_spec.specs.{declared.{kind.Kind.Kind, spec.Spec.Spec}, Kinds.is_custom, Collectives.{IsSpec, chunks_of, chunks_in}}
 use Rattle.collective_spec.specs.declared.kind.Kind.TheVariants as kind
-use Rattle.collective_spec.specs.declared.spec.Spec.{Spec}
 use Rattle.collective_spec.specs.declared.spec.Spec.TheVariants as spec
-use Rattle.collective_spec.specs.Kinds.{is_custom}
-use Rattle.collective_spec.specs.Collectives.{IsSpec, chunks_of, chunks_in}
 
 standard_some : (k : Kind) (nodes c : ℕ) → is_custom k ≡ false → 0 < nodes → 0 < c → 0 < chunks_of k nodes c
 standard_some kind.Broadcast nodes c standard some one = one

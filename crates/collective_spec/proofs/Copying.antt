@@ -1,9 +1,6 @@
 -- What the copies of a placement hold.
-use Rattle.std.proofs.Common.{◌≡◌, ℕ, ◌+◌, ◌*◌, ◌<◌, ap, sym, ◌∙◌}
-use Rattle.std.proofs.Math.Nat.{mod-eq_of_lt, mul-one}
-use Rattle.std.proofs.lemmas.Nat.{mod-mul-add, mul-add-lt}
-use Rattle.schedule.specs.Placed.{PlacementValue, IsPlacement, holds, placed}
-use Rattle.schedule.proofs.Placing.{placed-alike, holds-placed}
+use Rattle.std.proofs.{Common.{◌≡◌, ℕ, ◌+◌, ◌*◌, ◌<◌, ap, sym, ◌∙◌}, Math.Nat.{mod-eq_of_lt, mul-one}, lemmas.Nat.{mod-mul-add, mul-add-lt}}
+use Rattle.schedule.{specs.Placed.{PlacementValue, IsPlacement, holds, placed}, proofs.Placing.{placed-alike, holds-placed}}
 use Rattle.collective_spec.specs.Patterns.{in_copies, copied}
 
 pub copies_stand : (base c nodes : ℕ) (p : PlacementValue) (copy chunk node : ℕ) → chunk < base → copy < c → node < nodes → holds (copied base c nodes p) (copy * base + chunk, node) ≡ holds p (chunk, node)

@@ -1,6 +1,5 @@
 -- The pairs that pass a test are placed one by one: a chunk's nodes one after another, and the chunks one after another.
-use Rattle.std.proofs.Common.{◌≡◌, ℕ, ◌+◌, ◌<◌, ◌≤◌, Bool, true, false, ◌||◌, ◌&&◌, ◌==◌, nat_lt, refl, sym, ap, ◌∙◌, arith}
-use Rattle.std.proofs.lemmas.Bool.Decides.{nat_tests}
+use Rattle.std.proofs.{Common.{◌≡◌, ℕ, ◌+◌, ◌<◌, ◌≤◌, Bool, true, false, ◌||◌, ◌&&◌, ◌==◌, nat_lt, refl, sym, ap, ◌∙◌, arith}, lemmas.Bool.Decides.nat_tests}
 use Rattle.schedule.specs.Placed.{PlacementValue, same_pair, holds, placed, IsPlacement, empty_placement, with_pair}
 use Rattle.schedule.proofs.Placing.{placed-alike, placed-none, holds-placed, placement-placed}
 use Rattle.collective_spec.specs.Layouts.{with_row}

@@ -1,16 +1,11 @@
 -- What is asked for, whether it is a collective of the table or a pattern.
-use Rattle.std.proofs.Common.{◌≡◌, ℕ, ◌<◌, Bool, true, Option, None, Some, IfSome, refl}
-use Rattle.std.proofs.lemmas.Bool.{not-true}
-use Rattle.schedule.specs.Placed.{placed}
-use Rattle.schedule.proofs.Placing.{placement-placed}
-use Rattle.collective_spec.specs.declared.kind.Kind.{Kind}
-use Rattle.collective_spec.specs.declared.kind.Kind.TheVariants as kind
-use Rattle.collective_spec.specs.declared.collective.Collective.{Collective}
-use Rattle.collective_spec.specs.declared.spec.Spec.{Spec}
-use Rattle.collective_spec.specs.declared.spec.Spec.TheVariants as spec
-use Rattle.collective_spec.specs.Kinds.{is_custom}
+use Rattle.std.proofs.{Common.{◌≡◌, ℕ, ◌<◌, Bool, true, Option, None, Some, IfSome, refl}, lemmas.Bool.not-true}
+use Rattle.schedule.{specs.Placed.placed, proofs.Placing.placement-placed}
+use Rattle.collective_spec.specs.{declared.{kind.Kind.Kind, collective.Collective.Collective, spec.Spec.Spec}, Kinds.is_custom}
 use Rattle.collective_spec.specs.Patterns.{PatternValue, IsPattern, IsAmong}
 use Rattle.collective_spec.specs.Collectives.{IsSpec, chunks_in, fits_kind, kind_in, spec_demand, spec_instance, spec_of}
+use Rattle.collective_spec.specs.declared.kind.Kind.TheVariants as kind
+use Rattle.collective_spec.specs.declared.spec.Spec.TheVariants as spec
 
 -- what a test gives is among the chunks and the nodes
 among : (chunks nodes : ℕ) (test : ℕ × ℕ → Bool) → IsAmong chunks nodes (placed chunks nodes test)

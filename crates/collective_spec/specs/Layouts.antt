@@ -1,7 +1,6 @@
 -- Which chunk stands at which node (Cai et al., PPoPP 2021, table of collectives).
 use Rattle.std.specs.Prelude.{ℕ, ◌/◌, ◌%◌, ◌==◌, ◌&&◌, ◌||◌, Bool, true}
-use Rattle.collective_spec.specs.declared.layout.Layout.{Layout}
-use Rattle.collective_spec.specs.declared.layout.Layout.TheVariants.{All, Root, Scattered, Transpose}
+use Rattle.collective_spec.specs.declared.layout.Layout.{Layout, TheVariants.{All, Root, Scattered, Transpose}}
 use Rattle.schedule.specs.Placed.{PlacementValue, holds, placed}
 
 -- a pair of a chunk and one of P nodes belongs to the layout

@@ -1,10 +1,7 @@
 -- Small collectives, on three nodes.
 use Rattle.std.specs.Prelude.{ℕ, List, [], ◌∷◌}
 use Rattle.schedule.specs.Placed.{PlacementValue}
-use Rattle.collective_spec.specs.declared.kind.Kind.{Kind}
-use Rattle.collective_spec.specs.declared.instance.Instance.{Instance}
-use Rattle.collective_spec.specs.Collectives.{instance_of, demand_of}
-use Rattle.collective_spec.specs.Patterns.{PatternValue}
+use Rattle.collective_spec.specs.{declared.{kind.Kind.Kind, instance.Instance.Instance}, Collectives.{instance_of, demand_of}, Patterns.PatternValue}
 
 -- so many chunks at three nodes, with these pairs
 abbrev pub on_three : ℕ → List (ℕ × ℕ) → PlacementValue

@@ -1,6 +1,5 @@
 ghost use Rattle.std.specs.Prelude.{◌≡◌, ◌≢◌, ◌<◌, ◌≤◌, IsTrue, false, IfOk};
-ghost use Rattle.collective_spec.specs.Kinds.{allows, is_custom};
-ghost use Rattle.collective_spec.specs.Collectives.{reduces, chunks_of, before, after, ends_of, instance_of, demand_of};
+ghost use Rattle.collective_spec.specs.{Kinds.{allows, is_custom}, Collectives.{reduces, chunks_of, before, after, ends_of, instance_of, demand_of}};
 
 use crate::OutOfMemory;
 use crate::collective::Collective;

@@ -1,7 +1,6 @@
 ghost use Rattle.std.specs.Prelude.{◌≡◌, ◌<◌, ◌≤◌, ◌*◌, ◌%◌, IfOk};
 ghost use Rattle.schedule.specs.Placed.{IsPlacement, holds};
-ghost use Rattle.collective_spec.specs.Layouts.{with_row};
-ghost use Rattle.collective_spec.specs.Patterns.{IsPattern, in_copies, copied};
+ghost use Rattle.collective_spec.specs.{Layouts.with_row, Patterns.{IsPattern, in_copies, copied}};
 
 use crate::OutOfMemory;
 use schedule::Placement;

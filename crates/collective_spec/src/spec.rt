@@ -1,6 +1,5 @@
 ghost use Rattle.std.specs.Prelude.{◌≡◌, ◌≢◌, ◌≤◌, IsTrue, IfOk};
-ghost use Rattle.collective_spec.specs.Kinds.{allows};
-ghost use Rattle.collective_spec.specs.Collectives.{IsSpec, kind_in, adds_up, chunks_in, spec_of, spec_instance, spec_demand};
+ghost use Rattle.collective_spec.specs.{Kinds.allows, Collectives.{IsSpec, kind_in, adds_up, chunks_in, spec_of, spec_instance, spec_demand}};
 
 use crate::OutOfMemory;
 use crate::collective::Collective;

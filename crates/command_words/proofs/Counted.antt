@@ -1,14 +1,10 @@
 -- How many values there are with one more.
 use Rattle.std.proofs.Common.{◌≡◌, ◌+◌, ℕ, Bool, true, false, is_some, not, bytes_eq, codes, arith, List, Option, None, Some, Result, Ok, Err, IfOk, refl, sym, subst}
 use Rattle.text_lines.specs.Check.{◌>>=◌, refuse}
-use Rattle.command_words.specs.declared.fault.WordCode.{WordCode}
-use Rattle.command_words.specs.declared.fault.WordCode.TheVariants.{BadValue}
-use Rattle.command_words.specs.declared.key.Key.{Key}
-use Rattle.command_words.specs.declared.key.Key.TheVariants as key
-use Rattle.command_words.specs.declared.values.Values.{Values}
-use Rattle.command_words.specs.declared.verb.Verb.{Verb}
+use Rattle.command_words.specs.declared.{fault.WordCode.{WordCode, TheVariants.BadValue}, key.Key.Key, values.Values.Values, verb.Verb.Verb}
 use Rattle.command_words.specs.inner.Counting.{one, flag, count_of}
 use Rattle.command_words.specs.inner.Values.{collective_from, given_by, has_value, kind_from, name_from, number_from, what_from, with_value}
+use Rattle.command_words.specs.declared.key.Key.TheVariants as key
 
 none_counts : {T : Type 0} (o : Option T) → is_some o ≡ false → one o ≡ 0
 none_counts None e = refl

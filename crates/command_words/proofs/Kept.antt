@@ -1,31 +1,17 @@
 -- What words give, as the values that the code keeps of it: the words are checked alike.
-use Rattle.std.proofs.Common.{◌≡◌, ◌+◌, ◌&&◌, ◌||◌, ℕ, Bool, true, false, not, cond, List, [], ◌∷◌, map, bytes_eq, codes, nat_le, nat_lt, is_some, option_map, unwrap_or, Option, None, Some, Result, Ok, Err, refl, sym, ap, ◌∙◌, arith}
-use Rattle.std.specs.Prelude.{if◌then◌else◌}
-use Rattle.std.specs.List.{list_any}
-use Rattle.std.specs.Str.Parse.{digits_value}
-use Rattle.std.specs.Cmp.Lexicographic.{bytes_decides}
-use Rattle.std.proofs.lemmas.Bool.Decides.{nat_tests}
+use Rattle.std.proofs.Common.{◌≡◌, ◌+◌, ◌&&◌, ◌||◌, ℕ, Bool, true, false, not, cond, List, [], ◌∷◌, map, bytes_eq, codes, nat_le, nat_lt, is_some, option_map, unwrap_or, Option, None, Some, Result, Ok, Err, refl, sym, ap, ◌∙◌, arith, if◌then◌else◌}
+use Rattle.std.{specs.{List.list_any, Str.Parse.digits_value, Cmp.Lexicographic.bytes_decides}, proofs.lemmas.Bool.Decides.nat_tests}
 use Rattle.text_lines.specs.Check.{◌>>=◌, refuse, need}
-use Rattle.collective_spec.specs.declared.kind.Kind.{Kind}
-use Rattle.collective_spec.specs.declared.kind.Kind.TheVariants.{Allreduce, Custom}
-use Rattle.collective_spec.specs.Kinds.{word_of, every_kind}
-use Rattle.topology_text.specs.declared.family_kind.FamilyKind.TheVariants.{Line}
-use Rattle.topology_text.specs.FamilyWords.{families, family_word, family_named}
-use Rattle.topology_text.specs.Names.{is_name}
-use Rattle.command_words.specs.declared.command.JsonWhat.{JsonWhat}
-use Rattle.command_words.specs.declared.command.JsonWhat.TheVariants as what
-use Rattle.command_words.specs.declared.fault.WordCode.{WordCode}
-use Rattle.command_words.specs.declared.fault.WordCode.TheVariants.{UnknownKey, KeyTwice, BadValue}
-use Rattle.command_words.specs.declared.key.Key.{Key}
-use Rattle.command_words.specs.declared.key.Key.TheVariants as key
-use Rattle.command_words.specs.declared.values.Values.{Values}
-use Rattle.command_words.specs.declared.verb.Verb.{Verb}
-use Rattle.command_words.specs.declared.verb.Verb.TheVariants.{Bound, Ordered, Unjson}
+use Rattle.collective_spec.specs.{declared.kind.Kind.{Kind, TheVariants.{Allreduce, Custom}}, Kinds.{word_of, every_kind}}
+use Rattle.topology_text.specs.{declared.family_kind.FamilyKind.TheVariants.Line, FamilyWords.{families, family_word, family_named}, Names.is_name}
+use Rattle.command_words.specs.declared.{command.JsonWhat.JsonWhat, fault.WordCode.{WordCode, TheVariants.{UnknownKey, KeyTwice, BadValue}}, key.Key.Key}
+use Rattle.command_words.specs.declared.{values.Values.Values, verb.Verb.{Verb, TheVariants.{Bound, Ordered, Unjson}}}
 use Rattle.command_words.specs.Tables.{named, keys, key_word, key_row, same_key, has_key, what_word, whats, Number, OneOf}
-use Rattle.command_words.specs.Given.{Given, given_at, is_given}
-use Rattle.command_words.specs.Words.{key_and_value, fits, is_refused, with_word, at_word, given_from}
+use Rattle.command_words.specs.{Words.{key_and_value, fits, is_refused, with_word, at_word, given_from}, inner.Reading.{word_value, values_from}}
 use Rattle.command_words.specs.inner.Values.{has_value, collective_from, given_by, name_from, number_from, takes_kind, takes_what, what_from, with_value}
-use Rattle.command_words.specs.inner.Reading.{word_value, values_from}
+use Rattle.command_words.specs.declared.command.JsonWhat.TheVariants as what
+use Rattle.command_words.specs.declared.key.Key.TheVariants as key
+use Rattle.command_words.specs.Given.{Given, given_at, is_given}
 
 -- the number that is written
 abbrev pub amount : Given → ℕ

@@ -1,23 +1,16 @@
 -- The command that the code makes of its values is that of what is given.
-use Rattle.std.proofs.Common.{◌≡◌, ℕ, Bool, true, false, not, List, unwrap_or, Option, None, Some, Ok, refl}
-use Rattle.std.specs.List.{list_all}
+use Rattle.std.{proofs.Common.{◌≡◌, ℕ, Bool, true, false, not, List, unwrap_or, Option, None, Some, Ok, refl}, specs.List.list_all}
 use Rattle.text_lines.specs.Check.{◌>>=◌, refuse}
 use Rattle.candidate_order.specs.Ranges.{unpruned}
-use Rattle.command_words.specs.declared.command.Command.{Command}
-use Rattle.command_words.specs.declared.command.Command.TheVariants as command
-use Rattle.command_words.specs.declared.command.JsonWhat.{JsonWhat}
-use Rattle.command_words.specs.declared.command.JsonWhat.TheVariants as what
-use Rattle.command_words.specs.declared.command.SearchWords.{SearchWords}
-use Rattle.command_words.specs.declared.fault.WordCode.TheVariants.{KeyMissing}
-use Rattle.command_words.specs.declared.fault.WordFault.{WordFault}
-use Rattle.command_words.specs.declared.key.Key.TheVariants as key
-use Rattle.command_words.specs.declared.verb.Verb.{Verb}
+use Rattle.command_words.specs.declared.{command.{Command.Command, JsonWhat.JsonWhat, SearchWords.SearchWords}, fault.WordCode.TheVariants.KeyMissing}
+use Rattle.command_words.specs.{declared.{fault.WordFault.WordFault, verb.Verb.Verb}, Tables.{named, search, what_word, whats}}
 use Rattle.command_words.specs.declared.verb.Verb.TheVariants.{Synth, Check, Replay, Programs, Family, Trial, Bound, Ordered, Degrade, Json, Unjson}
-use Rattle.command_words.specs.Tables.{named, search, what_word, whats}
-use Rattle.command_words.specs.Given.{Given, given_at, is_given, kind_at, word_at, limits_at, root_at}
-use Rattle.command_words.specs.Commands.{command_from, root_taken}
-use Rattle.command_words.specs.inner.Building.{search_from, command_from as made_from}
+use Rattle.command_words.specs.{Commands.{command_from, root_taken}, inner.Building.{search_from, command_from as made_from}}
 use Rattle.command_words.proofs.Kept.{values_of}
+use Rattle.command_words.specs.declared.command.Command.TheVariants as command
+use Rattle.command_words.specs.declared.command.JsonWhat.TheVariants as what
+use Rattle.command_words.specs.declared.key.Key.TheVariants as key
+use Rattle.command_words.specs.Given.{Given, given_at, is_given, kind_at, word_at, limits_at, root_at}
 
 -- so many words lack a key
 abbrev missing : ℕ → WordFault

@@ -1,11 +1,8 @@
 -- Words found among the names of values.
 use Rattle.std.proofs.Common.{◌≡◌, sym, refl, ℕ, true, false, cond, List, [], ◌∷◌, Option, Some, None, IfSome, map, find, bytes_eq, subst}
-use Rattle.std.specs.Option.{option_map}
-use Rattle.std.specs.Cmp.Lexicographic.{bytes_decides}
-use Rattle.std.proofs.lemmas.Option.{none-some}
-use Rattle.collective_spec.specs.declared.kind.Kind.{Kind}
+use Rattle.std.{specs.{Option.option_map, Cmp.Lexicographic.bytes_decides}, proofs.lemmas.Option.none-some}
+use Rattle.collective_spec.specs.{declared.kind.Kind.Kind, Kinds.{word_of, every_kind}}
 use Rattle.collective_spec.specs.declared.kind.Kind.TheVariants.{Broadcast, Gather, Allgather, Scatter, Alltoall, Reduce, Reducescatter, Allreduce, Custom}
-use Rattle.collective_spec.specs.Kinds.{word_of, every_kind}
 use Rattle.case_table.specs.Rows.{value_at}
 use Rattle.command_words.specs.Tables.{named}
 

@@ -1,23 +1,15 @@
 -- Which codes words are refused with, and at which words.
 use Rattle.std.proofs.Common.{◌≡◌, ◌≤◌, ◌+◌, ℕ, Bool, true, false, not, cond, arith, List, [], ◌∷◌, length, option_map, unwrap_or, Option, None, Some, Result, Ok, Err, IfOk, IfErr, sym, subst}
-use Rattle.std.specs.List.{list_all}
-use Rattle.std.specs.declared.string.String.{String}
-use Rattle.std.specs.String.{string_bytes}
-use Rattle.std.proofs.lemmas.List.{length-map}
+use Rattle.std.{specs.{List.list_all, declared.string.String.String, String.string_bytes}, proofs.lemmas.List.length-map}
 use Rattle.text_lines.specs.Check.{◌>>=◌, refuse, need}
-use Rattle.command_words.specs.declared.command.Command.{Command}
-use Rattle.command_words.specs.declared.fault.WordCode.{WordCode}
-use Rattle.command_words.specs.declared.fault.WordCode.TheVariants.{UnknownCommand, UnknownKey, KeyTwice, KeyMissing, BadValue}
-use Rattle.command_words.specs.declared.fault.WordFault.{WordFault}
-use Rattle.command_words.specs.declared.key.Key.{Key}
-use Rattle.command_words.specs.declared.key.Key.TheVariants as key
-use Rattle.command_words.specs.declared.verb.Verb.{Verb}
+use Rattle.command_words.specs.declared.{command.Command.Command, fault.{WordCode.WordCode, WordFault.WordFault}, key.Key.Key, verb.Verb.Verb}
+use Rattle.command_words.specs.{declared.fault.WordCode.TheVariants.{UnknownCommand, UnknownKey, KeyTwice, KeyMissing, BadValue}, Codes.number_of}
 use Rattle.command_words.specs.declared.verb.Verb.TheVariants.{Synth, Family, Bound, Ordered, Json}
-use Rattle.command_words.specs.Codes.{number_of}
 use Rattle.command_words.specs.Tables.{named, verbs, verb_word, keys, key_word, key_row, same_key, has_key}
-use Rattle.command_words.specs.Given.{Given, given_at, is_given, word_at}
 use Rattle.command_words.specs.Commands.{point_taken, required, fit_together, command_from}
 use Rattle.command_words.specs.Words.{key_and_value, fits, is_refused, with_word, at_word, given_from, texts, command_of}
+use Rattle.command_words.specs.declared.key.Key.TheVariants as key
+use Rattle.command_words.specs.Given.{Given, given_at, is_given, word_at}
 
 -- a refusal of checks in a row is one of theirs
 err_then : {A B C : Type 0} (P : C → Type 0) (r : Result A C) (f : A → Result B C) → IfErr r P → ((x : A) → IfErr (f x) P) → IfErr (r >>= f) P

@@ -1,14 +1,9 @@
 -- A word taken off the front of the words that are left.
 use Rattle.std.proofs.Common.{◌≡◌, ◌∙◌, ◌<◌, ◌≤◌, ◌+◌, ℕ, zero, suc, Bool, true, false, sym, ap, arith, List, [], ◌∷◌, length, get_or, drop, Option, Some, None, Result}
-use Rattle.std.specs.declared.string.String.{String}
-use Rattle.std.specs.String.{string_bytes}
+use Rattle.std.specs.{declared.string.String.String, String.string_bytes}
 use Rattle.text_lines.specs.Check.{◌>>=◌}
-use Rattle.command_words.specs.declared.fault.WordFault.{WordFault}
-use Rattle.command_words.specs.declared.verb.Verb.{Verb}
-use Rattle.command_words.specs.declared.values.Values.{Values}
-use Rattle.command_words.specs.inner.Counting.{one, flag, count_of}
-use Rattle.command_words.specs.Words.{texts, at_word}
-use Rattle.command_words.specs.inner.Reading.{word_value, values_from}
+use Rattle.command_words.specs.{declared.{fault.WordFault.WordFault, verb.Verb.Verb, values.Values.Values}, inner.Counting.{one, flag, count_of}}
+use Rattle.command_words.specs.{Words.{texts, at_word}, inner.Reading.{word_value, values_from}}
 
 -- the texts from place k on begin with that of the word there
 texts_from : {Z : Type 0} (words : List (String Z)) (k : ℕ) (word : String Z) → k < length words → word ≡ get_or words k word → drop k (texts words) ≡ string_bytes word ∷ drop (suc k) (texts words)

@@ -1,22 +1,12 @@
 -- Words that are read as a command.
-use Rattle.std.proofs.Common.{◌≡◌, ◌+◌, ℕ, arith, List, [], ◌∷◌, length, Some, Result, Ok, Err, refl, sym, ap, ◌∙◌}
-use Rattle.std.specs.declared.string.String.{String}
-use Rattle.std.specs.String.{string_bytes}
+use Rattle.std.{proofs.Common.{◌≡◌, ◌+◌, ℕ, arith, List, [], ◌∷◌, length, Some, Result, Ok, Err, refl, sym, ap, ◌∙◌}, specs.declared.string.String.String}
+use Rattle.std.{specs.String.string_bytes, proofs.lemmas.List.length-map}
 use Rattle.text_lines.specs.Check.{◌>>=◌, need}
-use Rattle.command_words.specs.declared.command.Command.{Command}
-use Rattle.command_words.specs.declared.fault.WordFault.{WordFault}
-use Rattle.command_words.specs.declared.fault.WordCode.TheVariants.{UnknownCommand}
-use Rattle.command_words.specs.declared.values.Values.{Values}
-use Rattle.command_words.specs.declared.verb.Verb.{Verb}
-use Rattle.command_words.specs.Tables.{named, verb_word, verbs}
+use Rattle.command_words.specs.declared.{command.Command.Command, fault.{WordFault.WordFault, WordCode.TheVariants.UnknownCommand}, values.Values.Values}
+use Rattle.command_words.specs.{declared.verb.Verb.Verb, Tables.{named, verb_word, verbs}, Commands.command_from, Words.{command_of, given_from, texts}}
+use Rattle.command_words.specs.inner.{Building.command_given, Reading.{nothing, values_from}}
+use Rattle.command_words.proofs.{Kept.{values_of, values_given}, Made.made_alike}
 use Rattle.command_words.specs.Given.{Given}
-use Rattle.command_words.specs.Commands.{command_from}
-use Rattle.command_words.specs.Words.{command_of, given_from, texts}
-use Rattle.command_words.specs.inner.Building.{command_given}
-use Rattle.command_words.specs.inner.Reading.{nothing, values_from}
-use Rattle.command_words.proofs.Kept.{values_of, values_given}
-use Rattle.command_words.proofs.Made.{made_alike}
-use Rattle.std.proofs.lemmas.List.{length-map}
 
 -- what is made of the values is made of what is given
 given_alike : (verb : Verb) (r : Result (List Given) WordFault) (count : ℕ) → command_given verb (r >>= (λ all. Ok (values_of all))) count ≡ (r >>= (λ all. command_from verb all count))

@@ -1,20 +1,11 @@
 -- What words give: keys with their values. This project's own.
-use Rattle.std.specs.Prelude.{ℕ, Bool, List, [], find, Option, is_some, option_map, unwrap_or}
-use Rattle.std.specs.Str.Parse.{digits_value}
-use Rattle.candidate_order.specs.Ranges.{LimitsValue}
-use Rattle.candidate_order.specs.declared.pruning.Pruning.{Pruning}
-use Rattle.collective_spec.specs.declared.kind.Kind.{Kind}
-use Rattle.collective_spec.specs.declared.kind.Kind.TheVariants.{Custom}
-use Rattle.collective_spec.specs.Kinds.{word_of, every_kind}
-use Rattle.topology_text.specs.declared.family_kind.FamilyKind.{FamilyKind}
-use Rattle.topology_text.specs.declared.family_kind.FamilyKind.TheVariants.{Line}
-use Rattle.topology_text.specs.FamilyWords.{family_named}
-use Rattle.command_words.specs.declared.command.JsonWhat.{JsonWhat}
-use Rattle.command_words.specs.declared.command.JsonWhat.TheVariants.{Topology}
-use Rattle.command_words.specs.declared.command.RootWord.{RootWord}
-use Rattle.command_words.specs.declared.key.Key.{Key}
-use Rattle.command_words.specs.declared.key.Key.TheVariants as key
+use Rattle.std.specs.{Prelude.{ℕ, Bool, List, [], find, Option, is_some, option_map, unwrap_or}, Str.Parse.digits_value}
+use Rattle.candidate_order.specs.{Ranges.LimitsValue, declared.pruning.Pruning.Pruning}
+use Rattle.collective_spec.specs.{declared.kind.Kind.{Kind, TheVariants.Custom}, Kinds.{word_of, every_kind}}
+use Rattle.topology_text.specs.{declared.family_kind.FamilyKind.{FamilyKind, TheVariants.Line}, FamilyWords.family_named}
+use Rattle.command_words.specs.declared.{command.{JsonWhat.{JsonWhat, TheVariants.Topology}, RootWord.RootWord}, key.Key.Key}
 use Rattle.command_words.specs.Tables.{named, same_key, what_word, whats}
+use Rattle.command_words.specs.declared.key.Key.TheVariants as key
 
 -- a key, its value as it is written, and the index of its word
 pub record Given : Type 0 where

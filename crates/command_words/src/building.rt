@@ -2,8 +2,7 @@
 
 ghost use Rattle.std.specs.Prelude.{◌≡◌, true, IfOk};
 ghost use Rattle.candidate_order.specs.Ranges.{unpruned};
-ghost use Rattle.command_words.specs.Commands.{AreSearchWords, IsProper};
-ghost use Rattle.command_words.specs.inner.Values.{AreProper, takes_kind};
+ghost use Rattle.command_words.specs.{Commands.{AreSearchWords, IsProper}, inner.Values.{AreProper, takes_kind}};
 ghost use Rattle.command_words.specs.inner.Building.{bound_from, command_from, degrade_from, family_from, json_from, ordered_from, point_for, point_taken, programs_from, replay_from, required, root_taken, search_from, synth_from, trial_from, unjson_from};
 
 use crate::command::{Command, JsonWhat, PointWord, RootWord, SearchWords};

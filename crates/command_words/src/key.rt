@@ -1,7 +1,6 @@
 //! The keys of the words behind the first.
 
-ghost use Rattle.std.specs.Prelude.{◌≡◌, ◌++◌, [], ◌∷◌, Some, map};
-ghost use Rattle.std.specs.List.{list_any};
+ghost use Rattle.std.specs.{Prelude.{◌≡◌, ◌++◌, [], ◌∷◌, Some, map}, List.list_any};
 ghost use Rattle.command_words.specs.Tables.{key_word, keys, named, same_key, search};
 ghost use Rattle.command_words.specs.inner.Numbers.{key_number, numbered};
 

@@ -1,13 +1,8 @@
 //! The words, read from left to right.
 
 ghost use Rattle.std.specs.Prelude.{◌≡◌, ◌+◌, ◌≤◌, length, IfOk, IfErr, option_map};
-ghost use Rattle.command_words.specs.Codes.{number_of};
-ghost use Rattle.command_words.specs.Commands.{IsProper};
-ghost use Rattle.command_words.specs.Words.{at_word, command_of, key_and_value, texts};
-ghost use Rattle.command_words.specs.inner.Building.{command_given};
-ghost use Rattle.command_words.specs.inner.Counting.{count_of};
-ghost use Rattle.command_words.specs.inner.Reading.{nothing, values_from, word_value};
-ghost use Rattle.command_words.specs.inner.Values.{AreProper};
+ghost use Rattle.command_words.specs.{Codes.number_of, Commands.IsProper, Words.{at_word, command_of, key_and_value, texts}, inner.Building.command_given};
+ghost use Rattle.command_words.specs.inner.{Counting.count_of, Reading.{nothing, values_from, word_value}, Values.AreProper};
 
 use crate::building::command_from;
 use crate::command::Command;

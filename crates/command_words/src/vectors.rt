@@ -3,8 +3,7 @@
 ghost use Rattle.std.specs.Prelude.{◌≡◌, true, false, [], ◌∷◌, map, Ok, Err, Some, None, codes};
 ghost use Rattle.text_lines.specs.Text.{words_of};
 ghost use Rattle.candidate_order.specs.Ranges.{unpruned};
-ghost use Rattle.command_words.specs.Codes.{number_of};
-ghost use Rattle.command_words.specs.Words.{command_of};
+ghost use Rattle.command_words.specs.{Codes.number_of, Words.command_of};
 
 use crate::command::{Command, JsonWhat};
 use crate::fault::WordCode;

@@ -1,9 +1,7 @@
 //! The first word: what is to be done.
 
 ghost use Rattle.std.specs.Prelude.{◌≡◌, Some, map};
-ghost use Rattle.command_words.specs.Tables.{has_key, named, verb_word, verbs};
-ghost use Rattle.command_words.specs.inner.Numbers.{numbered, verb_number};
-ghost use Rattle.command_words.specs.inner.Values.{takes_kind, takes_what};
+ghost use Rattle.command_words.specs.{Tables.{has_key, named, verb_word, verbs}, inner.{Numbers.{numbered, verb_number}, Values.{takes_kind, takes_what}}};
 
 use crate::command::JsonWhat;
 use crate::key::Key;

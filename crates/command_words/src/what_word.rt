@@ -1,8 +1,7 @@
 //! The words that name what is read or written as JSON.
 
 ghost use Rattle.std.specs.Prelude.{◌≡◌, Some, map};
-ghost use Rattle.command_words.specs.Tables.{named, what_word, whats};
-ghost use Rattle.command_words.specs.inner.Numbers.{numbered, what_number};
+ghost use Rattle.command_words.specs.{Tables.{named, what_word, whats}, inner.Numbers.{numbered, what_number}};
 
 use crate::command::JsonWhat;
 use case_table::{Table, table};

@@ -1,12 +1,8 @@
 -- Bits of words, and of sets of places.
-use Rattle.std.proofs.Common.{suc, ◌≡◌, ℕ, ◌+◌, ◌-◌, ◌*◌, ◌/◌, ◌%◌, ◌^◌, ◌<◌, ◌≤◌, List, length, get_or, set, sym, ap, ◌∙◌, subst, inl, inr, ⊎_elim, arith}
-use Rattle.std.specs.Prelude.{◌≢◌, ◌⊎◌, ◌↔◌, IsBitSet}
-use Rattle.std.proofs.Math.Nat.{pow-succ', pow-le-pow_right}
-use Rattle.std.proofs.lemmas.Bool.{cases_lt, cases_eq}
-use Rattle.std.proofs.lemmas.List.{get_or-set_same, get_or-set_other, get_or_default}
+use Rattle.std.proofs.Common.{suc, ◌≡◌, ℕ, ◌+◌, ◌-◌, ◌*◌, ◌/◌, ◌%◌, ◌^◌, ◌<◌, ◌≤◌, List, length, get_or, set, sym, ap, ◌∙◌, subst, inl, inr, ⊎_elim, arith, ◌≢◌, ◌⊎◌, ◌↔◌, IsBitSet}
+use Rattle.std.proofs.{Math.Nat.{pow-succ', pow-le-pow_right}, lemmas.{Bool.{cases_lt, cases_eq}, List.{get_or-set_same, get_or-set_other, get_or_default}}}
 use Rattle.std.proofs.lemmas.Nat.{pow_pos, pow-add, pow_below, pow_apart, and_comm, and_mask, and_assoc, and_le_l, and_or_self, and_or_apart, mod_low, shr_high, bit_set_by_shift, leading_top}
-use lib.Bits.{bit_and, bit_or}
-use lib.Count.{count_leading_zeros}
+use lib.{Bits.{bit_and, bit_or}, Count.count_leading_zeros}
 use Rattle.conflict_analysis.specs.PlaceSets.{HasPlace}
 
 -- ---- words

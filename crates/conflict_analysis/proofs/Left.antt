@@ -1,16 +1,11 @@
 -- Of what is kept the literals are left that are marked so still.
-use Rattle.std.proofs.Common.{◌≡◌, ℕ, ◌+◌, ◌<◌, true, List, [], ◌∷◌, ◌++◌, length, get_or, take, cond, sym, ap, ◌∙◌, inl, arith, eq-eqb}
-use Rattle.std.specs.Prelude.{◌≢◌, ◌==◌, Contains, Option, None, Some, MatchOption}
-use Rattle.std.proofs.lemmas.Bool.{eqb-true, ne_eqb}
-use Rattle.std.proofs.lemmas.List.{append-nil}
-use Rattle.std.proofs.lemmas.List.Elements.{All-contains, All-contains_itself, All-filter, filter_more, filter_passes}
+use Rattle.std.proofs.Common.{◌≡◌, ℕ, ◌+◌, ◌<◌, true, List, [], ◌∷◌, ◌++◌, length, get_or, take, cond, sym, ap, ◌∙◌, inl, arith, eq-eqb, ◌≢◌, ◌==◌, Contains, Option, None, Some, MatchOption}
+use Rattle.std.proofs.lemmas.{Bool.{eqb-true, ne_eqb}, List.{append-nil, Elements.{All-contains, All-contains_itself, All-filter, filter_more, filter_passes}}}
 use Rattle.std.proofs.lemmas.List.Kept.{AllPairs-filter}
 use Rattle.list_laws.proofs.Members.{Contains-filter}
 use Rattle.cnf_formula.specs.Literals.{LitValue}
-use Rattle.trail_core.specs.Meaning.{CoreValue}
-use Rattle.trail_core.specs.Formed.{IsTrail}
-use Rattle.conflict_analysis.specs.Met.{WalkValue, IsSorted, IsPassed, IsImplicationPoint, left_of}
-use Rattle.conflict_analysis.proofs.Marked.{false_at, lit_about}
+use Rattle.trail_core.specs.{Meaning.CoreValue, Formed.IsTrail}
+use Rattle.conflict_analysis.{specs.Met.{WalkValue, IsSorted, IsPassed, IsImplicationPoint, left_of}, proofs.Marked.{false_at, lit_about}}
 
 -- one more that is kept, or is not
 pub left_more : (stamp : ℕ) (marks : List ℕ) (lits left : List LitValue) (k : ℕ) (x : LitValue) → k < length lits → x ≡ get_or lits k x → left ≡ left_of stamp marks (take k lits)

@@ -1,6 +1,5 @@
 -- Elements of lists.
-use Rattle.std.proofs.Common.{zero, suc, ◌≡◌, ℕ, ◌<◌, List, [], ◌∷◌, length, get_or, refl, inl, inr, ⊎_elim, arith}
-use Rattle.std.specs.Prelude.{◌⊎◌, Contains, map}
+use Rattle.std.proofs.Common.{zero, suc, ◌≡◌, ℕ, ◌<◌, List, [], ◌∷◌, length, get_or, refl, inl, inr, ⊎_elim, arith, ◌⊎◌, Contains, map}
 use Rattle.list_laws.proofs.Members.{Contains-cons}
 
 pub here : {X : Type 0} (x : X) (xs : List X) → Contains (x ∷ xs) x

@@ -1,14 +1,8 @@
 -- Places between level 0 and the last level.
-use Rattle.std.proofs.Common.{◌≡◌, ℕ, ◌+◌, ◌-◌, ◌<◌, ◌≤◌, length, get_or, ⊎_elim, arith}
-use Rattle.std.proofs.lemmas.Bool.{cases_lt}
-use Rattle.trail_core.specs.Assigned.{level_at}
-use Rattle.trail_core.specs.Meaning.{CoreValue}
-use Rattle.trail_core.specs.Formed.{IsTrail}
-use Rattle.conflict_analysis.specs.Met.{WalkValue, IsSorted, IsPassed}
-use Rattle.conflict_analysis.specs.inner.Walks.{HasWalked}
-use Rattle.conflict_analysis.proofs.Levels.{limits_rise}
-use Rattle.conflict_analysis.proofs.Marked.{level_within}
-use Rattle.conflict_analysis.proofs.Pointed.{high_place, bottom_place}
+use Rattle.std.proofs.{Common.{◌≡◌, ℕ, ◌+◌, ◌-◌, ◌<◌, ◌≤◌, length, get_or, ⊎_elim, arith}, lemmas.Bool.cases_lt}
+use Rattle.trail_core.specs.{Assigned.level_at, Meaning.CoreValue, Formed.IsTrail}
+use Rattle.conflict_analysis.specs.{Met.{WalkValue, IsSorted, IsPassed}, inner.Walks.HasWalked}
+use Rattle.conflict_analysis.proofs.{Levels.limits_rise, Marked.level_within, Pointed.{high_place, bottom_place}}
 
 -- a place of a level below the last that is not level 0
 pub record IsMiddle (core : CoreValue) (k : ℕ) : Type 0 where

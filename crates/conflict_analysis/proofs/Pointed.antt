@@ -1,24 +1,13 @@
 -- Where the walk begins and ends: one literal of the last level is left, and all others that are kept became false below it.
-use Rattle.std.proofs.Common.{suc, ◌-◌, ◌≡◌, ℕ, ◌+◌, ◌<◌, ◌≤◌, Bool, false, List, [], ◌∷◌, length, get_or, take, refl, sym, ap, ◌∙◌, inl, inr, ⊎_elim, arith}
-use Rattle.std.specs.Prelude.{◌≢◌, ◌⊎◌, Contains, filter, reverse, pos, map, nat_le}
-use Rattle.std.proofs.lemmas.List.Sums.{count_by-le-length}
-use Rattle.std.proofs.lemmas.Bool.{cases_lt, cases_eq, ne_eqb}
-use Rattle.std.proofs.lemmas.List.{get_or-take, length-take-le}
+use Rattle.std.proofs.Common.{suc, ◌-◌, ◌≡◌, ℕ, ◌+◌, ◌<◌, ◌≤◌, Bool, false, List, [], ◌∷◌, length, get_or, take, refl, sym, ap, ◌∙◌, inl, inr, ⊎_elim, arith, ◌≢◌, ◌⊎◌, Contains, filter, reverse, pos, map, nat_le}
+use Rattle.std.proofs.lemmas.{List.{get_or-take, length-take-le, Sums.count_by-le-length}, Bool.{cases_lt, cases_eq, ne_eqb}}
 use Rattle.std.proofs.lemmas.List.Elements.{All-contains, Contains-get_or}
-use Rattle.cnf_formula.specs.Formulas.{IsAbout}
-use Rattle.cnf_formula.specs.Literals.{LitValue, negation}
-use Rattle.trail_core.specs.Assigned.{IsFalse, IsOpen, AreLimits, level_at}
-use Rattle.trail_core.specs.Trails.{StepValue}
-use Rattle.trail_core.specs.Meaning.{CoreValue, trues}
-use Rattle.trail_core.specs.Formed.{IsTrail}
-use Rattle.trail_core.proofs.Trails.{all_counted}
-use Rattle.trail_core.proofs.Keeping.{lits_length}
-use Rattle.conflict_analysis.specs.Conflicts.{IsConflict}
-use Rattle.conflict_analysis.specs.Learning.{number_of}
-use Rattle.conflict_analysis.specs.PlaceSets.{HasPlace}
+use Rattle.cnf_formula.specs.{Formulas.IsAbout, Literals.{LitValue, negation}}
+use Rattle.trail_core.specs.{Assigned.{IsFalse, IsOpen, AreLimits, level_at}, Trails.StepValue, Meaning.{CoreValue, trues}, Formed.IsTrail}
+use Rattle.trail_core.proofs.{Trails.all_counted, Keeping.lits_length}
+use Rattle.conflict_analysis.specs.{Conflicts.IsConflict, Learning.number_of, PlaceSets.HasPlace}
 use Rattle.conflict_analysis.specs.Met.{WalkValue, no_step, lit_at, mark_of, resolved_by, IsSorted, HasMet, IsPassed, IsImplicationPoint}
-use Rattle.conflict_analysis.proofs.Levels.{level_grows, level_below, some_level, limits_rise}
-use Rattle.conflict_analysis.proofs.Counted.{waits_some, waits_none}
+use Rattle.conflict_analysis.proofs.{Levels.{level_grows, level_below, some_level, limits_rise}, Counted.{waits_some, waits_none}}
 use Rattle.conflict_analysis.proofs.Marked.{IsAt, false_at, lit_read, lit_about, same_place}
 
 -- the kinds of marks

@@ -1,18 +1,11 @@
 -- A step that waits has a reason.
-use Rattle.std.proofs.Common.{◌≡◌, ℕ, ◌+◌, ◌-◌, ◌<◌, ◌≤◌, length, get_or, set, take, refl, sym, ap, ◌∙◌, subst, ⊎_elim, arith}
-use Rattle.std.specs.Prelude.{◌≢◌, Contains}
-use Rattle.std.proofs.lemmas.Bool.{cases_lt, cases_eq}
-use Rattle.std.proofs.lemmas.List.{get_or_default, length-take-le}
+use Rattle.std.proofs.Common.{◌≡◌, ℕ, ◌+◌, ◌-◌, ◌<◌, ◌≤◌, length, get_or, set, take, refl, sym, ap, ◌∙◌, subst, ⊎_elim, arith, ◌≢◌, Contains}
+use Rattle.std.proofs.lemmas.{Bool.{cases_lt, cases_eq}, List.{get_or_default, length-take-le}}
 use Rattle.cnf_formula.specs.Literals.{LitValue}
-use Rattle.trail_core.specs.Search.{IsImplied}
-use Rattle.trail_core.specs.Kept.{IsDue, AreGrounded}
-use Rattle.trail_core.specs.Meaning.{CoreValue}
-use Rattle.trail_core.specs.Formed.{IsTrail}
-use Rattle.conflict_analysis.specs.Met.{WalkValue, step_at, no_step, lit_at, mark_of, IsSorted, IsPassed, IsOnward, waiting}
+use Rattle.trail_core.specs.{Search.IsImplied, Kept.{IsDue, AreGrounded}, Meaning.CoreValue, Formed.IsTrail}
+use Rattle.conflict_analysis.specs.{Met.{WalkValue, step_at, no_step, lit_at, mark_of, IsSorted, IsPassed, IsOnward, waiting}, PlaceSets.HasPlace}
 use Rattle.conflict_analysis.specs.inner.Walks.{IsNext, IsStep, HasWalked, HasSameOpen, HasSameAbove}
-use Rattle.conflict_analysis.specs.PlaceSets.{HasPlace}
-use Rattle.conflict_analysis.proofs.Levels.{level_below, some_level}
-use Rattle.conflict_analysis.proofs.Marked.{lit_about, same_place}
+use Rattle.conflict_analysis.proofs.{Levels.{level_below, some_level}, Marked.{lit_about, same_place}}
 use Rattle.conflict_analysis.proofs.Counted.{waits_some, waits_less, waits_same, waits_where, waits_other, waits_two}
 
 -- a step that is not the first of its level is implied

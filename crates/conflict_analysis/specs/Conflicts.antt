@@ -1,9 +1,6 @@
 -- A core at a conflict.
 use Rattle.std.specs.Prelude.{ℕ, ◌<◌, [], length, get_or}
-use Rattle.trail_core.specs.Search.{IsFalsified}
-use Rattle.trail_core.specs.Meaning.{CoreValue, trues, IsClosedBelow}
-use Rattle.trail_core.specs.Kept.{AreGrounded}
-use Rattle.trail_core.specs.Formed.{IsTrail}
+use Rattle.trail_core.specs.{Search.IsFalsified, Meaning.{CoreValue, trues, IsClosedBelow}, Kept.AreGrounded, Formed.IsTrail}
 
 -- a clause is falsified
 pub record IsConflict (core : CoreValue) (conflict : ℕ) : Type 0 where

@@ -1,10 +1,7 @@
 -- What is learned from a conflict: a clause with one literal of the last level, and the hints by which it is accepted.
 use Rattle.std.specs.Prelude.{◌≡◌, ◌≢◌, ℕ, ◌+◌, ◌<◌, Bool, List, [], ◌++◌, ◌∷◌, AllPairs, Contains, length, get_or, take}
-use Rattle.cnf_formula.specs.Literals.{LitValue}
-use Rattle.cnf_formula.specs.Lines.{ProofLineValue}
-use Rattle.trail_core.specs.Trails.{StepValue}
-use Rattle.trail_core.specs.Meaning.{CoreValue, trues}
-use Rattle.trail_core.specs.Assigned.{IsFalse, IsOpen}
+use Rattle.cnf_formula.specs.{Literals.LitValue, Lines.ProofLineValue}
+use Rattle.trail_core.specs.{Trails.StepValue, Meaning.{CoreValue, trues}, Assigned.{IsFalse, IsOpen}}
 use Rattle.conflict_analysis.specs.Learning.{IsAnalysis, hints_to}
 
 -- below the last level the last literal is open, and all others are false

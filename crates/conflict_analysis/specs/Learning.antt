@@ -1,8 +1,7 @@
 -- What is learned from a conflict: a clause, and the hints by which it is accepted.
 use Rattle.std.specs.Prelude.{◌≡◌, ◌⊎◌, ℕ, ◌+◌, ◌<◌, Bool, true, List, [], ◌++◌, ◌∷◌, Option, None, Some, Contains, length, get_or, take, map, filter, ℤ, pos}
 use Rattle.cnf_formula.specs.Literals.{LitValue, negation}
-use Rattle.trail_core.specs.Assigned.{IsFalse}
-use Rattle.trail_core.specs.Trails.{StepValue, lits_of}
+use Rattle.trail_core.specs.{Assigned.IsFalse, Trails.{StepValue, lits_of}}
 
 -- the number of a reason; a core's clauses are numbered from 1
 abbrev pub number_of : Option ℕ → ℕ

@@ -1,13 +1,8 @@
 -- What an analysis knows on its walk down the trail: of each variable what becomes of its literal, as a mark above a stamp.
 use Rattle.std.specs.Prelude.{◌≡◌, ◌≢◌, ◌⊎◌, ◌↔◌, ◌==◌, ℕ, ◌+◌, ◌<◌, ◌≤◌, Bool, List, [], None, Some, Contains, AllPairs, length, get_or, take, count_by, filter, reverse, ℤ}
 use Rattle.cnf_formula.specs.Literals.{LitValue}
-use Rattle.trail_core.specs.Assigned.{IsFalse, level_at}
-use Rattle.trail_core.specs.Trails.{StepValue, lits_of}
-use Rattle.trail_core.specs.Watching.{no_lit}
-use Rattle.trail_core.specs.Meaning.{CoreValue, trues}
-use Rattle.conflict_analysis.specs.declared.walk.Walk.{Walk}
-use Rattle.conflict_analysis.specs.Learning.{hints_of}
-use Rattle.conflict_analysis.specs.PlaceSets.{HasPlace}
+use Rattle.trail_core.specs.{Assigned.{IsFalse, level_at}, Trails.{StepValue, lits_of}, Watching.no_lit, Meaning.{CoreValue, trues}}
+use Rattle.conflict_analysis.specs.{declared.walk.Walk.Walk, Learning.hints_of, PlaceSets.HasPlace}
 
 -- marks by variable, the stamp of this analysis, what is kept, the reasons that were taken, how many steps wait, and the places of what was met
 pub record WalkValue : Type 0 where

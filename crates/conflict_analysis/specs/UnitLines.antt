@@ -1,11 +1,8 @@
 -- What is learned of a literal of level 0: a line of this literal alone, and the hints by which it is accepted.
 use Rattle.std.specs.Prelude.{◌≡◌, ℕ, Bool, List, [], ◌++◌, ◌∷◌, None, take}
-use Rattle.cnf_formula.specs.Literals.{negation}
-use Rattle.cnf_formula.specs.Lines.{ProofLineValue}
-use Rattle.trail_core.specs.Trails.{StepValue}
-use Rattle.trail_core.specs.Meaning.{CoreValue}
-use Rattle.conflict_analysis.specs.Met.{lit_at}
-use Rattle.conflict_analysis.specs.Learning.{IsAnalysis, hints_to}
+use Rattle.cnf_formula.specs.{Literals.negation, Lines.ProofLineValue}
+use Rattle.trail_core.specs.{Trails.StepValue, Meaning.CoreValue}
+use Rattle.conflict_analysis.specs.{Met.lit_at, Learning.{IsAnalysis, hints_to}}
 
 -- the trail below a place, and then the negation of the literal at this place, as a decision
 abbrev pub denied : CoreValue → ℕ → List StepValue

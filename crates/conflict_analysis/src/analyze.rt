@@ -3,11 +3,8 @@
 
 ghost use Rattle.std.specs.Prelude.{◌≡◌, ◌+◌, ◌<◌, ◌≤◌, None, Some, length, Contains, IfOk, OnOk, MatchOption};
 ghost use Rattle.cnf_formula.specs.Literals.{LitValue};
-ghost use Rattle.trail_core.specs.Kept.{AreGrounded};
-ghost use Rattle.trail_core.specs.Formed.{IsTrail};
-ghost use Rattle.conflict_analysis.specs.Met.{value_of, IsSorted, IsPassed, IsImplicationPoint, IsRested, left_of};
-ghost use Rattle.conflict_analysis.specs.Conflicts.{IsConflict};
-ghost use Rattle.conflict_analysis.specs.Learned.{IsLearned};
+ghost use Rattle.trail_core.specs.{Kept.AreGrounded, Formed.IsTrail};
+ghost use Rattle.conflict_analysis.specs.{Met.{value_of, IsSorted, IsPassed, IsImplicationPoint, IsRested, left_of}, Conflicts.IsConflict, Learned.IsLearned};
 ghost use Rattle.conflict_analysis.specs.inner.Walks.{HasWalked, HasSameOpen, HasSameAbove};
 
 use crate::implied::Implied;

@@ -2,8 +2,7 @@
 
 ghost use Rattle.std.specs.Prelude.{Contains};
 ghost use Rattle.cnf_formula.specs.Literals.{LitValue};
-ghost use Rattle.trail_core.specs.Assigned.{IsFalse};
-ghost use Rattle.trail_core.specs.Meaning.{trues};
+ghost use Rattle.trail_core.specs.{Assigned.IsFalse, Meaning.trues};
 
 use crate::seen::Seen;
 use cnf_formula::{Lit, OutOfMemory};

@@ -2,11 +2,8 @@
 
 ghost use Rattle.std.specs.Prelude.{◌↔◌, ◌⊎◌, ◌≡◌, ℕ, ◌+◌, ◌<◌, ◌≤◌, [], ◌∷◌, IsTrue, length, get_or, pos, Contains, IfSome, OnOk};
 ghost use Rattle.cnf_formula.specs.Literals.{LitValue};
-ghost use Rattle.trail_core.specs.Assigned.{IsFalse};
-ghost use Rattle.trail_core.specs.Meaning.{trues};
-ghost use Rattle.trail_core.specs.Formed.{IsTrail};
-ghost use Rattle.conflict_analysis.specs.PlaceSets.{HasPlace};
-ghost use Rattle.conflict_analysis.specs.Met.{value_of, IsSeen, IsSorted, HasMet, IsPassed, lit_at, mark_of, waiting};
+ghost use Rattle.trail_core.specs.{Assigned.IsFalse, Meaning.trues, Formed.IsTrail};
+ghost use Rattle.conflict_analysis.specs.{PlaceSets.HasPlace, Met.{value_of, IsSeen, IsSorted, HasMet, IsPassed, lit_at, mark_of, waiting}};
 ghost use Rattle.conflict_analysis.specs.inner.Walks.{IsNext, IsStep, IsTaken};
 
 use crate::walk::{BOTTOM, KEPT, OPEN, RESOLVED, Walk};

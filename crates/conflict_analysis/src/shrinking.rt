@@ -5,8 +5,7 @@
 
 ghost use Rattle.std.specs.Prelude.{◌-◌, ◌<◌, ◌≤◌, IsTrue, length, get_or, OnOk};
 ghost use Rattle.trail_core.specs.Formed.{IsTrail};
-ghost use Rattle.conflict_analysis.specs.Met.{value_of, IsSorted, IsPassed};
-ghost use Rattle.conflict_analysis.specs.inner.Walks.{IsStep, HasWalked, HasSameOpen};
+ghost use Rattle.conflict_analysis.specs.{Met.{value_of, IsSorted, IsPassed}, inner.Walks.{IsStep, HasWalked, HasSameOpen}};
 
 use crate::implied::Implied;
 use crate::level_point::has_point;

@@ -1,8 +1,7 @@
 //! What is learned of a literal of level 0: a line of this literal alone.
 
 ghost use Rattle.std.specs.Prelude.{◌≡◌, ◌<◌, length, IfOk, OnOk};
-ghost use Rattle.conflict_analysis.specs.Met.{IsRested};
-ghost use Rattle.conflict_analysis.specs.UnitLines.{IsUnitLine};
+ghost use Rattle.conflict_analysis.specs.{Met.IsRested, UnitLines.IsUnitLine};
 
 use crate::analyze::walk_bottom;
 use crate::meeting::meet;

@@ -1,8 +1,7 @@
 //! What an analysis has met so far on its walk down the trail.
 
 ghost use Rattle.std.specs.Prelude.{◌≡◌, ℕ, ◌+◌, ◌<◌, ◌≤◌, [], length, slice_index, IfOk};
-ghost use Rattle.conflict_analysis.specs.Met.{IsRested};
-ghost use Rattle.conflict_analysis.specs.PlaceSets.{HasPlace};
+ghost use Rattle.conflict_analysis.specs.{Met.IsRested, PlaceSets.HasPlace};
 
 use crate::place_set::PlaceSet;
 use crate::places::Places;

@@ -2,8 +2,7 @@
 
 ghost use Rattle.std.specs.Prelude.{◌≡◌, ℕ, ◌+◌, ◌<◌, ◌≤◌, length, IfOk, IfSome, MatchOption};
 ghost use Rattle.cnf_formula.specs.Literals.{no};
-ghost use Rattle.trail_core.specs.Assigned.{IsOpen};
-ghost use Rattle.trail_core.specs.Meaning.{trues};
+ghost use Rattle.trail_core.specs.{Assigned.IsOpen, Meaning.trues};
 ghost use Rattle.decision_order.specs.inner.Orders.{IsVar};
 
 use crate::inputs::inputs_of;

@@ -1,17 +1,11 @@
 -- What an engine's record says of the frontier that its search gave.
-use Rattle.std.proofs.Common.{◌≡◌, inl, inr, List, ◌++◌, map, All, Contains, Option, refl, sym, ap, subst}
-use Rattle.std.specs.List.Sorted.{IsPermutation}
-use Rattle.std.proofs.lemmas.List.Elements.{All-contains, All-map, Contains-append_cases}
-use Rattle.std.proofs.lemmas.List.Sorted.{Contains-permutation}
-use Rattle.list_laws.proofs.Each.{all_contained}
-use Rattle.list_laws.proofs.Members.{Contains-map}
+use Rattle.std.{proofs.Common.{◌≡◌, inl, inr, List, ◌++◌, map, All, Contains, Option, refl, sym, ap, subst}, specs.List.Sorted.IsPermutation}
+use Rattle.std.proofs.lemmas.List.{Elements.{All-contains, All-map, Contains-append_cases}, Sorted.Contains-permutation}
+use Rattle.list_laws.proofs.{Each.all_contained, Members.Contains-map}
 use Rattle.candidate_order.specs.declared.candidate.Candidate.{Candidate}
 use Rattle.candidate_order.specs.Frontiers.{QuestionValue, FrontierValue, UnknownValue, IsTried, IsWithin, solved, given_up}
-use Rattle.engine_rules.specs.declared.settled.Settled.{Settled}
-use Rattle.engine_rules.specs.declared.settled.Settled.TheVariants.{Solved, Refuted, Unknown}
-use Rattle.engine_rules.specs.Outcomes.{RecordValue}
-use Rattle.pareto_search.specs.Recorded.{StaysWithin, entries_of}
-use Rattle.pareto_search.proofs.Entries.{with, unknown_there, refuted_there}
+use Rattle.engine_rules.specs.{declared.settled.Settled.{Settled, TheVariants.{Solved, Refuted, Unknown}}, Outcomes.RecordValue}
+use Rattle.pareto_search.{specs.Recorded.{StaysWithin, entries_of}, proofs.Entries.{with, unknown_there, refuted_there}}
 
 -- what a mapped list contains comes from what is mapped
 record ComesFrom {X Y : Type 0} (g : X → Y) (xs : List X) (y : Y) : Type 0 where

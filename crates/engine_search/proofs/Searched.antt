@@ -1,24 +1,12 @@
 -- What is searched in place of a question.
-use Rattle.std.proofs.Common.{◌≡◌, ◌≢◌, ◌∙◌, ℕ, Bool, true, false, List, refl, sym, ap, subst}
-use Rattle.std.specs.Prelude.{◌↔◌, ◌+◌, ◌≤◌, if◌then◌else◌, IsTrue, Contains}
+use Rattle.std.proofs.Common.{◌≡◌, ◌≢◌, ◌∙◌, ℕ, Bool, true, false, List, refl, sym, ap, subst, ◌↔◌, ◌+◌, ◌≤◌, if◌then◌else◌, IsTrue, Contains}
 use Rattle.schedule.specs.Links.{TopologyValue, reversed_of}
-use Rattle.collective_spec.specs.declared.kind.Kind.{Kind}
+use Rattle.collective_spec.specs.{declared.kind.Kind.Kind, Collectives.{adds_up, kind_in}, Kinds.allows}
 use Rattle.collective_spec.specs.declared.kind.Kind.TheVariants as kind
-use Rattle.collective_spec.specs.Collectives.{adds_up, kind_in}
-use Rattle.collective_spec.specs.Kinds.{allows}
-use Rattle.candidate_order.specs.declared.candidate.Candidate.{Candidate}
-use Rattle.candidate_order.specs.Copied.{copied_question}
-use Rattle.candidate_order.specs.Frontiers.{QuestionValue, IsWithin}
-use Rattle.candidate_order.specs.Listed.{AreAllowed}
+use Rattle.candidate_order.specs.{declared.candidate.Candidate.Candidate, Copied.copied_question, Frontiers.{QuestionValue, IsWithin}, Listed.AreAllowed}
 use Rattle.candidate_order.specs.Ranges.{LimitsValue}
-use Rattle.candidate_formula.specs.Formulas.{formula_for}
-use Rattle.candidate_formula.specs.Questions.{copying_question}
-use Rattle.candidate_formula.specs.Sizes.{size_of}
-use Rattle.candidate_formula.proofs.CopyingQuestions.{reduced_formula}
-use Rattle.candidate_formula.proofs.Copying.{copied_stays, same_allowed}
-use Rattle.candidate_formula.proofs.TurnedSize.{copied_size}
-use Rattle.candidate_formula.specs.Formulas.{searched_links}
-use Rattle.candidate_formula.specs.Searched.{searched_question}
+use Rattle.candidate_formula.specs.{Formulas.{formula_for, searched_links}, Questions.copying_question, Sizes.size_of, Searched.searched_question}
+use Rattle.candidate_formula.proofs.{CopyingQuestions.reduced_formula, Copying.{copied_stays, same_allowed}, TurnedSize.copied_size}
 
 -- ---- a reduction as its copy over the links turned round, and what copies as it is
 

@@ -3,10 +3,8 @@ use Rattle.std.specs.Prelude.{All}
 use Rattle.schedule.specs.Sends.{ScheduleValue}
 use Rattle.cnf_formula.specs.Formulas.{FormulaValue}
 use Rattle.proof_rules.specs.Refuting.{Exhausted}
-use Rattle.candidate_order.specs.declared.candidate.Candidate.{Candidate}
-use Rattle.candidate_order.specs.Frontiers.{QuestionValue, FrontierValue, RightFrontier, Searched, IsWithin}
-use Rattle.candidate_formula.specs.Formulas.{formula_for, Suits}
-use Rattle.candidate_formula.specs.Searched.{copying_schedule, searched_question}
+use Rattle.candidate_order.specs.{declared.candidate.Candidate.Candidate, Frontiers.{QuestionValue, FrontierValue, RightFrontier, Searched, IsWithin}}
+use Rattle.candidate_formula.specs.{Formulas.{formula_for, Suits}, Searched.{copying_schedule, searched_question}}
 
 -- it is right and searched in order, what was refuted is within the limits, the engine's formula of what was given up is exhausted, and each schedule, as the engine found it, has what the engine promises
 pub record IsFoundBy (q : QuestionValue) (formula : Candidate → FormulaValue) (suits : Candidate → ScheduleValue → Type 0) (f : FrontierValue) : Type 0 where

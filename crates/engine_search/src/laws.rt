@@ -3,9 +3,7 @@
 ghost use Rattle.std.specs.Prelude.{◌≡◌, ◌≢◌, ◌↔◌, false};
 ghost use Rattle.collective_spec.specs.Collectives.{adds_up, kind_in};
 ghost use Rattle.candidate_order.specs.Frontiers.{QuestionValue, IsWithin};
-ghost use Rattle.candidate_formula.specs.Formulas.{formula_for};
-ghost use Rattle.candidate_formula.specs.Sizes.{size_of};
-ghost use Rattle.candidate_formula.specs.Searched.{searched_question};
+ghost use Rattle.candidate_formula.specs.{Formulas.formula_for, Sizes.size_of, Searched.searched_question};
 
 use candidate_order::Candidate;
 use collective_spec::Kind;

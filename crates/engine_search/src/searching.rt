@@ -1,14 +1,12 @@
 //! The search with an engine, and the inversion of what it found for a reduction.
 
-ghost use Rattle.std.specs.Prelude.{◌≡◌, [], None, IfOk, OnOk};
-ghost use Rattle.std.specs.List.Sorted.{IsPermutation};
+ghost use Rattle.std.specs.{Prelude.{◌≡◌, [], None, IfOk, OnOk}, List.Sorted.IsPermutation};
 ghost use Rattle.outer_ports.specs.Port.{HasCause};
 ghost use Rattle.engine_rules.specs.Searches.{CanGoOn, IsSameSearch};
 ghost use Rattle.collective_spec.specs.Collectives.{IsSpec};
 ghost use Rattle.pareto_search.specs.Recorded.{StaysWithin, entries_of};
 ghost use Rattle.candidate_formula.specs.Searched.{searched_question};
-ghost use Rattle.engine_search.specs.Searched.{asked_frontier};
-ghost use Rattle.engine_search.specs.Found.{IsFoundBy};
+ghost use Rattle.engine_search.specs.{Searched.asked_frontier, Found.IsFoundBy};
 
 use crate::OutOfMemory;
 use candidate_formula::allowed_counts;

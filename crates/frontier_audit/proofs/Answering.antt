@@ -1,15 +1,11 @@
 -- The candidates that are not refuted tell which candidates are answered, and which marks are right.
-use Rattle.std.proofs.Common.{◌≡◌, Bool, true, false, List, [], ◌∷◌, map, Option, None, Some, Ok, refl, sym, ap, ◌∙◌}
-use Rattle.std.specs.Prelude.{◌||◌, ◌&&◌, not, if◌then◌else◌}
+use Rattle.std.proofs.Common.{◌≡◌, Bool, true, false, List, [], ◌∷◌, map, Option, None, Some, Ok, refl, sym, ap, ◌∙◌, ◌||◌, ◌&&◌, not, if◌then◌else◌}
 use Rattle.std.specs.List.{list_all}
 use Rattle.text_lines.specs.Check.{◌>>=◌, refuse}
-use Rattle.candidate_order.specs.declared.candidate.Candidate.{Candidate}
-use Rattle.candidate_order.specs.Frontiers.{QuestionValue, PointValue, UnknownValue, FrontierValue, given_up}
+use Rattle.candidate_order.specs.{declared.candidate.Candidate.Candidate, Frontiers.{QuestionValue, PointValue, UnknownValue, FrontierValue, given_up}}
 use Rattle.report_form.specs.Tests.{is_better}
-use Rattle.frontier_audit.specs.declared.verdict.Reason.TheVariants.{CandidateMissing, MarkWrong}
-use Rattle.frontier_audit.specs.Denials.{Denial, Checked, each}
+use Rattle.frontier_audit.specs.{declared.verdict.Reason.TheVariants.{CandidateMissing, MarkWrong}, Denials.{Denial, Checked, each}, Beside.denial_of}
 use Rattle.frontier_audit.specs.Candidates.{candidates_within, is_listed, same_candidate}
-use Rattle.frontier_audit.specs.Beside.{denial_of}
 use Rattle.frontier_audit.specs.inner.Steps.{answers_checked, is_bettered, is_given_up, is_settled, left_checked, marked_among, unrefuted_among, candidate_checked, mark_checked, is_mark}
 use Rattle.frontier_audit.proofs.Walking.{first_decides, rest_decides}
 

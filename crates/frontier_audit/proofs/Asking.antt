@@ -1,39 +1,22 @@
 -- What is asked in a part of a report, and the formulas of its candidates.
-use Rattle.std.proofs.Common.{◌≡◌, ◌≢◌, ℕ, ◌+◌, ◌*◌, ◌≤◌, Bool, true, false, [], ◌∷◌, Option, None, Some, length, refl, sym, ap, ◌∙◌, subst, arith}
-use Rattle.std.specs.Prelude.{◌<◌, if◌then◌else◌, All, Contains, sum_by}
-use Rattle.std.specs.Option.{is_some}
-use Rattle.std.proofs.lemmas.List.Elements.{All-nil, All-cons, All-contains}
+use Rattle.std.proofs.Common.{◌≡◌, ◌≢◌, ℕ, ◌+◌, ◌*◌, ◌≤◌, Bool, true, false, [], ◌∷◌, Option, None, Some, length, refl, sym, ap, ◌∙◌, subst, arith, ◌<◌, if◌then◌else◌, All, Contains, sum_by}
+use Rattle.std.{specs.Option.is_some, proofs.lemmas.List.Elements.{All-nil, All-cons, All-contains}}
 use Rattle.outer_ports.specs.declared.part.Part.{Part}
 use Rattle.outer_ports.specs.declared.part.Part.TheVariants as part
-use Rattle.schedule.specs.Links.{TopologyValue, usable_links, reversed_of}
-use Rattle.schedule.proofs.Turned.{turned_topology}
-use Rattle.collective_spec.specs.declared.kind.Kind.{Kind}
-use Rattle.collective_spec.specs.declared.kind.Kind.TheVariants as kind
-use Rattle.collective_spec.specs.declared.spec.Spec.{Spec}
-use Rattle.collective_spec.specs.Patterns.{PatternValue}
+use Rattle.schedule.{specs.Links.{TopologyValue, usable_links, reversed_of}, proofs.Turned.turned_topology}
+use Rattle.collective_spec.specs.{declared.{kind.Kind.Kind, spec.Spec.Spec}, Patterns.PatternValue, Kinds.allows}
 use Rattle.collective_spec.specs.Collectives.{adds_up, chunks_in, fits_kind, kind_in, spec_instance, spec_of}
-use Rattle.collective_spec.specs.Kinds.{allows}
 use Rattle.collective_spec.proofs.Sized.{fitting_spec}
-use Rattle.candidate_order.specs.declared.candidate.Candidate.{Candidate}
-use Rattle.candidate_order.specs.Ranges.{LimitsValue}
-use Rattle.candidate_order.specs.Frontiers.{QuestionValue, IsWithin}
-use Rattle.candidate_order.specs.Copied.{copied_spec}
+use Rattle.collective_spec.specs.declared.kind.Kind.TheVariants as kind
+use Rattle.candidate_order.specs.{declared.candidate.Candidate.Candidate, Ranges.LimitsValue, Frontiers.{QuestionValue, IsWithin}, Copied.copied_spec}
 use Rattle.round_encoding.specs.Candidates.{group_size, size_limit}
 use Rattle.report_form.specs.Reports.{ReportValue, IsReport, kind_of, parts_of, question_of}
-use Rattle.node_cuts.specs.declared.sets.Sets.{Sets}
-use Rattle.node_cuts.specs.Cuts.{first_cut_of}
-use Rattle.node_cuts.specs.Cutting.{cut_in, sets_for}
-use Rattle.node_cuts.specs.Tables.{TableValue, IsTableOf}
-use Rattle.candidate_formula.specs.Formulas.{formula_for, searched_on}
-use Rattle.candidate_formula.specs.Pruned.{is_cut_away}
-use Rattle.candidate_formula.specs.Sizes.{size_of}
+use Rattle.node_cuts.specs.{declared.sets.Sets.Sets, Cuts.first_cut_of, Cutting.{cut_in, sets_for}, Tables.{TableValue, IsTableOf}}
+use Rattle.candidate_formula.specs.{Formulas.{formula_for, searched_on}, Pruned.is_cut_away, Sizes.size_of}
 use Rattle.candidate_formula.specs.Questions.{IsSmallQuestion, IsSought, copying_question}
-use Rattle.candidate_formula.proofs.CopyingQuestions.{same_size, small_by_copying, within_by, reduced_formula}
-use Rattle.candidate_formula.proofs.Copying.{same_allowed, copied_stays}
+use Rattle.candidate_formula.proofs.{CopyingQuestions.{same_size, small_by_copying, within_by, reduced_formula}, Copying.{same_allowed, copied_stays}}
 use Rattle.candidate_formula.proofs.TurnedSize.{copied_size}
-use Rattle.frontier_audit.specs.inner.Auditable.{IsAuditable, IsPrepared}
-use Rattle.frontier_audit.proofs.Right.{apart, apart_in}
-use Rattle.frontier_audit.proofs.Unsolvable.{parts_fit}
+use Rattle.frontier_audit.{specs.inner.Auditable.{IsAuditable, IsPrepared}, proofs.{Right.{apart, apart_in}, Unsolvable.parts_fit}}
 
 -- ---- the links of the formulas
 

@@ -1,26 +1,16 @@
 -- The checks of a candidate's files pass exactly where the files are what they have to be.
-use Rattle.std.proofs.Common.{◌≡◌, ℕ, true, List, length, Ok, Option, None, Some, refl, sym, ap, ◌∙◌}
-use Rattle.std.specs.Prelude.{not, nat_le, bytes_eq}
+use Rattle.std.proofs.{Common.{◌≡◌, ℕ, true, List, length, Ok, Option, None, Some, refl, sym, ap, ◌∙◌, not, nat_le, bytes_eq}, lemmas.Slice.Eq.bytes_eq-Decides}
 use Rattle.std.proofs.lemmas.Bool.{and_parts, leb-true, le-leb, and_from}
-use Rattle.std.proofs.lemmas.Slice.Eq.{bytes_eq-Decides}
-use Rattle.text_lines.specs.Check.{◌>>=◌, refuse, need}
-use Rattle.text_lines.proofs.Checks.{need_ok}
-use Rattle.outer_ports.specs.declared.part.Part.{Part}
-use Rattle.outer_ports.specs.declared.proof_name.FileKind.TheVariants.{Cnf, Lrat, Partial}
-use Rattle.outer_ports.specs.Files.{Files}
+use Rattle.text_lines.{specs.Check.{◌>>=◌, refuse, need}, proofs.Checks.need_ok}
+use Rattle.outer_ports.specs.{declared.{part.Part.Part, proof_name.FileKind.TheVariants.{Cnf, Lrat, Partial}}, Files.Files}
 use Rattle.cnf_formula.specs.Formulas.{FormulaValue}
 use Rattle.lrat_text.specs.Printing.{cnf_text}
-use Rattle.candidate_order.specs.declared.candidate.Candidate.{Candidate}
-use Rattle.candidate_order.specs.Frontiers.{QuestionValue, UnknownValue}
-use Rattle.frontier_audit.specs.declared.verdict.Reason.TheVariants.{ProofMissing, ProofRefused, CnfDiffers, PartialRefused}
-use Rattle.frontier_audit.specs.Denials.{Denial, Checked}
-use Rattle.candidate_formula.specs.Said.{lines_said}
-use Rattle.candidate_formula.specs.Formulas.{formula_for}
-use Rattle.candidate_formula.specs.Files.{file_of, longest_proof, HasRefutation, HasLog}
-use Rattle.proof_audit.specs.Proving.{is_refutation, is_spent_log}
-use Rattle.proof_audit.specs.Tested.{do_refute, do_spend}
+use Rattle.candidate_order.specs.{declared.candidate.Candidate.Candidate, Frontiers.{QuestionValue, UnknownValue}}
+use Rattle.frontier_audit.specs.{declared.verdict.Reason.TheVariants.{ProofMissing, ProofRefused, CnfDiffers, PartialRefused}, Denials.{Denial, Checked}}
 use Rattle.frontier_audit.specs.Auditing.{refutation_checked, unknown_checked}
 use Rattle.frontier_audit.proofs.Passing.{then_ok, ok_then, refused_not, not_refused}
+use Rattle.candidate_formula.specs.{Said.lines_said, Formulas.formula_for, Files.{file_of, longest_proof, HasRefutation, HasLog}}
+use Rattle.proof_audit.specs.{Proving.{is_refutation, is_spent_log}, Tested.{do_refute, do_spend}}
 use Rattle.proof_audit.proofs.Proved.{refutes_by, by_refuting, spent_by, by_spending}
 
 -- ---- a refuted candidate

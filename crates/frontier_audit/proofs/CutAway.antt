@@ -1,26 +1,15 @@
 -- Of a candidate that is cut away no file is looked at, and it has no solution.
-use Rattle.std.proofs.Common.{◌≡◌, ◌≢◌, Bool, true, false, Option, None, Ok, refl, sym, ap, ◌∙◌, subst}
-use Rattle.std.specs.Prelude.{if◌then◌else◌}
-use Rattle.outer_ports.specs.declared.part.Part.{Part}
-use Rattle.outer_ports.specs.Files.{Files}
+use Rattle.std.proofs.Common.{◌≡◌, ◌≢◌, Bool, true, false, Option, None, Ok, refl, sym, ap, ◌∙◌, subst, if◌then◌else◌}
+use Rattle.outer_ports.specs.{declared.part.Part.Part, Files.Files}
 use Rattle.schedule.specs.Solving.{Solvable}
 use Rattle.collective_spec.specs.declared.kind.Kind.TheVariants as kind
 use Rattle.collective_spec.specs.Collectives.{IsSpec, adds_up, kind_in}
-use Rattle.candidate_order.specs.declared.candidate.Candidate.{Candidate}
-use Rattle.candidate_order.specs.Copied.{copied_question}
-use Rattle.candidate_order.specs.Frontiers.{QuestionValue, IsSolvable, instance_for}
+use Rattle.candidate_order.specs.{declared.candidate.Candidate.Candidate, Copied.copied_question, Frontiers.{QuestionValue, IsSolvable, instance_for}}
 use Rattle.candidate_order.proofs.Achieved.{Achievable, achieved}
 use Rattle.inversion.proofs.Copied.{solvable_exactly}
-use Rattle.node_cuts.specs.Cutting.{sets_for}
-use Rattle.node_cuts.proofs.Crossing.{first_says}
-use Rattle.candidate_formula.specs.Files.{HasRefutation}
-use Rattle.candidate_formula.specs.Pruned.{is_cut_away}
-use Rattle.candidate_formula.proofs.Copying.{copies}
-use Rattle.candidate_formula.proofs.CutAway.{copied_cut, reduced_cut}
-use Rattle.frontier_audit.specs.Denials.{Denial, Checked}
-use Rattle.frontier_audit.specs.Auditing.{refutation_checked}
-use Rattle.frontier_audit.specs.inner.Steps.{refuted_checked}
-use Rattle.frontier_audit.specs.Beside.{denial_of, AnswersBeside}
+use Rattle.node_cuts.{specs.Cutting.sets_for, proofs.Crossing.first_says}
+use Rattle.candidate_formula.{specs.{Files.HasRefutation, Pruned.is_cut_away}, proofs.{Copying.copies, CutAway.{copied_cut, reduced_cut}}}
+use Rattle.frontier_audit.specs.{Denials.{Denial, Checked}, Auditing.refutation_checked, inner.Steps.refuted_checked, Beside.{denial_of, AnswersBeside}}
 use Rattle.frontier_audit.proofs.Beside.{has_refutation, passes_refutation}
 
 -- ---- the check of a refuted candidate

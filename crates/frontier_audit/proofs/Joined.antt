@@ -1,31 +1,18 @@
 -- The checks of joined points pass exactly where they are the joins.
-use Rattle.std.proofs.Common.{◌≡◌, ℕ, true, List, [], ◌∷◌, map, Ok, refl, sym, ap, ◌∙◌, subst}
-use Rattle.std.specs.Prelude.{◌&&◌, ◌==◌, not, All, bytes_eq}
-use Rattle.std.specs.Cmp.Lexicographic.{pointwise}
-use Rattle.std.proofs.lemmas.Bool.{and_parts, eqb-true, eq-eqb, and_from}
+use Rattle.std.proofs.Common.{◌≡◌, ℕ, true, List, [], ◌∷◌, map, Ok, refl, sym, ap, ◌∙◌, subst, ◌&&◌, ◌==◌, not, All, bytes_eq}
+use Rattle.std.{specs.Cmp.Lexicographic.pointwise, proofs.lemmas.{Bool.{and_parts, eqb-true, eq-eqb, and_from}, Slice.Eq.bytes_eq-Decides}}
 use Rattle.std.proofs.lemmas.List.Elements.{All-nil, All-cons, All-head, All-tail}
-use Rattle.std.proofs.lemmas.Slice.Eq.{bytes_eq-Decides}
 use Rattle.text_lines.specs.Check.{refuse}
-use Rattle.schedule.specs.declared.hop.Hop.{Hop}
-use Rattle.schedule.specs.Links.{TopologyValue}
-use Rattle.schedule.specs.Sends.{ScheduleValue}
+use Rattle.schedule.specs.{declared.hop.Hop.Hop, Links.TopologyValue, Sends.ScheduleValue}
 use Rattle.collective_spec.specs.declared.kind.Kind.TheVariants as kind
 use Rattle.collective_spec.specs.Collectives.{chunks_of}
-use Rattle.candidate_order.specs.declared.candidate.Candidate.{Candidate}
-use Rattle.candidate_order.specs.declared.mark.Mark.{Mark}
+use Rattle.candidate_order.specs.{declared.{candidate.Candidate.Candidate, mark.Mark.Mark}, Frontiers.PointValue}
 use Rattle.candidate_order.specs.declared.mark.Mark.TheVariants as mark
-use Rattle.candidate_order.specs.Frontiers.{PointValue}
-use Rattle.allreduce_join.specs.Joins.{join_of, IsJoin}
-use Rattle.allreduce_join.specs.Judging.{joined_verdict_of}
-use Rattle.allreduce_join.proofs.Told.{all_summed_exactly}
-use Rattle.frontier_audit.specs.declared.verdict.Reason.TheVariants.{JoinWrong}
-use Rattle.inversion.specs.Saying.{says_sums}
-use Rattle.frontier_audit.specs.Candidates.{same_candidate}
+use Rattle.allreduce_join.{specs.{Joins.{join_of, IsJoin}, Judging.joined_verdict_of}, proofs.Told.all_summed_exactly}
+use Rattle.frontier_audit.specs.{declared.verdict.Reason.TheVariants.JoinWrong, Candidates.same_candidate, inner.Steps.{same_hop, same_schedule, is_join}}
 use Rattle.frontier_audit.specs.Joining.{same_mark, same_point, joins_checked, IsSummable}
-use Rattle.frontier_audit.specs.inner.Steps.{same_hop, same_schedule, is_join}
-use Rattle.frontier_audit.proofs.Passing.{then_ok, ok_then, refused_not, not_refused}
-use Rattle.frontier_audit.proofs.Tried.{same_is, same_itself}
-use Rattle.frontier_audit.proofs.Solved.{sums_said}
+use Rattle.frontier_audit.proofs.{Passing.{then_ok, ok_then, refused_not, not_refused}, Tried.{same_is, same_itself}, Solved.sums_said}
+use Rattle.inversion.specs.Saying.{says_sums}
 
 -- ---- the test of the same point
 

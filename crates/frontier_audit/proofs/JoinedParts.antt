@@ -7,10 +7,7 @@ use Rattle.collective_spec.specs.declared.kind.Kind.TheVariants as kind
 use Rattle.candidate_order.specs.Frontiers.{FrontierValue}
 use Rattle.allreduce_join.specs.Joins.{pairs_of}
 use Rattle.report_form.specs.Reports.{ReportValue, IsReport, parts_of}
-use Rattle.frontier_audit.specs.Denials.{in_part}
-use Rattle.frontier_audit.specs.Joining.{joined_checked, joins_checked}
-use Rattle.frontier_audit.specs.Parts.{is_gather, is_reduce, points_of}
-use Rattle.frontier_audit.specs.inner.Steps.{joins_of}
+use Rattle.frontier_audit.specs.{Denials.in_part, Joining.{joined_checked, joins_checked}, Parts.{is_gather, is_reduce, points_of}, inner.Steps.joins_of}
 use Rattle.frontier_audit.proofs.Jointly.{parts_are}
 
 two_joined : (r : ReportValue) (f h : FrontierValue) (xs : List (Part × FrontierValue)) → xs ≡ (part.Reduce, f) ∷ (part.Gather, h) ∷ []

@@ -1,17 +1,10 @@
 -- Answers that are given beside different files are given beside one shelf, where each looks at names of its own.
-use Rattle.std.proofs.Common.{◌≡◌, ℕ, ◌+◌, ◌<◌, Bool, true, false, List, [], ◌∷◌, length, drop, get_or, Option, None, Some, refl, sym, ap, ◌∙◌, subst, arith}
-use Rattle.std.specs.Prelude.{not, if◌then◌else◌, IsTrue, All, AllPairs}
-use Rattle.std.proofs.lemmas.List.{get_or-drop, get_or_default, length-drop}
-use Rattle.std.proofs.lemmas.List.Elements.{All-head, All-tail}
+use Rattle.std.proofs.Common.{◌≡◌, ℕ, ◌+◌, ◌<◌, Bool, true, false, List, [], ◌∷◌, length, drop, get_or, Option, None, Some, refl, sym, ap, ◌∙◌, subst, arith, not, if◌then◌else◌, IsTrue, All, AllPairs}
+use Rattle.std.proofs.lemmas.List.{get_or-drop, get_or_default, length-drop, Elements.{All-head, All-tail}}
 use Rattle.text_lines.specs.Check.{◌>>=◌}
-use Rattle.outer_ports.specs.declared.proof_name.ProofName.{ProofName}
-use Rattle.outer_ports.specs.Files.{Files}
-use Rattle.outer_ports.specs.Port.{Tells}
-use Rattle.outer_ports.specs.Shelf.{FilesStay}
+use Rattle.outer_ports.specs.{declared.proof_name.ProofName.ProofName, Files.Files, Port.Tells, Shelf.FilesStay}
 use Rattle.report_form.proofs.PointNumbers.{from_here}
-use Rattle.frontier_audit.specs.Denials.{Checked, each}
-use Rattle.frontier_audit.specs.Beside.{denial_of, AnswersBeside}
-use Rattle.frontier_audit.proofs.Walking.{first_decides, rest_decides}
+use Rattle.frontier_audit.{specs.{Denials.{Checked, each}, Beside.{denial_of, AnswersBeside}}, proofs.Walking.{first_decides, rest_decides}}
 
 -- the check says the same of files that agree on these names
 abbrev pub LooksAt : {E : Type 0} → (ProofName → Bool) → (Files → Checked E) → Type 0

@@ -1,24 +1,15 @@
 -- The joined points of an allreduce, pair by pair.
-use Rattle.std.proofs.Common.{◌≡◌, ℕ, zero, suc, ◌+◌, ◌<◌, ◌≤◌, Bool, true, false, List, [], ◌∷◌, ◌++◌, length, map, take, drop, get_or, Option, None, Some, add-one, append_assoc, append-nil, refl, sym, ap, ◌∙◌, subst}
-use Rattle.std.specs.Prelude.{◌==◌, ◌&&◌, if◌then◌else◌, filter, slice_get}
-use Rattle.std.proofs.lemmas.Bool.{eq-eqb}
-use Rattle.std.proofs.lemmas.List.{map-append, take-append-drop, take_more, take_all}
-use Rattle.std.proofs.lemmas.List.Elements.{filter-append}
-use Rattle.std.proofs.lemmas.Option.{slice_get-get_or}
+use Rattle.std.proofs.Common.{◌≡◌, ℕ, zero, suc, ◌+◌, ◌<◌, ◌≤◌, Bool, true, false, List, [], ◌∷◌, ◌++◌, length, map, take, drop, get_or, Option, None, Some, add-one, append_assoc, append-nil, refl, sym, ap, ◌∙◌, subst, ◌==◌, ◌&&◌, if◌then◌else◌, filter, slice_get}
+use Rattle.std.proofs.lemmas.{Bool.eq-eqb, List.{map-append, take-append-drop, take_more, take_all, Elements.filter-append}, Option.slice_get-get_or}
 use Rattle.schedule.specs.Links.{TopologyValue}
 use Rattle.collective_spec.specs.declared.kind.Kind.TheVariants as kind
 use Rattle.collective_spec.specs.Collectives.{chunks_of}
 use Rattle.candidate_order.specs.Frontiers.{PointValue}
-use Rattle.allreduce_join.specs.Joins.{join_of, pairs_of}
-use Rattle.allreduce_join.specs.Judging.{joined_verdict_of}
+use Rattle.allreduce_join.specs.{Joins.{join_of, pairs_of}, Judging.joined_verdict_of}
 use Rattle.inversion.specs.Saying.{says_sums}
-use Rattle.frontier_audit.specs.declared.verdict.Reason.TheVariants.{JoinWrong}
-use Rattle.frontier_audit.specs.Denials.{Denial}
-use Rattle.frontier_audit.specs.Joining.{joins_checked, same_point}
-use Rattle.frontier_audit.specs.Beside.{denial_of}
+use Rattle.frontier_audit.specs.{declared.verdict.Reason.TheVariants.JoinWrong, Denials.Denial, Joining.{joins_checked, same_point}, Beside.denial_of}
 use Rattle.frontier_audit.specs.inner.Steps.{JoinsSay, join_checked, pairs_with, is_join}
-use Rattle.frontier_audit.proofs.Joined.{point_is}
-use Rattle.frontier_audit.proofs.Walking.{failing_denies, first_decides, passing_denies_none, rest_decides}
+use Rattle.frontier_audit.proofs.{Joined.point_is, Walking.{failing_denies, first_decides, passing_denies_none, rest_decides}}
 
 abbrev Pairs : Type 0
 Pairs = List (PointValue × PointValue)

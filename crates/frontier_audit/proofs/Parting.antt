@@ -1,25 +1,16 @@
 -- The checks of a part, one after the other, and of the parts.
-use Rattle.std.proofs.Common.{◌≡◌, ℕ, ◌<◌, Bool, true, false, List, [], ◌∷◌, length, map, get_or, Option, None, Some, Ok, Err, refl, sym, ap, ◌∙◌, subst}
-use Rattle.std.specs.Prelude.{◌==◌, not, AllPairs, Contains}
-use Rattle.std.proofs.Math.ListN.{get_or-map}
-use Rattle.std.proofs.lemmas.List.{length-map}
-use Rattle.std.proofs.lemmas.List.Elements.{All-nil, All-cons}
-use Rattle.std.proofs.lemmas.List.Kept.{AllPairs-cons}
+use Rattle.std.proofs.Common.{◌≡◌, ℕ, ◌<◌, Bool, true, false, List, [], ◌∷◌, length, map, get_or, Option, None, Some, Ok, Err, refl, sym, ap, ◌∙◌, subst, ◌==◌, not, AllPairs, Contains}
+use Rattle.std.proofs.{Math.ListN.get_or-map, lemmas.List.{length-map, Elements.{All-nil, All-cons}, Kept.AllPairs-cons}}
 use Rattle.text_lines.specs.Check.{◌>>=◌}
-use Rattle.outer_ports.specs.declared.part.Part.{Part}
-use Rattle.outer_ports.specs.declared.part.Part.TheVariants as part
-use Rattle.outer_ports.specs.declared.proof_name.FileKind.{FileKind}
-use Rattle.outer_ports.specs.declared.proof_name.FileKind.TheVariants.{Cnf, Lrat, Partial}
-use Rattle.outer_ports.specs.declared.proof_name.ProofName.{ProofName}
+use Rattle.outer_ports.specs.declared.{part.Part.Part, proof_name.{FileKind.{FileKind, TheVariants.{Cnf, Lrat, Partial}}, ProofName.ProofName}}
 use Rattle.outer_ports.specs.Files.{Files, part_number}
+use Rattle.outer_ports.specs.declared.part.Part.TheVariants as part
 use Rattle.collective_spec.specs.declared.kind.Kind.{Kind}
 use Rattle.collective_spec.specs.declared.kind.Kind.TheVariants as kind
 use Rattle.candidate_order.specs.Frontiers.{QuestionValue, FrontierValue}
 use Rattle.report_form.specs.Reports.{ReportValue, IsReport, IsFrontier, parts_of, question_of}
 use Rattle.send_encoding.proofs.Orders.{one_pairs}
-use Rattle.frontier_audit.specs.Denials.{Denial, Checked, each, in_part}
-use Rattle.frontier_audit.specs.Auditing.{unknown_checked, frontier_checked}
-use Rattle.frontier_audit.specs.Beside.{denial_of, AnswersBeside}
+use Rattle.frontier_audit.specs.{Denials.{Denial, Checked, each, in_part}, Auditing.{unknown_checked, frontier_checked}, Beside.{denial_of, AnswersBeside}}
 use Rattle.frontier_audit.specs.inner.Steps.{answers_checked, part_checked, point_checked, refuted_checked}
 use Rattle.frontier_audit.proofs.Merging.{LooksAt, goes_on, looks_each, looks_then, plain, plainly_then, stops, then_plainly}
 use Rattle.frontier_audit.proofs.Said.{looks_refuted, looks_unknown}

@@ -1,12 +1,8 @@
 -- Where checks pass.
-use Rattle.std.proofs.Common.{◌≡◌, Bool, true, false, List, [], ◌∷◌, Ok, Err, refl}
-use Rattle.std.specs.Prelude.{All, not}
-use Rattle.std.proofs.lemmas.List.Elements.{All-nil, All-cons, All-head, All-tail}
-use Rattle.text_lines.specs.Check.{◌>>=◌, refuse}
-use Rattle.text_lines.proofs.Checks.{bind_ok}
+use Rattle.std.proofs.{Common.{◌≡◌, Bool, true, false, List, [], ◌∷◌, Ok, Err, refl, All, not}, lemmas.List.Elements.{All-nil, All-cons, All-head, All-tail}}
+use Rattle.text_lines.{specs.Check.{◌>>=◌, refuse}, proofs.Checks.bind_ok}
 use Rattle.outer_ports.specs.declared.part.Part.{Part}
-use Rattle.frontier_audit.specs.declared.verdict.AuditVerdict.TheVariants.{Verified}
-use Rattle.frontier_audit.specs.Denials.{Denial, Checked, each, in_part, verdict_from}
+use Rattle.frontier_audit.specs.{declared.verdict.AuditVerdict.TheVariants.Verified, Denials.{Denial, Checked, each, in_part, verdict_from}}
 
 -- a check and the rest, both ways
 pub then_ok : {E : Type 0} (first rest : Checked E) → (first >>= (λ _. rest)) ≡ Ok tt → (first ≡ Ok tt) × (rest ≡ Ok tt)

@@ -1,14 +1,10 @@
 -- The files that a search leaves are what an audit looks for.
-use Rattle.std.proofs.Common.{◌≡◌, false}
-use Rattle.std.proofs.lemmas.List.Elements.{All-weaker}
-use Rattle.outer_ports.specs.declared.part.Part.{Part}
-use Rattle.outer_ports.specs.Files.{Files}
+use Rattle.std.proofs.{Common.{◌≡◌, false}, lemmas.List.Elements.All-weaker}
+use Rattle.outer_ports.specs.{declared.part.Part.Part, Files.Files}
 use Rattle.candidate_order.specs.Frontiers.{QuestionValue, FrontierValue}
-use Rattle.candidate_formula.specs.Files.{HasRefutation, HasLog, RefutedFiles, UnknownFiles, FrontierFiles}
-use Rattle.candidate_formula.specs.Pruned.{is_cut_away}
+use Rattle.candidate_formula.specs.{Files.{HasRefutation, HasLog, RefutedFiles, UnknownFiles, FrontierFiles}, Pruned.is_cut_away}
 use Rattle.report_form.specs.Reports.{ReportValue, question_of}
-use Rattle.frontier_audit.specs.OwedFiles.{Proves}
-use Rattle.frontier_audit.specs.Shelves.{PartRight, ShelfRight}
+use Rattle.frontier_audit.specs.{OwedFiles.Proves, Shelves.{PartRight, ShelfRight}}
 
 files_right : (part : Part) (q : QuestionValue) (files : Files) (f : FrontierValue) → FrontierFiles part q files f → PartRight part q f files
 files_right part q files f has = record {

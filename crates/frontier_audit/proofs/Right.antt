@@ -1,40 +1,25 @@
 -- An audit finds nothing to deny exactly where the frontiers, the files and the joined points are right.
-use Rattle.std.proofs.Common.{◌≡◌, true, [], ◌∷◌, get_or, Option, None, Some, Ok, refl, sym, ap, ◌∙◌, subst}
-use Rattle.std.specs.Prelude.{◌≢◌, All, Contains}
+use Rattle.std.proofs.Common.{◌≡◌, true, [], ◌∷◌, get_or, Option, None, Some, Ok, refl, sym, ap, ◌∙◌, subst, ◌≢◌, All, Contains}
 use Rattle.std.proofs.lemmas.List.Elements.{All-nil, All-cons, All-contains, All-contains_itself}
-use Rattle.outer_ports.specs.declared.part.Part.{Part}
+use Rattle.outer_ports.specs.{declared.part.Part.Part, Files.Files}
 use Rattle.outer_ports.specs.declared.part.Part.TheVariants as part
-use Rattle.outer_ports.specs.Files.{Files}
 use Rattle.schedule.specs.Sends.{IsInRange}
-use Rattle.collective_spec.specs.Collectives.{kind_in, chunks_in, spec_of, fits_kind}
-use Rattle.collective_spec.specs.declared.collective.Collective.{Collective}
-use Rattle.collective_spec.specs.declared.spec.Spec.TheVariants as spec
-use Rattle.collective_spec.specs.Patterns.{PatternValue}
+use Rattle.collective_spec.specs.{Collectives.{kind_in, chunks_in, spec_of, fits_kind}, declared.collective.Collective.Collective, Patterns.PatternValue}
 use Rattle.collective_spec.specs.declared.kind.Kind.{Kind}
+use Rattle.collective_spec.specs.declared.spec.Spec.TheVariants as spec
 use Rattle.collective_spec.specs.declared.kind.Kind.TheVariants as kind
 use Rattle.candidate_order.specs.Frontiers.{QuestionValue, FrontierValue, IsSolvable, IsPoint, RightFrontier}
 use Rattle.allreduce_join.specs.Joins.{Joins, pairs_of}
 use Rattle.report_form.specs.Reports.{ReportValue, IsReport, IsFrontier, parts_of, kind_of, question_of}
 use Rattle.round_encoding.proofs.Obeyed.{all_map}
-use Rattle.frontier_audit.specs.declared.verdict.AuditVerdict.TheVariants.{Verified}
-use Rattle.frontier_audit.specs.declared.verdict.Reason.TheVariants.{ScheduleWrong, MarkWrong, CandidateMissing}
-use Rattle.frontier_audit.specs.Shelves.{PartRight, ShelfRight}
-use Rattle.frontier_audit.specs.Candidates.{candidates_within}
-use Rattle.frontier_audit.specs.Solutions.{is_solution, is_optimal}
-use Rattle.frontier_audit.specs.Joining.{IsSummable, joins_checked, joined_checked}
-use Rattle.frontier_audit.specs.Parts.{is_reduce, is_gather, points_of}
-use Rattle.frontier_audit.specs.Auditing.{audit_of}
+use Rattle.frontier_audit.specs.declared.verdict.{AuditVerdict.TheVariants.Verified, Reason.TheVariants.{ScheduleWrong, MarkWrong, CandidateMissing}}
+use Rattle.frontier_audit.specs.{Shelves.{PartRight, ShelfRight}, Candidates.candidates_within, Solutions.{is_solution, is_optimal}, Auditing.audit_of}
+use Rattle.frontier_audit.specs.{Joining.{IsSummable, joins_checked, joined_checked}, Parts.{is_reduce, is_gather, points_of}}
 use Rattle.frontier_audit.specs.inner.Steps.{is_answered, is_mark, joins_of}
-use Rattle.frontier_audit.proofs.Passing.{refused_not, not_refused, in_part_ok, ok_in_part}
-use Rattle.frontier_audit.proofs.Beside.{passes_log}
-use Rattle.frontier_audit.proofs.CutAway.{passes_refuted}
-use Rattle.frontier_audit.proofs.Audited.{Passes, PartPasses, report_passes, report_passed}
-use Rattle.frontier_audit.proofs.Tried.{listed_contains, within_listed, each_within}
-use Rattle.frontier_audit.proofs.Marked.{answered_decides, optimal_decides, mark_by, by_mark}
-use Rattle.frontier_audit.proofs.Solved.{solved_by, by_solution}
+use Rattle.frontier_audit.proofs.{Passing.{refused_not, not_refused, in_part_ok, ok_in_part}, Beside.passes_log, CutAway.passes_refuted, Shelves.question}
+use Rattle.frontier_audit.proofs.{Audited.{Passes, PartPasses, report_passes, report_passed}, Tried.{listed_contains, within_listed, each_within}}
+use Rattle.frontier_audit.proofs.{Marked.{answered_decides, optimal_decides, mark_by, by_mark}, Solved.{solved_by, by_solution}, JoinedParts.joined_by_kind}
 use Rattle.frontier_audit.proofs.Joined.{are_joined, joined_are}
-use Rattle.frontier_audit.proofs.JoinedParts.{joined_by_kind}
-use Rattle.frontier_audit.proofs.Shelves.{question}
 
 -- ---- a part
 

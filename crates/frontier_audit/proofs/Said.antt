@@ -1,36 +1,18 @@
 -- What is said of the files of a candidate, and what it denies.
-use Rattle.std.proofs.Common.{◌≡◌, ℕ, Bool, true, false, List, Option, None, Some, Ok, refl, sym, ap, ◌∙◌, subst}
-use Rattle.std.specs.Prelude.{not, if◌then◌else◌, bytes_eq, IsTrue}
+use Rattle.std.proofs.Common.{◌≡◌, ℕ, Bool, true, false, List, Option, None, Some, Ok, refl, sym, ap, ◌∙◌, subst, not, if◌then◌else◌, bytes_eq, IsTrue}
 use Rattle.text_lines.specs.Check.{◌>>=◌, refuse, need}
-use Rattle.outer_ports.specs.declared.part.Part.{Part}
-use Rattle.outer_ports.specs.declared.proof_name.FileKind.{FileKind}
-use Rattle.outer_ports.specs.declared.proof_name.FileKind.TheVariants.{Cnf, Lrat, Partial}
-use Rattle.outer_ports.specs.declared.proof_name.ProofName.{ProofName}
-use Rattle.outer_ports.specs.Files.{Files}
-use Rattle.outer_ports.specs.Port.{Tells}
-use Rattle.outer_ports.specs.Shelf.{FilesStay}
+use Rattle.outer_ports.specs.{declared.{part.Part.Part, proof_name.{FileKind.{FileKind, TheVariants.{Cnf, Lrat, Partial}}, ProofName.ProofName}}, Files.Files}
+use Rattle.outer_ports.specs.{Port.Tells, Shelf.FilesStay}
 use Rattle.cnf_formula.specs.Formulas.{FormulaValue}
 use Rattle.lrat_text.specs.Printing.{cnf_text}
-use Rattle.candidate_order.specs.declared.candidate.Candidate.{Candidate}
-use Rattle.candidate_order.specs.Costs.{Before}
-use Rattle.candidate_order.specs.Frontiers.{QuestionValue, UnknownValue}
-use Rattle.candidate_order.proofs.Orders.{Before-irrefl}
-use Rattle.candidate_formula.specs.Formulas.{formula_for}
-use Rattle.candidate_formula.specs.Files.{candidate_of, file_of}
-use Rattle.candidate_formula.specs.Pruned.{is_cut_away}
-use Rattle.proof_audit.specs.declared.verdict.FileVerdict.{FileVerdict}
-use Rattle.proof_audit.specs.declared.verdict.FileVerdict.TheVariants.{Refused, Stands}
-use Rattle.proof_audit.specs.Proving.{is_refutation, is_spent_log}
+use Rattle.candidate_order.{specs.{declared.candidate.Candidate.Candidate, Costs.Before, Frontiers.{QuestionValue, UnknownValue}}, proofs.Orders.Before-irrefl}
+use Rattle.candidate_formula.specs.{Formulas.formula_for, Files.{candidate_of, file_of}, Pruned.is_cut_away}
+use Rattle.proof_audit.specs.{declared.verdict.FileVerdict.{FileVerdict, TheVariants.{Refused, Stands}}, Proving.{is_refutation, is_spent_log}}
 use Rattle.proof_audit.specs.Files.{file_verdict, IsFileVerdict}
-use Rattle.frontier_audit.specs.declared.verdict.Reason.TheVariants.{ProofMissing, ProofRefused, CnfDiffers, PartialRefused}
-use Rattle.frontier_audit.specs.Denials.{Denial, Checked}
-use Rattle.frontier_audit.specs.Candidates.{same_candidate}
-use Rattle.frontier_audit.specs.Auditing.{refutation_checked, unknown_checked}
-use Rattle.frontier_audit.specs.Beside.{denial_of, AnswersBeside}
+use Rattle.frontier_audit.specs.{declared.verdict.Reason.TheVariants.{ProofMissing, ProofRefused, CnfDiffers, PartialRefused}, Denials.{Denial, Checked}}
+use Rattle.frontier_audit.specs.{Candidates.same_candidate, Auditing.{refutation_checked, unknown_checked}, Beside.{denial_of, AnswersBeside}}
 use Rattle.frontier_audit.specs.inner.Steps.{denial_for, refuted_checked}
-use Rattle.frontier_audit.proofs.Beside.{over_files}
-use Rattle.frontier_audit.proofs.Merging.{LooksAt}
-use Rattle.frontier_audit.proofs.Tried.{same_is, same_itself}
+use Rattle.frontier_audit.proofs.{Beside.over_files, Merging.LooksAt, Tried.{same_is, same_itself}}
 
 -- ---- one file
 

@@ -1,19 +1,11 @@
 -- What a right shelf says, drawn out.
-use Rattle.std.proofs.Common.{◌≡◌, false, sym, ◌∙◌}
-use Rattle.std.specs.Prelude.{Contains, None}
-use Rattle.std.proofs.lemmas.List.Elements.{All-contains}
-use Rattle.std.proofs.lemmas.Option.{none-some}
-use Rattle.outer_ports.specs.declared.part.Part.{Part}
-use Rattle.outer_ports.specs.declared.proof_name.FileKind.TheVariants.{Cnf, Lrat, Partial}
-use Rattle.outer_ports.specs.Files.{Files}
+use Rattle.std.proofs.{Common.{◌≡◌, false, sym, ◌∙◌, Contains, None}, lemmas.{List.Elements.All-contains, Option.none-some}}
+use Rattle.outer_ports.specs.{declared.{part.Part.Part, proof_name.FileKind.TheVariants.{Cnf, Lrat, Partial}}, Files.Files}
 use Rattle.cnf_formula.specs.Formulas.{Satisfiable}
-use Rattle.candidate_order.specs.declared.candidate.Candidate.{Candidate}
-use Rattle.candidate_order.specs.Frontiers.{QuestionValue, FrontierValue, UnknownValue}
+use Rattle.candidate_order.specs.{declared.candidate.Candidate.Candidate, Frontiers.{QuestionValue, FrontierValue, UnknownValue}}
 use Rattle.proof_rules.proofs.Calm.{never_refuted}
 use Rattle.report_form.specs.Reports.{ReportValue, question_of}
-use Rattle.candidate_formula.specs.Formulas.{formula_for}
-use Rattle.candidate_formula.specs.Files.{file_of, HasRefutation, HasLog}
-use Rattle.candidate_formula.specs.Pruned.{is_cut_away}
+use Rattle.candidate_formula.specs.{Formulas.formula_for, Files.{file_of, HasRefutation, HasLog}, Pruned.is_cut_away}
 use Rattle.frontier_audit.specs.Shelves.{PartRight, ShelfRight}
 
 abbrev pub question : ReportValue → Part → QuestionValue

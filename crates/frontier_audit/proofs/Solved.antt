@@ -1,23 +1,14 @@
 -- The check of a point's schedule passes exactly where it solves, or sums.
-use Rattle.std.proofs.Common.{◌≡◌, ℕ, Bool, true, false, length, sum, refl, ap}
-use Rattle.std.specs.Prelude.{if◌then◌else◌}
-use Rattle.schedule.specs.declared.verdict.Verdict.{Verdict}
-use Rattle.schedule.specs.declared.verdict.Verdict.TheVariants as verdict
-use Rattle.schedule.specs.Links.{TopologyValue}
-use Rattle.schedule.specs.Placed.{PlacementValue}
-use Rattle.schedule.specs.Sends.{ScheduleValue}
-use Rattle.schedule.specs.Solving.{Solves}
-use Rattle.schedule.specs.Summing.{Sums}
+use Rattle.std.proofs.Common.{◌≡◌, ℕ, Bool, true, false, length, sum, refl, ap, if◌then◌else◌}
+use Rattle.schedule.specs.{declared.verdict.Verdict.Verdict, Links.TopologyValue, Placed.PlacementValue, Sends.ScheduleValue, Solving.Solves, Summing.Sums}
 use Rattle.schedule.specs.Judging.{verdict_of}
 use Rattle.schedule.proofs.Verdicts.{tells_solves}
-use Rattle.inversion.specs.declared.verdict.SumVerdict.{SumVerdict}
+use Rattle.schedule.specs.declared.verdict.Verdict.TheVariants as verdict
+use Rattle.inversion.{specs.{declared.verdict.SumVerdict.SumVerdict, Judging.sum_verdict_of, Saying.{says_solves, says_sums}}, proofs.Told.sums_exactly}
 use Rattle.inversion.specs.declared.verdict.SumVerdict.TheVariants as sums
-use Rattle.inversion.specs.Judging.{sum_verdict_of}
-use Rattle.inversion.proofs.Told.{sums_exactly}
 use Rattle.collective_spec.specs.Collectives.{adds_up}
 use Rattle.candidate_order.specs.Frontiers.{QuestionValue, PointValue, IsSolvedBy, Achieves, instance_for, demand_for}
 use Rattle.report_form.specs.Reports.{HasSchedule}
-use Rattle.inversion.specs.Saying.{says_solves, says_sums}
 use Rattle.frontier_audit.specs.Solutions.{is_solution}
 
 solves_said : (v : Verdict) → says_solves v ≡ true → v ≡ verdict.Solves

@@ -1,23 +1,14 @@
 -- The candidates of a search are just those within the limits.
-use Rattle.std.proofs.Common.{◌≡◌, ℕ, zero, suc, ◌+◌, ◌<◌, ◌≤◌, Bool, true, false, List, [], ◌∷◌, map, Decides, refl, sym, ap, ◌∙◌, subst, ⊎_elim, arith}
-use Rattle.std.specs.Prelude.{◌&&◌, ◌||◌, ◌==◌, ◌↔◌, if◌then◌else◌, filter, nat_le, All, Contains}
-use Rattle.std.specs.List.{list_any, range_with_len}
-use Rattle.std.proofs.lemmas.Bool.{and_parts, eqb-true, eq-eqb, cases_eq, or_left, or_right, leb-true, and_from}
-use Rattle.std.proofs.lemmas.Bool.Decides.{Decides-like, same_from_decides}
-use Rattle.std.proofs.lemmas.List.Elements.{All-nil, All-cons, All-head, All-tail, All-contains}
+use Rattle.std.proofs.Common.{◌≡◌, ℕ, zero, suc, ◌+◌, ◌<◌, ◌≤◌, Bool, true, false, List, [], ◌∷◌, map, Decides, refl, sym, ap, ◌∙◌, subst, ⊎_elim, arith, ◌&&◌, ◌||◌, ◌==◌, ◌↔◌, if◌then◌else◌, filter, nat_le, All, Contains}
+use Rattle.std.{specs.List.{list_any, range_with_len}, proofs.lemmas.Bool.{and_parts, eqb-true, eq-eqb, cases_eq, or_left, or_right, leb-true, and_from}}
+use Rattle.std.proofs.lemmas.{Bool.Decides.{Decides-like, same_from_decides}, List.Elements.{All-nil, All-cons, All-head, All-tail, All-contains}}
 use Rattle.std.proofs.lemmas.List.Folds.{list_any_at, Any-from_list_any}
-use Rattle.collective_spec.specs.Kinds.{allows}
-use Rattle.collective_spec.specs.Collectives.{kind_in}
-use Rattle.candidate_order.specs.declared.candidate.Candidate.{Candidate}
-use Rattle.candidate_order.specs.Listed.{candidate_at}
-use Rattle.candidate_order.specs.Frontiers.{QuestionValue, IsWithin}
+use Rattle.collective_spec.specs.{Kinds.allows, Collectives.kind_in}
+use Rattle.candidate_order.specs.{declared.candidate.Candidate.Candidate, Listed.candidate_at, Frontiers.{QuestionValue, IsWithin}}
 use Rattle.report_form.specs.Tests.{is_before}
-use Rattle.send_encoding.proofs.Everywhere.{in_map, in_flat, From, in_range}
-use Rattle.send_encoding.proofs.Decoded.{any_range}
-use Rattle.send_encoding.proofs.Members.{kept}
+use Rattle.send_encoding.proofs.{Everywhere.{in_map, in_flat, From, in_range}, Decoded.any_range, Members.kept}
 use Rattle.candidate_formula.specs.Counts.{counts_of}
-use Rattle.frontier_audit.specs.Candidates.{same_candidate, is_listed, put_in_order, in_search_order, candidates_within}
-use Rattle.frontier_audit.specs.inner.Steps.{candidates_of_step}
+use Rattle.frontier_audit.specs.{Candidates.{same_candidate, is_listed, put_in_order, in_search_order, candidates_within}, inner.Steps.candidates_of_step}
 
 -- ---- the test of the same candidate
 

@@ -1,40 +1,23 @@
 -- A refuted candidate has no solution, since its formula is satisfiable where it has one.
-use Rattle.std.proofs.Common.{◌≡◌, ◌≢◌, ℕ, ◌<◌, Bool, true, false, [], ◌∷◌, get_or, Option, None, Some, refl, sym, ◌∙◌, subst, arith}
-use Rattle.std.specs.Prelude.{◌↔◌, All, Contains}
+use Rattle.std.proofs.Common.{◌≡◌, ◌≢◌, ℕ, ◌<◌, Bool, true, false, [], ◌∷◌, get_or, Option, None, Some, refl, sym, ◌∙◌, subst, arith, ◌↔◌, All, Contains}
 use Rattle.std.proofs.lemmas.List.Elements.{All-nil, All-cons, All-contains, All-contains_itself}
-use Rattle.outer_ports.specs.declared.part.Part.{Part}
+use Rattle.outer_ports.specs.{declared.part.Part.Part, Files.Files}
 use Rattle.outer_ports.specs.declared.part.Part.TheVariants as part
-use Rattle.outer_ports.specs.Files.{Files}
-use Rattle.schedule.specs.Links.{IsTopology, reversed_of}
-use Rattle.schedule.proofs.Turned.{turned_topology}
-use Rattle.collective_spec.specs.declared.kind.Kind.{Kind}
+use Rattle.schedule.{specs.Links.{IsTopology, reversed_of}, proofs.Turned.turned_topology}
+use Rattle.collective_spec.specs.{declared.kind.Kind.Kind, Patterns.PatternValue, Collectives.{IsSpec, adds_up, fits_kind, kind_in}}
+use Rattle.collective_spec.proofs.{Sized.{before_among, after_among, fitting_spec}, Chunks.{chunks_some, few_base, chunks_few}}
 use Rattle.collective_spec.specs.declared.kind.Kind.TheVariants as kind
-use Rattle.collective_spec.specs.Patterns.{PatternValue}
-use Rattle.collective_spec.specs.Collectives.{IsSpec, adds_up, fits_kind, kind_in}
-use Rattle.collective_spec.proofs.Sized.{before_among, after_among, fitting_spec}
-use Rattle.collective_spec.proofs.Chunks.{chunks_some, few_base, chunks_few}
-use Rattle.candidate_order.specs.declared.candidate.Candidate.{Candidate}
+use Rattle.candidate_order.specs.{declared.candidate.Candidate.Candidate, Ranges.IsLimits, Copied.{copied_spec, copied_question}}
 use Rattle.candidate_order.specs.Frontiers.{QuestionValue, FrontierValue, IsWithin, IsSolvable, RightFrontier, instance_for}
-use Rattle.candidate_order.specs.Ranges.{IsLimits}
-use Rattle.candidate_order.specs.Copied.{copied_spec, copied_question}
 use Rattle.candidate_order.proofs.Orders.{has_chunk}
-use Rattle.round_encoding.specs.Candidates.{IsCandidate}
-use Rattle.round_encoding.proofs.Obeyed.{all_map}
+use Rattle.round_encoding.{specs.Candidates.IsCandidate, proofs.Obeyed.all_map}
 use Rattle.inversion.proofs.Copied.{solvable_exactly}
 use Rattle.cnf_formula.specs.Formulas.{Satisfiable}
 use Rattle.report_form.specs.Reports.{ReportValue, IsReport, IsFrontier, parts_of, kind_of, question_of}
-use Rattle.frontier_audit.specs.declared.verdict.AuditVerdict.TheVariants.{Verified}
-use Rattle.candidate_formula.specs.Formulas.{formula_for}
-use Rattle.candidate_formula.specs.Pruned.{is_cut_away}
-use Rattle.candidate_formula.proofs.CopyingQuestions.{within_by, reduced_formula}
-use Rattle.candidate_formula.proofs.Copying.{copied_keeps, copies, same_allowed}
-use Rattle.candidate_formula.proofs.Exact.{exact_for}
-use Rattle.frontier_audit.specs.Shelves.{ShelfRight}
-use Rattle.frontier_audit.specs.Auditing.{audit_of}
-use Rattle.frontier_audit.proofs.Shelves.{unsatisfiable, question}
-use Rattle.frontier_audit.proofs.Audited.{shelf_right}
-use Rattle.frontier_audit.proofs.CutAway.{cut_unsolvable}
-use Rattle.frontier_audit.proofs.Right.{apart_in, each_apart, verified_right}
+use Rattle.frontier_audit.specs.{declared.verdict.AuditVerdict.TheVariants.Verified, Shelves.ShelfRight, Auditing.audit_of}
+use Rattle.frontier_audit.proofs.{Shelves.{unsatisfiable, question}, Audited.shelf_right, CutAway.cut_unsolvable, Right.{apart_in, each_apart, verified_right}}
+use Rattle.candidate_formula.specs.{Formulas.formula_for, Pruned.is_cut_away}
+use Rattle.candidate_formula.proofs.{CopyingQuestions.{within_by, reduced_formula}, Copying.{copied_keeps, copies, same_allowed}, Exact.exact_for}
 
 -- ---- the spec of a part
 

@@ -1,10 +1,8 @@
 -- What a verified report says, and the verdict on a report from the answers of its checks.
-use Rattle.std.proofs.Common.{◌≡◌, Bool, List, [], ◌∷◌, ◌++◌, map, get_or, Option, None, Some, Ok, Err, append-nil, refl, sym, ap, ◌∙◌, subst}
-use Rattle.std.specs.Prelude.{IsTrue}
+use Rattle.std.proofs.Common.{◌≡◌, Bool, List, [], ◌∷◌, ◌++◌, map, get_or, Option, None, Some, Ok, Err, append-nil, refl, sym, ap, ◌∙◌, subst, IsTrue}
 use Rattle.std.proofs.lemmas.List.Elements.{All-contains_itself}
-use Rattle.outer_ports.specs.declared.part.Part.{Part}
+use Rattle.outer_ports.specs.{declared.part.Part.Part, Files.Files}
 use Rattle.outer_ports.specs.declared.part.Part.TheVariants as part
-use Rattle.outer_ports.specs.Files.{Files}
 use Rattle.collective_spec.specs.declared.kind.Kind.{Kind}
 use Rattle.collective_spec.specs.declared.kind.Kind.TheVariants as kind
 use Rattle.candidate_order.specs.Frontiers.{FrontierValue}
@@ -12,20 +10,10 @@ use Rattle.allreduce_join.specs.Joins.{Joins}
 use Rattle.report_form.specs.Reports.{ReportValue, IsReport, parts_of, question_of}
 use Rattle.candidate_formula.specs.Formulas.{formula_for}
 use Rattle.proof_audit.specs.Files.{HasSpentLog}
-use Rattle.frontier_audit.specs.declared.verdict.AuditVerdict.{AuditVerdict}
-use Rattle.frontier_audit.specs.declared.verdict.AuditVerdict.TheVariants.{Verified, Denied}
-use Rattle.frontier_audit.specs.Denials.{Denial, Checked, in_part, verdict_from}
-use Rattle.frontier_audit.specs.Joining.{joined_checked}
-use Rattle.frontier_audit.specs.Parts.{is_gather, is_reduce, points_of}
-use Rattle.frontier_audit.specs.Auditing.{audit_of}
-use Rattle.frontier_audit.specs.Beside.{denial_of, AnswersBeside, IsVerdictOver}
-use Rattle.frontier_audit.specs.Rights.{AreJoined, HasLogs, IsRight}
-use Rattle.frontier_audit.specs.inner.Steps.{joins_of, parts_checked, report_checked}
-use Rattle.frontier_audit.proofs.Audited.{shelf_right}
-use Rattle.frontier_audit.proofs.Jointly.{parts_are}
-use Rattle.frontier_audit.proofs.JoinedParts.{joined_by_kind}
-use Rattle.frontier_audit.proofs.Merging.{stops, then_plainly}
-use Rattle.frontier_audit.proofs.Right.{verified_joins}
+use Rattle.frontier_audit.specs.{declared.verdict.AuditVerdict.{AuditVerdict, TheVariants.{Verified, Denied}}, Denials.{Denial, Checked, in_part, verdict_from}}
+use Rattle.frontier_audit.specs.{Joining.joined_checked, Parts.{is_gather, is_reduce, points_of}, Auditing.audit_of, Rights.{AreJoined, HasLogs, IsRight}}
+use Rattle.frontier_audit.specs.{Beside.{denial_of, AnswersBeside, IsVerdictOver}, inner.Steps.{joins_of, parts_checked, report_checked}}
+use Rattle.frontier_audit.proofs.{Audited.shelf_right, Jointly.parts_are, JoinedParts.joined_by_kind, Merging.{stops, then_plainly}, Right.verified_joins}
 use Rattle.frontier_audit.proofs.Unsolvable.{all_right}
 
 -- ---- a verified report is right

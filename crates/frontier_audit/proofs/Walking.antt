@@ -1,10 +1,8 @@
 -- Checks of a list, item by item.
-use Rattle.std.proofs.Common.{◌≡◌, ℕ, ◌+◌, ◌<◌, Bool, true, false, List, length, drop, get_or, None, Some, Ok, Err, refl, sym, ap, ◌∙◌}
-use Rattle.std.specs.Prelude.{not}
+use Rattle.std.proofs.Common.{◌≡◌, ℕ, ◌+◌, ◌<◌, Bool, true, false, List, length, drop, get_or, None, Some, Ok, Err, refl, sym, ap, ◌∙◌, not}
 use Rattle.text_lines.specs.Check.{◌>>=◌, refuse}
 use Rattle.report_form.proofs.PointNumbers.{from_here}
-use Rattle.frontier_audit.specs.Denials.{Checked, each}
-use Rattle.frontier_audit.specs.Beside.{denial_of}
+use Rattle.frontier_audit.specs.{Denials.{Checked, each}, Beside.denial_of}
 
 -- the first check decides where it denies, and the rest where it does not
 pub first_decides : {E : Type 0} (first rest : Checked E) (d : E) → denial_of first ≡ Some d → denial_of (first >>= (λ _. rest)) ≡ Some d

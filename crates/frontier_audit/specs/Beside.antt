@@ -1,11 +1,8 @@
 -- What is answered beside the files of a shelf.
 use Rattle.std.specs.Prelude.{◌≡◌, Bool, Option, None, Some, Ok, Err, IsTrue}
-use Rattle.outer_ports.specs.Files.{Files}
-use Rattle.outer_ports.specs.Shelf.{FilesStay}
+use Rattle.outer_ports.specs.{Files.Files, Shelf.FilesStay}
 use Rattle.report_form.specs.Reports.{ReportValue}
-use Rattle.frontier_audit.specs.declared.verdict.AuditVerdict.{AuditVerdict}
-use Rattle.frontier_audit.specs.Denials.{Checked}
-use Rattle.frontier_audit.specs.Auditing.{audit_of}
+use Rattle.frontier_audit.specs.{declared.verdict.AuditVerdict.AuditVerdict, Denials.Checked, Auditing.audit_of}
 
 -- what a check denies, if anything
 abbrev pub denial_of : {E : Type 0} → Checked E → Option E

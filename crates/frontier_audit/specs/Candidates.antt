@@ -1,9 +1,6 @@
 -- The candidates of a search in its order (Cai et al., PPoPP 2021, Pareto-optimal schedules).
-use Rattle.std.specs.Prelude.{◌+◌, ◌==◌, ◌&&◌, Bool, if◌then◌else◌, List, [], ◌∷◌, map}
-use Rattle.std.specs.List.{list_any, flat_map, range_with_len}
-use Rattle.candidate_order.specs.declared.candidate.Candidate.{Candidate}
-use Rattle.candidate_order.specs.Listed.{candidate_at}
-use Rattle.candidate_order.specs.Frontiers.{QuestionValue}
+use Rattle.std.specs.{Prelude.{◌+◌, ◌==◌, ◌&&◌, Bool, if◌then◌else◌, List, [], ◌∷◌, map}, List.{list_any, flat_map, range_with_len}}
+use Rattle.candidate_order.specs.{declared.candidate.Candidate.Candidate, Listed.candidate_at, Frontiers.QuestionValue}
 use Rattle.candidate_formula.specs.Counts.{counts_of}
 use Rattle.report_form.specs.Tests.{is_before}
 

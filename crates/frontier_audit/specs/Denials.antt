@@ -3,10 +3,8 @@ use Rattle.std.specs.Prelude.{ℕ, List, [], ◌∷◌, Result, Ok, Err}
 use Rattle.text_lines.specs.Check.{◌>>=◌}
 use Rattle.outer_ports.specs.declared.part.Part.{Part}
 use Rattle.candidate_order.specs.declared.candidate.Candidate.{Candidate}
-use Rattle.frontier_audit.specs.declared.verdict.Reason.{Reason}
+use Rattle.frontier_audit.specs.declared.verdict.{Reason.Reason, AuditVerdict.{AuditVerdict, TheVariants.{Verified, Denied}}}
 use Rattle.frontier_audit.specs.declared.verdict.Reason.TheVariants.{ScheduleWrong, MarkWrong, CandidateMissing, ProofMissing, ProofRefused, CnfDiffers, PartialRefused, JoinWrong}
-use Rattle.frontier_audit.specs.declared.verdict.AuditVerdict.{AuditVerdict}
-use Rattle.frontier_audit.specs.declared.verdict.AuditVerdict.TheVariants.{Verified, Denied}
 
 -- the numbers of the reasons, by which refusals name them
 abbrev pub reason_number : Reason → ℕ

@@ -1,22 +1,16 @@
 -- The checks of the joined points of an allreduce (Cai et al., PPoPP 2021, allreduce; the order is this project's own).
-use Rattle.std.specs.Prelude.{◌==◌, ◌&&◌, not, Bool, true, false, List, [], ◌∷◌, bytes_eq, Ok, Err}
-use Rattle.std.specs.Cmp.Lexicographic.{pointwise}
+use Rattle.std.specs.{Prelude.{◌==◌, ◌&&◌, not, Bool, true, false, List, [], ◌∷◌, bytes_eq, Ok, Err}, Cmp.Lexicographic.pointwise}
 use Rattle.text_lines.specs.Check.{◌>>=◌, refuse}
 use Rattle.outer_ports.specs.declared.part.Part.{Part}
 use Rattle.outer_ports.specs.declared.part.Part.TheVariants as part
-use Rattle.schedule.specs.Links.{TopologyValue}
-use Rattle.schedule.specs.Sends.{IsSchedule, IsInRange}
+use Rattle.schedule.specs.{Links.TopologyValue, Sends.{IsSchedule, IsInRange}}
 use Rattle.collective_spec.specs.declared.kind.Kind.TheVariants as kind
 use Rattle.collective_spec.specs.Collectives.{chunks_of}
-use Rattle.candidate_order.specs.declared.mark.Mark.{Mark}
+use Rattle.candidate_order.specs.{declared.mark.Mark.Mark, Frontiers.{PointValue, FrontierValue}}
 use Rattle.candidate_order.specs.declared.mark.Mark.TheVariants as mark
-use Rattle.candidate_order.specs.Frontiers.{PointValue, FrontierValue}
-use Rattle.allreduce_join.specs.Joins.{join_of, pairs_of}
-use Rattle.allreduce_join.specs.Judging.{joined_verdict_of}
+use Rattle.allreduce_join.specs.{Joins.{join_of, pairs_of}, Judging.joined_verdict_of}
 use Rattle.report_form.specs.Reports.{ReportValue}
-use Rattle.frontier_audit.specs.declared.verdict.Reason.TheVariants.{JoinWrong}
-use Rattle.frontier_audit.specs.Denials.{Denial, Checked, in_part}
-use Rattle.frontier_audit.specs.Candidates.{same_candidate}
+use Rattle.frontier_audit.specs.{declared.verdict.Reason.TheVariants.JoinWrong, Denials.{Denial, Checked, in_part}, Candidates.same_candidate}
 use Rattle.inversion.specs.Saying.{says_sums}
 
 abbrev pub same_mark : Mark → Mark → Bool

@@ -1,13 +1,8 @@
 -- What a search owes of the files: what it leaves where it was done, and where it broke off.
 use Rattle.std.specs.Prelude.{◌≡◌, false, All, Any, Contains}
-use Rattle.outer_ports.specs.declared.proof_name.ProofName.{ProofName}
-use Rattle.outer_ports.specs.Files.{Files}
-use Rattle.candidate_order.specs.declared.candidate.Candidate.{Candidate}
-use Rattle.candidate_order.specs.Frontiers.{IsWithin}
-use Rattle.candidate_formula.specs.Formulas.{formula_for}
-use Rattle.outer_ports.specs.declared.part.Part.{Part}
-use Rattle.candidate_formula.specs.Files.{candidate_of, FrontierFiles, HasRefutation}
-use Rattle.candidate_formula.specs.Pruned.{HasOwnFiles, is_cut_away}
+use Rattle.outer_ports.specs.{declared.{proof_name.ProofName.ProofName, part.Part.Part}, Files.Files}
+use Rattle.candidate_order.specs.{declared.candidate.Candidate.Candidate, Frontiers.IsWithin}
+use Rattle.candidate_formula.specs.{Formulas.formula_for, Files.{candidate_of, FrontierFiles, HasRefutation}, Pruned.{HasOwnFiles, is_cut_away}}
 use Rattle.candidate_formula.specs.Begun.{BegunOnly}
 use Rattle.proof_audit.specs.Kept.{BothStay}
 use Rattle.topology_text.specs.Value.{NamedTopologyValue}

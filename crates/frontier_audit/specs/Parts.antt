@@ -1,16 +1,10 @@
 -- What is said of a part of a report, as contracts of the code have it.
-use Rattle.std.specs.Prelude.{◌≡◌, Bool, true, false, if◌then◌else◌, List, [], All, Any, Contains}
-use Rattle.std.specs.List.{flat_map}
-use Rattle.outer_ports.specs.Files.{Files}
-use Rattle.outer_ports.specs.declared.part.Part.{Part}
+use Rattle.std.specs.{Prelude.{◌≡◌, Bool, true, false, if◌then◌else◌, List, [], All, Any, Contains}, List.flat_map}
+use Rattle.outer_ports.specs.{Files.Files, declared.{part.Part.Part, proof_name.ProofName.ProofName}}
 use Rattle.outer_ports.specs.declared.part.Part.TheVariants as part
-use Rattle.outer_ports.specs.declared.proof_name.ProofName.{ProofName}
 use Rattle.proof_rules.specs.Refuting.{Exhausted}
-use Rattle.candidate_order.specs.declared.candidate.Candidate.{Candidate}
-use Rattle.candidate_order.specs.Frontiers.{QuestionValue, FrontierValue, PointValue, RightFrontier, Searched}
-use Rattle.candidate_formula.specs.Formulas.{formula_for, Suits}
-use Rattle.candidate_formula.specs.Searched.{copying_schedule, searched_question}
-use Rattle.candidate_formula.specs.Files.{candidate_of, HasRefutation}
+use Rattle.candidate_order.specs.{declared.candidate.Candidate.Candidate, Frontiers.{QuestionValue, FrontierValue, PointValue, RightFrontier, Searched}}
+use Rattle.candidate_formula.specs.{Formulas.{formula_for, Suits}, Searched.{copying_schedule, searched_question}, Files.{candidate_of, HasRefutation}}
 use Rattle.candidate_formula.specs.Pruned.{HasOwnFiles, is_cut_away}
 use Rattle.report_form.specs.Reports.{ReportValue, question_of}
 

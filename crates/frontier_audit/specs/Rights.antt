@@ -1,14 +1,11 @@
 -- What a report says, and when that is right (Cai et al., PPoPP 2021, Pareto-optimal schedules and allreduce).
 use Rattle.std.specs.Prelude.{◌≡◌, false, List, [], ◌∷◌, All}
-use Rattle.outer_ports.specs.declared.part.Part.{Part}
-use Rattle.outer_ports.specs.declared.part.Part.TheVariants.{Reduce, Gather}
+use Rattle.outer_ports.specs.declared.part.Part.{Part, TheVariants.{Reduce, Gather}}
 use Rattle.proof_rules.specs.Refuting.{Exhausted}
 use Rattle.allreduce_join.specs.Joins.{Joins}
 use Rattle.candidate_order.specs.Frontiers.{FrontierValue, RightFrontier, Searched}
 use Rattle.report_form.specs.Reports.{ReportValue, IsReport, question_of}
-use Rattle.candidate_formula.specs.Formulas.{formula_for, Suits}
-use Rattle.candidate_formula.specs.Searched.{copying_schedule, searched_question}
-use Rattle.candidate_formula.specs.Pruned.{is_cut_away}
+use Rattle.candidate_formula.specs.{Formulas.{formula_for, Suits}, Searched.{copying_schedule, searched_question}, Pruned.is_cut_away}
 use Rattle.proof_audit.specs.Files.{HasSpentLog}
 
 -- the joined points are the joins of the two parts of an allreduce

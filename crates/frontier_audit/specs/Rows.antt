@@ -1,28 +1,15 @@
 -- Reports with the files beside them.
 use Rattle.std.specs.Prelude.{ℕ, ◌==◌, ◌&&◌, Bool, true, false, if◌then◌else◌, List, [], ◌∷◌, ◌++◌, None, Some, codes}
-use Rattle.outer_ports.specs.declared.part.Part.TheVariants.{Whole}
-use Rattle.outer_ports.specs.declared.proof_name.FileKind.TheVariants.{Cnf, Lrat, Partial}
-use Rattle.outer_ports.specs.declared.proof_name.ProofName.{ProofName}
+use Rattle.outer_ports.specs.declared.{part.Part.TheVariants.Whole, proof_name.{FileKind.TheVariants.{Cnf, Lrat, Partial}, ProofName.ProofName}}
 use Rattle.outer_ports.specs.Files.{Files, part_number, kind_number}
 use Rattle.cnf_formula.specs.Formulas.{FormulaValue}
 use Rattle.lrat_text.specs.Printing.{cnf_text}
-use Rattle.schedule.specs.declared.hop.Hop.{Hop}
-use Rattle.schedule.specs.Placed.{PlacementValue}
-use Rattle.schedule.specs.Rows.{send}
-use Rattle.candidate_order.specs.declared.candidate.Candidate.{Candidate}
-use Rattle.candidate_order.specs.declared.mark.Mark.{Mark}
-use Rattle.candidate_order.specs.declared.mark.Mark.TheVariants.{Optimal, Open}
-use Rattle.candidate_order.specs.declared.pruning.Pruning.{Pruning}
-use Rattle.candidate_order.specs.Ranges.{unpruned}
-use Rattle.candidate_order.specs.Frontiers.{QuestionValue, PointValue, UnknownValue, FrontierValue}
-use Rattle.collective_spec.specs.declared.kind.Kind.{Kind}
-use Rattle.collective_spec.specs.declared.kind.Kind.TheVariants.{Broadcast, Custom}
-use Rattle.candidate_order.specs.Rows.{at}
-use Rattle.topology_text.specs.declared.family_kind.FamilyKind.TheVariants.{Ring}
-use Rattle.topology_text.specs.Family.{family_of}
-use Rattle.topology_text.specs.Value.{NamedTopologyValue}
-use Rattle.report_form.specs.Reports.{WordsValue, ReportValue, question_of}
-use Rattle.report_form.specs.Rows.{point, two_nodes, relay_report, allreduce_report}
+use Rattle.schedule.specs.{declared.hop.Hop.Hop, Placed.PlacementValue, Rows.send}
+use Rattle.candidate_order.specs.{declared.{candidate.Candidate.Candidate, mark.Mark.{Mark, TheVariants.{Optimal, Open}}, pruning.Pruning.Pruning}, Rows.at}
+use Rattle.candidate_order.specs.{Ranges.unpruned, Frontiers.{QuestionValue, PointValue, UnknownValue, FrontierValue}}
+use Rattle.collective_spec.specs.declared.kind.Kind.{Kind, TheVariants.{Broadcast, Custom}}
+use Rattle.topology_text.specs.{declared.family_kind.FamilyKind.TheVariants.Ring, Family.family_of, Value.NamedTopologyValue}
+use Rattle.report_form.specs.{Reports.{WordsValue, ReportValue, question_of}, Rows.{point, two_nodes, relay_report, allreduce_report}}
 use Rattle.candidate_formula.specs.Files.{file_of}
 
 abbrev pub same_name : ProofName → ProofName → Bool

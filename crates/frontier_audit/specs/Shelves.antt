@@ -1,10 +1,8 @@
 -- What the files have to be beside a report (this project's own).
 use Rattle.std.specs.Prelude.{◌≡◌, false, All}
-use Rattle.outer_ports.specs.declared.part.Part.{Part}
-use Rattle.outer_ports.specs.Files.{Files}
+use Rattle.outer_ports.specs.{declared.part.Part.Part, Files.Files}
 use Rattle.candidate_order.specs.Frontiers.{QuestionValue, FrontierValue}
-use Rattle.candidate_formula.specs.Files.{HasRefutation, HasLog}
-use Rattle.candidate_formula.specs.Pruned.{is_cut_away}
+use Rattle.candidate_formula.specs.{Files.{HasRefutation, HasLog}, Pruned.is_cut_away}
 use Rattle.report_form.specs.Reports.{ReportValue, question_of}
 
 -- the files prove what a frontier says of a part; nothing is owed of a refuted candidate that is cut away

@@ -1,12 +1,9 @@
 -- The checks of a point's schedule and of its mark (Cai et al., PPoPP 2021, Pareto-optimal schedules; marks are this project's own).
-use Rattle.std.specs.Prelude.{◌||◌, not, Bool, if◌then◌else◌}
-use Rattle.std.specs.List.{list_all}
+use Rattle.std.specs.{Prelude.{◌||◌, not, Bool, if◌then◌else◌}, List.list_all}
 use Rattle.schedule.specs.Judging.{verdict_of}
-use Rattle.inversion.specs.Judging.{sum_verdict_of}
-use Rattle.inversion.specs.Saying.{says_solves, says_sums}
+use Rattle.inversion.specs.{Judging.sum_verdict_of, Saying.{says_solves, says_sums}}
 use Rattle.collective_spec.specs.Collectives.{spec_instance, spec_demand, adds_up}
-use Rattle.candidate_order.specs.declared.candidate.Candidate.{Candidate}
-use Rattle.candidate_order.specs.Frontiers.{QuestionValue, PointValue, FrontierValue}
+use Rattle.candidate_order.specs.{declared.candidate.Candidate.Candidate, Frontiers.{QuestionValue, PointValue, FrontierValue}}
 use Rattle.report_form.specs.Tests.{is_better}
 use Rattle.frontier_audit.specs.Candidates.{is_listed, candidates_within}
 

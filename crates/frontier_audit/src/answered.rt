@@ -2,9 +2,7 @@
 //! are right.
 
 ghost use Rattle.std.specs.Prelude.{◌≡◌, ◌++◌, IfOk, OnOk};
-ghost use Rattle.frontier_audit.specs.Denials.{each};
-ghost use Rattle.frontier_audit.specs.Candidates.{candidates_within};
-ghost use Rattle.frontier_audit.specs.Beside.{denial_of};
+ghost use Rattle.frontier_audit.specs.{Denials.each, Candidates.candidates_within, Beside.denial_of};
 ghost use Rattle.frontier_audit.specs.inner.Steps.{has_mark_among, is_bettered, is_given_up, is_left_answered, is_settled, left_checked, marked_among, unrefuted_among, is_mark};
 
 use crate::part_question::PartQuestion;

@@ -1,14 +1,11 @@
 //! The audit of a report.
 
 ghost use Rattle.std.specs.Prelude.{◌≡◌, ◌≤◌, IfOk, IsTrue, Ok};
-ghost use Rattle.outer_ports.specs.Port.{HasCause, Tells};
-ghost use Rattle.outer_ports.specs.Shelf.{FilesStay};
+ghost use Rattle.outer_ports.specs.{Port.{HasCause, Tells}, Shelf.FilesStay};
 ghost use Rattle.report_form.specs.Reports.{question_of};
 ghost use Rattle.round_encoding.specs.Candidates.{size_limit};
 ghost use Rattle.candidate_formula.specs.Sizes.{size_of};
-ghost use Rattle.frontier_audit.specs.Auditing.{audit_of};
-ghost use Rattle.frontier_audit.specs.Beside.{IsVerdictOver};
-ghost use Rattle.frontier_audit.specs.Rights.{HasLogs, IsRight};
+ghost use Rattle.frontier_audit.specs.{Auditing.audit_of, Beside.IsVerdictOver, Rights.{HasLogs, IsRight}};
 
 use crate::joins::joins_denied;
 use crate::parts::parts_denied;

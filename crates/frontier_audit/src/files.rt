@@ -1,13 +1,9 @@
 //! The files beside refuted and unknown candidates.
 
 ghost use Rattle.std.specs.Prelude.{◌≡◌, All, AllPairs, IfOk, IsTrue};
-ghost use Rattle.outer_ports.specs.Port.{HasCause, Tells};
-ghost use Rattle.outer_ports.specs.Shelf.{FilesStay};
-ghost use Rattle.candidate_order.specs.Costs.{Before};
-ghost use Rattle.candidate_order.specs.Frontiers.{IsUnknown, IsWithin};
-ghost use Rattle.frontier_audit.specs.Denials.{each};
-ghost use Rattle.frontier_audit.specs.Auditing.{refutation_checked, unknown_checked};
-ghost use Rattle.frontier_audit.specs.Beside.{AnswersBeside};
+ghost use Rattle.outer_ports.specs.{Port.{HasCause, Tells}, Shelf.FilesStay};
+ghost use Rattle.candidate_order.specs.{Costs.Before, Frontiers.{IsUnknown, IsWithin}};
+ghost use Rattle.frontier_audit.specs.{Denials.each, Auditing.{refutation_checked, unknown_checked}, Beside.AnswersBeside};
 ghost use Rattle.frontier_audit.specs.inner.Steps.{denial_for, refuted_checked};
 
 use crate::part_question::PartQuestion;

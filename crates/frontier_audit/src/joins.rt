@@ -2,11 +2,9 @@
 
 ghost use Rattle.std.specs.Prelude.{◌≡◌, ◌&&◌, ◌<◌, [], ◌∷◌, All, IfOk, IfNone, length, slice_get};
 ghost use Rattle.collective_spec.specs.Collectives.{chunks_of};
-ghost use Rattle.allreduce_join.specs.Joins.{IsJoinable, pairs_of};
-ghost use Rattle.allreduce_join.specs.Judging.{joined_verdict_of};
+ghost use Rattle.allreduce_join.specs.{Joins.{IsJoinable, pairs_of}, Judging.joined_verdict_of};
 ghost use Rattle.inversion.specs.Saying.{says_sums};
-ghost use Rattle.frontier_audit.specs.Joining.{IsSummable, joins_checked, same_point};
-ghost use Rattle.frontier_audit.specs.Beside.{denial_of};
+ghost use Rattle.frontier_audit.specs.{Joining.{IsSummable, joins_checked, same_point}, Beside.denial_of};
 ghost use Rattle.frontier_audit.specs.inner.Steps.{JoinsSay, join_checked, joins_of, pairs_with};
 
 use crate::verdict::Reason;

@@ -4,19 +4,12 @@ ghost use Rattle.std.specs.Prelude.{◌≡◌, ◌↔◌, true, false, List, Non
 ghost use Rattle.outer_ports.specs.Files.{Files};
 ghost use Rattle.cnf_formula.specs.Formulas.{Satisfiable};
 ghost use Rattle.schedule.specs.Sends.{hop_before};
-ghost use Rattle.candidate_order.specs.Costs.{Before};
-ghost use Rattle.candidate_order.specs.Frontiers.{QuestionValue, FrontierValue, UnknownValue, IsWithin, IsSolvable, RightFrontier};
+ghost use Rattle.candidate_order.specs.{Costs.Before, Frontiers.{QuestionValue, FrontierValue, UnknownValue, IsWithin, IsSolvable, RightFrontier}};
 ghost use Rattle.allreduce_join.specs.Joins.{Joins};
 ghost use Rattle.report_form.specs.Reports.{ReportValue, IsReport, question_of};
-ghost use Rattle.candidate_formula.specs.Formulas.{formula_for};
-ghost use Rattle.candidate_formula.specs.Files.{file_of};
-ghost use Rattle.candidate_formula.specs.Pruned.{is_cut_away};
-ghost use Rattle.frontier_audit.specs.OwedFiles.{Proves};
-ghost use Rattle.frontier_audit.specs.Shelves.{ShelfRight};
-ghost use Rattle.frontier_audit.specs.Rights.{IsRight};
-ghost use Rattle.frontier_audit.specs.Candidates.{candidates_within};
+ghost use Rattle.candidate_formula.specs.{Formulas.formula_for, Files.file_of, Pruned.is_cut_away};
+ghost use Rattle.frontier_audit.specs.{OwedFiles.Proves, Shelves.ShelfRight, Rights.IsRight, Candidates.candidates_within, Auditing.audit_of};
 ghost use Rattle.frontier_audit.specs.Parts.{is_reduce, is_gather, points_of};
-ghost use Rattle.frontier_audit.specs.Auditing.{audit_of};
 
 use crate::verdict::AuditVerdict;
 use candidate_order::Candidate;

@@ -4,9 +4,7 @@ ghost use Rattle.std.specs.Prelude.{◌≡◌, ◌≤◌, Contains, IfOk};
 ghost use Rattle.candidate_order.specs.Frontiers.{IsWithin};
 ghost use Rattle.report_form.specs.Reports.{parts_of, question_of};
 ghost use Rattle.round_encoding.specs.Candidates.{size_limit};
-ghost use Rattle.candidate_formula.specs.Formulas.{formula_for};
-ghost use Rattle.candidate_formula.specs.Pruned.{is_cut_away};
-ghost use Rattle.candidate_formula.specs.Sizes.{size_of};
+ghost use Rattle.candidate_formula.specs.{Formulas.formula_for, Pruned.is_cut_away, Sizes.size_of};
 ghost use Rattle.frontier_audit.specs.inner.Auditable.{IsAuditable};
 
 use candidate_formula::{encode_candidate, links_to_search};
@@ -33,8 +31,7 @@ pub(crate) struct PartQuestion<'a> {
 }
 
 impl<'a> Model for PartQuestion<'a> {
-    ghost use Rattle.std.specs.Prelude.{◌≡◌};
-    ghost use Rattle.std.specs.Cow.{cow_value};
+    ghost use Rattle.std.specs.{Prelude.◌≡◌, Cow.cow_value};
     ghost use Rattle.candidate_order.specs.Frontiers.{QuestionValue};
     ghost use Rattle.frontier_audit.specs.inner.Auditable.{IsPrepared};
 

@@ -1,14 +1,11 @@
 //! The parts of a report.
 
 ghost use Rattle.std.specs.Prelude.{◌≡◌, ◌≤◌, IfOk, IsTrue};
-ghost use Rattle.outer_ports.specs.Port.{HasCause, Tells};
-ghost use Rattle.outer_ports.specs.Shelf.{FilesStay};
+ghost use Rattle.outer_ports.specs.{Port.{HasCause, Tells}, Shelf.FilesStay};
 ghost use Rattle.report_form.specs.Reports.{IsFrontier, IsReport, question_of};
 ghost use Rattle.round_encoding.specs.Candidates.{size_limit};
 ghost use Rattle.candidate_formula.specs.Sizes.{size_of};
-ghost use Rattle.frontier_audit.specs.Auditing.{frontier_checked};
-ghost use Rattle.frontier_audit.specs.Beside.{AnswersBeside, denial_of};
-ghost use Rattle.frontier_audit.specs.inner.Steps.{answers_checked, parts_checked};
+ghost use Rattle.frontier_audit.specs.{Auditing.frontier_checked, Beside.{AnswersBeside, denial_of}, inner.Steps.{answers_checked, parts_checked}};
 
 use crate::answered::{marks_denied, passed_over, unrefuted};
 use crate::files::{refuted_denied, unknown_denied};

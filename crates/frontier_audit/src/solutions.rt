@@ -3,10 +3,7 @@
 ghost use Rattle.std.specs.Prelude.{◌≡◌, true, false, All, IfOk};
 ghost use Rattle.collective_spec.specs.Collectives.{adds_up};
 ghost use Rattle.report_form.specs.Reports.{IsPoint};
-ghost use Rattle.frontier_audit.specs.Denials.{each};
-ghost use Rattle.frontier_audit.specs.Solutions.{is_solution};
-ghost use Rattle.frontier_audit.specs.inner.Steps.{point_checked};
-ghost use Rattle.frontier_audit.specs.Beside.{denial_of};
+ghost use Rattle.frontier_audit.specs.{Denials.each, Solutions.is_solution, inner.Steps.point_checked, Beside.denial_of};
 
 use crate::part_question::PartQuestion;
 use crate::verdict::Reason;

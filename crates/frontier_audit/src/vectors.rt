@@ -4,16 +4,11 @@ ghost use Rattle.std.specs.Prelude.{◌≡◌, [], ◌∷◌, ◌++◌, Ok, Err,
 ghost use Rattle.schedule.specs.Rows.{send};
 ghost use Rattle.cnf_formula.specs.Literals.{yes};
 ghost use Rattle.lrat_text.specs.Printing.{cnf_text};
-ghost use Rattle.report_form.specs.Reports.{question_of};
-ghost use Rattle.report_form.specs.Rows.{point, relay_report, allreduce_report};
-ghost use Rattle.candidate_formula.specs.Lines.{lines_of_text};
-ghost use Rattle.candidate_formula.specs.Formulas.{formula_for, ordered_formula_for, plain_formula_for};
-ghost use Rattle.candidate_formula.specs.Files.{file_of};
-ghost use Rattle.frontier_audit.specs.Candidates.{candidates_within};
-ghost use Rattle.frontier_audit.specs.Auditing.{audit_of};
-ghost use Rattle.candidate_order.specs.Ranges.{unpruned};
-ghost use Rattle.candidate_order.specs.Rows.{at};
+ghost use Rattle.report_form.specs.{Reports.question_of, Rows.{point, relay_report, allreduce_report}};
+ghost use Rattle.candidate_formula.specs.{Lines.lines_of_text, Formulas.{formula_for, ordered_formula_for, plain_formula_for}, Files.file_of};
+ghost use Rattle.frontier_audit.specs.{Candidates.candidates_within, Auditing.audit_of};
 ghost use Rattle.frontier_audit.specs.Rows.{shelf, one_step, rest_of_one_step, cnf_of_one_step, proof_of_one_step, beside_one_step, log_of_one_step, words, four_nodes, relay, joined_sends, allreduce, wide_link, two_copies, cutting, ordering, at_most_two, two_at_once, one_of_two, two_given_up, two_to_broadcast, beside_two};
+ghost use Rattle.candidate_order.specs.{Ranges.unpruned, Rows.at};
 
 use crate::verdict::{AuditVerdict, Reason};
 use candidate_order::Mark;

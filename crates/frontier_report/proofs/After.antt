@@ -1,15 +1,11 @@
 -- Lines and points behind the last one are those behind all that were read before.
-use Rattle.std.proofs.Common.{◌≡◌, ℕ, List, [], map, Option, None, Result, refl, sym, ap, ◌∙◌, subst}
-use Rattle.std.specs.List.{last_or}
+use Rattle.std.{proofs.Common.{◌≡◌, ℕ, List, [], map, Option, None, Result, refl, sym, ap, ◌∙◌, subst}, specs.List.last_or}
 use Rattle.text_lines.specs.Text.{Row, Place}
 use Rattle.schedule.specs.declared.hop.Hop.{Hop}
-use Rattle.candidate_order.specs.declared.candidate.Candidate.{Candidate}
-use Rattle.candidate_order.specs.Frontiers.{QuestionValue, PointValue, UnknownValue}
-use Rattle.report_form.specs.declared.fault.ReportCode.{ReportCode}
-use Rattle.report_form.specs.Points.{send_line, frontier_point_at, joined_point_at}
+use Rattle.candidate_order.specs.{declared.candidate.Candidate.Candidate, Frontiers.{QuestionValue, PointValue, UnknownValue}}
+use Rattle.report_form.specs.{declared.fault.ReportCode.ReportCode, Points.{send_line, frontier_point_at, joined_point_at}}
 use Rattle.report_form.specs.Reading.{refuted_line, unknown_line}
-use Rattle.frontier_report.specs.declared.report_stop.ReportStop.{ReportStop}
-use Rattle.frontier_report.specs.inner.Gives.{Halts}
+use Rattle.frontier_report.specs.{declared.report_stop.ReportStop.ReportStop, inner.Gives.Halts}
 use Rattle.frontier_report.specs.inner.After.{send_after, refuted_after, unknown_after, point_after}
 
 pub send_read : (names : List (List ℕ)) (chunks steps : ℕ) (before : List Hop) (last : Option Hop) (line : Option Row) (r : Result Hop ReportCode) → last ≡ last_or None before → send_after names chunks steps last line ≡ r → send_line names chunks steps before line ≡ r

@@ -1,19 +1,13 @@
 -- Where the parts of a report up to its topology are read, what is left to read is its body.
 use Rattle.std.proofs.Common.{◌≡◌, ℕ, Bool, List, Option, Result, Ok, ap, ◌∙◌, not}
-use Rattle.text_lines.specs.Text.{Row, Place, rows_of, start}
-use Rattle.text_lines.specs.Check.{◌>>=◌, refuse, at_line, line_part}
-use Rattle.text_lines.proofs.Checks.{bind_ok, ok_is}
+use Rattle.text_lines.{specs.{Text.{Row, Place, rows_of, start}, Check.{◌>>=◌, refuse, at_line, line_part}}, proofs.Checks.{bind_ok, ok_is}}
 use Rattle.schedule.specs.Links.{GroupValue}
 use Rattle.collective_spec.specs.Patterns.{PatternValue}
-use Rattle.topology_text.specs.Value.{named_with}
-use Rattle.topology_text.specs.Reading.{header_line, nodes_line, groups_at, pattern_at}
-use Rattle.report_form.specs.declared.fault.ReportCode.{ReportCode}
-use Rattle.report_form.specs.declared.fault.ReportCode.TheVariants as code
-use Rattle.report_form.specs.Lines.{among}
-use Rattle.report_form.specs.Reports.{ReportValue}
-use Rattle.report_form.specs.SynthLine.{AskedValue, asked_line, root_of, words_from}
+use Rattle.topology_text.specs.{Value.named_with, Reading.{header_line, nodes_line, groups_at, pattern_at}}
+use Rattle.report_form.specs.{declared.fault.ReportCode.ReportCode, Lines.among, Reports.ReportValue, SynthLine.{AskedValue, asked_line, root_of, words_from}}
 use Rattle.report_form.specs.Reading.{body_of, is_same, report_of, version_line}
 use Rattle.report_form.proofs.ReportTaken.{after_pattern, after_groups, after_root, after_names, after_same, after_asked, after_head, report_is}
+use Rattle.report_form.specs.declared.fault.ReportCode.TheVariants as code
 use Rattle.frontier_report.specs.inner.Header.{header_at}
 
 -- where the header is read, the checks behind it go on at the place behind it

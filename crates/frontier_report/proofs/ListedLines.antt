@@ -1,13 +1,8 @@
 -- Lines of refuted and unknown candidates: their shape, and then the rule.
-use Rattle.std.proofs.Common.{◌≡◌, ℕ, List, Option, refl}
-use Rattle.std.specs.Prelude.{◌&&◌, ◌==◌, codes}
+use Rattle.std.proofs.Common.{◌≡◌, ℕ, List, Option, refl, ◌&&◌, ◌==◌, codes}
 use Rattle.text_lines.specs.Text.{Row}
-use Rattle.candidate_order.specs.declared.candidate.Candidate.{Candidate}
-use Rattle.candidate_order.specs.Frontiers.{QuestionValue}
-use Rattle.report_form.specs.Lines.{tokens_line}
-use Rattle.report_form.specs.Fields.{any_number, fixed_word, next_word, no_more}
-use Rattle.report_form.specs.Tests.{is_within, comes_next}
-use Rattle.report_form.specs.Points.{candidate_from}
+use Rattle.candidate_order.specs.{declared.candidate.Candidate.Candidate, Frontiers.QuestionValue}
+use Rattle.report_form.specs.{Lines.tokens_line, Fields.{any_number, fixed_word, next_word, no_more}, Tests.{is_within, comes_next}, Points.candidate_from}
 use Rattle.report_form.proofs.Shapes.{unknown}
 use Rattle.report_lines.proofs.Ruled.{words_read, word_read, all_read, by_rule}
 use Rattle.frontier_report.specs.inner.After.{refuted_after, unknown_after}

@@ -1,15 +1,11 @@
 -- No part of the topology leaves more lines and numbers than there were.
-use Rattle.std.proofs.Common.{◌≡◌, ℕ, ◌+◌, ◌^◌, ◌<◌, ◌≤◌, zero, suc, Bool, true, false, List, [], ◌∷◌, ◌++◌, length, drop, Option, None, Some, Result, Ok, Err, refl, sym, ap, ◌∙◌, subst, arith, length-drop}
-use Rattle.std.specs.Prelude.{◌==◌, codes, if◌then◌else◌}
-use Rattle.text_lines.specs.Text.{Row, Place, rows_of, start, onto_row}
-use Rattle.text_lines.specs.Check.{◌>>=◌, at_line, first, line_part}
-use Rattle.text_lines.proofs.Checks.{bind_ok, ok_is, part_ok}
+use Rattle.std.proofs.Common.{◌≡◌, ℕ, ◌+◌, ◌^◌, ◌<◌, ◌≤◌, zero, suc, Bool, true, false, List, [], ◌∷◌, ◌++◌, length, drop, Option, None, Some, Result, Ok, Err, refl, sym, ap, ◌∙◌, subst, arith, length-drop, ◌==◌, codes, if◌then◌else◌}
+use Rattle.text_lines.{specs.{Text.{Row, Place, rows_of, start, onto_row}, Check.{◌>>=◌, at_line, first, line_part}}, proofs.Checks.{bind_ok, ok_is, part_ok}}
 use Rattle.schedule.specs.Links.{GroupValue}
 use Rattle.collective_spec.specs.Patterns.{PatternValue}
 use Rattle.topology_text.specs.declared.fault.TopologyCode.{TopologyCode}
 use Rattle.topology_text.specs.Reading.{begins, group_row, groups_from, custom_line, holders_line, row_of_pairs, holders_at, Pairs, pattern_of, pattern_at}
-use Rattle.report_form.specs.SynthLine.{AskedValue, asked_line}
-use Rattle.report_form.specs.Reading.{version_line}
+use Rattle.report_form.specs.{SynthLine.{AskedValue, asked_line}, Reading.version_line}
 use Rattle.report_lines.specs.Room.{HasRoom, Onward}
 
 pub onward_trans : (p q r : Place) → Onward p q → Onward q r → Onward p r

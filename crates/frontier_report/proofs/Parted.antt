@@ -1,13 +1,8 @@
 -- The loops over parts of several lines, one turn at a time.
 use Rattle.std.proofs.Common.{◌≡◌, ℕ, ◌+◌, ◌-◌, ◌≤◌, ◌<◌, zero, suc, ◌∷◌, [], ◌++◌, List, Bool, true, false, Ok, Err, Result, length, refl, ◌∙◌, sym, ap, arith}
-use Rattle.text_lines.specs.Text.{Row, Place}
-use Rattle.text_lines.specs.Check.{first}
-use Rattle.report_form.specs.declared.fault.ReportCode.{ReportCode}
-use Rattle.report_form.specs.Lines.{row_begins, parts_from}
-use Rattle.frontier_report.specs.declared.report_stop.ReportStop.{ReportStop}
-use Rattle.frontier_report.specs.declared.report_stop.ReportStop.TheVariants.{Memory, Refused}
-use Rattle.frontier_report.specs.inner.Gives.{Halts}
-use Rattle.frontier_report.proofs.Turns.{ended}
+use Rattle.text_lines.specs.{Text.{Row, Place}, Check.first}
+use Rattle.report_form.specs.{declared.fault.ReportCode.ReportCode, Lines.{row_begins, parts_from}}
+use Rattle.frontier_report.{specs.{declared.report_stop.ReportStop.{ReportStop, TheVariants.{Memory, Refused}}, inner.Gives.Halts}, proofs.Turns.ended}
 
 abbrev pub part_read : {A : Type 0} → A → Place → Result (A × Place) (ReportCode × ℕ)
 part_read x p = Ok (x, p)

@@ -1,17 +1,9 @@
 -- What the reader's answer says of the text.
-use Rattle.std.proofs.Common.{◌≡◌, ◌≢◌, ℕ, List, Result, Ok, Err, ◌⊎◌, inl, inr, ap, ◌∙◌, subst}
-use Rattle.std.specs.Prelude.{IfOk, IfErr}
-use Rattle.report_form.specs.declared.fault.ReportCode.{ReportCode}
-use Rattle.report_form.specs.declared.fault.ReportCode.TheVariants.{OutOfMemory}
-use Rattle.report_form.specs.declared.fault.ReportFault.{ReportFault}
-use Rattle.report_form.specs.Reports.{ReportValue, IsReport}
-use Rattle.report_form.specs.Spelling.{report_text}
-use Rattle.report_form.specs.Reading.{report_of}
-use Rattle.report_form.specs.Answer.{Answers}
-use Rattle.report_form.specs.First.{FailsFirstAt}
+use Rattle.std.proofs.Common.{◌≡◌, ◌≢◌, ℕ, List, Result, Ok, Err, ◌⊎◌, inl, inr, ap, ◌∙◌, subst, IfOk, IfErr}
+use Rattle.report_form.specs.{declared.fault.{ReportCode.{ReportCode, TheVariants.OutOfMemory}, ReportFault.ReportFault}, Reports.{ReportValue, IsReport}}
+use Rattle.report_form.specs.{Spelling.report_text, Reading.report_of, Answer.Answers, First.FailsFirstAt}
 use Rattle.report_form.proofs.ReportTaken.{report_take}
-use Rattle.report_laws.proofs.ReportAgain.{report_again}
-use Rattle.report_laws.proofs.FirstBlamed.{first_is_blamed}
+use Rattle.report_laws.proofs.{ReportAgain.report_again, FirstBlamed.first_is_blamed}
 
 pub is_found : (text : List ℕ) (r : Result ReportValue ReportFault) → Answers r (report_of text) → IfOk r (λ v. IsReport v × (text ≡ report_text v))
 is_found text (Ok v) a = let t = report_take text v a in (t.valid, t.spelled)

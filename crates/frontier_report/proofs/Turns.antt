@@ -1,14 +1,9 @@
 -- The loops over lines that repeat, one turn at a time.
 use Rattle.std.proofs.Common.{◌≡◌, ℕ, ◌+◌, ◌∷◌, [], ◌++◌, List, Bool, true, false, Option, None, Some, IfNone, IfSome, Ok, Err, Result, drop, map, refl, ◌∙◌, sym}
 use Rattle.std.specs.List.{last_or}
-use Rattle.text_lines.specs.Text.{Row, Place}
-use Rattle.text_lines.specs.Check.{first}
-use Rattle.text_lines.specs.declared.line.Line.{Line}
-use Rattle.text_lines.proofs.Checks.{first_is}
-use Rattle.topology_text.specs.Reading.{begins}
-use Rattle.topology_text.proofs.Groups.{place}
-use Rattle.report_form.specs.declared.fault.ReportCode.{ReportCode}
-use Rattle.report_form.specs.Lines.{lines_from}
+use Rattle.text_lines.{specs.{Text.{Row, Place}, Check.first, declared.line.Line.Line}, proofs.Checks.first_is}
+use Rattle.topology_text.{specs.Reading.begins, proofs.Groups.place}
+use Rattle.report_form.specs.{declared.fault.ReportCode.ReportCode, Lines.lines_from}
 
 abbrev pub passed : {A : Type 0} → A → Result A ReportCode
 passed x = Ok x

@@ -1,12 +1,9 @@
 //! The parts of a report, and what follows them.
 
 ghost use Rattle.std.specs.Prelude.{◌≡◌, ◌≤◌, length, OnOk};
-ghost use Rattle.report_form.specs.Reports.{parts_of};
-ghost use Rattle.report_form.specs.Reading.{body_of, frontier_at, frontiers_from, joined_at};
-ghost use Rattle.report_lines.specs.Asking.{asks};
-ghost use Rattle.frontier_report.specs.inner.Bodies.{body_value};
-ghost use Rattle.frontier_report.specs.inner.Gives.{Reads};
-ghost use Rattle.report_lines.specs.Room.{HasRoom, Onward};
+ghost use Rattle.report_form.specs.{Reports.parts_of, Reading.{body_of, frontier_at, frontiers_from, joined_at}};
+ghost use Rattle.report_lines.specs.{Asking.asks, Room.{HasRoom, Onward}};
+ghost use Rattle.frontier_report.specs.inner.{Bodies.body_value, Gives.Reads};
 
 use crate::listed::{refuted_part, unknown_part};
 use crate::points::{joined_points_part, points_part};

@@ -1,14 +1,10 @@
 //! The lines of refuted and of unknown candidates.
 
 ghost use Rattle.std.specs.Prelude.{◌≡◌, Some, codes, OnOk};
-ghost use Rattle.text_lines.specs.Line.{IsIn, row_at};
-ghost use Rattle.report_form.specs.Lines.{lines_at};
-ghost use Rattle.report_form.specs.Reading.{refuted_line, unknown_line};
-ghost use Rattle.frontier_report.specs.inner.After.{refuted_after, unknown_after};
-ghost use Rattle.report_lines.specs.Asking.{asks};
-ghost use Rattle.frontier_report.specs.inner.Gives.{Reads};
-ghost use Rattle.text_lines.specs.Check.{Tells};
-ghost use Rattle.report_lines.specs.Room.{HasRoom, Onward};
+ghost use Rattle.text_lines.specs.{Line.{IsIn, row_at}, Check.Tells};
+ghost use Rattle.report_form.specs.{Lines.lines_at, Reading.{refuted_line, unknown_line}};
+ghost use Rattle.frontier_report.specs.inner.{After.{refuted_after, unknown_after}, Gives.Reads};
+ghost use Rattle.report_lines.specs.{Asking.asks, Room.{HasRoom, Onward}};
 
 use crate::report_stop::ReportStop;
 use candidate_order::{Candidate, Unknown};

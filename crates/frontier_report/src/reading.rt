@@ -2,13 +2,8 @@
 
 ghost use Rattle.std.specs.Prelude.{◌≡◌, ◌≢◌, ◌+◌, ◌<◌, ◌^◌, Ok, length, IfOk, IfErr};
 ghost use Rattle.text_lines.specs.Text.{rows_of};
-ghost use Rattle.report_form.specs.Reports.{ReportValue, IsReport};
-ghost use Rattle.report_form.specs.Spelling.{report_text};
-ghost use Rattle.report_form.specs.Reading.{report_of};
-ghost use Rattle.report_form.specs.Answer.{Answers};
-ghost use Rattle.report_form.specs.First.{FailsFirstAt};
-ghost use Rattle.frontier_report.specs.inner.Bodies.{parts_value};
-ghost use Rattle.frontier_report.specs.inner.Gives.{Reads};
+ghost use Rattle.report_form.specs.{Reports.{ReportValue, IsReport}, Spelling.report_text, Reading.report_of, Answer.Answers, First.FailsFirstAt};
+ghost use Rattle.frontier_report.specs.inner.{Bodies.parts_value, Gives.Reads};
 
 use crate::frontiers::{Body, body_part};
 use crate::report_stop::ReportStop;

@@ -1,9 +1,7 @@
 //! The line of a point's rounds.
 
-ghost use Rattle.std.specs.Prelude.{◌≡◌, ◌≤◌, ◌&&◌, All, Some, length, nat_le, sum, IfOk, OnOk};
-ghost use Rattle.std.specs.List.{list_all};
-ghost use Rattle.text_lines.specs.Line.{IsIn, row_at};
-ghost use Rattle.text_lines.specs.Check.{Gives, line_part};
+ghost use Rattle.std.specs.{Prelude.{◌≡◌, ◌≤◌, ◌&&◌, All, Some, length, nat_le, sum, IfOk, OnOk}, List.list_all};
+ghost use Rattle.text_lines.specs.{Line.{IsIn, row_at}, Check.{Gives, line_part}};
 ghost use Rattle.report_form.specs.Points.{are_rounds, numbers_from, rounds_line};
 ghost use Rattle.frontier_report.specs.inner.Gives.{Reads};
 ghost use Rattle.report_lines.specs.Room.{HasRoom, Onward};

@@ -1,14 +1,10 @@
 //! The lines of a point's sends.
 
 ghost use Rattle.std.specs.Prelude.{◌≡◌, ◌≤◌, ◌<◌, Some, None, if◌then◌else◌, codes, length, OnOk};
-ghost use Rattle.text_lines.specs.Line.{IsIn, row_at};
-ghost use Rattle.report_form.specs.Lines.{lines_at};
-ghost use Rattle.report_form.specs.Points.{follows, may_be_sent, send_from, send_line};
-ghost use Rattle.frontier_report.specs.inner.After.{send_after};
-ghost use Rattle.frontier_report.specs.inner.Gives.{Reads};
-ghost use Rattle.text_lines.specs.Check.{Tells};
+ghost use Rattle.text_lines.specs.{Line.{IsIn, row_at}, Check.Tells};
+ghost use Rattle.report_form.specs.{Lines.lines_at, Points.{follows, may_be_sent, send_from, send_line}};
+ghost use Rattle.frontier_report.specs.inner.{After.send_after, Gives.Reads, Wide.hop_of};
 ghost use Rattle.report_lines.specs.Room.{HasRoom, Onward};
-ghost use Rattle.frontier_report.specs.inner.Wide.{hop_of};
 
 use crate::report_stop::ReportStop;
 use indexmap::IndexSet;

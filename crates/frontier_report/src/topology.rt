@@ -1,16 +1,12 @@
 //! The topology's lines among those of a report.
 
 ghost use Rattle.std.specs.Prelude.{◌≡◌, ◌≤◌, ◌+◌, ◌-◌, length, slice_get, IfOk, IfSome, OnOk};
-ghost use Rattle.text_lines.specs.Text.{rows_of};
-ghost use Rattle.text_lines.specs.Check.{at_line, line_part};
+ghost use Rattle.text_lines.specs.{Text.rows_of, Check.{at_line, line_part}};
 ghost use Rattle.collective_spec.specs.Patterns.{IsPattern};
 ghost use Rattle.topology_text.specs.Reading.{groups_at, nodes_line, pattern_at};
-ghost use Rattle.report_form.specs.SynthLine.{root_of};
-ghost use Rattle.report_form.specs.Lines.{among, blamed, whole_line};
-ghost use Rattle.frontier_report.specs.inner.Gives.{Reads};
-ghost use Rattle.report_lines.specs.Gives.{TellsAt};
-ghost use Rattle.frontier_report.specs.inner.Header.{stop_of, header_at, HasMuchRoom};
-ghost use Rattle.report_lines.specs.Room.{Onward};
+ghost use Rattle.report_form.specs.{SynthLine.root_of, Lines.{among, blamed, whole_line}};
+ghost use Rattle.frontier_report.specs.inner.{Gives.Reads, Header.{stop_of, header_at, HasMuchRoom}};
+ghost use Rattle.report_lines.specs.{Gives.TellsAt, Room.Onward};
 
 use crate::report_stop::ReportStop;
 use collective_spec::Pattern;

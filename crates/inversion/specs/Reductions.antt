@@ -1,10 +1,6 @@
 -- What a reduction needs of its demand, and the part of a schedule that wastes no send (this project's own).
 use Rattle.std.specs.Prelude.{◌≡◌, ℕ, ◌-◌, ◌<◌, Bool, true, not, List, [], ◌∷◌, filter}
-use Rattle.schedule.specs.declared.hop.Hop.{Hop}
-use Rattle.schedule.specs.Sends.{ScheduleValue}
-use Rattle.schedule.specs.Placed.{PlacementValue, holds, same_pair}
-use Rattle.schedule.specs.Running.{after}
-use Rattle.schedule.specs.Solving.{moves}
+use Rattle.schedule.specs.{declared.hop.Hop.Hop, Sends.ScheduleValue, Placed.{PlacementValue, holds, same_pair}, Running.after, Solving.moves}
 
 -- each chunk is held by some node
 abbrev pub HeldBySome : PlacementValue → Type 0

@@ -1,9 +1,7 @@
 //! The counts of a store that are uneven, that is other than 1.
 
-ghost use Rattle.std.specs.Prelude.{◌≡◌, ◌==◌, ◌<◌, not, find, None, if◌then◌else◌, map, filter, slice_index, slice_index_or};
-ghost use Rattle.std.specs.List.{range_with_len};
-ghost use Rattle.schedule.specs.Placed.{IsPlacement, holds};
-ghost use Rattle.schedule.specs.Bags.{Bags};
+ghost use Rattle.std.specs.{Prelude.{◌≡◌, ◌==◌, ◌<◌, not, find, None, if◌then◌else◌, map, filter, slice_index, slice_index_or}, List.range_with_len};
+ghost use Rattle.schedule.specs.{Placed.{IsPlacement, holds}, Bags.Bags};
 ghost use Rattle.bag_runs.specs.Stores.{bags_in, stored};
 ghost use Rattle.inversion.specs.Judging.{counts_judged, first_uneven};
 

@@ -1,10 +1,7 @@
 //! The verdict on a schedule that adds up.
 
 ghost use Rattle.std.specs.Prelude.{◌≡◌, ◌↔◌, length, sum, IfOk};
-ghost use Rattle.schedule.specs.Sends.{IsInRange, IsSchedule};
-ghost use Rattle.schedule.specs.Bags.{contributions};
-ghost use Rattle.schedule.specs.Summing.{Sums};
-ghost use Rattle.schedule.specs.JoinedRuns.{joined_after};
+ghost use Rattle.schedule.specs.{Sends.{IsInRange, IsSchedule}, Bags.contributions, Summing.Sums, JoinedRuns.joined_after};
 ghost use Rattle.bag_runs.specs.Stores.{stored};
 ghost use Rattle.inversion.specs.Judging.{counts_judged, first_uneven, last_bags, misfit_of, sum_verdict_of};
 

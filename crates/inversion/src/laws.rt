@@ -1,10 +1,7 @@
 //! What the verdict on a sum says.
 
 ghost use Rattle.std.specs.Prelude.{◌≡◌, ◌↔◌, length, sum};
-ghost use Rattle.schedule.specs.Links.{TopologyValue};
-ghost use Rattle.schedule.specs.Placed.{PlacementValue};
-ghost use Rattle.schedule.specs.Sends.{ScheduleValue};
-ghost use Rattle.schedule.specs.Summing.{Sums};
+ghost use Rattle.schedule.specs.{Links.TopologyValue, Placed.PlacementValue, Sends.ScheduleValue, Summing.Sums};
 ghost use Rattle.inversion.specs.Judging.{sum_verdict_of};
 
 use crate::verdict::SumVerdict;

@@ -1,13 +1,8 @@
 //! When sums can be had: where the chunks can be brought back over the links turned round.
 
 ghost use Rattle.std.specs.Prelude.{◌≡◌, ◌↔◌, ℕ};
-ghost use Rattle.schedule.specs.Links.{TopologyValue, reversed_of};
-ghost use Rattle.schedule.specs.Placed.{PlacementValue, HeldByOne, IsPlacement};
-ghost use Rattle.schedule.specs.Sends.{ScheduleValue, IsSchedule, IsInRange};
-ghost use Rattle.schedule.specs.Solving.{Solvable, Solves, Tight};
-ghost use Rattle.schedule.specs.Summing.{SummedSolvable, Sums};
-ghost use Rattle.schedule.specs.Inverse.{inverse_of};
-ghost use Rattle.schedule.specs.Rows.{everywhere};
+ghost use Rattle.schedule.specs.{Links.{TopologyValue, reversed_of}, Placed.{PlacementValue, HeldByOne, IsPlacement}, Solving.{Solvable, Solves, Tight}};
+ghost use Rattle.schedule.specs.{Sends.{ScheduleValue, IsSchedule, IsInRange}, Summing.{SummedSolvable, Sums}, Inverse.inverse_of, Rows.everywhere};
 ghost use Rattle.inversion.specs.Reductions.{HeldBySome, tightened};
 
 /// A schedule that adds each chunk up where it is demanded: its inverse brings each chunk from

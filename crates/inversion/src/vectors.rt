@@ -2,8 +2,7 @@
 
 ghost use Rattle.std.specs.Prelude.{◌≡◌, [], ◌∷◌};
 ghost use Rattle.schedule.specs.Rows.{at_root, line_of_2, back_of_2, twice_grouped, plan, ring_broadcast, ring_of_4, ring_reduce, send};
-ghost use Rattle.inversion.specs.Judging.{sum_verdict_of};
-ghost use Rattle.inversion.specs.Reductions.{tightened};
+ghost use Rattle.inversion.specs.{Judging.sum_verdict_of, Reductions.tightened};
 
 use crate::verdict::SumVerdict;
 

@@ -1,43 +1,22 @@
 -- What is written as JSON is read back as the text that it was written of.
-use Rattle.std.proofs.Common.{◌≡◌, ℕ, ◌≤◌, nat_lt, Bool, true, false, List, [], length, None, Result, Ok, Err, sym, ap, ◌∙◌, refl, arith}
-use Rattle.std.proofs.lemmas.Bool.{le-ltb}
+use Rattle.std.proofs.{Common.{◌≡◌, ℕ, ◌≤◌, nat_lt, Bool, true, false, List, [], length, None, Result, Ok, Err, sym, ap, ◌∙◌, refl, arith}, lemmas.Bool.le-ltb}
 use Rattle.text_lines.specs.Check.{◌>>=◌, refuse}
-use Rattle.topology_text.specs.declared.fault.TopologyCode.{TopologyCode}
-use Rattle.topology_text.specs.Reading.{topology_of}
-use Rattle.topology_text.specs.Value.{NamedTopologyValue}
-use Rattle.topology_text.proofs.Laws.{all_take}
-use Rattle.report_form.specs.declared.fault.ReportCode.{ReportCode}
-use Rattle.report_form.specs.Answer.{code_number as report_number}
-use Rattle.report_form.specs.Reading.{report_of}
-use Rattle.report_form.specs.Reports.{ReportValue}
+use Rattle.topology_text.{specs.{declared.fault.TopologyCode.TopologyCode, Reading.topology_of, Value.NamedTopologyValue}, proofs.Laws.all_take}
+use Rattle.report_form.specs.{declared.fault.ReportCode.ReportCode, Answer.code_number as report_number, Reading.report_of, Reports.ReportValue}
 use Rattle.report_form.proofs.ReportTaken.{report_take}
-use Rattle.serde_json.specs.Data.{depth}
-use Rattle.serde_json.specs.Read.{max_depth}
-use Rattle.serde_json.specs.Written.{compact_text}
-use Rattle.json_values.specs.Json.{printed}
-use Rattle.json_values.specs.TopologyJson.{topology_json}
-use Rattle.json_values.specs.Answer.{topology_of_json}
-use Rattle.json_forms.proofs.TopologyTable.{topology_printed}
-use Rattle.json_values.proofs.Built.{topology_back, topology_flat}
-use Rattle.json_rules.specs.Answer.{report_of_json}
-use Rattle.json_forms.specs.ReportForm.{report as report_form}
-use Rattle.json_rules.specs.ReportJson.{report_json}
-use Rattle.json_forms.proofs.ReportTable.{report_printed}
+use Rattle.serde_json.specs.{Data.depth, Read.max_depth, Written.compact_text}
+use Rattle.json_values.{specs.{Json.printed, TopologyJson.topology_json, Answer.topology_of_json}, proofs.Built.{topology_back, topology_flat}}
+use Rattle.json_forms.{proofs.{TopologyTable.topology_printed, ReportTable.report_printed}, specs.ReportForm.report as report_form}
+use Rattle.json_rules.specs.{Answer.report_of_json, ReportJson.report_json}
 use Rattle.json_reports.proofs.Built.{report_back, report_flat}
-use Rattle.command_words.specs.declared.command.Command.{Command}
+use Rattle.command_words.specs.{declared.command.{Command.Command, JsonWhat.JsonWhat}, Words.command_of}
 use Rattle.command_words.specs.declared.command.Command.TheVariants as command
-use Rattle.command_words.specs.declared.command.JsonWhat.{JsonWhat}
 use Rattle.command_words.specs.declared.command.JsonWhat.TheVariants as what
-use Rattle.command_words.specs.Words.{command_of}
-use Rattle.run_rules.specs.declared.status.Status.TheVariants.{BadReport, TooLong}
-use Rattle.run_rules.specs.Commands.{json_row, row_of, unjson_row}
+use Rattle.run_rules.specs.{declared.status.Status.TheVariants.{BadReport, TooLong}, Commands.{json_row, row_of, unjson_row}, Steps.whole_text}
 use Rattle.run_rules.specs.Refusals.{Refusal, refused_as, refused_at}
 use Rattle.run_rules.specs.Tasks.{Task, Write, due, json_asked, json_programs_in, limit, read_report, task_of, unjson_asked, words_asked}
-use Rattle.run_rules.specs.Steps.{whole_text}
-use Rattle.json_command.proofs.Exchanged.{topology_due, topology_read_due, topology_same, report_read_due, report_same}
-use Rattle.json_command.proofs.Fitting.{Fits, read_again, text_utf8}
-use Rattle.json_command.proofs.TopologyFits.{topology_fits}
-use Rattle.json_command.proofs.ReportFits.{report_fits}
+use Rattle.json_command.proofs.{Exchanged.{topology_due, topology_read_due, topology_same, report_read_due, report_same}, Fitting.{Fits, read_again, text_utf8}}
+use Rattle.json_command.proofs.{TopologyFits.topology_fits, ReportFits.report_fits}
 
 -- the text of what is to be written
 written_of : Result Task Refusal → List ℕ

@@ -3,37 +3,21 @@ use Rattle.std.proofs.Common.{◌≡◌, ◌≢◌, ◌⊎◌, inl, inr, ℕ, Li
 use Rattle.outer_ports.specs.declared.part.Part.{Part}
 use Rattle.text_lines.specs.Check.{◌>>=◌, need}
 use Rattle.candidate_order.specs.Frontiers.{PointValue}
-use Rattle.topology_text.specs.declared.fault.TopologyCode.{TopologyCode}
-use Rattle.topology_text.specs.declared.fault.TopologyCode.TheVariants as topology
-use Rattle.topology_text.specs.Value.{NamedTopologyValue}
-use Rattle.topology_text.specs.Answer.{code_number as topology_number}
-use Rattle.topology_text.specs.Reading.{topology_of}
+use Rattle.topology_text.specs.{declared.fault.TopologyCode.TopologyCode, Value.NamedTopologyValue, Answer.code_number as topology_number, Reading.topology_of}
 use Rattle.topology_text.specs.Spelling.{spelling}
-use Rattle.report_form.specs.Reading.{report_of}
-use Rattle.report_form.specs.Reports.{ReportValue}
-use Rattle.report_form.specs.Numbered.{point_at}
-use Rattle.report_form.specs.Spelling.{report_text}
-use Rattle.json_values.specs.declared.fault.JsonCode.{JsonCode}
-use Rattle.json_values.specs.declared.fault.JsonCode.TheVariants as json
-use Rattle.json_values.specs.Answer.{code_number as json_number, topology_of_json}
-use Rattle.json_forms.specs.Reading.{read_json}
-use Rattle.json_values.specs.Json.{printed}
-use Rattle.json_forms.specs.TopologyForm.{topology as topology_form}
+use Rattle.topology_text.specs.declared.fault.TopologyCode.TheVariants as topology
+use Rattle.report_form.specs.{Reading.report_of, Reports.ReportValue, Numbered.point_at, Spelling.report_text}
+use Rattle.json_values.specs.{declared.fault.JsonCode.JsonCode, Answer.{code_number as json_number, topology_of_json}, Json.printed}
 use Rattle.json_values.specs.TopologyJson.{topology_in, topology_json}
-use Rattle.json_forms.proofs.ReadJson.{read_alike}
+use Rattle.json_values.specs.declared.fault.JsonCode.TheVariants as json
+use Rattle.json_forms.{specs.{Reading.read_json, TopologyForm.topology as topology_form, ReportForm.report as report_form}, proofs.ReadJson.read_alike}
 use Rattle.json_forms.proofs.TopologyTable as topology_table
-use Rattle.json_rules.specs.Answer.{report_of_json}
-use Rattle.json_forms.specs.ReportForm.{report as report_form}
-use Rattle.json_rules.specs.ReportJson.{report_in, report_json}
+use Rattle.json_rules.specs.{Answer.report_of_json, ReportJson.{report_in, report_json}}
 use Rattle.json_forms.proofs.ReportTable as report_table
 use Rattle.command_words.specs.declared.command.JsonWhat.TheVariants as what
-use Rattle.command_words.specs.declared.command.PointWord.{PointWord}
-use Rattle.command_words.specs.declared.fault.WordCode.TheVariants.{UnknownPoint}
-use Rattle.run_rules.specs.declared.status.Status.{Status}
-use Rattle.run_rules.specs.declared.status.Status.TheVariants.{BadJson, BadTopology, BadWords, Done}
-use Rattle.run_rules.specs.declared.answer.Answer.{Answer}
-use Rattle.run_rules.specs.Answers.{IsAnswerAlone, Says}
-use Rattle.run_rules.specs.Refusals.{Refusal, refused_as, refused_at, refused_word, refusal_line}
+use Rattle.command_words.specs.declared.{command.PointWord.PointWord, fault.WordCode.TheVariants.UnknownPoint}
+use Rattle.run_rules.specs.declared.{status.Status.{Status, TheVariants.{BadJson, BadTopology, BadWords, Done}}, answer.Answer.Answer}
+use Rattle.run_rules.specs.{Answers.{IsAnswerAlone, Says}, Refusals.{Refusal, refused_as, refused_at, refused_word, refusal_line}}
 use Rattle.run_rules.specs.Tasks.{Task, Write, json_asked, json_programs_in, programs_value, read_report, unjson_asked}
 use Rattle.run_rules.proofs.Answered.{refused_answers, written_as}
 

@@ -1,23 +1,15 @@
 -- Values whose numbers are whole and below 2^64, whose texts are UTF-8 and whose keys ascend: what is printed of them is read back.
-use Rattle.std.proofs.Common.{◌≡◌, ℕ, suc, ◌^◌, ◌<◌, ◌≤◌, max, Bool, true, false, List, [], ◌∷◌, ◌++◌, map, Option, Some, option_map, option_and_then, decimal, refl, sym, ap, ap₂, ◌∙◌, append-nil, lt-ltb, arith}
-use Rattle.std.specs.Prelude.{IsUtf8, ⊤}
-use Rattle.std.proofs.lemmas.Str.{IsUtf8-append, IsUtf8-from_ascii}
-use Rattle.std.proofs.lemmas.Fmt.{IsAscii-decimal}
+use Rattle.std.proofs.Common.{◌≡◌, ℕ, suc, ◌^◌, ◌<◌, ◌≤◌, max, Bool, true, false, List, [], ◌∷◌, ◌++◌, map, Option, Some, option_map, option_and_then, decimal, refl, sym, ap, ap₂, ◌∙◌, append-nil, lt-ltb, arith, IsUtf8}
+use Rattle.std.{specs.Prelude.⊤, proofs.lemmas.{Str.{IsUtf8-append, IsUtf8-from_ascii}, Fmt.IsAscii-decimal}}
 use Rattle.json.specs.Json as json
-use Rattle.json.specs.Lex.{tokens}
-use Rattle.json.specs.Print.{quoted}
-use Rattle.json.specs.Token.{Token}
-use Rattle.json.specs.Tree as tree
-use Rattle.json.proofs.Printed.Decimals.{IsNumber-decimal}
-use Rattle.json.proofs.Printed.Tokens.{tokens-print}
-use Rattle.json.proofs.Printed.Trees.{ArePrintable-json_tokens, value-json_tokens}
+use Rattle.json.specs.{Lex.tokens, Print.quoted, Token.Token}
+use Rattle.json.proofs.Printed.{Decimals.IsNumber-decimal, Tokens.tokens-print, Trees.{ArePrintable-json_tokens, value-json_tokens}}
 use Rattle.json.proofs.Printed.Utf8.{IsUtf8-are_ascii, IsUtf8-boolean, IsUtf8-quoted}
+use Rattle.json.specs.Tree as tree
 use Rattle.serde_json.specs.Data.{Data, null, boolean, number, unsigned, negative, float, string, array, object, Items, no_items, item, Members, no_members, member, put, depth, items_depth, members_depth}
-use Rattle.serde_json.specs.Read.{of_json, of_items, of_members, read, max_depth}
-use Rattle.serde_json.specs.View.{items_of}
+use Rattle.serde_json.specs.{Read.{of_json, of_items, of_members, read, max_depth}, View.items_of}
 use Rattle.serde_json.specs.Written.{outline, items_outline, members_outline, compact_text, items_text, members_text, comma_if}
-use Rattle.serde_json.proofs.Numbers.{number_of-decimal}
-use Rattle.serde_json.proofs.Texts.{print-outline}
+use Rattle.serde_json.proofs.{Numbers.number_of-decimal, Texts.print-outline}
 
 -- the members, and behind them others
 abbrev pub joined : Members → Members → Members

@@ -1,33 +1,22 @@
 -- The JSON of a report is read back: its numbers are small, and its texts are names and words.
-use Rattle.std.proofs.Common.{◌≡◌, ◌⊎◌, inl, inr, ℕ, ◌<◌, ◌≤◌, Bool, true, false, List, [], ◌∷◌, ◌++◌, length, map, refl, sym, ◌∙◌, ltb-true, arith}
-use Rattle.std.specs.Prelude.{IsUtf8, All, codes, if◌then◌else◌}
-use Rattle.std.proofs.lemmas.Bool.{and_parts}
-use Rattle.std.proofs.lemmas.List.Elements.{All-head, All-tail}
+use Rattle.std.proofs.Common.{◌≡◌, ◌⊎◌, inl, inr, ℕ, ◌<◌, ◌≤◌, Bool, true, false, List, [], ◌∷◌, ◌++◌, length, map, refl, sym, ◌∙◌, ltb-true, arith, IsUtf8, All, codes, if◌then◌else◌}
+use Rattle.std.proofs.lemmas.{Bool.and_parts, List.Elements.{All-head, All-tail}}
 use Rattle.json.proofs.Printed.Utf8.{IsUtf8-are_ascii}
 use Rattle.outer_ports.specs.declared.part.Part.{Part}
 use Rattle.outer_ports.specs.declared.part.Part.TheVariants as part
-use Rattle.schedule.specs.Sends.{IsRound, IsStep, is_hop_below}
-use Rattle.schedule.specs.declared.hop.Hop.{Hop}
-use Rattle.collective_spec.specs.Collectives.{chunks_in}
-use Rattle.collective_spec.specs.Kinds.{takes_root, word_of}
-use Rattle.collective_spec.specs.declared.kind.Kind.{Kind}
+use Rattle.schedule.specs.{Sends.{IsRound, IsStep, is_hop_below}, declared.hop.Hop.Hop}
+use Rattle.collective_spec.{specs.{Collectives.chunks_in, Kinds.{takes_root, word_of}, declared.kind.Kind.Kind}, proofs.Chunks.{FewBase, chunks_few}}
 use Rattle.collective_spec.specs.declared.kind.Kind.TheVariants as kind
-use Rattle.collective_spec.proofs.Chunks.{FewBase, chunks_few}
-use Rattle.candidate_order.specs.declared.candidate.Candidate.{Candidate}
-use Rattle.candidate_order.specs.declared.mark.Mark.{Mark}
-use Rattle.candidate_order.specs.declared.mark.Mark.TheVariants as mark
-use Rattle.candidate_order.specs.Ranges.{IsLimits}
+use Rattle.candidate_order.specs.{declared.{candidate.Candidate.Candidate, mark.Mark.Mark}, Ranges.IsLimits}
 use Rattle.candidate_order.specs.Frontiers.{QuestionValue, PointValue, UnknownValue, FrontierValue, IsUnknown, IsWithin}
-use Rattle.topology_text.specs.Names.{is_name}
-use Rattle.topology_text.specs.Spelling.{name_at}
+use Rattle.candidate_order.specs.declared.mark.Mark.TheVariants as mark
+use Rattle.topology_text.specs.{Names.is_name, Spelling.name_at}
 use Rattle.report_form.specs.Reports.{HasSchedule, IsFrontier, IsJoinedPoint, IsPoint, IsReport, ReportValue, WordsValue, question_of}
 use Rattle.report_laws.proofs.PointsAgain.{base_of}
-use Rattle.serde_json.specs.Data.{Data, string}
-use Rattle.serde_json.specs.View.{items_of}
+use Rattle.serde_json.specs.{Data.{Data, string}, View.items_of}
 use Rattle.json_values.specs.Json.{count_of, members_of, object_of}
 use Rattle.json_rules.specs.ReportJson.{adding_members, candidate_json, frontier_json, part_word, point_json, point_members, report_json, said_members, send_json, unknown_json, words_json}
-use Rattle.json_command.proofs.Fitting.{Fits, ItemsFit, MembersFit}
-use Rattle.json_command.proofs.TopologyFits.{name_fits, small, topology_fits}
+use Rattle.json_command.proofs.{Fitting.{Fits, ItemsFit, MembersFit}, TopologyFits.{name_fits, small, topology_fits}}
 
 module _ (names : List (List ℕ)) (named : All (λ n. is_name n ≡ true) names) where
   send_fits : (h : Hop) → h.chunk < small → h.step < small → Fits (send_json names h)

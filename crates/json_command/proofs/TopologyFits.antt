@@ -1,19 +1,12 @@
 -- The JSON of a topology is read back: its numbers are small, and its texts are names.
-use Rattle.std.proofs.Common.{◌≡◌, ℕ, zero, suc, ◌^◌, ◌<◌, true, List, [], ◌∷◌, map, Option, None, Some, refl, arith}
-use Rattle.std.specs.Prelude.{IsUtf8, All, codes, slice_index_or}
-use Rattle.std.specs.List.{filter, range_with_len}
-use Rattle.std.proofs.lemmas.List.Elements.{All-head, All-tail}
+use Rattle.std.proofs.Common.{◌≡◌, ℕ, zero, suc, ◌^◌, ◌<◌, true, List, [], ◌∷◌, map, Option, None, Some, refl, arith, IsUtf8, All, codes, slice_index_or}
+use Rattle.std.{specs.List.{filter, range_with_len}, proofs.lemmas.List.Elements.{All-head, All-tail}}
 use Rattle.json.proofs.Printed.Utf8.{IsUtf8-are_ascii}
-use Rattle.schedule.specs.Links.{GroupValue, IsGroup}
-use Rattle.schedule.specs.Placed.{PlacementValue, holds}
+use Rattle.schedule.specs.{Links.{GroupValue, IsGroup}, Placed.{PlacementValue, holds}}
 use Rattle.collective_spec.specs.Patterns.{PatternValue}
-use Rattle.topology_text.specs.Names.{is_name}
-use Rattle.topology_text.specs.Spelling.{name_at}
-use Rattle.topology_text.specs.Value.{NamedTopologyValue, IsNamed}
-use Rattle.serde_json.specs.Data.{string}
-use Rattle.serde_json.specs.View.{items_of}
-use Rattle.json_values.specs.TopologyJson.{custom_json, group_json, holders_json, link_json, placement_json, topology_json}
-use Rattle.json_values.proofs.Printing.{name_utf8}
+use Rattle.topology_text.specs.{Names.is_name, Spelling.name_at, Value.{NamedTopologyValue, IsNamed}}
+use Rattle.serde_json.specs.{Data.string, View.items_of}
+use Rattle.json_values.{specs.TopologyJson.{custom_json, group_json, holders_json, link_json, placement_json, topology_json}, proofs.Printing.name_utf8}
 use Rattle.json_command.proofs.Fitting.{Fits, ItemsFit, all_fit}
 
 -- every number of these values is below this

@@ -1,9 +1,7 @@
 //! What was written as JSON is read back.
 
 ghost use Rattle.std.specs.Prelude.{◌≡◌, ◌≤◌, ℕ, List, None, Ok, length};
-ghost use Rattle.command_words.specs.declared.command.Command.TheVariants.{Json, Unjson};
-ghost use Rattle.command_words.specs.declared.command.JsonWhat.{JsonWhat};
-ghost use Rattle.command_words.specs.Words.{command_of};
+ghost use Rattle.command_words.specs.{declared.command.{Command.TheVariants.{Json, Unjson}, JsonWhat.JsonWhat}, Words.command_of};
 ghost use Rattle.run_rules.specs.Tasks.{Write, due, json_asked, limit, unjson_asked};
 
 /// What is due for the JSON of a text is that text, byte for byte; by the words, where the JSON is

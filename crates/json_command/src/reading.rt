@@ -2,9 +2,7 @@
 
 ghost use Rattle.std.specs.Prelude.{◌≢◌, ◌≤◌, length, IfOk};
 ghost use Rattle.json_values.specs.Answer.{code_number as json_number};
-ghost use Rattle.run_rules.specs.Answers.{IsAnswerAlone, Says};
-ghost use Rattle.run_rules.specs.Refusals.{refusal_line, refused_at};
-ghost use Rattle.run_rules.specs.Tasks.{limit, unjson_asked};
+ghost use Rattle.run_rules.specs.{Answers.{IsAnswerAlone, Says}, Refusals.{refusal_line, refused_at}, Tasks.{limit, unjson_asked}};
 
 use crate::OutOfMemory;
 use command_words::JsonWhat;

@@ -1,10 +1,8 @@
 //! Topologies, reports and programs that are written as JSON.
 
 ghost use Rattle.std.specs.Prelude.{◌≤◌, length, None, Some, IfOk};
-ghost use Rattle.command_words.specs.declared.command.Command.TheVariants.{Json};
-ghost use Rattle.command_words.specs.Commands.{IsProper};
-ghost use Rattle.run_rules.specs.Answers.{IsAnswerAlone};
-ghost use Rattle.run_rules.specs.Tasks.{json_asked, json_programs_in, limit};
+ghost use Rattle.command_words.specs.{declared.command.Command.TheVariants.Json, Commands.IsProper};
+ghost use Rattle.run_rules.specs.{Answers.IsAnswerAlone, Tasks.{json_asked, json_programs_in, limit}};
 
 use crate::OutOfMemory;
 use command_words::{JsonWhat, PointWord, WordCode};

@@ -2,12 +2,9 @@
 
 ghost use Rattle.std.specs.Prelude.{◌≡◌, ◌≤◌, Some, length, IfOk};
 ghost use Rattle.serde_json.specs.Data.{Data};
-ghost use Rattle.report_form.specs.Reports.{IsReport};
-ghost use Rattle.report_form.specs.Spelling.{report_text};
-ghost use Rattle.json_values.specs.Json.{value_of};
-ghost use Rattle.json_values.specs.Answer.{Answers};
-ghost use Rattle.json_rules.specs.ReportJson.{report_text_in};
-ghost use Rattle.json_rules.specs.Answer.{report_of_json};
+ghost use Rattle.report_form.specs.{Reports.IsReport, Spelling.report_text};
+ghost use Rattle.json_values.specs.{Json.value_of, Answer.Answers};
+ghost use Rattle.json_rules.specs.{ReportJson.report_text_in, Answer.report_of_json};
 
 use frontier_report::read_report;
 use json_reports::ReportLines;

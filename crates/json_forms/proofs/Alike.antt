@@ -1,9 +1,7 @@
 -- What a form reads is what is said of each shape by itself.
-use Rattle.std.proofs.Common.{◌≡◌, ℕ, Bool, true, false, List, [], ◌∷◌, map, Option, Some, None, option_map, refl, ap, ap₂, ◌∙◌}
-use Rattle.std.specs.Prelude.{◌&&◌, bytes_eq, decimal, if◌then◌else◌, unwrap_or}
-use Rattle.std.specs.List.{flat_map}
-use Rattle.serde_json.specs.Data.{Data, null, Items, no_items, item, Members, no_members, member}
-use Rattle.serde_json.specs.Find.{as_array, as_object}
+use Rattle.std.proofs.Common.{◌≡◌, ℕ, Bool, true, false, List, [], ◌∷◌, map, Option, Some, None, option_map, refl, ap, ap₂, ◌∙◌, ◌&&◌, bytes_eq, decimal, if◌then◌else◌}
+use Rattle.std.specs.{Prelude.unwrap_or, List.flat_map}
+use Rattle.serde_json.specs.{Data.{Data, null, Items, no_items, item, Members, no_members, member}, Find.{as_array, as_object}}
 use Rattle.json_values.specs.Shape.{◌>>=◌, ◌⊕◌, one, headed, count_in, each_in, list_in, lines_in, row_items, are_keys, has_keys}
 use Rattle.json_forms.specs.Forms.{count, each_read, row_read, same_keys}
 

@@ -1,14 +1,9 @@
 -- Reading by a form is reading by the lines of a shape.
-use Rattle.std.proofs.Common.{◌≡◌, ℕ, List, Option, Some, None, option_map, refl, ap, ◌∙◌}
-use Rattle.std.specs.Prelude.{Result}
-use Rattle.text_lines.specs.Check.{◌>>=◌, need}
-use Rattle.text_lines.specs.Text.{text_of}
+use Rattle.std.proofs.Common.{◌≡◌, ℕ, List, Option, Some, None, option_map, refl, ap, ◌∙◌, Result}
+use Rattle.text_lines.specs.{Check.{◌>>=◌, need}, Text.text_of}
 use Rattle.serde_json.specs.Data.{Data}
-use Rattle.json_values.specs.declared.fault.JsonCode.TheVariants.{BadShape, NotJson}
-use Rattle.json_values.specs.Json.{value_of}
-use Rattle.json_forms.specs.Forms.{Form}
-use Rattle.json_values.specs.Answer.{of_json, of_text, text_of_json}
-use Rattle.json_forms.specs.Reading.{read_json}
+use Rattle.json_values.specs.{declared.fault.JsonCode.TheVariants.{BadShape, NotJson}, Json.value_of, Answer.{of_json, of_text, text_of_json}}
+use Rattle.json_forms.specs.{Forms.Form, Reading.read_json}
 
 module _ {X A C : Type 0} (form : Form (List (List ℕ)) X) (shape : Data → Option (List (List (List ℕ)))) (alike : (d : Data) → form.read d ≡ shape d) (read : List ℕ → Result A (C × ℕ)) where
   found : (o : Option (List (List (List ℕ)))) → (need o (BadShape, 0) >>= λ lines. of_text (read (text_of lines))) ≡ (of_json (need (option_map text_of o) BadShape) >>= λ text. of_text (read text))

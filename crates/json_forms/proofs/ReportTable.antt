@@ -1,29 +1,21 @@
 -- The JSON of a report by its table is that of its parts, printed and read.
-use Rattle.std.proofs.Common.{◌≡◌, ◌⊎◌, inl, inr, ℕ, Bool, true, false, List, [], ◌∷◌, ◌++◌, map, Option, Some, None, option_map, refl, sym, ap, ap₂, ◌∙◌}
-use Rattle.std.specs.Prelude.{◌||◌, bytes_eq, codes, decimal, if◌then◌else◌, is_some, slice_index_or, unwrap_or}
-use Rattle.std.proofs.lemmas.Slice.Eq.{bytes_eq-Decides}
+use Rattle.std.proofs.Common.{◌≡◌, ◌⊎◌, inl, inr, ℕ, Bool, true, false, List, [], ◌∷◌, ◌++◌, map, Option, Some, None, option_map, refl, sym, ap, ap₂, ◌∙◌, ◌||◌, bytes_eq, codes, decimal, if◌then◌else◌, is_some, slice_index_or}
+use Rattle.std.{specs.Prelude.unwrap_or, proofs.lemmas.Slice.Eq.bytes_eq-Decides}
 use Rattle.outer_ports.specs.declared.part.Part.{Part}
 use Rattle.outer_ports.specs.declared.part.Part.TheVariants as part
 use Rattle.collective_spec.specs.Kinds.{every_kind, takes_root, word_of}
-use Rattle.candidate_order.specs.declared.candidate.Candidate.{Candidate}
-use Rattle.candidate_order.specs.declared.mark.Mark.{Mark}
+use Rattle.candidate_order.specs.{declared.{candidate.Candidate.Candidate, mark.Mark.Mark, pruning.Pruning.Pruning}, Frontiers.{PointValue, FrontierValue}}
 use Rattle.candidate_order.specs.declared.mark.Mark.TheVariants as mark
-use Rattle.candidate_order.specs.declared.pruning.Pruning.{Pruning}
-use Rattle.candidate_order.specs.Frontiers.{PointValue, FrontierValue}
 use Rattle.schedule.specs.Sends.{ScheduleValue}
 use Rattle.topology_text.specs.Spelling.{name_at}
-use Rattle.report_form.specs.Reports.{WordsValue, ReportValue}
-use Rattle.report_form.specs.Spelling.{pruning_words, word_if}
-use Rattle.serde_json.specs.Data.{Data, object, string, null, Members, no_members, put}
-use Rattle.serde_json.specs.Find.{as_array, as_object, as_str, get}
-use Rattle.json_values.specs.Json.{array_of, object_of, count_of}
+use Rattle.report_form.specs.{Reports.{WordsValue, ReportValue}, Spelling.{pruning_words, word_if}}
+use Rattle.serde_json.specs.{Data.{Data, object, string, null, Members, no_members, put}, Find.{as_array, as_object, as_str, get}}
+use Rattle.json_values.specs.{Json.{array_of, object_of, count_of}, TopologyJson.{topology_in, version_in}}
 use Rattle.json_values.specs.Shape.{◌>>=◌, ◌⊕◌, one, headed, count_in, list_in, lines_in, name_in, field, has_keys, number_at}
-use Rattle.json_forms.specs.Forms.{count, name, word, with_key, each, row_read, same_keys}
-use Rattle.json_forms.specs.TopologyForm.{topology, version}
-use Rattle.json_values.specs.TopologyJson.{topology_in, version_in}
+use Rattle.json_forms.specs.{Forms.{count, name, word, with_key, each, row_read, same_keys}, TopologyForm.{topology, version}}
+use Rattle.json_forms.specs.ReportForm.{send, point, frontier, kinds, words, report}
 use Rattle.json_forms.proofs.Alike.{bind_alike, list_alike, lines_alike, row_alike, nulls, keyed, no_object, one_if, at_number, behind_one, none_behind, one_bound, map_alike}
 use Rattle.json_forms.proofs.TopologyTable.{topology_printed, topology_read, version_alike}
-use Rattle.json_forms.specs.ReportForm.{send, point, frontier, kinds, words, report}
 use Rattle.json_rules.specs.ReportJson.{point_json, candidate_json, unknown_json, frontier_json, said_members, words_json, report_json, word_in, number_in, refuted_in, unknown_in, send_in, rounds_in, is_joined, point_keys, adding_in, point_in, part_in, frontier_in, words_keys, kind_in, keyed_in, root_in, yes_in, pruning_in, keyed_words_in, words_in, title_in, joins_in, joined_in, body_in, report_in}
 
 -- ---- printed

@@ -1,21 +1,14 @@
 -- The JSON of a topology by its table is that of its parts, printed and read.
-use Rattle.std.proofs.Common.{◌≡◌, ℕ, ◌+◌, ◌==◌, Bool, true, false, List, [], ◌∷◌, map, Option, Some, None, option_map, refl, ap, ap₂, ◌∙◌}
-use Rattle.std.specs.Prelude.{bytes_eq, codes, decimal, if◌then◌else◌, slice_index_or, unwrap_or}
-use Rattle.std.specs.List.{filter, join_with_byte, range_with_len}
-use Rattle.schedule.specs.Links.{TopologyValue}
-use Rattle.schedule.specs.Placed.{PlacementValue, holds}
+use Rattle.std.proofs.Common.{◌≡◌, ℕ, ◌+◌, ◌==◌, Bool, true, false, List, [], ◌∷◌, map, Option, Some, None, option_map, refl, ap, ap₂, ◌∙◌, bytes_eq, codes, decimal, if◌then◌else◌, slice_index_or}
+use Rattle.std.specs.{Prelude.unwrap_or, List.{filter, join_with_byte, range_with_len}}
+use Rattle.schedule.specs.{Links.TopologyValue, Placed.{PlacementValue, holds}}
 use Rattle.collective_spec.specs.Patterns.{PatternValue}
-use Rattle.topology_text.specs.Value.{NamedTopologyValue}
-use Rattle.topology_text.specs.Spelling.{head_words, name_at}
-use Rattle.serde_json.specs.Data.{Data, array, object, string, null, Items, no_items, item, no_members, member, put}
-use Rattle.serde_json.specs.Events.{items_len}
+use Rattle.topology_text.specs.{Value.NamedTopologyValue, Spelling.{head_words, name_at}}
+use Rattle.serde_json.specs.{Data.{Data, array, object, string, null, Items, no_items, item, no_members, member, put}, Events.items_len, View.items_of}
 use Rattle.serde_json.specs.Find.{as_array, as_object, get}
-use Rattle.serde_json.specs.View.{items_of}
-use Rattle.json_values.specs.Json.{count_of}
-use Rattle.json_values.specs.Shape.{◌>>=◌, ◌⊕◌, one, headed, count_in, list_in, name_in, field, has_keys}
-use Rattle.json_forms.specs.Forms.{each, name, via, same_keys}
-use Rattle.json_forms.specs.TopologyForm.{version, link, group, chunks_read, custom, topology}
+use Rattle.json_values.specs.{Json.count_of, Shape.{◌>>=◌, ◌⊕◌, one, headed, count_in, list_in, name_in, field, has_keys}}
 use Rattle.json_values.specs.TopologyJson.{group_json, holders_json, custom_json, topology_json, link_in, group_in, chunk_lines, custom_in, has_pattern, version_in, keys_of, parts_in, topology_in}
+use Rattle.json_forms.specs.{Forms.{each, name, via, same_keys}, TopologyForm.{version, link, group, chunks_read, custom, topology}}
 use Rattle.json_forms.proofs.Alike.{bind_alike, list_alike, row_alike, nulls, keyed, no_object, one_if, at_number, behind_one}
 
 -- ---- printed

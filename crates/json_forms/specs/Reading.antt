@@ -1,11 +1,7 @@
 -- What is read of JSON of a form. This project's own.
 use Rattle.std.specs.Prelude.{ℕ, List, Result}
-use Rattle.text_lines.specs.Check.{◌>>=◌, need}
-use Rattle.text_lines.specs.Text.{text_of}
-use Rattle.json_values.specs.declared.fault.JsonCode.{JsonCode}
-use Rattle.json_values.specs.declared.fault.JsonCode.TheVariants.{BadShape, NotJson}
-use Rattle.json_values.specs.Answer.{of_text}
-use Rattle.json_values.specs.Json.{value_of}
+use Rattle.text_lines.specs.{Check.{◌>>=◌, need}, Text.text_of}
+use Rattle.json_values.specs.{declared.fault.JsonCode.{JsonCode, TheVariants.{BadShape, NotJson}}, Answer.of_text, Json.value_of}
 use Rattle.json_forms.specs.Forms.{Form}
 
 -- what is read of the text that it stands for, or the first check that fails: the bytes are to be JSON, and their value is to have the form

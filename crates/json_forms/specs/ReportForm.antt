@@ -3,12 +3,10 @@ use Rattle.std.specs.Prelude.{ℕ, Bool, if◌then◌else◌, List, [], ◌∷�
 use Rattle.outer_ports.specs.declared.part.Part.{Part}
 use Rattle.schedule.specs.declared.hop.Hop.{Hop}
 use Rattle.collective_spec.specs.Kinds.{word_of, takes_root, every_kind}
-use Rattle.candidate_order.specs.declared.mark.Mark.{Mark}
+use Rattle.candidate_order.specs.{declared.mark.Mark.Mark, Frontiers.{PointValue, FrontierValue}}
 use Rattle.candidate_order.specs.declared.mark.Mark.TheVariants as mark
-use Rattle.candidate_order.specs.Frontiers.{PointValue, FrontierValue}
 use Rattle.topology_text.specs.Spelling.{name_at}
-use Rattle.report_form.specs.Reports.{WordsValue, ReportValue}
-use Rattle.report_form.specs.Spelling.{mark_words, part_words}
+use Rattle.report_form.specs.{Reports.{WordsValue, ReportValue}, Spelling.{mark_words, part_words}}
 use Rattle.serde_json.specs.Find.{as_array, get}
 use Rattle.json_values.specs.Shape.{◌>>=◌, headed}
 use Rattle.json_forms.specs.Forms.{Form, count, name, word, via, with_key, lined, each, row_read, row, Part as Members, seen, at, at_if, ◌&◌, line_of, fields, at_word}

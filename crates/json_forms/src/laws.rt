@@ -2,17 +2,11 @@
 
 ghost use Rattle.std.specs.Prelude.{◌≡◌, ℕ, List};
 ghost use Rattle.serde_json.specs.Data.{Data};
-ghost use Rattle.topology_text.specs.Reading.{topology_of};
-ghost use Rattle.topology_text.specs.Value.{NamedTopologyValue};
-ghost use Rattle.report_form.specs.Reading.{report_of};
-ghost use Rattle.report_form.specs.Reports.{ReportValue};
-ghost use Rattle.json_values.specs.Answer.{topology_of_json};
-ghost use Rattle.json_values.specs.TopologyJson.{topology_in, topology_json};
-ghost use Rattle.json_rules.specs.Answer.{report_of_json};
-ghost use Rattle.json_rules.specs.ReportJson.{report_in, report_json};
-ghost use Rattle.json_forms.specs.Reading.{read_json};
-ghost use Rattle.json_forms.specs.ReportForm.{report};
-ghost use Rattle.json_forms.specs.TopologyForm.{topology};
+ghost use Rattle.topology_text.specs.{Reading.topology_of, Value.NamedTopologyValue};
+ghost use Rattle.report_form.specs.{Reading.report_of, Reports.ReportValue};
+ghost use Rattle.json_values.specs.{Answer.topology_of_json, TopologyJson.{topology_in, topology_json}};
+ghost use Rattle.json_rules.specs.{Answer.report_of_json, ReportJson.{report_in, report_json}};
+ghost use Rattle.json_forms.specs.{Reading.read_json, ReportForm.report, TopologyForm.topology};
 
 /// The JSON of a topology, the lines that JSON of this form stands for, and what is read of it.
 pub fn topology_is_of_its_form()

@@ -1,9 +1,6 @@
 -- The JSON of programs has no floats.
-use Rattle.std.proofs.Common.{◌≡◌, ℕ, ◌||◌, false, List, [], length, refl, ap}
-use Rattle.std.specs.Prelude.{slice_index_or}
-use Rattle.std.specs.List.{range_with_len}
-use Rattle.node_programs.specs.declared.op.Op.{Op}
-use Rattle.node_programs.specs.declared.op.Op.TheVariants.{Send, Take}
+use Rattle.std.{proofs.Common.{◌≡◌, ℕ, ◌||◌, false, List, [], length, refl, ap, slice_index_or}, specs.List.range_with_len}
+use Rattle.node_programs.specs.declared.op.Op.{Op, TheVariants.{Send, Take}}
 use Rattle.serde_json.specs.Written.{has_float}
 use Rattle.json_rules.specs.ProgramsJson.{op_json, node_json, programs_json}
 use Rattle.json_values.proofs.Built.{whole_items}

@@ -1,7 +1,6 @@
 //! The programs of a point as JSON.
 
-ghost use Rattle.std.specs.Prelude.{◌≡◌, ◌<◌, ◌≤◌, map, length, IfOk};
-ghost use Rattle.std.specs.List.{range_with_len};
+ghost use Rattle.std.specs.{Prelude.{◌≡◌, ◌<◌, ◌≤◌, map, length, IfOk}, List.range_with_len};
 ghost use Rattle.node_programs.specs.Printing.{mode_word};
 ghost use Rattle.serde_json.specs.View.{view};
 ghost use Rattle.json_values.specs.Json.{printed, array_of};

@@ -1,24 +1,16 @@
 -- The JSON of a report has no floats and is not deep, and it is read back.
-use Rattle.std.proofs.Common.{◌≡◌, ℕ, ◌≤◌, ◌||◌, Bool, true, false, List, [], ◌∷◌, ◌++◌, map, Some, option_map, refl, ap, ap₂, ◌∙◌, arith}
-use Rattle.std.specs.Prelude.{Ok, IsUtf8, codes, if◌then◌else◌}
-use Rattle.text_lines.specs.Text.{text_of}
-use Rattle.text_lines.specs.Check.{◌>>=◌}
+use Rattle.std.proofs.Common.{◌≡◌, ℕ, ◌≤◌, ◌||◌, Bool, true, false, List, [], ◌∷◌, ◌++◌, map, Some, option_map, refl, ap, ap₂, ◌∙◌, arith, Ok, IsUtf8, codes, if◌then◌else◌}
+use Rattle.text_lines.specs.{Text.text_of, Check.◌>>=◌}
 use Rattle.outer_ports.specs.declared.part.Part.{Part}
 use Rattle.schedule.specs.declared.hop.Hop.{Hop}
 use Rattle.collective_spec.specs.Kinds.{takes_root}
-use Rattle.candidate_order.specs.declared.mark.Mark.{Mark}
+use Rattle.candidate_order.specs.{declared.mark.Mark.Mark, Frontiers.{PointValue, FrontierValue}}
 use Rattle.candidate_order.specs.declared.mark.Mark.TheVariants as mark
-use Rattle.candidate_order.specs.Frontiers.{PointValue, FrontierValue}
 use Rattle.topology_text.specs.Spelling.{name_at}
-use Rattle.report_form.specs.Reports.{WordsValue, ReportValue, IsReport}
-use Rattle.report_form.specs.Reading.{report_of}
-use Rattle.report_form.specs.Spelling.{report_lines, report_text}
+use Rattle.report_form.specs.{Reports.{WordsValue, ReportValue, IsReport}, Reading.report_of, Spelling.{report_lines, report_text}}
 use Rattle.report_laws.proofs.ReportAgain.{report_again}
-use Rattle.serde_json.specs.Data.{Data, string, depth, members_depth}
-use Rattle.serde_json.specs.Read.{read}
-use Rattle.serde_json.specs.Written.{has_float, members_have_float}
-use Rattle.json_values.specs.Json.{array_of, object_of, members_of, count_of}
-use Rattle.json_values.specs.Answer.{of_json, of_text}
+use Rattle.serde_json.specs.{Data.{Data, string, depth, members_depth}, Read.read, Written.{has_float, members_have_float}}
+use Rattle.json_values.specs.{Json.{array_of, object_of, members_of, count_of}, Answer.{of_json, of_text}}
 use Rattle.json_values.proofs.Built.{whole_items, flat_items, topology_whole, topology_flat, text_back}
 use Rattle.json_rules.specs.ReportJson.{send_json, adding_members, point_members, point_json, points_json, candidate_json, unknown_json, frontier_json, said_members, words_json, report_json, report_text_in}
 use Rattle.json_rules.specs.Answer.{report_of_json}

@@ -1,25 +1,13 @@
 -- Lines that are appended one after another.
-use Rattle.std.proofs.Common.{◌≡◌, ◌≢◌, ℕ, zero, suc, length, replicate, true≢false, ◌==◌, Bool, true, false, List, [], ◌∷◌, ◌++◌, Option, Some, None, option_map, refl, sym, ap, ◌∙◌, subst, append_assoc, arith}
-use Rattle.std.specs.Prelude.{codes, Result}
-use Rattle.std.proofs.lemmas.Bool.{ne_eqb}
-use Rattle.std.proofs.lemmas.List.{append-nil}
-use Rattle.std.proofs.lemmas.Grind.{flat_map-append}
-use Rattle.text_lines.specs.declared.stop.Stop.{Stop}
-use Rattle.text_lines.specs.Text.{line, text_of, fields}
-use Rattle.text_lines.proofs.Words.{join_fields}
+use Rattle.std.proofs.Common.{◌≡◌, ◌≢◌, ℕ, zero, suc, length, replicate, true≢false, ◌==◌, Bool, true, false, List, [], ◌∷◌, ◌++◌, Option, Some, None, option_map, refl, sym, ap, ◌∙◌, subst, append_assoc, arith, codes, Result}
+use Rattle.std.proofs.lemmas.{Bool.ne_eqb, List.append-nil, Grind.flat_map-append}
+use Rattle.text_lines.{specs.{declared.stop.Stop.Stop, Text.{line, text_of, fields}}, proofs.Words.join_fields}
 use Rattle.candidate_order.specs.declared.pruning.Pruning.{Pruning}
 use Rattle.report_form.specs.Spelling.{pruning_words, word_if}
-use Rattle.serde_json.specs.Data.{Data, Items, no_items, item}
-use Rattle.serde_json.specs.Events.{items_len}
-use Rattle.serde_json.specs.Find.{as_array, get}
-use Rattle.json_values.specs.Shape.{◌>>=◌, ◌⊕◌, one, headed, each_in, list_in, row_items, row_in, field}
+use Rattle.serde_json.specs.{Data.{Data, Items, no_items, item}, Events.items_len, Find.{as_array, get}, View.items_view, declared.value.Value.Value}
+use Rattle.json_values.specs.{Shape.{◌>>=◌, ◌⊕◌, one, headed, each_in, list_in, row_items, row_in, field}, Appends.Appends}
+use Rattle.json_values.proofs.{Parts.behind_front, Lines.not_mapped, Values.no_row}
 use Rattle.json_rules.specs.ReportJson.{number_in, kind_in, keyed_in, root_in, keyed_words_in}
-use Rattle.serde_json.specs.View.{items_view}
-use Rattle.serde_json.specs.declared.value.Value.{Value}
-use Rattle.json_values.specs.Appends.{Appends}
-use Rattle.json_values.proofs.Parts.{behind_front}
-use Rattle.json_values.proofs.Lines.{not_mapped}
-use Rattle.json_values.proofs.Values.{no_row}
 
 pub line_is : (word : List ℕ) (ws : List (List ℕ)) → word ++ (fields ws ++ 10 ∷ []) ≡ line (word ∷ ws)
 line_is word ws = sym (ap (λ t. t ++ 10 ∷ []) (join_fields word ws) ∙ append_assoc word (fields ws) (10 ∷ []))

@@ -1,36 +1,22 @@
 -- The JSON of a report has the form, and stands for the report's text.
-use Rattle.std.proofs.Common.{◌≡◌, ◌≢◌, ℕ, ◌<◌, Bool, true, false, List, [], ◌∷◌, ◌++◌, map, length, Option, Some, None, refl, sym, ap, ap₂, ◌∙◌, subst, arith, append_assoc}
-use Rattle.std.specs.Prelude.{codes, decimal, bytes_eq, nat_lt, if◌then◌else◌, ◌&&◌}
-use Rattle.std.specs.List.{All, AllByRecursion, flat_map}
-use Rattle.std.proofs.lemmas.List.Elements.{recursion_from_All}
+use Rattle.std.proofs.Common.{◌≡◌, ◌≢◌, ℕ, ◌<◌, Bool, true, false, List, [], ◌∷◌, ◌++◌, map, length, Option, Some, None, refl, sym, ap, ap₂, ◌∙◌, subst, arith, append_assoc, codes, decimal, bytes_eq, nat_lt, if◌then◌else◌, ◌&&◌}
+use Rattle.std.{specs.List.{All, AllByRecursion, flat_map}, proofs.lemmas.{List.Elements.recursion_from_All, Bool.{and_parts, ltb-true}}}
 use Rattle.outer_ports.specs.declared.part.Part.{Part}
 use Rattle.outer_ports.specs.declared.part.Part.TheVariants as part
-use Rattle.schedule.specs.declared.hop.Hop.{Hop}
-use Rattle.collective_spec.specs.declared.kind.Kind.{Kind}
+use Rattle.schedule.{specs.{declared.hop.Hop.Hop, Links.GroupValue, Sends.is_hop_below}, proofs.First.each_weaker}
+use Rattle.collective_spec.specs.{declared.kind.Kind.Kind, Kinds.{word_of, every_kind, takes_root}, Patterns.PatternValue, Collectives.chunks_in}
 use Rattle.collective_spec.specs.declared.kind.Kind.TheVariants as kind
-use Rattle.collective_spec.specs.Kinds.{word_of, every_kind, takes_root}
-use Rattle.collective_spec.specs.Patterns.{PatternValue}
-use Rattle.schedule.specs.Links.{GroupValue}
-use Rattle.candidate_order.specs.declared.pruning.Pruning.{Pruning}
-use Rattle.candidate_order.specs.declared.candidate.Candidate.{Candidate}
-use Rattle.candidate_order.specs.declared.mark.Mark.{Mark}
-use Rattle.candidate_order.specs.declared.mark.Mark.TheVariants as mark
+use Rattle.candidate_order.specs.declared.{pruning.Pruning.Pruning, candidate.Candidate.Candidate, mark.Mark.Mark}
 use Rattle.candidate_order.specs.Frontiers.{PointValue, UnknownValue, FrontierValue, QuestionValue}
-use Rattle.topology_text.specs.Names.{AreNames}
-use Rattle.topology_text.specs.Spelling.{name_at, version_word}
+use Rattle.candidate_order.specs.declared.mark.Mark.TheVariants as mark
+use Rattle.topology_text.specs.{Names.AreNames, Spelling.{name_at, version_word}}
 use Rattle.report_form.specs.Reports.{WordsValue, ReportValue, IsReport, IsFrontier, IsPoint, IsJoinedPoint, HasSchedule, parts_of, question_of}
-use Rattle.collective_spec.specs.Collectives.{chunks_in}
-use Rattle.schedule.specs.Sends.{is_hop_below}
-use Rattle.schedule.proofs.First.{each_weaker}
-use Rattle.std.proofs.lemmas.Bool.{and_parts, ltb-true}
-use Rattle.list_laws.proofs.Each.{each_always}
 use Rattle.report_form.specs.Spelling.{pruning_words, synth_words, point_lines, rounds_words, send_words, refuted_words, unknown_words, frontier_lines, joined_lines, report_lines}
+use Rattle.list_laws.proofs.Each.{each_always}
 use Rattle.serde_json.specs.Data.{Data, string}
-use Rattle.json_values.specs.Json.{array_of, object_of, count_of}
-use Rattle.json_values.specs.Shape.{◌>>=◌, ◌⊕◌, one, headed, list_in, lines_in, name_in}
-use Rattle.json_values.specs.TopologyJson.{topology_json}
-use Rattle.json_rules.specs.ReportJson.{send_json, point_json, points_json, candidate_json, unknown_json, frontier_json, said_members, words_json, report_json, word_in, number_in, rounds_in, send_in, refuted_in, unknown_in, point_in, frontier_in, words_in, joins_in, joined_in, title_in, report_in}
+use Rattle.json_values.specs.{Json.{array_of, object_of, count_of}, Shape.{◌>>=◌, ◌⊕◌, one, headed, list_in, lines_in, name_in}, TopologyJson.topology_json}
 use Rattle.json_values.proofs.TopologyForm.{each_made, name_there, topology_form}
+use Rattle.json_rules.specs.ReportJson.{send_json, point_json, points_json, candidate_json, unknown_json, frontier_json, said_members, words_json, report_json, word_in, number_in, rounds_in, send_in, refuted_in, unknown_in, point_in, frontier_in, words_in, joins_in, joined_in, title_in, report_in}
 
 -- what holds of each is what the list has
 list_made : {X A : Type 0} (shape : Data → Option A) (make : X → Data) (shown : X → A) (xs : List X) → AllByRecursion (λ x. shape (make x) ≡ Some (shown x)) xs → list_in shape (array_of (map make xs)) ≡ Some (map shown xs)

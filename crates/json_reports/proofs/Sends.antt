@@ -1,11 +1,7 @@
 -- Four items in a list.
-use Rattle.std.proofs.Common.{◌≡◌, ◌≢◌, ℕ, List, [], ◌∷◌, length, get_or, Option, Some, None, option_map, refl, sym, ap, ◌∙◌, arith}
-use Rattle.std.specs.Prelude.{codes, decimal}
-use Rattle.serde_json.specs.View.{view, items_view}
-use Rattle.serde_json.specs.declared.value.Value.{Value}
-use Rattle.serde_json.proofs.Views.{items_len-items_view}
-use Rattle.json_values.specs.Shape.{◌>>=◌, ◌⊕◌, one, headed, count_in, name_in, row_items}
-use Rattle.json_values.proofs.Values.{no_row}
+use Rattle.std.proofs.Common.{◌≡◌, ◌≢◌, ℕ, List, [], ◌∷◌, length, get_or, Option, Some, None, option_map, refl, sym, ap, ◌∙◌, arith, codes, decimal}
+use Rattle.serde_json.{specs.{View.{view, items_view}, declared.value.Value.Value}, proofs.Views.items_len-items_view}
+use Rattle.json_values.{specs.Shape.{◌>>=◌, ◌⊕◌, one, headed, count_in, name_in, row_items}, proofs.Values.no_row}
 use Rattle.json_rules.specs.ReportJson.{number_in}
 
 pub no_four : (vs : List Value) → length vs ≢ 4 → headed (codes "send") (row_items (number_in ∷ name_in ∷ name_in ∷ number_in ∷ []) (items_view vs)) ≡ None

@@ -1,24 +1,15 @@
 -- How long the text is that the JSON of a report stands for.
-use Rattle.std.proofs.Common.{◌≡◌, ℕ, ◌+◌, ◌*◌, ◌≤◌, ◌||◌, ◌⊎◌, inl, inr, Bool, true, false, List, [], ◌∷◌, ◌++◌, length, map, Option, Some, None, option_map, refl, ap, subst, arith, length-append, true≢false, sym}
-use Rattle.std.specs.Prelude.{codes, decimal, bytes_eq, if◌then◌else◌, IfSome, is_some, Ok}
-use Rattle.std.specs.List.{AllByRecursion, list_any}
-use Rattle.std.specs.Cmp.Lexicographic.{bytes_decides}
-use Rattle.std.proofs.lemmas.Bool.{or_cases}
-use Rattle.std.proofs.lemmas.Grind.{flat_map-append}
+use Rattle.std.proofs.Common.{◌≡◌, ℕ, ◌+◌, ◌*◌, ◌≤◌, ◌||◌, ◌⊎◌, inl, inr, Bool, true, false, List, [], ◌∷◌, ◌++◌, length, map, Option, Some, None, option_map, refl, ap, subst, arith, length-append, true≢false, sym, codes, decimal, bytes_eq, if◌then◌else◌, IfSome, is_some, Ok}
+use Rattle.std.{specs.{List.{AllByRecursion, list_any}, Cmp.Lexicographic.bytes_decides}, proofs.lemmas.{Bool.or_cases, Grind.flat_map-append}}
 use Rattle.text_lines.specs.Text.{line, text_of, fields}
 use Rattle.collective_spec.specs.Kinds.{word_of, every_kind}
 use Rattle.candidate_order.specs.declared.pruning.Pruning.{Pruning}
 use Rattle.report_form.specs.Spelling.{pruning_words}
-use Rattle.serde_json.specs.Data.{Data, null, boolean, number, string, array, object, Items, no_items, item}
-use Rattle.serde_json.specs.Find.{get}
-use Rattle.json_values.specs.Size.{size, items_size}
+use Rattle.serde_json.specs.{Data.{Data, null, boolean, number, string, array, object, Items, no_items, item}, Find.get}
+use Rattle.json_values.specs.{Size.{size, items_size}, TopologyJson.{version_in, topology_in}, Appends.{texts_in, token_text, line_text}, Answer.text_of_json}
 use Rattle.json_values.specs.Shape.{◌>>=◌, ◌⊕◌, one, headed, list_in, lines_in, row_items, row_in, count_in, name_in, has_keys, field}
-use Rattle.json_values.specs.TopologyJson.{version_in, topology_in}
-use Rattle.json_values.specs.Appends.{texts_in, token_text, line_text}
-use Rattle.json_values.specs.Answer.{text_of_json}
-use Rattle.json_values.proofs.Lines.{parts_listed}
+use Rattle.json_values.proofs.{Lines.parts_listed, TopologyShort.{token_of, name_token, tokens_short, lines_short, topology_short}}
 use Rattle.json_values.proofs.Short.{AtMost, Short, some_size, at_least, decimal_short, name_short, list_short, one_less, whole_list, within, field_short, line_length, after_both, one_short, if_short, text_short}
-use Rattle.json_values.proofs.TopologyShort.{token_of, name_token, tokens_short, lines_short, topology_short}
 use Rattle.json_rules.specs.ReportJson.{word_in, number_in, refuted_in, unknown_in, send_in, marks, point_keys, adding_in, is_joined, head_in, rounds_in, marked_in, point_in, part_in, frontier_in, words_keys, kind_in, keyed_in, root_in, pruning_in, keyed_words_in, words_in, joined_in, title_in, joins_in, body_in, report_text_in}
 use Rattle.json_reports.specs.inner.Pieces.{schedule_in, lists_in, frontier_body_in, end_in, results_in, rest_of, rest_in}
 

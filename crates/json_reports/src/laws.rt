@@ -1,8 +1,7 @@
 //! Laws of the JSON of reports.
 
 ghost use Rattle.std.specs.Prelude.{◌≡◌, ◌*◌, ◌≤◌, ℕ, List, length, Ok, Some};
-ghost use Rattle.report_form.specs.Reports.{ReportValue, IsReport};
-ghost use Rattle.report_form.specs.Spelling.{report_lines};
+ghost use Rattle.report_form.specs.{Reports.{ReportValue, IsReport}, Spelling.report_lines};
 ghost use Rattle.json_values.specs.Answer.{text_of_json};
 ghost use Rattle.json_rules.specs.ReportJson.{report_json, report_in, report_text_in};
 

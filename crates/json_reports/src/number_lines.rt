@@ -3,8 +3,7 @@
 ghost use Rattle.std.specs.Prelude.{option_map, replicate};
 ghost use Rattle.text_lines.specs.Text.{line};
 ghost use Rattle.serde_json.specs.View.{view};
-ghost use Rattle.json_values.specs.Shape.{headed, row_in};
-ghost use Rattle.json_values.specs.Appends.{Appends, token_text, line_text};
+ghost use Rattle.json_values.specs.{Shape.{headed, row_in}, Appends.{Appends, token_text, line_text}};
 ghost use Rattle.json_rules.specs.ReportJson.{number_in, refuted_in, unknown_in};
 
 use json_values::{Piece, count_in, items_in, push_list};

@@ -3,11 +3,9 @@
 ghost use Rattle.std.specs.Prelude.{◌≡◌, [], ◌∷◌, codes, decimal, option_map};
 ghost use Rattle.text_lines.specs.Text.{text_of, line};
 ghost use Rattle.serde_json.specs.View.{view};
-ghost use Rattle.json_values.specs.Shape.{has_keys, field};
-ghost use Rattle.json_values.specs.Appends.{Appends, line_text};
+ghost use Rattle.json_values.specs.{Shape.{has_keys, field}, Appends.{Appends, line_text}};
 ghost use Rattle.json_rules.specs.ReportJson.{send_in, word_in, marks, point_keys, adding_in, head_in, rounds_in, marked_in, point_in};
-ghost use Rattle.json_reports.specs.inner.Pieces.{schedule_in};
-ghost use Rattle.json_reports.specs.inner.Tokens.{number_tokens};
+ghost use Rattle.json_reports.specs.inner.{Pieces.schedule_in, Tokens.number_tokens};
 
 use crate::number_lines::NumberToken;
 use crate::token::{Token, push_line};

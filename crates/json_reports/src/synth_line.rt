@@ -3,10 +3,8 @@
 ghost use Rattle.std.specs.Prelude.{◌≡◌, ◌++◌, ◌∷◌, decimal, map, option_map, IfOk, OnOk};
 ghost use Rattle.text_lines.specs.Text.{fields, line};
 ghost use Rattle.report_form.specs.Spelling.{pruning_words, word_if};
-ghost use Rattle.serde_json.specs.Find.{get};
-ghost use Rattle.serde_json.specs.View.{view};
-ghost use Rattle.json_values.specs.Shape.{has_keys};
-ghost use Rattle.json_values.specs.Appends.{Appends};
+ghost use Rattle.serde_json.specs.{Find.get, View.view};
+ghost use Rattle.json_values.specs.{Shape.has_keys, Appends.Appends};
 ghost use Rattle.json_rules.specs.ReportJson.{kind_in, words_keys, keyed_in, root_in, yes_in, pruning_in, keyed_words_in, words_in, joins_in};
 ghost use Rattle.json_reports.specs.inner.Tokens.{root_tokens};
 

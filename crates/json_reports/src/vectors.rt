@@ -2,10 +2,8 @@
 
 ghost use Rattle.std.specs.Prelude.{◌≡◌, true, false, ◌∷◌, [], codes, Ok, Err};
 ghost use Rattle.report_form.specs.Rows.{broadcast_report, allreduce_report, pruned_report};
-ghost use Rattle.json_values.specs.declared.fault.JsonCode.{JsonCode};
-ghost use Rattle.json_values.specs.Json.{printed};
-ghost use Rattle.json_rules.specs.ReportJson.{report_json};
-ghost use Rattle.json_rules.specs.Answer.{report_of_json};
+ghost use Rattle.json_values.specs.{declared.fault.JsonCode.JsonCode, Json.printed};
+ghost use Rattle.json_rules.specs.{ReportJson.report_json, Answer.report_of_json};
 ghost use Rattle.json_reports.specs.Rows.{broadcast_json, allreduce_json, pruned_json};
 
 /// The JSON of broadcasts, one with something left out, and of an allreduce on two nodes.

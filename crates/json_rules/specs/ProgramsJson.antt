@@ -1,12 +1,8 @@
 -- The programs of the nodes of a point's schedule as JSON (RFC 8259). The form is this project's own.
-use Rattle.std.specs.Prelude.{ℕ, List, [], ◌∷◌, map, length, slice_index_or, codes}
-use Rattle.std.specs.List.{range_with_len}
+use Rattle.std.specs.{Prelude.{ℕ, List, [], ◌∷◌, map, length, slice_index_or, codes}, List.range_with_len}
 use Rattle.topology_text.specs.Spelling.{name_at}
-use Rattle.node_programs.specs.declared.op.Op.{Op}
-use Rattle.node_programs.specs.declared.op.Op.TheVariants.{Send, Take}
-use Rattle.node_programs.specs.Printing.{mode_word}
-use Rattle.serde_json.specs.Data.{Data, array, number, object, string, unsigned, no_members, member}
-use Rattle.serde_json.specs.View.{items_of}
+use Rattle.node_programs.specs.{declared.op.Op.{Op, TheVariants.{Send, Take}}, Printing.mode_word}
+use Rattle.serde_json.specs.{Data.{Data, array, number, object, string, unsigned, no_members, member}, View.items_of}
 
 -- the step, what is done, the chunk and the other node; of a take, also whether it copies or adds
 abbrev pub op_json : List (List ℕ) → Op → Data

@@ -6,19 +6,14 @@ use Rattle.outer_ports.specs.declared.part.Part.{Part}
 use Rattle.outer_ports.specs.declared.part.Part.TheVariants as part
 use Rattle.schedule.specs.declared.hop.Hop.{Hop}
 use Rattle.collective_spec.specs.Kinds.{word_of, takes_root, every_kind}
-use Rattle.candidate_order.specs.declared.candidate.Candidate.{Candidate}
-use Rattle.candidate_order.specs.declared.mark.Mark.{Mark}
-use Rattle.candidate_order.specs.declared.mark.Mark.TheVariants as mark
-use Rattle.candidate_order.specs.declared.pruning.Pruning.{Pruning}
+use Rattle.candidate_order.specs.declared.{candidate.Candidate.Candidate, mark.Mark.Mark, pruning.Pruning.Pruning}
 use Rattle.candidate_order.specs.Frontiers.{PointValue, UnknownValue, FrontierValue}
+use Rattle.candidate_order.specs.declared.mark.Mark.TheVariants as mark
 use Rattle.topology_text.specs.Spelling.{name_at}
-use Rattle.report_form.specs.Reports.{WordsValue, ReportValue}
-use Rattle.report_form.specs.Spelling.{word_if, pruning_words}
-use Rattle.serde_json.specs.Data.{Data, string}
-use Rattle.serde_json.specs.Find.{as_str, get}
-use Rattle.json_values.specs.Json.{array_of, object_of, count_of}
+use Rattle.report_form.specs.{Reports.{WordsValue, ReportValue}, Spelling.{word_if, pruning_words}}
+use Rattle.serde_json.specs.{Data.{Data, string}, Find.{as_str, get}}
+use Rattle.json_values.specs.{Json.{array_of, object_of, count_of}, TopologyJson.{topology_json, topology_in, version_in}}
 use Rattle.json_values.specs.Shape.{◌>>=◌, ◌⊕◌, one, headed, list_in, lines_in, row_in, count_in, name_in, has_keys, field, number_at}
-use Rattle.json_values.specs.TopologyJson.{topology_json, topology_in, version_in}
 
 -- ---- a report as JSON
 

@@ -1,28 +1,14 @@
 -- The JSON of a topology has no floats and is not deep, and it is read back.
-use Rattle.std.proofs.Common.{◌≡◌, ℕ, zero, suc, ◌≤◌, ◌<◌, ◌||◌, false, List, [], ◌∷◌, ◌++◌, map, Option, Some, None, option_map, refl, ap, ap₂, ◌∙◌, arith}
-use Rattle.std.specs.Prelude.{Ok, IsUtf8, slice_index}
-use Rattle.std.specs.List.{filter, range_with_len}
-use Rattle.std.proofs.lemmas.Str.{IsUtf8-append, IsUtf8-from_ascii}
-use Rattle.text_lines.specs.Text.{text_of}
-use Rattle.text_lines.specs.Check.{◌>>=◌, need}
-use Rattle.schedule.specs.Links.{GroupValue}
-use Rattle.schedule.specs.Placed.{PlacementValue, holds}
+use Rattle.std.proofs.Common.{◌≡◌, ℕ, zero, suc, ◌≤◌, ◌<◌, ◌||◌, false, List, [], ◌∷◌, ◌++◌, map, Option, Some, None, option_map, refl, ap, ap₂, ◌∙◌, arith, Ok, IsUtf8, slice_index}
+use Rattle.std.{specs.List.{filter, range_with_len}, proofs.lemmas.Str.{IsUtf8-append, IsUtf8-from_ascii}}
+use Rattle.text_lines.specs.{Text.text_of, Check.{◌>>=◌, need}}
+use Rattle.schedule.specs.{Links.GroupValue, Placed.{PlacementValue, holds}}
 use Rattle.collective_spec.specs.Patterns.{PatternValue}
-use Rattle.topology_text.specs.Value.{NamedTopologyValue, IsNamed}
-use Rattle.topology_text.specs.Spelling.{name_at, lines_of, spelling}
-use Rattle.topology_text.specs.Reading.{topology_of}
-use Rattle.topology_text.proofs.Laws.{all_again}
-use Rattle.serde_json.specs.Data.{Data, string, depth, items_depth}
-use Rattle.serde_json.specs.Read.{read}
-use Rattle.serde_json.specs.View.{items_of}
-use Rattle.serde_json.specs.Written.{has_float, items_have_float}
-use Rattle.json_values.specs.declared.fault.JsonCode.TheVariants.{NotJson, BadShape}
-use Rattle.json_values.specs.Json.{array_of}
+use Rattle.topology_text.{specs.{Value.{NamedTopologyValue, IsNamed}, Spelling.{name_at, lines_of, spelling}, Reading.topology_of}, proofs.Laws.all_again}
+use Rattle.serde_json.specs.{Data.{Data, string, depth, items_depth}, Read.read, View.items_of, Written.{has_float, items_have_float}}
+use Rattle.json_values.specs.{declared.fault.JsonCode.TheVariants.{NotJson, BadShape}, Json.array_of, Answer.{text_of_json, of_json, of_text, topology_of_json}}
 use Rattle.json_values.specs.TopologyJson.{link_json, group_json, holders_json, placement_json, custom_json, topology_json, topology_text_in}
-use Rattle.json_values.specs.Answer.{text_of_json, of_json, of_text, topology_of_json}
-use Rattle.json_values.proofs.Blank.{same_value}
-use Rattle.json_values.proofs.Values.{value_is}
-use Rattle.json_values.proofs.TopologyForm.{topology_form}
+use Rattle.json_values.proofs.{Blank.same_value, Values.value_is, TopologyForm.topology_form}
 
 -- ---- what holds of each item holds of the list
 

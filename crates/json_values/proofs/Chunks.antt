@@ -1,14 +1,8 @@
 -- The lines of a pattern's chunks, appended one after another.
-use Rattle.std.proofs.Common.{◌≡◌, ◌≢◌, ℕ, suc, ◌+◌, List, [], ◌∷◌, ◌++◌, Bool, true, false, Option, Some, None, option_map, refl, sym, ap, ◌∙◌}
-use Rattle.std.specs.Prelude.{codes, decimal, if◌then◌else◌}
+use Rattle.std.proofs.Common.{◌≡◌, ◌≢◌, ℕ, suc, ◌+◌, List, [], ◌∷◌, ◌++◌, Bool, true, false, Option, Some, None, option_map, refl, sym, ap, ◌∙◌, codes, decimal, if◌then◌else◌}
 use Rattle.text_lines.specs.Text.{text_of}
-use Rattle.serde_json.specs.Data.{Data, Items, no_items, item}
-use Rattle.serde_json.specs.Events.{items_len}
-use Rattle.serde_json.specs.Find.{as_array}
-use Rattle.serde_json.specs.View.{items_view}
-use Rattle.serde_json.specs.declared.value.Value.{Value}
-use Rattle.json_values.specs.Shape.{◌>>=◌, ◌⊕◌, one, headed, list_in, name_in, field, has_keys}
-use Rattle.json_values.specs.TopologyJson.{chunk_lines, custom_in}
+use Rattle.serde_json.specs.{Data.{Data, Items, no_items, item}, Events.items_len, Find.as_array, View.items_view, declared.value.Value.Value}
+use Rattle.json_values.specs.{Shape.{◌>>=◌, ◌⊕◌, one, headed, list_in, name_in, field, has_keys}, TopologyJson.{chunk_lines, custom_in}}
 use Rattle.json_values.specs.inner.Fields.{custom_fields}
 
 -- the bytes, and the lines of these chunks behind them, of which the first has the number g

@@ -1,11 +1,7 @@
 -- The line of a group, by what stands at its keys.
-use Rattle.std.proofs.Common.{◌≡◌, ℕ, Bool, true, false, List, [], ◌∷◌, Option, Some, None, option_map, refl, sym, ap, ◌∙◌}
-use Rattle.std.specs.Prelude.{codes, decimal, if◌then◌else◌}
-use Rattle.serde_json.specs.Data.{Data}
-use Rattle.serde_json.specs.Find.{get}
-use Rattle.json_values.specs.Shape.{◌>>=◌, ◌⊕◌, one, headed, list_in, count_in, field, has_keys}
-use Rattle.json_values.specs.TopologyJson.{link_in, group_in}
-use Rattle.json_values.specs.inner.Fields.{group_fields}
+use Rattle.std.proofs.Common.{◌≡◌, ℕ, Bool, true, false, List, [], ◌∷◌, Option, Some, None, option_map, refl, sym, ap, ◌∙◌, codes, decimal, if◌then◌else◌}
+use Rattle.serde_json.specs.{Data.Data, Find.get}
+use Rattle.json_values.specs.{Shape.{◌>>=◌, ◌⊕◌, one, headed, list_in, count_in, field, has_keys}, TopologyJson.{link_in, group_in}, inner.Fields.group_fields}
 
 abbrev closed : ℕ × Data → Option (List (List ℕ))
 closed x = option_map (λ links. codes "group" ∷ decimal x.0 ∷ links) (list_in link_in x.1)

@@ -1,17 +1,9 @@
 -- Lines whose last tokens are those that the items of a list stand for.
-use Rattle.std.proofs.Common.{◌≡◌, ℕ, List, [], ◌∷◌, ◌++◌, Option, Some, None, option_map, refl, sym, ap, ◌∙◌, append_assoc}
-use Rattle.std.specs.Prelude.{Result, Err}
-use Rattle.std.specs.List.{flat_map, join_with_byte}
-use Rattle.std.proofs.lemmas.Grind.{flat_map-append}
-use Rattle.std.proofs.lemmas.List.{append-nil}
-use Rattle.text_lines.specs.declared.stop.Stop.{Stop}
-use Rattle.text_lines.specs.declared.stop.Stop.TheVariants.{Memory, Refused}
-use Rattle.text_lines.specs.Text.{line, text_of, fields}
-use Rattle.text_lines.proofs.Words.{join_fields}
-use Rattle.serde_json.specs.Data.{Data, Items, no_items, item}
-use Rattle.serde_json.specs.Find.{as_array}
-use Rattle.json_values.specs.Shape.{◌>>=◌, headed, each_in, list_in, lines_in}
-use Rattle.json_values.specs.Appends.{Appends, texts_in, token_text, line_text}
+use Rattle.std.proofs.Common.{◌≡◌, ℕ, List, [], ◌∷◌, ◌++◌, Option, Some, None, option_map, refl, sym, ap, ◌∙◌, append_assoc, Result, Err}
+use Rattle.std.{specs.List.{flat_map, join_with_byte}, proofs.lemmas.{Grind.flat_map-append, List.append-nil}}
+use Rattle.text_lines.{specs.{declared.stop.Stop.{Stop, TheVariants.{Memory, Refused}}, Text.{line, text_of, fields}}, proofs.Words.join_fields}
+use Rattle.serde_json.specs.{Data.{Data, Items, no_items, item}, Find.as_array}
+use Rattle.json_values.specs.{Shape.{◌>>=◌, headed, each_in, list_in, lines_in}, Appends.{Appends, texts_in, token_text, line_text}}
 
 both : {A : Type 0} (piece : A → List ℕ) (o : Option A) (texts : Option (List (List ℕ))) (rest : Option (List A)) → option_map (λ ts. flat_map (λ t. t) ts) texts ≡ option_map (λ xs. flat_map piece xs) rest
     → option_map (λ ts. flat_map (λ t. t) ts) (option_map piece o >>= λ t. texts >>= λ ts. Some (t ∷ ts)) ≡ option_map (λ xs. flat_map piece xs) (o >>= λ x. rest >>= λ xs. Some (x ∷ xs))

@@ -1,17 +1,11 @@
 -- A text whose first part is written before the next.
-use Rattle.std.proofs.Common.{◌≡◌, ℕ, Bool, true, false, List, [], ◌∷◌, ◌++◌, Option, Some, None, option_map, refl, sym, ap, ◌∙◌, subst, append_assoc}
-use Rattle.std.specs.Prelude.{codes, if◌then◌else◌, Result, Ok, Err}
+use Rattle.std.proofs.Common.{◌≡◌, ℕ, Bool, true, false, List, [], ◌∷◌, ◌++◌, Option, Some, None, option_map, refl, sym, ap, ◌∙◌, subst, append_assoc, codes, if◌then◌else◌, Result, Ok, Err}
 use Rattle.std.proofs.lemmas.Grind.{flat_map-append}
-use Rattle.text_lines.specs.declared.stop.Stop.{Stop}
-use Rattle.text_lines.specs.declared.stop.Stop.TheVariants.{Memory, Refused}
-use Rattle.text_lines.specs.Text.{line, text_of}
+use Rattle.text_lines.specs.{declared.stop.Stop.{Stop, TheVariants.{Memory, Refused}}, Text.{line, text_of}}
 use Rattle.topology_text.specs.Spelling.{head_words}
-use Rattle.serde_json.specs.Data.{Data}
-use Rattle.serde_json.specs.Find.{get}
-use Rattle.json_values.specs.Shape.{◌>>=◌, ◌⊕◌, one, headed, list_in, name_in, has_keys}
+use Rattle.serde_json.specs.{Data.Data, Find.get}
+use Rattle.json_values.specs.{Shape.{◌>>=◌, ◌⊕◌, one, headed, list_in, name_in, has_keys}, inner.Fields.topology_fields, Appends.Appends}
 use Rattle.json_values.specs.TopologyJson.{group_in, keys_of, version_in, pattern_in, parts_in, topology_in}
-use Rattle.json_values.specs.inner.Fields.{topology_fields}
-use Rattle.json_values.specs.Appends.{Appends}
 
 -- what was appended behind a front that was written before
 pub behind_front : (r : Result (Unit {0}) (Stop (Unit {0}))) (old middle new front : List ℕ) (part : Option (List ℕ)) → middle ≡ old ++ front → Appends r middle new part → Appends r old new (option_map (λ t. front ++ t) part)

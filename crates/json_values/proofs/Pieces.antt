@@ -1,9 +1,6 @@
 -- Pieces that are appended one after another.
-use Rattle.std.proofs.Common.{ℕ, List, ◌++◌, Option, option_map}
-use Rattle.std.specs.List.{flat_map}
-use Rattle.serde_json.specs.Data.{Data}
-use Rattle.serde_json.specs.View.{items_view}
-use Rattle.serde_json.specs.declared.value.Value.{Value}
+use Rattle.std.{proofs.Common.{ℕ, List, ◌++◌, Option, option_map}, specs.List.flat_map}
+use Rattle.serde_json.specs.{Data.Data, View.items_view, declared.value.Value.Value}
 use Rattle.json_values.specs.Shape.{each_in}
 
 -- the bytes, and the pieces of these values behind them

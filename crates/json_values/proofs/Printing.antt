@@ -1,19 +1,9 @@
 -- Values of JSON that are built, and what a name is as a text.
-use Rattle.std.proofs.Common.{◌≡◌, ◌⊎◌, inl, inr, ℕ, zero, suc, ◌+◌, ◌<◌, ◌&&◌, ◌||◌, ◌==◌, Bool, true, cond, List, [], ◌∷◌, ◌++◌, map, refl, ap, ◌∙◌, arith}
-use Rattle.std.specs.Prelude.{IsUtf8, nat_le}
-use Rattle.std.specs.List.{list_all, filter, range_with_len}
-use Rattle.std.specs.Str.{IsAscii}
-use Rattle.std.proofs.lemmas.Bool.{and_parts, or_cases, leb-true, eqb-true}
-use Rattle.std.proofs.lemmas.List.{map-append}
-use Rattle.std.proofs.lemmas.List.FromFn.{map-range_with_len_more}
-use Rattle.std.specs.Result.{IsOk, MatchResult}
-use Rattle.std.specs.Prelude.{Result, Ok, Err}
-use Rattle.std.proofs.lemmas.Str.{IsUtf8-from_ascii}
-use Rattle.topology_text.specs.Names.{is_name_byte, is_name}
-use Rattle.topology_text.proofs.Printed.{passing_more}
-use Rattle.serde_json.specs.Data.{Data}
-use Rattle.serde_json.specs.View.{view}
-use Rattle.serde_json.specs.declared.value.Value.{Value}
+use Rattle.std.proofs.Common.{◌≡◌, ◌⊎◌, inl, inr, ℕ, zero, suc, ◌+◌, ◌<◌, ◌&&◌, ◌||◌, ◌==◌, Bool, true, cond, List, [], ◌∷◌, ◌++◌, map, refl, ap, ◌∙◌, arith, IsUtf8, nat_le, Result, Ok, Err}
+use Rattle.std.{specs.{List.{list_all, filter, range_with_len}, Str.IsAscii}, proofs.lemmas.{Bool.{and_parts, or_cases, leb-true, eqb-true}, List.map-append}}
+use Rattle.std.{proofs.lemmas.{List.FromFn.map-range_with_len_more, Str.IsUtf8-from_ascii}, specs.Result.{IsOk, MatchResult}}
+use Rattle.topology_text.{specs.Names.{is_name_byte, is_name}, proofs.Printed.passing_more}
+use Rattle.serde_json.specs.{Data.Data, View.view, declared.value.Value.Value}
 
 -- ---- names
 

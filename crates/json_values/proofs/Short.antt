@@ -1,23 +1,13 @@
 -- How long the pieces are that values stand for: at most so many bytes for each value in them.
-use Rattle.std.proofs.Common.{◌≡◌, ℕ, zero, suc, ◌+◌, ◌*◌, ◌/◌, ◌%◌, ◌≤◌, ◌==◌, Bool, true, false, List, [], ◌∷◌, length, Option, Some, None, option_map, Ordering, Less, Equal, Greater, refl, subst, ap, ◌∙◌, arith, length-append}
-use Rattle.std.specs.Prelude.{⊤, Ok, decimal, if◌then◌else◌, IfSome, nat_lt, nat_le}
-use Rattle.std.specs.Fmt.{digits, digits_onto, digit_glyph}
-use Rattle.std.specs.List.{flat_map, join_with_byte}
-use Rattle.std.specs.Ordering.{match_ordering}
-use Rattle.std.proofs.lemmas.Bool.{and_parts, leb-true}
-use Rattle.std.proofs.lemmas.Grind.{flat_map-append}
-use Rattle.std.proofs.Math.Nat.{mul-le-mul_left}
-use Rattle.text_lines.specs.Text.{line, text_of}
-use Rattle.text_lines.proofs.Words.{join_fields}
+use Rattle.std.proofs.Common.{◌≡◌, ℕ, zero, suc, ◌+◌, ◌*◌, ◌/◌, ◌%◌, ◌≤◌, ◌==◌, Bool, true, false, List, [], ◌∷◌, length, Option, Some, None, option_map, Ordering, Less, Equal, Greater, refl, subst, ap, ◌∙◌, arith, length-append, Ok, decimal, if◌then◌else◌, IfSome, nat_lt, nat_le}
+use Rattle.std.specs.{Prelude.⊤, Fmt.{digits, digits_onto, digit_glyph}, List.{flat_map, join_with_byte}, Ordering.match_ordering}
+use Rattle.std.proofs.{lemmas.{Bool.{and_parts, leb-true}, Grind.flat_map-append}, Math.Nat.mul-le-mul_left}
+use Rattle.text_lines.{specs.Text.{line, text_of}, proofs.Words.join_fields}
 use Rattle.topology_text.specs.Names.{is_name}
 use Rattle.serde_json.specs.Data.{Data, null, boolean, number, string, array, object, Items, no_items, item, Members, no_members, member}
 use Rattle.serde_json.specs.Find.{get, get_member}
-use Rattle.json_values.specs.Size.{size, items_size, members_size}
-use Rattle.json_values.specs.Shape.{◌>>=◌, ◌⊕◌, one, each_in, name_in, field}
-use Rattle.json_values.specs.Appends.{texts_in}
-use Rattle.json_values.specs.Answer.{text_of_json}
-use Rattle.json_values.proofs.Size.{size_of_value}
-use Rattle.json_values.proofs.Standing.{stands_for}
+use Rattle.json_values.specs.{Size.{size, items_size, members_size}, Shape.{◌>>=◌, ◌⊕◌, one, each_in, name_in, field}, Appends.texts_in, Answer.text_of_json}
+use Rattle.json_values.proofs.{Size.size_of_value, Standing.stands_for}
 
 -- with so many bytes more it is at most so long
 abbrev pub AtMost : ℕ → ℕ → Option (List ℕ) → Type 0

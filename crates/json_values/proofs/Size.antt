@@ -1,17 +1,13 @@
 -- A value has no more values in it than its text has bytes.
-use Rattle.std.proofs.Common.{◌≡◌, ℕ, zero, suc, ◌+◌, ◌≤◌, Bool, true, false, List, [], ◌∷◌, length, Option, Some, None, option_map, option_and_then, Ordering, Less, Equal, Greater, refl, subst, arith, true≢false, sym}
-use Rattle.std.specs.Prelude.{⊤, if◌then◌else◌}
-use Rattle.std.specs.Ordering.{match_ordering}
-use Rattle.std.specs.Str.{is_utf8}
+use Rattle.std.proofs.Common.{◌≡◌, ℕ, zero, suc, ◌+◌, ◌≤◌, Bool, true, false, List, [], ◌∷◌, length, Option, Some, None, option_map, option_and_then, Ordering, Less, Equal, Greater, refl, subst, arith, true≢false, sym, if◌then◌else◌}
+use Rattle.std.specs.{Prelude.⊤, Ordering.match_ordering, Str.is_utf8}
 use Rattle.json.specs.Token.{Token, begin_object, end_object, begin_array, end_array, key, string, number, boolean, null, bad}
 use Rattle.json.specs.Lex.{Lexeme, token, comma, colon, Class, quote, backslash, operator, space, other, class, Mode, between, in_word, in_string, in_escape, lex_byte, lex, Place, fresh, after_value, after_comma, after_key, begins_colon, may_begin, may_close, if_allowed, place_token, punctuate, tokens}
-use Rattle.json.specs.Json as json
 use Rattle.json.proofs.Grammar.{after_end_array-shorter, read_key-shorter}
+use Rattle.json.specs.Json as json
 use Rattle.serde_json.specs.Data as values
-use Rattle.serde_json.specs.Data.{Data, Members, put}
-use Rattle.serde_json.specs.Read.{number_of, of_json, of_items, of_members, max_depth, read}
-use Rattle.json_values.specs.Json.{value_of}
-use Rattle.json_values.specs.Size.{size, items_size, members_size}
+use Rattle.serde_json.specs.{Data.{Data, Members, put}, Read.{number_of, of_json, of_items, of_members, max_depth, read}}
+use Rattle.json_values.specs.{Json.value_of, Size.{size, items_size, members_size}}
 
 -- ---- a text has no more lexemes than bytes, and no more tokens than lexemes
 

@@ -1,11 +1,8 @@
 -- The text that bytes stand for.
-use Rattle.std.proofs.Common.{◌≡◌, ℕ, List, [], ◌++◌, Option, Some, None, option_map, refl, ap, ◌∙◌}
-use Rattle.std.specs.Prelude.{Ok, Err}
+use Rattle.std.proofs.Common.{◌≡◌, ℕ, List, [], ◌++◌, Option, Some, None, option_map, refl, ap, ◌∙◌, Ok, Err}
 use Rattle.text_lines.specs.Check.{◌>>=◌, need}
 use Rattle.serde_json.specs.Data.{Data}
-use Rattle.json_values.specs.declared.fault.JsonCode.TheVariants.{NotJson, BadShape}
-use Rattle.json_values.specs.Json.{value_of}
-use Rattle.json_values.specs.Answer.{text_of_json}
+use Rattle.json_values.specs.{declared.fault.JsonCode.TheVariants.{NotJson, BadShape}, Json.value_of, Answer.text_of_json}
 
 abbrev pub StandsFor : (Data → Option (List ℕ)) → List ℕ → List ℕ → Type 0
 StandsFor text bytes found = (d : Data) × (value_of bytes ≡ Some d) × (text d ≡ Some found)

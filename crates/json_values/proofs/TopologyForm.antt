@@ -1,21 +1,13 @@
 -- The JSON of a topology has the form, and stands for the topology's text.
-use Rattle.std.proofs.Common.{◌≡◌, ℕ, zero, suc, ◌+◌, ◌<◌, ◌≤◌, Bool, true, false, cond, List, [], ◌∷◌, ◌++◌, map, length, Option, Some, None, option_map, refl, sym, ap, ap₂, ◌∙◌, subst, arith}
-use Rattle.std.specs.Prelude.{codes, decimal, if◌then◌else◌, IfSome}
-use Rattle.std.specs.List.{All, AllByRecursion, filter, flat_map, join_with_byte, range_with_len}
+use Rattle.std.proofs.Common.{◌≡◌, ℕ, zero, suc, ◌+◌, ◌<◌, ◌≤◌, Bool, true, false, cond, List, [], ◌∷◌, ◌++◌, map, length, Option, Some, None, option_map, refl, sym, ap, ap₂, ◌∙◌, subst, arith, codes, decimal, if◌then◌else◌, IfSome}
+use Rattle.std.{specs.List.{All, AllByRecursion, filter, flat_map, join_with_byte, range_with_len}, proofs.lemmas.List.map-id}
 use Rattle.std.proofs.lemmas.List.Elements.{recursion_from_All, All-get_or}
-use Rattle.std.proofs.lemmas.List.{map-id}
-use Rattle.schedule.specs.Links.{GroupValue, IsBelow}
-use Rattle.schedule.specs.Placed.{PlacementValue, holds}
-use Rattle.schedule.proofs.First.{each_weaker}
+use Rattle.schedule.{specs.{Links.{GroupValue, IsBelow}, Placed.{PlacementValue, holds}}, proofs.First.each_weaker}
 use Rattle.collective_spec.specs.Patterns.{PatternValue, IsPattern}
-use Rattle.topology_text.specs.Names.{is_name, AreNames}
-use Rattle.topology_text.specs.Value.{NamedTopologyValue, IsNamed}
+use Rattle.topology_text.specs.{Names.{is_name, AreNames}, Value.{NamedTopologyValue, IsNamed}}
 use Rattle.topology_text.specs.Spelling.{name_at, link_word, header_words, nodes_words, group_words, holder_words, custom_lines, lines_of, head_words}
-use Rattle.serde_json.specs.Data.{Data, string, Items}
-use Rattle.serde_json.specs.Events.{items_len}
-use Rattle.serde_json.specs.View.{items_of}
-use Rattle.json_values.specs.Json.{array_of}
-use Rattle.json_values.specs.Shape.{◌>>=◌, ◌⊕◌, one, headed, each_in, list_in, name_in}
+use Rattle.serde_json.specs.{Data.{Data, string, Items}, Events.items_len, View.items_of}
+use Rattle.json_values.specs.{Json.array_of, Shape.{◌>>=◌, ◌⊕◌, one, headed, each_in, list_in, name_in}}
 use Rattle.json_values.specs.TopologyJson.{link_json, group_json, holders_json, custom_json, topology_json, link_in, group_in, chunk_lines, custom_in, topology_in}
 
 -- where each item that is made has the shape, so has the list

@@ -1,14 +1,10 @@
 -- How long the text is that the JSON of a topology stands for.
-use Rattle.std.proofs.Common.{◌≡◌, ℕ, ◌+◌, ◌*◌, ◌≤◌, Bool, true, false, List, [], ◌∷◌, ◌++◌, length, Option, Some, None, option_map, subst, arith, length-append}
-use Rattle.std.specs.Prelude.{codes, decimal, IfSome}
+use Rattle.std.proofs.Common.{◌≡◌, ℕ, ◌+◌, ◌*◌, ◌≤◌, Bool, true, false, List, [], ◌∷◌, ◌++◌, length, Option, Some, None, option_map, subst, arith, length-append, codes, decimal, IfSome}
 use Rattle.std.specs.List.{join_with_byte}
 use Rattle.text_lines.specs.Text.{line, text_of, fields}
 use Rattle.topology_text.specs.Spelling.{head_words}
-use Rattle.serde_json.specs.Data.{Data, null, boolean, number, string, array, object, Items, no_items, item}
-use Rattle.serde_json.specs.Events.{items_len}
-use Rattle.serde_json.specs.Find.{as_array, get}
-use Rattle.json_values.specs.Size.{size, items_size}
-use Rattle.json_values.specs.Shape.{◌>>=◌, ◌⊕◌, one, headed, list_in, count_in, name_in, row_items, field, has_keys}
+use Rattle.serde_json.specs.{Data.{Data, null, boolean, number, string, array, object, Items, no_items, item}, Events.items_len, Find.{as_array, get}}
+use Rattle.json_values.specs.{Size.{size, items_size}, Shape.{◌>>=◌, ◌⊕◌, one, headed, list_in, count_in, name_in, row_items, field, has_keys}}
 use Rattle.json_values.specs.TopologyJson.{link_in, group_in, chunk_lines, custom_in, version_in, keys_of, pattern_in, parts_in, topology_text_in}
 use Rattle.json_values.specs.Appends.{texts_in, token_text, line_text}
 use Rattle.json_values.proofs.Lines.{tokens_listed, lines_listed}

@@ -1,17 +1,9 @@
 -- The value that bytes are, and pairs in a list.
-use Rattle.std.proofs.Common.{◌≡◌, ◌≢◌, ℕ, suc, Bool, true, false, List, [], ◌∷◌, ◌++◌, length, get_or, Option, Some, None, refl, sym, ap, ◌∙◌, arith}
-use Rattle.std.specs.Prelude.{if◌then◌else◌, option_map, IsUtf8}
-use Rattle.std.specs.List.{join_with_byte}
-use Rattle.std.specs.Str.{is_utf8}
-use Rattle.std.proofs.lemmas.Str.{is_utf8-from_IsUtf8, IsUtf8-from_is_utf8}
-use Rattle.serde_json.specs.Data.{Data, Items, no_items, item}
-use Rattle.serde_json.specs.Events.{items_len}
-use Rattle.serde_json.specs.Read.{read}
-use Rattle.serde_json.specs.View.{view, items_view}
-use Rattle.serde_json.specs.declared.value.Value.{Value}
+use Rattle.std.proofs.Common.{◌≡◌, ◌≢◌, ℕ, suc, Bool, true, false, List, [], ◌∷◌, ◌++◌, length, get_or, Option, Some, None, refl, sym, ap, ◌∙◌, arith, if◌then◌else◌, option_map, IsUtf8}
+use Rattle.std.{specs.{List.join_with_byte, Str.is_utf8}, proofs.lemmas.Str.{is_utf8-from_IsUtf8, IsUtf8-from_is_utf8}}
+use Rattle.serde_json.specs.{Data.{Data, Items, no_items, item}, Events.items_len, Read.read, View.{view, items_view}, declared.value.Value.Value}
 use Rattle.serde_json.proofs.Views.{items_len-items_view}
-use Rattle.json_values.specs.Json.{value_of}
-use Rattle.json_values.specs.Shape.{◌>>=◌, ◌⊕◌, one, name_in, row_items}
+use Rattle.json_values.specs.{Json.value_of, Shape.{◌>>=◌, ◌⊕◌, one, name_in, row_items}}
 
 pub value_is : (bytes : List ℕ) (d : Data) → IsUtf8 bytes → read bytes ≡ Some d → value_of bytes ≡ Some d
 value_is bytes d utf8 h = ap (λ b. if b then read bytes else None) (is_utf8-from_IsUtf8 bytes utf8) ∙ h

@@ -1,14 +1,9 @@
 -- What reading JSON answers: the first check that fails. This project's own.
-use Rattle.std.specs.Prelude.{◌≡◌, ℕ, List, Option, Result, Ok, Err, ◌⊎◌, Vec}
-use Rattle.std.specs.declared.alloc.Global.{Global}
+use Rattle.std.specs.{Prelude.{◌≡◌, ℕ, List, Option, Result, Ok, Err, ◌⊎◌, Vec}, declared.alloc.Global.Global}
 use Rattle.text_lines.specs.Check.{◌>>=◌, need}
-use Rattle.topology_text.specs.Value.{NamedTopologyValue}
-use Rattle.topology_text.specs.Reading.{topology_of}
+use Rattle.topology_text.specs.{Value.NamedTopologyValue, Reading.topology_of}
 use Rattle.serde_json.specs.Data.{Data}
-use Rattle.json_values.specs.declared.fault.JsonCode.{JsonCode}
-use Rattle.json_values.specs.declared.fault.JsonCode.TheVariants.{NotJson, BadShape, BadText, OutOfMemory}
-use Rattle.json_values.specs.declared.fault.JsonFault.{JsonFault}
-use Rattle.json_values.specs.Json.{value_of}
+use Rattle.json_values.specs.{declared.fault.{JsonCode.{JsonCode, TheVariants.{NotJson, BadShape, BadText, OutOfMemory}}, JsonFault.JsonFault}, Json.value_of}
 use Rattle.json_values.specs.TopologyJson.{topology_text_in}
 
 -- the numbers of the codes, by which refusals name them

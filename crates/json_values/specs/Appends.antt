@@ -1,9 +1,6 @@
 -- Appending the text that a value of JSON stands for.
-use Rattle.std.specs.Prelude.{◌≡◌, ℕ, List, ◌∷◌, ◌++◌, Option, None, Some, Result, Ok, Err, option_map}
-use Rattle.std.specs.List.{flat_map}
-use Rattle.text_lines.specs.Text.{line}
-use Rattle.text_lines.specs.declared.stop.Stop.{Stop}
-use Rattle.text_lines.specs.declared.stop.Stop.TheVariants.{Memory, Refused}
+use Rattle.std.specs.{Prelude.{◌≡◌, ℕ, List, ◌∷◌, ◌++◌, Option, None, Some, Result, Ok, Err, option_map}, List.flat_map}
+use Rattle.text_lines.specs.{Text.line, declared.stop.Stop.{Stop, TheVariants.{Memory, Refused}}}
 use Rattle.serde_json.specs.Data.{Data}
 use Rattle.json_values.specs.Shape.{list_in}
 

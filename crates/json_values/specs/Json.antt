@@ -1,10 +1,6 @@
 -- JSON (RFC 8259): the value that bytes are, as serde_json reads them, and its text, as serde_json prints it.
-use Rattle.std.specs.Prelude.{ℕ, if◌then◌else◌, List, [], ◌∷◌, ◌++◌, Option, None}
-use Rattle.std.specs.Str.{is_utf8}
-use Rattle.serde_json.specs.Data.{Data, array, object, number, unsigned, Members, no_members, member}
-use Rattle.serde_json.specs.Read.{read}
-use Rattle.serde_json.specs.View.{items_of}
-use Rattle.serde_json.specs.Written.{compact_text}
+use Rattle.std.specs.{Prelude.{ℕ, if◌then◌else◌, List, [], ◌∷◌, ◌++◌, Option, None}, Str.is_utf8}
+use Rattle.serde_json.specs.{Data.{Data, array, object, number, unsigned, Members, no_members, member}, Read.read, View.items_of, Written.compact_text}
 
 -- the value that the bytes are: they are to be UTF-8, and lists and objects are to nest no deeper than 127
 abbrev pub value_of : List ℕ → Option Data

@@ -1,15 +1,11 @@
 -- A topology as JSON (RFC 8259), and the text that JSON of this form stands for. The form is this project's own.
 use Rattle.std.specs.Prelude.{ℕ, ◌+◌, ◌==◌, Bool, true, false, if◌then◌else◌, List, [], ◌∷◌, ◌++◌, map, filter, Option, Some, None, option_map, codes, decimal}
 use Rattle.std.specs.List.{range_with_len, join_with_byte}
-use Rattle.schedule.specs.Links.{GroupValue}
-use Rattle.schedule.specs.Placed.{PlacementValue, holds}
+use Rattle.schedule.specs.{Links.GroupValue, Placed.{PlacementValue, holds}}
 use Rattle.collective_spec.specs.Patterns.{PatternValue}
-use Rattle.serde_json.specs.Data.{Data, string, Items, no_items, item}
-use Rattle.serde_json.specs.Find.{as_array}
-use Rattle.serde_json.specs.Events.{items_len}
+use Rattle.serde_json.specs.{Data.{Data, string, Items, no_items, item}, Find.as_array, Events.items_len}
 use Rattle.text_lines.specs.Text.{text_of}
-use Rattle.topology_text.specs.Value.{NamedTopologyValue}
-use Rattle.topology_text.specs.Spelling.{name_at, head_words}
+use Rattle.topology_text.specs.{Value.NamedTopologyValue, Spelling.{name_at, head_words}}
 use Rattle.json_values.specs.Json.{array_of, object_of, count_of}
 use Rattle.json_values.specs.Shape.{◌>>=◌, ◌⊕◌, one, headed, list_in, row_in, count_in, name_in, has_keys, field, number_at}
 

@@ -1,14 +1,9 @@
 //! Laws of values of JSON and of the texts that they stand for.
 
 ghost use Rattle.std.specs.Prelude.{◌≡◌, ◌*◌, ◌≤◌, ℕ, List, [], ◌∷◌, ◌++◌, length, Ok, Some};
-ghost use Rattle.serde_json.specs.Data.{Data};
-ghost use Rattle.serde_json.specs.Read.{read};
-ghost use Rattle.topology_text.specs.Value.{NamedTopologyValue, IsNamed};
-ghost use Rattle.topology_text.specs.Spelling.{lines_of};
-ghost use Rattle.json_values.specs.Answer.{text_of_json};
-ghost use Rattle.json_values.specs.Json.{value_of};
-ghost use Rattle.json_values.specs.Size.{size};
-ghost use Rattle.json_values.specs.TopologyJson.{topology_json, topology_in, topology_text_in};
+ghost use Rattle.serde_json.specs.{Data.Data, Read.read};
+ghost use Rattle.topology_text.specs.{Value.{NamedTopologyValue, IsNamed}, Spelling.lines_of};
+ghost use Rattle.json_values.specs.{Answer.text_of_json, Json.value_of, Size.size, TopologyJson.{topology_json, topology_in, topology_text_in}};
 
 /// A line feed at the end does not change which value a text is.
 pub fn line_feed_is_blank()

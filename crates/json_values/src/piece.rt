@@ -1,8 +1,7 @@
 //! Pieces of a text that values of JSON stand for.
 
 ghost use Rattle.std.specs.Prelude.{ℕ, List, Option};
-ghost use Rattle.serde_json.specs.Data.{Data};
-ghost use Rattle.serde_json.specs.View.{view};
+ghost use Rattle.serde_json.specs.{Data.Data, View.view};
 ghost use Rattle.json_values.specs.Appends.{Appends, texts_in};
 
 use crate::shape::items_in;

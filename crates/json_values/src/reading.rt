@@ -2,9 +2,7 @@
 
 ghost use Rattle.std.specs.Prelude.{◌≡◌, ◌⊎◌, None, Some, IfOk, IfErr};
 ghost use Rattle.serde_json.specs.View.{view};
-ghost use Rattle.json_values.specs.Json.{value_of};
-ghost use Rattle.json_values.specs.Answer.{text_of_json, GivesText};
-ghost use Rattle.json_values.specs.declared.fault.JsonCode.{JsonCode};
+ghost use Rattle.json_values.specs.{Json.value_of, Answer.{text_of_json, GivesText}, declared.fault.JsonCode.JsonCode};
 
 use crate::fault::JsonCode;
 use crate::piece::Piece;

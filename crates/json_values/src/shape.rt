@@ -1,8 +1,7 @@
 //! What values of JSON have in them, where they have a shape.
 
 ghost use Rattle.std.specs.Prelude.{◌≡◌, option_map, map};
-ghost use Rattle.serde_json.specs.Find.{as_array};
-ghost use Rattle.serde_json.specs.View.{view, items_view, members_view};
+ghost use Rattle.serde_json.specs.{Find.as_array, View.{view, items_view, members_view}};
 ghost use Rattle.json_values.specs.Shape.{count_in, name_in, are_keys, has_keys};
 
 use serde_json::{Map, Value};

@@ -2,10 +2,8 @@
 
 ghost use Rattle.std.specs.Prelude.{◌≡◌, ◌<◌, ◌≤◌, Ok, map, IfOk};
 ghost use Rattle.topology_text.specs.Value.{IsNamed};
-ghost use Rattle.serde_json.specs.Data.{string};
-ghost use Rattle.serde_json.specs.View.{view};
-ghost use Rattle.json_values.specs.Json.{printed, array_of};
-ghost use Rattle.json_values.specs.TopologyJson.{link_json, group_json, holders_json, placement_json, custom_json, topology_json};
+ghost use Rattle.serde_json.specs.{Data.string, View.view};
+ghost use Rattle.json_values.specs.{Json.{printed, array_of}, TopologyJson.{link_json, group_json, holders_json, placement_json, custom_json, topology_json}};
 ghost use Rattle.json_values.specs.Answer.{topology_of_json};
 
 use crate::names::{name_text, node_text};

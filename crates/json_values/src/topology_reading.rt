@@ -2,16 +2,11 @@
 
 ghost use Rattle.std.specs.Prelude.{◌≡◌, [], ◌∷◌, ◌++◌, Some, option_map, IfOk, length, codes};
 ghost use Rattle.text_lines.specs.Text.{text_of, line};
-ghost use Rattle.serde_json.specs.Data.{Data};
-ghost use Rattle.serde_json.specs.View.{view, items_view};
-ghost use Rattle.topology_text.specs.Value.{IsNamed};
-ghost use Rattle.topology_text.specs.Spelling.{spelling, head_words};
-ghost use Rattle.json_values.specs.Json.{value_of};
-ghost use Rattle.json_values.specs.Shape.{name_in, list_in, has_keys};
+ghost use Rattle.serde_json.specs.{Data.Data, View.{view, items_view}};
+ghost use Rattle.topology_text.specs.{Value.IsNamed, Spelling.{spelling, head_words}};
+ghost use Rattle.json_values.specs.{Json.value_of, Shape.{name_in, list_in, has_keys}, inner.Fields.{group_fields, custom_fields, topology_fields}};
 ghost use Rattle.json_values.specs.TopologyJson.{link_in, group_in, holders_in, chunk_lines, custom_in, version_in, keys_of, pattern_in, topology_text_in};
-ghost use Rattle.json_values.specs.inner.Fields.{group_fields, custom_fields, topology_fields};
-ghost use Rattle.json_values.specs.Appends.{Appends, token_text, line_text};
-ghost use Rattle.json_values.specs.Answer.{topology_of_json, Answers};
+ghost use Rattle.json_values.specs.{Appends.{Appends, token_text, line_text}, Answer.{topology_of_json, Answers}};
 
 use crate::fault::{JsonCode, JsonFault};
 use crate::piece::{Piece, push_list};

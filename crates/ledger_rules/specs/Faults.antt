@@ -1,8 +1,6 @@
 -- Why a ledger could not take a line.
-use Rattle.outer_ports.specs.declared.shelf_fault.ShelfFault.{ShelfFault}
-use Rattle.outer_ports.specs.declared.shelf_fault.ShelfFault.TheVariants.{Failed as ShelfFailed, OutOfMemory as NoMemory}
-use Rattle.ledger_rules.specs.declared.fault.LedgerFault.{LedgerFault}
-use Rattle.ledger_rules.specs.declared.fault.LedgerFault.TheVariants.{Failed, OutOfMemory}
+use Rattle.outer_ports.specs.declared.shelf_fault.ShelfFault.{ShelfFault, TheVariants.{Failed as ShelfFailed, OutOfMemory as NoMemory}}
+use Rattle.ledger_rules.specs.declared.fault.LedgerFault.{LedgerFault, TheVariants.{Failed, OutOfMemory}}
 
 abbrev pub fault_of : ShelfFault → LedgerFault
 fault_of ShelfFailed = Failed

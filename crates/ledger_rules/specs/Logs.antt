@@ -1,10 +1,7 @@
 -- The lines that a ledger holds.
 use Rattle.std.specs.Prelude.{List, map, filter, not}
-use Rattle.cnf_formula.specs.Formulas.{FormulaValue}
-use Rattle.cnf_formula.specs.Lines.{ProofLineValue}
-use Rattle.cnf_formula.specs.declared.line.LratLine.TheVariants.{Addition}
-use Rattle.proof_rules.specs.Held.{CheckerValue, start_of, is_empty}
-use Rattle.proof_rules.specs.Refuting.{after}
+use Rattle.cnf_formula.specs.{Formulas.FormulaValue, Lines.ProofLineValue, declared.line.LratLine.TheVariants.Addition}
+use Rattle.proof_rules.specs.{Held.{CheckerValue, start_of, is_empty}, Refuting.after}
 
 -- the checker that has accepted these lines, which are all additions
 abbrev pub checker_of : FormulaValue → List ProofLineValue → CheckerValue

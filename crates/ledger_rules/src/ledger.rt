@@ -1,11 +1,8 @@
 //! What a search writes its lines to.
 
 ghost use Rattle.std.specs.Prelude.{◌≡◌, ◌↔◌, ℕ, ◌+◌, ◌<◌, ◌≤◌, IsTrue, true, List, [], ◌∷◌, ◌++◌, length, OnOk, OnErr};
-ghost use Rattle.cnf_formula.specs.Formulas.{FormulaValue};
-ghost use Rattle.cnf_formula.specs.Lines.{ProofLineValue};
-ghost use Rattle.proof_rules.specs.declared.verdict.LineVerdict.TheVariants.{Accepted};
-ghost use Rattle.proof_rules.specs.Judging.{verdict_of};
-ghost use Rattle.proof_rules.specs.Refuting.{is_fresh};
+ghost use Rattle.cnf_formula.specs.{Formulas.FormulaValue, Lines.ProofLineValue};
+ghost use Rattle.proof_rules.specs.{declared.verdict.LineVerdict.TheVariants.Accepted, Judging.verdict_of, Refuting.is_fresh};
 ghost use Rattle.outer_ports.specs.Port.{HasCause};
 ghost use Rattle.ledger_rules.specs.Logs.{checker_of, learned};
 

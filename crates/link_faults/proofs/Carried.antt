@@ -1,24 +1,14 @@
 -- What some schedule does after a fault, one does before it, of fewer chunks and in no fewer rounds.
 use Rattle.std.proofs.Common.{ℕ, ◌+◌, ◌*◌, ◌≤◌, Bool, true, false, subst, sym, arith}
-use Rattle.schedule.specs.Links.{TopologyValue}
-use Rattle.schedule.specs.Placed.{PlacementValue}
-use Rattle.schedule.specs.Judging.{group_at}
-use Rattle.schedule.specs.Solving.{Solvable}
-use Rattle.schedule.specs.Summing.{SummedSolvable}
-use Rattle.collective_spec.specs.declared.spec.Spec.{Spec}
-use Rattle.collective_spec.specs.declared.spec.Spec.TheVariants as spec
-use Rattle.collective_spec.specs.Collectives.{chunks_of, spec_instance, spec_demand, ends_of, after, adds_up}
-use Rattle.collective_spec.specs.Layouts.{stands}
+use Rattle.schedule.specs.{Links.TopologyValue, Placed.PlacementValue, Judging.group_at, Solving.Solvable, Summing.SummedSolvable}
+use Rattle.collective_spec.specs.{declared.spec.Spec.Spec, Collectives.{chunks_of, spec_instance, spec_demand, ends_of, after, adds_up}, Layouts.stands}
 use Rattle.collective_spec.specs.Patterns.{in_copies}
 use Rattle.collective_spec.proofs.Chunks.{chunks_more}
-use Rattle.candidate_order.specs.declared.candidate.Candidate.{Candidate}
-use Rattle.candidate_order.specs.Frontiers.{QuestionValue, IsSolvable}
+use Rattle.collective_spec.specs.declared.spec.Spec.TheVariants as spec
+use Rattle.candidate_order.specs.{declared.candidate.Candidate.Candidate, Frontiers.{QuestionValue, IsSolvable}}
 use Rattle.candidate_order.proofs.Achieved.{Achievable, achieved, solvable_by_one}
-use Rattle.link_faults.specs.Narrowed.{narrowed}
-use Rattle.link_faults.specs.Carrying.{Carries, HasFewRounds, narrowed_question}
-use Rattle.link_faults.proofs.Fitting.{fits_before}
-use Rattle.link_faults.proofs.Fewer.{solvable_fewer}
-use Rattle.link_faults.proofs.Sums.{summed_fewer}
+use Rattle.link_faults.specs.{Narrowed.narrowed, Carrying.{Carries, HasFewRounds, narrowed_question}}
+use Rattle.link_faults.proofs.{Fitting.fits_before, Fewer.solvable_fewer, Sums.summed_fewer}
 
 pub solvable_before : (t : TopologyValue) (g w : ℕ) (pre post : PlacementValue) (steps rounds : ℕ) → w ≤ (group_at t g).width → Solvable (narrowed t g w) pre post steps rounds → Solvable t pre post steps rounds
 solvable_before t g w pre post steps rounds less solvable =

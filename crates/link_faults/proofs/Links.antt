@@ -1,17 +1,8 @@
 -- What links and groups are left after a fault, and what they carry.
-use Rattle.std.proofs.Common.{◌≡◌, ℕ, zero, suc, ◌+◌, ◌≤◌, ◌*◌, Bool, true, false, ◌||◌, ◌&&◌, eqb, cond, List, [], ◌∷◌, length, get_or, refl, sym, ap, ◌∙◌, ⊎_elim, arith}
-use Rattle.std.specs.Prelude.{not, slice_set}
-use Rattle.std.specs.List.{list_any, AllByRecursion}
-use Rattle.std.proofs.lemmas.Bool.{false≢true, and_parts, cases_Bool, or_cases, or_left, or_right, lt-ltb, not-true}
-use Rattle.std.proofs.lemmas.List.Sums.{sum_by-cons}
-use Rattle.std.proofs.lemmas.Map.Views.{any-filter_same}
-use Rattle.std.proofs.Math.Bool.{and-false}
-use Rattle.schedule.specs.declared.hop.Hop.{Hop}
-use Rattle.schedule.specs.Links.{GroupValue, has_link}
-use Rattle.schedule.specs.Placed.{same_pair}
-use Rattle.schedule.specs.Sends.{link_of}
-use Rattle.schedule.specs.Fitting.{load}
-use Rattle.schedule.proofs.Placing.{pair_is}
+use Rattle.std.proofs.Common.{◌≡◌, ℕ, zero, suc, ◌+◌, ◌≤◌, ◌*◌, Bool, true, false, ◌||◌, ◌&&◌, eqb, cond, List, [], ◌∷◌, length, get_or, refl, sym, ap, ◌∙◌, ⊎_elim, arith, not, slice_set}
+use Rattle.std.{specs.List.{list_any, AllByRecursion}, proofs.lemmas.Bool.{false≢true, and_parts, cases_Bool, or_cases, or_left, or_right, lt-ltb, not-true}}
+use Rattle.std.proofs.{lemmas.{List.Sums.sum_by-cons, Map.Views.any-filter_same}, Math.Bool.and-false}
+use Rattle.schedule.{specs.{declared.hop.Hop.Hop, Links.{GroupValue, has_link}, Placed.same_pair, Sends.link_of, Fitting.load}, proofs.Placing.pair_is}
 use Rattle.link_faults.specs.Narrowed.{without, has_links, left_of}
 
 -- a link is left in a group exactly where it was there and is not gone

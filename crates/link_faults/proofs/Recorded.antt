@@ -1,14 +1,10 @@
 -- A record of candidates, of which some are carried by old ones.
-use Rattle.std.proofs.Common.{◌≡◌, ℕ, ◌≤◌, Bool, true, false, ◌&&◌, eqb, leb, cond, List, [], ◌∷◌, ◌++◌, inl, inr, refl, sym, ap, ◌∙◌, subst, ⊎_elim}
-use Rattle.std.specs.Prelude.{not}
+use Rattle.std.proofs.Common.{◌≡◌, ℕ, ◌≤◌, Bool, true, false, ◌&&◌, eqb, leb, cond, List, [], ◌∷◌, ◌++◌, inl, inr, refl, sym, ap, ◌∙◌, subst, ⊎_elim, not}
 use Rattle.std.specs.List.{AllByRecursion, Contains}
 use Rattle.std.proofs.lemmas.Bool.{false≢true, and_parts, and_from, cases_Bool, or_cases, eqb-true, eq-eqb, leb-true, le-leb, not-true}
-use Rattle.schedule.specs.Judging.{group_at}
-use Rattle.schedule.proofs.First.{Among, Among-from_Contains, Contains-from_Among}
-use Rattle.candidate_order.specs.declared.candidate.Candidate.{Candidate}
-use Rattle.candidate_order.specs.Frontiers.{QuestionValue, IsSolvable}
-use Rattle.link_faults.specs.Carrying.{Carries, IsOldRefuted, is_carrier, is_carried, not_carried, narrowed_question}
-use Rattle.link_faults.proofs.Carried.{carried}
+use Rattle.schedule.{specs.Judging.group_at, proofs.First.{Among, Among-from_Contains, Contains-from_Among}}
+use Rattle.candidate_order.specs.{declared.candidate.Candidate.Candidate, Frontiers.{QuestionValue, IsSolvable}}
+use Rattle.link_faults.{specs.Carrying.{Carries, IsOldRefuted, is_carrier, is_carried, not_carried, narrowed_question}, proofs.Carried.carried}
 
 pub carrier_is : (a b : Candidate) → is_carrier a b ≡ true → Carries a b
 carrier_is a b h =

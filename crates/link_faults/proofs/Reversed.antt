@@ -1,21 +1,12 @@
 -- Narrowing a topology and turning its links round, in either order, is the same.
-use Rattle.std.proofs.Common.{◌≡◌, ℕ, zero, suc, Bool, true, false, ◌||◌, eqb, ltb, cond, List, [], ◌∷◌, length, get_or, map, refl, ap, ◌∙◌}
-use Rattle.std.specs.Prelude.{◌≢◌, filter, not, slice_set, All}
-use Rattle.std.specs.List.{list_any}
-use Rattle.std.proofs.lemmas.List.{length-map}
-use Rattle.std.proofs.lemmas.List.Elements.{All-weaker}
-use Rattle.std.proofs.Math.Bool.{and_comm}
-use Rattle.schedule.specs.Links.{GroupValue, TopologyValue, has_link, turned, reversed_group, reversed_of}
-use Rattle.schedule.specs.Placed.{same_pair}
-use Rattle.schedule.specs.Judging.{group_at}
+use Rattle.std.proofs.Common.{◌≡◌, ℕ, zero, suc, Bool, true, false, ◌||◌, eqb, ltb, cond, List, [], ◌∷◌, length, get_or, map, refl, ap, ◌∙◌, ◌≢◌, filter, not, slice_set, All}
+use Rattle.std.{specs.List.list_any, proofs.{lemmas.List.{length-map, Elements.All-weaker}, Math.Bool.and_comm}}
+use Rattle.schedule.specs.{Links.{GroupValue, TopologyValue, has_link, turned, reversed_group, reversed_of}, Placed.same_pair, Judging.group_at}
 use Rattle.collective_spec.specs.declared.kind.Kind.TheVariants as kind
 use Rattle.collective_spec.specs.Collectives.{IsSpec, adds_up, kind_in}
-use Rattle.candidate_order.specs.declared.candidate.Candidate.{Candidate}
-use Rattle.candidate_order.specs.Frontiers.{QuestionValue}
-use Rattle.candidate_order.specs.Copied.{copied_question, copied_spec}
-use Rattle.link_faults.specs.Narrowed.{with_width, without, has_links, left_of, groups_after, narrowed}
+use Rattle.candidate_order.specs.{declared.candidate.Candidate.Candidate, Frontiers.QuestionValue, Copied.{copied_question, copied_spec}}
+use Rattle.link_faults.specs.{Narrowed.{with_width, without, has_links, left_of, groups_after, narrowed}, Carrying.{IsOldRefuted, narrowed_question}}
 use Rattle.inversion.proofs.Copied.{solvable_exactly}
-use Rattle.link_faults.specs.Carrying.{IsOldRefuted, narrowed_question}
 
 any_turned : (link : ℕ × ℕ) (links : List (ℕ × ℕ)) → list_any (same_pair (turned link)) (map turned links) ≡ list_any (same_pair link) links
 any_turned link [] = refl

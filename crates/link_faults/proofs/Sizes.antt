@@ -1,20 +1,12 @@
 -- A search over the links that a fault left is no larger than over those that were given.
-use Rattle.std.proofs.Common.{◌≡◌, ℕ, zero, suc, ◌+◌, ◌*◌, ◌<◌, ◌≤◌, Bool, true, false, cond, List, [], ◌∷◌, length, get_or, refl, sym, ◌∙◌, ⊎_elim, arith}
-use Rattle.std.specs.Prelude.{filter, not, slice_set, sum_by}
-use Rattle.std.proofs.lemmas.Bool.{cases_Bool}
-use Rattle.std.proofs.lemmas.Nat.{mul-le}
-use Rattle.std.proofs.lemmas.List.Sums.{sum_by-cons}
-use Rattle.schedule.specs.Links.{GroupValue, TopologyValue, has_link, is_usable, usable_links}
-use Rattle.schedule.specs.Placed.{all_pairs}
-use Rattle.schedule.specs.Judging.{group_at}
+use Rattle.std.proofs.Common.{◌≡◌, ℕ, zero, suc, ◌+◌, ◌*◌, ◌<◌, ◌≤◌, Bool, true, false, cond, List, [], ◌∷◌, length, get_or, refl, sym, ◌∙◌, ⊎_elim, arith, filter, not, slice_set, sum_by}
+use Rattle.std.proofs.lemmas.{Bool.cases_Bool, Nat.mul-le, List.Sums.sum_by-cons}
+use Rattle.schedule.specs.{Links.{GroupValue, TopologyValue, has_link, is_usable, usable_links}, Placed.all_pairs, Judging.group_at}
 use Rattle.candidate_order.specs.Frontiers.{QuestionValue}
 use Rattle.round_encoding.specs.Candidates.{group_size}
-use Rattle.candidate_formula.specs.Questions.{IsSmallQuestion}
-use Rattle.candidate_formula.specs.Sizes.{most_chunks, size_of}
-use Rattle.link_faults.specs.Narrowed.{with_width, without, has_links, left_of, narrowed}
-use Rattle.link_faults.specs.Carrying.{narrowed_question}
-use Rattle.link_faults.proofs.Links.{left_usable, set_any}
-use Rattle.link_faults.proofs.Sound.{narrowed_topology}
+use Rattle.candidate_formula.specs.{Questions.IsSmallQuestion, Sizes.{most_chunks, size_of}}
+use Rattle.link_faults.specs.{Narrowed.{with_width, without, has_links, left_of, narrowed}, Carrying.narrowed_question}
+use Rattle.link_faults.proofs.{Links.{left_usable, set_any}, Sound.narrowed_topology}
 
 -- ---- links
 

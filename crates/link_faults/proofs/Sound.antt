@@ -1,13 +1,8 @@
 -- What a fault leaves is a topology.
-use Rattle.std.proofs.Common.{◌≡◌, ℕ, zero, suc, ◌<◌, ◌≤◌, Bool, true, false, cond, List, [], ◌∷◌, length, refl, sym, ap, subst, ⊎_elim, arith}
-use Rattle.std.specs.Prelude.{◌≢◌, filter, not, slice_set, All}
-use Rattle.std.specs.List.{AllByRecursion}
-use Rattle.std.proofs.lemmas.Bool.{cases_Bool, ltb-true, lt-ltb}
-use Rattle.std.proofs.lemmas.List.{length-set}
+use Rattle.std.proofs.Common.{◌≡◌, ℕ, zero, suc, ◌<◌, ◌≤◌, Bool, true, false, cond, List, [], ◌∷◌, length, refl, sym, ap, subst, ⊎_elim, arith, ◌≢◌, filter, not, slice_set, All}
+use Rattle.std.{specs.List.AllByRecursion, proofs.lemmas.{Bool.{cases_Bool, ltb-true, lt-ltb}, List.{length-set, Kept.AllPairs-filter}}}
 use Rattle.std.proofs.lemmas.List.Elements.{All-filter, All-from_recursion, recursion_from_All}
-use Rattle.std.proofs.lemmas.List.Kept.{AllPairs-filter}
-use Rattle.schedule.specs.Links.{GroupValue, TopologyValue, IsBelow, IsGroup, IsLink, IsTopology, has_link}
-use Rattle.schedule.specs.Judging.{group_at}
+use Rattle.schedule.specs.{Links.{GroupValue, TopologyValue, IsBelow, IsGroup, IsLink, IsTopology, has_link}, Judging.group_at}
 use Rattle.link_faults.specs.Narrowed.{with_width, without, has_links, left_of, groups_after, narrowed}
 
 pub left_each : (P : GroupValue → Type 0) (lost : GroupValue) → ((group : GroupValue) → P group → has_links (without lost group) ≡ true → P (without lost group))

@@ -1,8 +1,6 @@
 -- Which refutations a fault leaves standing. This project's own.
-use Rattle.std.specs.Prelude.{◌≡◌, ◌==◌, ◌&&◌, ℕ, ◌+◌, ◌≤◌, Bool, not, List, filter, nat_le}
-use Rattle.std.specs.List.{list_any}
-use Rattle.candidate_order.specs.declared.candidate.Candidate.{Candidate}
-use Rattle.candidate_order.specs.Frontiers.{QuestionValue, IsSolvable}
+use Rattle.std.specs.{Prelude.{◌≡◌, ◌==◌, ◌&&◌, ℕ, ◌+◌, ◌≤◌, Bool, not, List, filter, nat_le}, List.list_any}
+use Rattle.candidate_order.specs.{declared.candidate.Candidate.Candidate, Frontiers.{QuestionValue, IsSolvable}}
 use Rattle.link_faults.specs.Narrowed.{narrowed}
 
 -- as many steps, no fewer rounds, and no more chunks: where a has no schedule, b has none on fewer links

@@ -1,21 +1,12 @@
 //! What a fault takes away and what it leaves standing.
 
 ghost use Rattle.std.specs.Prelude.{◌≡◌, ◌≢◌, ◌↔◌, ◌<◌, ◌≤◌, ℕ, true, List, length, All, Any};
-ghost use Rattle.schedule.specs.Links.{TopologyValue, IsTopology, reversed_group, reversed_of};
-ghost use Rattle.schedule.specs.Placed.{PlacementValue};
+ghost use Rattle.schedule.specs.{Links.{TopologyValue, IsTopology, reversed_group, reversed_of}, Placed.PlacementValue, Judging.group_at, Sends.ScheduleValue};
+ghost use Rattle.schedule.specs.{Fitting.Fits, Solving.Solvable, Summing.SummedSolvable};
 ghost use Rattle.collective_spec.specs.Collectives.{IsSpec, adds_up, kind_in};
-ghost use Rattle.schedule.specs.Judging.{group_at};
-ghost use Rattle.schedule.specs.Sends.{ScheduleValue};
-ghost use Rattle.schedule.specs.Fitting.{Fits};
-ghost use Rattle.schedule.specs.Solving.{Solvable};
-ghost use Rattle.schedule.specs.Summing.{SummedSolvable};
-ghost use Rattle.candidate_order.specs.declared.candidate.Candidate.{Candidate};
-ghost use Rattle.candidate_order.specs.Copied.{copied_question};
-ghost use Rattle.candidate_order.specs.Frontiers.{QuestionValue, IsSolvable, IsWithin};
-ghost use Rattle.candidate_formula.specs.Questions.{IsSmallQuestion};
-ghost use Rattle.candidate_formula.specs.Sizes.{size_of};
-ghost use Rattle.link_faults.specs.Narrowed.{narrowed};
-ghost use Rattle.link_faults.specs.Carrying.{Carries, HasFewRounds, IsOldRefuted, is_carried, is_carrier, narrowed_question};
+ghost use Rattle.candidate_order.specs.{declared.candidate.Candidate.Candidate, Copied.copied_question, Frontiers.{QuestionValue, IsSolvable, IsWithin}};
+ghost use Rattle.candidate_formula.specs.{Questions.IsSmallQuestion, Sizes.size_of};
+ghost use Rattle.link_faults.specs.{Narrowed.narrowed, Carrying.{Carries, HasFewRounds, IsOldRefuted, is_carried, is_carrier, narrowed_question}};
 
 use collective_spec::Kind;
 

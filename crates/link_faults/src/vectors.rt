@@ -3,9 +3,7 @@
 ghost use Rattle.std.specs.Prelude.{◌≡◌, true, false, [], ◌∷◌};
 ghost use Rattle.schedule.specs.Rows.{line_of_3, only};
 ghost use Rattle.candidate_order.specs.Rows.{at};
-ghost use Rattle.link_faults.specs.Narrowed.{narrowed};
-ghost use Rattle.link_faults.specs.Rows.{line_without_first, shared_pair};
-ghost use Rattle.link_faults.specs.Carrying.{is_carrier};
+ghost use Rattle.link_faults.specs.{Narrowed.narrowed, Rows.{line_without_first, shared_pair}, Carrying.is_carrier};
 
 /// A link is gone from a row of three nodes.
 pub fn links_go()

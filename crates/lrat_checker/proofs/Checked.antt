@@ -1,25 +1,13 @@
 -- A checker stays one, line by line.
-use Rattle.std.proofs.Common.{◌≡◌, ℕ, ◌<◌, ◌≤◌, max, Bool, true, false, List, [], ◌∷◌, ◌++◌, length, take, Result, Ok, Err, refl, sym, ap, ◌∙◌, subst, arith}
-use Rattle.std.specs.Prelude.{◌&&◌, ◌||◌, ◌==◌, not, filter, IfOk, if◌then◌else◌}
-use Rattle.std.specs.List.{list_any}
-use Rattle.std.proofs.lemmas.Bool.{false≢true, lt-leb, ne_eqb}
-use Rattle.std.proofs.lemmas.List.{take-append-le, length-take-le, length_push}
-use Rattle.cnf_formula.specs.Lines.{ProofLineValue, DeletionValue}
-use Rattle.cnf_formula.specs.Literals.{LitValue}
-use Rattle.cnf_formula.specs.declared.line.LratLine.TheVariants.{Addition, Deletion}
-use Rattle.proof_rules.specs.declared.verdict.LineVerdict.{LineVerdict}
-use Rattle.proof_rules.specs.declared.verdict.LineVerdict.TheVariants.{Accepted, Refused}
-use Rattle.proof_rules.specs.declared.verdict.LineCode.TheVariants.{IdNotGreater, VariableRange, VariableTwice}
-use Rattle.proof_rules.specs.Held.{Entry, CheckerValue, is_empty}
-use Rattle.proof_rules.specs.Testing.{are_held, has_number_twice}
-use Rattle.proof_rules.specs.Judging.{verdict_of, deletion_verdict, is_foreign, has_variable_twice, led_verdict, is_accepted}
-use Rattle.proof_rules.specs.Accepting.{IsNew}
-use Rattle.lrat_checker.specs.inner.Marking.{MarksValue}
-use Rattle.lrat_checker.specs.Stored.{TableValue}
-use Rattle.lrat_checker.specs.Checking.{checker_of, CanCheck}
+use Rattle.std.proofs.Common.{◌≡◌, ℕ, ◌<◌, ◌≤◌, max, Bool, true, false, List, [], ◌∷◌, ◌++◌, length, take, Result, Ok, Err, refl, sym, ap, ◌∙◌, subst, arith, ◌&&◌, ◌||◌, ◌==◌, not, filter, IfOk, if◌then◌else◌}
+use Rattle.std.{specs.List.list_any, proofs.lemmas.{Bool.{false≢true, lt-leb, ne_eqb}, List.{take-append-le, length-take-le, length_push}}}
+use Rattle.cnf_formula.specs.{Lines.{ProofLineValue, DeletionValue}, Literals.LitValue, declared.line.LratLine.TheVariants.{Addition, Deletion}}
+use Rattle.proof_rules.specs.{declared.verdict.LineVerdict.{LineVerdict, TheVariants.{Accepted, Refused}}, Held.{Entry, CheckerValue, is_empty}}
+use Rattle.proof_rules.specs.{declared.verdict.LineCode.TheVariants.{IdNotGreater, VariableRange, VariableTwice}, Testing.{are_held, has_number_twice}}
+use Rattle.proof_rules.specs.{Judging.{verdict_of, deletion_verdict, is_foreign, has_variable_twice, led_verdict, is_accepted}, Accepting.IsNew}
 use Rattle.proof_rules.specs.Refuting.{with_line, IsChecker}
-use Rattle.proof_rules.proofs.Kept.{stays_checker}
-use Rattle.proof_rules.proofs.Verdicts.{implied_by, redundant_by}
+use Rattle.proof_rules.proofs.{Kept.stays_checker, Verdicts.{implied_by, redundant_by}}
+use Rattle.lrat_checker.specs.{inner.Marking.MarksValue, Stored.TableValue, Checking.{checker_of, CanCheck}}
 
 accepted_new : (c : CheckerValue) (line : ProofLineValue) → is_accepted (verdict_of c line) ≡ true → IsNew c line
 accepted_new c line a = go (verdict_of c line) refl a

@@ -1,20 +1,11 @@
 -- Held clauses of which every literal stands in a clause.
-use Rattle.std.proofs.Common.{◌≡◌, ℕ, zero, suc, ◌<◌, Bool, true, false, List, [], ◌∷◌, length, get_or, refl, sym, ap, ◌∙◌, ⊎_elim, arith}
-use Rattle.std.specs.Prelude.{◌||◌, Contains}
-use Rattle.std.specs.List.{list_any}
-use Rattle.std.proofs.lemmas.Bool.{false≢true, cases_Bool, or_parts}
-use Rattle.std.proofs.lemmas.List.{get_or_default}
-use Rattle.std.proofs.lemmas.List.Elements.{All-contains}
-use Rattle.std.proofs.lemmas.List.Sums.{AllPass-from_list_all}
-use Rattle.std.proofs.lemmas.Map.Views.{Contains-from_any}
-use Rattle.cnf_formula.specs.Literals.{LitValue, has_literal, is_superset, code_of}
-use Rattle.cnf_formula.proofs.Clauses.{same_is}
-use Rattle.lrat_checker.specs.inner.Leads.{signature_of, IsLead}
-use Rattle.lrat_checker.specs.declared.leads.LedClause.{LedClause}
-use Rattle.lrat_checker.specs.Stored.{list_at, led_as, IsLed, held_of, finds}
-use Rattle.lrat_checker.proofs.Signed.{signature_within}
+use Rattle.std.proofs.Common.{◌≡◌, ℕ, zero, suc, ◌<◌, Bool, true, false, List, [], ◌∷◌, length, get_or, refl, sym, ap, ◌∙◌, ⊎_elim, arith, ◌||◌, Contains}
+use Rattle.std.{specs.List.list_any, proofs.lemmas.{Bool.{false≢true, cases_Bool, or_parts}, List.{get_or_default, Elements.All-contains}}}
+use Rattle.std.proofs.lemmas.{List.Sums.AllPass-from_list_all, Map.Views.Contains-from_any}
+use Rattle.cnf_formula.{specs.Literals.{LitValue, has_literal, is_superset, code_of}, proofs.Clauses.same_is}
+use Rattle.lrat_checker.specs.{inner.Leads.{signature_of, IsLead}, declared.leads.LedClause.LedClause, Stored.{list_at, led_as, IsLed, held_of, finds}}
+use Rattle.lrat_checker.proofs.{Signed.signature_within, Placed.live_within}
 use Rattle.proof_rules.specs.Held.{Entry}
-use Rattle.lrat_checker.proofs.Placed.{live_within}
 
 -- ---- a test of what is held, by places
 

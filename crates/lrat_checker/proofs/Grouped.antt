@@ -1,20 +1,9 @@
 -- Groups one after another.
-use Rattle.std.proofs.Common.{◌≡◌, ℕ, ◌+◌, ◌<◌, Bool, true, false, List, [], ◌∷◌, length, drop, get_or, Option, Some, None, refl, sym, ap, ◌∙◌, arith}
-use Rattle.std.specs.Prelude.{◌==◌, ◌||◌, ℤ, pos, negsuc}
-use Rattle.std.specs.List.{list_any}
-use Rattle.std.specs.BTreeSet.{BTreeSet, contains}
-use Rattle.std.specs.Ordering.{nat_cmp}
-use Rattle.std.proofs.lemmas.Bool.{false≢true}
-use Rattle.std.specs.Prelude.{is_some}
-use Rattle.std.proofs.lemmas.Int.{to_z-of_z}
+use Rattle.std.proofs.Common.{◌≡◌, ℕ, ◌+◌, ◌<◌, Bool, true, false, List, [], ◌∷◌, length, drop, get_or, Option, Some, None, refl, sym, ap, ◌∙◌, arith, ◌==◌, ◌||◌, ℤ, pos, negsuc, is_some, w64, SFits, of_z, to_z}
+use Rattle.std.{specs.{List.list_any, BTreeSet.{BTreeSet, contains}, Ordering.nat_cmp}, proofs.lemmas.{Bool.false≢true, Int.to_z-of_z, List.drop_more}}
 use lib.IntN.{nat_abs}
-use mir.Syntax.{w64}
-use mir.Val.{SFits, of_z, to_z}
-use Rattle.std.proofs.lemmas.List.{drop_more}
 use Rattle.cnf_formula.specs.Literals.{LitValue}
-use Rattle.proof_rules.specs.Held.{Entry, clause_at}
-use Rattle.proof_rules.specs.Judging.{Fault, group_fault, groups_fault}
-use Rattle.proof_rules.specs.Accepting.{Group, leading, groups_from, groups_of}
+use Rattle.proof_rules.specs.{Held.{Entry, clause_at}, Judging.{Fault, group_fault, groups_fault}, Accepting.{Group, leading, groups_from, groups_of}}
 use Rattle.lrat_checker.specs.inner.Steps.{Same}
 
 -- the groups before this place have no fault, and their clauses are in the set

@@ -1,11 +1,6 @@
 -- The list that a clause is put into.
-use Rattle.std.proofs.Common.{ℕ, ◌+◌, ◌*◌, ◌<◌, List, [], ◌∷◌, arith}
-use Rattle.std.proofs.lemmas.List.Elements.{All-contains}
-use Rattle.std.proofs.lemmas.Map.Views.{Contains-from_any}
-use Rattle.cnf_formula.proofs.Codes.{code_within}
-use Rattle.cnf_formula.specs.Literals.{LitValue}
-use Rattle.cnf_formula.specs.Formulas.{IsAbout, IsClause}
-use Rattle.cnf_formula.proofs.Clauses.{same_is}
+use Rattle.std.proofs.{Common.{ℕ, ◌+◌, ◌*◌, ◌<◌, List, [], ◌∷◌, arith}, lemmas.{List.Elements.All-contains, Map.Views.Contains-from_any}}
+use Rattle.cnf_formula.{proofs.{Codes.code_within, Clauses.same_is}, specs.{Literals.LitValue, Formulas.{IsAbout, IsClause}}}
 use Rattle.lrat_checker.specs.inner.Leads.{IsLead}
 
 pub lead_within : (vars : ℕ) (lits : List LitValue) (code : ℕ) → IsClause vars lits → IsLead lits code → code < 2 * vars + 2

@@ -1,15 +1,11 @@
 -- Clauses that are let go, and held again.
-use Rattle.std.proofs.Common.{◌≡◌, ℕ, zero, suc, ◌+◌, ◌<◌, Bool, true, false, List, [], ◌∷◌, ◌++◌, length, take, drop, get_or, set, refl, sym, ap, ◌∙◌, inl, inr, ⊎_elim, arith}
-use Rattle.std.specs.Prelude.{◌⊎◌, ◌≢◌, ◌==◌, ◌&&◌, ◌||◌, not, filter}
-use Rattle.std.specs.List.{list_any, list_all}
-use Rattle.std.proofs.lemmas.Bool.Decides.{nat_tests}
+use Rattle.std.proofs.Common.{◌≡◌, ℕ, zero, suc, ◌+◌, ◌<◌, Bool, true, false, List, [], ◌∷◌, ◌++◌, length, take, drop, get_or, set, refl, sym, ap, ◌∙◌, inl, inr, ⊎_elim, arith, ◌⊎◌, ◌≢◌, ◌==◌, ◌&&◌, ◌||◌, not, filter}
+use Rattle.std.{specs.List.{list_any, list_all}, proofs.lemmas.{Bool.Decides.nat_tests, List.Elements.{All-head, All-tail}}}
 use Rattle.std.proofs.lemmas.Bool.{false≢true, eqb-true, cases_eq, and_cases, and_parts, not-true, not-false}
 use Rattle.std.proofs.lemmas.List.{length-set, get_or-set_same, get_or-set_other, get_or_default, same_lists, drop_more, take_more, take-append-drop}
-use Rattle.std.proofs.lemmas.List.Elements.{All-head, All-tail}
 use Rattle.cnf_formula.specs.Literals.{LitValue}
 use Rattle.proof_rules.specs.Testing.{has_number_twice, are_held}
-use Rattle.lrat_checker.specs.Stored.{held_of, is_live, kept_live, Rises}
-use Rattle.lrat_checker.proofs.Placed.{Others, rises_tail, head_below, others_above}
+use Rattle.lrat_checker.{specs.Stored.{held_of, is_live, kept_live, Rises}, proofs.Placed.{Others, rises_tail, head_below, others_above}}
 
 abbrev pub among : List ℕ → ℕ → Bool
 among gone x = list_any (λ id. id == x) gone

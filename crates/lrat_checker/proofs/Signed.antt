@@ -1,14 +1,8 @@
 -- Signatures of clauses: one that stands in another has no bit that the other lacks.
-use Rattle.std.proofs.Common.{◌≡◌, ℕ, ◌+◌, ◌<◌, ◌≤◌, true, List, [], ◌∷◌, ◌++◌, length, take, get_or, sym, ap, ◌∙◌, subst, ⊎_elim, arith}
-use Rattle.std.specs.Prelude.{max, bit_or}
-use Rattle.std.specs.Int.{bit_at}
-use Rattle.std.specs.Int.Bits.{or_zero_r, or_zero_l}
-use Rattle.std.proofs.Math.Nat.{le_trans, le-max_left, le-max_right, max-le, max-eq_right}
-use Rattle.std.proofs.lemmas.Bool.{false≢true, eq-eqb, and_parts, or_cases}
-use Rattle.std.proofs.lemmas.List.{take_more}
-use Rattle.std.proofs.lemmas.Nat.Bits.{bit_at_or, bit_at-zero, same_from_bits}
-use Rattle.cnf_formula.specs.Literals.{LitValue, same_literal, has_literal, is_superset}
-use Rattle.cnf_formula.proofs.Clauses.{same_is}
+use Rattle.std.proofs.Common.{◌≡◌, ℕ, ◌+◌, ◌<◌, ◌≤◌, true, List, [], ◌∷◌, ◌++◌, length, take, get_or, sym, ap, ◌∙◌, subst, ⊎_elim, arith, max, bit_or}
+use Rattle.std.{specs.Int.{bit_at, Bits.{or_zero_r, or_zero_l}}, proofs.Math.Nat.{le_trans, le-max_left, le-max_right, max-le, max-eq_right}}
+use Rattle.std.proofs.lemmas.{Bool.{false≢true, eq-eqb, and_parts, or_cases}, List.take_more, Nat.Bits.{bit_at_or, bit_at-zero, same_from_bits}}
+use Rattle.cnf_formula.{specs.Literals.{LitValue, same_literal, has_literal, is_superset}, proofs.Clauses.same_is}
 use Rattle.lrat_checker.specs.inner.Leads.{bit_of, signature_of, has_bits_within}
 
 -- ---- one literal more

@@ -1,25 +1,12 @@
 -- One hint after another.
-use Rattle.std.proofs.Common.{◌≡◌, ℕ, ◌+◌, ◌<◌, true, false, List, [], ◌∷◌, ◌++◌, length, drop, get_or, Option, Some, None, Result, Ok, Err, refl, sym, ap, ◌∙◌, subst, ⊎_elim, append_assoc}
-use Rattle.std.specs.Prelude.{if◌then◌else◌, ℤ, pos, negsuc, All}
-use Rattle.std.specs.List.{list_all}
-use Rattle.std.proofs.lemmas.Int.{to_z-of_z}
-use lib.IntN.{nat_abs}
-use lib.Signed.{lt_z}
-use mir.Syntax.{w64}
-use mir.Val.{SFits, of_z, to_z}
-use Rattle.std.proofs.lemmas.Bool.{false≢true, or_cases}
-use Rattle.std.proofs.lemmas.List.{drop_more}
-use Rattle.cnf_formula.specs.Literals.{LitValue, same_literal, has_literal, negation}
-use Rattle.proof_rules.specs.declared.verdict.LineCode.{LineCode}
-use Rattle.proof_rules.specs.declared.verdict.LineCode.TheVariants.{HintNotUnit}
-use Rattle.proof_rules.specs.Held.{Entry, clause_at, open_literals}
-use Rattle.proof_rules.specs.Judging.{given_by, led_to}
+use Rattle.std.proofs.Common.{◌≡◌, ℕ, ◌+◌, ◌<◌, true, false, List, [], ◌∷◌, ◌++◌, length, drop, get_or, Option, Some, None, Result, Ok, Err, refl, sym, ap, ◌∙◌, subst, ⊎_elim, append_assoc, if◌then◌else◌, ℤ, pos, negsuc, All, w64, SFits, of_z, to_z}
+use Rattle.std.{specs.List.list_all, proofs.lemmas.{Int.to_z-of_z, Bool.{false≢true, or_cases}, List.{drop_more, Elements.{All-head, All-tail}}}}
+use lib.{IntN.nat_abs, Signed.lt_z}
+use Rattle.cnf_formula.{specs.{Literals.{LitValue, same_literal, has_literal, negation}, Formulas.IsAbout}, proofs.Clauses.same_is}
+use Rattle.proof_rules.specs.{declared.verdict.LineCode.{LineCode, TheVariants.HintNotUnit}, Held.{Entry, clause_at, open_literals}, Judging.{given_by, led_to}}
 use Rattle.proof_rules.specs.Accepting.{leading}
-use Rattle.lrat_checker.specs.inner.Marking.{Extends}
-use Rattle.cnf_formula.specs.Formulas.{IsAbout}
-use Rattle.cnf_formula.proofs.Clauses.{same_is}
-use Rattle.std.proofs.lemmas.List.Elements.{All-head, All-tail}
 use Rattle.proof_rules.proofs.Taking.{gives_some, first_open}
+use Rattle.lrat_checker.specs.inner.Marking.{Extends}
 
 -- ---- the literals of a clause
 

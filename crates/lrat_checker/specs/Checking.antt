@@ -1,9 +1,7 @@
 -- A checker by its parts.
 use Rattle.std.specs.Prelude.{◌≡◌, ℕ, ◌≤◌, max, Bool, [], length, take}
-use Rattle.proof_rules.specs.Held.{CheckerValue}
-use Rattle.lrat_checker.specs.inner.Marking.{MarksValue}
-use Rattle.lrat_checker.specs.Stored.{TableValue}
-use Rattle.proof_rules.specs.Refuting.{IsChecker}
+use Rattle.proof_rules.specs.{Held.CheckerValue, Refuting.IsChecker}
+use Rattle.lrat_checker.specs.{inner.Marking.MarksValue, Stored.TableValue}
 
 -- the first clauses of the table are the formula's
 abbrev pub checker_of : TableValue → ℕ → ℕ → Bool → CheckerValue

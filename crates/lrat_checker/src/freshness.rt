@@ -1,9 +1,7 @@
 //! Whether a clause says more than any held one, so that none subsumes it.
 
-ghost use Rattle.std.specs.Prelude.{◌≡◌, ◌||◌, not, [], IfOk, OnOk};
-ghost use Rattle.std.specs.List.{list_any};
-ghost use Rattle.cnf_formula.specs.Literals.{is_superset};
-ghost use Rattle.cnf_formula.specs.Formulas.{IsClause};
+ghost use Rattle.std.specs.{Prelude.{◌≡◌, ◌||◌, not, [], IfOk, OnOk}, List.list_any};
+ghost use Rattle.cnf_formula.specs.{Literals.is_superset, Formulas.IsClause};
 ghost use Rattle.proof_rules.specs.Held.{is_empty};
 
 use crate::marks::Marks;

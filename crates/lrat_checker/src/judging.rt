@@ -1,7 +1,6 @@
 //! The checks of an addition, in their order.
 
-ghost use Rattle.std.specs.Prelude.{◌≡◌, true, [], not, Ok, IfOk, if◌then◌else◌};
-ghost use Rattle.std.specs.List.{list_any};
+ghost use Rattle.std.specs.{Prelude.{◌≡◌, true, [], not, Ok, IfOk, if◌then◌else◌}, List.list_any};
 ghost use Rattle.cnf_formula.specs.Formulas.{IsClause};
 ghost use Rattle.proof_rules.specs.Judging.{is_foreign, has_variable_twice, led_verdict};
 

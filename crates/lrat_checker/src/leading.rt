@@ -2,13 +2,9 @@
 //! hints).
 
 ghost use Rattle.std.specs.Prelude.{◌≡◌, ℕ, ◌+◌, ◌<◌, ◌≤◌, ◌∷◌, List, length, drop, IfOk, negsuc};
-ghost use Rattle.cnf_formula.specs.Literals.{LitValue};
-ghost use Rattle.cnf_formula.specs.Formulas.{IsClause};
-ghost use Rattle.proof_rules.specs.Held.{open_literals};
-ghost use Rattle.proof_rules.specs.Judging.{given_by, after_conflict, led_to};
-ghost use Rattle.proof_rules.specs.Accepting.{leading, groups_from};
-ghost use Rattle.lrat_checker.specs.inner.Marking.{Extends};
-ghost use Rattle.lrat_checker.specs.inner.Steps.{led_as};
+ghost use Rattle.cnf_formula.specs.{Literals.LitValue, Formulas.IsClause};
+ghost use Rattle.proof_rules.specs.{Held.open_literals, Judging.{given_by, after_conflict, led_to}, Accepting.{leading, groups_from}};
+ghost use Rattle.lrat_checker.specs.inner.{Marking.Extends, Steps.led_as};
 
 use crate::marks::Marks;
 use crate::table::ClauseTable;

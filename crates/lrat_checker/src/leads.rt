@@ -1,12 +1,9 @@
 //! Clauses that are led by one of their literals, and signatures, by which most of them are passed
 //! over.
 
-ghost use Rattle.std.specs.Prelude.{◌≡◌, ◌<◌, All, length};
-ghost use Rattle.std.specs.List.{list_any};
-ghost use Rattle.cnf_formula.specs.Literals.{code_of, is_superset};
-ghost use Rattle.cnf_formula.specs.Formulas.{IsClause};
-ghost use Rattle.lrat_checker.specs.inner.Leads.{IsLead};
-ghost use Rattle.lrat_checker.specs.Stored.{finds};
+ghost use Rattle.std.specs.{Prelude.{◌≡◌, ◌<◌, All, length}, List.list_any};
+ghost use Rattle.cnf_formula.specs.{Literals.{code_of, is_superset}, Formulas.IsClause};
+ghost use Rattle.lrat_checker.specs.{inner.Leads.IsLead, Stored.finds};
 
 use crate::marks::Marks;
 use cnf_formula::{ClauseList, Lit};

@@ -1,8 +1,7 @@
 //! Literals that are marked as false.
 
 ghost use Rattle.std.specs.Prelude.{◌≡◌, ◌+◌, ◌-◌, ◌≤◌, [], ◌∷◌, length, drop, IfOk, OnOk, OnErr};
-ghost use Rattle.cnf_formula.specs.Literals.{has_literal};
-ghost use Rattle.cnf_formula.specs.Formulas.{IsAbout};
+ghost use Rattle.cnf_formula.specs.{Literals.has_literal, Formulas.IsAbout};
 ghost use Rattle.proof_rules.specs.Accepting.{is_made_true};
 ghost use Rattle.lrat_checker.specs.inner.Marking.{MarksValue};
 

@@ -2,15 +2,10 @@
 //! those that it leads.
 
 ghost use Rattle.std.specs.Prelude.{◌≡◌, ◌≢◌, ◌==◌, ℕ, ◌+◌, ◌<◌, ◌||◌, ◌&&◌, not, [], ◌∷◌, ◌++◌, Bool, false, List, length, map, filter, All, Contains, IfOk, IfSome, OnOk, OnErr, MatchOption, slice_index, slice_set, true, if◌then◌else◌, ◌≤◌};
-ghost use Rattle.std.specs.List.{list_any, list_all, enumerate_from};
-ghost use Rattle.std.specs.Option.{option_copied};
-ghost use Rattle.cnf_formula.specs.Literals.{LitValue, code_of, has_literal, is_superset};
-ghost use Rattle.cnf_formula.specs.Formulas.{IsAbout, IsClause};
-ghost use Rattle.proof_rules.specs.Held.{clause_at};
-ghost use Rattle.proof_rules.specs.Testing.{are_held, has_number_twice};
-ghost use Rattle.proof_rules.specs.Accepting.{Group, is_made_true, without_negated};
-ghost use Rattle.lrat_checker.specs.Stored.{TableValue, HasForgotten, Rises, list_at, is_live, kept_live, answers};
-ghost use Rattle.lrat_checker.specs.inner.Steps.{Names};
+ghost use Rattle.std.specs.{List.{list_any, list_all, enumerate_from}, Option.option_copied};
+ghost use Rattle.cnf_formula.specs.{Literals.{LitValue, code_of, has_literal, is_superset}, Formulas.{IsAbout, IsClause}};
+ghost use Rattle.proof_rules.specs.{Held.clause_at, Testing.{are_held, has_number_twice}, Accepting.{Group, is_made_true, without_negated}};
+ghost use Rattle.lrat_checker.specs.{Stored.{TableValue, HasForgotten, Rises, list_at, is_live, kept_live, answers}, inner.Steps.Names};
 
 use crate::leads::{LedClause, has_marked, lead_of, signature_of};
 use crate::lists::{empty_lists, note};

@@ -1,12 +1,7 @@
 -- The tokens of bytes, by the spaces and tabs at their front.
-use Rattle.std.proofs.Common.{◌≡◌, ℕ, ◌+◌, ◌-◌, ◌<◌, ◌≤◌, Bool, true, false, List, [], ◌∷◌, ◌++◌, length, get_or, drop, slice_range, ◌≢◌, refl, sym, ap, ◌∙◌, arith}
-use Rattle.std.specs.Prelude.{◌==◌, ◌||◌, nat_lt, filter}
-use Rattle.std.specs.List.{All}
-use Rattle.std.proofs.lemmas.Bool.{lt-ltb}
-use Rattle.std.proofs.lemmas.List.{append-nil, length-drop, length-take, get_or-take, get_or-drop, take_rest}
-use Rattle.std.proofs.lemmas.List.Folds.{drop_split}
-use Rattle.std.proofs.lemmas.List.Elements.{All-from_get_or}
-use Rattle.std.proofs.lemmas.List.Splits.{slice_split_at, slice_split_none, slice_split-cons_yes}
+use Rattle.std.proofs.Common.{◌≡◌, ℕ, ◌+◌, ◌-◌, ◌<◌, ◌≤◌, Bool, true, false, List, [], ◌∷◌, ◌++◌, length, get_or, drop, slice_range, ◌≢◌, refl, sym, ap, ◌∙◌, arith, ◌==◌, ◌||◌, nat_lt, filter}
+use Rattle.std.{specs.List.All, proofs.lemmas.{Bool.lt-ltb, List.{append-nil, length-drop, length-take, get_or-take, get_or-drop, take_rest, Folds.drop_split}}}
+use Rattle.std.proofs.lemmas.List.{Elements.All-from_get_or, Splits.{slice_split_at, slice_split_none, slice_split-cons_yes}}
 use Rattle.lrat_text.specs.Tokens.{Token, placed_from, tokens_from}
 
 abbrev pub is_blank : ℕ → Bool

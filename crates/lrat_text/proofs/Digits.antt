@@ -1,14 +1,9 @@
 -- The number that digits spell, and how it is read.
-use Rattle.std.proofs.Common.{◌≡◌, ◌≢◌, ℕ, ◌^◌, ◌<◌, ◌≤◌, true, List, [], ◌∷◌, length, get_or, refl, ap, ◌∙◌, ⊎_elim, arith}
-use Rattle.std.specs.Prelude.{◌==◌, ◌&&◌, not, Ok, Err, decimal, nat_le, nat_lt}
-use Rattle.std.specs.List.{list_all}
-use Rattle.std.specs.Str.Parse.{AllDigits, digits_value}
+use Rattle.std.proofs.Common.{◌≡◌, ◌≢◌, ℕ, ◌^◌, ◌<◌, ◌≤◌, true, List, [], ◌∷◌, length, get_or, refl, ap, ◌∙◌, ⊎_elim, arith, ◌==◌, ◌&&◌, not, Ok, Err, decimal, nat_le, nat_lt}
+use Rattle.std.{specs.{List.list_all, Str.Parse.{AllDigits, digits_value}}, proofs.lemmas.Fmt.decimal_digit}
 use Rattle.std.proofs.lemmas.Bool.{and_parts, leb-true, lt-ltb, cases_lt, not-true, eqb-false, ltb-true}
-use Rattle.std.proofs.lemmas.Fmt.{decimal_digit}
 use Rattle.text_lines.proofs.Numbers.{digit_is, spells}
-use Rattle.lrat_text.specs.declared.fault.LratTextFault.TheVariants.{NumberRange}
-use Rattle.lrat_text.specs.Tokens.{is_number, number_from}
-use Rattle.lrat_text.proofs.Spelled.{number_read}
+use Rattle.lrat_text.{specs.{declared.fault.LratTextFault.TheVariants.NumberRange, Tokens.{is_number, number_from}}, proofs.Spelled.number_read}
 
 -- what a number is made of
 record IsSpelled (digits : List ℕ) : Type 0 where

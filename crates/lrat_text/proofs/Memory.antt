@@ -1,12 +1,9 @@
 -- No text is at fault for out of memory.
-use Rattle.std.proofs.Common.{◌≡◌, ◌≢◌, ℕ, ◌+◌, Bool, true, false, cond, List, [], ◌∷◌, length, Option, None, Some, Result, Ok, Err, ap}
-use Rattle.std.specs.Prelude.{◌==◌, ◌||◌, not, nat_lt, codes, slice_index}
+use Rattle.std.proofs.Common.{◌≡◌, ◌≢◌, ℕ, ◌+◌, Bool, true, false, cond, List, [], ◌∷◌, length, Option, None, Some, Result, Ok, Err, ap, ◌==◌, ◌||◌, not, nat_lt, codes, slice_index}
 use Rattle.std.specs.Str.Parse.{digits_value}
-use Rattle.text_lines.specs.Text.{Row}
-use Rattle.text_lines.specs.Check.{◌>>=◌, refuse}
+use Rattle.text_lines.specs.{Text.Row, Check.{◌>>=◌, refuse}}
 use Rattle.cnf_formula.specs.declared.line.LratLine.{LratLine}
-use Rattle.lrat_text.specs.declared.fault.LratTextFault.{LratTextFault}
-use Rattle.lrat_text.specs.declared.fault.LratTextFault.TheVariants.{BadToken, NumberRange, Truncated, OutOfMemory}
+use Rattle.lrat_text.specs.declared.fault.LratTextFault.{LratTextFault, TheVariants.{BadToken, NumberRange, Truncated, OutOfMemory}}
 use Rattle.lrat_text.specs.Tokens.{Token, tokens_from, content, is_word, is_number, number_from, after_minus, id_of, literal_of, hint_of}
 use Rattle.lrat_text.specs.Reading.{up_to_zero, no_more, addition_of, deletion_of, behind_id, line_of, row_says, size_of, Said, nothing_said, said_at, said_by}
 

@@ -1,23 +1,15 @@
 -- The text of a line is read as that line.
-use Rattle.std.proofs.Common.{◌≡◌, ℕ, zero, suc, ◌+◌, ◌-◌, ◌^◌, ◌<◌, Bool, true, false, List, [], ◌∷◌, ◌++◌, length, get_or, map, Some, Result, Ok, refl, sym, ap, ◌∙◌, subst, arith, lit<, length-append, append_assoc, append-nil}
-use Rattle.std.specs.Prelude.{◌==◌, nat_lt, filter, All, ℤ, decimal, codes}
-use Rattle.std.specs.List.{list_all, slice_split, join_with_byte}
-use Rattle.std.proofs.lemmas.Bool.{and_parts, and_from, or_from, ne_eqb, lt-ltb, ltb-true}
-use Rattle.std.proofs.lemmas.List.Elements.{All-head, All-tail}
-use Rattle.std.proofs.lemmas.List.Folds.{list_all-append}
-use Rattle.text_lines.specs.Text.{Row, onto_row, rows_of, line}
-use Rattle.text_lines.specs.Check.{◌>>=◌}
-use Rattle.cnf_formula.specs.Literals.{LitValue, IsLit}
-use Rattle.cnf_formula.specs.Lines.{ProofLineValue, DeletionValue}
-use Rattle.cnf_formula.specs.declared.line.LratLine.{LratLine}
+use Rattle.std.proofs.Common.{◌≡◌, ℕ, zero, suc, ◌+◌, ◌-◌, ◌^◌, ◌<◌, Bool, true, false, List, [], ◌∷◌, ◌++◌, length, get_or, map, Some, Result, Ok, refl, sym, ap, ◌∙◌, subst, arith, lit<, length-append, append_assoc, append-nil, ◌==◌, nat_lt, filter, All, ℤ, decimal, codes}
+use Rattle.std.{specs.List.{list_all, slice_split, join_with_byte}, proofs.lemmas.Bool.{and_parts, and_from, or_from, ne_eqb, lt-ltb, ltb-true}}
+use Rattle.std.proofs.lemmas.List.{Elements.{All-head, All-tail}, Folds.list_all-append}
+use Rattle.text_lines.specs.{Text.{Row, onto_row, rows_of, line}, Check.◌>>=◌}
+use Rattle.cnf_formula.specs.{Literals.{LitValue, IsLit}, Lines.{ProofLineValue, DeletionValue}, declared.line.LratLine.LratLine}
 use Rattle.cnf_formula.specs.declared.line.LratLine.TheVariants.{Addition, Deletion}
-use Rattle.lrat_text.specs.declared.fault.LratTextFault.{LratTextFault}
-use Rattle.lrat_text.specs.declared.fault.LratTextFault.TheVariants.{BadToken}
+use Rattle.lrat_text.specs.declared.fault.LratTextFault.{LratTextFault, TheVariants.BadToken}
 use Rattle.lrat_text.specs.Printing.{literal_word, hint_word, closed, line_words, IsId, IsHint, IsReadable}
 use Rattle.lrat_text.specs.Tokens.{Token, placed_from, tokens_from, content, id_of, literal_of, hint_of}
 use Rattle.lrat_text.specs.Reading.{up_to_zero, no_more, addition_of, deletion_of, behind_id, line_of, row_says, size_of, Said, said_at, said_by}
-use Rattle.lrat_text.proofs.Spelled.{IsWord, ReadsAs, id_reads, literal_reads, hint_reads, no_comment}
-use Rattle.lrat_text.proofs.Blanks.{is_blank, token}
+use Rattle.lrat_text.proofs.{Spelled.{IsWord, ReadsAs, id_reads, literal_reads, hint_reads, no_comment}, Blanks.{is_blank, token}}
 
 abbrev pub whole : List ℕ → Row
 whole bytes = record { bytes = bytes; whole = true }

@@ -1,16 +1,11 @@
 -- The words of numbers, literals and hints are read as what they spell.
-use Rattle.std.proofs.Common.{◌≡◌, ◌⊎◌, inl, inr, ℕ, suc, ◌+◌, ◌^◌, ◌<◌, ◌≤◌, Bool, true, false, List, [], ◌∷◌, length, get_or, drop, Result, Ok, refl, ap, ◌∙◌, ⊎_elim, arith, lit<}
-use Rattle.std.specs.Prelude.{◌&&◌, ◌==◌, not, nat_lt, nat_le, if◌then◌else◌, ℤ, pos, negsuc, neg_ℤ, decimal, bytes_eq, codes}
-use Rattle.std.specs.List.{list_all}
-use Rattle.std.specs.Str.Parse.{AllDigits, digits_value}
-use Rattle.std.proofs.lemmas.Bool.{and_from, ne_eqb, lt-ltb, le-ltb, le-leb, false_from_ne_true, cases_Bool}
-use Rattle.std.proofs.lemmas.Fmt.{decimal_is_IsNumeral, decimal_nonempty, first_decimal}
-use Rattle.std.proofs.lemmas.Slice.Eq.{bytes_eq-Decides}
+use Rattle.std.proofs.Common.{◌≡◌, ◌⊎◌, inl, inr, ℕ, suc, ◌+◌, ◌^◌, ◌<◌, ◌≤◌, Bool, true, false, List, [], ◌∷◌, length, get_or, drop, Result, Ok, refl, ap, ◌∙◌, ⊎_elim, arith, lit<, ◌&&◌, ◌==◌, not, nat_lt, nat_le, if◌then◌else◌, ℤ, pos, negsuc, neg_ℤ, decimal, bytes_eq, codes}
+use Rattle.std.{specs.{List.list_all, Str.Parse.{AllDigits, digits_value}}, proofs.lemmas.Fmt.{decimal_is_IsNumeral, decimal_nonempty, first_decimal}}
+use Rattle.std.proofs.lemmas.{Bool.{and_from, ne_eqb, lt-ltb, le-ltb, le-leb, false_from_ne_true, cases_Bool}, Slice.Eq.bytes_eq-Decides}
 use Rattle.std.proofs.lemmas.Str.Parse.{digit_from_value}
 use Rattle.text_lines.specs.Check.{◌>>=◌}
 use Rattle.cnf_formula.specs.Literals.{LitValue, IsLit}
-use Rattle.lrat_text.specs.declared.fault.LratTextFault.{LratTextFault}
-use Rattle.lrat_text.specs.Printing.{literal_word, hint_word, IsId, IsHint}
+use Rattle.lrat_text.specs.{declared.fault.LratTextFault.LratTextFault, Printing.{literal_word, hint_word, IsId, IsHint}}
 use Rattle.lrat_text.specs.Tokens.{Token, is_word, is_number, number_from, has_minus, after_minus, id_of, literal_of, hint_of}
 use Rattle.lrat_text.proofs.Blanks.{token}
 

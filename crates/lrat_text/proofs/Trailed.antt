@@ -1,6 +1,5 @@
 -- Words with a space behind each, and lines of them.
-use Rattle.std.proofs.Common.{◌≡◌, ℕ, List, [], ◌∷◌, ◌++◌, refl, sym, ap, ◌∙◌, append_assoc, append-nil}
-use Rattle.std.specs.List.{join_with_byte}
+use Rattle.std.{proofs.Common.{◌≡◌, ℕ, List, [], ◌∷◌, ◌++◌, refl, sym, ap, ◌∙◌, append_assoc, append-nil}, specs.List.join_with_byte}
 use Rattle.text_lines.specs.Text.{line}
 use Rattle.lrat_text.specs.Printing.{trailed, closed}
 

@@ -1,11 +1,7 @@
 -- The text of a formula (DIMACS CNF) and of proof lines (LRAT: Cruz-Filipe et al. 2017), as tokens of lines.
-use Rattle.std.specs.Prelude.{ℕ, ◌+◌, ◌<◌, ◌≤◌, All, if◌then◌else◌, List, [], ◌∷◌, ◌++◌, length, map, ℤ, pos, negsuc, decimal, codes}
-use Rattle.std.specs.List.{flat_map}
+use Rattle.std.specs.{Prelude.{ℕ, ◌+◌, ◌<◌, ◌≤◌, All, if◌then◌else◌, List, [], ◌∷◌, ◌++◌, length, map, ℤ, pos, negsuc, decimal, codes}, List.flat_map}
 use Rattle.text_lines.specs.Text.{text_of}
-use Rattle.cnf_formula.specs.Literals.{LitValue, IsLit}
-use Rattle.cnf_formula.specs.Formulas.{FormulaValue}
-use Rattle.cnf_formula.specs.declared.line.LratLine.{LratLine}
-use Rattle.cnf_formula.specs.declared.line.LratLine.TheVariants.{Addition, Deletion}
+use Rattle.cnf_formula.specs.{Literals.{LitValue, IsLit}, Formulas.FormulaValue, declared.line.LratLine.{LratLine, TheVariants.{Addition, Deletion}}}
 
 -- a negated literal and a negative hint have a minus sign
 abbrev pub literal_word : LitValue → List ℕ

@@ -1,12 +1,9 @@
 -- A line as tokens with their places, and what a token says where it stands (LRAT: Cruz-Filipe et al. 2017; the leniency is this project's own).
 use Rattle.std.specs.Prelude.{ℕ, ◌+◌, ◌-◌, ◌==◌, ◌&&◌, ◌||◌, not, Bool, if◌then◌else◌, List, [], ◌∷◌, length, take, drop, filter, slice_index, nat_le, nat_lt, Result, Ok, ℤ, pos, neg_ℤ, bytes_eq}
-use Rattle.std.specs.List.{list_all, slice_split}
-use Rattle.std.specs.Str.Parse.{digits_value}
-use Rattle.text_lines.specs.Text.{Row}
-use Rattle.text_lines.specs.Check.{◌>>=◌, refuse}
+use Rattle.std.specs.{List.{list_all, slice_split}, Str.Parse.digits_value}
+use Rattle.text_lines.specs.{Text.Row, Check.{◌>>=◌, refuse}}
 use Rattle.cnf_formula.specs.Literals.{LitValue}
-use Rattle.lrat_text.specs.declared.fault.LratTextFault.{LratTextFault}
-use Rattle.lrat_text.specs.declared.fault.LratTextFault.TheVariants.{BadToken, NumberRange}
+use Rattle.lrat_text.specs.declared.fault.LratTextFault.{LratTextFault, TheVariants.{BadToken, NumberRange}}
 
 -- the offset of its first byte, and its bytes
 pub record Token : Type 0 where

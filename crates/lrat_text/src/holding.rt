@@ -2,8 +2,7 @@
 
 ghost use Rattle.std.specs.Prelude.{◌≡◌, ℕ, ◌+◌, ◌^◌, ◌<◌, ◌≤◌, length, drop, IfSome, IfNone, IfOk, OnSome};
 ghost use Rattle.text_lines.specs.Text.{rows_of};
-ghost use Rattle.lrat_text.specs.Reading.{nothing_said, said_by};
-ghost use Rattle.lrat_text.specs.inner.Holding.{IsClear, IsFirstFrom};
+ghost use Rattle.lrat_text.specs.{Reading.{nothing_said, said_by}, inner.Holding.{IsClear, IsFirstFrom}};
 
 use crate::fault::LratTextFault;
 use crate::lines::row_says;

@@ -1,10 +1,8 @@
 //! What one line of a text says.
 
-ghost use Rattle.std.specs.Prelude.{◌≡◌, ◌+◌, ◌^◌, ◌<◌, ◌≤◌, length};
-ghost use Rattle.std.specs.Option.{option_transpose};
+ghost use Rattle.std.specs.{Prelude.{◌≡◌, ◌+◌, ◌^◌, ◌<◌, ◌≤◌, length}, Option.option_transpose};
 ghost use Rattle.text_lines.specs.Check.{Gives};
-ghost use Rattle.lrat_text.specs.Tokens.{content};
-ghost use Rattle.lrat_text.specs.Reading.{addition_of, deletion_of, behind_id, line_of, row_says};
+ghost use Rattle.lrat_text.specs.{Tokens.content, Reading.{addition_of, deletion_of, behind_id, line_of, row_says}};
 
 use crate::fault::LratTextFault;
 use crate::fields::{no_more, up_to_zero};

@@ -1,7 +1,6 @@
 //! What a token says where a number, a literal or a hint stands.
 
-ghost use Rattle.std.specs.Prelude.{◌≡◌, ◌<◌, ◌≤◌, ◌&&◌, nat_le, IfOk};
-ghost use Rattle.std.specs.List.{list_all};
+ghost use Rattle.std.specs.{Prelude.{◌≡◌, ◌<◌, ◌≤◌, ◌&&◌, nat_le, IfOk}, List.list_all};
 ghost use Rattle.lrat_text.specs.Tokens.{is_number, number_from, id_of, literal_of, hint_of, has_minus, after_minus};
 
 use crate::fault::LratTextFault;

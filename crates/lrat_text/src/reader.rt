@@ -25,8 +25,7 @@ pub struct LratReader {
 
 impl Model for LratReader {
     ghost use Rattle.std.specs.Prelude.{drop};
-    ghost use Rattle.lrat_text.specs.Reading.{ReaderValue};
-    ghost use Rattle.lrat_text.specs.inner.Holding.{IsHolding};
+    ghost use Rattle.lrat_text.specs.{Reading.ReaderValue, inner.Holding.IsHolding};
 
     ghost Value = { ReaderValue };
 

@@ -2,10 +2,8 @@
 
 ghost use Rattle.std.specs.Prelude.{◌≡◌, ◌++◌, true, false, [], ◌∷◌, Some, None, Ok, Err, pos, negsuc, codes};
 ghost use Rattle.text_lines.specs.Text.{rows_of};
-ghost use Rattle.cnf_formula.specs.Literals.{yes, no};
-ghost use Rattle.cnf_formula.specs.declared.line.LratLine.{LratLine};
-ghost use Rattle.lrat_text.specs.Printing.{cnf_text, lrat_text};
-ghost use Rattle.lrat_text.specs.Reading.{said_by, new_reader, fed, said_to, after_next};
+ghost use Rattle.cnf_formula.specs.{Literals.{yes, no}, declared.line.LratLine.LratLine};
+ghost use Rattle.lrat_text.specs.{Printing.{cnf_text, lrat_text}, Reading.{said_by, new_reader, fed, said_to, after_next}};
 
 use crate::fault::LratTextFault;
 use cnf_formula::LratLine;

@@ -1,8 +1,5 @@
 -- A file system in memory, as contracts see it. This project's own.
-use Rattle.std.specs.Prelude.{ℕ, List, [], Vec, String, false}
-use Rattle.std.specs.BTreeMap.{BTreeMap, get_by_text}
-use Rattle.std.specs.Option.{option_map_or}
-use Rattle.std.specs.List.{slice_get}
+use Rattle.std.specs.{Prelude.{ℕ, List, [], Vec, String, false}, BTreeMap.{BTreeMap, get_by_text}, Option.option_map_or, List.slice_get}
 use Rattle.outer_ports.specs.Disks.{Disk}
 
 -- the bytes of the file of a number, of which there may be none

@@ -1,13 +1,8 @@
 -- How many chunks have to come into a set of nodes, and how many can in each round; where the first are too many, no schedule of so many rounds solves. This project's own.
 use Rattle.std.specs.Prelude.{◌==◌, ◌&&◌, ℕ, zero, suc, ◌*◌, not, nat_lt, Bool, if◌then◌else◌, List, [], ◌∷◌, ◌++◌, length, filter, find, Option, None, Some, count_by}
-use Rattle.std.specs.List.{list_any, range_with_len, sum_by}
-use Rattle.std.specs.Option.{option_map, option_map_or}
-use Rattle.schedule.specs.Links.{TopologyValue, has_link}
-use Rattle.schedule.specs.Placed.{PlacementValue}
-use Rattle.schedule.specs.Judging.{group_at}
-use Rattle.node_cuts.specs.declared.sets.Sets.{Sets}
-use Rattle.node_cuts.specs.declared.sets.Sets.TheVariants.{Nothing, Listed, All}
-use Rattle.node_cuts.specs.Sides.{NodeSet, node_sets, mask_of}
+use Rattle.std.specs.{List.{list_any, range_with_len, sum_by}, Option.{option_map, option_map_or}}
+use Rattle.schedule.specs.{Links.{TopologyValue, has_link}, Placed.PlacementValue, Judging.group_at}
+use Rattle.node_cuts.specs.{declared.sets.Sets.{Sets, TheVariants.{Nothing, Listed, All}}, Sides.{NodeSet, node_sets, mask_of}}
 
 -- ---- what has to come in
 

@@ -1,15 +1,9 @@
 -- Which candidates a cut refutes. This project's own.
-use Rattle.std.specs.Prelude.{Bool, if◌then◌else◌, Option}
-use Rattle.std.specs.Option.{is_some, option_map}
+use Rattle.std.specs.{Prelude.{Bool, if◌then◌else◌, Option}, Option.{is_some, option_map}}
 use Rattle.schedule.specs.Links.{TopologyValue}
-use Rattle.collective_spec.specs.declared.spec.Spec.{Spec}
-use Rattle.collective_spec.specs.Collectives.{spec_instance}
-use Rattle.candidate_order.specs.declared.candidate.Candidate.{Candidate}
-use Rattle.candidate_order.specs.declared.pruning.Pruning.{Pruning}
-use Rattle.candidate_order.specs.Frontiers.{QuestionValue}
-use Rattle.node_cuts.specs.declared.sets.Sets.{Sets}
-use Rattle.node_cuts.specs.declared.sets.Sets.TheVariants.{Nothing, All}
-use Rattle.node_cuts.specs.Cuts.{CutValue, first_cut_of}
+use Rattle.collective_spec.specs.{declared.spec.Spec.Spec, Collectives.spec_instance}
+use Rattle.candidate_order.specs.{declared.{candidate.Candidate.Candidate, pruning.Pruning.Pruning}, Frontiers.QuestionValue}
+use Rattle.node_cuts.specs.{declared.sets.Sets.{Sets, TheVariants.{Nothing, All}}, Cuts.{CutValue, first_cut_of}}
 
 -- a search that may leave out what cuts refute looks at every set, and another at none
 abbrev pub sets_for : Pruning → Sets

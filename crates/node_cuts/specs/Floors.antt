@@ -1,16 +1,9 @@
 -- The least number of rounds for each chunk count, whatever the steps: a fraction that the rounds of a schedule over its chunk count are never below. This project's own.
-use Rattle.std.specs.Prelude.{ℕ, ◌*◌, ◌==◌, not, nat_lt, Bool, if◌then◌else◌, List, filter, map, find, Option, None, Some}
-use Rattle.std.specs.List.{list_any}
-use Rattle.std.specs.Option.{unwrap_or}
+use Rattle.std.specs.{Prelude.{ℕ, ◌*◌, ◌==◌, not, nat_lt, Bool, if◌then◌else◌, List, filter, map, find, Option, None, Some}, List.list_any, Option.unwrap_or}
 use Rattle.schedule.specs.Links.{TopologyValue}
-use Rattle.collective_spec.specs.declared.kind.Kind.{Kind}
+use Rattle.collective_spec.specs.{declared.{kind.Kind.Kind, spec.Spec.Spec}, Collectives.{kind_in, spec_instance}}
 use Rattle.collective_spec.specs.declared.kind.Kind.TheVariants.{Broadcast, Gather, Allgather, Scatter, Alltoall, Reduce, Reducescatter, Allreduce, Custom}
-use Rattle.collective_spec.specs.declared.spec.Spec.{Spec}
-use Rattle.collective_spec.specs.Collectives.{kind_in, spec_instance}
-use Rattle.node_cuts.specs.declared.sets.Sets.{Sets}
-use Rattle.node_cuts.specs.declared.floor.Floor.{Floor}
-use Rattle.node_cuts.specs.Sides.{NodeSet, node_sets, mask_of}
-use Rattle.node_cuts.specs.Cuts.{need_of, width_by}
+use Rattle.node_cuts.specs.{declared.{sets.Sets.Sets, floor.Floor.Floor}, Sides.{NodeSet, node_sets, mask_of}, Cuts.{need_of, width_by}}
 
 -- the least chunk count that the collective may have
 abbrev pub least_count : Kind → ℕ → ℕ

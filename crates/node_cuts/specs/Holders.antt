@@ -1,6 +1,5 @@
 -- Where a chunk stands, and what has to come into a set by that. This project's own.
-use Rattle.std.specs.Prelude.{◌&&◌, not, Bool, ℕ, List, filter}
-use Rattle.std.specs.List.{list_any, range_with_len}
+use Rattle.std.specs.{Prelude.{◌&&◌, not, Bool, ℕ, List, filter}, List.{list_any, range_with_len}}
 use Rattle.schedule.specs.Placed.{PlacementValue, holds}
 use Rattle.node_cuts.specs.Sides.{NodeSet}
 

@@ -1,13 +1,7 @@
 -- Tables of what a cover has not covered yet. This project's own.
-use Rattle.std.specs.Prelude.{◌≡◌, ◌==◌, ◌&&◌, ◌<◌, not, Bool, false, ℕ, List, slice_index_or}
-use Rattle.std.specs.List.{list_any}
-use Rattle.schedule.specs.Links.{GroupValue, TopologyValue, has_link}
-use Rattle.schedule.specs.Placed.{same_pair}
-use Rattle.schedule.specs.Tables.{Marks, marked_at}
-use Rattle.schedule.specs.Judging.{group_at}
-use Rattle.node_cuts.specs.declared.greedy.Choice.{Choice}
-use Rattle.node_cuts.specs.Sides.{NodeSet}
-use Rattle.node_cuts.specs.Cuts.{all_groups, enters, is_among, opened}
+use Rattle.std.specs.{Prelude.{◌≡◌, ◌==◌, ◌&&◌, ◌<◌, not, Bool, false, ℕ, List, slice_index_or}, List.list_any}
+use Rattle.schedule.specs.{Links.{GroupValue, TopologyValue, has_link}, Placed.same_pair, Tables.{Marks, marked_at}, Judging.group_at}
+use Rattle.node_cuts.specs.{declared.greedy.Choice.Choice, Sides.NodeSet, Cuts.{all_groups, enters, is_among, opened}}
 
 -- the new table has the links of the old that are none of these
 abbrev pub RemovesLinks : List Bool → List Bool → List (ℕ × ℕ) → Type 0

@@ -1,16 +1,9 @@
 -- Small questions, whose cuts are known.
 use Rattle.std.specs.Prelude.{ℕ, false, List, [], ◌∷◌, ◌++◌, Option}
-use Rattle.schedule.specs.Links.{GroupValue, TopologyValue}
-use Rattle.schedule.specs.Placed.{PlacementValue, placed}
-use Rattle.schedule.specs.Rows.{only}
-use Rattle.collective_spec.specs.declared.kind.Kind.{Kind}
-use Rattle.collective_spec.specs.declared.spec.Spec.{Spec}
+use Rattle.schedule.specs.{Links.{GroupValue, TopologyValue}, Placed.{PlacementValue, placed}, Rows.only}
+use Rattle.collective_spec.specs.{declared.{kind.Kind.Kind, spec.Spec.Spec}, Collectives.spec_instance}
 use Rattle.collective_spec.specs.declared.spec.Spec.TheVariants as spec
-use Rattle.collective_spec.specs.Collectives.{spec_instance}
-use Rattle.node_cuts.specs.declared.sets.Sets.{Sets}
-use Rattle.node_cuts.specs.declared.floor.Floor.{Floor}
-use Rattle.node_cuts.specs.Cuts.{CutValue, first_cut_of}
-use Rattle.node_cuts.specs.Floors.{floor_of}
+use Rattle.node_cuts.specs.{declared.{sets.Sets.Sets, floor.Floor.Floor}, Cuts.{CutValue, first_cut_of}, Floors.floor_of}
 
 -- the standard collective of a kind, with node 0 as its root
 abbrev pub standard : Kind → Spec

@@ -1,11 +1,6 @@
 -- The sets of nodes that are looked at: each one node, each two nodes and all nodes but these, or every set. This project's own.
-use Rattle.std.specs.Prelude.{ℕ, ◌==◌, ◌||◌, ◌+◌, ◌-◌, ◌/◌, ◌%◌, ◌^◌, not, Bool, if◌then◌else◌, List, [], ◌++◌, map}
-use Rattle.std.specs.List.{flat_map, range_with_len, sum_by}
-use Rattle.node_cuts.specs.declared.sets.Sets.{Sets}
-use Rattle.node_cuts.specs.declared.sets.Sets.TheVariants.{Nothing, Listed, All}
-use Rattle.node_cuts.specs.declared.members.Members.{Members}
-use Rattle.node_cuts.specs.declared.members.Members.TheVariants.{Sided, Bits}
-use Rattle.node_cuts.specs.declared.side.Side.{Side}
+use Rattle.std.specs.{Prelude.{ℕ, ◌==◌, ◌||◌, ◌+◌, ◌-◌, ◌/◌, ◌%◌, ◌^◌, not, Bool, if◌then◌else◌, List, [], ◌++◌, map}, List.{flat_map, range_with_len, sum_by}}
+use Rattle.node_cuts.specs.declared.{sets.Sets.{Sets, TheVariants.{Nothing, Listed, All}}, members.Members.{Members, TheVariants.{Sided, Bits}}, side.Side.Side}
 use Rattle.node_cuts.specs.declared.side.Side.TheVariants.{One, Two, AllButOne, AllButTwo}
 
 -- a set of nodes, by a test of its members

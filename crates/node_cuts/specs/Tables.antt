@@ -1,15 +1,9 @@
 -- What has to come into each set of nodes at the least chunk count, and what can: what is said at every other count is made of these. This project's own.
 use Rattle.std.specs.Prelude.{◌≡◌, ℕ, ◌*◌, ◌<◌, ◌≤◌, false, List, length, map, slice_index_or, All}
-use Rattle.schedule.specs.Links.{TopologyValue}
-use Rattle.schedule.specs.Placed.{PlacementValue}
-use Rattle.collective_spec.specs.declared.spec.Spec.{Spec}
-use Rattle.collective_spec.specs.Collectives.{kind_in, spec_instance}
-use Rattle.node_cuts.specs.declared.sets.Sets.{Sets}
-use Rattle.node_cuts.specs.declared.measure.Measure.{Measure}
-use Rattle.node_cuts.specs.declared.floor.Floor.{Floor}
-use Rattle.node_cuts.specs.Sides.{NodeSet, mask_of, node_sets}
-use Rattle.node_cuts.specs.Cuts.{CutValue, cover_by, need_of, width_by}
-use Rattle.node_cuts.specs.Floors.{floor_of, least_count}
+use Rattle.schedule.specs.{Links.TopologyValue, Placed.PlacementValue}
+use Rattle.collective_spec.specs.{declared.spec.Spec.Spec, Collectives.{kind_in, spec_instance}}
+use Rattle.node_cuts.specs.{declared.{sets.Sets.Sets, measure.Measure.Measure, floor.Floor.Floor}, Sides.{NodeSet, mask_of, node_sets}}
+use Rattle.node_cuts.specs.{Cuts.{CutValue, cover_by, need_of, width_by}, Floors.{floor_of, least_count}}
 
 -- the sets that are looked at, a topology, a chunk count, what has to come into each set and what can, and the floor
 pub record TableValue : Type 0 where

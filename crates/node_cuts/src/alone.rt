@@ -1,12 +1,8 @@
 //! Groups that share no link with another.
 
-ghost use Rattle.std.specs.Prelude.{◌≡◌, ◌==◌, ◌<◌, ◌&&◌, filter, length, not, IfOk};
-ghost use Rattle.std.specs.List.{list_any};
-ghost use Rattle.schedule.specs.Links.{IsTopology};
-ghost use Rattle.schedule.specs.Tables.{marked_at};
-ghost use Rattle.schedule.specs.Judging.{group_at};
-ghost use Rattle.node_cuts.specs.Cuts.{all_groups};
-ghost use Rattle.node_cuts.specs.Opened.{is_alone};
+ghost use Rattle.std.specs.{Prelude.{◌≡◌, ◌==◌, ◌<◌, ◌&&◌, filter, length, not, IfOk}, List.list_any};
+ghost use Rattle.schedule.specs.{Links.IsTopology, Tables.marked_at, Judging.group_at};
+ghost use Rattle.node_cuts.specs.{Cuts.all_groups, Opened.is_alone};
 
 use crate::OutOfMemory;
 use crate::covering::group_at;

@@ -2,12 +2,8 @@
 //! order and in its reverse.
 
 ghost use Rattle.std.specs.Prelude.{◌≡◌, ◌<◌, ◌++◌, ◌∷◌, ◌&&◌, [], if◌then◌else◌, not, length, All, IfOk, OnOk};
-ghost use Rattle.schedule.specs.Links.{IsBelow, IsTopology, has_link};
-ghost use Rattle.schedule.specs.Tables.{Marks, marked_at};
-ghost use Rattle.schedule.specs.Judging.{group_at};
-ghost use Rattle.node_cuts.specs.Sides.{NodeSet};
-ghost use Rattle.node_cuts.specs.Cuts.{cover, cover_back, enters};
-ghost use Rattle.node_cuts.specs.Opened.{is_open};
+ghost use Rattle.schedule.specs.{Links.{IsBelow, IsTopology, has_link}, Tables.{Marks, marked_at}, Judging.group_at};
+ghost use Rattle.node_cuts.specs.{Sides.NodeSet, Cuts.{cover, cover_back, enters}, Opened.is_open};
 
 use crate::OutOfMemory;
 use crate::open_links::OpenLinks;

@@ -1,11 +1,8 @@
 //! The floor: how many rounds each schedule has at least for its chunk count.
 
-ghost use Rattle.std.specs.Prelude.{◌≡◌, ◌≢◌, ◌*◌, ◌≤◌, ◌⊎◌, Some, IfOk};
-ghost use Rattle.std.specs.Option.{unwrap_or};
+ghost use Rattle.std.specs.{Prelude.{◌≡◌, ◌≢◌, ◌*◌, ◌≤◌, ◌⊎◌, Some, IfOk}, Option.unwrap_or};
 ghost use Rattle.collective_spec.specs.Collectives.{IsSpec, kind_in};
-ghost use Rattle.node_cuts.specs.declared.sets.Sets.{Sets};
-ghost use Rattle.node_cuts.specs.Floors.{exceeds, floor_of, greater_of, nothing_over_1};
-ghost use Rattle.node_cuts.specs.Sides.{mask_of, members};
+ghost use Rattle.node_cuts.specs.{declared.sets.Sets.Sets, Floors.{exceeds, floor_of, greater_of, nothing_over_1}, Sides.{mask_of, members}};
 ghost use Rattle.node_cuts.specs.Tables.{IsLow, IsSmall};
 
 use crate::OutOfMemory;

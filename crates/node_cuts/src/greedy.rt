@@ -1,12 +1,8 @@
 //! The groups that cover the links into a set of nodes, of which each covers the most for its width.
 
-ghost use Rattle.std.specs.Prelude.{◌≡◌, ◌<◌, ◌⊎◌, ℕ, List, filter, length, All, Option, None, Some, IfOk};
-ghost use Rattle.std.specs.Option.{option_map};
-ghost use Rattle.schedule.specs.Links.{TopologyValue};
-ghost use Rattle.schedule.specs.Tables.{Marks};
-ghost use Rattle.schedule.specs.Judging.{group_at};
-ghost use Rattle.node_cuts.specs.Sides.{NodeSet};
-ghost use Rattle.node_cuts.specs.Cuts.{all_groups, ascending, best_of, better, cover_greedily, enters};
+ghost use Rattle.std.specs.{Prelude.{◌≡◌, ◌<◌, ◌⊎◌, ℕ, List, filter, length, All, Option, None, Some, IfOk}, Option.option_map};
+ghost use Rattle.schedule.specs.{Links.TopologyValue, Tables.Marks, Judging.group_at};
+ghost use Rattle.node_cuts.specs.{Sides.NodeSet, Cuts.{all_groups, ascending, best_of, better, cover_greedily, enters}};
 ghost use Rattle.node_cuts.specs.Opened.{MarksNumbers, MarksOpen, RemovesGroups, choice_of, is_alone, is_open};
 
 use crate::OutOfMemory;

@@ -1,10 +1,7 @@
 //! What has to come into a set of nodes.
 
-ghost use Rattle.std.specs.Prelude.{◌≡◌, ◌<◌, ◌≤◌, length, count_by, IfOk};
-ghost use Rattle.std.specs.List.{list_any};
-ghost use Rattle.node_cuts.specs.Sides.{NodeSet, members};
-ghost use Rattle.node_cuts.specs.Cuts.{need_of};
-ghost use Rattle.node_cuts.specs.Holders.{is_lacking, nodes_with};
+ghost use Rattle.std.specs.{Prelude.{◌≡◌, ◌<◌, ◌≤◌, length, count_by, IfOk}, List.list_any};
+ghost use Rattle.node_cuts.specs.{Sides.{NodeSet, members}, Cuts.need_of, Holders.{is_lacking, nodes_with}};
 
 use crate::OutOfMemory;
 use crate::members::Members;

@@ -1,18 +1,9 @@
 //! What the cuts and the floor mean.
 
-ghost use Rattle.std.specs.Prelude.{◌≡◌, ◌*◌, ◌/◌, ◌<◌, ◌≤◌, ◌&&◌, ℕ, true, nat_lt};
-ghost use Rattle.std.specs.Option.{is_some};
-ghost use Rattle.schedule.specs.Links.{TopologyValue};
-ghost use Rattle.schedule.specs.Placed.{PlacementValue};
-ghost use Rattle.schedule.specs.Sends.{ScheduleValue};
-ghost use Rattle.schedule.specs.Solving.{Solves};
-ghost use Rattle.collective_spec.specs.declared.kind.Kind.{Kind};
-ghost use Rattle.collective_spec.specs.declared.spec.Spec.{Spec};
-ghost use Rattle.collective_spec.specs.Kinds.{allows};
-ghost use Rattle.collective_spec.specs.Collectives.{kind_in, spec_instance};
-ghost use Rattle.node_cuts.specs.declared.sets.Sets.{Sets};
-ghost use Rattle.node_cuts.specs.Sides.{NodeSet, has_bit, mask_of};
-ghost use Rattle.node_cuts.specs.Cuts.{cut_refutes, first_cut_of, need_of, width_by};
+ghost use Rattle.std.specs.{Prelude.{◌≡◌, ◌*◌, ◌/◌, ◌<◌, ◌≤◌, ◌&&◌, ℕ, true, nat_lt}, Option.is_some};
+ghost use Rattle.schedule.specs.{Links.TopologyValue, Placed.PlacementValue, Sends.ScheduleValue, Solving.Solves};
+ghost use Rattle.collective_spec.specs.{declared.{kind.Kind.Kind, spec.Spec.Spec}, Kinds.allows, Collectives.{kind_in, spec_instance}};
+ghost use Rattle.node_cuts.specs.{declared.sets.Sets.Sets, Sides.{NodeSet, has_bit, mask_of}, Cuts.{cut_refutes, first_cut_of, need_of, width_by}};
 ghost use Rattle.node_cuts.specs.Floors.{floor_of, least_count};
 
 /// What has to come into a set of nodes is at most what can in the rounds of a schedule that

@@ -1,7 +1,6 @@
 //! Sets of nodes, and those that are looked at.
 
-ghost use Rattle.std.specs.Prelude.{◌≡◌, ◌<◌, ◌≤◌, ◌-◌, ◌^◌, map, IfOk};
-ghost use Rattle.std.specs.List.{range_with_len};
+ghost use Rattle.std.specs.{Prelude.{◌≡◌, ◌<◌, ◌≤◌, ◌-◌, ◌^◌, map, IfOk}, List.range_with_len};
 ghost use Rattle.node_cuts.specs.Sides.{listed_sides, mask_of, members, node_sets};
 
 use crate::OutOfMemory;

@@ -1,13 +1,8 @@
 //! Sets of links, for a look-up that costs the same however many there are.
 
-ghost use Rattle.std.specs.Prelude.{◌≡◌, ◌<◌, ◌≤◌, length, count_by, All};
-ghost use Rattle.std.specs.List.{list_any};
-ghost use Rattle.schedule.specs.Links.{IsBelow};
-ghost use Rattle.schedule.specs.Placed.{same_pair};
-ghost use Rattle.schedule.specs.Tables.{Marks, marked_at};
-ghost use Rattle.node_cuts.specs.Sides.{members};
-ghost use Rattle.node_cuts.specs.Cuts.{enters};
-ghost use Rattle.node_cuts.specs.Opened.{RemovesLinks};
+ghost use Rattle.std.specs.{Prelude.{◌≡◌, ◌<◌, ◌≤◌, length, count_by, All}, List.list_any};
+ghost use Rattle.schedule.specs.{Links.IsBelow, Placed.same_pair, Tables.{Marks, marked_at}};
+ghost use Rattle.node_cuts.specs.{Sides.members, Cuts.enters, Opened.RemovesLinks};
 
 use crate::members::Members;
 

@@ -1,8 +1,7 @@
 //! The first set of nodes that refutes so many rounds.
 
 ghost use Rattle.std.specs.Prelude.{◌≡◌, IfOk};
-ghost use Rattle.node_cuts.specs.declared.sets.Sets.{Sets};
-ghost use Rattle.node_cuts.specs.Cuts.{first_cut_of};
+ghost use Rattle.node_cuts.specs.{declared.sets.Sets.Sets, Cuts.first_cut_of};
 
 use crate::OutOfMemory;
 use crate::alone::alone_groups;

@@ -1,15 +1,9 @@
 //! What has to come into all sets of nodes and what can, told once for a topology and a collective.
 
-ghost use Rattle.std.specs.Prelude.{◌≡◌, ◌≢◌, ◌<◌, true, length, IfOk};
-ghost use Rattle.std.specs.Option.{is_some};
+ghost use Rattle.std.specs.{Prelude.{◌≡◌, ◌≢◌, ◌<◌, true, length, IfOk}, Option.is_some};
 ghost use Rattle.schedule.specs.Links.{TopologyValue, IsTopology};
-ghost use Rattle.collective_spec.specs.declared.spec.Spec.{Spec};
-ghost use Rattle.collective_spec.specs.Kinds.{allows};
-ghost use Rattle.collective_spec.specs.Collectives.{IsSpec, kind_in, spec_instance};
-ghost use Rattle.node_cuts.specs.declared.sets.Sets.{Sets};
-ghost use Rattle.node_cuts.specs.Cuts.{first_cut_of};
-ghost use Rattle.node_cuts.specs.Floors.{floor_of, least_count};
-ghost use Rattle.node_cuts.specs.Tables.{IsTableOf, cut_at};
+ghost use Rattle.collective_spec.specs.{declared.spec.Spec.Spec, Kinds.allows, Collectives.{IsSpec, kind_in, spec_instance}};
+ghost use Rattle.node_cuts.specs.{declared.sets.Sets.Sets, Cuts.first_cut_of, Floors.{floor_of, least_count}, Tables.{IsTableOf, cut_at}};
 
 use crate::OutOfMemory;
 use crate::alone::alone_groups;

@@ -1,14 +1,11 @@
 -- How many operations send to each node, counted one after the other.
 use Rattle.std.proofs.Common.{◌≡◌, ℕ, zero, suc, ◌+◌, ◌<◌, ◌≤◌, Bool, true, false, cond, eqb, List, [], ◌∷◌, ◌++◌, length, map, get_or, take, replicate, ⊎_elim, refl, sym, ap, ◌∙◌, arith}
-use Rattle.std.specs.List.{range_with_len}
-use Rattle.std.proofs.lemmas.Bool.{cases_lt, eq-eqb}
+use Rattle.std.{specs.List.range_with_len, proofs.lemmas.Bool.{cases_lt, eq-eqb}}
 use Rattle.std.proofs.lemmas.List.{length-replicate, length-take, get_or-replicate, get_or_past, take_more}
 use Rattle.std.proofs.lemmas.List.FromFn.{fill_by_all, get_or-map-range_with_len, length-map-range_with_len}
-use Rattle.node_programs.specs.declared.op.Op.{Op}
-use Rattle.node_programs.specs.declared.op.Op.TheVariants.{Send, Take}
-use Rattle.node_programs.specs.Queues.{empty_queue, queues_from, sends_to, with_send}
-use Rattle.bag_runs.proofs.Counting.{map_alike}
+use Rattle.node_programs.specs.{declared.op.Op.{Op, TheVariants.{Send, Take}}, Queues.{empty_queue, queues_from, sends_to, with_send}}
 use Rattle.node_programs.proofs.Each.{flipped, set_each}
+use Rattle.bag_runs.proofs.Counting.{map_alike}
 
 -- so many sends to each of so many nodes
 abbrev pub send_counts : ℕ → List Op → List ℕ

@@ -1,8 +1,6 @@
 -- A list with an entry for each of the first so many numbers, one of them changed.
 use Rattle.std.proofs.Common.{◌≡◌, ℕ, ◌<◌, false, eqb, length, map, get_or, set, ⊎_elim, sym, ap, ◌∙◌, arith, get_or-set_same, get_or-set_other}
-use Rattle.std.specs.List.{range_with_len}
-use Rattle.std.proofs.lemmas.List.{length-set}
-use Rattle.std.proofs.lemmas.List.FromFn.{fill_by_all, get_or-map-range_with_len, length-map-range_with_len}
+use Rattle.std.{specs.List.range_with_len, proofs.lemmas.List.{length-set, FromFn.{fill_by_all, get_or-map-range_with_len, length-map-range_with_len}}}
 use Rattle.bag_runs.proofs.Cells.{differ, same_or_not}
 
 pub flipped : (a b : ℕ) → eqb a b ≡ false → eqb b a ≡ false

@@ -1,19 +1,11 @@
 -- The machine as it is kept: what an event makes of it, and that it stays right.
-use Rattle.std.proofs.Common.{◌≡◌, ℕ, zero, suc, ◌+◌, ◌*◌, ◌<◌, ◌≤◌, Bool, true, false, cond, eqb, List, [], ◌∷◌, ◌++◌, length, map, get_or, set, drop, Some, None, ⊎_elim, refl, sym, ap, subst, ◌∙◌, arith, get_or-set_same, get_or-set_other}
-use Rattle.std.specs.Prelude.{option_and_then, slice_get, unwrap_or}
-use Rattle.std.specs.List.{AllByRecursion}
-use Rattle.std.proofs.lemmas.Bool.{and_from, eq-eqb}
-use Rattle.std.proofs.lemmas.List.{get_or-map, length-set, map-append, map-set}
+use Rattle.std.proofs.Common.{◌≡◌, ℕ, zero, suc, ◌+◌, ◌*◌, ◌<◌, ◌≤◌, Bool, true, false, cond, eqb, List, [], ◌∷◌, ◌++◌, length, map, get_or, set, drop, Some, None, ⊎_elim, refl, sym, ap, subst, ◌∙◌, arith, get_or-set_same, get_or-set_other, option_and_then, slice_get}
+use Rattle.std.{specs.{Prelude.unwrap_or, List.AllByRecursion}, proofs.lemmas.{Bool.{and_from, eq-eqb}, List.{get_or-map, length-set, map-append, map-set}}}
 use Rattle.std.proofs.lemmas.Nat.{mul-add-lt}
-use Rattle.node_programs.specs.declared.op.Op.{Op}
-use Rattle.node_programs.specs.declared.op.Op.TheVariants.{Send, Take}
-use Rattle.bag_runs.specs.declared.mode.Mode.{Mode}
-use Rattle.node_programs.specs.declared.message.Message.{Message as Parcel}
-use Rattle.bag_runs.specs.Stores.{StoreValue, bag_in, received, with_bag}
+use Rattle.node_programs.specs.{declared.{op.Op.{Op, TheVariants.{Send, Take}}, message.Message.Message as Parcel}, Below.IsOpBelow}
 use Rattle.node_programs.specs.Machines.{Message, State, event, after_take, after_op, queue_in, after_send, take_from_queue}
-use Rattle.node_programs.specs.Below.{IsOpBelow}
-use Rattle.bag_runs.specs.Kept.{counted}
 use Rattle.node_programs.specs.Queues.{IsMachine, QueueValue, message_in, messages_in, no_queue, queue_of, sends_to, with_message, without_first}
+use Rattle.bag_runs.specs.{declared.mode.Mode.Mode, Stores.{StoreValue, bag_in, received, with_bag}, Kept.counted}
 use Rattle.bag_runs.proofs.Cells.{cell_below, cell_beside, cell_here, differ, same_or_not}
 
 -- ---- lists of lists

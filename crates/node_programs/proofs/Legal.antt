@@ -1,7 +1,6 @@
 -- What the generator picks is a run.
 use Rattle.std.proofs.Common.{◌≡◌, ℕ, zero, suc, List, [], ◌∷◌, Option, Some, None, refl}
-use Rattle.node_programs.specs.Machines.{State, event}
-use Rattle.node_programs.specs.Runs.{LegalRun, chosen, enabled, next_draw, operations, picked, ranked}
+use Rattle.node_programs.specs.{Machines.{State, event}, Runs.{LegalRun, chosen, enabled, next_draw, operations, picked, ranked}}
 
 -- the nodes that are picked from a state on are a run of it
 abbrev LegalFrom : ℕ → Type 0

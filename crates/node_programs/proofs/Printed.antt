@@ -1,13 +1,8 @@
 -- What the printer of programs appends is their text.
-use Rattle.std.proofs.Common.{◌≡◌, ℕ, ◌+◌, ◌<◌, ◌≤◌, List, [], ◌∷◌, ◌++◌, length, map, get_or, take, sym, ap, ◌∙◌, append_assoc, arith}
-use Rattle.std.specs.Prelude.{codes, decimal}
-use Rattle.std.specs.List.{flat_map, zip}
-use Rattle.std.proofs.lemmas.Grind.{flat_map-append}
-use Rattle.std.proofs.lemmas.List.{append-nil, take_all, take_more}
-use Rattle.std.proofs.lemmas.Slice.Zip.{get_or-zip, length-zip}
+use Rattle.std.proofs.Common.{◌≡◌, ℕ, ◌+◌, ◌<◌, ◌≤◌, List, [], ◌∷◌, ◌++◌, length, map, get_or, take, sym, ap, ◌∙◌, append_assoc, arith, codes, decimal}
+use Rattle.std.{specs.List.{flat_map, zip}, proofs.lemmas.{Grind.flat_map-append, List.{append-nil, take_all, take_more}, Slice.Zip.{get_or-zip, length-zip}}}
 use Rattle.text_lines.specs.Text.{line, text_of}
-use Rattle.node_programs.specs.declared.op.Op.{Op}
-use Rattle.node_programs.specs.Printing.{node_lines, op_words, programs_text}
+use Rattle.node_programs.specs.{declared.op.Op.Op, Printing.{node_lines, op_words, programs_text}}
 
 pub node_is : (names : List (List ℕ)) (name : List ℕ) (ops : List Op) → codes "node " ++ (name ++ (codes "\n" ++ text_of (map (op_words names) ops))) ≡ text_of (node_lines names (name, ops))
 node_is names name ops = ap (λ t. codes "node " ++ t) (sym (append_assoc name (10 ∷ []) (text_of (map (op_words names) ops))))

@@ -1,19 +1,10 @@
 -- Operations pushed behind those of a node, and how the programs of a schedule come about step by step.
-use Rattle.std.proofs.Common.{◌≡◌, ℕ, ◌+◌, ◌<◌, ◌≤◌, Bool, true, false, ◌&&◌, cond, eqb, List, [], ◌∷◌, ◌++◌, length, map, get_or, set, take, refl, sym, ap, ◌∙◌, subst, append_assoc, arith}
-use Rattle.std.specs.Prelude.{filter}
-use Rattle.std.specs.List.{flat_map, range_with_len}
-use Rattle.std.proofs.lemmas.Bool.{eq-eqb}
-use Rattle.std.proofs.lemmas.Grind.{flat_map-append}
-use Rattle.std.proofs.lemmas.List.{append-nil, map-append, take_all, map-id}
-use Rattle.std.proofs.lemmas.List.Elements.{filter_more}
-use Rattle.std.proofs.lemmas.List.FromFn.{get_or-map-range_with_len, map-range_with_len_more}
-use Rattle.schedule.specs.declared.hop.Hop.{Hop}
-use Rattle.schedule.specs.Sends.{ScheduleValue}
-use Rattle.node_programs.specs.declared.op.Op.{Op}
-use Rattle.node_programs.specs.Programs.{send_of, step_of, take_of}
-use Rattle.bag_runs.proofs.Arrivals.{filter_both}
-use Rattle.node_programs.proofs.Each.{flipped, set_each}
-use Rattle.bag_runs.proofs.Counting.{map_alike}
+use Rattle.std.proofs.Common.{◌≡◌, ℕ, ◌+◌, ◌<◌, ◌≤◌, Bool, true, false, ◌&&◌, cond, eqb, List, [], ◌∷◌, ◌++◌, length, map, get_or, set, take, refl, sym, ap, ◌∙◌, subst, append_assoc, arith, filter}
+use Rattle.std.{specs.List.{flat_map, range_with_len}, proofs.lemmas.{Bool.eq-eqb, Grind.flat_map-append, List.{append-nil, map-append, take_all, map-id}}}
+use Rattle.std.proofs.lemmas.List.{Elements.filter_more, FromFn.{get_or-map-range_with_len, map-range_with_len_more}}
+use Rattle.schedule.specs.{declared.hop.Hop.Hop, Sends.ScheduleValue}
+use Rattle.node_programs.{specs.{declared.op.Op.Op, Programs.{send_of, step_of, take_of}}, proofs.Each.{flipped, set_each}}
+use Rattle.bag_runs.proofs.{Arrivals.filter_both, Counting.map_alike}
 
 -- a program for each of so many nodes
 abbrev pub each : ℕ → (ℕ → List Op) → List (List Op)

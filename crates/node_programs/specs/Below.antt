@@ -1,8 +1,6 @@
 -- Programs whose chunks and nodes are in range (this project's own).
-use Rattle.std.specs.Prelude.{ℕ, ◌<◌, List}
-use Rattle.std.specs.List.{AllByRecursion}
-use Rattle.node_programs.specs.declared.op.Op.{Op}
-use Rattle.node_programs.specs.declared.op.Op.TheVariants.{Send, Take}
+use Rattle.std.specs.{Prelude.{ℕ, ◌<◌, List}, List.AllByRecursion}
+use Rattle.node_programs.specs.declared.op.Op.{Op, TheVariants.{Send, Take}}
 
 -- the chunk and the other node of an operation
 abbrev pub IsOpBelow : ℕ → ℕ → Op → Type 0

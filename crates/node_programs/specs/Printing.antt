@@ -1,10 +1,8 @@
 -- The text of the programs of a point's schedule (this project's own).
-use Rattle.std.specs.Prelude.{ℕ, List, [], ◌∷◌, ◌++◌, map, codes, decimal}
-use Rattle.std.specs.List.{flat_map, zip}
+use Rattle.std.specs.{Prelude.{ℕ, List, [], ◌∷◌, ◌++◌, map, codes, decimal}, List.{flat_map, zip}}
 use Rattle.text_lines.specs.Text.{text_of}
 use Rattle.topology_text.specs.Spelling.{name_at}
-use Rattle.node_programs.specs.declared.op.Op.{Op}
-use Rattle.node_programs.specs.declared.op.Op.TheVariants.{Send, Take}
+use Rattle.node_programs.specs.declared.op.Op.{Op, TheVariants.{Send, Take}}
 use Rattle.bag_runs.specs.declared.mode.Mode.{Mode}
 use Rattle.bag_runs.specs.declared.mode.Mode.TheVariants as mode
 

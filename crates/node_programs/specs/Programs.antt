@@ -1,11 +1,8 @@
 -- The programs of the nodes of a schedule (this project's own).
-use Rattle.std.specs.Prelude.{◌==◌, ◌&&◌, ℕ, List, ◌++◌, length, map, filter}
-use Rattle.std.specs.List.{flat_map, range_with_len}
-use Rattle.schedule.specs.declared.hop.Hop.{Hop}
-use Rattle.schedule.specs.Sends.{ScheduleValue}
+use Rattle.std.specs.{Prelude.{◌==◌, ◌&&◌, ℕ, List, ◌++◌, length, map, filter}, List.{flat_map, range_with_len}}
+use Rattle.schedule.specs.{declared.hop.Hop.Hop, Sends.ScheduleValue}
 use Rattle.bag_runs.specs.Stores.{mode_at}
-use Rattle.node_programs.specs.declared.op.Op.{Op}
-use Rattle.node_programs.specs.declared.op.Op.TheVariants.{Send, Take}
+use Rattle.node_programs.specs.declared.op.Op.{Op, TheVariants.{Send, Take}}
 
 abbrev pub send_of : Hop → Op
 send_of h = Send h.chunk h.to h.step

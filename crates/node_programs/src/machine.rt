@@ -1,9 +1,7 @@
 ghost use Rattle.std.specs.Prelude.{◌≡◌, ◌*◌, ◌+◌, ◌^◌, ◌<◌, ◌≤◌, Some, length, slice_get, if◌then◌else◌, unwrap_or, IfOk, MatchOption};
 ghost use Rattle.node_programs.specs.declared.op.Op.TheVariants as op;
 ghost use Rattle.node_programs.specs.declared.machine.Fired.TheVariants as fired;
-ghost use Rattle.node_programs.specs.Machines.{State, event, is_enabled, is_finished, ops_left, after_send, start_of};
-ghost use Rattle.node_programs.specs.Runs.{operations};
-ghost use Rattle.node_programs.specs.Below.{AreBelow};
+ghost use Rattle.node_programs.specs.{Machines.{State, event, is_enabled, is_finished, ops_left, after_send, start_of}, Runs.operations, Below.AreBelow};
 
 use crate::OutOfMemory;
 use crate::message::Message;
@@ -34,8 +32,7 @@ pub struct Machine {
 
 impl Model for Machine {
     ghost use Rattle.std.specs.Prelude.{map};
-    ghost use Rattle.node_programs.specs.Machines.{State};
-    ghost use Rattle.node_programs.specs.Queues.{IsMachine, messages_in};
+    ghost use Rattle.node_programs.specs.{Machines.State, Queues.{IsMachine, messages_in}};
 
     ghost Value = { State };
 

@@ -1,11 +1,8 @@
 //! The programs that carry a schedule out.
 
-ghost use Rattle.std.specs.Prelude.{◌≡◌, ◌==◌, ℕ, ◌++◌, ◌∷◌, [], List, length, map, filter, slice_index_or, slice_set, IfOk, OnOk};
-ghost use Rattle.std.specs.List.{range_with_len};
+ghost use Rattle.std.specs.{Prelude.{◌≡◌, ◌==◌, ℕ, ◌++◌, ◌∷◌, [], List, length, map, filter, slice_index_or, slice_set, IfOk, OnOk}, List.range_with_len};
 ghost use Rattle.schedule.specs.Sends.{IsInRange};
-ghost use Rattle.node_programs.specs.declared.op.Op.{Op};
-ghost use Rattle.node_programs.specs.Programs.{programs_of, send_of, take_of};
-ghost use Rattle.node_programs.specs.Below.{AreBelow};
+ghost use Rattle.node_programs.specs.{declared.op.Op.Op, Programs.{programs_of, send_of, take_of}, Below.AreBelow};
 
 use crate::OutOfMemory;
 use crate::op::Op;

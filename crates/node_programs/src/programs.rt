@@ -1,5 +1,4 @@
-ghost use Rattle.std.specs.Prelude.{◌≡◌, ◌==◌, ◌^◌, ◌<◌, ◌≤◌, [], length, drop, map, sum, slice_get, slice_index_or, slice_set, MatchOption};
-ghost use Rattle.std.specs.List.{list_all};
+ghost use Rattle.std.specs.{Prelude.{◌≡◌, ◌==◌, ◌^◌, ◌<◌, ◌≤◌, [], length, drop, map, sum, slice_get, slice_index_or, slice_set, MatchOption}, List.list_all};
 
 use crate::op::Op;
 use crate::program::Program;

@@ -15,8 +15,7 @@ pub(crate) struct Queue {
 }
 
 impl Model for Queue {
-    ghost use Rattle.std.specs.Prelude.{◌-◌};
-    ghost use Rattle.std.specs.VecDeque.{deque_len, deque_capacity};
+    ghost use Rattle.std.specs.{Prelude.◌-◌, VecDeque.{deque_len, deque_capacity}};
     ghost use Rattle.node_programs.specs.Queues.{QueueValue};
 
     ghost Value = { QueueValue };

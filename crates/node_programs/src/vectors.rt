@@ -1,13 +1,9 @@
 //! Worked programs and runs.
 
-ghost use Rattle.std.specs.Prelude.{◌≡◌, [], ◌∷◌, true, false, Some, is_some, slice_get, codes};
-ghost use Rattle.std.specs.Option.{option_map};
+ghost use Rattle.std.specs.{Prelude.{◌≡◌, [], ◌∷◌, true, false, Some, is_some, slice_get, codes}, Option.option_map};
 ghost use Rattle.schedule.specs.Rows.{pair_allreduce, plan, send};
-ghost use Rattle.node_programs.specs.Programs.{programs_of};
-ghost use Rattle.node_programs.specs.Printing.{programs_text};
-ghost use Rattle.node_programs.specs.Machines.{is_enabled, is_finished};
+ghost use Rattle.node_programs.specs.{Programs.programs_of, Printing.programs_text, Machines.{is_enabled, is_finished}, Relay.{exchange, relay}};
 ghost use Rattle.node_programs.specs.Runs.{chosen, drawn, next_draw, machine_run};
-ghost use Rattle.node_programs.specs.Relay.{exchange, relay};
 
 use crate::op::Op;
 use bag_runs::Mode;

@@ -1,16 +1,10 @@
 -- What is left as it was of the files of a folder.
 use Rattle.std.proofs.Common.{◌≡◌, ◌≢◌, ◌∙◌, refl, sym, ap, ℕ, Bool, true, false, cond, List, [], ◌++◌, Option, None, Some, IsTrue, IfOk, Result, if◌then◌else◌, inl, inr, ◌⊎◌}
 use Rattle.std.specs.Option.{option_map, unwrap_or}
-use Rattle.outer_ports.specs.declared.open_files.OpenFiles.{OpenFiles}
-use Rattle.outer_ports.specs.declared.proof_name.FileKind.{FileKind}
-use Rattle.outer_ports.specs.declared.proof_name.ProofName.{ProofName}
-use Rattle.outer_ports.specs.Disks.{Disk, bytes_at, Writes}
-use Rattle.outer_ports.specs.Folders.{files_in_folder, fresh_in, in_range, path_in}
-use Rattle.outer_ports.specs.Shelf.{FilesStay, HoldsBytes, OthersStay, bytes_in}
-use Rattle.outer_ports.specs.inner.Keeping.{AllHeld, AllRead, IsHeld, IsNeither, IsOther, IsOwn, IsRead, Spares}
-use Rattle.outer_ports.specs.inner.OpenFiles.{open_of, Holds}
-use Rattle.outer_ports.proofs.FileNames.{path_not_fresh, paths_apart}
-use Rattle.outer_ports.proofs.OpenKinds.{held_after, held_before, same_held, some_is_none}
+use Rattle.outer_ports.specs.{declared.{open_files.OpenFiles.OpenFiles, proof_name.{FileKind.FileKind, ProofName.ProofName}}, Disks.{Disk, bytes_at, Writes}}
+use Rattle.outer_ports.specs.{Folders.{files_in_folder, fresh_in, in_range, path_in}, Shelf.{FilesStay, HoldsBytes, OthersStay, bytes_in}}
+use Rattle.outer_ports.specs.inner.{Keeping.{AllHeld, AllRead, IsHeld, IsNeither, IsOther, IsOwn, IsRead, Spares}, OpenFiles.{open_of, Holds}}
+use Rattle.outer_ports.proofs.{FileNames.{path_not_fresh, paths_apart}, OpenKinds.{held_after, held_before, same_held, some_is_none}}
 
 -- whose file a number is rests on the numbers alone
 pub held_stays : (before now : Disk) (folder : List ℕ) (name : ProofName) (n : ℕ) → now.number ≡ before.number → IsHeld before folder name n → IsHeld now folder name n

@@ -1,10 +1,6 @@
 -- The open files after one of a kind was put in place of another.
-use Rattle.std.proofs.Common.{◌≡◌, ◌≢◌, ◌⊎◌, ◌∙◌, refl, sym, ap, Option, None, Some, inl, inr}
-use Rattle.std.specs.Option.{unwrap_or}
-use Rattle.outer_ports.specs.declared.open_files.OpenFiles.{OpenFiles}
-use Rattle.outer_ports.specs.declared.proof_name.FileKind.{FileKind}
-use Rattle.outer_ports.specs.declared.proof_name.FileKind.TheVariants.{Cnf, Lrat, Partial}
-use Rattle.outer_ports.specs.declared.proof_name.ProofName.{ProofName}
+use Rattle.std.{proofs.Common.{◌≡◌, ◌≢◌, ◌⊎◌, ◌∙◌, refl, sym, ap, Option, None, Some, inl, inr}, specs.Option.unwrap_or}
+use Rattle.outer_ports.specs.declared.{open_files.OpenFiles.OpenFiles, proof_name.{FileKind.{FileKind, TheVariants.{Cnf, Lrat, Partial}}, ProofName.ProofName}}
 use Rattle.outer_ports.specs.inner.OpenFiles.{open_of, Holds}
 
 kinds_same : (j k : FileKind) → (j ≡ k) ⊎ (j ≢ k)

@@ -1,7 +1,6 @@
 -- Lists that are moved piece by piece.
-use Rattle.std.specs.Option.{unwrap_or}
+use Rattle.std.{specs.Option.unwrap_or, proofs.Math.Seq.{take-add, take-append-add, take-append_seam, drop-drop}}
 use Rattle.std.proofs.Common.{◌≡◌, ◌∙◌, refl, sym, ap, ℕ, ◌+◌, ◌-◌, ◌≤◌, Option, Some, List, [], ◌++◌, length, take, drop, min, arith, append_assoc, length-drop}
-use Rattle.std.proofs.Math.Seq.{take-add, take-append-add, take-append_seam, drop-drop}
 use Rattle.std.proofs.lemmas.List.{take-append-drop, take_all, take_min}
 
 -- `&whole[done..]` as a list

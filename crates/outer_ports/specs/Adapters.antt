@@ -1,6 +1,5 @@
 -- The adapters over the standard library's readers, writers and files, as their contracts see them. This project's own.
-use Rattle.std.specs.Prelude.{◌≡◌, ℕ, ◌≤◌, List, length, take, Option, Some, Result, IfOk, IfSome, OnErr}
-use Rattle.std.specs.Io.KnownBytes.{Appends, ReadConsumes}
+use Rattle.std.specs.{Prelude.{◌≡◌, ℕ, ◌≤◌, List, length, take, Option, Some, Result, IfOk, IfSome, OnErr}, Io.KnownBytes.{Appends, ReadConsumes}}
 
 -- what a source reads from, and how many faults there were
 pub record ReaderSourceValue (R : Type 0) : Type 0 where

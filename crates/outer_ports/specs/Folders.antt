@@ -1,8 +1,6 @@
 -- The files of a folder, as contracts see them. This project's own.
 use Rattle.std.specs.Prelude.{ℕ, Bool, ◌&&◌, List, ◌++◌, None, codes, if◌then◌else◌, nat_le}
-use Rattle.outer_ports.specs.declared.proof_name.ProofName.{ProofName}
-use Rattle.outer_ports.specs.Disks.{Disk, bytes_at}
-use Rattle.outer_ports.specs.Files.{Files, file_word}
+use Rattle.outer_ports.specs.{declared.proof_name.ProofName.ProofName, Disks.{Disk, bytes_at}, Files.{Files, file_word}}
 
 -- the path of a file of the folder
 abbrev pub path_in : List ℕ → ProofName → List ℕ

@@ -1,9 +1,6 @@
 -- The calls of a shelf in memory. This project's own.
 use Rattle.std.specs.Prelude.{◌≡◌, ℕ, ◌↔◌, List, Result, Err, Contains}
-use Rattle.outer_ports.specs.declared.memory_shelf.MemoryShelf.{MemoryShelf}
-use Rattle.outer_ports.specs.declared.shelf_fault.ShelfFault.{ShelfFault}
-use Rattle.outer_ports.specs.declared.shelf_fault.ShelfFault.TheVariants.{Failed}
-use Rattle.outer_ports.specs.Memory.{next_count}
+use Rattle.outer_ports.specs.{declared.{memory_shelf.MemoryShelf.MemoryShelf, shelf_fault.ShelfFault.{ShelfFault, TheVariants.Failed}}, Memory.next_count}
 
 -- the most bytes that one call moves
 abbrev pub piece_of : MemoryShelf → ℕ

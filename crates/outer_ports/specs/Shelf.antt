@@ -1,8 +1,7 @@
 -- What every shelf of proof files says of its files. This project's own.
 use Rattle.std.specs.Prelude.{◌≡◌, ◌≢◌, ℕ, ◌<◌, ◌≤◌, ◌↔◌, List, [], ◌++◌, length, take, drop, Option, Some, None, Result, IfOk, IfSome, OnErr, OnOk}
 use Rattle.std.specs.Option.{unwrap_or}
-use Rattle.outer_ports.specs.declared.proof_name.ProofName.{ProofName}
-use Rattle.outer_ports.specs.Files.{Files}
+use Rattle.outer_ports.specs.{declared.proof_name.ProofName.ProofName, Files.Files}
 
 -- every file stays as it was
 abbrev pub FilesStay : Files → Files → Type 0

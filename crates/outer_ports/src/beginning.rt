@@ -1,9 +1,7 @@
 //! Files that are made anew.
 
 ghost use Rattle.std.specs.Prelude.{◌≡◌, ◌≢◌, ℕ, false, List, [], Err, IfOk, IsTrue, OnErr, OnOk, string_bytes};
-ghost use Rattle.outer_ports.specs.Folders.{fresh_in, in_range, path_in};
-ghost use Rattle.outer_ports.specs.Port.{Tells};
-ghost use Rattle.outer_ports.specs.inner.Keeping.{IsNeither, IsOther, IsOwn, Spares};
+ghost use Rattle.outer_ports.specs.{Folders.{fresh_in, in_range, path_in}, Port.Tells, inner.Keeping.{IsNeither, IsOther, IsOwn, Spares}};
 
 use crate::failed::Failed;
 use crate::file_calls::FileCalls;

@@ -1,10 +1,7 @@
 //! Single calls of a file system.
 
-ghost use Rattle.std.specs.Prelude.{◌≡◌, ◌≢◌, ℕ, ◌<◌, ◌≤◌, ◌^◌, Bool, false, None, Some, length, take, IfOk, IsTrue, OnErr, OnOk};
-ghost use Rattle.std.specs.IoError.{error_kind};
-ghost use Rattle.outer_ports.specs.Disks.{Counts, Disk, Looks, MakesFile, MakesFolder, Removes, Renames, Writes};
-ghost use Rattle.outer_ports.specs.Port.{Tells};
-ghost use Rattle.outer_ports.specs.Shelf.{HoldsBytes};
+ghost use Rattle.std.specs.{Prelude.{◌≡◌, ◌≢◌, ℕ, ◌<◌, ◌≤◌, ◌^◌, Bool, false, None, Some, length, take, IfOk, IsTrue, OnErr, OnOk}, IoError.error_kind};
+ghost use Rattle.outer_ports.specs.{Disks.{Counts, Disk, Looks, MakesFile, MakesFolder, Removes, Renames, Writes}, Port.Tells, Shelf.HoldsBytes};
 
 use std::fs::Metadata;
 use std::io;

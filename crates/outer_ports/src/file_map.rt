@@ -1,9 +1,7 @@
 //! Files in memory.
 
-ghost use Rattle.std.specs.Prelude.{◌≡◌, ℕ, ◌-◌, ◌<◌, ◌≤◌, ◌↔◌, List, ◌++◌, length, min, IfSome, OnErr, OnOk};
-ghost use Rattle.std.specs.Option.{option_copied};
-ghost use Rattle.outer_ports.specs.FileMaps.{files_in};
-ghost use Rattle.outer_ports.specs.Shelf.{bytes_in, Begins, FilesStay, HoldsBytes, OthersStay};
+ghost use Rattle.std.specs.{Prelude.{◌≡◌, ℕ, ◌-◌, ◌<◌, ◌≤◌, ◌↔◌, List, ◌++◌, length, min, IfSome, OnErr, OnOk}, Option.option_copied};
+ghost use Rattle.outer_ports.specs.{FileMaps.files_in, Shelf.{bytes_in, Begins, FilesStay, HoldsBytes, OthersStay}};
 
 use crate::OutOfMemory;
 use crate::proof_name::ProofName;

@@ -1,9 +1,7 @@
 //! A shelf over a folder.
 
 ghost use Rattle.std.specs.Prelude.{◌≡◌, ◌≢◌, ℕ, ◌<◌, ◌≤◌, Err, Ok, length, IfOk, IfSome, IsTrue, OnOk, string_bytes};
-ghost use Rattle.outer_ports.specs.Folders.{files_in_folder};
-ghost use Rattle.outer_ports.specs.Port.{HasCause, Tells};
-ghost use Rattle.outer_ports.specs.Shelf.{AppendsTo, Begins, FilesStay, ReadsAt};
+ghost use Rattle.outer_ports.specs.{Folders.files_in_folder, Port.{HasCause, Tells}, Shelf.{AppendsTo, Begins, FilesStay, ReadsAt}};
 
 use crate::failed::Failed;
 use crate::file_calls::FileCalls;

@@ -2,10 +2,7 @@
 
 ghost use Rattle.std.specs.Prelude.{◌≡◌, ℕ, ◌-◌, ◌<◌, ◌≤◌, ◌↔◌, true, None, Some, List, length, min, Contains, IfOk, IfSome, IsErr, OnErr, OnOk};
 ghost use Rattle.std.specs.Option.{option_copied};
-ghost use Rattle.outer_ports.specs.Memory.{next_count};
-ghost use Rattle.outer_ports.specs.FileMaps.{files_in};
-ghost use Rattle.outer_ports.specs.Port.{failed, HasCause};
-ghost use Rattle.outer_ports.specs.Shelf.{AppendsTo, Begins, FilesStay, OthersStay, ReadsAt};
+ghost use Rattle.outer_ports.specs.{Memory.next_count, FileMaps.files_in, Port.{failed, HasCause}, Shelf.{AppendsTo, Begins, FilesStay, OthersStay, ReadsAt}};
 
 use crate::OutOfMemory;
 use crate::failed::Failed;

@@ -62,8 +62,7 @@ impl MemorySink {
 }
 
 impl Sink for MemorySink {
-    ghost use Rattle.outer_ports.specs.Memory.{next_count, sink_room};
-    ghost use Rattle.outer_ports.specs.Port.{failed, HasCause};
+    ghost use Rattle.outer_ports.specs.{Memory.{next_count, sink_room}, Port.{failed, HasCause}};
 
     ghost tells = { λ _. true };
 

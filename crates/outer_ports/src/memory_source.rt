@@ -50,8 +50,7 @@ impl MemorySource {
 }
 
 impl Source for MemorySource {
-    ghost use Rattle.outer_ports.specs.Memory.{next_count};
-    ghost use Rattle.outer_ports.specs.Port.{failed, HasCause, Takes};
+    ghost use Rattle.outer_ports.specs.{Memory.next_count, Port.{failed, HasCause, Takes}};
 
     ghost tells = { λ _. true };
 

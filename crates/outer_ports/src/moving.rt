@@ -1,11 +1,7 @@
 //! Bytes that are moved to and from an open file.
 
-ghost use Rattle.std.specs.Prelude.{◌≡◌, ◌≢◌, ◌<◌, ◌≤◌, ◌^◌, ⊤, None, length, take, IfErr, IfOk, IsOk, IsTrue, OnErr, OnOk};
-ghost use Rattle.std.specs.IoError.{error_kind};
-ghost use Rattle.outer_ports.specs.Disks.{Writes};
-ghost use Rattle.outer_ports.specs.Port.{Tells};
-ghost use Rattle.outer_ports.specs.Shelf.{HoldsBytes};
-ghost use Rattle.outer_ports.specs.inner.Keeping.{Spares};
+ghost use Rattle.std.specs.{Prelude.{◌≡◌, ◌≢◌, ◌<◌, ◌≤◌, ◌^◌, ⊤, None, length, take, IfErr, IfOk, IsOk, IsTrue, OnErr, OnOk}, IoError.error_kind};
+ghost use Rattle.outer_ports.specs.{Disks.Writes, Port.Tells, Shelf.HoldsBytes, inner.Keeping.Spares};
 
 use crate::failed::Failed;
 use crate::file_calls::FileCalls;

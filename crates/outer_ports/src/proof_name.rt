@@ -1,8 +1,7 @@
 //! How proof files are named.
 
 ghost use Rattle.std.specs.Prelude.{◌≡◌, IsTrue};
-ghost use Rattle.outer_ports.specs.Files.{part_prefix, file_ending};
-ghost use Rattle.outer_ports.specs.Folders.{in_range};
+ghost use Rattle.outer_ports.specs.{Files.{part_prefix, file_ending}, Folders.in_range};
 
 use crate::part::Part;
 use std::fmt;

@@ -1,7 +1,6 @@
 //! A source over a reader.
 
-ghost use Rattle.std.specs.Prelude.{◌≡◌, ◌≤◌, false, [], length, IfOk, OnErr};
-ghost use Rattle.std.specs.Io.KnownBytes.{ReadConsumes};
+ghost use Rattle.std.specs.{Prelude.{◌≡◌, ◌≤◌, false, [], length, IfOk, OnErr}, Io.KnownBytes.ReadConsumes};
 
 use crate::failed::Failed;
 use crate::source::Source;
@@ -38,8 +37,7 @@ impl<R: Read> ReaderSource<R> {
 }
 
 impl<R: Read> Source for ReaderSource<R> {
-    ghost use Rattle.outer_ports.specs.Memory.{next_count};
-    ghost use Rattle.outer_ports.specs.Port.{failed, HasCause};
+    ghost use Rattle.outer_ports.specs.{Memory.next_count, Port.{failed, HasCause}};
 
     ghost tells = { λ _. false };
 

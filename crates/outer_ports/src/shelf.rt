@@ -1,9 +1,7 @@
 //! Where proof files are kept.
 
 ghost use Rattle.std.specs.Prelude.{ℕ, ◌<◌, ◌≤◌, Bool, length, IfOk, IfSome, IsTrue};
-ghost use Rattle.outer_ports.specs.Files.{Files};
-ghost use Rattle.outer_ports.specs.Port.{HasCause, Tells};
-ghost use Rattle.outer_ports.specs.Shelf.{AppendsTo, Begins, FilesStay, ReadsAt};
+ghost use Rattle.outer_ports.specs.{Files.Files, Port.{HasCause, Tells}, Shelf.{AppendsTo, Begins, FilesStay, ReadsAt}};
 
 use crate::proof_name::ProofName;
 use crate::shelf_fault::ShelfFault;

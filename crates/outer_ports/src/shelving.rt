@@ -1,8 +1,7 @@
 //! Writing whole files of a shelf.
 
 ghost use Rattle.std.specs.Prelude.{◌≡◌, ℕ, ◌<◌, ◌⊎◌, List, ◌++◌, Some, length, take, IsTrue, OnErr, OnOk};
-ghost use Rattle.outer_ports.specs.Port.{HasCause, Tells};
-ghost use Rattle.outer_ports.specs.Shelf.{OthersStay};
+ghost use Rattle.outer_ports.specs.{Port.{HasCause, Tells}, Shelf.OthersStay};
 
 use crate::proof_name::ProofName;
 use crate::shelf::Shelf;

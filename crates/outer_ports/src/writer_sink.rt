@@ -1,7 +1,6 @@
 //! A sink over a writer.
 
-ghost use Rattle.std.specs.Prelude.{◌≡◌, ◌<◌, ◌≤◌, false, [], length, IfOk, OnErr};
-ghost use Rattle.std.specs.Io.KnownBytes.{WriteAppends};
+ghost use Rattle.std.specs.{Prelude.{◌≡◌, ◌<◌, ◌≤◌, false, [], length, IfOk, OnErr}, Io.KnownBytes.WriteAppends};
 ghost use Rattle.outer_ports.specs.Adapters.{WritesPiece};
 
 use crate::failed::Failed;
@@ -41,8 +40,7 @@ impl<W: Write> WriterSink<W> {
 }
 
 impl<W: Write> Sink for WriterSink<W> {
-    ghost use Rattle.outer_ports.specs.Memory.{next_count};
-    ghost use Rattle.outer_ports.specs.Port.{failed, HasCause};
+    ghost use Rattle.outer_ports.specs.{Memory.next_count, Port.{failed, HasCause}};
 
     ghost tells = { λ _. false };
 

@@ -1,16 +1,10 @@
 -- What the costs of candidates say of one another.
-use Rattle.std.proofs.Common.{◌≡◌, ◌*◌, ◌-◌, ◌<◌, ◌≤◌, inl, inr, ℕ, List, length, map, subst, ap, sym, ◌∙◌, refl, arith}
-use Rattle.std.specs.Prelude.{All, AllPairs, Any, slice_index_or}
-use Rattle.std.proofs.lemmas.Bool.{cases_order}
-use Rattle.std.proofs.lemmas.List.{get_or-map, get_or_default, length-map}
+use Rattle.std.proofs.Common.{◌≡◌, ◌*◌, ◌-◌, ◌<◌, ◌≤◌, inl, inr, ℕ, List, length, map, subst, ap, sym, ◌∙◌, refl, arith, All, AllPairs, Any, slice_index_or}
+use Rattle.std.proofs.lemmas.{Bool.cases_order, List.{get_or-map, get_or_default, length-map, Elements.All-map}}
 use Rattle.std.proofs.lemmas.Option.{slice_get_within, slice_get-get_or, get_or_from_slice_get}
-use Rattle.std.proofs.lemmas.List.Elements.{All-map}
-use Rattle.candidate_order.specs.declared.candidate.Candidate.{Candidate}
-use Rattle.candidate_order.specs.declared.mark.Mark.TheVariants.{Optimal, Open}
-use Rattle.candidate_order.specs.Costs.{NoWorse, Better, Before}
+use Rattle.candidate_order.specs.{declared.{candidate.Candidate.Candidate, mark.Mark.TheVariants.{Optimal, Open}}, Costs.{NoWorse, Better, Before}}
 use Rattle.candidate_order.specs.Frontiers.{QuestionValue, PointValue, UnknownValue, IsWithin}
-use Rattle.candidate_order.proofs.Costing.{cost_upto, cost_below_right}
-use Rattle.candidate_order.proofs.Orders.{Before-trans, has_chunk, Before-irrefl}
+use Rattle.candidate_order.proofs.{Costing.{cost_upto, cost_below_right}, Orders.{Before-trans, has_chunk, Before-irrefl}}
 use Rattle.pareto_search.specs.inner.Passing.{LastSettles, IsUnrivalled, IsMark}
 
 -- of two candidates only one comes before the other

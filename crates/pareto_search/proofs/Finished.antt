@@ -1,28 +1,17 @@
 -- When every candidate within the limits is passed, what was found is right.
-use Rattle.std.proofs.Common.{◌≡◌, ◌≢◌, ◌<◌, ◌⊎◌, ℕ, inl, inr, true, false, List, ◌++◌, map, subst, ap, sym, ◌∙◌, arith}
-use Rattle.std.specs.Prelude.{All, AllPairs, Contains, slice_index_or}
-use Rattle.std.specs.List.Sorted.{IsPermutation}
-use Rattle.std.proofs.lemmas.List.Elements.{All-weaker, All-contains, All-contains_itself, Contains-get_or}
+use Rattle.std.proofs.Common.{◌≡◌, ◌≢◌, ◌<◌, ◌⊎◌, ℕ, inl, inr, true, false, List, ◌++◌, map, subst, ap, sym, ◌∙◌, arith, All, AllPairs, Contains, slice_index_or}
+use Rattle.std.{specs.List.Sorted.IsPermutation, proofs.lemmas.List.Elements.{All-weaker, All-contains, All-contains_itself, Contains-get_or}}
 use Rattle.list_laws.proofs.Members.{Contains-map}
 use Rattle.schedule.specs.Sends.{ScheduleValue}
-use Rattle.collective_spec.specs.declared.spec.Spec.{Spec}
-use Rattle.collective_spec.specs.declared.spec.Spec.TheVariants.{Standard, Custom}
-use Rattle.collective_spec.specs.declared.kind.Kind.TheVariants.{Allreduce}
+use Rattle.collective_spec.specs.declared.{spec.Spec.{Spec, TheVariants.{Standard, Custom}}, kind.Kind.TheVariants.Allreduce}
 use Rattle.collective_spec.specs.Collectives.{kind_in, adds_up, reduces}
-use Rattle.candidate_order.specs.declared.candidate.Candidate.{Candidate}
-use Rattle.candidate_order.specs.Costs.{NoWorse, Better, Before}
-use Rattle.candidate_order.specs.Ranges.{LimitsValue}
+use Rattle.candidate_order.specs.{declared.candidate.Candidate.Candidate, Costs.{NoWorse, Better, Before}, Ranges.LimitsValue}
 use Rattle.candidate_order.specs.Frontiers.{QuestionValue, PointValue, UnknownValue, FrontierValue, solved, given_up, IsWithin, IsTried, IsPoint, IsUnknown, WastesNothing, RightFrontier, Searched}
 use Rattle.candidate_order.proofs.Orders.{has_chunk}
-use Rattle.engine_rules.specs.declared.settled.Settled.{Settled}
-use Rattle.engine_rules.specs.declared.settled.Settled.TheVariants.{Solved, Refuted, Unknown}
-use Rattle.engine_rules.specs.Outcomes.{RecordValue}
-use Rattle.pareto_search.specs.inner.Passing.{HasFewerSteps, IsSettled, IsFound, HasPassed, of_kind}
-use Rattle.pareto_search.specs.Recorded.{entries_of}
-use Rattle.pareto_search.proofs.Costs.{no_worse_than_better}
-use Rattle.pareto_search.proofs.Records.{of_kind-settled, Contains-of_kind, of_kind-ascends, one_kind, by_kind, by_kind-shuffles}
-use Rattle.pareto_search.proofs.Steps.{points_settled, points_passed}
-use Rattle.pareto_search.proofs.Places.{replaced}
+use Rattle.engine_rules.specs.{declared.settled.Settled.{Settled, TheVariants.{Solved, Refuted, Unknown}}, Outcomes.RecordValue}
+use Rattle.pareto_search.specs.{inner.Passing.{HasFewerSteps, IsSettled, IsFound, HasPassed, of_kind}, Recorded.entries_of}
+use Rattle.pareto_search.proofs.{Costs.no_worse_than_better, Records.{of_kind-settled, Contains-of_kind, of_kind-ascends, one_kind, by_kind, by_kind-shuffles}}
+use Rattle.pareto_search.proofs.{Steps.{points_settled, points_passed}, Places.replaced}
 
 -- a collective that copies is not the one that joins two others
 copying_is_single : (s : Spec) → adds_up s ≡ false → kind_in s ≢ Allreduce

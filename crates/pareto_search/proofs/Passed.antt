@@ -1,18 +1,11 @@
 -- One candidate more is passed.
-use Rattle.std.proofs.Common.{◌≡◌, inl, inr, Some, List, [], ◌∷◌, ◌++◌, subst, ap, sym, refl}
-use Rattle.std.specs.Prelude.{All, Contains, ◌↔◌}
+use Rattle.std.proofs.{Common.{◌≡◌, inl, inr, Some, List, [], ◌∷◌, ◌++◌, subst, ap, sym, refl, All, Contains, ◌↔◌}, lemmas.List.Quantifiers.all_pairs_push}
 use Rattle.std.proofs.lemmas.List.Elements.{All-push, All-pop, All-weaker, Contains-append_left, Contains-push, Contains-push_cases}
-use Rattle.std.proofs.lemmas.List.Quantifiers.{all_pairs_push}
-use Rattle.candidate_order.specs.declared.candidate.Candidate.{Candidate}
-use Rattle.candidate_order.specs.declared.mark.Mark.{Mark}
-use Rattle.candidate_order.specs.Costs.{NoWorse, Better, Before}
+use Rattle.candidate_order.specs.{declared.{candidate.Candidate.Candidate, mark.Mark.Mark}, Costs.{NoWorse, Better, Before}}
 use Rattle.candidate_order.specs.Frontiers.{QuestionValue, IsWithin}
 use Rattle.candidate_order.proofs.Orders.{Before-irrefl}
-use Rattle.engine_rules.specs.declared.settled.Settled.{Settled}
-use Rattle.engine_rules.specs.Outcomes.{RecordValue}
-use Rattle.pareto_search.specs.inner.Passing.{IsBefore, IsUpTo, IsSettled, IsMark}
-use Rattle.pareto_search.proofs.Costs.{Before-asym, better_first}
-use Rattle.pareto_search.proofs.Records.{Ascends}
+use Rattle.engine_rules.specs.{declared.settled.Settled.Settled, Outcomes.RecordValue}
+use Rattle.pareto_search.{specs.inner.Passing.{IsBefore, IsUpTo, IsSettled, IsMark}, proofs.{Costs.{Before-asym, better_first}, Records.Ascends}}
 
 -- no point before the candidate is no worse
 abbrev pub Worth : List Candidate → Candidate → Type 0

@@ -1,21 +1,14 @@
 -- The places in the list of a step's candidates, and what comes before them.
-use Rattle.std.proofs.Common.{◌≡◌, ◌+◌, ◌<◌, ◌≤◌, ℕ, inl, inr, Option, None, List, [], ◌∷◌, ◌++◌, length, get_or, take, subst, ap, sym, ◌∙◌, arith}
-use Rattle.std.specs.Prelude.{All, AllPairs, Contains, ◌↔◌, slice_index_or}
-use Rattle.std.proofs.lemmas.Bool.{cases_order, and_parts, leb-true}
-use Rattle.std.proofs.lemmas.List.{get_or-take, get_or_default, length-take, take_more, take_all}
+use Rattle.std.proofs.Common.{◌≡◌, ◌+◌, ◌<◌, ◌≤◌, ℕ, inl, inr, Option, None, List, [], ◌∷◌, ◌++◌, length, get_or, take, subst, ap, sym, ◌∙◌, arith, All, AllPairs, Contains, ◌↔◌, slice_index_or}
+use Rattle.std.proofs.lemmas.{Bool.{cases_order, and_parts, leb-true}, List.{get_or-take, get_or_default, length-take, take_more, take_all}}
 use Rattle.std.proofs.lemmas.List.Elements.{All-weaker, Contains-get_or, Contains-push_cases, Contains-append_left, Contains-push}
 use Rattle.schedule.specs.Sends.{ScheduleValue}
-use Rattle.collective_spec.specs.Collectives.{kind_in}
-use Rattle.collective_spec.specs.declared.kind.Kind.{Kind}
-use Rattle.candidate_order.specs.declared.candidate.Candidate.{Candidate}
-use Rattle.candidate_order.specs.Costs.{Before}
-use Rattle.candidate_order.specs.Ranges.{LimitsValue}
-use Rattle.candidate_order.specs.Listed.{Within, IsListed, IsCount, AreAllowed}
-use Rattle.candidate_order.proofs.Orders.{listed-within, Before-irrefl}
+use Rattle.collective_spec.specs.{Collectives.kind_in, declared.kind.Kind.Kind}
+use Rattle.candidate_order.specs.{declared.candidate.Candidate.Candidate, Costs.Before, Ranges.LimitsValue, Listed.{Within, IsListed, IsCount, AreAllowed}}
 use Rattle.candidate_order.specs.Frontiers.{QuestionValue, FrontierValue, IsWithin}
+use Rattle.candidate_order.proofs.Orders.{listed-within, Before-irrefl}
 use Rattle.engine_rules.specs.Outcomes.{RecordValue}
-use Rattle.pareto_search.specs.inner.Passing.{HasFewerSteps, IsBefore, IsUpTo, IsThrough, IsStep, HasPassed}
-use Rattle.pareto_search.specs.Recorded.{StaysWithin, IsStoppedWithin}
+use Rattle.pareto_search.specs.{inner.Passing.{HasFewerSteps, IsBefore, IsUpTo, IsThrough, IsStep, HasPassed}, Recorded.{StaysWithin, IsStoppedWithin}}
 use Rattle.pareto_search.proofs.Costs.{Before-asym}
 
 -- the same candidates are passed, said in another way

@@ -1,19 +1,11 @@
 -- A record that ascends: each candidate stands there once, and in the list of its kind.
-use Rattle.std.proofs.Common.{◌≡◌, inl, inr, Bool, true, List, [], ◌∷◌, ◌++◌, length, map, subst, ap, sym, ◌∙◌, refl, arith}
-use Rattle.std.specs.Prelude.{All, AllPairs, Contains, filter, slice_index_or}
-use Rattle.std.specs.List.Sorted.{IsPermutation}
-use Rattle.std.proofs.lemmas.Bool.{cases_order}
-use Rattle.std.proofs.lemmas.List.{get_or-map, get_or_default, length-map, map-append}
-use Rattle.std.proofs.lemmas.List.Elements.{All-map, All-filter, All-contains_itself, filter_passes, filter-append}
-use Rattle.std.proofs.lemmas.List.Kept.{AllPairs-filter}
+use Rattle.std.proofs.Common.{◌≡◌, inl, inr, Bool, true, List, [], ◌∷◌, ◌++◌, length, map, subst, ap, sym, ◌∙◌, refl, arith, All, AllPairs, Contains, filter, slice_index_or}
+use Rattle.std.{specs.List.Sorted.IsPermutation, proofs.lemmas.{Bool.cases_order, List.{get_or-map, get_or_default, length-map, map-append}}}
+use Rattle.std.proofs.lemmas.List.{Elements.{All-map, All-filter, All-contains_itself, filter_passes, filter-append}, Kept.AllPairs-filter}
 use Rattle.std.proofs.lemmas.List.Sorted.{IsPermutation-refl, IsPermutation-sym, IsPermutation-cons, IsPermutation-trans, IsPermutation-append_left, IsPermutation-middle}
 use Rattle.list_laws.proofs.Members.{Contains-filter, Contains-map}
-use Rattle.candidate_order.specs.declared.candidate.Candidate.{Candidate}
-use Rattle.candidate_order.specs.Costs.{Before}
-use Rattle.candidate_order.proofs.Orders.{Before-irrefl}
-use Rattle.engine_rules.specs.declared.settled.Settled.{Settled}
-use Rattle.engine_rules.specs.declared.settled.Settled.TheVariants.{Solved, Refuted, Unknown}
-use Rattle.engine_rules.specs.Outcomes.{RecordValue}
+use Rattle.candidate_order.{specs.{declared.candidate.Candidate.Candidate, Costs.Before}, proofs.Orders.Before-irrefl}
+use Rattle.engine_rules.specs.{declared.settled.Settled.{Settled, TheVariants.{Solved, Refuted, Unknown}}, Outcomes.RecordValue}
 use Rattle.pareto_search.specs.inner.Passing.{is_same, of_kind}
 
 AllPairs-map : {X Y : Type 0} (R : Y → Y → Type 0) (f : X → Y) (xs : List X) → AllPairs (λ a b. R (f a) (f b)) xs → AllPairs R (map f xs)

@@ -1,24 +1,16 @@
 -- What a search has found when it has passed one candidate more.
-use Rattle.std.proofs.Common.{◌≡◌, ◌≤◌, ◌*◌, ◌⊎◌, ℕ, inl, inr, Option, None, List, [], ◌∷◌, ◌++◌, subst, ap, sym, ◌∙◌, arith}
-use Rattle.std.specs.Prelude.{All, AllPairs, Any, Contains, ◌↔◌, slice_index_or}
-use Rattle.std.proofs.lemmas.Bool.{cases_lt}
-use Rattle.std.proofs.lemmas.List.{get_or_default, map_push, append-nil}
+use Rattle.std.proofs.Common.{◌≡◌, ◌≤◌, ◌*◌, ◌⊎◌, ℕ, inl, inr, Option, None, List, [], ◌∷◌, ◌++◌, subst, ap, sym, ◌∙◌, arith, All, AllPairs, Any, Contains, ◌↔◌, slice_index_or}
+use Rattle.std.proofs.lemmas.{Bool.cases_lt, List.{get_or_default, map_push, append-nil, Quantifiers.Any-push}}
 use Rattle.std.proofs.lemmas.List.Elements.{All-push, All-weaker, All-map, All-contains, Contains-append_left, Contains-push, Contains-get_or}
-use Rattle.std.proofs.lemmas.List.Quantifiers.{Any-push}
 use Rattle.list_laws.proofs.Members.{Contains-map}
 use Rattle.schedule.specs.Sends.{ScheduleValue}
-use Rattle.candidate_order.specs.declared.candidate.Candidate.{Candidate}
-use Rattle.candidate_order.specs.declared.mark.Mark.{Mark}
-use Rattle.candidate_order.specs.Costs.{NoWorse, Before}
+use Rattle.candidate_order.specs.{declared.{candidate.Candidate.Candidate, mark.Mark.Mark}, Costs.{NoWorse, Before}}
 use Rattle.candidate_order.specs.Frontiers.{QuestionValue, PointValue, UnknownValue, FrontierValue, solved, given_up, IsWithin, IsSolvable}
 use Rattle.candidate_order.proofs.Orders.{has_chunk, Before-irrefl}
-use Rattle.engine_rules.specs.declared.settled.Settled.{Settled}
-use Rattle.engine_rules.specs.declared.settled.Settled.TheVariants.{Solved, Refuted, Unknown}
-use Rattle.engine_rules.specs.Outcomes.{RecordValue, SolvesTightly}
+use Rattle.engine_rules.specs.{declared.settled.Settled.{Settled, TheVariants.{Solved, Refuted, Unknown}}, Outcomes.{RecordValue, SolvesTightly}}
 use Rattle.pareto_search.specs.inner.Passing.{IsBefore, IsUpTo, IsSettled, IsMark, IsFound, LastSettles, HasPassed, of_kind, with_point, with_refuted, with_unknown}
 use Rattle.pareto_search.specs.Recorded.{StaysWithin, IsStoppedWithin}
-use Rattle.pareto_search.proofs.Costs.{CostsFall, steps_upto, settled_by_last}
-use Rattle.pareto_search.proofs.Records.{of_kind-settled, of_kind-append, of_kind-ascends}
+use Rattle.pareto_search.proofs.{Costs.{CostsFall, steps_upto, settled_by_last}, Records.{of_kind-settled, of_kind-append, of_kind-ascends}}
 use Rattle.pareto_search.proofs.Passed.{Worth, tried_more, tried_point, ascends_more, passed_more, mark_stays}
 
 Any-append_left : {X : Type 0} (P : X → Type 0) (xs ys : List X) → Any P xs → Any P (xs ++ ys)

@@ -1,9 +1,7 @@
 -- What an engine's record holds after a search.
 use Rattle.std.specs.Prelude.{◌++◌, map, All, Option, None, Some}
-use Rattle.candidate_order.specs.declared.candidate.Candidate.{Candidate}
-use Rattle.candidate_order.specs.Frontiers.{QuestionValue, FrontierValue, IsWithin, solved, given_up}
-use Rattle.engine_rules.specs.declared.settled.Settled.TheVariants.{Solved, Refuted, Unknown}
-use Rattle.engine_rules.specs.Outcomes.{RecordValue}
+use Rattle.candidate_order.specs.{declared.candidate.Candidate.Candidate, Frontiers.{QuestionValue, FrontierValue, IsWithin, solved, given_up}}
+use Rattle.engine_rules.specs.{declared.settled.Settled.TheVariants.{Solved, Refuted, Unknown}, Outcomes.RecordValue}
 
 -- the candidates of the three lists, each with its kind
 abbrev pub entries_of : FrontierValue → RecordValue

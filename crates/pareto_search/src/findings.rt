@@ -1,8 +1,7 @@
 //! What a search has found so far.
 
 ghost use Rattle.std.specs.Prelude.{◌≡◌, ◌↔◌, [], Any, IsTrue, OnOk};
-ghost use Rattle.candidate_order.specs.Costs.{Better};
-ghost use Rattle.candidate_order.specs.Frontiers.{given_up};
+ghost use Rattle.candidate_order.specs.{Costs.Better, Frontiers.given_up};
 ghost use Rattle.pareto_search.specs.inner.Passing.{LastSettles, IsMark, with_point, with_refuted, with_unknown};
 
 use candidate_order::{Candidate, Frontier, Mark, OutOfMemory, Point, Unknown, better, no_worse};

@@ -1,12 +1,10 @@
 //! The search, in the order of steps and costs (Cai et al., PPoPP 2021, Pareto-optimal schedules).
 
-ghost use Rattle.std.specs.Prelude.{◌≡◌, [], None, All, IfOk, OnOk};
-ghost use Rattle.std.specs.List.Sorted.{IsPermutation, IsStrictlyIncreasing};
+ghost use Rattle.std.specs.{Prelude.{◌≡◌, [], None, All, IfOk, OnOk}, List.Sorted.{IsPermutation, IsStrictlyIncreasing}};
 ghost use Rattle.outer_ports.specs.Port.{HasCause};
 ghost use Rattle.engine_rules.specs.Searches.{CanGoOn, IsSameSearch};
 ghost use Rattle.collective_spec.specs.Collectives.{kind_in};
-ghost use Rattle.candidate_order.specs.Listed.{AreAllowed};
-ghost use Rattle.candidate_order.specs.Frontiers.{RightFrontier, Searched};
+ghost use Rattle.candidate_order.specs.{Listed.AreAllowed, Frontiers.{RightFrontier, Searched}};
 ghost use Rattle.pareto_search.specs.Recorded.{StaysWithin, entries_of};
 
 use crate::findings::Findings;

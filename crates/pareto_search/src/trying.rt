@@ -1,14 +1,11 @@
 //! The candidates that a search tries, one after the other.
 
-ghost use Rattle.std.specs.Prelude.{◌≡◌, ◌+◌, ◌≤◌, None, OnOk};
-ghost use Rattle.std.specs.List.Sorted.{IsStrictlyIncreasing};
+ghost use Rattle.std.specs.{Prelude.{◌≡◌, ◌+◌, ◌≤◌, None, OnOk}, List.Sorted.IsStrictlyIncreasing};
 ghost use Rattle.outer_ports.specs.Port.{HasCause};
 ghost use Rattle.engine_rules.specs.Searches.{CanGoOn, IsSameSearch};
 ghost use Rattle.collective_spec.specs.Collectives.{kind_in};
-ghost use Rattle.candidate_order.specs.Listed.{AreAllowed};
-ghost use Rattle.candidate_order.specs.Frontiers.{IsWithin};
-ghost use Rattle.pareto_search.specs.inner.Passing.{HasFewerSteps, IsBefore, IsUpTo, HasPassed};
-ghost use Rattle.pareto_search.specs.Recorded.{StaysWithin};
+ghost use Rattle.candidate_order.specs.{Listed.AreAllowed, Frontiers.IsWithin};
+ghost use Rattle.pareto_search.specs.{inner.Passing.{HasFewerSteps, IsBefore, IsUpTo, HasPassed}, Recorded.StaysWithin};
 
 use crate::findings::Findings;
 use candidate_order::{Candidate, Limits, Outcome, list};

@@ -1,10 +1,7 @@
 -- A text that is compared piece by piece.
-use Rattle.std.proofs.Common.{◌≡◌, ◌∙◌, refl, sym, ap, ℕ, ◌+◌, ◌<◌, ◌≤◌, true, false, List, [], ◌∷◌, ◌++◌, length, take, drop, ⊎_elim, arith}
-use Rattle.std.specs.Prelude.{◌&&◌, nat_eq, bytes_eq}
-use Rattle.std.proofs.Math.Seq.{take-append_seam, drop-drop}
-use Rattle.std.proofs.lemmas.Bool.{false≢true, cases_Bool, cases_eq, eq-eqb, ne_eqb}
+use Rattle.std.proofs.Common.{◌≡◌, ◌∙◌, refl, sym, ap, ℕ, ◌+◌, ◌<◌, ◌≤◌, true, false, List, [], ◌∷◌, ◌++◌, length, take, drop, ⊎_elim, arith, ◌&&◌, nat_eq, bytes_eq}
+use Rattle.std.proofs.{Math.Seq.{take-append_seam, drop-drop}, lemmas.{Bool.{false≢true, cases_Bool, cases_eq, eq-eqb, ne_eqb}, Slice.Eq.bytes_eq-Decides}}
 use Rattle.std.proofs.lemmas.List.{take-append-drop, drop_all, length-drop}
-use Rattle.std.proofs.lemmas.Slice.Eq.{bytes_eq-Decides}
 
 pub not_begun : (left piece more : List ℕ) → bytes_eq piece (take (length piece) left) ≡ false → bytes_eq (piece ++ more) left ≡ false
 not_begun left piece more apart =

@@ -1,9 +1,7 @@
 -- What refutes candidates refutes them still where its files stay.
 use Rattle.std.proofs.Common.{refl, ◌∙◌}
-use Rattle.outer_ports.specs.declared.part.Part.{Part}
-use Rattle.outer_ports.specs.Files.{Files}
-use Rattle.candidate_order.specs.declared.candidate.Candidate.{Candidate}
-use Rattle.candidate_order.specs.Frontiers.{QuestionValue}
+use Rattle.outer_ports.specs.{declared.part.Part.Part, Files.Files}
+use Rattle.candidate_order.specs.{declared.candidate.Candidate.Candidate, Frontiers.QuestionValue}
 use Rattle.candidate_formula.specs.Files.{HasRefutation}
 use Rattle.proof_audit.specs.Kept.{BothStay, KeepsEach}
 

@@ -1,21 +1,11 @@
 -- Files that stand beside a refuted candidate.
-use Rattle.std.proofs.Common.{◌≡◌, ℕ, Bool, true, false, List, length, Option, None, Some, refl, ap, ◌∙◌}
-use Rattle.std.specs.Prelude.{◌↔◌, nat_le, bytes_eq, if◌then◌else◌}
-use Rattle.std.proofs.lemmas.Bool.{and_parts, leb-true, le-leb, and_from}
-use Rattle.std.proofs.lemmas.Slice.Eq.{bytes_eq-Decides}
-use Rattle.outer_ports.specs.declared.part.Part.{Part}
-use Rattle.outer_ports.specs.declared.proof_name.FileKind.TheVariants.{Cnf, Lrat}
-use Rattle.outer_ports.specs.Files.{Files}
+use Rattle.std.proofs.Common.{◌≡◌, ℕ, Bool, true, false, List, length, Option, None, Some, refl, ap, ◌∙◌, ◌↔◌, nat_le, bytes_eq, if◌then◌else◌}
+use Rattle.std.proofs.lemmas.{Bool.{and_parts, leb-true, le-leb, and_from}, Slice.Eq.bytes_eq-Decides}
+use Rattle.outer_ports.specs.{declared.{part.Part.Part, proof_name.FileKind.TheVariants.{Cnf, Lrat}}, Files.Files}
 use Rattle.lrat_text.specs.Printing.{cnf_text}
-use Rattle.candidate_order.specs.declared.candidate.Candidate.{Candidate}
-use Rattle.candidate_order.specs.Frontiers.{QuestionValue}
-use Rattle.candidate_formula.specs.Files.{file_of, longest_proof, HasRefutation}
-use Rattle.candidate_formula.specs.Formulas.{formula_for}
-use Rattle.candidate_formula.specs.Said.{lines_said}
-use Rattle.proof_audit.specs.declared.verdict.FileVerdict.TheVariants.{Refused, Stands}
-use Rattle.proof_audit.specs.Files.{file_verdict}
-use Rattle.proof_audit.specs.Proving.{is_refutation}
-use Rattle.proof_audit.specs.Tested.{do_refute}
+use Rattle.candidate_order.specs.{declared.candidate.Candidate.Candidate, Frontiers.QuestionValue}
+use Rattle.candidate_formula.specs.{Files.{file_of, longest_proof, HasRefutation}, Formulas.formula_for, Said.lines_said}
+use Rattle.proof_audit.specs.{declared.verdict.FileVerdict.TheVariants.{Refused, Stands}, Files.file_verdict, Proving.is_refutation, Tested.do_refute}
 use Rattle.proof_audit.proofs.Proved.{refutes_by, by_refuting}
 
 -- a file whose bytes pass a test

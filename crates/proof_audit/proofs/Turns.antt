@@ -1,11 +1,7 @@
 -- Lines pass by the verdicts on them exactly where they pass by the tests that give no reason.
-use Rattle.std.proofs.Common.{◌≡◌, ◌∙◌, refl, sym, ap, Bool, true, false, List, [], ◌∷◌, Option, None, Some}
-use Rattle.std.specs.Prelude.{◌&&◌, if◌then◌else◌}
-use Rattle.cnf_formula.specs.declared.line.LratLine.{LratLine}
-use Rattle.cnf_formula.specs.declared.line.LratLine.TheVariants.{Addition, Deletion}
-use Rattle.proof_rules.specs.Held.{CheckerValue}
-use Rattle.proof_rules.specs.Testing.{is_rup}
-use Rattle.proof_rules.specs.Judging.{verdict_on, is_accepted}
+use Rattle.std.proofs.Common.{◌≡◌, ◌∙◌, refl, sym, ap, Bool, true, false, List, [], ◌∷◌, Option, None, ◌&&◌, if◌then◌else◌}
+use Rattle.cnf_formula.specs.declared.line.LratLine.{LratLine, TheVariants.{Addition, Deletion}}
+use Rattle.proof_rules.specs.{Held.CheckerValue, Testing.is_rup, Judging.{verdict_on, is_accepted}}
 use Rattle.proof_rules.specs.Refuting.{all_accepted, with_accepted, with_line, after, is_fresh, are_learned}
 use Rattle.proof_rules.proofs.Tested.{acceptance_said, rup_said}
 use Rattle.proof_audit.specs.inner.Turns.{checker_after, is_refuted, are_taken}

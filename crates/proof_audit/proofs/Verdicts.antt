@@ -1,14 +1,10 @@
 -- Each verdict on a file is that on some file.
-use Rattle.std.proofs.Common.{◌≡◌, ℕ, Bool, false, List, [], None, Some, Result, Ok, Err, refl, sym, ap, ◌∙◌, codes}
-use Rattle.std.specs.Prelude.{IfOk, if◌then◌else◌, nat_le, bytes_eq, length}
+use Rattle.std.proofs.Common.{◌≡◌, ℕ, Bool, false, List, [], None, Some, Result, Ok, Err, refl, sym, ap, ◌∙◌, codes, IfOk, if◌then◌else◌, nat_le, bytes_eq, length}
 use Rattle.std.proofs.lemmas.Bool.{and_parts}
 use Rattle.cnf_formula.specs.Formulas.{FormulaValue}
 use Rattle.lrat_text.specs.Printing.{cnf_text}
-use Rattle.proof_audit.specs.declared.fault.AuditFault.{AuditFault}
-use Rattle.proof_audit.specs.declared.verdict.FileVerdict.{FileVerdict}
-use Rattle.proof_audit.specs.declared.verdict.FileVerdict.TheVariants.{Missing, Refused, Stands}
-use Rattle.proof_audit.specs.Proving.{is_refutation, is_spent_log}
-use Rattle.proof_audit.specs.Files.{short_and, SomePass, IsFileVerdict}
+use Rattle.proof_audit.specs.declared.{fault.AuditFault.AuditFault, verdict.FileVerdict.{FileVerdict, TheVariants.{Missing, Refused, Stands}}}
+use Rattle.proof_audit.specs.{Proving.{is_refutation, is_spent_log}, Files.{short_and, SomePass, IsFileVerdict}}
 
 -- where some bytes pass that stand, and some fail
 verdict_some : (test : List ℕ → Bool) (bad : List ℕ) (v : FileVerdict) → test bad ≡ false → (v ≡ Stands → SomePass test) → IsFileVerdict test v

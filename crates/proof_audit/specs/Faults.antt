@@ -1,9 +1,7 @@
 -- Why a file was not judged.
 use Rattle.std.specs.Prelude.{ℕ}
-use Rattle.outer_ports.specs.declared.shelf_fault.ShelfFault.{ShelfFault}
-use Rattle.outer_ports.specs.declared.shelf_fault.ShelfFault.TheVariants.{Failed, OutOfMemory as NoMemory}
-use Rattle.proof_audit.specs.declared.fault.AuditFault.{AuditFault}
-use Rattle.proof_audit.specs.declared.fault.AuditFault.TheVariants.{ShelfFailed, OutOfMemory}
+use Rattle.outer_ports.specs.declared.shelf_fault.ShelfFault.{ShelfFault, TheVariants.{Failed, OutOfMemory as NoMemory}}
+use Rattle.proof_audit.specs.declared.fault.AuditFault.{AuditFault, TheVariants.{ShelfFailed, OutOfMemory}}
 
 abbrev pub fault_number : AuditFault → ℕ
 fault_number ShelfFailed = 1

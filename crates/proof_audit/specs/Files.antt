@@ -1,10 +1,8 @@
 -- What is said of a file (this project's own).
 use Rattle.std.specs.Prelude.{◌≡◌, ◌&&◌, ℕ, Bool, true, if◌then◌else◌, List, length, Option, None, Some, nat_le}
-use Rattle.cnf_formula.specs.Formulas.{FormulaValue}
-use Rattle.cnf_formula.specs.Lines.{ProofLineValue}
+use Rattle.cnf_formula.specs.{Formulas.FormulaValue, Lines.ProofLineValue}
 use Rattle.proof_rules.specs.Refuting.{SpentLog}
-use Rattle.proof_audit.specs.declared.verdict.FileVerdict.{FileVerdict}
-use Rattle.proof_audit.specs.declared.verdict.FileVerdict.TheVariants.{Missing, Refused, Stands}
+use Rattle.proof_audit.specs.declared.verdict.FileVerdict.{FileVerdict, TheVariants.{Missing, Refused, Stands}}
 
 -- there is no file, or its bytes pass the test, or they do not
 abbrev pub file_verdict : (List ℕ → Bool) → Option (List ℕ) → FileVerdict

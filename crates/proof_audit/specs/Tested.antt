@@ -1,9 +1,7 @@
 -- The tests of proof lines by name, of lines that are said or not.
 use Rattle.std.specs.Prelude.{◌==◌, ◌&&◌, ℕ, Bool, false, List, length, Option, None, Some}
-use Rattle.cnf_formula.specs.Formulas.{FormulaValue}
-use Rattle.cnf_formula.specs.declared.line.LratLine.{LratLine}
-use Rattle.proof_rules.specs.Held.{start_of}
-use Rattle.proof_rules.specs.Refuting.{all_accepted, after, are_learned}
+use Rattle.cnf_formula.specs.{Formulas.FormulaValue, declared.line.LratLine.LratLine}
+use Rattle.proof_rules.specs.{Held.start_of, Refuting.{all_accepted, after, are_learned}}
 
 -- the lines refute the formula
 abbrev pub do_refute : FormulaValue → Option (List LratLine) → Bool

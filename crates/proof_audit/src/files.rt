@@ -1,12 +1,10 @@
 //! The files beside a report.
 
 ghost use Rattle.std.specs.Prelude.{◌≡◌, bytes_eq, Ok, IfOk, IsTrue};
-ghost use Rattle.outer_ports.specs.Port.{HasCause, Tells};
-ghost use Rattle.outer_ports.specs.Shelf.{FilesStay};
+ghost use Rattle.outer_ports.specs.{Port.{HasCause, Tells}, Shelf.FilesStay};
 ghost use Rattle.cnf_formula.specs.Formulas.{Satisfiable};
 ghost use Rattle.lrat_text.specs.Printing.{cnf_text};
-ghost use Rattle.proof_audit.specs.Proving.{is_refutation, is_spent_log};
-ghost use Rattle.proof_audit.specs.Files.{file_verdict, HasSpentLog, IsFileVerdict};
+ghost use Rattle.proof_audit.specs.{Proving.{is_refutation, is_spent_log}, Files.{file_verdict, HasSpentLog, IsFileVerdict}};
 
 use crate::fault::AuditFault;
 use crate::judge::judge_file;

@@ -1,8 +1,7 @@
 //! Files that are judged piece by piece.
 
 ghost use Rattle.std.specs.Prelude.{◌≡◌, ℕ, ◌+◌, ◌<◌, ◌^◌, ◌++◌, [], Bool, true, false, List, length, Ok, IfOk, IsTrue, vec_len, if◌then◌else◌};
-ghost use Rattle.outer_ports.specs.Port.{HasCause, Tells};
-ghost use Rattle.outer_ports.specs.Shelf.{FilesStay};
+ghost use Rattle.outer_ports.specs.{Port.{HasCause, Tells}, Shelf.FilesStay};
 ghost use Rattle.proof_audit.specs.Files.{file_verdict, short_and, SomePass};
 
 use crate::fault::AuditFault;

@@ -1,16 +1,11 @@
 //! What the judges of files say of a candidate.
 
 ghost use Rattle.std.specs.Prelude.{◌≡◌, ◌↔◌, bytes_eq};
-ghost use Rattle.outer_ports.specs.declared.part.Part.{Part};
-ghost use Rattle.outer_ports.specs.declared.proof_name.FileKind.TheVariants.{Cnf, Lrat};
-ghost use Rattle.outer_ports.specs.Files.{Files};
+ghost use Rattle.outer_ports.specs.{declared.{part.Part.Part, proof_name.FileKind.TheVariants.{Cnf, Lrat}}, Files.Files};
 ghost use Rattle.lrat_text.specs.Printing.{cnf_text};
-ghost use Rattle.candidate_order.specs.declared.candidate.Candidate.{Candidate};
-ghost use Rattle.candidate_order.specs.Frontiers.{QuestionValue};
-ghost use Rattle.candidate_formula.specs.Files.{file_of, HasRefutation};
-ghost use Rattle.candidate_formula.specs.Formulas.{formula_for};
-ghost use Rattle.proof_audit.specs.Files.{file_verdict};
-ghost use Rattle.proof_audit.specs.Proving.{is_refutation};
+ghost use Rattle.candidate_order.specs.{declared.candidate.Candidate.Candidate, Frontiers.QuestionValue};
+ghost use Rattle.candidate_formula.specs.{Files.{file_of, HasRefutation}, Formulas.formula_for};
+ghost use Rattle.proof_audit.specs.{Files.file_verdict, Proving.is_refutation};
 
 use crate::verdict::FileVerdict;
 

@@ -1,8 +1,7 @@
 //! Whether a file says proof lines that pass a test.
 
 ghost use Rattle.std.specs.Prelude.{◌≡◌, ◌≢◌, ℕ, ◌+◌, ◌<◌, [], true, false, List, length, Ok, IfOk};
-ghost use Rattle.lrat_text.specs.declared.fault.LratTextFault.{LratTextFault};
-ghost use Rattle.lrat_text.specs.Reading.{new_reader};
+ghost use Rattle.lrat_text.specs.{declared.fault.LratTextFault.LratTextFault, Reading.new_reader};
 ghost use Rattle.proof_audit.specs.inner.Lines.{left_says, lines_pass, IsReading};
 
 use crate::judge::Judge;

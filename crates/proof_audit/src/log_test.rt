@@ -2,9 +2,7 @@
 
 ghost use Rattle.std.specs.Prelude.{◌≡◌, ◌==◌, ◌&&◌, ◌⊎◌, ◌+◌, true, false, Ok, IfOk, List, length};
 ghost use Rattle.cnf_formula.specs.declared.line.LratLine.{LratLine};
-ghost use Rattle.proof_rules.specs.Held.{start_of};
-ghost use Rattle.proof_rules.specs.Judging.{verdict_of, is_implied};
-ghost use Rattle.proof_rules.specs.Refuting.{is_fresh, with_line};
+ghost use Rattle.proof_rules.specs.{Held.start_of, Judging.{verdict_of, is_implied}, Refuting.{is_fresh, with_line}};
 ghost use Rattle.proof_audit.specs.inner.Turns.{are_taken};
 
 use crate::line_test::LineTest;

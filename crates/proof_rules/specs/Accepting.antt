@@ -2,9 +2,7 @@
 -- (reverse unit propagation) along the hints, redundant is RAT (resolution asymmetric tautology).
 use Rattle.std.specs.Prelude.{◌≡◌, ◌≢◌, ◌==◌, ◌||◌, ℕ, ◌+◌, ◌<◌, Bool, true, false, not, ◌⊎◌, List, [], ◌∷◌, length, filter, Some, ℤ, pos, negsuc, All, AllPairs}
 use Rattle.std.specs.List.{list_any}
-use Rattle.cnf_formula.specs.Literals.{LitValue, has_literal, same_literal, negation}
-use Rattle.cnf_formula.specs.Formulas.{IsClause}
-use Rattle.cnf_formula.specs.Lines.{ProofLineValue}
+use Rattle.cnf_formula.specs.{Literals.{LitValue, has_literal, same_literal, negation}, Formulas.IsClause, Lines.ProofLineValue}
 use Rattle.proof_rules.specs.Held.{Entry, CheckerValue, clause_at}
 
 -- ---- hints of one sign

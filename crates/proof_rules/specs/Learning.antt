@@ -1,10 +1,7 @@
 -- Additions in their turn by their verdicts, as what writes lines keeps them.
 use Rattle.std.specs.Prelude.{◌≡◌, true, List, [], ◌∷◌}
 use Rattle.cnf_formula.specs.Lines.{ProofLineValue}
-use Rattle.proof_rules.specs.declared.verdict.LineVerdict.TheVariants.{Accepted}
-use Rattle.proof_rules.specs.Held.{CheckerValue}
-use Rattle.proof_rules.specs.Judging.{verdict_of}
-use Rattle.proof_rules.specs.Refuting.{with_line, is_fresh}
+use Rattle.proof_rules.specs.{declared.verdict.LineVerdict.TheVariants.Accepted, Held.CheckerValue, Judging.verdict_of, Refuting.{with_line, is_fresh}}
 
 -- each addition follows from what is held in its turn
 abbrev pub AllImplied : CheckerValue → List ProofLineValue → Type 0

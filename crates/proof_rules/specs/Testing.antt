@@ -2,9 +2,7 @@
 -- project's own). RUP is reverse unit propagation along the hints, RAT the same on resolvents with the first literal.
 use Rattle.std.specs.Prelude.{◌==◌, ◌&&◌, ◌||◌, ℕ, Bool, true, false, not, List, [], ◌∷◌, length, map, max, Option, None, Some, option_map, nat_le, nat_lt, if◌then◌else◌}
 use Rattle.std.specs.List.{list_any, list_all}
-use Rattle.cnf_formula.specs.Literals.{LitValue, negation, same_literal}
-use Rattle.cnf_formula.specs.Lines.{ProofLineValue}
-use Rattle.cnf_formula.specs.declared.line.LratLine.{LratLine}
+use Rattle.cnf_formula.specs.{Literals.{LitValue, negation, same_literal}, Lines.ProofLineValue, declared.line.LratLine.LratLine}
 use Rattle.cnf_formula.specs.declared.line.LratLine.TheVariants.{Addition, Deletion}
 use Rattle.proof_rules.specs.Held.{Entry, CheckerValue, clause_at, open_literals, is_empty}
 use Rattle.proof_rules.specs.Accepting.{Group, leading, groups_of, has_negated, without_negated, is_made_true, is_answered}

@@ -1,10 +1,6 @@
 -- The nodes that are enabled, by their ranks.
-use Rattle.std.proofs.Common.{◌≡◌, ℕ, zero, suc, ◌+◌, ◌<◌, ◌≤◌, Bool, true, false, cond, List, [], ◌∷◌, ◌++◌, length, Some, None, sym, ap, ◌∙◌, arith}
-use Rattle.std.specs.Prelude.{filter, slice_get}
-use Rattle.std.specs.List.{range_with_len}
-use Rattle.std.proofs.lemmas.List.{length-append, map-id}
-use Rattle.std.proofs.lemmas.List.FromFn.{filter_of_map_range_with_len_more}
-use Rattle.std.proofs.lemmas.Option.{slice_get_past}
+use Rattle.std.proofs.Common.{◌≡◌, ℕ, zero, suc, ◌+◌, ◌<◌, ◌≤◌, Bool, true, false, cond, List, [], ◌∷◌, ◌++◌, length, Some, None, sym, ap, ◌∙◌, arith, filter, slice_get}
+use Rattle.std.{specs.List.range_with_len, proofs.lemmas.{List.{length-append, map-id, FromFn.filter_of_map_range_with_len_more}, Option.slice_get_past}}
 
 module _ (p : ℕ → Bool) where
   -- those among the first so many numbers

@@ -1,16 +1,8 @@
 -- Runs of a schedule's machine that have come to their ends.
-use Rattle.std.proofs.Common.{◌≡◌, ℕ, ◌≤◌, true, List, [], length, drop, Some, sym, ap, ◌∙◌}
-use Rattle.schedule.specs.Bags.{Bags}
-use Rattle.schedule.specs.Sends.{IsInRange, IsSchedule, ScheduleValue}
-use Rattle.node_programs.specs.Machines.{State, is_finished}
-use Rattle.node_programs.specs.Runs.{chosen, machine_run}
-use Rattle.node_programs.specs.Ended.{GoesToTheEnd, machine_of}
-use Rattle.node_programs.proofs.Everywhere.{every_order, every_seed}
-use Rattle.node_programs.proofs.Finished.{count_by_finished}
-use Rattle.node_programs.specs.Stops.{stop_of}
-use Rattle.node_programs.proofs.Stops.{whole_runs}
-use Rattle.std.proofs.lemmas.List.{drop_all}
-use Rattle.std.proofs.lemmas.Option.{same_Some}
+use Rattle.std.proofs.{Common.{◌≡◌, ℕ, ◌≤◌, true, List, [], length, drop, Some, sym, ap, ◌∙◌}, lemmas.{List.drop_all, Option.same_Some}}
+use Rattle.schedule.specs.{Bags.Bags, Sends.{IsInRange, IsSchedule, ScheduleValue}}
+use Rattle.node_programs.specs.{Machines.{State, is_finished}, Runs.{chosen, machine_run}, Ended.{GoesToTheEnd, machine_of}, Stops.stop_of}
+use Rattle.node_programs.proofs.{Everywhere.{every_order, every_seed}, Finished.count_by_finished, Stops.whole_runs}
 use Rattle.replay.specs.Ends.{IsLast}
 
 -- a finished run of a schedule's machine has come to its last

@@ -1,11 +1,8 @@
 -- Runs of a machine, one event more.
-use Rattle.std.proofs.Common.{◌≡◌, ℕ, zero, suc, ◌+◌, ◌-◌, ◌<◌, true, List, [], ◌∷◌, ◌++◌, Option, Some, None, refl, sym, ap, ◌∙◌, append_assoc, arith}
-use Rattle.std.specs.Prelude.{is_some, unwrap_or}
-use Rattle.std.proofs.lemmas.List.{append-nil}
-use Rattle.node_programs.specs.Machines.{State, event, is_enabled}
-use Rattle.node_programs.specs.Runs.{enabled, next_draw, picked, ranked, machine_run}
-use Rattle.node_programs.proofs.Ends.{run_by}
-use Rattle.node_programs.proofs.Legal.{drawn_first, moved}
+use Rattle.std.proofs.Common.{◌≡◌, ℕ, zero, suc, ◌+◌, ◌-◌, ◌<◌, true, List, [], ◌∷◌, ◌++◌, Option, Some, None, refl, sym, ap, ◌∙◌, append_assoc, arith, is_some}
+use Rattle.std.{specs.Prelude.unwrap_or, proofs.lemmas.List.append-nil}
+use Rattle.node_programs.specs.{Machines.{State, event, is_enabled}, Runs.{enabled, next_draw, picked, ranked, machine_run}}
+use Rattle.node_programs.proofs.{Ends.run_by, Legal.{drawn_first, moved}}
 
 -- ---- what an event gives
 

@@ -1,15 +1,9 @@
 -- How runs end (this project's own).
 use Rattle.std.specs.Prelude.{◌≡◌, ℕ, ◌-◌, true, if◌then◌else◌, List, [], ◌∷◌, length}
-use Rattle.schedule.specs.Bags.{Bags}
-use Rattle.schedule.specs.Sends.{ScheduleValue}
-use Rattle.schedule.specs.JoinedRuns.{joined_after}
+use Rattle.schedule.specs.{Bags.Bags, Sends.ScheduleValue, JoinedRuns.joined_after}
 use Rattle.bag_runs.specs.Stores.{stored}
-use Rattle.node_programs.specs.Machines.{State, is_finished}
-use Rattle.node_programs.specs.Runs.{operations}
-use Rattle.node_programs.specs.Ended.{machine_of}
-use Rattle.node_programs.specs.Stops.{StopValue}
-use Rattle.replay.specs.declared.by_list.ListEnd.{ListEnd}
-use Rattle.replay.specs.declared.by_list.ListEnd.TheVariants.{Stopped, Finished, Unfinished}
+use Rattle.node_programs.specs.{Machines.{State, is_finished}, Runs.operations, Ended.machine_of, Stops.StopValue}
+use Rattle.replay.specs.declared.by_list.ListEnd.{ListEnd, TheVariants.{Stopped, Finished, Unfinished}}
 
 -- the machine of a schedule has come to its end: every program is at its end, after as many events as there were operations, and the store is the last of the joined run
 pub record IsLast (chunks nodes : ℕ) (start : Bags) (s : ScheduleValue) (adding : ℕ) (end : State) (order : List ℕ) : Type 0 where

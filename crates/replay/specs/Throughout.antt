@@ -1,12 +1,8 @@
 -- Orders of a machine in which every step copies (this project's own).
 use Rattle.std.specs.Prelude.{◌≡◌, ℕ, ◌<◌, true, List, length}
-use Rattle.schedule.specs.Sends.{ScheduleValue}
-use Rattle.schedule.specs.Placed.{PlacementValue}
-use Rattle.schedule.specs.Running.{after}
-use Rattle.schedule.specs.Bags.{of_placement}
+use Rattle.schedule.specs.{Sends.ScheduleValue, Placed.PlacementValue, Running.after, Bags.of_placement}
 use Rattle.bag_runs.specs.Stores.{stored}
-use Rattle.node_programs.specs.Machines.{State, is_finished}
-use Rattle.node_programs.specs.Ended.{LeadsTo}
+use Rattle.node_programs.specs.{Machines.{State, is_finished}, Ended.LeadsTo}
 
 -- whatever the order of events, the machine of a schedule without a step that adds ends with what is held after the last step
 abbrev pub EveryCopyingOrderEndsAsHeld : Type 0

@@ -1,12 +1,9 @@
 //! Runs of a machine in the order that a list gives.
 
 ghost use Rattle.std.specs.Prelude.{◌≡◌, ℕ, ◌^◌, ◌≤◌, length, unwrap_or};
-ghost use Rattle.schedule.specs.Bags.{Bags};
-ghost use Rattle.schedule.specs.Sends.{IsInRange, IsSchedule, ScheduleValue};
+ghost use Rattle.schedule.specs.{Bags.Bags, Sends.{IsInRange, IsSchedule, ScheduleValue}};
 ghost use Rattle.replay.specs.declared.by_list.ListEnd.TheVariants as end;
-ghost use Rattle.node_programs.specs.Ended.{machine_of};
-ghost use Rattle.node_programs.specs.Machines.{event, is_enabled};
-ghost use Rattle.node_programs.specs.Stops.{stop_of};
+ghost use Rattle.node_programs.specs.{Ended.machine_of, Machines.{event, is_enabled}, Stops.stop_of};
 ghost use Rattle.replay.specs.Ends.{IsLast, end_of};
 
 use node_programs::{Fired, Machine};

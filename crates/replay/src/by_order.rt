@@ -1,11 +1,8 @@
 //! Runs of a machine in the order that a seed draws.
 
-ghost use Rattle.std.specs.Prelude.{◌≡◌, ℕ, ◌+◌, ◌<◌, ◌≤◌, [], ◌∷◌, ◌++◌, Some, IfOk, OnErr, vec_len};
-ghost use Rattle.std.specs.Vec.{vec_capacity};
-ghost use Rattle.schedule.specs.Bags.{Bags};
-ghost use Rattle.schedule.specs.Sends.{IsInRange, IsSchedule, ScheduleValue};
-ghost use Rattle.node_programs.specs.Runs.{chosen, machine_run};
-ghost use Rattle.node_programs.specs.Ended.{machine_of};
+ghost use Rattle.std.specs.{Prelude.{◌≡◌, ℕ, ◌+◌, ◌<◌, ◌≤◌, [], ◌∷◌, ◌++◌, Some, IfOk, OnErr, vec_len}, Vec.vec_capacity};
+ghost use Rattle.schedule.specs.{Bags.Bags, Sends.{IsInRange, IsSchedule, ScheduleValue}};
+ghost use Rattle.node_programs.specs.{Runs.{chosen, machine_run}, Ended.machine_of};
 ghost use Rattle.replay.specs.Ends.{IsLast};
 
 use crate::OutOfMemory;

@@ -1,8 +1,7 @@
 //! What the generator of an order draws.
 
 ghost use Rattle.std.specs.Prelude.{◌≡◌, ◌<◌, true, length, slice_get, IfSome};
-ghost use Rattle.node_programs.specs.Machines.{is_enabled};
-ghost use Rattle.node_programs.specs.Runs.{enabled, next_draw, ranked};
+ghost use Rattle.node_programs.specs.{Machines.is_enabled, Runs.{enabled, next_draw, ranked}};
 
 use node_programs::Machine;
 

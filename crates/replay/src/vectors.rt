@@ -1,8 +1,7 @@
 //! Lists of events, and how they end.
 
 ghost use Rattle.std.specs.Prelude.{◌≡◌, [], ◌∷◌};
-ghost use Rattle.node_programs.specs.Relay.{relay};
-ghost use Rattle.node_programs.specs.Stops.{stop_of};
+ghost use Rattle.node_programs.specs.{Relay.relay, Stops.stop_of};
 ghost use Rattle.replay.specs.Ends.{end_of};
 
 use crate::by_list::ListEnd;

@@ -1,33 +1,19 @@
 -- The lines that are appended for a point are those that it shows.
 use Rattle.std.proofs.Common.{◌≡◌, ℕ, zero, suc, ◌+◌, ◌<◌, ◌≤◌, Bool, true, false, if◌then◌else◌, List, [], ◌∷◌, ◌++◌, map, length, Option, None, Some, refl, sym, ap, ◌∙◌, arith, codes, decimal, append-nil, append_assoc}
-use Rattle.std.specs.List.{range_with_len}
-use Rattle.std.proofs.lemmas.Grind.{flat_map-append}
-use Rattle.schedule.specs.Sends.{ScheduleValue}
-use Rattle.schedule.specs.Placed.{PlacementValue}
-use Rattle.schedule.specs.Links.{TopologyValue}
-use Rattle.schedule.specs.Bags.{Bags, contributions, held_at_2, of_placement}
-use Rattle.schedule.specs.Running.{run_of}
-use Rattle.schedule.specs.JoinedRuns.{joined_run}
-use Rattle.schedule.specs.Judging.{verdict_of}
-use Rattle.schedule.specs.declared.verdict.Verdict.{Verdict}
-use Rattle.inversion.specs.declared.verdict.SumVerdict.{SumVerdict}
-use Rattle.inversion.specs.Saying.{says_solves, says_sums}
-use Rattle.collective_spec.specs.declared.instance.Instance.{Instance}
-use Rattle.collective_spec.specs.declared.spec.Spec.{Spec}
-use Rattle.collective_spec.specs.Collectives.{chunks_in, spec_instance}
-use Rattle.bag_runs.specs.Stores.{StoreValue, stored}
-use Rattle.node_programs.specs.Machines.{State}
-use Rattle.node_programs.specs.Ended.{machine_of}
-use Rattle.bag_runs.proofs.Tables.{table_cell}
+use Rattle.std.{specs.List.range_with_len, proofs.lemmas.Grind.flat_map-append}
+use Rattle.schedule.specs.{Sends.ScheduleValue, Placed.PlacementValue, Links.TopologyValue, Bags.{Bags, contributions, held_at_2, of_placement}, Running.run_of}
+use Rattle.schedule.specs.{JoinedRuns.joined_run, Judging.verdict_of, declared.verdict.Verdict.Verdict}
+use Rattle.inversion.specs.{declared.verdict.SumVerdict.SumVerdict, Saying.{says_solves, says_sums}}
+use Rattle.collective_spec.specs.{declared.{instance.Instance.Instance, spec.Spec.Spec}, Collectives.{chunks_in, spec_instance}}
+use Rattle.bag_runs.{specs.Stores.{StoreValue, stored}, proofs.Tables.table_cell}
+use Rattle.node_programs.specs.{Machines.State, Ended.machine_of}
 use Rattle.text_lines.specs.Text.{line, text_of}
 use Rattle.topology_text.specs.Spelling.{name_at}
-use Rattle.replay_text.specs.Replay.{node_lines, numbered_steps, verdict_words}
-use Rattle.replay_text.specs.Showing as showing
-use Rattle.replay_text.specs.Showing.{Shown, adding_of, bag_lines, chunks_at, copied_verdict, holds_as_shown, instance_at, is_copied, is_joined, nodes_of, order_lines, shown_steps, shown_text, shown_verdict, steps_that_add, sum_words, summed_verdict}
-use Rattle.replay_text.specs.Points.{body_lines}
+use Rattle.replay_text.specs.{Replay.{node_lines, numbered_steps, verdict_words}, Points.body_lines}
+use Rattle.replay_text.specs.Showing.{Shown, adding_of, bag_lines, chunks_at, copied_verdict, holds_as_shown, instance_at, is_copied, nodes_of, order_lines, shown_steps, shown_text, shown_verdict, steps_that_add, sum_words, summed_verdict}
 use Rattle.replay_text.specs.inner.Appended.{bag_word, digits_of, keeper_words, more_lines, placed_lines, placed_steps, store_lines, stored_lines, stored_steps, bag_words, counts_word, start_bags}
-use Rattle.replay_text.proofs.Lines.{appends}
-use Rattle.replay_text.proofs.Showable.{pre_chunks, pre_nodes}
+use Rattle.replay_text.proofs.{Lines.appends, Showable.{pre_chunks, pre_nodes}}
+use Rattle.replay_text.specs.Showing as showing
 
 -- ---- lines from steps, a verdict, and a machine
 

@@ -1,19 +1,12 @@
 -- The store after the last step of a point that adds up.
-use Rattle.std.proofs.Common.{◌≡◌, ℕ, ◌+◌, ◌<◌, false, List, length, map, get_or, sym, ap, ◌∙◌, arith}
-use Rattle.std.specs.List.{range_with_len}
+use Rattle.std.{proofs.Common.{◌≡◌, ℕ, ◌+◌, ◌<◌, false, List, length, map, get_or, sym, ap, ◌∙◌, arith}, specs.List.range_with_len}
 use Rattle.std.proofs.lemmas.List.FromFn.{length-map-range_with_len, get_or-map-range_with_len}
-use Rattle.schedule.specs.Links.{TopologyValue}
-use Rattle.schedule.specs.Sends.{ScheduleValue}
-use Rattle.schedule.specs.Bags.{Bags, contributions}
-use Rattle.schedule.specs.JoinedRuns.{joined_after, joined_run}
-use Rattle.bag_runs.specs.Stores.{StoreValue, stored}
-use Rattle.bag_runs.proofs.JoinedSteps.{adding_throughout}
+use Rattle.schedule.specs.{Links.TopologyValue, Sends.ScheduleValue, Bags.{Bags, contributions}, JoinedRuns.{joined_after, joined_run}}
+use Rattle.bag_runs.{specs.Stores.{StoreValue, stored}, proofs.JoinedSteps.adding_throughout}
 use Rattle.inversion.specs.Judging.{last_bags}
 use Rattle.allreduce_join.specs.Judging.{joined_bags}
-use Rattle.replay_text.specs.Showing.{Shown, adding_of, chunks_at, is_copied, is_joined, nodes_of}
-use Rattle.replay_text.specs.Points.{IsShowable, last_store_of}
-use Rattle.replay_text.proofs.Bodies.{adding_is}
-use Rattle.replay_text.proofs.Ordered.{mapped_twice}
+use Rattle.replay_text.specs.{Showing.{Shown, adding_of, chunks_at, is_copied, is_joined, nodes_of}, Points.{IsShowable, last_store_of}}
+use Rattle.replay_text.proofs.{Bodies.adding_is, Ordered.mapped_twice}
 
 -- ---- in a run
 

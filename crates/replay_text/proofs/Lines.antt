@@ -1,20 +1,11 @@
 -- The lines of a replay, one after the other.
-use Rattle.std.proofs.Common.{◌≡◌, ℕ, zero, suc, ◌+◌, ◌-◌, ◌∷◌, [], ◌++◌, List, Bool, true, false, if◌then◌else◌, codes, decimal, map, filter, length, Option, None, Some, slice_get, slice_index, refl, ◌∙◌, sym, ap, arith, add-one, add-zero, zero-add, append-nil, append_assoc}
-use Rattle.std.specs.Prelude.{unwrap_or, Result, OnOk}
-use Rattle.std.specs.List.{flat_map, range_with_len, last_or}
-use Rattle.std.proofs.lemmas.Grind.{flat_map-append}
-use Rattle.std.proofs.lemmas.List.{length-map, map-append}
-use Rattle.std.proofs.lemmas.List.Elements.{filter-append}
-use Rattle.std.proofs.lemmas.List.Folds.{flat_map-map}
-use Rattle.std.proofs.lemmas.List.FromFn.{map-range_with_len_more}
-use Rattle.std.proofs.lemmas.Result.{on_ok_weaker}
+use Rattle.std.proofs.Common.{◌≡◌, ℕ, zero, suc, ◌+◌, ◌-◌, ◌∷◌, [], ◌++◌, List, Bool, true, false, if◌then◌else◌, codes, decimal, map, filter, length, Option, None, Some, slice_get, slice_index, refl, ◌∙◌, sym, ap, arith, add-one, add-zero, zero-add, append-nil, append_assoc, Result, OnOk}
+use Rattle.std.{specs.{Prelude.unwrap_or, List.{flat_map, range_with_len, last_or}}, proofs.lemmas.{Grind.flat_map-append, List.{length-map, map-append}}}
+use Rattle.std.proofs.lemmas.{List.{Elements.filter-append, Folds.flat_map-map, FromFn.map-range_with_len_more}, Result.on_ok_weaker}
 use Rattle.bag_runs.specs.Kept.{counted}
-use Rattle.text_lines.specs.Text.{line, text_of}
-use Rattle.text_lines.proofs.Words.{join_fields}
-use Rattle.topology_text.specs.Spelling.{name_at}
-use Rattle.topology_text.proofs.Printed.{appended_three}
-use Rattle.replay_text.specs.Replay.{numbered_steps}
-use Rattle.replay_text.specs.inner.Appended.{digits_of, last_of, move_lines, step_head}
+use Rattle.text_lines.{specs.Text.{line, text_of}, proofs.Words.join_fields}
+use Rattle.topology_text.{specs.Spelling.name_at, proofs.Printed.appended_three}
+use Rattle.replay_text.specs.{Replay.numbered_steps, inner.Appended.{digits_of, last_of, move_lines, step_head}}
 
 pub range_more : (a n : ℕ) → range_with_len a (n + 1) ≡ range_with_len a n ++ (a + n) ∷ []
 range_more a zero = ap (λ x. x ∷ []) (sym (add-zero a))

@@ -1,19 +1,11 @@
 -- The machine of a point, and the events of its runs.
-use Rattle.std.proofs.Common.{◌≡◌, ℕ, List, [], ◌∷◌, length, map, sym, ap, ◌∙◌, subst}
-use Rattle.std.specs.Prelude.{All, Result, IfOk}
-use Rattle.std.specs.List.{AllByRecursion}
+use Rattle.std.{proofs.Common.{◌≡◌, ℕ, List, [], ◌∷◌, length, map, sym, ap, ◌∙◌, subst, All, Result, IfOk}, specs.List.AllByRecursion}
 use Rattle.std.proofs.lemmas.List.Elements.{All-from_recursion}
 use Rattle.schedule.specs.Sends.{IsInRange, ScheduleValue}
-use Rattle.node_programs.specs.declared.op.Op.{Op}
-use Rattle.node_programs.specs.Below.{AreBelow}
-use Rattle.bag_runs.specs.Stores.{StoreValue, stored}
-use Rattle.node_programs.specs.Machines.{State, start_of}
-use Rattle.node_programs.specs.Programs.{programs_of}
-use Rattle.node_programs.specs.Runs.{chosen, operations}
+use Rattle.node_programs.specs.{declared.op.Op.Op, Below.AreBelow, Machines.{State, start_of}, Programs.programs_of, Runs.{chosen, operations}}
 use Rattle.node_programs.proofs.Everywhere.{every_seed}
-use Rattle.replay_text.specs.Points.{IsShowable}
-use Rattle.replay_text.specs.Showing.{Shown, adding_of, chunks_at, machine_of, nodes_of}
-use Rattle.replay_text.specs.inner.Appended.{start_bags}
+use Rattle.bag_runs.specs.Stores.{StoreValue, stored}
+use Rattle.replay_text.specs.{Points.IsShowable, Showing.{Shown, adding_of, chunks_at, machine_of, nodes_of}, inner.Appended.start_bags}
 
 -- the programs of as many nodes, and of the same schedule
 pub below_same : {E : Type 0} (made : Result (List (List Op)) E) (m n : ℕ) (s t : ScheduleValue) → m ≡ n → s ≡ t

@@ -1,23 +1,13 @@
 -- The text of a run: its steps, the verdict, and the run of the programs in an order.
 use Rattle.std.proofs.Common.{◌≡◌, ℕ, if◌then◌else◌, List, [], ◌∷◌, ◌++◌, map, length, Option, None, refl, sym, ap, ◌∙◌, append_assoc}
 use Rattle.std.proofs.lemmas.Grind.{flat_map-append}
-use Rattle.schedule.specs.Sends.{IsInRange, IsSchedule, ScheduleValue}
-use Rattle.schedule.specs.Bags.{Bags}
-use Rattle.schedule.specs.JoinedRuns.{joined_run}
-use Rattle.inversion.specs.declared.verdict.SumVerdict.{SumVerdict}
-use Rattle.inversion.specs.Saying.{says_sums}
-use Rattle.bag_runs.specs.Stores.{StoreValue, bag_in, stored}
-use Rattle.node_programs.specs.Machines.{State, start_of}
-use Rattle.node_programs.specs.declared.op.Op.{Op}
-use Rattle.bag_runs.specs.Kept.{IsStore}
+use Rattle.schedule.specs.{Sends.{IsInRange, IsSchedule, ScheduleValue}, Bags.Bags, JoinedRuns.joined_run}
+use Rattle.inversion.specs.{declared.verdict.SumVerdict.SumVerdict, Saying.says_sums}
+use Rattle.bag_runs.specs.{Stores.{StoreValue, bag_in, stored}, Kept.IsStore}
+use Rattle.node_programs.specs.{Machines.{State, start_of}, declared.op.Op.Op, Programs.programs_of, Runs.{chosen, operations}, Ended.machine_of}
 use Rattle.replay.specs.Ends.{IsLast}
-use Rattle.node_programs.specs.Programs.{programs_of}
-use Rattle.node_programs.specs.Runs.{chosen, operations}
-use Rattle.node_programs.specs.Ended.{machine_of}
 use Rattle.text_lines.specs.Text.{line, text_of}
-use Rattle.replay_text.specs.Replay.{numbered_steps}
-use Rattle.replay_text.specs.Showing.{sum_words}
-use Rattle.replay_text.specs.inner.Appended.{more_lines, move_lines, store_lines, stored_lines, stored_steps}
+use Rattle.replay_text.specs.{Replay.numbered_steps, Showing.sum_words, inner.Appended.{more_lines, move_lines, store_lines, stored_lines, stored_steps}}
 
 -- the events of a run that goes to its end
 pub order_events : (names : List (List ℕ)) (start : StoreValue) (s : ScheduleValue) (adding seed nodes : ℕ) (programs : List (List Op)) (first last : State) (moves drawn : List ℕ) → IsSchedule s → IsInRange start.chunks start.nodes s → IsStore start

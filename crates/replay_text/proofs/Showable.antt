@@ -1,26 +1,17 @@
 -- What a report keeps of each of its points, and the instance that its part asks for.
-use Rattle.std.proofs.Common.{◌≡◌, arith, ◌≤◌, ◌<◌, ◌⊎◌, ⊎_elim, ℕ, zero, suc, true, false, List, [], ◌∷◌, map, length, All, Option, None, Some, IfSome, IsTrue, slice_get, refl, subst, ap}
-use Rattle.std.specs.Prelude.{nat_le, Contains}
-use Rattle.std.specs.List.{AllByRecursion, flat_map}
-use Rattle.std.proofs.lemmas.Bool.{and_parts, leb-true, not-true}
+use Rattle.std.proofs.Common.{◌≡◌, arith, ◌≤◌, ◌<◌, ◌⊎◌, ⊎_elim, ℕ, zero, suc, true, false, List, [], ◌∷◌, map, length, All, Option, None, Some, IfSome, IsTrue, slice_get, refl, subst, ap, nat_le, Contains}
+use Rattle.std.{specs.List.{AllByRecursion, flat_map}, proofs.lemmas.Bool.{and_parts, leb-true, not-true}}
 use Rattle.std.proofs.lemmas.List.Elements.{All-contains, All-from_recursion, recursion_from_All}
 use Rattle.outer_ports.specs.declared.part.Part.{Part}
 use Rattle.outer_ports.specs.declared.part.Part.TheVariants as part
-use Rattle.collective_spec.specs.declared.kind.Kind.{Kind}
-use Rattle.collective_spec.specs.declared.collective.Collective.{Collective}
-use Rattle.collective_spec.specs.declared.spec.Spec.{Spec}
+use Rattle.collective_spec.specs.{declared.{kind.Kind.Kind, collective.Collective.Collective, spec.Spec.Spec}, Kinds.{allows, is_custom}}
+use Rattle.collective_spec.specs.{Patterns.{PatternValue, IsPattern}, Collectives.{IsSpec, chunks_in, fits_kind, spec_demand, spec_instance, spec_of}}
 use Rattle.collective_spec.specs.declared.spec.Spec.TheVariants as spec
-use Rattle.collective_spec.specs.Kinds.{allows, is_custom}
-use Rattle.collective_spec.specs.Patterns.{PatternValue, IsPattern}
-use Rattle.collective_spec.specs.Collectives.{IsSpec, chunks_in, fits_kind, spec_demand, spec_instance, spec_of}
-use Rattle.candidate_order.specs.declared.mark.Mark.{Mark}
+use Rattle.candidate_order.specs.{declared.mark.Mark.Mark, Frontiers.{PointValue, FrontierValue}}
 use Rattle.candidate_order.specs.declared.mark.Mark.TheVariants as mark
-use Rattle.candidate_order.specs.Frontiers.{PointValue, FrontierValue}
-use Rattle.report_form.specs.Reports.{ReportValue, IsReport, IsPoint, IsJoinedPoint, question_of, kind_of}
-use Rattle.report_form.specs.Numbered.{point_at, points_of}
+use Rattle.report_form.specs.{Reports.{ReportValue, IsReport, IsPoint, IsJoinedPoint, question_of, kind_of}, Numbered.{point_at, points_of}}
 use Rattle.schedule.proofs.First.{each_append}
-use Rattle.replay_text.specs.Showing.{shown_in, steps_that_add}
-use Rattle.replay_text.specs.Points.{IsShowable}
+use Rattle.replay_text.specs.{Showing.{shown_in, steps_that_add}, Points.IsShowable}
 
 get_has : {X : Type 0} (P : X → Type 0) (xs : List X) (n : ℕ) (x : X) → AllByRecursion P xs → slice_get xs n ≡ Some x → P x
 get_has P [] n x all e = absurd (cc)

@@ -1,15 +1,11 @@
 -- What a report keeps of each of its points, and the text of a point's programs.
 use Rattle.std.specs.Prelude.{◌≡◌, ℕ, ◌≤◌, false, List, ◌∷◌, ◌++◌, Option, if◌then◌else◌, [], IsTrue, length}
 use Rattle.outer_ports.specs.declared.part.Part.{Part}
-use Rattle.schedule.specs.Bags.{contributions}
-use Rattle.schedule.specs.JoinedRuns.{joined_after}
-use Rattle.schedule.specs.Sends.{IsInRange, IsSchedule}
+use Rattle.schedule.specs.{Bags.contributions, JoinedRuns.joined_after, Sends.{IsInRange, IsSchedule}}
 use Rattle.bag_runs.specs.Stores.{StoreValue, stored}
-use Rattle.collective_spec.specs.Kinds.{allows}
-use Rattle.collective_spec.specs.Collectives.{IsSpec, kind_in}
+use Rattle.collective_spec.specs.{Kinds.allows, Collectives.{IsSpec, kind_in}}
 use Rattle.candidate_order.specs.Frontiers.{PointValue}
-use Rattle.node_programs.specs.Programs.{programs_of}
-use Rattle.node_programs.specs.Printing.{programs_text}
+use Rattle.node_programs.specs.{Programs.programs_of, Printing.programs_text}
 use Rattle.report_form.specs.Reports.{ReportValue}
 use Rattle.replay_text.specs.Replay.{numbered_steps}
 use Rattle.replay_text.specs.Showing.{Shown, adding_of, chunks_at, holds_as_shown, is_joined, nodes_of, order_lines, shown_in, shown_steps, shown_verdict, steps_that_add}

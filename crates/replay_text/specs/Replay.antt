@@ -1,9 +1,6 @@
 -- The lines of a replay: who holds which chunk after each step, and the verdict.
-use Rattle.std.specs.Prelude.{ℕ, ◌+◌, List, [], ◌∷◌, ◌++◌, map, filter, codes, decimal}
-use Rattle.std.specs.List.{range_with_len}
-use Rattle.schedule.specs.Placed.{PlacementValue, holds}
-use Rattle.schedule.specs.declared.verdict.Verdict.{Verdict}
-use Rattle.schedule.specs.declared.verdict.Verdict.TheVariants.{Solves, Overfull, Lacking, NoLink}
+use Rattle.std.specs.{Prelude.{ℕ, ◌+◌, List, [], ◌∷◌, ◌++◌, map, filter, codes, decimal}, List.range_with_len}
+use Rattle.schedule.specs.{Placed.{PlacementValue, holds}, declared.verdict.Verdict.{Verdict, TheVariants.{Solves, Overfull, Lacking, NoLink}}}
 use Rattle.topology_text.specs.Spelling.{name_at}
 
 -- the lines of the nodes: a node's name, and the chunks that it holds, ascending

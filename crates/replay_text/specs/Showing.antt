@@ -3,28 +3,19 @@ use Rattle.std.specs.Prelude.{◌&&◌, ℕ, ◌+◌, not, Bool, true, false, if
 use Rattle.std.specs.List.{range_with_len, last_or}
 use Rattle.outer_ports.specs.declared.part.Part.{Part}
 use Rattle.outer_ports.specs.declared.part.Part.TheVariants as part
-use Rattle.schedule.specs.Bags.{Bags, contributions, of_placement, held_at_2}
-use Rattle.schedule.specs.Running.{run_of}
-use Rattle.schedule.specs.JoinedRuns.{joined_run}
-use Rattle.schedule.specs.declared.verdict.Verdict.{Verdict}
+use Rattle.schedule.specs.{Bags.{Bags, contributions, of_placement, held_at_2}, Running.run_of, JoinedRuns.joined_run, declared.verdict.Verdict.Verdict}
 use Rattle.schedule.specs.Judging.{verdict_of}
-use Rattle.inversion.specs.declared.verdict.SumVerdict.{SumVerdict}
-use Rattle.inversion.specs.declared.verdict.SumVerdict.TheVariants.{Sums, Missing, Twice, Overfull, NoLink, Clash}
-use Rattle.inversion.specs.Judging.{sum_verdict_of}
+use Rattle.inversion.specs.{declared.verdict.SumVerdict.{SumVerdict, TheVariants.{Sums, Missing, Twice, Overfull, NoLink, Clash}}, Judging.sum_verdict_of}
+use Rattle.inversion.specs.Saying.{says_solves, says_sums}
 use Rattle.allreduce_join.specs.Judging.{joined_verdict_of}
-use Rattle.collective_spec.specs.declared.instance.Instance.{Instance}
-use Rattle.collective_spec.specs.Collectives.{spec_instance, spec_demand, chunks_in, adds_up}
-use Rattle.candidate_order.specs.declared.mark.Mark.{Mark}
+use Rattle.collective_spec.specs.{declared.instance.Instance.Instance, Collectives.{spec_instance, spec_demand, chunks_in, adds_up}}
+use Rattle.candidate_order.specs.{declared.mark.Mark.Mark, Frontiers.{QuestionValue, PointValue}}
 use Rattle.candidate_order.specs.declared.mark.Mark.TheVariants as mark
-use Rattle.candidate_order.specs.Frontiers.{QuestionValue, PointValue}
-use Rattle.node_programs.specs.Programs.{programs_of}
+use Rattle.node_programs.specs.{Programs.programs_of, Machines.{State, start_of}, Runs.{operations, chosen}}
 use Rattle.bag_runs.specs.Stores.{stored}
-use Rattle.node_programs.specs.Machines.{State, start_of}
-use Rattle.node_programs.specs.Runs.{operations, chosen}
 use Rattle.text_lines.specs.Text.{text_of}
 use Rattle.topology_text.specs.Spelling.{name_at}
 use Rattle.report_form.specs.Reports.{ReportValue, question_of}
-use Rattle.inversion.specs.Saying.{says_solves, says_sums}
 use Rattle.replay_text.specs.Replay.{node_lines, numbered_steps, verdict_words}
 
 -- a point, its part, and what its part is asked for

@@ -1,11 +1,9 @@
 //! The lines of stores: how often each node has contributed to each chunk at each node.
 
-ghost use Rattle.std.specs.Prelude.{◌≡◌, ◌<◌, ◌++◌, ◌∷◌, flat_map, map, OnOk};
-ghost use Rattle.std.specs.List.{range_with_len};
+ghost use Rattle.std.specs.{Prelude.{◌≡◌, ◌<◌, ◌++◌, ◌∷◌, flat_map, map, OnOk}, List.range_with_len};
 ghost use Rattle.bag_runs.specs.Kept.{counted};
 ghost use Rattle.text_lines.specs.Text.{line, text_of};
-ghost use Rattle.replay_text.specs.Replay.{numbered_steps};
-ghost use Rattle.replay_text.specs.inner.Appended.{bag_word, digits_of, keeper_words, last_of, store_lines, step_head};
+ghost use Rattle.replay_text.specs.{Replay.numbered_steps, inner.Appended.{bag_word, digits_of, keeper_words, last_of, store_lines, step_head}};
 
 use crate::OutOfMemory;
 use crate::words::push_step_head;

@@ -2,9 +2,7 @@
 
 ghost use Rattle.std.specs.Prelude.{◌≡◌, ◌++◌, ◌∷◌, flat_map, length, if◌then◌else◌, None, OnOk};
 ghost use Rattle.schedule.specs.Sends.{IsInRange, IsSchedule};
-ghost use Rattle.node_programs.specs.Programs.{programs_of};
-ghost use Rattle.node_programs.specs.Machines.{start_of};
-ghost use Rattle.node_programs.specs.Runs.{chosen, operations};
+ghost use Rattle.node_programs.specs.{Programs.programs_of, Machines.start_of, Runs.{chosen, operations}};
 ghost use Rattle.text_lines.specs.Text.{text_of};
 ghost use Rattle.topology_text.specs.Spelling.{name_at};
 ghost use Rattle.replay_text.specs.inner.Appended.{move_lines};

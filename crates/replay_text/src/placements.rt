@@ -3,8 +3,7 @@
 ghost use Rattle.std.specs.Prelude.{◌≡◌, ◌<◌, ◌++◌, ◌∷◌, [], decimal, if◌then◌else◌, flat_map, map, OnOk};
 ghost use Rattle.schedule.specs.Placed.{holds};
 ghost use Rattle.text_lines.specs.Text.{line, text_of};
-ghost use Rattle.replay_text.specs.Replay.{node_lines, numbered_steps};
-ghost use Rattle.replay_text.specs.inner.Appended.{last_of, held_by, holder_words, step_head};
+ghost use Rattle.replay_text.specs.{Replay.{node_lines, numbered_steps}, inner.Appended.{last_of, held_by, holder_words, step_head}};
 
 use crate::OutOfMemory;
 use crate::words::push_step_head;

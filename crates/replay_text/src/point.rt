@@ -3,8 +3,7 @@
 ghost use Rattle.std.specs.Prelude.{◌≡◌, ◌++◌, true, false, Some, IfOk, OnOk};
 ghost use Rattle.report_form.specs.Numbered.{point_at};
 ghost use Rattle.text_lines.specs.Text.{text_of};
-ghost use Rattle.replay_text.specs.Showing.{adding_of, is_copied, shown_in, shown_text, summed_verdict};
-ghost use Rattle.replay_text.specs.Points.{IsShowable, body_lines, last_store_of};
+ghost use Rattle.replay_text.specs.{Showing.{adding_of, is_copied, shown_in, shown_text, summed_verdict}, Points.{IsShowable, body_lines, last_store_of}};
 
 use crate::OutOfMemory;
 use crate::adding::{copies, is_joined, steps_that_add};

@@ -2,10 +2,8 @@
 
 ghost use Rattle.std.specs.Prelude.{◌≡◌, ℕ, length, IfOk};
 ghost use Rattle.schedule.specs.Sends.{IsInRange};
-ghost use Rattle.node_programs.specs.Below.{AreBelow};
-ghost use Rattle.node_programs.specs.Programs.{programs_of};
-ghost use Rattle.replay_text.specs.Showing.{adding_of, nodes_of, shown_in};
-ghost use Rattle.replay_text.specs.Points.{programs_of_point};
+ghost use Rattle.node_programs.specs.{Below.AreBelow, Programs.programs_of};
+ghost use Rattle.replay_text.specs.{Showing.{adding_of, nodes_of, shown_in}, Points.programs_of_point};
 
 use crate::OutOfMemory;
 use crate::adding::{copies, steps_that_add};

@@ -2,13 +2,9 @@
 
 ghost use Rattle.std.specs.Prelude.{◌≡◌, All, Contains, IfOk, length, map};
 ghost use Rattle.bag_runs.specs.Stores.{stored};
-ghost use Rattle.node_programs.specs.Below.{AreBelow};
-ghost use Rattle.node_programs.specs.Machines.{start_of};
-ghost use Rattle.node_programs.specs.Runs.{chosen, operations};
+ghost use Rattle.node_programs.specs.{Below.AreBelow, Machines.start_of, Runs.{chosen, operations}};
 ghost use Rattle.report_form.specs.Numbered.{points_of};
-ghost use Rattle.replay_text.specs.Points.{IsShowable};
-ghost use Rattle.replay_text.specs.Showing.{chunks_at, machine_of, nodes_of, shown_in};
-ghost use Rattle.replay_text.specs.inner.Appended.{start_bags};
+ghost use Rattle.replay_text.specs.{Points.IsShowable, Showing.{chunks_at, machine_of, nodes_of, shown_in}, inner.Appended.start_bags};
 
 use crate::OutOfMemory;
 use crate::adding::copies;

@@ -2,14 +2,9 @@
 //! order.
 
 ghost use Rattle.std.specs.Prelude.{◌≡◌, ◌++◌, map, OnOk};
-ghost use Rattle.schedule.specs.Sends.{IsInRange, IsSchedule};
-ghost use Rattle.schedule.specs.Bags.{Bags, of_placement};
-ghost use Rattle.schedule.specs.Running.{run_of};
-ghost use Rattle.schedule.specs.JoinedRuns.{joined_run};
+ghost use Rattle.schedule.specs.{Sends.{IsInRange, IsSchedule}, Bags.{Bags, of_placement}, Running.run_of, JoinedRuns.joined_run};
 ghost use Rattle.bag_runs.specs.Stores.{stored};
-ghost use Rattle.node_programs.specs.Machines.{start_of};
-ghost use Rattle.node_programs.specs.Programs.{programs_of};
-ghost use Rattle.node_programs.specs.Ended.{machine_of};
+ghost use Rattle.node_programs.specs.{Machines.start_of, Programs.programs_of, Ended.machine_of};
 ghost use Rattle.text_lines.specs.Text.{text_of};
 ghost use Rattle.replay_text.specs.inner.Appended.{more_lines, placed_lines, placed_steps, store_lines, stored_lines};
 

@@ -1,8 +1,7 @@
 //! What the definitions give on small points.
 
 ghost use Rattle.std.specs.Prelude.{◌≡◌, None, Some, codes};
-ghost use Rattle.replay_text.specs.Showing.{shown_text};
-ghost use Rattle.replay_text.specs.Rows.{broadcast_point, joined_point};
+ghost use Rattle.replay_text.specs.{Showing.shown_text, Rows.{broadcast_point, joined_point}};
 
 /// The replay of a broadcast in an order, and that of the joined point of an allreduce.
 pub fn replays()

@@ -4,8 +4,7 @@ ghost use Rattle.std.specs.Prelude.{◌≡◌, ◌++◌, ◌∷◌, [], decimal,
 ghost use Rattle.text_lines.specs.Text.{line};
 ghost use Rattle.topology_text.specs.Spelling.{name_at};
 ghost use Rattle.inversion.specs.Saying.{says_solves, says_sums};
-ghost use Rattle.replay_text.specs.Replay.{verdict_words};
-ghost use Rattle.replay_text.specs.Showing.{sum_words};
+ghost use Rattle.replay_text.specs.{Replay.verdict_words, Showing.sum_words};
 
 use crate::OutOfMemory;
 use inversion::SumVerdict;

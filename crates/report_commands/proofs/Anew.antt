@@ -1,18 +1,14 @@
 -- What is said of a search that was done anew.
-use Rattle.std.proofs.Common.{◌≡◌, false, ℕ, List, refl, ap, subst, ◌∙◌}
-use Rattle.std.specs.Prelude.{All}
+use Rattle.std.proofs.Common.{◌≡◌, false, ℕ, List, refl, ap, subst, ◌∙◌, All}
 use Rattle.outer_ports.specs.declared.part.Part.TheVariants.{Whole}
-use Rattle.candidate_order.specs.declared.candidate.Candidate.{Candidate}
-use Rattle.candidate_order.specs.Frontiers.{QuestionValue}
+use Rattle.candidate_order.specs.{declared.candidate.Candidate.Candidate, Frontiers.QuestionValue}
 use Rattle.topology_text.specs.Value.{NamedTopologyValue}
 use Rattle.report_form.specs.Reports.{WordsValue, ReportValue, question_of}
 use Rattle.candidate_formula.specs.Pruned.{is_cut_away}
 use Rattle.engine_search.specs.Found.{IsFound}
 use Rattle.link_faults.specs.Carrying.{is_carried, narrowed_question}
-use Rattle.run_rules.specs.declared.status.Status.TheVariants.{Done}
-use Rattle.run_rules.specs.Degraded.{IsNewSearch, degraded_text, left_topology, old_refuted}
-use Rattle.report_commands.specs.declared.found.Found.{Found}
-use Rattle.report_commands.specs.inner.After.{IsFoundAfter}
+use Rattle.run_rules.specs.{declared.status.Status.TheVariants.Done, Degraded.{IsNewSearch, degraded_text, left_topology, old_refuted}}
+use Rattle.report_commands.specs.{declared.found.Found.Found, inner.After.IsFoundAfter}
 
 -- as the code has it: by the parts of the report
 pub new_search : (r : ReportValue) (group width : ℕ) (old : List Candidate) (given : QuestionValue) (found : Found) (words : WordsValue) (named left : NamedTopologyValue) (text : List ℕ)

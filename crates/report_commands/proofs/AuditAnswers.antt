@@ -2,19 +2,12 @@
 use Rattle.std.proofs.Common.{◌≡◌, ℕ, IsTrue, List, Ok, Err, sym, subst, ap, ◌∙◌}
 use Rattle.text_lines.specs.Check.{◌>>=◌}
 use Rattle.report_form.specs.Reports.{ReportValue, IsReport}
-use Rattle.frontier_audit.specs.declared.verdict.AuditVerdict.{AuditVerdict}
-use Rattle.frontier_audit.specs.declared.verdict.AuditVerdict.TheVariants as audit
-use Rattle.frontier_audit.specs.Auditing.{audit_of}
-use Rattle.frontier_audit.specs.Beside.{IsVerdictOver}
-use Rattle.frontier_audit.specs.Rights.{HasLogs, IsRight}
+use Rattle.frontier_audit.specs.{declared.verdict.AuditVerdict.AuditVerdict, Auditing.audit_of, Beside.IsVerdictOver, Rights.{HasLogs, IsRight}}
 use Rattle.frontier_audit.proofs.Audited.{shelf_right}
-use Rattle.run_rules.specs.declared.status.Status.{Status}
-use Rattle.run_rules.specs.Tasks.{Audit, searchable}
-use Rattle.run_rules.specs.Steps.{audit_in, verdict_status, verdict_text, whole_question}
-use Rattle.run_rules.specs.Audits.{IsAudited, audited, not_denied}
-use Rattle.run_rules.specs.Answers.{FilesValue, IsAnswer, IsVerified, Says, Stay}
-use Rattle.run_rules.proofs.Denied.{accepted_so, said_as}
-use Rattle.run_rules.proofs.OverFiles.{HasVerdict, has_verdict}
+use Rattle.frontier_audit.specs.declared.verdict.AuditVerdict.TheVariants as audit
+use Rattle.run_rules.specs.{declared.status.Status.Status, Tasks.{Audit, searchable}, Steps.{audit_in, verdict_status, verdict_text, whole_question}}
+use Rattle.run_rules.specs.{Audits.{IsAudited, audited, not_denied}, Answers.{FilesValue, IsAnswer, IsVerified, Says, Stay}}
+use Rattle.run_rules.proofs.{Denied.{accepted_so, said_as}, OverFiles.{HasVerdict, has_verdict}}
 
 -- ---- a report whose search can be done is audited
 

@@ -1,6 +1,5 @@
 -- Which check refuses a fault of a report's links, and when none does.
-use Rattle.std.proofs.Common.{◌≡◌, ◌≢◌, ◌<◌, ◌≤◌, ℕ, zero, suc, List, [], ◌∷◌, length, arith, Bool, true, false, nat_lt, not, Option, None, Some, Result, Ok, Err, refl, ap, ◌∙◌}
-use Rattle.std.specs.Prelude.{slice_get}
+use Rattle.std.proofs.Common.{◌≡◌, ◌≢◌, ◌<◌, ◌≤◌, ℕ, zero, suc, List, [], ◌∷◌, length, arith, Bool, false, nat_lt, not, Option, None, Some, Result, Ok, Err, refl, ap, ◌∙◌, slice_get}
 use Rattle.std.proofs.lemmas.Bool.{le-ltb, lt-ltb}
 use Rattle.text_lines.specs.Check.{◌>>=◌, need, refuse}
 use Rattle.schedule.specs.Links.{GroupValue}
@@ -8,8 +7,7 @@ use Rattle.collective_spec.specs.declared.kind.Kind.{Kind}
 use Rattle.collective_spec.specs.declared.kind.Kind.TheVariants.{Broadcast, Gather, Allgather, Scatter, Alltoall, Reduce, Reducescatter, Allreduce, Custom}
 use Rattle.command_words.specs.declared.fault.WordCode.TheVariants.{NotNarrower, ReportNotTaken, UnknownGroup}
 use Rattle.report_form.specs.Reports.{ReportValue}
-use Rattle.run_rules.specs.Refusals.{Refusal, refused_word}
-use Rattle.run_rules.specs.Tasks.{fault_in, is_allreduce}
+use Rattle.run_rules.specs.{Refusals.{Refusal, refused_word}, Tasks.{fault_in, is_allreduce}}
 
 pub none_there : {X : Type 0} (xs : List X) (i : ℕ) → length xs ≤ i → slice_get xs i ≡ None
 none_there [] i h = refl

@@ -1,24 +1,14 @@
 -- What is searched over the links that a fault left, in place of what was asked for.
-use Rattle.std.proofs.Common.{◌≡◌, ◌≢◌, ◌<◌, ◌≤◌, ℕ, Bool, true, false, List, length, refl, sym, ap, subst, ◌∙◌, arith}
-use Rattle.std.specs.Prelude.{if◌then◌else◌, All}
-use Rattle.schedule.specs.Links.{GroupValue, TopologyValue, reversed_of}
-use Rattle.schedule.specs.Judging.{group_at}
-use Rattle.collective_spec.specs.declared.spec.Spec.{Spec}
+use Rattle.std.proofs.Common.{◌≡◌, ◌≢◌, ◌<◌, ◌≤◌, ℕ, Bool, true, false, List, length, refl, sym, ap, subst, ◌∙◌, arith, if◌then◌else◌, All}
+use Rattle.schedule.specs.{Links.{GroupValue, TopologyValue, reversed_of}, Judging.group_at}
+use Rattle.collective_spec.specs.{declared.spec.Spec.Spec, Collectives.{IsSpec, adds_up, kind_in}}
 use Rattle.collective_spec.specs.declared.kind.Kind.TheVariants as kind
-use Rattle.collective_spec.specs.Collectives.{IsSpec, adds_up, kind_in}
-use Rattle.candidate_order.specs.declared.candidate.Candidate.{Candidate}
-use Rattle.candidate_order.specs.Frontiers.{QuestionValue}
+use Rattle.candidate_order.specs.{declared.candidate.Candidate.Candidate, Frontiers.QuestionValue}
 use Rattle.round_encoding.specs.Candidates.{size_limit}
-use Rattle.candidate_formula.specs.Formulas.{formula_for}
-use Rattle.candidate_formula.specs.Questions.{copying_question}
-use Rattle.candidate_formula.specs.Sizes.{size_of}
-use Rattle.candidate_formula.specs.Formulas.{searched_links}
-use Rattle.candidate_formula.specs.Searched.{searched_question}
+use Rattle.candidate_formula.specs.{Formulas.{formula_for, searched_links}, Questions.copying_question, Sizes.size_of, Searched.searched_question}
 use Rattle.engine_search.proofs.Searched.{same_formulas, searched_itself, searched_turned}
-use Rattle.link_faults.specs.Narrowed.{narrowed}
-use Rattle.link_faults.specs.Carrying.{IsOldRefuted, narrowed_question}
-use Rattle.link_faults.proofs.Reversed.{as_many_groups, group_turned, narrowed_turned, old_turned}
-use Rattle.link_faults.proofs.Sizes.{no_larger}
+use Rattle.link_faults.specs.{Narrowed.narrowed, Carrying.{IsOldRefuted, narrowed_question}}
+use Rattle.link_faults.proofs.{Reversed.{as_many_groups, group_turned, narrowed_turned, old_turned}, Sizes.no_larger}
 use Rattle.degraded_links.specs.Keeping.{question_over}
 
 -- ---- the links

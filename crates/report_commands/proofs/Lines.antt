@@ -1,20 +1,13 @@
 -- The text of a frontier after a fault, piece by piece.
-use Rattle.std.proofs.Common.{◌≡◌, ℕ, List, [], ◌∷◌, ◌++◌, map, sym, ap, ◌∙◌}
-use Rattle.std.specs.Prelude.{codes, filter, not}
-use Rattle.std.specs.List.{flat_map}
+use Rattle.std.{proofs.Common.{◌≡◌, ℕ, List, [], ◌∷◌, ◌++◌, map, sym, ap, ◌∙◌, codes, filter, not}, specs.List.flat_map}
 use Rattle.outer_ports.specs.declared.part.Part.TheVariants.{Whole}
-use Rattle.candidate_order.specs.declared.candidate.Candidate.{Candidate}
-use Rattle.candidate_order.specs.Frontiers.{FrontierValue}
+use Rattle.candidate_order.specs.{declared.candidate.Candidate.Candidate, Frontiers.FrontierValue}
 use Rattle.text_lines.specs.Text.{line, text_of}
-use Rattle.topology_text.specs.Value.{NamedTopologyValue}
-use Rattle.topology_text.specs.Spelling.{lines_of, spelling}
-use Rattle.report_form.specs.Reports.{WordsValue}
-use Rattle.report_form.specs.Spelling.{part_words, point_lines, refuted_words, synth_words, unknown_words}
-use Rattle.report_printing.specs.Printed.{point_text}
-use Rattle.report_printing.proofs.Pieces.{text_append, text_each}
+use Rattle.topology_text.specs.{Value.NamedTopologyValue, Spelling.{lines_of, spelling}}
+use Rattle.report_form.specs.{Reports.WordsValue, Spelling.{part_words, point_lines, refuted_words, synth_words, unknown_words}}
+use Rattle.report_printing.{specs.Printed.point_text, proofs.Pieces.{text_append, text_each}}
 use Rattle.link_faults.specs.Carrying.{is_carried}
-use Rattle.run_rules.specs.Degraded.{degraded_text}
-use Rattle.run_rules.specs.Lines.{carried_words}
+use Rattle.run_rules.specs.{Degraded.degraded_text, Lines.carried_words}
 
 module _ (w : WordsValue) (t : NamedTopologyValue) (old : List Candidate) (f : FrontierValue) where
   abbrev points : List (List (List ℕ))

@@ -1,20 +1,13 @@
 -- What a right report refutes was refuted before a fault.
-use Rattle.std.proofs.Common.{◌≡◌, ◌≢◌, List, [], ◌∷◌, map, refl, sym, subst, ◌∙◌, arith}
-use Rattle.std.specs.Prelude.{All}
-use Rattle.std.specs.List.{AllByRecursion, flat_map}
-use Rattle.std.proofs.lemmas.List.Concat.{flat_map-cons}
-use Rattle.std.proofs.lemmas.List.Elements.{All-append, All-cons, All-nil, recursion_from_All}
-use Rattle.outer_ports.specs.declared.part.Part.{Part}
-use Rattle.outer_ports.specs.declared.part.Part.TheVariants.{Whole}
+use Rattle.std.{proofs.Common.{◌≡◌, ◌≢◌, List, [], ◌∷◌, map, refl, sym, subst, ◌∙◌, arith, All}, specs.List.{AllByRecursion, flat_map}}
+use Rattle.std.proofs.lemmas.List.{Concat.flat_map-cons, Elements.{All-append, All-cons, All-nil, recursion_from_All}}
+use Rattle.outer_ports.specs.declared.part.Part.{Part, TheVariants.Whole}
 use Rattle.collective_spec.specs.declared.kind.Kind.{Kind}
 use Rattle.collective_spec.specs.declared.kind.Kind.TheVariants as kind
-use Rattle.candidate_order.specs.declared.candidate.Candidate.{Candidate}
-use Rattle.candidate_order.specs.Frontiers.{QuestionValue, FrontierValue, IsWithin, IsSolvable}
-use Rattle.candidate_order.specs.Ranges.{IsLimits}
+use Rattle.candidate_order.specs.{declared.candidate.Candidate.Candidate, Frontiers.{QuestionValue, FrontierValue, IsWithin, IsSolvable}, Ranges.IsLimits}
 use Rattle.round_encoding.proofs.Obeyed.{all_map}
 use Rattle.report_form.specs.Reports.{ReportValue, IsFrontier, IsReport, parts_of, question_of}
-use Rattle.frontier_audit.specs.Rights.{IsRight}
-use Rattle.frontier_audit.specs.Parts.{IsRightPart}
+use Rattle.frontier_audit.specs.{Rights.IsRight, Parts.IsRightPart}
 use Rattle.link_faults.specs.Carrying.{HasFewRounds, IsOldRefuted}
 use Rattle.run_rules.specs.Degraded.{old_refuted}
 

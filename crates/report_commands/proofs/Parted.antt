@@ -1,13 +1,10 @@
 -- What a search found, and its refuted candidates parted.
-use Rattle.std.proofs.Common.{◌≡◌, false, List, Result, Ok, Err, sym, subst}
-use Rattle.std.specs.Prelude.{All, IfOk}
-use Rattle.candidate_order.specs.declared.candidate.Candidate.{Candidate}
-use Rattle.candidate_order.specs.Frontiers.{QuestionValue, FrontierValue}
+use Rattle.std.proofs.Common.{◌≡◌, false, List, Result, Ok, Err, sym, subst, All, IfOk}
+use Rattle.candidate_order.specs.{declared.candidate.Candidate.Candidate, Frontiers.{QuestionValue, FrontierValue}}
 use Rattle.candidate_formula.specs.Pruned.{is_cut_away}
 use Rattle.engine_search.specs.Found.{IsFound}
 use Rattle.link_faults.specs.Carrying.{is_carried}
-use Rattle.report_commands.specs.declared.found.Found.{Found}
-use Rattle.report_commands.specs.inner.After.{ArePartedBy, IsFoundAfter}
+use Rattle.report_commands.specs.{declared.found.Found.Found, inner.After.{ArePartedBy, IsFoundAfter}}
 
 module _ (q : QuestionValue) (old lent : List Candidate) (f : FrontierValue) (same : lent ≡ old) (found : IsFound q f) (points : All (λ p. is_carried old p.candidate ≡ false) f.points) (unknown : All (λ u. is_carried old u.candidate ≡ false) f.unknown) (uncut : All (λ u. is_cut_away q u.candidate ≡ false) f.unknown) where
   made_of : (after : Found) → after.frontier ≡ f → ArePartedBy lent after → IsFoundAfter q old after

@@ -3,18 +3,11 @@ use Rattle.std.proofs.Common.{◌≡◌, ℕ, List, Option, None, Some, Result, 
 use Rattle.text_lines.specs.Check.{◌>>=◌, need}
 use Rattle.outer_ports.specs.declared.part.Part.{Part}
 use Rattle.candidate_order.specs.Frontiers.{PointValue}
-use Rattle.report_form.specs.Reports.{ReportValue}
-use Rattle.report_form.specs.Numbered.{point_at}
-use Rattle.replay_text.specs.Showing.{shown_in, shown_text}
-use Rattle.replay_text.specs.Points.{programs_of_point}
-use Rattle.command_words.specs.declared.command.PointWord.{PointWord}
-use Rattle.command_words.specs.declared.fault.WordCode.TheVariants.{UnknownPoint}
-use Rattle.run_rules.specs.declared.status.Status.{Status}
-use Rattle.run_rules.specs.declared.status.Status.TheVariants.{BadWords, Done}
-use Rattle.run_rules.specs.Answers.{IsAnswerAlone, Says}
-use Rattle.run_rules.specs.Refusals.{Refusal, refused_word, refusal_line}
-use Rattle.run_rules.specs.Tasks.{Task, Write}
-use Rattle.run_rules.specs.Steps.{programs_in, replay_in}
+use Rattle.report_form.specs.{Reports.ReportValue, Numbered.point_at}
+use Rattle.replay_text.specs.{Showing.{shown_in, shown_text}, Points.programs_of_point}
+use Rattle.command_words.specs.declared.{command.PointWord.PointWord, fault.WordCode.TheVariants.UnknownPoint}
+use Rattle.run_rules.specs.{declared.status.Status.{Status, TheVariants.{BadWords, Done}}, Answers.{IsAnswerAlone, Says}, Tasks.{Task, Write}}
+use Rattle.run_rules.specs.{Refusals.{Refusal, refused_word, refusal_line}, Steps.{programs_in, replay_in}}
 use Rattle.run_rules.proofs.Answered.{refused_answers, written_as}
 
 -- the line that refuses the word of a point

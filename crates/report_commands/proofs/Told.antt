@@ -1,17 +1,11 @@
 -- What answers a fault, by the verdict on the report.
 use Rattle.std.proofs.Common.{◌≡◌, ◌≢◌, ℕ, IsTrue, List, Ok, Err, refl, sym, ap, ◌∙◌}
 use Rattle.report_form.specs.Reports.{ReportValue}
-use Rattle.frontier_audit.specs.declared.verdict.AuditVerdict.{AuditVerdict}
+use Rattle.frontier_audit.specs.{declared.verdict.AuditVerdict.AuditVerdict, Auditing.audit_of, Beside.IsVerdictOver}
 use Rattle.frontier_audit.specs.declared.verdict.AuditVerdict.TheVariants as audit
-use Rattle.frontier_audit.specs.Auditing.{audit_of}
-use Rattle.frontier_audit.specs.Beside.{IsVerdictOver}
-use Rattle.run_rules.specs.declared.status.Status.{Status}
-use Rattle.run_rules.specs.Audits.{IsAudited, audited, not_denied}
-use Rattle.run_rules.specs.Steps.{verdict_status, verdict_text}
-use Rattle.run_rules.specs.Degraded.{IsNewSearch}
+use Rattle.run_rules.specs.{declared.status.Status.Status, Audits.{IsAudited, audited, not_denied}, Steps.{verdict_status, verdict_text}, Degraded.IsNewSearch}
 use Rattle.run_rules.specs.Said.{FilesValue, Says, Stay}
-use Rattle.run_rules.proofs.OverFiles.{HasVerdict, has_verdict}
-use Rattle.run_rules.proofs.Denied.{said_as}
+use Rattle.run_rules.proofs.{OverFiles.{HasVerdict, has_verdict}, Denied.said_as}
 use Rattle.report_commands.specs.inner.Judged.{IsJudged}
 
 -- by what an audit says of its verdict

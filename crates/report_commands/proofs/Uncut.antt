@@ -1,26 +1,14 @@
 -- What a search over the links that a fault left has cut away.
-use Rattle.std.proofs.Common.{◌≡◌, true, false, List, All, Contains, sym, ap, subst, ◌∙◌}
-use Rattle.std.specs.List.Sorted.{IsPermutation}
-use Rattle.std.specs.Option.{is_some}
-use Rattle.std.proofs.lemmas.Bool.{false_from_ne_true}
-use Rattle.std.proofs.lemmas.List.Elements.{All-contains, All-weaker}
-use Rattle.list_laws.proofs.Each.{all_contained}
-use Rattle.list_laws.proofs.Members.{Contains-map}
-use Rattle.candidate_order.specs.declared.candidate.Candidate.{Candidate}
-use Rattle.candidate_order.specs.Frontiers.{QuestionValue, FrontierValue, UnknownValue}
-use Rattle.engine_rules.specs.declared.settled.Settled.{Settled}
-use Rattle.engine_rules.specs.declared.settled.Settled.TheVariants.{Refuted, Unknown}
-use Rattle.engine_rules.specs.Outcomes.{RecordValue}
-use Rattle.pareto_search.specs.Recorded.{entries_of}
-use Rattle.pareto_search.proofs.Entries.{unknown_there}
-use Rattle.node_cuts.specs.declared.sets.Sets.{Sets}
-use Rattle.node_cuts.specs.Cutting.{is_cut, sets_for}
+use Rattle.std.{proofs.Common.{◌≡◌, true, false, List, All, Contains, sym, ap, subst, ◌∙◌}, specs.{List.Sorted.IsPermutation, Option.is_some}}
+use Rattle.std.proofs.lemmas.{Bool.false_from_ne_true, List.Elements.{All-contains, All-weaker}}
+use Rattle.list_laws.proofs.{Each.all_contained, Members.Contains-map}
+use Rattle.candidate_order.specs.{declared.candidate.Candidate.Candidate, Frontiers.{QuestionValue, FrontierValue, UnknownValue}}
+use Rattle.engine_rules.specs.{declared.settled.Settled.{Settled, TheVariants.{Refuted, Unknown}}, Outcomes.RecordValue}
+use Rattle.pareto_search.{specs.Recorded.entries_of, proofs.Entries.unknown_there}
+use Rattle.node_cuts.specs.{declared.sets.Sets.Sets, Cutting.{is_cut, sets_for}}
 use Rattle.cut_bounds.proofs.Turned.{cut_same}
-use Rattle.candidate_formula.specs.Formulas.{searched_on}
-use Rattle.candidate_formula.specs.Pruned.{is_cut_away}
-use Rattle.candidate_formula.specs.Searched.{searched_question}
-use Rattle.link_faults.specs.Carrying.{is_carried, not_carried}
-use Rattle.link_faults.proofs.Recorded.{contains_kept}
+use Rattle.candidate_formula.specs.{Formulas.searched_on, Pruned.is_cut_away, Searched.searched_question}
+use Rattle.link_faults.{specs.Carrying.{is_carried, not_carried}, proofs.Recorded.contains_kept}
 use Rattle.degraded_links.specs.Keeping.{unknown_not_refuted}
 
 -- ---- what was given up

@@ -1,13 +1,8 @@
 //! The check of a report, and of the files beside it.
 
 ghost use Rattle.std.specs.Prelude.{◌≡◌, ◌≢◌, ◌≤◌, length, IfOk, IsTrue, OnErr, Err};
-ghost use Rattle.outer_ports.specs.Port.{HasCause, Tells};
-ghost use Rattle.outer_ports.specs.Shelf.{FilesStay};
-ghost use Rattle.run_rules.specs.Answers.{IsAnswer, LeavesOff};
-ghost use Rattle.run_rules.specs.Commands.{IsRefusal};
-ghost use Rattle.run_rules.specs.Refusals.{Refusal};
-ghost use Rattle.run_rules.specs.Tasks.{audit_asked, limit};
-ghost use Rattle.run_rules.specs.Steps.{audit_in};
+ghost use Rattle.outer_ports.specs.{Port.{HasCause, Tells}, Shelf.FilesStay};
+ghost use Rattle.run_rules.specs.{Answers.{IsAnswer, LeavesOff}, Commands.IsRefusal, Refusals.Refusal, Tasks.{audit_asked, limit}, Steps.audit_in};
 
 use frontier_audit::audit;
 use outer_ports::Shelf;

@@ -1,24 +1,14 @@
 //! Audited reports whose links have a fault, and the answers to them.
 
 ghost use Rattle.std.specs.Prelude.{◌≡◌, ◌≢◌, ◌≤◌, length, None, IfOk, IsTrue, OnErr, Ok, Err};
-ghost use Rattle.outer_ports.specs.Port.{HasCause, Tells};
-ghost use Rattle.outer_ports.specs.Shelf.{FilesStay};
-ghost use Rattle.outer_ports.specs.declared.part.Part.TheVariants.{Whole};
+ghost use Rattle.outer_ports.specs.{Port.{HasCause, Tells}, Shelf.FilesStay, declared.part.Part.TheVariants.Whole};
 ghost use Rattle.report_form.specs.Reports.{question_of};
 ghost use Rattle.round_encoding.specs.Candidates.{size_limit};
 ghost use Rattle.candidate_formula.specs.Sizes.{size_of};
 ghost use Rattle.frontier_audit.specs.Rights.{IsRight};
-ghost use Rattle.run_rules.specs.Answers.{IsAnswer, LeavesOff};
-ghost use Rattle.run_rules.specs.Commands.{IsRefusal};
-ghost use Rattle.run_rules.specs.Audits.{IsAudited};
-ghost use Rattle.run_rules.specs.Degraded.{IsNewSearch};
-ghost use Rattle.run_rules.specs.Read.{IsSearchableAs};
-ghost use Rattle.run_rules.specs.Refusals.{Refusal};
-ghost use Rattle.run_rules.specs.Said.{FilesValue};
-ghost use Rattle.run_rules.specs.Tasks.{degrade_asked, limit};
-ghost use Rattle.run_rules.specs.Steps.{degrade_in};
-ghost use Rattle.report_commands.specs.inner.Faults.{CanFail, refused_first};
-ghost use Rattle.report_commands.specs.inner.Judged.{IsJudged};
+ghost use Rattle.run_rules.specs.{Answers.{IsAnswer, LeavesOff}, Commands.IsRefusal, Audits.IsAudited, Degraded.IsNewSearch, Read.IsSearchableAs};
+ghost use Rattle.run_rules.specs.{Refusals.Refusal, Said.FilesValue, Tasks.{degrade_asked, limit}, Steps.degrade_in};
+ghost use Rattle.report_commands.specs.inner.{Faults.{CanFail, refused_first}, Judged.IsJudged};
 
 use crate::OutOfMemory;
 use crate::degrade_printing::print_found;

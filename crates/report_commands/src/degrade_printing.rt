@@ -3,8 +3,7 @@
 ghost use Rattle.std.specs.Prelude.{◌≡◌, ◌++◌, List, map, OnOk, IfOk};
 ghost use Rattle.text_lines.specs.Text.{line, text_of};
 ghost use Rattle.candidate_order.specs.declared.candidate.Candidate.{Candidate};
-ghost use Rattle.run_rules.specs.Degraded.{degraded_text};
-ghost use Rattle.run_rules.specs.Lines.{carried_words};
+ghost use Rattle.run_rules.specs.{Degraded.degraded_text, Lines.carried_words};
 ghost use Rattle.report_commands.specs.inner.After.{ArePartedBy};
 
 use crate::found::Found;

@@ -1,15 +1,13 @@
 //! The search over the links that a fault left.
 
-ghost use Rattle.std.specs.Prelude.{◌≡◌, ◌≢◌, ◌<◌, ◌≤◌, false, length, All, IfOk};
-ghost use Rattle.std.specs.List.Sorted.{IsPermutation};
+ghost use Rattle.std.specs.{Prelude.{◌≡◌, ◌≢◌, ◌<◌, ◌≤◌, false, length, All, IfOk}, List.Sorted.IsPermutation};
 ghost use Rattle.schedule.specs.Judging.{group_at};
 ghost use Rattle.collective_spec.specs.Collectives.{IsSpec, kind_in};
 ghost use Rattle.round_encoding.specs.Candidates.{size_limit};
 ghost use Rattle.candidate_formula.specs.Sizes.{size_of};
 ghost use Rattle.pareto_search.specs.Recorded.{entries_of};
 ghost use Rattle.node_cuts.specs.Cutting.{is_cut};
-ghost use Rattle.link_faults.specs.Narrowed.{narrowed};
-ghost use Rattle.link_faults.specs.Carrying.{IsOldRefuted, is_carried, narrowed_question};
+ghost use Rattle.link_faults.specs.{Narrowed.narrowed, Carrying.{IsOldRefuted, is_carried, narrowed_question}};
 ghost use Rattle.report_commands.specs.inner.After.{IsFoundAfter};
 
 use crate::OutOfMemory;

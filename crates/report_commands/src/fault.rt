@@ -1,8 +1,7 @@
 //! Faults of links, and which of them a report takes.
 
 ghost use Rattle.std.specs.Prelude.{◌≡◌, None, IfOk};
-ghost use Rattle.run_rules.specs.Read.{IsSearchableAs};
-ghost use Rattle.run_rules.specs.Tasks.{fault_in};
+ghost use Rattle.run_rules.specs.{Read.IsSearchableAs, Tasks.fault_in};
 ghost use Rattle.report_commands.specs.inner.Faults.{CanFail};
 
 use crate::OutOfMemory;

@@ -1,9 +1,7 @@
 //! The programs that carry a point of a report out.
 
 ghost use Rattle.std.specs.Prelude.{◌≤◌, length, IfOk};
-ghost use Rattle.run_rules.specs.Answers.{IsAnswerAlone};
-ghost use Rattle.run_rules.specs.Tasks.{limit, programs_asked};
-ghost use Rattle.run_rules.specs.Steps.{programs_in};
+ghost use Rattle.run_rules.specs.{Answers.IsAnswerAlone, Tasks.{limit, programs_asked}, Steps.programs_in};
 
 use crate::OutOfMemory;
 use command_words::{PointWord, WordCode};

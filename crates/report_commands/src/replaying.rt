@@ -1,9 +1,7 @@
 //! The replay of a point of a report.
 
 ghost use Rattle.std.specs.Prelude.{◌≤◌, length, IfOk};
-ghost use Rattle.run_rules.specs.Answers.{IsAnswerAlone};
-ghost use Rattle.run_rules.specs.Tasks.{limit, replay_asked};
-ghost use Rattle.run_rules.specs.Steps.{replay_in};
+ghost use Rattle.run_rules.specs.{Answers.IsAnswerAlone, Tasks.{limit, replay_asked}, Steps.replay_in};
 
 use crate::OutOfMemory;
 use command_words::{PointWord, WordCode};

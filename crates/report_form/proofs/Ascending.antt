@@ -1,18 +1,9 @@
 -- Sends and candidates in their order: one behind the last is behind each.
-use Rattle.std.proofs.Common.{◌≡◌, ℕ, zero, suc, ◌<◌, ◌≤◌, true, List, [], ◌∷◌, ◌++◌, length, get_or, Option, None, Some, ◌⊎◌, inl, inr, refl, sym, ap, ◌∙◌, subst, arith}
-use Rattle.std.specs.Prelude.{All}
-use Rattle.std.specs.List.{AllPairs, last_or}
-use Rattle.std.proofs.lemmas.Bool.{cases_lt}
-use Rattle.std.proofs.lemmas.List.Quantifiers.{all_pairs_push}
-use Rattle.schedule.specs.declared.hop.Hop.{Hop}
-use Rattle.schedule.specs.Sends.{hop_before}
-use Rattle.schedule.proofs.HopOrder.{before_all}
-use Rattle.candidate_order.specs.declared.candidate.Candidate.{Candidate}
-use Rattle.candidate_order.specs.Costs.{Before}
-use Rattle.candidate_order.proofs.Orders.{Before-trans, HasChunk}
-use Rattle.report_form.specs.Tests.{comes_next}
-use Rattle.report_form.specs.Points.{follows}
-use Rattle.report_form.proofs.Tested.{decides_before}
+use Rattle.std.proofs.Common.{◌≡◌, ℕ, zero, suc, ◌<◌, ◌≤◌, true, List, [], ◌∷◌, ◌++◌, length, get_or, Option, None, Some, ◌⊎◌, inl, inr, refl, sym, ap, ◌∙◌, subst, arith, All}
+use Rattle.std.{specs.List.{AllPairs, last_or}, proofs.lemmas.{Bool.cases_lt, List.Quantifiers.all_pairs_push}}
+use Rattle.schedule.{specs.{declared.hop.Hop.Hop, Sends.hop_before}, proofs.HopOrder.before_all}
+use Rattle.candidate_order.{specs.{declared.candidate.Candidate.Candidate, Costs.Before}, proofs.Orders.{Before-trans, HasChunk}}
+use Rattle.report_form.{specs.{Tests.comes_next, Points.follows}, proofs.Tested.decides_before}
 
 -- ---- the last of a list
 

@@ -1,26 +1,18 @@
 -- What the checks of a report's parts took stands there, and is valid.
-use Rattle.std.proofs.Common.{◌≡◌, ℕ, List, [], ◌∷◌, ◌++◌, map, length, refl, ap}
-use Rattle.std.specs.Prelude.{◌≢◌, codes, flat_map, All}
-use Rattle.std.proofs.lemmas.List.Elements.{All-nil, All-cons}
+use Rattle.std.proofs.{Common.{◌≡◌, ℕ, List, [], ◌∷◌, ◌++◌, map, length, refl, ap, ◌≢◌, codes, flat_map, All}, lemmas.List.Elements.{All-nil, All-cons}}
 use Rattle.text_lines.specs.Text.{Place, words_of}
 use Rattle.outer_ports.specs.declared.part.Part.{Part}
 use Rattle.outer_ports.specs.declared.part.Part.TheVariants as part
 use Rattle.collective_spec.specs.declared.kind.Kind.{Kind}
 use Rattle.collective_spec.specs.declared.kind.Kind.TheVariants as kind
-use Rattle.candidate_order.specs.declared.candidate.Candidate.{Candidate}
-use Rattle.candidate_order.specs.Ranges.{IsLimits}
-use Rattle.candidate_order.specs.Frontiers.{QuestionValue, PointValue, UnknownValue, FrontierValue}
-use Rattle.topology_text.specs.Value.{NamedTopologyValue}
-use Rattle.topology_text.proofs.Cuts.{cut_here, cut_more}
-use Rattle.report_form.specs.Reports.{WordsValue, IsFrontier, IsJoinedPoint, question_of}
+use Rattle.candidate_order.specs.{declared.candidate.Candidate.Candidate, Ranges.IsLimits, Frontiers.{QuestionValue, PointValue, UnknownValue, FrontierValue}}
+use Rattle.topology_text.{specs.Value.NamedTopologyValue, proofs.Cuts.{cut_here, cut_more}}
+use Rattle.report_form.specs.{Reports.{WordsValue, IsFrontier, IsJoinedPoint, question_of}, Points.{frontier_point_at, joined_point_at}}
 use Rattle.report_form.specs.Spelling.{point_lines, refuted_words, unknown_words, part_words, frontier_lines, joined_lines}
-use Rattle.report_form.specs.Points.{frontier_point_at, joined_point_at}
 use Rattle.report_form.specs.Reading.{refuted_line, unknown_line, part_bytes, frontier_at, frontiers_from, joined_at}
-use Rattle.report_form.proofs.Gives.{gives_done, gives_like, gives_then, here, then_on, cut_on, GivesPart, parts_give, lines_give}
-use Rattle.report_form.proofs.LineTaken.{fixed_gives}
+use Rattle.report_form.proofs.{Gives.{gives_done, gives_like, gives_then, here, then_on, cut_on, GivesPart, parts_give, lines_give}, LineTaken.fixed_gives}
 use Rattle.report_form.proofs.ListsTaken.{AreListed, none_listed, refuted_takes, AreUnknown, none_unknown, unknown_takes}
-use Rattle.report_form.proofs.PointsTaken.{ArePoints, no_points, point_steps}
-use Rattle.report_form.proofs.JoinedTaken.{joined_steps, no_joined}
+use Rattle.report_form.proofs.{PointsTaken.{ArePoints, no_points, point_steps}, JoinedTaken.{joined_steps, no_joined}}
 
 pub part_tokens : (x : Part) → words_of (part_bytes x) ≡ part_words x
 part_tokens part.Whole = refl

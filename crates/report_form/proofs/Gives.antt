@@ -1,16 +1,10 @@
 -- What a reader gives: the lines of a valid value, or a fault behind the first lines of one.
-use Rattle.std.proofs.Common.{◌≡◌, ℕ, zero, suc, ◌+◌, Bool, true, false, List, [], ◌∷◌, ◌++◌, map, length, drop, Option, Some, Result, Ok, Err, ◌⊎◌, inl, inr, refl, sym, ap, ◌∙◌, subst, append_assoc, arith}
-use Rattle.std.specs.Prelude.{if◌then◌else◌, flat_map}
+use Rattle.std.proofs.Common.{◌≡◌, ℕ, zero, suc, ◌+◌, Bool, true, false, List, [], ◌∷◌, ◌++◌, map, length, drop, Option, Some, Result, Ok, Err, ◌⊎◌, inl, inr, refl, sym, ap, ◌∙◌, subst, append_assoc, arith, if◌then◌else◌, flat_map}
 use Rattle.std.proofs.lemmas.List.{append-nil, length-append, map-append}
-use Rattle.text_lines.specs.Text.{Row, Place}
-use Rattle.text_lines.specs.Check.{◌>>=◌, at_line, first, line_part}
-use Rattle.text_lines.proofs.Checks.{bind_ok, bind_err, part_ok, part_err_at, line_err, at_line_ok, first_is, ok_is}
-use Rattle.text_lines.proofs.Rows.{row_of}
-use Rattle.topology_text.specs.Reading.{begins}
-use Rattle.topology_text.proofs.Groups.{place}
-use Rattle.topology_text.proofs.Cuts.{Cut, cut_here, cut_more, cut_after}
-use Rattle.report_form.specs.declared.fault.ReportCode.{ReportCode}
-use Rattle.report_form.specs.Lines.{row_begins, lines_from, lines_at, parts_from, parts_at}
+use Rattle.text_lines.specs.{Text.{Row, Place}, Check.{◌>>=◌, at_line, first, line_part}}
+use Rattle.text_lines.proofs.{Checks.{bind_ok, bind_err, part_ok, part_err_at, line_err, at_line_ok, first_is, ok_is}, Rows.row_of}
+use Rattle.topology_text.{specs.Reading.begins, proofs.{Groups.place, Cuts.{Cut, cut_here, cut_more, cut_after}}}
+use Rattle.report_form.specs.{declared.fault.ReportCode.ReportCode, Lines.{row_begins, lines_from, lines_at, parts_from, parts_at}}
 
 -- ---- answers
 

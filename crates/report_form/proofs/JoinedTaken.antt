@@ -1,19 +1,10 @@
 -- What the checks of a joined point took stands there, and is valid.
-use Rattle.std.proofs.Common.{◌≡◌, ℕ, ◌+◌, ◌*◌, ◌<◌, ◌≤◌, ◌&&◌, List, [], length, sym, subst, arith}
-use Rattle.std.specs.Prelude.{nat_le, nat_lt, All, Decides}
-use Rattle.std.proofs.lemmas.Bool.Decides.{Decides-and, Decides-ltb, Decides-like}
-use Rattle.std.proofs.lemmas.List.Elements.{All-push, All-nil}
-use Rattle.candidate_order.specs.declared.candidate.Candidate.{Candidate}
+use Rattle.std.proofs.Common.{◌≡◌, ℕ, ◌+◌, ◌*◌, ◌<◌, ◌≤◌, ◌&&◌, List, [], length, sym, subst, arith, nat_le, nat_lt, All, Decides}
+use Rattle.std.proofs.lemmas.{Bool.Decides.{Decides-and, Decides-ltb, Decides-like}, List.Elements.{All-push, All-nil}}
+use Rattle.candidate_order.specs.{declared.candidate.Candidate.Candidate, Ranges.IsLimits, Frontiers.QuestionValue}
 use Rattle.candidate_order.specs.declared.mark.Mark.TheVariants as mark
-use Rattle.candidate_order.specs.Ranges.{IsLimits}
-use Rattle.candidate_order.specs.Frontiers.{QuestionValue}
-use Rattle.report_form.specs.Reports.{IsJoinedPoint}
-use Rattle.report_form.specs.Spelling.{point_lines}
-use Rattle.report_form.specs.Points.{HeadValue, may_join, joined_head_from, joined_head_line, joined_point_at}
-use Rattle.report_form.proofs.Tested.{leb_decides, six}
-use Rattle.report_form.proofs.Gives.{Steps}
-use Rattle.report_form.proofs.LineTaken.{ruled_gives}
-use Rattle.report_form.proofs.Shapes.{joined_head_take}
+use Rattle.report_form.specs.{Reports.IsJoinedPoint, Spelling.point_lines, Points.{HeadValue, may_join, joined_head_from, joined_head_line, joined_point_at}}
+use Rattle.report_form.proofs.{Tested.{leb_decides, six}, Gives.Steps, LineTaken.ruled_gives, Shapes.joined_head_take}
 use Rattle.report_form.proofs.PointsTaken.{some_rounds, headed, Headed, headed_steps}
 
 abbrev pub joined_of : Candidate × ℕ → HeadValue

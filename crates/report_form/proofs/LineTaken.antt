@@ -1,16 +1,11 @@
 -- What the checks of one line took stands there.
-use Rattle.std.proofs.Common.{◌≡◌, ℕ, Bool, true, false, not, List, [], ◌∷◌, ◌++◌, Option, None, Some, Result, Ok, Err, refl, sym, ap, ◌∙◌, subst}
-use Rattle.std.specs.Prelude.{bytes_eq}
-use Rattle.std.proofs.lemmas.Bool.{not-false}
-use Rattle.std.proofs.lemmas.Slice.Eq.{bytes_eq-Decides}
-use Rattle.text_lines.specs.Text.{Row, Place, words_of}
-use Rattle.text_lines.specs.Check.{◌>>=◌, refuse, first, line_part}
-use Rattle.text_lines.proofs.Checks.{bind_ok, refuse_ok, refuse_alone, part_ok, ok_is}
-use Rattle.text_lines.proofs.Rows.{row_of, row_back}
-use Rattle.report_form.specs.declared.fault.ReportCode.{ReportCode}
-use Rattle.report_form.specs.declared.fault.ReportCode.TheVariants as code
-use Rattle.report_form.specs.Lines.{whole_line, tokens_line, fixed_line, no_line}
+use Rattle.std.proofs.Common.{◌≡◌, ℕ, Bool, true, false, not, List, [], ◌∷◌, ◌++◌, Option, None, Some, Result, Ok, Err, refl, sym, ap, ◌∙◌, subst, bytes_eq}
+use Rattle.std.proofs.lemmas.{Bool.not-false, Slice.Eq.bytes_eq-Decides}
+use Rattle.text_lines.specs.{Text.{Row, Place, words_of}, Check.{◌>>=◌, refuse, first, line_part}}
+use Rattle.text_lines.proofs.{Checks.{bind_ok, refuse_ok, refuse_alone, part_ok, ok_is}, Rows.{row_of, row_back}}
+use Rattle.report_form.specs.{declared.fault.ReportCode.ReportCode, Lines.{whole_line, tokens_line, fixed_line, no_line}}
 use Rattle.report_form.proofs.Gives.{Gives, Between, line_gives, Takes}
+use Rattle.report_form.specs.declared.fault.ReportCode.TheVariants as code
 
 pub record WholeTaken (line : Option Row) (row : Row) : Type 0 where
   pub is : line ≡ Some row

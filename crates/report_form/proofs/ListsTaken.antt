@@ -1,24 +1,13 @@
 -- What the checks of refuted and unknown candidates took stands there, and is valid.
-use Rattle.std.proofs.Common.{◌≡◌, true, ◌&&◌, List, [], ◌∷◌, ◌++◌, map, None, sym, ap, ◌∙◌, subst, arith}
-use Rattle.std.specs.Prelude.{◌==◌, decimal, codes, All, AllPairs}
-use Rattle.std.specs.List.{last_or}
-use Rattle.std.proofs.lemmas.Bool.{and_parts, eqb-true}
-use Rattle.std.proofs.lemmas.List.Elements.{All-push, All-nil}
+use Rattle.std.proofs.Common.{◌≡◌, true, ◌&&◌, List, [], ◌∷◌, ◌++◌, map, None, sym, ap, ◌∙◌, subst, arith, ◌==◌, decimal, codes, All, AllPairs}
+use Rattle.std.{specs.List.last_or, proofs.lemmas.{Bool.{and_parts, eqb-true}, List.{map-append, Elements.{All-push, All-nil}}}}
 use Rattle.list_laws.proofs.Pairs.{no_pairs}
-use Rattle.std.proofs.lemmas.List.{map-append}
-use Rattle.candidate_order.specs.declared.candidate.Candidate.{Candidate}
-use Rattle.candidate_order.specs.Ranges.{IsLimits}
-use Rattle.candidate_order.specs.Costs.{Before}
+use Rattle.candidate_order.specs.{declared.candidate.Candidate.Candidate, Ranges.IsLimits, Costs.Before}
 use Rattle.candidate_order.specs.Frontiers.{QuestionValue, UnknownValue, IsWithin, IsUnknown}
 use Rattle.candidate_order.proofs.Orders.{has_chunk}
-use Rattle.report_form.specs.Spelling.{refuted_words, unknown_words}
-use Rattle.report_form.specs.Tests.{is_within, comes_next}
+use Rattle.report_form.specs.{Spelling.{refuted_words, unknown_words}, Tests.{is_within, comes_next}}
 use Rattle.report_form.specs.Reading.{refuted_from, refuted_line, unknown_from, unknown_line}
-use Rattle.report_form.proofs.Tested.{decides_within}
-use Rattle.report_form.proofs.Ascending.{push_candidate}
-use Rattle.report_form.proofs.Tokens.{any_number_is}
-use Rattle.report_form.proofs.Gives.{Takes}
-use Rattle.report_form.proofs.LineTaken.{ruled_takes}
+use Rattle.report_form.proofs.{Tested.decides_within, Ascending.push_candidate, Tokens.any_number_is, Gives.Takes, LineTaken.ruled_takes}
 use Rattle.report_form.proofs.Shapes.{refuted_take, unknown_take}
 
 module _ (q : QuestionValue) where

@@ -1,14 +1,9 @@
 -- The points of a list of lists, by their numbers.
 use Rattle.std.proofs.Common.{◌≡◌, ℕ, ◌+◌, ◌-◌, ◌<◌, ◌≤◌, zero, suc, List, [], ◌∷◌, ◌++◌, length, map, drop, Option, Some, get_or, slice_get, refl, sym, ap, ◌∙◌, arith, append_assoc}
-use Rattle.std.specs.List.{flat_map}
-use Rattle.std.specs.Option.{option_map}
-use Rattle.std.proofs.lemmas.List.{drop_all, at_drop_more}
-use Rattle.std.proofs.lemmas.Option.{slice_get-map}
-use Rattle.outer_ports.specs.declared.part.Part.{Part}
-use Rattle.outer_ports.specs.declared.part.Part.TheVariants.{Joined}
+use Rattle.std.{specs.{List.flat_map, Option.option_map}, proofs.lemmas.{List.{drop_all, at_drop_more}, Option.slice_get-map}}
+use Rattle.outer_ports.specs.declared.part.Part.{Part, TheVariants.Joined}
 use Rattle.candidate_order.specs.Frontiers.{PointValue, FrontierValue}
-use Rattle.report_form.specs.Reports.{ReportValue}
-use Rattle.report_form.specs.Numbered.{point_at}
+use Rattle.report_form.specs.{Reports.ReportValue, Numbered.point_at}
 
 module _ {A B : Type 0} (g : A → B) where
   -- a point of the first list

@@ -1,48 +1,28 @@
 -- A text that the checks take is the text of the report that they give, which is valid; where they fail, some valid report has the lines before the one that is blamed.
-use Rattle.std.proofs.Common.{◌≡◌, ℕ, Bool, true, false, not, List, [], ◌∷◌, ◌++◌, map, length, Option, None, Some, Result, Ok, Err, refl, sym, ap, ◌∙◌, subst, arith}
-use Rattle.std.specs.Prelude.{codes, flat_map, bytes_eq, if◌then◌else◌, is_some, IfSome}
-use Rattle.std.proofs.lemmas.Bool.{not-false}
-use Rattle.std.proofs.lemmas.List.{append-nil, length-map, map-append}
-use Rattle.std.proofs.lemmas.List.Elements.{All-nil, All-cons}
-use Rattle.std.proofs.lemmas.Slice.Eq.{bytes_eq-Decides}
-use Rattle.text_lines.specs.Text.{Row, Place, words_of, rows_of, start}
-use Rattle.text_lines.specs.Check.{◌>>=◌, refuse, need, at_line, first, line_part}
-use Rattle.text_lines.proofs.Checks.{bind_ok, refuse_alone, at_line_ok, line_err, part_err_at, ok_is}
-use Rattle.text_lines.proofs.Distinct.{AreDistinct}
-use Rattle.text_lines.proofs.Rows.{row_of, text_back}
+use Rattle.std.proofs.Common.{◌≡◌, ℕ, Bool, true, false, not, List, [], ◌∷◌, ◌++◌, map, length, Option, None, Some, Result, Ok, Err, refl, sym, ap, ◌∙◌, subst, arith, codes, flat_map, bytes_eq, if◌then◌else◌, is_some, IfSome}
+use Rattle.std.proofs.lemmas.{Bool.not-false, List.{append-nil, length-map, map-append, Elements.{All-nil, All-cons}}, Slice.Eq.bytes_eq-Decides}
+use Rattle.text_lines.specs.{Text.{Row, Place, words_of, rows_of, start}, Check.{◌>>=◌, refuse, need, at_line, first, line_part}}
+use Rattle.text_lines.proofs.{Checks.{bind_ok, refuse_alone, at_line_ok, line_err, part_err_at, ok_is}, Distinct.AreDistinct, Rows.{row_of, text_back}}
 use Rattle.schedule.specs.Links.{GroupValue}
 use Rattle.outer_ports.specs.declared.part.Part.{Part}
-use Rattle.collective_spec.specs.declared.kind.Kind.{Kind}
-use Rattle.collective_spec.specs.Kinds.{is_custom, takes_root}
-use Rattle.collective_spec.specs.Patterns.{PatternValue, IsPattern}
-use Rattle.collective_spec.specs.Collectives.{fits_kind}
+use Rattle.collective_spec.specs.{declared.kind.Kind.Kind, Kinds.{is_custom, takes_root}, Patterns.{PatternValue, IsPattern}, Collectives.fits_kind}
 use Rattle.collective_spec.specs.declared.kind.Kind.TheVariants as kind
-use Rattle.candidate_order.specs.Ranges.{IsLimits, unpruned}
-use Rattle.candidate_order.specs.Frontiers.{PointValue, FrontierValue}
-use Rattle.topology_text.specs.declared.fault.TopologyCode.{TopologyCode}
-use Rattle.topology_text.specs.Value.{NamedTopologyValue, IsNamed, named_with}
-use Rattle.topology_text.specs.Names.{is_name, AreNames}
+use Rattle.candidate_order.specs.{Ranges.{IsLimits, unpruned}, Frontiers.{PointValue, FrontierValue}}
+use Rattle.topology_text.specs.{declared.fault.TopologyCode.TopologyCode, Value.{NamedTopologyValue, IsNamed, named_with}, Names.{is_name, AreNames}}
 use Rattle.topology_text.specs.Spelling.{lines_of, version_word, header_words, nodes_words, group_words, custom_lines}
-use Rattle.topology_text.specs.Spelling as spelling
 use Rattle.topology_text.specs.Reading.{header_line, nodes_line, groups_at, pattern_at}
-use Rattle.topology_text.proofs.Front.{head_is}
-use Rattle.topology_text.proofs.Links.{node_again}
-use Rattle.topology_text.proofs.Groups.{place, Groups, groups_nil, groups_take}
-use Rattle.topology_text.proofs.Patterns.{pattern_take}
-use Rattle.topology_text.proofs.Laws.{header_taken, names_taken, nodes_taken, named_valid, group_lines}
-use Rattle.topology_text.proofs.Cuts.{Cut, cut_here, cut_more}
+use Rattle.topology_text.proofs.{Front.head_is, Links.node_again, Groups.{place, Groups, groups_nil, groups_take}, Patterns.pattern_take}
+use Rattle.topology_text.proofs.{Laws.{header_taken, names_taken, nodes_taken, named_valid, group_lines}, Cuts.{Cut, cut_here, cut_more}}
 use Rattle.topology_text.proofs.Filled.{GroupsFilled, fill_groups, PatternFilled, some_pattern, fill_pattern}
-use Rattle.report_form.specs.declared.fault.ReportCode.{ReportCode}
-use Rattle.report_form.specs.declared.fault.ReportCode.TheVariants as code
-use Rattle.report_form.specs.Reports.{WordsValue, ReportValue, IsReport, parts_of}
-use Rattle.report_form.specs.Spelling.{frontier_lines, joined_lines, report_lines, report_text}
-use Rattle.report_form.specs.Lines.{whole_line, no_line, among}
-use Rattle.report_form.specs.SynthLine.{AskedValue, asked_line, root_of, words_from}
+use Rattle.topology_text.specs.Spelling as spelling
+use Rattle.report_form.specs.{declared.fault.ReportCode.ReportCode, Reports.{WordsValue, ReportValue, IsReport, parts_of}, Lines.{whole_line, no_line, among}}
+use Rattle.report_form.specs.{Spelling.{frontier_lines, joined_lines, report_lines, report_text}, SynthLine.{AskedValue, asked_line, root_of, words_from}}
 use Rattle.report_form.specs.Reading.{body_of, version_of, version_line, is_same, report_of}
 use Rattle.report_form.proofs.Gives.{Gives, gives_done, gives_like, gives_then, Between, then_on, cut_on, line_gives, Stops}
 use Rattle.report_form.proofs.LineTaken.{whole_words, fixed_gives, nothing_take}
 use Rattle.report_form.proofs.SynthLineTaken.{RootFits, asked_words, IsAsked, asked_gives, WordsTaken, words_take}
 use Rattle.report_form.proofs.FrontiersTaken.{AreFrontiers, AreJoined, none_joined, nothings, nothings_are, frontiers_give, joined_gives}
+use Rattle.report_form.specs.declared.fault.ReportCode.TheVariants as code
 
 -- ---- the body
 

@@ -1,33 +1,16 @@
 -- What the checks of the line that says what was asked took stands there, and is valid.
-use Rattle.std.proofs.Common.{◌≡◌, ℕ, ◌<◌, Bool, true, false, ◌||◌, not, List, [], ◌∷◌, ◌++◌, length, drop, Option, None, Some, Ok, refl, sym, ap, ◌∙◌, arith}
-use Rattle.std.specs.Prelude.{codes, decimal, bytes_eq, find, if◌then◌else◌}
-use Rattle.std.specs.List.{list_all}
-use Rattle.std.proofs.lemmas.Bool.{and_parts, not-true}
-use Rattle.std.proofs.lemmas.Slice.Eq.{bytes_eq-Decides}
-use Rattle.std.proofs.lemmas.List.{append-nil}
-use Rattle.std.proofs.lemmas.Option.{same_Some}
-use Rattle.text_lines.specs.Text.{Place}
-use Rattle.text_lines.specs.Check.{◌>>=◌, need, line_part}
-use Rattle.text_lines.proofs.Checks.{ok_is, if_some}
-use Rattle.collective_spec.specs.declared.kind.Kind.{Kind}
-use Rattle.collective_spec.specs.Kinds.{word_of, takes_root, is_custom, standard_kinds}
-use Rattle.candidate_order.specs.declared.pruning.Pruning.{Pruning}
-use Rattle.candidate_order.specs.Ranges.{LimitsValue, IsLimits, unpruned}
-use Rattle.topology_text.specs.Names.{is_name, name_of}
-use Rattle.topology_text.specs.Spelling.{name_at}
-use Rattle.topology_text.specs.Reading.{node_of}
-use Rattle.topology_text.proofs.Links.{node_is}
-use Rattle.report_form.specs.declared.fault.ReportCode.{ReportCode}
-use Rattle.report_form.specs.declared.fault.ReportCode.TheVariants as code
-use Rattle.report_form.specs.Reports.{IsWords}
-use Rattle.report_form.specs.Spelling.{word_if, pruning_words, synth_words}
-use Rattle.report_form.specs.Tests.{are_limits}
+use Rattle.std.proofs.Common.{◌≡◌, ℕ, ◌<◌, Bool, true, false, ◌||◌, not, List, [], ◌∷◌, ◌++◌, length, drop, Option, None, Some, Ok, refl, sym, ap, ◌∙◌, arith, codes, decimal, bytes_eq, find, if◌then◌else◌}
+use Rattle.std.{specs.List.list_all, proofs.lemmas.{Bool.{and_parts, not-true}, Slice.Eq.bytes_eq-Decides, List.append-nil, Option.same_Some}}
+use Rattle.text_lines.{specs.{Text.Place, Check.{◌>>=◌, need, line_part}}, proofs.Checks.{ok_is, if_some}}
+use Rattle.collective_spec.specs.{declared.kind.Kind.Kind, Kinds.{word_of, takes_root, is_custom, standard_kinds}}
+use Rattle.candidate_order.specs.{declared.pruning.Pruning.Pruning, Ranges.{LimitsValue, IsLimits, unpruned}}
+use Rattle.topology_text.{specs.{Names.{is_name, name_of}, Spelling.name_at, Reading.node_of}, proofs.Links.node_is}
+use Rattle.report_form.specs.{declared.fault.ReportCode.ReportCode, Reports.IsWords, Spelling.{word_if, pruning_words, synth_words}, Tests.are_limits}
 use Rattle.report_form.specs.Fields.{any_number, behind_key, next_keyed}
 use Rattle.report_form.specs.SynthLine.{AskedValue, kinds_of, kind_named, limits_from, root_from, said_from, pruning_from, asked_from, may_be_asked, asked_line, root_of, words_from}
-use Rattle.report_form.proofs.Tested.{decides_limits}
-use Rattle.report_form.proofs.Tokens.{pass_then, pass_done, word_take, fixed_take, no_more_take, keyed_is, any_number_is}
-use Rattle.report_form.proofs.Gives.{Gives, Between}
-use Rattle.report_form.proofs.LineTaken.{ruled_gives}
+use Rattle.report_form.proofs.{Tested.decides_limits, Tokens.{pass_then, pass_done, word_take, fixed_take, no_more_take, keyed_is, any_number_is}}
+use Rattle.report_form.proofs.{Gives.{Gives, Between}, LineTaken.ruled_gives}
+use Rattle.report_form.specs.declared.fault.ReportCode.TheVariants as code
 
 -- ---- keys
 

@@ -1,13 +1,8 @@
 -- Each test of limits and of candidates is true exactly where what it tests holds.
-use Rattle.std.proofs.Common.{ℕ, ◌+◌, ◌*◌, ◌≤◌}
-use Rattle.std.specs.Prelude.{◌==◌, ◌&&◌, ◌||◌, Bool, nat_le, nat_lt, IsTrue, Decides}
-use Rattle.std.proofs.lemmas.Bool.{leb-true, le-leb}
+use Rattle.std.proofs.{Common.{ℕ, ◌+◌, ◌*◌, ◌≤◌, ◌==◌, ◌&&◌, ◌||◌, Bool, nat_le, nat_lt, IsTrue, Decides}, lemmas.Bool.{leb-true, le-leb}}
 use Rattle.std.proofs.lemmas.Bool.Decides.{Decides-and, Decides-or, Decides-eqb, Decides-ltb, Decides-like}
-use Rattle.collective_spec.specs.Kinds.{allows}
-use Rattle.collective_spec.specs.Collectives.{kind_in}
-use Rattle.candidate_order.specs.declared.candidate.Candidate.{Candidate}
-use Rattle.candidate_order.specs.Ranges.{LimitsValue, IsLimits}
-use Rattle.candidate_order.specs.Costs.{NoWorse, Better, Before}
+use Rattle.collective_spec.specs.{Kinds.allows, Collectives.kind_in}
+use Rattle.candidate_order.specs.{declared.candidate.Candidate.Candidate, Ranges.{LimitsValue, IsLimits}, Costs.{NoWorse, Better, Before}}
 use Rattle.candidate_order.specs.Frontiers.{QuestionValue, IsWithin}
 use Rattle.report_form.specs.Tests.{are_limits, is_within, is_no_worse, is_better, is_before}
 

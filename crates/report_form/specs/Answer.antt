@@ -1,8 +1,6 @@
 -- What a reader's answer says.
 use Rattle.std.specs.Prelude.{◌≡◌, ℕ, Result, Ok, Err, ◌⊎◌}
-use Rattle.report_form.specs.declared.fault.ReportCode.{ReportCode}
-use Rattle.report_form.specs.declared.fault.ReportCode.TheVariants.{BadLine, Truncated, Limits, OutOfMemory}
-use Rattle.report_form.specs.declared.fault.ReportFault.{ReportFault}
+use Rattle.report_form.specs.declared.fault.{ReportCode.{ReportCode, TheVariants.{BadLine, Truncated, Limits, OutOfMemory}}, ReportFault.ReportFault}
 use Rattle.report_form.specs.Reports.{ReportValue}
 
 -- the numbers of the codes, by which refusals name them

@@ -1,8 +1,7 @@
 -- Which line is blamed, in words of the texts alone.
 use Rattle.std.specs.Prelude.{◌≡◌, ℕ, ◌-◌, List, take}
 use Rattle.text_lines.specs.Text.{rows_of}
-use Rattle.report_form.specs.Reports.{ReportValue, IsReport}
-use Rattle.report_form.specs.Spelling.{report_text}
+use Rattle.report_form.specs.{Reports.{ReportValue, IsReport}, Spelling.report_text}
 
 -- the first n lines of the text are those of the report's text
 abbrev pub Agrees : ℕ → List ℕ → ReportValue → Type 0

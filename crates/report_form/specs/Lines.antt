@@ -1,11 +1,8 @@
 -- The checks that each line of a report meets first, and lines that repeat. This project's own text.
 use Rattle.std.specs.Prelude.{◌+◌, ◌-◌, not, ℕ, zero, suc, Bool, false, if◌then◌else◌, List, [], ◌∷◌, ◌++◌, length, slice_get, bytes_eq, Option, None, Some, Result, Ok, Err}
-use Rattle.text_lines.specs.Text.{Row, Place, words_of}
-use Rattle.text_lines.specs.Check.{◌>>=◌, refuse, at_line, first}
-use Rattle.topology_text.specs.declared.fault.TopologyCode.{TopologyCode}
-use Rattle.topology_text.specs.Reading.{begins}
-use Rattle.report_form.specs.declared.fault.ReportCode.{ReportCode}
-use Rattle.report_form.specs.declared.fault.ReportCode.TheVariants.{BadLine, Truncated}
+use Rattle.text_lines.specs.{Text.{Row, Place, words_of}, Check.{◌>>=◌, refuse, at_line, first}}
+use Rattle.topology_text.specs.{declared.fault.TopologyCode.TopologyCode, Reading.begins}
+use Rattle.report_form.specs.declared.fault.ReportCode.{ReportCode, TheVariants.{BadLine, Truncated}}
 
 -- the line is there, and a line feed ended it
 abbrev pub whole_line : Option Row → Result Row ReportCode

@@ -1,8 +1,6 @@
 -- The points of a report in the order in which they are printed, joined ones last. This project's own.
-use Rattle.std.specs.Prelude.{ℕ, zero, suc, List, ◌++◌, map, Option, None, slice_get}
-use Rattle.std.specs.List.{flat_map}
-use Rattle.outer_ports.specs.declared.part.Part.{Part}
-use Rattle.outer_ports.specs.declared.part.Part.TheVariants.{Joined}
+use Rattle.std.specs.{Prelude.{ℕ, zero, suc, List, ◌++◌, map, Option, None, slice_get}, List.flat_map}
+use Rattle.outer_ports.specs.declared.part.Part.{Part, TheVariants.Joined}
 use Rattle.candidate_order.specs.Frontiers.{PointValue}
 use Rattle.report_form.specs.Reports.{ReportValue}
 

@@ -1,15 +1,10 @@
 -- Small reports.
 use Rattle.std.specs.Prelude.{ℕ, true, List, [], ◌∷◌, ◌++◌, codes, None, Some}
 use Rattle.outer_ports.specs.declared.part.Part.TheVariants.{Whole, Reduce, Gather}
-use Rattle.schedule.specs.declared.hop.Hop.{Hop}
-use Rattle.schedule.specs.Placed.{PlacementValue}
-use Rattle.schedule.specs.Rows.{line_of_2, line_of_3, plan, send}
-use Rattle.collective_spec.specs.declared.kind.Kind.{Kind}
-use Rattle.collective_spec.specs.declared.kind.Kind.TheVariants.{Broadcast, Allreduce, Custom}
-use Rattle.candidate_order.specs.declared.mark.Mark.{Mark}
+use Rattle.schedule.specs.{declared.hop.Hop.Hop, Placed.PlacementValue, Rows.{line_of_2, line_of_3, plan, send}}
+use Rattle.collective_spec.specs.declared.kind.Kind.{Kind, TheVariants.{Broadcast, Allreduce, Custom}}
+use Rattle.candidate_order.specs.{declared.mark.Mark.Mark, Ranges.unpruned, Frontiers.{PointValue, FrontierValue}}
 use Rattle.candidate_order.specs.declared.mark.Mark.TheVariants as mark
-use Rattle.candidate_order.specs.Ranges.{unpruned}
-use Rattle.candidate_order.specs.Frontiers.{PointValue, FrontierValue}
 use Rattle.topology_text.specs.Value.{NamedTopologyValue}
 use Rattle.report_form.specs.Reports.{WordsValue, ReportValue}
 

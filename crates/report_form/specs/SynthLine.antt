@@ -1,19 +1,12 @@
 -- The checks of the line that says what was asked. This project's own text.
 use Rattle.std.specs.Prelude.{ℕ, ◌&&◌, ◌||◌, not, Bool, true, false, if◌then◌else◌, List, [], ◌∷◌, codes, find, bytes_eq, Option, None, Some, Result, Ok}
-use Rattle.text_lines.specs.Text.{Row}
-use Rattle.text_lines.specs.Check.{◌>>=◌, refuse, need}
-use Rattle.collective_spec.specs.declared.kind.Kind.{Kind}
-use Rattle.collective_spec.specs.Kinds.{word_of, takes_root, is_custom, standard_kinds, every_kind}
-use Rattle.candidate_order.specs.declared.pruning.Pruning.{Pruning}
-use Rattle.candidate_order.specs.Ranges.{LimitsValue, unpruned}
-use Rattle.topology_text.specs.Names.{name_of}
-use Rattle.topology_text.specs.Reading.{node_of}
-use Rattle.report_form.specs.declared.fault.ReportCode.{ReportCode}
-use Rattle.report_form.specs.declared.fault.ReportCode.TheVariants as code
-use Rattle.report_form.specs.Reports.{WordsValue}
-use Rattle.report_form.specs.Fields.{any_number, next_keyed, fixed_word, no_more}
-use Rattle.report_form.specs.Lines.{tokens_line}
+use Rattle.text_lines.specs.{Text.Row, Check.{◌>>=◌, refuse, need}}
+use Rattle.collective_spec.specs.{declared.kind.Kind.Kind, Kinds.{word_of, takes_root, is_custom, standard_kinds, every_kind}}
+use Rattle.candidate_order.specs.{declared.pruning.Pruning.Pruning, Ranges.{LimitsValue, unpruned}}
+use Rattle.topology_text.specs.{Names.name_of, Reading.node_of}
+use Rattle.report_form.specs.{declared.fault.ReportCode.ReportCode, Reports.WordsValue, Fields.{any_number, next_keyed, fixed_word, no_more}, Lines.tokens_line}
 use Rattle.report_form.specs.Tests.{are_limits}
+use Rattle.report_form.specs.declared.fault.ReportCode.TheVariants as code
 
 -- what was asked, with the root by its name, where the collective takes one
 pub record AskedValue : Type 0 where

@@ -1,13 +1,8 @@
 //! Laws of the checks of a report.
 
 ghost use Rattle.std.specs.Prelude.{◌≡◌, ℕ, List, [], Ok, Decides};
-ghost use Rattle.candidate_order.specs.Ranges.{LimitsValue, IsLimits};
-ghost use Rattle.candidate_order.specs.Costs.{NoWorse, Better, Before};
-ghost use Rattle.candidate_order.specs.Frontiers.{QuestionValue, IsWithin};
-ghost use Rattle.report_form.specs.Reports.{ReportValue, IsReport};
-ghost use Rattle.report_form.specs.Spelling.{report_text};
-ghost use Rattle.report_form.specs.Reading.{report_of};
-ghost use Rattle.report_form.specs.First.{FailsFirstAt};
+ghost use Rattle.candidate_order.specs.{Ranges.{LimitsValue, IsLimits}, Costs.{NoWorse, Better, Before}, Frontiers.{QuestionValue, IsWithin}};
+ghost use Rattle.report_form.specs.{Reports.{ReportValue, IsReport}, Spelling.report_text, Reading.report_of, First.FailsFirstAt};
 ghost use Rattle.report_form.specs.Tests.{are_limits, is_within, is_no_worse, is_better, is_before};
 
 use candidate_order::Candidate;

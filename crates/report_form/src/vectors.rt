@@ -1,8 +1,7 @@
 //! What the definitions give on small reports.
 
 ghost use Rattle.std.specs.Prelude.{◌≡◌, ◌++◌, [], Ok, Err, codes};
-ghost use Rattle.report_form.specs.Spelling.{report_text};
-ghost use Rattle.report_form.specs.Reading.{report_of};
+ghost use Rattle.report_form.specs.{Spelling.report_text, Reading.report_of};
 ghost use Rattle.report_form.specs.Rows.{broadcast_report, allreduce_report, relay_report, pruned_report, moved_report, broadcast_head, relay_text, moved_head, moved_body};
 
 use crate::fault::ReportCode;

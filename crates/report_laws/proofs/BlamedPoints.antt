@@ -1,28 +1,19 @@
 -- A line of a point or of a list that is blamed has the code of its form.
-use Rattle.std.proofs.Common.{◌≡◌, ℕ, ◌<◌, Bool, true, false, ◌&&◌, ◌||◌, List, [], ◌∷◌, ◌++◌, map, length, Option, None, Some, Result, refl, sym, ap, ◌∙◌, arith}
-use Rattle.std.specs.Prelude.{◌==◌, codes, bytes_eq, slice_index_or, drop, is_some}
+use Rattle.std.proofs.Common.{◌≡◌, ℕ, ◌<◌, Bool, true, false, ◌&&◌, ◌||◌, List, [], ◌∷◌, ◌++◌, map, length, Option, None, Some, Result, refl, sym, ap, ◌∙◌, arith, ◌==◌, codes, bytes_eq, slice_index_or, drop, is_some}
 use Rattle.std.specs.List.{list_any, last_or}
-use Rattle.text_lines.specs.Text.{Row, Place, words_of}
-use Rattle.text_lines.specs.Check.{◌>>=◌, first, line_part}
-use Rattle.text_lines.specs.Number.{number_up_to}
-use Rattle.text_lines.proofs.Words.{begins_is}
+use Rattle.text_lines.{specs.{Text.{Row, Place, words_of}, Check.{◌>>=◌, first, line_part}, Number.number_up_to}, proofs.Words.begins_is}
 use Rattle.schedule.specs.declared.hop.Hop.{Hop}
 use Rattle.collective_spec.specs.Collectives.{chunks_in}
 use Rattle.outer_ports.specs.declared.part.Part.{Part}
 use Rattle.candidate_order.specs.declared.mark.Mark.TheVariants as mark
 use Rattle.candidate_order.specs.Frontiers.{QuestionValue, PointValue, FrontierValue}
 use Rattle.topology_text.specs.Reading.{begins}
-use Rattle.report_form.specs.declared.fault.ReportCode.{ReportCode}
-use Rattle.report_form.specs.Fields.{is_number}
-use Rattle.report_form.specs.Tests.{is_within, comes_next}
-use Rattle.report_form.specs.Lines.{fixed_line, row_begins, parts_at}
+use Rattle.report_form.specs.{declared.fault.ReportCode.ReportCode, Fields.is_number, Tests.{is_within, comes_next}, Lines.{fixed_line, row_begins, parts_at}}
 use Rattle.report_form.specs.Points.{HeadValue, head_from, joined_head_from, may_join, rounds_from, are_rounds, rounds_line, send_from, send_line, may_be_sent, follows, schedule_at, frontier_point_at, joined_point_at}
 use Rattle.report_form.specs.Reading.{part_bytes, refuted_from, refuted_line, unknown_from, unknown_line, frontier_at}
-use Rattle.report_form.proofs.Gives.{Gives, gives_done, gives_like}
-use Rattle.report_form.proofs.LineTaken.{on_words, ruled_by}
+use Rattle.report_form.proofs.{Gives.{Gives, gives_done, gives_like}, LineTaken.{on_words, ruled_by}}
 use Rattle.report_laws.specs.Shapes.{Token, Word, Any, has_shape, small, candidate_shape, mark_shape, rounds_shape, send_shape, Form, formed, rounds, unknown, refuted, results, forms_after}
-use Rattle.report_laws.proofs.LocalParts.{steady_schedule}
-use Rattle.report_laws.proofs.SteadyLists.{shorter_part}
+use Rattle.report_laws.proofs.{LocalParts.steady_schedule, SteadyLists.shorter_part}
 use Rattle.report_laws.proofs.ShapesTold.{Told, refuted_told, unknown_told, head_told, joined_head_told, rounds_told, send_told}
 use Rattle.report_laws.proofs.Blaming.{goes_on, or_false, told_code, ruled_goes, fixed_goes, first_of_shape, first_of_front, unbegun, Coded, At, line_goes, lines_go, parts_go, less}
 

@@ -1,43 +1,26 @@
 -- The line that the checks of a report blame has the code of its form.
-use Rattle.std.proofs.Common.{◌≡◌, ℕ, zero, suc, ◌+◌, Bool, true, false, ◌||◌, not, List, [], ◌∷◌, ◌++◌, map, length, drop, Option, None, Some, Result, Ok, Err, refl, sym, ap, ◌∙◌, arith}
-use Rattle.std.specs.Prelude.{◌==◌, codes, decimal, bytes_eq, if◌then◌else◌, slice_index_or, is_ok}
-use Rattle.std.specs.List.{list_any}
-use Rattle.std.proofs.lemmas.Bool.{and_parts, not-false, or_parts}
-use Rattle.std.proofs.lemmas.Slice.Eq.{bytes_eq-Decides}
-use Rattle.text_lines.specs.Text.{Row, Place, words_of, rows_of, start, behind}
-use Rattle.text_lines.specs.Check.{◌>>=◌, refuse, need, first, line_part}
-use Rattle.text_lines.proofs.Checks.{refuse_ok}
-use Rattle.text_lines.proofs.Rows.{row_of, words_again}
-use Rattle.text_lines.proofs.Words.{tokens_from}
+use Rattle.std.proofs.Common.{◌≡◌, ℕ, zero, suc, ◌+◌, Bool, true, false, ◌||◌, not, List, [], ◌∷◌, ◌++◌, map, length, drop, Option, None, Some, Result, Ok, Err, refl, sym, ap, ◌∙◌, arith, ◌==◌, codes, decimal, bytes_eq, if◌then◌else◌, slice_index_or, is_ok}
+use Rattle.std.{specs.List.list_any, proofs.lemmas.{Bool.{and_parts, not-false, or_parts}, Slice.Eq.bytes_eq-Decides}}
+use Rattle.text_lines.specs.{Text.{Row, Place, words_of, rows_of, start, behind}, Check.{◌>>=◌, refuse, need, first, line_part}}
+use Rattle.text_lines.proofs.{Checks.refuse_ok, Rows.{row_of, words_again}, Words.tokens_from}
 use Rattle.schedule.specs.Links.{GroupValue}
-use Rattle.outer_ports.specs.declared.part.Part.{Part}
-use Rattle.outer_ports.specs.declared.part.Part.TheVariants.{Joined}
-use Rattle.collective_spec.specs.declared.kind.Kind.{Kind}
+use Rattle.outer_ports.specs.declared.part.Part.{Part, TheVariants.Joined}
+use Rattle.collective_spec.specs.{declared.kind.Kind.Kind, Patterns.PatternValue}
 use Rattle.collective_spec.specs.declared.kind.Kind.TheVariants as kind
-use Rattle.collective_spec.specs.Patterns.{PatternValue}
 use Rattle.candidate_order.specs.Frontiers.{PointValue, FrontierValue}
-use Rattle.topology_text.specs.declared.fault.TopologyCode.{TopologyCode}
-use Rattle.topology_text.specs.declared.fault.TopologyCode.TheVariants.{BadLine}
-use Rattle.topology_text.specs.Value.{NamedTopologyValue, named_with}
-use Rattle.topology_text.specs.Names.{AreNames}
+use Rattle.topology_text.specs.{declared.fault.TopologyCode.{TopologyCode, TheVariants.BadLine}, Value.{NamedTopologyValue, named_with}, Names.AreNames}
 use Rattle.topology_text.specs.Spelling.{nodes_words, head_words}
 use Rattle.topology_text.specs.Reading.{begins, has_empty, has_front, node_of, header_line, nodes_line, groups_at, groups_from, group_row, base_of, custom_line, holders_from, holders_line, holders_at, Pairs, pattern_at}
-use Rattle.topology_text.proofs.Front.{header_takes, nodes_line_take, nodes_are_words}
-use Rattle.topology_text.proofs.Groups.{place}
-use Rattle.report_form.specs.declared.fault.ReportCode.{ReportCode}
-use Rattle.report_form.specs.declared.fault.ReportCode.TheVariants as code
-use Rattle.report_form.specs.Reports.{WordsValue, ReportValue, parts_of, question_of}
-use Rattle.report_form.specs.Lines.{no_line, parts_at}
-use Rattle.report_form.specs.Points.{joined_point_at}
-use Rattle.report_form.specs.SynthLine.{AskedValue, kinds_of, asked_from, may_be_asked, asked_line, root_of, words_from}
+use Rattle.topology_text.proofs.{Front.{header_takes, nodes_line_take, nodes_are_words}, Groups.place}
+use Rattle.report_form.specs.{declared.fault.ReportCode.ReportCode, Reports.{WordsValue, ReportValue, parts_of, question_of}, Lines.{no_line, parts_at}}
+use Rattle.report_form.specs.{Points.joined_point_at, SynthLine.{AskedValue, kinds_of, asked_from, may_be_asked, asked_line, root_of, words_from}}
 use Rattle.report_form.specs.Reading.{part_bytes, frontiers_from, joined_at, body_of, version_of, version_line, is_same, report_of}
-use Rattle.report_form.proofs.LineTaken.{row_is}
-use Rattle.report_form.proofs.ReportTaken.{after_root, after_names, after_same, after_asked, after_head, report_at, report_is}
+use Rattle.report_form.proofs.{LineTaken.row_is, ReportTaken.{after_root, after_names, after_same, after_asked, after_head, report_at, report_is}}
 use Rattle.report_form.proofs.Gives.{Gives, gives_done, gives_like}
+use Rattle.report_form.specs.declared.fault.ReportCode.TheVariants as code
 use Rattle.report_laws.specs.Shapes.{has_shape, asked_shape, Form, asked, nodes, results, forms_after, first_word, is_patterned, names_in, is_joined, forms_behind, fits, code_of}
-use Rattle.report_laws.proofs.ShapesTold.{asked_told}
+use Rattle.report_laws.proofs.{ShapesTold.asked_told, BlamedPoints.{joined_points_go, IsTitle, title_goes, frontier_goes}}
 use Rattle.report_laws.proofs.Blaming.{last_is, goes_on, gives_fail, choose_gives, at_line_goes, part_goes, or_false, told_code, ruled_goes, first_of_shape, first_of_front, On, Coded, Unfit, code_on, unfit_on, among_goes, Stands, stands_goes, told_on, At, coded_at, onward}
-use Rattle.report_laws.proofs.BlamedPoints.{joined_points_go, IsTitle, title_goes, frontier_goes}
 
 -- ---- the body
 

@@ -1,25 +1,12 @@
 -- A line that a check blames has the code of its form, where the lines before it say which forms may stand there.
-use Rattle.std.proofs.Common.{◌≡◌, ℕ, zero, suc, ◌+◌, ◌-◌, ◌<◌, ◌≤◌, Bool, true, false, ◌&&◌, ◌||◌, not, eqb, List, [], ◌∷◌, ◌++◌, map, length, take, drop, Option, None, Some, Result, Ok, Err, refl, sym, ap, ◌∙◌, subst, append_assoc, arith}
-use Rattle.std.specs.Prelude.{codes, bytes_eq, if◌then◌else◌, slice_get, slice_index_or, nat_eq}
-use Rattle.std.specs.List.{list_any, list_all, last_or, starts_with, join_with_byte}
-use Rattle.std.proofs.Math.Seq.{take-append_seam}
-use Rattle.std.proofs.lemmas.Bool.{and_parts}
-use Rattle.std.proofs.lemmas.Bool.Decides.{Decides-eqb}
-use Rattle.std.proofs.lemmas.List.{length-append}
-use Rattle.std.proofs.lemmas.List.Splits.{join_with_byte-slice_split}
-use Rattle.std.proofs.lemmas.Slice.Eq.{bytes_eq-Decides, starts_is}
-use Rattle.text_lines.specs.Text.{Row, Place, words_of, behind}
-use Rattle.text_lines.specs.Check.{◌>>=◌, refuse, at_line, first, line_part}
-use Rattle.text_lines.proofs.Checks.{first_is}
-use Rattle.text_lines.proofs.Words.{begins_is}
-use Rattle.topology_text.specs.declared.fault.TopologyCode.{TopologyCode}
-use Rattle.topology_text.specs.Reading.{begins}
-use Rattle.topology_text.proofs.Groups.{place}
-use Rattle.report_form.specs.declared.fault.ReportCode.{ReportCode}
+use Rattle.std.proofs.Common.{◌≡◌, ℕ, zero, suc, ◌+◌, ◌-◌, ◌<◌, ◌≤◌, Bool, true, false, ◌&&◌, ◌||◌, not, eqb, List, [], ◌∷◌, ◌++◌, map, length, take, drop, Option, None, Some, Result, Ok, Err, refl, sym, ap, ◌∙◌, subst, append_assoc, arith, codes, bytes_eq, if◌then◌else◌, slice_get, slice_index_or, nat_eq}
+use Rattle.std.{specs.List.{list_any, list_all, last_or, starts_with, join_with_byte}, proofs.{Math.Seq.take-append_seam, lemmas.Bool.and_parts}}
+use Rattle.std.proofs.lemmas.{Bool.Decides.Decides-eqb, List.{length-append, Splits.join_with_byte-slice_split}, Slice.Eq.{bytes_eq-Decides, starts_is}}
+use Rattle.text_lines.{specs.{Text.{Row, Place, words_of, behind}, Check.{◌>>=◌, refuse, at_line, first, line_part}}, proofs.{Checks.first_is, Words.begins_is}}
+use Rattle.topology_text.{specs.{declared.fault.TopologyCode.TopologyCode, Reading.begins}, proofs.Groups.place}
+use Rattle.report_form.specs.{declared.fault.ReportCode.ReportCode, Lines.{whole_line, fixed_line, row_begins, blamed, among, lines_from, parts_from}}
+use Rattle.report_form.proofs.{Gives.{Gives, gives_done, gives_like, gives_then}, LineTaken.{on_words, ruled_by}}
 use Rattle.report_form.specs.declared.fault.ReportCode.TheVariants as code
-use Rattle.report_form.specs.Lines.{whole_line, fixed_line, row_begins, blamed, among, lines_from, parts_from}
-use Rattle.report_form.proofs.Gives.{Gives, gives_done, gives_like, gives_then}
-use Rattle.report_form.proofs.LineTaken.{on_words, ruled_by}
 use Rattle.report_laws.specs.Shapes.{Token, Word, Any, has_shape, Form, forms_after, first_word, is_patterned, names_in, is_joined, forms_behind, fits, code_of}
 use Rattle.report_laws.proofs.ShapesTold.{Told}
 

@@ -2,13 +2,9 @@
 use Rattle.std.proofs.Common.{◌≡◌, ℕ, ◌-◌, List, take, Err, refl, sym, ap, ◌∙◌}
 use Rattle.text_lines.specs.Text.{rows_of, start}
 use Rattle.topology_text.proofs.Cuts.{cut_agrees}
-use Rattle.report_form.specs.declared.fault.ReportCode.{ReportCode}
-use Rattle.report_form.specs.Spelling.{report_lines}
-use Rattle.report_form.specs.Reading.{report_of}
-use Rattle.report_form.specs.First.{FailsFirstAt}
+use Rattle.report_form.specs.{declared.fault.ReportCode.ReportCode, Spelling.report_lines, Reading.report_of, First.FailsFirstAt}
 use Rattle.report_form.proofs.ReportTaken.{report_is, report_gives}
-use Rattle.report_laws.proofs.SpelledTokens.{rows_of_report}
-use Rattle.report_laws.proofs.LocalReport.{none_agrees}
+use Rattle.report_laws.proofs.{SpelledTokens.rows_of_report, LocalReport.none_agrees}
 
 pub first_is_blamed : (text : List ℕ) (why : ReportCode) (n : ℕ) → report_of text ≡ Err (why, n) → FailsFirstAt text n
 first_is_blamed text why n failed =

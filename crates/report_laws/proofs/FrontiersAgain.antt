@@ -1,34 +1,20 @@
 -- The lines of a report's parts that are spelled are read.
-use Rattle.std.proofs.Common.{◌≡◌, ℕ, ◌≤◌, List, [], ◌∷◌, ◌++◌, map, length, Ok, refl, sym, ap, ◌∙◌, subst, arith}
-use Rattle.std.specs.Prelude.{◌≢◌, codes, flat_map, All, IfSome}
-use Rattle.std.proofs.lemmas.List.{length-append, length-map}
-use Rattle.std.proofs.lemmas.List.Elements.{All-head, All-tail, All-map, All-weaker}
-use Rattle.text_lines.specs.Text.{Row}
-use Rattle.text_lines.proofs.Rows.{row_of}
+use Rattle.std.proofs.Common.{◌≡◌, ℕ, ◌≤◌, List, [], ◌∷◌, ◌++◌, map, length, Ok, refl, sym, ap, ◌∙◌, subst, arith, ◌≢◌, codes, flat_map, All, IfSome}
+use Rattle.std.proofs.lemmas.List.{length-append, length-map, Elements.{All-head, All-tail, All-map, All-weaker}}
+use Rattle.text_lines.{specs.Text.Row, proofs.Rows.row_of}
 use Rattle.outer_ports.specs.declared.part.Part.{Part}
 use Rattle.outer_ports.specs.declared.part.Part.TheVariants as part
-use Rattle.collective_spec.specs.declared.kind.Kind.{Kind}
+use Rattle.collective_spec.{specs.{declared.kind.Kind.Kind, Patterns.IsPattern}, proofs.Chunks.FewBase}
 use Rattle.collective_spec.specs.declared.kind.Kind.TheVariants as kind
-use Rattle.collective_spec.specs.Patterns.{IsPattern}
-use Rattle.collective_spec.proofs.Chunks.{FewBase}
-use Rattle.candidate_order.specs.Ranges.{IsLimits}
-use Rattle.candidate_order.specs.Frontiers.{QuestionValue, PointValue, FrontierValue, IsWithin, IsUnknown}
-use Rattle.topology_text.specs.Value.{NamedTopologyValue}
-use Rattle.topology_text.specs.Names.{AreNames}
-use Rattle.topology_text.proofs.Groups.{place, EndsGroups}
-use Rattle.report_form.specs.Reports.{WordsValue, IsPoint, IsFrontier, IsJoinedPoint, question_of}
+use Rattle.candidate_order.specs.{Ranges.IsLimits, Frontiers.{QuestionValue, PointValue, FrontierValue, IsWithin, IsUnknown}}
+use Rattle.topology_text.{specs.{Value.NamedTopologyValue, Names.AreNames}, proofs.Groups.{place, EndsGroups}}
+use Rattle.report_form.specs.{Reports.{WordsValue, IsPoint, IsFrontier, IsJoinedPoint, question_of}, Lines.parts_at}
 use Rattle.report_form.specs.Spelling.{point_lines, refuted_words, unknown_words, part_words, frontier_lines, joined_lines}
-use Rattle.report_form.specs.Lines.{parts_at}
 use Rattle.report_form.specs.Points.{frontier_point_at, joined_point_at}
 use Rattle.report_form.specs.Reading.{refuted_line, unknown_line, part_bytes, frontier_at, frontiers_from, joined_at}
-use Rattle.report_form.proofs.ListsTaken.{AreListed, AreUnknown}
-use Rattle.report_form.proofs.PointsTaken.{ArePoints}
-use Rattle.report_form.proofs.Gives.{rows_split}
-use Rattle.report_form.proofs.FrontiersTaken.{IsFrontierOf}
-use Rattle.report_laws.proofs.LinesAgain.{fixed_part_again, Reads, reads_here, reads_as, reads_then, Ends, lines_again, parts_again}
-use Rattle.report_laws.proofs.ListsAgain.{behind_lines, refuted_reads, unknown_reads}
-use Rattle.report_laws.proofs.PointsAgain.{base_of, point_reads}
-use Rattle.report_laws.proofs.JoinedAgain.{joined_reads}
+use Rattle.report_form.proofs.{ListsTaken.{AreListed, AreUnknown}, PointsTaken.ArePoints, Gives.rows_split, FrontiersTaken.IsFrontierOf}
+use Rattle.report_laws.proofs.{LinesAgain.{fixed_part_again, Reads, reads_here, reads_as, reads_then, Ends, lines_again, parts_again}, JoinedAgain.joined_reads}
+use Rattle.report_laws.proofs.{ListsAgain.{behind_lines, refuted_reads, unknown_reads}, PointsAgain.{base_of, point_reads}}
 
 -- ---- what follows a part
 

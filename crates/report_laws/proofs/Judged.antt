@@ -1,15 +1,10 @@
 -- A line, and a check of what it says that needs what stands before it and is told at this line, as one part.
 use Rattle.std.proofs.Common.{◌≡◌, ℕ, ◌≤◌, List, length, Option, Result, Ok, Err, ◌⊎◌, inl, inr, refl, sym, ap, ◌∙◌, subst, arith}
-use Rattle.text_lines.specs.Text.{Row, Place}
-use Rattle.text_lines.specs.Check.{◌>>=◌, at_line, line_part}
-use Rattle.text_lines.proofs.Checks.{bind_ok, bind_err, line_err, at_line_ok, ok_is}
+use Rattle.text_lines.{specs.{Text.{Row, Place}, Check.{◌>>=◌, at_line, line_part}}, proofs.Checks.{bind_ok, bind_err, line_err, at_line_ok, ok_is}}
 use Rattle.topology_text.specs.declared.fault.TopologyCode.{TopologyCode}
-use Rattle.topology_text.proofs.Local.{Same, FailsAt, ReadsTo, line_reads_here}
-use Rattle.topology_text.proofs.Steady.{Moves, Alike, Steady, steady_line}
-use Rattle.report_form.specs.declared.fault.ReportCode.{ReportCode}
-use Rattle.report_form.specs.Lines.{among}
-use Rattle.report_form.proofs.Gives.{Gives, gives_done, gives_like, gives_then}
-use Rattle.report_form.proofs.ReportTaken.{among_ok}
+use Rattle.topology_text.proofs.{Local.{Same, FailsAt, ReadsTo, line_reads_here}, Steady.{Moves, Alike, Steady, steady_line}}
+use Rattle.report_form.specs.{declared.fault.ReportCode.ReportCode, Lines.among}
+use Rattle.report_form.proofs.{Gives.{Gives, gives_done, gives_like, gives_then}, ReportTaken.among_ok}
 use Rattle.report_laws.proofs.SteadyLists.{steady_among}
 
 abbrev pub with_later : {A B : Type 0} → A × Place → B → Result ((A × B) × Place) (ReportCode × ℕ)

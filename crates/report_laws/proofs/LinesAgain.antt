@@ -1,18 +1,10 @@
 -- Lines that are spelled are read, one by one, many of a kind, and many parts of a kind.
-use Rattle.std.proofs.Common.{◌≡◌, ℕ, zero, suc, ◌+◌, ◌≤◌, Bool, true, false, not, List, [], ◌∷◌, ◌++◌, map, length, Option, Some, Result, Ok, refl, sym, ap, ◌∙◌, subst, append_assoc, arith}
-use Rattle.std.specs.Prelude.{flat_map, if◌then◌else◌}
-use Rattle.std.proofs.lemmas.Slice.Eq.{bytes_eq-Decides}
-use Rattle.std.proofs.lemmas.List.{append-nil}
-use Rattle.text_lines.specs.Text.{Row, Place}
-use Rattle.text_lines.specs.Check.{◌>>=◌, refuse, at_line, first, line_part}
-use Rattle.text_lines.proofs.Rows.{AreTokens, row_of, words_again}
-use Rattle.topology_text.specs.Reading.{begins}
-use Rattle.topology_text.proofs.Groups.{place}
-use Rattle.report_form.specs.declared.fault.ReportCode.{ReportCode}
-use Rattle.report_form.specs.declared.fault.ReportCode.TheVariants.{BadLine}
-use Rattle.report_form.specs.Lines.{fixed_line, row_begins, lines_from, parts_from}
-use Rattle.report_form.proofs.Gives.{rows_split}
-use Rattle.report_form.proofs.LineTaken.{on_words}
+use Rattle.std.proofs.Common.{◌≡◌, ℕ, zero, suc, ◌+◌, ◌≤◌, Bool, true, false, not, List, [], ◌∷◌, ◌++◌, map, length, Option, Some, Result, Ok, refl, sym, ap, ◌∙◌, subst, append_assoc, arith, flat_map, if◌then◌else◌}
+use Rattle.std.proofs.lemmas.{Slice.Eq.bytes_eq-Decides, List.append-nil}
+use Rattle.text_lines.{specs.{Text.{Row, Place}, Check.{◌>>=◌, refuse, at_line, first, line_part}}, proofs.Rows.{AreTokens, row_of, words_again}}
+use Rattle.topology_text.{specs.Reading.begins, proofs.Groups.place}
+use Rattle.report_form.specs.{declared.fault.ReportCode.{ReportCode, TheVariants.BadLine}, Lines.{fixed_line, row_begins, lines_from, parts_from}}
+use Rattle.report_form.proofs.{Gives.rows_split, LineTaken.on_words}
 
 -- ---- one line
 

@@ -1,32 +1,16 @@
 -- The lines of refuted and unknown candidates that are spelled are read.
-use Rattle.std.proofs.Common.{◌≡◌, ℕ, suc, ◌≤◌, ◌^◌, Bool, true, false, ◌&&◌, not, List, [], ◌∷◌, ◌++◌, map, length, get_or, Option, None, Some, IfSome, Result, Ok, refl, sym, ap, subst, arith}
-use Rattle.std.specs.Prelude.{◌==◌, codes, All, AllPairs}
-use Rattle.std.specs.List.{last_or, AllByRecursion}
-use Rattle.std.proofs.lemmas.Bool.{and_from, eq-eqb}
-use Rattle.std.proofs.lemmas.List.{length-append, map-append, get_or_append_left, get_or_at}
+use Rattle.std.proofs.Common.{◌≡◌, ℕ, suc, ◌≤◌, ◌^◌, Bool, true, false, ◌&&◌, not, List, [], ◌∷◌, ◌++◌, map, length, get_or, Option, None, Some, IfSome, Result, Ok, refl, sym, ap, subst, arith, ◌==◌, codes, All, AllPairs}
+use Rattle.std.{specs.List.{last_or, AllByRecursion}, proofs.lemmas.{Bool.{and_from, eq-eqb}, List.{length-append, map-append, get_or_append_left, get_or_at}}}
 use Rattle.std.proofs.lemmas.List.Elements.{All-head, All-tail}
-use Rattle.text_lines.specs.Text.{Row}
-use Rattle.text_lines.specs.Check.{◌>>=◌, refuse, line_part}
-use Rattle.text_lines.proofs.Distinct.{next_has}
-use Rattle.text_lines.proofs.Rows.{AreTokens, row_of}
-use Rattle.text_lines.proofs.Words.{tokens_from}
-use Rattle.topology_text.specs.Reading.{begins}
-use Rattle.topology_text.proofs.Groups.{place}
-use Rattle.candidate_order.specs.declared.candidate.Candidate.{Candidate}
-use Rattle.candidate_order.specs.Ranges.{IsLimits}
-use Rattle.candidate_order.specs.Costs.{Before}
+use Rattle.text_lines.{specs.{Text.Row, Check.{◌>>=◌, refuse, line_part}}, proofs.{Distinct.next_has, Rows.{AreTokens, row_of}, Words.tokens_from}}
+use Rattle.topology_text.{specs.Reading.begins, proofs.Groups.place}
+use Rattle.candidate_order.specs.{declared.candidate.Candidate.Candidate, Ranges.IsLimits, Costs.Before}
 use Rattle.candidate_order.specs.Frontiers.{QuestionValue, UnknownValue, IsWithin, IsUnknown}
-use Rattle.report_form.specs.declared.fault.ReportCode.{ReportCode}
-use Rattle.report_form.specs.declared.fault.ReportCode.TheVariants as code
-use Rattle.report_form.specs.Spelling.{refuted_words, unknown_words}
-use Rattle.report_form.specs.Tests.{is_within, comes_next}
+use Rattle.report_form.specs.{declared.fault.ReportCode.ReportCode, Spelling.{refuted_words, unknown_words}, Tests.{is_within, comes_next}}
 use Rattle.report_form.specs.Reading.{refuted_from, refuted_line, unknown_from, unknown_line}
-use Rattle.report_form.proofs.Tested.{decides_within, decides_before}
-use Rattle.report_form.proofs.Ascending.{last_is}
-use Rattle.report_form.proofs.LineTaken.{on_words, ruled_by}
-use Rattle.report_form.proofs.ListsTaken.{AreListed, AreUnknown}
-use Rattle.report_laws.proofs.TokensAgain.{ok_then}
-use Rattle.report_laws.proofs.LinesAgain.{on_words_again, words_part_again, Reads, Ends, ReadsLine}
+use Rattle.report_form.proofs.{Tested.{decides_within, decides_before}, Ascending.last_is, LineTaken.{on_words, ruled_by}, ListsTaken.{AreListed, AreUnknown}}
+use Rattle.report_form.specs.declared.fault.ReportCode.TheVariants as code
+use Rattle.report_laws.proofs.{TokensAgain.ok_then, LinesAgain.{on_words_again, words_part_again, Reads, Ends, ReadsLine}}
 use Rattle.report_laws.proofs.ShapesAgain.{IsSmall, refuted_again, refuted_are_words, unknown_again, unknown_are_words}
 
 -- a shape that is read, and a rule that is kept

@@ -1,14 +1,10 @@
 -- Lines and parts that repeat fail alike where their lines are the same.
-use Rattle.std.proofs.Common.{◌≡◌, ℕ, zero, suc, ◌+◌, ◌<◌, ◌≤◌, Bool, true, false, List, [], ◌∷◌, ◌++◌, length, Option, Some, Result, Ok, Err, refl, ap, ◌∙◌, arith}
-use Rattle.std.specs.Prelude.{if◌then◌else◌}
-use Rattle.text_lines.specs.Text.{Row, Place}
-use Rattle.text_lines.specs.Check.{◌>>=◌, at_line, first, line_part}
-use Rattle.text_lines.proofs.Checks.{after_line}
+use Rattle.std.proofs.Common.{◌≡◌, ℕ, zero, suc, ◌+◌, ◌<◌, ◌≤◌, Bool, true, false, List, [], ◌∷◌, ◌++◌, length, Option, Some, Result, Ok, Err, refl, ap, ◌∙◌, arith, if◌then◌else◌}
+use Rattle.text_lines.{specs.{Text.{Row, Place}, Check.{◌>>=◌, at_line, first, line_part}}, proofs.Checks.after_line}
 use Rattle.topology_text.specs.Reading.{begins}
 use Rattle.topology_text.proofs.Groups.{place}
-use Rattle.report_form.specs.declared.fault.ReportCode.{ReportCode}
-use Rattle.report_form.specs.Lines.{row_begins, lines_from, parts_from}
 use Rattle.topology_text.proofs.Steady.{Moves, Alike, moves_bind, alike_bind, found, moves_found, alike_found, alike_stop, alike_apart, alike_choose, moves_choose}
+use Rattle.report_form.specs.{declared.fault.ReportCode.ReportCode, Lines.{row_begins, lines_from, parts_from}}
 
 -- ---- lines that repeat
 

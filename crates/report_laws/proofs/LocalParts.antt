@@ -1,15 +1,11 @@
 -- The checks of points and of a frontier fail alike where the lines are the same.
-use Rattle.std.proofs.Common.{List, map, None}
-use Rattle.std.specs.Prelude.{codes, ℕ}
-use Rattle.std.specs.List.{last_or}
+use Rattle.std.{proofs.Common.{List, map, None, codes, ℕ}, specs.List.last_or}
 use Rattle.outer_ports.specs.declared.part.Part.{Part}
 use Rattle.collective_spec.specs.Collectives.{chunks_in}
 use Rattle.candidate_order.specs.Frontiers.{QuestionValue}
-use Rattle.report_form.specs.Lines.{fixed_line, parts_at}
+use Rattle.report_form.specs.{Lines.{fixed_line, parts_at}, Reading.{part_bytes, refuted_line, unknown_line, frontier_at}}
 use Rattle.report_form.specs.Points.{HeadValue, head_line, joined_head_line, rounds_line, send_line, schedule_at, frontier_point_at, joined_point_at}
-use Rattle.report_form.specs.Reading.{part_bytes, refuted_line, unknown_line, frontier_at}
-use Rattle.report_form.proofs.PointsTaken.{point_of}
-use Rattle.report_form.proofs.FrontiersTaken.{frontier}
+use Rattle.report_form.proofs.{PointsTaken.point_of, FrontiersTaken.frontier}
 use Rattle.topology_text.proofs.Steady.{Steady, steady_line, steady_found}
 use Rattle.report_laws.proofs.SteadyLists.{steady_next, steady_lines, steady_pieces}
 

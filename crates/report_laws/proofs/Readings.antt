@@ -1,18 +1,10 @@
 -- What a text is read as, by the checks and by its spelling.
-use Rattle.std.proofs.Common.{◌≡◌, ℕ, ◌-◌, List, take, Result, Ok, Err, refl, sym, ap, ◌∙◌}
-use Rattle.std.specs.Prelude.{slice_get}
+use Rattle.std.proofs.Common.{◌≡◌, ℕ, ◌-◌, List, take, Result, Ok, Err, refl, sym, ap, ◌∙◌, slice_get}
 use Rattle.text_lines.specs.Text.{rows_of}
-use Rattle.report_form.specs.declared.fault.ReportCode.{ReportCode}
-use Rattle.report_form.specs.Reports.{ReportValue, IsReport}
-use Rattle.report_form.specs.Spelling.{report_text}
-use Rattle.report_form.specs.Reading.{report_of}
+use Rattle.report_form.specs.{declared.fault.ReportCode.ReportCode, Reports.{ReportValue, IsReport}, Spelling.report_text, Reading.report_of}
 use Rattle.report_form.specs.First.{FailsFirstAt}
-use Rattle.report_form.proofs.Blamed.{one_line}
-use Rattle.report_form.proofs.ReportTaken.{report_take}
-use Rattle.report_laws.specs.Shapes.{code_of, ReadsAs}
-use Rattle.report_laws.proofs.ReportAgain.{one_report}
-use Rattle.report_laws.proofs.FirstBlamed.{first_is_blamed}
-use Rattle.report_laws.proofs.BlamedReport.{code_is}
+use Rattle.report_form.proofs.{Blamed.one_line, ReportTaken.report_take}
+use Rattle.report_laws.{specs.Shapes.{code_of, ReadsAs}, proofs.{ReportAgain.one_report, FirstBlamed.first_is_blamed, BlamedReport.code_is}}
 
 -- what the checks give is what the spelling says
 pub read_as : (text : List ℕ) (result : Result ReportValue (ReportCode × ℕ)) → report_of text ≡ result → ReadsAs text result

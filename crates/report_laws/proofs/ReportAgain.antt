@@ -1,39 +1,21 @@
 -- The text of a valid report is read as that report.
-use Rattle.std.proofs.Common.{◌≡◌, ℕ, ◌+◌, Bool, true, false, not, List, [], ◌∷◌, ◌++◌, map, length, Option, None, Some, Ok, refl, sym, ap, ◌∙◌, subst}
-use Rattle.std.specs.Prelude.{codes, flat_map, is_some}
-use Rattle.std.proofs.lemmas.Bool.{not-true}
-use Rattle.std.proofs.lemmas.List.{map-append}
-use Rattle.text_lines.specs.Text.{Row, rows_of}
-use Rattle.text_lines.specs.Check.{refuse, at_line, line_part}
-use Rattle.text_lines.proofs.Checks.{ok_is}
-use Rattle.text_lines.proofs.Rows.{row_of}
+use Rattle.std.proofs.Common.{◌≡◌, ℕ, ◌+◌, Bool, true, false, not, List, [], ◌∷◌, ◌++◌, map, length, Option, None, Some, Ok, refl, sym, ap, ◌∙◌, subst, codes, flat_map, is_some}
+use Rattle.std.proofs.lemmas.{Bool.not-true, List.map-append}
+use Rattle.text_lines.{specs.{Text.{Row, rows_of}, Check.{refuse, at_line, line_part}}, proofs.{Checks.ok_is, Rows.row_of}}
 use Rattle.outer_ports.specs.declared.part.Part.{Part}
-use Rattle.collective_spec.specs.declared.kind.Kind.{Kind}
-use Rattle.collective_spec.specs.Kinds.{takes_root, is_custom}
-use Rattle.collective_spec.specs.Patterns.{PatternValue}
-use Rattle.collective_spec.specs.Collectives.{fits_kind}
-use Rattle.topology_text.specs.Value.{NamedTopologyValue, named_with}
-use Rattle.topology_text.specs.Spelling.{version_word, header_words, nodes_words, group_words, custom_lines, lines_of}
+use Rattle.collective_spec.specs.{declared.kind.Kind.Kind, Kinds.{takes_root, is_custom}, Patterns.PatternValue, Collectives.fits_kind}
+use Rattle.topology_text.specs.{Value.{NamedTopologyValue, named_with}, Spelling.{version_word, header_words, nodes_words, group_words, custom_lines, lines_of}}
 use Rattle.topology_text.specs.Reading.{groups_at}
-use Rattle.topology_text.proofs.Front.{head_is}
-use Rattle.topology_text.specs.Spelling as spelling
-use Rattle.topology_text.proofs.Groups.{place, EndsGroups, groups_again}
-use Rattle.topology_text.proofs.Patterns.{pattern_again, pattern_ends}
+use Rattle.topology_text.proofs.{Front.head_is, Groups.{place, EndsGroups, groups_again}, Patterns.{pattern_again, pattern_ends}}
 use Rattle.topology_text.proofs.Laws.{names_are, groups_are, pattern_is, rows_same, header_part_again, nodes_part_again}
-use Rattle.report_form.specs.declared.fault.ReportCode.{ReportCode}
-use Rattle.report_form.specs.declared.fault.ReportCode.TheVariants as code
-use Rattle.report_form.specs.Reports.{WordsValue, ReportValue, IsReport}
+use Rattle.topology_text.specs.Spelling as spelling
+use Rattle.report_form.specs.{declared.fault.ReportCode.ReportCode, Reports.{WordsValue, ReportValue, IsReport}, Lines.among, SynthLine.AskedValue}
 use Rattle.report_form.specs.Spelling.{synth_words, frontier_lines, joined_lines, body_lines, report_lines, report_text}
-use Rattle.report_form.specs.Lines.{among}
-use Rattle.report_form.specs.SynthLine.{AskedValue}
 use Rattle.report_form.specs.Reading.{frontiers_from, body_of, version_line, is_same, report_of}
-use Rattle.report_form.proofs.ReportTaken.{head_words, head_spelled, report_at, report_is, end_words}
-use Rattle.report_form.proofs.Gives.{rows_split}
-use Rattle.report_laws.proofs.TokensAgain.{ok_then}
-use Rattle.report_laws.proofs.LinesAgain.{Reads}
+use Rattle.report_form.proofs.{ReportTaken.{head_words, head_spelled, report_at, report_is, end_words}, Gives.rows_split}
+use Rattle.report_form.specs.declared.fault.ReportCode.TheVariants as code
+use Rattle.report_laws.proofs.{TokensAgain.ok_then, LinesAgain.Reads, SynthLineAgain.{asked_of, asked_part_again, root_of_again}, SpelledTokens.rows_of_report}
 use Rattle.report_laws.proofs.FrontiersAgain.{end_ends, groups_end, frontiers_end, frontiers_again, joined_again, joined_end}
-use Rattle.report_laws.proofs.SynthLineAgain.{asked_of, asked_part_again, root_of_again}
-use Rattle.report_laws.proofs.SpelledTokens.{rows_of_report}
 
 -- ---- the body
 

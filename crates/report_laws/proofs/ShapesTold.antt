@@ -1,30 +1,17 @@
 -- The checks of a line's shape pass exactly where the line has the shape.
-use Rattle.std.proofs.Common.{◌≡◌, ℕ, Bool, true, false, ◌&&◌, ◌||◌, not, List, [], ◌∷◌, ◌++◌, map, length, drop, Option, None, Some, Result, Ok, Err, refl, sym, ap, ◌∙◌, subst}
-use Rattle.std.specs.Prelude.{codes, bytes_eq, find, if◌then◌else◌, is_some}
-use Rattle.std.specs.Str.Parse.{digits_value}
-use Rattle.std.specs.List.{list_any, starts_with}
-use Rattle.std.specs.Prelude.{nat_eq}
-use Rattle.std.proofs.lemmas.Bool.{and_parts}
-use Rattle.std.proofs.lemmas.Bool.Decides.{Decides-eqb}
+use Rattle.std.proofs.Common.{◌≡◌, ℕ, Bool, true, false, ◌&&◌, ◌||◌, not, List, [], ◌∷◌, ◌++◌, map, length, drop, Option, None, Some, Result, Ok, Err, refl, sym, ap, ◌∙◌, subst, codes, bytes_eq, find, if◌then◌else◌, is_some, nat_eq}
+use Rattle.std.{specs.{Str.Parse.digits_value, List.{list_any, starts_with}}, proofs.lemmas.{Bool.{and_parts, Decides.Decides-eqb}, Option.same_Some}}
 use Rattle.std.proofs.lemmas.Slice.Eq.{bytes_eq-Decides, starts_is}
-use Rattle.std.proofs.lemmas.Option.{same_Some}
 use Rattle.text_lines.specs.Check.{◌>>=◌, refuse, need}
-use Rattle.collective_spec.specs.declared.kind.Kind.{Kind}
-use Rattle.collective_spec.specs.Kinds.{word_of, takes_root}
-use Rattle.candidate_order.specs.declared.candidate.Candidate.{Candidate}
+use Rattle.collective_spec.specs.{declared.kind.Kind.Kind, Kinds.{word_of, takes_root}}
+use Rattle.candidate_order.specs.{declared.{candidate.Candidate.Candidate, pruning.Pruning.Pruning}, Ranges.LimitsValue}
 use Rattle.candidate_order.specs.declared.mark.Mark.TheVariants as mark
-use Rattle.candidate_order.specs.declared.pruning.Pruning.{Pruning}
-use Rattle.candidate_order.specs.Ranges.{LimitsValue}
-use Rattle.topology_text.specs.Names.{is_name, name_of}
-use Rattle.topology_text.specs.Reading.{begins, node_of}
-use Rattle.report_form.specs.declared.fault.ReportCode.{ReportCode}
-use Rattle.report_form.specs.declared.fault.ReportCode.TheVariants.{BadLine}
+use Rattle.topology_text.specs.{Names.{is_name, name_of}, Reading.{begins, node_of}}
+use Rattle.report_form.specs.{declared.fault.ReportCode.{ReportCode, TheVariants.BadLine}, Reading.{refuted_from, unknown_from}}
 use Rattle.report_form.specs.Fields.{is_number, any_number, small_number, next_word, behind_key, next_keyed, fixed_word, next_number, next_node, no_more}
 use Rattle.report_form.specs.Points.{candidate_from, mark_named, head_from, joined_head_from, numbers_from, rounds_from, send_from}
-use Rattle.report_form.specs.Reading.{refuted_from, unknown_from}
 use Rattle.report_form.specs.SynthLine.{AskedValue, kind_named, kinds_of, limits_from, root_from, said_from, pruning_from, asked_from}
-use Rattle.report_form.proofs.Shapes.{candidate}
-use Rattle.report_form.proofs.SynthLineTaken.{found_is, limits, pruned, asked}
+use Rattle.report_form.proofs.{Shapes.candidate, SynthLineTaken.{found_is, limits, pruned, asked}}
 use Rattle.report_laws.specs.Shapes.{Token, Word, Any, May, has_shape, small, keyed, asked_shape, candidate_shape, is_mark, mark_shape, rounds_shape, send_shape}
 use Rattle.report_laws.proofs.SynthLineAgain.{kind_back, rooted}
 

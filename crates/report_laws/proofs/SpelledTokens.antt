@@ -1,30 +1,18 @@
 -- The lines of a valid report are made of tokens, so that its text falls into them.
-use Rattle.std.proofs.Common.{◌≡◌, ℕ, List, [], ◌∷◌, ◌++◌, map, length, Option, None, Some, refl, arith}
-use Rattle.std.specs.Prelude.{codes, flat_map, All}
-use Rattle.std.specs.List.{AllByRecursion}
+use Rattle.std.{proofs.Common.{◌≡◌, ℕ, List, [], ◌∷◌, ◌++◌, map, length, Option, None, Some, refl, arith, codes, flat_map, All}, specs.List.AllByRecursion}
 use Rattle.std.proofs.lemmas.List.Elements.{All-head, All-tail}
-use Rattle.text_lines.specs.Text.{rows_of}
-use Rattle.text_lines.proofs.Rows.{AreTokens, row_of, rows_again}
-use Rattle.text_lines.proofs.Words.{literal, tokens_from}
+use Rattle.text_lines.{specs.Text.rows_of, proofs.{Rows.{AreTokens, row_of, rows_again}, Words.{literal, tokens_from}}}
 use Rattle.outer_ports.specs.declared.part.Part.{Part}
 use Rattle.outer_ports.specs.declared.part.Part.TheVariants as part
 use Rattle.schedule.proofs.First.{each_append}
-use Rattle.collective_spec.specs.declared.kind.Kind.{Kind}
+use Rattle.collective_spec.{specs.{declared.kind.Kind.Kind, Patterns.PatternValue}, proofs.Chunks.FewBase}
 use Rattle.collective_spec.specs.declared.kind.Kind.TheVariants as kind
-use Rattle.collective_spec.specs.Patterns.{PatternValue}
-use Rattle.collective_spec.proofs.Chunks.{FewBase}
-use Rattle.candidate_order.specs.Ranges.{IsLimits}
-use Rattle.candidate_order.specs.Frontiers.{QuestionValue, PointValue, FrontierValue, IsWithin, IsUnknown}
-use Rattle.topology_text.specs.Names.{AreNames}
-use Rattle.topology_text.specs.Value.{NamedTopologyValue}
-use Rattle.topology_text.specs.Spelling.{lines_of, version_word}
-use Rattle.topology_text.proofs.Laws.{lines_are_words}
+use Rattle.candidate_order.specs.{Ranges.IsLimits, Frontiers.{QuestionValue, PointValue, FrontierValue, IsWithin, IsUnknown}}
+use Rattle.topology_text.{specs.{Names.AreNames, Value.NamedTopologyValue, Spelling.{lines_of, version_word}}, proofs.Laws.lines_are_words}
 use Rattle.report_form.specs.Reports.{WordsValue, ReportValue, IsPoint, IsFrontier, IsJoinedPoint, IsReport, question_of}
 use Rattle.report_form.specs.Spelling.{point_lines, refuted_words, unknown_words, part_words, frontier_lines, joined_lines, body_lines, report_lines, report_text}
-use Rattle.report_laws.proofs.ListsAgain.{lines_are_tokens, refuted_tokens, unknown_tokens}
-use Rattle.report_laws.proofs.PointsAgain.{base_of, point_are_tokens}
-use Rattle.report_laws.proofs.JoinedAgain.{joined_are_tokens}
-use Rattle.report_laws.proofs.SynthLineAgain.{synth_tokens}
+use Rattle.report_laws.proofs.{ListsAgain.{lines_are_tokens, refuted_tokens, unknown_tokens}, PointsAgain.{base_of, point_are_tokens}}
+use Rattle.report_laws.proofs.{JoinedAgain.joined_are_tokens, SynthLineAgain.synth_tokens}
 
 -- the lines of valid parts are made of tokens
 pub parts_are_tokens : {A : Type 0} (P : A → Type 0) (spell : A → List (List (List ℕ))) → ((x : A) → P x → AllByRecursion AreTokens (spell x)) → (xs : List A) → All P xs → AllByRecursion AreTokens (flat_map spell xs)

@@ -1,14 +1,9 @@
 -- Readers that fail alike where their lines are the same, and how they are put together.
-use Rattle.std.proofs.Common.{◌≡◌, ℕ, ◌-◌, ◌<◌, true, List, [], ◌∷◌, length, drop, Option, Result, Ok, Err, refl, sym, ap, subst, arith}
-use Rattle.std.specs.Prelude.{slice_get}
-use Rattle.text_lines.specs.Text.{Row, Place}
-use Rattle.text_lines.specs.Check.{◌>>=◌, first, line_part}
-use Rattle.text_lines.proofs.Checks.{bind_ok, part_ok}
+use Rattle.std.proofs.Common.{◌≡◌, ℕ, ◌-◌, ◌<◌, true, List, [], ◌∷◌, length, drop, Option, Result, Ok, Err, refl, sym, ap, subst, arith, slice_get}
+use Rattle.text_lines.{specs.{Text.{Row, Place}, Check.{◌>>=◌, first, line_part}}, proofs.Checks.{bind_ok, part_ok}}
 use Rattle.topology_text.specs.declared.fault.TopologyCode.{TopologyCode}
-use Rattle.report_form.specs.declared.fault.ReportCode.{ReportCode}
-use Rattle.report_form.specs.Lines.{row_begins, lines_at, parts_at, whole_line, blamed, among}
-use Rattle.topology_text.proofs.Local.{FailsAt}
-use Rattle.topology_text.proofs.Steady.{Moves, Alike, Steady, Settles, steady_line, steady_then, settles_then}
+use Rattle.topology_text.proofs.{Local.FailsAt, Steady.{Moves, Alike, Steady, Settles, steady_line, steady_then, settles_then}}
+use Rattle.report_form.specs.{declared.fault.ReportCode.ReportCode, Lines.{row_begins, lines_at, parts_at, whole_line, blamed, among}}
 use Rattle.report_form.proofs.ReportTaken.{among_ok}
 use Rattle.report_laws.proofs.LocalLines.{lines_are_parts, moves_parts, alike_parts}
 

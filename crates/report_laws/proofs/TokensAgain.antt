@@ -1,20 +1,9 @@
 -- Tokens that are spelled are taken, and give back what they spell.
-use Rattle.std.proofs.Common.{◌≡◌, ◌≢◌, ℕ, suc, ◌<◌, ◌≤◌, ◌^◌, Bool, true, false, ◌&&◌, not, List, [], ◌∷◌, ◌++◌, length, get_or, drop, Option, None, Some, Result, Ok, refl, ap, ◌∙◌, arith}
-use Rattle.std.specs.Prelude.{◌==◌, decimal, nat_eq, nat_le}
-use Rattle.std.specs.List.{starts_with, list_all}
-use Rattle.std.specs.Str.Parse.{digits_value}
-use Rattle.std.proofs.Math.Seq.{drop-append_seam}
-use Rattle.std.proofs.lemmas.Bool.{and_from, cond-true, le-leb, ne_eqb}
-use Rattle.std.proofs.lemmas.Bool.Decides.{Decides-eqb}
-use Rattle.std.proofs.lemmas.Fmt.{decimal_is_IsNumeral, decimal_nonempty}
-use Rattle.std.proofs.lemmas.Slice.Eq.{starts_is}
-use Rattle.std.proofs.lemmas.Str.Parse.{digit_at}
-use Rattle.text_lines.specs.Check.{◌>>=◌, need}
-use Rattle.text_lines.proofs.Distinct.{AreDistinct}
-use Rattle.text_lines.proofs.Numbers.{up_to_some, zero_not}
-use Rattle.topology_text.specs.Spelling.{name_at}
-use Rattle.topology_text.specs.Reading.{begins, node_of}
-use Rattle.topology_text.proofs.Links.{node_again}
+use Rattle.std.proofs.Common.{◌≡◌, ◌≢◌, ℕ, suc, ◌<◌, ◌≤◌, ◌^◌, Bool, true, false, ◌&&◌, not, List, [], ◌∷◌, ◌++◌, length, get_or, drop, Option, None, Some, Result, Ok, refl, ap, ◌∙◌, arith, ◌==◌, decimal, nat_eq, nat_le}
+use Rattle.std.{specs.{List.{starts_with, list_all}, Str.Parse.digits_value}, proofs.{Math.Seq.drop-append_seam, lemmas.Bool.Decides.Decides-eqb}}
+use Rattle.std.proofs.lemmas.{Bool.{and_from, cond-true, le-leb, ne_eqb}, Fmt.{decimal_is_IsNumeral, decimal_nonempty}, Slice.Eq.starts_is, Str.Parse.digit_at}
+use Rattle.text_lines.{specs.Check.{◌>>=◌, need}, proofs.{Distinct.AreDistinct, Numbers.{up_to_some, zero_not}}}
+use Rattle.topology_text.{specs.{Spelling.name_at, Reading.{begins, node_of}}, proofs.Links.node_again}
 use Rattle.report_form.specs.declared.fault.ReportCode.TheVariants.{BadLine}
 use Rattle.report_form.specs.Fields.{is_digit, is_number, any_number, small_number, next_word, behind_key, next_keyed, next_number, next_node}
 

@@ -1,18 +1,11 @@
 -- Reading by spelling alone: a text is read as the report that it spells. Any other text is blamed at the first line at which it can no longer be a report's, and the shape of that line says with which code. This project's own.
 use Rattle.std.specs.Prelude.{◌≡◌, ℕ, ◌-◌, Bool, true, false, ◌&&◌, ◌||◌, if◌then◌else◌, List, [], ◌∷◌, ◌++◌, map, length, take, drop, slice_get, slice_index_or, bytes_eq, codes, is_some, is_ok, Option, None, Some, Result, Ok, Err}
 use Rattle.std.specs.List.{list_any, last_or}
-use Rattle.text_lines.specs.Text.{Row, rows_of, words_of}
-use Rattle.text_lines.specs.Number.{number_up_to}
-use Rattle.collective_spec.specs.declared.kind.Kind.{Kind}
-use Rattle.collective_spec.specs.Kinds.{word_of, takes_root, standard_kinds, every_kind}
-use Rattle.topology_text.specs.Names.{is_name}
-use Rattle.topology_text.specs.Reading.{begins, node_of, nodes_line}
-use Rattle.report_form.specs.declared.fault.ReportCode.{ReportCode}
+use Rattle.text_lines.specs.{Text.{Row, rows_of, words_of}, Number.number_up_to}
+use Rattle.collective_spec.specs.{declared.kind.Kind.Kind, Kinds.{word_of, takes_root, standard_kinds, every_kind}}
+use Rattle.topology_text.specs.{Names.is_name, Reading.{begins, node_of, nodes_line}}
+use Rattle.report_form.specs.{declared.fault.ReportCode.ReportCode, Reports.{ReportValue, IsReport}, Spelling.report_text, First.FailsFirstAt, Fields.is_number}
 use Rattle.report_form.specs.declared.fault.ReportCode.TheVariants as code
-use Rattle.report_form.specs.Reports.{ReportValue, IsReport}
-use Rattle.report_form.specs.Spelling.{report_text}
-use Rattle.report_form.specs.First.{FailsFirstAt}
-use Rattle.report_form.specs.Fields.{is_number}
 
 -- ---- the shapes of lines
 

@@ -1,10 +1,7 @@
 //! Laws of the text of a report.
 
 ghost use Rattle.std.specs.Prelude.{◌≡◌, ℕ, List, Result, Ok, Err};
-ghost use Rattle.report_form.specs.Reports.{ReportValue, IsReport};
-ghost use Rattle.report_form.specs.Spelling.{report_text};
-ghost use Rattle.report_form.specs.Reading.{report_of};
-ghost use Rattle.report_form.specs.First.{FailsFirstAt};
+ghost use Rattle.report_form.specs.{Reports.{ReportValue, IsReport}, Spelling.report_text, Reading.report_of, First.FailsFirstAt};
 ghost use Rattle.report_laws.specs.Shapes.{ReadsAs};
 
 use report_form::ReportCode;

@@ -1,13 +1,8 @@
 -- Numbers of any size, by their digits.
-use Rattle.std.proofs.Common.{◌≡◌, ℕ, ◌<◌, ◌^◌, Bool, true, false, List, None, Some, refl, arith}
-use Rattle.std.specs.Prelude.{◌==◌, ◌&&◌, nat_le, IsTrue, if◌then◌else◌}
-use Rattle.std.specs.Option.{is_some}
-use Rattle.std.specs.Str.Parse.{digits_value}
-use Rattle.std.proofs.lemmas.Bool.{leb-true, le-leb, eqb-true, eqb-false}
-use Rattle.text_lines.specs.Number.{number_up_to}
-use Rattle.text_lines.proofs.Numbers.{up_to_some}
-use Rattle.report_form.specs.Fields.{is_number}
-use Rattle.report_form.proofs.Tokens.{canonical}
+use Rattle.std.proofs.Common.{◌≡◌, ℕ, ◌<◌, ◌^◌, Bool, true, false, List, None, Some, refl, arith, ◌==◌, ◌&&◌, nat_le, IsTrue, if◌then◌else◌}
+use Rattle.std.{specs.{Option.is_some, Str.Parse.digits_value}, proofs.lemmas.Bool.{leb-true, le-leb, eqb-true, eqb-false}}
+use Rattle.text_lines.{specs.Number.number_up_to, proofs.Numbers.up_to_some}
+use Rattle.report_form.{specs.Fields.is_number, proofs.Tokens.canonical}
 
 -- a number that is spelled and not up to the greatest is not in range
 pub none_in_range : (token : List ℕ) (least greatest : ℕ) → IsTrue (is_number token) → greatest < 2 ^ 64 → None ≡ number_up_to greatest token → None ≡ (if nat_le least (digits_value 10 token) && nat_le (digits_value 10 token) greatest then Some (digits_value 10 token) else None)

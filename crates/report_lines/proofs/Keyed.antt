@@ -1,13 +1,8 @@
 -- A token that is a key and a value, read in two steps.
-use Rattle.std.proofs.Common.{◌≡◌, ℕ, Bool, true, false, List, [], ◌∷◌, length, drop, Option, None, Some, Result, Ok, Err, refl, ap, ◌∙◌}
-use Rattle.text_lines.specs.Check.{◌>>=◌, need, Tells}
-use Rattle.text_lines.proofs.Checks.{ok_is}
-use Rattle.std.specs.Prelude.{if◌then◌else◌}
+use Rattle.std.proofs.Common.{◌≡◌, ℕ, Bool, true, false, List, [], ◌∷◌, length, drop, Option, None, Some, Result, Ok, Err, refl, ap, ◌∙◌, if◌then◌else◌}
+use Rattle.text_lines.{specs.Check.{◌>>=◌, need, Tells}, proofs.Checks.ok_is}
 use Rattle.topology_text.specs.Reading.{begins}
-use Rattle.report_form.specs.declared.fault.ReportCode.{ReportCode}
-use Rattle.report_form.specs.declared.fault.ReportCode.TheVariants.{BadLine}
-use Rattle.report_form.specs.Fields.{next_keyed}
-use Rattle.report_form.proofs.Tokens.{with_rest}
+use Rattle.report_form.{specs.{declared.fault.ReportCode.{ReportCode, TheVariants.BadLine}, Fields.next_keyed}, proofs.Tokens.with_rest}
 
 -- the bytes behind the key, as they are
 abbrev pub as_is : List ℕ → Option (List ℕ)

@@ -1,18 +1,11 @@
 -- Lines of candidates: their shape, and then the rule.
-use Rattle.std.proofs.Common.{◌≡◌, ℕ, Bool, true, false, List, Option, None, Some, Result, Ok, Err, refl}
-use Rattle.std.specs.Prelude.{◌&&◌, not, codes, if◌then◌else◌}
-use Rattle.text_lines.specs.Text.{Row}
-use Rattle.text_lines.specs.Check.{◌>>=◌, refuse}
-use Rattle.candidate_order.specs.declared.candidate.Candidate.{Candidate}
-use Rattle.candidate_order.specs.declared.mark.Mark.{Mark}
-use Rattle.candidate_order.specs.Frontiers.{QuestionValue}
-use Rattle.report_form.specs.declared.fault.ReportCode.{ReportCode}
-use Rattle.report_form.specs.declared.fault.ReportCode.TheVariants as code
-use Rattle.report_form.specs.Lines.{tokens_line}
-use Rattle.report_form.specs.Fields.{fixed_word, next_word, no_more}
-use Rattle.report_form.specs.Tests.{is_within, comes_next}
+use Rattle.std.proofs.Common.{◌≡◌, ℕ, Bool, true, false, List, Option, None, Some, Result, Ok, Err, refl, ◌&&◌, not, codes, if◌then◌else◌}
+use Rattle.text_lines.specs.{Text.Row, Check.{◌>>=◌, refuse}}
+use Rattle.candidate_order.specs.{declared.{candidate.Candidate.Candidate, mark.Mark.Mark}, Frontiers.QuestionValue}
+use Rattle.report_form.specs.{declared.fault.ReportCode.ReportCode, Lines.tokens_line, Fields.{fixed_word, next_word, no_more}, Tests.{is_within, comes_next}}
 use Rattle.report_form.specs.Points.{candidate_from, mark_named, head_line}
 use Rattle.report_form.proofs.Shapes.{head}
+use Rattle.report_form.specs.declared.fault.ReportCode.TheVariants as code
 
 abbrev pub words_read : List (List ℕ) → Result (List (List ℕ)) ReportCode
 words_read ws = Ok ws

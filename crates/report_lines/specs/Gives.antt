@@ -1,7 +1,6 @@
 -- What a check of a line answers: what the definition gives, seen by a view. This project's own.
 use Rattle.std.specs.Prelude.{◌≡◌, ℕ, Result, Ok, Err}
-use Rattle.report_form.specs.declared.fault.ReportCode.{ReportCode}
-use Rattle.report_form.specs.declared.fault.ReportFault.{ReportFault}
+use Rattle.report_form.specs.declared.fault.{ReportCode.ReportCode, ReportFault.ReportFault}
 
 -- checks that tell the line
 abbrev pub TellsAt : {X Y : Type 0} → (X → Y) → Result X ReportFault → Result Y (ReportCode × ℕ) → Type 0

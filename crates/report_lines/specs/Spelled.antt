@@ -1,11 +1,8 @@
 -- The words of a search as their line spells them. This project's own.
-use Rattle.std.specs.Prelude.{IsTrue}
-use Rattle.std.specs.Str.Parse.{digits_value}
+use Rattle.std.specs.{Prelude.IsTrue, Str.Parse.digits_value}
 use Rattle.candidate_order.specs.Ranges.{LimitsValue, unpruned}
-use Rattle.report_form.specs.SynthLine.{AskedValue}
-use Rattle.report_form.specs.Fields.{is_number}
-use Rattle.report_lines.specs.declared.synth_line.SpelledLimits.{SpelledLimits}
-use Rattle.report_lines.specs.declared.synth_line.Asked.{Asked}
+use Rattle.report_form.specs.{SynthLine.AskedValue, Fields.is_number}
+use Rattle.report_lines.specs.declared.synth_line.{SpelledLimits.SpelledLimits, Asked.Asked}
 
 -- the numbers that are spelled, of any size, with nothing left out
 abbrev pub limits_of : SpelledLimits → LimitsValue

@@ -1,11 +1,9 @@
 //! Candidates: their numbers on a line, whether they are within the limits, and their order.
 
 ghost use Rattle.std.specs.Prelude.{◌≡◌, ◌≤◌, ◌<◌, ◌*◌, Some, None, if◌then◌else◌, IfSome};
-ghost use Rattle.report_form.specs.Points.{candidate_from, may_join};
-ghost use Rattle.report_form.specs.Tests.{comes_next, is_within};
-ghost use Rattle.report_lines.specs.Asking.{asks};
+ghost use Rattle.report_form.specs.{Points.{candidate_from, may_join}, Tests.{comes_next, is_within}};
+ghost use Rattle.report_lines.specs.{Asking.asks, Wide.candidate_of};
 ghost use Rattle.text_lines.specs.Check.{Tells};
-ghost use Rattle.report_lines.specs.Wide.{candidate_of};
 
 use crate::fields::next_number;
 use crate::question::Question;

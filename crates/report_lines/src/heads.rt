@@ -1,14 +1,9 @@
 //! The lines of candidates: those that begin a point, and those of refuted and unknown candidates.
 
 ghost use Rattle.std.specs.Prelude.{◌≡◌, ◌≤◌, ◌<◌, ◌+◌, Some, length, IfOk, OnOk};
-ghost use Rattle.text_lines.specs.Line.{IsIn, row_at};
-ghost use Rattle.text_lines.specs.Check.{line_part, Tells};
-ghost use Rattle.report_form.specs.Fields.{next_word};
-ghost use Rattle.report_form.specs.Points.{head_line, joined_head_line, mark_named};
-ghost use Rattle.report_lines.specs.Asking.{asks};
-ghost use Rattle.report_lines.specs.Gives.{TellsAt};
-ghost use Rattle.report_lines.specs.Heads.{head_value};
-ghost use Rattle.report_lines.specs.Room.{HasRoom, Onward};
+ghost use Rattle.text_lines.specs.{Line.{IsIn, row_at}, Check.{line_part, Tells}};
+ghost use Rattle.report_form.specs.{Fields.next_word, Points.{head_line, joined_head_line, mark_named}};
+ghost use Rattle.report_lines.specs.{Asking.asks, Gives.TellsAt, Heads.head_value, Room.{HasRoom, Onward}};
 
 use crate::candidates::{candidate_of, comes_next, joins, within};
 use crate::fields::{fixed_word, next_number, no_more};

@@ -1,14 +1,10 @@
 //! Single lines: whether they are there, whether a line feed ended them, and what they begin with.
 
 ghost use Rattle.std.specs.Prelude.{◌≡◌, ◌+◌, [], Some, length, IfOk, IfErr, OnOk};
-ghost use Rattle.text_lines.specs.Text.{behind};
-ghost use Rattle.text_lines.specs.Line.{IsIn, row_at};
-ghost use Rattle.text_lines.specs.Check.{first, line_part, Tells};
+ghost use Rattle.text_lines.specs.{Text.behind, Line.{IsIn, row_at}, Check.{first, line_part, Tells}};
 ghost use Rattle.topology_text.specs.Reading.{begins};
-ghost use Rattle.report_form.specs.Lines.{fixed_line, no_line, row_begins, tokens_line};
-ghost use Rattle.report_form.specs.Reading.{version_line};
-ghost use Rattle.report_lines.specs.Gives.{TellsAt};
-ghost use Rattle.report_lines.specs.Room.{HasRoom, Onward};
+ghost use Rattle.report_form.specs.{Lines.{fixed_line, no_line, row_begins, tokens_line}, Reading.version_line};
+ghost use Rattle.report_lines.specs.{Gives.TellsAt, Room.{HasRoom, Onward}};
 
 use report_form::{ReportCode, ReportFault};
 use text_lines::{Line, Lines, Tokens, tokens_of};

@@ -1,15 +1,10 @@
 //! The line that says what was asked.
 
 ghost use Rattle.std.specs.Prelude.{◌≡◌, Some, None, if◌then◌else◌, IfOk, find, bytes_eq, OnOk};
-ghost use Rattle.text_lines.specs.Line.{IsIn, row_at};
-ghost use Rattle.text_lines.specs.Check.{line_part, Tells};
+ghost use Rattle.text_lines.specs.{Line.{IsIn, row_at}, Check.{line_part, Tells}};
 ghost use Rattle.collective_spec.specs.Kinds.{word_of};
-ghost use Rattle.report_form.specs.SynthLine.{asked_line, kind_named, kinds_of, limits_from, pruning_from, root_from};
-ghost use Rattle.report_form.specs.Fields.{next_keyed};
-ghost use Rattle.report_form.specs.Tests.{are_limits};
-ghost use Rattle.report_lines.specs.Gives.{TellsAt};
-ghost use Rattle.report_lines.specs.Room.{HasRoom, Onward};
-ghost use Rattle.report_lines.specs.Spelled.{AreNumbers, asked_value, limits_of};
+ghost use Rattle.report_form.specs.{SynthLine.{asked_line, kind_named, kinds_of, limits_from, pruning_from, root_from}, Fields.next_keyed, Tests.are_limits};
+ghost use Rattle.report_lines.specs.{Gives.TellsAt, Room.{HasRoom, Onward}, Spelled.{AreNumbers, asked_value, limits_of}};
 
 use crate::digits::{keyed_digits, number_in};
 use crate::fields::{fixed_word, next_name, next_value, no_more};

@@ -1,17 +1,11 @@
 -- Pieces of a text, appended one after another.
-use Rattle.std.proofs.Common.{◌≡◌, ℕ, List, [], ◌∷◌, ◌++◌, map, refl, sym, ap, ◌∙◌, append_assoc}
-use Rattle.std.specs.Prelude.{codes, decimal}
-use Rattle.std.specs.List.{flat_map}
-use Rattle.outer_ports.specs.declared.part.Part.{Part}
-use Rattle.outer_ports.specs.declared.part.Part.TheVariants.{Whole, Reduce, Gather, Joined}
-use Rattle.collective_spec.specs.declared.kind.Kind.TheVariants.{Allreduce}
-use Rattle.collective_spec.specs.Kinds.{word_of}
+use Rattle.std.{proofs.Common.{◌≡◌, ℕ, List, [], ◌∷◌, ◌++◌, map, refl, sym, ap, ◌∙◌, append_assoc, codes, decimal}, specs.List.flat_map}
+use Rattle.outer_ports.specs.declared.part.Part.{Part, TheVariants.{Whole, Reduce, Gather, Joined}}
+use Rattle.collective_spec.specs.{declared.kind.Kind.TheVariants.Allreduce, Kinds.word_of}
 use Rattle.candidate_order.specs.Frontiers.{PointValue, FrontierValue}
-use Rattle.text_lines.specs.Text.{line, text_of, fields}
-use Rattle.text_lines.proofs.Words.{join_fields}
+use Rattle.text_lines.{specs.Text.{line, text_of, fields}, proofs.Words.join_fields}
 use Rattle.topology_text.specs.Spelling.{lines_of, spelling, version_word}
-use Rattle.report_form.specs.Reports.{ReportValue, WordsValue}
-use Rattle.report_form.specs.Reading.{part_bytes}
+use Rattle.report_form.specs.{Reports.{ReportValue, WordsValue}, Reading.part_bytes}
 use Rattle.report_form.specs.Spelling.{root_words, pruning_words, part_words, point_lines, refuted_words, unknown_words, frontier_lines, joined_lines, synth_words, report_text}
 use Rattle.report_printing.specs.Printed.{frontier_text, limits_text, point_text}
 

@@ -2,8 +2,7 @@
 use Rattle.std.specs.Prelude.{ℕ, List, ◌++◌, codes, decimal}
 use Rattle.text_lines.specs.Text.{text_of}
 use Rattle.outer_ports.specs.declared.part.Part.{Part}
-use Rattle.candidate_order.specs.Ranges.{LimitsValue}
-use Rattle.candidate_order.specs.Frontiers.{PointValue, FrontierValue}
+use Rattle.candidate_order.specs.{Ranges.LimitsValue, Frontiers.{PointValue, FrontierValue}}
 use Rattle.report_form.specs.Spelling.{point_lines, frontier_lines}
 
 abbrev pub point_text : List (List ℕ) → PointValue → List ℕ

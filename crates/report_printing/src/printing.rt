@@ -1,7 +1,6 @@
 //! The one spelling of a report.
 
-ghost use Rattle.std.specs.Prelude.{◌≡◌, ◌++◌, ◌∷◌, [], codes, decimal, map, OnOk, IfOk};
-ghost use Rattle.std.specs.List.{flat_map};
+ghost use Rattle.std.specs.{Prelude.{◌≡◌, ◌++◌, ◌∷◌, [], codes, decimal, map, OnOk, IfOk}, List.flat_map};
 ghost use Rattle.text_lines.specs.Text.{line, text_of, fields};
 ghost use Rattle.topology_text.specs.Spelling.{version_word};
 ghost use Rattle.report_form.specs.Spelling.{candidate_words, joined_lines, mark_words, point_words, pruning_words, refuted_words, report_text, root_words, rounds_words, send_words, synth_words, unknown_words};

@@ -1,23 +1,15 @@
 -- Where the search of a part breaks off, so does that of the report.
 use Rattle.std.proofs.Common.{◌≡◌, false, Contains, Result, IfOk, refl, sym, ap, subst, ⊎_elim}
-use Rattle.outer_ports.specs.declared.part.Part.{Part}
-use Rattle.outer_ports.specs.declared.proof_name.FileKind.{FileKind}
-use Rattle.outer_ports.specs.declared.proof_name.FileKind.TheVariants.{Cnf, Lrat}
-use Rattle.outer_ports.specs.Files.{Files}
+use Rattle.outer_ports.specs.{declared.{part.Part.Part, proof_name.FileKind.{FileKind, TheVariants.{Cnf, Lrat}}}, Files.Files}
 use Rattle.schedule.specs.Links.{TopologyValue}
 use Rattle.collective_spec.specs.declared.spec.Spec.{Spec}
-use Rattle.candidate_order.specs.Ranges.{LimitsValue}
-use Rattle.candidate_order.specs.Frontiers.{FrontierValue, IsWithin, QuestionValue}
-use Rattle.candidate_formula.specs.Formulas.{formula_for}
-use Rattle.candidate_formula.specs.Files.{candidate_of, file_of}
-use Rattle.candidate_formula.specs.Pruned.{is_cut_away}
-use Rattle.candidate_formula.proofs.BegunFiles.{begun_weaker}
+use Rattle.candidate_order.specs.{Ranges.LimitsValue, Frontiers.{FrontierValue, IsWithin, QuestionValue}}
+use Rattle.candidate_formula.{specs.{Formulas.formula_for, Files.{candidate_of, file_of}, Pruned.is_cut_away}, proofs.BegunFiles.begun_weaker}
 use Rattle.proof_audit.specs.Kept.{BothStay, KeepsEach}
 use Rattle.topology_text.specs.Value.{NamedTopologyValue}
 use Rattle.report_form.specs.Reports.{WordsValue, parts_of, question_of}
 use Rattle.engine_rules.specs.declared.fault.EngineFault.{EngineFault}
-use Rattle.frontier_audit.specs.OwedFiles.{BreaksOff, KeepsProofs}
-use Rattle.frontier_audit.specs.Parts.{TakesUpPart}
+use Rattle.frontier_audit.specs.{OwedFiles.{BreaksOff, KeepsProofs}, Parts.TakesUpPart}
 use Rattle.report_search.specs.Shelved.{MayHaveBegun}
 
 module _ (w : WordsValue) (t : NamedTopologyValue) where

@@ -2,26 +2,17 @@
 use Rattle.std.proofs.Common.{◌≡◌, ℕ, ◌*◌, List, All, Option, None, refl, sym, ap, subst, ◌∙◌, arith}
 use Rattle.std.proofs.lemmas.List.Elements.{All-contains, All-from_recursion, All-map, All-weaker}
 use Rattle.outer_ports.specs.declared.part.Part.TheVariants.{Reduce, Gather, Joined}
-use Rattle.schedule.specs.Sends.{IsSchedule, IsInRange}
-use Rattle.schedule.proofs.First.{Contains-from_Among, each_among}
-use Rattle.collective_spec.specs.declared.kind.Kind.{Kind}
+use Rattle.schedule.{specs.Sends.{IsSchedule, IsInRange}, proofs.First.{Contains-from_Among, each_among}}
+use Rattle.collective_spec.specs.{declared.kind.Kind.Kind, Patterns.PatternValue, Collectives.{chunks_in, chunks_of, spec_of}}
 use Rattle.collective_spec.specs.declared.kind.Kind.TheVariants as kind
-use Rattle.collective_spec.specs.Patterns.{PatternValue}
-use Rattle.collective_spec.specs.Collectives.{chunks_in, chunks_of, spec_of}
-use Rattle.candidate_order.specs.Frontiers.{QuestionValue, FrontierValue, PointValue, RightFrontier, Searched}
-use Rattle.candidate_order.specs.Ranges.{IsLimits}
-use Rattle.candidate_order.proofs.Orders.{has_chunk}
+use Rattle.candidate_order.{specs.{Frontiers.{QuestionValue, FrontierValue, PointValue, RightFrontier, Searched}, Ranges.IsLimits}, proofs.Orders.has_chunk}
 use Rattle.allreduce_join.specs.Joins.{IsJoinable, Joins, join_of, one_after, pairs_of}
-use Rattle.allreduce_join.proofs.Frontiers.{frontiers_join}
-use Rattle.allreduce_join.proofs.Paired.{IsPair, pairs_among}
-use Rattle.allreduce_join.proofs.Sequence.{in_range_sequence, sizes_sequence, valid_sequence}
+use Rattle.allreduce_join.proofs.{Frontiers.frontiers_join, Paired.{IsPair, pairs_among}, Sequence.{in_range_sequence, sizes_sequence, valid_sequence}}
 use Rattle.topology_text.specs.Value.{NamedTopologyValue}
 use Rattle.report_form.specs.Reports.{WordsValue, IsJoinedPoint, IsPoint, question_of}
 use Rattle.frontier_audit.specs.Searches.{IsAsked}
 use Rattle.engine_search.specs.Found.{IsFound}
-use Rattle.report_search.specs.inner.Reporting.{joins_of}
-use Rattle.report_search.proofs.PartQuestions.{none_given}
-use Rattle.report_search.proofs.Valid.{valid_frontier}
+use Rattle.report_search.{specs.inner.Reporting.joins_of, proofs.{PartQuestions.none_given, Valid.valid_frontier}}
 
 -- ---- points that may be joined
 

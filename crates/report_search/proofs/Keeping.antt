@@ -1,35 +1,22 @@
 -- What refuted candidates before a search refutes them still.
-use Rattle.std.proofs.Common.{◌≡◌, ◌≢◌, ◌⊎◌, inl, inr, [], Contains, sym, ap, subst, ◌∙◌, arith}
-use Rattle.std.specs.Prelude.{Bool, true, IsTrue, Some, not}
-use Rattle.std.specs.List.Sorted.{IsPermutation}
-use Rattle.outer_ports.specs.declared.part.Part.{Part}
-use Rattle.outer_ports.specs.Files.{Files}
+use Rattle.std.{proofs.Common.{◌≡◌, ◌≢◌, inl, inr, [], Contains, sym, ap, subst, ◌∙◌, arith, Bool, true, IsTrue, Some, not}, specs.List.Sorted.IsPermutation}
+use Rattle.outer_ports.specs.{declared.part.Part.Part, Files.Files}
 use Rattle.collective_spec.specs.declared.kind.Kind.TheVariants as kind
 use Rattle.collective_spec.specs.Collectives.{kind_in}
-use Rattle.cnf_formula.specs.declared.line.LratLine.{LratLine}
 use Rattle.proof_rules.specs.Refuting.{Refutes}
 use Rattle.lrat_text.specs.Printing.{cnf_text}
-use Rattle.candidate_order.specs.declared.candidate.Candidate.{Candidate}
-use Rattle.candidate_order.specs.Frontiers.{QuestionValue, FrontierValue, IsTried}
-use Rattle.candidate_formula.specs.Files.{HasRefutation}
-use Rattle.candidate_formula.specs.Formulas.{formula_for}
-use Rattle.candidate_formula.specs.Pruned.{HasOwnFiles, is_cut_away}
-use Rattle.candidate_formula.specs.Searched.{searched_question}
-use Rattle.engine_rules.specs.declared.settled.Settled.{Settled}
-use Rattle.engine_rules.specs.declared.settled.Settled.TheVariants.{Solved, Refuted, Unknown}
-use Rattle.engine_rules.specs.Outcomes.{RecordValue, IsNew}
-use Rattle.node_cuts.specs.declared.sets.Sets.{Sets}
-use Rattle.node_cuts.specs.Cutting.{is_cut, sets_for}
+use Rattle.candidate_order.specs.{declared.candidate.Candidate.Candidate, Frontiers.{QuestionValue, FrontierValue, IsTried}}
+use Rattle.candidate_formula.specs.{Files.HasRefutation, Formulas.formula_for, Pruned.is_cut_away, Searched.searched_question}
+use Rattle.engine_rules.specs.{declared.settled.Settled.{Settled, TheVariants.{Solved, Refuted, Unknown}}, Outcomes.{RecordValue, IsNew}}
+use Rattle.node_cuts.specs.{declared.sets.Sets.Sets, Cutting.{is_cut, sets_for}}
 use Rattle.cut_bounds.specs.Parting.{without_cuts}
-use Rattle.pareto_search.specs.Recorded.{entries_of}
-use Rattle.pareto_search.proofs.Entries.{refuted_there, solved_there, unknown_there}
+use Rattle.pareto_search.{specs.Recorded.entries_of, proofs.Entries.{refuted_there, solved_there, unknown_there}}
 use Rattle.engine_search.proofs.Recorded.{was_refuted}
 use Rattle.candidate_solver.specs.Kept.{EngineState}
 use Rattle.proof_audit.specs.Kept.{KeepsEach}
 use Rattle.kept_proofs.specs.Keeping.{KeepingMoves, TakesUpEach}
 use Rattle.frontier_audit.specs.Parts.{TakesUpPart}
-use Rattle.report_search.proofs.Recorded.{alike}
-use Rattle.report_search.proofs.Uncut.{cut_in_place, from_filter, tried_below}
+use Rattle.report_search.proofs.{Recorded.alike, Uncut.{cut_in_place, from_filter, tried_below}}
 
 -- the files refute a candidate of another question whose formula it has
 refutes_alike : (part : Part) (p q : QuestionValue) (files : Files) (x : Candidate) → formula_for p x ≡ formula_for q x → HasRefutation part p files x → HasRefutation part q files x

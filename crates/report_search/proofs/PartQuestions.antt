@@ -1,23 +1,17 @@
 -- What is asked of a part can be searched.
 use Rattle.std.proofs.Common.{◌≡◌, ◌≢◌, ◌⊎◌, inl, inr, ℕ, ◌<◌, ◌≤◌, true, [], ◌∷◌, Contains, Option, None, refl, sym, ap, subst, ◌∙◌}
 use Rattle.std.proofs.lemmas.List.Elements.{All-contains, All-cons, All-nil}
-use Rattle.outer_ports.specs.declared.part.Part.{Part}
-use Rattle.outer_ports.specs.declared.part.Part.TheVariants.{Whole, Reduce, Gather, Joined}
+use Rattle.outer_ports.specs.declared.part.Part.{Part, TheVariants.{Whole, Reduce, Gather, Joined}}
 use Rattle.schedule.specs.Links.{TopologyValue}
-use Rattle.collective_spec.specs.declared.spec.Spec.{Spec}
-use Rattle.collective_spec.specs.declared.kind.Kind.{Kind}
-use Rattle.collective_spec.specs.declared.kind.Kind.TheVariants as kind
-use Rattle.collective_spec.specs.Patterns.{PatternValue}
-use Rattle.collective_spec.specs.Collectives.{IsSpec, fits_kind, kind_in, spec_of}
+use Rattle.collective_spec.specs.{declared.{spec.Spec.Spec, kind.Kind.Kind}, Patterns.PatternValue, Collectives.{IsSpec, fits_kind, kind_in, spec_of}}
 use Rattle.collective_spec.proofs.Sized.{fitting_kind, fitting_spec}
-use Rattle.candidate_order.specs.Ranges.{LimitsValue}
-use Rattle.candidate_order.specs.Frontiers.{QuestionValue}
+use Rattle.collective_spec.specs.declared.kind.Kind.TheVariants as kind
+use Rattle.candidate_order.specs.{Ranges.LimitsValue, Frontiers.QuestionValue}
 use Rattle.round_encoding.specs.Candidates.{size_limit}
 use Rattle.candidate_formula.specs.Sizes.{size_of}
 use Rattle.topology_text.specs.Value.{NamedTopologyValue}
 use Rattle.report_form.specs.Reports.{WordsValue, parts_of, question_of}
-use Rattle.frontier_audit.specs.Searches.{IsAsked}
-use Rattle.frontier_audit.proofs.Right.{unpatterned}
+use Rattle.frontier_audit.{specs.Searches.IsAsked, proofs.Right.unpatterned}
 
 -- ---- the parts of a collective
 

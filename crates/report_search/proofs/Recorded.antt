@@ -1,30 +1,18 @@
 -- What an engine's record says of the files, for the question in whose place it searched.
-use Rattle.std.proofs.Common.{◌≡◌, ◌≢◌, ◌⊎◌, inl, inr, IsTrue, false, All, Contains, None, Some, refl, sym, ap, subst, ◌∙◌}
-use Rattle.std.specs.List.Sorted.{IsPermutation}
+use Rattle.std.{proofs.Common.{◌≡◌, ◌≢◌, ◌⊎◌, inl, inr, IsTrue, false, All, Contains, None, Some, refl, sym, ap, subst, ◌∙◌}, specs.List.Sorted.IsPermutation}
 use Rattle.std.proofs.lemmas.List.Elements.{All-contains, All-weaker}
-use Rattle.list_laws.proofs.Each.{all_contained}
-use Rattle.list_laws.proofs.Members.{Contains-map}
-use Rattle.outer_ports.specs.declared.part.Part.{Part}
-use Rattle.outer_ports.specs.declared.proof_name.ProofName.{ProofName}
-use Rattle.outer_ports.specs.Files.{Files}
+use Rattle.list_laws.proofs.{Each.all_contained, Members.Contains-map}
+use Rattle.outer_ports.specs.{declared.{part.Part.Part, proof_name.ProofName.ProofName}, Files.Files}
 use Rattle.collective_spec.specs.declared.kind.Kind.TheVariants as kind
 use Rattle.collective_spec.specs.Collectives.{kind_in}
-use Rattle.candidate_order.specs.declared.candidate.Candidate.{Candidate}
-use Rattle.candidate_order.specs.Frontiers.{QuestionValue, FrontierValue, UnknownValue, IsTried, IsWithin, solved}
-use Rattle.candidate_formula.specs.Formulas.{formula_for}
-use Rattle.candidate_formula.specs.Files.{SolvedFiles, RefutedFiles, UnknownFiles, candidate_of}
-use Rattle.candidate_formula.specs.Pruned.{is_cut_away}
-use Rattle.candidate_formula.proofs.BegunFiles.{begun_weaker}
-use Rattle.candidate_formula.proofs.FilesAlike.{solved_alike, refuted_alike, unknown_alike}
-use Rattle.engine_rules.specs.declared.settled.Settled.{Settled}
-use Rattle.engine_rules.specs.declared.settled.Settled.TheVariants.{Solved, Refuted, Unknown}
-use Rattle.engine_rules.specs.Outcomes.{RecordValue, IsNew}
-use Rattle.candidate_solver.specs.Kept.{EngineState, HasFiles, KeptAgrees, KeptMoves}
-use Rattle.pareto_search.specs.Recorded.{IsStoppedWithin, StaysWithin, entries_of}
-use Rattle.pareto_search.proofs.Entries.{refuted_there, solved_there, unknown_there, with}
+use Rattle.candidate_order.specs.{declared.candidate.Candidate.Candidate, Frontiers.{QuestionValue, FrontierValue, UnknownValue, IsTried, IsWithin, solved}}
+use Rattle.candidate_formula.specs.{Formulas.formula_for, Files.{SolvedFiles, RefutedFiles, UnknownFiles, candidate_of}, Pruned.is_cut_away}
 use Rattle.candidate_formula.specs.Searched.{searched_question}
-use Rattle.engine_search.proofs.Searched.{same_formulas, within_alike}
-use Rattle.engine_search.proofs.Recorded.{was_tried}
+use Rattle.candidate_formula.proofs.{BegunFiles.begun_weaker, FilesAlike.{solved_alike, refuted_alike, unknown_alike}}
+use Rattle.engine_rules.specs.{declared.settled.Settled.{Settled, TheVariants.{Solved, Refuted, Unknown}}, Outcomes.{RecordValue, IsNew}}
+use Rattle.candidate_solver.specs.Kept.{EngineState, HasFiles, KeptAgrees, KeptMoves}
+use Rattle.pareto_search.{specs.Recorded.{IsStoppedWithin, StaysWithin, entries_of}, proofs.Entries.{refuted_there, solved_there, unknown_there, with}}
+use Rattle.engine_search.proofs.{Searched.{same_formulas, within_alike}, Recorded.was_tried}
 use Rattle.report_search.specs.Shelved.{MayHaveBegun}
 
 -- the files of a frontier, where each candidate of its record has them

@@ -1,14 +1,8 @@
 -- The files of a part stay what they are where other files alone change.
-use Rattle.std.proofs.Common.{◌≡◌, false, refl}
-use Rattle.std.proofs.lemmas.List.Elements.{All-weaker}
-use Rattle.outer_ports.specs.declared.part.Part.{Part}
-use Rattle.outer_ports.specs.declared.proof_name.FileKind.{FileKind}
-use Rattle.outer_ports.specs.declared.proof_name.ProofName.{ProofName}
-use Rattle.outer_ports.specs.Files.{Files}
-use Rattle.candidate_order.specs.declared.candidate.Candidate.{Candidate}
-use Rattle.candidate_order.specs.Frontiers.{QuestionValue, FrontierValue, solved}
-use Rattle.candidate_formula.specs.Files.{SolvedFiles, RefutedFiles, UnknownFiles, FrontierFiles, file_of}
-use Rattle.candidate_formula.specs.Pruned.{is_cut_away}
+use Rattle.std.proofs.{Common.{◌≡◌, false, refl}, lemmas.List.Elements.All-weaker}
+use Rattle.outer_ports.specs.{declared.{part.Part.Part, proof_name.{FileKind.FileKind, ProofName.ProofName}}, Files.Files}
+use Rattle.candidate_order.specs.{declared.candidate.Candidate.Candidate, Frontiers.{QuestionValue, FrontierValue, solved}}
+use Rattle.candidate_formula.specs.{Files.{SolvedFiles, RefutedFiles, UnknownFiles, FrontierFiles, file_of}, Pruned.is_cut_away}
 use Rattle.candidate_formula.proofs.FilesAlike.{solved_alike, refuted_alike, unknown_alike}
 
 module _ (part : Part) (q : QuestionValue) (before after : Files) (stay : (name : ProofName) → name.part ≡ part → after name ≡ before name) where

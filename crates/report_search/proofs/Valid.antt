@@ -1,6 +1,5 @@
 -- A frontier that was found keeps the rules of reports.
-use Rattle.std.proofs.Common.{◌≡◌, Bool, true, false, List, length, sum}
-use Rattle.std.proofs.lemmas.List.Elements.{All-weaker}
+use Rattle.std.proofs.{Common.{◌≡◌, Bool, true, false, List, length, sum}, lemmas.List.Elements.All-weaker}
 use Rattle.schedule.specs.Sends.{ScheduleValue}
 use Rattle.collective_spec.specs.Collectives.{adds_up}
 use Rattle.candidate_order.specs.declared.candidate.Candidate.{Candidate}

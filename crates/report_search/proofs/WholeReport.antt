@@ -1,24 +1,15 @@
 -- The report of a search in one part: it is valid and right, and its files prove it.
-use Rattle.std.proofs.Common.{◌≡◌, ◌≢◌, [], refl, sym, subst, arith}
-use Rattle.std.proofs.lemmas.List.Elements.{All-cons, All-nil}
-use Rattle.outer_ports.specs.declared.part.Part.{Part}
-use Rattle.outer_ports.specs.declared.part.Part.TheVariants.{Whole, Joined}
-use Rattle.outer_ports.specs.declared.proof_name.ProofName.{ProofName}
-use Rattle.outer_ports.specs.Files.{Files}
+use Rattle.std.proofs.{Common.{◌≡◌, ◌≢◌, [], refl, sym, subst, arith}, lemmas.List.Elements.{All-cons, All-nil}}
+use Rattle.outer_ports.specs.{declared.{part.Part.{Part, TheVariants.{Whole, Joined}}, proof_name.ProofName.ProofName}, Files.Files}
 use Rattle.collective_spec.specs.declared.kind.Kind.TheVariants as kind
 use Rattle.candidate_order.specs.Frontiers.{FrontierValue}
-use Rattle.candidate_formula.specs.Files.{candidate_of, FrontierFiles}
-use Rattle.candidate_formula.specs.Pruned.{HasOwnFiles}
+use Rattle.candidate_formula.specs.{Files.{candidate_of, FrontierFiles}, Pruned.HasOwnFiles}
 use Rattle.topology_text.specs.Value.{NamedTopologyValue}
 use Rattle.report_form.specs.Reports.{WordsValue, ReportValue, IsFrontier, IsReport, IsJoinedPoint, question_of, whole_report}
-use Rattle.frontier_audit.specs.Rights.{IsRight, IsSearched}
+use Rattle.frontier_audit.specs.{Rights.{IsRight, IsSearched}, OwedFiles.{Proves, TakesUpProofs}, Searches.IsAsked}
 use Rattle.frontier_audit.specs.Parts.{IsExhaustedPart, IsRightPart, IsSearchedPart, IsSuitedPart, IsUncutPart, IsOf, TakesUpPart}
-use Rattle.frontier_audit.specs.OwedFiles.{Proves, TakesUpProofs}
-use Rattle.frontier_audit.specs.Searches.{IsAsked}
 use Rattle.engine_search.specs.Found.{IsFound}
-use Rattle.report_search.specs.Shelved.{IsShelved, IsUncut}
-use Rattle.report_search.proofs.PartQuestions.{one_part}
-use Rattle.report_search.proofs.Valid.{valid_frontier}
+use Rattle.report_search.{specs.Shelved.{IsShelved, IsUncut}, proofs.{PartQuestions.one_part, Valid.valid_frontier}}
 
 module _ (w : WordsValue) (t : NamedTopologyValue) (f : FrontierValue) where
   abbrev report : ReportValue

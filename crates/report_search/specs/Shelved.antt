@@ -1,13 +1,8 @@
 -- What the files of a part are after a search, and where it broke off.
 use Rattle.std.specs.Prelude.{◌≡◌, false, All}
-use Rattle.outer_ports.specs.declared.part.Part.{Part}
-use Rattle.outer_ports.specs.declared.proof_name.ProofName.{ProofName}
-use Rattle.outer_ports.specs.Files.{Files}
+use Rattle.outer_ports.specs.{declared.{part.Part.Part, proof_name.ProofName.ProofName}, Files.Files}
 use Rattle.candidate_order.specs.Frontiers.{QuestionValue, FrontierValue, IsWithin}
-use Rattle.candidate_formula.specs.Formulas.{formula_for}
-use Rattle.candidate_formula.specs.Files.{candidate_of, FrontierFiles}
-use Rattle.candidate_formula.specs.Begun.{BegunOnly}
-use Rattle.candidate_formula.specs.Pruned.{HasOwnFiles, is_cut_away}
+use Rattle.candidate_formula.specs.{Formulas.formula_for, Files.{candidate_of, FrontierFiles}, Begun.BegunOnly, Pruned.{HasOwnFiles, is_cut_away}}
 
 -- each candidate of the frontier of which files are owed has them, and every file that belongs to no such candidate is as before
 pub record IsShelved (part : Part) (q : QuestionValue) (f : FrontierValue) (before after : Files) : Type 0 where

@@ -4,9 +4,7 @@
 ghost use Rattle.std.specs.Prelude.{◌≡◌, true, IfOk, IsTrue};
 ghost use Rattle.outer_ports.specs.Port.{HasCause, Tells};
 ghost use Rattle.report_form.specs.Reports.{question_of};
-ghost use Rattle.frontier_audit.specs.OwedFiles.{BreaksOff, KeepsProofs, Proves, TakesUpProofs};
-ghost use Rattle.frontier_audit.specs.Rights.{IsRight, IsSearched};
-ghost use Rattle.frontier_audit.specs.Searches.{IsAsked};
+ghost use Rattle.frontier_audit.specs.{OwedFiles.{BreaksOff, KeepsProofs, Proves, TakesUpProofs}, Rights.{IsRight, IsSearched}, Searches.IsAsked};
 ghost use Rattle.engine_search.specs.Found.{IsFound};
 ghost use Rattle.report_search.specs.inner.Reporting.{both_report};
 

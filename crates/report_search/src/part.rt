@@ -3,9 +3,7 @@
 ghost use Rattle.std.specs.Prelude.{◌≡◌, true, Contains, IfOk, IsTrue};
 ghost use Rattle.outer_ports.specs.Port.{HasCause, Tells};
 ghost use Rattle.report_form.specs.Reports.{parts_of, question_of};
-ghost use Rattle.frontier_audit.specs.OwedFiles.{BreaksOff, KeepsProofs};
-ghost use Rattle.frontier_audit.specs.Parts.{TakesUpPart};
-ghost use Rattle.frontier_audit.specs.Searches.{IsAsked};
+ghost use Rattle.frontier_audit.specs.{OwedFiles.{BreaksOff, KeepsProofs}, Parts.TakesUpPart, Searches.IsAsked};
 ghost use Rattle.engine_search.specs.Found.{IsFound};
 ghost use Rattle.report_search.specs.Shelved.{IsShelved, IsUncut};
 

@@ -2,9 +2,7 @@
 
 ghost use Rattle.std.specs.Prelude.{◌≡◌, true, IfOk, IsTrue};
 ghost use Rattle.outer_ports.specs.Port.{HasCause, Tells};
-ghost use Rattle.frontier_audit.specs.OwedFiles.{BreaksOff, KeepsProofs, Proves, TakesUpProofs};
-ghost use Rattle.frontier_audit.specs.Rights.{IsRight, IsSearched};
-ghost use Rattle.frontier_audit.specs.Searches.{IsAsked};
+ghost use Rattle.frontier_audit.specs.{OwedFiles.{BreaksOff, KeepsProofs, Proves, TakesUpProofs}, Rights.{IsRight, IsSearched}, Searches.IsAsked};
 
 use crate::both::search_both;
 use crate::whole::search_whole;

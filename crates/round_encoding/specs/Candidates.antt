@@ -1,11 +1,8 @@
 -- Candidates: how many steps and rounds a schedule for an instance is to have, and what solves one.
 use Rattle.std.specs.Prelude.{◌≡◌, ℕ, ◌+◌, ◌-◌, ◌*◌, ◌<◌, ◌≤◌, length, sum_by}
-use Rattle.schedule.specs.Links.{GroupValue, TopologyValue, IsTopology, usable_links}
-use Rattle.schedule.specs.Placed.{PlacementValue, IsPlacement}
+use Rattle.schedule.specs.{Links.{GroupValue, TopologyValue, IsTopology, usable_links}, Placed.{PlacementValue, IsPlacement}, Solving.{Solves, Tight}}
 use Rattle.schedule.specs.Sends.{ScheduleValue, IsSchedule, IsInRange}
-use Rattle.schedule.specs.Solving.{Solves, Tight}
-use Rattle.round_encoding.specs.declared.encoding.Encoding.{Encoding}
-use Rattle.round_encoding.specs.Rounding.{encoding_of}
+use Rattle.round_encoding.specs.{declared.encoding.Encoding.Encoding, Rounding.encoding_of}
 
 -- placements of the topology's nodes and 1 to 256 chunks, 1 to 16 steps, and at most 8 rounds more than steps
 pub record IsCandidate (t : TopologyValue) (pre post : PlacementValue) (steps rounds : ℕ) : Type 0 where

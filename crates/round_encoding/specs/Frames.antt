@@ -1,8 +1,6 @@
 -- The variables of extra rounds, which follow those of arrivals and sends (Cai et al., PPoPP 2021, section on the encoding; the numbers are this project's own).
-use Rattle.std.specs.Prelude.{ℕ, ◌+◌, ◌-◌, ◌*◌, List}
-use Rattle.std.specs.List.{range_with_len}
-use Rattle.schedule.specs.Links.{TopologyValue}
-use Rattle.schedule.specs.Placed.{PlacementValue}
+use Rattle.std.specs.{Prelude.{ℕ, ◌+◌, ◌-◌, ◌*◌, List}, List.range_with_len}
+use Rattle.schedule.specs.{Links.TopologyValue, Placed.PlacementValue}
 use Rattle.cnf_formula.specs.Literals.{LitValue, yes}
 use Rattle.send_encoding.specs.Variables.{SendMapValue, map_of, arrivals, sends}
 

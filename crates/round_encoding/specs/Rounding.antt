@@ -1,16 +1,10 @@
 -- What the rounds of a step allow, and the formula of a candidate (Cai et al., PPoPP 2021, section on the encoding).
-use Rattle.std.specs.Prelude.{ℕ, ◌+◌, ◌-◌, ◌*◌, if◌then◌else◌, List, [], ◌∷◌, ◌++◌, map, flat_map, nat_lt, slice_index_or}
-use Rattle.std.specs.List.{range_with_len}
-use Rattle.schedule.specs.Links.{GroupValue, TopologyValue}
-use Rattle.schedule.specs.Placed.{PlacementValue}
-use Rattle.cnf_formula.specs.Literals.{LitValue, yes, negation}
-use Rattle.cnf_formula.specs.Formulas.{FormulaValue}
-use Rattle.cardinality.specs.Counting.{output}
-use Rattle.cardinality.specs.Totalizers.{totalizer_of}
-use Rattle.round_encoding.specs.declared.encoding.Encoding.{Encoding}
-use Rattle.send_encoding.specs.Variables.{map_of, number_of, chunks_of, steps_of, sent}
-use Rattle.round_encoding.specs.Frames.{Frame, frame_of, extra_from, extra_of, extra_round, own_variables}
-use Rattle.send_encoding.specs.Sending.{sending}
+use Rattle.std.specs.{Prelude.{ℕ, ◌+◌, ◌-◌, ◌*◌, if◌then◌else◌, List, [], ◌∷◌, ◌++◌, map, flat_map, nat_lt, slice_index_or}, List.range_with_len}
+use Rattle.schedule.specs.{Links.{GroupValue, TopologyValue}, Placed.PlacementValue}
+use Rattle.cnf_formula.specs.{Literals.{LitValue, yes, negation}, Formulas.FormulaValue}
+use Rattle.cardinality.specs.{Counting.output, Totalizers.totalizer_of}
+use Rattle.round_encoding.specs.{declared.encoding.Encoding.Encoding, Frames.{Frame, frame_of, extra_from, extra_of, extra_round, own_variables}}
+use Rattle.send_encoding.specs.{Variables.{map_of, number_of, chunks_of, steps_of, sent}, Sending.sending}
 
 -- a step with j + 1 extra rounds has j of them
 abbrev pub extra_in_order : Frame → List (List LitValue)

@@ -1,13 +1,10 @@
 //! What a group of links carries in a step.
 
-ghost use Rattle.std.specs.Prelude.{◌≡◌, ◌+◌, ◌-◌, ◌*◌, ◌<◌, ◌≤◌, ◌∷◌, ◌++◌, [], All, length, map, OnOk, IfOk};
-ghost use Rattle.std.specs.List.{flat_map};
+ghost use Rattle.std.specs.{Prelude.{◌≡◌, ◌+◌, ◌-◌, ◌*◌, ◌<◌, ◌≤◌, ◌∷◌, ◌++◌, [], All, length, map, OnOk, IfOk}, List.flat_map};
 ghost use Rattle.schedule.specs.Sends.{IsStep};
-ghost use Rattle.cnf_formula.specs.Literals.{negation};
-ghost use Rattle.cnf_formula.specs.Formulas.{IsAbout, IsClause, with_clauses};
+ghost use Rattle.cnf_formula.specs.{Literals.negation, Formulas.{IsAbout, IsClause, with_clauses}};
 ghost use Rattle.send_encoding.specs.Variables.{sends, sent, chunks_of, number_of};
-ghost use Rattle.round_encoding.specs.Frames.{extra_round, own_variables};
-ghost use Rattle.round_encoding.specs.Rounding.{count_of_group, output_at, said_of_group, with_count};
+ghost use Rattle.round_encoding.specs.{Frames.{extra_round, own_variables}, Rounding.{count_of_group, output_at, said_of_group, with_count}};
 
 use crate::OutOfMemory;
 use crate::extra::extra_round;

@@ -1,12 +1,9 @@
 //! The counters of all groups at all steps, and all that is said of rounds.
 
-ghost use Rattle.std.specs.Prelude.{◌≡◌, ◌+◌, ◌*◌, ◌<◌, ◌≤◌, ◌++◌, map, sum_by, OnOk};
-ghost use Rattle.std.specs.List.{flat_map};
+ghost use Rattle.std.specs.{Prelude.{◌≡◌, ◌+◌, ◌*◌, ◌<◌, ◌≤◌, ◌++◌, map, sum_by, OnOk}, List.flat_map};
 ghost use Rattle.schedule.specs.Sends.{IsStep};
 ghost use Rattle.send_encoding.specs.Variables.{arrivals, sends, steps_of};
-ghost use Rattle.round_encoding.specs.Frames.{own_variables};
-ghost use Rattle.round_encoding.specs.Rounding.{count_of_group, counts_of, extra_in_order};
-ghost use Rattle.round_encoding.specs.inner.Counts.{with_counts, room, HasLinks};
+ghost use Rattle.round_encoding.specs.{Frames.own_variables, Rounding.{count_of_group, counts_of, extra_in_order}, inner.Counts.{with_counts, room, HasLinks}};
 
 use crate::OutOfMemory;
 use crate::carrying::count_group;

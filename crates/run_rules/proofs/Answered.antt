@@ -1,18 +1,10 @@
 -- What answers what is due, step by step.
 use Rattle.std.proofs.Common.{◌≡◌, ℕ, inl, List, Result, Ok, Err, refl, sym, subst, ap}
 use Rattle.text_lines.specs.Check.{◌>>=◌}
-use Rattle.outer_ports.specs.declared.proof_name.FileKind.TheVariants.{Cnf, Lrat}
-use Rattle.outer_ports.specs.Files.{Files}
-use Rattle.outer_ports.specs.Shelf.{FilesStay}
+use Rattle.outer_ports.specs.{declared.proof_name.FileKind.TheVariants.{Cnf, Lrat}, Files.Files, Shelf.FilesStay}
 use Rattle.candidate_formula.specs.Files.{file_of}
-use Rattle.run_rules.specs.declared.status.Status.{Status}
-use Rattle.run_rules.specs.declared.status.Status.TheVariants.{Done}
-use Rattle.run_rules.specs.declared.answer.Answer.{Answer}
-use Rattle.run_rules.specs.Refusals.{Refusal, refusal_line}
-use Rattle.run_rules.specs.Tasks.{Task, Write, Synthesise, Audit, Try, Bound, Order, Degrade}
-use Rattle.run_rules.specs.Said.{Says}
-use Rattle.run_rules.specs.Answers.{IsAnswer, IsAnswerAlone, LeavesOff}
-use Rattle.run_rules.specs.Read.{IsRefused}
+use Rattle.run_rules.specs.{declared.{status.Status.{Status, TheVariants.Done}, answer.Answer.Answer}, Refusals.{Refusal, refusal_line}, Said.Says}
+use Rattle.run_rules.specs.{Tasks.{Task, Write, Synthesise, Audit, Try, Bound, Order, Degrade}, Answers.{IsAnswer, IsAnswerAlone, LeavesOff}, Read.IsRefused}
 
 -- what is refused first is refused in all
 pub refused_behind : {A B : Type 0} (x : Result A Refusal) (f : A → Result B Refusal) (answer : Answer) → IsRefused x answer → IsRefused (x >>= f) answer

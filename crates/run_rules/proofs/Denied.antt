@@ -2,17 +2,10 @@
 use Rattle.std.proofs.Common.{◌≡◌, ℕ, List, Result, Ok, Err, refl, sym, subst, ap, ◌∙◌}
 use Rattle.outer_ports.specs.Files.{Files, candidate_word}
 use Rattle.report_form.specs.Reports.{ReportValue}
-use Rattle.frontier_audit.specs.declared.verdict.AuditVerdict.{AuditVerdict}
+use Rattle.frontier_audit.specs.{declared.verdict.AuditVerdict.AuditVerdict, Denials.reason_number, Auditing.audit_of}
 use Rattle.frontier_audit.specs.declared.verdict.AuditVerdict.TheVariants as audit
-use Rattle.frontier_audit.specs.Denials.{reason_number}
-use Rattle.frontier_audit.specs.Auditing.{audit_of}
-use Rattle.run_rules.specs.declared.status.Status.{Status}
-use Rattle.run_rules.specs.declared.status.Status.TheVariants.{Done, Denied}
-use Rattle.run_rules.specs.Refusals.{Refusal}
-use Rattle.run_rules.specs.Said.{FilesValue, Says}
-use Rattle.run_rules.specs.Audits.{IsAudited, audited, not_denied}
-use Rattle.run_rules.specs.Answers.{IsVerified}
-use Rattle.run_rules.specs.Steps.{verdict_status, verdict_text}
+use Rattle.run_rules.specs.{declared.status.Status.{Status, TheVariants.{Done, Denied}}, Refusals.Refusal, Said.{FilesValue, Says}, Answers.IsVerified}
+use Rattle.run_rules.specs.{Audits.{IsAudited, audited, not_denied}, Steps.{verdict_status, verdict_text}}
 
 denied_so : (v : AuditVerdict) (why : Refusal) → not_denied v ≡ Err why → why.status ≡ Denied
 denied_so audit.Verified why e = absurd (cc)

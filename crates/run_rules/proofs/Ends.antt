@@ -5,41 +5,22 @@ use Rattle.text_lines.specs.Check.{◌>>=◌, refuse, need}
 use Rattle.outer_ports.specs.Files.{Files}
 use Rattle.collective_spec.specs.Collectives.{fits_kind}
 use Rattle.candidate_order.specs.Frontiers.{QuestionValue}
-use Rattle.topology_text.specs.Answer.{code_number as topology_number}
-use Rattle.topology_text.specs.Reading.{topology_of}
-use Rattle.report_form.specs.Answer.{code_number as report_number}
-use Rattle.report_form.specs.Reading.{report_of}
-use Rattle.report_form.specs.Reports.{ReportValue}
+use Rattle.topology_text.specs.{Answer.code_number as topology_number, Reading.topology_of, Spelling.spelling}
+use Rattle.report_form.specs.{Answer.code_number as report_number, Reading.report_of, Reports.ReportValue, Spelling.report_text}
 use Rattle.round_encoding.specs.Candidates.{size_limit}
-use Rattle.candidate_formula.specs.Sizes.{size_of}
-use Rattle.candidate_formula.specs.Counts.{counts_of}
-use Rattle.replay_text.specs.Showing.{shown_in, shown_text}
-use Rattle.replay_text.specs.Points.{programs_of_point}
-use Rattle.topology_text.specs.Spelling.{spelling}
-use Rattle.report_form.specs.Spelling.{report_text}
-use Rattle.json_values.specs.Json.{printed}
-use Rattle.json_forms.specs.TopologyForm.{topology as topology_form}
-use Rattle.json_forms.specs.ReportForm.{report as report_form}
-use Rattle.json_values.specs.Answer.{code_number as json_number}
-use Rattle.json_forms.specs.Reading.{read_json}
+use Rattle.candidate_formula.specs.{Sizes.size_of, Counts.counts_of}
+use Rattle.replay_text.specs.{Showing.{shown_in, shown_text}, Points.programs_of_point}
+use Rattle.json_values.specs.{Json.printed, Answer.code_number as json_number}
+use Rattle.json_forms.specs.{TopologyForm.topology as topology_form, ReportForm.report as report_form, Reading.read_json}
 use Rattle.command_words.specs.declared.command.JsonWhat.TheVariants as what
-use Rattle.command_words.specs.declared.command.RootWord.{RootWord}
-use Rattle.command_words.specs.declared.command.SearchWords.{SearchWords}
-use Rattle.command_words.specs.declared.command.PointWord.{PointWord}
-use Rattle.command_words.specs.declared.command.Command.{Command}
-use Rattle.command_words.specs.declared.command.Command.TheVariants as command
-use Rattle.run_rules.specs.declared.status.Status.{Status}
-use Rattle.run_rules.specs.declared.status.Status.TheVariants.{Done, BadWords, BadTopology, BadReport, Denied, TooLarge, NoCandidate, BadJson}
-use Rattle.run_rules.specs.Statuses.{number_of}
+use Rattle.command_words.specs.declared.command.{RootWord.RootWord, SearchWords.SearchWords, PointWord.PointWord, Command.Command}
 use Rattle.command_words.specs.declared.fault.WordCode.TheVariants.{KeyMissing}
-use Rattle.run_rules.specs.Refusals.{Refusal, refused_as, refused_word}
-use Rattle.run_rules.specs.Commands.{IsOneOf, answers_of, row_of, json_row, point_row, unjson_row}
+use Rattle.command_words.specs.declared.command.Command.TheVariants as command
+use Rattle.run_rules.specs.declared.status.Status.{Status, TheVariants.{Done, BadWords, BadTopology, BadReport, Denied, TooLarge, NoCandidate, BadJson}}
+use Rattle.run_rules.specs.{Statuses.number_of, Refusals.{Refusal, refused_as, refused_word}, Audits.{IsAudited, audited}, Degraded.IsNewSearch}
+use Rattle.run_rules.specs.{Commands.{IsOneOf, answers_of, row_of, json_row, point_row, unjson_row}, Said.FilesValue, Answers.{IsAnswer, IsVerified}}
 use Rattle.run_rules.specs.Tasks.{Task, Write, Synthesise, Audit, Try, Bound, Order, Degrade, fault_in, given_sets, is_allreduce, json_programs_in, point_in, programs_value, read_report, root_in, search_asked, searchable, task_of}
 use Rattle.run_rules.specs.Steps.{audit_in, degrade_in, programs_in, replay_in, whole_question, words_for}
-use Rattle.run_rules.specs.Audits.{IsAudited, audited}
-use Rattle.run_rules.specs.Degraded.{IsNewSearch}
-use Rattle.run_rules.specs.Said.{FilesValue}
-use Rattle.run_rules.specs.Answers.{IsAnswer, IsVerified}
 use Rattle.run_rules.proofs.Denied.{denied_by}
 
 -- what is refused is refused with such a status

@@ -1,11 +1,8 @@
 -- The files that an audit looked at.
 use Rattle.std.proofs.Common.{◌≡◌, Bool, true, false, IsTrue, refl, sym}
-use Rattle.outer_ports.specs.Files.{Files}
-use Rattle.outer_ports.specs.Shelf.{FilesStay}
+use Rattle.outer_ports.specs.{Files.Files, Shelf.FilesStay}
 use Rattle.report_form.specs.Reports.{ReportValue}
-use Rattle.frontier_audit.specs.declared.verdict.AuditVerdict.{AuditVerdict}
-use Rattle.frontier_audit.specs.Auditing.{audit_of}
-use Rattle.frontier_audit.specs.Beside.{IsVerdictOver}
+use Rattle.frontier_audit.specs.{declared.verdict.AuditVerdict.AuditVerdict, Auditing.audit_of, Beside.IsVerdictOver}
 
 -- some files with this verdict, which are those of the shelf where it tells them
 pub record HasVerdict (r : ReportValue) (verdict : AuditVerdict) (told : Bool) (shelf : Files) : Type 0 where

@@ -1,12 +1,7 @@
 -- What is read of the text of a report, as the code has it.
 use Rattle.std.proofs.Common.{◌≡◌, ◌≢◌, ◌⊎◌, inl, inr, ℕ, List, Err, ap}
-use Rattle.report_form.specs.declared.fault.ReportCode.{ReportCode}
-use Rattle.report_form.specs.declared.fault.ReportCode.TheVariants.{OutOfMemory}
-use Rattle.report_form.specs.Answer.{code_number}
-use Rattle.report_form.specs.Reading.{report_of}
-use Rattle.run_rules.specs.declared.status.Status.TheVariants.{BadReport}
-use Rattle.run_rules.specs.Refusals.{refused_at, refused_as}
-use Rattle.run_rules.specs.Tasks.{read_report}
+use Rattle.report_form.specs.{declared.fault.ReportCode.{ReportCode, TheVariants.OutOfMemory}, Answer.code_number, Reading.report_of}
+use Rattle.run_rules.specs.{declared.status.Status.TheVariants.BadReport, Refusals.{refused_at, refused_as}, Tasks.read_report}
 
 -- what the reader refuses is refused
 pub read_refused : (bytes : List ℕ) (code : ReportCode) (line : ℕ) → ((code ≡ OutOfMemory) × (line ≡ 0)) ⊎ (report_of bytes ≡ Err (code, line)) → code ≢ OutOfMemory

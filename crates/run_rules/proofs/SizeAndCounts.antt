@@ -1,25 +1,15 @@
 -- Whether a search can be done, check by check.
-use Rattle.std.proofs.Common.{◌≡◌, ◌<◌, ◌≤◌, ◌==◌, ℕ, Bool, true, length, List, Result, Err, sym, subst, ap, ◌∙◌, false, Ok, refl}
-use Rattle.std.specs.Prelude.{nat_lt}
+use Rattle.std.proofs.Common.{◌≡◌, ◌<◌, ◌≤◌, ◌==◌, ℕ, Bool, true, length, List, Result, Err, sym, subst, ap, ◌∙◌, false, Ok, refl, nat_lt}
 use Rattle.std.proofs.lemmas.Bool.{lt-ltb, le-ltb, ltb-false}
 use Rattle.text_lines.specs.Check.{◌>>=◌, refuse}
 use Rattle.schedule.specs.Links.{TopologyValue}
-use Rattle.collective_spec.specs.declared.collective.Collective.{Collective}
-use Rattle.collective_spec.specs.declared.spec.Spec.{Spec}
-use Rattle.collective_spec.specs.Collectives.{fits_kind, spec_of}
-use Rattle.collective_spec.proofs.Sized.{fitting_kind}
-use Rattle.candidate_order.specs.Frontiers.{QuestionValue}
-use Rattle.candidate_order.specs.Ranges.{LimitsValue}
-use Rattle.candidate_formula.specs.Counts.{allowed_up_to}
-use Rattle.candidate_formula.specs.Sizes.{size_of}
+use Rattle.collective_spec.{specs.{declared.{collective.Collective.Collective, spec.Spec.Spec}, Collectives.{fits_kind, spec_of}}, proofs.Sized.fitting_kind}
+use Rattle.candidate_order.specs.{Frontiers.QuestionValue, Ranges.LimitsValue}
+use Rattle.candidate_formula.specs.{Counts.{allowed_up_to, counts_of}, Sizes.size_of}
 use Rattle.round_encoding.specs.Candidates.{size_limit}
 use Rattle.topology_text.specs.Value.{NamedTopologyValue}
 use Rattle.report_form.specs.Reports.{WordsValue}
-use Rattle.candidate_formula.specs.Counts.{counts_of}
-use Rattle.run_rules.specs.declared.status.Status.TheVariants.{TooLarge, NoCandidate}
-use Rattle.run_rules.specs.Refusals.{Refusal, refused_at}
-use Rattle.run_rules.specs.Tasks.{searchable}
-use Rattle.run_rules.specs.Steps.{whole_question}
+use Rattle.run_rules.specs.{declared.status.Status.TheVariants.{TooLarge, NoCandidate}, Refusals.{Refusal, refused_at}, Tasks.searchable, Steps.whole_question}
 
 -- ---- the size and the chunk counts of a question
 

@@ -1,20 +1,13 @@
 -- What is due for the words of a search, check by check.
 use Rattle.std.proofs.Common.{◌≡◌, ◌⊎◌, inl, inr, ℕ, Bool, true, false, not, List, Result, Ok, Err, sym, ap, ◌∙◌}
-use Rattle.text_lines.specs.Check.{◌>>=◌, refuse}
-use Rattle.text_lines.proofs.Checks.{bind_ok, ok_is}
+use Rattle.text_lines.{specs.Check.{◌>>=◌, refuse}, proofs.Checks.{bind_ok, ok_is}}
 use Rattle.collective_spec.specs.Collectives.{fits_kind}
-use Rattle.topology_text.specs.declared.fault.TopologyCode.{TopologyCode}
-use Rattle.topology_text.specs.declared.fault.TopologyCode.TheVariants.{OutOfMemory}
-use Rattle.topology_text.specs.Value.{NamedTopologyValue}
+use Rattle.topology_text.specs.{declared.fault.TopologyCode.{TopologyCode, TheVariants.OutOfMemory}, Value.NamedTopologyValue, Reading.topology_of}
 use Rattle.topology_text.specs.Answer.{code_number as topology_number}
-use Rattle.topology_text.specs.Reading.{topology_of}
-use Rattle.command_words.specs.declared.command.SearchWords.{SearchWords}
-use Rattle.command_words.specs.declared.fault.WordCode.TheVariants.{CustomMismatch}
+use Rattle.command_words.specs.declared.{command.SearchWords.SearchWords, fault.WordCode.TheVariants.CustomMismatch}
 use Rattle.report_form.specs.Reports.{WordsValue}
-use Rattle.run_rules.specs.declared.status.Status.TheVariants.{BadTopology}
-use Rattle.run_rules.specs.Refusals.{Refusal, refused_as, refused_at, refused_word}
-use Rattle.run_rules.specs.Tasks.{root_in, search_asked, searchable}
-use Rattle.run_rules.specs.Steps.{fitting, search_for, search_over, whole_question, words_for}
+use Rattle.run_rules.specs.{declared.status.Status.TheVariants.BadTopology, Refusals.{Refusal, refused_as, refused_at, refused_word}}
+use Rattle.run_rules.specs.{Tasks.{root_in, search_asked, searchable}, Steps.{fitting, search_for, search_over, whole_question, words_for}}
 
 -- ---- what can be searched
 

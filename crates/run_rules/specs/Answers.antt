@@ -1,24 +1,14 @@
 -- The answer to what is due: its status, its text, and the files that it leaves. This project's own; the synthesis theorem is the case of a search.
 use Rattle.std.specs.Prelude.{◌≡◌, ℕ, Bool, IsTrue, List, [], ◌∷◌, Result, Ok, Err, codes}
 use Rattle.text_lines.specs.Text.{line}
-use Rattle.outer_ports.specs.Files.{Files}
-use Rattle.outer_ports.specs.Shelf.{FilesStay}
+use Rattle.outer_ports.specs.{Files.Files, Shelf.FilesStay}
 use Rattle.topology_text.specs.Value.{NamedTopologyValue}
-use Rattle.report_form.specs.Reports.{WordsValue, ReportValue}
-use Rattle.report_form.specs.Spelling.{report_text}
-use Rattle.frontier_audit.specs.Rights.{HasLogs, IsRight, IsSearched}
-use Rattle.frontier_audit.specs.OwedFiles.{BreaksOff, KeepsProofs, Proves, TakesUpProofs}
-use Rattle.frontier_audit.specs.Shelves.{ShelfRight}
-use Rattle.run_rules.specs.declared.status.Status.{Status}
-use Rattle.run_rules.specs.declared.status.Status.TheVariants.{Done}
-use Rattle.run_rules.specs.Refusals.{Refusal, refusal_line}
-pub use Rattle.run_rules.specs.Said.{FilesValue, IsSaid, Says, Stay}
-use Rattle.run_rules.specs.Tasks.{Task, Write, Synthesise, Audit, Try, Bound, Order, Degrade}
-use Rattle.run_rules.specs.Audits.{IsAudited}
-use Rattle.run_rules.specs.Tries.{Tries}
-use Rattle.run_rules.specs.Bounds.{IsBoundAnswer}
-use Rattle.run_rules.specs.Orders.{IsOrderedAnswer}
+use Rattle.report_form.specs.{Reports.{WordsValue, ReportValue}, Spelling.report_text}
+use Rattle.frontier_audit.specs.{Rights.{HasLogs, IsRight, IsSearched}, OwedFiles.{BreaksOff, KeepsProofs, Proves, TakesUpProofs}, Shelves.ShelfRight}
+use Rattle.run_rules.specs.{declared.status.Status.{Status, TheVariants.Done}, Refusals.{Refusal, refusal_line}, Audits.IsAudited, Tries.Tries}
+use Rattle.run_rules.specs.{Tasks.{Task, Write, Synthesise, Audit, Try, Bound, Order, Degrade}, Bounds.IsBoundAnswer, Orders.IsOrderedAnswer}
 use Rattle.run_rules.specs.Degraded.{IsNewSearch}
+pub use Rattle.run_rules.specs.Said.{FilesValue, IsSaid, Says, Stay}
 
 -- a search: the text of one report of these words and this topology, which is right and searched in order, and whose proofs the files are; where proofs are kept, a candidate that was tried and that its files refuted before is refuted, and what refuted any candidate before stands there still; a file that changed is one of its own, and holds the text of the formula, or of lines that are accepted in their turn, or the beginning of such a text
 pub record IsSearch (w : WordsValue) (t : NamedTopologyValue) (kept : Bool) (files : FilesValue) (status : Status) (text : List ℕ) : Type 0 where

@@ -1,16 +1,10 @@
 -- What the files decide of a report, and what is said of it. This project's own.
 use Rattle.std.specs.Prelude.{◌≡◌, ℕ, IsTrue, List, Result, Ok, Err}
-use Rattle.outer_ports.specs.Files.{Files, candidate_word}
-use Rattle.outer_ports.specs.Shelf.{FilesStay}
+use Rattle.outer_ports.specs.{Files.{Files, candidate_word}, Shelf.FilesStay}
 use Rattle.report_form.specs.Reports.{ReportValue}
-use Rattle.frontier_audit.specs.declared.verdict.AuditVerdict.{AuditVerdict}
+use Rattle.frontier_audit.specs.{declared.verdict.AuditVerdict.AuditVerdict, Denials.reason_number, Auditing.audit_of}
 use Rattle.frontier_audit.specs.declared.verdict.AuditVerdict.TheVariants as audit
-use Rattle.frontier_audit.specs.Denials.{reason_number}
-use Rattle.frontier_audit.specs.Auditing.{audit_of}
-use Rattle.run_rules.specs.declared.status.Status.{Status}
-use Rattle.run_rules.specs.declared.status.Status.TheVariants.{Denied}
-use Rattle.run_rules.specs.Refusals.{Refusal, refusal_line}
-use Rattle.run_rules.specs.Said.{FilesValue, Says, Stay}
+use Rattle.run_rules.specs.{declared.status.Status.{Status, TheVariants.Denied}, Refusals.{Refusal, refusal_line}, Said.{FilesValue, Says, Stay}}
 
 -- a report that is denied is refused with the reason and the candidate
 abbrev pub not_denied : AuditVerdict → Result (Unit {0}) Refusal

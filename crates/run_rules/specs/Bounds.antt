@@ -1,25 +1,17 @@
 -- What is owed for a search that tells which cut refutes a candidate, and how far any schedule can go. This project's own.
-use Rattle.std.specs.Prelude.{◌≡◌, ℕ, false, IsTrue, List, [], ◌∷◌, ◌++◌, length, map, filter, All, codes, decimal}
-use Rattle.std.specs.List.{flat_map, range_with_len}
+use Rattle.std.specs.{Prelude.{◌≡◌, ℕ, false, IsTrue, List, [], ◌∷◌, ◌++◌, length, map, filter, All, codes, decimal}, List.{flat_map, range_with_len}}
 use Rattle.outer_ports.specs.declared.part.Part.TheVariants.{Whole}
 use Rattle.text_lines.specs.Text.{text_of}
 use Rattle.candidate_order.specs.Frontiers.{FrontierValue}
-use Rattle.topology_text.specs.Value.{NamedTopologyValue}
-use Rattle.topology_text.specs.Spelling.{name_at}
+use Rattle.topology_text.specs.{Value.NamedTopologyValue, Spelling.name_at}
 use Rattle.report_form.specs.Reports.{WordsValue, question_of, whole_report}
 use Rattle.report_form.specs.Spelling.{candidate_words, part_words, point_lines, refuted_words, synth_words, unknown_words}
 use Rattle.frontier_audit.specs.OwedFiles.{BreaksOff, Proves}
-use Rattle.node_cuts.specs.declared.floor.Floor.{Floor}
-use Rattle.node_cuts.specs.Floors.{floor_of}
-use Rattle.node_cuts.specs.Sides.{has_bit}
-use Rattle.node_cuts.specs.declared.sets.Sets.{Sets}
-use Rattle.node_cuts.specs.Cutting.{is_cut}
+use Rattle.node_cuts.specs.{declared.{floor.Floor.Floor, sets.Sets.Sets}, Floors.floor_of, Sides.has_bit, Cutting.is_cut}
 use Rattle.cut_bounds.specs.Parting.{cuts_among, uncut_among, without_cuts}
 use Rattle.candidate_formula.specs.Searched.{searched_question}
 use Rattle.engine_search.specs.Found.{IsFound}
-use Rattle.run_rules.specs.declared.status.Status.{Status}
-use Rattle.run_rules.specs.declared.status.Status.TheVariants.{Done}
-use Rattle.run_rules.specs.Said.{FilesValue, Says}
+use Rattle.run_rules.specs.{declared.status.Status.{Status, TheVariants.Done}, Said.{FilesValue, Says}}
 
 -- ---- the text
 

@@ -1,15 +1,10 @@
 -- What each command does with the ports, and how it can end: one row for each. This project's own.
-use Rattle.std.specs.Prelude.{◌≡◌, ◌==◌, ℕ, Bool, true, false, IsTrue, if◌then◌else◌, List, [], ◌∷◌, ◌++◌, Result, Ok, Err}
-use Rattle.std.specs.List.{list_any}
-use Rattle.command_words.specs.declared.command.JsonWhat.{JsonWhat}
+use Rattle.std.specs.{Prelude.{◌≡◌, ◌==◌, ℕ, Bool, true, false, IsTrue, if◌then◌else◌, List, [], ◌∷◌, ◌++◌, Result, Ok, Err}, List.list_any}
+use Rattle.command_words.specs.{declared.{command.{JsonWhat.JsonWhat, Command.Command}, fault.WordFault.WordFault}, Words.command_of}
 use Rattle.command_words.specs.declared.command.JsonWhat.TheVariants as what
-use Rattle.command_words.specs.declared.command.Command.{Command}
 use Rattle.command_words.specs.declared.command.Command.TheVariants as command
-use Rattle.command_words.specs.declared.fault.WordFault.{WordFault}
-use Rattle.command_words.specs.Words.{command_of}
-use Rattle.run_rules.specs.declared.status.Status.{Status}
+use Rattle.run_rules.specs.{declared.status.Status.Status, Statuses.number_of}
 use Rattle.run_rules.specs.declared.status.Status.TheVariants.{Done, BadWords, BadTopology, SourceFailed, ShelfFailed, BadReport, Denied, TooLarge, NoCandidate, TooLong, BadJson}
-use Rattle.run_rules.specs.Statuses.{number_of}
 
 -- whether a command reads the source, opens the files of the shelf, and changes them; and with which refusals it can end
 pub record RowValue : Type 0 where

@@ -1,21 +1,15 @@
 -- What is owed for a report after a fault: its search done anew over the links that are left, where what was refuted stays refuted. This project's own.
-use Rattle.std.specs.Prelude.{◌≡◌, false, not, ℕ, List, [], ◌∷◌, ◌++◌, filter, map, All, codes}
-use Rattle.std.specs.List.{flat_map}
+use Rattle.std.specs.{Prelude.{◌≡◌, false, not, ℕ, List, [], ◌∷◌, ◌++◌, filter, map, All, codes}, List.flat_map}
 use Rattle.outer_ports.specs.declared.part.Part.TheVariants.{Whole}
 use Rattle.text_lines.specs.Text.{text_of}
-use Rattle.candidate_order.specs.declared.candidate.Candidate.{Candidate}
-use Rattle.candidate_order.specs.Frontiers.{FrontierValue}
-use Rattle.topology_text.specs.Value.{NamedTopologyValue}
-use Rattle.topology_text.specs.Spelling.{lines_of}
+use Rattle.candidate_order.specs.{declared.candidate.Candidate.Candidate, Frontiers.FrontierValue}
+use Rattle.topology_text.specs.{Value.NamedTopologyValue, Spelling.lines_of}
 use Rattle.report_form.specs.Reports.{WordsValue, ReportValue, question_of}
 use Rattle.report_form.specs.Spelling.{candidate_words, part_words, point_lines, refuted_words, synth_words, unknown_words}
 use Rattle.candidate_formula.specs.Pruned.{is_cut_away}
 use Rattle.engine_search.specs.Found.{IsFound}
-use Rattle.link_faults.specs.Narrowed.{narrowed}
-use Rattle.link_faults.specs.Carrying.{is_carried}
-use Rattle.run_rules.specs.declared.status.Status.{Status}
-use Rattle.run_rules.specs.declared.status.Status.TheVariants.{Done}
-use Rattle.run_rules.specs.Said.{Says}
+use Rattle.link_faults.specs.{Narrowed.narrowed, Carrying.is_carried}
+use Rattle.run_rules.specs.{declared.status.Status.{Status, TheVariants.Done}, Said.Says}
 
 -- ---- the text
 

@@ -3,8 +3,7 @@ use Rattle.engine_rules.specs.declared.fault.EngineFault.{EngineFault}
 use Rattle.engine_rules.specs.declared.fault.EngineFault.TheVariants as engine
 use Rattle.proof_audit.specs.declared.fault.AuditFault.{AuditFault}
 use Rattle.proof_audit.specs.declared.fault.AuditFault.TheVariants as audit
-use Rattle.run_rules.specs.declared.halt.Halt.{Halt}
-use Rattle.run_rules.specs.declared.halt.Halt.TheVariants.{Memory, Shelf}
+use Rattle.run_rules.specs.declared.halt.Halt.{Halt, TheVariants.{Memory, Shelf}}
 
 abbrev pub halt_of : EngineFault → Halt
 halt_of engine.ShelfFailed = Shelf

@@ -4,14 +4,10 @@ use Rattle.outer_ports.specs.declared.part.Part.TheVariants.{Whole}
 use Rattle.text_lines.specs.Text.{text_of}
 use Rattle.candidate_order.specs.Frontiers.{QuestionValue, FrontierValue}
 use Rattle.topology_text.specs.Value.{NamedTopologyValue}
-use Rattle.report_form.specs.Reports.{WordsValue, question_of}
-use Rattle.report_form.specs.Spelling.{frontier_lines, synth_words}
-use Rattle.candidate_formula.specs.Formulas.{OrderedFor, ordered_formula_for}
-use Rattle.candidate_formula.specs.Searched.{searched_question}
+use Rattle.report_form.specs.{Reports.{WordsValue, question_of}, Spelling.{frontier_lines, synth_words}}
+use Rattle.candidate_formula.specs.{Formulas.{OrderedFor, ordered_formula_for}, Searched.searched_question}
 use Rattle.engine_search.specs.Found.{IsFoundBy}
-use Rattle.run_rules.specs.declared.status.Status.{Status}
-use Rattle.run_rules.specs.declared.status.Status.TheVariants.{Done}
-use Rattle.run_rules.specs.Said.{FilesValue, Says, Stay}
+use Rattle.run_rules.specs.{declared.status.Status.{Status, TheVariants.Done}, Said.{FilesValue, Says, Stay}}
 
 unfoldable pub ordered_text : WordsValue → NamedTopologyValue → FrontierValue → List ℕ
 ordered_text w t f = text_of ((codes "ordered" ∷ codes "1" ∷ []) ∷ synth_words t.names w ∷ (frontier_lines t.names (Whole, f) ++ (codes "end" ∷ []) ∷ []))

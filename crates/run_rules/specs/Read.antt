@@ -3,13 +3,9 @@ use Rattle.std.specs.Prelude.{◌≡◌, Option, None, Some, Result, Ok, Err}
 use Rattle.topology_text.specs.Value.{NamedTopologyValue}
 use Rattle.report_form.specs.Reports.{WordsValue, ReportValue}
 use Rattle.frontier_audit.specs.Searches.{IsAsked}
-use Rattle.run_rules.specs.declared.answer.Answer.{Answer}
-use Rattle.run_rules.specs.declared.report_text.ReportText.{ReportText}
-use Rattle.run_rules.specs.declared.report_text.ReportText.TheVariants.{Spelled, Refused}
-use Rattle.run_rules.specs.declared.search_text.SearchText.{SearchText}
+use Rattle.run_rules.specs.{declared.{answer.Answer.Answer, report_text.ReportText.{ReportText, TheVariants.{Spelled, Refused}}}, Answers.Says}
+use Rattle.run_rules.specs.{declared.search_text.SearchText.SearchText, Refusals.{Refusal, refusal_line}}
 use Rattle.run_rules.specs.declared.search_text.SearchText.TheVariants as search
-use Rattle.run_rules.specs.Refusals.{Refusal, refusal_line}
-use Rattle.run_rules.specs.Answers.{Says}
 
 -- this is refused, and the answer says so
 pub record IsRefused {A : Type 0} (asked : Result A Refusal) (answer : Answer) : Type 0 where

@@ -1,11 +1,8 @@
 -- Refusals: the status, the code and the place that are written.
 use Rattle.std.specs.Prelude.{ℕ, List, [], ◌∷◌, Result, Ok, Err, codes, decimal}
 use Rattle.text_lines.specs.Text.{line}
-use Rattle.run_rules.specs.declared.status.Status.{Status}
-use Rattle.run_rules.specs.declared.status.Status.TheVariants.{BadWords}
-use Rattle.run_rules.specs.Statuses.{number_of}
-use Rattle.command_words.specs.declared.fault.WordCode.{WordCode}
-use Rattle.command_words.specs.Codes.{number_of as word_number}
+use Rattle.run_rules.specs.{declared.status.Status.{Status, TheVariants.BadWords}, Statuses.number_of}
+use Rattle.command_words.specs.{declared.fault.WordCode.WordCode, Codes.number_of as word_number}
 
 -- the place is a number, or the name of a candidate
 pub record Refusal : Type 0 where

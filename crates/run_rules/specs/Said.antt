@@ -1,7 +1,6 @@
 -- What is said of an answer: its status and its text, and the files of the shelf. This project's own.
 use Rattle.std.specs.Prelude.{◌≡◌, ℕ, Bool, IsTrue, List}
-use Rattle.outer_ports.specs.Files.{Files}
-use Rattle.outer_ports.specs.Shelf.{FilesStay}
+use Rattle.outer_ports.specs.{Files.Files, Shelf.FilesStay}
 use Rattle.run_rules.specs.declared.status.Status.{Status}
 
 -- the files of the shelf before and after, and whether it tells them

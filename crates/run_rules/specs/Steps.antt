@@ -1,20 +1,14 @@
 -- The steps of what is due, as contracts of the code have them: each is a part of `task_by` by a name of its own.
 use Rattle.std.specs.Prelude.{ℕ, ◌&&◌, not, Bool, length, nat_lt, List, [], ◌∷◌, Option, Result, Ok, Err, codes}
 use Rattle.outer_ports.specs.declared.part.Part.TheVariants.{Whole}
-use Rattle.text_lines.specs.Text.{line}
-use Rattle.text_lines.specs.Check.{◌>>=◌, refuse}
+use Rattle.text_lines.specs.{Text.line, Check.{◌>>=◌, refuse}}
 use Rattle.collective_spec.specs.Collectives.{fits_kind}
 use Rattle.candidate_order.specs.Frontiers.{QuestionValue}
 use Rattle.topology_text.specs.Value.{NamedTopologyValue}
 use Rattle.report_form.specs.Reports.{WordsValue, ReportValue, question_of}
-use Rattle.replay_text.specs.Showing.{shown_in, shown_text}
-use Rattle.replay_text.specs.Points.{programs_of_point}
-use Rattle.command_words.specs.declared.command.SearchWords.{SearchWords}
-use Rattle.command_words.specs.declared.command.PointWord.{PointWord}
-use Rattle.command_words.specs.declared.fault.WordCode.TheVariants.{CustomMismatch}
-use Rattle.run_rules.specs.declared.status.Status.{Status}
-use Rattle.run_rules.specs.declared.status.Status.TheVariants.{Done, TooLong}
-use Rattle.run_rules.specs.Refusals.{Refusal, refusal_line, refused_at, refused_word}
+use Rattle.replay_text.specs.{Showing.{shown_in, shown_text}, Points.programs_of_point}
+use Rattle.command_words.specs.declared.{command.{SearchWords.SearchWords, PointWord.PointWord}, fault.WordCode.TheVariants.CustomMismatch}
+use Rattle.run_rules.specs.{declared.status.Status.{Status, TheVariants.{Done, TooLong}}, Refusals.{Refusal, refusal_line, refused_at, refused_word}}
 use Rattle.run_rules.specs.Tasks.{Task, Write, Synthesise, Audit, Bound, Order, Degrade, fault_in, given_sets, limit, point_in, root_in, search_asked, searchable}
 
 -- what is read came whole

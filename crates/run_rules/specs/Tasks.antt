@@ -1,51 +1,29 @@
 -- What the words and the text that is read ask for, or the first check that refuses them: words, length, text, root or point, size, candidates. This project's own.
 use Rattle.std.specs.Prelude.{ℕ, ◌==◌, ◌&&◌, not, Bool, true, false, if◌then◌else◌, List, [], length, nat_lt, slice_get, Option, None, Some, Result, Ok, Err}
-use Rattle.outer_ports.specs.declared.part.Part.{Part}
-use Rattle.outer_ports.specs.declared.part.Part.TheVariants.{Whole}
+use Rattle.outer_ports.specs.declared.part.Part.{Part, TheVariants.Whole}
 use Rattle.text_lines.specs.Check.{◌>>=◌, refuse, need}
 use Rattle.serde_json.specs.Data.{Data}
-use Rattle.collective_spec.specs.declared.kind.Kind.{Kind}
-use Rattle.collective_spec.specs.declared.kind.Kind.TheVariants.{Allreduce}
-use Rattle.collective_spec.specs.Collectives.{fits_kind}
+use Rattle.collective_spec.specs.{declared.kind.Kind.{Kind, TheVariants.Allreduce}, Collectives.fits_kind}
 use Rattle.candidate_order.specs.Frontiers.{QuestionValue, PointValue}
-use Rattle.topology_text.specs.Value.{NamedTopologyValue}
-use Rattle.topology_text.specs.Answer.{code_number as topology_number}
-use Rattle.topology_text.specs.Reading.{topology_of, node_of}
-use Rattle.topology_text.specs.Family.{family_of}
+use Rattle.topology_text.specs.{Value.NamedTopologyValue, Answer.code_number as topology_number, Reading.{topology_of, node_of}, Family.family_of}
 use Rattle.topology_text.specs.Spelling.{spelling}
-use Rattle.report_form.specs.declared.fault.ReportCode.{ReportCode}
-use Rattle.report_form.specs.Reports.{WordsValue, ReportValue, question_of}
-use Rattle.report_form.specs.Numbered.{point_at}
-use Rattle.report_form.specs.Answer.{code_number as report_number}
-use Rattle.report_form.specs.Reading.{report_of}
+use Rattle.report_form.specs.{declared.fault.ReportCode.ReportCode, Reports.{WordsValue, ReportValue, question_of}, Numbered.point_at, Reading.report_of}
+use Rattle.report_form.specs.{Answer.code_number as report_number, Spelling.report_text}
 use Rattle.round_encoding.specs.Candidates.{size_limit}
-use Rattle.candidate_formula.specs.Sizes.{size_of}
-use Rattle.candidate_formula.specs.Counts.{counts_of}
-use Rattle.report_form.specs.Spelling.{report_text}
+use Rattle.candidate_formula.specs.{Sizes.size_of, Counts.counts_of}
 use Rattle.node_programs.specs.Programs.{programs_of}
-use Rattle.replay_text.specs.Showing.{adding_of, nodes_of, shown_in, shown_text}
-use Rattle.json_values.specs.Answer.{code_number as json_number}
-use Rattle.json_forms.specs.Reading.{read_json}
-use Rattle.json_values.specs.Json.{printed}
-use Rattle.json_forms.specs.TopologyForm.{topology as topology_form}
-use Rattle.json_forms.specs.ReportForm.{report as report_form}
+use Rattle.replay_text.specs.{Showing.{adding_of, nodes_of, shown_in, shown_text}, Points.programs_of_point}
+use Rattle.json_values.specs.{Answer.code_number as json_number, Json.printed}
+use Rattle.json_forms.specs.{Reading.read_json, TopologyForm.topology as topology_form, ReportForm.report as report_form}
 use Rattle.json_rules.specs.ProgramsJson.{programs_json}
-use Rattle.replay_text.specs.Points.{programs_of_point}
-use Rattle.command_words.specs.declared.command.JsonWhat.{JsonWhat}
-use Rattle.command_words.specs.declared.command.JsonWhat.TheVariants as what
-use Rattle.command_words.specs.declared.command.RootWord.{RootWord}
-use Rattle.command_words.specs.declared.command.SearchWords.{SearchWords}
-use Rattle.command_words.specs.declared.command.PointWord.{PointWord}
-use Rattle.command_words.specs.declared.command.Command.{Command}
-use Rattle.command_words.specs.declared.command.Command.TheVariants as command
-use Rattle.command_words.specs.declared.fault.WordFault.{WordFault}
+use Rattle.command_words.specs.declared.command.{JsonWhat.JsonWhat, RootWord.RootWord, SearchWords.SearchWords, PointWord.PointWord, Command.Command}
+use Rattle.command_words.specs.{declared.fault.WordFault.WordFault, Words.command_of}
 use Rattle.command_words.specs.declared.fault.WordCode.TheVariants.{KeyMissing, UnknownRoot, UnknownPoint, CustomMismatch, ReportNotTaken, UnknownGroup, NotNarrower}
-use Rattle.command_words.specs.Words.{command_of}
-use Rattle.node_cuts.specs.declared.sets.Sets.{Sets}
-use Rattle.node_cuts.specs.declared.sets.Sets.TheVariants.{Listed, All}
-use Rattle.run_rules.specs.declared.status.Status.TheVariants.{BadTopology, BadReport, TooLarge, NoCandidate, TooLong, BadJson}
+use Rattle.command_words.specs.declared.command.JsonWhat.TheVariants as what
+use Rattle.command_words.specs.declared.command.Command.TheVariants as command
+use Rattle.node_cuts.specs.declared.sets.Sets.{Sets, TheVariants.{Listed, All}}
+use Rattle.run_rules.specs.{declared.status.Status.TheVariants.{BadTopology, BadReport, TooLarge, NoCandidate, TooLong, BadJson}, Commands.row_of}
 use Rattle.run_rules.specs.Refusals.{Refusal, refused_at, refused_as, refused_word}
-use Rattle.run_rules.specs.Commands.{row_of}
 
 -- what is to be done, with all that it needs: of a search also whether proofs that stand there are kept, of bounds which sets of nodes are looked at
 pub data Task : Type 0 where

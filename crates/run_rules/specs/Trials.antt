@@ -1,15 +1,10 @@
 -- Trials: which search a number stands for, and the text that sums it up. This project's own.
 use Rattle.std.specs.Prelude.{ℕ, ◌+◌, ◌*◌, ◌/◌, ◌%◌, List, [], ◌∷◌, length, sum_by, slice_index_or, codes, decimal}
-use Rattle.collective_spec.specs.declared.kind.Kind.{Kind}
-use Rattle.collective_spec.specs.declared.kind.Kind.TheVariants.{Broadcast, Gather, Allgather, Scatter, Alltoall, Reduce, Reducescatter, Allreduce}
+use Rattle.collective_spec.specs.declared.kind.Kind.{Kind, TheVariants.{Broadcast, Gather, Allgather, Scatter, Alltoall, Reduce, Reducescatter, Allreduce}}
 use Rattle.candidate_order.specs.Ranges.{unpruned}
-use Rattle.topology_text.specs.declared.family_kind.FamilyKind.{FamilyKind}
-use Rattle.topology_text.specs.declared.family_kind.FamilyKind.TheVariants.{Line, Ring, Complete, Shared}
+use Rattle.topology_text.specs.{declared.family_kind.FamilyKind.{FamilyKind, TheVariants.{Line, Ring, Complete, Shared}}, FamilyWords.family_word}
 use Rattle.text_lines.specs.Text.{text_of}
-use Rattle.report_form.specs.Reports.{WordsValue, ReportValue}
-use Rattle.report_form.specs.Spelling.{synth_words}
-use Rattle.report_form.specs.Numbered.{points_of}
-use Rattle.topology_text.specs.FamilyWords.{family_word}
+use Rattle.report_form.specs.{Reports.{WordsValue, ReportValue}, Spelling.synth_words, Numbered.points_of}
 use Rattle.node_programs.specs.Runs.{operations}
 use Rattle.replay_text.specs.Showing.{shown_in, machine_of}
 

@@ -3,8 +3,7 @@ use Rattle.std.specs.Prelude.{◌≡◌, ℕ, List}
 use Rattle.outer_ports.specs.Files.{Files}
 use Rattle.topology_text.specs.Family.{family_of}
 use Rattle.report_form.specs.Reports.{ReportValue}
-use Rattle.frontier_audit.specs.Shelves.{ShelfRight}
-use Rattle.frontier_audit.specs.Rights.{IsRight, IsSearched}
+use Rattle.frontier_audit.specs.{Shelves.ShelfRight, Rights.{IsRight, IsSearched}}
 use Rattle.run_rules.specs.Trials.{trial_family, trial_size, trial_words, trial_text}
 
 -- a search of its own, with files of its own, is summed up

@@ -1,9 +1,7 @@
 //! Answers: a status and a text; and those of refusals.
 
 ghost use Rattle.std.specs.Prelude.{IfOk};
-ghost use Rattle.run_rules.specs.Answers.{Says};
-ghost use Rattle.run_rules.specs.Refusals.{refusal_line, refused_at, refused_word};
-ghost use Rattle.run_rules.specs.Tasks.{limit};
+ghost use Rattle.run_rules.specs.{Answers.Says, Refusals.{refusal_line, refused_at, refused_word}, Tasks.limit};
 
 use crate::OutOfMemory;
 use crate::status::Status;

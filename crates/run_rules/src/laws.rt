@@ -3,11 +3,8 @@
 ghost use Rattle.std.specs.Prelude.{◌≡◌, ℕ, List};
 ghost use Rattle.command_words.specs.declared.command.Command.{Command};
 ghost use Rattle.report_form.specs.Reports.{ReportValue};
-ghost use Rattle.run_rules.specs.Answers.{FilesValue, IsAnswer, IsVerified, Says};
-ghost use Rattle.run_rules.specs.Audits.{IsAudited, audited};
-ghost use Rattle.run_rules.specs.Commands.{IsOneOf, answers_of};
+ghost use Rattle.run_rules.specs.{Answers.{FilesValue, IsAnswer, IsVerified, Says}, Audits.{IsAudited, audited}, Commands.{IsOneOf, answers_of}, Tasks.task_of};
 ghost use Rattle.run_rules.specs.Steps.{verdict_status, verdict_text};
-ghost use Rattle.run_rules.specs.Tasks.{task_of};
 
 use crate::status::Status;
 

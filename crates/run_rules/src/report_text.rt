@@ -2,10 +2,7 @@
 
 ghost use Rattle.std.specs.Prelude.{◌≢◌, ◌≤◌, length, IfOk};
 ghost use Rattle.report_form.specs.Answer.{code_number as report_number};
-ghost use Rattle.run_rules.specs.Answers.{Says};
-ghost use Rattle.run_rules.specs.Read.{IsReadAs};
-ghost use Rattle.run_rules.specs.Refusals.{refusal_line, refused_at};
-ghost use Rattle.run_rules.specs.Tasks.{limit, read_report};
+ghost use Rattle.run_rules.specs.{Answers.Says, Read.IsReadAs, Refusals.{refusal_line, refused_at}, Tasks.{limit, read_report}};
 
 use crate::OutOfMemory;
 use crate::answer::{Answer, refusal};

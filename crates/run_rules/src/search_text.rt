@@ -4,13 +4,9 @@
 ghost use Rattle.std.specs.Prelude.{◌≡◌, ◌≢◌, ◌<◌, ◌≤◌, length, true, IfErr, IfOk, Ok, Err};
 ghost use Rattle.collective_spec.specs.Collectives.{fits_kind};
 ghost use Rattle.command_words.specs.Commands.{AreSearchWords};
-ghost use Rattle.topology_text.specs.Answer.{code_number as topology_number};
-ghost use Rattle.topology_text.specs.Reading.{node_of};
+ghost use Rattle.topology_text.specs.{Answer.code_number as topology_number, Reading.node_of};
 ghost use Rattle.report_form.specs.Reports.{IsWords};
-ghost use Rattle.run_rules.specs.Answers.{Says};
-ghost use Rattle.run_rules.specs.Read.{IsSearchAs};
-ghost use Rattle.run_rules.specs.Refusals.{refusal_line, refused_at, refused_word};
-ghost use Rattle.run_rules.specs.Tasks.{limit, root_in, search_asked};
+ghost use Rattle.run_rules.specs.{Answers.Says, Read.IsSearchAs, Refusals.{refusal_line, refused_at, refused_word}, Tasks.{limit, root_in, search_asked}};
 ghost use Rattle.run_rules.specs.Steps.{search_for, search_over};
 
 use crate::OutOfMemory;

@@ -2,9 +2,7 @@
 
 ghost use Rattle.std.specs.Prelude.{◌≡◌, true, IfOk};
 ghost use Rattle.collective_spec.specs.Collectives.{fits_kind};
-ghost use Rattle.run_rules.specs.Tasks.{searchable};
-ghost use Rattle.run_rules.specs.Steps.{whole_question};
-ghost use Rattle.run_rules.specs.Read.{IsSearchableAs};
+ghost use Rattle.run_rules.specs.{Tasks.searchable, Steps.whole_question, Read.IsSearchableAs};
 
 use crate::OutOfMemory;
 use crate::answer::{Answer, refusal};

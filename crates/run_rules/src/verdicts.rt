@@ -2,10 +2,7 @@
 
 ghost use Rattle.std.specs.Prelude.{◌≡◌, ◌++◌, IfOk, OnOk};
 ghost use Rattle.outer_ports.specs.Files.{candidate_word, part_prefix};
-ghost use Rattle.run_rules.specs.Answers.{Says};
-ghost use Rattle.run_rules.specs.Audits.{not_denied};
-ghost use Rattle.run_rules.specs.Steps.{verdict_status, verdict_text};
-ghost use Rattle.run_rules.specs.Commands.{IsRefusal};
+ghost use Rattle.run_rules.specs.{Answers.Says, Audits.not_denied, Steps.{verdict_status, verdict_text}, Commands.IsRefusal};
 
 use crate::OutOfMemory;
 use crate::answer::{Answer, refusal_at};

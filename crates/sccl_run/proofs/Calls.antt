@@ -3,16 +3,11 @@ use Rattle.std.proofs.Common.{◌≡◌, ◌≢◌, ◌==◌, ◌||◌, ◌++◌
 use Rattle.std.specs.List.{list_any}
 use Rattle.outer_ports.specs.Port.{Rose}
 use Rattle.command_words.specs.declared.command.JsonWhat.TheVariants as what
-use Rattle.command_words.specs.declared.command.Command.{Command}
+use Rattle.command_words.specs.{declared.{command.Command.Command, fault.WordFault.WordFault}, Words.command_of}
 use Rattle.command_words.specs.declared.command.Command.TheVariants as command
-use Rattle.command_words.specs.declared.fault.WordFault.{WordFault}
-use Rattle.command_words.specs.Words.{command_of}
-use Rattle.run_rules.specs.declared.status.Status.{Status}
-use Rattle.run_rules.specs.declared.status.Status.TheVariants.{OutOfMemory, BadWords, SourceFailed, SinkFailed, ShelfFailed}
+use Rattle.run_rules.specs.{declared.status.Status.{Status, TheVariants.{OutOfMemory, BadWords, SourceFailed, SinkFailed, ShelfFailed}}, Statuses.number_of}
 use Rattle.run_rules.specs.Commands.{Ask, Opens, Reads, IsOneOf, IsRefusal, answers_of, ends_of, row_of}
-use Rattle.run_rules.specs.Statuses.{number_of}
-use Rattle.sccl_run.specs.inner.Answering.{Answers}
-use Rattle.sccl_run.specs.TopCall.{CountValue, EndsIfItFails, IsTopCall, IsSilent}
+use Rattle.sccl_run.specs.{inner.Answering.Answers, TopCall.{CountValue, EndsIfItFails, IsTopCall, IsSilent}}
 
 -- ---- lists of statuses
 

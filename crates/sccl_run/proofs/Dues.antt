@@ -1,16 +1,10 @@
 -- What is due, by the command that the words ask for and the bytes that came.
 use Rattle.std.proofs.Common.{◌≡◌, ◌<◌, ◌≤◌, ◌+◌, ℕ, Bool, true, false, IsTrue, nat_lt, length, drop, List, [], replicate, Ok, Err, refl, sym, subst, ap, arith, ◌∙◌}
-use Rattle.std.proofs.lemmas.Bool.{lt-ltb}
-use Rattle.std.proofs.lemmas.List.{drop_all, length-replicate}
+use Rattle.std.proofs.lemmas.{Bool.lt-ltb, List.{drop_all, length-replicate}}
 use Rattle.text_lines.specs.Check.{◌>>=◌}
-use Rattle.command_words.specs.declared.command.Command.{Command}
-use Rattle.command_words.specs.declared.fault.WordFault.{WordFault}
-use Rattle.command_words.specs.Words.{command_of}
-use Rattle.run_rules.specs.declared.status.Status.TheVariants.{TooLong}
-use Rattle.run_rules.specs.Commands.{Ask, Reads, row_of}
-use Rattle.run_rules.specs.Refusals.{refused_at, refused_word}
+use Rattle.command_words.specs.{declared.{command.Command.Command, fault.WordFault.WordFault}, Words.command_of}
+use Rattle.run_rules.specs.{declared.status.Status.TheVariants.TooLong, Commands.{Ask, Reads, row_of}, Refusals.{refused_at, refused_word}, Steps.whole_text}
 use Rattle.run_rules.specs.Tasks.{due, limit, task_of, words_asked}
-use Rattle.run_rules.specs.Steps.{whole_text}
 use Rattle.json_command.proofs.ComesBack.{short_whole}
 use Rattle.sccl_run.specs.inner.Answering.{due_for}
 

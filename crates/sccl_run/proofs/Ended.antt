@@ -1,30 +1,17 @@
 -- How a right run ends, by what is due for its words and the bytes that its source had.
 use Rattle.std.proofs.Common.{◌≡◌, ℕ, List, [], Result, Ok, Err, refl, sym, subst, ap, ◌∙◌}
 use Rattle.command_words.specs.declared.command.JsonWhat.TheVariants as what
-use Rattle.command_words.specs.declared.command.Command.{Command}
+use Rattle.command_words.specs.{declared.{command.Command.Command, fault.WordFault.WordFault}, Words.command_of}
 use Rattle.command_words.specs.declared.command.Command.TheVariants as command
-use Rattle.command_words.specs.declared.fault.WordFault.{WordFault}
-use Rattle.command_words.specs.Words.{command_of}
 use Rattle.text_lines.specs.Check.{◌>>=◌}
-use Rattle.report_form.specs.Answer.{code_number as report_number}
-use Rattle.report_form.specs.Reports.{ReportValue}
-use Rattle.report_form.specs.Spelling.{report_text}
-use Rattle.report_form.specs.Reading.{report_of}
-use Rattle.report_laws.specs.Shapes.{ReadsAs}
-use Rattle.report_laws.proofs.Readings.{only_read_as}
-use Rattle.json_values.specs.Answer.{code_number as json_number}
-use Rattle.json_values.specs.Json.{printed}
-use Rattle.json_forms.proofs.ReadJson.{readers_alike}
-use Rattle.json_forms.specs.ReportForm.{report as report_form}
-use Rattle.run_rules.specs.declared.status.Status.TheVariants.{BadJson, BadReport}
-use Rattle.run_rules.specs.Commands.{Ask, Reads, row_of}
-use Rattle.run_rules.specs.Refusals.{Refusal, refused_as}
+use Rattle.report_form.specs.{Answer.code_number as report_number, Reports.ReportValue, Spelling.report_text, Reading.report_of}
+use Rattle.report_laws.{specs.Shapes.ReadsAs, proofs.Readings.only_read_as}
+use Rattle.json_values.specs.{Answer.code_number as json_number, Json.printed}
+use Rattle.json_forms.{proofs.ReadJson.readers_alike, specs.ReportForm.report as report_form}
+use Rattle.run_rules.specs.{declared.status.Status.TheVariants.{BadJson, BadReport}, Commands.{Ask, Reads, row_of}, Refusals.{Refusal, refused_as}}
 use Rattle.run_rules.specs.Tasks.{Task, Write, Reader, due, due_by, json_programs_in, report_by, task_by, words_asked}
 use Rattle.run_rules.specs.Steps.{audit_in, degrade_in, programs_in, replay_in, whole_text}
-use Rattle.sccl_run.specs.inner.Answering.{due_for}
-use Rattle.sccl_run.specs.Laws.{IsRightRun}
-use Rattle.sccl_run.specs.Rows.{all_tell}
-use Rattle.sccl_run.specs.TopCall.{CountValue, IsEnd, RunValue}
+use Rattle.sccl_run.specs.{inner.Answering.due_for, Laws.IsRightRun, Rows.all_tell, TopCall.{CountValue, IsEnd, RunValue}}
 use Rattle.sccl_run.proofs.Dues.{due_command, due_refused}
 
 -- what is not read decides nothing

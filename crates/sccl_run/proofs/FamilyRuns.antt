@@ -1,25 +1,15 @@
 -- Runs whose words ask for a family.
-use Rattle.std.proofs.Common.{◌≡◌, ◌≢◌, ◌==◌, ℕ, suc, zero, Bool, true, false, List, [], ◌∷◌, take, inl, inr, Ok, refl, sym, subst, ap, ◌∙◌, codes}
-use Rattle.std.specs.Prelude.{bytes_eq}
+use Rattle.std.proofs.Common.{◌≡◌, ◌≢◌, ◌==◌, ℕ, suc, zero, Bool, true, false, List, [], ◌∷◌, take, inl, inr, Ok, refl, sym, subst, ap, ◌∙◌, codes, bytes_eq}
 use Rattle.std.specs.Fmt.{digits}
-use Rattle.topology_text.specs.declared.family_kind.FamilyKind.TheVariants.{Line}
-use Rattle.topology_text.specs.Family.{family_of}
-use Rattle.topology_text.specs.Spelling.{spelling}
-use Rattle.command_words.specs.declared.command.Command.{Command}
+use Rattle.topology_text.specs.{declared.family_kind.FamilyKind.TheVariants.Line, Family.family_of, Spelling.spelling}
+use Rattle.command_words.specs.{declared.command.Command.Command, Words.command_of}
 use Rattle.command_words.specs.declared.command.Command.TheVariants as command
-use Rattle.command_words.specs.Words.{command_of}
 use Rattle.report_form.specs.Reading.{report_of}
 use Rattle.report_laws.proofs.Readings.{read_by_spelling}
-use Rattle.run_rules.specs.declared.status.Status.{Status}
-use Rattle.run_rules.specs.declared.status.Status.TheVariants.{Done, SourceFailed, SinkFailed, ShelfFailed}
-use Rattle.run_rules.specs.Commands.{Ask, Reads}
-use Rattle.run_rules.specs.Tasks.{Write, due}
-use Rattle.run_rules.specs.Rows.{two_nodes_text}
-use Rattle.sccl_run.specs.Laws.{IsRightRun}
-use Rattle.sccl_run.specs.Rows.{all_tell, family_run}
-use Rattle.sccl_run.specs.TopCall.{CountValue, EndsIfItFails, IsEnd, IsSilent}
-use Rattle.sccl_run.proofs.Ended.{ended}
-use Rattle.sccl_run.proofs.RightRuns.{done_answered, done_not_silent}
+use Rattle.run_rules.specs.{declared.status.Status.{Status, TheVariants.{Done, SourceFailed, SinkFailed, ShelfFailed}}, Commands.{Ask, Reads}}
+use Rattle.run_rules.specs.{Tasks.{Write, due}, Rows.two_nodes_text}
+use Rattle.sccl_run.specs.{Laws.IsRightRun, Rows.{all_tell, family_run}, TopCall.{CountValue, EndsIfItFails, IsEnd, IsSilent}}
+use Rattle.sccl_run.proofs.{Ended.ended, RightRuns.{done_answered, done_not_silent}}
 
 is_asked : command_of family_run.words ≡ Ok (command.Family Line 2)
 unfolding command_of digits

@@ -1,49 +1,28 @@
 -- What the other searches print is right, and no schedule is below the floor.
-use Rattle.std.proofs.Common.{◌≡◌, ◌≢◌, ◌<◌, ◌≤◌, ◌*◌, ◌++◌, inl, inr, ℕ, Bool, true, false, not, nat_lt, Option, None, Some, Ok, refl, sym, subst, ap, ◌∙◌, arith}
-use Rattle.std.specs.Prelude.{if◌then◌else◌, slice_get}
+use Rattle.std.proofs.Common.{◌≡◌, ◌≢◌, ◌<◌, ◌≤◌, ◌*◌, ◌++◌, inl, inr, ℕ, Bool, true, false, not, nat_lt, Option, None, Some, Ok, refl, sym, subst, ap, ◌∙◌, arith, if◌then◌else◌, slice_get}
 use Rattle.text_lines.specs.Check.{◌>>=◌, need, refuse}
-use Rattle.outer_ports.specs.declared.part.Part.TheVariants.{Whole}
-use Rattle.outer_ports.specs.Files.{Files}
-use Rattle.schedule.specs.Links.{GroupValue, reversed_of}
-use Rattle.schedule.specs.Sends.{ScheduleValue}
+use Rattle.outer_ports.specs.{declared.part.Part.TheVariants.Whole, Files.Files}
+use Rattle.schedule.specs.{Links.{GroupValue, reversed_of}, Sends.ScheduleValue}
 use Rattle.collective_spec.specs.declared.kind.Kind.TheVariants as kind
-use Rattle.collective_spec.specs.Collectives.{IsSpec, adds_up, kind_in}
-use Rattle.collective_spec.specs.Kinds.{allows}
-use Rattle.collective_spec.proofs.Sized.{fitting_spec}
-use Rattle.candidate_order.specs.declared.candidate.Candidate.{Candidate}
-use Rattle.candidate_order.specs.Copied.{copied_spec}
-use Rattle.candidate_order.specs.Frontiers.{QuestionValue, Achieves}
+use Rattle.collective_spec.{specs.{Collectives.{IsSpec, adds_up, kind_in}, Kinds.allows}, proofs.Sized.fitting_spec}
+use Rattle.candidate_order.specs.{declared.candidate.Candidate.Candidate, Copied.copied_spec, Frontiers.{QuestionValue, Achieves}}
 use Rattle.candidate_formula.specs.Searched.{searched_question}
 use Rattle.topology_text.specs.Value.{NamedTopologyValue}
 use Rattle.command_words.specs.declared.command.Command.TheVariants as command
 use Rattle.command_words.specs.Words.{command_of}
-use Rattle.report_form.specs.Answer.{code_number as report_number}
-use Rattle.report_form.specs.Reports.{ReportValue, WordsValue, kind_of, question_of}
-use Rattle.report_form.specs.Reading.{report_of}
+use Rattle.report_form.specs.{Answer.code_number as report_number, Reports.{ReportValue, WordsValue, kind_of, question_of}, Reading.report_of}
 use Rattle.report_laws.proofs.ReportAgain.{report_again}
-use Rattle.node_cuts.specs.declared.floor.Floor.{Floor}
-use Rattle.node_cuts.specs.declared.sets.Sets.{Sets}
-use Rattle.node_cuts.specs.Floors.{floor_of}
-use Rattle.node_cuts.proofs.Flooring.{floor_bounds}
-use Rattle.cut_bounds.proofs.Bounded.{sums_bound}
-use Rattle.cut_bounds.proofs.Turned.{floor_same}
+use Rattle.node_cuts.{specs.{declared.{floor.Floor.Floor, sets.Sets.Sets}, Floors.floor_of}, proofs.Flooring.floor_bounds}
+use Rattle.cut_bounds.proofs.{Bounded.sums_bound, Turned.floor_same}
 use Rattle.frontier_audit.specs.declared.verdict.AuditVerdict.TheVariants as audit
-use Rattle.frontier_audit.specs.Auditing.{audit_of}
-use Rattle.frontier_audit.proofs.Verified.{report_right}
-use Rattle.run_rules.specs.declared.status.Status.TheVariants.{Done, BadReport}
-use Rattle.run_rules.specs.Audits.{audited}
-use Rattle.run_rules.specs.Degraded.{left_topology}
-use Rattle.run_rules.specs.Refusals.{Refusal, refused_as}
-use Rattle.run_rules.specs.Tasks.{Task, Bound, Order, Degrade, due, fault_in, given_sets, read_report, searchable, task_of}
-use Rattle.run_rules.specs.Steps.{whole_question}
+use Rattle.frontier_audit.{specs.Auditing.audit_of, proofs.Verified.report_right}
+use Rattle.run_rules.specs.{declared.status.Status.TheVariants.{Done, BadReport}, Audits.audited, Degraded.left_topology, Refusals.{Refusal, refused_as}}
+use Rattle.run_rules.specs.{Tasks.{Task, Bound, Order, Degrade, due, fault_in, given_sets, read_report, searchable, task_of}, Steps.whole_question}
 use Rattle.run_rules.proofs.Denied.{accepted_so, not_denied_done}
-use Rattle.sccl_run.specs.Headline.{AsksBound, AsksDegraded, AsksOrdered, IsFloor, PrintsBound, PrintsDegraded, PrintsOrdered}
-use Rattle.sccl_run.specs.Laws.{IsRightRun}
+use Rattle.sccl_run.specs.{Headline.{AsksBound, AsksDegraded, AsksOrdered, IsFloor, PrintsBound, PrintsDegraded, PrintsOrdered}, Laws.IsRightRun}
 use Rattle.sccl_run.specs.TopCall.{CountValue, RunValue}
-use Rattle.sccl_run.proofs.Ended.{ended}
-use Rattle.sccl_run.proofs.Printed.{IsJustOr, behind, due_of_done, due_or, found_one, passed, searchable_or, searches_or, unless}
-use Rattle.sccl_run.proofs.RightRuns.{done_answered}
-use Rattle.sccl_run.proofs.SearchWords.{bound_asked, degrade_asked, ordered_asked, root_word}
+use Rattle.sccl_run.proofs.{Ended.ended, Printed.{IsJustOr, behind, due_of_done, due_or, found_one, passed, searchable_or, searches_or, unless}}
+use Rattle.sccl_run.proofs.{RightRuns.done_answered, SearchWords.{bound_asked, degrade_asked, ordered_asked, root_word}}
 
 -- ---- the floor
 

@@ -1,20 +1,13 @@
 -- Runs that were to keep proofs.
-use Rattle.std.proofs.Common.{◌≡◌, ◌≢◌, ℕ, List, true, arith, inl, inr, Ok, refl}
-use Rattle.std.specs.Fmt.{digits}
-use Rattle.outer_ports.specs.declared.part.Part.TheVariants.{Whole}
-use Rattle.outer_ports.specs.declared.proof_name.FileKind.TheVariants.{Cnf, Lrat}
-use Rattle.outer_ports.specs.Files.{Files}
+use Rattle.std.{proofs.Common.{◌≡◌, ◌≢◌, ℕ, List, true, arith, inl, inr, Ok, refl}, specs.Fmt.digits}
+use Rattle.outer_ports.specs.{declared.{part.Part.TheVariants.Whole, proof_name.FileKind.TheVariants.{Cnf, Lrat}}, Files.Files}
 use Rattle.topology_text.specs.Reading.{pattern_at, topology_of, topology_at, named_at}
 use Rattle.command_words.specs.Words.{command_of}
 use Rattle.report_form.specs.Rows.{relay_report}
 use Rattle.proof_audit.specs.Kept.{BothStay}
 use Rattle.frontier_audit.specs.OwedFiles.{KeepsProofs}
-use Rattle.run_rules.specs.declared.status.Status.{Status}
-use Rattle.run_rules.specs.Tasks.{Synthesise, due}
-use Rattle.sccl_run.specs.Laws.{IsRightRun}
-use Rattle.sccl_run.specs.Rows.{RefuteOneStep, all_tell, kept_search, own_file}
-use Rattle.sccl_run.specs.TopCall.{CountValue, IsEnd}
-use Rattle.sccl_run.proofs.Ended.{ended}
+use Rattle.run_rules.specs.{declared.status.Status.Status, Tasks.{Synthesise, due}}
+use Rattle.sccl_run.{specs.{Laws.IsRightRun, Rows.{RefuteOneStep, all_tell, kept_search, own_file}, TopCall.{CountValue, IsEnd}}, proofs.Ended.ended}
 
 is_search : (status : Status) (text : List ℕ) (before after : Files) → due (kept_search status text before after).words (kept_search status text before after).bytes ≡ Ok (Synthesise relay_report.words relay_report.topology true)
 unfolding due command_of topology_of topology_at named_at pattern_at digits

@@ -4,25 +4,16 @@ use Rattle.text_lines.specs.Check.{◌>>=◌}
 use Rattle.outer_ports.specs.declared.part.Part.{Part}
 use Rattle.candidate_order.specs.Frontiers.{PointValue}
 use Rattle.command_words.specs.declared.command.Command.TheVariants as command
-use Rattle.command_words.specs.declared.command.PointWord.{PointWord}
-use Rattle.command_words.specs.declared.fault.WordCode.TheVariants.{UnknownPoint}
-use Rattle.report_form.specs.declared.fault.ReportCode.{ReportCode}
-use Rattle.report_form.specs.Answer.{code_number}
-use Rattle.report_form.specs.Reports.{ReportValue, IsReport}
-use Rattle.report_form.specs.Spelling.{report_text}
-use Rattle.report_form.specs.Numbered.{point_at}
-use Rattle.report_form.specs.Reading.{report_of}
+use Rattle.command_words.specs.declared.{command.PointWord.PointWord, fault.WordCode.TheVariants.UnknownPoint}
+use Rattle.report_form.specs.{declared.fault.ReportCode.ReportCode, Answer.code_number, Reports.{ReportValue, IsReport}, Spelling.report_text}
+use Rattle.report_form.specs.{Numbered.point_at, Reading.report_of}
 use Rattle.report_form.proofs.ReportTaken.{report_take}
-use Rattle.report_laws.proofs.ReportAgain.{report_again}
-use Rattle.report_laws.proofs.FirstBlamed.{first_is_blamed}
+use Rattle.report_laws.proofs.{ReportAgain.report_again, FirstBlamed.first_is_blamed}
 use Rattle.replay_text.specs.Showing.{shown_in, shown_text}
-use Rattle.run_rules.specs.declared.status.Status.TheVariants.{BadReport}
-use Rattle.run_rules.specs.Refusals.{Refusal, refused_at, refused_as, refused_word}
+use Rattle.run_rules.specs.{declared.status.Status.TheVariants.BadReport, Refusals.{Refusal, refused_at, refused_as, refused_word}, Steps.replay_in}
 use Rattle.run_rules.specs.Tasks.{Task, Write, due, limit, replay_asked}
-use Rattle.run_rules.specs.Steps.{replay_in}
 use Rattle.report_commands.proofs.Pointed.{no_point, some_point}
-use Rattle.sccl_run.specs.Laws.{AskReplay, IsRefusedText, IsTextOf}
-use Rattle.sccl_run.proofs.Dues.{due_command, short_due}
+use Rattle.sccl_run.{specs.Laws.{AskReplay, IsRefusedText, IsTextOf}, proofs.Dues.{due_command, short_due}}
 
 module _ (asked : PointWord) (order : Option ℕ) (bytes : List ℕ) where
   read_as : Result ReportValue (ReportCode × ℕ) → Result Task Refusal

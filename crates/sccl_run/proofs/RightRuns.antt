@@ -2,44 +2,25 @@
 use Rattle.std.proofs.Common.{◌≡◌, ◌++◌, ℕ, Bool, true, false, nat_lt, length, List, [], inl, inr, Result, Ok, Err, refl, sym, subst, ap, ◌∙◌}
 use Rattle.std.proofs.lemmas.List.Elements.{All-contains}
 use Rattle.text_lines.specs.Check.{◌>>=◌, need, refuse}
-use Rattle.topology_text.specs.Answer.{code_number as topology_number}
-use Rattle.topology_text.specs.Reading.{topology_of}
-use Rattle.json_values.specs.Answer.{code_number as json_number}
-use Rattle.json_forms.specs.Reading.{read_json}
+use Rattle.topology_text.specs.{Answer.code_number as topology_number, Reading.topology_of, Value.NamedTopologyValue, Spelling.spelling}
+use Rattle.json_values.specs.{Answer.code_number as json_number, Json.printed}
+use Rattle.json_forms.specs.{Reading.read_json, TopologyForm.topology as topology_form, ReportForm.report as report_form}
 use Rattle.outer_ports.specs.Shelf.{FilesStay}
-use Rattle.topology_text.specs.Value.{NamedTopologyValue}
-use Rattle.candidate_order.specs.Frontiers.{RightFrontier, IsSolvable}
-use Rattle.candidate_order.proofs.Frontiers.{better_refuted}
-use Rattle.report_form.specs.Reading.{report_of}
-use Rattle.report_form.specs.Reports.{WordsValue, ReportValue, question_of}
-use Rattle.frontier_audit.specs.Rights.{IsRight}
-use Rattle.frontier_audit.specs.Parts.{IsRightPart}
-use Rattle.replay_text.specs.Showing.{shown_in, shown_text}
-use Rattle.replay_text.specs.Points.{programs_of_point}
-use Rattle.topology_text.specs.Spelling.{spelling}
-use Rattle.report_form.specs.Spelling.{report_text}
-use Rattle.json_values.specs.Json.{printed}
-use Rattle.json_forms.specs.TopologyForm.{topology as topology_form}
-use Rattle.json_forms.specs.ReportForm.{report as report_form}
-use Rattle.command_words.specs.declared.fault.WordCode.TheVariants.{KeyMissing}
-use Rattle.run_rules.specs.declared.status.Status.{Status}
-use Rattle.command_words.specs.declared.command.JsonWhat.TheVariants as what
-use Rattle.command_words.specs.declared.command.Command.{Command}
-use Rattle.command_words.specs.declared.command.Command.TheVariants as command
-use Rattle.command_words.specs.declared.fault.WordFault.{WordFault}
-use Rattle.command_words.specs.declared.command.PointWord.{PointWord}
+use Rattle.candidate_order.{specs.Frontiers.{RightFrontier, IsSolvable}, proofs.Frontiers.better_refuted}
+use Rattle.report_form.specs.{Reading.report_of, Reports.{WordsValue, ReportValue, question_of}, Spelling.report_text}
+use Rattle.frontier_audit.specs.{Rights.IsRight, Parts.IsRightPart}
+use Rattle.replay_text.specs.{Showing.{shown_in, shown_text}, Points.programs_of_point}
+use Rattle.command_words.specs.declared.{fault.{WordCode.TheVariants.KeyMissing, WordFault.WordFault}, command.{Command.Command, PointWord.PointWord}}
 use Rattle.command_words.specs.Words.{command_of}
+use Rattle.run_rules.specs.{declared.status.Status.Status, Commands.{Ask, Changes, IsOneOf, row_of}, Refusals.{Refusal, refused_as, refused_at, refused_word}}
 use Rattle.run_rules.specs.declared.status.Status.TheVariants.{Done, BadWords, BadTopology, BadJson, TooLong, OutOfMemory, SourceFailed, SinkFailed, ShelfFailed}
-use Rattle.run_rules.specs.Commands.{Ask, Changes, IsOneOf, row_of}
-use Rattle.run_rules.specs.Refusals.{Refusal, refused_as, refused_at, refused_word}
 use Rattle.run_rules.specs.Tasks.{Task, Write, Synthesise, Audit, Try, Bound, Order, Degrade, due, fault_in, json_programs_in, limit, point_in, programs_value, read_report, search_asked, searchable, task_of, words_asked}
 use Rattle.run_rules.specs.Steps.{audit_in, degrade_in, programs_in, replay_in, whole_question, whole_text}
 use Rattle.run_rules.proofs.Ends.{refused_with}
-use Rattle.sccl_run.specs.Laws.{IsRightRun, WritesWith, NoneIsBetter}
-use Rattle.sccl_run.specs.TopCall.{CountValue, IsAnsweredRun, IsEnd, IsSilent, RunValue}
-use Rattle.sccl_run.specs.Rows.{all_tell}
-use Rattle.sccl_run.proofs.Dues.{due_command, due_refused}
-use Rattle.sccl_run.proofs.Ended.{ended}
+use Rattle.command_words.specs.declared.command.JsonWhat.TheVariants as what
+use Rattle.command_words.specs.declared.command.Command.TheVariants as command
+use Rattle.sccl_run.specs.{Laws.{IsRightRun, WritesWith, NoneIsBetter}, TopCall.{CountValue, IsAnsweredRun, IsEnd, IsSilent, RunValue}, Rows.all_tell}
+use Rattle.sccl_run.proofs.{Dues.{due_command, due_refused}, Ended.ended}
 
 -- ---- a run that is done
 

@@ -1,16 +1,10 @@
 -- How a run ends, from what its answer says.
 use Rattle.std.proofs.Common.{◌≡◌, ◌≢◌, ◌⊎◌, ◌++◌, ◌+◌, ◌≤◌, ℕ, Bool, true, false, IsTrue, List, take, drop, inl, inr, refl, subst}
-use Rattle.run_rules.specs.declared.status.Status.{Status}
-use Rattle.run_rules.specs.declared.status.Status.TheVariants.{OutOfMemory, SourceFailed, SinkFailed, ShelfFailed}
-use Rattle.run_rules.specs.declared.halt.Halt.{Halt}
-use Rattle.run_rules.specs.declared.halt.Halt.TheVariants.{Shelf}
-use Rattle.run_rules.specs.Commands.{Ask, Reads}
-use Rattle.run_rules.specs.Tasks.{limit}
+use Rattle.run_rules.specs.declared.{status.Status.{Status, TheVariants.{OutOfMemory, SourceFailed, SinkFailed, ShelfFailed}}, halt.Halt.Halt}
+use Rattle.run_rules.specs.{declared.halt.Halt.TheVariants.Shelf, Commands.{Ask, Reads}, Tasks.{limit, due}}
 use Rattle.report_form.specs.Reading.{report_of}
 use Rattle.report_laws.proofs.Readings.{read_by_spelling}
-use Rattle.run_rules.specs.Tasks.{due}
-use Rattle.sccl_run.specs.inner.Answering.{IsAnswerTo, IsHaltAt, files_of}
-use Rattle.sccl_run.specs.TopCall.{CountValue, IsTopCall, IsRun, LeftIsDue, RunValue, ToldValue}
+use Rattle.sccl_run.specs.{inner.Answering.{IsAnswerTo, IsHaltAt, files_of}, TopCall.{CountValue, IsTopCall, IsRun, LeftIsDue, RunValue, ToldValue}}
 
 -- ---- what is left of the source
 

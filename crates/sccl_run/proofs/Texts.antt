@@ -2,21 +2,12 @@
 use Rattle.std.proofs.Common.{◌≡◌, ◌<◌, ℕ, Bool, IsTrue, List, Option, None, Some, Result, Ok, Err, IfOk, IfErr, IfSome, IfNone, OnErr, Vec, Global, length, refl, sym, subst, ap, ◌∙◌}
 use Rattle.std.proofs.lemmas.Result.{IfOk-weaker}
 use Rattle.outer_ports.specs.Shelf.{FilesStay}
-use Rattle.command_words.specs.declared.command.Command.{Command}
-use Rattle.command_words.specs.declared.fault.WordFault.{WordFault}
-use Rattle.command_words.specs.Words.{command_of}
-use Rattle.run_rules.specs.declared.answer.Answer.{Answer}
-use Rattle.run_rules.specs.declared.halt.Halt.{Halt}
-use Rattle.run_rules.specs.declared.halt.Halt.TheVariants.{Shelf}
-use Rattle.run_rules.specs.declared.status.Status.{Status}
-use Rattle.run_rules.specs.declared.status.Status.TheVariants.{BadWords}
-use Rattle.run_rules.specs.Answers.{FilesValue, IsAnswer, LeavesOff, Says, Stay}
-use Rattle.run_rules.specs.Commands.{Ask, Reads}
-use Rattle.run_rules.specs.Refusals.{Refusal, refusal_line, refused_word}
+use Rattle.command_words.specs.{declared.{command.Command.Command, fault.WordFault.WordFault}, Words.command_of}
+use Rattle.run_rules.specs.declared.{answer.Answer.Answer, halt.Halt.{Halt, TheVariants.Shelf}, status.Status.{Status, TheVariants.BadWords}}
+use Rattle.run_rules.specs.{Answers.{FilesValue, IsAnswer, LeavesOff, Says, Stay}, Commands.{Ask, Reads}, Refusals.{Refusal, refusal_line, refused_word}}
 use Rattle.run_rules.specs.Tasks.{due, limit}
 use Rattle.run_rules.proofs.Answered.{nothing_left_off, refused_answers}
-use Rattle.sccl_run.specs.inner.Answering.{IsAnswerTo, IsHaltAt, due_for}
-use Rattle.sccl_run.proofs.Dues.{asks_one, due_command, due_refused, too_many}
+use Rattle.sccl_run.{specs.inner.Answering.{IsAnswerTo, IsHaltAt, due_for}, proofs.Dues.{asks_one, due_command, due_refused, too_many}}
 
 -- ---- what came
 

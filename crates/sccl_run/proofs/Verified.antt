@@ -1,51 +1,27 @@
 -- What a search wrote, checked over the files that it left.
 use Rattle.std.proofs.Common.{◌≡◌, ◌⊎◌, ◌≤◌, ◌++◌, inl, inr, ℕ, Bool, List, [], ◌∷◌, length, Result, Ok, Err, codes, map, refl, append-nil, sym, subst, ap, ◌∙◌}
-use Rattle.std.proofs.lemmas.List.{append_cancel_left}
-use Rattle.std.proofs.lemmas.List.Elements.{All-contains}
-use Rattle.std.specs.Fmt.{digits}
+use Rattle.std.{proofs.lemmas.List.{append_cancel_left, Elements.All-contains}, specs.Fmt.digits}
 use Rattle.text_lines.specs.Check.{◌>>=◌, need}
-use Rattle.outer_ports.specs.declared.part.Part.{Part}
+use Rattle.outer_ports.specs.{declared.part.Part.Part, Files.Files, Shelf.FilesStay}
 use Rattle.outer_ports.specs.declared.part.Part.TheVariants as part
-use Rattle.outer_ports.specs.Files.{Files}
-use Rattle.outer_ports.specs.Shelf.{FilesStay}
 use Rattle.collective_spec.specs.declared.kind.Kind.TheVariants as kind
 use Rattle.candidate_order.specs.Frontiers.{FrontierValue}
-use Rattle.topology_text.specs.Value.{NamedTopologyValue}
-use Rattle.topology_text.specs.Answer.{code_number as topology_number}
-use Rattle.topology_text.specs.Reading.{topology_of}
+use Rattle.topology_text.specs.{Value.NamedTopologyValue, Answer.code_number as topology_number, Reading.topology_of}
 use Rattle.allreduce_join.specs.Joins.{Joins}
-use Rattle.command_words.specs.declared.command.SearchWords.{SearchWords}
+use Rattle.command_words.specs.{declared.command.{SearchWords.SearchWords, Command.Command}, Words.command_of}
 use Rattle.json_values.specs.Answer.{code_number as json_number}
-use Rattle.json_forms.specs.Reading.{read_json}
-use Rattle.json_forms.specs.TopologyForm.{topology as topology_form}
-use Rattle.json_forms.specs.ReportForm.{report as report_form}
+use Rattle.json_forms.specs.{Reading.read_json, TopologyForm.topology as topology_form, ReportForm.report as report_form}
 use Rattle.command_words.specs.declared.command.JsonWhat.TheVariants as what
-use Rattle.command_words.specs.declared.command.Command.{Command}
 use Rattle.command_words.specs.declared.command.Command.TheVariants as command
-use Rattle.command_words.specs.Words.{command_of}
-use Rattle.report_form.specs.Answer.{code_number as report_number}
-use Rattle.report_form.specs.Reports.{ReportValue, WordsValue, parts_of}
-use Rattle.report_form.specs.Reading.{report_of}
-use Rattle.report_form.specs.Spelling.{report_text}
+use Rattle.report_form.specs.{Answer.code_number as report_number, Reports.{ReportValue, WordsValue, parts_of}, Reading.report_of, Spelling.report_text}
 use Rattle.report_laws.proofs.ReportAgain.{report_again}
-use Rattle.frontier_audit.specs.Shelves.{ShelfRight}
-use Rattle.frontier_audit.specs.Rights.{AreJoined, IsRight}
-use Rattle.frontier_audit.specs.Parts.{IsRightPart, is_reduce, is_gather, points_of}
-use Rattle.frontier_audit.specs.OwedFiles.{Proves}
-use Rattle.frontier_audit.proofs.Proved.{proves_right}
-use Rattle.frontier_audit.proofs.Right.{right_verified}
-use Rattle.run_rules.specs.declared.status.Status.TheVariants.{Done, SinkFailed, BadTopology, BadReport, BadJson}
-use Rattle.run_rules.specs.Refusals.{Refusal, refused_as}
-use Rattle.run_rules.specs.Commands.{row_of}
+use Rattle.frontier_audit.specs.{Shelves.ShelfRight, Rights.{AreJoined, IsRight}, Parts.{IsRightPart, is_reduce, is_gather, points_of}, OwedFiles.Proves}
+use Rattle.frontier_audit.proofs.{Proved.proves_right, Right.right_verified}
+use Rattle.run_rules.specs.{declared.status.Status.TheVariants.{Done, SinkFailed, BadTopology, BadReport, BadJson}, Refusals.{Refusal, refused_as}}
+use Rattle.run_rules.specs.{Commands.row_of, Steps.{fitting, whole_question, words_for, whole_text}, Audits.{audited, not_denied}}
 use Rattle.run_rules.specs.Tasks.{Task, Synthesise, Audit, Degrade, due, fault_in, limit, point_in, read_report, root_in, search_asked, searchable, task_of, words_asked}
-use Rattle.run_rules.specs.Steps.{fitting, whole_question, words_for, whole_text}
-use Rattle.run_rules.specs.Audits.{audited, not_denied}
-use Rattle.sccl_run.specs.Laws.{IsRightRun}
-use Rattle.sccl_run.specs.TopCall.{CountValue, IsEnd, IsSilent, RunValue}
-use Rattle.sccl_run.specs.Rows.{all_tell}
-use Rattle.sccl_run.proofs.Dues.{due_command, short_due}
-use Rattle.sccl_run.proofs.Ended.{ended}
-use Rattle.sccl_run.proofs.RightRuns.{done_answered}
+use Rattle.sccl_run.specs.{Laws.IsRightRun, TopCall.{CountValue, IsEnd, IsSilent, RunValue}, Rows.all_tell}
+use Rattle.sccl_run.proofs.{Dues.{due_command, short_due}, Ended.ended, RightRuns.done_answered}
 
 -- ---- a search that is due is small enough, and has a candidate
 

@@ -1,43 +1,24 @@
 -- Runs that are not right.
-use Rattle.std.proofs.Common.{◌≡◌, ℕ, false, zero, suc, Any, map, ap, arith, subst, List, [], ◌∷◌, None, Some, Ok, Err, inl, inr, refl, sym, ◌∙◌, codes}
-use Rattle.std.specs.Prelude.{bytes_eq}
-use Rattle.std.specs.Fmt.{digits}
-use Rattle.std.proofs.lemmas.Option.{none-some}
-use Rattle.outer_ports.specs.declared.part.Part.{Part}
-use Rattle.outer_ports.specs.declared.part.Part.TheVariants.{Whole, Joined}
-use Rattle.outer_ports.specs.declared.proof_name.FileKind.TheVariants.{Cnf, Lrat}
-use Rattle.outer_ports.specs.declared.proof_name.ProofName.{ProofName}
+use Rattle.std.proofs.Common.{◌≡◌, ℕ, false, zero, suc, Any, map, ap, arith, subst, List, [], ◌∷◌, None, Some, Ok, Err, inl, inr, refl, sym, ◌∙◌, codes, bytes_eq}
+use Rattle.std.{specs.Fmt.digits, proofs.lemmas.Option.none-some}
+use Rattle.outer_ports.specs.declared.{part.Part.{Part, TheVariants.{Whole, Joined}}, proof_name.{FileKind.TheVariants.{Cnf, Lrat}, ProofName.ProofName}}
 use Rattle.outer_ports.specs.Files.{Files}
-use Rattle.topology_text.specs.declared.family_kind.FamilyKind.TheVariants.{Line}
-use Rattle.topology_text.specs.Family.{family_of}
-use Rattle.topology_text.specs.Reading.{pattern_at, topology_of, topology_at, named_at}
+use Rattle.topology_text.specs.{declared.family_kind.FamilyKind.TheVariants.Line, Family.family_of, Reading.{pattern_at, topology_of, topology_at, named_at}}
 use Rattle.collective_spec.specs.declared.kind.Kind.TheVariants.{Broadcast}
 use Rattle.command_words.specs.Words.{command_of}
-use Rattle.candidate_order.specs.Frontiers.{FrontierValue, QuestionValue}
-use Rattle.candidate_order.specs.Ranges.{unpruned}
-use Rattle.candidate_order.specs.declared.mark.Mark.TheVariants.{Optimal}
+use Rattle.candidate_order.specs.{Frontiers.{FrontierValue, QuestionValue}, Ranges.unpruned, declared.mark.Mark.TheVariants.Optimal}
 use Rattle.schedule.specs.Rows.{send}
-use Rattle.report_form.specs.Reports.{WordsValue, parts_of, question_of}
-use Rattle.report_form.specs.Rows.{broadcast_report, one_point, point}
-use Rattle.report_form.specs.Spelling.{report_text}
+use Rattle.report_form.specs.{Reports.{WordsValue, parts_of, question_of}, Rows.{broadcast_report, one_point, point}, Spelling.report_text}
 use Rattle.report_form.specs.Reading.{body_of, report_of}
 use Rattle.report_form.proofs.Blamed.{broadcast_read}
 use Rattle.report_laws.proofs.ReportAgain.{report_again}
-use Rattle.candidate_formula.specs.Files.{FrontierFiles}
-use Rattle.candidate_formula.specs.Pruned.{HasOwnFiles}
+use Rattle.candidate_formula.specs.{Files.FrontierFiles, Pruned.HasOwnFiles}
 use Rattle.frontier_audit.specs.OwedFiles.{Proves}
-use Rattle.run_rules.specs.declared.status.Status.{Status}
-use Rattle.run_rules.specs.declared.status.Status.TheVariants.{SourceFailed, SinkFailed, ShelfFailed, BadReport}
-use Rattle.run_rules.specs.Refusals.{refusal_line, refused_at}
-use Rattle.run_rules.specs.Tasks.{Synthesise, due}
-use Rattle.run_rules.specs.Answers.{IsSearch}
-use Rattle.sccl_run.specs.Laws.{IsRightRun}
-use Rattle.sccl_run.specs.Rows.{all_tell, done_search, failed_search, no_files, own_file, refused_check}
+use Rattle.run_rules.specs.{declared.status.Status.{Status, TheVariants.{SourceFailed, SinkFailed, ShelfFailed, BadReport}}, Tasks.{Synthesise, due}}
+use Rattle.run_rules.specs.{Refusals.{refusal_line, refused_at}, Answers.IsSearch}
+use Rattle.sccl_run.specs.{Laws.IsRightRun, Rows.{all_tell, done_search, failed_search, no_files, own_file, refused_check}, inner.Answering.files_of}
 use Rattle.sccl_run.specs.TopCall.{CountValue, IsEnd, IsSilent}
-use Rattle.sccl_run.specs.inner.Answering.{files_of}
-use Rattle.sccl_run.proofs.Ended.{ended}
-use Rattle.sccl_run.proofs.FamilyRuns.{differ}
-use Rattle.sccl_run.proofs.RightRuns.{answered, done_answered}
+use Rattle.sccl_run.proofs.{Ended.ended, FamilyRuns.differ, RightRuns.{answered, done_answered}}
 
 some_name : ProofName
 some_name = record { kind = Cnf; part = Whole; s = 1; r = 1; c = 1 }

@@ -2,22 +2,14 @@
 use Rattle.std.specs.Prelude.{◌≡◌, ◌≢◌, ℕ, ◌*◌, ◌≤◌, Bool, true, false, List, [], ◌∷◌, ◌++◌, drop, length, All, Contains, codes, decimal}
 use Rattle.outer_ports.specs.declared.part.Part.TheVariants.{Whole}
 use Rattle.schedule.specs.Sends.{ScheduleValue}
-use Rattle.collective_spec.specs.declared.kind.Kind.TheVariants.{Allreduce}
-use Rattle.collective_spec.specs.Collectives.{adds_up, kind_in, fits_kind}
-use Rattle.collective_spec.specs.Kinds.{allows}
-use Rattle.candidate_order.specs.declared.candidate.Candidate.{Candidate}
-use Rattle.candidate_order.specs.Ranges.{unpruned}
-use Rattle.candidate_order.specs.Costs.{NoWorse}
+use Rattle.collective_spec.specs.{declared.kind.Kind.TheVariants.Allreduce, Collectives.{adds_up, kind_in, fits_kind}, Kinds.allows}
+use Rattle.candidate_order.specs.{declared.candidate.Candidate.Candidate, Ranges.unpruned, Costs.NoWorse}
 use Rattle.candidate_order.specs.Frontiers.{QuestionValue, PointValue, FrontierValue, Achieves, IsWithin, RightFrontier, WastesNothing}
-use Rattle.topology_text.specs.Value.{NamedTopologyValue, IsNamed}
-use Rattle.topology_text.specs.Spelling.{spelling}
-use Rattle.report_form.specs.Reports.{WordsValue, ReportValue, IsWords, IsReport, question_of}
-use Rattle.report_form.specs.Spelling.{report_text, synth_words, word_if}
+use Rattle.topology_text.specs.{Value.{NamedTopologyValue, IsNamed}, Spelling.spelling}
+use Rattle.report_form.specs.{Reports.{WordsValue, ReportValue, IsWords, IsReport, question_of}, Spelling.{report_text, synth_words, word_if}}
 use Rattle.node_cuts.specs.declared.floor.Floor.{Floor}
 use Rattle.frontier_audit.specs.Rights.{IsRight}
-use Rattle.run_rules.specs.Tasks.{given_sets}
-use Rattle.run_rules.specs.Bounds.{bound_lines, bound_text, floor_words}
-use Rattle.run_rules.specs.Orders.{ordered_text}
+use Rattle.run_rules.specs.{Tasks.given_sets, Bounds.{bound_lines, bound_text, floor_words}, Orders.ordered_text}
 use Rattle.run_rules.specs.Degraded.{degraded_text, left_topology, old_refuted}
 
 -- ---- what is asked for

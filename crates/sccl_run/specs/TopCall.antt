@@ -1,15 +1,10 @@
 -- The theorem of the top call. A run is answered, or not written whole, or halted; and which answer it is the words and the bytes decide.
 use Rattle.std.specs.Prelude.{◌≡◌, ◌≢◌, ◌⊎◌, ℕ, ◌+◌, ◌≤◌, Bool, IsTrue, List, ◌∷◌, ◌++◌, take, drop, Result, Err}
-use Rattle.outer_ports.specs.Files.{Files}
-use Rattle.outer_ports.specs.Port.{Rose}
+use Rattle.outer_ports.specs.{Files.Files, Port.Rose}
 use Rattle.command_words.specs.Words.{command_of}
 use Rattle.report_laws.specs.Shapes.{ReadsAs}
-use Rattle.run_rules.specs.declared.status.Status.{Status}
-use Rattle.run_rules.specs.declared.status.Status.TheVariants.{OutOfMemory, SourceFailed, SinkFailed, ShelfFailed}
-use Rattle.run_rules.specs.Commands.{Ask, Reads, Opens, IsOneOf, IsRefusal, ends_of}
-use Rattle.run_rules.specs.Refusals.{Refusal}
-use Rattle.run_rules.specs.Tasks.{Task, Reader, limit, due_by}
-use Rattle.run_rules.specs.Answers.{IsAnswer, LeavesOff}
+use Rattle.run_rules.specs.{declared.status.Status.{Status, TheVariants.{OutOfMemory, SourceFailed, SinkFailed, ShelfFailed}}, Refusals.Refusal}
+use Rattle.run_rules.specs.{Commands.{Ask, Reads, Opens, IsOneOf, IsRefusal, ends_of}, Tasks.{Task, Reader, limit, due_by}, Answers.{IsAnswer, LeavesOff}}
 
 -- ---- every run, whatever the ports tell
 

@@ -3,9 +3,7 @@
 ghost use Rattle.std.specs.Prelude.{◌≡◌, ◌≢◌, ◌<◌, ◌≤◌, ℕ, List, length, IsTrue, IfOk, IfSome, IfNone, OnErr, Err};
 ghost use Rattle.outer_ports.specs.Port.{HasCause, Tells};
 ghost use Rattle.command_words.specs.Commands.{IsProper};
-ghost use Rattle.run_rules.specs.Answers.{IsAnswer, LeavesOff};
-ghost use Rattle.run_rules.specs.Commands.{IsOneOf, IsRefusal, Opens, Reads, answers_of};
-ghost use Rattle.run_rules.specs.Refusals.{Refusal};
+ghost use Rattle.run_rules.specs.{Answers.{IsAnswer, LeavesOff}, Commands.{IsOneOf, IsRefusal, Opens, Reads, answers_of}, Refusals.Refusal};
 ghost use Rattle.run_rules.specs.Tasks.{limit, task_of};
 ghost use Rattle.sccl_run.specs.inner.Answering.{due_for};
 

@@ -1,10 +1,8 @@
 //! Topologies of families.
 
 ghost use Rattle.std.specs.Prelude.{IsTrue, IfOk, Ok};
-ghost use Rattle.topology_text.specs.Family.{family_of, is_allowed};
-ghost use Rattle.topology_text.specs.Spelling.{spelling};
-ghost use Rattle.run_rules.specs.Answers.{IsAnswerAlone};
-ghost use Rattle.run_rules.specs.Tasks.{Write};
+ghost use Rattle.topology_text.specs.{Family.{family_of, is_allowed}, Spelling.spelling};
+ghost use Rattle.run_rules.specs.{Answers.IsAnswerAlone, Tasks.Write};
 
 use run_rules::{Answer, OutOfMemory, Status};
 use std::alloc::Global;

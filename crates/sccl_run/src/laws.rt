@@ -2,20 +2,13 @@
 
 ghost use Rattle.std.specs.Prelude.{◌≡◌, ◌≢◌, ◌⊎◌, ◌≤◌, ◌∷◌, ◌++◌, ℕ, Bool, List, [], codes, length, Option, None, Some, Ok, Err};
 ghost use Rattle.topology_text.specs.Value.{NamedTopologyValue};
-ghost use Rattle.outer_ports.specs.declared.part.Part.{Part};
-ghost use Rattle.outer_ports.specs.Files.{Files};
-ghost use Rattle.outer_ports.specs.Shelf.{FilesStay};
+ghost use Rattle.outer_ports.specs.{declared.part.Part.Part, Files.Files, Shelf.FilesStay};
 ghost use Rattle.candidate_order.specs.Frontiers.{PointValue};
 ghost use Rattle.replay_text.specs.Showing.{shown_in, shown_text};
-ghost use Rattle.report_form.specs.Reports.{IsReport, ReportValue, WordsValue};
-ghost use Rattle.report_form.specs.Numbered.{point_at};
-ghost use Rattle.report_form.specs.Spelling.{report_text};
-ghost use Rattle.run_rules.specs.Commands.{Ask, Changes};
-ghost use Rattle.run_rules.specs.Refusals.{Refusal, refused_word};
-ghost use Rattle.run_rules.specs.Tasks.{Synthesise, Write, due, limit};
-ghost use Rattle.sccl_run.specs.TopCall.{CountValue, IsSilent, RunValue};
+ghost use Rattle.report_form.specs.{Reports.{IsReport, ReportValue, WordsValue}, Numbered.point_at, Spelling.report_text};
+ghost use Rattle.run_rules.specs.{Commands.{Ask, Changes}, Refusals.{Refusal, refused_word}, Tasks.{Synthesise, Write, due, limit}};
+ghost use Rattle.sccl_run.specs.{TopCall.{CountValue, IsSilent, RunValue}, Laws.{AskReplay, IsRefusedText, IsRightRun, IsTextOf, NoneIsBetter, WritesWith}};
 ghost use Rattle.sccl_run.specs.Rows.{RefuteOneStep, done_search, failed_search, family_run, kept_search, own_file, refused_check};
-ghost use Rattle.sccl_run.specs.Laws.{AskReplay, IsRefusedText, IsRightRun, IsTextOf, NoneIsBetter, WritesWith};
 
 use command_words::WordCode;
 use outer_ports::FileKind;

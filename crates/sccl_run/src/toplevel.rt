@@ -3,10 +3,8 @@
 ghost use Rattle.std.specs.Prelude.{◌≡◌, ◌⊎◌, ◌+◌, ◌≤◌, ℕ, IsTrue, Err, IfOk, IfErr, drop};
 ghost use Rattle.outer_ports.specs.Port.{HasCause, Tells};
 ghost use Rattle.command_words.specs.Words.{command_of, texts};
-ghost use Rattle.run_rules.specs.Commands.{Ask, IsRefusal, Opens, Reads};
-ghost use Rattle.run_rules.specs.Tasks.{limit};
-ghost use Rattle.sccl_run.specs.inner.Answering.{Answers, IsAnswerTo, IsHaltAt};
-ghost use Rattle.sccl_run.specs.TopCall.{IsRun};
+ghost use Rattle.run_rules.specs.{Commands.{Ask, IsRefusal, Opens, Reads}, Tasks.limit};
+ghost use Rattle.sccl_run.specs.{inner.Answering.{Answers, IsAnswerTo, IsHaltAt}, TopCall.IsRun};
 
 use crate::commands::text_answer;
 use crate::source_text::source_text;

@@ -1,6 +1,5 @@
 -- Bags: how often each node has contributed (Cai et al., PPoPP 2021, collectives that combine chunks; the counts are this project's own).
-use Rattle.std.specs.Prelude.{◌==◌, ℕ, ◌+◌, Bool, if◌then◌else◌, List, map, min}
-use Rattle.std.specs.List.{list_all, range_with_len, zip}
+use Rattle.std.specs.{Prelude.{◌==◌, ℕ, ◌+◌, Bool, if◌then◌else◌, List, map, min}, List.{list_all, range_with_len, zip}}
 use Rattle.schedule.specs.Placed.{PlacementValue, holds, all_pairs}
 
 -- how often each node has contributed, by node

@@ -1,15 +1,8 @@
 -- What each verdict says: which part of the claim that a schedule solves an instance fails, links coming before bandwidth and bandwidth before the pairs that are demanded (this project's own order).
 use Rattle.std.specs.Prelude.{◌≡◌, ◌↔◌, ◌==◌, ◌&&◌, ◌||◌, ℕ, ◌*◌, ◌<◌, ◌≤◌, Bool, true, false, nat_lt, length, sum, All, Contains}
-use Rattle.schedule.specs.declared.hop.Hop.{Hop}
-use Rattle.schedule.specs.declared.verdict.Verdict.{Verdict}
+use Rattle.schedule.specs.{declared.{hop.Hop.Hop, verdict.Verdict.Verdict}, Links.{TopologyValue, is_usable}, Placed.{PlacementValue, holds}, Running.after}
+use Rattle.schedule.specs.{Sends.{ScheduleValue, IsStep, link_of, hop_before}, Fitting.{Fits, load, rounds_at}, Solving.Solves, Judging.group_at}
 use Rattle.schedule.specs.declared.verdict.Verdict.TheVariants as verdict
-use Rattle.schedule.specs.Links.{TopologyValue, is_usable}
-use Rattle.schedule.specs.Sends.{ScheduleValue, IsStep, link_of, hop_before}
-use Rattle.schedule.specs.Placed.{PlacementValue, holds}
-use Rattle.schedule.specs.Running.{after}
-use Rattle.schedule.specs.Fitting.{Fits, load, rounds_at}
-use Rattle.schedule.specs.Solving.{Solves}
-use Rattle.schedule.specs.Judging.{group_at}
 
 -- every send has a usable link
 abbrev pub AllUsable : TopologyValue → ScheduleValue → Type 0

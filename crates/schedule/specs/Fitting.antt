@@ -1,8 +1,6 @@
 -- Bandwidth (Cai et al., PPoPP 2021, section on bandwidth constraints).
 use Rattle.std.specs.Prelude.{◌≡◌, ◌==◌, ◌&&◌, ℕ, ◌-◌, ◌*◌, ◌<◌, ◌≤◌, true, List, length, All, slice_index_or, count_by}
-use Rattle.schedule.specs.declared.hop.Hop.{Hop}
-use Rattle.schedule.specs.Links.{GroupValue, TopologyValue, has_link, is_usable}
-use Rattle.schedule.specs.Sends.{ScheduleValue, link_of}
+use Rattle.schedule.specs.{declared.hop.Hop.Hop, Links.{GroupValue, TopologyValue, has_link, is_usable}, Sends.{ScheduleValue, link_of}}
 
 -- how many sends of the step have their link in the group
 abbrev pub load : GroupValue → ℕ → List Hop → ℕ

@@ -1,7 +1,6 @@
 -- The inverse of a schedule: it runs backwards, over links turned round (Cai et al., PPoPP 2021, inversion).
 use Rattle.std.specs.Prelude.{ℕ, ◌+◌, ◌-◌, if◌then◌else◌, List, [], ◌∷◌, length, map, reverse}
-use Rattle.schedule.specs.declared.hop.Hop.{Hop}
-use Rattle.schedule.specs.Sends.{ScheduleValue, hop_before}
+use Rattle.schedule.specs.{declared.hop.Hop.Hop, Sends.{ScheduleValue, hop_before}}
 
 -- the send back, in the step that is as far from the last as its own is from the first
 abbrev pub inverse_hop : ℕ → Hop → Hop

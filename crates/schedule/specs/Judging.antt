@@ -1,14 +1,7 @@
 -- The verdict on a schedule: the first part of the claim that it solves an instance that does not hold.
-use Rattle.std.specs.Prelude.{◌*◌, ℕ, not, Bool, List, [], length, map, Option, None, Some, find, slice_index_or, nat_lt}
-use Rattle.std.specs.List.{flat_map, range_with_len}
-use Rattle.schedule.specs.declared.hop.Hop.{Hop}
-use Rattle.schedule.specs.declared.verdict.Verdict.{Verdict}
-use Rattle.schedule.specs.declared.verdict.Verdict.TheVariants.{Solves, Overfull, Lacking, NoLink}
-use Rattle.schedule.specs.Links.{GroupValue, TopologyValue, is_usable}
-use Rattle.schedule.specs.Sends.{ScheduleValue, link_of}
-use Rattle.schedule.specs.Placed.{PlacementValue, holds}
-use Rattle.schedule.specs.Running.{after}
-use Rattle.schedule.specs.Fitting.{load, rounds_at}
+use Rattle.std.specs.{Prelude.{◌*◌, ℕ, not, Bool, List, [], length, map, Option, None, Some, find, slice_index_or, nat_lt}, List.{flat_map, range_with_len}}
+use Rattle.schedule.specs.{declared.{hop.Hop.Hop, verdict.Verdict.{Verdict, TheVariants.{Solves, Overfull, Lacking, NoLink}}}, Sends.{ScheduleValue, link_of}}
+use Rattle.schedule.specs.{Links.{GroupValue, TopologyValue, is_usable}, Placed.{PlacementValue, holds}, Running.after, Fitting.{load, rounds_at}}
 
 -- the first send without a usable link
 abbrev pub first_unlinked : TopologyValue → ScheduleValue → Option Hop

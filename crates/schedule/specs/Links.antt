@@ -1,6 +1,5 @@
 -- Topologies: nodes, and groups of directed links that share a width (Cai et al., PPoPP 2021, section on topologies).
-use Rattle.std.specs.Prelude.{◌≢◌, ℕ, ◌<◌, ◌≤◌, Bool, List, length, map, filter, All, AllPairs}
-use Rattle.std.specs.List.{list_any}
+use Rattle.std.specs.{Prelude.{◌≢◌, ℕ, ◌<◌, ◌≤◌, Bool, List, length, map, filter, All, AllPairs}, List.list_any}
 use Rattle.schedule.specs.Placed.{all_pairs, same_pair}
 
 -- links that share a width: at most so many chunks cross them together in one round

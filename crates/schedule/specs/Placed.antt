@@ -1,6 +1,5 @@
 -- Placements: sets of pairs of a chunk and a node that holds it (Cai et al., PPoPP 2021, section on collectives).
-use Rattle.std.specs.Prelude.{◌≡◌, ◌==◌, ◌&&◌, ◌||◌, ℕ, Bool, true, not, List, [], map, filter}
-use Rattle.std.specs.List.{list_any, flat_map, range_with_len}
+use Rattle.std.specs.{Prelude.{◌≡◌, ◌==◌, ◌&&◌, ◌||◌, ℕ, Bool, true, not, List, [], map, filter}, List.{list_any, flat_map, range_with_len}}
 
 -- how many chunks and nodes there are, and the pairs, ascending and each once
 pub record PlacementValue : Type 0 where

@@ -1,11 +1,7 @@
 -- Small topologies, placements and schedules whose runs and verdicts are known.
 use Rattle.std.specs.Prelude.{ℕ, ◌==◌, true, List, [], ◌∷◌}
-use Rattle.schedule.specs.declared.hop.Hop.{Hop}
-use Rattle.schedule.specs.declared.verdict.Verdict.{Verdict}
-use Rattle.schedule.specs.Links.{GroupValue, TopologyValue}
-use Rattle.schedule.specs.Sends.{ScheduleValue}
+use Rattle.schedule.specs.{declared.{hop.Hop.Hop, verdict.Verdict.Verdict}, Links.{GroupValue, TopologyValue}, Sends.ScheduleValue, Judging.verdict_of}
 use Rattle.schedule.specs.Placed.{PlacementValue, placed}
-use Rattle.schedule.specs.Judging.{verdict_of}
 
 -- a group of one link
 abbrev pub only : ℕ → ℕ → ℕ → GroupValue

@@ -1,9 +1,6 @@
 -- The run of a schedule: what is held after each step (Cai et al., PPoPP 2021, section on algorithms).
-use Rattle.std.specs.Prelude.{◌==◌, ◌&&◌, ◌||◌, ℕ, zero, suc, ◌+◌, Bool, List, length, map}
-use Rattle.std.specs.List.{list_any, range_with_len}
-use Rattle.schedule.specs.declared.hop.Hop.{Hop}
-use Rattle.schedule.specs.Sends.{ScheduleValue}
-use Rattle.schedule.specs.Placed.{PlacementValue, holds, placed, same_pair}
+use Rattle.std.specs.{Prelude.{◌==◌, ◌&&◌, ◌||◌, ℕ, zero, suc, ◌+◌, Bool, List, length, map}, List.{list_any, range_with_len}}
+use Rattle.schedule.specs.{declared.hop.Hop.Hop, Sends.ScheduleValue, Placed.{PlacementValue, holds, placed, same_pair}}
 
 -- the send is one of this step, from a node that holds the chunk before the step, and brings this pair
 abbrev pub brings : PlacementValue → ℕ → ℕ × ℕ → Hop → Bool

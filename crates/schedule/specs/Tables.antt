@@ -1,6 +1,5 @@
 -- A table of truth values, one for each link between nodes below 16.
-use Rattle.std.specs.Prelude.{◌≡◌, ℕ, ◌+◌, ◌*◌, ◌<◌, ◌||◌, Bool, false, List, slice_index_or}
-use Rattle.std.specs.List.{list_any}
+use Rattle.std.specs.{Prelude.{◌≡◌, ℕ, ◌+◌, ◌*◌, ◌<◌, ◌||◌, Bool, false, List, slice_index_or}, List.list_any}
 use Rattle.schedule.specs.Placed.{same_pair}
 
 -- what the table says of a link

@@ -1,9 +1,5 @@
-ghost use Rattle.std.specs.Prelude.{◌≡◌, ◌<◌, All, find, length};
-ghost use Rattle.std.specs.List.{range_with_len};
-ghost use Rattle.schedule.specs.Links.{IsBelow};
-ghost use Rattle.schedule.specs.Sends.{IsInRange, IsStep};
-ghost use Rattle.schedule.specs.Fitting.{load};
-ghost use Rattle.schedule.specs.Judging.{is_overfull, first_overfull};
+ghost use Rattle.std.specs.{Prelude.{◌≡◌, ◌<◌, All, find, length}, List.range_with_len};
+ghost use Rattle.schedule.specs.{Links.IsBelow, Sends.{IsInRange, IsStep}, Fitting.load, Judging.{is_overfull, first_overfull}};
 
 use crate::group::Group;
 use crate::links::LinkTable;

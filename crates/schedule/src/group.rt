@@ -1,7 +1,5 @@
-ghost use Rattle.std.specs.Prelude.{◌≡◌, IfOk};
-ghost use Rattle.std.specs.List.{list_any};
-ghost use Rattle.schedule.specs.Links.{GroupValue, IsGroup, reversed_group};
-ghost use Rattle.schedule.specs.Placed.{same_pair};
+ghost use Rattle.std.specs.{Prelude.{◌≡◌, IfOk}, List.list_any};
+ghost use Rattle.schedule.specs.{Links.{GroupValue, IsGroup, reversed_group}, Placed.same_pair};
 
 use crate::OutOfMemory;
 use std::marker::Model;

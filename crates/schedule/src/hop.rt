@@ -1,7 +1,6 @@
 //! Sends, and their order.
 
-ghost use Rattle.std.specs.Prelude.{◌≡◌};
-ghost use Rattle.std.specs.Ordering.{is_gt, is_lt};
+ghost use Rattle.std.specs.{Prelude.◌≡◌, Ordering.{is_gt, is_lt}};
 ghost use Rattle.schedule.specs.Sends.{hop_before};
 
 use std::cmp::Ordering;

@@ -15,8 +15,7 @@ pub struct Placement {
 
 impl Model for Placement {
     ghost use Rattle.std.specs.Prelude.{◌≡◌, ◌*◌, length};
-    ghost use Rattle.schedule.specs.Placed.{PlacementValue};
-    ghost use Rattle.schedule.specs.Cells.{marked};
+    ghost use Rattle.schedule.specs.{Placed.PlacementValue, Cells.marked};
 
     ghost Value = { PlacementValue };
 

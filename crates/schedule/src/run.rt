@@ -1,6 +1,5 @@
 ghost use Rattle.std.specs.Prelude.{◌≡◌, IfOk};
-ghost use Rattle.schedule.specs.Sends.{IsInRange};
-ghost use Rattle.schedule.specs.Running.{step_of, run_of};
+ghost use Rattle.schedule.specs.{Sends.IsInRange, Running.{step_of, run_of}};
 
 use crate::OutOfMemory;
 use crate::placement::Placement;

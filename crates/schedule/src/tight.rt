@@ -1,11 +1,7 @@
 //! Whether a schedule wastes a send.
 
-ghost use Rattle.std.specs.Prelude.{◌≡◌, ◌-◌, true, false, All, AllPairs, Decides, IfOk};
-ghost use Rattle.std.specs.List.{list_all};
-ghost use Rattle.schedule.specs.Placed.{empty_placement, same_pair};
-ghost use Rattle.schedule.specs.Sends.{IsInRange, is_hop_below};
-ghost use Rattle.schedule.specs.Running.{after};
-ghost use Rattle.schedule.specs.Solving.{Tight, moves};
+ghost use Rattle.std.specs.{Prelude.{◌≡◌, ◌-◌, true, false, All, AllPairs, Decides, IfOk}, List.list_all};
+ghost use Rattle.schedule.specs.{Placed.{empty_placement, same_pair}, Sends.{IsInRange, is_hop_below}, Running.after, Solving.{Tight, moves}};
 
 use crate::OutOfMemory;
 use crate::hop::Hop;

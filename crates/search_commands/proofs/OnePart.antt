@@ -1,22 +1,16 @@
 -- What a search in the one part leaves, as its words and its topology ask for it.
-use Rattle.std.proofs.Common.{◌≡◌, ◌≢◌, [], Contains, Result, IfOk, refl, sym, subst}
-use Rattle.std.proofs.lemmas.List.Elements.{Contains-push}
-use Rattle.std.proofs.lemmas.Result.{IfOk-weaker}
-use Rattle.outer_ports.specs.declared.part.Part.TheVariants.{Whole}
-use Rattle.outer_ports.specs.Files.{Files}
+use Rattle.std.proofs.{Common.{◌≡◌, ◌≢◌, [], Contains, Result, IfOk, refl, sym, subst}, lemmas.{List.Elements.Contains-push, Result.IfOk-weaker}}
+use Rattle.outer_ports.specs.{declared.part.Part.TheVariants.Whole, Files.Files}
 use Rattle.schedule.specs.Links.{TopologyValue}
 use Rattle.collective_spec.specs.declared.kind.Kind.TheVariants as kind
 use Rattle.collective_spec.specs.declared.spec.Spec.{Spec}
-use Rattle.candidate_order.specs.Ranges.{LimitsValue}
-use Rattle.candidate_order.specs.Frontiers.{QuestionValue}
+use Rattle.candidate_order.specs.{Ranges.LimitsValue, Frontiers.QuestionValue}
 use Rattle.topology_text.specs.Value.{NamedTopologyValue}
 use Rattle.report_form.specs.Reports.{WordsValue, parts_of, question_of, whole_report}
 use Rattle.engine_rules.specs.declared.fault.EngineFault.{EngineFault}
 use Rattle.candidate_formula.specs.Searched.{searched_question}
 use Rattle.frontier_audit.specs.OwedFiles.{Proves}
-use Rattle.report_search.specs.Shelved.{IsShelved}
-use Rattle.report_search.proofs.PartQuestions.{one_part}
-use Rattle.report_search.proofs.WholeReport.{whole_proves}
+use Rattle.report_search.{specs.Shelved.IsShelved, proofs.{PartQuestions.one_part, WholeReport.whole_proves}}
 use Rattle.node_cuts.specs.declared.sets.Sets.{Sets}
 use Rattle.cut_bounds.specs.Parting.{without_cuts}
 use Rattle.search_commands.specs.declared.bounds.Bounds.{Bounds}

@@ -1,6 +1,5 @@
 -- A fault that is handed on has the cause that it had.
-use Rattle.std.proofs.Common.{◌≡◌, ℕ, Result, Ok, Err, sym, ap, ◌∙◌}
-use Rattle.std.specs.Prelude.{IsErrAnd}
+use Rattle.std.proofs.Common.{◌≡◌, ℕ, Result, Ok, Err, sym, ap, ◌∙◌, IsErrAnd}
 use Rattle.outer_ports.specs.Port.{HasCause}
 
 abbrev error_or : {A E : Type 0} → E → Result A E → E

@@ -1,28 +1,17 @@
 -- Pieces of the text, appended one after another.
-use Rattle.std.proofs.Common.{◌≡◌, ℕ, ◌+◌, Bool, true, false, List, [], ◌∷◌, ◌++◌, map, refl, sym, ap, ◌∙◌, append_assoc, arith, ⊎_elim}
-use Rattle.std.specs.Prelude.{codes, filter, if◌then◌else◌}
-use Rattle.std.specs.List.{flat_map, range_with_len}
-use Rattle.std.proofs.lemmas.Bool.{cases_Bool}
-use Rattle.std.proofs.lemmas.Grind.{flat_map-append}
-use Rattle.std.proofs.lemmas.List.{append-nil, map-append, map-id}
-use Rattle.std.proofs.lemmas.List.Elements.{filter-append}
-use Rattle.std.proofs.lemmas.List.FromFn.{map-range_with_len_more}
+use Rattle.std.proofs.Common.{◌≡◌, ℕ, ◌+◌, Bool, true, false, List, [], ◌∷◌, ◌++◌, map, refl, sym, ap, ◌∙◌, append_assoc, arith, ⊎_elim, codes, filter, if◌then◌else◌}
+use Rattle.std.{specs.List.{flat_map, range_with_len}, proofs.lemmas.{Bool.cases_Bool, Grind.flat_map-append, List.{append-nil, map-append, map-id}}}
+use Rattle.std.proofs.lemmas.List.{Elements.filter-append, FromFn.map-range_with_len_more}
 use Rattle.text_lines.specs.Text.{line, text_of, fields}
 use Rattle.outer_ports.specs.declared.part.Part.TheVariants.{Whole}
 use Rattle.candidate_order.specs.Frontiers.{FrontierValue}
-use Rattle.topology_text.specs.Value.{NamedTopologyValue}
-use Rattle.topology_text.specs.Spelling.{name_at}
-use Rattle.report_form.specs.Reports.{WordsValue, question_of}
-use Rattle.report_form.specs.Spelling.{point_lines, refuted_words, synth_words, unknown_words}
-use Rattle.report_printing.specs.Printed.{point_text}
-use Rattle.report_printing.proofs.Pieces.{line_is, text_append, text_each}
-use Rattle.node_cuts.specs.declared.sets.Sets.{Sets}
-use Rattle.node_cuts.specs.Floors.{floor_of}
-use Rattle.node_cuts.specs.Sides.{has_bit}
+use Rattle.topology_text.specs.{Value.NamedTopologyValue, Spelling.name_at}
+use Rattle.report_form.specs.{Reports.{WordsValue, question_of}, Spelling.{point_lines, refuted_words, synth_words, unknown_words}}
+use Rattle.report_printing.{specs.Printed.point_text, proofs.Pieces.{line_is, text_append, text_each}}
+use Rattle.node_cuts.specs.{declared.sets.Sets.Sets, Floors.floor_of, Sides.has_bit}
 use Rattle.cut_bounds.specs.Parting.{cuts_among, uncut_among}
 use Rattle.candidate_formula.specs.Searched.{searched_question}
-use Rattle.run_rules.specs.Bounds.{bound_text, floor_words}
-use Rattle.run_rules.specs.Lines.{cut_words}
+use Rattle.run_rules.specs.{Bounds.{bound_text, floor_words}, Lines.cut_words}
 
 -- ---- the names of a set
 

@@ -1,9 +1,7 @@
 -- What a frontier and its cuts say after a search. This project's own.
 use Rattle.std.specs.Prelude.{◌≡◌, false, All}
 use Rattle.candidate_order.specs.Frontiers.{QuestionValue}
-use Rattle.node_cuts.specs.Floors.{floor_of}
-use Rattle.node_cuts.specs.declared.sets.Sets.{Sets}
-use Rattle.node_cuts.specs.Cutting.{is_cut}
+use Rattle.node_cuts.specs.{Floors.floor_of, declared.sets.Sets.Sets, Cutting.is_cut}
 use Rattle.cut_bounds.specs.Parting.{cuts_among, uncut_among}
 use Rattle.candidate_formula.specs.Searched.{searched_question}
 use Rattle.engine_search.specs.Found.{IsFound}

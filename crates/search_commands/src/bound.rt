@@ -4,13 +4,8 @@ ghost use Rattle.std.specs.Prelude.{◌≡◌, ◌≢◌, ◌≤◌, length, IfO
 ghost use Rattle.outer_ports.specs.Port.{HasCause, Tells};
 ghost use Rattle.command_words.specs.Commands.{AreSearchWords};
 ghost use Rattle.candidate_order.specs.Ranges.{unpruned};
-ghost use Rattle.frontier_audit.specs.OwedFiles.{BreaksOff};
-ghost use Rattle.frontier_audit.specs.Searches.{IsAsked};
-ghost use Rattle.run_rules.specs.Answers.{IsAnswer, LeavesOff};
-ghost use Rattle.run_rules.specs.Bounds.{IsBoundAnswer};
-ghost use Rattle.run_rules.specs.Commands.{IsRefusal};
-ghost use Rattle.run_rules.specs.Refusals.{Refusal};
-ghost use Rattle.run_rules.specs.Tasks.{given_sets, limit};
+ghost use Rattle.frontier_audit.specs.{OwedFiles.BreaksOff, Searches.IsAsked};
+ghost use Rattle.run_rules.specs.{Answers.{IsAnswer, LeavesOff}, Bounds.IsBoundAnswer, Commands.IsRefusal, Refusals.Refusal, Tasks.{given_sets, limit}};
 ghost use Rattle.run_rules.specs.Steps.{bound_asked};
 
 use crate::bound_printing::print_bounds;

@@ -1,14 +1,12 @@
 //! The frontier of one collective, and what cuts say of it.
 
 ghost use Rattle.std.specs.Prelude.{◌≡◌, ◌≢◌, ◌≤◌, IfOk, IsTrue};
-ghost use Rattle.outer_ports.specs.Port.{HasCause, Tells};
-ghost use Rattle.outer_ports.specs.declared.part.Part.TheVariants.{Whole};
+ghost use Rattle.outer_ports.specs.{Port.{HasCause, Tells}, declared.part.Part.TheVariants.Whole};
 ghost use Rattle.collective_spec.specs.Collectives.{IsSpec, kind_in};
 ghost use Rattle.candidate_order.specs.Ranges.{unpruned};
 ghost use Rattle.round_encoding.specs.Candidates.{size_limit};
-ghost use Rattle.candidate_formula.specs.Sizes.{size_of};
+ghost use Rattle.candidate_formula.specs.{Sizes.size_of, Searched.searched_question};
 ghost use Rattle.cut_bounds.specs.Parting.{without_cuts};
-ghost use Rattle.candidate_formula.specs.Searched.{searched_question};
 ghost use Rattle.report_search.specs.Shelved.{IsShelved, MayHaveBegun};
 ghost use Rattle.search_commands.specs.Bounded.{AreBounds};
 

@@ -7,8 +7,7 @@ ghost use Rattle.report_form.specs.Reports.{question_of};
 ghost use Rattle.topology_text.specs.Spelling.{name_at};
 ghost use Rattle.node_cuts.specs.Sides.{has_bit};
 ghost use Rattle.search_commands.specs.Bounded.{AreBounds};
-ghost use Rattle.run_rules.specs.Bounds.{bound_text, floor_words, names_in};
-ghost use Rattle.run_rules.specs.Lines.{cut_words};
+ghost use Rattle.run_rules.specs.{Bounds.{bound_text, floor_words, names_in}, Lines.cut_words};
 
 use crate::bounds::Bounds;
 use candidate_order::Candidate;

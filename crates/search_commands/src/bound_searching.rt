@@ -1,12 +1,10 @@
 //! The search of what words ask for, and what cuts say of it.
 
 ghost use Rattle.std.specs.Prelude.{◌≡◌, ◌≢◌, IfOk, IsTrue};
-ghost use Rattle.outer_ports.specs.Port.{HasCause, Tells};
-ghost use Rattle.outer_ports.specs.declared.part.Part.TheVariants.{Whole};
+ghost use Rattle.outer_ports.specs.{Port.{HasCause, Tells}, declared.part.Part.TheVariants.Whole};
 ghost use Rattle.candidate_order.specs.Ranges.{unpruned};
 ghost use Rattle.report_form.specs.Reports.{question_of, whole_report};
-ghost use Rattle.frontier_audit.specs.OwedFiles.{BreaksOff, Proves};
-ghost use Rattle.frontier_audit.specs.Searches.{IsAsked};
+ghost use Rattle.frontier_audit.specs.{OwedFiles.{BreaksOff, Proves}, Searches.IsAsked};
 ghost use Rattle.cut_bounds.specs.Parting.{without_cuts};
 ghost use Rattle.candidate_formula.specs.Searched.{searched_question};
 ghost use Rattle.search_commands.specs.Bounded.{AreBounds};

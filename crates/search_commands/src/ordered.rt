@@ -4,10 +4,7 @@ ghost use Rattle.std.specs.Prelude.{◌≡◌, ◌≢◌, ◌≤◌, length, IfO
 ghost use Rattle.candidate_order.specs.Ranges.{unpruned};
 ghost use Rattle.command_words.specs.Commands.{AreSearchWords};
 ghost use Rattle.frontier_audit.specs.Searches.{IsAsked};
-ghost use Rattle.run_rules.specs.Answers.{FilesValue, IsAnswerAlone, Stay};
-ghost use Rattle.run_rules.specs.Orders.{IsOrderedAnswer};
-ghost use Rattle.run_rules.specs.Tasks.{limit};
-ghost use Rattle.run_rules.specs.Steps.{order_asked};
+ghost use Rattle.run_rules.specs.{Answers.{FilesValue, IsAnswerAlone, Stay}, Orders.IsOrderedAnswer, Tasks.limit, Steps.order_asked};
 
 use crate::OutOfMemory;
 use crate::ordered_printing::print_ordered;

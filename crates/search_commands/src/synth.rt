@@ -4,10 +4,7 @@ ghost use Rattle.std.specs.Prelude.{◌≡◌, ◌≢◌, ◌≤◌, length, IfO
 ghost use Rattle.outer_ports.specs.Port.{HasCause, Tells};
 ghost use Rattle.command_words.specs.Commands.{AreSearchWords};
 ghost use Rattle.frontier_audit.specs.Searches.{IsAsked};
-ghost use Rattle.run_rules.specs.Answers.{IsAnswer, IsSearch, LeavesOff, SearchLeaves};
-ghost use Rattle.run_rules.specs.Commands.{IsRefusal};
-ghost use Rattle.run_rules.specs.Refusals.{Refusal};
-ghost use Rattle.run_rules.specs.Tasks.{limit};
+ghost use Rattle.run_rules.specs.{Answers.{IsAnswer, IsSearch, LeavesOff, SearchLeaves}, Commands.IsRefusal, Refusals.Refusal, Tasks.limit};
 ghost use Rattle.run_rules.specs.Steps.{synthesis_asked};
 
 use command_words::SearchWords;

@@ -1,13 +1,8 @@
 -- How assignments and schedules agree (Cai et al., PPoPP 2021, section on the encoding).
 use Rattle.std.specs.Prelude.{◌≡◌, ℕ, ◌<◌, ◌≤◌, Bool, List}
-use Rattle.schedule.specs.Sends.{ScheduleValue}
-use Rattle.schedule.specs.Placed.{PlacementValue, holds}
-use Rattle.schedule.specs.Running.{after}
-use Rattle.schedule.specs.Solving.{Tight}
-use Rattle.cnf_formula.specs.Literals.{is_true}
-use Rattle.cnf_formula.specs.Formulas.{FormulaValue, Satisfies}
-use Rattle.send_encoding.specs.Variables.{SendMapValue, arrival}
-use Rattle.send_encoding.specs.Sent.{arrived, sends_of}
+use Rattle.schedule.specs.{Sends.ScheduleValue, Placed.{PlacementValue, holds}, Running.after, Solving.Tight}
+use Rattle.cnf_formula.specs.{Literals.is_true, Formulas.{FormulaValue, Satisfies}}
+use Rattle.send_encoding.specs.{Variables.{SendMapValue, arrival}, Sent.{arrived, sends_of}}
 
 -- the sends that an assignment says are a tight schedule, whatever its rounds, and its run has what the arrivals say
 pub record IsTightRun (m : SendMapValue) (pre : PlacementValue) (values : List Bool) : Type 0 where

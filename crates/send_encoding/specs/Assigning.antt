@@ -1,8 +1,6 @@
 -- An assignment made of a value for each arrival and each send.
-use Rattle.std.specs.Prelude.{ℕ, ◌+◌, Bool, List, ◌++◌, map, length, flat_map, nat_le}
-use Rattle.std.specs.List.{range_with_len}
-use Rattle.schedule.specs.Sends.{ScheduleValue}
-use Rattle.schedule.specs.Fitting.{rounds_at}
+use Rattle.std.specs.{Prelude.{ℕ, ◌+◌, Bool, List, ◌++◌, map, length, flat_map, nat_le}, List.range_with_len}
+use Rattle.schedule.specs.{Sends.ScheduleValue, Fitting.rounds_at}
 use Rattle.send_encoding.specs.Variables.{SendMapValue}
 
 -- a value for each of so many layers, rows and places; places are numbered from a number on

@@ -1,9 +1,6 @@
 -- A schedule's tables: who holds what, and which link brings a chunk to a node first.
-use Rattle.std.specs.Prelude.{ℕ, ◌-◌, ◌==◌, ◌&&◌, not, Bool, false, if◌then◌else◌, List, [], ◌∷◌, slice_index_or}
-use Rattle.std.specs.List.{list_any}
-use Rattle.schedule.specs.Placed.{PlacementValue, holds, same_pair}
-use Rattle.schedule.specs.Sends.{ScheduleValue, link_of}
-use Rattle.schedule.specs.Running.{after}
+use Rattle.std.specs.{Prelude.{ℕ, ◌-◌, ◌==◌, ◌&&◌, not, Bool, false, if◌then◌else◌, List, [], ◌∷◌, slice_index_or}, List.list_any}
+use Rattle.schedule.specs.{Placed.{PlacementValue, holds, same_pair}, Sends.{ScheduleValue, link_of}, Running.after}
 use Rattle.send_encoding.specs.Variables.{SendMapValue, links_into}
 
 -- the number of the first that passes

@@ -1,8 +1,6 @@
 -- What the clauses of arrivals and sends say, as facts of two tables: a node has a chunk after a step; a chunk is sent over a link at a step.
-use Rattle.std.specs.Prelude.{◌≡◌, ℕ, ◌-◌, ◌<◌, ◌≤◌, Bool, true, false, length, count_by, slice_index_or}
-use Rattle.std.specs.List.{list_any}
-use Rattle.schedule.specs.Sends.{IsStep}
-use Rattle.schedule.specs.Placed.{PlacementValue, holds}
+use Rattle.std.specs.{Prelude.{◌≡◌, ℕ, ◌-◌, ◌<◌, ◌≤◌, Bool, true, false, length, count_by, slice_index_or}, List.list_any}
+use Rattle.schedule.specs.{Sends.IsStep, Placed.{PlacementValue, holds}}
 use Rattle.send_encoding.specs.Variables.{SendMapValue, links_into}
 
 -- a link of the map, with its number

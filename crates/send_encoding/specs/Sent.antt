@@ -1,7 +1,6 @@
 -- What an assignment says of arrivals and sends (Cai et al., PPoPP 2021, section on the encoding).
 use Rattle.std.specs.Prelude.{ℕ, Bool, if◌then◌else◌, List, [], ◌∷◌, flat_map}
-use Rattle.schedule.specs.declared.hop.Hop.{Hop}
-use Rattle.schedule.specs.Placed.{PlacementValue, placed}
+use Rattle.schedule.specs.{declared.hop.Hop.Hop, Placed.{PlacementValue, placed}}
 use Rattle.cnf_formula.specs.Literals.{is_true}
 use Rattle.send_encoding.specs.Variables.{SendMapValue, chunks_of, steps_of, numbered_links, arrival, sent}
 

@@ -1,11 +1,7 @@
 -- A list of sends that tells a table of sends.
-use Rattle.std.specs.Prelude.{◌≡◌, ℕ, ◌==◌, ◌&&◌, ◌<◌, Bool, true, List, All}
-use Rattle.std.specs.List.{list_any}
-use Rattle.schedule.specs.declared.hop.Hop.{Hop}
-use Rattle.schedule.specs.Placed.{same_pair}
-use Rattle.schedule.specs.Sends.{IsStep, link_of}
-use Rattle.send_encoding.specs.Variables.{SendMapValue}
-use Rattle.send_encoding.specs.Moving.{IsLinkOf}
+use Rattle.std.specs.{Prelude.{◌≡◌, ℕ, ◌==◌, ◌&&◌, ◌<◌, Bool, true, List, All}, List.list_any}
+use Rattle.schedule.specs.{declared.hop.Hop.Hop, Placed.same_pair, Sends.{IsStep, link_of}}
+use Rattle.send_encoding.specs.{Variables.SendMapValue, Moving.IsLinkOf}
 
 -- the send is one of the table's
 pub record IsTold (m : SendMapValue) (x : ℕ → ℕ → ℕ → Bool) (h : Hop) : Type 0 where

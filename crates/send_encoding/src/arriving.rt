@@ -1,11 +1,8 @@
 //! The clauses that tie sends and arrivals.
 
-ghost use Rattle.std.specs.Prelude.{◌≡◌, ◌+◌, ◌<◌, ◌≤◌, ◌-◌, ◌∷◌, ◌++◌, [], length, OnOk};
-ghost use Rattle.std.specs.List.{flat_map, range_with_len};
-ghost use Rattle.schedule.specs.Links.{IsBelow};
-ghost use Rattle.schedule.specs.Sends.{IsStep};
-ghost use Rattle.cnf_formula.specs.Literals.{negation};
-ghost use Rattle.cnf_formula.specs.Formulas.{with_clauses};
+ghost use Rattle.std.specs.{Prelude.{◌≡◌, ◌+◌, ◌<◌, ◌≤◌, ◌-◌, ◌∷◌, ◌++◌, [], length, OnOk}, List.{flat_map, range_with_len}};
+ghost use Rattle.schedule.specs.{Links.IsBelow, Sends.IsStep};
+ghost use Rattle.cnf_formula.specs.{Literals.negation, Formulas.with_clauses};
 ghost use Rattle.send_encoding.specs.Variables.{arrival, arrivals, sends, steps_of, numbered_links};
 ghost use Rattle.send_encoding.specs.Sending.{send_over, sends_arrive, sends_into, node_arrives, arrives_by_sends};
 

@@ -1,11 +1,8 @@
 //! The sends that an assignment says.
 
-ghost use Rattle.std.specs.Prelude.{◌≡◌, ◌+◌, ◌<◌, ◌≤◌, ◌++◌, length, OnOk, IfOk};
-ghost use Rattle.std.specs.List.{flat_map};
-ghost use Rattle.schedule.specs.declared.hop.Hop.{Hop};
-ghost use Rattle.schedule.specs.Sends.{IsStep};
-ghost use Rattle.send_encoding.specs.Variables.{arrivals, sends, chunks_of, numbered_links};
-ghost use Rattle.send_encoding.specs.Sent.{sends_of, hop_over};
+ghost use Rattle.std.specs.{Prelude.{◌≡◌, ◌+◌, ◌<◌, ◌≤◌, ◌++◌, length, OnOk, IfOk}, List.flat_map};
+ghost use Rattle.schedule.specs.{declared.hop.Hop.Hop, Sends.IsStep};
+ghost use Rattle.send_encoding.specs.{Variables.{arrivals, sends, chunks_of, numbered_links}, Sent.{sends_of, hop_over}};
 
 use crate::OutOfMemory;
 use crate::send_map::SendMap;

@@ -1,10 +1,8 @@
 //! Laws of the formula's first half.
 
 ghost use Rattle.std.specs.Prelude.{◌+◌, ◌*◌, ◌≤◌, ℕ, length};
-ghost use Rattle.schedule.specs.Links.{TopologyValue};
-ghost use Rattle.schedule.specs.Placed.{PlacementValue};
-ghost use Rattle.send_encoding.specs.Variables.{map_of, sends};
-ghost use Rattle.send_encoding.specs.Sending.{sending};
+ghost use Rattle.schedule.specs.{Links.TopologyValue, Placed.PlacementValue};
+ghost use Rattle.send_encoding.specs.{Variables.{map_of, sends}, Sending.sending};
 
 /// Arrivals and sends have few clauses: three for each send, two for each chunk and node, and for
 /// these and each step two more, beside one for each two links into the node, of which there are no

@@ -1,7 +1,6 @@
 //! The numbers of the usable links.
 
-ghost use Rattle.std.specs.Prelude.{◌≡◌, length, IfOk};
-ghost use Rattle.std.specs.List.{position_or_len};
+ghost use Rattle.std.specs.{Prelude.{◌≡◌, length, IfOk}, List.position_or_len};
 ghost use Rattle.schedule.specs.Placed.{same_pair};
 
 use crate::OutOfMemory;

@@ -1,8 +1,5 @@
-ghost use Rattle.std.specs.Prelude.{◌≡◌, ◌↔◌, ◌+◌, ◌<◌, ◌≤◌, true, length, IsSome, IfSome, IfOk};
-ghost use Rattle.std.specs.List.{list_any};
-ghost use Rattle.schedule.specs.Links.{usable_links};
-ghost use Rattle.schedule.specs.Placed.{same_pair};
-ghost use Rattle.schedule.specs.Sends.{IsStep};
+ghost use Rattle.std.specs.{Prelude.{◌≡◌, ◌↔◌, ◌+◌, ◌<◌, ◌≤◌, true, length, IsSome, IfSome, IfOk}, List.list_any};
+ghost use Rattle.schedule.specs.{Links.usable_links, Placed.same_pair, Sends.IsStep};
 ghost use Rattle.send_encoding.specs.Variables.{SendMapValue, IsSendMap, arrival, arrivals, sent, sends, number_of};
 
 use crate::OutOfMemory;

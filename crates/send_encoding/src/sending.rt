@@ -1,12 +1,9 @@
 //! The variables and clauses of arrivals and sends.
 
 ghost use Rattle.std.specs.Prelude.{◌≡◌, ℕ, ◌+◌, ◌<◌, ◌≤◌, Bool, List, [], OnOk, IfOk};
-ghost use Rattle.schedule.specs.Sends.{ScheduleValue, IsInRange};
-ghost use Rattle.schedule.specs.Solving.{Solves};
+ghost use Rattle.schedule.specs.{Sends.{ScheduleValue, IsInRange}, Solving.Solves};
 ghost use Rattle.cnf_formula.specs.Formulas.{Satisfies, with_clauses};
-ghost use Rattle.send_encoding.specs.Variables.{map_of, arrivals, sends};
-ghost use Rattle.send_encoding.specs.Sending.{sending};
-ghost use Rattle.send_encoding.specs.Agreeing.{IsTightRun, SatisfiesAs};
+ghost use Rattle.send_encoding.specs.{Variables.{map_of, arrivals, sends}, Sending.sending, Agreeing.{IsTightRun, SatisfiesAs}};
 
 use crate::OutOfMemory;
 use crate::arriving::{arrives_by_sends, sends_arrive};

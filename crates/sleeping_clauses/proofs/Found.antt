@@ -1,12 +1,8 @@
 -- A clause that sleeps and whose literals all stand in another is found in the list of one of them.
-use Rattle.std.proofs.Common.{◌≡◌, ℕ, ◌+◌, ◌<◌, Bool, true, false, List, [], ◌∷◌, ◌++◌, zero, suc, length, get_or, set, take, sym, ap, ◌∙◌, subst, ⊎_elim, arith}
-use Rattle.std.specs.Prelude.{Contains, Option, None, Some, MatchOption}
-use Rattle.std.proofs.lemmas.Bool.{cases_eq}
-use Rattle.std.proofs.lemmas.List.{get_or-set_same, get_or-set_other, length-set, take_more}
-use Rattle.std.proofs.lemmas.List.Elements.{Contains-push_cases}
+use Rattle.std.proofs.Common.{◌≡◌, ℕ, ◌+◌, ◌<◌, Bool, true, false, List, [], ◌∷◌, ◌++◌, zero, suc, length, get_or, set, take, sym, ap, ◌∙◌, subst, ⊎_elim, arith, Contains, Option, None, Some, MatchOption}
+use Rattle.std.proofs.lemmas.{Bool.cases_eq, List.{get_or-set_same, get_or-set_other, length-set, take_more, Elements.Contains-push_cases}}
 use Rattle.cnf_formula.specs.Literals.{LitValue, code_of}
-use Rattle.sleeping_clauses.specs.declared.sleepers.Led.{Led}
-use Rattle.sleeping_clauses.specs.Sleeping.{HasMark, IsCover, list_at, AreStored}
+use Rattle.sleeping_clauses.specs.{declared.sleepers.Led.Led, Sleeping.{HasMark, IsCover, list_at, AreStored}}
 
 -- what an option answers, said otherwise
 pub match_as : {X A B : Type 0} {P Q : X → Type 0} (r : Option X) → MatchOption r A P → (A → B) → ((x : X) → P x → Q x) → MatchOption r B Q

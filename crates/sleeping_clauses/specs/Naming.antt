@@ -1,7 +1,6 @@
 -- The clauses of a core, and their numbers in a ledger.
 use Rattle.std.specs.Prelude.{◌≡◌, ◌≢◌, ℕ, ◌+◌, ◌<◌, List, [], length, get_or, map, AllPairs, ℤ, pos, negsuc}
-use Rattle.cnf_formula.specs.Literals.{LitValue}
-use Rattle.cnf_formula.specs.Lines.{ProofLineValue}
+use Rattle.cnf_formula.specs.{Literals.LitValue, Lines.ProofLineValue}
 use Rattle.sleeping_clauses.specs.declared.awake.Awake.{Awake}
 
 -- a hint that a table of so many places has a number for

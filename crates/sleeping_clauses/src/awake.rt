@@ -1,8 +1,7 @@
 //! The clauses of a core, which are awake: under which number the ledger holds each, and of how
 //! much use each was.
 
-ghost use Rattle.std.specs.Prelude.{◌≡◌, ◌+◌, ◌<◌, ◌≤◌, ◌∷◌, ◌++◌, [], true, All, length, map, IfOk, OnOk};
-ghost use Rattle.std.specs.List.{range_with_len};
+ghost use Rattle.std.specs.{Prelude.{◌≡◌, ◌+◌, ◌<◌, ◌≤◌, ◌∷◌, ◌++◌, [], true, All, length, map, IfOk, OnOk}, List.range_with_len};
 ghost use Rattle.sleeping_clauses.specs.Naming.{IsName, IsNamed, name};
 
 use cnf_formula::{Lit, OutOfMemory, ProofLine};

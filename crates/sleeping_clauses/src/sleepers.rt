@@ -2,8 +2,7 @@
 //! one of them states already (subsumption) is not learned: that clause is woken.
 
 ghost use Rattle.std.specs.Prelude.{◌≡◌, ◌≢◌, ℕ, ◌+◌, ◌*◌, ◌<◌, ◌≤◌, [], ◌∷◌, ◌++◌, true, false, All, AllPairs, Contains, length, get_or, slice_set, IfOk, OnOk, OnErr, MatchOption, map};
-ghost use Rattle.cnf_formula.specs.Literals.{LitValue, code_of};
-ghost use Rattle.cnf_formula.specs.Formulas.{IsClause};
+ghost use Rattle.cnf_formula.specs.{Literals.{LitValue, code_of}, Formulas.IsClause};
 ghost use Rattle.sleeping_clauses.specs.Sleeping.{SleepersValue, HasMark, IsCover, AreFew, list_at, sleeping};
 
 use cnf_formula::{ClauseList, Formula, Lit, OutOfMemory};

@@ -1,7 +1,6 @@
 -- The numbers of the standard streams. This project's own.
-use Rattle.std.specs.Prelude.{◌≡◌, Bool, true, false, Option, Some, None, IsTrue, if◌then◌else◌}
-use Rattle.system_calls.specs.declared.number_calls.Stream.{Stream}
-use Rattle.system_calls.specs.declared.number_calls.Stream.TheVariants.{Input, Output, Errors}
+use Rattle.std.specs.Prelude.{Bool, Option, Some, None, IsTrue, if◌then◌else◌}
+use Rattle.system_calls.specs.declared.number_calls.Stream.{Stream, TheVariants.{Input, Output, Errors}}
 
 -- the stream whose number an opening takes: the first that is free
 abbrev pub first_free : (Stream → Bool) → Option Stream

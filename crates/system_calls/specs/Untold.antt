@@ -1,5 +1,5 @@
 -- What calls that tell nothing are said to tell, and nobody reads. This project's own.
-use Rattle.std.specs.Prelude.{List, [], None, false}
+use Rattle.std.specs.Prelude.{[], None, false}
 use Rattle.outer_ports.specs.Disks.{Disk}
 
 abbrev pub no_disk : Disk

@@ -1,7 +1,6 @@
 //! The words of the command line.
 
-ghost use Rattle.std.specs.Prelude.{◌≡◌, drop, IfOk};
-ghost use Rattle.std.specs.Vec.Iter.{into_iter_items};
+ghost use Rattle.std.specs.{Prelude.{◌≡◌, drop, IfOk}, Vec.Iter.into_iter_items};
 
 use outer_ports::OutOfMemory;
 use std::alloc::Global;

@@ -1,8 +1,6 @@
 -- Where a block of checks passes, and where it fails.
-use Rattle.std.proofs.Common.{◌≡◌, ℕ, Bool, true, false, Option, None, Some, Result, Ok, Err, List, [], ◌∷◌, ◌⊎◌, refl, sym, ap, ◌∙◌, inl, inr}
-use Rattle.std.specs.Prelude.{if◌then◌else◌}
-use Rattle.text_lines.specs.Text.{Row, Place, behind}
-use Rattle.text_lines.specs.Check.{◌>>=◌, refuse, need, at_line, first, line_part}
+use Rattle.std.proofs.Common.{◌≡◌, ℕ, Bool, true, false, Option, None, Some, Result, Ok, Err, List, [], ◌∷◌, ◌⊎◌, refl, sym, ap, ◌∙◌, inl, inr, if◌then◌else◌}
+use Rattle.text_lines.specs.{Text.{Row, Place, behind}, Check.{◌>>=◌, refuse, need, at_line, first, line_part}}
 
 -- a block passes where each of its steps does
 pub bind_ok : {A B C : Type 0} (r : Result A C) (f : A → Result B C) (y : B) → (r >>= f) ≡ Ok y → (x : A) × (r ≡ Ok x) × (f x ≡ Ok y)

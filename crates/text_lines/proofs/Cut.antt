@@ -1,9 +1,6 @@
 -- A part of a text, cut at a separator.
 use Rattle.std.proofs.Common.{◌≡◌, ◌≢◌, ℕ, zero, suc, ◌+◌, ◌-◌, ◌<◌, ◌≤◌, false, eqb, List, [], ◌∷◌, ◌++◌, length, get_or, take, drop, slice_range, ap, ◌∙◌, arith}
-use Rattle.std.specs.List.{All}
-use Rattle.std.proofs.lemmas.Bool.{ne_eqb}
-use Rattle.std.proofs.lemmas.List.{get_or-take, get_or-drop, length-take, length-drop, drop-drop}
-use Rattle.std.proofs.lemmas.List.Elements.{All-from_get_or}
+use Rattle.std.{specs.List.All, proofs.lemmas.{Bool.ne_eqb, List.{get_or-take, get_or-drop, length-take, length-drop, drop-drop, Elements.All-from_get_or}}}
 
 -- the separator isn't among them
 abbrev pub IsApart : ℕ → List ℕ → Type 0

@@ -1,18 +1,10 @@
 -- The words that lines are made of.
-use Rattle.std.proofs.Common.{◌≡◌, ℕ, ◌^◌, ◌<◌, Bool, true, false, ◌&&◌, not, eqb, List, [], ◌∷◌, ◌++◌, length, get_or, drop, refl, sym, ap, ◌∙◌, arith}
-use Rattle.std.specs.Prelude.{decimal, nat_eq, nat_lt}
-use Rattle.std.specs.List.{AllByRecursion, flat_map, join_with_byte, list_any, list_all, starts_with}
-use Rattle.std.proofs.lemmas.Bool.{and_parts, ltb-true, ne_eqb, or_from, not-true}
-use Rattle.std.proofs.lemmas.Bool.Decides.{Decides-eqb}
-use Rattle.std.proofs.lemmas.Fmt.{decimal_is_IsNumeral, decimal_nonempty}
-use Rattle.std.proofs.lemmas.List.{append-nil, append_assoc}
-use Rattle.std.proofs.lemmas.List.Elements.{All-append, All-weaker, All-from_get_or}
-use Rattle.std.proofs.lemmas.List.Splits.{slice_split_at}
-use Rattle.std.proofs.lemmas.List.Sums.{AllPass-from_list_all}
-use Rattle.std.proofs.lemmas.Slice.Eq.{starts_is}
-use Rattle.std.proofs.lemmas.Str.Parse.{digit_at}
-use Rattle.text_lines.specs.Text.{words_of}
-use Rattle.text_lines.proofs.Rows.{IsToken, AreTokens}
+use Rattle.std.proofs.Common.{◌≡◌, ℕ, ◌^◌, ◌<◌, Bool, true, false, ◌&&◌, not, eqb, List, [], ◌∷◌, ◌++◌, length, get_or, drop, refl, sym, ap, ◌∙◌, arith, decimal, nat_eq, nat_lt}
+use Rattle.std.{specs.List.{AllByRecursion, flat_map, join_with_byte, list_any, list_all, starts_with}, proofs.lemmas.Bool.Decides.Decides-eqb}
+use Rattle.std.proofs.lemmas.{Bool.{and_parts, ltb-true, ne_eqb, or_from, not-true}, Fmt.{decimal_is_IsNumeral, decimal_nonempty}, List.Splits.slice_split_at}
+use Rattle.std.proofs.lemmas.List.{append-nil, append_assoc, Elements.{All-append, All-weaker, All-from_get_or}, Sums.AllPass-from_list_all}
+use Rattle.std.proofs.lemmas.{Slice.Eq.starts_is, Str.Parse.digit_at}
+use Rattle.text_lines.{specs.Text.words_of, proofs.Rows.{IsToken, AreTokens}}
 
 -- a token that isn't empty
 abbrev pub IsWord : List ℕ → Type 0

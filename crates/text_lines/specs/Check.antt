@@ -1,8 +1,6 @@
 -- Checks in their order: the first that fails gives the code.
 use Rattle.std.specs.Prelude.{◌≡◌, ℕ, Bool, if◌then◌else◌, List, slice_get, Option, Some, None, Result, Ok, Err}
-use Rattle.text_lines.specs.declared.stop.Stop.{Stop}
-use Rattle.text_lines.specs.declared.stop.Stop.TheVariants.{Memory, Refused}
-use Rattle.text_lines.specs.Text.{Row, Place, behind}
+use Rattle.text_lines.specs.{declared.stop.Stop.{Stop, TheVariants.{Memory, Refused}}, Text.{Row, Place, behind}}
 
 infixl 10 ◌>>=◌
 abbrev pub ◌>>=◌ : {A B C : Type 0} → Result A C → (A → Result B C) → Result B C

@@ -1,7 +1,6 @@
 -- A line by its place in the text.
 use Rattle.std.specs.Prelude.{ℕ, ◌+◌, ◌≤◌, if◌then◌else◌, List, length, slice_range}
-use Rattle.text_lines.specs.declared.line.Line.{Line}
-use Rattle.text_lines.specs.Text.{Row}
+use Rattle.text_lines.specs.{declared.line.Line.Line, Text.Row}
 
 -- the place of a line is a part of the text
 abbrev pub IsIn : List ℕ → Line → Type 0

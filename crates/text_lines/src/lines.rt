@@ -1,9 +1,7 @@
 //! The lines of a text, one after the other.
 
 ghost use Rattle.std.specs.Prelude.{◌≡◌, ◌+◌, ◌^◌, ◌<◌, ◌≤◌, [], ◌∷◌, length, drop, Some, IfSome, IfNone};
-ghost use Rattle.text_lines.specs.Text.{rows_of, start, behind, StartsLine};
-ghost use Rattle.text_lines.specs.Line.{IsIn, row_at, after};
-ghost use Rattle.text_lines.specs.Check.{first};
+ghost use Rattle.text_lines.specs.{Text.{rows_of, start, behind, StartsLine}, Line.{IsIn, row_at, after}, Check.first};
 
 use crate::line::Line;
 use crate::scan::end_of;

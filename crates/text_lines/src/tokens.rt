@@ -1,8 +1,7 @@
 //! The tokens of a line, one after the other.
 
 ghost use Rattle.std.specs.Prelude.{◌≡◌, ◌+◌, ◌<◌, ◌≤◌, [], ◌∷◌, length, slice_range, IfSome, IfNone};
-ghost use Rattle.text_lines.specs.Text.{words_of, StartsToken};
-ghost use Rattle.text_lines.specs.Line.{IsIn, row_at};
+ghost use Rattle.text_lines.specs.{Text.{words_of, StartsToken}, Line.{IsIn, row_at}};
 
 use crate::line::Line;
 use crate::scan::end_of;

@@ -1,8 +1,7 @@
 -- Lines that go on where a reader failed: the first of them are those that were read.
 use Rattle.std.proofs.Common.{◌≡◌, ℕ, ◌+◌, ◌-◌, List, [], ◌∷◌, ◌++◌, map, length, take, refl, sym, ap, ◌∙◌, append_assoc, arith}
 use Rattle.std.proofs.lemmas.List.{length-append, length-map, map-append}
-use Rattle.text_lines.specs.Text.{Row, Place}
-use Rattle.text_lines.proofs.Rows.{row_of}
+use Rattle.text_lines.{specs.Text.{Row, Place}, proofs.Rows.row_of}
 
 -- the lines of the place before line n are the first of these lines
 pub record Cut (lines : List (List (List ℕ))) (p : Place) (n : ℕ) : Type 0 where

@@ -1,19 +1,14 @@
 -- The groups of families.
 use Rattle.std.proofs.Common.{◌≡◌, ◌≢◌, ℕ, zero, suc, ◌+◌, ◌*◌, ◌/◌, ◌%◌, ◌<◌, ◌≤◌, Bool, true, false, ◌&&◌, cond, eqb, not, List, [], ◌∷◌, ◌++◌, map, length, get_or, refl, sym, ap, ◌∙◌, subst, append_assoc, arith}
-use Rattle.std.specs.List.{All, filter, range_with_len}
-use Rattle.std.proofs.lemmas.Bool.{eq-eqb, ne_eqb}
-use Rattle.std.proofs.lemmas.Nat.{div-mul-add, mod-mul-add, mul-le}
-use Rattle.std.proofs.lemmas.List.{length-append, length-map}
-use Rattle.std.proofs.lemmas.List.Elements.{All-nil, All-cons, All-append, All-map, All-filter, All-weaker, All-from_get_or}
+use Rattle.std.{specs.List.{All, filter, range_with_len}, proofs.lemmas.{Bool.{eq-eqb, ne_eqb}, Nat.{div-mul-add, mod-mul-add, mul-le}}}
+use Rattle.std.proofs.lemmas.List.{length-append, length-map, Elements.{All-nil, All-cons, All-append, All-map, All-filter, All-weaker, All-from_get_or}}
 use Rattle.std.proofs.lemmas.List.FromFn.{get_or-range_with_len, map-range_with_len_more, length-map-range_with_len, length-range_with_len}
 use Rattle.std.proofs.lemmas.List.Kept.{AllPairs-filter}
 use Rattle.list_laws.proofs.Tests.{few_kept}
 use Rattle.schedule.specs.Links.{GroupValue, IsLink, IsBelow, IsGroup}
-use Rattle.topology_text.specs.declared.family_kind.FamilyKind.{FamilyKind}
-use Rattle.topology_text.specs.declared.family_kind.FamilyKind.TheVariants.{Line, Ring, Complete, Cube, Shared, Torus, Mesh, Switch, Boxes}
+use Rattle.topology_text.specs.declared.family_kind.FamilyKind.{FamilyKind, TheVariants.{Line, Ring, Complete, Cube, Shared, Torus, Mesh, Switch, Boxes}}
 use Rattle.topology_text.specs.Family.{is_allowed, is_family_link, pairs, family_links, one_wide, single, is_double, mesh_group, box_of, is_inside, port_out, port_in, cable, family_groups}
-use Rattle.topology_text.proofs.Groups.{Groups}
-use Rattle.topology_text.proofs.FamilyLinks.{at_three, within, length-pairs, pair_at, FamilyLinks, family_links_are}
+use Rattle.topology_text.proofs.{Groups.Groups, FamilyLinks.{at_three, within, length-pairs, pair_at, FamilyLinks, family_links_are}}
 
 -- ---- links that share a group
 

@@ -1,27 +1,18 @@
 -- Where the checks of a topology text fail, some topology has the lines before the one that is blamed.
-use Rattle.std.proofs.Common.{◌≡◌, ℕ, zero, suc, ◌+◌, ◌≤◌, Bool, true, false, List, [], ◌∷◌, ◌++◌, map, length, Option, None, Some, Result, Ok, Err, ◌⊎◌, inl, inr, refl, sym, ap, ◌∙◌, subst, append_assoc, arith}
-use Rattle.std.specs.Prelude.{codes, if◌then◌else◌, IfSome}
-use Rattle.std.specs.Option.{is_some}
-use Rattle.std.proofs.lemmas.List.{append-nil, length-map}
-use Rattle.std.proofs.lemmas.List.Elements.{All-nil, All-cons}
-use Rattle.text_lines.specs.Text.{Row, Place}
-use Rattle.text_lines.specs.Check.{◌>>=◌, at_line, first, line_part}
-use Rattle.text_lines.proofs.Checks.{bind_err, part_ok, part_err_at, line_err, at_line_ok}
-use Rattle.text_lines.proofs.Rows.{row_of}
+use Rattle.std.proofs.Common.{◌≡◌, ℕ, zero, suc, ◌+◌, ◌≤◌, Bool, true, false, List, [], ◌∷◌, ◌++◌, map, length, Option, None, Some, Result, Ok, Err, inl, inr, refl, sym, ap, ◌∙◌, subst, append_assoc, arith, codes, if◌then◌else◌, IfSome}
+use Rattle.std.{specs.Option.is_some, proofs.lemmas.List.{append-nil, length-map, Elements.{All-nil, All-cons}}}
+use Rattle.text_lines.specs.{Text.{Row, Place}, Check.{◌>>=◌, at_line, first, line_part}}
+use Rattle.text_lines.proofs.{Checks.{bind_err, part_ok, part_err_at, line_err, at_line_ok}, Rows.row_of}
 use Rattle.schedule.specs.Links.{GroupValue}
 use Rattle.collective_spec.specs.Patterns.{PatternValue, IsPattern}
-use Rattle.topology_text.specs.declared.fault.TopologyCode.{TopologyCode}
-use Rattle.topology_text.specs.Names.{is_name, AreNames}
-use Rattle.topology_text.specs.Value.{NamedTopologyValue, IsNamed, named_with}
+use Rattle.topology_text.specs.{declared.fault.TopologyCode.TopologyCode, Names.{is_name, AreNames}, Value.{NamedTopologyValue, IsNamed, named_with}}
 use Rattle.topology_text.specs.Spelling.{header_words, nodes_words, group_words, custom_lines, lines_of, head_words}
 use Rattle.topology_text.specs.Reading.{begins, header_line, nodes_line, group_row, groups_from, groups_at, custom_line, holders_line, Pairs, holders_at, pattern_at, named_at, topology_at}
-use Rattle.topology_text.proofs.Front.{head_is}
-use Rattle.topology_text.proofs.Groups.{Groups, groups_nil, group_take, groups_take, push_group, place, line_taken}
-use Rattle.topology_text.proofs.PatternLines.{base_words, custom_take, named_words}
+use Rattle.topology_text.proofs.{Front.head_is, Groups.{Groups, groups_nil, group_take, groups_take, push_group, place, line_taken}}
+use Rattle.topology_text.proofs.{PatternLines.{base_words, custom_take, named_words}, Cuts.{Cut, cut_here, cut_more, cut_after}}
 use Rattle.topology_text.proofs.HolderLines.{Holders, AreHeld, holder_lines, pushed, no_pairs, behind_after, behind_before, line_held}
 use Rattle.topology_text.proofs.Patterns.{pattern_from, pattern_valid, pattern_spelled, behind_holders, behind_base}
 use Rattle.topology_text.proofs.Laws.{named_valid, header_taken, names_taken, nodes_taken, group_lines, after_pattern, after_groups, after_names, after_header}
-use Rattle.topology_text.proofs.Cuts.{Cut, cut_here, cut_more, cut_after}
 
 -- where a block fails, its first step does, or the rest after it
 err_then : {A B C : Type 0} {G : Type 0} {e : C} (r : Result A C) (f : A → Result B C) → (r >>= f) ≡ Err e → (r ≡ Err e → G) → ((x : A) → r ≡ Ok x → f x ≡ Err e → G) → G

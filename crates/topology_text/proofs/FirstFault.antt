@@ -1,24 +1,12 @@
 -- The line that is blamed is the first at which the text can't go on to be a topology's.
-use Rattle.std.proofs.Common.{◌≡◌, ◌≢◌, ℕ, ◌+◌, ◌-◌, ◌≤◌, List, [], length, take, Result, Ok, Err, ◌⊎◌, inl, inr, refl, sym, ap, ◌∙◌, subst, arith}
-use Rattle.std.specs.Prelude.{IfErr}
+use Rattle.std.proofs.Common.{◌≡◌, ◌≢◌, ℕ, ◌+◌, ◌-◌, ◌≤◌, List, [], length, take, Result, Ok, Err, ◌⊎◌, inl, inr, refl, sym, ap, ◌∙◌, subst, arith, IfErr}
 use Rattle.std.proofs.lemmas.List.{append-nil, length-map}
-use Rattle.text_lines.specs.Text.{Place, start}
-use Rattle.text_lines.specs.Check.{line_part}
-use Rattle.text_lines.proofs.Checks.{bind_err, part_err_at}
-use Rattle.text_lines.proofs.Rows.{row_of}
-use Rattle.topology_text.specs.declared.fault.TopologyCode.{TopologyCode}
-use Rattle.topology_text.specs.declared.fault.TopologyCode.TheVariants.{OutOfMemory}
-use Rattle.topology_text.specs.declared.fault.TopologyFault.{TopologyFault}
-use Rattle.topology_text.specs.Value.{NamedTopologyValue, IsNamed}
-use Rattle.topology_text.specs.Spelling.{lines_of, spelling}
-use Rattle.topology_text.specs.Reading.{topology_at, no_line, topology_of}
+use Rattle.text_lines.{specs.{Text.{Place, start}, Check.line_part}, proofs.{Checks.{bind_err, part_err_at}, Rows.row_of}}
+use Rattle.topology_text.specs.{declared.fault.{TopologyCode.{TopologyCode, TheVariants.OutOfMemory}, TopologyFault.TopologyFault}, Answer.Answers}
+use Rattle.topology_text.specs.{Value.{NamedTopologyValue, IsNamed}, Spelling.{lines_of, spelling}, Reading.{topology_at, no_line, topology_of}}
 use Rattle.topology_text.specs.First.{Agrees, FailsFirstAt}
-use Rattle.topology_text.specs.Answer.{Answers}
-use Rattle.topology_text.proofs.Laws.{topology_take, rows_of_spelling, after_topology, all_again}
-use Rattle.topology_text.proofs.Local.{Same}
-use Rattle.topology_text.proofs.SteadyParts.{whole_at, settles_topology}
-use Rattle.topology_text.proofs.Cuts.{Cut, cut_here, cut_after, cut_agrees}
-use Rattle.topology_text.proofs.Filled.{TopologyFilled, fill_topology}
+use Rattle.topology_text.proofs.{Laws.{topology_take, rows_of_spelling, after_topology, all_again}, Local.Same, SteadyParts.{whole_at, settles_topology}}
+use Rattle.topology_text.proofs.{Cuts.{Cut, cut_here, cut_after, cut_agrees}, Filled.{TopologyFilled, fill_topology}}
 
 -- ---- a topology has the lines before the one that is blamed
 

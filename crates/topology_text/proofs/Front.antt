@@ -1,25 +1,14 @@
 -- The lines of the header and of the nodes: what is read stands there, and what stands there is read.
-use Rattle.std.proofs.Common.{◌≡◌, ℕ, ◌<◌, ◌≤◌, Bool, true, false, ◌&&◌, ◌||◌, not, cond, eqb, leb, ltb, List, [], ◌∷◌, ◌++◌, length, drop, Option, None, Some, Result, Ok, ◌⊎◌, inl, inr, refl, sym, ap, ◌∙◌, subst, append_assoc, arith}
-use Rattle.std.specs.Prelude.{bytes_eq, codes, nat_le}
-use Rattle.std.specs.Option.{is_some}
-use Rattle.std.specs.List.{All, list_all, list_any}
+use Rattle.std.proofs.Common.{◌≡◌, ℕ, ◌<◌, ◌≤◌, Bool, true, false, ◌&&◌, ◌||◌, not, cond, eqb, leb, ltb, List, [], ◌∷◌, ◌++◌, length, drop, Option, None, Some, Result, Ok, ◌⊎◌, inl, inr, refl, sym, ap, ◌∙◌, subst, append_assoc, arith, bytes_eq, codes, nat_le}
+use Rattle.std.{specs.{Option.is_some, List.{All, list_all, list_any}}, proofs.lemmas.List.{append-nil, length-append, Splits.length-slice_split}}
 use Rattle.std.proofs.lemmas.Bool.{and_parts, or_parts, not-false, leb-true, leb-false, ltb-true, lt-leb, cond-true, or_cases, eqb-true, ne_eqb, false_from_ne_true}
-use Rattle.std.proofs.lemmas.List.{append-nil, length-append}
-use Rattle.std.proofs.lemmas.List.Elements.{All-nil, All-push, All-weaker, All-head, All-tail}
-use Rattle.std.proofs.lemmas.List.Splits.{length-slice_split}
-use Rattle.std.proofs.lemmas.List.Sums.{AllPass-from_list_all}
-use Rattle.std.proofs.lemmas.Slice.Eq.{bytes_eq-Decides}
-use Rattle.text_lines.specs.Text.{Row, words_of}
-use Rattle.text_lines.specs.Check.{◌>>=◌, refuse, need}
-use Rattle.text_lines.proofs.Checks.{refuse_ok, need_ok, ok_is}
-use Rattle.text_lines.proofs.Distinct.{AreDistinct, distinct_nil, distinct_push, none_before, next_has}
-use Rattle.text_lines.proofs.Rows.{row_of, row_back, words_again}
-use Rattle.text_lines.proofs.Words.{IsWord, AreWords, literal, tokens_from, none_empty, begins_is}
+use Rattle.std.proofs.lemmas.{List.{Elements.{All-nil, All-push, All-weaker, All-head, All-tail}, Sums.AllPass-from_list_all}, Slice.Eq.bytes_eq-Decides}
+use Rattle.text_lines.specs.{Text.{Row, words_of}, Check.{◌>>=◌, refuse, need}}
+use Rattle.text_lines.proofs.{Checks.{refuse_ok, need_ok, ok_is}, Distinct.{AreDistinct, distinct_nil, distinct_push, none_before, next_has}}
+use Rattle.text_lines.proofs.{Rows.{row_of, row_back, words_again}, Words.{IsWord, AreWords, literal, tokens_from, none_empty, begins_is}}
 use Rattle.collective_spec.specs.Patterns.{PatternValue}
-use Rattle.topology_text.specs.declared.fault.TopologyCode.{TopologyCode}
-use Rattle.topology_text.specs.declared.fault.TopologyCode.TheVariants.{BadHeader, BadLine, BadName, NameTwice, TooManyNodes, NoNodes}
-use Rattle.topology_text.specs.Names.{is_name_byte, is_name, name_of, AreNames}
-use Rattle.topology_text.specs.Spelling.{header_words, nodes_words, head_words}
+use Rattle.topology_text.specs.declared.fault.TopologyCode.{TopologyCode, TheVariants.{BadHeader, BadLine, BadName, NameTwice, TooManyNodes, NoNodes}}
+use Rattle.topology_text.specs.{Names.{is_name_byte, is_name, name_of, AreNames}, Spelling.{header_words, nodes_words, head_words}}
 use Rattle.topology_text.specs.Reading.{begins, has_empty, version_of, header_line, names_from, nodes_row, nodes_line}
 
 -- ---- line 1

@@ -1,24 +1,14 @@
 -- The lines of groups: what is read stands there, and what stands there is read.
-use Rattle.std.proofs.Common.{◌≡◌, ℕ, ◌+◌, ◌<◌, ◌≤◌, Bool, true, false, ◌||◌, not, cond, leb, ltb, List, [], ◌∷◌, ◌++◌, map, length, drop, Option, Some, Result, Ok, Err, refl, sym, ap, ◌∙◌, subst, append_assoc, arith}
-use Rattle.std.specs.Prelude.{codes, decimal, slice_index_or}
-use Rattle.std.specs.List.{All}
-use Rattle.std.proofs.lemmas.Bool.{or_parts, or_from, not-false, not_from_true, leb-false, lt-leb, le-ltb, cond-true, cond-false, ltb-false}
-use Rattle.std.proofs.lemmas.List.{append-nil, length-append, length-map}
-use Rattle.std.proofs.lemmas.List.Elements.{All-nil, All-push, All-get_or, All-head, All-tail}
-use Rattle.text_lines.specs.Text.{Row, Place, words_of}
-use Rattle.text_lines.specs.Check.{◌>>=◌, refuse, at_line, first, line_part}
-use Rattle.text_lines.proofs.Checks.{bind_ok, refuse_ok, at_line_ok, ok_is, first_is, part_ok}
-use Rattle.text_lines.proofs.Distinct.{next_has}
-use Rattle.text_lines.proofs.Rows.{row_of, row_back, words_again}
+use Rattle.std.proofs.Common.{◌≡◌, ℕ, ◌+◌, ◌<◌, ◌≤◌, Bool, true, false, ◌||◌, not, cond, leb, ltb, List, [], ◌∷◌, ◌++◌, map, length, drop, Option, Some, Result, Ok, Err, refl, sym, ap, ◌∙◌, subst, append_assoc, arith, codes, decimal, slice_index_or}
+use Rattle.std.{specs.List.All, proofs.lemmas.Bool.{or_parts, or_from, not-false, not_from_true, leb-false, lt-leb, le-ltb, cond-true, cond-false, ltb-false}}
+use Rattle.std.proofs.lemmas.List.{append-nil, length-append, length-map, Elements.{All-nil, All-push, All-get_or, All-head, All-tail}}
+use Rattle.text_lines.specs.{Text.{Row, Place, words_of}, Check.{◌>>=◌, refuse, at_line, first, line_part}}
+use Rattle.text_lines.proofs.{Checks.{bind_ok, refuse_ok, at_line_ok, ok_is, first_is, part_ok}, Distinct.next_has, Rows.{row_of, row_back, words_again}}
 use Rattle.text_lines.proofs.Words.{IsWord, AreWords, literal, tokens_from, none_empty, begins_is, decimal_word, token-append}
 use Rattle.schedule.specs.Links.{GroupValue, IsBelow, IsGroup}
-use Rattle.topology_text.specs.declared.fault.TopologyCode.{TopologyCode}
-use Rattle.topology_text.specs.declared.fault.TopologyCode.TheVariants.{BadLine, TooManyGroups}
-use Rattle.topology_text.specs.Names.{is_name}
-use Rattle.topology_text.specs.Spelling.{name_at, link_word, group_words}
-use Rattle.topology_text.specs.Reading.{begins, has_empty, width_of, links_from, group_row, groups_from}
-use Rattle.topology_text.proofs.Front.{Names, name_word}
-use Rattle.topology_text.proofs.Links.{links_nil, links_take, links_again, width_take, width_again}
+use Rattle.topology_text.specs.{declared.fault.TopologyCode.{TopologyCode, TheVariants.{BadLine, TooManyGroups}}, Names.is_name}
+use Rattle.topology_text.specs.{Spelling.{name_at, link_word, group_words}, Reading.{begins, has_empty, width_of, links_from, group_row, groups_from}}
+use Rattle.topology_text.proofs.{Front.{Names, name_word}, Links.{links_nil, links_take, links_again, width_take, width_again}}
 
 -- ---- words of links
 

@@ -1,13 +1,9 @@
 -- Who holds each chunk, node by node ascending, and the placement of these pairs.
-use Rattle.std.proofs.Common.{◌≡◌, ℕ, zero, suc, ◌+◌, ◌<◌, ◌≤◌, Bool, true, false, ◌||◌, cond, eqb, ltb, List, [], ◌∷◌, ◌++◌, map, length, ⊎_elim, refl, sym, ap, ◌∙◌, subst, append_assoc, arith}
-use Rattle.std.specs.Prelude.{nat_lt}
-use Rattle.std.specs.List.{AllByRecursion, filter, flat_map, list_all, list_any, range_with_len}
-use Rattle.std.proofs.lemmas.Bool.{and_parts, and_from, cases_eq, ltb-true, lt-ltb, ne_eqb, eq-eqb, or_from, or_left}
-use Rattle.std.proofs.lemmas.List.Elements.{filter-append}
-use Rattle.std.proofs.lemmas.List.Folds.{list_any-append}
+use Rattle.std.proofs.Common.{◌≡◌, ℕ, zero, suc, ◌+◌, ◌<◌, ◌≤◌, Bool, true, false, ◌||◌, cond, eqb, ltb, List, [], ◌∷◌, ◌++◌, map, length, ⊎_elim, refl, sym, ap, ◌∙◌, subst, append_assoc, arith, nat_lt}
+use Rattle.std.{specs.List.{AllByRecursion, filter, flat_map, list_all, list_any, range_with_len}, proofs.lemmas.List.Elements.filter-append}
+use Rattle.std.proofs.lemmas.{Bool.{and_parts, and_from, cases_eq, ltb-true, lt-ltb, ne_eqb, eq-eqb, or_from, or_left}, List.Folds.list_any-append}
 use Rattle.schedule.specs.Placed.{PlacementValue, same_pair, holds, IsPlacement}
-use Rattle.topology_text.specs.Reading.{row_of_pairs}
-use Rattle.topology_text.proofs.Inserted.{among}
+use Rattle.topology_text.{specs.Reading.row_of_pairs, proofs.Inserted.among}
 
 -- ---- numbers that ascend
 

@@ -1,18 +1,10 @@
 -- The lines of the chunks of a pattern: what is read stands there, and what stands there is read.
-use Rattle.std.proofs.Common.{◌≡◌, ℕ, zero, suc, ◌+◌, ◌-◌, ◌<◌, ◌≤◌, List, [], ◌∷◌, ◌++◌, map, length, Result, Ok, refl, sym, ap, ◌∙◌, subst, append_assoc, arith}
-use Rattle.std.specs.Prelude.{codes}
-use Rattle.std.specs.List.{AllByRecursion}
-use Rattle.std.proofs.lemmas.List.{append-nil}
-use Rattle.text_lines.specs.Text.{Row, Place}
-use Rattle.text_lines.specs.Check.{◌>>=◌, first, line_part}
-use Rattle.text_lines.proofs.Checks.{bind_ok, part_ok, ok_is}
-use Rattle.text_lines.proofs.Rows.{AreTokens, row_of}
-use Rattle.text_lines.proofs.Words.{IsWord, literal, tokens_from}
-use Rattle.topology_text.specs.declared.fault.TopologyCode.{TopologyCode}
-use Rattle.topology_text.specs.Reading.{holders_line, Pairs, row_of_pairs, holders_at}
-use Rattle.topology_text.proofs.Front.{Names}
-use Rattle.topology_text.proofs.Groups.{place, line_taken, part_again}
-use Rattle.topology_text.proofs.Held.{Ascends, EachAscends, pairs_from}
+use Rattle.std.proofs.Common.{◌≡◌, ℕ, zero, suc, ◌+◌, ◌-◌, ◌<◌, ◌≤◌, List, [], ◌∷◌, ◌++◌, map, length, Result, Ok, refl, sym, ap, ◌∙◌, subst, append_assoc, arith, codes}
+use Rattle.std.{specs.List.AllByRecursion, proofs.lemmas.List.append-nil}
+use Rattle.text_lines.specs.{Text.{Row, Place}, Check.{◌>>=◌, first, line_part}}
+use Rattle.text_lines.proofs.{Checks.{bind_ok, part_ok, ok_is}, Rows.{AreTokens, row_of}, Words.{IsWord, literal, tokens_from}}
+use Rattle.topology_text.specs.{declared.fault.TopologyCode.TopologyCode, Reading.{holders_line, Pairs, row_of_pairs, holders_at}}
+use Rattle.topology_text.proofs.{Front.Names, Groups.{place, line_taken, part_again}, Held.{Ascends, EachAscends, pairs_from}}
 use Rattle.topology_text.proofs.PatternLines.{named_words, named_are_words, holders_line_take, holders_line_again}
 
 -- ---- the nodes that hold each chunk before, and after

@@ -1,10 +1,7 @@
 -- A placement that is made pair by pair.
 use Rattle.std.proofs.Common.{◌≡◌, ℕ, ◌+◌, ◌<◌, Bool, true, false, ◌&&◌, ◌||◌, eqb, List, [], ◌∷◌, ◌++◌, length, get_or, take, refl, sym, ap, ◌∙◌, subst}
-use Rattle.std.specs.List.{All, filter, list_any}
-use Rattle.std.proofs.lemmas.Bool.{eqb-true, eq-eqb, eqb-false, ne_eqb}
-use Rattle.std.proofs.lemmas.List.{take_more}
+use Rattle.std.{specs.List.{All, filter, list_any}, proofs.lemmas.{Bool.{eqb-true, eq-eqb, eqb-false, ne_eqb}, List.{take_more, Folds.list_any-append}}}
 use Rattle.std.proofs.lemmas.List.Elements.{All-from_recursion, All-filter, All-get_or}
-use Rattle.std.proofs.lemmas.List.Folds.{list_any-append}
 use Rattle.schedule.specs.Placed.{PlacementValue, same_pair, holds, all_pairs, placed, IsPlacement, empty_placement, with_pair}
 use Rattle.schedule.proofs.Placing.{IsBelow, all_below, placed-alike, placed-none, holds-placed}
 

@@ -1,6 +1,5 @@
 -- A name in its 16 places.
-use Rattle.std.proofs.Common.{◌≡◌, ℕ, ◌-◌, true, List, length, take, replicate, sym, ap, ◌∙◌}
-use Rattle.std.proofs.Math.Seq.{take-append_seam}
+use Rattle.std.proofs.{Common.{◌≡◌, ℕ, ◌-◌, true, List, length, take, replicate, sym, ap, ◌∙◌}, Math.Seq.take-append_seam}
 use Rattle.topology_text.specs.Names.{is_name, padded, IsKept}
 
 pub kept : (name all : List ℕ) (n : ℕ) → is_name name ≡ true → n ≡ length name → all ≡ padded name → IsKept all n

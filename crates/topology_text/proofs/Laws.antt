@@ -1,25 +1,15 @@
 -- Whole topologies: what is read stands there, and what stands there is read.
-use Rattle.std.proofs.Common.{◌≡◌, ℕ, ◌+◌, Bool, List, [], ◌∷◌, ◌++◌, map, length, Option, None, Some, Result, Ok, Err, refl, sym, ap, ◌∙◌, subst, append_assoc, arith}
-use Rattle.std.specs.Prelude.{IfOk, IfSome, codes}
-use Rattle.std.specs.Option.{is_some}
-use Rattle.std.specs.List.{All, AllByRecursion}
-use Rattle.std.proofs.lemmas.List.{append-nil, length-append, length-map, map-append}
+use Rattle.std.proofs.Common.{◌≡◌, ℕ, ◌+◌, Bool, List, [], ◌∷◌, ◌++◌, map, length, Option, None, Some, Result, Ok, Err, refl, sym, ap, ◌∙◌, subst, append_assoc, arith, IfOk, IfSome, codes}
+use Rattle.std.{specs.{Option.is_some, List.{All, AllByRecursion}}, proofs.lemmas.List.{append-nil, length-append, length-map, map-append}}
 use Rattle.std.proofs.lemmas.List.Elements.{All-head, All-tail}
-use Rattle.text_lines.specs.Text.{Row, Place, rows_of, start}
-use Rattle.text_lines.specs.Check.{◌>>=◌, first, line_part}
-use Rattle.text_lines.proofs.Checks.{bind_ok, ok_is, part_ok}
-use Rattle.text_lines.proofs.Rows.{AreTokens, row_of, rows_again, text_back}
-use Rattle.text_lines.proofs.Words.{literal, tokens_from}
-use Rattle.schedule.specs.Links.{GroupValue, IsGroup, IsBelow}
-use Rattle.schedule.proofs.First.{each_append}
+use Rattle.text_lines.specs.{Text.{Row, Place, rows_of, start}, Check.{◌>>=◌, first, line_part}}
+use Rattle.text_lines.proofs.{Checks.{bind_ok, ok_is, part_ok}, Rows.{AreTokens, row_of, rows_again, text_back}, Words.{literal, tokens_from}}
+use Rattle.schedule.{specs.Links.{GroupValue, IsGroup, IsBelow}, proofs.First.each_append}
 use Rattle.collective_spec.specs.Patterns.{PatternValue, IsPattern}
-use Rattle.topology_text.specs.declared.fault.TopologyCode.{TopologyCode}
-use Rattle.topology_text.specs.declared.fault.TopologyFault.{TopologyFault}
-use Rattle.topology_text.specs.Names.{AreNames}
+use Rattle.topology_text.specs.{declared.fault.{TopologyCode.TopologyCode, TopologyFault.TopologyFault}, Names.AreNames, Answer.Answers}
 use Rattle.topology_text.specs.Value.{NamedTopologyValue, IsNamed, named_with}
 use Rattle.topology_text.specs.Spelling.{header_words, nodes_words, group_words, custom_lines, lines_of, spelling, head_words}
 use Rattle.topology_text.specs.Reading.{header_line, nodes_line, groups_at, pattern_at, named_at, topology_at, no_line, topology_of}
-use Rattle.topology_text.specs.Answer.{Answers}
 use Rattle.topology_text.proofs.Front.{Names, head_is, header_takes, header_again, nodes_line_take, nodes_again, nodes_are_words}
 use Rattle.topology_text.proofs.Groups.{Groups, groups_nil, group_rows, place, line_taken, part_again, EndsGroups, groups_take, groups_again, group_is_words}
 use Rattle.topology_text.proofs.Patterns.{pattern_take, pattern_again, pattern_ends, custom_are_words}

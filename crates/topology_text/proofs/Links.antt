@@ -1,29 +1,16 @@
 -- The links and the width of a group's line: what is read stands there, and what stands there is read.
-use Rattle.std.proofs.Common.{◌≡◌, ℕ, ◌<◌, ◌≤◌, true, false, eqb, ltb, List, [], ◌∷◌, ◌++◌, map, length, get_or, None, Some, Result, Ok, refl, sym, ap, ◌∙◌, subst, append_assoc, arith}
-use Rattle.std.specs.Prelude.{bytes_eq, decimal}
-use Rattle.std.specs.Bool.{Decides}
-use Rattle.std.specs.List.{All, list_any, join_with_byte, position_or_len}
-use Rattle.std.proofs.lemmas.Bool.{and_parts, and_from, eqb-true, eqb-false, eq-eqb, ne_eqb, cond-true, lt-ltb, false_from_ne_true}
-use Rattle.std.proofs.lemmas.List.{append-nil, length-map, map_push}
-use Rattle.std.proofs.lemmas.List.Elements.{All-nil, All-push, All-get_or}
-use Rattle.std.proofs.lemmas.List.Quantifiers.{position-Some}
+use Rattle.std.proofs.Common.{◌≡◌, ℕ, ◌<◌, ◌≤◌, true, false, eqb, ltb, List, [], ◌∷◌, ◌++◌, map, length, get_or, None, Some, Result, Ok, refl, sym, ap, ◌∙◌, subst, append_assoc, arith, bytes_eq, decimal}
+use Rattle.std.{specs.{Bool.Decides, List.{All, list_any, join_with_byte, position_or_len}}, proofs.lemmas.List.{append-nil, length-map, map_push}}
+use Rattle.std.proofs.lemmas.{Bool.{and_parts, and_from, eqb-true, eqb-false, eq-eqb, ne_eqb, cond-true, lt-ltb, false_from_ne_true}, Slice.Eq.bytes_eq-Decides}
+use Rattle.std.proofs.lemmas.List.{Elements.{All-nil, All-push, All-get_or}, Quantifiers.position-Some, Sums.position_or_len_is}
 use Rattle.std.proofs.lemmas.List.Splits.{slice_split_at, slice_split_none, join_with_byte-slice_split}
-use Rattle.std.proofs.lemmas.List.Sums.{position_or_len_is}
-use Rattle.std.proofs.lemmas.Slice.Eq.{bytes_eq-Decides}
-use Rattle.text_lines.specs.Check.{◌>>=◌, refuse, need}
-use Rattle.text_lines.specs.Number.{number_up_to}
-use Rattle.text_lines.proofs.Checks.{bind_ok, refuse_ok, need_ok, ok_is}
-use Rattle.text_lines.proofs.Distinct.{AreDistinct, distinct_nil, distinct_push, none_before, next_has}
+use Rattle.text_lines.specs.{Check.{◌>>=◌, refuse, need}, Number.number_up_to}
+use Rattle.text_lines.proofs.{Checks.{bind_ok, refuse_ok, need_ok, ok_is}, Distinct.{AreDistinct, distinct_nil, distinct_push, none_before, next_has}}
 use Rattle.text_lines.proofs.Numbers.{up_to_found, up_to_some}
-use Rattle.schedule.specs.Links.{IsLink, IsBelow, IsGroup}
-use Rattle.schedule.specs.Placed.{same_pair}
-use Rattle.topology_text.specs.declared.fault.TopologyCode.{TopologyCode}
-use Rattle.topology_text.specs.declared.fault.TopologyCode.TheVariants.{UnknownNode, SelfLink, LinkTwice, WidthRange}
-use Rattle.topology_text.specs.Names.{is_name}
-use Rattle.topology_text.specs.Spelling.{name_at, link_word}
-use Rattle.topology_text.specs.Reading.{both_sides, node_of, link_of, links_from, width_of}
-use Rattle.topology_text.proofs.Front.{Names, name_free}
-use Rattle.topology_text.proofs.Sides.{pieces, sides}
+use Rattle.schedule.specs.{Links.{IsLink, IsBelow, IsGroup}, Placed.same_pair}
+use Rattle.topology_text.specs.{declared.fault.TopologyCode.{TopologyCode, TheVariants.{UnknownNode, SelfLink, LinkTwice, WidthRange}}, Names.is_name}
+use Rattle.topology_text.specs.{Spelling.{name_at, link_word}, Reading.{both_sides, node_of, link_of, links_from, width_of}}
+use Rattle.topology_text.proofs.{Front.{Names, name_free}, Sides.{pieces, sides}}
 
 -- ---- nodes
 

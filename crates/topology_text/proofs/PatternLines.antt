@@ -1,27 +1,13 @@
 -- The lines of a pattern: what is read stands there, and what stands there is read.
-use Rattle.std.proofs.Common.{◌≡◌, ℕ, ◌+◌, ◌^◌, ◌<◌, ◌≤◌, Bool, true, false, ◌||◌, not, eqb, List, [], ◌∷◌, ◌++◌, map, length, get_or, drop, Option, None, Some, Result, Ok, Err, refl, sym, ap, ◌∙◌, subst, append_assoc, arith}
-use Rattle.std.specs.Prelude.{bytes_eq, codes, decimal, nat_lt, slice_index_or}
-use Rattle.std.specs.List.{list_all}
-use Rattle.std.proofs.lemmas.Bool.{and_parts, and_from, eqb-true, eqb-false, ne_eqb, false_from_ne_true, not-false, or_parts}
-use Rattle.std.proofs.lemmas.Fmt.{decimal_injective}
-use Rattle.std.proofs.lemmas.List.{append-nil, map_push}
-use Rattle.std.proofs.lemmas.List.Elements.{All-get_or}
-use Rattle.std.proofs.lemmas.Slice.Eq.{bytes_eq-Decides}
-use Rattle.text_lines.specs.Text.{Row, words_of}
-use Rattle.text_lines.specs.Check.{◌>>=◌, refuse, need}
-use Rattle.text_lines.specs.Number.{number_up_to}
-use Rattle.text_lines.proofs.Checks.{refuse_ok, need_ok, ok_is}
-use Rattle.text_lines.proofs.Numbers.{up_to_found, up_to_some}
-use Rattle.text_lines.proofs.Rows.{row_of, row_back, words_again}
+use Rattle.std.proofs.Common.{◌≡◌, ℕ, ◌+◌, ◌^◌, ◌<◌, ◌≤◌, Bool, true, false, ◌||◌, not, eqb, List, [], ◌∷◌, ◌++◌, map, length, get_or, drop, Option, None, Some, Result, Ok, Err, refl, sym, ap, ◌∙◌, subst, append_assoc, arith, bytes_eq, codes, decimal, nat_lt, slice_index_or}
+use Rattle.std.{specs.List.list_all, proofs.lemmas.Bool.{and_parts, and_from, eqb-true, eqb-false, ne_eqb, false_from_ne_true, not-false, or_parts}}
+use Rattle.std.proofs.lemmas.{Fmt.decimal_injective, List.{append-nil, map_push, Elements.All-get_or}, Slice.Eq.bytes_eq-Decides}
+use Rattle.text_lines.specs.{Text.{Row, words_of}, Check.{◌>>=◌, refuse, need}, Number.number_up_to}
+use Rattle.text_lines.proofs.{Checks.{refuse_ok, need_ok, ok_is}, Numbers.{up_to_found, up_to_some}, Rows.{row_of, row_back, words_again}}
 use Rattle.text_lines.proofs.Words.{IsWord, AreWords, literal, tokens_from, none_empty, begins_is, decimal_word}
-use Rattle.topology_text.specs.declared.fault.TopologyCode.{TopologyCode}
-use Rattle.topology_text.specs.declared.fault.TopologyCode.TheVariants.{BadLine, UnknownNode, BaseRange, NameOrder}
-use Rattle.topology_text.specs.Names.{is_name}
-use Rattle.topology_text.specs.Spelling.{name_at}
-use Rattle.topology_text.specs.Reading.{begins, has_empty, node_of, base_of, custom_line, holders_from, has_front, holders_line}
-use Rattle.topology_text.proofs.Front.{Names, name_word}
-use Rattle.topology_text.proofs.Links.{node_is, node_again}
-use Rattle.topology_text.proofs.Held.{Ascends, ascends_push, ascends_next, ascends_above}
+use Rattle.topology_text.specs.{declared.fault.TopologyCode.{TopologyCode, TheVariants.{BadLine, UnknownNode, BaseRange, NameOrder}}, Names.is_name}
+use Rattle.topology_text.specs.{Spelling.name_at, Reading.{begins, has_empty, node_of, base_of, custom_line, holders_from, has_front, holders_line}}
+use Rattle.topology_text.proofs.{Front.{Names, name_word}, Links.{node_is, node_again}, Held.{Ascends, ascends_push, ascends_next, ascends_above}}
 
 -- ---- the number of chunks
 

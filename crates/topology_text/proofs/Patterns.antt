@@ -1,21 +1,13 @@
 -- Patterns: what is read stands there, and what stands there is read.
-use Rattle.std.proofs.Common.{◌≡◌, ℕ, zero, suc, ◌+◌, ◌≤◌, Bool, true, false, List, [], ◌∷◌, ◌++◌, map, length, get_or, drop, Option, None, Some, Result, Ok, refl, sym, ap, ◌∙◌, subst, arith}
-use Rattle.std.specs.Prelude.{codes, IfSome}
-use Rattle.std.specs.Option.{is_some}
-use Rattle.std.specs.List.{AllByRecursion, flat_map, range_with_len}
-use Rattle.std.proofs.lemmas.List.{length-map}
-use Rattle.text_lines.specs.Text.{Row, Place}
-use Rattle.text_lines.specs.Check.{◌>>=◌, first, line_part}
-use Rattle.text_lines.proofs.Checks.{bind_ok, part_ok, ok_is}
-use Rattle.text_lines.proofs.Rows.{AreTokens, row_of}
-use Rattle.text_lines.proofs.Words.{tokens_from}
+use Rattle.std.proofs.Common.{◌≡◌, ℕ, zero, suc, ◌+◌, ◌≤◌, Bool, true, false, List, [], ◌∷◌, ◌++◌, map, length, get_or, drop, Option, None, Some, Result, Ok, refl, sym, ap, ◌∙◌, subst, arith, codes, IfSome}
+use Rattle.std.{specs.{Option.is_some, List.{AllByRecursion, flat_map, range_with_len}}, proofs.lemmas.List.length-map}
+use Rattle.text_lines.specs.{Text.{Row, Place}, Check.{◌>>=◌, first, line_part}}
+use Rattle.text_lines.proofs.{Checks.{bind_ok, part_ok, ok_is}, Rows.{AreTokens, row_of}, Words.tokens_from}
 use Rattle.schedule.specs.Placed.{PlacementValue, holds}
 use Rattle.collective_spec.specs.Patterns.{PatternValue, IsPattern}
-use Rattle.topology_text.specs.declared.fault.TopologyCode.{TopologyCode}
-use Rattle.topology_text.specs.Spelling.{holder_words, custom_lines}
+use Rattle.topology_text.specs.{declared.fault.TopologyCode.TopologyCode, Spelling.{holder_words, custom_lines}}
 use Rattle.topology_text.specs.Reading.{custom_line, Pairs, holders_at, pattern_of, pattern_at}
-use Rattle.topology_text.proofs.Front.{Names}
-use Rattle.topology_text.proofs.Groups.{place, EndsGroups, line_taken, part_again}
+use Rattle.topology_text.proofs.{Front.Names, Groups.{place, EndsGroups, line_taken, part_again}}
 use Rattle.topology_text.proofs.Held.{EachAscends, pairs_from, nodes_with, held_by, held_ascends, placement_from, rows_held, rows_placement, placement_rows}
 use Rattle.topology_text.proofs.PatternLines.{base_words, base_are_words, custom_take, custom_again, named_words}
 use Rattle.topology_text.proofs.HolderLines.{Holders, befores, afters, AreHeld, befores_ascend, afters_ascend, holder_lines, length-holder_lines, holder_lines_are_words, with_holders, no_pairs, holders_at_take, holders_at_again}

@@ -1,14 +1,9 @@
 -- What the printer appends is the spelling.
-use Rattle.std.proofs.Common.{◌≡◌, ℕ, ◌+◌, Bool, true, false, cond, List, [], ◌∷◌, ◌++◌, map, length, take, ◌≤◌, Option, None, Some, refl, sym, ap, ◌∙◌, append_assoc, arith}
-use Rattle.std.specs.Prelude.{codes, decimal, Result, Ok, Err, OnErr}
-use Rattle.std.specs.Io.{StartsWith}
-use Rattle.std.specs.List.{filter, flat_map, join_with_byte, range_with_len}
-use Rattle.std.proofs.lemmas.Grind.{flat_map-append}
-use Rattle.std.proofs.Math.Seq.{take-append_seam}
-use Rattle.std.proofs.lemmas.List.{append-nil, length-take, map-append, map-id, take-take, take_all}
+use Rattle.std.proofs.Common.{◌≡◌, ℕ, ◌+◌, Bool, true, false, cond, List, [], ◌∷◌, ◌++◌, map, length, take, ◌≤◌, Option, None, Some, refl, sym, ap, ◌∙◌, append_assoc, arith, codes, decimal, Result, Ok, Err, OnErr}
+use Rattle.std.{specs.{Io.StartsWith, List.{filter, flat_map, join_with_byte, range_with_len}}, proofs.lemmas.Grind.flat_map-append}
+use Rattle.std.proofs.{Math.Seq.take-append_seam, lemmas.List.{append-nil, length-take, map-append, map-id, take-take, take_all}}
 use Rattle.std.proofs.lemmas.List.FromFn.{filter_of_map_range_with_len_more, map-range_with_len_more}
-use Rattle.text_lines.specs.Text.{line, text_of, fields}
-use Rattle.text_lines.proofs.Words.{join_fields}
+use Rattle.text_lines.{specs.Text.{line, text_of, fields}, proofs.Words.join_fields}
 use Rattle.schedule.specs.Links.{GroupValue}
 use Rattle.collective_spec.specs.Patterns.{PatternValue}
 use Rattle.topology_text.specs.Value.{NamedTopologyValue}

@@ -1,13 +1,8 @@
 -- A link's word, cut at its `>`.
-use Rattle.std.proofs.Common.{◌≡◌, ◌≢◌, ℕ, ◌+◌, ◌<◌, ◌≤◌, eqb, List, [], ◌∷◌, length, get_or, take, slice_range, refl, ap, ◌∙◌, subst, arith}
-use Rattle.std.specs.Prelude.{Result, Ok, Err}
-use Rattle.std.specs.List.{slice_split}
-use Rattle.std.proofs.lemmas.List.{take_rest}
-use Rattle.std.proofs.lemmas.List.Splits.{length-slice_split}
+use Rattle.std.proofs.Common.{◌≡◌, ◌≢◌, ℕ, ◌+◌, ◌<◌, ◌≤◌, eqb, List, [], ◌∷◌, length, get_or, take, slice_range, refl, ap, ◌∙◌, subst, arith, Result, Ok, Err}
+use Rattle.std.{specs.List.slice_split, proofs.lemmas.List.{take_rest, Splits.length-slice_split}}
 use Rattle.text_lines.proofs.Rows.{parts_step, parts_end_at}
-use Rattle.topology_text.specs.declared.fault.TopologyCode.{TopologyCode}
-use Rattle.topology_text.specs.declared.fault.TopologyCode.TheVariants.{BadLine}
-use Rattle.topology_text.specs.Reading.{both_sides}
+use Rattle.topology_text.specs.{declared.fault.TopologyCode.{TopologyCode, TheVariants.BadLine}, Reading.both_sides}
 
 abbrev pub pieces : List ℕ → List (List ℕ)
 pieces word = slice_split (λ b. eqb b 62) word

@@ -1,9 +1,6 @@
 -- Readers that do the same where their lines are the same, and how they are put together.
-use Rattle.std.proofs.Common.{◌≡◌, ℕ, ◌≤◌, Bool, true, false, length, Option, Result, Ok, refl, sym, ap, ◌∙◌, subst, arith}
-use Rattle.std.specs.Prelude.{if◌then◌else◌}
-use Rattle.text_lines.specs.Text.{Row, Place}
-use Rattle.text_lines.specs.Check.{◌>>=◌, first, line_part}
-use Rattle.text_lines.proofs.Checks.{ok_is}
+use Rattle.std.proofs.Common.{◌≡◌, ℕ, ◌≤◌, Bool, true, false, length, Option, Result, Ok, refl, sym, ap, ◌∙◌, subst, arith, if◌then◌else◌}
+use Rattle.text_lines.{specs.{Text.{Row, Place}, Check.{◌>>=◌, first, line_part}}, proofs.Checks.ok_is}
 use Rattle.topology_text.proofs.Local.{Same, ReadsTo, Late, Onward, FailsAlike, ReadsAlike, first_same, line_late, line_onward, line_fails, line_reads, late_bind, onward_bind, fails_bind, reads_bind}
 
 -- a part goes on from its place, and blames no line before it

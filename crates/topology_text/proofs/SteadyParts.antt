@@ -1,18 +1,11 @@
 -- The parts of a topology text do the same where their lines are the same.
-use Rattle.std.proofs.Common.{◌≡◌, ℕ, zero, suc, ◌+◌, Bool, true, false, List, [], ◌∷◌, ◌++◌, length, Option, None, Some, Result, Ok, Err, refl, sym, ap, subst}
-use Rattle.std.specs.Prelude.{codes, if◌then◌else◌}
-use Rattle.text_lines.specs.Text.{Row, Place}
-use Rattle.text_lines.specs.Check.{◌>>=◌, first, line_part}
-use Rattle.text_lines.proofs.Checks.{part_ok, after_line}
+use Rattle.std.proofs.Common.{◌≡◌, ℕ, zero, suc, ◌+◌, Bool, true, false, List, [], ◌∷◌, ◌++◌, length, Option, None, Some, Result, Ok, Err, refl, sym, ap, subst, codes, if◌then◌else◌}
+use Rattle.text_lines.{specs.{Text.{Row, Place}, Check.{◌>>=◌, first, line_part}}, proofs.Checks.{part_ok, after_line}}
 use Rattle.schedule.specs.Links.{GroupValue}
 use Rattle.collective_spec.specs.Patterns.{PatternValue}
-use Rattle.topology_text.specs.declared.fault.TopologyCode.{TopologyCode}
-use Rattle.topology_text.specs.declared.fault.TopologyCode.TheVariants.{BadLine}
-use Rattle.topology_text.specs.Value.{NamedTopologyValue, named_with}
+use Rattle.topology_text.specs.{declared.fault.TopologyCode.{TopologyCode, TheVariants.BadLine}, Value.{NamedTopologyValue, named_with}}
 use Rattle.topology_text.specs.Reading.{begins, header_line, nodes_line, group_row, groups_from, groups_at, custom_line, holders_line, Pairs, holders_at, pattern_of, pattern_at, named_at, topology_at, no_line}
-use Rattle.topology_text.proofs.Groups.{place}
-use Rattle.topology_text.proofs.HolderLines.{pushed, no_pairs}
-use Rattle.topology_text.proofs.Laws.{after_topology}
+use Rattle.topology_text.proofs.{Groups.place, HolderLines.{pushed, no_pairs}, Laws.after_topology}
 use Rattle.topology_text.proofs.Steady.{Moves, Alike, moves_line, alike_line, moves_bind, alike_bind, found, moves_found, alike_stop, alike_choose, moves_choose, Steady, Settles, steady_line, steady_found, steady_then, settles_ok, settles_then}
 
 -- ---- groups

@@ -1,10 +1,8 @@
 -- Families of topologies that are often met: paths, cycles, complete graphs, hypercubes and tori, a bus that all links share, a switch with two ports for each node, boxes with cables between them, and the hybrid cube mesh of eight processors (NVIDIA, DGX-1 system architecture, 2017).
 use Rattle.std.specs.Prelude.{◌==◌, ◌&&◌, ◌||◌, not, if◌then◌else◌, ℕ, ◌+◌, ◌*◌, ◌/◌, ◌%◌, Bool, List, [], ◌∷◌, map, filter, nat_le, codes, decimal, ◌++◌, bit_xor}
 use Rattle.std.specs.List.{list_any, range_with_len}
-use Rattle.schedule.specs.Links.{GroupValue, turned}
-use Rattle.schedule.specs.Placed.{same_pair}
-use Rattle.topology_text.specs.declared.family_kind.FamilyKind.{FamilyKind}
-use Rattle.topology_text.specs.declared.family_kind.FamilyKind.TheVariants.{Line, Ring, Complete, Cube, Shared, Torus, Mesh, Switch, Boxes}
+use Rattle.schedule.specs.{Links.{GroupValue, turned}, Placed.same_pair}
+use Rattle.topology_text.specs.declared.family_kind.FamilyKind.{FamilyKind, TheVariants.{Line, Ring, Complete, Cube, Shared, Torus, Mesh, Switch, Boxes}}
 use Rattle.topology_text.specs.Value.{NamedTopologyValue, named}
 
 -- the numbers of the kinds (this project's own)

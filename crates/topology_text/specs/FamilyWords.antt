@@ -1,7 +1,6 @@
 -- The words that name families. This project's own.
 use Rattle.std.specs.Prelude.{ℕ, List, [], ◌∷◌, Option, find, bytes_eq, codes}
-use Rattle.topology_text.specs.declared.family_kind.FamilyKind.{FamilyKind}
-use Rattle.topology_text.specs.declared.family_kind.FamilyKind.TheVariants.{Line, Ring, Complete, Cube, Shared, Torus, Mesh, Switch, Boxes}
+use Rattle.topology_text.specs.declared.family_kind.FamilyKind.{FamilyKind, TheVariants.{Line, Ring, Complete, Cube, Shared, Torus, Mesh, Switch, Boxes}}
 
 -- the kinds of families, in the order of their numbers
 abbrev pub families : List FamilyKind

@@ -1,8 +1,7 @@
 -- Which line is blamed, in words of the texts alone.
 use Rattle.std.specs.Prelude.{◌≡◌, ℕ, ◌-◌, List, take}
 use Rattle.text_lines.specs.Text.{rows_of}
-use Rattle.topology_text.specs.Value.{NamedTopologyValue, IsNamed}
-use Rattle.topology_text.specs.Spelling.{spelling}
+use Rattle.topology_text.specs.{Value.{NamedTopologyValue, IsNamed}, Spelling.spelling}
 
 -- the first n lines of the text are those of the topology's text
 abbrev pub Agrees : ℕ → List ℕ → NamedTopologyValue → Type 0

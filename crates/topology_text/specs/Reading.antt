@@ -2,16 +2,11 @@
 -- gives the code and the line.
 use Rattle.std.specs.Prelude.{ℕ, ◌+◌, ◌==◌, ◌||◌, ◌&&◌, not, Bool, true, false, if◌then◌else◌, List, [], ◌∷◌, ◌++◌, length, drop, slice_index_or, position, Option, Some, None, Result, Ok, Err, nat_eq, nat_lt, nat_le, bytes_eq, codes, decimal, map, zero, suc}
 use Rattle.std.specs.List.{list_any, list_all, starts_with, slice_split}
-use Rattle.text_lines.specs.Text.{Row, Place, words_of, start}
-use Rattle.text_lines.specs.Check.{◌>>=◌, refuse, need, at_line, line_part}
-use Rattle.text_lines.specs.Number.{number_up_to}
-use Rattle.schedule.specs.Links.{GroupValue}
-use Rattle.schedule.specs.Placed.{same_pair}
-use Rattle.topology_text.specs.declared.fault.TopologyCode.{TopologyCode}
+use Rattle.text_lines.specs.{Text.{Row, Place, words_of, start}, Check.{◌>>=◌, refuse, need, at_line, line_part}, Number.number_up_to}
+use Rattle.schedule.specs.{Links.GroupValue, Placed.same_pair}
+use Rattle.topology_text.specs.{declared.fault.TopologyCode.TopologyCode, Names.name_of, Value.{NamedTopologyValue, named_with}}
 use Rattle.topology_text.specs.declared.fault.TopologyCode.TheVariants.{BadHeader, BadLine, BadName, NameTwice, UnknownNode, SelfLink, LinkTwice, WidthRange, TooManyNodes, TooManyGroups, NoNodes, BaseRange, NameOrder}
-use Rattle.topology_text.specs.Names.{name_of}
 use Rattle.collective_spec.specs.Patterns.{PatternValue}
-use Rattle.topology_text.specs.Value.{NamedTopologyValue, named_with}
 
 -- the line begins with the word
 abbrev pub begins : List ℕ → List ℕ → Bool

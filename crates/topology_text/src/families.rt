@@ -1,7 +1,6 @@
 //! Families of topologies that are often met.
 
-ghost use Rattle.std.specs.Prelude.{◌≡◌, ◌<◌, ◌≤◌, map, IsTrue, IfOk};
-ghost use Rattle.std.specs.List.{range_with_len};
+ghost use Rattle.std.specs.{Prelude.{◌≡◌, ◌<◌, ◌≤◌, map, IsTrue, IfOk}, List.range_with_len};
 ghost use Rattle.topology_text.specs.Family.{is_allowed, family_links, family_groups, family_of, numbered_name};
 
 use crate::family_kind::{FamilyKind, has_family_link};

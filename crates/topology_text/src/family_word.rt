@@ -1,8 +1,7 @@
 //! The words that name kinds of families.
 
 ghost use Rattle.std.specs.Prelude.{◌≡◌, ◌==◌, Some, find, map};
-ghost use Rattle.topology_text.specs.Family.{kind_number};
-ghost use Rattle.topology_text.specs.FamilyWords.{families, family_named, family_word};
+ghost use Rattle.topology_text.specs.{Family.kind_number, FamilyWords.{families, family_named, family_word}};
 
 use crate::family_kind::FamilyKind;
 use case_table::{Table, table};

@@ -1,9 +1,7 @@
 //! The line of one group.
 
 ghost use Rattle.std.specs.Prelude.{◌≡◌, ◌<◌, ◌≤◌, [], length, IfOk, nat_le};
-ghost use Rattle.text_lines.specs.Text.{words_of};
-ghost use Rattle.text_lines.specs.Line.{IsIn, row_at};
-ghost use Rattle.text_lines.specs.Check.{Gives};
+ghost use Rattle.text_lines.specs.{Text.words_of, Line.{IsIn, row_at}, Check.Gives};
 ghost use Rattle.topology_text.specs.Reading.{links_from, width_of, group_row};
 
 use crate::fault::TopologyCode;

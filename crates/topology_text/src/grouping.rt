@@ -1,9 +1,7 @@
 //! The groups of families, made of their links.
 
-ghost use Rattle.std.specs.Prelude.{◌≡◌, ◌==◌, ◌<◌, ◌++◌, [], ◌∷◌, ℕ, All, map, filter, IfOk, OnOk};
-ghost use Rattle.std.specs.List.{list_any, range_with_len};
-ghost use Rattle.schedule.specs.Links.{IsLink, IsGroup};
-ghost use Rattle.schedule.specs.Placed.{same_pair};
+ghost use Rattle.std.specs.{Prelude.{◌≡◌, ◌==◌, ◌<◌, ◌++◌, [], ◌∷◌, ℕ, All, map, filter, IfOk, OnOk}, List.{list_any, range_with_len}};
+ghost use Rattle.schedule.specs.{Links.{IsLink, IsGroup}, Placed.same_pair};
 ghost use Rattle.topology_text.specs.Family.{cable, double_ring, is_inside, mesh_group, port_in, port_out, single};
 
 use crate::family_kind::is_inside;

@@ -1,7 +1,6 @@
 //! The word of one link.
 
-ghost use Rattle.std.specs.Prelude.{◌≡◌, ◌≤◌, ◌==◌, length};
-ghost use Rattle.std.specs.List.{slice_split};
+ghost use Rattle.std.specs.{Prelude.{◌≡◌, ◌≤◌, ◌==◌, length}, List.slice_split};
 ghost use Rattle.topology_text.specs.Reading.{both_sides, node_of, link_of};
 ghost use Rattle.text_lines.specs.Check.{Tells};
 

@@ -1,9 +1,7 @@
 //! The line of the nodes' names, and what it shares with the lines of groups.
 
 ghost use Rattle.std.specs.Prelude.{◌≡◌, ◌≤◌, [], length, IfOk};
-ghost use Rattle.text_lines.specs.Text.{words_of};
-ghost use Rattle.text_lines.specs.Line.{IsIn, row_at};
-ghost use Rattle.text_lines.specs.Check.{Gives};
+ghost use Rattle.text_lines.specs.{Text.words_of, Line.{IsIn, row_at}, Check.Gives};
 ghost use Rattle.topology_text.specs.Reading.{has_empty, names_from, nodes_row};
 
 use crate::fault::TopologyCode;

@@ -1,8 +1,7 @@
 //! The header, the nodes and the groups of a topology text, each taken off the front of the lines.
 
 ghost use Rattle.std.specs.Prelude.{◌≡◌, ◌+◌, ◌^◌, ◌<◌, ◌≤◌, length, OnOk, IfOk, codes};
-ghost use Rattle.text_lines.specs.Line.{IsIn, row_at};
-ghost use Rattle.text_lines.specs.Check.{Gives, line_part, Tells};
+ghost use Rattle.text_lines.specs.{Line.{IsIn, row_at}, Check.{Gives, line_part, Tells}};
 ghost use Rattle.topology_text.specs.Reading.{version_of, header_line, nodes_line, groups_at, begins};
 
 use crate::fault::TopologyCode;

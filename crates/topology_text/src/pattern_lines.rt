@@ -1,10 +1,7 @@
 //! The lines of a pattern: its number of chunks, and who holds a chunk.
 
-ghost use Rattle.std.specs.Prelude.{◌≡◌, ◌≤◌, ◌==◌, [], length, Some, bytes_eq, decimal, nat_lt};
-ghost use Rattle.std.specs.List.{list_all};
-ghost use Rattle.text_lines.specs.Text.{words_of};
-ghost use Rattle.text_lines.specs.Line.{IsIn, row_at};
-ghost use Rattle.text_lines.specs.Check.{Gives};
+ghost use Rattle.std.specs.{Prelude.{◌≡◌, ◌≤◌, ◌==◌, [], length, Some, bytes_eq, decimal, nat_lt}, List.list_all};
+ghost use Rattle.text_lines.specs.{Text.words_of, Line.{IsIn, row_at}, Check.Gives};
 ghost use Rattle.topology_text.specs.Reading.{base_of, custom_line, holders_from, has_front, holders_line};
 
 use crate::fault::TopologyCode;

@@ -2,13 +2,8 @@
 
 ghost use Rattle.std.specs.Prelude.{◌≡◌, ◌≢◌, ◌+◌, ◌^◌, ◌<◌, ◌≤◌, Ok, OnOk, IfOk, IfErr};
 ghost use Rattle.text_lines.specs.Check.{Gives};
-ghost use Rattle.topology_text.specs.declared.fault.TopologyCode.{TopologyCode};
-ghost use Rattle.topology_text.specs.Value.{NamedTopologyValue, IsNamed};
-ghost use Rattle.topology_text.specs.Spelling.{spelling};
-ghost use Rattle.topology_text.specs.Names.{AreNames};
-ghost use Rattle.topology_text.specs.Reading.{named_at, topology_at, topology_of};
-ghost use Rattle.topology_text.specs.First.{FailsFirstAt};
-ghost use Rattle.topology_text.specs.Answer.{Answers};
+ghost use Rattle.topology_text.specs.{declared.fault.TopologyCode.TopologyCode, Value.{NamedTopologyValue, IsNamed}, Spelling.spelling, Names.AreNames};
+ghost use Rattle.topology_text.specs.{Reading.{named_at, topology_at, topology_of}, First.FailsFirstAt, Answer.Answers};
 
 use crate::fault::{TopologyCode, TopologyFault};
 use crate::name::Name;

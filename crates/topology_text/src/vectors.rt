@@ -1,10 +1,7 @@
 //! What families are.
 
-ghost use Rattle.std.specs.Prelude.{◌≡◌, [], ◌∷◌, filter};
-ghost use Rattle.std.specs.List.{range_with_len};
-ghost use Rattle.topology_text.specs.Family.{family_of, is_allowed};
-ghost use Rattle.topology_text.specs.Rows.{boxes_of_8, mesh_of_8, switch_of_3, torus_of_9};
-ghost use Rattle.topology_text.specs.Spelling.{spelling};
+ghost use Rattle.std.specs.{Prelude.{◌≡◌, [], ◌∷◌, filter}, List.range_with_len};
+ghost use Rattle.topology_text.specs.{Family.{family_of, is_allowed}, Rows.{boxes_of_8, mesh_of_8, switch_of_3, torus_of_9}, Spelling.spelling};
 
 use crate::family_kind::FamilyKind;
 

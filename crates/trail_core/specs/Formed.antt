@@ -1,8 +1,7 @@
 -- What callers know of a trail beside why its literals are true.
 use Rattle.std.specs.Prelude.{◌≢◌, ℕ, ◌≤◌, List, All, AllPairs, length}
 use Rattle.cnf_formula.specs.Formulas.{IsAbout}
-use Rattle.trail_core.specs.Assigned.{AreLimits}
-use Rattle.trail_core.specs.Trails.{StepValue, lits_of}
+use Rattle.trail_core.specs.{Assigned.AreLimits, Trails.{StepValue, lits_of}}
 
 -- literals of its variables, each variable once; and its levels begin one above the other
 pub record IsTrail (vars : ℕ) (steps : List StepValue) (limits : List ℕ) : Type 0 where

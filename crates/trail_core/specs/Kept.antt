@@ -1,11 +1,8 @@
 -- What a core keeps in its fields.
 use Rattle.std.specs.Prelude.{◌≡◌, ◌⊎◌, ℕ, ◌<◌, ◌≤◌, List, [], ◌∷◌, ◌++◌, None, Contains, All, length, get_or, take}
 use Rattle.cnf_formula.specs.Literals.{LitValue, negation, code_of}
-use Rattle.trail_core.specs.Assigned.{IsFalse, level_at}
-use Rattle.trail_core.specs.Trails.{StepValue, TrailValue, lits_of}
-use Rattle.trail_core.specs.Watching.{RowValue, ListsValue, watch_count, row_at}
-use Rattle.trail_core.specs.Meaning.{CoreValue, trues, IsClosed}
-use Rattle.trail_core.specs.Search.{IsSatisfied, IsUnit, IsImplied, CanScan, clauses_of}
+use Rattle.trail_core.specs.{Assigned.{IsFalse, level_at}, Trails.{StepValue, TrailValue, lits_of}, Watching.{RowValue, ListsValue, watch_count, row_at}}
+use Rattle.trail_core.specs.{Meaning.{CoreValue, trues, IsClosed}, Search.{IsSatisfied, IsUnit, IsImplied, CanScan, clauses_of}}
 
 -- a clause that watches a literal false in the first list is satisfied in the second
 abbrev pub Excused : List RowValue → List LitValue → List LitValue → Type 0

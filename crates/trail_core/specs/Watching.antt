@@ -1,7 +1,6 @@
 -- Clauses with two watched literals each, and for each literal the list of the clauses that watch it.
 use Rattle.std.specs.Prelude.{◌≡◌, ◌≢◌, ◌==◌, ◌⊎◌, ℕ, ◌+◌, ◌-◌, ◌*◌, ◌<◌, ◌≤◌, Bool, true, false, List, [], Contains, All, count_by, sum_by, length, get_or, nat_lt, cond, if◌then◌else◌}
-use Rattle.cnf_formula.specs.Literals.{LitValue, code_of}
-use Rattle.cnf_formula.specs.Formulas.{IsAbout}
+use Rattle.cnf_formula.specs.{Literals.{LitValue, code_of}, Formulas.IsAbout}
 
 -- a clause, and the two literals that it watches; a clause of less than two literals watches none
 pub record RowValue : Type 0 where

@@ -2,12 +2,8 @@
 //! watch.
 
 ghost use Rattle.std.specs.Prelude.{◌≡◌, ◌≢◌, ◌==◌, ℕ, ◌+◌, ◌*◌, ◌<◌, ◌≤◌, length, Contains, All, AllPairs, count_by, IfOk, OnErr, OnOk, slice_index, take, vec_len, vec_capacity};
-ghost use Rattle.cnf_formula.specs.Literals.{LitValue, code_of};
-ghost use Rattle.cnf_formula.specs.Formulas.{IsAbout};
-ghost use Rattle.trail_core.specs.Assigned.{IsFalse, IsOpen};
-ghost use Rattle.trail_core.specs.Trails.{lits_of};
-ghost use Rattle.trail_core.specs.Watching.{AreLists, HasRoom};
-ghost use Rattle.trail_core.specs.Kept.{IsRecent, IsKept, IsHeld, CanAddTo};
+ghost use Rattle.cnf_formula.specs.{Literals.{LitValue, code_of}, Formulas.IsAbout};
+ghost use Rattle.trail_core.specs.{Assigned.{IsFalse, IsOpen}, Trails.lits_of, Watching.{AreLists, HasRoom}, Kept.{IsRecent, IsKept, IsHeld, CanAddTo}};
 
 use crate::lists::WatchLists;
 use crate::store::ClauseStore;

@@ -2,13 +2,9 @@
 //! watched literals.
 
 ghost use Rattle.std.specs.Prelude.{◌≡◌, ◌≢◌, ℕ, ◌+◌, ◌*◌, ◌<◌, ◌≤◌, List, [], ◌∷◌, ◌++◌, Option, Some, None, MatchOption, length, get_or, map, slice_index, Contains, All, AllPairs, IfOk, OnErr, take};
-ghost use Rattle.cnf_formula.specs.Literals.{LitValue, negation};
-ghost use Rattle.cnf_formula.specs.Formulas.{IsAbout, IsClause};
-ghost use Rattle.trail_core.specs.Assigned.{IsOpen, IsValue, level_at};
-ghost use Rattle.trail_core.specs.Search.{IsFalsified, IsUnit, Implied};
-ghost use Rattle.trail_core.specs.Kept.{IsDue, AreGrounded, CanAdd};
-ghost use Rattle.trail_core.specs.Meaning.{CoreValue, trues, IsClosed, IsClosedBelow};
-ghost use Rattle.trail_core.specs.Formed.{IsTrail};
+ghost use Rattle.cnf_formula.specs.{Literals.{LitValue, negation}, Formulas.{IsAbout, IsClause}};
+ghost use Rattle.trail_core.specs.{Assigned.{IsOpen, IsValue, level_at}, Search.{IsFalsified, IsUnit, Implied}, Kept.{IsDue, AreGrounded, CanAdd}};
+ghost use Rattle.trail_core.specs.{Meaning.{CoreValue, trues, IsClosed, IsClosedBelow}, Formed.IsTrail};
 
 use crate::adding::hold;
 use crate::lists::WatchLists;
@@ -67,8 +63,7 @@ pub struct Core {
 
 impl Model for Core {
     ghost use Rattle.std.specs.Prelude.{map};
-    ghost use Rattle.trail_core.specs.Meaning.{CoreValue};
-    ghost use Rattle.trail_core.specs.Kept.{IsKept};
+    ghost use Rattle.trail_core.specs.{Meaning.CoreValue, Kept.IsKept};
 
     ghost Value = { CoreValue };
 

@@ -20,8 +20,7 @@ pub(crate) struct WatchLists {
 
 impl Model for WatchLists {
     ghost use Rattle.std.specs.Prelude.{map, length};
-    ghost use Rattle.trail_core.specs.Watching.{ListsValue};
-    ghost use Rattle.trail_core.specs.inner.Pooled.{entries_of, numbers_of, ArePooled};
+    ghost use Rattle.trail_core.specs.{Watching.ListsValue, inner.Pooled.{entries_of, numbers_of, ArePooled}};
 
     ghost Value = { ListsValue };
 

@@ -1,8 +1,7 @@
 //! A list that lies in a pool with others.
 
 ghost use Rattle.std.specs.Prelude.{◌≡◌, ◌⊎◌, ℕ, ◌+◌, ◌<◌, ◌≤◌, length, get_or, IfOk};
-ghost use Rattle.trail_core.specs.Watching.{WatchValue};
-ghost use Rattle.trail_core.specs.inner.Pooled.{IsInside, entries_of};
+ghost use Rattle.trail_core.specs.{Watching.WatchValue, inner.Pooled.{IsInside, entries_of}};
 
 use crate::watch::Watch;
 use std::alloc::AllocError;

@@ -3,9 +3,7 @@
 
 ghost use Rattle.std.specs.Prelude.{◌≢◌, ◌≡◌, ◌↔◌, ℕ, ◌+◌, ◌<◌, ◌≤◌, IsTrue, true, [], ◌∷◌, ◌++◌, Option, Some, None, length, take, get_or, slice_set, slice_index, Contains, IfOk};
 ghost use Rattle.cnf_formula.specs.Literals.{LitValue, negation, code_of};
-ghost use Rattle.trail_core.specs.Assigned.{IsFalse, IsOpen, IsValue, IsConsistent, AreLimits, level_at};
-ghost use Rattle.trail_core.specs.Trails.{TrailValue, lits_of};
-ghost use Rattle.trail_core.specs.Formed.{IsTrail};
+ghost use Rattle.trail_core.specs.{Assigned.{IsFalse, IsOpen, IsValue, IsConsistent, AreLimits, level_at}, Trails.{TrailValue, lits_of}, Formed.IsTrail};
 
 use cnf_formula::Lit;
 use std::alloc::{AllocError, Global};
@@ -45,8 +43,7 @@ pub(crate) struct Trail {
 
 impl Model for Trail {
     ghost use Rattle.std.specs.Prelude.{◌≡◌, ◌+◌, ◌<◌, ◌≤◌, map, length, vec_capacity};
-    ghost use Rattle.trail_core.specs.Trails.{TrailValue, step_of, IsAssigned, IsLeveled};
-    ghost use Rattle.trail_core.specs.inner.Packed.{levels_of, reasons_of};
+    ghost use Rattle.trail_core.specs.{Trails.{TrailValue, step_of, IsAssigned, IsLeveled}, inner.Packed.{levels_of, reasons_of}};
 
     ghost Value = { TrailValue };
 

@@ -18,10 +18,8 @@ pub(crate) struct Watch {
 }
 
 impl Model for Watch {
-    ghost use Rattle.std.specs.Prelude.{◌≡◌, ◌==◌, ℕ, ◌+◌, ◌*◌, ◌/◌, ◌%◌, ◌<◌, nat_eq, if◌then◌else◌};
-    ghost use Rattle.std.proofs.Common.{arith};
-    ghost use Rattle.std.proofs.lemmas.Nat.{div-add-mod', mod_below};
-    ghost use Rattle.std.proofs.lemmas.Bool.{cond_both, eqb-true, eqb-false};
+    ghost use Rattle.std.{specs.Prelude.{◌≡◌, ◌==◌, ℕ, ◌+◌, ◌*◌, ◌/◌, ◌%◌, ◌<◌, nat_eq, if◌then◌else◌}, proofs.Common.arith};
+    ghost use Rattle.std.proofs.lemmas.{Nat.{div-add-mod', mod_below}, Bool.{cond_both, eqb-true, eqb-false}};
     ghost use Rattle.trail_core.specs.Watching.{WatchValue};
 
     ghost Value = { WatchValue };

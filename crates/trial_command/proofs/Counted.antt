@@ -1,18 +1,13 @@
 -- Two right reports of one search that leave nothing unknown count as many points and as many refuted candidates.
-use Rattle.std.proofs.Common.{◌≡◌, ℕ, ◌+◌, List, [], ◌∷◌, map, length, refl, sym, ap, ◌∙◌, subst, arith}
-use Rattle.std.specs.Prelude.{sum_by, All}
-use Rattle.std.proofs.lemmas.List.{length-map, nil_from_length}
-use Rattle.std.proofs.lemmas.List.Sums.{sum_by-cons}
-use Rattle.std.proofs.lemmas.List.Elements.{All-nil, All-cons, All-head, All-tail}
+use Rattle.std.proofs.{Common.{◌≡◌, ℕ, ◌+◌, List, [], ◌∷◌, map, length, refl, sym, ap, ◌∙◌, subst, arith, sum_by, All}, lemmas.List.Sums.sum_by-cons}
+use Rattle.std.proofs.lemmas.List.{length-map, nil_from_length, Elements.{All-nil, All-cons, All-head, All-tail}}
 use Rattle.outer_ports.specs.declared.part.Part.{Part}
-use Rattle.candidate_order.specs.Frontiers.{FrontierValue, PointValue, RightFrontier, Searched, solved}
-use Rattle.candidate_order.proofs.Settled.{same_points, same_refuted}
+use Rattle.candidate_order.{specs.Frontiers.{FrontierValue, PointValue, RightFrontier, Searched, solved}, proofs.Settled.{same_points, same_refuted}}
 use Rattle.topology_text.specs.Value.{NamedTopologyValue}
 use Rattle.report_form.specs.Reports.{WordsValue, ReportValue, IsFrontier, parts_of, question_of}
 use Rattle.frontier_audit.specs.Rights.{IsRight, IsSearched}
-use Rattle.run_rules.specs.Trials.{trial_words}
+use Rattle.run_rules.specs.{Trials.trial_words, Tries.Tries}
 use Rattle.trial_command.specs.Counts.{points_in, refuted_in, unknown_in, trial_topology}
-use Rattle.run_rules.specs.Tries.{Tries}
 
 -- a part of a report in which everything is settled
 record IsSettledPart (w : WordsValue) (t : NamedTopologyValue) (x : Part × FrontierValue) : Type 0 where

@@ -1,13 +1,9 @@
 -- The points of a report, one number after the other.
-use Rattle.std.proofs.Common.{◌≡◌, arith, ℕ, zero, suc, ◌+◌, ◌-◌, ◌*◌, ◌≤◌, inl, inr, length, take, get_or, None, Some, slice_get, sym, ap, ◌∙◌}
-use Rattle.std.specs.Prelude.{sum_by}
-use Rattle.std.proofs.Math.Seq.{take-length}
-use Rattle.std.proofs.lemmas.List.Sums.{sum_by_more}
-use Rattle.std.proofs.lemmas.Option.{get_or_from_slice_get, slice_get_cases, slice_get_within}
+use Rattle.std.proofs.Common.{◌≡◌, arith, ℕ, zero, suc, ◌+◌, ◌-◌, ◌*◌, ◌≤◌, inl, inr, length, take, get_or, None, Some, slice_get, sym, ap, ◌∙◌, sum_by}
+use Rattle.std.proofs.{Math.Seq.take-length, lemmas.{List.Sums.sum_by_more, Option.{get_or_from_slice_get, slice_get_cases, slice_get_within}}}
 use Rattle.outer_ports.specs.declared.part.Part.{Part}
 use Rattle.candidate_order.specs.Frontiers.{PointValue}
-use Rattle.report_form.specs.Reports.{ReportValue}
-use Rattle.report_form.specs.Numbered.{point_at, points_of}
+use Rattle.report_form.specs.{Reports.ReportValue, Numbered.{point_at, points_of}}
 
 -- the point of a number stands at the place below
 at_place : (r : ReportValue) (n : ℕ) → 1 ≤ n → point_at r n ≡ slice_get (points_of r) (n - 1)

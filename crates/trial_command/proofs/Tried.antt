@@ -1,20 +1,14 @@
 -- What a trial goes through.
 use Rattle.std.proofs.Common.{◌≡◌, ℕ, ◌≤◌, List, Ok, inl, inr, Err, sym, ap, ◌∙◌, subst}
-use Rattle.outer_ports.specs.declared.part.Part.TheVariants.{Whole}
-use Rattle.outer_ports.specs.Files.{Files}
+use Rattle.outer_ports.specs.{declared.part.Part.TheVariants.Whole, Files.Files}
 use Rattle.candidate_formula.specs.Sizes.{size_of}
 use Rattle.round_encoding.specs.Candidates.{size_limit}
 use Rattle.topology_text.specs.Value.{NamedTopologyValue}
-use Rattle.report_form.specs.declared.fault.ReportCode.TheVariants.{OutOfMemory}
-use Rattle.report_form.specs.declared.fault.ReportFault.{ReportFault}
-use Rattle.report_form.specs.Answer.{Answers}
+use Rattle.report_form.specs.{declared.fault.{ReportCode.TheVariants.OutOfMemory, ReportFault.ReportFault}, Answer.Answers}
 use Rattle.report_form.specs.Reports.{ReportValue, WordsValue, question_of}
-use Rattle.frontier_audit.specs.Rights.{IsRight, IsSearched}
-use Rattle.frontier_audit.specs.Shelves.{ShelfRight}
-use Rattle.run_rules.specs.Trials.{trial_text, trial_words}
-use Rattle.trial_command.specs.Counts.{trial_topology}
-use Rattle.run_rules.specs.Tries.{Tries}
-use Rattle.trial_command.proofs.Searchable.{trial_small}
+use Rattle.frontier_audit.specs.{Rights.{IsRight, IsSearched}, Shelves.ShelfRight}
+use Rattle.run_rules.specs.{Trials.{trial_text, trial_words}, Tries.Tries}
+use Rattle.trial_command.{specs.Counts.trial_topology, proofs.Searchable.trial_small}
 
 -- where a report is owed, only memory may be lacking
 pub only_memory : (fault : ReportFault) (r : ReportValue) → Answers (Err fault) (Ok r) → fault.code ≡ OutOfMemory

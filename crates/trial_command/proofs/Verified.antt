@@ -1,17 +1,11 @@
 -- A right report is verified beside files that prove it.
-use Rattle.std.proofs.Common.{◌≡◌, List, [], ◌∷◌, ◌++◌, map, append-nil, sym, ap, ◌∙◌, subst}
-use Rattle.std.proofs.lemmas.List.Elements.{All-contains}
-use Rattle.outer_ports.specs.Files.{Files}
-use Rattle.outer_ports.specs.declared.part.Part.{Part}
-use Rattle.outer_ports.specs.declared.part.Part.TheVariants.{Reduce, Gather}
+use Rattle.std.proofs.{Common.{◌≡◌, List, [], ◌∷◌, ◌++◌, map, append-nil, sym, ap, ◌∙◌, subst}, lemmas.List.Elements.All-contains}
+use Rattle.outer_ports.specs.{Files.Files, declared.part.Part.{Part, TheVariants.{Reduce, Gather}}}
 use Rattle.allreduce_join.specs.Joins.{Joins}
 use Rattle.candidate_order.specs.Frontiers.{FrontierValue, PointValue}
 use Rattle.report_form.specs.Reports.{ReportValue, parts_of}
-use Rattle.frontier_audit.specs.declared.verdict.AuditVerdict.TheVariants.{Verified}
-use Rattle.frontier_audit.specs.Auditing.{audit_of}
-use Rattle.frontier_audit.specs.Rights.{AreJoined, IsRight}
+use Rattle.frontier_audit.specs.{declared.verdict.AuditVerdict.TheVariants.Verified, Auditing.audit_of, Rights.{AreJoined, IsRight}, Shelves.ShelfRight}
 use Rattle.frontier_audit.specs.Parts.{IsRightPart, is_gather, is_reduce, points_of}
-use Rattle.frontier_audit.specs.Shelves.{ShelfRight}
 use Rattle.frontier_audit.proofs.Right.{right_verified}
 
 -- the joins of the two parts are those of the points that the audit picks

@@ -4,13 +4,9 @@ ghost use Rattle.std.specs.Prelude.{◌≡◌, ◌<◌, ◌≤◌, IfOk, Ok};
 ghost use Rattle.round_encoding.specs.Candidates.{size_limit};
 ghost use Rattle.candidate_formula.specs.Sizes.{size_of};
 ghost use Rattle.report_form.specs.Reports.{IsReport, question_of};
-ghost use Rattle.frontier_audit.specs.Rights.{IsRight, IsSearched};
-ghost use Rattle.frontier_audit.specs.Shelves.{ShelfRight};
-ghost use Rattle.run_rules.specs.Answers.{IsAnswerAlone};
-ghost use Rattle.run_rules.specs.Tasks.{Try};
-ghost use Rattle.run_rules.specs.Trials.{trial_text, trial_words};
+ghost use Rattle.frontier_audit.specs.{Rights.{IsRight, IsSearched}, Shelves.ShelfRight};
+ghost use Rattle.run_rules.specs.{Answers.IsAnswerAlone, Tasks.Try, Trials.{trial_text, trial_words}, Tries.Tries};
 ghost use Rattle.trial_command.specs.Counts.{trial_topology};
-ghost use Rattle.run_rules.specs.Tries.{Tries};
 
 use crate::OutOfMemory;
 use crate::asked::{trial_topology, trial_words};

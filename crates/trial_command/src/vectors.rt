@@ -4,8 +4,7 @@ ghost use Rattle.std.specs.Prelude.{◌≡◌, [], ◌∷◌, codes};
 ghost use Rattle.candidate_order.specs.Ranges.{unpruned};
 ghost use Rattle.topology_text.specs.Family.{family_of};
 ghost use Rattle.run_rules.specs.Trials.{trial_text, trial_words};
-ghost use Rattle.trial_command.specs.Counts.{trial_topology};
-ghost use Rattle.trial_command.specs.Rows.{refuted_trial};
+ghost use Rattle.trial_command.specs.{Counts.trial_topology, Rows.refuted_trial};
 
 use collective_spec::Kind;
 use topology_text::FamilyKind;

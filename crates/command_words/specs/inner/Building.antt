@@ -1,23 +1,15 @@
 -- The command of the values of words, as the code makes it.
 use Rattle.std.specs.Prelude.{ℕ, not, Option, Some, None, Result, Ok, Err}
 use Rattle.text_lines.specs.Check.{◌>>=◌, refuse, need}
-use Rattle.candidate_order.specs.declared.pruning.Pruning.{Pruning}
-use Rattle.candidate_order.specs.Ranges.{unpruned}
-use Rattle.collective_spec.specs.declared.kind.Kind.{Kind}
-use Rattle.collective_spec.specs.Kinds.{takes_root}
+use Rattle.candidate_order.specs.{declared.pruning.Pruning.Pruning, Ranges.unpruned}
+use Rattle.collective_spec.specs.{declared.kind.Kind.Kind, Kinds.takes_root}
 use Rattle.topology_text.specs.Family.{is_allowed}
-use Rattle.command_words.specs.declared.command.JsonWhat.{JsonWhat}
-use Rattle.command_words.specs.declared.command.JsonWhat.TheVariants as what
-use Rattle.command_words.specs.declared.command.PointWord.{PointWord}
-use Rattle.command_words.specs.declared.command.RootWord.{RootWord}
-use Rattle.command_words.specs.declared.command.SearchWords.{SearchWords}
-use Rattle.command_words.specs.declared.command.Command.{Command}
-use Rattle.command_words.specs.declared.command.Command.TheVariants as command
-use Rattle.command_words.specs.declared.fault.WordFault.{WordFault}
-use Rattle.command_words.specs.declared.fault.WordCode.TheVariants.{UnknownKey, KeyMissing, BadValue, RootNotTaken}
-use Rattle.command_words.specs.declared.verb.Verb.{Verb}
+use Rattle.command_words.specs.declared.command.{JsonWhat.JsonWhat, PointWord.PointWord, RootWord.RootWord, SearchWords.SearchWords, Command.Command}
+use Rattle.command_words.specs.declared.{fault.{WordFault.WordFault, WordCode.TheVariants.{UnknownKey, KeyMissing, BadValue, RootNotTaken}}, verb.Verb.Verb}
 use Rattle.command_words.specs.declared.verb.Verb.TheVariants.{Synth, Check, Replay, Programs, Family, Trial, Bound, Ordered, Degrade, Json, Unjson}
 use Rattle.command_words.specs.declared.values.Values.{Values}
+use Rattle.command_words.specs.declared.command.JsonWhat.TheVariants as what
+use Rattle.command_words.specs.declared.command.Command.TheVariants as command
 
 -- a key that is lacking is missed behind the last of the words
 abbrev pub required : {V : Type 0} → Option V → ℕ → Result V WordFault

@@ -1,10 +1,8 @@
 -- The numbers of the commands, of the keys and of what is read or written as JSON, in the tables of the code.
 use Rattle.std.specs.Prelude.{ℕ, ◌==◌, List, Option, find}
-use Rattle.command_words.specs.declared.command.JsonWhat.{JsonWhat}
-use Rattle.command_words.specs.declared.command.JsonWhat.TheVariants as what
-use Rattle.command_words.specs.declared.verb.Verb.{Verb}
+use Rattle.command_words.specs.declared.{command.JsonWhat.JsonWhat, verb.Verb.Verb, key.Key.Key}
 use Rattle.command_words.specs.declared.verb.Verb.TheVariants.{Synth, Check, Replay, Programs, Family, Trial, Bound, Ordered, Degrade, Json, Unjson}
-use Rattle.command_words.specs.declared.key.Key.{Key}
+use Rattle.command_words.specs.declared.command.JsonWhat.TheVariants as what
 use Rattle.command_words.specs.declared.key.Key.TheVariants as key
 
 -- the value that has this number

@@ -1,13 +1,8 @@
 -- Words read into the values of keys, as the code does it.
 use Rattle.std.specs.Prelude.{ℕ, ◌+◌, false, not, List, [], ◌∷◌, None, Result, Ok}
 use Rattle.text_lines.specs.Check.{◌>>=◌, refuse, need}
-use Rattle.command_words.specs.declared.fault.WordCode.{WordCode}
-use Rattle.command_words.specs.declared.fault.WordCode.TheVariants.{UnknownKey, KeyTwice}
-use Rattle.command_words.specs.declared.fault.WordFault.{WordFault}
-use Rattle.command_words.specs.declared.verb.Verb.{Verb}
-use Rattle.command_words.specs.declared.values.Values.{Values}
-use Rattle.command_words.specs.Tables.{named, keys, key_word, has_key}
-use Rattle.command_words.specs.Words.{key_and_value, at_word}
+use Rattle.command_words.specs.declared.{fault.{WordCode.{WordCode, TheVariants.{UnknownKey, KeyTwice}}, WordFault.WordFault}, verb.Verb.Verb}
+use Rattle.command_words.specs.{declared.values.Values.Values, Tables.{named, keys, key_word, has_key}, Words.{key_and_value, at_word}}
 use Rattle.command_words.specs.inner.Values.{has_value, with_value}
 
 -- no key has a value

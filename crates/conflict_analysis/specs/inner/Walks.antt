@@ -1,9 +1,6 @@
 -- Walks down the trail, on which steps that wait are taken for their reasons.
 use Rattle.std.specs.Prelude.{◌≡◌, ◌≢◌, ℕ, ◌+◌, ◌<◌, ◌≤◌, [], ◌++◌, ◌∷◌, length, get_or, set, take, pos}
-use Rattle.trail_core.specs.Formed.{IsTrail}
-use Rattle.trail_core.specs.Kept.{IsDue}
-use Rattle.trail_core.specs.Meaning.{CoreValue}
-use Rattle.trail_core.specs.Search.{IsImplied}
+use Rattle.trail_core.specs.{Formed.IsTrail, Kept.IsDue, Meaning.CoreValue, Search.IsImplied}
 use Rattle.conflict_analysis.specs.Met.{WalkValue, step_at, lit_at, mark_of, IsSeen, AreMarks, AreKept, AreNoted, IsSorted, HasMet, IsPassed, IsOnward, waiting}
 
 -- the step at a place is the highest one of a kind that waits

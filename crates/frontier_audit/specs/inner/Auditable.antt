@@ -1,15 +1,11 @@
 -- What an audit asks of a part.
 use Rattle.std.specs.Prelude.{◌≡◌, ◌≢◌, ◌≤◌}
 use Rattle.schedule.specs.Links.{TopologyValue, IsTopology}
-use Rattle.collective_spec.specs.declared.kind.Kind.TheVariants.{Allreduce}
-use Rattle.collective_spec.specs.Collectives.{IsSpec, kind_in}
-use Rattle.candidate_order.specs.Ranges.{IsLimits}
-use Rattle.candidate_order.specs.Frontiers.{QuestionValue}
+use Rattle.collective_spec.specs.{declared.kind.Kind.TheVariants.Allreduce, Collectives.{IsSpec, kind_in}}
+use Rattle.candidate_order.specs.{Ranges.IsLimits, Frontiers.QuestionValue}
 use Rattle.round_encoding.specs.Candidates.{size_limit}
-use Rattle.node_cuts.specs.Cutting.{sets_for}
-use Rattle.node_cuts.specs.Tables.{TableValue, IsTableOf}
-use Rattle.candidate_formula.specs.Formulas.{searched_on}
-use Rattle.candidate_formula.specs.Sizes.{size_of}
+use Rattle.node_cuts.specs.{Cutting.sets_for, Tables.{TableValue, IsTableOf}}
+use Rattle.candidate_formula.specs.{Formulas.searched_on, Sizes.size_of}
 
 -- what is asked keeps its rules, is not joined of two others, and is small enough to have formulas
 pub record IsAuditable (q : QuestionValue) : Type 0 where

@@ -1,39 +1,22 @@
 -- The checks of an audit as its steps do them.
 use Rattle.std.specs.Prelude.{◌≡◌, ◌==◌, ◌&&◌, ◌||◌, ◌+◌, ◌++◌, not, if◌then◌else◌, ℕ, Bool, List, Option, None, Some, bytes_eq, drop, filter, map, Ok, Err}
-use Rattle.std.specs.Cmp.Lexicographic.{pointwise}
-use Rattle.std.specs.List.{list_any, flat_map, range_with_len}
+use Rattle.std.specs.{Cmp.Lexicographic.pointwise, List.{list_any, flat_map, range_with_len}}
 use Rattle.text_lines.specs.Check.{◌>>=◌, refuse}
-use Rattle.outer_ports.specs.declared.part.Part.{Part}
-use Rattle.outer_ports.specs.Files.{Files}
-use Rattle.schedule.specs.declared.hop.Hop.{Hop}
-use Rattle.schedule.specs.Links.{TopologyValue}
-use Rattle.schedule.specs.Sends.{ScheduleValue}
+use Rattle.outer_ports.specs.{declared.part.Part.Part, Files.Files}
+use Rattle.schedule.specs.{declared.hop.Hop.Hop, Links.TopologyValue, Sends.ScheduleValue}
 use Rattle.inversion.specs.Saying.{says_sums}
-use Rattle.collective_spec.specs.declared.kind.Kind.{Kind}
-use Rattle.collective_spec.specs.declared.kind.Kind.TheVariants.{Allreduce}
-use Rattle.candidate_order.specs.declared.candidate.Candidate.{Candidate}
-use Rattle.collective_spec.specs.Collectives.{chunks_of}
-use Rattle.candidate_order.specs.declared.mark.Mark.{Mark}
-use Rattle.candidate_order.specs.declared.mark.Mark.TheVariants as mark
-use Rattle.candidate_order.specs.Listed.{candidate_at}
+use Rattle.collective_spec.specs.{declared.kind.Kind.{Kind, TheVariants.Allreduce}, Collectives.chunks_of}
+use Rattle.candidate_order.specs.{declared.{candidate.Candidate.Candidate, mark.Mark.Mark}, Listed.candidate_at}
 use Rattle.candidate_order.specs.Frontiers.{QuestionValue, PointValue, UnknownValue, FrontierValue, given_up}
-use Rattle.allreduce_join.specs.Joins.{join_of, pairs_of}
-use Rattle.allreduce_join.specs.Judging.{joined_verdict_of}
-use Rattle.candidate_formula.specs.Counts.{counts_of}
-use Rattle.candidate_formula.specs.Pruned.{is_cut_away}
-use Rattle.report_form.specs.Tests.{is_better, is_no_worse}
-use Rattle.report_form.specs.Reports.{ReportValue, question_of}
-use Rattle.proof_audit.specs.declared.verdict.FileVerdict.{FileVerdict}
-use Rattle.proof_audit.specs.declared.verdict.FileVerdict.TheVariants.{Missing, Refused, Stands}
-use Rattle.frontier_audit.specs.declared.verdict.Reason.{Reason}
-use Rattle.frontier_audit.specs.declared.verdict.Reason.TheVariants.{CandidateMissing, JoinWrong, MarkWrong, ProofMissing, ScheduleWrong}
-use Rattle.frontier_audit.specs.Denials.{Denial, Checked, each, in_part}
-use Rattle.frontier_audit.specs.Candidates.{candidates_within, is_listed, same_candidate}
-use Rattle.frontier_audit.specs.Solutions.{is_optimal, is_solution}
-use Rattle.frontier_audit.specs.Joining.{joined_checked, joins_checked, same_mark, same_point}
-use Rattle.frontier_audit.specs.Parts.{is_gather, is_reduce, points_of}
-use Rattle.frontier_audit.specs.Auditing.{frontier_checked, refutation_checked}
-use Rattle.frontier_audit.specs.Beside.{denial_of}
+use Rattle.candidate_order.specs.declared.mark.Mark.TheVariants as mark
+use Rattle.allreduce_join.specs.{Joins.{join_of, pairs_of}, Judging.joined_verdict_of}
+use Rattle.candidate_formula.specs.{Counts.counts_of, Pruned.is_cut_away}
+use Rattle.report_form.specs.{Tests.{is_better, is_no_worse}, Reports.{ReportValue, question_of}}
+use Rattle.proof_audit.specs.declared.verdict.FileVerdict.{FileVerdict, TheVariants.{Missing, Refused, Stands}}
+use Rattle.frontier_audit.specs.declared.verdict.Reason.{Reason, TheVariants.{CandidateMissing, JoinWrong, MarkWrong, ProofMissing, ScheduleWrong}}
+use Rattle.frontier_audit.specs.{Denials.{Denial, Checked, each, in_part}, Candidates.{candidates_within, is_listed, same_candidate}, Beside.denial_of}
+use Rattle.frontier_audit.specs.{Solutions.{is_optimal, is_solution}, Joining.{joined_checked, joins_checked, same_mark, same_point}}
+use Rattle.frontier_audit.specs.{Parts.{is_gather, is_reduce, points_of}, Auditing.{frontier_checked, refutation_checked}}
 
 -- ---- the checks of each part by name
 

@@ -1,16 +1,11 @@
 -- The checks of lines and of points that stand behind others: only the last of those matters. This project's own.
 use Rattle.std.specs.Prelude.{◌==◌, ◌&&◌, not, ℕ, List, Option, Result, Ok}
-use Rattle.text_lines.specs.Text.{Row, Place}
-use Rattle.text_lines.specs.Check.{◌>>=◌, refuse, line_part}
+use Rattle.text_lines.specs.{Text.{Row, Place}, Check.{◌>>=◌, refuse, line_part}}
 use Rattle.schedule.specs.declared.hop.Hop.{Hop}
-use Rattle.candidate_order.specs.declared.candidate.Candidate.{Candidate}
-use Rattle.candidate_order.specs.Frontiers.{QuestionValue, PointValue, UnknownValue}
-use Rattle.report_form.specs.declared.fault.ReportCode.{ReportCode}
-use Rattle.report_form.specs.declared.fault.ReportCode.TheVariants as code
-use Rattle.report_form.specs.Lines.{tokens_line}
-use Rattle.report_form.specs.Tests.{is_within, comes_next}
+use Rattle.candidate_order.specs.{declared.candidate.Candidate.Candidate, Frontiers.{QuestionValue, PointValue, UnknownValue}}
+use Rattle.report_form.specs.{declared.fault.ReportCode.ReportCode, Lines.tokens_line, Tests.{is_within, comes_next}, Reading.{refuted_from, unknown_from}}
 use Rattle.report_form.specs.Points.{send_from, may_be_sent, follows, head_line, schedule_at}
-use Rattle.report_form.specs.Reading.{refuted_from, unknown_from}
+use Rattle.report_form.specs.declared.fault.ReportCode.TheVariants as code
 
 -- a send behind the last one
 abbrev pub send_after : List (List ℕ) → ℕ → ℕ → Option Hop → Option Row → Result Hop ReportCode

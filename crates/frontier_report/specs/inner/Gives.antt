@@ -1,8 +1,7 @@
 -- What a function of the reader answers: what the checks give, seen by a view. This project's own.
 use Rattle.std.specs.Prelude.{◌≡◌, ℕ, Result, Ok, Err}
 use Rattle.report_form.specs.declared.fault.ReportCode.{ReportCode}
-use Rattle.frontier_report.specs.declared.report_stop.ReportStop.{ReportStop}
-use Rattle.frontier_report.specs.declared.report_stop.ReportStop.TheVariants.{Memory, Refused}
+use Rattle.frontier_report.specs.declared.report_stop.ReportStop.{ReportStop, TheVariants.{Memory, Refused}}
 
 -- a check failed where the checks say so; nothing is said where memory ran out
 abbrev pub Halts : {Y : Type 0} → ReportStop → Result Y (ReportCode × ℕ) → Type 0

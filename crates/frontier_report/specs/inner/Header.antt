@@ -1,17 +1,11 @@
 -- The topology's header among a report's lines, and refusals of the topology. This project's own.
 use Rattle.std.specs.Prelude.{ℕ, ◌+◌, ◌-◌, ◌<◌, ◌^◌, not, Bool, List, Result, Ok, slice_get}
-use Rattle.text_lines.specs.Text.{Row, Place, rows_of}
-use Rattle.text_lines.specs.Check.{◌>>=◌, refuse, at_line, line_part}
-use Rattle.text_lines.specs.declared.stop.Stop.{Stop}
+use Rattle.text_lines.specs.{Text.{Row, Place, rows_of}, Check.{◌>>=◌, refuse, at_line, line_part}, declared.stop.Stop.Stop}
 use Rattle.text_lines.specs.declared.stop.Stop.TheVariants as stop
-use Rattle.topology_text.specs.declared.fault.TopologyCode.{TopologyCode}
-use Rattle.topology_text.specs.Reading.{header_line}
-use Rattle.report_form.specs.declared.fault.ReportCode.{ReportCode}
+use Rattle.topology_text.specs.{declared.fault.TopologyCode.TopologyCode, Reading.header_line}
+use Rattle.report_form.specs.{declared.fault.ReportCode.ReportCode, Lines.{among, blamed, whole_line}, Reading.is_same}
 use Rattle.report_form.specs.declared.fault.ReportCode.TheVariants as code
-use Rattle.report_form.specs.Lines.{among, blamed, whole_line}
-use Rattle.report_form.specs.Reading.{is_same}
-use Rattle.frontier_report.specs.declared.report_stop.ReportStop.{ReportStop}
-use Rattle.frontier_report.specs.declared.report_stop.ReportStop.TheVariants.{Memory, Refused}
+use Rattle.frontier_report.specs.declared.report_stop.ReportStop.{ReportStop, TheVariants.{Memory, Refused}}
 
 -- the header, of the report's version
 abbrev pub header_at : List Row → Bool → Place → Result Place (ReportCode × ℕ)

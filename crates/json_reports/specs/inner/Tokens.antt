@@ -1,8 +1,6 @@
 -- Tokens of a line that is written.
-use Rattle.std.specs.Prelude.{ℕ, List, [], ◌∷◌, ◌++◌, Option, None, Some, decimal, codes}
-use Rattle.std.specs.Borrow.{Bor}
-use Rattle.json_reports.specs.declared.token.Token.{Token}
-use Rattle.json_reports.specs.declared.token.Token.TheVariants.{Word, Number, KeyedWord, KeyedNumber}
+use Rattle.std.specs.{Prelude.{ℕ, List, [], ◌∷◌, ◌++◌, Option, None, Some, decimal, codes}, Borrow.Bor}
+use Rattle.json_reports.specs.declared.token.Token.{Token, TheVariants.{Word, Number, KeyedWord, KeyedNumber}}
 
 -- a word, a number, or a key, the sign `=` and one of these
 abbrev pub token_bytes : Token → List ℕ

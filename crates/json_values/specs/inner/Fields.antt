@@ -1,9 +1,7 @@
 -- What the objects of a topology's JSON have at their keys, before it is looked at.
 use Rattle.std.specs.Prelude.{ℕ, Bool, if◌then◌else◌, [], ◌∷◌, Option, Some, None, codes}
-use Rattle.serde_json.specs.Data.{Data, Items}
-use Rattle.serde_json.specs.Find.{as_array, get}
-use Rattle.json_values.specs.Shape.{◌>>=◌, count_in, field, has_keys}
-use Rattle.json_values.specs.TopologyJson.{keys_of}
+use Rattle.serde_json.specs.{Data.{Data, Items}, Find.{as_array, get}}
+use Rattle.json_values.specs.{Shape.{◌>>=◌, count_in, field, has_keys}, TopologyJson.keys_of}
 
 -- the width and the links of a group
 abbrev pub group_fields : Data → Option (ℕ × Data)

@@ -1,7 +1,6 @@
 -- Lines whose literals lie one after another in one list, and their hints in another.
 use Rattle.std.specs.Prelude.{ℕ, ◌<◌, ◌≤◌, List, All, length, map, pos, slice_range}
-use Rattle.cnf_formula.specs.Literals.{LitValue}
-use Rattle.cnf_formula.specs.Lines.{ProofLineValue}
+use Rattle.cnf_formula.specs.{Literals.LitValue, Lines.ProofLineValue}
 use Rattle.ledger_rules.specs.declared.line_list.LineRow.{LineRow}
 
 abbrev pub line_in : List LitValue → List ℕ → LineRow → ProofLineValue

@@ -1,7 +1,6 @@
 -- Literals that are marked as false, and the table behind them.
 use Rattle.std.specs.Prelude.{◌≡◌, ℕ, ◌+◌, ◌*◌, List, [], ◌∷◌, ◌++◌, length, slice_index, All, if◌then◌else◌}
-use Rattle.cnf_formula.specs.Literals.{LitValue, same_literal, code_of}
-use Rattle.cnf_formula.specs.Formulas.{IsAbout}
+use Rattle.cnf_formula.specs.{Literals.{LitValue, same_literal, code_of}, Formulas.IsAbout}
 
 -- literals of so many variables that are false, the latest first
 pub record MarksValue : Type 0 where

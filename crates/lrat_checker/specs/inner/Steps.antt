@@ -1,13 +1,8 @@
 -- What the steps of the checker answer, and what the definitions say in their place.
-use Rattle.std.specs.Prelude.{◌≡◌, ◌==◌, ℕ, List, Option, None, Some, Result, Ok, Err}
-use Rattle.std.specs.List.{list_any}
-use Rattle.std.specs.BTreeSet.{BTreeSet, contains}
-use Rattle.std.specs.Ordering.{nat_cmp}
+use Rattle.std.specs.{Prelude.{◌≡◌, ◌==◌, ℕ, List, Option, None, Some, Result, Ok, Err}, List.list_any, BTreeSet.{BTreeSet, contains}, Ordering.nat_cmp}
 use Rattle.cnf_formula.specs.Literals.{LitValue}
-use Rattle.lrat_checker.specs.declared.leading.Led.{Led}
-use Rattle.lrat_checker.specs.declared.leading.Led.TheVariants.{Conflict, Open, Fault as Faulty}
-use Rattle.proof_rules.specs.Judging.{Fault}
-use Rattle.proof_rules.specs.Accepting.{Group}
+use Rattle.lrat_checker.specs.declared.leading.Led.{Led, TheVariants.{Conflict, Open, Fault as Faulty}}
+use Rattle.proof_rules.specs.{Judging.Fault, Accepting.Group}
 
 -- where hints led, when these literals are false at their end
 abbrev pub led_as : Led → List LitValue → Result (Option (List LitValue)) Fault

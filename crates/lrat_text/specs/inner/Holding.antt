@@ -1,8 +1,7 @@
 -- The lines among the bytes that a reader holds.
 use Rattle.std.specs.Prelude.{◌≡◌, ◌≢◌, ℕ, ◌+◌, ◌^◌, ◌<◌, ◌≤◌, ◌||◌, Bool, true, List, ◌∷◌, length, drop, slice_index, slice_range}
 use Rattle.text_lines.specs.Text.{Row, rows_of}
-use Rattle.lrat_text.specs.declared.holding.HeldLine.{HeldLine}
-use Rattle.lrat_text.specs.Reading.{size_of}
+use Rattle.lrat_text.specs.{declared.holding.HeldLine.HeldLine, Reading.size_of}
 
 -- no line feed stands from one place on and before another
 abbrev pub IsClear : List ℕ → ℕ → ℕ → Type 0

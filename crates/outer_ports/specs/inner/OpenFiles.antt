@@ -1,9 +1,6 @@
 -- Files that stay open. This project's own.
 use Rattle.std.specs.Prelude.{◌≡◌, Option, Some}
-use Rattle.outer_ports.specs.declared.open_files.OpenFiles.{OpenFiles}
-use Rattle.outer_ports.specs.declared.proof_name.FileKind.{FileKind}
-use Rattle.outer_ports.specs.declared.proof_name.FileKind.TheVariants.{Cnf, Lrat, Partial}
-use Rattle.outer_ports.specs.declared.proof_name.ProofName.{ProofName}
+use Rattle.outer_ports.specs.declared.{open_files.OpenFiles.OpenFiles, proof_name.{FileKind.{FileKind, TheVariants.{Cnf, Lrat, Partial}}, ProofName.ProofName}}
 
 -- the open file of a kind, with its name
 abbrev pub open_of : {F : Type 0} → OpenFiles F → FileKind → Option (ProofName × F)

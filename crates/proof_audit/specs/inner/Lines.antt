@@ -1,10 +1,8 @@
 -- What is left to be read of a text of proof lines (LRAT: Cruz-Filipe et al. 2017).
 use Rattle.std.specs.Prelude.{◌≡◌, ℕ, Bool, false, List, ◌∷◌, ◌++◌, Option, None, Some, Result, Ok, Err}
-use Rattle.text_lines.specs.Text.{rows_of}
-use Rattle.text_lines.specs.Check.{◌>>=◌}
+use Rattle.text_lines.specs.{Text.rows_of, Check.◌>>=◌}
 use Rattle.cnf_formula.specs.declared.line.LratLine.{LratLine}
-use Rattle.lrat_text.specs.declared.fault.LratTextFault.{LratTextFault}
-use Rattle.lrat_text.specs.Reading.{ReaderValue}
+use Rattle.lrat_text.specs.{declared.fault.LratTextFault.LratTextFault, Reading.ReaderValue}
 use Rattle.candidate_formula.specs.Lines.{lines_from}
 
 -- the lines that a reader still has to give where these are the last bytes that come, or the first fault

@@ -1,10 +1,7 @@
 -- Lines in their turn by the verdicts on them, as a checker gives these.
 use Rattle.std.specs.Prelude.{◌&&◌, Bool, true, false, if◌then◌else◌, List, [], ◌∷◌, Option, None, Some}
-use Rattle.cnf_formula.specs.declared.line.LratLine.{LratLine}
-use Rattle.cnf_formula.specs.declared.line.LratLine.TheVariants.{Addition, Deletion}
-use Rattle.proof_rules.specs.Held.{CheckerValue}
-use Rattle.proof_rules.specs.Judging.{verdict_of, verdict_on, is_accepted, is_implied}
-use Rattle.proof_rules.specs.Refuting.{with_accepted, with_line, is_fresh}
+use Rattle.cnf_formula.specs.declared.line.LratLine.{LratLine, TheVariants.{Addition, Deletion}}
+use Rattle.proof_rules.specs.{Held.CheckerValue, Judging.{verdict_of, verdict_on, is_accepted, is_implied}, Refuting.{with_accepted, with_line, is_fresh}}
 
 -- the checker after these lines, where each is accepted in its turn
 abbrev pub checker_after : CheckerValue → List LratLine → Option CheckerValue

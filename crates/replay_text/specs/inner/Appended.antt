@@ -1,21 +1,13 @@
 -- What the printers of a replay append, of the values that the code keeps.
 use Rattle.std.specs.Prelude.{ℕ, ◌+◌, List, [], ◌∷◌, ◌++◌, if◌then◌else◌, filter, map, Option, None, Some, unwrap_or, codes, decimal}
 use Rattle.std.specs.List.{range_with_len, last_or}
-use Rattle.schedule.specs.Sends.{ScheduleValue}
-use Rattle.schedule.specs.Placed.{PlacementValue, holds}
-use Rattle.schedule.specs.Bags.{Bag, Bags, contributions, held_at_2, of_placement}
-use Rattle.schedule.specs.Running.{run_of}
-use Rattle.schedule.specs.JoinedRuns.{joined_run}
-use Rattle.schedule.specs.declared.verdict.Verdict.{Verdict}
-use Rattle.inversion.specs.declared.verdict.SumVerdict.{SumVerdict}
-use Rattle.inversion.specs.Saying.{says_solves, says_sums}
+use Rattle.schedule.specs.{Sends.ScheduleValue, Placed.{PlacementValue, holds}, Bags.{Bag, Bags, contributions, held_at_2, of_placement}, Running.run_of}
+use Rattle.schedule.specs.{JoinedRuns.joined_run, declared.verdict.Verdict.Verdict}
+use Rattle.inversion.specs.{declared.verdict.SumVerdict.SumVerdict, Saying.{says_solves, says_sums}}
 use Rattle.bag_runs.specs.Stores.{StoreValue, bag_in, stored}
-use Rattle.node_programs.specs.Machines.{State}
-use Rattle.node_programs.specs.Runs.{operations, chosen}
-use Rattle.node_programs.specs.Ended.{machine_of}
+use Rattle.node_programs.specs.{Machines.State, Runs.{operations, chosen}, Ended.machine_of}
 use Rattle.topology_text.specs.Spelling.{name_at}
-use Rattle.replay_text.specs.Replay.{node_lines, numbered_steps, verdict_words}
-use Rattle.replay_text.specs.Showing.{Shown, chunks_at, instance_at, is_copied, nodes_of, sum_words}
+use Rattle.replay_text.specs.{Replay.{node_lines, numbered_steps, verdict_words}, Showing.{Shown, chunks_at, instance_at, is_copied, nodes_of, sum_words}}
 
 -- ---- parts of the lines of a step
 

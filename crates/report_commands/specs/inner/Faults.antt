@@ -4,9 +4,7 @@ use Rattle.text_lines.specs.Check.{◌>>=◌}
 use Rattle.schedule.specs.Judging.{group_at}
 use Rattle.collective_spec.specs.declared.kind.Kind.TheVariants.{Allreduce}
 use Rattle.report_form.specs.Reports.{ReportValue}
-use Rattle.run_rules.specs.Refusals.{Refusal}
-use Rattle.run_rules.specs.Tasks.{fault_in, searchable}
-use Rattle.run_rules.specs.Steps.{whole_question}
+use Rattle.run_rules.specs.{Refusals.Refusal, Tasks.{fault_in, searchable}, Steps.whole_question}
 
 -- its collective is searched in one part, and it has the group, which is wider than what is left of it
 pub record CanFail (r : ReportValue) (group width : ℕ) : Type 0 where

@@ -1,10 +1,8 @@
 -- A report that was audited before its search is done anew. This project's own.
 use Rattle.std.specs.Prelude.{◌≡◌, IsTrue}
-use Rattle.outer_ports.specs.Files.{Files}
-use Rattle.outer_ports.specs.Shelf.{FilesStay}
+use Rattle.outer_ports.specs.{Files.Files, Shelf.FilesStay}
 use Rattle.report_form.specs.Reports.{ReportValue}
-use Rattle.frontier_audit.specs.declared.verdict.AuditVerdict.{AuditVerdict}
-use Rattle.frontier_audit.specs.Auditing.{audit_of}
+use Rattle.frontier_audit.specs.{declared.verdict.AuditVerdict.AuditVerdict, Auditing.audit_of}
 use Rattle.run_rules.specs.Said.{FilesValue, Stay}
 
 -- over some files, which are those of the shelf where it tells them, this is the verdict on the report; no file changed

@@ -3,8 +3,7 @@ use Rattle.std.specs.Prelude.{ℕ, ◌+◌, ◌*◌, ◌<◌, List, [], ◌∷�
 use Rattle.schedule.specs.Links.{GroupValue, TopologyValue}
 use Rattle.cnf_formula.specs.Formulas.{FormulaValue}
 use Rattle.send_encoding.specs.Variables.{SendMapValue, number_of}
-use Rattle.round_encoding.specs.Frames.{Frame}
-use Rattle.round_encoding.specs.Rounding.{Count, with_count}
+use Rattle.round_encoding.specs.{Frames.Frame, Rounding.{Count, with_count}}
 
 -- the formula with these counters, and what is said of them
 abbrev pub with_counts : FormulaValue → List Count → FormulaValue

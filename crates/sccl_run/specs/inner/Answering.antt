@@ -1,17 +1,9 @@
 -- What is said of an answer before it is written, as the code has it.
 use Rattle.std.specs.Prelude.{◌≡◌, ℕ, Bool, IsTrue, List, Result, Ok, Err}
 use Rattle.text_lines.specs.Check.{◌>>=◌}
-use Rattle.command_words.specs.declared.command.Command.{Command}
-use Rattle.command_words.specs.declared.fault.WordFault.{WordFault}
-use Rattle.run_rules.specs.declared.status.Status.{Status}
-use Rattle.run_rules.specs.declared.status.Status.TheVariants.{BadWords}
-use Rattle.run_rules.specs.declared.halt.Halt.{Halt}
-use Rattle.run_rules.specs.declared.halt.Halt.TheVariants.{Shelf}
-use Rattle.run_rules.specs.Commands.{Ask, Reads, IsOneOf, answers_of, row_of}
-use Rattle.run_rules.specs.Refusals.{Refusal}
-use Rattle.run_rules.specs.Tasks.{Task, due, task_of}
-use Rattle.run_rules.specs.Steps.{whole_text}
-use Rattle.run_rules.specs.Answers.{FilesValue, IsAnswer, LeavesOff}
+use Rattle.command_words.specs.declared.{command.Command.Command, fault.WordFault.WordFault}
+use Rattle.run_rules.specs.{declared.{status.Status.{Status, TheVariants.BadWords}, halt.Halt.{Halt, TheVariants.Shelf}}, Refusals.Refusal, Steps.whole_text}
+use Rattle.run_rules.specs.{Commands.{Ask, Reads, IsOneOf, answers_of, row_of}, Tasks.{Task, due, task_of}, Answers.{FilesValue, IsAnswer, LeavesOff}}
 use Rattle.sccl_run.specs.TopCall.{RunValue, ToldValue}
 
 -- the files of a run, and whether the shelf tells them

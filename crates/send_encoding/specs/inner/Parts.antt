@@ -3,8 +3,7 @@ use Rattle.std.specs.Prelude.{ℕ, ◌-◌, if◌then◌else◌, List, [], ◌�
 use Rattle.schedule.specs.Placed.{PlacementValue, holds}
 use Rattle.cnf_formula.specs.Literals.{LitValue, negation}
 use Rattle.cardinality.specs.Counting.{at_most_one_of}
-use Rattle.send_encoding.specs.Variables.{SendMapValue, steps_of, arrival}
-use Rattle.send_encoding.specs.Sending.{sends_into}
+use Rattle.send_encoding.specs.{Variables.{SendMapValue, steps_of, arrival}, Sending.sends_into}
 
 -- at the start it has what it has before
 abbrev pub node_starts : SendMapValue → PlacementValue → ℕ × ℕ → List (List LitValue)

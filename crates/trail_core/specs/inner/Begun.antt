@@ -1,9 +1,7 @@
 -- The clauses that a core begins with, each of which watches its first two literals.
 use Rattle.std.specs.Prelude.{◌≡◌, ◌==◌, ℕ, ◌+◌, ◌<◌, ◌≤◌, List, Contains, All, count_by, sum_by, length, get_or}
 use Rattle.cnf_formula.specs.Literals.{LitValue, yes}
-use Rattle.trail_core.specs.Watching.{RowValue, ListsValue, watch_count, occurrences, spare, row_at, list_at, AreBlocked}
-use Rattle.trail_core.specs.Search.{clauses_of}
-use Rattle.trail_core.specs.Kept.{IsShort}
+use Rattle.trail_core.specs.{Watching.{RowValue, ListsValue, watch_count, occurrences, spare, row_at, list_at, AreBlocked}, Search.clauses_of, Kept.IsShort}
 
 -- what stands in the place of a literal that the clause lacks means nothing
 abbrev pub front_row : List LitValue → RowValue

@@ -1,7 +1,6 @@
 -- Watch lists that lie in one list of entries, each with room for more.
 use Rattle.std.specs.Prelude.{◌≢◌, ◌⊎◌, ℕ, ◌+◌, ◌<◌, ◌≤◌, List, length, get_or, map, take, drop}
-use Rattle.trail_core.specs.Watching.{WatchValue}
-use Rattle.trail_core.specs.declared.span.Span.{Span}
+use Rattle.trail_core.specs.{Watching.WatchValue, declared.span.Span.Span}
 
 -- so many elements from a place on
 abbrev pub part : {X : Type 0} → List X → ℕ → ℕ → List X

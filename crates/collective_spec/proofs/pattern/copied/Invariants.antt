@@ -1,6 +1,5 @@
 use Rattle.std.proofs.Common.{◌≡◌}
-use Rattle.collective_spec.specs.Patterns.{in_copies}
-use Rattle.collective_spec.proofs.Laying.{chunks_below}
+use Rattle.collective_spec.{specs.Patterns.in_copies, proofs.Laying.chunks_below}
 use Rattle.collective_spec.proofs.pattern.copied.Given as goal
 
 abbrev pub invariant-loop-chunk : goal.invariant-loop-chunk

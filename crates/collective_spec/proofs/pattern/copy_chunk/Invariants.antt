@@ -1,6 +1,5 @@
 use Rattle.std.proofs.Common.{◌≡◌}
-use Rattle.collective_spec.specs.Patterns.{in_copies}
-use Rattle.collective_spec.proofs.Laying.{chunk_below}
+use Rattle.collective_spec.{specs.Patterns.in_copies, proofs.Laying.chunk_below}
 use Rattle.collective_spec.proofs.pattern.copy_chunk.Given as goal
 
 abbrev pub invariant-loop-node : goal.invariant-loop-node

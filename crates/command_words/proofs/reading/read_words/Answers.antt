@@ -1,8 +1,5 @@
 use Rattle.std.proofs.Common.{ap, rules, sym, ◌∙◌}
-use Rattle.command_words.specs.Tables.{named, verb_word, verbs}
-use Rattle.command_words.specs.Words.{command_of}
-use Rattle.command_words.proofs.Refusing.{refused_at}
-use Rattle.command_words.proofs.WordsRead.{command_read}
+use Rattle.command_words.{specs.{Tables.{named, verb_word, verbs}, Words.command_of}, proofs.{Refusing.refused_at, WordsRead.command_read}}
 use Rattle.command_words.proofs.reading.read_words.Goals as goal
 
 pub returns-clause-read : goal.returns-clause-read

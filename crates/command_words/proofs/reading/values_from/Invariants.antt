@@ -1,8 +1,5 @@
 use Rattle.std.proofs.Common.{◌≡◌, ◌+◌, drop}
-use Rattle.command_words.specs.Words.{texts}
-use Rattle.command_words.specs.inner.Counting.{count_of}
-use Rattle.command_words.specs.inner.Reading.{nothing, values_from}
-use Rattle.command_words.specs.inner.Values.{AreProper}
+use Rattle.command_words.specs.{Words.texts, inner.{Counting.count_of, Reading.{nothing, values_from}, Values.AreProper}}
 use Rattle.command_words.proofs.reading.values_from.Given as goal
 
 abbrev pub invariant-loop-word : goal.invariant-loop-word

@@ -1,5 +1,4 @@
-use Rattle.std.proofs.Common.{rules}
-use Rattle.std.specs.Fmt.{digits}
+use Rattle.std.{proofs.Common.rules, specs.Fmt.digits}
 use Rattle.command_words.specs.Words.{command_of}
 use Rattle.command_words.proofs.vectors.numbers_in_their_ranges.Goals as goal
 

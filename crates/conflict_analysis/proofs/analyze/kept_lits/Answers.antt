@@ -1,8 +1,6 @@
-use Rattle.std.proofs.Common.{◌≡◌, ◌<◌, List, length, get_or, sym, ap, ◌∙◌, arith}
-use Rattle.std.proofs.lemmas.List.{get_or_default}
+use Rattle.std.proofs.{Common.{◌≡◌, ◌<◌, List, length, get_or, sym, ap, ◌∙◌, arith}, lemmas.List.get_or_default}
 use Rattle.cnf_formula.specs.Literals.{LitValue}
-use Rattle.conflict_analysis.proofs.Left.{left_more}
-use Rattle.conflict_analysis.proofs.Marked.{read_stands}
+use Rattle.conflict_analysis.proofs.{Left.left_more, Marked.read_stands}
 use Rattle.conflict_analysis.proofs.analyze.kept_lits.Goals as goal
 use Rattle.conflict_analysis.proofs.analyze.kept_lits.Goals.{then-index-walk+in_ok-push, else-index-walk}
 

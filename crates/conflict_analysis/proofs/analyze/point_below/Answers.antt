@@ -1,9 +1,7 @@
 use Rattle.std.proofs.Common.{◌≡◌, length, sym, ap, ◌∙◌, arith}
 use Rattle.cnf_formula.specs.Literals.{LitValue}
 use Rattle.trail_core.proofs.Keeping.{lits_length}
-use Rattle.conflict_analysis.specs.Met.{value_of, WalkValue, lit_at, mark_of}
-use Rattle.conflict_analysis.proofs.Resolved.{place_read}
-use Rattle.conflict_analysis.proofs.Waiting.{point_alone}
+use Rattle.conflict_analysis.{specs.Met.{value_of, WalkValue, lit_at, mark_of}, proofs.{Resolved.place_read, Waiting.point_alone}}
 use Rattle.conflict_analysis.proofs.analyze.point_below.Goals as goal
 
 pub waiting_below-requires-clause-some : goal.waiting_below-requires-clause-some

@@ -1,7 +1,5 @@
 use Rattle.std.proofs.Common.{get_or}
-use Rattle.conflict_analysis.specs.Met.{value_of, WalkValue}
-use Rattle.conflict_analysis.proofs.Pointed.{passed_middle}
-use Rattle.conflict_analysis.proofs.Waiting.{walked_then}
+use Rattle.conflict_analysis.{specs.Met.{value_of, WalkValue}, proofs.{Pointed.passed_middle, Waiting.walked_then}}
 use Rattle.conflict_analysis.proofs.analyze.walk_all.Goals as goal
 
 pub walk_middle-requires-clause-passed : goal.walk_middle-requires-clause-passed

@@ -1,9 +1,6 @@
 use Rattle.std.proofs.Common.{◌≡◌, ◌-◌, length, sym, ap, ◌∙◌, subst, arith}
 use Rattle.trail_core.proofs.Keeping.{lits_length}
-use Rattle.conflict_analysis.specs.Met.{value_of}
-use Rattle.conflict_analysis.specs.inner.Walks.{HasWalked}
-use Rattle.conflict_analysis.proofs.Resolved.{walked_on}
-use Rattle.conflict_analysis.proofs.Waiting.{walked_none, open_step}
+use Rattle.conflict_analysis.{specs.{Met.value_of, inner.Walks.HasWalked}, proofs.{Resolved.walked_on, Waiting.{walked_none, open_step}}}
 use Rattle.conflict_analysis.proofs.analyze.walk_last.Goals as goal
 
 pub loop-walk-init : goal.loop-walk-init

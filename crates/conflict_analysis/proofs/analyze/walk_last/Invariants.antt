@@ -1,6 +1,5 @@
 use Rattle.std.proofs.Common.{◌<◌}
-use Rattle.conflict_analysis.specs.Met.{value_of}
-use Rattle.conflict_analysis.specs.inner.Walks.{HasWalked}
+use Rattle.conflict_analysis.specs.{Met.value_of, inner.Walks.HasWalked}
 use Rattle.conflict_analysis.proofs.analyze.walk_last.Given as goal
 
 abbrev pub invariant-loop-walk : goal.invariant-loop-walk

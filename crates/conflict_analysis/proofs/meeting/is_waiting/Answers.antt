@@ -1,10 +1,6 @@
-use Rattle.std.proofs.Common.{◌≡◌, ◌+◌, sym, ap, ◌∙◌, arith, eq-eqb}
-use Rattle.std.proofs.lemmas.Bool.{eqb-true}
+use Rattle.std.proofs.{Common.{◌≡◌, ◌+◌, sym, ap, ◌∙◌, arith, eq-eqb}, lemmas.Bool.eqb-true}
 use Rattle.cnf_formula.specs.Literals.{LitValue}
-use Rattle.conflict_analysis.specs.Met.{value_of, WalkValue, lit_at}
-use Rattle.conflict_analysis.proofs.Resolved.{place_read}
-use Rattle.conflict_analysis.proofs.Marked.{lit_about}
-use Rattle.conflict_analysis.proofs.Waiting.{mark_read}
+use Rattle.conflict_analysis.{specs.Met.{value_of, WalkValue, lit_at}, proofs.{Resolved.place_read, Marked.lit_about, Waiting.mark_read}}
 use Rattle.conflict_analysis.proofs.meeting.is_waiting.Goals as goal
 
 pub index-requires : goal.index-requires

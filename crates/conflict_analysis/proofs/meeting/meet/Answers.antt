@@ -1,7 +1,5 @@
-use Rattle.std.proofs.Common.{◌≡◌, ◌+◌, [], ◌∷◌, ◌++◌, set, sym, subst, arith}
-use Rattle.std.specs.Prelude.{Contains}
-use Rattle.trail_core.specs.Assigned.{level_at}
-use Rattle.trail_core.specs.Meaning.{trues}
+use Rattle.std.proofs.Common.{◌≡◌, ◌+◌, [], ◌∷◌, ◌++◌, set, sym, subst, arith, Contains}
+use Rattle.trail_core.specs.{Assigned.level_at, Meaning.trues}
 use Rattle.conflict_analysis.specs.Met.{value_of, WalkValue, HasMet}
 use Rattle.conflict_analysis.proofs.Marked.{IsUnmet, met_bottom, met_open, met_kept, unmet_by, unmet_at, level_read, level_within, at_false}
 use Rattle.conflict_analysis.proofs.meeting.meet.Goals as goal

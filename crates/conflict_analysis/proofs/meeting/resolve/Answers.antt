@@ -1,14 +1,8 @@
-use mir.Val.{of_z, to_z}
-use Rattle.std.proofs.lemmas.Int.{to_z-of_z}
-use Rattle.std.proofs.Common.{rules, w64, ◌≡◌, ◌+◌, ◌<◌, [], length, get_or, set, sym, ◌∙◌, subst}
-use Rattle.std.specs.Prelude.{◌⊎◌, Contains, pos}
+use Rattle.std.proofs.{Common.{of_z, to_z, rules, w64, ◌≡◌, ◌+◌, ◌<◌, [], length, get_or, set, sym, ◌∙◌, subst, ◌⊎◌, Contains, pos}, lemmas.Int.to_z-of_z}
 use Rattle.std.proofs.lemmas.Result.{on_ok_weaker}
-use Rattle.trail_core.specs.Assigned.{IsFalse}
-use Rattle.trail_core.specs.Meaning.{trues}
-use Rattle.conflict_analysis.specs.Met.{value_of, WalkValue, lit_at, IsSorted, IsSeen, HasMet}
-use Rattle.conflict_analysis.specs.inner.Walks.{without}
-use Rattle.conflict_analysis.proofs.Marked.{lit_stands}
-use Rattle.conflict_analysis.proofs.Resolved.{step_read, place_read, reason_some, without_is, without_sorted, others_met, others_within}
+use Rattle.trail_core.specs.{Assigned.IsFalse, Meaning.trues}
+use Rattle.conflict_analysis.specs.{Met.{value_of, WalkValue, lit_at, IsSorted, IsSeen, HasMet}, inner.Walks.without}
+use Rattle.conflict_analysis.proofs.{Marked.lit_stands, Resolved.{step_read, place_read, reason_some, without_is, without_sorted, others_met, others_within}}
 use Rattle.conflict_analysis.proofs.meeting.resolve.Goals as goal
 use Rattle.conflict_analysis.proofs.meeting.resolve.Goals.{After-var}
 

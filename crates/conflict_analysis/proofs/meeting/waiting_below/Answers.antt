@@ -1,7 +1,5 @@
-use Rattle.std.proofs.Common.{sym, ◌∙◌, arith}
-use Rattle.std.proofs.lemmas.Bool.{false≢true}
-use Rattle.conflict_analysis.specs.Met.{value_of}
-use Rattle.conflict_analysis.proofs.Waiting.{waits_below, next_passed, passed_over}
+use Rattle.std.proofs.{Common.{sym, ◌∙◌, arith}, lemmas.Bool.false≢true}
+use Rattle.conflict_analysis.{specs.Met.value_of, proofs.Waiting.{waits_below, next_passed, passed_over}}
 use Rattle.conflict_analysis.proofs.meeting.waiting_below.Goals as goal
 
 pub met_below-place-requires : goal.met_below-place-requires

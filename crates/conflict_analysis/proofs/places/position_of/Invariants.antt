@@ -1,5 +1,4 @@
-use Rattle.std.proofs.Common.{ℕ, ◌<◌, ◌≤◌, length, get_or}
-use Rattle.std.specs.Prelude.{◌≢◌}
+use Rattle.std.proofs.Common.{ℕ, ◌<◌, ◌≤◌, length, get_or, ◌≢◌}
 use Rattle.conflict_analysis.proofs.places.position_of.Given as goal
 
 abbrev pub invariant-loop-lit : goal.invariant-loop-lit

@@ -1,12 +1,8 @@
-use Rattle.std.proofs.Common.{◌≡◌, sym, subst}
-use Rattle.std.specs.Prelude.{Contains}
+use Rattle.std.proofs.Common.{◌≡◌, sym, subst, Contains}
 use Rattle.cnf_formula.specs.Literals.{LitValue}
 use Rattle.trail_core.specs.Meaning.{trues}
-use Rattle.conflict_analysis.specs.Met.{value_of, lit_at}
-use Rattle.conflict_analysis.specs.inner.Walks.{IsStep}
-use Rattle.conflict_analysis.proofs.Marked.{lit_stands}
-use Rattle.conflict_analysis.proofs.Resolved.{place_read, reason_implied}
-use Rattle.conflict_analysis.proofs.Waiting.{kept_step}
+use Rattle.conflict_analysis.specs.{Met.{value_of, lit_at}, inner.Walks.IsStep}
+use Rattle.conflict_analysis.proofs.{Marked.lit_stands, Resolved.{place_read, reason_implied}, Waiting.kept_step}
 use Rattle.conflict_analysis.proofs.shrinking.is_spare.Goals as goal
 use Rattle.conflict_analysis.proofs.shrinking.is_spare.Goals.{In-Some}
 

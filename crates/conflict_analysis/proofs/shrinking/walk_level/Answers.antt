@@ -1,10 +1,6 @@
-use Rattle.std.proofs.Common.{◌+◌, ◌-◌, length, get_or, sym, subst, arith}
-use Rattle.std.specs.Prelude.{Contains}
-use Rattle.conflict_analysis.specs.Met.{value_of, WalkValue, IsPassed}
-use Rattle.conflict_analysis.specs.inner.Walks.{HasWalked, HasSameOpen}
-use Rattle.conflict_analysis.proofs.Levels.{limits_rise}
-use Rattle.conflict_analysis.proofs.Middle.{middle_at, passed_lower, walked_lower}
-use Rattle.conflict_analysis.proofs.Resolved.{walked_on, open_on}
+use Rattle.std.proofs.Common.{◌+◌, ◌-◌, length, get_or, sym, subst, arith, Contains}
+use Rattle.conflict_analysis.specs.{Met.{value_of, WalkValue, IsPassed}, inner.Walks.{HasWalked, HasSameOpen}}
+use Rattle.conflict_analysis.proofs.{Levels.limits_rise, Middle.{middle_at, passed_lower, walked_lower}, Resolved.{walked_on, open_on}}
 use Rattle.conflict_analysis.proofs.Waiting.{walked_none, same_open}
 use Rattle.conflict_analysis.proofs.shrinking.walk_level.Goals as goal
 

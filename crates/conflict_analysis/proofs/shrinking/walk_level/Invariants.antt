@@ -1,6 +1,5 @@
 use Rattle.std.proofs.Common.{◌-◌, ◌≤◌, get_or}
-use Rattle.conflict_analysis.specs.Met.{value_of}
-use Rattle.conflict_analysis.specs.inner.Walks.{HasWalked, HasSameOpen}
+use Rattle.conflict_analysis.specs.{Met.value_of, inner.Walks.{HasWalked, HasSameOpen}}
 use Rattle.conflict_analysis.proofs.shrinking.walk_level.Given as goal
 
 abbrev pub invariant-loop-walk : goal.invariant-loop-walk

@@ -1,8 +1,5 @@
-use Rattle.std.proofs.Common.{◌≡◌, ◌-◌, length, get_or, sym, subst, arith}
-use Rattle.std.specs.Prelude.{Contains}
-use Rattle.conflict_analysis.specs.Met.{value_of, WalkValue}
-use Rattle.conflict_analysis.specs.inner.Walks.{HasWalked}
-use Rattle.conflict_analysis.proofs.Waiting.{same_open, same_open_then, walked_none, walked_then}
+use Rattle.std.proofs.Common.{◌≡◌, ◌-◌, length, get_or, sym, subst, arith, Contains}
+use Rattle.conflict_analysis.{specs.{Met.{value_of, WalkValue}, inner.Walks.HasWalked}, proofs.Waiting.{same_open, same_open_then, walked_none, walked_then}}
 use Rattle.conflict_analysis.proofs.shrinking.walk_middle.Goals as goal
 
 pub count-requires : goal.count-requires

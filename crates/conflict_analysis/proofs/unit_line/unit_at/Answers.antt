@@ -1,13 +1,8 @@
-use Rattle.std.proofs.Common.{◌≡◌, [], ◌∷◌, ◌++◌, sym, ap, ◌∙◌, subst, inr, arith}
-use Rattle.std.specs.Prelude.{Contains, reverse}
+use Rattle.std.proofs.Common.{◌≡◌, [], ◌∷◌, ◌++◌, sym, ap, ◌∙◌, subst, inr, arith, Contains, reverse}
 use Rattle.cnf_formula.specs.Literals.{negation}
-use Rattle.trail_core.specs.Meaning.{trues}
-use Rattle.trail_core.specs.Assigned.{IsFalse}
-use Rattle.trail_core.proofs.Keeping.{negated_twice}
+use Rattle.trail_core.{specs.{Meaning.trues, Assigned.IsFalse}, proofs.Keeping.negated_twice}
 use Rattle.conflict_analysis.specs.Met.{value_of, WalkValue, lit_at}
-use Rattle.conflict_analysis.proofs.Marked.{lit_stands, lit_about}
-use Rattle.conflict_analysis.proofs.Pointed.{IsBegun, begun_sorted}
-use Rattle.conflict_analysis.proofs.Resolved.{place_read}
+use Rattle.conflict_analysis.proofs.{Marked.{lit_stands, lit_about}, Pointed.{IsBegun, begun_sorted}, Resolved.place_read}
 use Rattle.conflict_analysis.proofs.Denied.{met_from, walked_by, unit_line_by}
 use Rattle.conflict_analysis.proofs.unit_line.unit_at.Goals as goal
 use Rattle.conflict_analysis.proofs.unit_line.unit_at.Goals.{After-begin}

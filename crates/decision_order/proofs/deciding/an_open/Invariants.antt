@@ -1,7 +1,6 @@
 use Rattle.std.proofs.Common.{ℕ, ◌<◌, ◌≤◌}
 use Rattle.cnf_formula.specs.Literals.{no}
-use Rattle.trail_core.specs.Assigned.{IsOpen}
-use Rattle.trail_core.specs.Meaning.{trues}
+use Rattle.trail_core.specs.{Assigned.IsOpen, Meaning.trues}
 use Rattle.decision_order.proofs.deciding.an_open.Given as goal
 
 abbrev pub invariant-loop-index : goal.invariant-loop-index

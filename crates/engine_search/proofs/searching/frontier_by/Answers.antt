@@ -1,5 +1,4 @@
-use Rattle.engine_search.proofs.Searched.{allowed_for}
-use Rattle.engine_search.proofs.Found.{found_as_asked, found_copied, recorded_as_asked}
+use Rattle.engine_search.proofs.{Searched.allowed_for, Found.{found_as_asked, found_copied, recorded_as_asked}}
 use Rattle.engine_search.proofs.searching.frontier_by.Goals as goal
 
 pub search-requires-clause-allowed : goal.search-requires-clause-allowed

@@ -1,6 +1,5 @@
 use Rattle.std.proofs.Common.{Some, sym, ap, ◌∙◌}
-use Rattle.frontier_audit.specs.declared.verdict.Reason.TheVariants.{MarkWrong}
-use Rattle.frontier_audit.specs.inner.Steps.{has_mark_among, marked_among}
+use Rattle.frontier_audit.specs.{declared.verdict.Reason.TheVariants.MarkWrong, inner.Steps.{has_mark_among, marked_among}}
 use Rattle.frontier_audit.proofs.Walking.{denied_here, failing_denies, passed_here, passing_denies_none}
 use Rattle.frontier_audit.proofs.answered.marks_denied.Goals as goal
 

@@ -1,7 +1,5 @@
 use Rattle.std.specs.Prelude.{◌≡◌, drop}
-use Rattle.frontier_audit.specs.Denials.{each}
-use Rattle.frontier_audit.specs.Beside.{denial_of}
-use Rattle.frontier_audit.specs.inner.Steps.{marked_among}
+use Rattle.frontier_audit.specs.{Denials.each, Beside.denial_of, inner.Steps.marked_among}
 use Rattle.frontier_audit.proofs.answered.marks_denied.Given as goal
 
 abbrev pub invariant-loop-point : goal.invariant-loop-point

@@ -1,8 +1,6 @@
-use Rattle.std.proofs.Common.{get_or, sym, ◌∙◌}
-use Rattle.std.proofs.lemmas.List.{get_or_default}
+use Rattle.std.proofs.{Common.{get_or, sym, ◌∙◌}, lemmas.List.get_or_default}
 use Rattle.candidate_order.specs.declared.candidate.Candidate.{Candidate}
-use Rattle.frontier_audit.specs.declared.verdict.Reason.TheVariants.{CandidateMissing}
-use Rattle.frontier_audit.specs.inner.Steps.{is_left_answered, left_checked}
+use Rattle.frontier_audit.specs.{declared.verdict.Reason.TheVariants.CandidateMissing, inner.Steps.{is_left_answered, left_checked}}
 use Rattle.frontier_audit.proofs.Walking.{denied_here, failing_denies, passed_here, passing_denies_none}
 use Rattle.frontier_audit.proofs.answered.passed_over.Goals as goal
 

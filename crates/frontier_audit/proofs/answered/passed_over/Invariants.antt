@@ -1,7 +1,5 @@
 use Rattle.std.specs.Prelude.{◌≡◌, drop}
-use Rattle.frontier_audit.specs.Denials.{each}
-use Rattle.frontier_audit.specs.Beside.{denial_of}
-use Rattle.frontier_audit.specs.inner.Steps.{left_checked}
+use Rattle.frontier_audit.specs.{Denials.each, Beside.denial_of, inner.Steps.left_checked}
 use Rattle.frontier_audit.proofs.answered.passed_over.Given as goal
 
 abbrev pub invariant-loop-candidate : goal.invariant-loop-candidate

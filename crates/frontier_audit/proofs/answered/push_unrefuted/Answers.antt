@@ -1,8 +1,6 @@
-use Rattle.std.proofs.Common.{◌≡◌, get_or, arith, rules, ◌∙◌}
-use Rattle.std.proofs.lemmas.Grind.{common_steps}
+use Rattle.std.proofs.{Common.{◌≡◌, get_or, arith, rules, ◌∙◌}, lemmas.Grind.common_steps}
 use Rattle.candidate_order.specs.declared.candidate.Candidate.{Candidate}
-use Rattle.frontier_audit.specs.Candidates.{is_listed}
-use Rattle.frontier_audit.proofs.Tried.{listed_by}
+use Rattle.frontier_audit.{specs.Candidates.is_listed, proofs.Tried.listed_by}
 use Rattle.frontier_audit.proofs.answered.push_unrefuted.Goals as goal
 
 abbrev none : Candidate

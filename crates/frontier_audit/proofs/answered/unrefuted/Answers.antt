@@ -2,8 +2,7 @@ use Rattle.std.proofs.Common.{◌≤◌, ◌<◌, ◌+◌, ◌++◌, append-nil,
 use Rattle.schedule.specs.Links.{TopologyValue}
 use Rattle.collective_spec.specs.Collectives.{kind_in}
 use Rattle.candidate_order.specs.Ranges.{LimitsValue}
-use Rattle.frontier_audit.specs.inner.Steps.{unrefuted_among}
-use Rattle.frontier_audit.proofs.Listing.{all_steps, are_counts, listed_is, no_step, step_added}
+use Rattle.frontier_audit.{specs.inner.Steps.unrefuted_among, proofs.Listing.{all_steps, are_counts, listed_is, no_step, step_added}}
 use Rattle.frontier_audit.proofs.answered.unrefuted.Goals as goal
 
 pub loop-step-init : goal.loop-step-init

@@ -1,7 +1,5 @@
 use Rattle.std.specs.Prelude.{◌≡◌, ◌++◌}
-use Rattle.frontier_audit.specs.Candidates.{candidates_within}
-use Rattle.frontier_audit.specs.inner.Steps.{unrefuted_among}
-use Rattle.frontier_audit.proofs.Listing.{from_step}
+use Rattle.frontier_audit.{specs.{Candidates.candidates_within, inner.Steps.unrefuted_among}, proofs.Listing.from_step}
 use Rattle.frontier_audit.proofs.answered.unrefuted.Given as goal
 
 abbrev pub invariant-loop-step : goal.invariant-loop-step

@@ -1,10 +1,7 @@
 use Rattle.std.proofs.Common.{sym, subst, ◌∙◌}
-use Rattle.frontier_audit.specs.Beside.{AnswersBeside}
-use Rattle.frontier_audit.specs.inner.Steps.{parts_checked}
-use Rattle.outer_ports.specs.declared.part.Part.{Part}
-use Rattle.outer_ports.specs.declared.part.Part.TheVariants.{Joined}
-use Rattle.frontier_audit.specs.Denials.{Denial}
+use Rattle.frontier_audit.specs.{Beside.AnswersBeside, inner.Steps.parts_checked, Denials.Denial}
 use Rattle.frontier_audit.proofs.Verified.{denied_exact, denied_some, joins_decide, none_decides, parts_decide, verified_exact, verified_logs, verified_rights, verified_some}
+use Rattle.outer_ports.specs.declared.part.Part.{Part, TheVariants.Joined}
 use Rattle.frontier_audit.proofs.auditing.audit.Goals as goal
 
 pub returns-in-Some-clause-exact : goal.returns-in-Some-clause-exact

@@ -1,7 +1,5 @@
 use Rattle.std.proofs.Common.{subst, sym, ◌∙◌}
-use Rattle.frontier_audit.specs.Auditing.{refutation_checked}
-use Rattle.frontier_audit.specs.Beside.{AnswersBeside}
-use Rattle.frontier_audit.proofs.Said.{text_denies, proof_decides, said_before, said_later}
+use Rattle.frontier_audit.{specs.{Auditing.refutation_checked, Beside.AnswersBeside}, proofs.Said.{text_denies, proof_decides, said_before, said_later}}
 use Rattle.frontier_audit.proofs.files.files_denied.Goals as goal
 
 pub returns-in-Some-clause-beside : goal.returns-in-Some-clause-beside

@@ -1,7 +1,5 @@
 use Rattle.std.proofs.Common.{subst, sym}
-use Rattle.frontier_audit.specs.Auditing.{unknown_checked}
-use Rattle.frontier_audit.specs.Beside.{AnswersBeside}
-use Rattle.frontier_audit.proofs.Said.{log_decides}
+use Rattle.frontier_audit.{specs.{Auditing.unknown_checked, Beside.AnswersBeside}, proofs.Said.log_decides}
 use Rattle.frontier_audit.proofs.files.log_denied.Goals as goal
 
 pub returns-clause-beside : goal.returns-clause-beside

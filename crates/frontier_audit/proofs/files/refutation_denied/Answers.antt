@@ -1,5 +1,4 @@
-use Rattle.std.proofs.Common.{sym, ◌∙◌}
-use Rattle.std.proofs.lemmas.Result.{IfOk-weaker}
+use Rattle.std.proofs.{Common.{sym, ◌∙◌}, lemmas.Result.IfOk-weaker}
 use Rattle.frontier_audit.proofs.CutAway.{answers_where_cut, answers_where_uncut}
 use Rattle.frontier_audit.proofs.files.refutation_denied.Goals as goal
 

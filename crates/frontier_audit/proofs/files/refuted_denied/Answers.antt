@@ -1,10 +1,6 @@
-use Rattle.std.proofs.Common.{get_or, refl, subst, ◌∙◌}
-use Rattle.std.proofs.lemmas.List.{drop_all, get_or_default}
-use Rattle.std.proofs.lemmas.List.Elements.{All-weaker}
-use Rattle.candidate_order.specs.declared.candidate.Candidate.{Candidate}
-use Rattle.candidate_order.specs.Costs.{Before}
-use Rattle.frontier_audit.specs.inner.Steps.{refuted_checked}
-use Rattle.frontier_audit.specs.Beside.{AnswersBeside}
+use Rattle.std.proofs.{Common.{get_or, refl, subst, ◌∙◌}, lemmas.List.{drop_all, get_or_default, Elements.All-weaker}}
+use Rattle.candidate_order.specs.{declared.candidate.Candidate.Candidate, Costs.Before}
+use Rattle.frontier_audit.specs.{inner.Steps.refuted_checked, Beside.AnswersBeside}
 use Rattle.frontier_audit.proofs.Merging.{behind_pairs, denies_all, leads_from_start, leads_on, leads_to_all, since}
 use Rattle.frontier_audit.proofs.Said.{is_of, looks_own_refuted, looks_other_refuted}
 use Rattle.frontier_audit.proofs.files.refuted_denied.Goals as goal

@@ -1,8 +1,6 @@
 use Rattle.std.specs.Prelude.{◌≡◌, IsTrue}
-use Rattle.outer_ports.specs.Port.{Tells}
-use Rattle.outer_ports.specs.Shelf.{FilesStay}
-use Rattle.frontier_audit.specs.inner.Steps.{refuted_checked}
-use Rattle.frontier_audit.proofs.Merging.{Leads}
+use Rattle.outer_ports.specs.{Port.Tells, Shelf.FilesStay}
+use Rattle.frontier_audit.{specs.inner.Steps.refuted_checked, proofs.Merging.Leads}
 use Rattle.frontier_audit.proofs.files.refuted_denied.Given as goal
 
 abbrev pub invariant-loop-candidate : goal.invariant-loop-candidate

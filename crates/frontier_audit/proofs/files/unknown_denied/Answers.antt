@@ -1,10 +1,6 @@
-use Rattle.std.proofs.Common.{refl, sym, subst, ◌∙◌}
-use Rattle.std.proofs.lemmas.List.{drop_all}
-use Rattle.std.proofs.lemmas.List.Elements.{All-weaker}
-use Rattle.candidate_order.specs.Costs.{Before}
-use Rattle.candidate_order.specs.Frontiers.{UnknownValue, IsUnknown}
-use Rattle.frontier_audit.specs.Auditing.{unknown_checked}
-use Rattle.frontier_audit.specs.Beside.{AnswersBeside}
+use Rattle.std.proofs.{Common.{refl, sym, subst, ◌∙◌}, lemmas.List.{drop_all, Elements.All-weaker}}
+use Rattle.candidate_order.specs.{Costs.Before, Frontiers.{UnknownValue, IsUnknown}}
+use Rattle.frontier_audit.specs.{Auditing.unknown_checked, Beside.AnswersBeside}
 use Rattle.frontier_audit.proofs.Merging.{behind_pairs, denies_all, leads_from_start, leads_on, leads_to_all, since}
 use Rattle.frontier_audit.proofs.Said.{is_of, looks_own_unknown, looks_other_unknown}
 use Rattle.frontier_audit.proofs.files.unknown_denied.Goals as goal

@@ -1,7 +1,6 @@
 use Rattle.std.proofs.Common.{[], ◌∷◌, sym, subst}
 use Rattle.allreduce_join.specs.Joins.{IsJoinable}
-use Rattle.frontier_audit.specs.inner.Steps.{JoinsSay, pairs_with}
-use Rattle.frontier_audit.proofs.Pairing.{none_say, walk_ends, walk_goes, walk_stops, with_append}
+use Rattle.frontier_audit.{specs.inner.Steps.{JoinsSay, pairs_with}, proofs.Pairing.{none_say, walk_ends, walk_goes, walk_stops, with_append}}
 use Rattle.frontier_audit.proofs.joins.gathered_denied.Goals as goal
 
 pub loop-second-init : goal.loop-second-init

@@ -1,13 +1,10 @@
-use Rattle.std.proofs.Common.{Some, ap, ◌∙◌}
-use Rattle.std.specs.Prelude.{◌&&◌, slice_get}
+use Rattle.std.proofs.Common.{Some, ap, ◌∙◌, ◌&&◌, slice_get}
 use Rattle.collective_spec.specs.declared.kind.Kind.TheVariants as kind
 use Rattle.collective_spec.specs.Collectives.{chunks_of}
 use Rattle.candidate_order.specs.declared.candidate.Candidate.{Candidate}
 use Rattle.allreduce_join.specs.Judging.{joined_verdict_of}
 use Rattle.inversion.specs.Saying.{says_sums}
-use Rattle.frontier_audit.specs.declared.verdict.Reason.TheVariants.{JoinWrong}
-use Rattle.frontier_audit.specs.Joining.{same_point}
-use Rattle.frontier_audit.proofs.Pairing.{agrees, differs, got_at}
+use Rattle.frontier_audit.{specs.{declared.verdict.Reason.TheVariants.JoinWrong, Joining.same_point}, proofs.Pairing.{agrees, differs, got_at}}
 use Rattle.frontier_audit.proofs.joins.join_denied.Goals as goal
 
 pub returns-then-branch-clause-denied : goal.returns-then-branch-clause-denied

@@ -1,7 +1,6 @@
 use Rattle.std.proofs.Common.{◌+◌, None, Some, sym, subst, ap, ◌∙◌}
 use Rattle.candidate_order.specs.declared.candidate.Candidate.{Candidate}
-use Rattle.frontier_audit.specs.inner.Steps.{JoinsSay}
-use Rattle.frontier_audit.proofs.Pairing.{one_goes, one_stops, with_same}
+use Rattle.frontier_audit.{specs.inner.Steps.JoinsSay, proofs.Pairing.{one_goes, one_stops, with_same}}
 use Rattle.frontier_audit.proofs.joins.pair_denied.Goals as goal
 
 pub returns-in-Some : goal.returns-in-Some

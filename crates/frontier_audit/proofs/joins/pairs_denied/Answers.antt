@@ -1,8 +1,6 @@
-use Rattle.std.proofs.Common.{[], ◌∷◌, Some, sym, subst, ap, ◌∙◌}
-use Rattle.std.proofs.lemmas.Option.{slice_get_past}
+use Rattle.std.proofs.{Common.{[], ◌∷◌, Some, sym, subst, ap, ◌∙◌}, lemmas.Option.slice_get_past}
 use Rattle.allreduce_join.specs.Joins.{IsJoinable, pairs_of}
-use Rattle.frontier_audit.specs.inner.Steps.{JoinsSay}
-use Rattle.frontier_audit.specs.declared.verdict.Reason.TheVariants.{JoinWrong}
+use Rattle.frontier_audit.specs.{inner.Steps.JoinsSay, declared.verdict.Reason.TheVariants.JoinWrong}
 use Rattle.frontier_audit.proofs.Pairing.{got_at, none_say, no_surplus, pairs_add, pairs_one, stopped, surplus, walk_ends, walk_goes, walk_stops}
 use Rattle.frontier_audit.proofs.joins.pairs_denied.Goals as goal
 

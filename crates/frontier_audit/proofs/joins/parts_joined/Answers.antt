@@ -1,12 +1,9 @@
-use Rattle.std.proofs.Common.{◌<◌, length, sym, subst, ap, ◌∙◌, arith}
-use Rattle.std.specs.Prelude.{All}
+use Rattle.std.proofs.Common.{◌<◌, length, sym, subst, ap, ◌∙◌, arith, All}
 use Rattle.outer_ports.specs.declared.part.Part.{Part}
 use Rattle.candidate_order.specs.Frontiers.{FrontierValue}
 use Rattle.topology_text.specs.Value.{NamedTopologyValue}
 use Rattle.allreduce_join.specs.Joins.{IsJoinable}
-use Rattle.frontier_audit.specs.Joining.{IsSummable}
-use Rattle.frontier_audit.proofs.Jointly.{part_joinable}
-use Rattle.frontier_audit.proofs.Right.{joinable}
+use Rattle.frontier_audit.{specs.Joining.IsSummable, proofs.{Jointly.part_joinable, Right.joinable}}
 use Rattle.frontier_audit.proofs.joins.parts_joined.Goals as goal
 
 pub pairs_denied-requires-clause-reduce : goal.pairs_denied-requires-clause-reduce

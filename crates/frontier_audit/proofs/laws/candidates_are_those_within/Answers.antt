@@ -1,5 +1,4 @@
-use Rattle.frontier_audit.proofs.Tried.{candidates_exactly}
-use Rattle.frontier_audit.proofs.InOrder.{within_ascends}
+use Rattle.frontier_audit.proofs.{Tried.candidates_exactly, InOrder.within_ascends}
 use Rattle.frontier_audit.proofs.laws.candidates_are_those_within.Goals as goal
 
 pub returns-clause-members : goal.returns-clause-members

@@ -1,5 +1,4 @@
-use Rattle.frontier_audit.proofs.Shelves.{unsatisfiable}
-use Rattle.frontier_audit.proofs.Unsolvable.{no_model}
+use Rattle.frontier_audit.proofs.{Shelves.unsatisfiable, Unsolvable.no_model}
 use Rattle.frontier_audit.proofs.laws.refuted_is_unsatisfiable.Goals as goal
 
 pub returns-clause-uncut : goal.returns-clause-uncut

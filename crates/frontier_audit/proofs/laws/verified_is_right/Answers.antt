@@ -1,6 +1,4 @@
-use Rattle.frontier_audit.proofs.Right.{verified_joins}
-use Rattle.frontier_audit.proofs.Unsolvable.{all_right}
-use Rattle.frontier_audit.proofs.Verified.{report_right}
+use Rattle.frontier_audit.proofs.{Right.verified_joins, Unsolvable.all_right, Verified.report_right}
 use Rattle.frontier_audit.proofs.laws.verified_is_right.Goals as goal
 
 pub returns-clause-frontiers : goal.returns-clause-frontiers

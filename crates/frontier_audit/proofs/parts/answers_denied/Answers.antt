@@ -1,8 +1,5 @@
 use Rattle.std.proofs.Common.{sym, ap, ◌∙◌}
-use Rattle.frontier_audit.specs.Candidates.{candidates_within}
-use Rattle.frontier_audit.specs.Denials.{each}
-use Rattle.frontier_audit.specs.Beside.{denial_of}
-use Rattle.frontier_audit.specs.inner.Steps.{left_checked, marked_among, unrefuted_among}
+use Rattle.frontier_audit.specs.{Candidates.candidates_within, Denials.each, Beside.denial_of, inner.Steps.{left_checked, marked_among, unrefuted_among}}
 use Rattle.frontier_audit.proofs.Answering.{missing_decides, marks_decide}
 use Rattle.frontier_audit.proofs.parts.answers_denied.Goals as goal
 

@@ -1,13 +1,7 @@
-use Rattle.std.proofs.Common.{List, sym, subst, ap, ◌∙◌}
-use Rattle.std.specs.Prelude.{AllPairs}
-use Rattle.candidate_order.specs.Costs.{Before}
-use Rattle.candidate_order.specs.Frontiers.{PointValue, UnknownValue}
-use Rattle.frontier_audit.specs.Denials.{each}
-use Rattle.frontier_audit.specs.Auditing.{unknown_checked}
-use Rattle.frontier_audit.specs.inner.Steps.{point_checked, refuted_checked}
-use Rattle.frontier_audit.specs.Beside.{denial_of}
-use Rattle.frontier_audit.proofs.Merging.{later, reworded, since}
-use Rattle.frontier_audit.proofs.Parting.{answers_decide, points_decide, refuted_decide, unknown_decide, unnamed_pairs}
+use Rattle.std.proofs.Common.{List, sym, subst, ap, ◌∙◌, AllPairs}
+use Rattle.candidate_order.specs.{Costs.Before, Frontiers.{PointValue, UnknownValue}}
+use Rattle.frontier_audit.specs.{Denials.each, Auditing.unknown_checked, inner.Steps.{point_checked, refuted_checked}, Beside.denial_of}
+use Rattle.frontier_audit.proofs.{Merging.{later, reworded, since}, Parting.{answers_decide, points_decide, refuted_decide, unknown_decide, unnamed_pairs}}
 use Rattle.frontier_audit.proofs.parts.part_denied.Goals as goal
 
 pub unknown_denied-requires-clause-ascending : goal.unknown_denied-requires-clause-ascending

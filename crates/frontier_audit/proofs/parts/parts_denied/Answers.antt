@@ -1,10 +1,5 @@
-use Rattle.std.proofs.Common.{refl, subst, ◌∙◌}
-use Rattle.std.proofs.lemmas.List.{drop_all}
-use Rattle.std.specs.Prelude.{length, ◌≤◌}
-use Rattle.std.proofs.lemmas.List.Elements.{All-weaker}
-use Rattle.frontier_audit.specs.Auditing.{frontier_checked}
-use Rattle.frontier_audit.specs.Beside.{AnswersBeside}
-use Rattle.frontier_audit.specs.inner.Steps.{part_checked}
+use Rattle.std.proofs.{Common.{refl, subst, ◌∙◌, length, ◌≤◌}, lemmas.List.{drop_all, Elements.All-weaker}}
+use Rattle.frontier_audit.specs.{Auditing.frontier_checked, Beside.AnswersBeside, inner.Steps.part_checked}
 use Rattle.frontier_audit.proofs.Merging.{behind_pairs, denies_all, leads_from_start, leads_on, leads_to_all, since}
 use Rattle.frontier_audit.proofs.Parting.{Apart, here_frontier, here_is, here_low, here_part, is_in, looks_other_part, looks_own_part, part_denies, part_passes, parts_apart}
 use Rattle.frontier_audit.proofs.parts.parts_denied.Goals as goal

@@ -1,7 +1,5 @@
 use Rattle.std.proofs.Common.{Some, sym, ap, ◌∙◌}
-use Rattle.frontier_audit.specs.declared.verdict.Reason.TheVariants.{ScheduleWrong}
-use Rattle.frontier_audit.specs.Solutions.{is_solution}
-use Rattle.frontier_audit.specs.inner.Steps.{point_checked}
+use Rattle.frontier_audit.specs.{declared.verdict.Reason.TheVariants.ScheduleWrong, Solutions.is_solution, inner.Steps.point_checked}
 use Rattle.frontier_audit.proofs.Walking.{denied_here, failing_denies, passed_here, passing_denies_none}
 use Rattle.frontier_audit.proofs.solutions.points_denied.Goals as goal
 

@@ -1,7 +1,5 @@
 use Rattle.std.specs.Prelude.{◌≡◌, drop}
-use Rattle.frontier_audit.specs.Denials.{each}
-use Rattle.frontier_audit.specs.inner.Steps.{point_checked}
-use Rattle.frontier_audit.specs.Beside.{denial_of}
+use Rattle.frontier_audit.specs.{Denials.each, inner.Steps.point_checked, Beside.denial_of}
 use Rattle.frontier_audit.proofs.solutions.points_denied.Given as goal
 
 abbrev pub invariant-loop-point : goal.invariant-loop-point

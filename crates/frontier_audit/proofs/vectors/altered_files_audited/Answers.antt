@@ -1,5 +1,4 @@
-use Rattle.std.proofs.Common.{refl}
-use Rattle.std.specs.Fmt.{digits}
+use Rattle.std.{proofs.Common.refl, specs.Fmt.digits}
 use Rattle.frontier_audit.proofs.vectors.altered_files_audited.Goals as goal
 
 pub returns-clause-by_hand : goal.returns-clause-by_hand

@@ -1,5 +1,4 @@
-use Rattle.std.proofs.Common.{refl}
-use Rattle.std.specs.Fmt.{digits}
+use Rattle.std.{proofs.Common.refl, specs.Fmt.digits}
 use Rattle.frontier_audit.proofs.vectors.orders_audited.Goals as goal
 
 pub returns-clause-plain_where_ordered : goal.returns-clause-plain_where_ordered

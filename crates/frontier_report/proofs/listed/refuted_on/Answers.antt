@@ -1,10 +1,8 @@
 use Rattle.std.proofs.Common.{◌≡◌, Some, sym, ap, ◌∙◌}
 use Rattle.text_lines.specs.Line.{row_at}
 use Rattle.report_form.specs.Tests.{is_within, comes_next}
-use Rattle.report_lines.specs.Asking.{asks}
-use Rattle.report_lines.specs.Wide.{candidate_of}
+use Rattle.report_lines.{specs.{Asking.asks, Wide.candidate_of}, proofs.Ruled.{tested_in, ruled_in, ruled_out}}
 use Rattle.frontier_report.proofs.ListedLines.{refuted_is}
-use Rattle.report_lines.proofs.Ruled.{tested_in, ruled_in, ruled_out}
 use Rattle.frontier_report.proofs.listed.refuted_on.Goals as goal
 
 pub returns-then-not-comes_next : goal.returns-then-not-comes_next

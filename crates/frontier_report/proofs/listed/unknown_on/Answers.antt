@@ -1,14 +1,8 @@
-use Rattle.std.proofs.Common.{◌≡◌, Some, Ok, sym, ap, ◌∙◌, rules}
-use Rattle.std.specs.Prelude.{◌==◌}
-use Rattle.std.specs.Str.Parse.{digits_value}
-use Rattle.std.proofs.lemmas.Bool.{eqb-true}
+use Rattle.std.{proofs.{Common.{◌≡◌, Some, Ok, sym, ap, ◌∙◌, rules, ◌==◌}, lemmas.Bool.eqb-true}, specs.Str.Parse.digits_value}
 use Rattle.text_lines.specs.Line.{row_at}
-use Rattle.report_form.specs.Tests.{is_within, comes_next}
-use Rattle.report_form.proofs.Shapes.{unknown}
-use Rattle.report_lines.specs.Asking.{asks}
-use Rattle.report_lines.specs.Wide.{candidate_of}
+use Rattle.report_form.{specs.Tests.{is_within, comes_next}, proofs.Shapes.unknown}
+use Rattle.report_lines.{specs.{Asking.asks, Wide.candidate_of}, proofs.Ruled.{tested_in, ruled_out_second, ruled_out_third, ruled_in_third}}
 use Rattle.frontier_report.proofs.ListedLines.{unknown_is}
-use Rattle.report_lines.proofs.Ruled.{tested_in, ruled_out_second, ruled_out_third, ruled_in_third}
 use Rattle.frontier_report.proofs.listed.unknown_on.Goals as goal
 
 pub returns-then-not-comes_next : goal.returns-then-not-comes_next

@@ -1,10 +1,7 @@
-use Rattle.std.proofs.Common.{◌≡◌, ◌∙◌, [], ◌∷◌, ap, ◌+◌, ◌-◌, length, length-append, arith}
-use Rattle.std.specs.Prelude.{codes}
-use Rattle.report_form.specs.Lines.{parts_from}
-use Rattle.report_form.specs.Points.{joined_point_at}
+use Rattle.std.proofs.Common.{◌≡◌, ◌∙◌, [], ◌∷◌, ap, ◌+◌, ◌-◌, length, length-append, arith, codes}
+use Rattle.report_form.specs.{Lines.parts_from, Points.joined_point_at}
 use Rattle.report_lines.specs.Asking.{asks}
-use Rattle.frontier_report.proofs.Parted.{parts_step, parts_halt, parts_end, one_more}
-use Rattle.frontier_report.proofs.After.{joined_read, joined_halts}
+use Rattle.frontier_report.proofs.{Parted.{parts_step, parts_halt, parts_end, one_more}, After.{joined_read, joined_halts}}
 use Rattle.frontier_report.proofs.points.joined_points_part.Goals as goal
 
 pub loop-alloc-preserved : goal.loop-alloc-preserved

@@ -1,7 +1,5 @@
-use Rattle.std.proofs.Common.{◌≡◌, ◌+◌, ◌-◌, ◌≤◌, length}
-use Rattle.std.specs.Prelude.{codes}
-use Rattle.report_form.specs.Lines.{parts_from, parts_at}
-use Rattle.report_form.specs.Points.{joined_point_at}
+use Rattle.std.proofs.Common.{◌≡◌, ◌+◌, ◌-◌, ◌≤◌, length, codes}
+use Rattle.report_form.specs.{Lines.{parts_from, parts_at}, Points.joined_point_at}
 use Rattle.report_lines.specs.Asking.{asks}
 use Rattle.frontier_report.proofs.points.joined_points_part.Given as goal
 

@@ -1,11 +1,7 @@
-use Rattle.std.proofs.Common.{◌≡◌, ◌∙◌, [], ◌∷◌, sym, ap, None, Some, ◌+◌, ◌-◌, length, length-append, arith}
-use Rattle.std.specs.Prelude.{codes}
-use Rattle.report_form.specs.Lines.{parts_from}
-use Rattle.report_form.specs.Points.{frontier_point_at}
+use Rattle.std.proofs.Common.{◌≡◌, ◌∙◌, [], ◌∷◌, sym, ap, None, Some, ◌+◌, ◌-◌, length, length-append, arith, codes}
+use Rattle.report_form.specs.{Lines.parts_from, Points.frontier_point_at}
 use Rattle.report_lines.specs.Asking.{asks}
-use Rattle.frontier_report.proofs.Turns.{last_push_map}
-use Rattle.frontier_report.proofs.Parted.{parts_step, parts_halt, parts_end, one_more}
-use Rattle.frontier_report.proofs.After.{point_read, point_halts}
+use Rattle.frontier_report.proofs.{Turns.last_push_map, Parted.{parts_step, parts_halt, parts_end, one_more}, After.{point_read, point_halts}}
 use Rattle.frontier_report.proofs.points.points_part.Goals as goal
 
 pub loop-alloc-preserved : goal.loop-alloc-preserved

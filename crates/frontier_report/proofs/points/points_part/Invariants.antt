@@ -1,8 +1,5 @@
-use Rattle.std.proofs.Common.{◌≡◌, ◌+◌, ◌-◌, ◌≤◌, None, length, map}
-use Rattle.std.specs.Prelude.{codes}
-use Rattle.std.specs.List.{last_or}
-use Rattle.report_form.specs.Lines.{parts_from, parts_at}
-use Rattle.report_form.specs.Points.{frontier_point_at}
+use Rattle.std.{proofs.Common.{◌≡◌, ◌+◌, ◌-◌, ◌≤◌, None, length, map, codes}, specs.List.last_or}
+use Rattle.report_form.specs.{Lines.{parts_from, parts_at}, Points.frontier_point_at}
 use Rattle.report_lines.specs.Asking.{asks}
 use Rattle.frontier_report.proofs.points.points_part.Given as goal
 

@@ -1,5 +1,4 @@
-use Rattle.report_lines.specs.Asking.{asks}
-use Rattle.report_lines.specs.Heads.{head_value}
+use Rattle.report_lines.specs.{Asking.asks, Heads.head_value}
 use Rattle.frontier_report.proofs.Scheduled.{schedule_is}
 use Rattle.frontier_report.proofs.points.schedule_part.Goals as goal
 

@@ -1,17 +1,9 @@
 use Rattle.std.proofs.Common.{◌≡◌, sym, ap, ◌∙◌, arith, rules}
-use Rattle.text_lines.specs.Text.{rows_of}
-use Rattle.text_lines.specs.Check.{at_line, line_part}
-use Rattle.topology_text.specs.Value.{named_with}
-use Rattle.topology_text.specs.Reading.{nodes_line, groups_at, pattern_at}
-use Rattle.topology_text.proofs.Laws.{parts_are}
-use Rattle.report_form.specs.Lines.{among}
-use Rattle.report_form.specs.SynthLine.{root_of, words_from}
-use Rattle.report_form.specs.Reading.{body_of, report_of, version_line}
-use Rattle.report_form.proofs.ReportTaken.{among_ok}
+use Rattle.text_lines.specs.{Text.rows_of, Check.{at_line, line_part}}
+use Rattle.topology_text.{specs.{Value.named_with, Reading.{nodes_line, groups_at, pattern_at}}, proofs.Laws.parts_are}
+use Rattle.report_form.{specs.{Lines.among, SynthLine.{root_of, words_from}, Reading.{body_of, report_of, version_line}}, proofs.ReportTaken.among_ok}
 use Rattle.report_lines.specs.Spelled.{asked_value}
-use Rattle.frontier_report.specs.inner.Header.{header_at}
-use Rattle.frontier_report.proofs.Onward.{room_at_first, third_line}
-use Rattle.frontier_report.proofs.BehindTopology.{behind_topology}
+use Rattle.frontier_report.{specs.inner.Header.header_at, proofs.{Onward.{room_at_first, third_line}, BehindTopology.behind_topology}}
 use Rattle.frontier_report.proofs.reading.parts_of.Goals as goal
 
 pub version_part-requires : goal.version_part-requires

@@ -1,6 +1,4 @@
-use Rattle.std.proofs.Common.{◌≡◌, ◌&&◌, drop}
-use Rattle.std.specs.Prelude.{nat_le}
-use Rattle.std.specs.List.{list_all}
+use Rattle.std.{proofs.Common.{◌≡◌, ◌&&◌, drop, nat_le}, specs.List.list_all}
 use Rattle.frontier_report.proofs.rounds.are_few.Given as goal
 
 abbrev pub invariant-loop-n : goal.invariant-loop-n

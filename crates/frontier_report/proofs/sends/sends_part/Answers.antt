@@ -1,10 +1,7 @@
-use Rattle.std.proofs.Common.{◌≡◌, ◌∙◌, sym, ap, None, Some, ◌+◌, length, arith, rules}
-use Rattle.std.specs.Prelude.{codes}
-use Rattle.text_lines.specs.Text.{Place, behind}
-use Rattle.text_lines.specs.Line.{row_at}
+use Rattle.std.proofs.Common.{◌≡◌, ◌∙◌, sym, ap, None, Some, ◌+◌, length, arith, rules, codes}
+use Rattle.text_lines.specs.{Text.{Place, behind}, Line.row_at}
 use Rattle.report_form.specs.Points.{send_line}
-use Rattle.frontier_report.proofs.Turns.{last_push, lines_stop, lines_step, lines_end, lines_other, taken}
-use Rattle.frontier_report.proofs.After.{send_read}
+use Rattle.frontier_report.proofs.{Turns.{last_push, lines_stop, lines_step, lines_end, lines_other, taken}, After.send_read}
 use Rattle.frontier_report.proofs.sends.sends_part.Goals as goal
 use Rattle.frontier_report.proofs.sends.sends_part.Goals.{in-Some+then-not-begins, in_default}
 

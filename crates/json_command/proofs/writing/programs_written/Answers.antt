@@ -1,8 +1,6 @@
 use Rattle.std.proofs.Common.{Some, subst}
 use Rattle.command_words.specs.declared.command.JsonWhat.TheVariants as what
-use Rattle.run_rules.specs.Read.{IsReadAs}
-use Rattle.run_rules.specs.Tasks.{json_asked, json_programs_in, read_report}
-use Rattle.run_rules.proofs.Answered.{refused_alone, refused_behind}
+use Rattle.run_rules.{specs.{Read.IsReadAs, Tasks.{json_asked, json_programs_in, read_report}}, proofs.Answered.{refused_alone, refused_behind}}
 use Rattle.json_command.proofs.writing.programs_written.Goals as goal
 
 pub returns-in-Refused : goal.returns-in-Refused

@@ -1,8 +1,6 @@
 use Rattle.report_form.specs.Reading.{report_of}
-use Rattle.json_forms.proofs.ReadJson.{read_alike}
-use Rattle.json_forms.specs.ReportForm.{report}
+use Rattle.json_forms.{proofs.{ReadJson.read_alike, ReportTable.{report_printed, report_read}}, specs.ReportForm.report}
 use Rattle.json_rules.specs.ReportJson.{report_in}
-use Rattle.json_forms.proofs.ReportTable.{report_printed, report_read}
 use Rattle.json_forms.proofs.laws.report_is_of_its_form.Goals as goal
 
 pub returns-clause-json : goal.returns-clause-json

@@ -1,8 +1,6 @@
 use Rattle.topology_text.specs.Reading.{topology_of}
-use Rattle.json_forms.specs.TopologyForm.{topology}
+use Rattle.json_forms.{specs.TopologyForm.topology, proofs.{ReadJson.read_alike, TopologyTable.{topology_printed, topology_read}}}
 use Rattle.json_values.specs.TopologyJson.{topology_in}
-use Rattle.json_forms.proofs.ReadJson.{read_alike}
-use Rattle.json_forms.proofs.TopologyTable.{topology_printed, topology_read}
 use Rattle.json_forms.proofs.laws.topology_is_of_its_form.Goals as goal
 
 pub returns-clause-json : goal.returns-clause-json

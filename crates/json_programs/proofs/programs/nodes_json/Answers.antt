@@ -1,5 +1,4 @@
-use Rattle.std.proofs.Common.{map, sym, ◌∙◌}
-use Rattle.std.specs.List.{range_with_len}
+use Rattle.std.{proofs.Common.{map, sym, ◌∙◌}, specs.List.range_with_len}
 use Rattle.json_rules.specs.ProgramsJson.{node_json}
 use Rattle.json_values.proofs.Printing.{pushed, numbered_more}
 use Rattle.json_programs.proofs.programs.nodes_json.Goals as goal

@@ -1,5 +1,4 @@
-use Rattle.std.proofs.Common.{◌≡◌, map}
-use Rattle.std.specs.List.{range_with_len}
+use Rattle.std.{proofs.Common.{◌≡◌, map}, specs.List.range_with_len}
 use Rattle.serde_json.specs.View.{view}
 use Rattle.json_rules.specs.ProgramsJson.{node_json}
 use Rattle.json_programs.proofs.programs.nodes_json.Given as goal

@@ -1,6 +1,5 @@
 use Rattle.std.proofs.Common.{◌≡◌, [], ◌∷◌, ◌++◌, false, ap, ◌∙◌}
-use Rattle.serde_json.specs.View.{view}
-use Rattle.serde_json.specs.Written.{has_float}
+use Rattle.serde_json.specs.{View.view, Written.has_float}
 use Rattle.json_values.specs.Json.{printed}
 use Rattle.json_programs.proofs.Built.{programs_whole}
 use Rattle.json_programs.proofs.programs.programs_json.Goals as goal

@@ -1,11 +1,8 @@
-use Rattle.std.proofs.Common.{◌++◌, ap, ap₂, sym, ◌∙◌, option_map, subst, rules}
-use Rattle.std.specs.Prelude.{codes}
+use Rattle.std.proofs.Common.{◌++◌, ap, ap₂, sym, ◌∙◌, option_map, subst, rules, codes}
 use Rattle.text_lines.specs.Text.{text_of}
 use Rattle.serde_json.specs.View.{view}
-use Rattle.json_values.specs.Shape.{◌⊕◌, list_in, field}
+use Rattle.json_values.{specs.{Shape.{◌⊕◌, list_in, field}, Appends.Appends}, proofs.Lines.{lines_listed, not_mapped, refused_on}}
 use Rattle.json_rules.specs.ReportJson.{refuted_in, unknown_in}
-use Rattle.json_values.specs.Appends.{Appends}
-use Rattle.json_values.proofs.Lines.{lines_listed, not_mapped, refused_on}
 use Rattle.json_reports.proofs.Compose.{in_turn, field_is}
 use Rattle.json_reports.proofs.frontier_lines.push_lists.Goals as goal
 

@@ -1,10 +1,8 @@
 use Rattle.std.proofs.Common.{List, ℕ, [], ◌∷◌, ◌++◌, ap, sym, ◌∙◌, option_map, append-nil, rules}
 use Rattle.text_lines.specs.Text.{line}
-use Rattle.serde_json.specs.View.{view, items_view}
-use Rattle.serde_json.proofs.Views.{items_len-items_view}
-use Rattle.json_values.specs.Shape.{headed, list_in}
+use Rattle.serde_json.{specs.View.{view, items_view}, proofs.Views.items_len-items_view}
+use Rattle.json_values.{specs.Shape.{headed, list_in}, proofs.Lines.{tokens_listed, tokens_refused, line_closed, lined, refused_on}}
 use Rattle.json_rules.specs.ReportJson.{number_in}
-use Rattle.json_values.proofs.Lines.{tokens_listed, tokens_refused, line_closed, lined, refused_on}
 use Rattle.json_reports.proofs.Compose.{counts_with, no_counts}
 use Rattle.json_reports.proofs.number_lines.push_counts.Goals as goal
 

@@ -1,13 +1,9 @@
-use Rattle.std.proofs.Common.{◌≡◌, true, None, ap, sym, ◌∙◌, option_map, subst, rules}
-use Rattle.std.specs.Prelude.{if◌then◌else◌}
+use Rattle.std.proofs.Common.{◌≡◌, true, None, ap, sym, ◌∙◌, option_map, subst, rules, if◌then◌else◌}
 use Rattle.text_lines.specs.Text.{text_of}
 use Rattle.serde_json.specs.View.{view}
-use Rattle.json_values.specs.Shape.{◌⊕◌, one, has_keys}
+use Rattle.json_values.{specs.{Shape.{◌⊕◌, one, has_keys}, Appends.Appends}, proofs.Lines.refused_on}
 use Rattle.json_rules.specs.ReportJson.{point_keys, is_joined, head_in, marked_in}
-use Rattle.json_reports.specs.inner.Pieces.{schedule_in}
-use Rattle.json_values.specs.Appends.{Appends}
-use Rattle.json_values.proofs.Lines.{refused_on}
-use Rattle.json_reports.proofs.Compose.{line_in_turn, no_line}
+use Rattle.json_reports.{specs.inner.Pieces.schedule_in, proofs.Compose.{line_in_turn, no_line}}
 use Rattle.json_reports.proofs.point_lines.push_marked.Goals as goal
 
 pub returns-in_err-push_head : goal.returns-in_err-push_head

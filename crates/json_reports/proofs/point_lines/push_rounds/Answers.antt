@@ -1,10 +1,8 @@
-use Rattle.std.proofs.Common.{List, ℕ, [], ◌∷◌, ◌++◌, ap, sym, ◌∙◌, option_map, rules}
-use Rattle.std.specs.Prelude.{codes}
+use Rattle.std.proofs.Common.{List, ℕ, [], ◌∷◌, ◌++◌, ap, sym, ◌∙◌, option_map, rules, codes}
 use Rattle.text_lines.specs.Text.{line}
 use Rattle.serde_json.specs.View.{view}
-use Rattle.json_values.specs.Shape.{headed, list_in}
+use Rattle.json_values.{specs.Shape.{headed, list_in}, proofs.Lines.{tokens_listed, tokens_refused, line_closed, lined, refused_on}}
 use Rattle.json_rules.specs.ReportJson.{number_in}
-use Rattle.json_values.proofs.Lines.{tokens_listed, tokens_refused, line_closed, lined, refused_on}
 use Rattle.json_reports.proofs.point_lines.push_rounds.Goals as goal
 
 pub returns-in_err-push_list : goal.returns-in_err-push_list

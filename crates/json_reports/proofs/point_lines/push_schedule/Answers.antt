@@ -1,11 +1,8 @@
-use Rattle.std.proofs.Common.{ap, ap₂, sym, option_map, subst, rules}
-use Rattle.std.specs.Prelude.{codes}
+use Rattle.std.proofs.Common.{ap, ap₂, sym, option_map, subst, rules, codes}
 use Rattle.text_lines.specs.Text.{text_of}
 use Rattle.serde_json.specs.View.{view}
-use Rattle.json_values.specs.Shape.{◌⊕◌, one, list_in}
+use Rattle.json_values.{specs.{Shape.{◌⊕◌, one, list_in}, Appends.Appends}, proofs.Lines.lines_listed}
 use Rattle.json_rules.specs.ReportJson.{rounds_in, send_in}
-use Rattle.json_values.specs.Appends.{Appends}
-use Rattle.json_values.proofs.Lines.{lines_listed}
 use Rattle.json_reports.proofs.Compose.{line_in_turn, field_is}
 use Rattle.json_reports.proofs.point_lines.push_schedule.Goals as goal
 

@@ -1,13 +1,8 @@
-use Rattle.std.proofs.Common.{ap, sym, ◌∙◌, option_map, subst, rules}
-use Rattle.std.specs.Prelude.{codes}
+use Rattle.std.proofs.Common.{ap, sym, ◌∙◌, option_map, subst, rules, codes}
 use Rattle.text_lines.specs.Text.{text_of}
 use Rattle.serde_json.specs.View.{view}
-use Rattle.json_values.specs.Shape.{◌⊕◌}
-use Rattle.json_values.specs.TopologyJson.{topology_in}
-use Rattle.json_reports.specs.inner.Pieces.{results_in}
-use Rattle.json_values.specs.Appends.{Appends}
-use Rattle.json_values.proofs.Lines.{not_mapped, refused_on}
-use Rattle.json_reports.proofs.Compose.{in_turn, field_is}
+use Rattle.json_values.{specs.{Shape.◌⊕◌, TopologyJson.topology_in, Appends.Appends}, proofs.Lines.{not_mapped, refused_on}}
+use Rattle.json_reports.{specs.inner.Pieces.results_in, proofs.Compose.{in_turn, field_is}}
 use Rattle.json_reports.proofs.report_text.push_body.Goals as goal
 
 pub returns-in_err-push : goal.returns-in_err-push

@@ -1,11 +1,8 @@
-use Rattle.std.proofs.Common.{[], ◌∷◌, Some, ap, sym, option_map, subst}
-use Rattle.std.specs.Prelude.{codes}
+use Rattle.std.proofs.Common.{[], ◌∷◌, Some, ap, sym, option_map, subst, codes}
 use Rattle.text_lines.specs.Text.{text_of}
 use Rattle.serde_json.specs.View.{view}
-use Rattle.json_values.specs.Shape.{lines_in}
+use Rattle.json_values.{specs.{Shape.lines_in, Appends.Appends}, proofs.Lines.parts_listed}
 use Rattle.json_rules.specs.ReportJson.{point_in, joined_in}
-use Rattle.json_values.specs.Appends.{Appends}
-use Rattle.json_values.proofs.Lines.{parts_listed}
 use Rattle.json_reports.proofs.Compose.{in_turn}
 use Rattle.json_reports.proofs.report_text.push_joined.Goals as goal
 

@@ -1,13 +1,9 @@
-use Rattle.std.proofs.Common.{◌≡◌, Some, ap, sym, ◌∙◌, option_map, subst, rules}
-use Rattle.std.specs.Prelude.{codes}
+use Rattle.std.proofs.Common.{◌≡◌, Some, ap, sym, ◌∙◌, option_map, subst, rules, codes}
 use Rattle.text_lines.specs.Text.{text_of}
 use Rattle.serde_json.specs.View.{view}
-use Rattle.json_values.specs.Shape.{◌>>=◌, ◌⊕◌, one}
+use Rattle.json_values.{specs.{Shape.{◌>>=◌, ◌⊕◌, one}, Appends.Appends}, proofs.Lines.refused_on}
 use Rattle.json_rules.specs.ReportJson.{words_in, joins_in, body_in}
-use Rattle.json_reports.specs.inner.Pieces.{rest_of}
-use Rattle.json_values.specs.Appends.{Appends}
-use Rattle.json_values.proofs.Lines.{refused_on}
-use Rattle.json_reports.proofs.Compose.{line_in_turn, no_line, field_is}
+use Rattle.json_reports.{specs.inner.Pieces.rest_of, proofs.Compose.{line_in_turn, no_line, field_is}}
 use Rattle.json_reports.proofs.report_text.push_rest.Goals as goal
 
 pub returns-in_err-push_words : goal.returns-in_err-push_words

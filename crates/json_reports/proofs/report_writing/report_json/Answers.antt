@@ -1,8 +1,5 @@
 use Rattle.std.proofs.Common.{◌≡◌, ◌≤◌, [], ◌∷◌, ◌++◌, false, Some, ap, ◌∙◌, arith}
-use Rattle.serde_json.specs.Data.{depth}
-use Rattle.serde_json.specs.Read.{max_depth}
-use Rattle.serde_json.specs.View.{view}
-use Rattle.serde_json.specs.Written.{has_float}
+use Rattle.serde_json.specs.{Data.depth, Read.max_depth, View.view, Written.has_float}
 use Rattle.json_values.specs.Json.{printed}
 use Rattle.json_reports.proofs.Built.{report_whole, report_flat, report_back}
 use Rattle.json_reports.proofs.report_writing.report_json.Goals as goal

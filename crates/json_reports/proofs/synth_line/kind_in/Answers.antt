@@ -1,14 +1,9 @@
-use Rattle.std.proofs.Common.{◌≡◌, ◌≢◌, ◌||◌, Bool, true, false, List, ℕ, [], ◌∷◌, Some, None, map, ap, ap₂, sym, refl, ◌∙◌, rules}
-use Rattle.std.specs.Prelude.{codes, if◌then◌else◌}
-use Rattle.serde_json.specs.View.{view}
+use Rattle.std.proofs.Common.{◌≡◌, ◌≢◌, ◌||◌, Bool, true, false, List, ℕ, [], ◌∷◌, Some, None, map, ap, ap₂, sym, refl, ◌∙◌, rules, codes, if◌then◌else◌, bytes_eq}
+use Rattle.std.{specs.List.list_any, proofs.lemmas.Slice.Eq.bytes_eq-Decides}
+use Rattle.serde_json.specs.{View.view, Find.{as_str, get}}
 use Rattle.json_values.specs.Shape.{◌>>=◌}
 use Rattle.json_reports.proofs.synth_line.kind_in.Goals as goal
-use Rattle.serde_json.specs.Find.{as_str, get}
-use Rattle.std.specs.Prelude.{bytes_eq}
-use Rattle.std.specs.List.{list_any}
-use Rattle.std.proofs.lemmas.Slice.Eq.{bytes_eq-Decides}
-use Rattle.collective_spec.specs.declared.kind.Kind.{Kind}
-use Rattle.collective_spec.specs.Kinds.{word_of, every_kind}
+use Rattle.collective_spec.specs.{declared.kind.Kind.Kind, Kinds.{word_of, every_kind}}
 use Rattle.json_rules.specs.ReportJson.{word_in}
 
 differ : (xs ys : List ℕ) (b : Bool) → bytes_eq xs ys ≡ b → xs ≢ ys → b ≡ false

@@ -1,11 +1,9 @@
-use Rattle.std.proofs.Common.{◌≡◌, List, ℕ, [], ◌∷◌, ◌++◌, Some, ap, sym, ◌∙◌, option_map, rules}
-use Rattle.std.specs.Prelude.{codes, decimal}
+use Rattle.std.proofs.Common.{◌≡◌, List, ℕ, [], ◌∷◌, ◌++◌, Some, ap, sym, ◌∙◌, option_map, rules, codes, decimal}
 use Rattle.report_form.specs.Spelling.{pruning_words}
 use Rattle.text_lines.specs.Text.{fields, line}
 use Rattle.serde_json.specs.View.{view}
-use Rattle.json_reports.specs.inner.Tokens.{root_tokens}
+use Rattle.json_reports.{specs.inner.Tokens.root_tokens, proofs.Compose.{keyed_with, line_in_parts}}
 use Rattle.json_reports.proofs.synth_line.push_keyed.Goals as goal
-use Rattle.json_reports.proofs.Compose.{keyed_with, line_in_parts}
 
 pub returns : goal.returns
 returns c =

@@ -1,11 +1,8 @@
-use Rattle.std.proofs.Common.{◌≡◌, true, false, Some, None, Bool, map, ap, sym, ◌∙◌, option_map, subst, rules}
-use Rattle.std.specs.Prelude.{codes, if◌then◌else◌, is_some}
+use Rattle.std.proofs.Common.{◌≡◌, true, false, Some, None, Bool, map, ap, sym, ◌∙◌, option_map, subst, rules, codes, if◌then◌else◌, is_some}
 use Rattle.candidate_order.specs.declared.pruning.Pruning.{Pruning}
 use Rattle.text_lines.specs.Text.{line}
-use Rattle.serde_json.specs.Find.{get}
-use Rattle.serde_json.specs.View.{view}
-use Rattle.json_values.specs.Shape.{◌>>=◌, has_keys}
-use Rattle.json_values.specs.Appends.{Appends}
+use Rattle.serde_json.specs.{Find.get, View.view}
+use Rattle.json_values.specs.{Shape.{◌>>=◌, has_keys}, Appends.Appends}
 use Rattle.json_rules.specs.ReportJson.{keyed_words_in, pruning_in, synth_in, words_in, words_keys}
 use Rattle.json_reports.proofs.synth_line.push_words.Goals as goal
 

@@ -1,10 +1,7 @@
-use Rattle.std.proofs.Common.{◌∷◌, map}
-use Rattle.std.specs.Prelude.{codes}
-use Rattle.std.proofs.lemmas.Result.{on_ok_weaker}
+use Rattle.std.proofs.{Common.{◌∷◌, map, codes}, lemmas.Result.on_ok_weaker}
 use Rattle.text_lines.specs.Text.{line, fields}
 use Rattle.topology_text.proofs.Printed.{appended_three}
-use Rattle.json_reports.specs.inner.Tokens.{token_bytes}
-use Rattle.json_reports.proofs.Compose.{line_is}
+use Rattle.json_reports.{specs.inner.Tokens.token_bytes, proofs.Compose.line_is}
 use Rattle.json_reports.proofs.token.push_line.Goals as goal
 
 pub returns : goal.returns

@@ -1,10 +1,7 @@
-use Rattle.std.proofs.Common.{refl}
-use Rattle.std.specs.Str.{is_utf8, chars}
-use Rattle.std.specs.Fmt.{digits}
+use Rattle.std.{proofs.Common.refl, specs.{Str.{is_utf8, chars}, Fmt.digits}}
 use Rattle.serde_json.proofs.OnLiterals.{serde_json_on_literals}
 use Rattle.topology_text.specs.Reading.{pattern_at}
-use Rattle.report_form.specs.Reading.{report_of, body_of, frontier_at}
-use Rattle.report_form.specs.Points.{frontier_point_at, joined_point_at, schedule_at}
+use Rattle.report_form.specs.{Reading.{report_of, body_of, frontier_at}, Points.{frontier_point_at, joined_point_at, schedule_at}}
 use Rattle.json_reports.proofs.vectors.reports_read.Goals as goal
 
 pub returns-clause-broadcast : goal.returns-clause-broadcast

@@ -1,6 +1,4 @@
-use Rattle.json_values.specs.TopologyJson.{topology_text_in}
-use Rattle.json_values.proofs.Short.{text_short}
-use Rattle.json_values.proofs.TopologyShort.{topology_short}
+use Rattle.json_values.{specs.TopologyJson.topology_text_in, proofs.{Short.text_short, TopologyShort.topology_short}}
 use Rattle.json_values.proofs.laws.text_of_topology_json_is_short.Goals as goal
 
 pub returns : goal.returns

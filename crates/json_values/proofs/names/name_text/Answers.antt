@@ -1,5 +1,4 @@
-use Rattle.std.proofs.Common.{subst, sym}
-use Rattle.std.specs.Prelude.{IsUtf8}
+use Rattle.std.proofs.Common.{subst, sym, IsUtf8}
 use Rattle.json_values.proofs.Printing.{name_utf8, ok_by}
 use Rattle.json_values.proofs.names.name_text.Goals as goal
 

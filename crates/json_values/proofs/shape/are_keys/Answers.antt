@@ -1,7 +1,5 @@
-use Rattle.std.proofs.Common.{◌≡◌, map, ℕ, ◌==◌, length, List, [], ◌∷◌, Bor, refl, sym, ap, ◌∙◌, arith}
-use Rattle.std.proofs.lemmas.Bool.{ne_eqb}
-use Rattle.serde_json.specs.Data.{no_members}
-use Rattle.serde_json.specs.View.{members_view}
+use Rattle.std.proofs.{Common.{◌≡◌, map, ℕ, ◌==◌, length, List, [], ◌∷◌, Bor, refl, sym, ap, ◌∙◌, arith}, lemmas.Bool.ne_eqb}
+use Rattle.serde_json.specs.{Data.no_members, View.members_view}
 use Rattle.json_values.specs.Shape.{are_keys}
 use Rattle.json_values.proofs.shape.are_keys.Goals as goal
 

@@ -1,10 +1,7 @@
-use Rattle.std.proofs.Common.{◌≡◌, ℕ, Bool, true, false, [], ◌∷◌, ◌++◌, map, sym, ap, ◌∙◌}
-use Rattle.std.specs.List.{filter, range_with_len}
+use Rattle.std.{proofs.Common.{◌≡◌, ℕ, Bool, true, false, [], ◌∷◌, ◌++◌, map, sym, ap, ◌∙◌}, specs.List.{filter, range_with_len}}
 use Rattle.schedule.specs.Placed.{holds}
-use Rattle.serde_json.specs.Data.{Data, string}
-use Rattle.serde_json.specs.View.{view}
-use Rattle.topology_text.specs.Spelling.{name_at}
-use Rattle.topology_text.proofs.Printed.{name_skipped}
+use Rattle.serde_json.specs.{Data.{Data, string}, View.view}
+use Rattle.topology_text.{specs.Spelling.name_at, proofs.Printed.name_skipped}
 use Rattle.json_values.proofs.Printing.{pushed, passed_more}
 use Rattle.json_values.proofs.topology_printing.holders_json.Goals as goal
 use Rattle.json_values.proofs.topology_printing.holders_json.Goals.{then-holds+in_ok-try_from_str+in_ok-push, else-holds}

@@ -1,8 +1,6 @@
-use Rattle.std.proofs.Common.{◌≡◌, map}
-use Rattle.std.specs.List.{filter, range_with_len}
+use Rattle.std.{proofs.Common.{◌≡◌, map}, specs.List.{filter, range_with_len}}
 use Rattle.schedule.specs.Placed.{holds}
-use Rattle.serde_json.specs.Data.{string}
-use Rattle.serde_json.specs.View.{view}
+use Rattle.serde_json.specs.{Data.string, View.view}
 use Rattle.topology_text.specs.Spelling.{name_at}
 use Rattle.json_values.proofs.topology_printing.holders_json.Given as goal
 

@@ -1,7 +1,5 @@
-use Rattle.std.proofs.Common.{map, sym, ◌∙◌}
-use Rattle.std.specs.List.{range_with_len}
-use Rattle.json_values.specs.TopologyJson.{holders_json}
-use Rattle.json_values.proofs.Printing.{pushed, numbered_more}
+use Rattle.std.{proofs.Common.{map, sym, ◌∙◌}, specs.List.range_with_len}
+use Rattle.json_values.{specs.TopologyJson.holders_json, proofs.Printing.{pushed, numbered_more}}
 use Rattle.json_values.proofs.topology_printing.placement_json.Goals as goal
 
 pub loop-chunk-preserved : goal.loop-chunk-preserved

@@ -1,5 +1,4 @@
-use Rattle.std.proofs.Common.{◌≡◌, map}
-use Rattle.std.specs.List.{range_with_len}
+use Rattle.std.{proofs.Common.{◌≡◌, map}, specs.List.range_with_len}
 use Rattle.serde_json.specs.View.{view}
 use Rattle.json_values.specs.TopologyJson.{holders_json}
 use Rattle.json_values.proofs.topology_printing.placement_json.Given as goal

@@ -1,10 +1,6 @@
 use Rattle.std.proofs.Common.{◌≡◌, ◌≤◌, [], ◌∷◌, ◌++◌, false, Some, ap, ◌∙◌, arith}
-use Rattle.serde_json.specs.Data.{depth}
-use Rattle.serde_json.specs.Read.{max_depth}
-use Rattle.serde_json.specs.View.{view}
-use Rattle.serde_json.specs.Written.{has_float}
-use Rattle.json_values.specs.Json.{printed}
-use Rattle.json_values.proofs.Built.{topology_whole, topology_flat, topology_back}
+use Rattle.serde_json.specs.{Data.depth, Read.max_depth, View.view, Written.has_float}
+use Rattle.json_values.{specs.Json.printed, proofs.Built.{topology_whole, topology_flat, topology_back}}
 use Rattle.json_values.proofs.topology_printing.topology_json.Goals as goal
 
 pub returns-clause-printed : goal.returns-clause-printed

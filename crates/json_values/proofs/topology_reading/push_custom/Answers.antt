@@ -1,15 +1,9 @@
-use Rattle.std.proofs.Common.{◌≡◌, ◌≢◌, ℕ, List, [], ◌∷◌, ◌++◌, ap, sym, ◌∙◌, append_assoc, option_map, subst, rules}
-use Rattle.std.specs.Prelude.{codes, decimal}
+use Rattle.std.proofs.Common.{◌≡◌, ◌≢◌, ℕ, List, [], ◌∷◌, ◌++◌, ap, sym, ◌∙◌, append_assoc, option_map, subst, rules, codes, decimal}
 use Rattle.text_lines.specs.Text.{line, text_of}
-use Rattle.serde_json.specs.Events.{items_len}
-use Rattle.serde_json.specs.View.{view, items_view}
-use Rattle.serde_json.proofs.Views.{items_len-items_view}
+use Rattle.serde_json.{specs.{Events.items_len, View.{view, items_view}}, proofs.Views.items_len-items_view}
 use Rattle.topology_text.proofs.Printed.{base_is}
-use Rattle.json_values.specs.Shape.{headed}
-use Rattle.json_values.specs.TopologyJson.{chunk_lines}
-use Rattle.json_values.specs.Appends.{Appends}
-use Rattle.json_values.proofs.Chunks.{as_many, custom_with}
-use Rattle.json_values.proofs.Parts.{behind_front, line_before}
+use Rattle.json_values.specs.{Shape.headed, TopologyJson.chunk_lines, Appends.Appends}
+use Rattle.json_values.proofs.{Chunks.{as_many, custom_with}, Parts.{behind_front, line_before}}
 use Rattle.json_values.proofs.topology_reading.push_custom.Goals as goal
 
 pub returns-then-before-after : goal.returns-then-before-after

@@ -1,10 +1,8 @@
-use Rattle.std.proofs.Common.{◌≡◌, [], ◌++◌, ap, sym, ◌∙◌, append_assoc, option_map, rules}
-use Rattle.std.specs.Prelude.{codes}
+use Rattle.std.proofs.Common.{◌≡◌, [], ◌++◌, ap, sym, ◌∙◌, append_assoc, option_map, rules, codes}
 use Rattle.text_lines.specs.Text.{line}
 use Rattle.topology_text.specs.Spelling.{head_words}
 use Rattle.serde_json.specs.View.{view}
-use Rattle.json_values.specs.Shape.{name_in, list_in}
-use Rattle.json_values.proofs.Lines.{tokens_listed, tokens_refused, line_closed, behind_line, refused_on}
+use Rattle.json_values.{specs.Shape.{name_in, list_in}, proofs.Lines.{tokens_listed, tokens_refused, line_closed, behind_line, refused_on}}
 use Rattle.json_values.proofs.topology_reading.push_front.Goals as goal
 
 pub returns-in_err-push_list : goal.returns-in_err-push_list

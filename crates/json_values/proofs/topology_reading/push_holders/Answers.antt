@@ -1,10 +1,7 @@
-use Rattle.std.proofs.Common.{◌≡◌, [], ◌∷◌, ◌++◌, ap, sym, ◌∙◌, append_assoc, option_map, rules}
-use Rattle.std.specs.Prelude.{codes, decimal}
+use Rattle.std.proofs.{Common.{◌≡◌, [], ◌∷◌, ◌++◌, ap, sym, ◌∙◌, append_assoc, option_map, rules, codes, decimal}, lemmas.List.append-nil}
 use Rattle.text_lines.specs.Text.{line}
-use Rattle.std.proofs.lemmas.List.{append-nil}
 use Rattle.serde_json.specs.View.{view}
-use Rattle.json_values.specs.Shape.{headed, name_in, list_in}
-use Rattle.json_values.proofs.Lines.{tokens_listed, tokens_refused, line_closed, lined, headed_twice, refused_on}
+use Rattle.json_values.{specs.Shape.{headed, name_in, list_in}, proofs.Lines.{tokens_listed, tokens_refused, line_closed, lined, headed_twice, refused_on}}
 use Rattle.json_values.proofs.topology_reading.push_holders.Goals as goal
 
 pub returns-in_err-push_list : goal.returns-in_err-push_list

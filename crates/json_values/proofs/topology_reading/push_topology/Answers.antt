@@ -1,11 +1,8 @@
 use Rattle.std.proofs.Common.{◌++◌, ap, sym, ◌∙◌, option_map, subst, rules}
 use Rattle.text_lines.specs.Text.{text_of}
 use Rattle.serde_json.specs.View.{view}
-use Rattle.json_values.specs.Shape.{list_in, name_in}
-use Rattle.json_values.specs.TopologyJson.{group_in, pattern_in}
-use Rattle.json_values.specs.Appends.{Appends}
-use Rattle.json_values.proofs.Lines.{lines_listed, not_mapped, refused_on}
-use Rattle.json_values.proofs.Parts.{topology_with, no_topology, no_names, no_groups, front_lines, whole_behind}
+use Rattle.json_values.specs.{Shape.{list_in, name_in}, TopologyJson.{group_in, pattern_in}, Appends.Appends}
+use Rattle.json_values.proofs.{Lines.{lines_listed, not_mapped, refused_on}, Parts.{topology_with, no_topology, no_names, no_groups, front_lines, whole_behind}}
 use Rattle.json_values.proofs.topology_reading.push_topology.Goals as goal
 
 pub returns-in_default-topology_fields : goal.returns-in_default-topology_fields

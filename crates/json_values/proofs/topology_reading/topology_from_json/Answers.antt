@@ -1,7 +1,6 @@
 use Rattle.std.proofs.Common.{◌≡◌, Some, ap, ◌∙◌, rules}
 use Rattle.topology_text.specs.Spelling.{spelling}
-use Rattle.json_values.specs.TopologyJson.{topology_text_in}
-use Rattle.json_values.proofs.Standing.{stands_for}
+use Rattle.json_values.{specs.TopologyJson.topology_text_in, proofs.Standing.stands_for}
 use Rattle.json_values.proofs.topology_reading.topology_from_json.Goals as goal
 
 pub returns-in-Ok-read_topology-clause-found : goal.returns-in-Ok-read_topology-clause-found

@@ -1,6 +1,4 @@
-use Rattle.std.proofs.Common.{refl}
-use Rattle.std.specs.Str.{is_utf8, chars}
-use Rattle.std.specs.Fmt.{digits}
+use Rattle.std.{proofs.Common.refl, specs.{Str.{is_utf8, chars}, Fmt.digits}}
 use Rattle.serde_json.proofs.OnLiterals.{serde_json_on_literals}
 use Rattle.topology_text.specs.Reading.{topology_of, topology_at, named_at, pattern_at}
 use Rattle.json_values.proofs.vectors.topologies_refused.Goals as goal

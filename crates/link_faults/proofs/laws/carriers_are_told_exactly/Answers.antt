@@ -1,6 +1,5 @@
 use Rattle.std.proofs.lemmas.List.Folds.{Any-from_list_any, list_any-from_Any}
-use Rattle.link_faults.specs.Carrying.{is_carrier}
-use Rattle.link_faults.proofs.Recorded.{carrier_is, carrier_from}
+use Rattle.link_faults.{specs.Carrying.is_carrier, proofs.Recorded.{carrier_is, carrier_from}}
 use Rattle.link_faults.proofs.laws.carriers_are_told_exactly.Goals as goal
 
 pub returns : goal.returns

@@ -1,5 +1,4 @@
-use Rattle.std.proofs.Common.{◌≡◌, take}
-use Rattle.std.specs.Prelude.{filter, not}
+use Rattle.std.proofs.Common.{◌≡◌, take, filter, not}
 use Rattle.schedule.specs.Links.{has_link}
 use Rattle.link_faults.proofs.narrowing.links_without.Given as goal
 

@@ -1,6 +1,5 @@
 use Rattle.std.proofs.Common.{ap, ◌∙◌}
-use Rattle.link_faults.specs.Narrowed.{groups_after}
-use Rattle.link_faults.proofs.Sound.{narrowed_with}
+use Rattle.link_faults.{specs.Narrowed.groups_after, proofs.Sound.narrowed_with}
 use Rattle.link_faults.proofs.narrowing.narrow.Goals as goal
 
 pub new-requires : goal.new-requires

@@ -1,6 +1,4 @@
-use Rattle.std.proofs.Common.{◌≡◌, ◌+◌, ◌-◌, ◌<◌, ◌∷◌, true, false, drop, length, sym, ap, ◌∙◌, inl, inr, arith}
-use Rattle.std.specs.Prelude.{not}
-use Rattle.std.proofs.lemmas.List.{drop_more}
+use Rattle.std.proofs.{Common.{◌≡◌, ◌+◌, ◌-◌, ◌<◌, ◌∷◌, true, false, drop, length, sym, ap, ◌∙◌, inl, inr, arith, not}, lemmas.List.drop_more}
 use Rattle.cnf_formula.specs.Literals.{has_literal, negation}
 use Rattle.proof_rules.specs.Judging.{has_variable_twice}
 use Rattle.lrat_checker.proofs.Assumed.{twice_here, once_here}

@@ -1,11 +1,7 @@
-use Rattle.std.proofs.Common.{◌+◌, ◌||◌, ◌++◌, ◌∷◌, [], drop, take, sym, ap, ◌∙◌, subst, arith}
-use Rattle.std.specs.Prelude.{All}
-use Rattle.std.specs.List.{list_any}
+use Rattle.std.{proofs.{Common.{◌+◌, ◌||◌, ◌++◌, ◌∷◌, [], drop, take, sym, ap, ◌∙◌, subst, arith, All}, lemmas.List.Elements.All-push}, specs.List.list_any}
 use Rattle.std.proofs.lemmas.List.{drop_more, take_more}
-use Rattle.std.proofs.lemmas.List.Elements.{All-push}
 use Rattle.cnf_formula.specs.Formulas.{IsAbout}
-use Rattle.proof_rules.specs.Judging.{is_foreign}
-use Rattle.proof_rules.proofs.Verdicts.{variable_own}
+use Rattle.proof_rules.{specs.Judging.is_foreign, proofs.Verdicts.variable_own}
 use Rattle.lrat_checker.proofs.judging.in_range.Goals as goal
 
 pub loop-lit-preserved : goal.loop-lit-preserved

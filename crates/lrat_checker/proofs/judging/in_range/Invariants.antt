@@ -1,6 +1,4 @@
-use Rattle.std.proofs.Common.{◌≡◌, drop, take}
-use Rattle.std.specs.Prelude.{All}
-use Rattle.std.specs.List.{list_any}
+use Rattle.std.{proofs.Common.{◌≡◌, drop, take, All}, specs.List.list_any}
 use Rattle.cnf_formula.specs.Formulas.{IsAbout}
 use Rattle.proof_rules.specs.Judging.{is_foreign}
 use Rattle.lrat_checker.proofs.judging.in_range.Given as goal

@@ -1,6 +1,5 @@
 use Rattle.std.proofs.Common.{◌≡◌, drop}
-use Rattle.proof_rules.specs.Held.{open_literals}
-use Rattle.proof_rules.specs.Judging.{given_by}
+use Rattle.proof_rules.specs.{Held.open_literals, Judging.given_by}
 use Rattle.lrat_checker.proofs.Taken.{goes_on}
 use Rattle.lrat_checker.proofs.leading.given.Given as goal
 

@@ -1,15 +1,8 @@
-use Rattle.std.proofs.Common.{◌≡◌, ◌+◌, ◌∷◌, get_or, drop, Ok, refl, sym, ap, ◌∙◌, subst, rules}
-use Rattle.std.specs.Prelude.{pos}
-use Rattle.cnf_formula.proofs.Clauses.{negation_about}
+use Rattle.std.proofs.Common.{◌≡◌, ◌+◌, ◌∷◌, get_or, drop, Ok, refl, sym, ap, ◌∙◌, subst, rules, pos, w64, SFits, of_z, to_z}
+use Rattle.cnf_formula.{proofs.Clauses.negation_about, specs.{Literals.negation, Formulas.IsAbout}}
 use lib.IntN.{nat_abs}
-use mir.Syntax.{w64}
-use mir.Val.{SFits, of_z, to_z}
-use Rattle.cnf_formula.specs.Literals.{negation}
-use Rattle.cnf_formula.specs.Formulas.{IsAbout}
-use Rattle.proof_rules.specs.Judging.{led_to}
-use Rattle.proof_rules.specs.Accepting.{leading}
-use Rattle.lrat_checker.specs.inner.Marking.{Extends}
-use Rattle.lrat_checker.proofs.Taken.{unit_hint, hint_here, given_about, extends_more}
+use Rattle.proof_rules.specs.{Judging.led_to, Accepting.leading}
+use Rattle.lrat_checker.{specs.inner.Marking.Extends, proofs.Taken.{unit_hint, hint_here, given_about, extends_more}}
 use Rattle.lrat_checker.proofs.leading.lead.Goals as goal
 
 pub mark-requires : goal.mark-requires

@@ -1,6 +1,5 @@
 use Rattle.std.proofs.Common.{◌≡◌, drop}
-use Rattle.proof_rules.specs.Judging.{led_to}
-use Rattle.proof_rules.specs.Accepting.{leading}
+use Rattle.proof_rules.specs.{Judging.led_to, Accepting.leading}
 use Rattle.lrat_checker.specs.inner.Marking.{Extends}
 use Rattle.lrat_checker.proofs.leading.lead.Given as goal
 

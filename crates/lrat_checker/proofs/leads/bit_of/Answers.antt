@@ -1,7 +1,4 @@
-use Rattle.std.proofs.Common.{ap, ◌∙◌, arith}
-use Rattle.std.specs.Prelude.{◌^◌, ◌%◌}
-use Rattle.std.proofs.lemmas.Nat.{one_shl}
-use Rattle.std.proofs.Math.Nat.{mod-lt}
+use Rattle.std.proofs.{Common.{ap, ◌∙◌, arith, ◌^◌, ◌%◌}, lemmas.Nat.one_shl, Math.Nat.mod-lt}
 use Rattle.lrat_checker.proofs.leads.bit_of.Goals as goal
 
 pub returns : goal.returns

@@ -1,5 +1,4 @@
-use Rattle.std.proofs.Common.{◌≡◌, drop}
-use Rattle.std.specs.List.{list_any}
+use Rattle.std.{proofs.Common.{◌≡◌, drop}, specs.List.list_any}
 use Rattle.lrat_checker.specs.Stored.{finds}
 use Rattle.lrat_checker.proofs.leads.has_marked.Given as goal
 

@@ -1,8 +1,5 @@
-use Rattle.std.proofs.Common.{ap, ◌∙◌, take, arith}
-use Rattle.std.proofs.lemmas.List.{take_all}
-use Rattle.std.specs.Prelude.{bit_or}
-use Rattle.lrat_checker.specs.inner.Leads.{signature_of}
-use Rattle.lrat_checker.proofs.Signed.{one_bit_more}
+use Rattle.std.proofs.{Common.{ap, ◌∙◌, take, arith, bit_or}, lemmas.List.take_all}
+use Rattle.lrat_checker.{specs.inner.Leads.signature_of, proofs.Signed.one_bit_more}
 use Rattle.lrat_checker.proofs.leads.signature_of.Goals as goal
 
 pub loop-lit-preserved : goal.loop-lit-preserved

@@ -1,6 +1,5 @@
 use Rattle.std.proofs.Common.{◌≡◌, drop}
-use Rattle.proof_rules.specs.Judging.{assumed}
-use Rattle.proof_rules.specs.Accepting.{without_negated}
+use Rattle.proof_rules.specs.{Judging.assumed, Accepting.without_negated}
 use Rattle.lrat_checker.specs.inner.Marking.{Extends}
 use Rattle.lrat_checker.proofs.redundancy.assume_others.Given as goal
 

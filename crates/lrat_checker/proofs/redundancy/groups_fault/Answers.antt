@@ -1,12 +1,6 @@
-use Rattle.std.proofs.Common.{◌||◌, ◌==◌, ℕ, List, Option, Ok, get_or, sym, ap, ◌∙◌, rules}
-use Rattle.std.specs.Prelude.{pos}
-use mir.Syntax.{w64}
-use mir.Val.{SFits}
-use Rattle.std.specs.BTreeSet.{contains}
-use Rattle.std.specs.Ordering.{nat_cmp}
+use Rattle.std.{proofs.Common.{◌||◌, ◌==◌, ℕ, List, Option, Ok, get_or, sym, ap, ◌∙◌, rules, pos, w64, SFits}, specs.{BTreeSet.contains, Ordering.nat_cmp}}
 use Rattle.cnf_formula.specs.Literals.{LitValue}
-use Rattle.proof_rules.specs.Held.{clause_at}
-use Rattle.proof_rules.specs.Judging.{Fault, group_fault}
+use Rattle.proof_rules.specs.{Held.clause_at, Judging.{Fault, group_fault}}
 use Rattle.lrat_checker.proofs.Grouped.{group_at, faulty_any, passes, none_from, group_number}
 use Rattle.lrat_checker.proofs.redundancy.groups_fault.Goals as goal
 

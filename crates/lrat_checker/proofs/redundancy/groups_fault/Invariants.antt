@@ -1,5 +1,4 @@
-use Rattle.std.proofs.Common.{◌≡◌, ℕ, ◌-◌, ◌≤◌, ◌<◌, ◌∷◌, length, drop}
-use Rattle.std.specs.Prelude.{◌+◌, negsuc}
+use Rattle.std.proofs.Common.{◌≡◌, ℕ, ◌-◌, ◌≤◌, ◌<◌, ◌∷◌, length, drop, ◌+◌, negsuc}
 use Rattle.lrat_checker.proofs.Grouped.{Left}
 use Rattle.lrat_checker.proofs.redundancy.groups_fault.Given as goal
 

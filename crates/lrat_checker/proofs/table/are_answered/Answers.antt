@@ -1,6 +1,4 @@
-use Rattle.std.proofs.Common.{◌≡◌, ◌+◌, ◌<◌, true, false, [], length, drop, get_or, subst, ◌∙◌, sym, ap, arith}
-use Rattle.std.specs.Prelude.{◌&&◌}
-use Rattle.std.specs.List.{list_all}
+use Rattle.std.{proofs.Common.{◌≡◌, ◌+◌, ◌<◌, true, false, [], length, drop, get_or, subst, ◌∙◌, sym, ap, arith, ◌&&◌}, specs.List.list_all}
 use Rattle.std.proofs.lemmas.List.{drop_more, drop_all}
 use Rattle.cnf_formula.specs.Formulas.{IsClause}
 use Rattle.proof_rules.specs.Accepting.{is_answered}

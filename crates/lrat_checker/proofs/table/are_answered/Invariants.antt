@@ -1,8 +1,6 @@
-use Rattle.std.proofs.Common.{◌≡◌, List, drop}
-use Rattle.std.specs.List.{list_all}
+use Rattle.std.{proofs.Common.{◌≡◌, List, drop}, specs.List.list_all}
 use Rattle.proof_rules.specs.Accepting.{Group}
-use Rattle.lrat_checker.specs.Stored.{answers}
-use Rattle.lrat_checker.specs.inner.Steps.{Names}
+use Rattle.lrat_checker.specs.{Stored.answers, inner.Steps.Names}
 use Rattle.lrat_checker.proofs.table.are_answered.Given as goal
 
 abbrev pub invariant-loop-place : goal.invariant-loop-place

@@ -1,7 +1,4 @@
-use Rattle.std.proofs.Common.{[], map, set, sym, ap, ◌∙◌, rules}
-use Rattle.std.specs.Prelude.{filter}
-use Rattle.std.proofs.lemmas.Fn.{filter_same}
-use Rattle.std.proofs.lemmas.List.{map-set}
+use Rattle.std.proofs.{Common.{[], map, set, sym, ap, ◌∙◌, rules, filter}, lemmas.{Fn.filter_same, List.map-set}}
 use Rattle.list_laws.proofs.Fronts.{at_map}
 use Rattle.lrat_checker.specs.Stored.{is_held}
 use Rattle.lrat_checker.proofs.table.drop_gone.Goals as goal

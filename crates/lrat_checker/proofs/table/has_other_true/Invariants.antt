@@ -1,5 +1,4 @@
-use Rattle.std.proofs.Common.{◌≡◌, drop}
-use Rattle.std.specs.List.{list_any}
+use Rattle.std.{proofs.Common.{◌≡◌, drop}, specs.List.list_any}
 use Rattle.proof_rules.specs.Accepting.{is_made_true, without_negated}
 use Rattle.lrat_checker.proofs.table.has_other_true.Given as goal
 

@@ -1,5 +1,4 @@
-use Rattle.std.proofs.Common.{◌≡◌, true, false, take}
-use Rattle.std.specs.List.{list_all}
+use Rattle.std.{proofs.Common.{◌≡◌, true, false, take}, specs.List.list_all}
 use Rattle.proof_rules.specs.Testing.{has_number_twice}
 use Rattle.lrat_checker.specs.Stored.{is_live, kept_live}
 use Rattle.lrat_checker.proofs.table.let_go.Given as goal

@@ -1,5 +1,4 @@
-use Rattle.std.proofs.Common.{◌≡◌, ℕ, true, length, map, take}
-use Rattle.std.specs.Prelude.{Contains}
+use Rattle.std.proofs.Common.{◌≡◌, ℕ, true, length, map, take, Contains}
 use Rattle.cnf_formula.specs.Literals.{LitValue, code_of, has_literal}
 use Rattle.lrat_checker.specs.Stored.{list_at}
 use Rattle.lrat_checker.proofs.table.note_literals.Given as goal

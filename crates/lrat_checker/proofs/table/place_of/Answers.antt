@@ -1,5 +1,4 @@
-use Rattle.std.proofs.Common.{Err}
-use Rattle.std.proofs.lemmas.List.Sorted.{searched}
+use Rattle.std.proofs.{Common.Err, lemmas.List.Sorted.searched}
 use Rattle.lrat_checker.proofs.Placed.{not_there, rises_weakly}
 use Rattle.lrat_checker.proofs.table.place_of.Goals as goal
 

@@ -1,5 +1,4 @@
-use Rattle.std.proofs.Common.{◌+◌, drop, get_or, length, sym, ap, ◌∙◌, subst}
-use Rattle.std.proofs.lemmas.List.{drop_more, drop_all, length-set}
+use Rattle.std.proofs.{Common.{◌+◌, drop, get_or, length, sym, ap, ◌∙◌, subst}, lemmas.List.{drop_more, drop_all, length-set}}
 use Rattle.lrat_checker.proofs.Removed.{Back, back_first, back_one, back_none, back_all}
 use Rattle.lrat_checker.proofs.table.restore.Goals as goal
 use Rattle.lrat_checker.proofs.table.restore.Goals.{in-Some, in_default}

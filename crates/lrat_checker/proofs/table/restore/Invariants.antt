@@ -1,7 +1,5 @@
-use Rattle.std.proofs.Common.{◌≡◌, ℕ, ◌<◌, Bool, true, false, List, length, drop, get_or}
-use Rattle.std.specs.Prelude.{All}
-use Rattle.lrat_checker.specs.Stored.{is_live, kept_live}
-use Rattle.lrat_checker.proofs.Removed.{among}
+use Rattle.std.proofs.Common.{◌≡◌, ℕ, ◌<◌, Bool, true, false, List, length, drop, get_or, All}
+use Rattle.lrat_checker.{specs.Stored.{is_live, kept_live}, proofs.Removed.among}
 use Rattle.lrat_checker.proofs.table.restore.Given as goal
 
 abbrev pub invariant-loop-id : goal.invariant-loop-id

@@ -1,6 +1,5 @@
 use Rattle.std.proofs.Common.{◌≡◌, length}
-use Rattle.lrat_text.specs.Reading.{up_to_zero}
-use Rattle.lrat_text.proofs.Listed.{behind}
+use Rattle.lrat_text.{specs.Reading.up_to_zero, proofs.Listed.behind}
 use Rattle.lrat_text.proofs.fields.up_to_zero.Given as goal
 
 abbrev pub invariant-loop-token : goal.invariant-loop-token

@@ -1,6 +1,5 @@
 use Rattle.std.proofs.Common.{◌-◌, ◌≤◌, length}
-use Rattle.lrat_text.specs.inner.Holding.{IsClear}
-use Rattle.lrat_text.proofs.Passing.{IsPassed}
+use Rattle.lrat_text.{specs.inner.Holding.IsClear, proofs.Passing.IsPassed}
 use Rattle.lrat_text.proofs.holding.answer_of.Given as goal
 
 abbrev pub invariant-loop-line : goal.invariant-loop-line

@@ -1,6 +1,5 @@
 use Rattle.std.proofs.Common.{◌++◌, ◌∷◌, [], map, ap, ◌∙◌}
-use Rattle.lrat_text.specs.Printing.{literal_word}
-use Rattle.lrat_text.proofs.Trailed.{clause_text}
+use Rattle.lrat_text.{specs.Printing.literal_word, proofs.Trailed.clause_text}
 use Rattle.lrat_text.proofs.printing.push_clause.Goals as goal
 
 pub returns : goal.returns

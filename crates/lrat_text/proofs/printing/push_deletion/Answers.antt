@@ -1,9 +1,7 @@
-use Rattle.std.proofs.Common.{◌++◌, ◌∷◌, [], map, ap, ◌∙◌}
-use Rattle.std.specs.Prelude.{decimal}
+use Rattle.std.proofs.Common.{◌++◌, ◌∷◌, [], map, ap, ◌∙◌, decimal}
 use Rattle.text_lines.specs.Text.{line}
 use Rattle.cnf_formula.specs.declared.line.LratLine.TheVariants.{Deletion}
-use Rattle.lrat_text.specs.Printing.{line_words, trailed}
-use Rattle.lrat_text.proofs.Trailed.{deletion_text}
+use Rattle.lrat_text.{specs.Printing.{line_words, trailed}, proofs.Trailed.deletion_text}
 use Rattle.lrat_text.proofs.printing.push_deletion.Goals as goal
 
 pub returns : goal.returns

@@ -1,5 +1,4 @@
-use Rattle.std.proofs.Common.{◌≡◌, ◌++◌, map, take}
-use Rattle.std.specs.Prelude.{decimal}
+use Rattle.std.proofs.Common.{◌≡◌, ◌++◌, map, take, decimal}
 use Rattle.lrat_text.specs.Printing.{trailed}
 use Rattle.lrat_text.proofs.printing.push_ids.Given as goal
 

@@ -1,9 +1,7 @@
-use Rattle.std.proofs.Common.{◌≡◌, ◌++◌, ◌∷◌, [], map, ap, ◌∙◌}
-use Rattle.std.specs.Prelude.{decimal}
+use Rattle.std.proofs.Common.{◌≡◌, ◌++◌, ◌∷◌, [], map, ap, ◌∙◌, decimal}
 use Rattle.text_lines.specs.Text.{line}
 use Rattle.cnf_formula.specs.declared.line.LratLine.TheVariants.{Addition}
-use Rattle.lrat_text.specs.Printing.{literal_word, hint_word, line_words, trailed}
-use Rattle.lrat_text.proofs.Trailed.{addition_text}
+use Rattle.lrat_text.{specs.Printing.{literal_word, hint_word, line_words, trailed}, proofs.Trailed.addition_text}
 use Rattle.lrat_text.proofs.printing.push_line.Goals as goal
 
 pub returns : goal.returns

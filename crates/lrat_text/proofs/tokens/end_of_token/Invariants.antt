@@ -1,5 +1,4 @@
-use Rattle.std.proofs.Common.{◌≡◌, ℕ, ◌<◌, ◌≤◌, false, get_or}
-use Rattle.std.specs.Prelude.{◌==◌, ◌||◌}
+use Rattle.std.proofs.Common.{◌≡◌, ℕ, ◌<◌, ◌≤◌, false, get_or, ◌==◌, ◌||◌}
 use Rattle.lrat_text.proofs.tokens.end_of_token.Given as goal
 
 abbrev pub invariant-loop-i : goal.invariant-loop-i

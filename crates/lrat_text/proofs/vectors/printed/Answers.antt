@@ -1,5 +1,4 @@
-use Rattle.std.proofs.Common.{refl}
-use Rattle.std.specs.Fmt.{digits}
+use Rattle.std.{proofs.Common.refl, specs.Fmt.digits}
 use Rattle.lrat_text.proofs.vectors.printed.Goals as goal
 
 pub returns-clause-cnf : goal.returns-clause-cnf

@@ -1,10 +1,7 @@
-use Rattle.std.proofs.Common.{◌≡◌, ◌++◌, ◌<◌, length, get_or, refl, ap, sym, ◌∙◌, append_assoc, arith}
-use Rattle.std.specs.Prelude.{codes, decimal}
-use Rattle.std.specs.List.{flat_map, zip}
+use Rattle.std.{proofs.Common.{◌≡◌, ◌++◌, ◌<◌, length, get_or, refl, ap, sym, ◌∙◌, append_assoc, arith, codes, decimal}, specs.List.{flat_map, zip}}
 use Rattle.text_lines.specs.Text.{text_of}
 use Rattle.topology_text.proofs.Printed.{appended_three}
-use Rattle.node_programs.specs.Printing.{node_lines}
-use Rattle.node_programs.proofs.Printed.{first_nodes, nodes_all, nodes_more, text_is}
+use Rattle.node_programs.{specs.Printing.node_lines, proofs.Printed.{first_nodes, nodes_all, nodes_more, text_is}}
 use Rattle.node_programs.proofs.printing.print_programs.Goals as goal
 
 pub loop-node-preserved : goal.loop-node-preserved

@@ -1,5 +1,4 @@
-use Rattle.std.proofs.Common.{◌≡◌, ◌++◌, take}
-use Rattle.std.specs.List.{flat_map, zip}
+use Rattle.std.{proofs.Common.{◌≡◌, ◌++◌, take}, specs.List.{flat_map, zip}}
 use Rattle.text_lines.specs.Text.{text_of}
 use Rattle.node_programs.specs.Printing.{node_lines}
 use Rattle.node_programs.proofs.printing.print_programs.Given as goal

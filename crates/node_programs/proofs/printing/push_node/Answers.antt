@@ -1,10 +1,7 @@
-use Rattle.std.proofs.Common.{◌≡◌, ◌++◌, map, ap, ◌∙◌}
-use Rattle.std.specs.Prelude.{codes}
-use Rattle.std.proofs.lemmas.List.{take_all}
+use Rattle.std.proofs.{Common.{◌≡◌, ◌++◌, map, ap, ◌∙◌, codes}, lemmas.List.take_all}
 use Rattle.text_lines.specs.Text.{text_of}
 use Rattle.topology_text.proofs.Printed.{appended}
-use Rattle.node_programs.specs.Printing.{node_lines, op_words}
-use Rattle.node_programs.proofs.Printed.{node_is}
+use Rattle.node_programs.{specs.Printing.{node_lines, op_words}, proofs.Printed.node_is}
 use Rattle.node_programs.proofs.printing.push_node.Goals as goal
 
 pub returns : goal.returns

@@ -1,5 +1,4 @@
-use Rattle.std.proofs.Common.{◌≡◌, [], map}
-use Rattle.std.specs.List.{range_with_len}
+use Rattle.std.{proofs.Common.{◌≡◌, [], map}, specs.List.range_with_len}
 use Rattle.node_programs.proofs.programming.no_operations.Given as goal
 
 abbrev pub invariant-loop-node : goal.invariant-loop-node

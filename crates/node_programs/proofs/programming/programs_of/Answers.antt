@@ -1,8 +1,5 @@
-use Rattle.std.proofs.Common.{◌≡◌, ◌∙◌, ap, length, arith}
-use Rattle.std.proofs.lemmas.List.FromFn.{length-map-range_with_len}
-use Rattle.node_programs.proofs.Pushing.{each, first_steps, step_pushed}
-use Rattle.node_programs.specs.Programs.{programs_of}
-use Rattle.node_programs.proofs.InRange.{programs_below}
+use Rattle.std.proofs.{Common.{◌≡◌, ◌∙◌, ap, length, arith}, lemmas.List.FromFn.length-map-range_with_len}
+use Rattle.node_programs.{proofs.{Pushing.{each, first_steps, step_pushed}, InRange.programs_below}, specs.Programs.programs_of}
 use Rattle.node_programs.proofs.programming.programs_of.Goals as goal
 
 pub loop-step-preserved : goal.loop-step-preserved

@@ -1,6 +1,5 @@
 use Rattle.std.proofs.Common.{take}
-use Rattle.node_programs.specs.Programs.{send_of}
-use Rattle.node_programs.proofs.Pushing.{Pushed}
+use Rattle.node_programs.{specs.Programs.send_of, proofs.Pushing.Pushed}
 use Rattle.node_programs.proofs.programming.push_sends.Given as goal
 
 abbrev pub invariant-loop-hop : goal.invariant-loop-hop

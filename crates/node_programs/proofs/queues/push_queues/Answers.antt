@@ -1,7 +1,5 @@
-use Rattle.std.proofs.Common.{◌++◌, map, ap, ◌∙◌}
-use Rattle.std.proofs.lemmas.List.{take_all}
-use Rattle.node_programs.specs.Queues.{empty_queue}
-use Rattle.node_programs.proofs.Counts.{queues_counted}
+use Rattle.std.proofs.{Common.{◌++◌, map, ap, ◌∙◌}, lemmas.List.take_all}
+use Rattle.node_programs.{specs.Queues.empty_queue, proofs.Counts.queues_counted}
 use Rattle.node_programs.proofs.queues.push_queues.Goals as goal
 
 pub returns : goal.returns

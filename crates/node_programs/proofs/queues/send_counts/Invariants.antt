@@ -1,5 +1,4 @@
-use Rattle.std.proofs.Common.{◌≡◌, map, take}
-use Rattle.std.specs.List.{range_with_len}
+use Rattle.std.{proofs.Common.{◌≡◌, map, take}, specs.List.range_with_len}
 use Rattle.node_programs.specs.Queues.{sends_to}
 use Rattle.node_programs.proofs.queues.send_counts.Given as goal
 

@@ -1,5 +1,4 @@
-use Rattle.std.proofs.Common.{refl}
-use Rattle.std.specs.Fmt.{digits}
+use Rattle.std.{proofs.Common.refl, specs.Fmt.digits}
 use Rattle.node_programs.specs.Printing.{programs_text}
 use Rattle.node_programs.proofs.vectors.programs_in_text.Goals as goal
 

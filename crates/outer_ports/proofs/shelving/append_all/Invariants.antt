@@ -1,6 +1,5 @@
 use Rattle.std.proofs.Common.{◌≡◌, ℕ, ◌-◌, ◌≤◌, List, ◌++◌, Some, length, take, IsTrue}
-use Rattle.outer_ports.specs.Port.{Tells}
-use Rattle.outer_ports.specs.Shelf.{OthersStay}
+use Rattle.outer_ports.specs.{Port.Tells, Shelf.OthersStay}
 use Rattle.outer_ports.proofs.shelving.append_all.Given as goal
 
 abbrev pub invariant-loop-done : goal.invariant-loop-done

@@ -1,5 +1,4 @@
-use Rattle.std.proofs.Common.{refl}
-use Rattle.std.specs.Fmt.{digits}
+use Rattle.std.{proofs.Common.refl, specs.Fmt.digits}
 use Rattle.outer_ports.proofs.vectors.file_words.Goals as goal
 
 pub returns-clause-formula : goal.returns-clause-formula

@@ -1,10 +1,7 @@
-use Rattle.std.proofs.Common.{◌<◌, subst, sym, arith}
-use Rattle.std.specs.List.Sorted.{IsPermutation}
+use Rattle.std.{proofs.Common.{◌<◌, subst, sym, arith}, specs.List.Sorted.IsPermutation}
 use Rattle.collective_spec.specs.Collectives.{kind_in}
-use Rattle.candidate_order.specs.Listed.{AreAllowed}
-use Rattle.candidate_order.specs.Frontiers.{RightFrontier, Searched}
-use Rattle.pareto_search.specs.Recorded.{entries_of}
-use Rattle.pareto_search.proofs.Finished.{finished_right, finished_searched, finished_entries, all_passed}
+use Rattle.candidate_order.specs.{Listed.AreAllowed, Frontiers.{RightFrontier, Searched}}
+use Rattle.pareto_search.{specs.Recorded.entries_of, proofs.Finished.{finished_right, finished_searched, finished_entries, all_passed}}
 use Rattle.pareto_search.proofs.searching.search.Goals as goal
 
 pub try_step-requires-clause-allowed : goal.try_step-requires-clause-allowed

@@ -1,7 +1,6 @@
 use Rattle.std.specs.Prelude.{◌≡◌}
 use Rattle.engine_rules.specs.Searches.{CanGoOn, IsSameSearch}
-use Rattle.pareto_search.specs.inner.Passing.{HasFewerSteps, HasPassed}
-use Rattle.pareto_search.specs.Recorded.{StaysWithin}
+use Rattle.pareto_search.specs.{inner.Passing.{HasFewerSteps, HasPassed}, Recorded.StaysWithin}
 use Rattle.pareto_search.proofs.searching.search.Given as goal
 
 abbrev pub invariant-loop-step : goal.invariant-loop-step

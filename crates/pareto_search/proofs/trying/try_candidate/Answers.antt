@@ -1,7 +1,5 @@
-use Rattle.std.proofs.Common.{[], ◌∷◌, ◌++◌, ap, ◌∙◌, Ok}
-use Rattle.std.proofs.lemmas.Bool.{iff_false}
-use Rattle.engine_rules.specs.declared.settled.Settled.TheVariants.{Solved, Refuted, Unknown}
-use Rattle.engine_rules.specs.Outcomes.{kind_of}
+use Rattle.std.proofs.{Common.{[], ◌∷◌, ◌++◌, ap, ◌∙◌, Ok}, lemmas.Bool.iff_false}
+use Rattle.engine_rules.specs.{declared.settled.Settled.TheVariants.{Solved, Refuted, Unknown}, Outcomes.kind_of}
 use Rattle.pareto_search.specs.inner.Passing.{IsBefore, IsUpTo, with_point, with_refuted, with_unknown}
 use Rattle.pareto_search.proofs.Steps.{none_settles, pass_over, add_point, add_refuted, add_unknown, resuited, renewed, stays_within}
 use Rattle.pareto_search.proofs.trying.try_candidate.Goals as goal

@@ -1,10 +1,8 @@
-use Rattle.std.proofs.Common.{◌≡◌, ◌+◌, get_or, take, length, subst, sym, ◌∙◌, arith}
-use Rattle.std.proofs.lemmas.List.{get_or_default}
+use Rattle.std.proofs.{Common.{◌≡◌, ◌+◌, get_or, take, length, subst, sym, ◌∙◌, arith}, lemmas.List.get_or_default}
 use Rattle.collective_spec.specs.Collectives.{kind_in}
 use Rattle.candidate_order.specs.declared.candidate.Candidate.{Candidate}
 use Rattle.engine_rules.proofs.Searches.{same_refl, same_trans}
-use Rattle.pareto_search.specs.inner.Passing.{HasFewerSteps, IsBefore, IsUpTo, IsThrough, IsStep, HasPassed}
-use Rattle.pareto_search.specs.Recorded.{StaysWithin}
+use Rattle.pareto_search.specs.{inner.Passing.{HasFewerSteps, IsBefore, IsUpTo, IsThrough, IsStep, HasPassed}, Recorded.StaysWithin}
 use Rattle.pareto_search.proofs.Places.{replaced, before_here, up_to_here, none_yet, whole_step, counts_allowed, listed_step, starts_within}
 use Rattle.pareto_search.proofs.trying.try_step.Goals as goal
 

@@ -1,7 +1,6 @@
 use Rattle.std.specs.Prelude.{◌≡◌, take}
 use Rattle.engine_rules.specs.Searches.{CanGoOn, IsSameSearch}
-use Rattle.pareto_search.specs.inner.Passing.{IsStep, IsThrough, HasPassed}
-use Rattle.pareto_search.specs.Recorded.{StaysWithin}
+use Rattle.pareto_search.specs.{inner.Passing.{IsStep, IsThrough, HasPassed}, Recorded.StaysWithin}
 use Rattle.pareto_search.proofs.trying.try_step.Given as goal
 
 abbrev pub invariant-loop-candidate : goal.invariant-loop-candidate

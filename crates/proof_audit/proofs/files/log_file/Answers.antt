@@ -1,6 +1,4 @@
-use Rattle.proof_audit.specs.Proving.{is_spent_log}
-use Rattle.proof_audit.proofs.Whole.{verdict_as, some_as, log_is, has_log}
-use Rattle.proof_audit.proofs.Verdicts.{log_some}
+use Rattle.proof_audit.{specs.Proving.is_spent_log, proofs.{Whole.{verdict_as, some_as, log_is, has_log}, Verdicts.log_some}}
 use Rattle.proof_audit.proofs.files.log_file.Goals as goal
 
 pub returns-clause-exact : goal.returns-clause-exact

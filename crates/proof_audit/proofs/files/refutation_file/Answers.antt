@@ -1,6 +1,4 @@
-use Rattle.proof_audit.specs.Proving.{is_refutation}
-use Rattle.proof_audit.proofs.Whole.{verdict_as, some_as, refutation_is, never_satisfied}
-use Rattle.proof_audit.proofs.Verdicts.{refutation_some}
+use Rattle.proof_audit.{specs.Proving.is_refutation, proofs.{Whole.{verdict_as, some_as, refutation_is, never_satisfied}, Verdicts.refutation_some}}
 use Rattle.proof_audit.proofs.files.refutation_file.Goals as goal
 
 pub returns-clause-exact : goal.returns-clause-exact

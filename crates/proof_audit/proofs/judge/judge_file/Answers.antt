@@ -1,6 +1,4 @@
-use Rattle.std.proofs.Common.{◌≡◌, ◌+◌, ◌<◌, ◌≤◌, length, take, Ok, sym, ap, ◌∙◌, subst, arith}
-use Rattle.std.specs.Prelude.{IfSome}
-use Rattle.std.proofs.lemmas.List.{length-take-le, with_items_is}
+use Rattle.std.proofs.{Common.{◌≡◌, ◌+◌, ◌<◌, ◌≤◌, length, take, Ok, sym, ap, ◌∙◌, subst, arith, IfSome}, lemmas.List.{length-take-le, with_items_is}}
 use Rattle.proof_audit.proofs.Pieces.{IsPiece, piece_read, has_file, end_read, more_taken, refused_piece, refused_length, ended}
 use Rattle.proof_audit.proofs.judge.judge_file.Goals as goal
 

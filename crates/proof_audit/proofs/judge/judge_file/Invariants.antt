@@ -1,7 +1,5 @@
-use Rattle.std.proofs.Common.{◌≡◌, ◌+◌, ◌-◌, ◌≤◌, IsTrue}
-use Rattle.std.specs.Prelude.{vec_len}
-use Rattle.outer_ports.specs.Port.{Tells}
-use Rattle.outer_ports.specs.Shelf.{FilesStay}
+use Rattle.std.proofs.Common.{◌≡◌, ◌+◌, ◌-◌, ◌≤◌, IsTrue, vec_len}
+use Rattle.outer_ports.specs.{Port.Tells, Shelf.FilesStay}
 use Rattle.proof_audit.proofs.Pieces.{IsFront}
 use Rattle.proof_audit.proofs.judge.judge_file.Given as goal
 

@@ -1,8 +1,6 @@
 use Rattle.std.proofs.Common.{◌≡◌, ◌-◌, ◌∙◌, None, Some, ap, arith}
-use Rattle.node_programs.specs.Machines.{event}
-use Rattle.node_programs.specs.Runs.{chosen, enabled, next_draw, picked, ranked}
-use Rattle.replay.proofs.Ended.{drawn_last}
-use Rattle.replay.proofs.Moving.{event_some, picked_ends, picked_none, picked_on, run_more}
+use Rattle.node_programs.specs.{Machines.event, Runs.{chosen, enabled, next_draw, picked, ranked}}
+use Rattle.replay.proofs.{Ended.drawn_last, Moving.{event_some, picked_ends, picked_none, picked_on, run_more}}
 use Rattle.replay.proofs.by_order.replay_by_order.Goals as goal
 
 pub returns-in_default-next-clause-chosen : goal.returns-in_default-next-clause-chosen

@@ -1,5 +1,4 @@
-use Rattle.std.proofs.Common.{◌≡◌, ◌≤◌, ◌-◌, Some, vec_len}
-use Rattle.std.specs.Vec.{vec_capacity}
+use Rattle.std.{proofs.Common.{◌≡◌, ◌≤◌, ◌-◌, Some, vec_len}, specs.Vec.vec_capacity}
 use Rattle.node_programs.specs.Runs.{machine_run}
 use Rattle.replay.proofs.Moving.{IsPicked}
 use Rattle.replay.proofs.by_order.replay_by_order.Given as goal

@@ -1,7 +1,5 @@
-use Rattle.std.proofs.Common.{ℕ, List, ◌∷◌}
-use Rattle.std.specs.List.{flat_map, range_with_len}
-use Rattle.replay_text.specs.inner.Appended.{bag_word}
-use Rattle.replay_text.proofs.Lines.{appends, flat_more}
+use Rattle.std.{proofs.Common.{ℕ, List, ◌∷◌}, specs.List.{flat_map, range_with_len}}
+use Rattle.replay_text.{specs.inner.Appended.bag_word, proofs.Lines.{appends, flat_more}}
 use Rattle.replay_text.proofs.bags.push_bags.Goals as goal
 
 pub loop-chunk-preserved : goal.loop-chunk-preserved

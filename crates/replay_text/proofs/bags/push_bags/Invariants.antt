@@ -1,5 +1,4 @@
-use Rattle.std.proofs.Common.{◌≡◌, ◌++◌, ◌∷◌}
-use Rattle.std.specs.List.{flat_map, range_with_len}
+use Rattle.std.{proofs.Common.{◌≡◌, ◌++◌, ◌∷◌}, specs.List.{flat_map, range_with_len}}
 use Rattle.replay_text.specs.inner.Appended.{bag_word}
 use Rattle.replay_text.proofs.bags.push_bags.Given as goal
 

@@ -1,7 +1,6 @@
 use Rattle.std.proofs.Common.{◌+◌, ◌∷◌, [], ◌++◌, ap, ◌∙◌}
 use Rattle.bag_runs.specs.Kept.{counted}
-use Rattle.replay_text.specs.inner.Appended.{digits_of}
-use Rattle.replay_text.proofs.Lines.{appends, digits_more}
+use Rattle.replay_text.{specs.inner.Appended.digits_of, proofs.Lines.{appends, digits_more}}
 use Rattle.replay_text.proofs.bags.push_counts.Goals as goal
 
 pub loop-node-preserved : goal.loop-node-preserved

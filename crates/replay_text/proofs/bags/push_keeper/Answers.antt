@@ -1,8 +1,6 @@
-use Rattle.std.proofs.Common.{◌∷◌, []}
-use Rattle.std.specs.List.{flat_map, range_with_len}
+use Rattle.std.{proofs.Common.{◌∷◌, []}, specs.List.{flat_map, range_with_len}}
 use Rattle.topology_text.specs.Spelling.{name_at}
-use Rattle.replay_text.specs.inner.Appended.{bag_word}
-use Rattle.replay_text.proofs.Lines.{last_append_three, mapped_line}
+use Rattle.replay_text.{specs.inner.Appended.bag_word, proofs.Lines.{last_append_three, mapped_line}}
 use Rattle.replay_text.proofs.bags.push_keeper.Goals as goal
 
 pub returns : goal.returns

@@ -1,7 +1,6 @@
 use Rattle.std.proofs.Common.{sym, ap}
 use Rattle.text_lines.specs.Text.{text_of}
-use Rattle.replay_text.specs.inner.Appended.{store_lines}
-use Rattle.replay_text.proofs.Lines.{append_same, last_is}
+use Rattle.replay_text.{specs.inner.Appended.store_lines, proofs.Lines.{append_same, last_is}}
 use Rattle.replay_text.proofs.bags.push_last_store.Goals as goal
 
 pub returns-in-Some : goal.returns-in-Some

@@ -1,7 +1,6 @@
 use Rattle.std.proofs.Common.{refl}
 use Rattle.text_lines.specs.Text.{line, text_of}
-use Rattle.replay_text.specs.inner.Appended.{store_lines, step_head}
-use Rattle.replay_text.proofs.Lines.{last_append}
+use Rattle.replay_text.{specs.inner.Appended.{store_lines, step_head}, proofs.Lines.last_append}
 use Rattle.replay_text.proofs.bags.push_step.Goals as goal
 
 pub returns : goal.returns

@@ -1,8 +1,6 @@
-use Rattle.std.proofs.Common.{map}
-use Rattle.std.specs.List.{range_with_len}
+use Rattle.std.{proofs.Common.map, specs.List.range_with_len}
 use Rattle.text_lines.specs.Text.{line, text_of}
-use Rattle.replay_text.specs.inner.Appended.{keeper_words}
-use Rattle.replay_text.proofs.Lines.{appends, lines_more}
+use Rattle.replay_text.{specs.inner.Appended.keeper_words, proofs.Lines.{appends, lines_more}}
 use Rattle.replay_text.proofs.bags.push_store.Goals as goal
 
 pub loop-node-preserved : goal.loop-node-preserved

@@ -1,9 +1,6 @@
-use Rattle.std.proofs.Common.{sym, ap, ◌∙◌, ◌∷◌, map, take, arith, length-take}
-use Rattle.std.proofs.lemmas.List.{take_more}
+use Rattle.std.proofs.{Common.{sym, ap, ◌∙◌, ◌∷◌, map, take, arith, length-take}, lemmas.List.take_more}
 use Rattle.text_lines.specs.Text.{text_of}
-use Rattle.replay_text.specs.Replay.{numbered_steps}
-use Rattle.replay_text.specs.inner.Appended.{store_lines, step_head}
-use Rattle.replay_text.proofs.Lines.{appends, steps_text_more}
+use Rattle.replay_text.{specs.{Replay.numbered_steps, inner.Appended.{store_lines, step_head}}, proofs.Lines.{appends, steps_text_more}}
 use Rattle.replay_text.proofs.bags.push_stores.Goals as goal
 
 pub loop-step-preserved : goal.loop-step-preserved

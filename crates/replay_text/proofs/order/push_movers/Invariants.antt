@@ -1,5 +1,4 @@
-use Rattle.std.proofs.Common.{◌≡◌, ◌++◌, ◌∷◌, take}
-use Rattle.std.specs.List.{flat_map}
+use Rattle.std.{proofs.Common.{◌≡◌, ◌++◌, ◌∷◌, take}, specs.List.flat_map}
 use Rattle.topology_text.specs.Spelling.{name_at}
 use Rattle.replay_text.proofs.order.push_movers.Given as goal
 

@@ -1,8 +1,6 @@
-use Rattle.std.proofs.Common.{◌≡◌, ◌∷◌, [], ◌++◌, codes, decimal, length, refl}
-use Rattle.std.specs.List.{flat_map}
+use Rattle.std.{proofs.Common.{◌≡◌, ◌∷◌, [], ◌++◌, codes, decimal, length, refl}, specs.List.flat_map}
 use Rattle.text_lines.specs.Text.{line}
-use Rattle.topology_text.specs.Spelling.{name_at}
-use Rattle.topology_text.proofs.Printed.{appended_three}
+use Rattle.topology_text.{specs.Spelling.name_at, proofs.Printed.appended_three}
 use Rattle.replay_text.proofs.Lines.{appends, last_append, moves_is}
 use Rattle.replay_text.proofs.order.push_moves.Goals as goal
 

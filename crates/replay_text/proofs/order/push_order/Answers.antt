@@ -1,5 +1,4 @@
-use Rattle.replay_text.proofs.Lines.{append_same}
-use Rattle.replay_text.proofs.Ordered.{order_events}
+use Rattle.replay_text.proofs.{Lines.append_same, Ordered.order_events}
 use Rattle.replay_text.proofs.order.push_order.Goals as goal
 
 pub returns : goal.returns

@@ -1,5 +1,4 @@
-use Rattle.std.proofs.Common.{◌≡◌, ◌++◌, ◌∷◌, filter, decimal}
-use Rattle.std.specs.List.{flat_map, range_with_len}
+use Rattle.std.{proofs.Common.{◌≡◌, ◌++◌, ◌∷◌, filter, decimal}, specs.List.{flat_map, range_with_len}}
 use Rattle.schedule.specs.Placed.{holds}
 use Rattle.replay_text.proofs.placements.push_held.Given as goal
 

@@ -1,8 +1,6 @@
-use Rattle.std.proofs.Common.{◌∷◌, [], decimal}
-use Rattle.std.specs.List.{flat_map}
+use Rattle.std.{proofs.Common.{◌∷◌, [], decimal}, specs.List.flat_map}
 use Rattle.topology_text.specs.Spelling.{name_at}
-use Rattle.replay_text.specs.inner.Appended.{held_by}
-use Rattle.replay_text.proofs.Lines.{last_append_three, mapped_line}
+use Rattle.replay_text.{specs.inner.Appended.held_by, proofs.Lines.{last_append_three, mapped_line}}
 use Rattle.replay_text.proofs.placements.push_holder.Goals as goal
 
 pub returns : goal.returns

@@ -1,5 +1,4 @@
-use Rattle.std.proofs.Common.{◌≡◌, ◌++◌, map}
-use Rattle.std.specs.List.{range_with_len}
+use Rattle.std.{proofs.Common.{◌≡◌, ◌++◌, map}, specs.List.range_with_len}
 use Rattle.text_lines.specs.Text.{text_of}
 use Rattle.replay_text.specs.inner.Appended.{holder_words}
 use Rattle.replay_text.proofs.placements.push_placement.Given as goal

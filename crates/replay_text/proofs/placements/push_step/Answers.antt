@@ -1,8 +1,6 @@
 use Rattle.std.proofs.Common.{refl}
 use Rattle.text_lines.specs.Text.{line, text_of}
-use Rattle.replay_text.specs.Replay.{node_lines}
-use Rattle.replay_text.specs.inner.Appended.{step_head}
-use Rattle.replay_text.proofs.Lines.{last_append}
+use Rattle.replay_text.{specs.{Replay.node_lines, inner.Appended.step_head}, proofs.Lines.last_append}
 use Rattle.replay_text.proofs.placements.push_step.Goals as goal
 
 pub returns : goal.returns

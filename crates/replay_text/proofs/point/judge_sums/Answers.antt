@@ -1,9 +1,7 @@
 use Rattle.std.proofs.Common.{◌≡◌, ◌∙◌, false, ap}
 use Rattle.schedule.specs.Placed.{PlacementValue}
 use Rattle.replay_text.specs.Showing.{chunks_at, is_joined, nodes_of, shown_in}
-use Rattle.replay_text.proofs.Bodies.{chunks_are}
-use Rattle.replay_text.proofs.Ends.{last_joined, last_summed}
-use Rattle.replay_text.proofs.Showable.{demand_chunks}
+use Rattle.replay_text.proofs.{Bodies.chunks_are, Ends.{last_joined, last_summed}, Showable.demand_chunks}
 use Rattle.replay_text.proofs.point.judge_sums.Goals as goal
 
 pub all_summed_by_last-requires-clause-last : goal.all_summed_by_last-requires-clause-last

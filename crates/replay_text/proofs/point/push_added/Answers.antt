@@ -1,9 +1,6 @@
-use Rattle.std.proofs.Common.{◌≡◌, ◌∙◌, ap, sym, arith}
-use Rattle.std.proofs.lemmas.Result.{on_ok_weaker}
+use Rattle.std.proofs.{Common.{◌≡◌, ◌∙◌, ap, sym, arith}, lemmas.Result.on_ok_weaker}
 use Rattle.topology_text.specs.Value.{NamedTopologyValue}
-use Rattle.replay_text.specs.Showing.{nodes_of, shown_in}
-use Rattle.replay_text.proofs.Bodies.{added_lines, adding_is, chunks_are}
-use Rattle.replay_text.proofs.Ends.{added_inside, added_last}
+use Rattle.replay_text.{specs.Showing.{nodes_of, shown_in}, proofs.{Bodies.{added_lines, adding_is, chunks_are}, Ends.{added_inside, added_last}}}
 use Rattle.replay_text.proofs.point.push_added.Goals as goal
 
 pub index-last-requires : goal.index-last-requires

@@ -1,8 +1,6 @@
 use Rattle.std.proofs.Common.{◌≡◌, ◌∙◌, ap, refl}
 use Rattle.topology_text.specs.Value.{NamedTopologyValue}
-use Rattle.replay_text.specs.Showing.{nodes_of, shown_in}
-use Rattle.replay_text.proofs.Lines.{append_same}
-use Rattle.replay_text.proofs.Bodies.{copied_lines, instance_is}
+use Rattle.replay_text.{specs.Showing.{nodes_of, shown_in}, proofs.{Lines.append_same, Bodies.{copied_lines, instance_is}}}
 use Rattle.replay_text.proofs.point.push_copied.Goals as goal
 
 pub returns : goal.returns

@@ -1,6 +1,4 @@
-use Rattle.replay_text.specs.Showing.{shown_in}
-use Rattle.replay_text.proofs.Bodies.{whole_text}
-use Rattle.replay_text.proofs.Showable.{numbered_shows}
+use Rattle.replay_text.{specs.Showing.shown_in, proofs.{Bodies.whole_text, Showable.numbered_shows}}
 use Rattle.replay_text.proofs.point.replay_point.Goals as goal
 
 pub push_body-requires-clause-showable : goal.push_body-requires-clause-showable

@@ -1,6 +1,5 @@
 use Rattle.std.proofs.Common.{◌≡◌, map, take}
-use Rattle.node_programs.specs.Machines.{start_of}
-use Rattle.node_programs.specs.Runs.{chosen}
+use Rattle.node_programs.specs.{Machines.start_of, Runs.chosen}
 use Rattle.replay_text.proofs.running.run_orders.Given as goal
 
 abbrev pub invariant-loop-seed : goal.invariant-loop-seed

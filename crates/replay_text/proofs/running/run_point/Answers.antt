@@ -1,11 +1,6 @@
-use Rattle.std.proofs.Common.{◌≡◌, map, refl, subst}
-use Rattle.std.specs.Prelude.{IfOk}
-use Rattle.std.proofs.lemmas.Result.{IfOk-weaker}
-use Rattle.node_programs.specs.Machines.{start_of}
-use Rattle.node_programs.specs.Runs.{chosen}
-use Rattle.replay_text.specs.Showing.{shown_in}
-use Rattle.replay_text.proofs.Machined.{below_start, each_done, machine_is}
-use Rattle.replay_text.proofs.Showable.{listed_shows}
+use Rattle.std.proofs.{Common.{◌≡◌, map, refl, subst, IfOk}, lemmas.Result.IfOk-weaker}
+use Rattle.node_programs.specs.{Machines.start_of, Runs.chosen}
+use Rattle.replay_text.{specs.Showing.shown_in, proofs.{Machined.{below_start, each_done, machine_is}, Showable.listed_shows}}
 use Rattle.replay_text.proofs.running.run_point.Goals as goal
 
 pub start_store-requires-clause-showable : goal.start_store-requires-clause-showable

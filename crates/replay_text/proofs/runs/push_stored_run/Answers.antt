@@ -1,5 +1,4 @@
-use Rattle.std.proofs.Common.{◌∙◌, ap, None, if◌then◌else◌}
-use Rattle.std.proofs.lemmas.Result.{on_ok_weaker}
+use Rattle.std.proofs.{Common.{◌∙◌, ap, None, if◌then◌else◌}, lemmas.Result.on_ok_weaker}
 use Rattle.replay_text.proofs.Ordered.{stored_text}
 use Rattle.replay_text.proofs.runs.push_stored_run.Goals as goal
 

@@ -1,6 +1,5 @@
-use Rattle.std.proofs.Common.{refl}
+use Rattle.std.{proofs.Common.refl, specs.Fmt.digits}
 use Rattle.replay_text.specs.Showing.{shown_text}
-use Rattle.std.specs.Fmt.{digits}
 use Rattle.replay_text.proofs.vectors.replays.Goals as goal
 
 pub returns-clause-broadcast : goal.returns-clause-broadcast

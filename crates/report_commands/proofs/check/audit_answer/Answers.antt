@@ -1,8 +1,5 @@
 use Rattle.std.proofs.Common.{Ok, ap, refl, subst}
-use Rattle.run_rules.specs.Read.{IsSearchableAs}
-use Rattle.run_rules.specs.Tasks.{Audit, searchable}
-use Rattle.run_rules.specs.Steps.{audit_in, whole_question}
-use Rattle.run_rules.proofs.Answered.{refused_alone, refused_behind}
+use Rattle.run_rules.{specs.{Read.IsSearchableAs, Tasks.{Audit, searchable}, Steps.{audit_in, whole_question}}, proofs.Answered.{refused_alone, refused_behind}}
 use Rattle.report_commands.proofs.AuditAnswers.{audit_answers}
 use Rattle.report_commands.proofs.check.audit_answer.Goals as goal
 

@@ -1,9 +1,6 @@
 use Rattle.std.proofs.Common.{◌≡◌, Ok, IfOk, ap, refl, subst, sym}
 use Rattle.text_lines.specs.Check.{◌>>=◌}
-use Rattle.run_rules.specs.Answers.{IsAnswer}
-use Rattle.run_rules.specs.Read.{IsReadAs}
-use Rattle.run_rules.specs.Tasks.{audit_asked, read_report}
-use Rattle.run_rules.specs.Steps.{audit_in}
+use Rattle.run_rules.specs.{Answers.IsAnswer, Read.IsReadAs, Tasks.{audit_asked, read_report}, Steps.audit_in}
 use Rattle.run_rules.proofs.Answered.{refused_alone, refused_behind}
 use Rattle.report_commands.proofs.check.check_answer.Goals as goal
 

@@ -1,11 +1,6 @@
 use Rattle.std.proofs.Common.{◌≡◌, Ok, Err, IfOk, refl, sym, subst, ◌∙◌}
-use Rattle.run_rules.specs.Answers.{IsAnswer}
-use Rattle.run_rules.specs.Read.{IsSearchableAs}
-use Rattle.run_rules.specs.Tasks.{Degrade}
-use Rattle.run_rules.specs.Steps.{degrade_in}
-use Rattle.run_rules.proofs.Answered.{refused_alone}
-use Rattle.report_commands.specs.inner.Faults.{refused_first}
-use Rattle.report_commands.proofs.Taken.{can_degrade, refused_due}
+use Rattle.run_rules.{specs.{Answers.IsAnswer, Read.IsSearchableAs, Tasks.Degrade, Steps.degrade_in}, proofs.Answered.refused_alone}
+use Rattle.report_commands.{specs.inner.Faults.refused_first, proofs.Taken.{can_degrade, refused_due}}
 use Rattle.report_commands.proofs.degrade.fault_answer.Goals as goal
 
 pub returns-in-Some-clause-answers : goal.returns-in-Some-clause-answers

@@ -1,9 +1,5 @@
-use Rattle.std.proofs.Common.{◌≡◌, Ok, IfOk, sym, subst}
-use Rattle.std.proofs.lemmas.Result.{IfOk-weaker}
-use Rattle.run_rules.specs.Read.{IsSearchableAs}
-use Rattle.run_rules.specs.Tasks.{fault_in, searchable}
-use Rattle.run_rules.specs.Steps.{whole_question}
-use Rattle.run_rules.proofs.SizeAndCounts.{is_small}
+use Rattle.std.proofs.{Common.{◌≡◌, Ok, IfOk, sym, subst}, lemmas.Result.IfOk-weaker}
+use Rattle.run_rules.{specs.{Read.IsSearchableAs, Tasks.{fault_in, searchable}, Steps.whole_question}, proofs.SizeAndCounts.is_small}
 use Rattle.report_commands.proofs.Taken.{behind_fault}
 use Rattle.report_commands.proofs.degrade.refusal_of.Goals as goal
 

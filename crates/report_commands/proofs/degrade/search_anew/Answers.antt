@@ -1,13 +1,11 @@
-use Rattle.std.proofs.Common.{sym, ap, subst, ◌∙◌}
-use Rattle.std.specs.Prelude.{All}
+use Rattle.std.proofs.Common.{sym, ap, subst, ◌∙◌, All}
 use Rattle.outer_ports.specs.declared.part.Part.TheVariants.{Whole}
 use Rattle.topology_text.specs.Value.{NamedTopologyValue}
 use Rattle.candidate_order.specs.Frontiers.{QuestionValue}
 use Rattle.report_form.specs.Reports.{WordsValue, question_of}
 use Rattle.frontier_audit.proofs.Asking.{made_of}
 use Rattle.link_faults.specs.Carrying.{IsOldRefuted}
-use Rattle.report_commands.proofs.Anew.{new_search}
-use Rattle.report_commands.proofs.OldRight.{old_right}
+use Rattle.report_commands.proofs.{Anew.new_search, OldRight.old_right}
 use Rattle.report_commands.proofs.degrade.search_anew.Goals as goal
 
 pub search_left-requires-clause-old : goal.search_left-requires-clause-old

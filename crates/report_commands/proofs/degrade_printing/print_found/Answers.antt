@@ -1,11 +1,8 @@
-use Rattle.std.proofs.Common.{◌≡◌, ◌++◌, [], ◌∙◌, ap, map, rules}
-use Rattle.std.specs.Prelude.{codes, filter, not}
-use Rattle.std.specs.List.{flat_map}
+use Rattle.std.{proofs.Common.{◌≡◌, ◌++◌, [], ◌∙◌, ap, map, rules, codes, filter, not}, specs.List.flat_map}
 use Rattle.text_lines.specs.Text.{line, text_of}
 use Rattle.topology_text.specs.Spelling.{spelling}
 use Rattle.report_form.specs.Spelling.{refuted_words, synth_words, unknown_words}
-use Rattle.report_printing.specs.Printed.{point_text}
-use Rattle.report_printing.proofs.Pieces.{before}
+use Rattle.report_printing.{specs.Printed.point_text, proofs.Pieces.before}
 use Rattle.link_faults.specs.Carrying.{is_carried}
 use Rattle.run_rules.specs.Lines.{carried_words}
 use Rattle.report_commands.proofs.Lines.{degraded_is}

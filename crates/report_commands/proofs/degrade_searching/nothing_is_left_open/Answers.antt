@@ -1,5 +1,4 @@
-use Rattle.std.proofs.Common.{◌≡◌, false, subst}
-use Rattle.std.specs.Prelude.{All}
+use Rattle.std.proofs.Common.{◌≡◌, false, subst, All}
 use Rattle.candidate_order.specs.Frontiers.{UnknownValue}
 use Rattle.candidate_solver.specs.Questions.{asked}
 use Rattle.node_cuts.specs.Cutting.{is_cut}

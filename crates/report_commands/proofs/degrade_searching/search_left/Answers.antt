@@ -1,19 +1,11 @@
-use Rattle.std.proofs.Common.{◌≡◌, false, List, ap, subst, ◌∙◌}
-use Rattle.std.specs.Prelude.{All}
+use Rattle.std.proofs.Common.{◌≡◌, false, List, ap, subst, ◌∙◌, All}
 use Rattle.schedule.specs.Links.{TopologyValue}
-use Rattle.candidate_order.specs.declared.candidate.Candidate.{Candidate}
-use Rattle.candidate_order.specs.Frontiers.{QuestionValue}
-use Rattle.candidate_formula.specs.Formulas.{formula_for, Suits}
-use Rattle.candidate_formula.specs.Searched.{searched_question}
-use Rattle.candidate_formula.specs.Sizes.{size_of}
-use Rattle.candidate_formula.specs.Pruned.{is_cut_away}
+use Rattle.candidate_order.specs.{declared.candidate.Candidate.Candidate, Frontiers.QuestionValue}
+use Rattle.candidate_formula.specs.{Formulas.{formula_for, Suits}, Searched.searched_question, Sizes.size_of, Pruned.is_cut_away}
 use Rattle.node_cuts.specs.Cutting.{sets_for}
-use Rattle.engine_search.proofs.Searched.{made_for}
-use Rattle.engine_search.specs.Found.{IsFound}
-use Rattle.engine_search.proofs.Found.{found_with}
+use Rattle.engine_search.{proofs.{Searched.made_for, Found.found_with}, specs.Found.IsFound}
 use Rattle.link_faults.specs.Carrying.{is_carried, narrowed_question}
-use Rattle.report_commands.proofs.Left.{formula_left, has_group, is_wider, left_question, left_small, links_narrowed, old_searched}
-use Rattle.report_commands.proofs.Parted.{found_after}
+use Rattle.report_commands.proofs.{Left.{formula_left, has_group, is_wider, left_question, left_small, links_narrowed, old_searched}, Parted.found_after}
 use Rattle.report_commands.proofs.Uncut.{none_cut_away}
 use Rattle.report_commands.proofs.degrade_searching.search_left.Goals as goal
 

@@ -1,6 +1,4 @@
-use Rattle.std.proofs.Common.{◌≡◌, ◌≢◌, ◌<◌, ◌≤◌, None, Some, sym, ap, ◌∙◌, rules}
-use Rattle.std.specs.Prelude.{slice_get}
-use Rattle.std.proofs.lemmas.Option.{slice_get-get_or}
+use Rattle.std.proofs.{Common.{◌≡◌, ◌≢◌, ◌<◌, ◌≤◌, None, Some, sym, ap, ◌∙◌, rules, slice_get}, lemmas.Option.slice_get-get_or}
 use Rattle.schedule.specs.Links.{GroupValue}
 use Rattle.collective_spec.specs.declared.kind.Kind.TheVariants.{Allreduce}
 use Rattle.report_form.specs.Reports.{ReportValue}

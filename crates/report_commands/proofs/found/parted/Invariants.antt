@@ -1,5 +1,4 @@
-use Rattle.std.proofs.Common.{◌≡◌, take}
-use Rattle.std.specs.Prelude.{filter, not}
+use Rattle.std.proofs.Common.{◌≡◌, take, filter, not}
 use Rattle.link_faults.specs.Carrying.{is_carried}
 use Rattle.report_commands.proofs.found.parted.Given as goal
 

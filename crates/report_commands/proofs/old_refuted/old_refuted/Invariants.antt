@@ -1,5 +1,4 @@
-use Rattle.std.proofs.Common.{◌≡◌, take}
-use Rattle.std.specs.List.{flat_map}
+use Rattle.std.{proofs.Common.{◌≡◌, take}, specs.List.flat_map}
 use Rattle.report_commands.proofs.old_refuted.old_refuted.Given as goal
 
 abbrev pub invariant-loop-frontier : goal.invariant-loop-frontier

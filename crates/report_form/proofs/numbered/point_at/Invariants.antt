@@ -1,7 +1,5 @@
-use Rattle.std.proofs.Common.{◌≡◌, ◌++◌, drop, slice_get}
-use Rattle.std.specs.List.{flat_map}
-use Rattle.report_form.specs.Numbered.{point_at}
-use Rattle.report_form.proofs.PointNumbers.{of_part, joined_points}
+use Rattle.std.{proofs.Common.{◌≡◌, ◌++◌, drop, slice_get}, specs.List.flat_map}
+use Rattle.report_form.{specs.Numbered.point_at, proofs.PointNumbers.{of_part, joined_points}}
 use Rattle.report_form.proofs.numbered.point_at.Given as goal
 
 abbrev pub invariant-loop-part : goal.invariant-loop-part

@@ -1,5 +1,4 @@
-use Rattle.std.proofs.Common.{refl}
-use Rattle.std.specs.Fmt.{digits}
+use Rattle.std.{proofs.Common.refl, specs.Fmt.digits}
 use Rattle.report_form.specs.Spelling.{report_text}
 use Rattle.report_form.proofs.vectors.texts.Goals as goal
 

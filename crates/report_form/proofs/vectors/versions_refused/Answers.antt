@@ -1,8 +1,6 @@
-use Rattle.std.proofs.Common.{refl}
-use Rattle.std.specs.Fmt.{digits}
-use Rattle.report_form.specs.Reading.{report_of, body_of, frontier_at}
+use Rattle.std.{proofs.Common.refl, specs.Fmt.digits}
+use Rattle.report_form.specs.{Reading.{report_of, body_of, frontier_at}, Points.{frontier_point_at, joined_point_at, schedule_at}}
 use Rattle.topology_text.specs.Reading.{pattern_at}
-use Rattle.report_form.specs.Points.{frontier_point_at, joined_point_at, schedule_at}
 use Rattle.report_form.proofs.vectors.versions_refused.Goals as goal
 
 pub returns-clause-given_in_first : goal.returns-clause-given_in_first

@@ -1,5 +1,4 @@
-use Rattle.std.proofs.Common.{◌≡◌, drop}
-use Rattle.std.specs.List.{list_all}
+use Rattle.std.{proofs.Common.{◌≡◌, drop}, specs.List.list_all}
 use Rattle.report_form.specs.Fields.{is_digit}
 use Rattle.report_lines.proofs.digits.are_digits.Given as goal
 

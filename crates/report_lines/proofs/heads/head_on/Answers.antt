@@ -1,10 +1,7 @@
 use Rattle.std.proofs.Common.{◌≡◌, Some, sym, ap, ◌∙◌}
 use Rattle.text_lines.specs.Line.{row_at}
-use Rattle.report_form.specs.Tests.{is_within, comes_next}
-use Rattle.report_form.proofs.Shapes.{head}
-use Rattle.report_lines.specs.Asking.{asks}
-use Rattle.report_lines.specs.Wide.{candidate_of}
-use Rattle.report_lines.proofs.Ruled.{head_is, tested_in, ruled_in, ruled_out}
+use Rattle.report_form.{specs.Tests.{is_within, comes_next}, proofs.Shapes.head}
+use Rattle.report_lines.{specs.{Asking.asks, Wide.candidate_of}, proofs.Ruled.{head_is, tested_in, ruled_in, ruled_out}}
 use Rattle.report_lines.proofs.heads.head_on.Goals as goal
 
 pub returns-then-not-comes_next-clause-read : goal.returns-then-not-comes_next-clause-read

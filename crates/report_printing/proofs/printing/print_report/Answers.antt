@@ -1,11 +1,8 @@
-use Rattle.std.proofs.Common.{◌≡◌, ◌++◌, ◌∷◌, [], ◌∙◌, rules}
-use Rattle.std.specs.Prelude.{codes}
-use Rattle.std.specs.List.{flat_map}
+use Rattle.std.{proofs.Common.{◌≡◌, ◌++◌, ◌∷◌, [], ◌∙◌, rules, codes}, specs.List.flat_map}
 use Rattle.text_lines.specs.Text.{line, text_of}
 use Rattle.topology_text.specs.Spelling.{spelling, version_word}
 use Rattle.report_form.specs.Spelling.{joined_lines, synth_words}
-use Rattle.report_printing.specs.Printed.{frontier_text}
-use Rattle.report_printing.proofs.Pieces.{before, report_is}
+use Rattle.report_printing.{specs.Printed.frontier_text, proofs.Pieces.{before, report_is}}
 use Rattle.report_printing.proofs.printing.print_report.Goals as goal
 
 pub returns : goal.returns

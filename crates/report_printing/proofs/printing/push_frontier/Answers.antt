@@ -1,11 +1,7 @@
-use Rattle.std.proofs.Common.{◌≡◌, ◌++◌, ◌∙◌, ap, map}
-use Rattle.std.specs.Prelude.{codes}
-use Rattle.std.specs.List.{flat_map}
+use Rattle.std.{proofs.Common.{◌≡◌, ◌++◌, ◌∙◌, ap, map, codes}, specs.List.flat_map}
 use Rattle.text_lines.specs.Text.{line, text_of}
-use Rattle.report_form.specs.Reading.{part_bytes}
-use Rattle.report_form.specs.Spelling.{part_words, refuted_words, unknown_words}
-use Rattle.report_printing.specs.Printed.{point_text}
-use Rattle.report_printing.proofs.Pieces.{before, frontier_is, part_line}
+use Rattle.report_form.specs.{Reading.part_bytes, Spelling.{part_words, refuted_words, unknown_words}}
+use Rattle.report_printing.{specs.Printed.point_text, proofs.Pieces.{before, frontier_is, part_line}}
 use Rattle.report_printing.proofs.printing.push_frontier.Goals as goal
 
 pub returns : goal.returns

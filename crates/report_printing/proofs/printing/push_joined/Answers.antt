@@ -1,8 +1,5 @@
-use Rattle.std.proofs.Common.{◌++◌, ◌∙◌, ap}
-use Rattle.std.specs.Prelude.{codes}
-use Rattle.std.specs.List.{flat_map}
-use Rattle.report_printing.specs.Printed.{point_text}
-use Rattle.report_printing.proofs.Pieces.{before, joined_is}
+use Rattle.std.{proofs.Common.{◌++◌, ◌∙◌, ap, codes}, specs.List.flat_map}
+use Rattle.report_printing.{specs.Printed.point_text, proofs.Pieces.{before, joined_is}}
 use Rattle.report_printing.proofs.printing.push_joined.Goals as goal
 
 pub returns-in_ok-push_points-in-Allreduce : goal.returns-in_ok-push_points-in-Allreduce

@@ -1,5 +1,4 @@
-use Rattle.std.proofs.Common.{◌≡◌, ◌++◌, ◌∙◌, ap, rules}
-use Rattle.std.specs.Prelude.{codes, decimal}
+use Rattle.std.proofs.Common.{◌≡◌, ◌++◌, ◌∙◌, ap, rules, codes, decimal}
 use Rattle.report_printing.proofs.Pieces.{before}
 use Rattle.report_printing.proofs.printing.push_limits.Goals as goal
 

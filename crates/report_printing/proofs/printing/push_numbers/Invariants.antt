@@ -1,5 +1,4 @@
-use Rattle.std.proofs.Common.{◌≡◌, ◌++◌, map, take}
-use Rattle.std.specs.Prelude.{decimal}
+use Rattle.std.proofs.Common.{◌≡◌, ◌++◌, map, take, decimal}
 use Rattle.text_lines.specs.Text.{fields}
 use Rattle.report_printing.proofs.printing.push_numbers.Given as goal
 

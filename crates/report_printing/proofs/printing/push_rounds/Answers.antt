@@ -1,5 +1,4 @@
-use Rattle.std.proofs.Common.{◌++◌, ◌∙◌, ap, map}
-use Rattle.std.specs.Prelude.{codes, decimal}
+use Rattle.std.proofs.Common.{◌++◌, ◌∙◌, ap, map, codes, decimal}
 use Rattle.text_lines.specs.Text.{fields}
 use Rattle.report_printing.proofs.Pieces.{before, line_is}
 use Rattle.report_printing.proofs.printing.push_rounds.Goals as goal

@@ -1,10 +1,8 @@
-use Rattle.std.proofs.Common.{◌≡◌, ◌++◌, ◌∙◌, ap, rules}
-use Rattle.std.specs.Prelude.{codes}
+use Rattle.std.proofs.Common.{◌≡◌, ◌++◌, ◌∙◌, ap, rules, codes}
 use Rattle.text_lines.specs.Text.{fields}
 use Rattle.collective_spec.specs.Kinds.{word_of}
 use Rattle.report_form.specs.Spelling.{root_words, pruning_words}
-use Rattle.report_printing.specs.Printed.{limits_text}
-use Rattle.report_printing.proofs.Pieces.{before, asked_is}
+use Rattle.report_printing.{specs.Printed.limits_text, proofs.Pieces.{before, asked_is}}
 use Rattle.report_printing.proofs.printing.push_synth_line.Goals as goal
 
 pub returns : goal.returns

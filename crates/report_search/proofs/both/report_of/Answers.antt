@@ -1,7 +1,6 @@
 use Rattle.outer_ports.specs.declared.part.Part.TheVariants.{Reduce, Gather}
 use Rattle.report_form.specs.Reports.{question_of}
-use Rattle.report_search.proofs.JoinedPoints.{all_joinable}
-use Rattle.report_search.proofs.BothReport.{both_valid_for}
+use Rattle.report_search.proofs.{JoinedPoints.all_joinable, BothReport.both_valid_for}
 use Rattle.report_search.proofs.both.report_of.Goals as goal
 
 pub joins-requires-clause-reduce : goal.joins-requires-clause-reduce

@@ -1,8 +1,7 @@
 use Rattle.std.proofs.Common.{refl, subst, sym, arith, Contains}
 use Rattle.outer_ports.specs.declared.part.Part.TheVariants.{Gather}
 use Rattle.candidate_formula.proofs.BegunFiles.{begun_trans}
-use Rattle.report_search.proofs.BothReport.{both_keep, both_prove, both_right, both_searched, both_take}
-use Rattle.report_search.proofs.PartQuestions.{two_parts}
+use Rattle.report_search.proofs.{BothReport.{both_keep, both_prove, both_right, both_searched, both_take}, PartQuestions.two_parts}
 use Rattle.report_search.proofs.both.search_both.Goals as goal
 
 pub part_frontier-requires-2-clause-part : goal.part_frontier-requires-2-clause-part

@@ -1,5 +1,4 @@
-use Rattle.report_search.proofs.Beginning.{breaks_off_for, keeps_parts_for, takes_for}
-use Rattle.report_search.proofs.PartQuestions.{asked_for}
+use Rattle.report_search.proofs.{Beginning.{breaks_off_for, keeps_parts_for, takes_for}, PartQuestions.asked_for}
 use Rattle.report_search.proofs.part.part_frontier.Goals as goal
 
 pub single_frontier-requires-clause-spec : goal.single_frontier-requires-clause-spec

@@ -1,8 +1,5 @@
 use Rattle.std.proofs.Common.{subst}
-use Rattle.run_rules.specs.Read.{IsSearchableAs}
-use Rattle.run_rules.specs.Tasks.{searchable}
-use Rattle.run_rules.specs.Steps.{whole_question}
-use Rattle.run_rules.proofs.Sought.{cannot_search}
+use Rattle.run_rules.{specs.{Read.IsSearchableAs, Tasks.searchable, Steps.whole_question}, proofs.Sought.cannot_search}
 use Rattle.run_rules.proofs.search_text.search_for.Goals as goal
 
 pub returns-in-Some : goal.returns-in-Some

@@ -1,11 +1,7 @@
 use Rattle.std.proofs.Common.{◌≡◌, ◌∙◌, true, subst, sym, IfOk, Ok, Err}
 use Rattle.collective_spec.specs.Collectives.{fits_kind}
 use Rattle.command_words.specs.declared.fault.WordCode.TheVariants.{CustomMismatch, UnknownRoot}
-use Rattle.run_rules.specs.Read.{IsSearchAs}
-use Rattle.run_rules.specs.Refusals.{refused_word}
-use Rattle.run_rules.specs.Tasks.{root_in}
-use Rattle.run_rules.specs.Steps.{search_for}
-use Rattle.run_rules.proofs.Sought.{misfits, no_root, some_root}
+use Rattle.run_rules.{specs.{Read.IsSearchAs, Refusals.refused_word, Tasks.root_in, Steps.search_for}, proofs.Sought.{misfits, no_root, some_root}}
 use Rattle.run_rules.proofs.search_text.search_over.Goals as goal
 
 pub returns-then-not-fits : goal.returns-then-not-fits

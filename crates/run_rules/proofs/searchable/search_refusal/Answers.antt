@@ -1,8 +1,6 @@
 use Rattle.std.proofs.Common.{◌==◌, ◌∙◌, ap, false, sym, true}
 use Rattle.schedule.specs.Links.{TopologyValue}
-use Rattle.run_rules.specs.declared.status.Status.TheVariants.{NoCandidate, TooLarge}
-use Rattle.run_rules.specs.Refusals.{refused_at}
-use Rattle.run_rules.proofs.SizeAndCounts.{counted, large_refused}
+use Rattle.run_rules.{specs.{declared.status.Status.TheVariants.{NoCandidate, TooLarge}, Refusals.refused_at}, proofs.SizeAndCounts.{counted, large_refused}}
 use Rattle.run_rules.proofs.searchable.search_refusal.Goals as goal
 
 pub returns-then-size-gt-SIZE_LIMIT : goal.returns-then-size-gt-SIZE_LIMIT

@@ -1,12 +1,8 @@
-use Rattle.std.proofs.Common.{refl}
-use Rattle.run_rules.specs.Audits.{audited}
-use Rattle.run_rules.specs.Tasks.{due}
+use Rattle.std.{proofs.Common.refl, specs.Fmt.digits}
+use Rattle.run_rules.specs.{Audits.audited, Tasks.due}
 use Rattle.command_words.specs.Words.{command_of}
-use Rattle.report_form.specs.Reading.{report_of, body_of, frontier_at}
-use Rattle.report_form.specs.Spelling.{report_text}
+use Rattle.report_form.specs.{Reading.{report_of, body_of, frontier_at}, Spelling.report_text, Points.{schedule_at, frontier_point_at, joined_point_at}}
 use Rattle.topology_text.specs.Reading.{pattern_at}
-use Rattle.report_form.specs.Points.{schedule_at, frontier_point_at, joined_point_at}
-use Rattle.std.specs.Fmt.{digits}
 use Rattle.run_rules.proofs.vectors.reports_due.Goals as goal
 
 pub returns-clause-text : goal.returns-clause-text

@@ -1,7 +1,6 @@
-use Rattle.std.proofs.Common.{refl}
+use Rattle.std.{proofs.Common.refl, specs.Fmt.digits}
 use Rattle.run_rules.specs.Tasks.{due}
 use Rattle.command_words.specs.Words.{command_of}
-use Rattle.std.specs.Fmt.{digits}
 use Rattle.topology_text.specs.Spelling.{spelling}
 use Rattle.run_rules.proofs.vectors.words_due.Goals as goal
 

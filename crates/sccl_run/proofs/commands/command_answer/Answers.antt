@@ -1,6 +1,5 @@
 use Rattle.std.proofs.Common.{refl, subst, sym}
-use Rattle.run_rules.specs.Answers.{FilesValue, IsAnswer}
-use Rattle.run_rules.specs.Tasks.{task_of}
+use Rattle.run_rules.specs.{Answers.{FilesValue, IsAnswer}, Tasks.task_of}
 use Rattle.sccl_run.proofs.commands.command_answer.Goals as goal
 
 pub returns-in_ok-family_answer-in-Family-clause-answers :

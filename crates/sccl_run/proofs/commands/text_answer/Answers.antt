@@ -1,14 +1,8 @@
-use Rattle.std.proofs.Common.{◌<◌, IfNone, length, refl, subst}
-use Rattle.std.proofs.lemmas.Result.{IfOk-weaker}
-use Rattle.run_rules.specs.declared.status.Status.TheVariants.{TooLong}
-use Rattle.run_rules.specs.Answers.{FilesValue, IsAnswer}
-use Rattle.run_rules.specs.Commands.{IsOneOf, Reads, answers_of}
-use Rattle.run_rules.specs.Refusals.{refused_at}
-use Rattle.run_rules.specs.Tasks.{limit, task_of}
-use Rattle.run_rules.proofs.Answered.{refused_answers}
-use Rattle.run_rules.proofs.Ends.{command_ends}
-use Rattle.sccl_run.specs.inner.Answering.{due_for}
-use Rattle.sccl_run.proofs.Dues.{long_due}
+use Rattle.std.proofs.{Common.{◌<◌, IfNone, length, refl, subst}, lemmas.Result.IfOk-weaker}
+use Rattle.run_rules.specs.{declared.status.Status.TheVariants.TooLong, Answers.{FilesValue, IsAnswer}, Commands.{IsOneOf, Reads, answers_of}}
+use Rattle.run_rules.specs.{Refusals.refused_at, Tasks.{limit, task_of}}
+use Rattle.run_rules.proofs.{Answered.refused_answers, Ends.command_ends}
+use Rattle.sccl_run.{specs.inner.Answering.due_for, proofs.Dues.long_due}
 use Rattle.sccl_run.proofs.commands.text_answer.Goals as goal
 
 pub returns-in-Some-clause-ends : goal.returns-in-Some-clause-ends

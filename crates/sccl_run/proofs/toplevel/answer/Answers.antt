@@ -1,8 +1,7 @@
 use Rattle.std.proofs.Common.{rules, refl, sym, ◌∙◌}
 use Rattle.command_words.specs.Words.{texts}
 use Rattle.run_rules.specs.Commands.{Reads}
-use Rattle.sccl_run.proofs.Dues.{refused_asks_nothing}
-use Rattle.sccl_run.proofs.Texts.{HasCome, answers_words, halts_before, halts_words, has_come, refused_words}
+use Rattle.sccl_run.proofs.{Dues.refused_asks_nothing, Texts.{HasCome, answers_words, halts_before, halts_words, has_come, refused_words}}
 use Rattle.sccl_run.proofs.toplevel.answer.Goals as goal
 
 pub returns-in_err-text-in-Ok-clause-halts : goal.returns-in_err-text-in-Ok-clause-halts

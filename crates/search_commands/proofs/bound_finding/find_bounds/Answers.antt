@@ -1,19 +1,11 @@
 use Rattle.std.proofs.Common.{◌≡◌, ◌∙◌, ap, subst}
 use Rattle.outer_ports.specs.declared.part.Part.TheVariants.{Whole}
 use Rattle.candidate_order.specs.Frontiers.{QuestionValue}
-use Rattle.candidate_formula.specs.Formulas.{Suits}
-use Rattle.candidate_formula.specs.Searched.{searched_question}
-use Rattle.candidate_formula.proofs.CutAway.{never_cut_away}
-use Rattle.node_cuts.specs.declared.sets.Sets.{Sets}
+use Rattle.candidate_formula.{specs.{Formulas.Suits, Searched.searched_question}, proofs.CutAway.never_cut_away}
 use Rattle.cut_bounds.specs.Parting.{without_cuts}
-use Rattle.engine_search.proofs.Searched.{made_for}
-use Rattle.engine_search.proofs.Found.{found_with}
-use Rattle.report_search.specs.Shelved.{IsShelved}
-use Rattle.report_search.proofs.Recorded.{alike, begun_for, filed_for}
-use Rattle.report_search.proofs.Uncut.{runs_below, shelved_plain, stays_below}
-use Rattle.search_commands.specs.Bounded.{AreBounds}
-use Rattle.search_commands.proofs.Bounding.{bounds_are}
-use Rattle.search_commands.proofs.Passed.{passed_on}
+use Rattle.engine_search.proofs.{Searched.made_for, Found.found_with}
+use Rattle.report_search.{specs.Shelved.IsShelved, proofs.{Recorded.{alike, begun_for, filed_for}, Uncut.{runs_below, shelved_plain, stays_below}}}
+use Rattle.search_commands.{specs.Bounded.AreBounds, proofs.{Bounding.bounds_are, Passed.passed_on}}
 use Rattle.search_commands.proofs.bound_finding.find_bounds.Goals as goal
 
 pub returns-in_err-frontier-clause-begun : goal.returns-in_err-frontier-clause-begun

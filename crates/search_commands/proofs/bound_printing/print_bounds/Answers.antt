@@ -1,17 +1,12 @@
-use Rattle.std.proofs.Common.{◌≡◌, ◌++◌, [], ◌∙◌, ap, map, rules}
-use Rattle.std.specs.Prelude.{codes}
-use Rattle.std.specs.List.{flat_map}
+use Rattle.std.{proofs.Common.{◌≡◌, ◌++◌, [], ◌∙◌, ap, map, rules, codes}, specs.List.flat_map}
 use Rattle.text_lines.specs.Text.{line, text_of}
 use Rattle.outer_ports.specs.declared.part.Part.TheVariants.{Whole}
-use Rattle.report_form.specs.Reports.{question_of}
-use Rattle.report_form.specs.Spelling.{refuted_words, synth_words, unknown_words}
-use Rattle.report_printing.specs.Printed.{point_text}
-use Rattle.report_printing.proofs.Pieces.{before}
+use Rattle.report_form.specs.{Reports.question_of, Spelling.{refuted_words, synth_words, unknown_words}}
+use Rattle.report_printing.{specs.Printed.point_text, proofs.Pieces.before}
 use Rattle.node_cuts.specs.Floors.{floor_of}
 use Rattle.cut_bounds.specs.Parting.{cuts_among, uncut_among}
 use Rattle.candidate_formula.specs.Searched.{searched_question}
-use Rattle.run_rules.specs.Bounds.{floor_words}
-use Rattle.run_rules.specs.Lines.{cut_words}
+use Rattle.run_rules.specs.{Bounds.floor_words, Lines.cut_words}
 use Rattle.search_commands.proofs.Pieces.{bound_is}
 use Rattle.search_commands.proofs.bound_printing.print_bounds.Goals as goal
 

@@ -1,5 +1,4 @@
-use Rattle.std.proofs.Common.{◌≡◌, ◌++◌, ◌∙◌, ap}
-use Rattle.std.specs.Prelude.{codes}
+use Rattle.std.proofs.Common.{◌≡◌, ◌++◌, ◌∙◌, ap, codes}
 use Rattle.text_lines.specs.Text.{fields}
 use Rattle.report_form.specs.Spelling.{candidate_words}
 use Rattle.report_printing.proofs.Pieces.{before}

@@ -1,5 +1,4 @@
-use Rattle.std.proofs.Common.{List, ℕ, [], ◌∷◌, ◌++◌, ◌∙◌, ap}
-use Rattle.std.specs.Prelude.{codes, decimal}
+use Rattle.std.proofs.Common.{List, ℕ, [], ◌∷◌, ◌++◌, ◌∙◌, ap, codes, decimal}
 use Rattle.text_lines.specs.Text.{fields}
 use Rattle.report_printing.proofs.Pieces.{before}
 use Rattle.run_rules.specs.Bounds.{names_in}

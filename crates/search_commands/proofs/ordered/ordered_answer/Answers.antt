@@ -1,10 +1,6 @@
 use Rattle.std.proofs.Common.{◌∙◌, IfOk, Ok, subst, sym}
-use Rattle.run_rules.specs.Answers.{IsAnswerAlone}
-use Rattle.run_rules.specs.Read.{IsSearchAs}
-use Rattle.run_rules.specs.Tasks.{Order, search_asked}
-use Rattle.run_rules.specs.Steps.{order_asked}
-use Rattle.run_rules.proofs.Answered.{refused_alone, refused_behind}
-use Rattle.run_rules.proofs.Sought.{same_kind}
+use Rattle.run_rules.specs.{Answers.IsAnswerAlone, Read.IsSearchAs, Tasks.{Order, search_asked}, Steps.order_asked}
+use Rattle.run_rules.proofs.{Answered.{refused_alone, refused_behind}, Sought.same_kind}
 use Rattle.search_commands.proofs.OrderDue.{order_due}
 use Rattle.search_commands.proofs.ordered.ordered_answer.Goals as goal
 

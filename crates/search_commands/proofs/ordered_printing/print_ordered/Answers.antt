@@ -1,10 +1,8 @@
-use Rattle.std.proofs.Common.{◌≡◌, ◌++◌, ◌∙◌, [], rules}
-use Rattle.std.specs.Prelude.{codes}
+use Rattle.std.proofs.Common.{◌≡◌, ◌++◌, ◌∙◌, [], rules, codes}
 use Rattle.outer_ports.specs.declared.part.Part.TheVariants.{Whole}
 use Rattle.text_lines.specs.Text.{line}
 use Rattle.report_form.specs.Spelling.{synth_words}
-use Rattle.report_printing.specs.Printed.{frontier_text}
-use Rattle.report_printing.proofs.Pieces.{before}
+use Rattle.report_printing.{specs.Printed.frontier_text, proofs.Pieces.before}
 use Rattle.search_commands.proofs.Printed.{ordered_is}
 use Rattle.search_commands.proofs.ordered_printing.print_ordered.Goals as goal
 

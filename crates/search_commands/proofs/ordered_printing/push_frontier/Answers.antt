@@ -1,11 +1,8 @@
-use Rattle.std.proofs.Common.{◌≡◌, ◌++◌, ◌∙◌, ap, map}
-use Rattle.std.specs.Prelude.{codes}
-use Rattle.std.specs.List.{flat_map}
+use Rattle.std.{proofs.Common.{◌≡◌, ◌++◌, ◌∙◌, ap, map, codes}, specs.List.flat_map}
 use Rattle.outer_ports.specs.declared.part.Part.TheVariants.{Whole}
 use Rattle.text_lines.specs.Text.{text_of}
 use Rattle.report_form.specs.Spelling.{refuted_words, unknown_words}
-use Rattle.report_printing.specs.Printed.{point_text}
-use Rattle.report_printing.proofs.Pieces.{before, frontier_is}
+use Rattle.report_printing.{specs.Printed.point_text, proofs.Pieces.{before, frontier_is}}
 use Rattle.search_commands.proofs.ordered_printing.push_frontier.Goals as goal
 
 pub returns : goal.returns

@@ -1,8 +1,7 @@
 use Rattle.std.proofs.Common.{◌∙◌, ap, subst}
 use Rattle.candidate_order.specs.Frontiers.{QuestionValue}
 use Rattle.candidate_formula.specs.Formulas.{OrderedFor, ordered_formula_for}
-use Rattle.engine_search.proofs.Searched.{made_for}
-use Rattle.engine_search.proofs.Found.{found_with}
+use Rattle.engine_search.proofs.{Searched.made_for, Found.found_with}
 use Rattle.search_commands.proofs.ordered_searching.find_ordered.Goals as goal
 
 pub returns-in-Ok : goal.returns-in-Ok

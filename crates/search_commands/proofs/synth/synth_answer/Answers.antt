@@ -1,8 +1,5 @@
 use Rattle.std.proofs.Common.{Ok, IfOk, refl, subst, sym}
-use Rattle.run_rules.specs.Answers.{IsAnswer}
-use Rattle.run_rules.specs.Read.{IsSearchAs}
-use Rattle.run_rules.specs.Tasks.{Synthesise, search_asked}
-use Rattle.run_rules.specs.Steps.{synthesis_asked}
+use Rattle.run_rules.specs.{Answers.IsAnswer, Read.IsSearchAs, Tasks.{Synthesise, search_asked}, Steps.synthesis_asked}
 use Rattle.run_rules.proofs.Answered.{refused_alone, refused_behind}
 use Rattle.search_commands.proofs.Searched.{search_due}
 use Rattle.search_commands.proofs.synth.synth_answer.Goals as goal

@@ -1,8 +1,5 @@
-use Rattle.std.proofs.Common.{◌≡◌, ◌∷◌, ◌++◌, [], map, get_or, take, sym, ap, ◌∙◌, rules, w64}
-use Rattle.std.specs.Prelude.{pos}
-use Rattle.std.proofs.lemmas.List.{take_more, map_push}
+use Rattle.std.proofs.{Common.{◌≡◌, ◌∷◌, ◌++◌, [], map, get_or, take, sym, ap, ◌∙◌, rules, w64, pos, of_z, to_z}, lemmas.List.{take_more, map_push}}
 use Rattle.std.proofs.lemmas.Int.{to_z-of_z}
-use mir.Val.{of_z, to_z}
 use Rattle.sleeping_clauses.specs.Naming.{name}
 use Rattle.sleeping_clauses.proofs.awake.renamed.Goals as goal
 

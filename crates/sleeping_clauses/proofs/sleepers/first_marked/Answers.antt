@@ -1,12 +1,7 @@
-use Rattle.std.proofs.Common.{◌≡◌, ◌<◌, [], length, map, subst, sym, ap, ◌∙◌, arith}
-use Rattle.std.specs.Prelude.{Contains}
-use Rattle.std.proofs.lemmas.List.{take_all}
-use Rattle.std.proofs.lemmas.List.Elements.{All-contains}
+use Rattle.std.proofs.{Common.{◌≡◌, ◌<◌, [], length, map, subst, sym, ap, ◌∙◌, arith, Contains}, lemmas.List.{take_all, Elements.All-contains}}
 use Rattle.list_laws.proofs.Fronts.{at_map}
 use Rattle.cnf_formula.specs.Literals.{LitValue, code_of}
-use Rattle.sleeping_clauses.specs.declared.sleepers.Led.{Led}
-use Rattle.sleeping_clauses.specs.Sleeping.{IsCover, list_at}
-use Rattle.sleeping_clauses.proofs.Found.{none_more}
+use Rattle.sleeping_clauses.{specs.{declared.sleepers.Led.Led, Sleeping.{IsCover, list_at}}, proofs.Found.none_more}
 use Rattle.sleeping_clauses.proofs.sleepers.first_marked.Goals as goal
 
 pub loop-lit-preserved : goal.loop-lit-preserved

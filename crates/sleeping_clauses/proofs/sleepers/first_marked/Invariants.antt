@@ -1,8 +1,6 @@
-use Rattle.std.proofs.Common.{take, map}
-use Rattle.std.specs.Prelude.{Contains}
+use Rattle.std.proofs.Common.{take, map, Contains}
 use Rattle.cnf_formula.specs.Literals.{LitValue, code_of}
-use Rattle.sleeping_clauses.specs.declared.sleepers.Led.{Led}
-use Rattle.sleeping_clauses.specs.Sleeping.{IsCover, list_at}
+use Rattle.sleeping_clauses.specs.{declared.sleepers.Led.Led, Sleeping.{IsCover, list_at}}
 use Rattle.sleeping_clauses.proofs.sleepers.first_marked.Given as goal
 
 abbrev pub invariant-loop-lit : goal.invariant-loop-lit

@@ -1,10 +1,6 @@
-use Rattle.std.proofs.Common.{◌≡◌, ◌<◌, length, set, take, sym, ◌∙◌, subst, arith}
-use Rattle.std.specs.Prelude.{Contains}
-use Rattle.std.proofs.lemmas.List.{take_all, length-set}
-use Rattle.std.proofs.lemmas.List.Elements.{All-contains}
+use Rattle.std.proofs.{Common.{◌≡◌, ◌<◌, length, set, take, sym, ◌∙◌, subst, arith, Contains}, lemmas.List.{take_all, length-set, Elements.All-contains}}
 use Rattle.cnf_formula.specs.Literals.{LitValue, code_of}
-use Rattle.sleeping_clauses.specs.Sleeping.{HasMark}
-use Rattle.sleeping_clauses.proofs.Found.{marked_more}
+use Rattle.sleeping_clauses.{specs.Sleeping.HasMark, proofs.Found.marked_more}
 use Rattle.sleeping_clauses.proofs.sleepers.mark_all.Goals as goal
 
 pub loop-lit-preserved : goal.loop-lit-preserved

@@ -1,5 +1,4 @@
-use Rattle.std.proofs.Common.{◌≡◌, length, take}
-use Rattle.std.specs.Prelude.{Contains}
+use Rattle.std.proofs.Common.{◌≡◌, length, take, Contains}
 use Rattle.cnf_formula.specs.Literals.{LitValue}
 use Rattle.sleeping_clauses.specs.Sleeping.{HasMark}
 use Rattle.sleeping_clauses.proofs.sleepers.mark_all.Given as goal

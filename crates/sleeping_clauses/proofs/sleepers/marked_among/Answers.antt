@@ -1,8 +1,5 @@
-use Rattle.std.proofs.Common.{subst, sym, arith}
-use Rattle.std.specs.Prelude.{Contains}
-use Rattle.std.proofs.lemmas.List.{take_all}
-use Rattle.sleeping_clauses.specs.Sleeping.{IsCover}
-use Rattle.sleeping_clauses.proofs.Found.{none_more}
+use Rattle.std.proofs.{Common.{subst, sym, arith, Contains}, lemmas.List.take_all}
+use Rattle.sleeping_clauses.{specs.Sleeping.IsCover, proofs.Found.none_more}
 use Rattle.sleeping_clauses.proofs.sleepers.marked_among.Goals as goal
 
 pub loop-led-preserved : goal.loop-led-preserved

@@ -1,7 +1,5 @@
-use Rattle.std.proofs.Common.{take}
-use Rattle.std.specs.Prelude.{Contains}
-use Rattle.sleeping_clauses.specs.declared.sleepers.Led.{Led}
-use Rattle.sleeping_clauses.specs.Sleeping.{IsCover}
+use Rattle.std.proofs.Common.{take, Contains}
+use Rattle.sleeping_clauses.specs.{declared.sleepers.Led.Led, Sleeping.IsCover}
 use Rattle.sleeping_clauses.proofs.sleepers.marked_among.Given as goal
 
 abbrev pub invariant-loop-led : goal.invariant-loop-led

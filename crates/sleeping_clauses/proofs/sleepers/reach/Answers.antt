@@ -1,8 +1,5 @@
-use Rattle.std.proofs.Common.{◌≡◌, [], ◌∷◌, ◌++◌, length, map, sym, ap, ◌∙◌, subst, arith}
-use Rattle.std.specs.Prelude.{Contains}
-use Rattle.std.proofs.lemmas.List.{length_push, map_push}
-use Rattle.sleeping_clauses.specs.Sleeping.{list_at}
-use Rattle.sleeping_clauses.proofs.Found.{longer}
+use Rattle.std.proofs.{Common.{◌≡◌, [], ◌∷◌, ◌++◌, length, map, sym, ap, ◌∙◌, subst, arith, Contains}, lemmas.List.{length_push, map_push}}
+use Rattle.sleeping_clauses.{specs.Sleeping.list_at, proofs.Found.longer}
 use Rattle.sleeping_clauses.proofs.sleepers.reach.Goals as goal
 
 pub loop-alloc-preserved : goal.loop-alloc-preserved

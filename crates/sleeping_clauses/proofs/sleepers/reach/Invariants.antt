@@ -1,7 +1,5 @@
-use Rattle.std.proofs.Common.{ℕ, ◌-◌, ◌≤◌, length, map}
-use Rattle.std.specs.Prelude.{Contains, vec_capacity}
-use Rattle.sleeping_clauses.specs.declared.sleepers.Led.{Led}
-use Rattle.sleeping_clauses.specs.Sleeping.{list_at}
+use Rattle.std.proofs.Common.{ℕ, ◌-◌, ◌≤◌, length, map, Contains, vec_capacity}
+use Rattle.sleeping_clauses.specs.{declared.sleepers.Led.Led, Sleeping.list_at}
 use Rattle.sleeping_clauses.proofs.sleepers.reach.Given as goal
 
 abbrev pub invariant-loop-alloc : goal.invariant-loop-alloc

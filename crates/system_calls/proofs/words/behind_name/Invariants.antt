@@ -1,5 +1,4 @@
-use Rattle.std.proofs.Common.{◌≡◌, ◌++◌, drop}
-use Rattle.std.specs.Vec.Iter.{into_iter_items}
+use Rattle.std.{proofs.Common.{◌≡◌, ◌++◌, drop}, specs.Vec.Iter.into_iter_items}
 use Rattle.system_calls.proofs.words.behind_name.Given as goal
 
 abbrev pub invariant-loop-word : goal.invariant-loop-word

@@ -1,11 +1,8 @@
-use Rattle.std.proofs.Common.{◌≡◌, ℕ, ◌<◌, ◌/◌, true, List, sym, ap, ◌∙◌, subst}
-use Rattle.std.specs.List.{All}
+use Rattle.std.{proofs.Common.{◌≡◌, ℕ, ◌<◌, ◌/◌, true, List, sym, ap, ◌∙◌, subst}, specs.List.All}
 use Rattle.schedule.specs.Links.{IsLink, IsGroup}
-use Rattle.topology_text.specs.declared.family_kind.FamilyKind.{FamilyKind}
-use Rattle.topology_text.specs.declared.family_kind.FamilyKind.TheVariants.{Complete, Shared, Switch, Boxes}
+use Rattle.topology_text.specs.declared.family_kind.FamilyKind.{FamilyKind, TheVariants.{Complete, Shared, Switch, Boxes}}
 use Rattle.topology_text.specs.Family.{is_allowed, family_links, one_wide, port_out, port_in, cable}
-use Rattle.topology_text.proofs.FamilyLinks.{family_links_are}
-use Rattle.topology_text.proofs.FamilyGroups.{shared_is_group, ports_out, ports_in, cables_are}
+use Rattle.topology_text.proofs.{FamilyLinks.family_links_are, FamilyGroups.{shared_is_group, ports_out, ports_in, cables_are}}
 use Rattle.topology_text.proofs.families.family_groups.Goals as goal
 
 -- what holds of the links of the one kind that this is, at the links that were made

@@ -1,6 +1,5 @@
 use Rattle.std.proofs.Common.{◌≡◌, ◌/◌, ◌%◌, ◌++◌, ◌∷◌, [], sym, ap, ◌∙◌}
-use Rattle.topology_text.specs.Family.{is_family_link}
-use Rattle.topology_text.proofs.FamilyLinks.{link_kept, link_skipped}
+use Rattle.topology_text.{specs.Family.is_family_link, proofs.FamilyLinks.{link_kept, link_skipped}}
 use Rattle.topology_text.proofs.families.family_links.Goals as goal
 use Rattle.topology_text.proofs.families.family_links.Goals.{then-has_family_link+in_ok-push, else-has_family_link}
 

@@ -1,5 +1,4 @@
-use Rattle.std.proofs.Common.{◌≡◌, ◌/◌, ◌%◌, map}
-use Rattle.std.specs.List.{filter, range_with_len}
+use Rattle.std.{proofs.Common.{◌≡◌, ◌/◌, ◌%◌, map}, specs.List.{filter, range_with_len}}
 use Rattle.topology_text.specs.Family.{is_family_link}
 use Rattle.topology_text.proofs.families.family_links.Given as goal
 

@@ -1,7 +1,5 @@
-use Rattle.std.proofs.Common.{◌≡◌, ◌∙◌, rules}
-use Rattle.std.specs.Prelude.{Some}
-use Rattle.topology_text.specs.Family.{numbered_name}
-use Rattle.topology_text.proofs.FamilyLaws.{numbered_is_some}
+use Rattle.std.proofs.Common.{◌≡◌, ◌∙◌, rules, Some}
+use Rattle.topology_text.{specs.Family.numbered_name, proofs.FamilyLaws.numbered_is_some}
 use Rattle.topology_text.proofs.families.numbered_name.Goals as goal
 
 pub unwrap-requires : goal.unwrap-requires

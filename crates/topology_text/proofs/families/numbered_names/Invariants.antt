@@ -1,5 +1,4 @@
-use Rattle.std.proofs.Common.{◌≡◌, map}
-use Rattle.std.specs.List.{range_with_len}
+use Rattle.std.{proofs.Common.{◌≡◌, map}, specs.List.range_with_len}
 use Rattle.topology_text.specs.Family.{numbered_name}
 use Rattle.topology_text.proofs.families.numbered_names.Given as goal
 

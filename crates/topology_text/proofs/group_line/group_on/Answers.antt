@@ -1,9 +1,6 @@
-use Rattle.std.proofs.Common.{◌≡◌, ◌≤◌, length, drop, Ok, ap, arith, rules}
-use Rattle.std.proofs.lemmas.List.{length-drop}
-use Rattle.text_lines.specs.Text.{words_of}
-use Rattle.text_lines.specs.Line.{row_at}
-use Rattle.topology_text.specs.Reading.{width_of}
-use Rattle.topology_text.proofs.Links.{group_valid}
+use Rattle.std.proofs.{Common.{◌≡◌, ◌≤◌, length, drop, Ok, ap, arith, rules}, lemmas.List.length-drop}
+use Rattle.text_lines.specs.{Text.words_of, Line.row_at}
+use Rattle.topology_text.{specs.Reading.width_of, proofs.Links.group_valid}
 use Rattle.topology_text.proofs.group_line.group_on.Goals as goal
 
 pub new-requires : goal.new-requires

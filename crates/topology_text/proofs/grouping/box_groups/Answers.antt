@@ -1,6 +1,4 @@
-use Rattle.std.proofs.Common.{sym, ◌∙◌, subst}
-use Rattle.std.specs.List.{All}
-use Rattle.std.proofs.lemmas.List.Elements.{All-filter}
+use Rattle.std.{proofs.{Common.{sym, ◌∙◌, subst}, lemmas.List.Elements.All-filter}, specs.List.All}
 use Rattle.schedule.specs.Links.{IsLink}
 use Rattle.topology_text.specs.Family.{is_inside}
 use Rattle.topology_text.proofs.grouping.box_groups.Goals as goal

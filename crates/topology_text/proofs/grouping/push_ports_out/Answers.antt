@@ -1,7 +1,6 @@
 use Rattle.std.proofs.Common.{sym, ap, ◌∙◌, subst}
 use Rattle.schedule.specs.Links.{IsGroup}
-use Rattle.topology_text.specs.Family.{one_wide, port_out}
-use Rattle.topology_text.proofs.FamilyGroups.{nodes_more}
+use Rattle.topology_text.{specs.Family.{one_wide, port_out}, proofs.FamilyGroups.nodes_more}
 use Rattle.topology_text.proofs.grouping.push_ports_out.Goals as goal
 
 pub new-requires : goal.new-requires

@@ -1,5 +1,4 @@
-use Rattle.std.proofs.Common.{◌≡◌, ◌++◌, map}
-use Rattle.std.specs.List.{range_with_len}
+use Rattle.std.{proofs.Common.{◌≡◌, ◌++◌, map}, specs.List.range_with_len}
 use Rattle.topology_text.specs.Family.{port_out}
 use Rattle.topology_text.proofs.grouping.push_ports_out.Given as goal
 

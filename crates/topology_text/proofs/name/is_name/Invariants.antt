@@ -1,5 +1,4 @@
-use Rattle.std.proofs.Common.{◌≡◌, drop}
-use Rattle.std.specs.List.{list_all}
+use Rattle.std.{proofs.Common.{◌≡◌, drop}, specs.List.list_all}
 use Rattle.topology_text.specs.Names.{is_name_byte}
 use Rattle.topology_text.proofs.name.is_name.Given as goal
 

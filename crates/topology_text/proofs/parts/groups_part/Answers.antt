@@ -1,9 +1,6 @@
-use Rattle.std.proofs.Common.{◌≡◌, length, Some, Err, sym, ap, ◌∙◌, rules}
-use Rattle.std.specs.Prelude.{codes}
-use Rattle.text_lines.specs.Line.{row_at}
-use Rattle.text_lines.specs.Check.{first}
-use Rattle.topology_text.specs.Reading.{begins, group_row}
-use Rattle.topology_text.proofs.Groups.{groups_refused, groups_end, none_ends, other_ends}
+use Rattle.std.proofs.Common.{◌≡◌, length, Some, Err, sym, ap, ◌∙◌, rules, codes}
+use Rattle.text_lines.specs.{Line.row_at, Check.first}
+use Rattle.topology_text.{specs.Reading.{begins, group_row}, proofs.Groups.{groups_refused, groups_end, none_ends, other_ends}}
 use Rattle.topology_text.proofs.parts.groups_part.Goals as goal
 use Rattle.topology_text.proofs.parts.groups_part.Goals.{in-Some+then-not-begins_group, in_default}
 

@@ -1,5 +1,4 @@
-use Rattle.std.proofs.Common.{◌≡◌, ◌+◌, ◌-◌, ◌++◌, sym, ap, ◌∙◌, arith, rules}
-use Rattle.std.specs.Prelude.{codes}
+use Rattle.std.proofs.Common.{◌≡◌, ◌+◌, ◌-◌, ◌++◌, sym, ap, ◌∙◌, arith, rules, codes}
 use Rattle.text_lines.specs.Check.{◌>>=◌, line_part}
 use Rattle.topology_text.specs.Reading.{holders_line, row_of_pairs, Pairs, holders_at}
 use Rattle.topology_text.proofs.HolderLines.{no_pairs, pushed, behind_before, behind_after, next_chunk}

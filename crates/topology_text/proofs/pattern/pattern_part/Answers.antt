@@ -1,9 +1,7 @@
 use Rattle.std.proofs.Common.{◌≡◌, ℕ, List, length, Ok, sym, ap, ◌∙◌, subst, rules}
 use Rattle.text_lines.specs.Check.{line_part}
 use Rattle.schedule.specs.Placed.{IsPlacement}
-use Rattle.topology_text.specs.Reading.{custom_line, Pairs}
-use Rattle.topology_text.proofs.Patterns.{lines_valid, pattern_made}
-use Rattle.topology_text.proofs.Inserted.{of_pairs}
+use Rattle.topology_text.{specs.Reading.{custom_line, Pairs}, proofs.{Patterns.{lines_valid, pattern_made}, Inserted.of_pairs}}
 use Rattle.topology_text.proofs.pattern.pattern_part.Goals as goal
 
 pub placement_of-requires : goal.placement_of-requires

@@ -1,8 +1,5 @@
-use Rattle.std.proofs.Common.{◌≡◌, false, sym, ap, ◌∙◌, rules}
-use Rattle.std.specs.Prelude.{nat_lt}
-use Rattle.std.specs.List.{list_all}
-use Rattle.topology_text.specs.Reading.{holders_from}
-use Rattle.topology_text.proofs.PatternLines.{out_of_order}
+use Rattle.std.{proofs.Common.{◌≡◌, false, sym, ap, ◌∙◌, rules, nat_lt}, specs.List.list_all}
+use Rattle.topology_text.{specs.Reading.holders_from, proofs.PatternLines.out_of_order}
 use Rattle.topology_text.proofs.pattern_lines.holders_of.Goals as goal
 
 pub returns-then-not-comes_last : goal.returns-then-not-comes_last

@@ -1,7 +1,5 @@
 use Rattle.std.proofs.Common.{◌≡◌, ◌++◌, ap, ◌∙◌}
-use Rattle.topology_text.specs.Spelling.{spelling}
-use Rattle.topology_text.specs.Reading.{topology_of}
-use Rattle.topology_text.proofs.Laws.{all_again}
+use Rattle.topology_text.{specs.{Spelling.spelling, Reading.topology_of}, proofs.Laws.all_again}
 use Rattle.topology_text.proofs.printing.print_topology.Goals as goal
 
 pub returns-clause-read_back : goal.returns-clause-read_back

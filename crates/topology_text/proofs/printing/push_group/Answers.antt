@@ -1,9 +1,6 @@
-use Rattle.std.proofs.Common.{◌≡◌, ◌++◌, map, rules}
-use Rattle.std.specs.Prelude.{codes, decimal}
-use Rattle.std.proofs.lemmas.Result.{on_ok_weaker}
+use Rattle.std.proofs.{Common.{◌≡◌, ◌++◌, map, rules, codes, decimal}, lemmas.Result.on_ok_weaker}
 use Rattle.text_lines.specs.Text.{line, fields}
-use Rattle.topology_text.specs.Spelling.{link_word, group_words}
-use Rattle.topology_text.proofs.Printed.{appended, group_is}
+use Rattle.topology_text.{specs.Spelling.{link_word, group_words}, proofs.Printed.{appended, group_is}}
 use Rattle.topology_text.proofs.printing.push_group.Goals as goal
 
 pub returns-clause-appended : goal.returns-clause-appended

@@ -1,13 +1,9 @@
-use Rattle.std.proofs.Common.{◌≡◌, ℕ, ◌<◌, Bool, [], ◌++◌, ◌∷◌, length, map, true, false, sym, ap, ◌∙◌, append_assoc, arith, rules}
-use Rattle.std.specs.Prelude.{codes, decimal}
-use Rattle.std.specs.List.{filter, range_with_len}
-use Rattle.std.proofs.lemmas.List.{get_or_default}
+use Rattle.std.proofs.Common.{◌≡◌, ℕ, ◌<◌, Bool, [], ◌++◌, ◌∷◌, length, map, true, false, sym, ap, ◌∙◌, append_assoc, arith, rules, codes, decimal}
+use Rattle.std.{specs.{List.{filter, range_with_len}, Io.StartsWith}, proofs.lemmas.{List.get_or_default, Result.on_ok_weaker}}
 use Rattle.text_lines.specs.Text.{line, fields}
 use Rattle.schedule.specs.Placed.{holds}
 use Rattle.topology_text.specs.Spelling.{name_at, holder_words}
 use Rattle.topology_text.proofs.Printed.{appended, holders_is, name_more, name_skipped, kept_on, kept_behind, front_kept, at_err}
-use Rattle.std.specs.Io.{StartsWith}
-use Rattle.std.proofs.lemmas.Result.{on_ok_weaker}
 use Rattle.topology_text.proofs.printing.push_holders.Goals as goal
 use Rattle.topology_text.proofs.printing.push_holders.Goals.{then-holds+in_ok-push_name, else-holds}
 

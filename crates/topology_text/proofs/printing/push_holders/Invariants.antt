@@ -1,5 +1,4 @@
-use Rattle.std.proofs.Common.{◌≡◌, ◌++◌, map}
-use Rattle.std.specs.List.{filter, range_with_len}
+use Rattle.std.{proofs.Common.{◌≡◌, ◌++◌, map}, specs.List.{filter, range_with_len}}
 use Rattle.text_lines.specs.Text.{fields}
 use Rattle.schedule.specs.Placed.{holds}
 use Rattle.topology_text.specs.Spelling.{name_at}

@@ -1,9 +1,7 @@
-use Rattle.std.proofs.Common.{◌≡◌, ◌<◌, ◌+◌, ◌++◌, ◌∷◌, ℕ, List, length, map, take, get_or, ap, sym, ◌∙◌}
-use Rattle.std.specs.Io.{StartsWith}
+use Rattle.std.{proofs.Common.{◌≡◌, ◌<◌, ◌+◌, ◌++◌, ◌∷◌, ℕ, List, length, map, take, get_or, ap, sym, ◌∙◌}, specs.Io.StartsWith}
 use Rattle.std.proofs.lemmas.List.{flat_map_more, map_push, take_more}
 use Rattle.text_lines.specs.Text.{fields}
-use Rattle.topology_text.specs.Spelling.{link_word}
-use Rattle.topology_text.proofs.Printed.{kept_behind, at_err}
+use Rattle.topology_text.{specs.Spelling.link_word, proofs.Printed.{kept_behind, at_err}}
 use Rattle.topology_text.proofs.printing.push_links.Goals as goal
 
 -- one more link

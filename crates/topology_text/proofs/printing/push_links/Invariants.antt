@@ -1,5 +1,4 @@
-use Rattle.std.proofs.Common.{◌≡◌, ◌++◌, ◌∷◌, map, take}
-use Rattle.std.specs.List.{flat_map}
+use Rattle.std.{proofs.Common.{◌≡◌, ◌++◌, ◌∷◌, map, take}, specs.List.flat_map}
 use Rattle.topology_text.specs.Spelling.{link_word}
 use Rattle.topology_text.proofs.printing.push_links.Given as goal
 

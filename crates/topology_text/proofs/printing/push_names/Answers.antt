@@ -1,5 +1,4 @@
-use Rattle.std.proofs.Common.{take}
-use Rattle.std.specs.Io.{StartsWith}
+use Rattle.std.{proofs.Common.take, specs.Io.StartsWith}
 use Rattle.text_lines.specs.Text.{fields}
 use Rattle.topology_text.proofs.Printed.{kept_behind, at_err}
 use Rattle.topology_text.proofs.printing.push_names.Goals as goal

@@ -1,5 +1,4 @@
-use Rattle.std.proofs.Common.{◌≡◌, ◌++◌, ◌∷◌, take}
-use Rattle.std.specs.List.{flat_map}
+use Rattle.std.{proofs.Common.{◌≡◌, ◌++◌, ◌∷◌, take}, specs.List.flat_map}
 use Rattle.topology_text.proofs.printing.push_names.Given as goal
 
 abbrev pub invariant-loop-name : goal.invariant-loop-name

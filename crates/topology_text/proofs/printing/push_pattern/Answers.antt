@@ -1,10 +1,6 @@
-use Rattle.std.proofs.Common.{◌≡◌, ◌++◌, sym, ap, ◌∙◌, append_assoc}
-use Rattle.std.specs.Prelude.{codes}
-use Rattle.std.specs.List.{flat_map, range_with_len}
+use Rattle.std.{proofs.Common.{◌≡◌, ◌++◌, sym, ap, ◌∙◌, append_assoc, codes}, specs.{List.{flat_map, range_with_len}, Io.StartsWith}}
 use Rattle.text_lines.specs.Text.{line, text_of}
-use Rattle.topology_text.specs.Spelling.{holder_words}
-use Rattle.topology_text.proofs.Printed.{chunk_lines, chunk_more, kept_on, kept_behind, front_kept, at_err}
-use Rattle.std.specs.Io.{StartsWith}
+use Rattle.topology_text.{specs.Spelling.holder_words, proofs.Printed.{chunk_lines, chunk_more, kept_on, kept_behind, front_kept, at_err}}
 use Rattle.topology_text.proofs.printing.push_pattern.Goals as goal
 
 pub loop-chunk-preserved : goal.loop-chunk-preserved

@@ -1,5 +1,4 @@
-use Rattle.std.proofs.Common.{◌≡◌, ◌++◌}
-use Rattle.std.specs.List.{flat_map, range_with_len}
+use Rattle.std.{proofs.Common.{◌≡◌, ◌++◌}, specs.List.{flat_map, range_with_len}}
 use Rattle.text_lines.specs.Text.{text_of}
 use Rattle.topology_text.proofs.Printed.{chunk_lines}
 use Rattle.topology_text.proofs.printing.push_pattern.Given as goal

@@ -1,10 +1,8 @@
-use Rattle.std.proofs.Common.{◌≡◌, ◌++◌, ◌∷◌, ◌≤◌, [], length, map, take, Some, sym, ap, ◌∙◌}
-use Rattle.std.proofs.lemmas.List.{append-nil, take_all}
+use Rattle.std.{proofs.{Common.{◌≡◌, ◌++◌, ◌∷◌, ◌≤◌, [], length, map, take, Some, sym, ap, ◌∙◌}, lemmas.List.{append-nil, take_all}}, specs.Io.StartsWith}
+use Rattle.std.proofs.lemmas.Result.{on_ok_weaker}
 use Rattle.text_lines.specs.Text.{text_of}
 use Rattle.topology_text.specs.Spelling.{header_words, nodes_words, group_words, custom_lines, spelling}
 use Rattle.topology_text.proofs.Printed.{appended_three, spelling_is, kept_more, kept_on, kept_behind, at_err, on_err}
-use Rattle.std.specs.Io.{StartsWith}
-use Rattle.std.proofs.lemmas.Result.{on_ok_weaker}
 use Rattle.topology_text.proofs.printing.push_topology.Goals as goal
 
 pub returns-in-None-clause-appended : goal.returns-in-None-clause-appended

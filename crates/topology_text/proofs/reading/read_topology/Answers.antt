@@ -1,5 +1,4 @@
-use Rattle.topology_text.proofs.Laws.{is_found, only_it}
-use Rattle.topology_text.proofs.FirstFault.{blames}
+use Rattle.topology_text.proofs.{Laws.{is_found, only_it}, FirstFault.blames}
 use Rattle.topology_text.proofs.reading.read_topology.Goals as goal
 
 pub returns-clause-found : goal.returns-clause-found

@@ -1,5 +1,4 @@
-use Rattle.std.proofs.Common.{refl}
-use Rattle.std.specs.Fmt.{digits}
+use Rattle.std.{proofs.Common.refl, specs.Fmt.digits}
 use Rattle.topology_text.specs.Spelling.{spelling}
 use Rattle.topology_text.proofs.vectors.families_are.Goals as goal
 

@@ -1,6 +1,4 @@
-use Rattle.std.proofs.Common.{◌≡◌, ℕ, ◌+◌, ◌*◌, ◌<◌, List, [], ◌∷◌, length, map, get_or, sym, ap, ◌∙◌, subst, arith}
-use Rattle.std.specs.Prelude.{All}
-use Rattle.std.proofs.lemmas.List.{length-map}
+use Rattle.std.proofs.{Common.{◌≡◌, ℕ, ◌+◌, ◌*◌, ◌<◌, List, [], ◌∷◌, length, map, get_or, sym, ap, ◌∙◌, subst, arith, All}, lemmas.List.length-map}
 use Rattle.node_programs.specs.Runs.{chosen, operations}
 use Rattle.replay_text.specs.Showing.{machine_of, shown_in}
 use Rattle.trial_command.proofs.replays.replay_in_orders.Goals as goal

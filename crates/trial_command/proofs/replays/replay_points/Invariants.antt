@@ -1,5 +1,4 @@
-use Rattle.std.proofs.Common.{◌≡◌, ◌+◌, ◌-◌, ◌*◌, ◌≤◌, length, take}
-use Rattle.std.specs.Prelude.{sum_by}
+use Rattle.std.proofs.Common.{◌≡◌, ◌+◌, ◌-◌, ◌*◌, ◌≤◌, length, take, sum_by}
 use Rattle.node_programs.specs.Runs.{operations}
 use Rattle.report_form.specs.Numbered.{points_of}
 use Rattle.replay_text.specs.Showing.{machine_of, shown_in}

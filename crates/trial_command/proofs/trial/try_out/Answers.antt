@@ -1,5 +1,4 @@
-use Rattle.std.proofs.Common.{refl}
-use Rattle.std.proofs.lemmas.Result.{IfOk-weaker}
+use Rattle.std.proofs.{Common.refl, lemmas.Result.IfOk-weaker}
 use Rattle.trial_command.proofs.Tried.{read_small, tried}
 use Rattle.trial_command.proofs.trial.try_out.Goals as goal
 

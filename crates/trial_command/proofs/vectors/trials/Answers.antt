@@ -1,5 +1,4 @@
-use Rattle.std.proofs.Common.{refl}
-use Rattle.std.specs.Fmt.{digits}
+use Rattle.std.{proofs.Common.refl, specs.Fmt.digits}
 use Rattle.run_rules.specs.Trials.{trial_text}
 use Rattle.trial_command.proofs.vectors.trials.Goals as goal
 

@@ -1,5 +1,4 @@
-use Rattle.std.proofs.Common.{◌≡◌}
-use Rattle.std.specs.Prelude.{All}
+use Rattle.std.proofs.Common.{◌≡◌, All}
 use Rattle.cnf_formula.specs.Formulas.{IsAbout}
 use Rattle.ample_memory.proofs.tests.pigeons.read.Given as goal
 

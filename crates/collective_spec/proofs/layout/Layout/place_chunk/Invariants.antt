@@ -1,6 +1,5 @@
 use Rattle.std.proofs.Common.{◌≡◌}
-use Rattle.collective_spec.specs.Layouts.{stands}
-use Rattle.collective_spec.proofs.Laying.{chunk_below}
+use Rattle.collective_spec.{specs.Layouts.stands, proofs.Laying.chunk_below}
 use Rattle.collective_spec.proofs.layout.Layout.place_chunk.Given as goal
 
 abbrev pub invariant-loop-node : goal.invariant-loop-node

@@ -1,6 +1,5 @@
 use Rattle.std.proofs.Common.{ap, ◌∙◌}
-use Rattle.collective_spec.specs.Layouts.{stands, with_row}
-use Rattle.collective_spec.proofs.Laying.{chunks_below, chunks_below-nodes, chunks_below-next}
+use Rattle.collective_spec.{specs.Layouts.{stands, with_row}, proofs.Laying.{chunks_below, chunks_below-nodes, chunks_below-next}}
 use Rattle.collective_spec.proofs.layout.Layout.placement.Goals as goal
 
 -- src/layout.rt:64:9

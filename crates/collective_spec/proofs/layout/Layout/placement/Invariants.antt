@@ -1,6 +1,5 @@
 use Rattle.std.proofs.Common.{◌≡◌}
-use Rattle.collective_spec.specs.Layouts.{stands}
-use Rattle.collective_spec.proofs.Laying.{chunks_below}
+use Rattle.collective_spec.{specs.Layouts.stands, proofs.Laying.chunks_below}
 use Rattle.collective_spec.proofs.layout.Layout.placement.Given as goal
 
 abbrev pub invariant-loop-chunk : goal.invariant-loop-chunk

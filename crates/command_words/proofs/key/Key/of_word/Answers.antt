@@ -1,8 +1,6 @@
 use Rattle.std.proofs.Common.{◌∙◌, ap}
 use Rattle.case_table.specs.Rows.{value_at}
-use Rattle.command_words.specs.Tables.{key_word, keys}
-use Rattle.command_words.specs.inner.Numbers.{key_number}
-use Rattle.command_words.proofs.Naming.{not_in_table}
+use Rattle.command_words.{specs.{Tables.{key_word, keys}, inner.Numbers.key_number}, proofs.Naming.not_in_table}
 use Rattle.command_words.proofs.key.Key.of_word.Goals as goal
 
 pub returns-in-None : goal.returns-in-None

@@ -1,5 +1,4 @@
-use Rattle.std.proofs.Common.{◌≡◌, ℕ, ◌+◌, ◌-◌, get_or, length}
-use Rattle.std.specs.Prelude.{◌≢◌, Contains}
+use Rattle.std.proofs.Common.{◌≡◌, ℕ, ◌+◌, ◌-◌, get_or, length, ◌≢◌, Contains}
 use Rattle.conflict_analysis.proofs.place_set.PlaceSet.reach.Given as goal
 
 abbrev pub invariant-loop-self : goal.invariant-loop-self

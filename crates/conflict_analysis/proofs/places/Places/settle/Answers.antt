@@ -1,5 +1,4 @@
-use Rattle.std.proofs.Common.{sym, subst}
-use Rattle.std.specs.Prelude.{Contains}
+use Rattle.std.proofs.Common.{sym, subst, Contains}
 use Rattle.cnf_formula.specs.Literals.{LitValue}
 use Rattle.conflict_analysis.proofs.places.Places.settle.Goals as goal
 

@@ -1,5 +1,4 @@
-use Rattle.std.proofs.Common.{◌+◌}
-use Rattle.std.proofs.lemmas.List.Sorted.{All-permutation}
+use Rattle.std.proofs.{Common.◌+◌, lemmas.List.Sorted.All-permutation}
 use Rattle.decision_order.specs.inner.Orders.{IsVar}
 use Rattle.decision_order.proofs.vmtf.Queue.bump_met.Goals as goal
 

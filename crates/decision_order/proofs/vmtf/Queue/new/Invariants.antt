@@ -1,5 +1,4 @@
-use Rattle.std.proofs.Common.{◌≡◌, ◌+◌, length}
-use Rattle.std.specs.Prelude.{All}
+use Rattle.std.proofs.Common.{◌≡◌, ◌+◌, length, All}
 use Rattle.decision_order.specs.inner.Orders.{IsPlace}
 use Rattle.decision_order.proofs.vmtf.Queue.new.Given as goal
 

@@ -1,5 +1,4 @@
-use Rattle.std.proofs.Common.{◌≡◌, ◌+◌, ◌≤◌, length}
-use Rattle.std.specs.Prelude.{All, vec_capacity}
+use Rattle.std.proofs.Common.{◌≡◌, ◌+◌, ◌≤◌, length, All, vec_capacity}
 use Rattle.decision_order.specs.inner.Orders.{IsVar}
 use Rattle.decision_order.proofs.vsids.Order.new.Given as goal
 

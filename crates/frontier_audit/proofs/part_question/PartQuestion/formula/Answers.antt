@@ -1,7 +1,6 @@
 use Rattle.std.proofs.Common.{sym, ap, ◌∙◌, subst}
 use Rattle.schedule.specs.Links.{TopologyValue}
-use Rattle.candidate_formula.specs.Formulas.{formula_for}
-use Rattle.candidate_formula.specs.Questions.{IsSought, copying_question}
+use Rattle.candidate_formula.specs.{Formulas.formula_for, Questions.{IsSought, copying_question}}
 use Rattle.frontier_audit.proofs.Asking.{is_sought, formula_is}
 use Rattle.frontier_audit.proofs.part_question.PartQuestion.formula.Goals as goal
 

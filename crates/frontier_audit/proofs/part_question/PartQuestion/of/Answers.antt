@@ -1,11 +1,9 @@
 use Rattle.std.proofs.Common.{sym, subst, ap, ◌∙◌}
 use Rattle.schedule.specs.Links.{TopologyValue}
-use Rattle.node_cuts.specs.Cutting.{sets_for}
-use Rattle.node_cuts.specs.Tables.{table_of}
+use Rattle.node_cuts.specs.{Cutting.sets_for, Tables.table_of}
 use Rattle.topology_text.specs.Value.{NamedTopologyValue}
 use Rattle.report_form.specs.Reports.{WordsValue, question_of}
-use Rattle.frontier_audit.specs.inner.Auditable.{IsAuditable}
-use Rattle.frontier_audit.proofs.Asking.{made_of, part_asked}
+use Rattle.frontier_audit.{specs.inner.Auditable.IsAuditable, proofs.Asking.{made_of, part_asked}}
 use Rattle.frontier_audit.proofs.part_question.PartQuestion.of.Goals as goal
 
 pub invariant_of-result : goal.invariant_of-result

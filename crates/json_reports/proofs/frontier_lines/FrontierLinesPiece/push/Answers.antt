@@ -1,12 +1,9 @@
-use Rattle.std.proofs.Common.{◌≡◌, true, [], ◌∷◌, None, ap, sym, ◌∙◌, option_map, subst, rules}
-use Rattle.std.specs.Prelude.{codes, if◌then◌else◌}
+use Rattle.std.proofs.Common.{◌≡◌, true, [], ◌∷◌, None, ap, sym, ◌∙◌, option_map, subst, rules, codes, if◌then◌else◌}
 use Rattle.text_lines.specs.Text.{text_of}
 use Rattle.serde_json.specs.View.{view}
-use Rattle.json_values.specs.Shape.{◌⊕◌, one, has_keys, field}
+use Rattle.json_values.specs.{Shape.{◌⊕◌, one, has_keys, field}, Appends.Appends}
 use Rattle.json_rules.specs.ReportJson.{part_in, frontier_in}
-use Rattle.json_reports.specs.inner.Pieces.{frontier_body_in}
-use Rattle.json_values.specs.Appends.{Appends}
-use Rattle.json_reports.proofs.Compose.{line_in_turn, field_is}
+use Rattle.json_reports.{specs.inner.Pieces.frontier_body_in, proofs.Compose.{line_in_turn, field_is}}
 use Rattle.json_reports.proofs.frontier_lines.FrontierLinesPiece.push.Goals as goal
 
 pub returns : goal.returns

@@ -1,12 +1,8 @@
-use Rattle.std.proofs.Common.{◌≡◌, List, ℕ, [], ◌∷◌, ◌++◌, ap, sym, ◌∙◌, append_assoc, option_map, rules}
-use Rattle.std.specs.Prelude.{codes, decimal}
-use Rattle.std.proofs.lemmas.List.{append-nil}
+use Rattle.std.proofs.{Common.{◌≡◌, List, ℕ, [], ◌∷◌, ◌++◌, ap, sym, ◌∙◌, append_assoc, option_map, rules, codes, decimal}, lemmas.List.append-nil}
 use Rattle.text_lines.specs.Text.{line}
 use Rattle.serde_json.specs.View.{view}
-use Rattle.json_values.specs.Shape.{list_in}
-use Rattle.json_values.specs.TopologyJson.{link_in}
-use Rattle.json_values.proofs.Lines.{tokens_listed, tokens_refused, line_closed, lined, refused_on}
-use Rattle.json_values.proofs.Groups.{group_with}
+use Rattle.json_values.specs.{Shape.list_in, TopologyJson.link_in}
+use Rattle.json_values.proofs.{Lines.{tokens_listed, tokens_refused, line_closed, lined, refused_on}, Groups.group_with}
 use Rattle.json_values.proofs.topology_reading.GroupLinePiece.push.Goals as goal
 
 pub returns-in_err-push_list : goal.returns-in_err-push_list

@@ -1,6 +1,5 @@
 use Rattle.std.proofs.Common.{◌≡◌, true, false, sym, ◌∙◌}
-use Rattle.proof_rules.specs.declared.verdict.LineVerdict.TheVariants.{Accepted}
-use Rattle.proof_rules.proofs.Verdicts.{implied_by, redundant_by}
+use Rattle.proof_rules.{specs.declared.verdict.LineVerdict.TheVariants.Accepted, proofs.Verdicts.{implied_by, redundant_by}}
 use Rattle.lrat_checker.proofs.checker.Checker.add.Goals as goal
 
 pub returns-in_ok-hold-clause-implied : goal.returns-in_ok-hold-clause-implied

@@ -1,8 +1,6 @@
-use Rattle.std.proofs.Common.{◌≡◌, true, sym, ap, ◌∙◌, subst}
-use Rattle.std.specs.Prelude.{◌&&◌, not}
+use Rattle.std.proofs.Common.{◌≡◌, true, sym, ap, ◌∙◌, subst, ◌&&◌, not}
 use Rattle.proof_rules.specs.Testing.{are_held, has_number_twice}
-use Rattle.lrat_checker.specs.Checking.{CanCheck}
-use Rattle.lrat_checker.proofs.Checked.{can_delete, table_without}
+use Rattle.lrat_checker.{specs.Checking.CanCheck, proofs.Checked.{can_delete, table_without}}
 use Rattle.lrat_checker.proofs.checker.Checker.delete.Goals as goal
 
 pub invariant_of-self : goal.invariant_of-self

@@ -1,10 +1,7 @@
 use Rattle.std.proofs.Common.{◌≡◌, ◌||◌, ◌==◌, true, List, length, sym, ap, ◌∙◌, subst, arith}
-use Rattle.cnf_formula.specs.Lines.{ProofLineValue}
-use Rattle.cnf_formula.specs.Literals.{LitValue}
-use Rattle.proof_rules.specs.Judging.{verdict_of, is_accepted}
-use Rattle.lrat_checker.specs.Checking.{checker_of, CanCheck}
-use Rattle.proof_rules.specs.Held.{is_empty}
-use Rattle.lrat_checker.proofs.Checked.{can_add, table_with, empty_is}
+use Rattle.cnf_formula.specs.{Lines.ProofLineValue, Literals.LitValue}
+use Rattle.proof_rules.specs.{Judging.{verdict_of, is_accepted}, Held.is_empty}
+use Rattle.lrat_checker.{specs.Checking.{checker_of, CanCheck}, proofs.Checked.{can_add, table_with, empty_is}}
 use Rattle.lrat_checker.proofs.checker.Checker.hold.Goals as goal
 use Rattle.lrat_checker.proofs.checker.Checker.hold.Goals.{then-self, else-self}
 

@@ -1,5 +1,4 @@
-use Rattle.std.proofs.Common.{◌≡◌, ◌<◌, max, ap, subst, arith}
-use Rattle.std.specs.Prelude.{IfOk}
+use Rattle.std.proofs.Common.{◌≡◌, ◌<◌, max, ap, subst, arith, IfOk}
 use Rattle.proof_rules.specs.Judging.{verdict_of}
 use Rattle.lrat_checker.proofs.Checked.{judged_ok}
 use Rattle.lrat_checker.proofs.checker.Checker.verdict.Goals as goal

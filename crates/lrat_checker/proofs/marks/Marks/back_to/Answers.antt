@@ -1,10 +1,8 @@
-use Rattle.std.proofs.Common.{◌≡◌, ◌+◌, ◌-◌, ◌≤◌, ℕ, List, ◌++◌, ◌∷◌, [], take, drop, length, sym, ap, ◌∙◌, subst, arith}
-use Rattle.std.specs.Prelude.{reverse}
+use Rattle.std.proofs.Common.{◌≡◌, ◌+◌, ◌-◌, ◌≤◌, ℕ, List, ◌++◌, ◌∷◌, [], take, drop, length, sym, ap, ◌∙◌, subst, arith, reverse}
 use Rattle.std.proofs.lemmas.List.{length_push, length-reverse}
 use Rattle.list_laws.proofs.Fronts.{shorter}
 use Rattle.cnf_formula.specs.Literals.{LitValue}
-use Rattle.lrat_checker.specs.inner.Marking.{MarksValue, IsCounted}
-use Rattle.lrat_checker.proofs.Marked.{some_times, counted_fewer, read_times, at_code, reverse-take, about_last}
+use Rattle.lrat_checker.{specs.inner.Marking.{MarksValue, IsCounted}, proofs.Marked.{some_times, counted_fewer, read_times, at_code, reverse-take, about_last}}
 use Rattle.lrat_checker.proofs.marks.Marks.back_to.Goals as goal
 
 pub overflow_sub-index_mut : goal.overflow_sub-index_mut

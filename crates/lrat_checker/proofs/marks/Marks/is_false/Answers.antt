@@ -1,7 +1,5 @@
-use Rattle.std.proofs.Common.{sym, ap, ◌∙◌, subst}
-use Rattle.std.specs.Prelude.{nat_lt}
-use Rattle.cnf_formula.specs.Literals.{has_literal}
-use Rattle.cnf_formula.specs.Formulas.{IsAbout}
+use Rattle.std.proofs.Common.{sym, ap, ◌∙◌, subst, nat_lt}
+use Rattle.cnf_formula.specs.{Literals.has_literal, Formulas.IsAbout}
 use Rattle.lrat_checker.proofs.Marked.{has_times, has-reverse, read_times}
 use Rattle.lrat_checker.proofs.marks.Marks.is_false.Goals as goal
 

@@ -1,17 +1,10 @@
-use Rattle.std.proofs.Common.{◌≡◌, ◌<◌, true, [], length, map, get_or, sym, ap, ◌∙◌, subst, arith}
-use Rattle.std.specs.Prelude.{All, filter}
-use Rattle.std.specs.List.{list_all}
+use Rattle.std.{proofs.Common.{◌≡◌, ◌<◌, true, [], length, map, get_or, sym, ap, ◌∙◌, subst, arith, All, filter}, specs.List.list_all}
 use Rattle.std.proofs.lemmas.List.{length-map, length-set}
-use Rattle.cnf_formula.proofs.Clauses.{negation_about}
-use Rattle.cnf_formula.proofs.Codes.{code_within}
+use Rattle.cnf_formula.{proofs.{Clauses.negation_about, Codes.code_within}, specs.{Formulas.IsAbout, Literals.{code_of, negation}}}
 use Rattle.list_laws.proofs.Fronts.{at_map}
-use Rattle.cnf_formula.specs.Formulas.{IsAbout}
-use Rattle.cnf_formula.specs.Literals.{code_of, negation}
 use Rattle.proof_rules.specs.Accepting.{is_answered}
 use Rattle.lrat_checker.specs.Stored.{list_at, is_held, answers, IsIndexed, IsStored}
-use Rattle.lrat_checker.proofs.Placed.{live_within}
-use Rattle.lrat_checker.proofs.Noted.{answered_by_list}
-use Rattle.lrat_checker.proofs.Cleaned.{cleaned, all_held, stored_cleaned}
+use Rattle.lrat_checker.proofs.{Placed.live_within, Noted.answered_by_list, Cleaned.{cleaned, all_held, stored_cleaned}}
 use Rattle.lrat_checker.proofs.table.ClauseTable.all_answered.Goals as goal
 use Rattle.lrat_checker.proofs.table.ClauseTable.all_answered.Goals.{After-drop_gone, After-deref-3}
 

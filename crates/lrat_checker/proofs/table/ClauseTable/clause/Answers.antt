@@ -1,11 +1,8 @@
-use Rattle.std.proofs.Common.{◌≡◌, ◌<◌, [], length, get_or, Some, None, false, sym, ap, ◌∙◌, subst, arith}
-use Rattle.std.specs.Prelude.{if◌then◌else◌}
-use Rattle.std.specs.Option.{option_copied}
+use Rattle.std.{proofs.Common.{◌≡◌, ◌<◌, [], length, get_or, Some, None, false, sym, ap, ◌∙◌, subst, arith, if◌then◌else◌}, specs.Option.option_copied}
 use Rattle.std.proofs.lemmas.List.{get_or_read}
 use Rattle.cnf_formula.specs.Formulas.{IsClause}
 use Rattle.proof_rules.specs.Held.{clause_at}
-use Rattle.lrat_checker.specs.Stored.{held_of}
-use Rattle.lrat_checker.proofs.Placed.{Others, not_held, held_at}
+use Rattle.lrat_checker.{specs.Stored.held_of, proofs.Placed.{Others, not_held, held_at}}
 use Rattle.lrat_checker.proofs.table.ClauseTable.clause.Goals as goal
 use Rattle.lrat_checker.proofs.table.ClauseTable.clause.Goals.{After-index}
 

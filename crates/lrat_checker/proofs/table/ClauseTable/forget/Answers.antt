@@ -1,10 +1,7 @@
-use Rattle.std.proofs.Common.{◌+◌, ◌<◌, ◌≤◌, ℕ, List, [], ◌∷◌, ◌++◌, false, length, get_or, sym, ap, ◌∙◌, subst, arith}
-use Rattle.std.specs.Prelude.{if◌then◌else◌}
+use Rattle.std.proofs.Common.{◌+◌, ◌<◌, ◌≤◌, ℕ, List, [], ◌∷◌, ◌++◌, false, length, get_or, sym, ap, ◌∙◌, subst, arith, if◌then◌else◌}
 use Rattle.std.proofs.lemmas.List.{get_or_read}
-use Rattle.cnf_formula.specs.Formulas.{IsClause}
-use Rattle.cnf_formula.specs.Literals.{LitValue}
-use Rattle.lrat_checker.specs.Stored.{TableValue, HasForgotten}
-use Rattle.lrat_checker.proofs.Forgotten.{IsPart, part_push, part_skip, part_all}
+use Rattle.cnf_formula.specs.{Formulas.IsClause, Literals.LitValue}
+use Rattle.lrat_checker.{specs.Stored.{TableValue, HasForgotten}, proofs.Forgotten.{IsPart, part_push, part_skip, part_all}}
 use Rattle.lrat_checker.proofs.table.ClauseTable.forget.Goals as goal
 use Rattle.lrat_checker.proofs.table.ClauseTable.forget.Goals.{then-held+in_ok-push, else-held+else-place-first}
 

@@ -1,14 +1,8 @@
-use Rattle.std.proofs.Common.{◌≡◌, ◌<◌, Bool, true, false, [], length, map, take, get_or, sym, ap, ◌∙◌, subst, arith}
-use Rattle.std.specs.List.{list_any}
+use Rattle.std.{proofs.Common.{◌≡◌, ◌<◌, Bool, true, false, [], length, map, take, get_or, sym, ap, ◌∙◌, subst, arith}, specs.List.list_any}
 use Rattle.std.proofs.lemmas.List.{get_or_read, length-map, take_all}
-use Rattle.cnf_formula.proofs.Codes.{code_within}
+use Rattle.cnf_formula.{proofs.Codes.code_within, specs.{Literals.{LitValue, has_literal, is_superset, code_of}, Formulas.IsAbout}}
 use Rattle.list_laws.proofs.Fronts.{at_map}
-use Rattle.cnf_formula.specs.Literals.{LitValue, has_literal, is_superset, code_of}
-use Rattle.cnf_formula.specs.Formulas.{IsAbout}
-use Rattle.lrat_checker.specs.inner.Leads.{signature_of}
-use Rattle.lrat_checker.specs.Stored.{list_at, finds}
-use Rattle.lrat_checker.proofs.Covered.{one_covered, none_covered}
-use Rattle.lrat_checker.proofs.Noted.{one_more}
+use Rattle.lrat_checker.{specs.{inner.Leads.signature_of, Stored.{list_at, finds}}, proofs.{Covered.{one_covered, none_covered}, Noted.one_more}}
 use Rattle.lrat_checker.proofs.table.ClauseTable.has_subset.Goals as goal
 use Rattle.lrat_checker.proofs.table.ClauseTable.has_subset.Goals.{After-deref-2, After-deref-in-loop-lit-2}
 

@@ -1,8 +1,6 @@
-use Rattle.std.proofs.Common.{◌≡◌, true, false, take, map}
-use Rattle.std.specs.List.{list_any}
+use Rattle.std.{proofs.Common.{◌≡◌, true, false, take, map}, specs.List.list_any}
 use Rattle.cnf_formula.specs.Literals.{LitValue, has_literal, code_of}
-use Rattle.lrat_checker.specs.inner.Leads.{signature_of}
-use Rattle.lrat_checker.specs.Stored.{list_at, finds}
+use Rattle.lrat_checker.specs.{inner.Leads.signature_of, Stored.{list_at, finds}}
 use Rattle.lrat_checker.proofs.table.ClauseTable.has_subset.Given as goal
 
 abbrev pub invariant-loop-lit : goal.invariant-loop-lit

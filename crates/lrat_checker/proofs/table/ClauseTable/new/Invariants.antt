@@ -1,5 +1,4 @@
-use Rattle.std.proofs.Common.{◌≡◌, take}
-use Rattle.std.specs.List.{enumerate_from}
+use Rattle.std.{proofs.Common.{◌≡◌, take}, specs.List.enumerate_from}
 use Rattle.lrat_checker.proofs.table.ClauseTable.new.Given as goal
 
 abbrev pub invariant-loop-place : goal.invariant-loop-place

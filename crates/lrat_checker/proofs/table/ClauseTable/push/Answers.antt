@@ -1,13 +1,9 @@
-use Rattle.std.proofs.Common.{◌≡◌, ◌<◌, ℕ, Bool, List, [], ◌∷◌, ◌++◌, length, map, refl, sym, ap, ◌∙◌, subst, arith}
+use Rattle.std.proofs.Common.{◌≡◌, ◌<◌, ℕ, Bool, List, [], ◌∷◌, ◌++◌, length, map, refl, sym, ap, ◌∙◌, subst, arith, Contains, if◌then◌else◌}
 use Rattle.std.proofs.lemmas.List.{length-map}
-use Rattle.std.specs.Prelude.{Contains, if◌then◌else◌}
-use Rattle.cnf_formula.specs.Literals.{LitValue, code_of}
-use Rattle.cnf_formula.specs.Formulas.{IsClause}
+use Rattle.cnf_formula.specs.{Literals.{LitValue, code_of}, Formulas.IsClause}
 use Rattle.proof_rules.specs.Held.{Entry}
 use Rattle.lrat_checker.specs.Stored.{TableValue, IsStored, held_of, last_of, list_at, led_as}
-use Rattle.lrat_checker.proofs.Placed.{held_push, last_push}
-use Rattle.lrat_checker.proofs.Noted.{indexed_push, led_push, stored_grown, stored_push}
-use Rattle.lrat_checker.proofs.Led.{lead_within}
+use Rattle.lrat_checker.proofs.{Placed.{held_push, last_push}, Noted.{indexed_push, led_push, stored_grown, stored_push}, Led.lead_within}
 use Rattle.lrat_checker.proofs.table.ClauseTable.push.Goals as goal
 use Rattle.lrat_checker.proofs.table.ClauseTable.push.Goals.{After-note_literals, After-note}
 

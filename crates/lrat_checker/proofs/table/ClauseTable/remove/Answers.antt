@@ -1,13 +1,8 @@
-use Rattle.std.proofs.Common.{◌≡◌, ◌⊎◌, Bool, List, map, length, sym, ap, ◌∙◌, subst, inl, inr, ⊎_elim, arith}
-use Rattle.std.specs.Prelude.{◌&&◌, not, filter, ◌==◌}
-use Rattle.std.specs.List.{list_any, list_all}
-use Rattle.std.proofs.lemmas.Bool.{cases_Bool}
-use Rattle.std.proofs.lemmas.List.{with_items_is}
-use Rattle.proof_rules.specs.Held.{Entry}
-use Rattle.proof_rules.specs.Testing.{are_held, has_number_twice}
+use Rattle.std.proofs.Common.{◌≡◌, ◌⊎◌, Bool, List, map, length, sym, ap, ◌∙◌, subst, inl, inr, ⊎_elim, arith, ◌&&◌, not, filter, ◌==◌}
+use Rattle.std.{specs.List.{list_any, list_all}, proofs.lemmas.{Bool.cases_Bool, List.with_items_is}}
+use Rattle.proof_rules.specs.{Held.Entry, Testing.{are_held, has_number_twice}}
 use Rattle.lrat_checker.specs.Stored.{TableValue, held_of, last_of, is_live, kept_live, IsStored}
-use Rattle.lrat_checker.proofs.Removed.{all_held_live, held_kept, kept_long}
-use Rattle.lrat_checker.proofs.Cleaned.{stored_let_go}
+use Rattle.lrat_checker.proofs.{Removed.{all_held_live, held_kept, kept_long}, Cleaned.stored_let_go}
 use Rattle.lrat_checker.proofs.table.ClauseTable.remove.Goals as goal
 
 pub returns-clause-answer : goal.returns-clause-answer

@@ -1,8 +1,6 @@
-use Rattle.std.proofs.Common.{drop, length, slice_range, ap, ◌∙◌}
-use Rattle.std.proofs.lemmas.List.{take_rest}
+use Rattle.std.proofs.{Common.{drop, length, slice_range, ap, ◌∙◌}, lemmas.List.take_rest}
 use Rattle.text_lines.specs.Text.{rows_of}
-use Rattle.lrat_text.proofs.Memory.{said_told}
-use Rattle.lrat_text.proofs.Passing.{taken_off}
+use Rattle.lrat_text.proofs.{Memory.said_told, Passing.taken_off}
 use Rattle.lrat_text.proofs.reader.LratReader.next_line.Goals as goal
 
 pub invariant_of-self : goal.invariant_of-self

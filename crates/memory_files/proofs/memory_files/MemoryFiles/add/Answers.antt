@@ -1,5 +1,4 @@
-use Rattle.std.proofs.Common.{◌≡◌, ◌∙◌, [], ◌∷◌, ◌++◌, arith, length, refl, rules}
-use Rattle.std.proofs.lemmas.Map.Text.{text_keys}
+use Rattle.std.proofs.{Common.{◌≡◌, ◌∙◌, [], ◌∷◌, ◌++◌, arith, length, refl, rules}, lemmas.Map.Text.text_keys}
 use Rattle.memory_files.proofs.Pushed.{bytes_pushed, past_end}
 use Rattle.memory_files.proofs.memory_files.MemoryFiles.add.Goals as goal
 

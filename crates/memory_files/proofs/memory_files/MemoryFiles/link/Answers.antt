@@ -1,5 +1,4 @@
-use Rattle.std.proofs.Common.{arith}
-use Rattle.std.proofs.lemmas.Map.Text.{text_keys}
+use Rattle.std.proofs.{Common.arith, lemmas.Map.Text.text_keys}
 use Rattle.memory_files.proofs.memory_files.MemoryFiles.link.Goals as goal
 
 pub invariant_of-self : goal.invariant_of-self

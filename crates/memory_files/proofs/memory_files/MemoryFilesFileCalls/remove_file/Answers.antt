@@ -1,6 +1,4 @@
-use Rattle.std.proofs.Common.{arith, refl}
-use Rattle.std.proofs.lemmas.Map.Text.{text_keys}
-use Rattle.std.proofs.Common.{rules}
+use Rattle.std.proofs.{Common.{arith, refl, rules}, lemmas.Map.Text.text_keys}
 use Rattle.memory_files.proofs.memory_files.MemoryFilesFileCalls.remove_file.Goals as goal
 
 pub invariant_of-self : goal.invariant_of-self

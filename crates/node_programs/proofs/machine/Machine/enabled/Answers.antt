@@ -1,8 +1,5 @@
-use Rattle.std.proofs.Common.{◌≡◌, ◌+◌, ◌*◌, ◌<◌, get_or, Some, [], sym, ap, ◌∙◌, arith}
-use Rattle.std.specs.Prelude.{slice_get}
-use Rattle.node_programs.specs.declared.op.Op.{Op}
-use Rattle.node_programs.specs.declared.op.Op.TheVariants.{Take}
-use Rattle.node_programs.proofs.Firing.{next_below, place_inside}
+use Rattle.std.proofs.Common.{◌≡◌, ◌+◌, ◌*◌, ◌<◌, get_or, Some, [], sym, ap, ◌∙◌, arith, slice_get}
+use Rattle.node_programs.{specs.declared.op.Op.{Op, TheVariants.Take}, proofs.Firing.{next_below, place_inside}}
 use Rattle.node_programs.proofs.machine.Machine.enabled.Goals as goal
 
 pub starts_at-requires : goal.starts_at-requires

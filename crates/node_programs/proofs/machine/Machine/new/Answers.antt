@@ -1,7 +1,5 @@
 use Rattle.std.proofs.Common.{◌≡◌, ◌∙◌, ap}
-use Rattle.node_programs.specs.Queues.{new_queues}
-use Rattle.node_programs.proofs.Firing.{state_of}
-use Rattle.node_programs.proofs.Founding.{machine_new, state_new}
+use Rattle.node_programs.{specs.Queues.new_queues, proofs.{Firing.state_of, Founding.{machine_new, state_new}}}
 use Rattle.node_programs.proofs.machine.Machine.new.Goals as goal
 
 pub invariant_of-result : goal.invariant_of-result

@@ -1,5 +1,4 @@
-use Rattle.std.proofs.Common.{sym}
-use Rattle.std.proofs.lemmas.List.{drop-drop}
+use Rattle.std.proofs.{Common.sym, lemmas.List.drop-drop}
 use Rattle.node_programs.proofs.program.Program.advance.Goals as goal
 
 pub returns : goal.returns

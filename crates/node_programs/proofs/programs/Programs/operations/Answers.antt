@@ -1,7 +1,4 @@
-use Rattle.std.proofs.Common.{◌≡◌, length, ap, sym, ◌∙◌, get_or, arith}
-use Rattle.std.specs.Prelude.{sum_by}
-use Rattle.std.proofs.lemmas.List.{take_all}
-use Rattle.std.proofs.lemmas.List.Sums.{sum_by_more_le}
+use Rattle.std.proofs.{Common.{◌≡◌, length, ap, sym, ◌∙◌, get_or, arith, sum_by}, lemmas.List.{take_all, Sums.sum_by_more_le}}
 use Rattle.node_programs.proofs.Ends.{counted}
 use Rattle.node_programs.proofs.programs.Programs.operations.Goals as goal
 

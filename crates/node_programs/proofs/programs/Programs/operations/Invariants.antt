@@ -1,5 +1,4 @@
-use Rattle.std.proofs.Common.{◌≡◌, length, take}
-use Rattle.std.specs.Prelude.{sum_by}
+use Rattle.std.proofs.Common.{◌≡◌, length, take, sum_by}
 use Rattle.node_programs.proofs.programs.Programs.operations.Given as goal
 
 abbrev pub invariant-loop-program : goal.invariant-loop-program

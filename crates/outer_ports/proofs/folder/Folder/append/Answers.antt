@@ -1,7 +1,5 @@
-use Rattle.std.proofs.Common.{ap}
-use Rattle.std.specs.Prelude.{⊤}
-use Rattle.outer_ports.proofs.Folders.{held_spared, held_stays, read_spared, read_stays, written_here, written_others}
-use Rattle.outer_ports.proofs.OpenKinds.{held_before}
+use Rattle.std.{proofs.Common.ap, specs.Prelude.⊤}
+use Rattle.outer_ports.proofs.{Folders.{held_spared, held_stays, read_spared, read_stays, written_here, written_others}, OpenKinds.held_before}
 use Rattle.outer_ports.proofs.folder.Folder.append.Goals as goal
 
 pub invariant_of-self-in-Ok-1 : goal.invariant_of-self-in-Ok-1

@@ -1,9 +1,6 @@
 use Rattle.std.proofs.Common.{◌≡◌, ◌∙◌, [], Some, ap, rules, string_bytes}
-use Rattle.outer_ports.specs.Folders.{files_in_folder, fresh_in, path_in}
-use Rattle.outer_ports.specs.Shelf.{FilesStay}
-use Rattle.outer_ports.specs.inner.Keeping.{IsNeither, IsOther, IsOwn, Spares}
-use Rattle.outer_ports.proofs.Entries.{on_err}
-use Rattle.outer_ports.proofs.Folders.{all_held, all_read, begun_held, begun_others, begun_read, fault_files, fault_held, fault_read, file_is}
+use Rattle.outer_ports.specs.{Folders.{files_in_folder, fresh_in, path_in}, Shelf.FilesStay, inner.Keeping.{IsNeither, IsOther, IsOwn, Spares}}
+use Rattle.outer_ports.proofs.{Entries.on_err, Folders.{all_held, all_read, begun_held, begun_others, begun_read, fault_files, fault_held, fault_read, file_is}}
 use Rattle.outer_ports.proofs.folder.Folder.begin.Goals as goal
 
 pub invariant_of-self : goal.invariant_of-self

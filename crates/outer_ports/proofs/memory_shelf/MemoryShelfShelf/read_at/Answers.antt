@@ -1,5 +1,4 @@
-use Rattle.std.proofs.Common.{◌≡◌, ap, arith}
-use Rattle.std.proofs.lemmas.Grind.{common_steps}
+use Rattle.std.proofs.{Common.{◌≡◌, ap, arith}, lemmas.Grind.common_steps}
 use Rattle.outer_ports.proofs.Buffers.{read_longer}
 use Rattle.outer_ports.proofs.memory_shelf.MemoryShelfShelf.read_at.Goals as goal
 

@@ -1,5 +1,4 @@
-use Rattle.std.proofs.Common.{rules, arith}
-use Rattle.std.proofs.lemmas.Grind.{common_steps}
+use Rattle.std.proofs.{Common.{rules, arith}, lemmas.Grind.common_steps}
 use Rattle.outer_ports.proofs.Pieces.{given}
 use Rattle.outer_ports.proofs.memory_source.MemorySourceSource.read.Goals as goal
 

@@ -1,7 +1,5 @@
-use Rattle.std.proofs.Common.{◌∙◌, ap, rules, take}
-use Rattle.std.proofs.lemmas.Slice.{pushed}
-use Rattle.outer_ports.proofs.Pieces.{fitting}
-use Rattle.outer_ports.specs.Memory.{sink_room}
+use Rattle.std.proofs.{Common.{◌∙◌, ap, rules, take}, lemmas.Slice.pushed}
+use Rattle.outer_ports.{proofs.Pieces.fitting, specs.Memory.sink_room}
 use Rattle.outer_ports.proofs.sure_sink.SureSinkSink.write.Goals as goal
 
 pub returns-clause-kept : goal.returns-clause-kept

@@ -1,8 +1,5 @@
-use Rattle.std.proofs.Common.{ap, ◌∙◌, subst, List}
-use Rattle.std.specs.Prelude.{◌↔◌, IsTrue, Any}
-use Rattle.std.proofs.lemmas.Bool.{iff_false}
-use Rattle.candidate_order.specs.Costs.{Better}
-use Rattle.candidate_order.specs.Frontiers.{UnknownValue}
+use Rattle.std.proofs.{Common.{ap, ◌∙◌, subst, List, ◌↔◌, IsTrue, Any}, lemmas.Bool.iff_false}
+use Rattle.candidate_order.specs.{Costs.Better, Frontiers.UnknownValue}
 use Rattle.pareto_search.proofs.Costs.{marked_optimal, marked_open}
 use Rattle.pareto_search.proofs.findings.Findings.mark_of.Goals as goal
 

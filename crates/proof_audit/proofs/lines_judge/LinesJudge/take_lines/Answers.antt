@@ -1,10 +1,6 @@
-use Rattle.std.proofs.Common.{◌≡◌, None, Some, Ok, Err, sym, ap, ◌∙◌}
-use Rattle.std.specs.Prelude.{◌≢◌}
-use Rattle.lrat_text.specs.declared.fault.LratTextFault.TheVariants.{OutOfMemory}
-use Rattle.lrat_text.specs.Reading.{fault_of}
-use Rattle.lrat_text.proofs.Remaining.{left_finished}
-use Rattle.proof_audit.specs.inner.Lines.{left_says}
-use Rattle.proof_audit.proofs.Saying.{said_one, passes_line, fails_line}
+use Rattle.std.proofs.Common.{◌≡◌, None, Some, Ok, Err, sym, ap, ◌∙◌, ◌≢◌}
+use Rattle.lrat_text.{specs.{declared.fault.LratTextFault.TheVariants.OutOfMemory, Reading.fault_of}, proofs.Remaining.left_finished}
+use Rattle.proof_audit.{specs.inner.Lines.left_says, proofs.Saying.{said_one, passes_line, fails_line}}
 use Rattle.proof_audit.proofs.lines_judge.LinesJudge.take_lines.Goals as goal
 
 pub returns-then-not-branch-clause-over : goal.returns-then-not-branch-clause-over

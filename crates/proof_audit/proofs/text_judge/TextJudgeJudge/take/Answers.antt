@@ -1,5 +1,4 @@
-use Rattle.std.proofs.Common.{◌-◌, length, take, drop, sym, ap, ◌∙◌}
-use Rattle.std.specs.Prelude.{bytes_eq}
+use Rattle.std.proofs.Common.{◌-◌, length, take, drop, sym, ap, ◌∙◌, bytes_eq}
 use Rattle.outer_ports.proofs.Pieces.{rest-all}
 use Rattle.proof_audit.proofs.Compared.{not_begun, begun}
 use Rattle.proof_audit.proofs.text_judge.TextJudgeJudge.take.Goals as goal

@@ -1,5 +1,4 @@
-use Rattle.std.proofs.Common.{length, sym, ap, ◌∙◌, subst}
-use Rattle.std.specs.Prelude.{All}
+use Rattle.std.proofs.Common.{length, sym, ap, ◌∙◌, subst, All}
 use Rattle.sleeping_clauses.specs.Naming.{IsName}
 use Rattle.sleeping_clauses.proofs.awake.Awake.named.Goals as goal
 

@@ -1,6 +1,4 @@
-use Rattle.std.proofs.Common.{◌+◌, [], ◌∷◌, ◌++◌, length, ap, ◌∙◌, sym, arith}
-use Rattle.std.specs.List.{range_with_len}
-use Rattle.std.proofs.lemmas.List.FromFn.{length-range_with_len}
+use Rattle.std.{proofs.{Common.{◌+◌, [], ◌∷◌, ◌++◌, length, ap, ◌∙◌, sym, arith}, lemmas.List.FromFn.length-range_with_len}, specs.List.range_with_len}
 use Rattle.sleeping_clauses.proofs.Listed.{range_more}
 use Rattle.sleeping_clauses.proofs.awake.Awake.of_formula.Goals as goal
 

@@ -1,6 +1,4 @@
-use Rattle.std.proofs.Common.{◌≡◌, ◌+◌, ◌≤◌}
-use Rattle.std.specs.Prelude.{vec_capacity}
-use Rattle.std.specs.List.{range_with_len}
+use Rattle.std.{proofs.Common.{◌≡◌, ◌+◌, ◌≤◌, vec_capacity}, specs.List.range_with_len}
 use Rattle.sleeping_clauses.proofs.awake.Awake.of_formula.Given as goal
 
 abbrev pub invariant-loop-number : goal.invariant-loop-number

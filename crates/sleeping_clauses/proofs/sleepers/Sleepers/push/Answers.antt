@@ -1,9 +1,5 @@
-use Rattle.std.proofs.Common.{◌≡◌, ◌≤◌, ◌+◌, ◌*◌, true, refl, [], ◌∷◌, ◌++◌, length, map, ap, ◌∙◌, subst, arith}
-use Rattle.std.proofs.lemmas.List.{length-map}
-use Rattle.std.specs.Prelude.{Contains}
-use Rattle.sleeping_clauses.specs.declared.sleepers.Led.{Led}
-use Rattle.sleeping_clauses.specs.Sleeping.{list_at, IsLed}
-use Rattle.sleeping_clauses.proofs.Stored.{stored_push}
+use Rattle.std.proofs.{Common.{◌≡◌, ◌≤◌, ◌+◌, ◌*◌, true, refl, [], ◌∷◌, ◌++◌, length, map, ap, ◌∙◌, subst, arith, Contains}, lemmas.List.length-map}
+use Rattle.sleeping_clauses.{specs.{declared.sleepers.Led.Led, Sleeping.{list_at, IsLed}}, proofs.Stored.stored_push}
 use Rattle.sleeping_clauses.proofs.sleepers.Sleepers.push.Goals as goal
 
 pub invariant_of-self-2 : goal.invariant_of-self-2

@@ -1,8 +1,6 @@
-use Rattle.std.proofs.Common.{◌≡◌, ◌<◌, false, true, [], length, get_or, map, sym, ap, subst}
-use Rattle.std.specs.Prelude.{Contains}
+use Rattle.std.proofs.Common.{◌≡◌, ◌<◌, false, true, [], length, get_or, map, sym, ap, subst, Contains}
 use Rattle.cnf_formula.specs.Literals.{code_of}
-use Rattle.sleeping_clauses.specs.Sleeping.{IsCover, list_at}
-use Rattle.sleeping_clauses.proofs.Found.{match_as, none_found}
+use Rattle.sleeping_clauses.{specs.Sleeping.{IsCover, list_at}, proofs.Found.{match_as, none_found}}
 use Rattle.sleeping_clauses.proofs.sleepers.Sleepers.subset_of.Goals as goal
 
 pub returns-clause-found : goal.returns-clause-found

@@ -1,7 +1,5 @@
-use Rattle.std.proofs.Common.{◌≡◌, ◌++◌, length, drop, replicate, refl, sym, ap, ◌∙◌}
-use Rattle.std.proofs.lemmas.List.{drop-replicate}
-use Rattle.topology_text.specs.Names.{padded}
-use Rattle.topology_text.proofs.Kept.{kept}
+use Rattle.std.proofs.{Common.{◌≡◌, ◌++◌, length, drop, replicate, refl, sym, ap, ◌∙◌}, lemmas.List.drop-replicate}
+use Rattle.topology_text.{specs.Names.padded, proofs.Kept.kept}
 use Rattle.topology_text.proofs.name.Name.of_bytes.Goals as goal
 
 pub invariant_of-result : goal.invariant_of-result
