@@ -15,10 +15,8 @@ use Rattle.report_form.proofs.ListsTaken.{AreListed, none_listed, refuted_takes,
 use Rattle.report_form.proofs.{PointsTaken.{ArePoints, no_points, point_steps}, JoinedTaken.{joined_steps, no_joined}}
 
 pub part_tokens : (x : Part) → words_of (part_bytes x) ≡ part_words x
-part_tokens part.Whole = refl
-part_tokens part.Reduce = refl
-part_tokens part.Gather = refl
 part_tokens part.Joined = refl
+part_tokens x = refl
 
 abbrev pub frontier : List PointValue → List Candidate → List UnknownValue → FrontierValue
 frontier points refuted unknown = record { points = points; refuted = refuted; unknown = unknown }
@@ -105,14 +103,6 @@ module _ (words : WordsValue) (t : NamedTopologyValue) (as_many : length t.names
   -- ---- joined points
 
   pub joined_gives : IsLimits words.limits → (k : Kind) (p : Place) → GivesPart (joined_lines t.names k) (AreJoined words t k) p (joined_at k words t p)
-  joined_gives ok kind.Broadcast p = gives_done _ (record { valid = none_joined words t kind.Broadcast; lines = here p })
-  joined_gives ok kind.Gather p = gives_done _ (record { valid = none_joined words t kind.Gather; lines = here p })
-  joined_gives ok kind.Allgather p = gives_done _ (record { valid = none_joined words t kind.Allgather; lines = here p })
-  joined_gives ok kind.Scatter p = gives_done _ (record { valid = none_joined words t kind.Scatter; lines = here p })
-  joined_gives ok kind.Alltoall p = gives_done _ (record { valid = none_joined words t kind.Alltoall; lines = here p })
-  joined_gives ok kind.Reduce p = gives_done _ (record { valid = none_joined words t kind.Reduce; lines = here p })
-  joined_gives ok kind.Reducescatter p = gives_done _ (record { valid = none_joined words t kind.Reducescatter; lines = here p })
-  joined_gives ok kind.Custom p = gives_done _ (record { valid = none_joined words t kind.Custom; lines = here p })
   joined_gives ok kind.Allreduce p =
       let q = question_of words t part.Joined in
       let title : List (List (List ℕ)) = part_words part.Joined ∷ [] in
@@ -123,3 +113,4 @@ module _ (words : WordsValue) (t : NamedTopologyValue) (as_many : length t.names
       (λ e s. record { value = s.value; valid = all_are s.value s.valid; cut = cut_on title (flat_map (point_lines t.names) s.value) p h.1 e.1 head.1 s.cut })
       (λ x points. record { valid = all_are x.0 points.valid; lines = then_on title (flat_map (point_lines t.names) x.0) p h.1 x.1 head.1 points.lines })
       (parts_give (codes "point ") (joined_point_at t.names q) (point_lines t.names) (λ ps. All (IsJoinedPoint q) ps) (joined_steps t.names q as_many ok) (no_joined t.names q as_many) h.1))
+  joined_gives ok k p = gives_done _ (record { valid = none_joined words t k; lines = here p })

@@ -30,15 +30,8 @@ Titles [] = Unit {0}
 Titles (part ∷ parts) = IsTitle part × Titles parts
 
 titles_of : (k : Kind) → Titles (parts_of k)
-titles_of kind.Broadcast = (refl, tt)
-titles_of kind.Gather = (refl, tt)
-titles_of kind.Allgather = (refl, tt)
-titles_of kind.Scatter = (refl, tt)
-titles_of kind.Alltoall = (refl, tt)
-titles_of kind.Reduce = (refl, tt)
-titles_of kind.Reducescatter = (refl, tt)
 titles_of kind.Allreduce = (refl, (refl, tt))
-titles_of kind.Custom = (refl, tt)
+titles_of k = (refl, tt)
 
 -- no line may stand there
 none_goes : (row : Row) → Gives (λ (why : ReportCode). why ≡ told_code false row) (λ (u : Unit {0}). Unit {0}) (no_line (Some row))
@@ -58,17 +51,10 @@ module _ (rows : List Row) (words : WordsValue) (t : NamedTopologyValue) where
   InSection x = (joined : Bool) × At rows t.names joined [] x.1
 
   joined_goes : (k : Kind) (p : Place) → At rows t.names false [] p → Gives (Coded rows) InSection (joined_at k words t p)
-  joined_goes kind.Broadcast p at = gives_done _ (false, at)
-  joined_goes kind.Gather p at = gives_done _ (false, at)
-  joined_goes kind.Allgather p at = gives_done _ (false, at)
-  joined_goes kind.Scatter p at = gives_done _ (false, at)
-  joined_goes kind.Alltoall p at = gives_done _ (false, at)
-  joined_goes kind.Reduce p at = gives_done _ (false, at)
-  joined_goes kind.Reducescatter p at = gives_done _ (false, at)
-  joined_goes kind.Custom p at = gives_done _ (false, at)
   joined_goes kind.Allreduce p at =
       goes_on _ (λ h. parts_at (codes "point ") (joined_point_at t.names (question_of words t Joined)) h.1) (title_goes rows t.names false true (part_bytes Joined) (codes "joined") (results true) refl refl (λ b. refl) p at)
       (λ h read here. gives_like (λ e coded. coded) (λ x last. (true, last)) (joined_points_go rows t.names (question_of words t Joined) h.1 here))
+  joined_goes k p at = gives_done _ (false, at)
 
   nothing_goes : (joined : Bool) (p : Place) → At rows t.names joined [] p → Gives (Coded rows) (λ (x : Unit {0} × Place). Unit {0}) (line_part no_line p)
   nothing_goes joined p at = part_goes (Coded rows) (λ (x : Unit {0} × Place). Unit {0}) no_line p (by_line (first p.rows) refl)

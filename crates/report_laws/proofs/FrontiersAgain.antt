@@ -31,20 +31,16 @@ pub end_ends : (rows : List Row) → EndsPart (row_of (codes "end" ∷ []) ∷ r
 end_ends rows = record { group = refl; custom = refl; point = refl; send = refl; refuted = refl; unknown = refl }
 
 pub part_ends : (x : Part) (rows : List Row) → EndsPart (row_of (part_words x) ∷ rows)
-part_ends part.Whole rows = record { group = refl; custom = refl; point = refl; send = refl; refuted = refl; unknown = refl }
-part_ends part.Reduce rows = record { group = refl; custom = refl; point = refl; send = refl; refuted = refl; unknown = refl }
-part_ends part.Gather rows = record { group = refl; custom = refl; point = refl; send = refl; refuted = refl; unknown = refl }
 part_ends part.Joined rows = record { group = refl; custom = refl; point = refl; send = refl; refuted = refl; unknown = refl }
+part_ends x rows = record { group = refl; custom = refl; point = refl; send = refl; refuted = refl; unknown = refl }
 
 pub groups_end : (rows : List Row) → Ends (codes "group ") rows → EndsGroups rows
 groups_end [] ends = tt
 groups_end (row ∷ rows) ends = ends
 
 part_line : (x : Part) → (row_of (part_words x)).bytes ≡ part_bytes x
-part_line part.Whole = refl
-part_line part.Reduce = refl
-part_line part.Gather = refl
 part_line part.Joined = refl
+part_line x = refl
 
 -- there are no more parts than lines
 parts_fit : {A : Type 0} (spell : A → List (List (List ℕ))) → ((x : A) → 1 ≤ length (spell x)) → (xs : List A) (rest : List Row) → length xs ≤ length (map row_of (flat_map spell xs) ++ rest)
@@ -114,28 +110,14 @@ module _ (words : WordsValue) (t : NamedTopologyValue) (as_many : length t.names
 
   pub joined_again : (k : Kind) (js : List PointValue) (n : ℕ) (rest : List Row) → All (IsJoinedPoint (question_of words t part.Joined)) js → (k ≢ kind.Allreduce → js ≡ []) → EndsPart rest
       → Reads (joined_at k words t (place n (map row_of (joined_lines t.names k js) ++ rest))) js rest
-  joined_again kind.Broadcast js n rest all only ends = none_again js n rest (only (λ e. cc))
-  joined_again kind.Gather js n rest all only ends = none_again js n rest (only (λ e. cc))
-  joined_again kind.Allgather js n rest all only ends = none_again js n rest (only (λ e. cc))
-  joined_again kind.Scatter js n rest all only ends = none_again js n rest (only (λ e. cc))
-  joined_again kind.Alltoall js n rest all only ends = none_again js n rest (only (λ e. cc))
-  joined_again kind.Reduce js n rest all only ends = none_again js n rest (only (λ e. cc))
-  joined_again kind.Reducescatter js n rest all only ends = none_again js n rest (only (λ e. cc))
-  joined_again kind.Custom js n rest all only ends = none_again js n rest (only (λ e. cc))
   joined_again kind.Allreduce js n rest all only ends =
       let q = question_of words t part.Joined in
       let rows : List Row = map row_of (flat_map (point_lines t.names) js) ++ rest in
       reads_then _ (λ h. parts_at (codes "point ") (joined_point_at t.names q) h.1) (fixed_part_again (part_bytes part.Joined) (part_words part.Joined) n rows refl)
       (λ k. parts_again (codes "point ") (joined_point_at t.names q) (point_lines t.names) (λ ps. All (IsJoinedPoint q) ps) (Ends (codes "send ")) (joined_reads t.names q as_many named ok (base_of words t part.Joined pattern)) (length rows) [] js k rest (points_fit t.names js rest) all ends.point ends.send)
+  joined_again k js n rest all only ends = none_again js n rest (only (λ e. cc))
 
   -- what follows the frontiers: the line of the joined points, or what follows them
   pub joined_end : (k : Kind) (js : List PointValue) (rest : List Row) → EndsPart rest → EndsPart (map row_of (joined_lines t.names k js) ++ rest)
-  joined_end kind.Broadcast js rest ends = ends
-  joined_end kind.Gather js rest ends = ends
-  joined_end kind.Allgather js rest ends = ends
-  joined_end kind.Scatter js rest ends = ends
-  joined_end kind.Alltoall js rest ends = ends
-  joined_end kind.Reduce js rest ends = ends
-  joined_end kind.Reducescatter js rest ends = ends
-  joined_end kind.Custom js rest ends = ends
   joined_end kind.Allreduce js rest ends = part_ends part.Joined (map row_of (flat_map (point_lines t.names) js) ++ rest)
+  joined_end k js rest ends = ends

@@ -23,15 +23,8 @@ module _ (words : WordsValue) (t : NamedTopologyValue) where
   steady_frontiers (x ∷ parts) = steady_next _ _ _ _ (steady_frontier t.names (question_of words t x) x) (λ f. steady_next _ _ _ _ (steady_frontiers parts) (λ rest. steady_found ((x, f) ∷ rest)))
 
   steady_joined : (k : Kind) → Steady (joined_at k words t) (joined_at k words t)
-  steady_joined kind.Broadcast = steady_found []
-  steady_joined kind.Gather = steady_found []
-  steady_joined kind.Allgather = steady_found []
-  steady_joined kind.Scatter = steady_found []
-  steady_joined kind.Alltoall = steady_found []
-  steady_joined kind.Reduce = steady_found []
-  steady_joined kind.Reducescatter = steady_found []
-  steady_joined kind.Custom = steady_found []
   steady_joined kind.Allreduce = steady_next _ _ _ _ (steady_line (fixed_line (part_bytes part.Joined))) (λ u. steady_joined_points t.names (question_of words t part.Joined))
+  steady_joined k = steady_found []
 
   settles_body : Settles (body_of words t) (body_of words t)
   unfolding body_of

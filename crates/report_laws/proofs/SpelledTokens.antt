@@ -37,16 +37,9 @@ module _ (names : List (List ℕ)) (q : QuestionValue) (as_many : length names �
   )
 
   pub joined_lines_are_tokens : (k : Kind) (js : List PointValue) → All (IsJoinedPoint q) js → AllByRecursion AreTokens (joined_lines names k js)
-  joined_lines_are_tokens kind.Broadcast js all = tt
-  joined_lines_are_tokens kind.Gather js all = tt
-  joined_lines_are_tokens kind.Allgather js all = tt
-  joined_lines_are_tokens kind.Scatter js all = tt
-  joined_lines_are_tokens kind.Alltoall js all = tt
-  joined_lines_are_tokens kind.Reduce js all = tt
-  joined_lines_are_tokens kind.Reducescatter js all = tt
-  joined_lines_are_tokens kind.Custom js all = tt
   joined_lines_are_tokens kind.Allreduce js all =
       (part_tokens part.Joined, parts_are_tokens (IsJoinedPoint q) (point_lines names) (joined_are_tokens names q as_many named ok base) js all)
+  joined_lines_are_tokens k js all = tt
 
 version_tokens : (c : Option PatternValue) → AreTokens (codes "sccl" ∷ version_word c ∷ [])
 version_tokens None = tokens_from (codes "sccl" ∷ codes "1" ∷ []) (omega arith) (literal (codes "sccl") refl, (literal (codes "1") refl, tt))

@@ -1,45 +1,47 @@
 -- The line that says what was asked is read, where it is spelled.
-use Rattle.std.proofs.Common.{◌≡◌, ℕ, ◌<◌, ◌^◌, Bool, true, false, ◌||◌, not, List, [], ◌∷◌, ◌++◌, length, Option, None, Some, Result, Ok, refl, sym, ap, arith, codes, decimal, if◌then◌else◌}
-use Rattle.std.proofs.lemmas.{Bool.and_from, List.{length-append, Elements.All-get_or}}
-use Rattle.text_lines.specs.{Text.Row, Check.{◌>>=◌, need, line_part}}
-use Rattle.text_lines.proofs.{Rows.{AreTokens, row_of}, Words.{IsWord, AreWords, literal, decimal_word, token-append, tokens_from}}
-use Rattle.collective_spec.specs.{declared.kind.Kind.Kind, Kinds.{word_of, takes_root, is_custom}}
-use Rattle.collective_spec.specs.declared.kind.Kind.TheVariants.{Broadcast, Gather, Allgather, Scatter, Alltoall, Reduce, Reducescatter, Allreduce, Custom}
-use Rattle.candidate_order.specs.{declared.pruning.Pruning.Pruning, Ranges.{LimitsValue, IsLimits, unpruned}}
-use Rattle.topology_text.specs.{Names.{is_name, name_of, AreNames}, Spelling.name_at}
-use Rattle.topology_text.proofs.{Front.{name_word, name_of_name}, Groups.place, Links.node_again}
-use Rattle.report_form.specs.{declared.fault.ReportCode.ReportCode, Reports.{WordsValue, IsWords}, Spelling.{root_words, word_if, pruning_words, synth_words}}
-use Rattle.report_form.specs.{Tests.are_limits, Fields.{any_number, next_keyed}}
-use Rattle.report_form.specs.SynthLine.{AskedValue, kind_named, limits_from, pruning_from, asked_from, may_be_asked, asked_line, root_of}
-use Rattle.report_form.proofs.{Tested.decides_limits, SynthLineTaken.{limits_words, pruned}}
+use Rattle.std.proofs.Common.{◌≡◌, ℕ, ◌<◌, ◌^◌, Bool, true, false, ◌||◌, not, List, [], ◌∷◌, ◌++◌, length, Option, None, Some, Result, Ok, refl, sym, ap, arith}
+use Rattle.std.specs.Prelude.{codes, decimal, if◌then◌else◌}
+use Rattle.std.proofs.lemmas.Bool.{and_from}
+use Rattle.std.proofs.lemmas.List.{length-append}
+use Rattle.std.proofs.lemmas.List.Elements.{All-get_or}
+use Rattle.text_lines.specs.Text.{Row}
+use Rattle.text_lines.specs.Check.{◌>>=◌, need, line_part}
+use Rattle.text_lines.proofs.Rows.{AreTokens, row_of}
+use Rattle.text_lines.proofs.Words.{IsWord, AreWords, literal, decimal_word, token-append, tokens_from}
+use Rattle.collective_spec.specs.declared.kind.Kind.{Kind}
+use Rattle.collective_spec.specs.declared.kind.Kind.TheVariants.{Custom}
+use Rattle.collective_spec.specs.Kinds.{word_of, takes_root, is_custom}
+use Rattle.candidate_order.specs.declared.pruning.Pruning.{Pruning}
+use Rattle.candidate_order.specs.Ranges.{LimitsValue, IsLimits, unpruned}
+use Rattle.topology_text.specs.Names.{is_name, name_of, AreNames}
+use Rattle.topology_text.specs.Spelling.{name_at}
+use Rattle.topology_text.proofs.Front.{name_word, name_of_name}
+use Rattle.topology_text.proofs.Groups.{place}
+use Rattle.topology_text.proofs.Links.{node_again}
+use Rattle.report_form.specs.declared.fault.ReportCode.{ReportCode}
 use Rattle.report_form.specs.declared.fault.ReportCode.TheVariants as code
-use Rattle.report_laws.proofs.{TokensAgain.{ok_then, keyed_again, any_number_again}, LinesAgain.Reads, ListsAgain.ruled_part}
+use Rattle.report_form.specs.Reports.{WordsValue, IsWords}
+use Rattle.report_form.specs.Spelling.{root_words, word_if, pruning_words, synth_words}
+use Rattle.report_form.specs.Tests.{are_limits}
+use Rattle.report_form.specs.Fields.{any_number, next_keyed}
+use Rattle.report_form.specs.SynthLine.{AskedValue, kind_named, limits_from, pruning_from, asked_from, may_be_asked, asked_line, root_of}
+use Rattle.report_form.proofs.Tested.{decides_limits}
+use Rattle.report_form.proofs.SynthLineTaken.{limits_words, pruned}
+use Rattle.report_laws.proofs.TokensAgain.{ok_then, keyed_again, any_number_again}
+use Rattle.report_laws.proofs.LinesAgain.{Reads}
+use Rattle.report_laws.proofs.ListsAgain.{ruled_part}
 
 -- ---- the kind and the limits
 
 pub kind_back : (k : Kind) → kind_named true (word_of k) ≡ Some k
-kind_back Broadcast = refl
-kind_back Gather = refl
-kind_back Allgather = refl
-kind_back Scatter = refl
-kind_back Alltoall = refl
-kind_back Reduce = refl
-kind_back Reducescatter = refl
-kind_back Allreduce = refl
 kind_back Custom = refl
+kind_back k = refl
 
 -- in version 1 only where no pairs are given
 kind_again : (patterned : Bool) (k : Kind) → is_custom k ≡ patterned → kind_named patterned (word_of k) ≡ Some k
 kind_again true k e = kind_back k
-kind_again false Broadcast e = refl
-kind_again false Gather e = refl
-kind_again false Allgather e = refl
-kind_again false Scatter e = refl
-kind_again false Alltoall e = refl
-kind_again false Reduce e = refl
-kind_again false Reducescatter e = refl
-kind_again false Allreduce e = refl
 kind_again false Custom e = absurd (cc)
+kind_again false k e = refl
 
 number_with : (key : List ℕ) (n : ℕ) (rest : List (List ℕ)) → n < 2 ^ 64 → next_keyed key any_number ((key ++ decimal n) ∷ rest) ≡ Ok (n, rest)
 number_with key n rest small = keyed_again key any_number (decimal n) rest n (any_number_again n small)
@@ -110,15 +112,8 @@ keyed_word : (key word : List ℕ) → IsWord key → IsWord word → IsWord (ke
 keyed_word key word first second = (omega (arith, length-append key word, first.0), token-append key word first.1 second.1)
 
 kind_word : (kind : Kind) → IsWord (word_of kind)
-kind_word Broadcast = literal (codes "broadcast") refl
-kind_word Gather = literal (codes "gather") refl
-kind_word Allgather = literal (codes "allgather") refl
-kind_word Scatter = literal (codes "scatter") refl
-kind_word Alltoall = literal (codes "alltoall") refl
-kind_word Reduce = literal (codes "reduce") refl
-kind_word Reducescatter = literal (codes "reducescatter") refl
-kind_word Allreduce = literal (codes "allreduce") refl
-kind_word Custom = literal (codes "custom") refl
+kind_word Custom = literal (word_of Custom) refl
+kind_word k = literal (word_of k) refl
 
 root_is_word : (b : Bool) (names : List (List ℕ)) (root : ℕ) → AreNames names → root < length names → AreWords (root_tokens b names root)
 root_is_word true names root named below = (keyed_word (codes "root=") (name_at names root) (literal (codes "root=") refl) (name_word (name_at names root) (root_is_name names root named below)), tt)
