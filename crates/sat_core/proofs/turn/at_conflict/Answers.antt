@@ -1,4 +1,4 @@
-use Rattle.std.proofs.Common.{◌≡◌, ◌<◌, ◌+◌, ◌∷◌, ◌++◌, length, [], refl, sym, ap, ◌∙◌, subst, arith}
+use Rattle.std.proofs.Common.{Ok, ◌≡◌, ◌<◌, ◌+◌, ◌∷◌, ◌++◌, length, [], refl, sym, ap, ◌∙◌, subst, arith}
 use Rattle.std.specs.Prelude.{vec_len, All, Contains}
 use Rattle.std.proofs.lemmas.Bool.{eqb-true, eqb-false}
 use Rattle.std.proofs.lemmas.List.{nil_from_length}
@@ -9,7 +9,9 @@ use Rattle.sleeping_clauses.specs.Naming.{IsName}
 use Rattle.sat_core.specs.Ready.{IsReady}
 use Rattle.sat_core.proofs.Hinted.{hints_names}
 use Rattle.sat_core.proofs.Ending.{closed_few}
+use Rattle.sat_core.specs.declared.turn.Turn.TheVariants as turn
 use Rattle.sat_core.proofs.turn.at_conflict.Goals as goal
+use Rattle.sat_core.proofs.turn.at_conflict.Goals.{then-woken, else-woken}
 
 pub close-requires-clause-implied : goal.close-requires-clause-implied
 close-requires-clause-implied g c =
@@ -121,8 +123,8 @@ subset_of-requires g c =
     let eq : c.deref.result.now ≡ line.lits = c.deref.ensures.value ∙ ap (λ l. l.lits) c.line.view_is in
     subst (IsClause guide.sleepers.vars) (sym eq) (turn_about base lines core guide.awake guide.sleepers c.args.conflict learned line guide.sleepers.vars t some c.requires.guided.sleepers)
 
-pub returns-then-is_empty-2-clause-over : goal.returns-then-is_empty-2-clause-over
-returns-then-is_empty-2-clause-over g c = λ h.
+pub returns-then-not-room-clause-over : goal.returns-then-not-room-clause-over
+returns-then-not-room-clause-over g c = λ h.
     let base = g.L.LedgerView.base c.args.ledger.now in
     let lines = g.L.LedgerView.lines c.args.ledger.now in
     let core = c.args.core.now in
@@ -132,7 +134,10 @@ returns-then-is_empty-2-clause-over g c = λ h.
     let t : IsTurn base lines core guide.awake guide.sleepers c.args.conflict learned line = record { ready = c.requires.ready; conflicts = c.requires.conflict; is = c.in_ok-learned.ensures.learned; named = c.in_ok-line.ensures.line } in
     let some : 0 < length line.lits = let z = eqb-false (vec_len c.line.inside.lits) 0 (sym c.is_empty.ensures ∙ c.if-is_empty.false) in
     positive (length line.lits) (λ e. z (omega (arith, e, ap (λ l. length l.lits) c.line.view_is))) in
-    turn_over base lines core guide.awake guide.sleepers c.args.conflict learned line t some (c.if-is_empty-2.ensures.none refl)
+    elim c.if-woken.branch [
+      | then-woken b ↦ let e : Ok turn.Goes ≡ Ok turn.Spent = sym (ap Ok b.result-is) ∙ h in absurd (cc)
+      | else-woken b ↦ turn_over base lines core guide.awake guide.sleepers c.args.conflict learned line t some (c.in_ok-woken.ensures.rest (ap Ok b.if-woken.false))
+    ]
 
 pub returns-in_err-anew-clause-written : goal.returns-in_err-anew-clause-written
 returns-in_err-anew-clause-written g c =
