@@ -7,7 +7,7 @@ ghost use Rattle.candidate_solver.specs.Trying.{Says};
 
 use candidate_order::Outcome;
 use cnf_formula::OutOfMemory;
-use ledger_rules::LineList;
+use conflict_ledger::LineLog;
 use round_encoding::{Encoding, decode};
 use sat_core::SatAnswer;
 use std::alloc::Global;
@@ -16,14 +16,14 @@ use std::alloc::Global;
 #[derive(Drop)]
 pub struct Found {
     pub answer: SatAnswer,
-    pub lines: LineList,
+    pub lines: LineLog,
 }
 
 /// What came of a candidate, and the lines of its search.
 #[derive(Drop)]
 pub struct Attempt {
     pub outcome: Outcome,
-    pub lines: LineList,
+    pub lines: LineLog,
 }
 
 /// What the answer of a search says of the candidate that was encoded, where so many lines could be

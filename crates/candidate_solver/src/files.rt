@@ -10,8 +10,8 @@ ghost use Rattle.candidate_solver.specs.Trying.{BeginsOwn, HasLines, HasText, Is
 use candidate_formula::file_name;
 use candidate_order::Candidate;
 use cnf_formula::Formula;
+use conflict_ledger::LineLog;
 use engine_rules::{EngineFault, Settled};
-use ledger_rules::LineList;
 use lrat_text::print_cnf;
 use outer_ports::{FileKind, Part, Shelf, write_file};
 use std::alloc::Global;
@@ -63,7 +63,7 @@ pub(crate) fn tidy<H: Shelf>(
     part: Part,
     candidate: Candidate,
     kind: Settled,
-    lines: &LineList,
+    lines: &LineLog,
 ) -> Result<(), EngineFault>
     requires { IsTrue (H.tells store.old) → HasLines part candidate lines.now (H.file store.old) }
     ensures told { Tells (H.tells store.old) (H.tells store.new) }

@@ -24,8 +24,8 @@ use crate::trying::try_candidate;
 use candidate_order::{Candidate, Limits, Outcome};
 use cnf_formula::OutOfMemory;
 use collective_spec::{Kind, Spec};
+use conflict_ledger::LineLog;
 use engine_rules::{Engine, EngineFault, EngineView, Record, Settled};
-use ledger_rules::LineList;
 use outer_ports::{Part, Shelf};
 use schedule::Topology;
 use std::alloc::Global;
@@ -39,7 +39,7 @@ pub struct SatEngine {
     part: Part,
     checked: bool,
     tried: Record,
-    log: LineList,
+    log: LineLog,
     ghost named: { part ≢ part_named.Joined },
     ghost right: { (x : Candidate) → Contains tried.entries (x, settled.Refuted) → IsSolvable (asked question) x → ⊥ },
     ghost exhausted: { (x : Candidate) → Contains tried.entries (x, settled.Unknown) → Exhausted (formula_for (asked question) x) question.limits.conflicts },
@@ -75,12 +75,12 @@ impl SatEngine {
             part,
             checked,
             tried: Record::new(alloc),
-            log: LineList::new(alloc),
+            log: LineLog::new(),
         })
     }
 
-    /// Adds a candidate to the record, for which there is room, and keeps the lines of its search.
-    fn note(&mut self, candidate: Candidate, kind: Settled, lines: LineList)
+    /// Adds a candidate to the record, for which there is room, with the log of its search.
+    fn note(&mut self, candidate: Candidate, kind: Settled, lines: LineLog)
         requires room { 0 < self.old.tried.room }
         requires within { IsWithin (asked self.old.question) candidate }
         requires proved { IsProved (formula_for (asked self.old.question) candidate) self.old.question.limits.conflicts lines kind }
@@ -110,7 +110,7 @@ impl EngineView for SatEngine {
 
     ghost suits = { λ e x schedule. Suits (asked e.question) x schedule };
 
-    fn log(&self) -> &LineList {
+    fn log(&self) -> &LineLog {
         &self.log
     }
 

@@ -48,7 +48,7 @@ fn search_plain<'a, H: Shelf>(
     let answer = solve(alloc, formula, &mut ledger, store).map_err(engine_fault)?;
     Ok(Found {
         answer,
-        lines: ledger.into_lines(),
+        lines: ledger.into_log(),
     })
 }
 
@@ -73,7 +73,7 @@ fn search_checked<'a, H: Shelf>(
     let answer = solve(alloc, formula, &mut pair, store).map_err(engine_fault)?;
     Ok(Found {
         answer,
-        lines: pair.into_second().into_lines(),
+        lines: pair.into_second().into_log(),
     })
 }
 

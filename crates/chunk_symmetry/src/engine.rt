@@ -1,4 +1,4 @@
-//! An engine that searches for ordered schedules, and keeps its proofs in memory.
+//! An engine that searches for ordered schedules, and keeps no proof.
 
 ghost use Rattle.std.specs.Prelude.{◌≡◌, ◌≢◌, ◌<◌, ◌≤◌, ◌↔◌, [], ◌∷◌, ◌++◌, None, Contains, IfOk, map};
 ghost use Rattle.schedule.specs.Sends.{ScheduleValue};
@@ -22,19 +22,19 @@ use candidate_order::{Candidate, Limits, Outcome};
 use candidate_solver::{Attempt, Question};
 use cnf_formula::OutOfMemory;
 use collective_spec::{Kind, Spec};
+use conflict_ledger::LineLog;
 use engine_rules::{Engine, EngineFault, EngineView, Record, Settled};
-use ledger_rules::LineList;
 use schedule::Topology;
 use std::alloc::Global;
 
 /// Searches for an ordered schedule of each candidate by its formula with the clauses of the order.
-/// Each proof line is checked as it is found, and only those of the last search are kept. It works
-/// beside any store, and leaves it as it was.
+/// Each proof line is checked as it is found, and none is kept. It works beside any store, and
+/// leaves it as it was.
 #[derive(Drop)]
 pub struct OrderedEngine {
     question: Question,
     tried: Record,
-    log: LineList,
+    log: LineLog,
     ghost right: { (x : Candidate) → Contains tried.entries (x, settled.Refuted) → IsSolvable (asked question) x → ⊥ },
     ghost exhausted: { (x : Candidate) → Contains tried.entries (x, settled.Unknown) → Exhausted (ordered_formula_for (asked question) x) question.limits.conflicts },
     pub ghost proved: { (before : RecordValue) (x : Candidate) → tried.entries ≡ before ++ (x, settled.Refuted) ∷ [] → Refutes (map Addition log) (ordered_formula_for (asked question) x) } by { proved-prop tried.entries log (ordered_formula_for (asked question)) },
@@ -62,12 +62,12 @@ impl OrderedEngine {
         Ok(OrderedEngine {
             question: Question::new(topology, spec, limits)?,
             tried: Record::new(alloc),
-            log: LineList::new(alloc),
+            log: LineLog::new(),
         })
     }
 
-    /// Adds a candidate to the record, for which there is room, and keeps the lines of its search.
-    fn note(&mut self, candidate: Candidate, kind: Settled, lines: LineList)
+    /// Adds a candidate to the record, for which there is room, with the log of its search.
+    fn note(&mut self, candidate: Candidate, kind: Settled, lines: LineLog)
         requires room { 0 < self.old.tried.room }
         requires within { IsWithin (asked self.old.question) candidate }
         requires proved { IsProved (ordered_formula_for (asked self.old.question) candidate) self.old.question.limits.conflicts lines kind }
@@ -96,7 +96,7 @@ impl EngineView for OrderedEngine {
 
     ghost suits = { λ e x schedule. OrderedFor (asked e.question) x schedule };
 
-    fn log(&self) -> &LineList {
+    fn log(&self) -> &LineLog {
         &self.log
     }
 

@@ -5,4 +5,4 @@ use Rattle.conflict_ledger.specs.declared.shelved.ShelfLedger.{ShelfLedger}
 use Rattle.conflict_ledger.specs.Shelved.{LedgerState}
 
 abbrev pub beside : ShelfLedger → Bool → Files → LedgerState
-beside ledger told files = record { base = ledger.kept.base.now; lrat = ledger.lrat; partial = ledger.partial; told = told; files = files }
+beside ledger told files = record { base = ledger.counted.base.now; lrat = ledger.lrat; partial = ledger.partial; told = told; files = files }

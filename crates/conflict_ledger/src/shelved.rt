@@ -5,19 +5,19 @@ ghost use Rattle.outer_ports.specs.Port.{HasCause, Tells};
 ghost use Rattle.outer_ports.specs.Shelf.{OthersStay};
 ghost use Rattle.conflict_ledger.specs.Shelved.{log_name, log_text};
 
-use crate::kept::KeptLedger;
+use crate::counted::CountedLedger;
+use crate::line_log::LineLog;
 use cnf_formula::{Formula, OutOfMemory, ProofLine};
-use ledger_rules::{Ledger, LedgerFault, LedgerView, LineList};
+use ledger_rules::{Ledger, LedgerFault, LedgerView};
 use lrat_text::print_line;
 use outer_ports::{FileKind, Part, ProofName, Shelf, append_all};
 use std::alloc::Global;
 
 /// Writes each line to the refutation of a candidate on a shelf, and each learned line to the log
-/// of its search too, before it answers. It keeps its lines in memory as well, and its formula is
-/// lent to it.
+/// of its search too, before it answers. It keeps no line in memory, and its formula is lent to it.
 #[derive(Drop)]
 pub struct ShelfLedger<'a> {
-    kept: KeptLedger<'a>,
+    counted: CountedLedger<'a>,
     lrat: ProofName,
     partial: ProofName,
     /// The text of a line, whose memory serves the next.
@@ -71,7 +71,6 @@ impl<'a> ShelfLedger<'a> {
         ensures files { IsTrue (H.tells shelf.new) → (kind : FileKind) → let name = log_name kind part candidate in (H.file shelf.new name ≡ H.file shelf.old name) ⊎ (H.file shelf.new name ≡ Some []) }
         ensures cause { HasCause LedgerFault.Failed (H.faults shelf.old) (H.faults shelf.new) result }
     {
-        let kept = KeptLedger::new(alloc, formula, limit)?;
         let (s, r, c) = candidate;
         let lrat = ProofName {
             kind: FileKind::Lrat,
@@ -90,37 +89,37 @@ impl<'a> ShelfLedger<'a> {
         shelf.begin(lrat)?;
         shelf.begin(partial)?;
         Ok(ShelfLedger {
-            kept,
+            counted: CountedLedger::new(formula, limit),
             lrat,
             partial,
             text: Vec::new(alloc),
         })
     }
 
-    /// The lines, in the order in which they were added.
-    pub fn into_lines(self) -> LineList
+    /// What lines were added, in their order.
+    pub fn into_log(self) -> LineLog
         ensures { result ≡ ⟦<ShelfLedger<'a> as LedgerView>⟧.lines self.entry }
     {
-        self.kept.into_lines()
+        self.counted.into_log()
     }
 }
 
 impl<'a> LedgerView for ShelfLedger<'a> {
-    ghost base = { λ ledger. ⟦<KeptLedger<'a> as LedgerView>⟧.base ledger.kept };
+    ghost base = { λ ledger. ⟦<CountedLedger<'a> as LedgerView>⟧.base ledger.counted };
 
-    ghost lines = { λ ledger. ⟦<KeptLedger<'a> as LedgerView>⟧.lines ledger.kept };
+    ghost lines = { λ ledger. ⟦<CountedLedger<'a> as LedgerView>⟧.lines ledger.counted };
 
-    ghost spent = { λ ledger. ⟦<KeptLedger<'a> as LedgerView>⟧.spent ledger.kept };
+    ghost spent = { λ ledger. ⟦<CountedLedger<'a> as LedgerView>⟧.spent ledger.counted };
 
-    ghost limit = { λ ledger. ⟦<KeptLedger<'a> as LedgerView>⟧.limit ledger.kept };
+    ghost limit = { λ ledger. ⟦<CountedLedger<'a> as LedgerView>⟧.limit ledger.counted };
 
     fn room(&self) -> bool {
-        self.kept.room()
+        self.counted.room()
     }
 
-    ghost within = { λ ledger. ledger.kept.within };
+    ghost within = { λ ledger. ledger.counted.within };
 
-    ghost charged = { λ ledger. ledger.kept.charged };
+    ghost charged = { λ ledger. ledger.counted.charged };
 }
 
 impl<'a, H: Shelf> Ledger<H> for ShelfLedger<'a> {
@@ -129,7 +128,7 @@ impl<'a, H: Shelf> Ledger<H> for ShelfLedger<'a> {
 
     ghost faults = { λ _ shelf. H.faults shelf };
 
-    ghost agrees = { λ a shelf. ShelfAgrees (beside a (H.tells shelf) (H.file shelf)) (⟦<KeptLedger<'a> as LedgerView>⟧.lines a.kept) };
+    ghost agrees = { λ a shelf. ShelfAgrees (beside a (H.tells shelf) (H.file shelf)) (⟦<CountedLedger<'a> as LedgerView>⟧.lines a.counted) };
 
     ghost moves = { λ a r b s. ShelfMoves (beside a (H.tells r) (H.file r)) (beside b (H.tells s) (H.file s)) };
 
@@ -137,14 +136,14 @@ impl<'a, H: Shelf> Ledger<H> for ShelfLedger<'a> {
         write_text(&mut self.text, line)?;
         put(store, self.lrat, &self.text)?;
         put(store, self.partial, &self.text)?;
-        self.kept.learn(&mut (), line)?;
+        self.counted.take(line, 1);
         Ok(())
     }
 
     fn close(&mut self, store: &mut H, line: &ProofLine) -> Result<(), LedgerFault> {
         write_text(&mut self.text, line)?;
         put(store, self.lrat, &self.text)?;
-        self.kept.close(&mut (), line)?;
+        self.counted.take(line, 0);
         Ok(())
     }
 

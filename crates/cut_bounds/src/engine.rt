@@ -16,8 +16,8 @@ ghost use Rattle.cut_bounds.specs.Cutting.{uncut_entries};
 
 use candidate_order::{Candidate, Outcome};
 use collective_spec::Spec;
+use conflict_ledger::LineLog;
 use engine_rules::{Engine, EngineFault, EngineView, Record, Settled};
-use ledger_rules::LineList;
 use node_cuts::{Cut, CutTable, Floor, OutOfMemory, Sets};
 use schedule::Topology;
 use std::alloc::Global;
@@ -131,7 +131,7 @@ impl<E: EngineView> EngineView for CutEngine<E> {
 
     ghost suits = { λ e x schedule. E.suits e.inner x schedule };
 
-    fn log(&self) -> &LineList {
+    fn log(&self) -> &LineLog {
         self.inner.log()
     }
 

@@ -9,8 +9,8 @@ ghost use Rattle.link_faults.specs.Carrying.{IsOldRefuted, is_carried, not_carri
 ghost use Rattle.degraded_links.specs.Keeping.{HasNoneCarried, RefutesCarried, StopsAlike, question_over};
 
 use candidate_order::{Candidate, Outcome};
+use conflict_ledger::LineLog;
 use engine_rules::{Engine, EngineFault, EngineView, Record, Settled};
-use ledger_rules::LineList;
 use link_faults::is_carried;
 use schedule::Topology;
 use std::alloc::Global;
@@ -111,7 +111,7 @@ impl<E: EngineView> EngineView for CarryEngine<E> {
 
     ghost suits = { λ e x schedule. E.suits e.inner x schedule };
 
-    fn log(&self) -> &LineList {
+    fn log(&self) -> &LineLog {
         self.inner.log()
     }
 

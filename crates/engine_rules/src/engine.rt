@@ -14,7 +14,7 @@ ghost use Rattle.engine_rules.specs.Outcomes.{RecordValue, IsNew, SolvesTightly,
 
 use crate::fault::EngineFault;
 use candidate_order::{Candidate, Outcome};
-use ledger_rules::LineList;
+use conflict_ledger::LineLog;
 
 /// The question whose candidates an engine settles, which is of a collective that copies; the
 /// record of those that it has settled; and the formula of each candidate, which is satisfiable
@@ -36,7 +36,7 @@ pub trait EngineView {
     ghost suits: { Self → Candidate → ScheduleValue → Type 0 };
 
     /// The proof lines of the search for the candidate that was settled last.
-    fn log(&self) -> &LineList
+    fn log(&self) -> &LineLog
         ensures { result.now ≡ log_lines self.now };
 
     ghost copies: { (engine : Self) → adds_up (question engine).spec ≡ false };

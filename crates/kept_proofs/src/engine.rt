@@ -24,8 +24,8 @@ use candidate_order::{Candidate, Limits, Outcome};
 use candidate_solver::{Question, SatEngine};
 use cnf_formula::OutOfMemory;
 use collective_spec::{Kind, Spec};
+use conflict_ledger::LineLog;
 use engine_rules::{Engine, EngineFault, EngineView, Record, Settled};
-use ledger_rules::LineList;
 use outer_ports::{Part, Shelf};
 use schedule::Topology;
 use std::alloc::Global;
@@ -123,7 +123,7 @@ impl EngineView for KeptEngine {
 
     ghost suits = { λ e x schedule. ⟦<SatEngine as EngineView>⟧.suits e.inner x schedule };
 
-    fn log(&self) -> &LineList {
+    fn log(&self) -> &LineLog {
         self.inner.log()
     }
 

@@ -11,7 +11,7 @@ use Rattle.proof_rules.specs.Refuting.{is_fresh, Refutes}
 use Rattle.std.specs.Prelude.{map, false, Contains}
 use Rattle.cnf_formula.specs.declared.line.LratLine.TheVariants.{Addition}
 use Rattle.ledger_rules.specs.Logs.{checker_of}
-use Rattle.trail_core.specs.Meaning.{CoreValue, trues}
+use Rattle.trail_core.specs.Meaning.{CoreValue, trues, IsClosed}
 use Rattle.conflict_analysis.specs.Conflicts.{IsConflict}
 use Rattle.sat_core.specs.inner.Holding.{Agree, IsNext}
 use Rattle.sat_core.specs.inner.Turning.{IsTurn}
@@ -19,7 +19,7 @@ use Rattle.conflict_analysis.specs.Learned.{IsLearned}
 use Rattle.sat_core.specs.inner.Jumping.{IsBacked}
 use Rattle.conflict_analysis.specs.Learning.{hints_to}
 use Rattle.sleeping_clauses.specs.Naming.{name, IsNamed, IsListed}
-use Rattle.sleeping_clauses.specs.Sleeping.{SleepersValue, HasNone, AreFew, sleeping}
+use Rattle.sleeping_clauses.specs.Sleeping.{SleepersValue, IsAsleep, HasNone, AreFew}
 use Rattle.sleeping_clauses.specs.declared.awake.Awake.{Awake}
 use Rattle.sat_core.specs.inner.Guided.{IsGuided}
 use Rattle.conflict_analysis.specs.Met.{IsRested}
@@ -76,10 +76,10 @@ module _ {base : FormulaValue} {lines : List ProofLineValue} {core : CoreValue} 
         let e = t.named.lits in
         subst (λ ls. is_fresh (checker_of base lines) ls ≡ true) (sym e) (learned_fresh (checker_of base lines) core awake.names.items s conflict t.learned t.ready.holding.agree (subst (HasNone s) e none) t.conflicts turn_above t.is)
 
-    -- where none sleeps the search may end
-    pub turn_over : sleeping s ≡ 0 → IsOver base lines
-    turn_over none = record {
-      not_closed = no_line_closes (checker_of base lines) core awake.names.items s conflict t.ready.holding.agree none t.conflicts turn_above;
+    -- where the clauses that sleep rest on level 0 the search may end
+    pub turn_over : ((clause : List LitValue) → IsAsleep s clause → IsClosed (take (get_or core.limits 0 0) (trues core)) (clause ∷ [])) → IsOver base lines
+    turn_over rest = record {
+      not_closed = no_line_closes (checker_of base lines) core awake.names.items s conflict t.ready.holding.agree rest t.conflicts turn_above;
       fresh = t.ready.fresh;
     }
 

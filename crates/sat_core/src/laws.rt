@@ -1,7 +1,7 @@
 //! Laws of what is learned at a conflict: it is accepted by its hints (RUP with hints, LRAT), and
 //! is fresh.
 
-ghost use Rattle.std.specs.Prelude.{◌≡◌, ◌≢◌, ◌↔◌, ℕ, ◌+◌, ◌<◌, ◌≤◌, ◌^◌, Bool, true, List, [], length, map, Contains, All, AllPairs};
+ghost use Rattle.std.specs.Prelude.{◌≡◌, ◌≢◌, ◌↔◌, ℕ, ◌+◌, ◌<◌, ◌≤◌, ◌^◌, Bool, true, List, [], ◌∷◌, length, get_or, take, map, Contains, All, AllPairs};
 ghost use Rattle.cnf_formula.specs.Literals.{LitValue, has_literal};
 ghost use Rattle.cnf_formula.specs.Lines.{ProofLineValue};
 ghost use Rattle.proof_rules.specs.declared.verdict.LineVerdict.TheVariants.{Accepted};
@@ -24,7 +24,7 @@ ghost use Rattle.conflict_analysis.specs.Conflicts.{IsConflict};
 ghost use Rattle.sat_core.specs.inner.Measure.{IsLess, remaining};
 ghost use Rattle.conflict_analysis.specs.Learned.{IsLearned};
 ghost use Rattle.sleeping_clauses.specs.Naming.{name, IsNamed};
-ghost use Rattle.sleeping_clauses.specs.Sleeping.{SleepersValue, HasNone, sleeping};
+ghost use Rattle.sleeping_clauses.specs.Sleeping.{SleepersValue, IsAsleep, HasNone};
 ghost use Rattle.sleeping_clauses.specs.declared.awake.Awake.{Awake};
 
 /// A literal stands in a clause exactly where the test finds it.
@@ -61,9 +61,11 @@ pub fn the_learned_line_is_fresh()
     ensures unit { (c : CheckerValue) (clauses : List (List LitValue)) (s : SleepersValue) (trues clause : List LitValue) (l : LitValue) → AreAmongOr c.held clauses s → HasNone s clause → IsClosed trues clauses → IsUnit trues clause l → is_fresh c clause ≡ true }
 {}
 
-/// Above level 0 no line without a literal is accepted, where no clause sleeps.
+/// Above level 0 no line without a literal is accepted, where by the literals of level 0 no clause
+/// that sleeps is falsified, and none is a unit clause.
 pub fn no_line_closes_above_level_0()
-    ensures { (c : CheckerValue) (core : CoreValue) (names : List ℕ) (s : SleepersValue) (conflict : ℕ) → Agree c core names s → sleeping s ≡ 0 → IsConflict core conflict → 0 < length core.limits → (line : ProofLineValue) → line.lits ≡ [] → verdict_of c line ≡ Accepted true → ⊥ }
+    ensures { (c : CheckerValue) (core : CoreValue) (names : List ℕ) (s : SleepersValue) (conflict : ℕ) → Agree c core names s → ((clause : List LitValue) → IsAsleep s clause → IsClosed (take (get_or core.limits 0 0) (trues core)) (clause ∷ [])) → IsConflict core conflict → 0 < length core.limits
+        → (line : ProofLineValue) → line.lits ≡ [] → verdict_of c line ≡ Accepted true → ⊥ }
 {}
 
 /// Each conflict for which a line is paid or a clause is woken, and each decision, leaves less to

@@ -12,9 +12,9 @@ returns-clause-search g c =
     let f = c.args.formula.now in
     let limit = c.args.limit in
     let pair = c.solve.new.ledger in
-    let lines = pair.second.kept.lines in
-    let same : pair.second.kept.limit ≡ limit = c.solve.ensures.limit ∙ c.new-pair.ensures.limit ∙ c.requires.limit in
-    let solved : IsSolved f pair.second.kept.limit lines c.solve.result = record {
+    let lines = pair.second.counted.lines in
+    let same : pair.second.counted.limit ≡ limit = c.solve.ensures.limit ∙ c.new-pair.ensures.limit ∙ c.requires.limit in
+    let solved : IsSolved f pair.second.counted.limit lines c.solve.result = record {
       model = c.solve.ensures.model;
       refuted = c.solve.ensures.refuted;
       closed = c.solve.ensures.closed;
@@ -23,7 +23,7 @@ returns-clause-search g c =
       numbered = c.solve.ensures.numbered;
       short = c.solve.ensures.short;
     } in
-    let kept : c.into_lines.result ≡ lines = c.into_lines.ensures ∙ ap (λ ledger. ledger.kept.lines) c.into_second.ensures.second in
+    let kept : c.into_log.result ≡ lines = c.into_log.ensures ∙ ap (λ ledger. ledger.counted.lines) c.into_second.ensures.second in
     subst (λ ls. IsSearch f limit ls c.in_ok-answer.answer) (sym kept)
     (is_search f limit lines c.in_ok-answer.answer c.solve.result (same_answer c.solve.result c.map_err.result (λ e fault. fault ≡ of_solving e) c.in_ok-answer.answer c.map_err.ensures.cases c.in_ok-answer.was) (subst (λ n. IsSolved f n lines c.solve.result) same solved))
 
@@ -36,12 +36,12 @@ returns-clause-agrees g c =
     let store = c.solve.new.store in
     let T = g.H.Shelf.tells store in
     let F = g.H.Shelf.file store in
-    let lines = now.kept.lines in
+    let lines = now.counted.lines in
     let ended : c.solve.result ≡ Ok c.in_ok-answer.answer = same_answer c.solve.result c.map_err.result (λ e fault. fault ≡ of_solving e) c.in_ok-answer.answer c.map_err.ensures.cases c.in_ok-answer.was in
-    let kept : c.into_lines.result ≡ lines = c.into_lines.ensures ∙ ap (λ ledger. ledger.kept.lines) c.into_second.ensures.second in
+    let kept : c.into_log.result ≡ lines = c.into_log.ensures ∙ ap (λ ledger. ledger.counted.lines) c.into_second.ensures.second in
     let agrees : ShelfAgrees (beside now T F) lines = subst (λ r. OnOk r (ShelfAgrees (beside now T F) lines)) ended c.solve.ensures.agrees in
     let moves = c.solve.ensures.moves in
     let first = c.new-pair.ensures.second in
     let ledger = c.args.ledger in
-    same_files (beside now T F) ledger.kept.base.now ledger.lrat ledger.partial c.into_lines.result lines
-    (moves.same_base ∙ ap (λ l. l.kept.base.now) first) (moves.same_lrat ∙ ap (λ l. l.lrat) first) (moves.same_partial ∙ ap (λ l. l.partial) first) kept agrees
+    same_files (beside now T F) ledger.counted.base.now ledger.lrat ledger.partial c.into_log.result lines
+    (moves.same_base ∙ ap (λ l. l.counted.base.now) first) (moves.same_lrat ∙ ap (λ l. l.lrat) first) (moves.same_partial ∙ ap (λ l. l.partial) first) kept agrees

@@ -8,8 +8,8 @@ returns-in-Ok c =
     let said = c.in-Ok.answer in
     let pair = c.solve.new.ledger in
     let lines = pair.second.lines in
-    let limit : pair.second.limit ≡ c.args.limit = c.in-Ok.ensures.limit ∙ c.new-pair.ensures.limit ∙ c.in_ok-second.ensures.limit in
-    let kept : c.into_lines.result ≡ lines = c.into_lines.ensures ∙ ap (λ ledger. ledger.lines) c.into_second.ensures.second in
+    let limit : pair.second.limit ≡ c.args.limit = c.in-Ok.ensures.limit ∙ c.new-pair.ensures.limit ∙ c.new-second.ensures.limit in
+    let kept : c.into_log.result ≡ lines = c.into_log.ensures ∙ ap (λ ledger. ledger.lines) c.into_second.ensures.second in
     let search : IsSearch f pair.second.limit lines said = record {
       model = λ values e. c.in-Ok.ensures.model values (ap Ok e);
       refuted = λ e. record { refutes = c.in-Ok.ensures.refuted (ap Ok e); few = c.in-Ok.ensures.closed (ap Ok e) };

@@ -14,7 +14,7 @@ returns-in_err-put-clause-moves g c =
     let F = g.H.Shelf.file in
     let a = c.args.self.now in
     let x : LedgerState = beside a (T c.args.store.now) (F c.args.store.now) in
-    let lines : List ProofLineValue = a.kept.lines in
+    let lines : List ProofLineValue = a.counted.lines in
     let line = c.args.line.now in
     let text = c.write_text.new.text.items in
     let s0 = c.args.store.now in
@@ -23,36 +23,20 @@ returns-in_err-put-clause-moves g c =
     let front = subst (IsPut a.lrat (T s1) (F s0) (F s1)) c.deref.ensures.value c.put.ensures.front in
     moves_whole x lines line (T s1) (F s1) text all c.in_ok-write_text.ensures c.requires.agrees a.apart c.put.ensures.told front c.put.ensures.others
 
-pub returns-in_err-close-clause-moves : goal.returns-in_err-close-clause-moves
-returns-in_err-close-clause-moves g c =
-    let T = g.H.Shelf.tells in
-    let F = g.H.Shelf.file in
-    let a = c.args.self.now in
-    let x : LedgerState = beside a (T c.args.store.now) (F c.args.store.now) in
-    let lines : List ProofLineValue = a.kept.lines in
-    let line = c.args.line.now in
-    let text = c.write_text.new.text.items in
-    let s0 = c.args.store.now in
-    let s1 = c.put.new.shelf in
-    let all : AllImplied (start_of x.base) (lines ++ line ∷ []) = implied_more lines (start_of x.base) line c.requires.agrees.implied c.requires.implied in
-    let front = subst (IsPut a.lrat (T s1) (F s0) (F s1)) c.deref.ensures.value c.put.ensures.front in
-    subst (λ b. ShelfMoves x (record (later x (T s1) (F s1)) { base = b })) (sym c.close.ensures.base)
-    (moves_whole x lines line (T s1) (F s1) text all c.in_ok-write_text.ensures c.requires.agrees a.apart c.put.ensures.told front c.put.ensures.others)
-
 pub returns-clause-moves : goal.returns-clause-moves
 returns-clause-moves g c =
     let T = g.H.Shelf.tells in
     let F = g.H.Shelf.file in
     let a = c.args.self.now in
     let x : LedgerState = beside a (T c.args.store.now) (F c.args.store.now) in
-    let lines : List ProofLineValue = a.kept.lines in
+    let lines : List ProofLineValue = a.counted.lines in
     let line = c.args.line.now in
     let text = c.write_text.new.text.items in
     let s0 = c.args.store.now in
     let s1 = c.put.new.shelf in
     let all : AllImplied (start_of x.base) (lines ++ line ∷ []) = implied_more lines (start_of x.base) line c.requires.agrees.implied c.requires.implied in
     let front = subst (IsPut a.lrat (T s1) (F s0) (F s1)) c.deref.ensures.value c.put.ensures.front in
-    subst (λ b. ShelfMoves x (record (later x (T s1) (F s1)) { base = b })) (sym c.close.ensures.base)
+    subst (λ b. ShelfMoves x (record (later x (T s1) (F s1)) { base = b })) (sym c.take.ensures.base)
     (moves_whole x lines line (T s1) (F s1) text all c.in_ok-write_text.ensures c.requires.agrees a.apart c.put.ensures.told front c.put.ensures.others)
 
 pub returns-clause-agrees : goal.returns-clause-agrees
@@ -61,7 +45,7 @@ returns-clause-agrees g c =
     let F = g.H.Shelf.file in
     let a = c.args.self.now in
     let x : LedgerState = beside a (T c.args.store.now) (F c.args.store.now) in
-    let lines : List ProofLineValue = a.kept.lines in
+    let lines : List ProofLineValue = a.counted.lines in
     let line = c.args.line.now in
     let text = c.write_text.new.text.items in
     let s0 = c.args.store.now in
@@ -69,5 +53,5 @@ returns-clause-agrees g c =
     let all : AllImplied (start_of x.base) (lines ++ line ∷ []) = implied_more lines (start_of x.base) line c.requires.agrees.implied c.requires.implied in
     let front = subst (IsPut a.lrat (T s1) (F s0) (F s1)) c.deref.ensures.value c.put.ensures.front in
     let whole = subst (IsWhole a.lrat (T s1) (F s0) (F s1)) c.deref.ensures.value c.in_ok-put.ensures.whole in
-    subst (λ b. ShelfAgrees (record (later x (T s1) (F s1)) { base = b }) c.close.new.self.lines) (sym c.close.ensures.base) (subst (ShelfAgrees (later x (T s1) (F s1))) (sym c.in_ok-close.ensures.lines)
+    subst (λ b. ShelfAgrees (record (later x (T s1) (F s1)) { base = b }) c.take.new.self.lines) (sym c.take.ensures.base) (subst (ShelfAgrees (later x (T s1) (F s1))) (sym c.take.ensures.lines)
     (agrees_closed x lines line (T s1) (F s1) text all c.requires.empty c.in_ok-write_text.ensures c.requires.agrees a.apart c.put.ensures.told whole c.put.ensures.others))
