@@ -1,24 +1,15 @@
 -- Files of a candidate that a call began.
-use Rattle.std.proofs.Common.{◌≡◌, ◌≢◌, ℕ, ◌<◌, length, List, [], take, drop, refl, sym, ap, ◌∙◌, subst, inl, inr, ⊎_elim}
-use Rattle.std.specs.Prelude.{◌⊎◌, IsTrue, Some, map}
+use Rattle.std.proofs.Common.{◌≡◌, ◌≢◌, ℕ, ◌<◌, length, List, [], take, drop, refl, sym, ap, ◌∙◌, subst, inl, inr, ⊎_elim, ◌⊎◌, IsTrue, Some, map}
 use Rattle.std.proofs.lemmas.List.{take-append-drop, append-nil}
-use Rattle.cnf_formula.specs.Formulas.{FormulaValue}
-use Rattle.cnf_formula.specs.declared.line.LratLine.TheVariants.{Addition}
-use Rattle.proof_rules.specs.Held.{start_of}
+use Rattle.cnf_formula.specs.{Formulas.FormulaValue, declared.line.LratLine.TheVariants.Addition}
+use Rattle.proof_rules.{specs.Held.start_of, proofs.InTurn.implied_accepted}
 use Rattle.lrat_text.specs.Printing.{cnf_text}
-use Rattle.outer_ports.specs.declared.part.Part.{Part}
-use Rattle.outer_ports.specs.declared.proof_name.FileKind.{FileKind}
-use Rattle.outer_ports.specs.declared.proof_name.FileKind.TheVariants.{Cnf, Lrat, Partial}
-use Rattle.outer_ports.specs.declared.proof_name.ProofName.{ProofName}
-use Rattle.outer_ports.specs.Files.{Files}
+use Rattle.outer_ports.specs.{declared.{part.Part.Part, proof_name.{FileKind.{FileKind, TheVariants.{Cnf, Lrat, Partial}}, ProofName.ProofName}}, Files.Files}
 use Rattle.outer_ports.specs.Shelf.{OthersStay}
 use Rattle.conflict_ledger.specs.Shelved.{IsLogFront, LedgerState, ShelfMoves}
 use Rattle.candidate_order.specs.declared.candidate.Candidate.{Candidate}
-use Rattle.proof_rules.proofs.InTurn.{implied_accepted}
-use Rattle.candidate_formula.specs.Files.{file_of, candidate_of}
-use Rattle.candidate_formula.specs.Begun.{IsBegun}
-use Rattle.candidate_solver.specs.Trying.{IsOwn, BeginsOwn}
-use Rattle.candidate_solver.proofs.Names.{one_or_apart}
+use Rattle.candidate_formula.specs.{Files.{file_of, candidate_of}, Begun.IsBegun}
+use Rattle.candidate_solver.{specs.Trying.{IsOwn, BeginsOwn}, proofs.Names.one_or_apart}
 
 -- a file is as before, or was begun
 abbrev MayBegin : FormulaValue → Files → Files → ProofName → Type 0

@@ -1,13 +1,8 @@
 -- Names of files, which are one or not.
-use Rattle.std.proofs.Common.{◌≡◌, ℕ, refl, sym, ap, ◌∙◌, inl, inr, ⊎_elim}
-use Rattle.std.specs.Prelude.{◌⊎◌, ◌==◌, if◌then◌else◌}
-use Rattle.std.proofs.lemmas.Bool.{cases_eq}
-use Rattle.outer_ports.specs.declared.part.Part.{Part}
-use Rattle.outer_ports.specs.declared.part.Part.TheVariants as part
-use Rattle.outer_ports.specs.declared.proof_name.FileKind.{FileKind}
-use Rattle.outer_ports.specs.declared.proof_name.FileKind.TheVariants.{Cnf, Lrat, Partial}
-use Rattle.outer_ports.specs.declared.proof_name.ProofName.{ProofName}
+use Rattle.std.proofs.{Common.{◌≡◌, ℕ, refl, sym, ap, ◌∙◌, inl, inr, ⊎_elim, ◌⊎◌, ◌==◌, if◌then◌else◌}, lemmas.Bool.cases_eq}
+use Rattle.outer_ports.specs.declared.{part.Part.Part, proof_name.{FileKind.{FileKind, TheVariants.{Cnf, Lrat, Partial}}, ProofName.ProofName}}
 use Rattle.outer_ports.specs.Files.{part_number, kind_number}
+use Rattle.outer_ports.specs.declared.part.Part.TheVariants as part
 
 abbrev numbered_kind : ℕ → FileKind
 numbered_kind n = if n == 0 then Cnf else if n == 1 then Lrat else Partial

@@ -1,23 +1,13 @@
 -- One candidate more in a record, by its formula and the lines of its search.
-use Rattle.std.proofs.Common.{◌≡◌, ℕ, List, [], ◌∷◌, ◌++◌, refl, sym, ap, ◌∙◌, subst, ⊎_elim}
-use Rattle.std.specs.Prelude.{Contains, map}
-use Rattle.std.proofs.lemmas.List.Elements.{Contains-push_cases}
-use Rattle.cnf_formula.specs.Formulas.{FormulaValue, Satisfiable}
-use Rattle.cnf_formula.specs.Lines.{ProofLineValue}
-use Rattle.cnf_formula.specs.declared.line.LratLine.TheVariants.{Addition}
-use Rattle.proof_rules.specs.Refuting.{Exhausted, Refutes}
-use Rattle.proof_rules.proofs.Calm.{never_refuted}
-use Rattle.proof_rules.proofs.Tested.{not_rup}
+use Rattle.std.proofs.{Common.{◌≡◌, ℕ, List, [], ◌∷◌, ◌++◌, refl, sym, ap, ◌∙◌, subst, ⊎_elim, Contains, map}, lemmas.List.Elements.Contains-push_cases}
+use Rattle.cnf_formula.specs.{Formulas.{FormulaValue, Satisfiable}, Lines.ProofLineValue, declared.line.LratLine.TheVariants.Addition}
+use Rattle.proof_rules.{specs.Refuting.{Exhausted, Refutes}, proofs.{Calm.never_refuted, Tested.not_rup}}
 use Rattle.ledger_rules.specs.Logs.{checker_of}
-use Rattle.candidate_order.specs.declared.candidate.Candidate.{Candidate}
-use Rattle.candidate_order.specs.declared.outcome.Outcome.{Outcome}
+use Rattle.candidate_order.specs.{declared.{candidate.Candidate.Candidate, outcome.Outcome.Outcome}, Frontiers.{QuestionValue, IsSolvable}}
 use Rattle.candidate_order.specs.declared.outcome.Outcome.TheVariants as outcome
-use Rattle.candidate_order.specs.Frontiers.{QuestionValue, IsSolvable}
-use Rattle.engine_rules.specs.declared.settled.Settled.{Settled}
+use Rattle.engine_rules.specs.{declared.settled.Settled.Settled, Outcomes.{RecordValue, SpentOn, kind_of}}
 use Rattle.engine_rules.specs.declared.settled.Settled.TheVariants as settled
-use Rattle.engine_rules.specs.Outcomes.{RecordValue, SpentOn, kind_of}
-use Rattle.candidate_solver.specs.Proved.{IsProved}
-use Rattle.candidate_solver.specs.Trying.{IsOutcome}
+use Rattle.candidate_solver.specs.{Proved.IsProved, Trying.IsOutcome}
 
 pub not_solvable : (q : QuestionValue) (x : Candidate) (f : FormulaValue) (lines : List ProofLineValue) → (IsSolvable q x → Satisfiable f) → Refutes (map Addition lines) f → IsSolvable q x → ⊥
 not_solvable q x f lines said refutes solvable = never_refuted f (map Addition lines) (said solvable) refutes

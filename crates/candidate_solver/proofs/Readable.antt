@@ -1,32 +1,17 @@
 -- The lines of a search are read back from their text, since their numbers are small; and they are short.
-use Rattle.std.proofs.Common.{suc, ◌≡◌, ℕ, ◌+◌, ◌<◌, ◌≤◌, true, false, eqb, List, [], ◌∷◌, ◌++◌, length, get_or, ℤ, pos, negsuc, Ok, subst, ⊎_elim, arith}
-use Rattle.std.specs.Prelude.{◌≢◌, ◌==◌, Contains, All, AllPairs, Some, map}
-use Rattle.std.specs.List.{list_any, enumerate_from, IsDistinct, AllByRecursion}
-use Rattle.std.proofs.lemmas.Bool.{cases_Bool, eqb-true, ne_eqb}
-use Rattle.std.proofs.lemmas.List.{length-map}
-use Rattle.std.proofs.lemmas.List.Elements.{All-nil, All-cons, Contains-push_cases}
-use Rattle.std.proofs.lemmas.Map.Steps.{length-le_from_distinct_below}
+use Rattle.std.proofs.Common.{suc, ◌≡◌, ℕ, ◌+◌, ◌<◌, ◌≤◌, true, false, eqb, List, [], ◌∷◌, ◌++◌, length, get_or, ℤ, pos, negsuc, Ok, subst, ⊎_elim, arith, ◌≢◌, ◌==◌, Contains, All, AllPairs, Some, map}
+use Rattle.std.{specs.List.{list_any, enumerate_from, IsDistinct, AllByRecursion}, proofs.lemmas.{Bool.{cases_Bool, eqb-true, ne_eqb}, List.length-map}}
+use Rattle.std.proofs.lemmas.{List.Elements.{All-nil, All-cons, Contains-push_cases}, Map.Steps.length-le_from_distinct_below}
 use Rattle.list_laws.proofs.Members.{Contains-cons}
-use Rattle.cnf_formula.specs.Literals.{LitValue, IsLit}
-use Rattle.cnf_formula.specs.Formulas.{FormulaValue, IsClause}
-use Rattle.cnf_formula.specs.Lines.{ProofLineValue}
-use Rattle.cnf_formula.specs.declared.line.LratLine.TheVariants.{Addition}
-use Rattle.proof_rules.specs.Held.{Entry, CheckerValue, start_of, clause_at}
-use Rattle.proof_rules.specs.Accepting.{Conflicts, Implied, leading, groups_from}
-use Rattle.proof_rules.specs.Refuting.{with_line}
+use Rattle.cnf_formula.specs.{Literals.{LitValue, IsLit}, Formulas.{FormulaValue, IsClause}, Lines.ProofLineValue, declared.line.LratLine.TheVariants.Addition}
+use Rattle.proof_rules.specs.{Held.{Entry, CheckerValue, start_of, clause_at}, Accepting.{Conflicts, Implied, leading, groups_from}, Refuting.with_line}
 use Rattle.proof_rules.specs.Learning.{AllImplied}
 use Rattle.proof_rules.proofs.Verdicts.{implied_by}
 use Rattle.lrat_text.specs.Printing.{lrat_text, IsId, IsHint, IsReadable}
-use Rattle.outer_ports.specs.declared.proof_name.ProofName.{ProofName}
-use Rattle.outer_ports.specs.Files.{Files}
+use Rattle.outer_ports.specs.{declared.proof_name.ProofName.ProofName, Files.Files}
 use Rattle.conflict_ledger.specs.Shelved.{log_text}
 use Rattle.sat_core.specs.Ready.{AreNumbered, AreShort}
-use Rattle.candidate_formula.specs.Lines.{lines_of_text}
-use Rattle.candidate_formula.specs.Files.{HoldsLines}
-use Rattle.candidate_formula.specs.Logs.{IsShortLine}
-use Rattle.candidate_formula.proofs.ReadBack.{text_says}
-use Rattle.candidate_formula.proofs.Said.{said_exactly}
-use Rattle.candidate_formula.proofs.Short.{log_short}
+use Rattle.candidate_formula.{specs.{Lines.lines_of_text, Files.HoldsLines, Logs.IsShortLine}, proofs.{ReadBack.text_says, Said.said_exactly, Short.log_short}}
 use Rattle.conflict_analysis.proofs.Members.{here, cons_cases}
 
 -- what is held is held under numbers that a reader takes

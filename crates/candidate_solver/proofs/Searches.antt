@@ -1,25 +1,15 @@
 -- What a search says, by what was said of its result.
-use Rattle.std.proofs.Common.{◌≡◌, refl, sym, subst, ℕ, ◌+◌, ◌≤◌, true, Bool, List, [], length, ap, ◌∙◌}
-use Rattle.std.specs.Prelude.{map, Result, Ok, Err, MatchResult, IsErrAnd}
-use Rattle.cnf_formula.specs.Formulas.{FormulaValue, Satisfies}
-use Rattle.cnf_formula.specs.Lines.{ProofLineValue}
-use Rattle.cnf_formula.specs.declared.line.LratLine.TheVariants.{Addition}
-use Rattle.proof_rules.specs.declared.verdict.LineVerdict.TheVariants.{Accepted}
-use Rattle.proof_rules.specs.Judging.{verdict_of}
-use Rattle.proof_rules.specs.Refuting.{Refutes, SpentLog}
+use Rattle.std.proofs.Common.{◌≡◌, refl, sym, subst, ℕ, ◌+◌, ◌≤◌, true, Bool, List, [], length, ap, ◌∙◌, map, Result, Ok, Err, MatchResult, IsErrAnd}
+use Rattle.cnf_formula.specs.{Formulas.{FormulaValue, Satisfies}, Lines.ProofLineValue, declared.line.LratLine.TheVariants.Addition}
+use Rattle.proof_rules.specs.{declared.verdict.LineVerdict.TheVariants.Accepted, Judging.verdict_of, Refuting.{Refutes, SpentLog}}
 use Rattle.ledger_rules.specs.Logs.{checker_of}
-use Rattle.outer_ports.specs.declared.proof_name.ProofName.{ProofName}
-use Rattle.outer_ports.specs.Port.{HasCause}
+use Rattle.outer_ports.specs.{declared.proof_name.ProofName.ProofName, Port.HasCause}
 use Rattle.conflict_ledger.specs.Shelved.{LedgerState, ShelfAgrees}
-use Rattle.engine_rules.specs.declared.fault.EngineFault.{EngineFault}
-use Rattle.engine_rules.specs.declared.fault.EngineFault.TheVariants.{ShelfFailed, OutOfMemory}
-use Rattle.sat_core.specs.declared.fault.SolveFault.{SolveFault}
-use Rattle.sat_core.specs.declared.fault.SolveFault.TheVariants as solving
-use Rattle.candidate_solver.specs.inner.Faults.{of_solving}
-use Rattle.sat_core.specs.declared.solving.SatAnswer.{SatAnswer}
-use Rattle.sat_core.specs.declared.solving.SatAnswer.TheVariants.{Model, Refuted, Spent}
+use Rattle.engine_rules.specs.declared.fault.EngineFault.{EngineFault, TheVariants.{ShelfFailed, OutOfMemory}}
+use Rattle.sat_core.specs.declared.{fault.SolveFault.SolveFault, solving.SatAnswer.{SatAnswer, TheVariants.{Model, Refuted, Spent}}}
 use Rattle.sat_core.specs.Ready.{AreNumbered, AreShort}
-use Rattle.candidate_solver.specs.Trying.{IsSearch}
+use Rattle.sat_core.specs.declared.fault.SolveFault.TheVariants as solving
+use Rattle.candidate_solver.specs.{inner.Faults.of_solving, Trying.IsSearch}
 
 abbrev answer_in : {A D : Type 0} → A → Result A D → A
 answer_in x (Ok y) = y

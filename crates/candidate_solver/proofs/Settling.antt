@@ -1,25 +1,13 @@
 -- The files beside the record, with one candidate more.
-use Rattle.std.proofs.Common.{◌≡◌, [], ◌∷◌, ◌++◌, get_or, refl, sym, ap, ◌∙◌, subst, inl, inr, ⊎_elim}
-use Rattle.std.specs.Prelude.{◌⊎◌, Bool, IsTrue, None, Some, Contains}
-use Rattle.std.proofs.lemmas.List.{append-nil}
-use Rattle.std.proofs.lemmas.List.Elements.{All-push, Contains-get_or, Contains-push}
-use Rattle.outer_ports.specs.declared.part.Part.{Part}
-use Rattle.outer_ports.specs.declared.proof_name.FileKind.{FileKind}
-use Rattle.outer_ports.specs.declared.proof_name.ProofName.{ProofName}
-use Rattle.outer_ports.specs.Port.{Tells}
-use Rattle.outer_ports.specs.Files.{Files}
-use Rattle.candidate_order.specs.declared.candidate.Candidate.{Candidate}
-use Rattle.candidate_order.specs.Frontiers.{QuestionValue}
-use Rattle.candidate_formula.specs.Files.{file_of, candidate_of}
-use Rattle.candidate_formula.specs.Formulas.{formula_for}
-use Rattle.candidate_formula.specs.Begun.{BegunOnly}
-use Rattle.candidate_formula.proofs.BegunFiles.{begun_weaker}
-use Rattle.candidate_formula.proofs.FilesAlike.{solved_alike, refuted_alike, unknown_alike}
-use Rattle.engine_rules.specs.declared.settled.Settled.{Settled}
+use Rattle.std.proofs.Common.{◌≡◌, [], ◌∷◌, ◌++◌, get_or, refl, sym, ap, ◌∙◌, subst, inl, inr, ⊎_elim, ◌⊎◌, IsTrue, None, Some, Contains}
+use Rattle.std.proofs.lemmas.List.{append-nil, Elements.{All-push, Contains-get_or, Contains-push}}
+use Rattle.outer_ports.specs.{declared.{part.Part.Part, proof_name.{FileKind.FileKind, ProofName.ProofName}}, Port.Tells, Files.Files}
+use Rattle.candidate_order.specs.{declared.candidate.Candidate.Candidate, Frontiers.QuestionValue}
+use Rattle.candidate_formula.specs.{Files.{file_of, candidate_of}, Formulas.formula_for, Begun.BegunOnly}
+use Rattle.candidate_formula.proofs.{BegunFiles.begun_weaker, FilesAlike.{solved_alike, refuted_alike, unknown_alike}}
+use Rattle.engine_rules.specs.{declared.settled.Settled.Settled, Outcomes.IsNew}
 use Rattle.engine_rules.specs.declared.settled.Settled.TheVariants as settled
-use Rattle.engine_rules.specs.Outcomes.{RecordValue, IsNew}
-use Rattle.candidate_solver.specs.Kept.{EngineState, HasFiles, KeptAgrees, IsTouched, KeptMoves}
-use Rattle.candidate_solver.specs.Trying.{BeginsOwn}
+use Rattle.candidate_solver.specs.{Kept.{EngineState, HasFiles, KeptAgrees, IsTouched, KeptMoves}, Trying.BeginsOwn}
 
 -- a candidate whose files stay has them still
 has_still : (part : Part) (q : QuestionValue) (before now : Files) (y : Candidate) (kind : Settled) → ((k : FileKind) → now (file_of k part y) ≡ before (file_of k part y)) → HasFiles part q before (y, kind) → HasFiles part q now (y, kind)

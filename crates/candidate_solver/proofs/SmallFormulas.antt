@@ -1,15 +1,10 @@
 -- The formula of a candidate of a small question is small.
 use Rattle.std.proofs.Common.{◌≡◌, sym, ◌∙◌, subst}
 use Rattle.cnf_formula.specs.Formulas.{FormulaValue}
-use Rattle.candidate_order.specs.declared.candidate.Candidate.{Candidate}
-use Rattle.candidate_order.specs.Frontiers.{QuestionValue, IsWithin, instance_for}
-use Rattle.candidate_formula.specs.Formulas.{formula_for}
-use Rattle.candidate_formula.specs.Questions.{IsSmallQuestion}
-use Rattle.candidate_formula.proofs.Exact.{copied_formula}
-use Rattle.candidate_formula.proofs.Sought.{candidate_is}
-use Rattle.candidate_formula.proofs.Bounded.{candidate_small}
-use Rattle.candidate_solver.proofs.Readable.{IsSmall}
-use Rattle.candidate_solver.proofs.FewOrdered.{asked_small}
+use Rattle.candidate_order.specs.{declared.candidate.Candidate.Candidate, Frontiers.{QuestionValue, IsWithin, instance_for}}
+use Rattle.candidate_formula.specs.{Formulas.formula_for, Questions.IsSmallQuestion}
+use Rattle.candidate_formula.proofs.{Exact.copied_formula, Sought.candidate_is, Bounded.candidate_small}
+use Rattle.candidate_solver.proofs.{Readable.IsSmall, FewOrdered.asked_small}
 
 pub formula_small : (q : QuestionValue) (x : Candidate) (f : FormulaValue) → f ≡ formula_for q x → IsSmallQuestion q → IsWithin q x → IsSmall f
 formula_small q x f same small within =

@@ -1,40 +1,20 @@
 -- What a try at a candidate says, and the files that it leaves.
-use Rattle.std.proofs.Common.{◌≡◌, ℕ, ◌≤◌, Bool, List, refl, sym, ap, ◌∙◌, subst, arith}
-use Rattle.std.specs.Prelude.{Some, map, Result, Ok, Err, IfOk}
-use Rattle.schedule.specs.Links.{TopologyValue}
-use Rattle.schedule.specs.Placed.{PlacementValue}
-use Rattle.schedule.specs.Sends.{ScheduleValue}
-use Rattle.cnf_formula.specs.Formulas.{FormulaValue, Satisfies}
-use Rattle.cnf_formula.specs.Lines.{ProofLineValue}
-use Rattle.cnf_formula.specs.declared.line.LratLine.TheVariants.{Addition}
-use Rattle.proof_rules.specs.Held.{start_of}
-use Rattle.proof_rules.specs.Refuting.{Refutes}
-use Rattle.proof_rules.specs.Learning.{AllImplied}
-use Rattle.proof_rules.proofs.InTurn.{learned_in_turn}
+use Rattle.std.proofs.Common.{◌≡◌, ℕ, ◌≤◌, Bool, List, refl, sym, ap, ◌∙◌, subst, arith, Some, map, Result, Ok, Err, IfOk}
+use Rattle.schedule.specs.{Links.TopologyValue, Placed.PlacementValue, Sends.ScheduleValue}
+use Rattle.cnf_formula.specs.{Formulas.{FormulaValue, Satisfies}, Lines.ProofLineValue, declared.line.LratLine.TheVariants.Addition}
+use Rattle.proof_rules.{specs.{Held.start_of, Refuting.Refutes, Learning.AllImplied}, proofs.InTurn.learned_in_turn}
 use Rattle.lrat_text.specs.Printing.{cnf_text}
-use Rattle.outer_ports.specs.declared.part.Part.{Part}
-use Rattle.outer_ports.specs.declared.proof_name.FileKind.TheVariants.{Cnf, Lrat, Partial}
-use Rattle.outer_ports.specs.Files.{Files}
+use Rattle.outer_ports.specs.{declared.{part.Part.Part, proof_name.FileKind.TheVariants.{Cnf, Lrat, Partial}}, Files.Files}
 use Rattle.conflict_ledger.specs.Shelved.{log_text}
-use Rattle.sat_core.specs.declared.solving.SatAnswer.{SatAnswer}
+use Rattle.sat_core.{specs.declared.solving.SatAnswer.SatAnswer, proofs.Ending.all_learned}
 use Rattle.sat_core.specs.declared.solving.SatAnswer.TheVariants as answer
-use Rattle.sat_core.proofs.Ending.{all_learned}
-use Rattle.round_encoding.specs.declared.encoding.Encoding.{Encoding}
-use Rattle.round_encoding.specs.Candidates.{IsEncodingOf, IsTightSolution}
-use Rattle.round_encoding.specs.Decoding.{decoded}
-use Rattle.candidate_order.specs.declared.candidate.Candidate.{Candidate}
-use Rattle.candidate_order.specs.declared.outcome.Outcome.{Outcome}
+use Rattle.round_encoding.specs.{declared.encoding.Encoding.Encoding, Candidates.{IsEncodingOf, IsTightSolution}, Decoding.decoded}
+use Rattle.candidate_order.specs.{declared.{candidate.Candidate.Candidate, outcome.Outcome.Outcome}, Frontiers.{QuestionValue, instance_for}}
 use Rattle.candidate_order.specs.declared.outcome.Outcome.TheVariants as outcome
-use Rattle.candidate_order.specs.Frontiers.{QuestionValue, instance_for}
-use Rattle.candidate_formula.specs.Files.{file_of, HasRefutation, HasLog}
-use Rattle.candidate_formula.specs.Encodings.{schedule_said}
-use Rattle.candidate_formula.specs.Formulas.{formula_for, Suits}
-use Rattle.candidate_formula.specs.Questions.{IsSmallQuestion}
+use Rattle.candidate_formula.specs.{Files.{file_of, HasRefutation, HasLog}, Encodings.schedule_said, Formulas.{formula_for, Suits}, Questions.IsSmallQuestion}
 use Rattle.candidate_formula.proofs.Exact.{tight_solves}
-use Rattle.candidate_solver.specs.Kept.{HasFiles}
+use Rattle.candidate_solver.{specs.{Kept.HasFiles, Trying.{HasText, HasLines, IsTidy, IsSearch, Says, IsOutcome}}, proofs.Readable.{IsSmall, holds_lines}}
 use Rattle.engine_rules.specs.Outcomes.{kind_of, SpentOn}
-use Rattle.candidate_solver.specs.Trying.{HasText, HasLines, IsTidy, IsSearch, Says, IsOutcome}
-use Rattle.candidate_solver.proofs.Readable.{IsSmall, holds_lines}
 
 -- ---- what outcomes say
 

@@ -1,17 +1,10 @@
 -- The files of an engine that keeps proofs on a shelf: what stands beside its record, and what its calls may change. This project's own.
 use Rattle.std.specs.Prelude.{◌≡◌, ◌⊎◌, Bool, IsTrue, ◌++◌, All, Contains, Option, Some}
-use Rattle.outer_ports.specs.declared.part.Part.{Part}
-use Rattle.outer_ports.specs.declared.proof_name.ProofName.{ProofName}
-use Rattle.outer_ports.specs.Port.{Tells}
-use Rattle.outer_ports.specs.Files.{Files}
-use Rattle.candidate_order.specs.declared.candidate.Candidate.{Candidate}
-use Rattle.candidate_order.specs.Frontiers.{QuestionValue}
-use Rattle.candidate_formula.specs.Formulas.{formula_for}
-use Rattle.candidate_formula.specs.Files.{candidate_of, SolvedFiles, RefutedFiles, UnknownFiles}
-use Rattle.candidate_formula.specs.Begun.{BegunOnly}
-use Rattle.engine_rules.specs.declared.settled.Settled.{Settled}
+use Rattle.outer_ports.specs.{declared.{part.Part.Part, proof_name.ProofName.ProofName}, Port.Tells, Files.Files}
+use Rattle.candidate_order.specs.{declared.candidate.Candidate.Candidate, Frontiers.QuestionValue}
+use Rattle.candidate_formula.specs.{Formulas.formula_for, Files.{candidate_of, SolvedFiles, RefutedFiles, UnknownFiles}, Begun.BegunOnly}
+use Rattle.engine_rules.specs.{declared.settled.Settled.Settled, Outcomes.{RecordValue, IsNew}}
 use Rattle.engine_rules.specs.declared.settled.Settled.TheVariants as settled
-use Rattle.engine_rules.specs.Outcomes.{RecordValue, IsNew}
 
 -- an engine's part, question, record, and the candidate at which it failed; and of the shelf that is lent to it, whether it tells its files, and these
 pub record EngineState : Type 0 where

@@ -1,12 +1,9 @@
 -- What the lines of a search prove of a candidate, by its formula.
 use Rattle.std.specs.Prelude.{◌≡◌, ℕ, List, map}
-use Rattle.cnf_formula.specs.Formulas.{FormulaValue}
-use Rattle.cnf_formula.specs.Lines.{ProofLineValue}
-use Rattle.cnf_formula.specs.declared.line.LratLine.TheVariants.{Addition}
+use Rattle.cnf_formula.specs.{Formulas.FormulaValue, Lines.ProofLineValue, declared.line.LratLine.TheVariants.Addition}
 use Rattle.proof_rules.specs.Refuting.{Refutes}
-use Rattle.engine_rules.specs.declared.settled.Settled.{Settled}
+use Rattle.engine_rules.specs.{declared.settled.Settled.Settled, Outcomes.SpentOn}
 use Rattle.engine_rules.specs.declared.settled.Settled.TheVariants as settled
-use Rattle.engine_rules.specs.Outcomes.{SpentOn}
 
 -- the lines of the search, of which so many could be learned, prove such an outcome
 pub record IsProved (f : FormulaValue) (limit : ℕ) (lines : List ProofLineValue) (kind : Settled) : Type 0 where

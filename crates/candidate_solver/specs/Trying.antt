@@ -1,34 +1,19 @@
 -- One try at a candidate: what it may do to the files, and what its search says.
 use Rattle.std.specs.Prelude.{◌≡◌, ℕ, ◌+◌, ◌≤◌, Bool, List, [], length, map, Some}
-use Rattle.cnf_formula.specs.Formulas.{FormulaValue, Satisfies}
-use Rattle.cnf_formula.specs.Lines.{ProofLineValue}
-use Rattle.cnf_formula.specs.declared.line.LratLine.TheVariants.{Addition}
+use Rattle.cnf_formula.specs.{Formulas.{FormulaValue, Satisfies}, Lines.ProofLineValue, declared.line.LratLine.TheVariants.Addition}
 use Rattle.proof_rules.specs.Refuting.{Refutes}
 use Rattle.lrat_text.specs.Printing.{cnf_text}
-use Rattle.outer_ports.specs.declared.part.Part.{Part}
-use Rattle.outer_ports.specs.declared.proof_name.FileKind.TheVariants.{Cnf, Lrat, Partial}
-use Rattle.outer_ports.specs.declared.proof_name.ProofName.{ProofName}
-use Rattle.outer_ports.specs.Files.{Files}
+use Rattle.outer_ports.specs.{declared.{part.Part.Part, proof_name.{FileKind.TheVariants.{Cnf, Lrat, Partial}, ProofName.ProofName}}, Files.Files}
 use Rattle.ledger_rules.specs.Logs.{learned}
 use Rattle.conflict_ledger.specs.Shelved.{log_text}
-use Rattle.sat_core.specs.declared.solving.SatAnswer.{SatAnswer}
+use Rattle.sat_core.specs.{declared.solving.SatAnswer.SatAnswer, Ready.{AreNumbered, AreShort}}
 use Rattle.sat_core.specs.declared.solving.SatAnswer.TheVariants as answer
-use Rattle.sat_core.specs.Ready.{AreNumbered, AreShort}
-use Rattle.candidate_order.specs.declared.candidate.Candidate.{Candidate}
-use Rattle.candidate_order.specs.declared.outcome.Outcome.{Outcome}
+use Rattle.candidate_order.specs.{declared.{candidate.Candidate.Candidate, outcome.Outcome.Outcome}, Frontiers.QuestionValue}
 use Rattle.candidate_order.specs.declared.outcome.Outcome.TheVariants as outcome
-use Rattle.candidate_order.specs.Frontiers.{QuestionValue}
-use Rattle.schedule.specs.Links.{TopologyValue}
-use Rattle.schedule.specs.Placed.{PlacementValue}
-use Rattle.schedule.specs.Sends.{ScheduleValue}
-use Rattle.round_encoding.specs.declared.encoding.Encoding.{Encoding}
-use Rattle.round_encoding.specs.Candidates.{IsEncodingOf, IsTightSolution}
-use Rattle.round_encoding.specs.Decoding.{decoded}
-use Rattle.candidate_formula.specs.Formulas.{Suits}
-use Rattle.candidate_formula.specs.Files.{file_of, candidate_of}
-use Rattle.candidate_formula.specs.Begun.{BegunOnly}
-use Rattle.engine_rules.specs.Outcomes.{SolvesTightly, SpentOn}
-use Rattle.engine_rules.specs.declared.settled.Settled.{Settled}
+use Rattle.schedule.specs.{Links.TopologyValue, Placed.PlacementValue, Sends.ScheduleValue}
+use Rattle.round_encoding.specs.{declared.encoding.Encoding.Encoding, Candidates.{IsEncodingOf, IsTightSolution}, Decoding.decoded}
+use Rattle.candidate_formula.specs.{Formulas.Suits, Files.{file_of, candidate_of}, Begun.BegunOnly}
+use Rattle.engine_rules.specs.{Outcomes.{SolvesTightly, SpentOn}, declared.settled.Settled.Settled}
 use Rattle.engine_rules.specs.declared.settled.Settled.TheVariants as settled
 
 -- ---- files

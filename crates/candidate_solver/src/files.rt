@@ -1,8 +1,7 @@
 //! The files of a candidate.
 
 ghost use Rattle.std.specs.Prelude.{◌≡◌, ◌≢◌, [], false, IsTrue, Some, OnOk};
-ghost use Rattle.outer_ports.specs.Port.{HasCause, Tells};
-ghost use Rattle.outer_ports.specs.Shelf.{OthersStay};
+ghost use Rattle.outer_ports.specs.{Port.{HasCause, Tells}, Shelf.OthersStay};
 ghost use Rattle.candidate_formula.specs.Files.{file_of};
 ghost use Rattle.cnf_formula.specs.Formulas.{FormulaValue};
 ghost use Rattle.candidate_solver.specs.Trying.{BeginsOwn, HasLines, HasText, IsTidy};

@@ -7,16 +7,11 @@ ghost use Rattle.proof_rules.specs.Refuting.{Exhausted, Refutes};
 ghost use Rattle.collective_spec.specs.Collectives.{IsSpec, kind_in};
 ghost use Rattle.round_encoding.specs.Candidates.{size_limit};
 ghost use Rattle.outer_ports.specs.declared.part.Part.TheVariants as part_named;
-ghost use Rattle.candidate_order.specs.declared.candidate.Candidate.{Candidate};
-ghost use Rattle.candidate_order.specs.Copied.{copied_spec};
-ghost use Rattle.candidate_order.specs.Frontiers.{IsSolvable, IsWithin};
-ghost use Rattle.candidate_formula.specs.Formulas.{formula_for, Suits};
-ghost use Rattle.candidate_solver.specs.Questions.{asked};
-ghost use Rattle.candidate_formula.specs.Sizes.{size_of};
+ghost use Rattle.candidate_order.specs.{declared.candidate.Candidate.Candidate, Copied.copied_spec, Frontiers.{IsSolvable, IsWithin}};
+ghost use Rattle.candidate_formula.specs.{Formulas.{formula_for, Suits}, Sizes.size_of};
+ghost use Rattle.candidate_solver.specs.{Questions.asked, Proved.IsProved, Single.proved-prop};
 ghost use Rattle.engine_rules.specs.declared.settled.Settled.TheVariants as settled;
 ghost use Rattle.engine_rules.specs.Outcomes.{RecordValue};
-ghost use Rattle.candidate_solver.specs.Proved.{IsProved};
-ghost use Rattle.candidate_solver.specs.Single.{proved-prop};
 
 use crate::attempt::Attempt;
 use crate::question::Question;
@@ -124,9 +119,7 @@ impl EngineView for SatEngine {
 }
 
 impl<H: Shelf> Engine<H> for SatEngine {
-    ghost use Rattle.candidate_solver.specs.Beside.{beside};
-    ghost use Rattle.candidate_solver.specs.Kept.{KeptAgrees, KeptMoves};
-    ghost use Rattle.candidate_solver.specs.Laws.{KeptMoves-refl, KeptMoves-trans};
+    ghost use Rattle.candidate_solver.specs.{Beside.beside, Kept.{KeptAgrees, KeptMoves}, Laws.{KeptMoves-refl, KeptMoves-trans}};
 
     ghost faults = { λ _ shelf. H.faults shelf };
 

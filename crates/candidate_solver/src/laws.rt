@@ -1,12 +1,8 @@
 //! Laws of an engine that keeps proofs.
 
 ghost use Rattle.std.specs.Prelude.{◌≡◌, ◌+◌, ◌≤◌, List, [], ◌∷◌, ◌++◌, length, map, Ok};
-ghost use Rattle.cnf_formula.specs.Formulas.{FormulaValue};
-ghost use Rattle.cnf_formula.specs.Lines.{ProofLineValue};
-ghost use Rattle.cnf_formula.specs.declared.line.LratLine.TheVariants.{Addition};
-ghost use Rattle.proof_rules.specs.Held.{start_of};
-ghost use Rattle.proof_rules.specs.Refuting.{Refutes};
-ghost use Rattle.proof_rules.specs.Learning.{AllImplied};
+ghost use Rattle.cnf_formula.specs.{Formulas.FormulaValue, Lines.ProofLineValue, declared.line.LratLine.TheVariants.Addition};
+ghost use Rattle.proof_rules.specs.{Held.start_of, Refuting.Refutes, Learning.AllImplied};
 ghost use Rattle.lrat_text.specs.Printing.{lrat_text};
 ghost use Rattle.sat_core.specs.Ready.{AreNumbered};
 ghost use Rattle.candidate_formula.specs.Lines.{lines_of_text};

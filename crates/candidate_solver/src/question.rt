@@ -3,8 +3,7 @@
 ghost use Rattle.std.specs.Prelude.{◌≡◌, ◌≢◌, ◌≤◌, IfOk};
 ghost use Rattle.collective_spec.specs.Collectives.{IsSpec, kind_in};
 ghost use Rattle.round_encoding.specs.Candidates.{size_limit};
-ghost use Rattle.candidate_formula.specs.Questions.{IsSmallQuestion, copying_question};
-ghost use Rattle.candidate_formula.specs.Sizes.{size_of};
+ghost use Rattle.candidate_formula.specs.{Questions.{IsSmallQuestion, copying_question}, Sizes.size_of};
 ghost use Rattle.candidate_solver.specs.Single.{IsSmallQuestion-prop};
 
 use crate::copying::{copy_of_spec, copy_of_topology};

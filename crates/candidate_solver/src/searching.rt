@@ -2,13 +2,10 @@
 
 ghost use Rattle.std.specs.Prelude.{◌≡◌, ◌≢◌, [], IsTrue, IfOk};
 ghost use Rattle.outer_ports.specs.Port.{HasCause, Tells};
-ghost use Rattle.conflict_ledger.specs.Beside.{beside};
-ghost use Rattle.conflict_ledger.specs.Shelved.{ShelfAgrees, ShelfMoves};
+ghost use Rattle.conflict_ledger.specs.{Beside.beside, Shelved.{ShelfAgrees, ShelfMoves}};
 ghost use Rattle.candidate_formula.specs.Files.{file_of};
-ghost use Rattle.candidate_solver.specs.inner.Faults.{of_solving};
-ghost use Rattle.candidate_solver.specs.Trying.{BeginsOwn, HasLines, IsSearch};
-ghost use Rattle.proof_rules.specs.Held.{start_of};
-ghost use Rattle.proof_rules.specs.Learning.{AllImplied};
+ghost use Rattle.candidate_solver.specs.{inner.Faults.of_solving, Trying.{BeginsOwn, HasLines, IsSearch}};
+ghost use Rattle.proof_rules.specs.{Held.start_of, Learning.AllImplied};
 
 use crate::attempt::Found;
 use candidate_order::Candidate;

@@ -2,18 +2,13 @@
 
 ghost use Rattle.std.specs.Prelude.{◌≡◌, ◌≢◌, Bool, List, IsTrue, IfOk};
 ghost use Rattle.cnf_formula.specs.Formulas.{FormulaValue, Satisfies};
-ghost use Rattle.proof_rules.specs.Held.{start_of};
-ghost use Rattle.proof_rules.specs.Learning.{AllImplied};
+ghost use Rattle.proof_rules.specs.{Held.start_of, Learning.AllImplied};
 ghost use Rattle.outer_ports.specs.Port.{HasCause, Tells};
 ghost use Rattle.round_encoding.specs.Candidates.{IsEncoding};
 ghost use Rattle.candidate_order.specs.Frontiers.{IsWithin};
-ghost use Rattle.candidate_formula.specs.Encodings.{formula_in};
-ghost use Rattle.candidate_formula.specs.Files.{file_of};
-ghost use Rattle.candidate_formula.specs.Formulas.{formula_for};
-ghost use Rattle.candidate_solver.specs.Questions.{asked};
-ghost use Rattle.candidate_solver.specs.Kept.{HasFiles};
+ghost use Rattle.candidate_formula.specs.{Encodings.formula_in, Files.file_of, Formulas.formula_for};
+ghost use Rattle.candidate_solver.specs.{Questions.asked, Kept.HasFiles, Trying.{BeginsOwn, HasLines, HasText, IsOutcome, IsSearch, IsTidy, Says}};
 ghost use Rattle.engine_rules.specs.Outcomes.{kind_of};
-ghost use Rattle.candidate_solver.specs.Trying.{BeginsOwn, HasLines, HasText, IsOutcome, IsSearch, IsTidy, Says};
 
 use crate::attempt::{Attempt, Found, outcome_of};
 use crate::files::{tidy, write_formula};

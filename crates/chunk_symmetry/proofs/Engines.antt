@@ -1,23 +1,15 @@
 -- What a try at a candidate says, by the formula with the clauses of the order.
 use Rattle.std.proofs.Common.{◌≡◌, ℕ, Bool, true, false, List, refl, sym, subst}
-use Rattle.std.specs.Prelude.{map}
 use Rattle.schedule.specs.Sends.{ScheduleValue}
 use Rattle.collective_spec.specs.Collectives.{adds_up}
-use Rattle.cnf_formula.specs.Formulas.{FormulaValue, Satisfies}
-use Rattle.cnf_formula.specs.Lines.{ProofLineValue}
-use Rattle.round_encoding.specs.declared.encoding.Encoding.{Encoding}
-use Rattle.round_encoding.specs.Candidates.{IsEncodingOf}
+use Rattle.cnf_formula.specs.{Formulas.{FormulaValue, Satisfies}, Lines.ProofLineValue}
+use Rattle.round_encoding.specs.{declared.encoding.Encoding.Encoding, Candidates.IsEncodingOf}
 use Rattle.sat_core.specs.declared.solving.SatAnswer.{SatAnswer}
-use Rattle.candidate_order.specs.declared.candidate.Candidate.{Candidate}
-use Rattle.candidate_order.specs.declared.outcome.Outcome.{Outcome}
-use Rattle.candidate_order.specs.Ranges.{LimitsValue}
+use Rattle.candidate_order.specs.{declared.{candidate.Candidate.Candidate, outcome.Outcome.Outcome}, Ranges.LimitsValue}
 use Rattle.candidate_order.specs.Frontiers.{QuestionValue, Achieves, instance_for}
-use Rattle.candidate_formula.specs.Encodings.{schedule_said}
-use Rattle.candidate_formula.specs.Formulas.{ordered_formula_for, OrderedFor}
-use Rattle.candidate_formula.specs.Questions.{IsSmallQuestion}
+use Rattle.candidate_formula.specs.{Encodings.schedule_said, Formulas.{ordered_formula_for, OrderedFor}, Questions.IsSmallQuestion}
 use Rattle.engine_rules.specs.Outcomes.{SpentOn}
-use Rattle.candidate_solver.specs.Trying.{IsSearch, Says}
-use Rattle.candidate_solver.proofs.Tried.{outcome_by}
+use Rattle.candidate_solver.{specs.Trying.{IsSearch, Says}, proofs.Tried.outcome_by}
 use Rattle.chunk_symmetry.specs.Trying.{IsOrderedOutcome}
 
 -- the same limits, where only ordered schedules are sought

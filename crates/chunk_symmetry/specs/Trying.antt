@@ -2,10 +2,8 @@
 use Rattle.std.specs.Prelude.{◌≡◌, List}
 use Rattle.schedule.specs.Sends.{ScheduleValue}
 use Rattle.cnf_formula.specs.Lines.{ProofLineValue}
-use Rattle.candidate_order.specs.declared.candidate.Candidate.{Candidate}
-use Rattle.candidate_order.specs.declared.outcome.Outcome.{Outcome}
+use Rattle.candidate_order.specs.{declared.{candidate.Candidate.Candidate, outcome.Outcome.Outcome}, Frontiers.QuestionValue}
 use Rattle.candidate_order.specs.declared.outcome.Outcome.TheVariants as outcome
-use Rattle.candidate_order.specs.Frontiers.{QuestionValue}
 use Rattle.candidate_solver.specs.Trying.{IsOutcome}
 use Rattle.candidate_formula.specs.Formulas.{ordered_formula_for, OrderedFor}
 

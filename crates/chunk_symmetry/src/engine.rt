@@ -6,16 +6,11 @@ ghost use Rattle.cnf_formula.specs.declared.line.LratLine.TheVariants.{Addition}
 ghost use Rattle.proof_rules.specs.Refuting.{Exhausted, Refutes};
 ghost use Rattle.collective_spec.specs.Collectives.{IsSpec, kind_in};
 ghost use Rattle.round_encoding.specs.Candidates.{size_limit};
-ghost use Rattle.candidate_order.specs.declared.candidate.Candidate.{Candidate};
-ghost use Rattle.candidate_order.specs.Copied.{copied_spec};
-ghost use Rattle.candidate_order.specs.Frontiers.{IsSolvable, IsWithin};
-ghost use Rattle.candidate_formula.specs.Sizes.{size_of};
+ghost use Rattle.candidate_order.specs.{declared.candidate.Candidate.Candidate, Copied.copied_spec, Frontiers.{IsSolvable, IsWithin}};
+ghost use Rattle.candidate_formula.specs.{Sizes.size_of, Formulas.{ordered_formula_for, OrderedFor}};
 ghost use Rattle.engine_rules.specs.declared.settled.Settled.TheVariants as settled;
 ghost use Rattle.engine_rules.specs.Outcomes.{RecordValue};
-ghost use Rattle.candidate_solver.specs.Questions.{asked};
-ghost use Rattle.candidate_formula.specs.Formulas.{ordered_formula_for, OrderedFor};
-ghost use Rattle.candidate_solver.specs.Proved.{IsProved};
-ghost use Rattle.candidate_solver.specs.Single.{proved-prop};
+ghost use Rattle.candidate_solver.specs.{Questions.asked, Proved.IsProved, Single.proved-prop};
 
 use crate::trying::try_candidate;
 use candidate_order::{Candidate, Limits, Outcome};

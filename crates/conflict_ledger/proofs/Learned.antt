@@ -1,10 +1,7 @@
 -- One line more.
-use Rattle.std.proofs.Common.{◌≡◌, true, List, [], ◌∷◌, refl}
-use Rattle.std.specs.Prelude.{not}
-use Rattle.std.proofs.lemmas.Bool.{false≢true}
+use Rattle.std.proofs.{Common.{◌≡◌, true, List, [], ◌∷◌, refl, not}, lemmas.Bool.false≢true}
 use Rattle.cnf_formula.specs.Literals.{LitValue}
-use Rattle.proof_rules.specs.Held.{CheckerValue, is_empty}
-use Rattle.proof_rules.specs.Refuting.{is_fresh}
+use Rattle.proof_rules.specs.{Held.{CheckerValue, is_empty}, Refuting.is_fresh}
 
 -- a fresh clause has a literal
 pub fresh_some : (c : CheckerValue) (clause : List LitValue) → is_fresh c clause ≡ true → not (is_empty clause) ≡ true

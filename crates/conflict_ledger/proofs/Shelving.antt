@@ -1,24 +1,12 @@
 -- What the files of a ledger on a shelf become.
-use Rattle.std.proofs.Common.{◌≡◌, ℕ, Bool, true, List, [], ◌∷◌, ◌++◌, take, drop, refl, sym, ap, ◌∙◌, subst, inl, inr, ⊎_elim}
-use Rattle.std.specs.Prelude.{◌≢◌, ◌⊎◌, IsTrue, Some, Contains, map, not}
-use Rattle.std.specs.List.{list_any}
-use Rattle.std.proofs.lemmas.Bool.{cases_Bool, false≢true, or_right}
-use Rattle.std.proofs.lemmas.List.{append_assoc, take-append-drop}
-use Rattle.std.proofs.lemmas.List.Folds.{list_any_at}
+use Rattle.std.proofs.Common.{◌≡◌, ℕ, Bool, true, List, [], ◌∷◌, ◌++◌, take, drop, refl, sym, ap, ◌∙◌, subst, inl, inr, ⊎_elim, ◌≢◌, ◌⊎◌, IsTrue, Some, Contains, map, not}
+use Rattle.std.{specs.List.list_any, proofs.lemmas.{Bool.{cases_Bool, false≢true, or_right}, List.{append_assoc, take-append-drop, Folds.list_any_at}}}
 use Rattle.std.proofs.lemmas.List.Elements.{Contains-append_left, Contains-push}
-use Rattle.cnf_formula.specs.Literals.{LitValue, is_superset}
-use Rattle.cnf_formula.specs.Formulas.{FormulaValue}
-use Rattle.cnf_formula.specs.Lines.{ProofLineValue}
-use Rattle.cnf_formula.specs.declared.line.LratLine.TheVariants.{Addition}
-use Rattle.proof_rules.specs.Held.{Entry, CheckerValue, start_of, is_empty}
-use Rattle.proof_rules.specs.Refuting.{is_fresh, with_line, after}
-use Rattle.proof_rules.specs.Learning.{AllImplied}
+use Rattle.cnf_formula.specs.{Literals.{LitValue, is_superset}, Formulas.FormulaValue, Lines.ProofLineValue, declared.line.LratLine.TheVariants.Addition}
+use Rattle.proof_rules.specs.{Held.{Entry, CheckerValue, start_of, is_empty}, Refuting.{is_fresh, with_line, after}, Learning.AllImplied}
 use Rattle.text_lines.specs.Text.{line as text_line}
 use Rattle.lrat_text.specs.Printing.{line_words}
-use Rattle.outer_ports.specs.declared.proof_name.ProofName.{ProofName}
-use Rattle.outer_ports.specs.Port.{Tells}
-use Rattle.outer_ports.specs.Files.{Files}
-use Rattle.outer_ports.specs.Shelf.{OthersStay}
+use Rattle.outer_ports.specs.{declared.proof_name.ProofName.ProofName, Port.Tells, Files.Files, Shelf.OthersStay}
 use Rattle.ledger_rules.specs.Logs.{learned}
 use Rattle.conflict_ledger.specs.Shelved.{log_text, IsLogFront, LedgerState, ShelfMoves, ShelfAgrees, ShelfMoves-trans}
 

@@ -1,10 +1,8 @@
 //! A ledger that checks each line (as RUP along its hints).
 
 ghost use Rattle.std.specs.Prelude.{◌≡◌, ◌≤◌, ◌+◌, List, [], ◌∷◌, ◌++◌, true, false, length, refl, IfOk, OnErr, OnOk};
-ghost use Rattle.cnf_formula.specs.Formulas.{FormulaValue};
-ghost use Rattle.cnf_formula.specs.Lines.{ProofLineValue};
-ghost use Rattle.proof_rules.specs.declared.verdict.LineVerdict.TheVariants.{Accepted};
-ghost use Rattle.proof_rules.specs.Judging.{verdict_of};
+ghost use Rattle.cnf_formula.specs.{Formulas.FormulaValue, Lines.ProofLineValue};
+ghost use Rattle.proof_rules.specs.{declared.verdict.LineVerdict.TheVariants.Accepted, Judging.verdict_of};
 ghost use Rattle.ledger_rules.specs.Logs.{checker_of, learned};
 
 use crate::kept::KeptLedger;

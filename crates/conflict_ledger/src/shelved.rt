@@ -1,8 +1,7 @@
 //! A ledger that writes its lines, the learned clauses as LRAT additions, to a shelf.
 
 ghost use Rattle.std.specs.Prelude.{◌≡◌, ◌≢◌, ◌⊎◌, ℕ, ◌<◌, ◌++◌, [], ◌∷◌, List, Some, IsTrue, take, IfOk, OnOk};
-ghost use Rattle.outer_ports.specs.Port.{HasCause, Tells};
-ghost use Rattle.outer_ports.specs.Shelf.{OthersStay};
+ghost use Rattle.outer_ports.specs.{Port.{HasCause, Tells}, Shelf.OthersStay};
 ghost use Rattle.conflict_ledger.specs.Shelved.{log_name, log_text};
 
 use crate::counted::CountedLedger;
@@ -123,8 +122,7 @@ impl<'a> LedgerView for ShelfLedger<'a> {
 }
 
 impl<'a, H: Shelf> Ledger<H> for ShelfLedger<'a> {
-    ghost use Rattle.conflict_ledger.specs.Beside.{beside};
-    ghost use Rattle.conflict_ledger.specs.Shelved.{ShelfAgrees, ShelfMoves, ShelfMoves-refl, ShelfMoves-trans};
+    ghost use Rattle.conflict_ledger.specs.{Beside.beside, Shelved.{ShelfAgrees, ShelfMoves, ShelfMoves-refl, ShelfMoves-trans}};
 
     ghost faults = { λ _ shelf. H.faults shelf };
 

@@ -1,25 +1,15 @@
 -- One candidate more in the record of an engine over another.
-use Rattle.std.proofs.Common.{◌≡◌, true, false, cond, [], ◌∷◌, ◌++◌, Some, None, refl, sym, ap, ◌∙◌, inl, inr, ⊎_elim, subst}
-use Rattle.std.specs.Prelude.{Contains, Option, not}
-use Rattle.std.proofs.lemmas.Bool.{cases_Bool, not_from_true, not_from_false}
-use Rattle.std.proofs.lemmas.List.{append-nil}
-use Rattle.std.proofs.lemmas.List.Elements.{Contains-push_cases}
-use Rattle.std.proofs.lemmas.Option.{none-some}
-use Rattle.schedule.specs.Solving.{Solvable}
-use Rattle.schedule.proofs.First.{Among, Among-from_Contains, Contains-from_Among}
+use Rattle.std.proofs.Common.{◌≡◌, true, false, cond, [], ◌∷◌, ◌++◌, Some, None, refl, sym, ap, ◌∙◌, inl, inr, ⊎_elim, subst, Contains, Option, not}
+use Rattle.std.proofs.lemmas.{Bool.{cases_Bool, not_from_true, not_from_false}, List.{append-nil, Elements.Contains-push_cases}, Option.none-some}
+use Rattle.schedule.{specs.Solving.Solvable, proofs.First.{Among, Among-from_Contains, Contains-from_Among}}
 use Rattle.collective_spec.specs.Collectives.{adds_up, spec_instance}
 use Rattle.proof_rules.specs.Refuting.{Exhausted}
 use Rattle.cnf_formula.specs.Formulas.{FormulaValue}
-use Rattle.candidate_order.specs.declared.candidate.Candidate.{Candidate}
-use Rattle.candidate_order.specs.Frontiers.{QuestionValue, IsSolvable, IsWithin}
+use Rattle.candidate_order.specs.{declared.candidate.Candidate.Candidate, Frontiers.{QuestionValue, IsSolvable, IsWithin}}
 use Rattle.candidate_order.proofs.Achieved.{Achievable, achieved}
-use Rattle.engine_rules.specs.declared.settled.Settled.{Settled}
+use Rattle.engine_rules.specs.{declared.settled.Settled.Settled, Outcomes.{RecordValue, IsNew}}
 use Rattle.engine_rules.specs.declared.settled.Settled.TheVariants as settled
-use Rattle.engine_rules.specs.Outcomes.{RecordValue, IsNew}
-use Rattle.node_cuts.specs.declared.sets.Sets.{Sets}
-use Rattle.node_cuts.specs.declared.sets.Sets.TheVariants.{Nothing}
-use Rattle.node_cuts.specs.Cutting.{is_cut}
-use Rattle.node_cuts.proofs.Crossing.{first_says}
+use Rattle.node_cuts.{specs.{declared.sets.Sets.{Sets, TheVariants.Nothing}, Cutting.is_cut}, proofs.Crossing.first_says}
 use Rattle.cut_bounds.specs.Cutting.{uncut_entries}
 
 module _ (sets : Sets) where

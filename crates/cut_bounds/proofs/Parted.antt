@@ -1,26 +1,14 @@
 -- After a whole search the cuts and the record below are parts of what the frontier has as refuted.
-use Rattle.std.proofs.Common.{◌≡◌, ℕ, ◌+◌, ◌<◌, length, get_or, take, Bool, true, false, List, [], ◌∷◌, ◌++◌, map, Some, None, refl, sym, ap, ◌∙◌, ⊎_elim, subst}
-use Rattle.std.specs.Prelude.{All, Contains, MatchOption, Option, not}
-use Rattle.std.specs.List.{AllByRecursion}
-use Rattle.std.specs.List.Sorted.{IsPermutation}
-use Rattle.std.specs.Option.{is_some, option_map}
-use Rattle.std.proofs.lemmas.Bool.{cases_Bool, not_from_false}
-use Rattle.std.proofs.lemmas.List.{append-nil, take_more}
-use Rattle.std.proofs.lemmas.List.Elements.{filter-append, filter_map-append, recursion_from_All}
-use Rattle.list_laws.proofs.Each.{all_contained}
-use Rattle.list_laws.proofs.Members.{Contains-map}
+use Rattle.std.proofs.Common.{◌≡◌, ℕ, ◌+◌, ◌<◌, length, get_or, take, Bool, true, false, List, [], ◌∷◌, ◌++◌, map, Some, None, refl, sym, ap, ◌∙◌, ⊎_elim, subst, All, Contains, MatchOption, Option, not}
+use Rattle.std.{specs.{List.{AllByRecursion, Sorted.IsPermutation}, Option.{is_some, option_map}}, proofs.lemmas.Bool.{cases_Bool, not_from_false}}
+use Rattle.std.proofs.lemmas.List.{append-nil, take_more, Elements.{filter-append, filter_map-append, recursion_from_All}}
+use Rattle.list_laws.proofs.{Each.all_contained, Members.Contains-map}
 use Rattle.candidate_order.specs.declared.candidate.Candidate.{Candidate}
 use Rattle.candidate_order.specs.Frontiers.{QuestionValue, FrontierValue, PointValue, UnknownValue, IsWithin, solved, given_up}
-use Rattle.engine_rules.specs.declared.settled.Settled.{Settled}
-use Rattle.engine_rules.specs.declared.settled.Settled.TheVariants.{Solved, Refuted, Unknown}
-use Rattle.engine_rules.specs.Outcomes.{RecordValue}
-use Rattle.pareto_search.specs.Recorded.{entries_of}
-use Rattle.pareto_search.proofs.Entries.{solved_there, refuted_there, unknown_there}
-use Rattle.node_cuts.specs.declared.sets.Sets.{Sets}
-use Rattle.node_cuts.specs.Cuts.{CutValue}
-use Rattle.node_cuts.specs.Cutting.{cut_for, is_cut, with_cut}
-use Rattle.cut_bounds.specs.Cutting.{cuts_of, uncut_entries}
-use Rattle.cut_bounds.specs.Parting.{cuts_among, uncut_among, without_cuts}
+use Rattle.engine_rules.specs.{declared.settled.Settled.{Settled, TheVariants.{Solved, Refuted, Unknown}}, Outcomes.RecordValue}
+use Rattle.pareto_search.{specs.Recorded.entries_of, proofs.Entries.{solved_there, refuted_there, unknown_there}}
+use Rattle.node_cuts.specs.{declared.sets.Sets.Sets, Cuts.CutValue, Cutting.{cut_for, is_cut, with_cut}}
+use Rattle.cut_bounds.specs.{Cutting.{cuts_of, uncut_entries}, Parting.{cuts_among, uncut_among, without_cuts}}
 use Rattle.cut_bounds.proofs.Permuting.{IsPermutation-filter, IsPermutation-filter_map}
 
 abbrev of_kind : Settled → List Candidate → RecordValue

@@ -1,11 +1,6 @@
 -- What is made of each element of a list is made of each of its permutation.
-use Rattle.std.proofs.Common.{◌≡◌, ℕ, zero, suc, ◌<◌, Bool, true, false, cond, List, [], ◌∷◌, ◌++◌, length, get_or, set, refl, sym, subst, ⊎_elim, arith}
-use Rattle.std.specs.Prelude.{Option, None, Some, filter}
-use Rattle.std.specs.List.{filter_map, flat_map, swap}
-use Rattle.std.specs.List.Sorted.{IsPermutation}
-use Rattle.std.proofs.lemmas.Bool.{cases_Bool}
-use Rattle.std.proofs.lemmas.List.{append_assoc}
-use Rattle.std.proofs.lemmas.List.Edits.{swap_is}
+use Rattle.std.proofs.Common.{◌≡◌, ℕ, zero, suc, ◌<◌, Bool, true, false, cond, List, [], ◌∷◌, ◌++◌, length, get_or, set, refl, sym, subst, ⊎_elim, arith, Option, None, Some, filter}
+use Rattle.std.{specs.List.{filter_map, flat_map, swap, Sorted.IsPermutation}, proofs.lemmas.{Bool.cases_Bool, List.{append_assoc, Edits.swap_is}}}
 use Rattle.std.proofs.lemmas.List.Sorted.{IsPermutation-append_comm, IsPermutation-append_left, IsPermutation-append_right, IsPermutation-keeps, IsPermutation-refl, IsPermutation-trans}
 
 module _ {X Y : Type 0} (g : X → List Y) where

@@ -1,23 +1,13 @@
 -- A reduction has the cuts of the collective of which it is the inverse.
-use Rattle.std.proofs.Common.{◌≡◌, ℕ, ◌<◌, true, refl, sym, ap, ◌∙◌, arith}
-use Rattle.std.specs.Prelude.{◌*◌, filter, map}
+use Rattle.std.proofs.Common.{◌≡◌, ℕ, ◌<◌, true, refl, sym, ap, ◌∙◌, arith, ◌*◌, filter, map}
 use Rattle.schedule.specs.Links.{TopologyValue}
-use Rattle.collective_spec.specs.declared.instance.Instance.{Instance}
-use Rattle.collective_spec.specs.declared.kind.Kind.{Kind}
+use Rattle.collective_spec.specs.{declared.{instance.Instance.Instance, kind.Kind.Kind, spec.Spec.Spec}, Collectives.{IsSpec, adds_up, kind_in, spec_instance}}
 use Rattle.collective_spec.specs.declared.kind.Kind.TheVariants as kind
-use Rattle.collective_spec.specs.declared.spec.Spec.{Spec}
 use Rattle.collective_spec.specs.declared.spec.Spec.TheVariants as spec
-use Rattle.collective_spec.specs.Collectives.{IsSpec, adds_up, kind_in, spec_instance}
-use Rattle.candidate_order.specs.declared.candidate.Candidate.{Candidate}
-use Rattle.candidate_order.specs.Copied.{copied_kind, copied_spec}
+use Rattle.candidate_order.specs.{declared.candidate.Candidate.Candidate, Copied.{copied_kind, copied_spec}}
 use Rattle.candidate_formula.proofs.Copying.{same_instance}
-use Rattle.node_cuts.specs.declared.floor.Floor.{Floor}
-use Rattle.node_cuts.specs.declared.sets.Sets.{Sets}
-use Rattle.node_cuts.specs.Sides.{NodeSet, mask_of, node_sets}
-use Rattle.node_cuts.specs.Cuts.{first_cut_of, need_of, width_by}
-use Rattle.node_cuts.specs.Cutting.{cut_in}
-use Rattle.node_cuts.specs.Floors.{first_greatest, floor_of, has_need, least_count}
-use Rattle.node_cuts.specs.Tables.{IsTableOf, TableValue, measure_of, table_of}
+use Rattle.node_cuts.specs.{declared.{floor.Floor.Floor, sets.Sets.Sets}, Sides.{NodeSet, mask_of, node_sets}, Cuts.{first_cut_of, need_of, width_by}}
+use Rattle.node_cuts.specs.{Cutting.cut_in, Floors.{first_greatest, floor_of, has_need, least_count}, Tables.{IsTableOf, TableValue, measure_of, table_of}}
 
 least_alike : (k : Kind) (nodes : ℕ) → least_count (copied_kind k) nodes ≡ least_count k nodes
 least_alike kind.Broadcast nodes = refl

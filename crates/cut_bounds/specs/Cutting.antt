@@ -1,12 +1,8 @@
 -- Which candidates of a record a cut refutes, and which are left to an engine. This project's own.
-use Rattle.std.specs.Prelude.{not, List, filter}
-use Rattle.std.specs.List.{filter_map}
-use Rattle.candidate_order.specs.declared.candidate.Candidate.{Candidate}
-use Rattle.candidate_order.specs.Frontiers.{QuestionValue}
+use Rattle.std.specs.{Prelude.{not, List, filter}, List.filter_map}
+use Rattle.candidate_order.specs.{declared.candidate.Candidate.Candidate, Frontiers.QuestionValue}
 use Rattle.engine_rules.specs.Outcomes.{RecordValue}
-use Rattle.node_cuts.specs.declared.sets.Sets.{Sets}
-use Rattle.node_cuts.specs.Cuts.{CutValue}
-use Rattle.node_cuts.specs.Cutting.{is_cut, with_cut}
+use Rattle.node_cuts.specs.{declared.sets.Sets.Sets, Cuts.CutValue, Cutting.{is_cut, with_cut}}
 
 -- the candidates of a record that one of the sets of nodes refutes, in order, each with its first cut
 abbrev pub cuts_of : Sets → QuestionValue → RecordValue → List (Candidate × CutValue)

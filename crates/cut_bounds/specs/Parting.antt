@@ -1,11 +1,7 @@
 -- The refuted candidates of a frontier, parted by whether a cut refutes them. This project's own.
-use Rattle.std.specs.Prelude.{not, List, filter}
-use Rattle.std.specs.List.{filter_map}
-use Rattle.candidate_order.specs.declared.candidate.Candidate.{Candidate}
-use Rattle.candidate_order.specs.Frontiers.{QuestionValue, FrontierValue}
-use Rattle.node_cuts.specs.declared.sets.Sets.{Sets}
-use Rattle.node_cuts.specs.Cuts.{CutValue}
-use Rattle.node_cuts.specs.Cutting.{is_cut, with_cut}
+use Rattle.std.specs.{Prelude.{not, List, filter}, List.filter_map}
+use Rattle.candidate_order.specs.{declared.candidate.Candidate.Candidate, Frontiers.{QuestionValue, FrontierValue}}
+use Rattle.node_cuts.specs.{declared.sets.Sets.Sets, Cuts.CutValue, Cutting.{is_cut, with_cut}}
 
 -- those that one of the sets of nodes refutes, in order, each with its first cut
 abbrev pub cuts_among : Sets → QuestionValue → List Candidate → List (Candidate × CutValue)

@@ -3,15 +3,10 @@
 ghost use Rattle.std.specs.Prelude.{◌≡◌, ◌<◌, true, false, [], None, Some, Contains, IfOk};
 ghost use Rattle.collective_spec.specs.Collectives.{IsSpec};
 ghost use Rattle.proof_rules.specs.Refuting.{Exhausted};
-ghost use Rattle.candidate_order.specs.declared.candidate.Candidate.{Candidate};
-ghost use Rattle.candidate_order.specs.Copied.{copied_spec};
-ghost use Rattle.candidate_order.specs.Frontiers.{IsSolvable, IsWithin};
-ghost use Rattle.engine_rules.specs.declared.settled.Settled.{Settled};
+ghost use Rattle.candidate_order.specs.{declared.candidate.Candidate.Candidate, Copied.copied_spec, Frontiers.{IsSolvable, IsWithin}};
+ghost use Rattle.engine_rules.specs.{declared.settled.Settled.Settled, Searches.IsSameSearch};
 ghost use Rattle.engine_rules.specs.declared.settled.Settled.TheVariants as settled;
-ghost use Rattle.engine_rules.specs.Searches.{IsSameSearch};
-ghost use Rattle.node_cuts.specs.Cutting.{cut_for, is_cut};
-ghost use Rattle.node_cuts.specs.Floors.{floor_of};
-ghost use Rattle.node_cuts.specs.Tables.{IsTableOf};
+ghost use Rattle.node_cuts.specs.{Cutting.{cut_for, is_cut}, Floors.floor_of, Tables.IsTableOf};
 ghost use Rattle.cut_bounds.specs.Cutting.{uncut_entries};
 
 use candidate_order::{Candidate, Outcome};

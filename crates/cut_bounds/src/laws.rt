@@ -2,25 +2,13 @@
 //! beside a store.
 
 ghost use Rattle.std.specs.Prelude.{◌≡◌, ◌≢◌, ◌↔◌, ◌*◌, ◌≤◌, ℕ, true, false};
-ghost use Rattle.schedule.specs.Links.{TopologyValue, reversed_of};
-ghost use Rattle.schedule.specs.Placed.{PlacementValue};
-ghost use Rattle.schedule.specs.Sends.{ScheduleValue};
-ghost use Rattle.schedule.specs.Summing.{Sums};
-ghost use Rattle.schedule.specs.Rows.{everywhere};
-ghost use Rattle.collective_spec.specs.declared.spec.Spec.{Spec};
-ghost use Rattle.collective_spec.specs.Kinds.{allows};
-ghost use Rattle.collective_spec.specs.Collectives.{IsSpec, adds_up, kind_in, spec_demand};
-ghost use Rattle.candidate_order.specs.Copied.{copied_question, copied_spec};
-ghost use Rattle.candidate_order.specs.Frontiers.{QuestionValue, IsSolvable};
+ghost use Rattle.schedule.specs.{Links.{TopologyValue, reversed_of}, Placed.PlacementValue, Sends.ScheduleValue, Summing.Sums, Rows.everywhere};
+ghost use Rattle.collective_spec.specs.{declared.spec.Spec.Spec, Kinds.allows, Collectives.{IsSpec, adds_up, kind_in, spec_demand}};
+ghost use Rattle.candidate_order.specs.{Copied.{copied_question, copied_spec}, Frontiers.{QuestionValue, IsSolvable}};
 ghost use Rattle.engine_rules.specs.Outcomes.{RecordValue};
 ghost use Rattle.inversion.specs.Reductions.{HeldBySome};
-ghost use Rattle.node_cuts.specs.Sides.{NodeSet};
-ghost use Rattle.node_cuts.specs.Cuts.{need_of, width_by};
-ghost use Rattle.node_cuts.specs.Cutting.{cut_in, is_cut};
-ghost use Rattle.node_cuts.specs.Floors.{floor_of};
-ghost use Rattle.node_cuts.specs.Tables.{TableValue, IsTableOf};
-ghost use Rattle.cut_bounds.specs.declared.engine.CutEngine.{CutEngine};
-ghost use Rattle.cut_bounds.specs.Cutting.{uncut_entries};
+ghost use Rattle.node_cuts.specs.{Sides.NodeSet, Cuts.{need_of, width_by}, Cutting.{cut_in, is_cut}, Floors.floor_of, Tables.{TableValue, IsTableOf}};
+ghost use Rattle.cut_bounds.specs.{declared.engine.CutEngine.CutEngine, Cutting.uncut_entries};
 
 use crate::engine::CutEngine;
 use candidate_order::Candidate;

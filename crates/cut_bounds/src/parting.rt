@@ -1,12 +1,10 @@
 //! The refuted candidates of a frontier, parted by whether a cut refutes them.
 
-ghost use Rattle.std.specs.Prelude.{◌≡◌, ◌++◌, ◌∷◌, [], false, All, IfOk, MatchOption, OnOk};
-ghost use Rattle.std.specs.List.Sorted.{IsPermutation};
+ghost use Rattle.std.specs.{Prelude.{◌≡◌, ◌++◌, ◌∷◌, [], false, All, IfOk, MatchOption, OnOk}, List.Sorted.IsPermutation};
 ghost use Rattle.candidate_order.specs.Frontiers.{IsWithin};
 ghost use Rattle.pareto_search.specs.Recorded.{entries_of};
 ghost use Rattle.node_cuts.specs.Cutting.{is_cut};
-ghost use Rattle.cut_bounds.specs.Cutting.{cuts_of};
-ghost use Rattle.cut_bounds.specs.Parting.{cuts_among, uncut_among, without_cuts};
+ghost use Rattle.cut_bounds.specs.{Cutting.cuts_of, Parting.{cuts_among, uncut_among, without_cuts}};
 
 use crate::engine::CutEngine;
 use candidate_order::{Candidate, Frontier};

@@ -1,13 +1,9 @@
 //! What the definitions give on small questions.
 
 ghost use Rattle.std.specs.Prelude.{◌≡◌, false, Some, [], ◌∷◌};
-ghost use Rattle.schedule.specs.Links.{reversed_of};
-ghost use Rattle.schedule.specs.Rows.{back_of_2, ring_of_4};
-ghost use Rattle.candidate_order.specs.Copied.{copied_question};
-ghost use Rattle.candidate_order.specs.Rows.{asked, at};
-ghost use Rattle.node_cuts.specs.Floors.{floor_of};
-ghost use Rattle.node_cuts.specs.Cutting.{cut_for, is_cut};
-ghost use Rattle.node_cuts.specs.Rows.{cut};
+ghost use Rattle.schedule.specs.{Links.reversed_of, Rows.{back_of_2, ring_of_4}};
+ghost use Rattle.candidate_order.specs.{Copied.copied_question, Rows.{asked, at}};
+ghost use Rattle.node_cuts.specs.{Floors.floor_of, Cutting.{cut_for, is_cut}, Rows.cut};
 ghost use Rattle.cut_bounds.specs.Parting.{cuts_among, uncut_among};
 
 use collective_spec::Kind;

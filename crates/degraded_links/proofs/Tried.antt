@@ -1,18 +1,11 @@
 -- What a record that refutes carried candidates says of the frontier that a search gave.
-use Rattle.std.proofs.Common.{◌≡◌, true, false, List, All, Contains, sym, subst, ◌∙◌, ⊎_elim}
-use Rattle.std.specs.List.Sorted.{IsPermutation}
-use Rattle.std.proofs.lemmas.Bool.{false≢true, false_from_ne_true}
-use Rattle.std.proofs.lemmas.List.Elements.{All-contains_itself}
+use Rattle.std.{proofs.Common.{◌≡◌, true, false, List, All, Contains, sym, subst, ◌∙◌, ⊎_elim}, specs.List.Sorted.IsPermutation}
+use Rattle.std.proofs.lemmas.{Bool.{false≢true, false_from_ne_true}, List.Elements.All-contains_itself}
 use Rattle.list_laws.proofs.Members.{Contains-map}
-use Rattle.candidate_order.specs.declared.candidate.Candidate.{Candidate}
-use Rattle.candidate_order.specs.Frontiers.{FrontierValue, PointValue, UnknownValue, IsTried, solved, given_up}
-use Rattle.engine_rules.specs.declared.settled.Settled.{Settled}
-use Rattle.engine_rules.specs.declared.settled.Settled.TheVariants.{Solved, Refuted, Unknown}
-use Rattle.engine_rules.specs.Outcomes.{RecordValue}
-use Rattle.pareto_search.specs.Recorded.{entries_of}
-use Rattle.pareto_search.proofs.Entries.{solved_there, refuted_there, unknown_there}
-use Rattle.link_faults.specs.Carrying.{is_carried, not_carried}
-use Rattle.link_faults.proofs.Recorded.{contains_kept, passes_kept}
+use Rattle.candidate_order.specs.{declared.candidate.Candidate.Candidate, Frontiers.{FrontierValue, PointValue, UnknownValue, IsTried, solved, given_up}}
+use Rattle.engine_rules.specs.{declared.settled.Settled.{Settled, TheVariants.{Solved, Refuted, Unknown}}, Outcomes.RecordValue}
+use Rattle.pareto_search.{specs.Recorded.entries_of, proofs.Entries.{solved_there, refuted_there, unknown_there}}
+use Rattle.link_faults.{specs.Carrying.{is_carried, not_carried}, proofs.Recorded.{contains_kept, passes_kept}}
 use Rattle.degraded_links.specs.Keeping.{RefutesCarried, unknown_not_refuted}
 
 abbrev is_solved : Settled → Type 0

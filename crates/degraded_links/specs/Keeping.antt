@@ -1,12 +1,9 @@
 -- What an engine over another keeps of the candidates that old ones carry. This project's own.
-use Rattle.std.specs.Prelude.{◌≡◌, true, List, Option, Some, Contains}
+use Rattle.std.{specs.Prelude.{◌≡◌, true, List, Option, Some, Contains}, proofs.Common.subst}
 use Rattle.schedule.specs.Links.{TopologyValue}
-use Rattle.candidate_order.specs.declared.candidate.Candidate.{Candidate}
-use Rattle.candidate_order.specs.Frontiers.{QuestionValue, IsSolvable}
-use Rattle.std.proofs.Common.{subst}
-use Rattle.engine_rules.specs.declared.settled.Settled.{Settled}
+use Rattle.candidate_order.specs.{declared.candidate.Candidate.Candidate, Frontiers.{QuestionValue, IsSolvable}}
+use Rattle.engine_rules.specs.{declared.settled.Settled.Settled, Outcomes.RecordValue}
 use Rattle.engine_rules.specs.declared.settled.Settled.TheVariants as settled
-use Rattle.engine_rules.specs.Outcomes.{RecordValue}
 use Rattle.link_faults.specs.Carrying.{is_carried}
 
 -- the question over other links

@@ -4,8 +4,7 @@ ghost use Rattle.std.specs.Prelude.{◌≡◌, ◌<◌, [], length, None, All, O
 ghost use Rattle.schedule.specs.Judging.{group_at};
 ghost use Rattle.candidate_order.specs.declared.candidate.Candidate.{Candidate};
 ghost use Rattle.engine_rules.specs.Searches.{IsSameSearch};
-ghost use Rattle.link_faults.specs.Narrowed.{narrowed};
-ghost use Rattle.link_faults.specs.Carrying.{IsOldRefuted, is_carried, not_carried};
+ghost use Rattle.link_faults.specs.{Narrowed.narrowed, Carrying.{IsOldRefuted, is_carried, not_carried}};
 ghost use Rattle.degraded_links.specs.Keeping.{HasNoneCarried, RefutesCarried, StopsAlike, question_over};
 
 use candidate_order::{Candidate, Outcome};

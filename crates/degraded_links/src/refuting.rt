@@ -1,10 +1,8 @@
 //! What the record of an engine that takes over old refutations says of the frontier that its
 //! search gave.
 
-ghost use Rattle.std.specs.Prelude.{◌≡◌, true, false, All, Contains};
-ghost use Rattle.std.specs.List.Sorted.{IsPermutation};
-ghost use Rattle.candidate_order.specs.declared.candidate.Candidate.{Candidate};
-ghost use Rattle.candidate_order.specs.Frontiers.{IsTried};
+ghost use Rattle.std.specs.{Prelude.{◌≡◌, true, false, All, Contains}, List.Sorted.IsPermutation};
+ghost use Rattle.candidate_order.specs.{declared.candidate.Candidate.Candidate, Frontiers.IsTried};
 ghost use Rattle.engine_rules.specs.declared.settled.Settled.{Settled};
 ghost use Rattle.engine_rules.specs.declared.settled.Settled.TheVariants as settled;
 ghost use Rattle.pareto_search.specs.Recorded.{entries_of};

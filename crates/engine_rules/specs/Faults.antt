@@ -3,8 +3,7 @@ use Rattle.outer_ports.specs.declared.shelf_fault.ShelfFault.{ShelfFault}
 use Rattle.outer_ports.specs.declared.shelf_fault.ShelfFault.TheVariants as shelf
 use Rattle.ledger_rules.specs.declared.fault.LedgerFault.{LedgerFault}
 use Rattle.ledger_rules.specs.declared.fault.LedgerFault.TheVariants as ledger
-use Rattle.engine_rules.specs.declared.fault.EngineFault.{EngineFault}
-use Rattle.engine_rules.specs.declared.fault.EngineFault.TheVariants.{ShelfFailed, OutOfMemory}
+use Rattle.engine_rules.specs.declared.fault.EngineFault.{EngineFault, TheVariants.{ShelfFailed, OutOfMemory}}
 
 abbrev pub of_shelf : ShelfFault → EngineFault
 of_shelf shelf.Failed = ShelfFailed

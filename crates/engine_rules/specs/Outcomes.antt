@@ -1,17 +1,11 @@
 -- What an engine's outcomes say of a question, and its record of them.
 use Rattle.std.specs.Prelude.{◌≡◌, ℕ, true, List, [], Contains}
-use Rattle.schedule.specs.Solving.{Tight}
-use Rattle.schedule.specs.Sends.{ScheduleValue}
-use Rattle.cnf_formula.specs.Formulas.{FormulaValue}
-use Rattle.cnf_formula.specs.Lines.{ProofLineValue}
-use Rattle.proof_rules.specs.declared.verdict.LineVerdict.TheVariants.{Accepted}
-use Rattle.proof_rules.specs.Judging.{verdict_of}
-use Rattle.proof_rules.specs.Refuting.{SpentLog}
+use Rattle.schedule.specs.{Solving.Tight, Sends.ScheduleValue}
+use Rattle.cnf_formula.specs.{Formulas.FormulaValue, Lines.ProofLineValue}
+use Rattle.proof_rules.specs.{declared.verdict.LineVerdict.TheVariants.Accepted, Judging.verdict_of, Refuting.SpentLog}
 use Rattle.ledger_rules.specs.Logs.{checker_of}
-use Rattle.candidate_order.specs.declared.candidate.Candidate.{Candidate}
-use Rattle.candidate_order.specs.declared.outcome.Outcome.{Outcome}
+use Rattle.candidate_order.specs.{declared.{candidate.Candidate.Candidate, outcome.Outcome.Outcome}, Frontiers.{QuestionValue, IsSolvedBy, instance_for}}
 use Rattle.candidate_order.specs.declared.outcome.Outcome.TheVariants as outcome
-use Rattle.candidate_order.specs.Frontiers.{QuestionValue, IsSolvedBy, instance_for}
 use Rattle.engine_rules.specs.declared.settled.Settled.{Settled}
 use Rattle.engine_rules.specs.declared.settled.Settled.TheVariants as settled
 

@@ -2,13 +2,11 @@
 
 ghost use Rattle.std.specs.Prelude.{◌≡◌, ◌↔◌, ℕ, false, List, [], ◌∷◌, ◌++◌, Option, None, Some, Ok, IfOk, OnOk, OnErr, Contains};
 ghost use Rattle.schedule.specs.Sends.{ScheduleValue};
-ghost use Rattle.cnf_formula.specs.Formulas.{FormulaValue, Satisfiable};
-ghost use Rattle.cnf_formula.specs.Lines.{ProofLineValue};
+ghost use Rattle.cnf_formula.specs.{Formulas.{FormulaValue, Satisfiable}, Lines.ProofLineValue};
 ghost use Rattle.proof_rules.specs.Refuting.{Exhausted};
 ghost use Rattle.outer_ports.specs.Port.{HasCause};
 ghost use Rattle.collective_spec.specs.Collectives.{adds_up};
-ghost use Rattle.candidate_order.specs.declared.candidate.Candidate.{Candidate};
-ghost use Rattle.candidate_order.specs.Frontiers.{QuestionValue, IsWithin, IsSolvable};
+ghost use Rattle.candidate_order.specs.{declared.candidate.Candidate.Candidate, Frontiers.{QuestionValue, IsWithin, IsSolvable}};
 ghost use Rattle.engine_rules.specs.declared.settled.Settled.TheVariants as settled;
 ghost use Rattle.engine_rules.specs.Outcomes.{RecordValue, IsNew, SolvesTightly, SpentOn, kind_of};
 

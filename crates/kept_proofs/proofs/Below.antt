@@ -2,10 +2,8 @@
 use Rattle.std.proofs.Common.{Bool}
 use Rattle.outer_ports.specs.Files.{Files}
 use Rattle.candidate_formula.specs.Formulas.{formula_for}
-use Rattle.candidate_solver.specs.Beside.{beside as beside_inner}
-use Rattle.candidate_solver.specs.Kept.{EngineState}
-use Rattle.kept_proofs.specs.declared.engine.KeptEngine.{KeptEngine}
-use Rattle.kept_proofs.proofs.Standing.{Standing}
+use Rattle.candidate_solver.specs.{Beside.beside as beside_inner, Kept.EngineState}
+use Rattle.kept_proofs.{specs.declared.engine.KeptEngine.KeptEngine, proofs.Standing.Standing}
 
 -- its state beside a shelf
 abbrev pub below : KeptEngine → Bool → Files → EngineState

@@ -1,24 +1,14 @@
 -- What two judged files say of a candidate, and of its formula.
-use Rattle.std.proofs.Common.{◌≡◌, ℕ, Bool, true, false, List, Result, Ok, Err, Option, refl, sym, ap, ◌∙◌, subst}
-use Rattle.std.specs.Prelude.{IfOk, bytes_eq}
-use Rattle.outer_ports.specs.declared.part.Part.{Part}
-use Rattle.outer_ports.specs.declared.proof_name.FileKind.TheVariants.{Cnf, Lrat}
-use Rattle.outer_ports.specs.declared.proof_name.ProofName.{ProofName}
-use Rattle.outer_ports.specs.Files.{Files}
-use Rattle.outer_ports.specs.Port.{HasCause}
+use Rattle.std.proofs.Common.{◌≡◌, ℕ, Bool, true, false, List, Result, Ok, Err, Option, refl, sym, ap, ◌∙◌, subst, IfOk, bytes_eq}
+use Rattle.outer_ports.specs.{declared.{part.Part.Part, proof_name.{FileKind.TheVariants.{Cnf, Lrat}, ProofName.ProofName}}, Files.Files, Port.HasCause}
 use Rattle.cnf_formula.specs.Formulas.{FormulaValue}
 use Rattle.lrat_text.specs.Printing.{cnf_text}
-use Rattle.candidate_order.specs.declared.candidate.Candidate.{Candidate}
-use Rattle.candidate_order.specs.Frontiers.{QuestionValue}
-use Rattle.candidate_formula.specs.Formulas.{formula_for}
-use Rattle.candidate_formula.specs.Files.{file_of, HasRefutation}
-use Rattle.proof_audit.specs.declared.fault.AuditFault.{AuditFault}
-use Rattle.proof_audit.specs.declared.fault.AuditFault.TheVariants as audit
-use Rattle.proof_audit.specs.declared.verdict.FileVerdict.{FileVerdict}
-use Rattle.proof_audit.specs.declared.verdict.FileVerdict.TheVariants.{Missing, Refused, Stands}
-use Rattle.proof_audit.specs.Files.{file_verdict}
-use Rattle.proof_audit.specs.Proving.{is_refutation}
+use Rattle.candidate_order.specs.{declared.candidate.Candidate.Candidate, Frontiers.QuestionValue}
+use Rattle.candidate_formula.specs.{Formulas.formula_for, Files.{file_of, HasRefutation}}
+use Rattle.proof_audit.specs.declared.{fault.AuditFault.AuditFault, verdict.FileVerdict.{FileVerdict, TheVariants.{Missing, Refused, Stands}}}
+use Rattle.proof_audit.specs.{Files.file_verdict, Proving.is_refutation}
 use Rattle.proof_audit.proofs.Standing.{standing_refute}
+use Rattle.proof_audit.specs.declared.fault.AuditFault.TheVariants as audit
 use Rattle.engine_rules.specs.declared.fault.EngineFault.TheVariants as engine
 use Rattle.kept_proofs.specs.inner.Judged.{stands}
 

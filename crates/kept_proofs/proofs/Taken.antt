@@ -1,18 +1,12 @@
 -- What is taken up, by the files of a candidate.
 use Rattle.std.proofs.Common.{◌≡◌, ◌≢◌, [], Some, ap, ◌∙◌, inl, inr}
-use Rattle.outer_ports.specs.declared.part.Part.{Part}
-use Rattle.outer_ports.specs.declared.proof_name.FileKind.TheVariants.{Cnf, Lrat, Partial}
-use Rattle.outer_ports.specs.declared.proof_name.ProofName.{ProofName}
-use Rattle.outer_ports.specs.Files.{Files}
+use Rattle.outer_ports.specs.{declared.{part.Part.Part, proof_name.{FileKind.TheVariants.{Cnf, Lrat, Partial}, ProofName.ProofName}}, Files.Files}
 use Rattle.outer_ports.specs.Shelf.{FilesStay, OthersStay}
 use Rattle.cnf_formula.specs.Formulas.{FormulaValue}
-use Rattle.candidate_order.specs.declared.candidate.Candidate.{Candidate}
-use Rattle.candidate_order.specs.Frontiers.{QuestionValue}
+use Rattle.candidate_order.specs.{declared.candidate.Candidate.Candidate, Frontiers.QuestionValue}
 use Rattle.candidate_formula.specs.Files.{file_of, HasRefutation, RefutedFiles}
-use Rattle.candidate_solver.specs.Trying.{BeginsOwn}
-use Rattle.candidate_solver.proofs.Begun.{begins_one, none_begun}
-use Rattle.proof_audit.specs.Kept.{BothStay}
-use Rattle.proof_audit.proofs.Keeping.{still_refuted}
+use Rattle.candidate_solver.{specs.Trying.BeginsOwn, proofs.Begun.{begins_one, none_begun}}
+use Rattle.proof_audit.{specs.Kept.BothStay, proofs.Keeping.still_refuted}
 
 -- where no file changes, none was begun
 pub begins_none : (f : FormulaValue) (part : Part) (x : Candidate) (before now : Files) → FilesStay before now → BeginsOwn f part x before now

@@ -1,8 +1,7 @@
 -- An engine, and the shelf that is lent to it.
 use Rattle.std.specs.Prelude.{Bool}
 use Rattle.outer_ports.specs.Files.{Files}
-use Rattle.candidate_solver.specs.Kept.{EngineState}
-use Rattle.candidate_solver.specs.Questions.{asked}
+use Rattle.candidate_solver.specs.{Kept.EngineState, Questions.asked}
 use Rattle.kept_proofs.specs.declared.engine.KeptEngine.{KeptEngine}
 
 abbrev pub beside : KeptEngine → Bool → Files → EngineState

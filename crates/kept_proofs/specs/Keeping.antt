@@ -1,14 +1,11 @@
 -- Refutations that stood on the shelf before a search, and stay there. This project's own.
 use Rattle.std.specs.Prelude.{◌≡◌, Bool, IsTrue, Contains}
-use Rattle.outer_ports.specs.declared.part.Part.{Part}
-use Rattle.outer_ports.specs.Files.{Files}
-use Rattle.candidate_order.specs.declared.candidate.Candidate.{Candidate}
-use Rattle.candidate_order.specs.Frontiers.{QuestionValue}
+use Rattle.outer_ports.specs.{declared.part.Part.Part, Files.Files}
+use Rattle.candidate_order.specs.{declared.candidate.Candidate.Candidate, Frontiers.QuestionValue}
 use Rattle.candidate_formula.specs.Files.{HasRefutation}
 use Rattle.proof_audit.specs.Kept.{KeepsEach}
-use Rattle.engine_rules.specs.declared.settled.Settled.{Settled}
+use Rattle.engine_rules.specs.{declared.settled.Settled.Settled, Outcomes.{RecordValue, IsNew}}
 use Rattle.engine_rules.specs.declared.settled.Settled.TheVariants as settled
-use Rattle.engine_rules.specs.Outcomes.{RecordValue, IsNew}
 use Rattle.candidate_solver.specs.Kept.{EngineState, KeptMoves}
 
 -- each candidate that was settled meanwhile, and that files refuted before, is recorded as refuted

@@ -1,14 +1,9 @@
 -- What an engine that takes up refutations changes, from call to call.
-use Rattle.std.specs.Prelude.{Bool, IsTrue, Contains}
-use Rattle.std.proofs.Common.{refl, sym, ◌∙◌, ⊎_elim, subst}
-use Rattle.std.proofs.lemmas.List.Elements.{Contains-append_left}
+use Rattle.std.{specs.Prelude.{Bool, IsTrue, Contains}, proofs.{Common.{refl, sym, ◌∙◌, ⊎_elim, subst}, lemmas.List.Elements.Contains-append_left}}
 use Rattle.engine_rules.specs.declared.settled.Settled.TheVariants.{Refuted}
-use Rattle.candidate_solver.specs.Kept.{EngineState, KeptMoves}
-use Rattle.candidate_solver.specs.Laws.{KeptMoves-refl, KeptMoves-trans}
-use Rattle.proof_audit.specs.Kept.{KeepsEach}
-use Rattle.proof_audit.proofs.Keeping.{keeps_refl, keeps_trans, still_refuted}
-use Rattle.kept_proofs.specs.Keeping.{TakesUpEach, KeepingMoves}
-use Rattle.kept_proofs.specs.Members.{is_in}
+use Rattle.candidate_solver.specs.{Kept.{EngineState, KeptMoves}, Laws.{KeptMoves-refl, KeptMoves-trans}}
+use Rattle.proof_audit.{specs.Kept.KeepsEach, proofs.Keeping.{keeps_refl, keeps_trans, still_refuted}}
+use Rattle.kept_proofs.specs.{Keeping.{TakesUpEach, KeepingMoves}, Members.is_in}
 
 pub KeepingMoves-refl : (kept : Bool) (now : EngineState) → KeepingMoves kept kept now now
 KeepingMoves-refl kept now = record {

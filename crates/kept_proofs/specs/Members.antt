@@ -1,12 +1,8 @@
 -- Whether a candidate is in a record.
-use Rattle.std.specs.Prelude.{◌≡◌, ◌⊎◌, [], ◌∷◌, ℕ, Contains}
-use Rattle.std.proofs.Common.{refl, ap, ◌∙◌, inl, inr, ⊎_elim, subst, arith}
-use Rattle.std.proofs.lemmas.Bool.{cases_eq}
+use Rattle.std.{specs.Prelude.{◌≡◌, ◌⊎◌, [], ◌∷◌, ℕ, Contains}, proofs.{Common.{refl, ap, ◌∙◌, inl, inr, ⊎_elim, subst, arith}, lemmas.Bool.cases_eq}}
 use Rattle.std.proofs.lemmas.List.Elements.{Contains-append_right, Contains-append_cases, Contains-push_cases}
 use Rattle.candidate_order.specs.declared.candidate.Candidate.{Candidate}
-use Rattle.engine_rules.specs.declared.settled.Settled.{Settled}
-use Rattle.engine_rules.specs.declared.settled.Settled.TheVariants.{Solved, Refuted, Unknown}
-use Rattle.engine_rules.specs.Outcomes.{RecordValue, IsNew}
+use Rattle.engine_rules.specs.{declared.settled.Settled.{Settled, TheVariants.{Solved, Refuted, Unknown}}, Outcomes.{RecordValue, IsNew}}
 
 -- what is or is not
 abbrev pub Decided : Type 0 → Type 0

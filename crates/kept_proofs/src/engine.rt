@@ -2,19 +2,13 @@
 
 ghost use Rattle.std.specs.Prelude.{◌≡◌, ◌≢◌, ◌≤◌, ◌↔◌, [], false, true, None, Some, Ok, Contains, IfOk, IsTrue};
 ghost use Rattle.schedule.specs.Sends.{ScheduleValue};
-ghost use Rattle.outer_ports.specs.Port.{HasCause, Tells};
-ghost use Rattle.outer_ports.specs.Shelf.{FilesStay};
+ghost use Rattle.outer_ports.specs.{Port.{HasCause, Tells}, Shelf.FilesStay};
 ghost use Rattle.proof_rules.specs.Refuting.{Exhausted};
 ghost use Rattle.collective_spec.specs.Collectives.{IsSpec, kind_in};
 ghost use Rattle.round_encoding.specs.Candidates.{size_limit};
-ghost use Rattle.candidate_order.specs.declared.candidate.Candidate.{Candidate};
-ghost use Rattle.candidate_order.specs.Copied.{copied_spec};
-ghost use Rattle.candidate_order.specs.Frontiers.{IsSolvable, IsWithin};
-ghost use Rattle.candidate_formula.specs.Files.{HasRefutation, RefutedFiles};
-ghost use Rattle.candidate_formula.specs.Formulas.{formula_for, Suits};
-ghost use Rattle.candidate_formula.specs.Sizes.{size_of};
-ghost use Rattle.candidate_solver.specs.Questions.{asked};
-ghost use Rattle.candidate_solver.specs.Trying.{BeginsOwn};
+ghost use Rattle.candidate_order.specs.{declared.candidate.Candidate.Candidate, Copied.copied_spec, Frontiers.{IsSolvable, IsWithin}};
+ghost use Rattle.candidate_formula.specs.{Files.{HasRefutation, RefutedFiles}, Formulas.{formula_for, Suits}, Sizes.size_of};
+ghost use Rattle.candidate_solver.specs.{Questions.asked, Trying.BeginsOwn};
 ghost use Rattle.proof_audit.specs.Kept.{BothStay};
 ghost use Rattle.engine_rules.specs.declared.settled.Settled.{Settled};
 ghost use Rattle.engine_rules.specs.declared.settled.Settled.TheVariants as settled;
@@ -138,9 +132,7 @@ impl EngineView for KeptEngine {
 
 impl<H: Shelf> Engine<H> for KeptEngine {
     ghost use Rattle.candidate_solver.specs.Kept.{KeptAgrees};
-    ghost use Rattle.kept_proofs.specs.Beside.{beside};
-    ghost use Rattle.kept_proofs.specs.Keeping.{KeepingMoves};
-    ghost use Rattle.kept_proofs.specs.Laws.{KeepingMoves-refl, KeepingMoves-trans};
+    ghost use Rattle.kept_proofs.specs.{Beside.beside, Keeping.KeepingMoves, Laws.{KeepingMoves-refl, KeepingMoves-trans}};
 
     ghost faults = { λ _ shelf. H.faults shelf };
 

@@ -1,13 +1,10 @@
 //! What the files of a candidate say of it before it is tried.
 
 ghost use Rattle.std.specs.Prelude.{◌≡◌, true, false, Ok, IfOk, IsTrue};
-ghost use Rattle.outer_ports.specs.Port.{HasCause, Tells};
-ghost use Rattle.outer_ports.specs.Shelf.{FilesStay};
+ghost use Rattle.outer_ports.specs.{Port.{HasCause, Tells}, Shelf.FilesStay};
 ghost use Rattle.candidate_order.specs.Frontiers.{IsSolvable, IsWithin};
-ghost use Rattle.candidate_formula.specs.Files.{HasRefutation, RefutedFiles};
-ghost use Rattle.candidate_formula.specs.Formulas.{formula_for};
-ghost use Rattle.candidate_solver.specs.Questions.{asked};
-ghost use Rattle.candidate_solver.specs.Trying.{BeginsOwn};
+ghost use Rattle.candidate_formula.specs.{Files.{HasRefutation, RefutedFiles}, Formulas.formula_for};
+ghost use Rattle.candidate_solver.specs.{Questions.asked, Trying.BeginsOwn};
 ghost use Rattle.proof_audit.specs.Kept.{BothStay};
 ghost use Rattle.kept_proofs.specs.inner.Judged.{stands};
 

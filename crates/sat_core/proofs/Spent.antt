@@ -1,24 +1,15 @@
 -- From a closed trail no hints end in a conflict.
-use Rattle.std.proofs.Common.{◌≡◌, ℕ, true, List, [], ◌∷◌, length, sym, ap, ◌∙◌, subst, inl, inr, ⊎_elim, arith}
-use Rattle.std.specs.Prelude.{◌⊎◌, ◌==◌, Contains, Some}
-use Rattle.std.proofs.lemmas.Bool.{cases_Bool}
-use Rattle.std.proofs.lemmas.List.Elements.{All-contains}
+use Rattle.std.proofs.Common.{◌≡◌, ℕ, true, List, [], ◌∷◌, length, sym, ap, ◌∙◌, subst, inl, inr, ⊎_elim, arith, ◌⊎◌, ◌==◌, Contains, Some}
+use Rattle.std.proofs.lemmas.{Bool.cases_Bool, List.Elements.All-contains}
 use Rattle.list_laws.proofs.Members.{Contains-cons}
-use Rattle.cnf_formula.specs.Literals.{LitValue, negation}
-use Rattle.cnf_formula.specs.Lines.{ProofLineValue}
-use Rattle.proof_rules.specs.declared.verdict.LineVerdict.TheVariants.{Accepted as AcceptedVerdict}
-use Rattle.proof_rules.specs.Held.{Entry, CheckerValue, clause_at}
-use Rattle.proof_rules.specs.Judging.{verdict_of}
+use Rattle.cnf_formula.specs.{Literals.{LitValue, negation}, Lines.ProofLineValue}
+use Rattle.proof_rules.specs.{declared.verdict.LineVerdict.TheVariants.Accepted as AcceptedVerdict, Held.{Entry, CheckerValue, clause_at}, Judging.verdict_of}
 use Rattle.proof_rules.specs.Accepting.{IsFalse as IsTaken, Conflicts, leading}
 use Rattle.proof_rules.proofs.Verdicts.{implied_by}
-use Rattle.trail_core.specs.Assigned.{IsFalse, IsOpen, IsConsistent}
-use Rattle.trail_core.specs.Search.{IsFalsified, IsUnit}
-use Rattle.trail_core.specs.Meaning.{IsClosed}
-use Rattle.trail_core.proofs.Keeping.{negated_twice}
+use Rattle.trail_core.{specs.{Assigned.{IsFalse, IsOpen, IsConsistent}, Search.{IsFalsified, IsUnit}, Meaning.IsClosed}, proofs.Keeping.negated_twice}
 use Rattle.sleeping_clauses.specs.Sleeping.{SleepersValue, IsAsleep}
-use Rattle.sat_core.specs.inner.Holding.{AreAmongOr, IsSame}
+use Rattle.sat_core.{specs.inner.Holding.{AreAmongOr, IsSame}, proofs.Members.{stands_by, stands_or_not}}
 use Rattle.conflict_analysis.proofs.Members.{here, cons_cases}
-use Rattle.sat_core.proofs.Members.{stands_by, stands_or_not}
 
 -- a clause that is held under a number is one of the held
 pub is_entry : (held : List Entry) (id : ℕ) (clause : List LitValue) → clause_at held id ≡ Some clause → (entry : Entry) × Contains held entry × (entry.1 ≡ clause)

@@ -1,10 +1,8 @@
 //! Clauses that slept are added to the core again.
 
 ghost use Rattle.std.specs.Prelude.{◌≡◌, ◌+◌, ◌<◌, true, false, All, List, [], ◌∷◌, length, get_or, slice_index, slice_set, take, Ok, MatchOption, OnOk};
-ghost use Rattle.cnf_formula.specs.Literals.{LitValue};
-ghost use Rattle.cnf_formula.specs.Formulas.{IsAbout};
-ghost use Rattle.sleeping_clauses.specs.Sleeping.{IsAsleep, sleeping};
-ghost use Rattle.sleeping_clauses.specs.Naming.{IsListed};
+ghost use Rattle.cnf_formula.specs.{Literals.LitValue, Formulas.IsAbout};
+ghost use Rattle.sleeping_clauses.specs.{Sleeping.{IsAsleep, sleeping}, Naming.IsListed};
 ghost use Rattle.sat_core.specs.inner.Going.{StaysReady};
 ghost use Rattle.trail_core.specs.Meaning.{trues, IsClosed};
 

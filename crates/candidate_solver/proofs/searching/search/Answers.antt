@@ -1,9 +1,7 @@
 use Rattle.std.proofs.Common.{subst}
-use Rattle.conflict_ledger.specs.Beside.{beside}
-use Rattle.conflict_ledger.specs.Shelved.{LedgerState}
+use Rattle.conflict_ledger.specs.{Beside.beside, Shelved.LedgerState}
 use Rattle.candidate_formula.proofs.BegunFiles.{begun_trans}
-use Rattle.candidate_solver.specs.Trying.{BeginsOwn}
-use Rattle.candidate_solver.proofs.Begun.{ledger_made, ledger_moved}
+use Rattle.candidate_solver.{specs.Trying.BeginsOwn, proofs.Begun.{ledger_made, ledger_moved}}
 use Rattle.candidate_solver.proofs.searching.search.Goals as goal
 
 pub returns-in_err-ledger-clause-begins : goal.returns-in_err-ledger-clause-begins

@@ -1,10 +1,6 @@
-use Rattle.std.proofs.Common.{◌≡◌, sym, ap, ◌∙◌, subst, rules}
-use Rattle.std.specs.Prelude.{Ok, OnOk}
-use Rattle.conflict_ledger.specs.Beside.{beside}
-use Rattle.conflict_ledger.specs.Shelved.{ShelfAgrees}
-use Rattle.candidate_solver.specs.inner.Faults.{of_solving}
-use Rattle.candidate_solver.specs.Trying.{IsSearch}
-use Rattle.candidate_solver.proofs.Searches.{IsSolved, is_search, same_answer, same_cause, same_files}
+use Rattle.std.proofs.Common.{◌≡◌, sym, ap, ◌∙◌, subst, rules, Ok, OnOk}
+use Rattle.conflict_ledger.specs.{Beside.beside, Shelved.ShelfAgrees}
+use Rattle.candidate_solver.{specs.{inner.Faults.of_solving, Trying.IsSearch}, proofs.Searches.{IsSolved, is_search, same_answer, same_cause, same_files}}
 use Rattle.candidate_solver.proofs.searching.search_checked.Goals as goal
 
 pub returns-clause-search : goal.returns-clause-search

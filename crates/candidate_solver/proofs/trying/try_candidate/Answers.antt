@@ -1,12 +1,9 @@
 use Rattle.std.proofs.Common.{sym, subst, ◌∙◌}
 use Rattle.cnf_formula.specs.Formulas.{Satisfies}
 use Rattle.candidate_order.specs.Frontiers.{QuestionValue, instance_for}
-use Rattle.candidate_formula.specs.Formulas.{formula_for}
-use Rattle.candidate_formula.proofs.BegunFiles.{begun_trans}
-use Rattle.candidate_solver.specs.Questions.{asked}
-use Rattle.candidate_solver.specs.Trying.{BeginsOwn, IsSearch, Says, IsOutcome}
-use Rattle.candidate_solver.proofs.Tried.{both_ok, has_files, outcome_by}
-use Rattle.candidate_solver.proofs.SmallFormulas.{formula_small}
+use Rattle.candidate_formula.{specs.Formulas.formula_for, proofs.BegunFiles.begun_trans}
+use Rattle.candidate_solver.specs.{Questions.asked, Trying.{BeginsOwn, IsSearch, Says, IsOutcome}}
+use Rattle.candidate_solver.proofs.{Tried.{both_ok, has_files, outcome_by}, SmallFormulas.formula_small}
 use Rattle.candidate_solver.proofs.trying.try_candidate.Goals as goal
 
 pub returns-in_err-found-clause-begins : goal.returns-in_err-found-clause-begins

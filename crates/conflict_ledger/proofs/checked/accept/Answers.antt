@@ -1,7 +1,5 @@
 use Rattle.std.proofs.Common.{◌≡◌, sym, ap, ◌∙◌, rules}
-use Rattle.proof_rules.specs.Held.{CheckerValue, start_of}
-use Rattle.proof_rules.specs.Refuting.{with_line}
-use Rattle.proof_rules.proofs.InTurn.{after_more}
+use Rattle.proof_rules.{specs.{Held.{CheckerValue, start_of}, Refuting.with_line}, proofs.InTurn.after_more}
 use Rattle.conflict_ledger.proofs.checked.accept.Goals as goal
 
 pub returns-clause-accepted : goal.returns-clause-accepted

@@ -1,6 +1,4 @@
-use Rattle.std.proofs.Common.{◌++◌, length, sym, ap, ◌∙◌, arith}
-use Rattle.std.specs.Prelude.{Some}
-use Rattle.std.proofs.lemmas.List.{take_all}
+use Rattle.std.proofs.{Common.{◌++◌, length, sym, ap, ◌∙◌, arith, Some}, lemmas.List.take_all}
 use Rattle.conflict_ledger.proofs.shelved.put.Goals as goal
 
 pub returns-clause-front : goal.returns-clause-front

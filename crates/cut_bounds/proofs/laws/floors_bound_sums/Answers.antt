@@ -1,7 +1,6 @@
 use Rattle.std.proofs.Common.{subst}
 use Rattle.schedule.specs.Summing.{SummedSolvable}
-use Rattle.candidate_order.specs.Frontiers.{demand_for}
-use Rattle.candidate_order.proofs.Achieved.{Achievable, achieved}
+use Rattle.candidate_order.{specs.Frontiers.demand_for, proofs.Achieved.{Achievable, achieved}}
 use Rattle.cut_bounds.proofs.Bounded.{sums_bound}
 use Rattle.cut_bounds.proofs.laws.floors_bound_sums.Goals as goal
 

@@ -1,8 +1,5 @@
-use Rattle.std.proofs.Common.{ℕ, List, get_or}
-use Rattle.std.specs.Prelude.{All}
-use Rattle.std.proofs.lemmas.List.Elements.{All-contains, Contains-get_or}
-use Rattle.candidate_order.specs.declared.candidate.Candidate.{Candidate}
-use Rattle.candidate_order.specs.Frontiers.{IsWithin}
+use Rattle.std.proofs.{Common.{ℕ, List, get_or, All}, lemmas.List.Elements.{All-contains, Contains-get_or}}
+use Rattle.candidate_order.specs.{declared.candidate.Candidate.Candidate, Frontiers.IsWithin}
 use Rattle.cut_bounds.proofs.Parted.{cuts_more, others_more}
 use Rattle.cut_bounds.proofs.parting.part_refuted.Goals as goal
 

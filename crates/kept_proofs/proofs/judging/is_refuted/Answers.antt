@@ -1,11 +1,9 @@
-use Rattle.std.proofs.Common.{Ok, sym, subst, ap, ◌∙◌}
-use Rattle.std.specs.Prelude.{bytes_eq}
+use Rattle.std.proofs.Common.{Ok, sym, subst, ap, ◌∙◌, bytes_eq}
 use Rattle.outer_ports.specs.declared.proof_name.FileKind.TheVariants.{Cnf, Lrat}
 use Rattle.cnf_formula.specs.Formulas.{Satisfiable}
 use Rattle.lrat_text.specs.Printing.{cnf_text}
 use Rattle.candidate_order.specs.Frontiers.{QuestionValue}
-use Rattle.candidate_formula.specs.Files.{file_of}
-use Rattle.candidate_formula.proofs.Exact.{formula_exact}
+use Rattle.candidate_formula.{specs.Files.file_of, proofs.Exact.formula_exact}
 use Rattle.candidate_solver.specs.Questions.{asked}
 use Rattle.proof_audit.specs.Proving.{is_refutation}
 use Rattle.kept_proofs.proofs.Judged.{has_both, no_text, no_proof, said_at, said_before, stood}

@@ -1,16 +1,10 @@
-use Rattle.std.proofs.Common.{Ok, ◌≡◌, ◌<◌, ◌++◌, ◌∷◌, length, [], map, refl, sym, ap, ◌∙◌, subst, inl, inr, arith}
-use Rattle.std.specs.Prelude.{vec_len, get_or, false, Contains}
-use Rattle.std.proofs.lemmas.Bool.{eqb-true}
-use Rattle.std.proofs.lemmas.List.{nil_from_length}
-use Rattle.std.proofs.lemmas.Result.{IfOk-from_err}
-use Rattle.cnf_formula.specs.Formulas.{IsClause}
-use Rattle.cnf_formula.specs.declared.line.LratLine.TheVariants.{Addition}
+use Rattle.std.proofs.Common.{Ok, ◌≡◌, ◌<◌, ◌++◌, ◌∷◌, length, [], map, refl, sym, ap, ◌∙◌, subst, inl, inr, arith, vec_len, get_or, false, Contains}
+use Rattle.std.proofs.lemmas.{Bool.eqb-true, List.nil_from_length, Result.IfOk-from_err}
+use Rattle.cnf_formula.specs.{Formulas.IsClause, declared.line.LratLine.TheVariants.Addition}
 use Rattle.proof_rules.specs.Refuting.{Refutes}
 use Rattle.sleeping_clauses.specs.Sleeping.{sleeping}
-use Rattle.sat_core.specs.inner.Guided.{IsGuided}
-use Rattle.sat_core.specs.Ready.{IsReady}
-use Rattle.sat_core.proofs.Caused.{after, answered, answered_after, handed_on, no_memory, no_memory_after, of_ledger, unmoved}
-use Rattle.sat_core.proofs.Ending.{closed_few, no_room}
+use Rattle.sat_core.specs.{inner.Guided.IsGuided, Ready.IsReady}
+use Rattle.sat_core.proofs.{Caused.{after, answered, answered_after, handed_on, no_memory, no_memory_after, of_ledger, unmoved}, Ending.{closed_few, no_room}}
 use Rattle.sat_core.proofs.Going.{ready_at, still_written, written_then, written_to}
 use Rattle.sat_core.proofs.Turning.{guided_more, none_by, not_empty, turn_about, turn_above, turn_accepted, turn_backed, turn_fresh, turn_over, turn_refuted, turn_written}
 use Rattle.sat_core.proofs.turn.at_conflict.Goals as goal

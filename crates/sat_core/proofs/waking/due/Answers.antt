@@ -1,5 +1,4 @@
-use Rattle.std.proofs.Common.{◌≡◌, false, [], ◌∷◌, get_or, sym, ap, ◌∙◌, subst, ⊎_elim, arith}
-use Rattle.std.proofs.lemmas.Bool.{false≢true, cases_lt}
+use Rattle.std.proofs.{Common.{◌≡◌, false, [], ◌∷◌, get_or, sym, ap, ◌∙◌, subst, ⊎_elim, arith}, lemmas.Bool.{false≢true, cases_lt}}
 use Rattle.trail_core.specs.Meaning.{trues, IsClosed}
 use Rattle.sat_core.proofs.waking.due.Goals as goal
 use Rattle.sat_core.proofs.waking.due.Goals.{else-is_asleep-via-then-is_asleep+else-not-rests, else-is_asleep-via-else-is_asleep}

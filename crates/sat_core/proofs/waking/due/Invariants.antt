@@ -1,5 +1,4 @@
-use Rattle.std.proofs.Common.{◌≡◌, ◌<◌, ◌∷◌, [], get_or}
-use Rattle.std.specs.Prelude.{true, false}
+use Rattle.std.proofs.Common.{◌≡◌, ◌<◌, ◌∷◌, [], get_or, true, false}
 use Rattle.trail_core.specs.Meaning.{trues, IsClosed}
 use Rattle.sat_core.proofs.waking.due.Given as goal
 

@@ -1,10 +1,7 @@
-use Rattle.std.proofs.Common.{◌≡◌, true, sym, subst, rules}
-use Rattle.std.specs.Prelude.{Some, None, Contains, IfSome}
+use Rattle.std.proofs.Common.{◌≡◌, true, sym, subst, rules, Some, None, Contains, IfSome}
 use Rattle.cnf_formula.specs.Literals.{LitValue}
-use Rattle.trail_core.specs.Assigned.{IsOpen, IsValue}
-use Rattle.trail_core.specs.Meaning.{trues}
-use Rattle.sat_core.proofs.Once.{consistent_by}
-use Rattle.sat_core.proofs.Spent.{true_rests, open_rests}
+use Rattle.trail_core.specs.{Assigned.{IsOpen, IsValue}, Meaning.trues}
+use Rattle.sat_core.proofs.{Once.consistent_by, Spent.{true_rests, open_rests}}
 use Rattle.sat_core.proofs.waking.rests.Goals as goal
 
 pub returns-in-Some-true : goal.returns-in-Some-true

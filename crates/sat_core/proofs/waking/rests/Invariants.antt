@@ -1,6 +1,5 @@
 use Rattle.std.specs.Prelude.{Contains, IfSome}
-use Rattle.trail_core.specs.Assigned.{IsOpen}
-use Rattle.trail_core.specs.Meaning.{trues}
+use Rattle.trail_core.specs.{Assigned.IsOpen, Meaning.trues}
 use Rattle.sat_core.proofs.waking.rests.Given as goal
 
 abbrev pub invariant-loop-lit : goal.invariant-loop-lit

@@ -1,8 +1,6 @@
-use Rattle.std.proofs.Common.{◌≡◌, List, [], ◌∷◌, get_or, take, sym, ap, ◌∙◌, subst}
-use Rattle.std.proofs.lemmas.List.{take-map}
+use Rattle.std.proofs.{Common.{◌≡◌, List, [], ◌∷◌, get_or, take, sym, ap, ◌∙◌, subst}, lemmas.List.take-map}
 use Rattle.cnf_formula.specs.Literals.{LitValue}
-use Rattle.trail_core.specs.Trails.{lits_of}
-use Rattle.trail_core.specs.Meaning.{trues, IsClosed}
+use Rattle.trail_core.specs.{Trails.lits_of, Meaning.{trues, IsClosed}}
 use Rattle.sat_core.proofs.Readiness.{ready_same}
 use Rattle.sat_core.proofs.waking.wake_due.Goals as goal
 

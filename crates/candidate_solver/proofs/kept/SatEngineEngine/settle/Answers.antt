@@ -1,19 +1,11 @@
-use Rattle.std.proofs.Common.{◌≡◌, [], ◌∷◌, ◌++◌, refl, sym, ap, ◌∙◌, subst}
-use Rattle.std.specs.Prelude.{Contains}
-use Rattle.candidate_order.specs.declared.candidate.Candidate.{Candidate}
+use Rattle.std.proofs.Common.{◌≡◌, [], ◌∷◌, ◌++◌, refl, sym, ap, ◌∙◌, subst, Contains}
+use Rattle.candidate_order.specs.{declared.candidate.Candidate.Candidate, Frontiers.QuestionValue}
 use Rattle.candidate_order.specs.declared.outcome.Outcome.TheVariants as outcome
-use Rattle.candidate_order.specs.Frontiers.{QuestionValue}
-use Rattle.candidate_formula.specs.Formulas.{formula_for, Suits}
-use Rattle.candidate_formula.proofs.Exact.{formula_exact}
-use Rattle.candidate_solver.specs.Questions.{asked}
-use Rattle.engine_rules.specs.declared.settled.Settled.{Settled}
+use Rattle.candidate_formula.{specs.Formulas.{formula_for, Suits}, proofs.{Exact.formula_exact, BegunFiles.begun_refl}}
+use Rattle.candidate_solver.specs.{Questions.asked, Beside.beside, Kept.{EngineState, HasFiles}}
+use Rattle.candidate_solver.proofs.{Settling.{IsSettled, settled_moves, settled_agrees, failed_moves}, Noting.{proved_by, not_solvable}}
+use Rattle.engine_rules.specs.{declared.settled.Settled.Settled, Outcomes.{RecordValue, SpentOn}}
 use Rattle.engine_rules.specs.declared.settled.Settled.TheVariants as settled
-use Rattle.engine_rules.specs.Outcomes.{RecordValue, SpentOn}
-use Rattle.candidate_formula.proofs.BegunFiles.{begun_refl}
-use Rattle.candidate_solver.specs.Beside.{beside}
-use Rattle.candidate_solver.specs.Kept.{EngineState, HasFiles}
-use Rattle.candidate_solver.proofs.Settling.{IsSettled, settled_moves, settled_agrees, failed_moves}
-use Rattle.candidate_solver.proofs.Noting.{proved_by, not_solvable}
 use Rattle.candidate_solver.proofs.kept.SatEngineEngine.settle.Goals as goal
 
 pub returns-in_err-prepare-clause-moves : goal.returns-in_err-prepare-clause-moves

@@ -1,6 +1,5 @@
 use Rattle.std.proofs.Common.{sym, subst}
-use Rattle.candidate_formula.specs.Questions.{IsSmallQuestion, copying_question}
-use Rattle.candidate_formula.proofs.CopyingQuestions.{small_by_copying}
+use Rattle.candidate_formula.{specs.Questions.{IsSmallQuestion, copying_question}, proofs.CopyingQuestions.small_by_copying}
 use Rattle.candidate_solver.proofs.question.Question.new.Goals as goal
 
 pub invariant_of-result : goal.invariant_of-result

@@ -1,10 +1,7 @@
-use Rattle.candidate_order.specs.declared.candidate.Candidate.{Candidate}
-use Rattle.candidate_order.specs.Frontiers.{QuestionValue}
+use Rattle.candidate_order.specs.{declared.candidate.Candidate.Candidate, Frontiers.QuestionValue}
 use Rattle.cnf_formula.specs.Formulas.{FormulaValue}
-use Rattle.candidate_solver.specs.Questions.{asked}
-use Rattle.candidate_solver.proofs.Noting.{right_more, exhausted_more, proved_last}
-use Rattle.candidate_formula.specs.Formulas.{ordered_formula_for}
-use Rattle.candidate_formula.proofs.Exact.{ordered_exact}
+use Rattle.candidate_solver.{specs.Questions.asked, proofs.Noting.{right_more, exhausted_more, proved_last}}
+use Rattle.candidate_formula.{specs.Formulas.ordered_formula_for, proofs.Exact.ordered_exact}
 use Rattle.chunk_symmetry.proofs.engine.OrderedEngine.note.Goals as goal
 
 pub invariant_of-self : goal.invariant_of-self

@@ -1,12 +1,9 @@
-use Rattle.std.proofs.Common.{◌≡◌, ◌∙◌, sym, ap, subst}
-use Rattle.std.specs.Prelude.{Contains}
+use Rattle.std.proofs.Common.{◌≡◌, ◌∙◌, sym, ap, subst, Contains}
 use Rattle.candidate_order.specs.declared.outcome.Outcome.TheVariants as outcome
 use Rattle.candidate_order.specs.Frontiers.{QuestionValue}
-use Rattle.candidate_formula.specs.Formulas.{ordered_formula_for, OrderedFor}
-use Rattle.candidate_solver.specs.Questions.{asked}
+use Rattle.candidate_formula.{specs.Formulas.{ordered_formula_for, OrderedFor}, proofs.Exact.ordered_exact}
+use Rattle.candidate_solver.{specs.Questions.asked, proofs.Noting.{proved_by, not_solvable}}
 use Rattle.engine_rules.specs.declared.settled.Settled.TheVariants as settled
-use Rattle.candidate_solver.proofs.Noting.{proved_by, not_solvable}
-use Rattle.candidate_formula.proofs.Exact.{ordered_exact}
 use Rattle.chunk_symmetry.proofs.Engines.{spent_same}
 use Rattle.chunk_symmetry.proofs.engine.OrderedEngineEngine.settle.Goals as goal
 

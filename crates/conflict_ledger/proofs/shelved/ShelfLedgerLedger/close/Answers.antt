@@ -1,10 +1,7 @@
 use Rattle.std.proofs.Common.{[], ◌∷◌, ◌++◌, List, sym, subst}
 use Rattle.cnf_formula.specs.Lines.{ProofLineValue}
-use Rattle.proof_rules.specs.Held.{start_of}
-use Rattle.proof_rules.specs.Learning.{AllImplied}
-use Rattle.proof_rules.proofs.InTurn.{implied_more}
-use Rattle.conflict_ledger.specs.Beside.{beside}
-use Rattle.conflict_ledger.specs.Shelved.{LedgerState, ShelfMoves, ShelfAgrees}
+use Rattle.proof_rules.{specs.{Held.start_of, Learning.AllImplied}, proofs.InTurn.implied_more}
+use Rattle.conflict_ledger.specs.{Beside.beside, Shelved.{LedgerState, ShelfMoves, ShelfAgrees}}
 use Rattle.conflict_ledger.proofs.Shelving.{IsPut, IsWhole, later, moves_whole, agrees_closed}
 use Rattle.conflict_ledger.proofs.shelved.ShelfLedgerLedger.close.Goals as goal
 

@@ -1,14 +1,9 @@
 use Rattle.std.proofs.Common.{◌≡◌, [], ◌∷◌, ◌++◌, List, sym, subst}
 use Rattle.cnf_formula.specs.Lines.{ProofLineValue}
-use Rattle.proof_rules.specs.Held.{start_of}
-use Rattle.proof_rules.specs.Learning.{AllImplied}
-use Rattle.proof_rules.proofs.InTurn.{implied_more}
-use Rattle.ledger_rules.specs.Logs.{learned}
-use Rattle.conflict_ledger.specs.Beside.{beside}
-use Rattle.conflict_ledger.specs.Shelved.{LedgerState, ShelfMoves, ShelfAgrees}
-use Rattle.conflict_ledger.proofs.Learned.{fresh_some}
-use Rattle.ledger_rules.specs.Logs.{checker_of}
-use Rattle.conflict_ledger.proofs.Shelving.{IsPut, IsWhole, later, all_learned, moves_whole, moves_both, agrees_learned}
+use Rattle.proof_rules.{specs.{Held.start_of, Learning.AllImplied}, proofs.InTurn.implied_more}
+use Rattle.ledger_rules.specs.Logs.{learned, checker_of}
+use Rattle.conflict_ledger.specs.{Beside.beside, Shelved.{LedgerState, ShelfMoves, ShelfAgrees}}
+use Rattle.conflict_ledger.proofs.{Learned.fresh_some, Shelving.{IsPut, IsWhole, later, all_learned, moves_whole, moves_both, agrees_learned}}
 use Rattle.conflict_ledger.proofs.shelved.ShelfLedgerLedger.learn.Goals as goal
 
 pub returns-in_err-put-clause-moves : goal.returns-in_err-put-clause-moves

@@ -1,13 +1,9 @@
-use Rattle.std.proofs.Common.{◌<◌, sym, ap, ◌∙◌, subst}
-use Rattle.std.proofs.lemmas.Option.{none-some}
+use Rattle.std.proofs.{Common.{◌<◌, sym, ap, ◌∙◌, subst}, lemmas.Option.none-some}
 use Rattle.schedule.specs.Links.{TopologyValue}
 use Rattle.collective_spec.specs.declared.spec.Spec.{Spec}
-use Rattle.candidate_order.specs.Copied.{copied_spec}
-use Rattle.candidate_order.specs.Frontiers.{QuestionValue}
+use Rattle.candidate_order.specs.{Copied.copied_spec, Frontiers.QuestionValue}
 use Rattle.node_cuts.specs.Tables.{IsTableOf}
-use Rattle.cut_bounds.specs.Cutting.{uncut_entries}
-use Rattle.cut_bounds.proofs.Noting.{nothing_holds}
-use Rattle.cut_bounds.proofs.Turned.{table_same}
+use Rattle.cut_bounds.{specs.Cutting.uncut_entries, proofs.{Noting.nothing_holds, Turned.table_same}}
 use Rattle.cut_bounds.proofs.engine.CutEngine.new.Goals as goal
 
 pub invariant_of-result : goal.invariant_of-result

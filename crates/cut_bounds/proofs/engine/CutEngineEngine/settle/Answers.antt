@@ -1,13 +1,8 @@
-use Rattle.std.proofs.Common.{◌≡◌, ◌<◌, true, false, [], ◌∷◌, ◌++◌, refl, sym, ap, ◌∙◌, subst}
-use Rattle.std.proofs.lemmas.Bool.{false≢true}
-use Rattle.std.proofs.lemmas.Option.{none-some, same_Some}
-use Rattle.candidate_order.specs.declared.candidate.Candidate.{Candidate}
-use Rattle.candidate_order.specs.Frontiers.{QuestionValue, IsWithin}
-use Rattle.engine_rules.specs.declared.settled.Settled.{Settled}
+use Rattle.std.proofs.{Common.{◌≡◌, ◌<◌, true, false, [], ◌∷◌, ◌++◌, refl, sym, ap, ◌∙◌, subst}, lemmas.{Bool.false≢true, Option.{none-some, same_Some}}}
+use Rattle.candidate_order.specs.{declared.candidate.Candidate.Candidate, Frontiers.{QuestionValue, IsWithin}}
+use Rattle.engine_rules.specs.{declared.settled.Settled.Settled, Outcomes.RecordValue}
 use Rattle.engine_rules.specs.declared.settled.Settled.TheVariants as settled
-use Rattle.engine_rules.specs.Outcomes.{RecordValue}
-use Rattle.node_cuts.specs.Cutting.{is_cut}
-use Rattle.node_cuts.specs.Tables.{IsTableOf}
+use Rattle.node_cuts.specs.{Cutting.is_cut, Tables.IsTableOf}
 use Rattle.cut_bounds.specs.Cutting.{uncut_entries}
 use Rattle.cut_bounds.proofs.Noting.{cut_refuted, exhausted_by, exhausted_same, refutes_more, refutes_on, refutes_same, right_by, right_same, runs_within, still_new, uncut_cut, uncut_more, within_more, within_on, within_same}
 use Rattle.cut_bounds.proofs.engine.CutEngineEngine.settle.Goals as goal

@@ -1,9 +1,7 @@
-use Rattle.std.proofs.Common.{◌≡◌, true, false, ◌∷◌, [], ◌++◌, refl, sym, ap, ◌∙◌, subst}
-use Rattle.std.specs.Prelude.{Contains}
+use Rattle.std.proofs.Common.{◌≡◌, true, false, ◌∷◌, [], ◌++◌, refl, sym, ap, ◌∙◌, subst, Contains}
 use Rattle.engine_rules.specs.declared.settled.Settled.TheVariants as settled
 use Rattle.engine_rules.specs.Outcomes.{RecordValue}
-use Rattle.link_faults.specs.Carrying.{is_carried, not_carried}
-use Rattle.link_faults.proofs.Recorded.{kept_contains}
+use Rattle.link_faults.{specs.Carrying.{is_carried, not_carried}, proofs.Recorded.kept_contains}
 use Rattle.degraded_links.specs.Keeping.{HasNoneCarried, RefutesCarried}
 use Rattle.degraded_links.proofs.Keeping.{alone_with, is_running, joined, kept_with, kept_without, not_both, stops_nowhere}
 use Rattle.degraded_links.proofs.engine.CarryEngineEngine.settle.Goals as goal

@@ -1,6 +1,5 @@
 use Rattle.std.proofs.Common.{refl, sym, subst}
-use Rattle.candidate_formula.specs.Files.{HasRefutation, RefutedFiles}
-use Rattle.candidate_formula.specs.Formulas.{formula_for}
+use Rattle.candidate_formula.specs.{Files.{HasRefutation, RefutedFiles}, Formulas.formula_for}
 use Rattle.candidate_order.specs.Frontiers.{QuestionValue, IsSolvable, IsWithin}
 use Rattle.candidate_solver.specs.Trying.{BeginsOwn}
 use Rattle.kept_proofs.proofs.Taken.{begins_none}

@@ -1,15 +1,8 @@
-use Rattle.std.proofs.Common.{◌≡◌, true, false, [], ◌∷◌, ◌++◌, Ok, refl, sym, ap, ◌∙◌}
-use Rattle.std.proofs.lemmas.Option.{none-some}
-use Rattle.candidate_order.specs.declared.candidate.Candidate.{Candidate}
-use Rattle.candidate_order.specs.Frontiers.{QuestionValue, IsSolvable}
-use Rattle.candidate_formula.specs.Formulas.{formula_for}
-use Rattle.candidate_formula.proofs.BegunFiles.{begun_refl}
-use Rattle.engine_rules.specs.declared.settled.Settled.{Settled}
-use Rattle.engine_rules.specs.declared.settled.Settled.TheVariants.{Refuted}
-use Rattle.engine_rules.specs.Outcomes.{RecordValue}
-use Rattle.candidate_solver.specs.Beside.{beside as beside_inner}
-use Rattle.candidate_solver.specs.Kept.{EngineState}
-use Rattle.candidate_solver.proofs.Settling.{IsSettled, settled_agrees}
+use Rattle.std.proofs.{Common.{◌≡◌, true, false, [], ◌∷◌, ◌++◌, Ok, refl, sym, ap, ◌∙◌}, lemmas.Option.none-some}
+use Rattle.candidate_order.specs.{declared.candidate.Candidate.Candidate, Frontiers.{QuestionValue, IsSolvable}}
+use Rattle.candidate_formula.{specs.Formulas.formula_for, proofs.BegunFiles.begun_refl}
+use Rattle.engine_rules.specs.{declared.settled.Settled.{Settled, TheVariants.Refuted}, Outcomes.RecordValue}
+use Rattle.candidate_solver.{specs.{Beside.beside as beside_inner, Kept.EngineState}, proofs.Settling.{IsSettled, settled_agrees}}
 use Rattle.kept_proofs.specs.Beside.{beside}
 use Rattle.kept_proofs.proofs.Below.{standing_of}
 use Rattle.kept_proofs.proofs.Standing.{calm, calm_below, exhausted_by, failed_there, stands_failed, stands_prepared, stands_searched, stands_taken, unsolvable_by}
