@@ -1,41 +1,10 @@
--- Clauses that sleep: how many, where one is woken, and where one more falls asleep.
-use Rattle.std.proofs.Common.{suc, ◌≡◌, ℕ, ◌<◌, Bool, true, false, List, [], ◌∷◌, ◌++◌, length, get_or, set, refl, sym, ap, ◌∙◌, subst, inl, inr, ⊎_elim, arith}
-use Rattle.std.specs.Prelude.{◌⊎◌, count_by}
-use Rattle.std.proofs.lemmas.Bool.{cases_lt, cases_eq, true≢false}
-use Rattle.std.proofs.lemmas.List.{get_or_append_left, get_or_push, length_push, get_or-set_other, get_or_past}
-use Rattle.std.proofs.lemmas.List.Sums.{sum_by-cons, get_or-le-sum_by}
+-- Clauses that sleep: where one is woken, and where one more falls asleep.
+use Rattle.std.proofs.Common.{◌≡◌, ℕ, ◌<◌, true, false, List, [], ◌∷◌, ◌++◌, length, get_or, set, refl, sym, ap, ◌∙◌, subst, inl, inr, ⊎_elim, arith, ◌⊎◌}
+use Rattle.std.proofs.lemmas.{Bool.{cases_lt, cases_eq}, List.{get_or_append_left, get_or_push, length_push, get_or-set_other}}
 use Rattle.cnf_formula.specs.Literals.{LitValue}
 use Rattle.proof_rules.specs.Held.{Entry}
-use Rattle.sat_core.specs.inner.Holding.{AreHeld, AreAmong, AreAsleep, IsHeldAs}
-use Rattle.sleeping_clauses.specs.Sleeping.{SleepersValue, IsAsleep, sleeping}
-use Rattle.sleeping_clauses.proofs.Stored.{one}
-
--- ---- how many sleep
-
-pub some_true : (bs : List Bool) (k : ℕ) → k < length bs → get_or bs k false ≡ true → 0 < count_by (λ b. b) bs
-some_true bs k w e = let s = get_or-le-sum_by one bs k false w in omega (arith, s, ap one e)
-
-pub none_asleep : (s : SleepersValue) (clause : List LitValue) → sleeping s ≡ 0 → IsAsleep s clause → ⊥
-none_asleep s clause none a = ⊎_elim
-    (λ w. let m = some_true s.asleep a.0 w a.1.asleep in omega (arith, m, none))
-    (λ w. true≢false (sym a.1.asleep ∙ get_or_past s.asleep a.0 false w))
-    (cases_lt a.0 (length s.asleep))
-
--- where none sleeps, each clause that is held is one of the core
-pub all_awake : (held : List Entry) (names : List ℕ) (clauses : List (List LitValue)) (s : SleepersValue) → AreHeld held names clauses s → sleeping s ≡ 0 → AreAmong held clauses
-all_awake held names clauses s a none = λ entry c. let o = a.only entry c in (o.0, ⊎_elim (λ w. w) (λ w. absurd (none_asleep s o.0 none w)) o.1, o.2)
-
--- where none of the flags is set, none sleeps
-pub none_true : (bs : List Bool) → ((k : ℕ) → k < length bs → get_or bs k false ≡ false) → count_by (λ b. b) bs ≡ 0
-none_true bs n = go bs n
-  where
-    go : (bs : List Bool) → ((k : ℕ) → k < length bs → get_or bs k false ≡ false) → count_by (λ b. b) bs ≡ 0
-    go [] h = refl
-    go (b ∷ bs) h =
-        let r = go bs (λ k w. h (suc k) (omega (arith, w))) in
-        let z = h 0 (omega arith) in
-        let s = sum_by-cons one b bs in
-        omega (arith, r, s, ap one z)
+use Rattle.sat_core.specs.inner.Holding.{AreAsleep, IsHeldAs}
+use Rattle.sleeping_clauses.specs.Sleeping.{SleepersValue, IsAsleep}
 
 -- ---- one is woken
 

@@ -1,28 +1,15 @@
 -- What is learned at a conflict is accepted; and above level 0 no line without a literal is.
-use Rattle.std.proofs.Common.{◌≡◌, ℕ, ◌<◌, Bool, true, List, [], length, get_or, take, sym, subst, arith}
-use Rattle.std.specs.Prelude.{AllPairs, map}
+use Rattle.std.proofs.Common.{◌≡◌, ℕ, ◌<◌, Bool, true, List, [], ◌∷◌, length, get_or, take, sym, subst, arith, AllPairs, map}
 use Rattle.std.proofs.lemmas.List.Elements.{All-contains}
 use Rattle.list_laws.proofs.Each.{all_contained}
-use Rattle.cnf_formula.specs.Literals.{LitValue, negation}
-use Rattle.cnf_formula.specs.Lines.{ProofLineValue}
-use Rattle.proof_rules.specs.Held.{CheckerValue}
-use Rattle.proof_rules.specs.declared.verdict.LineVerdict.TheVariants.{Accepted as AcceptedVerdict}
-use Rattle.proof_rules.specs.Judging.{verdict_of}
+use Rattle.cnf_formula.specs.{Literals.{LitValue, negation}, Lines.ProofLineValue, Formulas.IsAbout}
+use Rattle.proof_rules.specs.{Held.CheckerValue, declared.verdict.LineVerdict.TheVariants.Accepted as AcceptedVerdict, Judging.verdict_of, Accepting.Conflicts}
 use Rattle.proof_rules.proofs.Verdicts.{by_implied}
-use Rattle.proof_rules.specs.Accepting.{Conflicts}
-use Rattle.cnf_formula.specs.Formulas.{IsAbout}
-use Rattle.trail_core.specs.Trails.{StepValue, lits_of}
-use Rattle.trail_core.specs.Meaning.{CoreValue, trues}
-use Rattle.trail_core.specs.Formed.{IsTrail}
-use Rattle.conflict_analysis.specs.Learning.{hints_to, IsAnalysis}
-use Rattle.sleeping_clauses.specs.Naming.{name}
-use Rattle.sleeping_clauses.specs.Sleeping.{SleepersValue, sleeping}
-use Rattle.conflict_analysis.specs.Conflicts.{IsConflict}
+use Rattle.trail_core.specs.{Trails.{StepValue, lits_of}, Meaning.{CoreValue, trues, IsClosed}, Formed.IsTrail}
+use Rattle.conflict_analysis.specs.{Learning.{hints_to, IsAnalysis}, Conflicts.IsConflict}
+use Rattle.sleeping_clauses.specs.{Naming.name, Sleeping.{SleepersValue, IsAsleep}}
 use Rattle.sat_core.specs.inner.Holding.{Agree, IsNext}
-use Rattle.sat_core.proofs.Hinted.{hints_conflict, leading_numbers, no_groups}
-use Rattle.sat_core.proofs.Once.{Apart, consistent_by}
-use Rattle.sat_core.proofs.Spent.{no_closing}
-use Rattle.sat_core.proofs.Asleep.{all_awake}
+use Rattle.sat_core.proofs.{Hinted.{hints_conflict, leading_numbers, no_groups}, Once.{Apart, consistent_by}, Spent.{no_closing, all_rest}}
 
 -- whatever is resolved, what remains is accepted where it names no variable twice
 pub analysis_accepted : (c : CheckerValue) (core : CoreValue) (names : List ℕ) (s : SleepersValue) (resolved : StepValue → Bool) (conflict : ℕ) (clause : List LitValue) (id : ℕ) → Agree c core names s → IsTrail core.vars core.trail core.limits → IsAnalysis core.clauses core.trail resolved conflict clause → AllPairs Apart clause → IsNext c id
@@ -39,6 +26,8 @@ analysis_accepted c core names s resolved conflict clause id a t an once n =
       conflict = subst (Conflicts c.held clause) (sym (leading_numbers names resolved core.trail conflict)) (hints_conflict c.held names core.clauses core.trail resolved conflict clause a.held.named (consistent_by (lits_of core.trail) t.apart) an);
     })
 
--- above level 0 no line without a literal is accepted, where no clause sleeps
-pub no_line_closes : (c : CheckerValue) (core : CoreValue) (names : List ℕ) (s : SleepersValue) (conflict : ℕ) → Agree c core names s → sleeping s ≡ 0 → IsConflict core conflict → 0 < length core.limits → (line : ProofLineValue) → line.lits ≡ [] → verdict_of c line ≡ AcceptedVerdict true → ⊥
-no_line_closes c core names s conflict a none k w line e v = no_closing c core.clauses (take (get_or core.limits 0 0) (trues core)) (all_awake c.held names core.clauses s a.held none) (k.closed_below 0 w) line e v
+-- above level 0 no line without a literal is accepted, where the clauses that sleep rest on level 0
+pub no_line_closes : (c : CheckerValue) (core : CoreValue) (names : List ℕ) (s : SleepersValue) (conflict : ℕ) → Agree c core names s → ((clause : List LitValue) → IsAsleep s clause → IsClosed (take (get_or core.limits 0 0) (trues core)) (clause ∷ [])) → IsConflict core conflict → 0 < length core.limits → (line : ProofLineValue) → line.lits ≡ [] → verdict_of c line ≡ AcceptedVerdict true → ⊥
+no_line_closes c core names s conflict a rest k w line e v =
+    let low = take (get_or core.limits 0 0) (trues core) in
+    no_closing c low (all_rest c.held core.clauses s low a.held.only (k.closed_below 0 w) rest) line e v

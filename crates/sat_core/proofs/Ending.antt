@@ -1,14 +1,8 @@
 -- Where a search has learned as many lines as may be, they are a spent log; where it closes, there is one line more at most.
-use Rattle.std.proofs.Common.{◌≡◌, ℕ, ◌+◌, ◌≤◌, List, [], ◌∷◌, ◌++◌, length, refl, sym, ap, ◌∙◌, subst, ⊎_elim, arith}
-use Rattle.std.specs.Prelude.{◌↔◌, ◌<◌, IsTrue, Bool, true, false, not}
-use Rattle.std.proofs.lemmas.Bool.{cases_lt, false≢true}
-use Rattle.std.proofs.lemmas.List.{length-append}
-use Rattle.cnf_formula.specs.Formulas.{FormulaValue}
-use Rattle.cnf_formula.specs.Lines.{ProofLineValue}
-use Rattle.cnf_formula.specs.Literals.{LitValue}
-use Rattle.proof_rules.specs.Held.{CheckerValue, start_of, is_empty}
-use Rattle.proof_rules.specs.Refuting.{is_fresh, with_line, SpentLog}
-use Rattle.proof_rules.specs.Learning.{AllFresh}
+use Rattle.std.proofs.Common.{◌≡◌, ℕ, ◌+◌, ◌≤◌, List, [], ◌∷◌, ◌++◌, length, refl, sym, ap, ◌∙◌, subst, ⊎_elim, arith, ◌↔◌, ◌<◌, IsTrue, Bool, true, false, not}
+use Rattle.std.proofs.lemmas.{Bool.{cases_lt, false≢true}, List.length-append}
+use Rattle.cnf_formula.specs.{Formulas.FormulaValue, Lines.ProofLineValue, Literals.LitValue}
+use Rattle.proof_rules.specs.{Held.{CheckerValue, start_of, is_empty}, Refuting.{is_fresh, with_line, SpentLog}, Learning.AllFresh}
 use Rattle.proof_rules.proofs.InTurn.{are_learned_by}
 use Rattle.ledger_rules.specs.Logs.{learned}
 use Rattle.sat_core.specs.Ready.{AreWritten, IsOver}

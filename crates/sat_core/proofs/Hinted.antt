@@ -1,24 +1,14 @@
 -- The reasons of the resolved steps in the order of the trail, and then the falsified clause, are a conflict for what remains.
-use Rattle.std.proofs.Common.{◌≡◌, ℕ, ◌+◌, ◌<◌, ◌≤◌, Bool, true, false, List, [], ◌∷◌, ◌++◌, length, get_or, take, refl, sym, ap, ◌∙◌, subst, inl, inr, ⊎_elim, arith}
-use Rattle.std.specs.Prelude.{All, Contains, Some, map, filter, pos}
-use Rattle.std.proofs.lemmas.Bool.{false≢true, cases_Bool}
-use Rattle.std.proofs.lemmas.List.{append_assoc, take_at, length-append, length-map, length_push, get_or-append-add}
+use Rattle.std.proofs.Common.{◌≡◌, ℕ, ◌+◌, ◌<◌, ◌≤◌, Bool, true, false, List, [], ◌∷◌, ◌++◌, length, get_or, take, refl, sym, ap, ◌∙◌, subst, inl, inr, ⊎_elim, arith, All, Contains, Some, map, filter, pos}
+use Rattle.std.proofs.lemmas.{Bool.{false≢true, cases_Bool}, List.{append_assoc, take_at, length-append, length-map, length_push, get_or-append-add}}
 use Rattle.std.proofs.lemmas.List.Elements.{Contains-push_cases, Contains-append_right, All-nil, All-cons}
-use Rattle.list_laws.proofs.Each.{all_contained}
-use Rattle.list_laws.proofs.Members.{Contains-cons, Contains-map}
-use Rattle.list_laws.proofs.Tests.{few_kept}
+use Rattle.list_laws.proofs.{Each.all_contained, Members.{Contains-cons, Contains-map}, Tests.few_kept}
 use Rattle.cnf_formula.specs.Literals.{LitValue, negation}
-use Rattle.proof_rules.specs.Held.{Entry, clause_at}
-use Rattle.proof_rules.specs.Accepting.{Takes, Falsifies, Conflicts, leading, groups_from}
-use Rattle.trail_core.specs.Assigned.{IsFalse, IsConsistent}
-use Rattle.trail_core.specs.Trails.{StepValue, lits_of}
-use Rattle.trail_core.proofs.Keeping.{negated_twice}
-use Rattle.conflict_analysis.specs.Learning.{number_of, hints_of, hints_to, IsOut, IsResolved, IsAnalysis}
-use Rattle.sat_core.specs.inner.Hints.{name_of, numbers_of, numbers_to}
-use Rattle.sat_core.specs.inner.Holding.{AreNamed}
+use Rattle.proof_rules.specs.{Held.{Entry, clause_at}, Accepting.{Takes, Falsifies, Conflicts, leading, groups_from}}
+use Rattle.trail_core.{specs.{Assigned.{IsFalse, IsConsistent}, Trails.{StepValue, lits_of}}, proofs.Keeping.negated_twice}
+use Rattle.conflict_analysis.{specs.Learning.{number_of, hints_of, hints_to, IsOut, IsResolved, IsAnalysis}, proofs.Members.{here, cons_cases}}
+use Rattle.sat_core.{specs.inner.{Hints.{name_of, numbers_of, numbers_to}, Holding.AreNamed}, proofs.Members.{from_filter, found_by, not_found}}
 use Rattle.sleeping_clauses.specs.Naming.{name, IsName}
-use Rattle.conflict_analysis.proofs.Members.{here, cons_cases}
-use Rattle.sat_core.proofs.Members.{from_filter, found_by, not_found}
 
 -- a hint that leaves one literal, before hints that go on
 pub hint_then : (held : List Entry) (falses : List LitValue) (hint : ℕ) (l : LitValue) (hints : List ℕ) (last : ℕ) → Takes held falses hint l → Conflicts held (negation l ∷ falses) (hints ++ last ∷ []) → Conflicts held falses (hint ∷ (hints ++ last ∷ []))

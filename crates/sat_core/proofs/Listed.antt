@@ -1,10 +1,7 @@
 -- The clause that a table has at a place.
-use Rattle.std.proofs.Common.{◌≡◌, ℕ, ◌<◌, List, [], length, get_or, sym, ap, ◌∙◌, subst, arith}
-use Rattle.std.specs.Prelude.{◌≢◌, All, AllPairs}
-use Rattle.std.proofs.lemmas.List.{get_or_default}
+use Rattle.std.proofs.{Common.{◌≡◌, ℕ, ◌<◌, List, [], length, get_or, sym, ap, ◌∙◌, subst, arith, ◌≢◌, All, AllPairs}, lemmas.List.get_or_default}
 use Rattle.cnf_formula.specs.Literals.{LitValue}
-use Rattle.sleeping_clauses.specs.declared.awake.Awake.{Awake}
-use Rattle.sleeping_clauses.specs.Naming.{IsListed}
+use Rattle.sleeping_clauses.specs.{declared.awake.Awake.Awake, Naming.IsListed}
 
 -- the number that is read is the clause's
 pub id_is : (clauses : List (List LitValue)) (awake : Awake) (place read : ℕ) → IsListed clauses awake → place < length clauses → read ≡ get_or awake.ids.items place read → read ≡ place

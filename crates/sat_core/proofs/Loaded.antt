@@ -1,25 +1,15 @@
 -- Clauses of a formula, each literal once, make a core that is ready.
-use Rattle.std.proofs.Common.{◌≡◌, ℕ, ◌+◌, ◌*◌, ◌<◌, ◌≤◌, List, [], ◌∷◌, ◌++◌, length, get_or, take, set, eqb, refl, sym, ap, ◌∙◌, subst, inl, ⊎_elim, arith}
-use Rattle.std.specs.Prelude.{◌≢◌, Contains, Some, All, AllPairs, flat_map}
-use Rattle.std.specs.List.{enumerate_from, range_with_len}
-use Rattle.std.proofs.lemmas.Bool.{cases_lt, cases_Bool, eqb-true, eqb-false}
+use Rattle.std.proofs.Common.{◌≡◌, ℕ, ◌+◌, ◌*◌, ◌<◌, ◌≤◌, List, [], ◌∷◌, ◌++◌, length, get_or, take, set, eqb, refl, sym, ap, ◌∙◌, subst, inl, ⊎_elim, arith, ◌≢◌, Contains, Some, All, AllPairs, flat_map}
+use Rattle.std.{specs.List.{enumerate_from, range_with_len}, proofs.lemmas.{Bool.{cases_lt, cases_Bool, eqb-true, eqb-false}, List.Quantifiers.all_pairs_push}}
 use Rattle.std.proofs.lemmas.List.{get_or_append_left, get_or_push, length_push, get_or-take, get_or_default, length-take-le, get_or-set_same, get_or-set_other, set-get_or}
 use Rattle.std.proofs.lemmas.List.FromFn.{length-enumerate_from, get_or-enumerate_from, length-range_with_len, get_or-range_with_len}
-use Rattle.std.proofs.lemmas.List.Quantifiers.{all_pairs_push}
 use Rattle.std.proofs.lemmas.List.Elements.{Contains-push, Contains-push_cases, Contains-append_left, Contains-append_right, Contains-get_or, All-push, All-nil, All-cons, All-contains}
 use Rattle.list_laws.proofs.Each.{all_contained}
-use Rattle.cnf_formula.specs.Literals.{LitValue, IsLit, code_of}
-use Rattle.cnf_formula.specs.Formulas.{FormulaValue, IsAbout, IsClause}
-use Rattle.cnf_formula.proofs.Codes.{same_code, code_within}
-use Rattle.proof_rules.specs.Held.{Entry, clause_at}
-use Rattle.proof_rules.proofs.Numbered.{start_numbered}
+use Rattle.cnf_formula.{specs.{Literals.{LitValue, IsLit, code_of}, Formulas.{FormulaValue, IsAbout, IsClause}}, proofs.Codes.{same_code, code_within}}
+use Rattle.proof_rules.{specs.Held.{Entry, clause_at}, proofs.Numbered.start_numbered}
 use Rattle.trail_core.specs.Meaning.{CoreValue}
-use Rattle.sat_core.specs.inner.Holding.{IsSame, AreHeld}
-use Rattle.sat_core.specs.inner.Loading.{own_of, IsLoaded}
-use Rattle.sat_core.specs.Ready.{IsReady}
-use Rattle.sleeping_clauses.specs.Naming.{IsListed}
-use Rattle.sleeping_clauses.specs.Sleeping.{no_sleepers}
-use Rattle.sleeping_clauses.specs.declared.awake.Awake.{Awake}
+use Rattle.sat_core.specs.{inner.{Holding.{IsSame, AreHeld}, Loading.{own_of, IsLoaded}}, Ready.IsReady}
+use Rattle.sleeping_clauses.specs.{Naming.IsListed, Sleeping.no_sleepers, declared.awake.Awake.Awake}
 
 -- ---- a clause with each literal once
 

@@ -1,22 +1,13 @@
 -- Where nothing is left to decide, the values of the variables satisfy the formula.
-use Rattle.std.proofs.Common.{◌≡◌, ◌+◌, ◌-◌, ◌<◌, Bool, true, false, List, [], ◌∷◌, length, get_or, refl, sym, ap, ◌∙◌, subst, ⊎_elim, arith}
-use Rattle.std.specs.Prelude.{not, Contains}
-use Rattle.std.proofs.lemmas.Bool.{cases_Bool, and_from, or_left, or_right}
-use Rattle.std.proofs.lemmas.List.{get_or_default}
-use Rattle.std.proofs.lemmas.List.Elements.{Contains-get_or, All-contains}
+use Rattle.std.proofs.Common.{◌≡◌, ◌+◌, ◌-◌, ◌<◌, Bool, true, false, List, [], ◌∷◌, length, get_or, refl, sym, ap, ◌∙◌, subst, ⊎_elim, arith, not, Contains}
+use Rattle.std.proofs.lemmas.{Bool.{cases_Bool, and_from, or_left, or_right}, List.{get_or_default, Elements.{Contains-get_or, All-contains}}}
 use Rattle.list_laws.proofs.Members.{Contains-cons}
-use Rattle.cnf_formula.specs.Literals.{LitValue, yes, same_sign, value_of, is_true, clause_holds, all_hold}
+use Rattle.cnf_formula.specs.{Literals.{LitValue, yes, same_sign, value_of, is_true, clause_holds, all_hold}, Lines.ProofLineValue}
 use Rattle.cnf_formula.specs.Formulas.{FormulaValue, IsAbout, IsClause, Satisfies}
-use Rattle.cnf_formula.specs.Lines.{ProofLineValue}
 use Rattle.trail_core.specs.Meaning.{CoreValue, trues}
-use Rattle.sat_core.specs.inner.Holding.{IsSame}
-use Rattle.sleeping_clauses.specs.Sleeping.{SleepersValue}
-use Rattle.sleeping_clauses.specs.declared.awake.Awake.{Awake}
-use Rattle.sat_core.specs.Ready.{IsReady}
-use Rattle.sat_core.specs.inner.Totals.{IsTotal, AreValues}
+use Rattle.sat_core.{specs.{inner.{Holding.IsSame, Totals.{IsTotal, AreValues}}, Ready.IsReady}, proofs.{Once.consistent_by, Totality.total_satisfied}}
+use Rattle.sleeping_clauses.specs.{Sleeping.SleepersValue, declared.awake.Awake.Awake}
 use Rattle.conflict_analysis.proofs.Members.{here, cons_cases}
-use Rattle.sat_core.proofs.Once.{consistent_by}
-use Rattle.sat_core.proofs.Totality.{total_satisfied}
 
 -- a literal on the trail is true
 stands_true : (core : CoreValue) (values : List Bool) (l : LitValue) → IsTotal core → AreValues (trues core) core.vars values → IsAbout core.vars l → Contains (trues core) l → is_true values l ≡ true

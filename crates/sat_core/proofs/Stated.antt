@@ -1,37 +1,17 @@
 -- The line of a literal of level 0, over plain values: it is accepted, short and fresh.
-use Rattle.std.proofs.Common.{◌≡◌, ℕ, ◌+◌, ◌<◌, ◌≤◌, true, false, Bool, List, [], ◌∷◌, ◌++◌, length, get_or, set, take, refl, sym, ap, ◌∙◌, subst, ⊎_elim, arith}
-use Rattle.std.specs.Prelude.{◌≢◌, All, AllPairs, Contains, None, map}
-use Rattle.std.proofs.lemmas.Bool.{cases_lt, cases_eq, false≢true}
+use Rattle.std.proofs.Common.{◌≡◌, ℕ, ◌+◌, ◌<◌, ◌≤◌, true, false, Bool, List, [], ◌∷◌, ◌++◌, length, get_or, set, take, refl, sym, ap, ◌∙◌, subst, ⊎_elim, arith, ◌≢◌, All, AllPairs, Contains, None, map}
+use Rattle.std.proofs.lemmas.{Bool.{cases_lt, cases_eq, false≢true}, List.{Elements.{All-contains, Contains-push_cases}, Quantifiers.all_pairs_push}}
 use Rattle.std.proofs.lemmas.List.{length-take-le, length_push, length-set, map-append, take-map, get_or-take, get_or-set_same, get_or-set_other, get_or_default, get_or_past}
-use Rattle.std.proofs.lemmas.List.Elements.{All-contains, Contains-push_cases}
-use Rattle.std.proofs.lemmas.List.Quantifiers.{all_pairs_push}
 use Rattle.list_laws.proofs.Each.{all_contained}
-use Rattle.cnf_formula.specs.Formulas.{FormulaValue, IsAbout}
-use Rattle.cnf_formula.specs.Literals.{LitValue, negation, code_of}
-use Rattle.cnf_formula.specs.Lines.{ProofLineValue}
-use Rattle.proof_rules.specs.declared.verdict.LineVerdict.TheVariants.{Accepted}
-use Rattle.proof_rules.specs.Judging.{verdict_of}
-use Rattle.proof_rules.specs.Refuting.{is_fresh}
+use Rattle.cnf_formula.specs.{Formulas.{FormulaValue, IsAbout}, Literals.{LitValue, negation, code_of}, Lines.ProofLineValue}
+use Rattle.proof_rules.specs.{declared.verdict.LineVerdict.TheVariants.Accepted, Judging.verdict_of, Refuting.is_fresh}
 use Rattle.ledger_rules.specs.Logs.{checker_of}
-use Rattle.trail_core.specs.Trails.{lits_of}
-use Rattle.trail_core.specs.Formed.{IsTrail}
-use Rattle.trail_core.specs.Meaning.{CoreValue, trues}
-use Rattle.trail_core.proofs.Keeping.{lits_length}
-use Rattle.conflict_analysis.specs.Met.{lit_at}
-use Rattle.conflict_analysis.specs.Learning.{hints_to}
-use Rattle.conflict_analysis.specs.UnitLines.{denied, IsUnitLine}
-use Rattle.conflict_analysis.proofs.Marked.{lit_read, lit_about, same_place}
-use Rattle.conflict_analysis.proofs.Members.{here, cons_cases}
-use Rattle.sleeping_clauses.specs.Naming.{name, IsName, IsNamed}
-use Rattle.sleeping_clauses.specs.Sleeping.{SleepersValue, HasNone}
-use Rattle.sleeping_clauses.specs.declared.awake.Awake.{Awake}
-use Rattle.sat_core.specs.inner.Holding.{Agree}
-use Rattle.sat_core.specs.inner.Stating.{AreStated, IsStating}
-use Rattle.sat_core.specs.Ready.{AreWritten, IsReady}
-use Rattle.sat_core.proofs.AtConflict.{analysis_accepted}
-use Rattle.sat_core.proofs.Hinted.{few_named, hints_names}
-use Rattle.sat_core.proofs.Fresh.{fresh_by}
-use Rattle.sat_core.proofs.Readiness.{next_number, written_more}
+use Rattle.trail_core.{specs.{Trails.lits_of, Formed.IsTrail, Meaning.{CoreValue, trues}}, proofs.Keeping.lits_length}
+use Rattle.conflict_analysis.specs.{Met.lit_at, Learning.hints_to, UnitLines.{denied, IsUnitLine}}
+use Rattle.conflict_analysis.proofs.{Marked.{lit_read, lit_about, same_place}, Members.{here, cons_cases}}
+use Rattle.sleeping_clauses.specs.{Naming.{name, IsName, IsNamed}, Sleeping.{SleepersValue, HasNone}, declared.awake.Awake.Awake}
+use Rattle.sat_core.specs.{inner.{Holding.Agree, Stating.{AreStated, IsStating}}, Ready.{AreWritten, IsReady}}
+use Rattle.sat_core.proofs.{AtConflict.analysis_accepted, Hinted.{few_named, hints_names}, Fresh.fresh_by, Readiness.{next_number, written_more}}
 
 -- the core with the trail below a place, and then the negation of its literal
 abbrev denied_core : CoreValue → ℕ → CoreValue

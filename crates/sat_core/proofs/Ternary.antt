@@ -1,22 +1,13 @@
 -- A log of lines whose clauses are stated by none before is shorter than 3 to the number of variables.
-use Rattle.std.proofs.Common.{zero, suc, ◌≡◌, ℕ, ◌+◌, ◌*◌, ◌<◌, ◌≤◌, ◌^◌, Bool, true, false, eqb, List, [], ◌∷◌, length, get_or, refl, sym, ap, ◌∙◌, subst, inl, inr, ⊎_elim, arith}
-use Rattle.std.specs.Prelude.{◌≢◌, ◌⊎◌, Contains, AllPairs, map, not}
-use Rattle.std.specs.List.{list_any, IsDistinct, AllByRecursion}
-use Rattle.std.proofs.Math.Nat.{pow-suc, pow-zero}
+use Rattle.std.proofs.Common.{zero, suc, ◌≡◌, ℕ, ◌+◌, ◌*◌, ◌<◌, ◌≤◌, ◌^◌, Bool, true, false, eqb, List, [], ◌∷◌, length, get_or, refl, sym, ap, ◌∙◌, subst, inl, inr, ⊎_elim, arith, ◌≢◌, ◌⊎◌, Contains, AllPairs, map, not}
+use Rattle.std.{specs.List.{list_any, IsDistinct, AllByRecursion}, proofs.{Math.Nat.{pow-suc, pow-zero}, lemmas.List.{get_or_default, length-map}}}
 use Rattle.std.proofs.lemmas.Bool.{false≢true, cases_Bool, cases_lt, cases_order, or_cases, or_left, or_right, and_from, ne_eqb, eqb-true}
-use Rattle.std.proofs.lemmas.List.{get_or_default, length-map}
-use Rattle.std.proofs.lemmas.List.Elements.{All-contains, Contains-push, Contains-append_left}
-use Rattle.std.proofs.lemmas.Map.Keys.{IsDistinct-cons}
+use Rattle.std.proofs.lemmas.{List.Elements.{All-contains, Contains-push, Contains-append_left}, Map.Keys.IsDistinct-cons}
 use Rattle.std.proofs.lemmas.Map.Steps.{length-le_from_distinct_below}
 use Rattle.list_laws.proofs.Members.{Contains-cons}
-use Rattle.cnf_formula.specs.Literals.{LitValue, yes, no, has_literal, is_superset}
-use Rattle.cnf_formula.specs.Formulas.{FormulaValue, IsAbout, IsClause}
-use Rattle.cnf_formula.specs.Lines.{ProofLineValue}
-use Rattle.proof_rules.specs.Held.{Entry, CheckerValue, start_of, is_empty}
-use Rattle.proof_rules.specs.Refuting.{with_line, is_fresh, SpentLog}
-use Rattle.proof_rules.specs.Learning.{AllImplied, AllFresh}
-use Rattle.proof_rules.proofs.InTurn.{learned_in_turn}
-use Rattle.proof_rules.proofs.Verdicts.{implied_by}
+use Rattle.cnf_formula.specs.{Literals.{LitValue, yes, no, has_literal, is_superset}, Formulas.{FormulaValue, IsAbout, IsClause}, Lines.ProofLineValue}
+use Rattle.proof_rules.specs.{Held.{Entry, CheckerValue, start_of, is_empty}, Refuting.{with_line, is_fresh, SpentLog}, Learning.{AllImplied, AllFresh}}
+use Rattle.proof_rules.proofs.{InTurn.learned_in_turn, Verdicts.implied_by}
 use Rattle.conflict_analysis.proofs.Members.{here, cons_cases}
 use Rattle.sat_core.proofs.Members.{found_by, stands_by, not_found}
 

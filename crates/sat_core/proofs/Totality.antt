@@ -1,16 +1,10 @@
 -- A total core makes a literal of each of its clauses true.
-use Rattle.std.proofs.Common.{Bool, true, false, List, [], ◌∷◌, subst, inl, inr, ⊎_elim, arith}
-use Rattle.std.specs.Prelude.{◌⊎◌, Contains, All}
-use Rattle.std.proofs.lemmas.List.Elements.{All-contains}
+use Rattle.std.proofs.{Common.{Bool, true, false, List, [], ◌∷◌, subst, inl, inr, ⊎_elim, arith, ◌⊎◌, Contains, All}, lemmas.List.Elements.All-contains}
 use Rattle.list_laws.proofs.Members.{Contains-cons}
-use Rattle.cnf_formula.specs.Literals.{LitValue, negation, no}
-use Rattle.trail_core.specs.Assigned.{IsFalse, IsOpen}
-use Rattle.cnf_formula.specs.Formulas.{IsAbout}
-use Rattle.trail_core.specs.Search.{IsSatisfied}
-use Rattle.trail_core.specs.Meaning.{CoreValue, trues}
-use Rattle.sat_core.specs.inner.Totals.{IsTotal}
+use Rattle.cnf_formula.specs.{Literals.{LitValue, negation, no}, Formulas.IsAbout}
+use Rattle.trail_core.specs.{Assigned.{IsFalse, IsOpen}, Search.IsSatisfied, Meaning.{CoreValue, trues}}
+use Rattle.sat_core.{specs.inner.Totals.IsTotal, proofs.Members.stands_or_not}
 use Rattle.conflict_analysis.proofs.Members.{here, cons_cases}
-use Rattle.sat_core.proofs.Members.{stands_or_not}
 
 -- an open literal's variable is open, as false too
 open_no : (ts : List LitValue) (l : LitValue) → (Contains ts l → ⊥) → (Contains ts (negation l) → ⊥) → IsOpen ts (no l.var)

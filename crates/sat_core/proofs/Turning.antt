@@ -1,35 +1,17 @@
 -- A turn at a conflict, over plain values.
-use Rattle.std.proofs.Common.{◌≡◌, ℕ, Bool, eqb, ◌+◌, ◌-◌, ◌<◌, ◌≤◌, true, List, [], ◌∷◌, ◌++◌, length, get_or, take, sym, ap, ◌∙◌, subst, ⊎_elim, arith}
+use Rattle.std.proofs.Common.{◌≡◌, ℕ, Bool, eqb, ◌+◌, ◌-◌, ◌<◌, ◌≤◌, true, List, [], ◌∷◌, ◌++◌, length, get_or, take, sym, ap, ◌∙◌, subst, ⊎_elim, arith, map, false, Contains}
 use Rattle.std.proofs.lemmas.Bool.{cases_lt, eqb-false}
-use Rattle.cnf_formula.specs.Formulas.{FormulaValue, IsClause}
-use Rattle.cnf_formula.specs.Literals.{LitValue}
-use Rattle.cnf_formula.specs.Lines.{ProofLineValue}
-use Rattle.proof_rules.specs.declared.verdict.LineVerdict.TheVariants.{Accepted}
-use Rattle.proof_rules.specs.Held.{CheckerValue}
-use Rattle.proof_rules.specs.Judging.{verdict_of}
-use Rattle.proof_rules.specs.Refuting.{is_fresh, Refutes}
-use Rattle.std.specs.Prelude.{map, false, Contains}
-use Rattle.cnf_formula.specs.declared.line.LratLine.TheVariants.{Addition}
+use Rattle.cnf_formula.specs.{Formulas.{FormulaValue, IsClause}, Literals.LitValue, Lines.ProofLineValue, declared.line.LratLine.TheVariants.Addition}
+use Rattle.proof_rules.specs.{declared.verdict.LineVerdict.TheVariants.Accepted, Held.CheckerValue, Judging.verdict_of, Refuting.{is_fresh, Refutes}}
 use Rattle.ledger_rules.specs.Logs.{checker_of}
-use Rattle.trail_core.specs.Meaning.{CoreValue, trues}
-use Rattle.conflict_analysis.specs.Conflicts.{IsConflict}
-use Rattle.sat_core.specs.inner.Holding.{Agree, IsNext}
-use Rattle.sat_core.specs.inner.Turning.{IsTurn}
-use Rattle.conflict_analysis.specs.Learned.{IsLearned}
-use Rattle.sat_core.specs.inner.Jumping.{IsBacked}
-use Rattle.conflict_analysis.specs.Learning.{hints_to}
-use Rattle.sleeping_clauses.specs.Naming.{name, IsNamed, IsListed}
-use Rattle.sleeping_clauses.specs.Sleeping.{SleepersValue, HasNone, AreFew, sleeping}
-use Rattle.sleeping_clauses.specs.declared.awake.Awake.{Awake}
-use Rattle.sat_core.specs.inner.Guided.{IsGuided}
-use Rattle.conflict_analysis.specs.Met.{IsRested}
-use Rattle.sat_core.specs.declared.guide.Guide.{Guide}
+use Rattle.trail_core.specs.Meaning.{CoreValue, trues, IsClosed}
+use Rattle.conflict_analysis.specs.{Conflicts.IsConflict, Learned.IsLearned, Learning.hints_to, Met.IsRested}
+use Rattle.sat_core.specs.{inner.{Holding.{Agree, IsNext}, Turning.IsTurn, Jumping.IsBacked, Guided.IsGuided}, declared.guide.Guide.Guide}
 use Rattle.sat_core.specs.Ready.{AreWritten, IsReady, IsOver}
-use Rattle.sat_core.proofs.AtConflict.{analysis_accepted, no_line_closes}
-use Rattle.sat_core.proofs.Hinted.{few_named}
-use Rattle.sat_core.proofs.Fresh.{unit_is_fresh}
+use Rattle.sat_core.proofs.{AtConflict.{analysis_accepted, no_line_closes}, Hinted.few_named, Fresh.unit_is_fresh}
 use Rattle.sat_core.proofs.Readiness.{IsGrown, next_number, written_more, ready_more, refuted_by, listed_more}
 use Rattle.sat_core.proofs.Jumping.{pointed_unit, learned_backed, backed_within, backed_differ}
+use Rattle.sleeping_clauses.specs.{Naming.{name, IsNamed, IsListed}, Sleeping.{SleepersValue, IsAsleep, HasNone, AreFew}, declared.awake.Awake.Awake}
 
 -- what is learned is accepted, short, and fresh above level 0
 pub learned_accepted : (c : CheckerValue) (core : CoreValue) (names : List ℕ) (held : ℕ) (s : SleepersValue) (conflict : ℕ) (learned line : ProofLineValue) → Agree c core names s → IsConflict core conflict → IsLearned core conflict learned → IsNamed names held learned line → IsNext c line.id → verdict_of c line ≡ Accepted true
@@ -76,10 +58,10 @@ module _ {base : FormulaValue} {lines : List ProofLineValue} {core : CoreValue} 
         let e = t.named.lits in
         subst (λ ls. is_fresh (checker_of base lines) ls ≡ true) (sym e) (learned_fresh (checker_of base lines) core awake.names.items s conflict t.learned t.ready.holding.agree (subst (HasNone s) e none) t.conflicts turn_above t.is)
 
-    -- where none sleeps the search may end
-    pub turn_over : sleeping s ≡ 0 → IsOver base lines
-    turn_over none = record {
-      not_closed = no_line_closes (checker_of base lines) core awake.names.items s conflict t.ready.holding.agree none t.conflicts turn_above;
+    -- where the clauses that sleep rest on level 0 the search may end
+    pub turn_over : ((clause : List LitValue) → IsAsleep s clause → IsClosed (take (get_or core.limits 0 0) (trues core)) (clause ∷ [])) → IsOver base lines
+    turn_over rest = record {
+      not_closed = no_line_closes (checker_of base lines) core awake.names.items s conflict t.ready.holding.agree rest t.conflicts turn_above;
       fresh = t.ready.fresh;
     }
 

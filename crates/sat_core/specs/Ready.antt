@@ -1,16 +1,12 @@
 -- What holds between the turns of a search, and where it ends.
 use Rattle.std.specs.Prelude.{◌≡◌, ℕ, ◌+◌, ◌<◌, ◌≤◌, true, List, [], length, get_or, All}
-use Rattle.cnf_formula.specs.Formulas.{FormulaValue}
-use Rattle.cnf_formula.specs.Lines.{ProofLineValue}
-use Rattle.proof_rules.specs.declared.verdict.LineVerdict.TheVariants.{Accepted}
-use Rattle.proof_rules.specs.Held.{CheckerValue, start_of}
-use Rattle.proof_rules.specs.Judging.{verdict_of}
+use Rattle.cnf_formula.specs.{Formulas.FormulaValue, Lines.ProofLineValue}
+use Rattle.proof_rules.specs.{declared.verdict.LineVerdict.TheVariants.Accepted, Held.{CheckerValue, start_of}, Judging.verdict_of}
 use Rattle.proof_rules.specs.Learning.{AllImplied, AllFresh}
 use Rattle.ledger_rules.specs.Logs.{checker_of}
 use Rattle.trail_core.specs.Meaning.{CoreValue}
 use Rattle.sat_core.specs.inner.Holding.{Agree, IsSame}
-use Rattle.sleeping_clauses.specs.Sleeping.{SleepersValue}
-use Rattle.sleeping_clauses.specs.declared.awake.Awake.{Awake}
+use Rattle.sleeping_clauses.specs.{Sleeping.SleepersValue, declared.awake.Awake.Awake}
 
 -- the checker holds the core's clauses and those that sleep under their numbers, and no number above them; and the formula's
 -- clauses are the first of the core

@@ -1,11 +1,8 @@
 //! Going back from a conflict (backjump), and adding what was learned from it.
 
-ghost use Rattle.std.specs.Prelude.{◌≡◌, ◌≢◌, ◌+◌, ◌<◌, ◌≤◌, [], ◌∷◌, ◌++◌, Contains, AllPairs, All, length, IfOk, OnOk};
-ghost use Rattle.cnf_formula.specs.Literals.{LitValue};
-ghost use Rattle.cnf_formula.specs.Formulas.{IsAbout};
-ghost use Rattle.trail_core.specs.Assigned.{IsFalse};
-ghost use Rattle.trail_core.specs.Meaning.{trues};
-ghost use Rattle.trail_core.specs.Formed.{IsTrail};
+ghost use Rattle.std.specs.Prelude.{◌≡◌, ◌≢◌, ◌+◌, ◌<◌, ◌≤◌, [], ◌∷◌, ◌++◌, Contains, AllPairs, All, length, slice_index, take, IfOk, OnOk};
+ghost use Rattle.cnf_formula.specs.{Literals.LitValue, Formulas.IsAbout};
+ghost use Rattle.trail_core.specs.{Assigned.IsFalse, Meaning.trues, Formed.IsTrail};
 ghost use Rattle.sat_core.specs.inner.Jumping.{HasLevel, AreUpTo, IsBacked, front_of};
 
 use cnf_formula::{Lit, OutOfMemory, ProofLine};
@@ -56,6 +53,7 @@ pub fn go_to_bottom(core: &mut Core, decider: &mut Decider) -> Result<(), OutOfM
     ensures vars { core.new.vars ≡ core.old.vars }
     ensures clauses { core.new.clauses ≡ core.old.clauses }
     ensures bottom { OnOk result (length core.new.limits ≡ 0) }
+    ensures trail { 0 < length core.old.limits → OnOk result (core.new.trail ≡ take (slice_index core.old.limits 0) core.old.trail) }
 {
     release(core, decider, 0)?;
     core.back_to(0);

@@ -1,31 +1,16 @@
 //! Laws of what is learned at a conflict: it is accepted by its hints (RUP with hints, LRAT), and
 //! is fresh.
 
-ghost use Rattle.std.specs.Prelude.{◌≡◌, ◌≢◌, ◌↔◌, ℕ, ◌+◌, ◌<◌, ◌≤◌, ◌^◌, Bool, true, List, [], length, map, Contains, All, AllPairs};
-ghost use Rattle.cnf_formula.specs.Literals.{LitValue, has_literal};
-ghost use Rattle.cnf_formula.specs.Lines.{ProofLineValue};
-ghost use Rattle.proof_rules.specs.declared.verdict.LineVerdict.TheVariants.{Accepted};
-ghost use Rattle.proof_rules.specs.Held.{Entry, CheckerValue};
-ghost use Rattle.proof_rules.specs.Judging.{verdict_of};
-ghost use Rattle.proof_rules.specs.Accepting.{Conflicts};
+ghost use Rattle.std.specs.Prelude.{◌≡◌, ◌≢◌, ◌↔◌, ℕ, ◌+◌, ◌<◌, ◌≤◌, ◌^◌, Bool, true, List, [], ◌∷◌, length, get_or, take, map, Contains, All, AllPairs};
+ghost use Rattle.cnf_formula.specs.{Literals.{LitValue, has_literal}, Lines.ProofLineValue, Formulas.{FormulaValue, IsAbout, Satisfies}};
+ghost use Rattle.proof_rules.specs.{declared.verdict.LineVerdict.TheVariants.Accepted, Held.{Entry, CheckerValue}, Judging.verdict_of, Accepting.Conflicts};
 ghost use Rattle.proof_rules.specs.Refuting.{is_fresh, SpentLog};
-ghost use Rattle.trail_core.specs.Assigned.{IsConsistent};
-ghost use Rattle.trail_core.specs.Trails.{StepValue, lits_of};
-ghost use Rattle.cnf_formula.specs.Formulas.{FormulaValue, IsAbout, Satisfies};
-ghost use Rattle.trail_core.specs.Search.{IsSatisfied, IsUnit};
-ghost use Rattle.trail_core.specs.Meaning.{CoreValue, trues, IsClosed};
+ghost use Rattle.trail_core.specs.{Assigned.IsConsistent, Trails.{StepValue, lits_of}, Search.{IsSatisfied, IsUnit}, Meaning.{CoreValue, trues, IsClosed}};
 ghost use Rattle.trail_core.specs.Formed.{IsTrail};
-ghost use Rattle.sat_core.specs.inner.Totals.{IsTotal, AreValues};
-ghost use Rattle.sat_core.specs.Ready.{IsReady};
-ghost use Rattle.sat_core.specs.inner.Holding.{AreNamed, AreAmongOr, Agree, IsNext};
-ghost use Rattle.conflict_analysis.specs.Learning.{IsAnalysis, hints_to};
-ghost use Rattle.sat_core.specs.inner.Hints.{numbers_to};
-ghost use Rattle.conflict_analysis.specs.Conflicts.{IsConflict};
+ghost use Rattle.sat_core.specs.{inner.{Totals.{IsTotal, AreValues}, Holding.{AreNamed, AreAmongOr, Agree, IsNext}, Hints.numbers_to}, Ready.IsReady};
 ghost use Rattle.sat_core.specs.inner.Measure.{IsLess, remaining};
-ghost use Rattle.conflict_analysis.specs.Learned.{IsLearned};
-ghost use Rattle.sleeping_clauses.specs.Naming.{name, IsNamed};
-ghost use Rattle.sleeping_clauses.specs.Sleeping.{SleepersValue, HasNone, sleeping};
-ghost use Rattle.sleeping_clauses.specs.declared.awake.Awake.{Awake};
+ghost use Rattle.conflict_analysis.specs.{Learning.{IsAnalysis, hints_to}, Conflicts.IsConflict, Learned.IsLearned};
+ghost use Rattle.sleeping_clauses.specs.{Naming.{name, IsNamed}, Sleeping.{SleepersValue, IsAsleep, HasNone}, declared.awake.Awake.Awake};
 
 /// A literal stands in a clause exactly where the test finds it.
 #[tactic(auto, using(crate::proofs::Members::found_exactly))]
@@ -61,9 +46,11 @@ pub fn the_learned_line_is_fresh()
     ensures unit { (c : CheckerValue) (clauses : List (List LitValue)) (s : SleepersValue) (trues clause : List LitValue) (l : LitValue) → AreAmongOr c.held clauses s → HasNone s clause → IsClosed trues clauses → IsUnit trues clause l → is_fresh c clause ≡ true }
 {}
 
-/// Above level 0 no line without a literal is accepted, where no clause sleeps.
+/// Above level 0 no line without a literal is accepted, where by the literals of level 0 no clause
+/// that sleeps is falsified, and none is a unit clause.
 pub fn no_line_closes_above_level_0()
-    ensures { (c : CheckerValue) (core : CoreValue) (names : List ℕ) (s : SleepersValue) (conflict : ℕ) → Agree c core names s → sleeping s ≡ 0 → IsConflict core conflict → 0 < length core.limits → (line : ProofLineValue) → line.lits ≡ [] → verdict_of c line ≡ Accepted true → ⊥ }
+    ensures { (c : CheckerValue) (core : CoreValue) (names : List ℕ) (s : SleepersValue) (conflict : ℕ) → Agree c core names s → ((clause : List LitValue) → IsAsleep s clause → IsClosed (take (get_or core.limits 0 0) (trues core)) (clause ∷ [])) → IsConflict core conflict → 0 < length core.limits
+        → (line : ProofLineValue) → line.lits ≡ [] → verdict_of c line ≡ Accepted true → ⊥ }
 {}
 
 /// Each conflict for which a line is paid or a clause is woken, and each decision, leaves less to

@@ -1,12 +1,9 @@
 //! The core that a search begins with.
 
 ghost use Rattle.std.specs.Prelude.{◌≡◌, ◌≢◌, ℕ, ◌<◌, ◌≤◌, true, false, [], length, slice_index, slice_set, Contains, All, AllPairs, IfOk, OnOk};
-ghost use Rattle.cnf_formula.specs.Literals.{LitValue, IsLit, code_of};
-ghost use Rattle.cnf_formula.specs.Formulas.{IsClause};
-ghost use Rattle.sat_core.specs.inner.Holding.{IsSame};
-ghost use Rattle.sat_core.specs.inner.Loading.{own_of, IsLoaded};
+ghost use Rattle.cnf_formula.specs.{Literals.{LitValue, IsLit, code_of}, Formulas.IsClause};
+ghost use Rattle.sat_core.specs.{inner.{Holding.IsSame, Loading.{own_of, IsLoaded}}, Ready.IsReady};
 ghost use Rattle.sleeping_clauses.specs.Naming.{IsListed};
-ghost use Rattle.sat_core.specs.Ready.{IsReady};
 
 use cnf_formula::{ClauseList, Formula, Lit, OutOfMemory};
 use sleeping_clauses::Awake;

@@ -2,11 +2,8 @@
 
 ghost use Rattle.std.specs.Prelude.{◌≡◌, ◌+◌, ◌<◌, ◌≤◌, All, length, IfOk, OnOk};
 ghost use Rattle.cnf_formula.specs.Formulas.{IsClause};
-ghost use Rattle.sat_core.specs.inner.Going.{StaysReady};
-ghost use Rattle.sat_core.specs.inner.Guided.{IsGuided};
-ghost use Rattle.sleeping_clauses.specs.Naming.{IsListed};
-ghost use Rattle.sleeping_clauses.specs.Sleeping.{SleepersValue, AreFew};
-ghost use Rattle.sat_core.specs.inner.Dividing.{IsDividing};
+ghost use Rattle.sat_core.specs.inner.{Going.StaysReady, Guided.IsGuided, Dividing.IsDividing};
+ghost use Rattle.sleeping_clauses.specs.{Naming.IsListed, Sleeping.{SleepersValue, AreFew}};
 
 use crate::backjump::release_from;
 use crate::guide::Guide;

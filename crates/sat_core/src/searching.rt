@@ -1,8 +1,7 @@
 //! The search: turn after turn, until it ends (the loop of CDCL).
 
 ghost use Rattle.std.specs.Prelude.{◌≡◌, IfOk};
-ghost use Rattle.sat_core.specs.inner.Going.{CanSearch, IsWrittenOn};
-ghost use Rattle.sat_core.specs.inner.Ending.{IsEnded};
+ghost use Rattle.sat_core.specs.inner.{Going.{CanSearch, IsWrittenOn}, Ending.IsEnded};
 ghost use Rattle.outer_ports.specs.Port.{HasCause};
 
 use crate::fault::SolveFault;

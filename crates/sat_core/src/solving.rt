@@ -1,19 +1,12 @@
 //! The search for a model of a formula, or for a refutation.
 
 ghost use Rattle.std.specs.Prelude.{◌≡◌, ◌≢◌, ◌↔◌, ◌+◌, ◌<◌, ◌≤◌, ◌^◌, true, Bool, List, [], length, map, Ok, Err, IsOk, IfOk, OnOk};
-ghost use Rattle.cnf_formula.specs.Formulas.{Satisfies};
-ghost use Rattle.cnf_formula.specs.Lines.{ProofLineValue};
-ghost use Rattle.cnf_formula.specs.declared.line.LratLine.TheVariants.{Addition};
-ghost use Rattle.proof_rules.specs.declared.verdict.LineVerdict.TheVariants.{Accepted};
-ghost use Rattle.proof_rules.specs.Judging.{verdict_of};
-ghost use Rattle.proof_rules.specs.Refuting.{Refutes, SpentLog};
+ghost use Rattle.cnf_formula.specs.{Formulas.Satisfies, Lines.ProofLineValue, declared.line.LratLine.TheVariants.Addition};
+ghost use Rattle.proof_rules.specs.{declared.verdict.LineVerdict.TheVariants.Accepted, Judging.verdict_of, Refuting.{Refutes, SpentLog}};
 ghost use Rattle.outer_ports.specs.Port.{HasCause};
 ghost use Rattle.ledger_rules.specs.Logs.{checker_of};
 ghost use Rattle.trail_core.specs.Meaning.{trues};
-ghost use Rattle.sat_core.specs.inner.Guided.{IsGuided};
-ghost use Rattle.sat_core.specs.inner.Loading.{own_of};
-ghost use Rattle.sat_core.specs.Ready.{AreNumbered, AreShort, IsReady};
-ghost use Rattle.sat_core.specs.inner.Totals.{AreValues};
+ghost use Rattle.sat_core.specs.{inner.{Guided.IsGuided, Loading.own_of, Totals.AreValues}, Ready.{AreNumbered, AreShort, IsReady}};
 
 use crate::fault::SolveFault;
 use crate::guide::Guide;

@@ -1,16 +1,11 @@
 //! Literals of level 0 that conflicts needed get lines of their own, one literal each. Later lines
 //! then have one hint for such a literal, in place of the reasons that led to it.
 
-ghost use Rattle.std.specs.Prelude.{◌≡◌, ◌≢◌, ◌<◌, ◌≤◌, true, List, [], ◌∷◌, ◌++◌, AllPairs, length, IfOk, IfSome, OnOk};
-ghost use Rattle.sat_core.specs.inner.Going.{CanSearch, IsSameTrail, IsWrittenOn, StaysReady};
-ghost use Rattle.sat_core.specs.inner.Guided.{IsGuided};
-ghost use Rattle.sat_core.specs.inner.Stating.{AreStated, AreMarkedOn, IsStating};
-ghost use Rattle.cnf_formula.specs.Formulas.{FormulaValue, IsClause};
-ghost use Rattle.cnf_formula.specs.Lines.{ProofLineValue};
+ghost use Rattle.std.specs.Prelude.{◌≡◌, ◌≢◌, ◌<◌, ◌≤◌, true, List, [], ◌∷◌, ◌++◌, AllPairs, length, IfOk, IfSome, OnOk, get_or, false};
+ghost use Rattle.sat_core.specs.inner.{Going.{CanSearch, IsSameTrail, IsWrittenOn, StaysReady}, Guided.IsGuided, Stating.{AreStated, AreMarkedOn, IsStating}};
 ghost use Rattle.sat_core.specs.Ready.{IsReady};
+ghost use Rattle.cnf_formula.specs.{Formulas.{FormulaValue, IsClause}, Lines.ProofLineValue, Literals.{LitValue, code_of}};
 ghost use Rattle.sleeping_clauses.specs.Naming.{IsListed};
-ghost use Rattle.cnf_formula.specs.Literals.{LitValue, code_of};
-ghost use Rattle.std.specs.Prelude.{get_or, false};
 ghost use Rattle.outer_ports.specs.Port.{HasCause};
 
 use crate::backjump::go_to_bottom;

@@ -1,15 +1,11 @@
 //! One turn of the search at a conflict: analysis, learning, backjump.
 
 ghost use Rattle.std.specs.Prelude.{◌≡◌, ◌+◌, ◌<◌, ◌∷◌, ◌++◌, [], true, List, length, IfOk, OnOk};
-ghost use Rattle.cnf_formula.specs.Formulas.{FormulaValue};
-ghost use Rattle.cnf_formula.specs.Lines.{ProofLineValue};
+ghost use Rattle.cnf_formula.specs.{Formulas.FormulaValue, Lines.ProofLineValue};
 ghost use Rattle.conflict_analysis.specs.Conflicts.{IsConflict};
-ghost use Rattle.sat_core.specs.inner.Jumping.{IsBacked};
-ghost use Rattle.sat_core.specs.inner.Turning.{IsTurn, IsTurned};
-ghost use Rattle.sleeping_clauses.specs.Sleeping.{sleeping};
-ghost use Rattle.sat_core.specs.inner.Guided.{IsGuided};
-ghost use Rattle.sat_core.specs.inner.Going.{CanSearch, IsWrittenOn};
+ghost use Rattle.sat_core.specs.inner.{Jumping.IsBacked, Turning.{IsTurn, IsTurned}, Guided.IsGuided, Going.{CanSearch, IsWrittenOn}};
 ghost use Rattle.sat_core.specs.Ready.{AreWritten, IsReady};
+ghost use Rattle.sleeping_clauses.specs.Sleeping.{sleeping};
 ghost use Rattle.proof_rules.specs.Refuting.{is_fresh};
 ghost use Rattle.ledger_rules.specs.Logs.{checker_of};
 ghost use Rattle.trail_core.specs.Formed.{IsTrail};
@@ -19,7 +15,7 @@ use crate::backjump::go_back;
 use crate::fault::SolveFault;
 use crate::guide::Guide;
 use crate::stating::rest_if_due;
-use crate::waking::{wake, wake_all};
+use crate::waking::{wake, wake_due};
 use cnf_formula::{OutOfMemory, ProofLine};
 use conflict_analysis::line_at;
 use ledger_rules::Ledger;
@@ -85,7 +81,7 @@ fn line_of_conflict(
 
 /// Learns from a conflict: closes on level 0, else adds a line where there is room for it. Where a
 /// clause that sleeps states the line already, that clause is woken in its place; where there is no
-/// room, all clauses are.
+/// room, one by which something may follow on level 0.
 pub fn at_conflict<T, L: Ledger<T>>(
     alloc: Global,
     ledger: &mut L,
@@ -107,16 +103,16 @@ pub fn at_conflict<T, L: Ledger<T>>(
         return Ok(Turn::Refuted);
     }
     if !ledger.room() {
-        if guide.sleepers.is_empty() {
-            return Ok(Turn::Spent);
-        }
-        wake_all(
+        let woken = wake_due(
             core,
             &mut guide.decider,
             &mut guide.awake,
             &mut guide.sleepers,
         )?;
-        return Ok(Turn::Goes);
+        if woken {
+            return Ok(Turn::Goes);
+        }
+        return Ok(Turn::Spent);
     }
     if let Some(place) = guide.sleepers.subset_of(&line.lits) {
         wake(

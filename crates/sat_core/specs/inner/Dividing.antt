@@ -2,10 +2,8 @@
 use Rattle.std.specs.Prelude.{◌≡◌, ◌⊎◌, ℕ, ◌<◌, ◌≤◌, List, [], length, get_or, Contains}
 use Rattle.cnf_formula.specs.Literals.{LitValue}
 use Rattle.proof_rules.specs.Held.{Entry}
-use Rattle.sleeping_clauses.specs.declared.awake.Awake.{Awake}
-use Rattle.sleeping_clauses.specs.Sleeping.{SleepersValue, IsAsleep}
+use Rattle.sleeping_clauses.specs.{declared.awake.Awake.Awake, Sleeping.{SleepersValue, IsAsleep}, Naming.IsListed}
 use Rattle.sat_core.specs.inner.Holding.{AreNamed, AreAsleep}
-use Rattle.sleeping_clauses.specs.Naming.{IsListed}
 
 -- of the first so many clauses each is in what is left or fell asleep, and none of the formula fell asleep; what is left, and
 -- what sleeps, is held under its number wherever the core's clauses and what slept before are

@@ -1,17 +1,12 @@
 -- What the calls of a search keep, and what it goes on with.
 use Rattle.std.specs.Prelude.{◌≡◌, ◌+◌, ◌≤◌, List, length, map}
-use Rattle.cnf_formula.specs.Formulas.{FormulaValue}
-use Rattle.cnf_formula.specs.Lines.{ProofLineValue}
-use Rattle.cnf_formula.specs.declared.line.LratLine.TheVariants.{Addition}
+use Rattle.cnf_formula.specs.{Formulas.FormulaValue, Lines.ProofLineValue, declared.line.LratLine.TheVariants.Addition}
 use Rattle.proof_rules.specs.Refuting.{Refutes}
 use Rattle.ledger_rules.specs.declared.ledger.Ledger as own
 use Rattle.ledger_rules.specs.declared.ledger.LedgerView as view
 use Rattle.trail_core.specs.Meaning.{CoreValue}
-use Rattle.sleeping_clauses.specs.Sleeping.{SleepersValue}
-use Rattle.sleeping_clauses.specs.declared.awake.Awake.{Awake}
-use Rattle.sat_core.specs.declared.guide.Guide.{Guide}
-use Rattle.sat_core.specs.inner.Guided.{IsGuided}
-use Rattle.sat_core.specs.Ready.{AreWritten, IsReady, IsOver}
+use Rattle.sleeping_clauses.specs.{Sleeping.SleepersValue, declared.awake.Awake.Awake}
+use Rattle.sat_core.specs.{declared.guide.Guide.Guide, inner.Guided.IsGuided, Ready.{AreWritten, IsReady, IsOver}}
 
 -- a ledger beside its store was written on: its lines are those of a search, its formula and its limit stay, and what was spent is spent
 pub record IsWrittenOn {L T : Type 0} (V : view.Ghosts L) (W : own.Ghosts L T) (before : L) (was : T) (now : L) (is : T) : Type 0 where

@@ -3,9 +3,7 @@ use Rattle.std.specs.Prelude.{◌≡◌, ℕ, []}
 use Rattle.trail_core.specs.Meaning.{CoreValue}
 use Rattle.sat_core.specs.declared.guide.Guide.{Guide}
 use Rattle.conflict_analysis.specs.Met.{IsRested}
-use Rattle.sleeping_clauses.specs.Naming.{IsListed}
-use Rattle.sleeping_clauses.specs.Sleeping.{AreFew}
-use Rattle.sleeping_clauses.specs.declared.awake.Awake.{Awake}
+use Rattle.sleeping_clauses.specs.{Naming.IsListed, Sleeping.AreFew, declared.awake.Awake.Awake}
 
 -- its tables are of the core's variables and clauses, and no mark is above those of the last analysis
 pub record IsGuided (core : CoreValue) (guide : Guide) : Type 0 where

@@ -22,11 +22,7 @@ AreNamed held names clauses = (id : ℕ) → id < length clauses → IsHeldAs he
 abbrev pub AreAsleep : List Entry → SleepersValue → Type 0
 AreAsleep held s = (place : ℕ) → place < length s.clauses → IsHeldAs held (get_or s.numbers place 0) (get_or s.clauses place [])
 
--- each clause that is held is one of the core
-abbrev pub AreAmong : List Entry → List (List LitValue) → Type 0
-AreAmong held clauses = (entry : Entry) → Contains held entry → (clause : List LitValue) × Contains clauses clause × IsSame entry.1 clause
-
--- or it sleeps
+-- each clause that is held is one of the core, or sleeps
 abbrev pub AreAmongOr : List Entry → List (List LitValue) → SleepersValue → Type 0
 AreAmongOr held clauses s = (entry : Entry) → Contains held entry → (clause : List LitValue) × (Contains clauses clause ⊎ IsAsleep s clause) × IsSame entry.1 clause
 

@@ -1,10 +1,8 @@
 -- What is learned above level 0, the levels of its literals, and the core after it was gone back.
 use Rattle.std.specs.Prelude.{◌≡◌, ◌≢◌, ℕ, ◌-◌, ◌<◌, ◌≤◌, List, AllPairs, Contains, length, get_or, take}
 use Rattle.cnf_formula.specs.Literals.{LitValue, negation}
-use Rattle.trail_core.specs.Meaning.{CoreValue, trues}
-use Rattle.trail_core.specs.Assigned.{IsFalse, level_at}
-use Rattle.conflict_analysis.specs.Met.{lit_at}
-use Rattle.conflict_analysis.specs.Learned.{IsPointed}
+use Rattle.trail_core.specs.{Meaning.{CoreValue, trues}, Assigned.{IsFalse, level_at}}
+use Rattle.conflict_analysis.specs.{Met.lit_at, Learned.IsPointed}
 
 -- what a clause has that is learned above level 0, by its meaning alone
 pub record IsBacked (core : CoreValue) (clause : List LitValue) : Type 0 where

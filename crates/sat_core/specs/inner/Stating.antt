@@ -1,11 +1,7 @@
 -- Literals that clauses state alone, and lines of such.
 use Rattle.std.specs.Prelude.{◌≡◌, ◌≢◌, ◌+◌, true, false, Bool, List, [], ◌∷◌, ◌++◌, AllPairs, get_or, Contains}
-use Rattle.cnf_formula.specs.Literals.{LitValue, code_of}
-use Rattle.cnf_formula.specs.Formulas.{FormulaValue, IsClause}
-use Rattle.cnf_formula.specs.Lines.{ProofLineValue}
-use Rattle.proof_rules.specs.declared.verdict.LineVerdict.TheVariants.{Accepted}
-use Rattle.proof_rules.specs.Judging.{verdict_of}
-use Rattle.proof_rules.specs.Refuting.{is_fresh}
+use Rattle.cnf_formula.specs.{Literals.{LitValue, code_of}, Formulas.{FormulaValue, IsClause}, Lines.ProofLineValue}
+use Rattle.proof_rules.specs.{declared.verdict.LineVerdict.TheVariants.Accepted, Judging.verdict_of, Refuting.is_fresh}
 use Rattle.ledger_rules.specs.Logs.{checker_of}
 use Rattle.trail_core.specs.Meaning.{CoreValue}
 use Rattle.sleeping_clauses.specs.declared.awake.Awake.{Awake}

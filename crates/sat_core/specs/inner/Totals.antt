@@ -1,10 +1,7 @@
 -- A core that nothing is left to decide of, and the values that its variables have.
 use Rattle.std.specs.Prelude.{◌≡◌, ℕ, ◌+◌, ◌<◌, ◌≤◌, Bool, true, false, List, All, Contains, get_or}
-use Rattle.cnf_formula.specs.Literals.{LitValue, yes, no}
-use Rattle.cnf_formula.specs.Formulas.{IsClause}
-use Rattle.trail_core.specs.Assigned.{IsOpen}
-use Rattle.trail_core.specs.Formed.{IsTrail}
-use Rattle.trail_core.specs.Meaning.{CoreValue, trues, IsClosed}
+use Rattle.cnf_formula.specs.{Literals.{LitValue, yes, no}, Formulas.IsClause}
+use Rattle.trail_core.specs.{Assigned.IsOpen, Formed.IsTrail, Meaning.{CoreValue, trues, IsClosed}}
 
 -- its trail is closed, and no variable is open
 pub record IsTotal (core : CoreValue) : Type 0 where

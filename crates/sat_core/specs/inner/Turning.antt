@@ -1,21 +1,13 @@
 -- A turn at a conflict: the line of the conflict, and what the turn came to.
 use Rattle.std.specs.Prelude.{ℕ, List}
-use Rattle.cnf_formula.specs.Formulas.{FormulaValue}
-use Rattle.cnf_formula.specs.Lines.{ProofLineValue}
+use Rattle.cnf_formula.specs.{Formulas.FormulaValue, Lines.ProofLineValue}
 use Rattle.ledger_rules.specs.declared.ledger.Ledger as own
 use Rattle.ledger_rules.specs.declared.ledger.LedgerView as view
 use Rattle.trail_core.specs.Meaning.{CoreValue}
-use Rattle.conflict_analysis.specs.Conflicts.{IsConflict}
-use Rattle.conflict_analysis.specs.Learned.{IsLearned}
-use Rattle.sleeping_clauses.specs.Naming.{IsNamed}
-use Rattle.sleeping_clauses.specs.Sleeping.{SleepersValue, sleeping}
-use Rattle.sleeping_clauses.specs.declared.awake.Awake.{Awake}
-use Rattle.sat_core.specs.declared.guide.Guide.{Guide}
-use Rattle.sat_core.specs.declared.turn.Turn.{Turn}
-use Rattle.sat_core.specs.declared.turn.Turn.TheVariants.{Goes, Refuted, Spent}
-use Rattle.sat_core.specs.inner.Going.{CanSearch, HasRefuted, HasSpent}
-use Rattle.sat_core.specs.inner.Measure.{IsLess}
-use Rattle.sat_core.specs.Ready.{IsReady}
+use Rattle.conflict_analysis.specs.{Conflicts.IsConflict, Learned.IsLearned}
+use Rattle.sleeping_clauses.specs.{Naming.IsNamed, Sleeping.{SleepersValue, sleeping}, declared.awake.Awake.Awake}
+use Rattle.sat_core.specs.{declared.{guide.Guide.Guide, turn.Turn.{Turn, TheVariants.{Goes, Refuted, Spent}}}, inner.Going.{CanSearch, HasRefuted, HasSpent}}
+use Rattle.sat_core.specs.{inner.Measure.IsLess, Ready.IsReady}
 
 -- a search is ready and at a conflict, and has what is learned from it as a line by the ledger's numbers
 pub record IsTurn (base : FormulaValue) (lines : List ProofLineValue) (core : CoreValue) (awake : Awake) (s : SleepersValue) (conflict : ℕ) (line : ProofLineValue) : Type 0 where

@@ -1,8 +1,6 @@
-use Rattle.std.proofs.Common.{◌≡◌, sym, ap, ◌∙◌, subst, arith}
-use Rattle.std.specs.Prelude.{All}
+use Rattle.std.proofs.Common.{◌≡◌, sym, ap, ◌∙◌, subst, arith, All}
 use Rattle.cnf_formula.specs.Formulas.{IsAbout}
-use Rattle.sat_core.specs.inner.Jumping.{IsBacked}
-use Rattle.sat_core.proofs.Jumping.{backed_within, lower_levels}
+use Rattle.sat_core.{specs.inner.Jumping.IsBacked, proofs.Jumping.{backed_within, lower_levels}}
 use Rattle.sat_core.proofs.backjump.go_back.Goals as goal
 use Rattle.sat_core.proofs.backjump.go_back.Goals.{then-anew, else-anew}
 

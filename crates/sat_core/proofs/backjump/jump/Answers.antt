@@ -1,12 +1,7 @@
-use Rattle.std.proofs.Common.{◌≡◌, ◌-◌, [], ◌∷◌, ◌++◌, length, sym, ap, ◌∙◌, subst, arith}
-use Rattle.std.specs.Prelude.{All}
-use Rattle.cnf_formula.specs.Literals.{LitValue}
-use Rattle.cnf_formula.specs.Formulas.{IsAbout}
-use Rattle.trail_core.specs.Search.{IsUnit}
-use Rattle.trail_core.specs.Meaning.{trues}
-use Rattle.trail_core.specs.Kept.{IsDue, CanAdd}
-use Rattle.sat_core.specs.inner.Jumping.{gone_back}
-use Rattle.sat_core.proofs.Jumping.{IsJump, jump_unit, jump_can, jump_due, backed_some, backed_within, backed_differ, last_is}
+use Rattle.std.proofs.Common.{◌≡◌, ◌-◌, [], ◌∷◌, ◌++◌, length, sym, ap, ◌∙◌, subst, arith, All}
+use Rattle.cnf_formula.specs.{Literals.LitValue, Formulas.IsAbout}
+use Rattle.trail_core.specs.{Search.IsUnit, Meaning.trues, Kept.{IsDue, CanAdd}}
+use Rattle.sat_core.{specs.inner.Jumping.gone_back, proofs.Jumping.{IsJump, jump_unit, jump_can, jump_due, backed_some, backed_within, backed_differ, last_is}}
 use Rattle.sat_core.proofs.backjump.jump.Goals as goal
 
 pub overflow_sub-lits : goal.overflow_sub-lits

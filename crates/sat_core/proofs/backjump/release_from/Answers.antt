@@ -1,9 +1,7 @@
 use Rattle.std.proofs.Common.{◌≡◌, ◌<◌, length, ap, arith}
 use Rattle.cnf_formula.specs.Literals.{LitValue}
-use Rattle.conflict_analysis.specs.Met.{lit_at}
+use Rattle.conflict_analysis.{specs.Met.lit_at, proofs.{Marked.lit_about, Resolved.place_read}}
 use Rattle.trail_core.proofs.Keeping.{lits_length}
-use Rattle.conflict_analysis.proofs.Marked.{lit_about}
-use Rattle.conflict_analysis.proofs.Resolved.{place_read}
 use Rattle.sat_core.proofs.backjump.release_from.Goals as goal
 
 pub release-requires : goal.release-requires

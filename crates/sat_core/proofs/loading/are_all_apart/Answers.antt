@@ -1,7 +1,4 @@
-use Rattle.std.proofs.Common.{◌<◌, [], length, get_or, take, sym, subst, arith}
-use Rattle.std.specs.Prelude.{◌≢◌, All, AllPairs}
-use Rattle.std.proofs.lemmas.List.{take_more, take_all}
-use Rattle.std.proofs.lemmas.List.Elements.{All-push}
+use Rattle.std.proofs.{Common.{◌<◌, [], length, get_or, take, sym, subst, arith, ◌≢◌, All, AllPairs}, lemmas.List.{take_more, take_all, Elements.All-push}}
 use Rattle.cnf_formula.specs.Formulas.{IsAbout}
 use Rattle.sat_core.proofs.loading.are_all_apart.Goals as goal
 

@@ -1,5 +1,4 @@
-use Rattle.std.proofs.Common.{ℕ, ◌≤◌, get_or, take}
-use Rattle.std.specs.Prelude.{◌≢◌, All, AllPairs}
+use Rattle.std.proofs.Common.{ℕ, ◌≤◌, get_or, take, ◌≢◌, All, AllPairs}
 use Rattle.sat_core.proofs.loading.are_all_apart.Given as goal
 
 abbrev pub invariant-loop-place : goal.invariant-loop-place

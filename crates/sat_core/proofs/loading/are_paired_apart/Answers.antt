@@ -1,8 +1,5 @@
-use Rattle.std.proofs.Common.{◌≡◌, ◌+◌, ◌<◌, [], ◌∷◌, ◌++◌, length, take, sym, ap, ◌∙◌, subst, arith}
-use Rattle.std.specs.Prelude.{◌≢◌, AllPairs, Contains}
-use Rattle.std.proofs.lemmas.List.{take_more, take_all}
-use Rattle.std.proofs.lemmas.List.Elements.{Contains-get_or}
-use Rattle.std.proofs.lemmas.List.Quantifiers.{all_pairs_push}
+use Rattle.std.proofs.Common.{◌≡◌, ◌+◌, ◌<◌, [], ◌∷◌, ◌++◌, length, take, sym, ap, ◌∙◌, subst, arith, ◌≢◌, AllPairs, Contains}
+use Rattle.std.proofs.lemmas.List.{take_more, take_all, Elements.Contains-get_or, Quantifiers.all_pairs_push}
 use Rattle.cnf_formula.specs.Literals.{LitValue}
 use Rattle.sat_core.proofs.loading.are_paired_apart.Goals as goal
 

@@ -1,5 +1,4 @@
-use Rattle.std.proofs.Common.{take}
-use Rattle.std.specs.Prelude.{◌≢◌, AllPairs}
+use Rattle.std.proofs.Common.{take, ◌≢◌, AllPairs}
 use Rattle.sat_core.proofs.loading.are_paired_apart.Given as goal
 
 abbrev pub invariant-loop-place : goal.invariant-loop-place

@@ -1,5 +1,4 @@
-use Rattle.std.proofs.Common.{take}
-use Rattle.std.specs.Prelude.{Contains}
+use Rattle.std.proofs.Common.{take, Contains}
 use Rattle.sat_core.proofs.loading.is_among.Given as goal
 
 abbrev pub invariant-loop-other : goal.invariant-loop-other

@@ -1,7 +1,5 @@
-use Rattle.std.proofs.Common.{◌+◌, ◌*◌, arith, rules}
-use Rattle.std.proofs.lemmas.List.Elements.{All-contains}
-use Rattle.cnf_formula.specs.Formulas.{IsAbout}
-use Rattle.cnf_formula.proofs.Codes.{code_within}
+use Rattle.std.proofs.{Common.{◌+◌, ◌*◌, arith, rules}, lemmas.List.Elements.All-contains}
+use Rattle.cnf_formula.{specs.Formulas.IsAbout, proofs.Codes.code_within}
 use Rattle.sat_core.proofs.Apart.{resized_below}
 use Rattle.sat_core.proofs.loading.is_apart.Goals as goal
 

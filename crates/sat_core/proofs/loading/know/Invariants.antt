@@ -1,5 +1,4 @@
-use Rattle.std.proofs.Common.{take}
-use Rattle.std.specs.Prelude.{All}
+use Rattle.std.proofs.Common.{take, All}
 use Rattle.cnf_formula.specs.Literals.{IsLit}
 use Rattle.sat_core.proofs.loading.know.Given as goal
 

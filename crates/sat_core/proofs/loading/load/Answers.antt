@@ -1,9 +1,6 @@
-use Rattle.std.proofs.Common.{◌≡◌, length, sym, ap, ◌∙◌, subst, arith}
-use Rattle.std.specs.Prelude.{All, flat_map}
-use Rattle.cnf_formula.specs.Literals.{IsLit}
-use Rattle.cnf_formula.specs.Formulas.{IsClause}
-use Rattle.sat_core.specs.inner.Loading.{IsLoaded}
-use Rattle.sat_core.proofs.Loaded.{IsNumbered, clauses_own, numbered_from, ready_loaded}
+use Rattle.std.proofs.Common.{◌≡◌, length, sym, ap, ◌∙◌, subst, arith, All, flat_map}
+use Rattle.cnf_formula.specs.{Literals.IsLit, Formulas.IsClause}
+use Rattle.sat_core.{specs.inner.Loading.IsLoaded, proofs.Loaded.{IsNumbered, clauses_own, numbered_from, ready_loaded}}
 use Rattle.sat_core.proofs.loading.load.Goals as goal
 
 pub core_of-requires : goal.core_of-requires

@@ -1,12 +1,7 @@
-use Rattle.std.proofs.Common.{◌≡◌, ◌<◌, List, [], ◌∷◌, ◌++◌, length, get_or, sym, ap, ◌∙◌, subst, arith}
-use Rattle.std.specs.Prelude.{◌≢◌, All, AllPairs}
-use Rattle.std.proofs.lemmas.List.{take_all}
+use Rattle.std.proofs.{Common.{◌≡◌, ◌<◌, List, [], ◌∷◌, ◌++◌, length, get_or, sym, ap, ◌∙◌, subst, arith, ◌≢◌, All, AllPairs}, lemmas.List.take_all}
 use Rattle.std.proofs.lemmas.List.Elements.{All-push, All-contains}
-use Rattle.cnf_formula.specs.Literals.{LitValue}
-use Rattle.cnf_formula.specs.Formulas.{IsAbout, IsClause}
-use Rattle.sat_core.specs.inner.Holding.{IsSame}
-use Rattle.sat_core.specs.inner.Loading.{IsLoaded}
-use Rattle.sat_core.proofs.Loaded.{codes_within, kept_about, loaded_more}
+use Rattle.cnf_formula.specs.{Literals.LitValue, Formulas.{IsAbout, IsClause}}
+use Rattle.sat_core.{specs.inner.{Holding.IsSame, Loading.IsLoaded}, proofs.Loaded.{codes_within, kept_about, loaded_more}}
 use Rattle.sat_core.proofs.loading.once_in_each.Goals as goal
 
 pub once_each-requires-clause-room : goal.once_each-requires-clause-room

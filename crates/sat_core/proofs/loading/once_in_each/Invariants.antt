@@ -1,5 +1,4 @@
-use Rattle.std.proofs.Common.{◌≡◌, ℕ, ◌+◌, ◌*◌, ◌≤◌, length, get_or, take}
-use Rattle.std.specs.Prelude.{◌≢◌, All, AllPairs}
+use Rattle.std.proofs.Common.{◌≡◌, ℕ, ◌+◌, ◌*◌, ◌≤◌, length, get_or, take, ◌≢◌, All, AllPairs}
 use Rattle.cnf_formula.specs.Formulas.{IsClause}
 use Rattle.sat_core.specs.inner.Loading.{IsLoaded}
 use Rattle.sat_core.proofs.loading.once_in_each.Given as goal

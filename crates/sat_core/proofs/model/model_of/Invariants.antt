@@ -1,5 +1,4 @@
-use Rattle.std.proofs.Common.{◌≡◌, ℕ, ◌+◌, ◌<◌, true, false, length, get_or}
-use Rattle.std.specs.Prelude.{Contains}
+use Rattle.std.proofs.Common.{◌≡◌, ℕ, ◌+◌, ◌<◌, true, false, length, get_or, Contains}
 use Rattle.cnf_formula.specs.Literals.{yes}
 use Rattle.trail_core.specs.Meaning.{trues}
 use Rattle.sat_core.proofs.model.model_of.Given as goal

@@ -1,8 +1,6 @@
-use Rattle.std.proofs.Common.{◌+◌, false, ap, ◌∙◌, subst}
-use Rattle.std.specs.Prelude.{Some}
+use Rattle.std.proofs.Common.{◌+◌, false, ap, ◌∙◌, subst, Some}
 use Rattle.cnf_formula.specs.Literals.{LitValue, yes}
-use Rattle.trail_core.specs.Assigned.{IsValue}
-use Rattle.trail_core.specs.Meaning.{trues}
+use Rattle.trail_core.specs.{Assigned.IsValue, Meaning.trues}
 use Rattle.sat_core.proofs.Once.{consistent_by}
 use Rattle.sat_core.proofs.model.value_at.Goals as goal
 

@@ -1,16 +1,9 @@
-use Rattle.std.proofs.Common.{◌≡◌, ℕ, ◌+◌, ◌<◌, true, List, [], ◌∷◌, ◌++◌, length, get_or, refl, sym, ap, ◌∙◌, subst, arith}
-use Rattle.std.specs.Prelude.{All, Result, Ok, Err, OnOk}
-use Rattle.std.proofs.lemmas.List.{get_or_default}
-use Rattle.std.proofs.lemmas.List.Elements.{All-push}
-use Rattle.std.proofs.lemmas.Result.{on_ok_weaker}
-use Rattle.cnf_formula.specs.Literals.{LitValue}
-use Rattle.cnf_formula.specs.Formulas.{IsClause}
+use Rattle.std.proofs.Common.{◌≡◌, ℕ, ◌+◌, ◌<◌, true, List, [], ◌∷◌, ◌++◌, length, get_or, refl, sym, ap, ◌∙◌, subst, arith, All, Result, Ok, Err, OnOk}
+use Rattle.std.proofs.lemmas.{List.{get_or_default, Elements.All-push}, Result.on_ok_weaker}
+use Rattle.cnf_formula.specs.{Literals.LitValue, Formulas.IsClause}
 use Rattle.trail_core.specs.Meaning.{CoreValue}
-use Rattle.sleeping_clauses.specs.declared.awake.Awake.{Awake}
-use Rattle.sleeping_clauses.specs.Naming.{IsListed}
-use Rattle.sleeping_clauses.specs.Sleeping.{SleepersValue}
-use Rattle.sat_core.proofs.Listed.{clause_is, once_is}
-use Rattle.sat_core.proofs.Divided.{dividing_awake, dividing_asleep}
+use Rattle.sleeping_clauses.specs.{declared.awake.Awake.Awake, Naming.IsListed, Sleeping.SleepersValue}
+use Rattle.sat_core.proofs.{Listed.{clause_is, once_is}, Divided.{dividing_awake, dividing_asleep}}
 use Rattle.sat_core.proofs.resting.divide.Goals as goal
 
 name_is : (clauses : List (List LitValue)) (awake : Awake) (place read : ℕ) → IsListed clauses awake → place < length clauses → read ≡ get_or awake.names.items (place + 1) read → read ≡ get_or awake.names.items (place + 1) 0

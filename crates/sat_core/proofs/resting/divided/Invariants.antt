@@ -1,5 +1,4 @@
-use Rattle.std.proofs.Common.{◌≡◌, ◌≤◌, length}
-use Rattle.std.specs.Prelude.{All}
+use Rattle.std.proofs.Common.{◌≡◌, ◌≤◌, length, All}
 use Rattle.cnf_formula.specs.Formulas.{IsClause}
 use Rattle.sat_core.specs.inner.Dividing.{IsDividing}
 use Rattle.sleeping_clauses.specs.Sleeping.{AreFew}

@@ -1,5 +1,4 @@
-use Rattle.sat_core.proofs.Readiness.{ready_used}
-use Rattle.sat_core.proofs.Divided.{ready_divided}
+use Rattle.sat_core.proofs.{Readiness.ready_used, Divided.ready_divided}
 use Rattle.sat_core.proofs.resting.rest.Goals as goal
 
 pub returns-clause-ready : goal.returns-clause-ready

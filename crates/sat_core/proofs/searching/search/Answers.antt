@@ -1,10 +1,8 @@
-use Rattle.std.proofs.Common.{◌≡◌, ℕ, ◌<◌, length, refl, sym, ◌∙◌, subst, arith}
-use Rattle.std.proofs.lemmas.Result.{IfOk-from_err}
+use Rattle.std.proofs.{Common.{◌≡◌, ℕ, ◌<◌, length, refl, sym, ◌∙◌, subst, arith}, lemmas.Result.IfOk-from_err}
 use Rattle.sat_core.specs.inner.Measure.{remaining}
-use Rattle.sleeping_clauses.specs.Sleeping.{sleeping}
-use Rattle.sat_core.proofs.Caused.{after, answered, answered_after, handed_on, unmoved}
-use Rattle.sat_core.proofs.Going.{advanced_can, still_written, written_then}
+use Rattle.sat_core.proofs.{Caused.{after, answered, answered_after, handed_on, unmoved}, Going.{advanced_can, still_written, written_then}}
 use Rattle.sat_core.proofs.Measure.{conflict_leaves_less, decision_leaves_less}
+use Rattle.sleeping_clauses.specs.Sleeping.{sleeping}
 use Rattle.sat_core.proofs.searching.search.Goals as goal
 
 pub loop-conflict-init : goal.loop-conflict-init

@@ -1,25 +1,12 @@
-use Rattle.std.proofs.Common.{◌≡◌, ℕ, ◌<◌, true, length, map, Result, Ok, Err, refl, sym, ap, ◌∙◌, subst, arith}
-use Rattle.std.specs.Result.{IsOk, OnOk}
-use Rattle.std.proofs.lemmas.Result.{IfOk-at_ok}
-use Rattle.std.proofs.lemmas.Bool.{true≢false}
-use Rattle.cnf_formula.specs.Formulas.{Satisfies}
-use Rattle.cnf_formula.specs.declared.line.LratLine.TheVariants.{Addition}
-use Rattle.proof_rules.specs.declared.verdict.LineVerdict.TheVariants.{Accepted}
-use Rattle.proof_rules.specs.Judging.{verdict_of}
-use Rattle.proof_rules.specs.Refuting.{Refutes, SpentLog}
+use Rattle.std.{proofs.Common.{◌≡◌, ℕ, ◌<◌, true, length, map, Result, Ok, Err, refl, sym, ap, ◌∙◌, subst, arith}, specs.Result.{IsOk, OnOk}}
+use Rattle.std.proofs.lemmas.{Result.IfOk-at_ok, Bool.true≢false}
+use Rattle.cnf_formula.specs.{Formulas.Satisfies, declared.line.LratLine.TheVariants.Addition}
+use Rattle.proof_rules.specs.{declared.verdict.LineVerdict.TheVariants.Accepted, Judging.verdict_of, Refuting.{Refutes, SpentLog}}
 use Rattle.ledger_rules.specs.Logs.{checker_of}
 use Rattle.trail_core.specs.Meaning.{trues}
-use Rattle.sat_core.specs.Ready.{AreNumbered, AreShort, IsReady}
-use Rattle.sat_core.specs.inner.Totals.{AreValues}
-use Rattle.sat_core.specs.declared.solving.SatAnswer.{SatAnswer}
-use Rattle.sat_core.specs.declared.searching.End.{End}
-use Rattle.sat_core.specs.declared.searching.End.TheVariants.{Total, Refuted, Spent}
-use Rattle.sat_core.specs.inner.Ending.{IsEnded}
-use Rattle.sat_core.proofs.Caused.{handed_other, no_answer, on_fault, still}
-use Rattle.sat_core.proofs.Going.{ended_agrees}
-use Rattle.sat_core.proofs.Ending.{log_by}
-use Rattle.sat_core.proofs.Modelled.{model_satisfies}
-use Rattle.sat_core.proofs.Ternary.{few_spent}
+use Rattle.sat_core.specs.{Ready.{AreNumbered, AreShort, IsReady}, inner.Totals.AreValues, declared.{solving.SatAnswer.SatAnswer, searching.End.End}}
+use Rattle.sat_core.specs.{declared.searching.End.TheVariants.{Total, Refuted, Spent}, inner.Ending.IsEnded}
+use Rattle.sat_core.proofs.{Caused.{handed_other, no_answer, on_fault, still}, Going.ended_agrees, Ending.log_by, Modelled.model_satisfies, Ternary.few_spent}
 use Rattle.sat_core.proofs.solving.solve.Goals as goal
 
 -- what holds of a success before it holds of a success

@@ -1,10 +1,6 @@
-use Rattle.std.proofs.Common.{◌≡◌, ◌+◌, [], ◌∷◌, ◌++◌, sym, ap, ◌∙◌, subst, inl}
-use Rattle.std.specs.Prelude.{◌≢◌, AllPairs}
+use Rattle.std.proofs.Common.{◌≡◌, ◌+◌, [], ◌∷◌, ◌++◌, sym, ap, ◌∙◌, subst, inl, ◌≢◌, AllPairs}
 use Rattle.cnf_formula.specs.Formulas.{IsClause}
-use Rattle.sat_core.specs.inner.Stating.{AreStated}
-use Rattle.sat_core.proofs.Readiness.{IsGrown, listed_more, ready_more}
-use Rattle.sat_core.proofs.Turning.{guided_more}
-use Rattle.sat_core.proofs.Stated.{stated_more}
+use Rattle.sat_core.{specs.inner.Stating.AreStated, proofs.{Readiness.{IsGrown, listed_more, ready_more}, Turning.guided_more, Stated.stated_more}}
 use Rattle.sat_core.proofs.stating.hold.Goals as goal
 
 pub add_clause-requires : goal.add_clause-requires

@@ -1,10 +1,7 @@
-use Rattle.std.proofs.Common.{◌≡◌, sym, ap, ◌∙◌, subst}
-use Rattle.std.specs.Prelude.{Contains, get_or, true}
+use Rattle.std.proofs.Common.{◌≡◌, sym, ap, ◌∙◌, subst, Contains, get_or, true}
 use Rattle.cnf_formula.specs.Literals.{LitValue, code_of}
-use Rattle.conflict_analysis.specs.Met.{lit_at}
-use Rattle.conflict_analysis.proofs.Resolved.{place_read}
-use Rattle.sat_core.proofs.Turning.{none_by}
-use Rattle.sat_core.proofs.Stated.{HasUnitLine, stating_is, stating_names, stating_about}
+use Rattle.conflict_analysis.{specs.Met.lit_at, proofs.Resolved.place_read}
+use Rattle.sat_core.proofs.{Turning.none_by, Stated.{HasUnitLine, stating_is, stating_names, stating_about}}
 use Rattle.sat_core.proofs.stating.line_of.Goals as goal
 
 pub named-requires : goal.named-requires

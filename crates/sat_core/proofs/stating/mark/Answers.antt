@@ -1,7 +1,6 @@
 use Rattle.std.proofs.Common.{[], ◌∷◌, sym, subst}
 use Rattle.cnf_formula.specs.Literals.{LitValue}
-use Rattle.sat_core.specs.inner.Stating.{AreStated}
-use Rattle.sat_core.proofs.Stated.{stated_one, alone_is}
+use Rattle.sat_core.{specs.inner.Stating.AreStated, proofs.Stated.{stated_one, alone_is}}
 use Rattle.sat_core.proofs.stating.mark.Goals as goal
 
 pub returns-in-len1-clause-this : goal.returns-in-len1-clause-this

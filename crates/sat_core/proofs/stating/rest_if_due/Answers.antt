@@ -1,6 +1,5 @@
 use Rattle.std.proofs.Common.{refl, ◌∙◌}
-use Rattle.sat_core.proofs.Caused.{answered, answered_after, handed_on, no_memory_after, on_fault}
-use Rattle.sat_core.proofs.Going.{still_written}
+use Rattle.sat_core.proofs.{Caused.{answered, answered_after, handed_on, no_memory_after, on_fault}, Going.still_written}
 use Rattle.sat_core.proofs.stating.rest_if_due.Goals as goal
 
 pub returns-then-not-anew : goal.returns-then-not-anew

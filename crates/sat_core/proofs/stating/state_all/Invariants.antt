@@ -1,6 +1,5 @@
 use Rattle.std.proofs.Common.{◌≡◌}
-use Rattle.sat_core.specs.inner.Going.{CanSearch, IsSameTrail, IsWrittenOn}
-use Rattle.sat_core.specs.inner.Stating.{AreStated}
+use Rattle.sat_core.specs.inner.{Going.{CanSearch, IsSameTrail, IsWrittenOn}, Stating.AreStated}
 use Rattle.sat_core.proofs.stating.state_all.Given as goal
 
 abbrev pub invariant-loop-place : goal.invariant-loop-place

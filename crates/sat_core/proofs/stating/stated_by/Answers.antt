@@ -1,8 +1,5 @@
-use Rattle.std.proofs.Common.{◌≡◌, ◌<◌, ◌+◌, [], ◌∷◌, ◌++◌, length, take, sym, ap, ◌∙◌, subst, arith}
-use Rattle.std.proofs.lemmas.List.{take_more, take_all}
-use Rattle.sat_core.specs.inner.Stating.{AreStated}
-use Rattle.sat_core.proofs.Listed.{clause_is, once_is}
-use Rattle.sat_core.proofs.Stated.{stated_nil, stated_more}
+use Rattle.std.proofs.{Common.{◌≡◌, ◌<◌, ◌+◌, [], ◌∷◌, ◌++◌, length, take, sym, ap, ◌∙◌, subst, arith}, lemmas.List.{take_more, take_all}}
+use Rattle.sat_core.{specs.inner.Stating.AreStated, proofs.{Listed.{clause_is, once_is}, Stated.{stated_nil, stated_more}}}
 use Rattle.sat_core.proofs.stating.stated_by.Goals as goal
 
 pub loop-place-init : goal.loop-place-init

@@ -1,16 +1,10 @@
-use Rattle.std.proofs.Common.{◌≡◌, ◌<◌, ◌++◌, ◌∷◌, length, [], map, refl, sym, ap, ◌∙◌, subst, inl, inr, arith}
-use Rattle.std.specs.Prelude.{vec_len, get_or, false, Contains}
-use Rattle.std.proofs.lemmas.Bool.{eqb-true}
-use Rattle.std.proofs.lemmas.List.{nil_from_length}
-use Rattle.std.proofs.lemmas.Result.{IfOk-from_err}
-use Rattle.cnf_formula.specs.Formulas.{IsClause}
-use Rattle.cnf_formula.specs.declared.line.LratLine.TheVariants.{Addition}
+use Rattle.std.proofs.Common.{Ok, ◌≡◌, ◌<◌, ◌++◌, ◌∷◌, length, [], map, refl, sym, ap, ◌∙◌, subst, inl, inr, arith, vec_len, get_or, false, Contains}
+use Rattle.std.proofs.lemmas.{Bool.eqb-true, List.nil_from_length, Result.IfOk-from_err}
+use Rattle.cnf_formula.specs.{Formulas.IsClause, declared.line.LratLine.TheVariants.Addition}
 use Rattle.proof_rules.specs.Refuting.{Refutes}
 use Rattle.sleeping_clauses.specs.Sleeping.{sleeping}
-use Rattle.sat_core.specs.inner.Guided.{IsGuided}
-use Rattle.sat_core.specs.Ready.{IsReady}
-use Rattle.sat_core.proofs.Caused.{after, answered, answered_after, handed_on, no_memory, no_memory_after, of_ledger, unmoved}
-use Rattle.sat_core.proofs.Ending.{closed_few, no_room}
+use Rattle.sat_core.specs.{inner.Guided.IsGuided, Ready.IsReady}
+use Rattle.sat_core.proofs.{Caused.{after, answered, answered_after, handed_on, no_memory, no_memory_after, of_ledger, unmoved}, Ending.{closed_few, no_room}}
 use Rattle.sat_core.proofs.Going.{ready_at, still_written, written_then, written_to}
 use Rattle.sat_core.proofs.Turning.{guided_more, none_by, not_empty, turn_about, turn_above, turn_accepted, turn_backed, turn_fresh, turn_over, turn_refuted, turn_written}
 use Rattle.sat_core.proofs.turn.at_conflict.Goals as goal
@@ -62,54 +56,62 @@ returns-then-is_empty g c =
       cause = answered_after c.in_ok-close.was closed.cause;
     }
 
-pub returns-then-is_empty-2 : goal.returns-then-is_empty-2
-returns-then-is_empty-2 g c =
-    let old = c.args.ledger.now in
+pub wake_due-requires : goal.wake_due-requires
+wake_due-requires g c =
     let line = c.in_ok-line.line in
-    let t = c.in_ok-line.ensures.turn _ _ c.requires.can.ready in
+    let guided = c.in_ok-line.ensures.guided in
     let some = not_empty line.lits c.is_empty.ensures c.if-is_empty.false (omega (arith, ap (λ l. length l.lits) c.line.view_is)) in
     record {
-      written = still_written (g.met.L.Ledger.moves_refl old c.args.store.now) c.requires.can.ready.written;
-      vars = refl;
-      turned = record {
-        all = no_room c.if-not-room.true c.room.ensures (g.met.L.LedgerView.within old);
-        over = turn_over t some (c.if-is_empty-2.ensures.none refl);
-        agrees = c.requires.can.agrees;
-      };
-      cause = answered;
+      above = turn_above (c.in_ok-line.ensures.turn _ _ c.requires.can.ready) some;
+      decider = guided.decider;
+      vars = guided.sleepers;
+      listed = guided.listed;
     }
 
-pub wake_all-requires : goal.wake_all-requires
-wake_all-requires g c =
-    let guided = c.in_ok-line.ensures.guided in
-    record { decider = guided.decider; vars = guided.sleepers; listed = guided.listed }
-
-pub returns-in_err-wake_all : goal.returns-in_err-wake_all
-returns-in_err-wake_all g c =
-    let fault = c.from_residual-in_err-wake_all in
+pub returns-in_err-woken : goal.returns-in_err-woken
+returns-in_err-woken g c =
+    let fault = c.from_residual-in_err-woken in
     record {
       written = still_written (g.met.L.Ledger.moves_refl c.args.ledger.now c.args.store.now) c.requires.can.ready.written;
-      vars = c.wake_all.ensures.vars;
+      vars = c.wake_due.ensures.vars;
       turned = IfOk-from_err fault.result _ fault.ensures.0;
       cause = no_memory fault.result fault.ensures.1;
     }
 
-pub returns-then-not-room : goal.returns-then-not-room
-returns-then-not-room g c =
+pub returns-then-woken : goal.returns-then-woken
+returns-then-woken g c =
     let can = c.requires.can in
     let guided = c.in_ok-line.ensures.guided in
-    let woken = c.in_ok-wake_all.ensures in
+    let woken = c.in_ok-woken.ensures in
+    let is = ap Ok c.if-woken.true in
     record {
       written = still_written (g.met.L.Ledger.moves_refl c.args.ledger.now c.args.store.now) can.ready.written;
       vars = woken.vars;
       turned = (
         record {
-          ready = woken.ready _ _ (c.in_ok-line.ensures.turn _ _ can.ready).ready;
-          guided = guided_more c.args.core.now _ _ guided.rested (woken.decider ∙ guided.decider) guided.probes woken.listed (woken.same ∙ guided.sleepers) (omega (arith, woken.none)) woken.vars;
+          ready = woken.ready is _ _ (c.in_ok-line.ensures.turn _ _ can.ready).ready;
+          guided = guided_more c.args.core.now _ _ guided.rested (woken.decider ∙ guided.decider) guided.probes (woken.listed is) (woken.same ∙ guided.sleepers) (omega (arith, woken.fewer is, guided.few)) woken.vars;
           agrees = can.agrees;
         },
-        inr (refl, omega (arith, woken.none, c.if-is_empty-2.ensures.some refl, ap (λ s. sleeping s) c.line_of_conflict.ensures.sleepers)),
+        inr (refl, omega (arith, woken.fewer is, ap (λ s. sleeping s) c.line_of_conflict.ensures.sleepers)),
       );
+      cause = answered;
+    }
+
+pub returns-then-not-room : goal.returns-then-not-room
+returns-then-not-room g c =
+    let line = c.in_ok-line.line in
+    let can = c.requires.can in
+    let woken = c.in_ok-woken.ensures in
+    let some = not_empty line.lits c.is_empty.ensures c.if-is_empty.false (omega (arith, ap (λ l. length l.lits) c.line.view_is)) in
+    record {
+      written = still_written (g.met.L.Ledger.moves_refl c.args.ledger.now c.args.store.now) can.ready.written;
+      vars = woken.vars;
+      turned = record {
+        all = no_room c.if-not-room.true c.room.ensures (g.met.L.LedgerView.within c.args.ledger.now);
+        over = turn_over (c.in_ok-line.ensures.turn _ _ can.ready) some (woken.rest (ap Ok c.if-woken.false));
+        agrees = can.agrees;
+      };
       cause = answered;
     }
 

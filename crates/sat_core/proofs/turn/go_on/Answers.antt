@@ -1,6 +1,5 @@
 use Rattle.std.proofs.Common.{refl, ◌∙◌}
-use Rattle.sat_core.proofs.Readiness.{IsGrown}
-use Rattle.sat_core.proofs.Turning.{grown_guided, grown_ready}
+use Rattle.sat_core.proofs.{Readiness.IsGrown, Turning.{grown_guided, grown_ready}}
 use Rattle.sat_core.proofs.turn.go_on.Goals as goal
 
 pub returns-clause-guided : goal.returns-clause-guided

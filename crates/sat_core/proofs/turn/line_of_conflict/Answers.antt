@@ -1,8 +1,6 @@
-use Rattle.std.proofs.Common.{◌+◌, length, sym, subst}
-use Rattle.std.specs.Prelude.{All}
+use Rattle.std.proofs.Common.{◌+◌, length, sym, subst, All}
 use Rattle.sleeping_clauses.specs.Naming.{IsName, IsNamed}
-use Rattle.sat_core.proofs.Hinted.{hints_names}
-use Rattle.sat_core.proofs.Readiness.{ready_used}
+use Rattle.sat_core.proofs.{Hinted.hints_names, Readiness.ready_used}
 use Rattle.sat_core.proofs.turn.line_of_conflict.Goals as goal
 
 pub named-requires : goal.named-requires

@@ -1,7 +1,6 @@
 use Rattle.std.proofs.Common.{[], ◌∷◌, ◌++◌, sym, ap, ◌∙◌, subst}
 use Rattle.sleeping_clauses.specs.Naming.{IsListed}
-use Rattle.sat_core.specs.Ready.{IsReady}
-use Rattle.sat_core.proofs.Readiness.{ready_same, ready_woken}
+use Rattle.sat_core.{specs.Ready.IsReady, proofs.Readiness.{ready_same, ready_woken}}
 use Rattle.sat_core.proofs.waking.wake.Goals as goal
 
 pub returns-clause-ready : goal.returns-clause-ready
