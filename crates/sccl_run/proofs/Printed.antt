@@ -80,7 +80,16 @@ due_of_done x a b c run done task (inr (r, e)) = absurd (refused_not_done x a b 
 -- ---- a search, and a check
 
 pub found_one : (q : QuestionValue) (f : FrontierValue) → RightFrontier q f → Searched q f → All (IsWithin q) f.refuted → SearchedFrontier q f
-found_one q f right searched within = record { right = right; within = within; apart = stands_alone q f right searched; tight = searched.tight }
+found_one q f right searched within =
+    record {
+      right = right;
+      within = within;
+      ascend = searched.points_ascend;
+      points_apart = searched.points_apart;
+      refuted_apart = searched.refuted_apart;
+      apart = stands_alone q f right searched;
+      tight = searched.tight;
+    }
 
 each_found : (r : ReportValue) → IsRight r → IsSearched r → All (λ x. SearchedFrontier (question_of r.words r.topology x.0) x.1) r.frontiers
 each_found r right searched =

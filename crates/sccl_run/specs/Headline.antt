@@ -1,10 +1,10 @@
 -- The headline: what a reader may believe of what was printed. Nothing here speaks of ports, files, formulas, proofs, or of how a text is read.
-use Rattle.std.specs.Prelude.{◌≡◌, ◌≢◌, ℕ, ◌*◌, ◌≤◌, Bool, true, false, List, [], ◌∷◌, ◌++◌, drop, length, All, Contains, codes, decimal}
+use Rattle.std.specs.Prelude.{◌≡◌, ◌≢◌, ◌⊎◌, ℕ, ◌*◌, ◌≤◌, Bool, true, false, List, [], ◌∷◌, ◌++◌, drop, length, All, AllPairs, Contains, codes, decimal}
 use Rattle.outer_ports.specs.declared.part.Part.TheVariants.{Whole}
 use Rattle.schedule.specs.Sends.{ScheduleValue}
 use Rattle.collective_spec.specs.{declared.kind.Kind.TheVariants.Allreduce, Collectives.{adds_up, kind_in, fits_kind}, Kinds.allows}
-use Rattle.candidate_order.specs.{declared.candidate.Candidate.Candidate, Ranges.unpruned, Costs.NoWorse}
-use Rattle.candidate_order.specs.Frontiers.{QuestionValue, PointValue, FrontierValue, Achieves, IsWithin, RightFrontier, WastesNothing}
+use Rattle.candidate_order.specs.{declared.candidate.Candidate.Candidate, Ranges.unpruned, Costs.{NoWorse, Before}}
+use Rattle.candidate_order.specs.Frontiers.{QuestionValue, PointValue, FrontierValue, solved, given_up, Achieves, IsWithin, RightFrontier, WastesNothing}
 use Rattle.topology_text.specs.{Value.{NamedTopologyValue, IsNamed}, Spelling.spelling}
 use Rattle.report_form.specs.{Reports.{WordsValue, ReportValue, IsWords, IsReport, question_of}, Spelling.{report_text, synth_words, word_if}}
 use Rattle.node_cuts.specs.declared.floor.Floor.{Floor}
@@ -53,10 +53,13 @@ pub record AsksDegraded (words : List (List ℕ)) (bytes : List ℕ) (r : Report
 
 -- ---- what is printed
 
--- a right frontier as a search prints it: what it calls refuted is within the limits, no point is no worse than another, and no schedule wastes a send
+-- a right frontier as a search prints it: its points in order, no candidate in two lists, what it calls refuted within the limits, no point no worse than another, and no schedule that wastes a send
 pub record SearchedFrontier (q : QuestionValue) (f : FrontierValue) : Type 0 where
   pub right : RightFrontier q f
   pub within : All (IsWithin q) f.refuted
+  pub ascend : AllPairs Before (solved f)
+  pub points_apart : All (λ x. (Contains f.refuted x ⊎ Contains (given_up f) x) → ⊥) (solved f)
+  pub refuted_apart : All (λ x. Contains (given_up f) x → ⊥) f.refuted
   pub apart : (a b : PointValue) → Contains f.points a → Contains f.points b → NoWorse a.candidate b.candidate → a ≡ b
   pub tight : All (WastesNothing (adds_up q.spec) q) f.points
 
