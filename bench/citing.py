@@ -13,6 +13,8 @@ CLAUSE = re.compile(r"^ +ensures\*? (?:([a-z_0-9]+) )?\{(.*?)\}$", re.M | re.S)
 
 # A module's path, and a name in it.
 Name = tuple[str, str]
+# what each law of the headline supposes of a run
+PREMISE: Name = ("Rattle.sccl_run.specs.Laws", "IsRightRun")
 
 
 @dataclasses.dataclass
