@@ -26,6 +26,14 @@ refused_asks_nothing P words fault refused ask = let e : Err fault ≡ Ok ask.co
 pub asks_one : (P : Command → Type 0) (words : List (List ℕ)) (c : Command) → command_of words ≡ Ok c → Ask P words → P c
 asks_one P words c is ask = let e : Ok ask.command ≡ Ok c = sym ask.is ∙ is in let same : ask.command ≡ c = cc in subst P same ask.such
 
+-- words that ask for no command that reads ask for one whose row says so
+pub asks_no_reading : (words : List (List ℕ)) (c : Command) → command_of words ≡ Ok c → (Ask Reads words → ⊥) → (row_of c).reads ≡ false
+asks_no_reading words c is none = by_row (row_of c).reads (λ reads. none (record { command = c; is = is; such = reads }))
+  where
+    by_row : (b : Bool) → (IsTrue b → ⊥) → b ≡ false
+    by_row true not = absurd (not refl)
+    by_row false not = refl
+
 -- ---- by the bytes
 
 pub short_due : (c : Command) (bytes : List ℕ) → length bytes ≤ limit → due_for c bytes ≡ task_of c bytes

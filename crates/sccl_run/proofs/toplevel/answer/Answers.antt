@@ -1,7 +1,7 @@
 use Rattle.std.proofs.Common.{rules, refl, sym, ◌∙◌}
 use Rattle.command_words.specs.Words.{texts}
 use Rattle.run_rules.specs.Commands.{Reads}
-use Rattle.sccl_run.proofs.{Dues.refused_asks_nothing, Texts.{HasCome, answers_words, halts_before, halts_words, has_come, refused_words}}
+use Rattle.sccl_run.proofs.{Dues.{asks_no_reading, refused_asks_nothing}, Texts.{HasCome, answers_words, halts_before, halts_words, has_come, refused_words}}
 use Rattle.sccl_run.proofs.toplevel.answer.Goals as goal
 
 pub returns-in_err-text-in-Ok-clause-halts : goal.returns-in_err-text-in-Ok-clause-halts
@@ -28,6 +28,10 @@ returns-in_ok-text-in-Ok-clause-halts g c =
     let here : HasCome words tells had text = has_come words c.in-Ok.command is tells had text (λ told reads. c.in_ok-text-in-Ok.ensures.whole told (c.reads_source.ensures ∙ reads)) c.in_ok-text-in-Ok.ensures.longer in
     halts_words words c.in-Ok.command is tells had text here _ c.text_answer.result
     (c.text_answer.ensures.last here.came here.whole here.long) (c.text_answer.ensures.leaves here.came here.whole here.long)
+
+pub returns-in_ok-text-in-Ok-clause-unread : goal.returns-in_ok-text-in-Ok-clause-unread
+returns-in_ok-text-in-Ok-clause-unread g c = λ none.
+    c.source_text.ensures.untouched (c.reads_source.ensures ∙ asks_no_reading (texts c.args.words.now) c.in-Ok.command (sym c.in-Ok.ensures.read) none)
 
 pub returns-in_ok-text-in-Ok-clause-unopened : goal.returns-in_ok-text-in-Ok-clause-unopened
 returns-in_ok-text-in-Ok-clause-unopened g c = λ none.
