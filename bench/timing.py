@@ -1,15 +1,18 @@
 """Times the program itself, not its launcher, on reports of two sizes, beside a run that does next to nothing."""
+from __future__ import annotations
+
 import os
 import subprocess
 import sys
 import time
 from collections.abc import Callable
+from typing import Tuple
 
 sys.path.insert(0, os.path.join(os.path.dirname(os.path.dirname(os.path.abspath(__file__))), "tests"))
 import shelf
 
 LIMIT = 1048576
-Link = tuple[int, int]
+Link = Tuple[int, int]
 
 
 def report(name: Callable[[int], str], nodes: int, groups: list[list[Link]], chunks: int, sends: list[tuple[int, int, Link]]) -> bytes:

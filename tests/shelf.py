@@ -1,4 +1,6 @@
 """Searches of the program for the scripts beside it, and the files that they leave."""
+from __future__ import annotations
+
 import os
 import re
 import subprocess

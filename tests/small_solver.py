@@ -3,6 +3,8 @@
 
 usage: tests/small_solver.py FORMULA PROOF     prints a model as lines `v ..` and ends with 10, or refutes it and ends with 20
 """
+from __future__ import annotations
+
 import sys
 from collections.abc import Iterable, Sequence
 

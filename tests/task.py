@@ -1,4 +1,6 @@
 """Tasks for the program that are run where something fails, and what is owed then."""
+from __future__ import annotations
+
 import os
 import stat
 import subprocess
@@ -6,8 +8,6 @@ import tempfile
 import time
 from collections.abc import Sequence
 from typing import Any
-
-Ran = subprocess.CompletedProcess[bytes]
 
 
 def files_of(folder: str) -> dict[str, bytes]:
@@ -40,11 +40,11 @@ class Task:
             with open(path, "wb") as file:
                 file.write(it)
 
-    def run(self, folder: str, before: Sequence[str] = (), **how: Any) -> Ran:
+    def run(self, folder: str, before: Sequence[str] = (), **how: Any) -> subprocess.CompletedProcess[bytes]:
         self.prepare(folder)
         return self.run_alone(folder, before, **how)
 
-    def run_alone(self, folder: str, before: Sequence[str] = (), **how: Any) -> Ran:
+    def run_alone(self, folder: str, before: Sequence[str] = (), **how: Any) -> subprocess.CompletedProcess[bytes]:
         """Runs over what stands in the folder."""
         if "stdin" not in how:
             how["input"] = self.given
@@ -63,7 +63,7 @@ class Count:
         if not test:
             print(f"FAILED: {what}: {str(found)[:400]}", flush=True)
 
-    def ends(self, what: str, task: Task, ran: Ran, folder: str, *statuses: int) -> None:
+    def ends(self, what: str, task: Task, ran: subprocess.CompletedProcess[bytes], folder: str, *statuses: int) -> None:
         """The run ended well, or with one of these statuses and wrote nothing; and its files are fronts of what they should be."""
         well = (ran.returncode, ran.stdout or b"") == (task.status, task.output)
         silent = ran.returncode in statuses and not ran.stdout

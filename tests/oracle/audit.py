@@ -1,5 +1,8 @@
 """What `check` answers to a report and the files beside it."""
+from __future__ import annotations
+
 from collections.abc import Iterator, Mapping
+from typing import Tuple
 
 from .collective import Candidate, allows, chunks, of_part
 from .cuts import Cuts
@@ -10,7 +13,7 @@ from .report import Frontier, Point, Report, in_search_order, whole_report
 from .texts import Refused
 
 # A status and an output.
-Answer = tuple[int, bytes]
+Answer = Tuple[int, bytes]
 LIMIT, LARGEST, LONGEST = 1048576, 2000000, 281474976710656
 VERIFIED = 0, b"verified\n"
 

@@ -1,10 +1,14 @@
 """Collectives: how many chunks there are, where they are before, and where they, or their sums, have to be."""
+from __future__ import annotations
+
+from typing import Set, Tuple
+
 from .topology import Topology
 
 # Steps, rounds and chunks.
-Candidate = tuple[int, int, int]
+Candidate = Tuple[int, int, int]
 # Pairs (chunk, node).
-Pairs = set[tuple[int, int]]
+Pairs = Set[Tuple[int, int]]
 
 ROOTED = ("broadcast", "gather", "scatter", "reduce")
 STANDARD = ("broadcast", "gather", "allgather", "scatter", "alltoall", "reduce", "reducescatter", "allreduce")

@@ -1,14 +1,17 @@
 """Cuts: the sets of nodes into which more has to come than can, and the floor that they give."""
+from __future__ import annotations
+
 from collections.abc import Callable, Iterator
 from fractions import Fraction
 from itertools import combinations, count
+from typing import List, Set, Tuple
 
 from .collective import COPY_OF, allows, pairs
 from .formula import turned_round
 from .topology import Link, Topology
 
 # Groups, each a width and the links that come in.
-Incoming = list[tuple[int, set[Link]]]
+Incoming = List[Tuple[int, Set[Link]]]
 
 
 class Cuts:

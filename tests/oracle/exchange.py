@@ -1,4 +1,6 @@
 """Topologies, reports and programs as JSON, both ways."""
+from __future__ import annotations
+
 import json
 import re
 from collections.abc import Callable, Iterator

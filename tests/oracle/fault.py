@@ -1,4 +1,6 @@
 """Topologies after a fault of their links, and what refutations before it settle."""
+from __future__ import annotations
+
 from .collective import Candidate
 from .report import whole_report
 from .topology import Topology

@@ -1,4 +1,6 @@
 """The formula of a candidate: its variables, its clauses in their order, and its text."""
+from __future__ import annotations
+
 from itertools import combinations, count, product
 
 from .collective import COPY_OF, Candidate, Pairs, chunks, pairs

@@ -1,4 +1,6 @@
 """Schedules in which chunks that are alike come in the order of their numbers."""
+from __future__ import annotations
+
 from itertools import combinations
 
 from .collective import COPY_OF, Pairs, chunks, pairs

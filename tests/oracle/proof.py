@@ -1,9 +1,12 @@
 """Proof files: LRAT text, and which lines are accepted over a formula, RAT groups among them."""
+from __future__ import annotations
+
 import re
-from collections.abc import Callable, Sequence
+from collections.abc import Callable
+from typing import List, Optional, Sequence, Tuple
 
 Clause = Sequence[int]
-Line = tuple[int, list[int] | None, list[int]]
+Line = Tuple[int, Optional[List[int]], List[int]]
 NUMBER = re.compile("[1-9][0-9]*")
 MOST_ID, MOST_VARIABLE = 4294967295, 2147483647
 

@@ -1,15 +1,18 @@
 """The replay of a point, with an order or without, and its verdict."""
+from __future__ import annotations
+
 from collections import Counter, deque
 from collections.abc import Iterator
 from itertools import product
+from typing import Dict, Tuple
 
 from .collective import ADDING, chunks, of_part, pairs
 from .report import Report
 
 # Of each chunk at each node how often each node has contributed.
-Store = dict[tuple[int, int], tuple[int, ...]]
+Store = Dict[Tuple[int, int], Tuple[int, ...]]
 # A step, whether it takes, a chunk and the other node.
-Operation = tuple[int, bool, int, int]
+Operation = Tuple[int, bool, int, int]
 
 
 class Replay:

@@ -1,9 +1,11 @@
 """Report texts, of both versions."""
+from __future__ import annotations
+
 import re
 from collections.abc import Callable
 from dataclasses import dataclass, field
 from fractions import Fraction
-from typing import TypeVar
+from typing import Tuple, TypeVar
 
 from . import topology
 from .collective import ROOTED, STANDARD, Candidate, allows, chunks, of_part
@@ -12,7 +14,7 @@ from .topology import Topology
 
 Found = TypeVar("Found")
 # A step, a chunk, and the numbers of the sender and the receiver.
-Send = tuple[int, int, int, int]
+Send = Tuple[int, int, int, int]
 SHAPE, LACKS, RULE = 1, 2, 3
 WORDS = re.compile("synth collective=([^ ]+) k=([^ ]+) steps=([^ ]+) chunks=([^ ]+) conflicts=([^ ]+)( root=([^ ]+))?( cuts=yes)?( ordered=yes)?")
 LIMITS = {"k": (0, 8), "steps": (1, 8), "chunks": (1, 16), "conflicts": (1, 100000)}

@@ -1,4 +1,6 @@
 """Texts: their lines, tokens and numbers, and how a text is refused."""
+from __future__ import annotations
+
 import re
 from typing import TypeVar
 

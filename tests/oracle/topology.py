@@ -1,11 +1,14 @@
 """Topology texts, of both versions."""
+from __future__ import annotations
+
 import re
 from dataclasses import dataclass
+from typing import List, Tuple
 
 from .texts import Lines, need, needed, number
 
-Link = tuple[int, int]
-Group = tuple[int, list[Link]]
+Link = Tuple[int, int]
+Group = Tuple[int, List[Link]]
 NAME = re.compile("[a-z0-9_]{1,16}")
 
 
