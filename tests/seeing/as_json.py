@@ -1,4 +1,6 @@
 """Reports as JSON."""
+from __future__ import annotations
+
 import json
 
 

@@ -1,4 +1,6 @@
 """Drives a page in a headless browser: sliders, what is followed, the chooser, narrow windows and print."""
+from __future__ import annotations
+
 import json
 import os
 import subprocess

@@ -1,4 +1,6 @@
 """Holds a chart of a frontier to the report: each mark, the stairs and the floor against the numbers that stand at the axes."""
+from __future__ import annotations
+
 import re
 from itertools import combinations
 

@@ -1,4 +1,6 @@
 """Holds the colours of a page to what can be read: text has at least 4.5 times the light of its ground, or its ground of it."""
+from __future__ import annotations
+
 import os
 import re
 

@@ -1,4 +1,6 @@
 """Speaks to one headless browser over two pipes, in the DevTools protocol: messages are JSON, each with a zero byte behind it."""
+from __future__ import annotations
+
 import base64
 import json
 import os

@@ -1,4 +1,6 @@
 """Holds single figures to those of the page."""
+from __future__ import annotations
+
 import re
 import xml.etree.ElementTree as ElementTree
 

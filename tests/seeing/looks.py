@@ -1,4 +1,6 @@
 """Looks at pages in a headless browser: in light, in dark, in a narrow window and in print, by what it has computed of each."""
+from __future__ import annotations
+
 from .colours import LEAST, contrast
 from .devtools import Browser
 

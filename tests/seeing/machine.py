@@ -1,4 +1,6 @@
 """Holds the drawing of a topology to the topology: widths, dashes, ends of arrows, ports, and that nothing hides another."""
+from __future__ import annotations
+
 import re
 from itertools import combinations
 

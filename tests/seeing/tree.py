@@ -1,4 +1,6 @@
 """A page as a tree of elements."""
+from __future__ import annotations
+
 from html.parser import HTMLParser
 
 VOID = "meta", "input"

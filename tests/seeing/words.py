@@ -1,4 +1,6 @@
 """Holds the sentences of a page, its legends, and what there is to choose from to the report."""
+from __future__ import annotations
+
 import json
 import re
 from collections import Counter
