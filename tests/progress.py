@@ -1,7 +1,6 @@
 """Holds what tools/progress.py tells of a run to a folder that changes meanwhile, and the line at the terminal that tells of it to its
 width. Prints what differs."""
 from __future__ import annotations
-from collections.abc import Sequence
 
 import os
 import sys

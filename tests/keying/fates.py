@@ -1,7 +1,7 @@
 """What is done to the files of a candidate before a search looks at them: most of it makes them no refutation of its formula."""
 from __future__ import annotations
 from collections.abc import Mapping
-from typing import Callable, Dict, Optional, Tuple
+from typing import Optional, Tuple
 
 import random
 
