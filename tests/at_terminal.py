@@ -8,7 +8,6 @@ terminal, and `kill`, `terminate` and `hangup` are signals to the process alone.
 printed, and the status is that of the words, or 128 and the number of the signal that ended them, which then stands last.
 """
 from __future__ import annotations
-from typing import NoReturn
 
 import fcntl
 import os
@@ -19,6 +18,7 @@ import struct
 import sys
 import termios
 import time
+from typing import NoReturn
 
 KEYS = {"enter": b"\n", "interrupt": b"\x03", "quit": b"\x1c", "stop": b"\x1a"}
 SIGNALS = {"kill": signal.SIGKILL, "terminate": signal.SIGTERM, "hangup": signal.SIGHUP}

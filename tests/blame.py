@@ -1,10 +1,10 @@
 """Holds what is said of refusals to rows: the line that is blamed, its mark, and what is wrong. Prints what differs."""
 from __future__ import annotations
-from collections.abc import Iterator
 
 import os
 import re
 import sys
+from collections.abc import Iterator
 
 ROOT = os.path.dirname(os.path.dirname(os.path.abspath(__file__)))
 sys.path.insert(0, os.path.join(ROOT, "tools"))

@@ -3,11 +3,11 @@
 The status is 0 where nothing does.
 """
 from __future__ import annotations
-from collections.abc import Collection, Iterator, Mapping
 
 import os
 import re
 import sys
+from collections.abc import Collection, Iterator, Mapping
 
 ROOT = os.path.dirname(os.path.dirname(os.path.abspath(__file__)))
 sys.path.insert(0, os.path.join(ROOT, "tools"))

@@ -10,8 +10,6 @@ first. Where it can't be passed on, the program is told so, or else its status f
 a pipe comes through here too, so that the line that a refusal blames can be shown.
 """
 from __future__ import annotations
-from collections.abc import Sequence
-from typing import NoReturn
 
 import ctypes
 import fcntl
@@ -22,6 +20,8 @@ import signal
 import stat
 import sys
 import time
+from collections.abc import Sequence
+from typing import NoReturn
 
 sys.path.insert(0, os.path.dirname(os.path.abspath(__file__)))
 from progress import progress_of

@@ -1,9 +1,9 @@
 """What is done to the files of a candidate before a search looks at them: most of it makes them no refutation of its formula."""
 from __future__ import annotations
-from collections.abc import Mapping
-from typing import Optional, Tuple
 
 import random
+from collections.abc import Mapping
+from typing import Optional, Tuple
 
 from oracle.audit import Part
 from oracle.collective import Candidate

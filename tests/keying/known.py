@@ -1,11 +1,11 @@
 """Searches by keys whose answers are known, and searches over files of which it is known whether they stay."""
 from __future__ import annotations
-from collections.abc import Iterator, Mapping
-from typing import Callable, Dict, List, Tuple
 
 import os
 import subprocess
 import tempfile
+from collections.abc import Iterator, Mapping
+from typing import Callable, Dict, List, Tuple
 
 import rows
 

@@ -1,11 +1,11 @@
 """The page of a report."""
 from __future__ import annotations
-from collections.abc import Iterator
-from typing import Any, List, Tuple
 
 import json
 import os
+from collections.abc import Iterator
 from html import escape
+from typing import Any, List, Tuple
 
 from . import diagram, topology
 from .chart import Candidate, Chart, legend

@@ -1,9 +1,9 @@
 """A report as a value, in the form that `sccl json what=report` writes."""
 from __future__ import annotations
-from collections.abc import Iterator
 
 import json
 import re
+from collections.abc import Iterator
 
 from .cuts import Floor, floors, is_cut
 from .report_text import SEARCHES, Value, value_of_text

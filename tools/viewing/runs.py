@@ -1,14 +1,14 @@
 """What the schedule of a point does: what each node has after each step, and how many sends cross each group of links."""
 from __future__ import annotations
+
+from collections import Counter
+from itertools import product
 from typing import Any, Dict, List, Tuple
 
 from .report_text import Value
 
 # What each node has of each chunk.
 Store = Dict[Tuple[int, str], List[int]]
-from collections import Counter
-from itertools import product
-
 ADDING = "reduce", "reducescatter", "allreduce"
 OF_PART = {"reduce": "reducescatter", "gather": "allgather"}
 

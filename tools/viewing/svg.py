@@ -1,7 +1,7 @@
 """Elements of a picture and of a page."""
 from __future__ import annotations
-from collections.abc import Iterable
 
+from collections.abc import Iterable
 from html import escape
 
 VOID = "input", "meta"
