@@ -7,6 +7,8 @@ or the terminal got the TEXT behind --seen, the ACT is done: `enter`, `interrupt
 terminal, and `kill`, `terminate` and `hangup` are signals to the process alone. What was stopped goes on soon. What the terminal got is
 printed, and the status is that of the words, or 128 and the number of the signal that ended them, which then stands last.
 """
+from __future__ import annotations
+
 import fcntl
 import os
 import pty
@@ -16,13 +18,14 @@ import struct
 import sys
 import termios
 import time
+from typing import NoReturn
 
 KEYS = {"enter": b"\n", "interrupt": b"\x03", "quit": b"\x1c", "stop": b"\x1a"}
 SIGNALS = {"kill": signal.SIGKILL, "terminate": signal.SIGTERM, "hangup": signal.SIGHUP}
 LIMIT = 60
 
 
-def main():
+def main() -> NoReturn:
     words, files, acts = sys.argv[1:], {}, []
     while words[0].startswith("--"):
         if words[0] in ("--when", "--seen"):
@@ -44,7 +47,7 @@ def main():
     sys.exit(os.WEXITSTATUS(status) if os.WIFEXITED(status) else 128 + os.WTERMSIG(status))
 
 
-def shell(words, files, writer):
+def shell(words: list[str], files: dict[str, str], writer: int) -> NoReturn:
     """In the session of the terminal: starts the words in front, has them go on where they were stopped, tells them where the
     terminal is closed, and tells of their end."""
     for it in (signal.SIGTTOU, signal.SIGINT, signal.SIGQUIT):
@@ -69,7 +72,7 @@ def shell(words, files, writer):
     os._exit(0)
 
 
-def start(words, files):
+def start(words: list[str], files: dict[str, str]) -> NoReturn:
     os.setpgid(0, 0)
     os.tcsetpgrp(2, os.getpid())
     for it in (signal.SIGTTOU, signal.SIGHUP, signal.SIGINT, signal.SIGQUIT, signal.SIGPIPE, signal.SIGXFSZ):
@@ -80,7 +83,7 @@ def start(words, files):
     os.execvp(words[0], words)
 
 
-def in_front(pid):
+def in_front(pid: int) -> None:
     try:
         os.setpgid(pid, pid)
     except OSError:
@@ -88,35 +91,39 @@ def in_front(pid):
     os.tcsetpgrp(2, pid)
 
 
-def watch(terminal, reader, pid, acts):
+def watch(terminal: int | None, reader: int | None, pid: int, acts: list[list[str]]) -> tuple[bytes, int]:
     """Gathers what the terminal gets, does what is due, and gives both once the words have ended."""
-    got, status, until = b"", None, time.monotonic() + LIMIT
+    got, until = b"", time.monotonic() + LIMIT
+    status: int | None = None
     while terminal is not None or status is None:
         if time.monotonic() > until:
             sys.exit("no end")
         if acts and is_due(acts[0], got):
             terminal = act(terminal, pid, acts.pop(0)[2])
         found = select.select([it for it in (terminal, reader) if it is not None], [], [], 0.02)[0]
-        if terminal in found:
+        if terminal is not None and terminal in found:
             try:
                 got += os.read(terminal, 65536)
             except OSError:
                 terminal = None
-        elif reader in found:
+        elif reader is not None and reader in found:
             status = int(os.read(reader, 16))
             reader = None
     return got, status
 
 
-def is_due(it, got):
+def is_due(it: list[str], got: bytes) -> bool:
     return it[1].encode() in got if it[0] == "--seen" else os.path.exists(it[1])
 
 
-def act(terminal, pid, what):
+def act(terminal: int | None, pid: int, what: str) -> int | None:
+    """Gives the terminal, where it is still there. (Once it is closed only signals can follow.)"""
     if what == "close":
+        assert terminal is not None
         os.close(terminal)
         return None
     if what in KEYS:
+        assert terminal is not None
         os.write(terminal, KEYS[what])
     else:
         os.kill(pid, SIGNALS[what])

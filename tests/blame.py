@@ -1,7 +1,10 @@
 """Holds what is said of refusals to rows: the line that is blamed, its mark, and what is wrong. Prints what differs."""
+from __future__ import annotations
+
 import os
 import re
 import sys
+from collections.abc import Iterator
 
 ROOT = os.path.dirname(os.path.dirname(os.path.abspath(__file__)))
 sys.path.insert(0, os.path.join(ROOT, "tools"))
@@ -138,19 +141,19 @@ WORDS = [
 ]
 
 
-def rows():
+def rows() -> Iterator[tuple[str, object, object]]:
     """Each row's name, what came, and what was due."""
     for status, table in ((3, TOPOLOGIES), (7, REPORTS), (12, JSON)):
         for text, code, line, what, column, length in table:
             yield f"{status} {code} {line} of {text!r}", seen(status, code, line, text), (what, column, length if column is not None else 0)
-    for words, code, place, text, due in WORDS:
-        said = explanation(2, words.split(), f"refused 2 {code} {place}\n".encode(), "above", text and text.encode())
+    for words, code, place, given, due in WORDS:
+        said = explanation(2, words.split(), f"refused 2 {code} {place}\n".encode(), "above", None if given is None else given.encode())
         yield f"2 {code} {place} of {words}", due if due in said else said, due
     yield from drawings()
     yield from tables()
 
 
-def seen(status, code, line, text):
+def seen(status: int, code: int, line: int, text: str) -> tuple[str, int | None, int]:
     """What is said, and the mark under the line, which has to be the line's own text."""
     data = text.encode("latin-1")
     what, drawn = shown_line(status, code, line, data, 200)
@@ -161,7 +164,7 @@ def seen(status, code, line, text):
     return what, mark.find("^") - len(f"  {line} | ") if mark else None, mark.count("^")
 
 
-def drawings():
+def drawings() -> Iterator[tuple[str, object, object]]:
     text = (NODES + "group 17 " + "a>b " * 30 + "\n").encode()
     yield "a long line", shown_line(3, 8, 3, text, 40)[1], "  3 | group 17 a>b a>b a>b a>b a>b a>b\n    |       ^^"
     drawn = shown_line(3, 2, 3, text, 40)[1].split("\n")
@@ -173,7 +176,7 @@ def drawings():
                               'the line "refused 3 8 3" stands above\n  3 | group 17 a>b\n    |       ^^')
 
 
-def tables():
+def tables() -> Iterator[tuple[str, object, object]]:
     """The tables of tools/words.py are those of docs/FORMATS.md."""
     with open(os.path.join(ROOT, "docs", "FORMATS.md")) as file:
         part = re.split("^## ", file.read(), flags=re.M)[1].replace("`", "")

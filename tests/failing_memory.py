@@ -1,4 +1,6 @@
 """A library in C for LD_PRELOAD, in which some allocations of a program fail."""
+from __future__ import annotations
+
 import os
 import subprocess
 
@@ -42,16 +44,16 @@ ALL = 2**62
 
 
 class FailingMemory:
-    def __init__(self, folder):
+    def __init__(self, folder: str) -> None:
         self.library, self.note = os.path.join(folder, "failing.so"), os.path.join(folder, "note")
         words = ["gcc", "-O2", "-shared", "-fPIC", "-fno-builtin", "-x", "c", "-", "-o", self.library]
         subprocess.run(words, input=SOURCE.encode(), check=True)
 
-    def environment(self, first, last):
+    def environment(self, first: int, last: int) -> dict[str, str]:
         """For a run in which these allocations fail."""
         if os.path.exists(self.note):
             os.remove(self.note)
         return {**os.environ, "LD_PRELOAD": self.library, "FAIL_FROM": str(first), "FAIL_TO": str(last), "FAIL_NOTE": self.note}
 
-    def has_failed(self):
+    def has_failed(self) -> bool:
         return os.path.exists(self.note)

@@ -1,5 +1,7 @@
 """Holds what tools/progress.py tells of a run to a folder that changes meanwhile, and the line at the terminal that tells of it to its
 width. Prints what differs."""
+from __future__ import annotations
+
 import os
 import sys
 import tempfile
@@ -7,7 +9,7 @@ import tempfile
 ROOT = os.path.dirname(os.path.dirname(os.path.abspath(__file__)))
 sys.path.insert(0, os.path.join(ROOT, "tools"))
 import attend
-from progress import progress_of
+from progress import Search, Untold, progress_of
 
 SYNTH = "synth collective=broadcast k=1 steps=3 chunks=2 conflicts=50 root=a".split()
 EARLIER = "the folder proofs had files of an earlier search"
@@ -21,10 +23,10 @@ MOST = [
 
 
 class Rows:
-    def __init__(self):
+    def __init__(self) -> None:
         self.differ = 0
 
-    def equal(self, what, found, wanted):
+    def equal(self, what: str, found: object, wanted: object) -> None:
         if found != wanted:
             self.differ += 1
             print(f"{what}: {found!r} and not {wanted!r}")
@@ -33,24 +35,31 @@ class Rows:
 class Folder:
     """The folder `proofs`, in which each file that is written is newer than those before."""
 
-    def __init__(self):
+    def __init__(self) -> None:
         self.now = 10 ** 18
         os.makedirs("proofs", exist_ok=True)
 
-    def write(self, name, text="", how="w"):
+    def write(self, name: str, text: str = "", how: str = "w") -> None:
         with open(os.path.join("proofs", name), how) as file:
             file.write(text)
         self.now += 1
         os.utime(os.path.join("proofs", name), ns=(self.now, self.now))
 
-    def begin(self, candidate, lines):
+    def begin(self, candidate: str, lines: str) -> None:
         for kind in ("cnf", "lrat", "partial"):
             self.write(f"{candidate}.{kind}", "" if kind == "cnf" else lines)
 
 
-def check_search(rows):
+def begun(words: list[str], text: bytes | None) -> Untold:
+    """What tells of a run that takes long."""
+    found = progress_of(words, text)
+    assert found is not None
+    return found
+
+
+def check_search(rows: Rows) -> None:
     folder = Folder()
-    search = progress_of(SYNTH, FOUR)
+    search = begun(SYNTH, FOUR)
     rows.equal("nothing written", (search.told(0), search.found_before()), ([], ""))
     rows.equal("what that leaves", "no file of the folder proofs was changed" in search.left(), True)
     for candidate, lines, settled, conflicts in (
@@ -68,11 +77,11 @@ def check_search(rows):
     rows.equal("files that nothing had before", search.found_before(), "")
 
 
-def check_earlier(rows):
+def check_earlier(rows: Rows) -> None:
     folder = Folder()
     folder.begin("1-1-1", "a\nb\n")
     folder.begin("3-3-1", "a\n")
-    search = progress_of(SYNTH, FOUR)
+    search = begun(SYNTH, FOUR)
     rows.equal("files of an earlier search", (search.told(0), search.found_before()), ([], ""))
     folder.begin("1-1-1", "x\n")
     rows.equal("files that are written anew", search.told(0), ["0 of at most 12 candidates settled", "at 1-1-1", "1 of 50 conflicts"])
@@ -82,12 +91,12 @@ def check_earlier(rows):
     rows.equal("what that leaves", "the files of 1 settled candidate, and 0 conflicts of 2-2-1" in search.left(), True)
 
 
-def check_audit(rows):
+def check_audit(rows: Rows) -> None:
     folder = Folder()
     folder.write("1-1-1.cnf", "x" * 1500000)
     folder.write("1-1-1.lrat", "x" * 2000000)
     for command in ("check", "degrade"):
-        audit = progress_of([command], None)
+        audit = begun([command], None)
         with open("/dev/null", "wb") as it:
             it.write(bytes(99000000))
         with open("proofs/1-1-1.lrat", "rb") as it:
@@ -98,46 +107,48 @@ def check_audit(rows):
         rows.equal(f"{command}: nothing of an end", (audit.found_before(), audit.left(), audit.told(0)), ("", "", []))
 
 
-def read_so_far():
+def read_so_far() -> float:
     """The megabytes that this process has read."""
     with open("/proc/self/io") as it:
         return int(it.readline().split()[1]) / 1e6
 
 
-def check_kinds(rows):
+def check_kinds(rows: Rows) -> None:
     has_line = [it for it in "synth bound check degrade ordered replay programs json unjson family trial".split() if progress_of([it], None)]
     rows.equal("commands with a line", has_line, "synth bound check degrade ordered".split())
     rows.equal("no command", (progress_of([], None), progress_of(["x"], None)), (None, None))
-    ordered = progress_of(["ordered"], FOUR)
+    ordered = begun(["ordered"], FOUR)
     rows.equal("ordered tells the time alone", (ordered.told(os.getpid()), ordered.found_before(), ordered.left()), ([], "", ""))
     for words, topology, wanted in MOST:
-        rows.equal(words, progress_of(f"bound conflicts=9 collective={words}".split(), topology).most, wanted)
+        search = begun(f"bound conflicts=9 collective={words}".split(), topology)
+        rows.equal(words, isinstance(search, Search) and search.most, wanted)
 
 
 class Screen(attend.Terminal):
     """A terminal of a width, in front or not, that keeps what is written to it."""
 
-    def __init__(self, width, in_front=True):
+    def __init__(self, width: int, in_front: bool = True) -> None:
         super().__init__()
-        self.width, self.in_front, self.has_lines, self.written = width, in_front, True, []
+        self.width, self.in_front, self.has_lines = width, in_front, True
+        self.written: list[str] = []
 
-    def columns(self):
+    def columns(self) -> int:
         return self.width
 
-    def is_in_front(self):
+    def is_in_front(self) -> bool:
         return self.in_front
 
-    def write(self, text):
+    def write(self, text: str) -> None:
         self.written.append(text)
 
 
-def check_terminal(rows):
+def check_terminal(rows: Rows) -> None:
     parts = "aaaa", "bb", "cccccc"
     for width in range(1, 40):
         screen = Screen(width)
         screen.show("sccl: it", parts, "0:01")
         lines = ["sccl: it, " + "".join(f"{it}, " for it in parts[:count]) + "0:01" for count in (3, 2, 1, 0)]
-        wanted = next(([f"{attend.CLEAR}{it}"] for it in lines if len(it) < width), [])
+        wanted = [f"{attend.CLEAR}{it}" for it in lines if len(it) < width][:1]
         rows.equal(f"the line at {width} columns", screen.written, wanted)
         screen.clear()
         screen.clear()
@@ -151,7 +162,7 @@ def check_terminal(rows):
     rows.equal("a line that stays", screen.written, ["sccl: a line\n"])
 
 
-def main():
+def main() -> None:
     rows = Rows()
     for check in (check_search, check_earlier, check_audit, check_kinds, check_terminal):
         with tempfile.TemporaryDirectory() as folder:

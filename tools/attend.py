@@ -9,6 +9,8 @@ ends as it ends. What the program writes comes through here, so that a refusal i
 first. Where it can't be passed on, the program is told so, or else its status for that is taken. A text that the program is given by
 a pipe comes through here too, so that the line that a refusal blames can be shown.
 """
+from __future__ import annotations
+
 import ctypes
 import fcntl
 import os
@@ -18,6 +20,8 @@ import signal
 import stat
 import sys
 import time
+from collections.abc import Sequence
+from typing import NoReturn
 
 sys.path.insert(0, os.path.dirname(os.path.abspath(__file__)))
 from progress import progress_of
@@ -41,16 +45,16 @@ NOT_HANDED_ON = {signal.SIGKILL, signal.SIGSTOP, signal.SIGCHLD, signal.SIGTTIN,
 class Terminal:
     """Standard error: a line that is written anew, and lines that stay."""
 
-    def __init__(self):
+    def __init__(self) -> None:
         self.is_shown, self.has_lines = False, os.environ.get("TERM", "dumb") != "dumb"
 
-    def is_in_front(self):
+    def is_in_front(self) -> bool:
         try:
             return os.tcgetpgrp(2) == os.getpgrp()
         except OSError:
             return False
 
-    def show(self, first, parts, last):
+    def show(self, first: str, parts: Sequence[str], last: str) -> None:
         """Writes the line anew, with as many of its parts as there is room for, where it has any and this is in front."""
         room = self.columns() - 1
         for it in parts:
@@ -61,22 +65,22 @@ class Terminal:
             self.write(f"{CLEAR}{first}, {last}")
             self.is_shown = True
 
-    def clear(self):
+    def clear(self) -> None:
         if self.is_shown:
             self.write(CLEAR)
             self.is_shown = False
 
-    def say(self, text):
+    def say(self, text: str) -> None:
         self.clear()
         self.write(f"sccl: {text}\n")
 
-    def columns(self):
+    def columns(self) -> int:
         try:
             return os.get_terminal_size(2).columns or 80
         except OSError:
             return 80
 
-    def write(self, text):
+    def write(self, text: str) -> None:
         try:
             os.write(2, text.encode("utf-8", "replace"))
         except OSError:
@@ -87,9 +91,11 @@ class Input:
     """What the program reads. A file can be read again, and where it stands in the file is left as it is; what comes by a pipe is
     passed on, and as much of it kept as a text may have."""
 
-    def __init__(self, is_read):
-        self.start, self.kept, self.pending, self.is_known = None, bytearray(), b"", False
-        self.reader = self.writer = None
+    def __init__(self, is_read: bool) -> None:
+        self.start: int | None = None
+        self.kept, self.pending, self.is_known = bytearray(), b"", False
+        self.reader: int | None = None
+        self.writer: int | None = None
         kind = os.fstat(0).st_mode if is_open(0) else 0
         if stat.S_ISREG(kind):
             self.start = os.lseek(0, 0, os.SEEK_CUR)
@@ -97,7 +103,7 @@ class Input:
             self.reader, self.writer = pipe()
             os.set_blocking(self.writer, False)
 
-    def text(self):
+    def text(self) -> bytes | None:
         """What was read, as far as that is known; None where it is not."""
         if self.start is None:
             return bytes(self.kept) if self.is_known else None
@@ -106,12 +112,13 @@ class Input:
         except OSError:
             return None
 
-    def waits_for(self):
+    def waits_for(self) -> tuple[list[int], list[int]]:
         """The lists of what is to be read and written next."""
-        is_open_yet = self.writer is not None
-        return [0] * (is_open_yet and not self.pending), [self.writer] * (is_open_yet and bool(self.pending))
+        if self.writer is None:
+            return [], []
+        return [0] * (not self.pending), [self.writer] * bool(self.pending)
 
-    def read(self):
+    def read(self) -> None:
         try:
             self.pending = os.read(0, LARGE_PIECE)
         except OSError:
@@ -121,7 +128,8 @@ class Input:
         if not self.pending:
             self.close()
 
-    def write(self):
+    def write(self) -> None:
+        assert self.writer is not None
         try:
             self.pending = self.pending[os.write(self.writer, self.pending):]
         except BlockingIOError:
@@ -129,7 +137,7 @@ class Input:
         except OSError:
             self.close()
 
-    def close(self):
+    def close(self) -> None:
         """The program is given no more."""
         if self.writer is not None:
             os.close(self.writer)
@@ -139,46 +147,50 @@ class Input:
 class Output:
     """Takes what the program writes, and passes it on."""
 
-    def __init__(self):
+    def __init__(self) -> None:
         """Standard output may be closed, and then the program's is."""
         self.head, self.pending, self.has_failed = b"", b"", False
-        self.reader = self.writer = None
+        self.reader: int | None = None
+        self.writer: int | None = None
         if is_open(1):
             self.reader, self.writer = pipe()
 
-    def waits_for(self):
+    def waits_for(self) -> tuple[list[int], list[int]]:
         """The lists of what is to be read and written next."""
-        return [self.reader] * (not self.pending and self.reader is not None), [1] * bool(self.pending)
+        return [self.reader] if self.reader is not None and not self.pending else [], [1] * bool(self.pending)
 
-    def read(self):
+    def read(self) -> None:
+        assert self.reader is not None
         self.pending = os.read(self.reader, PIECE)
         self.head += self.pending[: LONGEST_REFUSAL - len(self.head)]
         if not self.pending:
             self.close()
 
-    def write(self):
+    def write(self) -> None:
         try:
             self.pending = self.pending[os.write(1, self.pending):]
         except OSError:
             self.has_failed, self.pending = True, b""
             self.close()
 
-    def close(self):
+    def close(self) -> None:
         if self.reader is not None:
             os.close(self.reader)
         self.reader = None
 
-    def is_done(self):
+    def is_done(self) -> bool:
         return self.reader is None and not self.pending
 
 
 class Run:
     """A run of the program, from its beginning to its end."""
 
-    def __init__(self, ignored, origin, program, words):
+    def __init__(self, ignored: int, origin: str, program: str, words: list[str]) -> None:
         self.origin, self.words, self.terminal, self.output = origin, words, Terminal(), Output()
         self.input = Input(bool(what_is_read(words)))
-        self.status, self.came, self.late = None, [], None
+        self.status: int | None = None
+        self.came: list[int] = []
+        self.late: int | None = None
         self.progress = progress_of(words, self.input.text())
         self.is_waiting_told = self.is_found_told = False
         if signal.getsignal(signal.SIGINT) != signal.SIG_IGN:
@@ -194,7 +206,7 @@ class Run:
             signal.signal(signal.SIGXFSZ, signal.SIG_DFL)
         self.woken = self.take_signals()
 
-    def take_signals(self):
+    def take_signals(self) -> int:
         """From now on signals come as bytes too; the answer is where."""
         reader, writer = pipe()
         for it in (reader, writer):
@@ -207,7 +219,7 @@ class Run:
                 signal.signal(it, lambda number, _: self.came.append(number))
         return reader
 
-    def attend(self):
+    def attend(self) -> NoReturn:
         """Waits for the end, and ends likewise."""
         next_line = self.start + LOOK_AFTER
         while self.status is None or not self.output.is_done():
@@ -226,7 +238,7 @@ class Run:
         self.terminal.clear()
         self.end(OUTPUT_FAILED if self.output.has_failed else os.WEXITSTATUS(self.status))
 
-    def turn(self, readers, writers):
+    def turn(self, readers: list[int], writers: list[int]) -> None:
         """Sees what has come: signals, the program's end or stop, output, input."""
         drain(self.woken)
         self.look()
@@ -240,7 +252,7 @@ class Run:
         elif self.input.writer in writers:
             self.input.write()
 
-    def look(self):
+    def look(self) -> None:
         """Sees whether the program has ended, or was stopped: then this process stops too, and lets it go on when it does."""
         pid, status = os.waitpid(self.pid, os.WNOHANG | os.WUNTRACED) if self.status is None else (0, 0)
         if pid and os.WIFSTOPPED(status):
@@ -253,18 +265,18 @@ class Run:
             self.input.close()
             self.late = os.WTERMSIG(status) if os.WIFSIGNALED(status) else None
 
-    def forget_stop(self):
+    def forget_stop(self) -> None:
         """The key that stopped the program came here too: it is not to stop it again. (A signal's handler has run once this begins.)"""
         self.came = [it for it in self.came if it != signal.SIGTSTP]
 
-    def hand_on(self, number):
+    def hand_on(self, number: int) -> None:
         """A signal is the program's; where that has ended, it ends this process too once nobody takes its output."""
         if self.status is None:
             os.kill(self.pid, number)
         else:
             self.late = number
 
-    def tell(self):
+    def tell(self) -> None:
         """Says what there is to say of a run that takes longer."""
         if self.status is not None:
             return
@@ -276,33 +288,33 @@ class Run:
         if self.progress and seconds >= FIRST_AFTER:
             self.terminal.show(f"sccl: {self.words[0]}", self.progress.told(self.pid), lasted(seconds))
 
-    def is_waiting(self):
+    def is_waiting(self) -> bool:
         """Whether the program waits for standard input: it is in the system call `read` (0), of file 0."""
         try:
             with open(f"/proc/{self.pid}/syscall") as file:
                 return file.read().split()[:2] == ["0", "0x0"]
         except OSError:
-            return is_open(0) and os.isatty(0) and bool(self.progress) and not self.progress.told(self.pid)
+            return is_open(0) and os.isatty(0) and self.progress is not None and not self.progress.told(self.pid)
 
-    def tell_of_waiting(self):
+    def tell_of_waiting(self) -> None:
         if not self.is_waiting_told and self.terminal.is_in_front():
             self.is_waiting_told = True
             end = ", which control-D ends" if os.isatty(0) else ""
             self.terminal.say(f"{shown(' '.join(self.words[:1]))} waits for {what_is_read(self.words) or 'a text'} on standard input{end}")
 
-    def tell_of_found(self):
+    def tell_of_found(self) -> None:
         text = self.progress.found_before() if self.progress and not self.is_found_told else ""
         if text:
             self.is_found_told = True
             self.terminal.say(text)
 
-    def die(self, number):
+    def die(self, number: int) -> NoReturn:
         self.terminal.clear()
         if number == signal.SIGINT and self.progress and self.progress.left():
             self.terminal.say(self.progress.left())
         die(number)
 
-    def end(self, status):
+    def end(self, status: int) -> NoReturn:
         """Whatever goes wrong in telling of it, the status is the program's."""
         try:
             if status in STATUSES:
@@ -312,16 +324,16 @@ class Run:
             os._exit(status)
 
 
-def become(ignored, words, streams, parent):
+def become(ignored: int, words: list[str], streams: tuple[int | None, int | None], parent: int) -> NoReturn:
     """In the new process: becomes the program, as if it were started alone but for its input and output. It ends where its parent does."""
     try:
         ctypes.CDLL(None).prctl(SET_DEATH_SIGNAL, signal.SIGKILL)
         for it in IGNORED_BY_PYTHON:
             if not is_in(it, ignored):
                 signal.signal(it, signal.SIG_DFL)
-        for number, it in enumerate(streams):
-            if it is not None:
-                os.dup2(it, number)
+        for number, stream in enumerate(streams):
+            if stream is not None:
+                os.dup2(stream, number)
         if os.getppid() == parent:
             os.execv(words[0], words)
     except OSError:
@@ -330,11 +342,11 @@ def become(ignored, words, streams, parent):
         os._exit(NOT_STARTED)
 
 
-def is_in(number, signals):
-    return signals >> (number - 1) & 1
+def is_in(number: int, signals: int) -> bool:
+    return bool(signals >> (number - 1) & 1)
 
 
-def die(number):
+def die(number: int) -> NoReturn:
     """Ends by a signal, and leaves the dumping of memory to the program."""
     resource.setrlimit(resource.RLIMIT_CORE, (0, resource.getrlimit(resource.RLIMIT_CORE)[1]))
     if number != signal.SIGKILL:
@@ -343,7 +355,7 @@ def die(number):
     os._exit(128 + number)
 
 
-def is_open(number):
+def is_open(number: int) -> bool:
     try:
         os.fstat(number)
     except OSError:
@@ -351,7 +363,7 @@ def is_open(number):
     return True
 
 
-def pipe():
+def pipe() -> list[int]:
     """A pipe whose ends are no standard stream, also where one of those is closed."""
     ends = os.pipe()
     moved = [fcntl.fcntl(it, fcntl.F_DUPFD_CLOEXEC, 3) for it in ends]
@@ -360,7 +372,7 @@ def pipe():
     return moved
 
 
-def drain(number):
+def drain(number: int) -> None:
     try:
         while os.read(number, PIECE):
             pass
@@ -368,12 +380,12 @@ def drain(number):
         pass
 
 
-def lasted(seconds):
+def lasted(seconds: int) -> str:
     """A time, in minutes and seconds."""
     return f"{seconds // 60}:{seconds % 60:02}"
 
 
-def place_of_output(origin):
+def place_of_output(origin: str) -> str:
     """Where standard output goes, in words, as seen from the folder `origin`."""
     if is_open(1) and os.isatty(1):
         return "above"
@@ -383,4 +395,4 @@ def place_of_output(origin):
 
 
 if __name__ == "__main__":
-    Run(int(sys.argv[1], 16), *sys.argv[2:4], sys.argv[4:]).attend()
+    Run(int(sys.argv[1], 16), sys.argv[2], sys.argv[3], sys.argv[4:]).attend()

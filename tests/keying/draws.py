@@ -1,4 +1,6 @@
 """Searches that are drawn: a topology, a collective, limits and keys, each small enough for the second implementation."""
+from __future__ import annotations
+
 import random
 from dataclasses import dataclass
 
@@ -6,7 +8,7 @@ from oracle.audit import counts, size
 from oracle.collective import ROOTED, STANDARD
 from oracle.fault import spelled
 from oracle.report import Report
-from oracle.topology import Pattern, Topology
+from oracle.topology import Group, Link, Pattern, Topology
 
 KINDS = [*STANDARD, "custom"]
 # The combinations of keys: cuts, and the order.
@@ -18,20 +20,20 @@ LARGEST = 4000
 class Draw:
     """A search: its words without the keys, its topology, and the keys that stand in its report."""
     number: int
-    words: list
+    words: list[str]
     topology: Topology
     has_cuts: bool
     is_ordered: bool
 
-    def __post_init__(self):
+    def __post_init__(self) -> None:
         self.text = spelled(self.topology)
         self.keys = ["cuts=yes"] * self.has_cuts + ["ordered=yes"] * self.is_ordered
         self.name = f"draw {self.number}: {' '.join(self.words[1:] + self.keys)}"
 
-    def values(self):
+    def values(self) -> dict[str, str]:
         return dict(it.split("=") for it in self.words[1:])
 
-    def report(self):
+    def report(self) -> Report:
         """A report of this search, in which no candidate stands."""
         values = self.values()
         limits = {it: int(values[it]) for it in ("k", "steps", "chunks", "conflicts")}
@@ -39,7 +41,7 @@ class Draw:
         return Report(values["collective"], limits, root, self.topology, {}, [], self.has_cuts, self.is_ordered)
 
 
-def drawn(number):
+def drawn(number: int) -> Draw:
     draw = random.Random(number)
     kind, (has_cuts, is_ordered) = KINDS[number % len(KINDS)], KEYS[number // len(KINDS) % len(KEYS)]
     while True:
@@ -50,7 +52,7 @@ def drawn(number):
             return found
 
 
-def words_drawn(draw, kind, names):
+def words_drawn(draw: random.Random, kind: str, names: list[str]) -> list[str]:
     chunks = draw.choice([1, 2, 2, 3, 4])
     if kind == "alltoall":
         # (a chunk for each node, as often as the greatest chunk count allows)
@@ -60,37 +62,37 @@ def words_drawn(draw, kind, names):
     return ["synth", f"collective={kind}", *(f"{key}={it}" for key, it in limits.items()), *root]
 
 
-def topology_drawn(draw, kind):
+def topology_drawn(draw: random.Random, kind: str) -> Topology:
     names = draw.sample("a b c d n0 n1 n2 x_1 left right".split(), draw.choice([2, 3, 3, 4, 4, 5]))
     nodes = range(len(names))
     links = [(a, b) for a in nodes for b in nodes if a != b]
     return Topology(names, draw.choice([of_links, of_links, a_ring, ports, shared])(draw, nodes, links), pattern_drawn(draw, nodes) if kind == "custom" else None)
 
 
-def of_links(draw, nodes, links):
+def of_links(draw: random.Random, nodes: range, links: list[Link]) -> list[Group]:
     """A group for each of some links."""
     return [(draw.choice([1, 1, 2, 3]), [it]) for it in draw.sample(links, draw.randint(len(links) // 2, len(links)))]
 
 
-def a_ring(draw, nodes, links):
+def a_ring(draw: random.Random, nodes: range, links: list[Link]) -> list[Group]:
     width = draw.choice([1, 1, 2])
     return [(width, [it]) for it in links if (it[0] - it[1]) % len(nodes) in (1, len(nodes) - 1)]
 
 
-def ports(draw, nodes, links):
+def ports(draw: random.Random, nodes: range, links: list[Link]) -> list[Group]:
     """A switch: what goes out of each node, and what comes in, in some order."""
     found = [(draw.choice([1, 2]), [it for it in links if it[side] == node]) for side in (0, 1) for node in nodes]
     draw.shuffle(found)
     return found
 
 
-def shared(draw, nodes, links):
+def shared(draw: random.Random, nodes: range, links: list[Link]) -> list[Group]:
     """Groups of several links, which may stand in several groups."""
     found = [(draw.choice([1, 2, 3, 5]), draw.sample(links, draw.randint(1, len(links)))) for _ in range(draw.randint(1, 5))]
     return found + [(1, [it]) for it in draw.sample(links, draw.randint(0, len(links) // 2))]
 
 
-def pattern_drawn(draw, nodes):
+def pattern_drawn(draw: random.Random, nodes: range) -> Pattern:
     base = draw.choice([1, 1, 2, 3])
     side = lambda least: {(chunk, node) for chunk in range(base) for node in draw.sample(nodes, draw.randint(least, min(2, len(nodes))))}
     return Pattern(base, side(draw.choice([0, 1, 1, 1])), side(0))

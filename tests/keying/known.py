@@ -1,10 +1,16 @@
 """Searches by keys whose answers are known, and searches over files of which it is known whether they stay."""
+from __future__ import annotations
+
 import os
 import subprocess
 import tempfile
+from collections.abc import Iterator, Mapping
+from typing import Callable, Dict, List, Tuple
 
 import rows
 
+# What a row is, what was found, and what is due.
+Row = Tuple[str, object, object]
 NOTHING = b""
 # Searches that tell their cuts at all sets of nodes, as rows.BOUNDS.
 OUT_FIRST = "topology 1\nnodes a b c\ngroup 2 a>b a>c\ngroup 2 b>a b>c\ngroup 2 c>a c>b\ngroup 1 b>a c>a\ngroup 1 a>b c>b\ngroup 1 a>c b>c\n"
@@ -63,7 +69,7 @@ FORMULA = "".join(f"{it}\n" for it in ["p cnf 18 33", *(f"{it} 0" for it in (
 PROOF = b"34 0 2 3 9 16 24 0\n"
 OTHER_PROOF = b"c another solver's\n" + PROOF
 # What stands under its names before, and whether the refutation stays.
-KEPT = [
+KEPT: List[Tuple[str, Dict[str, bytes], bool]] = [
     ("a refutation", {"cnf": FORMULA, "lrat": OTHER_PROOF}, True),
     ("a refutation and a log", {"cnf": FORMULA, "lrat": OTHER_PROOF, "partial": PROOF}, True),
     ("a refutation cut short", {"cnf": FORMULA, "lrat": OTHER_PROOF[:-8]}, False),
@@ -77,14 +83,14 @@ KEPT = [
     ("no file", {}, False),
 ]
 # What is no file, under the name of one.
-NO_FILES = [("a folder", os.mkdir), ("a named pipe", os.mkfifo), ("a link", lambda path: os.symlink("/dev/null", path))]
+NO_FILES: List[Tuple[str, Callable[[str], None]]] = [("a folder", os.mkdir), ("a named pipe", os.mkfifo), ("a link", lambda path: os.symlink("/dev/null", path))]
 
 
-def asked(command, collective, k, steps, chunks, *more):
+def asked(command: str, collective: str, k: str, steps: str, chunks: str, *more: str) -> list[str]:
     return [command, f"collective={collective}", f"k={k}", f"steps={steps}", f"chunks={chunks}", "conflicts=1000", *more]
 
 
-def known(program):
+def known(program: str) -> Iterator[Row]:
     """What each row is, what was found, and what is due."""
     yield from bounds(program)
     yield from searches(program)
@@ -92,12 +98,12 @@ def known(program):
     yield from no_files(program)
 
 
-def run(program, words, given, folder):
+def run(program: str, words: list[str], given: bytes, folder: str) -> tuple[int, bytes]:
     ran = subprocess.run([program, *words], input=given, capture_output=True, cwd=folder, timeout=60)
     return ran.returncode, ran.stdout + ran.stderr
 
 
-def bounds(program):
+def bounds(program: str) -> Iterator[Row]:
     for topology, words, root, told in BOUNDS_AT_ALL:
         with tempfile.TemporaryDirectory() as folder:
             status, wrote = run(program, [*asked("bound", *words.split(), *root.split()), "sets=all"], topology.encode(), folder)
@@ -105,11 +111,11 @@ def bounds(program):
         yield f"{words} at all sets on {topology!r}", (status, found), (0, ["bound 1", " ".join(asked("synth", *words.split())) + root, *told.split("|")])
 
 
-def searches(program):
+def searches(program: str) -> Iterator[Row]:
     """Those by keys of which the words tell; the ones that cut all leave no file, and are verified without any."""
     for row in SEARCHES_BY_KEYS:
-        words, topology, told = row
-        words = asked("synth", *words.split())
+        given, topology, told = row
+        words = asked("synth", *given.split())
         due = f"sccl {topology[9]}\n{' '.join(words)}\n{topology}{told}".encode()
         with tempfile.TemporaryDirectory() as folder:
             yield f"{words} on {topology!r}", run(program, words, topology.encode(), folder), (0, due)
@@ -118,10 +124,11 @@ def searches(program):
                 yield f"the files of {words} on {topology!r}", files_in(folder), {}
 
 
-def keeps(program):
+def keeps(program: str) -> Iterator[Row]:
     """The relay over files of its own: a refutation that begins with a comment stays, what is none is searched again."""
+    keys: list[list[str]] = [[], ["cuts=yes"]]
     for what, files, is_kept in KEPT:
-        for more in ([], ["cuts=yes"]):
+        for more in keys:
             with tempfile.TemporaryDirectory() as folder:
                 put(folder, {**{f"1-1-1.{it}": text for it, text in files.items()}, "2-2-1.lrat": b"c of a point\n", "2-2-2.lrat": OTHER_PROOF})
                 status, text = run(program, [*asked("synth", *RELAY), *more, "kept=yes"], rows.LINE_OF_3.encode(), folder)
@@ -132,7 +139,7 @@ def keeps(program):
                 yield f"kept, {more}: {what}: the files", tuple(seen.values()), due
 
 
-def no_files(program):
+def no_files(program: str) -> Iterator[Row]:
     """What is no file under the name of one that is read: the shelf fails."""
     for what, make in NO_FILES:
         for name in ("1-1-1.cnf", "1-1-1.lrat"):
@@ -143,14 +150,14 @@ def no_files(program):
                 yield f"kept, with {what} in the place of {name}", found, (6, NOTHING)
 
 
-def put(folder, files):
+def put(folder: str, files: Mapping[str, bytes]) -> None:
     os.mkdir(os.path.join(folder, "proofs"))
     for name, text in files.items():
         with open(os.path.join(folder, "proofs", name), "wb") as it:
             it.write(text)
 
 
-def files_in(folder):
+def files_in(folder: str) -> dict[str, bytes]:
     proofs, found = os.path.join(folder, "proofs"), {}
     for name in os.listdir(proofs) if os.path.isdir(proofs) else []:
         with open(os.path.join(proofs, name), "rb") as it:

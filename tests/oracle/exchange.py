@@ -1,14 +1,18 @@
 """Topologies, reports and programs as JSON, both ways."""
+from __future__ import annotations
+
 import json
 import re
+from collections.abc import Callable, Iterator
 from math import isinf
+from typing import NoReturn
 
-from .audit import LIMIT, refused
+from .audit import LIMIT, Answer, refused
 from .collective import ROOTED, STANDARD
 from .replay import Replay
-from .report import whole_report
+from .report import Point, Report, whole_report
 from .texts import Refused
-from .topology import NAME, whole_topology
+from .topology import NAME, Topology, whole_topology
 
 NO_JSON, SHAPE, TEXT = 1, 2, 3
 DEPTH = 127
@@ -20,7 +24,7 @@ IN_STRINGS = re.compile(r'"(?:[^"\\]|\\.)*"', re.S)
 class Fault(Exception):
     """Bytes are refused, for a cause that has no place."""
 
-    def __init__(self, code):
+    def __init__(self, code: int) -> None:
         super().__init__(f"code {code}")
         self.code = code
 
@@ -32,23 +36,23 @@ class Other:
     """A number that is no whole one from 0 to 2^64 - 1, or is not written as one."""
 
 
-def whole(text):
+def whole(text: str) -> int | Other:
     if isinf(float(text)):
         raise Fault(NO_JSON)
     return int(text) if WHOLE.fullmatch(text) and int(text) < 2**64 else Other()
 
 
-def other(text):
+def other(text: str) -> Other:
     if isinf(float(text)):
         raise Fault(NO_JSON)
     return Other()
 
 
-def no_constant(_):
+def no_constant(_: str) -> NoReturn:
     raise Fault(NO_JSON)
 
 
-def members(pairs):
+def members(pairs: list[tuple[str, object]]) -> dict[str, object]:
     """An object, of which a key that comes again has its last value; half a pair of surrogates is no text."""
     for key, value in pairs:
         key.encode()
@@ -56,7 +60,7 @@ def members(pairs):
     return dict(pairs)
 
 
-def strings(value):
+def strings(value: object) -> None:
     if isinstance(value, str):
         value.encode()
     if isinstance(value, list):
@@ -64,7 +68,7 @@ def strings(value):
             strings(it)
 
 
-def value_of(data):
+def value_of(data: bytes) -> object:
     """The value that the bytes are: UTF-8, and nothing deeper than 127."""
     try:
         text = data.decode()
@@ -80,68 +84,80 @@ def value_of(data):
         raise Fault(NO_JSON) from None
 
 
-def holds(test):
+def holds(test: object) -> None:
     if not test:
         raise Fault(SHAPE)
 
 
-def keyed(value, *keys):
-    """The values at exactly these keys."""
-    holds(isinstance(value, dict) and set(value) == set(keys))
-    return [value[it] for it in keys]
-
-
-def listed(value):
-    holds(isinstance(value, list))
+def mapped(value: object) -> dict[str, object]:
+    if not isinstance(value, dict):
+        raise Fault(SHAPE)
     return value
 
 
-def count(value):
+def keyed(value: object, *keys: str) -> list[object]:
+    """The values at exactly these keys."""
+    found = mapped(value)
+    holds(set(found) == set(keys))
+    return [found[it] for it in keys]
+
+
+def listed(value: object) -> list[object]:
+    if not isinstance(value, list):
+        raise Fault(SHAPE)
+    return value
+
+
+def count(value: object) -> str:
     holds(isinstance(value, int) and not isinstance(value, bool))
     return str(value)
 
 
-def name(value):
-    holds(isinstance(value, str) and NAME.fullmatch(value))
+def name(value: object) -> str:
+    if not isinstance(value, str) or not NAME.fullmatch(value):
+        raise Fault(SHAPE)
     return value
 
 
-def word(value, words):
-    holds(isinstance(value, str) and value in words)
+def word(value: object, words: list[str]) -> str:
+    if not isinstance(value, str) or value not in words:
+        raise Fault(SHAPE)
     return value
 
 
-def names(value):
+def names(value: object) -> list[str]:
     return [name(it) for it in listed(value)]
 
 
-def of_length(value, length):
-    holds(len(listed(value)) == length)
-    return value
+def of_length(value: object, length: int) -> list[object]:
+    found = listed(value)
+    holds(len(found) == length)
+    return found
 
 
-def topology_lines(value):
-    holds(isinstance(value, dict) and value.get("version") in (1, 2) and not isinstance(value["version"], bool))
-    patterned = value["version"] == 2
+def topology_lines(value: object) -> Iterator[list[str]]:
+    version = mapped(value).get("version")
+    holds(version in (1, 2) and not isinstance(version, bool))
+    patterned = version == 2
     groups, nodes, _, *custom = keyed(value, "groups", "nodes", "version", *["custom"] * patterned)
-    yield ["topology", str(value["version"])]
+    yield ["topology", str(version)]
     yield ["nodes", *names(nodes)]
     for group in listed(groups):
         links, width = keyed(group, "links", "width")
         yield ["group", count(width), *(">".join(names(of_length(it, 2))) for it in listed(links))]
-    for after, before in (keyed(it, "after", "before") for it in custom):
-        holds(len(listed(after)) == len(listed(before)))
+    for after, before in (map(listed, keyed(it, "after", "before")) for it in custom):
+        holds(len(after) == len(before))
         yield ["custom", str(len(before))]
         for chunk, (first, last) in enumerate(zip(before, after)):
             yield ["before", str(chunk), *names(first)]
             yield ["after", str(chunk), *names(last)]
 
 
-def point_lines(value):
-    holds(isinstance(value, dict) and "mark" in value)
-    mark = word(value["mark"], ["optimal", "open", "joined"])
-    adding = ["adding"] * (mark == "joined")
-    chunks, _, rounds, each, steps, sends, *adding = keyed(value, "c", "mark", "r", "rounds", "s", "sends", *adding)
+def point_lines(value: object) -> Iterator[list[str]]:
+    given = mapped(value)
+    holds("mark" in given)
+    mark = word(given["mark"], ["optimal", "open", "joined"])
+    chunks, _, rounds, each, steps, sends, *adding = keyed(value, "c", "mark", "r", "rounds", "s", "sends", *["adding"] * (mark == "joined"))
     yield ["point", *map(count, [steps, rounds, chunks]), mark, *map(count, adding)]
     yield ["rounds", *map(count, listed(each))]
     for send in listed(sends):
@@ -149,7 +165,7 @@ def point_lines(value):
         yield ["send", count(chunk), name(sender), name(receiver), count(step)]
 
 
-def frontier_lines(value):
+def frontier_lines(value: object) -> Iterator[list[str]]:
     part, points, refuted_ones, unknown = keyed(value, "part", "points", "refuted", "unknown")
     yield ["frontier", word(part, ["whole", "reduce", "gather"])]
     for point in listed(points):
@@ -160,15 +176,15 @@ def frontier_lines(value):
         yield ["unknown", *map(count, of_length(it, 4))]
 
 
-def asked_line(value):
-    keys = ["collective", "k", "steps", "chunks", "conflicts"]
-    more = [it for it in ("root", "cuts", "ordered") if isinstance(value, dict) and it in value]
+def asked_line(value: object) -> list[str]:
+    keys, given = ["collective", "k", "steps", "chunks", "conflicts"], mapped(value)
+    more = [it for it in ("root", "cuts", "ordered") if it in given]
     kind, *numbers = keyed(value, *keys, *more)[:5]
-    found = [word(kind, KINDS), *map(count, numbers), *(name(value[it]) if it == "root" else word(value[it], ["yes"]) for it in more)]
+    found = [word(kind, KINDS), *map(count, numbers), *(name(given[it]) if it == "root" else word(given[it], ["yes"]) for it in more)]
     return ["synth", *(f"{key}={it}" for key, it in zip([*keys, *more], found))]
 
 
-def report_lines(value):
+def report_lines(value: object) -> Iterator[list[str]]:
     frontiers, joined, topology, words = keyed(value, "frontiers", "joined", "topology", "words")
     asked, named = asked_line(words), list(topology_lines(topology))
     yield ["sccl", named[0][1]]
@@ -176,18 +192,22 @@ def report_lines(value):
     yield from named
     for frontier in listed(frontiers):
         yield from frontier_lines(frontier)
-    holds(words["collective"] == "allreduce" or not listed(joined))
-    if words["collective"] == "allreduce":
+    is_joined = mapped(words)["collective"] == "allreduce"
+    holds(is_joined or not listed(joined))
+    if is_joined:
         yield ["joined"]
         for point in listed(joined):
             yield from point_lines(point)
     yield ["end"]
 
 
-FORMS = {"topology": (topology_lines, whole_topology, 3), "report": (report_lines, whole_report, 7)}
+# What makes lines of a value, what reads their text, and the status of a text that is none.
+FORMS: dict[str, tuple[Callable[[object], Iterator[list[str]]], Callable[[bytes], Topology | Report], int]] = {
+    "topology": (topology_lines, whole_topology, 3), "report": (report_lines, whole_report, 7),
+}
 
 
-def unjson(what, data):
+def unjson(what: str, data: bytes) -> Answer:
     """The status and the output of `unjson`."""
     lines, whole_text, _ = FORMS[what]
     if len(data) > LIMIT:
@@ -205,8 +225,8 @@ def unjson(what, data):
 # ---- from a text to JSON
 
 
-def topology_value(it):
-    found = {
+def topology_value(it: Topology) -> dict[str, object]:
+    found: dict[str, object] = {
         "groups": [{"links": [[it.names[a], it.names[b]] for a, b in links], "width": width} for width, links in it.groups],
         "nodes": it.names,
         "version": 2 if it.pattern else 1,
@@ -220,16 +240,16 @@ def topology_value(it):
     return found
 
 
-def point_value(names_of, it):
+def point_value(names_of: list[str], it: Point) -> dict[str, object]:
     steps, rounds, chunks = it.candidate
     sends = [[chunk, names_of[sender], names_of[receiver], step] for step, chunk, sender, receiver in it.sends]
     found = {"c": chunks, "mark": it.mark, "r": rounds, "rounds": it.rounds, "s": steps, "sends": sends}
     return {**found, "adding": it.adding} if it.mark == "joined" else found
 
 
-def report_value(it):
+def report_value(it: Report) -> dict[str, object]:
     names_of, limits = it.topology.names, it.limits
-    words = {"collective": it.kind, **limits}
+    words: dict[str, int | str] = {"collective": it.kind, **limits}
     if it.kind in ROOTED:
         words["root"] = names_of[it.root]
     words.update({key: "yes" for key, is_there in (("cuts", it.has_cuts), ("ordered", it.is_ordered)) if is_there})
@@ -246,23 +266,25 @@ def report_value(it):
     return {"frontiers": frontiers, "joined": joined, "topology": topology_value(it.topology), "words": words}
 
 
-def programs_value(report, number):
+def programs_value(report: Report, number: int) -> dict[str, object]:
     """Made of the lines of the programs' text."""
-    nodes = []
+    nodes: list[dict[str, object]] = []
+    ops: list[list[int | str]] = []
     for line in Replay(report, number).programs_text().decode().splitlines()[1:-1]:
         first, *rest = line.split(" ")
         if first == "node":
-            nodes.append({"node": rest[0], "ops": []})
+            ops = []
+            nodes.append({"node": rest[0], "ops": ops})
         else:
-            nodes[-1]["ops"].append([int(first), rest[0], int(rest[1]), *rest[2:]])
+            ops.append([int(first), rest[0], int(rest[1]), *rest[2:]])
     return {"point": number, "programs": nodes}
 
 
-def printed(value):
+def printed(value: object) -> bytes:
     return (json.dumps(value, sort_keys=True, separators=(",", ":")) + "\n").encode()
 
 
-def to_json(what, data, point=None):
+def to_json(what: str, data: bytes, point: int | None = None) -> Answer:
     """The status and the output of `json`, of which the point is the number of a report's point, and word 2."""
     _, whole_text, status = FORMS["topology" if what == "topology" else "report"]
     if len(data) > LIMIT:
@@ -271,10 +293,11 @@ def to_json(what, data, point=None):
         found = whole_text(data)
     except Refused as why:
         return refused(status, why.code, why.line)
-    if what == "topology":
+    if isinstance(found, Topology):
         return 0, printed(topology_value(found))
     if what == "report":
         return 0, printed(report_value(found))
+    assert point is not None
     if point > len(found.points()):
         return refused(2, 9, 2)
     return 0, printed(programs_value(found, point))

@@ -1,9 +1,12 @@
 """Topologies after a fault of their links, and what refutations before it settle."""
+from __future__ import annotations
+
+from .collective import Candidate
 from .report import whole_report
 from .topology import Topology
 
 
-def narrowed(topology, group, width):
+def narrowed(topology: Topology, group: int, width: int) -> Topology:
     """The topology whose group has this width; where that is 0 its links are gone from every group, and a group that has none is
     dropped."""
     if width:
@@ -14,7 +17,7 @@ def narrowed(topology, group, width):
     return Topology(topology.names, [it for it in groups if it[1]], topology.pattern)
 
 
-def spelled(topology):
+def spelled(topology: Topology) -> bytes:
     names, pattern = topology.names, topology.pattern
     rows = [f"topology {2 if pattern else 1}", " ".join(["nodes", *names])]
     for width, links in topology.groups:
@@ -27,24 +30,24 @@ def spelled(topology):
     return "".join(f"{it}\n" for it in rows).encode()
 
 
-def carries(one, other):
+def carries(one: Candidate, other: Candidate) -> bool:
     return one[0] == other[0] and one[1] >= other[1] and one[2] <= other[2]
 
 
 class Fault:
     """A fault of a report: the topology that is left, and the text of what is found on it."""
 
-    def __init__(self, report, group, width):
+    def __init__(self, report: bytes, group: int, width: int) -> None:
         self.old = whole_report(report)
         self.left = spelled(narrowed(self.old.topology, group, width))
 
-    def text(self, found):
+    def text(self, found: bytes) -> bytes:
         """What is to be said where a search over what is left reports this."""
         frontier = whole_report(found).frontiers["whole"]
         rows = found.decode().splitlines()
         start = rows.index("frontier whole")
         points = [it for it in rows[start + 1:-1] if it.split(" ")[0] in ("point", "rounds", "send")]
-        told = {"carried": [], "refuted": []}
+        told: dict[str, list[str]] = {"carried": [], "refuted": []}
         for it in frontier.refuted:
             is_carried = any(carries(one, it) for one in self.old.frontiers["whole"].refuted)
             word = "carried" if is_carried else "refuted"

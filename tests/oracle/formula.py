@@ -1,11 +1,13 @@
 """The formula of a candidate: its variables, its clauses in their order, and its text."""
-from itertools import combinations, count
+from __future__ import annotations
 
-from .collective import COPY_OF, chunks, pairs
+from itertools import combinations, count, product
+
+from .collective import COPY_OF, Candidate, Pairs, chunks, pairs
 from .topology import Topology
 
 
-def turned_round(topology):
+def turned_round(topology: Topology) -> Topology:
     return Topology(topology.names, [(width, [(b, a) for a, b in links]) for width, links in topology.groups], topology.pattern)
 
 
@@ -13,13 +15,14 @@ class Formula:
     """The formula that is satisfiable exactly where a schedule solves the candidate. A reduction is sought by copying. The clauses of
     the order stand behind it where they are asked for."""
 
-    def __init__(self, kind, root, topology, candidate, is_ordered=False):
+    def __init__(self, kind: str, root: int, topology: Topology, candidate: Candidate, is_ordered: bool = False) -> None:
         if kind in COPY_OF:
             kind, topology = COPY_OF[kind], turned_round(topology)
         self.topology, (self.steps, rounds, many) = topology, candidate
         self.before, self.after = pairs(kind, root, topology, many)
         self.chunks, self.nodes = range(chunks(kind, topology, many)), range(len(topology.names))
-        self.links, self.extra, self.clauses = topology.usable(), rounds - self.steps, []
+        self.links, self.extra = topology.usable(), rounds - self.steps
+        self.clauses: list[tuple[int, ...]] = []
         self.turns = range(1, self.steps + 1)
         self.number_variables()
         self.sending()
@@ -27,66 +30,61 @@ class Formula:
         if is_ordered:
             self.ordering()
 
-    def number_variables(self):
+    def number_variables(self) -> None:
         number = count(1)
-        self.has = {it: next(number) for it in self.each(self.chunks, self.nodes, range(self.steps + 1))}
-        self.sends = {it: next(number) for it in self.each(self.chunks, self.links, self.turns)}
-        self.more = {it: next(number) for it in self.each(self.turns, range(1, self.extra + 1))}
+        self.has = {it: next(number) for it in product(self.chunks, self.nodes, range(self.steps + 1))}
+        self.sends = {it: next(number) for it in product(self.chunks, self.links, self.turns)}
+        self.more = {it: next(number) for it in product(self.turns, range(1, self.extra + 1))}
         self.variables = len(self.has) + len(self.sends) + len(self.more)
 
-    @staticmethod
-    def each(*ranges):
-        found = [()]
-        for it in ranges:
-            found = [(*before, value) for before in found for value in it]
-        return found
-
-    def add(self, *literals):
+    def add(self, *literals: int) -> None:
         self.clauses.append(literals)
 
-    def into(self, chunk, node, step):
+    def into(self, chunk: int, node: int, step: int) -> list[int]:
         return [self.sends[chunk, link, step] for link in self.links if link[1] == node]
 
-    def sending(self):
+    def sending(self) -> None:
         has, turns = self.has, self.turns
-        places = self.each(self.chunks, self.nodes)
+        places = list(product(self.chunks, self.nodes))
         for c, n in places:
             self.add(has[c, n, 0] if (c, n) in self.before else -has[c, n, 0])
-        for c, n, s in self.each(self.chunks, self.nodes, turns):
+        for c, n, s in product(self.chunks, self.nodes, turns):
             self.add(-has[c, n, s - 1], has[c, n, s])
         for c, n in places:
             if (c, n) in self.after:
                 self.add(has[c, n, self.steps])
-        for c, (a, b), s in self.each(self.chunks, self.links, turns):
+        for c, (a, b), s in product(self.chunks, self.links, turns):
             sent = self.sends[c, (a, b), s]
             self.add(-sent, has[c, a, s - 1])
             self.add(-sent, -has[c, b, s - 1])
             self.add(-sent, has[c, b, s])
-        for c, n, s in self.each(self.chunks, self.nodes, turns):
+        for c, n, s in product(self.chunks, self.nodes, turns):
             self.add(has[c, n, s - 1], -has[c, n, s], *self.into(c, n, s))
-        for c, n, s in self.each(self.chunks, self.nodes, turns):
+        for c, n, s in product(self.chunks, self.nodes, turns):
             for one, other in combinations(self.into(c, n, s), 2):
                 self.add(-one, -other)
 
-    def rounding(self):
+    def rounding(self) -> None:
         """Extra rounds of a step are used in order, all together are not too many, and each group carries what its rounds allow."""
         more, extra = self.more, self.extra
-        for s, j in self.each(self.turns, range(1, extra)):
+        for s, j in product(self.turns, range(1, extra)):
             self.add(-more[s, j + 1], more[s, j])
         if extra:
             outputs = self.counter(list(more.values()), extra + 1)
             self.add(-outputs[extra])
-        for s, (width, links) in self.each(self.turns, self.topology.groups):
+        for s, (width, links) in product(self.turns, self.topology.groups):
             inputs = [self.sends[c, link, s] for c in self.chunks for link in links]
             outputs = self.counter(inputs, width * (1 + extra) + 1)
             for j in range(1, extra + 1):
                 self.add(-outputs[width * j], more[s, j])
             self.add(-outputs[width * (1 + extra)])
 
-    def ordering(self):
+    def ordering(self) -> None:
         """Of chunks that are alike, each comes to the node that waits for them no later than the next."""
-        places = lambda side, it: frozenset(node for chunk, node in side if chunk == it)
-        classes = {}
+        def places(side: Pairs, it: int) -> frozenset[int]:
+            return frozenset(node for chunk, node in side if chunk == it)
+
+        classes: dict[tuple[frozenset[int], frozenset[int]], list[int]] = {}
         for it in self.chunks:
             classes.setdefault((places(self.before, it), places(self.after, it)), []).append(it)
         for (held, due), alike in classes.items():
@@ -95,18 +93,18 @@ class Formula:
                 for s in self.turns:
                     self.add(-self.has[d, min(waiting), s], self.has[c, min(waiting), s])
 
-    def counter(self, inputs, most):
+    def counter(self, inputs: list[int], most: int) -> list[int]:
         """A totalizer that counts up to `most`: a node of the tree sums its two sides. The root alone has all outputs."""
         half = len(inputs) // 2
         return self.sum(self.tree(inputs[:half], most), self.tree(inputs[half:], most), most, most)
 
-    def tree(self, inputs, most):
+    def tree(self, inputs: list[int], most: int) -> list[int]:
         if len(inputs) < 2:
             return inputs
         half = len(inputs) // 2
         return self.sum(self.tree(inputs[:half], most), self.tree(inputs[half:], most), most, min(most, len(inputs)))
 
-    def sum(self, left, right, most, many):
+    def sum(self, left: list[int], right: list[int], most: int, many: int) -> list[int]:
         own = [self.variables + it for it in range(1, many + 1)]
         self.variables += many
         for i in range(len(left) + 1):
@@ -115,6 +113,6 @@ class Formula:
                     self.add(*(-it for it in left[:i][-1:] + right[:j][-1:]), own[i + j - 1])
         return own
 
-    def text(self):
+    def text(self) -> bytes:
         rows = [f"p cnf {self.variables} {len(self.clauses)}", *(" ".join(map(str, [*it, 0])) for it in self.clauses)]
         return "".join(f"{it}\n" for it in rows).encode()

@@ -1,10 +1,13 @@
 """Schedules in which chunks that are alike come in the order of their numbers."""
+from __future__ import annotations
+
 from itertools import combinations
 
-from .collective import COPY_OF, chunks, pairs
+from .collective import COPY_OF, Pairs, chunks, pairs
+from .report import Point, Report, Send
 
 
-def copying(kind, point):
+def copying(kind: str, point: Point) -> tuple[str, list[Send]]:
     """The collective that is searched, and the sends as it has them: of a reduction the inverse, from the last step to the first."""
     if kind not in COPY_OF:
         return kind, point.sends
@@ -12,7 +15,7 @@ def copying(kind, point):
     return COPY_OF[kind], sorted((last - step, chunk, receiver, sender) for step, chunk, sender, receiver in point.sends)
 
 
-def holders(before, sends, steps):
+def holders(before: Pairs, sends: list[Send], steps: int) -> list[Pairs]:
     """The pairs (chunk, node) that are held after each step, from none on."""
     found = [set(before)]
     for step in range(1, steps + 1):
@@ -20,7 +23,7 @@ def holders(before, sends, steps):
     return found
 
 
-def is_ordered(report, point):
+def is_ordered(report: Report, point: Point) -> bool:
     """Whether of any two chunks that are alike, the lesser is at the least node that waits for them wherever the greater is."""
     steps, _, count = point.candidate
     kind, sends = copying(report.kind, point)

@@ -1,14 +1,24 @@
 """The replay of a point, with an order or without, and its verdict."""
+from __future__ import annotations
+
 from collections import Counter, deque
+from collections.abc import Iterator
 from itertools import product
+from typing import Dict, Tuple
 
 from .collective import ADDING, chunks, of_part, pairs
+from .report import Report
+
+# Of each chunk at each node how often each node has contributed.
+Store = Dict[Tuple[int, int], Tuple[int, ...]]
+# A step, whether it takes, a chunk and the other node.
+Operation = Tuple[int, bool, int, int]
 
 
 class Replay:
     """A point of a report, numbered from 1, and what it stands for."""
 
-    def __init__(self, report, number):
+    def __init__(self, report: Report, number: int) -> None:
         self.number, self.topology, self.names = number, report.topology, report.topology.names
         part, self.point = report.points()[number - 1]
         kind = of_part(report.kind, part) if part != "joined" else "allreduce"
@@ -23,12 +33,12 @@ class Replay:
 
     # ---- stores: of each chunk at each node, how often each node has contributed (of a chunk that is copied, node 0 alone)
 
-    def start(self):
+    def start(self) -> Store:
         if self.copies:
             return {it: (int(it in self.before),) for it in product(self.chunks, self.nodes)}
         return {(chunk, node): tuple(int(it == node) for it in self.nodes) for chunk, node in product(self.chunks, self.nodes)}
 
-    def after(self, step):
+    def after(self, step: int) -> Store:
         old, new = self.stores[-1], dict(self.stores[-1])
         # (sends ascend, so that of several that copy one chunk to one node the greatest sender counts)
         for at, chunk, sender, receiver in self.point.sends:
@@ -43,10 +53,10 @@ class Replay:
 
     # ---- the verdict
 
-    def verdict(self):
+    def verdict(self) -> str:
         return next(self.faults(), "holds")
 
-    def faults(self):
+    def faults(self) -> Iterator[str]:
         """What fails, in the order in which it is told."""
         usable, names, point = set(self.topology.usable()), self.names, self.point
         for step, chunk, a, b in point.sends:
@@ -70,7 +80,7 @@ class Replay:
 
     # ---- the text
 
-    def text(self, order=None):
+    def text(self, order: int | None = None) -> bytes:
         rows = [f"replay {self.number}"]
         for step, store in enumerate(self.stores):
             rows += [f"step {step}", *self.holders(store)]
@@ -80,7 +90,7 @@ class Replay:
             rows += [f"order {order}", f"events {len(moves)}", " ".join(["moves", *(self.names[it] for it in moves)]), *self.holders(last)]
         return "".join(f"{it}\n" for it in [*rows, "end"]).encode()
 
-    def holders(self, store):
+    def holders(self, store: Store) -> Iterator[str]:
         for node in self.nodes:
             if self.copies:
                 held = [str(it) for it in self.chunks if any(store[it, node])]
@@ -90,15 +100,15 @@ class Replay:
 
     # ---- programs, and their run in an order
 
-    def programs(self):
+    def programs(self) -> list[list[Operation]]:
         """For each node its operations: step, whether it takes, chunk, and the other node."""
-        found = [[] for _ in self.nodes]
+        found: list[list[Operation]] = [[] for _ in self.nodes]
         for step, chunk, a, b in self.point.sends:
             found[a].append((step, False, chunk, b))
             found[b].append((step, True, chunk, a))
         return [sorted(it) for it in found]
 
-    def programs_text(self):
+    def programs_text(self) -> bytes:
         rows = [f"programs {self.number}"]
         for node, operations in enumerate(self.programs()):
             rows.append(f"node {self.names[node]}")
@@ -107,12 +117,14 @@ class Replay:
                 rows.append(f"{step} {'take' if takes else 'send'} {chunk} {self.names[other]}{how if takes else ''}")
         return "".join(f"{it}\n" for it in [*rows, "end"]).encode()
 
-    def moves(self, seed):
+    def moves(self, seed: int) -> tuple[list[int], Store]:
         """The nodes that move, one operation at a time, as the seed draws them, and the store at the end."""
-        left, store, queues, moves = [deque(it) for it in self.programs()], self.start(), {}, []
+        left, store = [deque(it) for it in self.programs()], self.start()
+        moves: list[int] = []
+        queues: dict[tuple[int, int], deque[tuple[int, int, tuple[int, ...]]]] = {}
         queue = lambda a, b: queues.setdefault((a, b), deque())
 
-        def is_enabled(node):
+        def is_enabled(node: int) -> bool:
             if not left[node]:
                 return False
             step, takes, chunk, other = left[node][0]

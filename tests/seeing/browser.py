@@ -1,11 +1,21 @@
 """Drives a page in a headless browser: sliders, what is followed, the chooser, narrow windows and print."""
+from __future__ import annotations
+
 import json
 import os
 import subprocess
 import tempfile
+from typing import Any, Callable, Tuple
+
+from oracle.collective import Candidate
+from oracle.report import Point, Report
+from tried import Count
 
 from .tree import Page
 
+# A point's number and its candidate; and the seconds that a candidate takes for so many bytes.
+Numbered = Tuple[int, Candidate]
+Time = Callable[[Candidate, float], float]
 # Moves each slider to each step, follows each thing, asks the chooser, and leaves what is seen then as the title of the page.
 MOVES = """<script>
 const seen = { slid: [], followed: [], chosen: [], wide: document.documentElement.scrollWidth <= innerWidth, unnamed: 0, printed: 0 };
@@ -69,7 +79,7 @@ LEAST_WINDOW = 500
 ASKED = (5, 25, 1048576), (0, 1, 1000), (100, 300, 4096), (0.5, 12.5, 1 << 30)
 
 
-def opened(text, width=1200):
+def opened(text: str, width: int = 1200) -> subprocess.CompletedProcess[str]:
     """The page as a browser has it when it was driven, and what it logs."""
     with tempfile.TemporaryDirectory() as folder:
         path = os.path.join(folder, "page.html")
@@ -84,9 +94,9 @@ def opened(text, width=1200):
         return subprocess.run(words, capture_output=True, text=True, timeout=120, env={**os.environ, "HOME": folder})
 
 
-def check_in_browser(name, ran, report, count):
+def check_in_browser(name: str, ran: subprocess.CompletedProcess[str], report: Report, count: Count) -> None:
     count.equal(f"{name}: errors in the browser", [it for it in ran.stderr.split("\n") if "CONSOLE" in it], [])
-    titles = ["".join(it.inner) for it in Page(ran.stdout).root.one("head").all("title")] if ran.stdout else []
+    titles = [it.text() for it in Page(ran.stdout).root.one("head").all("title")] if ran.stdout else []
     seen = json.loads(titles[0]) if titles and titles[0].startswith("{") else {}
     points = list(enumerate((it for _, it in report.points()), 1))
     wanted = [f"point-{number} {step}: {step} {step or ''}" for number, it in points for step in range(len(it.rounds) + 1)]
@@ -98,19 +108,22 @@ def check_in_browser(name, ran, report, count):
     check_chosen(name, seen.get("chosen", []), from_these, count)
 
 
-def check_followed(name, followed, points, names, count):
+def check_followed(name: str, followed: list[Any], points: list[tuple[int, Point]], names: list[str], count: Count) -> None:
     for point, what, inked in followed:
         kind, _, its = what.partition(" ")
-        sends = {}
+        sends: dict[tuple[str, str, str], list[str]] = {}
         for step, chunk, a, b in points[int(point.split("-")[1]) - 1][1].sends:
             sends.setdefault((str(step), names[a], names[b]), []).append(str(chunk))
-        has = {"": lambda *_: True, "node": lambda key, _: its in key[1:], "chunk": lambda _, chunks: its in chunks, "step": lambda key, _: its == key[0]}[kind]
+        kinds: dict[str, Callable[[tuple[str, str, str], list[str]], bool]] = {
+            "": lambda *_: True, "node": lambda key, _: its in key[1:], "chunk": lambda _, chunks: its in chunks, "step": lambda key, _: its == key[0],
+        }
+        has = kinds[kind]
         wanted = sorted(" ".join([*key, *chunks]) for key, chunks in sends.items() if has(key, chunks))
         count.equal(f"{name}: {point} when {what or 'everything'} is followed", sorted(inked), wanted)
     count.equal(f"{name}: something was followed", bool(followed) or not points, True)
 
 
-def check_chosen(name, chosen, points, count):
+def check_chosen(name: str, chosen: list[Any], points: list[Numbered], count: Count) -> None:
     """The sentence, the ranges and the chart against the model, by trying each size."""
     count.equal(f"{name}: the chooser was asked", len(chosen), len(ASKED) if points else 0)
     for (alpha, bandwidth, size), (said, ranges, fastest, ends, axes) in zip(ASKED, chosen):
@@ -124,13 +137,13 @@ def check_chosen(name, chosen, points, count):
         for _, candidate, start, to in ranges:
             low, high = bytes_of(start), bytes_of(to)
             middle = (max(low, 1) * high) ** 0.5
-            its = time(tuple(map(int, candidate.split("-"))), middle)
+            its = time(candidate_of(candidate), middle)
             count.equal(f"{name}: {candidate} from {start} to {to}", its <= min(time(it, middle) for _, it in points) * 1.001, True)
         count.equal(f"{name}: what is fastest is drawn so", set(fastest) <= {it[1] for it in ranges}, True)
         check_curves(name, ends, axes, time, count)
 
 
-def fastest_of(points, time):
+def fastest_of(points: list[Numbered], time: Time) -> list[Numbered]:
     """The points that are fastest for some message size, from small sizes on: between two sizes at which curves cross one is."""
     lines = [(time(it, 0), time(it, 1 << 40) - time(it, 0)) for _, it in points]
     crossings = sorted({0.0, *((a - c) / (d - b) for a, b in lines for c, d in lines if (d - b) * (a - c) > 0)})
@@ -139,7 +152,7 @@ def fastest_of(points, time):
     return [it for place, it in enumerate(found) if place == 0 or it != found[place - 1]]
 
 
-def check_curves(name, ends, axes, time, count):
+def check_curves(name: str, ends: list[Any], axes: list[Any], time: Time, count: Count) -> None:
     """The ends of each curve against the axes, both of which are logarithmic."""
     from math import log10, log2
     sizes = [(x, log2(bytes_of(said))) for said, x, y in axes if said.endswith("B")]
@@ -150,23 +163,28 @@ def check_curves(name, ends, axes, time, count):
     at_size, at_time = line(sizes), line(times)
     count.equal(f"{name}: sizes go to the right, times go up", (sizes == sorted(sizes), [it for it, _ in times] == sorted((it for it, _ in times), reverse=True)), (True, True))
     for candidate, (x, y, to_x, to_y) in ends:
-        numbers = tuple(map(int, candidate.split("-")))
+        numbers = candidate_of(candidate)
         off = [abs(at_time(up) - log10(time(numbers, 2 ** at_size(across)))) for across, up in ((x, y), (to_x, to_y))]
         count.equal(f"{name}: the ends of the curve of {candidate}", [it < 0.05 for it in off], [True, True])
 
 
-def bytes_of(said):
+def candidate_of(said: str) -> Candidate:
+    steps, rounds, chunks = map(int, said.split("-"))
+    return steps, rounds, chunks
+
+
+def bytes_of(said: str) -> float:
     if said == "any size":
         return 2.0 ** 60
     number, unit = said.split(" ")
     return float(number) * 1024 ** ["B", "KiB", "MiB", "GiB", "TiB"].index(unit)
 
 
-def seconds_of(said):
+def seconds_of(said: str) -> float:
     number, unit = said.split(" ")
     return float(number) * {"s": 1, "ms": 1e-3, "µs": 1e-6}[unit]
 
 
-def said_time(seconds):
+def said_time(seconds: float) -> str:
     scale, unit = (1, "s") if seconds >= 0.9995 else (1e3, "ms") if seconds >= 0.9995e-3 else (1e6, "µs")
     return f"{float(f'{seconds * scale:.3g}'):g} {unit}."

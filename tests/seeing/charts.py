@@ -1,15 +1,27 @@
 """Holds a chart of a frontier to the report: each mark, the stairs and the floor against the numbers that stand at the axes."""
+from __future__ import annotations
+
 import re
 from itertools import combinations
+from typing import Callable
+
+from oracle.collective import Candidate
+from tried import Count
+
+from .tree import Node
+
+# What a place stands for.
+Scale = Callable[[float], float]
 
 
-def numbers(text):
+def numbers(text: str) -> list[float]:
     return [float(it) for it in re.findall(r"-?[\d.]+", text)]
 
 
-def axes_of(chart):
+def axes_of(chart: Node) -> tuple[Scale, Scale]:
     """What the places across and up stand for, as the numbers at the axes tell: two functions."""
-    steps, ratios = [], []
+    steps: list[tuple[float, float]] = []
+    ratios: list[tuple[float, float]] = []
     for it in chart.all("text"):
         if re.fullmatch(r"[\d.]+", it.text()):
             x, y = float(it.attributes["x"]), float(it.attributes["y"])
@@ -17,7 +29,7 @@ def axes_of(chart):
     return through(steps), through(ratios)
 
 
-def through(places):
+def through(places: list[tuple[float, float]]) -> Scale:
     """The function on whose line all places lie; a single place says nothing of its scale."""
     (first, value), (last, other) = places[0], places[-1]
     each = (other - value) / (last - first) if last != first else 1.0
@@ -25,7 +37,7 @@ def through(places):
     return lambda at: value + (at - first) * each
 
 
-def centre(mark, what):
+def centre(mark: Node, what: str) -> tuple[float, float]:
     """The middle of what marks a candidate of a kind."""
     shapes = [it for it in mark.inner if not isinstance(it, str) and it.name != "title"]
     kind, attributes = shapes[0].name, shapes[0].attributes
@@ -45,16 +57,16 @@ def centre(mark, what):
 SHAPES = {"optimal": "circle", "open": "circle", "joined": "rect", "cut": "path", "carried": "line", "refuted": "line", "unknown": "text", "published": "path"}
 
 
-def check_chart(name, chart, points, count, floor=None):
+def check_chart(name: str, chart: Node, points: list[tuple[str, Candidate]], count: Count, floor: tuple[int, int] | None = None) -> None:
     """`points` are the candidates of the points with their marks, in their order; `floor` the two numbers of one that is known."""
     across, up = axes_of(chart)
     count.equal(f"{name}: it is upright", (across(1) > across(0), up(0) > up(1)), (True, True))
     near = lambda found, wanted: abs(found - wanted) < 0.5 * (up(0) - up(1))
-    seen = {}
+    seen: dict[tuple[int, int], list[float]] = {}
     for it in chart.all("g"):
         kind = it.attributes["class"].split(" ")[1]
         x, y = centre(it, kind)
-        for candidate in it.one("title").inner[0].rsplit(": ", 1)[1].split(", "):
+        for candidate in it.title().rsplit(": ", 1)[1].split(", "):
             steps, rounds, chunks = map(int, candidate.split("-"))
             place = seen.setdefault((steps, rounds * 720720 // chunks), [])
             count.equal(f"{name}: the place of {candidate}", (abs(across(x - 15 * len(place)) - steps) < 0.01 or kind == "published", near(up(y), rounds / chunks)), (True, True))
@@ -82,7 +94,7 @@ def check_chart(name, chart, points, count, floor=None):
         count.equal(f"{name}: the name {it.text()} stands beside its mark", any(abs(beside - at) < 0.2 for at in seen[steps, rounds * 720720 // chunks]), True)
 
 
-def stairs_of(path, across, up):
+def stairs_of(path: Node | None, across: Scale, up: Scale) -> list[tuple[float, float]]:
     """The corners of a line along points, from left to right and down."""
     if path is None:
         return []
@@ -94,7 +106,7 @@ def stairs_of(path, across, up):
     return found
 
 
-def wanted_stairs(points):
+def wanted_stairs(points: list[tuple[str, Candidate]]) -> list[tuple[float, float]]:
     places = [(it[0], it[1] / it[2]) for mark, it in points if mark in ("optimal", "open")]
     found = [(float(places[0][0]), round(places[0][1], 1))] if places else []
     for (_, before), (steps, ratio) in zip(places, places[1:]):
@@ -102,7 +114,7 @@ def wanted_stairs(points):
     return found
 
 
-def check_column(name, column, rounds, step, count):
+def check_column(name: str, column: Node, rounds: int, step: int, count: Count) -> None:
     """The head of a step, and the lines between its rounds."""
     said = [it.text() for it in column.all("text") if it.attributes.get("class") != "halo"]
     count.equal(f"{name}: the head of step {step}", said, [f"step {step}", f"{rounds} round{'' if rounds == 1 else 's'}"])
@@ -119,7 +131,7 @@ def check_column(name, column, rounds, step, count):
         count.equal(f"{name}: an arrow has its head", it.one("line").attributes.get("marker-end"), "url(#head)")
 
 
-def check_labels(name, column, count):
+def check_labels(name: str, column: Node, count: Count) -> None:
     """The label of each arrow lies on it, and tells its chunks."""
     sends = {it.attributes["data-send"]: [float(it.one("line").attributes[key]) for key in ("x1", "y1", "x2", "y2")] for it in column.all("g", class_="send")}
     labels = {it.attributes["data-send"]: it for it in column.all("text", class_="halo")}
@@ -136,7 +148,7 @@ def check_labels(name, column, count):
         count.equal(f"{name}: the label of {said}", (it.text(), x < at < to_x, abs(on_line + 4 - float(it.attributes["y"])) < 0.3), (due, True, True))
 
 
-def check_bars(name, loads, wanted, count):
+def check_bars(name: str, loads: Node, wanted: list[list[str]], count: Count) -> None:
     """Each bar is as long as its load is of what is allowed, and a load that is too great is marked."""
     for row, words in zip(loads.one("tbody").all("tr"), wanted):
         for cell, said in zip(list(row.all("td")), words):

@@ -1,6 +1,10 @@
 """Holds the colours of a page to what can be read: text has at least 4.5 times the light of its ground, or its ground of it."""
+from __future__ import annotations
+
 import os
 import re
+
+from tried import Count
 
 VIEWING = os.path.join(os.path.dirname(os.path.dirname(os.path.dirname(os.path.abspath(__file__)))), "tools", "viewing")
 LEAST = 4.5
@@ -10,12 +14,12 @@ OF_TEXT = re.compile(r"text|\.small|\.halo|\.name")
 COLOUR, FILL, VARIABLE = re.compile(r"(?<![a-z-])color: var\(--([a-z]+)\)"), re.compile(r"(?<![a-z-])fill: var\(--([a-z]+)\)"), re.compile(r"--([a-z]+): (#[0-9a-f]+)")
 
 
-def light_colours():
+def light_colours() -> set[str]:
     """The colours of the page as it is in the light."""
     return set(dict(VARIABLE.findall(next(body for selector, body in rules(read("page.css")) if selector == ":root"))).values())
 
 
-def check_contrast(count):
+def check_contrast(count: Count) -> None:
     page, figures = (read(it) for it in ("page.css", "figures.css"))
     texts = {it for _, body in rules(page) for it in COLOUR.findall(body)}
     texts |= {it for selector, body in rules(figures) if OF_TEXT.search(selector) for it in FILL.findall(body)}
@@ -29,22 +33,22 @@ def check_contrast(count):
         count.equal(f"scheme {place}: text that is too faint", faint, [])
 
 
-def read(name):
+def read(name: str) -> str:
     with open(os.path.join(VIEWING, name)) as it:
         return it.read()
 
 
-def rules(text):
+def rules(text: str) -> list[tuple[str, str]]:
     """Each selector with what stands in its braces; those within a condition too."""
     return [(selector.strip(), body) for selector, body in re.findall(r"([^{}]+)\{([^{}]*)\}", re.sub(r"@media[^{]*\{", "", text))]
 
 
-def contrast(one, other):
+def contrast(one: str, other: str) -> float:
     low, high = sorted((light(one), light(other)))
     return (high + 0.05) / (low + 0.05)
 
 
-def light(colour):
+def light(colour: str) -> float:
     """The relative luminance of a colour, by the definition of WCAG 2."""
     digits = colour[1:] if len(colour) == 7 else "".join(2 * it for it in colour[1:])
     parts = [int(digits[place:place + 2], 16) / 255 for place in (0, 2, 4)]

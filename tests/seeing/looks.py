@@ -1,4 +1,11 @@
 """Looks at pages in a headless browser: in light, in dark, in a narrow window and in print, by what it has computed of each."""
+from __future__ import annotations
+
+from collections.abc import Iterable
+from typing import Any
+
+from tried import Count
+
 from .colours import LEAST, contrast
 from .devtools import Browser
 
@@ -84,9 +91,9 @@ for (const it of document.querySelectorAll(".slider select")) { it.value = "step
 EVERYTHING = """for (const it of document.querySelectorAll("details")) it.open = true;"""
 
 
-def look_at(pages, count):
+def look_at(pages: Iterable[tuple[str, str]], count: Count) -> None:
     """Each of the pages, by its name, in each form."""
-    kinds = {}
+    kinds: dict[str, dict[str, str]] = {}
     with Browser() as browser:
         tab = browser.tab()
         for name, text in pages:
@@ -101,7 +108,7 @@ def look_at(pages, count):
         count.equal(f"{form}: each kind of a mark looks otherwise", sorted(kind for kind, look in its.items() if list(its.values()).count(look) > 1), [])
 
 
-def check_look(name, seen, width, is_dark, is_print, count):
+def check_look(name: str, seen: dict[str, Any], width: int, is_dark: bool, is_print: bool, count: Count) -> None:
     count.equal(f"{name}: no wider than the window", seen["wide"] <= width, True)
     for key, what in (("hidden", "a text hides no other"), ("cut", "no text is cut"), ("marks", "no text stands on a mark"), ("over", "no name stands on a curve"),
                       ("broken", "no candidate is broken"), ("thin", "halos are as wide as what is between letters"), ("scrolled", "what is too wide is scrolled")):
@@ -124,7 +131,7 @@ def check_look(name, seen, width, is_dark, is_print, count):
         check_print(name, seen, count)
 
 
-def check_print(name, seen, count):
+def check_print(name: str, seen: dict[str, Any], count: Count) -> None:
     room = lambda is_wide: LYING if is_wide else UPRIGHT
     tall = [it for it in seen["tall"] if it[1] > UPRIGHT[0] + 1 or it[2] > room(it[3])[1]]
     count.equal(f"{name}: each figure is on one page", tall, [])
@@ -135,19 +142,19 @@ def check_print(name, seen, count):
     count.equal(f"{name}: what the model takes is printed, sliders are not", (seen["asked"], seen["sliders"]), (True, 0))
 
 
-def ratio(one, other):
+def ratio(one: str, other: str) -> float:
     return contrast(hex_of(one), hex_of(other))
 
 
-def light_of(colour):
+def light_of(colour: str) -> float:
     red, green, blue = parts(colour)
     return (red + green + blue) / 765
 
 
-def parts(colour):
+def parts(colour: str) -> list[int]:
     """Of a colour as a browser computes it, as `rgb(1, 2, 3)`."""
     return [int(float(it)) for it in colour[colour.index("(") + 1:-1].split(",")[:3]]
 
 
-def hex_of(colour):
+def hex_of(colour: str) -> str:
     return "#" + "".join(f"{it:02x}" for it in parts(colour))

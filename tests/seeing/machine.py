@@ -1,7 +1,20 @@
 """Holds the drawing of a topology to the topology: widths, dashes, ends of arrows, ports, and that nothing hides another."""
-import re
-from itertools import combinations
+from __future__ import annotations
 
+import re
+from collections.abc import Sequence
+from itertools import combinations
+from typing import Tuple
+
+from oracle.report import Report
+from oracle.topology import Topology
+from tried import Count
+
+from .tree import Node
+
+# The middle of a box, half its width and half its height; and the names of the nodes of a link.
+Box = Tuple[float, float, float, float]
+Ends = Tuple[str, str]
 LETTER = 7.5
 # What stands on one row of the drawing of a torus, and what stands together in clusters.
 ROWS = {"torus-4-by-4": [[f"n{row * 4 + it}" for it in range(4)] for row in range(4)]}
@@ -10,35 +23,35 @@ CLUSTERS = {
 }
 
 
-def numbers(text):
+def numbers(text: str) -> list[float]:
     return [float(it) for it in re.findall(r"-?[\d.]+", text)]
 
 
-def box_of(node):
+def box_of(node: Node) -> Box:
     """The middle of a node's box, half its width and half its height."""
     x, y, wide, high = (float(node.one("rect").attributes[it]) for it in ("x", "y", "width", "height"))
     return x + wide / 2, y + high / 2, wide / 2, high / 2
 
 
-def label_box(label):
+def label_box(label: Node) -> Box:
     x, y = float(label.attributes["x"]), float(label.attributes["y"]) - 4
     return x, y, LETTER * len(label.text()) / 2, 6
 
 
-def hides(one, other):
+def hides(one: Box, other: Box) -> bool:
     return abs(one[0] - other[0]) < one[2] + other[2] - 1 and abs(one[1] - other[1]) < one[3] + other[3] - 1
 
 
-def reaches(place, box):
+def reaches(place: Sequence[float], box: Box) -> float:
     """How far a place is outside a box."""
     return max(abs(place[0] - box[0]) - box[2], abs(place[1] - box[1]) - box[3])
 
 
-def is_at(place, box):
+def is_at(place: Sequence[float], box: Box) -> bool:
     return -1 < reaches(place, box) < 6
 
 
-def check_machine(name, page, report, count):
+def check_machine(name: str, page: Node, report: Report, count: Count) -> None:
     picture, topology = page.one("svg", class_="topology"), report.topology
     names = topology.names
     boxes = {it.attributes["data-node"]: box_of(it) for it in picture.all("g", class_="machine")}
@@ -52,22 +65,22 @@ def check_machine(name, page, report, count):
     outside = [it for it in solid + labels if it[0] - it[2] < left or it[0] + it[2] > left + wide or it[1] - it[3] < top or it[1] + it[3] > top + high]
     count.equal(f"{name}: nothing is cut", outside, [])
     paths = [it.attributes["d"] for it in picture.all("path")]
-    outside = [it for it in paths if any(not (left < x < left + wide and top < y < top + high) for x, y in along(numbers(it)))]
-    count.equal(f"{name}: no line is cut", outside, [])
+    beyond = [it for it in paths if any(not (left < x < left + wide and top < y < top + high) for x, y in along(numbers(it)))]
+    count.equal(f"{name}: no line is cut", beyond, [])
     count.equal(f"{name}: lines have heads", [it for it in picture.all("path") if it.attributes.get("marker-end") != "url(#head)"], [])
     groups = {(names[a], names[b]): [it for it, (_, links) in enumerate(topology.groups) if (a, b) in links] for a, b in topology.usable()}
     lines = [it for it in picture.all("g") if it.attributes["class"] in ("link", "link shared")]
-    told = sorted(it.one("title").inner[0] for it in lines)
+    told = sorted(it.title() for it in lines)
     through = check_hubs(name, picture, hubs, boxes, topology, count)
     words = lambda found: ", ".join(f"group {it} of width {topology.groups[it][0]}" for it in found)
     count.equal(f"{name}: links", told, sorted(f"{a} to {b}: {words(found)}" for (a, b), found in groups.items() if (a, b) not in through))
     beside = {it.attributes["data-of"]: it for it in picture.all("text", class_="small halo beside")}
     for it in lines:
-        check_link(name, it, beside.get(it.one("title").inner[0]), boxes, groups, topology, count)
+        check_link(name, it, beside.get(it.title()), boxes, groups, topology, count)
     check_places(name, boxes, count)
 
 
-def check_link(name, link, label, boxes, groups, topology, count):
+def check_link(name: str, link: Node, label: Node | None, boxes: dict[str, Box], groups: dict[Ends, list[int]], topology: Topology, count: Count) -> None:
     a, b = link.attributes["data-link"].split(" ")
     found = groups[a, b]
     width, is_shared = min(topology.groups[it][0] for it in found), any(len(topology.groups[it][1]) > 1 for it in found)
@@ -88,7 +101,7 @@ def check_link(name, link, label, boxes, groups, topology, count):
         count.equal(f"{name}: {a} to {b}: its width stands there", width, 1)
 
 
-def along(places):
+def along(places: list[float]) -> list[tuple[float, float]]:
     """Places along a bent line, or along a line with corners."""
     if len(places) == 6:
         (x, y), (mid_x, mid_y), (to_x, to_y) = places[:2], places[2:4], places[4:]
@@ -97,7 +110,7 @@ def along(places):
     return list(zip(places[::2], places[1::2]))
 
 
-def check_hubs(name, picture, hubs, boxes, topology, count):
+def check_hubs(name: str, picture: Node, hubs: list[Node], boxes: dict[str, Box], topology: Topology, count: Count) -> set[Ends]:
     """The links that go through ports of hubs."""
     through, ports = set(), [(it.attributes["data-port"].split(" "), it) for it in picture.all("g", class_="port")]
     for hub in hubs:
@@ -116,7 +129,7 @@ def check_hubs(name, picture, hubs, boxes, topology, count):
     return through
 
 
-def check_port(name, side, node, line, hub, boxes, of, count):
+def check_port(name: str, side: str, node: str, line: Node, hub: Box, boxes: dict[str, Box], of: tuple[list[int], set[Ends], Topology], count: Count) -> None:
     groups, links, topology = of
     path = line.one("path").attributes
     places = numbers(path["d"])
@@ -129,14 +142,14 @@ def check_port(name, side, node, line, hub, boxes, of, count):
     width = min(topology.groups[it][0] for it in own or groups)
     count.equal(f"{name}: width", float(path["stroke-width"]), round(1 + 0.8 * (min(width, 8) - 1), 1))
     said = ", ".join(f"group {it} of width {topology.groups[it][0]}" for it in own) or "no port of its own"
-    count.equal(f"{name}: in words", line.one("title").inner[0], f"{node} {side}: {said}")
+    count.equal(f"{name}: in words", line.title(), f"{node} {side}: {said}")
 
 
-def named(group, topology):
+def named(group: int, topology: Topology) -> set[Ends]:
     return {(topology.names[a], topology.names[b]) for a, b in topology.groups[group][1]}
 
 
-def check_places(name, boxes, count):
+def check_places(name: str, boxes: dict[str, Box], count: Count) -> None:
     """A torus is a grid; what is closely linked stands together."""
     for kind, rows in ROWS.items():
         if name.startswith(kind):

@@ -1,9 +1,16 @@
 """Holds the sentences of a page, its legends, and what there is to choose from to the report."""
+from __future__ import annotations
+
 import json
 import re
 from collections import Counter
 
+from oracle.report import Point, Report
+from oracle.topology import Topology
+from tried import Count
+
 from .charts import SHAPES
+from .tree import Node
 
 MEANING = {
     "optimal": "optimal point", "open": "open point", "joined": "joined point", "cut": "cut: below the floor",
@@ -12,15 +19,15 @@ MEANING = {
 PART = {"whole": "", "reduce": " (reduce part)", "gather": " (gather part)", "joined": " (joined points)"}
 
 
-def numbers(text):
+def numbers(text: str) -> list[int]:
     return [int(it) for it in re.findall(r"\d+", text)]
 
 
-def many(count, one):
+def many(count: int, one: str) -> str:
     return f"{count} {one}{'' if count == 1 else 's'}"
 
 
-def check_words(name, page, report, count):
+def check_words(name: str, page: Node, report: Report, count: Count) -> None:
     limits, frontiers = report.limits, report.frontiers.values()
     points, refuted, unknown = (sum(len(getattr(it, kind)) for it in frontiers) for kind in ("points", "refuted", "unknown"))
     searched = next(it.text() for it in page.all("p") if it.text().startswith("Searched"))
@@ -43,7 +50,7 @@ def check_words(name, page, report, count):
     check_choice(name, page, report, count)
 
 
-def check_topology_words(name, page, topology, count):
+def check_topology_words(name: str, page: Node, topology: Topology, count: Count) -> None:
     figure = next(it for it in page.all("figure") if list(it.all("svg", class_="topology")))
     widths = Counter(width for width, _ in topology.groups)
     shared = sum(len(links) > 1 for _, links in topology.groups)
@@ -54,7 +61,7 @@ def check_topology_words(name, page, topology, count):
     count.equal(f"{name}: the name of the drawing", numbers(figure.one("svg").attributes["aria-label"]), due)
 
 
-def check_legend(name, chart, legend, kinds, count):
+def check_legend(name: str, chart: Node, legend: Node, kinds: list[str], count: Count) -> None:
     """The legend has the kinds that stand in the chart, each with its sign; the chart's name has their numbers."""
     of_points = sum(it in ("optimal", "open", "joined") for it in kinds)
     count.equal(f"{name}: the name of a chart", numbers(chart.attributes["aria-label"]), [of_points, kinds.count("refuted"), kinds.count("unknown")])
@@ -68,7 +75,7 @@ def check_legend(name, chart, legend, kinds, count):
     count.equal(f"{name}: the words at the axes", {it.text(): "rotate" in it.attributes.get("transform", "") for it in along}, {"steps": False, "rounds for each chunk": True})
 
 
-def check_point_words(name, number, part, point, section, names, count):
+def check_point_words(name: str, number: int, part: str, point: Point, section: Node, names: list[str], count: Count) -> None:
     steps, rounds, chunks = point.candidate
     head = f"Point {number}{PART[part]}: {many(steps, 'step')}, {many(rounds, 'round')}, {many(chunks, 'chunk')}, {point.mark}"
     count.equal(f"{name}: its heading", section.one("h2").text(), head)
@@ -86,7 +93,7 @@ def check_point_words(name, number, part, point, section, names, count):
                 [f"{it} in this step" for it in told])
 
 
-def check_choice(name, page, report, count):
+def check_choice(name: str, page: Node, report: Report, count: Count) -> None:
     """The chooser has the joined points, or else all."""
     found = [json.loads(it.attributes["data-points"]) for it in page.all("div", class_="chooser")]
     due = [{"name": "-".join(map(str, it.candidate)), "number": number, **dict(zip("src", it.candidate))}

@@ -1,6 +1,14 @@
 """The frontier as a chart: steps across, rounds for each chunk up."""
+from __future__ import annotations
+
+from collections.abc import Iterator
+from typing import Tuple
+
+from .cuts import Floor
 from .svg import element, line, many, picture, short, text, title
 
+# Steps, rounds and chunks.
+Candidate = Tuple[int, int, int]
 WIDTH, HEIGHT, LEFT, RIGHT, TOP, BOTTOM = 600, 340, 56, 24, 24, 46
 RADIUS, APART = 6, 15
 # The width of a letter, at most: in a narrow window letters are larger.
@@ -17,22 +25,22 @@ POINTS, WITH_A_LINE = ("optimal", "open", "joined"), ("optimal", "open")
 
 
 class Chart:
-    def __init__(self, candidates, steps, floor, said):
+    def __init__(self, candidates: list[tuple[str, Candidate]], steps: int, floor: Floor | None, said: str) -> None:
         """Candidates are pairs of a kind and of numbers of steps, rounds and chunks."""
         self.candidates, self.steps, self.floor, self.said = candidates, steps, floor, said
         ratios = [rounds / chunks for _, (_, rounds, chunks) in candidates] + [floor[0] / floor[1] if floor and floor[1] else 0]
         self.most = max([1, *ratios]) * 1.08
 
-    def x(self, steps):
+    def x(self, steps: int) -> float:
         return LEFT + (steps - 0.5) * (WIDTH - LEFT - RIGHT) / self.steps
 
-    def y(self, ratio):
+    def y(self, ratio: float) -> float:
         return HEIGHT - BOTTOM - ratio / self.most * (HEIGHT - TOP - BOTTOM)
 
-    def drawn(self):
+    def drawn(self) -> str:
         return picture(WIDTH, HEIGHT, self.said, *self.axes(), *self.bound(), self.stairs(), *self.marks(), class_="chart")
 
-    def axes(self):
+    def axes(self) -> Iterator[str]:
         bottom, right = HEIGHT - BOTTOM, WIDTH - RIGHT
         for it in range(1, self.steps + 1):
             yield text(self.x(it), bottom + 18, str(it))
@@ -46,7 +54,7 @@ class Chart:
         yield element("text", "rounds for each chunk", x="14", y=short((TOP + bottom) / 2), text_anchor="middle",
                       transform=f"rotate(-90 14 {short((TOP + bottom) / 2)})")
 
-    def bound(self):
+    def bound(self) -> Iterator[str]:
         """The line below which no schedule is; without a line, that there is none at all. The words stand above the chart, where no
         mark is."""
         if not self.floor:
@@ -59,7 +67,7 @@ class Chart:
             yield line(right - SIGN, TOP - 14, right, TOP - 14, class_="floor-sign")
         yield text(right - SIGN - 6 if chunks else right, TOP - 10, with_names(said, names), "end", class_="small")
 
-    def stairs(self):
+    def stairs(self) -> str:
         """The line along the points."""
         points = [(steps, rounds / chunks) for kind, (steps, rounds, chunks) in self.candidates if kind in WITH_A_LINE]
         if not points:
@@ -68,9 +76,9 @@ class Chart:
         places += [f"H{short(self.x(steps))}V{short(self.y(ratio))}" for steps, ratio in points[1:]]
         return element("path", d="".join(places), class_="stairs")
 
-    def marks(self):
+    def marks(self) -> Iterator[str]:
         """The marks; those of several kinds at one place stand side by side, and one that is published frames the first."""
-        places = {}
+        places: dict[tuple[int, float], dict[str, list[str]]] = {}
         for kind, candidate in self.candidates:
             steps, rounds, chunks = candidate
             places.setdefault((steps, rounds / chunks), {}).setdefault(kind, []).append("-".join(map(str, candidate)))
@@ -83,19 +91,19 @@ class Chart:
                     yield named(x, y, ", ".join(names))
 
 
-def with_names(said, names):
+def with_names(said: str, names: list[str]) -> str:
     """The words with the nodes of which they are told, or with their number if the names are long."""
     whole = f"{said}, by {' '.join(names)}" if names else said
     return whole if len(whole) <= MOST_LETTERS else f"{said}, by {many(len(names), 'node')}"
 
 
-def named(x, y, said):
+def named(x: float, y: float, said: str) -> str:
     """The name of a point, at its right or, if that has no room for it, at its left."""
     is_right = x + 10 + LETTER * len(said) <= WIDTH
     return text(x + 10 if is_right else x - 10, y - 9, said, "start" if is_right else "end", class_="named")
 
 
-def mark(kind, x, y):
+def mark(kind: str, x: float, y: float) -> str:
     """Each kind has a shape of its own."""
     if kind == "refuted":
         near, far = x - RADIUS + 1, x + RADIUS - 1
@@ -113,7 +121,7 @@ def mark(kind, x, y):
     return element("circle", cx=short(x), cy=short(y), r=RADIUS)
 
 
-def legend(kinds):
+def legend(kinds: set[str]) -> str:
     """The marks of these kinds, with what they mean."""
     return element("p", *(
         element("span", picture(22, 22, MEANING[it], element("g", mark(it, 11, 11), class_=f"mark {it}"), class_="sign"), " ", MEANING[it])

@@ -1,4 +1,10 @@
 """A schedule in time: nodes as rows, steps as columns, sends as arrows; and who has what after each step."""
+from __future__ import annotations
+
+from collections.abc import Iterator
+
+from .layout import Place
+from .runs import Run
 from .svg import element, line, many, picture, short, text, title
 
 ROW, TOP, BETWEEN = 44, 44, 16
@@ -10,10 +16,11 @@ PLACES = [it / 40 for it in range(7, 36)]
 CELL, GAP = 11, 2
 
 
-def drawn(run, said):
+def drawn(run: Run, said: str) -> str:
     """The arrows of one step go from its left to its right; those between two nodes are one arrow, with all their chunks."""
     left = left_of(run)
-    columns, x = [], left
+    columns: list[tuple[float, float]] = []
+    x = left
     for step in run.steps:
         columns.append((x, width_of(run, step)))
         x += columns[-1][1] + BETWEEN
@@ -24,40 +31,40 @@ def drawn(run, said):
     return picture(x, height + 4, said, *inner, class_="time")
 
 
-def names(run):
+def names(run: Run) -> str:
     """The names of the nodes once more, which stay in view when the diagram is scrolled."""
     left, height = short(left_of(run)), short(height_of(run) + 4)
     return element("svg", *names_of(run), viewBox=f"0 0 {left} {height}", width=left, height=height, class_="names", aria_hidden="true",
                    style=f"margin-right: -{left}px")
 
 
-def names_of(run):
+def names_of(run: Run) -> list[str]:
     return [text(left_of(run) - 8, y + 4, it, "end", class_="name") for it, y in rows_of(run).items()]
 
 
-def rows_of(run):
+def rows_of(run: Run) -> dict[str, float]:
     """How high the row of each node is."""
     return {it: TOP + ROW * (place + 0.5) for place, it in enumerate(run.nodes)}
 
 
-def height_of(run):
+def height_of(run: Run) -> float:
     return TOP + ROW * len(run.nodes)
 
 
-def left_of(run):
+def left_of(run: Run) -> float:
     return 16 + LETTER * max(map(len, run.nodes))
 
 
-def width(run):
+def width(run: Run) -> float:
     return left_of(run) + sum(width_of(run, step) + BETWEEN for step in run.steps)
 
 
-def width_of(run, step):
+def width_of(run: Run, step: int) -> float:
     arrows = len({(it[1], it[2]) for it in run.sends[step]})
     return max(NARROWEST, min(WIDEST, max(ROUND * run.point["rounds"][step - 1], ARROW * arrows)))
 
 
-def column(run, step, start, width, rows, height):
+def column(run: Run, step: int, start: float, width: float, rows: dict[str, float], height: float) -> str:
     rounds = run.point["rounds"][step - 1]
     inner = [element("rect", x=short(start), y=short(TOP - 6), width=short(width), height=short(height - TOP + 8), class_="step")]
     inner += [line(start + width * it / rounds, TOP - 6, start + width * it / rounds, height + 2, class_="round") for it in range(1, rounds)]
@@ -67,12 +74,14 @@ def column(run, step, start, width, rows, height):
     return element("g", *inner, *arrows, *labels, class_="column", data_column=step)
 
 
-def arrows_of(run, step, start, end, rows):
+def arrows_of(run: Run, step: int, start: float, end: float, rows: dict[str, float]) -> tuple[list[str], list[str]]:
     """The arrows, and the chunks beside them: the longest labels find their place first."""
-    chunks = {}
+    chunks: dict[tuple[str, str], list[int]] = {}
     for chunk, sender, receiver, _ in run.sends[step]:
         chunks.setdefault((sender, receiver), []).append(chunk)
-    arrows, labels, taken = [], [], []
+    arrows: list[str] = []
+    labels: list[str] = []
+    taken: list[tuple[float, float, float]] = []
     for (sender, receiver), found in sorted(chunks.items(), key=lambda it: -len(it[1])):
         named = " ".join(map(str, found))
         said = f"step {step}: {sender} sends {named} to {receiver}"
@@ -85,14 +94,14 @@ def arrows_of(run, step, start, end, rows):
     return arrows, labels
 
 
-def free_place(start, end, width, taken):
+def free_place(start: Place, end: Place, width: float, taken: list[tuple[float, float, float]]) -> Place:
     """The first place along an arrow where a label of this width hides no other; else the first."""
     places = [(start[0] + (end[0] - start[0]) * it, start[1] + (end[1] - start[1]) * it) for it in PLACES]
     hides = lambda x, y: any(abs(x - other_x) < (width + wide) / 2 and abs(y - other_y) < LABEL_HEIGHT for other_x, other_y, wide in taken)
     return next((it for it in places if not hides(*it)), places[0])
 
 
-def holdings(run, step):
+def holdings(run: Run, step: int) -> str:
     """Who has what after a step: a row for each node, a square for each chunk."""
     left = 16 + LETTER * max(map(len, run.nodes))
     width, height = left + (CELL + GAP) * len(run.chunks) + 8, 18 + (CELL + GAP + 3) * len(run.nodes)
@@ -105,9 +114,9 @@ def holdings(run, step):
     return picture(width, height, f"Who has what after step {step}.", *inner, class_="holdings")
 
 
-def kinds_of(run, step, node):
+def kinds_of(run: Run, step: int, node: str) -> dict[str, list[int]]:
     """The chunks of a node by how they are drawn."""
-    found = {"due": [], "kept": [], "come": [], "part": []}
+    found: dict[str, list[int]] = {"due": [], "kept": [], "come": [], "part": []}
     for it in run.chunks:
         if (it, node) in run.demand:
             found["due"].append(it)
@@ -117,7 +126,7 @@ def kinds_of(run, step, node):
     return {kind: chunks for kind, chunks in found.items() if chunks}
 
 
-def square(kind, x, y):
+def square(kind: str, x: float, y: float) -> str:
     """The square of a chunk: one that is due is framed, one that came in this step has a notch, a sum in part is a triangle."""
     if kind == "due":
         return f"M{short(x - 1)} {short(y - 1)}h{CELL + 2}v{CELL + 2}h-{CELL + 2}z"
@@ -128,13 +137,13 @@ def square(kind, x, y):
     return f"M{short(x)} {short(y)}h{CELL}v{CELL}h-{CELL}z"
 
 
-def loads(run):
+def loads(run: Run) -> Iterator[list[str]]:
     """For each group a row: its load in each step against what its width allows, as a bar and in words."""
     for number, group in enumerate(run.groups):
         yield [str(number), *(load(*run.load(step, group)) for step in run.steps)]
 
 
-def load(count, allowed):
+def load(count: int, allowed: int) -> str:
     long = 60 * min(count, allowed) / allowed
     bar = [element("rect", x="0.5", y="0.5", width="60", height="9", class_="room")]
     bar.append(element("rect", x="0.5", y="0.5", width=short(long), height="9", class_="load") if count else "")

@@ -1,10 +1,14 @@
 """Single figures of a report, each a file of its own that any viewer of SVG shows as the page does."""
+from __future__ import annotations
+
 import os
 import re
+from functools import partial
 from typing import Callable, Dict
 
 from . import diagram, topology
-from .page import HERE, MARKER, chart_of, numbered, points_of
+from .page import HERE, MARKER, Numbered, chart_of, numbered, points_of
+from .report_text import Value
 from .runs import Run
 from .svg import element
 
@@ -15,14 +19,25 @@ def figures(report: dict) -> Dict[str, Callable[[], str]]:
     """The figures by their names, each drawn when it is asked for."""
     found: Dict[str, Callable[[], str]] = {"topology": lambda: topology.drawn(report["topology"])}
     for part, points, frontier, steps in numbered(report):
-        name = "frontier" if part == "whole" else f"frontier-{part}"
-        found[name] = lambda it=(points, frontier, steps): chart_of(*it)[0].drawn()
+        found["frontier" if part == "whole" else f"frontier-{part}"] = partial(frontier_drawn, points, frontier, steps)
     for number, (part, point) in enumerate(points_of(report), 1):
-        run = lambda part=part, point=point: Run(report, part, point)
-        found[f"point-{number}"] = lambda run=run, number=number: diagram.drawn(run(), f"Point {number} in time.")
+        found[f"point-{number}"] = partial(in_time, report, part, point, number)
         for step in range(point["s"] + 1):
-            found[f"point-{number}-step-{step}"] = lambda run=run, step=step: diagram.holdings(run(), step)
+            found[f"point-{number}-step-{step}"] = partial(after_step, report, part, point, step)
     return found
+
+
+def frontier_drawn(points: Numbered, frontier: Value, steps: int) -> str:
+    chart, _ = chart_of(points, frontier, steps)
+    return chart.drawn()
+
+
+def in_time(report: Value, part: str, point: Value, number: int) -> str:
+    return diagram.drawn(Run(report, part, point), f"Point {number} in time.")
+
+
+def after_step(report: Value, part: str, point: Value, step: int) -> str:
+    return diagram.holdings(Run(report, part, point), step)
 
 
 def alone(drawn: str) -> str:

@@ -1,4 +1,7 @@
 """Where the nodes of a topology are drawn: those that are closely linked stand together."""
+from __future__ import annotations
+
+from collections.abc import Sequence
 from itertools import permutations
 from math import ceil, cos, hypot, pi, sin, sqrt
 from typing import Dict, List, Set, Tuple
@@ -33,8 +36,7 @@ def nearness(topology: dict, own: Set[Tuple[str, str]]) -> Near:
     return found
 
 
-def on_circle(nodes) -> Dict[int, Place]:
-    nodes = list(nodes)
+def on_circle(nodes: Sequence[int]) -> Dict[int, Place]:
     radius = max(APART * 0.75, APART * len(nodes) / (2 * pi)) if len(nodes) > 1 else 0
     turn = lambda place: 2 * pi * place / len(nodes) - pi / 2
     return {it: (radius * cos(turn(place)), radius * sin(turn(place))) for place, it in enumerate(nodes)}

@@ -1,14 +1,21 @@
 """The page of a report."""
+from __future__ import annotations
+
 import json
 import os
+from collections.abc import Iterator
 from html import escape
+from typing import Any, List, Tuple
 
 from . import diagram, topology
-from .chart import Chart, legend
+from .chart import Candidate, Chart, legend
 from .report import OTHERS
+from .report_text import Value
 from .runs import Run
 from .svg import element, many, picture, table
 
+# Points with their numbers.
+Numbered = List[Tuple[int, Value]]
 HERE = os.path.dirname(os.path.abspath(__file__))
 PARTS = {"whole": "", "reduce": "reduce part", "gather": "gather part", "joined": "joined points"}
 MARKER = '<marker id="head" viewBox="0 0 8 8" refX="7" refY="4" markerWidth="7" markerHeight="7" markerUnits="userSpaceOnUse" orient="auto"><path d="M0 0.5L8 4L0 7.5z"/></marker>'
@@ -18,7 +25,7 @@ MOST_OPEN_GROUPS, MOST_OPEN_ROWS = 24, 10
 MOST_UPRIGHT = 1000
 
 
-def page(report, title=None):
+def page(report: Value, title: str | None = None) -> str:
     """The page, which needs no other file. The title is that of the topology."""
     name = named(report, title)
     points = points_of(report)
@@ -36,27 +43,27 @@ def page(report, title=None):
             f'<body>{HEAD}<main>' + "\n".join(inner) + f'</main>{element("script", read("page.js"), read("chooser.js"))}</body></html>\n')
 
 
-def read(name):
+def read(name: str) -> str:
     with open(os.path.join(HERE, name)) as it:
         return it.read()
 
 
-def points_of(report):
+def points_of(report: Value) -> list[tuple[str, Value]]:
     """The points with their parts, in the order in which they are numbered."""
     found = [(frontier["part"], it) for frontier in report["frontiers"] for it in frontier["points"]]
     return found + [("joined", it) for it in report["joined"]]
 
 
-def named(report, title):
+def named(report: Value, title: str | None) -> str:
     return f"{report['words']['collective']} on {title or many(len(report['topology']['nodes']), 'node')}"
 
 
-def summary(report):
+def summary(report: Value) -> str:
     words, frontiers = report["words"], report["frontiers"]
     count = lambda *kinds: sum(len(it[kind]) for it in frontiers for kind in kinds)
     root = f", root {words['root']}" if "root" in words else ""
-    more = {"cuts": "cuts before the search", "ordered": "chunks that are alike in order"}
-    more = "".join(f", {said}" for key, said in more.items() if key in words)
+    keys = {"cuts": "cuts before the search", "ordered": "chunks that are alike in order"}
+    more = "".join(f", {said}" for key, said in keys.items() if key in words)
     joined = f", {many(len(report['joined']), 'joined point')}" if report["joined"] else ""
     return (f"Searched: at most {many(words['steps'], 'step')}, {many(words['k'], 'round')} more than steps, {many(words['chunks'], 'chunk')}{root}{more}; "
             f"{words['conflicts']} conflicts for each candidate. Found: {many(count('points'), 'point')}{joined}, {count('cut', 'carried', 'refuted')} refuted "
@@ -66,9 +73,10 @@ def summary(report):
 # ---- the frontier
 
 
-def numbered(report):
+def numbered(report: Value) -> Iterator[tuple[str, Numbered, Value, int]]:
     """For each part its points with their numbers, the candidates, and how many steps the chart has."""
-    numbers, steps = {}, report["words"]["steps"]
+    numbers: dict[str, Numbered] = {}
+    steps = report["words"]["steps"]
     for number, (part, it) in enumerate(points_of(report), 1):
         numbers.setdefault(part, []).append((number, it))
     for frontier in report["frontiers"]:
@@ -77,16 +85,16 @@ def numbered(report):
         yield "joined", numbers["joined"], {**{it: [] for it in OTHERS}, "beside": report.get("beside", [])}, 2 * steps
 
 
-def frontiers(report):
+def frontiers(report: Value) -> Iterator[str]:
     yield element("h2", "Frontier")
     for it in numbered(report):
         yield from frontier_section(*it)
 
 
-def chart_of(points, frontier, steps):
+def chart_of(points: Numbered, frontier: Value, steps: int) -> tuple[Chart, set[str]]:
     """The chart of a frontier, and the kinds of candidates in it."""
-    candidates = [(it["mark"], (it["s"], it["r"], it["c"])) for _, it in points]
-    candidates += [(kind, tuple(it[:3])) for kind in OTHERS for it in frontier[kind]]
+    candidates: list[tuple[str, Candidate]] = [(it["mark"], (it["s"], it["r"], it["c"])) for _, it in points]
+    candidates += [(kind, (s, r, c)) for kind in OTHERS for s, r, c in (it[:3] for it in frontier[kind])]
     beside = frontier.get("beside", [])
     candidates += [("published", it) for it in beside]
     steps = max([steps, *(it[0] for it in beside)])
@@ -95,19 +103,19 @@ def chart_of(points, frontier, steps):
     return Chart(candidates, steps, frontier.get("floor"), said), {kind for kind, _ in candidates}
 
 
-def frontier_section(part, points, frontier, steps):
+def frontier_section(part: str, points: Numbered, frontier: Value, steps: int) -> Iterator[str]:
     if PARTS.get(part):
         yield element("h3", PARTS[part].capitalize())
     chart, kinds = chart_of(points, frontier, steps)
     yield element("figure", chart.drawn(), legend(kinds))
     rows = [candidate_row(it["s"], it["r"], it["c"], f'<a href="#point-{number}">point {number}</a>, {it["mark"]}') for number, it in points]
-    rows += [candidate_row(*it[:3], escape(what_is(kind, it))) for kind in OTHERS for it in frontier[kind]]
+    rows += [candidate_row(it[0], it[1], it[2], escape(what_is(kind, it))) for kind in OTHERS for it in frontier[kind]]
     head = "Candidate", "Steps", "Rounds", "Chunks", "Rounds for each chunk", "What it is"
     yield element("details", element("summary", all_in_words(len(rows), "candidate")), table(head, rows, class_="candidates"),
                   open="" if len(rows) <= MOST_OPEN_ROWS else None)
 
 
-def what_is(kind, candidate):
+def what_is(kind: str, candidate: list[Any]) -> str:
     if kind == "cut":
         return f"cut: too little can come into {' '.join(candidate[3])}"
     if kind == "unknown":
@@ -115,18 +123,18 @@ def what_is(kind, candidate):
     return {"carried": "carried: refuted before the fault", "refuted": "refuted: it has no schedule"}[kind]
 
 
-def all_in_words(count, one):
+def all_in_words(count: int, one: str) -> str:
     return f"The {one} in words" if count == 1 else f"All {many(count, one)} in words"
 
 
-def candidate_row(steps, rounds, chunks, said):
+def candidate_row(steps: int, rounds: int, chunks: int, said: str) -> tuple[str, ...]:
     return f"{steps}-{rounds}-{chunks}", str(steps), str(rounds), str(chunks), f"{rounds / chunks:.3g}", said
 
 
 # ---- the topology
 
 
-def topology_section(value):
+def topology_section(value: Value) -> Iterator[str]:
     yield element("h2", "Topology")
     yield element("figure", topology.drawn(value), element("figcaption", topology.explained(value)))
     yield element("details", element("summary", all_in_words(len(value["groups"]), "group")), topology.groups_table(value))
@@ -135,7 +143,7 @@ def topology_section(value):
 # ---- which point for which message
 
 
-def chooser(points):
+def chooser(points: list[tuple[str, Value]]) -> Iterator[str]:
     """Of an allreduce the joined points are the ones to choose from. What is drawn a script draws."""
     joined = any(part == "joined" for part, _ in points)
     given = [{"name": f"{it['s']}-{it['r']}-{it['c']}", "number": number, "s": it["s"], "r": it["r"], "c": it["c"]}
@@ -159,7 +167,7 @@ def chooser(points):
 # ---- a point
 
 
-def point_section(number, run):
+def point_section(number: int, run: Run) -> str:
     point = run.point
     part = f" ({PARTS[run.part]})" if PARTS.get(run.part) else ""
     name = f"Point {number}{part}: {many(point['s'], 'step')}, {many(point['r'], 'round')}, {many(point['c'], 'chunk')}, {point['mark']}"
@@ -180,7 +188,7 @@ def point_section(number, run):
         id=f"point-{number}", class_="point")
 
 
-def slider(number, run):
+def slider(number: int, run: Run) -> str:
     steps = run.point["s"]
     chosen = element("input", type="range", min=0, max=steps, value=0, step=1, aria_label=f"Step of point {number}")
     names = [*(f"node {it}" for it in run.nodes), *(f"chunk {it}" for it in run.chunks), *(f"step {it}" for it in run.steps)]
@@ -189,7 +197,7 @@ def slider(number, run):
     return element("p", element("label", f"After step <output>0</output> of {steps} ", chosen), follow, class_="slider")
 
 
-def states(run):
+def states(run: Run) -> str:
     """What there is after each step; of these the slider shows one."""
     meaning = "A square is a chunk that a node has, with a hole where it came in this step; a frame is one that it has to have in the end."
     if not run.copies:
@@ -198,7 +206,7 @@ def states(run):
     return element("p", meaning, class_="meaning") + "".join(state(run, it) for it in range(run.point["s"] + 1))
 
 
-def state(run, step):
+def state(run: Run, step: int) -> str:
     """What there is after a step, and the sends of it."""
     rows = ((escape(it), escape(" ".join(run.told(step, it)))) for it in run.nodes)
     sends = [element("li", escape(f"{sender} sends {chunk} to {receiver}")) for chunk, sender, receiver, _ in run.sends[step]]
