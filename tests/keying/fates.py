@@ -103,7 +103,9 @@ def changed(draw: random.Random, report: bytes, files: Mapping[str, bytes]) -> t
     lines = report.split(b"\n")
     if choice == 0 or not names:
         words = [it for it in lines[1].split(b" ") if it not in (b"cuts=yes", b"ordered=yes")]
-        keys: list[bytes] = draw.choice([[b"cuts=yes"], [b"ordered=yes"], [b"cuts=yes", b"ordered=yes"], [b"ordered=yes", b"cuts=yes"], [], [b"kept=yes"], [b"cuts=no"], [b"cuts=yes"] * 2])
+        keys: list[bytes] = draw.choice([
+            [b"cuts=yes"], [b"ordered=yes"], [b"cuts=yes", b"ordered=yes"], [b"ordered=yes", b"cuts=yes"], [], [b"kept=yes"], [b"cuts=no"], [b"cuts=yes"] * 2,
+        ])
         lines[1] = b" ".join(words + keys)
     elif choice == 1:
         del files[draw.choice(names)]

@@ -17,7 +17,8 @@ def json_of(report: Report) -> bytes:
         return {"s": steps, "r": rounds, "c": chunks, "mark": it.mark, "rounds": it.rounds, "sends": sends, **more}
 
     keys = {key: "yes" for key, is_there in (("cuts", report.has_cuts), ("ordered", report.is_ordered)) if is_there}
-    words: dict[str, object] = {"collective": kind, **report.limits, **keys, **({"root": names[report.root]} if kind in ("broadcast", "gather", "scatter", "reduce") else {})}
+    root = {"root": names[report.root]} if kind in ("broadcast", "gather", "scatter", "reduce") else {}
+    words: dict[str, object] = {"collective": kind, **report.limits, **keys, **root}
     groups = [{"width": width, "links": [[names[a], names[b]] for a, b in links]} for width, links in report.topology.groups]
     topology: dict[str, object] = {"nodes": names, "version": 1, "groups": groups}
     given = report.topology.pattern
