@@ -38,10 +38,6 @@ def words(collective: str, k: int | str, steps: int | str, chunks: int | str, co
     return ["synth", f"collective={collective}", f"k={k}", f"steps={steps}", f"chunks={chunks}", f"conflicts={conflicts}"]
 
 
-def output(program: str, asked: list[str], given: bytes, folder: str) -> str:
-    return subprocess.run([program, *asked], input=given, stdout=subprocess.PIPE, cwd=folder).stdout.decode()
-
-
 def search(program: str, asked: list[str], topology: bytes, folder: str, limit: float | None = None) -> tuple[str, float]:
     """The report of a search, whose files are left in the folder `proofs` of this one, and its seconds."""
     start = time.perf_counter()
