@@ -1,7 +1,12 @@
 """The rows of tests/lines: formulas, and how many lines a search learns for each."""
+from __future__ import annotations
+
 import os
 import re
 from typing import NamedTuple
+
+from oracle.formula import Formula
+from oracle.topology import whole_topology
 
 ROOT = os.path.dirname(os.path.dirname(os.path.abspath(__file__)))
 PATH = os.path.join(ROOT, "tests", "lines")
@@ -84,10 +89,19 @@ def turned(text: str, turn: int) -> str:
     """The topology in which each name stands for the node so many places behind its own, with its groups in order."""
     if turn == 0:
         return text
+    words = names_of(text)
+    return renamed(text, {it: words[(place + turn) % len(words)] for place, it in enumerate(words)})
+
+
+def names_of(text: str) -> list[str]:
+    """The names of a topology's nodes."""
+    return text.splitlines()[1].split()[1:]
+
+
+def renamed(text: str, names: dict[str, str]) -> str:
+    """The topology in which each name stands for another node, with its groups in order."""
     head, nodes, *groups = text.splitlines()
-    words = nodes.split()[1:]
-    names = {it: words[(place + turn) % len(words)] for place, it in enumerate(words)}
-    places = {it: place for place, it in enumerate(words)}
+    places = {it: place for place, it in enumerate(names_of(text))}
     moved = [links_of(it, names, places) for it in groups]
     moved.sort(key=lambda group: (len(group[1]) > 1, [[places[it] for it in link] for link in group[1]]))
     lines = [f"group {width} " + " ".join(">".join(it) for it in links) for width, links in moved]
@@ -99,3 +113,9 @@ def links_of(group: str, names: dict[str, str], places: dict[str, int]) -> tuple
     _, width, *links = group.split()
     renamed = [[names[end] for end in link.split(">")] for link in links]
     return width, sorted(renamed, key=lambda link: [places[it] for it in link])
+
+
+def formula_of(topology: str, collective: str, candidate: str) -> bytes:
+    """The formula of a candidate, in DIMACS."""
+    steps, rounds, chunks = map(int, candidate.split("-"))
+    return Formula(collective, 0, whole_topology(topology.encode()), (steps, rounds, chunks)).text()
